@@ -1,0 +1,3 @@
+mod Sectors
+mod Sending
+mod Standing

@@ -1,0 +1,64 @@
+ghost use Rattle.std.specs.Prelude.{◌≡◌, ℕ, ◌<◌, List, ◌++◌, length, IfOk, Option};
+ghost use Rattle.std.specs.Io.{ReadsAtMost, WritesAtMost};
+ghost use Rattle.std.specs.Io.KnownBytes.{ReadConsumes, WriteAppends};
+ghost use Rattle.block_device.specs.Streams.{Counts, Sends};
+
+/// A call of a stream failed. It moved no byte.
+#[derive(Clone, Copy, Debug, PartialEq, Eq, Drop)]
+pub struct Failed;
+
+/// Where bytes come from: std's `read`, with a count of the calls that failed.
+pub trait Source {
+    // The bytes that are left, where they are known; None claims nothing.
+    ghost remaining: { Self → Option (List ℕ) };
+
+    // How many calls failed so far.
+    ghost faults: { Self → ℕ };
+
+    /// Moves some of the bytes that are left to the front of `into`, and answers how many: 0 only at the end or where
+    /// `into` is empty. The bytes of `into` past these are unspecified, and all of them after `Failed`.
+    fn read(&mut self, into: &mut [u8]) -> Result<usize, Failed>
+        ensures bound { ReadsAtMost result into.new }
+        ensures bytes { ReadConsumes (remaining self.old) (remaining self.new) result into.new }
+        ensures faults { Counts (faults self.old) result (faults self.new) };
+}
+
+/// Where bytes go: std's `write`, with a count of the calls that failed.
+pub trait Sink {
+    // The bytes that were taken so far, where they are known; None claims nothing.
+    ghost written: { Self → Option (List ℕ) };
+
+    // How many calls failed so far.
+    ghost faults: { Self → ℕ };
+
+    /// Takes a beginning of `bytes`, and answers how many bytes: at least one, unless `bytes` is empty.
+    fn write(&mut self, bytes: &[u8]) -> Result<usize, Failed>
+        ensures bound { WritesAtMost result bytes.now }
+        ensures some { 0 < length bytes.now → IfOk result (λ n. 0 < n) }
+        ensures bytes { WriteAppends (written self.old) (written self.new) result bytes.now }
+        ensures faults { Counts (faults self.old) result (faults self.new) };
+}
+
+/// Writes all of `bytes`, or a beginning of them where a call of the sink failed.
+pub fn send<W: Sink>(out: &mut W, bytes: &[u8]) -> Result<(), Failed>
+    ensures { Sends (W.written out.old) (W.faults out.old) bytes.now result
+        (W.written out.new) (W.faults out.new) }
+{
+    let mut rest = bytes;
+    while !rest.is_empty() {
+        let n = out.write(rest)?;
+        rest = &rest[n..];
+    }
+    Ok(())
+}
+
+/// Writes all of `head` and then all of `bytes`, or a beginning of the two together where a call of the sink failed.
+pub fn send_both<W: Sink>(out: &mut W, head: &[u8], bytes: &[u8]) -> Result<(), Failed>
+    ensures { Sends (W.written out.old) (W.faults out.old) (head.now ++ bytes.now) result
+        (W.written out.new) (W.faults out.new) }
+{
+    match send(out, head) {
+        Ok(()) => send(out, bytes),
+        Err(e) => Err(e),
+    }
+}

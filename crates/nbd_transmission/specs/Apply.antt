@@ -1,0 +1,68 @@
+-- What a command does to the contents of a disk, and what it is answered (NBD proto.md, simple replies).
+-- Contents are one list of bytes, 512 for each sector.
+use Rattle.std.specs.Prelude.{◌≡◌, ◌⊎◌, ℕ, ◌+◌, List, [], ◌∷◌, ◌++◌, length, take, drop, Bool, true, false, Option, Some, None, if◌then◌else◌}
+use Rattle.nbd_wire.specs.declared.command.Command.{Command}
+use Rattle.nbd_wire.specs.declared.command.CommandKind.{CommandKind}
+use Rattle.nbd_wire.specs.declared.command.CommandKind.TheVariants.{Read, Write, Disconnect, Flush, Unknown}
+use Rattle.nbd_wire.specs.declared.request.Request.{Request}
+use Rattle.nbd_wire.specs.Heads.{reply_bytes, request_at}
+use Rattle.nbd_wire.specs.Commands.{command_of, is_disconnect, judge_of, kind_of}
+
+-- the data of an accepted command's reply: the bytes of a READ's range
+abbrev pub data_of_kind : CommandKind → List ℕ → Command → List ℕ
+data_of_kind Read contents c = take c.length (drop c.offset contents)
+data_of_kind Write contents c = []
+data_of_kind Disconnect contents c = []
+data_of_kind Flush contents c = []
+data_of_kind (Unknown n) contents c = []
+
+abbrev pub data_of : List ℕ → Command → List ℕ
+data_of contents c = data_of_kind c.kind contents c
+
+-- the contents after an accepted command: a WRITE's payload replaces the bytes of its range
+abbrev pub changed_kind : CommandKind → List ℕ → Command → List ℕ → List ℕ
+changed_kind Read contents c payload = contents
+changed_kind Write contents c payload = take c.offset contents ++ payload ++ drop (c.offset + length payload) contents
+changed_kind Disconnect contents c payload = contents
+changed_kind Flush contents c payload = contents
+changed_kind (Unknown n) contents c payload = contents
+
+abbrev pub changed_by : List ℕ → Command → List ℕ → List ℕ
+changed_by contents c payload = changed_kind c.kind contents c payload
+
+-- a reply's head
+abbrev pub head_of : Command → ℕ → List ℕ
+head_of c error = reply_bytes record { error = error; cookie = c.cookie }
+
+-- A command applied to contents: a refused one changes nothing.
+abbrev pub applied_unless : Option ℕ → List ℕ → Command → List ℕ → List ℕ
+applied_unless None contents c payload = changed_by contents c payload
+applied_unless (Some error) contents c payload = contents
+
+abbrev pub applied : ℕ → List ℕ → Command → List ℕ → List ℕ
+applied sectors contents c payload = applied_unless (judge_of c sectors) contents c payload
+
+-- The reply to a command: a refused one is answered its error and no data.
+abbrev pub reply_unless : Option ℕ → List ℕ → Command → List ℕ
+reply_unless None contents c = head_of c 0 ++ data_of contents c
+reply_unless (Some error) contents c = head_of c error
+
+abbrev pub reply_to : ℕ → List ℕ → Command → List ℕ
+reply_to sectors contents c = reply_unless (judge_of c sectors) contents c
+
+-- The same of a unit of the transmission phase. One that closes the connection is answered nothing and changes nothing.
+abbrev pub request_applied : ℕ → List ℕ → Option Request → List ℕ → List ℕ
+request_applied sectors contents None payload = contents
+request_applied sectors contents (Some r) payload =
+    if is_disconnect (kind_of r.kind) then contents else applied sectors contents (command_of r) payload
+
+abbrev pub unit_applied : ℕ → List ℕ → List ℕ → List ℕ
+unit_applied sectors contents unit = request_applied sectors contents (request_at unit) (drop 28 unit)
+
+abbrev pub request_reply : ℕ → List ℕ → Option Request → List ℕ
+request_reply sectors contents None = []
+request_reply sectors contents (Some r) =
+    if is_disconnect (kind_of r.kind) then [] else reply_to sectors contents (command_of r)
+
+abbrev pub unit_reply : ℕ → List ℕ → List ℕ → List ℕ
+unit_reply sectors contents unit = request_reply sectors contents (request_at unit)

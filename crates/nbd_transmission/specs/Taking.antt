@@ -1,0 +1,47 @@
+-- What a complete request of the transmission phase is answered. Source: NBD proto.md; own is that nothing is said before a close.
+use Rattle.std.specs.Prelude.{ℕ, ◌≡◌, ◌&&◌, Bool, false, is_none, List, [], drop, Option, Some, None, if◌then◌else◌}
+use Rattle.nbd_wire.specs.declared.constants.TheConstants.{REQUEST_LEN}
+use Rattle.nbd_wire.specs.declared.request.Request.{Request}
+use Rattle.nbd_wire.specs.declared.command.Command.{Command}
+use Rattle.nbd_wire.specs.declared.phase.Phase.{Phase}
+use Rattle.nbd_wire.specs.declared.phase.Phase.TheVariants.{Transmitting, Closed}
+use Rattle.nbd_wire.specs.Heads.{request_at}
+use Rattle.nbd_wire.specs.Commands.{kind_of, command_of, is_write, is_disconnect, judge_of}
+use Rattle.nbd_transmission.specs.declared.transmission.Next.{Next}
+use Rattle.nbd_transmission.specs.declared.transmission.Next.TheVariants.{More, Run, Refused, Close}
+
+-- an accepted command runs, another is refused with its error
+abbrev pub verdict : Command → Option ℕ → Next
+verdict c None = Run c
+verdict c (Some error) = Refused c.cookie error
+
+-- the answer to a request, or to a head whose magic is wrong: that and DISC close
+abbrev pub answer_of : ℕ → Option Request → Next
+answer_of sectors None = Close
+answer_of sectors (Some r) = if is_disconnect (kind_of r.kind) then Close else verdict (command_of r) (judge_of (command_of r) sectors)
+
+-- the answer to a unit
+abbrev pub answer_to : ℕ → List ℕ → Next
+answer_to sectors unit = answer_of sectors (request_at unit)
+
+-- the phase of a parser that has given this answer
+abbrev pub phase_of : Next → Phase
+phase_of More = Transmitting
+phase_of (Run c) = Transmitting
+phase_of (Refused cookie error) = Transmitting
+phase_of Close = Closed
+
+-- a command that is to be run passes each check of the request table, and is none that closes
+abbrev pub IsAccepted : ℕ → Next → Type 0
+IsAccepted sectors More = Unit {0}
+IsAccepted sectors (Run c) = (judge_of c sectors ≡ None) × (is_disconnect c.kind ≡ false)
+IsAccepted sectors (Refused cookie error) = Unit {0}
+IsAccepted sectors Close = Unit {0}
+
+abbrev pub is_accepted_write : ℕ → Option Request → Bool
+is_accepted_write sectors None = false
+is_accepted_write sectors (Some r) = is_write (kind_of r.kind) && is_none (judge_of (command_of r) sectors)
+
+-- the part of an accepted WRITE's payload that has come with these first bytes of its unit
+abbrev pub payload_of : ℕ → List ℕ → List ℕ
+payload_of sectors rest = if is_accepted_write sectors (request_at rest) then drop REQUEST_LEN rest else []

@@ -1,0 +1,366 @@
+//! Commands and refusals, cut out of the bytes of a connection.
+
+ghost use Rattle.std.specs.Prelude.{◌≡◌, ◌<◌, ◌≤◌, ◌+◌, ◌-◌, ◌++◌, ◌⊎◌, ℕ, List, min, [], length, take, drop, false, if◌then◌else◌};
+ghost use Rattle.nbd_wire.specs.Heads.{request_at};
+ghost use Rattle.nbd_wire.specs.Units.{payload_len, Splits};
+ghost use Rattle.nbd_wire.specs.Standing.{Keeps, StandsFor};
+ghost use Rattle.nbd_wire.specs.declared.phase.Phase.{Phase};
+ghost use Rattle.nbd_wire.specs.declared.phase.Phase.TheVariants.{Transmitting, Closed};
+ghost use Rattle.nbd_transmission.specs.Taking.{answer_to, verdict, is_accepted_write, payload_of, phase_of, IsAccepted};
+ghost use Rattle.nbd_transmission.specs.Standing.{Answers, Advances};
+
+use crate::table::judge;
+use nbd_wire::{Command, CommandKind, MAX_LEN, REQUEST_LEN, Request};
+use std::marker::Model;
+
+/// What comes next on a connection.
+#[derive(Clone, Copy, PartialEq, Eq, Debug)]
+pub enum Next {
+    /// The unit begun is not complete.
+    More,
+    /// An accepted command is to be run. The payload of a WRITE is complete.
+    Run(Command),
+    /// A refused command: its cookie and its error. The payload of a WRITE was taken and is to be dropped.
+    Refused(u64, u32),
+    /// The connection is over, without a reply.
+    Close,
+}
+
+/// What a call took of the bytes that it was given.
+#[derive(Clone, Copy, PartialEq, Eq, Debug)]
+pub struct Taken {
+    /// How many bytes were used.
+    pub used: usize,
+    /// How many of the last of these are payload of an accepted WRITE.
+    pub payload: usize,
+    pub next: Next,
+}
+
+/// Cuts the bytes of a transmission into commands.
+#[derive(Drop)]
+pub struct Transmission {
+    sectors: u32,
+    head: [u8; REQUEST_LEN],
+    count: u64,
+    is_closed: bool,
+}
+
+impl Model for Transmission {
+    ghost use Rattle.std.specs.Prelude.{◌≡◌, ◌+◌, ◌<◌, ◌≤◌, take, min, if◌then◌else◌};
+    ghost use Rattle.nbd_wire.specs.declared.constants.TheConstants.{REQUEST_LEN};
+    ghost use Rattle.nbd_wire.specs.Heads.{request_at};
+    ghost use Rattle.nbd_wire.specs.Units.{payload_len};
+    ghost use Rattle.nbd_wire.specs.Standing.{Held};
+    ghost use Rattle.nbd_wire.specs.declared.phase.Phase.TheVariants.{Transmitting, Closed};
+
+    ghost Value = { Held };
+
+    ghost view = { λ t. record { sectors = t.sectors; phase = (if t.is_closed then Closed else Transmitting); kept = take (min t.count REQUEST_LEN) t.head; count = t.count } };
+
+    ghost invariant = { λ t. REQUEST_LEN ≤ t.count → t.count < REQUEST_LEN + payload_len (request_at t.head) };
+}
+
+impl Transmission {
+    /// A parser for a disk of so many sectors, whose next byte begins a request.
+    pub fn new(sectors: u32) -> Transmission
+        ensures exact { result ≡ record { sectors = sectors; phase = Phase.Transmitting; kept = []; count = 0 } }
+        ensures keeps { Keeps REQUEST_LEN result [] }
+        // It stands for each text whose units lead to the transmission, without a rest.
+        ensures stands { (start : Phase) (text : List ℕ) (units : List (List ℕ)) → Splits start text units [] Phase.Transmitting → StandsFor REQUEST_LEN start result text }
+    {
+        Transmission {
+            sectors,
+            head: [0; REQUEST_LEN],
+            count: 0,
+            is_closed: false,
+        }
+    }
+
+    /// Takes bytes of at most one unit. A closed parser uses no bytes and answers Close.
+    pub fn take(&mut self, bytes: &[u8]) -> Taken
+        ensures used { result.used ≤ length bytes.now }
+        ensures payload { result.payload ≤ result.used }
+        ensures more { result.next ≡ Next.More → result.used ≡ length bytes.now }
+        ensures progress { self.old.phase ≡ Phase.Transmitting → 0 < length bytes.now → 0 < result.used }
+        ensures closed { self.old.phase ≡ Phase.Closed → (self.new ≡ self.old) × (result ≡ record { used = 0; payload = 0; next = Next.Close }) }
+        ensures sectors { self.new.sectors ≡ self.old.sectors }
+        ensures phase { self.new.phase ≡ phase_of result.next }
+        ensures phases { (self.old.phase ≡ Phase.Transmitting) ⊎ (self.old.phase ≡ Phase.Closed) }
+        ensures accepted { IsAccepted self.old.sectors result.next }
+
+        // Of the unit begun: what the bytes used make of it,
+        ensures step { (rest : List ℕ) → self.old.phase ≡ Phase.Transmitting → Keeps REQUEST_LEN self.old rest
+            → Advances self.old (rest ++ take result.used bytes.now) result.next self.new }
+        // that the last of them are the next part of an accepted payload,
+        ensures part { (rest : List ℕ) → self.old.phase ≡ Phase.Transmitting → Keeps REQUEST_LEN self.old rest
+            → payload_of self.old.sectors (rest ++ take result.used bytes.now)
+            ≡ payload_of self.old.sectors rest ++ drop (result.used - result.payload) (take result.used bytes.now) }
+        // which never grows longer than a READ or WRITE may be.
+        ensures room { (rest : List ℕ) → self.old.phase ≡ Phase.Transmitting → Keeps REQUEST_LEN self.old rest
+            → length (payload_of self.old.sectors (rest ++ take result.used bytes.now)) ≤ MAX_LEN }
+
+        // Of each text that the parser stands for: the answer is that of the next unit of this text and the bytes used,
+        ensures answer { (start : Phase) (text : List ℕ) → self.old.phase ≡ Phase.Transmitting → StandsFor REQUEST_LEN start self.old text
+            → Answers start self.old.sectors text (text ++ take result.used bytes.now) result.next }
+        // and the parser then stands for the longer text.
+        ensures stands { (start : Phase) (text : List ℕ) → StandsFor REQUEST_LEN start self.old text
+            → StandsFor REQUEST_LEN start self.new (text ++ take result.used bytes.now) }
+    {
+        if self.is_closed {
+            return Taken {
+                used: 0,
+                payload: 0,
+                next: Next::Close,
+            };
+        }
+        self.advance(bytes)
+    }
+
+    /// Takes bytes of the unit begun.
+    fn advance(&mut self, bytes: &[u8]) -> Taken
+        requires { self.old.phase ≡ Phase.Transmitting }
+        ensures used { result.used ≤ length bytes.now }
+        ensures payload { result.payload ≤ result.used }
+        ensures more { result.next ≡ Next.More → result.used ≡ length bytes.now }
+        ensures progress { 0 < length bytes.now → 0 < result.used }
+        ensures sectors { self.new.sectors ≡ self.old.sectors }
+        ensures phase { self.new.phase ≡ phase_of result.next }
+        ensures accepted { IsAccepted self.old.sectors result.next }
+        ensures step { (rest : List ℕ) → Keeps REQUEST_LEN self.old rest
+            → Advances self.old (rest ++ take result.used bytes.now) result.next self.new }
+        ensures part { (rest : List ℕ) → Keeps REQUEST_LEN self.old rest
+            → payload_of self.old.sectors (rest ++ take result.used bytes.now)
+            ≡ payload_of self.old.sectors rest ++ drop (result.used - result.payload) (take result.used bytes.now) }
+    {
+        let filled = self.count.min(REQUEST_LEN as u64) as usize;
+        let head = fill(&mut self.head, filled, bytes);
+        let count = self.count + head as u64;
+        if count < REQUEST_LEN as u64 {
+            self.count = count;
+            return Taken {
+                used: head,
+                payload: 0,
+                next: Next::More,
+            };
+        }
+        let tail = tail_of(&self.head, self.sectors);
+        let missing = REQUEST_LEN as u64 + u64::from(tail.len) - count;
+        let left = bytes.len() - head;
+        if (left as u64) < missing {
+            self.count = count + left as u64;
+            return Taken {
+                used: bytes.len(),
+                payload: if tail.accepted { left } else { 0 },
+                next: Next::More,
+            };
+        }
+        self.count = 0;
+        self.is_closed = closes(tail.next);
+        Taken {
+            used: head + missing as usize,
+            payload: if tail.accepted { missing as usize } else { 0 },
+            next: tail.next,
+        }
+    }
+}
+
+/// Takes bytes of a head that has `filled` of them.
+fn fill(head: &mut [u8; REQUEST_LEN], filled: usize, bytes: &[u8]) -> usize
+    requires { filled ≤ REQUEST_LEN }
+    ensures count { result ≡ min (REQUEST_LEN - filled) (length bytes.now) }
+    ensures head { take (filled + result) head.new ≡ take filled head.old ++ take result bytes.now }
+{
+    let n = (REQUEST_LEN - filled).min(bytes.len());
+    head[filled..filled + n].copy_from_slice(&bytes[..n]);
+    n
+}
+
+/// What a whole head says of its unit.
+#[derive(Clone, Copy)]
+struct Tail {
+    /// How many bytes follow the head.
+    len: u32,
+    /// Whether they are payload of an accepted WRITE.
+    accepted: bool,
+    /// The answer to the unit.
+    next: Next,
+}
+
+/// Reads a whole head.
+fn tail_of(head: &[u8; REQUEST_LEN], sectors: u32) -> Tail
+    ensures len { result.len ≡ payload_len (request_at head.now) }
+    ensures accepted { result.accepted ≡ is_accepted_write sectors (request_at head.now) }
+    ensures next { result.next ≡ answer_to sectors head.now }
+{
+    let Some(request) = Request::read(head) else {
+        return Tail {
+            len: 0,
+            accepted: false,
+            next: Next::Close,
+        };
+    };
+    let command = Command::of(request);
+    let refusal = judge(&command, sectors);
+    match command.kind {
+        CommandKind::Write => Tail {
+            len: command.length,
+            accepted: refusal.is_none(),
+            next: answer(command, refusal),
+        },
+        CommandKind::Disconnect => Tail {
+            len: 0,
+            accepted: false,
+            next: Next::Close,
+        },
+        CommandKind::Read => Tail {
+            len: 0,
+            accepted: false,
+            next: answer(command, refusal),
+        },
+        CommandKind::Flush => Tail {
+            len: 0,
+            accepted: false,
+            next: answer(command, refusal),
+        },
+        CommandKind::Unknown(_) => Tail {
+            len: 0,
+            accepted: false,
+            next: answer(command, refusal),
+        },
+    }
+}
+
+/// The answer to a complete command.
+fn answer(command: Command, refusal: Option<u32>) -> Next
+    ensures { result ≡ verdict command refusal }
+{
+    match refusal {
+        None => Next::Run(command),
+        Some(error) => Next::Refused(command.cookie, error),
+    }
+}
+
+/// Whether an answer ends the connection.
+fn closes(next: Next) -> bool
+    ensures { (if result then Closed else Transmitting) ≡ phase_of next }
+{
+    match next {
+        Next::More => false,
+        Next::Run(_) => false,
+        Next::Refused(..) => false,
+        Next::Close => true,
+    }
+}
+
+#[cfg(test)]
+mod tests {
+    use super::*;
+    use bitflags::Flags;
+    use nbd_wire::CommandFlags;
+
+    /// A READ of the last sector of 70.
+    const READ_REQUEST: [u8; 28] = [
+        0x25, 0x60, 0x95, 0x13, 0x00, 0x00, 0x00, 0x00, 0x01, 0x02, 0x03, 0x04, 0x05, 0x06, 0x07,
+        0x08, 0x00, 0x00, 0x00, 0x00, 0x00, 0x00, 0x8A, 0x00, 0x00, 0x00, 0x02, 0x00,
+    ];
+    /// A WRITE of 66,048 bytes at 0, which is longer than any may be.
+    const LONG_WRITE: [u8; 28] = [
+        0x25, 0x60, 0x95, 0x13, 0x00, 0x00, 0x00, 0x01, 0x01, 0x02, 0x03, 0x04, 0x05, 0x06, 0x07,
+        0x08, 0x00, 0x00, 0x00, 0x00, 0x00, 0x00, 0x00, 0x00, 0x00, 0x01, 0x02, 0x00,
+    ];
+
+    /// What the READ asks for.
+    fn read_command() -> Command {
+        Command {
+            kind: CommandKind::Read,
+            flags: CommandFlags::from_bits_retain(0),
+            cookie: 0x0102_0304_0506_0708,
+            offset: 0x8A00,
+            length: 512,
+        }
+    }
+
+    #[test]
+    fn a_read_in_pieces_of_one_byte(rt: HostRuntime) {
+        let mut parser = Transmission::new(70);
+        for byte in &READ_REQUEST[..27] {
+            assert_eq!(rt;
+                parser.take(&[*byte]),
+                Taken {
+                    used: 1,
+                    payload: 0,
+                    next: Next::More
+                }
+            );
+        }
+        assert_eq!(rt;
+            parser.take(&READ_REQUEST[27..]),
+            Taken {
+                used: 1,
+                payload: 0,
+                next: Next::Run(read_command())
+            }
+        );
+    }
+
+    #[test]
+    fn the_payload_of_a_refused_write_is_taken(rt: HostRuntime) {
+        let mut parser = Transmission::new(70);
+        assert_eq!(rt;
+            parser.take(&LONG_WRITE),
+            Taken {
+                used: 28,
+                payload: 0,
+                next: Next::More
+            }
+        );
+        let sector = [0x25; 512];
+        for _ in 0..128 {
+            assert_eq!(rt;
+                parser.take(&sector),
+                Taken {
+                    used: 512,
+                    payload: 0,
+                    next: Next::More
+                }
+            );
+        }
+        assert_eq!(rt;
+            parser.take(&sector),
+            Taken {
+                used: 512,
+                payload: 0,
+                next: Next::Refused(0x0102_0304_0506_0708, 22)
+            }
+        );
+        assert_eq!(rt;
+            parser.take(&READ_REQUEST),
+            Taken {
+                used: 28,
+                payload: 0,
+                next: Next::Run(read_command())
+            }
+        );
+    }
+
+    #[test]
+    fn a_wrong_magic_closes(rt: HostRuntime) {
+        let mut parser = Transmission::new(70);
+        assert_eq!(rt;
+            parser.take(&[0; 28]),
+            Taken {
+                used: 28,
+                payload: 0,
+                next: Next::Close
+            }
+        );
+        assert_eq!(rt;
+            parser.take(&READ_REQUEST),
+            Taken {
+                used: 0,
+                payload: 0,
+                next: Next::Close
+            }
+        );
+    }
+}

@@ -1,0 +1,62 @@
+-- What the request table lets through.
+use Rattle.std.proofs.Common.{◌≡◌, ℕ, zero, suc, ◌+◌, ◌*◌, ◌%◌, ◌<◌, ◌≤◌, ◌&&◌, ◌||◌, not, Bool, true, false, cond, eqb, List, [], ◌∷◌, Option, Some, None, refl, arith}
+use Rattle.std.proofs.lemmas.Bool.{ltb-false, eqb-true}
+use Rattle.std.proofs.Math.Dec.{ltb}
+use Rattle.nbd_wire.specs.declared.command.Command.{Command}
+use Rattle.nbd_wire.specs.declared.command.CommandKind.{CommandKind}
+use Rattle.nbd_wire.specs.declared.command.CommandKind.TheVariants.{Read, Write, Disconnect, Flush, Unknown}
+use Rattle.nbd_wire.specs.Commands.{is_served, is_write, moves_data, is_multiple, checks, first_failing, judge_of}
+
+passes_first : (b : Bool) (e : ℕ) (o : Option ℕ) → cond b (Some e) o ≡ None → (b ≡ false) × (o ≡ None)
+passes_first true e o h = cc
+passes_first false e o h = (refl, h)
+
+-- whether the check of the row with this number fails
+abbrev pub fails_at : List (Bool × ℕ) → ℕ → Bool
+fails_at [] k = false
+fails_at (row ∷ rows) zero = row.0
+fails_at (row ∷ rows) (suc k) = fails_at rows k
+
+passes : (rows : List (Bool × ℕ)) (k : ℕ) → first_failing rows ≡ None → fails_at rows k ≡ false
+passes [] k h = refl
+passes (row ∷ rows) zero h = (passes_first row.0 row.1 (first_failing rows) h).0
+passes (row ∷ rows) (suc k) h = passes rows k (passes_first row.0 row.1 (first_failing rows) h).1
+
+and_is_false : (a b : Bool) → a ≡ true → (a && b) ≡ false → b ≡ false
+and_is_false true b e h = h
+and_is_false false b e h = cc
+
+or_is_false : (a b : Bool) → (a || b) ≡ false → (a ≡ false) × (b ≡ false)
+or_is_false true b h = cc
+or_is_false false b h = (refl, h)
+
+not_is_false : (a : Bool) → not a ≡ false → a ≡ true
+not_is_false true h = refl
+not_is_false false h = cc
+
+not_zero : (n : ℕ) → eqb n 0 ≡ false → 0 < n
+not_zero zero h = cc
+not_zero (suc n) h = omega arith
+
+pub write_moves_data : (k : CommandKind) → is_write k ≡ true → moves_data k ≡ true
+write_moves_data Read e = refl
+write_moves_data Write e = refl
+write_moves_data Flush e = cc
+write_moves_data Disconnect e = cc
+write_moves_data (Unknown n) e = cc
+
+-- an accepted command is READ, WRITE or FLUSH
+pub accepted_is_served : (c : Command) (sectors : ℕ) → judge_of c sectors ≡ None → is_served c.kind ≡ true
+unfolding judge_of
+accepted_is_served c sectors h = not_is_false (is_served c.kind) (passes (checks c sectors) 0 h)
+
+-- an accepted READ or WRITE has whole sectors, at most 65,536 bytes, all of them on the disk
+pub accepted_range : (c : Command) (sectors : ℕ) → moves_data c.kind ≡ true → judge_of c sectors ≡ None → (0 < c.length) × (c.offset % 512 ≡ 0) × (c.length % 512 ≡ 0) × (c.length ≤ 65536) × (c.offset + c.length ≤ 512 * sectors)
+unfolding judge_of
+accepted_range c sectors moves h =
+    let aligned = and_is_false (moves_data c.kind) (eqb c.length 0 || not (is_multiple c.offset) || not (is_multiple c.length)) moves (passes (checks c sectors) 3 h) in
+    let first = or_is_false (eqb c.length 0 || not (is_multiple c.offset)) (not (is_multiple c.length)) aligned in
+    let second = or_is_false (eqb c.length 0) (not (is_multiple c.offset)) first.0 in
+    let short = and_is_false (moves_data c.kind) (ltb 65536 c.length) moves (passes (checks c sectors) 4 h) in
+    let ends = and_is_false (moves_data c.kind) (ltb (512 * sectors) (c.offset + c.length)) moves (passes (checks c sectors) 5 h) in
+    (not_zero c.length second.0, eqb-true _ _ (not_is_false (is_multiple c.offset) second.1), eqb-true _ _ (not_is_false (is_multiple c.length) first.1), ltb-false 65536 c.length short, ltb-false (512 * sectors) (c.offset + c.length) ends)

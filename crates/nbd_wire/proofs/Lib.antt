@@ -1,0 +1,5 @@
+pub mod Numbers
+pub mod Spelled
+pub mod UnitLaws
+pub mod StandingLaws
+pub mod CommandLaws

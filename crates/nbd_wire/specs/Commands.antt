@@ -1,0 +1,71 @@
+-- Commands, and which of them are refused.
+use Rattle.std.specs.Prelude.{ℕ, ◌+◌, ◌*◌, ◌%◌, ◌==◌, ◌&&◌, ◌||◌, not, Bool, true, false, nat_lt, List, [], ◌∷◌, Option, Some, None, if◌then◌else◌}
+use Rattle.std.specs.Int.RustNames.{bit_and}
+use Rattle.nbd_wire.specs.declared.constants.TheConstants.{CMD_READ, CMD_WRITE, CMD_DISC, CMD_FLUSH, EINVAL, ENOSPC, SECTOR_LEN, MAX_LEN}
+use Rattle.nbd_wire.specs.declared.request.Request.{Request}
+use Rattle.nbd_wire.specs.declared.command.Command.{Command}
+use Rattle.nbd_wire.specs.declared.command.CommandKind.{CommandKind}
+use Rattle.nbd_wire.specs.declared.command.CommandKind.TheVariants.{Read, Write, Disconnect, Flush, Unknown}
+use Rattle.nbd_wire.specs.declared.flags.CommandFlags.{CommandFlags}
+
+-- what the numbers on the wire mean (NBD proto.md; TRIM, WRITE_ZEROES and all others are not served)
+abbrev pub kind_of : ℕ → CommandKind
+kind_of n = if n == CMD_READ then Read else if n == CMD_WRITE then Write else if n == CMD_DISC then Disconnect else if n == CMD_FLUSH then Flush else Unknown n
+
+-- the command of a request: its fields, and the meaning of its number
+abbrev pub command_of : Request → Command
+command_of r = record { kind = kind_of r.kind; flags = r.flags; cookie = r.cookie; offset = r.offset; length = r.length }
+
+-- the commands that are answered by a reply with error 0 where nothing is wrong with them
+abbrev pub is_served : CommandKind → Bool
+is_served Read = true
+is_served Write = true
+is_served Flush = true
+is_served Disconnect = false
+is_served (Unknown n) = false
+
+abbrev pub is_flush : CommandKind → Bool
+is_flush Flush = true
+is_flush _ = false
+
+abbrev pub is_write : CommandKind → Bool
+is_write Write = true
+is_write _ = false
+
+-- READ and WRITE
+abbrev pub moves_data : CommandKind → Bool
+moves_data Read = true
+moves_data Write = true
+moves_data _ = false
+
+abbrev pub is_disconnect : CommandKind → Bool
+is_disconnect Disconnect = true
+is_disconnect _ = false
+
+-- no flag is set but FUA, which is bit 0
+abbrev pub has_no_flag_but_fua : CommandFlags → Bool
+has_no_flag_but_fua flags = bit_and 1 flags.0 == flags.0
+
+abbrev pub is_multiple : ℕ → Bool
+is_multiple n = n % SECTOR_LEN == 0
+
+-- The request table, row by row: whether the check fails on a disk of so many sectors, and the error then. The sum is
+-- unbounded. The errors are those of NBD proto.md, the limits and the order are own.
+abbrev pub checks : Command → ℕ → List (Bool × ℕ)
+checks c sectors =
+    (not (is_served c.kind), EINVAL)
+    ∷ (not (has_no_flag_but_fua c.flags), EINVAL)
+    ∷ (is_flush c.kind && not (c.offset == 0 && c.length == 0), EINVAL)
+    ∷ (moves_data c.kind && (c.length == 0 || not (is_multiple c.offset) || not (is_multiple c.length)), EINVAL)
+    ∷ (moves_data c.kind && nat_lt MAX_LEN c.length, EINVAL)
+    ∷ (moves_data c.kind && nat_lt (SECTOR_LEN * sectors) (c.offset + c.length), if is_write c.kind then ENOSPC else EINVAL)
+    ∷ []
+
+-- the error of the first row that fails
+abbrev pub first_failing : List (Bool × ℕ) → Option ℕ
+first_failing [] = None
+first_failing (row ∷ rows) = if row.0 then Some row.1 else first_failing rows
+
+-- the error that refuses a command on a disk of so many sectors
+unfoldable pub judge_of : Command → ℕ → Option ℕ
+judge_of c sectors = first_failing (checks c sectors)

@@ -1,0 +1,6 @@
+pub mod Heads
+pub mod Commands
+pub mod Options
+pub mod Units
+pub mod Standing
+pub use Rattle.byteorder.specs.Endian

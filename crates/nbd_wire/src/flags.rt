@@ -1,0 +1,128 @@
+//! The flag words of the protocol, as sets of named bits.
+//!
+//! A set keeps every bit that it was given: a bit without a name here is one that this server doesn't know.
+
+ghost use Rattle.std.specs.Prelude.{⊤, [], ◌∷◌, codes};
+
+use bitflags::{Flag, Flags, bitflag_items};
+
+/// The flags of a command: 16 bits of a request's head. Source: NBD proto.md.
+#[derive(Clone, Copy, PartialEq, Eq, Debug)]
+pub struct CommandFlags(u16);
+
+bitflag_items! {
+    impl CommandFlags: u16 {
+        const FUA = 1;
+        const NO_HOLE = 2;
+    }
+}
+
+impl Flags for CommandFlags {
+    type Bits = u16;
+
+    ghost exact = { ⊤ };
+
+    ghost table = { (codes "FUA", 1) ∷ (codes "NO_HOLE", 2) ∷ [] };
+
+    ghost set_of = { λ p. p.0 };
+
+    fn flags<'a>() -> &'a [Flag<CommandFlags>] {
+        CommandFlags::FLAGS
+    }
+
+    fn bits(&self) -> u16 {
+        self.0
+    }
+
+    fn from_bits_retain(bits: u16) -> CommandFlags {
+        CommandFlags(bits)
+    }
+}
+
+/// The flags of the negotiation, of the server in its greeting (16 bits) and of the client (32 bits). Source: NBD proto.md.
+#[derive(Clone, Copy, PartialEq, Eq, Debug)]
+pub struct HandshakeFlags(u32);
+
+bitflag_items! {
+    impl HandshakeFlags: u32 {
+        const FIXED_NEWSTYLE = 1;
+        const NO_ZEROES = 2;
+    }
+}
+
+impl Flags for HandshakeFlags {
+    type Bits = u32;
+
+    ghost exact = { ⊤ };
+
+    ghost table = { (codes "FIXED_NEWSTYLE", 1) ∷ (codes "NO_ZEROES", 2) ∷ [] };
+
+    ghost set_of = { λ p. p.0 };
+
+    fn flags<'a>() -> &'a [Flag<HandshakeFlags>] {
+        HandshakeFlags::FLAGS
+    }
+
+    fn bits(&self) -> u32 {
+        self.0
+    }
+
+    fn from_bits_retain(bits: u32) -> HandshakeFlags {
+        HandshakeFlags(bits)
+    }
+}
+
+/// The transmission flags, which tell the client what the server serves: 16 bits. Source: NBD proto.md.
+#[derive(Clone, Copy, PartialEq, Eq, Debug)]
+pub struct TransmissionFlags(u16);
+
+bitflag_items! {
+    impl TransmissionFlags: u16 {
+        const HAS_FLAGS = 0x0001;
+        const SEND_FLUSH = 0x0004;
+        const SEND_FUA = 0x0008;
+        const SEND_TRIM = 0x0020;
+        const SEND_WRITE_ZEROES = 0x0040;
+        const CAN_MULTI_CONN = 0x0100;
+    }
+}
+
+impl Flags for TransmissionFlags {
+    type Bits = u16;
+
+    ghost exact = { ⊤ };
+
+    ghost table = { (codes "HAS_FLAGS", 0x0001) ∷ (codes "SEND_FLUSH", 0x0004) ∷ (codes "SEND_FUA", 0x0008) ∷ (codes "SEND_TRIM", 0x0020)
+        ∷ (codes "SEND_WRITE_ZEROES", 0x0040) ∷ (codes "CAN_MULTI_CONN", 0x0100) ∷ [] };
+
+    ghost set_of = { λ p. p.0 };
+
+    fn flags<'a>() -> &'a [Flag<TransmissionFlags>] {
+        TransmissionFlags::FLAGS
+    }
+
+    fn bits(&self) -> u16 {
+        self.0
+    }
+
+    fn from_bits_retain(bits: u16) -> TransmissionFlags {
+        TransmissionFlags(bits)
+    }
+}
+
+#[cfg(test)]
+mod tests {
+    use super::*;
+
+    #[test]
+    fn the_flags_of_the_server(rt: HostRuntime) {
+        let handshake = HandshakeFlags::FIXED_NEWSTYLE | HandshakeFlags::NO_ZEROES;
+        assert_eq!(rt; handshake.bits(), 3);
+        let transmission = TransmissionFlags::HAS_FLAGS
+            | TransmissionFlags::SEND_FLUSH
+            | TransmissionFlags::SEND_FUA
+            | TransmissionFlags::CAN_MULTI_CONN;
+        assert_eq!(rt; transmission.bits(), 0x010D);
+        assert_eq!(rt; (CommandFlags::FUA | CommandFlags::NO_HOLE).bits(), 3);
+    }
+}

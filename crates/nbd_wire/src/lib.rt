@@ -1,0 +1,37 @@
+//! The messages of the NBD protocol, to and from bytes, and how a connection's text is cut into them.
+//!
+//! Promised: every field of a head stands where the protocol puts it, in big-endian order. `Request::read` and
+//! `Reply::read` read exactly the heads whose magic is right, what they read is spelled by the bytes that were read,
+//! and what `write` wrote is read again. `Command::of` gives each number on the wire its one meaning. `one_cutting`:
+//! each text of a connection is cut into complete units and a rest in exactly one way, and more bytes only add units.
+//!
+//! Left to the crates above: which requests are refused and how options are answered (their definitions stand here,
+//! `specs/Commands.antt` and `specs/Options.antt`, the code stands in `nbd_transmission` and `nbd_handshake`).
+//!
+//! Source: NBD proto.md; the limits on lengths and the one export `flash` are own.
+#![tactic(auto)]
+
+mod command;
+mod constants;
+mod flags;
+mod option;
+mod phase;
+mod reply;
+mod request;
+
+pub use command::{Command, CommandKind};
+pub use constants::{
+    CLIENT_FLAGS_LEN, CMD_DISC, CMD_FLUSH, CMD_READ, CMD_TRIM, CMD_WRITE, CMD_WRITE_ZEROES, EINVAL,
+    EIO, ENOMEM, ENOSPC, ESHUTDOWN, EXPORT_NAME, EXPORT_NAME_ANSWER_LEN, EXPORT_NAME_ZEROES_LEN,
+    GREETING_FLAGS, GREETING_LEN, GREETING_MAGIC, INFO_BLOCK_SIZE, INFO_BLOCK_SIZE_LEN,
+    INFO_EXPORT, INFO_EXPORT_LEN, MAX_LEN, MAX_OPTION_LEN, MINIMUM_BLOCK_LEN, OPT_ABORT,
+    OPT_EXPORT_NAME, OPT_GO, OPT_INFO, OPT_LIST, OPTION_LEN, OPTION_MAGIC, OPTION_REPLY_LEN,
+    OPTION_REPLY_MAGIC, PREFERRED_BLOCK_LEN, REP_ACK, REP_ERR_INVALID, REP_ERR_TOO_BIG,
+    REP_ERR_UNKNOWN, REP_ERR_UNSUP, REP_INFO, REP_SERVER, REPLY_LEN, REPLY_MAGIC, REQUEST_LEN,
+    REQUEST_MAGIC, SECTOR_LEN, TRANSMISSION_FLAGS,
+};
+pub use flags::{CommandFlags, HandshakeFlags, TransmissionFlags};
+pub use option::{OptionCase, OptionHead};
+pub use phase::{Phase, one_cutting};
+pub use reply::Reply;
+pub use request::Request;

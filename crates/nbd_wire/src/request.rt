@@ -1,0 +1,112 @@
+//! The head of a request.
+
+ghost use Rattle.std.specs.Prelude.{◌≡◌, ◌≤◌, ◌++◌, length, drop, IfSome, ℕ, List};
+ghost use Rattle.byteorder.specs.Endian.{big_bytes};
+ghost use Rattle.nbd_wire.specs.Heads.{request_bytes, request_at, FitsRequest};
+ghost use Rattle.nbd_wire.specs.declared.request.Request.{Request};
+
+use crate::constants::{REQUEST_LEN, REQUEST_MAGIC};
+use crate::flags::CommandFlags;
+use bitflags::Flags;
+use byteorder::{BigEndian, ByteOrder};
+
+/// A request as its head says it. Source: NBD proto.md.
+#[derive(Clone, Copy, PartialEq, Eq, Debug)]
+pub struct Request {
+    pub flags: CommandFlags,
+    /// The number of the command.
+    pub kind: u16,
+    /// What the reply is to carry, so that the client knows which request it answers.
+    pub cookie: u64,
+    /// Where the command begins, in bytes.
+    pub offset: u64,
+    /// How long the range of the command is, in bytes.
+    pub length: u32,
+}
+
+impl Request {
+    /// Reads a head, where its magic is right.
+    pub fn read(bytes: &[u8]) -> Option<Request>
+        requires { REQUEST_LEN ≤ length bytes.now }
+        // The fields at their places, where the magic is right.
+        ensures exact { result ≡ request_at bytes.now }
+        // What is read is spelled so.
+        ensures spelled { IfSome result (λ r. request_bytes r ++ drop REQUEST_LEN bytes.now ≡ bytes.now) }
+        // What is spelled so is read, whatever follows it.
+        ensures again { (r : Request) (rest : List ℕ) → FitsRequest r → bytes.now ≡ request_bytes r ++ rest → result ≡ Some r }
+    {
+        Request::at_start(bytes)
+    }
+
+    #[tactic(auto, unfolding(crate::specs::Heads::request_at))]
+    fn at_start(bytes: &[u8]) -> Option<Request>
+        requires { REQUEST_LEN ≤ length bytes.now }
+        ensures { result ≡ request_at bytes.now }
+    {
+        if BigEndian::read_u32(bytes) != REQUEST_MAGIC {
+            return None;
+        }
+        Some(Request {
+            flags: CommandFlags::from_bits_retain(BigEndian::read_u16(&bytes[4..])),
+            kind: BigEndian::read_u16(&bytes[6..]),
+            cookie: BigEndian::read_u64(&bytes[8..]),
+            offset: BigEndian::read_u64(&bytes[16..]),
+            length: BigEndian::read_u32(&bytes[24..]),
+        })
+    }
+
+    /// Writes the head at the front of `out`, and leaves the rest of `out` as it is.
+    pub fn write(&self, out: &mut [u8])
+        requires { REQUEST_LEN ≤ length out.old }
+        ensures { out.new ≡ request_bytes self.now ++ drop REQUEST_LEN out.old }
+    {
+        self.write_to_kind(out);
+        self.write_from_cookie(&mut out[8..]);
+    }
+
+    /// Writes the first three fields of the head, 8 bytes.
+    fn write_to_kind(&self, out: &mut [u8])
+        requires { 8 ≤ length out.old }
+        ensures { out.new ≡ big_bytes 4 REQUEST_MAGIC ++ big_bytes 2 self.now.flags.0 ++ big_bytes 2 self.now.kind ++ drop 8 out.old }
+    {
+        BigEndian::write_u32(out, REQUEST_MAGIC);
+        BigEndian::write_u16(&mut out[4..], self.flags.bits());
+        BigEndian::write_u16(&mut out[6..], self.kind);
+    }
+
+    /// Writes the last three fields of the head, 20 bytes.
+    fn write_from_cookie(&self, out: &mut [u8])
+        requires { 20 ≤ length out.old }
+        ensures { out.new ≡ big_bytes 8 self.now.cookie ++ big_bytes 8 self.now.offset ++ big_bytes 4 self.now.length ++ drop 20 out.old }
+    {
+        BigEndian::write_u64(out, self.cookie);
+        BigEndian::write_u64(&mut out[8..], self.offset);
+        BigEndian::write_u32(&mut out[16..], self.length);
+    }
+}
+
+#[cfg(test)]
+mod tests {
+    use super::*;
+
+    /// A READ of one sector, as it is sent.
+    const READ_REQUEST: [u8; 28] = [
+        0x25, 0x60, 0x95, 0x13, 0x00, 0x00, 0x00, 0x00, 0x01, 0x02, 0x03, 0x04, 0x05, 0x06, 0x07,
+        0x08, 0x00, 0x00, 0x00, 0x00, 0x00, 0x00, 0x8A, 0x00, 0x00, 0x00, 0x02, 0x00,
+    ];
+
+    #[test]
+    fn a_read_is_read_and_written(rt: HostRuntime) {
+        let request = Request {
+            flags: CommandFlags::from_bits_retain(0),
+            kind: 0,
+            cookie: 0x0102_0304_0506_0708,
+            offset: 0x8A00,
+            length: 512,
+        };
+        assert_eq!(rt; Request::read(&READ_REQUEST), Some(request));
+        let mut bytes = [0xFF; 28];
+        request.write(&mut bytes);
+        assert_eq!(rt; bytes, READ_REQUEST);
+    }
+}

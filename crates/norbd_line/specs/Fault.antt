@@ -1,0 +1,25 @@
+use Rattle.std.specs.Prelude.{ℕ, ◌≡◌, ◌≢◌, ◌⊎◌}
+use Rattle.clap.specs.Values.{kind_of}
+use Rattle.clap.specs.declared.error.kind.ErrorKind.{ErrorKind}
+use Rattle.clap.specs.declared.error.kind.ErrorKind.TheVariants.{DisplayHelp, DisplayVersion, OutOfMemory}
+use Rattle.norbd_line.specs.declared.fault.Fault.{Fault}
+use Rattle.norbd_line.specs.declared.fault.Fault.TheVariants.{Words, NoMemory, InputFailed, OutputFailed}
+
+-- the words asked for help or for the version, so they are no mistake
+abbrev pub AsksForText : ErrorKind → Type 0
+AsksForText kind = (kind ≡ DisplayHelp) ⊎ (kind ≡ DisplayVersion)
+
+-- the exit status of a fault: 2 for a bad line, 0 for help and the version, 1 for each other fault
+abbrev pub HasStatus : Fault → ℕ → Type 0
+HasStatus (Words error) status =
+    (AsksForText (kind_of error) → status ≡ 0) × ((AsksForText (kind_of error) → ⊥) → status ≡ 2)
+HasStatus NoMemory status = status ≡ 1
+HasStatus InputFailed status = status ≡ 1
+HasStatus OutputFailed status = status ≡ 1
+
+-- a fault that reading the line may answer: a fault of the words, which isn't want of memory, or want of memory
+abbrev pub ComesFromLine : Fault → Type 0
+ComesFromLine (Words error) = kind_of error ≢ OutOfMemory
+ComesFromLine NoMemory = Unit {0}
+ComesFromLine InputFailed = ⊥
+ComesFromLine OutputFailed = ⊥

@@ -1,0 +1,158 @@
+//! The line: what the program is asked to do.
+ghost use Rattle.std.specs.Prelude.{◌≤◌, IfErr, IfOk, IfSome};
+ghost use Rattle.norbd_line.specs.Fault.{ComesFromLine};
+ghost use Rattle.norbd_line.specs.Line.{InRange};
+
+use crate::Fault;
+use clap::error::ErrorKind;
+use clap::{Arg, ArgAction, ArgMatches, Command, value_parser};
+use std::alloc::Global;
+
+/// What the program is asked to do.
+#[derive(Debug, Clone, Copy, PartialEq, Eq)]
+pub enum Line {
+    /// `plain --sectors S`: serve one client, from standard input to standard output, a disk of `sectors` sectors of
+    /// 512 bytes in memory, from 1 to 65,536 of them, all zeros at first.
+    Plain { sectors: u32 },
+}
+
+/// The least and the most sectors of a plain disk.
+const LEAST_SECTORS: u32 = 1;
+
+const MOST_SECTORS: u32 = 65_536;
+
+fn sectors_arg<'a>(alloc: Global) -> Arg<'a> {
+    Arg::new(alloc, "sectors")
+        .long("sectors")
+        .value_name("S")
+        .help("Sectors of 512 bytes, from 1 to 65536")
+        .required(true)
+        .action(ArgAction::Set)
+        .value_parser(value_parser!(u32).range(1..=65536))
+}
+
+fn plain_command<'a>(alloc: Global) -> Result<Command<'a>, clap::Error> {
+    let command = Command::new(alloc, "plain").about(
+        "Serves a disk in memory over standard input and output",
+    );
+    Ok(command.arg(sectors_arg(alloc))?)
+}
+
+fn whole_command<'a>(alloc: Global) -> Result<Command<'a>, clap::Error> {
+    let command = Command::new(alloc, "norbd")
+        .bin_name("norbd")?
+        .version("0.1.0")
+        .subcommand_required(true);
+    Ok(command.subcommand(plain_command(alloc)?)?)
+}
+
+fn parse<'a>(alloc: Global, words: &'a [String]) -> Result<ArgMatches<'a>, clap::Error> {
+    whole_command(alloc)?.try_get_matches_from(words)
+}
+
+/// The fault that a failed parse is.
+fn fault_of(error: clap::Error) -> Fault
+    ensures { ComesFromLine result }
+{
+    if error.kind() == ErrorKind::OutOfMemory {
+        Fault::NoMemory
+    } else {
+        Fault::Words(error)
+    }
+}
+
+/// A number of the line, if it is there and from `least` to `most`.
+fn number(matches: &ArgMatches<'_>, id: &str, least: u32, most: u32) -> Option<u32>
+    ensures { IfSome result (λ n. (least ≤ n) × (n ≤ most)) }
+{
+    match matches.get_one::<u32>(id) {
+        Some(n) => if least <= n && n <= most {
+            Some(n)
+        } else {
+            None
+        },
+        None => None,
+    }
+}
+
+/// The line of `plain`. The parse refuses words without a number in its range, so the arm `None` isn't reached; it needs
+/// some fault, and answers `NoMemory`.
+fn plain_line(matches: &ArgMatches<'_>) -> Result<Line, Fault>
+    ensures range { IfOk result InRange }
+    ensures fault { IfErr result ComesFromLine }
+{
+    match number(matches, "sectors", LEAST_SECTORS, MOST_SECTORS) {
+        Some(sectors) => Ok(Line::Plain { sectors }),
+        None => Err(Fault::NoMemory),
+    }
+}
+
+/// Reads the program's words, of which the first is its name.
+///
+/// `Words` where they are no line of the program or ask for help or the version, `NoMemory` where memory ran out. The
+/// parse refuses words without a command, so the arm `None` isn't reached; it needs some fault, and answers `NoMemory`.
+pub fn read_line(alloc: Global, words: &[String]) -> Result<Line, Fault>
+    ensures range { IfOk result InRange }
+    ensures fault { IfErr result ComesFromLine }
+{
+    let matches = match parse(alloc, words) {
+        Ok(matches) => matches,
+        Err(error) => return Err(fault_of(error)),
+    };
+    match matches.subcommand() {
+        Some((_, of_plain)) => plain_line(of_plain),
+        None => Err(Fault::NoMemory),
+    }
+}
+
+#[cfg(test)]
+mod tests {
+    use super::*;
+    use std::test::Fail;
+
+    /// What `read_line` answers to these words, set apart by blanks: the sectors of a line, or the fault's status.
+    fn answer_to(alloc: Global, text: &str) -> Result<Result<u32, u8>, Fail> {
+        let mut words = Vec::new(alloc);
+        for word in text.split(' ') {
+            words.push(String::from_str(alloc, word)?)?;
+        }
+        match read_line(alloc, words.as_slice()) {
+            Ok(Line::Plain { sectors }) => Ok(Ok(sectors)),
+            Err(fault) => Ok(Err(fault.status())),
+        }
+    }
+
+    #[test]
+    fn reads_lines(rt: HostRuntime) -> Result<(), Fail> {
+        for (text, answer) in [
+            ("norbd plain --sectors 70", Ok(70)),
+            ("norbd plain --sectors 1", Ok(1)),
+            ("norbd plain --sectors 65536", Ok(65536)),
+            ("norbd plain --sectors 0", Err(2)),
+            ("norbd plain --sectors 65537", Err(2)),
+            ("norbd plain --sectors", Err(2)),
+            ("norbd plain", Err(2)),
+            ("norbd plain --sectors 70 more", Err(2)),
+            ("norbd other", Err(2)),
+            ("norbd", Err(2)),
+            ("norbd --help", Err(0)),
+            ("norbd plain --help", Err(0)),
+            ("norbd --version", Err(0)),
+        ] {
+            assert_eq!(rt; answer_to(rt.alloc(), text)?, answer, "{text}");
+        }
+        Ok(())
+    }
+
+    #[test]
+    fn says_norbd_whatever_the_first_word(rt: HostRuntime) -> Result<(), Fail> {
+        let alloc = rt.alloc();
+        let words = vec![in alloc; String::from_str(alloc, "out/program")?]?;
+        let Err(fault) = read_line(alloc, words.as_slice()) else {
+            return Err(Fail::from("a line of no words"));
+        };
+        let text = format!(in alloc; "{fault}")?;
+        assert!(rt; text.as_str().contains("Usage: norbd <COMMAND>"), "{text}");
+        Ok(())
+    }
+}

@@ -1,0 +1,116 @@
+-- What a row more leaves of the history.
+use Rattle.std.proofs.Common.{◌≡◌, ◌⊎◌, ℕ, List, [], ◌∷◌, ◌++◌, length, Bool, true, false, ◌||◌, ◌==◌, refl, sym, ap, ◌∙◌, subst, inl, inr, Option, Some, None}
+use Rattle.block_device.specs.Facts.{Facts}
+use Rattle.nbd_wire.specs.declared.command.Command.{Command}
+use Rattle.nbd_wire.specs.declared.command.CommandKind.{CommandKind}
+use Rattle.nbd_wire.specs.declared.command.CommandKind.TheVariants.{Read, Write, Disconnect, Flush, Unknown}
+use Rattle.nbd_wire.specs.Commands.{judge_of, moves_data}
+use Rattle.nbd_transmission.specs.Apply.{data_of, data_of_kind, changed_by, changed_kind}
+use Rattle.share.specs.declared.recorder.Row.{Row}
+use Rattle.share.specs.declared.recorder.Interrupted.{Interrupted}
+use Rattle.share.specs.Lent.{is_read, is_read_of, lent_len, lent_len_of, payload_in, payload_in_of, payload_len_of, reply_in, reply_in_of}
+use Rattle.share.specs.History.{row_of, after_row, replay, has_failed, MayStand, IsLegal, rows_with}
+use Rattle.share.specs.State.{IsKept}
+
+replay-push : (d : List ℕ) (rows : List Row) (r : Row) → replay d (rows ++ r ∷ []) ≡ after_row (replay d rows) r
+replay-push d [] r = refl
+replay-push d (x ∷ xs) r = replay-push (after_row d x) xs r
+
+failed-push : (b : Bool) (rows : List Row) (r : Row) → has_failed b (rows ++ r ∷ []) ≡ (has_failed b rows || r.error == 5)
+failed-push b [] r = refl
+failed-push b (x ∷ xs) r = failed-push (b || x.error == 5) xs r
+
+legal-push : (n : ℕ) (d : List ℕ) (failed : Bool) (rs : List Row) (r : Row) → IsLegal n d failed rs → MayStand n (replay d rs) (has_failed failed rs) r → IsLegal n d failed (rs ++ r ∷ [])
+legal-push n d failed [] r h f = (f, tt)
+legal-push n d failed (x ∷ xs) r h f = (h.0, legal-push n (after_row d x) (failed || x.error == 5) xs r h.1 f)
+
+or-false : (b : Bool) → (b || false) ≡ b
+or-false true = refl
+or-false false = refl
+
+-- the row keeps a WRITE's payload, and no other command takes any
+changed-payload : (k : CommandKind) (d : List ℕ) (c : Command) (bytes bytes' : List ℕ) → (is_read_of k ≡ false → bytes' ≡ bytes) → changed_kind k d c (payload_in_of k bytes') ≡ changed_kind k d c bytes
+changed-payload Read d c bytes bytes' h = refl
+changed-payload Write d c bytes bytes' h = ap (λ (p : List ℕ). changed_kind Write d c p) (h refl)
+changed-payload Disconnect d c bytes bytes' h = refl
+changed-payload Flush d c bytes bytes' h = refl
+changed-payload (Unknown n) d c bytes bytes' h = refl
+
+payload-length : (k : CommandKind) (c : Command) (bytes bytes' : List ℕ) → length bytes' ≡ length bytes → length bytes ≡ lent_len_of k c → length (payload_in_of k bytes') ≡ payload_len_of k c
+payload-length Read c bytes bytes' same long = refl
+payload-length Write c bytes bytes' same long = same ∙ long
+payload-length Disconnect c bytes bytes' same long = refl
+payload-length Flush c bytes bytes' same long = refl
+payload-length (Unknown n) c bytes bytes' same long = refl
+
+-- the data of an accepted command that moves none is the same on all contents
+data-same : (k : CommandKind) (c : Command) (d e : List ℕ) (bytes : List ℕ) → (moves_data k ≡ true → e ≡ d) → reply_in_of k bytes ≡ data_of_kind k d c → reply_in_of k bytes ≡ data_of_kind k e c
+data-same Read c d e bytes same h = h ∙ ap (λ (x : List ℕ). data_of_kind Read x c) (sym (same refl))
+data-same Write c d e bytes same h = h
+data-same Disconnect c d e bytes same h = h
+data-same Flush c d e bytes same h = h
+data-same (Unknown n) c d e bytes same h = h
+
+not_both : (b : Bool) → b ≡ true → b ≡ false → ⊥
+not_both b t f = cc
+
+-- a row with error 0
+pub kept-ok : (n : ℕ) (f f' : Facts) (base : List ℕ) (rows : List Row) (int : Option Interrupted) (c : Command) (conn : ℕ) (bytes bytes' : List ℕ)
+    → IsKept n f base rows int → judge_of c n ≡ None → length bytes' ≡ length bytes → length bytes ≡ lent_len c → (is_read c ≡ false → bytes' ≡ bytes)
+    → f'.sound ≡ f.sound → (f.sound ≡ true → f'.contents ≡ changed_by f.contents c bytes) → (f.sound ≡ true → reply_in c 0 bytes' ≡ data_of f.contents c)
+    → f.cut ≡ false → f'.slow ≡ f.slow → (moves_data c.kind ≡ true → f.slow ≡ false)
+    → IsKept n f' base (rows ++ row_of conn c 0 bytes' ∷ []) int
+kept-ok n f f' base rows int c conn bytes bytes' kept accepted same long untouched sound changed replied no_cut slow quiet = record {
+  legal = λ s. legal-push n base false rows (row_of conn c 0 bytes') (kept.legal (sym sound ∙ s)) (record {
+    accepted = accepted;
+    payload = payload-length c.kind c bytes bytes' same long;
+    error = inl refl;
+    answered = λ e. data-same c.kind c f.contents (replay base rows) bytes' (λ m. sym (kept.replayed (sym sound ∙ s) no_cut (quiet m))) (replied (sym sound ∙ s));
+    refused = λ e. cc;
+    later = λ h m. absurd (not_both f.slow (kept.failed h) (quiet m)) });
+  replayed = λ s _ e.
+    let here : f.contents ≡ replay base rows = kept.replayed (sym sound ∙ s) no_cut (sym slow ∙ e) in
+    changed (sym sound ∙ s) ∙ ap (λ (x : List ℕ). changed_by x c bytes) here ∙ sym (changed-payload c.kind (replay base rows) c bytes bytes' untouched) ∙ sym (replay-push base rows (row_of conn c 0 bytes'));
+  failed = λ h. slow ∙ kept.failed (sym (or-false _) ∙ sym (failed-push false rows (row_of conn c 0 bytes')) ∙ h);
+  whole = λ _. kept.whole no_cut
+}
+
+-- a row with error 5
+pub kept-slow : (n : ℕ) (f f' : Facts) (base : List ℕ) (rows : List Row) (int : Option Interrupted) (c : Command) (conn : ℕ) (bytes bytes' : List ℕ)
+    → IsKept n f base rows int → judge_of c n ≡ None → length bytes' ≡ length bytes → length bytes ≡ lent_len c
+    → f'.sound ≡ f.sound → moves_data c.kind ≡ true → f.cut ≡ false → f'.slow ≡ true
+    → IsKept n f' base (rows ++ row_of conn c 5 bytes' ∷ []) int
+kept-slow n f f' base rows int c conn bytes bytes' kept accepted same long sound moving no_cut slow = record {
+  legal = λ s. legal-push n base false rows (row_of conn c 5 bytes') (kept.legal (sym sound ∙ s)) (record {
+    accepted = accepted;
+    payload = payload-length c.kind c bytes bytes' same long;
+    error = inr refl;
+    answered = λ e. cc;
+    refused = λ e. (moving, refl);
+    later = λ h m. refl });
+  replayed = λ s _ e. absurd (not_both f'.slow slow e);
+  failed = λ h. slow;
+  whole = λ _. kept.whole no_cut
+}
+
+-- the same, where rows are kept, of what the calls leave
+pub kept-row-ok : (keeps : Bool) (n : ℕ) (f f' : Facts) (base base₁ base' : List ℕ) (rows rows₁ rows' : List Row) (int int₁ int' : Option Interrupted) (c : Command) (conn : ℕ) (bytes bytes' : List ℕ)
+    → keeps ≡ true → IsKept n f base rows int → judge_of c n ≡ None → length bytes' ≡ length bytes → length bytes ≡ lent_len c → (is_read c ≡ false → bytes' ≡ bytes)
+    → f'.sound ≡ f.sound → (f.sound ≡ true → f'.contents ≡ changed_by f.contents c bytes) → (f.sound ≡ true → reply_in c 0 bytes' ≡ data_of f.contents c)
+    → f.cut ≡ false → f'.slow ≡ f.slow → (moves_data c.kind ≡ true → f.slow ≡ false)
+    → base₁ ≡ base → base' ≡ base₁ → int₁ ≡ int → int' ≡ int₁ → rows₁ ≡ rows → rows' ≡ rows_with keeps rows₁ (row_of conn c 0 bytes')
+    → IsKept n f' base' rows' int'
+kept-row-ok keeps n f f' base base₁ base' rows rows₁ rows' int int₁ int' c conn bytes bytes' k kept accepted same long untouched sound changed replied no_cut slow quiet eb eb' ei ei' er er' =
+    let row = row_of conn c 0 bytes' in
+    let rows_is : rows' ≡ rows ++ row ∷ [] = er' ∙ ap (λ (b : Bool). rows_with b rows₁ row) k ∙ ap (λ (rs : List Row). rs ++ row ∷ []) er in
+    rw (eb', eb, ei', ei, rows_is) (kept-ok n f f' base rows int c conn bytes bytes' kept accepted same long untouched sound changed replied no_cut slow quiet)
+
+pub kept-row-slow : (keeps : Bool) (n : ℕ) (f f' : Facts) (base base₁ base' : List ℕ) (rows rows₁ rows' : List Row) (int int₁ int' : Option Interrupted) (c : Command) (conn : ℕ) (bytes bytes' : List ℕ)
+    → keeps ≡ true → IsKept n f base rows int → judge_of c n ≡ None → length bytes' ≡ length bytes → length bytes ≡ lent_len c
+    → f'.sound ≡ f.sound → moves_data c.kind ≡ true → f.cut ≡ false → f'.slow ≡ true
+    → base₁ ≡ base → base' ≡ base₁ → int₁ ≡ int → int' ≡ int₁ → rows₁ ≡ rows → rows' ≡ rows_with keeps rows₁ (row_of conn c 5 bytes')
+    → IsKept n f' base' rows' int'
+kept-row-slow keeps n f f' base base₁ base' rows rows₁ rows' int int₁ int' c conn bytes bytes' k kept accepted same long sound moving no_cut slow eb eb' ei ei' er er' =
+    let row = row_of conn c 5 bytes' in
+    let rows_is : rows' ≡ rows ++ row ∷ [] = er' ∙ ap (λ (b : Bool). rows_with b rows₁ row) k ∙ ap (λ (rs : List Row). rs ++ row ∷ []) er in
+    rw (eb', eb, ei', ei, rows_is) (kept-slow n f f' base rows int c conn bytes bytes' kept accepted same long sound moving no_cut slow)

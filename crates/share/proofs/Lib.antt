@@ -1,0 +1,5 @@
+pub mod Ranges
+pub mod Kept
+pub mod Payloads
+pub mod Turns
+pub mod Exchanges

@@ -1,0 +1,81 @@
+-- What one `execute` does.
+use Rattle.std.specs.Prelude.{◌≡◌, ◌⊎◌, ℕ, ◌+◌, ◌<◌, List, [], length, Bool, true, false, Option, Some, None, if◌then◌else◌}
+use Rattle.block_device.specs.Facts.{Facts, Goes}
+use Rattle.nbd_wire.specs.declared.command.Command.{Command}
+use Rattle.nbd_wire.specs.Commands.{moves_data}
+use Rattle.nbd_transmission.specs.Apply.{changed_by, data_of}
+use Rattle.share.specs.declared.shared.Done.{Done}
+use Rattle.share.specs.declared.shared.Done.TheVariants.{Replied, Lost}
+use Rattle.share.specs.History.{interrupted_of, row_of, rows_with}
+use Rattle.share.specs.Lent.{is_read, reply_in}
+use Rattle.share.specs.State.{Reply, Served}
+
+-- a fact of the answer
+abbrev pub IfReplied : Done → (Reply → Type 0) → Type 0
+IfReplied (Replied a) P = P a
+IfReplied Lost P = Unit {0}
+
+-- a fact where the command is lost
+abbrev pub OnLost : Done → Type 0 → Type 0
+OnLost (Replied a) P = Unit {0}
+OnLost Lost P = P
+
+-- one more, where rows are kept
+abbrev pub one_more : Bool → ℕ → ℕ
+one_more keeps n = if keeps then n + 1 else n
+
+-- An answer names this command and holds the bytes that were lent, unchanged but for a READ's room.
+pub record Holds (command : Command) (bytes : List ℕ) (a : Reply) : Type 0 where
+  pub command_is : a.command ≡ command
+  pub error_is : (a.error ≡ 0) ⊎ ((a.error ≡ 5) ⊎ (a.error ≡ 12))
+  pub bytes_are : is_read command ≡ false → a.bytes ≡ bytes
+  pub length_is : length a.bytes ≡ length bytes
+
+-- Answered 0: the disk changed and the data was read as the definition says, and no Cut or Slow was in the way.
+pub record Ran (old new : Facts) (command : Command) (bytes : List ℕ) (a : Reply) : Type 0 where
+  pub contents : old.sound ≡ true → new.contents ≡ changed_by old.contents command bytes
+  pub reply : old.sound ≡ true → reply_in command 0 a.bytes ≡ data_of old.contents command
+  pub no_cut : (old.cut ≡ false) × (new.cut ≡ false)
+  pub no_slow : (new.slow ≡ old.slow) × (moves_data command.kind ≡ true → old.slow ≡ false)
+
+-- Answered 5: the disk answered Slow in this call.
+pub record MetSlow (old new : Facts) (command : Command) : Type 0 where
+  pub moves : moves_data command.kind ≡ true
+  pub stands : new.slow ≡ true
+  pub cause : (old.slow ≡ true) ⊎ (old.slows < new.slows)
+  pub no_cut : (old.cut ≡ false) × (new.cut ≡ false)
+
+-- What an answer says of a command.
+pub record Replies (keeps : Bool) (old new : Served) (connection count count' : ℕ) (command : Command) (bytes : List ℕ) (a : Reply) : Type 0 where
+  pub holds : Holds command bytes a
+  -- 0 and 5 add exactly one row at the end, with exactly the reply that is handed out
+  pub row : (a.error ≡ 12 → ⊥) → new.rows ≡ rows_with keeps old.rows (row_of connection command a.error a.bytes)
+  pub counts : (a.error ≡ 12 → ⊥) → count' ≡ one_more keeps count
+  pub ran : a.error ≡ 0 → Ran old.disk new.disk command bytes a
+  pub slow : a.error ≡ 5 → MetSlow old.disk new.disk command
+  -- want of memory for a row changes nothing
+  pub memory : a.error ≡ 12 → (new ≡ old) × (count' ≡ count) × (keeps ≡ true) × (a.bytes ≡ bytes)
+  pub interrupted : new.interrupted ≡ old.interrupted
+  pub lost : (old.lost ≡ false) × (new.lost ≡ false)
+
+-- What a lost command leaves: the disk answered Cut, in this call or in an earlier one.
+pub record Loses (keeps : Bool) (old new : Served) (count count' : ℕ) (command : Command) (bytes : List ℕ) : Type 0 where
+  pub rows : new.rows ≡ old.rows
+  pub counts : count' ≡ count
+  pub stands : new.disk.cut ≡ true
+  pub cause : (old.disk.cut ≡ true) ⊎ (old.disk.cuts < new.disk.cuts)
+  pub lost : new.lost ≡ true
+  -- the command is kept where rows are
+  pub interrupted : keeps ≡ true → old.lost ≡ false → new.interrupted ≡ Some (interrupted_of command bytes)
+
+-- What `execute` does. `keeps`: rows are kept.
+pub record Executes (keeps : Bool) (old new : Served) (connection count count' : ℕ) (command : Command) (bytes : List ℕ) (done : Done) : Type 0 where
+  pub replied : IfReplied done (Replies keeps old new connection count count' command bytes)
+  pub loses : OnLost done (Loses keeps old new count count' command bytes)
+  pub base : new.base ≡ old.base
+  pub sound : new.disk.sound ≡ old.disk.sound
+  pub goes : Goes old.disk new.disk
+  pub given : new.given ≡ old.given
+  pub no_rows : keeps ≡ false → new.rows ≡ []
+  -- after Lost every command is lost at once
+  pub stays_lost : old.lost ≡ true → (done ≡ Lost) × (new ≡ old)

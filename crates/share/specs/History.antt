@@ -1,0 +1,52 @@
+-- Rows of commands that ran one after another on one disk, and when they are a legal history.
+use Rattle.std.specs.Prelude.{◌≡◌, ◌⊎◌, ℕ, ◌==◌, ◌||◌, List, [], ◌∷◌, ◌++◌, length, Bool, true, false, Option, None, if◌then◌else◌}
+use Rattle.nbd_wire.specs.declared.command.Command.{Command}
+use Rattle.nbd_wire.specs.Commands.{judge_of, moves_data}
+use Rattle.nbd_transmission.specs.Apply.{changed_by, data_of}
+use Rattle.share.specs.declared.recorder.Row.{Row}
+use Rattle.share.specs.declared.recorder.Interrupted.{Interrupted}
+use Rattle.share.specs.Lent.{payload_in, payload_len_of, reply_in}
+
+-- the row of a command that ran over these lent bytes
+abbrev pub row_of : ℕ → Command → ℕ → List ℕ → Row
+row_of connection command error bytes =
+    record { connection = connection; command = command; payload = payload_in command bytes; error = error; reply = reply_in command error bytes }
+
+abbrev pub interrupted_of : Command → List ℕ → Interrupted
+interrupted_of command bytes = record { command = command; payload = payload_in command bytes }
+
+-- a row more, where rows are kept
+abbrev pub rows_with : Bool → List Row → Row → List Row
+rows_with keeps rows row = if keeps then rows ++ row ∷ [] else rows
+
+-- the contents after a row: those with error 0 changed them
+abbrev pub after_row : List ℕ → Row → List ℕ
+after_row contents row = if row.error == 0 then changed_by contents row.command row.payload else contents
+
+-- the contents after all rows with error 0, applied in order
+abbrev pub replay : List ℕ → List Row → List ℕ
+replay contents [] = contents
+replay contents (row ∷ rows) = replay (after_row contents row) rows
+
+-- a row with error 5 stands among them, or one was before
+abbrev pub has_failed : Bool → List Row → Bool
+has_failed failed [] = failed
+has_failed failed (row ∷ rows) = has_failed (failed || row.error == 5) rows
+
+-- A row that may stand at this point of a history.
+pub record MayStand (sectors : ℕ) (contents : List ℕ) (failed : Bool) (row : Row) : Type 0 where
+  pub accepted : judge_of row.command sectors ≡ None
+  pub payload : length row.payload ≡ payload_len_of row.command.kind row.command
+  pub error : (row.error ≡ 0) ⊎ (row.error ≡ 5)
+  -- answered 0: with the data of the contents at this point
+  pub answered : row.error ≡ 0 → row.reply ≡ data_of contents row.command
+  -- answered 5: a READ or WRITE, without data
+  pub refused : row.error ≡ 5 → (moves_data row.command.kind ≡ true) × (row.reply ≡ [])
+  -- after an error 5 no READ or WRITE is answered 0
+  pub later : failed ≡ true → moves_data row.command.kind ≡ true → row.error ≡ 5
+
+-- the rows may stand from this point on
+abbrev pub IsLegal : ℕ → List ℕ → Bool → List Row → Type 0
+IsLegal sectors contents failed [] = Unit {0}
+IsLegal sectors contents failed (row ∷ rows) =
+    MayStand sectors contents failed row × IsLegal sectors (after_row contents row) (failed || row.error == 5) rows

@@ -1,0 +1,7 @@
+-- What contracts see of a pass.
+use Rattle.std.specs.Prelude.{ℕ}
+
+-- the connection's number, and how many rows the pass added
+pub record Seat : Type 0 where
+  pub connection : ℕ
+  pub count : ℕ

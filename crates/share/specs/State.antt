@@ -1,0 +1,33 @@
+-- What contracts see of a server, and what its rows say of its disk.
+use Rattle.std.specs.Prelude.{◌≡◌, ℕ, List, Bool, true, false, Option, None}
+use Rattle.block_device.specs.Facts.{Facts}
+use Rattle.nbd_wire.specs.declared.command.Command.{Command}
+use Rattle.share.specs.declared.recorder.Row.{Row}
+use Rattle.share.specs.declared.recorder.Interrupted.{Interrupted}
+use Rattle.share.specs.History.{has_failed, replay, IsLegal}
+
+-- The rows are a legal history of the contents at the start, and while neither a Cut nor a Slow stands
+-- in the disk its contents are their replay. Both are said of a sound disk.
+pub record IsKept (sectors : ℕ) (disk : Facts) (base : List ℕ) (rows : List Row) (interrupted : Option Interrupted) : Type 0 where
+  pub legal : disk.sound ≡ true → IsLegal sectors base false rows
+  pub replayed : disk.sound ≡ true → disk.cut ≡ false → disk.slow ≡ false → disk.contents ≡ replay base rows
+  -- a row has error 5 only where a Slow stands
+  pub failed : has_failed false rows ≡ true → disk.slow ≡ true
+  -- a command was interrupted only where a Cut stands
+  pub whole : disk.cut ≡ false → interrupted ≡ None
+
+-- a server: its disk, the contents at the start, its rows, the command that a cut interrupted,
+-- how many passes it gave, and whether a command was lost
+pub record Served : Type 0 where
+  pub disk : Facts
+  pub base : List ℕ
+  pub rows : List Row
+  pub interrupted : Option Interrupted
+  pub given : ℕ
+  pub lost : Bool
+
+-- an answer: its command, its error, and the lent bytes
+pub record Reply : Type 0 where
+  pub command : Command
+  pub error : ℕ
+  pub bytes : List ℕ

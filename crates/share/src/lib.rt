@@ -1,0 +1,25 @@
+//! One disk behind one lock, and the bytes of a connection that run commands on it.
+//!
+//! To the crate above: a [`Shared`] holds a disk, a recorder and the passes of its connections.
+//! `execute` runs one accepted command; where rows are kept, it adds exactly one row with exactly the
+//! reply that it hands out, so that at every moment the rows are a legal history of the first
+//! contents, and the contents of a sound disk on which no refusal stands are the replay of the rows.
+//! `tidy` adds no row and keeps the contents. `exchange` cuts a connection's bytes into requests,
+//! runs them through any [`Door`] and writes their replies; `exchange_alone` says of a server with
+//! one connection that these are the replies of a plain array of sectors.
+//! Left to the crate above: negotiation, the lock itself, and what a power loss leaves of the contents.
+//! Source: NBD proto.md for the replies; rows, passes and ends are our own.
+#![tactic(auto)]
+
+mod door;
+mod connection;
+mod intake;
+mod pass;
+mod recorder;
+mod shared;
+
+pub use door::{Door, Gate, Point};
+pub use connection::{End, exchange};
+pub use pass::{OneServer, Pass};
+pub use recorder::{Bytes, FullRecord, Interrupted, NoRecord, Recorder, Row};
+pub use shared::{Answer, Done, RecordError, Shared};

@@ -1,0 +1,305 @@
+ghost use Rattle.std.specs.Prelude.{◌≡◌, ◌⊎◌, ℕ, ◌+◌, ◌*◌, ◌/◌, ◌%◌, ◌<◌, ◌≤◌, ◌^◌, ◌↔◌, List, [], ◌∷◌, ◌++◌, length, Bool, true, false, Option, Some, None, IfSome, IfNone, IsSome, OnSome, IfOk, IfErr, OnOk, OnErr, IsErrOf, MatchResult, vec_len};
+ghost use Rattle.block_device.specs.Facts.{Facts, Goes, Tidies};
+ghost use Rattle.nbd_wire.specs.Commands.{judge_of, moves_data};
+ghost use Rattle.nbd_transmission.specs.Apply.{changed_by, data_of};
+ghost use Rattle.share.specs.Lent.{lent_len, is_read, reply_in};
+ghost use Rattle.share.specs.History.{row_of, rows_with};
+ghost use Rattle.share.specs.Doing.{one_more};
+
+use crate::pass::{Counts, OneServer, Pass};
+use crate::recorder::{Bytes, FullRecord, NoRecord, Recorder};
+use block_device::{Disk, DiskError};
+use nbd_wire::{Command, CommandKind, EIO, ENOMEM, SECTOR_LEN};
+use std::alloc::Global;
+use std::marker::Model;
+use std::sync::ledger::Blank;
+
+/// A command, the error that answers it (0, EIO or ENOMEM), and the borrow of the bytes that were lent
+/// to it: a READ's data where the error is 0. Only this module makes one.
+#[derive(Drop)]
+pub struct Answer<'a> {
+    command: Command,
+    error: u32,
+    bytes: &'a [u8],
+}
+
+impl<'a> Model for Answer<'a> {
+    ghost use Rattle.share.specs.State.{Reply};
+
+    ghost Value = { Reply };
+
+    ghost view = { λ a. record { command = a.command; error = a.error; bytes = a.bytes.now } };
+}
+
+impl<'a> Answer<'a> {
+    fn new(command: &Command, error: u32, bytes: &'a [u8]) -> Answer<'a>
+        ensures command { result.command ≡ command.now }
+        ensures error { result.error ≡ error }
+        ensures bytes { result.bytes ≡ bytes.now }
+    {
+        Answer {
+            command: *command,
+            error,
+            bytes,
+        }
+    }
+
+    /// The command that is answered.
+    pub fn command(&self) -> &Command
+        ensures { result.now ≡ self.now.command }
+    {
+        &self.command
+    }
+
+    /// The error of its reply.
+    pub fn error(&self) -> u32
+        ensures { result ≡ self.now.error }
+    {
+        self.error
+    }
+
+    /// The bytes that were lent to it.
+    pub fn data(&self) -> &[u8]
+        ensures { result.now ≡ self.now.bytes }
+    {
+        self.bytes
+    }
+}
+
+/// What became of a command.
+#[derive(Drop)]
+pub enum Done<'a> {
+    /// It is answered.
+    Replied(Answer<'a>),
+    /// A power loss took it; no later command runs.
+    Lost,
+}
+
+/// Why a recording server could not be made.
+#[derive(Clone, Copy, Debug, PartialEq, Eq, Drop)]
+pub enum RecordError {
+    Cut,
+    Slow,
+    OutOfMemory,
+}
+
+/// One disk, its recorder and its passes.
+#[derive(Drop)]
+pub struct Shared<D: Disk, R: Recorder, L: OneServer> {
+    disk: D,
+    recorder: R,
+    counts: Counts<L>,
+    lost: bool,
+}
+
+impl<D: Disk, R: Recorder, L: OneServer> Model for Shared<D, R, L> {
+    ghost use Rattle.std.specs.Prelude.{◌≡◌, ℕ, ◌*◌, ◌<◌, ◌^◌, true, length};
+    ghost use Rattle.share.specs.State.{Served, IsKept};
+
+    ghost Value = { Served };
+
+    ghost view = { λ s. record {
+        disk = D.facts s.disk;
+        base = R.base s.recorder;
+        rows = R.rows s.recorder;
+        interrupted = R.interrupted s.recorder;
+        given = s.counts.given;
+        lost = s.lost } };
+
+    ghost invariant = { λ s. record {
+        sectors : length (D.facts s.disk).contents ≡ 512 * L.sectors;
+        counted : s.counts.book.total ≡ length (R.rows s.recorder);
+        fits : length (R.rows s.recorder) < 2 ^ 64;
+        lost : s.lost ≡ true → (D.facts s.disk).cut ≡ true;
+        stands : R.KEEPS ≡ true → (D.facts s.disk).cut ≡ true → s.lost ≡ true;
+        kept : R.KEEPS ≡ true → IsKept L.sectors (D.facts s.disk) (R.base s.recorder) (R.rows s.recorder) (R.interrupted s.recorder) } };
+}
+
+impl<D: Disk, L: OneServer> Shared<D, NoRecord, L> {
+    /// A server that keeps no rows. `blank` has 65,537 parts.
+    pub fn new(disk: D, blank: Blank) -> Shared<D, NoRecord, L>
+        requires sectors { length (D.facts disk).contents ≡ 512 * L.sectors }
+        requires name { blank.name ≡ L.name }
+        requires parts { (blank.parts ≡ L.parts) × (blank.parts ≡ 65537) }
+        ensures disk { result.disk ≡ D.facts disk }
+        ensures rows { (result.rows ≡ []) × (result.interrupted ≡ None) }
+        ensures given { result.given ≡ 0 }
+        ensures lost { result.lost ≡ false }
+    {
+        Shared {
+            disk,
+            recorder: NoRecord,
+            counts: Counts::new(blank),
+            lost: false,
+        }
+    }
+}
+
+impl<D: Disk, L: OneServer> Shared<D, FullRecord, L> {
+    /// A server that keeps its rows, with the disk's contents as their base. `blank` has 65,537 parts.
+    /// Cut and Slow come from reading the disk; each error hands the disk back.
+    pub fn recording(alloc: Global, disk: D, blank: Blank) -> Result<Shared<D, FullRecord, L>, (RecordError, D)>
+        requires sectors { length (D.facts disk).contents ≡ 512 * L.sectors }
+        requires name { blank.name ≡ L.name }
+        requires parts { (blank.parts ≡ L.parts) × (blank.parts ≡ 65537) }
+        ensures base { IfOk result (λ s. (D.facts disk).sound ≡ true → (s.base ≡ (D.facts disk).contents) × (s.disk.contents ≡ (D.facts disk).contents)) }
+        ensures disk { IfOk result (λ s. (s.disk.sound ≡ (D.facts disk).sound) × (s.disk.cut ≡ false) × (s.disk.slow ≡ false) × Goes (D.facts disk) s.disk) }
+        ensures rows { IfOk result (λ s. (s.rows ≡ []) × (s.interrupted ≡ None)) }
+        ensures given { IfOk result (λ s. s.given ≡ 0) }
+        ensures lost { IfOk result (λ s. s.lost ≡ false) }
+        ensures cut { IfErr result (λ e. e.0 ≡ RecordError.Cut → ((D.facts e.1).cut ≡ true) × (((D.facts disk).cut ≡ true) ⊎ ((D.facts disk).cuts < (D.facts e.1).cuts))) }
+        ensures slow { IfErr result (λ e. e.0 ≡ RecordError.Slow → ((D.facts e.1).slow ≡ true) × (((D.facts disk).slow ≡ true) ⊎ ((D.facts disk).slows < (D.facts e.1).slows))) }
+        ensures memory { IfErr result (λ e. e.0 ≡ RecordError.OutOfMemory → e.1 ≡ disk) }
+    {
+        let mut disk = disk;
+        let size = SECTOR_LEN as usize * disk.sectors() as usize;
+        let Ok(mut base) = vec![in alloc; 0u8; size] else {
+            return Err((RecordError::OutOfMemory, disk));
+        };
+        match disk.read(0, base.as_mut_slice()) {
+            Ok(()) => Ok(Shared {
+                disk,
+                recorder: FullRecord::new(alloc, Bytes::new(base)),
+                counts: Counts::new(blank),
+                lost: false,
+            }),
+            Err(DiskError::Cut) => Err((RecordError::Cut, disk)),
+            Err(DiskError::Slow) => Err((RecordError::Slow, disk)),
+        }
+    }
+}
+
+impl<D: Disk, R: Recorder, L: OneServer> Shared<D, R, L> {
+    ghost use Rattle.share.specs.State.{IsKept};
+    ghost use Rattle.share.specs.Doing.{Executes};
+
+    /// Runs one command that the request table accepts, over the bytes that are lent to it: a WRITE's
+    /// payload, the room for a READ's data, none for a FLUSH. The memory of the row comes first: where
+    /// it is refused, the reply is ENOMEM and nothing runs. Then the disk, then the row.
+    pub fn execute<'a>(&mut self, pass: &mut Pass<L>, command: &Command, data: &'a mut [u8]) -> Done<'a>
+        requires accepted { judge_of command.now L.sectors ≡ None }
+        requires lent { length «data».old ≡ lent_len command.now }
+        ensures executes { Executes R.KEEPS self.old self.new pass.old.connection pass.old.count pass.new.count command.now «data».old result }
+        ensures connection { pass.new.connection ≡ pass.old.connection }
+    {
+        let Shared {
+            disk,
+            recorder,
+            counts,
+            lost,
+        } = self;
+        if *lost {
+            return Done::Lost;
+        }
+        if recorder.prepare(data.len()).is_err() {
+            return Done::Replied(Answer::new(command, ENOMEM, data));
+        }
+        match run(disk, command, pass.sectors(), data) {
+            Ok(()) => {
+                note(recorder, counts, pass, command, 0, data);
+                return Done::Replied(Answer::new(command, 0, data));
+            }
+            Err(DiskError::Slow) => {
+                note(recorder, counts, pass, command, EIO, data);
+                return Done::Replied(Answer::new(command, EIO, data));
+            }
+            Err(DiskError::Cut) => {
+                recorder.interrupt(command, data);
+                *lost = true;
+                return Done::Lost;
+            }
+        }
+    }
+
+    /// One step of tidying. It adds no row and keeps the contents; false says that nothing was left to
+    /// tidy, true that less is left. After a Cut every later command is lost.
+    pub fn tidy(&mut self) -> Result<bool, DiskError>
+        ensures rows { (self.new.rows ≡ self.old.rows) × (self.new.base ≡ self.old.base) × (self.new.interrupted ≡ self.old.interrupted) }
+        ensures given { self.new.given ≡ self.old.given }
+        ensures sound { self.new.disk.sound ≡ self.old.disk.sound }
+        ensures goes { Goes self.old.disk self.new.disk }
+        ensures work { Tidies self.old.disk.work result self.new.disk.work }
+        ensures contents { OnOk result (self.old.disk.sound ≡ true → self.new.disk.contents ≡ self.old.disk.contents) }
+        ensures ok { OnOk result ((self.old.disk.cut ≡ false) × (self.old.disk.slow ≡ false) × (self.new.disk.cut ≡ false) × (self.new.disk.slow ≡ false) × (self.new.lost ≡ self.old.lost)) }
+        ensures cut { IsErrOf result DiskError.Cut → ((self.old.disk.cut ≡ true) ⊎ (self.old.disk.cuts < self.new.disk.cuts)) × (self.new.disk.cut ≡ true) × (self.new.lost ≡ true) }
+        ensures slow { IsErrOf result DiskError.Slow → ((self.old.disk.slow ≡ true) ⊎ (self.old.disk.slows < self.new.disk.slows)) × (self.new.disk.slow ≡ true) × (self.new.lost ≡ self.old.lost) }
+    {
+        let result = self.disk.tidy();
+        if let Err(DiskError::Cut) = result {
+            self.lost = true;
+        }
+        result
+    }
+
+    /// The pass with the next number: 0, 1, 2 and so on to 65,535, each once; then None.
+    pub fn pass(&mut self) -> Option<Pass<L>>
+        ensures next { IfSome result (λ p. (p.connection ≡ self.old.given) × (p.count ≡ 0)) }
+        ensures some { IsSome result ↔ (self.old.given < 65536) }
+        ensures given { OnSome result (self.new ≡ record self.old { given = self.old.given + 1 }) }
+        ensures none { IfNone result (self.new ≡ self.old) }
+    {
+        let sectors = self.disk.sectors();
+        self.counts.pass(sectors)
+    }
+
+    /// Shows what holds of every server that keeps rows, whenever it is got: the rows are a legal history
+    /// of the base, and while no refusal stands in a sound disk its contents are their replay.
+    pub fn show(&self)
+        ensures { R.KEEPS ≡ true → IsKept L.sectors self.now.disk self.now.base self.now.rows self.now.interrupted }
+    {
+        let _ = &self.lost;
+    }
+}
+
+// A row more, and one more for the pass.
+fn note<R: Recorder, L: OneServer>(recorder: &mut R, counts: &mut Counts<L>, pass: &mut Pass<L>, command: &Command, error: u32, bytes: &[u8])
+    requires room { R.room recorder.old (length bytes.now) }
+    requires counted { counts.old.book.total ≡ length (R.rows recorder.old) }
+    ensures rows { R.rows recorder.new ≡ rows_with R.KEEPS (R.rows recorder.old) (row_of pass.old.connection command.now error bytes.now) }
+    ensures base { R.base recorder.new ≡ R.base recorder.old }
+    ensures interrupted { R.interrupted recorder.new ≡ R.interrupted recorder.old }
+    ensures counted { counts.new.book.total ≡ length (R.rows recorder.new) }
+    ensures fits { length (R.rows recorder.old) < 2 ^ 64 → length (R.rows recorder.new) < 2 ^ 64 }
+    ensures given { counts.new.given ≡ counts.old.given }
+    ensures count { pass.new.count ≡ one_more R.KEEPS pass.old.count }
+    ensures connection { pass.new.connection ≡ pass.old.connection }
+{
+    recorder.add(pass.connection(), command, error, bytes);
+    if R::KEEPS {
+        counts.add(pass);
+    }
+}
+
+// Runs an accepted command on the disk.
+fn run<D: Disk>(disk: &mut D, command: &Command, sectors: u32, bytes: &mut [u8]) -> Result<(), DiskError>
+    requires accepted { judge_of command.now sectors ≡ None }
+    requires size { length (D.facts disk.old).contents ≡ 512 * sectors }
+    requires lent { length bytes.old ≡ lent_len command.now }
+    ensures goes { Goes (D.facts disk.old) (D.facts disk.new) }
+    ensures sound { (D.facts disk.new).sound ≡ (D.facts disk.old).sound }
+    ensures kept { is_read command.now ≡ false → bytes.new ≡ bytes.old }
+    ensures contents { OnOk result ((D.facts disk.old).sound ≡ true → (D.facts disk.new).contents ≡ changed_by (D.facts disk.old).contents command.now bytes.old) }
+    ensures reply { OnOk result ((D.facts disk.old).sound ≡ true → reply_in command.now 0 bytes.new ≡ data_of (D.facts disk.old).contents command.now) }
+    ensures ok { OnOk result (((D.facts disk.old).cut ≡ false) × ((D.facts disk.new).cut ≡ false) × ((D.facts disk.new).slow ≡ (D.facts disk.old).slow) × (moves_data command.now.kind ≡ true → (D.facts disk.old).slow ≡ false)) }
+    ensures cut { IsErrOf result DiskError.Cut → (((D.facts disk.old).cut ≡ true) ⊎ (((D.facts disk.old).slow ≡ false) × ((D.facts disk.old).cuts < (D.facts disk.new).cuts))) × ((D.facts disk.new).cut ≡ true) × ((D.facts disk.new).slow ≡ (D.facts disk.old).slow) }
+    ensures slow { IsErrOf result DiskError.Slow → (moves_data command.now.kind ≡ true) × ((D.facts disk.old).cut ≡ false) × (((D.facts disk.old).slow ≡ true) ⊎ ((D.facts disk.old).slows < (D.facts disk.new).slows)) × ((D.facts disk.new).cut ≡ false) × ((D.facts disk.new).slow ≡ true) }
+{
+    match command.kind {
+        CommandKind::Read => disk.read(first_sector(command, sectors), bytes),
+        CommandKind::Write => disk.write(first_sector(command, sectors), bytes),
+        CommandKind::Flush => disk.flush(),
+        CommandKind::Disconnect => unreachable!(),
+        CommandKind::Unknown(_) => unreachable!(),
+    }
+}
+
+// The first sector of an accepted READ or WRITE.
+fn first_sector(command: &Command, sectors: u32) -> u32
+    requires accepted { judge_of command.now sectors ≡ None }
+    requires kind { moves_data command.now.kind ≡ true }
+    ensures first { 512 * result ≡ command.now.offset }
+    ensures range { command.now.offset + command.now.length ≤ 512 * sectors }
+    ensures whole { (k : ℕ) × (command.now.length ≡ 512 * k) }
+{
+    (command.offset / u64::from(SECTOR_LEN)) as u32
+}
