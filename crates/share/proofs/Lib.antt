@@ -3,3 +3,4 @@ pub mod Kept
 pub mod Payloads
 pub mod Turns
 pub mod Exchanges
+pub mod Plain

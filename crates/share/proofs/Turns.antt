@@ -197,7 +197,7 @@ over-nothing ex keeps n conn s k old = record {
   split = (refl, refl, partial_nil Transmitting);
   runs = (refl, refl, refl);
   wrote = Appends-nil old;
-  ends = (refl, refl, refl, refl, (refl, refl))
+  ends = (refl, refl, refl, refl, refl, (refl, refl))
 }
 
 -- ---- a turn, at the connection of the exchange

@@ -102,19 +102,19 @@ Stays s t count count' = (t ≡ s) × (count' ≡ count)
 
 -- What each end says: of the phase after the answered units, of what wasn't sent of their replies,
 -- of the bytes behind them, and of the door after the last of them.
-abbrev pub EndsBy : {S : Type 0} → (S → S → ℕ → ℕ → ℕ → Command → List ℕ → Done → Type 0) → ℕ → ℕ → S → S → ℕ → ℕ → Phase → List ℕ → List ℕ → List ℕ → End → Type 0
-EndsBy executes sectors connection s t count count' phase unsent rest dropped ClosedEnd =
+abbrev pub EndsBy : {S : Type 0} → (S → S → ℕ → ℕ → ℕ → Command → List ℕ → Done → Type 0) → ℕ → ℕ → S → S → ℕ → ℕ → List (List ℕ) → Phase → List ℕ → List ℕ → List ℕ → End → Type 0
+EndsBy executes sectors connection s t count count' units phase unsent rest dropped ClosedEnd =
     (phase ≡ Closed) × (unsent ≡ []) × Stays s t count count'
-EndsBy executes sectors connection s t count count' phase unsent rest dropped EndOfInput =
+EndsBy executes sectors connection s t count count' units phase unsent rest dropped EndOfInput =
     (phase ≡ Transmitting) × (unsent ≡ []) × (dropped ≡ []) × Stays s t count count'
-EndsBy executes sectors connection s t count count' phase unsent rest dropped Input =
+EndsBy executes sectors connection s t count count' units phase unsent rest dropped Input =
     (phase ≡ Transmitting) × (unsent ≡ []) × (dropped ≡ []) × Stays s t count count'
-EndsBy executes sectors connection s t count count' phase unsent rest dropped Output =
+EndsBy executes sectors connection s t count count' units phase unsent rest dropped Output =
     (phase ≡ Transmitting) × Stays s t count count'
-EndsBy executes sectors connection s t count count' phase unsent rest dropped LostEnd =
+EndsBy executes sectors connection s t count count' units phase unsent rest dropped LostEnd =
     (phase ≡ Transmitting) × (unsent ≡ []) × LosesNext executes sectors connection s t count count' (rest ++ dropped)
-EndsBy executes sectors connection s t count count' phase unsent rest dropped OutOfMemory =
-    (phase ≡ Transmitting) × (unsent ≡ []) × (rest ≡ []) × (dropped ≡ []) × Stays s t count count'
+EndsBy executes sectors connection s t count count' units phase unsent rest dropped OutOfMemory =
+    (units ≡ []) × (phase ≡ Transmitting) × (unsent ≡ []) × (rest ≡ []) × (dropped ≡ []) × Stays s t count count'
 
 -- What was made of these bytes of a connection up to its end: `sent` went out, `unsent` is what is missing of the replies.
 pub record Over {S : Type 0} (executes : S → S → ℕ → ℕ → ℕ → Command → List ℕ → Done → Type 0) (keeps : Bool) (sectors connection : ℕ) (s t : S) (count count' : ℕ) (text : List ℕ) (old new : Option (List ℕ)) (end : End) : Type 0 where
@@ -131,4 +131,4 @@ pub record Over {S : Type 0} (executes : S → S → ℕ → ℕ → ℕ → Com
   pub split : Splits Transmitting cut units rest phase
   pub runs : Runs executes keeps sectors connection s count units (sent ++ unsent) mid between
   pub wrote : Appends old new sent
-  pub ends : EndsBy executes sectors connection mid t between count' phase unsent rest dropped end
+  pub ends : EndsBy executes sectors connection mid t between count' units phase unsent rest dropped end

@@ -16,3 +16,4 @@ pub mod Promise
 pub mod Intake
 pub mod Exchange
 pub mod Ends
+pub mod Plain

@@ -4,15 +4,18 @@ ghost use Rattle.block_device.specs.Streams.{Sends};
 ghost use Rattle.nbd_wire.specs.Commands.{judge_of, is_write};
 ghost use Rattle.nbd_wire.specs.Heads.{reply_bytes};
 ghost use Rattle.share.specs.Exchange.{answer_bytes, TurnedBy, Underway};
+ghost use Rattle.share.specs.Doing.{Executes};
 ghost use Rattle.share.specs.Ends.{CommandTurn, Counted, Exchanged, PieceBy};
 ghost use Rattle.share.specs.Intake.{HoldsRest, IsHolding};
 ghost use Rattle.share.specs.Lent.{lent_len, payload_in};
+ghost use Rattle.share.specs.Plain.{IsQuiet, PlainBy};
 
 use crate::door::{Door, Gate, Point};
 use crate::intake::Intake;
 use crate::pass::{OneServer, Pass};
-use crate::shared::{Answer, Done};
-use block_device::{Failed, Sink, Source, send_both};
+use crate::recorder::Recorder;
+use crate::shared::{Answer, Done, Shared};
+use block_device::{Disk, Failed, Sink, Source, send_both};
 use nbd_transmission::Next;
 use nbd_wire::{Command, CommandKind, REPLY_LEN, Reply};
 use std::alloc::Global;
@@ -244,4 +247,28 @@ pub fn exchange<L: OneServer, T: Door<L>, S: Source, K: Sink, G: Gate>(
         }
     }
     (pass, End::Input)
+}
+
+/// `exchange` over a server that no other connection shares. Where its disk is sound and no refusal
+/// stands or comes, what is written are the replies of a plain array of sectors to the requests of the
+/// input, up to the first that closes or to its end; only a command whose row finds no memory is
+/// answered ENOMEM. Where a read or a write fails, they are a beginning of these.
+pub fn exchange_alone<D: Disk, R: Recorder, L: OneServer, S: Source, K: Sink, G: Gate>(
+    alloc: Global,
+    server: &mut Shared<D, R, L>,
+    pass: Pass<L>,
+    reader: &mut S,
+    writer: &mut K,
+    gate: &mut G,
+) -> (Pass<L>, End)
+    ensures connection { result.0.connection ≡ pass.connection }
+    ensures says { Exchanged (λ old new connection count count' command bytes done. Executes R.KEEPS old new connection count count' command bytes done) R.KEEPS L.sectors pass.connection server.old server.new pass.count result.0.count (S.remaining reader.old) (S.remaining reader.new) (K.written writer.old) (K.written writer.new) (S.faults reader.old) (S.faults reader.new) result.1 }
+    ensures plain { (input : List ℕ) → S.remaining reader.old ≡ Some input → IsQuiet server.old
+        → server.new.disk.cuts ≡ server.old.disk.cuts → server.new.disk.slows ≡ server.old.disk.slows
+        → PlainBy R.KEEPS L.sectors server.old.disk.contents server.new.disk.contents input (K.written writer.old) (K.written writer.new) result.1 }
+    ensures output { result.1 ≡ End.Output → K.faults writer.old < K.faults writer.new }
+    ensures writes { (result.1 ≡ End.Output → ⊥) → K.faults writer.new ≡ K.faults writer.old }
+    ensures reads { (result.1 ≡ End.Input → ⊥) → S.faults reader.new ≡ S.faults reader.old }
+{
+    exchange(alloc, server, pass, reader, writer, gate)
 }

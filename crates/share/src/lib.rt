@@ -19,7 +19,7 @@ mod recorder;
 mod shared;
 
 pub use door::{Door, Gate, Point};
-pub use connection::{End, exchange};
+pub use connection::{End, exchange, exchange_alone};
 pub use pass::{OneServer, Pass};
 pub use recorder::{Bytes, FullRecord, Interrupted, NoRecord, Recorder, Row};
 pub use shared::{Answer, Done, RecordError, Shared};
