@@ -1,5 +1,5 @@
 -- The whole of an exchange, at each of its ends.
-use Rattle.std.proofs.Common.{length-append, ◌≡◌, ◌⊎◌, ℕ, ◌+◌, ◌-◌, ◌^◌, ◌<◌, ◌≤◌, List, [], ◌++◌, length, take, Bool, refl, sym, ap, ◌∙◌, subst, arith, append-nil, Option, Some, None, inl, inr}
+use Rattle.std.proofs.Common.{length-append, ◌≡◌, ◌⊎◌, ℕ, ◌+◌, ◌-◌, ◌^◌, ◌<◌, ◌≤◌, List, [], ◌++◌, length, Bool, sym, ap, ◌∙◌, subst, arith, append-nil, Option, None, inl, inr}
 use Rattle.std.specs.Io.KnownBytes.{Appends, Consumes, IsAtEnd, Keeps}
 use Rattle.std.proofs.KnownBytes.{Consumes-kept, Consumes-nil, Consumes-trans}
 use Rattle.nbd_wire.specs.declared.command.Command.{Command}
@@ -18,7 +18,7 @@ exchanged-nothing ex keeps n conn s k had old f = record {
   read = Consumes-nil had;
   over = over-nothing ex keeps n conn s k old;
   at_end = λ e. cc;
-  failed = λ e. cc
+  failed = λ e. cc;
 }
 
 -- a read failed
@@ -30,7 +30,7 @@ exchanged-input ex keeps n conn s t k m had mid left old new f g h text out stor
   read = Consumes-kept had mid left text read kept;
   over = over-input ex keeps n conn s t k m text out stored old new w wrote;
   at_end = λ e. cc;
-  failed = λ _. inl (omega arith)
+  failed = λ _. inl (omega arith);
 }
 
 -- too many pieces were read
@@ -42,7 +42,7 @@ exchanged-long ex keeps n conn s t k m had left old new f h text out stored read
   read = read;
   over = over-input ex keeps n conn s t k m text out stored old new w wrote;
   at_end = λ e. cc;
-  failed = λ _. inr long
+  failed = λ _. inr long;
 }
 
 -- nothing was left to read
@@ -54,7 +54,7 @@ exchanged-end ex keeps n conn s t k m had mid left old new f h text out none sto
   read = subst (λ (y : List ℕ). Consumes had left y) (ap (λ (y : List ℕ). text ++ y) is ∙ append-nil text) (Consumes-trans had mid left text none read more);
   over = over-end ex keeps n conn s t k m text out stored old new w wrote;
   at_end = λ _. at_end;
-  failed = λ e. cc
+  failed = λ e. cc;
 }
 
 underway-at : {S : Type 0} (ex : S → S → ℕ → ℕ → ℕ → Command → List ℕ → Done → Type 0) (keeps : Bool) (n conn here : ℕ) (s t : S) (k m : ℕ) (text out : List ℕ) (stored : Stored)
@@ -81,7 +81,7 @@ exchanged-piece ex keeps n conn s t k m had mid left old new f h text piece end 
   read = Consumes-trans had mid left text piece read more;
   over = over;
   at_end = λ e. elim ends [ inl a ↦ cc | inr b ↦ elim b [ inl a ↦ cc | inr a ↦ cc ] ];
-  failed = λ e. elim ends [ inl a ↦ cc | inr b ↦ elim b [ inl a ↦ cc | inr a ↦ cc ] ]
+  failed = λ e. elim ends [ inl a ↦ cc | inr b ↦ elim b [ inl a ↦ cc | inr a ↦ cc ] ];
 }
 
 -- the next iteration

@@ -1,5 +1,5 @@
 -- What a row more leaves of the history.
-use Rattle.std.proofs.Common.{◌≡◌, ◌⊎◌, ℕ, List, [], ◌∷◌, ◌++◌, length, Bool, true, false, ◌||◌, ◌==◌, refl, sym, ap, ◌∙◌, subst, inl, inr, Option, Some, None}
+use Rattle.std.proofs.Common.{◌≡◌, ℕ, List, [], ◌∷◌, ◌++◌, length, Bool, true, false, ◌||◌, ◌==◌, refl, sym, ap, ◌∙◌, inl, inr, Option, None}
 use Rattle.block_device.specs.Facts.{Facts}
 use Rattle.nbd_wire.specs.declared.command.Command.{Command}
 use Rattle.nbd_wire.specs.declared.command.CommandKind.{CommandKind}
@@ -8,7 +8,7 @@ use Rattle.nbd_wire.specs.Commands.{judge_of, moves_data}
 use Rattle.nbd_transmission.specs.Apply.{data_of, data_of_kind, changed_by, changed_kind}
 use Rattle.share.specs.declared.recorder.Row.{Row}
 use Rattle.share.specs.declared.recorder.Interrupted.{Interrupted}
-use Rattle.share.specs.Lent.{is_read, is_read_of, lent_len, lent_len_of, payload_in, payload_in_of, payload_len_of, reply_in, reply_in_of}
+use Rattle.share.specs.Lent.{is_read, is_read_of, lent_len, lent_len_of, payload_in_of, payload_len_of, reply_in, reply_in_of}
 use Rattle.share.specs.History.{row_of, after_row, replay, has_failed, MayStand, IsLegal, rows_with}
 use Rattle.share.specs.State.{IsKept}
 
@@ -67,12 +67,13 @@ kept-ok n f f' base rows int c conn bytes bytes' kept accepted same long untouch
     error = inl refl;
     answered = λ e. data-same c.kind c f.contents (replay base rows) bytes' (λ m. sym (kept.replayed (sym sound ∙ s) no_cut (quiet m))) (replied (sym sound ∙ s));
     refused = λ e. cc;
-    later = λ h m. absurd (not_both f.slow (kept.failed h) (quiet m)) });
+    later = λ h m. absurd (not_both f.slow (kept.failed h) (quiet m));
+  });
   replayed = λ s _ e.
-    let here : f.contents ≡ replay base rows = kept.replayed (sym sound ∙ s) no_cut (sym slow ∙ e) in
-    changed (sym sound ∙ s) ∙ ap (λ (x : List ℕ). changed_by x c bytes) here ∙ sym (changed-payload c.kind (replay base rows) c bytes bytes' untouched) ∙ sym (replay-push base rows (row_of conn c 0 bytes'));
+      let here : f.contents ≡ replay base rows = kept.replayed (sym sound ∙ s) no_cut (sym slow ∙ e) in
+      changed (sym sound ∙ s) ∙ ap (λ (x : List ℕ). changed_by x c bytes) here ∙ sym (changed-payload c.kind (replay base rows) c bytes bytes' untouched) ∙ sym (replay-push base rows (row_of conn c 0 bytes'));
   failed = λ h. slow ∙ kept.failed (sym (or-false _) ∙ sym (failed-push false rows (row_of conn c 0 bytes')) ∙ h);
-  whole = λ _. kept.whole no_cut
+  whole = λ _. kept.whole no_cut;
 }
 
 -- a row with error 5
@@ -87,10 +88,11 @@ kept-slow n f f' base rows int c conn bytes bytes' kept accepted same long sound
     error = inr refl;
     answered = λ e. cc;
     refused = λ e. (moving, refl);
-    later = λ h m. refl });
+    later = λ h m. refl;
+  });
   replayed = λ s _ e. absurd (not_both f'.slow slow e);
   failed = λ h. slow;
-  whole = λ _. kept.whole no_cut
+  whole = λ _. kept.whole no_cut;
 }
 
 -- the same, where rows are kept, of what the calls leave

@@ -2,7 +2,6 @@
 use Rattle.std.proofs.Common.{◌≡◌, ℕ, ◌+◌, ◌-◌, ◌≤◌, List, [], ◌++◌, length, take, drop, Bool, true, false, ◌&&◌, refl, sym, ap, ◌∙◌, subst, arith, Option, Some, None}
 use Rattle.std.specs.Prelude.{if◌then◌else◌, is_none}
 use Rattle.std.proofs.lemmas.List.{drop-take, drop_all, length-drop, length-take-le}
-use Rattle.std.specs.Io.KnownBytes.{Appends}
 use Rattle.nbd_wire.specs.declared.command.Command.{Command}
 use Rattle.nbd_wire.specs.declared.command.CommandKind.{CommandKind}
 use Rattle.nbd_wire.specs.declared.command.CommandKind.TheVariants.{Read, Write, Disconnect, Flush, Unknown}
@@ -16,7 +15,7 @@ use Rattle.nbd_wire.specs.Units.{IsUnit, after, payload_len}
 use Rattle.nbd_transmission.specs.Standing.{IsAnswered}
 use Rattle.nbd_transmission.specs.Taking.{answer_of, answer_to, is_accepted_write, payload_of, phase_of, verdict}
 use Rattle.nbd_transmission.specs.declared.transmission.Next.{Next}
-use Rattle.nbd_transmission.specs.declared.transmission.Next.TheVariants.{More, Run, Refused, Close}
+use Rattle.nbd_transmission.specs.declared.transmission.Next.TheVariants.{Run, Close}
 use Rattle.nbd_transmission.proofs.Steps.{payload_short}
 use Rattle.share.specs.declared.connection.Turn.{Turn}
 use Rattle.share.specs.declared.connection.Turn.TheVariants.{Waits, Answered, Closes, OutputFails, Loses}
@@ -116,5 +115,5 @@ is_complete old new n unit next is_open sectors phase step = record {
   is_unit = subst (λ (p : Phase). IsUnit p unit) is_open step.0.is_unit;
   phase = ap (λ (p : Phase). after p unit) (sym is_open) ∙ sym step.0.phase ∙ phase;
   answer = ap (λ (m : ℕ). answer_to m unit) (sym sectors) ∙ sym step.1;
-  keeps = step.0.keeps
+  keeps = step.0.keeps;
 }

@@ -1,8 +1,7 @@
 -- An exchange over a server whose disk is sound and in which no refusal comes is one over a plain array.
-use Rattle.std.proofs.Common.{◌≡◌, ◌⊎◌, ℕ, ◌<◌, ◌≤◌, List, [], ◌∷◌, ◌++◌, drop, length, Bool, true, false, refl, sym, ap, ◌∙◌, subst, arith, append_assoc, append-nil, Option, Some, None, inl, inr}
+use Rattle.std.proofs.Common.{◌≡◌, ◌⊎◌, ℕ, ◌≤◌, List, [], ◌∷◌, ◌++◌, drop, Bool, true, false, refl, sym, ap, ◌∙◌, subst, arith, append_assoc, append-nil, Option, Some, None, inl, inr}
 use Rattle.std.specs.Prelude.{if◌then◌else◌}
 use Rattle.std.specs.Io.KnownBytes.{Appends, Consumes, IsAtEnd}
-use Rattle.block_device.specs.Facts.{Facts, Goes}
 use Rattle.nbd_wire.specs.declared.command.Command.{Command}
 use Rattle.nbd_wire.specs.declared.command.CommandKind.{CommandKind}
 use Rattle.nbd_wire.specs.declared.command.CommandKind.TheVariants.{Read, Write, Disconnect, Flush, Unknown}
@@ -10,8 +9,8 @@ use Rattle.nbd_wire.specs.declared.phase.Phase.{Phase}
 use Rattle.nbd_wire.specs.declared.phase.Phase.TheVariants.{Transmitting, Closed}
 use Rattle.nbd_wire.specs.declared.request.Request.{Request}
 use Rattle.nbd_wire.specs.Commands.{command_of, is_disconnect, judge_of, kind_of}
-use Rattle.nbd_wire.specs.Heads.{reply_bytes, request_at}
-use Rattle.nbd_wire.specs.Units.{IsPartial, IsUnit, Splits}
+use Rattle.nbd_wire.specs.Heads.{request_at}
+use Rattle.nbd_wire.specs.Units.{IsPartial, Splits}
 use Rattle.nbd_wire.proofs.StandingLaws.{rest_is_partial}
 use Rattle.nbd_wire.proofs.UnitLaws.{Splits_more}
 use Rattle.nbd_transmission.specs.Apply.{applied_unless, changed_by, changed_kind, data_of, head_of, reply_unless, request_applied, request_reply}
@@ -21,11 +20,10 @@ use Rattle.nbd_transmission.specs.declared.transmission.Next.TheVariants.{More, 
 use Rattle.share.specs.declared.connection.End.{End}
 use Rattle.share.specs.declared.connection.End.TheVariants.{Closed as ClosedEnd, EndOfInput, Input, Output, Lost as LostEnd, OutOfMemory}
 use Rattle.share.specs.declared.shared.Done.{Done}
-use Rattle.share.specs.declared.shared.Done.TheVariants.{Replied, Lost}
 use Rattle.share.specs.Doing.{Executes}
 use Rattle.share.specs.Ends.{Exchanged}
-use Rattle.share.specs.Exchange.{AnsweredBy, EndsBy, Executed, Over, Runs, answer_bytes}
-use Rattle.share.specs.Lent.{payload_in, payload_in_of, reply_in}
+use Rattle.share.specs.Exchange.{AnsweredBy, Executed, Runs, answer_bytes}
+use Rattle.share.specs.Lent.{payload_in_of, reply_in}
 use Rattle.share.specs.Plain.{IsQuiet, AnswersAll, AnswersSome, LacksMemory, PlainBy, Replies, RepliesTo}
 use Rattle.share.specs.State.{Reply, Served}
 
@@ -68,7 +66,7 @@ not_both b t f = cc
 pub record Plainly (keeps : Bool) (s t : Served) (c : Command) (payload out : List ℕ) : Type 0 where
   pub quiet : IsQuiet t
   pub what : ((out ≡ head_of c 0 ++ data_of s.disk.contents c) × (t.disk.contents ≡ changed_by s.disk.contents c payload))
-    ⊎ ((keeps ≡ true) × (out ≡ head_of c 12) × (t.disk.contents ≡ s.disk.contents))
+      ⊎ ((keeps ≡ true) × (out ≡ head_of c 12) × (t.disk.contents ≡ s.disk.contents))
 
 answer-at : (a : Reply) (c : Command) (e : ℕ) (out : List ℕ) → out ≡ answer_bytes a → a.command ≡ c → a.error ≡ e → out ≡ head_of c e ++ reply_in c e a.bytes
 answer-at a c e out o f g =
@@ -81,22 +79,24 @@ executed-plainly keeps conn s t k m c payload out q cuts slows x =
     let a = x.reply in
     elim r.holds.error_is [
       | inl zero_is ↦
-        let ran = r.ran zero_is in
-        record {
-          quiet = record { sound = x.run.sound ∙ q.sound; cut = ran.no_cut.1; slow = ran.no_slow.0 ∙ q.slow };
-          what = inl (answer-at a c 0 out x.out_is r.holds.command_is zero_is ∙ ap (λ (y : List ℕ). head_of c 0 ++ y) (ran.reply q.sound),
-            ran.contents q.sound ∙ changed-same c.kind s.disk.contents c x.bytes payload x.payload_is)
-        }
+          let ran = r.ran zero_is in
+          record {
+            quiet = record { sound = x.run.sound ∙ q.sound; cut = ran.no_cut.1; slow = ran.no_slow.0 ∙ q.slow };
+            what = inl (
+              answer-at a c 0 out x.out_is r.holds.command_is zero_is ∙ ap (λ (y : List ℕ). head_of c 0 ++ y) (ran.reply q.sound),
+              ran.contents q.sound ∙ changed-same c.kind s.disk.contents c x.bytes payload x.payload_is,
+            );
+          }
       | inr other ↦ elim other [
         | inl five ↦
-          let slow = r.slow five in
-          absurd (elim slow.cause [ inl stood ↦ not_both s.disk.slow stood q.slow | inr rose ↦ omega arith ])
+            let slow = r.slow five in
+            absurd (elim slow.cause [ inl stood ↦ not_both s.disk.slow stood q.slow | inr rose ↦ omega arith ])
         | inr twelve ↦
-          let none = r.memory twelve in
-          record {
-            quiet = rw none.0 q;
-            what = inr (none.2, answer-at a c 12 out x.out_is r.holds.command_is twelve ∙ append-nil (head_of c 12), ap (λ (y : Served). y.disk.contents) none.0)
-          }
+            let none = r.memory twelve in
+            record {
+              quiet = rw none.0 q;
+              what = inr (none.2, answer-at a c 12 out x.out_is r.holds.command_is twelve ∙ append-nil (head_of c 12), ap (λ (y : Served). y.disk.contents) none.0);
+            }
       ]
     ]
 
@@ -105,29 +105,31 @@ by-table : (keeps : Bool) (n conn : ℕ) (s t : Served) (k m : ℕ) (unit out : 
     → (closes ≡ false → refusal ≡ None → answer_to n unit ≡ Run c) → IsQuiet s → t.disk.cuts ≤ s.disk.cuts → t.disk.slows ≤ s.disk.slows
     → AnsweredBy (Rule keeps) keeps conn s t k m unit (if closes then Close else verdict c refusal) out
     → IsQuiet t × (((out ≡ (if closes then [] else reply_unless refusal s.disk.contents c)) × (t.disk.contents ≡ (if closes then s.disk.contents else applied_unless refusal s.disk.contents c (drop 28 unit))))
-      ⊎ LacksMemory keeps n s.disk.contents unit out t.disk.contents)
+    ⊎ LacksMemory keeps n s.disk.contents unit out t.disk.contents)
 by-table keeps n conn s t k m unit out c true refusal run q cuts slows a =
     (rw a.1 q, inl (a.0, ap (λ (y : Served). y.disk.contents) a.1))
 by-table keeps n conn s t k m unit out c false (Some e) run q cuts slows a =
     (rw a.1 q, inl (a.0, ap (λ (y : Served). y.disk.contents) a.1))
 by-table keeps n conn s t k m unit out c false None run q cuts slows a =
-    let p = executed-plainly keeps conn s t k m c (drop 28 unit) out q cuts slows a in
-    (p.quiet, elim p.what [
-      | inl done ↦ inl done
-      | inr lacks ↦ inr record { keeps_rows = lacks.0; command = c; accepted = run refl refl; reply = lacks.1; same = lacks.2 }
-    ])
+    let p = executed-plainly keeps conn s t k m c (drop 28 unit) out q cuts slows a in (
+      p.quiet,
+      elim p.what [
+        | inl done ↦ inl done
+        | inr lacks ↦ inr record { keeps_rows = lacks.0; command = c; accepted = run refl refl; reply = lacks.1; same = lacks.2 }
+      ],
+    )
 
 by-request : (keeps : Bool) (n conn : ℕ) (s t : Served) (k m : ℕ) (unit out : List ℕ) (r : Option Request)
     → ((c : Command) → answer_of n r ≡ Run c → answer_to n unit ≡ Run c) → IsQuiet s → t.disk.cuts ≤ s.disk.cuts → t.disk.slows ≤ s.disk.slows
     → AnsweredBy (Rule keeps) keeps conn s t k m unit (answer_of n r) out
     → IsQuiet t × (((out ≡ request_reply n s.disk.contents r) × (t.disk.contents ≡ request_applied n s.disk.contents r (drop 28 unit)))
-      ⊎ LacksMemory keeps n s.disk.contents unit out t.disk.contents)
+    ⊎ LacksMemory keeps n s.disk.contents unit out t.disk.contents)
 by-request keeps n conn s t k m unit out None run q cuts slows a =
     (rw a.1 q, inl (a.0, ap (λ (y : Served). y.disk.contents) a.1))
 by-request keeps n conn s t k m unit out (Some r) run q cuts slows a =
     by-table keeps n conn s t k m unit out (command_of r) (is_disconnect (kind_of r.kind)) (judge_of (command_of r) n)
     (λ e f. run (command_of r) (runs-command (command_of r) (is_disconnect (kind_of r.kind)) (judge_of (command_of r) n) e f)) q cuts slows a
-    where
+  where
     runs-command : (c : Command) (closes : Bool) (refusal : Option ℕ) → closes ≡ false → refusal ≡ None → (if closes then Close else verdict c refusal) ≡ Run c
     runs-command c closes refusal e f = rw (e, f) refl
 
@@ -181,7 +183,7 @@ plain-some keeps n conn s t mid k m had left old new text input cut dropped sent
       input_is = c.2 ∙ ap (λ (y : List ℕ). y ++ c.0) is ∙ append_assoc cut dropped c.0;
       split = split;
       replies = r.1;
-      wrote = wrote
+      wrote = wrote;
     }
 
 -- all requests are answered, and what is left begins none
@@ -199,9 +201,9 @@ plain-all keeps n conn s t mid k m old new input cut others sent unsent rest us 
       rest = rest ++ others;
       out = sent;
       split = subst (λ (y : List ℕ). Splits Transmitting y us (rest ++ others) last) (sym is)
-        (Splits_more Transmitting cut others us rest last (subst (λ (p : Phase). Splits Transmitting cut us rest p) ends split) partial);
+          (Splits_more Transmitting cut others us rest last (subst (λ (p : Phase). Splits Transmitting cut us rest p) ends split) partial);
       replies = r.1;
-      wrote = wrote
+      wrote = wrote;
     }
 
 -- what an exchange whose door is such a server says of an input

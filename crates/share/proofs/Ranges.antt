@@ -1,5 +1,5 @@
 -- What an accepted command says of its kind and its range.
-use Rattle.std.proofs.Common.{◌≡◌, ℕ, ◌+◌, ◌*◌, ◌/◌, ◌%◌, ◌≤◌, ◌<◌, Bool, true, false, not, ◌||◌, ◌&&◌, ◌==◌, refl, arith, List, [], ◌∷◌, Option, Some, None, ◌∙◌, sym, ap}
+use Rattle.std.proofs.Common.{◌≡◌, ℕ, ◌+◌, ◌*◌, ◌%◌, ◌≤◌, Bool, true, false, not, ◌||◌, ◌&&◌, ◌==◌, refl, arith, [], ◌∷◌, Option, Some, None, ◌∙◌, sym, ap}
 use Rattle.std.specs.Prelude.{if◌then◌else◌, nat_lt}
 use Rattle.std.proofs.lemmas.Bool.{eqb-true, ltb-false, not-false}
 use Rattle.nbd_wire.specs.declared.command.Command.{Command}
@@ -68,7 +68,7 @@ in_range c sectors moves h =
       offset = eqb-true _ _ (not-false _ front.1);
       length = eqb-true _ _ (not-false _ parts.1);
       within = ltb-false _ _ (and_false _ _ moves rows.row6);
-      short = ltb-false _ _ (and_false _ _ moves rows.row5)
+      short = ltb-false _ _ (and_false _ _ moves rows.row5);
     }
 
 -- an accepted command is no DISC and of no unknown type

@@ -1,5 +1,5 @@
 -- An exchange goes on by one unit, or ends.
-use Rattle.std.proofs.Common.{◌≡◌, ℕ, List, [], ◌∷◌, ◌++◌, ◌-◌, ◌==◌, take, drop, length, Bool, true, refl, arith, sym, ap, ◌∙◌, subst, append_assoc, append-nil, Option, Some, None}
+use Rattle.std.proofs.Common.{◌≡◌, ℕ, List, [], ◌∷◌, ◌++◌, ◌-◌, ◌==◌, take, drop, length, Bool, true, refl, arith, sym, ap, ◌∙◌, subst, append_assoc, append-nil, Option}
 use Rattle.std.proofs.lemmas.List.{take_rest, take-append-drop}
 use Rattle.std.proofs.lemmas.Bool.{eqb-true}
 use Rattle.std.specs.Io.KnownBytes.{Appends}
@@ -15,9 +15,8 @@ use Rattle.share.specs.declared.connection.End.TheVariants.{Closed as ClosedEnd,
 use Rattle.share.specs.declared.connection.Turn.{Turn}
 use Rattle.share.specs.declared.connection.Turn.TheVariants.{Waits, Answered, Closes, OutputFails, Loses}
 use Rattle.share.specs.declared.shared.Done.{Done}
-use Rattle.share.specs.Exchange.{AnsweredBy, LosesNext, Over, Runs, Taken, TurnedBy, Underway}
+use Rattle.share.specs.Exchange.{AnsweredBy, Over, Runs, Taken, TurnedBy, Underway}
 use Rattle.share.specs.Intake.{HoldsRest, Stored}
-
 
 -- the same units, at a door and a count that are equal
 runs-at : {S : Type 0} (ex : S → S → ℕ → ℕ → ℕ → Command → List ℕ → Done → Type 0) (keeps : Bool) (n conn : ℕ) (s t u : S) (k m j : ℕ) (us : List (List ℕ)) (out : List ℕ)
@@ -52,7 +51,7 @@ underway-waits ex keeps n conn s t u k m j text out x stored next w partial hold
   rest = w.rest ++ x;
   split = Splits_more Transmitting text x w.units w.rest Transmitting w.split partial;
   runs = runs-at ex keeps n conn s t u k m j w.units out e f w.runs;
-  holds = holds
+  holds = holds;
 }
 
 -- bytes that complete a unit, which is answered
@@ -65,7 +64,7 @@ underway-answered ex keeps n conn s t u k m j text out x more stored next w is_u
   rest = [];
   split = subst (λ (p : Phase). Splits Transmitting (text ++ x) (w.units ++ (w.rest ++ x) ∷ []) [] p) stays (Splits_unit Transmitting text x w.units w.rest Transmitting w.split is_unit);
   runs = runs-more ex keeps n conn s t u k m j w.units (w.rest ++ x) out more w.runs a;
-  holds = holds
+  holds = holds;
 }
 
 appends-none : (first old new : Option (List ℕ)) (out : List ℕ) → Appends first old out → Appends old new [] → Appends first new out
@@ -91,7 +90,7 @@ over-closes ex keeps n conn s t u k m j text out x d all stored first old new w 
   split = subst (λ (p : Phase). Splits Transmitting (text ++ x) (w.units ++ (w.rest ++ x) ∷ []) [] p) shuts (Splits_unit Transmitting text x w.units w.rest Transmitting w.split is_unit);
   runs = runs-more ex keeps n conn s t u k m j w.units (w.rest ++ x) out [] w.runs a;
   wrote = appends-none first old new out one two;
-  ends = (refl, refl, (refl, refl))
+  ends = (refl, refl, (refl, refl));
 }
 
 -- a beginning of a unit's answer is written
@@ -116,7 +115,7 @@ over-output ex keeps n conn s t u k m j text out x d all sent unsent stored firs
       split = subst (λ (p : Phase). Splits Transmitting (text ++ x) (w.units ++ (w.rest ++ x) ∷ []) [] p) stays (Splits_unit Transmitting text x w.units w.rest Transmitting w.split is_unit);
       runs = subst P (sym (append_assoc out sent unsent)) (runs-more ex keeps n conn s t u k m j w.units (w.rest ++ x) out (sent ++ unsent) w.runs a);
       wrote = Appends-trans first old new out sent one two;
-      ends = (refl, (refl, refl))
+      ends = (refl, (refl, refl));
     }
 
 -- a unit's command is lost
@@ -138,7 +137,7 @@ over-lost ex keeps n conn s t u k m j text out x d all stored first old new c w 
   split = w.split;
   runs = subst (λ (y : List ℕ). Runs ex keeps n conn s k w.units y t m) (sym (append-nil out)) w.runs;
   wrote = appends-none first old new out one two;
-  ends = (refl, refl, record { unit = w.rest ++ x; others = d; command = c; ahead_is = sym (append_assoc w.rest x d); is_unit = is_unit; answer = answer; taken = taken })
+  ends = (refl, refl, record { unit = w.rest ++ x; others = d; command = c; ahead_is = sym (append_assoc w.rest x d); is_unit = is_unit; answer = answer; taken = taken });
 }
 
 -- no more bytes come
@@ -158,7 +157,7 @@ over-input ex keeps n conn s t k m text out stored first new w one = record {
   split = w.split;
   runs = subst (λ (y : List ℕ). Runs ex keeps n conn s k w.units y t m) (sym (append-nil out)) w.runs;
   wrote = one;
-  ends = (refl, refl, refl, (refl, refl))
+  ends = (refl, refl, refl, (refl, refl));
 }
 
 pub over-end : {S : Type 0} (ex : S → S → ℕ → ℕ → ℕ → Command → List ℕ → Done → Type 0) (keeps : Bool) (n conn : ℕ) (s t : S) (k m : ℕ) (text out : List ℕ) (stored : Stored) (first new : Option (List ℕ))
@@ -177,7 +176,7 @@ over-end ex keeps n conn s t k m text out stored first new w one = record {
   split = w.split;
   runs = subst (λ (y : List ℕ). Runs ex keeps n conn s k w.units y t m) (sym (append-nil out)) w.runs;
   wrote = one;
-  ends = (refl, refl, refl, (refl, refl))
+  ends = (refl, refl, refl, (refl, refl));
 }
 
 -- there was no memory, and nothing was read
@@ -197,7 +196,7 @@ over-nothing ex keeps n conn s k old = record {
   split = (refl, refl, partial_nil Transmitting);
   runs = (refl, refl, refl);
   wrote = Appends-nil old;
-  ends = (refl, refl, refl, refl, refl, (refl, refl))
+  ends = (refl, refl, refl, refl, refl, (refl, refl));
 }
 
 -- ---- a turn, at the connection of the exchange

@@ -1,5 +1,5 @@
 -- What one `execute` does.
-use Rattle.std.specs.Prelude.{◌≡◌, ◌⊎◌, ℕ, ◌+◌, ◌<◌, List, [], length, Bool, true, false, Option, Some, None, if◌then◌else◌}
+use Rattle.std.specs.Prelude.{◌≡◌, ◌⊎◌, ℕ, ◌+◌, ◌<◌, List, [], length, Bool, true, false, Some, if◌then◌else◌}
 use Rattle.block_device.specs.Facts.{Facts, Goes}
 use Rattle.nbd_wire.specs.declared.command.Command.{Command}
 use Rattle.nbd_wire.specs.Commands.{moves_data}

@@ -1,5 +1,5 @@
 -- Rows of commands that ran one after another on one disk, and when they are a legal history.
-use Rattle.std.specs.Prelude.{◌≡◌, ◌⊎◌, ℕ, ◌==◌, ◌||◌, List, [], ◌∷◌, ◌++◌, length, Bool, true, false, Option, None, if◌then◌else◌}
+use Rattle.std.specs.Prelude.{◌≡◌, ◌⊎◌, ℕ, ◌==◌, ◌||◌, List, [], ◌∷◌, ◌++◌, length, Bool, true, None, if◌then◌else◌}
 use Rattle.nbd_wire.specs.declared.command.Command.{Command}
 use Rattle.nbd_wire.specs.Commands.{judge_of, moves_data}
 use Rattle.nbd_transmission.specs.Apply.{changed_by, data_of}

@@ -169,7 +169,14 @@ fn run_command<L: OneServer, T: Door<L>, K: Sink, G: Gate>(
 {
     let lent = lent_len(command);
     intake.filled = 0;
-    answer_command(door, pass, writer, gate, command, &mut intake.payload[..lent])
+    answer_command(
+        door,
+        pass,
+        writer,
+        gate,
+        command,
+        &mut intake.payload[..lent],
+    )
 }
 
 // Takes all bytes of a piece, and answers the units that they complete.

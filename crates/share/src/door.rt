@@ -57,7 +57,12 @@ impl<D: Disk, R: Recorder, L: OneServer> Door<L> for Shared<D, R, L> {
 
     ghost executes = { λ old new connection count count' command bytes done. Executes R.KEEPS old new connection count count' command bytes done };
 
-    fn execute<'a>(&mut self, pass: &mut Pass<L>, command: &Command, data: &'a mut [u8]) -> Done<'a> {
+    fn execute<'a>(
+        &mut self,
+        pass: &mut Pass<L>,
+        command: &Command,
+        data: &'a mut [u8],
+    ) -> Done<'a> {
         self.execute(pass, command, data)
     }
 

@@ -11,15 +11,15 @@
 //! Source: NBD proto.md for the replies; rows, passes and ends are our own.
 #![tactic(auto)]
 
-mod door;
 mod connection;
+mod door;
 mod intake;
 mod pass;
 mod recorder;
 mod shared;
 
-pub use door::{Door, Gate, Point};
 pub use connection::{End, exchange, exchange_alone};
+pub use door::{Door, Gate, Point};
 pub use pass::{OneServer, Pass};
 pub use recorder::{Bytes, FullRecord, Interrupted, NoRecord, Recorder, Row};
 pub use shared::{Answer, Done, RecordError, Shared};

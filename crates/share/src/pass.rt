@@ -38,9 +38,10 @@ impl<L: OneServer> Model for Pass<L> {
     ghost view = { λ p. record { connection = p.connection; count = p.count } };
 
     ghost invariant = { λ p. record {
-        one_part : p.share.parts ≡ 1;
-        counted : p.share.amount ≡ p.count;
-        same_disk : p.sectors ≡ L.sectors } };
+      one_part : p.share.parts ≡ 1;
+      counted : p.share.amount ≡ p.count;
+      same_disk : p.sectors ≡ L.sectors;
+    } };
 }
 
 impl<L: OneServer> Pass<L> {

@@ -174,15 +174,27 @@ fn filled(spare: Vec<u8>, bytes: &[u8]) -> Vec<u8>
 }
 
 // The payload and the reply's data among the lent bytes, in the memory that was taken for them.
-fn parts(alloc: Global, spare: Vec<u8>, command: &Command, error: u32, bytes: &[u8]) -> (Bytes, Bytes)
+fn parts(
+    alloc: Global,
+    spare: Vec<u8>,
+    command: &Command,
+    error: u32,
+    bytes: &[u8],
+) -> (Bytes, Bytes)
     requires empty { vec_len spare ≡ 0 }
     requires room { length bytes.now ≤ vec_capacity spare }
     ensures payload { result.0 ≡ payload_in command.now bytes.now }
     ensures reply { result.1 ≡ reply_in command.now error bytes.now }
 {
     match command.kind {
-        CommandKind::Write => (Bytes::new(filled(spare, bytes)), Bytes::new(Vec::new(alloc))),
-        CommandKind::Read if error == 0 => (Bytes::new(Vec::new(alloc)), Bytes::new(filled(spare, bytes))),
+        CommandKind::Write => (
+            Bytes::new(filled(spare, bytes)),
+            Bytes::new(Vec::new(alloc)),
+        ),
+        CommandKind::Read if error == 0 => (
+            Bytes::new(Vec::new(alloc)),
+            Bytes::new(filled(spare, bytes)),
+        ),
         _ => (Bytes::new(Vec::new(alloc)), Bytes::new(Vec::new(alloc))),
     }
 }

@@ -99,20 +99,22 @@ impl<D: Disk, R: Recorder, L: OneServer> Model for Shared<D, R, L> {
     ghost Value = { Served };
 
     ghost view = { λ s. record {
-        disk = D.facts s.disk;
-        base = R.base s.recorder;
-        rows = R.rows s.recorder;
-        interrupted = R.interrupted s.recorder;
-        given = s.counts.given;
-        lost = s.lost } };
+      disk = D.facts s.disk;
+      base = R.base s.recorder;
+      rows = R.rows s.recorder;
+      interrupted = R.interrupted s.recorder;
+      given = s.counts.given;
+      lost = s.lost;
+    } };
 
     ghost invariant = { λ s. record {
-        sectors : length (D.facts s.disk).contents ≡ 512 * L.sectors;
-        counted : s.counts.book.total ≡ length (R.rows s.recorder);
-        fits : length (R.rows s.recorder) < 2 ^ 64;
-        lost : s.lost ≡ true → (D.facts s.disk).cut ≡ true;
-        stands : R.KEEPS ≡ true → (D.facts s.disk).cut ≡ true → s.lost ≡ true;
-        kept : R.KEEPS ≡ true → IsKept L.sectors (D.facts s.disk) (R.base s.recorder) (R.rows s.recorder) (R.interrupted s.recorder) } };
+      sectors : length (D.facts s.disk).contents ≡ 512 * L.sectors;
+      counted : s.counts.book.total ≡ length (R.rows s.recorder);
+      fits : length (R.rows s.recorder) < 2 ^ 64;
+      lost : s.lost ≡ true → (D.facts s.disk).cut ≡ true;
+      stands : R.KEEPS ≡ true → (D.facts s.disk).cut ≡ true → s.lost ≡ true;
+      kept : R.KEEPS ≡ true → IsKept L.sectors (D.facts s.disk) (R.base s.recorder) (R.rows s.recorder) (R.interrupted s.recorder);
+    } };
 }
 
 impl<D: Disk, L: OneServer> Shared<D, NoRecord, L> {
@@ -138,7 +140,11 @@ impl<D: Disk, L: OneServer> Shared<D, NoRecord, L> {
 impl<D: Disk, L: OneServer> Shared<D, FullRecord, L> {
     /// A server that keeps its rows, with the disk's contents as their base. `blank` has 65,537 parts.
     /// Cut and Slow come from reading the disk; each error hands the disk back.
-    pub fn recording(alloc: Global, disk: D, blank: Blank) -> Result<Shared<D, FullRecord, L>, (RecordError, D)>
+    pub fn recording(
+        alloc: Global,
+        disk: D,
+        blank: Blank,
+    ) -> Result<Shared<D, FullRecord, L>, (RecordError, D)>
         requires sectors { length (D.facts disk).contents ≡ 512 * L.sectors }
         requires name { blank.name ≡ L.name }
         requires parts { (blank.parts ≡ L.parts) × (blank.parts ≡ 65537) }
@@ -176,7 +182,12 @@ impl<D: Disk, R: Recorder, L: OneServer> Shared<D, R, L> {
     /// Runs one command that the request table accepts, over the bytes that are lent to it: a WRITE's
     /// payload, the room for a READ's data, none for a FLUSH. The memory of the row comes first: where
     /// it is refused, the reply is ENOMEM and nothing runs. Then the disk, then the row.
-    pub fn execute<'a>(&mut self, pass: &mut Pass<L>, command: &Command, data: &'a mut [u8]) -> Done<'a>
+    pub fn execute<'a>(
+        &mut self,
+        pass: &mut Pass<L>,
+        command: &Command,
+        data: &'a mut [u8],
+    ) -> Done<'a>
         requires accepted { judge_of command.now L.sectors ≡ None }
         requires lent { length «data».old ≡ lent_len command.now }
         ensures executes { Executes R.KEEPS self.old self.new pass.old.connection pass.old.count pass.new.count command.now «data».old result }
@@ -252,7 +263,14 @@ impl<D: Disk, R: Recorder, L: OneServer> Shared<D, R, L> {
 }
 
 // A row more, and one more for the pass.
-fn note<R: Recorder, L: OneServer>(recorder: &mut R, counts: &mut Counts<L>, pass: &mut Pass<L>, command: &Command, error: u32, bytes: &[u8])
+fn note<R: Recorder, L: OneServer>(
+    recorder: &mut R,
+    counts: &mut Counts<L>,
+    pass: &mut Pass<L>,
+    command: &Command,
+    error: u32,
+    bytes: &[u8],
+)
     requires room { R.room recorder.old (length bytes.now) }
     requires counted { counts.old.book.total ≡ length (R.rows recorder.old) }
     ensures rows { R.rows recorder.new ≡ rows_with R.KEEPS (R.rows recorder.old) (row_of pass.old.connection command.now error bytes.now) }
@@ -271,7 +289,12 @@ fn note<R: Recorder, L: OneServer>(recorder: &mut R, counts: &mut Counts<L>, pas
 }
 
 // Runs an accepted command on the disk.
-fn run<D: Disk>(disk: &mut D, command: &Command, sectors: u32, bytes: &mut [u8]) -> Result<(), DiskError>
+fn run<D: Disk>(
+    disk: &mut D,
+    command: &Command,
+    sectors: u32,
+    bytes: &mut [u8],
+) -> Result<(), DiskError>
     requires accepted { judge_of command.now sectors ≡ None }
     requires size { length (D.facts disk.old).contents ≡ 512 * sectors }
     requires lent { length bytes.old ≡ lent_len command.now }

@@ -1,4 +1,4 @@
-use Rattle.std.proofs.Common.{◌≡◌, ◌++◌, ◌-◌, ℕ, List, [], take, drop, length, refl, sym, ap, ◌∙◌, subst, append-nil}
+use Rattle.std.proofs.Common.{◌≡◌, ◌++◌, ℕ, List, [], take, drop, refl, ◌∙◌, subst, append-nil}
 use Rattle.share.proofs.Turns.{left-after, piece-answered, piece-closes, piece-lost, piece-output, piece-waits, split-after, whole-piece}
 use Rattle.share.specs.declared.connection.Turn.{Turn}
 use Rattle.share.specs.Ends.{Counted}
@@ -11,7 +11,7 @@ loop-rest-init g c = record {
   sectors = c.requires.sectors;
   holding = c.requires.holding;
   quiet = refl;
-  underway = λ s count text out first w one. ([], [], refl, rw (append-nil text, append-nil out) w, rw (append-nil out) one)
+  underway = λ s count text out first w one. ([], [], refl, rw (append-nil text, append-nil out) w, rw (append-nil out) one);
 }
 
 pub loop-rest-preserved-in-Waits : goal.loop-rest-preserved-in-Waits
@@ -29,12 +29,12 @@ loop-rest-preserved-in-Waits g c =
       holding = (i.holding.0 ++ take used rest, kept.1);
       quiet = subst F c.in-Waits.is e.faults ∙ i.quiet;
       underway = λ s count text out first w one.
-        let u = i.underway s count text out first w one in
-        let t = e.turned u.3.rest u.3.holds in
-        let next = piece-waits g.T.Door.executes g.T.Door.keeps g.L.OneServer.sectors c.args.pass.now.connection c.loop-rest.pass.connection s c.loop-rest.door c.take_turn-used.new.door count c.loop-rest.pass.count c.take_turn-used.new.pass.count
-        text (out ++ u.1) u.0 (take used rest) c.loop-rest.intake c.take_turn-used.new.intake first (g.K.Sink.written c.loop-rest.writer) (g.K.Sink.written c.take_turn-used.new.writer) c.take_turn-used.result.1
-        i.connection c.in-Waits.is u.3 t u.4 in
-        (u.0 ++ take used rest, u.1, left-after c.args.piece.now u.0 rest used u.2, next.0, next.1)
+          let u = i.underway s count text out first w one in
+          let t = e.turned u.3.rest u.3.holds in
+          let next = piece-waits g.T.Door.executes g.T.Door.keeps g.L.OneServer.sectors c.args.pass.now.connection c.loop-rest.pass.connection s c.loop-rest.door c.take_turn-used.new.door count c.loop-rest.pass.count c.take_turn-used.new.pass.count
+          text (out ++ u.1) u.0 (take used rest) c.loop-rest.intake c.take_turn-used.new.intake first (g.K.Sink.written c.loop-rest.writer) (g.K.Sink.written c.take_turn-used.new.writer) c.take_turn-used.result.1
+          i.connection c.in-Waits.is u.3 t u.4 in
+          (u.0 ++ take used rest, u.1, left-after c.args.piece.now u.0 rest used u.2, next.0, next.1);
     }
 
 pub loop-rest-preserved : goal.loop-rest-preserved
@@ -52,12 +52,12 @@ loop-rest-preserved g c =
       holding = ([], kept.3);
       quiet = subst F c.in-Answered.is e.faults ∙ i.quiet;
       underway = λ s count text out first w one.
-        let u = i.underway s count text out first w one in
-        let t = e.turned u.3.rest u.3.holds in
-        let next = piece-answered g.T.Door.executes g.T.Door.keeps g.L.OneServer.sectors c.args.pass.now.connection c.loop-rest.pass.connection s c.loop-rest.door c.take_turn-used.new.door count c.loop-rest.pass.count c.take_turn-used.new.pass.count
-        text out u.1 u.0 (take used rest) c.loop-rest.intake c.take_turn-used.new.intake first (g.K.Sink.written c.loop-rest.writer) (g.K.Sink.written c.take_turn-used.new.writer) c.take_turn-used.result.1
-        i.connection c.in-Answered.is u.3 t u.4 in
-        (u.0 ++ take used rest, u.1 ++ next.0, left-after c.args.piece.now u.0 rest used u.2, next.1, next.2)
+          let u = i.underway s count text out first w one in
+          let t = e.turned u.3.rest u.3.holds in
+          let next = piece-answered g.T.Door.executes g.T.Door.keeps g.L.OneServer.sectors c.args.pass.now.connection c.loop-rest.pass.connection s c.loop-rest.door c.take_turn-used.new.door count c.loop-rest.pass.count c.take_turn-used.new.pass.count
+          text out u.1 u.0 (take used rest) c.loop-rest.intake c.take_turn-used.new.intake first (g.K.Sink.written c.loop-rest.writer) (g.K.Sink.written c.take_turn-used.new.writer) c.take_turn-used.result.1
+          i.connection c.in-Answered.is u.3 t u.4 in
+          (u.0 ++ take used rest, u.1 ++ next.0, left-after c.args.piece.now u.0 rest used u.2, next.1, next.2);
     }
 
 pub returns-in-Closes-clause-says : goal.returns-in-Closes-clause-says

@@ -1,5 +1,5 @@
-use Rattle.std.proofs.Common.{◌≡◌, ◌++◌, ◌+◌, ◌<◌, ◌≤◌, ℕ, List, [], length, take, refl, sym, ap, subst, ◌∙◌, arith, Option, Some, None}
-use Rattle.std.proofs.lemmas.List.{length-take-le, with_items_is}
+use Rattle.std.proofs.Common.{◌≡◌, ◌<◌, ℕ, List, [], length, take, refl, ap, ◌∙◌, arith, Some, None}
+use Rattle.std.proofs.lemmas.List.{with_items_is}
 use Rattle.std.proofs.KnownBytes.{Appends-nil, Consumes-nil}
 use Rattle.share.specs.declared.connection.End.{End}
 use Rattle.share.specs.declared.connection.End.TheVariants.{Output}
@@ -24,9 +24,14 @@ loop-piece-init g c = record {
   room = omega (arith, c.in-Ok-vec.ensures.len);
   reads = refl;
   writes = refl;
-  underway = ([], [], omega arith, Consumes-nil (g.S.Source.remaining c.args.reader.now),
+  underway = (
+    [],
+    [],
+    omega arith,
+    Consumes-nil (g.S.Source.remaining c.args.reader.now),
     underway-start g.T.Door.executes g.T.Door.keeps g.L.OneServer.sectors c.args.pass.connection c.args.door.now c.args.pass.count c.in-Ok.intake c.in-Ok.ensures.holds,
-    Appends-nil (g.K.Sink.written c.args.writer.now))
+    Appends-nil (g.K.Sink.written c.args.writer.now),
+  );
 }
 
 pub returns-in_default-read-clause-says : goal.returns-in_default-read-clause-says
@@ -101,6 +106,6 @@ loop-piece-preserved g c =
       reads = c.in-Ok-read.ensures.faults ∙ i.reads;
       writes = e.quiet (λ x. cc) ∙ i.writes;
       underway = pieces-more g.T.Door.executes g.T.Door.keeps g.L.OneServer.sectors c.args.pass.connection c.args.door.now c.answer_piece.new.door c.args.pass.count c.answer_piece.new.pass.count c.loop-piece._piece
-        (g.S.Source.remaining c.args.reader.now) (g.S.Source.remaining c.loop-piece.reader) (g.S.Source.remaining c.read.new.self) (g.K.Sink.written c.args.writer.now) (g.K.Sink.written c.answer_piece.new.writer) u.0 u.1 (take n into) c.answer_piece.new.intake
-        u.2 some u.3 bytes.0 by
+          (g.S.Source.remaining c.args.reader.now) (g.S.Source.remaining c.loop-piece.reader) (g.S.Source.remaining c.read.new.self) (g.K.Sink.written c.args.writer.now) (g.K.Sink.written c.answer_piece.new.writer) u.0 u.1 (take n into) c.answer_piece.new.intake
+          u.2 some u.3 bytes.0 by;
     }

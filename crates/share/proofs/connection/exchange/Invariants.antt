@@ -13,6 +13,6 @@ invariant-loop-piece g l = record {
   reads : g.S.Source.faults l.reader ≡ g.S.Source.faults l.fn.reader;
   writes : g.K.Sink.faults l.writer ≡ g.K.Sink.faults l.fn.writer;
   underway : (text : List ℕ) × (out : List ℕ) × (l._piece ≤ length text) × Consumes (g.S.Source.remaining l.fn.reader) (g.S.Source.remaining l.reader) text
-    × Underway g.T.Door.executes g.T.Door.keeps g.L.OneServer.sectors l.fn.pass.connection l.fn.door l.door l.fn.pass.count l.pass.count text out l.intake
-    × Appends (g.K.Sink.written l.fn.writer) (g.K.Sink.written l.writer) out
+      × Underway g.T.Door.executes g.T.Door.keeps g.L.OneServer.sectors l.fn.pass.connection l.fn.door l.door l.fn.pass.count l.pass.count text out l.intake
+      × Appends (g.K.Sink.written l.fn.writer) (g.K.Sink.written l.writer) out;
 }

@@ -1,4 +1,4 @@
-use Rattle.std.proofs.Common.{◌≡◌, ◌≤◌, List, ℕ, true, take, length, sym, ◌∙◌, ap, arith, subst, Option}
+use Rattle.std.proofs.Common.{◌≡◌, List, ℕ, true, take, length, sym, ◌∙◌, ap, arith, subst}
 use Rattle.std.proofs.lemmas.List.{length-take-le}
 use Rattle.nbd_wire.specs.Commands.{is_write}
 use Rattle.share.proofs.Payloads.{payload-lent}
@@ -38,6 +38,6 @@ returns-clause-turned g c =
     let stored : is_write command.kind ≡ true → length (take filled items) ≡ command.length = λ w. ap (λ (xs : List ℕ). length xs) was ∙ c.requires.payload w in
     let lent : payload_in command (take c.lent_len-lent.result c.deref_mut.result.now) ≡ payload_in command c.args.intake.now.payload =
     ap (λ (n : ℕ). payload_in command (take n c.deref_mut.result.now)) c.lent_len-lent.ensures ∙ ap (λ (xs : List ℕ). payload_in command (take (lent_len command) xs)) c.deref_mut.ensures.value
-      ∙ payload-lent command.kind command items filled (omega (arith, size, within, long)) stored ∙ ap (λ (xs : List ℕ). payload_in command xs) was in
+    ∙ payload-lent command.kind command items filled (omega (arith, size, within, long)) stored ∙ ap (λ (xs : List ℕ). payload_in command xs) was in
     let P : List ℕ → Type 0 = λ xs. CommandTurn g.T.Door.executes g.T.Door.keeps c.args.pass.now.connection c.args.door.now c.answer_command.new.door c.args.pass.now.count c.answer_command.new.pass.count command xs (g.K.Sink.written c.args.writer.now) (g.K.Sink.written c.answer_command.new.writer) c.answer_command.result in
     subst P lent c.answer_command.ensures.turned

@@ -1,13 +1,11 @@
-use Rattle.std.proofs.Common.{◌≡◌, ◌++◌, List, [], ℕ, true, take, length, sym, ◌∙◌, ap, subst, refl, append-nil}
-use Rattle.nbd_wire.specs.Commands.{is_write}
+use Rattle.std.proofs.Common.{◌≡◌, ◌++◌, List, [], ℕ, take, length, sym, ◌∙◌, ap, subst, refl, append-nil}
 use Rattle.nbd_wire.specs.Heads.{reply_bytes}
-use Rattle.nbd_wire.specs.Standing.{Held}
 use Rattle.nbd_transmission.specs.Standing.{Advances, IsAnswered}
 use Rattle.nbd_transmission.specs.declared.transmission.Next.{Next}
 use Rattle.nbd_transmission.specs.declared.transmission.Next.TheVariants.{Run, Refused, Close}
-use Rattle.nbd_transmission.specs.Taking.{answer_to, payload_of, phase_of}
+use Rattle.nbd_transmission.specs.Taking.{payload_of, phase_of}
 use Rattle.std.proofs.KnownBytes.{Appends-nil}
-use Rattle.share.proofs.Payloads.{IsComplete, holds-none, is_complete, is_lent, turned-run}
+use Rattle.share.proofs.Payloads.{holds-none, is_complete, is_lent, turned-run}
 use Rattle.share.specs.Exchange.{AnsweredBy}
 use Rattle.share.specs.Intake.{HoldsRest, Stored}
 use Rattle.share.specs.Lent.{payload_in}

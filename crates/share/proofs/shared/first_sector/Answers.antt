@@ -1,4 +1,4 @@
-use Rattle.std.proofs.Common.{◌≡◌, ◌*◌, ◌/◌, ◌≤◌, arith}
+use Rattle.std.proofs.Common.{◌/◌, arith}
 use Rattle.share.proofs.Ranges.{in_range}
 use Rattle.share.proofs.shared.first_sector.Goals as goal
 

@@ -1,4 +1,4 @@
-use Rattle.std.proofs.Common.{◌≡◌, ◌-◌, ◌++◌, List, ℕ, take, drop, length, sym, ◌∙◌, ap, arith}
+use Rattle.std.proofs.Common.{◌≡◌, ◌-◌, ◌++◌, List, ℕ, take, drop, length, sym, ◌∙◌, ap}
 use Rattle.std.proofs.lemmas.List.{with_items_is}
 use Rattle.nbd_transmission.specs.Taking.{payload_of}
 use Rattle.share.proofs.Payloads.{part-used}
@@ -22,4 +22,4 @@ returns-clause-part c rest holds =
     let step = c.take-taken.ensures.part rest h.is_open h.keeps in
     let part = part-used used n piece c.take-taken.ensures.payload in
     rw (← c.self.view_is) (ap (λ (xs : List ℕ). take c.store-self-inside.result xs) whole ∙ bytes ∙ ap (λ (xs : List ℕ). take c.self.inside.filled xs ++ take (used - (used - n)) (drop (used - n) piece)) value
-      ∙ ap (λ (xs : List ℕ). xs ++ take (used - (used - n)) (drop (used - n) piece)) h.part ∙ ap (λ (xs : List ℕ). payload_of c.self.inside.parser.sectors rest ++ xs) part ∙ sym step)
+    ∙ ap (λ (xs : List ℕ). xs ++ take (used - (used - n)) (drop (used - n) piece)) h.part ∙ ap (λ (xs : List ℕ). payload_of c.self.inside.parser.sectors rest ++ xs) part ∙ sym step)

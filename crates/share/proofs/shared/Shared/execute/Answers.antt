@@ -1,4 +1,4 @@
-use Rattle.std.proofs.Common.{◌≡◌, true, sym, ◌∙◌, ap}
+use Rattle.std.proofs.Common.{◌∙◌, ap}
 use Rattle.std.proofs.lemmas.Bool.{both_ways}
 use Rattle.std.specs.Prelude.{Err}
 use Rattle.block_device.specs.declared.disk.DiskError.{DiskError}
@@ -17,10 +17,10 @@ invariant_of-self-in-Ok g c =
       lost = λ l. absurd (both_ways _ c.if-lost.false l);
       stands = λ k s. absurd (both_ways _ r.ok.1 s);
       kept = λ k. kept-row-ok R.KEEPS g.L.OneServer.sectors (D.facts was.disk) (D.facts c.run.new.disk)
-        (R.base was.recorder) (R.base c.prepare.new.self) (R.base c.note.new.recorder) (R.rows was.recorder) (R.rows c.prepare.new.self) (R.rows c.note.new.recorder)
-        (R.interrupted was.recorder) (R.interrupted c.prepare.new.self) (R.interrupted c.note.new.recorder) c.args.command.now c.args.pass.now.connection c.args.data.now c.run.new.bytes
-        k (inv.kept k) c.requires.accepted c.run.auto.bytes c.requires.lent r.kept r.sound r.contents r.reply r.ok.0 r.ok.2 r.ok.3
-        p.base n.base p.interrupted n.interrupted p.rows n.rows
+          (R.base was.recorder) (R.base c.prepare.new.self) (R.base c.note.new.recorder) (R.rows was.recorder) (R.rows c.prepare.new.self) (R.rows c.note.new.recorder)
+          (R.interrupted was.recorder) (R.interrupted c.prepare.new.self) (R.interrupted c.note.new.recorder) c.args.command.now c.args.pass.now.connection c.args.data.now c.run.new.bytes
+          k (inv.kept k) c.requires.accepted c.run.auto.bytes c.requires.lent r.kept r.sound r.contents r.reply r.ok.0 r.ok.2 r.ok.3
+          p.base n.base p.interrupted n.interrupted p.rows n.rows;
     }
 
 pub invariant_of-self-in-Err-Slow : goal.invariant_of-self-in-Err-Slow
@@ -36,8 +36,8 @@ invariant_of-self-in-Err-Slow g c =
       lost = λ l. absurd (both_ways _ c.if-lost.false l);
       stands = λ k e. absurd (both_ways _ s.3 e);
       kept = λ k. kept-row-slow R.KEEPS g.L.OneServer.sectors (D.facts was.disk) (D.facts c.run.new.disk)
-        (R.base was.recorder) (R.base c.prepare.new.self) (R.base c.note-in-Err-Slow.new.recorder) (R.rows was.recorder) (R.rows c.prepare.new.self) (R.rows c.note-in-Err-Slow.new.recorder)
-        (R.interrupted was.recorder) (R.interrupted c.prepare.new.self) (R.interrupted c.note-in-Err-Slow.new.recorder) c.args.command.now c.args.pass.now.connection c.args.data.now c.run.new.bytes
-        k (inv.kept k) c.requires.accepted c.run.auto.bytes c.requires.lent r.sound s.0 s.1 s.4
-        p.base n.base p.interrupted n.interrupted p.rows n.rows
+          (R.base was.recorder) (R.base c.prepare.new.self) (R.base c.note-in-Err-Slow.new.recorder) (R.rows was.recorder) (R.rows c.prepare.new.self) (R.rows c.note-in-Err-Slow.new.recorder)
+          (R.interrupted was.recorder) (R.interrupted c.prepare.new.self) (R.interrupted c.note-in-Err-Slow.new.recorder) c.args.command.now c.args.pass.now.connection c.args.data.now c.run.new.bytes
+          k (inv.kept k) c.requires.accepted c.run.auto.bytes c.requires.lent r.sound s.0 s.1 s.4
+          p.base n.base p.interrupted n.interrupted p.rows n.rows;
     }
