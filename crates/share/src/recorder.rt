@@ -158,6 +158,12 @@ impl FullRecord {
             interrupted: None,
         }
     }
+
+    pub(crate) fn rows(&self) -> &[Row]
+        ensures { result.now ≡ self.now.rows.items }
+    {
+        self.rows.as_slice()
+    }
 }
 
 // The bytes in the memory that was taken for them.

@@ -7,7 +7,7 @@ ghost use Rattle.share.specs.History.{row_of, rows_with};
 ghost use Rattle.share.specs.Doing.{one_more};
 
 use crate::pass::{Counts, OneServer, Pass};
-use crate::recorder::{Bytes, FullRecord, NoRecord, Recorder};
+use crate::recorder::{Bytes, FullRecord, NoRecord, Recorder, Row};
 use block_device::{Disk, DiskError};
 use nbd_wire::{Command, CommandKind, EIO, ENOMEM, SECTOR_LEN};
 use std::alloc::Global;
@@ -176,7 +176,6 @@ impl<D: Disk, L: OneServer> Shared<D, FullRecord, L> {
 }
 
 impl<D: Disk, R: Recorder, L: OneServer> Shared<D, R, L> {
-    ghost use Rattle.share.specs.State.{IsKept};
     ghost use Rattle.share.specs.Doing.{Executes};
 
     /// Runs one command that the request table accepts, over the bytes that are lent to it: a WRITE's
@@ -252,13 +251,19 @@ impl<D: Disk, R: Recorder, L: OneServer> Shared<D, R, L> {
         let sectors = self.disk.sectors();
         self.counts.pass(sectors)
     }
+}
 
-    /// Shows what holds of every server that keeps rows, whenever it is got: the rows are a legal history
-    /// of the base, and while no refusal stands in a sound disk its contents are their replay.
-    pub fn show(&self)
-        ensures { R.KEEPS ≡ true → IsKept L.sectors self.now.disk self.now.base self.now.rows self.now.interrupted }
+impl<D: Disk, L: OneServer> Shared<D, FullRecord, L> {
+    ghost use Rattle.share.specs.State.{IsKept};
+
+    /// Lends the rows, in the order in which their commands ran. Whenever a server that keeps rows is
+    /// got, they are a legal history of the contents at its start, and while neither a Cut nor a Slow
+    /// stands in its sound disk, the disk's contents are their replay.
+    pub fn rows(&self) -> &[Row]
+        ensures rows { result.now ≡ self.now.rows }
+        ensures kept { IsKept L.sectors self.now.disk self.now.base self.now.rows self.now.interrupted }
     {
-        let _ = &self.lost;
+        self.recorder.rows()
     }
 }
 
