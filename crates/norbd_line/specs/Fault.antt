@@ -1,5 +1,6 @@
-use Rattle.std.specs.Prelude.{ℕ, ◌≡◌, ◌≢◌, ◌⊎◌}
-use Rattle.clap.specs.Values.{kind_of}
+use Rattle.std.specs.Prelude.{ℕ, List, ◌≡◌, ◌≢◌, ◌⊎◌}
+use Rattle.clap.specs.Words.{IsAmong, Text, fault_of, kind_of}
+use Rattle.norbd_line.specs.CommandLine.{norbd_app}
 use Rattle.clap.specs.declared.error.kind.ErrorKind.{ErrorKind}
 use Rattle.clap.specs.declared.error.kind.ErrorKind.TheVariants.{DisplayHelp, DisplayVersion, OutOfMemory}
 use Rattle.norbd_line.specs.declared.fault.Fault.{Fault}
@@ -17,9 +18,9 @@ HasStatus NoMemory status = status ≡ 1
 HasStatus InputFailed status = status ≡ 1
 HasStatus OutputFailed status = status ≡ 1
 
--- a fault that reading the line may answer: a fault of the words, which isn't want of memory, or want of memory
-abbrev pub ComesFromLine : Fault → Type 0
-ComesFromLine (Words error) = kind_of error ≢ OutOfMemory
-ComesFromLine NoMemory = Unit {0}
-ComesFromLine InputFailed = ⊥
-ComesFromLine OutputFailed = ⊥
+-- a fault that reading these words may answer: one of those that they have, which isn't want of memory, or want of memory
+abbrev pub ComesFromWords : List Text → Fault → Type 0
+ComesFromWords words (Words error) = (kind_of error ≢ OutOfMemory) × IsAmong (kind_of error) (fault_of norbd_app words)
+ComesFromWords words NoMemory = Unit {0}
+ComesFromWords words InputFailed = ⊥
+ComesFromWords words OutputFailed = ⊥

@@ -206,6 +206,16 @@ plain-all keeps n conn s t mid k m old new input cut others sent unsent rest us 
       wrote = wrote;
     }
 
+-- no command is lost
+pub never-lost : (keeps : Bool) (n conn : ℕ) (s t : Served) (k m : ℕ) (had left old new : Option (List ℕ)) (f h : ℕ)
+    → IsQuiet s → t.disk.cuts ≤ s.disk.cuts → t.disk.slows ≤ s.disk.slows → Exchanged (Rule keeps) keeps n conn s t k m had left old new f h LostEnd → ⊥
+never-lost keeps n conn s t k m had left old new f h q cuts slows x =
+    let o = x.over in
+    let lost = o.ends.2.taken.run in
+    let grown = runs-grow keeps n conn s o.mid k o.between o.units (o.sent ++ o.unsent) o.runs in
+    let quiet = all-replies keeps n conn s o.mid k o.between o.units (o.sent ++ o.unsent) q (omega (arith, lost.goes.cuts)) (omega (arith, lost.goes.slows)) o.runs in
+    elim lost.loses.cause [ inl stood ↦ not_both o.mid.disk.cut stood quiet.0.cut | inr rose ↦ omega (arith, grown.cuts) ]
+
 -- what an exchange whose door is such a server says of an input
 pub plain-by : (keeps : Bool) (n conn : ℕ) (s t : Served) (k m : ℕ) (had left old new : Option (List ℕ)) (f h : ℕ) (input : List ℕ) (end : End)
     → IsQuiet s → t.disk.cuts ≤ s.disk.cuts → t.disk.slows ≤ s.disk.slows → had ≡ Some input
@@ -234,11 +244,7 @@ plain-by keeps n conn s t k m had left old new f h input Output q cuts slows tel
     let o = x.over in
     plain-some keeps n conn s t o.mid k o.between had left old new x.text input o.cut o.dropped o.sent o.unsent o.rest o.units o.phase q cuts slows tells x.read o.text_is o.ends.1.0 o.split o.runs o.wrote
 plain-by keeps n conn s t k m had left old new f h input LostEnd q cuts slows tells x =
-    let o = x.over in
-    let lost = o.ends.2.taken.run in
-    let grown = runs-grow keeps n conn s o.mid k o.between o.units (o.sent ++ o.unsent) o.runs in
-    let quiet = all-replies keeps n conn s o.mid k o.between o.units (o.sent ++ o.unsent) q (omega (arith, lost.goes.cuts)) (omega (arith, lost.goes.slows)) o.runs in
-    elim lost.loses.cause [ inl stood ↦ not_both o.mid.disk.cut stood quiet.0.cut | inr rose ↦ omega (arith, grown.cuts) ]
+    never-lost keeps n conn s t k m had left old new f h q cuts slows x
 plain-by keeps n conn s t k m had left old new f h input OutOfMemory q cuts slows tells x =
     let o = x.over in
     let U : List (List ℕ) → Type 0 = λ us. Runs (Rule keeps) keeps n conn s k us (o.sent ++ o.unsent) o.mid o.between in

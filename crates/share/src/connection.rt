@@ -15,7 +15,7 @@ use crate::intake::Intake;
 use crate::pass::{OneServer, Pass};
 use crate::recorder::Recorder;
 use crate::shared::{Answer, Done, Shared};
-use block_device::{Disk, Failed, Sink, Source, send_both};
+use block_device::{Disk, Failed, PlainDisk, Sink, Source, send_both};
 use nbd_transmission::Next;
 use nbd_wire::{Command, CommandKind, REPLY_LEN, Reply};
 use std::alloc::Global;
@@ -278,4 +278,29 @@ pub fn exchange_alone<D: Disk, R: Recorder, L: OneServer, S: Source, K: Sink, G:
     ensures reads { (result.1 ≡ End.Input → ⊥) → S.faults reader.new ≡ S.faults reader.old }
 {
     exchange(alloc, server, pass, reader, writer, gate)
+}
+
+/// `exchange` over a server of a plain disk that no other connection shares: such a disk is sound and
+/// never refuses, so that what is written are always the replies of a plain array of sectors.
+pub fn exchange_plain<R: Recorder, L: OneServer, S: Source, K: Sink, G: Gate>(
+    alloc: Global,
+    server: &mut Shared<PlainDisk, R, L>,
+    pass: Pass<L>,
+    reader: &mut S,
+    writer: &mut K,
+    gate: &mut G,
+) -> (Pass<L>, End)
+    ensures connection { result.0.connection ≡ pass.connection }
+    ensures plain { (input : List ℕ) → S.remaining reader.old ≡ Some input
+        → PlainBy R.KEEPS L.sectors server.old.disk.contents server.new.disk.contents input (K.written writer.old) (K.written writer.new) result.1 }
+    ensures lost { result.1 ≡ End.Lost → ⊥ }
+    ensures says { Exchanged (λ old new connection count count' command bytes done. Executes R.KEEPS old new connection count count' command bytes done) R.KEEPS L.sectors pass.connection server.old server.new pass.count result.0.count (S.remaining reader.old) (S.remaining reader.new) (K.written writer.old) (K.written writer.new) (S.faults reader.old) (S.faults reader.new) result.1 }
+    ensures output { result.1 ≡ End.Output → K.faults writer.old < K.faults writer.new }
+    ensures writes { (result.1 ≡ End.Output → ⊥) → K.faults writer.new ≡ K.faults writer.old }
+    ensures reads { (result.1 ≡ End.Input → ⊥) → S.faults reader.new ≡ S.faults reader.old }
+{
+    let _ = server.disk();
+    let ended = exchange_alone(alloc, server, pass, reader, writer, gate);
+    let _ = server.disk();
+    ended
 }

@@ -18,7 +18,7 @@ mod pass;
 mod recorder;
 mod shared;
 
-pub use connection::{End, exchange, exchange_alone};
+pub use connection::{End, exchange, exchange_alone, exchange_plain};
 pub use door::{Door, Gate, Point};
 pub use pass::{OneServer, Pass};
 pub use recorder::{Bytes, FullRecord, Interrupted, NoRecord, Recorder, Row};

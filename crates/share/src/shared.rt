@@ -241,6 +241,13 @@ impl<D: Disk, R: Recorder, L: OneServer> Shared<D, R, L> {
         result
     }
 
+    /// Lends the disk.
+    pub fn disk(&self) -> &D
+        ensures { D.facts result.now ≡ self.now.disk }
+    {
+        &self.disk
+    }
+
     /// The pass with the next number: 0, 1, 2 and so on to 65,535, each once; then None.
     pub fn pass(&mut self) -> Option<Pass<L>>
         ensures next { IfSome result (λ p. (p.connection ≡ self.old.given) × (p.count ≡ 0)) }

@@ -1,0 +1,9 @@
+use Rattle.norbd.proofs.run.run_line.Given as goal
+
+-- the ledger of the server: that of its blank
+abbrev pub ghosts-run_plain-L-Ledger : goal.ghosts-run_plain-L-Ledger
+ghosts-run_plain-L-Ledger g a = record { name = a.blank.name; parts = a.blank.parts }
+
+-- the server's number of sectors: that of its line
+abbrev pub ghosts-run_plain-L-OneServer : goal.ghosts-run_plain-L-OneServer
+ghosts-run_plain-L-OneServer g a = record { sectors = a.sectors }

@@ -1,0 +1,45 @@
+-- How the program ended. Source: own.
+use Rattle.std.specs.Prelude.{◌≡◌, ◌⊎◌, ℕ, ◌-◌, ◌^◌, ◌<◌, ◌≤◌, List, length, Option, Result, Ok, Err}
+use Rattle.std.specs.Io.KnownBytes.{Consumes}
+use Rattle.norbd_line.specs.declared.fault.Fault.{Fault}
+use Rattle.norbd_line.specs.declared.fault.Fault.TheVariants.{Words, NoMemory, InputFailed, OutputFailed}
+use Rattle.share.specs.declared.connection.End.{End}
+use Rattle.share.specs.declared.connection.End.TheVariants.{Closed, EndOfInput, Input, Output, Lost, OutOfMemory}
+
+-- a result that is Ok
+abbrev pub IsDone : {T : Type 0} → Result T Fault → Type 0
+IsDone (Ok _) = Unit {0}
+IsDone (Err _) = ⊥
+
+-- a result that is this fault
+abbrev pub IsFault : {T : Type 0} → Fault → Result T Fault → Type 0
+IsFault fault (Ok _) = ⊥
+IsFault fault (Err e) = e ≡ fault
+
+-- what the end of a connection means for the program: a close and the end of the input are no faults
+abbrev pub Means : {T : Type 0} → End → Result T Fault → Type 0
+Means Closed result = IsDone result
+Means EndOfInput result = IsDone result
+Means Input result = IsFault InputFailed result
+Means Output result = IsFault OutputFailed result
+Means Lost result = IsFault NoMemory result
+Means OutOfMemory result = IsFault NoMemory result
+
+-- A read failed, or 2^64 - 1 bytes were read.
+abbrev pub FailsToRead : Option (List ℕ) → Option (List ℕ) → ℕ → ℕ → Type 0
+FailsToRead had left reads reads' =
+    (text : List ℕ) × Consumes had left text × ((reads < reads') ⊎ (2 ^ 64 - 1 ≤ length text))
+
+-- The cause of a fault, by the bytes that the reader had and has left, and the failed calls of the reader and of the
+-- writer before and after. Only a fault of a stream counts a failed call, and that of its own; a line that is done has
+-- no fault of its words.
+abbrev pub HasCause : Fault → Option (List ℕ) → Option (List ℕ) → ℕ → ℕ → ℕ → ℕ → Type 0
+HasCause (Words error) had left reads reads' writes writes' = ⊥
+HasCause NoMemory had left reads reads' writes writes' = (reads' ≡ reads) × (writes' ≡ writes)
+HasCause InputFailed had left reads reads' writes writes' = FailsToRead had left reads reads' × (writes' ≡ writes)
+HasCause OutputFailed had left reads reads' writes writes' = (reads' ≡ reads) × (writes < writes')
+
+-- How a line ended: done, and no call of a stream failed, or with a fault that has its cause.
+abbrev pub Ended : {T : Type 0} → Result T Fault → Option (List ℕ) → Option (List ℕ) → ℕ → ℕ → ℕ → ℕ → Type 0
+Ended (Ok _) had left reads reads' writes writes' = (reads' ≡ reads) × (writes' ≡ writes)
+Ended (Err fault) had left reads reads' writes writes' = HasCause fault had left reads reads' writes writes'

@@ -1,0 +1,70 @@
+//! The program `norbd`: serves a disk by the Network Block Device protocol (NBD), in its transmission phase.
+//!
+//! Here stand the words of the command line, the standard streams, what is printed of a fault, and the exit status:
+//! 0 where the line is done, 2 for a bad line, 1 for each other fault. `run` does what a line asks, over any reader and
+//! writer; the readers and writers here are standard input and output, unbuffered, so that each reply is out before the
+//! next request is looked at.
+//! Left to the crates below: the words and the texts of faults (`norbd_line`), requests and replies (`share`), the disk
+//! (`block_device`). No contract says what is printed; tests and runs show it.
+//! Source: own for the command line and its faults; NBD proto.md for requests and replies.
+#![tactic(auto)]
+
+ghost use Rattle.std.specs.Prelude.{◌≡◌, ◌<◌};
+
+mod run;
+
+use block_device::Io;
+use norbd_line::{Fault, Line, read_line};
+use std::alloc::Global;
+use std::marker::Brand;
+use std::process::ExitCode;
+use std::sync::ledger::{Blank, Ledger};
+
+/// The program's words, or none where they can't be had: the line is then a bad one.
+fn words_of(rt: &HostRuntime, alloc: Global) -> Vec<String> {
+    let Ok(args) = std::env::args(rt) else {
+        return Vec::new(alloc);
+    };
+    match args.collect::<Vec<String>>(alloc) {
+        Ok(words) => words,
+        Err(_) => Vec::new(alloc),
+    }
+}
+
+/// Does a line over standard input and standard output, whose failures the ledgers `I` and `O` count.
+fn run_standard<I: Ledger, O: Ledger>(
+    rt: &HostRuntime,
+    line: Line,
+    input: Blank,
+    output: Blank,
+) -> Result<(), Fault>
+    requires input { (input.name ≡ I.name) × (input.parts ≡ I.parts) × (0 < I.parts) }
+    requires output { (output.name ≡ O.name) × (output.parts ≡ O.parts) × (0 < O.parts) }
+{
+    let mut reader = Io::<_, I>::new(rt.stdin(), input);
+    let mut writer = Io::<_, O>::new(rt.stdout(), output);
+    run::run_line(rt.alloc(), line, &mut reader, &mut writer)
+}
+
+/// Prints a fault: `clap`'s own text for one of the words, else a line on standard error. A failure to print it is passed
+/// over. The answer is the exit status.
+fn tell(rt: &HostRuntime, fault: &Fault) -> ExitCode {
+    if let Fault::Words(error) = fault {
+        let _ = error.print(rt);
+    } else {
+        let _ = eprintln!(rt; "norbd: {fault}");
+    }
+    ExitCode::from(fault.status())
+}
+
+fn main(rt: HostRuntime) -> ExitCode {
+    let words = words_of(&rt, rt.alloc());
+    let done = match read_line(rt.alloc(), words.as_slice()) {
+        Ok(line) => run_standard::<Brand, Brand>(&rt, line, Blank::new(1), Blank::new(1)),
+        Err(fault) => Err(fault),
+    };
+    match done {
+        Ok(()) => ExitCode::SUCCESS,
+        Err(fault) => tell(&rt, &fault),
+    }
+}

@@ -1,0 +1,99 @@
+//! What a line asks, over any reader and writer.
+ghost use Rattle.std.specs.Prelude.{◌≡◌, ℕ, List, Some};
+ghost use Rattle.norbd.specs.Outcomes.{Ended, Means};
+ghost use Rattle.norbd.specs.Serving.{Serves, sectors_of};
+
+use block_device::{PlainDisk, Sink, Source};
+use norbd_line::{Fault, Line};
+use share::{End, FullRecord, Gate, OneServer, Point, Shared, exchange_plain};
+use std::alloc::Global;
+use std::marker::Brand;
+use std::sync::ledger::Blank;
+
+/// The parts of a server's ledger: one for each of 65,536 passes, and one that stays.
+const LEDGER_PARTS: u64 = 65_537;
+
+/// A gate that stands open: passing it does nothing.
+#[derive(Drop)]
+struct OpenGate;
+
+impl Gate for OpenGate {
+    fn pass(&mut self, _point: Point) {}
+}
+
+/// Does what a line asks.
+///
+/// `plain`: answers the NBD requests that come from `reader`, transmission bytes alone, over a disk of zeros in memory,
+/// with replies to `writer`, each as soon as the last byte of its request has come. Ok at the end of the input, and where
+/// a request closes the connection (a wrong magic, or DISC).
+///
+/// `NoMemory` where there is no memory for the disk, its record or the buffers, `InputFailed` where a read failed (or
+/// after 2^64 - 1 bytes), `OutputFailed` where a write failed. Source: own.
+pub fn run_line<S: Source, K: Sink>(
+    alloc: Global,
+    line: Line,
+    reader: &mut S,
+    writer: &mut K,
+) -> Result<(), Fault>
+    ensures ends { Ended result (S.remaining reader.old) (S.remaining reader.new) (S.faults reader.old) (S.faults reader.new)
+        (K.faults writer.old) (K.faults writer.new) }
+    ensures serves { (input : List ℕ) → S.remaining reader.old ≡ Some input
+        → Serves (sectors_of line) input (K.written writer.old) (K.written writer.new) result }
+{
+    let sectors = sectors_of(line);
+    run_plain::<Brand, S, K>(alloc, Blank::new(LEDGER_PARTS), sectors, reader, writer)
+}
+
+// The sectors of a line's disk.
+fn sectors_of(line: Line) -> u32
+    ensures { result ≡ sectors_of line }
+{
+    match line {
+        Line::Plain { sectors } => sectors,
+    }
+}
+
+// Serves one connection a disk of so many sectors of zeros; `L` names the server.
+fn run_plain<L: OneServer, S: Source, K: Sink>(
+    alloc: Global,
+    blank: Blank,
+    sectors: u32,
+    reader: &mut S,
+    writer: &mut K,
+) -> Result<(), Fault>
+    requires name { blank.name ≡ L.name }
+    requires parts { (blank.parts ≡ L.parts) × (blank.parts ≡ 65537) }
+    requires sectors { sectors ≡ L.sectors }
+    ensures ends { Ended result (S.remaining reader.old) (S.remaining reader.new) (S.faults reader.old) (S.faults reader.new)
+        (K.faults writer.old) (K.faults writer.new) }
+    ensures serves { (input : List ℕ) → S.remaining reader.old ≡ Some input
+        → Serves sectors input (K.written writer.old) (K.written writer.new) result }
+{
+    let Ok(disk) = PlainDisk::new(alloc, sectors) else {
+        return Err(Fault::NoMemory);
+    };
+    // Reading a disk in memory never fails, so this error is want of memory.
+    let Ok(mut server) = Shared::<PlainDisk, FullRecord, L>::recording(alloc, disk, blank) else {
+        return Err(Fault::NoMemory);
+    };
+    let Some(pass) = server.pass() else {
+        unreachable!()
+    };
+    let (_, end) = exchange_plain(alloc, &mut server, pass, reader, writer, &mut OpenGate);
+    outcome(end)
+}
+
+// What the end of a connection to a disk in memory means for the program. Such a disk loses no command to a power loss,
+// so `Lost` can't come; it needs some fault, and answers `NoMemory`.
+fn outcome(end: End) -> Result<(), Fault>
+    ensures { Means end result }
+{
+    match end {
+        End::Closed => Ok(()),
+        End::EndOfInput => Ok(()),
+        End::Input => Err(Fault::InputFailed),
+        End::Output => Err(Fault::OutputFailed),
+        End::Lost => Err(Fault::NoMemory),
+        End::OutOfMemory => Err(Fault::NoMemory),
+    }
+}
