@@ -1,6 +1,8 @@
 -- What one `execute` does.
-use Rattle.std.specs.Prelude.{◌≡◌, ◌⊎◌, ℕ, ◌+◌, ◌<◌, List, [], length, Bool, true, false, Some, if◌then◌else◌}
-use Rattle.block_device.specs.Facts.{Facts, Goes}
+use Rattle.std.specs.Prelude.{◌≡◌, ◌⊎◌, ℕ, ◌+◌, ◌<◌, List, [], length, Bool, true, false, Some, if◌then◌else◌, Result, OnOk, IsErrOf}
+use Rattle.block_device.specs.declared.disk.DiskError.{DiskError}
+use Rattle.block_device.specs.declared.disk.DiskError.TheVariants.{Cut, Slow}
+use Rattle.block_device.specs.Facts.{Facts, Goes, IsReady, Tidies}
 use Rattle.nbd_wire.specs.declared.command.Command.{Command}
 use Rattle.nbd_wire.specs.Commands.{moves_data}
 use Rattle.nbd_transmission.specs.Apply.{changed_by, data_of}
@@ -79,3 +81,19 @@ pub record Executes (keeps : Bool) (old new : Served) (connection count count' :
   pub no_rows : keeps ≡ false → new.rows ≡ []
   -- after Lost every command is lost at once
   pub stays_lost : old.lost ≡ true → (done ≡ Lost) × (new ≡ old)
+
+-- What `tidy` does: one step of the disk's tidying. It adds no row, and keeps the contents and all that was recorded.
+pub record Tidied (old new : Served) (result : Result Bool DiskError) : Type 0 where
+  pub rows : new.rows ≡ old.rows
+  pub base : new.base ≡ old.base
+  pub interrupted : new.interrupted ≡ old.interrupted
+  pub given : new.given ≡ old.given
+  pub sound : new.disk.sound ≡ old.disk.sound
+  pub goes : Goes old.disk new.disk
+  -- false only where nothing is left to tidy, true only where less is left
+  pub work : Tidies old.disk.work result new.disk.work
+  pub contents : OnOk result (old.disk.sound ≡ true → new.disk.contents ≡ old.disk.contents)
+  pub ok : OnOk result (IsReady old.disk × IsReady new.disk × (new.lost ≡ old.lost))
+  -- after a Cut every later command is lost
+  pub cut : IsErrOf result Cut → ((old.disk.cut ≡ true) ⊎ (old.disk.cuts < new.disk.cuts)) × (new.disk.cut ≡ true) × (new.lost ≡ true)
+  pub slow : IsErrOf result Slow → ((old.disk.slow ≡ true) ⊎ (old.disk.slows < new.disk.slows)) × (new.disk.slow ≡ true) × (new.lost ≡ old.lost)

@@ -8,6 +8,7 @@ pub use Rattle.nbd_wire.specs.Standing
 pub use Rattle.nbd_transmission.specs.Apply
 pub use Rattle.nbd_transmission.specs.Taking
 pub mod Seat
+pub mod Recorded
 pub mod Lent
 pub mod History
 pub mod State

@@ -26,7 +26,8 @@ pub trait Gate {
 
 /// Where commands are executed.
 pub trait Door<L: OneServer> {
-    ghost use Rattle.std.specs.Prelude.{ℕ, List, Bool};
+    ghost use Rattle.std.specs.Prelude.{ℕ, List, Bool, Result};
+    ghost use Rattle.block_device.specs.declared.disk.DiskError.{DiskError};
     ghost use Rattle.nbd_wire.specs.declared.command.Command.{Command};
     ghost use Rattle.share.specs.declared.shared.Done.{Done};
     ghost use Rattle.share.specs.Promise.{Promise};
@@ -38,6 +39,9 @@ pub trait Door<L: OneServer> {
     /// after, the command, the lent bytes, and what became of it.
     ghost executes: { Self → Self → ℕ → ℕ → ℕ → Command → List ℕ → Done → Type 0 };
 
+    /// What `tidy` does, from a door to the door after it, by its answer.
+    ghost tidies: { Self → Self → Result Bool DiskError → Type 0 };
+
     /// Executes one command that the request table accepts, over the bytes that are lent to it.
     fn execute<'a>(&mut self, pass: &mut Pass<L>, command: &Command, data: &'a mut [u8]) -> Done<'a>
         requires accepted { judge_of command.now L.sectors ≡ None }
@@ -46,16 +50,19 @@ pub trait Door<L: OneServer> {
         ensures executes { executes self.old self.new pass.old.connection pass.old.count pass.new.count command.now «data».old result }
         ensures connection { pass.new.connection ≡ pass.old.connection };
 
-    /// One step of tidying.
-    fn tidy(&mut self) -> Result<bool, DiskError>;
+    /// One step of the disk's tidying.
+    fn tidy(&mut self) -> Result<bool, DiskError>
+        ensures { tidies self.old self.new result };
 }
 
 impl<D: Disk, R: Recorder, L: OneServer> Door<L> for Shared<D, R, L> {
-    ghost use Rattle.share.specs.Doing.{Executes};
+    ghost use Rattle.share.specs.Doing.{Executes, Tidied};
 
     ghost keeps = { R.KEEPS };
 
     ghost executes = { λ old new connection count count' command bytes done. Executes R.KEEPS old new connection count count' command bytes done };
+
+    ghost tidies = { λ old new result. Tidied old new result };
 
     fn execute<'a>(
         &mut self,

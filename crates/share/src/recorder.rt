@@ -141,13 +141,29 @@ pub struct FullRecord {
     rows: Vec<Row>,
     spare: Vec<u8>,
     interrupted: Option<Interrupted>,
-    ghost spare_is_empty: { vec_len spare ≡ 0 },
+}
+
+impl Model for FullRecord {
+    ghost use Rattle.std.specs.Prelude.{◌≡◌, ◌-◌, vec_len, vec_capacity};
+    ghost use Rattle.share.specs.Recorded.{Recorded};
+
+    ghost Value = { Recorded };
+
+    ghost view = { λ r. record {
+      base = r.base;
+      rows = r.rows.items;
+      interrupted = r.interrupted;
+      places = vec_capacity r.rows - vec_len r.rows;
+      bytes = vec_capacity r.spare;
+    } };
+
+    ghost invariant = { λ r. vec_len r.spare ≡ 0 };
 }
 
 impl FullRecord {
     pub(crate) fn new(alloc: Global, base: Bytes) -> FullRecord
         ensures base { result.base ≡ base }
-        ensures rows { result.rows.items ≡ [] }
+        ensures rows { result.rows ≡ [] }
         ensures interrupted { result.interrupted ≡ None }
     {
         FullRecord {
@@ -160,7 +176,7 @@ impl FullRecord {
     }
 
     pub(crate) fn rows(&self) -> &[Row]
-        ensures { result.now ≡ self.now.rows.items }
+        ensures { result.now ≡ self.now.rows }
     {
         self.rows.as_slice()
     }
@@ -206,17 +222,17 @@ fn parts(
 }
 
 impl Recorder for FullRecord {
-    ghost use Rattle.std.specs.Prelude.{true, ◌<◌, ◌≤◌, vec_len, vec_capacity};
+    ghost use Rattle.std.specs.Prelude.{true, ◌<◌, ◌≤◌};
 
     ghost KEEPS = { true };
 
     ghost base = { λ r. r.base };
 
-    ghost rows = { λ r. r.rows.items };
+    ghost rows = { λ r. r.rows };
 
     ghost interrupted = { λ r. r.interrupted };
 
-    ghost room = { λ r n. (vec_len r.rows < vec_capacity r.rows) × (n ≤ vec_capacity r.spare) };
+    ghost room = { λ r n. (0 < r.places) × (n ≤ r.bytes) };
 
     ghost nothing = { λ r h. Prim.cc };
 

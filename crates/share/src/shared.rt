@@ -176,7 +176,7 @@ impl<D: Disk, L: OneServer> Shared<D, FullRecord, L> {
 }
 
 impl<D: Disk, R: Recorder, L: OneServer> Shared<D, R, L> {
-    ghost use Rattle.share.specs.Doing.{Executes};
+    ghost use Rattle.share.specs.Doing.{Executes, Tidied};
 
     /// Runs one command that the request table accepts, over the bytes that are lent to it: a WRITE's
     /// payload, the room for a READ's data, none for a FLUSH. The memory of the row comes first: where
@@ -224,15 +224,7 @@ impl<D: Disk, R: Recorder, L: OneServer> Shared<D, R, L> {
     /// One step of tidying. It adds no row and keeps the contents; false says that nothing was left to
     /// tidy, true that less is left. After a Cut every later command is lost.
     pub fn tidy(&mut self) -> Result<bool, DiskError>
-        ensures rows { (self.new.rows ≡ self.old.rows) × (self.new.base ≡ self.old.base) × (self.new.interrupted ≡ self.old.interrupted) }
-        ensures given { self.new.given ≡ self.old.given }
-        ensures sound { self.new.disk.sound ≡ self.old.disk.sound }
-        ensures goes { Goes self.old.disk self.new.disk }
-        ensures work { Tidies self.old.disk.work result self.new.disk.work }
-        ensures contents { OnOk result (self.old.disk.sound ≡ true → self.new.disk.contents ≡ self.old.disk.contents) }
-        ensures ok { OnOk result ((self.old.disk.cut ≡ false) × (self.old.disk.slow ≡ false) × (self.new.disk.cut ≡ false) × (self.new.disk.slow ≡ false) × (self.new.lost ≡ self.old.lost)) }
-        ensures cut { IsErrOf result DiskError.Cut → ((self.old.disk.cut ≡ true) ⊎ (self.old.disk.cuts < self.new.disk.cuts)) × (self.new.disk.cut ≡ true) × (self.new.lost ≡ true) }
-        ensures slow { IsErrOf result DiskError.Slow → ((self.old.disk.slow ≡ true) ⊎ (self.old.disk.slows < self.new.disk.slows)) × (self.new.disk.slow ≡ true) × (self.new.lost ≡ self.old.lost) }
+        ensures { Tidied self.old self.new result }
     {
         let result = self.disk.tidy();
         if let Err(DiskError::Cut) = result {
