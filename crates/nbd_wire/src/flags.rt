@@ -7,6 +7,8 @@ ghost use Rattle.std.specs.Prelude.{⊤, [], ◌∷◌, codes};
 use bitflags::{Flag, Flags, bitflag_items};
 
 /// The flags of a command: 16 bits of a request's head. Source: NBD proto.md.
+///
+/// Bit 0, FUA: what is written is on the chip before the reply. Bit 1, NO_HOLE: belongs to a command that is not served.
 #[derive(Clone, Copy, PartialEq, Eq, Debug)]
 pub struct CommandFlags(u16);
 
@@ -40,6 +42,8 @@ impl Flags for CommandFlags {
 }
 
 /// The flags of the negotiation, of the server in its greeting (16 bits) and of the client (32 bits). Source: NBD proto.md.
+///
+/// Bit 0, FIXED_NEWSTYLE: options that are not known are answered. Bit 1, NO_ZEROES: the answer to EXPORT_NAME ends without zeroes.
 #[derive(Clone, Copy, PartialEq, Eq, Debug)]
 pub struct HandshakeFlags(u32);
 
@@ -73,6 +77,9 @@ impl Flags for HandshakeFlags {
 }
 
 /// The transmission flags, which tell the client what the server serves: 16 bits. Source: NBD proto.md.
+///
+/// Bit 0, HAS_FLAGS: always set. Bits 2, 3, 5 and 6: FLUSH, FUA, TRIM and WRITE_ZEROES may be sent. Bit 8, CAN_MULTI_CONN: what one
+/// connection wrote and flushed is seen by all.
 #[derive(Clone, Copy, PartialEq, Eq, Debug)]
 pub struct TransmissionFlags(u16);
 
