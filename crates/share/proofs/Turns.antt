@@ -11,11 +11,12 @@ use Rattle.nbd_wire.specs.Units.{IsPartial, IsUnit, Splits, after}
 use Rattle.nbd_wire.proofs.UnitLaws.{Splits_more, Splits_unit, partial_nil}
 use Rattle.nbd_transmission.specs.Taking.{answer_to}
 use Rattle.nbd_transmission.specs.declared.transmission.Next.TheVariants.{Run}
+use Rattle.share.specs.declared.connection.End.{End}
 use Rattle.share.specs.declared.connection.End.TheVariants.{Closed as ClosedEnd, EndOfInput, Input, Output, Lost as LostEnd, OutOfMemory}
 use Rattle.share.specs.declared.connection.Turn.{Turn}
 use Rattle.share.specs.declared.connection.Turn.TheVariants.{Waits, Answered, Closes, OutputFails, Loses}
 use Rattle.share.specs.declared.shared.Done.{Done}
-use Rattle.share.specs.Exchange.{AnsweredBy, Over, Runs, Taken, TurnedBy, Underway}
+use Rattle.share.specs.Exchange.{AnsweredBy, EndsBy, Over, Runs, Taken, TurnedBy, Underway}
 use Rattle.share.specs.Intake.{HoldsRest, Stored}
 
 -- the same units, at a door and a count that are equal
@@ -141,9 +142,9 @@ over-lost ex keeps n conn s t u k m j text out x d all stored first old new c w 
 }
 
 -- no more bytes come
-pub over-input : {S : Type 0} (ex : S → S → ℕ → ℕ → ℕ → Command → List ℕ → Done → Type 0) (keeps : Bool) (n conn : ℕ) (s t : S) (k m : ℕ) (text out : List ℕ) (stored : Stored) (first new : Option (List ℕ))
-    → Underway ex keeps n conn s t k m text out stored → Appends first new out → Over ex keeps n conn s t k m text first new Input
-over-input ex keeps n conn s t k m text out stored first new w one = record {
+over-still : {S : Type 0} (ex : S → S → ℕ → ℕ → ℕ → Command → List ℕ → Done → Type 0) (keeps : Bool) (n conn : ℕ) (s t : S) (k m : ℕ) (text out : List ℕ) (stored : Stored) (first new : Option (List ℕ)) (end : End)
+    (w : Underway ex keeps n conn s t k m text out stored) → Appends first new out → EndsBy ex n conn t t m m w.units Transmitting [] w.rest [] end → Over ex keeps n conn s t k m text first new end
+over-still ex keeps n conn s t k m text out stored first new end w one ends = record {
   units = w.units;
   rest = w.rest;
   dropped = [];
@@ -157,27 +158,18 @@ over-input ex keeps n conn s t k m text out stored first new w one = record {
   split = w.split;
   runs = subst (λ (y : List ℕ). Runs ex keeps n conn s k w.units y t m) (sym (append-nil out)) w.runs;
   wrote = one;
-  ends = (refl, refl, refl, (refl, refl));
+  ends = ends;
 }
+
+pub over-input : {S : Type 0} (ex : S → S → ℕ → ℕ → ℕ → Command → List ℕ → Done → Type 0) (keeps : Bool) (n conn : ℕ) (s t : S) (k m : ℕ) (text out : List ℕ) (stored : Stored) (first new : Option (List ℕ))
+    → Underway ex keeps n conn s t k m text out stored → Appends first new out → Over ex keeps n conn s t k m text first new Input
+over-input ex keeps n conn s t k m text out stored first new w one =
+    over-still ex keeps n conn s t k m text out stored first new Input w one (refl, refl, refl, (refl, refl))
 
 pub over-end : {S : Type 0} (ex : S → S → ℕ → ℕ → ℕ → Command → List ℕ → Done → Type 0) (keeps : Bool) (n conn : ℕ) (s t : S) (k m : ℕ) (text out : List ℕ) (stored : Stored) (first new : Option (List ℕ))
     → Underway ex keeps n conn s t k m text out stored → Appends first new out → Over ex keeps n conn s t k m text first new EndOfInput
-over-end ex keeps n conn s t k m text out stored first new w one = record {
-  units = w.units;
-  rest = w.rest;
-  dropped = [];
-  phase = Transmitting;
-  sent = out;
-  unsent = [];
-  cut = text;
-  mid = t;
-  between = m;
-  text_is = sym (append-nil text);
-  split = w.split;
-  runs = subst (λ (y : List ℕ). Runs ex keeps n conn s k w.units y t m) (sym (append-nil out)) w.runs;
-  wrote = one;
-  ends = (refl, refl, refl, (refl, refl));
-}
+over-end ex keeps n conn s t k m text out stored first new w one =
+    over-still ex keeps n conn s t k m text out stored first new EndOfInput w one (refl, refl, refl, (refl, refl))
 
 -- there was no memory, and nothing was read
 pub over-nothing : {S : Type 0} (ex : S → S → ℕ → ℕ → ℕ → Command → List ℕ → Done → Type 0) (keeps : Bool) (n conn : ℕ) (s : S) (k : ℕ) (old : Option (List ℕ))
