@@ -16,13 +16,13 @@ abbrev pub IsFault : {T : Type 0} → Fault → Result T Fault → Type 0
 IsFault fault (Ok _) = ⊥
 IsFault fault (Err e) = e ≡ fault
 
--- what the end of a connection means for the program: a close and the end of the input are no faults
+-- what the end of a connection means for the program: a close and the end of the input are no faults; a loss can't come
 abbrev pub Means : {T : Type 0} → End → Result T Fault → Type 0
 Means Closed result = IsDone result
 Means EndOfInput result = IsDone result
 Means Input result = IsFault InputFailed result
 Means Output result = IsFault OutputFailed result
-Means Lost result = IsFault NoMemory result
+Means Lost result = ⊥
 Means OutOfMemory result = IsFault NoMemory result
 
 -- A read failed, or 2^64 - 1 bytes were read.

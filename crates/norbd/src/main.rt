@@ -12,22 +12,25 @@
 ghost use Rattle.std.specs.Prelude.{◌≡◌, ◌<◌};
 
 mod run;
+#[cfg(test)]
+mod tests;
 
 use block_device::Io;
 use norbd_line::{Fault, Line, read_line};
 use std::alloc::Global;
+use std::io::ErrorKind;
 use std::marker::Brand;
 use std::process::ExitCode;
 use std::sync::ledger::{Blank, Ledger};
 
-/// The program's words, or none where they can't be had: the line is then a bad one.
-fn words_of(rt: &HostRuntime, alloc: Global) -> Vec<String> {
-    let Ok(args) = std::env::args(rt) else {
-        return Vec::new(alloc);
-    };
-    match args.collect::<Vec<String>>(alloc) {
-        Ok(words) => words,
-        Err(_) => Vec::new(alloc),
+/// The program's words, or none where one isn't text (UTF-8): the line is then a bad one. `NoMemory` where memory ran out.
+fn words_of(rt: &HostRuntime, alloc: Global) -> Result<Vec<String>, Fault> {
+    match std::env::args(rt) {
+        Ok(words) => words
+            .collect::<Vec<String>>(alloc)
+            .map_err(|_| Fault::NoMemory),
+        Err(error) if error.kind() == ErrorKind::OutOfMemory => Err(Fault::NoMemory),
+        Err(_) => Ok(Vec::new(alloc)),
     }
 }
 
@@ -57,13 +60,15 @@ fn tell(rt: &HostRuntime, fault: &Fault) -> ExitCode {
     ExitCode::from(fault.status())
 }
 
+/// Reads the program's words and does their line.
+fn run_words(rt: &HostRuntime) -> Result<(), Fault> {
+    let words = words_of(rt, rt.alloc())?;
+    let line = read_line(rt.alloc(), words.as_slice())?;
+    run_standard::<Brand, Brand>(rt, line, Blank::new(1), Blank::new(1))
+}
+
 fn main(rt: HostRuntime) -> ExitCode {
-    let words = words_of(&rt, rt.alloc());
-    let done = match read_line(rt.alloc(), words.as_slice()) {
-        Ok(line) => run_standard::<Brand, Brand>(&rt, line, Blank::new(1), Blank::new(1)),
-        Err(fault) => Err(fault),
-    };
-    match done {
+    match run_words(&rt) {
         Ok(()) => ExitCode::SUCCESS,
         Err(fault) => tell(&rt, &fault),
     }

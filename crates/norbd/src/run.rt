@@ -1,5 +1,5 @@
 //! What a line asks, over any reader and writer.
-ghost use Rattle.std.specs.Prelude.{◌≡◌, ℕ, List, Some};
+ghost use Rattle.std.specs.Prelude.{◌≡◌, ◌≢◌, ℕ, List, Some};
 ghost use Rattle.norbd.specs.Outcomes.{Ended, Means};
 ghost use Rattle.norbd.specs.Serving.{Serves, sectors_of};
 
@@ -83,9 +83,9 @@ fn run_plain<L: OneServer, S: Source, K: Sink>(
     outcome(end)
 }
 
-// What the end of a connection to a disk in memory means for the program. Such a disk loses no command to a power loss,
-// so `Lost` can't come; it needs some fault, and answers `NoMemory`.
+// What the end of a connection to a disk in memory means for the program: such a disk loses no command to a power loss.
 fn outcome(end: End) -> Result<(), Fault>
+    requires { end ≢ End.Lost }
     ensures { Means end result }
 {
     match end {
@@ -93,7 +93,7 @@ fn outcome(end: End) -> Result<(), Fault>
         End::EndOfInput => Ok(()),
         End::Input => Err(Fault::InputFailed),
         End::Output => Err(Fault::OutputFailed),
-        End::Lost => Err(Fault::NoMemory),
+        End::Lost => unreachable!(),
         End::OutOfMemory => Err(Fault::NoMemory),
     }
 }
