@@ -1,0 +1,305 @@
+ghost use Rattle.std.specs.Prelude.{◌≡◌, ◌*◌, ◌<◌, length};
+ghost use Rattle.share.specs.Lent.{lent_len};
+
+use super::*;
+use block_device::{Disk, DiskError, FixedIn, FixedOut, PlainDisk, Tally};
+use nbd_transmission::judge;
+use nbd_wire::{Command, CommandFlags, CommandKind};
+use std::alloc::Global;
+use std::marker::Brand;
+use std::process::Abort;
+use std::sync::ledger::{Blank, Ledger};
+use std::test::*;
+
+// READ of 512 bytes from 512 on, with the cookie 0102030405060708h.
+const READ_OF_SECTOR_1: [u8; 28] = [
+    0x25, 0x60, 0x95, 0x13, 0, 0, 0, 0, 1, 2, 3, 4, 5, 6, 7, 8, 0, 0, 0, 0, 0, 0, 2, 0, 0, 0, 2, 0,
+];
+
+// The head of its reply: the magic, no error, and the cookie.
+const HEAD_OF_REPLY: [u8; 16] = [0x67, 0x44, 0x66, 0x98, 0, 0, 0, 0, 1, 2, 3, 4, 5, 6, 7, 8];
+
+// A gate that takes no time.
+#[derive(Drop)]
+struct OpenGate;
+
+impl Gate for OpenGate {
+    fn pass(&mut self, _point: Point) {}
+}
+
+// A disk of two sectors whose chip never ends a write.
+#[derive(Drop)]
+struct StuckDisk<L: Ledger> {
+    is_slow: bool,
+    slows: Tally<L>,
+}
+
+impl<L: Ledger> Disk for StuckDisk<L> {
+    ghost use Rattle.std.specs.Prelude.{false, replicate};
+
+    ghost facts = { λ disk. record {
+      sound = false;
+      contents = replicate 1024 0;
+      cuts = 0;
+      slows = disk.slows;
+      cut = false;
+      slow = disk.is_slow;
+      work = 0;
+    } };
+
+    fn sectors(&self) -> u32 {
+        2
+    }
+
+    fn read(&mut self, _first: u32, _into: &mut [u8]) -> Result<(), DiskError> {
+        if self.is_slow {
+            Err(DiskError::Slow)
+        } else {
+            Ok(())
+        }
+    }
+
+    fn write(&mut self, _first: u32, _from: &[u8]) -> Result<(), DiskError> {
+        self.slows.tick();
+        self.is_slow = true;
+        Err(DiskError::Slow)
+    }
+
+    fn flush(&mut self) -> Result<(), DiskError> {
+        Ok(())
+    }
+
+    fn tidy(&mut self) -> Result<bool, DiskError> {
+        if self.is_slow {
+            Err(DiskError::Slow)
+        } else {
+            Ok(false)
+        }
+    }
+
+    fn restore(&mut self) -> Result<(), DiskError> {
+        self.is_slow = false;
+        Ok(())
+    }
+
+    fn arm(&mut self, _count: u32, _kind: u8, _mask: u8) {}
+}
+
+fn command(kind: CommandKind, offset: u64, length: u32) -> Command
+    ensures kind { result.kind ≡ kind }
+    ensures length { result.length ≡ length }
+{
+    Command {
+        kind,
+        flags: CommandFlags::FUA,
+        cookie: 7,
+        offset,
+        length,
+    }
+}
+
+// The error that answers a command.
+fn error_of<D: Disk, R: Recorder, L: OneServer, A: Abort>(
+    rt: &A,
+    server: &mut Shared<D, R, L>,
+    pass: &mut Pass<L>,
+    command: &Command,
+    bytes: &mut [u8],
+) -> u32
+    requires { length bytes.old ≡ lent_len command.now }
+{
+    assert_eq!(rt; judge(command, pass.sectors()), None);
+    match server.execute(pass, command, bytes) {
+        Done::Replied(answer) => answer.error(),
+        Done::Lost => panic!(rt; "no power was lost"),
+    }
+}
+
+// A WRITE to sector 1, a READ of it and a FLUSH, on the second of two connections.
+fn run_three<R: Recorder, L: OneServer, A: Abort>(
+    rt: &A,
+    alloc: Global,
+    server: &mut Shared<PlainDisk, R, L>,
+    rows: u64,
+) -> Result<(), Fail> {
+    let first = server.pass().expect(rt, "the first pass");
+    let mut pass = server.pass().expect(rt, "the second pass");
+    assert_eq!(rt; first.connection(), 0);
+    assert_eq!(rt; pass.connection(), 1);
+    let mut payload = vec![in alloc; 0x11u8; 512]?;
+    let mut content = vec![in alloc; 0u8; 512]?;
+    let write = command(CommandKind::Write, 512, 512);
+    let read = command(CommandKind::Read, 512, 512);
+    let flush = command(CommandKind::Flush, 0, 0);
+    assert_eq!(rt;
+        error_of(rt, server, &mut pass, &write, payload.as_mut_slice()),
+        0
+    );
+    assert_eq!(rt;
+        error_of(rt, server, &mut pass, &read, content.as_mut_slice()),
+        0
+    );
+    assert_eq!(rt; error_of(rt, server, &mut pass, &flush, &mut []), 0);
+    assert_eq!(rt; content.as_slice(), payload.as_slice());
+    assert_eq!(rt; pass.count(), rows);
+    assert_eq!(rt; server.tidy(), Ok(false));
+    Ok(())
+}
+
+#[test]
+fn a_recording_server_counts_its_rows(rt: HostRuntime) -> Result<(), Fail> {
+    let disk = PlainDisk::new(rt.alloc(), 2)?;
+    record_three::<Brand, _>(&rt, rt.alloc(), disk, 2, Blank::new(65537))
+}
+
+fn record_three<L: OneServer, A: Abort>(
+    rt: &A,
+    alloc: Global,
+    disk: PlainDisk,
+    sectors: u32,
+    blank: Blank,
+) -> Result<(), Fail>
+    requires size { length disk ≡ 512 * sectors }
+    requires sectors { sectors ≡ L.sectors }
+    requires name { blank.name ≡ L.name }
+    requires parts { blank.parts ≡ L.parts }
+    requires all { blank.parts ≡ 65537 }
+{
+    match Shared::<PlainDisk, FullRecord, L>::recording(alloc, disk, blank) {
+        Ok(mut server) => run_three(rt, alloc, &mut server, 3),
+        Err((error, _)) => panic!(rt; "a recording server: {error:?}"),
+    }
+}
+
+#[test]
+fn a_server_without_rows_counts_none(rt: HostRuntime) -> Result<(), Fail> {
+    let disk = PlainDisk::new(rt.alloc(), 2)?;
+    serve_three::<Brand, _>(&rt, rt.alloc(), disk, 2, Blank::new(65537))
+}
+
+fn serve_three<L: OneServer, A: Abort>(
+    rt: &A,
+    alloc: Global,
+    disk: PlainDisk,
+    sectors: u32,
+    blank: Blank,
+) -> Result<(), Fail>
+    requires size { length disk ≡ 512 * sectors }
+    requires sectors { sectors ≡ L.sectors }
+    requires name { blank.name ≡ L.name }
+    requires parts { blank.parts ≡ L.parts }
+    requires all { blank.parts ≡ 65537 }
+{
+    let mut server = Shared::<PlainDisk, NoRecord, L>::new(disk, blank);
+    run_three(rt, alloc, &mut server, 0)
+}
+
+#[test]
+fn a_read_on_the_wire_is_answered(rt: HostRuntime) -> Result<(), Fail> {
+    let disk = PlainDisk::new(rt.alloc(), 2)?;
+    read_and_close::<Brand, Brand, _>(&rt, rt.alloc(), disk, 2, Blank::new(65537), Blank::new(1))
+}
+
+// The first connection asks for sector 1 and ends; the second begins with 28 bytes of zeros.
+fn read_and_close<L: OneServer, M: Ledger, A: Abort>(
+    rt: &A,
+    alloc: Global,
+    disk: PlainDisk,
+    sectors: u32,
+    blank: Blank,
+    tally: Blank,
+) -> Result<(), Fail>
+    requires size { length disk ≡ 512 * sectors }
+    requires sectors { sectors ≡ L.sectors }
+    requires name { blank.name ≡ L.name }
+    requires parts { blank.parts ≡ L.parts }
+    requires all { blank.parts ≡ 65537 }
+    requires tally_name { tally.name ≡ M.name }
+    requires tally_parts { tally.parts ≡ M.parts }
+    requires some { 0 < M.parts }
+{
+    let mut server = Shared::<PlainDisk, NoRecord, L>::new(disk, blank);
+    let first = server.pass().expect(rt, "the first pass");
+    let second = server.pass().expect(rt, "the second pass");
+    let mut room = vec![in alloc; 0xffu8; 600]?;
+    let mut wanted = vec![in alloc; 0u8; 528]?;
+    wanted[..16].copy_from_slice(&HEAD_OF_REPLY);
+    let mut writer = FixedOut::<M>::new(room.as_mut_slice(), tally);
+    let mut reader = FixedIn::new(&READ_OF_SECTOR_1);
+    let (first, end) = exchange(
+        alloc,
+        &mut server,
+        first,
+        &mut reader,
+        &mut writer,
+        &mut OpenGate,
+    );
+    assert_eq!(rt; end, End::EndOfInput);
+    assert_eq!(rt; first.count(), 0);
+    assert_eq!(rt; writer.bytes(), wanted.as_slice());
+    let zeros = [0u8; 28];
+    let mut reader = FixedIn::new(&zeros);
+    let (_, end) = exchange_alone(
+        alloc,
+        &mut server,
+        second,
+        &mut reader,
+        &mut writer,
+        &mut OpenGate,
+    );
+    assert_eq!(rt; end, End::Closed);
+    assert_eq!(rt; writer.bytes(), wanted.as_slice());
+    Ok(())
+}
+
+#[test]
+fn a_slow_write_is_answered_eio(rt: HostRuntime) -> Result<(), Fail> {
+    write_slowly::<Brand, Brand, _>(&rt, rt.alloc(), 2, Blank::new(65537), Blank::new(1))
+}
+
+// EIO is 5 (NBD proto.md).
+fn write_slowly<L: OneServer, M: Ledger, A: Abort>(
+    rt: &A,
+    alloc: Global,
+    sectors: u32,
+    blank: Blank,
+    tally: Blank,
+) -> Result<(), Fail>
+    requires two { sectors ≡ 2 }
+    requires sectors { sectors ≡ L.sectors }
+    requires name { blank.name ≡ L.name }
+    requires parts { blank.parts ≡ L.parts }
+    requires all { blank.parts ≡ 65537 }
+    requires tally_name { tally.name ≡ M.name }
+    requires tally_parts { tally.parts ≡ M.parts }
+    requires some { 0 < M.parts }
+{
+    let disk = StuckDisk::<M> {
+        is_slow: false,
+        slows: Tally::new(tally),
+    };
+    let Ok(mut server) = Shared::<StuckDisk<M>, FullRecord, L>::recording(alloc, disk, blank) else {
+        panic!(rt; "a recording server");
+    };
+    let mut pass = server.pass().expect(rt, "the first pass");
+    let mut bytes = vec![in alloc; 0x11u8; 512]?;
+    let write = command(CommandKind::Write, 512, 512);
+    let read = command(CommandKind::Read, 512, 512);
+    let flush = command(CommandKind::Flush, 0, 0);
+    assert_eq!(rt;
+        error_of(rt, &mut server, &mut pass, &read, bytes.as_mut_slice()),
+        0
+    );
+    assert_eq!(rt;
+        error_of(rt, &mut server, &mut pass, &write, bytes.as_mut_slice()),
+        5
+    );
+    assert_eq!(rt;
+        error_of(rt, &mut server, &mut pass, &read, bytes.as_mut_slice()),
+        5
+    );
+    assert_eq!(rt; error_of(rt, &mut server, &mut pass, &flush, &mut []), 0);
+    assert_eq!(rt; pass.count(), 4);
+    assert_eq!(rt; server.tidy(), Err(DiskError::Slow));
+    Ok(())
+}
