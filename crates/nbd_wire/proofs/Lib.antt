@@ -3,3 +3,4 @@ pub mod Spelled
 pub mod UnitLaws
 pub mod StandingLaws
 pub mod CommandLaws
+pub mod BufferLaws

@@ -4,6 +4,7 @@
 //! `Reply::read` read exactly the heads whose magic is right, what they read is spelled by the bytes that were read,
 //! and what `write` wrote is read again. `Command::of` gives each number on the wire its one meaning. `one_cutting`:
 //! each text of a connection is cut into complete units and a rest in exactly one way, and more bytes only add units.
+//! `write_option_reply` writes the head and the content of a reply to an option, and no other byte.
 //!
 //! Left to the crates above: which requests are refused and how options are answered (their definitions stand here,
 //! `specs/Commands.antt` and `specs/Options.antt`, the code stands in `nbd_transmission` and `nbd_handshake`).
@@ -11,14 +12,17 @@
 //! Source: NBD proto.md; the limits on lengths and the one export `flash` are own.
 #![tactic(auto)]
 
+mod buffer;
 mod command;
 mod constants;
 mod flags;
 mod option;
+mod option_reply;
 mod phase;
 mod reply;
 mod request;
 
+pub use buffer::put;
 pub use command::{Command, CommandKind};
 pub use constants::{
     CLIENT_FLAGS_LEN, CMD_DISC, CMD_FLUSH, CMD_READ, CMD_TRIM, CMD_WRITE, CMD_WRITE_ZEROES, EINVAL,
@@ -32,6 +36,7 @@ pub use constants::{
 };
 pub use flags::{CommandFlags, HandshakeFlags, TransmissionFlags};
 pub use option::{OptionCase, OptionHead};
+pub use option_reply::write_option_reply;
 pub use phase::{Phase, one_cutting};
 pub use reply::Reply;
 pub use request::Request;

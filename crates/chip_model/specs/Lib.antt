@@ -1,0 +1,11 @@
+pub use Rattle.sfdp.specs.Params
+pub mod Memory
+pub mod Parts
+pub mod Chip
+pub mod Frames
+pub mod Cut
+pub mod Geometry
+pub mod BitLaws
+pub mod MemoryLaws
+pub mod PartLaws
+pub mod FrameLaws

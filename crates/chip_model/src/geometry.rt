@@ -1,0 +1,61 @@
+ghost use Rattle.std.specs.Prelude.{◌≡◌, ◌+◌, ◌≤◌, ◌↔◌, IsSome, IfSome};
+ghost use Rattle.chip_model.specs.Geometry.{IsChipSize, block_count, group_count, sector_count};
+
+/// The counts of a chip that is laid out as a disk.
+#[derive(Clone, Copy, Debug, PartialEq, Eq)]
+pub struct Geometry {
+    /// Blocks of 4,096 bytes, from 16 to 4,096: the superblock, three journals and the data blocks.
+    pub blocks: u16,
+    /// Groups of seven sectors, from 10 to 3,580.
+    pub groups: u16,
+    /// Sectors of 512 bytes, from 70 to 25,060.
+    pub sectors: u32,
+}
+
+impl Geometry {
+    /// The counts for a chip of so many bytes; `None` where that isn't a multiple of 64 KiB from 64 KiB to 16 MiB.
+    ///
+    /// Two data blocks at least stay free of groups.
+    pub fn of(bytes: u32) -> Option<Geometry>
+        ensures some { IsSome result ↔ IsChipSize bytes }
+        ensures blocks { IfSome result (λ g. g.blocks ≡ block_count bytes) }
+        ensures groups { IfSome result (λ g. g.groups ≡ group_count bytes) }
+        ensures sectors { IfSome result (λ g. g.sectors ≡ sector_count bytes) }
+        ensures spare { IfSome result (λ g. g.groups + 2 + 4 ≤ g.blocks) }
+    {
+        if bytes % 65_536 != 0 || bytes < 65_536 || bytes > 16_777_216 {
+            return None;
+        }
+        let blocks = bytes / 4_096;
+        let groups = 7 * (blocks - 4) / 8;
+        Some(Geometry {
+            blocks: blocks as u16,
+            groups: groups as u16,
+            sectors: 7 * groups,
+        })
+    }
+}
+
+#[cfg(test)]
+mod tests {
+    use super::*;
+
+    #[test]
+    fn the_smallest_and_the_largest_chip(rt: HostRuntime) {
+        let smallest = Geometry {
+            blocks: 16,
+            groups: 10,
+            sectors: 70,
+        };
+        let largest = Geometry {
+            blocks: 4_096,
+            groups: 3_580,
+            sectors: 25_060,
+        };
+        assert_eq!(rt; Geometry::of(65_536), Some(smallest));
+        assert_eq!(rt; Geometry::of(16_777_216), Some(largest));
+        for bytes in [0, 4_096, 70_000, 16_842_752] {
+            assert_eq!(rt; Geometry::of(bytes), None, "{bytes} bytes");
+        }
+    }
+}

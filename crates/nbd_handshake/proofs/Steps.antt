@@ -1,0 +1,90 @@
+-- A call of the negotiation on the unit begun, and what it says of whole texts.
+use Rattle.std.proofs.Common.{◌≡◌, ℕ, ◌+◌, ◌<◌, ◌≤◌, min, List, [], ◌∷◌, ◌++◌, length, take, drop, refl, sym, ap, ◌∙◌, arith}
+use Rattle.std.proofs.lemmas.List.{take-append-drop, length-take}
+use Rattle.nbd_wire.specs.declared.phase.Phase.{Phase}
+use Rattle.nbd_wire.specs.declared.phase.Phase.TheVariants.{AwaitingFlags, Negotiating, Transmitting, Closed}
+use Rattle.nbd_wire.specs.Units.{head_len, tail_len, IsOpen, IsUnit, after, Splits}
+use Rattle.nbd_wire.specs.Standing.{Held, Keeps, StandsFor, Waits, Completes}
+use Rattle.nbd_wire.proofs.UnitLaws.{tail_front, short_is_partial, Splits_more, Splits_unit}
+use Rattle.nbd_wire.proofs.StandingLaws.{holds_the_rest, stands_waiting, stands_completed}
+use Rattle.nbd_handshake.specs.declared.handshake.Next.{Next}
+use Rattle.nbd_handshake.specs.declared.handshake.Next.TheVariants.{More, Stay, Transmit, Close}
+use Rattle.nbd_handshake.specs.Negotiating.{IsNegotiation, next_of, reply_to}
+use Rattle.nbd_handshake.specs.Standing.{IsAnswered, Advances, OneMore, NextOrMore, Answers}
+
+pub head_range : (p : Phase) → IsNegotiation p → (0 < head_len p) × (head_len p ≤ 16)
+head_range AwaitingFlags _ = (omega arith, omega arith)
+head_range (Negotiating no_zeroes) _ = (omega arith, omega arith)
+head_range Transmitting negotiation = absurd negotiation
+head_range Closed negotiation = absurd negotiation
+
+pub is_open : (p : Phase) → IsNegotiation p → IsOpen p
+is_open AwaitingFlags _ = tt
+is_open (Negotiating no_zeroes) _ = tt
+is_open Transmitting negotiation = absurd negotiation
+is_open Closed negotiation = absurd negotiation
+
+pub not_closed : (p : Phase) → IsNegotiation p → p ≡ Closed → ⊥
+not_closed p negotiation e = rw e at negotiation
+
+-- a head tells the tail, whatever stands behind it
+pub tail_of_front : (p : Phase) (j : ℕ) (a b : List ℕ) → head_len p ≤ j → j ≤ length a → j ≤ length b → take j a ≡ take j b → tail_len p a ≡ tail_len p b
+tail_of_front p j a b le in_a in_b same =
+    let left : tail_len p a ≡ tail_len p (take j a) = ap (tail_len p) (sym (take-append-drop j a)) ∙ tail_front p (take j a) (drop j a) (omega (arith, length-take j a)) in
+    let right : tail_len p b ≡ tail_len p (take j b) = ap (tail_len p) (sym (take-append-drop j b)) ∙ tail_front p (take j b) (drop j b) (omega (arith, length-take j b)) in
+    left ∙ ap (tail_len p) same ∙ sym right
+
+-- the tail that a kept head tells stays when more is kept
+pub tail_stays : (p : Phase) (count : ℕ) (buffer grown : List ℕ) → length buffer ≡ 8208 → length grown ≡ 8208 → head_len p ≤ 16 → head_len p ≤ count → take (min count (length buffer)) grown ≡ take (min count (length buffer)) buffer → tail_len p grown ≡ tail_len p buffer
+tail_stays p count buffer grown size sized small whole same = tail_of_front p (min count (length buffer)) grown buffer (omega arith) (omega arith) (omega arith) same
+
+-- ---- the exits
+
+pub waits : (old new : Held) (rest : List ℕ) → new.phase ≡ old.phase → (head_len old.phase ≤ length rest → length rest < head_len old.phase + tail_len old.phase rest) → Keeps 8208 new rest → Waits 8208 old rest new
+waits old new rest same short keeps = record { partial = short_is_partial old.phase rest short; phase = same; keeps = keeps }
+
+answered : (old : Held) (unit : List ℕ) (q : Phase) (reply : List ℕ) (new : Held) → IsAnswered old unit (next_of q) reply new → Advances old unit (next_of q) reply new
+answered old unit AwaitingFlags reply new h = h
+answered old unit (Negotiating no_zeroes) reply new h = h
+answered old unit Transmitting reply new h = h
+answered old unit Closed reply new h = h
+
+pub completes : (old new : Held) (unit : List ℕ) (next : Next) (reply : List ℕ) → next ≡ next_of new.phase → IsUnit old.phase unit → reply ≡ reply_to old.sectors old.phase unit → new.phase ≡ after old.phase unit → Keeps 8208 new [] → Advances old unit next reply new
+completes old new unit next reply next-is is_unit reply-is phase keeps =
+    rw next-is (answered old unit new.phase reply new record {
+      completes = record { is_unit = is_unit; phase = phase; keeps = keeps };
+      next_is = ap next_of phase;
+      reply_is = reply-is;
+    })
+
+-- ---- whole texts
+
+pub answers_from_step : (start : Phase) (old new : Held) (text used : List ℕ) (next : Next) (reply : List ℕ) → IsNegotiation old.phase → StandsFor 8208 start old text
+    → ((rest : List ℕ) → Keeps 8208 old rest → Advances old (rest ++ used) next reply new) → Answers start old.sectors old.phase text (text ++ used) next reply
+answers_from_step start old new text used next reply negotiation stands step units rest split =
+    by_next next (step rest (holds_the_rest 8208 start old text units rest (not_closed old.phase negotiation) stands split))
+  where
+    one_more : (n : Next) → IsAnswered old (rest ++ used) n reply new → OneMore start old.sectors old.phase (text ++ used) n reply units
+    one_more n h = record {
+      unit = rest ++ used;
+      split = Splits_unit start text used units rest old.phase split h.completes.is_unit;
+      next_is = h.next_is;
+      reply_is = h.reply_is;
+    }
+
+    by_next : (n : Next) → Advances old (rest ++ used) n reply new → NextOrMore start old.sectors old.phase (text ++ used) n reply units
+    by_next More h = (rest ++ used, Splits_more start text used units rest old.phase split h.0.partial, h.1)
+    by_next Stay h = one_more Stay h
+    by_next Transmit h = one_more Transmit h
+    by_next Close h = one_more Close h
+
+pub stands_from_step : (start : Phase) (old new : Held) (text used : List ℕ) (next : Next) (reply : List ℕ) → IsNegotiation old.phase → (stands : StandsFor 8208 start old text)
+    → ((rest : List ℕ) → Keeps 8208 old rest → Advances old (rest ++ used) next reply new) → StandsFor 8208 start new (text ++ used)
+stands_from_step start old new text used next reply negotiation stands step =
+    by_next next (step stands.rest (stands.keeps (not_closed old.phase negotiation)))
+  where
+    by_next : (n : Next) → Advances old (stands.rest ++ used) n reply new → StandsFor 8208 start new (text ++ used)
+    by_next More h = stands_waiting 8208 start old new text used stands h.0
+    by_next Stay h = stands_completed 8208 start old new text used stands h.completes
+    by_next Transmit h = stands_completed 8208 start old new text used stands h.completes
+    by_next Close h = stands_completed 8208 start old new text used stands h.completes

@@ -1,0 +1,39 @@
+-- What the units of a negotiation are answered. Source: NBD proto.md; own is that flags that aren't known and a wrong magic close
+-- without a reply.
+use Rattle.std.specs.Prelude.{ℕ, ◌≡◌, ◌⊎◌, Bool, List, [], drop, Option, Some, None}
+use Rattle.nbd_wire.specs.declared.constants.TheConstants.{OPTION_LEN}
+use Rattle.nbd_wire.specs.declared.option.OptionHead.{OptionHead}
+use Rattle.nbd_wire.specs.declared.phase.Phase.{Phase}
+use Rattle.nbd_wire.specs.declared.phase.Phase.TheVariants.{AwaitingFlags, Negotiating, Transmitting, Closed}
+use Rattle.nbd_wire.specs.Options.{option_at, case_of, reply_in_case}
+use Rattle.nbd_handshake.specs.declared.handshake.Next.{Next}
+use Rattle.nbd_handshake.specs.declared.handshake.Next.TheVariants.{More, Stay, Transmit, Close}
+
+-- the client's flags or an option come next
+abbrev pub IsNegotiation : Phase → Type 0
+IsNegotiation AwaitingFlags = Unit {0}
+IsNegotiation (Negotiating no_zeroes) = Unit {0}
+IsNegotiation Transmitting = ⊥
+IsNegotiation Closed = ⊥
+
+abbrev pub IsOver : Phase → Type 0
+IsOver phase = (phase ≡ Transmitting) ⊎ (phase ≡ Closed)
+
+-- the reply to an option, by its content; none to a head whose magic is wrong
+abbrev pub reply_of : ℕ → Bool → Option OptionHead → List ℕ → List ℕ
+reply_of sectors no_zeroes None content = []
+reply_of sectors no_zeroes (Some o) content = reply_in_case (case_of o content) o.option no_zeroes sectors
+
+-- the reply to a unit, from a disk of so many sectors: none to the client's flags
+abbrev pub reply_to : ℕ → Phase → List ℕ → List ℕ
+reply_to sectors AwaitingFlags unit = []
+reply_to sectors (Negotiating no_zeroes) unit = reply_of sectors no_zeroes (option_at unit) (drop OPTION_LEN unit)
+reply_to sectors Transmitting unit = []
+reply_to sectors Closed unit = []
+
+-- what comes next where a unit led to this phase
+abbrev pub next_of : Phase → Next
+next_of AwaitingFlags = Stay
+next_of (Negotiating no_zeroes) = Stay
+next_of Transmitting = Transmit
+next_of Closed = Close

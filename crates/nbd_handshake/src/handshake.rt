@@ -1,0 +1,177 @@
+//! Flags and options, cut out of the bytes of a connection.
+
+ghost use Rattle.std.specs.Prelude.{◌≡◌, ◌+◌, ◌≤◌, ◌<◌, ◌++◌, ◌^◌, min, length, take, drop, List, ℕ, []};
+ghost use Rattle.nbd_wire.specs.Units.{head_len, tail_len};
+ghost use Rattle.nbd_wire.specs.Standing.{Keeps, StandsFor};
+ghost use Rattle.nbd_wire.specs.declared.phase.Phase.{Phase};
+ghost use Rattle.nbd_handshake.specs.Negotiating.{IsNegotiation, IsOver, next_of};
+ghost use Rattle.nbd_handshake.specs.Standing.{Advances, Answers, Leads};
+
+use crate::front::absorb;
+use crate::replies::MAX_REPLY_LEN;
+use crate::units::{complete, head_len, tail_len};
+use nbd_wire::{MAX_OPTION_LEN, OPTION_LEN, Phase};
+use std::marker::Model;
+
+/// How many bytes of an option are kept at most: its head, and as much data as is looked at.
+pub const KEPT_LEN: usize = OPTION_LEN + MAX_OPTION_LEN as usize;
+
+/// What comes next on a connection.
+#[derive(Clone, Copy, PartialEq, Eq, Debug)]
+pub enum Next {
+    /// The unit begun is not complete.
+    More,
+    /// The negotiation goes on.
+    Stay,
+    /// The transmission begins.
+    Transmit,
+    /// The connection is over.
+    Close,
+}
+
+/// What a call took of the bytes that it was given, and what it wrote.
+#[derive(Clone, Copy, PartialEq, Eq, Debug)]
+pub struct Taken {
+    /// How many bytes were used.
+    pub used: usize,
+    /// How many bytes of the reply were written; 0 where there is none.
+    pub reply: usize,
+    pub next: Next,
+}
+
+/// Cuts the bytes of a negotiation into flags and options, and answers them.
+#[derive(Drop)]
+pub struct Handshake {
+    sectors: u32,
+    phase: Phase,
+    kept: [u8; KEPT_LEN],
+    count: u64,
+}
+
+impl Model for Handshake {
+    ghost use Rattle.std.specs.Prelude.{◌≡◌, ◌+◌, ◌<◌, ◌≤◌, ◌^◌, take, min};
+    ghost use Rattle.nbd_wire.specs.Units.{head_len, tail_len};
+    ghost use Rattle.nbd_wire.specs.Standing.{Held};
+    ghost use Rattle.nbd_handshake.specs.declared.handshake.TheConstants.{KEPT_LEN};
+    ghost use Rattle.nbd_handshake.specs.Negotiating.{IsNegotiation};
+
+    ghost Value = { Held };
+
+    ghost view = { λ h. record { sectors = h.sectors; phase = h.phase; kept = take (min h.count KEPT_LEN) h.kept; count = h.count } };
+
+    ghost invariant = { λ h. (h.count < 2 ^ 33) × (IsNegotiation h.phase → head_len h.phase ≤ h.count → h.count < head_len h.phase + tail_len h.phase h.kept) };
+}
+
+impl Handshake {
+    /// A negotiation for a disk of so many sectors, whose next byte is the first of the client's flags.
+    pub fn new(sectors: u32) -> Handshake
+        ensures exact { result ≡ record { sectors = sectors; phase = Phase.AwaitingFlags; kept = []; count = 0 } }
+        ensures keeps { Keeps KEPT_LEN result [] }
+        // It stands for the text without bytes.
+        ensures stands { StandsFor KEPT_LEN Phase.AwaitingFlags result [] }
+    {
+        Handshake {
+            sectors,
+            phase: Phase::AwaitingFlags,
+            kept: [0; KEPT_LEN],
+            count: 0,
+        }
+    }
+
+    /// Takes bytes of at most one unit, and writes its reply at the front of `reply`. A negotiation that is over uses no
+    /// bytes and answers Transmit or Close.
+    pub fn take(&mut self, bytes: &[u8], reply: &mut [u8]) -> Taken
+        requires { MAX_REPLY_LEN ≤ length reply.old }
+        ensures used { result.used ≤ length bytes.now }
+        ensures reply { result.reply ≤ MAX_REPLY_LEN }
+        ensures rest { drop result.reply reply.new ≡ drop result.reply reply.old }
+        ensures more { result.next ≡ Next.More → (result.used ≡ length bytes.now) × (result.reply ≡ 0) }
+        ensures progress { IsNegotiation self.old.phase → 0 < length bytes.now → 0 < result.used }
+        ensures over { IsOver self.old.phase → (self.new ≡ self.old) × (result ≡ record { used = 0; reply = 0; next = next_of self.old.phase }) }
+        ensures sectors { self.new.sectors ≡ self.old.sectors }
+        ensures phase { Leads self.old.phase result.next self.new.phase }
+        // Of the unit begun: what the bytes used make of it.
+        ensures step { (rest : List ℕ) → IsNegotiation self.old.phase → Keeps KEPT_LEN self.old rest
+            → Advances self.old (rest ++ take result.used bytes.now) result.next (take result.reply reply.new) self.new }
+
+        // Of each text that the negotiation stands for: the answer is that of the next unit of this text and the bytes used,
+        ensures answer { (start : Phase) (text : List ℕ) → IsNegotiation self.old.phase → StandsFor KEPT_LEN start self.old text
+            → Answers start self.old.sectors self.old.phase text (text ++ take result.used bytes.now) result.next (take result.reply reply.new) }
+        // and the negotiation then stands for the longer text.
+        ensures stands { (start : Phase) (text : List ℕ) → StandsFor KEPT_LEN start self.old text
+            → StandsFor KEPT_LEN start self.new (text ++ take result.used bytes.now) }
+    {
+        let Some(head) = head_len(self.phase) else {
+            return Taken {
+                used: 0,
+                reply: 0,
+                next: next_of(self.phase),
+            };
+        };
+        self.advance(head, bytes, reply)
+    }
+
+    /// Takes bytes of the unit begun, whose head has so many bytes.
+    fn advance(&mut self, head: u64, bytes: &[u8], reply: &mut [u8]) -> Taken
+        requires phase { IsNegotiation self.old.phase }
+        requires head { head ≡ head_len self.old.phase }
+        requires room { MAX_REPLY_LEN ≤ length reply.old }
+        ensures used { result.used ≤ length bytes.now }
+        ensures reply { result.reply ≤ MAX_REPLY_LEN }
+        ensures rest { drop result.reply reply.new ≡ drop result.reply reply.old }
+        ensures more { result.next ≡ Next.More → (result.used ≡ length bytes.now) × (result.reply ≡ 0) }
+        ensures progress { 0 < length bytes.now → 0 < result.used }
+        ensures sectors { self.new.sectors ≡ self.old.sectors }
+        ensures phase { Leads self.old.phase result.next self.new.phase }
+        ensures step { (rest : List ℕ) → Keeps KEPT_LEN self.old rest
+            → Advances self.old (rest ++ take result.used bytes.now) result.next (take result.reply reply.new) self.new }
+    {
+        let first = head.saturating_sub(self.count).min(bytes.len() as u64) as usize;
+        absorb(&mut self.kept, self.count, &bytes[..first]);
+        let count = self.count + first as u64;
+        if count < head {
+            self.count = count;
+            return Taken {
+                used: first,
+                reply: 0,
+                next: Next::More,
+            };
+        }
+        let total = head + tail_len(self.phase, &self.kept);
+        let second = total
+            .saturating_sub(count)
+            .min((bytes.len() - first) as u64) as usize;
+        absorb(&mut self.kept, count, &bytes[first..first + second]);
+        let count = count + second as u64;
+        let used = first + second;
+        if count < total {
+            self.count = count;
+            return Taken {
+                used,
+                reply: 0,
+                next: Next::More,
+            };
+        }
+        let unit = total.min(KEPT_LEN as u64) as usize;
+        let answer = complete(self.phase, &self.kept[..unit], self.sectors, reply);
+        self.phase = answer.phase;
+        self.count = 0;
+        Taken {
+            used,
+            reply: answer.reply,
+            next: next_of(answer.phase),
+        }
+    }
+}
+
+/// What comes next where this phase has come.
+fn next_of(phase: Phase) -> Next
+    ensures { result ≡ next_of phase }
+{
+    match phase {
+        Phase::AwaitingFlags => Next::Stay,
+        Phase::Negotiating(_) => Next::Stay,
+        Phase::Transmitting => Next::Transmit,
+        Phase::Closed => Next::Close,
+    }
+}

@@ -1,0 +1,102 @@
+//! The units of a negotiation: the client's flags and options.
+
+ghost use Rattle.std.specs.Prelude.{◌≡◌, ◌≤◌, ◌<◌, ◌^◌, length, take, drop, MatchOption};
+ghost use Rattle.nbd_wire.specs.Units.{head_len, tail_len, after, after_flags};
+ghost use Rattle.nbd_handshake.specs.Negotiating.{IsNegotiation, IsOver, reply_to};
+
+use crate::handshake::KEPT_LEN;
+use crate::options::{case_of, phase_after};
+use crate::replies::{MAX_REPLY_LEN, write_case};
+use byteorder::{BigEndian, ByteOrder};
+use nbd_wire::{CLIENT_FLAGS_LEN, MAX_OPTION_LEN, OPT_EXPORT_NAME, OPTION_LEN, OptionHead, Phase};
+
+/// The length of a head in the negotiation, in bytes; none where it is over.
+pub(crate) fn head_len(phase: Phase) -> Option<u64>
+    ensures { MatchOption result (IsOver phase) (λ n. (n ≡ head_len phase) × IsNegotiation phase) }
+{
+    match phase {
+        Phase::AwaitingFlags => Some(CLIENT_FLAGS_LEN as u64),
+        Phase::Negotiating(_) => Some(OPTION_LEN as u64),
+        Phase::Transmitting => None,
+        Phase::Closed => None,
+    }
+}
+
+/// How many bytes follow a head.
+pub(crate) fn tail_len(phase: Phase, kept: &[u8]) -> u64
+    requires kept { OPTION_LEN ≤ length kept.now }
+    requires phase { IsNegotiation phase }
+    ensures value { result ≡ tail_len phase kept.now }
+    ensures small { result < 2 ^ 32 }
+{
+    match phase {
+        Phase::AwaitingFlags => 0,
+        Phase::Negotiating(_) => match OptionHead::read(kept) {
+            Some(head) if head.option != OPT_EXPORT_NAME || head.length <= MAX_OPTION_LEN => {
+                u64::from(head.length)
+            }
+            _ => 0,
+        },
+        Phase::Transmitting => 0,
+        Phase::Closed => 0,
+    }
+}
+
+/// What stands after a complete unit, and the length of its reply.
+#[derive(Clone, Copy)]
+pub(crate) struct Answer {
+    pub(crate) reply: usize,
+    pub(crate) phase: Phase,
+}
+
+/// Answers a complete unit by what is kept of it, and writes the reply at the front of `reply`.
+pub(crate) fn complete(phase: Phase, unit: &[u8], sectors: u32, reply: &mut [u8]) -> Answer
+    requires phase { IsNegotiation phase }
+    requires whole { head_len phase ≤ length unit.now }
+    requires short { length unit.now ≤ KEPT_LEN }
+    requires room { MAX_REPLY_LEN ≤ length reply.old }
+    ensures len { result.reply ≤ MAX_REPLY_LEN }
+    ensures phase { result.phase ≡ after phase unit.now }
+    ensures reply { take result.reply reply.new ≡ reply_to sectors phase unit.now }
+    ensures rest { drop result.reply reply.new ≡ drop result.reply reply.old }
+{
+    match phase {
+        Phase::AwaitingFlags => Answer {
+            reply: 0,
+            phase: after_flags(BigEndian::read_u32(unit)),
+        },
+        Phase::Negotiating(no_zeroes) => match OptionHead::read(unit) {
+            None => Answer {
+                reply: 0,
+                phase: Phase::Closed,
+            },
+            Some(head) => {
+                let case = case_of(head, &unit[OPTION_LEN..]);
+                let written = write_case(case, head.option, no_zeroes, sectors, reply);
+                Answer {
+                    reply: written,
+                    phase: phase_after(case, head.option, no_zeroes),
+                }
+            }
+        },
+        Phase::Transmitting => Answer {
+            reply: 0,
+            phase: Phase::Closed,
+        },
+        Phase::Closed => Answer {
+            reply: 0,
+            phase: Phase::Closed,
+        },
+    }
+}
+
+/// The phase after the client's flags: FIXED_NEWSTYLE alone, or with NO_ZEROES; any others close.
+fn after_flags(flags: u32) -> Phase
+    ensures { result ≡ after_flags flags }
+{
+    match flags {
+        1 => Phase::Negotiating(false),
+        3 => Phase::Negotiating(true),
+        _ => Phase::Closed,
+    }
+}

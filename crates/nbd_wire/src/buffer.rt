@@ -1,0 +1,15 @@
+//! Bytes put into a buffer one after another.
+
+ghost use Rattle.std.specs.Prelude.{◌≡◌, ◌≤◌, ◌+◌, ◌++◌, length, take, drop};
+
+/// Writes bytes from `at` on, and answers where they end. The bytes before and behind them stay.
+pub fn put(out: &mut [u8], at: usize, bytes: &[u8]) -> usize
+    requires { at + length bytes.now ≤ length out.old }
+    ensures end { result ≡ at + length bytes.now }
+    ensures bytes { take result out.new ≡ take at out.old ++ bytes.now }
+    ensures rest { drop result out.new ≡ drop result out.old }
+{
+    let end = at + bytes.len();
+    out[at..end].copy_from_slice(bytes);
+    end
+}

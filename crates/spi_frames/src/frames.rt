@@ -1,0 +1,142 @@
+ghost use Rattle.std.specs.Prelude.{◌≡◌, ◌^◌, ◌<◌, ◌≤◌, [], ◌∷◌, length};
+ghost use Rattle.spi_frames.specs.Frames.{addressed, status_code};
+
+use crate::register::Register;
+use arrayvec::ArrayVec;
+
+/// A frame's bytes; the longest has a code, an address and a page.
+pub type Frame = ArrayVec<u8, 260>;
+
+fn code_alone(code: u8) -> Frame
+    ensures { result.items ≡ code ∷ [] }
+{
+    let mut frame = Frame::new();
+    frame.push(code);
+    frame
+}
+
+fn with_address(code: u8, at: u32) -> Frame
+    requires { at < 2 ^ 24 }
+    ensures { result.items ≡ addressed code at [] }
+{
+    let mut frame = code_alone(code);
+    frame.push((at / 65_536) as u8);
+    frame.push((at / 256 % 256) as u8);
+    frame.push((at % 256) as u8);
+    frame
+}
+
+/// 06h: the next change is taken.
+pub fn write_enable() -> Frame
+    ensures { result.items ≡ 6 ∷ [] }
+{
+    code_alone(0x06)
+}
+
+/// 03h: the bytes from the address on.
+pub fn read(at: u32) -> Frame
+    requires { at < 2 ^ 24 }
+    ensures { result.items ≡ addressed 3 at [] }
+{
+    with_address(0x03, at)
+}
+
+/// 02h: a program of 1 to 256 bytes, all of them in one page.
+pub fn program(at: u32, bytes: &[u8]) -> Frame
+    requires address { at < 2 ^ 24 }
+    requires some { 0 < length bytes.now }
+    requires page { length bytes.now ≤ 256 }
+    ensures { result.items ≡ addressed 2 at bytes.now }
+{
+    let mut frame = with_address(0x02, at);
+    let _fits = frame.try_extend_from_slice(bytes);
+    frame
+}
+
+/// 20h: an erase of the 4 KiB in which the address lies.
+pub fn erase_small(at: u32) -> Frame
+    requires { at < 2 ^ 24 }
+    ensures { result.items ≡ addressed 32 at [] }
+{
+    with_address(0x20, at)
+}
+
+/// D8h: an erase of the 64 KiB in which the address lies.
+pub fn erase_large(at: u32) -> Frame
+    requires { at < 2 ^ 24 }
+    ensures { result.items ≡ addressed 216 at [] }
+{
+    with_address(0xD8, at)
+}
+
+/// 05h, 35h or 15h: a status register.
+pub fn status(register: Register) -> Frame
+    ensures { result.items ≡ status_code register ∷ [] }
+{
+    match register {
+        Register::First => code_alone(0x05),
+        Register::Second => code_alone(0x35),
+        Register::Third => code_alone(0x15),
+    }
+}
+
+/// 01h: bits 2 to 7 of status register 1 become those of the value.
+pub fn write_status(value: u8) -> Frame
+    ensures { result.items ≡ 1 ∷ value ∷ [] }
+{
+    let mut frame = code_alone(0x01);
+    frame.push(value);
+    frame
+}
+
+/// 9Fh: three id bytes, of the maker, the kind and the size.
+pub fn jedec_id() -> Frame
+    ensures { result.items ≡ 159 ∷ [] }
+{
+    code_alone(0x9F)
+}
+
+/// 5Ah: SFDP bytes from the address on; a byte that the chip ignores follows the address.
+pub fn sfdp(at: u32) -> Frame
+    requires { at < 2 ^ 24 }
+    ensures { result.items ≡ addressed 90 at (0 ∷ []) }
+{
+    let mut frame = with_address(0x5A, at);
+    frame.push(0);
+    frame
+}
+
+#[cfg(test)]
+mod tests {
+    use super::*;
+
+    #[test]
+    fn each_frame_of_the_instruction_table(rt: HostRuntime) {
+        assert_eq!(rt; write_enable().as_slice(), [0x06].as_slice());
+        assert_eq!(rt;
+            read(0x00FFFF).as_slice(),
+            [0x03, 0x00, 0xFF, 0xFF].as_slice()
+        );
+        assert_eq!(rt;
+            program(0x0000FE, &[1, 2, 3, 4]).as_slice(),
+            [0x02, 0x00, 0x00, 0xFE, 0x01, 0x02, 0x03, 0x04].as_slice()
+        );
+        assert_eq!(rt;
+            erase_small(0x12F000).as_slice(),
+            [0x20, 0x12, 0xF0, 0x00].as_slice()
+        );
+        assert_eq!(rt;
+            erase_large(0xFF0000).as_slice(),
+            [0xD8, 0xFF, 0x00, 0x00].as_slice()
+        );
+        assert_eq!(rt; status(Register::First).as_slice(), [0x05].as_slice());
+        assert_eq!(rt; status(Register::Second).as_slice(), [0x35].as_slice());
+        assert_eq!(rt; status(Register::Third).as_slice(), [0x15].as_slice());
+        assert_eq!(rt; write_status(0x04).as_slice(), [0x01, 0x04].as_slice());
+        assert_eq!(rt; jedec_id().as_slice(), [0x9F].as_slice());
+        assert_eq!(rt;
+            sfdp(0).as_slice(),
+            [0x5A, 0x00, 0x00, 0x00, 0x00].as_slice()
+        );
+    }
+}
