@@ -1,44 +1,11 @@
--- How the front that is kept of a rest grows.
-use Rattle.std.proofs.Common.{◌≡◌, ℕ, ◌+◌, ◌-◌, ◌<◌, ◌≤◌, min, List, [], ◌++◌, length, take, drop, refl, sym, ap, ◌∙◌, arith, inl, inr}
-use Rattle.std.proofs.lemmas.Bool.{cases_lt}
-use Rattle.std.proofs.lemmas.List.{take-append-le, take_all, length-append, length-take}
-use Rattle.std.proofs.Math.Seq.{take-append-add}
+-- What is kept of a rest, and what it tells.
+use Rattle.std.proofs.Common.{◌≡◌, ℕ, ◌+◌, ◌-◌, ◌≤◌, min, List, ◌++◌, length, take, drop, sym, ap, ◌∙◌, arith}
+use Rattle.std.proofs.lemmas.List.{length-take, take-append-drop, append_assoc, length-drop}
 use Rattle.std.proofs.Math.Seq.{take-add}
-use Rattle.std.proofs.lemmas.List.{take-append-drop, append_assoc, length-drop}
 use Rattle.nbd_wire.specs.declared.phase.Phase.{Phase}
 use Rattle.nbd_wire.specs.Units.{head_len, tail_len}
 use Rattle.nbd_wire.proofs.UnitLaws.{tail_front}
 use Rattle.nbd_handshake.specs.Fronts.{HasFront}
-
-take_past : (k m : ℕ) (xs ys : List ℕ) → k ≡ length xs + m → take k (xs ++ ys) ≡ xs ++ take m ys
-take_past k m xs ys e = rw e (take-append-add xs ys m)
-
-pub front_full : (buffer rest piece : List ℕ) (count : ℕ) → length buffer ≤ count → HasFront buffer count rest → HasFront buffer (count + length piece) (rest ++ piece)
-front_full buffer rest piece count full h =
-    let whole : min count (length buffer) ≡ length buffer = omega arith in
-    let still : min (count + length piece) (length buffer) ≡ length buffer = omega arith in
-    record {
-      front = rw (still, take-append-le (length buffer) rest piece (omega (arith, h.len))) (rw whole at h.front);
-      len = omega (arith, h.len, length-append rest piece);
-    }
-
-pub front_grows : (buffer grown rest piece : List ℕ) (count n : ℕ) → count < length buffer → length grown ≡ length buffer → n ≡ min (length buffer - count) (length piece) → take (count + n) grown ≡ take count buffer ++ take n piece → HasFront buffer count rest → HasFront grown (count + length piece) (rest ++ piece)
-front_grows buffer grown rest piece count n room same n-is copied h =
-    let len = h.len in
-    let before : min count (length buffer) ≡ count = omega arith in
-    let all : take (length buffer) rest ≡ rest = take_all (length buffer) rest (omega arith) in
-    let rest-is : rest ≡ take count buffer = sym all ∙ h.front ∙ ap (λ (m : ℕ). take m buffer) before in
-    let past : take (length buffer) (rest ++ piece) ≡ rest ++ take (length buffer - count) piece = take_past (length buffer) (length buffer - count) rest piece (omega arith) in
-    let part : take (length buffer - count) piece ≡ take n piece =
-    elim (cases_lt (length piece) (length buffer - count)) [
-      | inl lt ↦ take_all (length buffer - count) piece (omega arith) ∙ sym (take_all n piece (omega arith))
-      | inr ge ↦ let e : length buffer - count ≡ n = omega arith in ap (λ (m : ℕ). take m piece) e
-    ] in
-    let to : count + n ≡ min (count + length piece) (length grown) = omega arith in
-    record {
-      front = rw same (past ∙ ap (λ (t : List ℕ). rest ++ t) part ∙ ap (λ (t : List ℕ). t ++ take n piece) rest-is ∙ sym copied ∙ ap (λ (m : ℕ). take m grown) (rw same at to));
-      len = omega (arith, length-append rest piece);
-    }
 
 pub front_of_kept : (buffer rest : List ℕ) (count : ℕ) → length buffer ≡ 8208 → take 8208 rest ≡ take (min count 8208) buffer → length rest ≡ count → HasFront buffer count rest
 front_of_kept buffer rest count size front len = record { front = rw size front; len = len }

@@ -1,10 +1,10 @@
 -- A call of the negotiation on the unit begun, and what it says of whole texts.
-use Rattle.std.proofs.Common.{◌≡◌, ℕ, ◌+◌, ◌<◌, ◌≤◌, min, List, [], ◌∷◌, ◌++◌, length, take, drop, refl, sym, ap, ◌∙◌, arith}
+use Rattle.std.proofs.Common.{◌≡◌, ℕ, ◌+◌, ◌<◌, ◌≤◌, min, List, [], ◌++◌, length, take, drop, sym, ap, ◌∙◌, arith}
 use Rattle.std.proofs.lemmas.List.{take-append-drop, length-take}
 use Rattle.nbd_wire.specs.declared.phase.Phase.{Phase}
 use Rattle.nbd_wire.specs.declared.phase.Phase.TheVariants.{AwaitingFlags, Negotiating, Transmitting, Closed}
-use Rattle.nbd_wire.specs.Units.{head_len, tail_len, IsOpen, IsUnit, after, Splits}
-use Rattle.nbd_wire.specs.Standing.{Held, Keeps, StandsFor, Waits, Completes}
+use Rattle.nbd_wire.specs.Units.{head_len, tail_len, IsOpen, IsUnit, after}
+use Rattle.nbd_wire.specs.Standing.{Held, Keeps, StandsFor, Waits}
 use Rattle.nbd_wire.proofs.UnitLaws.{tail_front, short_is_partial, Splits_more, Splits_unit}
 use Rattle.nbd_wire.proofs.StandingLaws.{holds_the_rest, stands_waiting, stands_completed}
 use Rattle.nbd_handshake.specs.declared.handshake.Next.{Next}

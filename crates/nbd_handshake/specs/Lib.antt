@@ -1,3 +1,4 @@
+pub mod Greeting
 pub mod Negotiating
 pub mod Standing
 pub mod Fronts

@@ -7,7 +7,7 @@ use Rattle.nbd_wire.specs.declared.phase.Phase.{Phase}
 use Rattle.nbd_wire.specs.declared.phase.Phase.TheVariants.{AwaitingFlags, Negotiating, Transmitting, Closed}
 use Rattle.nbd_wire.specs.Options.{option_at, case_of, reply_in_case}
 use Rattle.nbd_handshake.specs.declared.handshake.Next.{Next}
-use Rattle.nbd_handshake.specs.declared.handshake.Next.TheVariants.{More, Stay, Transmit, Close}
+use Rattle.nbd_handshake.specs.declared.handshake.Next.TheVariants.{Stay, Transmit, Close}
 
 -- the client's flags or an option come next
 abbrev pub IsNegotiation : Phase → Type 0

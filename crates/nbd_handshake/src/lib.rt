@@ -1,19 +1,20 @@
 //! The negotiation of a connection, cut out of its bytes piece by piece, and answered.
 //!
-//! Promised: `Handshake::take` answers the client's flags and each complete option once, in order, however the bytes are
-//! cut into pieces: the bytes of each reply and the phase after it are those that the rules for options say, and More comes
-//! only where all bytes were used. Of an option's data 8,192 bytes are kept; longer data is counted and dropped.
-//! After EXPORT_NAME and GO with a known name the transmission begins; ABORT, another name in EXPORT_NAME, a wrong magic
-//! and flags that aren't known close.
+//! Promised: `greeting` is what the server sends first. `Handshake::take` answers the client's flags and each complete
+//! option once, in order, however the bytes are cut into pieces: the bytes of each reply and the phase after it are those
+//! that the rules for options say, and More comes only where all bytes were used. Of an option's data 8,192 bytes are
+//! kept; longer data is counted and dropped. No call takes memory.
 //!
-//! Left to the crate above: the greeting, a buffer of at least 134 bytes for each reply, to call again with the bytes that
-//! were not used, and the requests. A negotiation that is over uses no bytes and answers Transmit or Close.
+//! Left to the crate above: to send the greeting and the replies, a buffer of at least 134 bytes for each reply, to call
+//! again with the bytes that were not used, and the requests. A negotiation that is over uses no bytes and answers
+//! Transmit or Close.
 //!
-//! Source: NBD proto.md; the limit of 8,192 bytes and the one export `flash` are own. No call takes memory.
+//! Source: NBD proto.md; the limit of 8,192 bytes and the one export `flash` are own.
 #![tactic(auto)]
 
 mod front;
 mod handshake;
+mod opening;
 mod options;
 mod replies;
 #[cfg(test)]
@@ -21,4 +22,5 @@ mod tests;
 mod units;
 
 pub use handshake::{Handshake, KEPT_LEN, Next, Taken};
+pub use opening::greeting;
 pub use replies::MAX_REPLY_LEN;

@@ -1,6 +1,7 @@
 //! Negotiations for a disk of 70 sectors (8C00h bytes), written out by hand from NBD proto.md.
 
 use crate::handshake::{Handshake, Next};
+use crate::opening::greeting;
 use crate::replies::MAX_REPLY_LEN;
 use std::alloc::Global;
 use std::process::Abort;
@@ -185,5 +186,12 @@ fn other_flags_and_magics_close(rt: HostRuntime) -> Result<(), Fail> {
             check(&rt, alloc, most, text, "", last)?;
         }
     }
+    Ok(())
+}
+
+#[test]
+fn the_greeting(rt: HostRuntime) -> Result<(), Fail> {
+    let sent = bytes_of(rt.alloc(), "4E42444D41474943 49484156454F5054 0003")?;
+    assert_eq!(rt; greeting().as_slice(), sent.as_slice());
     Ok(())
 }

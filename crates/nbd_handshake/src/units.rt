@@ -10,6 +10,11 @@ use crate::replies::{MAX_REPLY_LEN, write_case};
 use byteorder::{BigEndian, ByteOrder};
 use nbd_wire::{CLIENT_FLAGS_LEN, MAX_OPTION_LEN, OPT_EXPORT_NAME, OPTION_LEN, OptionHead, Phase};
 
+/// The client's flags where it set FIXED_NEWSTYLE (bit 0) alone.
+const FIXED_NEWSTYLE: u32 = 1;
+/// The client's flags where it set FIXED_NEWSTYLE (bit 0) and NO_ZEROES (bit 1).
+const FIXED_NEWSTYLE_NO_ZEROES: u32 = 3;
+
 /// The length of a head in the negotiation, in bytes; none where it is over.
 pub(crate) fn head_len(phase: Phase) -> Option<u64>
     ensures { MatchOption result (IsOver phase) (λ n. (n ≡ head_len phase) × IsNegotiation phase) }
@@ -95,8 +100,8 @@ fn after_flags(flags: u32) -> Phase
     ensures { result ≡ after_flags flags }
 {
     match flags {
-        1 => Phase::Negotiating(false),
-        3 => Phase::Negotiating(true),
+        FIXED_NEWSTYLE => Phase::Negotiating(false),
+        FIXED_NEWSTYLE_NO_ZEROES => Phase::Negotiating(true),
         _ => Phase::Closed,
     }
 }

@@ -1,6 +1,7 @@
 -- How the program ended. Source: own.
 use Rattle.std.specs.Prelude.{◌≡◌, ◌⊎◌, ℕ, ◌-◌, ◌^◌, ◌<◌, ◌≤◌, List, length, Option, Result, Ok, Err}
 use Rattle.std.specs.Io.KnownBytes.{Consumes}
+use Rattle.norbd_line.specs.Fault.{HasStatus}
 use Rattle.norbd_line.specs.declared.fault.Fault.{Fault}
 use Rattle.norbd_line.specs.declared.fault.Fault.TheVariants.{Words, NoMemory, InputFailed, OutputFailed}
 use Rattle.share.specs.declared.connection.End.{End}
@@ -43,3 +44,8 @@ HasCause OutputFailed had left reads reads' writes writes' = (reads' ≡ reads) 
 abbrev pub Ended : {T : Type 0} → Result T Fault → Option (List ℕ) → Option (List ℕ) → ℕ → ℕ → ℕ → ℕ → Type 0
 Ended (Ok _) had left reads reads' writes writes' = (reads' ≡ reads) × (writes' ≡ writes)
 Ended (Err fault) had left reads reads' writes writes' = HasCause fault had left reads reads' writes writes'
+
+-- the exit status: 0 where the line is done, and else that of its fault
+abbrev pub EndsWith : {T : Type 0} → Result T Fault → ℕ → Type 0
+EndsWith (Ok _) status = status ≡ 0
+EndsWith (Err fault) status = HasStatus fault status

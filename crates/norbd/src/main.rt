@@ -10,6 +10,8 @@
 #![tactic(auto)]
 
 ghost use Rattle.std.specs.Prelude.{◌≡◌, ◌<◌};
+ghost use Rattle.std.specs.Process.{exit_status};
+ghost use Rattle.norbd.specs.Outcomes.{EndsWith};
 
 mod run;
 #[cfg(test)]
@@ -50,14 +52,23 @@ fn run_standard<I: Ledger, O: Ledger>(
 }
 
 /// Prints a fault: `clap`'s own text for one of the words, else a line on standard error. A failure to print it is passed
-/// over. The answer is the exit status.
-fn tell(rt: &HostRuntime, fault: &Fault) -> ExitCode {
+/// over.
+fn tell(rt: &HostRuntime, fault: &Fault) {
     if let Fault::Words(error) = fault {
         let _ = error.print(rt);
     } else {
         let _ = eprintln!(rt; "norbd: {fault}");
     }
-    ExitCode::from(fault.status())
+}
+
+/// The exit status of what became of a line.
+fn exit_code(done: &Result<(), Fault>) -> ExitCode
+    ensures { EndsWith done.now (exit_status result) }
+{
+    match done {
+        Ok(()) => ExitCode::SUCCESS,
+        Err(fault) => ExitCode::from(fault.status()),
+    }
 }
 
 /// Reads the program's words and does their line.
@@ -68,8 +79,9 @@ fn run_words(rt: &HostRuntime) -> Result<(), Fault> {
 }
 
 fn main(rt: HostRuntime) -> ExitCode {
-    match run_words(&rt) {
-        Ok(()) => ExitCode::SUCCESS,
-        Err(fault) => tell(&rt, &fault),
+    let done = run_words(&rt);
+    if let Err(fault) = &done {
+        tell(&rt, fault);
     }
+    exit_code(&done)
 }

@@ -220,7 +220,7 @@ fn answers_requests_however_they_are_cut(rt: HostRuntime) -> Result<(), Fail> {
             expected,
         )?;
         check(&rt, alloc, sectors, input.as_slice(), cut(1, 1), expected)?;
-        for first in 1..=130 {
+        for first in 1..=600 {
             check(
                 &rt,
                 alloc,

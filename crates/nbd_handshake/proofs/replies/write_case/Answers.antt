@@ -1,4 +1,4 @@
-use Rattle.std.proofs.Common.{◌≡◌, arith, ◌∙◌}
+use Rattle.std.proofs.Common.{arith, ◌∙◌}
 use Rattle.nbd_wire.proofs.BufferLaws.{same_behind}
 use Rattle.nbd_handshake.proofs.replies.write_case.Goals as goal
 

@@ -1,4 +1,4 @@
-use Rattle.std.proofs.Common.{ap, sym, ◌∙◌}
+use Rattle.std.proofs.Common.{ap, ◌∙◌}
 use Rattle.std.proofs.lemmas.List.{take_rest}
 use Rattle.nbd_wire.specs.declared.option.OptionCase.{OptionCase}
 use Rattle.nbd_wire.specs.Options.{phase_after, reply_in_case, case_of}

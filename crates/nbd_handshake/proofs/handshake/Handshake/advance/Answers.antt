@@ -1,9 +1,7 @@
-use Rattle.std.proofs.Common.{◌≡◌, ℕ, List, ◌+◌, ◌-◌, ◌≤◌, ◌<◌, min, length, take, drop, ◌++◌, [], arith, ap, sym, ◌∙◌, refl, inl, inr}
+use Rattle.std.proofs.Common.{◌≡◌, ℕ, ◌+◌, ◌-◌, ◌≤◌, min, length, take, drop, ◌++◌, arith, ap, sym, ◌∙◌, refl, inl, inr}
 use Rattle.std.proofs.lemmas.Bool.{cases_lt}
-use Rattle.std.proofs.lemmas.List.{length-append, length-take}
-use Rattle.nbd_wire.specs.declared.phase.Phase.{Phase}
+use Rattle.std.proofs.lemmas.List.{length-take}
 use Rattle.nbd_wire.specs.Units.{head_len, tail_len, IsUnit, after}
-use Rattle.nbd_wire.specs.Standing.{Held}
 use Rattle.nbd_wire.proofs.UnitLaws.{tail_front}
 use Rattle.nbd_handshake.specs.Fronts.{HasFront}
 use Rattle.nbd_handshake.specs.Negotiating.{IsNegotiation, reply_to}

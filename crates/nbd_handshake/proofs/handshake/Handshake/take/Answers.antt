@@ -1,5 +1,4 @@
-use Rattle.std.proofs.Common.{◌≡◌, take, ap, sym, refl}
-use Rattle.nbd_wire.specs.Standing.{Held}
+use Rattle.std.proofs.Common.{take}
 use Rattle.nbd_handshake.specs.Negotiating.{IsNegotiation}
 use Rattle.nbd_handshake.proofs.Steps.{answers_from_step, stands_from_step}
 use Rattle.nbd_handshake.proofs.handshake.Handshake.take.Goals as goal

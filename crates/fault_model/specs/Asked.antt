@@ -1,0 +1,36 @@
+use Rattle.std.specs.Prelude.{◌<◌, length}
+use Rattle.chip_model.specs.Frames.{Command, Enable, Disable, Status1, Status2, Status3, Set, Read, Program, Erase, Id, Sfdp, Unknown}
+use Rattle.fault_model.specs.declared.decode.Asked.{Asked}
+use Rattle.fault_model.specs.declared.decode.Asked.TheVariants as asks
+
+-- the command that a decoded frame stands for
+abbrev pub asked : Asked → Command
+asked asks.Enable = Enable
+asked asks.Disable = Disable
+asked asks.Status1 = Status1
+asked asks.Status2 = Status2
+asked asks.Status3 = Status3
+asked (asks.Set v) = Set v
+asked (asks.Read a) = Read a
+asked (asks.Program a b) = Program a b.now
+asked (asks.EraseSmall a) = Erase a 4096
+asked (asks.EraseLarge a) = Erase a 65536
+asked asks.Id = Id
+asked (asks.Sfdp a) = Sfdp a
+asked asks.Unknown = Unknown
+
+-- a program has bytes
+abbrev pub HasBytes : Asked → Type 0
+HasBytes (asks.Program a b) = 0 < length b.now
+HasBytes asks.Enable = Unit {0}
+HasBytes asks.Disable = Unit {0}
+HasBytes asks.Status1 = Unit {0}
+HasBytes asks.Status2 = Unit {0}
+HasBytes asks.Status3 = Unit {0}
+HasBytes (asks.Set v) = Unit {0}
+HasBytes (asks.Read a) = Unit {0}
+HasBytes (asks.EraseSmall a) = Unit {0}
+HasBytes (asks.EraseLarge a) = Unit {0}
+HasBytes asks.Id = Unit {0}
+HasBytes (asks.Sfdp a) = Unit {0}
+HasBytes asks.Unknown = Unit {0}

@@ -1,0 +1,111 @@
+// What a frame does to an idle chip.
+ghost use Rattle.std.specs.Prelude.{◌≡◌, ◌<◌, ◌⊎◌, not, true, length};
+ghost use Rattle.fault_model.specs.Fits.{operation_of, fits_in};
+
+use crate::cells::Cells;
+use crate::decode::Asked;
+use crate::operation::Operation;
+use arrayvec::ArrayVec;
+
+impl Cells {
+    ghost use Rattle.chip_model.specs.Chip.{is_idle};
+    ghost use Rattle.chip_model.specs.Frames.{after, starts, Erase, Program};
+    ghost use Rattle.fault_model.specs.Asked.{asked, HasBytes};
+    ghost use Rattle.fault_model.specs.Sim.{chip_in, pace_in};
+    ghost use Rattle.fault_model.specs.Simulated.{paced};
+
+    /// An operation is in progress from now on.
+    fn begin(&mut self, operation: Operation)
+        requires fits { fits_in operation (length self.old.memory.items) ≡ true }
+        ensures chip { chip_in self.new ≡ starts (chip_in self.old) (operation_of operation) }
+        ensures pace { pace_in self.new ≡ paced (pace_in self.old) true }
+        ensures cuts { self.new.cuts ≡ self.old.cuts }
+        ensures slows { self.new.slows ≡ self.old.slows }
+    {
+        self.operation = operation;
+        self.polls = 0;
+        self.stuck = self.slow_next;
+        self.slow_next = false;
+    }
+
+    /// A program that an idle chip is asked for, and whether it is accepted.
+    fn obey_program(&mut self, at: u32, bytes: &[u8]) -> bool
+        requires idle { is_idle (operation_of self.old.operation) ≡ true }
+        requires some { 0 < length bytes.now }
+        ensures chip { chip_in self.new ≡ after (chip_in self.old) (Program at bytes.now) }
+        ensures accepted { result ≡ not (is_idle (after (chip_in self.old) (Program at bytes.now)).operation) }
+        ensures pace { pace_in self.new ≡ paced (pace_in self.old) result }
+        ensures cuts { self.new.cuts ≡ self.old.cuts }
+        ensures slows { self.new.slows ≡ self.old.slows }
+    {
+        let at = at % self.memory.len() as u32;
+        if !self.enabled {
+            return false;
+        }
+        if self.is_protected(at / 256 * 256, 256) {
+            self.enabled = false;
+            return false;
+        }
+        let skipped = bytes.len().saturating_sub(256);
+        let from = at / 256 * 256 + ((at as usize % 256 + skipped) % 256) as u32;
+        let mut latched = ArrayVec::new();
+        let _fits = latched.try_extend_from_slice(&bytes[skipped..]);
+        self.begin(Operation::Programming(from, latched));
+        true
+    }
+
+    /// An erase that an idle chip is asked for, and whether it is accepted.
+    fn obey_erase(&mut self, at: u32, size: u32) -> bool
+        requires idle { is_idle (operation_of self.old.operation) ≡ true }
+        requires size { (size ≡ 4096) ⊎ (size ≡ 65536) }
+        ensures chip { chip_in self.new ≡ after (chip_in self.old) (Erase at size) }
+        ensures accepted { result ≡ not (is_idle (after (chip_in self.old) (Erase at size)).operation) }
+        ensures pace { pace_in self.new ≡ paced (pace_in self.old) result }
+        ensures cuts { self.new.cuts ≡ self.old.cuts }
+        ensures slows { self.new.slows ≡ self.old.slows }
+    {
+        let from = at % self.memory.len() as u32 / size * size;
+        if !self.enabled {
+            return false;
+        }
+        if self.is_protected(from, size) {
+            self.enabled = false;
+            return false;
+        }
+        self.begin(Operation::Erasing(from, size));
+        true
+    }
+
+    /// What a frame does to an idle chip, and whether it starts an operation.
+    pub fn obey(&mut self, frame: &Asked) -> bool
+        requires idle { is_idle (operation_of self.old.operation) ≡ true }
+        requires some { HasBytes frame.now }
+        ensures chip { chip_in self.new ≡ after (chip_in self.old) (asked frame.now) }
+        ensures accepted { result ≡ not (is_idle (after (chip_in self.old) (asked frame.now)).operation) }
+        ensures pace { pace_in self.new ≡ paced (pace_in self.old) result }
+        ensures cuts { self.new.cuts ≡ self.old.cuts }
+        ensures slows { self.new.slows ≡ self.old.slows }
+    {
+        match frame {
+            Asked::Enable => {
+                self.enabled = true;
+                false
+            }
+            Asked::Disable => {
+                self.enabled = false;
+                false
+            }
+            Asked::Set(value) => {
+                if !self.enabled {
+                    return false;
+                }
+                self.begin(Operation::Setting(*value));
+                true
+            }
+            Asked::Program(at, bytes) => self.obey_program(*at, bytes),
+            Asked::EraseSmall(at) => self.obey_erase(*at, 4096),
+            Asked::EraseLarge(at) => self.obey_erase(*at, 65536),
+            _ => false,
+        }
+    }
+}
