@@ -1,0 +1,61 @@
+-- What is known of a NOR memory behind a driver, and what each call leaves of it, by its answer.
+-- Source: own. A Cut is a loss of power, a Slow an operation of the chip that didn't end.
+use Rattle.std.specs.declared.result.Result.{Result}
+use Rattle.std.specs.declared.result.Result.TheVariants.{Ok, Err}
+use Rattle.std.specs.Prelude.{◌≡◌, ℕ, ◌<◌, ◌⊎◌, Bool, true, false, List}
+use Rattle.nor_driver.specs.declared.error.NorError.{NorError}
+use Rattle.nor_driver.specs.declared.error.NorError.TheVariants.{Cut, Slow}
+
+pub record NorState : Type 0 where
+  -- the bytes; those of an operation that didn't end are as before it
+  pub memory : List ℕ
+  -- how many losses of power, and how many slow operations, the bus counted so far
+  pub cuts : ℕ
+  pub slows : ℕ
+  pub powered : Bool
+  -- whether a Slow stands: it was answered, and no restart has answered Ok since
+  pub is_slow : Bool
+  -- whether units of 64 KiB can be erased
+  pub has_large : Bool
+
+-- the power is on and no Slow stands
+abbrev pub IsReady : NorState → Type 0
+IsReady state = (state.powered ≡ true) × (state.is_slow ≡ false)
+
+-- all but the memory is as before: what a call that answered Ok leaves
+pub record Kept (old new : NorState) : Type 0 where
+  pub cuts : new.cuts ≡ old.cuts
+  pub slows : new.slows ≡ old.slows
+  pub powered : new.powered ≡ old.powered
+  pub is_slow : new.is_slow ≡ old.is_slow
+  pub has_large : new.has_large ≡ old.has_large
+
+-- why a call failed, and what it leaves beside the memory:
+-- Cut where a loss of power came in the call, or the power was off;
+-- Slow where a slow operation came in the call, or a Slow stood
+abbrev pub Fails : NorError → NorState → NorState → Type 0
+Fails Cut old new =
+    ((old.cuts < new.cuts) ⊎ ((old.powered ≡ false) × (new.cuts ≡ old.cuts)))
+    × (new.slows ≡ old.slows) × (new.powered ≡ false) × (new.is_slow ≡ old.is_slow) × (new.has_large ≡ old.has_large)
+Fails Slow old new =
+    ((old.slows < new.slows) ⊎ ((old.is_slow ≡ true) × (new.slows ≡ old.slows)))
+    × (new.cuts ≡ old.cuts) × (new.powered ≡ old.powered) × (new.is_slow ≡ true) × (new.has_large ≡ old.has_large)
+
+-- a Slow that stands is answered again, and a power that is off is a Cut, and neither changes anything
+pub record AnswersWhatStands (old : NorState) (result : Result (Unit {0}) NorError) (new : NorState) : Type 0 where
+  pub slow : old.is_slow ≡ true → (result ≡ Err Slow) × (new ≡ old)
+  pub off : old.is_slow ≡ false → old.powered ≡ false → (result ≡ Err Cut) × (new ≡ old)
+
+-- what a call that was to change bytes and was cut leaves of them: as before, torn in that call's way, or changed whole
+pub data Leaves (old : List ℕ) (Torn : List ℕ → Type 0) (whole new : List ℕ) : Type 0 where
+  as_before : new ≡ old → Leaves old Torn whole new
+  torn_in_it : Torn new → Leaves old Torn whole new
+  changed_whole : new ≡ whole → Leaves old Torn whole new
+
+-- what a restart leaves beside the memory, by its answer: a Cut only where a loss of power came in it, and never a Slow
+abbrev pub Restarts : Result (Unit {0}) NorError → NorState → NorState → Type 0
+Restarts (Ok _) old new =
+    (new.cuts ≡ old.cuts) × (new.slows ≡ old.slows) × (new.powered ≡ true) × (new.is_slow ≡ false) × (new.has_large ≡ old.has_large)
+Restarts (Err Cut) old new =
+    (old.cuts < new.cuts) × (new.slows ≡ old.slows) × (new.powered ≡ false) × (new.is_slow ≡ old.is_slow) × (new.has_large ≡ old.has_large)
+Restarts (Err Slow) old new = ⊥

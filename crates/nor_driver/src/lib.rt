@@ -1,0 +1,9 @@
+//! A NOR memory over a serial flash chip: bytes are read, ANDed and erased, or the call says that it was cut.
+
+#![tactic(auto)]
+
+mod error;
+mod nor;
+
+pub use error::NorError;
+pub use nor::Nor;
