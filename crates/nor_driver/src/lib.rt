@@ -2,8 +2,11 @@
 
 #![tactic(auto)]
 
+mod driver;
 mod error;
 mod nor;
+mod steps;
 
+pub use driver::Driver;
 pub use error::NorError;
 pub use nor::Nor;
