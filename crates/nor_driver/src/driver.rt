@@ -1,5 +1,5 @@
 // The driver.
-ghost use Rattle.std.specs.Prelude.{◌≡◌, ◌%◌, ◌≤◌, true, false, ◌||◌, length, OnOk, IfErr};
+ghost use Rattle.std.specs.Prelude.{◌≡◌, ◌%◌, ◌≤◌, true, false, ◌||◌, length, IfOk, OnOk, IfErr, MatchResult};
 ghost use Rattle.std.specs.Result.{IsErrOf};
 ghost use Rattle.chip_model.specs.Chip.{is_idle, completed};
 ghost use Rattle.chip_model.specs.Cut.{TornMemory};
@@ -7,10 +7,12 @@ ghost use Rattle.chip_model.specs.Frames.{is_open};
 ghost use Rattle.chip_model.specs.FrameLaws.{is_setting};
 ghost use Rattle.nor_driver.specs.State.{AnswersWhatStands, Fails, IsReady, Kept, Leaves};
 ghost use Rattle.nor_driver.specs.Steps.{Begins, started};
+ghost use Rattle.nor_driver.specs.Probe.{Found, Probes};
 ghost use Rattle.nor_driver.specs.Shown.{StandsBehind, chip_sized, shown};
 
+use crate::probe::survey;
 use crate::steps::{ask, change, wake};
-use crate::{Nor, NorError};
+use crate::{Nor, NorError, ProbeError};
 use chip_model::SpiBus;
 use spi_frames::{Register, status};
 
@@ -30,6 +32,44 @@ pub struct Driver<B: SpiBus> {
 }
 
 impl<B: SpiBus> Driver<B> {
+    /// Turns the power of the bus's chip off and on again, and checks in this order: id bytes EFh 40h and a third byte from 10h
+    /// to 18h, else `WrongId`; an SFDP table that `read_params` accepts, else `Sfdp`; that the third id byte is that of the
+    /// table's size, else `WrongId`; BP, SEC, CMP and WPS 0, else `Protected`.
+    ///
+    /// `Cut` only where the power went in this call or couldn't be turned on; `Slow` is never answered. With each refusal the
+    /// bus is handed back. The memory is as before, but where an operation was in progress.
+    pub fn probe(mut bus: B) -> Result<Driver<B>, (B, ProbeError)>
+        ensures found { IfOk result (λ d. Found (B.chip bus) (B.cuts bus) (B.slows bus) (⟦<Driver<B> as Nor>⟧.state d)) }
+        ensures refused { IfErr result (λ r. Probes (Err r.1) (B.chip bus) (B.cuts bus) (B.slows bus) (B.chip r.0) (B.cuts r.0) (B.slows r.0)) }
+        ensures same { is_idle (B.chip bus).operation ≡ true → MatchResult result
+            (λ d. (⟦<Driver<B> as Nor>⟧.state d).memory ≡ (B.chip bus).memory) (λ r. (B.chip r.0).memory ≡ (B.chip bus).memory) }
+        ensures size { MatchResult result (λ d. length (⟦<Driver<B> as Nor>⟧.state d).memory ≡ length (B.chip bus).memory)
+            (λ r. length (B.chip r.0).memory ≡ length (B.chip bus).memory) }
+    {
+        match survey(&mut bus) {
+            Ok(params) => Ok(Driver {
+                bus,
+                bytes: params.bytes,
+                large: params.large.is_some(),
+                slow: false,
+            }),
+            Err(error) => Err((bus, error)),
+        }
+    }
+
+    /// The bus.
+    pub fn into_inner(self) -> B
+        ensures { StandsBehind (⟦<Driver<B> as Nor>⟧.state self) (B.chip result) (B.cuts result) (B.slows result) }
+    {
+        let Driver {
+            bus,
+            bytes: _bytes,
+            large: _large,
+            slow: _slow,
+        } = self;
+        bus
+    }
+
     /// One program or erase, whose frame this is.
     fn apply(&mut self, frame: &[u8]) -> Result<(), NorError>
         requires begins { Begins (B.chip self.old.bus) frame.now }

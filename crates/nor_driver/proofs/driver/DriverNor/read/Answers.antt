@@ -1,4 +1,4 @@
-use Rattle.std.proofs.Common.{◌≡◌, ◌∙◌, ◌+◌, ◌≤◌, List, ℕ, length, subst, ap, arith}
+use Rattle.std.proofs.Common.{◌∙◌, ◌+◌, ◌≤◌, List, ℕ, length, subst, ap, arith}
 use Rattle.std.specs.Prelude.{slice_range}
 use Rattle.chip_model.specs.Frames.{Answers, command_of}
 use Rattle.nor_driver.proofs.Shape.{read_back}
