@@ -78,13 +78,10 @@ impl<B: SpiBus> Driver<B> {
             Leaves (B.chip self.old.bus).memory (TornMemory begun.operation begun.memory) (completed begun).memory (B.chip self.new.bus).memory }
         ensures slow { IsErrOf result NorError.Slow → (B.chip self.new.bus).memory ≡ (B.chip self.old.bus).memory }
         ensures size { length (B.chip self.new.bus).memory ≡ length (B.chip self.old.bus).memory }
-        ensures ready { OnOk result (IsReady (shown (B.chip self.old.bus) (B.cuts self.old.bus) (B.slows self.old.bus) self.old.slow self.old.large)) }
-        ensures kept { OnOk result (Kept (shown (B.chip self.old.bus) (B.cuts self.old.bus) (B.slows self.old.bus) self.old.slow self.old.large)
-            (shown (B.chip self.new.bus) (B.cuts self.new.bus) (B.slows self.new.bus) self.new.slow self.new.large)) }
-        ensures fails { IfErr result (λ e. Fails e (shown (B.chip self.old.bus) (B.cuts self.old.bus) (B.slows self.old.bus) self.old.slow self.old.large)
-            (shown (B.chip self.new.bus) (B.cuts self.new.bus) (B.slows self.new.bus) self.new.slow self.new.large)) }
-        ensures stands { AnswersWhatStands (shown (B.chip self.old.bus) (B.cuts self.old.bus) (B.slows self.old.bus) self.old.slow self.old.large) result
-            (shown (B.chip self.new.bus) (B.cuts self.new.bus) (B.slows self.new.bus) self.new.slow self.new.large) }
+        ensures ready { OnOk result (IsReady (⟦<Driver<B> as Nor>⟧.state self.old)) }
+        ensures kept { OnOk result (Kept (⟦<Driver<B> as Nor>⟧.state self.old) (⟦<Driver<B> as Nor>⟧.state self.new)) }
+        ensures fails { IfErr result (λ e. Fails e (⟦<Driver<B> as Nor>⟧.state self.old) (⟦<Driver<B> as Nor>⟧.state self.new)) }
+        ensures stands { AnswersWhatStands (⟦<Driver<B> as Nor>⟧.state self.old) result (⟦<Driver<B> as Nor>⟧.state self.new) }
     {
         if self.slow {
             return Err(NorError::Slow);
