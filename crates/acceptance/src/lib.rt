@@ -1,0 +1,17 @@
+//! Tests that cross crates: what no clause of one crate says, and the worked rows of several of them at once.
+//!
+//! There is no product code here. The chip is `fault_model::SimChip`, behind a bus that keeps the codes of its frames.
+//! Expected bytes and answers are those of the tables in docs/CHIP.md and docs/SFDP.md.
+
+#![tactic(auto)]
+
+#[cfg(test)]
+mod changes;
+#[cfg(test)]
+mod discovery;
+#[cfg(test)]
+mod protection;
+#[cfg(test)]
+mod recorder;
+#[cfg(test)]
+mod tables;
