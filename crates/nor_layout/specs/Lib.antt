@@ -1,1 +1,5 @@
 pub mod Journals
+pub mod Superblock
+pub mod Votes
+pub mod Entries
+pub mod Headers
