@@ -9,3 +9,4 @@ pub mod Effects
 pub mod VoteCalls
 pub mod Renewal
 pub mod EntryCalls
+pub mod Data

@@ -5,3 +5,4 @@ pub mod Blocks
 pub mod BlockLaws
 pub mod Steps
 pub mod Scans
+pub mod Recovery

@@ -2,8 +2,10 @@
 
 #![tactic(auto)]
 
+mod block;
 mod entry_log;
 mod erase;
+mod error;
 mod journal;
 mod maintain;
 mod phase;
@@ -14,4 +16,5 @@ mod survey;
 mod unused;
 mod votes;
 
-pub use journal::{Journal, RecoverError};
+pub use error::RecoverError;
+pub use journal::Journal;
