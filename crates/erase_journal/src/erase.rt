@@ -21,8 +21,10 @@ pub fn doom<N: Nor>(nor: &mut N, journal: JournalId) -> Result<(), NorError>
     ensures kept { OnOk result (Kept (N.state nor.old) (N.state nor.new)) }
     ensures fails { IfErr result (λ e. Fails e (N.state nor.old) (N.state nor.new)) }
 {
-    open_vote(nor, journal.first_votes())?;
-    open_vote(nor, journal.second_votes())?;
+    let first = journal.first_votes();
+    let second = journal.second_votes();
+    open_vote(nor, first)?;
+    open_vote(nor, second)?;
     Ok(())
 }
 
@@ -37,8 +39,10 @@ pub fn renew<N: Nor>(nor: &mut N, journal: JournalId) -> Result<(), NorError>
     ensures kept { OnOk result (Kept (N.state nor.old) (N.state nor.new)) }
     ensures fails { IfErr result (λ e. Fails e (N.state nor.old) (N.state nor.new)) }
 {
+    let first = journal.first_votes();
+    let second = journal.second_votes();
     nor.erase_small(journal.place())?;
-    close_vote(nor, journal.first_votes())?;
-    close_vote(nor, journal.second_votes())?;
+    close_vote(nor, first)?;
+    close_vote(nor, second)?;
     Ok(())
 }
