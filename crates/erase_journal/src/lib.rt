@@ -18,6 +18,7 @@ mod entry_log;
 mod erase;
 mod error;
 mod journal;
+mod laws;
 mod maintain;
 mod phase;
 mod read;
@@ -31,3 +32,7 @@ mod votes;
 
 pub use error::RecoverError;
 pub use journal::Journal;
+pub use laws::{
+    blocks_have_one_size, maintenance_keeps_votes_that_last, same_blocks_make_one_list,
+    sound_journals_have_no_fault,
+};
