@@ -45,6 +45,7 @@ fn take_entry<N: Nor>(nor: &mut N, entry: u32, block: u16) -> Result<(), NorErro
     requires free { is_free_entry (N.state nor.old).memory entry ≡ true }
     ensures ok { OnOk result (IsTaken entry block (N.state nor.old).memory (N.state nor.new).memory) }
     ensures cut { IsErrOf result NorError.Cut → Stands (N.state nor.old).memory (N.state nor.new).memory }
+    ensures size { length (N.state nor.new).memory ≡ length (N.state nor.old).memory }
     ensures kept { OnOk result (Kept (N.state nor.old) (N.state nor.new)) }
     ensures fails { IfErr result (λ e. Fails e (N.state nor.old) (N.state nor.new)) }
 {
@@ -64,6 +65,7 @@ fn open_entry<N: Nor>(nor: &mut N, block: u16) -> Result<u32, NorError>
     ensures lowest { IfOk result (λ entry. (k : ℕ) → k < entry → is_free_entry (N.state nor.old).memory k ≡ false) }
     ensures erased { OnOk result (WithErased block (N.state nor.old).memory (N.state nor.new).memory) }
     ensures cut { IsErrOf result NorError.Cut → Interrupted block (N.state nor.old).memory (N.state nor.new).memory }
+    ensures size { length (N.state nor.new).memory ≡ length (N.state nor.old).memory }
     ensures kept { OnOk result (Kept (N.state nor.old) (N.state nor.new)) }
     ensures fails { IfErr result (λ e. Fails e (N.state nor.old) (N.state nor.new)) }
 {
@@ -83,6 +85,7 @@ pub fn finish_entry<N: Nor>(nor: &mut N, entry: u32, block: u16) -> Result<(), N
     ensures settled { OnOk result (IsSettled (N.state nor.new).memory) }
     ensures blocks { OnOk result (SameBlocks (N.state nor.old).memory (N.state nor.new).memory) }
     ensures cut { IsErrOf result NorError.Cut → Stands (N.state nor.old).memory (N.state nor.new).memory }
+    ensures size { length (N.state nor.new).memory ≡ length (N.state nor.old).memory }
     ensures kept { OnOk result (Kept (N.state nor.old) (N.state nor.new)) }
     ensures fails { IfErr result (λ e. Fails e (N.state nor.old) (N.state nor.new)) }
 {
@@ -100,6 +103,7 @@ pub fn erase_rested<N: Nor>(nor: &mut N, block: u16) -> Result<(), NorError>
     ensures settled { OnOk result (IsSettled (N.state nor.new).memory) }
     ensures erased { OnOk result (WithErased block (N.state nor.old).memory (N.state nor.new).memory) }
     ensures cut { IsErrOf result NorError.Cut → Interrupted block (N.state nor.old).memory (N.state nor.new).memory }
+    ensures size { length (N.state nor.new).memory ≡ length (N.state nor.old).memory }
     ensures kept { OnOk result (Kept (N.state nor.old) (N.state nor.new)) }
     ensures fails { IfErr result (λ e. Fails e (N.state nor.old) (N.state nor.new)) }
 {

@@ -18,6 +18,7 @@ pub fn doom<N: Nor>(nor: &mut N, journal: JournalId) -> Result<(), NorError>
     ensures ok { OnOk result (IsStep (once_erased journal (unused (N.state nor.old).memory)) (Phase.Doomed journal) (N.state nor.new).memory) }
     ensures blocks { OnOk result (SameBlocks (N.state nor.old).memory (N.state nor.new).memory) }
     ensures cut { IsErrOf result NorError.Cut → Stands (N.state nor.old).memory (N.state nor.new).memory }
+    ensures size { length (N.state nor.new).memory ≡ length (N.state nor.old).memory }
     ensures kept { OnOk result (Kept (N.state nor.old) (N.state nor.new)) }
     ensures fails { IfErr result (λ e. Fails e (N.state nor.old) (N.state nor.new)) }
 {
@@ -36,6 +37,7 @@ pub fn renew<N: Nor>(nor: &mut N, journal: JournalId) -> Result<(), NorError>
     ensures none { OnOk result (open_entries (N.state nor.new).memory ≡ 0) }
     ensures blocks { OnOk result (SameBlocks (N.state nor.old).memory (N.state nor.new).memory) }
     ensures cut { IsErrOf result NorError.Cut → Stands (N.state nor.old).memory (N.state nor.new).memory }
+    ensures size { length (N.state nor.new).memory ≡ length (N.state nor.old).memory }
     ensures kept { OnOk result (Kept (N.state nor.old) (N.state nor.new)) }
     ensures fails { IfErr result (λ e. Fails e (N.state nor.old) (N.state nor.new)) }
 {

@@ -5,9 +5,10 @@
 //! were. `Journal::recover` takes a memory exactly where its journals are healthy (`specs/Journals.antt`), and then neither it
 //! nor a loss of power in it changes a block, however often it is cut. Corrupt journals are refused, and nothing is changed.
 //! Three journals are used: an entry in J0 says which block is being erased, and two journals vote for the erase of the third.
-//! After a call that was cut every call answers Cut; nothing is said of the memory after a Slow. No call takes memory.
+//! After a call that was cut every other call answers Cut until `restore`, which turns the power on and recovers anew; nothing
+//! is said of the data blocks after a Slow. No call takes memory.
 //!
-//! Left to the crate above: what the data blocks hold, the superblock, and turning the power on.
+//! Left to the crate above: what the data blocks hold, the superblock, and when to restore.
 //!
 //! Source: own. See docs/JOURNAL.md.
 

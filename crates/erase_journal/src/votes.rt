@@ -30,6 +30,7 @@ pub fn open_vote<N: Nor>(nor: &mut N, region: u32) -> Result<(), NorError>
     requires some { 0 < (votes_at (N.state nor.old).memory region).unused }
     ensures ok { OnOk result (OneChanged region 255 254 (N.state nor.old).memory (N.state nor.new).memory) }
     ensures cut { IsErrOf result NorError.Cut → PerhapsChanged region 255 254 (N.state nor.old).memory (N.state nor.new).memory }
+    ensures size { length (N.state nor.new).memory ≡ length (N.state nor.old).memory }
     ensures kept { OnOk result (Kept (N.state nor.old) (N.state nor.new)) }
     ensures fails { IfErr result (λ e. Fails e (N.state nor.old) (N.state nor.new)) }
 {
@@ -45,6 +46,7 @@ pub fn close_vote<N: Nor>(nor: &mut N, region: u32) -> Result<(), NorError>
     requires some { 0 < (votes_at (N.state nor.old).memory region).opened }
     ensures ok { OnOk result (OneChanged region 254 252 (N.state nor.old).memory (N.state nor.new).memory) }
     ensures cut { IsErrOf result NorError.Cut → PerhapsChanged region 254 252 (N.state nor.old).memory (N.state nor.new).memory }
+    ensures size { length (N.state nor.new).memory ≡ length (N.state nor.old).memory }
     ensures kept { OnOk result (Kept (N.state nor.old) (N.state nor.new)) }
     ensures fails { IfErr result (λ e. Fails e (N.state nor.old) (N.state nor.new)) }
 {
