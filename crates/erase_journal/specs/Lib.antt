@@ -1,0 +1,10 @@
+pub mod Places
+pub mod Votes
+pub mod Journals
+pub mod Blocks
+pub mod BlockLaws
+pub mod Steps
+pub mod Faults
+pub mod Scans
+pub mod Recovery
+pub mod Laws
