@@ -1,6 +1,7 @@
 -- The bytes that are lent to a command, and the reply that is made of them.
-use Rattle.std.proofs.Common.{◌≡◌, ℕ, ◌+◌, ◌≤◌, Bool, true, false, List, [], ◌++◌, take, drop, take-add, Option, Some, None, refl, sym, ap, ◌∙◌, arith}
+use Rattle.std.proofs.Common.{◌≡◌, ℕ, ◌+◌, ◌≤◌, Bool, true, false, List, [], ◌++◌, take, drop, take-add, Option, Some, None, refl, sym, ap, ◌∙◌, arith, zero, suc, length-append, length, ◌∷◌}
 use Rattle.std.specs.Prelude.{if◌then◌else◌, ◌==◌}
+use Rattle.std.proofs.lemmas.List.{drop_at, take_at, length-drop, length-take, length-take-le}
 use Rattle.nbd_wire.specs.declared.command.Command.{Command}
 use Rattle.nbd_wire.specs.declared.command.CommandKind.{CommandKind}
 use Rattle.nbd_wire.specs.declared.command.CommandKind.TheVariants.{Read, Write, Disconnect, Flush, Unknown}
@@ -9,7 +10,8 @@ use Rattle.nbd_wire.specs.Heads.{reply_bytes}
 use Rattle.nbd_wire.proofs.CommandLaws.{accepted_range}
 use Rattle.nbd_transmission.specs.Apply.{data_of_kind, head_of, reply_to}
 use Rattle.session.specs.Lent.{data_in_of, data_len, data_len_of, lent_len, lent_len_of, finished, FilledOf, IsFilled, IsRunnable}
-use Rattle.session.specs.Line.{Line, StandsFor, StandsIn}
+use Rattle.session.specs.Lending.{given_back, written_over}
+use Rattle.session.specs.Line.{room_of, Line, StandsFor, StandsIn}
 use Rattle.session.specs.declared.stage.Stage.{Stage}
 use Rattle.session.specs.declared.stage.Stage.TheVariants.{Negotiating, Requesting, Ended}
 
@@ -78,4 +80,35 @@ stands_beside line text bytes running replied same h = by_stage line.stage h whe
   by_stage : (stage : Stage) → StandsIn stage line text → StandsIn stage (record line { running = running; bytes = bytes; replied = replied }) text
   by_stage Negotiating h = h
   by_stage Requesting h = record { parser = h.parser; payload = ap (λ (l : List ℕ). take line.filled l) same ∙ h.payload }
+  by_stage Ended h = h
+
+-- ---- the bytes that were lent, given back
+
+-- what is written over a part as long is there
+over_part : (old bytes : List ℕ) (n : ℕ) → 16 + n ≤ length old → length bytes ≡ n → take n (drop 16 (written_over old bytes)) ≡ bytes
+over_part old bytes n fits len =
+    let front : length (take 16 old) ≡ 16 = length-take-le 16 old (omega arith) in
+    let behind = bytes ++ drop (length bytes) (drop 16 old) in
+    let whole = take 16 old ++ behind in
+    let sizes : length whole ≡ length old = omega (arith, length-append (take 16 old) behind, length-append bytes (drop (length bytes) (drop 16 old)), length-drop (length bytes) (drop 16 old), length-drop 16 old) in
+    let all : take (length old) (whole ++ drop (length whole) old) ≡ whole = take_at whole (drop (length whole) old) (length old) sizes in
+    ap (λ (l : List ℕ). take n (drop 16 l)) all ∙ ap (λ (l : List ℕ). take n l) (drop_at (take 16 old) behind 16 front) ∙ take_at bytes (drop (length bytes) (drop 16 old)) n len
+
+nothing : (bytes : List ℕ) → length bytes ≡ 0 → bytes ≡ []
+nothing [] e = refl
+nothing (x ∷ bytes) e = cc
+
+pub room_given : (line : Line) (bytes : List ℕ) → length (room_of line) ≡ lent_len line.running → length bytes ≡ length (room_of line) → room_of (given_back line bytes) ≡ bytes
+room_given line bytes whole len = by_len (lent_len line.running) whole (len ∙ whole) where
+  by_len : (n : ℕ) → length (take n (drop 16 line.bytes)) ≡ n → length bytes ≡ n → take n (drop 16 (written_over line.bytes bytes)) ≡ bytes
+  by_len zero e same = sym (nothing bytes same)
+  by_len (suc n) e same =
+      let fits : 16 + suc n ≤ length line.bytes = omega (arith, length-take (suc n) (drop 16 line.bytes), length-drop 16 line.bytes) in
+      over_part line.bytes bytes (suc n) fits same
+
+pub stands_given : (line : Line) (text bytes : List ℕ) → line.filled ≡ 0 → StandsFor line text → StandsFor (given_back line bytes) text
+stands_given line text bytes none h = by_stage line.stage h where
+  by_stage : (stage : Stage) → StandsIn stage line text → StandsIn stage (given_back line bytes) text
+  by_stage Negotiating h = h
+  by_stage Requesting h = record { parser = h.parser; payload = ap (λ (m : ℕ). take m (drop 16 (written_over line.bytes bytes))) none ∙ sym (ap (λ (m : ℕ). take m (drop 16 line.bytes)) none) ∙ h.payload }
   by_stage Ended h = h

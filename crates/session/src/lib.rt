@@ -9,7 +9,8 @@
 //! Left to the crate above: to send each reply before the next `take`, to run the commands, to fill a READ's buffer, and to
 //! call again with the bytes that were not used. A command that is not finished is forgotten at the next `take`.
 //!
-//! Source: NBD proto.md; the limits are own. `parts` says what a text comes to, `parts_laws` how it grows.
+//! Source: NBD proto.md; the limits are own. `parts` says what a text comes to and `parts_laws` how it grows,
+//! `buffer_laws` what a write to the buffer leaves.
 #![tactic(auto)]
 
 mod laws;
@@ -20,6 +21,6 @@ mod stage;
 #[cfg(test)]
 mod tests;
 
-pub use laws::parts_laws;
+pub use laws::{buffer_laws, parts_laws};
 pub use next::{Next, OpenError, Taken};
 pub use session::{STORE_LEN, Session};

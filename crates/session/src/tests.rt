@@ -1,5 +1,10 @@
 //! Connections to a disk of 70 sectors (8C00h bytes), written out by hand from NBD proto.md.
 
+ghost use Rattle.std.specs.Prelude.{◌≡◌, ◌+◌, ◌≤◌, Some, length};
+ghost use Rattle.nbd_transmission.specs.Apply.{reply_to};
+ghost use Rattle.session.specs.Line.{IsRunning, reply_of};
+
+use crate::laws::buffer_laws;
 use crate::next::{Next, OpenError, Taken};
 use crate::session::Session;
 use nbd_wire::{Command, CommandKind};
@@ -72,6 +77,20 @@ fn run(session: &mut Session, command: &Command, disk: &mut [u8]) -> u32 {
         CommandKind::Unknown(_) => {}
     }
     0
+}
+
+/// Answers a READ from contents: what a caller does with a buffer, and what it then knows of the reply.
+fn answer_read(session: &mut Session, command: &Command, contents: &[u8])
+    requires running { IsRunning session.old.sectors command.now session.old }
+    requires kind { command.now.kind ≡ CommandKind.Read }
+    requires within { command.now.offset + command.now.length ≤ length contents.now }
+    ensures { reply_of session.new ≡ reply_to session.old.sectors contents.now command.now }
+{
+    buffer_laws();
+    let buffer = session.buffer();
+    let at = command.offset as usize;
+    buffer.copy_from_slice(&contents[at..at + buffer.len()]);
+    session.finish(0);
 }
 
 /// The name of an answer.
@@ -413,6 +432,27 @@ const READ_REQUEST: [u8; 28] = [
 ];
 
 const FAILED_REPLY: [u8; 16] = [0x67, 0x44, 0x66, 0x98, 0, 0, 0, 5, 1, 2, 3, 4, 5, 6, 7, 8];
+
+#[test]
+fn a_read_is_replied_from_contents(rt: HostRuntime) -> Result<(), Fail> {
+    let alloc = rt.alloc();
+    let expected = bytes_of(alloc, "67446698 00000000 0102030405060708 5A*512")?;
+    let Ok(mut session) = Session::open(alloc, 70) else {
+        return Err(Fail::from("no memory"));
+    };
+    check(&rt, alloc, &mut session, usize::MAX, BEGIN, BEGUN, "Reply")?;
+    let Next::Run(command) = session.take(&READ_REQUEST).next else {
+        return Err(Fail::from("no command"));
+    };
+    match command.kind {
+        CommandKind::Read if command.offset == 0 && command.length == 512 => {
+            answer_read(&mut session, &command, &[0x5A; 512]);
+        }
+        _ => return Err(Fail::from("another command")),
+    }
+    assert_eq!(&rt; session.reply(), expected.as_slice());
+    Ok(())
+}
 
 #[test]
 fn a_finished_command_is_replied(rt: HostRuntime) -> Result<(), Fail> {
