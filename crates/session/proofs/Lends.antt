@@ -1,7 +1,7 @@
 -- The bytes that are lent to a command, and the reply that is made of them.
 use Rattle.std.proofs.Common.{◌≡◌, ℕ, ◌+◌, ◌≤◌, Bool, true, false, List, [], ◌++◌, take, drop, take-add, Option, Some, None, refl, sym, ap, ◌∙◌, arith, zero, suc, length-append, length, ◌∷◌}
 use Rattle.std.specs.Prelude.{if◌then◌else◌, ◌==◌}
-use Rattle.std.proofs.lemmas.List.{drop_at, take_at, length-drop, length-take, length-take-le}
+use Rattle.std.proofs.lemmas.List.{take-append-drop, drop_at, take_at, length-drop, length-take, length-take-le}
 use Rattle.nbd_wire.specs.declared.command.Command.{Command}
 use Rattle.nbd_wire.specs.declared.command.CommandKind.{CommandKind}
 use Rattle.nbd_wire.specs.declared.command.CommandKind.TheVariants.{Read, Write, Disconnect, Flush, Unknown}
@@ -112,3 +112,10 @@ stands_given line text bytes none h = by_stage line.stage h where
   by_stage Negotiating h = h
   by_stage Requesting h = record { parser = h.parser; payload = ap (λ (m : ℕ). take m (drop 16 (written_over line.bytes bytes))) none ∙ sym (ap (λ (m : ℕ). take m (drop 16 line.bytes)) none) ∙ h.payload }
   by_stage Ended h = h
+
+-- where nothing is lent, nothing changes
+pub given_nothing : (line : Line) (bytes : List ℕ) → line.running ≡ None → length bytes ≡ length (room_of line) → given_back line bytes ≡ line
+given_nothing line bytes idle len =
+    let none : bytes ≡ [] = nothing bytes (len ∙ ap (λ (o : Option Command). length (take (lent_len o) (drop 16 line.bytes))) idle) in
+    let same = ap (λ (w : List ℕ). take (length line.bytes) (w ++ drop (length w) line.bytes)) (take-append-drop 16 line.bytes) ∙ take_at line.bytes (drop (length line.bytes) line.bytes) (length line.bytes) refl in
+    ap (given_back line) none ∙ ap (λ (b : List ℕ). record line { bytes = b }) same

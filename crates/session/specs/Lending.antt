@@ -2,7 +2,6 @@
 use Rattle.std.specs.Prelude.{◌≡◌, ℕ, List, ◌++◌, length, take, drop}
 use Rattle.std.specs.Borrow.{Lends, MutBor, Fml, u8, Array}
 use Rattle.nbd_wire.specs.declared.constants.TheConstants.{REPLY_LEN}
-use Rattle.nbd_wire.specs.declared.command.Command.{Command}
 use Rattle.session.specs.Line.{Line, StandsFor, room_of}
 use Rattle.session.specs.contracts.session.Session.{the_row}
 
@@ -21,6 +20,6 @@ LendsRoom line room = Lends the_row (Array u8 0) line room (given_back line.now)
 
 -- What a session is after its buffer was lent to a command and these bytes, as many, were left there: they are in its buffer, and it
 -- stands for the texts that it stood for.
-pub record IsGivenBack (sectors : ℕ) (command : Command) (line : Line) (bytes : List ℕ) : Type 0 where
+pub record IsGivenBack (line : Line) (bytes : List ℕ) : Type 0 where
   pub room : length bytes ≡ length (room_of line) → room_of (given_back line bytes) ≡ bytes
   pub stands : (text : List ℕ) → StandsFor line text → StandsFor (given_back line bytes) text
