@@ -1,9 +1,6 @@
 //! One connection.
 
-ghost use Rattle.std.specs.Prelude.{◌≡◌, ◌<◌, ◌≤◌, ◌+◌, ◌++◌, ℕ, List, [], true, false, None, Some, IfOk, length, take, drop};
-ghost use Rattle.nbd_transmission.specs.Apply.{reply_to};
-ghost use Rattle.session.specs.Lent.{finished, lent_len, IsFilled};
-ghost use Rattle.session.specs.Line.{reply_of, room_of, is_closed, is_close, silent, StandsFor, Says, IsReady, IsFresh};
+ghost use Rattle.std.specs.Prelude.{◌≡◌, IfOk, vec_len};
 
 use crate::next::{Next, OpenError, Taken};
 use crate::receive::{data_len, lent_len, put_head, receive};
@@ -54,9 +51,7 @@ impl Session {
     pub fn open(alloc: Global, sectors: u32) -> Result<Session, OpenError>
         ensures { IfOk result (λ session. IsFresh sectors session) }
     {
-        let Ok(bytes) = vec![in alloc; 0u8; STORE_LEN] else {
-            return Err(OpenError::OutOfMemory);
-        };
+        let bytes = new_store(alloc)?;
         let mut session = Session {
             sectors,
             stage: Stage::Ended,
@@ -257,5 +252,15 @@ impl Session {
                 }
             }
         }
+    }
+}
+
+/// The buffer of a new session.
+fn new_store(alloc: Global) -> Result<Vec<u8>, OpenError>
+    ensures { IfOk result (λ bytes. vec_len bytes ≡ STORE_LEN) }
+{
+    match vec![in alloc; 0u8; STORE_LEN] {
+        Ok(bytes) => Ok(bytes),
+        Err(_) => Err(OpenError::OutOfMemory),
     }
 }
