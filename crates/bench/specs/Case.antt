@@ -26,10 +26,10 @@ frames_of UnitErase = 4
 
 -- how many rounds are timed in one go
 abbrev pub rounds_of : Case → ℕ
-rounds_of ShortRead = 2000000
-rounds_of LongRead = 50000
-rounds_of PageProgram = 1000000
-rounds_of UnitErase = 500000
+rounds_of ShortRead = 200000
+rounds_of LongRead = 5000
+rounds_of PageProgram = 100000
+rounds_of UnitErase = 50000
 
 -- the address of a round: one unit after another over 1 MiB, and then from the first again
 abbrev pub place_of : Case → ℕ → ℕ

@@ -70,15 +70,15 @@ impl Case {
         }
     }
 
-    /// How many rounds are timed in one go, which takes about a tenth of a second.
+    /// How many rounds are timed in one go, which takes about ten milliseconds.
     pub fn rounds(self) -> u32
         ensures { result ≡ rounds_of self }
     {
         match self {
-            Case::ShortRead => 2_000_000,
-            Case::LongRead => 50_000,
-            Case::PageProgram => 1_000_000,
-            Case::UnitErase => 500_000,
+            Case::ShortRead => 200_000,
+            Case::LongRead => 5_000,
+            Case::PageProgram => 100_000,
+            Case::UnitErase => 50_000,
         }
     }
 

@@ -17,7 +17,7 @@ use std::rt::Clock;
 use std::time::Instant;
 
 /// How often the rounds of a case are timed; the least time counts.
-const GOES: u32 = 7;
+const GOES: u32 = 64;
 
 /// Why a case has no row.
 #[derive(Clone, Copy, Debug, PartialEq, Eq)]
@@ -76,7 +76,7 @@ fn time_of_rounds<B: SpiBus>(
 ) -> Result<u64, Failure>
     requires bytes { length buffer.old ≡ bytes_of case }
     requires idle { is_idle (B.chip bus.old.bus).operation ≡ true }
-    requires room { bus.old.frames + 8000000 < 2 ^ 64 }
+    requires room { bus.old.frames + 800000 < 2 ^ 64 }
     ensures counted { OnOk result (bus.new.frames ≡ bus.old.frames + rounds_of case * frames_of case) }
     ensures idle { OnOk result (is_idle (B.chip bus.new.bus).operation ≡ true) }
     ensures cuts { OnOk result (B.cuts bus.new.bus ≡ B.cuts bus.old.bus) }
@@ -145,8 +145,8 @@ mod tests {
     fn an_erase_is_measured(rt: HostRuntime) -> Result<(), Fail> {
         let row = measured(&rt, rt.alloc(), Case::UnitErase)?;
         assert_eq!(rt; row.case, Case::UnitErase);
-        assert_eq!(rt; row.frames, 2_000_000);
-        assert_eq!(rt; row.bytes, 2_048_000_000);
+        assert_eq!(rt; row.frames, 200_000);
+        assert_eq!(rt; row.bytes, 204_800_000);
         Ok(())
     }
 
