@@ -219,39 +219,28 @@ impl Session {
             bytes,
         );
         let used = taken.used;
-        match taken.next {
+        let next = match taken.next {
             nbd_transmission::Next::More => {
                 self.filled += taken.payload;
-                Taken {
-                    used,
-                    next: Next::More,
-                }
+                Next::More
             }
             nbd_transmission::Next::Run(command) => {
                 self.filled = 0;
                 self.running = Some(command);
-                Taken {
-                    used,
-                    next: Next::Run(command),
-                }
+                Next::Run(command)
             }
             nbd_transmission::Next::Refused(cookie, error) => {
                 self.filled = 0;
                 self.replied = put_head(self.bytes.as_mut_slice(), Reply { error, cookie });
-                Taken {
-                    used,
-                    next: Next::Reply,
-                }
+                Next::Reply
             }
             nbd_transmission::Next::Close => {
                 self.filled = 0;
                 self.stage = Stage::Ended;
-                Taken {
-                    used,
-                    next: Next::Close,
-                }
+                Next::Close
             }
-        }
+        };
+        Taken { used, next }
     }
 }
 
