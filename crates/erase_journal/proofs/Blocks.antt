@@ -1,21 +1,18 @@
 -- What the steps leave of the blocks.
-use Rattle.std.proofs.Common.{◌≡◌, ◌≢◌, ◌⊎◌, ℕ, zero, suc, ◌+◌, ◌-◌, ◌*◌, ◌/◌, ◌<◌, ◌≤◌, Bool, true, false, not, ◌&&◌, List, length, take, drop, replicate, get_or, get_or-take, get_or-drop, length-take, length-drop, refl, sym, ap, ◌∙◌, arith, rules, inl, inr, lit<, lit≤, if◌then◌else◌}
+use Rattle.std.proofs.Common.{◌≡◌, ℕ, zero, suc, ◌+◌, ◌-◌, ◌*◌, ◌/◌, ◌<◌, ◌≤◌, true, ◌&&◌, List, length, refl, sym, ◌∙◌, arith, inl, inr}
 use Rattle.std.specs.Prelude.{◌==◌}
 use Rattle.std.proofs.lemmas.Bool.Decides.{nat_tests}
 use Rattle.std.proofs.lemmas.Bool.{cases_lt}
-use Rattle.chip_model.specs.Memory.{byte}
 use Rattle.chip_model.specs.Parts.{part}
 use Rattle.chip_model.specs.PartLaws.{part-same}
-use Rattle.chip_model.specs.Geometry.{block_count}
-use Rattle.erase_journal.specs.Places.{how_many, Spoiled, Changed}
+use Rattle.erase_journal.specs.Places.{Spoiled, Changed}
 use Rattle.nor_layout.specs.declared.journal.JournalId.{JournalId}
 use Rattle.nor_layout.specs.declared.journal.JournalId.TheVariants.{J0, J1, J2}
-use Rattle.erase_journal.specs.declared.phase.Phase.{Phase}
 use Rattle.erase_journal.specs.declared.phase.Phase.TheVariants.{Idle, Asked, Doomed, Closing}
-use Rattle.erase_journal.specs.Journals.{survey_of, first, second, open_entries, entries_for, is_open_entry, entry_block, entry, IsSound, IsSettled}
-use Rattle.erase_journal.specs.Blocks.{blank, block, blocks_of, listed, is_believed0, SameChip, SameBlocks, OnlyBlock, WithErased}
+use Rattle.erase_journal.specs.Journals.{survey_of, first, second, open_entries, entries_for, is_open_entry, entry_block, IsSound}
+use Rattle.erase_journal.specs.Blocks.{blank, block, blocks_of, listed, SameChip, SameBlocks, WithErased}
 use Rattle.erase_journal.proofs.Counts.{how_many-below}
-use Rattle.erase_journal.proofs.Entries.{named-change, state-changed, state-is, state-was, not-open, data-spoiled, same-votes-entry, same-votes-data, SameVotes}
+use Rattle.erase_journal.proofs.Entries.{named-change, state-changed, state-is, not-open}
 use Rattle.erase_journal.proofs.Regions.{BytesKept, spoiled-below, spoiled-above, SameEntries}
 
 -- A block that a change does not reach is as it was.

@@ -1,7 +1,5 @@
 -- Laws of `how_many`.
-use Rattle.std.proofs.Common.{◌≡◌, ◌≢◌, ◌⊎◌, ℕ, zero, suc, ◌+◌, ◌<◌, ◌≤◌, Bool, true, false, refl, sym, ap, ◌∙◌, arith, rules, inl, inr, add-one, if◌then◌else◌, lit≤}
-use Rattle.std.proofs.lemmas.Grind.{common_steps}
-use native.Mathlib.Decide.{dec_lt}
+use Rattle.std.proofs.Common.{◌≡◌, ◌≢◌, ℕ, zero, suc, ◌+◌, ◌<◌, ◌≤◌, Bool, true, false, refl, sym, ◌∙◌, arith, if◌then◌else◌, lit≤}
 use Rattle.erase_journal.specs.Places.{how_many}
 
 pub how_many-zero : (p : ℕ → Bool) → how_many p 0 ≡ 0

@@ -1,5 +1,5 @@
 -- Bytes of a data block are read and programmed.
-use Rattle.std.proofs.Common.{◌≡◌, ◌≢◌, ◌⊎◌, ℕ, ◌+◌, ◌-◌, ◌*◌, ◌/◌, ◌<◌, ◌≤◌, Bool, true, false, List, length, take, drop, get_or-take, get_or-drop, length-take, length-drop, refl, sym, ap, ◌∙◌, arith, inl, inr, add_assoc}
+use Rattle.std.proofs.Common.{◌≡◌, ◌⊎◌, ℕ, ◌+◌, ◌-◌, ◌*◌, ◌<◌, ◌≤◌, Bool, true, false, List, length, drop, get_or-take, get_or-drop, length-take, length-drop, refl, sym, ap, ◌∙◌, arith, inl, inr, add_assoc}
 use Rattle.std.specs.Prelude.{slice_range, bit_and, Result, Ok, Err, OnOk}
 use Rattle.std.specs.Result.{IsErrOf}
 use Rattle.std.proofs.lemmas.Bool.{cases_lt}
@@ -13,8 +13,8 @@ use Rattle.nor_driver.specs.declared.error.NorError.{NorError}
 use Rattle.nor_driver.specs.declared.error.NorError.TheVariants as errors
 use Rattle.erase_journal.specs.declared.phase.Phase.TheVariants.{Idle}
 use Rattle.erase_journal.specs.Places.{Spoiled}
-use Rattle.erase_journal.specs.Journals.{IsSound, IsSettled, IsHealthy, open_entries}
-use Rattle.erase_journal.specs.Blocks.{block, SameChip, SameBlocks, OnlyBlock}
+use Rattle.erase_journal.specs.Journals.{IsSettled, IsHealthy}
+use Rattle.erase_journal.specs.Blocks.{block, OnlyBlock}
 use Rattle.erase_journal.specs.Steps.{IsFirst}
 use Rattle.erase_journal.proofs.Regions.{spoiled-below, spoiled-above}
 use Rattle.erase_journal.proofs.Entries.{data-spoiled}

@@ -1,5 +1,5 @@
 -- What the calls of a NOR memory do to its places.
-use Rattle.std.proofs.Common.{◌≡◌, ◌≢◌, ℕ, zero, suc, ◌+◌, ◌-◌, ◌<◌, ◌≤◌, ◌⊎◌, Bool, true, false, cond, List, [], ◌∷◌, length, get_or, refl, sym, ap, ◌∙◌, arith, inl, inr}
+use Rattle.std.proofs.Common.{◌≡◌, ◌≢◌, ℕ, zero, suc, ◌+◌, ◌<◌, ◌≤◌, ◌⊎◌, false, List, [], ◌∷◌, length, refl, sym, ap, ◌∙◌, arith, inl, inr}
 use Rattle.std.specs.Prelude.{bit_and, Result, Ok, Err, OnOk, IfErr}
 use Rattle.std.specs.Int.{bit_at}
 use Rattle.std.proofs.lemmas.List.{get_or_past}
@@ -9,7 +9,7 @@ use Rattle.std.proofs.lemmas.Grind.{same_number_lists}
 use Rattle.chip_model.specs.Memory.{byte, and_at, erased, is_within, IsMixed, TornAnd, TornErase}
 use Rattle.chip_model.specs.MemoryLaws.{length-placed, get-placed, placed-inside, length-erased, erased-outside, erased-inside, within, not-within-below, not-within-above}
 use Rattle.chip_model.specs.BitLaws.{mixed_same, mixed_one}
-use Rattle.nor_driver.specs.State.{NorState, IsReady, Kept, Fails, Leaves, as_before, torn_in_it, changed_whole}
+use Rattle.nor_driver.specs.State.{NorState, Kept, Fails, Leaves, as_before, torn_in_it, changed_whole}
 use Rattle.nor_driver.specs.declared.error.NorError.{NorError}
 use Rattle.nor_driver.specs.declared.error.NorError.TheVariants as errors
 use Rattle.erase_journal.specs.Places.{Spoiled, Changed}

@@ -1,18 +1,13 @@
 -- The steps of an erase of a data block leave the journals sound.
-use Rattle.std.proofs.Common.{◌≡◌, ◌≢◌, ◌⊎◌, ℕ, zero, suc, ◌+◌, ◌-◌, ◌*◌, ◌<◌, ◌≤◌, Bool, true, false, not, ◌&&◌, List, length, refl, sym, ap, ◌∙◌, arith, rules, inl, inr, lit<, lit≤, if◌then◌else◌, add_assoc, add-zero}
+use Rattle.std.proofs.Common.{◌≡◌, ◌≢◌, ℕ, ◌+◌, ◌*◌, ◌<◌, ◌≤◌, true, false, ◌&&◌, List, refl, ap, arith, inl, inr, lit<, if◌then◌else◌, add-zero}
 use Rattle.std.proofs.lemmas.Bool.{cases_lt}
 use Rattle.std.proofs.lemmas.Bool.Decides.{nat_tests}
 use Rattle.std.specs.Prelude.{◌==◌}
-use Rattle.chip_model.specs.Memory.{byte}
-use Rattle.erase_journal.specs.Places.{how_many, Spoiled, Changed}
-use Rattle.nor_layout.specs.declared.journal.JournalId.{JournalId}
+use Rattle.erase_journal.specs.Places.{Spoiled, Changed}
 use Rattle.nor_layout.specs.declared.journal.JournalId.TheVariants.{J0, J1, J2}
-use Rattle.erase_journal.specs.declared.phase.Phase.{Phase}
-use Rattle.erase_journal.specs.declared.phase.Phase.TheVariants.{Idle, Asked, Doomed, Closing}
-use Rattle.erase_journal.specs.declared.unused.Unused.{Unused}
+use Rattle.erase_journal.specs.declared.phase.Phase.TheVariants.{Idle}
 use Rattle.erase_journal.specs.Votes.{IsRested, Last}
-use Rattle.erase_journal.specs.Journals.{votes_at, survey_of, unused, unused_of, free_entries, open_entries, entries_for, entry, entry_block, is_free_entry, is_open_entry, settled, IsSound}
-use Rattle.erase_journal.specs.Steps.{SameNumbers}
+use Rattle.erase_journal.specs.Journals.{votes_at, unused, free_entries, open_entries, entries_for, entry, entry_block, is_free_entry, is_open_entry, IsSound}
 use Rattle.erase_journal.proofs.Counts.{how_many-change}
 use Rattle.erase_journal.proofs.Regions.{SameEntries, votes-below, votes-above, entries-below}
 use Rattle.erase_journal.proofs.Lasting.{Last-moved, Last-rested}

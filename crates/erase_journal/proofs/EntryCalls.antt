@@ -1,26 +1,25 @@
 -- An entry is taken, opened and closed.
-use Rattle.std.proofs.Common.{◌≡◌, ◌≢◌, ◌⊎◌, ℕ, zero, suc, ◌+◌, ◌-◌, ◌*◌, ◌/◌, ◌%◌, ◌^◌, ◌<◌, ◌≤◌, Bool, true, false, ◌&&◌, List, [], ◌∷◌, length, get_or, refl, sym, ap, ◌∙◌, arith, inl, inr, add-zero, lit<, lit≤, replicate, take, drop, get_or-take, get_or-drop, length-take, length-drop}
+use Rattle.std.proofs.Common.{◌≡◌, ◌≢◌, ℕ, ◌+◌, ◌*◌, ◌/◌, ◌%◌, ◌<◌, ◌≤◌, true, ◌&&◌, List, [], ◌∷◌, length, get_or, ap, ◌∙◌, arith, inl, inr, add-zero, lit<, lit≤}
 use Rattle.std.specs.Prelude.{bit_and, ◌==◌}
 use Rattle.std.proofs.lemmas.Nat.{and_mask, and_comm}
 use Rattle.std.proofs.lemmas.Bool.{cases_lt, cases_eq}
 use Rattle.std.proofs.lemmas.Bool.Decides.{nat_tests}
-use Rattle.chip_model.specs.Memory.{byte, and_at, erased, is_within, TornAnd, TornErase}
-use Rattle.chip_model.specs.MemoryLaws.{length-placed, placed-inside, within, not-within-below, not-within-above}
+use Rattle.chip_model.specs.Memory.{byte, and_at, erased, TornAnd, TornErase}
+use Rattle.chip_model.specs.MemoryLaws.{placed-inside, not-within-above}
 use Rattle.chip_model.specs.BitLaws.{mixed_one}
 use Rattle.chip_model.specs.Parts.{part}
 use Rattle.chip_model.specs.PartLaws.{part-erased}
 use Rattle.nor_driver.specs.State.{Leaves, as_before, torn_in_it, changed_whole}
-use Rattle.erase_journal.specs.declared.phase.Phase.{Phase}
-use Rattle.erase_journal.specs.declared.phase.Phase.TheVariants.{Idle, Asked, Doomed, Closing}
+use Rattle.erase_journal.specs.declared.phase.Phase.TheVariants.{Idle}
 use Rattle.erase_journal.specs.Places.{how_many, Spoiled, Changed}
-use Rattle.erase_journal.specs.Journals.{entry, entry_block, is_free_entry, is_open_entry, IsSound, IsSettled, open_entries, entries_for}
-use Rattle.erase_journal.specs.Blocks.{blank, SameChip, SameBlocks, WithErased}
+use Rattle.erase_journal.specs.Journals.{entry, entry_block, is_free_entry, is_open_entry, IsSettled, entries_for}
+use Rattle.erase_journal.specs.Blocks.{blank, SameBlocks, WithErased}
 use Rattle.erase_journal.specs.Steps.{Stands, Interrupted, as_it_was, block_erased, IsRestful, IsOpened, IsTaken}
-use Rattle.erase_journal.proofs.Effects.{past-same, spoiled-refl, and-spoiled, and-outside, torn-spoiled, program-leaves, program-changes, bit-open, bit-close, bit-done, erase-leaves, erased-spoiled}
-use Rattle.erase_journal.proofs.Entries.{entry-taken, entry-opened, entry-closed, data-spoiled, state-changed, state-is}
+use Rattle.erase_journal.proofs.Effects.{spoiled-refl, and-spoiled, and-outside, torn-spoiled, program-leaves, program-changes, bit-open, bit-close, bit-done, erase-leaves, erased-spoiled}
+use Rattle.erase_journal.proofs.Entries.{entry-taken, entry-opened, entry-closed, data-spoiled, state-is}
 use Rattle.erase_journal.proofs.Blocks.{plain-none, plain-kept, opened-erases, spoiled-same, closed-same}
 use Rattle.erase_journal.proofs.Counts.{how_many-none}
-use Rattle.erase_journal.proofs.Renewal.{same-chip-on, same-blocks-refl, same-blocks-on, stands-as, stands-on}
+use Rattle.erase_journal.proofs.Renewal.{same-chip-on, same-blocks-refl, stands-on}
 
 and-255 : (x : ℕ) → x < 256 → bit_and 255 x ≡ x
 and-255 x low = and_comm 255 x ∙ and_mask x 8 ∙ (omega arith)

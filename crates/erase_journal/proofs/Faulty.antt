@@ -1,5 +1,5 @@
 -- Journals that are sound in a phase have no fault, and journals without a fault are sound in a phase.
-use Rattle.std.proofs.Common.{◌≡◌, ◌⊎◌, ◌↔◌, ℕ, ◌+◌, ◌<◌, ◌≤◌, refl, sym, ap, ◌∙◌, subst, arith, inl, inr}
+use Rattle.std.proofs.Common.{◌≡◌, ◌⊎◌, ℕ, ◌+◌, ◌≤◌, refl, sym, ◌∙◌, arith, inl, inr}
 use Rattle.std.specs.Prelude.{Bool, nat_lt, ◌&&◌, if◌then◌else◌}
 use Rattle.std.proofs.lemmas.Bool.{cases_lt}
 use Rattle.std.proofs.lemmas.Bool.Decides.{nat_tests}
@@ -9,8 +9,7 @@ use Rattle.nor_layout.specs.Journals.{next}
 use Rattle.erase_journal.specs.declared.phase.Phase.{Phase}
 use Rattle.erase_journal.specs.declared.phase.Phase.TheVariants.{Idle, Asked, Doomed, Closing}
 use Rattle.erase_journal.specs.declared.survey.Survey.{Survey}
-use Rattle.erase_journal.specs.Votes.{Last}
-use Rattle.erase_journal.specs.Journals.{first, second, unused_of, settled, IsInPhase, IsSoundSurvey}
+use Rattle.erase_journal.specs.Journals.{first, second, IsInPhase, IsSoundSurvey}
 use Rattle.erase_journal.specs.Faults.{IsDoomed, IsBelieved, after_next, HasVote, HasNoFault, SoundHasNoFault}
 
 -- no byte is wrong, and of the open votes and entries there is one at most

@@ -1,9 +1,9 @@
 -- Maintenance never uses up the votes.
-use Rattle.std.proofs.Common.{◌≡◌, ◌⊎◌, ℕ, ◌+◌, ◌-◌, ◌*◌, ◌<◌, ◌≤◌, refl, arith, inl, inr}
+use Rattle.std.proofs.Common.{◌≡◌, ℕ, ◌+◌, ◌-◌, ◌*◌, ◌<◌, arith}
 use Rattle.nor_layout.specs.declared.journal.JournalId.{JournalId}
 use Rattle.nor_layout.specs.declared.journal.JournalId.TheVariants.{J0, J1, J2}
 use Rattle.erase_journal.specs.declared.unused.Unused.{Unused}
-use Rattle.erase_journal.specs.Votes.{IsTired, IsRested, IsLowestTired, Last, once_erased}
+use Rattle.erase_journal.specs.Votes.{IsRested, IsLowestTired, Last, once_erased}
 use Rattle.erase_journal.specs.Steps.{SameNumbers}
 
 -- Maintenance keeps what lasts.

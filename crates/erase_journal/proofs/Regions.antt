@@ -1,10 +1,8 @@
 -- What a change of the memory does to the votes and entries.
-use Rattle.std.proofs.Common.{◌≡◌, ◌≢◌, ◌⊎◌, ℕ, zero, suc, ◌+◌, ◌-◌, ◌*◌, ◌<◌, ◌≤◌, Bool, true, false, not, ◌&&◌, ◌||◌, List, length, refl, sym, ap, ◌∙◌, arith, rules, inl, inr, cond, eqb, ltb, leb, add_assoc, lit<, if◌then◌else◌}
+use Rattle.std.proofs.Common.{◌≡◌, ℕ, ◌+◌, ◌*◌, ◌<◌, ◌≤◌, Bool, not, ◌&&◌, ◌||◌, List, length, refl, ap, arith, add_assoc, lit<, if◌then◌else◌}
 use Rattle.std.specs.Prelude.{◌==◌}
 use Rattle.chip_model.specs.Memory.{byte}
 use Rattle.erase_journal.specs.Places.{how_many, Spoiled, Changed}
-use Rattle.nor_layout.specs.declared.journal.JournalId.{JournalId}
-use Rattle.nor_layout.specs.declared.journal.JournalId.TheVariants.{J0, J1, J2}
 use Rattle.erase_journal.specs.declared.scan.VoteCounts.{VoteCounts}
 use Rattle.erase_journal.specs.Journals.{votes_at, entry, entry_block, is_free_entry, is_open_entry, free_entries, open_entries, entries_for}
 use Rattle.erase_journal.proofs.Counts.{how_many-same, how_many-change}

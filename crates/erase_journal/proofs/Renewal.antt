@@ -1,7 +1,6 @@
 -- An erase of a journal, step by step: what it leaves, also where it is cut.
-use Rattle.std.proofs.Common.{◌≡◌, ◌≢◌, ◌⊎◌, ℕ, zero, suc, ◌+◌, ◌-◌, ◌*◌, ◌/◌, ◌<◌, ◌≤◌, Bool, true, false, not, ◌&&◌, ◌||◌, List, length, refl, sym, ap, ◌∙◌, arith, inl, inr, lit<, lit≤, add_assoc}
+use Rattle.std.proofs.Common.{◌≡◌, ℕ, ◌+◌, ◌*◌, ◌<◌, ◌≤◌, not, ◌||◌, List, length, refl, ◌∙◌, arith, lit<, lit≤, add_assoc}
 use Rattle.std.specs.Prelude.{◌==◌}
-use Rattle.std.proofs.lemmas.Bool.Decides.{nat_tests}
 use Rattle.chip_model.specs.Memory.{byte, erased, TornErase}
 use Rattle.nor_driver.specs.State.{Leaves}
 use Rattle.nor_layout.specs.declared.journal.JournalId.{JournalId}
@@ -9,9 +8,9 @@ use Rattle.nor_layout.specs.declared.journal.JournalId.TheVariants.{J0, J1, J2}
 use Rattle.nor_layout.specs.Journals.{journal_at, first_at, second_at}
 use Rattle.erase_journal.specs.declared.phase.Phase.{Phase}
 use Rattle.erase_journal.specs.declared.phase.Phase.TheVariants.{Idle, Asked, Doomed, Closing}
-use Rattle.erase_journal.specs.Places.{how_many, Spoiled, Changed}
+use Rattle.erase_journal.specs.Places.{Spoiled, Changed}
 use Rattle.erase_journal.specs.Votes.{once_erased}
-use Rattle.erase_journal.specs.Journals.{votes_at, unused, free_entries, open_entries, is_free_entry, is_open_entry, entry, settled, IsSound, IsSettled, IsHealthy}
+use Rattle.erase_journal.specs.Journals.{votes_at, unused, free_entries, open_entries, is_free_entry, is_open_entry, entry, IsSound, IsHealthy}
 use Rattle.erase_journal.specs.Blocks.{SameChip, SameBlocks}
 use Rattle.erase_journal.specs.Steps.{OneChanged, PerhapsChanged, not_begun, done, Stands, IsStep, IsNext, MayErase}
 use Rattle.erase_journal.proofs.Counts.{how_many-all, how_many-each_fails}

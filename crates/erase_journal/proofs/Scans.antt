@@ -1,13 +1,12 @@
 -- Laws of the counts that a scan makes.
-use Rattle.std.proofs.Common.{◌≡◌, ◌≢◌, ◌⊎◌, ℕ, zero, suc, ◌+◌, ◌<◌, ◌≤◌, Bool, true, false, not, ◌||◌, List, length, take, drop, get_or, get_or-take, get_or-drop, length-take, length-drop, Option, Some, None, ◌-◌, ◌*◌, ◌/◌, ◌&&◌, nat_le, nat_lt, refl, sym, ap, ◌∙◌, arith, add-one, if◌then◌else◌}
+use Rattle.std.proofs.Common.{◌≡◌, ◌≢◌, ℕ, ◌+◌, ◌<◌, true, false, not, ◌||◌, List, length, get_or, get_or-take, get_or-drop, Option, Some, None, ◌-◌, ◌*◌, ◌/◌, refl, sym, ap, ◌∙◌, arith, add-one, if◌then◌else◌}
 use Rattle.std.specs.Prelude.{◌==◌, MatchOption, slice_range}
 use Rattle.chip_model.specs.Memory.{byte}
 use Rattle.nor_layout.specs.Entries.{block_in, is_open}
-use Rattle.erase_journal.specs.Journals.{votes_at, free_entries, open_entries, is_free_entry, is_open_entry, entry, entry_bytes, entry_block}
+use Rattle.erase_journal.specs.Journals.{votes_at, free_entries, open_entries, is_free_entry, is_open_entry, entry_bytes, entry_block}
 use Rattle.erase_journal.specs.declared.scan.VoteCounts.{VoteCounts}
 use Rattle.erase_journal.specs.declared.scan.OpenEntry.{OpenEntry}
 use Rattle.std.proofs.lemmas.Bool.Decides.{nat_tests}
-use Rattle.erase_journal.specs.Places.{how_many}
 use Rattle.erase_journal.specs.Scans.{count_equal, count_wrong, count_at, IsFound, free_in, is_free_in, IsFreeAnswer, entry_in, open_in, is_open_in, IsOpenAnswer}
 use Rattle.erase_journal.proofs.Counts.{how_many-zero, how_many-suc, how_many-same, how_many-none}
 

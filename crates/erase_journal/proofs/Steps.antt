@@ -1,6 +1,5 @@
 -- Each step of an erase of a journal leaves the journals sound.
-use Rattle.std.proofs.Common.{◌≡◌, ◌≢◌, ◌⊎◌, ℕ, zero, suc, ◌+◌, ◌-◌, ◌*◌, ◌<◌, ◌≤◌, Bool, true, false, not, List, length, refl, sym, ap, ◌∙◌, arith, rules, inl, inr, lit<, lit≤}
-use Rattle.chip_model.specs.Memory.{byte}
+use Rattle.std.proofs.Common.{◌≡◌, ℕ, ◌+◌, ◌-◌, ◌<◌, List, refl, ap, ◌∙◌, arith}
 use Rattle.erase_journal.specs.Places.{Spoiled, Changed}
 use Rattle.nor_layout.specs.declared.journal.JournalId.{JournalId}
 use Rattle.nor_layout.specs.declared.journal.JournalId.TheVariants.{J0, J1, J2}
@@ -10,7 +9,7 @@ use Rattle.erase_journal.specs.declared.unused.Unused.{Unused}
 use Rattle.erase_journal.specs.declared.phase.Phase.{Phase}
 use Rattle.erase_journal.specs.declared.phase.Phase.TheVariants.{Idle, Asked, Doomed, Closing}
 use Rattle.erase_journal.specs.Votes.{once_erased}
-use Rattle.erase_journal.specs.Journals.{votes_at, survey_of, first, second, unused, free_entries, open_entries, Holds, settled, IsSound, IsSettled}
+use Rattle.erase_journal.specs.Journals.{survey_of, first, second, unused, free_entries, open_entries, Holds, settled, IsSound}
 use Rattle.erase_journal.specs.Steps.{SameNumbers, IsStep, IsNext, MayErase}
 use Rattle.erase_journal.proofs.Regions.{vote-opened, vote-closed, changed-spoiled, votes-below, votes-above, entries-below, entries-above}
 use Rattle.erase_journal.proofs.Lasting.{Last-erased, Last-moved}

@@ -1,9 +1,8 @@
 -- A vote is opened or closed.
-use Rattle.std.proofs.Common.{◌≡◌, ◌≢◌, ℕ, ◌+◌, ◌<◌, ◌≤◌, ◌⊎◌, List, [], ◌∷◌, length, refl, sym, ap, ◌∙◌, arith, inl, inr}
+use Rattle.std.proofs.Common.{◌≡◌, ◌≢◌, ℕ, ◌+◌, ◌<◌, ◌≤◌, List, [], ◌∷◌, length, arith, inl, inr}
 use Rattle.std.specs.Prelude.{bit_and}
 use Rattle.chip_model.specs.Memory.{byte, and_at, TornAnd}
 use Rattle.nor_driver.specs.State.{Leaves}
-use Rattle.erase_journal.specs.Places.{Changed}
 use Rattle.erase_journal.specs.Steps.{OneChanged, PerhapsChanged, not_begun, done}
 use Rattle.erase_journal.proofs.Effects.{program-leaves, program-changes, OneBit}
 

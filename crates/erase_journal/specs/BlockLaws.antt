@@ -1,6 +1,6 @@
 -- What the crates above need of blocks: their lengths, and a memory against itself.
-use Rattle.std.proofs.Common.{◌≡◌, ℕ, ◌+◌, ◌*◌, ◌/◌, ◌<◌, ◌≤◌, ◌&&◌, cond, Bool, true, false, List, length, refl, sym, ap, ◌∙◌, arith}
-use Rattle.std.specs.Prelude.{replicate, nat_lt}
+use Rattle.std.proofs.Common.{◌≡◌, ℕ, ◌<◌, ◌&&◌, cond, Bool, true, false, List, length, arith}
+use Rattle.std.specs.Prelude.{nat_lt}
 use Rattle.std.proofs.lemmas.List.{length-replicate, get_or-replicate}
 use Rattle.chip_model.specs.Memory.{byte}
 use Rattle.chip_model.specs.Parts.{part}

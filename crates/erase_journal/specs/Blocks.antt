@@ -1,5 +1,5 @@
 -- The data blocks that a memory stands for. Source: own.
-use Rattle.std.specs.Prelude.{◌≡◌, ◌≢◌, ℕ, zero, suc, ◌-◌, ◌/◌, ◌<◌, ◌≤◌, Bool, not, List, [], ◌∷◌, length, replicate, if◌then◌else◌, ◌&&◌, nat_lt}
+use Rattle.std.specs.Prelude.{◌≡◌, ◌≢◌, ℕ, zero, suc, ◌-◌, ◌<◌, ◌≤◌, Bool, not, List, [], ◌∷◌, length, replicate, if◌then◌else◌, ◌&&◌, nat_lt}
 use Rattle.chip_model.specs.Memory.{byte}
 use Rattle.chip_model.specs.Parts.{part}
 use Rattle.chip_model.specs.Geometry.{block_count}

@@ -1,5 +1,5 @@
 -- The cases of corrupt journals one by one, for a reader: healthy journals are those that have none of them. Source: own.
-use Rattle.std.specs.Prelude.{◌≡◌, ◌⊎◌, ◌↔◌, ℕ, ◌≤◌}
+use Rattle.std.specs.Prelude.{◌≡◌, ◌⊎◌, ◌↔◌, ◌≤◌}
 use Rattle.nor_layout.specs.declared.journal.JournalId.{JournalId}
 use Rattle.nor_layout.specs.declared.journal.JournalId.TheVariants.{J0}
 use Rattle.nor_layout.specs.Journals.{next}

@@ -1,8 +1,7 @@
 -- What a scan of a buffer counts and finds.
-use Rattle.std.specs.Prelude.{◌≡◌, ◌≢◌, ℕ, ◌+◌, ◌*◌, ◌<◌, ◌≤◌, Bool, true, false, not, List, [], ◌∷◌, length, Option, MatchOption, ◌==◌, ◌||◌, ◌&&◌}
+use Rattle.std.specs.Prelude.{◌≡◌, ◌≢◌, ℕ, ◌+◌, ◌*◌, ◌<◌, Bool, true, false, not, List, [], ◌∷◌, Option, MatchOption, ◌==◌, ◌||◌, ◌&&◌}
 use Rattle.chip_model.specs.Memory.{byte}
 use Rattle.nor_layout.specs.Entries.{is_open}
-use Rattle.erase_journal.specs.declared.scan.VoteCounts.{VoteCounts}
 use Rattle.erase_journal.specs.declared.scan.OpenEntry.{OpenEntry}
 use Rattle.erase_journal.specs.Places.{how_many}
 use Rattle.erase_journal.specs.Journals.{free_entries, open_entries, is_free_entry, is_open_entry, entry_block}

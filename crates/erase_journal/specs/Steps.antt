@@ -1,9 +1,9 @@
 -- What the functions of the journal leave. Source: own.
-use Rattle.std.specs.Prelude.{◌≡◌, ◌≢◌, ◌⊎◌, ℕ, ◌+◌, ◌*◌, ◌<◌, ◌≤◌, Bool, true, false, List}
+use Rattle.std.specs.Prelude.{◌≡◌, ◌≢◌, ℕ, ◌+◌, ◌*◌, ◌<◌, true, false, List}
 use Rattle.chip_model.specs.Memory.{byte}
 use Rattle.nor_layout.specs.declared.journal.JournalId.{JournalId}
 use Rattle.nor_layout.specs.declared.journal.JournalId.TheVariants.{J0, J1, J2}
-use Rattle.nor_driver.specs.State.{NorState, IsReady}
+use Rattle.nor_driver.specs.State.{NorState}
 use Rattle.nor_driver.specs.declared.error.NorError.{NorError}
 use Rattle.nor_driver.specs.declared.error.NorError.TheVariants.{Cut, Slow}
 use Rattle.erase_journal.specs.declared.phase.Phase.{Phase}
@@ -11,7 +11,7 @@ use Rattle.erase_journal.specs.declared.phase.Phase.TheVariants.{Idle}
 use Rattle.erase_journal.specs.declared.unused.Unused.{Unused}
 use Rattle.erase_journal.specs.Places.{Changed, Spoiled}
 use Rattle.erase_journal.specs.Votes.{IsLowestTired, IsRested}
-use Rattle.erase_journal.specs.Journals.{IsSound, IsHealthy, IsSettled, open_entries, unused, settled, is_open_entry, entry_block, entry}
+use Rattle.erase_journal.specs.Journals.{IsSound, IsHealthy, IsSettled, unused, settled, is_open_entry, entry_block, entry}
 use Rattle.erase_journal.specs.Blocks.{SameBlocks, WithErased}
 
 -- m' is healthy and stands for the blocks of m: what a loss of power leaves of a change of the journals

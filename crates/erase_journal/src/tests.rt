@@ -68,29 +68,14 @@ fn with_unused(unused: u16) -> VoteCounts {
 }
 
 #[test]
-fn an_erase_of_a_journal_is_found_at_each_step(rt: HostRuntime) {
-    assert_eq!(rt; decide(ERASED), Some(Phase::Idle));
-    // Bytes 2400h, 3400h and 1400h are the first votes for J0, J1 and J2.
+fn each_step_of_an_erase_of_j0(rt: HostRuntime) {
+    // The bytes at 2400h and 3000h.
     assert_eq!(rt;
         decide(Survey {
             j1_for_0: OPENED,
             ..ERASED
         }),
         Some(Phase::Asked(J0))
-    );
-    assert_eq!(rt;
-        decide(Survey {
-            j2_for_1: OPENED,
-            ..ERASED
-        }),
-        Some(Phase::Asked(J1))
-    );
-    assert_eq!(rt;
-        decide(Survey {
-            j0_for_2: OPENED,
-            ..ERASED
-        }),
-        Some(Phase::Asked(J2))
     );
     assert_eq!(rt;
         decide(Survey {
@@ -102,28 +87,39 @@ fn an_erase_of_a_journal_is_found_at_each_step(rt: HostRuntime) {
     );
     assert_eq!(rt;
         decide(Survey {
-            j2_for_1: OPENED,
-            j0_for_1: OPENED,
-            ..ERASED
-        }),
-        Some(Phase::Doomed(J1))
-    );
-    assert_eq!(rt;
-        decide(Survey {
-            j0_for_2: OPENED,
-            j1_for_2: OPENED,
-            ..ERASED
-        }),
-        Some(Phase::Doomed(J2))
-    );
-    // 2400h is FCh and 3000h is FEh.
-    assert_eq!(rt;
-        decide(Survey {
             j1_for_0: CLOSED,
             j2_for_0: OPENED,
             ..ERASED
         }),
         Some(Phase::Closing(J0))
+    );
+    assert_eq!(rt;
+        decide(Survey {
+            j1_for_0: CLOSED,
+            j2_for_0: CLOSED,
+            ..ERASED
+        }),
+        Some(Phase::Idle)
+    );
+}
+
+#[test]
+fn each_step_of_an_erase_of_j1(rt: HostRuntime) {
+    // The bytes at 3400h and 1000h.
+    assert_eq!(rt;
+        decide(Survey {
+            j2_for_1: OPENED,
+            ..ERASED
+        }),
+        Some(Phase::Asked(J1))
+    );
+    assert_eq!(rt;
+        decide(Survey {
+            j2_for_1: OPENED,
+            j0_for_1: OPENED,
+            ..ERASED
+        }),
+        Some(Phase::Doomed(J1))
     );
     assert_eq!(rt;
         decide(Survey {
@@ -135,6 +131,34 @@ fn an_erase_of_a_journal_is_found_at_each_step(rt: HostRuntime) {
     );
     assert_eq!(rt;
         decide(Survey {
+            j2_for_1: CLOSED,
+            j0_for_1: CLOSED,
+            ..ERASED
+        }),
+        Some(Phase::Idle)
+    );
+}
+
+#[test]
+fn each_step_of_an_erase_of_j2(rt: HostRuntime) {
+    // The bytes at 1400h and 2000h.
+    assert_eq!(rt;
+        decide(Survey {
+            j0_for_2: OPENED,
+            ..ERASED
+        }),
+        Some(Phase::Asked(J2))
+    );
+    assert_eq!(rt;
+        decide(Survey {
+            j0_for_2: OPENED,
+            j1_for_2: OPENED,
+            ..ERASED
+        }),
+        Some(Phase::Doomed(J2))
+    );
+    assert_eq!(rt;
+        decide(Survey {
             j0_for_2: CLOSED,
             j1_for_2: OPENED,
             ..ERASED
@@ -143,12 +167,17 @@ fn an_erase_of_a_journal_is_found_at_each_step(rt: HostRuntime) {
     );
     assert_eq!(rt;
         decide(Survey {
-            j1_for_0: CLOSED,
-            j2_for_0: CLOSED,
+            j0_for_2: CLOSED,
+            j1_for_2: CLOSED,
             ..ERASED
         }),
         Some(Phase::Idle)
     );
+}
+
+#[test]
+fn no_erase_of_a_journal(rt: HostRuntime) {
+    assert_eq!(rt; decide(ERASED), Some(Phase::Idle));
     assert_eq!(rt;
         decide(Survey {
             free: 511,
@@ -189,62 +218,80 @@ fn what_a_doomed_journal_holds_is_ignored(rt: HostRuntime) {
     );
 }
 
+/// Whether recovery would refuse these journals.
+fn is_corrupt(survey: Survey) -> bool {
+    decide(survey).is_none()
+}
+
 #[test]
-fn corrupt_journals(rt: HostRuntime) {
+fn votes_that_no_erase_leaves(rt: HostRuntime) {
     let two_in_a_region = VoteCounts {
         unused: 1022,
         opened: 2,
         wrong: 0,
     };
-    for survey in [
-        // 2400h and 2401h are FEh; 2400h is 55h.
-        Survey {
+    // 2400h and 2401h are FEh; 2400h is 55h.
+    assert!(rt;
+        is_corrupt(Survey {
             j1_for_0: two_in_a_region,
             ..ERASED
-        },
-        Survey {
+        })
+    );
+    assert!(rt;
+        is_corrupt(Survey {
             j1_for_0: WRONG,
             ..ERASED
-        },
-        // Open votes for two journals; two doomed journals.
-        Survey {
+        })
+    );
+    // Open votes for two journals.
+    assert!(rt;
+        is_corrupt(Survey {
             j1_for_0: OPENED,
             j1_for_2: OPENED,
             ..ERASED
-        },
-        Survey {
+        })
+    );
+    assert!(rt;
+        is_corrupt(Survey {
             j1_for_0: OPENED,
             j0_for_1: OPENED,
             ..ERASED
-        },
-        Survey {
+        })
+    );
+}
+
+#[test]
+fn two_doomed_journals(rt: HostRuntime) {
+    let both = Survey {
+        j1_for_0: OPENED,
+        j2_for_0: OPENED,
+        j2_for_1: OPENED,
+        j0_for_1: OPENED,
+        ..ERASED
+    };
+    assert!(rt; is_corrupt(both));
+}
+
+#[test]
+fn open_entries_that_no_erase_leaves(rt: HostRuntime) {
+    let open = Survey {
+        free: 511,
+        opened: 1,
+        ..ERASED
+    };
+    assert!(rt;
+        is_corrupt(Survey {
             j1_for_0: OPENED,
+            ..open
+        })
+    );
+    assert!(rt;
+        is_corrupt(Survey {
             j2_for_0: OPENED,
-            j2_for_1: OPENED,
-            j0_for_1: OPENED,
-            ..ERASED
-        },
-        // An open entry beside an open vote; two open entries.
-        Survey {
-            j1_for_0: OPENED,
-            free: 511,
-            opened: 1,
-            ..ERASED
-        },
-        Survey {
-            j2_for_0: OPENED,
-            free: 511,
-            opened: 1,
-            ..ERASED
-        },
-        Survey {
-            free: 510,
-            opened: 2,
-            ..ERASED
-        },
-    ] {
-        assert_eq!(rt; decide(survey), None);
-    }
+            ..open
+        })
+    );
+    assert!(rt; is_corrupt(Survey { opened: 2, ..open }));
 }
 
 #[test]
@@ -280,149 +327,99 @@ fn one_vote_is_enough_where_its_journal_is_not_tired(rt: HostRuntime) {
 }
 
 #[test]
-fn votes_that_last(rt: HostRuntime) {
-    for (numbers, answer) in [
-        (FULL, true),
-        (
-            Unused {
-                j0_for_1: 0,
-                ..FULL
-            },
-            false,
-        ),
-        (
-            Unused {
-                j1_for_2: 0,
-                ..FULL
-            },
-            false,
-        ),
-        (
-            Unused {
-                j2_for_1: 0,
-                ..FULL
-            },
-            false,
-        ),
-        // The last vote of J1 for J0, while J0 is tired.
-        (
-            Unused {
-                j1_for_0: 1,
-                ..FULL
-            },
-            true,
-        ),
-        (
-            Unused {
-                j1_for_0: 1,
-                j0_for_1: 3,
-                ..FULL
-            },
-            false,
-        ),
-        (
-            Unused {
-                j1_for_0: 1,
-                free: 0,
-                ..FULL
-            },
-            false,
-        ),
-        (
-            Unused {
-                j1_for_0: 2,
-                free: 0,
-                ..FULL
-            },
-            true,
-        ),
-        // The last vote of J2 for J0, while J0 is tired, or while J1 is and its erase tires J0.
-        (
-            Unused {
-                j2_for_0: 1,
-                ..FULL
-            },
-            true,
-        ),
-        (
-            Unused {
-                j2_for_0: 1,
-                j0_for_2: 3,
-                ..FULL
-            },
-            false,
-        ),
-        (
-            Unused {
-                j2_for_0: 1,
-                j0_for_1: 4,
-                ..FULL
-            },
-            true,
-        ),
-        (
-            Unused {
-                j2_for_0: 1,
-                j0_for_1: 4,
-                j1_for_2: 3,
-                ..FULL
-            },
-            false,
-        ),
-        (
-            Unused {
-                j2_for_0: 1,
-                j0_for_1: 5,
-                j1_for_2: 3,
-                ..FULL
-            },
-            true,
-        ),
-        // The last vote of J2 for J1, while J1 is tired, or while J0 is and its erase tires J1.
-        (
-            Unused {
-                j2_for_1: 1,
-                ..FULL
-            },
-            true,
-        ),
-        (
-            Unused {
-                j2_for_1: 1,
-                j1_for_0: 3,
-                ..FULL
-            },
-            false,
-        ),
-        (
-            Unused {
-                j2_for_1: 1,
-                j1_for_0: 4,
-                ..FULL
-            },
-            true,
-        ),
-        (
-            Unused {
-                j2_for_1: 1,
-                j1_for_0: 4,
-                free: 0,
-                ..FULL
-            },
-            false,
-        ),
-        (
-            Unused {
-                j2_for_1: 1,
-                j1_for_0: 5,
-                free: 0,
-                ..FULL
-            },
-            true,
-        ),
-    ] {
-        assert_eq!(rt; lasts(numbers), answer);
-    }
+fn a_vote_is_left_in_each_region(rt: HostRuntime) {
+    assert!(rt; lasts(FULL));
+    assert!(rt;
+        !lasts(Unused {
+            j0_for_1: 0,
+            ..FULL
+        })
+    );
+    assert!(rt;
+        !lasts(Unused {
+            j1_for_2: 0,
+            ..FULL
+        })
+    );
+    assert!(rt;
+        !lasts(Unused {
+            j2_for_1: 0,
+            ..FULL
+        })
+    );
+}
+
+#[test]
+fn the_last_vote_of_j1_for_j0(rt: HostRuntime) {
+    let one = Unused {
+        j1_for_0: 1,
+        ..FULL
+    };
+    assert!(rt; lasts(one));
+    // J0 is tired.
+    assert!(rt; !lasts(Unused { j0_for_1: 3, ..one }));
+    assert!(rt; !lasts(Unused { free: 0, ..one }));
+    assert!(rt;
+        lasts(Unused {
+            j1_for_0: 2,
+            free: 0,
+            ..one
+        })
+    );
+}
+
+#[test]
+fn the_last_vote_of_j2_for_j0(rt: HostRuntime) {
+    let one = Unused {
+        j2_for_0: 1,
+        ..FULL
+    };
+    assert!(rt; lasts(one));
+    // J0 is tired.
+    assert!(rt; !lasts(Unused { j0_for_2: 3, ..one }));
+    // J1 is tired, and its erase tires J0.
+    assert!(rt; lasts(Unused { j0_for_1: 4, ..one }));
+    assert!(rt;
+        !lasts(Unused {
+            j0_for_1: 4,
+            j1_for_2: 3,
+            ..one
+        })
+    );
+    assert!(rt;
+        lasts(Unused {
+            j0_for_1: 5,
+            j1_for_2: 3,
+            ..one
+        })
+    );
+}
+
+#[test]
+fn the_last_vote_of_j2_for_j1(rt: HostRuntime) {
+    let one = Unused {
+        j2_for_1: 1,
+        ..FULL
+    };
+    assert!(rt; lasts(one));
+    // J1 is tired.
+    assert!(rt; !lasts(Unused { j1_for_0: 3, ..one }));
+    // J0 is tired, and its erase tires J1.
+    assert!(rt; lasts(Unused { j1_for_0: 4, ..one }));
+    assert!(rt;
+        !lasts(Unused {
+            j1_for_0: 4,
+            free: 0,
+            ..one
+        })
+    );
+    assert!(rt;
+        lasts(Unused {
+            j1_for_0: 5,
+            free: 0,
+            ..one
+        })
+    );
 }
 
 #[test]

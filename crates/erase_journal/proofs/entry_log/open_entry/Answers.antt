@@ -1,10 +1,5 @@
-use Rattle.std.proofs.Common.{◌≡◌, ◌+◌, ◌*◌, ◌<◌, length, refl, arith, sym, ap, ◌∙◌}
 use Rattle.std.proofs.lemmas.Result.{err_from_is_err_and}
-use Rattle.erase_journal.proofs.Effects.{on-ok}
-use Rattle.erase_journal.proofs.Scans.{free-found}
-use Rattle.erase_journal.proofs.EntryCalls.{take-ok, take-stands, open-ok, open-cut, block-ok, block-cut, done-ok, done-cut, interrupted-after, erased-then}
-use Rattle.erase_journal.proofs.Renewal.{stands-on, same-blocks-on}
-use Rattle.erase_journal.specs.Steps.{as_it_was}
+use Rattle.erase_journal.proofs.EntryCalls.{open-ok, open-cut}
 use Rattle.erase_journal.proofs.entry_log.open_entry.Goals as goal
 
 pub returns-in_err-program-clause-cut : goal.returns-in_err-program-clause-cut

@@ -1,10 +1,9 @@
-use Rattle.std.proofs.Common.{◌≡◌, ◌+◌, ◌<◌, length, refl, arith, sym, ◌∙◌}
 use Rattle.std.proofs.lemmas.Result.{err_from_is_err_and}
-use Rattle.erase_journal.specs.declared.phase.Phase.TheVariants.{Idle, Asked, Doomed, Closing}
-use Rattle.erase_journal.specs.Journals.{unused, settled}
+use Rattle.erase_journal.specs.declared.phase.Phase.TheVariants.{Asked, Doomed}
+use Rattle.erase_journal.specs.Journals.{unused}
 use Rattle.erase_journal.specs.Votes.{once_erased}
 use Rattle.erase_journal.proofs.Steps.{steps-on}
-use Rattle.erase_journal.proofs.Renewal.{first-cut, first-opened, second-cut, second-opened, some-first, some-second, stands-on, same-blocks-on}
+use Rattle.erase_journal.proofs.Renewal.{first-cut, first-opened, second-cut, second-opened, some-second, stands-on, same-blocks-on}
 use Rattle.erase_journal.proofs.erase.doom.Goals as goal
 
 pub returns-in_err-open_vote-clause-cut : goal.returns-in_err-open_vote-clause-cut

@@ -1,11 +1,10 @@
-use Rattle.std.proofs.Common.{◌≡◌, ◌+◌, ◌<◌, length, refl, arith, sym, ap, ◌∙◌}
+use Rattle.std.proofs.Common.{ap, ◌∙◌}
 use Rattle.std.proofs.lemmas.Result.{err_from_is_err_and}
-use Rattle.erase_journal.specs.declared.phase.Phase.TheVariants.{Idle, Asked, Doomed, Closing}
+use Rattle.erase_journal.specs.declared.phase.Phase.TheVariants.{Idle, Doomed, Closing}
 use Rattle.erase_journal.specs.Journals.{unused, settled}
 use Rattle.chip_model.specs.Memory.{erased}
-use Rattle.nor_layout.specs.Journals.{journal_at}
-use Rattle.erase_journal.proofs.Steps.{steps-on, IsBlank}
-use Rattle.erase_journal.proofs.Renewal.{JournalErased, erased-as, erase-cut, first-closed, first-close-cut, second-closed, second-close-cut, open-first, open-second, stands-on, same-blocks-on}
+use Rattle.erase_journal.proofs.Steps.{steps-on}
+use Rattle.erase_journal.proofs.Renewal.{erased-as, erase-cut, first-closed, first-close-cut, second-closed, second-close-cut, open-first, open-second, stands-on, same-blocks-on}
 use Rattle.erase_journal.proofs.erase.renew.Goals as goal
 
 pub returns-in_err-erase_small-clause-cut : goal.returns-in_err-erase_small-clause-cut

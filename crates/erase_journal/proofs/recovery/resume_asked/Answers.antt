@@ -1,6 +1,5 @@
-use Rattle.std.proofs.Common.{◌≡◌, ◌+◌, ◌<◌, length, refl, arith, sym, ◌∙◌}
 use Rattle.std.proofs.lemmas.Result.{err_from_is_err_and}
-use Rattle.erase_journal.proofs.Renewal.{second-cut, second-opened, second-closed, second-close-cut, some-second, open-second, stands-on, same-blocks-on}
+use Rattle.erase_journal.proofs.Renewal.{second-cut, second-opened, some-second, stands-on, same-blocks-on}
 use Rattle.erase_journal.proofs.recovery.resume_asked.Goals as goal
 
 pub open_vote-requires-clause-some : goal.open_vote-requires-clause-some

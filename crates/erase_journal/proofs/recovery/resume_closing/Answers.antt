@@ -1,6 +1,5 @@
-use Rattle.std.proofs.Common.{◌≡◌, ◌+◌, ◌<◌, length, refl, arith, sym, ◌∙◌}
 use Rattle.std.proofs.lemmas.Result.{err_from_is_err_and}
-use Rattle.erase_journal.proofs.Renewal.{second-cut, second-opened, second-closed, second-close-cut, some-second, open-second, stands-on, same-blocks-on}
+use Rattle.erase_journal.proofs.Renewal.{second-closed, second-close-cut, open-second}
 use Rattle.erase_journal.proofs.recovery.resume_closing.Goals as goal
 
 pub close_vote-requires-clause-some : goal.close_vote-requires-clause-some

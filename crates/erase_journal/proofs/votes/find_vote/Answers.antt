@@ -1,4 +1,4 @@
-use Rattle.std.proofs.Common.{length, refl, arith, sym, ◌∙◌}
+use Rattle.std.proofs.Common.{arith}
 use Rattle.nor_layout.specs.Votes.{byte_of}
 use Rattle.erase_journal.proofs.Scans.{found-in}
 use Rattle.erase_journal.proofs.votes.find_vote.Goals as goal

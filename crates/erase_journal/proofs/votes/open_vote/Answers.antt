@@ -1,4 +1,4 @@
-use Rattle.std.proofs.Common.{◌≡◌, ◌+◌, ◌<◌, length, refl, arith, sym, ◌∙◌}
+use Rattle.std.proofs.Common.{arith}
 use Rattle.erase_journal.proofs.Scans.{unused-count}
 use Rattle.erase_journal.proofs.Effects.{fails-after, bit-open, on-ok, if-err}
 use Rattle.erase_journal.proofs.VoteCalls.{set-ok, set-cut}
