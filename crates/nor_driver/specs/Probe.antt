@@ -1,11 +1,11 @@
 -- What a chip tells of itself, and what a probe answers.
 -- Source: datasheet of the W25Q128JV, "Read JEDEC ID (9Fh)" and "Status Registers", for the id bytes and the bits; JESD216 for
 -- the table; own: the order of the checks and the sizes that are served.
-use Rattle.std.specs.Prelude.{◌≡◌, ℕ, ◌+◌, ◌/◌, ◌%◌, Bool, not, ◌&&◌, if◌then◌else◌, nat_le, ◌==◌, List, length, is_some, Result, Ok, Err, false}
+use Rattle.std.specs.Prelude.{◌≡◌, ℕ, ◌+◌, ◌/◌, ◌%◌, Bool, not, ◌&&◌, if◌then◌else◌, nat_le, ◌==◌, true, List, length, is_some, Result, Ok, Err, false}
 use Rattle.sfdp.specs.Params.{params_of}
 use Rattle.sfdp.specs.declared.params.Params.{Params}
 use Rattle.sfdp.specs.declared.error.SfdpError.{SfdpError}
-use Rattle.chip_model.specs.Chip.{Chip}
+use Rattle.chip_model.specs.Chip.{Chip, is_idle}
 use Rattle.chip_model.specs.Frames.{Id, answer_byte, id_from, status_1}
 use Rattle.chip_model.specs.Cut as losses
 use Rattle.spi_frames.specs.declared.register.Register.{Register}
@@ -106,5 +106,7 @@ pub record Found (c : Chip) (cuts slows : ℕ) (state : NorState) : Type 0 where
   pub woken : Woken c new
   pub params : Params
   pub table : probe_answer (told new) ≡ Ok params
+  -- where nothing was in progress, that is the answer of the chip as it was
+  pub known : is_idle c.operation ≡ true → probe_answer (told c) ≡ Ok params
   pub size : length new.memory ≡ params.bytes
   pub state_is : state ≡ shown new cuts slows false (is_some params.large)

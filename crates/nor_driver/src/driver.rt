@@ -1,5 +1,5 @@
 // The driver.
-ghost use Rattle.std.specs.Prelude.{◌≡◌, ◌%◌, ◌≤◌, true, false, ◌||◌, length, IfOk, OnOk, IfErr, MatchResult};
+ghost use Rattle.std.specs.Prelude.{◌≡◌, ◌⊎◌, ◌%◌, ◌≤◌, true, false, ◌||◌, length, IfOk, OnOk, IfErr, MatchResult};
 ghost use Rattle.std.specs.Result.{IsErrOf};
 ghost use Rattle.chip_model.specs.Chip.{is_idle, completed};
 ghost use Rattle.chip_model.specs.Cut.{TornMemory};
@@ -7,7 +7,7 @@ ghost use Rattle.chip_model.specs.Frames.{is_open};
 ghost use Rattle.chip_model.specs.FrameLaws.{is_setting};
 ghost use Rattle.nor_driver.specs.State.{AnswersWhatStands, Fails, IsReady, Kept, Leaves};
 ghost use Rattle.nor_driver.specs.Steps.{Begins, started};
-ghost use Rattle.nor_driver.specs.Probe.{Found, Probes};
+ghost use Rattle.nor_driver.specs.Probe.{Found, Probes, probe_answer, told};
 ghost use Rattle.nor_driver.specs.Shown.{StandsBehind, chip_sized, shown};
 
 use crate::probe::survey;
@@ -38,10 +38,13 @@ impl<B: SpiBus> Driver<B> {
     /// table's size, else `WrongId`; BP, SEC, CMP and WPS 0, else `Protected`.
     ///
     /// `Cut` only where the power went in this call or couldn't be turned on; `Slow` is never answered. With each refusal the
-    /// bus is handed back. The memory is as before, but where an operation was in progress.
+    /// bus is handed back. The memory is as before, but where an operation was in progress; where none was, the answer but Cut
+    /// is that of the chip as it was.
     pub fn probe(mut bus: B) -> Result<Driver<B>, (B, ProbeError)>
         ensures found { IfOk result (λ d. Found (B.chip bus) (B.cuts bus) (B.slows bus) (⟦<Driver<B> as Nor>⟧.state d)) }
         ensures refused { IfErr result (λ r. Probes (Err r.1) (B.chip bus) (B.cuts bus) (B.slows bus) (B.chip r.0) (B.cuts r.0) (B.slows r.0)) }
+        ensures known { is_idle (B.chip bus).operation ≡ true → IfErr result
+            (λ r. (r.1 ≡ ProbeError.Cut) ⊎ (probe_answer (told (B.chip bus)) ≡ Err r.1)) }
         ensures same { is_idle (B.chip bus).operation ≡ true → MatchResult result
             (λ d. (⟦<Driver<B> as Nor>⟧.state d).memory ≡ (B.chip bus).memory) (λ r. (B.chip r.0).memory ≡ (B.chip bus).memory) }
         ensures size { MatchResult result (λ d. length (⟦<Driver<B> as Nor>⟧.state d).memory ≡ length (B.chip bus).memory)
