@@ -1,14 +1,12 @@
 -- What follows from the definitions of Memory and Chip.
-use Rattle.std.proofs.Common.{◌≡◌, ℕ, zero, suc, ◌+◌, ◌-◌, ◌*◌, ◌/◌, ◌%◌, ◌<◌, ◌≤◌, ◌⊎◌, Bool, true, false, cond, ◌&&◌, List, [], ◌∷◌, ◌++◌, length, get_or, refl, sym, ap, ◌∙◌, subst, arith, inl, inr, eqb, ltb, leb}
-use Rattle.std.specs.Prelude.{bit_and, bit_or, set, take, max, min}
+use Rattle.std.proofs.Common.{◌≡◌, ℕ, zero, suc, ◌+◌, ◌-◌, ◌*◌, ◌/◌, ◌%◌, ◌<◌, ◌≤◌, ◌⊎◌, true, false, cond, ◌&&◌, List, [], ◌∷◌, ◌++◌, length, get_or, refl, sym, ap, ◌∙◌, subst, arith, inl, inr, leb}
+use Rattle.std.specs.Prelude.{bit_and, set, take}
 use Rattle.std.proofs.lemmas.List.{get_or_past, ext_get_or, length-set, get_or-set_other, get_or-take, length-take-le, length-append}
 use Rattle.std.proofs.Math.ListN.{get_or-append}
 use Rattle.std.proofs.Math.Seq.{get_or-append_right}
 use Rattle.std.proofs.lemmas.Grind.{get_or-set_at}
 use Rattle.std.proofs.lemmas.Bool.{and_parts, ltb-true, cases_lt, cases_eq, cond-true, cond-false, and_from, and_left, and_right, eq-eqb, ne_eqb, lt-ltb, le-ltb, le-leb, lt-leb}
-use Rattle.std.specs.Int.{bit_at, w8}
-use Rattle.std.proofs.lemmas.Nat.Bits.{bit_at_or, bit_at_and, bit_at_not, bit_at_above, bit_at-lt}
-use Rattle.chip_model.specs.Memory.{byte, changed, changed_from, is_within, place_of, placed, and_at, fill_place, erased, IsMixed, Torn, TornErase}
+use Rattle.chip_model.specs.Memory.{byte, changed, changed_from, is_within, place_of, placed, and_at, fill_place, erased, TornErase}
 use Rattle.chip_model.specs.Chip.{page_place, programmed, offset_in_page}
 
 pub length-changed_from : (f : ℕ → ℕ → ℕ) (i : ℕ) (m : List ℕ) → length (changed_from f i m) ≡ length m
