@@ -1,7 +1,10 @@
 ghost use Rattle.std.specs.Prelude.{◌≡◌};
 ghost use Rattle.nor_driver.specs.declared.error.NorError.TheVariants.{Cut};
+ghost use Rattle.nor_driver.specs.declared.error.ProbeError.TheVariants as refusals;
+ghost use Rattle.nor_driver.specs.Unprotect.{probe_error};
 
 use chip_model::PowerLost;
+use sfdp::SfdpError;
 
 /// Why a call on a NOR memory didn't do its work. Source: own.
 #[derive(Clone, Copy, Debug, PartialEq, Eq)]
@@ -17,5 +20,39 @@ impl From<PowerLost> for NorError {
 
     fn from(_: PowerLost) -> Self {
         NorError::Cut
+    }
+}
+
+/// Why a chip is not served. The refusals are numbered from 1 in this order. Source: own.
+#[derive(Clone, Copy, Debug, PartialEq, Eq)]
+pub enum ProbeError {
+    /// 1: the power went in this call, or couldn't be turned on.
+    Cut,
+    /// 2: an operation didn't end in this call.
+    Slow,
+    /// 3: the id isn't EFh 40h and a third byte from 10h to 18h, or that byte isn't the one of the table's size.
+    WrongId,
+    /// 4: the chip's SFDP table is refused.
+    Sfdp(SfdpError),
+    /// 5: BP, SEC, CMP or WPS isn't 0.
+    Protected,
+}
+
+impl From<PowerLost> for ProbeError {
+    ghost from_gives = { λ _ e. e ≡ refusals.Cut };
+
+    fn from(_: PowerLost) -> Self {
+        ProbeError::Cut
+    }
+}
+
+impl From<NorError> for ProbeError {
+    ghost from_gives = { λ n e. e ≡ probe_error n };
+
+    fn from(error: NorError) -> Self {
+        match error {
+            NorError::Cut => ProbeError::Cut,
+            NorError::Slow => ProbeError::Slow,
+        }
     }
 }

@@ -1,5 +1,5 @@
 // The bits of the status registers.
-ghost use Rattle.std.specs.Prelude.{⊤, ◌≡◌, ◌==◌, ◌/◌, ◌%◌, [], ◌∷◌, codes};
+ghost use Rattle.std.specs.Prelude.{⊤, ◌≡◌, ◌==◌, ◌/◌, ◌%◌, [], ◌∷◌, codes, not};
 
 use bitflags::{Flag, Flags, bitflag_items};
 
@@ -46,6 +46,14 @@ impl Status1 {
         ensures { result ≡ (byte % 2 == 1) }
     {
         Status1::from_bits_retain(byte).contains(Status1::BUSY)
+    }
+
+    /// Whether the register's byte has BP0, BP1 or BP2: a part of the chip is protected.
+    #[tactic(auto, using(crate::proofs::Bits::bits_2_to_4))]
+    pub fn has_blocks(byte: u8) -> bool
+        ensures { result ≡ not (byte / 4 % 8 == 0) }
+    {
+        Status1::from_bits_retain(byte).intersects(Status1::BP)
     }
 
     /// Whether the register's byte has SEC: sectors are protected and not blocks.

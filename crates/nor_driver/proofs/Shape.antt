@@ -1,0 +1,178 @@
+-- What a program or an erase keeps of the chip, and leaves of its memory.
+use Rattle.std.proofs.Common.{[], ◌∷◌, ◌/◌, ◌≡◌, ℕ, ◌+◌, ◌%◌, ◌<◌, ◌≤◌, ◌⊎◌, Bool, true, false, List, length, refl, sym, ap, ◌∙◌, subst, arith, inl, inr}
+use Rattle.std.proofs.Math.Nat.{mod-eq_of_lt}
+use Rattle.std.proofs.lemmas.List.{length-take, length-drop, ext_get_or, get_or-take, get_or-drop}
+use Rattle.std.specs.Prelude.{◌||◌, slice_range, drop, get_or, ◌-◌}
+use Rattle.chip_model.specs.Chip.{Chip, Programming, Erasing, is_idle, completed, memory_after}
+use Rattle.chip_model.specs.Cut.{Cut, TornMemory}
+use Rattle.chip_model.specs.Memory.{and_at, erased, Torn, TornErase, TornAnd}
+use Rattle.chip_model.specs.MemoryLaws.{programmed_in_page}
+use Rattle.chip_model.specs.Frames.{command_of, Answers, is_open, starts, with_enabled, with_polls}
+use Rattle.chip_model.specs.FrameLaws.{KeepsShape, completed_shape, cut_shape, idle_cut, is_setting, idle_not_setting, started_program, started_erase, started_large_erase, address}
+use Rattle.nor_driver.specs.State.{Leaves, as_before, torn_in_it, changed_whole}
+use Rattle.nor_driver.specs.Steps.{started, Begins, Interrupted, not_begun, torn, whole, no_power}
+
+-- the shape of a chip that is another
+pub same_shape : (c new : Chip) → new ≡ c → is_setting c.operation ≡ false → KeepsShape c new
+same_shape c new same h = subst (λ (d : Chip). KeepsShape c d) (sym same) (record { size = refl; protection = refl; status2 = refl; status3 = refl; not_setting = h })
+
+-- a whole change
+pub done_shape : (c : Chip) (sent : List ℕ) (b : Begins c sent) → KeepsShape c (completed (started c sent))
+done_shape c sent b =
+    let s = completed_shape (starts (with_enabled c true) b.operation) b.in_memory in
+    subst (λ (d : Chip). KeepsShape c (completed d)) (sym b.is) (record { size = s.size; protection = s.protection; status2 = s.status2; status3 = s.status3; not_setting = s.not_setting })
+
+-- a change that never ended
+pub slow_shape : (c : Chip) (sent : List ℕ) (n : ℕ) (b : Begins c sent) → KeepsShape c (with_polls (started c sent) n)
+slow_shape c sent n b =
+    subst (λ (d : Chip). KeepsShape c (with_polls d n)) (sym b.is) (record { size = refl; protection = refl; status2 = refl; status3 = refl; not_setting = b.in_memory })
+
+pub slow_memory : (c : Chip) (sent : List ℕ) (b : Begins c sent) → (started c sent).memory ≡ c.memory
+slow_memory c sent b = ap (λ (d : Chip). d.memory) b.is
+
+-- what a loss of power leaves of a change that begins
+pub record AfterLoss (c : Chip) (begun : Chip) (new : Chip) : Type 0 where
+  pub shape : KeepsShape c new
+  pub idle : is_idle new.operation ≡ true
+  pub powered : new.powered ≡ false
+  pub leaves : Leaves c.memory (TornMemory begun.operation begun.memory) (completed begun).memory new.memory
+
+after_start : (c : Chip) (cuts : ℕ) (sent : List ℕ) (new : Chip) (cuts' : ℕ) → is_idle c.operation ≡ true → (b : Begins c sent) → Interrupted c cuts sent new cuts'
+    → AfterLoss c (starts (with_enabled c true) b.operation) new
+after_start c cuts sent new cuts' idle b i = elim i [
+  | not_begun on k n ↦ record {
+    shape = cut_shape c new (idle_not_setting c.operation idle) k;
+    idle = ap is_idle k.operation;
+    powered = k.powered;
+    leaves = as_before (idle_cut c new idle k);
+  }
+  | torn on k n ↦
+      let t : Cut (starts (with_enabled c true) b.operation) new = subst (λ (d : Chip). Cut d new) b.is k in
+      let s = cut_shape (starts (with_enabled c true) b.operation) new b.in_memory t in
+      record {
+        shape = record { size = s.size; protection = s.protection; status2 = s.status2; status3 = s.status3; not_setting = s.not_setting };
+        idle = ap is_idle t.operation;
+        powered = t.powered;
+        leaves = torn_in_it t.memory;
+      }
+  | whole on k n ↦
+      let e = completed (starts (with_enabled c true) b.operation) in
+      let t : Cut e new = subst (λ (d : Chip). Cut (completed d) new) b.is k in
+      let s = cut_shape e new refl t in
+      let q = completed_shape (starts (with_enabled c true) b.operation) b.in_memory in
+      record {
+        shape = record { size = s.size ∙ q.size; protection = s.protection ∙ q.protection; status2 = s.status2; status3 = s.status3; not_setting = s.not_setting };
+        idle = ap is_idle t.operation;
+        powered = t.powered;
+        leaves = changed_whole t.memory;
+      }
+  | no_power off same n ↦ record {
+    shape = same_shape c new same (idle_not_setting c.operation idle);
+    idle = ap (λ (d : Chip). is_idle d.operation) same ∙ idle;
+    powered = ap (λ (d : Chip). d.powered) same ∙ off;
+    leaves = as_before (ap (λ (d : Chip). d.memory) same);
+  }
+]
+
+pub after_loss : (c : Chip) (cuts : ℕ) (sent : List ℕ) (new : Chip) (cuts' : ℕ) → is_idle c.operation ≡ true → Begins c sent → Interrupted c cuts sent new cuts' → AfterLoss c (started c sent) new
+after_loss c cuts sent new cuts' idle b i = subst (λ (d : Chip). AfterLoss c d new) (sym b.is) (after_start c cuts sent new cuts' idle b i)
+
+-- the power went in the call, or was off
+pub cause : (c : Chip) (cuts : ℕ) (sent : List ℕ) (new : Chip) (cuts' : ℕ) → Interrupted c cuts sent new cuts' → (cuts < cuts') ⊎ ((c.powered ≡ false) × (cuts' ≡ cuts))
+cause c cuts sent new cuts' i = elim i [
+  | not_begun on k n ↦ inl (omega (arith, n))
+  | torn on k n ↦ inl (omega (arith, n))
+  | whole on k n ↦ inl (omega (arith, n))
+  | no_power off same n ↦ inr (off, n)
+]
+
+-- a flag that is down leaves the other
+pub when_down : (a b : Bool) → a ≡ false → (a || b) ≡ true → b ≡ true
+when_down a b h k = subst (λ (x : Bool). (x || b) ≡ true) h k
+
+-- what begins leaves of the memory, told of the operation
+pub done_memory : (c : Chip) (sent : List ℕ) (b : Begins c sent) → (completed (started c sent)).memory ≡ memory_after b.operation c.memory
+done_memory c sent b = ap (λ (d : Chip). (completed d).memory) b.is
+
+pub cut_memory : (c : Chip) (sent m : List ℕ) (b : Begins c sent) → Leaves c.memory (TornMemory (started c sent).operation (started c sent).memory) (completed (started c sent)).memory m
+    → Leaves c.memory (TornMemory b.operation c.memory) (memory_after b.operation c.memory) m
+cut_memory c sent m b h = subst (λ (d : Chip). Leaves c.memory (TornMemory d.operation d.memory) (completed d).memory m) b.is h
+
+-- the frame of a program that a driver allows
+pub record IsProgram (c : Chip) (sent : List ℕ) (at : ℕ) (bytes : List ℕ) : Type 0 where
+  pub unprotected : is_open c ≡ true
+  pub range : at + length bytes ≤ length c.memory
+  pub some : 0 < length bytes
+  pub page : at % 256 + length bytes ≤ 256
+  pub frame : sent ≡ 2 ∷ (at / 65536) ∷ (at / 256 % 256) ∷ (at % 256) ∷ bytes
+
+abbrev pub begins_program : (c : Chip) (sent : List ℕ) (at : ℕ) (bytes : List ℕ) → IsProgram c sent at bytes → Begins c sent
+begins_program c sent at bytes p = record {
+  operation = Programming at bytes;
+  is = ap (started c) p.frame ∙ started_program c at bytes p.unprotected (omega (arith, p.range, p.some)) p.some p.page;
+  running = refl;
+  in_memory = refl;
+}
+
+pub program_done : (c : Chip) (sent : List ℕ) (at : ℕ) (bytes : List ℕ) → IsProgram c sent at bytes → (completed (started c sent)).memory ≡ and_at c.memory at bytes
+program_done c sent at bytes p = done_memory c sent (begins_program c sent at bytes p) ∙ programmed_in_page c.memory at bytes p.page
+
+pub program_cut : (c : Chip) (sent m : List ℕ) (at : ℕ) (bytes : List ℕ) → IsProgram c sent at bytes
+    → Leaves c.memory (TornMemory (started c sent).operation (started c sent).memory) (completed (started c sent)).memory m
+    → Leaves c.memory (TornAnd c.memory at bytes) (and_at c.memory at bytes) m
+program_cut c sent m at bytes p h =
+    subst (λ x. Leaves c.memory (Torn c.memory x) x m) (programmed_in_page c.memory at bytes p.page) (cut_memory c sent m (begins_program c sent at bytes p) h)
+
+-- the frame of an erase that a driver allows: of 4 KiB by 20h, of 64 KiB by D8h
+pub record IsErase (c : Chip) (sent : List ℕ) (at code size : ℕ) : Type 0 where
+  pub unprotected : is_open c ≡ true
+  pub range : at < length c.memory
+  pub unit : at % size ≡ 0
+  pub frame : sent ≡ code ∷ (at / 65536) ∷ (at / 256 % 256) ∷ (at % 256) ∷ []
+
+abbrev pub begins_small : (c : Chip) (sent : List ℕ) (at : ℕ) → IsErase c sent at 32 4096 → Begins c sent
+begins_small c sent at p = record {
+  operation = Erasing at 4096;
+  is = ap (started c) p.frame ∙ started_erase c at p.unprotected p.range p.unit;
+  running = refl;
+  in_memory = refl;
+}
+
+abbrev pub begins_large : (c : Chip) (sent : List ℕ) (at : ℕ) → IsErase c sent at 216 65536 → Begins c sent
+begins_large c sent at p = record {
+  operation = Erasing at 65536;
+  is = ap (started c) p.frame ∙ started_large_erase c at p.unprotected p.range p.unit;
+  running = refl;
+  in_memory = refl;
+}
+
+pub small_done : (c : Chip) (sent : List ℕ) (at : ℕ) → IsErase c sent at 32 4096 → (completed (started c sent)).memory ≡ erased c.memory at 4096
+small_done c sent at p = done_memory c sent (begins_small c sent at p)
+
+pub small_cut : (c : Chip) (sent m : List ℕ) (at : ℕ) → IsErase c sent at 32 4096
+    → Leaves c.memory (TornMemory (started c sent).operation (started c sent).memory) (completed (started c sent)).memory m
+    → Leaves c.memory (TornErase c.memory at 4096) (erased c.memory at 4096) m
+small_cut c sent m at p h = cut_memory c sent m (begins_small c sent at p) h
+
+pub large_done : (c : Chip) (sent : List ℕ) (at : ℕ) → IsErase c sent at 216 65536 → (completed (started c sent)).memory ≡ erased c.memory at 65536
+large_done c sent at p = done_memory c sent (begins_large c sent at p)
+
+pub large_cut : (c : Chip) (sent m : List ℕ) (at : ℕ) → IsErase c sent at 216 65536
+    → Leaves c.memory (TornMemory (started c sent).operation (started c sent).memory) (completed (started c sent)).memory m
+    → Leaves c.memory (TornErase c.memory at 65536) (erased c.memory at 65536) m
+large_cut c sent m at p h = cut_memory c sent m (begins_large c sent at p) h
+
+-- a read that stays within the chip
+pub read_back : (c : Chip) (at : ℕ) (received : List ℕ) → at + length received ≤ length c.memory
+    → Answers c (command_of (3 ∷ (at / 65536) ∷ (at / 256 % 256) ∷ (at % 256) ∷ [])) received → received ≡ slice_range c.memory at (at + length received)
+read_back c at received h a =
+    let span : at + length received - at ≡ length received = omega arith in
+    let long : length (slice_range c.memory at (at + length received)) ≡ length received =
+    simp (length-take, length-drop) (omega arith) in
+    ext_get_or 0 received (slice_range c.memory at (at + length received)) (sym long) (λ i l.
+    let low : i < at + length received - at = omega arith in
+    let fits : at + i < length c.memory = omega arith in
+    a i l
+    ∙ (ap (λ p. get_or c.memory ((p + i) % length c.memory) 0) (address at)
+    ∙ (ap (λ p. get_or c.memory p 0) (mod-eq_of_lt fits)
+    ∙ sym (get_or-take (at + length received - at) (drop at c.memory) i 0 low ∙ get_or-drop at c.memory i 0))))

@@ -1,0 +1,139 @@
+// The driver.
+ghost use Rattle.std.specs.Prelude.{◌≡◌, ◌%◌, ◌≤◌, true, false, ◌||◌, length, IfOk, OnOk, IfErr, MatchResult};
+ghost use Rattle.std.specs.Result.{IsErrOf};
+ghost use Rattle.chip_model.specs.Chip.{is_idle, completed};
+ghost use Rattle.chip_model.specs.Cut.{TornMemory};
+ghost use Rattle.chip_model.specs.Frames.{is_open};
+ghost use Rattle.chip_model.specs.FrameLaws.{is_setting};
+ghost use Rattle.nor_driver.specs.State.{AnswersWhatStands, Fails, IsReady, Kept, Leaves};
+ghost use Rattle.nor_driver.specs.Steps.{Begins, started};
+ghost use Rattle.nor_driver.specs.Probe.{Found, Probes};
+ghost use Rattle.nor_driver.specs.Shown.{StandsBehind, chip_sized, shown};
+
+use crate::probe::survey;
+use crate::steps::{ask, change, wake};
+use crate::{Nor, NorError, ProbeError};
+use chip_model::SpiBus;
+use spi_frames::{Register, status};
+
+/// A chip behind a bus, of which nothing is protected.
+pub struct Driver<B: SpiBus> {
+    bus: B,
+    bytes: u32,
+    large: bool,
+    slow: bool,
+    ghost size: { length (B.chip bus).memory ≡ bytes },
+    ghost whole: { bytes % 65536 ≡ 0 },
+    ghost least: { 65536 ≤ bytes },
+    ghost most: { bytes ≤ 16777216 },
+    ghost unprotected: { is_open (B.chip bus) ≡ true },
+    ghost in_memory: { is_setting (B.chip bus).operation ≡ false },
+    ghost idle: { (slow || is_idle (B.chip bus).operation) ≡ true },
+}
+
+impl<B: SpiBus> Driver<B> {
+    /// Turns the power of the bus's chip off and on again, and checks in this order: id bytes EFh 40h and a third byte from 10h
+    /// to 18h, else `WrongId`; an SFDP table that `read_params` accepts, else `Sfdp`; that the third id byte is that of the
+    /// table's size, else `WrongId`; BP, SEC, CMP and WPS 0, else `Protected`.
+    ///
+    /// `Cut` only where the power went in this call or couldn't be turned on; `Slow` is never answered. With each refusal the
+    /// bus is handed back. The memory is as before, but where an operation was in progress.
+    pub fn probe(mut bus: B) -> Result<Driver<B>, (B, ProbeError)>
+        ensures found { IfOk result (λ d. Found (B.chip bus) (B.cuts bus) (B.slows bus) (⟦<Driver<B> as Nor>⟧.state d)) }
+        ensures refused { IfErr result (λ r. Probes (Err r.1) (B.chip bus) (B.cuts bus) (B.slows bus) (B.chip r.0) (B.cuts r.0) (B.slows r.0)) }
+        ensures same { is_idle (B.chip bus).operation ≡ true → MatchResult result
+            (λ d. (⟦<Driver<B> as Nor>⟧.state d).memory ≡ (B.chip bus).memory) (λ r. (B.chip r.0).memory ≡ (B.chip bus).memory) }
+        ensures size { MatchResult result (λ d. length (⟦<Driver<B> as Nor>⟧.state d).memory ≡ length (B.chip bus).memory)
+            (λ r. length (B.chip r.0).memory ≡ length (B.chip bus).memory) }
+    {
+        match survey(&mut bus) {
+            Ok(params) => Ok(Driver {
+                bus,
+                bytes: params.bytes,
+                large: params.large.is_some(),
+                slow: false,
+            }),
+            Err(error) => Err((bus, error)),
+        }
+    }
+
+    /// The bus.
+    pub fn into_inner(self) -> B
+        ensures { StandsBehind (⟦<Driver<B> as Nor>⟧.state self) (B.chip result) (B.cuts result) (B.slows result) }
+    {
+        let Driver {
+            bus,
+            bytes: _bytes,
+            large: _large,
+            slow: _slow,
+        } = self;
+        bus
+    }
+
+    /// One program or erase, whose frame this is.
+    fn apply(&mut self, frame: &[u8]) -> Result<(), NorError>
+        requires begins { Begins (B.chip self.old.bus) frame.now }
+        ensures ok { OnOk result ((B.chip self.new.bus).memory ≡ (completed (started (B.chip self.old.bus) frame.now)).memory) }
+        ensures cut { IsErrOf result NorError.Cut → let begun = started (B.chip self.old.bus) frame.now in
+            Leaves (B.chip self.old.bus).memory (TornMemory begun.operation begun.memory) (completed begun).memory (B.chip self.new.bus).memory }
+        ensures slow { IsErrOf result NorError.Slow → (B.chip self.new.bus).memory ≡ (B.chip self.old.bus).memory }
+        ensures size { length (B.chip self.new.bus).memory ≡ length (B.chip self.old.bus).memory }
+        ensures ready { OnOk result (IsReady (⟦<Driver<B> as Nor>⟧.state self.old)) }
+        ensures kept { OnOk result (Kept (⟦<Driver<B> as Nor>⟧.state self.old) (⟦<Driver<B> as Nor>⟧.state self.new)) }
+        ensures fails { IfErr result (λ e. Fails e (⟦<Driver<B> as Nor>⟧.state self.old) (⟦<Driver<B> as Nor>⟧.state self.new)) }
+        ensures stands { AnswersWhatStands (⟦<Driver<B> as Nor>⟧.state self.old) result (⟦<Driver<B> as Nor>⟧.state self.new) }
+    {
+        if self.slow {
+            return Err(NorError::Slow);
+        }
+        match change(&mut self.bus, frame) {
+            Ok(()) => Ok(()),
+            Err(NorError::Cut) => Err(NorError::Cut),
+            Err(NorError::Slow) => {
+                self.slow = true;
+                Err(NorError::Slow)
+            }
+        }
+    }
+}
+
+impl<B: SpiBus> Nor for Driver<B> {
+    ghost state = { λ d. shown (B.chip d.bus) (B.cuts d.bus) (B.slows d.bus) d.slow d.large };
+
+    ghost sized = { λ d. chip_sized d.bytes (length (B.chip d.bus).memory) d.size d.whole d.least d.most };
+
+    fn bytes(&self) -> u32 {
+        self.bytes
+    }
+
+    fn read(&mut self, at: u32, into: &mut [u8]) -> Result<(), NorError> {
+        if self.slow {
+            return Err(NorError::Slow);
+        }
+        ask(&mut self.bus, &spi_frames::read(at), into)?;
+        Ok(())
+    }
+
+    fn program(&mut self, at: u32, bytes: &[u8]) -> Result<(), NorError> {
+        self.apply(&spi_frames::program(at, bytes))
+    }
+
+    fn erase_small(&mut self, at: u32) -> Result<(), NorError> {
+        self.apply(&spi_frames::erase_small(at))
+    }
+
+    fn erase_large(&mut self, at: u32) -> Result<(), NorError> {
+        self.apply(&spi_frames::erase_large(at))
+    }
+
+    fn restart(&mut self) -> Result<(), NorError> {
+        let mut answer = [0u8; 1];
+        wake(&mut self.bus, &status(Register::First), &mut answer)?;
+        self.slow = false;
+        Ok(())
+    }
+
+    fn arm(&mut self, count: u32, kind: u8, mask: u8) {
+        self.bus.arm(count, kind, mask);
+    }
+}
