@@ -1,0 +1,146 @@
+-- What the steps leave of the blocks.
+use Rattle.std.proofs.Common.{◌≡◌, ◌≢◌, ◌⊎◌, ℕ, zero, suc, ◌+◌, ◌-◌, ◌*◌, ◌/◌, ◌<◌, ◌≤◌, Bool, true, false, not, ◌&&◌, List, length, take, drop, replicate, get_or, get_or-take, get_or-drop, length-take, length-drop, refl, sym, ap, ◌∙◌, arith, rules, inl, inr, lit<, lit≤, if◌then◌else◌}
+use Rattle.std.specs.Prelude.{◌==◌}
+use Rattle.std.proofs.lemmas.Bool.Decides.{nat_tests}
+use Rattle.std.proofs.lemmas.Bool.{cases_lt}
+use Rattle.chip_model.specs.Memory.{byte}
+use Rattle.chip_model.specs.Parts.{part}
+use Rattle.chip_model.specs.PartLaws.{part-same}
+use Rattle.chip_model.specs.Geometry.{block_count}
+use Rattle.erase_journal.specs.Places.{how_many, Spoiled, Changed}
+use Rattle.nor_layout.specs.declared.journal.JournalId.{JournalId}
+use Rattle.nor_layout.specs.declared.journal.JournalId.TheVariants.{J0, J1, J2}
+use Rattle.erase_journal.specs.declared.phase.Phase.{Phase}
+use Rattle.erase_journal.specs.declared.phase.Phase.TheVariants.{Idle, Asked, Doomed, Closing}
+use Rattle.erase_journal.specs.Journals.{survey_of, first, second, open_entries, entries_for, is_open_entry, entry_block, entry, IsSound, IsSettled}
+use Rattle.erase_journal.specs.Blocks.{blank, block, blocks_of, listed, is_believed0, SameChip, SameBlocks, OnlyBlock, WithErased}
+use Rattle.erase_journal.proofs.Counts.{how_many-below}
+use Rattle.erase_journal.proofs.Entries.{named-change, state-changed, state-is, state-was, not-open, data-spoiled, same-votes-entry, same-votes-data, SameVotes}
+use Rattle.erase_journal.proofs.Regions.{BytesKept, spoiled-below, spoiled-above, SameEntries}
+
+-- A block that a change does not reach is as it was.
+pub own-kept : (b : ℕ) (m m' : List ℕ) → BytesKept (4096 * b) 4096 m m' → length m' ≡ length m → part 4096 m' b ≡ part 4096 m b
+own-kept b m m' h same = part-same 4096 m m' b same (λ i low. h.bytes i low)
+
+-- A change past the superblock leaves it.
+pub chip-kept : (at n : ℕ) (m m' : List ℕ) → Spoiled at n m m' → 4096 ≤ at → SameChip m m'
+chip-kept at n m m' s low = record { same_length = s.same_length; superblock = λ k small. s.below k (omega arith) }
+
+listed-same : (f g : ℕ → List ℕ) (from n : ℕ) → ((b : ℕ) → from ≤ b → b < from + n → f b ≡ g b) → listed f from n ≡ listed g from n
+unfolding listed
+listed-same f g from zero h = refl
+listed-same f g from (suc n) h = rw (h from (omega arith) (omega arith), listed-same f g (suc from) n (λ b low high. h b (omega arith) (omega arith))) refl
+
+pub blocks-same : (m m' : List ℕ) → SameBlocks m m' → blocks_of m' ≡ blocks_of m
+unfolding blocks_of
+blocks-same m m' h = rw h.chip.same_length (listed-same (block m') (block m) 4 (length m / 4096 - 4) (λ b low high. h.each b low (omega arith)))
+
+-- each block stands for its own bytes
+pub record IsPlain (m : List ℕ) : Type 0 where
+  pub own : (b : ℕ) → block m b ≡ part 4096 m b
+
+named-below : (m : List ℕ) (b : ℕ) → entries_for m b ≤ open_entries m
+unfolding entries_for open_entries
+named-below m b = how_many-below (is_open_entry m) (λ i. is_open_entry m i && entry_block m i == b) 512 (λ k low both. grind (arith, nat_tests))
+
+pub plain-none : (m : List ℕ) → open_entries m ≡ 0 → IsPlain m
+unfolding block
+plain-none m none = record { own = λ b. let low = named-below m b in grind (arith, nat_tests) }
+
+pub plain-doomed : (m : List ℕ) → (first (survey_of m) J0).opened ≡ 1 → (second (survey_of m) J0).opened ≡ 1 → IsPlain m
+unfolding block
+plain-doomed m one two = record { own = λ b. grind (arith, nat_tests) }
+
+-- Between two plain memories only the journals differ.
+pub plain-kept : (at n : ℕ) (m m' : List ℕ) → IsPlain m → IsPlain m' → Spoiled at n m m' → 4096 ≤ at → at + n ≤ 16384 → SameBlocks m m'
+plain-kept at n m m' p p' s high low = record {
+  chip = chip-kept at n m m' s high;
+  each = λ b from to. p'.own b ∙ own-kept b m m' (spoiled-above at n (4096 * b) 4096 m m' s (omega arith)) s.same_length ∙ sym (p.own b);
+}
+
+-- Opening an entry for block c erases it.
+pub opened-erases : (i c : ℕ) (m m' : List ℕ) → IsSound Idle m → open_entries m ≡ 0 → i < 512 → Changed (6144 + 4 * i) 254 252 m m'
+    → is_open_entry m' i ≡ true → entry_block m' i ≡ c → IsSound Idle m' → WithErased c m m'
+unfolding block
+opened-erases i c m m' h none low change opened names h' =
+    let s = state-changed i 254 252 m m' change in
+    let p = h.phase in
+    let p' = h'.phase in
+    record {
+      erased = let e = rw (opened, names) at (named-change i c m m' low s) in grind (arith, nat_tests);
+      only = record {
+        chip = chip-kept (6144 + 4 * i) 4 m m' s (omega arith);
+        others = λ b from to other.
+            let e = rw (opened, names) at (named-change i b m m' low s) in
+            let l = named-below m b in
+            let k = own-kept b m m' (spoiled-above (6144 + 4 * i) 4 (4096 * b) 4096 m m' s (omega arith)) change.same_length in
+            grind (arith, nat_tests);
+      };
+    }
+
+block-named : (m : List ℕ) (b : ℕ) → IsSound Idle m → 0 < entries_for m b → block m b ≡ blank
+unfolding block
+block-named m b h named = let p = h.phase in grind (arith, nat_tests)
+
+block-unnamed : (m : List ℕ) (b : ℕ) → entries_for m b ≡ 0 → block m b ≡ part 4096 m b
+unfolding block
+block-unnamed m b none = grind (arith, nat_tests)
+
+-- While an entry is open for block c, block c may hold anything.
+spoiled-each : (c : ℕ) (m m' : List ℕ) → IsSound Idle m → 0 < entries_for m c → Spoiled (4096 * c) 4096 m m' → SameEntries m m' → IsSound Idle m'
+    → (b : ℕ) → part 4096 m' b ≡ part 4096 m b → block m' b ≡ block m b
+spoiled-each c m m' h named s e h' b own =
+    let n = e.named b in
+    elim (cases_lt 0 (entries_for m b)) [
+      | inl some ↦ block-named m' b h' (omega arith) ∙ sym (block-named m b h some)
+      | inr none ↦ block-unnamed m' b (omega arith) ∙ own ∙ sym (block-unnamed m b (omega arith))
+    ]
+
+pub spoiled-same : (c : ℕ) (m m' : List ℕ) → 4 ≤ c → IsSound Idle m → 0 < entries_for m c → Spoiled (4096 * c) 4096 m m' → SameEntries m m' → IsSound Idle m' → SameBlocks m m'
+spoiled-same c m m' least h named s e h' =
+    record {
+      chip = chip-kept (4096 * c) 4096 m m' s (omega arith);
+      each = λ b from to. elim (cases_lt b c) [
+        | inl low ↦ spoiled-each c m m' h named s e h' b (own-kept b m m' (spoiled-below (4096 * c) 4096 (4096 * b) 4096 m m' s (omega arith)) s.same_length)
+        | inr high ↦ elim (cases_lt c b) [
+          | inl above ↦ spoiled-each c m m' h named s e h' b (own-kept b m m' (spoiled-above (4096 * c) 4096 (4096 * b) 4096 m m' s (omega arith)) s.same_length)
+          | inr same ↦ let is : b ≡ c = omega arith in let n = e.named c in
+              rw is (block-named m' c h' (omega arith) ∙ sym (block-named m c h named))
+        ]
+      ];
+    }
+
+-- Closing it once block c is erased.
+closed-each : (i c : ℕ) (m m' : List ℕ) → IsSound Idle m → i < 512 → Changed (6144 + 4 * i) 252 248 m m'
+    → is_open_entry m i ≡ true → entry_block m i ≡ c → part 4096 m c ≡ blank → open_entries m' ≡ 0
+    → (b : ℕ) → part 4096 m' b ≡ part 4096 m b → block m' b ≡ block m b
+closed-each i c m m' h low change opened names is_erased none b own =
+    let s = state-changed i 252 248 m m' change in
+    let is = state-is i 252 248 m m' change in
+    let l = named-below m' b in
+    let e = rw (opened, names, not-open m' i (λ e. omega arith)) at (named-change i b m m' low s) in
+    (plain-none m' none).own b ∙ own ∙ elim (cases_lt 0 (entries_for m b)) [
+      | inl some ↦ let is : b ≡ c = grind (arith, nat_tests) in rw is (is_erased ∙ sym (block-named m c h (rw is at some)))
+      | inr none ↦ sym (block-unnamed m b (omega arith))
+    ]
+
+pub closed-same : (i c : ℕ) (m m' : List ℕ) → IsSound Idle m → i < 512 → Changed (6144 + 4 * i) 252 248 m m'
+    → is_open_entry m i ≡ true → entry_block m i ≡ c → part 4096 m c ≡ blank → open_entries m' ≡ 0 → SameBlocks m m'
+closed-same i c m m' h low change opened names is_erased none = record {
+  chip = chip-kept (6144 + 4 * i) 4 m m' (state-changed i 252 248 m m' change) (omega arith);
+  each = λ b from to.
+      let s = state-changed i 252 248 m m' change in
+      closed-each i c m m' h low change opened names is_erased none b (own-kept b m m' (spoiled-above (6144 + 4 * i) 4 (4096 * b) 4096 m m' s (omega arith)) change.same_length);
+}
+
+-- The phases of a journal's erase are plain.
+pub asked-plain : (x : JournalId) (m : List ℕ) → IsSound (Asked x) m → IsPlain m
+asked-plain x m h = plain-none m h.phase.4
+
+pub closing-plain : (x : JournalId) (m : List ℕ) → IsSound (Closing x) m → IsPlain m
+closing-plain x m h = plain-none m h.phase.4
+
+pub doomed-plain : (x : JournalId) (m : List ℕ) → IsSound (Doomed x) m → IsPlain m
+doomed-plain J0 m h = let p = h.phase in plain-doomed m p.0.0 p.1.0
+doomed-plain J1 m h = let p = h.phase in plain-none m p.4
+doomed-plain J2 m h = let p = h.phase in plain-none m p.4

@@ -1,0 +1,44 @@
+-- Laws of `how_many`.
+use Rattle.std.proofs.Common.{◌≡◌, ◌≢◌, ◌⊎◌, ℕ, zero, suc, ◌+◌, ◌<◌, ◌≤◌, Bool, true, false, refl, sym, ap, ◌∙◌, arith, rules, inl, inr, add-one, if◌then◌else◌, lit≤}
+use Rattle.std.proofs.lemmas.Grind.{common_steps}
+use native.Mathlib.Decide.{dec_lt}
+use Rattle.erase_journal.specs.Places.{how_many}
+
+pub how_many-zero : (p : ℕ → Bool) → how_many p 0 ≡ 0
+unfolding how_many
+how_many-zero p = refl
+
+pub how_many-suc : (p : ℕ → Bool) (n : ℕ) → how_many p (suc n) ≡ (if p n then 1 else 0) + how_many p n
+unfolding how_many
+how_many-suc p n = refl
+
+pub how_many-same : (p q : ℕ → Bool) (n : ℕ) → ((k : ℕ) → k < n → p k ≡ q k) → how_many p n ≡ how_many q n
+how_many-same p q zero same = how_many-zero p ∙ sym (how_many-zero q)
+how_many-same p q (suc n) same =
+    let rest = how_many-same p q n (λ k h. same k (omega arith)) in
+    let here = same n (omega arith) in
+    rw (how_many-suc, how_many-suc, here, rest)
+
+-- one place changes
+pub how_many-change : (p q : ℕ → Bool) (n i : ℕ) → i < n → ((k : ℕ) → k < n → k ≢ i → q k ≡ p k)
+    → how_many q n + (if p i then 1 else 0) ≡ how_many p n + (if q i then 1 else 0)
+how_many-change p q zero i low same = absurd (omega arith)
+how_many-change p q (suc n) i low same = grind (arith, how_many-suc p n, how_many-suc q n, how_many-change p q n i, how_many-same p q n, same)
+
+pub how_many-below : (p q : ℕ → Bool) (n : ℕ) → ((k : ℕ) → k < n → q k ≡ true → p k ≡ true) → how_many q n ≤ how_many p n
+how_many-below p q zero h = rw (how_many-zero, how_many-zero) (lit≤ tt)
+how_many-below p q (suc n) h = grind (arith, how_many-suc p n, how_many-suc q n, how_many-below p q n, h n)
+
+-- none passes
+pub how_many-none : (p : ℕ → Bool) (n : ℕ) → how_many p n ≡ 0 → (k : ℕ) → k < n → p k ≡ false
+how_many-none p zero none k low = absurd (omega arith)
+how_many-none p (suc n) none k low = grind (arith, how_many-suc p n, how_many-none p n, low, none)
+
+-- each passes
+pub how_many-all : (p : ℕ → Bool) (n : ℕ) → ((k : ℕ) → k < n → p k ≡ true) → how_many p n ≡ n
+how_many-all p zero h = how_many-zero p
+how_many-all p (suc n) h = grind (arith, how_many-suc p n, how_many-all p n, h)
+
+pub how_many-each_fails : (p : ℕ → Bool) (n : ℕ) → ((k : ℕ) → k < n → p k ≡ false) → how_many p n ≡ 0
+how_many-each_fails p zero h = how_many-zero p
+how_many-each_fails p (suc n) h = grind (arith, how_many-suc p n, how_many-each_fails p n, h)

@@ -1,0 +1,170 @@
+-- The steps of an erase of a data block leave the journals sound.
+use Rattle.std.proofs.Common.{◌≡◌, ◌≢◌, ◌⊎◌, ℕ, zero, suc, ◌+◌, ◌-◌, ◌*◌, ◌<◌, ◌≤◌, Bool, true, false, not, ◌&&◌, List, length, refl, sym, ap, ◌∙◌, arith, rules, inl, inr, lit<, lit≤, if◌then◌else◌, add_assoc, add-zero}
+use Rattle.std.proofs.lemmas.Bool.{cases_lt}
+use Rattle.std.proofs.lemmas.Bool.Decides.{nat_tests}
+use Rattle.std.specs.Prelude.{◌==◌}
+use Rattle.chip_model.specs.Memory.{byte}
+use Rattle.erase_journal.specs.Places.{how_many, Spoiled, Changed}
+use Rattle.nor_layout.specs.declared.journal.JournalId.{JournalId}
+use Rattle.nor_layout.specs.declared.journal.JournalId.TheVariants.{J0, J1, J2}
+use Rattle.erase_journal.specs.declared.phase.Phase.{Phase}
+use Rattle.erase_journal.specs.declared.phase.Phase.TheVariants.{Idle, Asked, Doomed, Closing}
+use Rattle.erase_journal.specs.declared.unused.Unused.{Unused}
+use Rattle.erase_journal.specs.Votes.{IsRested, Last}
+use Rattle.erase_journal.specs.Journals.{votes_at, survey_of, unused, unused_of, free_entries, open_entries, entries_for, entry, entry_block, is_free_entry, is_open_entry, settled, IsSound}
+use Rattle.erase_journal.specs.Steps.{SameNumbers}
+use Rattle.erase_journal.proofs.Counts.{how_many-change}
+use Rattle.erase_journal.proofs.Regions.{SameEntries, votes-below, votes-above, entries-below}
+use Rattle.erase_journal.proofs.Lasting.{Last-moved, Last-rested}
+
+-- no vote changed
+pub record SameVotes (m m' : List ℕ) : Type 0 where
+  pub f0 : votes_at m' 9216 ≡ votes_at m 9216
+  pub s0 : votes_at m' 12288 ≡ votes_at m 12288
+  pub f1 : votes_at m' 13312 ≡ votes_at m 13312
+  pub s1 : votes_at m' 4096 ≡ votes_at m 4096
+  pub f2 : votes_at m' 5120 ≡ votes_at m 5120
+  pub s2 : votes_at m' 8192 ≡ votes_at m 8192
+
+pub same-votes-entry : (at n : ℕ) (m m' : List ℕ) → Spoiled at n m m' → 6144 ≤ at → at + n ≤ 8192 → SameVotes m m'
+same-votes-entry at n m m' s low high = record {
+  f0 = votes-above 9216 at n m m' s (omega arith);
+  s0 = votes-above 12288 at n m m' s (omega arith);
+  f1 = votes-above 13312 at n m m' s (omega arith);
+  s1 = votes-below 4096 at n m m' s (omega arith);
+  f2 = votes-below 5120 at n m m' s (omega arith);
+  s2 = votes-above 8192 at n m m' s (omega arith);
+}
+
+pub same-votes-data : (at n : ℕ) (m m' : List ℕ) → Spoiled at n m m' → 16384 ≤ at → SameVotes m m'
+same-votes-data at n m m' s low = record {
+  f0 = votes-below 9216 at n m m' s (omega arith);
+  s0 = votes-below 12288 at n m m' s (omega arith);
+  f1 = votes-below 13312 at n m m' s (omega arith);
+  s1 = votes-below 4096 at n m m' s (omega arith);
+  f2 = votes-below 5120 at n m m' s (omega arith);
+  s2 = votes-below 8192 at n m m' s (omega arith);
+}
+
+-- with no vote changed and at most one entry open
+idle-moved : (m m' : List ℕ) → IsSound Idle m → SameVotes m m' → open_entries m' ≤ 1 → Last (unused m') → IsSound Idle m'
+idle-moved m m' h s one last =
+    let p = h.phase in
+    let f0 = s.f0 in let s0 = s.s0 in let f1 = s.f1 in let s1 = s.s1 in let f2 = s.f2 in let s2 = s.s2 in
+    record {
+      phase = simp (f0, s0, f1, s1, f2, s2) (p.0, p.1, p.2, one);
+      lasts = last;
+    }
+
+-- and the same free entries
+last-moved : (m m' : List ℕ) → IsSound Idle m → SameVotes m m' → free_entries m' ≡ free_entries m → Last (unused m')
+last-moved m m' h s free = Last-moved (unused m) (unused m') (record {
+  n01 = ap (λ v. v.unused) s.s1;
+  n02 = ap (λ v. v.unused) s.f2;
+  n10 = ap (λ v. v.unused) s.f0;
+  n12 = ap (λ v. v.unused) s.s2;
+  n20 = ap (λ v. v.unused) s.s0;
+  n21 = ap (λ v. v.unused) s.f1;
+  free = free;
+}) h.lasts
+
+-- Of the entries only entry i changes.
+entry-elsewhere : (i : ℕ) (m m' : List ℕ) → Spoiled (6144 + 4 * i) 4 m m' → (j k : ℕ) → j ≢ i → k < 4 → entry m' j k ≡ entry m j k
+entry-elsewhere i m m' s j k other small = elim (cases_lt j i) [
+  | inl low ↦ s.below (6144 + 4 * j + k) (omega arith)
+  | inr high ↦ s.above (6144 + 4 * j + k) (omega arith)
+]
+
+open-change : (i : ℕ) (m m' : List ℕ) → i < 512 → Spoiled (6144 + 4 * i) 4 m m'
+    → open_entries m' + (if is_open_entry m i then 1 else 0) ≡ open_entries m + (if is_open_entry m' i then 1 else 0)
+unfolding open_entries
+open-change i m m' low s = how_many-change (is_open_entry m) (is_open_entry m') 512 i low
+    (λ j small other. let e = λ (k : ℕ) (h : k < 4). entry-elsewhere i m m' s j k other h in
+    rw (e 0 (lit< tt), e 1 (lit< tt), e 2 (lit< tt), e 3 (lit< tt), s.same_length) refl)
+
+pub named-change : (i b : ℕ) (m m' : List ℕ) → i < 512 → Spoiled (6144 + 4 * i) 4 m m'
+    → entries_for m' b + (if is_open_entry m i && entry_block m i == b then 1 else 0) ≡ entries_for m b + (if is_open_entry m' i && entry_block m' i == b then 1 else 0)
+unfolding entries_for
+named-change i b m m' low s = how_many-change (λ j. is_open_entry m j && entry_block m j == b) (λ j. is_open_entry m' j && entry_block m' j == b) 512 i low
+    (λ j small other. let e = λ (k : ℕ) (h : k < 4). entry-elsewhere i m m' s j k other h in
+    rw (e 0 (lit< tt), e 1 (lit< tt), e 2 (lit< tt), e 3 (lit< tt), s.same_length) refl)
+
+free-change : (i : ℕ) (m m' : List ℕ) → i < 512 → Spoiled (6144 + 4 * i) 4 m m'
+    → free_entries m' + (if is_free_entry m i then 1 else 0) ≡ free_entries m + (if is_free_entry m' i then 1 else 0)
+unfolding free_entries
+free-change i m m' low s = how_many-change (is_free_entry m) (is_free_entry m') 512 i low
+    (λ j small other. let e = λ (k : ℕ) (h : k < 4). entry-elsewhere i m m' s j k other h in
+    rw (e 0 (lit< tt), e 1 (lit< tt), e 2 (lit< tt), e 3 (lit< tt)) refl)
+
+-- an entry is not open unless its state is FCh
+pub not-open : (m : List ℕ) (i : ℕ) → entry m i 0 ≢ 252 → is_open_entry m i ≡ false
+not-open m i other = grind (arith, nat_tests)
+
+not-free : (m : List ℕ) (i : ℕ) → entry m i 0 ≢ 255 → is_free_entry m i ≡ false
+not-free m i other = grind (arith, nat_tests)
+
+-- Taking an entry, whole or torn: where no journal is tired, the journals stay sound.
+pub entry-taken : (i : ℕ) (m m' : List ℕ) → IsSound Idle m → open_entries m ≡ 0 → i < 512 → Spoiled (6144 + 4 * i) 4 m m' → entry m' i 0 ≢ 252
+    → IsRested J0 (unused m) → IsRested J1 (unused m) → IsRested J2 (unused m)
+    → IsSound Idle m' × (open_entries m' ≡ 0)
+entry-taken i m m' h none low s state r0 r1 r2 =
+    let e = open-change i m m' low s in
+    let e' = rw (not-open m' i state) at e in
+    let none' : open_entries m' ≡ 0 = omega arith in
+    let v = same-votes-entry (6144 + 4 * i) 4 m m' s (omega arith) (omega arith) in (
+      idle-moved m m' h v (omega arith) (Last-rested (unused m) (unused m') r0 r1 r2 (ap (λ v. v.unused) v.s1) (ap (λ v. v.unused) v.f2) (ap (λ v. v.unused) v.f0)
+          (ap (λ v. v.unused) v.s2) (ap (λ v. v.unused) v.s0) (ap (λ v. v.unused) v.f1)),
+      none',
+    )
+
+-- an entry whose state changes keeps its other bytes
+pub state-changed : (i old new : ℕ) (m m' : List ℕ) → Changed (6144 + 4 * i) old new m m' → Spoiled (6144 + 4 * i) 4 m m'
+state-changed i old new m m' h = record {
+  same_length = h.same_length;
+  below = λ k low. h.rest k (λ same. omega arith);
+  above = λ k high. h.rest k (λ same. omega arith);
+}
+
+pub state-was : (i old new : ℕ) (m m' : List ℕ) → Changed (6144 + 4 * i) old new m m' → entry m i 0 ≡ old
+state-was i old new m m' h = rw add-zero h.was
+
+pub state-is : (i old new : ℕ) (m m' : List ℕ) → Changed (6144 + 4 * i) old new m m' → entry m' i 0 ≡ new
+state-is i old new m m' h = rw add-zero h.is
+
+-- Opening it, and closing it.
+pub entry-opened : (i : ℕ) (m m' : List ℕ) → IsSound Idle m → open_entries m ≡ 0 → i < 512 → Changed (6144 + 4 * i) 254 252 m m'
+    → IsSound Idle m'
+entry-opened i m m' h none low change =
+    let s = state-changed i 254 252 m m' change in
+    let was = state-was i 254 252 m m' change in
+    let is = state-is i 254 252 m m' change in
+    let o = open-change i m m' low s in
+    let f = free-change i m m' low s in
+    let f' = rw (not-free m i (λ e. omega arith), not-free m' i (λ e. omega arith)) at f in
+    let one : open_entries m' ≤ 1 = grind arith in
+    let same : free_entries m' ≡ free_entries m = omega arith in
+    let v = same-votes-entry (6144 + 4 * i) 4 m m' s (omega arith) (omega arith) in
+    idle-moved m m' h v one (last-moved m m' h v same)
+
+pub entry-closed : (i : ℕ) (m m' : List ℕ) → IsSound Idle m → is_open_entry m i ≡ true → i < 512 → Changed (6144 + 4 * i) 252 248 m m'
+    → IsSound Idle m' × (open_entries m' ≡ 0)
+entry-closed i m m' h opened low change =
+    let s = state-changed i 252 248 m m' change in
+    let was = state-was i 252 248 m m' change in
+    let is = state-is i 252 248 m m' change in
+    let o = rw (opened, not-open m' i (λ e. omega arith)) at (open-change i m m' low s) in
+    let f = free-change i m m' low s in
+    let f' = rw (not-free m i (λ e. omega arith), not-free m' i (λ e. omega arith)) at f in
+    let p = h.phase in
+    let none : open_entries m' ≡ 0 = omega arith in
+    let same : free_entries m' ≡ free_entries m = omega arith in
+    let v = same-votes-entry (6144 + 4 * i) 4 m m' s (omega arith) (omega arith) in
+    (idle-moved m m' h v (omega arith) (last-moved m m' h v same), none)
+
+-- A data block is made anything.
+pub data-spoiled : (at n : ℕ) (m m' : List ℕ) → IsSound Idle m → 16384 ≤ at → Spoiled at n m m' → IsSound Idle m' × SameEntries m m'
+data-spoiled at n m m' h low s =
+    let e = entries-below at n m m' s (omega arith) in
+    let p = h.phase in
+    let v = same-votes-data at n m m' s low in
+    (idle-moved m m' h v (omega arith) (last-moved m m' h v e.free), e)

@@ -1,0 +1,12 @@
+pub mod Counts
+pub mod Scans
+pub mod Regions
+pub mod Lasting
+pub mod Steps
+pub mod Entries
+pub mod Blocks
+pub mod Effects
+pub mod VoteCalls
+pub mod Renewal
+pub mod EntryCalls
+pub mod Data

@@ -1,0 +1,220 @@
+-- An erase of a journal, step by step: what it leaves, also where it is cut.
+use Rattle.std.proofs.Common.{◌≡◌, ◌≢◌, ◌⊎◌, ℕ, zero, suc, ◌+◌, ◌-◌, ◌*◌, ◌/◌, ◌<◌, ◌≤◌, Bool, true, false, not, ◌&&◌, ◌||◌, List, length, refl, sym, ap, ◌∙◌, arith, inl, inr, lit<, lit≤, add_assoc}
+use Rattle.std.specs.Prelude.{◌==◌}
+use Rattle.std.proofs.lemmas.Bool.Decides.{nat_tests}
+use Rattle.chip_model.specs.Memory.{byte, erased, TornErase}
+use Rattle.nor_driver.specs.State.{Leaves}
+use Rattle.nor_layout.specs.declared.journal.JournalId.{JournalId}
+use Rattle.nor_layout.specs.declared.journal.JournalId.TheVariants.{J0, J1, J2}
+use Rattle.nor_layout.specs.Journals.{journal_at, first_at, second_at}
+use Rattle.erase_journal.specs.declared.phase.Phase.{Phase}
+use Rattle.erase_journal.specs.declared.phase.Phase.TheVariants.{Idle, Asked, Doomed, Closing}
+use Rattle.erase_journal.specs.Places.{how_many, Spoiled, Changed}
+use Rattle.erase_journal.specs.Votes.{once_erased}
+use Rattle.erase_journal.specs.Journals.{votes_at, unused, free_entries, open_entries, is_free_entry, is_open_entry, entry, settled, IsSound, IsSettled, IsHealthy}
+use Rattle.erase_journal.specs.Blocks.{SameChip, SameBlocks}
+use Rattle.erase_journal.specs.Steps.{OneChanged, PerhapsChanged, not_begun, done, Stands, IsStep, IsNext, MayErase}
+use Rattle.erase_journal.proofs.Counts.{how_many-all, how_many-each_fails}
+use Rattle.erase_journal.proofs.Regions.{changed-spoiled, entries-below, entries-above}
+use Rattle.erase_journal.proofs.Steps.{IsBlank, asks, dooms, spoils, closes_first, closes_second}
+use Rattle.erase_journal.proofs.Blocks.{IsPlain, plain-none, plain-kept, asked-plain, doomed-plain, closing-plain}
+use Rattle.erase_journal.proofs.Effects.{erase-leaves, erased-spoiled, erased-bytes}
+
+pub same-chip-on : (m m1 m2 : List ℕ) → SameChip m m1 → SameChip m1 m2 → SameChip m m2
+same-chip-on m m1 m2 a b = record { same_length = b.same_length ∙ a.same_length; superblock = λ k low. b.superblock k low ∙ a.superblock k low }
+
+pub same-blocks-refl : (m : List ℕ) → SameBlocks m m
+same-blocks-refl m = record { chip = record { same_length = refl; superblock = λ k low. refl }; each = λ b from to. refl }
+
+pub same-blocks-on : (m m1 m2 : List ℕ) → SameBlocks m m1 → SameBlocks m1 m2 → SameBlocks m m2
+same-blocks-on m m1 m2 a b = record {
+  chip = same-chip-on m m1 m2 a.chip b.chip;
+  each = λ n from to. b.each n from (rw a.chip.same_length to) ∙ a.each n from to;
+}
+
+pub stands-as : (p : Phase) (m m' : List ℕ) → IsSound p m' → SameBlocks m m' → Stands m m'
+stands-as p m m' h s = record { healthy = (p, h); blocks = s }
+
+pub stands-refl : (m : List ℕ) → IsHealthy m → Stands m m
+stands-refl m h = record { healthy = h; blocks = same-blocks-refl m }
+
+pub stands-on : (m m1 m2 : List ℕ) → SameBlocks m m1 → Stands m1 m2 → Stands m m2
+stands-on m m1 m2 a s = record { healthy = s.healthy; blocks = same-blocks-on m m1 m2 a s.blocks }
+
+-- a journal's erase reaches no data block
+first-low : (x : JournalId) (i : ℕ) → i < 1024 → first_at x + i + 1 ≤ 16384
+first-low J0 i low = omega arith
+first-low J1 i low = omega arith
+first-low J2 i low = omega arith
+
+second-low : (x : JournalId) (i : ℕ) → i < 1024 → second_at x + i + 1 ≤ 16384
+second-low J0 i low = omega arith
+second-low J1 i low = omega arith
+second-low J2 i low = omega arith
+
+first-high : (x : JournalId) (i : ℕ) → 4096 ≤ first_at x + i
+first-high J0 i = omega arith
+first-high J1 i = omega arith
+first-high J2 i = omega arith
+
+second-high : (x : JournalId) (i : ℕ) → 4096 ≤ second_at x + i
+second-high J0 i = omega arith
+second-high J1 i = omega arith
+second-high J2 i = omega arith
+
+journal-high : (x : JournalId) → 4096 ≤ journal_at x
+journal-high J0 = lit≤ tt
+journal-high J1 = lit≤ tt
+journal-high J2 = lit≤ tt
+
+journal-low : (x : JournalId) → journal_at x + 4096 ≤ 16384
+journal-low J0 = lit≤ tt
+journal-low J1 = lit≤ tt
+journal-low J2 = lit≤ tt
+
+vote-blocks : (at old new : ℕ) (m m' : List ℕ) → Changed at old new m m' → 4096 ≤ at → at + 1 ≤ 16384 → IsPlain m → IsPlain m' → SameBlocks m m'
+vote-blocks at old new m m' change high low p p' = plain-kept at 1 m m' p p' (changed-spoiled at old new m m' change) high low
+
+-- The first vote.
+pub first-opened : (x : JournalId) (m m' : List ℕ) → MayErase x m → OneChanged (first_at x) 255 254 m m'
+    → IsStep (once_erased x (unused m)) (Asked x) m' × SameBlocks m m'
+first-opened x m m' h c =
+    let s = asks x c.at m m' h c.within c.change in
+    (s, vote-blocks (first_at x + c.at) 255 254 m m' c.change (first-high x c.at) (first-low x c.at c.within) (plain-none m h.settled.none) (asked-plain x m' s.sound))
+
+pub first-cut : (x : JournalId) (m m' : List ℕ) → MayErase x m → PerhapsChanged (first_at x) 255 254 m m' → Stands m m'
+first-cut x m m' h (not_begun e) = rw e (record { healthy = (Idle, h.settled.sound); blocks = same-blocks-refl m })
+first-cut x m m' h (done c) = let s = first-opened x m m' h c in record { healthy = (Asked x, s.0.sound); blocks = s.1 }
+
+-- The second.
+pub second-opened : (x : JournalId) (m m' : List ℕ) → IsSound (Asked x) m → OneChanged (second_at x) 255 254 m m'
+    → IsNext (Asked x) m (Doomed x) m' × SameBlocks m m'
+second-opened x m m' h c =
+    let s = dooms x c.at m m' h c.within c.change in
+    (s, vote-blocks (second_at x + c.at) 255 254 m m' c.change (second-high x c.at) (second-low x c.at c.within) (asked-plain x m h) (doomed-plain x m' s.sound))
+
+pub second-cut : (x : JournalId) (m m' : List ℕ) → IsSound (Asked x) m → PerhapsChanged (second_at x) 255 254 m m' → Stands m m'
+second-cut x m m' h (not_begun e) = rw e (record { healthy = (Asked x, h); blocks = same-blocks-refl m })
+second-cut x m m' h (done c) = let s = second-opened x m m' h c in record { healthy = (Doomed x, s.0.sound); blocks = s.1 }
+
+-- The erase, whole or torn.
+pub journal-spoiled : (x : JournalId) (m m' : List ℕ) → IsSound (Doomed x) m → Spoiled (journal_at x) 4096 m m'
+    → IsNext (Doomed x) m (Doomed x) m' × SameBlocks m m'
+journal-spoiled x m m' h s =
+    let n = spoils x m m' h s in
+    (n, plain-kept (journal_at x) 4096 m m' (doomed-plain x m h) (doomed-plain x m' n.sound) s (journal-high x) (journal-low x))
+
+pub erase-cut : (x : JournalId) (m m' : List ℕ) → IsSound (Doomed x) m → Leaves m (TornErase m (journal_at x) 4096) (erased m (journal_at x) 4096) m' → Stands m m'
+erase-cut x m m' h l =
+    let s = journal-spoiled x m m' h (erase-leaves m (journal_at x) 4096 m' l) in
+    record { healthy = (Doomed x, s.0.sound); blocks = s.1 }
+
+-- An erased region.
+blank-votes : (m : List ℕ) (at : ℕ) → ((k : ℕ) → k < 1024 → byte m (at + k) ≡ 255)
+    → ((votes_at m at).unused ≡ 1024) × (((votes_at m at).opened ≡ 0) × ((votes_at m at).wrong ≡ 0))
+unfolding votes_at
+blank-votes m at h = (
+  how_many-all (λ k. byte m (at + k) == 255) 1024 (λ k low. rw (h k low) refl),
+  (
+    how_many-each_fails (λ k. byte m (at + k) == 254) 1024 (λ k low. rw (h k low) refl),
+    how_many-each_fails (λ k. not (byte m (at + k) == 255 || byte m (at + k) == 254 || byte m (at + k) == 252)) 1024 (λ k low. rw (h k low) refl),
+  ),
+)
+
+blank-entry : (m : List ℕ) → ((k : ℕ) → k < 4096 → byte m (4096 + k) ≡ 255) → (i j : ℕ) → i < 512 → j < 4 → entry m i j ≡ 255
+blank-entry m h i j low small = let e : 6144 + 4 * i + j ≡ 4096 + (2048 + 4 * i + j) = omega arith in rw e (h (2048 + 4 * i + j) (omega arith))
+
+blank-free : (m : List ℕ) → ((k : ℕ) → k < 4096 → byte m (4096 + k) ≡ 255) → free_entries m ≡ 512
+unfolding free_entries
+blank-free m h = how_many-all (is_free_entry m) 512 (λ i low. rw (blank-entry m h i 0 low (lit< tt), blank-entry m h i 1 low (lit< tt), blank-entry m h i 2 low (lit< tt), blank-entry m h i 3 low (lit< tt)) refl)
+
+blank-open : (m : List ℕ) → ((k : ℕ) → k < 4096 → byte m (4096 + k) ≡ 255) → open_entries m ≡ 0
+unfolding open_entries
+blank-open m h = how_many-each_fails (is_open_entry m) 512 (λ i low. rw (blank-entry m h i 0 low (lit< tt)) refl)
+
+apart-places : (a b k : ℕ) (m : List ℕ) → byte m (a + (b + k)) ≡ 255 → byte m (a + b + k) ≡ 255
+apart-places a b k m h = rw (add_assoc a b k) h
+
+pub blank : (x : JournalId) (m : List ℕ) → ((k : ℕ) → k < 4096 → byte m (journal_at x + k) ≡ 255) → IsBlank x m
+blank J0 m h = record {
+  second = blank-votes m 4096 (λ k low. h k (omega arith));
+  first = blank-votes m 5120 (λ k low. apart-places 4096 1024 k m (h (1024 + k) (omega arith)));
+  free = λ e. blank-free m h;
+  none = λ e. blank-open m h;
+}
+blank J1 m h = record {
+  second = blank-votes m 8192 (λ k low. h k (omega arith));
+  first = blank-votes m 9216 (λ k low. apart-places 8192 1024 k m (h (1024 + k) (omega arith)));
+  free = λ e. absurd (cc);
+  none = λ e. absurd (cc);
+}
+blank J2 m h = record {
+  second = blank-votes m 12288 (λ k low. h k (omega arith));
+  first = blank-votes m 13312 (λ k low. apart-places 12288 1024 k m (h (1024 + k) (omega arith)));
+  free = λ e. absurd (cc);
+  none = λ e. absurd (cc);
+}
+
+pub journal-erased : (x : JournalId) (m : List ℕ) → 16384 ≤ length m → IsSound (Doomed x) m
+    → IsNext (Doomed x) m (Doomed x) (erased m (journal_at x) 4096) × SameBlocks m (erased m (journal_at x) 4096) × IsBlank x (erased m (journal_at x) 4096)
+journal-erased x m long h =
+    let s = journal-spoiled x m (erased m (journal_at x) 4096) h (erased-spoiled m (journal_at x) 4096) in
+    (s.0, s.1, blank x (erased m (journal_at x) 4096) (erased-bytes m (journal_at x) 4096 (let l = journal-low x in omega arith)))
+
+-- The first vote is closed.
+pub first-closed : (x : JournalId) (m m' : List ℕ) → IsSound (Doomed x) m → IsBlank x m → OneChanged (first_at x) 254 252 m m'
+    → IsNext (Doomed x) m (Closing x) m' × SameBlocks m m'
+first-closed x m m' h b c =
+    let s = closes_first x c.at m m' h b c.within c.change in
+    (s, vote-blocks (first_at x + c.at) 254 252 m m' c.change (first-high x c.at) (first-low x c.at c.within) (doomed-plain x m h) (closing-plain x m' s.sound))
+
+pub first-close-cut : (x : JournalId) (m m' : List ℕ) → IsSound (Doomed x) m → IsBlank x m → PerhapsChanged (first_at x) 254 252 m m' → Stands m m'
+first-close-cut x m m' h b (not_begun e) = rw e (record { healthy = (Doomed x, h); blocks = same-blocks-refl m })
+first-close-cut x m m' h b (done c) = let s = first-closed x m m' h b c in record { healthy = (Closing x, s.0.sound); blocks = s.1 }
+
+-- The second.
+closed-none : (x : JournalId) (i : ℕ) (m m' : List ℕ) → IsSound (Closing x) m → i < 1024 → Changed (second_at x + i) 254 252 m m' → open_entries m' ≡ 0
+closed-none J0 i m m' h low change = let p = h.phase in let e = entries-below (12288 + i) 1 m m' (changed-spoiled (12288 + i) 254 252 m m' change) (omega arith) in omega arith
+closed-none J1 i m m' h low change = let p = h.phase in let e = entries-above (4096 + i) 1 m m' (changed-spoiled (4096 + i) 254 252 m m' change) (omega arith) in omega arith
+closed-none J2 i m m' h low change = let p = h.phase in let e = entries-below (8192 + i) 1 m m' (changed-spoiled (8192 + i) 254 252 m m' change) (omega arith) in omega arith
+
+pub second-closed : (x : JournalId) (m m' : List ℕ) → IsSound (Closing x) m → OneChanged (second_at x) 254 252 m m'
+    → IsNext (Closing x) m Idle m' × SameBlocks m m' × (open_entries m' ≡ 0)
+second-closed x m m' h c =
+    let s = closes_second x c.at m m' h c.within c.change in
+    let none = closed-none x c.at m m' h c.within c.change in
+    (s, vote-blocks (second_at x + c.at) 254 252 m m' c.change (second-high x c.at) (second-low x c.at c.within) (closing-plain x m h) (plain-none m' none), none)
+
+pub second-close-cut : (x : JournalId) (m m' : List ℕ) → IsSound (Closing x) m → PerhapsChanged (second_at x) 254 252 m m' → Stands m m'
+second-close-cut x m m' h (not_begun e) = rw e (record { healthy = (Closing x, h); blocks = same-blocks-refl m })
+second-close-cut x m m' h (done c) = let s = second-closed x m m' h c in record { healthy = (Idle, s.0.sound); blocks = s.1 }
+
+-- The counts that the calls ask for.
+pub some-first : (x : JournalId) (m : List ℕ) → IsSound Idle m → 0 < (votes_at m (first_at x)).unused
+some-first J0 m h = let l = h.lasts.some in omega arith
+some-first J1 m h = let l = h.lasts.some in omega arith
+some-first J2 m h = let l = h.lasts.some in omega arith
+
+-- Once only x + 1 votes for x, x + 2 has two votes left: one to be opened now, and one that stays.
+pub some-second : (x : JournalId) (m : List ℕ) → IsSound (Asked x) m → 0 < (votes_at m (second_at x)).unused
+some-second J0 m h = let l = h.lasts.some in omega arith
+some-second J1 m h = let l = h.lasts.some in omega arith
+some-second J2 m h = let l = h.lasts.some in omega arith
+
+pub open-first : (x : JournalId) (m : List ℕ) → IsSound (Doomed x) m → 0 < (votes_at m (first_at x)).opened
+open-first J0 m h = let p = h.phase in omega arith
+open-first J1 m h = let p = h.phase in omega arith
+open-first J2 m h = let p = h.phase in omega arith
+
+pub open-second : (x : JournalId) (m : List ℕ) → IsSound (Closing x) m → 0 < (votes_at m (second_at x)).opened
+open-second J0 m h = let p = h.phase in omega arith
+open-second J1 m h = let p = h.phase in omega arith
+open-second J2 m h = let p = h.phase in omega arith
+
+pub record JournalErased (x : JournalId) (m m' : List ℕ) : Type 0 where
+  pub step : IsNext (Doomed x) m (Doomed x) m'
+  pub blocks : SameBlocks m m'
+  pub blank : IsBlank x m'
+
+pub erased-as : (x : JournalId) (m m' : List ℕ) → 16384 ≤ length m → IsSound (Doomed x) m → m' ≡ erased m (journal_at x) 4096 → JournalErased x m m'
+erased-as x m m' long h e = let s = journal-erased x m long h in rw e (record { step = s.0; blocks = s.1; blank = s.2 })

@@ -1,0 +1,22 @@
+use Rattle.erase_journal.proofs.Data.{program-bytes, program-settled, program-only, program-leaves, program-healthy}
+use Rattle.erase_journal.proofs.block.program_block.Goals as goal
+
+pub returns-clause-ok : goal.returns-clause-ok
+returns-clause-ok g c = program-bytes (g.N.Nor.state c.args.nor.now) (g.N.Nor.state c.program.new.self) c.args.block c.args.at c.args.bytes.now c.requires.settled c.requires.data c.requires.number c.requires.range c.program.result
+    c.program.ensures.ok c.program.ensures.ready
+
+pub returns-clause-only : goal.returns-clause-only
+returns-clause-only g c = program-only (g.N.Nor.state c.args.nor.now) (g.N.Nor.state c.program.new.self) c.args.block c.args.at c.args.bytes.now c.requires.settled c.requires.data c.requires.number c.requires.range c.program.result
+    c.program.ensures.ok c.program.ensures.ready c.program.ensures.cut c.program.ensures.slow c.program.ensures.stands
+
+pub returns-clause-settled : goal.returns-clause-settled
+returns-clause-settled g c = program-settled (g.N.Nor.state c.args.nor.now) (g.N.Nor.state c.program.new.self) c.args.block c.args.at c.args.bytes.now c.requires.settled c.requires.data c.requires.number c.requires.range c.program.result
+    c.program.ensures.ok c.program.ensures.ready
+
+pub returns-clause-cut : goal.returns-clause-cut
+returns-clause-cut g c is = program-leaves (g.N.Nor.state c.args.nor.now) (g.N.Nor.state c.program.new.self) c.args.block c.args.at c.args.bytes.now c.requires.settled c.requires.data c.requires.number c.requires.range c.program.result
+    c.program.ensures.cut c.program.ensures.stands is
+
+pub returns-clause-healthy : goal.returns-clause-healthy
+returns-clause-healthy g c is = program-healthy (g.N.Nor.state c.args.nor.now) (g.N.Nor.state c.program.new.self) c.args.block c.args.at c.args.bytes.now c.requires.settled c.requires.data c.requires.number c.requires.range c.program.result
+    c.program.ensures.cut c.program.ensures.stands is

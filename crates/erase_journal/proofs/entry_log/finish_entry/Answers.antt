@@ -1,0 +1,29 @@
+use Rattle.std.proofs.Common.{◌≡◌, ◌+◌, ◌*◌, ◌<◌, length, refl, arith, sym, ap, ◌∙◌}
+use Rattle.std.proofs.lemmas.Result.{err_from_is_err_and}
+use Rattle.erase_journal.proofs.Effects.{on-ok}
+use Rattle.erase_journal.proofs.Scans.{free-found}
+use Rattle.erase_journal.proofs.EntryCalls.{take-ok, take-stands, open-ok, open-cut, block-ok, block-cut, done-ok, done-cut, interrupted-after, erased-then}
+use Rattle.erase_journal.proofs.Renewal.{stands-on, same-blocks-on}
+use Rattle.erase_journal.specs.Steps.{as_it_was}
+use Rattle.erase_journal.proofs.entry_log.finish_entry.Goals as goal
+
+pub returns-in_err-erase_small-clause-cut : goal.returns-in_err-erase_small-clause-cut
+returns-in_err-erase_small-clause-cut g c is =
+    let p = err_from_is_err_and c.from_residual.result c.from_residual.ensures.1 in
+    block-cut c.args.entry c.args.block (g.N.Nor.state c.args.nor.now).memory (g.N.Nor.state c.erase_small.new.self).memory c.requires.opened c.requires.data (c.in_err-erase_small.ensures.cut (cc (p.1, p.2)))
+
+pub returns-in_err-program-clause-cut : goal.returns-in_err-program-clause-cut
+returns-in_err-program-clause-cut g c is =
+    let p = err_from_is_err_and c.from_residual-in_err-program.result c.from_residual-in_err-program.ensures.1 in
+    let b = block-ok c.args.entry c.args.block (g.N.Nor.state c.args.nor.now).memory (g.N.Nor.state c.erase_small.new.self).memory c.requires.opened c.requires.data (omega arith) c.in_ok-erase_small.ensures.ok in
+    stands-on (g.N.Nor.state c.args.nor.now).memory (g.N.Nor.state c.erase_small.new.self).memory (g.N.Nor.state c.program.new.self).memory b.blocks (done-cut c.args.entry c.args.block (g.N.Nor.state c.erase_small.new.self).memory (g.N.Nor.state c.program.new.self).memory (rw b.blocks.chip.same_length c.requires.size) b.still b.bytes (c.in_err-program.ensures.cut (cc (p.1, p.2))))
+
+pub returns-clause-settled : goal.returns-clause-settled
+returns-clause-settled g c =
+    let b = block-ok c.args.entry c.args.block (g.N.Nor.state c.args.nor.now).memory (g.N.Nor.state c.erase_small.new.self).memory c.requires.opened c.requires.data (omega arith) c.in_ok-erase_small.ensures.ok in
+    (done-ok c.args.entry c.args.block (g.N.Nor.state c.erase_small.new.self).memory (g.N.Nor.state c.program.new.self).memory (rw b.blocks.chip.same_length c.requires.size) b.still b.bytes c.in_ok-program.ensures.ok).0
+
+pub returns-clause-blocks : goal.returns-clause-blocks
+returns-clause-blocks g c =
+    let b = block-ok c.args.entry c.args.block (g.N.Nor.state c.args.nor.now).memory (g.N.Nor.state c.erase_small.new.self).memory c.requires.opened c.requires.data (omega arith) c.in_ok-erase_small.ensures.ok in
+    same-blocks-on (g.N.Nor.state c.args.nor.now).memory (g.N.Nor.state c.erase_small.new.self).memory (g.N.Nor.state c.program.new.self).memory b.blocks (done-ok c.args.entry c.args.block (g.N.Nor.state c.erase_small.new.self).memory (g.N.Nor.state c.program.new.self).memory (rw b.blocks.chip.same_length c.requires.size) b.still b.bytes c.in_ok-program.ensures.ok).1

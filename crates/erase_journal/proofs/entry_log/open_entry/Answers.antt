@@ -1,0 +1,28 @@
+use Rattle.std.proofs.Common.{◌≡◌, ◌+◌, ◌*◌, ◌<◌, length, refl, arith, sym, ap, ◌∙◌}
+use Rattle.std.proofs.lemmas.Result.{err_from_is_err_and}
+use Rattle.erase_journal.proofs.Effects.{on-ok}
+use Rattle.erase_journal.proofs.Scans.{free-found}
+use Rattle.erase_journal.proofs.EntryCalls.{take-ok, take-stands, open-ok, open-cut, block-ok, block-cut, done-ok, done-cut, interrupted-after, erased-then}
+use Rattle.erase_journal.proofs.Renewal.{stands-on, same-blocks-on}
+use Rattle.erase_journal.specs.Steps.{as_it_was}
+use Rattle.erase_journal.proofs.entry_log.open_entry.Goals as goal
+
+pub returns-in_err-program-clause-cut : goal.returns-in_err-program-clause-cut
+returns-in_err-program-clause-cut g c is =
+    let p = err_from_is_err_and c.from_residual-in_err-program.result c.from_residual-in_err-program.ensures.1 in
+    let h = rw c.in-Some.is at c.in_ok-found.ensures.found in
+    let same = c.in_ok-found.ensures.same in
+    open-cut c.in-Some.entry c.args.block (g.N.Nor.state c.args.nor.now).memory (g.N.Nor.state c.take_entry.new.nor).memory (g.N.Nor.state c.program.new.self).memory c.requires.size c.requires.restful h.0 (rw same at c.in_ok-take_entry.ensures.ok) c.requires.data c.requires.range
+    (c.in_err-program.ensures.cut (cc (p.1, p.2)))
+
+pub returns-clause-opened : goal.returns-clause-opened
+returns-clause-opened g c =
+    let h = rw c.in-Some.is at c.in_ok-found.ensures.found in
+    let same = c.in_ok-found.ensures.same in
+    (open-ok c.in-Some.entry c.args.block (g.N.Nor.state c.args.nor.now).memory (g.N.Nor.state c.take_entry.new.nor).memory (g.N.Nor.state c.program.new.self).memory c.requires.size c.requires.restful h.0 (rw same at c.in_ok-take_entry.ensures.ok) c.requires.data c.requires.range c.in_ok-program.ensures.ok).0
+
+pub returns-clause-erased : goal.returns-clause-erased
+returns-clause-erased g c =
+    let h = rw c.in-Some.is at c.in_ok-found.ensures.found in
+    let same = c.in_ok-found.ensures.same in
+    (open-ok c.in-Some.entry c.args.block (g.N.Nor.state c.args.nor.now).memory (g.N.Nor.state c.take_entry.new.nor).memory (g.N.Nor.state c.program.new.self).memory c.requires.size c.requires.restful h.0 (rw same at c.in_ok-take_entry.ensures.ok) c.requires.data c.requires.range c.in_ok-program.ensures.ok).1

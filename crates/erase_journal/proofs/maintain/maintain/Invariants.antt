@@ -1,0 +1,18 @@
+use Rattle.std.proofs.Common.{◌≡◌, ◌≤◌, length}
+use Rattle.nor_driver.specs.State.{Kept}
+use Rattle.erase_journal.specs.Journals.{IsSettled, survey_of, unused_of}
+use Rattle.erase_journal.specs.Blocks.{SameBlocks}
+use Rattle.erase_journal.proofs.Lasting.{wear}
+use Rattle.erase_journal.proofs.maintain.maintain.Given as goal
+
+abbrev pub invariant-loop-journal : goal.invariant-loop-journal
+invariant-loop-journal g l = record {
+  size : 16384 ≤ length (g.N.Nor.state l.nor).memory;
+  settled : IsSettled (g.N.Nor.state l.nor).memory;
+  blocks : SameBlocks (g.N.Nor.state l.fn.nor).memory (g.N.Nor.state l.nor).memory;
+  since : Kept (g.N.Nor.state l.fn.nor) (g.N.Nor.state l.nor);
+  survey : l.survey ≡ survey_of (g.N.Nor.state l.nor).memory;
+}
+
+abbrev pub decreases-loop-journal : goal.decreases-loop-journal
+decreases-loop-journal g l = wear (unused_of l.survey)

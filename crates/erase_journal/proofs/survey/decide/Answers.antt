@@ -1,0 +1,33 @@
+use Rattle.std.proofs.Common.{◌≡◌, Option, Some, None, false, true}
+use Rattle.std.specs.Prelude.{MatchOption, IsTrue}
+use Rattle.nor_layout.specs.declared.journal.JournalId.{JournalId}
+use Rattle.nor_layout.specs.declared.journal.JournalId.TheVariants.{J0, J1, J2}
+use Rattle.erase_journal.specs.declared.phase.Phase.{Phase}
+use Rattle.erase_journal.specs.declared.phase.Phase.TheVariants.{Idle, Asked, Doomed, Closing}
+use Rattle.erase_journal.specs.declared.survey.Survey.{Survey}
+use Rattle.erase_journal.specs.Journals.{IsSoundSurvey}
+use Rattle.erase_journal.proofs.survey.decide.Goals as goal
+
+abbrev NoneFor : Survey → JournalId → Type 0
+NoneFor s x = (IsSoundSurvey (Asked x) s → ⊥) × (IsSoundSurvey (Doomed x) s → ⊥) × (IsSoundSurvey (Closing x) s → ⊥)
+
+none-for : (s : Survey) → NoneFor s J0 → NoneFor s J1 → NoneFor s J2 → (x : JournalId) → NoneFor s x
+none-for s n0 n1 n2 J0 = n0
+none-for s n0 n1 n2 J1 = n1
+none-for s n0 n1 n2 J2 = n2
+
+no-phase : (s : Survey) → (IsSoundSurvey Idle s → ⊥) → ((x : JournalId) → NoneFor s x) → (phase : Phase) → IsSoundSurvey phase s → ⊥
+no-phase s i n Idle h = i h
+no-phase s i n (Asked x) h = (n x).0 h
+no-phase s i n (Doomed x) h = (n x).1 h
+no-phase s i n (Closing x) h = (n x).2 h
+
+decided : (s : Survey) (r : Option Phase) → (IsSoundSurvey Idle s → ⊥) → NoneFor s J0 → NoneFor s J1
+    → MatchOption r (NoneFor s J2) (λ phase. IsSoundSurvey phase s) → MatchOption r ((phase : Phase) → IsSoundSurvey phase s → ⊥) (λ phase. IsSoundSurvey phase s)
+decided s None i n0 n1 n2 = no-phase s i (none-for s n0 n1 n2)
+decided s (Some phase) i n0 n1 h = h
+
+pub returns : goal.returns
+returns c =
+    let no_idle : IsSoundSurvey Idle c.args.survey → ⊥ = λ h. let t = c.fits.ensures.1 h in let f = c.if-fits.false in cc in
+    decided c.args.survey c.fitting-3.result no_idle c.in_default.ensures c.in_default-fitting.ensures c.fitting-3.ensures

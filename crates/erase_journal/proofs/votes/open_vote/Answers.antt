@@ -1,0 +1,31 @@
+use Rattle.std.proofs.Common.{◌≡◌, ◌+◌, ◌<◌, length, refl, arith, sym, ◌∙◌}
+use Rattle.erase_journal.proofs.Scans.{unused-count}
+use Rattle.erase_journal.proofs.Effects.{fails-after, bit-open, on-ok, if-err}
+use Rattle.erase_journal.proofs.VoteCalls.{set-ok, set-cut}
+use Rattle.nor_driver.specs.State.{Fails}
+use Rattle.erase_journal.proofs.votes.open_vote.Goals as goal
+
+pub unreachable-requires : goal.unreachable-requires
+unreachable-requires g c =
+    let h = rw c.in_default.is at c.in_ok-found.ensures.found in
+    omega (arith, h, unused-count (g.N.Nor.state c.args.nor.now).memory c.args.region)
+
+pub returns-clause-ok : goal.returns-clause-ok
+returns-clause-ok g c =
+    let state = g.N.Nor.state in
+    let h = rw c.in-Some.is at c.in_ok-found.ensures.found in
+    on-ok c.program.result (set-ok (state c.args.nor.now).memory (state c.find_vote.new.nor).memory (state c.program.new.self).memory c.args.region c.in-Some.place 255 254
+    c.in_ok-found.ensures.same c.requires.range h.0 h.1) c.program.ensures.ok
+
+pub returns-clause-cut : goal.returns-clause-cut
+returns-clause-cut g c is_cut =
+    let state = g.N.Nor.state in
+    let h = rw c.in-Some.is at c.in_ok-found.ensures.found in
+    set-cut (state c.args.nor.now).memory (state c.find_vote.new.nor).memory (state c.program.new.self).memory c.args.region c.in-Some.place 255 254
+    c.in_ok-found.ensures.same c.requires.range h.0 h.1 0 bit-open (c.program.ensures.cut is_cut)
+
+pub returns-clause-fails : goal.returns-clause-fails
+returns-clause-fails g c =
+    let state = g.N.Nor.state in
+    if-err (λ e. Fails e (state c.find_vote.new.nor) (state c.program.new.self)) (λ e. Fails e (state c.args.nor.now) (state c.program.new.self)) c.program.result
+    (λ e f. fails-after e (state c.args.nor.now) (state c.find_vote.new.nor) (state c.program.new.self) c.in_ok-found.ensures.kept f) c.program.ensures.fails

@@ -1,0 +1,129 @@
+-- The three journals in a memory: their votes and entries, the phases of an erase of a journal, and what a healthy memory is.
+-- Source: own.
+use Rattle.std.specs.Prelude.{◌≡◌, ℕ, ◌+◌, ◌*◌, ◌/◌, ◌≤◌, Bool, not, List, length, ◌==◌, ◌&&◌, ◌||◌, nat_lt, nat_le}
+use Rattle.chip_model.specs.Memory.{byte}
+use Rattle.nor_layout.specs.declared.journal.JournalId.{JournalId}
+use Rattle.nor_layout.specs.declared.journal.JournalId.TheVariants.{J0, J1, J2}
+use Rattle.nor_layout.specs.Journals.{next, first_at, second_at}
+use Rattle.erase_journal.specs.declared.phase.Phase.{Phase}
+use Rattle.erase_journal.specs.declared.phase.Phase.TheVariants.{Idle, Asked, Doomed, Closing}
+use Rattle.erase_journal.specs.declared.scan.VoteCounts.{VoteCounts}
+use Rattle.erase_journal.specs.declared.survey.Survey.{Survey}
+use Rattle.erase_journal.specs.declared.unused.Unused.{Unused}
+use Rattle.erase_journal.specs.Places.{how_many}
+use Rattle.erase_journal.specs.Votes.{Last, renewed, second_spent}
+
+-- The 1,024 votes of a region: FFh is unused, FEh open, FCh closed, all else is wrong.
+unfoldable pub votes_at : List ℕ → ℕ → VoteCounts
+votes_at m at = record {
+  unused = how_many (λ k. byte m (at + k) == 255) 1024;
+  opened = how_many (λ k. byte m (at + k) == 254) 1024;
+  wrong = how_many (λ k. not (byte m (at + k) == 255 || byte m (at + k) == 254 || byte m (at + k) == 252)) 1024;
+}
+
+-- J0 has 512 entries of 4 bytes in its bytes 2,048 to 4,095; byte j of entry i
+abbrev pub entry : List ℕ → ℕ → ℕ → ℕ
+entry m i j = byte m (6144 + 4 * i + j)
+
+-- the block that it names, low byte first
+abbrev pub entry_block : List ℕ → ℕ → ℕ
+entry_block m i = entry m i 1 + 256 * entry m i 2
+
+-- free: four FFh
+abbrev pub is_free_entry : List ℕ → ℕ → Bool
+is_free_entry m i = entry m i 0 == 255 && entry m i 1 == 255 && entry m i 2 == 255 && entry m i 3 == 255
+
+-- open: state FCh, a data block of this chip, and FFh
+abbrev pub is_open_entry : List ℕ → ℕ → Bool
+is_open_entry m i = entry m i 0 == 252 && entry m i 3 == 255 && nat_le 4 (entry_block m i) && nat_lt (entry_block m i) (length m / 4096)
+
+unfoldable pub free_entries : List ℕ → ℕ
+free_entries m = how_many (is_free_entry m) 512
+
+unfoldable pub open_entries : List ℕ → ℕ
+open_entries m = how_many (is_open_entry m) 512
+
+-- the open entries for block b
+unfoldable pub entries_for : List ℕ → ℕ → ℕ
+entries_for m b = how_many (λ i. is_open_entry m i && entry_block m i == b) 512
+
+-- all numbers of the journals of a memory
+abbrev pub survey_of : List ℕ → Survey
+survey_of m = record {
+  j0_for_1 = votes_at m (second_at J1);
+  j0_for_2 = votes_at m (first_at J2);
+  j1_for_2 = votes_at m (second_at J2);
+  j1_for_0 = votes_at m (first_at J0);
+  j2_for_0 = votes_at m (second_at J0);
+  j2_for_1 = votes_at m (first_at J1);
+  free = free_entries m;
+  opened = open_entries m;
+}
+
+-- the votes for the erase of x: those of the next journal, and those of the one after it
+abbrev pub first : Survey → JournalId → VoteCounts
+first s J0 = s.j1_for_0
+first s J1 = s.j2_for_1
+first s J2 = s.j0_for_2
+
+abbrev pub second : Survey → JournalId → VoteCounts
+second s J0 = s.j2_for_0
+second s J1 = s.j0_for_1
+second s J2 = s.j1_for_2
+
+-- the unused votes, and the free entries
+abbrev pub unused_of : Survey → Unused
+unused_of s = record {
+  j0_for_1 = s.j0_for_1.unused;
+  j0_for_2 = s.j0_for_2.unused;
+  j1_for_0 = s.j1_for_0.unused;
+  j1_for_2 = s.j1_for_2.unused;
+  j2_for_0 = s.j2_for_0.unused;
+  j2_for_1 = s.j2_for_1.unused;
+  free = s.free;
+}
+
+abbrev pub unused : List ℕ → Unused
+unused m = unused_of (survey_of m)
+
+-- so many open votes in a region, and none that is wrong
+abbrev pub Holds : VoteCounts → ℕ → Type 0
+Holds v n = (v.opened ≡ n) × (v.wrong ≡ 0)
+
+-- no open vote for x
+abbrev pub IsQuiet : Survey → JournalId → Type 0
+IsQuiet s x = Holds (first s x) 0 × Holds (second s x) 0
+
+-- The journals that are believed hold nothing but what the phase says. A journal is believed unless both others hold an open
+-- vote for its erase; of the votes and entries of a doomed one nothing is said.
+abbrev pub IsInPhase : Phase → Survey → Type 0
+IsInPhase Idle s = IsQuiet s J0 × IsQuiet s J1 × IsQuiet s J2 × (s.opened ≤ 1)
+IsInPhase (Asked x) s = Holds (first s x) 1 × Holds (second s x) 0 × IsQuiet s (next x) × IsQuiet s (next (next x)) × (s.opened ≡ 0)
+IsInPhase (Doomed J0) s = Holds (first s J0) 1 × Holds (second s J0) 1 × Holds (first s J1) 0 × Holds (second s J2) 0
+IsInPhase (Doomed J1) s = Holds (first s J1) 1 × Holds (second s J1) 1 × Holds (first s J2) 0 × Holds (second s J0) 0 × (s.opened ≡ 0)
+IsInPhase (Doomed J2) s = Holds (first s J2) 1 × Holds (second s J2) 1 × Holds (first s J0) 0 × Holds (second s J1) 0 × (s.opened ≡ 0)
+IsInPhase (Closing x) s = Holds (first s x) 0 × Holds (second s x) 1 × IsQuiet s (next x) × IsQuiet s (next (next x)) × (s.opened ≡ 0)
+
+-- The numbers as they stand once the erase that goes on is done: a journal that is asked for has one vote still to be spent.
+abbrev pub settled : Phase → Unused → Unused
+settled Idle u = u
+settled (Asked x) u = renewed x (second_spent x u)
+settled (Doomed x) u = renewed x u
+settled (Closing x) u = u
+
+-- The journals are in this phase, and their votes last.
+pub record IsSoundSurvey (p : Phase) (s : Survey) : Type 0 where
+  pub phase : IsInPhase p s
+  pub lasts : Last (settled p (unused_of s))
+
+abbrev pub IsSound : Phase → List ℕ → Type 0
+IsSound p m = IsSoundSurvey p (survey_of m)
+
+-- A healthy memory: the journals are sound in one of the phases. Else they are corrupt.
+abbrev pub IsHealthy : List ℕ → Type 0
+IsHealthy m = (p : Phase) × IsSound p m
+
+-- No erase goes on, neither of a journal nor of a data block.
+pub record IsSettled (m : List ℕ) : Type 0 where
+  pub sound : IsSound Idle m
+  pub none : open_entries m ≡ 0

@@ -1,0 +1,85 @@
+-- What the functions of the journal leave. Source: own.
+use Rattle.std.specs.Prelude.{◌≡◌, ◌≢◌, ◌⊎◌, ℕ, ◌+◌, ◌*◌, ◌<◌, ◌≤◌, Bool, true, false, List}
+use Rattle.nor_layout.specs.declared.journal.JournalId.{JournalId}
+use Rattle.nor_layout.specs.declared.journal.JournalId.TheVariants.{J0, J1, J2}
+use Rattle.nor_driver.specs.State.{NorState, IsReady}
+use Rattle.nor_driver.specs.declared.error.NorError.{NorError}
+use Rattle.nor_driver.specs.declared.error.NorError.TheVariants.{Cut, Slow}
+use Rattle.erase_journal.specs.declared.phase.Phase.{Phase}
+use Rattle.erase_journal.specs.declared.phase.Phase.TheVariants.{Idle}
+use Rattle.erase_journal.specs.declared.unused.Unused.{Unused}
+use Rattle.erase_journal.specs.Places.{Changed, Spoiled}
+use Rattle.erase_journal.specs.Votes.{IsLowestTired, IsRested}
+use Rattle.erase_journal.specs.Journals.{IsSound, IsHealthy, IsSettled, open_entries, unused, settled, is_open_entry, entry_block, entry}
+use Rattle.erase_journal.specs.Blocks.{SameBlocks, WithErased}
+
+-- m' is healthy and stands for the blocks of m: what a loss of power leaves of a change of the journals
+pub record Stands (m m' : List ℕ) : Type 0 where
+  pub healthy : IsHealthy m'
+  pub blocks : SameBlocks m m'
+
+-- an erase of block c that was cut: m' is healthy, and its blocks are those of m, or these with block c erased
+pub data Interrupted (c : ℕ) (m m' : List ℕ) : Type 0 where
+  as_it_was : Stands m m' → Interrupted c m m'
+  block_erased : IsHealthy m' → WithErased c m m' → Interrupted c m m'
+
+-- What a call that failed answers first: a Slow that stands, then a power that is off; and then nothing has changed.
+abbrev pub IsFirst : NorError → NorState → NorState → Type 0
+IsFirst Cut old new = (old.is_slow ≡ false) × (old.powered ≡ false → new ≡ old)
+IsFirst Slow old new = (old.is_slow ≡ false → old.powered ≡ true) × (old.is_slow ≡ true → new ≡ old)
+
+-- one byte of the region of 1,024 bytes has changed
+pub record OneChanged (place old new : ℕ) (m m' : List ℕ) : Type 0 where
+  pub at : ℕ
+  pub within : at < 1024
+  pub change : Changed (place + at) old new m m'
+
+-- nothing has, or one byte
+pub data PerhapsChanged (place old new : ℕ) (m m' : List ℕ) : Type 0 where
+  not_begun : m' ≡ m → PerhapsChanged place old new m m'
+  done : OneChanged place old new m m' → PerhapsChanged place old new m m'
+
+-- maintenance may erase journal x: it is the lowest-numbered tired one, and no other erase goes on
+pub record MayErase (x : JournalId) (m : List ℕ) : Type 0 where
+  pub settled : IsSettled m
+  pub tired : IsLowestTired x (unused m)
+
+-- the seven numbers are the same
+pub record SameNumbers (u v : Unused) : Type 0 where
+  pub n01 : v.j0_for_1 ≡ u.j0_for_1
+  pub n02 : v.j0_for_2 ≡ u.j0_for_2
+  pub n10 : v.j1_for_0 ≡ u.j1_for_0
+  pub n12 : v.j1_for_2 ≡ u.j1_for_2
+  pub n20 : v.j2_for_0 ≡ u.j2_for_0
+  pub n21 : v.j2_for_1 ≡ u.j2_for_1
+  pub free : v.free ≡ u.free
+
+-- a memory that is sound in this phase and whose numbers, once settled, are these
+pub record IsStep (u : Unused) (p : Phase) (m : List ℕ) : Type 0 where
+  pub sound : IsSound p m
+  pub numbers : SameNumbers u (settled p (unused m))
+
+-- the next step of an erase of a journal: the settled numbers stay
+abbrev pub IsNext : Phase → List ℕ → Phase → List ℕ → Type 0
+IsNext p m p' m' = IsStep (settled p (unused m)) p' m'
+
+-- no erase goes on, and no journal is tired
+pub record IsRestful (m : List ℕ) : Type 0 where
+  pub settled : IsSettled m
+  pub j0 : IsRested J0 (unused m)
+  pub j1 : IsRested J1 (unused m)
+  pub j2 : IsRested J2 (unused m)
+
+-- entry i is open for block c, which so reads as erased
+pub record IsOpened (i c : ℕ) (m : List ℕ) : Type 0 where
+  pub sound : IsSound Idle m
+  pub within : i < 512
+  pub opened : is_open_entry m i ≡ true
+  pub names : entry_block m i ≡ c
+
+-- what taking a free entry for block c leaves
+pub record IsTaken (i c : ℕ) (m m' : List ℕ) : Type 0 where
+  pub spoiled : Spoiled (6144 + 4 * i) 4 m m'
+  pub state : entry m' i 0 ≡ 254
+  pub last : entry m' i 3 ≡ 255
+  pub names : entry_block m' i ≡ c

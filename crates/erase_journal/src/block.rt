@@ -1,0 +1,50 @@
+ghost use Rattle.std.specs.Prelude.{◌≡◌, ◌+◌, ◌%◌, ◌<◌, ◌≤◌, length, slice_range, OnOk, IfErr};
+ghost use Rattle.std.specs.Result.{IsErrOf};
+ghost use Rattle.chip_model.specs.Geometry.{block_count};
+ghost use Rattle.chip_model.specs.Memory.{and_at, TornAnd};
+ghost use Rattle.nor_driver.specs.State.{IsReady, Kept, Fails, Leaves};
+ghost use Rattle.erase_journal.specs.Journals.{IsSettled, IsHealthy};
+ghost use Rattle.erase_journal.specs.Blocks.{block as block_of, OnlyBlock};
+ghost use Rattle.erase_journal.specs.Steps.{IsFirst};
+
+use nor_driver::{Nor, NorError};
+
+/// Reads bytes of a data block from its place `at` on.
+pub fn read_block<N: Nor>(nor: &mut N, block: u16, at: u32, into: &mut [u8]) -> Result<(), NorError>
+    requires settled { IsReady (N.state nor.old) → IsSettled (N.state nor.old).memory }
+    requires number { block < block_count (length (N.state nor.old).memory) }
+    requires start { at < 4096 }
+    requires range { at + length into.old ≤ 4096 }
+    ensures ok { OnOk result (into.new ≡ slice_range (block_of (N.state nor.old).memory block) at (at + length into.old)) }
+    ensures same { (N.state nor.new).memory ≡ (N.state nor.old).memory }
+    ensures ready { OnOk result (IsReady (N.state nor.old)) }
+    ensures kept { OnOk result (Kept (N.state nor.old) (N.state nor.new)) }
+    ensures fails { IfErr result (λ e. Fails e (N.state nor.old) (N.state nor.new)) }
+    ensures first { IfErr result (λ e. IsFirst e (N.state nor.old) (N.state nor.new)) }
+{
+    nor.read(4_096 * block as u32 + at, into)?;
+    Ok(())
+}
+
+/// Programs 1 to 256 bytes of one page of a data block: each byte becomes old AND new.
+pub fn program_block<N: Nor>(nor: &mut N, block: u16, at: u32, bytes: &[u8]) -> Result<(), NorError>
+    requires settled { IsReady (N.state nor.old) → IsSettled (N.state nor.old).memory }
+    requires data { 4 ≤ block }
+    requires number { block < block_count (length (N.state nor.old).memory) }
+    requires some { 0 < length bytes.now }
+    requires page { at % 256 + length bytes.now ≤ 256 }
+    requires range { at + length bytes.now ≤ 4096 }
+    ensures ok { OnOk result (block_of (N.state nor.new).memory block ≡ and_at (block_of (N.state nor.old).memory block) at bytes.now) }
+    ensures only { OnlyBlock block (N.state nor.old).memory (N.state nor.new).memory }
+    ensures settled { OnOk result (IsSettled (N.state nor.new).memory) }
+    ensures cut { IsErrOf result NorError.Cut → Leaves (block_of (N.state nor.old).memory block)
+        (TornAnd (block_of (N.state nor.old).memory block) at bytes.now) (and_at (block_of (N.state nor.old).memory block) at bytes.now)
+        (block_of (N.state nor.new).memory block) }
+    ensures healthy { IsErrOf result NorError.Cut → IsHealthy (N.state nor.old).memory → IsHealthy (N.state nor.new).memory }
+    ensures ready { OnOk result (IsReady (N.state nor.old)) }
+    ensures kept { OnOk result (Kept (N.state nor.old) (N.state nor.new)) }
+    ensures fails { IfErr result (λ e. Fails e (N.state nor.old) (N.state nor.new)) }
+    ensures first { IfErr result (λ e. IsFirst e (N.state nor.old) (N.state nor.new)) }
+{
+    nor.program(4_096 * block as u32 + at, bytes)
+}

@@ -1,0 +1,107 @@
+ghost use Rattle.std.specs.Prelude.{◌≡◌, ◌+◌, ◌*◌, ◌/◌, ◌<◌, ◌≤◌, ◌^◌, ℕ, true, length, OnOk, IfOk, IfErr};
+ghost use Rattle.std.specs.Result.{IsErrOf};
+ghost use Rattle.nor_driver.specs.State.{Kept, Fails};
+ghost use Rattle.erase_journal.specs.Journals.{IsSettled, is_free_entry};
+ghost use Rattle.erase_journal.specs.Blocks.{SameBlocks, WithErased};
+ghost use Rattle.erase_journal.specs.Scans.{IsFreeAnswer, IsOpenAnswer};
+ghost use Rattle.erase_journal.specs.Steps.{IsRestful, IsTaken, IsOpened, Stands, Interrupted};
+
+use crate::scan::{OpenEntry, lowest_free, lowest_open};
+use nor_driver::{Nor, NorError};
+
+/// The lowest free entry.
+fn find_free<N: Nor>(nor: &mut N) -> Result<Option<u32>, NorError>
+    requires { 16384 ≤ length (N.state nor.old).memory }
+    ensures found { IfOk result (λ found. IsFreeAnswer (N.state nor.old).memory found) }
+    ensures same { (N.state nor.new).memory ≡ (N.state nor.old).memory }
+    ensures kept { OnOk result (Kept (N.state nor.old) (N.state nor.new)) }
+    ensures fails { IfErr result (λ e. Fails e (N.state nor.old) (N.state nor.new)) }
+{
+    let mut entries = [0; 2048];
+    nor.read(0x1800, &mut entries)?;
+    Ok(lowest_free(&entries))
+}
+
+/// The lowest open entry.
+pub fn find_open<N: Nor>(nor: &mut N) -> Result<Option<OpenEntry>, NorError>
+    requires { 16384 ≤ length (N.state nor.old).memory }
+    ensures found { IfOk result (λ found. IsOpenAnswer (N.state nor.old).memory found) }
+    ensures same { (N.state nor.new).memory ≡ (N.state nor.old).memory }
+    ensures kept { OnOk result (Kept (N.state nor.old) (N.state nor.new)) }
+    ensures fails { IfErr result (λ e. Fails e (N.state nor.old) (N.state nor.new)) }
+{
+    let blocks = nor.bytes() / 4_096;
+    let mut entries = [0; 2048];
+    nor.read(0x1800, &mut entries)?;
+    Ok(lowest_open(&entries, blocks))
+}
+
+/// Takes a free entry for a block.
+fn take_entry<N: Nor>(nor: &mut N, entry: u32, block: u16) -> Result<(), NorError>
+    requires size { 16384 ≤ length (N.state nor.old).memory }
+    requires restful { IsRestful (N.state nor.old).memory }
+    requires within { entry < 512 }
+    requires free { is_free_entry (N.state nor.old).memory entry ≡ true }
+    ensures ok { OnOk result (IsTaken entry block (N.state nor.old).memory (N.state nor.new).memory) }
+    ensures cut { IsErrOf result NorError.Cut → Stands (N.state nor.old).memory (N.state nor.new).memory }
+    ensures kept { OnOk result (Kept (N.state nor.old) (N.state nor.new)) }
+    ensures fails { IfErr result (λ e. Fails e (N.state nor.old) (N.state nor.new)) }
+{
+    nor.program(
+        0x1800 + 4 * entry,
+        &[0xfe, (block % 256) as u8, (block / 256) as u8],
+    )
+}
+
+/// Opens an entry for a dead block, which erases it for every reader.
+fn open_entry<N: Nor>(nor: &mut N, block: u16) -> Result<u32, NorError>
+    requires size { 16384 ≤ length (N.state nor.old).memory }
+    requires restful { IsRestful (N.state nor.old).memory }
+    requires data { 4 ≤ block }
+    requires range { block < length (N.state nor.old).memory / 4096 }
+    ensures opened { IfOk result (λ entry. IsOpened entry block (N.state nor.new).memory) }
+    ensures erased { OnOk result (WithErased block (N.state nor.old).memory (N.state nor.new).memory) }
+    ensures cut { IsErrOf result NorError.Cut → Interrupted block (N.state nor.old).memory (N.state nor.new).memory }
+    ensures kept { OnOk result (Kept (N.state nor.old) (N.state nor.new)) }
+    ensures fails { IfErr result (λ e. Fails e (N.state nor.old) (N.state nor.new)) }
+{
+    let found = find_free(nor)?;
+    let Some(entry) = found else { unreachable!() };
+    take_entry(nor, entry, block)?;
+    nor.program(0x1800 + 4 * entry, &[0xfc])?;
+    Ok(entry)
+}
+
+/// Erases the block of an open entry, and closes the entry.
+pub fn finish_entry<N: Nor>(nor: &mut N, entry: u32, block: u16) -> Result<(), NorError>
+    requires size { 16384 ≤ length (N.state nor.old).memory }
+    requires opened { IsOpened entry block (N.state nor.old).memory }
+    requires data { 4 ≤ block }
+    requires range { block < length (N.state nor.old).memory / 4096 }
+    ensures settled { OnOk result (IsSettled (N.state nor.new).memory) }
+    ensures blocks { OnOk result (SameBlocks (N.state nor.old).memory (N.state nor.new).memory) }
+    ensures cut { IsErrOf result NorError.Cut → Stands (N.state nor.old).memory (N.state nor.new).memory }
+    ensures kept { OnOk result (Kept (N.state nor.old) (N.state nor.new)) }
+    ensures fails { IfErr result (λ e. Fails e (N.state nor.old) (N.state nor.new)) }
+{
+    nor.erase_small(4096 * block as u32)?;
+    nor.program(0x1800 + 4 * entry, &[0xf8])?;
+    Ok(())
+}
+
+/// Erases a dead block where no journal is tired.
+pub fn erase_rested<N: Nor>(nor: &mut N, block: u16) -> Result<(), NorError>
+    requires size { 16384 ≤ length (N.state nor.old).memory }
+    requires restful { IsRestful (N.state nor.old).memory }
+    requires data { 4 ≤ block }
+    requires range { block < length (N.state nor.old).memory / 4096 }
+    ensures settled { OnOk result (IsSettled (N.state nor.new).memory) }
+    ensures erased { OnOk result (WithErased block (N.state nor.old).memory (N.state nor.new).memory) }
+    ensures cut { IsErrOf result NorError.Cut → Interrupted block (N.state nor.old).memory (N.state nor.new).memory }
+    ensures kept { OnOk result (Kept (N.state nor.old) (N.state nor.new)) }
+    ensures fails { IfErr result (λ e. Fails e (N.state nor.old) (N.state nor.new)) }
+{
+    let entry = open_entry(nor, block)?;
+    finish_entry(nor, entry, block)?;
+    Ok(())
+}

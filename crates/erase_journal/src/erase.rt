@@ -1,0 +1,44 @@
+ghost use Rattle.std.specs.Prelude.{◌≡◌, ◌+◌, ◌<◌, ◌≤◌, ℕ, length, OnOk, IfErr};
+ghost use Rattle.std.specs.Result.{IsErrOf};
+ghost use Rattle.nor_driver.specs.State.{Kept, Fails};
+ghost use Rattle.erase_journal.specs.Votes.{once_erased};
+ghost use Rattle.erase_journal.specs.Journals.{unused, open_entries, IsSound};
+ghost use Rattle.erase_journal.specs.Blocks.{SameBlocks};
+ghost use Rattle.erase_journal.specs.Steps.{MayErase, IsStep, IsNext, Stands};
+
+use crate::phase::Phase;
+use crate::votes::{close_vote, open_vote};
+use nor_driver::{Nor, NorError};
+use nor_layout::JournalId;
+
+/// Opens both votes for the erase of a journal.
+pub fn doom<N: Nor>(nor: &mut N, journal: JournalId) -> Result<(), NorError>
+    requires size { 16384 ≤ length (N.state nor.old).memory }
+    requires may { MayErase journal (N.state nor.old).memory }
+    ensures ok { OnOk result (IsStep (once_erased journal (unused (N.state nor.old).memory)) (Phase.Doomed journal) (N.state nor.new).memory) }
+    ensures blocks { OnOk result (SameBlocks (N.state nor.old).memory (N.state nor.new).memory) }
+    ensures cut { IsErrOf result NorError.Cut → Stands (N.state nor.old).memory (N.state nor.new).memory }
+    ensures kept { OnOk result (Kept (N.state nor.old) (N.state nor.new)) }
+    ensures fails { IfErr result (λ e. Fails e (N.state nor.old) (N.state nor.new)) }
+{
+    open_vote(nor, journal.first_votes())?;
+    open_vote(nor, journal.second_votes())?;
+    Ok(())
+}
+
+/// Erases a journal for which both others vote, and closes the votes.
+pub fn renew<N: Nor>(nor: &mut N, journal: JournalId) -> Result<(), NorError>
+    requires size { 16384 ≤ length (N.state nor.old).memory }
+    requires doomed { IsSound (Phase.Doomed journal) (N.state nor.old).memory }
+    ensures ok { OnOk result (IsNext (Phase.Doomed journal) (N.state nor.old).memory Phase.Idle (N.state nor.new).memory) }
+    ensures none { OnOk result (open_entries (N.state nor.new).memory ≡ 0) }
+    ensures blocks { OnOk result (SameBlocks (N.state nor.old).memory (N.state nor.new).memory) }
+    ensures cut { IsErrOf result NorError.Cut → Stands (N.state nor.old).memory (N.state nor.new).memory }
+    ensures kept { OnOk result (Kept (N.state nor.old) (N.state nor.new)) }
+    ensures fails { IfErr result (λ e. Fails e (N.state nor.old) (N.state nor.new)) }
+{
+    nor.erase_small(journal.place())?;
+    close_vote(nor, journal.first_votes())?;
+    close_vote(nor, journal.second_votes())?;
+    Ok(())
+}

@@ -1,0 +1,115 @@
+ghost use Rattle.std.specs.Prelude.{◌↔◌, ◌⊎◌, true, false, IsTrue, IfOk, ◌≡◌, ◌+◌, ◌<◌, ◌≤◌, ℕ, length, OnOk, IfErr};
+ghost use Rattle.std.specs.Result.{IsErrOf};
+ghost use Rattle.nor_driver.specs.State.{IsReady, Kept, Fails};
+ghost use Rattle.erase_journal.specs.Journals.{IsSound, IsSettled, IsHealthy};
+ghost use Rattle.erase_journal.specs.Blocks.{SameBlocks};
+ghost use Rattle.erase_journal.specs.Steps.{IsFirst, Stands};
+
+use crate::entry_log::{find_open, finish_entry};
+use crate::erase::renew;
+use crate::phase::Phase;
+use crate::read::read_survey;
+use crate::survey::decide;
+use crate::votes::{close_vote, open_vote};
+use nor_driver::{Nor, NorError};
+use nor_layout::JournalId;
+
+/// Goes on with an erase for which only the next journal votes.
+fn resume_asked<N: Nor>(nor: &mut N, journal: JournalId) -> Result<(), NorError>
+    requires size { 16384 ≤ length (N.state nor.old).memory }
+    requires asked { IsSound (Phase.Asked journal) (N.state nor.old).memory }
+    ensures settled { OnOk result (IsSettled (N.state nor.new).memory) }
+    ensures blocks { OnOk result (SameBlocks (N.state nor.old).memory (N.state nor.new).memory) }
+    ensures cut { IsErrOf result NorError.Cut → Stands (N.state nor.old).memory (N.state nor.new).memory }
+    ensures kept { OnOk result (Kept (N.state nor.old) (N.state nor.new)) }
+    ensures fails { IfErr result (λ e. Fails e (N.state nor.old) (N.state nor.new)) }
+{
+    open_vote(nor, journal.second_votes())?;
+    renew(nor, journal)?;
+    Ok(())
+}
+
+/// Erases a journal for which both others vote again, and closes the votes.
+fn resume_doomed<N: Nor>(nor: &mut N, journal: JournalId) -> Result<(), NorError>
+    requires size { 16384 ≤ length (N.state nor.old).memory }
+    requires doomed { IsSound (Phase.Doomed journal) (N.state nor.old).memory }
+    ensures settled { OnOk result (IsSettled (N.state nor.new).memory) }
+    ensures blocks { OnOk result (SameBlocks (N.state nor.old).memory (N.state nor.new).memory) }
+    ensures cut { IsErrOf result NorError.Cut → Stands (N.state nor.old).memory (N.state nor.new).memory }
+    ensures kept { OnOk result (Kept (N.state nor.old) (N.state nor.new)) }
+    ensures fails { IfErr result (λ e. Fails e (N.state nor.old) (N.state nor.new)) }
+{
+    renew(nor, journal)?;
+    Ok(())
+}
+
+/// Closes the last vote of an erase that is done.
+fn resume_closing<N: Nor>(nor: &mut N, journal: JournalId) -> Result<(), NorError>
+    requires size { 16384 ≤ length (N.state nor.old).memory }
+    requires closing { IsSound (Phase.Closing journal) (N.state nor.old).memory }
+    ensures settled { OnOk result (IsSettled (N.state nor.new).memory) }
+    ensures blocks { OnOk result (SameBlocks (N.state nor.old).memory (N.state nor.new).memory) }
+    ensures cut { IsErrOf result NorError.Cut → Stands (N.state nor.old).memory (N.state nor.new).memory }
+    ensures kept { OnOk result (Kept (N.state nor.old) (N.state nor.new)) }
+    ensures fails { IfErr result (λ e. Fails e (N.state nor.old) (N.state nor.new)) }
+{
+    close_vote(nor, journal.second_votes())?;
+    Ok(())
+}
+
+/// Erases the block of the open entry again, if there is one, and closes the entry.
+fn resume_idle<N: Nor>(nor: &mut N) -> Result<(), NorError>
+    requires size { 16384 ≤ length (N.state nor.old).memory }
+    requires idle { IsSound Phase.Idle (N.state nor.old).memory }
+    ensures settled { OnOk result (IsSettled (N.state nor.new).memory) }
+    ensures blocks { OnOk result (SameBlocks (N.state nor.old).memory (N.state nor.new).memory) }
+    ensures cut { IsErrOf result NorError.Cut → Stands (N.state nor.old).memory (N.state nor.new).memory }
+    ensures kept { OnOk result (Kept (N.state nor.old) (N.state nor.new)) }
+    ensures fails { IfErr result (λ e. Fails e (N.state nor.old) (N.state nor.new)) }
+{
+    let found = find_open(nor)?;
+    match found {
+        Some(open) => finish_entry(nor, open.entry, open.block),
+        None => Ok(()),
+    }
+}
+
+/// Goes on with what a loss of power interrupted in this phase.
+fn resume<N: Nor>(nor: &mut N, phase: Phase) -> Result<(), NorError>
+    requires size { 16384 ≤ length (N.state nor.old).memory }
+    requires sound { IsSound phase (N.state nor.old).memory }
+    ensures settled { OnOk result (IsSettled (N.state nor.new).memory) }
+    ensures blocks { OnOk result (SameBlocks (N.state nor.old).memory (N.state nor.new).memory) }
+    ensures cut { IsErrOf result NorError.Cut → Stands (N.state nor.old).memory (N.state nor.new).memory }
+    ensures kept { OnOk result (Kept (N.state nor.old) (N.state nor.new)) }
+    ensures fails { IfErr result (λ e. Fails e (N.state nor.old) (N.state nor.new)) }
+{
+    match phase {
+        Phase::Idle => resume_idle(nor),
+        Phase::Asked(journal) => resume_asked(nor, journal),
+        Phase::Doomed(journal) => resume_doomed(nor, journal),
+        Phase::Closing(journal) => resume_closing(nor, journal),
+    }
+}
+
+/// Reads the journals and settles them. False where they are corrupt, and then nothing has changed.
+pub fn settle<N: Nor>(nor: &mut N) -> Result<bool, NorError>
+    requires size { 16384 ≤ length (N.state nor.old).memory }
+    ensures healthy { IfOk result (λ sound. IsTrue sound ↔ IsHealthy (N.state nor.old).memory) }
+    ensures settled { IfOk result (λ sound. IsTrue sound → IsSettled (N.state nor.new).memory) }
+    ensures blocks { IfOk result (λ sound. IsTrue sound → SameBlocks (N.state nor.old).memory (N.state nor.new).memory) }
+    ensures corrupt { IfOk result (λ sound. sound ≡ false → (N.state nor.new).memory ≡ (N.state nor.old).memory) }
+    ensures cut { IsErrOf result NorError.Cut → ((N.state nor.new).memory ≡ (N.state nor.old).memory)
+        ⊎ Stands (N.state nor.old).memory (N.state nor.new).memory }
+    ensures ready { OnOk result (IsReady (N.state nor.old)) }
+    ensures kept { OnOk result (Kept (N.state nor.old) (N.state nor.new)) }
+    ensures fails { IfErr result (λ e. Fails e (N.state nor.old) (N.state nor.new)) }
+    ensures first { IfErr result (λ e. IsFirst e (N.state nor.old) (N.state nor.new)) }
+{
+    let survey = read_survey(nor)?;
+    let Some(phase) = decide(survey) else {
+        return Ok(false);
+    };
+    resume(nor, phase)?;
+    Ok(true)
+}

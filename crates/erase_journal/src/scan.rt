@@ -1,0 +1,149 @@
+ghost use Rattle.std.specs.Prelude.{◌≡◌, ◌+◌, ◌<◌, ◌≤◌, ◌==◌, ◌||◌, not, true, false, ℕ, List, length, slice_index, MatchOption};
+ghost use Rattle.erase_journal.specs.Scans.{count_equal, count_wrong, free_in, is_free_in, open_in, is_open_in, block_in};
+
+/// How many votes of a region are unused, open, and no vote at all.
+#[derive(Clone, Copy, Debug, PartialEq, Eq, Drop)]
+pub struct VoteCounts {
+    pub unused: u16,
+    pub opened: u16,
+    pub wrong: u16,
+}
+
+/// An open entry, from 0 to 511, and the block that it names.
+#[derive(Clone, Copy, Debug, PartialEq, Eq, Drop)]
+pub struct OpenEntry {
+    pub entry: u32,
+    pub block: u16,
+}
+
+/// Counts the votes of a region.
+#[tactic(auto, using(crate::proofs::Scans::scan_steps))]
+pub fn count_votes(bytes: &[u8]) -> VoteCounts
+    requires { length bytes.now ≤ 1024 }
+    ensures unused { result.unused ≡ count_equal bytes.now 255 (length bytes.now) }
+    ensures opened { result.opened ≡ count_equal bytes.now 254 (length bytes.now) }
+    ensures wrong { result.wrong ≡ count_wrong bytes.now (length bytes.now) }
+{
+    let mut unused = 0;
+    let mut opened = 0;
+    let mut wrong = 0;
+    for byte in bytes {
+        match *byte {
+            0xff => unused += 1,
+            0xfe => opened += 1,
+            0xfc => {}
+            _ => wrong += 1,
+        }
+    }
+    VoteCounts {
+        unused,
+        opened,
+        wrong,
+    }
+}
+
+/// The lowest place of a byte.
+#[tactic(auto, using(crate::proofs::Scans::scan_steps))]
+pub fn lowest(bytes: &[u8], value: u8) -> Option<u32>
+    requires { length bytes.now ≤ 1024 }
+    ensures found { MatchOption result (count_equal bytes.now value (length bytes.now) ≡ 0)
+        (λ at. (at < length bytes.now) × (slice_index bytes.now at ≡ value)) }
+    ensures first { MatchOption result (Unit {0}) (λ at. count_equal bytes.now value at ≡ 0) }
+{
+    let mut at = 0;
+    for byte in bytes {
+        if *byte == value {
+            return Some(at);
+        }
+        at += 1;
+    }
+    None
+}
+
+/// The lowest free entry of a buffer.
+#[tactic(auto, using(crate::proofs::Scans::scan_steps))]
+pub fn lowest_free(bytes: &[u8]) -> Option<u32>
+    requires { length bytes.now ≡ 2048 }
+    ensures found { MatchOption result (free_in bytes.now 512 ≡ 0) (λ i. (i < 512) × (is_free_in bytes.now i ≡ true)) }
+    ensures first { MatchOption result (Unit {0}) (λ i. free_in bytes.now i ≡ 0) }
+{
+    for i in 0..512u32 {
+        let at = 4 * i as usize;
+        if bytes[at] == 0xff
+            && bytes[at + 1] == 0xff
+            && bytes[at + 2] == 0xff
+            && bytes[at + 3] == 0xff
+        {
+            return Some(i);
+        }
+    }
+    None
+}
+
+/// How many entries of a buffer are free.
+#[tactic(auto, using(crate::proofs::Scans::scan_steps))]
+pub fn count_free(bytes: &[u8]) -> u16
+    requires { length bytes.now ≡ 2048 }
+    ensures { result ≡ free_in bytes.now 512 }
+{
+    let mut free = 0;
+    for i in 0..512u32 {
+        let at = 4 * i as usize;
+        if bytes[at] == 0xff
+            && bytes[at + 1] == 0xff
+            && bytes[at + 2] == 0xff
+            && bytes[at + 3] == 0xff
+        {
+            free += 1;
+        }
+    }
+    free
+}
+
+/// The block of an entry of a buffer that is open, on a chip of so many blocks.
+#[tactic(auto, using(crate::proofs::Scans::scan_steps))]
+fn open_block(bytes: &[u8], blocks: u32, i: u32) -> Option<u16>
+    requires size { length bytes.now ≡ 2048 }
+    requires within { i < 512 }
+    ensures none { MatchOption result (is_open_in bytes.now blocks i ≡ false) (λ block. is_open_in bytes.now blocks i ≡ true) }
+    ensures block { MatchOption result (Unit {0}) (λ block. block ≡ block_in bytes.now i) }
+{
+    let at = 4 * i as usize;
+    let block = bytes[at + 1] as u16 + 256 * bytes[at + 2] as u16;
+    if bytes[at] == 0xfc && bytes[at + 3] == 0xff && block >= 4 && (block as u32) < blocks {
+        Some(block)
+    } else {
+        None
+    }
+}
+
+/// The lowest open entry of a buffer, on a chip of so many blocks.
+#[tactic(auto, using(crate::proofs::Scans::scan_steps))]
+pub fn lowest_open(bytes: &[u8], blocks: u32) -> Option<OpenEntry>
+    requires { length bytes.now ≡ 2048 }
+    ensures found { MatchOption result (open_in bytes.now blocks 512 ≡ 0)
+        (λ o. (o.entry < 512) × (is_open_in bytes.now blocks o.entry ≡ true) × (block_in bytes.now o.entry ≡ o.block)) }
+    ensures first { MatchOption result (Unit {0}) (λ o. open_in bytes.now blocks o.entry ≡ 0) }
+{
+    for entry in 0..512u32 {
+        if let Some(block) = open_block(bytes, blocks, entry) {
+            return Some(OpenEntry { entry, block });
+        }
+    }
+    None
+}
+
+/// How many entries of a buffer are open, on a chip of so many blocks.
+#[tactic(auto, using(crate::proofs::Scans::scan_steps))]
+pub fn count_open(bytes: &[u8], blocks: u32) -> u16
+    requires { length bytes.now ≡ 2048 }
+    ensures { result ≡ open_in bytes.now blocks 512 }
+{
+    let mut opened = 0;
+    for entry in 0..512u32 {
+        if open_block(bytes, blocks, entry).is_some() {
+            opened += 1;
+        }
+    }
+    opened
+}

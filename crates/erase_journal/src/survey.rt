@@ -1,0 +1,179 @@
+ghost use Rattle.std.specs.Prelude.{◌≡◌, ◌↔◌, ◌≤◌, IsTrue, MatchOption};
+ghost use Rattle.nor_layout.specs.Journals.{next};
+ghost use Rattle.erase_journal.specs.declared.phase.Phase.{Phase};
+ghost use Rattle.erase_journal.specs.Journals.{Holds, IsQuiet, IsInPhase, IsSoundSurvey, unused_of, settled, first, second};
+
+use crate::phase::Phase;
+use crate::scan::VoteCounts;
+use crate::unused::{Unused, lasts, once_renewed, once_second_spent};
+use nor_layout::JournalId;
+
+/// What is read of the journals: the votes of each for the erase of each other, and the free and open entries of J0.
+#[derive(Clone, Copy, Debug, PartialEq, Eq, Drop)]
+pub struct Survey {
+    pub j0_for_1: VoteCounts,
+    pub j0_for_2: VoteCounts,
+    pub j1_for_0: VoteCounts,
+    pub j1_for_2: VoteCounts,
+    pub j2_for_0: VoteCounts,
+    pub j2_for_1: VoteCounts,
+    pub free: u16,
+    pub opened: u16,
+}
+
+impl Survey {
+    /// The unused votes, and the free entries.
+    pub fn unused(&self) -> Unused
+        ensures { result ≡ unused_of self.now }
+    {
+        Unused {
+            j0_for_1: self.j0_for_1.unused,
+            j0_for_2: self.j0_for_2.unused,
+            j1_for_0: self.j1_for_0.unused,
+            j1_for_2: self.j1_for_2.unused,
+            j2_for_0: self.j2_for_0.unused,
+            j2_for_1: self.j2_for_1.unused,
+            free: self.free,
+        }
+    }
+
+    /// The votes of the next journal for the erase of this one.
+    fn first(&self, journal: JournalId) -> VoteCounts
+        ensures { result ≡ first self.now journal }
+    {
+        match journal {
+            JournalId::J0 => self.j1_for_0,
+            JournalId::J1 => self.j2_for_1,
+            JournalId::J2 => self.j0_for_2,
+        }
+    }
+
+    /// The votes of the journal after the next for the erase of this one.
+    fn second(&self, journal: JournalId) -> VoteCounts
+        ensures { result ≡ second self.now journal }
+    {
+        match journal {
+            JournalId::J0 => self.j2_for_0,
+            JournalId::J1 => self.j0_for_1,
+            JournalId::J2 => self.j1_for_2,
+        }
+    }
+}
+
+/// Whether a region has so many open votes, and none that is wrong.
+fn holds(votes: VoteCounts, opened: u16) -> bool
+    ensures { IsTrue result ↔ Holds votes opened }
+{
+    votes.opened == opened && votes.wrong == 0
+}
+
+/// Whether no vote for the erase of a journal is open.
+fn is_quiet(survey: Survey, journal: JournalId) -> bool
+    ensures { IsTrue result ↔ IsQuiet survey journal }
+{
+    holds(survey.first(journal), 0) && holds(survey.second(journal), 0)
+}
+
+fn is_idle(survey: Survey) -> bool
+    ensures { IsTrue result ↔ IsInPhase Phase.Idle survey }
+{
+    is_quiet(survey, JournalId::J0)
+        && is_quiet(survey, JournalId::J1)
+        && is_quiet(survey, JournalId::J2)
+        && survey.opened <= 1
+}
+
+/// Whether no vote for the erase of the other two journals is open, and no entry.
+fn are_others_quiet(survey: Survey, journal: JournalId) -> bool
+    ensures { IsTrue result ↔ IsQuiet survey (next journal) × IsQuiet survey (next (next journal)) × (survey.opened ≡ 0) }
+{
+    survey.opened == 0
+        && match journal {
+            JournalId::J0 => is_quiet(survey, JournalId::J1) && is_quiet(survey, JournalId::J2),
+            JournalId::J1 => is_quiet(survey, JournalId::J2) && is_quiet(survey, JournalId::J0),
+            JournalId::J2 => is_quiet(survey, JournalId::J0) && is_quiet(survey, JournalId::J1),
+        }
+}
+
+fn is_asked(survey: Survey, journal: JournalId) -> bool
+    ensures { IsTrue result ↔ IsInPhase (Phase.Asked journal) survey }
+{
+    holds(survey.first(journal), 1)
+        && holds(survey.second(journal), 0)
+        && are_others_quiet(survey, journal)
+}
+
+fn is_doomed(survey: Survey, journal: JournalId) -> bool
+    ensures { IsTrue result ↔ IsInPhase (Phase.Doomed journal) survey }
+{
+    let both = holds(survey.first(journal), 1) && holds(survey.second(journal), 1);
+    match journal {
+        JournalId::J0 => both && holds(survey.j2_for_1, 0) && holds(survey.j1_for_2, 0),
+        JournalId::J1 => both
+            && holds(survey.j0_for_2, 0)
+            && holds(survey.j2_for_0, 0)
+            && survey.opened == 0,
+        JournalId::J2 => both
+            && holds(survey.j1_for_0, 0)
+            && holds(survey.j0_for_1, 0)
+            && survey.opened == 0,
+    }
+}
+
+fn is_closing(survey: Survey, journal: JournalId) -> bool
+    ensures { IsTrue result ↔ IsInPhase (Phase.Closing journal) survey }
+{
+    holds(survey.first(journal), 0)
+        && holds(survey.second(journal), 1)
+        && are_others_quiet(survey, journal)
+}
+
+/// Whether the journals are sound in this phase.
+fn fits(survey: Survey, phase: Phase) -> bool
+    ensures { IsTrue result ↔ IsSoundSurvey phase survey }
+{
+    let unused = survey.unused();
+    match phase {
+        Phase::Idle => is_idle(survey) && lasts(unused),
+        Phase::Asked(journal) => is_asked(survey, journal)
+            && lasts(once_renewed(once_second_spent(unused, journal), journal)),
+        Phase::Doomed(journal) => is_doomed(survey, journal)
+            && lasts(once_renewed(unused, journal)),
+        Phase::Closing(journal) => is_closing(survey, journal) && lasts(unused),
+    }
+}
+
+/// The phase of a journal's erase in which the journals are sound.
+fn fitting(survey: Survey, journal: JournalId) -> Option<Phase>
+    ensures { MatchOption result
+        ((IsSoundSurvey (Phase.Asked journal) survey → ⊥)
+        × (IsSoundSurvey (Phase.Doomed journal) survey → ⊥)
+        × (IsSoundSurvey (Phase.Closing journal) survey → ⊥))
+        (λ phase. IsSoundSurvey phase survey) }
+{
+    if fits(survey, Phase::Asked(journal)) {
+        Some(Phase::Asked(journal))
+    } else if fits(survey, Phase::Doomed(journal)) {
+        Some(Phase::Doomed(journal))
+    } else if fits(survey, Phase::Closing(journal)) {
+        Some(Phase::Closing(journal))
+    } else {
+        None
+    }
+}
+
+/// The phase in which the journals are sound; `None` where they are corrupt.
+pub fn decide(survey: Survey) -> Option<Phase>
+    ensures { MatchOption result ((phase : Phase) → IsSoundSurvey phase survey → ⊥) (λ phase. IsSoundSurvey phase survey) }
+{
+    if fits(survey, Phase::Idle) {
+        return Some(Phase::Idle);
+    }
+    if let Some(phase) = fitting(survey, JournalId::J0) {
+        return Some(phase);
+    }
+    if let Some(phase) = fitting(survey, JournalId::J1) {
+        return Some(phase);
+    }
+    fitting(survey, JournalId::J2)
+}

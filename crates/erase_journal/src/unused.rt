@@ -1,0 +1,121 @@
+ghost use Rattle.std.specs.Prelude.{◌≡◌, ◌↔◌, IsTrue};
+ghost use Rattle.erase_journal.specs.Votes.{Last, IsRested, IsTiredAnswer, HasSome, Needs0, Needs1, renewed, second_spent};
+
+use nor_layout::JournalId;
+
+/// The unused votes of each journal for the erase of each other, and J0's free entries.
+#[derive(Clone, Copy, Debug, PartialEq, Eq, Drop)]
+pub struct Unused {
+    pub j0_for_1: u16,
+    pub j0_for_2: u16,
+    pub j1_for_0: u16,
+    pub j1_for_2: u16,
+    pub j2_for_0: u16,
+    pub j2_for_1: u16,
+    pub free: u16,
+}
+
+fn has_some(u: Unused) -> bool
+    ensures { IsTrue result ↔ HasSome u }
+{
+    u.j0_for_1 >= 1
+        && u.j0_for_2 >= 1
+        && u.j1_for_0 >= 1
+        && u.j1_for_2 >= 1
+        && u.j2_for_0 >= 1
+        && u.j2_for_1 >= 1
+}
+
+fn is_rested0(u: Unused) -> bool
+    ensures { IsTrue result ↔ IsRested JournalId.J0 u }
+{
+    u.j0_for_1 >= 4 && u.j0_for_2 >= 4 && u.free >= 1
+}
+
+fn is_rested1(u: Unused) -> bool
+    ensures { IsTrue result ↔ IsRested JournalId.J1 u }
+{
+    u.j1_for_2 >= 4 && u.j1_for_0 >= 4
+}
+
+fn needs0(u: Unused) -> bool
+    ensures { IsTrue result ↔ Needs0 u }
+{
+    u.j1_for_0 == 1 || u.j2_for_0 == 1 || (u.j2_for_1 == 1 && u.j1_for_0 == 4)
+}
+
+fn needs1(u: Unused) -> bool
+    ensures { IsTrue result ↔ Needs1 u }
+{
+    u.j2_for_1 == 1 || (u.j2_for_0 == 1 && u.j0_for_1 == 4)
+}
+
+/// Whether no run of maintenance uses up a region.
+pub fn lasts(u: Unused) -> bool
+    ensures yes { IsTrue result → Last u }
+    ensures no { Last u → IsTrue result }
+{
+    let some = has_some(u);
+    let j0 = is_rested0(u) || !needs0(u);
+    let j1 = is_rested1(u) || !needs1(u);
+    some && j0 && j1
+}
+
+/// The lowest-numbered tired journal.
+pub fn lowest_tired(u: Unused) -> Option<JournalId>
+    ensures { IsTiredAnswer u result }
+{
+    if u.j0_for_1 < 4 || u.j0_for_2 < 4 || u.free == 0 {
+        Some(JournalId::J0)
+    } else if u.j1_for_2 < 4 || u.j1_for_0 < 4 {
+        Some(JournalId::J1)
+    } else if u.j2_for_0 < 4 || u.j2_for_1 < 4 {
+        Some(JournalId::J2)
+    } else {
+        None
+    }
+}
+
+/// The numbers once a journal is blank.
+pub fn once_renewed(u: Unused, journal: JournalId) -> Unused
+    ensures { result ≡ renewed journal u }
+{
+    match journal {
+        JournalId::J0 => Unused {
+            j0_for_1: 1024,
+            j0_for_2: 1024,
+            free: 512,
+            ..u
+        },
+        JournalId::J1 => Unused {
+            j1_for_0: 1024,
+            j1_for_2: 1024,
+            ..u
+        },
+        JournalId::J2 => Unused {
+            j2_for_0: 1024,
+            j2_for_1: 1024,
+            ..u
+        },
+    }
+}
+
+/// The numbers once the journal after the next spent a vote for the erase of this one.
+pub fn once_second_spent(u: Unused, journal: JournalId) -> Unused
+    ensures { result ≡ second_spent journal u }
+{
+    match journal {
+        JournalId::J0 => Unused {
+            j2_for_0: u.j2_for_0.saturating_sub(1),
+            ..u
+        },
+        JournalId::J1 => Unused {
+            j0_for_1: u.j0_for_1.saturating_sub(1),
+            ..u
+        },
+        JournalId::J2 => Unused {
+            j1_for_2: u.j1_for_2.saturating_sub(1),
+            ..u
+        },
+    }
+}

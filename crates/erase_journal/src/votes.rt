@@ -1,0 +1,52 @@
+ghost use Rattle.std.specs.Prelude.{◌≡◌, ◌+◌, ◌<◌, ◌≤◌, ◌^◌, ℕ, length, OnOk, IfOk, IfErr};
+ghost use Rattle.std.specs.Result.{IsErrOf};
+ghost use Rattle.nor_driver.specs.State.{Kept, Fails};
+ghost use Rattle.erase_journal.specs.Journals.{votes_at};
+ghost use Rattle.erase_journal.specs.Scans.{IsFound};
+ghost use Rattle.erase_journal.specs.Steps.{OneChanged, PerhapsChanged};
+
+use crate::scan::lowest;
+use nor_driver::{Nor, NorError};
+
+/// The lowest place of a byte in a region.
+fn find_vote<N: Nor>(nor: &mut N, region: u32, value: u8) -> Result<Option<u32>, NorError>
+    requires { region + 1024 ≤ length (N.state nor.old).memory }
+    ensures found { IfOk result (λ found. IsFound (N.state nor.old).memory region value found) }
+    ensures same { (N.state nor.new).memory ≡ (N.state nor.old).memory }
+    ensures kept { OnOk result (Kept (N.state nor.old) (N.state nor.new)) }
+    ensures fails { IfErr result (λ e. Fails e (N.state nor.old) (N.state nor.new)) }
+{
+    let mut votes = [0; 1024];
+    nor.read(region, &mut votes)?;
+    Ok(lowest(&votes, value))
+}
+
+/// Opens the lowest unused vote of a region.
+pub fn open_vote<N: Nor>(nor: &mut N, region: u32) -> Result<(), NorError>
+    requires range { region + 1024 ≤ length (N.state nor.old).memory }
+    requires fits { region < 2 ^ 24 }
+    requires some { 0 < (votes_at (N.state nor.old).memory region).unused }
+    ensures ok { OnOk result (OneChanged region 255 254 (N.state nor.old).memory (N.state nor.new).memory) }
+    ensures cut { IsErrOf result NorError.Cut → PerhapsChanged region 255 254 (N.state nor.old).memory (N.state nor.new).memory }
+    ensures kept { OnOk result (Kept (N.state nor.old) (N.state nor.new)) }
+    ensures fails { IfErr result (λ e. Fails e (N.state nor.old) (N.state nor.new)) }
+{
+    let found = find_vote(nor, region, 0xff)?;
+    let Some(place) = found else { unreachable!() };
+    nor.program(region + place, &[0xfe])
+}
+
+/// Closes the open vote of a region.
+pub fn close_vote<N: Nor>(nor: &mut N, region: u32) -> Result<(), NorError>
+    requires range { region + 1024 ≤ length (N.state nor.old).memory }
+    requires fits { region < 2 ^ 24 }
+    requires some { 0 < (votes_at (N.state nor.old).memory region).opened }
+    ensures ok { OnOk result (OneChanged region 254 252 (N.state nor.old).memory (N.state nor.new).memory) }
+    ensures cut { IsErrOf result NorError.Cut → PerhapsChanged region 254 252 (N.state nor.old).memory (N.state nor.new).memory }
+    ensures kept { OnOk result (Kept (N.state nor.old) (N.state nor.new)) }
+    ensures fails { IfErr result (λ e. Fails e (N.state nor.old) (N.state nor.new)) }
+{
+    let found = find_vote(nor, region, 0xfe)?;
+    let Some(place) = found else { unreachable!() };
+    nor.program(region + place, &[0xfc])
+}
