@@ -50,7 +50,7 @@ module _ (m : List ℕ) (i low high : ℕ) (long : 16384 ≤ length m) (small : 
         spoiled = taken-spoiled;
         state = b0;
         last = and-outside m (6144 + 4 * i) (254 ∷ low ∷ high ∷ []) (6144 + 4 * i + 3) (not-within-above (6144 + 4 * i) 3 (6144 + 4 * i + 3) (omega arith)) ∙ f.3;
-        names = rw (b1, b2, and-255 low l, and-255 high h) refl;
+        names = rw (b1, b2, and-255 low l, and-255 high h) (omega arith);
       }
 
   torn-wider : (torn : List ℕ) → TornAnd m (6144 + 4 * i) (254 ∷ low ∷ high ∷ []) torn → Spoiled (6144 + 4 * i) 4 m torn

@@ -10,3 +10,4 @@ pub mod VoteCalls
 pub mod Renewal
 pub mod EntryCalls
 pub mod Data
+pub mod Faulty

@@ -2,13 +2,14 @@
 use Rattle.std.proofs.Common.{◌≡◌, ◌≢◌, ◌⊎◌, ℕ, zero, suc, ◌+◌, ◌<◌, ◌≤◌, Bool, true, false, not, ◌||◌, List, length, take, drop, get_or, get_or-take, get_or-drop, length-take, length-drop, Option, Some, None, ◌-◌, ◌*◌, ◌/◌, ◌&&◌, nat_le, nat_lt, refl, sym, ap, ◌∙◌, arith, add-one, if◌then◌else◌}
 use Rattle.std.specs.Prelude.{◌==◌, MatchOption, slice_range}
 use Rattle.chip_model.specs.Memory.{byte}
-use Rattle.erase_journal.specs.Journals.{votes_at, free_entries, open_entries, is_free_entry, is_open_entry, entry, entry_block}
+use Rattle.nor_layout.specs.Entries.{block_in, is_open}
+use Rattle.erase_journal.specs.Journals.{votes_at, free_entries, open_entries, is_free_entry, is_open_entry, entry, entry_bytes, entry_block}
 use Rattle.erase_journal.specs.declared.scan.VoteCounts.{VoteCounts}
 use Rattle.erase_journal.specs.declared.scan.OpenEntry.{OpenEntry}
 use Rattle.std.proofs.lemmas.Bool.Decides.{nat_tests}
 use Rattle.erase_journal.specs.Places.{how_many}
-use Rattle.erase_journal.specs.Scans.{count_equal, count_wrong, count_at, IsFound, free_in, is_free_in, IsFreeAnswer, block_in, open_in, is_open_in, IsOpenAnswer}
-use Rattle.erase_journal.proofs.Counts.{how_many-zero, how_many-suc, how_many-same}
+use Rattle.erase_journal.specs.Scans.{count_equal, count_wrong, count_at, IsFound, free_in, is_free_in, IsFreeAnswer, entry_in, open_in, is_open_in, IsOpenAnswer}
+use Rattle.erase_journal.proofs.Counts.{how_many-zero, how_many-suc, how_many-same, how_many-none}
 
 pub count_equal-zero : (xs : List ℕ) (value : ℕ) → count_equal xs value 0 ≡ 0
 unfolding count_equal
@@ -53,11 +54,25 @@ unfolding count_equal count_at
 region-count m region value = how_many-same (λ k. byte (slice_range m region (region + 1024)) k == value) (λ k. byte m (region + k) == value) 1024
     (λ k low. rw (region-byte m region k low) refl)
 
+-- none of the first n is this one
+none-equal : (xs : List ℕ) (value n : ℕ) → count_equal xs value n ≡ 0 → (k : ℕ) → k < n → byte xs k ≢ value
+unfolding count_equal
+none-equal xs value n none k low is = let f = how_many-none (λ k. byte xs k == value) n none k low in grind (arith, nat_tests)
+
+none-free : (xs : List ℕ) (n : ℕ) → free_in xs n ≡ 0 → (k : ℕ) → k < n → is_free_in xs k ≡ false
+unfolding free_in
+none-free xs n none k low = how_many-none (is_free_in xs) n none k low
+
 -- What the lowest place in the buffer says of the memory.
 pub found-in : (m bytes : List ℕ) (region value : ℕ) (found : Option ℕ) → bytes ≡ slice_range m region (region + 1024) → length bytes ≡ 1024
-    → MatchOption found (count_equal bytes value (length bytes) ≡ 0) (λ at. (at < length bytes) × (get_or bytes at 0 ≡ value)) → IsFound m region value found
-found-in m bytes region value None same size h = sym (region-count m region value) ∙ (rw (size, same) at h)
-found-in m bytes region value (Some at) same size h = let low : at < 1024 = omega (arith, h.0) in (low, sym (region-byte m region at low) ∙ (rw same at h.1))
+    → MatchOption found (count_equal bytes value (length bytes) ≡ 0) (λ at. (at < length bytes) × (get_or bytes at 0 ≡ value))
+    → MatchOption found (Unit {0}) (λ at. count_equal bytes value at ≡ 0) → IsFound m region value found
+found-in m bytes region value None same size h first = sym (region-count m region value) ∙ (rw (size, same) at h)
+found-in m bytes region value (Some at) same size h first = let low : at < 1024 = omega (arith, h.0) in (
+  low,
+  sym (region-byte m region at low) ∙ (rw same at h.1),
+  λ k below is. none-equal bytes value at first k below (rw same (region-byte m region k (omega arith) ∙ is)),
+)
 
 pub unused-count : (m : List ℕ) (region : ℕ) → (votes_at m region).unused ≡ count_at m region 255
 unfolding votes_at count_at
@@ -84,31 +99,36 @@ unfolding free_in free_entries
 buffer-count m = how_many-same (is_free_in (slice_range m 6144 8192)) (is_free_entry m) 512 (λ i low. buffer-free m i low)
 
 pub free-found : (m bytes : List ℕ) (found : Option ℕ) → bytes ≡ slice_range m 6144 8192
-    → MatchOption found (free_in bytes 512 ≡ 0) (λ i. (i < 512) × (is_free_in bytes i ≡ true)) → IsFreeAnswer m found
-free-found m bytes None same h = sym (buffer-count m) ∙ (rw same at h)
-free-found m bytes (Some i) same h = (h.0, sym (buffer-free m i h.0) ∙ (rw same at h.1))
+    → MatchOption found (free_in bytes 512 ≡ 0) (λ i. (i < 512) × (is_free_in bytes i ≡ true))
+    → MatchOption found (Unit {0}) (λ i. free_in bytes i ≡ 0) → IsFreeAnswer m found
+free-found m bytes None same h first = sym (buffer-count m) ∙ (rw same at h)
+free-found m bytes (Some i) same h first = (
+  h.0,
+  sym (buffer-free m i h.0) ∙ (rw same at h.1),
+  λ k below. sym (buffer-free m k (omega (arith, h.0))) ∙ (rw same at (none-free bytes i first k below)),
+)
 
 -- an open entry of the buffer, of a memory of so many blocks
-buffer-block : (m : List ℕ) (i : ℕ) → i < 512 → block_in (slice_range m 6144 8192) i ≡ entry_block m i
-buffer-block m i low =
-    let e1 : 6144 + 4 * i + 1 ≡ 6144 + (4 * i + 1) = omega arith in
-    let e2 : 6144 + 4 * i + 2 ≡ 6144 + (4 * i + 2) = omega arith in
-    rw (buffer-byte m (4 * i + 1) (omega arith), buffer-byte m (4 * i + 2) (omega arith), e1, e2) refl
-
-buffer-open : (m : List ℕ) (i : ℕ) → i < 512 → is_open_in (slice_range m 6144 8192) (length m / 4096) i ≡ is_open_entry m i
-buffer-open m i low =
+buffer-entry : (m : List ℕ) (i : ℕ) → i < 512 → entry_in (slice_range m 6144 8192) i ≡ entry_bytes m i
+buffer-entry m i low =
     let e0 : 6144 + 4 * i + 0 ≡ 6144 + 4 * i = omega arith in
     let e1 : 6144 + 4 * i + 1 ≡ 6144 + (4 * i + 1) = omega arith in
     let e2 : 6144 + 4 * i + 2 ≡ 6144 + (4 * i + 2) = omega arith in
     let e3 : 6144 + 4 * i + 3 ≡ 6144 + (4 * i + 3) = omega arith in
     rw (buffer-byte m (4 * i) (omega arith), buffer-byte m (4 * i + 1) (omega arith), buffer-byte m (4 * i + 2) (omega arith), buffer-byte m (4 * i + 3) (omega arith), e0, e1, e2, e3) refl
 
+buffer-block : (m : List ℕ) (i : ℕ) → i < 512 → block_in (entry_in (slice_range m 6144 8192) i) ≡ entry_block m i
+buffer-block m i low = ap (λ b. block_in b) (buffer-entry m i low)
+
+buffer-open : (m : List ℕ) (i : ℕ) → i < 512 → is_open_in (slice_range m 6144 8192) (length m / 4096) i ≡ is_open_entry m i
+buffer-open m i low = ap (λ b. is_open (length m / 4096) b) (buffer-entry m i low)
+
 open-count : (m : List ℕ) → open_in (slice_range m 6144 8192) (length m / 4096) 512 ≡ open_entries m
 unfolding open_in open_entries
 open-count m = how_many-same (is_open_in (slice_range m 6144 8192) (length m / 4096)) (is_open_entry m) 512 (λ i low. buffer-open m i low)
 
 pub open-found : (m bytes : List ℕ) (blocks : ℕ) (found : Option OpenEntry) → bytes ≡ slice_range m 6144 8192 → blocks ≡ length m / 4096
-    → MatchOption found (open_in bytes blocks 512 ≡ 0) (λ o. (o.entry < 512) × (is_open_in bytes blocks o.entry ≡ true) × (block_in bytes o.entry ≡ o.block))
+    → MatchOption found (open_in bytes blocks 512 ≡ 0) (λ o. (o.entry < 512) × (is_open_in bytes blocks o.entry ≡ true) × (block_in (entry_in bytes o.entry) ≡ o.block))
     → IsOpenAnswer m found
 open-found m bytes blocks None same count h = sym (open-count m) ∙ (rw (same, count) at h)
 open-found m bytes blocks (Some o) same count h =

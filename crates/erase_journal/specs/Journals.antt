@@ -1,41 +1,48 @@
 -- The three journals in a memory: their votes and entries, the phases of an erase of a journal, and what a healthy memory is.
 -- Source: own.
-use Rattle.std.specs.Prelude.{◌≡◌, ℕ, ◌+◌, ◌*◌, ◌/◌, ◌≤◌, Bool, not, List, length, ◌==◌, ◌&&◌, ◌||◌, nat_lt, nat_le}
+use Rattle.std.specs.Prelude.{◌≡◌, ℕ, ◌+◌, ◌≤◌, Bool, not, List, [], ◌∷◌, length, ◌==◌, ◌&&◌, ◌||◌}
 use Rattle.chip_model.specs.Memory.{byte}
+use Rattle.chip_model.specs.Geometry.{block_count}
 use Rattle.nor_layout.specs.declared.journal.JournalId.{JournalId}
 use Rattle.nor_layout.specs.declared.journal.JournalId.TheVariants.{J0, J1, J2}
 use Rattle.nor_layout.specs.Journals.{next, first_at, second_at}
+use Rattle.nor_layout.specs.declared.vote.Vote.TheVariants.{Unused, Open, Closed}
+use Rattle.nor_layout.specs.Votes.{byte_of}
+use Rattle.nor_layout.specs.Entries.{entry_at, block_in, is_open}
 use Rattle.erase_journal.specs.declared.phase.Phase.{Phase}
 use Rattle.erase_journal.specs.declared.phase.Phase.TheVariants.{Idle, Asked, Doomed, Closing}
 use Rattle.erase_journal.specs.declared.scan.VoteCounts.{VoteCounts}
 use Rattle.erase_journal.specs.declared.survey.Survey.{Survey}
-use Rattle.erase_journal.specs.declared.unused.Unused.{Unused}
+use Rattle.erase_journal.specs.declared.unused.Unused as numbers
 use Rattle.erase_journal.specs.Places.{how_many}
 use Rattle.erase_journal.specs.Votes.{Last, renewed, second_spent}
 
--- The 1,024 votes of a region: FFh is unused, FEh open, FCh closed, all else is wrong.
+-- The 1,024 votes of a region: how many are unused, open, and no vote.
 unfoldable pub votes_at : List ℕ → ℕ → VoteCounts
 votes_at m at = record {
-  unused = how_many (λ k. byte m (at + k) == 255) 1024;
-  opened = how_many (λ k. byte m (at + k) == 254) 1024;
-  wrong = how_many (λ k. not (byte m (at + k) == 255 || byte m (at + k) == 254 || byte m (at + k) == 252)) 1024;
+  unused = how_many (λ k. byte m (at + k) == byte_of Unused) 1024;
+  opened = how_many (λ k. byte m (at + k) == byte_of Open) 1024;
+  wrong = how_many (λ k. not (byte m (at + k) == byte_of Unused || byte m (at + k) == byte_of Open || byte m (at + k) == byte_of Closed)) 1024;
 }
 
--- J0 has 512 entries of 4 bytes in its bytes 2,048 to 4,095; byte j of entry i
+-- byte j of entry i of J0, and its four bytes
 abbrev pub entry : List ℕ → ℕ → ℕ → ℕ
-entry m i j = byte m (6144 + 4 * i + j)
+entry m i j = byte m (entry_at i + j)
 
--- the block that it names, low byte first
+abbrev pub entry_bytes : List ℕ → ℕ → List ℕ
+entry_bytes m i = entry m i 0 ∷ entry m i 1 ∷ entry m i 2 ∷ entry m i 3 ∷ []
+
+-- the block that it names
 abbrev pub entry_block : List ℕ → ℕ → ℕ
-entry_block m i = entry m i 1 + 256 * entry m i 2
+entry_block m i = block_in (entry_bytes m i)
 
 -- free: four FFh
 abbrev pub is_free_entry : List ℕ → ℕ → Bool
 is_free_entry m i = entry m i 0 == 255 && entry m i 1 == 255 && entry m i 2 == 255 && entry m i 3 == 255
 
--- open: state FCh, a data block of this chip, and FFh
+-- open, for a data block of this chip
 abbrev pub is_open_entry : List ℕ → ℕ → Bool
-is_open_entry m i = entry m i 0 == 252 && entry m i 3 == 255 && nat_le 4 (entry_block m i) && nat_lt (entry_block m i) (length m / 4096)
+is_open_entry m i = is_open (block_count (length m)) (entry_bytes m i)
 
 unfoldable pub free_entries : List ℕ → ℕ
 free_entries m = how_many (is_free_entry m) 512
@@ -72,7 +79,7 @@ second s J1 = s.j0_for_1
 second s J2 = s.j1_for_2
 
 -- the unused votes, and the free entries
-abbrev pub unused_of : Survey → Unused
+abbrev pub unused_of : Survey → numbers.Unused
 unused_of s = record {
   j0_for_1 = s.j0_for_1.unused;
   j0_for_2 = s.j0_for_2.unused;
@@ -83,7 +90,7 @@ unused_of s = record {
   free = s.free;
 }
 
-abbrev pub unused : List ℕ → Unused
+abbrev pub unused : List ℕ → numbers.Unused
 unused m = unused_of (survey_of m)
 
 -- so many open votes in a region, and none that is wrong
@@ -105,7 +112,7 @@ IsInPhase (Doomed J2) s = Holds (first s J2) 1 × Holds (second s J2) 1 × Holds
 IsInPhase (Closing x) s = Holds (first s x) 0 × Holds (second s x) 1 × IsQuiet s (next x) × IsQuiet s (next (next x)) × (s.opened ≡ 0)
 
 -- The numbers as they stand once the erase that goes on is done: a journal that is asked for has one vote still to be spent.
-abbrev pub settled : Phase → Unused → Unused
+abbrev pub settled : Phase → numbers.Unused → numbers.Unused
 settled Idle u = u
 settled (Asked x) u = renewed x (second_spent x u)
 settled (Doomed x) u = renewed x u

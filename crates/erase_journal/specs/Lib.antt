@@ -4,5 +4,7 @@ pub mod Journals
 pub mod Blocks
 pub mod BlockLaws
 pub mod Steps
+pub mod Faults
 pub mod Scans
 pub mod Recovery
+pub mod Laws

@@ -1,6 +1,7 @@
 -- What a scan of a buffer counts and finds.
-use Rattle.std.specs.Prelude.{◌≡◌, ℕ, ◌+◌, ◌*◌, ◌<◌, ◌≤◌, Bool, true, false, not, List, length, Option, MatchOption, ◌==◌, ◌||◌, ◌&&◌, nat_le, nat_lt}
+use Rattle.std.specs.Prelude.{◌≡◌, ◌≢◌, ℕ, ◌+◌, ◌*◌, ◌<◌, ◌≤◌, Bool, true, false, not, List, [], ◌∷◌, length, Option, MatchOption, ◌==◌, ◌||◌, ◌&&◌}
 use Rattle.chip_model.specs.Memory.{byte}
+use Rattle.nor_layout.specs.Entries.{is_open}
 use Rattle.erase_journal.specs.declared.scan.VoteCounts.{VoteCounts}
 use Rattle.erase_journal.specs.declared.scan.OpenEntry.{OpenEntry}
 use Rattle.erase_journal.specs.Places.{how_many}
@@ -19,7 +20,7 @@ count_at m region value = how_many (λ k. byte m (region + k) == value) 1024
 
 -- the lowest place in the region with this byte, or none has it
 abbrev pub IsFound : List ℕ → ℕ → ℕ → Option ℕ → Type 0
-IsFound m region value found = MatchOption found (count_at m region value ≡ 0) (λ at. (at < 1024) × (byte m (region + at) ≡ value))
+IsFound m region value found = MatchOption found (count_at m region value ≡ 0) (λ at. (at < 1024) × (byte m (region + at) ≡ value) × ((k : ℕ) → k < at → byte m (region + k) ≢ value))
 
 -- whether entry i of a buffer is free, and how many of the first n are
 abbrev pub is_free_in : List ℕ → ℕ → Bool
@@ -28,20 +29,20 @@ is_free_in bytes i = byte bytes (4 * i) == 255 && byte bytes (4 * i + 1) == 255 
 unfoldable pub free_in : List ℕ → ℕ → ℕ
 free_in bytes n = how_many (is_free_in bytes) n
 
--- the block that entry i of a buffer names
-abbrev pub block_in : List ℕ → ℕ → ℕ
-block_in bytes i = byte bytes (4 * i + 1) + 256 * byte bytes (4 * i + 2)
+-- the four bytes of entry i of a buffer
+abbrev pub entry_in : List ℕ → ℕ → List ℕ
+entry_in bytes i = byte bytes (4 * i) ∷ byte bytes (4 * i + 1) ∷ byte bytes (4 * i + 2) ∷ byte bytes (4 * i + 3) ∷ []
 
 -- whether it is open, on a chip of so many blocks, and how many of the first n are
 abbrev pub is_open_in : List ℕ → ℕ → ℕ → Bool
-is_open_in bytes blocks i = byte bytes (4 * i) == 252 && byte bytes (4 * i + 3) == 255 && nat_le 4 (block_in bytes i) && nat_lt (block_in bytes i) blocks
+is_open_in bytes blocks i = is_open blocks (entry_in bytes i)
 
 unfoldable pub open_in : List ℕ → ℕ → ℕ → ℕ
 open_in bytes blocks n = how_many (is_open_in bytes blocks) n
 
--- a free entry, or there is none
+-- the lowest free entry, or there is none
 abbrev pub IsFreeAnswer : List ℕ → Option ℕ → Type 0
-IsFreeAnswer m found = MatchOption found (free_entries m ≡ 0) (λ i. (i < 512) × (is_free_entry m i ≡ true))
+IsFreeAnswer m found = MatchOption found (free_entries m ≡ 0) (λ i. (i < 512) × (is_free_entry m i ≡ true) × ((k : ℕ) → k < i → is_free_entry m k ≡ false))
 
 -- an open entry and its block, or there is none
 abbrev pub IsOpenAnswer : List ℕ → Option OpenEntry → Type 0

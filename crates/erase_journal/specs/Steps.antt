@@ -1,5 +1,6 @@
 -- What the functions of the journal leave. Source: own.
 use Rattle.std.specs.Prelude.{◌≡◌, ◌≢◌, ◌⊎◌, ℕ, ◌+◌, ◌*◌, ◌<◌, ◌≤◌, Bool, true, false, List}
+use Rattle.chip_model.specs.Memory.{byte}
 use Rattle.nor_layout.specs.declared.journal.JournalId.{JournalId}
 use Rattle.nor_layout.specs.declared.journal.JournalId.TheVariants.{J0, J1, J2}
 use Rattle.nor_driver.specs.State.{NorState, IsReady}
@@ -28,10 +29,11 @@ abbrev pub IsFirst : NorError → NorState → NorState → Type 0
 IsFirst Cut old new = (old.is_slow ≡ false) × (old.powered ≡ false → new ≡ old)
 IsFirst Slow old new = (old.is_slow ≡ false → old.powered ≡ true) × (old.is_slow ≡ true → new ≡ old)
 
--- one byte of the region of 1,024 bytes has changed
+-- the lowest byte with the old value has changed in a region of 1,024 bytes
 pub record OneChanged (place old new : ℕ) (m m' : List ℕ) : Type 0 where
   pub at : ℕ
   pub within : at < 1024
+  pub lowest : (k : ℕ) → k < at → byte m (place + k) ≢ old
   pub change : Changed (place + at) old new m m'
 
 -- nothing has, or one byte

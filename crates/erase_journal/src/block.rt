@@ -4,9 +4,11 @@ ghost use Rattle.chip_model.specs.Geometry.{block_count};
 ghost use Rattle.chip_model.specs.Memory.{and_at, TornAnd};
 ghost use Rattle.nor_driver.specs.State.{IsReady, Kept, Fails, Leaves};
 ghost use Rattle.erase_journal.specs.Journals.{IsSettled, IsHealthy};
-ghost use Rattle.erase_journal.specs.Blocks.{block as block_of, OnlyBlock};
-ghost use Rattle.erase_journal.specs.Steps.{IsFirst};
+ghost use Rattle.erase_journal.specs.Blocks.{block as block_of, OnlyBlock, WithErased};
+ghost use Rattle.erase_journal.specs.Steps.{IsFirst, Interrupted};
 
+use crate::entry_log::erase_rested;
+use crate::maintain::maintain;
 use nor_driver::{Nor, NorError};
 
 /// Reads bytes of a data block from its place `at` on.
@@ -47,4 +49,24 @@ pub fn program_block<N: Nor>(nor: &mut N, block: u16, at: u32, bytes: &[u8]) -> 
     ensures first { IfErr result (λ e. IsFirst e (N.state nor.old) (N.state nor.new)) }
 {
     nor.program(4_096 * block as u32 + at, bytes)
+}
+
+/// Erases a data block in one step: where it is cut, the block is as before or erased.
+pub fn erase_block<N: Nor>(nor: &mut N, block: u16) -> Result<(), NorError>
+    requires settled { IsReady (N.state nor.old) → IsSettled (N.state nor.old).memory }
+    requires data { 4 ≤ block }
+    requires number { block < block_count (length (N.state nor.old).memory) }
+    ensures erased { OnOk result (WithErased block (N.state nor.old).memory (N.state nor.new).memory) }
+    ensures settled { OnOk result (IsSettled (N.state nor.new).memory) }
+    ensures cut { IsErrOf result NorError.Cut → IsHealthy (N.state nor.old).memory
+        → Interrupted block (N.state nor.old).memory (N.state nor.new).memory }
+    ensures ready { OnOk result (IsReady (N.state nor.old)) }
+    ensures size { length (N.state nor.new).memory ≡ length (N.state nor.old).memory }
+    ensures kept { OnOk result (Kept (N.state nor.old) (N.state nor.new)) }
+    ensures fails { IfErr result (λ e. Fails e (N.state nor.old) (N.state nor.new)) }
+    ensures first { IfErr result (λ e. IsFirst e (N.state nor.old) (N.state nor.new)) }
+{
+    maintain(nor)?;
+    erase_rested(nor, block)?;
+    Ok(())
 }

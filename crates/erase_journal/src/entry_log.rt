@@ -1,4 +1,4 @@
-ghost use Rattle.std.specs.Prelude.{◌≡◌, ◌+◌, ◌*◌, ◌/◌, ◌<◌, ◌≤◌, ◌^◌, ℕ, true, length, OnOk, IfOk, IfErr};
+ghost use Rattle.std.specs.Prelude.{◌≡◌, ◌+◌, ◌*◌, ◌/◌, ◌<◌, ◌≤◌, ◌^◌, ℕ, true, false, length, OnOk, IfOk, IfErr};
 ghost use Rattle.std.specs.Result.{IsErrOf};
 ghost use Rattle.nor_driver.specs.State.{Kept, Fails};
 ghost use Rattle.erase_journal.specs.Journals.{IsSettled, is_free_entry};
@@ -8,6 +8,7 @@ ghost use Rattle.erase_journal.specs.Steps.{IsRestful, IsTaken, IsOpened, Stands
 
 use crate::scan::{OpenEntry, lowest_free, lowest_open};
 use nor_driver::{Nor, NorError};
+use nor_layout::{CLOSED_ENTRY, OPEN_ENTRY};
 
 /// The lowest free entry.
 fn find_free<N: Nor>(nor: &mut N) -> Result<Option<u32>, NorError>
@@ -30,7 +31,7 @@ pub fn find_open<N: Nor>(nor: &mut N) -> Result<Option<OpenEntry>, NorError>
     ensures kept { OnOk result (Kept (N.state nor.old) (N.state nor.new)) }
     ensures fails { IfErr result (λ e. Fails e (N.state nor.old) (N.state nor.new)) }
 {
-    let blocks = nor.bytes() / 4_096;
+    let blocks = (nor.bytes() / 4_096) as u16;
     let mut entries = [0; 2048];
     nor.read(0x1800, &mut entries)?;
     Ok(lowest_open(&entries, blocks))
@@ -44,6 +45,7 @@ fn take_entry<N: Nor>(nor: &mut N, entry: u32, block: u16) -> Result<(), NorErro
     requires free { is_free_entry (N.state nor.old).memory entry ≡ true }
     ensures ok { OnOk result (IsTaken entry block (N.state nor.old).memory (N.state nor.new).memory) }
     ensures cut { IsErrOf result NorError.Cut → Stands (N.state nor.old).memory (N.state nor.new).memory }
+    ensures size { length (N.state nor.new).memory ≡ length (N.state nor.old).memory }
     ensures kept { OnOk result (Kept (N.state nor.old) (N.state nor.new)) }
     ensures fails { IfErr result (λ e. Fails e (N.state nor.old) (N.state nor.new)) }
 {
@@ -53,22 +55,24 @@ fn take_entry<N: Nor>(nor: &mut N, entry: u32, block: u16) -> Result<(), NorErro
     )
 }
 
-/// Opens an entry for a dead block, which erases it for every reader.
+/// Opens the lowest free entry for a dead block, which erases it for every reader.
 fn open_entry<N: Nor>(nor: &mut N, block: u16) -> Result<u32, NorError>
     requires size { 16384 ≤ length (N.state nor.old).memory }
     requires restful { IsRestful (N.state nor.old).memory }
     requires data { 4 ≤ block }
     requires range { block < length (N.state nor.old).memory / 4096 }
     ensures opened { IfOk result (λ entry. IsOpened entry block (N.state nor.new).memory) }
+    ensures lowest { IfOk result (λ entry. (k : ℕ) → k < entry → is_free_entry (N.state nor.old).memory k ≡ false) }
     ensures erased { OnOk result (WithErased block (N.state nor.old).memory (N.state nor.new).memory) }
     ensures cut { IsErrOf result NorError.Cut → Interrupted block (N.state nor.old).memory (N.state nor.new).memory }
+    ensures size { length (N.state nor.new).memory ≡ length (N.state nor.old).memory }
     ensures kept { OnOk result (Kept (N.state nor.old) (N.state nor.new)) }
     ensures fails { IfErr result (λ e. Fails e (N.state nor.old) (N.state nor.new)) }
 {
     let found = find_free(nor)?;
     let Some(entry) = found else { unreachable!() };
     take_entry(nor, entry, block)?;
-    nor.program(0x1800 + 4 * entry, &[0xfc])?;
+    nor.program(0x1800 + 4 * entry, &[OPEN_ENTRY])?;
     Ok(entry)
 }
 
@@ -81,11 +85,12 @@ pub fn finish_entry<N: Nor>(nor: &mut N, entry: u32, block: u16) -> Result<(), N
     ensures settled { OnOk result (IsSettled (N.state nor.new).memory) }
     ensures blocks { OnOk result (SameBlocks (N.state nor.old).memory (N.state nor.new).memory) }
     ensures cut { IsErrOf result NorError.Cut → Stands (N.state nor.old).memory (N.state nor.new).memory }
+    ensures size { length (N.state nor.new).memory ≡ length (N.state nor.old).memory }
     ensures kept { OnOk result (Kept (N.state nor.old) (N.state nor.new)) }
     ensures fails { IfErr result (λ e. Fails e (N.state nor.old) (N.state nor.new)) }
 {
     nor.erase_small(4096 * block as u32)?;
-    nor.program(0x1800 + 4 * entry, &[0xf8])?;
+    nor.program(0x1800 + 4 * entry, &[CLOSED_ENTRY])?;
     Ok(())
 }
 
@@ -98,6 +103,7 @@ pub fn erase_rested<N: Nor>(nor: &mut N, block: u16) -> Result<(), NorError>
     ensures settled { OnOk result (IsSettled (N.state nor.new).memory) }
     ensures erased { OnOk result (WithErased block (N.state nor.old).memory (N.state nor.new).memory) }
     ensures cut { IsErrOf result NorError.Cut → Interrupted block (N.state nor.old).memory (N.state nor.new).memory }
+    ensures size { length (N.state nor.new).memory ≡ length (N.state nor.old).memory }
     ensures kept { OnOk result (Kept (N.state nor.old) (N.state nor.new)) }
     ensures fails { IfErr result (λ e. Fails e (N.state nor.old) (N.state nor.new)) }
 {

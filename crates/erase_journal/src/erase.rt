@@ -18,11 +18,14 @@ pub fn doom<N: Nor>(nor: &mut N, journal: JournalId) -> Result<(), NorError>
     ensures ok { OnOk result (IsStep (once_erased journal (unused (N.state nor.old).memory)) (Phase.Doomed journal) (N.state nor.new).memory) }
     ensures blocks { OnOk result (SameBlocks (N.state nor.old).memory (N.state nor.new).memory) }
     ensures cut { IsErrOf result NorError.Cut → Stands (N.state nor.old).memory (N.state nor.new).memory }
+    ensures size { length (N.state nor.new).memory ≡ length (N.state nor.old).memory }
     ensures kept { OnOk result (Kept (N.state nor.old) (N.state nor.new)) }
     ensures fails { IfErr result (λ e. Fails e (N.state nor.old) (N.state nor.new)) }
 {
-    open_vote(nor, journal.first_votes())?;
-    open_vote(nor, journal.second_votes())?;
+    let first = journal.first_votes();
+    let second = journal.second_votes();
+    open_vote(nor, first)?;
+    open_vote(nor, second)?;
     Ok(())
 }
 
@@ -34,11 +37,14 @@ pub fn renew<N: Nor>(nor: &mut N, journal: JournalId) -> Result<(), NorError>
     ensures none { OnOk result (open_entries (N.state nor.new).memory ≡ 0) }
     ensures blocks { OnOk result (SameBlocks (N.state nor.old).memory (N.state nor.new).memory) }
     ensures cut { IsErrOf result NorError.Cut → Stands (N.state nor.old).memory (N.state nor.new).memory }
+    ensures size { length (N.state nor.new).memory ≡ length (N.state nor.old).memory }
     ensures kept { OnOk result (Kept (N.state nor.old) (N.state nor.new)) }
     ensures fails { IfErr result (λ e. Fails e (N.state nor.old) (N.state nor.new)) }
 {
+    let first = journal.first_votes();
+    let second = journal.second_votes();
     nor.erase_small(journal.place())?;
-    close_vote(nor, journal.first_votes())?;
-    close_vote(nor, journal.second_votes())?;
+    close_vote(nor, first)?;
+    close_vote(nor, second)?;
     Ok(())
 }

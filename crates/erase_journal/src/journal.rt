@@ -6,13 +6,11 @@ ghost use Rattle.nor_driver.specs.State.{IsReady, Kept, Fails, AnswersWhatStands
 ghost use Rattle.erase_journal.specs.Journals.{IsSettled, IsHealthy};
 ghost use Rattle.erase_journal.specs.Blocks.{block as block_of, OnlyBlock, WithErased};
 ghost use Rattle.erase_journal.specs.Steps.{IsFirst, Interrupted};
-ghost use Rattle.erase_journal.specs.Recovery.{Recovers, RecoverFails};
+ghost use Rattle.erase_journal.specs.Recovery.{Recovers, RecoverFails, Restored, RestoreFails, IsBehind};
 
 use crate::RecoverError;
-use crate::block::{program_block, read_block};
-use crate::entry_log::erase_rested;
-use crate::maintain::maintain;
-use crate::recovery::settle;
+use crate::block::{erase_block, program_block, read_block};
+use crate::recovery::{restart, settle};
 use nor_driver::{Nor, NorError};
 use std::marker::Model;
 
@@ -21,6 +19,8 @@ use std::marker::Model;
 /// A contract sees it as the state of the memory behind it. Source: own.
 pub struct Journal<N: Nor> {
     nor: N,
+    /// Whether the journals were healthy when they were last read; where they weren't, a Slow stands.
+    sound: bool,
 }
 
 impl<N: Nor> Model for Journal<N> {
@@ -29,9 +29,11 @@ impl<N: Nor> Model for Journal<N> {
 
     ghost Value = { NorState };
 
-    ghost view = { λ journal. N.state journal.nor };
+    ghost use Rattle.erase_journal.specs.Recovery.{seen};
 
-    ghost invariant = { λ journal. IsReady (N.state journal.nor) → IsSettled (N.state journal.nor).memory };
+    ghost view = { λ journal. seen journal.sound (N.state journal.nor) };
+
+    ghost invariant = { λ journal. IsReady (seen journal.sound (N.state journal.nor)) → IsSettled (N.state journal.nor).memory };
 }
 
 impl<N: Nor> Journal<N> {
@@ -42,18 +44,39 @@ impl<N: Nor> Journal<N> {
     {
         let mut nor = nor;
         match settle(&mut nor) {
-            Ok(true) => Ok(Journal { nor }),
+            Ok(true) => Ok(Journal { nor, sound: true }),
             Ok(false) => Err((nor, RecoverError::Corrupt)),
             Err(NorError::Cut) => Err((nor, RecoverError::Cut)),
             Err(NorError::Slow) => Err((nor, RecoverError::Slow)),
         }
     }
 
+    /// Turns the power off and on again, and ends the erase that a loss of power interrupted.
+    ///
+    /// After Corrupt, which comes only where a Slow stood or the memory wasn't healthy before, each other call answers Slow.
+    pub fn restore(&mut self) -> Result<(), RecoverError>
+        ensures ok { OnOk result (Restored self.old self.new) }
+        ensures fails { IfErr result (λ e. RestoreFails e self.old self.new) }
+    {
+        match restart(&mut self.nor) {
+            Ok(sound) => {
+                self.sound = sound;
+                if sound {
+                    Ok(())
+                } else {
+                    Err(RecoverError::Corrupt)
+                }
+            }
+            Err(NorError::Cut) => Err(RecoverError::Cut),
+            Err(NorError::Slow) => Err(RecoverError::Slow),
+        }
+    }
+
     /// Gives the memory back.
     pub fn into_inner(self) -> N
-        ensures { N.state result ≡ self }
+        ensures { IsBehind self (N.state result) }
     {
-        let Journal { nor } = self;
+        let Journal { nor, sound: _ } = self;
         nor
     }
 
@@ -79,6 +102,9 @@ impl<N: Nor> Journal<N> {
         ensures fails { IfErr result (λ e. Fails e self.old self.new) }
         ensures first { IfErr result (λ e. IsFirst e self.old self.new) }
     {
+        if !self.sound {
+            return Err(NorError::Slow);
+        }
         read_block(&mut self.nor, block, at, into)
     }
 
@@ -101,6 +127,9 @@ impl<N: Nor> Journal<N> {
         ensures fails { IfErr result (λ e. Fails e self.old self.new) }
         ensures first { IfErr result (λ e. IsFirst e self.old self.new) }
     {
+        if !self.sound {
+            return Err(NorError::Slow);
+        }
         program_block(&mut self.nor, block, at, bytes)
     }
 
@@ -111,14 +140,16 @@ impl<N: Nor> Journal<N> {
         ensures erased { OnOk result (WithErased block self.old.memory self.new.memory) }
         ensures settled { OnOk result (IsSettled self.new.memory) }
         ensures cut { IsErrOf result NorError.Cut → IsHealthy self.old.memory → Interrupted block self.old.memory self.new.memory }
+        ensures size { length self.new.memory ≡ length self.old.memory }
         ensures ready { OnOk result (IsReady self.old) }
         ensures kept { OnOk result (Kept self.old self.new) }
         ensures fails { IfErr result (λ e. Fails e self.old self.new) }
         ensures first { IfErr result (λ e. IsFirst e self.old self.new) }
     {
-        maintain(&mut self.nor)?;
-        erase_rested(&mut self.nor, block)?;
-        Ok(())
+        if !self.sound {
+            return Err(NorError::Slow);
+        }
+        erase_block(&mut self.nor, block)
     }
 
     /// Arms a loss of power in a simulated chip, as the memory's `arm` does.

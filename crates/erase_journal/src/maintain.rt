@@ -19,6 +19,7 @@ pub fn maintain<N: Nor>(nor: &mut N) -> Result<(), NorError>
     ensures cut { IsErrOf result NorError.Cut → IsHealthy (N.state nor.old).memory
         → Stands (N.state nor.old).memory (N.state nor.new).memory }
     ensures ready { OnOk result (IsReady (N.state nor.old)) }
+    ensures size { length (N.state nor.new).memory ≡ length (N.state nor.old).memory }
     ensures kept { OnOk result (Kept (N.state nor.old) (N.state nor.new)) }
     ensures fails { IfErr result (λ e. Fails e (N.state nor.old) (N.state nor.new)) }
     ensures first { IfErr result (λ e. IsFirst e (N.state nor.old) (N.state nor.new)) }

@@ -39,7 +39,7 @@ fn read_entries<N: Nor>(nor: &mut N) -> Result<EntryCounts, NorError>
     ensures kept { OnOk result (Kept (N.state nor.old) (N.state nor.new)) }
     ensures fails { IfErr result (λ e. Fails e (N.state nor.old) (N.state nor.new)) }
 {
-    let blocks = nor.bytes() / 4_096;
+    let blocks = (nor.bytes() / 4_096) as u16;
     let mut entries = [0; 2048];
     nor.read(0x1800, &mut entries)?;
     Ok(EntryCounts {

@@ -4,6 +4,7 @@ ghost use Rattle.nor_driver.specs.State.{IsReady, Kept, Fails};
 ghost use Rattle.erase_journal.specs.Journals.{IsSound, IsSettled, IsHealthy};
 ghost use Rattle.erase_journal.specs.Blocks.{SameBlocks};
 ghost use Rattle.erase_journal.specs.Steps.{IsFirst, Stands};
+ghost use Rattle.erase_journal.specs.Recovery.{seen, Restored, RestoreCut, RestoreSlow, RestoreCorrupt};
 
 use crate::entry_log::{find_open, finish_entry};
 use crate::erase::renew;
@@ -21,6 +22,7 @@ fn resume_asked<N: Nor>(nor: &mut N, journal: JournalId) -> Result<(), NorError>
     ensures settled { OnOk result (IsSettled (N.state nor.new).memory) }
     ensures blocks { OnOk result (SameBlocks (N.state nor.old).memory (N.state nor.new).memory) }
     ensures cut { IsErrOf result NorError.Cut → Stands (N.state nor.old).memory (N.state nor.new).memory }
+    ensures size { length (N.state nor.new).memory ≡ length (N.state nor.old).memory }
     ensures kept { OnOk result (Kept (N.state nor.old) (N.state nor.new)) }
     ensures fails { IfErr result (λ e. Fails e (N.state nor.old) (N.state nor.new)) }
 {
@@ -36,6 +38,7 @@ fn resume_doomed<N: Nor>(nor: &mut N, journal: JournalId) -> Result<(), NorError
     ensures settled { OnOk result (IsSettled (N.state nor.new).memory) }
     ensures blocks { OnOk result (SameBlocks (N.state nor.old).memory (N.state nor.new).memory) }
     ensures cut { IsErrOf result NorError.Cut → Stands (N.state nor.old).memory (N.state nor.new).memory }
+    ensures size { length (N.state nor.new).memory ≡ length (N.state nor.old).memory }
     ensures kept { OnOk result (Kept (N.state nor.old) (N.state nor.new)) }
     ensures fails { IfErr result (λ e. Fails e (N.state nor.old) (N.state nor.new)) }
 {
@@ -50,6 +53,7 @@ fn resume_closing<N: Nor>(nor: &mut N, journal: JournalId) -> Result<(), NorErro
     ensures settled { OnOk result (IsSettled (N.state nor.new).memory) }
     ensures blocks { OnOk result (SameBlocks (N.state nor.old).memory (N.state nor.new).memory) }
     ensures cut { IsErrOf result NorError.Cut → Stands (N.state nor.old).memory (N.state nor.new).memory }
+    ensures size { length (N.state nor.new).memory ≡ length (N.state nor.old).memory }
     ensures kept { OnOk result (Kept (N.state nor.old) (N.state nor.new)) }
     ensures fails { IfErr result (λ e. Fails e (N.state nor.old) (N.state nor.new)) }
 {
@@ -64,6 +68,7 @@ fn resume_idle<N: Nor>(nor: &mut N) -> Result<(), NorError>
     ensures settled { OnOk result (IsSettled (N.state nor.new).memory) }
     ensures blocks { OnOk result (SameBlocks (N.state nor.old).memory (N.state nor.new).memory) }
     ensures cut { IsErrOf result NorError.Cut → Stands (N.state nor.old).memory (N.state nor.new).memory }
+    ensures size { length (N.state nor.new).memory ≡ length (N.state nor.old).memory }
     ensures kept { OnOk result (Kept (N.state nor.old) (N.state nor.new)) }
     ensures fails { IfErr result (λ e. Fails e (N.state nor.old) (N.state nor.new)) }
 {
@@ -81,6 +86,7 @@ fn resume<N: Nor>(nor: &mut N, phase: Phase) -> Result<(), NorError>
     ensures settled { OnOk result (IsSettled (N.state nor.new).memory) }
     ensures blocks { OnOk result (SameBlocks (N.state nor.old).memory (N.state nor.new).memory) }
     ensures cut { IsErrOf result NorError.Cut → Stands (N.state nor.old).memory (N.state nor.new).memory }
+    ensures size { length (N.state nor.new).memory ≡ length (N.state nor.old).memory }
     ensures kept { OnOk result (Kept (N.state nor.old) (N.state nor.new)) }
     ensures fails { IfErr result (λ e. Fails e (N.state nor.old) (N.state nor.new)) }
 {
@@ -102,6 +108,7 @@ pub fn settle<N: Nor>(nor: &mut N) -> Result<bool, NorError>
     ensures cut { IsErrOf result NorError.Cut → ((N.state nor.new).memory ≡ (N.state nor.old).memory)
         ⊎ Stands (N.state nor.old).memory (N.state nor.new).memory }
     ensures ready { OnOk result (IsReady (N.state nor.old)) }
+    ensures size { length (N.state nor.new).memory ≡ length (N.state nor.old).memory }
     ensures kept { OnOk result (Kept (N.state nor.old) (N.state nor.new)) }
     ensures fails { IfErr result (λ e. Fails e (N.state nor.old) (N.state nor.new)) }
     ensures first { IfErr result (λ e. IsFirst e (N.state nor.old) (N.state nor.new)) }
@@ -112,4 +119,16 @@ pub fn settle<N: Nor>(nor: &mut N) -> Result<bool, NorError>
     };
     resume(nor, phase)?;
     Ok(true)
+}
+
+/// Turns the power off and on again, reads the journals and settles them. False where they are corrupt.
+pub fn restart<N: Nor>(nor: &mut N) -> Result<bool, NorError>
+    requires size { 16384 ≤ length (N.state nor.old).memory }
+    ensures sound { IfOk result (λ sound. IsTrue sound → Restored (N.state nor.old) (N.state nor.new)) }
+    ensures corrupt { IfOk result (λ sound. sound ≡ false → RestoreCorrupt (N.state nor.old) (seen false (N.state nor.new))) }
+    ensures cut { IsErrOf result NorError.Cut → RestoreCut (N.state nor.old) (N.state nor.new) }
+    ensures slow { IsErrOf result NorError.Slow → RestoreSlow (N.state nor.old) (N.state nor.new) }
+{
+    nor.restart()?;
+    settle(nor)
 }

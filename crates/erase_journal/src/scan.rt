@@ -1,5 +1,8 @@
 ghost use Rattle.std.specs.Prelude.{◌≡◌, ◌+◌, ◌<◌, ◌≤◌, ◌==◌, ◌||◌, not, true, false, ℕ, List, length, slice_index, MatchOption};
-ghost use Rattle.erase_journal.specs.Scans.{count_equal, count_wrong, free_in, is_free_in, open_in, is_open_in, block_in};
+ghost use Rattle.erase_journal.specs.Scans.{count_equal, count_wrong, free_in, is_free_in, open_in, is_open_in, entry_in};
+ghost use Rattle.nor_layout.specs.Entries.{block_in};
+
+use nor_layout::{Entry, Vote, entry_state, vote_state};
 
 /// How many votes of a region are unused, open, and no vote at all.
 #[derive(Clone, Copy, Debug, PartialEq, Eq, Drop)]
@@ -28,11 +31,11 @@ pub fn count_votes(bytes: &[u8]) -> VoteCounts
     let mut opened = 0;
     let mut wrong = 0;
     for byte in bytes {
-        match *byte {
-            0xff => unused += 1,
-            0xfe => opened += 1,
-            0xfc => {}
-            _ => wrong += 1,
+        match vote_state(*byte) {
+            Some(Vote::Unused) => unused += 1,
+            Some(Vote::Open) => opened += 1,
+            Some(Vote::Closed) => {}
+            None => wrong += 1,
         }
     }
     VoteCounts {
@@ -102,27 +105,30 @@ pub fn count_free(bytes: &[u8]) -> u16
 
 /// The block of an entry of a buffer that is open, on a chip of so many blocks.
 #[tactic(auto, using(crate::proofs::Scans::scan_steps))]
-fn open_block(bytes: &[u8], blocks: u32, i: u32) -> Option<u16>
+fn open_block(bytes: &[u8], blocks: u16, i: u32) -> Option<u16>
     requires size { length bytes.now ≡ 2048 }
     requires within { i < 512 }
     ensures none { MatchOption result (is_open_in bytes.now blocks i ≡ false) (λ block. is_open_in bytes.now blocks i ≡ true) }
-    ensures block { MatchOption result (Unit {0}) (λ block. block ≡ block_in bytes.now i) }
+    ensures block { MatchOption result (Unit {0}) (λ block. block ≡ block_in (entry_in bytes.now i)) }
 {
     let at = 4 * i as usize;
-    let block = bytes[at + 1] as u16 + 256 * bytes[at + 2] as u16;
-    if bytes[at] == 0xfc && bytes[at + 3] == 0xff && block >= 4 && (block as u32) < blocks {
-        Some(block)
-    } else {
-        None
+    match entry_state(
+        [bytes[at], bytes[at + 1], bytes[at + 2], bytes[at + 3]],
+        blocks,
+    ) {
+        Entry::Open(block) => Some(block),
+        Entry::Free => None,
+        Entry::Closed => None,
+        Entry::Spent => None,
     }
 }
 
 /// The lowest open entry of a buffer, on a chip of so many blocks.
 #[tactic(auto, using(crate::proofs::Scans::scan_steps))]
-pub fn lowest_open(bytes: &[u8], blocks: u32) -> Option<OpenEntry>
+pub fn lowest_open(bytes: &[u8], blocks: u16) -> Option<OpenEntry>
     requires { length bytes.now ≡ 2048 }
     ensures found { MatchOption result (open_in bytes.now blocks 512 ≡ 0)
-        (λ o. (o.entry < 512) × (is_open_in bytes.now blocks o.entry ≡ true) × (block_in bytes.now o.entry ≡ o.block)) }
+        (λ o. (o.entry < 512) × (is_open_in bytes.now blocks o.entry ≡ true) × (block_in (entry_in bytes.now o.entry) ≡ o.block)) }
     ensures first { MatchOption result (Unit {0}) (λ o. open_in bytes.now blocks o.entry ≡ 0) }
 {
     for entry in 0..512u32 {
@@ -135,7 +141,7 @@ pub fn lowest_open(bytes: &[u8], blocks: u32) -> Option<OpenEntry>
 
 /// How many entries of a buffer are open, on a chip of so many blocks.
 #[tactic(auto, using(crate::proofs::Scans::scan_steps))]
-pub fn count_open(bytes: &[u8], blocks: u32) -> u16
+pub fn count_open(bytes: &[u8], blocks: u16) -> u16
     requires { length bytes.now ≡ 2048 }
     ensures { result ≡ open_in bytes.now blocks 512 }
 {

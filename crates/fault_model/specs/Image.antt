@@ -1,4 +1,4 @@
--- The chip of a bus whose memory is kept in a file.
+-- The chip of a bus whose memory is kept in a file. Source: own.
 use Rattle.std.specs.Prelude.{ℕ}
 use Rattle.chip_model.specs.Chip.{Chip}
 use Rattle.fault_model.specs.Sim.{chip_in}

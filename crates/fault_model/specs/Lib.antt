@@ -13,3 +13,4 @@ pub mod Sim
 pub mod TableLaws
 pub mod Lawful
 pub mod Image
+pub mod Span

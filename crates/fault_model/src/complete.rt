@@ -7,7 +7,9 @@ use crate::operation::Operation;
 
 impl Cells {
     ghost use Rattle.chip_model.specs.Chip.{completed};
+    ghost use Rattle.fault_model.specs.Fits.{operation_of};
     ghost use Rattle.fault_model.specs.Sim.{chip_in, pace_in};
+    ghost use Rattle.fault_model.specs.Span.{span_of};
 
     /// The operation in progress completes.
     pub fn complete(&mut self)
@@ -29,7 +31,8 @@ impl Cells {
 
     /// The places that the operation in progress writes when it completes: the first of them, and how many.
     pub fn span(&self) -> Option<(u32, u32)>
-        ensures { IfSome result (λ s. s.0 + s.1 ≤ length self.now.memory.items) }
+        ensures exact { result ≡ span_of (operation_of self.now.operation) }
+        ensures within { IfSome result (λ s. s.0 + s.1 ≤ length self.now.memory.items) }
     {
         match &self.operation {
             Operation::Idle => None,

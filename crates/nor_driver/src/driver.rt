@@ -17,6 +17,7 @@ use chip_model::SpiBus;
 use spi_frames::{Register, status};
 
 /// A chip behind a bus, of which nothing is protected.
+#[derive(Drop)]
 pub struct Driver<B: SpiBus> {
     bus: B,
     bytes: u32,
@@ -55,6 +56,13 @@ impl<B: SpiBus> Driver<B> {
             }),
             Err(error) => Err((bus, error)),
         }
+    }
+
+    /// Whether units of 64 KiB can be erased. It never changes.
+    pub fn has_large(&self) -> bool
+        ensures { result ≡ (⟦<Driver<B> as Nor>⟧.state self.now).has_large }
+    {
+        self.large
     }
 
     /// The bus.

@@ -26,3 +26,6 @@ returns-clause-erased g c =
     let h = rw c.in-Some.is at c.in_ok-found.ensures.found in
     let same = c.in_ok-found.ensures.same in
     (open-ok c.in-Some.entry c.args.block (g.N.Nor.state c.args.nor.now).memory (g.N.Nor.state c.take_entry.new.nor).memory (g.N.Nor.state c.program.new.self).memory c.requires.size c.requires.restful h.0 (rw same at c.in_ok-take_entry.ensures.ok) c.requires.data c.requires.range c.in_ok-program.ensures.ok).1
+
+pub returns-clause-lowest : goal.returns-clause-lowest
+returns-clause-lowest g c = (rw c.in-Some.is at c.in_ok-found.ensures.found).2

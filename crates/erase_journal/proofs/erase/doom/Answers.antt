@@ -10,37 +10,37 @@ use Rattle.erase_journal.proofs.erase.doom.Goals as goal
 pub returns-in_err-open_vote-clause-cut : goal.returns-in_err-open_vote-clause-cut
 returns-in_err-open_vote-clause-cut g c is =
     let p = err_from_is_err_and c.from_residual.result c.from_residual.ensures.1 in
-    let q = rw c.first_votes.ensures at (c.in_err-open_vote.ensures.cut (cc (p.1, p.2))) in
+    let q = rw c.first_votes-first.ensures at (c.in_err-open_vote.ensures.cut (cc (p.1, p.2))) in
     first-cut c.args.journal (g.N.Nor.state c.args.nor.now).memory (g.N.Nor.state c.open_vote.new.nor).memory c.requires.may q
 
 pub open_vote-requires-2-clause-some : goal.open_vote-requires-2-clause-some
 open_vote-requires-2-clause-some g c =
-    let q = rw c.first_votes.ensures at c.in_ok-open_vote.ensures.ok in
+    let q = rw c.first_votes-first.ensures at c.in_ok-open_vote.ensures.ok in
     let s = first-opened c.args.journal (g.N.Nor.state c.args.nor.now).memory (g.N.Nor.state c.open_vote.new.nor).memory c.requires.may q in
-    rw c.second_votes.ensures (some-second c.args.journal (g.N.Nor.state c.open_vote.new.nor).memory s.0.sound)
+    rw c.second_votes-second.ensures (some-second c.args.journal (g.N.Nor.state c.open_vote.new.nor).memory s.0.sound)
 
 pub returns-in_err-open_vote-2-clause-cut : goal.returns-in_err-open_vote-2-clause-cut
 returns-in_err-open_vote-2-clause-cut g c is =
     let p = err_from_is_err_and c.from_residual-in_err-open_vote-2.result c.from_residual-in_err-open_vote-2.ensures.1 in
-    let q = rw c.first_votes.ensures at c.in_ok-open_vote.ensures.ok in
+    let q = rw c.first_votes-first.ensures at c.in_ok-open_vote.ensures.ok in
     let s = first-opened c.args.journal (g.N.Nor.state c.args.nor.now).memory (g.N.Nor.state c.open_vote.new.nor).memory c.requires.may q in
-    let r = rw c.second_votes.ensures at (c.in_err-open_vote-2.ensures.cut (cc (p.1, p.2))) in
+    let r = rw c.second_votes-second.ensures at (c.in_err-open_vote-2.ensures.cut (cc (p.1, p.2))) in
     stands-on (g.N.Nor.state c.args.nor.now).memory (g.N.Nor.state c.open_vote.new.nor).memory (g.N.Nor.state c.open_vote-2.new.nor).memory s.1
     (second-cut c.args.journal (g.N.Nor.state c.open_vote.new.nor).memory (g.N.Nor.state c.open_vote-2.new.nor).memory s.0.sound r)
 
 pub returns-clause-ok : goal.returns-clause-ok
 returns-clause-ok g c =
-    let q = rw c.first_votes.ensures at c.in_ok-open_vote.ensures.ok in
+    let q = rw c.first_votes-first.ensures at c.in_ok-open_vote.ensures.ok in
     let s = first-opened c.args.journal (g.N.Nor.state c.args.nor.now).memory (g.N.Nor.state c.open_vote.new.nor).memory c.requires.may q in
-    let r = rw c.second_votes.ensures at c.in_ok-open_vote-2.ensures.ok in
+    let r = rw c.second_votes-second.ensures at c.in_ok-open_vote-2.ensures.ok in
     let t = second-opened c.args.journal (g.N.Nor.state c.open_vote.new.nor).memory (g.N.Nor.state c.open_vote-2.new.nor).memory s.0.sound r in
     steps-on (once_erased c.args.journal (unused (g.N.Nor.state c.args.nor.now).memory))
     (Asked c.args.journal) (Doomed c.args.journal) (g.N.Nor.state c.open_vote.new.nor).memory (g.N.Nor.state c.open_vote-2.new.nor).memory s.0 t.0
 
 pub returns-clause-blocks : goal.returns-clause-blocks
 returns-clause-blocks g c =
-    let q = rw c.first_votes.ensures at c.in_ok-open_vote.ensures.ok in
+    let q = rw c.first_votes-first.ensures at c.in_ok-open_vote.ensures.ok in
     let s = first-opened c.args.journal (g.N.Nor.state c.args.nor.now).memory (g.N.Nor.state c.open_vote.new.nor).memory c.requires.may q in
-    let r = rw c.second_votes.ensures at c.in_ok-open_vote-2.ensures.ok in
+    let r = rw c.second_votes-second.ensures at c.in_ok-open_vote-2.ensures.ok in
     let t = second-opened c.args.journal (g.N.Nor.state c.open_vote.new.nor).memory (g.N.Nor.state c.open_vote-2.new.nor).memory s.0.sound r in
     same-blocks-on (g.N.Nor.state c.args.nor.now).memory (g.N.Nor.state c.open_vote.new.nor).memory (g.N.Nor.state c.open_vote-2.new.nor).memory s.1 t.1

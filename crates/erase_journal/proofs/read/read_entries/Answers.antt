@@ -6,5 +6,5 @@ pub returns-clause-free : goal.returns-clause-free
 returns-clause-free g c = free-counted (g.N.Nor.state c.args.nor.now).memory c.read.new.into c.count_free.result c.in_ok-read.ensures.ok c.count_free.ensures
 
 pub returns-clause-opened : goal.returns-clause-opened
-returns-clause-opened g c = open-counted (g.N.Nor.state c.args.nor.now).memory c.read.new.into (c.bytes-blocks.result / 4096) c.count_open.result c.in_ok-read.ensures.ok
-    (ap (λ n. n / 4096) c.bytes-blocks.ensures) c.count_open.ensures
+returns-clause-opened g c = open-counted (g.N.Nor.state c.args.nor.now).memory c.read.new.into (c.bytes.result / 4096) c.count_open.result c.in_ok-read.ensures.ok
+    (ap (λ n. n / 4096) c.bytes.ensures) c.count_open.ensures

@@ -15,14 +15,14 @@ returns-clause-ok g c =
     let state = g.N.Nor.state in
     let h = rw c.in-Some.is at c.in_ok-found.ensures.found in
     on-ok c.program.result (set-ok (state c.args.nor.now).memory (state c.find_vote.new.nor).memory (state c.program.new.self).memory c.args.region c.in-Some.place 254 252
-    c.in_ok-found.ensures.same c.requires.range h.0 h.1) c.program.ensures.ok
+    c.in_ok-found.ensures.same c.requires.range h.0 h.1 h.2) (rw c.vote_byte.ensures.exact at c.program.ensures.ok)
 
 pub returns-clause-cut : goal.returns-clause-cut
 returns-clause-cut g c is_cut =
     let state = g.N.Nor.state in
     let h = rw c.in-Some.is at c.in_ok-found.ensures.found in
     set-cut (state c.args.nor.now).memory (state c.find_vote.new.nor).memory (state c.program.new.self).memory c.args.region c.in-Some.place 254 252
-    c.in_ok-found.ensures.same c.requires.range h.0 h.1 1 bit-close (c.program.ensures.cut is_cut)
+    c.in_ok-found.ensures.same c.requires.range h.0 h.1 h.2 1 bit-close (rw c.vote_byte.ensures.exact at (c.program.ensures.cut is_cut))
 
 pub returns-clause-fails : goal.returns-clause-fails
 returns-clause-fails g c =

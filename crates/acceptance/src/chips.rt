@@ -1,0 +1,113 @@
+// A chip of 64 KiB with some bytes set, what is called of its journal, and what is left of its memory.
+use erase_journal::{Journal, RecoverError};
+use fault_model::SimChip;
+use nor_driver::{Driver, NorError};
+use std::alloc::Global;
+use std::test::*;
+
+/// What a call ended with.
+#[derive(Clone, Copy, Debug, PartialEq, Eq)]
+pub enum End {
+    Done,
+    Cut,
+    Slow,
+    Corrupt,
+}
+
+fn of_recovery(error: RecoverError) -> End {
+    match error {
+        RecoverError::Cut => End::Cut,
+        RecoverError::Slow => End::Slow,
+        RecoverError::Corrupt => End::Corrupt,
+    }
+}
+
+fn of_erase(answer: Result<(), NorError>) -> End {
+    match answer {
+        Ok(()) => End::Done,
+        Err(NorError::Cut) => End::Cut,
+        Err(NorError::Slow) => End::Slow,
+    }
+}
+
+/// The memory of an erased chip.
+pub fn erased(alloc: Global) -> Result<Vec<u8>, Fail> {
+    let mut bytes = Vec::new(alloc);
+    bytes.resize(65_536, 0xFF)?;
+    Ok(bytes)
+}
+
+/// Sets a byte.
+pub fn set(bytes: &mut [u8], at: usize, byte: u8) -> Result<(), Fail> {
+    let Some(place) = bytes.get_mut(at) else {
+        return Err(Fail::new("a place past the chip"));
+    };
+    *place = byte;
+    Ok(())
+}
+
+/// Sets the bytes from a place up to another.
+pub fn fill(bytes: &mut [u8], from: usize, to: usize, byte: u8) -> Result<(), Fail> {
+    for at in from..to {
+        set(bytes, at, byte)?;
+    }
+    Ok(())
+}
+
+/// The byte at a place.
+fn byte_at(bytes: &[u8], at: usize) -> Result<u8, Fail> {
+    match bytes.get(at) {
+        Some(byte) => Ok(*byte),
+        None => Err(Fail::new("a place past the chip")),
+    }
+}
+
+/// The four bytes from a place on.
+pub fn four(bytes: &[u8], at: usize) -> Result<[u8; 4], Fail> {
+    let (low, high) = (at.saturating_add(1), at.saturating_add(2));
+    let last = at.saturating_add(3);
+    Ok([
+        byte_at(bytes, at)?,
+        byte_at(bytes, low)?,
+        byte_at(bytes, high)?,
+        byte_at(bytes, last)?,
+    ])
+}
+
+/// A chip with this memory whose `cut`-th change is cut, 0 for none; a cut change leaves what `mask` says.
+pub fn chip(alloc: Global, bytes: &[u8], cut: u32, mask: u8) -> Result<SimChip, Fail> {
+    let mut copy = Vec::new(alloc);
+    copy.extend_from_slice(bytes)?;
+    let mut chip = SimChip::new(copy)?;
+    chip.arm_cut(cut, 1, mask);
+    Ok(chip)
+}
+
+fn driver(chip: SimChip) -> Result<Driver<SimChip>, Fail> {
+    match Driver::probe(chip) {
+        Ok(driver) => Ok(driver),
+        Err((_, error)) => Err(Fail::from(error)),
+    }
+}
+
+/// A recovery: its end, and the memory after it.
+pub fn recover(chip: SimChip) -> Result<(End, Vec<u8>), Fail> {
+    match Journal::recover(driver(chip)?) {
+        Ok(journal) => Ok((End::Done, journal.into_inner().into_inner().into_inner())),
+        Err((driver, error)) => Ok((of_recovery(error), driver.into_inner().into_inner())),
+    }
+}
+
+/// An erase of block 4 by a chip that recovers: its end, and the memory after it.
+pub fn erase(chip: SimChip) -> Result<(End, Vec<u8>), Fail> {
+    match Journal::recover(driver(chip)?) {
+        Ok(mut journal) => {
+            let end = of_erase(journal.erase(4));
+            Ok((end, journal.into_inner().into_inner().into_inner()))
+        }
+        Err((driver, error)) => {
+            let _memory = driver.into_inner().into_inner();
+            Err(Fail::from(error))
+        }
+    }
+}

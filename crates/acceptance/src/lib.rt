@@ -1,0 +1,24 @@
+//! Tests that cross crates: what no clause of one crate says, and the worked rows of several of them at once.
+//!
+//! There is no product code here. The chip is `fault_model::SimChip`, alone or behind a bus that
+//! keeps the codes of its frames. Expected bytes and answers are those of the tables in docs/CHIP.md, docs/SFDP.md and
+//! docs/LAYOUT.md, worked out by hand.
+
+#![tactic(auto)]
+
+#[cfg(test)]
+mod changes;
+#[cfg(test)]
+mod chips;
+#[cfg(test)]
+mod discovery;
+#[cfg(test)]
+mod journal;
+#[cfg(test)]
+mod protection;
+#[cfg(test)]
+mod recorder;
+#[cfg(test)]
+mod sweep;
+#[cfg(test)]
+mod tables;

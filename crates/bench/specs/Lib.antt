@@ -1,0 +1,3 @@
+pub mod Case
+pub mod Figures
+pub mod Rounds

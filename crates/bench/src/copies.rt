@@ -1,0 +1,19 @@
+// The plain copies beside the rounds.
+ghost use Rattle.std.specs.Prelude.{◌≡◌, ◌+◌, ◌-◌, ◌<◌, length, slice_range};
+ghost use Rattle.bench.specs.Case.{bytes_of, place_of};
+
+use crate::case::Case;
+
+/// So many copies of as many bytes as a round has, from the places where the rounds go.
+#[inline(never)]
+pub fn copies(case: Case, area: &[u8], buffer: &mut [u8], count: u32)
+    requires area { length area.now ≡ 1048576 }
+    requires bytes { length buffer.old ≡ bytes_of case }
+    ensures last { 0 < count → buffer.new ≡ slice_range area.now (place_of case (count - 1)) (place_of case (count - 1) + bytes_of case) }
+    ensures none { count ≡ 0 → buffer.new ≡ buffer.old }
+{
+    for index in 0..count {
+        let place = case.place(index) as usize;
+        buffer.copy_from_slice(&area[place..place + case.bytes()]);
+    }
+}

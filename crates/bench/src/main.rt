@@ -1,0 +1,58 @@
+//! The program `bench`: how fast the parts below a request are, beside a plain copy of as many bytes in the same run.
+//!
+//! With the word `run` it measures each case and prints a row for it: frames and bytes in a second, those of the plain copy,
+//! and the ratio of the times. Without words it prints one fixed line and measures nothing.
+//!
+//! Proved are the arithmetic of the figures, how many frames a measured run sent, and what a round leaves of a chip. That a
+//! time is the time of its rounds is not proved, since no contract says what a clock tells: the figures are measured.
+//! A part is added by an arm of `Case`.
+//! Left to the crates below: the chip (`fault_model`), the contract of its bus (`chip_model`), the bytes of its frames
+//! (`spi_frames`).
+//! Source: own.
+#![tactic(auto)]
+
+mod case;
+mod copies;
+mod figures;
+mod measure;
+mod meter;
+mod rounds;
+mod row;
+
+use crate::case::Case;
+use crate::measure::{Failure, measured};
+
+/// Whether the words ask for the measurement: the one word `run`.
+fn asks_to_run(rt: &HostRuntime) -> bool {
+    match std::env::args(rt) {
+        Ok(mut words) => {
+            let _program = words.next();
+            match words.next() {
+                Some(word) => word.as_str() == "run" && words.next().is_none(),
+                None => false,
+            }
+        }
+        Err(_) => false,
+    }
+}
+
+/// Measures each case and prints its row.
+fn print_rows(rt: &HostRuntime) -> std::io::Result<()> {
+    for case in Case::all() {
+        match measured(rt, rt.alloc(), case) {
+            Ok(row) => println!(rt; "{row}")?,
+            Err(Failure::NoMemory) => eprintln!(rt; "bench: no memory")?,
+            Err(Failure::NoClock) => eprintln!(rt; "bench: no clock")?,
+            Err(Failure::PowerLost) => eprintln!(rt; "bench: the chip lost its power")?,
+        }
+    }
+    Ok(())
+}
+
+fn main(rt: HostRuntime) -> std::io::Result<()> {
+    if asks_to_run(&rt) {
+        print_rows(&rt)
+    } else {
+        println!(rt; "bench: give the word run to measure")
+    }
+}

@@ -1,0 +1,513 @@
+// Numbers and bytes worked out by hand from the layout and the rules of maintenance and recovery.
+use crate::phase::Phase;
+use crate::scan::{
+    OpenEntry, VoteCounts, count_free, count_open, count_votes, lowest, lowest_free, lowest_open,
+};
+use crate::survey::{Survey, decide};
+use crate::unused::{Unused, lasts, lowest_tired};
+use nor_layout::JournalId::{J0, J1, J2};
+
+/// A region of an erased chip.
+const BLANK: VoteCounts = VoteCounts {
+    unused: 1024,
+    opened: 0,
+    wrong: 0,
+};
+
+/// A region whose first vote is open.
+const OPENED: VoteCounts = VoteCounts {
+    unused: 1023,
+    opened: 1,
+    wrong: 0,
+};
+
+/// A region whose first vote is closed.
+const CLOSED: VoteCounts = VoteCounts {
+    unused: 1023,
+    opened: 0,
+    wrong: 0,
+};
+
+/// A region whose first byte is 55h.
+const WRONG: VoteCounts = VoteCounts {
+    unused: 1023,
+    opened: 0,
+    wrong: 1,
+};
+
+/// The journals of an erased chip.
+const ERASED: Survey = Survey {
+    j0_for_1: BLANK,
+    j0_for_2: BLANK,
+    j1_for_0: BLANK,
+    j1_for_2: BLANK,
+    j2_for_0: BLANK,
+    j2_for_1: BLANK,
+    free: 512,
+    opened: 0,
+};
+
+/// The numbers of an erased chip.
+const FULL: Unused = Unused {
+    j0_for_1: 1024,
+    j0_for_2: 1024,
+    j1_for_0: 1024,
+    j1_for_2: 1024,
+    j2_for_0: 1024,
+    j2_for_1: 1024,
+    free: 512,
+};
+
+/// A region of which so many votes are unused and the others closed.
+fn with_unused(unused: u16) -> VoteCounts {
+    VoteCounts {
+        unused,
+        opened: 0,
+        wrong: 0,
+    }
+}
+
+#[test]
+fn an_erase_of_a_journal_is_found_at_each_step(rt: HostRuntime) {
+    assert_eq!(rt; decide(ERASED), Some(Phase::Idle));
+    // Bytes 2400h, 3400h and 1400h are the first votes for J0, J1 and J2.
+    assert_eq!(rt;
+        decide(Survey {
+            j1_for_0: OPENED,
+            ..ERASED
+        }),
+        Some(Phase::Asked(J0))
+    );
+    assert_eq!(rt;
+        decide(Survey {
+            j2_for_1: OPENED,
+            ..ERASED
+        }),
+        Some(Phase::Asked(J1))
+    );
+    assert_eq!(rt;
+        decide(Survey {
+            j0_for_2: OPENED,
+            ..ERASED
+        }),
+        Some(Phase::Asked(J2))
+    );
+    assert_eq!(rt;
+        decide(Survey {
+            j1_for_0: OPENED,
+            j2_for_0: OPENED,
+            ..ERASED
+        }),
+        Some(Phase::Doomed(J0))
+    );
+    assert_eq!(rt;
+        decide(Survey {
+            j2_for_1: OPENED,
+            j0_for_1: OPENED,
+            ..ERASED
+        }),
+        Some(Phase::Doomed(J1))
+    );
+    assert_eq!(rt;
+        decide(Survey {
+            j0_for_2: OPENED,
+            j1_for_2: OPENED,
+            ..ERASED
+        }),
+        Some(Phase::Doomed(J2))
+    );
+    // 2400h is FCh and 3000h is FEh.
+    assert_eq!(rt;
+        decide(Survey {
+            j1_for_0: CLOSED,
+            j2_for_0: OPENED,
+            ..ERASED
+        }),
+        Some(Phase::Closing(J0))
+    );
+    assert_eq!(rt;
+        decide(Survey {
+            j2_for_1: CLOSED,
+            j0_for_1: OPENED,
+            ..ERASED
+        }),
+        Some(Phase::Closing(J1))
+    );
+    assert_eq!(rt;
+        decide(Survey {
+            j0_for_2: CLOSED,
+            j1_for_2: OPENED,
+            ..ERASED
+        }),
+        Some(Phase::Closing(J2))
+    );
+    assert_eq!(rt;
+        decide(Survey {
+            j1_for_0: CLOSED,
+            j2_for_0: CLOSED,
+            ..ERASED
+        }),
+        Some(Phase::Idle)
+    );
+    assert_eq!(rt;
+        decide(Survey {
+            free: 511,
+            opened: 1,
+            ..ERASED
+        }),
+        Some(Phase::Idle)
+    );
+}
+
+#[test]
+fn what_a_doomed_journal_holds_is_ignored(rt: HostRuntime) {
+    let doomed0 = Survey {
+        j1_for_0: OPENED,
+        j2_for_0: OPENED,
+        j0_for_1: WRONG,
+        j0_for_2: OPENED,
+        free: 0,
+        opened: 7,
+        ..ERASED
+    };
+    assert_eq!(rt; decide(doomed0), Some(Phase::Doomed(J0)));
+    let doomed1 = Survey {
+        j2_for_1: OPENED,
+        j0_for_1: OPENED,
+        j1_for_0: WRONG,
+        j1_for_2: WRONG,
+        ..ERASED
+    };
+    assert_eq!(rt; decide(doomed1), Some(Phase::Doomed(J1)));
+    // Its entries are J0's, which is believed.
+    assert_eq!(rt;
+        decide(Survey {
+            opened: 1,
+            ..doomed1
+        }),
+        None
+    );
+}
+
+#[test]
+fn corrupt_journals(rt: HostRuntime) {
+    let two_in_a_region = VoteCounts {
+        unused: 1022,
+        opened: 2,
+        wrong: 0,
+    };
+    for survey in [
+        // 2400h and 2401h are FEh; 2400h is 55h.
+        Survey {
+            j1_for_0: two_in_a_region,
+            ..ERASED
+        },
+        Survey {
+            j1_for_0: WRONG,
+            ..ERASED
+        },
+        // Open votes for two journals; two doomed journals.
+        Survey {
+            j1_for_0: OPENED,
+            j1_for_2: OPENED,
+            ..ERASED
+        },
+        Survey {
+            j1_for_0: OPENED,
+            j0_for_1: OPENED,
+            ..ERASED
+        },
+        Survey {
+            j1_for_0: OPENED,
+            j2_for_0: OPENED,
+            j2_for_1: OPENED,
+            j0_for_1: OPENED,
+            ..ERASED
+        },
+        // An open entry beside an open vote; two open entries.
+        Survey {
+            j1_for_0: OPENED,
+            free: 511,
+            opened: 1,
+            ..ERASED
+        },
+        Survey {
+            j2_for_0: OPENED,
+            free: 511,
+            opened: 1,
+            ..ERASED
+        },
+        Survey {
+            free: 510,
+            opened: 2,
+            ..ERASED
+        },
+    ] {
+        assert_eq!(rt; decide(survey), None);
+    }
+}
+
+#[test]
+fn one_vote_is_enough_where_its_journal_is_not_tired(rt: HostRuntime) {
+    // 2400h to 27FEh are FCh.
+    let one_left = Survey {
+        j1_for_0: with_unused(1),
+        ..ERASED
+    };
+    assert_eq!(rt; decide(one_left), Some(Phase::Idle));
+    // And J0's 512 entries are F8 04 00 FF.
+    assert_eq!(rt;
+        decide(Survey {
+            free: 0,
+            ..one_left
+        }),
+        None
+    );
+    // The vote that is asked for next is counted as spent: one of 3000h on must stay.
+    let asked = Survey {
+        j1_for_0: OPENED,
+        j2_for_0: with_unused(2),
+        ..ERASED
+    };
+    assert_eq!(rt; decide(asked), Some(Phase::Asked(J0)));
+    assert_eq!(rt;
+        decide(Survey {
+            j2_for_0: with_unused(1),
+            ..asked
+        }),
+        None
+    );
+}
+
+#[test]
+fn votes_that_last(rt: HostRuntime) {
+    for (numbers, answer) in [
+        (FULL, true),
+        (
+            Unused {
+                j0_for_1: 0,
+                ..FULL
+            },
+            false,
+        ),
+        (
+            Unused {
+                j1_for_2: 0,
+                ..FULL
+            },
+            false,
+        ),
+        (
+            Unused {
+                j2_for_1: 0,
+                ..FULL
+            },
+            false,
+        ),
+        // The last vote of J1 for J0, while J0 is tired.
+        (
+            Unused {
+                j1_for_0: 1,
+                ..FULL
+            },
+            true,
+        ),
+        (
+            Unused {
+                j1_for_0: 1,
+                j0_for_1: 3,
+                ..FULL
+            },
+            false,
+        ),
+        (
+            Unused {
+                j1_for_0: 1,
+                free: 0,
+                ..FULL
+            },
+            false,
+        ),
+        (
+            Unused {
+                j1_for_0: 2,
+                free: 0,
+                ..FULL
+            },
+            true,
+        ),
+        // The last vote of J2 for J0, while J0 is tired, or while J1 is and its erase tires J0.
+        (
+            Unused {
+                j2_for_0: 1,
+                ..FULL
+            },
+            true,
+        ),
+        (
+            Unused {
+                j2_for_0: 1,
+                j0_for_2: 3,
+                ..FULL
+            },
+            false,
+        ),
+        (
+            Unused {
+                j2_for_0: 1,
+                j0_for_1: 4,
+                ..FULL
+            },
+            true,
+        ),
+        (
+            Unused {
+                j2_for_0: 1,
+                j0_for_1: 4,
+                j1_for_2: 3,
+                ..FULL
+            },
+            false,
+        ),
+        (
+            Unused {
+                j2_for_0: 1,
+                j0_for_1: 5,
+                j1_for_2: 3,
+                ..FULL
+            },
+            true,
+        ),
+        // The last vote of J2 for J1, while J1 is tired, or while J0 is and its erase tires J1.
+        (
+            Unused {
+                j2_for_1: 1,
+                ..FULL
+            },
+            true,
+        ),
+        (
+            Unused {
+                j2_for_1: 1,
+                j1_for_0: 3,
+                ..FULL
+            },
+            false,
+        ),
+        (
+            Unused {
+                j2_for_1: 1,
+                j1_for_0: 4,
+                ..FULL
+            },
+            true,
+        ),
+        (
+            Unused {
+                j2_for_1: 1,
+                j1_for_0: 4,
+                free: 0,
+                ..FULL
+            },
+            false,
+        ),
+        (
+            Unused {
+                j2_for_1: 1,
+                j1_for_0: 5,
+                free: 0,
+                ..FULL
+            },
+            true,
+        ),
+    ] {
+        assert_eq!(rt; lasts(numbers), answer);
+    }
+}
+
+#[test]
+fn the_lowest_tired_journal(rt: HostRuntime) {
+    assert_eq!(rt; lowest_tired(FULL), None);
+    assert_eq!(rt; lowest_tired(Unused { free: 0, ..FULL }), Some(J0));
+    assert_eq!(rt; lowest_tired(Unused { free: 1, ..FULL }), None);
+    assert_eq!(rt;
+        lowest_tired(Unused {
+            j0_for_2: 3,
+            j2_for_0: 3,
+            ..FULL
+        }),
+        Some(J0)
+    );
+    assert_eq!(rt;
+        lowest_tired(Unused {
+            j0_for_2: 4,
+            ..FULL
+        }),
+        None
+    );
+    // J1's bytes 1024 to 2044 are FCh: 1,021 closed votes for J0, three are left.
+    assert_eq!(rt;
+        lowest_tired(Unused {
+            j1_for_0: 3,
+            ..FULL
+        }),
+        Some(J1)
+    );
+    assert_eq!(rt;
+        lowest_tired(Unused {
+            j1_for_0: 3,
+            j2_for_1: 1,
+            ..FULL
+        }),
+        Some(J1)
+    );
+    assert_eq!(rt;
+        lowest_tired(Unused {
+            j2_for_1: 3,
+            ..FULL
+        }),
+        Some(J2)
+    );
+}
+
+#[test]
+fn votes_of_a_region(rt: HostRuntime) {
+    let counts = VoteCounts {
+        unused: 2,
+        opened: 1,
+        wrong: 3,
+    };
+    let bytes = [0xFC, 0xFE, 0xFF, 0x55, 0xF8, 0x00, 0xFF, 0xFC];
+    assert_eq!(rt; count_votes(&bytes), counts);
+    assert_eq!(rt; lowest(&bytes, 0xFF), Some(2));
+    assert_eq!(rt; lowest(&bytes, 0xFE), Some(1));
+    assert_eq!(rt; lowest(&bytes, 0x01), None);
+}
+
+#[test]
+fn entries_of_a_journal(rt: HostRuntime) {
+    let mut bytes = [0xFF; 2048];
+    assert_eq!(rt; lowest_free(&bytes), Some(0));
+    assert_eq!(rt; count_free(&bytes), 512);
+    assert_eq!(rt; lowest_open(&bytes, 16), None);
+    // Closed, taken and not opened, and the last one open for block 15.
+    bytes[0] = 0xF8;
+    bytes[1] = 0x04;
+    bytes[2] = 0x00;
+    bytes[4] = 0xFE;
+    bytes[5] = 0x05;
+    bytes[6] = 0x00;
+    bytes[2044] = 0xFC;
+    bytes[2045] = 0x0F;
+    bytes[2046] = 0x00;
+    let last = OpenEntry {
+        entry: 511,
+        block: 15,
+    };
+    assert_eq!(rt; lowest_free(&bytes), Some(2));
+    assert_eq!(rt; count_free(&bytes), 509);
+    assert_eq!(rt; lowest_open(&bytes, 16), Some(last));
+    assert_eq!(rt; count_open(&bytes, 16), 1);
+    // On a chip of 15 blocks it names none.
+    assert_eq!(rt; lowest_open(&bytes, 15), None);
+}

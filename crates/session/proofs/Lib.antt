@@ -1,0 +1,5 @@
+pub mod PartLaws
+pub mod Lines
+pub mod Lends
+pub mod Negotiated
+pub mod Requested
