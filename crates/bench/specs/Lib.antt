@@ -1,3 +1,4 @@
 pub mod Case
 pub mod Figures
 pub mod Rounds
+pub mod Stream

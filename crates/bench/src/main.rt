@@ -3,24 +3,30 @@
 //! With the word `run` it measures each case and prints a row for it: frames and bytes in a second, those of the plain copy,
 //! and the ratio of the times. Without words it prints one fixed line and measures nothing.
 //!
-//! Proved are the arithmetic of the figures, how many frames a measured run sent, and what a round leaves of a chip. That a
+//! Proved are the arithmetic of the figures, how many frames a measured run sent, what a round leaves of a chip, and that a
+//! stream is fed to its end. That a
 //! time is the time of its rounds is not proved, since no contract says what a clock tells: the figures are measured.
 //! A part is added by an arm of `Case`.
 //! Left to the crates below: the chip (`fault_model`), the contract of its bus (`chip_model`), the bytes of its frames
-//! (`spi_frames`).
+//! (`spi_frames`), and a connection's bytes (`session`).
 //! Source: own.
 #![tactic(auto)]
 
 mod case;
 mod copies;
+mod feed;
 mod figures;
 mod measure;
 mod meter;
 mod rounds;
 mod row;
+mod stream;
+mod stream_row;
 
 use crate::case::Case;
+use crate::feed::measured_stream;
 use crate::measure::{Failure, measured};
+use crate::stream::Stream;
 
 /// Whether the words ask for the measurement: the one word `run`.
 fn asks_to_run(rt: &HostRuntime) -> bool {
@@ -41,17 +47,36 @@ fn print_rows(rt: &HostRuntime) -> std::io::Result<()> {
     for case in Case::all() {
         match measured(rt, rt.alloc(), case) {
             Ok(row) => println!(rt; "{row}")?,
-            Err(Failure::NoMemory) => eprintln!(rt; "bench: no memory")?,
-            Err(Failure::NoClock) => eprintln!(rt; "bench: no clock")?,
-            Err(Failure::PowerLost) => eprintln!(rt; "bench: the chip lost its power")?,
+            Err(failure) => print_failure(rt, failure)?,
         }
     }
     Ok(())
 }
 
+/// Measures each stream and prints its row.
+fn print_streams(rt: &HostRuntime) -> std::io::Result<()> {
+    for stream in Stream::all() {
+        match measured_stream(rt, rt.alloc(), stream) {
+            Ok(row) => println!(rt; "{row}")?,
+            Err(failure) => print_failure(rt, failure)?,
+        }
+    }
+    Ok(())
+}
+
+/// Why a case has no row.
+fn print_failure(rt: &HostRuntime, failure: Failure) -> std::io::Result<()> {
+    match failure {
+        Failure::NoMemory => eprintln!(rt; "bench: no memory"),
+        Failure::NoClock => eprintln!(rt; "bench: no clock"),
+        Failure::PowerLost => eprintln!(rt; "bench: the chip lost its power"),
+    }
+}
+
 fn main(rt: HostRuntime) -> std::io::Result<()> {
     if asks_to_run(&rt) {
-        print_rows(&rt)
+        print_rows(&rt)?;
+        print_streams(&rt)
     } else {
         println!(rt; "bench: give the word run to measure")
     }

@@ -31,7 +31,7 @@ pub enum Failure {
 }
 
 /// What the clock tells.
-fn now(clock: &impl Clock) -> Result<Instant, Failure>
+pub fn now(clock: &impl Clock) -> Result<Instant, Failure>
     ensures { OnErr result (result ≡ Err Failure.NoClock) }
 {
     match Instant::now(clock) {

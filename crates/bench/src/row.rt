@@ -19,7 +19,7 @@ pub struct Row {
 
 /// A number, or `-` where there is none.
 #[derive(Clone, Copy)]
-struct OrNone(Option<u128>);
+pub struct OrNone(pub Option<u128>);
 
 impl fmt::Display for OrNone {
     fn fmt<W: fmt::Write>(&self, f: &mut fmt::Formatter<W>) -> fmt::Result {
@@ -32,7 +32,7 @@ impl fmt::Display for OrNone {
 
 /// A number in hundredths, or `-` where there is none.
 #[derive(Clone, Copy)]
-struct InHundredths(Option<u128>);
+pub struct InHundredths(pub Option<u128>);
 
 impl fmt::Display for InHundredths {
     fn fmt<W: fmt::Write>(&self, f: &mut fmt::Formatter<W>) -> fmt::Result {
