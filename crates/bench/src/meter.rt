@@ -52,3 +52,27 @@ impl<B: SpiBus> SpiBus for Meter<B> {
         self.bus.arm(count, kind, mask);
     }
 }
+
+#[cfg(test)]
+mod tests {
+    use super::*;
+    use fault_model::SimChip;
+    use std::test::Fail;
+
+    #[test]
+    fn a_cut_that_is_armed_comes(rt: HostRuntime) -> Result<(), Fail> {
+        let mut bytes = Vec::new(rt.alloc());
+        bytes.resize(65_536, 0xFF)?;
+        let mut bus = Meter {
+            bus: SimChip::new(bytes)?,
+            frames: 0,
+        };
+        bus.arm(2, 0, 0);
+        assert_eq!(rt; bus.transact(&[0x06], &mut []), Ok(()));
+        assert_eq!(rt; bus.transact(&[0x06], &mut []), Err(PowerLost));
+        bus.power_on();
+        assert_eq!(rt; bus.transact(&[0x06], &mut []), Ok(()));
+        assert_eq!(rt; bus.frames, 3);
+        Ok(())
+    }
+}
