@@ -1,8 +1,9 @@
 -- An entry is taken, opened and closed.
-use Rattle.std.proofs.Common.{◌≡◌, ◌≢◌, ℕ, ◌+◌, ◌*◌, ◌/◌, ◌%◌, ◌<◌, ◌≤◌, true, ◌&&◌, List, [], ◌∷◌, length, get_or, ap, ◌∙◌, arith, inl, inr, add-zero, lit<, lit≤}
+use Rattle.std.proofs.Common.{◌≡◌, ◌≢◌, ℕ, ◌+◌, ◌*◌, ◌/◌, ◌%◌, ◌<◌, ◌≤◌, true, ◌&&◌, List, [], ◌∷◌, length, get_or, refl, ap, subst, ◌∙◌, arith, inl, inr, add-zero, lit<, lit≤}
 use Rattle.std.specs.Prelude.{bit_and, ◌==◌}
 use Rattle.std.proofs.lemmas.Nat.{and_mask, and_comm}
 use Rattle.std.proofs.lemmas.Bool.{cases_lt, cases_eq}
+use Rattle.std.proofs.lemmas.Grind.{same_number_lists}
 use Rattle.std.proofs.lemmas.Bool.Decides.{nat_tests}
 use Rattle.chip_model.specs.Memory.{byte, and_at, erased, TornAnd, TornErase}
 use Rattle.chip_model.specs.MemoryLaws.{placed-inside, not-within-above}
@@ -191,20 +192,38 @@ done-cut i c m m' long o bytes l =
       | inr change ↦ let t = entry-done i c m m' o bytes change in record { healthy = (Idle, t.0.sound); blocks = t.1 }
     ]
 
--- For a block's number in two bytes.
-number : (block : ℕ) → block % 256 + 256 * (block / 256) ≡ block
-number block = omega arith
+-- The bytes of an entry that is taken: begun, and the block's number.
+pub record Names (block : ℕ) (bytes : List ℕ) : Type 0 where
+  pub long : length bytes ≡ 3
+  pub begun : byte bytes 0 ≡ 254
+  pub number : byte bytes 1 + 256 * byte bytes 2 ≡ block
+  pub low : byte bytes 1 < 256
+  pub high : byte bytes 2 < 256
 
-pub take-ok : (m new : List ℕ) (i block : ℕ) → 16384 ≤ length m → i < 512 → is_free_entry m i ≡ true → block < 65536
-    → new ≡ and_at m (6144 + 4 * i) (254 ∷ (block % 256) ∷ (block / 256) ∷ []) → IsTaken i block m new
-take-ok m new i block long small free fits e =
-    let t = taken m i (block % 256) (block / 256) long small free (omega arith) (omega arith) in
-    rw e (record { spoiled = t.spoiled; state = t.state; last = t.last; names = t.names ∙ number block })
+three : (bytes : List ℕ) → length bytes ≡ 3 → bytes ≡ byte bytes 0 ∷ byte bytes 1 ∷ byte bytes 2 ∷ []
+three bytes long = same_number_lists bytes (byte bytes 0 ∷ byte bytes 1 ∷ byte bytes 2 ∷ []) long (λ k small.
+    elim (cases_eq k 0) [
+      | inl z ↦ rw z refl
+      | inr nz ↦ elim (cases_eq k 1) [
+          | inl o ↦ rw o refl
+          | inr rest ↦ let t : k ≡ 2 = omega arith in rw t refl
+        ]
+    ])
 
-pub take-stands : (m new : List ℕ) (i block : ℕ) → 16384 ≤ length m → i < 512 → is_free_entry m i ≡ true → block < 65536 → IsRestful m
-    → Leaves m (TornAnd m (6144 + 4 * i) (254 ∷ (block % 256) ∷ (block / 256) ∷ [])) (and_at m (6144 + 4 * i) (254 ∷ (block % 256) ∷ (block / 256) ∷ [])) new → Stands m new
-take-stands m new i block long small free fits r l =
-    let t = take-leaves m i (block % 256) (block / 256) long small free (omega arith) (omega arith) new l in
+spelled : (block : ℕ) (bytes : List ℕ) → Names block bytes → bytes ≡ 254 ∷ byte bytes 1 ∷ byte bytes 2 ∷ []
+spelled block bytes n = three bytes n.long ∙ ap (λ b. b ∷ byte bytes 1 ∷ byte bytes 2 ∷ []) n.begun
+
+pub take-ok : (m new : List ℕ) (i block : ℕ) (bytes : List ℕ) → 16384 ≤ length m → i < 512 → is_free_entry m i ≡ true → Names block bytes
+    → new ≡ and_at m (6144 + 4 * i) bytes → IsTaken i block m new
+take-ok m new i block bytes long small free n e =
+    let t = taken m i (byte bytes 1) (byte bytes 2) long small free n.low n.high in
+    rw (e ∙ ap (λ b. and_at m (6144 + 4 * i) b) (spelled block bytes n)) (record { spoiled = t.spoiled; state = t.state; last = t.last; names = t.names ∙ n.number })
+
+pub take-stands : (m new : List ℕ) (i block : ℕ) (bytes : List ℕ) → 16384 ≤ length m → i < 512 → is_free_entry m i ≡ true → Names block bytes → IsRestful m
+    → Leaves m (TornAnd m (6144 + 4 * i) bytes) (and_at m (6144 + 4 * i) bytes) new → Stands m new
+take-stands m new i block bytes long small free n r l =
+    let t = take-leaves m i (byte bytes 1) (byte bytes 2) long small free n.low n.high new
+        (subst (λ b. Leaves m (TornAnd m (6144 + 4 * i) b) (and_at m (6144 + 4 * i) b) new) (spelled block bytes n) l) in
     take-cut i m new r small t.0 t.1
 
 pub erased-then : (c : ℕ) (m m1 m2 : List ℕ) → WithErased c m m1 → SameBlocks m1 m2 → 4 ≤ c → c < length m / 4096 → WithErased c m m2

@@ -8,10 +8,10 @@ ghost use Rattle.erase_journal.specs.Steps.{IsRestful, IsTaken, IsOpened, Stands
 
 use crate::scan::{OpenEntry, lowest_free, lowest_open};
 use nor_driver::{Nor, NorError};
-use nor_layout::{CLOSED_ENTRY, OPEN_ENTRY};
+use nor_layout::{CLOSED_ENTRY, OPEN_ENTRY, entry_place, taken_entry};
 
 /// The lowest free entry.
-fn find_free<N: Nor>(nor: &mut N) -> Result<Option<u32>, NorError>
+fn find_free<N: Nor>(nor: &mut N) -> Result<Option<u16>, NorError>
     requires { 16384 ≤ length (N.state nor.old).memory }
     ensures found { IfOk result (λ found. IsFreeAnswer (N.state nor.old).memory found) }
     ensures same { (N.state nor.new).memory ≡ (N.state nor.old).memory }
@@ -19,7 +19,7 @@ fn find_free<N: Nor>(nor: &mut N) -> Result<Option<u32>, NorError>
     ensures fails { IfErr result (λ e. Fails e (N.state nor.old) (N.state nor.new)) }
 {
     let mut entries = [0; 2048];
-    nor.read(0x1800, &mut entries)?;
+    nor.read(entry_place(0), &mut entries)?;
     Ok(lowest_free(&entries))
 }
 
@@ -33,12 +33,12 @@ pub fn find_open<N: Nor>(nor: &mut N) -> Result<Option<OpenEntry>, NorError>
 {
     let blocks = (nor.bytes() / 4_096) as u16;
     let mut entries = [0; 2048];
-    nor.read(0x1800, &mut entries)?;
+    nor.read(entry_place(0), &mut entries)?;
     Ok(lowest_open(&entries, blocks))
 }
 
 /// Takes a free entry for a block.
-fn take_entry<N: Nor>(nor: &mut N, entry: u32, block: u16) -> Result<(), NorError>
+fn take_entry<N: Nor>(nor: &mut N, entry: u16, block: u16) -> Result<(), NorError>
     requires size { 16384 ≤ length (N.state nor.old).memory }
     requires restful { IsRestful (N.state nor.old).memory }
     requires within { entry < 512 }
@@ -49,14 +49,11 @@ fn take_entry<N: Nor>(nor: &mut N, entry: u32, block: u16) -> Result<(), NorErro
     ensures kept { OnOk result (Kept (N.state nor.old) (N.state nor.new)) }
     ensures fails { IfErr result (λ e. Fails e (N.state nor.old) (N.state nor.new)) }
 {
-    nor.program(
-        0x1800 + 4 * entry,
-        &[0xfe, (block % 256) as u8, (block / 256) as u8],
-    )
+    nor.program(entry_place(entry), &taken_entry(block))
 }
 
 /// Opens the lowest free entry for a dead block, which erases it for every reader.
-fn open_entry<N: Nor>(nor: &mut N, block: u16) -> Result<u32, NorError>
+fn open_entry<N: Nor>(nor: &mut N, block: u16) -> Result<u16, NorError>
     requires size { 16384 ≤ length (N.state nor.old).memory }
     requires restful { IsRestful (N.state nor.old).memory }
     requires data { 4 ≤ block }
@@ -72,12 +69,12 @@ fn open_entry<N: Nor>(nor: &mut N, block: u16) -> Result<u32, NorError>
     let found = find_free(nor)?;
     let Some(entry) = found else { unreachable!() };
     take_entry(nor, entry, block)?;
-    nor.program(0x1800 + 4 * entry, &[OPEN_ENTRY])?;
+    nor.program(entry_place(entry), &[OPEN_ENTRY])?;
     Ok(entry)
 }
 
 /// Erases the block of an open entry, and closes the entry.
-pub fn finish_entry<N: Nor>(nor: &mut N, entry: u32, block: u16) -> Result<(), NorError>
+pub fn finish_entry<N: Nor>(nor: &mut N, entry: u16, block: u16) -> Result<(), NorError>
     requires size { 16384 ≤ length (N.state nor.old).memory }
     requires opened { IsOpened entry block (N.state nor.old).memory }
     requires data { 4 ≤ block }
@@ -89,8 +86,8 @@ pub fn finish_entry<N: Nor>(nor: &mut N, entry: u32, block: u16) -> Result<(), N
     ensures kept { OnOk result (Kept (N.state nor.old) (N.state nor.new)) }
     ensures fails { IfErr result (λ e. Fails e (N.state nor.old) (N.state nor.new)) }
 {
-    nor.erase_small(4096 * block as u32)?;
-    nor.program(0x1800 + 4 * entry, &[CLOSED_ENTRY])?;
+    nor.erase_small(4_096 * block as u32)?;
+    nor.program(entry_place(entry), &[CLOSED_ENTRY])?;
     Ok(())
 }
 

@@ -6,7 +6,7 @@ ghost use Rattle.erase_journal.specs.Steps.{IsFirst};
 use crate::scan::{VoteCounts, count_free, count_open, count_votes};
 use crate::survey::Survey;
 use nor_driver::{Nor, NorError};
-use nor_layout::JournalId;
+use nor_layout::{JournalId, entry_place};
 
 /// J0's entries: how many are free, and how many open.
 #[derive(Clone, Copy, Drop)]
@@ -41,7 +41,7 @@ fn read_entries<N: Nor>(nor: &mut N) -> Result<EntryCounts, NorError>
 {
     let blocks = (nor.bytes() / 4_096) as u16;
     let mut entries = [0; 2048];
-    nor.read(0x1800, &mut entries)?;
+    nor.read(entry_place(0), &mut entries)?;
     Ok(EntryCounts {
         free: count_free(&entries),
         opened: count_open(&entries, blocks),

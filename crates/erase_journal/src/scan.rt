@@ -15,7 +15,7 @@ pub struct VoteCounts {
 /// An open entry, from 0 to 511, and the block that it names.
 #[derive(Clone, Copy, Debug, PartialEq, Eq, Drop)]
 pub struct OpenEntry {
-    pub entry: u32,
+    pub entry: u16,
     pub block: u16,
 }
 
@@ -65,12 +65,12 @@ pub fn lowest(bytes: &[u8], value: u8) -> Option<u32>
 
 /// The lowest free entry of a buffer.
 #[tactic(auto, using(crate::proofs::Scans::scan_steps))]
-pub fn lowest_free(bytes: &[u8]) -> Option<u32>
+pub fn lowest_free(bytes: &[u8]) -> Option<u16>
     requires { length bytes.now ≡ 2048 }
     ensures found { MatchOption result (free_in bytes.now 512 ≡ 0) (λ i. (i < 512) × (is_free_in bytes.now i ≡ true)) }
     ensures first { MatchOption result (Unit {0}) (λ i. free_in bytes.now i ≡ 0) }
 {
-    for i in 0..512u32 {
+    for i in 0..512u16 {
         let at = 4 * i as usize;
         if bytes[at] == 0xff
             && bytes[at + 1] == 0xff
@@ -90,7 +90,7 @@ pub fn count_free(bytes: &[u8]) -> u16
     ensures { result ≡ free_in bytes.now 512 }
 {
     let mut free = 0;
-    for i in 0..512u32 {
+    for i in 0..512u16 {
         let at = 4 * i as usize;
         if bytes[at] == 0xff
             && bytes[at + 1] == 0xff
@@ -105,7 +105,7 @@ pub fn count_free(bytes: &[u8]) -> u16
 
 /// The block of an entry of a buffer that is open, on a chip of so many blocks.
 #[tactic(auto, using(crate::proofs::Scans::scan_steps))]
-fn open_block(bytes: &[u8], blocks: u16, i: u32) -> Option<u16>
+fn open_block(bytes: &[u8], blocks: u16, i: u16) -> Option<u16>
     requires size { length bytes.now ≡ 2048 }
     requires within { i < 512 }
     ensures none { MatchOption result (is_open_in bytes.now blocks i ≡ false) (λ block. is_open_in bytes.now blocks i ≡ true) }
@@ -131,7 +131,7 @@ pub fn lowest_open(bytes: &[u8], blocks: u16) -> Option<OpenEntry>
         (λ o. (o.entry < 512) × (is_open_in bytes.now blocks o.entry ≡ true) × (block_in (entry_in bytes.now o.entry) ≡ o.block)) }
     ensures first { MatchOption result (Unit {0}) (λ o. open_in bytes.now blocks o.entry ≡ 0) }
 {
-    for entry in 0..512u32 {
+    for entry in 0..512u16 {
         if let Some(block) = open_block(bytes, blocks, entry) {
             return Some(OpenEntry { entry, block });
         }
@@ -146,7 +146,7 @@ pub fn count_open(bytes: &[u8], blocks: u16) -> u16
     ensures { result ≡ open_in bytes.now blocks 512 }
 {
     let mut opened = 0;
-    for entry in 0..512u32 {
+    for entry in 0..512u16 {
         if open_block(bytes, blocks, entry).is_some() {
             opened += 1;
         }
