@@ -205,9 +205,9 @@ three bytes long = same_number_lists bytes (byte bytes 0 ∷ byte bytes 1 ∷ by
     elim (cases_eq k 0) [
       | inl z ↦ rw z refl
       | inr nz ↦ elim (cases_eq k 1) [
-          | inl o ↦ rw o refl
-          | inr rest ↦ let t : k ≡ 2 = omega arith in rw t refl
-        ]
+        | inl o ↦ rw o refl
+        | inr rest ↦ let t : k ≡ 2 = omega arith in rw t refl
+      ]
     ])
 
 spelled : (block : ℕ) (bytes : List ℕ) → Names block bytes → bytes ≡ 254 ∷ byte bytes 1 ∷ byte bytes 2 ∷ []
@@ -223,7 +223,7 @@ pub take-stands : (m new : List ℕ) (i block : ℕ) (bytes : List ℕ) → 1638
     → Leaves m (TornAnd m (6144 + 4 * i) bytes) (and_at m (6144 + 4 * i) bytes) new → Stands m new
 take-stands m new i block bytes long small free n r l =
     let t = take-leaves m i (byte bytes 1) (byte bytes 2) long small free n.low n.high new
-        (subst (λ b. Leaves m (TornAnd m (6144 + 4 * i) b) (and_at m (6144 + 4 * i) b) new) (spelled block bytes n) l) in
+    (subst (λ b. Leaves m (TornAnd m (6144 + 4 * i) b) (and_at m (6144 + 4 * i) b) new) (spelled block bytes n) l) in
     take-cut i m new r small t.0 t.1
 
 pub erased-then : (c : ℕ) (m m1 m2 : List ℕ) → WithErased c m m1 → SameBlocks m1 m2 → 4 ≤ c → c < length m / 4096 → WithErased c m m2
