@@ -1,5 +1,5 @@
 -- An entry is taken, opened and closed.
-use Rattle.std.proofs.Common.{◌≡◌, ◌≢◌, ℕ, ◌+◌, ◌*◌, ◌/◌, ◌%◌, ◌<◌, ◌≤◌, true, ◌&&◌, List, [], ◌∷◌, length, get_or, refl, ap, subst, ◌∙◌, arith, inl, inr, add-zero, lit<, lit≤}
+use Rattle.std.proofs.Common.{◌≡◌, ◌≢◌, ℕ, ◌+◌, ◌*◌, ◌/◌, ◌<◌, ◌≤◌, true, ◌&&◌, List, [], ◌∷◌, length, get_or, refl, ap, subst, ◌∙◌, arith, inl, inr, add-zero, lit<, lit≤}
 use Rattle.std.specs.Prelude.{bit_and, ◌==◌}
 use Rattle.std.proofs.lemmas.Nat.{and_mask, and_comm}
 use Rattle.std.proofs.lemmas.Bool.{cases_lt, cases_eq}

@@ -11,3 +11,4 @@ pub mod Renewal
 pub mod EntryCalls
 pub mod Data
 pub mod Faulty
+pub mod Erased

@@ -27,6 +27,10 @@ listed f from (suc n) = f from ∷ listed f (suc from) n
 unfoldable pub blocks_of : List ℕ → List (List ℕ)
 blocks_of m = listed (block m) 4 (block_count (length m) - 4)
 
+-- FFh from block 1 on, as a format leaves it
+abbrev pub IsErasedBehind : List ℕ → Type 0
+IsErasedBehind m = (k : ℕ) → 4096 ≤ k → k < length m → byte m k ≡ 255
+
 -- two memories of one length with the same superblock
 pub record SameChip (m m' : List ℕ) : Type 0 where
   pub same_length : length m' ≡ length m

@@ -1,10 +1,11 @@
 -- What follows from the definitions, for the crates above and for a reader. Source: own.
-use Rattle.std.specs.Prelude.{◌≡◌, ℕ, ◌<◌, List, length}
-use Rattle.chip_model.specs.Geometry.{block_count}
+use Rattle.std.specs.Prelude.{◌≡◌, ℕ, ◌<◌, ◌≤◌, List, length}
+use Rattle.chip_model.specs.Geometry.{IsChipSize, block_count}
 use Rattle.nor_layout.specs.declared.journal.JournalId.{JournalId}
 use Rattle.erase_journal.specs.declared.unused.Unused.{Unused}
 use Rattle.erase_journal.specs.Votes.{Last, IsLowestTired, once_erased}
-use Rattle.erase_journal.specs.Blocks.{block, blocks_of, SameBlocks}
+use Rattle.erase_journal.specs.Journals.{IsSettled}
+use Rattle.erase_journal.specs.Blocks.{block, blank, blocks_of, IsErasedBehind, SameBlocks}
 
 -- a block has 4,096 bytes
 abbrev pub BlocksHaveOneSize : Type 0
@@ -17,3 +18,8 @@ SameBlocksMakeOneList = (m m' : List ℕ) → SameBlocks m m' → blocks_of m' �
 -- votes that last still do after an erase of maintenance, which so never takes the last vote of a region
 abbrev pub MaintenanceKeepsVotes : Type 0
 MaintenanceKeepsVotes = (x : JournalId) (u : Unused) → Last u → IsLowestTired x u → Last (once_erased x u)
+
+-- a chip that is erased behind its superblock is a settled journal's, and each of its data blocks is erased
+abbrev pub ErasedChipsAreSettled : Type 0
+ErasedChipsAreSettled = (m : List ℕ) → IsChipSize (length m) → IsErasedBehind m
+    → IsSettled m × ((b : ℕ) → 4 ≤ b → b < block_count (length m) → block m b ≡ blank)

@@ -1,6 +1,6 @@
 // What follows from the definitions, with no work at run time. Source: own.
 ghost use Rattle.erase_journal.specs.Faults.{SoundHasNoFault};
-ghost use Rattle.erase_journal.specs.Laws.{BlocksHaveOneSize, SameBlocksMakeOneList, MaintenanceKeepsVotes};
+ghost use Rattle.erase_journal.specs.Laws.{BlocksHaveOneSize, SameBlocksMakeOneList, MaintenanceKeepsVotes, ErasedChipsAreSettled};
 
 /// The journals are sound in one of the phases of an erase exactly where none of the cases of corrupt journals holds of them.
 pub fn sound_journals_have_no_fault()
@@ -20,4 +20,9 @@ pub fn same_blocks_make_one_list()
 /// An erase of the lowest-numbered tired journal leaves votes that last, so maintenance never takes the last vote of a region.
 pub fn maintenance_keeps_votes_that_last()
     ensures { MaintenanceKeepsVotes }
+{}
+
+/// A chip that is erased but for its superblock is healthy, no erase goes on in it, and each of its data blocks is erased.
+pub fn erased_chips_are_settled()
+    ensures { ErasedChipsAreSettled }
 {}

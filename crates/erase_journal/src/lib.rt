@@ -34,6 +34,6 @@ mod votes;
 pub use error::RecoverError;
 pub use journal::Journal;
 pub use laws::{
-    blocks_have_one_size, maintenance_keeps_votes_that_last, same_blocks_make_one_list,
-    sound_journals_have_no_fault,
+    blocks_have_one_size, erased_chips_are_settled, maintenance_keeps_votes_that_last,
+    same_blocks_make_one_list, sound_journals_have_no_fault,
 };
