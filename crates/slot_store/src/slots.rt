@@ -1,11 +1,16 @@
-ghost use Rattle.std.specs.Prelude.{◌≡◌, ◌≢◌, ◌⊎◌, ◌↔◌, ◌<◌, ◌≤◌, List, length, false, OnOk, IfOk, IfErr, MatchOption, IsTrue};
+ghost use Rattle.std.specs.Prelude.{◌≡◌, ◌≢◌, ◌⊎◌, ◌↔◌, ◌<◌, ◌≤◌, ℕ, List, length, false, OnOk, IfOk, IfErr, MatchOption, IsTrue};
 ghost use Rattle.std.specs.Result.{IsErrOf};
+ghost use Rattle.chip_model.specs.Geometry.{IsChipSize, block_count};
+ghost use Rattle.chip_model.specs.Memory.{byte};
+ghost use Rattle.nor_driver.specs.State.{IsReady, Kept, Fails};
 ghost use Rattle.nor_layout.specs.declared.header.Tag.{Tag as TagOf};
-ghost use Rattle.erase_journal.specs.Blocks.{block, blank, OnlyBlock};
-ghost use Rattle.erase_journal.specs.Journals.{IsHealthy};
+ghost use Rattle.erase_journal.specs.Blocks.{block as block_of, blank, OnlyBlock};
+ghost use Rattle.erase_journal.specs.Journals.{IsHealthy, IsSettled};
+ghost use Rattle.erase_journal.specs.Steps.{IsFirst};
 ghost use Rattle.erase_journal.specs.Recovery.{Restored, RestoreFails};
 ghost use Rattle.slot_store.specs.Slots.{Free, Live, Dead, slot_at, slot_count, header_in, IsLive, IsClean, IsWritable, SameSlots, OnlySlot};
 ghost use Rattle.slot_store.specs.Steps.{Succeeds, Refuses, PutLeaves, Interrupted};
+ghost use Rattle.slot_store.specs.Filling.{filled, Unclaimed};
 
 use erase_journal::{Journal, RecoverError};
 use nor_driver::{Nor, NorError};
@@ -32,14 +37,24 @@ const FIRST_DATA_BLOCK: u16 = 4;
 /// A contract sees it as the state of the memory behind it. Source: own.
 pub struct Slots<N: Nor> {
     journal: Journal<N>,
+    /// How many slots there are.
+    count: u16,
 }
 
 impl<N: Nor> Model for Slots<N> {
+    ghost use Rattle.std.specs.Prelude.{◌≡◌, length};
+    ghost use Rattle.chip_model.specs.Geometry.{IsChipSize};
     ghost use Rattle.nor_driver.specs.State.{NorState};
+    ghost use Rattle.slot_store.specs.Slots.{slot_count};
 
     ghost Value = { NorState };
 
     ghost view = { λ slots. slots.journal };
+
+    ghost invariant = { λ slots. record {
+      sized : IsChipSize (length slots.journal.memory);
+      counted : slots.count ≡ slot_count slots.journal.memory;
+    } };
 }
 
 impl<N: Nor> Slots<N> {
@@ -47,22 +62,24 @@ impl<N: Nor> Slots<N> {
     pub fn new(journal: Journal<N>) -> Slots<N>
         ensures { result ≡ journal }
     {
-        Slots { journal }
+        let count = journal.blocks() - FIRST_DATA_BLOCK;
+        Slots { journal, count }
     }
 
     /// Gives the journal back.
     pub fn into_inner(self) -> Journal<N>
         ensures { result ≡ self }
     {
-        let Slots { journal } = self;
+        let Slots { journal, count: _ } = self;
         journal
     }
 
     /// How many slots there are, from 12 to 4,092. They are numbered from 0 on.
     pub fn count(&self) -> u16
-        ensures { result ≡ slot_count self.now.memory }
+        ensures count { result ≡ slot_count self.now.memory }
+        ensures sized { IsChipSize (length self.now.memory) }
     {
-        self.journal.blocks() - FIRST_DATA_BLOCK
+        self.count
     }
 
     /// What the header of a slot says.
@@ -132,7 +149,8 @@ impl<N: Nor> Slots<N> {
         ensures done { OnOk result (Succeeds self.old self.new) }
         ensures fails { IfErr result (λ e. Refuses e self.old self.new) }
     {
-        fill(&mut self.journal, slot + FIRST_DATA_BLOCK, tag, content)?;
+        let header = begun_header(tag);
+        fill(&mut self.journal, slot + FIRST_DATA_BLOCK, &header, content)?;
         self.journal.program(slot + FIRST_DATA_BLOCK, 0, &[COMMITTED])
     }
 
@@ -186,9 +204,25 @@ impl<N: Nor> Slots<N> {
     }
 }
 
-/// Programs the header of a group and its 14 pages into an erased block. Cut, it leaves no live slot.
-fn fill<N: Nor>(journal: &mut Journal<N>, block: u16, tag: Tag, content: &[u8]) -> Result<(), NorError> {
-    journal.program(block, 0, &begun_header(tag))?;
+/// Programs a header that is begun, and the 14 pages of its group, into a block that is erased. Cut, it leaves no live slot.
+fn fill<N: Nor>(journal: &mut Journal<N>, block: u16, header: &[u8], content: &[u8]) -> Result<(), NorError>
+    requires data { 4 ≤ block }
+    requires number { block < block_count (length journal.old.memory) }
+    requires header { length header.now ≡ 4 }
+    requires begun { byte header.now 0 ≡ 254 }
+    requires size { length content.now ≡ 3584 }
+    ensures ok { OnOk result (block_of journal.old.memory block ≡ blank → block_of journal.new.memory block ≡ filled header.now content.now 3584) }
+    ensures bytes { (i : ℕ) → byte header.now i < 256 }
+    ensures cut { IsErrOf result NorError.Cut → block_of journal.old.memory block ≡ blank → Unclaimed (block_of journal.new.memory block) }
+    ensures only { OnlyBlock block journal.old.memory journal.new.memory }
+    ensures settled { OnOk result (IsSettled journal.new.memory) }
+    ensures healthy { IsErrOf result NorError.Cut → IsHealthy journal.old.memory → IsHealthy journal.new.memory }
+    ensures ready { OnOk result (IsReady journal.old) }
+    ensures kept { OnOk result (Kept journal.old journal.new) }
+    ensures fails { IfErr result (λ e. Fails e journal.old journal.new) }
+    ensures first { IfErr result (λ e. IsFirst e journal.old journal.new) }
+{
+    journal.program(block, 0, header)?;
     for page in 0..PAGES {
         let from = PAGE_LEN * page as usize;
         journal.program(block, CONTENT_PLACE + 256 * page, &content[from..from + PAGE_LEN])?;
