@@ -1,0 +1,119 @@
+-- The groups that slots stand for: a finite map from a group's number to the 3,584 bytes of its seven sectors.
+-- Slots are given by their number, from 0 to n - 1; groups have the numbers below `count`. Source: own.
+use Rattle.std.specs.Prelude.{◌≡◌, ◌≢◌, ◌⊎◌, ℕ, zero, suc, Bool, false, ◌<◌, ◌==◌, if◌then◌else◌, List, length, replicate}
+use Rattle.chip_model.specs.Geometry.{group_count}
+use Rattle.nor_layout.specs.declared.header.Generation.{Generation}
+use Rattle.nor_layout.specs.declared.header.Generation.TheVariants as generations
+use Rattle.nor_layout.specs.Headers.{next_generation, generation_byte}
+use Rattle.slot_store.specs.Slots.{Slot, Free, Live, NoGeneration, Dead, slot_at, slot_count}
+
+-- what an absent group holds
+unfoldable pub zeros : List ℕ
+zeros = replicate 3584 0
+
+-- slot s is live with group g, generation k and content x
+pub record LiveAt (f : ℕ → Slot) (n s g : ℕ) (k : Generation) (x : List ℕ) : Type 0 where
+  pub number : s < n
+  pub is : f s ≡ Live (record { group = g; generation = k }) x
+
+-- no slot is live with group g
+abbrev pub IsAbsent : (ℕ → Slot) → ℕ → ℕ → Type 0
+IsAbsent f n g = (s : ℕ) (k : Generation) (x : List ℕ) → LiveAt f n s g k x → ⊥
+
+-- What group g holds: zeros where it is absent, else the content of its newest live slot, the one whose generation is the next
+-- of every other one's.
+pub data GroupIs (f : ℕ → Slot) (n g : ℕ) (x : List ℕ) : Type 0 where
+  absent : IsAbsent f n g → x ≡ zeros → GroupIs f n g x
+  held : (s : ℕ) (k : Generation) → LiveAt f n s g k x
+      → ((t : ℕ) (j : Generation) (y : List ℕ) → LiveAt f n t g j y → t ≢ s → k ≡ next_generation j) → GroupIs f n g x
+
+-- the groups below `count` hold these contents
+pub record Maps (f : ℕ → Slot) (n count : ℕ) (groups : ℕ → List ℕ) : Type 0 where
+  pub each : (g : ℕ) → g < count → GroupIs f n g (groups g)
+
+-- None of the cases of corrupt slots: each live slot's group is one of the chip; two live slots of a group are neighbours in
+-- generation; there are no three of one group; and no slot is without a generation.
+pub record SoundSlots (f : ℕ → Slot) (n count : ℕ) : Type 0 where
+  pub group : (s g : ℕ) (k : Generation) (x : List ℕ) → LiveAt f n s g k x → g < count
+  pub neighbours : (s t g : ℕ) (j k : Generation) (x y : List ℕ) → LiveAt f n s g j x → LiveAt f n t g k y → s ≢ t
+      → (j ≡ next_generation k) ⊎ (k ≡ next_generation j)
+  pub two : (r s t g : ℕ) (i j k : Generation) (x y z : List ℕ) → LiveAt f n r g i x → LiveAt f n s g j y → LiveAt f n t g k z
+      → (r ≡ s) ⊎ ((s ≡ t) ⊎ (r ≡ t))
+  pub whole : (s : ℕ) → s < n → f s ≢ NoGeneration
+
+-- no two live slots of one group, as it is between two calls
+pub record Single (f : ℕ → Slot) (n : ℕ) : Type 0 where
+  pub one : (s t g : ℕ) (j k : Generation) (x y : List ℕ) → LiveAt f n s g j x → LiveAt f n t g k y → s ≡ t
+
+-- the generation for a new content of group g: Zero where it is absent, else the one after that of a live slot
+pub data NextGeneration (f : ℕ → Slot) (n g : ℕ) (k : Generation) : Type 0 where
+  begun : IsAbsent f n g → k ≡ generations.Zero → NextGeneration f n g k
+  after : (s : ℕ) (j : Generation) (x : List ℕ) → LiveAt f n s g j x → k ≡ next_generation j → NextGeneration f n g k
+
+-- slots without a corrupt case that stand for these groups
+pub record Stands (f : ℕ → Slot) (n count : ℕ) (groups : ℕ → List ℕ) : Type 0 where
+  pub sound : SoundSlots f n count
+  pub maps : Maps f n count groups
+
+-- what an interrupted change from groups to `new` may leave
+pub data OldOrNew (f : ℕ → Slot) (n count : ℕ) (groups new : ℕ → List ℕ) : Type 0 where
+  still_old : Stands f n count groups → OldOrNew f n count groups new
+  now_new : Stands f n count new → OldOrNew f n count groups new
+
+-- these groups, but with this content in group g
+abbrev pub with_group : (ℕ → List ℕ) → ℕ → List ℕ → ℕ → List ℕ
+with_group groups g x h = if h == g then x else groups h
+
+-- all slots but w are as they were
+pub record OthersKept (n w : ℕ) (f f' : ℕ → Slot) : Type 0 where
+  pub each : (s : ℕ) → s < n → s ≢ w → f' s ≡ f s
+
+-- The same by computation. Whether a slot is live with group g:
+abbrev pub is_of : ℕ → Slot → Bool
+is_of g Free = false
+is_of g (Live tag x) = tag.group == g
+is_of g NoGeneration = false
+is_of g Dead = false
+
+-- the generation of a live slot
+abbrev pub generation_in : Slot → Generation
+generation_in Free = generations.Zero
+generation_in (Live tag x) = tag.generation
+generation_in NoGeneration = generations.Zero
+generation_in Dead = generations.Zero
+
+-- what a live slot holds, and zeros for any other
+abbrev pub content_in : Slot → List ℕ
+content_in Free = zeros
+content_in (Live tag x) = x
+content_in NoGeneration = zeros
+content_in Dead = zeros
+
+-- whether generation k comes right after generation j
+abbrev pub is_next : Generation → Generation → Bool
+is_next k j = generation_byte k == generation_byte (next_generation j)
+
+-- of two slots the one that holds group g, the newer one where both are live with it
+abbrev pub newer : ℕ → Slot → Slot → Slot
+newer g s t = if is_of g s then (if is_of g t then (if is_next (generation_in s) (generation_in t) then s else t) else s) else t
+
+-- of the slots below n the one that holds group g, and a dead one where none does
+unfoldable pub winner : (ℕ → Slot) → ℕ → ℕ → Slot
+winner f zero g = Dead
+winner f (suc n) g = newer g (f n) (winner f n g)
+
+abbrev pub group_content : (ℕ → Slot) → ℕ → ℕ → List ℕ
+group_content f n g = content_in (winner f n g)
+
+-- A memory's: group g of it, whether its slots are sound, and whether it holds these groups.
+abbrev pub group_at : List ℕ → ℕ → List ℕ
+group_at m g = group_content (slot_at m) (slot_count m) g
+
+abbrev pub IsSoundMap : List ℕ → Type 0
+IsSoundMap m = SoundSlots (slot_at m) (slot_count m) (group_count (length m))
+
+abbrev pub IsSingle : List ℕ → Type 0
+IsSingle m = Single (slot_at m) (slot_count m)
+
+abbrev pub HoldsGroups : (ℕ → List ℕ) → List ℕ → Type 0
+HoldsGroups groups m = Stands (slot_at m) (slot_count m) (group_count (length m)) groups

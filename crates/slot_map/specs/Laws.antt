@@ -1,0 +1,61 @@
+-- What follows from the definitions, for the crates above and for a reader. Source: own.
+use Rattle.std.specs.Prelude.{◌≡◌, ◌≢◌, ◌⊎◌, ℕ, zero, suc, ◌<◌, List, length}
+use Rattle.chip_model.specs.Geometry.{group_count}
+use Rattle.nor_layout.specs.declared.header.Generation.{Generation}
+use Rattle.nor_layout.specs.declared.header.Generation.TheVariants.{Zero, One, Two, Three}
+use Rattle.nor_layout.specs.declared.header.Tag.{Tag}
+use Rattle.nor_layout.specs.Headers.{next_generation}
+use Rattle.slot_store.specs.Slots.{Slot, Free, Live, Dead, slot_at, slot_count, OnlySlot}
+use Rattle.slot_store.specs.Steps.{PutLeaves}
+use Rattle.slot_map.specs.Groups.{zeros, LiveAt, GroupIs, SoundSlots, NextGeneration, with_group, group_content, group_at, IsSingle, HoldsGroups}
+
+-- a group has at most one content, whatever the slots are
+abbrev pub GroupsHaveOneContent : Type 0
+GroupsHaveOneContent = (f : ℕ → Slot) (n g : ℕ) (x y : List ℕ) → GroupIs f n g x → GroupIs f n g y → x ≡ y
+
+-- where no slot is corrupt, what is computed is what the group holds
+abbrev pub SoundGroupsAreComputed : Type 0
+SoundGroupsAreComputed = (f : ℕ → Slot) (n g count : ℕ) → SoundSlots f n count → GroupIs f n g (group_content f n g)
+
+-- a group has seven sectors of 512 bytes
+abbrev pub GroupsHaveSevenSectors : Type 0
+GroupsHaveSevenSectors = (m : List ℕ) (g : ℕ) → length (group_at m g) ≡ 3584
+
+-- A write of a group into a free slot that was cut leaves the groups as they were, or this one new; and no slot is corrupt.
+abbrev pub PutsLeaveOldOrNew : Type 0
+PutsLeaveOldOrNew = (w : ℕ) (tag : Tag) (x m m' : List ℕ) (groups : ℕ → List ℕ) → w < slot_count m → tag.group < group_count (length m)
+    → slot_at m w ≡ Free → OnlySlot w m m' → PutLeaves tag x (slot_at m' w)
+    → IsSingle m → NextGeneration (slot_at m) (slot_count m) tag.group tag.generation → HoldsGroups groups m
+    → HoldsGroups groups m' ⊎ HoldsGroups (with_group groups tag.group x) m'
+
+-- A retirement of the older of two slots of a group, whole or cut, changes no group; and no slot is corrupt.
+abbrev pub RetiringTheOlderKeepsGroups : Type 0
+RetiringTheOlderKeepsGroups = (w b g : ℕ) (j k : Generation) (x y m m' : List ℕ) (groups : ℕ → List ℕ) → OnlySlot b m m'
+    → LiveAt (slot_at m) (slot_count m) b g j y → LiveAt (slot_at m) (slot_count m) w g k x → w ≢ b → k ≡ next_generation j
+    → (slot_at m' b ≡ slot_at m b) ⊎ (slot_at m' b ≡ Dead) → HoldsGroups groups m → HoldsGroups groups m'
+
+-- A dead slot that is cleared changes no group.
+abbrev pub ClearingKeepsGroups : Type 0
+ClearingKeepsGroups = (w : ℕ) (m m' : List ℕ) (groups : ℕ → List ℕ) → OnlySlot w m m' → slot_at m w ≡ Dead → slot_at m' w ≡ Free
+    → HoldsGroups groups m → HoldsGroups groups m'
+
+-- Four slots: two hold group 5, of the generations Three and Zero; one is dead, and one free.
+abbrev pub four_slots : (x y : List ℕ) → ℕ → Slot
+four_slots x y zero = Live (record { group = 5; generation = Three }) x
+four_slots x y (suc zero) = Dead
+four_slots x y (suc (suc zero)) = Live (record { group = 5; generation = Zero }) y
+four_slots x y (suc (suc (suc s))) = Free
+
+-- and these in the other order, of the generations One and Two
+abbrev pub turned_slots : (x y : List ℕ) → ℕ → Slot
+turned_slots x y zero = Live (record { group = 5; generation = Two }) y
+turned_slots x y (suc zero) = Dead
+turned_slots x y (suc (suc zero)) = Live (record { group = 5; generation = One }) x
+turned_slots x y (suc (suc (suc s))) = Free
+
+-- Of Three and Zero the slot with Zero is the newer, and of One and Two the one with Two, wherever they stand; a group that no
+-- slot holds is zeros.
+abbrev pub NewerSlotsHoldGroups : Type 0
+NewerSlotsHoldGroups = (x y : List ℕ)
+    → (group_content (four_slots x y) 4 5 ≡ y) × (group_content (turned_slots x y) 4 5 ≡ y)
+    × (group_content (four_slots x y) 4 6 ≡ zeros) × (group_content (turned_slots x y) 4 0 ≡ zeros)

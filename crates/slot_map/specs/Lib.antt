@@ -1,0 +1,6 @@
+pub mod Groups
+pub mod GroupLaws
+pub mod WinnerLaws
+pub mod MapLaws
+pub mod Replace
+pub mod Laws

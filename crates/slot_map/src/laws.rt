@@ -1,0 +1,38 @@
+// What follows from the definitions, with no work at run time. Source: own.
+ghost use Rattle.slot_map.specs.Laws.{GroupsHaveOneContent, SoundGroupsAreComputed, GroupsHaveSevenSectors, PutsLeaveOldOrNew, RetiringTheOlderKeepsGroups, ClearingKeepsGroups, NewerSlotsHoldGroups};
+
+/// A group has at most one content, whatever the slots are.
+pub fn groups_have_one_content()
+    ensures { GroupsHaveOneContent }
+{}
+
+/// Where no slot is corrupt, what is computed is what the group holds.
+pub fn sound_groups_are_computed()
+    ensures { SoundGroupsAreComputed }
+{}
+
+/// A group has seven sectors of 512 bytes.
+pub fn groups_have_seven_sectors()
+    ensures { GroupsHaveSevenSectors }
+{}
+
+/// A write of a group into a free slot that was cut leaves the groups as they were, or this one new.
+pub fn puts_leave_old_or_new()
+    ensures { PutsLeaveOldOrNew }
+{}
+
+/// A retirement of the older of two slots of a group changes no group, whole or cut.
+pub fn retiring_the_older_keeps_groups()
+    ensures { RetiringTheOlderKeepsGroups }
+{}
+
+/// A dead slot that is cleared changes no group.
+pub fn clearing_keeps_groups()
+    ensures { ClearingKeepsGroups }
+{}
+
+/// Of the generations Three and Zero, Zero is the newer, and of One and Two it is Two, wherever the slots stand; a group that
+/// no slot holds is zeros.
+pub fn newer_slots_hold_groups()
+    ensures { NewerSlotsHoldGroups }
+{}

@@ -1,0 +1,3 @@
+pub mod BlockKinds
+pub mod Writes
+pub mod Calls

@@ -1,0 +1,5 @@
+pub mod Slots
+pub mod Steps
+pub mod Filling
+pub mod Laws
+pub mod SlotLaws
