@@ -1,13 +1,15 @@
 -- What follows from the definitions, for the crates above and for a reader. Source: own.
 use Rattle.std.specs.Prelude.{◌≡◌, ◌≢◌, ◌⊎◌, ℕ, zero, suc, ◌<◌, List, length}
-use Rattle.chip_model.specs.Geometry.{group_count}
+use Rattle.chip_model.specs.Geometry.{IsChipSize, group_count}
 use Rattle.nor_layout.specs.declared.header.Generation.{Generation}
 use Rattle.nor_layout.specs.declared.header.Generation.TheVariants.{Zero, One, Two, Three}
 use Rattle.nor_layout.specs.declared.header.Tag.{Tag}
 use Rattle.nor_layout.specs.Headers.{next_generation}
-use Rattle.slot_store.specs.Slots.{Slot, Free, Live, Dead, slot_at, slot_count, OnlySlot}
+use Rattle.erase_journal.specs.Journals.{IsSettled}
+use Rattle.erase_journal.specs.Blocks.{IsErasedBehind}
+use Rattle.slot_store.specs.Slots.{Slot, Free, Live, Dead, slot_at, slot_count, IsClean, OnlySlot}
 use Rattle.slot_store.specs.Steps.{PutLeaves}
-use Rattle.slot_map.specs.Groups.{zeros, LiveAt, GroupIs, SoundSlots, NextGeneration, with_group, group_content, group_at, IsSingle, HoldsGroups}
+use Rattle.slot_map.specs.Groups.{zeros, LiveAt, GroupIs, SoundSlots, NextGeneration, with_group, group_content, group_at, IsSoundMap, IsSingle, HoldsGroups}
 
 -- a group has at most one content, whatever the slots are
 abbrev pub GroupsHaveOneContent : Type 0
@@ -59,3 +61,8 @@ abbrev pub NewerSlotsHoldGroups : Type 0
 NewerSlotsHoldGroups = (x y : List ℕ)
     → (group_content (four_slots x y) 4 5 ≡ y) × (group_content (turned_slots x y) 4 5 ≡ y)
     × (group_content (four_slots x y) 4 6 ≡ zeros) × (group_content (turned_slots x y) 4 0 ≡ zeros)
+
+-- a chip that is erased behind its superblock is settled and clean, and each of its groups is zeros
+abbrev pub ErasedChipsHoldZeros : Type 0
+ErasedChipsHoldZeros = (m : List ℕ) → IsChipSize (length m) → IsErasedBehind m
+    → IsSettled m × IsClean m × IsSoundMap m × IsSingle m × ((g : ℕ) → group_at m g ≡ zeros)

@@ -1,5 +1,7 @@
 // What follows from the definitions, with no work at run time. Source: own.
-ghost use Rattle.slot_map.specs.Laws.{GroupsHaveOneContent, SoundGroupsAreComputed, GroupsHaveSevenSectors, PutsLeaveOldOrNew, RetiringTheOlderKeepsGroups, ClearingKeepsGroups, NewerSlotsHoldGroups};
+ghost use Rattle.slot_map.specs.Laws.{GroupsHaveOneContent, SoundGroupsAreComputed, GroupsHaveSevenSectors, PutsLeaveOldOrNew, RetiringTheOlderKeepsGroups, ClearingKeepsGroups, NewerSlotsHoldGroups, ErasedChipsHoldZeros};
+
+use slot_store::erased_chips_have_free_slots;
 
 /// A group has at most one content, whatever the slots are.
 pub fn groups_have_one_content()
@@ -36,3 +38,10 @@ pub fn clearing_keeps_groups()
 pub fn newer_slots_hold_groups()
     ensures { NewerSlotsHoldGroups }
 {}
+
+/// A chip that is erased but for its superblock is healthy and clean, no slot is corrupt, and each group is zeros.
+pub fn erased_chips_hold_zeros()
+    ensures { ErasedChipsHoldZeros }
+{
+    erased_chips_have_free_slots();
+}

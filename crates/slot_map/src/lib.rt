@@ -18,8 +18,8 @@ mod replace;
 
 pub use held::Held;
 pub use laws::{
-    clearing_keeps_groups, groups_have_one_content, groups_have_seven_sectors,
-    newer_slots_hold_groups, puts_leave_old_or_new, retiring_the_older_keeps_groups,
-    sound_groups_are_computed,
+    clearing_keeps_groups, erased_chips_hold_zeros, groups_have_one_content,
+    groups_have_seven_sectors, newer_slots_hold_groups, puts_leave_old_or_new,
+    retiring_the_older_keeps_groups, sound_groups_are_computed,
 };
 pub use replace::{find_in, replace_in};

@@ -17,5 +17,7 @@ mod slots;
 #[cfg(test)]
 mod tests;
 
-pub use laws::{live_slots_hold_seven_sectors, same_blocks_make_same_slots};
+pub use laws::{
+    erased_chips_have_free_slots, live_slots_hold_seven_sectors, same_blocks_make_same_slots,
+};
 pub use slots::{CONTENT_LEN, Slots};

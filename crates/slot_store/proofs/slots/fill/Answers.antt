@@ -19,7 +19,7 @@ loop-page-init g c = record {
   only = c.in_ok-program.ensures.only;
   settled = c.in_ok-program.ensures.settled;
   ready = c.in_ok-program.ensures.ready;
-  kept = c.in_ok-program.ensures.kept
+  kept = c.in_ok-program.ensures.kept;
 }
 
 pub returns-in_err-program-2-clause-cut : goal.returns-in_err-program-2-clause-cut
@@ -44,5 +44,5 @@ loop-page-preserved g c =
       only = only-after c.args.block c.args.journal.now.memory c.loop-page.journal.memory c.program-in-loop-page.new.self.memory c.loop-page.invariant.only c.in_ok-program-2.ensures.only;
       settled = c.in_ok-program-2.ensures.settled;
       ready = c.loop-page.invariant.ready;
-      kept = kept-after c.args.journal.now c.loop-page.journal c.program-in-loop-page.new.self c.loop-page.invariant.kept c.in_ok-program-2.ensures.kept
+      kept = kept-after c.args.journal.now c.loop-page.journal c.program-in-loop-page.new.self c.loop-page.invariant.kept c.in_ok-program-2.ensures.kept;
     }

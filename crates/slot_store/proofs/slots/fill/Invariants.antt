@@ -11,5 +11,5 @@ invariant-loop-page g l = record {
   only : OnlyBlock l.block l.fn.journal.memory l.journal.memory;
   settled : IsSettled l.journal.memory;
   ready : IsReady l.fn.journal;
-  kept : Kept l.fn.journal l.journal
+  kept : Kept l.fn.journal l.journal;
 }
