@@ -19,6 +19,8 @@ mod protection;
 #[cfg(test)]
 mod recorder;
 #[cfg(test)]
+mod slots;
+#[cfg(test)]
 mod sweep;
 #[cfg(test)]
 mod tables;

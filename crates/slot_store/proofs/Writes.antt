@@ -16,9 +16,9 @@ use Rattle.nor_layout.specs.declared.header.Tag.{Tag}
 use Rattle.nor_layout.specs.Headers.{header_of}
 use Rattle.erase_journal.specs.Blocks.{blank}
 use Rattle.erase_journal.specs.BlockLaws.{length-blank, byte-blank}
-use Rattle.slot_store.specs.Slots.{Slot, Free, Live, Dead, slot_of}
+use Rattle.slot_store.specs.Slots.{Live, Dead, slot_of}
 use Rattle.slot_store.specs.Filling.{filled, Unclaimed, unclaimed_free, unclaimed_dead}
-use Rattle.slot_store.proofs.BlockKinds.{header-bytes, slot-header, slot-dead, slot-begun, slot-spoiled, blank-free, is-blank, live-first}
+use Rattle.slot_store.proofs.BlockKinds.{header-bytes, slot-header, slot-dead, slot-begun, slot-spoiled, is-blank, live-first}
 
 -- bits of the state byte
 bits-begin : (k : ℕ) → k ≢ 0 → bit_at 255 k ≡ bit_at 254 k

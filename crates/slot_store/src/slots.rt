@@ -21,16 +21,16 @@ use std::marker::Model;
 pub const CONTENT_LEN: usize = 3_584;
 
 /// Where the content of a slot begins in its block, in bytes.
-const CONTENT_PLACE: u32 = 512;
+pub(crate) const CONTENT_PLACE: u32 = 512;
 
 /// The bytes of a page, which are programmed at once.
-const PAGE_LEN: usize = 256;
+pub(crate) const PAGE_LEN: usize = 256;
 
 /// The pages of a group.
-const PAGES: u32 = 14;
+pub(crate) const PAGES: u32 = 14;
 
 /// The block of slot 0: the superblock and three journals come before it.
-const FIRST_DATA_BLOCK: u16 = 4;
+pub(crate) const FIRST_DATA_BLOCK: u16 = 4;
 
 /// The data blocks behind the journals, as slots.
 ///

@@ -1,11 +1,12 @@
-use Rattle.std.proofs.Common.{◌≡◌, ◌∙◌, ℕ, ◌+◌, ◌*◌, ◌≤◌, ◌<◌, ap, arith, length}
+use Rattle.std.proofs.Common.{◌≡◌, ◌∙◌, ◌+◌, ◌*◌, ◌≤◌, ap, arith, length}
 use Rattle.std.specs.Prelude.{slice_range}
 use Rattle.std.proofs.lemmas.Result.{err_from_is_err_and}
 use Rattle.chip_model.specs.Memory.{byte, and_at}
 use Rattle.erase_journal.specs.Blocks.{block}
 use Rattle.slot_store.specs.Filling.{filled}
 use Rattle.slot_store.proofs.Writes.{begun-cut, filled-none, filled-page, filled-first, length-filled, page-cut}
-use Rattle.slot_store.proofs.Calls.{kept-after, only-after}
+use Rattle.slot_store.specs.StepLaws.{kept-after}
+use Rattle.slot_store.proofs.Calls.{only-after}
 use Rattle.slot_store.proofs.slots.fill.Goals as goal
 
 pub returns-in_err-program-clause-cut : goal.returns-in_err-program-clause-cut

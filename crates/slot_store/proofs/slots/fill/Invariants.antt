@@ -1,4 +1,4 @@
-use Rattle.std.proofs.Common.{◌≡◌, ◌*◌, ℕ}
+use Rattle.std.proofs.Common.{◌≡◌, ◌*◌}
 use Rattle.nor_driver.specs.State.{IsReady, Kept}
 use Rattle.erase_journal.specs.Journals.{IsSettled}
 use Rattle.erase_journal.specs.Blocks.{block, blank, OnlyBlock}
