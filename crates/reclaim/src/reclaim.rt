@@ -78,7 +78,7 @@ fn clear_dead<N: Nor>(slots: &mut Slots<N>) -> Result<Option<u16>, NorError>
     ensures fails { IfErr result (λ e. Refuses e slots.old slots.new) }
 {
     let Some(slot) = lowest_dead(slots)? else {
-        return Ok(None)
+        return Ok(None);
     };
     slots.clear(slot)?;
     Ok(Some(slot))
