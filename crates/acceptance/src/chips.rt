@@ -83,7 +83,7 @@ pub fn chip(alloc: Global, bytes: &[u8], cut: u32, mask: u8) -> Result<SimChip, 
     Ok(chip)
 }
 
-fn driver(chip: SimChip) -> Result<Driver<SimChip>, Fail> {
+pub fn driver(chip: SimChip) -> Result<Driver<SimChip>, Fail> {
     match Driver::probe(chip) {
         Ok(driver) => Ok(driver),
         Err((_, error)) => Err(Fail::from(error)),
