@@ -22,7 +22,8 @@ fn of_recovery(error: RecoverError) -> End {
     }
 }
 
-fn of_erase(answer: Result<(), NorError>) -> End {
+/// What a call of a block ended with.
+pub fn of_erase(answer: Result<(), NorError>) -> End {
     match answer {
         Ok(()) => End::Done,
         Err(NorError::Cut) => End::Cut,
@@ -83,6 +84,7 @@ pub fn chip(alloc: Global, bytes: &[u8], cut: u32, mask: u8) -> Result<SimChip, 
     Ok(chip)
 }
 
+/// The driver of a chip.
 pub fn driver(chip: SimChip) -> Result<Driver<SimChip>, Fail> {
     match Driver::probe(chip) {
         Ok(driver) => Ok(driver),

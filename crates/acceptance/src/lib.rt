@@ -21,6 +21,8 @@ mod protection;
 #[cfg(test)]
 mod recorder;
 #[cfg(test)]
+mod slots;
+#[cfg(test)]
 mod sweep;
 #[cfg(test)]
 mod tables;

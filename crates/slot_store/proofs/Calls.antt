@@ -1,41 +1,21 @@
 -- One call after another, and what a call leaves of all slots.
-use Rattle.std.proofs.Common.{◌≡◌, ◌≢◌, ℕ, ◌+◌, ◌<◌, ◌≤◌, ◌⊎◌, true, false, List, length, refl, sym, ap, ◌∙◌, arith, inl, inr}
-use Rattle.std.specs.Prelude.{Result, Ok, Err, OnOk, IfErr}
-use Rattle.chip_model.specs.Geometry.{block_count}
-use Rattle.nor_driver.specs.State.{NorState, IsReady, Kept, Fails}
-use Rattle.nor_driver.specs.declared.error.NorError.{NorError}
-use Rattle.nor_driver.specs.declared.error.NorError.TheVariants as errors
+use Rattle.std.proofs.Common.{◌≡◌, ℕ, ◌+◌, ◌<◌, ◌⊎◌, List, ◌∙◌, arith, inl, inr}
 use Rattle.nor_layout.specs.declared.header.Tag.{Tag}
-use Rattle.erase_journal.specs.declared.phase.Phase.TheVariants.{Idle}
-use Rattle.erase_journal.specs.Journals.{IsHealthy, IsSettled}
-use Rattle.erase_journal.specs.Blocks.{block, blank, OnlyBlock, SameBlocks, WithErased}
+use Rattle.erase_journal.specs.Blocks.{block, blank, OnlyBlock}
 use Rattle.erase_journal.specs.Steps.{IsFirst, Stands, as_it_was, block_erased}
 use Rattle.erase_journal.specs.Steps as steps
-use Rattle.slot_store.specs.Slots.{Slot, Free, Live, Dead, slot_of, slot_at, slot_count, IsClean, OnlySlot, SameSlots}
+use Rattle.slot_store.specs.Slots.{Free, Live, Dead, slot_of, slot_count}
 use Rattle.slot_store.specs.Steps.{PutLeaves, still_free, half_written, written, Interrupted}
 use Rattle.slot_store.specs.Filling.{Unclaimed, unclaimed_free, unclaimed_dead}
+use Rattle.slot_store.specs.StepLaws.{chip-after}
 use Rattle.slot_store.specs.SlotLaws.{block-slot, block-clean, blocks-slots, live-not-free, dead-not-free}
 use Rattle.slot_store.proofs.BlockKinds.{blank-free}
 
-pub kept-after : (a b c : NorState) → Kept a b → Kept b c → Kept a c
-kept-after a b c p q = record { cuts = q.cuts ∙ p.cuts; slows = q.slows ∙ p.slows; powered = q.powered ∙ p.powered; is_slow = q.is_slow ∙ p.is_slow; has_large = q.has_large ∙ p.has_large }
-
 pub only-after : (n : ℕ) (a b c : List ℕ) → OnlyBlock n a b → OnlyBlock n b c → OnlyBlock n a c
 only-after n a b c p q = record {
-  chip = record { same_length = q.chip.same_length ∙ p.chip.same_length; superblock = λ k low. q.chip.superblock k low ∙ p.chip.superblock k low };
+  chip = chip-after a b c p.chip q.chip;
   others = λ k from low other. let n = p.chip.same_length in q.others k from (omega (arith, n)) other ∙ p.others k from low other;
 }
-
-pub fails-after : (e : NorError) (a b c : NorState) → Kept a b → Fails e b c → Fails e a c
-fails-after errors.Cut a b c k f = grind arith
-fails-after errors.Slow a b c k f = grind arith
-
-pub first-after : (e : NorError) (a b c : NorState) → IsReady a → Kept a b → IsFirst e b c → IsFirst e a c
-first-after errors.Cut a b c r k f = (r.1, λ off. absurd (grind (arith, off, r.0)))
-first-after errors.Slow a b c r k f = (λ quick. r.0, λ slow. absurd (grind (arith, slow, r.1)))
-
-pub settled-healthy : (m : List ℕ) → IsSettled m → IsHealthy m
-settled-healthy m h = (Idle, h.sound)
 
 -- What a put leaves where it is cut.
 pub unclaimed-leaves : (t : List ℕ) (tag : Tag) (x : List ℕ) → Unclaimed t → PutLeaves tag x (slot_of t)

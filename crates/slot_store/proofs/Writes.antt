@@ -16,9 +16,9 @@ use Rattle.nor_layout.specs.declared.header.Tag.{Tag}
 use Rattle.nor_layout.specs.Headers.{header_of}
 use Rattle.erase_journal.specs.Blocks.{blank}
 use Rattle.erase_journal.specs.BlockLaws.{length-blank, byte-blank}
-use Rattle.slot_store.specs.Slots.{Slot, Free, Live, Dead, slot_of}
+use Rattle.slot_store.specs.Slots.{Live, Dead, slot_of}
 use Rattle.slot_store.specs.Filling.{filled, Unclaimed, unclaimed_free, unclaimed_dead}
-use Rattle.slot_store.proofs.BlockKinds.{header-bytes, slot-header, slot-dead, slot-begun, slot-spoiled, blank-free, is-blank, live-first}
+use Rattle.slot_store.proofs.BlockKinds.{header-bytes, slot-header, slot-dead, slot-begun, slot-spoiled, is-blank, live-first}
 
 -- bits of the state byte
 bits-begin : (k : ℕ) → k ≢ 0 → bit_at 255 k ≡ bit_at 254 k
@@ -58,9 +58,9 @@ begun-byte h i n low small =
 begun-torn : (h t : List ℕ) → length h ≡ 4 → byte h 0 ≡ 254 → TornAnd blank 0 h t → Unclaimed t
 begun-torn h t n begun torn =
     let zeroth : (byte t 0 ≡ 255) ⊎ (byte t 0 ≡ 254) =
-        mixed_one 0 255 254 (byte t 0) bits-begin (subst (λ x. IsMixed x 254 (byte t 0)) (byte-blank 0 (omega arith)) (subst (λ x. IsMixed (byte blank 0) x (byte t 0)) (begun-first h n begun) (torn.each 0 (omega (arith, length-blank))))) in
+    mixed_one 0 255 254 (byte t 0) bits-begin (subst (λ x. IsMixed x 254 (byte t 0)) (byte-blank 0 (omega arith)) (subst (λ x. IsMixed (byte blank 0) x (byte t 0)) (begun-first h n begun) (torn.each 0 (omega (arith, length-blank))))) in
     let rest = λ (i : ℕ) (from : 4 ≤ i) (low : i < 4096).
-        mixed_same (byte blank i) (byte t i) (subst (λ x. IsMixed (byte blank i) x (byte t i)) (begun-rest h i n from) (torn.each i (omega (arith, length-blank)))) ∙ byte-blank i low in
+    mixed_same (byte blank i) (byte t i) (subst (λ x. IsMixed (byte blank i) x (byte t i)) (begun-rest h i n from) (torn.each i (omega (arith, length-blank)))) ∙ byte-blank i low in
     elim zeroth [
       | inr e ↦ unclaimed_dead (slot-begun t e)
       | inl e ↦ elim (cases_eq (byte t 1) 255) [
@@ -161,8 +161,8 @@ committed h x tag b w four begun bytes back n small written program =
     let header : header_of w ≡ headers.Live tag = header-bytes w (252 ∷ byte h 1 ∷ byte h 2 ∷ byte h 3 ∷ []) first (head 1 (omega arith) (omega arith)) (head 2 (omega arith) (omega arith)) (head 3 (omega arith) (omega arith)) ∙ back in
     let ld : length (drop 512 w) ≡ 3584 = length-drop 512 w ∙ (let q : length w - 512 ≡ 3584 = omega (arith, lw) in q) in
     let content : drop 512 w ≡ x = ext_get_or 0 (drop 512 w) x (ld ∙ sym n) (λ i q.
-        let low : i < 3584 = omega (arith, ld) in
-        get_or-drop 512 w i 0 ∙ (rest (512 + i) (omega arith) ∙ filled-tail h x i four n low (small i))) in
+    let low : i < 3584 = omega (arith, ld) in
+    get_or-drop 512 w i 0 ∙ (rest (512 + i) (omega arith) ∙ filled-tail h x i four n low (small i))) in
     slot-header w (headers.Live tag) header ∙ ap (λ q. Live tag q) content
 
 pub commit-cut : (h x : List ℕ) (tag : Tag) (b t : List ℕ) → length h ≡ 4 → byte h 0 ≡ 254 → ((i : ℕ) → byte h i < 256) → header_of (252 ∷ byte h 1 ∷ byte h 2 ∷ byte h 3 ∷ []) ≡ headers.Live tag

@@ -3,3 +3,4 @@ pub mod Steps
 pub mod Filling
 pub mod Laws
 pub mod SlotLaws
+pub mod StepLaws

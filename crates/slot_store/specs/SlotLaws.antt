@@ -1,5 +1,5 @@
 -- What follows of slots: what a block says of one, and which slots are the same where blocks are.
-use Rattle.std.proofs.Common.{◌≡◌, ◌≢◌, ℕ, ◌+◌, ◌-◌, ◌<◌, ◌≤◌, ◌⊎◌, List, [], length, refl, sym, ap, ◌∙◌, arith, inl, inr}
+use Rattle.std.proofs.Common.{◌≡◌, ℕ, ◌+◌, ◌<◌, List, [], length, refl, sym, ap, ◌∙◌, arith, inl, inr}
 use Rattle.std.specs.Prelude.{drop}
 use Rattle.std.proofs.lemmas.List.{length-drop}
 use Rattle.std.proofs.lemmas.Bool.{cases_eq}
@@ -7,7 +7,7 @@ use Rattle.nor_layout.specs.declared.header.Header.{Header}
 use Rattle.nor_layout.specs.declared.header.Header.TheVariants as headers
 use Rattle.nor_layout.specs.declared.header.Tag.{Tag}
 use Rattle.nor_layout.specs.Headers.{header_of}
-use Rattle.erase_journal.specs.Blocks.{block, blank, SameChip, SameBlocks, OnlyBlock}
+use Rattle.erase_journal.specs.Blocks.{block, blank, SameBlocks, OnlyBlock}
 use Rattle.erase_journal.specs.BlockLaws.{length-block}
 use Rattle.slot_store.specs.Slots.{Slot, Free, Live, NoGeneration, Dead, slot_with, slot_of, slot_at, slot_count, header_in, IsClean, SameSlots, OnlySlot}
 

@@ -1,6 +1,6 @@
 -- The slots that a memory stands for: one for each data block, which is free, dead, or holds a group of seven sectors.
 -- Source: own, layout 1.
-use Rattle.std.specs.Prelude.{◌≡◌, ◌≢◌, ◌⊎◌, ℕ, ◌+◌, ◌-◌, ◌<◌, List, length, drop}
+use Rattle.std.specs.Prelude.{◌≡◌, ◌≢◌, ℕ, ◌+◌, ◌-◌, ◌<◌, List, length, drop}
 use Rattle.chip_model.specs.Geometry.{block_count}
 use Rattle.nor_layout.specs.declared.header.Header.{Header}
 use Rattle.nor_layout.specs.declared.header.Header.TheVariants as headers

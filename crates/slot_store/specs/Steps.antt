@@ -1,5 +1,5 @@
 -- What the calls of a store of slots leave, by their answer. Source: own.
-use Rattle.std.specs.Prelude.{◌≡◌, ◌≢◌, ◌⊎◌, ℕ, ◌<◌, false, List}
+use Rattle.std.specs.Prelude.{◌≡◌, ◌⊎◌, ℕ, List}
 use Rattle.nor_layout.specs.declared.header.Tag.{Tag}
 use Rattle.nor_driver.specs.State.{NorState, IsReady, Kept, Fails}
 use Rattle.nor_driver.specs.declared.error.NorError.{NorError}

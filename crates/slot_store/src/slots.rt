@@ -21,16 +21,16 @@ use std::marker::Model;
 pub const CONTENT_LEN: usize = 3_584;
 
 /// Where the content of a slot begins in its block, in bytes.
-const CONTENT_PLACE: u32 = 512;
+pub(crate) const CONTENT_PLACE: u32 = 512;
 
 /// The bytes of a page, which are programmed at once.
-const PAGE_LEN: usize = 256;
+pub(crate) const PAGE_LEN: usize = 256;
 
 /// The pages of a group.
-const PAGES: u32 = 14;
+pub(crate) const PAGES: u32 = 14;
 
 /// The block of slot 0: the superblock and three journals come before it.
-const FIRST_DATA_BLOCK: u16 = 4;
+pub(crate) const FIRST_DATA_BLOCK: u16 = 4;
 
 /// The data blocks behind the journals, as slots.
 ///
@@ -125,7 +125,8 @@ impl<N: Nor> Slots<N> {
     {
         match self.header(slot)? {
             Header::Live(tag) => {
-                self.journal.read(slot + FIRST_DATA_BLOCK, CONTENT_PLACE, into)?;
+                self.journal
+                    .read(slot + FIRST_DATA_BLOCK, CONTENT_PLACE, into)?;
                 Ok(Some(tag))
             }
             Header::Free => Ok(None),
@@ -151,7 +152,8 @@ impl<N: Nor> Slots<N> {
     {
         let header = begun_header(tag);
         fill(&mut self.journal, slot + FIRST_DATA_BLOCK, &header, content)?;
-        self.journal.program(slot + FIRST_DATA_BLOCK, 0, &[COMMITTED])
+        self.journal
+            .program(slot + FIRST_DATA_BLOCK, 0, &[COMMITTED])
     }
 
     /// Makes a slot dead. Cut, it leaves a live slot as it was or dead.
@@ -205,7 +207,12 @@ impl<N: Nor> Slots<N> {
 }
 
 /// Programs a header that is begun, and the 14 pages of its group, into a block that is erased. Cut, it leaves no live slot.
-fn fill<N: Nor>(journal: &mut Journal<N>, block: u16, header: &[u8], content: &[u8]) -> Result<(), NorError>
+fn fill<N: Nor>(
+    journal: &mut Journal<N>,
+    block: u16,
+    header: &[u8],
+    content: &[u8],
+) -> Result<(), NorError>
     requires data { 4 ≤ block }
     requires number { block < block_count (length journal.old.memory) }
     requires header { length header.now ≡ 4 }
@@ -225,7 +232,11 @@ fn fill<N: Nor>(journal: &mut Journal<N>, block: u16, header: &[u8], content: &[
     journal.program(block, 0, header)?;
     for page in 0..PAGES {
         let from = PAGE_LEN * page as usize;
-        journal.program(block, CONTENT_PLACE + 256 * page, &content[from..from + PAGE_LEN])?;
+        journal.program(
+            block,
+            CONTENT_PLACE + 256 * page,
+            &content[from..from + PAGE_LEN],
+        )?;
     }
     Ok(())
 }

@@ -1,11 +1,12 @@
-use Rattle.std.proofs.Common.{◌≡◌, ◌∙◌, ℕ, ◌+◌, ◌*◌, ◌≤◌, ◌<◌, ap, arith, length}
+use Rattle.std.proofs.Common.{◌≡◌, ◌∙◌, ◌+◌, ◌*◌, ◌≤◌, ap, arith, length}
 use Rattle.std.specs.Prelude.{slice_range}
 use Rattle.std.proofs.lemmas.Result.{err_from_is_err_and}
 use Rattle.chip_model.specs.Memory.{byte, and_at}
 use Rattle.erase_journal.specs.Blocks.{block}
 use Rattle.slot_store.specs.Filling.{filled}
 use Rattle.slot_store.proofs.Writes.{begun-cut, filled-none, filled-page, filled-first, length-filled, page-cut}
-use Rattle.slot_store.proofs.Calls.{kept-after, only-after}
+use Rattle.slot_store.specs.StepLaws.{kept-after}
+use Rattle.slot_store.proofs.Calls.{only-after}
 use Rattle.slot_store.proofs.slots.fill.Goals as goal
 
 pub returns-in_err-program-clause-cut : goal.returns-in_err-program-clause-cut
@@ -19,7 +20,7 @@ loop-page-init g c = record {
   only = c.in_ok-program.ensures.only;
   settled = c.in_ok-program.ensures.settled;
   ready = c.in_ok-program.ensures.ready;
-  kept = c.in_ok-program.ensures.kept
+  kept = c.in_ok-program.ensures.kept;
 }
 
 pub returns-in_err-program-2-clause-cut : goal.returns-in_err-program-2-clause-cut
@@ -44,5 +45,5 @@ loop-page-preserved g c =
       only = only-after c.args.block c.args.journal.now.memory c.loop-page.journal.memory c.program-in-loop-page.new.self.memory c.loop-page.invariant.only c.in_ok-program-2.ensures.only;
       settled = c.in_ok-program-2.ensures.settled;
       ready = c.loop-page.invariant.ready;
-      kept = kept-after c.args.journal.now c.loop-page.journal c.program-in-loop-page.new.self c.loop-page.invariant.kept c.in_ok-program-2.ensures.kept
+      kept = kept-after c.args.journal.now c.loop-page.journal c.program-in-loop-page.new.self c.loop-page.invariant.kept c.in_ok-program-2.ensures.kept;
     }

@@ -1,4 +1,4 @@
-use Rattle.std.proofs.Common.{◌≡◌, ◌*◌, ℕ}
+use Rattle.std.proofs.Common.{◌≡◌, ◌*◌}
 use Rattle.nor_driver.specs.State.{IsReady, Kept}
 use Rattle.erase_journal.specs.Journals.{IsSettled}
 use Rattle.erase_journal.specs.Blocks.{block, blank, OnlyBlock}
@@ -11,5 +11,5 @@ invariant-loop-page g l = record {
   only : OnlyBlock l.block l.fn.journal.memory l.journal.memory;
   settled : IsSettled l.journal.memory;
   ready : IsReady l.fn.journal;
-  kept : Kept l.fn.journal l.journal
+  kept : Kept l.fn.journal l.journal;
 }

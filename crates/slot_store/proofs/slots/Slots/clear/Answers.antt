@@ -1,4 +1,4 @@
-use Rattle.std.proofs.Common.{◌≡◌, ◌+◌, ◌<◌}
+use Rattle.std.proofs.Common.{◌+◌, ◌<◌}
 use Rattle.std.proofs.lemmas.Result.{on_ok_weaker}
 use Rattle.erase_journal.specs.Blocks.{block}
 use Rattle.slot_store.specs.Slots.{slot_count}

@@ -1,8 +1,7 @@
-use Rattle.std.proofs.Common.{◌≡◌, ◌∙◌, ◌+◌, ◌<◌, ap, sym, arith, length}
+use Rattle.std.proofs.Common.{◌≡◌, ◌∙◌, ◌+◌, ap, sym, arith, length}
 use Rattle.std.specs.Prelude.{slice_range}
 use Rattle.erase_journal.specs.Blocks.{block}
 use Rattle.erase_journal.specs.BlockLaws.{length-block}
-use Rattle.slot_store.specs.Slots.{slot_at, header_in}
 use Rattle.slot_store.proofs.BlockKinds.{live-read}
 use Rattle.slot_store.proofs.slots.Slots.get.Goals as goal
 

@@ -1,4 +1,4 @@
-use Rattle.std.proofs.Common.{◌≡◌, ◌∙◌, ◌+◌}
+use Rattle.std.proofs.Common.{◌∙◌, ◌+◌}
 use Rattle.erase_journal.specs.Blocks.{block}
 use Rattle.slot_store.proofs.BlockKinds.{header-read}
 use Rattle.slot_store.proofs.slots.Slots.header.Goals as goal

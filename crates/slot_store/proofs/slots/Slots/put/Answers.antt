@@ -1,8 +1,8 @@
-use Rattle.std.proofs.Common.{◌≡◌, ◌+◌, ◌<◌, ℕ, ap, arith, length}
+use Rattle.std.proofs.Common.{◌+◌, ◌<◌, ℕ, arith}
 use Rattle.std.proofs.lemmas.Result.{on_ok_weaker}
 use Rattle.chip_model.specs.Memory.{byte}
 use Rattle.erase_journal.specs.Blocks.{block}
-use Rattle.slot_store.specs.Slots.{slot_of, slot_count, IsWritable}
+use Rattle.slot_store.specs.Slots.{slot_of, slot_count}
 use Rattle.slot_store.specs.SlotLaws.{block-clean, live-not-free}
 use Rattle.slot_store.proofs.Writes.{committed, commit-cut}
 use Rattle.slot_store.proofs.Calls.{only-after, committed-leaves, committed-clean}

@@ -1,4 +1,4 @@
-use Rattle.std.proofs.Common.{◌≡◌, ◌+◌, ◌<◌, arith, length}
+use Rattle.std.proofs.Common.{◌+◌, ◌<◌, arith}
 use Rattle.std.proofs.lemmas.Result.{on_ok_weaker}
 use Rattle.erase_journal.specs.Blocks.{block}
 use Rattle.erase_journal.specs.BlockLaws.{length-block}
