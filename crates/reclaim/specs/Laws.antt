@@ -1,10 +1,7 @@
 -- What follows from the definitions, for the crates above and for a reader. Source: own.
 use Rattle.std.specs.Prelude.{◌≡◌, ◌↔◌, ℕ, ◌+◌, List, length}
 use Rattle.chip_model.specs.Geometry.{IsChipSize}
-use Rattle.nor_driver.specs.State.{NorState}
-use Rattle.nor_driver.specs.declared.error.NorError.{NorError}
 use Rattle.slot_store.specs.Slots.{Free, Dead, IsClean, IsWritable}
-use Rattle.slot_store.specs.Steps.{Succeeds, Refuses}
 use Rattle.reclaim.specs.Reclaim.{HasRoom, HasNone, Clears, Takes, Keeps}
 use Rattle.reclaim.specs.Counts.{dead_slots}
 
@@ -29,10 +26,3 @@ TakingLeavesRoom = (w : ℕ) (m m' : List ℕ) → Takes w m m' → HasRoom m �
 
 abbrev pub KeepingLeavesRoom : Type 0
 KeepingLeavesRoom = (m m' : List ℕ) → Keeps m m' → HasRoom m → HasRoom m'
-
--- calls that answered Ok leave together what one leaves, and a refusal after one that answered Ok is the refusal of both
-abbrev pub SuccessesMakeOne : Type 0
-SuccessesMakeOne = (a b c : NorState) → Succeeds a b → Succeeds b c → Succeeds a c
-
-abbrev pub SuccessThenRefusal : Type 0
-SuccessThenRefusal = (e : NorError) (a b c : NorState) → Succeeds a b → Refuses e b c → Refuses e a c

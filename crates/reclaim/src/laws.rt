@@ -1,5 +1,5 @@
 // What follows from the definitions, with no work at run time. Source: own.
-ghost use Rattle.reclaim.specs.Laws.{NeverFull, ClearingLeavesFewer, NoneAreDead, TakenIsWritable, TakingLeavesRoom, KeepingLeavesRoom, SuccessesMakeOne, SuccessThenRefusal};
+ghost use Rattle.reclaim.specs.Laws.{NeverFull, ClearingLeavesFewer, NoneAreDead, TakenIsWritable, TakingLeavesRoom, KeepingLeavesRoom};
 
 /// Where each live slot holds a group of its own, a slot is free or dead.
 pub fn never_full()
@@ -29,14 +29,4 @@ pub fn taking_leaves_room()
 /// And after a call that was cut.
 pub fn keeping_leaves_room()
     ensures { KeepingLeavesRoom }
-{}
-
-/// Two calls of a store of slots that answered Ok leave together what one leaves.
-pub fn successes_make_one()
-    ensures { SuccessesMakeOne }
-{}
-
-/// A refusal after a call that answered Ok is the refusal of both together.
-pub fn success_then_refusal()
-    ensures { SuccessThenRefusal }
 {}

@@ -17,7 +17,7 @@ mod lowest;
 mod reclaim;
 
 pub use laws::{
-    clearing_leaves_fewer, keeping_leaves_room, never_full, none_are_dead, success_then_refusal,
-    successes_make_one, taken_is_writable, taking_leaves_room,
+    clearing_leaves_fewer, keeping_leaves_room, never_full, none_are_dead, taken_is_writable,
+    taking_leaves_room,
 };
 pub use reclaim::Reclaim;
