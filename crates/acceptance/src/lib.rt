@@ -13,6 +13,8 @@ mod chips;
 #[cfg(test)]
 mod discovery;
 #[cfg(test)]
+mod free_slots;
+#[cfg(test)]
 mod journal;
 #[cfg(test)]
 mod protection;
