@@ -1,2 +1,5 @@
 pub mod Worked
 pub mod Replacing
+pub mod Tables
+pub mod Calls
+pub mod Retiring

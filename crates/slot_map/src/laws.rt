@@ -1,5 +1,5 @@
 // What follows from the definitions, with no work at run time. Source: own.
-ghost use Rattle.slot_map.specs.Laws.{GroupsHaveOneContent, SoundGroupsAreComputed, GroupsHaveSevenSectors, PutsLeaveOldOrNew, RetiringTheOlderKeepsGroups, ClearingKeepsGroups, NewerSlotsHoldGroups};
+ghost use Rattle.slot_map.specs.Laws.{GroupsHaveOneContent, SoundGroupsAreComputed, GroupsHaveSevenSectors, PutsLeaveOldOrNew, RetiringTheOlderKeepsGroups, ClearingKeepsGroups, NewerSlotsHoldGroups, SoundMapsHaveRoom, TablesNameHolders};
 
 /// A group has at most one content, whatever the slots are.
 pub fn groups_have_one_content()
@@ -35,4 +35,14 @@ pub fn clearing_keeps_groups()
 /// no slot holds is zeros.
 pub fn newer_slots_hold_groups()
     ensures { NewerSlotsHoldGroups }
+{}
+
+/// In sound slots with no two of a group, each live slot holds a group of the chip that no other holds.
+pub fn sound_maps_have_room()
+    ensures { SoundMapsHaveRoom }
+{}
+
+/// A table that was made names the slot that holds each group.
+pub fn tables_name_holders()
+    ensures { TablesNameHolders }
 {}
