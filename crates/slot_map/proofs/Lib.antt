@@ -1,3 +1,6 @@
 pub mod Worked
 pub mod Replacing
 pub mod Empty
+pub mod Tables
+pub mod Calls
+pub mod Retiring

@@ -20,10 +20,10 @@ use Rattle.slot_map.specs.declared.held.Held.{Held}
 pub chip-after : (a b c : List ℕ) → SameChip a b → SameChip b c → SameChip a c
 chip-after a b c p q = record { same_length = q.same_length ∙ p.same_length; superblock = λ k low. q.superblock k low ∙ p.superblock k low }
 
-back-through : (f f' : ℕ → Slot) (n w h s : ℕ) (i : Generation) (z : List ℕ) → OthersKept n w f f' → Without f' w h → LiveAt f' n s h i z → LiveAt f n s h i z
+pub back-through : (f f' : ℕ → Slot) (n w h s : ℕ) (i : Generation) (z : List ℕ) → OthersKept n w f f' → Without f' w h → LiveAt f' n s h i z → LiveAt f n s h i z
 back-through f f' n w h s i z only out l = elim (cases_eq s w) [ inl same ↦ absurd (out i z (ap f' (sym same) ∙ l.is)) | inr other ↦ moved-back f f' n w s h i z only other l ]
 
-on-through : (f f' : ℕ → Slot) (n w h s : ℕ) (i : Generation) (z : List ℕ) → OthersKept n w f f' → Without f w h → LiveAt f n s h i z → LiveAt f' n s h i z
+pub on-through : (f f' : ℕ → Slot) (n w h s : ℕ) (i : Generation) (z : List ℕ) → OthersKept n w f f' → Without f w h → LiveAt f n s h i z → LiveAt f' n s h i z
 on-through f f' n w h s i z only out l = elim (cases_eq s w) [ inl same ↦ absurd (out i z (ap f (sym same) ∙ l.is)) | inr other ↦ moved f f' n w s h i z only other l ]
 
 -- the holder of a group that slot w neither held nor holds

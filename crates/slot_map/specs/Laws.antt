@@ -1,5 +1,5 @@
 -- What follows from the definitions, for the crates above and for a reader. Source: own.
-use Rattle.std.specs.Prelude.{◌≡◌, ◌≢◌, ◌⊎◌, ℕ, zero, suc, ◌<◌, List, length}
+use Rattle.std.specs.Prelude.{slice_index_or, ◌≡◌, ◌≢◌, ◌⊎◌, ℕ, zero, suc, ◌<◌, List, length}
 use Rattle.chip_model.specs.Geometry.{IsChipSize, group_count}
 use Rattle.nor_layout.specs.declared.header.Generation.{Generation}
 use Rattle.nor_layout.specs.declared.header.Generation.TheVariants.{Zero, One, Two, Three}
@@ -7,9 +7,13 @@ use Rattle.nor_layout.specs.declared.header.Tag.{Tag}
 use Rattle.nor_layout.specs.Headers.{next_generation}
 use Rattle.erase_journal.specs.Journals.{IsSettled}
 use Rattle.erase_journal.specs.Blocks.{IsErasedBehind}
-use Rattle.slot_store.specs.Slots.{Slot, Free, Live, Dead, slot_at, slot_count, IsClean, OnlySlot}
+use Rattle.slot_store.specs.Slots.{NoGeneration, Slot, Free, Live, Dead, slot_at, slot_count, IsClean, OnlySlot}
 use Rattle.slot_store.specs.Steps.{PutLeaves}
-use Rattle.slot_map.specs.Groups.{zeros, LiveAt, GroupIs, SoundSlots, NextGeneration, with_group, group_content, group_at, IsSoundMap, IsSingle, HoldsGroups}
+use Rattle.slot_map.specs.declared.entry.Entry.{Entry}
+use Rattle.slot_map.specs.declared.entry.Entry.TheVariants.{Absent}
+use Rattle.slot_map.specs.Replace.{HeldBy}
+use Rattle.slot_map.specs.Table.{IsTableOf, holder}
+use Rattle.slot_map.specs.Groups.{zeros, LiveAt, GroupIs, SoundSlots, NextGeneration, with_group, group_content, group_at, IsSingle, HoldsGroups, IsSoundMap}
 
 -- a group has at most one content, whatever the slots are
 abbrev pub GroupsHaveOneContent : Type 0
@@ -66,3 +70,16 @@ NewerSlotsHoldGroups = (x y : List ℕ)
 abbrev pub ErasedChipsHoldZeros : Type 0
 ErasedChipsHoldZeros = (m : List ℕ) → IsChipSize (length m) → IsErasedBehind m
     → IsSettled m × IsClean m × IsSoundMap m × IsSingle m × ((g : ℕ) → group_at m g ≡ zeros)
+
+-- In sound slots with no two of a group, each live slot holds a group of the chip that no other holds, and none is without a
+-- generation: what has to stand where a free slot is asked for.
+abbrev pub SoundMapsHaveRoom : Type 0
+SoundMapsHaveRoom = (m : List ℕ) → IsSoundMap m → IsSingle m
+    → ((s : ℕ) (tag : Tag) (x : List ℕ) → s < slot_count m → slot_at m s ≡ Live tag x → tag.group < group_count (length m))
+    × ((s t : ℕ) (a b : Tag) (x y : List ℕ) → s < slot_count m → t < slot_count m → slot_at m s ≡ Live a x → slot_at m t ≡ Live b y
+    → a.group ≡ b.group → s ≡ t)
+    × ((s : ℕ) → s < slot_count m → slot_at m s ≢ NoGeneration)
+
+-- the table of a memory names the slot that holds each group
+abbrev pub TablesNameHolders : Type 0
+TablesNameHolders = (table : List Entry) (m : List ℕ) (g : ℕ) → IsTableOf table m → g < length table → HeldBy (holder (slice_index_or table g Absent)) g m

@@ -1,5 +1,5 @@
 // What follows from the definitions, with no work at run time. Source: own.
-ghost use Rattle.slot_map.specs.Laws.{GroupsHaveOneContent, SoundGroupsAreComputed, GroupsHaveSevenSectors, PutsLeaveOldOrNew, RetiringTheOlderKeepsGroups, ClearingKeepsGroups, NewerSlotsHoldGroups, ErasedChipsHoldZeros};
+ghost use Rattle.slot_map.specs.Laws.{GroupsHaveOneContent, SoundGroupsAreComputed, GroupsHaveSevenSectors, PutsLeaveOldOrNew, RetiringTheOlderKeepsGroups, ClearingKeepsGroups, NewerSlotsHoldGroups, ErasedChipsHoldZeros, SoundMapsHaveRoom, TablesNameHolders};
 
 use slot_store::erased_chips_have_free_slots;
 
@@ -45,3 +45,13 @@ pub fn erased_chips_hold_zeros()
 {
     erased_chips_have_free_slots();
 }
+
+/// In sound slots with no two of a group, each live slot holds a group of the chip that no other holds.
+pub fn sound_maps_have_room()
+    ensures { SoundMapsHaveRoom }
+{}
+
+/// A table that was made names the slot that holds each group.
+pub fn tables_name_holders()
+    ensures { TablesNameHolders }
+{}
