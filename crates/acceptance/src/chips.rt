@@ -7,7 +7,7 @@ use std::test::*;
 
 /// What a call ended with.
 #[derive(Clone, Copy, Debug, PartialEq, Eq)]
-pub enum End {
+pub(crate) enum End {
     Done,
     Cut,
     Slow,
@@ -32,14 +32,14 @@ pub fn of_erase(answer: Result<(), NorError>) -> End {
 }
 
 /// The memory of an erased chip.
-pub fn erased(alloc: Global) -> Result<Vec<u8>, Fail> {
+pub(crate) fn erased(alloc: Global) -> Result<Vec<u8>, Fail> {
     let mut bytes = Vec::new(alloc);
     bytes.resize(65_536, 0xFF)?;
     Ok(bytes)
 }
 
 /// Sets a byte.
-pub fn set(bytes: &mut [u8], at: usize, byte: u8) -> Result<(), Fail> {
+pub(crate) fn set(bytes: &mut [u8], at: usize, byte: u8) -> Result<(), Fail> {
     let Some(place) = bytes.get_mut(at) else {
         return Err(Fail::new("a place past the chip"));
     };
@@ -48,7 +48,7 @@ pub fn set(bytes: &mut [u8], at: usize, byte: u8) -> Result<(), Fail> {
 }
 
 /// Sets the bytes from a place up to another.
-pub fn fill(bytes: &mut [u8], from: usize, to: usize, byte: u8) -> Result<(), Fail> {
+pub(crate) fn fill(bytes: &mut [u8], from: usize, to: usize, byte: u8) -> Result<(), Fail> {
     for at in from..to {
         set(bytes, at, byte)?;
     }
@@ -64,7 +64,7 @@ fn byte_at(bytes: &[u8], at: usize) -> Result<u8, Fail> {
 }
 
 /// The four bytes from a place on.
-pub fn four(bytes: &[u8], at: usize) -> Result<[u8; 4], Fail> {
+pub(crate) fn four(bytes: &[u8], at: usize) -> Result<[u8; 4], Fail> {
     let (low, high) = (at.saturating_add(1), at.saturating_add(2));
     let last = at.saturating_add(3);
     Ok([
@@ -76,7 +76,7 @@ pub fn four(bytes: &[u8], at: usize) -> Result<[u8; 4], Fail> {
 }
 
 /// A chip with this memory whose `cut`-th change is cut, 0 for none; a cut change leaves what `mask` says.
-pub fn chip(alloc: Global, bytes: &[u8], cut: u32, mask: u8) -> Result<SimChip, Fail> {
+pub(crate) fn chip(alloc: Global, bytes: &[u8], cut: u32, mask: u8) -> Result<SimChip, Fail> {
     let mut copy = Vec::new(alloc);
     copy.extend_from_slice(bytes)?;
     let mut chip = SimChip::new(copy)?;
@@ -93,7 +93,7 @@ pub fn driver(chip: SimChip) -> Result<Driver<SimChip>, Fail> {
 }
 
 /// A recovery: its end, and the memory after it.
-pub fn recover(chip: SimChip) -> Result<(End, Vec<u8>), Fail> {
+pub(crate) fn recover(chip: SimChip) -> Result<(End, Vec<u8>), Fail> {
     match Journal::recover(driver(chip)?) {
         Ok(journal) => Ok((End::Done, journal.into_inner().into_inner().into_inner())),
         Err((driver, error)) => Ok((of_recovery(error), driver.into_inner().into_inner())),
@@ -101,7 +101,7 @@ pub fn recover(chip: SimChip) -> Result<(End, Vec<u8>), Fail> {
 }
 
 /// An erase of block 4 by a chip that recovers: its end, and the memory after it.
-pub fn erase(chip: SimChip) -> Result<(End, Vec<u8>), Fail> {
+pub(crate) fn erase(chip: SimChip) -> Result<(End, Vec<u8>), Fail> {
     match Journal::recover(driver(chip)?) {
         Ok(mut journal) => {
             let end = of_erase(journal.erase(4));

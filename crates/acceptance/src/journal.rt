@@ -49,6 +49,64 @@ fn an_erase_makes_four_changes(rt: HostRuntime) -> Result<(), Fail> {
 }
 
 #[test]
+fn entries_are_taken_from_the_lowest_one_upwards(rt: HostRuntime) -> Result<(), Fail> {
+    let mut bytes = erased(rt.alloc())?;
+    set(&mut bytes, BLOCK_4, 0xF8)?;
+    for taken in 1..4usize {
+        let (end, after) = erase(chip(rt.alloc(), &bytes, 0, 0)?)?;
+        assert_eq!(rt; end, End::Done);
+        for entry in 0..4usize {
+            let left = four(&after, ENTRIES + 4 * entry)?;
+            if entry < taken {
+                assert_eq!(rt; left, [0xF8, 0x04, 0x00, 0xFF], "entry {entry}");
+            } else {
+                assert_eq!(rt; left, [0xFF; 4], "entry {entry}");
+            }
+        }
+        bytes = after;
+        set(&mut bytes, BLOCK_4, 0xF8)?;
+    }
+    Ok(())
+}
+
+#[test]
+fn votes_are_taken_from_the_lowest_one_upwards(rt: HostRuntime) -> Result<(), Fail> {
+    let mut bytes = erased(rt.alloc())?;
+    set(&mut bytes, J1_FOR_0, 0xFE)?;
+    fill(&mut bytes, J2_FOR_0, J2_FOR_0 + 2, 0xFC)?;
+    let (_, opened) = recover(chip(rt.alloc(), &bytes, 1, 0xFF)?)?;
+    assert_eq!(rt; four(&opened, J2_FOR_0)?, [0xFC, 0xFC, 0xFE, 0xFF]);
+    let (end, after) = recover(chip(rt.alloc(), &bytes, 0, 0)?)?;
+    assert_eq!(rt; end, End::Done);
+    assert_eq!(rt; four(&after, J1_FOR_0)?, [0xFC, 0xFF, 0xFF, 0xFF]);
+    assert_eq!(rt; four(&after, J2_FOR_0)?, [0xFC, 0xFC, 0xFC, 0xFF]);
+    Ok(())
+}
+
+#[test]
+fn maintenance_comes_before_the_erase_that_needs_it(rt: HostRuntime) -> Result<(), Fail> {
+    // Of J0's 512 entries the last is free: an erase takes it, and J0 is renewed before the next.
+    let mut bytes = erased(rt.alloc())?;
+    set(&mut bytes, BLOCK_4, 0xF8)?;
+    for entry in 0..511usize {
+        let at = ENTRIES + 4 * entry;
+        set(&mut bytes, at, 0xF8)?;
+        set(&mut bytes, at + 1, 0x04)?;
+        set(&mut bytes, at + 2, 0x00)?;
+    }
+    assert_eq!(rt; changes_of_erase(rt.alloc(), &bytes)?, 4);
+    let (_, full) = erase(chip(rt.alloc(), &bytes, 0, 0)?)?;
+    assert_eq!(rt; four(&full, ENTRIES)?, [0xF8, 0x04, 0x00, 0xFF]);
+    assert_eq!(rt; four(&full, ENTRIES + 4 * 511)?, [0xF8, 0x04, 0x00, 0xFF]);
+    assert_eq!(rt; changes_of_recovery(rt.alloc(), &full)?, 0);
+    assert_eq!(rt; changes_of_erase(rt.alloc(), &full)?, 9);
+    let (_, after) = erase(chip(rt.alloc(), &full, 0, 0)?)?;
+    assert_eq!(rt; four(&after, ENTRIES)?, [0xF8, 0x04, 0x00, 0xFF]);
+    assert_eq!(rt; four(&after, ENTRIES + 4)?, [0xFF; 4]);
+    Ok(())
+}
+
+#[test]
 fn an_erase_that_was_asked_for_goes_on(rt: HostRuntime) -> Result<(), Fail> {
     let mut bytes = erased(rt.alloc())?;
     set(&mut bytes, J1_FOR_0, 0xFE)?;

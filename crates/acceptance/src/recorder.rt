@@ -7,14 +7,14 @@ use std::test::*;
 
 /// A bus that counts its frames, also those that are lost, and keeps the codes of the first sixteen.
 #[derive(Drop)]
-pub struct Recorder {
+pub(crate) struct Recorder {
     inner: SimChip,
     codes: [u8; 16],
     frames: u32,
 }
 
 impl Recorder {
-    pub fn new(inner: SimChip) -> Recorder {
+    pub(crate) fn new(inner: SimChip) -> Recorder {
         Recorder {
             inner,
             codes: [0; 16],
@@ -23,11 +23,11 @@ impl Recorder {
     }
 
     /// The codes of the first sixteen frames, 00h where there was none.
-    pub fn codes(&self) -> [u8; 16] {
+    pub(crate) fn codes(&self) -> [u8; 16] {
         self.codes
     }
 
-    pub fn frames(&self) -> u32 {
+    pub(crate) fn frames(&self) -> u32 {
         self.frames
     }
 }
@@ -64,7 +64,7 @@ impl SpiBus for Recorder {
 }
 
 /// An erased chip of so many bytes.
-pub fn erased_chip(rt: HostRuntime, size: usize) -> Result<SimChip, Fail> {
+pub(crate) fn erased_chip(rt: HostRuntime, size: usize) -> Result<SimChip, Fail> {
     let mut bytes = Vec::new(rt.alloc());
     bytes.resize(size, 0xFF)?;
     Ok(SimChip::new(bytes)?)

@@ -2,3 +2,4 @@ pub mod Case
 pub mod Figures
 pub mod Rounds
 pub mod Stream
+pub mod Call

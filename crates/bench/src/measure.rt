@@ -17,7 +17,7 @@ use std::rt::Clock;
 use std::time::Instant;
 
 /// How often the rounds of a case are timed; the least time counts.
-const GOES: u32 = 64;
+pub const GOES: u32 = 64;
 
 /// Why a case has no row.
 #[derive(Clone, Copy, Debug, PartialEq, Eq)]
@@ -28,6 +28,8 @@ pub enum Failure {
     NoClock,
     /// A round wasn't answered, or left an operation in progress.
     PowerLost,
+    /// The driver or the journals refused a chip or a call.
+    Refused,
 }
 
 /// What the clock tells.
@@ -41,7 +43,7 @@ pub fn now(clock: &impl Clock) -> Result<Instant, Failure>
 }
 
 /// Bytes of FFh.
-fn filled(alloc: Global, count: usize) -> Result<Vec<u8>, Failure>
+pub fn filled(alloc: Global, count: usize) -> Result<Vec<u8>, Failure>
     ensures bytes { IfOk result (λ bytes. length bytes.items ≡ count) }
     ensures refused { OnErr result (result ≡ Err Failure.NoMemory) }
 {
@@ -53,7 +55,8 @@ fn filled(alloc: Global, count: usize) -> Result<Vec<u8>, Failure>
 }
 
 /// A simulated chip as large as the area, behind a meter.
-fn new_chip(alloc: Global) -> Result<Meter<SimChip>, Failure>
+pub fn new_chip(alloc: Global) -> Result<Meter<SimChip>, Failure>
+    ensures size { IfOk result (λ m. length (chip_of m.bus).memory ≡ 1048576) }
     ensures idle { IfOk result (λ m. is_idle (chip_of m.bus).operation ≡ true) }
     ensures frames { IfOk result (λ m. m.frames ≡ 0) }
     ensures refused { OnErr result (result ≡ Err Failure.NoMemory) }

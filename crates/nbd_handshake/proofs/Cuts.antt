@@ -7,7 +7,7 @@ use Rattle.nbd_wire.specs.declared.phase.Phase.{Phase}
 use Rattle.nbd_wire.specs.declared.phase.Phase.TheVariants.{AwaitingFlags, Negotiating, Transmitting, Closed}
 use Rattle.nbd_wire.specs.Options.{option_at, case_of, phase_after, reply_in_case}
 use Rattle.nbd_wire.specs.Units.{data_len, IsUnit, after, after_option}
-use Rattle.nbd_wire.proofs.UnitLaws.{option_front}
+use Rattle.nbd_wire.specs.Cutting.{option_front}
 use Rattle.nbd_handshake.specs.Negotiating.{IsNegotiation, reply_of, reply_to}
 
 long_case : (o : OptionHead) (c d : List ℕ) → 8192 < o.length → case_of o c ≡ case_of o d

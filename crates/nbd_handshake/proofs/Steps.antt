@@ -5,7 +5,8 @@ use Rattle.nbd_wire.specs.declared.phase.Phase.{Phase}
 use Rattle.nbd_wire.specs.declared.phase.Phase.TheVariants.{AwaitingFlags, Negotiating, Transmitting, Closed}
 use Rattle.nbd_wire.specs.Units.{head_len, tail_len, IsOpen, IsUnit, after}
 use Rattle.nbd_wire.specs.Standing.{Held, Keeps, StandsFor, Waits}
-use Rattle.nbd_wire.proofs.UnitLaws.{tail_front, short_is_partial, Splits_more, Splits_unit}
+use Rattle.nbd_wire.specs.Cutting.{tail_front, short_is_partial}
+use Rattle.nbd_wire.proofs.UnitLaws.{Splits_more, Splits_unit}
 use Rattle.nbd_wire.proofs.StandingLaws.{holds_the_rest, stands_waiting, stands_completed}
 use Rattle.nbd_handshake.specs.declared.handshake.Next.{Next}
 use Rattle.nbd_handshake.specs.declared.handshake.Next.TheVariants.{More, Stay, Transmit, Close}

@@ -8,7 +8,8 @@ use Rattle.nbd_wire.specs.declared.phase.Phase.TheVariants.{Transmitting, Closed
 use Rattle.nbd_wire.specs.Heads.{request_at}
 use Rattle.nbd_wire.specs.Units.{payload_len, IsUnit, IsPartial, Splits}
 use Rattle.nbd_wire.specs.Standing.{Held, Keeps, StandsFor, Waits, Completes}
-use Rattle.nbd_wire.proofs.UnitLaws.{request_front, short_is_partial, partial_is_short, Splits_more, Splits_unit}
+use Rattle.nbd_wire.specs.Cutting.{request_front, short_is_partial}
+use Rattle.nbd_wire.proofs.UnitLaws.{partial_is_short, Splits_more, Splits_unit}
 use Rattle.nbd_wire.proofs.StandingLaws.{holds_the_rest, stands_waiting, stands_completed}
 use Rattle.nbd_transmission.specs.declared.transmission.Next.{Next}
 use Rattle.nbd_transmission.specs.declared.transmission.Next.TheVariants.{More, Run, Refused, Close}

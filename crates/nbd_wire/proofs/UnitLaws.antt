@@ -1,35 +1,11 @@
 -- There is one cutting of a text into units, and more bytes only add units to it.
-use Rattle.std.proofs.Common.{◌≡◌, ℕ, zero, suc, ◌+◌, ◌<◌, ◌≤◌, ◌⊎◌, List, [], ◌∷◌, ◌++◌, length, take, drop, refl, sym, ap, subst, ◌∙◌, append_assoc, arith, inl, inr}
+use Rattle.std.proofs.Common.{◌≡◌, ℕ, ◌+◌, ◌<◌, ◌≤◌, List, [], ◌∷◌, ◌++◌, length, take, drop, refl, sym, ap, subst, ◌∙◌, append_assoc, arith, inl, inr}
 use Rattle.std.proofs.lemmas.Bool.{cases_lt}
-use Rattle.std.proofs.lemmas.List.{take_at, drop_at, take-append-drop, drop-append-le, length-drop, length-append, length-take-le, append-nil}
-use Rattle.byteorder.specs.Endian.{big_number}
-use Rattle.byteorder.specs.Numbers.{big_from-append}
+use Rattle.std.proofs.lemmas.List.{take_at, drop_at, take-append-drop, length-append, append-nil}
 use Rattle.nbd_wire.specs.declared.phase.Phase.{Phase}
 use Rattle.nbd_wire.specs.declared.phase.Phase.TheVariants.{AwaitingFlags, Negotiating, Transmitting, Closed}
-use Rattle.nbd_wire.specs.Heads.{request_at}
-use Rattle.nbd_wire.specs.Options.{option_at}
-use Rattle.nbd_wire.specs.Units.{head_len, data_len, payload_len, tail_len, IsOpen, IsUnit, IsPartial, after, Splits}
-
-number_front : (n at : ℕ) (u x : List ℕ) → at + n ≤ length u → big_number n (drop at (u ++ x)) ≡ big_number n (drop at u)
-number_front n at u x long =
-    rw (drop-append-le at u x (omega arith)) (big_from-append n (drop at u) x (omega (arith, length-drop at u)))
-
-pub request_front : (u x : List ℕ) → 28 ≤ length u → request_at (u ++ x) ≡ request_at u
-unfolding request_at
-request_front u x long =
-    rw (number_front 4 0 u x (omega arith), number_front 2 4 u x (omega arith), number_front 2 6 u x (omega arith), number_front 8 8 u x (omega arith), number_front 8 16 u x (omega arith), number_front 4 24 u x (omega arith)) refl
-
-pub option_front : (u x : List ℕ) → 16 ≤ length u → option_at (u ++ x) ≡ option_at u
-unfolding option_at
-option_front u x long =
-    rw (number_front 8 0 u x (omega arith), number_front 4 8 u x (omega arith), number_front 4 12 u x (omega arith)) refl
-
--- what follows a head is told by the head
-pub tail_front : (p : Phase) (u x : List ℕ) → head_len p ≤ length u → tail_len p (u ++ x) ≡ tail_len p u
-tail_front AwaitingFlags u x long = refl
-tail_front (Negotiating no_zeroes) u x long = ap data_len (option_front u x long)
-tail_front Transmitting u x long = ap payload_len (request_front u x long)
-tail_front Closed u x long = refl
+use Rattle.nbd_wire.specs.Units.{head_len, tail_len, IsOpen, IsUnit, IsPartial, after, Splits}
+use Rattle.nbd_wire.specs.Cutting.{tail_front, head_pos, first_unit, cut}
 
 -- no unit begins another
 pub one_front : (p : Phase) (u v x y : List ℕ) → IsUnit p u → IsUnit p v → u ++ x ≡ v ++ y → (u ≡ v) × (x ≡ y)
@@ -37,14 +13,6 @@ one_front p u v x y hu hv e =
     let tails : tail_len p u ≡ tail_len p v = sym (tail_front p u x hu.whole_head) ∙ ap (tail_len p) e ∙ tail_front p v y hv.whole_head in
     let lens : length u ≡ length v = omega (arith, hu.whole, hv.whole) in
     (sym (take_at u x (length v) lens) ∙ ap (take (length v)) e ∙ take_at v y (length v) refl, sym (drop_at u x (length v) lens) ∙ ap (drop (length v)) e ∙ drop_at v y (length v) refl)
-
--- what is shorter than its head or than its head says is no unit yet
-pub short_is_partial : (p : Phase) (rest : List ℕ) → (head_len p ≤ length rest → length rest < head_len p + tail_len p rest) → IsPartial p rest
-short_is_partial p rest short u more e h =
-    let lens : length rest ≡ length u + length more = ap length e ∙ length-append u more in
-    let tails : tail_len p rest ≡ tail_len p u = ap (tail_len p) e ∙ tail_front p u more h.whole_head in
-    let small = short (omega (arith, h.whole_head)) in
-    omega (arith, h.whole)
 
 pub Splits_one : (p : Phase) (text : List ℕ) (us vs : List (List ℕ)) (r s : List ℕ) (q e : Phase) → Splits p text us r q → Splits p text vs s e → (us ≡ vs) × (r ≡ s) × (q ≡ e)
 Splits_one p text [] [] r s q e a b = (refl, sym a.1 ∙ b.1, sym a.0 ∙ b.0)
@@ -65,54 +33,6 @@ pub Splits_join : (p : Phase) (text x : List ℕ) (us ws : List (List ℕ)) (r s
 Splits_join p text x [] ws r s q e a b = rw (a.1, a.0) b
 Splits_join p text x (u ∷ us) ws r s q e a b =
     (a.0 ++ x, ap (λ (t : List ℕ). t ++ x) a.1 ∙ append_assoc u a.0 x, a.2, Splits_join (after p u) a.0 x us ws r s q e a.3 b)
-
--- each text has a cutting
-abbrev pub Cut : Phase → List ℕ → Type 0
-Cut p text = (us : List (List ℕ)) × (r : List ℕ) × (q : Phase) × Splits p text us r q
-
-pub head_pos : (p : Phase) → IsOpen p → 0 < head_len p
-head_pos AwaitingFlags h = omega arith
-head_pos (Negotiating no_zeroes) h = omega arith
-head_pos Transmitting h = omega arith
-head_pos Closed h = absurd h
-
-first_unit : (p : Phase) (text : List ℕ) → IsOpen p → head_len p ≤ length text → head_len p + tail_len p text ≤ length text → IsUnit p (take (head_len p + tail_len p text) text)
-first_unit p text open_p head whole =
-    let n = head_len p + tail_len p text in
-    let u = take n text in
-    let len : length u ≡ n = length-take-le n text whole in
-    let tails : tail_len p text ≡ tail_len p u = ap (tail_len p) (sym (take-append-drop n text)) ∙ tail_front p u (drop n text) (omega arith) in
-    record { is_open = open_p; whole_head = omega arith; whole = omega arith }
-
-open_or : (p : Phase) → IsOpen p ⊎ (IsOpen p → ⊥)
-open_or AwaitingFlags = inl tt
-open_or (Negotiating no_zeroes) = inl tt
-open_or Transmitting = inl tt
-open_or Closed = inr (λ h. h)
-
-stop : (p : Phase) (text : List ℕ) → IsPartial p text → Cut p text
-stop p text h = ([], text, p, (refl, refl, h))
-
-cut_within : (k : ℕ) (p : Phase) (text : List ℕ) → length text < k → Cut p text
-cut_within zero p text lt = absurd (omega arith)
-cut_within (suc k) p text lt =
-    let n = head_len p + tail_len p text in
-    elim (open_or p) [
-      | inr shut ↦ stop p text (λ u more e h. shut h.is_open)
-      | inl open_p ↦ elim (cases_lt (length text) (head_len p)) [
-        | inl short ↦ stop p text (short_is_partial p text (λ long. absurd (omega arith)))
-        | inr head ↦ elim (cases_lt (length text) n) [
-          | inl short ↦ stop p text (short_is_partial p text (λ _. short))
-          | inr whole ↦
-              let pos = head_pos p open_p in
-              let more = cut_within k (after p (take n text)) (drop n text) (omega (arith, length-drop n text)) in
-              (take n text ∷ more.0, more.1, more.2, (drop n text, sym (take-append-drop n text), first_unit p text open_p head whole, more.3))
-        ]
-      ]
-    ]
-
-pub cut : (p : Phase) (text : List ℕ) → Cut p text
-cut p text = cut_within (suc (length text)) p text (omega arith)
 
 -- the units of a text are a beginning of those of any longer text
 pub units_begin : (p : Phase) (text x : List ℕ) (us vs : List (List ℕ)) (r s : List ℕ) (q e : Phase) → Splits p text us r q → Splits p (text ++ x) vs s e → (ws : List (List ℕ)) × (vs ≡ us ++ ws)

@@ -69,3 +69,30 @@ first_failing (row ∷ rows) = if row.0 then Some row.1 else first_failing rows
 -- the error that refuses a command on a disk of so many sectors
 unfoldable pub judge_of : Command → ℕ → Option ℕ
 judge_of c sectors = first_failing (checks c sectors)
+
+-- The bytes that are lent to a command are a WRITE's payload, or the room for a READ's data: how many they are
+abbrev pub lent_len_of : CommandKind → Command → ℕ
+lent_len_of Read c = c.length
+lent_len_of Write c = c.length
+lent_len_of Disconnect c = 0
+lent_len_of Flush c = 0
+lent_len_of (Unknown n) c = 0
+
+-- the payload among them
+abbrev pub payload_in_of : CommandKind → List ℕ → List ℕ
+payload_in_of Read bytes = []
+payload_in_of Write bytes = bytes
+payload_in_of Disconnect bytes = []
+payload_in_of Flush bytes = []
+payload_in_of (Unknown n) bytes = []
+
+abbrev pub payload_in : Command → List ℕ → List ℕ
+payload_in c bytes = payload_in_of c.kind bytes
+
+-- the reply's data among them: those of a READ
+abbrev pub data_in_of : CommandKind → List ℕ → List ℕ
+data_in_of Read bytes = bytes
+data_in_of Write bytes = []
+data_in_of Disconnect bytes = []
+data_in_of Flush bytes = []
+data_in_of (Unknown n) bytes = []

@@ -9,7 +9,8 @@ use Rattle.nbd_wire.specs.declared.phase.Phase.TheVariants.{AwaitingFlags, Negot
 use Rattle.nbd_wire.specs.Heads.{request_at}
 use Rattle.nbd_wire.specs.Commands.{command_of, is_disconnect, judge_of, kind_of}
 use Rattle.nbd_wire.specs.Units.{Splits, after, after_request}
-use Rattle.nbd_wire.proofs.UnitLaws.{cut, Splits_one, Splits_join}
+use Rattle.nbd_wire.specs.Cutting.{cut}
+use Rattle.nbd_wire.proofs.UnitLaws.{Splits_one, Splits_join}
 use Rattle.nbd_handshake.specs.Negotiating.{reply_to}
 use Rattle.session.specs.Parts.{Part, Last, negotiated, judged, requested, part_of, parts_from, parts, closes, closed}
 

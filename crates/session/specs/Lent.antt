@@ -4,38 +4,13 @@ use Rattle.nbd_wire.specs.declared.command.Command.{Command}
 use Rattle.nbd_wire.specs.declared.command.CommandKind.{CommandKind}
 use Rattle.nbd_wire.specs.declared.command.CommandKind.TheVariants.{Read, Write, Disconnect, Flush, Unknown}
 use Rattle.nbd_wire.specs.Commands.{is_disconnect, judge_of}
+pub use Rattle.nbd_wire.specs.Commands.{data_in_of, lent_len_of, payload_in, payload_in_of}
 use Rattle.nbd_transmission.specs.Apply.{data_of, head_of}
 
--- how many they are
-abbrev pub lent_len_of : CommandKind → Command → ℕ
-lent_len_of Read c = c.length
-lent_len_of Write c = c.length
-lent_len_of Disconnect c = 0
-lent_len_of Flush c = 0
-lent_len_of (Unknown n) c = 0
-
+-- how many they are: none where no command runs
 abbrev pub lent_len : Option Command → ℕ
 lent_len None = 0
 lent_len (Some c) = lent_len_of c.kind c
-
--- the payload among them
-abbrev pub payload_in_of : CommandKind → List ℕ → List ℕ
-payload_in_of Read bytes = []
-payload_in_of Write bytes = bytes
-payload_in_of Disconnect bytes = []
-payload_in_of Flush bytes = []
-payload_in_of (Unknown n) bytes = []
-
-abbrev pub payload_in : Command → List ℕ → List ℕ
-payload_in c bytes = payload_in_of c.kind bytes
-
--- the reply's data among them: those of a READ
-abbrev pub data_in_of : CommandKind → List ℕ → List ℕ
-data_in_of Read bytes = bytes
-data_in_of Write bytes = []
-data_in_of Disconnect bytes = []
-data_in_of Flush bytes = []
-data_in_of (Unknown n) bytes = []
 
 -- how many bytes of data follow the head of a reply
 abbrev pub data_len_of : CommandKind → Command → ℕ

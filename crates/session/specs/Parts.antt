@@ -9,7 +9,7 @@ use Rattle.nbd_wire.specs.declared.phase.Phase.TheVariants.{AwaitingFlags, Negot
 use Rattle.nbd_wire.specs.Heads.{request_at}
 use Rattle.nbd_wire.specs.Commands.{command_of, is_disconnect, judge_of, kind_of}
 use Rattle.nbd_wire.specs.Units.{Splits, after}
-use Rattle.nbd_wire.proofs.UnitLaws.{cut}
+use Rattle.nbd_wire.specs.Cutting.{cut}
 use Rattle.nbd_handshake.specs.Negotiating.{reply_to}
 use Rattle.nbd_transmission.specs.Apply.{head_of}
 

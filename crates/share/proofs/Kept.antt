@@ -8,7 +8,7 @@ use Rattle.nbd_wire.specs.Commands.{judge_of, moves_data}
 use Rattle.nbd_transmission.specs.Apply.{data_of, data_of_kind, changed_by, changed_kind}
 use Rattle.share.specs.declared.recorder.Row.{Row}
 use Rattle.share.specs.declared.recorder.Interrupted.{Interrupted}
-use Rattle.share.specs.Lent.{is_read, is_read_of, lent_len, lent_len_of, payload_in_of, payload_len_of, reply_in, reply_in_of}
+use Rattle.share.specs.Lent.{is_read, is_read_of, lent_len, lent_len_of, payload_in_of, payload_len_of, reply_in, data_in_of}
 use Rattle.share.specs.History.{row_of, after_row, replay, has_failed, MayStand, IsLegal, rows_with}
 use Rattle.share.specs.State.{IsKept}
 
@@ -44,7 +44,7 @@ payload-length Flush c bytes bytes' same long = refl
 payload-length (Unknown n) c bytes bytes' same long = refl
 
 -- the data of an accepted command that moves none is the same on all contents
-data-same : (k : CommandKind) (c : Command) (d e : List ℕ) (bytes : List ℕ) → (moves_data k ≡ true → e ≡ d) → reply_in_of k bytes ≡ data_of_kind k d c → reply_in_of k bytes ≡ data_of_kind k e c
+data-same : (k : CommandKind) (c : Command) (d e : List ℕ) (bytes : List ℕ) → (moves_data k ≡ true → e ≡ d) → data_in_of k bytes ≡ data_of_kind k d c → data_in_of k bytes ≡ data_of_kind k e c
 data-same Read c d e bytes same h = h ∙ ap (λ (x : List ℕ). data_of_kind Read x c) (sym (same refl))
 data-same Write c d e bytes same h = h
 data-same Disconnect c d e bytes same h = h

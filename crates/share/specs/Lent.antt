@@ -3,30 +3,13 @@ use Rattle.std.specs.Prelude.{ℕ, ◌==◌, List, [], Bool, true, false, if◌t
 use Rattle.nbd_wire.specs.declared.command.Command.{Command}
 use Rattle.nbd_wire.specs.declared.command.CommandKind.{CommandKind}
 use Rattle.nbd_wire.specs.declared.command.CommandKind.TheVariants.{Read, Write, Disconnect, Flush, Unknown}
+pub use Rattle.nbd_wire.specs.Commands.{data_in_of, lent_len_of, payload_in, payload_in_of}
 
 -- how many they are
-abbrev pub lent_len_of : CommandKind → Command → ℕ
-lent_len_of Read c = c.length
-lent_len_of Write c = c.length
-lent_len_of Disconnect c = 0
-lent_len_of Flush c = 0
-lent_len_of (Unknown n) c = 0
-
 abbrev pub lent_len : Command → ℕ
 lent_len c = lent_len_of c.kind c
 
--- the payload among them
-abbrev pub payload_in_of : CommandKind → List ℕ → List ℕ
-payload_in_of Read bytes = []
-payload_in_of Write bytes = bytes
-payload_in_of Disconnect bytes = []
-payload_in_of Flush bytes = []
-payload_in_of (Unknown n) bytes = []
-
-abbrev pub payload_in : Command → List ℕ → List ℕ
-payload_in c bytes = payload_in_of c.kind bytes
-
--- how long it is
+-- how long the payload is
 abbrev pub payload_len_of : CommandKind → Command → ℕ
 payload_len_of Read c = 0
 payload_len_of Write c = c.length
@@ -35,15 +18,8 @@ payload_len_of Flush c = 0
 payload_len_of (Unknown n) c = 0
 
 -- the reply's data among them
-abbrev pub reply_in_of : CommandKind → List ℕ → List ℕ
-reply_in_of Read bytes = bytes
-reply_in_of Write bytes = []
-reply_in_of Disconnect bytes = []
-reply_in_of Flush bytes = []
-reply_in_of (Unknown n) bytes = []
-
 abbrev pub reply_in : Command → ℕ → List ℕ → List ℕ
-reply_in c error bytes = if error == 0 then reply_in_of c.kind bytes else []
+reply_in c error bytes = if error == 0 then data_in_of c.kind bytes else []
 
 -- they stay as they were, but for a READ, whose room is filled
 abbrev pub is_read_of : CommandKind → Bool

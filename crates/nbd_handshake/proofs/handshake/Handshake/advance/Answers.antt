@@ -2,7 +2,7 @@ use Rattle.std.proofs.Common.{◌≡◌, ℕ, ◌+◌, ◌-◌, ◌≤◌, min, 
 use Rattle.std.proofs.lemmas.Bool.{cases_lt}
 use Rattle.std.proofs.lemmas.List.{length-take}
 use Rattle.nbd_wire.specs.Units.{head_len, tail_len, IsUnit, after}
-use Rattle.nbd_wire.proofs.UnitLaws.{tail_front}
+use Rattle.nbd_wire.specs.Cutting.{tail_front}
 use Rattle.nbd_handshake.specs.Fronts.{HasFront}
 use Rattle.nbd_handshake.specs.Negotiating.{IsNegotiation, reply_to}
 use Rattle.nbd_handshake.proofs.Cuts.{same_answer}

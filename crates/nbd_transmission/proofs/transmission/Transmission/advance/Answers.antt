@@ -5,7 +5,7 @@ use Rattle.nbd_wire.specs.Heads.{request_at}
 use Rattle.nbd_wire.specs.Units.{IsUnit, payload_len}
 use Rattle.nbd_wire.specs.Standing.{Held}
 use Rattle.nbd_wire.specs.declared.phase.Phase.TheVariants.{Transmitting}
-use Rattle.nbd_wire.proofs.UnitLaws.{request_front}
+use Rattle.nbd_wire.specs.Cutting.{request_front}
 use Rattle.nbd_transmission.specs.Taking.{is_accepted_write, answer_of, answer_to}
 use Rattle.nbd_transmission.proofs.Answered.{answer_is_accepted}
 use Rattle.nbd_transmission.proofs.Steps.{head_grows, whole_head, payload_short, payload_grows, request_in_head, length_used, waits, completes}
