@@ -3,3 +3,4 @@ pub mod Replacing
 pub mod Tables
 pub mod Calls
 pub mod Retiring
+pub mod MapSteps
