@@ -4,3 +4,4 @@ pub mod Empty
 pub mod Tables
 pub mod Calls
 pub mod Retiring
+pub mod MapSteps

@@ -193,10 +193,6 @@ free-stands f f' n w count groups only free e = quiet-stands f f' n w count grou
 pub dead-stands : (f f' : ℕ → Slot) (n w count : ℕ) (groups : ℕ → List ℕ) → OthersKept n w f f' → f w ≡ Free → f' w ≡ Dead → Stands f n count groups → Stands f' n count groups
 dead-stands f f' n w count groups only free e = quiet-stands f f' n w count groups only (λ h. free-without f w h free) (λ h. dead-without f' w h e) (dead-whole (f' w) e)
 
--- a dead slot that is made free
-pub clear-stands : (f f' : ℕ → Slot) (n w count : ℕ) (groups : ℕ → List ℕ) → OthersKept n w f f' → f w ≡ Dead → f' w ≡ Free → Stands f n count groups → Stands f' n count groups
-clear-stands f f' n w count groups only dead e = quiet-stands f f' n w count groups only (λ h. dead-without f w h dead) (λ h. free-without f' w h e) (free-whole (f' w) e)
-
 -- a put that was done
 pub put-done : (f f' : ℕ → Slot) (n w g : ℕ) (k : Generation) (count : ℕ) (x : List ℕ) (groups : ℕ → List ℕ) → w < n → g < count → f w ≡ Free → OthersKept n w f f'
     → f' w ≡ Live (record { group = g; generation = k }) x → Single f n → NextGeneration f n g k → Stands f n count groups → Stands f' n count (with_group groups g x)
@@ -222,3 +218,19 @@ retire-stands f f' n w b g j k count x y groups only old l other generation (inr
 }
 retire-stands f f' n w b g j k count x y groups only old l other generation (inl e) s =
     same-stands f f' n count groups (λ c high. elim (cases_eq c b) as (λ _. f' c ≡ f c) [ inl cb ↦ ap f' cb ∙ (e ∙ ap f (sym cb)) | inr cb ↦ only.each c high cb ]) s
+
+-- dead slots that are made free, perhaps none
+pub freed-back : (f f' : ℕ → Slot) (n : ℕ) → ((s : ℕ) → s < n → (f' s ≡ f s) ⊎ ((f s ≡ Dead) × (f' s ≡ Free))) → (s g : ℕ) (k : Generation) (x : List ℕ) → LiveAt f' n s g k x → LiveAt f n s g k x
+freed-back f f' n each s g k x l = elim (each s l.number) [ inl same ↦ record { number = l.number; is = sym same ∙ l.is } | inr p ↦ absurd (free-without f' s g p.1 k x l.is) ]
+
+pub freed-on : (f f' : ℕ → Slot) (n : ℕ) → ((s : ℕ) → s < n → (f' s ≡ f s) ⊎ ((f s ≡ Dead) × (f' s ≡ Free))) → (s g : ℕ) (k : Generation) (x : List ℕ) → LiveAt f n s g k x → LiveAt f' n s g k x
+freed-on f f' n each s g k x l = elim (each s l.number) [ inl same ↦ record { number = l.number; is = same ∙ l.is } | inr p ↦ absurd (dead-without f s g p.0 k x l.is) ]
+
+freed-whole : (f f' : ℕ → Slot) (n : ℕ) → ((s : ℕ) → s < n → (f' s ≡ f s) ⊎ ((f s ≡ Dead) × (f' s ≡ Free))) → ((s : ℕ) → s < n → f s ≢ NoGeneration) → (s : ℕ) → s < n → f' s ≢ NoGeneration
+freed-whole f f' n each whole s low e = elim (each s low) [ inl same ↦ whole s low (sym same ∙ e) | inr p ↦ free-whole (f' s) p.1 e ]
+
+pub freed-stands : (f f' : ℕ → Slot) (n count : ℕ) (groups : ℕ → List ℕ) → ((s : ℕ) → s < n → (f' s ≡ f s) ⊎ ((f s ≡ Dead) × (f' s ≡ Free))) → Stands f n count groups → Stands f' n count groups
+freed-stands f f' n count groups each s = record {
+  sound = sound-fewer f f' n count (freed-back f f' n each) (freed-whole f f' n each s.sound.whole) s.sound;
+  maps = record { each = λ h r. group-fewer f f' n h (groups h) (λ c i z m. freed-back f f' n each c h i z m) (λ c i z m. freed-on f f' n each c h i z m) (s.maps.each h r) };
+}

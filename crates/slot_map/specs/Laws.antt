@@ -1,18 +1,19 @@
 -- What follows from the definitions, for the crates above and for a reader. Source: own.
-use Rattle.std.specs.Prelude.{slice_index_or, ◌≡◌, ◌≢◌, ◌⊎◌, ℕ, zero, suc, ◌<◌, List, length}
+use Rattle.std.specs.Prelude.{Option, slice_index_or, ◌≡◌, ◌≢◌, ◌⊎◌, ℕ, zero, suc, ◌<◌, List, length}
 use Rattle.chip_model.specs.Geometry.{IsChipSize, group_count}
 use Rattle.nor_layout.specs.declared.header.Generation.{Generation}
 use Rattle.nor_layout.specs.declared.header.Generation.TheVariants.{Zero, One, Two, Three}
 use Rattle.nor_layout.specs.declared.header.Tag.{Tag}
 use Rattle.nor_layout.specs.Headers.{next_generation}
 use Rattle.erase_journal.specs.Journals.{IsSettled}
-use Rattle.erase_journal.specs.Blocks.{IsErasedBehind}
+use Rattle.erase_journal.specs.Blocks.{IsErasedBehind, SameChip}
 use Rattle.slot_store.specs.Slots.{NoGeneration, Slot, Free, Live, Dead, slot_at, slot_count, IsClean, OnlySlot}
 use Rattle.slot_store.specs.Steps.{PutLeaves}
+use Rattle.slot_map.specs.declared.held.Held.{Held}
 use Rattle.slot_map.specs.declared.entry.Entry.{Entry}
 use Rattle.slot_map.specs.declared.entry.Entry.TheVariants.{Absent}
-use Rattle.slot_map.specs.Replace.{HeldBy}
-use Rattle.slot_map.specs.Table.{IsTableOf, holder}
+use Rattle.slot_map.specs.Replace.{HeldBy, Replaces}
+use Rattle.slot_map.specs.Table.{IsTableOf, Settled, holder}
 use Rattle.slot_map.specs.Groups.{zeros, LiveAt, GroupIs, SoundSlots, NextGeneration, with_group, group_content, group_at, IsSingle, HoldsGroups, IsSoundMap}
 
 -- a group has at most one content, whatever the slots are
@@ -40,10 +41,12 @@ RetiringTheOlderKeepsGroups = (w b g : ℕ) (j k : Generation) (x y m m' : List 
     → LiveAt (slot_at m) (slot_count m) b g j y → LiveAt (slot_at m) (slot_count m) w g k x → w ≢ b → k ≡ next_generation j
     → (slot_at m' b ≡ slot_at m b) ⊎ (slot_at m' b ≡ Dead) → HoldsGroups groups m → HoldsGroups groups m'
 
--- A dead slot that is cleared changes no group.
+-- Where dead slots are cleared, and nothing else, each group, and which slot holds it, is as it was.
 abbrev pub ClearingKeepsGroups : Type 0
-ClearingKeepsGroups = (w : ℕ) (m m' : List ℕ) (groups : ℕ → List ℕ) → OnlySlot w m m' → slot_at m w ≡ Dead → slot_at m' w ≡ Free
-    → HoldsGroups groups m → HoldsGroups groups m'
+ClearingKeepsGroups = (m m' : List ℕ) → SameChip m m'
+    → ((s : ℕ) → s < slot_count m → (slot_at m' s ≡ slot_at m s) ⊎ ((slot_at m s ≡ Dead) × (slot_at m' s ≡ Free)))
+    → ((groups : ℕ → List ℕ) → HoldsGroups groups m → HoldsGroups groups m') × (IsSingle m → IsSingle m')
+    × ((g : ℕ) (holder : Option Held) → HeldBy holder g m → HeldBy holder g m')
 
 -- Four slots: two hold group 5, of the generations Three and Zero; one is dead, and one free.
 abbrev pub four_slots : (x y : List ℕ) → ℕ → Slot
@@ -83,3 +86,8 @@ SoundMapsHaveRoom = (m : List ℕ) → IsSoundMap m → IsSingle m
 -- the table of a memory names the slot that holds each group
 abbrev pub TablesNameHolders : Type 0
 TablesNameHolders = (table : List Entry) (m : List ℕ) (g : ℕ) → IsTableOf table m → g < length table → HeldBy (holder (slice_index_or table g Absent)) g m
+
+-- a table follows a group's write, by its new holder alone
+abbrev pub TablesFollowReplaces : Type 0
+TablesFollowReplaces = (table table' : List Entry) (m m' : List ℕ) (g : ℕ) (x : List ℕ) (now : Held) → Replaces g x now m m' → IsTableOf table m
+    → Settled table g now table' → IsTableOf table' m'

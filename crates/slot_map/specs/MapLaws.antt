@@ -13,7 +13,7 @@ use Rattle.erase_journal.specs.BlockLaws.{length-block}
 use Rattle.slot_store.specs.Slots.{Slot, Free, Live, Dead, slot_with, slot_of, slot_at, slot_count, OnlySlot}
 use Rattle.slot_store.specs.Steps.{PutLeaves, still_free, half_written, written}
 use Rattle.slot_map.specs.Groups.{zeros, LiveAt, NextGeneration, Stands, with_group, OthersKept, is_of, generation_in, content_in, is_next, newer, winner, group_at, IsSoundMap, IsSingle, HoldsGroups}
-use Rattle.slot_map.specs.GroupLaws.{put-done, free-stands, dead-stands, clear-stands, retire-stands, same-stands}
+use Rattle.slot_map.specs.GroupLaws.{put-done, free-stands, dead-stands, retire-stands, same-stands}
 use Rattle.slot_map.specs.WinnerLaws.{stands-computed, sound-stands}
 
 pub others-kept : (w : ℕ) (m m' : List ℕ) → OnlySlot w m m' → OthersKept (slot_count m) w (slot_at m) (slot_at m')
@@ -44,11 +44,6 @@ pub retire-holds : (w b g : ℕ) (j k : Generation) (x y m m' : List ℕ) (group
     → k ≡ next_generation j → (slot_at m' b ≡ slot_at m b) ⊎ (slot_at m' b ≡ Dead) → HoldsGroups groups m → HoldsGroups groups m'
 retire-holds w b g j k x y m m' groups only old new other generation left s =
     holds-after m m' groups only.chip (retire-stands (slot_at m) (slot_at m') (slot_count m) w b g j k (group_count (length m)) x y groups (others-kept b m m' only) old new other generation left s)
-
--- a dead slot was made free
-pub clear-holds : (w : ℕ) (m m' : List ℕ) (groups : ℕ → List ℕ) → OnlySlot w m m' → slot_at m w ≡ Dead → slot_at m' w ≡ Free → HoldsGroups groups m → HoldsGroups groups m'
-clear-holds w m m' groups only dead free s =
-    holds-after m m' groups only.chip (clear-stands (slot_at m) (slot_at m') (slot_count m) w (group_count (length m)) groups (others-kept w m m' only) dead free s)
 
 -- the same slots
 pub same-holds : (m m' : List ℕ) (groups : ℕ → List ℕ) → SameChip m m' → ((s : ℕ) → s < slot_count m → slot_at m' s ≡ slot_at m s) → HoldsGroups groups m → HoldsGroups groups m'

@@ -1,5 +1,5 @@
 // What follows from the definitions, with no work at run time. Source: own.
-ghost use Rattle.slot_map.specs.Laws.{GroupsHaveOneContent, SoundGroupsAreComputed, GroupsHaveSevenSectors, PutsLeaveOldOrNew, RetiringTheOlderKeepsGroups, ClearingKeepsGroups, NewerSlotsHoldGroups, ErasedChipsHoldZeros, SoundMapsHaveRoom, TablesNameHolders};
+ghost use Rattle.slot_map.specs.Laws.{GroupsHaveOneContent, SoundGroupsAreComputed, GroupsHaveSevenSectors, PutsLeaveOldOrNew, RetiringTheOlderKeepsGroups, ClearingKeepsGroups, NewerSlotsHoldGroups, ErasedChipsHoldZeros, SoundMapsHaveRoom, TablesNameHolders, TablesFollowReplaces};
 
 use slot_store::erased_chips_have_free_slots;
 
@@ -28,7 +28,7 @@ pub fn retiring_the_older_keeps_groups()
     ensures { RetiringTheOlderKeepsGroups }
 {}
 
-/// A dead slot that is cleared changes no group.
+/// Where dead slots are cleared, and nothing else, each group, and which slot holds it, is as it was.
 pub fn clearing_keeps_groups()
     ensures { ClearingKeepsGroups }
 {}
@@ -54,4 +54,9 @@ pub fn sound_maps_have_room()
 /// A table that was made names the slot that holds each group.
 pub fn tables_name_holders()
     ensures { TablesNameHolders }
+{}
+
+/// A table follows a group's write, by its new holder alone.
+pub fn tables_follow_replaces()
+    ensures { TablesFollowReplaces }
 {}

@@ -29,7 +29,7 @@ pub use laws::{
     clearing_keeps_groups, erased_chips_hold_zeros, groups_have_one_content,
     groups_have_seven_sectors, newer_slots_hold_groups, puts_leave_old_or_new,
     retiring_the_older_keeps_groups, sound_groups_are_computed, sound_maps_have_room,
-    tables_name_holders,
+    tables_follow_replaces, tables_name_holders,
 };
 pub use mount::mount_in;
 pub use replace::{find_in, replace_in};
