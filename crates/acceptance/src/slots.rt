@@ -225,3 +225,18 @@ fn a_retired_slot_is_dead_and_a_cleared_one_free(rt: HostRuntime) -> Result<(), 
     assert_eq!(rt; is_free(rt.alloc(), &free, 0)?, true);
     Ok(())
 }
+
+#[test]
+fn a_cut_armed_through_the_slots_comes(rt: HostRuntime) -> Result<(), Fail> {
+    let content = group(rt.alloc())?;
+    let mut slots = slots(chip(rt.alloc(), &erased(rt.alloc())?, 0, 0)?)?;
+    if slots.count() != 12 || content.len() != CONTENT_LEN {
+        let _memory = memory_of(slots);
+        return Err(Fail::new("another chip or group"));
+    }
+    slots.arm(16, 1, 0xFF);
+    let end = of_erase(slots.put(0, FIRST, &content));
+    let _memory = memory_of(slots);
+    assert_eq!(rt; end, End::Cut);
+    Ok(())
+}
