@@ -1,15 +1,9 @@
 // The slot that is given on a chip of 64 KiB, of 12 slots and 10 groups, and what tidying clears.
-ghost use Rattle.std.specs.Prelude.{◌≡◌, ◌<◌, length, IfOk, IsTrue};
-ghost use Rattle.chip_model.specs.Geometry.{IsChipSize};
-ghost use Rattle.slot_store.specs.Slots.{slot_at, slot_count};
-ghost use Rattle.reclaim.specs.Reclaim.{HasRoom};
-ghost use Rattle.acceptance.specs.Homes.{IsHome};
-
 use crate::chips::{End, chip, driver, erased, four, recover, set};
+use crate::room::has_room;
 use erase_journal::Journal;
 use fault_model::SimChip;
-use nor_driver::{Driver, Nor, NorError};
-use nor_layout::Header;
+use nor_driver::{Driver, NorError};
 use reclaim::Reclaim;
 use slot_store::Slots;
 use std::alloc::Global;
@@ -62,34 +56,6 @@ fn slots(chip: SimChip) -> Result<Slots<Driver<SimChip>>, Fail> {
 /// The chip's memory behind its slots.
 fn memory_of(slots: Slots<Driver<SimChip>>) -> Vec<u8> {
     slots.into_inner().into_inner().into_inner().into_inner()
-}
-
-/// Whether a slot, where it is live, holds the group of its own number.
-fn is_home<N: Nor>(slots: &mut Slots<N>, slot: u16) -> Result<bool, NorError>
-    requires number { slot < slot_count slots.old.memory }
-    ensures ok { IfOk result (λ is. IsTrue is → IsHome slot (slot_at slots.old.memory slot)) }
-    ensures same { slots.new.memory ≡ slots.old.memory }
-{
-    match slots.header(slot)? {
-        Header::Free => Ok(true),
-        Header::Live(tag) => Ok(tag.group == slot && slot < 10),
-        Header::NoGeneration => Ok(false),
-        Header::Dead => Ok(true),
-    }
-}
-
-/// Whether each live slot holds the group of its own number.
-#[tactic(auto, using(crate::proofs::Homes::homes_room))]
-fn has_room<N: Nor>(slots: &mut Slots<N>) -> Result<bool, NorError>
-    ensures ok { IfOk result (λ is. IsTrue is → HasRoom slots.new.memory) }
-{
-    let count = slots.count();
-    for slot in 0..count {
-        if !is_home(slots, slot)? {
-            return Ok(false);
-        }
-    }
-    Ok(true)
 }
 
 /// The slot that is given, or the end of the call, and the memory after it.

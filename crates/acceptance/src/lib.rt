@@ -1,6 +1,6 @@
 //! Tests that cross crates: what no clause of one crate says, and the worked rows of several of them at once.
 //!
-//! There is no product code here. The chip is `fault_model::SimChip`, alone or behind a bus that
+//! There is no product code here. `has_room` decides on a chip what `take_free` asks of its caller. The chip is `fault_model::SimChip`, alone or behind a bus that
 //! keeps the codes of its frames. Expected bytes and answers are those of the tables in docs/CHIP.md, docs/SFDP.md and
 //! docs/LAYOUT.md, worked out by hand.
 
@@ -20,9 +20,12 @@ mod journal;
 mod protection;
 #[cfg(test)]
 mod recorder;
+mod room;
 #[cfg(test)]
 mod slots;
 #[cfg(test)]
 mod sweep;
 #[cfg(test)]
 mod tables;
+
+pub use room::has_room;

@@ -1,7 +1,7 @@
 use Rattle.std.proofs.Common.{◌≡◌, ℕ, ◌<◌}
 use Rattle.slot_store.specs.Slots.{slot_at}
 use Rattle.acceptance.specs.Homes.{IsHome}
-use Rattle.acceptance.proofs.free_slots.has_room.Given as goal
+use Rattle.acceptance.proofs.room.has_room.Given as goal
 
 abbrev pub invariant-loop-slot : goal.invariant-loop-slot
 invariant-loop-slot g l = record {
