@@ -1,0 +1,6 @@
+pub mod Parts
+pub mod Groups
+pub mod Calls
+pub mod Opening
+pub mod Laying
+pub mod Refusing
