@@ -1,4 +1,6 @@
-ghost use Rattle.std.specs.Prelude.{◌≡◌, ◌&&◌, not, true, false, vec_len, IfOk, IfErr};
+ghost use Rattle.std.specs.Prelude.{◌≡◌, ◌⊎◌, ◌<◌, ◌&&◌, not, true, false, vec_len, IfOk, IfErr};
+ghost use Rattle.std.specs.Result.{IsErrOf};
+ghost use Rattle.block_device.specs.Facts.{Goes, RestoreStands, Keeps};
 ghost use Rattle.chip_model.specs.Chip.{is_idle};
 ghost use Rattle.nor_driver.specs.State.{IsReady};
 ghost use Rattle.slot_store.specs.Slots.{IsClean};
@@ -153,7 +155,16 @@ impl<B: SpiBus, P: Provenance> Disk for FlashDisk<B, P> {
         }
     }
 
-    fn restore(&mut self) -> Result<(), DiskError> {
+    // The trait's clauses, and one more: a Slow that stood is answered again only where the memory can't be mounted now.
+    fn restore(&mut self) -> Result<(), DiskError>
+        ensures contents { (⟦<FlashDisk<B, P> as Disk>⟧.facts self.old).sound ≡ true → (⟦<FlashDisk<B, P> as Disk>⟧.facts self.old).slow ≡ false →
+            Keeps (⟦<FlashDisk<B, P> as Disk>⟧.facts self.old).contents result (⟦<FlashDisk<B, P> as Disk>⟧.facts self.new).contents }
+        ensures sound { (⟦<FlashDisk<B, P> as Disk>⟧.facts self.old).slow ≡ false → (⟦<FlashDisk<B, P> as Disk>⟧.facts self.new).sound ≡ (⟦<FlashDisk<B, P> as Disk>⟧.facts self.old).sound }
+        ensures unsound { (⟦<FlashDisk<B, P> as Disk>⟧.facts self.old).sound ≡ false → (⟦<FlashDisk<B, P> as Disk>⟧.facts self.new).sound ≡ false }
+        ensures goes { Goes (⟦<FlashDisk<B, P> as Disk>⟧.facts self.old) (⟦<FlashDisk<B, P> as Disk>⟧.facts self.new) }
+        ensures stands { RestoreStands (⟦<FlashDisk<B, P> as Disk>⟧.facts self.old) result (⟦<FlashDisk<B, P> as Disk>⟧.facts self.new) }
+        ensures again { IsErrOf result DiskError.Slow → ((⟦<FlashDisk<B, P> as Disk>⟧.facts self.old).slows < (⟦<FlashDisk<B, P> as Disk>⟧.facts self.new).slows) ⊎ (IsStore self.new.map.memory → ⊥) }
+    {
         let slow = self.map.is_slow();
         self.doubtful = self.doubtful || slow;
         match self.map.restore() {
