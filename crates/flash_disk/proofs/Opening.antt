@@ -25,13 +25,13 @@ open-fails mounts.Cut a d c cut_count slow_count ready f b = record {
       let k = subst (λ z. KeepsGroups a.memory z) (sym b.memory) (f.keeps m) in
       record { keeps = k; contents = contents-kept a.memory c.memory k };
   idle = b.idle (f.quick ready.1);
-  no_probe = λ t. tt;
+  no_probe = λ t accepted. tt;
 }
 open-fails mounts.Slow a d c cut_count slow_count ready f b = record {
   counts = (b.cuts ∙ f.cuts, elim f.came as (λ _. a.slows < slow_count) [ inl h ↦ (let e = b.slows in omega (arith, h, e)) | inr slow ↦ absurd (cc (ready.1, slow)) ]);
   memory = ap length b.memory ∙ f.size;
   idle = tt;
-  no_probe = λ t. tt;
+  no_probe = λ t accepted. tt;
 }
 open-fails mounts.Corrupt a d c cut_count slow_count ready f b = record {
   counts = (b.cuts ∙ f.cuts, b.slows ∙ f.slows);
@@ -41,19 +41,19 @@ open-fails mounts.Corrupt a d c cut_count slow_count ready f b = record {
     contents = contents-same a.memory c.memory (ap length b.memory ∙ f.size) (λ g low. ap (λ z. group_at z g) b.memory ∙ f.groups g);
   };
   idle = b.idle (f.quick ready.1);
-  no_probe = λ t. tt;
+  no_probe = λ t accepted. accepted;
 }
 open-fails mounts.OutOfMemory a d c cut_count slow_count ready f b = record {
   counts = (b.cuts ∙ f.kept.cuts, b.slows ∙ f.kept.slows);
   memory = b.memory ∙ f.same;
   idle = b.idle (f.kept.is_slow ∙ ready.1);
-  no_probe = λ t. tt;
+  no_probe = λ t accepted. accepted;
 }
 open-fails mounts.NotFormatted a d c cut_count slow_count ready f b = record {
   counts = (b.cuts ∙ f.1.kept.cuts, b.slows ∙ f.1.kept.slows);
   memory = (f.0, b.memory ∙ f.1.same);
   idle = b.idle (f.1.kept.is_slow ∙ ready.1);
-  no_probe = λ t. tt;
+  no_probe = λ t accepted. accepted;
 }
 
 pub opening-fails : (told : DiskError) (e : MountError) (a d : NorState) (c : Chip) (cut_count slow_count : ℕ) → told ≡ refusal_of e → IsReady a → MountFails e a d → StandsBehind d c cut_count slow_count → OpenFails told a c cut_count slow_count

@@ -1,5 +1,6 @@
 -- What a mount of a chip gives, and what it leaves where it is refused. Source: own.
-use Rattle.std.specs.Prelude.{◌≡◌, ◌⊎◌, ℕ, ◌<◌, Bool, true, List, length, Err}
+use Rattle.std.specs.Prelude.{◌≡◌, ◌⊎◌, ℕ, ◌<◌, Bool, true, List, length, Ok, Err}
+use Rattle.sfdp.specs.declared.params.Params.{Params}
 use Rattle.chip_model.specs.Chip.{Chip, is_idle}
 use Rattle.nor_driver.specs.Probe.{probe_answer, told}
 use Rattle.nor_driver.specs.declared.error.ProbeError.TheVariants as probes
@@ -81,16 +82,20 @@ RefusedAt refusals.OutOfMemory m m' = m' ≡ m
 RefusedAt refusals.NotFormatted m m' = (super_of m (geometry_of (length m)) ≡ Err supers.NotFormatted) × (m' ≡ m)
 RefusedAt refusals.Corrupt m m' = CorruptAt m m'
 
--- what the chip told, where that was refused
+-- what the chip tells passes the checks of a probe
+abbrev pub IsAccepted : Chip → Type 0
+IsAccepted c = (p : Params) × (probe_answer (told c) ≡ Ok p)
+
+-- What the chip told, by the refusal: that of the checks of a probe, and else these accept it.
 abbrev pub RefusedAs : MountError → Chip → Type 0
 RefusedAs (refusals.Probe probes.Cut) c = Unit {0}
 RefusedAs (refusals.Probe probes.Slow) c = Unit {0}
 RefusedAs (refusals.Probe probes.WrongId) c = probe_answer (told c) ≡ Err probes.WrongId
 RefusedAs (refusals.Probe (probes.Sfdp e)) c = probe_answer (told c) ≡ Err (probes.Sfdp e)
 RefusedAs (refusals.Probe probes.Protected) c = probe_answer (told c) ≡ Err probes.Protected
-RefusedAs refusals.OutOfMemory c = Unit {0}
-RefusedAs refusals.NotFormatted c = Unit {0}
-RefusedAs refusals.Corrupt c = Unit {0}
+RefusedAs refusals.OutOfMemory c = IsAccepted c
+RefusedAs refusals.NotFormatted c = IsAccepted c
+RefusedAs refusals.Corrupt c = IsAccepted c
 
 -- a map's refusal as a disk's
 abbrev pub refusal_of : maps.MountError → MountError
@@ -105,4 +110,4 @@ pub record OpenFails (e : MountError) (state : NorState) (c : Chip) (cuts slows 
   pub counts : RefusedFor e state.cuts state.slows cuts slows
   pub memory : RefusedAt e state.memory c.memory
   pub idle : IsIdleAfter e c
-  pub no_probe : (told_of : Chip) → RefusedAs e told_of
+  pub no_probe : (told_of : Chip) → IsAccepted told_of → RefusedAs e told_of

@@ -1,4 +1,4 @@
-ghost use Rattle.std.specs.Prelude.{◌≡◌, ◌⊎◌, ◌<◌, ◌&&◌, not, true, false, vec_len, IfOk, IfErr};
+ghost use Rattle.std.specs.Prelude.{◌≡◌, ◌⊎◌, ◌<◌, ◌&&◌, not, true, false, vec_len, OnOk, IfOk, IfErr};
 ghost use Rattle.std.specs.Result.{IsErrOf};
 ghost use Rattle.block_device.specs.Facts.{Goes, RestoreStands, Keeps};
 ghost use Rattle.chip_model.specs.Chip.{is_idle};
@@ -6,7 +6,7 @@ ghost use Rattle.nor_driver.specs.State.{IsReady};
 ghost use Rattle.slot_store.specs.Slots.{IsClean};
 ghost use Rattle.slot_map.specs.Maps.{IsStore};
 ghost use Rattle.flash_disk.specs.Contents.{contents_of};
-ghost use Rattle.flash_disk.specs.Mounting.{IsKnownClean, Opened, OpenedFrom, RefusedFor, RefusedAt, RefusedAs, IsIdleAfter, OpenFails, refusal_of};
+ghost use Rattle.flash_disk.specs.Mounting.{IsKnownClean, Opened, OpenedFrom, RefusedFor, RefusedAt, RefusedAs, IsAccepted, IsIdleAfter, OpenFails, refusal_of};
 
 use crate::error::MountError;
 use crate::pieces::{GROUP_LEN, read_pieces, write_pieces};
@@ -47,6 +47,7 @@ impl<B: SpiBus, P: Provenance> FlashDisk<B, P> {
         ensures opened { IfOk result (λ disk. Opened P.sound (B.cuts bus) (B.slows bus) (⟦<FlashDisk<B, P> as Disk>⟧.facts disk)) }
         ensures from { is_idle (B.chip bus).operation ≡ true
             → IfOk result (λ disk. OpenedFrom (B.chip bus).memory (⟦<FlashDisk<B, P> as Disk>⟧.facts disk)) }
+        ensures accepted { is_idle (B.chip bus).operation ≡ true → OnOk result (IsAccepted (B.chip bus)) }
         ensures refused { IfErr result (λ r. RefusedFor r.1 (B.cuts bus) (B.slows bus) (B.cuts r.0) (B.slows r.0)) }
         ensures left { is_idle (B.chip bus).operation ≡ true → IfErr result (λ r. RefusedAt r.1 (B.chip bus).memory (B.chip r.0).memory) }
         ensures told { is_idle (B.chip bus).operation ≡ true → IfErr result (λ r. RefusedAs r.1 (B.chip bus)) }

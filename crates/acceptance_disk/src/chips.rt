@@ -1,0 +1,104 @@
+// Chips of 64 KiB, the disks on them, and what is asked of both.
+use block_device::{Disk, DiskError};
+use fault_model::SimChip;
+use flash_disk::{FlashDisk, MountError, format};
+use std::alloc::Global;
+use std::marker::Brand;
+use std::test::*;
+
+pub(crate) type OnSim = FlashDisk<SimChip, Brand>;
+
+/// A chip of which each byte is this one.
+pub(crate) fn filled(alloc: Global, byte: u8) -> Result<SimChip, Fail> {
+    let mut bytes = Vec::new(alloc);
+    bytes.resize(65_536, byte)?;
+    Ok(SimChip::new(bytes)?)
+}
+
+/// The memory of a formatted chip.
+pub(crate) fn formatted(alloc: Global) -> Result<Vec<u8>, Fail> {
+    let (chip, answer) = format(filled(alloc, 0xFF)?);
+    answer?;
+    Ok(chip.into_inner())
+}
+
+/// Sets the bytes from a place on to copies of these.
+pub(crate) fn set(memory: &mut [u8], at: usize, copies: usize, bytes: &[u8]) -> Result<(), Fail> {
+    for k in 0..copies.saturating_mul(bytes.len()) {
+        let Some(byte) = memory.get_mut(at.saturating_add(k)) else {
+            return Err(Fail::new("a place past the chip"));
+        };
+        *byte = bytes[k % bytes.len()];
+    }
+    Ok(())
+}
+
+/// How many of the bytes from a place up to another are this one.
+pub(crate) fn count(memory: &[u8], from: usize, to: usize, byte: u8) -> usize {
+    let mut n = 0usize;
+    for at in from..to {
+        if memory.get(at) == Some(&byte) {
+            n = n.saturating_add(1);
+        }
+    }
+    n
+}
+
+/// The disk on a chip with this memory.
+pub(crate) fn mounted(alloc: Global, memory: Vec<u8>) -> Result<OnSim, Fail> {
+    match FlashDisk::mount(alloc, SimChip::new(memory)?) {
+        Ok(disk) => Ok(disk),
+        Err((_chip, _error)) => Err(Fail::new("not mounted")),
+    }
+}
+
+/// Writes whole sectors of a disk; an error where they aren't.
+pub(crate) fn put<D: Disk>(
+    disk: &mut D,
+    first: u32,
+    bytes: &[u8],
+) -> Result<Result<(), DiskError>, Fail> {
+    let room = 512 * disk.sectors() as usize;
+    if bytes.len() % 512 != 0 || bytes.len() > room || 512 * first as usize > room - bytes.len() {
+        return Err(Fail::new("no sectors of the disk"));
+    }
+    Ok(disk.write(first, bytes))
+}
+
+/// Writes `count` sectors of this byte, one or two.
+pub(crate) fn write(
+    disk: &mut OnSim,
+    first: u32,
+    count: usize,
+    byte: u8,
+) -> Result<Result<(), DiskError>, Fail> {
+    let bytes = [byte; 1_024];
+    match bytes.get(..512 * count.min(2)) {
+        Some(bytes) => put(disk, first, bytes),
+        None => Err(Fail::new("more than two sectors")),
+    }
+}
+
+/// The byte that fills a sector.
+pub(crate) fn byte_of(disk: &mut OnSim, sector: u32) -> Result<u8, Fail> {
+    let mut bytes = [0x77u8; 512];
+    if sector >= disk.sectors() {
+        return Err(Fail::new("a sector past the disk"));
+    }
+    if disk.read(sector, &mut bytes) != Ok(()) {
+        return Err(Fail::new("not read"));
+    }
+    if count(&bytes, 0, 512, bytes[0]) != 512 {
+        return Err(Fail::new("a sector of several bytes"));
+    }
+    Ok(bytes[0])
+}
+
+/// The refusal of a mount, and the memory of the chip that it hands back.
+pub(crate) fn refused(alloc: Global, chip: SimChip) -> Result<(MountError, Vec<u8>), Fail> {
+    let answer: Result<OnSim, (SimChip, MountError)> = FlashDisk::mount(alloc, chip);
+    match answer {
+        Ok(_) => Err(Fail::new("mounted")),
+        Err((chip, error)) => Ok((error, chip.into_inner())),
+    }
+}
