@@ -1,22 +1,22 @@
+// The server of one disk: its rows, its replies on the wire, and a disk whose chip never ends a write.
 ghost use Rattle.std.specs.Prelude.{◌≡◌, ◌*◌, ◌<◌, length};
 ghost use Rattle.share.specs.Lent.{lent_len};
 
-use super::*;
+use crate::heads::READ_OF_SECTOR_1;
 use block_device::{Disk, DiskError, FixedIn, FixedOut, PlainDisk, Tally};
 use nbd_transmission::judge;
 use nbd_wire::{Command, CommandFlags, CommandKind};
+use share::{
+    Done, End, FullRecord, Gate, NoRecord, OneServer, Pass, Point, Recorder, Shared, exchange,
+    exchange_alone,
+};
 use std::alloc::Global;
 use std::marker::Brand;
 use std::process::Abort;
 use std::sync::ledger::{Blank, Ledger};
 use std::test::*;
 
-// READ of 512 bytes from 512 on, with the cookie 0102030405060708h.
-const READ_OF_SECTOR_1: [u8; 28] = [
-    0x25, 0x60, 0x95, 0x13, 0, 0, 0, 0, 1, 2, 3, 4, 5, 6, 7, 8, 0, 0, 0, 0, 0, 0, 2, 0, 0, 0, 2, 0,
-];
-
-// The head of its reply: the magic, no error, and the cookie.
+// The head of the reply to READ_OF_SECTOR_1: the magic, no error, and the cookie.
 const HEAD_OF_REPLY: [u8; 16] = [0x67, 0x44, 0x66, 0x98, 0, 0, 0, 0, 1, 2, 3, 4, 5, 6, 7, 8];
 
 // A gate that takes no time.
@@ -147,50 +147,41 @@ fn run_three<R: Recorder, L: OneServer, A: Abort>(
 }
 
 #[test]
-fn a_recording_server_counts_its_rows(rt: HostRuntime) -> Result<(), Fail> {
-    let disk = PlainDisk::new(rt.alloc(), 2)?;
-    record_three::<Brand, _>(&rt, rt.alloc(), disk, 2, Blank::new(65537))
+fn servers_count_their_rows(rt: HostRuntime) -> Result<(), Fail> {
+    let recorded = PlainDisk::new(rt.alloc(), 2)?;
+    let unrecorded = PlainDisk::new(rt.alloc(), 2)?;
+    serve_three::<Brand, Brand, _>(
+        &rt,
+        rt.alloc(),
+        recorded,
+        unrecorded,
+        2,
+        Blank::new(65537),
+        Blank::new(65537),
+    )
 }
 
-fn record_three<L: OneServer, A: Abort>(
+// A server that keeps rows, and one without rows.
+fn serve_three<K: OneServer, L: OneServer, A: Abort>(
     rt: &A,
     alloc: Global,
-    disk: PlainDisk,
+    recorded: PlainDisk,
+    unrecorded: PlainDisk,
     sectors: u32,
+    kept: Blank,
     blank: Blank,
 ) -> Result<(), Fail>
-    requires size { length disk ≡ 512 * sectors }
-    requires sectors { sectors ≡ L.sectors }
-    requires name { blank.name ≡ L.name }
-    requires parts { blank.parts ≡ L.parts }
-    requires all { blank.parts ≡ 65537 }
+    requires sizes { (length recorded ≡ 512 * sectors) × (length unrecorded ≡ 512 * sectors) }
+    requires sectors { (sectors ≡ K.sectors) × (sectors ≡ L.sectors) }
+    requires names { (kept.name ≡ K.name) × (blank.name ≡ L.name) }
+    requires parts { (kept.parts ≡ K.parts) × (blank.parts ≡ L.parts) }
+    requires all { (kept.parts ≡ 65537) × (blank.parts ≡ 65537) }
 {
-    match Shared::<PlainDisk, FullRecord, L>::recording(alloc, disk, blank) {
-        Ok(mut server) => run_three(rt, alloc, &mut server, 3),
+    match Shared::<PlainDisk, FullRecord, K>::recording(alloc, recorded, kept) {
+        Ok(mut server) => run_three(rt, alloc, &mut server, 3)?,
         Err((error, _)) => panic!(rt; "a recording server: {error:?}"),
     }
-}
-
-#[test]
-fn a_server_without_rows_counts_none(rt: HostRuntime) -> Result<(), Fail> {
-    let disk = PlainDisk::new(rt.alloc(), 2)?;
-    serve_three::<Brand, _>(&rt, rt.alloc(), disk, 2, Blank::new(65537))
-}
-
-fn serve_three<L: OneServer, A: Abort>(
-    rt: &A,
-    alloc: Global,
-    disk: PlainDisk,
-    sectors: u32,
-    blank: Blank,
-) -> Result<(), Fail>
-    requires size { length disk ≡ 512 * sectors }
-    requires sectors { sectors ≡ L.sectors }
-    requires name { blank.name ≡ L.name }
-    requires parts { blank.parts ≡ L.parts }
-    requires all { blank.parts ≡ 65537 }
-{
-    let mut server = Shared::<PlainDisk, NoRecord, L>::new(disk, blank);
+    let mut server = Shared::<PlainDisk, NoRecord, L>::new(unrecorded, blank);
     run_three(rt, alloc, &mut server, 0)
 }
 
