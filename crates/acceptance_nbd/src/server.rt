@@ -98,9 +98,10 @@ fn command(kind: CommandKind, offset: u64, length: u32) -> Command
     }
 }
 
-// The error that answers a command.
+// The error that answers a command; the server's name is for a failure.
 fn error_of<D: Disk, R: Recorder, L: OneServer, A: Abort>(
     rt: &A,
+    name: &str,
     server: &mut Shared<D, R, L>,
     pass: &mut Pass<L>,
     command: &Command,
@@ -108,41 +109,43 @@ fn error_of<D: Disk, R: Recorder, L: OneServer, A: Abort>(
 ) -> u32
     requires { length bytes.old ≡ lent_len command.now }
 {
-    assert_eq!(rt; judge(command, pass.sectors()), None);
+    assert_eq!(rt; judge(command, pass.sectors()), None, "{name}");
     match server.execute(pass, command, bytes) {
         Done::Replied(answer) => answer.error(),
-        Done::Lost => panic!(rt; "no power was lost"),
+        Done::Lost => panic!(rt; "{name}: no power was lost"),
     }
 }
 
-// A WRITE to sector 1, a READ of it and a FLUSH, on the second of two connections.
+// A WRITE to sector 1, a READ of it and a FLUSH, on the second of two connections; the server's name is for a failure.
 fn run_three<R: Recorder, L: OneServer, A: Abort>(
     rt: &A,
     alloc: Global,
+    name: &str,
     server: &mut Shared<PlainDisk, R, L>,
     rows: u64,
 ) -> Result<(), Fail> {
-    let first = server.pass().expect(rt, "the first pass");
-    let mut pass = server.pass().expect(rt, "the second pass");
-    assert_eq!(rt; first.connection(), 0);
-    assert_eq!(rt; pass.connection(), 1);
+    let Some(first) = server.pass() else {
+        panic!(rt; "{name}: the first pass");
+    };
+    let Some(mut pass) = server.pass() else {
+        panic!(rt; "{name}: the second pass");
+    };
+    assert_eq!(rt; first.connection(), 0, "{name}");
+    assert_eq!(rt; pass.connection(), 1, "{name}");
     let mut payload = vec![in alloc; 0x11u8; 512]?;
     let mut content = vec![in alloc; 0u8; 512]?;
     let write = command(CommandKind::Write, 512, 512);
     let read = command(CommandKind::Read, 512, 512);
     let flush = command(CommandKind::Flush, 0, 0);
-    assert_eq!(rt;
-        error_of(rt, server, &mut pass, &write, payload.as_mut_slice()),
-        0
-    );
-    assert_eq!(rt;
-        error_of(rt, server, &mut pass, &read, content.as_mut_slice()),
-        0
-    );
-    assert_eq!(rt; error_of(rt, server, &mut pass, &flush, &mut []), 0);
-    assert_eq!(rt; content.as_slice(), payload.as_slice());
-    assert_eq!(rt; pass.count(), rows);
-    assert_eq!(rt; server.tidy(), Ok(false));
+    let written = error_of(rt, name, server, &mut pass, &write, payload.as_mut_slice());
+    assert_eq!(rt; written, 0, "{name}: a WRITE");
+    let got = error_of(rt, name, server, &mut pass, &read, content.as_mut_slice());
+    assert_eq!(rt; got, 0, "{name}: a READ");
+    let flushed = error_of(rt, name, server, &mut pass, &flush, &mut []);
+    assert_eq!(rt; flushed, 0, "{name}: a FLUSH");
+    assert_eq!(rt; content.as_slice(), payload.as_slice(), "{name}");
+    assert_eq!(rt; pass.count(), rows, "{name}");
+    assert_eq!(rt; server.tidy(), Ok(false), "{name}");
     Ok(())
 }
 
@@ -178,11 +181,11 @@ fn serve_three<K: OneServer, L: OneServer, A: Abort>(
     requires all { (kept.parts ≡ 65537) × (blank.parts ≡ 65537) }
 {
     match Shared::<PlainDisk, FullRecord, K>::recording(alloc, recorded, kept) {
-        Ok(mut server) => run_three(rt, alloc, &mut server, 3)?,
+        Ok(mut server) => run_three(rt, alloc, "a recording server", &mut server, 3)?,
         Err((error, _)) => panic!(rt; "a recording server: {error:?}"),
     }
     let mut server = Shared::<PlainDisk, NoRecord, L>::new(unrecorded, blank);
-    run_three(rt, alloc, &mut server, 0)
+    run_three(rt, alloc, "a server without rows", &mut server, 0)
 }
 
 #[test]
@@ -278,18 +281,42 @@ fn write_slowly<L: OneServer, M: Ledger, A: Abort>(
     let read = command(CommandKind::Read, 512, 512);
     let flush = command(CommandKind::Flush, 0, 0);
     assert_eq!(rt;
-        error_of(rt, &mut server, &mut pass, &read, bytes.as_mut_slice()),
+        error_of(
+            rt,
+            "a stuck disk",
+            &mut server,
+            &mut pass,
+            &read,
+            bytes.as_mut_slice()
+        ),
         0
     );
     assert_eq!(rt;
-        error_of(rt, &mut server, &mut pass, &write, bytes.as_mut_slice()),
+        error_of(
+            rt,
+            "a stuck disk",
+            &mut server,
+            &mut pass,
+            &write,
+            bytes.as_mut_slice()
+        ),
         5
     );
     assert_eq!(rt;
-        error_of(rt, &mut server, &mut pass, &read, bytes.as_mut_slice()),
+        error_of(
+            rt,
+            "a stuck disk",
+            &mut server,
+            &mut pass,
+            &read,
+            bytes.as_mut_slice()
+        ),
         5
     );
-    assert_eq!(rt; error_of(rt, &mut server, &mut pass, &flush, &mut []), 0);
+    assert_eq!(rt;
+        error_of(rt, "a stuck disk", &mut server, &mut pass, &flush, &mut []),
+        0
+    );
     assert_eq!(rt; pass.count(), 4);
     assert_eq!(rt; server.tidy(), Err(DiskError::Slow));
     Ok(())
