@@ -1,11 +1,9 @@
 // The slot that is given on a chip of 64 KiB, of 12 slots and 10 groups, and what tidying clears.
-use crate::chips::{End, chip, driver, erased, four, recover, set};
+use crate::chips::{End, chip, erased, four, memory_of, recover, set, slots};
 use crate::room::has_room;
-use erase_journal::Journal;
 use fault_model::SimChip;
-use nor_driver::{Driver, NorError};
+use nor_driver::NorError;
 use reclaim::Reclaim;
-use slot_store::Slots;
 use std::alloc::Global;
 use std::test::*;
 
@@ -41,21 +39,6 @@ fn arranged(alloc: Global, kinds: &[Kind]) -> Result<Vec<u8>, Fail> {
         }
     }
     Ok(bytes)
-}
-
-fn slots(chip: SimChip) -> Result<Slots<Driver<SimChip>>, Fail> {
-    match Journal::recover(driver(chip)?) {
-        Ok(journal) => Ok(Slots::new(journal)),
-        Err((driver, error)) => {
-            let _memory = driver.into_inner().into_inner();
-            Err(Fail::from(error))
-        }
-    }
-}
-
-/// The chip's memory behind its slots.
-fn memory_of(slots: Slots<Driver<SimChip>>) -> Vec<u8> {
-    slots.into_inner().into_inner().into_inner().into_inner()
 }
 
 /// The slot that is given, or the end of the call, and the memory after it.

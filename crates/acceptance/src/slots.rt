@@ -1,10 +1,8 @@
 // Groups in the slots of an erased chip of 64 KiB: their bytes, and how many changes each call makes.
-use crate::chips::{End, chip, driver, erased, four, of_erase};
-use erase_journal::Journal;
+use crate::chips::{End, chip, erased, four, memory_of, of_erase, slots};
 use fault_model::SimChip;
-use nor_driver::Driver;
 use nor_layout::{Generation, Header, Tag};
-use slot_store::{CONTENT_LEN, Slots};
+use slot_store::CONTENT_LEN;
 use std::alloc::Global;
 use std::test::*;
 
@@ -36,21 +34,6 @@ fn group(alloc: Global) -> Result<Vec<u8>, Fail> {
         content.resize(page.saturating_mul(256), page as u8)?;
     }
     Ok(content)
-}
-
-fn slots(chip: SimChip) -> Result<Slots<Driver<SimChip>>, Fail> {
-    match Journal::recover(driver(chip)?) {
-        Ok(journal) => Ok(Slots::new(journal)),
-        Err((driver, error)) => {
-            let _memory = driver.into_inner().into_inner();
-            Err(Fail::from(error))
-        }
-    }
-}
-
-/// The chip's memory behind its slots.
-fn memory_of(slots: Slots<Driver<SimChip>>) -> Vec<u8> {
-    slots.into_inner().into_inner().into_inner().into_inner()
 }
 
 /// A call of a slot: its end, and the memory after it.
@@ -133,6 +116,8 @@ fn a_chip_of_64_kib_has_12_slots(rt: HostRuntime) -> Result<(), Fail> {
     let count = slots.count();
     let _memory = memory_of(slots);
     assert_eq!(rt; count, 12);
+    // Seven sectors of 512 bytes.
+    assert_eq!(rt; CONTENT_LEN, 3_584);
     Ok(())
 }
 
@@ -175,7 +160,8 @@ fn a_put_makes_sixteen_changes(rt: HostRuntime) -> Result<(), Fail> {
 fn each_change_of_a_put_is_cut(rt: HostRuntime) -> Result<(), Fail> {
     let blank = erased(rt.alloc())?;
     let content = group(rt.alloc())?;
-    // None of the bits of the last change came, or all.
+    // None of the bits of the last change came, or all. The first change is the header's, and each of the 14 after it a page
+    // of 256 bytes.
     for count in 1..16u32 {
         let (_, whole) = run(
             chip(rt.alloc(), &blank, count, 0xFF)?,
@@ -184,6 +170,10 @@ fn each_change_of_a_put_is_cut(rt: HostRuntime) -> Result<(), Fail> {
             &content,
         )?;
         assert_eq!(rt; header(rt.alloc(), &whole, 0)?, Header::Dead);
+        let end = 0x4100 + 256 * count as usize;
+        let last = if count == 1 { 0xFF } else { count as u8 - 1 };
+        assert_eq!(rt; four(&whole, end - 4)?, [last; 4], "change {count}");
+        assert_eq!(rt; four(&whole, end)?, [0xFF; 4], "change {count}");
     }
     let (_, none) = run(
         chip(rt.alloc(), &blank, 1, 0)?,

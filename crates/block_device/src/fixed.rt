@@ -127,32 +127,3 @@ impl<L: Ledger> Sink for FixedOut<'_, L> {
         Ok(n)
     }
 }
-
-#[cfg(test)]
-mod tests {
-    use super::*;
-    use crate::stream::send;
-    use std::marker::Brand;
-    use std::process::Abort;
-    use std::test::*;
-
-    #[test]
-    fn a_full_room_keeps_what_it_took(rt: HostRuntime) -> Result<(), Fail> {
-        fill::<Brand, _>(&rt, Blank::new(1))
-    }
-
-    fn fill<L: Ledger, R: Abort>(rt: &R, blank: Blank) -> Result<(), Fail>
-        requires name { blank.name ≡ L.name }
-        requires parts { blank.parts ≡ L.parts }
-        requires some { 0 < L.parts }
-    {
-        let mut room = [0u8; 3];
-        let mut sink = FixedOut::<L>::new(&mut room, blank);
-        assert_eq!(rt; send(&mut sink, &[1, 2]), Ok(()));
-        assert_eq!(rt; send(&mut sink, &[3, 4]), Err(Failed));
-        assert_eq!(rt; sink.bytes(), [1, 2, 3].as_slice());
-        assert_eq!(rt; sink.write(&[5]), Err(Failed));
-        assert_eq!(rt; sink.write(&[]), Ok(0));
-        Ok(())
-    }
-}

@@ -74,24 +74,3 @@ impl Disk for PlainDisk {
 
     fn arm(&mut self, _count: u32, _kind: u8, _mask: u8) {}
 }
-
-#[cfg(test)]
-mod tests {
-    use super::*;
-    use std::test::*;
-
-    #[test]
-    fn one_of_three_sectors_is_written(rt: HostRuntime) -> Result<(), Fail> {
-        let mut disk = PlainDisk::new(rt.alloc(), 3)?;
-        assert_eq!(rt; disk.sectors(), 3);
-        let mut all = [9u8; 1536];
-        assert_eq!(rt; disk.write(1, &[17u8; 512]), Ok(()));
-        assert_eq!(rt; disk.read(0, &mut all), Ok(()));
-        let (first, rest) = all.split_at(512);
-        let (second, third) = rest.split_at(512);
-        assert_eq!(rt; first, [0u8; 512].as_slice());
-        assert_eq!(rt; second, [17u8; 512].as_slice());
-        assert_eq!(rt; third, [0u8; 512].as_slice());
-        Ok(())
-    }
-}

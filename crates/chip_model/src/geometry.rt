@@ -35,27 +35,3 @@ impl Geometry {
         })
     }
 }
-
-#[cfg(test)]
-mod tests {
-    use super::*;
-
-    #[test]
-    fn the_smallest_and_the_largest_chip(rt: HostRuntime) {
-        let smallest = Geometry {
-            blocks: 16,
-            groups: 10,
-            sectors: 70,
-        };
-        let largest = Geometry {
-            blocks: 4_096,
-            groups: 3_580,
-            sectors: 25_060,
-        };
-        assert_eq!(rt; Geometry::of(65_536), Some(smallest));
-        assert_eq!(rt; Geometry::of(16_777_216), Some(largest));
-        for bytes in [0, 4_096, 70_000, 16_842_752] {
-            assert_eq!(rt; Geometry::of(bytes), None, "{bytes} bytes");
-        }
-    }
-}

@@ -17,8 +17,6 @@ mod handshake;
 mod opening;
 mod options;
 mod replies;
-#[cfg(test)]
-mod tests;
 mod units;
 
 pub use handshake::{Handshake, KEPT_LEN, Next, Taken};

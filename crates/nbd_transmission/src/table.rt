@@ -50,30 +50,3 @@ fn judge_range(offset: u64, length: u32, sectors: u32, past_end: u32) -> Option<
     }
     None
 }
-
-#[cfg(test)]
-mod tests {
-    use super::*;
-
-    /// On a disk of 70 sectors, which are 8C00h bytes.
-    #[test]
-    fn the_end_of_the_disk(rt: HostRuntime) {
-        let rows = [
-            (CommandKind::Read, 0x8A00, 512, None),
-            (CommandKind::Read, 0x8C00, 512, Some(22)),
-            (CommandKind::Write, 0x8C00, 512, Some(28)),
-            (CommandKind::Write, 0, 66_048, Some(22)),
-            (CommandKind::Read, 0xFFFF_FFFF_FFFF_FE00, 1_024, Some(22)),
-        ];
-        for (kind, offset, length, error) in rows {
-            let command = Command {
-                kind,
-                flags: CommandFlags::from_bits_retain(0),
-                cookie: 1,
-                offset,
-                length,
-            };
-            assert_eq!(rt; judge(&command, 70), error);
-        }
-    }
-}

@@ -116,20 +116,3 @@ impl Flags for TransmissionFlags {
         TransmissionFlags(bits)
     }
 }
-
-#[cfg(test)]
-mod tests {
-    use super::*;
-
-    #[test]
-    fn the_flags_of_the_server(rt: HostRuntime) {
-        let handshake = HandshakeFlags::FIXED_NEWSTYLE | HandshakeFlags::NO_ZEROES;
-        assert_eq!(rt; handshake.bits(), 3);
-        let transmission = TransmissionFlags::HAS_FLAGS
-            | TransmissionFlags::SEND_FLUSH
-            | TransmissionFlags::SEND_FUA
-            | TransmissionFlags::CAN_MULTI_CONN;
-        assert_eq!(rt; transmission.bits(), 0x010D);
-        assert_eq!(rt; (CommandFlags::FUA | CommandFlags::NO_HOLE).bits(), 3);
-    }
-}

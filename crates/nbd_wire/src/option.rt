@@ -54,24 +54,3 @@ pub enum OptionCase {
     /// Any other option.
     Unsupported,
 }
-
-#[cfg(test)]
-mod tests {
-    use super::*;
-    use crate::constants::OPT_GO;
-
-    #[test]
-    fn the_head_of_a_go_is_read(rt: HostRuntime) {
-        let head = [
-            0x49, 0x48, 0x41, 0x56, 0x45, 0x4F, 0x50, 0x54, 0x00, 0x00, 0x00, 0x07, 0x00, 0x00,
-            0x00, 0x0B,
-        ];
-        assert_eq!(rt;
-            OptionHead::read(&head),
-            Some(OptionHead {
-                option: OPT_GO,
-                length: 11
-            })
-        );
-    }
-}

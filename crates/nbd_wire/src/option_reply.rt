@@ -39,22 +39,3 @@ fn option_reply_head(option: u32, reply_type: u32, len: u32) -> [u8; OPTION_REPL
     BigEndian::write_u32(&mut head[16..], len);
     head
 }
-
-#[cfg(test)]
-mod tests {
-    use super::*;
-    use crate::constants::{OPT_GO, REP_ACK};
-
-    /// The last reply to a GO that was accepted, as it is sent.
-    const ACKNOWLEDGED: [u8; 20] = [
-        0x00, 0x03, 0xE8, 0x89, 0x04, 0x55, 0x65, 0xA9, 0x00, 0x00, 0x00, 0x07, 0x00, 0x00, 0x00,
-        0x01, 0x00, 0x00, 0x00, 0x00,
-    ];
-
-    #[test]
-    fn an_acknowledgement_is_written(rt: HostRuntime) {
-        let mut bytes = [0xFF; 20];
-        assert_eq!(rt; write_option_reply(&mut bytes, 0, OPT_GO, REP_ACK, &[]), 20);
-        assert_eq!(rt; bytes, ACKNOWLEDGED);
-    }
-}

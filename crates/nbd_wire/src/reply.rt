@@ -55,27 +55,3 @@ impl Reply {
         BigEndian::write_u64(&mut out[8..], self.cookie);
     }
 }
-
-#[cfg(test)]
-mod tests {
-    use super::*;
-    use crate::constants::ENOSPC;
-
-    /// The reply to a WRITE past the end, as it is sent.
-    const REFUSAL: [u8; 16] = [
-        0x67, 0x44, 0x66, 0x98, 0x00, 0x00, 0x00, 0x1C, 0x01, 0x02, 0x03, 0x04, 0x05, 0x06, 0x07,
-        0x08,
-    ];
-
-    #[test]
-    fn a_refusal_is_written_and_read(rt: HostRuntime) {
-        let reply = Reply {
-            error: ENOSPC,
-            cookie: 0x0102_0304_0506_0708,
-        };
-        let mut bytes = [0xFF; 16];
-        reply.write(&mut bytes);
-        assert_eq!(rt; bytes, REFUSAL);
-        assert_eq!(rt; Reply::read(&REFUSAL), Some(reply));
-    }
-}

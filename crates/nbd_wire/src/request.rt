@@ -84,29 +84,3 @@ impl Request {
         BigEndian::write_u32(&mut out[16..], self.length);
     }
 }
-
-#[cfg(test)]
-mod tests {
-    use super::*;
-
-    /// A READ of one sector, as it is sent.
-    const READ_REQUEST: [u8; 28] = [
-        0x25, 0x60, 0x95, 0x13, 0x00, 0x00, 0x00, 0x00, 0x01, 0x02, 0x03, 0x04, 0x05, 0x06, 0x07,
-        0x08, 0x00, 0x00, 0x00, 0x00, 0x00, 0x00, 0x8A, 0x00, 0x00, 0x00, 0x02, 0x00,
-    ];
-
-    #[test]
-    fn a_read_is_read_and_written(rt: HostRuntime) {
-        let request = Request {
-            flags: CommandFlags::from_bits_retain(0),
-            kind: 0,
-            cookie: 0x0102_0304_0506_0708,
-            offset: 0x8A00,
-            length: 512,
-        };
-        assert_eq!(rt; Request::read(&READ_REQUEST), Some(request));
-        let mut bytes = [0xFF; 28];
-        request.write(&mut bytes);
-        assert_eq!(rt; bytes, READ_REQUEST);
-    }
-}

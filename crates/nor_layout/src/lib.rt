@@ -16,8 +16,6 @@ mod entry;
 mod header;
 mod journal;
 mod superblock;
-#[cfg(test)]
-mod tests;
 mod vote;
 
 pub use entry::{

@@ -34,27 +34,3 @@ impl Fault {
         }
     }
 }
-
-#[cfg(test)]
-mod tests {
-    use super::*;
-    use std::test::Fail;
-
-    #[test]
-    fn shows_its_text(rt: HostRuntime) -> Result<(), Fail> {
-        let alloc = rt.alloc();
-        assert_eq!(rt;
-            format!(in alloc; "{}", Fault::NoMemory)?.as_str(),
-            "no memory"
-        );
-        assert_eq!(rt;
-            format!(in alloc; "{}", Fault::InputFailed)?.as_str(),
-            "input failed"
-        );
-        assert_eq!(rt;
-            format!(in alloc; "{}", Fault::OutputFailed)?.as_str(),
-            "output failed"
-        );
-        Ok(())
-    }
-}

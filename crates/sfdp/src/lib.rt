@@ -14,8 +14,6 @@ mod error;
 mod header;
 mod params;
 mod table;
-#[cfg(test)]
-mod tests;
 
 pub use error::SfdpError;
 pub use header::read_params;

@@ -17,8 +17,6 @@ mod intake;
 mod pass;
 mod recorder;
 mod shared;
-#[cfg(test)]
-mod tests;
 
 pub use connection::{End, exchange, exchange_alone, exchange_plain};
 pub use door::{Door, Gate, Point};

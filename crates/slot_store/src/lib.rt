@@ -14,8 +14,6 @@
 
 mod laws;
 mod slots;
-#[cfg(test)]
-mod tests;
 
 pub use laws::{
     erased_chips_have_free_slots, live_slots_hold_seven_sectors, same_blocks_make_same_slots,

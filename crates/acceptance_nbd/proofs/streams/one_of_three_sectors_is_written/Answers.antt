@@ -1,7 +1,7 @@
 use Rattle.std.proofs.Common.{◌≡◌, ℕ, ◌*◌, List, length, refl, ap, ◌∙◌, arith}
 use Rattle.std.proofs.lemmas.List.{length-replicate}
 use Rattle.block_device.specs.Contents.{InRange}
-use Rattle.block_device.proofs.plain.tests.one_of_three_sectors_is_written.Goals as goal
+use Rattle.acceptance_nbd.proofs.streams.one_of_three_sectors_is_written.Goals as goal
 
 -- the second of three sectors is in range
 second_of_three : (contents : List ℕ) → length contents ≡ 512 * 3 → InRange contents 1 512

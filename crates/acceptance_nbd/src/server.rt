@@ -1,22 +1,22 @@
+// The server of one disk: its rows, its replies on the wire, and a disk whose chip never ends a write.
 ghost use Rattle.std.specs.Prelude.{◌≡◌, ◌*◌, ◌<◌, length};
 ghost use Rattle.share.specs.Lent.{lent_len};
 
-use super::*;
+use crate::heads::READ_OF_SECTOR_1;
 use block_device::{Disk, DiskError, FixedIn, FixedOut, PlainDisk, Tally};
 use nbd_transmission::judge;
 use nbd_wire::{Command, CommandFlags, CommandKind};
+use share::{
+    Done, End, FullRecord, Gate, NoRecord, OneServer, Pass, Point, Recorder, Shared, exchange,
+    exchange_alone,
+};
 use std::alloc::Global;
 use std::marker::Brand;
 use std::process::Abort;
 use std::sync::ledger::{Blank, Ledger};
 use std::test::*;
 
-// READ of 512 bytes from 512 on, with the cookie 0102030405060708h.
-const READ_OF_SECTOR_1: [u8; 28] = [
-    0x25, 0x60, 0x95, 0x13, 0, 0, 0, 0, 1, 2, 3, 4, 5, 6, 7, 8, 0, 0, 0, 0, 0, 0, 2, 0, 0, 0, 2, 0,
-];
-
-// The head of its reply: the magic, no error, and the cookie.
+// The head of the reply to READ_OF_SECTOR_1: the magic, no error, and the cookie.
 const HEAD_OF_REPLY: [u8; 16] = [0x67, 0x44, 0x66, 0x98, 0, 0, 0, 0, 1, 2, 3, 4, 5, 6, 7, 8];
 
 // A gate that takes no time.
@@ -98,9 +98,10 @@ fn command(kind: CommandKind, offset: u64, length: u32) -> Command
     }
 }
 
-// The error that answers a command.
+// The error that answers a command; the server's name is for a failure.
 fn error_of<D: Disk, R: Recorder, L: OneServer, A: Abort>(
     rt: &A,
+    name: &str,
     server: &mut Shared<D, R, L>,
     pass: &mut Pass<L>,
     command: &Command,
@@ -108,90 +109,83 @@ fn error_of<D: Disk, R: Recorder, L: OneServer, A: Abort>(
 ) -> u32
     requires { length bytes.old ≡ lent_len command.now }
 {
-    assert_eq!(rt; judge(command, pass.sectors()), None);
+    assert_eq!(rt; judge(command, pass.sectors()), None, "{name}");
     match server.execute(pass, command, bytes) {
         Done::Replied(answer) => answer.error(),
-        Done::Lost => panic!(rt; "no power was lost"),
+        Done::Lost => panic!(rt; "{name}: no power was lost"),
     }
 }
 
-// A WRITE to sector 1, a READ of it and a FLUSH, on the second of two connections.
+// A WRITE to sector 1, a READ of it and a FLUSH, on the second of two connections; the server's name is for a failure.
 fn run_three<R: Recorder, L: OneServer, A: Abort>(
     rt: &A,
     alloc: Global,
+    name: &str,
     server: &mut Shared<PlainDisk, R, L>,
     rows: u64,
 ) -> Result<(), Fail> {
-    let first = server.pass().expect(rt, "the first pass");
-    let mut pass = server.pass().expect(rt, "the second pass");
-    assert_eq!(rt; first.connection(), 0);
-    assert_eq!(rt; pass.connection(), 1);
+    let Some(first) = server.pass() else {
+        panic!(rt; "{name}: the first pass");
+    };
+    let Some(mut pass) = server.pass() else {
+        panic!(rt; "{name}: the second pass");
+    };
+    assert_eq!(rt; first.connection(), 0, "{name}");
+    assert_eq!(rt; pass.connection(), 1, "{name}");
     let mut payload = vec![in alloc; 0x11u8; 512]?;
     let mut content = vec![in alloc; 0u8; 512]?;
     let write = command(CommandKind::Write, 512, 512);
     let read = command(CommandKind::Read, 512, 512);
     let flush = command(CommandKind::Flush, 0, 0);
-    assert_eq!(rt;
-        error_of(rt, server, &mut pass, &write, payload.as_mut_slice()),
-        0
-    );
-    assert_eq!(rt;
-        error_of(rt, server, &mut pass, &read, content.as_mut_slice()),
-        0
-    );
-    assert_eq!(rt; error_of(rt, server, &mut pass, &flush, &mut []), 0);
-    assert_eq!(rt; content.as_slice(), payload.as_slice());
-    assert_eq!(rt; pass.count(), rows);
-    assert_eq!(rt; server.tidy(), Ok(false));
+    let written = error_of(rt, name, server, &mut pass, &write, payload.as_mut_slice());
+    assert_eq!(rt; written, 0, "{name}: a WRITE");
+    let got = error_of(rt, name, server, &mut pass, &read, content.as_mut_slice());
+    assert_eq!(rt; got, 0, "{name}: a READ");
+    let flushed = error_of(rt, name, server, &mut pass, &flush, &mut []);
+    assert_eq!(rt; flushed, 0, "{name}: a FLUSH");
+    assert_eq!(rt; content.as_slice(), payload.as_slice(), "{name}");
+    assert_eq!(rt; pass.count(), rows, "{name}");
+    assert_eq!(rt; server.tidy(), Ok(false), "{name}");
     Ok(())
 }
 
 #[test]
-fn a_recording_server_counts_its_rows(rt: HostRuntime) -> Result<(), Fail> {
-    let disk = PlainDisk::new(rt.alloc(), 2)?;
-    record_three::<Brand, _>(&rt, rt.alloc(), disk, 2, Blank::new(65537))
+fn servers_count_their_rows(rt: HostRuntime) -> Result<(), Fail> {
+    let recorded = PlainDisk::new(rt.alloc(), 2)?;
+    let unrecorded = PlainDisk::new(rt.alloc(), 2)?;
+    serve_three::<Brand, Brand, _>(
+        &rt,
+        rt.alloc(),
+        recorded,
+        unrecorded,
+        2,
+        Blank::new(65537),
+        Blank::new(65537),
+    )
 }
 
-fn record_three<L: OneServer, A: Abort>(
+// A server that keeps rows, and one without rows.
+fn serve_three<K: OneServer, L: OneServer, A: Abort>(
     rt: &A,
     alloc: Global,
-    disk: PlainDisk,
+    recorded: PlainDisk,
+    unrecorded: PlainDisk,
     sectors: u32,
+    kept: Blank,
     blank: Blank,
 ) -> Result<(), Fail>
-    requires size { length disk ≡ 512 * sectors }
-    requires sectors { sectors ≡ L.sectors }
-    requires name { blank.name ≡ L.name }
-    requires parts { blank.parts ≡ L.parts }
-    requires all { blank.parts ≡ 65537 }
+    requires sizes { (length recorded ≡ 512 * sectors) × (length unrecorded ≡ 512 * sectors) }
+    requires sectors { (sectors ≡ K.sectors) × (sectors ≡ L.sectors) }
+    requires names { (kept.name ≡ K.name) × (blank.name ≡ L.name) }
+    requires parts { (kept.parts ≡ K.parts) × (blank.parts ≡ L.parts) }
+    requires all { (kept.parts ≡ 65537) × (blank.parts ≡ 65537) }
 {
-    match Shared::<PlainDisk, FullRecord, L>::recording(alloc, disk, blank) {
-        Ok(mut server) => run_three(rt, alloc, &mut server, 3),
+    match Shared::<PlainDisk, FullRecord, K>::recording(alloc, recorded, kept) {
+        Ok(mut server) => run_three(rt, alloc, "a recording server", &mut server, 3)?,
         Err((error, _)) => panic!(rt; "a recording server: {error:?}"),
     }
-}
-
-#[test]
-fn a_server_without_rows_counts_none(rt: HostRuntime) -> Result<(), Fail> {
-    let disk = PlainDisk::new(rt.alloc(), 2)?;
-    serve_three::<Brand, _>(&rt, rt.alloc(), disk, 2, Blank::new(65537))
-}
-
-fn serve_three<L: OneServer, A: Abort>(
-    rt: &A,
-    alloc: Global,
-    disk: PlainDisk,
-    sectors: u32,
-    blank: Blank,
-) -> Result<(), Fail>
-    requires size { length disk ≡ 512 * sectors }
-    requires sectors { sectors ≡ L.sectors }
-    requires name { blank.name ≡ L.name }
-    requires parts { blank.parts ≡ L.parts }
-    requires all { blank.parts ≡ 65537 }
-{
-    let mut server = Shared::<PlainDisk, NoRecord, L>::new(disk, blank);
-    run_three(rt, alloc, &mut server, 0)
+    let mut server = Shared::<PlainDisk, NoRecord, L>::new(unrecorded, blank);
+    run_three(rt, alloc, "a server without rows", &mut server, 0)
 }
 
 #[test]
@@ -287,18 +281,42 @@ fn write_slowly<L: OneServer, M: Ledger, A: Abort>(
     let read = command(CommandKind::Read, 512, 512);
     let flush = command(CommandKind::Flush, 0, 0);
     assert_eq!(rt;
-        error_of(rt, &mut server, &mut pass, &read, bytes.as_mut_slice()),
+        error_of(
+            rt,
+            "a stuck disk",
+            &mut server,
+            &mut pass,
+            &read,
+            bytes.as_mut_slice()
+        ),
         0
     );
     assert_eq!(rt;
-        error_of(rt, &mut server, &mut pass, &write, bytes.as_mut_slice()),
+        error_of(
+            rt,
+            "a stuck disk",
+            &mut server,
+            &mut pass,
+            &write,
+            bytes.as_mut_slice()
+        ),
         5
     );
     assert_eq!(rt;
-        error_of(rt, &mut server, &mut pass, &read, bytes.as_mut_slice()),
+        error_of(
+            rt,
+            "a stuck disk",
+            &mut server,
+            &mut pass,
+            &read,
+            bytes.as_mut_slice()
+        ),
         5
     );
-    assert_eq!(rt; error_of(rt, &mut server, &mut pass, &flush, &mut []), 0);
+    assert_eq!(rt;
+        error_of(rt, "a stuck disk", &mut server, &mut pass, &flush, &mut []),
+        0
+    );
     assert_eq!(rt; pass.count(), 4);
     assert_eq!(rt; server.tidy(), Err(DiskError::Slow));
     Ok(())

@@ -1,4 +1,4 @@
-use Rattle.share.proofs.tests.a_read_on_the_wire_is_answered.Given as goal
+use Rattle.acceptance_nbd.proofs.server.a_read_on_the_wire_is_answered.Given as goal
 
 -- the server of this test's blank, and its number of sectors
 abbrev pub ghosts-read_and_close-L-Ledger : goal.ghosts-read_and_close-L-Ledger

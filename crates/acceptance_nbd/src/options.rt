@@ -1,8 +1,5 @@
-//! Negotiations for a disk of 70 sectors (8C00h bytes), written out by hand from NBD proto.md.
-
-use crate::handshake::{Handshake, Next};
-use crate::opening::greeting;
-use crate::replies::MAX_REPLY_LEN;
+// Negotiations for a disk of 70 sectors (8C00h bytes), written out by hand from NBD proto.md.
+use nbd_handshake::{Handshake, MAX_REPLY_LEN, Next, greeting};
 use std::alloc::Global;
 use std::process::Abort;
 use std::test::Fail;
@@ -33,7 +30,7 @@ fn check<R: Abort>(
     }
     assert_eq!(rt; written.as_slice(), expected.as_slice(), "{text}");
     assert_eq!(rt; next, last, "{text}");
-    assert!(rt; rest.is_empty());
+    assert!(rt; rest.is_empty(), "{text}");
     Ok(())
 }
 
@@ -41,45 +38,23 @@ fn check<R: Abort>(
 fn bytes_of(alloc: Global, text: &str) -> Result<Vec<u8>, Fail> {
     let mut bytes = Vec::new(alloc);
     for word in text.split(' ') {
-        match word.split_once('*') {
-            Some((byte, count)) => push_times(&mut bytes, byte, count)?,
-            None => push_digits(&mut bytes, word)?,
+        let (digits, count) = word.split_once('*').unwrap_or((word, "1"));
+        let Ok(count) = count.parse::<u32>() else {
+            return Err(Fail::from("no count"));
+        };
+        let spelled = hex::decode(alloc, digits)?;
+        for _ in 0..count {
+            bytes.extend_from_slice(spelled.as_slice())?;
         }
     }
     Ok(bytes)
 }
 
-fn push_times(bytes: &mut Vec<u8>, byte: &str, count: &str) -> Result<(), Fail> {
-    let (Ok(byte), Ok(count)) = (u8::from_str_radix(byte, 16), count.parse::<u32>()) else {
-        return Err(Fail::from("no byte or no count"));
-    };
-    for _ in 0..count {
-        bytes.push(byte)?;
-    }
-    Ok(())
-}
-
-fn push_digits(bytes: &mut Vec<u8>, digits: &str) -> Result<(), Fail> {
-    let mut high = None;
-    for digit in digits.chars() {
-        let Some(digit) = digit.to_digit(16) else {
-            return Err(Fail::from("no digit"));
-        };
-        let digit = digit as u8;
-        high = match high {
-            None => Some(digit),
-            Some(high) => {
-                bytes.push(u8::wrapping_mul(16, high) | digit)?;
-                None
-            }
-        };
-    }
-    Ok(())
-}
-
 #[test]
-fn options_are_answered_however_they_are_cut(rt: HostRuntime) -> Result<(), Fail> {
+fn negotiations_are_answered_however_they_are_cut(rt: HostRuntime) -> Result<(), Fail> {
     let alloc = rt.alloc();
+    let sent = bytes_of(alloc, "4E42444D41474943 49484156454F5054 0003")?;
+    assert_eq!(rt; greeting().as_slice(), sent.as_slice());
     for (text, replies, last) in [
         // GO `flash`
         (
@@ -126,18 +101,6 @@ fn options_are_answered_however_they_are_cut(rt: HostRuntime) -> Result<(), Fail
             "0003E889045565A9 00000006 80000003 00000000 0003E889045565A9 00000008 80000001 00000000",
             Next::Stay,
         ),
-    ] {
-        for most in [usize::MAX, 1] {
-            check(&rt, alloc, most, text, replies, last)?;
-        }
-    }
-    Ok(())
-}
-
-#[test]
-fn long_data_is_dropped(rt: HostRuntime) -> Result<(), Fail> {
-    let alloc = rt.alloc();
-    for (text, replies, last) in [
         // option 99 with 0, 8,192 and 8,193 bytes, ABORT with 8,193 bytes
         (
             "00000003 49484156454F5054 00000063 00000000 49484156454F5054 00000063 00002000 00*8192",
@@ -161,37 +124,19 @@ fn long_data_is_dropped(rt: HostRuntime) -> Result<(), Fail> {
             "",
             Next::More,
         ),
+        // other flags, and those that are answered
+        ("00000000", "", Next::Close),
+        ("00000002", "", Next::Close),
+        ("00000004", "", Next::Close),
+        ("00000007", "", Next::Close),
+        ("00000001", "", Next::Stay),
+        // a wrong magic, 15 bytes of its head and the whole head
+        ("00000003 00*15", "", Next::More),
+        ("00000003 00*16", "", Next::Close),
     ] {
         for most in [usize::MAX, 1] {
             check(&rt, alloc, most, text, replies, last)?;
         }
     }
-    Ok(())
-}
-
-#[test]
-fn other_flags_and_magics_close(rt: HostRuntime) -> Result<(), Fail> {
-    let alloc = rt.alloc();
-    for (text, last) in [
-        ("00000000", Next::Close),
-        ("00000002", Next::Close),
-        ("00000004", Next::Close),
-        ("00000007", Next::Close),
-        ("00000001", Next::Stay),
-        // a wrong magic, 15 bytes of its head and the whole head
-        ("00000003 00*15", Next::More),
-        ("00000003 00*16", Next::Close),
-    ] {
-        for most in [usize::MAX, 1] {
-            check(&rt, alloc, most, text, "", last)?;
-        }
-    }
-    Ok(())
-}
-
-#[test]
-fn the_greeting(rt: HostRuntime) -> Result<(), Fail> {
-    let sent = bytes_of(rt.alloc(), "4E42444D41474943 49484156454F5054 0003")?;
-    assert_eq!(rt; greeting().as_slice(), sent.as_slice());
     Ok(())
 }

@@ -1,6 +1,24 @@
-// Bytes worked out by hand from the layout.
-use super::*;
+// Bytes and counts worked out by hand from the layout (docs/LAYOUT.md).
 use chip_model::Geometry;
+use nor_layout::{
+    Entry, Generation, Header, SUPER_LEN, SuperError, Tag, UNSEALED_LEN, Vote, begun_header,
+    block_state, entry_place, entry_state, read_super, super_bytes, taken_entry, vote_byte,
+    vote_state,
+};
+use std::test::*;
+
+/// The counts of the smallest chip and of the largest one.
+const SMALL: Geometry = Geometry {
+    blocks: 16,
+    groups: 10,
+    sectors: 70,
+};
+
+const LARGE: Geometry = Geometry {
+    blocks: 4_096,
+    groups: 3_580,
+    sectors: 25_060,
+};
 
 /// The first 15 bytes of the superblock of a formatted chip of 64 KiB: 16 blocks and 10 groups.
 const SMALLEST: [u8; SUPER_LEN] = [
@@ -13,6 +31,22 @@ const LARGEST: [u8; UNSEALED_LEN] = [
 ];
 
 #[test]
+fn a_chip_of_each_size(rt: HostRuntime) {
+    for (bytes, geometry) in [
+        (65_536, Some(SMALL)),
+        (16_777_216, Some(LARGE)),
+        (0, None),
+        (4_096, None),
+        (70_000, None),
+        (16_842_752, None),
+    ] {
+        assert_eq!(rt; Geometry::of(bytes), geometry, "{bytes} bytes");
+    }
+}
+
+/// Each row has bytes of the superblock that are changed, and the answer for a chip of 64 KiB: that of the first check that
+/// fails.
+#[test]
 fn superblocks_are_spelled_and_read(rt: HostRuntime) {
     let Some(small) = Geometry::of(65_536) else {
         unreachable!()
@@ -20,51 +54,39 @@ fn superblocks_are_spelled_and_read(rt: HostRuntime) {
     let Some(large) = Geometry::of(16_777_216) else {
         unreachable!()
     };
-    assert_eq!(rt; read_super(&SMALLEST, small), Ok(()));
-    assert_eq!(rt; read_super(&SMALLEST, large), Err(SuperError::Geometry));
     assert_eq!(rt; super_bytes(small)[..] == SMALLEST[..13], true);
     assert_eq!(rt; super_bytes(large), LARGEST);
-}
-
-#[test]
-fn one_byte_of_the_superblock_changed(rt: HostRuntime) {
-    let Some(chip) = Geometry::of(65_536) else {
-        unreachable!()
-    };
-    for (at, byte, answer) in [
-        (0usize, 0x4F, Err(SuperError::NotFormatted)),
-        (7, 0x30, Err(SuperError::NotFormatted)),
-        (14, 0xFF, Err(SuperError::NotFormatted)),
-        (14, 0x01, Err(SuperError::NotFormatted)),
-        (8, 0x02, Err(SuperError::Layout)),
-        (8, 0xFF, Err(SuperError::Layout)),
-        (9, 0x11, Err(SuperError::Geometry)),
-        (10, 0x10, Err(SuperError::Geometry)),
-        (11, 0x0B, Err(SuperError::Geometry)),
-        (12, 0x01, Err(SuperError::Geometry)),
-        (13, 0x00, Ok(())),
-    ] {
+    assert_eq!(rt; read_super(&SMALLEST, small), Ok(()));
+    assert_eq!(rt; read_super(&SMALLEST, large), Err(SuperError::Geometry));
+    let rows: [(&[(usize, u8)], Result<(), SuperError>); 13] = [
+        (&[(0, 0x4F)], Err(SuperError::NotFormatted)),
+        (&[(7, 0x30)], Err(SuperError::NotFormatted)),
+        (&[(14, 0xFF)], Err(SuperError::NotFormatted)),
+        (&[(14, 0x01)], Err(SuperError::NotFormatted)),
+        (&[(8, 0x02)], Err(SuperError::Layout)),
+        (&[(8, 0xFF)], Err(SuperError::Layout)),
+        (&[(9, 0x11)], Err(SuperError::Geometry)),
+        (&[(10, 0x10)], Err(SuperError::Geometry)),
+        (&[(11, 0x0B)], Err(SuperError::Geometry)),
+        (&[(12, 0x01)], Err(SuperError::Geometry)),
+        (&[(13, 0x00)], Ok(())),
+        (&[(9, 0x00), (8, 0x00)], Err(SuperError::Layout)),
+        (
+            &[(9, 0x00), (8, 0x00), (14, 0xFE)],
+            Err(SuperError::NotFormatted),
+        ),
+    ];
+    for (changes, answer) in rows {
         let mut bytes = SMALLEST;
-        *bytes.get_mut(at).expect(&rt, "a byte of the superblock") = byte;
-        assert_eq!(rt; read_super(&bytes, chip), answer, "byte {at}");
+        for (at, byte) in changes {
+            *bytes.get_mut(*at).expect(&rt, "a byte of the superblock") = *byte;
+        }
+        assert_eq!(rt; read_super(&bytes, small), answer, "{changes:?}");
     }
 }
 
 #[test]
-fn the_first_check_that_fails_is_answered(rt: HostRuntime) {
-    let Some(chip) = Geometry::of(65_536) else {
-        unreachable!()
-    };
-    let mut bytes = SMALLEST;
-    bytes[9] = 0;
-    bytes[8] = 0;
-    assert_eq!(rt; read_super(&bytes, chip), Err(SuperError::Layout));
-    bytes[14] = 0xFE;
-    assert_eq!(rt; read_super(&bytes, chip), Err(SuperError::NotFormatted));
-}
-
-#[test]
-fn votes(rt: HostRuntime) {
+fn votes_entries_and_headers(rt: HostRuntime) {
     assert_eq!(rt; vote_state(0xFF), Some(Vote::Unused));
     assert_eq!(rt; vote_state(0xFE), Some(Vote::Open));
     assert_eq!(rt; vote_state(0xFC), Some(Vote::Closed));
@@ -72,10 +94,6 @@ fn votes(rt: HostRuntime) {
         assert_eq!(rt; vote_state(byte), None, "{byte}");
     }
     assert_eq!(rt; vote_byte(Vote::Open), 0xFE);
-}
-
-#[test]
-fn entries(rt: HostRuntime) {
     assert_eq!(rt; taken_entry(4), [0xFE, 0x04, 0x00]);
     assert_eq!(rt; taken_entry(4_095), [0xFE, 0xFF, 0x0F]);
     assert_eq!(rt; entry_place(0), 0x1800);
@@ -94,12 +112,12 @@ fn entries(rt: HostRuntime) {
         ([0xFF, 0x04, 0x00, 0xFF], 16, Entry::Spent),
         ([0xFC, 0x04, 0x00, 0xFE], 16, Entry::Spent),
     ] {
-        assert_eq!(rt; entry_state(bytes, blocks), entry);
+        assert_eq!(rt;
+            entry_state(bytes, blocks),
+            entry,
+            "{bytes:?} of {blocks} blocks"
+        );
     }
-}
-
-#[test]
-fn headers(rt: HostRuntime) {
     let tag = Tag {
         group: 3_579,
         generation: Generation::Three,
@@ -120,6 +138,6 @@ fn headers(rt: HostRuntime) {
         ([0xFF, 0xFF, 0xFF, 0x0F], Header::Dead),
         ([0x00, 0x00, 0x00, 0x00], Header::Dead),
     ] {
-        assert_eq!(rt; block_state(bytes), header);
+        assert_eq!(rt; block_state(bytes), header, "{bytes:?}");
     }
 }

@@ -1,4 +1,4 @@
-use Rattle.share.proofs.tests.a_slow_write_is_answered_eio.Given as goal
+use Rattle.acceptance_nbd.proofs.server.a_slow_write_is_answered_eio.Given as goal
 
 -- the server of this test's blank, and its number of sectors
 abbrev pub ghosts-write_slowly-L-Ledger : goal.ghosts-write_slowly-L-Ledger

@@ -1,0 +1,36 @@
+// The bytes of each frame of the instruction table.
+use spi_frames::{
+    Register, erase_large, erase_small, jedec_id, program, read, sfdp, status, write_enable,
+    write_status,
+};
+use std::test::*;
+
+#[test]
+fn each_frame_of_the_instruction_table(rt: HostRuntime) {
+    assert_eq!(rt; write_enable().as_slice(), [0x06].as_slice());
+    assert_eq!(rt;
+        read(0x00FFFF).as_slice(),
+        [0x03, 0x00, 0xFF, 0xFF].as_slice()
+    );
+    assert_eq!(rt;
+        program(0x0000FE, &[1, 2, 3, 4]).as_slice(),
+        [0x02, 0x00, 0x00, 0xFE, 0x01, 0x02, 0x03, 0x04].as_slice()
+    );
+    assert_eq!(rt;
+        erase_small(0x12F000).as_slice(),
+        [0x20, 0x12, 0xF0, 0x00].as_slice()
+    );
+    assert_eq!(rt;
+        erase_large(0xFF0000).as_slice(),
+        [0xD8, 0xFF, 0x00, 0x00].as_slice()
+    );
+    assert_eq!(rt; status(Register::First).as_slice(), [0x05].as_slice());
+    assert_eq!(rt; status(Register::Second).as_slice(), [0x35].as_slice());
+    assert_eq!(rt; status(Register::Third).as_slice(), [0x15].as_slice());
+    assert_eq!(rt; write_status(0x04).as_slice(), [0x01, 0x04].as_slice());
+    assert_eq!(rt; jedec_id().as_slice(), [0x9F].as_slice());
+    assert_eq!(rt;
+        sfdp(0).as_slice(),
+        [0x5A, 0x00, 0x00, 0x00, 0x00].as_slice()
+    );
+}

@@ -1,0 +1,70 @@
+// Commands and refusals on a disk of 70 sectors, which are 8C00h bytes.
+use crate::heads::{LONG_WRITE, READ_OF_SECTOR_69};
+use bitflags::Flags;
+use nbd_transmission::{Next, Taken, Transmission, judge};
+use nbd_wire::{Command, CommandFlags, CommandKind};
+
+/// What was taken of bytes that are no payload.
+fn taken(used: usize, next: Next) -> Taken {
+    Taken {
+        used,
+        payload: 0,
+        next,
+    }
+}
+
+#[test]
+fn the_end_of_the_disk(rt: HostRuntime) {
+    for (kind, offset, length, error) in [
+        (CommandKind::Read, 0x8A00, 512, None),
+        (CommandKind::Read, 0x8C00, 512, Some(22)),
+        (CommandKind::Write, 0x8C00, 512, Some(28)),
+        (CommandKind::Write, 0, 66_048, Some(22)),
+        (CommandKind::Read, 0xFFFF_FFFF_FFFF_FE00, 1_024, Some(22)),
+    ] {
+        let command = Command {
+            kind,
+            flags: CommandFlags::from_bits_retain(0),
+            cookie: 1,
+            offset,
+            length,
+        };
+        assert_eq!(rt;
+            judge(&command, 70),
+            error,
+            "{length} bytes at {offset}: {kind:?}"
+        );
+    }
+}
+
+#[test]
+fn requests_are_cut_out_of_pieces(rt: HostRuntime) {
+    let read = Next::Run(Command {
+        kind: CommandKind::Read,
+        flags: CommandFlags::from_bits_retain(0),
+        cookie: 0x0102_0304_0506_0708,
+        offset: 0x8A00,
+        length: 512,
+    });
+    let refused = Next::Refused(0x0102_0304_0506_0708, 22);
+    let sector = [0x25; 512];
+    let zeros = [0; 28];
+    // A READ in pieces of one byte.
+    let mut parser = Transmission::new(70);
+    for byte in &READ_OF_SECTOR_69[..27] {
+        assert_eq!(rt; parser.take(&[*byte]), taken(1, Next::More));
+    }
+    assert_eq!(rt; parser.take(&READ_OF_SECTOR_69[27..]), taken(1, read));
+    // The payload of a refused WRITE, and a READ after it.
+    let mut parser = Transmission::new(70);
+    assert_eq!(rt; parser.take(&LONG_WRITE), taken(28, Next::More));
+    for _ in 0..128 {
+        assert_eq!(rt; parser.take(&sector), taken(512, Next::More));
+    }
+    assert_eq!(rt; parser.take(&sector), taken(512, refused));
+    assert_eq!(rt; parser.take(&READ_OF_SECTOR_69), taken(28, read));
+    // A wrong magic closes.
+    let mut parser = Transmission::new(70);
+    assert_eq!(rt; parser.take(&zeros), taken(28, Next::Close));
+    assert_eq!(rt; parser.take(&READ_OF_SECTOR_69), taken(0, Next::Close));
+}
