@@ -43,6 +43,9 @@ returns-in_default-read-clause-says g c =
     (g.S.Source.faults c.args.reader.now) (g.S.Source.faults c.loop-piece.reader) (g.S.Source.faults c.read.new.self) u.0 u.1 c.loop-piece.intake
     u.3 c.in_default-read.ensures.bytes u.4 u.5 i.reads c.in_default-read.ensures.faults
 
+pub returns-in_default-read-clause-reads : goal.returns-in_default-read-clause-reads
+returns-in_default-read-clause-reads g c n = absurd (n refl)
+
 pub returns-then-n-eq0-clause-says : goal.returns-then-n-eq0-clause-says
 returns-then-n-eq0-clause-says g c =
     let i = c.loop-piece.invariant in
