@@ -120,3 +120,6 @@ returns-clause-says g c =
     (g.S.Source.remaining c.args.reader.now) (g.S.Source.remaining c.loop-piece.reader) (g.K.Sink.written c.args.writer.now) (g.K.Sink.written c.loop-piece.writer)
     (g.S.Source.faults c.args.reader.now) (g.S.Source.faults c.loop-piece.reader) u.0 u.1 c.loop-piece.intake
     u.3 u.4 u.5 (omega (arith, u.2, c.loop-piece-test.false))
+
+pub returns-clause-output : goal.returns-clause-output
+returns-clause-output g c e = cc
