@@ -3,7 +3,7 @@ use Rattle.std.proofs.lemmas.List.{with_items_is}
 use Rattle.std.proofs.KnownBytes.{Appends-nil, Consumes-nil}
 use Rattle.share.specs.declared.connection.End.{End}
 use Rattle.share.specs.declared.connection.End.TheVariants.{Output}
-use Rattle.share.proofs.Exchanges.{exchanged-end, exchanged-input, exchanged-nothing, exchanged-piece, piece-at, pieces-more}
+use Rattle.share.proofs.Exchanges.{exchanged-end, exchanged-input, exchanged-long, exchanged-nothing, exchanged-piece, piece-at, pieces-more}
 use Rattle.share.proofs.Turns.{underway-start}
 use Rattle.share.proofs.connection.exchange.Goals as goal
 
@@ -42,6 +42,9 @@ returns-in_default-read-clause-says g c =
     (g.S.Source.remaining c.args.reader.now) (g.S.Source.remaining c.loop-piece.reader) (g.S.Source.remaining c.read.new.self) (g.K.Sink.written c.args.writer.now) (g.K.Sink.written c.loop-piece.writer)
     (g.S.Source.faults c.args.reader.now) (g.S.Source.faults c.loop-piece.reader) (g.S.Source.faults c.read.new.self) u.0 u.1 c.loop-piece.intake
     u.3 c.in_default-read.ensures.bytes u.4 u.5 i.reads c.in_default-read.ensures.faults
+
+pub returns-in_default-read-clause-reads : goal.returns-in_default-read-clause-reads
+returns-in_default-read-clause-reads g c n = absurd (n refl)
 
 pub returns-then-n-eq0-clause-says : goal.returns-then-n-eq0-clause-says
 returns-then-n-eq0-clause-says g c =
@@ -109,3 +112,14 @@ loop-piece-preserved g c =
           (g.S.Source.remaining c.args.reader.now) (g.S.Source.remaining c.loop-piece.reader) (g.S.Source.remaining c.read.new.self) (g.K.Sink.written c.args.writer.now) (g.K.Sink.written c.answer_piece.new.writer) u.0 u.1 (take n into) c.answer_piece.new.intake
           u.2 some u.3 bytes.0 by;
     }
+
+pub returns-clause-says : goal.returns-clause-says
+returns-clause-says g c =
+    let u = c.loop-piece.invariant.underway in
+    exchanged-long g.T.Door.executes g.T.Door.keeps g.L.OneServer.sectors c.args.pass.connection c.args.door.now c.loop-piece.door c.args.pass.count c.loop-piece.pass.count
+    (g.S.Source.remaining c.args.reader.now) (g.S.Source.remaining c.loop-piece.reader) (g.K.Sink.written c.args.writer.now) (g.K.Sink.written c.loop-piece.writer)
+    (g.S.Source.faults c.args.reader.now) (g.S.Source.faults c.loop-piece.reader) u.0 u.1 c.loop-piece.intake
+    u.3 u.4 u.5 (omega (arith, u.2, c.loop-piece-test.false))
+
+pub returns-clause-output : goal.returns-clause-output
+returns-clause-output g c e = cc
