@@ -6,7 +6,7 @@ use Rattle.sfdp.specs.Params.{params_of}
 use Rattle.sfdp.specs.declared.params.Params.{Params}
 use Rattle.sfdp.specs.declared.error.SfdpError.{SfdpError}
 use Rattle.chip_model.specs.Chip.{Chip, is_idle}
-use Rattle.chip_model.specs.Frames.{Id, answer_byte, id_from, status_1}
+use Rattle.chip_model.specs.Frames.{Id, answer_byte, id_from, is_open, status_1}
 use Rattle.chip_model.specs.Cut as losses
 use Rattle.spi_frames.specs.declared.register.Register.{Register}
 use Rattle.spi_frames.specs.declared.register.Register.TheVariants as registers
@@ -53,6 +53,10 @@ is_served maker kind exponent = (maker == 239) && (kind == 64) && nat_le 16 expo
 abbrev pub is_free : ℕ → ℕ → ℕ → Bool
 is_free status1 status2 status3 =
     (status1 / 4 % 8 == 0) && not (status1 / 64 % 2 == 1) && not (status2 / 64 % 2 == 1) && not (status3 / 4 % 2 == 1)
+
+-- the registers tell of a chip, whatever is in progress, whether nothing of it is protected
+abbrev pub RegistersTellProtection : Type 0
+RegistersTellProtection = (c : Chip) → is_free (status_1 c) c.status2 c.status3 ≡ is_open c
 
 -- the table is accepted, or its refusal; and the exponent is that of its size: the least k with 2 ^ k >= size
 abbrev pub sized : ℕ → Result Params SfdpError → Result Params ProbeError

@@ -15,6 +15,7 @@
 
 mod driver;
 mod error;
+mod laws;
 mod nor;
 mod probe;
 mod protection;
@@ -22,5 +23,6 @@ mod steps;
 
 pub use driver::Driver;
 pub use error::{NorError, ProbeError};
+pub use laws::registers_tell_protection;
 pub use nor::Nor;
 pub use protection::unprotect;

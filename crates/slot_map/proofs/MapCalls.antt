@@ -12,7 +12,7 @@ use Rattle.erase_journal.specs.Journals.{IsHealthy, IsSettled}
 use Rattle.erase_journal.specs.Steps.{IsFirst}
 use Rattle.erase_journal.specs.Recovery.{Restored, RestoreCut, Recovers, RecoveryCut, IsBehind}
 use Rattle.erase_journal.specs.Steps as steps
-use Rattle.slot_store.specs.Slots.{Slot, Free, Dead, slot_at, IsClean, SameSlots}
+use Rattle.slot_store.specs.Slots.{Slot, Free, Dead, slot_at, slot_count, IsClean, SameSlots}
 use Rattle.slot_store.specs.Steps.{Succeeds, Refuses}
 use Rattle.slot_store.specs.StepLaws.{chip-after, settled-healthy, kept-after}
 use Rattle.slot_store.specs.SlotLaws.{blocks-slots}
@@ -304,6 +304,7 @@ fill-cut a c d cut healthy f ready behind = record {
   came = elim f.fails.0 as (λ _. a.cuts < d.cuts) [ inl came ↦ (let e = behind.cuts in omega (arith, came, e)) | inr off ↦ (let e = ready.0 in let g = off.0 in absurd (cc (e, g))) ];
   slows = behind.slows ∙ f.fails.1;
   powered = behind.powered ∙ f.fails.2;
+  quick = λ q. behind.quick (f.fails.3 ∙ q);
   size = ap length behind.memory ∙ cut.chip.same_length;
   keeps = λ sound. subst (λ z. KeepsGroups a.memory z) (sym behind.memory) (mount-cut-keeps a.memory c.memory cut healthy sound);
 }
@@ -343,6 +344,7 @@ recovered-fails mounts.Cut a b c r f = record {
   came = (let g = f.came in let k = r.kept.cuts in inl (omega (arith, g, k)));
   slows = f.slows ∙ r.kept.slows;
   powered = f.powered;
+  quick = λ q. f.quick (r.kept.is_slow ∙ q);
   size = f.size ∙ r.blocks.chip.same_length;
   keeps = λ m. let k = recovered-keeps a b r m.store.slots in keeps-after a.memory b.memory c.memory k (f.keeps k.store.slots);
 }
@@ -357,6 +359,7 @@ recovered-fails mounts.Corrupt a b c r f =
       corrupt = λ m. f.corrupt (recovered-keeps a b r m.store.slots).store.slots;
       cuts = f.cuts ∙ r.kept.cuts;
       slows = f.slows ∙ r.kept.slows;
+      quick = λ q. f.quick (r.kept.is_slow ∙ q);
       leaves = inr (r.healthy, blocks);
       size = blocks.chip.same_length;
       groups = λ g. same-slots-groups a.memory c.memory (blocks-slots a.memory c.memory blocks) g;
@@ -369,6 +372,7 @@ recovery-cut a b r = record {
   came = elim r.fails.0 as (λ _. (a.cuts < b.cuts) ⊎ (a.powered ≡ false)) [ inl came ↦ inl came | inr off ↦ inr off.0 ];
   slows = r.fails.1;
   powered = r.fails.2;
+  quick = λ q. r.fails.3 ∙ q;
   size = elim r.leaves as (λ _. length b.memory ≡ length a.memory) [ inl e ↦ ap length e | inr s ↦ s.blocks.chip.same_length ];
   keeps = λ m. elim r.leaves as (λ _. KeepsGroups a.memory b.memory) [
     | inl e ↦ keeps-same a.memory b.memory e m.store
@@ -385,6 +389,7 @@ mount-fails-after mounts.Cut a b c same k f = record {
   came = elim f.came as (λ _. (a.cuts < c.cuts) ⊎ (a.powered ≡ false)) [ inl came ↦ (let g = k.cuts in inl (omega (arith, came, g))) | inr off ↦ inr (sym k.powered ∙ off) ];
   slows = f.slows ∙ k.slows;
   powered = f.powered;
+  quick = λ q. f.quick (k.is_slow ∙ q);
   size = f.size ∙ ap length same;
   keeps = λ m. subst (λ z. KeepsGroups z c.memory) same (f.keeps (at-memory a b same (λ z. IsMountable z) m));
 }
@@ -397,6 +402,7 @@ mount-fails-after mounts.Corrupt a b c same k f = record {
   corrupt = λ m. f.corrupt (at-memory a b same (λ z. IsMountable z) m);
   cuts = f.cuts ∙ k.cuts;
   slows = f.slows ∙ k.slows;
+  quick = λ q. f.quick (k.is_slow ∙ q);
   leaves = subst (λ z. (c.memory ≡ z) ⊎ (IsHealthy z × SameBlocks z c.memory)) same f.leaves;
   size = f.size ∙ ap length same;
   groups = λ g. f.groups g ∙ ap (λ z. group_at z g) same;

@@ -65,6 +65,7 @@ pub record MountWasCut (old new : NorState) : Type 0 where
   pub came : (old.cuts < new.cuts) ⊎ (old.powered ≡ false)
   pub slows : new.slows ≡ old.slows
   pub powered : new.powered ≡ false
+  pub quick : old.is_slow ≡ false → new.is_slow ≡ false
   pub size : length new.memory ≡ length old.memory
   pub keeps : IsMountable old.memory → KeepsGroups old.memory new.memory
 
@@ -80,6 +81,7 @@ pub record MountWasCorrupt (old new : NorState) : Type 0 where
   pub corrupt : IsMountable old.memory → ⊥
   pub cuts : new.cuts ≡ old.cuts
   pub slows : new.slows ≡ old.slows
+  pub quick : old.is_slow ≡ false → new.is_slow ≡ false
   pub leaves : (new.memory ≡ old.memory) ⊎ (IsHealthy old.memory × SameBlocks old.memory new.memory)
   pub size : length new.memory ≡ length old.memory
   pub groups : (g : ℕ) → group_at new.memory g ≡ group_at old.memory g
@@ -177,6 +179,7 @@ pub record FillCut (old new : NorState) : Type 0 where
   pub came : old.cuts < new.cuts
   pub slows : new.slows ≡ old.slows
   pub powered : new.powered ≡ false
+  pub quick : old.is_slow ≡ false → new.is_slow ≡ false
   pub size : length new.memory ≡ length old.memory
   pub keeps : IsSoundMap old.memory → KeepsGroups old.memory new.memory
 
@@ -189,6 +192,7 @@ pub record FillCorrupt (old new : NorState) : Type 0 where
   pub corrupt : IsSoundMap old.memory → ⊥
   pub cuts : new.cuts ≡ old.cuts
   pub slows : new.slows ≡ old.slows
+  pub quick : old.is_slow ≡ false → new.is_slow ≡ false
   pub same : new.memory ≡ old.memory
 
 abbrev pub FillFails : MountError → NorState → NorState → Type 0
