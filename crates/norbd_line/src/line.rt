@@ -1,22 +1,26 @@
 //! The line: what the program is asked to do.
-ghost use Rattle.std.specs.Prelude.{◌≡◌, ◌≢◌, ◌≤◌, IfErr, IfOk, IfSome, Some, option_map};
-ghost use Rattle.clap.specs.Words.{FailsBy, app_of, fault_of, found_of, kind_of, one_text, rows_of};
+ghost use Rattle.std.specs.Prelude.{◌≡◌, ◌≢◌, ◌≤◌, ◌%◌, ◌⊎◌, IfErr, IfOk, IfSome, IsErrAnd, Some, codes, false, option_map};
+ghost use Rattle.clap.specs.Words.{FailsBy, app_of, fault_of, found_of, kind_of, one_text, rows_of, rule_of};
 ghost use Rattle.clap.specs.Words.{subcommand_of, subcommand_rows_of};
-ghost use Rattle.norbd_line.specs.CommandLine.{norbd_app, texts_of};
-ghost use Rattle.norbd_line.specs.Fault.{ComesFromWords};
-ghost use Rattle.norbd_line.specs.Line.{InRange, IsLineOf, IsPlainLine, number_of};
+ghost use Rattle.norbd_line.specs.CommandLine.{image_rule, kib_rule, norbd_app, sectors_rule};
+ghost use Rattle.norbd_line.specs.CommandLine.{texts_of};
+ghost use Rattle.norbd_line.specs.Fault.{ComesFromMatches, ComesFromWords};
+ghost use Rattle.norbd_line.specs.Line.{HasOddSize, InRange, IsLineIn, IsLineOf, number_of};
 
 use crate::Fault;
 use clap::error::ErrorKind;
 use clap::{Arg, ArgAction, ArgMatches, Command, value_parser};
 use std::alloc::Global;
 
-/// What the program is asked to do.
+/// What the program is asked to do. The text of a path is borrowed from the words.
 #[derive(Debug, Clone, Copy, PartialEq, Eq)]
-pub enum Line {
+pub enum Line<'a> {
     /// `plain --sectors S`: serve one client, from standard input to standard output, a disk of `sectors` sectors of
     /// 512 bytes in memory, from 1 to 65,536 of them, all zeros at first.
     Plain { sectors: u32 },
+    /// `format IMAGE --kib K`: make the file at the path `image` a formatted chip of `kib` KiB, a multiple of 64 from 64 to
+    /// 16,384.
+    Format { image: &'a str, kib: u32 },
 }
 
 /// The least number of sectors of a plain disk.
@@ -25,26 +29,71 @@ const LEAST_SECTORS: u32 = 1;
 /// The largest number of sectors of a plain disk.
 const MOST_SECTORS: u32 = 65_536;
 
-/// The program's whole command line.
-fn whole_command<'a>(alloc: Global) -> Result<Command<'a>, clap::Error>
-    ensures app { IfOk result (λ c. app_of c ≡ norbd_app) }
-    ensures memory { IfErr result (λ e. kind_of e ≡ ErrorKind.OutOfMemory) }
+/// The least size of a chip, in KiB.
+const LEAST_KIB: u32 = 64;
+
+/// The largest size of a chip, in KiB.
+const MOST_KIB: u32 = 16_384;
+
+/// The size of a chip is a multiple of this, in KiB.
+const UNIT_KIB: u32 = 64;
+
+/// `--sectors S`.
+fn sectors_arg<'a>(alloc: Global) -> Arg<'a>
+    ensures rule { rule_of result ≡ sectors_rule }
+    ensures local { result.global ≡ false }
 {
-    let sectors = Arg::new(alloc, "sectors")
+    Arg::new(alloc, "sectors")
         .long("sectors")
         .value_name("S")
         .help("Sectors of 512 bytes, from 1 to 65536")
         .required(true)
         .action(ArgAction::Set)
-        .value_parser(value_parser!(u32).range(1..=65536));
+        .value_parser(value_parser!(u32).range(1..=65536))
+}
+
+/// `--kib K`.
+fn kib_arg<'a>(alloc: Global) -> Arg<'a>
+    ensures rule { rule_of result ≡ kib_rule }
+    ensures local { result.global ≡ false }
+{
+    Arg::new(alloc, "kib")
+        .long("kib")
+        .value_name("K")
+        .help("The chip's size in KiB, a multiple of 64 from 64 to 16384")
+        .required(true)
+        .action(ArgAction::Set)
+        .value_parser(value_parser!(u32).range(64..=16384))
+}
+
+/// `IMAGE`.
+fn image_arg<'a>(alloc: Global) -> Arg<'a>
+    ensures rule { rule_of result ≡ image_rule }
+    ensures local { result.global ≡ false }
+{
+    Arg::new(alloc, "IMAGE")
+        .help("The file of the chip's bytes; one that is there is replaced")
+        .required(true)
+        .action(ArgAction::Set)
+}
+
+/// The program's whole command line.
+fn whole_command<'a>(alloc: Global) -> Result<Command<'a>, clap::Error>
+    ensures app { IfOk result (λ c. app_of c ≡ norbd_app) }
+    ensures memory { IfErr result (λ e. kind_of e ≡ ErrorKind.OutOfMemory) }
+{
     let plain = Command::new(alloc, "plain")
         .about("Serves a disk in memory over standard input and output")
-        .arg(sectors)?;
+        .arg(sectors_arg(alloc))?;
+    let format = Command::new(alloc, "format")
+        .about("Makes the file of a formatted chip")
+        .arg(image_arg(alloc))?
+        .arg(kib_arg(alloc))?;
     let norbd = Command::new(alloc, "norbd")
         .bin_name("norbd")?
         .version("0.1.0")
         .subcommand_required(true);
-    Ok(norbd.subcommand(plain)?)
+    Ok(norbd.subcommand(plain)?.subcommand(format)?)
 }
 
 /// What the command line makes of the words.
@@ -84,9 +133,9 @@ fn number(matches: &ArgMatches<'_>, id: &str, least: u32, most: u32) -> Option<u
 
 /// The line of `plain`. The parse refuses words without a number in its range, so the arm `None` isn't reached; it needs
 /// some fault, and answers `NoMemory`.
-fn plain_line(matches: &ArgMatches<'_>) -> Result<Line, Fault>
+fn plain_line<'a>(matches: &ArgMatches<'a>) -> Result<Line<'a>, Fault>
     ensures range { IfOk result InRange }
-    ensures line { IfOk result (IsPlainLine (rows_of (found_of matches.now))) }
+    ensures line { IfOk result (IsLineIn (codes "plain") (rows_of (found_of matches.now))) }
     ensures fault { IfErr result (λ e. e ≡ Fault.NoMemory) }
 {
     match number(matches, "sectors", LEAST_SECTORS, MOST_SECTORS) {
@@ -95,11 +144,42 @@ fn plain_line(matches: &ArgMatches<'_>) -> Result<Line, Fault>
     }
 }
 
-/// Reads the program's words, of which the first is its name.
-///
-/// `Words` where they are no line of the program or ask for help or the version, `NoMemory` where memory ran out. The
-/// parse refuses words without a command, so the arm `None` isn't reached; it needs some fault, and answers `NoMemory`.
-pub fn read_line(alloc: Global, words: &[String]) -> Result<Line, Fault>
+/// The line of `format`, or `BadSize` where its number is no multiple of 64. The arms of what the parse refuses answer
+/// `NoMemory`.
+fn format_line<'a>(matches: &ArgMatches<'a>) -> Result<Line<'a>, Fault>
+    ensures range { IfOk result InRange }
+    ensures line { IfOk result (IsLineIn (codes "format") (rows_of (found_of matches.now))) }
+    ensures fault { IfErr result (ComesFromMatches (codes "format") (rows_of (found_of matches.now))) }
+{
+    let Some(kib) = number(matches, "kib", LEAST_KIB, MOST_KIB) else {
+        return Err(Fault::NoMemory);
+    };
+    if kib % UNIT_KIB != 0 {
+        return Err(Fault::BadSize);
+    }
+    match matches.get_str("IMAGE") {
+        Some(image) => Ok(Line::Format { image, kib }),
+        None => Err(Fault::NoMemory),
+    }
+}
+
+/// The line of the command of this name. The parse refuses every other name, so the last arm isn't reached.
+fn line_of<'a>(name: &str, matches: &ArgMatches<'a>) -> Result<Line<'a>, Fault>
+    ensures range { IfOk result InRange }
+    ensures line { IfOk result (IsLineIn name.now (rows_of (found_of matches.now))) }
+    ensures fault { IfErr result (ComesFromMatches name.now (rows_of (found_of matches.now))) }
+{
+    if name == "plain" {
+        plain_line(matches)
+    } else if name == "format" {
+        format_line(matches)
+    } else {
+        Err(Fault::NoMemory)
+    }
+}
+
+/// What the words make: a line, or a fault that has its cause.
+fn line_or_fault<'a>(alloc: Global, words: &'a [String]) -> Result<Line<'a>, Fault>
     ensures range { IfOk result InRange }
     ensures line { IfOk result (IsLineOf (texts_of words.now)) }
     ensures fault { IfErr result (ComesFromWords (texts_of words.now)) }
@@ -109,9 +189,23 @@ pub fn read_line(alloc: Global, words: &[String]) -> Result<Line, Fault>
         Err(error) => return Err(fault_from(error)),
     };
     match matches.subcommand() {
-        Some((_, of_plain)) => plain_line(of_plain),
+        Some((name, of_name)) => line_of(name, of_name),
         None => Err(Fault::NoMemory),
     }
+}
+
+/// Reads the program's words, of which the first is its name.
+///
+/// `Words` where they are no line of the program or ask for help or the version, `BadSize` where the number after `--kib` is
+/// from 64 to 16,384 and no multiple of 64, `NoMemory` where memory ran out. The parse refuses words without a command, a
+/// path or a number in its range, so what comes then isn't reached; it needs some fault, and answers `NoMemory`.
+pub fn read_line<'a>(alloc: Global, words: &'a [String]) -> Result<Line<'a>, Fault>
+    ensures range { IfOk result InRange }
+    ensures line { IfOk result (IsLineOf (texts_of words.now)) }
+    ensures fault { IfErr result (ComesFromWords (texts_of words.now)) }
+    ensures odd { HasOddSize (texts_of words.now) → IsErrAnd result (λ e. (e ≡ Fault.BadSize) ⊎ (e ≡ Fault.NoMemory)) }
+{
+    line_or_fault(alloc, words)
 }
 
 #[cfg(test)]
@@ -119,48 +213,79 @@ mod tests {
     use super::*;
     use std::test::Fail;
 
-    /// What `read_line` answers to these words, set apart by blanks: the sectors of a line, or the fault's status.
-    fn answer_to(alloc: Global, text: &str) -> Result<Result<u32, u8>, Fail> {
+    /// These words, set apart by blanks.
+    fn words_of(alloc: Global, text: &str) -> Result<Vec<String>, Fail> {
         let mut words = Vec::new(alloc);
         for word in text.split(' ') {
             words.push(String::from_str(alloc, word)?)?;
         }
-        match read_line(alloc, words.as_slice()) {
-            Ok(Line::Plain { sectors }) => Ok(Ok(sectors)),
-            Err(fault) => Ok(Err(fault.status())),
+        Ok(words)
+    }
+
+    /// What `read_line` answers to these words: the path and the number of a line, or the fault's status. `plain` has no path.
+    fn answer_to(words: &[String], alloc: Global) -> Result<(&str, u32), u8> {
+        match read_line(alloc, words) {
+            Ok(Line::Plain { sectors }) => Ok(("", sectors)),
+            Ok(Line::Format { image, kib }) => Ok((image, kib)),
+            Err(fault) => Err(fault.status()),
         }
     }
 
     #[test]
     fn reads_lines(rt: HostRuntime) -> Result<(), Fail> {
         for (text, answer) in [
-            ("norbd plain --sectors 70", Ok(70)),
-            ("norbd plain --sectors 1", Ok(1)),
-            ("norbd plain --sectors 65536", Ok(65536)),
+            ("norbd plain --sectors 70", Ok(("", 70))),
+            ("norbd plain --sectors 1", Ok(("", 1))),
+            ("norbd plain --sectors 65536", Ok(("", 65536))),
             ("norbd plain --sectors 0", Err(2)),
             ("norbd plain --sectors 65537", Err(2)),
             ("norbd plain --sectors", Err(2)),
             ("norbd plain", Err(2)),
             ("norbd plain --sectors 70 more", Err(2)),
+            ("norbd format a.img --kib 64", Ok(("a.img", 64))),
+            ("norbd format --kib 16384 d/a.img", Ok(("d/a.img", 16384))),
+            ("norbd format a.img --kib 0", Err(2)),
+            ("norbd format a.img --kib 63", Err(2)),
+            ("norbd format a.img --kib 65", Err(2)),
+            ("norbd format a.img --kib 16448", Err(2)),
+            ("norbd format a.img --kib x", Err(2)),
+            ("norbd format a.img --kib", Err(2)),
+            ("norbd format a.img", Err(2)),
+            ("norbd format --kib 64", Err(2)),
             ("norbd other", Err(2)),
             ("norbd", Err(2)),
             ("norbd --help", Err(0)),
             ("norbd plain --help", Err(0)),
+            ("norbd format --help", Err(0)),
             ("norbd --version", Err(0)),
         ] {
-            assert_eq!(rt; answer_to(rt.alloc(), text)?, answer, "{text}");
+            let words = words_of(rt.alloc(), text)?;
+            assert_eq!(rt; answer_to(words.as_slice(), rt.alloc()), answer, "{text}");
         }
+        Ok(())
+    }
+
+    /// The text of the fault of these words.
+    fn fault_text(alloc: Global, text: &str) -> Result<String, Fail> {
+        let words = words_of(alloc, text)?;
+        match read_line(alloc, words.as_slice()) {
+            Ok(_) => Err(Fail::from("a line")),
+            Err(fault) => Ok(format!(in alloc; "{fault}")?),
+        }
+    }
+
+    #[test]
+    fn a_number_in_its_range_that_is_no_size_has_a_text_of_its_own(
+        rt: HostRuntime,
+    ) -> Result<(), Fail> {
+        let text = fault_text(rt.alloc(), "norbd format a.img --kib 65")?;
+        assert_eq!(rt; text.as_str(), "bad size");
         Ok(())
     }
 
     #[test]
     fn says_norbd_whatever_the_first_word(rt: HostRuntime) -> Result<(), Fail> {
-        let alloc = rt.alloc();
-        let words = vec![in alloc; String::from_str(alloc, "out/program")?]?;
-        let Err(fault) = read_line(alloc, words.as_slice()) else {
-            return Err(Fail::from("a line of no words"));
-        };
-        let text = format!(in alloc; "{fault}")?;
+        let text = fault_text(rt.alloc(), "out/program")?;
         assert!(rt; text.as_str().contains("Usage: norbd <COMMAND>"), "{text}");
         Ok(())
     }
