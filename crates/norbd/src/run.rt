@@ -54,7 +54,13 @@ pub fn run_line<R: Files + AllocGlobal, S: Source, K: Sink>(
 {
     match line {
         Line::Plain { sectors } => {
-            run_plain::<Brand, S, K>(rt.alloc(), Blank::new(LEDGER_PARTS), sectors, reader, writer)
+            run_plain::<Brand, S, K>(
+                rt.alloc(),
+                Blank::new(LEDGER_PARTS),
+                sectors,
+                reader,
+                writer,
+            )
         }
         Line::Format { image, kib } => run_format(rt, image, kib, writer),
     }

@@ -315,7 +315,11 @@ fn formats_an_image(rt: HostRuntime) -> Result<(), Fail> {
         (64, "formatted 70 sectors\n", ""),
         (9, "formatted", "output failed"),
     ] {
-        check_format::<Brand, Brand, _>(&rt, room, output, fault, Blank::new(1), Blank::new(1))?;
+        let expected = Expected {
+            output: output.as_bytes(),
+            fault,
+        };
+        check_format(&rt, room, expected)?;
         let image = fs::read(&rt, "formatted.img")?;
         assert_eq!(rt; image.len(), 65_536);
         let (superblock, rest) = image.split_at(16);
@@ -327,12 +331,19 @@ fn formats_an_image(rt: HostRuntime) -> Result<(), Fail> {
     Ok(())
 }
 
-/// Runs `format` of 64 KiB with so much room for what it writes, and compares that and the text of its fault, if any.
-fn check_format<I: Ledger, O: Ledger, R: Abort + Files + AllocGlobal>(
+/// Runs `format` of 64 KiB with so many bytes of room for what it writes, and compares.
+fn check_format<R: Abort + Files + AllocGlobal>(
     rt: &R,
     room: usize,
-    output: &str,
-    fault: &str,
+    expected: Expected<'_>,
+) -> Result<(), Fail> {
+    check_format_counted::<Brand, Brand, R>(rt, room, expected, Blank::new(1), Blank::new(1))
+}
+
+fn check_format_counted<I: Ledger, O: Ledger, R: Abort + Files + AllocGlobal>(
+    rt: &R,
+    room: usize,
+    expected: Expected<'_>,
     reads: Blank,
     writes: Blank,
 ) -> Result<(), Fail>
@@ -347,11 +358,11 @@ fn check_format<I: Ledger, O: Ledger, R: Abort + Files + AllocGlobal>(
         kib: 64,
     };
     let result = run_line(rt, line, &mut reader, &mut writer);
-    assert_eq!(rt; writer.bytes(), output.as_bytes());
-    let text = match result {
+    assert_eq!(rt; writer.bytes(), expected.output);
+    let fault = match result {
         Ok(()) => String::new(rt.alloc()),
         Err(fault) => format!(in rt.alloc(); "{fault}")?,
     };
-    assert_eq!(rt; text.as_str(), fault);
+    assert_eq!(rt; fault.as_str(), expected.fault);
     Ok(())
 }
