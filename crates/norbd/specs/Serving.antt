@@ -1,5 +1,5 @@
 -- What `plain` writes: the replies of an array of zeros to the requests of its input. Source: NBD proto.md for the replies.
-use Rattle.std.specs.Prelude.{◌≡◌, ℕ, ◌*◌, List, [], true, replicate, Option, Result, Ok, Err}
+use Rattle.std.specs.Prelude.{ℕ, ◌*◌, List, [], true, replicate, Option, Result, Ok, Err}
 use Rattle.std.specs.Io.KnownBytes.{Appends}
 use Rattle.nbd_wire.specs.declared.phase.Phase.{Phase}
 use Rattle.norbd_line.specs.declared.fault.Fault.{Fault}
