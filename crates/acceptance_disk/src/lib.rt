@@ -1,4 +1,5 @@
-//! Tests of the disk on a simulated chip: worked rows of its bytes, its losses of power, its refusals and its wear.
+//! Tests of the disk on a simulated chip: worked rows of its bytes, its losses of power, its refusals and its wear; and of the
+//! files of images.
 //!
 //! There is no product code here. `first_of_new` formats a chip, mounts it as a sound disk and reads its first sector, so that
 //! the contracts of `format`, `mount` and `read` meet: it is proved to give zeros. The rows are those of a chip of 64 KiB, whose
@@ -9,6 +10,8 @@
 #[cfg(test)]
 mod chips;
 mod fresh;
+#[cfg(test)]
+mod images;
 #[cfg(test)]
 mod losses;
 #[cfg(test)]

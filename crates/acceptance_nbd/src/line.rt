@@ -1,54 +1,88 @@
 // The program's words, and the texts of its faults.
 use norbd_line::{Fault, Line, read_line};
+use std::alloc::Global;
 use std::test::Fail;
 
-/// Each row has the program's words, set apart by blanks, and the sectors of their line, or the status of their fault.
+/// These words, set apart by blanks.
+fn words_of(alloc: Global, text: &str) -> Result<Vec<String>, Fail> {
+    let mut words = Vec::new(alloc);
+    for word in text.split(' ') {
+        words.push(String::from_str(alloc, word)?)?;
+    }
+    Ok(words)
+}
+
+/// What `read_line` answers to these words: the path and the number of a line, or the fault's status. `plain` has no path.
+fn answer_to(words: &[String], alloc: Global) -> Result<(&str, u32), u8> {
+    match read_line(alloc, words) {
+        Ok(Line::Plain { sectors }) => Ok(("", sectors)),
+        Ok(Line::Format { image, kib }) => Ok((image, kib)),
+        Err(fault) => Err(fault.status()),
+    }
+}
+
 #[test]
 fn reads_lines(rt: HostRuntime) -> Result<(), Fail> {
-    let alloc = rt.alloc();
     for (text, answer) in [
-        ("norbd plain --sectors 70", Ok(70)),
-        ("norbd plain --sectors 1", Ok(1)),
-        ("norbd plain --sectors 65536", Ok(65536)),
+        ("norbd plain --sectors 70", Ok(("", 70))),
+        ("norbd plain --sectors 1", Ok(("", 1))),
+        ("norbd plain --sectors 65536", Ok(("", 65536))),
         ("norbd plain --sectors 0", Err(2)),
         ("norbd plain --sectors 65537", Err(2)),
         ("norbd plain --sectors", Err(2)),
         ("norbd plain", Err(2)),
         ("norbd plain --sectors 70 more", Err(2)),
+        ("norbd format a.img --kib 64", Ok(("a.img", 64))),
+        ("norbd format --kib 16384 d/a.img", Ok(("d/a.img", 16384))),
+        ("norbd format a.img --kib 0", Err(2)),
+        ("norbd format a.img --kib 63", Err(2)),
+        ("norbd format a.img --kib 65", Err(2)),
+        ("norbd format a.img --kib 16448", Err(2)),
+        ("norbd format a.img --kib x", Err(2)),
+        ("norbd format a.img --kib", Err(2)),
+        ("norbd format a.img", Err(2)),
+        ("norbd format --kib 64", Err(2)),
         ("norbd other", Err(2)),
         ("norbd", Err(2)),
         ("norbd --help", Err(0)),
         ("norbd plain --help", Err(0)),
+        ("norbd format --help", Err(0)),
         ("norbd --version", Err(0)),
     ] {
-        let mut words = Vec::new(alloc);
-        for word in text.split(' ') {
-            words.push(String::from_str(alloc, word)?)?;
-        }
-        let found = match read_line(alloc, words.as_slice()) {
-            Ok(Line::Plain { sectors }) => Ok(sectors),
-            Err(fault) => Err(fault.status()),
-        };
-        assert_eq!(rt; found, answer, "{text}");
+        let words = words_of(rt.alloc(), text)?;
+        assert_eq!(rt; answer_to(words.as_slice(), rt.alloc()), answer, "{text}");
     }
     Ok(())
 }
 
+/// The text of the fault of these words.
+fn fault_text(alloc: Global, text: &str) -> Result<String, Fail> {
+    let words = words_of(alloc, text)?;
+    match read_line(alloc, words.as_slice()) {
+        Ok(_) => Err(Fail::from("a line")),
+        Err(fault) => Ok(format!(in alloc; "{fault}")?),
+    }
+}
+
 #[test]
 fn faults_show_their_texts(rt: HostRuntime) -> Result<(), Fail> {
-    let alloc = rt.alloc();
-    let memory = format!(in alloc; "{}", Fault::NoMemory)?;
-    assert_eq!(rt; memory.as_str(), "no memory");
-    let input = format!(in alloc; "{}", Fault::InputFailed)?;
-    assert_eq!(rt; input.as_str(), "input failed");
-    let output = format!(in alloc; "{}", Fault::OutputFailed)?;
-    assert_eq!(rt; output.as_str(), "output failed");
+    for (fault, text) in [
+        (Fault::BadSize, "bad size"),
+        (Fault::NoMemory, "no memory"),
+        (Fault::InputFailed, "input failed"),
+        (Fault::OutputFailed, "output failed"),
+        (Fault::ImageFailed, "image failed"),
+        (Fault::WrongId, "wrong id"),
+        (Fault::BadSfdp, "bad sfdp"),
+        (Fault::Protected, "protected"),
+        (Fault::Slow, "slow"),
+    ] {
+        assert_eq!(rt; format!(in rt.alloc(); "{fault}")?.as_str(), text);
+    }
+    let text = fault_text(rt.alloc(), "norbd format a.img --kib 65")?;
+    assert_eq!(rt; text.as_str(), "bad size");
     // `clap`'s text says norbd whatever the first word.
-    let words = vec![in alloc; String::from_str(alloc, "out/program")?]?;
-    let Err(fault) = read_line(alloc, words.as_slice()) else {
-        return Err(Fail::from("a line of no words"));
-    };
-    let text = format!(in alloc; "{fault}")?;
+    let text = fault_text(rt.alloc(), "out/program")?;
     assert!(rt; text.as_str().contains("Usage: norbd <COMMAND>"), "{text}");
     Ok(())
 }

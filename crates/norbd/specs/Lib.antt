@@ -1,2 +1,3 @@
+pub mod Formatting
 pub mod Outcomes
 pub mod Serving

@@ -3,7 +3,7 @@ use Rattle.std.specs.Prelude.{◌≡◌, ◌⊎◌, ℕ, ◌-◌, ◌^◌, ◌<�
 use Rattle.std.specs.Io.KnownBytes.{Consumes}
 use Rattle.norbd_line.specs.Fault.{HasStatus}
 use Rattle.norbd_line.specs.declared.fault.Fault.{Fault}
-use Rattle.norbd_line.specs.declared.fault.Fault.TheVariants.{Words, NoMemory, InputFailed, OutputFailed}
+use Rattle.norbd_line.specs.declared.fault.Fault.TheVariants.{Words, NoMemory, BadSize, InputFailed, OutputFailed, ImageFailed, WrongId, BadSfdp, Protected, Slow}
 use Rattle.share.specs.declared.connection.End.{End}
 use Rattle.share.specs.declared.connection.End.TheVariants.{Closed, EndOfInput, Input, Output, Lost, OutOfMemory}
 
@@ -32,15 +32,21 @@ FailsToRead had left reads reads' =
     (text : List ℕ) × Consumes had left text × ((reads < reads') ⊎ (2 ^ 64 - 1 ≤ length text))
 
 -- The cause of a fault, by the bytes that the reader had and has left, and the failed calls of the reader and of the
--- writer before and after. Only a fault of a stream counts a failed call, and that of its own; a line that is done has
--- no fault of its words.
+-- writer before and after. Only a fault of a stream counts a failed call, and that of its own; serving has no fault of the
+-- words nor of an image.
 abbrev pub HasCause : Fault → Option (List ℕ) → Option (List ℕ) → ℕ → ℕ → ℕ → ℕ → Type 0
 HasCause (Words error) had left reads reads' writes writes' = ⊥
 HasCause NoMemory had left reads reads' writes writes' = (reads' ≡ reads) × (writes' ≡ writes)
 HasCause InputFailed had left reads reads' writes writes' = FailsToRead had left reads reads' × (writes' ≡ writes)
 HasCause OutputFailed had left reads reads' writes writes' = (reads' ≡ reads) × (writes < writes')
+HasCause BadSize had left reads reads' writes writes' = ⊥
+HasCause ImageFailed had left reads reads' writes writes' = ⊥
+HasCause WrongId had left reads reads' writes writes' = ⊥
+HasCause BadSfdp had left reads reads' writes writes' = ⊥
+HasCause Protected had left reads reads' writes writes' = ⊥
+HasCause Slow had left reads reads' writes writes' = ⊥
 
--- How a line ended: done, and no call of a stream failed, or with a fault that has its cause.
+-- How serving ended: done, and no call of a stream failed, or with a fault that has its cause.
 abbrev pub Ended : {T : Type 0} → Result T Fault → Option (List ℕ) → Option (List ℕ) → ℕ → ℕ → ℕ → ℕ → Type 0
 Ended (Ok _) had left reads reads' writes writes' = (reads' ≡ reads) × (writes' ≡ writes)
 Ended (Err fault) had left reads reads' writes writes' = HasCause fault had left reads reads' writes writes'

@@ -1,16 +1,10 @@
 -- What `plain` writes: the replies of an array of zeros to the requests of its input. Source: NBD proto.md for the replies.
-use Rattle.std.specs.Prelude.{◌≡◌, ℕ, ◌*◌, List, [], true, replicate, Option, Result, Ok, Err}
+use Rattle.std.specs.Prelude.{ℕ, ◌*◌, List, [], true, replicate, Option, Result, Ok, Err}
 use Rattle.std.specs.Io.KnownBytes.{Appends}
 use Rattle.nbd_wire.specs.declared.phase.Phase.{Phase}
 use Rattle.norbd_line.specs.declared.fault.Fault.{Fault}
-use Rattle.norbd_line.specs.declared.fault.Fault.TheVariants.{Words, NoMemory, InputFailed, OutputFailed}
-use Rattle.norbd_line.specs.declared.line.Line.{Line}
-use Rattle.norbd_line.specs.declared.line.Line.TheVariants.{Plain}
+use Rattle.norbd_line.specs.declared.fault.Fault.TheVariants.{Words, NoMemory, BadSize, InputFailed, OutputFailed, ImageFailed, WrongId, BadSfdp, Protected, Slow}
 use Rattle.share.specs.Plain.{AnswersAll, AnswersSome}
-
--- the sectors of a line's disk
-abbrev pub sectors_of : Line → ℕ
-sectors_of (Plain sectors) = sectors
 
 -- so many sectors of zeros
 abbrev pub zeros : ℕ → List ℕ
@@ -24,3 +18,9 @@ Serves sectors input old new (Err (Words error)) = ⊥
 Serves sectors input old new (Err NoMemory) = Appends old new []
 Serves sectors input old new (Err InputFailed) = (contents : List ℕ) × AnswersSome true sectors (zeros sectors) contents input old new
 Serves sectors input old new (Err OutputFailed) = (contents : List ℕ) × AnswersSome true sectors (zeros sectors) contents input old new
+Serves sectors input old new (Err BadSize) = ⊥
+Serves sectors input old new (Err ImageFailed) = ⊥
+Serves sectors input old new (Err WrongId) = ⊥
+Serves sectors input old new (Err BadSfdp) = ⊥
+Serves sectors input old new (Err Protected) = ⊥
+Serves sectors input old new (Err Slow) = ⊥

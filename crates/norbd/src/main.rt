@@ -1,18 +1,22 @@
-//! The program `norbd`: serves a disk by the Network Block Device protocol (NBD), in its transmission phase.
+//! The program `norbd`: serves a disk by the Network Block Device protocol (NBD), in its transmission phase, and formats images
+//! of flash chips.
 //!
 //! Here stand the words of the command line, the standard streams, what is printed of a fault, and the exit status:
 //! 0 where the line is done, 2 for a bad line, 1 for each other fault. `run` does what a line asks, over any reader and
 //! writer; the readers and writers here are standard input and output, unbuffered, so that each reply is out before the
-//! next request is looked at.
+//! next request is looked at. `formatting` makes an image and tells its sectors.
 //! Left to the crates below: the words and the texts of faults (`norbd_line`), requests and replies (`share`), the disk
-//! (`block_device`). No contract says what is printed; tests and runs show it.
+//! (`block_device`), an image's bytes and its file (`image`). No contract says what is printed of a fault, nor what a file
+//! holds; tests and runs show it.
 //! Source: own for the command line and its faults; NBD proto.md for requests and replies.
 #![tactic(auto)]
 
 ghost use Rattle.std.specs.Prelude.{◌≡◌, ◌<◌};
 ghost use Rattle.std.specs.Process.{exit_status};
 ghost use Rattle.norbd.specs.Outcomes.{EndsWith};
+ghost use Rattle.norbd_line.specs.Line.{IfFormat, IsSize};
 
+mod formatting;
 mod run;
 #[cfg(test)]
 mod tests;
@@ -39,16 +43,17 @@ fn words_of(rt: &HostRuntime, alloc: Global) -> Result<Vec<String>, Fault> {
 /// Does a line over standard input and standard output, whose failures the ledgers `I` and `O` count.
 fn run_standard<I: Ledger, O: Ledger>(
     rt: &HostRuntime,
-    line: Line,
+    line: Line<'_>,
     input: Blank,
     output: Blank,
 ) -> Result<(), Fault>
     requires input { (input.name ≡ I.name) × (input.parts ≡ I.parts) × (0 < I.parts) }
     requires output { (output.name ≡ O.name) × (output.parts ≡ O.parts) × (0 < O.parts) }
+    requires size { IfFormat line (λ _ kib. IsSize kib) }
 {
     let mut reader = Io::<_, I>::new(rt.stdin(), input);
     let mut writer = Io::<_, O>::new(rt.stdout(), output);
-    run::run_line(rt.alloc(), line, &mut reader, &mut writer)
+    run::run_line(rt, line, &mut reader, &mut writer)
 }
 
 /// Prints a fault: `clap`'s own text for one of the words, else a line on standard error. A failure to print it is passed
@@ -72,6 +77,7 @@ fn exit_code(done: &Result<(), Fault>) -> ExitCode
 }
 
 /// Reads the program's words and does their line.
+#[tactic(auto, using(crate::proofs::Sizes::size_of_line))]
 fn run_words(rt: &HostRuntime) -> Result<(), Fault> {
     let words = words_of(rt, rt.alloc())?;
     let line = read_line(rt.alloc(), words.as_slice())?;

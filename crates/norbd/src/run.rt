@@ -1,13 +1,17 @@
 //! What a line asks, over any reader and writer.
 ghost use Rattle.std.specs.Prelude.{◌≡◌, ◌≢◌, ℕ, List, Some};
 ghost use Rattle.norbd.specs.Outcomes.{Ended, Means};
-ghost use Rattle.norbd.specs.Serving.{Serves, sectors_of};
+ghost use Rattle.norbd.specs.Formatting.{Tells};
+ghost use Rattle.norbd.specs.Serving.{Serves};
+ghost use Rattle.norbd_line.specs.Line.{IfFormat, IfPlain, IsSize};
 
+use crate::formatting::run_format;
 use block_device::{PlainDisk, Sink, Source};
 use norbd_line::{Fault, Line};
 use share::{End, FullRecord, Gate, OneServer, Point, Shared, exchange_plain};
 use std::alloc::Global;
 use std::marker::Brand;
+use std::rt::Files;
 use std::sync::ledger::Blank;
 
 /// The parts of a server's ledger: one for each of 65,536 passes, and one that stays.
@@ -28,28 +32,37 @@ impl Gate for OpenGate {
 /// a request closes the connection (a wrong magic, or DISC).
 ///
 /// `NoMemory` where there is no memory for the disk, its record or the buffers, `InputFailed` where a read failed (or
-/// after 2^64 - 1 bytes), `OutputFailed` where a write failed. Source: own.
-pub fn run_line<S: Source, K: Sink>(
-    alloc: Global,
-    line: Line,
+/// after 2^64 - 1 bytes), `OutputFailed` where a write failed.
+///
+/// `format`: makes the file at the path a formatted chip, and writes a line about it to `writer`; its faults are those of
+/// `run_format`. Nothing is read. Source: own.
+#[tactic(auto, using(crate::proofs::Sizes::size_of_chip))]
+pub fn run_line<R: Files + AllocGlobal, S: Source, K: Sink>(
+    rt: &R,
+    line: Line<'_>,
     reader: &mut S,
     writer: &mut K,
 ) -> Result<(), Fault>
-    ensures ends { Ended result (S.remaining reader.old) (S.remaining reader.new) (S.faults reader.old) (S.faults reader.new)
-        (K.faults writer.old) (K.faults writer.new) }
-    ensures serves { (input : List ℕ) → S.remaining reader.old ≡ Some input
-        → Serves (sectors_of line) input (K.written writer.old) (K.written writer.new) result }
-{
-    let sectors = sectors_of(line);
-    run_plain::<Brand, S, K>(alloc, Blank::new(LEDGER_PARTS), sectors, reader, writer)
-}
-
-// The sectors of a line's disk.
-fn sectors_of(line: Line) -> u32
-    ensures { result ≡ sectors_of line }
+    requires size { IfFormat line (λ _ kib. IsSize kib) }
+    ensures ends { IfPlain line.entry (λ _. Ended result (S.remaining reader.old) (S.remaining reader.new) (S.faults reader.old)
+        (S.faults reader.new) (K.faults writer.old) (K.faults writer.new)) }
+    ensures serves { IfPlain line.entry (λ sectors. (input : List ℕ) → S.remaining reader.old ≡ Some input
+        → Serves sectors input (K.written writer.old) (K.written writer.new) result) }
+    ensures unread { IfFormat line.entry (λ _ _. reader.new ≡ reader.old) }
+    ensures tells { IfFormat line.entry (λ _ kib. Tells kib (K.written writer.old) (K.faults writer.old) result
+        (K.written writer.new) (K.faults writer.new)) }
 {
     match line {
-        Line::Plain { sectors } => sectors,
+        Line::Plain { sectors } => {
+            run_plain::<Brand, S, K>(
+                rt.alloc(),
+                Blank::new(LEDGER_PARTS),
+                sectors,
+                reader,
+                writer,
+            )
+        }
+        Line::Format { image, kib } => run_format(rt, image, kib, writer),
     }
 }
 

@@ -6,12 +6,13 @@ use crate::run::run_line;
 use block_device::{FixedOut, Io};
 use norbd_line::Line;
 use std::alloc::Global;
-use std::io;
 use std::io::Read;
 use std::marker::Brand;
 use std::process::Abort;
+use std::rt::Files;
 use std::sync::ledger::{Blank, Ledger};
 use std::test::Fail;
+use std::{fs, io};
 
 /// A stream that gives its bytes in pieces: at most `most` bytes in the next call, and at most `later` in each one after
 /// it. So many calls are good; then each fails.
@@ -64,7 +65,7 @@ struct Expected<'a> {
 }
 
 /// Runs `plain` with so many sectors on `input`, and compares.
-fn check<R: Abort>(
+fn check<R: Abort + Files + AllocGlobal>(
     rt: &R,
     alloc: Global,
     sectors: u32,
@@ -84,7 +85,7 @@ fn check<R: Abort>(
     )
 }
 
-fn check_counted<I: Ledger, O: Ledger, R: Abort>(
+fn check_counted<I: Ledger, O: Ledger, R: Abort + Files + AllocGlobal>(
     rt: &R,
     alloc: Global,
     sectors: u32,
@@ -106,7 +107,7 @@ fn check_counted<I: Ledger, O: Ledger, R: Abort>(
     let mut room = vec![in alloc; 0u8; streams.room]?;
     let mut reader = Io::<_, I>::new(pieces, reads);
     let mut writer = FixedOut::<O>::new(room.as_mut_slice(), writes);
-    let result = run_line(alloc, Line::Plain { sectors }, &mut reader, &mut writer);
+    let result = run_line(rt, Line::Plain { sectors }, &mut reader, &mut writer);
     assert_eq!(rt; writer.bytes(), expected.output, "{streams:?}");
     let fault = match result {
         Ok(()) => String::new(alloc),
@@ -305,5 +306,63 @@ fn ends_with_the_fault_of_a_stream(rt: HostRuntime) -> Result<(), Fail> {
         };
         check(&rt, alloc, 70, input.as_slice(), streams, expected)?;
     }
+    Ok(())
+}
+
+#[test]
+fn formats_an_image(rt: HostRuntime) -> Result<(), Fail> {
+    for (room, output, fault) in [
+        (64, "formatted 70 sectors\n", ""),
+        (9, "formatted", "output failed"),
+    ] {
+        let expected = Expected {
+            output: output.as_bytes(),
+            fault,
+        };
+        check_format(&rt, room, expected)?;
+        let image = fs::read(&rt, "formatted.img")?;
+        assert_eq!(rt; image.len(), 65_536);
+        let (superblock, rest) = image.split_at(16);
+        let expected = bytes_of(rt.alloc(), "4E4F52424C4B3031 01 1000 0A00 FF 00 FF")?;
+        assert_eq!(rt; superblock, expected.as_slice());
+        assert!(rt; rest.iter().all(|byte| *byte == 0xFF));
+        fs::remove_file(&rt, "formatted.img")?;
+    }
+    Ok(())
+}
+
+/// Runs `format` of 64 KiB with so many bytes of room for what it writes, and compares.
+fn check_format<R: Abort + Files + AllocGlobal>(
+    rt: &R,
+    room: usize,
+    expected: Expected<'_>,
+) -> Result<(), Fail> {
+    check_format_counted::<Brand, Brand, R>(rt, room, expected, Blank::new(1), Blank::new(1))
+}
+
+fn check_format_counted<I: Ledger, O: Ledger, R: Abort + Files + AllocGlobal>(
+    rt: &R,
+    room: usize,
+    expected: Expected<'_>,
+    reads: Blank,
+    writes: Blank,
+) -> Result<(), Fail>
+    requires reads { (reads.name ≡ I.name) × (reads.parts ≡ I.parts) × (0 < I.parts) }
+    requires writes { (writes.name ≡ O.name) × (writes.parts ≡ O.parts) × (0 < O.parts) }
+{
+    let mut room = vec![in rt.alloc(); 0u8; room]?;
+    let mut reader = Io::<_, I>::new(io::empty(), reads);
+    let mut writer = FixedOut::<O>::new(room.as_mut_slice(), writes);
+    let line = Line::Format {
+        image: "formatted.img",
+        kib: 64,
+    };
+    let result = run_line(rt, line, &mut reader, &mut writer);
+    assert_eq!(rt; writer.bytes(), expected.output);
+    let fault = match result {
+        Ok(()) => String::new(rt.alloc()),
+        Err(fault) => format!(in rt.alloc(); "{fault}")?,
+    };
+    assert_eq!(rt; fault.as_str(), expected.fault);
     Ok(())
 }

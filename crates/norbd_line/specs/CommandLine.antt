@@ -1,4 +1,4 @@
-use Rattle.std.specs.Prelude.{List, Some, String, codes, map, pos, true}
+use Rattle.std.specs.Prelude.{List, ℕ, Some, String, codes, map, pos, true}
 use Rattle.std.specs.String.{string_bytes}
 use Rattle.clap.specs.Words.{App, Rule, Text, new_app, new_rule, with_rule, with_subcommand}
 use Rattle.clap.specs.declared.builder.action.ArgAction.TheVariants.{Set}
@@ -6,19 +6,35 @@ use Rattle.clap.specs.declared.builder.value_parser.ValueParser.TheVariants as v
 
 -- The command line in the terms of `clap`.
 
--- `--sectors S`: required, one number from 1 to 65,536
-abbrev pub sectors_rule : Rule
-sectors_rule = record (new_rule (codes "sectors")) {
-  long = Some (codes "sectors");
+-- a required option of this name that takes one number from `least` to `most`
+abbrev pub number_rule : Text → ℕ → ℕ → Rule
+number_rule name least most = record (new_rule name) {
+  long = Some name;
   action = Some Set;
   value_names = 1;
   required = true;
-  parser = Some (value_parser.Signed (pos 1) (pos 65536));
+  parser = Some (value_parser.Signed (pos least) (pos most));
 }
+
+-- `--sectors S`: required, one number from 1 to 65,536
+abbrev pub sectors_rule : Rule
+sectors_rule = number_rule (codes "sectors") 1 65536
+
+-- `--kib K`: required, one number from 64 to 16,384
+abbrev pub kib_rule : Rule
+kib_rule = number_rule (codes "kib") 64 16384
+
+-- `IMAGE`: required, one text at its place
+abbrev pub image_rule : Rule
+image_rule = record (new_rule (codes "IMAGE")) { action = Some Set; required = true }
 
 -- `plain --sectors S`
 abbrev pub plain_app : App
 plain_app = with_rule (new_app (codes "plain")) sectors_rule
+
+-- `format IMAGE --kib K`
+abbrev pub format_app : App
+format_app = with_rule (with_rule (new_app (codes "format")) image_rule) kib_rule
 
 -- `norbd` has a version and requires a command
 abbrev pub norbd_alone : App
@@ -28,7 +44,7 @@ norbd_alone = record (new_app (codes "norbd")) {
 
 -- the whole command line
 abbrev pub norbd_app : App
-norbd_app = with_subcommand norbd_alone plain_app.top
+norbd_app = with_subcommand (with_subcommand norbd_alone plain_app.top) format_app.top
 
 -- the words as texts
 abbrev pub texts_of : {Z : Type 0} → List (String Z) → List Text

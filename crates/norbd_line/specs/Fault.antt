@@ -1,10 +1,11 @@
 use Rattle.std.specs.Prelude.{ℕ, List, ◌≡◌, ◌≢◌, ◌⊎◌}
-use Rattle.clap.specs.Words.{IsAmong, Text, fault_of, kind_of}
+use Rattle.clap.specs.Words.{IsAmong, Row, Text, fault_of, kind_of}
 use Rattle.norbd_line.specs.CommandLine.{norbd_app}
+use Rattle.norbd_line.specs.Line.{HasOddSize, HasOddSizeIn}
 use Rattle.clap.specs.declared.error.kind.ErrorKind.{ErrorKind}
 use Rattle.clap.specs.declared.error.kind.ErrorKind.TheVariants.{DisplayHelp, DisplayVersion, OutOfMemory}
 use Rattle.norbd_line.specs.declared.fault.Fault.{Fault}
-use Rattle.norbd_line.specs.declared.fault.Fault.TheVariants.{Words, NoMemory, InputFailed, OutputFailed}
+use Rattle.norbd_line.specs.declared.fault.Fault.TheVariants.{Words, NoMemory, BadSize, InputFailed, OutputFailed, ImageFailed, WrongId, BadSfdp, Protected, Slow}
 
 -- the words asked for help or for the version, so they are no mistake
 abbrev pub AsksForText : ErrorKind → Type 0
@@ -14,13 +15,39 @@ AsksForText kind = (kind ≡ DisplayHelp) ⊎ (kind ≡ DisplayVersion)
 abbrev pub HasStatus : Fault → ℕ → Type 0
 HasStatus (Words error) status =
     (AsksForText (kind_of error) → status ≡ 0) × ((AsksForText (kind_of error) → ⊥) → status ≡ 2)
+HasStatus BadSize status = status ≡ 2
 HasStatus NoMemory status = status ≡ 1
 HasStatus InputFailed status = status ≡ 1
 HasStatus OutputFailed status = status ≡ 1
+HasStatus ImageFailed status = status ≡ 1
+HasStatus WrongId status = status ≡ 1
+HasStatus BadSfdp status = status ≡ 1
+HasStatus Protected status = status ≡ 1
+HasStatus Slow status = status ≡ 1
 
--- a fault that reading these words may answer: one of those that they have, which isn't want of memory, or want of memory
+-- a fault that comes of what was matched of the words of a command: a number that is no size, or want of memory
+abbrev pub ComesFromMatches : Text → List Row → Fault → Type 0
+ComesFromMatches name rows (Words error) = ⊥
+ComesFromMatches name rows BadSize = HasOddSizeIn name rows
+ComesFromMatches name rows NoMemory = Unit {0}
+ComesFromMatches name rows InputFailed = ⊥
+ComesFromMatches name rows OutputFailed = ⊥
+ComesFromMatches name rows ImageFailed = ⊥
+ComesFromMatches name rows WrongId = ⊥
+ComesFromMatches name rows BadSfdp = ⊥
+ComesFromMatches name rows Protected = ⊥
+ComesFromMatches name rows Slow = ⊥
+
+-- a fault that reading these words may answer: one of those that they have, which isn't want of memory, a number that is no
+-- size, or want of memory
 abbrev pub ComesFromWords : List Text → Fault → Type 0
 ComesFromWords words (Words error) = (kind_of error ≢ OutOfMemory) × IsAmong (kind_of error) (fault_of norbd_app words)
+ComesFromWords words BadSize = HasOddSize words
 ComesFromWords words NoMemory = Unit {0}
 ComesFromWords words InputFailed = ⊥
 ComesFromWords words OutputFailed = ⊥
+ComesFromWords words ImageFailed = ⊥
+ComesFromWords words WrongId = ⊥
+ComesFromWords words BadSfdp = ⊥
+ComesFromWords words Protected = ⊥
+ComesFromWords words Slow = ⊥

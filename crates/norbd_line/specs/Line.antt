@@ -1,27 +1,60 @@
-use Rattle.std.specs.Prelude.{ℕ, List, [], Option, Some, codes, option_and_then, option_map, ◌≡◌, ◌≤◌}
+use Rattle.std.specs.Prelude.{ℕ, List, [], Option, Some, codes, option_map, ◌≡◌, ◌≢◌, ◌%◌, ◌≤◌}
 use Rattle.std.specs.Str.Parse.{digits_value, without_leading_plus}
-use Rattle.clap.specs.Words.{Row, Text, fault_of, one_of, subcommand_of}
+use Rattle.clap.specs.Words.{Row, Text, fault_of, first_of, one_of, subcommand_of}
 use Rattle.norbd_line.specs.CommandLine.{norbd_app}
 use Rattle.norbd_line.specs.declared.line.Line.{Line}
-use Rattle.norbd_line.specs.declared.line.Line.TheVariants.{Plain}
+use Rattle.norbd_line.specs.declared.line.Line.TheVariants.{Plain, Format}
 
--- the numbers of a line are in their ranges: a plain disk has from 1 to 65,536 sectors
+-- a chip's size in KiB: a multiple of 64 from 64 to 16,384
+abbrev pub IsSize : ℕ → Type 0
+IsSize kib = (64 ≤ kib) × (kib ≤ 16384) × (kib % 64 ≡ 0)
+
+-- a number that is in the range of the sizes, and no size
+abbrev pub IsOddSize : ℕ → Type 0
+IsOddSize kib = (64 ≤ kib) × (kib ≤ 16384) × (kib % 64 ≢ 0)
+
+-- the numbers of a line are in their ranges: a plain disk has from 1 to 65,536 sectors, and a formatted chip a size of chips
 abbrev pub InRange : Line → Type 0
 InRange (Plain sectors) = (1 ≤ sectors) × (sectors ≤ 65536)
+InRange (Format image kib) = IsSize kib
+
+-- a fact of the number of a line `plain`
+abbrev pub IfPlain : Line → (ℕ → Type 0) → Type 0
+IfPlain (Plain sectors) p = p sectors
+IfPlain (Format image kib) p = Unit {0}
+
+-- a fact of the path and the number of a line `format`
+abbrev pub IfFormat : Line → (Text → ℕ → Type 0) → Type 0
+IfFormat (Plain sectors) p = Unit {0}
+IfFormat (Format image kib) p = p image.now kib
 
 -- the number that a text writes in decimal digits
 abbrev pub number_of : Text → ℕ
 number_of text = digits_value 10 (without_leading_plus text)
 
--- the number after `--sectors`, in what was matched of the words of a command
-abbrev pub sectors_in : List Row → Option ℕ
-sectors_in rows = option_map number_of (one_of (codes "sectors") rows)
+-- the number after `--NAME`, in what was matched of the words of a command
+abbrev pub number_in : Text → List Row → Option ℕ
+number_in name rows = option_map number_of (one_of name rows)
 
--- the line is `plain`, with the number of these matches
-abbrev pub IsPlainLine : List Row → Line → Type 0
-IsPlainLine rows (Plain sectors) = sectors_in rows ≡ Some sectors
+-- the line is that of the command of this name, with the numbers and the text of these matches
+abbrev pub IsLineIn : Text → List Row → Line → Type 0
+IsLineIn name rows (Plain sectors) = (name ≡ codes "plain") × (number_in (codes "sectors") rows ≡ Some sectors)
+IsLineIn name rows (Format image kib) = (name ≡ codes "format") × (first_of (codes "IMAGE") rows ≡ Some image.now)
+    × (number_in (codes "kib") rows ≡ Some kib)
 
--- the line is what the words say: they are without fault, and its number is that of the command that they name
+-- the matches are those of a command `format` whose number is in the range of the sizes, and no size
+abbrev pub HasOddSizeIn : Text → List Row → Type 0
+HasOddSizeIn name rows = (name ≡ codes "format") × ((kib : ℕ) × (number_in (codes "kib") rows ≡ Some kib) × IsOddSize kib)
+
+-- the words are without fault, and name this command, of whose words these matches were made
+pub record Names (words : List Text) (name : Text) (rows : List Row) : Type 0 where
+  pub faultless : fault_of norbd_app words ≡ []
+  pub command : subcommand_of norbd_app words ≡ Some (name, rows)
+
+-- the line is what the words say
 abbrev pub IsLineOf : List Text → Line → Type 0
-IsLineOf words (Plain sectors) = (fault_of norbd_app words ≡ [])
-    × (option_and_then (λ command. sectors_in command.1) (subcommand_of norbd_app words) ≡ Some sectors)
+IsLineOf words line = (name : Text) × (rows : List Row) × Names words name rows × IsLineIn name rows line
+
+-- the words say `format` with a number that is in the range of the sizes, and no size
+abbrev pub HasOddSize : List Text → Type 0
+HasOddSize words = (name : Text) × (rows : List Row) × Names words name rows × HasOddSizeIn name rows

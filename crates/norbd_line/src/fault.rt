@@ -10,6 +10,9 @@ pub enum Fault {
     /// The words are no line of the program, or ask for help or the version: `clap`'s text.
     #[error(transparent)]
     Words(clap::Error),
+    /// The chip's size is in its range and no multiple of 64 KiB.
+    #[error("bad size")]
+    BadSize,
     /// Memory ran out.
     #[error("no memory")]
     NoMemory,
@@ -19,6 +22,21 @@ pub enum Fault {
     /// Standard output failed.
     #[error("output failed")]
     OutputFailed,
+    /// The image can't be opened, read or written.
+    #[error("image failed")]
+    ImageFailed,
+    /// The chip's id is another.
+    #[error("wrong id")]
+    WrongId,
+    /// The table in which the chip describes itself is refused.
+    #[error("bad sfdp")]
+    BadSfdp,
+    /// The chip's protection can't be ended.
+    #[error("protected")]
+    Protected,
+    /// An operation of the chip didn't end.
+    #[error("slow")]
+    Slow,
 }
 
 impl Fault {
@@ -28,9 +46,15 @@ impl Fault {
     {
         match self {
             Fault::Words(error) => if error.use_stderr() { 2 } else { 0 },
+            Fault::BadSize => 2,
             Fault::NoMemory => 1,
             Fault::InputFailed => 1,
             Fault::OutputFailed => 1,
+            Fault::ImageFailed => 1,
+            Fault::WrongId => 1,
+            Fault::BadSfdp => 1,
+            Fault::Protected => 1,
+            Fault::Slow => 1,
         }
     }
 }

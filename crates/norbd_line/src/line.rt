@@ -1,22 +1,26 @@
 //! The line: what the program is asked to do.
-ghost use Rattle.std.specs.Prelude.{◌≡◌, ◌≢◌, ◌≤◌, IfErr, IfOk, IfSome, Some, option_map};
-ghost use Rattle.clap.specs.Words.{FailsBy, app_of, fault_of, found_of, kind_of, one_text, rows_of};
+ghost use Rattle.std.specs.Prelude.{◌≡◌, ◌≢◌, ◌≤◌, ◌%◌, ◌⊎◌, IfErr, IfOk, IfSome, IsErrAnd, Some, codes, false, option_map};
+ghost use Rattle.clap.specs.Words.{FailsBy, app_of, fault_of, found_of, kind_of, one_text, rows_of, rule_of};
 ghost use Rattle.clap.specs.Words.{subcommand_of, subcommand_rows_of};
-ghost use Rattle.norbd_line.specs.CommandLine.{norbd_app, texts_of};
-ghost use Rattle.norbd_line.specs.Fault.{ComesFromWords};
-ghost use Rattle.norbd_line.specs.Line.{InRange, IsLineOf, IsPlainLine, number_of};
+ghost use Rattle.norbd_line.specs.CommandLine.{image_rule, kib_rule, norbd_app, sectors_rule};
+ghost use Rattle.norbd_line.specs.CommandLine.{texts_of};
+ghost use Rattle.norbd_line.specs.Fault.{ComesFromMatches, ComesFromWords};
+ghost use Rattle.norbd_line.specs.Line.{HasOddSize, InRange, IsLineIn, IsLineOf, number_of};
 
 use crate::Fault;
 use clap::error::ErrorKind;
 use clap::{Arg, ArgAction, ArgMatches, Command, value_parser};
 use std::alloc::Global;
 
-/// What the program is asked to do.
+/// What the program is asked to do. The text of a path is borrowed from the words.
 #[derive(Debug, Clone, Copy, PartialEq, Eq)]
-pub enum Line {
+pub enum Line<'a> {
     /// `plain --sectors S`: serve one client, from standard input to standard output, a disk of `sectors` sectors of
     /// 512 bytes in memory, from 1 to 65,536 of them, all zeros at first.
     Plain { sectors: u32 },
+    /// `format IMAGE --kib K`: make the file at the path `image` a formatted chip of `kib` KiB, a multiple of 64 from 64 to
+    /// 16,384.
+    Format { image: &'a str, kib: u32 },
 }
 
 /// The least number of sectors of a plain disk.
@@ -25,26 +29,71 @@ const LEAST_SECTORS: u32 = 1;
 /// The largest number of sectors of a plain disk.
 const MOST_SECTORS: u32 = 65_536;
 
-/// The program's whole command line.
-fn whole_command<'a>(alloc: Global) -> Result<Command<'a>, clap::Error>
-    ensures app { IfOk result (λ c. app_of c ≡ norbd_app) }
-    ensures memory { IfErr result (λ e. kind_of e ≡ ErrorKind.OutOfMemory) }
+/// The least size of a chip, in KiB.
+const LEAST_KIB: u32 = 64;
+
+/// The largest size of a chip, in KiB.
+const MOST_KIB: u32 = 16_384;
+
+/// The size of a chip is a multiple of this, in KiB.
+const UNIT_KIB: u32 = 64;
+
+/// `--sectors S`.
+fn sectors_arg<'a>(alloc: Global) -> Arg<'a>
+    ensures rule { rule_of result ≡ sectors_rule }
+    ensures local { result.global ≡ false }
 {
-    let sectors = Arg::new(alloc, "sectors")
+    Arg::new(alloc, "sectors")
         .long("sectors")
         .value_name("S")
         .help("Sectors of 512 bytes, from 1 to 65536")
         .required(true)
         .action(ArgAction::Set)
-        .value_parser(value_parser!(u32).range(1..=65536));
+        .value_parser(value_parser!(u32).range(1..=65536))
+}
+
+/// `--kib K`.
+fn kib_arg<'a>(alloc: Global) -> Arg<'a>
+    ensures rule { rule_of result ≡ kib_rule }
+    ensures local { result.global ≡ false }
+{
+    Arg::new(alloc, "kib")
+        .long("kib")
+        .value_name("K")
+        .help("The chip's size in KiB, a multiple of 64 from 64 to 16384")
+        .required(true)
+        .action(ArgAction::Set)
+        .value_parser(value_parser!(u32).range(64..=16384))
+}
+
+/// `IMAGE`.
+fn image_arg<'a>(alloc: Global) -> Arg<'a>
+    ensures rule { rule_of result ≡ image_rule }
+    ensures local { result.global ≡ false }
+{
+    Arg::new(alloc, "IMAGE")
+        .help("The file of the chip's bytes; one that is there is replaced")
+        .required(true)
+        .action(ArgAction::Set)
+}
+
+/// The program's whole command line.
+fn whole_command<'a>(alloc: Global) -> Result<Command<'a>, clap::Error>
+    ensures app { IfOk result (λ c. app_of c ≡ norbd_app) }
+    ensures memory { IfErr result (λ e. kind_of e ≡ ErrorKind.OutOfMemory) }
+{
     let plain = Command::new(alloc, "plain")
         .about("Serves a disk in memory over standard input and output")
-        .arg(sectors)?;
+        .arg(sectors_arg(alloc))?;
+    let format = Command::new(alloc, "format")
+        .about("Makes the file of a formatted chip")
+        .arg(image_arg(alloc))?
+        .arg(kib_arg(alloc))?;
     let norbd = Command::new(alloc, "norbd")
         .bin_name("norbd")?
         .version("0.1.0")
         .subcommand_required(true);
-    Ok(norbd.subcommand(plain)?)
+    Ok(norbd.subcommand(plain)?.subcommand(format)?)
 }
 
 /// What the command line makes of the words.
@@ -84,9 +133,9 @@ fn number(matches: &ArgMatches<'_>, id: &str, least: u32, most: u32) -> Option<u
 
 /// The line of `plain`. The parse refuses words without a number in its range, so the arm `None` isn't reached; it needs
 /// some fault, and answers `NoMemory`.
-fn plain_line(matches: &ArgMatches<'_>) -> Result<Line, Fault>
+fn plain_line<'a>(matches: &ArgMatches<'a>) -> Result<Line<'a>, Fault>
     ensures range { IfOk result InRange }
-    ensures line { IfOk result (IsPlainLine (rows_of (found_of matches.now))) }
+    ensures line { IfOk result (IsLineIn (codes "plain") (rows_of (found_of matches.now))) }
     ensures fault { IfErr result (λ e. e ≡ Fault.NoMemory) }
 {
     match number(matches, "sectors", LEAST_SECTORS, MOST_SECTORS) {
@@ -95,11 +144,42 @@ fn plain_line(matches: &ArgMatches<'_>) -> Result<Line, Fault>
     }
 }
 
-/// Reads the program's words, of which the first is its name.
-///
-/// `Words` where they are no line of the program or ask for help or the version, `NoMemory` where memory ran out. The
-/// parse refuses words without a command, so the arm `None` isn't reached; it needs some fault, and answers `NoMemory`.
-pub fn read_line(alloc: Global, words: &[String]) -> Result<Line, Fault>
+/// The line of `format`, or `BadSize` where its number is no multiple of 64. The arms of what the parse refuses answer
+/// `NoMemory`.
+fn format_line<'a>(matches: &ArgMatches<'a>) -> Result<Line<'a>, Fault>
+    ensures range { IfOk result InRange }
+    ensures line { IfOk result (IsLineIn (codes "format") (rows_of (found_of matches.now))) }
+    ensures fault { IfErr result (ComesFromMatches (codes "format") (rows_of (found_of matches.now))) }
+{
+    let Some(kib) = number(matches, "kib", LEAST_KIB, MOST_KIB) else {
+        return Err(Fault::NoMemory);
+    };
+    if kib % UNIT_KIB != 0 {
+        return Err(Fault::BadSize);
+    }
+    match matches.get_str("IMAGE") {
+        Some(image) => Ok(Line::Format { image, kib }),
+        None => Err(Fault::NoMemory),
+    }
+}
+
+/// The line of the command of this name. The parse refuses every other name, so the last arm isn't reached.
+fn line_of<'a>(name: &str, matches: &ArgMatches<'a>) -> Result<Line<'a>, Fault>
+    ensures range { IfOk result InRange }
+    ensures line { IfOk result (IsLineIn name.now (rows_of (found_of matches.now))) }
+    ensures fault { IfErr result (ComesFromMatches name.now (rows_of (found_of matches.now))) }
+{
+    if name == "plain" {
+        plain_line(matches)
+    } else if name == "format" {
+        format_line(matches)
+    } else {
+        Err(Fault::NoMemory)
+    }
+}
+
+/// What the words make: a line, or a fault that has its cause.
+fn line_or_fault<'a>(alloc: Global, words: &'a [String]) -> Result<Line<'a>, Fault>
     ensures range { IfOk result InRange }
     ensures line { IfOk result (IsLineOf (texts_of words.now)) }
     ensures fault { IfErr result (ComesFromWords (texts_of words.now)) }
@@ -109,7 +189,7 @@ pub fn read_line(alloc: Global, words: &[String]) -> Result<Line, Fault>
         Err(error) => return Err(fault_from(error)),
     };
     match matches.subcommand() {
-        Some((_, of_plain)) => plain_line(of_plain),
+        Some((name, of_name)) => line_of(name, of_name),
         None => Err(Fault::NoMemory),
     }
 }

@@ -1,4 +1,4 @@
-use Rattle.std.proofs.Common.{ap, codes, option_map, sym, ◌∙◌}
+use Rattle.std.proofs.Common.{ap, codes, option_map, refl, sym, ◌∙◌}
 use Rattle.clap.specs.Words.{found_of}
 use Rattle.clap.proofs.WalkLemmas.{one_text-rows}
 use Rattle.norbd_line.specs.Line.{number_of}
@@ -6,4 +6,4 @@ use Rattle.norbd_line.proofs.line.plain_line.Goals as goal
 
 pub returns-in-Some-clause-line : goal.returns-in-Some-clause-line
 returns-in-Some-clause-line c =
-    ap (option_map number_of) (sym (one_text-rows (found_of c.args.matches.now) (codes "sectors"))) ∙ c.in-Some.ensures.text
+    (refl, ap (option_map number_of) (sym (one_text-rows (found_of c.args.matches.now) (codes "sectors"))) ∙ c.in-Some.ensures.text)

@@ -1,0 +1,27 @@
+-- The bytes of a chip that was just formatted. Source: own, layout 1.
+use Rattle.std.specs.Prelude.{◌≡◌, ℕ, ◌*◌, List, length, replicate}
+use Rattle.chip_model.specs.Geometry.{sector_count}
+use Rattle.slot_store.specs.Slots.{IsClean}
+use Rattle.slot_map.specs.Maps.{IsMountable}
+use Rattle.flash_disk.specs.Contents.{contents_of}
+use Rattle.image.specs.declared.error.ImageError.{ImageError}
+use Rattle.image.specs.declared.error.ImageError.TheVariants.{OutOfMemory, File, Refused}
+
+-- so many bytes, which are a healthy and clean memory whose disk is one of zeros
+pub record IsFormattedImage (n : ℕ) (bytes : List ℕ) : Type 0 where
+  pub size : length bytes ≡ n
+  pub mountable : IsMountable bytes
+  pub clean : IsClean bytes
+  pub contents : contents_of bytes ≡ replicate (512 * sector_count n) 0
+
+-- a fault of the making of an image
+abbrev pub ComesOfFormat : ImageError → Type 0
+ComesOfFormat OutOfMemory = Unit {0}
+ComesOfFormat File = ⊥
+ComesOfFormat (Refused e) = Unit {0}
+
+-- a fault of its file
+abbrev pub ComesOfFile : ImageError → Type 0
+ComesOfFile OutOfMemory = Unit {0}
+ComesOfFile File = Unit {0}
+ComesOfFile (Refused e) = ⊥

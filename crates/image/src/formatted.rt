@@ -1,0 +1,27 @@
+ghost use Rattle.std.specs.Prelude.{◌*◌, IfErr, IfOk};
+ghost use Rattle.chip_model.specs.Geometry.{IsChipSize};
+ghost use Rattle.image.specs.Image.{ComesOfFormat, IsFormattedImage};
+
+use crate::error::ImageError;
+use fault_model::SimChip;
+use flash_disk::format;
+use std::alloc::Global;
+
+/// The bytes of a chip of so many KiB that was just formatted: those of a chip in memory, all FFh at first, after a `format`.
+///
+/// `OutOfMemory` where there is no memory for them, `Refused` where the format was refused.
+pub fn formatted_image(alloc: Global, kib: u32) -> Result<Vec<u8>, ImageError>
+    requires { IsChipSize (1024 * kib) }
+    ensures image { IfOk result (λ image. IsFormattedImage (1024 * kib) image.items) }
+    ensures fault { IfErr result ComesOfFormat }
+{
+    let erased = vec![in alloc; 0xFFu8; 1024 * kib as usize]?;
+    let Ok(chip) = SimChip::new(erased) else {
+        unreachable!()
+    };
+    let (chip, formatted) = format(chip);
+    match formatted {
+        Ok(()) => Ok(chip.into_inner()),
+        Err(error) => Err(ImageError::Refused(error)),
+    }
+}

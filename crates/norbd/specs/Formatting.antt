@@ -1,0 +1,44 @@
+-- What `format` says of a chip, and how it ends. Source: own.
+use Rattle.std.specs.Prelude.{◌≡◌, ℕ, ◌*◌, List, ◌++◌, codes, Option, Result, Ok, Err}
+use Rattle.std.specs.Fmt.{decimal}
+use Rattle.std.specs.Io.KnownBytes.{Appends}
+use Rattle.block_device.specs.Streams.{Fails}
+use Rattle.chip_model.specs.Geometry.{sector_count}
+use Rattle.nor_driver.specs.declared.error.ProbeError.TheVariants as probes
+use Rattle.image.specs.declared.error.ImageError.{ImageError}
+use Rattle.image.specs.declared.error.ImageError.TheVariants.{OutOfMemory, File, Refused}
+use Rattle.norbd_line.specs.declared.fault.Fault.{Fault}
+use Rattle.norbd_line.specs.declared.fault.Fault.TheVariants.{Words, NoMemory, BadSize, InputFailed, OutputFailed, ImageFailed, WrongId, BadSfdp, Protected, Slow}
+
+-- the line about a formatted chip of so many KiB
+abbrev pub text_about : ℕ → List ℕ
+text_about kib = codes "formatted " ++ (decimal (sector_count (1024 * kib)) ++ codes " sectors\n")
+
+-- what a fault of an image is for the program; a chip loses its power where its image fails
+abbrev pub told_as : ImageError → Fault
+told_as OutOfMemory = NoMemory
+told_as File = ImageFailed
+told_as (Refused probes.Cut) = ImageFailed
+told_as (Refused probes.Slow) = Slow
+told_as (Refused probes.WrongId) = WrongId
+told_as (Refused (probes.Sfdp e)) = BadSfdp
+told_as (Refused probes.Protected) = Protected
+
+-- nothing was written and no write failed
+abbrev pub IsUntouched : Option (List ℕ) → ℕ → Option (List ℕ) → ℕ → Type 0
+IsUntouched old faults new faults' = (new ≡ old) × (faults' ≡ faults)
+
+-- What `format` of so many KiB writes: done, exactly the line about the chip; a fault of the output, a beginning of it; and
+-- nothing with any other fault, which is one of an image.
+abbrev pub Tells : {T : Type 0} → ℕ → Option (List ℕ) → ℕ → Result T Fault → Option (List ℕ) → ℕ → Type 0
+Tells kib old faults (Ok _) new faults' = Appends old new (text_about kib) × (faults' ≡ faults)
+Tells kib old faults (Err (Words error)) new faults' = ⊥
+Tells kib old faults (Err BadSize) new faults' = ⊥
+Tells kib old faults (Err NoMemory) new faults' = IsUntouched old faults new faults'
+Tells kib old faults (Err InputFailed) new faults' = ⊥
+Tells kib old faults (Err OutputFailed) new faults' = Fails old faults (text_about kib) new faults'
+Tells kib old faults (Err ImageFailed) new faults' = IsUntouched old faults new faults'
+Tells kib old faults (Err WrongId) new faults' = IsUntouched old faults new faults'
+Tells kib old faults (Err BadSfdp) new faults' = IsUntouched old faults new faults'
+Tells kib old faults (Err Protected) new faults' = IsUntouched old faults new faults'
+Tells kib old faults (Err Slow) new faults' = IsUntouched old faults new faults'

@@ -1,0 +1,46 @@
+-- A number in its range that is no size makes no line, and is told as one or for want of memory.
+use Rattle.std.proofs.Common.{◌≡◌, ◌⊎◌, ◌∙◌, ◌%◌, ℕ, List, [], Option, Some, Result, Ok, Err, IfOk, IfErr, codes, sym, ap, subst, refl, inl, inr, arith}
+use Rattle.std.specs.Prelude.{IsErrAnd, option_map, unwrap_or}
+use Rattle.clap.specs.Words.{IsAmong, Row, Text, kind_of}
+use Rattle.norbd_line.specs.Fault.{ComesFromWords}
+use Rattle.norbd_line.specs.Line.{HasOddSize, InRange, IsLineOf, IsOddSize, IsSize, Names, number_in}
+use Rattle.norbd_line.specs.declared.fault.Fault.{Fault}
+use Rattle.norbd_line.specs.declared.fault.Fault.TheVariants.{Words, NoMemory, BadSize, InputFailed, OutputFailed, ImageFailed, WrongId, BadSfdp, Protected, Slow}
+use Rattle.norbd_line.specs.declared.line.Line.{Line}
+use Rattle.norbd_line.specs.declared.line.Line.TheVariants.{Plain, Format}
+
+-- the words name one command
+same_name : (words : List Text) (n m : Text) (rows others : List Row) → Names words n rows → Names words m others → n ≡ m
+same_name words n m rows others one two =
+    ap (λ (o : Option (Text × List Row)). unwrap_or (option_map (λ c. c.0) o) []) (sym one.command ∙ two.command)
+
+same_rows : (words : List Text) (n m : Text) (rows others : List Row) → Names words n rows → Names words m others → rows ≡ others
+same_rows words n m rows others one two =
+    ap (λ (o : Option (Text × List Row)). unwrap_or (option_map (λ c. c.1) o) []) (sym one.command ∙ two.command)
+
+plain≢format : codes "plain" ≡ codes "format" → ⊥
+plain≢format e = let first : 112 ≡ 102 = ap (λ (t : Text). unwrap_or (Rattle.std.specs.Prelude.slice_get t 0) 0) e in omega (arith, first)
+
+size≢odd : (k m : ℕ) → Some k ≡ Some m → IsSize k → IsOddSize m → ⊥
+size≢odd k m e size odd =
+    let same : k ≡ m = ap (λ (o : Option ℕ). unwrap_or o 0) e in
+    odd.2 (ap (λ n. n % 64) (sym same) ∙ size.2)
+
+pub odd_is_refused : (words : List Text) (r : Result Line Fault) → IfOk r InRange → IfOk r (IsLineOf words) → IfErr r (ComesFromWords words)
+    → HasOddSize words → IsErrAnd r (λ e. (e ≡ BadSize) ⊎ (e ≡ NoMemory))
+odd_is_refused words (Ok (Plain sectors)) range line fault odd =
+    absurd (plain≢format (sym line.3.0 ∙ same_name words line.0 odd.0 line.1 odd.1 line.2 odd.2 ∙ odd.3.0))
+odd_is_refused words (Ok (Format image kib)) range line fault odd =
+    let rows = same_rows words line.0 odd.0 line.1 odd.1 line.2 odd.2 in
+    let number = sym line.3.2 ∙ ap (number_in (codes "kib")) rows ∙ odd.3.1.1 in
+    absurd (size≢odd kib odd.3.1.0 number range odd.3.1.2)
+odd_is_refused words (Err (Words error)) range line fault odd = absurd (subst (IsAmong (kind_of error)) odd.2.faultless fault.1)
+odd_is_refused words (Err BadSize) range line fault odd = inl refl
+odd_is_refused words (Err NoMemory) range line fault odd = inr refl
+odd_is_refused words (Err InputFailed) range line fault odd = absurd fault
+odd_is_refused words (Err OutputFailed) range line fault odd = absurd fault
+odd_is_refused words (Err ImageFailed) range line fault odd = absurd fault
+odd_is_refused words (Err WrongId) range line fault odd = absurd fault
+odd_is_refused words (Err BadSfdp) range line fault odd = absurd fault
+odd_is_refused words (Err Protected) range line fault odd = absurd fault
+odd_is_refused words (Err Slow) range line fault odd = absurd fault
