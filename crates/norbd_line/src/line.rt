@@ -193,3 +193,17 @@ fn line_or_fault<'a>(alloc: Global, words: &'a [String]) -> Result<Line<'a>, Fau
         None => Err(Fault::NoMemory),
     }
 }
+
+/// Reads the program's words, of which the first is its name.
+///
+/// `Words` where they are no line of the program or ask for help or the version, `BadSize` where the number after `--kib` is
+/// from 64 to 16,384 and no multiple of 64, `NoMemory` where memory ran out. The parse refuses words without a command, a
+/// path or a number in its range, so what comes then isn't reached; it needs some fault, and answers `NoMemory`.
+pub fn read_line<'a>(alloc: Global, words: &'a [String]) -> Result<Line<'a>, Fault>
+    ensures range { IfOk result InRange }
+    ensures line { IfOk result (IsLineOf (texts_of words.now)) }
+    ensures fault { IfErr result (ComesFromWords (texts_of words.now)) }
+    ensures odd { HasOddSize (texts_of words.now) → IsErrAnd result (λ e. (e ≡ Fault.BadSize) ⊎ (e ≡ Fault.NoMemory)) }
+{
+    line_or_fault(alloc, words)
+}
