@@ -1,0 +1,110 @@
+// What is measured of a mounted disk.
+ghost use Rattle.std.specs.Prelude.{◌≡◌, ◌+◌, ◌*◌, ◌<◌, ◌≤◌, ◌↔◌, [], ◌∷◌};
+
+use crate::chips::Filling;
+
+/// A call of the disk of a chip of 16 MiB.
+#[derive(Clone, Copy)]
+pub enum Call {
+    /// A `read` of 512 bytes: one sector of a group, on a full chip as the other reads and writes, but for the first write.
+    ShortRead,
+    /// A `read` of 65,536 bytes: 128 sectors.
+    LongRead,
+    /// A `write` of 512 bytes on a formatted chip: the first write of its group.
+    FirstWrite,
+    /// A `write` of 512 bytes, where the free slots are the last ones of the chip.
+    ShortWrite,
+    /// A `write` of 65,536 bytes, likewise.
+    LongWrite,
+    /// A `tidy` that clears a dead slot.
+    Tidy,
+}
+
+impl Call {
+    ghost use Rattle.bench_disk.specs.Call.{call_bytes, calls_of, first_of};
+
+    /// Each call, in the order of the table.
+    pub fn all() -> [Call; 6]
+        ensures { result ≡ Call.ShortRead ∷ Call.LongRead ∷ Call.FirstWrite ∷ Call.ShortWrite ∷ Call.LongWrite ∷ Call.Tidy ∷ [] }
+    {
+        [
+            Call::ShortRead,
+            Call::LongRead,
+            Call::FirstWrite,
+            Call::ShortWrite,
+            Call::LongWrite,
+            Call::Tidy,
+        ]
+    }
+
+    /// The text of the call in the table.
+    pub fn name(self) -> &'static str {
+        match self {
+            Call::ShortRead => "read of 512 bytes",
+            Call::LongRead => "read of 65,536 bytes",
+            Call::FirstWrite => "first write of 512 bytes",
+            Call::ShortWrite => "write of 512 bytes",
+            Call::LongWrite => "write of 65,536 bytes",
+            Call::Tidy => "tidy of a dead slot",
+        }
+    }
+
+    /// What is on the chip when a go begins.
+    pub fn filling(self) -> Filling
+        ensures { (result ≡ Filling.Formatted) ↔ (self ≡ Call.FirstWrite) }
+    {
+        match self {
+            Call::ShortRead => Filling::Full,
+            Call::LongRead => Filling::Full,
+            Call::FirstWrite => Filling::Formatted,
+            Call::ShortWrite => Filling::Full,
+            Call::LongWrite => Filling::Full,
+            Call::Tidy => Filling::Full,
+        }
+    }
+
+    /// How many bytes a call reads, writes or erases.
+    pub fn bytes(self) -> usize
+        ensures exact { result ≡ call_bytes self }
+        ensures most { result ≤ 65536 }
+    {
+        match self {
+            Call::ShortRead => 512,
+            Call::LongRead => 65_536,
+            Call::FirstWrite => 512,
+            Call::ShortWrite => 512,
+            Call::LongWrite => 65_536,
+            Call::Tidy => 4_096,
+        }
+    }
+
+    /// How many calls are timed in one go. A go of writes takes at most 400 of the 512 slots that are free on a full chip.
+    pub fn calls(self) -> u32
+        ensures exact { result ≡ calls_of self }
+        ensures some { 0 < result }
+    {
+        match self {
+            Call::ShortRead => 20_000,
+            Call::LongRead => 500,
+            Call::FirstWrite => 400,
+            Call::ShortWrite => 400,
+            Call::LongWrite => 20,
+            Call::Tidy => 400,
+        }
+    }
+
+    /// The first sector of a call, counted from 0: calls of 512 bytes go from group to group, those of 65,536 bytes end to end.
+    pub fn first(self, number: u32) -> u32
+        ensures exact { result ≡ first_of self number }
+        ensures within { 512 * result + call_bytes self ≤ 12830720 }
+    {
+        match self {
+            Call::ShortRead => number % 3_580 * 7,
+            Call::LongRead => number % 195 * 128,
+            Call::FirstWrite => number % 3_580 * 7,
+            Call::ShortWrite => number % 3_580 * 7,
+            Call::LongWrite => number % 195 * 128,
+            Call::Tidy => 0,
+        }
+    }
+}

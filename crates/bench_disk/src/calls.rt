@@ -1,0 +1,88 @@
+// The calls of a go, and the plain copies beside them.
+ghost use Rattle.std.specs.Prelude.{◌≡◌, ◌+◌, ◌<◌, ◌≤◌, length, OnOk};
+ghost use Rattle.bench_disk.specs.Call.{call_bytes, calls_of};
+
+use crate::call::Call;
+use crate::failure::Failure;
+use block_device::Disk;
+
+/// One call. A tidying that clears nothing is refused.
+pub fn make<D: Disk>(
+    call: Call,
+    disk: &mut D,
+    number: u32,
+    buffer: &mut [u8],
+) -> Result<(), Failure>
+    requires size { length (D.facts disk.old).contents ≡ 12830720 }
+    requires bytes { length buffer.old ≡ call_bytes call }
+    ensures size { length (D.facts disk.new).contents ≡ 12830720 }
+    ensures bytes { length buffer.new ≡ length buffer.old }
+    ensures tidied { call ≡ Call.Tidy → OnOk result ((D.facts disk.new).work < (D.facts disk.old).work) }
+{
+    let first = call.first(number);
+    match call {
+        Call::ShortRead => disk.read(first, buffer)?,
+        Call::LongRead => disk.read(first, buffer)?,
+        Call::FirstWrite => disk.write(first, buffer)?,
+        Call::ShortWrite => disk.write(first, buffer)?,
+        Call::LongWrite => disk.write(first, buffer)?,
+        Call::Tidy => {
+            let cleared = disk.tidy()?;
+            if !cleared {
+                return Err(Failure::Refused);
+            }
+        }
+    }
+    Ok(())
+}
+
+/// The calls of one go.
+#[inline(never)]
+pub fn calls<D: Disk>(call: Call, disk: &mut D, buffer: &mut [u8]) -> Result<(), Failure>
+    requires size { length (D.facts disk.old).contents ≡ 12830720 }
+    requires bytes { length buffer.old ≡ call_bytes call }
+    ensures size { length (D.facts disk.new).contents ≡ 12830720 }
+    ensures bytes { length buffer.new ≡ length buffer.old }
+    ensures tidied { call ≡ Call.Tidy → OnOk result ((D.facts disk.new).work + calls_of call ≤ (D.facts disk.old).work) }
+{
+    for number in 0..call.calls() {
+        make(call, disk, number, buffer)?;
+    }
+    Ok(())
+}
+
+/// Makes as many dead slots as a go of tidyings clears; other calls need none.
+pub fn prepare<D: Disk>(call: Call, disk: &mut D) -> Result<(), Failure>
+    requires size { length (D.facts disk.old).contents ≡ 12830720 }
+    ensures size { length (D.facts disk.new).contents ≡ 12830720 }
+{
+    match call {
+        Call::ShortRead => Ok(()),
+        Call::LongRead => Ok(()),
+        Call::FirstWrite => Ok(()),
+        Call::ShortWrite => Ok(()),
+        Call::LongWrite => Ok(()),
+        Call::Tidy => calls(Call::ShortWrite, disk, &mut [0xA5u8; 512]),
+    }
+}
+
+/// One copy, which no other is merged with.
+#[inline(never)]
+fn copy(from: &[u8], into: &mut [u8])
+    requires { length into.old ≡ length from.now }
+    ensures { into.new ≡ from.now }
+{
+    into.copy_from_slice(from);
+}
+
+/// So many copies of the same bytes.
+#[inline(never)]
+pub fn copies(from: &[u8], into: &mut [u8], count: u32)
+    requires bytes { length into.old ≡ length from.now }
+    requires some { 0 < count }
+    ensures { into.new ≡ from.now }
+{
+    for _ in 0..count {
+        copy(from, into);
+    }
+}
