@@ -4,7 +4,7 @@ ghost use Rattle.std.specs.Prelude.{◌≡◌, ◌+◌, ◌*◌, ◌<◌, ◌≤
 use crate::chips::Filling;
 
 /// A call of the disk of a chip of 16 MiB.
-#[derive(Clone, Copy, Debug, PartialEq, Eq)]
+#[derive(Clone, Copy)]
 pub enum Call {
     /// A `read` of 512 bytes: one sector of a group, on a full chip as the other reads and writes, but for the first write.
     ShortRead,

@@ -21,7 +21,7 @@ const SECTORS: u32 = 25_060;
 const GROUPS: u32 = 3_580;
 
 /// What is on a chip.
-#[derive(Clone, Copy, Debug, PartialEq, Eq)]
+#[derive(Clone, Copy)]
 pub enum Filling {
     /// What the format leaves: no group was written.
     Formatted,

@@ -2,7 +2,7 @@
 use block_device::DiskError;
 
 /// Why a mount or a call has no row.
-#[derive(Clone, Copy, Debug, PartialEq, Eq)]
+#[derive(Clone, Copy)]
 pub enum Failure {
     /// There is no memory for the chip or for the bytes to be copied.
     NoMemory,
