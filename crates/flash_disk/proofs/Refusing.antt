@@ -1,16 +1,15 @@
 -- What a format answers of what the chip tells.
-use Rattle.std.proofs.Common.{◌≡◌, ◌⊎◌, ℕ, ◌+◌, Bool, true, false, not, cond, List, length, refl, sym, ap, ◌∙◌, subst, inl, inr}
-use Rattle.std.specs.Prelude.{◌&&◌, ◌||◌, Result, Ok, Err, IfErr}
+use Rattle.std.proofs.Common.{◌≡◌, ◌⊎◌, ℕ, Bool, true, false, not, cond, List, length, refl, sym, ap, ◌∙◌, inl, inr}
+use Rattle.std.specs.Prelude.{Result, Ok, Err}
 use Rattle.sfdp.specs.Params.{params_of}
 use Rattle.sfdp.specs.declared.params.Params.{Params}
-use Rattle.sfdp.specs.declared.error.SfdpError.{SfdpError}
 use Rattle.chip_model.specs.Chip.{Chip, is_idle, completed}
 use Rattle.chip_model.specs.Frames.{is_open, id_from, status_1}
 use Rattle.nor_driver.specs.Probe.{told, is_served, is_free, sized, unless_protected, identity, probe_answer, RegistersTellProtection}
-use Rattle.nor_driver.specs.Unprotect.{Cleared, clearing, Unprotects}
+use Rattle.nor_driver.specs.Unprotect.{Cleared, clearing}
 use Rattle.nor_driver.specs.declared.error.ProbeError.{ProbeError}
 use Rattle.nor_driver.specs.declared.error.ProbeError.TheVariants as refusals
-use Rattle.flash_disk.specs.Formatted.{is_locked, format_answer, AnswersAsTold, FormatLeaves}
+use Rattle.flash_disk.specs.Formatted.{is_locked, format_answer, AnswersAsTold}
 use Rattle.flash_disk.proofs.Opening.{and-true}
 
 -- what a chip of so many bytes and with this table is known as
@@ -34,10 +33,6 @@ not-back : (b : Bool) → not b ≡ true → b ≡ false
 not-back true e = absurd (cc e)
 not-back false e = refl
 
-not-forth : (b : Bool) → not b ≡ false → b ≡ true
-not-forth true e = refl
-not-forth false e = absurd (cc e)
-
 unless-free : (free : Bool) (r a : Result Params ProbeError) → free ≡ true → unless_protected free r ≡ a → r ≡ a
 unless-free free (Err e) a is h = h
 unless-free true (Ok p) a is h = h
@@ -50,22 +45,10 @@ told-answer c n a law k free size answer =
     let same : identity (told n) ≡ a = unless-free (is_free (status_1 n) n.status2 n.status3) (identity (told n)) a (law n ∙ free) answer in
     ap (λ b. cond b (Err refusals.Protected) (identity (told c))) unlocked ∙ (sym (same-identity c n k size) ∙ same)
 
--- and one that is locked is refused
-told-locked : (c n : Chip) → Cleared c n → is_open n ≡ false → format_answer (told c) ≡ Err refusals.Protected
-told-locked c n k shut = ap (λ b. cond b (Err refusals.Protected) (identity (told c))) (not-forth (is_locked (told c)) (sym (open-locked c n k) ∙ shut))
-
 pub cleared-idle : (c n : Chip) → Cleared c n → is_idle n.operation ≡ true
 cleared-idle c n k = ap (λ (z : Chip). is_idle z.operation) k.is
 
--- the answer of the end of protection
-pub unprotect-told : (e : ProbeError) (c n : Chip) (cuts slows cuts' slows' : ℕ) → Unprotects (Err e) c cuts slows n cuts' slows' → AnswersAsTold (Err e) (told c)
-unprotect-told refusals.Cut c n cuts slows cuts' slows' h = tt
-unprotect-told refusals.Slow c n cuts slows cuts' slows' h = tt
-unprotect-told refusals.WrongId c n cuts slows cuts' slows' h = absurd h
-unprotect-told (refusals.Sfdp e) c n cuts slows cuts' slows' h = absurd h
-unprotect-told refusals.Protected c n cuts slows cuts' slows' h = told-locked c n h.0 h.1
-
--- and that of the probe after it
+-- the answer of the probe after the end of protection
 pub probe-told : (e : ProbeError) (c n : Chip) → RegistersTellProtection → Cleared c n → is_open n ≡ true → length n.memory ≡ length c.memory
     → (e ≡ refusals.Cut) ⊎ (probe_answer (told n) ≡ Err e) → AnswersAsTold (Err e) (told c)
 probe-told refusals.Cut c n law k free size h = tt
@@ -76,11 +59,3 @@ probe-told refusals.Protected c n law k free size h = elim h as (λ _. format_an
 
 pub found-told : (p : Params) (c n : Chip) → RegistersTellProtection → Cleared c n → is_open n ≡ true → length n.memory ≡ length c.memory → probe_answer (told n) ≡ Ok p → AnswersAsTold (Ok tt) (told c)
 found-told p c n law k free size a = (p, told-answer c n (Ok p) law k free size a)
-
--- what these refusals leave
-pub refusal-leaves : (e : ProbeError) (m m' : List ℕ) → m' ≡ m → FormatLeaves e m m'
-refusal-leaves refusals.Cut m m' same = tt
-refusal-leaves refusals.Slow m m' same = tt
-refusal-leaves refusals.WrongId m m' same = same
-refusal-leaves (refusals.Sfdp e) m m' same = same
-refusal-leaves refusals.Protected m m' same = same
