@@ -1,0 +1,11 @@
+mod Accepted
+mod Turns
+mod Pieces
+mod Lines
+mod Moving
+mod Piecing
+mod Ending
+mod Plainly
+mod Filling
+mod Refusing
+mod Scripting

@@ -1,0 +1,197 @@
+-- a piece, as a move of a station
+use Rattle.std.proofs.Common.{◌≡◌, inl, inr, ℕ, Bool, true, false, List, [], ◌∷◌, ◌++◌, length, Option, None, Some, replicate, ◌<◌, ◌≤◌, arith, refl, sym, ◌∙◌, ap, append_assoc, subst, get_or, set}
+use Rattle.std.specs.Borrow.{Bor}
+use Rattle.std.specs.Prelude.{not, MatchBool, if◌then◌else◌}
+use Rattle.block_device.specs.Contents.{Outcome}
+use Rattle.block_device.specs.Facts.{Facts}
+use Rattle.nbd_transmission.specs.Apply.{applied}
+use Rattle.session.specs.Line.{Line}
+use Rattle.session.specs.Parts.{Part, Asked, closed, parts}
+use Rattle.station.specs.declared.entries.TheConstants.{DONE, SHUT, LOST}
+use Rattle.station.specs.declared.event.Event.TheVariants.{Piece}
+use Rattle.station.specs.declared.piece.Ending.{Ending}
+use Rattle.station.specs.declared.piece.Ending.TheVariants.{Stays, Shut, Lost}
+use Rattle.station.specs.Answers.{after_parts, replies, after_part, reply_of_part}
+use Rattle.station.specs.Records.{entry, replied}
+use Rattle.station.specs.World.{World, Powered, Unpowered, Answers, Interrupted, Lacked, dark, hung_up, text_at}
+use Rattle.station.specs.Board.{Stands, Serves}
+use Rattle.station.specs.Running.{Halts}
+use Rattle.station.specs.Turning.{Desk, IsQuiet, LostParts, Pieced, PieceHalts}
+use Rattle.station.proofs.Pieces.{longer}
+use Rattle.station.proofs.Lines.{lines_put, lines_set, lines_dark, text_of}
+use Rattle.station.proofs.Moving.{board, Leads, step_on, by_some}
+
+abbrev pub desk : Facts → Line → Option (List ℕ) → Desk
+desk f line written = record { disk = f; line = line; written = written }
+
+replies_append : (n who : ℕ) (d : List ℕ) (xs ys : List Part) → replies n who d (xs ++ ys) ≡ replies n who d xs ++ replies n who (after_parts n d xs) ys
+replies_append n who d [] ys = refl
+replies_append n who d (x ∷ xs) ys =
+    ap (λ l. replied who (reply_of_part n d x) ++ l) (replies_append n who (after_part n d x) xs ys)
+    ∙ sym (append_assoc (replied who (reply_of_part n d x)) (replies n who (after_part n d x) xs) (replies n who (after_parts n (after_part n d x) xs) ys))
+
+-- some parts are answered in a world with this disk
+answers_in : (w : World) (who n : ℕ) (d text bytes told disk : List ℕ) (more : List Part) (b : Bool)
+    → w.sectors ≡ n → w.disk ≡ d → Lacked n text bytes more → told ≡ replies n who d more → disk ≡ after_parts n d more → closed more ≡ b
+    → Answers w who text bytes (told ++ entry who (if b then SHUT else DONE) [])
+    (record { sectors = w.sectors; disk = disk; power = true; texts = set w.texts who (if b then None else Some (text ++ bytes)) })
+answers_in w who n d text bytes told disk more b sectors same lacked out after shut =
+    let said : told ≡ replies w.sectors who w.disk more = out ∙ (ap (λ m. replies m who d more) (sym sectors) ∙ ap (λ k. replies w.sectors who k more) (sym same)) in
+    let left : disk ≡ after_parts w.sectors w.disk more = after ∙ (ap (λ m. after_parts m d more) (sym sectors) ∙ ap (λ k. after_parts w.sectors k more) (sym same)) in
+    record {
+      more = more;
+      lacked = subst (λ m. Lacked m text bytes more) (sym sectors) lacked;
+      wrote = ap (λ t. t ++ entry who (if b then SHUT else DONE) []) said ∙ ap (λ x. replies w.sectors who w.disk more ++ entry who (if x then SHUT else DONE) []) (sym shut);
+      world = ap (λ k. record { sectors = w.sectors; disk = k; power = true; texts = set w.texts who (if b then None else Some (text ++ bytes)) }) left
+          ∙ ap (λ x. record { sectors = w.sectors; disk = after_parts w.sectors w.disk more; power = true; texts = set w.texts who (if x then None else Some (text ++ bytes)) }) (sym shut);
+    }
+
+-- one is interrupted
+interrupted_in : (w : World) (who n : ℕ) (d text bytes told disk : List ℕ) (o : Desk) → o.line.sectors ≡ n → o.disk.contents ≡ d
+    → w.sectors ≡ n → w.disk ≡ d → LostParts who o text bytes told disk → Interrupted w who text bytes (told ++ entry who LOST []) (dark w disk)
+interrupted_in w who n d text bytes told disk o on od sectors same x =
+    let m : o.line.sectors ≡ w.sectors = on ∙ sym sectors in
+    let k : o.disk.contents ≡ w.disk = od ∙ sym same in
+    record {
+      before = x.before;
+      command = x.command;
+      payload = x.payload;
+      rest = x.rest;
+      disk = disk;
+      lacked = subst (λ j. Lacked j text bytes (x.before ++ Asked x.command x.payload ∷ x.rest)) m x.lacked;
+      moves = x.moves;
+      outcome = subst (λ j. Outcome (after_parts j w.disk x.before) (applied j (after_parts j w.disk x.before) x.command x.payload) disk) m
+          (subst (λ e. Outcome (after_parts o.line.sectors e x.before) (applied o.line.sectors (after_parts o.line.sectors e x.before) x.command x.payload) disk) k x.outcome);
+      wrote = ap (λ t. t ++ entry who LOST []) (x.out_is ∙ (ap (λ j. replies j who o.disk.contents x.before) m ∙ ap (λ e. replies w.sectors who e x.before) k));
+      world = refl;
+    }
+
+module _ (f f' : Facts) (n : ℕ) (on : Bool) (ss : List Line) (bs : List Bool) (was is : Option (List ℕ)) (c : ℕ) (bytes : Bor (List ℕ)) (d s s' : Line)
+    (eight : length ss ≡ 8) (power : on ≡ true) (lt : c < 8) (at : get_or ss c d ≡ s) (here : get_or bs c false ≡ true) (sectors : s.sectors ≡ n)
+    (sound : f'.sound ≡ f.sound) (cuts : f.cuts ≤ f'.cuts) where
+  is_quiet : f'.slows ≡ f.slows → (w : World) → Stands (board f n on ss bs) w → IsQuiet f f'
+  is_quiet same w st = let k = st.disk in record { sound = k.sound; cut = k.cut ∙ ap not power; slow = k.slow; slows = same }
+
+  text_here : (w : World) → Stands (board f n on ss bs) w → (u : List ℕ) × (text_at w c ≡ Some u) × Serves s u
+  text_here w st = let inside : c < length ss = omega arith in text_of ss bs w.texts c d s st.texts inside at here
+
+  pub piece_shut : (IsQuiet f f' → Pieced c (desk f s was) (desk f' s' is) Shut bytes.now)
+      → Leads (board f n on ss bs) (board f' n on (set ss c s') (set bs c false)) (Piece c bytes) was is (entry c SHUT [])
+  piece_shut goes = λ same w st.
+      let k = st.disk in
+      let lit : w.power ≡ true = k.power ∙ power in
+      let l = text_here w st in
+      let g = goes (is_quiet same w st) in
+      let x = g.says l.0 l.2 in
+      let a = x.2.2 in
+      let w' : World = record { sectors = w.sectors; disk = f'.contents; power = true; texts = set w.texts c None } in
+      let out = x.0 ++ entry c SHUT [] in (
+        x.0,
+        x.1,
+        w',
+        inl (
+          step_on w.power (Powered w (Piece c bytes) out w') (Unpowered w (Piece c bytes) out w') lit
+              (by_some (text_at w c) l.0 _ _ l.1 (answers_in w c n f.contents l.0 bytes.now x.0 f'.contents x.2.0 true k.sectors k.contents
+              (subst (λ m. Lacked m l.0 bytes.now x.2.0) sectors a.lacked) (a.out_is ∙ ap (λ m. replies m c f.contents x.2.0) sectors) (a.disk_is ∙ ap (λ m. after_parts m f.contents x.2.0) sectors) x.2.1)),
+          cuts,
+        ),
+        record {
+          disk = record { sound = sound ∙ k.sound; slow = g.slow; cut = g.power ∙ ap not (sym power); sectors = k.sectors; contents = refl; power = sym power };
+          texts = lines_set ss bs w.texts c s' false None st.texts tt;
+        },
+      )
+
+  pub piece_stays : (IsQuiet f f' → Pieced c (desk f s was) (desk f' s' is) Stays bytes.now)
+      → Leads (board f n on ss bs) (board f' n on (set ss c s') bs) (Piece c bytes) was is (entry c DONE [])
+  piece_stays goes = λ same w st.
+      let k = st.disk in
+      let lit : w.power ≡ true = k.power ∙ power in
+      let l = text_here w st in
+      let g = goes (is_quiet same w st) in
+      let x = g.says l.0 l.2 in
+      let y = x.2.0 in
+      let a = y.2 in
+      let w' : World = record { sectors = w.sectors; disk = f'.contents; power = true; texts = set w.texts c (Some (l.0 ++ bytes.now)) } in
+      let out = x.0 ++ entry c DONE [] in (
+        x.0,
+        x.1,
+        w',
+        inl (
+          step_on w.power (Powered w (Piece c bytes) out w') (Unpowered w (Piece c bytes) out w') lit
+              (by_some (text_at w c) l.0 _ _ l.1 (answers_in w c n f.contents l.0 bytes.now x.0 f'.contents y.0 false k.sectors k.contents
+              (subst (λ m. Lacked m l.0 bytes.now y.0) sectors a.lacked) (a.out_is ∙ ap (λ m. replies m c f.contents y.0) sectors) (a.disk_is ∙ ap (λ m. after_parts m f.contents y.0) sectors) y.1)),
+          cuts,
+        ),
+        record {
+          disk = record { sound = sound ∙ k.sound; slow = g.slow; cut = g.power ∙ ap not (sym power); sectors = k.sectors; contents = refl; power = sym power };
+          texts = lines_put ss bs w.texts c s' (l.0 ++ bytes.now) st.texts here x.2.1;
+        },
+      )
+
+  pub piece_lost : length (set ss c s') ≡ 8 → (IsQuiet f f' → Pieced c (desk f s was) (desk f' s' is) Lost bytes.now)
+      → Leads (board f n on ss bs) (board f' n false (set ss c s') (replicate 8 false)) (Piece c bytes) was is (entry c LOST [])
+  piece_lost still goes = λ same w st.
+      let k = st.disk in
+      let lit : w.power ≡ true = k.power ∙ power in
+      let l = text_here w st in
+      let g = goes (is_quiet same w st) in
+      let x = g.says l.0 l.2 in (
+        x.0,
+        x.1,
+        dark w f'.contents,
+        inr ((lit, by_some (text_at w c) l.0 _ _ l.1 (interrupted_in w c n f.contents l.0 bytes.now x.0 f'.contents (desk f s was) sectors refl k.sectors k.contents x.2)), g.power.1),
+        record {
+          disk = record { sound = sound ∙ k.sound; slow = g.slow; cut = g.power.0; sectors = k.sectors; contents = refl; power = refl };
+          texts = lines_dark 8 (set ss c s') still;
+        },
+      )
+
+  -- the output fails in a reply of the piece
+  pub piece_stops : (IsQuiet f f' → PieceHalts c (desk f s was) (desk f' s' is) bytes.now)
+      → Halts (board f n on ss bs) (board f' n on (set ss c s') bs) (Piece c bytes) was is
+  piece_stops goes = λ same w st.
+      let k = st.disk in
+      let lit : w.power ≡ true = k.power ∙ power in
+      let l = text_here w st in
+      let g = goes (is_quiet same w st) in
+      let h = g.says l.0 l.2 in
+      let front = h.before ++ h.part ∷ [] in
+      let all = front ++ h.rest in
+      let mid = after_parts n f.contents front in
+      let tail = replies n c mid h.rest in
+      let whole : h.before ++ h.part ∷ h.rest ≡ all = sym (append_assoc h.before (h.part ∷ []) h.rest) in
+      let lacked : Lacked n l.0 bytes.now all = subst (λ m. Lacked m l.0 bytes.now all) sectors (h.lacked ∙ ap (λ v. parts s.sectors l.0 ++ v) whole) in
+      let out_is : replies n c f.contents front ≡ h.out ++ h.unsent = subst (λ m. replies m c f.contents front ≡ h.out ++ h.unsent) sectors h.out_is in
+      let disk_is : f'.contents ≡ mid = subst (λ m. f'.contents ≡ after_parts m f.contents front) sectors h.disk_is in
+      let b = closed all in
+      let last = entry c (if b then SHUT else DONE) [] in
+      let end : World = record { sectors = w.sectors; disk = after_parts n f.contents all; power = true; texts = set w.texts c (if b then None else Some (l.0 ++ bytes.now)) } in
+      let unsent = h.unsent ++ (tail ++ last) in
+      let told : replies n c f.contents all ++ last ≡ h.out ++ unsent =
+      ap (λ v. v ++ last) (replies_append n c f.contents front h.rest ∙ ap (λ v. v ++ tail) out_is)
+      ∙ (append_assoc (h.out ++ h.unsent) tail last ∙ append_assoc h.out h.unsent (tail ++ last)) in
+      let step = step_on w.power (Powered w (Piece c bytes) (replies n c f.contents all ++ last) end) (Unpowered w (Piece c bytes) (replies n c f.contents all ++ last) end) lit
+      (by_some (text_at w c) l.0 _ _ l.1 (answers_in w c n f.contents l.0 bytes.now (replies n c f.contents all) (after_parts n f.contents all) all b k.sectors k.contents lacked refl refl refl)) in
+      let left : World = hung_up (record w { disk = after_parts w.sectors w.disk front }) in (
+        left,
+        h.out,
+        h.appends,
+        record {
+          unsent = unsent;
+          missing = longer h.unsent (tail ++ last) h.missing;
+          end = end;
+          move = inl (subst (λ o. MatchBool w.power (Powered w (Piece c bytes) o end) (Unpowered w (Piece c bytes) o end)) told step, cuts);
+          reached = inr (by_some (text_at w c) l.0 _ _ l.1 (record { before = front; rest = h.rest; lacked = subst (λ m. Lacked m l.0 bytes.now all) (sym k.sectors) lacked; world = refl }));
+        },
+        record {
+          sound = sound ∙ k.sound;
+          slow = g.slow;
+          cut = g.power ∙ ap not (sym power);
+          sectors = k.sectors;
+          contents = ap (λ m. after_parts m w.disk front) k.sectors ∙ (ap (λ v. after_parts n v front) k.contents ∙ sym disk_is);
+          power = k.power;
+        },
+      )
+
+pub pieced_at : (who : ℕ) (old new : Desk) (e e' : Ending) (bytes : List ℕ) → e ≡ e' → Pieced who old new e bytes → Pieced who old new e' bytes
+pieced_at who old new e e' bytes which g = subst (λ r. Pieced who old new r bytes) which g

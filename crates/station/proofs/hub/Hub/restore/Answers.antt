@@ -1,0 +1,23 @@
+use Rattle.std.proofs.Common.{◌∙◌, sym, replicate, false, true}
+use Rattle.station.specs.declared.event.Event.TheVariants.{Restore}
+use Rattle.station.proofs.Moving.{board, does_by, does_seen, restored, restore_lost}
+use Rattle.station.proofs.hub.Hub.restore.Goals as goal
+
+pub returns-in-Ok-clause-does : goal.returns-in-Ok-clause-does
+returns-in-Ok-clause-does g c =
+    let e = c.in-Ok.ensures in
+    let s = c.self.inside in
+    let before = board (g.D.Disk.facts s.disk) s.sectors s.power s.sessions.items s.is_open in
+    let after = board (g.D.Disk.facts c.restore.new.self) s.sectors true s.sessions.items s.is_open in
+    does_seen before c.args.self.now after Restore _ _ c.put.result c.self.view_is (does_by before after Restore _ _ _ _ c.put.result _ _
+    (restored (g.D.Disk.facts s.disk) (g.D.Disk.facts c.restore.new.self) s.sectors s.power s.sessions.items s.is_open _ e.contents e.sound e.goes.cuts e.stands.0 e.stands.1) c.put.ensures)
+
+pub returns-in-Err-Cut-clause-does : goal.returns-in-Err-Cut-clause-does
+returns-in-Err-Cut-clause-does g c =
+    let e = rw c.in-Err-Cut.field-0-is at c.in-Err-Cut.ensures in
+    let s = c.self.inside in
+    let before = board (g.D.Disk.facts s.disk) s.sectors s.power s.sessions.items s.is_open in
+    let after = board (g.D.Disk.facts c.restore.new.self) s.sectors false s.sessions.items (replicate 8 false) in
+    does_seen before c.args.self.now after Restore _ _ c.put-in-Err-Cut.result c.self.view_is (does_by before after Restore _ _ _ _ c.put-in-Err-Cut.result _ _
+    (restore_lost (g.D.Disk.facts s.disk) (g.D.Disk.facts c.restore.new.self) s.sectors s.power s.sessions.items s.is_open _ (sym s.sessions.ok.0 ∙ c.self.invariant.eight)
+    e.contents e.sound e.stands.0 e.stands.1 e.stands.2) c.put-in-Err-Cut.ensures)

@@ -1,0 +1,106 @@
+use Rattle.std.proofs.Common.{◌≡◌, ◌⊎◌, inl, inr, ◌≤◌, refl, ◌∙◌, sym, get_or, set, false, length, ap, rules, replicate}
+use Rattle.std.proofs.lemmas.List.{length-set}
+use Rattle.station.specs.declared.event.Event.TheVariants.{Piece}
+use Rattle.station.specs.Board.{memories}
+use Rattle.station.proofs.Lines.{memory_stays}
+use Rattle.station.proofs.Moving.{board, does_by, does_seen, does_same, seen_power, refused, piece_none, halts_seen}
+use Rattle.station.proofs.Piecing.{piece_stays, piece_shut, piece_lost, piece_stops, pieced_at}
+use Rattle.station.proofs.hub.Hub.take.Goals as goal
+use Rattle.station.proofs.hub.Hub.take.Goals.{then-at-ge-CONNECTIONS-via-then-at-ge-CONNECTIONS, then-at-ge-CONNECTIONS-via-else-at-ge-CONNECTIONS+then-not-self-at}
+
+pub returns-then-not-self-clause-does : goal.returns-then-not-self-clause-does
+returns-then-not-self-clause-does g c =
+    does_by c.args.self.now c.args.self.now (Piece c.args.who c.args.bytes) _ _ _ _ c.put.result _ _ (refused c.args.self.now (Piece c.args.who c.args.bytes) _ _ (seen_power _ _ _ c.self.view_is c.if-not-self.true) (λ w. (refl, refl))) c.put.ensures
+
+pub returns-then-at-ge-CONNECTIONS-clause-does : goal.returns-then-at-ge-CONNECTIONS-clause-does
+returns-then-at-ge-CONNECTIONS-clause-does g c =
+    let s = c.self.inside in
+    let before = board (g.D.Disk.facts s.disk) s.sectors s.power s.sessions.items s.is_open in
+    let cause : (8 ≤ c.args.who) ⊎ (get_or s.is_open c.args.who false ≡ false) =
+    elim c.then-at-ge-CONNECTIONS.branch [ then-at-ge-CONNECTIONS-via-then-at-ge-CONNECTIONS w ↦ inl w.if-at-ge-CONNECTIONS.true | then-at-ge-CONNECTIONS-via-else-at-ge-CONNECTIONS+then-not-self-at w ↦ inr w.if-not-self-at.true ] in
+    does_same before c.args.self.now (Piece c.args.who c.args.bytes) _ _ c.put-then-at-ge-CONNECTIONS.result c.self.view_is
+    (does_by before before (Piece c.args.who c.args.bytes) _ _ _ _ c.put-then-at-ge-CONNECTIONS.result _ _
+    (piece_none before c.args.who c.args.bytes _ (sym s.sessions.ok.0 ∙ c.self.invariant.eight) c.if-not-self.false cause) c.put-then-at-ge-CONNECTIONS.ensures)
+
+pub returns-in-Ok-Stays-clause-does : goal.returns-in-Ok-Stays-clause-does
+returns-in-Ok-Stays-clause-does g c =
+    let s = c.self.inside in
+    let line = c.take_piece.new.session in
+    let f = g.D.Disk.facts s.disk in
+    let f' = g.D.Disk.facts c.take_piece.new.disk in
+    let e = c.in-Ok-Stays.ensures in
+    let sec : c.index_mut.result.now.sectors ≡ s.sectors = search rules in
+    let eight : length s.sessions.items ≡ 8 = sym s.sessions.ok.0 ∙ c.self.invariant.eight in
+    let before = board f s.sectors s.power s.sessions.items s.is_open in
+    let after = board f' s.sectors s.power (set s.sessions.items c.args.who line) s.is_open in
+    does_seen before c.args.self.now after (Piece c.args.who c.args.bytes) _ _ c.put-in-Ok-Stays.result c.self.view_is
+    (does_by before after (Piece c.args.who c.args.bytes) _ _ _ _ c.put-in-Ok-Stays.result _ _
+    (piece_stays f f' s.sectors s.power s.sessions.items s.is_open (g.W.Sink.written c.args.out.now) (g.W.Sink.written c.take_piece.new.out) c.args.who c.args.bytes _ c.index_mut.result.now line
+    eight c.if-not-self.false c.if-at-ge-CONNECTIONS.false (sym c.index_mut.ensures.value) c.if-not-self-at.false sec e.sound e.goes.cuts
+    (λ quiet. pieced_at _ _ _ _ _ _ c.in-Ok-Stays.field-0-is (e.says quiet))) c.put-in-Ok-Stays.ensures)
+
+pub returns-in-Ok-Shut-clause-does : goal.returns-in-Ok-Shut-clause-does
+returns-in-Ok-Shut-clause-does g c =
+    let s = c.self.inside in
+    let line = c.take_piece.new.session in
+    let f = g.D.Disk.facts s.disk in
+    let f' = g.D.Disk.facts c.take_piece.new.disk in
+    let e = c.in-Ok-Shut.ensures in
+    let sec : c.index_mut.result.now.sectors ≡ s.sectors = search rules in
+    let eight : length s.sessions.items ≡ 8 = sym s.sessions.ok.0 ∙ c.self.invariant.eight in
+    let before = board f s.sectors s.power s.sessions.items s.is_open in
+    let after = board f' s.sectors s.power (set s.sessions.items c.args.who line) (set s.is_open c.args.who false) in
+    does_seen before c.args.self.now after (Piece c.args.who c.args.bytes) _ _ c.put-in-Ok-Shut.result c.self.view_is
+    (does_by before after (Piece c.args.who c.args.bytes) _ _ _ _ c.put-in-Ok-Shut.result _ _
+    (piece_shut f f' s.sectors s.power s.sessions.items s.is_open (g.W.Sink.written c.args.out.now) (g.W.Sink.written c.take_piece.new.out) c.args.who c.args.bytes _ c.index_mut.result.now line
+    eight c.if-not-self.false c.if-at-ge-CONNECTIONS.false (sym c.index_mut.ensures.value) c.if-not-self-at.false sec e.sound e.goes.cuts
+    (λ quiet. pieced_at _ _ _ _ _ _ c.in-Ok-Shut.field-0-is (e.says quiet))) c.put-in-Ok-Shut.ensures)
+
+pub returns-in-Ok-Lost-clause-does : goal.returns-in-Ok-Lost-clause-does
+returns-in-Ok-Lost-clause-does g c =
+    let s = c.self.inside in
+    let line = c.take_piece.new.session in
+    let f = g.D.Disk.facts s.disk in
+    let f' = g.D.Disk.facts c.take_piece.new.disk in
+    let e = c.in-Ok-Lost.ensures in
+    let sec : c.index_mut.result.now.sectors ≡ s.sectors = search rules in
+    let eight : length s.sessions.items ≡ 8 = sym s.sessions.ok.0 ∙ c.self.invariant.eight in
+    let before = board f s.sectors s.power s.sessions.items s.is_open in
+    let after = board f' s.sectors false (set s.sessions.items c.args.who line) (replicate 8 false) in
+    does_seen before c.args.self.now after (Piece c.args.who c.args.bytes) _ _ c.put-in-Ok-Lost.result c.self.view_is
+    (does_by before after (Piece c.args.who c.args.bytes) _ _ _ _ c.put-in-Ok-Lost.result _ _
+    (piece_lost f f' s.sectors s.power s.sessions.items s.is_open (g.W.Sink.written c.args.out.now) (g.W.Sink.written c.take_piece.new.out) c.args.who c.args.bytes _ c.index_mut.result.now line
+    eight c.if-not-self.false c.if-at-ge-CONNECTIONS.false (sym c.index_mut.ensures.value) c.if-not-self-at.false sec e.sound e.goes.cuts (length-set s.sessions.items c.args.who _ ∙ eight)
+    (λ quiet. pieced_at _ _ _ _ _ _ c.in-Ok-Lost.field-0-is (e.says quiet))) c.put-in-Ok-Lost.ensures)
+
+pub returns-in-Err-clause-does : goal.returns-in-Err-clause-does
+returns-in-Err-clause-does g c =
+    let s = c.self.inside in
+    let line = c.take_piece.new.session in
+    let f = g.D.Disk.facts s.disk in
+    let f' = g.D.Disk.facts c.take_piece.new.disk in
+    let e = c.in-Err.ensures in
+    let sec : c.index_mut.result.now.sectors ≡ s.sectors = search rules in
+    let eight : length s.sessions.items ≡ 8 = sym s.sessions.ok.0 ∙ c.self.invariant.eight in
+    let before = board f s.sectors s.power s.sessions.items s.is_open in
+    let after = board f' s.sectors s.power (set s.sessions.items c.args.who line) s.is_open in
+    halts_seen before c.args.self.now after (Piece c.args.who c.args.bytes) _ _ c.self.view_is
+    (piece_stops f f' s.sectors s.power s.sessions.items s.is_open (g.W.Sink.written c.args.out.now) (g.W.Sink.written c.take_piece.new.out) c.args.who c.args.bytes _ c.index_mut.result.now line
+    eight c.if-not-self.false c.if-at-ge-CONNECTIONS.false (sym c.index_mut.ensures.value) c.if-not-self-at.false sec e.sound e.goes.cuts
+    (λ quiet. e.halts quiet))
+
+pub returns-in-Ok-Stays-clause-memory : goal.returns-in-Ok-Stays-clause-memory
+returns-in-Ok-Stays-clause-memory g c =
+    memory_stays c.self.inside.sessions.items c.args.who c.take_piece.new.session c.index_mut.result.now _ (sym c.index_mut.ensures.value) c.in-Ok-Stays.ensures.memory ∙ ap memories c.self.view_is
+
+pub returns-in-Ok-Shut-clause-memory : goal.returns-in-Ok-Shut-clause-memory
+returns-in-Ok-Shut-clause-memory g c =
+    memory_stays c.self.inside.sessions.items c.args.who c.take_piece.new.session c.index_mut.result.now _ (sym c.index_mut.ensures.value) c.in-Ok-Shut.ensures.memory ∙ ap memories c.self.view_is
+
+pub returns-in-Ok-Lost-clause-memory : goal.returns-in-Ok-Lost-clause-memory
+returns-in-Ok-Lost-clause-memory g c =
+    memory_stays c.self.inside.sessions.items c.args.who c.take_piece.new.session c.index_mut.result.now _ (sym c.index_mut.ensures.value) c.in-Ok-Lost.ensures.memory ∙ ap memories c.self.view_is
+
+pub returns-in-Err-clause-memory : goal.returns-in-Err-clause-memory
+returns-in-Err-clause-memory g c =
+    memory_stays c.self.inside.sessions.items c.args.who c.take_piece.new.session c.index_mut.result.now _ (sym c.index_mut.ensures.value) c.in-Err.ensures.memory ∙ ap memories c.self.view_is

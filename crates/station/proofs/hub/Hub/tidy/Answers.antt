@@ -1,0 +1,27 @@
+use Rattle.std.proofs.Common.{refl, ◌∙◌, sym, replicate, false}
+use Rattle.station.specs.declared.event.Event.TheVariants.{Tidy}
+use Rattle.station.proofs.Moving.{board, does_by, does_seen, seen_power, refused, tidied, tidy_lost}
+use Rattle.station.proofs.hub.Hub.tidy.Goals as goal
+
+pub returns-then-not-self-clause-does : goal.returns-then-not-self-clause-does
+returns-then-not-self-clause-does g c =
+    does_by c.args.self.now c.args.self.now Tidy _ _ _ _ c.put.result _ _ (refused c.args.self.now Tidy _ _ (seen_power _ _ _ c.self.view_is c.if-not-self.true) (λ w. (refl, refl))) c.put.ensures
+
+pub returns-in-Ok-clause-does : goal.returns-in-Ok-clause-does
+returns-in-Ok-clause-does g c =
+    let e = c.in-Ok.ensures in
+    let s = c.self.inside in
+    let before = board (g.D.Disk.facts s.disk) s.sectors s.power s.sessions.items s.is_open in
+    let after = board (g.D.Disk.facts c.tidy.new.self) s.sectors s.power s.sessions.items s.is_open in
+    does_seen before c.args.self.now after Tidy _ _ c.put-in-Ok.result c.self.view_is (does_by before after Tidy _ _ _ _ c.put-in-Ok.result _ _
+    (tidied (g.D.Disk.facts s.disk) (g.D.Disk.facts c.tidy.new.self) s.sectors s.power s.sessions.items s.is_open _ c.if-not-self.false e.contents e.sound e.goes.cuts e.stands.1.0 e.stands.1.1) c.put-in-Ok.ensures)
+
+pub returns-in-Err-Cut-clause-does : goal.returns-in-Err-Cut-clause-does
+returns-in-Err-Cut-clause-does g c =
+    let e = rw c.in-Err-Cut.field-0-is at c.in-Err-Cut.ensures in
+    let s = c.self.inside in
+    let before = board (g.D.Disk.facts s.disk) s.sectors s.power s.sessions.items s.is_open in
+    let after = board (g.D.Disk.facts c.tidy.new.self) s.sectors false s.sessions.items (replicate 8 false) in
+    does_seen before c.args.self.now after Tidy _ _ c.put-in-Err-Cut.result c.self.view_is (does_by before after Tidy _ _ _ _ c.put-in-Err-Cut.result _ _
+    (tidy_lost (g.D.Disk.facts s.disk) (g.D.Disk.facts c.tidy.new.self) s.sectors s.power s.sessions.items s.is_open _ (sym s.sessions.ok.0 ∙ c.self.invariant.eight)
+    c.if-not-self.false e.contents e.sound e.stands.0 e.stands.1 e.stands.2) c.put-in-Err-Cut.ensures)

@@ -1,0 +1,73 @@
+use Rattle.std.proofs.Common.{refl, ◌∙◌}
+use Rattle.std.proofs.lemmas.List.{take_rest}
+use Rattle.station.proofs.Turns.{on_err}
+use Rattle.station.proofs.Pieces.{start, underway_answered, underway_waits, piece_closes, piece_loses, piece_halts, turned_at, quiet_first, quiet_then, goes_twice, goes_still}
+use Rattle.station.proofs.piece.take_piece.Goals as goal
+
+pub loop-rest-init : goal.loop-rest-init
+loop-rest-init g c = (refl, refl, goes_still _, refl, λ quiet. start _ _ _ quiet.cut quiet.slow, refl)
+
+pub loop-rest-preserved-in-Waits : goal.loop-rest-preserved-in-Waits
+loop-rest-preserved-in-Waits g c =
+    let i = c.loop-rest.invariant in
+    let e = c.in_ok-used.ensures in (
+      e.sectors ∙ i.0,
+      e.sound ∙ i.1,
+      goes_twice _ _ _ i.2 e.goes,
+      e.faults ∙ i.3,
+      λ quiet.
+          let u = i.4 (quiet_first _ _ _ quiet i.2 e.goes) in
+          let t = turned_at _ _ _ _ _ _ c.in-Waits.is (e.says (quiet_then _ _ _ quiet i.2 e.goes i.1 u.cut u.slow)) in
+          rw take_rest (underway_waits _ _ _ _ _ _ c.in_ok-used.used i.0 u t e.goes.cuts),
+      e.memory ∙ i.5,
+    )
+
+pub loop-rest-preserved : goal.loop-rest-preserved
+loop-rest-preserved g c =
+    let i = c.loop-rest.invariant in
+    let e = c.in_ok-used.ensures in (
+      e.sectors ∙ i.0,
+      e.sound ∙ i.1,
+      goes_twice _ _ _ i.2 e.goes,
+      e.faults ∙ i.3,
+      λ quiet.
+          let u = i.4 (quiet_first _ _ _ quiet i.2 e.goes) in
+          let t = turned_at _ _ _ _ _ _ c.in-Answered.is (e.says (quiet_then _ _ _ quiet i.2 e.goes i.1 u.cut u.slow)) in
+          rw take_rest (underway_answered _ _ _ _ _ _ c.in_ok-used.used i.0 u t e.goes.cuts),
+      e.memory ∙ i.5,
+    )
+
+pub returns-in-Closes-clause-says : goal.returns-in-Closes-clause-says
+returns-in-Closes-clause-says g c = λ quiet.
+    let i = c.loop-rest.invariant in
+    let e = c.in_ok-used.ensures in
+    let u = i.4 (quiet_first _ _ _ quiet i.2 e.goes) in
+    let t = turned_at _ _ _ _ _ _ c.in-Closes.is (e.says (quiet_then _ _ _ quiet i.2 e.goes i.1 u.cut u.slow)) in
+    piece_closes _ _ _ _ _ _ c.in_ok-used.used i.0 u (c.parts_laws.ensures c.args.session.now.sectors) t
+
+pub returns-in-Loses-clause-says : goal.returns-in-Loses-clause-says
+returns-in-Loses-clause-says g c = λ quiet.
+    let i = c.loop-rest.invariant in
+    let e = c.in_ok-used.ensures in
+    let u = i.4 (quiet_first _ _ _ quiet i.2 e.goes) in
+    let t = turned_at _ _ _ _ _ _ c.in-Loses.is (e.says (quiet_then _ _ _ quiet i.2 e.goes i.1 u.cut u.slow)) in
+    piece_loses _ _ _ _ _ _ c.in_ok-used.used i.0 u (c.parts_laws.ensures c.args.session.now.sectors) t
+
+pub returns-in_err-used-clause-halts : goal.returns-in_err-used-clause-halts
+returns-in_err-used-clause-halts g c = λ quiet. on_err c.from_residual.result _ (
+    let i = c.loop-rest.invariant in
+    let e = c.in_err-used.ensures in
+    let u = i.4 (quiet_first _ _ _ quiet i.2 e.goes) in
+    piece_halts _ _ _ _ _ _ 0 i.0 u (e.halts (quiet_then _ _ _ quiet i.2 e.goes i.1 u.cut u.slow)))
+
+pub returns-in_err-used-clause-memory : goal.returns-in_err-used-clause-memory
+returns-in_err-used-clause-memory g c = c.in_err-used.ensures.memory ∙ c.loop-rest.invariant.5
+
+pub returns-in-Closes-clause-memory : goal.returns-in-Closes-clause-memory
+returns-in-Closes-clause-memory g c = c.in_ok-used.ensures.memory ∙ c.loop-rest.invariant.5
+
+pub returns-in-Loses-clause-memory : goal.returns-in-Loses-clause-memory
+returns-in-Loses-clause-memory g c = c.in_ok-used.ensures.memory ∙ c.loop-rest.invariant.5
+
+pub returns-clause-memory : goal.returns-clause-memory
+returns-clause-memory g c = c.loop-rest.invariant.5

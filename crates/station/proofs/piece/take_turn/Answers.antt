@@ -1,0 +1,47 @@
+use Rattle.std.proofs.Common.{◌≡◌, ℕ, refl, ◌∙◌, ap}
+use Rattle.session.specs.Lent.{payload_in}
+use Rattle.session.specs.Line.{reply_of, room_of}
+use Rattle.session.specs.Parts.{Told, Asked, Last}
+use Rattle.nbd_transmission.specs.Apply.{reply_to, applied}
+use Rattle.station.proofs.Turns.{on_err, part_halts}
+use Rattle.station.proofs.piece.take_turn.Goals as goal
+
+pub returns-in_err-tell-in-Reply-clause-halts : goal.returns-in_err-tell-in-Reply-clause-halts
+returns-in_err-tell-in-Reply-clause-halts g c = λ quiet. on_err c.from_residual.result _ (record {
+  power = quiet.cut;
+  slow = quiet.slow;
+  says = λ text serves.
+      let x = rw c.in-Reply.is at (c.take-taken.ensures.says text serves.0 serves.1) in
+      part_halts c.args.who _ _ text c.args.bytes.now c.take-taken.result.used _ _ (Told (reply_of c.take-taken.new.self)) c.reply.result.now
+      (c.parts_laws.ensures c.args.session.now.sectors) x.0 c.reply.ensures.value c.in_err-tell-in-Reply.ensures refl;
+})
+
+pub returns-in_err-tell-in-Close-clause-halts : goal.returns-in_err-tell-in-Close-clause-halts
+returns-in_err-tell-in-Close-clause-halts g c = λ quiet. on_err c.from_residual-in_err-tell-in-Close.result _ (record {
+  power = quiet.cut;
+  slow = quiet.slow;
+  says = λ text serves.
+      let x = rw c.in-Close.is at (c.take-taken.ensures.says text serves.0 serves.1) in
+      part_halts c.args.who _ _ text c.args.bytes.now c.take-taken.result.used _ _ (Last (reply_of c.take-taken.new.self)) c.reply-in-Close.result.now
+      (c.parts_laws.ensures c.args.session.now.sectors) x.0 c.reply-in-Close.ensures.value c.in_err-tell-in-Close.ensures refl;
+})
+
+pub returns-in_err-tell-in-Ok-clause-halts : goal.returns-in_err-tell-in-Ok-clause-halts
+returns-in_err-tell-in-Ok-clause-halts g c = λ quiet. on_err c.from_residual-in_err-tell-in-Ok.result _ (
+    let e = c.in-Ok.ensures in
+    record {
+      power = e.stands.1;
+      slow = e.stands.2 ∙ quiet.slow;
+      says = λ text serves.
+          let n = c.args.session.now.sectors in
+          let command = c.in-Run.command in
+          let payload = payload_in command (room_of c.take-taken.new.self) in
+          let contents = (g.D.Disk.facts c.args.disk.now).contents in
+          let x = rw c.in-Run.is at (c.take-taken.ensures.says text serves.0 serves.1) in
+          let ready = rw c.in-Run.is at c.take-taken.ensures.ready in
+          let reply : c.reply-in-Ok.result.now ≡ reply_to n contents command =
+          c.reply-in-Ok.ensures.value ∙ (e.reply quiet.sound ∙ ap (λ (m : ℕ). reply_to m contents command) c.take-taken.ensures.sectors) in
+          let disk : (g.D.Disk.facts c.run_command.new.disk).contents ≡ applied n contents command payload = rw ready.accepted (e.contents quiet.sound) in
+          part_halts c.args.who _ _ text c.args.bytes.now c.take-taken.result.used _ _ (Asked command payload) c.reply-in-Ok.result.now
+          (c.parts_laws.ensures n) x.0 reply c.in_err-tell-in-Ok.ensures disk;
+    })

@@ -1,0 +1,108 @@
+//! A station.
+
+ghost use Rattle.std.specs.Prelude.{◌≡◌, IfOk, vec_len};
+
+use crate::event::{Event, NewError, RunError, ScriptError};
+use crate::hub::Hub;
+use crate::script::run_lines;
+use block_device::{Disk, Sink, Source};
+use std::alloc::Global;
+use std::marker::Model;
+
+/// The most bytes of one record of a script.
+pub const PIECE_LEN: usize = 65_536;
+
+/// Eight connections and one disk, and the buffer of a piece.
+#[derive(Drop)]
+pub struct Station<D: Disk> {
+    hub: Hub<D>,
+    piece: Vec<u8>,
+}
+
+impl<D: Disk> Model for Station<D> {
+    ghost use Rattle.std.specs.Prelude.{◌≡◌, vec_len};
+    ghost use Rattle.station.specs.Board.{Board};
+
+    ghost Value = { Board };
+
+    ghost view = { λ s. s.hub };
+
+    ghost invariant = { λ s. vec_len s.piece ≡ 65536 };
+}
+
+impl<D: Disk> Station<D> {
+    ghost use Rattle.std.specs.Prelude.{◌≡◌, false, replicate, length, IfOk, IfErr, IsErrOf, OnOk, OnErr};
+    ghost use Rattle.block_device.specs.Facts.{Goes};
+    ghost use Rattle.station.specs.Board.{IsNew, memories};
+    ghost use Rattle.station.specs.Running.{Ends, FailsOnly, Runs};
+    ghost use Rattle.station.specs.Script.{FailsToReadAll, FailsToWrite, ScriptSays};
+
+    /// A station with every connection closed, and with all its buffers. Want of memory hands the disk back.
+    pub fn new(alloc: Global, disk: D) -> Result<Station<D>, (D, NewError)>
+        ensures new { IfOk result (λ station. IsNew (D.facts disk) station) }
+        ensures back { IfErr result (λ e. e.0 ≡ disk) }
+    {
+        let Ok(piece) = new_piece(alloc) else {
+            return Err((disk, NewError::OutOfMemory));
+        };
+        match Hub::new(alloc, disk) {
+            Ok(hub) => Ok(Station { hub, piece }),
+            Err(disk) => Err((disk, NewError::OutOfMemory)),
+        }
+    }
+
+    /// The disk.
+    pub fn into_inner(self) -> D
+        ensures { D.facts result ≡ self.disk }
+    {
+        self.hub.into_inner()
+    }
+
+    /// Answers events in order by records that it writes, and says how many events these were. Where a write fails, every
+    /// connection is closed. What is said of the records is said of a run in which no operation of the disk was slow.
+    pub fn run<W: Sink>(&mut self, events: &[Event], out: &mut W) -> Result<usize, RunError>
+        ensures number { IfOk result (λ n. n ≡ length events.now) }
+        ensures goes { Goes self.old.disk self.new.disk }
+        // no buffer takes more memory
+        ensures memory { memories self.new ≡ memories self.old }
+        // it answers Output exactly where a write failed
+        ensures faults { FailsOnly (W.faults out.old) result (W.faults out.new) }
+        ensures says { OnOk result (Runs self.old self.new events.now (W.written out.old) (W.written out.new)) }
+        ensures ends { OnErr result (Ends self.old self.new events.now (W.written out.old) (W.written out.new)) }
+        ensures closed { OnErr result (self.new.is_open ≡ replicate 8 false) }
+    {
+        match self.hub.run(events, out) {
+            Ok(n) => Ok(n),
+            Err(_) => Err(RunError::Output),
+        }
+    }
+
+    /// Runs a script: records of events, and of losses of power to be armed, up to the end of the input. The events before a
+    /// record that is none have been run.
+    pub fn run_script<S: Source, W: Sink>(
+        &mut self,
+        reader: &mut S,
+        writer: &mut W,
+    ) -> Result<(), ScriptError>
+        ensures goes { Goes self.old.disk self.new.disk }
+        // no buffer takes more memory
+        ensures memory { memories self.new ≡ memories self.old }
+        ensures says { ScriptSays self.old self.new (S.remaining reader.old) (W.written writer.old) result (S.remaining reader.new) (W.written writer.new) }
+        // it answers Input exactly where a read failed or the input didn't end, and Output exactly where a write failed
+        ensures reads { FailsToReadAll (S.remaining reader.old) (S.faults reader.old) result (S.faults reader.new) }
+        ensures writes { FailsToWrite (W.faults writer.old) result (W.faults writer.new) }
+        ensures closed { IsErrOf result ScriptError.Output → self.new.is_open ≡ replicate 8 false }
+    {
+        run_lines(&mut self.hub, self.piece.as_mut_slice(), reader, writer)
+    }
+}
+
+/// The buffer of a piece.
+fn new_piece(alloc: Global) -> Result<Vec<u8>, NewError>
+    ensures { IfOk result (λ bytes. vec_len bytes ≡ PIECE_LEN) }
+{
+    match vec![in alloc; 0u8; PIECE_LEN] {
+        Ok(bytes) => Ok(bytes),
+        Err(_) => Err(NewError::OutOfMemory),
+    }
+}
