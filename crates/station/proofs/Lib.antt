@@ -5,6 +5,7 @@ mod Lines
 mod Moving
 mod Piecing
 mod Ending
+mod Telling
 mod Plainly
 mod Filling
 mod Refusing

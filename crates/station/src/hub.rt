@@ -44,6 +44,7 @@ impl<D: Disk> Hub<D> {
     ghost use Rattle.station.specs.declared.event.Event.{Event};
     ghost use Rattle.station.specs.Board.{IsNew, memories};
     ghost use Rattle.station.specs.Running.{Does, Ends, FailsOnly, HangsUp, Moves, Runs};
+    ghost use Rattle.station.specs.Telling.{AllTold, Told};
 
     /// Does a step of the disk's tidying.
     fn tidy<W: Sink>(&mut self, out: &mut W) -> Result<(), Failed>
@@ -51,6 +52,7 @@ impl<D: Disk> Hub<D> {
         ensures memory { memories self.new ≡ memories self.old }
         ensures faults { FailsOnly (W.faults out.old) result (W.faults out.new) }
         ensures does { Does self.old self.new Event.Tidy (W.written out.old) result (W.written out.new) }
+        ensures tells { OnOk result (Told self.old Event.Tidy (W.written out.old) (W.written out.new) self.new) }
     {
         if !self.power {
             return put(out, NO_ONE, LOST, &[]);
@@ -72,6 +74,7 @@ impl<D: Disk> Hub<D> {
         ensures memory { memories self.new ≡ memories self.old }
         ensures faults { FailsOnly (W.faults out.old) result (W.faults out.new) }
         ensures does { Does self.old self.new Event.Restore (W.written out.old) result (W.written out.new) }
+        ensures tells { OnOk result (Told self.old Event.Restore (W.written out.old) (W.written out.new) self.new) }
     {
         match self.disk.restore() {
             Ok(()) => {
@@ -96,6 +99,7 @@ impl<D: Disk> Hub<D> {
         ensures memory { memories self.new ≡ memories self.old }
         ensures faults { FailsOnly (W.faults out.old) result (W.faults out.new) }
         ensures does { Does self.old self.new (Event.Open who) (W.written out.old) result (W.written out.new) }
+        ensures tells { OnOk result (Told self.old (Event.Open who) (W.written out.old) (W.written out.new) self.new) }
     {
         if !self.power {
             return put(out, who, LOST, &[]);
@@ -119,6 +123,7 @@ impl<D: Disk> Hub<D> {
         ensures memory { memories self.new ≡ memories self.old }
         ensures faults { FailsOnly (W.faults out.old) result (W.faults out.new) }
         ensures does { Does self.old self.new (Event.Gone who) (W.written out.old) result (W.written out.new) }
+        ensures tells { OnOk result (Told self.old (Event.Gone who) (W.written out.old) (W.written out.new) self.new) }
     {
         if !self.power {
             return put(out, who, LOST, &[]);
@@ -137,6 +142,7 @@ impl<D: Disk> Hub<D> {
         ensures memory { memories self.new ≡ memories self.old }
         ensures faults { FailsOnly (W.faults out.old) result (W.faults out.new) }
         ensures does { Does self.old self.new (Event.Piece who bytes.entry) (W.written out.old) result (W.written out.new) }
+        ensures tells { OnOk result (Told self.old (Event.Piece who bytes.entry) (W.written out.old) (W.written out.new) self.new) }
     {
         if !self.power {
             return put(out, who, LOST, &[]);
@@ -166,6 +172,7 @@ impl<D: Disk> Hub<D> {
         ensures memory { memories self.new ≡ memories self.old }
         ensures faults { FailsOnly (W.faults out.old) result (W.faults out.new) }
         ensures does { Does self.old self.new event.entry (W.written out.old) result (W.written out.new) }
+        ensures tells { OnOk result (Told self.old event.entry (W.written out.old) (W.written out.new) self.new) }
     {
         match event {
             Event::Open(who) => self.open(who, out),
@@ -182,6 +189,7 @@ impl<D: Disk> Hub<D> {
         ensures memory { memories self.new ≡ memories self.old }
         ensures faults { FailsOnly (W.faults out.old) result (W.faults out.new) }
         ensures moves { OnOk result (Moves self.old self.new event.entry (W.written out.old) (W.written out.new)) }
+        ensures tells { OnOk result (Told self.old event.entry (W.written out.old) (W.written out.new) self.new) }
         ensures hangs { OnErr result (HangsUp self.old self.new event.entry (W.written out.old) (W.written out.new)) }
         ensures closed { OnErr result (self.new.is_open ≡ replicate 8 false) }
     {
@@ -201,6 +209,7 @@ impl<D: Disk> Hub<D> {
         ensures memory { memories self.new ≡ memories self.old }
         ensures faults { FailsOnly (W.faults out.old) result (W.faults out.new) }
         ensures says { OnOk result (Runs self.old self.new events.now (W.written out.old) (W.written out.new)) }
+        ensures tells { OnOk result (AllTold self.old events.now (W.written out.old) (W.written out.new) self.new) }
         ensures ends { OnErr result (Ends self.old self.new events.now (W.written out.old) (W.written out.new)) }
         ensures closed { OnErr result (self.new.is_open ≡ replicate 8 false) }
     {

@@ -1,9 +1,11 @@
 //! Pieces of one connection's bytes.
 
-ghost use Rattle.std.specs.Prelude.{◌≡◌, ◌<◌, ◌≤◌, ◌*◌, false, length, take, IfOk, OnErr};
+ghost use Rattle.std.specs.Io.KnownBytes.{Appends};
+ghost use Rattle.std.specs.Prelude.{◌≡◌, ◌<◌, ◌≤◌, ◌*◌, ℕ, List, false, length, take, IfOk, OnErr, OnOk};
 ghost use Rattle.block_device.specs.Facts.{Goes};
 ghost use Rattle.session.specs.Line.{is_closed};
 ghost use Rattle.station.specs.Running.{FailsOnly};
+ghost use Rattle.station.specs.Telling.{SlowComes};
 ghost use Rattle.station.specs.Turning.{IsQuiet, Turned, TurnHalts, Pieced, PieceHalts};
 
 use crate::command::run_command;
@@ -51,6 +53,8 @@ pub(crate) fn take_turn<D: Disk, W: Sink>(
     ensures memory { session.new.memory ≡ session.old.memory }
     ensures sound { (D.facts disk.new).sound ≡ (D.facts disk.old).sound }
     ensures goes { Goes (D.facts disk.old) (D.facts disk.new) }
+    ensures slow { SlowComes (D.facts disk.old) (D.facts disk.new) }
+    ensures wrote { OnOk result ((wrote : List ℕ) × Appends (W.written out.old) (W.written out.new) wrote) }
     ensures faults { FailsOnly (W.faults out.old) result (W.faults out.new) }
     ensures says { IsQuiet (D.facts disk.old) (D.facts disk.new) → IfOk result (λ r. Turned who
         (record { disk = D.facts disk.old; line = session.old; written = W.written out.old })
@@ -98,6 +102,8 @@ pub(crate) fn take_piece<D: Disk, W: Sink>(
     ensures memory { session.new.memory ≡ session.old.memory }
     ensures sound { (D.facts disk.new).sound ≡ (D.facts disk.old).sound }
     ensures goes { Goes (D.facts disk.old) (D.facts disk.new) }
+    ensures slow { SlowComes (D.facts disk.old) (D.facts disk.new) }
+    ensures wrote { OnOk result ((wrote : List ℕ) × Appends (W.written out.old) (W.written out.new) wrote) }
     ensures faults { FailsOnly (W.faults out.old) result (W.faults out.new) }
     ensures says { IsQuiet (D.facts disk.old) (D.facts disk.new) → IfOk result (λ ending. Pieced who
         (record { disk = D.facts disk.old; line = session.old; written = W.written out.old })

@@ -35,6 +35,7 @@ impl<D: Disk> Station<D> {
     ghost use Rattle.block_device.specs.Facts.{Goes};
     ghost use Rattle.station.specs.Board.{IsNew, memories};
     ghost use Rattle.station.specs.Running.{Ends, FailsOnly, Runs};
+    ghost use Rattle.station.specs.Telling.{AllTold};
     ghost use Rattle.station.specs.Script.{FailsToReadAll, FailsToWrite, ScriptSays};
 
     /// A station with every connection closed, and with all its buffers. Want of memory hands the disk back.
@@ -68,6 +69,8 @@ impl<D: Disk> Station<D> {
         // it answers Output exactly where a write failed
         ensures faults { FailsOnly (W.faults out.old) result (W.faults out.new) }
         ensures says { OnOk result (Runs self.old self.new events.now (W.written out.old) (W.written out.new)) }
+        // whatever disk it is: a Tidy and a Restore end by what stands in the disk then, and a Slow stands only where one did or came
+        ensures tells { OnOk result (AllTold self.old events.now (W.written out.old) (W.written out.new) self.new) }
         ensures ends { OnErr result (Ends self.old self.new events.now (W.written out.old) (W.written out.new)) }
         ensures closed { OnErr result (self.new.is_open ≡ replicate 8 false) }
     {

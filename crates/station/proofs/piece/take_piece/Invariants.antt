@@ -1,6 +1,8 @@
 use Rattle.std.proofs.Common.{◌≡◌, length}
 use Rattle.block_device.specs.Facts.{Goes}
 use Rattle.station.specs.Turning.{IsQuiet, Underway}
+use Rattle.station.specs.Telling.{SlowComes}
+use Rattle.station.proofs.Telling.{Grows}
 use Rattle.station.proofs.piece.take_piece.Given as goal
 
 abbrev pub invariant-loop-rest : goal.invariant-loop-rest
@@ -13,6 +15,8 @@ invariant-loop-rest g l =
     (record { disk = g.D.Disk.facts l.initial.disk; line = l.initial.session; written = g.W.Sink.written l.initial.out })
     (record { disk = g.D.Disk.facts l.disk; line = l.session; written = g.W.Sink.written l.out }) l.bytes l.rest)
     × (l.session.memory ≡ l.initial.session.memory)
+    × SlowComes (g.D.Disk.facts l.initial.disk) (g.D.Disk.facts l.disk)
+    × Grows (g.W.Sink.written l.initial.out) (g.W.Sink.written l.out)
 
 abbrev pub decreases-loop-rest : goal.decreases-loop-rest
 decreases-loop-rest g l = length l.rest

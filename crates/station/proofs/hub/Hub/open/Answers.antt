@@ -4,6 +4,7 @@ use Rattle.session.specs.Line.{is_ended}
 use Rattle.station.specs.Board.{Serves, memories}
 use Rattle.station.proofs.Lines.{memory_stays}
 use Rattle.station.proofs.Moving.{board, does_by, does_seen, does_same, seen_power, refused, open_none, open_done, open_halts, halts_seen}
+use Rattle.station.proofs.Telling.{told_sent, slow_still}
 use Rattle.station.proofs.hub.Hub.open.Goals as goal
 use Rattle.station.proofs.hub.Hub.open.Goals.{then-at-ge-CONNECTIONS-via-then-at-ge-CONNECTIONS, then-at-ge-CONNECTIONS-via-else-at-ge-CONNECTIONS+then-self-at}
 
@@ -52,3 +53,10 @@ returns-in-Err-clause-memory g c =
 pub returns-clause-memory : goal.returns-clause-memory
 returns-clause-memory g c =
     memory_stays c.self.inside.sessions.items c.args.who c.reset.new.self c.index_mut-session.result.now _ (sym c.index_mut-session.ensures.value) c.reset.ensures.memory ∙ ap memories c.self.view_is
+
+pub returns-clause-tells : goal.returns-clause-tells
+returns-clause-tells g c =
+    let s = c.self.inside in
+    let before = board (g.D.Disk.facts s.disk) s.sectors s.power s.sessions.items s.is_open in
+    let after = board (g.D.Disk.facts s.disk) s.sectors s.power (set s.sessions.items c.args.who c.reset.new.self) (set s.is_open c.args.who true) in
+    told_sent before c.args.self.now after (Open c.args.who) _ _ _ _ _ _ c.put-2.result c.self.view_is (_, let t = rw c.in_default.is at c.tell.ensures in t.0) c.put-2.ensures (λ x. tt) (slow_still (g.D.Disk.facts s.disk))

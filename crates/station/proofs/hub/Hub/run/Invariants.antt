@@ -2,6 +2,7 @@ use Rattle.std.proofs.Common.{◌≡◌, take}
 use Rattle.block_device.specs.Facts.{Goes}
 use Rattle.station.specs.Board.{memories}
 use Rattle.station.specs.Running.{Runs}
+use Rattle.station.specs.Telling.{AllTold}
 use Rattle.station.proofs.hub.Hub.run.Given as goal
 
 abbrev pub invariant-loop-event : goal.invariant-loop-event
@@ -10,3 +11,4 @@ invariant-loop-event g l =
     × (g.W.Sink.faults l.out ≡ g.W.Sink.faults l.initial.out)
     × Runs l.initial.self l.self (take l.event-index l.events) (g.W.Sink.written l.initial.out) (g.W.Sink.written l.out)
     × (memories l.self ≡ memories l.initial.self)
+    × AllTold l.initial.self (take l.event-index l.events) (g.W.Sink.written l.initial.out) (g.W.Sink.written l.out) l.self

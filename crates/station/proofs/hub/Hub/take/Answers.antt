@@ -5,6 +5,7 @@ use Rattle.station.specs.Board.{memories}
 use Rattle.station.proofs.Lines.{memory_stays}
 use Rattle.station.proofs.Moving.{board, does_by, does_seen, does_same, seen_power, refused, piece_none, halts_seen}
 use Rattle.station.proofs.Piecing.{piece_stays, piece_shut, piece_lost, piece_stops, pieced_at}
+use Rattle.station.proofs.Telling.{told_sent}
 use Rattle.station.proofs.hub.Hub.take.Goals as goal
 use Rattle.station.proofs.hub.Hub.take.Goals.{then-at-ge-CONNECTIONS-via-then-at-ge-CONNECTIONS, then-at-ge-CONNECTIONS-via-else-at-ge-CONNECTIONS+then-not-self-at}
 
@@ -104,3 +105,24 @@ returns-in-Ok-Lost-clause-memory g c =
 pub returns-in-Err-clause-memory : goal.returns-in-Err-clause-memory
 returns-in-Err-clause-memory g c =
     memory_stays c.self.inside.sessions.items c.args.who c.take_piece.new.session c.index_mut.result.now _ (sym c.index_mut.ensures.value) c.in-Err.ensures.memory ∙ ap memories c.self.view_is
+
+pub returns-in-Ok-Stays-clause-tells : goal.returns-in-Ok-Stays-clause-tells
+returns-in-Ok-Stays-clause-tells g c =
+    let s = c.self.inside in
+    let before = board (g.D.Disk.facts s.disk) s.sectors s.power s.sessions.items s.is_open in
+    let after = board (g.D.Disk.facts c.take_piece.new.disk) s.sectors s.power (set s.sessions.items c.args.who c.take_piece.new.session) s.is_open in
+    told_sent before c.args.self.now after (Piece c.args.who c.args.bytes) _ _ _ _ _ _ c.put-in-Ok-Stays.result c.self.view_is c.in-Ok-Stays.ensures.wrote c.put-in-Ok-Stays.ensures (λ x. tt) c.in-Ok-Stays.ensures.slow
+
+pub returns-in-Ok-Shut-clause-tells : goal.returns-in-Ok-Shut-clause-tells
+returns-in-Ok-Shut-clause-tells g c =
+    let s = c.self.inside in
+    let before = board (g.D.Disk.facts s.disk) s.sectors s.power s.sessions.items s.is_open in
+    let after = board (g.D.Disk.facts c.take_piece.new.disk) s.sectors s.power (set s.sessions.items c.args.who c.take_piece.new.session) (set s.is_open c.args.who false) in
+    told_sent before c.args.self.now after (Piece c.args.who c.args.bytes) _ _ _ _ _ _ c.put-in-Ok-Shut.result c.self.view_is c.in-Ok-Shut.ensures.wrote c.put-in-Ok-Shut.ensures (λ x. tt) c.in-Ok-Shut.ensures.slow
+
+pub returns-in-Ok-Lost-clause-tells : goal.returns-in-Ok-Lost-clause-tells
+returns-in-Ok-Lost-clause-tells g c =
+    let s = c.self.inside in
+    let before = board (g.D.Disk.facts s.disk) s.sectors s.power s.sessions.items s.is_open in
+    let after = board (g.D.Disk.facts c.take_piece.new.disk) s.sectors false (set s.sessions.items c.args.who c.take_piece.new.session) (replicate 8 false) in
+    told_sent before c.args.self.now after (Piece c.args.who c.args.bytes) _ _ _ _ _ _ c.put-in-Ok-Lost.result c.self.view_is c.in-Ok-Lost.ensures.wrote c.put-in-Ok-Lost.ensures (λ x. tt) c.in-Ok-Lost.ensures.slow
