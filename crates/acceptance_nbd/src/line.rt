@@ -12,11 +12,13 @@ fn words_of(alloc: Global, text: &str) -> Result<Vec<String>, Fail> {
     Ok(words)
 }
 
-/// What `read_line` answers to these words: the path and the number of a line, or the fault's status. `plain` has no path.
+/// What `read_line` answers to these words: the path and the number of a line, or the fault's status. `plain` and `script` have
+/// no path.
 fn answer_to(words: &[String], alloc: Global) -> Result<(&str, u32), u8> {
     match read_line(alloc, words) {
         Ok(Line::Plain { sectors }) => Ok(("", sectors)),
         Ok(Line::Format { image, kib }) => Ok((image, kib)),
+        Ok(Line::Script { kib }) => Ok(("", kib)),
         Err(fault) => Err(fault.status()),
     }
 }
@@ -42,11 +44,20 @@ fn reads_lines(rt: HostRuntime) -> Result<(), Fail> {
         ("norbd format a.img --kib", Err(2)),
         ("norbd format a.img", Err(2)),
         ("norbd format --kib 64", Err(2)),
+        ("norbd script --kib 64", Ok(("", 64))),
+        ("norbd script --kib 16384", Ok(("", 16384))),
+        ("norbd script --kib 63", Err(2)),
+        ("norbd script --kib 65", Err(2)),
+        ("norbd script --kib 16385", Err(2)),
+        ("norbd script --kib", Err(2)),
+        ("norbd script", Err(2)),
+        ("norbd script --kib 64 more", Err(2)),
         ("norbd other", Err(2)),
         ("norbd", Err(2)),
         ("norbd --help", Err(0)),
         ("norbd plain --help", Err(0)),
         ("norbd format --help", Err(0)),
+        ("norbd script --help", Err(0)),
         ("norbd --version", Err(0)),
     ] {
         let words = words_of(rt.alloc(), text)?;
@@ -76,10 +87,15 @@ fn faults_show_their_texts(rt: HostRuntime) -> Result<(), Fail> {
         (Fault::BadSfdp, "bad sfdp"),
         (Fault::Protected, "protected"),
         (Fault::Slow, "slow"),
+        (Fault::BadRecord, "bad record"),
+        (Fault::NotFormatted, "not formatted"),
+        (Fault::Corrupt, "corrupt"),
     ] {
         assert_eq!(rt; format!(in rt.alloc(); "{fault}")?.as_str(), text);
     }
     let text = fault_text(rt.alloc(), "norbd format a.img --kib 65")?;
+    assert_eq!(rt; text.as_str(), "bad size");
+    let text = fault_text(rt.alloc(), "norbd script --kib 65")?;
     assert_eq!(rt; text.as_str(), "bad size");
     // `clap`'s text says norbd whatever the first word.
     let text = fault_text(rt.alloc(), "out/program")?;

@@ -1,13 +1,13 @@
 -- A number in its range that is no size makes no line, and is told as one or for want of memory.
 use Rattle.std.proofs.Common.{◌≡◌, ◌⊎◌, ◌∙◌, ◌%◌, ℕ, List, [], Option, Some, Result, Ok, Err, IfOk, IfErr, codes, sym, ap, subst, refl, inl, inr, arith}
-use Rattle.std.specs.Prelude.{IsErrAnd, option_map, unwrap_or}
+use Rattle.std.specs.Prelude.{IsErrAnd, option_map, slice_get, unwrap_or}
 use Rattle.clap.specs.Words.{IsAmong, Row, Text, kind_of}
 use Rattle.norbd_line.specs.Fault.{ComesFromWords}
-use Rattle.norbd_line.specs.Line.{HasOddSize, InRange, IsLineOf, IsOddSize, IsSize, Names, number_in}
+use Rattle.norbd_line.specs.Line.{HasOddSize, InRange, IsLineOf, IsOddSize, IsSize, Names, TakesSize, number_in}
 use Rattle.norbd_line.specs.declared.fault.Fault.{Fault}
-use Rattle.norbd_line.specs.declared.fault.Fault.TheVariants.{Words, NoMemory, BadSize, InputFailed, OutputFailed, ImageFailed, WrongId, BadSfdp, Protected, Slow}
+use Rattle.norbd_line.specs.declared.fault.Fault.TheVariants.{Words, NoMemory, BadSize, InputFailed, OutputFailed, ImageFailed, WrongId, BadSfdp, Protected, Slow, BadRecord, NotFormatted, Corrupt}
 use Rattle.norbd_line.specs.declared.line.Line.{Line}
-use Rattle.norbd_line.specs.declared.line.Line.TheVariants.{Plain, Format}
+use Rattle.norbd_line.specs.declared.line.Line.TheVariants.{Plain, Format, Script}
 
 -- the words name one command
 same_name : (words : List Text) (n m : Text) (rows others : List Row) → Names words n rows → Names words m others → n ≡ m
@@ -18,8 +18,14 @@ same_rows : (words : List Text) (n m : Text) (rows others : List Row) → Names 
 same_rows words n m rows others one two =
     ap (λ (o : Option (Text × List Row)). unwrap_or (option_map (λ c. c.1) o) []) (sym one.command ∙ two.command)
 
-plain≢format : codes "plain" ≡ codes "format" → ⊥
-plain≢format e = let first : 112 ≡ 102 = ap (λ (t : Text). unwrap_or (Rattle.std.specs.Prelude.slice_get t 0) 0) e in omega (arith, first)
+-- the first byte of a name
+first_of_name : Text → ℕ
+first_of_name name = unwrap_or (slice_get name 0) 0
+
+plain_takes_no_size : TakesSize (codes "plain") → ⊥
+unfolding first_of_name
+plain_takes_no_size (inl e) = let first : 112 ≡ 102 = ap first_of_name e in omega (arith, first)
+plain_takes_no_size (inr e) = let first : 112 ≡ 115 = ap first_of_name e in omega (arith, first)
 
 size≢odd : (k m : ℕ) → Some k ≡ Some m → IsSize k → IsOddSize m → ⊥
 size≢odd k m e size odd =
@@ -29,10 +35,15 @@ size≢odd k m e size odd =
 pub odd_is_refused : (words : List Text) (r : Result Line Fault) → IfOk r InRange → IfOk r (IsLineOf words) → IfErr r (ComesFromWords words)
     → HasOddSize words → IsErrAnd r (λ e. (e ≡ BadSize) ⊎ (e ≡ NoMemory))
 odd_is_refused words (Ok (Plain sectors)) range line fault odd =
-    absurd (plain≢format (sym line.3.0 ∙ same_name words line.0 odd.0 line.1 odd.1 line.2 odd.2 ∙ odd.3.0))
+    let name = same_name words line.0 odd.0 line.1 odd.1 line.2 odd.2 in
+    absurd (plain_takes_no_size (subst TakesSize (sym name ∙ line.3.0) odd.3.0))
 odd_is_refused words (Ok (Format image kib)) range line fault odd =
     let rows = same_rows words line.0 odd.0 line.1 odd.1 line.2 odd.2 in
     let number = sym line.3.2 ∙ ap (number_in (codes "kib")) rows ∙ odd.3.1.1 in
+    absurd (size≢odd kib odd.3.1.0 number range odd.3.1.2)
+odd_is_refused words (Ok (Script kib)) range line fault odd =
+    let rows = same_rows words line.0 odd.0 line.1 odd.1 line.2 odd.2 in
+    let number = sym line.3.1 ∙ ap (number_in (codes "kib")) rows ∙ odd.3.1.1 in
     absurd (size≢odd kib odd.3.1.0 number range odd.3.1.2)
 odd_is_refused words (Err (Words error)) range line fault odd = absurd (subst (IsAmong (kind_of error)) odd.2.faultless fault.1)
 odd_is_refused words (Err BadSize) range line fault odd = inl refl
@@ -44,3 +55,6 @@ odd_is_refused words (Err WrongId) range line fault odd = absurd fault
 odd_is_refused words (Err BadSfdp) range line fault odd = absurd fault
 odd_is_refused words (Err Protected) range line fault odd = absurd fault
 odd_is_refused words (Err Slow) range line fault odd = absurd fault
+odd_is_refused words (Err BadRecord) range line fault odd = absurd fault
+odd_is_refused words (Err NotFormatted) range line fault odd = absurd fault
+odd_is_refused words (Err Corrupt) range line fault odd = absurd fault

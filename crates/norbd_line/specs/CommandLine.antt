@@ -36,6 +36,10 @@ plain_app = with_rule (new_app (codes "plain")) sectors_rule
 abbrev pub format_app : App
 format_app = with_rule (with_rule (new_app (codes "format")) image_rule) kib_rule
 
+-- `script --kib K`
+abbrev pub script_app : App
+script_app = with_rule (new_app (codes "script")) kib_rule
+
 -- `norbd` has a version and requires a command
 abbrev pub norbd_alone : App
 norbd_alone = record (new_app (codes "norbd")) {
@@ -44,7 +48,7 @@ norbd_alone = record (new_app (codes "norbd")) {
 
 -- the whole command line
 abbrev pub norbd_app : App
-norbd_app = with_subcommand (with_subcommand norbd_alone plain_app.top) format_app.top
+norbd_app = with_subcommand (with_subcommand (with_subcommand norbd_alone plain_app.top) format_app.top) script_app.top
 
 -- the words as texts
 abbrev pub texts_of : {Z : Type 0} → List (String Z) → List Text

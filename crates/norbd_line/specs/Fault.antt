@@ -5,7 +5,7 @@ use Rattle.norbd_line.specs.Line.{HasOddSize, HasOddSizeIn}
 use Rattle.clap.specs.declared.error.kind.ErrorKind.{ErrorKind}
 use Rattle.clap.specs.declared.error.kind.ErrorKind.TheVariants.{DisplayHelp, DisplayVersion, OutOfMemory}
 use Rattle.norbd_line.specs.declared.fault.Fault.{Fault}
-use Rattle.norbd_line.specs.declared.fault.Fault.TheVariants.{Words, NoMemory, BadSize, InputFailed, OutputFailed, ImageFailed, WrongId, BadSfdp, Protected, Slow}
+use Rattle.norbd_line.specs.declared.fault.Fault.TheVariants.{Words, NoMemory, BadSize, InputFailed, OutputFailed, ImageFailed, WrongId, BadSfdp, Protected, Slow, BadRecord, NotFormatted, Corrupt}
 
 -- the words asked for help or for the version, so they are no mistake
 abbrev pub AsksForText : ErrorKind → Type 0
@@ -24,6 +24,9 @@ HasStatus WrongId status = status ≡ 1
 HasStatus BadSfdp status = status ≡ 1
 HasStatus Protected status = status ≡ 1
 HasStatus Slow status = status ≡ 1
+HasStatus BadRecord status = status ≡ 1
+HasStatus NotFormatted status = status ≡ 1
+HasStatus Corrupt status = status ≡ 1
 
 -- a fault that comes of what was matched of the words of a command: a number that is no size, or want of memory
 abbrev pub ComesFromMatches : Text → List Row → Fault → Type 0
@@ -37,6 +40,9 @@ ComesFromMatches name rows WrongId = ⊥
 ComesFromMatches name rows BadSfdp = ⊥
 ComesFromMatches name rows Protected = ⊥
 ComesFromMatches name rows Slow = ⊥
+ComesFromMatches name rows BadRecord = ⊥
+ComesFromMatches name rows NotFormatted = ⊥
+ComesFromMatches name rows Corrupt = ⊥
 
 -- a fault that reading these words may answer: one of those that they have, which isn't want of memory, a number that is no
 -- size, or want of memory
@@ -51,3 +57,6 @@ ComesFromWords words WrongId = ⊥
 ComesFromWords words BadSfdp = ⊥
 ComesFromWords words Protected = ⊥
 ComesFromWords words Slow = ⊥
+ComesFromWords words BadRecord = ⊥
+ComesFromWords words NotFormatted = ⊥
+ComesFromWords words Corrupt = ⊥

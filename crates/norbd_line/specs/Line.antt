@@ -1,9 +1,9 @@
-use Rattle.std.specs.Prelude.{ℕ, List, [], Option, Some, codes, option_map, ◌≡◌, ◌≢◌, ◌%◌, ◌≤◌}
+use Rattle.std.specs.Prelude.{ℕ, List, [], Option, Some, codes, option_map, ◌≡◌, ◌≢◌, ◌%◌, ◌≤◌, ◌⊎◌}
 use Rattle.std.specs.Str.Parse.{digits_value, without_leading_plus}
 use Rattle.clap.specs.Words.{Row, Text, fault_of, first_of, one_of, subcommand_of}
 use Rattle.norbd_line.specs.CommandLine.{norbd_app}
 use Rattle.norbd_line.specs.declared.line.Line.{Line}
-use Rattle.norbd_line.specs.declared.line.Line.TheVariants.{Plain, Format}
+use Rattle.norbd_line.specs.declared.line.Line.TheVariants.{Plain, Format, Script}
 
 -- a chip's size in KiB: a multiple of 64 from 64 to 16,384
 abbrev pub IsSize : ℕ → Type 0
@@ -13,20 +13,30 @@ IsSize kib = (64 ≤ kib) × (kib ≤ 16384) × (kib % 64 ≡ 0)
 abbrev pub IsOddSize : ℕ → Type 0
 IsOddSize kib = (64 ≤ kib) × (kib ≤ 16384) × (kib % 64 ≢ 0)
 
--- the numbers of a line are in their ranges: a plain disk has from 1 to 65,536 sectors, and a formatted chip a size of chips
+-- the numbers of a line are in their ranges: a plain disk has from 1 to 65,536 sectors, and a chip, in a file or in memory, a size
+-- of chips
 abbrev pub InRange : Line → Type 0
 InRange (Plain sectors) = (1 ≤ sectors) × (sectors ≤ 65536)
 InRange (Format image kib) = IsSize kib
+InRange (Script kib) = IsSize kib
 
 -- a fact of the number of a line `plain`
 abbrev pub IfPlain : Line → (ℕ → Type 0) → Type 0
 IfPlain (Plain sectors) p = p sectors
 IfPlain (Format image kib) p = Unit {0}
+IfPlain (Script kib) p = Unit {0}
 
 -- a fact of the path and the number of a line `format`
 abbrev pub IfFormat : Line → (Text → ℕ → Type 0) → Type 0
 IfFormat (Plain sectors) p = Unit {0}
 IfFormat (Format image kib) p = p image.now kib
+IfFormat (Script kib) p = Unit {0}
+
+-- a fact of the number of a line `script`
+abbrev pub IfScript : Line → (ℕ → Type 0) → Type 0
+IfScript (Plain sectors) p = Unit {0}
+IfScript (Format image kib) p = Unit {0}
+IfScript (Script kib) p = p kib
 
 -- the number that a text writes in decimal digits
 abbrev pub number_of : Text → ℕ
@@ -41,10 +51,15 @@ abbrev pub IsLineIn : Text → List Row → Line → Type 0
 IsLineIn name rows (Plain sectors) = (name ≡ codes "plain") × (number_in (codes "sectors") rows ≡ Some sectors)
 IsLineIn name rows (Format image kib) = (name ≡ codes "format") × (first_of (codes "IMAGE") rows ≡ Some image.now)
     × (number_in (codes "kib") rows ≡ Some kib)
+IsLineIn name rows (Script kib) = (name ≡ codes "script") × (number_in (codes "kib") rows ≡ Some kib)
 
--- the matches are those of a command `format` whose number is in the range of the sizes, and no size
+-- the commands that take the size of a chip: `format` and `script`
+abbrev pub TakesSize : Text → Type 0
+TakesSize name = (name ≡ codes "format") ⊎ (name ≡ codes "script")
+
+-- the matches are those of a command that takes a size, whose number is in the range of the sizes, and no size
 abbrev pub HasOddSizeIn : Text → List Row → Type 0
-HasOddSizeIn name rows = (name ≡ codes "format") × ((kib : ℕ) × (number_in (codes "kib") rows ≡ Some kib) × IsOddSize kib)
+HasOddSizeIn name rows = TakesSize name × ((kib : ℕ) × (number_in (codes "kib") rows ≡ Some kib) × IsOddSize kib)
 
 -- the words are without fault, and name this command, of whose words these matches were made
 pub record Names (words : List Text) (name : Text) (rows : List Row) : Type 0 where
@@ -55,6 +70,6 @@ pub record Names (words : List Text) (name : Text) (rows : List Row) : Type 0 wh
 abbrev pub IsLineOf : List Text → Line → Type 0
 IsLineOf words line = (name : Text) × (rows : List Row) × Names words name rows × IsLineIn name rows line
 
--- the words say `format` with a number that is in the range of the sizes, and no size
+-- the words say `format` or `script`, with a number that is in the range of the sizes, and no size
 abbrev pub HasOddSize : List Text → Type 0
 HasOddSize words = (name : Text) × (rows : List Row) × Names words name rows × HasOddSizeIn name rows

@@ -37,6 +37,15 @@ pub enum Fault {
     /// An operation of the chip didn't end.
     #[error("slow")]
     Slow,
+    /// A record of the script is none, or the script ends inside one.
+    #[error("bad record")]
+    BadRecord,
+    /// The chip can't be mounted: it isn't formatted.
+    #[error("not formatted")]
+    NotFormatted,
+    /// The chip can't be mounted: what is stored on it is corrupt.
+    #[error("corrupt")]
+    Corrupt,
 }
 
 impl Fault {
@@ -55,6 +64,9 @@ impl Fault {
             Fault::BadSfdp => 1,
             Fault::Protected => 1,
             Fault::Slow => 1,
+            Fault::BadRecord => 1,
+            Fault::NotFormatted => 1,
+            Fault::Corrupt => 1,
         }
     }
 }

@@ -1,11 +1,11 @@
 //! The line: what the program is asked to do.
 ghost use Rattle.std.specs.Prelude.{◌≡◌, ◌≢◌, ◌≤◌, ◌%◌, ◌⊎◌, IfErr, IfOk, IfSome, IsErrAnd, Some, codes, false, option_map};
-ghost use Rattle.clap.specs.Words.{FailsBy, app_of, fault_of, found_of, kind_of, one_text, rows_of, rule_of};
+ghost use Rattle.clap.specs.Words.{FailsBy, Text, app_of, fault_of, found_of, kind_of, one_text, rows_of, rule_of};
 ghost use Rattle.clap.specs.Words.{subcommand_of, subcommand_rows_of};
 ghost use Rattle.norbd_line.specs.CommandLine.{image_rule, kib_rule, norbd_app, sectors_rule};
 ghost use Rattle.norbd_line.specs.CommandLine.{texts_of};
 ghost use Rattle.norbd_line.specs.Fault.{ComesFromMatches, ComesFromWords};
-ghost use Rattle.norbd_line.specs.Line.{HasOddSize, InRange, IsLineIn, IsLineOf, number_of};
+ghost use Rattle.norbd_line.specs.Line.{HasOddSize, InRange, IsLineIn, IsLineOf, IsSize, TakesSize, number_in, number_of};
 
 use crate::Fault;
 use clap::error::ErrorKind;
@@ -21,6 +21,9 @@ pub enum Line<'a> {
     /// `format IMAGE --kib K`: make the file at the path `image` a formatted chip of `kib` KiB, a multiple of 64 from 64 to
     /// 16,384.
     Format { image: &'a str, kib: u32 },
+    /// `script --kib K`: run a script of events, from standard input, on a formatted chip in memory of `kib` KiB, a multiple
+    /// of 64 from 64 to 16,384, and tell what came of them on standard output.
+    Script { kib: u32 },
 }
 
 /// The least number of sectors of a plain disk.
@@ -89,11 +92,21 @@ fn whole_command<'a>(alloc: Global) -> Result<Command<'a>, clap::Error>
         .about("Makes the file of a formatted chip")
         .arg(image_arg(alloc))?
         .arg(kib_arg(alloc))?;
+    let script = Command::new(alloc, "script")
+        .about(
+            "Runs a script of events on a formatted chip in memory, from standard input to standard output",
+        )
+        .arg(kib_arg(alloc))?;
     let norbd = Command::new(alloc, "norbd")
         .bin_name("norbd")?
         .version("0.1.0")
         .subcommand_required(true);
-    Ok(norbd.subcommand(plain)?.subcommand(format)?)
+    Ok(
+        norbd
+            .subcommand(plain)?
+            .subcommand(format)?
+            .subcommand(script)?,
+    )
 }
 
 /// What the command line makes of the words.
@@ -144,12 +157,12 @@ fn plain_line<'a>(matches: &ArgMatches<'a>) -> Result<Line<'a>, Fault>
     }
 }
 
-/// The line of `format`, or `BadSize` where its number is no multiple of 64. The arms of what the parse refuses answer
-/// `NoMemory`.
-fn format_line<'a>(matches: &ArgMatches<'a>) -> Result<Line<'a>, Fault>
-    ensures range { IfOk result InRange }
-    ensures line { IfOk result (IsLineIn (codes "format") (rows_of (found_of matches.now))) }
-    ensures fault { IfErr result (ComesFromMatches (codes "format") (rows_of (found_of matches.now))) }
+/// The number after `--kib`: the size of a chip in KiB, a multiple of 64 from 64 to 16,384. `BadSize` where it is in this range
+/// and no multiple of 64. The parse refuses words without a number in the range, so the arm for them answers `NoMemory`.
+fn chip_size(matches: &ArgMatches<'_>) -> Result<u32, Fault>
+    ensures size { IfOk result IsSize }
+    ensures number { IfOk result (λ kib. number_in (codes "kib") (rows_of (found_of matches.now)) ≡ Some kib) }
+    ensures fault { (name : Text) → TakesSize name → IfErr result (ComesFromMatches name (rows_of (found_of matches.now))) }
 {
     let Some(kib) = number(matches, "kib", LEAST_KIB, MOST_KIB) else {
         return Err(Fault::NoMemory);
@@ -157,10 +170,32 @@ fn format_line<'a>(matches: &ArgMatches<'a>) -> Result<Line<'a>, Fault>
     if kib % UNIT_KIB != 0 {
         return Err(Fault::BadSize);
     }
+    Ok(kib)
+}
+
+/// The line of `format`; its faults are those of `chip_size`. The parse refuses words without a path, so the arm for them
+/// answers `NoMemory`.
+fn format_line<'a>(matches: &ArgMatches<'a>) -> Result<Line<'a>, Fault>
+    ensures range { IfOk result InRange }
+    ensures line { IfOk result (IsLineIn (codes "format") (rows_of (found_of matches.now))) }
+    ensures fault { IfErr result (ComesFromMatches (codes "format") (rows_of (found_of matches.now))) }
+{
+    let kib = chip_size(matches)?;
     match matches.get_str("IMAGE") {
         Some(image) => Ok(Line::Format { image, kib }),
         None => Err(Fault::NoMemory),
     }
+}
+
+/// The line of `script`; its faults are those of `chip_size`.
+fn script_line<'a>(matches: &ArgMatches<'a>) -> Result<Line<'a>, Fault>
+    ensures range { IfOk result InRange }
+    ensures line { IfOk result (IsLineIn (codes "script") (rows_of (found_of matches.now))) }
+    ensures fault { IfErr result (ComesFromMatches (codes "script") (rows_of (found_of matches.now))) }
+{
+    Ok(Line::Script {
+        kib: chip_size(matches)?,
+    })
 }
 
 /// The line of the command of this name. The parse refuses every other name, so the last arm isn't reached.
@@ -173,6 +208,8 @@ fn line_of<'a>(name: &str, matches: &ArgMatches<'a>) -> Result<Line<'a>, Fault>
         plain_line(matches)
     } else if name == "format" {
         format_line(matches)
+    } else if name == "script" {
+        script_line(matches)
     } else {
         Err(Fault::NoMemory)
     }
