@@ -26,6 +26,7 @@ mod memory;
 mod operation;
 mod plan;
 mod power;
+mod prompt;
 mod sim_chip;
 mod table;
 #[cfg(test)]
@@ -33,4 +34,5 @@ mod tests;
 
 pub use error::SimError;
 pub use image::ImageBus;
+pub use prompt::PromptChip;
 pub use sim_chip::SimChip;

@@ -1,0 +1,70 @@
+-- a run of a station that was just made of a disk of zeros
+use Rattle.std.proofs.Common.{arith, ◌≡◌, ℕ, ◌*◌, true, false, List, length, Option, None, refl, sym, ◌∙◌, ap, subst, replicate}
+use Rattle.std.specs.Prelude.{not, Result, Ok, Err}
+use Rattle.std.proofs.lemmas.List.{length-replicate}
+use Rattle.block_device.specs.Facts.{Facts, IsReady}
+use Rattle.station.specs.declared.event.Event.{Event}
+use Rattle.station.specs.declared.event.ScriptError.{ScriptError}
+use Rattle.station.specs.declared.event.ScriptError.TheVariants.{Input, BadRecord, Output}
+use Rattle.station.specs.Board.{Board, IsNew, Stands}
+use Rattle.station.specs.Broken.{Stops}
+use Rattle.station.specs.Running.{Runs, Ends}
+use Rattle.station.specs.Script.{ScriptSays, events_of}
+use Rattle.station.specs.Transcript.{Transcript}
+use Rattle.flash_station.specs.declared.error.RunFault.TheVariants.{Script}
+use Rattle.flash_station.specs.Answered.{Seen, Answers, Breaks, AnswersScript, new_world}
+
+-- what a disk tells of itself
+abbrev pub seen_of : ℕ → Facts → Seen
+seen_of n f = record { sectors = n; contents = f.contents; cuts = f.cuts; slows = f.slows }
+
+-- a chip that was handed back by a disk with these facts
+pub record GivenBack (f : Facts) (new : Seen) : Type 0 where
+  pub contents : new.contents ≡ f.contents
+  pub cuts : new.cuts ≡ f.cuts
+  pub slows : new.slows ≡ f.slows
+
+module _ (n : ℕ) (f : Facts) (b b' : Board) (new' : Seen) (sound : f.sound ≡ true) (ready : IsReady f) (zeros : f.contents ≡ replicate (512 * n) 0) (made : IsNew f b)
+    (back : GivenBack b'.disk new') where
+  sectors_are : b.sectors ≡ n
+  sectors_are = omega (arith, made.size, ap length zeros, length-replicate {A = ℕ} (512 * n) 0)
+
+  stands : Stands b (new_world n)
+  stands =
+      subst (λ p. Stands b (record { sectors = n; disk = replicate (512 * n) 0; power = not p; texts = replicate 8 None })) ready.0
+      (subst (λ d. Stands b (record { sectors = n; disk = d; power = not f.cut; texts = replicate 8 None })) zeros
+      (subst (λ k. Stands b (record { sectors = k; disk = f.contents; power = not f.cut; texts = replicate 8 None })) sectors_are (made.stands sound ready.1)))
+
+  quietly : new'.slows ≡ f.slows → b'.disk.slows ≡ b.disk.slows
+  quietly quiet = sym back.slows ∙ (quiet ∙ sym (ap (λ (x : Facts). x.slows) made.disk_is))
+
+  cuts_from : b.disk.cuts ≡ f.cuts
+  cuts_from = ap (λ (x : Facts). x.cuts) made.disk_is
+
+  answered : (events : List Event) (was is : Option (List ℕ)) → Runs b b' events was is → Answers (seen_of n f) new' events was is
+  answered events was is run = λ quiet.
+      let r = run (quietly quiet) (new_world n) stands in (
+        r.0,
+        r.1,
+        r.2,
+        subst (λ k. Transcript k (new_world n) events r.1 new'.cuts r.0) cuts_from (subst (λ k. Transcript b.disk.cuts (new_world n) events r.1 k r.0) (sym back.cuts) r.3),
+        r.4.disk.contents ∙ sym back.contents,
+      )
+
+  broken : (events : List Event) (was is : Option (List ℕ)) → Ends b b' events was is → Breaks (seen_of n f) new' events was is
+  broken events was is ends = λ quiet.
+      let r = ends (quietly quiet) (new_world n) stands in (
+        r.0,
+        r.1,
+        r.2,
+        subst (λ k. Stops k (new_world n) events r.1 new'.cuts r.0) cuts_from (subst (λ k. Stops b.disk.cuts (new_world n) events r.1 k r.0) (sym back.cuts) r.3),
+        r.4.disk.contents ∙ sym back.contents,
+      )
+
+  pub script_ok : (r was r' is : Option (List ℕ)) → ScriptSays b b' r was (Ok tt) r' is → AnswersScript (seen_of n f) new' r was (Ok tt) r' is
+  script_ok r was r' is s = (s.0, s.1, s.2, s.3, answered (events_of s.0) was is s.4)
+
+  pub script_err : (r was r' is : Option (List ℕ)) (e : ScriptError) → ScriptSays b b' r was (Err e) r' is → AnswersScript (seen_of n f) new' r was (Err (Script e)) r' is
+  script_err r was r' is Input s = (s.0, s.1, s.2, s.3, answered (events_of s.0) was is s.4)
+  script_err r was r' is BadRecord s = (s.0, s.1, s.2, s.3, answered (events_of s.0) was is s.4, s.5)
+  script_err r was r' is Output s = (s.0, s.1, s.2, broken (events_of s.0) was is s.3)
