@@ -13,6 +13,8 @@
 
 mod error;
 mod running;
+mod simulated;
 
 pub use error::RunFault;
 pub use running::run_formatted;
+pub use simulated::run_simulated;

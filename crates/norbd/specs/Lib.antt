@@ -1,3 +1,4 @@
 pub mod Formatting
 pub mod Outcomes
+pub mod Scripting
 pub mod Serving

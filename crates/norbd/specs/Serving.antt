@@ -3,7 +3,7 @@ use Rattle.std.specs.Prelude.{ℕ, ◌*◌, List, [], true, replicate, Option, R
 use Rattle.std.specs.Io.KnownBytes.{Appends}
 use Rattle.nbd_wire.specs.declared.phase.Phase.{Phase}
 use Rattle.norbd_line.specs.declared.fault.Fault.{Fault}
-use Rattle.norbd_line.specs.declared.fault.Fault.TheVariants.{Words, NoMemory, BadSize, InputFailed, OutputFailed, ImageFailed, WrongId, BadSfdp, Protected, Slow}
+use Rattle.norbd_line.specs.declared.fault.Fault.TheVariants.{Words, NoMemory, BadSize, InputFailed, OutputFailed, ImageFailed, WrongId, BadSfdp, Protected, Slow, BadRecord, NotFormatted, Corrupt}
 use Rattle.share.specs.Plain.{AnswersAll, AnswersSome}
 
 -- so many sectors of zeros
@@ -24,3 +24,6 @@ Serves sectors input old new (Err WrongId) = ⊥
 Serves sectors input old new (Err BadSfdp) = ⊥
 Serves sectors input old new (Err Protected) = ⊥
 Serves sectors input old new (Err Slow) = ⊥
+Serves sectors input old new (Err BadRecord) = ⊥
+Serves sectors input old new (Err NotFormatted) = ⊥
+Serves sectors input old new (Err Corrupt) = ⊥

@@ -14,10 +14,11 @@
 ghost use Rattle.std.specs.Prelude.{◌≡◌, ◌<◌};
 ghost use Rattle.std.specs.Process.{exit_status};
 ghost use Rattle.norbd.specs.Outcomes.{EndsWith};
-ghost use Rattle.norbd_line.specs.Line.{IfFormat, IsSize};
+ghost use Rattle.norbd_line.specs.Line.{IfFormat, IfScript, IsSize};
 
 mod formatting;
 mod run;
+mod scripting;
 #[cfg(test)]
 mod tests;
 
@@ -50,6 +51,7 @@ fn run_standard<I: Ledger, O: Ledger>(
     requires input { (input.name ≡ I.name) × (input.parts ≡ I.parts) × (0 < I.parts) }
     requires output { (output.name ≡ O.name) × (output.parts ≡ O.parts) × (0 < O.parts) }
     requires size { IfFormat line (λ _ kib. IsSize kib) }
+    requires script_size { IfScript line (λ kib. IsSize kib) }
 {
     let mut reader = Io::<_, I>::new(rt.stdin(), input);
     let mut writer = Io::<_, O>::new(rt.stdout(), output);
@@ -77,7 +79,7 @@ fn exit_code(done: &Result<(), Fault>) -> ExitCode
 }
 
 /// Reads the program's words and does their line.
-#[tactic(auto, using(crate::proofs::Sizes::size_of_line))]
+#[tactic(auto, using(crate::proofs::Sizes::size_of_line, crate::proofs::Sizes::size_of_script))]
 fn run_words(rt: &HostRuntime) -> Result<(), Fault> {
     let words = words_of(rt, rt.alloc())?;
     let line = read_line(rt.alloc(), words.as_slice())?;

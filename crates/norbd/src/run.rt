@@ -2,10 +2,12 @@
 ghost use Rattle.std.specs.Prelude.{◌≡◌, ◌≢◌, ℕ, List, Some};
 ghost use Rattle.norbd.specs.Outcomes.{Ended, Means};
 ghost use Rattle.norbd.specs.Formatting.{Tells};
+ghost use Rattle.norbd.specs.Scripting.{Scripts};
 ghost use Rattle.norbd.specs.Serving.{Serves};
-ghost use Rattle.norbd_line.specs.Line.{IfFormat, IfPlain, IsSize};
+ghost use Rattle.norbd_line.specs.Line.{IfFormat, IfPlain, IfScript, IsSize};
 
 use crate::formatting::run_format;
+use crate::scripting::run_script;
 use block_device::{PlainDisk, Sink, Source};
 use norbd_line::{Fault, Line};
 use share::{End, FullRecord, Gate, OneServer, Point, Shared, exchange_plain};
@@ -34,6 +36,9 @@ impl Gate for OpenGate {
 /// `NoMemory` where there is no memory for the disk, its record or the buffers, `InputFailed` where a read failed (or
 /// after 2^64 - 1 bytes), `OutputFailed` where a write failed.
 ///
+/// `script`: runs the script that comes from `reader` on a formatted chip in memory, with the transcript to `writer`; its
+/// faults are those of `run_script`.
+///
 /// `format`: makes the file at the path a formatted chip, and writes a line about it to `writer`; its faults are those of
 /// `run_format`. Nothing is read. Source: own.
 #[tactic(auto, using(crate::proofs::Sizes::size_of_chip))]
@@ -44,6 +49,7 @@ pub fn run_line<R: Files + AllocGlobal, S: Source, K: Sink>(
     writer: &mut K,
 ) -> Result<(), Fault>
     requires size { IfFormat line (λ _ kib. IsSize kib) }
+    requires script_size { IfScript line (λ kib. IsSize kib) }
     ensures ends { IfPlain line.entry (λ _. Ended result (S.remaining reader.old) (S.remaining reader.new) (S.faults reader.old)
         (S.faults reader.new) (K.faults writer.old) (K.faults writer.new)) }
     ensures serves { IfPlain line.entry (λ sectors. (input : List ℕ) → S.remaining reader.old ≡ Some input
@@ -51,6 +57,9 @@ pub fn run_line<R: Files + AllocGlobal, S: Source, K: Sink>(
     ensures unread { IfFormat line.entry (λ _ _. reader.new ≡ reader.old) }
     ensures tells { IfFormat line.entry (λ _ kib. Tells kib (K.written writer.old) (K.faults writer.old) result
         (K.written writer.new) (K.faults writer.new)) }
+    ensures scripts { IfScript line.entry (λ kib. Scripts kib
+        (record { left = S.remaining reader.old; reads = S.faults reader.old; written = K.written writer.old; writes = K.faults writer.old }) result
+        (record { left = S.remaining reader.new; reads = S.faults reader.new; written = K.written writer.new; writes = K.faults writer.new })) }
 {
     match line {
         Line::Plain { sectors } => {
@@ -63,6 +72,7 @@ pub fn run_line<R: Files + AllocGlobal, S: Source, K: Sink>(
             )
         }
         Line::Format { image, kib } => run_format(rt, image, kib, writer),
+        Line::Script { kib } => run_script(rt.alloc(), kib, reader, writer),
     }
 }
 
