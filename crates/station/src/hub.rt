@@ -46,6 +46,14 @@ impl<D: Disk> Hub<D> {
     ghost use Rattle.station.specs.Running.{Does, Ends, FailsOnly, HangsUp, Moves, Runs};
     ghost use Rattle.station.specs.Telling.{AllTold, Told};
 
+    /// The power went: every connection is closed.
+    fn go_dark(&mut self)
+        ensures { self.new ≡ record self.old { power = false; is_open = replicate 8 false } }
+    {
+        self.power = false;
+        self.is_open = [false; CONNECTIONS];
+    }
+
     /// Does a step of the disk's tidying.
     fn tidy<W: Sink>(&mut self, out: &mut W) -> Result<(), Failed>
         ensures goes { Goes self.old.disk self.new.disk }
@@ -61,8 +69,7 @@ impl<D: Disk> Hub<D> {
             Ok(_) => put(out, NO_ONE, DONE, &[]),
             Err(DiskError::Slow) => put(out, NO_ONE, STUCK, &[]),
             Err(DiskError::Cut) => {
-                self.is_open = [false; 8];
-                self.power = false;
+                self.go_dark();
                 put(out, NO_ONE, LOST, &[])
             }
         }
@@ -86,8 +93,7 @@ impl<D: Disk> Hub<D> {
                 put(out, NO_ONE, STUCK, &[])
             }
             Err(DiskError::Cut) => {
-                self.is_open = [false; 8];
-                self.power = false;
+                self.go_dark();
                 put(out, NO_ONE, LOST, &[])
             }
         }
@@ -158,8 +164,7 @@ impl<D: Disk> Hub<D> {
                 put(out, who, SHUT, &[])
             }
             Ok(Ending::Lost) => {
-                self.is_open = [false; 8];
-                self.power = false;
+                self.go_dark();
                 put(out, who, LOST, &[])
             }
             Err(e) => Err(e),

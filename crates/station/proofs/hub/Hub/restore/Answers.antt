@@ -1,5 +1,6 @@
-use Rattle.std.proofs.Common.{◌∙◌, sym, replicate, false, true}
+use Rattle.std.proofs.Common.{◌∙◌, sym, replicate, false, true, subst}
 use Rattle.station.specs.declared.event.Event.TheVariants.{Restore}
+use Rattle.station.specs.Running.{Does}
 use Rattle.station.proofs.Moving.{board, does_by, does_seen, restored, restore_lost}
 use Rattle.station.proofs.hub.Hub.restore.Goals as goal
 
@@ -18,6 +19,7 @@ returns-in-Err-Cut-clause-does g c =
     let s = c.self.inside in
     let before = board (g.D.Disk.facts s.disk) s.sectors s.power s.sessions.items s.is_open in
     let after = board (g.D.Disk.facts c.restore.new.self) s.sectors false s.sessions.items (replicate 8 false) in
-    does_seen before c.args.self.now after Restore _ _ c.put-in-Err-Cut.result c.self.view_is (does_by before after Restore _ _ _ _ c.put-in-Err-Cut.result _ _
+    subst (λ b. Does c.args.self.now b Restore (g.W.Sink.written c.args.out.now) c.put-in-Err-Cut.result (g.W.Sink.written c.put-in-Err-Cut.new.out)) (sym c.go_dark.ensures)
+    (does_seen before c.args.self.now after Restore _ _ c.put-in-Err-Cut.result c.self.view_is (does_by before after Restore _ _ _ _ c.put-in-Err-Cut.result _ _
     (restore_lost (g.D.Disk.facts s.disk) (g.D.Disk.facts c.restore.new.self) s.sectors s.power s.sessions.items s.is_open _ (sym s.sessions.ok.0 ∙ c.self.invariant.eight)
-    e.contents e.sound e.stands.0 e.stands.1 e.stands.2) c.put-in-Err-Cut.ensures)
+    e.contents e.sound e.stands.0 e.stands.1 e.stands.2) c.put-in-Err-Cut.ensures))

@@ -1,7 +1,9 @@
-use Rattle.std.proofs.Common.{◌≡◌, ◌⊎◌, inl, inr, ◌≤◌, refl, ◌∙◌, sym, get_or, set, false, length, ap, rules, replicate}
+use Rattle.std.proofs.Common.{◌≡◌, ◌⊎◌, inl, inr, ◌≤◌, refl, ◌∙◌, sym, get_or, set, false, length, ap, rules, replicate, subst}
 use Rattle.std.proofs.lemmas.List.{length-set}
 use Rattle.station.specs.declared.event.Event.TheVariants.{Piece}
-use Rattle.station.specs.Board.{memories}
+use Rattle.station.specs.Board.{Board, memories}
+use Rattle.station.specs.Running.{Does}
+use Rattle.station.specs.Telling.{SlowComes}
 use Rattle.station.proofs.Lines.{memory_stays}
 use Rattle.station.proofs.Moving.{board, does_by, does_seen, does_same, seen_power, refused, piece_none, halts_seen}
 use Rattle.station.proofs.Piecing.{piece_stays, piece_shut, piece_lost, piece_stops, pieced_at}
@@ -68,11 +70,12 @@ returns-in-Ok-Lost-clause-does g c =
     let eight : length s.sessions.items ≡ 8 = sym s.sessions.ok.0 ∙ c.self.invariant.eight in
     let before = board f s.sectors s.power s.sessions.items s.is_open in
     let after = board f' s.sectors false (set s.sessions.items c.args.who line) (replicate 8 false) in
-    does_seen before c.args.self.now after (Piece c.args.who c.args.bytes) _ _ c.put-in-Ok-Lost.result c.self.view_is
+    subst (λ b. Does c.args.self.now b (Piece c.args.who c.args.bytes) (g.W.Sink.written c.args.out.now) c.put-in-Ok-Lost.result (g.W.Sink.written c.put-in-Ok-Lost.new.out)) (sym c.go_dark.ensures)
+    (does_seen before c.args.self.now after (Piece c.args.who c.args.bytes) _ _ c.put-in-Ok-Lost.result c.self.view_is
     (does_by before after (Piece c.args.who c.args.bytes) _ _ _ _ c.put-in-Ok-Lost.result _ _
     (piece_lost f f' s.sectors s.power s.sessions.items s.is_open (g.W.Sink.written c.args.out.now) (g.W.Sink.written c.take_piece.new.out) c.args.who c.args.bytes _ c.index_mut.result.now line
     eight c.if-not-self.false c.if-at-ge-CONNECTIONS.false (sym c.index_mut.ensures.value) c.if-not-self-at.false sec e.sound e.goes.cuts (length-set s.sessions.items c.args.who _ ∙ eight)
-    (λ quiet. pieced_at _ _ _ _ _ _ c.in-Ok-Lost.field-0-is (e.says quiet))) c.put-in-Ok-Lost.ensures)
+    (λ quiet. pieced_at _ _ _ _ _ _ c.in-Ok-Lost.field-0-is (e.says quiet))) c.put-in-Ok-Lost.ensures))
 
 pub returns-in-Err-clause-does : goal.returns-in-Err-clause-does
 returns-in-Err-clause-does g c =
@@ -100,7 +103,7 @@ returns-in-Ok-Shut-clause-memory g c =
 
 pub returns-in-Ok-Lost-clause-memory : goal.returns-in-Ok-Lost-clause-memory
 returns-in-Ok-Lost-clause-memory g c =
-    memory_stays c.self.inside.sessions.items c.args.who c.take_piece.new.session c.index_mut.result.now _ (sym c.index_mut.ensures.value) c.in-Ok-Lost.ensures.memory ∙ ap memories c.self.view_is
+    ap memories c.go_dark.ensures ∙ (memory_stays c.self.inside.sessions.items c.args.who c.take_piece.new.session c.index_mut.result.now _ (sym c.index_mut.ensures.value) c.in-Ok-Lost.ensures.memory ∙ ap memories c.self.view_is)
 
 pub returns-in-Err-clause-memory : goal.returns-in-Err-clause-memory
 returns-in-Err-clause-memory g c =
@@ -124,5 +127,5 @@ pub returns-in-Ok-Lost-clause-tells : goal.returns-in-Ok-Lost-clause-tells
 returns-in-Ok-Lost-clause-tells g c =
     let s = c.self.inside in
     let before = board (g.D.Disk.facts s.disk) s.sectors s.power s.sessions.items s.is_open in
-    let after = board (g.D.Disk.facts c.take_piece.new.disk) s.sectors false (set s.sessions.items c.args.who c.take_piece.new.session) (replicate 8 false) in
-    told_sent before c.args.self.now after (Piece c.args.who c.args.bytes) _ _ _ _ _ _ c.put-in-Ok-Lost.result c.self.view_is c.in-Ok-Lost.ensures.wrote c.put-in-Ok-Lost.ensures (λ x. tt) c.in-Ok-Lost.ensures.slow
+    told_sent before c.args.self.now c.go_dark.new.self (Piece c.args.who c.args.bytes) _ _ _ _ _ _ c.put-in-Ok-Lost.result c.self.view_is c.in-Ok-Lost.ensures.wrote c.put-in-Ok-Lost.ensures (λ x. tt)
+    (subst (λ (b : Board). SlowComes (g.D.Disk.facts s.disk) b.disk) (sym c.go_dark.ensures) c.in-Ok-Lost.ensures.slow)

@@ -1,5 +1,6 @@
-use Rattle.std.proofs.Common.{refl, ◌∙◌, sym, replicate, false}
+use Rattle.std.proofs.Common.{refl, ◌∙◌, sym, replicate, false, subst}
 use Rattle.station.specs.declared.event.Event.TheVariants.{Tidy}
+use Rattle.station.specs.Running.{Does}
 use Rattle.station.proofs.Moving.{board, does_by, does_seen, seen_power, refused, tidied, tidy_lost}
 use Rattle.station.proofs.hub.Hub.tidy.Goals as goal
 
@@ -22,6 +23,7 @@ returns-in-Err-Cut-clause-does g c =
     let s = c.self.inside in
     let before = board (g.D.Disk.facts s.disk) s.sectors s.power s.sessions.items s.is_open in
     let after = board (g.D.Disk.facts c.tidy.new.self) s.sectors false s.sessions.items (replicate 8 false) in
-    does_seen before c.args.self.now after Tidy _ _ c.put-in-Err-Cut.result c.self.view_is (does_by before after Tidy _ _ _ _ c.put-in-Err-Cut.result _ _
+    subst (λ b. Does c.args.self.now b Tidy (g.W.Sink.written c.args.out.now) c.put-in-Err-Cut.result (g.W.Sink.written c.put-in-Err-Cut.new.out)) (sym c.go_dark.ensures)
+    (does_seen before c.args.self.now after Tidy _ _ c.put-in-Err-Cut.result c.self.view_is (does_by before after Tidy _ _ _ _ c.put-in-Err-Cut.result _ _
     (tidy_lost (g.D.Disk.facts s.disk) (g.D.Disk.facts c.tidy.new.self) s.sectors s.power s.sessions.items s.is_open _ (sym s.sessions.ok.0 ∙ c.self.invariant.eight)
-    c.if-not-self.false e.contents e.sound e.stands.0 e.stands.1 e.stands.2) c.put-in-Err-Cut.ensures)
+    c.if-not-self.false e.contents e.sound e.stands.0 e.stands.1 e.stands.2) c.put-in-Err-Cut.ensures))
