@@ -259,9 +259,9 @@ impl<D: Disk, L: OneServer> Shared<D, FullRecord, L> {
 
     /// Lends the rows, in the order in which their commands ran. Whenever a server that keeps rows is
     /// got, they are a legal history of the contents at its start, and while neither a Cut nor a Slow
-    /// stands in its sound disk, the disk's contents are their replay. Where a Cut stands and no Slow,
-    /// each sector is as in their replay, or as the lost command was to make it; they are the replay
-    /// where the Cut came in tidying.
+    /// stands in its sound disk, the disk's contents are their replay. Where a Cut stands, each
+    /// sector is as in their replay, or as the lost command was to make it; they are the replay where
+    /// the Cut came in tidying.
     pub fn rows(&self) -> &[Row]
         ensures rows { result.now ≡ self.now.rows }
         ensures kept { IsKept L.sectors self.now.disk self.now.base self.now.rows self.now.interrupted }
