@@ -72,8 +72,8 @@ impl<'a> Answer<'a> {
 pub enum Done<'a> {
     /// It is answered.
     Replied(Answer<'a>),
-    /// A power loss took it: each sector is as before, or as the command was to make it. No later
-    /// command runs.
+    /// A power loss took it: each sector of a sound disk is as before, or as the command was to make
+    /// it. No later command runs.
     Lost,
 }
 
