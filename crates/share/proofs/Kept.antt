@@ -1,5 +1,6 @@
 -- What a row more leaves of the history.
-use Rattle.std.proofs.Common.{◌≡◌, ℕ, List, [], ◌∷◌, ◌++◌, length, Bool, true, false, ◌||◌, ◌==◌, refl, sym, ap, ◌∙◌, inl, inr, Option, None}
+use Rattle.std.proofs.Common.{◌≡◌, ◌⊎◌, ℕ, List, [], ◌∷◌, ◌++◌, length, Bool, true, false, ◌||◌, ◌==◌, refl, sym, ap, ◌∙◌, subst, inl, inr, Option, Some, None}
+use Rattle.block_device.specs.Contents.{Outcome}
 use Rattle.block_device.specs.Facts.{Facts}
 use Rattle.nbd_wire.specs.declared.command.Command.{Command}
 use Rattle.nbd_wire.specs.declared.command.CommandKind.{CommandKind}
@@ -9,7 +10,7 @@ use Rattle.nbd_transmission.specs.Apply.{data_of, data_of_kind, changed_by, chan
 use Rattle.share.specs.declared.recorder.Row.{Row}
 use Rattle.share.specs.declared.recorder.Interrupted.{Interrupted}
 use Rattle.share.specs.Lent.{is_read, is_read_of, lent_len, lent_len_of, payload_in_of, payload_len_of, reply_in, data_in_of}
-use Rattle.share.specs.History.{row_of, after_row, replay, has_failed, MayStand, IsLegal, rows_with}
+use Rattle.share.specs.History.{row_of, interrupted_of, after_row, replay, has_failed, MayStand, IsLegal, rows_with}
 use Rattle.share.specs.State.{IsKept}
 
 replay-push : (d : List ℕ) (rows : List Row) (r : Row) → replay d (rows ++ r ∷ []) ≡ after_row (replay d rows) r
@@ -54,13 +55,23 @@ data-same (Unknown n) c d e bytes same h = h
 not_both : (b : Bool) → b ≡ true → b ≡ false → ⊥
 not_both b t f = cc
 
+-- where a Cut would have made the server lost, none stood
+pub has_power : (cut lost : Bool) → (cut ≡ true → lost ≡ true) → lost ≡ false → cut ≡ false
+has_power true lost h e = absurd (not_both lost (h refl) e)
+has_power false lost h e = refl
+
+-- where a Cut stood, or came where no Slow stood: without the first no Slow stood
+pub was_quiet : (cut slow : Bool) (A : Type 0) → (cut ≡ true) ⊎ ((slow ≡ false) × A) → cut ≡ false → slow ≡ false
+was_quiet cut slow A (inl stood) e = absurd (not_both cut stood e)
+was_quiet cut slow A (inr came) e = came.0
+
 -- a row with error 0
 pub kept-ok : (n : ℕ) (f f' : Facts) (base : List ℕ) (rows : List Row) (int : Option Interrupted) (c : Command) (conn : ℕ) (bytes bytes' : List ℕ)
     → IsKept n f base rows int → judge_of c n ≡ None → length bytes' ≡ length bytes → length bytes ≡ lent_len c → (is_read c ≡ false → bytes' ≡ bytes)
     → f'.sound ≡ f.sound → (f.sound ≡ true → f'.contents ≡ changed_by f.contents c bytes) → (f.sound ≡ true → reply_in c 0 bytes' ≡ data_of f.contents c)
-    → f.cut ≡ false → f'.slow ≡ f.slow → (moves_data c.kind ≡ true → f.slow ≡ false)
+    → f.cut ≡ false → f'.cut ≡ false → f'.slow ≡ f.slow → (moves_data c.kind ≡ true → f.slow ≡ false)
     → IsKept n f' base (rows ++ row_of conn c 0 bytes' ∷ []) int
-kept-ok n f f' base rows int c conn bytes bytes' kept accepted same long untouched sound changed replied no_cut slow quiet = record {
+kept-ok n f f' base rows int c conn bytes bytes' kept accepted same long untouched sound changed replied no_cut no_cut' slow quiet = record {
   legal = λ s. legal-push n base false rows (row_of conn c 0 bytes') (kept.legal (sym sound ∙ s)) (record {
     accepted = accepted;
     payload = payload-length c.kind c bytes bytes' same long;
@@ -72,6 +83,8 @@ kept-ok n f f' base rows int c conn bytes bytes' kept accepted same long untouch
   replayed = λ s _ e.
       let here : f.contents ≡ replay base rows = kept.replayed (sym sound ∙ s) no_cut (sym slow ∙ e) in
       changed (sym sound ∙ s) ∙ ap (λ (x : List ℕ). changed_by x c bytes) here ∙ sym (changed-payload c.kind (replay base rows) c bytes bytes' untouched) ∙ sym (replay-push base rows (row_of conn c 0 bytes'));
+  cut = λ _ e. absurd (not_both f'.cut e no_cut');
+  alone = λ e. absurd (not_both f'.cut e no_cut');
   failed = λ h. slow ∙ kept.failed (sym (or-false _) ∙ sym (failed-push false rows (row_of conn c 0 bytes')) ∙ h);
   whole = λ _. kept.whole no_cut;
 }
@@ -79,9 +92,9 @@ kept-ok n f f' base rows int c conn bytes bytes' kept accepted same long untouch
 -- a row with error 5
 pub kept-slow : (n : ℕ) (f f' : Facts) (base : List ℕ) (rows : List Row) (int : Option Interrupted) (c : Command) (conn : ℕ) (bytes bytes' : List ℕ)
     → IsKept n f base rows int → judge_of c n ≡ None → length bytes' ≡ length bytes → length bytes ≡ lent_len c
-    → f'.sound ≡ f.sound → moves_data c.kind ≡ true → f.cut ≡ false → f'.slow ≡ true
+    → f'.sound ≡ f.sound → moves_data c.kind ≡ true → f.cut ≡ false → f'.cut ≡ false → f'.slow ≡ true
     → IsKept n f' base (rows ++ row_of conn c 5 bytes' ∷ []) int
-kept-slow n f f' base rows int c conn bytes bytes' kept accepted same long sound moving no_cut slow = record {
+kept-slow n f f' base rows int c conn bytes bytes' kept accepted same long sound moving no_cut no_cut' slow = record {
   legal = λ s. legal-push n base false rows (row_of conn c 5 bytes') (kept.legal (sym sound ∙ s)) (record {
     accepted = accepted;
     payload = payload-length c.kind c bytes bytes' same long;
@@ -91,28 +104,70 @@ kept-slow n f f' base rows int c conn bytes bytes' kept accepted same long sound
     later = λ h m. refl;
   });
   replayed = λ s _ e. absurd (not_both f'.slow slow e);
+  cut = λ _ e. absurd (not_both f'.cut e no_cut');
+  alone = λ e. absurd (not_both f'.cut e no_cut');
   failed = λ h. slow;
   whole = λ _. kept.whole no_cut;
+}
+
+payload-same : (k : CommandKind) (bytes bytes' : List ℕ) → (is_read_of k ≡ false → bytes' ≡ bytes) → payload_in_of k bytes' ≡ payload_in_of k bytes
+payload-same Read bytes bytes' h = refl
+payload-same Write bytes bytes' h = h refl
+payload-same Disconnect bytes bytes' h = refl
+payload-same Flush bytes bytes' h = refl
+payload-same (Unknown n) bytes bytes' h = refl
+
+-- what is kept of a command that a Cut interrupted is its own payload
+pub interrupted-same : (c : Command) (bytes bytes' : List ℕ) → (is_read c ≡ false → bytes' ≡ bytes) → interrupted_of c bytes' ≡ interrupted_of c bytes
+interrupted-same c bytes bytes' h = ap (λ (p : List ℕ). record { command = c; payload = p }) (payload-same c.kind bytes bytes' h)
+
+-- a command that a Cut interrupted
+kept-cut : (n : ℕ) (f f' : Facts) (base : List ℕ) (rows : List Row) (int : Option Interrupted) (c : Command) (bytes bytes' : List ℕ)
+    → IsKept n f base rows int → (is_read c ≡ false → bytes' ≡ bytes)
+    → f'.sound ≡ f.sound → (f.sound ≡ true → Outcome f.contents (changed_by f.contents c bytes) f'.contents)
+    → f.cut ≡ false → f.slow ≡ false → f'.cut ≡ true → f'.slow ≡ f.slow
+    → IsKept n f' base rows (Some (interrupted_of c bytes'))
+kept-cut n f f' base rows int c bytes bytes' kept untouched sound left no_cut quiet cut slow = record {
+  legal = λ s. kept.legal (sym sound ∙ s);
+  replayed = λ _ e _. absurd (not_both f'.cut cut e);
+  cut = λ s _.
+      let here : f.contents ≡ replay base rows = kept.replayed (sym sound ∙ s) no_cut quiet in
+      let meant : changed_by f.contents c bytes ≡ changed_by (replay base rows) c (payload_in_of c.kind bytes') =
+      sym (changed-payload c.kind f.contents c bytes bytes' untouched) ∙ ap (λ (x : List ℕ). changed_kind c.kind x c (payload_in_of c.kind bytes')) here in
+      subst (λ (x : List ℕ). Outcome x (changed_by (replay base rows) c (payload_in_of c.kind bytes')) f'.contents) here
+      (subst (λ (x : List ℕ). Outcome f.contents x f'.contents) meant (left (sym sound ∙ s)));
+  alone = λ _. slow ∙ quiet;
+  failed = λ h. slow ∙ kept.failed h;
+  whole = λ e. absurd (not_both f'.cut cut e);
 }
 
 -- the same, where rows are kept, of what the calls leave
 pub kept-row-ok : (keeps : Bool) (n : ℕ) (f f' : Facts) (base base₁ base' : List ℕ) (rows rows₁ rows' : List Row) (int int₁ int' : Option Interrupted) (c : Command) (conn : ℕ) (bytes bytes' : List ℕ)
     → keeps ≡ true → IsKept n f base rows int → judge_of c n ≡ None → length bytes' ≡ length bytes → length bytes ≡ lent_len c → (is_read c ≡ false → bytes' ≡ bytes)
     → f'.sound ≡ f.sound → (f.sound ≡ true → f'.contents ≡ changed_by f.contents c bytes) → (f.sound ≡ true → reply_in c 0 bytes' ≡ data_of f.contents c)
-    → f.cut ≡ false → f'.slow ≡ f.slow → (moves_data c.kind ≡ true → f.slow ≡ false)
+    → f.cut ≡ false → f'.cut ≡ false → f'.slow ≡ f.slow → (moves_data c.kind ≡ true → f.slow ≡ false)
     → base₁ ≡ base → base' ≡ base₁ → int₁ ≡ int → int' ≡ int₁ → rows₁ ≡ rows → rows' ≡ rows_with keeps rows₁ (row_of conn c 0 bytes')
     → IsKept n f' base' rows' int'
-kept-row-ok keeps n f f' base base₁ base' rows rows₁ rows' int int₁ int' c conn bytes bytes' k kept accepted same long untouched sound changed replied no_cut slow quiet eb eb' ei ei' er er' =
+kept-row-ok keeps n f f' base base₁ base' rows rows₁ rows' int int₁ int' c conn bytes bytes' k kept accepted same long untouched sound changed replied no_cut no_cut' slow quiet eb eb' ei ei' er er' =
     let row = row_of conn c 0 bytes' in
     let rows_is : rows' ≡ rows ++ row ∷ [] = er' ∙ ap (λ (b : Bool). rows_with b rows₁ row) k ∙ ap (λ (rs : List Row). rs ++ row ∷ []) er in
-    rw (eb', eb, ei', ei, rows_is) (kept-ok n f f' base rows int c conn bytes bytes' kept accepted same long untouched sound changed replied no_cut slow quiet)
+    rw (eb', eb, ei', ei, rows_is) (kept-ok n f f' base rows int c conn bytes bytes' kept accepted same long untouched sound changed replied no_cut no_cut' slow quiet)
 
 pub kept-row-slow : (keeps : Bool) (n : ℕ) (f f' : Facts) (base base₁ base' : List ℕ) (rows rows₁ rows' : List Row) (int int₁ int' : Option Interrupted) (c : Command) (conn : ℕ) (bytes bytes' : List ℕ)
     → keeps ≡ true → IsKept n f base rows int → judge_of c n ≡ None → length bytes' ≡ length bytes → length bytes ≡ lent_len c
-    → f'.sound ≡ f.sound → moves_data c.kind ≡ true → f.cut ≡ false → f'.slow ≡ true
+    → f'.sound ≡ f.sound → moves_data c.kind ≡ true → f.cut ≡ false → f'.cut ≡ false → f'.slow ≡ true
     → base₁ ≡ base → base' ≡ base₁ → int₁ ≡ int → int' ≡ int₁ → rows₁ ≡ rows → rows' ≡ rows_with keeps rows₁ (row_of conn c 5 bytes')
     → IsKept n f' base' rows' int'
-kept-row-slow keeps n f f' base base₁ base' rows rows₁ rows' int int₁ int' c conn bytes bytes' k kept accepted same long sound moving no_cut slow eb eb' ei ei' er er' =
+kept-row-slow keeps n f f' base base₁ base' rows rows₁ rows' int int₁ int' c conn bytes bytes' k kept accepted same long sound moving no_cut no_cut' slow eb eb' ei ei' er er' =
     let row = row_of conn c 5 bytes' in
     let rows_is : rows' ≡ rows ++ row ∷ [] = er' ∙ ap (λ (b : Bool). rows_with b rows₁ row) k ∙ ap (λ (rs : List Row). rs ++ row ∷ []) er in
-    rw (eb', eb, ei', ei, rows_is) (kept-slow n f f' base rows int c conn bytes bytes' kept accepted same long sound moving no_cut slow)
+    rw (eb', eb, ei', ei, rows_is) (kept-slow n f f' base rows int c conn bytes bytes' kept accepted same long sound moving no_cut no_cut' slow)
+
+pub kept-lost : (keeps : Bool) (n : ℕ) (f f' : Facts) (base base₁ base' : List ℕ) (rows rows₁ rows' : List Row) (int int' : Option Interrupted) (c : Command) (bytes bytes' : List ℕ)
+    → keeps ≡ true → IsKept n f base rows int → (is_read c ≡ false → bytes' ≡ bytes)
+    → f'.sound ≡ f.sound → (f.sound ≡ true → Outcome f.contents (changed_by f.contents c bytes) f'.contents)
+    → f.cut ≡ false → f.slow ≡ false → f'.cut ≡ true → f'.slow ≡ f.slow
+    → base₁ ≡ base → base' ≡ base₁ → rows₁ ≡ rows → rows' ≡ rows₁ → (keeps ≡ true → int' ≡ Some (interrupted_of c bytes'))
+    → IsKept n f' base' rows' int'
+kept-lost keeps n f f' base base₁ base' rows rows₁ rows' int int' c bytes bytes' k kept untouched sound left no_cut quiet cut slow eb eb' er er' ei =
+    rw (eb', eb, ei k, er', er) (kept-cut n f f' base rows int c bytes bytes' kept untouched sound left no_cut quiet cut slow)

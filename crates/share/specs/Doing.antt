@@ -2,7 +2,8 @@
 use Rattle.std.specs.Prelude.{◌≡◌, ◌⊎◌, ℕ, ◌+◌, ◌<◌, List, [], length, Bool, true, false, Some, if◌then◌else◌, Result, OnOk, IsErrOf}
 use Rattle.block_device.specs.declared.disk.DiskError.{DiskError}
 use Rattle.block_device.specs.declared.disk.DiskError.TheVariants.{Cut, Slow}
-use Rattle.block_device.specs.Facts.{Facts, Goes, IsReady, Tidies}
+use Rattle.block_device.specs.Contents.{Outcome}
+use Rattle.block_device.specs.Facts.{Facts, Goes, IsReady, Keeps, Tidies}
 use Rattle.nbd_wire.specs.declared.command.Command.{Command}
 use Rattle.nbd_wire.specs.Commands.{moves_data}
 use Rattle.nbd_transmission.specs.Apply.{changed_by, data_of}
@@ -67,6 +68,8 @@ pub record Loses (keeps : Bool) (old new : Served) (count count' : ℕ) (command
   pub stands : new.disk.cut ≡ true
   pub cause : (old.disk.cut ≡ true) ⊎ (old.disk.cuts < new.disk.cuts)
   pub lost : new.lost ≡ true
+  -- each sector is as it was, or as the command was to make it
+  pub left : old.disk.sound ≡ true → Outcome old.disk.contents (changed_by old.disk.contents command bytes) new.disk.contents
   -- the command is kept where rows are
   pub interrupted : keeps ≡ true → old.lost ≡ false → new.interrupted ≡ Some (interrupted_of command bytes)
 
@@ -82,7 +85,7 @@ pub record Executes (keeps : Bool) (old new : Served) (connection count count' :
   -- after Lost every command is lost at once
   pub stays_lost : old.lost ≡ true → (done ≡ Lost) × (new ≡ old)
 
--- What `tidy` does: one step of the disk's tidying. It adds no row, and keeps the contents and all that was recorded.
+-- What `tidy` does: one step of the disk's tidying. It adds no row, and keeps all that was recorded.
 pub record Tidied (old new : Served) (result : Result Bool DiskError) : Type 0 where
   pub rows : new.rows ≡ old.rows
   pub base : new.base ≡ old.base
@@ -92,7 +95,8 @@ pub record Tidied (old new : Served) (result : Result Bool DiskError) : Type 0 w
   pub goes : Goes old.disk new.disk
   -- false only where nothing is left to tidy, true only where less is left
   pub work : Tidies old.disk.work result new.disk.work
-  pub contents : OnOk result (old.disk.sound ≡ true → new.disk.contents ≡ old.disk.contents)
+  -- Ok and Cut keep the contents
+  pub contents : old.disk.sound ≡ true → Keeps old.disk.contents result new.disk.contents
   pub ok : OnOk result (IsReady old.disk × IsReady new.disk × (new.lost ≡ old.lost))
   -- after a Cut every later command is lost
   pub cut : IsErrOf result Cut → ((old.disk.cut ≡ true) ⊎ (old.disk.cuts < new.disk.cuts)) × (new.disk.cut ≡ true) × (new.lost ≡ true)

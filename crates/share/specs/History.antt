@@ -1,5 +1,6 @@
 -- Rows of commands that ran one after another on one disk, and when they are a legal history.
-use Rattle.std.specs.Prelude.{◌≡◌, ◌⊎◌, ℕ, ◌==◌, ◌||◌, List, [], ◌∷◌, ◌++◌, length, Bool, true, None, if◌then◌else◌}
+use Rattle.std.specs.Prelude.{◌≡◌, ◌⊎◌, ℕ, ◌==◌, ◌||◌, List, [], ◌∷◌, ◌++◌, length, Bool, true, Option, Some, None, if◌then◌else◌}
+use Rattle.block_device.specs.Contents.{Outcome}
 use Rattle.nbd_wire.specs.declared.command.Command.{Command}
 use Rattle.nbd_wire.specs.Commands.{judge_of, moves_data}
 use Rattle.nbd_transmission.specs.Apply.{changed_by, data_of}
@@ -27,6 +28,12 @@ after_row contents row = if row.error == 0 then changed_by contents row.command 
 abbrev pub replay : List ℕ → List Row → List ℕ
 replay contents [] = contents
 replay contents (row ∷ rows) = replay (after_row contents row) rows
+
+-- What a loss of power in a command left of the contents: each sector is wholly as it was, or wholly as the command was to make it.
+-- Where no command was interrupted, they are as they were.
+abbrev pub IsLeft : Option Interrupted → List ℕ → List ℕ → Type 0
+IsLeft None old new = new ≡ old
+IsLeft (Some lost) old new = Outcome old (changed_by old lost.command lost.payload) new
 
 -- a row with error 5 stands among them, or one was before
 abbrev pub has_failed : Bool → List Row → Bool

@@ -4,13 +4,17 @@ use Rattle.block_device.specs.Facts.{Facts}
 use Rattle.nbd_wire.specs.declared.command.Command.{Command}
 use Rattle.share.specs.declared.recorder.Row.{Row}
 use Rattle.share.specs.declared.recorder.Interrupted.{Interrupted}
-use Rattle.share.specs.History.{has_failed, replay, IsLegal}
+use Rattle.share.specs.History.{has_failed, replay, IsLeft, IsLegal}
 
--- The rows are a legal history of the contents at the start, and while neither a Cut nor a Slow stands
--- in the disk its contents are their replay. Both are said of a sound disk.
+-- The rows are a legal history of the contents at the start. While neither a Cut nor a Slow stands in the disk its contents are
+-- their replay; where a Cut stands they are what it left of that. All this is said of a sound disk.
 pub record IsKept (sectors : ℕ) (disk : Facts) (base : List ℕ) (rows : List Row) (interrupted : Option Interrupted) : Type 0 where
   pub legal : disk.sound ≡ true → IsLegal sectors base false rows
   pub replayed : disk.sound ≡ true → disk.cut ≡ false → disk.slow ≡ false → disk.contents ≡ replay base rows
+  -- the interrupted command is the one that the Cut took; where it came in tidying there is none
+  pub cut : disk.sound ≡ true → disk.cut ≡ true → IsLeft interrupted (replay base rows) disk.contents
+  -- after a Slow no Cut comes
+  pub alone : disk.cut ≡ true → disk.slow ≡ false
   -- a row has error 5 only where a Slow stands
   pub failed : has_failed false rows ≡ true → disk.slow ≡ true
   -- a command was interrupted only where a Cut stands

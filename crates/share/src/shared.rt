@@ -1,4 +1,5 @@
 ghost use Rattle.std.specs.Prelude.{◌≡◌, ◌⊎◌, ℕ, ◌+◌, ◌*◌, ◌/◌, ◌%◌, ◌<◌, ◌≤◌, ◌^◌, ◌↔◌, List, [], ◌∷◌, ◌++◌, length, Bool, true, false, Option, Some, None, IfSome, IfNone, IsSome, OnSome, IfOk, IfErr, OnOk, OnErr, IsErrOf, MatchResult, vec_len};
+ghost use Rattle.block_device.specs.Contents.{Outcome};
 ghost use Rattle.block_device.specs.Facts.{Facts, Goes, Tidies};
 ghost use Rattle.nbd_wire.specs.Commands.{judge_of, moves_data};
 ghost use Rattle.nbd_transmission.specs.Apply.{changed_by, data_of};
@@ -71,7 +72,8 @@ impl<'a> Answer<'a> {
 pub enum Done<'a> {
     /// It is answered.
     Replied(Answer<'a>),
-    /// A power loss took it; no later command runs.
+    /// A power loss took it: each sector of a sound disk is as before, or as the command was to make
+    /// it. No later command runs.
     Lost,
 }
 
@@ -221,8 +223,8 @@ impl<D: Disk, R: Recorder, L: OneServer> Shared<D, R, L> {
         }
     }
 
-    /// One step of tidying. It adds no row and keeps the contents; false says that nothing was left to
-    /// tidy, true that less is left. After a Cut every later command is lost.
+    /// One step of tidying. It adds no row, and Ok and Cut keep the contents; false says that nothing was
+    /// left to tidy, true that less is left. After a Cut every later command is lost.
     pub fn tidy(&mut self) -> Result<bool, DiskError>
         ensures { Tidied self.old self.new result }
     {
@@ -257,7 +259,9 @@ impl<D: Disk, L: OneServer> Shared<D, FullRecord, L> {
 
     /// Lends the rows, in the order in which their commands ran. Whenever a server that keeps rows is
     /// got, they are a legal history of the contents at its start, and while neither a Cut nor a Slow
-    /// stands in its sound disk, the disk's contents are their replay.
+    /// stands in its sound disk, the disk's contents are their replay. Where a Cut stands, each
+    /// sector is as in their replay, or as the lost command was to make it; they are the replay where
+    /// the Cut came in tidying.
     pub fn rows(&self) -> &[Row]
         ensures rows { result.now ≡ self.now.rows }
         ensures kept { IsKept L.sectors self.now.disk self.now.base self.now.rows self.now.interrupted }
@@ -307,6 +311,7 @@ fn run<D: Disk>(
     ensures kept { is_read command.now ≡ false → bytes.new ≡ bytes.old }
     ensures contents { OnOk result ((D.facts disk.old).sound ≡ true → (D.facts disk.new).contents ≡ changed_by (D.facts disk.old).contents command.now bytes.old) }
     ensures reply { OnOk result ((D.facts disk.old).sound ≡ true → reply_in command.now 0 bytes.new ≡ data_of (D.facts disk.old).contents command.now) }
+    ensures left { IsErrOf result DiskError.Cut → (D.facts disk.old).sound ≡ true → Outcome (D.facts disk.old).contents (changed_by (D.facts disk.old).contents command.now bytes.old) (D.facts disk.new).contents }
     ensures ok { OnOk result (((D.facts disk.old).cut ≡ false) × ((D.facts disk.new).cut ≡ false) × ((D.facts disk.new).slow ≡ (D.facts disk.old).slow) × (moves_data command.now.kind ≡ true → (D.facts disk.old).slow ≡ false)) }
     ensures cut { IsErrOf result DiskError.Cut → (((D.facts disk.old).cut ≡ true) ⊎ (((D.facts disk.old).slow ≡ false) × ((D.facts disk.old).cuts < (D.facts disk.new).cuts))) × ((D.facts disk.new).cut ≡ true) × ((D.facts disk.new).slow ≡ (D.facts disk.old).slow) }
     ensures slow { IsErrOf result DiskError.Slow → (moves_data command.now.kind ≡ true) × ((D.facts disk.old).cut ≡ false) × (((D.facts disk.old).slow ≡ true) ⊎ ((D.facts disk.old).slows < (D.facts disk.new).slows)) × ((D.facts disk.new).cut ≡ false) × ((D.facts disk.new).slow ≡ true) }

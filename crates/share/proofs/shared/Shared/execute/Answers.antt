@@ -1,8 +1,10 @@
-use Rattle.std.proofs.Common.{◌∙◌, ap}
+use Rattle.std.proofs.Common.{◌≡◌, true, false, List, ◌∙◌, ap, length, refl, sym, inl, inr, Some}
 use Rattle.std.proofs.lemmas.Bool.{both_ways}
 use Rattle.std.specs.Prelude.{Err}
 use Rattle.block_device.specs.declared.disk.DiskError.{DiskError}
-use Rattle.share.proofs.Kept.{kept-row-ok, kept-row-slow}
+use Rattle.share.specs.declared.recorder.Interrupted.{Interrupted}
+use Rattle.share.specs.declared.recorder.Row.{Row}
+use Rattle.share.proofs.Kept.{has_power, interrupted-same, kept-lost, kept-row-ok, kept-row-slow, was_quiet}
 use Rattle.share.proofs.shared.Shared.execute.Goals as goal
 
 pub invariant_of-self-in-Ok : goal.invariant_of-self-in-Ok
@@ -19,7 +21,7 @@ invariant_of-self-in-Ok g c =
       kept = λ k. kept-row-ok R.KEEPS g.L.OneServer.sectors (D.facts was.disk) (D.facts c.run.new.disk)
           (R.base was.recorder) (R.base c.prepare.new.self) (R.base c.note.new.recorder) (R.rows was.recorder) (R.rows c.prepare.new.self) (R.rows c.note.new.recorder)
           (R.interrupted was.recorder) (R.interrupted c.prepare.new.self) (R.interrupted c.note.new.recorder) c.args.command.now c.args.pass.now.connection c.args.data.now c.run.new.bytes
-          k (inv.kept k) c.requires.accepted c.run.auto.bytes c.requires.lent r.kept r.sound r.contents r.reply r.ok.0 r.ok.2 r.ok.3
+          k (inv.kept k) c.requires.accepted c.run.auto.bytes c.requires.lent r.kept r.sound r.contents r.reply r.ok.0 r.ok.1 r.ok.2 r.ok.3
           p.base n.base p.interrupted n.interrupted p.rows n.rows;
     }
 
@@ -38,6 +40,52 @@ invariant_of-self-in-Err-Slow g c =
       kept = λ k. kept-row-slow R.KEEPS g.L.OneServer.sectors (D.facts was.disk) (D.facts c.run.new.disk)
           (R.base was.recorder) (R.base c.prepare.new.self) (R.base c.note-in-Err-Slow.new.recorder) (R.rows was.recorder) (R.rows c.prepare.new.self) (R.rows c.note-in-Err-Slow.new.recorder)
           (R.interrupted was.recorder) (R.interrupted c.prepare.new.self) (R.interrupted c.note-in-Err-Slow.new.recorder) c.args.command.now c.args.pass.now.connection c.args.data.now c.run.new.bytes
-          k (inv.kept k) c.requires.accepted c.run.auto.bytes c.requires.lent r.sound s.0 s.1 s.4
+          k (inv.kept k) c.requires.accepted c.run.auto.bytes c.requires.lent r.sound s.0 s.1 s.3 s.4
           p.base n.base p.interrupted n.interrupted p.rows n.rows;
+    }
+
+pub invariant_of-self-in-Err-Cut : goal.invariant_of-self-in-Err-Cut
+invariant_of-self-in-Err-Cut g c =
+    let inv = c.self.invariant in let p = c.prepare.ensures in let r = c.in-Err-Cut.ensures in let i = c.interrupt.ensures in
+    let was = c.self.inside in
+    let D = g.D.Disk in let R = g.R.Recorder in
+    let e = ap (λ (x : DiskError). Err x) c.in-Err-Cut.field-0-is in
+    let s = r.cut e in
+    let had : R.KEEPS ≡ true → (D.facts was.disk).cut ≡ false = λ k. has_power _ _ (inv.stands k) c.if-lost.false in
+    record {
+      sectors = r.goes.size ∙ inv.sectors;
+      counted = inv.counted ∙ sym (ap (λ (rows : List Row). length rows) (i.rows ∙ p.rows));
+      fits = rw (i.rows, p.rows) inv.fits;
+      lost = λ _. s.1;
+      stands = λ _ _. refl;
+      kept = λ k. kept-lost R.KEEPS g.L.OneServer.sectors (D.facts was.disk) (D.facts c.run.new.disk)
+          (R.base was.recorder) (R.base c.prepare.new.self) (R.base c.interrupt.new.self) (R.rows was.recorder) (R.rows c.prepare.new.self) (R.rows c.interrupt.new.self)
+          (R.interrupted was.recorder) (R.interrupted c.interrupt.new.self) c.args.command.now c.args.data.now c.run.new.bytes
+          k (inv.kept k) r.kept r.sound (r.left e) (had k) (was_quiet _ _ _ s.0 (had k)) s.1 s.2
+          p.base i.base p.rows i.rows i.interrupted;
+    }
+
+pub returns-in-Err-Cut-clause-executes : goal.returns-in-Err-Cut-clause-executes
+returns-in-Err-Cut-clause-executes g c =
+    let p = c.prepare.ensures in let r = c.in-Err-Cut.ensures in let i = c.interrupt.ensures in
+    let R = g.R.Recorder in
+    let e = ap (λ (x : DiskError). Err x) c.in-Err-Cut.field-0-is in
+    let s = r.cut e in
+    rw (← c.self.view_is) record {
+      replied = tt;
+      loses = record {
+        rows = i.rows ∙ p.rows;
+        counts = refl {a = c.args.pass.now.count};
+        stands = s.1;
+        cause = elim s.0 [ inl stood ↦ inl stood | inr came ↦ inr came.1 ];
+        lost = refl;
+        left = r.left e;
+        interrupted = λ k _. i.interrupted k ∙ ap (λ (x : Interrupted). Some x) (interrupted-same c.args.command.now c.args.data.now c.run.new.bytes r.kept);
+      };
+      base = i.base ∙ p.base;
+      sound = r.sound;
+      goes = r.goes;
+      given = refl {a = c.self.inside.counts.given};
+      no_rows = g.met.R.Recorder.nothing c.interrupt.new.self;
+      stays_lost = λ l. absurd (both_ways _ c.if-lost.false l);
     }
