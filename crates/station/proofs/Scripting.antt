@@ -100,6 +100,11 @@ ends_item old mid new es (Happens e) was is now a b run hangs = λ same w s.
 abbrev pub SoMany : Board → Board → Option (List ℕ) → Option (List ℕ) → Option (List ℕ) → Option (List ℕ) → Type 0
 SoMany old now r was r' is = (items : List Item) × AreAllowed items × Consumes r r' (script_of items) × Runs old now (events_of items) was is
 
+-- the script ends behind them
+pub lines_done : (old now : Board) (r was r' r'' is : Option (List ℕ)) → SoMany old now r was r' is → ReadsForm r' (Ok None) r'' → ScriptSays old now r was (Ok tt) r'' is
+lines_done old now r was r' r'' is i end =
+    (i.0, i.1, subst (λ l. Consumes r r'' l) (append-nil (script_of i.0)) (consumes_twice r r' r'' (script_of i.0) [] i.2 end.0), end.1, i.3)
+
 -- so many records, and as many bytes at least
 abbrev pub AreRead : ℕ → Option (List ℕ) → Option (List ℕ) → Type 0
 AreRead n r r' = (bytes : List ℕ) × Consumes r r' bytes × (n ≤ length bytes)

@@ -138,7 +138,9 @@ impl<D: Disk> Hub<D> {
         if at >= CONNECTIONS || !self.is_open[at] {
             return put(out, who, ABSENT, &[]);
         }
-        self.is_open[at] = false;
+        // its session is made anew where it is opened again
+        let open = &mut self.is_open[at];
+        *open = false;
         put(out, who, DONE, &[])
     }
 

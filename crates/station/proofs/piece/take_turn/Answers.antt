@@ -1,6 +1,6 @@
-use Rattle.std.proofs.Common.{◌≡◌, ℕ, refl, ◌∙◌, ap}
+use Rattle.std.proofs.Common.{◌≡◌, ℕ, refl, ◌∙◌, ap, sym, subst}
 use Rattle.session.specs.Lent.{payload_in}
-use Rattle.session.specs.Line.{reply_of, room_of}
+use Rattle.session.specs.Line.{IsRunning, reply_of, room_of}
 use Rattle.session.specs.Parts.{Told, Asked, Last}
 use Rattle.nbd_transmission.specs.Apply.{reply_to, applied}
 use Rattle.station.proofs.Turns.{on_err, part_halts}
@@ -45,3 +45,7 @@ returns-in_err-tell-in-Ok-clause-halts g c = λ quiet. on_err c.from_residual-in
           part_halts c.args.who _ _ text c.args.bytes.now c.take-taken.result.used _ _ (Asked command payload) c.reply-in-Ok.result.now
           (c.parts_laws.ensures n) x.0 reply c.in_err-tell-in-Ok.ensures disk;
     })
+
+pub run_command-requires-clause-running : goal.run_command-requires-clause-running
+run_command-requires-clause-running g c =
+    subst (λ n. IsRunning n c.in-Run.command c.take-taken.new.self) (sym c.take-taken.ensures.sectors) (rw c.in-Run.is at c.take-taken.ensures.ready)
