@@ -355,22 +355,27 @@ const START: &str =
 /// The greeting, and the reply to GO: INFO_EXPORT of 8C00h bytes, INFO_BLOCK_SIZE and ACK.
 const STARTED: &str =
     "00 44 00000012 4E42444D41474943 49484156454F5054 0003 00 41 00000000 00 41 00000000 00 44 00000056 0003E889045565A9 00000007 00000003 0000000C 0000 0000000000008C00 010D 0003E889045565A9 00000007 00000003 0000000E 0003 00000200 00001000 00010000 0003E889045565A9 00000007 00000001 00000000 00 41 00000000";
-/// WRITE of sector 0, before its 512 bytes, and its reply.
-const WRITE: &str = "50 00 0000021C 25609513 0000 0001 0000000000000001 0000000000000000 00000200";
+/// WRITE of 11h to sector 0, and its reply.
+const WRITE: &str =
+    "50 00 0000021C 25609513 0000 0001 0000000000000001 0000000000000000 00000200 11*512";
 
 const WRITTEN: &str = "00 44 00000010 67446698 00000000 0000000000000001 00 41 00000000";
-/// READ of sector 0, and its reply before the 512 bytes.
+/// READ of sector 0, and its reply up to the 512 bytes.
 const READ: &str = "50 00 0000001C 25609513 0000 0000 0000000000000002 0000000000000000 00000200";
 
 const DATA: &str = "00 44 00000210 67446698 00000000 0000000000000002";
+/// The power goes inside the 16th change from now, the commit of a first write; its bits stay old, or are new.
+const CUT_OLD: &str = "43 FF 00000006 00000010 01 00";
 
-const DONE: &str = "00 41 00000000";
-
-const TIDY: &str = "54 FF 00000000";
+const CUT_NEW: &str = "43 FF 00000006 00000010 01 FF";
 
 const RESTORE: &str = "52 FF 00000000";
 
 const RESTORED: &str = "FF 41 00000000";
+
+const LOST: &str = "00 4C 00000000";
+
+const DONE: &str = "00 41 00000000";
 
 /// The bytes that texts spell, one text after another.
 fn bytes_of_all(alloc: Global, texts: &[&str]) -> Result<Vec<u8>, Fail> {
@@ -392,40 +397,44 @@ fn runs_scripts(rt: HostRuntime) -> Result<(), Fail> {
             &[
                 START,
                 WRITE,
-                "11*512 50 00 0000001B 25609513 0000 0000 0000000000000002 0000000000000000 000002 50 00 00000001 00 47 00 00000000",
+                "50 00 0000001B 25609513 0000 0000 0000000000000002 0000000000000000 000002 50 00 00000001 00 47 00 00000000",
             ],
             &[STARTED, WRITTEN, DONE, DATA, "11*512", DONE, DONE],
             "",
         ),
-        // a connection that was never opened, one that is open, an empty piece, and one that the server closes
+        // a connection that was never opened
+        (
+            &["50 03 00000001 00 47 03 00000000"],
+            &["03 4E 00000000 03 4E 00000000"],
+            "",
+        ),
+        // one that is open, an empty piece, and a piece at which the server closes
         (
             &[
-                "50 03 00000001 00 47 03 00000000",
                 START,
                 "4F 00 00000000 50 00 00000000 50 00 0000001C 00*28 50 00 00000000",
             ],
             &[
-                "03 4E 00000000 03 4E 00000000",
                 STARTED,
                 "00 4E 00000000 00 41 00000000 00 58 00000000 00 4E 00000000",
             ],
             "",
         ),
-        // the power goes inside the commit, the 16th change of a first write, and the commit's bits stay old
+        // the sector is old; with the power off no connection is opened and nothing is tidied
         (
             &[
                 START,
-                "43 FF 00000006 00000010 01 00",
+                CUT_OLD,
                 WRITE,
-                "11*512 4F 01 00000000",
-                TIDY,
+                "4F 01 00000000 54 FF 00000000",
                 RESTORE,
                 START,
                 READ,
             ],
             &[
                 STARTED,
-                "00 4C 00000000 01 4C 00000000 FF 4C 00000000",
+                LOST,
+                "01 4C 00000000 FF 4C 00000000",
                 RESTORED,
                 STARTED,
                 DATA,
@@ -434,29 +443,13 @@ fn runs_scripts(rt: HostRuntime) -> Result<(), Fail> {
             ],
             "",
         ),
-        // the same, and they are new
+        // the sector is new
         (
-            &[
-                START,
-                "43 FF 00000006 00000010 01 FF",
-                WRITE,
-                "11*512",
-                RESTORE,
-                START,
-                READ,
-            ],
-            &[
-                STARTED,
-                "00 4C 00000000",
-                RESTORED,
-                STARTED,
-                DATA,
-                "11*512",
-                DONE,
-            ],
+            &[START, CUT_NEW, WRITE, RESTORE, START, READ],
+            &[STARTED, LOST, RESTORED, STARTED, DATA, "11*512", DONE],
             "",
         ),
-        // the power goes between the two groups of a write of sectors 6 and 7
+        // the power goes in the first change for the second group of a WRITE of 33h to sectors 6 and 7
         (
             &[
                 START,
@@ -467,7 +460,7 @@ fn runs_scripts(rt: HostRuntime) -> Result<(), Fail> {
             ],
             &[
                 STARTED,
-                "00 4C 00000000",
+                LOST,
                 RESTORED,
                 STARTED,
                 "00 44 00000410 67446698 00000000 0000000000000002 33*512 00*512",
@@ -475,16 +468,13 @@ fn runs_scripts(rt: HostRuntime) -> Result<(), Fail> {
             ],
             "",
         ),
-        // the power goes inside the erase of a tidying, which leaves any bytes, and then in a restore
+        // the power goes inside the erase of a Tidy, which leaves its block full of FCh, and then in the first frame of a Restore
         (
             &[
                 START,
                 WRITE,
-                "11*512",
-                WRITE,
-                "22*512 43 FF 00000006 00000003 01 FC",
-                TIDY,
-                "43 FF 00000006 00000001 00 00",
+                "50 00 0000021C 25609513 0000 0001 0000000000000001 0000000000000000 00000200 22*512",
+                "43 FF 00000006 00000003 01 FC 54 FF 00000000 43 FF 00000006 00000001 00 00",
                 RESTORE,
                 RESTORE,
                 START,
@@ -503,8 +493,8 @@ fn runs_scripts(rt: HostRuntime) -> Result<(), Fail> {
             ],
             "",
         ),
-        // an event of no such name, a connection past the last, a piece that is too long, bytes where none belong, a number where
-        // none belongs, arming of no such kind, and ends inside a head and inside a piece
+        // no such event, no such connection, a piece that is too long, bytes where there are none, a Tidy of a connection, no
+        // such kind of arming, and ends inside a head and inside a piece
         (&[START, "58 00 00000000"], &[STARTED], "bad record"),
         (&[START, "4F 08 00000000"], &[STARTED], "bad record"),
         (
