@@ -1,6 +1,8 @@
 //! Runs of `plain` over bytes written out by hand from NBD proto.md and the table of errors: 22 (16h) for a bad request
-//! and a READ past the end, 28 (1Ch) for a WRITE past the end.
+//! and a READ past the end, 28 (1Ch) for a WRITE past the end. Runs of `script` over records written out by hand from
+//! docs/SCRIPT.md; which change of a chip a loss falls on is counted by docs/DISK.md. Runs of `format`.
 ghost use Rattle.std.specs.Prelude.{◌≡◌, ◌<◌};
+ghost use Rattle.norbd_line.specs.Line.{IfFormat, IfScript, IsSize};
 
 use crate::run::run_line;
 use block_device::{FixedOut, Io};
@@ -64,19 +66,22 @@ struct Expected<'a> {
     fault: &'a str,
 }
 
-/// Runs `plain` with so many sectors on `input`, and compares.
+/// Runs a line on `input`, and compares. Each of these faults ends the program with status 1.
 fn check<R: Abort + Files + AllocGlobal>(
     rt: &R,
     alloc: Global,
-    sectors: u32,
+    line: Line<'_>,
     input: &[u8],
     streams: Streams,
     expected: Expected<'_>,
-) -> Result<(), Fail> {
+) -> Result<(), Fail>
+    requires size { IfFormat line (λ _ kib. IsSize kib) }
+    requires script_size { IfScript line (λ kib. IsSize kib) }
+{
     check_counted::<Brand, Brand, R>(
         rt,
         alloc,
-        sectors,
+        line,
         input,
         streams,
         expected,
@@ -88,13 +93,15 @@ fn check<R: Abort + Files + AllocGlobal>(
 fn check_counted<I: Ledger, O: Ledger, R: Abort + Files + AllocGlobal>(
     rt: &R,
     alloc: Global,
-    sectors: u32,
+    line: Line<'_>,
     input: &[u8],
     streams: Streams,
     expected: Expected<'_>,
     reads: Blank,
     writes: Blank,
 ) -> Result<(), Fail>
+    requires size { IfFormat line (λ _ kib. IsSize kib) }
+    requires script_size { IfScript line (λ kib. IsSize kib) }
     requires reads { (reads.name ≡ I.name) × (reads.parts ≡ I.parts) × (0 < I.parts) }
     requires writes { (writes.name ≡ O.name) × (writes.parts ≡ O.parts) × (0 < O.parts) }
 {
@@ -107,11 +114,14 @@ fn check_counted<I: Ledger, O: Ledger, R: Abort + Files + AllocGlobal>(
     let mut room = vec![in alloc; 0u8; streams.room]?;
     let mut reader = Io::<_, I>::new(pieces, reads);
     let mut writer = FixedOut::<O>::new(room.as_mut_slice(), writes);
-    let result = run_line(rt, Line::Plain { sectors }, &mut reader, &mut writer);
+    let result = run_line(rt, line, &mut reader, &mut writer);
     assert_eq!(rt; writer.bytes(), expected.output, "{streams:?}");
     let fault = match result {
         Ok(()) => String::new(alloc),
-        Err(fault) => format!(in alloc; "{fault}")?,
+        Err(fault) => {
+            assert_eq!(rt; fault.status(), 1);
+            format!(in alloc; "{fault}")?
+        }
     };
     assert_eq!(rt; fault.as_str(), expected.fault, "{streams:?}");
     Ok(())
@@ -212,20 +222,21 @@ fn answers_requests_however_they_are_cut(rt: HostRuntime) -> Result<(), Fail> {
             output: output.as_slice(),
             fault: "",
         };
+        let line = Line::Plain { sectors };
         check(
             &rt,
             alloc,
-            sectors,
+            line,
             input.as_slice(),
             cut(usize::MAX, usize::MAX),
             expected,
         )?;
-        check(&rt, alloc, sectors, input.as_slice(), cut(1, 1), expected)?;
+        check(&rt, alloc, line, input.as_slice(), cut(1, 1), expected)?;
         for first in 1..=600 {
             check(
                 &rt,
                 alloc,
-                sectors,
+                line,
                 input.as_slice(),
                 cut(first, usize::MAX),
                 expected,
@@ -254,7 +265,7 @@ fn answers_two_hundred_requests_in_order(rt: HostRuntime) -> Result<(), Fail> {
     check(
         &rt,
         alloc,
-        1,
+        Line::Plain { sectors: 1 },
         input.as_slice(),
         cut(usize::MAX, usize::MAX),
         expected,
@@ -304,26 +315,33 @@ fn ends_with_the_fault_of_a_stream(rt: HostRuntime) -> Result<(), Fail> {
             output: output.as_slice(),
             fault,
         };
-        check(&rt, alloc, 70, input.as_slice(), streams, expected)?;
+        let line = Line::Plain { sectors: 70 };
+        check(&rt, alloc, line, input.as_slice(), streams, expected)?;
     }
     Ok(())
 }
 
 #[test]
 fn formats_an_image(rt: HostRuntime) -> Result<(), Fail> {
+    let alloc = rt.alloc();
     for (room, output, fault) in [
         (64, "formatted 70 sectors\n", ""),
         (9, "formatted", "output failed"),
     ] {
+        let streams = Streams { room, ..cut(0, 0) };
         let expected = Expected {
             output: output.as_bytes(),
             fault,
         };
-        check_format(&rt, room, expected)?;
+        let line = Line::Format {
+            image: "formatted.img",
+            kib: 64,
+        };
+        check(&rt, alloc, line, &[], streams, expected)?;
         let image = fs::read(&rt, "formatted.img")?;
         assert_eq!(rt; image.len(), 65_536);
         let (superblock, rest) = image.split_at(16);
-        let expected = bytes_of(rt.alloc(), "4E4F52424C4B3031 01 1000 0A00 FF 00 FF")?;
+        let expected = bytes_of(alloc, "4E4F52424C4B3031 01 1000 0A00 FF 00 FF")?;
         assert_eq!(rt; superblock, expected.as_slice());
         assert!(rt; rest.iter().all(|byte| *byte == 0xFF));
         fs::remove_file(&rt, "formatted.img")?;
@@ -331,38 +349,230 @@ fn formats_an_image(rt: HostRuntime) -> Result<(), Fail> {
     Ok(())
 }
 
-/// Runs `format` of 64 KiB with so many bytes of room for what it writes, and compares.
-fn check_format<R: Abort + Files + AllocGlobal>(
-    rt: &R,
-    room: usize,
-    expected: Expected<'_>,
-) -> Result<(), Fail> {
-    check_format_counted::<Brand, Brand, R>(rt, room, expected, Blank::new(1), Blank::new(1))
+/// Connection 0 is opened, and begins the transmission: its flags, and GO `flash`.
+const START: &str =
+    "4F 00 00000000 50 00 00000004 00000003 50 00 0000001B 49484156454F5054 00000007 0000000B 00000005 666C617368 0000";
+/// The greeting, and the reply to GO: INFO_EXPORT of 8C00h bytes, INFO_BLOCK_SIZE and ACK.
+const STARTED: &str =
+    "00 44 00000012 4E42444D41474943 49484156454F5054 0003 00 41 00000000 00 41 00000000 00 44 00000056 0003E889045565A9 00000007 00000003 0000000C 0000 0000000000008C00 010D 0003E889045565A9 00000007 00000003 0000000E 0003 00000200 00001000 00010000 0003E889045565A9 00000007 00000001 00000000 00 41 00000000";
+/// WRITE of 11h to sector 0, and its reply.
+const WRITE: &str =
+    "50 00 0000021C 25609513 0000 0001 0000000000000001 0000000000000000 00000200 11*512";
+
+const WRITTEN: &str = "00 44 00000010 67446698 00000000 0000000000000001 00 41 00000000";
+/// READ of sector 0, and its reply up to the 512 bytes.
+const READ: &str = "50 00 0000001C 25609513 0000 0000 0000000000000002 0000000000000000 00000200";
+
+const DATA: &str = "00 44 00000210 67446698 00000000 0000000000000002";
+/// The power goes inside the 16th change from now, the commit of a first write; its bits stay old, or are new.
+const CUT_OLD: &str = "43 FF 00000006 00000010 01 00";
+
+const CUT_NEW: &str = "43 FF 00000006 00000010 01 FF";
+
+const RESTORE: &str = "52 FF 00000000";
+
+const RESTORED: &str = "FF 41 00000000";
+
+const LOST: &str = "00 4C 00000000";
+
+const DONE: &str = "00 41 00000000";
+
+/// The bytes that texts spell, one text after another.
+fn bytes_of_all(alloc: Global, texts: &[&str]) -> Result<Vec<u8>, Fail> {
+    let mut bytes = Vec::new(alloc);
+    for text in texts {
+        bytes.extend_from_slice(bytes_of(alloc, text)?.as_slice())?;
+    }
+    Ok(bytes)
 }
 
-fn check_format_counted<I: Ledger, O: Ledger, R: Abort + Files + AllocGlobal>(
-    rt: &R,
-    room: usize,
-    expected: Expected<'_>,
-    reads: Blank,
-    writes: Blank,
-) -> Result<(), Fail>
-    requires reads { (reads.name ≡ I.name) × (reads.parts ≡ I.parts) × (0 < I.parts) }
-    requires writes { (writes.name ≡ O.name) × (writes.parts ≡ O.parts) × (0 < O.parts) }
-{
-    let mut room = vec![in rt.alloc(); 0u8; room]?;
-    let mut reader = Io::<_, I>::new(io::empty(), reads);
-    let mut writer = FixedOut::<O>::new(room.as_mut_slice(), writes);
-    let line = Line::Format {
-        image: "formatted.img",
-        kib: 64,
-    };
-    let result = run_line(rt, line, &mut reader, &mut writer);
-    assert_eq!(rt; writer.bytes(), expected.output);
-    let fault = match result {
-        Ok(()) => String::new(rt.alloc()),
-        Err(fault) => format!(in rt.alloc(); "{fault}")?,
-    };
-    assert_eq!(rt; fault.as_str(), expected.fault);
+#[test]
+fn runs_scripts(rt: HostRuntime) -> Result<(), Fail> {
+    let alloc = rt.alloc();
+    let rows: &[(&[&str], &[&str], &str)] = &[
+        // nothing
+        (&[], &[], ""),
+        // what was written is read; the READ comes in two pieces, and the connection goes
+        (
+            &[
+                START,
+                WRITE,
+                "50 00 0000001B 25609513 0000 0000 0000000000000002 0000000000000000 000002 50 00 00000001 00 47 00 00000000",
+            ],
+            &[STARTED, WRITTEN, DONE, DATA, "11*512", DONE, DONE],
+            "",
+        ),
+        // a connection that was never opened
+        (
+            &["50 03 00000001 00 47 03 00000000"],
+            &["03 4E 00000000 03 4E 00000000"],
+            "",
+        ),
+        // one that is open, an empty piece, and a piece at which the server closes
+        (
+            &[
+                START,
+                "4F 00 00000000 50 00 00000000 50 00 0000001C 00*28 50 00 00000000",
+            ],
+            &[
+                STARTED,
+                "00 4E 00000000 00 41 00000000 00 58 00000000 00 4E 00000000",
+            ],
+            "",
+        ),
+        // the sector is old; with the power off no connection is opened and nothing is tidied
+        (
+            &[
+                START,
+                CUT_OLD,
+                WRITE,
+                "4F 01 00000000 54 FF 00000000",
+                RESTORE,
+                START,
+                READ,
+            ],
+            &[
+                STARTED,
+                LOST,
+                "01 4C 00000000 FF 4C 00000000",
+                RESTORED,
+                STARTED,
+                DATA,
+                "00*512",
+                DONE,
+            ],
+            "",
+        ),
+        // the sector is new
+        (
+            &[START, CUT_NEW, WRITE, RESTORE, START, READ],
+            &[STARTED, LOST, RESTORED, STARTED, DATA, "11*512", DONE],
+            "",
+        ),
+        // the power goes in the first change for the second group of a WRITE of 33h to sectors 6 and 7
+        (
+            &[
+                START,
+                "43 FF 00000006 00000011 01 00 50 00 0000041C 25609513 0000 0001 0000000000000001 0000000000000C00 00000400 33*1024",
+                RESTORE,
+                START,
+                "50 00 0000001C 25609513 0000 0000 0000000000000002 0000000000000C00 00000400",
+            ],
+            &[
+                STARTED,
+                LOST,
+                RESTORED,
+                STARTED,
+                "00 44 00000410 67446698 00000000 0000000000000002 33*512 00*512",
+                DONE,
+            ],
+            "",
+        ),
+        // the power goes inside the erase of a Tidy, which leaves its block full of FCh, and then in the first frame of a Restore
+        (
+            &[
+                START,
+                WRITE,
+                "50 00 0000021C 25609513 0000 0001 0000000000000001 0000000000000000 00000200 22*512",
+                "43 FF 00000006 00000003 01 FC 54 FF 00000000 43 FF 00000006 00000001 00 00",
+                RESTORE,
+                RESTORE,
+                START,
+                READ,
+            ],
+            &[
+                STARTED,
+                WRITTEN,
+                WRITTEN,
+                "FF 4C 00000000 FF 4C 00000000",
+                RESTORED,
+                STARTED,
+                DATA,
+                "22*512",
+                DONE,
+            ],
+            "",
+        ),
+        // no such event, no such connection, a piece that is too long, bytes where there are none, a Tidy of a connection, no
+        // such kind of arming, and ends inside a head and inside a piece
+        (&[START, "58 00 00000000"], &[STARTED], "bad record"),
+        (&[START, "4F 08 00000000"], &[STARTED], "bad record"),
+        (
+            &[START, "50 00 00010001 00*65537"],
+            &[STARTED],
+            "bad record",
+        ),
+        (&[START, "47 00 00000001 00"], &[STARTED], "bad record"),
+        (&[START, "54 00 00000000"], &[STARTED], "bad record"),
+        (
+            &[START, "43 FF 00000006 00000001 02 00"],
+            &[STARTED],
+            "bad record",
+        ),
+        (&[START, "52 FF 0000"], &[STARTED], "bad record"),
+        (&[START, "50 00 00000004 000000"], &[STARTED], "bad record"),
+    ];
+    for (script, transcript, fault) in rows {
+        let input = bytes_of_all(alloc, script)?;
+        let output = bytes_of_all(alloc, transcript)?;
+        for most in [usize::MAX, 1] {
+            let expected = Expected {
+                output: output.as_slice(),
+                fault: *fault,
+            };
+            check(
+                &rt,
+                alloc,
+                Line::Script { kib: 64 },
+                input.as_slice(),
+                cut(most, most),
+                expected,
+            )?;
+        }
+    }
+    Ok(())
+}
+
+#[test]
+fn ends_a_script_with_the_fault_of_a_stream(rt: HostRuntime) -> Result<(), Fail> {
+    let alloc = rt.alloc();
+    let input = bytes_of(alloc, "4F 00 00000000 4F 00 00000000")?;
+    for (good_calls, room, output, fault) in [
+        (
+            u64::MAX,
+            36,
+            "00 44 00000012 4E42444D41474943 49484156454F5054 0003 00 41 00000000 00 4E 00000000",
+            "",
+        ),
+        (
+            u64::MAX,
+            35,
+            "00 44 00000012 4E42444D41474943 49484156454F5054 0003 00 41 00000000 00 4E 000000",
+            "output failed",
+        ),
+        (u64::MAX, 10, "00 44 00000012 4E42444D", "output failed"),
+        (u64::MAX, 0, "", "output failed"),
+        (
+            1,
+            36,
+            "00 44 00000012 4E42444D41474943 49484156454F5054 0003 00 41 00000000",
+            "input failed",
+        ),
+        (0, 36, "", "input failed"),
+    ] {
+        let streams = Streams {
+            first: 6,
+            later: 3,
+            good_calls,
+            room,
+        };
+        let output = bytes_of(alloc, output)?;
+        let expected = Expected {
+            output: output.as_slice(),
+            fault,
+        };
+        let line = Line::Script { kib: 64 };
+        check(&rt, alloc, line, input.as_slice(), streams, expected)?;
+    }
     Ok(())
 }
