@@ -1,9 +1,9 @@
 -- what is told of losses and of slow operations, in one event after another
-use Rattle.std.proofs.Common.{arith, ◌≡◌, ◌⊎◌, inl, inr, ℕ, ◌<◌, ◌≤◌, ◌+◌, true, List, [], ◌∷◌, ◌++◌, length, take, get_or, Option, refl, sym, ◌∙◌, ap, append_assoc, subst}
+use Rattle.std.proofs.Common.{arith, ◌≡◌, inl, inr, ℕ, ◌<◌, ◌≤◌, ◌+◌, List, [], ◌∷◌, ◌++◌, length, take, get_or, Option, refl, sym, ◌∙◌, ap, append_assoc, subst}
 use Rattle.std.proofs.lemmas.List.{append-nil, take_more}
 use Rattle.std.specs.Prelude.{Result, Ok, Err, OnOk}
 use Rattle.std.specs.Io.KnownBytes.{Appends}
-use Rattle.block_device.specs.Facts.{Facts, Goes}
+use Rattle.block_device.specs.Facts.{Facts}
 use Rattle.block_device.specs.Streams.{Appends-twice, Sends}
 use Rattle.station.specs.declared.event.Event.{Event}
 use Rattle.station.specs.Board.{Board}

@@ -1,5 +1,5 @@
 -- What is told of losses and of slow operations, whatever disk it is. Source: own.
-use Rattle.std.specs.Prelude.{◌≡◌, ◌⊎◌, ◌<◌, ℕ, Bool, true, List, [], ◌∷◌, ◌++◌, Option, if◌then◌else◌}
+use Rattle.std.specs.Prelude.{◌≡◌, ◌⊎◌, ◌<◌, ℕ, true, List, [], ◌∷◌, ◌++◌, Option, if◌then◌else◌}
 use Rattle.std.specs.Io.KnownBytes.{Appends}
 use Rattle.block_device.specs.Facts.{Facts}
 use Rattle.station.specs.declared.entries.TheConstants.{DONE, LOST, STUCK, NO_ONE}
