@@ -38,7 +38,8 @@ impl<D: Disk> Station<D> {
     ghost use Rattle.station.specs.Telling.{AllTold};
     ghost use Rattle.station.specs.Script.{FailsToReadAll, FailsToWrite, ScriptSays};
 
-    /// A station with every connection closed, and with all its buffers. Want of memory hands the disk back.
+    /// A station of this disk, with every connection closed. Its eight sessions and the buffer of a piece (65,536 bytes) are made
+    /// here, and no later call takes memory. `OutOfMemory` hands the disk back. Source: own.
     pub fn new(alloc: Global, disk: D) -> Result<Station<D>, (D, NewError)>
         ensures new { IfOk result (λ station. IsNew (D.facts disk) station) }
         ensures back { IfErr result (λ e. e.0 ≡ disk) }
@@ -52,15 +53,19 @@ impl<D: Disk> Station<D> {
         }
     }
 
-    /// The disk.
+    /// The disk, with the facts that it has.
     pub fn into_inner(self) -> D
         ensures { D.facts result ≡ self.disk }
     {
         self.hub.into_inner()
     }
 
-    /// Answers events in order by records that it writes, and says how many events these were. Where a write fails, every
-    /// connection is closed. What is said of the records is said of a run in which no operation of the disk was slow.
+    /// Answers events in order by records that it writes (docs/SCRIPT.md), and says how many events these were. Each reply is
+    /// written before the next unit of the connection's bytes is looked at.
+    ///
+    /// `Output` where a write failed: the records taken are then a beginning of a transcript, and every connection is closed.
+    /// What is said of the records is said of a sound disk and of a run in which no operation of it was slow; a READ or WRITE
+    /// that meets a slow one is replied to with error 5 (EIO). Source: own; the replies are those of NBD proto.md.
     pub fn run<W: Sink>(&mut self, events: &[Event], out: &mut W) -> Result<usize, RunError>
         ensures number { IfOk result (λ n. n ≡ length events.now) }
         ensures goes { Goes self.old.disk self.new.disk }
@@ -80,8 +85,10 @@ impl<D: Disk> Station<D> {
         }
     }
 
-    /// Runs a script: records of events, and of losses of power to be armed, up to the end of the input. The events before a
-    /// record that is none have been run.
+    /// Runs a script: records of events, and of losses of power to be armed (docs/SCRIPT.md), up to the end of the input.
+    ///
+    /// `BadRecord` where no record of a script stands, or the input ends inside one; `Input` where a read failed, or where the
+    /// script has no end in 2^64 - 1 records; `Output` where a write failed. The events before it have been run. Source: own.
     pub fn run_script<S: Source, W: Sink>(
         &mut self,
         reader: &mut S,
