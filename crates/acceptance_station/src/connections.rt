@@ -2,7 +2,6 @@
 ghost use Rattle.std.specs.Prelude.{◌≡◌, ◌<◌};
 
 use crate::chips::{OnSim, formatted, started, told};
-use crate::phrases::*;
 use crate::rows::{Row, check, named};
 use crate::spelling::bytes_of;
 use block_device::FixedOut;
@@ -15,24 +14,8 @@ use std::test::*;
 #[test]
 fn a_connection_is_opened_once_and_gone_once(rt: HostRuntime) -> Result<(), Fail> {
     let row = Row {
-        script: &[
-            "50 03 00000000",
-            OPEN,
-            OPEN,
-            "50 00 00000000",
-            GONE,
-            GONE,
-            OPEN,
-        ],
-        transcript: &[
-            "03 4E 00000000",
-            GREETED,
-            ABSENT,
-            DONE,
-            DONE,
-            ABSENT,
-            GREETED,
-        ],
+        script: "50 03 00000000 OPEN OPEN 50 00 00000000 GONE GONE OPEN",
+        transcript: "03 4E 00000000 GREETED ABSENT DONE DONE ABSENT GREETED",
         ..named("opened twice and gone twice")
     };
     check(&rt, rt.alloc(), &row)
@@ -43,9 +26,7 @@ fn there_are_eight_connections(rt: HostRuntime) -> Result<(), Fail> {
     let mut station = started(rt.alloc(), formatted(rt.alloc())?)?;
     let records = bytes_of(
         rt.alloc(),
-        &[
-            "07 44 00000012 4E42444D41474943 49484156454F5054 0003 07 41 00000000 08 4E 00000000 FF 4E 00000000 08 4E 00000000 07 41 00000000",
-        ],
+        "07 44 00000012 4E42444D41474943 49484156454F5054 0003 07 41 00000000 08 4E 00000000 FF 4E 00000000 08 4E 00000000 07 41 00000000",
     )?;
     let mut room = [0u8; 100];
     eight::<Brand, _>(
@@ -86,16 +67,16 @@ fn a_full_output_closes_every_connection(rt: HostRuntime) -> Result<(), Fail> {
     let alloc = rt.alloc();
     let mut station = started(alloc, formatted(alloc)?)?;
     // of the second greeting 16 bytes are taken
-    let both = bytes_of(alloc, &[OPEN, "4F 01 00000000", TIDY])?;
-    let answers = bytes_of(alloc, &[GREETED, "01 44 00000012 4E42444D41474943 4948"])?;
+    let both = bytes_of(alloc, "OPEN 4F 01 00000000 TIDY")?;
+    let answers = bytes_of(alloc, "GREETED 01 44 00000012 4E42444D41474943 4948")?;
     let mut narrow = [0u8; 46];
     assert_eq!(rt;
         told(&mut station, both.as_slice(), &mut narrow),
         (Err(ScriptError::Output), 46)
     );
     assert_eq!(rt; narrow.as_slice(), answers.as_slice());
-    let gone = bytes_of(alloc, &[GONE, "47 01 00000000", TIDY])?;
-    let answers = bytes_of(alloc, &[ABSENT, "01 4E 00000000", ALL_DONE])?;
+    let gone = bytes_of(alloc, "GONE 47 01 00000000 TIDY")?;
+    let answers = bytes_of(alloc, "ABSENT 01 4E 00000000 ALL_DONE")?;
     let mut wide = [0u8; 18];
     assert_eq!(rt;
         told(&mut station, gone.as_slice(), &mut wide),

@@ -1,6 +1,5 @@
 // One text of a connection in pieces.
 use crate::chips::formatted;
-use crate::phrases::{DONE, GO_ANSWER, GREETED, OPEN};
 use crate::rows::check_bytes;
 use crate::spelling::{bytes_of, push_piece};
 use std::alloc::Global;
@@ -20,9 +19,9 @@ const READ_END: usize = 59;
 
 /// Sends the text in pieces that end at these places, and compares all that is answered.
 fn check_pieces(rt: &impl Abort, alloc: Global, ends: &[usize]) -> Result<(), Fail> {
-    let text = bytes_of(alloc, &[TEXT])?;
-    let mut script = bytes_of(alloc, &[OPEN])?;
-    let mut transcript = bytes_of(alloc, &[GREETED])?;
+    let text = bytes_of(alloc, TEXT)?;
+    let mut script = bytes_of(alloc, "OPEN")?;
+    let mut transcript = bytes_of(alloc, "GREETED")?;
     let mut start = 0usize;
     for end in ends {
         let Some(piece) = text.as_slice().get(start..*end) else {
@@ -30,13 +29,12 @@ fn check_pieces(rt: &impl Abort, alloc: Global, ends: &[usize]) -> Result<(), Fa
         };
         push_piece(&mut script, 0, piece)?;
         if start < GO_END && *end >= GO_END {
-            transcript.extend_from_slice(bytes_of(alloc, &[GO_ANSWER])?.as_slice())?;
+            transcript.extend_from_slice(bytes_of(alloc, "GO_ANSWER")?.as_slice())?;
         }
         if start < READ_END && *end >= READ_END {
-            let data = "00 44 00000210 67446698 00000000 0102030405060708 00*512";
-            transcript.extend_from_slice(bytes_of(alloc, &[data])?.as_slice())?;
+            transcript.extend_from_slice(bytes_of(alloc, "DATA 00*512")?.as_slice())?;
         }
-        transcript.extend_from_slice(bytes_of(alloc, &[DONE])?.as_slice())?;
+        transcript.extend_from_slice(bytes_of(alloc, "DONE")?.as_slice())?;
         start = *end;
     }
     let name = format!(in alloc; "pieces that end at {ends:?}")?;

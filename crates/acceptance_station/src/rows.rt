@@ -11,8 +11,8 @@ pub(crate) struct Row<'a> {
     pub(crate) name: &'a str,
     /// What is set in a formatted chip's memory before: places, and so many copies of bytes.
     pub(crate) memory: &'a [(usize, usize, &'a [u8])],
-    pub(crate) script: &'a [&'a str],
-    pub(crate) transcript: &'a [&'a str],
+    pub(crate) script: &'a str,
+    pub(crate) transcript: &'a str,
     pub(crate) end: Result<(), ScriptError>,
     /// Places of the chip, and their four bytes afterwards.
     pub(crate) bytes: &'a [(usize, [u8; 4])],
@@ -25,8 +25,8 @@ pub(crate) fn named<'a>(name: &'a str) -> Row<'a> {
     Row {
         name,
         memory: &[],
-        script: &[],
-        transcript: &[],
+        script: "",
+        transcript: "",
         end: Ok(()),
         bytes: &[],
         erased: &[],

@@ -1,20 +1,42 @@
 // Bytes out of texts.
+use crate::changes::ARMINGS;
+use crate::phrases::PHRASES;
 use crate::record_head;
 use std::alloc::Global;
 use std::test::*;
 
-/// The bytes that texts spell: words of hexadecimal digits, and `BYTE*COUNT` for a byte so many times.
-pub(crate) fn bytes_of(alloc: Global, texts: &[&str]) -> Result<Vec<u8>, Fail> {
+/// The bytes that a text spells: words of hexadecimal digits, `BYTE*COUNT` for a byte so many times, and names of the tables.
+pub(crate) fn bytes_of(alloc: Global, text: &str) -> Result<Vec<u8>, Fail> {
     let mut bytes = Vec::new(alloc);
-    for text in texts {
-        for word in text.split(' ') {
-            match word.split_once('*') {
-                Some((byte, count)) => push_times(&mut bytes, byte, count)?,
-                None => push_digits(&mut bytes, word)?,
-            }
+    for word in text.split(' ') {
+        if !push_named(&mut bytes, &ARMINGS, word)? && !push_named(&mut bytes, &PHRASES, word)? {
+            push_words(&mut bytes, word)?;
         }
     }
     Ok(bytes)
+}
+
+/// What a name stands for in a table, where it is there.
+fn push_named(bytes: &mut Vec<u8>, table: &[&str], name: &str) -> Result<bool, Fail> {
+    for phrase in table {
+        if let Some((first, text)) = phrase.split_once(' ')
+            && first == name
+        {
+            push_words(bytes, text)?;
+            return Ok(true);
+        }
+    }
+    Ok(false)
+}
+
+fn push_words(bytes: &mut Vec<u8>, text: &str) -> Result<(), Fail> {
+    for word in text.split(' ') {
+        match word.split_once('*') {
+            Some((byte, count)) => push_times(bytes, byte, count)?,
+            None => push_digits(bytes, word)?,
+        }
+    }
+    Ok(())
 }
 
 fn push_times(bytes: &mut Vec<u8>, byte: &str, count: &str) -> Result<(), Fail> {

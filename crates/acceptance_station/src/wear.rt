@@ -1,6 +1,5 @@
 // That no number of writes uses the journals up.
 use crate::chips::{count, formatted, set};
-use crate::phrases::*;
 use crate::rows::check_bytes;
 use crate::spelling::bytes_of;
 use std::test::*;
@@ -10,16 +9,16 @@ fn ten_thousand_writes_are_answered(rt: HostRuntime) -> Result<(), Fail> {
     let mut memory = formatted(rt.alloc())?;
     // 1,021 closed votes of the second journal for the first.
     set(memory.as_mut_slice(), 0x2400, 1_021, &[0xFC])?;
-    let mut script = bytes_of(rt.alloc(), &[START])?;
-    let mut transcript = bytes_of(rt.alloc(), &[STARTED])?;
-    let event = bytes_of(rt.alloc(), &[WRITE_6, "66*512", TIDY])?;
-    let answer = bytes_of(rt.alloc(), &[WRITTEN, ALL_DONE])?;
+    let mut script = bytes_of(rt.alloc(), "START")?;
+    let mut transcript = bytes_of(rt.alloc(), "STARTED")?;
+    let event = bytes_of(rt.alloc(), "WRITE_6 66*512 TIDY")?;
+    let answer = bytes_of(rt.alloc(), "WRITTEN ALL_DONE")?;
     for _ in 0..10_000u32 {
         script.extend_from_slice(event.as_slice())?;
         transcript.extend_from_slice(answer.as_slice())?;
     }
-    script.extend_from_slice(bytes_of(rt.alloc(), &[READ_6])?.as_slice())?;
-    transcript.extend_from_slice(bytes_of(rt.alloc(), &[DATA, "66*512", DONE])?.as_slice())?;
+    script.extend_from_slice(bytes_of(rt.alloc(), "READ_6")?.as_slice())?;
+    transcript.extend_from_slice(bytes_of(rt.alloc(), "DATA 66*512 DONE")?.as_slice())?;
     let left = check_bytes(
         &rt,
         rt.alloc(),
