@@ -1,0 +1,41 @@
+// Random scripts, by the driver.
+use crate::chips::{formatted, started};
+use crate::driver::Driver;
+use std::test::*;
+
+/// How many events each seed draws, but for those that read all sectors twice after a restore.
+const EVENTS: u32 = 20_000;
+
+#[test]
+fn random_events_are_answered_as_by_an_array_of_sectors(rt: HostRuntime) -> Result<(), Fail> {
+    let alloc = rt.alloc();
+    let mut room = vec![in alloc; 0u8; 1_048_576]?;
+    for seed in [1u64, 2, 3, 4, 5, 6, 7, 8] {
+        let mut station = started(alloc, formatted(alloc)?)?;
+        let mut driver = Driver::new(alloc, seed)?;
+        for _ in 0..EVENTS {
+            driver.step(&mut station, room.as_mut_slice())?;
+        }
+        // what stands on the chip is mounted anew, and read there
+        let memory = station.into_inner().into_inner().into_inner();
+        let mut again = started(alloc, memory)?;
+        driver.move_on();
+        driver.read_twice(&mut again, room.as_mut_slice(), 0)?;
+        let seen = driver.seen;
+        let (olds, news) = (driver.sectors.olds, driver.sectors.news);
+        assert!(rt;
+            seen.writes > 1_000 && seen.reads > 1_000,
+            "seed {seed}: {seen:?}"
+        );
+        assert!(rt;
+            seen.lost_writes > 100 && seen.lost_reads > 2,
+            "seed {seed}: {seen:?}"
+        );
+        assert!(rt;
+            seen.lost_tidyings > 20 && seen.lost_restores > 10,
+            "seed {seed}: {seen:?}"
+        );
+        assert!(rt; olds > 100 && news > 20, "seed {seed}: {olds} and {news}");
+    }
+    Ok(())
+}
