@@ -19,6 +19,17 @@ pub(crate) fn formatted(alloc: Global) -> Result<Vec<u8>, Fail> {
     Ok(chip.into_inner())
 }
 
+/// Sets the bytes from a place on to copies of these.
+pub(crate) fn set(memory: &mut [u8], at: usize, copies: usize, bytes: &[u8]) -> Result<(), Fail> {
+    for k in 0..copies.saturating_mul(bytes.len()) {
+        let Some(byte) = memory.get_mut(at.saturating_add(k)) else {
+            return Err(Fail::new("a place past the chip"));
+        };
+        *byte = bytes[k % bytes.len()];
+    }
+    Ok(())
+}
+
 /// A station over the disk on a chip with this memory.
 pub(crate) fn started(alloc: Global, memory: Vec<u8>) -> Result<Station<OnSim>, Fail> {
     let mount: Result<OnSim, _> = FlashDisk::mount(alloc, SimChip::new(memory)?);

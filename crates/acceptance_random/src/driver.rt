@@ -33,7 +33,7 @@ pub(crate) struct Driver {
     clients: Clients,
     lines: Vec<Line>,
     pub(crate) sectors: Sectors,
-    has_power: bool,
+    pub(crate) has_power: bool,
     is_armed: bool,
     pub(crate) seen: Seen,
 }
@@ -134,15 +134,18 @@ impl Driver {
         let who = self.clients.dice.below(8) as u8;
         let had_power = self.has_power;
         let drawn = self.clients.dice.below(100);
+        if !had_power && drawn < 15 {
+            return self.arm(station, room, true);
+        }
         if !had_power && drawn < 60 {
             self.restore(station, room)?;
-            if self.has_power && drawn < 30 {
+            if self.has_power && drawn < 40 {
                 self.read_twice(station, room, who)?;
             }
             return Ok(());
         }
         match drawn {
-            0..=3 => self.arm(station, room),
+            0..=3 => self.arm(station, room, false),
             4..=13 => self.tidy(station, room),
             14..=17 => self.restore(station, room),
             18 | 19 => self.gone(station, room, who),
@@ -183,11 +186,21 @@ impl Driver {
         Ok(())
     }
 
-    /// Arms a loss, or takes it back.
-    fn arm(&mut self, station: &mut Station<OnSim>, room: &mut [u8]) -> Result<(), Fail> {
+    /// Arms a loss, or takes it back; soon, within the next changes.
+    pub(crate) fn arm(
+        &mut self,
+        station: &mut Station<OnSim>,
+        room: &mut [u8],
+        is_soon: bool,
+    ) -> Result<(), Fail> {
         let dice = &mut self.clients.dice;
-        let kind = dice.below(2) as u8;
-        let most = if dice.below(2) == 0 { 30 } else { 200 };
+        let (kind, most) = match dice.below(4) {
+            _ if is_soon => (1, 12),
+            0 => (0, 30),
+            1 => (0, 200),
+            2 => (1, 30),
+            _ => (1, 200),
+        };
         let count = dice.below(most);
         let mask = MASKS[dice.below(6) as usize];
         let [a, b, c, d] = count.to_be_bytes();

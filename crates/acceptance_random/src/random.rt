@@ -1,5 +1,5 @@
 // Random scripts, by the driver.
-use crate::chips::{formatted, started};
+use crate::chips::{formatted, set, started};
 use crate::driver::Driver;
 use std::test::*;
 
@@ -13,8 +13,21 @@ fn random_events_are_answered_as_by_an_array_of_sectors(rt: HostRuntime) -> Resu
     for seed in [1u64, 2, 3, 4, 5, 6, 7, 8] {
         let mut station = started(alloc, formatted(alloc)?)?;
         let mut driver = Driver::new(alloc, seed)?;
-        for _ in 0..EVENTS {
+        for event in 0..EVENTS {
             driver.step(&mut station, room.as_mut_slice())?;
+            if event % 100 == 99 && driver.has_power {
+                // all entries of the first journal are used, so that the next erase renews it, and mostly not to its end
+                let mut memory = station.into_inner().into_inner().into_inner();
+                set(
+                    memory.as_mut_slice(),
+                    0x1800,
+                    512,
+                    &[0xF8, 0x04, 0x00, 0xFF],
+                )?;
+                station = started(alloc, memory)?;
+                driver.move_on();
+                driver.arm(&mut station, room.as_mut_slice(), true)?;
+            }
         }
         // what stands on the chip is mounted anew, and read there
         let memory = station.into_inner().into_inner().into_inner();
