@@ -1,0 +1,34 @@
+//! Tests of the station over the disk on a simulated chip of 64 KiB: worked rows of its transcripts, and random scripts against a
+//! plain array of sectors.
+//!
+//! There is no product code here. `record_head` spells the head of a script's record. The rows are written out by hand, as bytes
+//! in hexadecimal digits; those of the negotiation and of the requests from NBD proto.md, those of the chip from docs/LAYOUT.md.
+//! How many changes of the chip a loss of power comes after stands in `changes` alone.
+
+#![tactic(auto)]
+
+#[cfg(test)]
+mod changes;
+#[cfg(test)]
+mod chips;
+#[cfg(test)]
+mod connections;
+#[cfg(test)]
+mod cuttings;
+#[cfg(test)]
+mod losses;
+#[cfg(test)]
+mod negotiation;
+#[cfg(test)]
+mod phrases;
+mod records;
+#[cfg(test)]
+mod requests;
+#[cfg(test)]
+mod rows;
+#[cfg(test)]
+mod spelling;
+#[cfg(test)]
+mod wear;
+
+pub use records::record_head;

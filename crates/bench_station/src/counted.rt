@@ -1,0 +1,23 @@
+// What a station tells, counted and dropped.
+use block_device::{Failed, Sink};
+
+/// How many bytes were told.
+#[derive(Drop)]
+pub struct Counted {
+    pub bytes: u64,
+}
+
+impl Sink for Counted {
+    ghost use Rattle.std.specs.Prelude.{None};
+
+    // nothing is claimed of the bytes
+    ghost written = { λ _. None };
+
+    ghost faults = { λ _. 0 };
+
+    /// Takes all, and never fails.
+    fn write(&mut self, bytes: &[u8]) -> Result<usize, Failed> {
+        self.bytes = self.bytes.wrapping_add(bytes.len() as u64);
+        Ok(bytes.len())
+    }
+}
