@@ -1,3 +1,4 @@
+use Rattle.std.proofs.Common.{rules}
 use Rattle.std.proofs.Common.{◌∙◌, ap}
 use Rattle.std.proofs.lemmas.Bool.{both_ways}
 use Rattle.std.specs.Prelude.{Err}
@@ -41,3 +42,18 @@ invariant_of-self-in-Err-Slow g c =
           k (inv.kept k) c.requires.accepted c.run.auto.bytes c.requires.lent r.sound s.0 s.1 s.4
           p.base n.base p.interrupted n.interrupted p.rows n.rows;
     }
+
+pub returns-then-is_err-clause-executes : goal.returns-then-is_err-clause-executes
+returns-then-is_err-clause-executes g c = search rules
+
+pub returns-in-Ok-clause-executes : goal.returns-in-Ok-clause-executes
+returns-in-Ok-clause-executes g c = search rules
+
+pub returns-in-Err-Slow-clause-executes : goal.returns-in-Err-Slow-clause-executes
+returns-in-Err-Slow-clause-executes g c = search rules
+
+pub invariant_of-self-in-Err-Cut : goal.invariant_of-self-in-Err-Cut
+invariant_of-self-in-Err-Cut g c = search rules
+
+pub returns-in-Err-Cut-clause-executes : goal.returns-in-Err-Cut-clause-executes
+returns-in-Err-Cut-clause-executes g c = search rules
