@@ -1,15 +1,15 @@
 -- What a format answers of what the chip tells.
-use Rattle.std.proofs.Common.{◌≡◌, ◌⊎◌, ℕ, Bool, true, false, not, cond, List, length, refl, sym, ap, ◌∙◌, inl, inr}
+use Rattle.std.proofs.Common.{◌≡◌, ◌⊎◌, arith, ℕ, Bool, true, false, not, cond, List, length, refl, sym, ap, ◌∙◌, inl, inr}
 use Rattle.std.specs.Prelude.{Result, Ok, Err}
 use Rattle.sfdp.specs.Params.{params_of}
 use Rattle.sfdp.specs.declared.params.Params.{Params}
 use Rattle.chip_model.specs.Chip.{Chip, is_idle, completed}
 use Rattle.chip_model.specs.Frames.{is_open, id_from, status_1}
 use Rattle.nor_driver.specs.Probe.{told, is_served, is_free, sized, unless_protected, identity, probe_answer, RegistersTellProtection}
-use Rattle.nor_driver.specs.Unprotect.{Cleared, clearing}
+use Rattle.nor_driver.specs.Unprotect.{Cleared, clearing, Unprotects}
 use Rattle.nor_driver.specs.declared.error.ProbeError.{ProbeError}
 use Rattle.nor_driver.specs.declared.error.ProbeError.TheVariants as refusals
-use Rattle.flash_disk.specs.Formatted.{is_locked, format_answer, AnswersAsTold}
+use Rattle.flash_disk.specs.Formatted.{is_locked, format_answer, AnswersAsTold, FormatFails}
 use Rattle.flash_disk.proofs.Opening.{and-true}
 
 -- what a chip of so many bytes and with this table is known as
@@ -59,3 +59,22 @@ probe-told refusals.Protected c n law k free size h = elim h as (λ _. format_an
 
 pub found-told : (p : Params) (c n : Chip) → RegistersTellProtection → Cleared c n → is_open n ≡ true → length n.memory ≡ length c.memory → probe_answer (told n) ≡ Ok p → AnswersAsTold (Ok tt) (told c)
 found-told p c n law k free size a = (p, told-answer c n (Ok p) law k free size a)
+
+not-front : (b : Bool) → not b ≡ false → b ≡ true
+not-front true e = refl
+not-front false e = absurd (cc e)
+
+-- the answer where protection can't be ended
+pub unprotect-told : (e : ProbeError) (c n : Chip) (cuts slows cuts' slows' : ℕ) → Unprotects (Err e) c cuts slows n cuts' slows' → AnswersAsTold (Err e) (told c)
+unprotect-told refusals.Cut c n cuts slows cuts' slows' u = tt
+unprotect-told refusals.Slow c n cuts slows cuts' slows' u = tt
+unprotect-told refusals.WrongId c n cuts slows cuts' slows' u = absurd u
+unprotect-told (refusals.Sfdp e) c n cuts slows cuts' slows' u = absurd u
+unprotect-told refusals.Protected c n cuts slows cuts' slows' u = ap (λ b. cond b (Err refusals.Protected) (identity (told c))) (not-front (is_locked (told c)) (sym (open-locked c n u.0) ∙ u.1))
+
+pub unprotect-fails : (e : ProbeError) (c n : Chip) (cuts slows cuts' slows' : ℕ) → Unprotects (Err e) c cuts slows n cuts' slows' → FormatFails e cuts slows cuts' slows'
+unprotect-fails refusals.Cut c n cuts slows cuts' slows' u = let x = u.1 in (omega (arith, x), u.2)
+unprotect-fails refusals.Slow c n cuts slows cuts' slows' u = let x = u.2 in (u.1, omega (arith, x))
+unprotect-fails refusals.WrongId c n cuts slows cuts' slows' u = absurd u
+unprotect-fails (refusals.Sfdp e) c n cuts slows cuts' slows' u = absurd u
+unprotect-fails refusals.Protected c n cuts slows cuts' slows' u = (u.2, u.3)

@@ -26,3 +26,9 @@ returns-clause-lost g c e =
     never-lost g.R.Recorder.KEEPS g.L.OneServer.sectors c.args.pass.connection c.args.server.now c.exchange_alone-ended.new.server c.args.pass.count c.exchange_alone-ended.result.0.count
     (g.S.Source.remaining c.args.reader.now) (g.S.Source.remaining c.exchange_alone-ended.new.reader) (g.K.Sink.written c.args.writer.now) (g.K.Sink.written c.exchange_alone-ended.new.writer)
     (g.S.Source.faults c.args.reader.now) (g.S.Source.faults c.exchange_alone-ended.new.reader) quiet (omega (arith, cuts)) (omega (arith, slows)) (subst P e c.exchange_alone-ended.ensures.says)
+
+pub returns-clause-says : goal.returns-clause-says
+returns-clause-says g c = c.exchange_alone-ended.ensures.says
+
+pub returns-clause-writes : goal.returns-clause-writes
+returns-clause-writes g c = c.exchange_alone-ended.ensures.writes

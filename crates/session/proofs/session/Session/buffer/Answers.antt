@@ -1,4 +1,4 @@
-use Rattle.std.proofs.Common.{arith}
+use Rattle.std.proofs.Common.{arith, rules}
 use Rattle.session.proofs.Lends.{lent_fits}
 use Rattle.session.proofs.session.Session.buffer.Goals as goal
 
@@ -8,3 +8,6 @@ slice_mut-requires-clause-in_bounds c =
     let len = c.lent_len-len.ensures in
     let size = c.self.invariant.size in
     omega (arith, fits, len, size)
+
+pub returns : goal.returns
+returns c = search rules

@@ -1,4 +1,4 @@
-use Rattle.std.proofs.Common.{◌≡◌, ℕ, List, [], length, take, refl, sym, ap, ◌∙◌, arith}
+use Rattle.std.proofs.Common.{◌≡◌, ℕ, List, [], length, take, refl, sym, ap, ◌∙◌, arith, rules}
 use Rattle.std.specs.Vec.{with_items}
 use Rattle.std.proofs.lemmas.List.{with_items_is}
 use Rattle.nbd_wire.specs.declared.phase.Phase.TheVariants.{AwaitingFlags}
@@ -69,3 +69,15 @@ invariant_of-self-in-Transmit c =
       replies = omega (arith, reply);
       works = record { phase = ap (λ (x : Held). x.phase) exact; rest = []; keeps = c.new-self-inside.ensures.keeps; filled_is = sym (ap (λ (l : List ℕ). length l) (payload_short c.new-self-inside.result.sectors [] (omega arith))) };
     }
+
+pub returns-in-More-clause-progress : goal.returns-in-More-clause-progress
+returns-in-More-clause-progress c = c.take-taken.ensures.progress (search rules)
+
+pub returns-in-Stay-clause-progress : goal.returns-in-Stay-clause-progress
+returns-in-Stay-clause-progress c = c.take-taken.ensures.progress (search rules)
+
+pub returns-in-Transmit-clause-progress : goal.returns-in-Transmit-clause-progress
+returns-in-Transmit-clause-progress c = c.take-taken.ensures.progress (search rules)
+
+pub returns-in-Close-clause-progress : goal.returns-in-Close-clause-progress
+returns-in-Close-clause-progress c = c.take-taken.ensures.progress (search rules)

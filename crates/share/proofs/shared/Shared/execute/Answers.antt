@@ -1,4 +1,4 @@
-use Rattle.std.proofs.Common.{◌≡◌, true, false, List, ◌∙◌, ap, length, refl, sym, inl, inr, Some}
+use Rattle.std.proofs.Common.{◌≡◌, true, false, List, ◌∙◌, ap, length, refl, sym, inl, inr, Some, rules}
 use Rattle.std.proofs.lemmas.Bool.{both_ways}
 use Rattle.std.specs.Prelude.{Err}
 use Rattle.block_device.specs.declared.disk.DiskError.{DiskError}
@@ -89,3 +89,12 @@ returns-in-Err-Cut-clause-executes g c =
       no_rows = g.met.R.Recorder.nothing c.interrupt.new.self;
       stays_lost = λ l. absurd (both_ways _ c.if-lost.false l);
     }
+
+pub returns-then-is_err-clause-executes : goal.returns-then-is_err-clause-executes
+returns-then-is_err-clause-executes g c = search rules
+
+pub returns-in-Ok-clause-executes : goal.returns-in-Ok-clause-executes
+returns-in-Ok-clause-executes g c = search rules
+
+pub returns-in-Err-Slow-clause-executes : goal.returns-in-Err-Slow-clause-executes
+returns-in-Err-Slow-clause-executes g c = search rules
