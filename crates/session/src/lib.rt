@@ -4,7 +4,8 @@
 //! pieces: a flag word, an option or a refused request by the reply that `reply` then lends, an accepted command by handing
 //! it out with the payload that `buffer` then lends, and the last unit by a close. More comes only where all bytes were
 //! used. `finish` makes the reply of the command that ran; of a READ without an error it is head and data in one slice.
-//! A session is opened with all its buffers, and takes no memory afterwards; `reset` makes it as just opened.
+//! A session is opened with all its buffers, and takes no memory afterwards; `reset` makes it as just opened. `requesting`
+//! opens one whose negotiation is over.
 //!
 //! Left to the crate above: to send each reply before the next `take`, to run the commands, to fill a READ's buffer, and to
 //! call again with the bytes that were not used. A command that is not finished is forgotten at the next `take`.

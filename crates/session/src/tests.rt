@@ -181,6 +181,24 @@ fn a_session_begins_with_the_greeting(rt: HostRuntime) -> Result<(), Fail> {
 }
 
 #[test]
+fn a_session_can_begin_with_requests(rt: HostRuntime) -> Result<(), Fail> {
+    let alloc = rt.alloc();
+    let Ok(mut session) = Session::requesting(alloc, 70) else {
+        return Err(Fail::from("no memory"));
+    };
+    assert!(&rt; session.reply().is_empty());
+    check(
+        &rt,
+        alloc,
+        &mut session,
+        1,
+        "25609513 0000 0003 0000000000000004 0000000000000000 00000000 25609513 0000 0002 0000000000000005 0000000000000000 00000000",
+        "67446698 00000000 0000000000000004",
+        "Close",
+    )
+}
+
+#[test]
 fn options_are_answered(rt: HostRuntime) -> Result<(), Fail> {
     check_all(
         &rt,

@@ -9,6 +9,7 @@ use Rattle.block_device.specs.Streams.{Appends-twice}
 use Rattle.nbd_wire.specs.declared.command.Command.{Command}
 use Rattle.nbd_wire.specs.Commands.{moves_data}
 use Rattle.nbd_transmission.specs.Apply.{applied}
+use Rattle.nbd_wire.specs.declared.phase.Phase.TheVariants.{AwaitingFlags}
 use Rattle.session.specs.Parts.{Part, Asked, closes, closed, parts, IsGrowing}
 use Rattle.station.specs.declared.piece.Turn.{Turn}
 use Rattle.station.specs.declared.piece.Turn.TheVariants.{Waits, Answered, Closes, Loses}
@@ -56,28 +57,28 @@ closed_last (x ∷ xs) p e =
 
 -- one more part is answered
 some_more : (who : ℕ) (old : Desk) (text used new : List ℕ) (more : List Part) (out disk : List ℕ) (p : Part)
-    → SomeParts who old text used out disk more → parts old.line.sectors ((text ++ used) ++ new) ≡ parts old.line.sectors (text ++ used) ++ p ∷ []
+    → SomeParts who old text used out disk more → parts AwaitingFlags old.line.sectors ((text ++ used) ++ new) ≡ parts AwaitingFlags old.line.sectors (text ++ used) ++ p ∷ []
     → SomeParts who old text (used ++ new) (out ++ replied who (reply_of_part old.line.sectors disk p)) (after_part old.line.sectors disk p) (more ++ p ∷ [])
 some_more who old text used new more out disk p a e =
     let n = old.line.sectors in
     let d = old.disk.contents in
     record {
-      lacked = ap (λ l. parts n l) (sym (append_assoc text used new)) ∙ (e ∙ (ap (λ l. l ++ p ∷ []) a.lacked ∙ append_assoc (parts n text) more (p ∷ [])));
+      lacked = ap (λ l. parts AwaitingFlags n l) (sym (append_assoc text used new)) ∙ (e ∙ (ap (λ l. l ++ p ∷ []) a.lacked ∙ append_assoc (parts AwaitingFlags n text) more (p ∷ [])));
       out_is = ap (λ l. l ++ replied who (reply_of_part n disk p)) a.out_is ∙ (ap (λ l. replies n who d more ++ replied who (reply_of_part n l p)) a.disk_is ∙ sym (replies_more n who d more p));
       disk_is = ap (λ l. after_part n l p) a.disk_is ∙ sym (after_more n d more p);
     }
 
 -- the same sectors under another name
 one_at : (n who : ℕ) (mid : Desk) (text longer out disk : List ℕ) (b : Bool) → mid.line.sectors ≡ n → OnePart who mid text longer out disk b
-    → (p : Part) × (parts n longer ≡ parts n text ++ p ∷ []) × (closes p ≡ b) × (out ≡ replied who (reply_of_part n mid.disk.contents p)) × (disk ≡ after_part n mid.disk.contents p)
+    → (p : Part) × (parts AwaitingFlags n longer ≡ parts AwaitingFlags n text ++ p ∷ []) × (closes p ≡ b) × (out ≡ replied who (reply_of_part n mid.disk.contents p)) × (disk ≡ after_part n mid.disk.contents p)
 one_at n who mid text longer out disk b same o =
-    subst (λ m. (p : Part) × (parts m longer ≡ parts m text ++ p ∷ []) × (closes p ≡ b) × (out ≡ replied who (reply_of_part m mid.disk.contents p)) × (disk ≡ after_part m mid.disk.contents p))
+    subst (λ m. (p : Part) × (parts AwaitingFlags m longer ≡ parts AwaitingFlags m text ++ p ∷ []) × (closes p ≡ b) × (out ≡ replied who (reply_of_part m mid.disk.contents p)) × (disk ≡ after_part m mid.disk.contents p))
     same (o.part, o.parts_are, o.is_closing, o.out_is, o.disk_is)
 
 lost_at : (n : ℕ) (mid : Desk) (text longer out disk : List ℕ) → mid.line.sectors ≡ n → LostPart mid text longer out disk
-    → (c : Command) × (payload : List ℕ) × (parts n longer ≡ parts n text ++ Asked c payload ∷ []) × (moves_data c.kind ≡ true) × (out ≡ []) × Outcome mid.disk.contents (applied n mid.disk.contents c payload) disk
+    → (c : Command) × (payload : List ℕ) × (parts AwaitingFlags n longer ≡ parts AwaitingFlags n text ++ Asked c payload ∷ []) × (moves_data c.kind ≡ true) × (out ≡ []) × Outcome mid.disk.contents (applied n mid.disk.contents c payload) disk
 lost_at n mid text longer out disk same o =
-    subst (λ m. (c : Command) × (payload : List ℕ) × (parts m longer ≡ parts m text ++ Asked c payload ∷ []) × (moves_data c.kind ≡ true) × (out ≡ []) × Outcome mid.disk.contents (applied m mid.disk.contents c payload) disk)
+    subst (λ m. (c : Command) × (payload : List ℕ) × (parts AwaitingFlags m longer ≡ parts AwaitingFlags m text ++ Asked c payload ∷ []) × (moves_data c.kind ≡ true) × (out ≡ []) × Outcome mid.disk.contents (applied m mid.disk.contents c payload) disk)
     same (o.command, o.payload, o.parts_are, o.moves, o.out_is, o.outcome)
 
 -- the bytes so far, and those that a turn takes
@@ -102,7 +103,7 @@ start who old bytes on fast = record {
     split = refl;
     appends = appends_none old.written;
     still = refl;
-    answered = record { lacked = ap (λ l. parts old.line.sectors l) (append-nil t) ∙ sym (append-nil (parts old.line.sectors t)); out_is = refl; disk_is = refl };
+    answered = record { lacked = ap (λ l. parts AwaitingFlags old.line.sectors l) (append-nil t) ∙ sym (append-nil (parts AwaitingFlags old.line.sectors t)); out_is = refl; disk_is = refl };
     serves = subst (λ l. Serves old.line l) (sym (append-nil t)) serves;
   };
 }
@@ -141,7 +142,7 @@ module _ (who : ℕ) (old mid new : Desk) (bytes rest : List ℕ) (k : ℕ) (sam
     text = λ t serves.
         let f = u.text t serves in
         let x = g.says (t ++ f.used) f.serves in
-        let says : (parts old.line.sectors ((t ++ f.used) ++ take k rest) ≡ parts old.line.sectors (t ++ f.used)) = subst (λ m. parts m ((t ++ f.used) ++ take k rest) ≡ parts m (t ++ f.used)) same x.2.0 in
+        let says : (parts AwaitingFlags old.line.sectors ((t ++ f.used) ++ take k rest) ≡ parts AwaitingFlags old.line.sectors (t ++ f.used)) = subst (λ m. parts AwaitingFlags m ((t ++ f.used) ++ take k rest) ≡ parts AwaitingFlags m (t ++ f.used)) same x.2.0 in
         let a = f.answered in
         record {
           used = f.used ++ take k rest;
@@ -151,7 +152,7 @@ module _ (who : ℕ) (old mid new : Desk) (bytes rest : List ℕ) (k : ℕ) (sam
           appends = Appends-twice old.written mid.written new.written f.out x.0 f.appends x.1;
           still = f.still;
           answered = record {
-            lacked = ap (λ l. parts old.line.sectors l) (sym (append_assoc t f.used (take k rest))) ∙ (says ∙ a.lacked);
+            lacked = ap (λ l. parts AwaitingFlags old.line.sectors l) (sym (append_assoc t f.used (take k rest))) ∙ (says ∙ a.lacked);
             out_is = ap (λ l. f.out ++ l) x.2.1 ∙ (append-nil f.out ∙ a.out_is);
             disk_is = x.2.2 ∙ a.disk_is;
           };
@@ -160,7 +161,7 @@ module _ (who : ℕ) (old mid new : Desk) (bytes rest : List ℕ) (k : ℕ) (sam
   }
 
   -- the last turn of a piece that closes
-  pub piece_closes : IsGrowing old.line.sectors → Turned who mid new Closes (take k rest) → Pieced who old new Shut bytes
+  pub piece_closes : IsGrowing AwaitingFlags old.line.sectors → Turned who mid new Closes (take k rest) → Pieced who old new Shut bytes
   piece_closes grows g = record {
     power = g.power;
     slow = g.slow;
@@ -170,9 +171,9 @@ module _ (who : ℕ) (old mid new : Desk) (bytes rest : List ℕ) (k : ℕ) (sam
         let x = g.says (t ++ f.used) f.serves in
         let p = one_at n who mid (t ++ f.used) ((t ++ f.used) ++ take k rest) x.0 new.disk.contents true same x.2 in
         let a = some_more who old t f.used (take k rest) f.more f.out mid.disk.contents p.0 f.answered p.1 in
-        let shut : closed (parts n ((t ++ f.used) ++ take k rest)) ≡ true = ap closed p.1 ∙ closed_last (parts n (t ++ f.used)) p.0 p.2 in
-        let whole : parts n (t ++ bytes) ≡ parts n (t ++ (f.used ++ take k rest)) =
-        ap (λ l. parts n l) (cut_here t f.used bytes rest k f.split) ∙ (grows.ends ((t ++ f.used) ++ take k rest) (drop k rest) shut ∙ ap (λ l. parts n l) (append_assoc t f.used (take k rest))) in (
+        let shut : closed (parts AwaitingFlags n ((t ++ f.used) ++ take k rest)) ≡ true = ap closed p.1 ∙ closed_last (parts AwaitingFlags n (t ++ f.used)) p.0 p.2 in
+        let whole : parts AwaitingFlags n (t ++ bytes) ≡ parts AwaitingFlags n (t ++ (f.used ++ take k rest)) =
+        ap (λ l. parts AwaitingFlags n l) (cut_here t f.used bytes rest k f.split) ∙ (grows.ends ((t ++ f.used) ++ take k rest) (drop k rest) shut ∙ ap (λ l. parts AwaitingFlags n l) (append_assoc t f.used (take k rest))) in (
           f.out ++ x.0,
           Appends-twice old.written mid.written new.written f.out x.0 f.appends x.1,
           (
@@ -188,7 +189,7 @@ module _ (who : ℕ) (old mid new : Desk) (bytes rest : List ℕ) (k : ℕ) (sam
   }
 
   -- the last turn of a piece in which the power goes
-  pub piece_loses : IsGrowing old.line.sectors → Turned who mid new Loses (take k rest) → Pieced who old new Lost bytes
+  pub piece_loses : IsGrowing AwaitingFlags old.line.sectors → Turned who mid new Loses (take k rest) → Pieced who old new Lost bytes
   piece_loses grows g = record {
     power = (g.power.0, omega (arith, u.cuts, g.power.1));
     slow = g.slow;
@@ -207,9 +208,9 @@ module _ (who : ℕ) (old mid new : Desk) (bytes rest : List ℕ) (k : ℕ) (sam
             command = p.0;
             payload = p.1;
             rest = more.0;
-            lacked = ap (λ l. parts n l) (cut_here t f.used bytes rest k f.split)
+            lacked = ap (λ l. parts AwaitingFlags n l) (cut_here t f.used bytes rest k f.split)
                 ∙ (more.1 ∙ (ap (λ l. l ++ more.0) p.2 ∙ (ap (λ l. (l ++ one) ++ more.0) a.lacked
-                ∙ (append_assoc (parts n t ++ f.more) one more.0 ∙ append_assoc (parts n t) f.more (Asked p.0 p.1 ∷ more.0)))));
+                ∙ (append_assoc (parts AwaitingFlags n t ++ f.more) one more.0 ∙ append_assoc (parts AwaitingFlags n t) f.more (Asked p.0 p.1 ∷ more.0)))));
             moves = p.3;
             out_is = ap (λ l. f.out ++ l) p.4 ∙ (append-nil f.out ∙ a.out_is);
             outcome = subst (λ l. Outcome l (applied n l p.0 p.1) new.disk.contents) a.disk_is p.5;
@@ -243,8 +244,8 @@ module _ (who : ℕ) (old mid new : Desk) (bytes rest : List ℕ) (k : ℕ) (sam
           out = f.out ++ x.2;
           unsent = x.3;
           missing = x.8;
-          lacked = ap (λ l. parts n (t ++ l)) f.split ∙ (ap (λ l. parts n l) (sym (append_assoc t f.used rest)) ∙ (x.4
-              ∙ (ap (λ l. l ++ (x.0 ∷ x.1)) a.lacked ∙ append_assoc (parts n t) f.more (x.0 ∷ x.1))));
+          lacked = ap (λ l. parts AwaitingFlags n (t ++ l)) f.split ∙ (ap (λ l. parts AwaitingFlags n l) (sym (append_assoc t f.used rest)) ∙ (x.4
+              ∙ (ap (λ l. l ++ (x.0 ∷ x.1)) a.lacked ∙ append_assoc (parts AwaitingFlags n t) f.more (x.0 ∷ x.1))));
           appends = Appends-twice old.written mid.written new.written f.out x.2 f.appends x.5;
           out_is = replies_more n who d f.more x.0 ∙ (ap (λ l. l ++ replied who (reply_of_part n (after_parts n d f.more) x.0)) (sym a.out_is)
               ∙ (ap (λ l. f.out ++ replied who (reply_of_part n l x.0)) (sym a.disk_is) ∙ (ap (λ l. f.out ++ l) x.6 ∙ sym (append_assoc f.out x.2 x.3))));
@@ -265,7 +266,7 @@ piece_waits who old new bytes rest u all = record {
         f.out,
         f.appends,
         (
-          (f.more, f.still, record { lacked = ap (λ l. parts n (t ++ l)) whole ∙ a.lacked; out_is = a.out_is; disk_is = a.disk_is }),
+          (f.more, f.still, record { lacked = ap (λ l. parts AwaitingFlags n (t ++ l)) whole ∙ a.lacked; out_is = a.out_is; disk_is = a.disk_is }),
           subst (λ l. Serves new.line (t ++ l)) (sym whole) f.serves,
         ),
       );

@@ -5,6 +5,7 @@ use Rattle.std.specs.Prelude.{not, MatchBool, if◌then◌else◌}
 use Rattle.block_device.specs.Contents.{Outcome}
 use Rattle.block_device.specs.Facts.{Facts}
 use Rattle.nbd_transmission.specs.Apply.{applied}
+use Rattle.nbd_wire.specs.declared.phase.Phase.TheVariants.{AwaitingFlags}
 use Rattle.session.specs.Line.{Line}
 use Rattle.session.specs.Parts.{Part, Asked, closed, parts}
 use Rattle.station.specs.declared.entries.TheConstants.{DONE, SHUT, LOST}
@@ -160,7 +161,7 @@ module _ (f f' : Facts) (n : ℕ) (on : Bool) (ss : List Line) (bs : List Bool) 
       let mid = after_parts n f.contents front in
       let tail = replies n c mid h.rest in
       let whole : h.before ++ h.part ∷ h.rest ≡ all = sym (append_assoc h.before (h.part ∷ []) h.rest) in
-      let lacked : Lacked n l.0 bytes.now all = subst (λ m. Lacked m l.0 bytes.now all) sectors (h.lacked ∙ ap (λ v. parts s.sectors l.0 ++ v) whole) in
+      let lacked : Lacked n l.0 bytes.now all = subst (λ m. Lacked m l.0 bytes.now all) sectors (h.lacked ∙ ap (λ v. parts AwaitingFlags s.sectors l.0 ++ v) whole) in
       let out_is : replies n c f.contents front ≡ h.out ++ h.unsent = subst (λ m. replies m c f.contents front ≡ h.out ++ h.unsent) sectors h.out_is in
       let disk_is : f'.contents ≡ mid = subst (λ m. f'.contents ≡ after_parts m f.contents front) sectors h.disk_is in
       let b = closed all in

@@ -1,6 +1,7 @@
 -- transcripts without a loss are those of a plain array, and there is one alone
 use Rattle.std.proofs.Common.{◌≡◌, inl, inr, ℕ, Bool, true, false, List, [], ◌∷◌, ◌++◌, drop, Option, None, Some, ◌≤◌, arith, sym, ◌∙◌, ap, subst, set}
 use Rattle.std.specs.Prelude.{MatchBool, MatchOption, if◌then◌else◌}
+use Rattle.nbd_wire.specs.declared.phase.Phase.TheVariants.{AwaitingFlags}
 use Rattle.session.specs.Parts.{Part, closed, parts}
 use Rattle.station.specs.declared.entries.TheConstants.{DONE, SHUT}
 use Rattle.station.specs.declared.event.Event.{Event}
@@ -39,7 +40,7 @@ both a out out' x v v' p q = (p.0 ∙ sym q.0, p.1 ∙ sym q.1)
 
 answers_one : (w : World) (c : ℕ) (t bytes out out' : List ℕ) (v v' : World) → Answers w c t bytes out v → Answers w c t bytes out' v' → Same out out' v v'
 answers_one w c t bytes out out' v v' p q =
-    let same : p.more ≡ q.more = cancel (parts w.sectors t) p.more q.more (sym p.lacked ∙ q.lacked) in (
+    let same : p.more ≡ q.more = cancel (parts AwaitingFlags w.sectors t) p.more q.more (sym p.lacked ∙ q.lacked) in (
       p.wrote ∙ (ap (λ m. replies w.sectors c w.disk m ++ entry c (if closed m then SHUT else DONE) []) same ∙ sym q.wrote),
       p.world ∙ (ap (λ m. record { sectors = w.sectors; disk = after_parts w.sectors w.disk m; power = true; texts = set w.texts c (if closed m then None else Some (t ++ bytes)) }) same ∙ sym q.world),
     )

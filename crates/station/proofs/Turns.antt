@@ -3,6 +3,7 @@ use Rattle.std.proofs.Common.{◌≡◌, ℕ, List, [], ◌∷◌, ◌++◌, tak
 use Rattle.std.specs.Prelude.{Result, Ok, Err, OnErr}
 use Rattle.std.proofs.lemmas.List.{take-append-drop}
 use Rattle.block_device.specs.Streams.{Fails}
+use Rattle.nbd_wire.specs.declared.phase.Phase.TheVariants.{AwaitingFlags}
 use Rattle.session.specs.Parts.{Part, parts, IsGrowing}
 use Rattle.station.specs.Answers.{reply_of_part, after_part}
 use Rattle.station.specs.Records.{replied}
@@ -13,13 +14,13 @@ on_err (Ok v) P p = tt
 on_err (Err e) P p = p
 
 -- a text that got longer by a beginning of some bytes, and the same with all of them
-pub behind : (n : ℕ) (text bytes : List ℕ) (k : ℕ) → IsGrowing n → (added : List Part) × (parts n (text ++ bytes) ≡ parts n (text ++ take k bytes) ++ added)
+pub behind : (n : ℕ) (text bytes : List ℕ) (k : ℕ) → IsGrowing AwaitingFlags n → (added : List Part) × (parts AwaitingFlags n (text ++ bytes) ≡ parts AwaitingFlags n (text ++ take k bytes) ++ added)
 behind n text bytes k grows =
     let more = grows.begin (text ++ take k bytes) (drop k bytes) in
-    (more.0, ap (λ (l : List ℕ). parts n l) (ap (λ (l : List ℕ). text ++ l) (sym (take-append-drop k bytes)) ∙ sym (append_assoc text (take k bytes) (drop k bytes))) ∙ more.1)
+    (more.0, ap (λ (l : List ℕ). parts AwaitingFlags n l) (ap (λ (l : List ℕ). text ++ l) (sym (take-append-drop k bytes)) ∙ sym (append_assoc text (take k bytes) (drop k bytes))) ∙ more.1)
 
 pub part_halts : (who : ℕ) (old new : Desk) (text bytes : List ℕ) (k f f' : ℕ) (part : Part) (reply : List ℕ)
-    → IsGrowing old.line.sectors → parts old.line.sectors (text ++ take k bytes) ≡ parts old.line.sectors text ++ part ∷ []
+    → IsGrowing AwaitingFlags old.line.sectors → parts AwaitingFlags old.line.sectors (text ++ take k bytes) ≡ parts AwaitingFlags old.line.sectors text ++ part ∷ []
     → reply ≡ reply_of_part old.line.sectors old.disk.contents part → Fails old.written f (replied who reply) new.written f'
     → new.disk.contents ≡ after_part old.line.sectors old.disk.contents part → PartHalts who old new text bytes
 part_halts who old new text bytes k f f' part reply grows one same failed disk =
@@ -31,7 +32,7 @@ part_halts who old new text bytes k f f' part reply grows one same failed disk =
       out = x.0;
       unsent = x.1;
       missing = x.4;
-      lacked = more.1 ∙ (ap (λ (l : List Part). l ++ more.0) one ∙ append_assoc (parts old.line.sectors text) (part ∷ []) more.0);
+      lacked = more.1 ∙ (ap (λ (l : List Part). l ++ more.0) one ∙ append_assoc (parts AwaitingFlags old.line.sectors text) (part ∷ []) more.0);
       appends = x.3;
       out_is = ap (λ (l : List ℕ). replied who l) (sym same) ∙ x.2;
       disk_is = disk;

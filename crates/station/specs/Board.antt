@@ -1,6 +1,7 @@
 -- What contracts see of a station, and for which worlds it stands.
 use Rattle.std.specs.Prelude.{◌≡◌, ◌*◌, length, replicate, ℕ, Bool, true, false, not, List, [], ◌∷◌, map, Option, None, Some}
 use Rattle.block_device.specs.Facts.{Facts}
+use Rattle.nbd_wire.specs.declared.phase.Phase.TheVariants.{AwaitingFlags}
 use Rattle.session.specs.Line.{Line, StandsFor, is_closed}
 use Rattle.station.specs.World.{World}
 
@@ -18,7 +19,7 @@ memories board = map (λ line. line.memory) board.sessions
 
 -- a session that is not over, and stands for a text
 abbrev pub Serves : Line → List ℕ → Type 0
-Serves line text = (is_closed line ≡ false) × StandsFor line text
+Serves line text = (is_closed line ≡ false) × StandsFor AwaitingFlags line text
 
 -- a connection is closed, or its session stands for its text
 abbrev pub LineStands : Bool → Line → Option (List ℕ) → Type 0

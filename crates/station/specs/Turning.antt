@@ -8,6 +8,7 @@ use Rattle.block_device.specs.Contents.{Outcome}
 use Rattle.nbd_wire.specs.declared.command.Command.{Command}
 use Rattle.nbd_wire.specs.Commands.{moves_data}
 use Rattle.nbd_transmission.specs.Apply.{applied, changed_by}
+use Rattle.nbd_wire.specs.declared.phase.Phase.TheVariants.{AwaitingFlags}
 use Rattle.session.specs.Line.{Line}
 use Rattle.session.specs.Parts.{Part, Asked, closes, closed, parts}
 use Rattle.station.specs.declared.piece.Turn.{Turn}
@@ -55,7 +56,7 @@ PowerAfter Loses old new = (new.cut ≡ true) × (old.cuts < new.cuts)
 -- one part more of a text is answered
 pub record OnePart (who : ℕ) (old : Desk) (text longer out disk : List ℕ) (closing : Bool) : Type 0 where
   pub part : Part
-  pub parts_are : parts old.line.sectors longer ≡ parts old.line.sectors text ++ part ∷ []
+  pub parts_are : parts AwaitingFlags old.line.sectors longer ≡ parts AwaitingFlags old.line.sectors text ++ part ∷ []
   pub is_closing : closes part ≡ closing
   pub out_is : out ≡ replied who (reply_of_part old.line.sectors old.disk.contents part)
   pub disk_is : disk ≡ after_part old.line.sectors old.disk.contents part
@@ -64,7 +65,7 @@ pub record OnePart (who : ℕ) (old : Desk) (text longer out disk : List ℕ) (c
 pub record LostPart (old : Desk) (text longer out disk : List ℕ) : Type 0 where
   pub command : Command
   pub payload : List ℕ
-  pub parts_are : parts old.line.sectors longer ≡ parts old.line.sectors text ++ Asked command payload ∷ []
+  pub parts_are : parts AwaitingFlags old.line.sectors longer ≡ parts AwaitingFlags old.line.sectors text ++ Asked command payload ∷ []
   pub moves : moves_data command.kind ≡ true
   pub out_is : out ≡ []
   pub outcome : Outcome old.disk.contents (applied old.line.sectors old.disk.contents command payload) disk
@@ -72,7 +73,7 @@ pub record LostPart (old : Desk) (text longer out disk : List ℕ) : Type 0 wher
 -- what a turn says of a text that grew
 abbrev pub TurnSays : ℕ → Desk → Desk → List ℕ → List ℕ → List ℕ → Turn → Type 0
 TurnSays who old new text longer out Waits =
-    (parts old.line.sectors longer ≡ parts old.line.sectors text) × (out ≡ []) × (new.disk.contents ≡ old.disk.contents) × Serves new.line longer
+    (parts AwaitingFlags old.line.sectors longer ≡ parts AwaitingFlags old.line.sectors text) × (out ≡ []) × (new.disk.contents ≡ old.disk.contents) × Serves new.line longer
 TurnSays who old new text longer out Answered = OnePart who old text longer out new.disk.contents false × Serves new.line longer
 TurnSays who old new text longer out Closes = OnePart who old text longer out new.disk.contents true
 TurnSays who old new text longer out Loses = LostPart old text longer out new.disk.contents

@@ -2,6 +2,7 @@
 
 ghost use Rattle.std.specs.Prelude.{◌≡◌, ◌⊎◌, ℕ, ◌+◌, ◌*◌, ◌<◌, ◌≤◌, List, length, true, false, None, Some, OnOk, IsErrOf};
 ghost use Rattle.block_device.specs.Facts.{Goes};
+ghost use Rattle.nbd_wire.specs.declared.phase.Phase.TheVariants.{AwaitingFlags};
 ghost use Rattle.nbd_wire.specs.Commands.{judge_of, moves_data, lent_len_of, payload_in};
 ghost use Rattle.nbd_transmission.specs.Apply.{head_of, reply_to};
 ghost use Rattle.session.specs.Lent.{IsFilled};
@@ -59,7 +60,7 @@ pub(crate) fn run_command<D: Disk>(
     ensures contents { (D.facts disk.old).sound ≡ true → Executes (D.facts disk.old).contents command.now (payload_in command.now (room_of session.old)) result (D.facts disk.new).contents }
     ensures reply { OnOk result ((D.facts disk.old).sound ≡ true → reply_of session.new ≡ reply_to session.old.sectors (D.facts disk.old).contents command.now) }
     ensures slow { IsErrOf result DiskError.Slow → reply_of session.new ≡ head_of command.now 5 }
-    ensures serves { (text : List ℕ) → StandsFor session.old text → StandsFor session.new text }
+    ensures serves { (text : List ℕ) → StandsFor AwaitingFlags session.old text → StandsFor AwaitingFlags session.new text }
     ensures closed { is_closed session.new ≡ is_closed session.old }
     ensures sectors { session.new.sectors ≡ session.old.sectors }
     ensures memory { session.new.memory ≡ session.old.memory }

@@ -1,4 +1,5 @@
 use Rattle.std.proofs.Common.{◌≡◌, ℕ, refl, ◌∙◌, ap, sym, subst}
+use Rattle.nbd_wire.specs.declared.phase.Phase.TheVariants.{AwaitingFlags}
 use Rattle.session.specs.Lent.{payload_in}
 use Rattle.session.specs.Line.{IsRunning, reply_of, room_of}
 use Rattle.session.specs.Parts.{Told, Asked, Last}
@@ -11,9 +12,9 @@ returns-in_err-tell-in-Reply-clause-halts g c = λ quiet. on_err c.from_residual
   power = quiet.cut;
   slow = quiet.slow;
   says = λ text serves.
-      let x = rw c.in-Reply.is at (c.take-taken.ensures.says text serves.0 serves.1) in
+      let x = rw c.in-Reply.is at (c.take-taken.ensures.says AwaitingFlags text serves.0 serves.1) in
       part_halts c.args.who _ _ text c.args.bytes.now c.take-taken.result.used _ _ (Told (reply_of c.take-taken.new.self)) c.reply.result.now
-      (c.parts_laws.ensures c.args.session.now.sectors) x.0 c.reply.ensures.value c.in_err-tell-in-Reply.ensures refl;
+      (c.parts_laws.ensures AwaitingFlags c.args.session.now.sectors) x.0 c.reply.ensures.value c.in_err-tell-in-Reply.ensures refl;
 })
 
 pub returns-in_err-tell-in-Close-clause-halts : goal.returns-in_err-tell-in-Close-clause-halts
@@ -21,9 +22,9 @@ returns-in_err-tell-in-Close-clause-halts g c = λ quiet. on_err c.from_residual
   power = quiet.cut;
   slow = quiet.slow;
   says = λ text serves.
-      let x = rw c.in-Close.is at (c.take-taken.ensures.says text serves.0 serves.1) in
+      let x = rw c.in-Close.is at (c.take-taken.ensures.says AwaitingFlags text serves.0 serves.1) in
       part_halts c.args.who _ _ text c.args.bytes.now c.take-taken.result.used _ _ (Last (reply_of c.take-taken.new.self)) c.reply-in-Close.result.now
-      (c.parts_laws.ensures c.args.session.now.sectors) x.0 c.reply-in-Close.ensures.value c.in_err-tell-in-Close.ensures refl;
+      (c.parts_laws.ensures AwaitingFlags c.args.session.now.sectors) x.0 c.reply-in-Close.ensures.value c.in_err-tell-in-Close.ensures refl;
 })
 
 pub returns-in_err-tell-in-Ok-clause-halts : goal.returns-in_err-tell-in-Ok-clause-halts
@@ -37,13 +38,13 @@ returns-in_err-tell-in-Ok-clause-halts g c = λ quiet. on_err c.from_residual-in
           let command = c.in-Run.command in
           let payload = payload_in command (room_of c.take-taken.new.self) in
           let contents = (g.D.Disk.facts c.args.disk.now).contents in
-          let x = rw c.in-Run.is at (c.take-taken.ensures.says text serves.0 serves.1) in
+          let x = rw c.in-Run.is at (c.take-taken.ensures.says AwaitingFlags text serves.0 serves.1) in
           let ready = rw c.in-Run.is at c.take-taken.ensures.ready in
           let reply : c.reply-in-Ok.result.now ≡ reply_to n contents command =
           c.reply-in-Ok.ensures.value ∙ (e.reply quiet.sound ∙ ap (λ (m : ℕ). reply_to m contents command) c.take-taken.ensures.sectors) in
           let disk : (g.D.Disk.facts c.run_command.new.disk).contents ≡ applied n contents command payload = rw ready.accepted (e.contents quiet.sound) in
           part_halts c.args.who _ _ text c.args.bytes.now c.take-taken.result.used _ _ (Asked command payload) c.reply-in-Ok.result.now
-          (c.parts_laws.ensures n) x.0 reply c.in_err-tell-in-Ok.ensures disk;
+          (c.parts_laws.ensures AwaitingFlags n) x.0 reply c.in_err-tell-in-Ok.ensures disk;
     })
 
 pub run_command-requires-clause-running : goal.run_command-requires-clause-running
