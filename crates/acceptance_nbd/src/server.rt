@@ -24,7 +24,11 @@ const HEAD_OF_REPLY: [u8; 16] = [0x67, 0x44, 0x66, 0x98, 0, 0, 0, 0, 1, 2, 3, 4,
 struct OpenGate;
 
 impl Gate for OpenGate {
+    ghost passes = { λ gate after points. Unit {0} };
+
     fn pass(&mut self, _point: Point) {}
+
+    ghost none = { λ gate. tt };
 }
 
 // A disk of two sectors whose chip never ends a write.

@@ -37,6 +37,21 @@ pub trait Sink {
         ensures some { 0 < length bytes.now → IfOk result (λ n. 0 < n) }
         ensures bytes { WriteAppends (written self.old) (written self.new) result bytes.now }
         ensures faults { Counts (faults self.old) result (faults self.new) };
+
+    /// As `write` of `head` and `rest` together: a sink that can't take both in one call takes the first that is not
+    /// empty.
+    fn write_both(&mut self, head: &[u8], rest: &[u8]) -> Result<usize, Failed>
+        ensures bound { WritesAtMost result (head.now ++ rest.now) }
+        ensures some { 0 < length (head.now ++ rest.now) → IfOk result (λ n. 0 < n) }
+        ensures bytes { WriteAppends (written self.old) (written self.new) result (head.now ++ rest.now) }
+        ensures faults { Counts (faults self.old) result (faults self.new) }
+    {
+        if head.is_empty() {
+            self.write(rest)
+        } else {
+            self.write(head)
+        }
+    }
 }
 
 /// Writes all of `bytes`, or a beginning of them where a call of the sink failed.
@@ -52,12 +67,23 @@ pub fn send<W: Sink>(out: &mut W, bytes: &[u8]) -> Result<(), Failed>
     Ok(())
 }
 
-/// Writes all of `head` and then all of `bytes`, or a beginning of the two together where a call of the sink failed.
+/// Writes all of `head` and then all of `bytes`, in one call where the sink takes both, or a beginning of the two together
+/// where a call of the sink failed.
 pub fn send_both<W: Sink>(out: &mut W, head: &[u8], bytes: &[u8]) -> Result<(), Failed>
     ensures { Sends (W.written out.old) (W.faults out.old) (head.now ++ bytes.now) result
         (W.written out.new) (W.faults out.new) }
 {
-    match send(out, head) {
+    if head.is_empty() {
+        return send(out, bytes);
+    }
+    let n = match out.write_both(head, bytes) {
+        Ok(n) => n,
+        Err(e) => return Err(e),
+    };
+    if n >= head.len() {
+        return send(out, &bytes[n - head.len()..]);
+    }
+    match send(out, &head[n..]) {
         Ok(()) => send(out, bytes),
         Err(e) => Err(e),
     }

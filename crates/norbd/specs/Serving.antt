@@ -1,9 +1,10 @@
 -- What `plain` writes: the replies of an array of zeros to the requests of its input. Source: NBD proto.md for the replies.
-use Rattle.std.specs.Prelude.{ℕ, ◌*◌, List, [], true, replicate, Option, Result, Ok, Err}
+use Rattle.std.specs.Prelude.{ℕ, ◌*◌, List, [], Bool, true, replicate, Option, Result, Ok, Err}
 use Rattle.std.specs.Io.KnownBytes.{Appends}
-use Rattle.nbd_wire.specs.declared.phase.Phase.{Phase}
+use Rattle.nbd_wire.specs.declared.phase.Phase.TheVariants.{Transmitting}
 use Rattle.norbd_line.specs.declared.fault.Fault.{Fault}
 use Rattle.norbd_line.specs.declared.fault.Fault.TheVariants.{Words, NoMemory, BadSize, InputFailed, OutputFailed, ImageFailed, WrongId, BadSfdp, Protected, Slow, BadRecord, NotFormatted, Corrupt}
+use Rattle.share.specs.Places.{setting}
 use Rattle.share.specs.Plain.{AnswersAll, AnswersSome}
 
 -- so many sectors of zeros
@@ -13,11 +14,11 @@ zeros sectors = replicate (512 * sectors) 0
 -- All requests of the input up to the first that closes are answered as an array of zeros answers them, but that a command
 -- may be answered ENOMEM for want of memory for its row; where a stream fails, a beginning of these replies is written.
 abbrev pub Serves : {T : Type 0} → ℕ → List ℕ → Option (List ℕ) → Option (List ℕ) → Result T Fault → Type 0
-Serves sectors input old new (Ok _) = (contents : List ℕ) × (last : Phase) × AnswersAll true sectors (zeros sectors) contents input old new last
+Serves sectors input old new (Ok _) = (contents : List ℕ) × (closes : Bool) × AnswersAll true (setting Transmitting sectors) (zeros sectors) contents input old new closes
 Serves sectors input old new (Err (Words error)) = ⊥
 Serves sectors input old new (Err NoMemory) = Appends old new []
-Serves sectors input old new (Err InputFailed) = (contents : List ℕ) × AnswersSome true sectors (zeros sectors) contents input old new
-Serves sectors input old new (Err OutputFailed) = (contents : List ℕ) × AnswersSome true sectors (zeros sectors) contents input old new
+Serves sectors input old new (Err InputFailed) = (contents : List ℕ) × AnswersSome true (setting Transmitting sectors) (zeros sectors) contents input old new
+Serves sectors input old new (Err OutputFailed) = (contents : List ℕ) × AnswersSome true (setting Transmitting sectors) (zeros sectors) contents input old new
 Serves sectors input old new (Err BadSize) = ⊥
 Serves sectors input old new (Err ImageFailed) = ⊥
 Serves sectors input old new (Err WrongId) = ⊥

@@ -24,7 +24,11 @@ const LEDGER_PARTS: u64 = 65_537;
 struct OpenGate;
 
 impl Gate for OpenGate {
+    ghost passes = { λ gate after points. Unit {0} };
+
     fn pass(&mut self, _point: Point) {}
+
+    ghost none = { λ gate. tt };
 }
 
 /// Does what a line asks.

@@ -5,9 +5,9 @@ use Rattle.clap.specs.Words.{IsAmong, Row, Text, kind_of}
 use Rattle.norbd_line.specs.Fault.{ComesFromWords}
 use Rattle.norbd_line.specs.Line.{HasOddSize, InRange, IsLineOf, IsOddSize, IsSize, Names, TakesSize, number_in}
 use Rattle.norbd_line.specs.declared.fault.Fault.{Fault}
-use Rattle.norbd_line.specs.declared.fault.Fault.TheVariants.{Words, NoMemory, BadSize, InputFailed, OutputFailed, ImageFailed, WrongId, BadSfdp, Protected, Slow, BadRecord, NotFormatted, Corrupt}
+use Rattle.norbd_line.specs.declared.fault.Fault.TheVariants.{Words, NoMemory, BadSize, InputFailed, OutputFailed, ImageFailed, WrongId, BadSfdp, Protected, Slow, BadRecord, NotFormatted, Corrupt, BadImageSize, NoSocket, NoThread}
 use Rattle.norbd_line.specs.declared.line.Line.{Line}
-use Rattle.norbd_line.specs.declared.line.Line.TheVariants.{Plain, Format, Script}
+use Rattle.norbd_line.specs.declared.line.Line.TheVariants.{Plain, Format, Script, Serve}
 
 -- the words name one command
 same_name : (words : List Text) (n m : Text) (rows others : List Row) → Names words n rows → Names words m others → n ≡ m
@@ -22,10 +22,18 @@ same_rows words n m rows others one two =
 first_of_name : Text → ℕ
 first_of_name name = unwrap_or (slice_get name 0) 0
 
+second_of_name : Text → ℕ
+second_of_name name = unwrap_or (slice_get name 1) 0
+
 plain_takes_no_size : TakesSize (codes "plain") → ⊥
 unfolding first_of_name
 plain_takes_no_size (inl e) = let first : 112 ≡ 102 = ap first_of_name e in omega (arith, first)
 plain_takes_no_size (inr e) = let first : 112 ≡ 115 = ap first_of_name e in omega (arith, first)
+
+serve_takes_no_size : TakesSize (codes "serve") → ⊥
+unfolding first_of_name second_of_name
+serve_takes_no_size (inl e) = let first : 115 ≡ 102 = ap first_of_name e in omega (arith, first)
+serve_takes_no_size (inr e) = let second : 101 ≡ 99 = ap second_of_name e in omega (arith, second)
 
 size≢odd : (k m : ℕ) → Some k ≡ Some m → IsSize k → IsOddSize m → ⊥
 size≢odd k m e size odd =
@@ -34,7 +42,7 @@ size≢odd k m e size odd =
 
 pub odd_is_refused : (words : List Text) (r : Result Line Fault) → IfOk r InRange → IfOk r (IsLineOf words) → IfErr r (ComesFromWords words)
     → HasOddSize words → IsErrAnd r (λ e. (e ≡ BadSize) ⊎ (e ≡ NoMemory))
-odd_is_refused words (Ok (Plain sectors)) range line fault odd =
+odd_is_refused words (Ok (Plain sectors keeps_rows)) range line fault odd =
     let name = same_name words line.0 odd.0 line.1 odd.1 line.2 odd.2 in
     absurd (plain_takes_no_size (subst TakesSize (sym name ∙ line.3.0) odd.3.0))
 odd_is_refused words (Ok (Format image kib)) range line fault odd =
@@ -45,6 +53,9 @@ odd_is_refused words (Ok (Script kib)) range line fault odd =
     let rows = same_rows words line.0 odd.0 line.1 odd.1 line.2 odd.2 in
     let number = sym line.3.1 ∙ ap (number_in (codes "kib")) rows ∙ odd.3.1.1 in
     absurd (size≢odd kib odd.3.1.0 number range odd.3.1.2)
+odd_is_refused words (Ok (Serve image port conns keeps_rows)) range line fault odd =
+    let name = same_name words line.0 odd.0 line.1 odd.1 line.2 odd.2 in
+    absurd (serve_takes_no_size (subst TakesSize (sym name ∙ line.3.0) odd.3.0))
 odd_is_refused words (Err (Words error)) range line fault odd = absurd (subst (IsAmong (kind_of error)) odd.2.faultless fault.1)
 odd_is_refused words (Err BadSize) range line fault odd = inl refl
 odd_is_refused words (Err NoMemory) range line fault odd = inr refl
@@ -58,3 +69,6 @@ odd_is_refused words (Err Slow) range line fault odd = absurd fault
 odd_is_refused words (Err BadRecord) range line fault odd = absurd fault
 odd_is_refused words (Err NotFormatted) range line fault odd = absurd fault
 odd_is_refused words (Err Corrupt) range line fault odd = absurd fault
+odd_is_refused words (Err BadImageSize) range line fault odd = absurd fault
+odd_is_refused words (Err NoSocket) range line fault odd = absurd fault
+odd_is_refused words (Err NoThread) range line fault odd = absurd fault

@@ -1,7 +1,7 @@
 use Rattle.std.specs.Prelude.{List, ℕ, Some, String, codes, map, pos, true}
 use Rattle.std.specs.String.{string_bytes}
 use Rattle.clap.specs.Words.{App, Rule, Text, new_app, new_rule, with_rule, with_subcommand}
-use Rattle.clap.specs.declared.builder.action.ArgAction.TheVariants.{Set}
+use Rattle.clap.specs.declared.builder.action.ArgAction.TheVariants.{Set, SetTrue}
 use Rattle.clap.specs.declared.builder.value_parser.ValueParser.TheVariants as value_parser
 
 -- The command line in the terms of `clap`.
@@ -24,13 +24,25 @@ sectors_rule = number_rule (codes "sectors") 1 65536
 abbrev pub kib_rule : Rule
 kib_rule = number_rule (codes "kib") 64 16384
 
+-- `--port P`: required, one number from 1 to 65,535
+abbrev pub port_rule : Rule
+port_rule = number_rule (codes "port") 1 65535
+
+-- `--conns C`: required, one number from 1 to 64
+abbrev pub conns_rule : Rule
+conns_rule = number_rule (codes "conns") 1 64
+
+-- a flag of this name
+abbrev pub flag_rule : Text → Rule
+flag_rule name = record (new_rule name) { long = Some name; action = Some SetTrue }
+
 -- `IMAGE`: required, one text at its place
 abbrev pub image_rule : Rule
 image_rule = record (new_rule (codes "IMAGE")) { action = Some Set; required = true }
 
--- `plain --sectors S`
+-- `plain --sectors S [--no-record]`
 abbrev pub plain_app : App
-plain_app = with_rule (new_app (codes "plain")) sectors_rule
+plain_app = with_rule (with_rule (new_app (codes "plain")) sectors_rule) (flag_rule (codes "no-record"))
 
 -- `format IMAGE --kib K`
 abbrev pub format_app : App
@@ -40,6 +52,10 @@ format_app = with_rule (with_rule (new_app (codes "format")) image_rule) kib_rul
 abbrev pub script_app : App
 script_app = with_rule (new_app (codes "script")) kib_rule
 
+-- `serve IMAGE --port P --conns C [--record]`
+abbrev pub serve_app : App
+serve_app = with_rule (with_rule (with_rule (with_rule (new_app (codes "serve")) image_rule) port_rule) conns_rule) (flag_rule (codes "record"))
+
 -- `norbd` has a version and requires a command
 abbrev pub norbd_alone : App
 norbd_alone = record (new_app (codes "norbd")) {
@@ -48,7 +64,7 @@ norbd_alone = record (new_app (codes "norbd")) {
 
 -- the whole command line
 abbrev pub norbd_app : App
-norbd_app = with_subcommand (with_subcommand (with_subcommand norbd_alone plain_app.top) format_app.top) script_app.top
+norbd_app = with_subcommand (with_subcommand (with_subcommand (with_subcommand norbd_alone plain_app.top) format_app.top) script_app.top) serve_app.top
 
 -- the words as texts
 abbrev pub texts_of : {Z : Type 0} → List (String Z) → List Text

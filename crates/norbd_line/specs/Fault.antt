@@ -5,7 +5,7 @@ use Rattle.norbd_line.specs.Line.{HasOddSize, HasOddSizeIn}
 use Rattle.clap.specs.declared.error.kind.ErrorKind.{ErrorKind}
 use Rattle.clap.specs.declared.error.kind.ErrorKind.TheVariants.{DisplayHelp, DisplayVersion, OutOfMemory}
 use Rattle.norbd_line.specs.declared.fault.Fault.{Fault}
-use Rattle.norbd_line.specs.declared.fault.Fault.TheVariants.{Words, NoMemory, BadSize, InputFailed, OutputFailed, ImageFailed, WrongId, BadSfdp, Protected, Slow, BadRecord, NotFormatted, Corrupt}
+use Rattle.norbd_line.specs.declared.fault.Fault.TheVariants.{Words, NoMemory, BadSize, InputFailed, OutputFailed, ImageFailed, WrongId, BadSfdp, Protected, Slow, BadRecord, NotFormatted, Corrupt, BadImageSize, NoSocket, NoThread}
 
 -- the words asked for help or for the version, so they are no mistake
 abbrev pub AsksForText : ErrorKind → Type 0
@@ -27,6 +27,9 @@ HasStatus Slow status = status ≡ 1
 HasStatus BadRecord status = status ≡ 1
 HasStatus NotFormatted status = status ≡ 1
 HasStatus Corrupt status = status ≡ 1
+HasStatus BadImageSize status = status ≡ 1
+HasStatus NoSocket status = status ≡ 1
+HasStatus NoThread status = status ≡ 1
 
 -- a fault that comes of what was matched of the words of a command: a number that is no size, or want of memory
 abbrev pub ComesFromMatches : Text → List Row → Fault → Type 0
@@ -43,6 +46,9 @@ ComesFromMatches name rows Slow = ⊥
 ComesFromMatches name rows BadRecord = ⊥
 ComesFromMatches name rows NotFormatted = ⊥
 ComesFromMatches name rows Corrupt = ⊥
+ComesFromMatches name rows BadImageSize = ⊥
+ComesFromMatches name rows NoSocket = ⊥
+ComesFromMatches name rows NoThread = ⊥
 
 -- a fault that reading these words may answer: one of those that they have, which isn't want of memory, a number that is no
 -- size, or want of memory
@@ -60,3 +66,6 @@ ComesFromWords words Slow = ⊥
 ComesFromWords words BadRecord = ⊥
 ComesFromWords words NotFormatted = ⊥
 ComesFromWords words Corrupt = ⊥
+ComesFromWords words BadImageSize = ⊥
+ComesFromWords words NoSocket = ⊥
+ComesFromWords words NoThread = ⊥

@@ -1,9 +1,9 @@
-use Rattle.std.specs.Prelude.{ℕ, List, [], Option, Some, codes, option_map, ◌≡◌, ◌≢◌, ◌%◌, ◌≤◌, ◌⊎◌}
+use Rattle.std.specs.Prelude.{ℕ, Bool, true, false, not, List, [], Option, Some, codes, option_map, ◌≡◌, ◌≢◌, ◌%◌, ◌≤◌, ◌⊎◌}
 use Rattle.std.specs.Str.Parse.{digits_value, without_leading_plus}
 use Rattle.clap.specs.Words.{Row, Text, fault_of, first_of, one_of, subcommand_of}
 use Rattle.norbd_line.specs.CommandLine.{norbd_app}
 use Rattle.norbd_line.specs.declared.line.Line.{Line}
-use Rattle.norbd_line.specs.declared.line.Line.TheVariants.{Plain, Format, Script}
+use Rattle.norbd_line.specs.declared.line.Line.TheVariants.{Plain, Format, Script, Serve}
 
 -- a chip's size in KiB: a multiple of 64 from 64 to 16,384
 abbrev pub IsSize : ℕ → Type 0
@@ -13,30 +13,48 @@ IsSize kib = (64 ≤ kib) × (kib ≤ 16384) × (kib % 64 ≡ 0)
 abbrev pub IsOddSize : ℕ → Type 0
 IsOddSize kib = (64 ≤ kib) × (kib ≤ 16384) × (kib % 64 ≢ 0)
 
+-- a port, and a number of connections
+abbrev pub IsPort : ℕ → Type 0
+IsPort port = (1 ≤ port) × (port ≤ 65535)
+
+abbrev pub IsConns : ℕ → Type 0
+IsConns conns = (1 ≤ conns) × (conns ≤ 64)
+
 -- the numbers of a line are in their ranges: a plain disk has from 1 to 65,536 sectors, and a chip, in a file or in memory, a size
 -- of chips
 abbrev pub InRange : Line → Type 0
-InRange (Plain sectors) = (1 ≤ sectors) × (sectors ≤ 65536)
+InRange (Plain sectors keeps_rows) = (1 ≤ sectors) × (sectors ≤ 65536)
 InRange (Format image kib) = IsSize kib
 InRange (Script kib) = IsSize kib
+InRange (Serve image port conns keeps_rows) = IsPort port × IsConns conns
 
--- a fact of the number of a line `plain`
-abbrev pub IfPlain : Line → (ℕ → Type 0) → Type 0
-IfPlain (Plain sectors) p = p sectors
+-- a fact of the number of a line `plain`, and of whether it keeps rows
+abbrev pub IfPlain : Line → (ℕ → Bool → Type 0) → Type 0
+IfPlain (Plain sectors keeps_rows) p = p sectors keeps_rows
 IfPlain (Format image kib) p = Unit {0}
 IfPlain (Script kib) p = Unit {0}
+IfPlain (Serve image port conns keeps_rows) p = Unit {0}
 
 -- a fact of the path and the number of a line `format`
 abbrev pub IfFormat : Line → (Text → ℕ → Type 0) → Type 0
-IfFormat (Plain sectors) p = Unit {0}
+IfFormat (Plain sectors keeps_rows) p = Unit {0}
 IfFormat (Format image kib) p = p image.now kib
 IfFormat (Script kib) p = Unit {0}
+IfFormat (Serve image port conns keeps_rows) p = Unit {0}
 
 -- a fact of the number of a line `script`
 abbrev pub IfScript : Line → (ℕ → Type 0) → Type 0
-IfScript (Plain sectors) p = Unit {0}
+IfScript (Plain sectors keeps_rows) p = Unit {0}
 IfScript (Format image kib) p = Unit {0}
 IfScript (Script kib) p = p kib
+IfScript (Serve image port conns keeps_rows) p = Unit {0}
+
+-- a fact of the port, the number of connections and whether rows are kept, of a line `serve`
+abbrev pub IfServe : Line → (ℕ → ℕ → Bool → Type 0) → Type 0
+IfServe (Plain sectors keeps_rows) p = Unit {0}
+IfServe (Format image kib) p = Unit {0}
+IfServe (Script kib) p = Unit {0}
+IfServe (Serve image port conns keeps_rows) p = p port conns keeps_rows
 
 -- the number that a text writes in decimal digits
 abbrev pub number_of : Text → ℕ
@@ -46,12 +64,21 @@ number_of text = digits_value 10 (without_leading_plus text)
 abbrev pub number_in : Text → List Row → Option ℕ
 number_in name rows = option_map number_of (one_of name rows)
 
+-- whether the flag of this name is among the words of a command
+abbrev pub IsSet : Text → List Row → Bool → Type 0
+IsSet name rows true = first_of name rows ≡ Some (codes "true")
+IsSet name rows false = first_of name rows ≢ Some (codes "true")
+
 -- the line is that of the command of this name, with the numbers and the text of these matches
 abbrev pub IsLineIn : Text → List Row → Line → Type 0
-IsLineIn name rows (Plain sectors) = (name ≡ codes "plain") × (number_in (codes "sectors") rows ≡ Some sectors)
+IsLineIn name rows (Plain sectors keeps_rows) = (name ≡ codes "plain") × (number_in (codes "sectors") rows ≡ Some sectors)
+    × IsSet (codes "no-record") rows (not keeps_rows)
 IsLineIn name rows (Format image kib) = (name ≡ codes "format") × (first_of (codes "IMAGE") rows ≡ Some image.now)
     × (number_in (codes "kib") rows ≡ Some kib)
 IsLineIn name rows (Script kib) = (name ≡ codes "script") × (number_in (codes "kib") rows ≡ Some kib)
+IsLineIn name rows (Serve image port conns keeps_rows) = (name ≡ codes "serve") × (first_of (codes "IMAGE") rows ≡ Some image.now)
+    × (number_in (codes "port") rows ≡ Some port) × (number_in (codes "conns") rows ≡ Some conns)
+    × IsSet (codes "record") rows keeps_rows
 
 -- the commands that take the size of a chip: `format` and `script`
 abbrev pub TakesSize : Text → Type 0

@@ -46,6 +46,15 @@ pub enum Fault {
     /// The chip can't be mounted: what is stored on it is corrupt.
     #[error("corrupt")]
     Corrupt,
+    /// The image's length in bytes is no chip's.
+    #[error("bad image size")]
+    BadImageSize,
+    /// Listening on the port or accepting a connection failed.
+    #[error("no socket")]
+    NoSocket,
+    /// A thread could not be started.
+    #[error("no thread")]
+    NoThread,
 }
 
 impl Fault {
@@ -67,6 +76,9 @@ impl Fault {
             Fault::BadRecord => 1,
             Fault::NotFormatted => 1,
             Fault::Corrupt => 1,
+            Fault::BadImageSize => 1,
+            Fault::NoSocket => 1,
+            Fault::NoThread => 1,
         }
     }
 }

@@ -1,11 +1,11 @@
 //! The line: what the program is asked to do.
 ghost use Rattle.std.specs.Prelude.{◌≡◌, ◌≢◌, ◌≤◌, ◌%◌, ◌⊎◌, IfErr, IfOk, IfSome, IsErrAnd, Some, codes, false, option_map};
 ghost use Rattle.clap.specs.Words.{FailsBy, Text, app_of, fault_of, found_of, kind_of, one_text, rows_of, rule_of};
-ghost use Rattle.clap.specs.Words.{subcommand_of, subcommand_rows_of};
-ghost use Rattle.norbd_line.specs.CommandLine.{image_rule, kib_rule, norbd_app, sectors_rule};
-ghost use Rattle.norbd_line.specs.CommandLine.{texts_of};
+ghost use Rattle.clap.specs.Words.{subcommand_of, subcommand_rows_of, with_subcommand};
+ghost use Rattle.norbd_line.specs.CommandLine.{conns_rule, flag_rule, image_rule, kib_rule, norbd_app, port_rule, sectors_rule};
+ghost use Rattle.norbd_line.specs.CommandLine.{format_app, plain_app, script_app, serve_app, texts_of};
 ghost use Rattle.norbd_line.specs.Fault.{ComesFromMatches, ComesFromWords};
-ghost use Rattle.norbd_line.specs.Line.{HasOddSize, InRange, IsLineIn, IsLineOf, IsSize, TakesSize, number_in, number_of};
+ghost use Rattle.norbd_line.specs.Line.{HasOddSize, InRange, IsLineIn, IsLineOf, IsSet, IsSize, TakesSize, number_in, number_of};
 
 use crate::Fault;
 use clap::error::ErrorKind;
@@ -15,15 +15,23 @@ use std::alloc::Global;
 /// What the program is asked to do. The text of a path is borrowed from the words.
 #[derive(Debug, Clone, Copy, PartialEq, Eq)]
 pub enum Line<'a> {
-    /// `plain --sectors S`: serve one client, from standard input to standard output, a disk of `sectors` sectors of
-    /// 512 bytes in memory, from 1 to 65,536 of them, all zeros at first.
-    Plain { sectors: u32 },
+    /// `plain --sectors S [--no-record]`: serve one client, from standard input to standard output, a disk of `sectors`
+    /// sectors of 512 bytes in memory, from 1 to 65,536 of them, all zeros at first; `record` unless `--no-record` is set.
+    Plain { sectors: u32, record: bool },
     /// `format IMAGE --kib K`: make the file at the path `image` a formatted chip of `kib` KiB, a multiple of 64 from 64 to
     /// 16,384.
     Format { image: &'a str, kib: u32 },
     /// `script --kib K`: run a script of events, from standard input, on a formatted chip in memory of `kib` KiB, a multiple
     /// of 64 from 64 to 16,384, and tell what came of them on standard output.
     Script { kib: u32 },
+    /// `serve IMAGE --port P --conns C [--record]`: serve the chip in the file at the path `image` to `conns` clients, from 1
+    /// to 64, on the port `port` of 127.0.0.1, from 1 to 65,535, and keep a row of each command where `record` is set.
+    Serve {
+        image: &'a str,
+        port: u32,
+        conns: u32,
+        record: bool,
+    },
 }
 
 /// The least number of sectors of a plain disk.
@@ -31,6 +39,12 @@ const LEAST_SECTORS: u32 = 1;
 
 /// The largest number of sectors of a plain disk.
 const MOST_SECTORS: u32 = 65_536;
+
+/// The largest number of a port; the least is 1.
+const MOST_PORT: u32 = 65_535;
+
+/// The largest number of connections; the least is 1.
+const MOST_CONNS: u32 = 64;
 
 /// The least size of a chip, in KiB.
 const LEAST_KIB: u32 = 64;
@@ -69,15 +83,119 @@ fn kib_arg<'a>(alloc: Global) -> Arg<'a>
         .value_parser(value_parser!(u32).range(64..=16384))
 }
 
+/// `--port P`.
+fn port_arg<'a>(alloc: Global) -> Arg<'a>
+    ensures rule { rule_of result ≡ port_rule }
+    ensures local { result.global ≡ false }
+{
+    Arg::new(alloc, "port")
+        .long("port")
+        .value_name("P")
+        .help("The port of 127.0.0.1, from 1 to 65535")
+        .required(true)
+        .action(ArgAction::Set)
+        .value_parser(value_parser!(u32).range(1..=65535))
+}
+
+/// `--conns C`.
+fn conns_arg<'a>(alloc: Global) -> Arg<'a>
+    ensures rule { rule_of result ≡ conns_rule }
+    ensures local { result.global ≡ false }
+{
+    Arg::new(alloc, "conns")
+        .long("conns")
+        .value_name("C")
+        .help("How many connections are served, from 1 to 64")
+        .required(true)
+        .action(ArgAction::Set)
+        .value_parser(value_parser!(u32).range(1..=64))
+}
+
+/// `--record`.
+fn record_arg<'a>(alloc: Global) -> Arg<'a>
+    ensures rule { rule_of result ≡ flag_rule (codes "record") }
+    ensures local { result.global ≡ false }
+{
+    Arg::new(alloc, "record")
+        .long("record")
+        .help("Keeps a row of each command, and tells how many they are")
+        .action(ArgAction::SetTrue)
+}
+
+/// `--no-record`.
+fn no_record_arg<'a>(alloc: Global) -> Arg<'a>
+    ensures rule { rule_of result ≡ flag_rule (codes "no-record") }
+    ensures local { result.global ≡ false }
+{
+    Arg::new(alloc, "no-record")
+        .long("no-record")
+        .help("Keeps no row of a command, so that the memory stays the same")
+        .action(ArgAction::SetTrue)
+}
+
 /// `IMAGE`.
-fn image_arg<'a>(alloc: Global) -> Arg<'a>
+fn image_arg<'a>(alloc: Global, help: &'a str) -> Arg<'a>
     ensures rule { rule_of result ≡ image_rule }
     ensures local { result.global ≡ false }
 {
     Arg::new(alloc, "IMAGE")
-        .help("The file of the chip's bytes; one that is there is replaced")
+        .help(help)
         .required(true)
         .action(ArgAction::Set)
+}
+
+/// A command line with `plain` and its arguments.
+fn with_plain<'a>(alloc: Global, norbd: Command<'a>) -> Result<Command<'a>, clap::Error>
+    ensures app { IfOk result (λ c. app_of c ≡ with_subcommand (app_of norbd.entry) plain_app.top) }
+    ensures memory { IfErr result (λ e. kind_of e ≡ ErrorKind.OutOfMemory) }
+{
+    let plain = Command::new(alloc, "plain")
+        .about("Serves a disk in memory over standard input and output")
+        .arg(sectors_arg(alloc))?
+        .arg(no_record_arg(alloc))?;
+    Ok(norbd.subcommand(plain)?)
+}
+
+/// A command line with `format` and its arguments.
+fn with_format<'a>(alloc: Global, norbd: Command<'a>) -> Result<Command<'a>, clap::Error>
+    ensures app { IfOk result (λ c. app_of c ≡ with_subcommand (app_of norbd.entry) format_app.top) }
+    ensures memory { IfErr result (λ e. kind_of e ≡ ErrorKind.OutOfMemory) }
+{
+    let format = Command::new(alloc, "format")
+        .about("Makes the file of a formatted chip")
+        .arg(image_arg(
+            alloc,
+            "The file of the chip's bytes; one that is there is replaced",
+        ))?
+        .arg(kib_arg(alloc))?;
+    Ok(norbd.subcommand(format)?)
+}
+
+/// A command line with `script` and its arguments.
+fn with_script<'a>(alloc: Global, norbd: Command<'a>) -> Result<Command<'a>, clap::Error>
+    ensures app { IfOk result (λ c. app_of c ≡ with_subcommand (app_of norbd.entry) script_app.top) }
+    ensures memory { IfErr result (λ e. kind_of e ≡ ErrorKind.OutOfMemory) }
+{
+    let script = Command::new(alloc, "script")
+        .about(
+            "Runs a script of events on a formatted chip in memory, from standard input to standard output",
+        )
+        .arg(kib_arg(alloc))?;
+    Ok(norbd.subcommand(script)?)
+}
+
+/// A command line with `serve` and its arguments.
+fn with_serve<'a>(alloc: Global, norbd: Command<'a>) -> Result<Command<'a>, clap::Error>
+    ensures app { IfOk result (λ c. app_of c ≡ with_subcommand (app_of norbd.entry) serve_app.top) }
+    ensures memory { IfErr result (λ e. kind_of e ≡ ErrorKind.OutOfMemory) }
+{
+    let serve = Command::new(alloc, "serve")
+        .about("Serves the chip in an image file to NBD clients on 127.0.0.1")
+        .arg(image_arg(alloc, "The file of the chip's bytes"))?
+        .arg(port_arg(alloc))?
+        .arg(conns_arg(alloc))?
+        .arg(record_arg(alloc))?;
+    Ok(norbd.subcommand(serve)?)
 }
 
 /// The program's whole command line.
@@ -85,28 +203,14 @@ fn whole_command<'a>(alloc: Global) -> Result<Command<'a>, clap::Error>
     ensures app { IfOk result (λ c. app_of c ≡ norbd_app) }
     ensures memory { IfErr result (λ e. kind_of e ≡ ErrorKind.OutOfMemory) }
 {
-    let plain = Command::new(alloc, "plain")
-        .about("Serves a disk in memory over standard input and output")
-        .arg(sectors_arg(alloc))?;
-    let format = Command::new(alloc, "format")
-        .about("Makes the file of a formatted chip")
-        .arg(image_arg(alloc))?
-        .arg(kib_arg(alloc))?;
-    let script = Command::new(alloc, "script")
-        .about(
-            "Runs a script of events on a formatted chip in memory, from standard input to standard output",
-        )
-        .arg(kib_arg(alloc))?;
     let norbd = Command::new(alloc, "norbd")
         .bin_name("norbd")?
         .version("0.1.0")
         .subcommand_required(true);
-    Ok(
-        norbd
-            .subcommand(plain)?
-            .subcommand(format)?
-            .subcommand(script)?,
-    )
+    let norbd = with_plain(alloc, norbd)?;
+    let norbd = with_format(alloc, norbd)?;
+    let norbd = with_script(alloc, norbd)?;
+    with_serve(alloc, norbd)
 }
 
 /// What the command line makes of the words.
@@ -144,6 +248,19 @@ fn number(matches: &ArgMatches<'_>, id: &str, least: u32, most: u32) -> Option<u
     }
 }
 
+/// Whether a flag is among the words.
+fn flag(matches: &ArgMatches<'_>, id: &str) -> bool
+    ensures { IsSet id.now (rows_of (found_of matches.now)) result }
+{
+    let Some(text) = matches.get_str(id) else {
+        return false;
+    };
+    if text == "true" {
+        return true;
+    }
+    false
+}
+
 /// The line of `plain`. The parse refuses words without a number in its range, so the arm `None` isn't reached; it needs
 /// some fault, and answers `NoMemory`.
 fn plain_line<'a>(matches: &ArgMatches<'a>) -> Result<Line<'a>, Fault>
@@ -152,7 +269,10 @@ fn plain_line<'a>(matches: &ArgMatches<'a>) -> Result<Line<'a>, Fault>
     ensures fault { IfErr result (λ e. e ≡ Fault.NoMemory) }
 {
     match number(matches, "sectors", LEAST_SECTORS, MOST_SECTORS) {
-        Some(sectors) => Ok(Line::Plain { sectors }),
+        Some(sectors) => {
+            let record = !flag(matches, "no-record");
+            Ok(Line::Plain { sectors, record })
+        }
         None => Err(Fault::NoMemory),
     }
 }
@@ -198,6 +318,30 @@ fn script_line<'a>(matches: &ArgMatches<'a>) -> Result<Line<'a>, Fault>
     })
 }
 
+/// The line of `serve`. The parse refuses words without a path or a number in its range, so the arms for them answer
+/// `NoMemory`.
+fn serve_line<'a>(matches: &ArgMatches<'a>) -> Result<Line<'a>, Fault>
+    ensures range { IfOk result InRange }
+    ensures line { IfOk result (IsLineIn (codes "serve") (rows_of (found_of matches.now))) }
+    ensures fault { IfErr result (λ e. e ≡ Fault.NoMemory) }
+{
+    let Some(port) = number(matches, "port", 1, MOST_PORT) else {
+        return Err(Fault::NoMemory);
+    };
+    let Some(conns) = number(matches, "conns", 1, MOST_CONNS) else {
+        return Err(Fault::NoMemory);
+    };
+    let Some(image) = matches.get_str("IMAGE") else {
+        return Err(Fault::NoMemory);
+    };
+    Ok(Line::Serve {
+        image,
+        port,
+        conns,
+        record: flag(matches, "record"),
+    })
+}
+
 /// The line of the command of this name. The parse refuses every other name, so the last arm isn't reached.
 fn line_of<'a>(name: &str, matches: &ArgMatches<'a>) -> Result<Line<'a>, Fault>
     ensures range { IfOk result InRange }
@@ -210,6 +354,8 @@ fn line_of<'a>(name: &str, matches: &ArgMatches<'a>) -> Result<Line<'a>, Fault>
         format_line(matches)
     } else if name == "script" {
         script_line(matches)
+    } else if name == "serve" {
+        serve_line(matches)
     } else {
         Err(Fault::NoMemory)
     }

@@ -1,260 +1,316 @@
--- An exchange goes on by one unit, or ends.
-use Rattle.std.proofs.Common.{◌≡◌, ℕ, List, [], ◌∷◌, ◌++◌, ◌-◌, ◌==◌, take, drop, length, Bool, true, refl, arith, sym, ap, ◌∙◌, subst, append_assoc, append-nil, Option}
+-- A connection goes on by one turn, or ends.
+use Rattle.std.proofs.Common.{◌≡◌, ℕ, ◌+◌, ◌*◌, ◌-◌, ◌<◌, ◌≤◌, List, [], ◌∷◌, ◌++◌, length, length-append, take, drop, Bool, true, false, ◌==◌, refl, arith, sym, ap, ◌∙◌, subst, append_assoc, append-nil}
+use Rattle.std.specs.Prelude.{◌||◌}
 use Rattle.std.proofs.lemmas.List.{take_rest, take-append-drop}
 use Rattle.std.proofs.lemmas.Bool.{eqb-true}
 use Rattle.std.specs.Io.KnownBytes.{Appends}
-use Rattle.std.proofs.KnownBytes.{Appends-nil, Appends-trans}
+use Rattle.std.proofs.KnownBytes.{Appends-trans}
 use Rattle.nbd_wire.specs.declared.command.Command.{Command}
 use Rattle.nbd_wire.specs.declared.phase.Phase.{Phase}
-use Rattle.nbd_wire.specs.declared.phase.Phase.TheVariants.{Transmitting, Closed}
-use Rattle.nbd_wire.specs.Units.{IsPartial, IsUnit, Splits, after}
-use Rattle.nbd_wire.proofs.UnitLaws.{Splits_more, Splits_unit, partial_nil}
-use Rattle.nbd_transmission.specs.Taking.{answer_to}
-use Rattle.nbd_transmission.specs.declared.transmission.Next.TheVariants.{Run}
-use Rattle.share.specs.declared.connection.End.{End}
-use Rattle.share.specs.declared.connection.End.TheVariants.{Closed as ClosedEnd, EndOfInput, Input, Output, Lost as LostEnd, OutOfMemory}
+use Rattle.session.specs.Line.{Line, Says, StandsFor, opening, reply_of, room_of}
+use Rattle.session.specs.Parts.{Part, Told, Asked, Last, parts, closes, closed, is_silent, ends_silently}
+use Rattle.session.specs.declared.next.Next.{Next}
+use Rattle.session.specs.declared.next.Next.TheVariants.{More, Reply, Run, Close}
+use Rattle.share.specs.declared.connection.End.TheVariants.{Closed as ClosedEnd, Output, Lost as LostEnd}
 use Rattle.share.specs.declared.connection.Turn.{Turn}
 use Rattle.share.specs.declared.connection.Turn.TheVariants.{Waits, Answered, Closes, OutputFails, Loses}
+use Rattle.share.specs.declared.door.Point.{Point}
 use Rattle.share.specs.declared.shared.Done.{Done}
-use Rattle.share.specs.Exchange.{AnsweredBy, EndsBy, Over, Runs, Taken, TurnedBy, Underway}
-use Rattle.share.specs.Intake.{HoldsRest, Stored}
+use Rattle.share.specs.Connection.{AnsweredBy, CommandTurn, FailsBy, Grows, Over, Runs, TurnedBy, Underway}
+use Rattle.share.specs.Lent.{payload_in}
+use Rattle.share.specs.Places.{PassesMore, Place, Setting, Stand, asks, executions, points_of, reads, setting}
 
--- the same units, at a door and a count that are equal
-runs-at : {S : Type 0} (ex : S → S → ℕ → ℕ → ℕ → Command → List ℕ → Done → Type 0) (keeps : Bool) (n conn : ℕ) (s t u : S) (k m j : ℕ) (us : List (List ℕ)) (out : List ℕ)
-    → u ≡ t → j ≡ m → Runs ex keeps n conn s k us out t m → Runs ex keeps n conn s k us out u j
-runs-at {S = S} ex keeps n conn s t u k m j us out e f r =
-    let P : S → Type 0 = λ v. Runs ex keeps n conn s k us out v j in
-    let Q : ℕ → Type 0 = λ i. Runs ex keeps n conn s k us out t i in
-    subst P (sym e) (subst Q (sym f) r)
+-- ---- lists of points and of parts
 
--- one more unit is answered
-pub runs-more : {S : Type 0} (ex : S → S → ℕ → ℕ → ℕ → Command → List ℕ → Done → Type 0) (keeps : Bool) (n conn : ℕ) (s t u : S) (k m j : ℕ) (us : List (List ℕ)) (unit out more : List ℕ)
-    → Runs ex keeps n conn s k us out t m → AnsweredBy ex keeps conn t u m j unit (answer_to n unit) more
-    → Runs ex keeps n conn s k (us ++ unit ∷ []) (out ++ more) u j
-runs-more {S = S} ex keeps n conn s t u k m j [] unit out more r a =
-    let P : S → Type 0 = λ v. AnsweredBy ex keeps conn v u m j unit (answer_to n unit) more in
-    let Q : ℕ → Type 0 = λ i. AnsweredBy ex keeps conn s u i j unit (answer_to n unit) more in
-    (more, [], u, j, ap (λ (x : List ℕ). x ++ more) r.0 ∙ sym (append-nil more), subst Q r.2 (subst P r.1 a), (refl, refl, refl))
-runs-more ex keeps n conn s t u k m j (x ∷ us) unit out more r a =
-    (r.0, r.1 ++ more, r.2, r.3, ap (λ (y : List ℕ). y ++ more) r.4 ∙ append_assoc r.0 r.1 more, r.5, runs-more ex keeps n conn r.2 t u r.3 m j us unit r.1 more r.6 a)
+pub executions-append : (ps qs : List Point) → executions (ps ++ qs) ≡ executions ps + executions qs
+executions-append [] qs = omega arith
+executions-append (p ∷ ps) qs = let ih = executions-append ps qs in omega (arith, ih)
 
--- nothing has come yet
-pub underway-start : {S : Type 0} (ex : S → S → ℕ → ℕ → ℕ → Command → List ℕ → Done → Type 0) (keeps : Bool) (n conn : ℕ) (s : S) (k : ℕ) (stored : Stored)
-    → HoldsRest stored [] → Underway ex keeps n conn s s k k [] [] stored
-underway-start ex keeps n conn s k stored holds = record { units = []; rest = []; split = (refl, refl, partial_nil Transmitting); runs = (refl, refl, refl); holds = holds }
+pub reads-append : (ps qs : List Point) → reads (ps ++ qs) ≡ reads ps + reads qs
+reads-append [] qs = omega arith
+reads-append (p ∷ ps) qs = let ih = reads-append ps qs in omega (arith, ih)
 
--- more bytes of a unit that isn't complete
-pub underway-waits : {S : Type 0} (ex : S → S → ℕ → ℕ → ℕ → Command → List ℕ → Done → Type 0) (keeps : Bool) (n conn : ℕ) (s t u : S) (k m j : ℕ) (text out x : List ℕ) (stored next : Stored)
-    (w : Underway ex keeps n conn s t k m text out stored) → IsPartial Transmitting (w.rest ++ x) → HoldsRest next (w.rest ++ x) → u ≡ t → j ≡ m
-    → Underway ex keeps n conn s u k j (text ++ x) out next
-underway-waits ex keeps n conn s t u k m j text out x stored next w partial holds e f = record {
-  units = w.units;
-  rest = w.rest ++ x;
-  split = Splits_more Transmitting text x w.units w.rest Transmitting w.split partial;
-  runs = runs-at ex keeps n conn s t u k m j w.units out e f w.runs;
-  holds = holds;
-}
+executions-of : (ps : List Part) → executions (points_of ps) ≡ asks ps
+executions-of [] = refl
+executions-of (Told reply ∷ ps) = executions-of ps
+executions-of (Asked c payload ∷ ps) = let ih = executions-of ps in omega (arith, ih)
+executions-of (Last reply ∷ ps) = executions-of ps
 
--- bytes that complete a unit, which is answered
-pub underway-answered : {S : Type 0} (ex : S → S → ℕ → ℕ → ℕ → Command → List ℕ → Done → Type 0) (keeps : Bool) (n conn : ℕ) (s t u : S) (k m j : ℕ) (text out x more : List ℕ) (stored next : Stored)
-    (w : Underway ex keeps n conn s t k m text out stored) → IsUnit Transmitting (w.rest ++ x) → after Transmitting (w.rest ++ x) ≡ Transmitting → HoldsRest next []
-    → AnsweredBy ex keeps conn t u m j (w.rest ++ x) (answer_to n (w.rest ++ x)) more
-    → Underway ex keeps n conn s u k j (text ++ x) (out ++ more) next
-underway-answered ex keeps n conn s t u k m j text out x more stored next w is_unit stays holds a = record {
-  units = w.units ++ (w.rest ++ x) ∷ [];
-  rest = [];
-  split = subst (λ (p : Phase). Splits Transmitting (text ++ x) (w.units ++ (w.rest ++ x) ∷ []) [] p) stays (Splits_unit Transmitting text x w.units w.rest Transmitting w.split is_unit);
-  runs = runs-more ex keeps n conn s t u k m j w.units (w.rest ++ x) out more w.runs a;
-  holds = holds;
-}
+reads-of : (ps : List Part) → reads (points_of ps) ≡ 0
+reads-of [] = refl
+reads-of (Told reply ∷ ps) = reads-of ps
+reads-of (Asked c payload ∷ ps) = let ih = reads-of ps in omega (arith, ih)
+reads-of (Last reply ∷ ps) = reads-of ps
 
-appends-none : (first old new : Option (List ℕ)) (out : List ℕ) → Appends first old out → Appends old new [] → Appends first new out
-appends-none first old new out one two =
-    subst (λ (y : List ℕ). Appends first new y) (append-nil out) (Appends-trans first old new out [] one two)
+asks-append : (ps qs : List Part) → asks (ps ++ qs) ≡ asks ps + asks qs
+asks-append [] qs = omega arith
+asks-append (Told reply ∷ ps) qs = asks-append ps qs
+asks-append (Asked c payload ∷ ps) qs = let ih = asks-append ps qs in omega (arith, ih)
+asks-append (Last reply ∷ ps) qs = asks-append ps qs
 
--- a unit closes the connection
-pub over-closes : {S : Type 0} (ex : S → S → ℕ → ℕ → ℕ → Command → List ℕ → Done → Type 0) (keeps : Bool) (n conn : ℕ) (s t u : S) (k m j : ℕ) (text out x d all : List ℕ) (stored : Stored) (first old new : Option (List ℕ))
-    (w : Underway ex keeps n conn s t k m text out stored) → IsUnit Transmitting (w.rest ++ x) → after Transmitting (w.rest ++ x) ≡ Closed
-    → AnsweredBy ex keeps conn t u m j (w.rest ++ x) (answer_to n (w.rest ++ x)) [] → all ≡ (text ++ x) ++ d → Appends first old out → Appends old new []
-    → Over ex keeps n conn s u k j all first new ClosedEnd
-over-closes ex keeps n conn s t u k m j text out x d all stored first old new w is_unit shuts a is one two = record {
-  units = w.units ++ (w.rest ++ x) ∷ [];
-  rest = [];
-  dropped = d;
-  phase = Closed;
-  sent = out;
-  unsent = [];
-  cut = text ++ x;
-  mid = u;
-  between = j;
-  text_is = is;
-  split = subst (λ (p : Phase). Splits Transmitting (text ++ x) (w.units ++ (w.rest ++ x) ∷ []) [] p) shuts (Splits_unit Transmitting text x w.units w.rest Transmitting w.split is_unit);
-  runs = runs-more ex keeps n conn s t u k m j w.units (w.rest ++ x) out [] w.runs a;
-  wrote = appends-none first old new out one two;
-  ends = (refl, refl, (refl, refl));
-}
+or_false : (b : Bool) → b ≡ false → (x : Bool) → (b || x) ≡ x
+or_false true e x = cc
+or_false false e x = refl
 
--- a beginning of a unit's answer is written
-pub over-output : {S : Type 0} (ex : S → S → ℕ → ℕ → ℕ → Command → List ℕ → Done → Type 0) (keeps : Bool) (n conn : ℕ) (s t u : S) (k m j : ℕ) (text out x d all sent unsent : List ℕ) (stored : Stored) (first old new : Option (List ℕ))
-    (w : Underway ex keeps n conn s t k m text out stored) → IsUnit Transmitting (w.rest ++ x) → after Transmitting (w.rest ++ x) ≡ Transmitting
-    → AnsweredBy ex keeps conn t u m j (w.rest ++ x) (answer_to n (w.rest ++ x)) (sent ++ unsent) → all ≡ (text ++ x) ++ d → Appends first old out → Appends old new sent
-    → Over ex keeps n conn s u k j all first new Output
-over-output ex keeps n conn s t u k m j text out x d all sent unsent stored first old new w is_unit stays a is one two =
-    let us = w.units ++ (w.rest ++ x) ∷ [] in
-    let P : List ℕ → Type 0 = λ y. Runs ex keeps n conn s k us y u j in
-    record {
-      units = us;
-      rest = [];
-      dropped = d;
-      phase = Transmitting;
-      sent = out ++ sent;
-      unsent = unsent;
-      cut = text ++ x;
-      mid = u;
-      between = j;
-      text_is = is;
-      split = subst (λ (p : Phase). Splits Transmitting (text ++ x) (w.units ++ (w.rest ++ x) ∷ []) [] p) stays (Splits_unit Transmitting text x w.units w.rest Transmitting w.split is_unit);
-      runs = subst P (sym (append_assoc out sent unsent)) (runs-more ex keeps n conn s t u k m j w.units (w.rest ++ x) out (sent ++ unsent) w.runs a);
-      wrote = Appends-trans first old new out sent one two;
-      ends = (refl, (refl, refl));
-    }
+or_open : (b x : Bool) → (b || x) ≡ false → (b ≡ false) × (x ≡ false)
+or_open true x e = cc
+or_open false x e = (refl, e)
 
--- a unit's command is lost
-pub over-lost : {S : Type 0} (ex : S → S → ℕ → ℕ → ℕ → Command → List ℕ → Done → Type 0) (keeps : Bool) (n conn : ℕ) (s t u : S) (k m j : ℕ) (text out x d all : List ℕ) (stored : Stored) (first old new : Option (List ℕ)) (c : Command)
-    (w : Underway ex keeps n conn s t k m text out stored) → IsUnit Transmitting (w.rest ++ x) → answer_to n (w.rest ++ x) ≡ Run c
-    → Taken ex conn t u m j c (drop 28 (w.rest ++ x)) → all ≡ (text ++ x) ++ d → Appends first old out → Appends old new []
-    → Over ex keeps n conn s u k j all first new LostEnd
-over-lost ex keeps n conn s t u k m j text out x d all stored first old new c w is_unit answer taken is one two = record {
-  units = w.units;
-  rest = w.rest;
-  dropped = x ++ d;
-  phase = Transmitting;
-  sent = out;
-  unsent = [];
-  cut = text;
-  mid = t;
-  between = m;
-  text_is = is ∙ append_assoc text x d;
-  split = w.split;
-  runs = subst (λ (y : List ℕ). Runs ex keeps n conn s k w.units y t m) (sym (append-nil out)) w.runs;
-  wrote = appends-none first old new out one two;
-  ends = (refl, refl, record { unit = w.rest ++ x; others = d; command = c; ahead_is = sym (append_assoc w.rest x d); is_unit = is_unit; answer = answer; taken = taken });
-}
+-- behind open parts, others decide
+closed-behind : (ps qs : List Part) → closed ps ≡ false → closed (ps ++ qs) ≡ closed qs
+closed-behind [] qs e = refl
+closed-behind (p ∷ ps) qs e =
+    let both = or_open (closes p) (closed ps) e in
+    ap (λ (x : Bool). closes p || x) (closed-behind ps qs both.1) ∙ or_false (closes p) both.0 (closed qs)
 
--- no more bytes come
-over-still : {S : Type 0} (ex : S → S → ℕ → ℕ → ℕ → Command → List ℕ → Done → Type 0) (keeps : Bool) (n conn : ℕ) (s t : S) (k m : ℕ) (text out : List ℕ) (stored : Stored) (first new : Option (List ℕ)) (end : End)
-    (w : Underway ex keeps n conn s t k m text out stored) → Appends first new out → EndsBy ex n conn t t m m w.units Transmitting [] w.rest [] end → Over ex keeps n conn s t k m text first new end
-over-still ex keeps n conn s t k m text out stored first new end w one ends = record {
-  units = w.units;
-  rest = w.rest;
-  dropped = [];
-  phase = Transmitting;
-  sent = out;
-  unsent = [];
-  cut = text;
-  mid = t;
-  between = m;
-  text_is = sym (append-nil text);
-  split = w.split;
-  runs = subst (λ (y : List ℕ). Runs ex keeps n conn s k w.units y t m) (sym (append-nil out)) w.runs;
-  wrote = one;
-  ends = ends;
-}
+-- a closing part closes, and so where none does none closes without a reply
+silent-closes : (p : Part) → closes p ≡ false → is_silent p ≡ false
+silent-closes (Told reply) e = refl
+silent-closes (Asked c payload) e = refl
+silent-closes (Last reply) e = cc
 
-pub over-input : {S : Type 0} (ex : S → S → ℕ → ℕ → ℕ → Command → List ℕ → Done → Type 0) (keeps : Bool) (n conn : ℕ) (s t : S) (k m : ℕ) (text out : List ℕ) (stored : Stored) (first new : Option (List ℕ))
-    → Underway ex keeps n conn s t k m text out stored → Appends first new out → Over ex keeps n conn s t k m text first new Input
-over-input ex keeps n conn s t k m text out stored first new w one =
-    over-still ex keeps n conn s t k m text out stored first new Input w one (refl, refl, refl, (refl, refl))
+pub open-silent : (ps : List Part) → closed ps ≡ false → ends_silently ps ≡ false
+open-silent [] e = refl
+open-silent (p ∷ ps) e =
+    let both = or_open (closes p) (closed ps) e in
+    or_false (is_silent p) (silent-closes p both.0) (ends_silently ps) ∙ open-silent ps both.1
 
-pub over-end : {S : Type 0} (ex : S → S → ℕ → ℕ → ℕ → Command → List ℕ → Done → Type 0) (keeps : Bool) (n conn : ℕ) (s t : S) (k m : ℕ) (text out : List ℕ) (stored : Stored) (first new : Option (List ℕ))
-    → Underway ex keeps n conn s t k m text out stored → Appends first new out → Over ex keeps n conn s t k m text first new EndOfInput
-over-end ex keeps n conn s t k m text out stored first new w one =
-    over-still ex keeps n conn s t k m text out stored first new EndOfInput w one (refl, refl, refl, (refl, refl))
+-- behind parts that don't close without a reply, others decide
+silent-behind : (ps qs : List Part) → ends_silently ps ≡ false → ends_silently (ps ++ qs) ≡ ends_silently qs
+silent-behind [] qs e = refl
+silent-behind (p ∷ ps) qs e =
+    let both = or_open (is_silent p) (ends_silently ps) e in
+    ap (λ (x : Bool). is_silent p || x) (silent-behind ps qs both.1) ∙ or_false (is_silent p) both.0 (ends_silently qs)
 
--- there was no memory, and nothing was read
-pub over-nothing : {S : Type 0} (ex : S → S → ℕ → ℕ → ℕ → Command → List ℕ → Done → Type 0) (keeps : Bool) (n conn : ℕ) (s : S) (k : ℕ) (old : Option (List ℕ))
-    → Over ex keeps n conn s s k k [] old old OutOfMemory
-over-nothing ex keeps n conn s k old = record {
-  units = [];
-  rest = [];
-  dropped = [];
-  phase = Transmitting;
-  sent = [];
-  unsent = [];
-  cut = [];
-  mid = s;
-  between = k;
-  text_is = refl;
-  split = (refl, refl, partial_nil Transmitting);
-  runs = (refl, refl, refl);
-  wrote = Appends-nil old;
-  ends = (refl, refl, refl, refl, refl, (refl, refl));
-}
+-- a reply that isn't empty
+has-reply : (reply : List ℕ) → 0 < length reply → ends_silently (Last reply ∷ []) ≡ false
+has-reply [] some = absurd (omega (arith, some))
+has-reply (x ∷ xs) some = refl
 
--- ---- a turn, at the connection of the exchange
+some-reply : (reply bytes sent unsent : List ℕ) → bytes ≡ reply → bytes ≡ sent ++ unsent → 0 < length unsent → 0 < length reply
+some-reply reply bytes sent unsent e is some =
+    let n = ap (λ (x : List ℕ). length x) (sym e ∙ is) in
+    omega (arith, n, some, length-append sent unsent)
 
-turned-at : {S : Type 0} (ex : S → S → ℕ → ℕ → ℕ → Command → List ℕ → Done → Type 0) (keeps : Bool) (n conn here : ℕ) (t u : S) (m j : ℕ) (text : List ℕ) (old new : Option (List ℕ)) (next : Stored) (turn as_is : Turn)
-    → here ≡ conn → turn ≡ as_is → TurnedBy ex keeps n here t u m j text old new next turn → TurnedBy ex keeps n conn t u m j text old new next as_is
-turned-at ex keeps n conn here t u m j text old new next turn as_is e f h =
-    let P : ℕ → Type 0 = λ v. TurnedBy ex keeps n v t u m j text old new next turn in
-    let Q : Turn → Type 0 = λ v. TurnedBy ex keeps n conn t u m j text old new next v in
+-- ---- runs
+
+runs-at : {S : Type 0} (step : Place S → Place S → Command → List ℕ → Done → Type 0) (a m b : Place S) (ps : List Part) (out : List ℕ) → m ≡ a → Runs step a ps out b → Runs step m ps out b
+runs-at {S = S} step a m b ps out e r = let P : Place S → Type 0 = λ x. Runs step x ps out b in subst P (sym e) r
+
+-- parts after others
+pub runs-append : {S : Type 0} (step : Place S → Place S → Command → List ℕ → Done → Type 0) (a m b : Place S) (ps qs : List Part) (out more : List ℕ)
+    → Runs step a ps out m → Runs step m qs more b → Runs step a (ps ++ qs) (out ++ more) b
+runs-append {S = S} step a m b [] qs out more r s =
+    let P : Place S → Type 0 = λ x. Runs step x qs more b in
+    let Q : List ℕ → Type 0 = λ x. Runs step a qs x b in
+    subst Q (ap (λ (x : List ℕ). x ++ more) (sym r.0)) (subst P r.1 s)
+runs-append step a m b (p ∷ ps) qs out more r s =
+    (r.0, r.1 ++ more, r.2, ap (λ (y : List ℕ). y ++ more) r.3 ∙ append_assoc r.0 r.1 more, r.4, runs-append step r.2 m b ps qs r.1 more r.5 s)
+
+-- a part alone
+pub runs-one : {S : Type 0} (step : Place S → Place S → Command → List ℕ → Done → Type 0) (a b : Place S) (p : Part) (out : List ℕ) → AnsweredBy step a p out b → Runs step a (p ∷ []) out b
+runs-one step a b p out h = (out, [], b, sym (append-nil out), h, (refl, refl))
+
+-- ---- what one call of the session says
+
+pub says-more : (start : Phase) (n m : ℕ) (old new : List ℕ) (next : Next) (line : Line) → n ≡ m → next ≡ More → Says start n old new next line → Grows (setting start m) old new [] line
+says-more start n m old new next line e f h =
+    let P : ℕ → Type 0 = λ x. Says start x old new next line in
+    let Q : Next → Type 0 = λ x. Says start m old new x line in
+    let s = subst Q f (subst P e h) in
+    (s.0 ∙ sym (append-nil (parts start m old)), s.1)
+
+pub says-reply : (start : Phase) (n m : ℕ) (old new : List ℕ) (next : Next) (line : Line) → n ≡ m → next ≡ Reply → Says start n old new next line → Grows (setting start m) old new (Told (reply_of line) ∷ []) line
+says-reply start n m old new next line e f h =
+    let P : ℕ → Type 0 = λ x. Says start x old new next line in
+    let Q : Next → Type 0 = λ x. Says start m old new x line in
     subst Q f (subst P e h)
 
-pub piece-waits : {S : Type 0} (ex : S → S → ℕ → ℕ → ℕ → Command → List ℕ → Done → Type 0) (keeps : Bool) (n conn here : ℕ) (s t u : S) (k m j : ℕ) (text out taken x : List ℕ) (stored next : Stored) (first old new : Option (List ℕ)) (turn : Turn)
-    → here ≡ conn → turn ≡ Waits → (w : Underway ex keeps n conn s t k m (text ++ taken) out stored) → TurnedBy ex keeps n here t u m j (w.rest ++ x) old new next turn → Appends first old out
-    → Underway ex keeps n conn s u k j (text ++ (taken ++ x)) out next × Appends first new out
-piece-waits {S = S} ex keeps n conn here s t u k m j text out taken x stored next first old new turn e f w h one =
-    let r = turned-at ex keeps n conn here t u m j (w.rest ++ x) old new next turn Waits e f h in
-    let P : List ℕ → Type 0 = λ y. Underway ex keeps n conn s u k j y out next in
-    (subst P (append_assoc text taken x) (underway-waits ex keeps n conn s t u k m j (text ++ taken) out x stored next w r.0 r.1 r.3 r.4), appends-none first old new out one r.2)
+pub says-run : (start : Phase) (n m : ℕ) (old new : List ℕ) (next : Next) (c : Command) (line line' : Line) → n ≡ m → next ≡ Run c → Says start n old new next line → (StandsFor start line new → StandsFor start line' new)
+    → Grows (setting start m) old new (Asked c (payload_in c (room_of line)) ∷ []) line'
+says-run start n m old new next c line line' e f h stands =
+    let P : ℕ → Type 0 = λ x. Says start x old new next line in
+    let Q : Next → Type 0 = λ x. Says start m old new x line in
+    let s = subst Q f (subst P e h) in
+    (s.0, stands s.1)
 
-pub piece-answered : {S : Type 0} (ex : S → S → ℕ → ℕ → ℕ → Command → List ℕ → Done → Type 0) (keeps : Bool) (n conn here : ℕ) (s t u : S) (k m j : ℕ) (text out more taken x : List ℕ) (stored next : Stored) (first old new : Option (List ℕ)) (turn : Turn)
-    → here ≡ conn → turn ≡ Answered → (w : Underway ex keeps n conn s t k m (text ++ taken) (out ++ more) stored) → TurnedBy ex keeps n here t u m j (w.rest ++ x) old new next turn → Appends first old (out ++ more)
-    → (added : List ℕ) × Underway ex keeps n conn s u k j (text ++ (taken ++ x)) (out ++ (more ++ added)) next × Appends first new (out ++ (more ++ added))
-piece-answered {S = S} ex keeps n conn here s t u k m j text out more taken x stored next first old new turn e f w h one =
-    let r = turned-at ex keeps n conn here t u m j (w.rest ++ x) old new next turn Answered e f h in
-    let P : List ℕ → List ℕ → Type 0 = λ y z. Underway ex keeps n conn s u k j y z next × Appends first new z in
-    let both : P ((text ++ taken) ++ x) ((out ++ more) ++ r.0) =
-    (underway-answered ex keeps n conn s t u k m j (text ++ taken) (out ++ more) x r.0 stored next w r.1 r.2 r.3 r.4, Appends-trans first old new (out ++ more) r.0 one r.5) in
-    let Q : List ℕ → Type 0 = λ y. P y (out ++ (more ++ r.0)) in
-    let R : List ℕ → Type 0 = λ z. P ((text ++ taken) ++ x) z in
-    let at : P (text ++ (taken ++ x)) (out ++ (more ++ r.0)) = subst Q (append_assoc text taken x) (subst R (append_assoc out more r.0) both) in
-    (r.0, at.0, at.1)
+pub says-close : (start : Phase) (n m : ℕ) (old new : List ℕ) (next : Next) (line : Line) → n ≡ m → next ≡ Close → Says start n old new next line → Grows (setting start m) old new (Last (reply_of line) ∷ []) line
+says-close start n m old new next line e f h =
+    let P : ℕ → Type 0 = λ x. Says start x old new next line in
+    let Q : Next → Type 0 = λ x. Says start m old new x line in
+    subst Q f (subst P e h)
 
-all_of : (text taken x d piece : List ℕ) → piece ≡ taken ++ (x ++ d) → text ++ piece ≡ ((text ++ taken) ++ x) ++ d
-all_of text taken x d piece is =
-    ap (λ (y : List ℕ). text ++ y) is ∙ sym (append_assoc text taken (x ++ d)) ∙ sym (append_assoc (text ++ taken) x d)
+-- ---- turns
 
-pub piece-closes : {S : Type 0} (ex : S → S → ℕ → ℕ → ℕ → Command → List ℕ → Done → Type 0) (keeps : Bool) (n conn here : ℕ) (s t u : S) (k m j : ℕ) (text out taken x d piece : List ℕ) (stored next : Stored) (first old new : Option (List ℕ)) (turn : Turn)
-    → here ≡ conn → turn ≡ Closes → (w : Underway ex keeps n conn s t k m (text ++ taken) out stored) → TurnedBy ex keeps n here t u m j (w.rest ++ x) old new next turn → Appends first old out → piece ≡ taken ++ (x ++ d)
-    → Over ex keeps n conn s u k j (text ++ piece) first new ClosedEnd
-piece-closes ex keeps n conn here s t u k m j text out taken x d piece stored next first old new turn e f w h one is =
-    let r = turned-at ex keeps n conn here t u m j (w.rest ++ x) old new next turn Closes e f h in
-    over-closes ex keeps n conn s t u k m j (text ++ taken) out x d (text ++ piece) stored first old new w r.0 r.1 r.2 (all_of text taken x d piece is) one r.3
+-- no point was passed
+pub passes-none : {G : Type 0} (passes : G → G → List Point → Type 0) (gate : G) → PassesMore passes gate gate []
+passes-none passes gate first points p = subst (λ (x : List Point). passes first gate x) (sym (append-nil points)) p
 
-pub piece-output : {S : Type 0} (ex : S → S → ℕ → ℕ → ℕ → Command → List ℕ → Done → Type 0) (keeps : Bool) (n conn here : ℕ) (s t u : S) (k m j : ℕ) (text out taken x d piece : List ℕ) (stored next : Stored) (first old new : Option (List ℕ)) (turn : Turn)
-    → here ≡ conn → turn ≡ OutputFails → (w : Underway ex keeps n conn s t k m (text ++ taken) out stored) → TurnedBy ex keeps n here t u m j (w.rest ++ x) old new next turn → Appends first old out → piece ≡ taken ++ (x ++ d)
-    → Over ex keeps n conn s u k j (text ++ piece) first new Output
-piece-output ex keeps n conn here s t u k m j text out taken x d piece stored next first old new turn e f w h one is =
-    let r = turned-at ex keeps n conn here t u m j (w.rest ++ x) old new next turn OutputFails e f h in
-    over-output ex keeps n conn s t u k m j (text ++ taken) out x d (text ++ piece) r.0 r.1 stored first old new w r.2 r.3 r.4 (all_of text taken x d piece is) one r.5
+pub turned-command : {S G : Type 0} (step : Place S → Place S → Command → List ℕ → Done → Type 0) (a b : Stand S G) (c : Command) (payload : List ℕ) (turn : Turn)
+    → CommandTurn step a b c payload turn → TurnedBy step a b (Asked c payload ∷ []) turn
+turned-command step a b c payload Waits h = absurd h
+turned-command step a b c payload Answered h = (h.0, runs-one step a.place b.place (Asked c payload) h.0 h.1, h.2, h.3, refl)
+turned-command step a b c payload Closes h = absurd h
+turned-command step a b c payload OutputFails h = (h.0, h.1, runs-one step a.place b.place (Asked c payload) (h.0 ++ h.1) h.2, h.3, h.4, refl, h.5)
+turned-command step a b c payload Loses h = (c, payload, refl, h.0, h.1, h.2)
 
-pub piece-lost : {S : Type 0} (ex : S → S → ℕ → ℕ → ℕ → Command → List ℕ → Done → Type 0) (keeps : Bool) (n conn here : ℕ) (s t u : S) (k m j : ℕ) (text out taken x d piece : List ℕ) (stored next : Stored) (first old new : Option (List ℕ)) (turn : Turn)
-    → here ≡ conn → turn ≡ Loses → (w : Underway ex keeps n conn s t k m (text ++ taken) out stored) → TurnedBy ex keeps n here t u m j (w.rest ++ x) old new next turn → Appends first old out → piece ≡ taken ++ (x ++ d)
-    → Over ex keeps n conn s u k j (text ++ piece) first new LostEnd
-piece-lost ex keeps n conn here s t u k m j text out taken x d piece stored next first old new turn e f w h one is =
-    let r = turned-at ex keeps n conn here t u m j (w.rest ++ x) old new next turn Loses e f h in
-    over-lost ex keeps n conn s t u k m j (text ++ taken) out x d (text ++ piece) stored first old new r.0 w r.1 r.2 r.3 (all_of text taken x d piece is) one r.4
+pub told-answered : {S G : Type 0} (step : Place S → Place S → Command → List ℕ → Done → Type 0) (a b : Stand S G) (reply bytes : List ℕ) → b.place ≡ a.place → bytes ≡ reply
+    → Appends a.written b.written bytes → b.failures ≡ a.failures → TurnedBy step a b (Told reply ∷ []) Answered
+told-answered step a b reply bytes same e wrote quiet = (bytes, runs-one step a.place b.place (Told reply) bytes (e, same), wrote, quiet, refl)
+
+pub told-fails : {S G : Type 0} (step : Place S → Place S → Command → List ℕ → Done → Type 0) (a b : Stand S G) (reply bytes sent unsent : List ℕ) → b.place ≡ a.place → bytes ≡ reply → bytes ≡ sent ++ unsent
+    → Appends a.written b.written sent → 0 < length unsent → a.failures < b.failures → TurnedBy step a b (Told reply ∷ []) OutputFails
+told-fails step a b reply bytes sent unsent same e is wrote some failed = (sent, unsent, runs-one step a.place b.place (Told reply) (sent ++ unsent) (sym is ∙ e, same), wrote, some, refl, failed)
+
+pub last-closes : {S G : Type 0} (step : Place S → Place S → Command → List ℕ → Done → Type 0) (a b : Stand S G) (reply bytes : List ℕ) → b.place ≡ a.place → bytes ≡ reply
+    → Appends a.written b.written bytes → b.failures ≡ a.failures → TurnedBy step a b (Last reply ∷ []) Closes
+last-closes step a b reply bytes same e wrote quiet = (bytes, runs-one step a.place b.place (Last reply) bytes (e, same), wrote, quiet, refl)
+
+pub last-fails : {S G : Type 0} (step : Place S → Place S → Command → List ℕ → Done → Type 0) (a b : Stand S G) (reply bytes sent unsent : List ℕ) → b.place ≡ a.place → bytes ≡ reply → bytes ≡ sent ++ unsent
+    → Appends a.written b.written sent → 0 < length unsent → a.failures < b.failures → TurnedBy step a b (Last reply ∷ []) OutputFails
+last-fails step a b reply bytes sent unsent same e is wrote some failed =
+    (sent, unsent, runs-one step a.place b.place (Last reply) (sent ++ unsent) (sym is ∙ e, same), wrote, some, has-reply reply (some-reply reply bytes sent unsent e is some), failed)
+
+-- ---- a connection that is underway
+
+-- more parts are answered
+underway-more : {S G : Type 0} (step : Place S → Place S → Command → List ℕ → Done → Type 0) (passes : G → G → List Point → Type 0) (st : Setting) (first a b : Stand S G) (old new : List ℕ) (line next : Line) (added : List Part) (out : List ℕ)
+    → (w : Underway step passes st first a old line) → Grows st old new added next → PassesMore passes a.gate b.gate (points_of added)
+    → Runs step a.place added out b.place → closed added ≡ false → Appends a.written b.written out → b.failures ≡ a.failures
+    → (u : Underway step passes st first b new next) × (reads u.points ≡ reads w.points)
+underway-more step passes st first a b old new line next added out w grows gate runs shut wrote quiet =
+    let had = parts st.start st.sectors old in (
+      record {
+        out = w.out ++ out;
+        points = w.points ++ points_of added;
+        runs = subst (λ (x : List Part). Runs step first.place x (w.out ++ out) b.place) (sym grows.0) (runs-append step first.place a.place b.place had added w.out out w.runs runs);
+        is_open = ap closed grows.0 ∙ closed-behind had added w.is_open ∙ shut;
+        stands = grows.1;
+        wrote = subst (λ (x : List ℕ). Appends first.written b.written x) (append_assoc (opening st.start) w.out out) (Appends-trans first.written a.written b.written (opening st.start ++ w.out) out w.wrote wrote);
+        passed = gate first.gate w.points w.passed;
+        executed = executions-append w.points (points_of added) ∙ omega (arith, w.executed, executions-of added, asks-append had added, ap asks grows.0);
+        quiet = quiet ∙ w.quiet;
+      },
+      reads-append w.points (points_of added) ∙ omega (arith, reads-of added),
+    )
+
+pub underway-waits : {S G : Type 0} (step : Place S → Place S → Command → List ℕ → Done → Type 0) (passes : G → G → List Point → Type 0) (st : Setting) (first a b : Stand S G) (old new : List ℕ) (line next : Line) (added : List Part) (turn : Turn)
+    → turn ≡ Waits → (w : Underway step passes st first a old line) → Grows st old new added next → PassesMore passes a.gate b.gate (points_of added) → TurnedBy step a b added turn
+    → (u : Underway step passes st first b new next) × (reads u.points ≡ reads w.points)
+underway-waits step passes st first a b old new line next added turn e w grows gate does =
+    let T : Turn → Type 0 = λ x. TurnedBy step a b added x in
+    let d = subst T e does in
+    underway-more step passes st first a b old new line next added [] w grows gate
+    (subst (λ (x : List Part). Runs step a.place x [] b.place) (sym d.0) (refl, d.1)) (ap closed d.0) d.2 d.3
+
+pub underway-answered : {S G : Type 0} (step : Place S → Place S → Command → List ℕ → Done → Type 0) (passes : G → G → List Point → Type 0) (st : Setting) (first a b : Stand S G) (old new : List ℕ) (line next : Line) (added : List Part) (turn : Turn)
+    → turn ≡ Answered → (w : Underway step passes st first a old line) → Grows st old new added next → PassesMore passes a.gate b.gate (points_of added) → TurnedBy step a b added turn
+    → (u : Underway step passes st first b new next) × (reads u.points ≡ reads w.points)
+underway-answered step passes st first a b old new line next added turn e w grows gate does =
+    let T : Turn → Type 0 = λ x. TurnedBy step a b added x in
+    let d = subst T e does in
+    underway-more step passes st first a b old new line next added d.0 w grows gate d.1 d.4 d.2 d.3
+
+-- ---- its end
+
+pub over-closes : {S G : Type 0} (step : Place S → Place S → Command → List ℕ → Done → Type 0) (passes : G → G → List Point → Type 0) (st : Setting) (first a b : Stand S G) (old new rest all : List ℕ) (line next : Line) (added : List Part) (turn : Turn)
+    → turn ≡ Closes → (w : Underway step passes st first a old line) → Grows st old new added next → PassesMore passes a.gate b.gate (points_of added) → TurnedBy step a b added turn
+    → all ≡ new ++ rest → length all ≤ 65536 * reads w.points → Over step passes st first b all ClosedEnd × FailsBy ClosedEnd first.failures b.failures
+over-closes step passes st first a b old new rest all line next added turn e w grows gate does is pieces =
+    let T : Turn → Type 0 = λ x. TurnedBy step a b added x in
+    let d = subst T e does in
+    let had = parts st.start st.sectors old in (
+      record {
+        cut = new;
+        dropped = rest;
+        out = w.out ++ d.0;
+        sent = opening st.start ++ (w.out ++ d.0);
+        unsent = [];
+        points = w.points ++ points_of added;
+        last = b.place;
+        text_is = is;
+        runs = subst (λ (x : List Part). Runs step first.place x (w.out ++ d.0) b.place) (sym grows.0) (runs-append step first.place a.place b.place had added w.out d.0 w.runs d.1);
+        out_is = sym (append-nil _);
+        wrote = subst (λ (x : List ℕ). Appends first.written b.written x) (append_assoc (opening st.start) w.out d.0) (Appends-trans first.written a.written b.written (opening st.start ++ w.out) d.0 w.wrote d.2);
+        ends = (ap closed grows.0 ∙ closed-behind had added w.is_open ∙ d.4, refl, refl);
+        passed = gate first.gate w.points w.passed;
+        pieces = omega (arith, pieces, reads-append w.points (points_of added));
+        executed = executions-append w.points (points_of added) ∙ omega (arith, w.executed, executions-of added, asks-append had added, ap asks grows.0);
+      },
+      d.3 ∙ w.quiet,
+    )
+
+pub over-output : {S G : Type 0} (step : Place S → Place S → Command → List ℕ → Done → Type 0) (passes : G → G → List Point → Type 0) (st : Setting) (first a b : Stand S G) (old new rest all : List ℕ) (line next : Line) (added : List Part) (turn : Turn)
+    → turn ≡ OutputFails → (w : Underway step passes st first a old line) → Grows st old new added next → PassesMore passes a.gate b.gate (points_of added) → TurnedBy step a b added turn
+    → all ≡ new ++ rest → length all ≤ 65536 * reads w.points → Over step passes st first b all Output × FailsBy Output first.failures b.failures
+over-output step passes st first a b old new rest all line next added turn e w grows gate does is pieces =
+    let T : Turn → Type 0 = λ x. TurnedBy step a b added x in
+    let d = subst T e does in
+    let had = parts st.start st.sectors old in (
+      record {
+        cut = new;
+        dropped = rest;
+        out = w.out ++ (d.0 ++ d.1);
+        sent = (opening st.start ++ w.out) ++ d.0;
+        unsent = d.1;
+        points = w.points ++ points_of added;
+        last = b.place;
+        text_is = is;
+        runs = subst (λ (x : List Part). Runs step first.place x (w.out ++ (d.0 ++ d.1)) b.place) (sym grows.0) (runs-append step first.place a.place b.place had added w.out (d.0 ++ d.1) w.runs d.2);
+        out_is = sym (append_assoc (opening st.start) w.out (d.0 ++ d.1)) ∙ sym (append_assoc (opening st.start ++ w.out) d.0 d.1);
+        wrote = Appends-trans first.written a.written b.written (opening st.start ++ w.out) d.0 w.wrote d.3;
+        ends = (d.4, ap ends_silently grows.0 ∙ silent-behind had added (open-silent had w.is_open) ∙ d.5, refl);
+        passed = gate first.gate w.points w.passed;
+        pieces = omega (arith, pieces, reads-append w.points (points_of added));
+        executed = executions-append w.points (points_of added) ∙ omega (arith, w.executed, executions-of added, asks-append had added, ap asks grows.0);
+      },
+      omega (arith, d.6, w.quiet),
+    )
+
+pub over-lost : {S G : Type 0} (step : Place S → Place S → Command → List ℕ → Done → Type 0) (passes : G → G → List Point → Type 0) (st : Setting) (first a b : Stand S G) (old x rest all : List ℕ) (line next : Line) (added : List Part) (turn : Turn)
+    → turn ≡ Loses → (w : Underway step passes st first a old line) → Grows st old (old ++ x) added next → PassesMore passes a.gate b.gate (points_of added) → TurnedBy step a b added turn
+    → all ≡ (old ++ x) ++ rest → length all ≤ 65536 * reads w.points → Over step passes st first b all LostEnd × FailsBy LostEnd first.failures b.failures
+over-lost step passes st first a b old x rest all line next added turn e w grows gate does is pieces =
+    let T : Turn → Type 0 = λ x. TurnedBy step a b added x in
+    let d = subst T e does in (
+      record {
+        cut = old;
+        dropped = x ++ rest;
+        out = w.out;
+        sent = opening st.start ++ w.out;
+        unsent = [];
+        points = w.points ++ points_of added;
+        last = a.place;
+        text_is = is ∙ append_assoc old x rest;
+        runs = w.runs;
+        out_is = sym (append-nil _);
+        wrote = subst (λ (y : List ℕ). Appends first.written b.written y) (append-nil _) (Appends-trans first.written a.written b.written (opening st.start ++ w.out) [] w.wrote d.4);
+        ends = (refl, record { unit = x; others = rest; command = d.0; payload = d.1; ahead_is = refl; next = grows.0 ∙ ap (λ (ps : List Part). parts st.start st.sectors old ++ ps) d.2; taken = d.3 });
+        passed = gate first.gate w.points w.passed;
+        pieces = omega (arith, pieces, reads-append w.points (points_of added));
+        executed = executions-append w.points (points_of added) ∙ omega (arith, w.executed, executions-of added, ap asks d.2);
+      },
+      d.5 ∙ w.quiet,
+    )
 
 -- what is left of a piece
 pub left-after : (piece taken rest : List ℕ) (used : ℕ) → piece ≡ taken ++ rest → piece ≡ (taken ++ take used rest) ++ take (length rest - used) (drop used rest)
 left-after piece taken rest used is =
     is ∙ ap (λ (y : List ℕ). taken ++ y) (sym (take-append-drop used rest)) ∙ sym (append_assoc taken (take used rest) (drop used rest)) ∙ ap (λ (y : List ℕ). (taken ++ take used rest) ++ y) (sym (take_rest rest used))
 
-pub split-after : (piece taken rest : List ℕ) (used : ℕ) → piece ≡ taken ++ rest → piece ≡ taken ++ (take used rest ++ drop used rest)
-split-after piece taken rest used is = is ∙ ap (λ (y : List ℕ). taken ++ y) (sym (take-append-drop used rest))
-
 -- all of a piece is taken where nothing is left of it
 pub whole-piece : (piece taken rest : List ℕ) → piece ≡ taken ++ rest → true ≡ (length rest == 0) → taken ≡ piece
 whole-piece piece taken [] is none = sym (is ∙ append-nil taken)
 whole-piece piece taken (x ∷ xs) is none = let h = eqb-true _ _ (sym none) in absurd (omega arith)
+
+-- a text and a piece behind it, by what is taken of the piece
+pub text-after : (text piece taken rest : List ℕ) (used : ℕ) → piece ≡ taken ++ rest → text ++ piece ≡ ((text ++ taken) ++ take used rest) ++ drop used rest
+text-after text piece taken rest used is =
+    ap (λ (y : List ℕ). text ++ y) (is ∙ ap (λ (y : List ℕ). taken ++ y) (sym (take-append-drop used rest))) ∙ sym (append_assoc text taken (take used rest ++ drop used rest)) ∙ sym (append_assoc (text ++ taken) (take used rest) (drop used rest))
+
+-- the same connection, of an equal text
+pub underway-at : {S G : Type 0} (step : Place S → Place S → Command → List ℕ → Done → Type 0) (passes : G → G → List Point → Type 0) (st : Setting) (first a : Stand S G) (text same : List ℕ) (line : Line) (n : ℕ) → text ≡ same
+    → (w : Underway step passes st first a text line) → n ≤ 65536 * reads w.points → (u : Underway step passes st first a same line) × (n ≤ 65536 * reads u.points)
+underway-at step passes st first a text same line n e w pieces =
+    let P : List ℕ → Type 0 = λ x. (u : Underway step passes st first a x line) × (n ≤ 65536 * reads u.points) in
+    subst P e (w, pieces)

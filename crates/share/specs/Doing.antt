@@ -11,6 +11,7 @@ use Rattle.share.specs.declared.shared.Done.{Done}
 use Rattle.share.specs.declared.shared.Done.TheVariants.{Replied, Lost}
 use Rattle.share.specs.History.{interrupted_of, row_of, rows_with}
 use Rattle.share.specs.Lent.{is_read, reply_in}
+use Rattle.share.specs.Seat.{Seat}
 use Rattle.share.specs.State.{Reply, Served}
 
 -- a fact of the answer
@@ -49,22 +50,22 @@ pub record MetSlow (old new : Facts) (command : Command) : Type 0 where
   pub no_cut : (old.cut ≡ false) × (new.cut ≡ false)
 
 -- What an answer says of a command.
-pub record Replies (keeps : Bool) (old new : Served) (connection count count' : ℕ) (command : Command) (bytes : List ℕ) (a : Reply) : Type 0 where
+pub record Replies (keeps : Bool) (old new : Served) (pass pass' : Seat) (command : Command) (bytes : List ℕ) (a : Reply) : Type 0 where
   pub holds : Holds command bytes a
   -- 0 and 5 add exactly one row at the end, with exactly the reply that is handed out
-  pub row : (a.error ≡ 12 → ⊥) → new.rows ≡ rows_with keeps old.rows (row_of connection command a.error a.bytes)
-  pub counts : (a.error ≡ 12 → ⊥) → count' ≡ one_more keeps count
+  pub row : (a.error ≡ 12 → ⊥) → new.rows ≡ rows_with keeps old.rows (row_of pass.connection command a.error a.bytes)
+  pub counts : (a.error ≡ 12 → ⊥) → pass'.count ≡ one_more keeps pass.count
   pub ran : a.error ≡ 0 → Ran old.disk new.disk command bytes a
   pub slow : a.error ≡ 5 → MetSlow old.disk new.disk command
   -- want of memory for a row changes nothing
-  pub memory : a.error ≡ 12 → (new ≡ old) × (count' ≡ count) × (keeps ≡ true) × (a.bytes ≡ bytes)
+  pub memory : a.error ≡ 12 → (new ≡ old) × (pass'.count ≡ pass.count) × (keeps ≡ true) × (a.bytes ≡ bytes)
   pub interrupted : new.interrupted ≡ old.interrupted
   pub lost : (old.lost ≡ false) × (new.lost ≡ false)
 
 -- What a lost command leaves: the disk answered Cut, in this call or in an earlier one.
-pub record Loses (keeps : Bool) (old new : Served) (count count' : ℕ) (command : Command) (bytes : List ℕ) : Type 0 where
+pub record Loses (keeps : Bool) (old new : Served) (pass pass' : Seat) (command : Command) (bytes : List ℕ) : Type 0 where
   pub rows : new.rows ≡ old.rows
-  pub counts : count' ≡ count
+  pub counts : pass'.count ≡ pass.count
   pub stands : new.disk.cut ≡ true
   pub cause : (old.disk.cut ≡ true) ⊎ (old.disk.cuts < new.disk.cuts)
   pub lost : new.lost ≡ true
@@ -74,13 +75,15 @@ pub record Loses (keeps : Bool) (old new : Served) (count count' : ℕ) (command
   pub interrupted : keeps ≡ true → old.lost ≡ false → new.interrupted ≡ Some (interrupted_of command bytes)
 
 -- What `execute` does. `keeps`: rows are kept.
-pub record Executes (keeps : Bool) (old new : Served) (connection count count' : ℕ) (command : Command) (bytes : List ℕ) (done : Done) : Type 0 where
-  pub replied : IfReplied done (Replies keeps old new connection count count' command bytes)
-  pub loses : OnLost done (Loses keeps old new count count' command bytes)
+pub record Executes (keeps : Bool) (old new : Served) (pass pass' : Seat) (command : Command) (bytes : List ℕ) (done : Done) : Type 0 where
+  pub replied : IfReplied done (Replies keeps old new pass pass' command bytes)
+  pub loses : OnLost done (Loses keeps old new pass pass' command bytes)
+  pub connection : pass'.connection ≡ pass.connection
   pub base : new.base ≡ old.base
   pub sound : new.disk.sound ≡ old.disk.sound
   pub goes : Goes old.disk new.disk
   pub given : new.given ≡ old.given
+  pub closed : new.closed ≡ old.closed
   pub no_rows : keeps ≡ false → new.rows ≡ []
   -- after Lost every command is lost at once
   pub stays_lost : old.lost ≡ true → (done ≡ Lost) × (new ≡ old)
@@ -91,6 +94,7 @@ pub record Tidied (old new : Served) (result : Result Bool DiskError) : Type 0 w
   pub base : new.base ≡ old.base
   pub interrupted : new.interrupted ≡ old.interrupted
   pub given : new.given ≡ old.given
+  pub closed : new.closed ≡ old.closed
   pub sound : new.disk.sound ≡ old.disk.sound
   pub goes : Goes old.disk new.disk
   -- false only where nothing is left to tidy, true only where less is left

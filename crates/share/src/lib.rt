@@ -6,22 +6,30 @@
 //! contents, and the contents of a sound disk on which no refusal stands are the replay of the rows.
 //! Where a power loss stands, they are that replay with each sector as it was, or as the lost command
 //! was to make it, and the replay itself where none was lost. `tidy` adds no row, and keeps the
-//! contents also where the power goes in it. `exchange` cuts a connection's bytes into requests,
-//! runs them through any [`Door`] and writes their replies; `exchange_alone` says of a server with
-//! one connection that these are the replies of a plain array of sectors.
-//! Left to the crate above: negotiation, and the lock itself.
-//! Source: NBD proto.md for the replies; rows, passes and ends are our own.
+//! contents also where the power goes in it; `total` is the sum of the passes' counts and the number of
+//! rows. `worker` answers a whole connection and `exchange` one whose negotiation is over: the greeting,
+//! the replies to options and those to the commands that went through a [`Door`], in order. A door is a
+//! `Shared` itself, or `Locked`, which takes the lock of a `Server` for one call. `exchange_alone` and
+//! `worker_alone` say of a server with one connection that these are the replies of a plain array of
+//! sectors. `keeper` tidies after each passing of its gate.
+//! Left to the crate above: sockets and threads.
+//! Source: NBD proto.md for the replies; rows, passes, gates and ends are our own.
 #![tactic(auto)]
 
+mod alone;
 mod connection;
 mod door;
-mod intake;
+mod keeping;
+mod locked;
 mod pass;
 mod recorder;
 mod shared;
 
-pub use connection::{End, exchange, exchange_alone, exchange_plain};
+pub use alone::{exchange_alone, exchange_plain, worker_alone};
+pub use connection::{End, exchange, worker};
 pub use door::{Door, Gate, Point};
+pub use keeping::keeper;
+pub use locked::{Locked, Server};
 pub use pass::{OneServer, Pass};
 pub use recorder::{Bytes, FullRecord, Interrupted, NoRecord, Recorder, Row};
 pub use shared::{Answer, Done, RecordError, Shared};

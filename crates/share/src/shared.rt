@@ -1,4 +1,4 @@
-ghost use Rattle.std.specs.Prelude.{◌≡◌, ◌⊎◌, ℕ, ◌+◌, ◌*◌, ◌/◌, ◌%◌, ◌<◌, ◌≤◌, ◌^◌, ◌↔◌, List, [], ◌∷◌, ◌++◌, length, Bool, true, false, Option, Some, None, IfSome, IfNone, IsSome, OnSome, IfOk, IfErr, OnOk, OnErr, IsErrOf, MatchResult, vec_len};
+ghost use Rattle.std.specs.Prelude.{◌≡◌, ◌⊎◌, ℕ, ◌+◌, ◌*◌, ◌/◌, ◌%◌, ◌<◌, ◌≤◌, ◌^◌, ◌↔◌, List, [], ◌∷◌, ◌++◌, length, Bool, true, false, Option, Some, None, IfSome, IfNone, IsSome, OnSome, IfOk, IfErr, OnOk, OnErr, IsErrOf, MatchResult, vec_len, sum_by};
 ghost use Rattle.block_device.specs.Contents.{Outcome};
 ghost use Rattle.block_device.specs.Facts.{Facts, Goes, Tidies};
 ghost use Rattle.nbd_wire.specs.Commands.{judge_of, moves_data};
@@ -106,11 +106,13 @@ impl<D: Disk, R: Recorder, L: OneServer> Model for Shared<D, R, L> {
       rows = R.rows s.recorder;
       interrupted = R.interrupted s.recorder;
       given = s.counts.given;
+      closed = s.counts.closed;
       lost = s.lost;
     } };
 
     ghost invariant = { λ s. record {
       sectors : length (D.facts s.disk).contents ≡ 512 * L.sectors;
+      parts : L.parts ≡ 65537;
       counted : s.counts.book.total ≡ length (R.rows s.recorder);
       fits : length (R.rows s.recorder) < 2 ^ 64;
       lost : s.lost ≡ true → (D.facts s.disk).cut ≡ true;
@@ -127,7 +129,7 @@ impl<D: Disk, L: OneServer> Shared<D, NoRecord, L> {
         requires parts { (blank.parts ≡ L.parts) × (blank.parts ≡ 65537) }
         ensures disk { result.disk ≡ D.facts disk }
         ensures rows { (result.rows ≡ []) × (result.interrupted ≡ None) }
-        ensures given { result.given ≡ 0 }
+        ensures given { (result.given ≡ 0) × (result.closed ≡ false) }
         ensures lost { result.lost ≡ false }
     {
         Shared {
@@ -141,7 +143,8 @@ impl<D: Disk, L: OneServer> Shared<D, NoRecord, L> {
 
 impl<D: Disk, L: OneServer> Shared<D, FullRecord, L> {
     /// A server that keeps its rows, with the disk's contents as their base. `blank` has 65,537 parts.
-    /// Cut and Slow come from reading the disk; each error hands the disk back.
+    /// Cut and Slow come from reading the disk; each error hands the disk back, of the same size, and sound
+    /// where it was. Cut leaves the contents, OutOfMemory all of the disk.
     pub fn recording(
         alloc: Global,
         disk: D,
@@ -153,11 +156,13 @@ impl<D: Disk, L: OneServer> Shared<D, FullRecord, L> {
         ensures base { IfOk result (λ s. (D.facts disk).sound ≡ true → (s.base ≡ (D.facts disk).contents) × (s.disk.contents ≡ (D.facts disk).contents)) }
         ensures disk { IfOk result (λ s. (s.disk.sound ≡ (D.facts disk).sound) × (s.disk.cut ≡ false) × (s.disk.slow ≡ false) × Goes (D.facts disk) s.disk) }
         ensures rows { IfOk result (λ s. (s.rows ≡ []) × (s.interrupted ≡ None)) }
-        ensures given { IfOk result (λ s. s.given ≡ 0) }
+        ensures given { IfOk result (λ s. (s.given ≡ 0) × (s.closed ≡ false)) }
         ensures lost { IfOk result (λ s. s.lost ≡ false) }
         ensures cut { IfErr result (λ e. e.0 ≡ RecordError.Cut → ((D.facts e.1).cut ≡ true) × (((D.facts disk).cut ≡ true) ⊎ ((D.facts disk).cuts < (D.facts e.1).cuts))) }
         ensures slow { IfErr result (λ e. e.0 ≡ RecordError.Slow → ((D.facts e.1).slow ≡ true) × (((D.facts disk).slow ≡ true) ⊎ ((D.facts disk).slows < (D.facts e.1).slows))) }
         ensures memory { IfErr result (λ e. e.0 ≡ RecordError.OutOfMemory → e.1 ≡ disk) }
+        ensures back { IfErr result (λ e. Goes (D.facts disk) (D.facts e.1) × ((D.facts e.1).sound ≡ (D.facts disk).sound)) }
+        ensures kept { IfErr result (λ e. e.0 ≡ RecordError.Cut → (D.facts disk).sound ≡ true → (D.facts e.1).contents ≡ (D.facts disk).contents) }
     {
         let mut disk = disk;
         let size = SECTOR_LEN as usize * disk.sectors() as usize;
@@ -191,8 +196,7 @@ impl<D: Disk, R: Recorder, L: OneServer> Shared<D, R, L> {
     ) -> Done<'a>
         requires accepted { judge_of command.now L.sectors ≡ None }
         requires lent { length «data».old ≡ lent_len command.now }
-        ensures executes { Executes R.KEEPS self.old self.new pass.old.connection pass.old.count pass.new.count command.now «data».old result }
-        ensures connection { pass.new.connection ≡ pass.old.connection }
+        ensures executes { Executes R.KEEPS self.old self.new pass.old pass.new command.now «data».old result }
     {
         let Shared {
             disk,
@@ -242,15 +246,29 @@ impl<D: Disk, R: Recorder, L: OneServer> Shared<D, R, L> {
         &self.disk
     }
 
-    /// The pass with the next number: 0, 1, 2 and so on to 65,535, each once; then None.
+    /// The pass with the next number: 0, 1, 2 and so on to 65,535, each once; then None, and also once
+    /// `total` answered Some.
     pub fn pass(&mut self) -> Option<Pass<L>>
         ensures next { IfSome result (λ p. (p.connection ≡ self.old.given) × (p.count ≡ 0)) }
-        ensures some { IsSome result ↔ (self.old.given < 65536) }
+        ensures some { IsSome result ↔ ((self.old.closed ≡ false) × (self.old.given < 65536)) }
         ensures given { OnSome result (self.new ≡ record self.old { given = self.old.given + 1 }) }
         ensures none { IfNone result (self.new ≡ self.old) }
     {
         let sectors = self.disk.sectors();
         self.counts.pass(sectors)
+    }
+
+    /// How many rows were added: the sum of the counts of the passes, exactly where every pass that was
+    /// given is handed in. From then on `pass` and `total` answer None. None drops the passes, and changes
+    /// nothing else.
+    pub fn total(&mut self, passes: Vec<Pass<L>>) -> Option<u64>
+        ensures some { IsSome result ↔ ((self.old.closed ≡ false) × (vec_len passes ≡ self.old.given)) }
+        ensures sum { IfSome result (λ n. n ≡ sum_by (λ p. p.count) passes.items) }
+        ensures rows { IfSome result (λ n. n ≡ length self.old.rows) }
+        ensures closed { OnSome result (self.new ≡ record self.old { closed = true }) }
+        ensures none { IfNone result (self.new ≡ self.old) }
+    {
+        self.counts.total(passes)
     }
 }
 
@@ -286,7 +304,7 @@ fn note<R: Recorder, L: OneServer>(
     ensures interrupted { R.interrupted recorder.new ≡ R.interrupted recorder.old }
     ensures counted { counts.new.book.total ≡ length (R.rows recorder.new) }
     ensures fits { length (R.rows recorder.old) < 2 ^ 64 → length (R.rows recorder.new) < 2 ^ 64 }
-    ensures given { counts.new.given ≡ counts.old.given }
+    ensures given { (counts.new.given ≡ counts.old.given) × (counts.new.closed ≡ counts.old.closed) }
     ensures count { pass.new.count ≡ one_more R.KEEPS pass.old.count }
     ensures connection { pass.new.connection ≡ pass.old.connection }
 {

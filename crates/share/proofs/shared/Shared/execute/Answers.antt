@@ -14,6 +14,7 @@ invariant_of-self-in-Ok g c =
     let D = g.D.Disk in let R = g.R.Recorder in
     record {
       sectors = r.goes.size ∙ inv.sectors;
+      parts = inv.parts;
       counted = n.counted;
       fits = n.fits (rw p.rows inv.fits);
       lost = λ l. absurd (both_ways _ c.if-lost.false l);
@@ -33,6 +34,7 @@ invariant_of-self-in-Err-Slow g c =
     let s = r.slow (ap (λ (x : DiskError). Err x) c.in-Err-Slow.field-0-is) in
     record {
       sectors = r.goes.size ∙ inv.sectors;
+      parts = inv.parts;
       counted = n.counted;
       fits = n.fits (rw p.rows inv.fits);
       lost = λ l. absurd (both_ways _ c.if-lost.false l);
@@ -54,6 +56,7 @@ invariant_of-self-in-Err-Cut g c =
     let had : R.KEEPS ≡ true → (D.facts was.disk).cut ≡ false = λ k. has_power _ _ (inv.stands k) c.if-lost.false in
     record {
       sectors = r.goes.size ∙ inv.sectors;
+      parts = inv.parts;
       counted = inv.counted ∙ sym (ap (λ (rows : List Row). length rows) (i.rows ∙ p.rows));
       fits = rw (i.rows, p.rows) inv.fits;
       lost = λ _. s.1;
@@ -65,36 +68,40 @@ invariant_of-self-in-Err-Cut g c =
           p.base i.base p.rows i.rows i.interrupted;
     }
 
-pub returns-in-Err-Cut-clause-executes : goal.returns-in-Err-Cut-clause-executes
-returns-in-Err-Cut-clause-executes g c =
+pub returns-in-Err-Cut : goal.returns-in-Err-Cut
+returns-in-Err-Cut g c =
     let p = c.prepare.ensures in let r = c.in-Err-Cut.ensures in let i = c.interrupt.ensures in
     let R = g.R.Recorder in
     let e = ap (λ (x : DiskError). Err x) c.in-Err-Cut.field-0-is in
     let s = r.cut e in
     rw (← c.self.view_is) record {
-      replied = tt;
-      loses = record {
-        rows = i.rows ∙ p.rows;
-        counts = refl {a = c.args.pass.now.count};
-        stands = s.1;
-        cause = elim s.0 [ inl stood ↦ inl stood | inr came ↦ inr came.1 ];
-        lost = refl;
-        left = r.left e;
-        interrupted = λ k _. i.interrupted k ∙ ap (λ (x : Interrupted). Some x) (interrupted-same c.args.command.now c.args.data.now c.run.new.bytes r.kept);
+      executes = record {
+        replied = tt;
+        loses = record {
+          rows = i.rows ∙ p.rows;
+          counts = refl {a = c.args.pass.now.count};
+          stands = s.1;
+          cause = elim s.0 [ inl stood ↦ inl stood | inr came ↦ inr came.1 ];
+          lost = refl;
+          left = r.left e;
+          interrupted = λ k _. i.interrupted k ∙ ap (λ (x : Interrupted). Some x) (interrupted-same c.args.command.now c.args.data.now c.run.new.bytes r.kept);
+        };
+        connection = refl {a = c.args.pass.now.connection};
+        base = i.base ∙ p.base;
+        sound = r.sound;
+        goes = r.goes;
+        given = refl {a = c.self.inside.counts.given};
+        closed = refl {a = c.self.inside.counts.closed};
+        no_rows = g.met.R.Recorder.nothing c.interrupt.new.self;
+        stays_lost = λ l. absurd (both_ways _ c.if-lost.false l);
       };
-      base = i.base ∙ p.base;
-      sound = r.sound;
-      goes = r.goes;
-      given = refl {a = c.self.inside.counts.given};
-      no_rows = g.met.R.Recorder.nothing c.interrupt.new.self;
-      stays_lost = λ l. absurd (both_ways _ c.if-lost.false l);
     }
 
-pub returns-then-is_err-clause-executes : goal.returns-then-is_err-clause-executes
-returns-then-is_err-clause-executes g c = search rules
+pub returns-then-is_err : goal.returns-then-is_err
+returns-then-is_err g c = search rules
 
-pub returns-in-Ok-clause-executes : goal.returns-in-Ok-clause-executes
-returns-in-Ok-clause-executes g c = search rules
+pub returns-in-Ok : goal.returns-in-Ok
+returns-in-Ok g c = search rules
 
-pub returns-in-Err-Slow-clause-executes : goal.returns-in-Err-Slow-clause-executes
-returns-in-Err-Slow-clause-executes g c = search rules
+pub returns-in-Err-Slow : goal.returns-in-Err-Slow
+returns-in-Err-Slow g c = search rules
