@@ -17,6 +17,7 @@ impl Cells {
         requires running { is_idle (operation_of self.old.operation) ≡ false }
         ensures done { Polls (chip_in self.old) recv.new (chip_in self.new) }
         ensures exact { self.old.slows + 1 < 2 ^ 64 → chip_in self.new ≡ polled self.old.stuck (chip_in self.old) }
+        ensures prompt { self.old.stuck ≡ false → chip_in self.new ≡ polled false (chip_in self.old) }
         ensures pace { pace_in self.new ≡ pace_in self.old }
         ensures cuts { self.new.cuts ≡ self.old.cuts }
         ensures slows { self.new.slows ≡ self.old.slows + newly_slow (chip_in self.old) (chip_in self.new) }
@@ -43,6 +44,7 @@ impl Cells {
     pub fn take(&mut self, send: &[u8], recv: &mut [u8]) -> bool
         ensures frame { Frame (chip_in self.old) send.now recv.new (chip_in self.new) }
         ensures exact { self.old.slows + 1 < 2 ^ 64 → chip_in self.new ≡ after_frame self.old.stuck (chip_in self.old) send.now }
+        ensures prompt { self.old.stuck ≡ false → chip_in self.new ≡ after_frame false (chip_in self.old) send.now }
         ensures accepted { result ≡ is_accepted (chip_in self.old) send.now }
         ensures pace { pace_in self.new ≡ paced (pace_in self.old) result }
         ensures cuts { self.new.cuts ≡ self.old.cuts }

@@ -1,27 +1,32 @@
 // A chip whose memory is kept in a file.
-ghost use Rattle.std.specs.Prelude.{◌≡◌, IfOk, length};
+ghost use Rattle.std.specs.Prelude.{◌^◌, ◌≡◌, ◌+◌, ◌<◌, IfOk, IsErr, IsOk, None, OnErr, OnOk, false, length, true};
 ghost use Rattle.chip_model.specs.Geometry.{IsChipSize};
+ghost use Rattle.fault_model.specs.Sim.{pace_in};
 
 use crate::cells::Cells;
 use crate::error::SimError;
 use chip_model::{PowerLost, SpiBus};
 use std::fs::{OpenFile, OpenOptions};
-use std::io::{Read, Seek, SeekFrom, Write};
+use std::io::{Read, Seek, Write};
+use std::os::unix::fs::FileExt;
 use std::path::AsPath;
 use std::rt::Files;
 
-/// A chip in memory whose completed programs and erases are written to a file.
+/// A chip in memory whose completed programs and erases are written to a file, on which no operation is ever slow.
 ///
-/// A fault of the file is a loss of power, after which the power can't be turned on again.
+/// Before a frame is answered in which an operation completed, one positioned write has handed its page or unit to the system;
+/// no other frame touches the file. A fault of the file is a loss of power, after which the power can't be turned on again.
 #[derive(Drop)]
 pub struct ImageBus<F> {
     cells: Cells,
     file: F,
+    /// Whether the file failed.
     broken: bool,
+    ghost prompt: { pace_in cells ≡ record { next = false; stuck = false } },
 }
 
 impl<F: Read + Write + Seek + OpenFile + Drop> ImageBus<F> {
-    ghost use Rattle.fault_model.specs.Image.{image_chip, image_cuts, image_slows};
+    ghost use Rattle.fault_model.specs.Image.{image_broken, image_chip, image_cuts};
     ghost use Rattle.fault_model.specs.Sim.{fresh_chip};
 
     /// The chip of the file at this path, with the power on: `BadSize` where no chip has so many bytes, `OutOfMemory` where
@@ -33,7 +38,7 @@ impl<F: Read + Write + Seek + OpenFile + Drop> ImageBus<F> {
         ensures size { IfOk result (λ b. IsChipSize (length (image_chip b).memory)) }
         ensures chip { IfOk result (λ b. image_chip b ≡ fresh_chip (image_chip b).memory) }
         ensures cuts { IfOk result (λ b. image_cuts b ≡ 0) }
-        ensures slows { IfOk result (λ b. image_slows b ≡ 0) }
+        ensures sound { IfOk result (λ b. image_broken b ≡ false) }
     {
         let Ok(mut file) = OpenOptions::new().read(true).write(true).open(rt, path) else {
             return Err(SimError::File);
@@ -60,10 +65,14 @@ impl<F: Read + Write + Seek + OpenFile + Drop> ImageBus<F> {
     }
 }
 
-impl<F: Write + Seek + Drop> ImageBus<F> {
+impl<F: FileExt + Drop> ImageBus<F> {
+    ghost use Rattle.chip_model.specs.Chip.{is_idle};
+    ghost use Rattle.fault_model.specs.Fits.{operation_of};
+
     /// Writes the places of a completed operation to the file, where there are any, and whether that went well.
-    fn saves(&mut self, span: Option<(u32, u32)>) -> bool
-        ensures cells { self.new.cells ≡ self.old.cells }
+    fn saves(&self, span: Option<(u32, u32)>) -> bool
+        ensures none { span ≡ None → result ≡ true }
+        ensures running { is_idle (operation_of self.now.cells.operation) ≡ false → result ≡ true }
     {
         let Some((at, size)) = span else {
             return true;
@@ -71,33 +80,51 @@ impl<F: Write + Seek + Drop> ImageBus<F> {
         if !self.cells.is_idle() {
             return true;
         }
-        let cells = &self.cells;
         let from = at as usize;
-        let Some(part) = cells.memory.get(from..from + size as usize) else {
+        let Some(part) = self.cells.memory.get(from..from + size as usize) else {
             return true;
         };
-        let file = &mut self.file;
-        file.seek(SeekFrom::Start(at as u64)).is_ok() && file.write_all(part).is_ok()
+        self.file.write_all_at(part, at as u64).is_ok()
     }
 }
 
-impl<F: Write + Seek + Drop> SpiBus for ImageBus<F> {
-    ghost use Rattle.fault_model.specs.Sim.{chip_in};
+impl<F: FileExt + Drop> SpiBus for ImageBus<F> {
+    ghost use Rattle.chip_model.specs.Cut.{Loses, PowersOn, with_power};
+    ghost use Rattle.chip_model.specs.Frames.{Frame, newly_slow};
+    ghost use Rattle.fault_model.specs.Image.{image_broken, image_chip, image_cuts, image_slows, is_saved, writes_memory};
     ghost use Rattle.fault_model.specs.Lawful.{lawful_cells};
+    ghost use Rattle.fault_model.specs.Mask.{torn_by};
+    ghost use Rattle.fault_model.specs.Simulated.{after_frame};
 
-    ghost chip = { λ b. chip_in b.cells };
+    ghost chip = { image_chip };
 
-    ghost cuts = { λ b. b.cells.cuts };
+    ghost cuts = { image_cuts };
 
-    ghost slows = { λ b. b.cells.slows };
+    ghost slows = { image_slows };
 
     ghost lawful = { λ b. lawful_cells b.cells };
 
-    fn transact(&mut self, send: &[u8], recv: &mut [u8]) -> Result<(), PowerLost> {
+    fn transact(&mut self, send: &[u8], recv: &mut [u8]) -> Result<(), PowerLost>
+        ensures powered { OnOk result ((image_chip self.old).powered ≡ true) }
+        ensures frame { OnOk result (Frame (image_chip self.old) send.now recv.new (image_chip self.new)) }
+        ensures cuts_ok { OnOk result (image_cuts self.new ≡ image_cuts self.old) }
+        ensures slows_ok { OnOk result (image_slows self.new ≡ image_slows self.old + newly_slow (image_chip self.old) (image_chip self.new)) }
+        ensures lost { OnErr result (Loses (image_chip self.old) (image_cuts self.old) send.now (image_chip self.new) (image_cuts self.new)) }
+        ensures slows_err { OnErr result (image_slows self.new ≡ image_slows self.old) }
+
+        // A frame is lost only where it writes to the file, or the power is off.
+        ensures spared { (image_chip self.old).powered ≡ true → is_saved (image_chip self.old) send.now ≡ false → IsOk result }
+        ensures sound { OnOk result (image_broken self.new ≡ image_broken self.old) }
+        ensures broken { OnErr result ((image_chip self.old).powered ≡ true → image_broken self.new ≡ true) }
+
+        // What it leaves: all of its effect, and where the file failed no power.
+        ensures whole { OnOk result (image_chip self.new ≡ after_frame false (image_chip self.old) send.now) }
+        ensures failed { OnErr result ((image_chip self.old).powered ≡ true → image_chip self.new ≡ torn_by 255 (after_frame false (image_chip self.old) send.now)) }
+        ensures off { OnErr result ((image_chip self.old).powered ≡ false → image_broken self.new ≡ image_broken self.old) }
+    {
         if !self.cells.powered {
             return Err(PowerLost);
         }
-        let slows = self.cells.slows;
         let span = self.cells.span();
         let _accepted = self.cells.take(send, recv);
         if self.saves(span) {
@@ -108,12 +135,21 @@ impl<F: Write + Seek + Drop> SpiBus for ImageBus<F> {
         }
         self.broken = true;
         self.cells.turn_off(0xFF);
-        self.cells.slows = slows;
         self.cells.cuts += 1;
         Err(PowerLost)
     }
 
-    fn power_on(&mut self) {
+    fn power_on(&mut self)
+        ensures powers_on { PowersOn (image_chip self.old) (image_cuts self.old) (image_chip self.new) (image_cuts self.new) }
+        ensures slows { image_slows self.new ≡ image_slows self.old }
+
+        // An operation in progress completes. Once the file has failed, here or before, the power stays off, and that counts.
+        ensures on { image_broken self.new ≡ false → (image_chip self.new ≡ with_power (torn_by 255 (image_chip self.old))) × (image_cuts self.new ≡ image_cuts self.old) }
+        ensures off { image_broken self.new ≡ true → image_cuts self.old + 1 < 2 ^ 64
+            → (image_chip self.new ≡ torn_by 255 (image_chip self.old)) × (image_cuts self.new ≡ image_cuts self.old + 1) }
+        ensures broken { image_broken self.old ≡ true → image_broken self.new ≡ true }
+        ensures sound { image_broken self.old ≡ false → writes_memory (image_chip self.old).operation ≡ false → image_broken self.new ≡ false }
+    {
         let span = self.cells.span();
         self.cells.turn_off(0xFF);
         if !self.saves(span) {
@@ -126,12 +162,18 @@ impl<F: Write + Seek + Drop> SpiBus for ImageBus<F> {
         self.cells.powered = true;
     }
 
-    fn arm(&mut self, _count: u32, _kind: u8, _mask: u8) {}
+    fn arm(&mut self, _count: u32, _kind: u8, _mask: u8)
+        ensures chip { image_chip self.new ≡ image_chip self.old }
+        ensures cuts { image_cuts self.new ≡ image_cuts self.old }
+        ensures slows { image_slows self.new ≡ image_slows self.old }
+        ensures broken { image_broken self.new ≡ image_broken self.old }
+    {}
 }
 
 #[cfg(test)]
 mod tests {
     use super::*;
+    use std::fs::File;
     use std::test::*;
     use std::{fs, io};
 
@@ -139,19 +181,13 @@ mod tests {
     #[derive(Drop)]
     struct Full;
 
-    impl Write for Full {
-        fn write(&mut self, _buf: &[u8]) -> io::Result<usize> {
-            Err(io::Error::from(io::ErrorKind::StorageFull))
-        }
-
-        fn flush(&mut self) -> io::Result<()> {
-            Ok(())
-        }
-    }
-
-    impl Seek for Full {
-        fn seek(&mut self, _to: SeekFrom) -> io::Result<u64> {
+    impl FileExt for Full {
+        fn read_at(&self, _buf: &mut [u8], _offset: u64) -> io::Result<usize> {
             Ok(0)
+        }
+
+        fn write_at(&self, _buf: &[u8], _offset: u64) -> io::Result<usize> {
+            Err(io::Error::from(io::ErrorKind::StorageFull))
         }
     }
 
@@ -160,12 +196,17 @@ mod tests {
         bus.transact(frame, &mut [0]).is_ok()
     }
 
+    /// A bus over a new file of so many bytes 77h.
+    fn image_of(rt: HostRuntime, path: &str, size: usize) -> Result<ImageBus<File>, Fail> {
+        let mut bytes = Vec::new(rt.alloc());
+        bytes.resize(size, 0x77)?;
+        fs::write(&rt, path, bytes.as_slice())?;
+        Ok(ImageBus::open(&rt, path)?)
+    }
+
     #[test]
     fn the_file_follows_programs_and_erases(rt: HostRuntime) -> Result<(), Fail> {
-        let mut bytes = Vec::new(rt.alloc());
-        bytes.resize(65_536, 0x77)?;
-        fs::write(&rt, "follows.img", bytes.as_slice())?;
-        let mut bus = ImageBus::open(&rt, "follows.img")?;
+        let mut bus = image_of(rt, "follows.img", 65_536)?;
         let frames: [&[u8]; 13] = [
             &[0x06],
             &[0x02, 0x00, 0x12, 0xFF, 0x70, 0x07],
@@ -199,6 +240,59 @@ mod tests {
             assert_eq!(rt; *byte, expected, "at {place}");
         }
         fs::remove_file(&rt, "follows.img")?;
+        Ok(())
+    }
+
+    #[test]
+    fn the_file_follows_erases_of_64_kib(rt: HostRuntime) -> Result<(), Fail> {
+        let mut bus = image_of(rt, "large.img", 196_608)?;
+        for frame in [&[0x06][..], &[0xD8, 0x01, 0x80, 0x00], &[0x05], &[0x05]] {
+            assert!(rt; send(&mut bus, frame));
+        }
+        let file = fs::read(&rt, "large.img")?;
+        assert_eq!(rt; file.len(), 196_608);
+        for (place, byte) in file.iter().enumerate() {
+            let erased = place >= 0x10000 && place < 0x20000;
+            assert_eq!(rt; *byte, if erased { 0xFF } else { 0x77 }, "at {place}");
+        }
+        fs::remove_file(&rt, "large.img")?;
+        Ok(())
+    }
+
+    #[test]
+    fn power_that_comes_again_saves_what_completes(rt: HostRuntime) -> Result<(), Fail> {
+        let mut bus = image_of(rt, "again.img", 65_536)?;
+        assert!(rt; send(&mut bus, &[0x06]));
+        assert!(rt; send(&mut bus, &[0x02, 0x00, 0x34, 0x56, 0x70]));
+        assert_eq!(rt; fs::read(&rt, "again.img")?[0x3456], 0x77);
+        bus.power_on();
+        assert_eq!(rt; fs::read(&rt, "again.img")?[0x3456], 0x70);
+        assert!(rt; send(&mut bus, &[0x06]));
+        assert!(rt; send(&mut bus, &[0x20, 0x00, 0x30, 0x00]));
+        assert!(rt; send(&mut bus, &[0x05]));
+        bus.power_on();
+        let file = fs::read(&rt, "again.img")?;
+        assert_eq!(rt; file.len(), 65_536);
+        for (place, byte) in file.iter().enumerate() {
+            let erased = place >= 0x3000 && place < 0x4000;
+            assert_eq!(rt; *byte, if erased { 0xFF } else { 0x77 }, "at {place}");
+        }
+        fs::remove_file(&rt, "again.img")?;
+        Ok(())
+    }
+
+    #[test]
+    fn an_image_is_read(rt: HostRuntime) -> Result<(), Fail> {
+        let mut bytes = Vec::new(rt.alloc());
+        bytes.push(0x12)?;
+        bytes.resize(65_535, 0x77)?;
+        bytes.push(0x34)?;
+        fs::write(&rt, "read.img", bytes.as_slice())?;
+        let mut bus = ImageBus::open(&rt, "read.img")?;
+        let mut ends = [0; 3];
+        assert_eq!(rt; bus.transact(&[0x03, 0x00, 0xFF, 0xFE], &mut ends), Ok(()));
+        assert_eq!(rt; ends, [0x77, 0x34, 0x12]);
+        fs::remove_file(&rt, "read.img")?;
         Ok(())
     }
 
