@@ -12,30 +12,47 @@ fn words_of(alloc: Global, text: &str) -> Result<Vec<String>, Fail> {
     Ok(words)
 }
 
-/// What `read_line` answers to these words: the path and the number of a line, or the fault's status. `plain` and `script` have
-/// no path.
-fn answer_to(words: &[String], alloc: Global) -> Result<(&str, u32), u8> {
-    match read_line(alloc, words) {
-        Ok(Line::Plain { sectors }) => Ok(("", sectors)),
-        Ok(Line::Format { image, kib }) => Ok((image, kib)),
-        Ok(Line::Script { kib }) => Ok(("", kib)),
-        Err(fault) => Err(fault.status()),
-    }
+/// A line `plain` with a row of each command.
+fn plain<'a>(sectors: u32) -> Result<Line<'a>, u8> {
+    Ok(Line::Plain {
+        sectors,
+        record: true,
+    })
+}
+
+/// A line `format`.
+fn format<'a>(image: &'a str, kib: u32) -> Result<Line<'a>, u8> {
+    Ok(Line::Format { image, kib })
+}
+
+/// A line `script`.
+fn script<'a>(kib: u32) -> Result<Line<'a>, u8> {
+    Ok(Line::Script { kib })
+}
+
+/// A line `serve` of the image `a.img`.
+fn serve<'a>(port: u32, conns: u32, record: bool) -> Result<Line<'a>, u8> {
+    Ok(Line::Serve {
+        image: "a.img",
+        port,
+        conns,
+        record,
+    })
 }
 
 #[test]
 fn reads_lines(rt: HostRuntime) -> Result<(), Fail> {
     for (text, answer) in [
-        ("norbd plain --sectors 70", Ok(("", 70))),
-        ("norbd plain --sectors 1", Ok(("", 1))),
-        ("norbd plain --sectors 65536", Ok(("", 65536))),
+        ("norbd plain --sectors 70", plain(70)),
+        ("norbd plain --sectors 1", plain(1)),
+        ("norbd plain --sectors 65536", plain(65536)),
         ("norbd plain --sectors 0", Err(2)),
         ("norbd plain --sectors 65537", Err(2)),
         ("norbd plain --sectors", Err(2)),
         ("norbd plain", Err(2)),
         ("norbd plain --sectors 70 more", Err(2)),
-        ("norbd format a.img --kib 64", Ok(("a.img", 64))),
-        ("norbd format --kib 16384 d/a.img", Ok(("d/a.img", 16384))),
+        ("norbd format a.img --kib 64", format("a.img", 64)),
+        ("norbd format --kib 16384 d/a.img", format("d/a.img", 16384)),
         ("norbd format a.img --kib 0", Err(2)),
         ("norbd format a.img --kib 63", Err(2)),
         ("norbd format a.img --kib 65", Err(2)),
@@ -44,14 +61,42 @@ fn reads_lines(rt: HostRuntime) -> Result<(), Fail> {
         ("norbd format a.img --kib", Err(2)),
         ("norbd format a.img", Err(2)),
         ("norbd format --kib 64", Err(2)),
-        ("norbd script --kib 64", Ok(("", 64))),
-        ("norbd script --kib 16384", Ok(("", 16384))),
+        ("norbd script --kib 64", script(64)),
+        ("norbd script --kib 16384", script(16384)),
         ("norbd script --kib 63", Err(2)),
         ("norbd script --kib 65", Err(2)),
         ("norbd script --kib 16385", Err(2)),
         ("norbd script --kib", Err(2)),
         ("norbd script", Err(2)),
         ("norbd script --kib 64 more", Err(2)),
+        (
+            "norbd plain --no-record --sectors 70",
+            Ok(Line::Plain {
+                sectors: 70,
+                record: false,
+            }),
+        ),
+        ("norbd plain --sectors 70 --record", Err(2)),
+        (
+            "norbd serve a.img --port 10809 --conns 2",
+            serve(10809, 2, false),
+        ),
+        (
+            "norbd serve --record a.img --conns 64 --port 1",
+            serve(1, 64, true),
+        ),
+        (
+            "norbd serve a.img --port 65535 --conns 1",
+            serve(65535, 1, false),
+        ),
+        ("norbd serve a.img --port 0 --conns 1", Err(2)),
+        ("norbd serve a.img --port 65536 --conns 1", Err(2)),
+        ("norbd serve a.img --port 10809 --conns 0", Err(2)),
+        ("norbd serve a.img --port 10809 --conns 65", Err(2)),
+        ("norbd serve a.img --port 10809", Err(2)),
+        ("norbd serve a.img --conns 2", Err(2)),
+        ("norbd serve --port 10809 --conns 2", Err(2)),
+        ("norbd serve --help", Err(0)),
         ("norbd other", Err(2)),
         ("norbd", Err(2)),
         ("norbd --help", Err(0)),
@@ -61,7 +106,11 @@ fn reads_lines(rt: HostRuntime) -> Result<(), Fail> {
         ("norbd --version", Err(0)),
     ] {
         let words = words_of(rt.alloc(), text)?;
-        assert_eq!(rt; answer_to(words.as_slice(), rt.alloc()), answer, "{text}");
+        let line = match read_line(rt.alloc(), words.as_slice()) {
+            Ok(line) => Ok(line),
+            Err(fault) => Err(fault.status()),
+        };
+        assert_eq!(rt; line, answer, "{text}");
     }
     Ok(())
 }
@@ -90,6 +139,9 @@ fn faults_show_their_texts(rt: HostRuntime) -> Result<(), Fail> {
         (Fault::BadRecord, "bad record"),
         (Fault::NotFormatted, "not formatted"),
         (Fault::Corrupt, "corrupt"),
+        (Fault::BadImageSize, "bad image size"),
+        (Fault::NoSocket, "no socket"),
+        (Fault::NoThread, "no thread"),
     ] {
         assert_eq!(rt; format!(in rt.alloc(); "{fault}")?.as_str(), text);
     }

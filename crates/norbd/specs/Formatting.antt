@@ -8,7 +8,7 @@ use Rattle.nor_driver.specs.declared.error.ProbeError.TheVariants as probes
 use Rattle.image.specs.declared.error.ImageError.{ImageError}
 use Rattle.image.specs.declared.error.ImageError.TheVariants.{OutOfMemory, File, Refused}
 use Rattle.norbd_line.specs.declared.fault.Fault.{Fault}
-use Rattle.norbd_line.specs.declared.fault.Fault.TheVariants.{Words, NoMemory, BadSize, InputFailed, OutputFailed, ImageFailed, WrongId, BadSfdp, Protected, Slow, BadRecord, NotFormatted, Corrupt}
+use Rattle.norbd_line.specs.declared.fault.Fault.TheVariants.{Words, NoMemory, BadSize, InputFailed, OutputFailed, ImageFailed, WrongId, BadSfdp, Protected, Slow, BadRecord, NotFormatted, Corrupt, BadImageSize, NoSocket, NoThread}
 
 -- the line about a formatted chip of so many KiB
 abbrev pub text_about : ℕ → List ℕ
@@ -45,3 +45,6 @@ Tells kib old faults (Err Slow) new faults' = IsUntouched old faults new faults'
 Tells kib old faults (Err BadRecord) new faults' = ⊥
 Tells kib old faults (Err NotFormatted) new faults' = ⊥
 Tells kib old faults (Err Corrupt) new faults' = ⊥
+Tells kib old faults (Err BadImageSize) new faults' = ⊥
+Tells kib old faults (Err NoSocket) new faults' = ⊥
+Tells kib old faults (Err NoThread) new faults' = ⊥

@@ -1,4 +1,5 @@
 pub mod Formatting
 pub mod Outcomes
 pub mod Scripting
+pub mod Listening
 pub mod Serving

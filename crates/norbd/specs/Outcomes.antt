@@ -3,7 +3,7 @@ use Rattle.std.specs.Prelude.{◌≡◌, ◌⊎◌, ℕ, ◌-◌, ◌^◌, ◌<�
 use Rattle.std.specs.Io.KnownBytes.{Consumes}
 use Rattle.norbd_line.specs.Fault.{HasStatus}
 use Rattle.norbd_line.specs.declared.fault.Fault.{Fault}
-use Rattle.norbd_line.specs.declared.fault.Fault.TheVariants.{Words, NoMemory, BadSize, InputFailed, OutputFailed, ImageFailed, WrongId, BadSfdp, Protected, Slow, BadRecord, NotFormatted, Corrupt}
+use Rattle.norbd_line.specs.declared.fault.Fault.TheVariants.{Words, NoMemory, BadSize, InputFailed, OutputFailed, ImageFailed, WrongId, BadSfdp, Protected, Slow, BadRecord, NotFormatted, Corrupt, BadImageSize, NoSocket, NoThread}
 use Rattle.share.specs.declared.connection.End.{End}
 use Rattle.share.specs.declared.connection.End.TheVariants.{Closed, EndOfInput, Input, Output, Lost, OutOfMemory}
 
@@ -48,6 +48,9 @@ HasCause Slow had left reads reads' writes writes' = ⊥
 HasCause BadRecord had left reads reads' writes writes' = ⊥
 HasCause NotFormatted had left reads reads' writes writes' = ⊥
 HasCause Corrupt had left reads reads' writes writes' = ⊥
+HasCause BadImageSize had left reads reads' writes writes' = ⊥
+HasCause NoSocket had left reads reads' writes writes' = ⊥
+HasCause NoThread had left reads reads' writes writes' = ⊥
 
 -- How serving ended: done, and no call of a stream failed, or with a fault that has its cause.
 abbrev pub Ended : {T : Type 0} → Result T Fault → Option (List ℕ) → Option (List ℕ) → ℕ → ℕ → ℕ → ℕ → Type 0

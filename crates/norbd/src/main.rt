@@ -14,21 +14,30 @@
 ghost use Rattle.std.specs.Prelude.{◌≡◌, ◌<◌};
 ghost use Rattle.std.specs.Process.{exit_status};
 ghost use Rattle.norbd.specs.Outcomes.{EndsWith};
-ghost use Rattle.norbd_line.specs.Line.{IfFormat, IfScript, IsSize};
+ghost use Rattle.norbd_line.specs.Line.{IfFormat, IfScript, IfServe, IsConns, IsPort, IsSize};
 
 mod formatting;
 mod run;
 mod scripting;
+mod serving;
+#[cfg(test)]
+mod serve_tests;
 #[cfg(test)]
 mod tests;
 
 use block_device::Io;
 use norbd_line::{Fault, Line, read_line};
 use std::alloc::Global;
-use std::io::ErrorKind;
+use std::io::{ErrorKind, Read, Write};
 use std::marker::Brand;
+use std::net::{Net, TcpListener, TcpStream};
+use std::os::unix::fs::FileExt;
 use std::process::ExitCode;
+use std::rt::Files;
+use std::sync::Wait;
 use std::sync::ledger::{Blank, Ledger};
+use std::thread::Threads;
+use std::time::Clock;
 
 /// The program's words, or none where one isn't text (UTF-8): the line is then a bad one. `NoMemory` where memory ran out.
 fn words_of(rt: &HostRuntime, alloc: Global) -> Result<Vec<String>, Fault> {
@@ -41,20 +50,36 @@ fn words_of(rt: &HostRuntime, alloc: Global) -> Result<Vec<String>, Fault> {
     }
 }
 
-/// Does a line over standard input and standard output, whose failures the ledgers `I` and `O` count.
-fn run_standard<I: Ledger, O: Ledger>(
-    rt: &HostRuntime,
+/// Does a line over a reader and a writer of bytes, whose failures the ledgers `I` and `O` count.
+fn run_streams<R, A, B, I, O>(
+    rt: &R,
     line: Line<'_>,
+    stdin: A,
+    stdout: B,
     input: Blank,
     output: Blank,
 ) -> Result<(), Fault>
+where
+    R: Files
+        + AllocGlobal
+        + Threads
+        + Wait
+        + Sync
+        + Clock
+        + Net<Listener = TcpListener, Stream = TcpStream>,
+    R::File: FileExt + Send,
+    A: Read + Drop,
+    B: Write + Drop,
+    I: Ledger,
+    O: Ledger,
     requires input { (input.name ≡ I.name) × (input.parts ≡ I.parts) × (0 < I.parts) }
     requires output { (output.name ≡ O.name) × (output.parts ≡ O.parts) × (0 < O.parts) }
     requires size { IfFormat line (λ _ kib. IsSize kib) }
     requires script_size { IfScript line (λ kib. IsSize kib) }
+    requires serve_numbers { IfServe line (λ port conns _. IsPort port × IsConns conns) }
 {
-    let mut reader = Io::<_, I>::new(rt.stdin(), input);
-    let mut writer = Io::<_, O>::new(rt.stdout(), output);
+    let mut reader = Io::<_, I>::new(stdin, input);
+    let mut writer = Io::<_, O>::new(stdout, output);
     run::run_line(rt, line, &mut reader, &mut writer)
 }
 
@@ -79,15 +104,29 @@ fn exit_code(done: &Result<(), Fault>) -> ExitCode
 }
 
 /// Reads the program's words and does their line.
-#[tactic(auto, using(crate::proofs::Sizes::size_of_line, crate::proofs::Sizes::size_of_script))]
-fn run_words(rt: &HostRuntime) -> Result<(), Fault> {
-    let words = words_of(rt, rt.alloc())?;
-    let line = read_line(rt.alloc(), words.as_slice())?;
-    run_standard::<Brand, Brand>(rt, line, Blank::new(1), Blank::new(1))
+#[tactic(auto, using(crate::proofs::Sizes::size_of_line, crate::proofs::Sizes::size_of_script, crate::proofs::Sizes::numbers_of_serve))]
+fn run_words<R, A, B>(rt: &R, words: &[String], stdin: A, stdout: B) -> Result<(), Fault>
+where
+    R: Files
+        + AllocGlobal
+        + Threads
+        + Wait
+        + Sync
+        + Clock
+        + Net<Listener = TcpListener, Stream = TcpStream>,
+    R::File: FileExt + Send,
+    A: Read + Drop,
+    B: Write + Drop,
+{
+    let line = read_line(rt.alloc(), words)?;
+    run_streams::<_, _, _, Brand, Brand>(rt, line, stdin, stdout, Blank::new(1), Blank::new(1))
 }
 
 fn main(rt: HostRuntime) -> ExitCode {
-    let done = run_words(&rt);
+    let done = match words_of(&rt, rt.alloc()) {
+        Ok(words) => run_words(&rt, words.as_slice(), rt.stdin(), rt.stdout()),
+        Err(fault) => Err(fault),
+    };
     if let Err(fault) = &done {
         tell(&rt, fault);
     }

@@ -1,35 +1,31 @@
 //! What a line asks, over any reader and writer.
-ghost use Rattle.std.specs.Prelude.{◌≡◌, ◌≢◌, ℕ, List, Some};
+ghost use Rattle.std.specs.Prelude.{◌≡◌, ◌≢◌, ℕ, List, Some, false};
 ghost use Rattle.norbd.specs.Outcomes.{Ended, Means};
 ghost use Rattle.norbd.specs.Formatting.{Tells};
 ghost use Rattle.norbd.specs.Scripting.{Scripts};
-ghost use Rattle.norbd.specs.Serving.{Serves};
-ghost use Rattle.norbd_line.specs.Line.{IfFormat, IfPlain, IfScript, IsSize};
+ghost use Rattle.norbd.specs.Listening.{TellsServing};
+ghost use Rattle.norbd.specs.Serving.{Serves, zeros};
+ghost use Rattle.norbd_line.specs.Line.{IfFormat, IfPlain, IfScript, IfServe, IsConns, IsPort, IsSize};
 
 use crate::formatting::run_format;
 use crate::scripting::run_script;
+use crate::serving::{Asked, run_serve};
 use block_device::{PlainDisk, Sink, Source};
 use norbd_line::{Fault, Line};
-use share::{End, FullRecord, Gate, OneServer, Point, Shared, exchange_plain};
+use norbd_serve::OpenGate;
+use share::{End, FullRecord, NoRecord, OneServer, Recorder, Shared, exchange_plain};
 use std::alloc::Global;
 use std::marker::Brand;
+use std::net::{Net, TcpListener, TcpStream};
+use std::os::unix::fs::FileExt;
 use std::rt::Files;
+use std::sync::Wait;
 use std::sync::ledger::Blank;
+use std::thread::Threads;
+use std::time::Clock;
 
 /// The parts of a server's ledger: one for each of 65,536 passes, and one that stays.
 const LEDGER_PARTS: u64 = 65_537;
-
-/// A gate that stands open: passing it does nothing.
-#[derive(Drop)]
-struct OpenGate;
-
-impl Gate for OpenGate {
-    ghost passes = { λ gate after points. Unit {0} };
-
-    fn pass(&mut self, _point: Point) {}
-
-    ghost none = { λ gate. tt };
-}
 
 /// Does what a line asks.
 ///
@@ -44,21 +40,39 @@ impl Gate for OpenGate {
 /// faults are those of `run_script`.
 ///
 /// `format`: makes the file at the path a formatted chip, and writes a line about it to `writer`; its faults are those of
-/// `run_format`. Nothing is read. Source: own.
+/// `run_format`. Nothing is read.
+///
+/// `serve`: serves the chip in the file at the path to clients on a port, with lines about it to `writer`; its faults are those
+/// of `run_serve`. Nothing is read. Source: own.
 #[tactic(auto, using(crate::proofs::Sizes::size_of_chip))]
-pub fn run_line<R: Files + AllocGlobal, S: Source, K: Sink>(
+pub fn run_line<R, S, K>(
     rt: &R,
     line: Line<'_>,
     reader: &mut S,
     writer: &mut K,
 ) -> Result<(), Fault>
+where
+    R: Files
+        + AllocGlobal
+        + Threads
+        + Wait
+        + Sync
+        + Clock
+        + Net<Listener = TcpListener, Stream = TcpStream>,
+    R::File: FileExt + Send,
+    S: Source,
+    K: Sink,
     requires size { IfFormat line (λ _ kib. IsSize kib) }
     requires script_size { IfScript line (λ kib. IsSize kib) }
-    ensures ends { IfPlain line.entry (λ _. Ended result (S.remaining reader.old) (S.remaining reader.new) (S.faults reader.old)
+    requires serve_numbers { IfServe line (λ port conns _. IsPort port × IsConns conns) }
+    ensures ends { IfPlain line.entry (λ _ _. Ended result (S.remaining reader.old) (S.remaining reader.new) (S.faults reader.old)
         (S.faults reader.new) (K.faults writer.old) (K.faults writer.new)) }
-    ensures serves { IfPlain line.entry (λ sectors. (input : List ℕ) → S.remaining reader.old ≡ Some input
-        → Serves sectors input (K.written writer.old) (K.written writer.new) result) }
+    ensures serves { IfPlain line.entry (λ sectors keeps. (input : List ℕ) → S.remaining reader.old ≡ Some input
+        → Serves keeps sectors input (K.written writer.old) (K.written writer.new) result) }
     ensures unread { IfFormat line.entry (λ _ _. reader.new ≡ reader.old) }
+    ensures serve_unread { IfServe line.entry (λ _ _ _. reader.new ≡ reader.old) }
+    ensures tells_serving { IfServe line.entry (λ port conns keeps. TellsServing port conns keeps (K.written writer.old) (K.faults writer.old)
+        result (K.written writer.new) (K.faults writer.new)) }
     ensures tells { IfFormat line.entry (λ _ kib. Tells kib (K.written writer.old) (K.faults writer.old) result
         (K.written writer.new) (K.faults writer.new)) }
     ensures scripts { IfScript line.entry (λ kib. Scripts kib
@@ -66,25 +80,40 @@ pub fn run_line<R: Files + AllocGlobal, S: Source, K: Sink>(
         (record { left = S.remaining reader.new; reads = S.faults reader.new; written = K.written writer.new; writes = K.faults writer.new })) }
 {
     match line {
-        Line::Plain { sectors } => {
+        Line::Plain { sectors, record } => {
             run_plain::<Brand, S, K>(
                 rt.alloc(),
                 Blank::new(LEDGER_PARTS),
                 sectors,
+                record,
                 reader,
                 writer,
             )
         }
         Line::Format { image, kib } => run_format(rt, image, kib, writer),
         Line::Script { kib } => run_script(rt.alloc(), kib, reader, writer),
+        Line::Serve {
+            image,
+            port,
+            conns,
+            record,
+        } => {
+            let asked = Asked {
+                port,
+                conns,
+                record,
+            };
+            run_serve(rt, image, asked, writer)
+        }
     }
 }
 
-// Serves one connection a disk of so many sectors of zeros; `L` names the server.
+// Serves one connection a disk of so many sectors of zeros, with a row of each command or without; `L` names the server.
 fn run_plain<L: OneServer, S: Source, K: Sink>(
     alloc: Global,
     blank: Blank,
     sectors: u32,
+    record: bool,
     reader: &mut S,
     writer: &mut K,
 ) -> Result<(), Fault>
@@ -94,15 +123,39 @@ fn run_plain<L: OneServer, S: Source, K: Sink>(
     ensures ends { Ended result (S.remaining reader.old) (S.remaining reader.new) (S.faults reader.old) (S.faults reader.new)
         (K.faults writer.old) (K.faults writer.new) }
     ensures serves { (input : List ℕ) → S.remaining reader.old ≡ Some input
-        → Serves sectors input (K.written writer.old) (K.written writer.new) result }
+        → Serves «record» sectors input (K.written writer.old) (K.written writer.new) result }
 {
     let Ok(disk) = PlainDisk::new(alloc, sectors) else {
         return Err(Fault::NoMemory);
     };
+    if !record {
+        let server = Shared::<PlainDisk, NoRecord, L>::new(disk, blank);
+        return answer_all(alloc, server, sectors, reader, writer);
+    }
     // Reading a disk in memory never fails, so this error is want of memory.
-    let Ok(mut server) = Shared::<PlainDisk, FullRecord, L>::recording(alloc, disk, blank) else {
-        return Err(Fault::NoMemory);
-    };
+    match Shared::<PlainDisk, FullRecord, L>::recording(alloc, disk, blank) {
+        Ok(server) => answer_all(alloc, server, sectors, reader, writer),
+        Err(_) => Err(Fault::NoMemory),
+    }
+}
+
+// Answers all requests over a server of a disk of zeros that gave no pass yet.
+fn answer_all<C: Recorder + Drop, L: OneServer, S: Source, K: Sink>(
+    alloc: Global,
+    server: Shared<PlainDisk, C, L>,
+    sectors: u32,
+    reader: &mut S,
+    writer: &mut K,
+) -> Result<(), Fault>
+    requires zeros { server.disk.contents ≡ zeros sectors }
+    requires sectors { sectors ≡ L.sectors }
+    requires fresh { (server.given ≡ 0) × (server.closed ≡ false) }
+    ensures ends { Ended result (S.remaining reader.old) (S.remaining reader.new) (S.faults reader.old) (S.faults reader.new)
+        (K.faults writer.old) (K.faults writer.new) }
+    ensures serves { (input : List ℕ) → S.remaining reader.old ≡ Some input
+        → Serves C.KEEPS sectors input (K.written writer.old) (K.written writer.new) result }
+{
+    let mut server = server;
     let Some(pass) = server.pass() else {
         unreachable!()
     };

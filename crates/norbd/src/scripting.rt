@@ -51,7 +51,7 @@ fn told_of(fault: RunFault) -> Fault
 }
 
 /// What a refusal of a probe is for the program.
-fn told_of_probe(error: ProbeError) -> Fault
+pub(crate) fn told_of_probe(error: ProbeError) -> Fault
     ensures { result ≡ told_of_probe error }
 {
     match error {

@@ -2,7 +2,7 @@
 //! and a READ past the end, 28 (1Ch) for a WRITE past the end. Runs of `script` over records written out by hand from
 //! docs/SCRIPT.md; which change of a chip a loss falls on is counted by docs/DISK.md. Runs of `format`.
 ghost use Rattle.std.specs.Prelude.{◌≡◌, ◌<◌};
-ghost use Rattle.norbd_line.specs.Line.{IfFormat, IfScript, IsSize};
+ghost use Rattle.norbd_line.specs.Line.{IfFormat, IfScript, IfServe, IsConns, IsPort, IsSize};
 
 use crate::run::run_line;
 use block_device::{FixedOut, Io};
@@ -10,10 +10,15 @@ use norbd_line::Line;
 use std::alloc::Global;
 use std::io::Read;
 use std::marker::Brand;
+use std::net::{Net, TcpListener, TcpStream};
+use std::os::unix::fs::FileExt;
 use std::process::Abort;
 use std::rt::Files;
+use std::sync::Wait;
 use std::sync::ledger::{Blank, Ledger};
 use std::test::Fail;
+use std::thread::Threads;
+use std::time::Clock;
 use std::{fs, io};
 
 /// A stream that gives its bytes in pieces: at most `most` bytes in the next call, and at most `later` in each one after
@@ -67,7 +72,7 @@ struct Expected<'a> {
 }
 
 /// Runs a line on `input`, and compares. Each of these faults ends the program with status 1.
-fn check<R: Abort + Files + AllocGlobal>(
+fn check<R>(
     rt: &R,
     alloc: Global,
     line: Line<'_>,
@@ -75,8 +80,19 @@ fn check<R: Abort + Files + AllocGlobal>(
     streams: Streams,
     expected: Expected<'_>,
 ) -> Result<(), Fail>
+where
+    R: Abort
+        + Files
+        + AllocGlobal
+        + Threads
+        + Wait
+        + Sync
+        + Clock
+        + Net<Listener = TcpListener, Stream = TcpStream>,
+    R::File: FileExt + Send,
     requires size { IfFormat line (λ _ kib. IsSize kib) }
     requires script_size { IfScript line (λ kib. IsSize kib) }
+    requires serve_numbers { IfServe line (λ port conns _. IsPort port × IsConns conns) }
 {
     check_counted::<Brand, Brand, R>(
         rt,
@@ -90,7 +106,7 @@ fn check<R: Abort + Files + AllocGlobal>(
     )
 }
 
-fn check_counted<I: Ledger, O: Ledger, R: Abort + Files + AllocGlobal>(
+fn check_counted<I, O, R>(
     rt: &R,
     alloc: Global,
     line: Line<'_>,
@@ -100,8 +116,21 @@ fn check_counted<I: Ledger, O: Ledger, R: Abort + Files + AllocGlobal>(
     reads: Blank,
     writes: Blank,
 ) -> Result<(), Fail>
+where
+    I: Ledger,
+    O: Ledger,
+    R: Abort
+        + Files
+        + AllocGlobal
+        + Threads
+        + Wait
+        + Sync
+        + Clock
+        + Net<Listener = TcpListener, Stream = TcpStream>,
+    R::File: FileExt + Send,
     requires size { IfFormat line (λ _ kib. IsSize kib) }
     requires script_size { IfScript line (λ kib. IsSize kib) }
+    requires serve_numbers { IfServe line (λ port conns _. IsPort port × IsConns conns) }
     requires reads { (reads.name ≡ I.name) × (reads.parts ≡ I.parts) × (0 < I.parts) }
     requires writes { (writes.name ≡ O.name) × (writes.parts ≡ O.parts) × (0 < O.parts) }
 {
@@ -222,15 +251,20 @@ fn answers_requests_however_they_are_cut(rt: HostRuntime) -> Result<(), Fail> {
             output: output.as_slice(),
             fault: "",
         };
-        let line = Line::Plain { sectors };
-        check(
-            &rt,
-            alloc,
-            line,
-            input.as_slice(),
-            cut(usize::MAX, usize::MAX),
-            expected,
-        )?;
+        for record in [true, false] {
+            check(
+                &rt,
+                alloc,
+                Line::Plain { sectors, record },
+                input.as_slice(),
+                cut(usize::MAX, usize::MAX),
+                expected,
+            )?;
+        }
+        let line = Line::Plain {
+            sectors,
+            record: true,
+        };
         check(&rt, alloc, line, input.as_slice(), cut(1, 1), expected)?;
         for first in 1..=600 {
             check(
@@ -265,7 +299,10 @@ fn answers_two_hundred_requests_in_order(rt: HostRuntime) -> Result<(), Fail> {
     check(
         &rt,
         alloc,
-        Line::Plain { sectors: 1 },
+        Line::Plain {
+            sectors: 1,
+            record: true,
+        },
         input.as_slice(),
         cut(usize::MAX, usize::MAX),
         expected,
@@ -315,7 +352,10 @@ fn ends_with_the_fault_of_a_stream(rt: HostRuntime) -> Result<(), Fail> {
             output: output.as_slice(),
             fault,
         };
-        let line = Line::Plain { sectors: 70 };
+        let line = Line::Plain {
+            sectors: 70,
+            record: true,
+        };
         check(&rt, alloc, line, input.as_slice(), streams, expected)?;
     }
     Ok(())

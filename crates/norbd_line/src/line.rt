@@ -17,13 +17,21 @@ use std::alloc::Global;
 pub enum Line<'a> {
     /// `plain --sectors S [--no-record]`: serve one client, from standard input to standard output, a disk of `sectors`
     /// sectors of 512 bytes in memory, from 1 to 65,536 of them, all zeros at first; `record` unless `--no-record` is set.
-    Plain { sectors: u32, record: bool },
+    Plain {
+        sectors: u32,
+        record: bool,
+    },
     /// `format IMAGE --kib K`: make the file at the path `image` a formatted chip of `kib` KiB, a multiple of 64 from 64 to
     /// 16,384.
-    Format { image: &'a str, kib: u32 },
+    Format {
+        image: &'a str,
+        kib: u32,
+    },
     /// `script --kib K`: run a script of events, from standard input, on a formatted chip in memory of `kib` KiB, a multiple
     /// of 64 from 64 to 16,384, and tell what came of them on standard output.
-    Script { kib: u32 },
+    Script {
+        kib: u32,
+    },
     /// `serve IMAGE --port P --conns C [--record]`: serve the chip in the file at the path `image` to `conns` clients, from 1
     /// to 64, on the port `port` of 127.0.0.1, from 1 to 65,535, and keep a row of each command where `record` is set.
     Serve {

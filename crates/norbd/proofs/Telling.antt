@@ -1,0 +1,65 @@
+-- What `serve` tells, step by step.
+use Rattle.std.proofs.Common.{◌≡◌, ◌⊎◌, ℕ, ◌+◌, List, [], ◌∷◌, ◌++◌, Bool, Option, Some, None, Result, Ok, Err, IfOk, IsOkAnd, String, refl, sym, ap, subst, ◌∙◌, inl, inr, append-nil}
+use Rattle.std.specs.String.{string_bytes}
+use Rattle.std.specs.Io.KnownBytes.{Appends}
+use Rattle.std.proofs.KnownBytes.{Appends-nil}
+use Rattle.block_device.specs.Streams.{Appends-twice, Fails, Fails-first, Sends, Sends-twice}
+use Rattle.norbd_serve.specs.declared.fault.ServeFault.{ServeFault}
+use Rattle.norbd_serve.specs.declared.fault.ServeFault.TheVariants as serves
+use Rattle.norbd.specs.Listening.{HasBegun, TellsServing, WritesText, all_text, ended_text, serving_text, told_of_serving}
+use Rattle.norbd_line.specs.declared.fault.Fault.{Fault}
+use Rattle.norbd_line.specs.declared.fault.Fault.TheVariants.{NoMemory, OutputFailed}
+
+-- a fault of serving comes when nothing was told, or the first line
+pub serving-failed : (T : Type 0) (port conns : ℕ) (keeps : Bool) (old new : Option (List ℕ)) (f g : ℕ) (fault : ServeFault) → HasBegun port old f new g
+    → TellsServing {T = T} port conns keeps old f (Err (told_of_serving fault)) new g
+serving-failed T port conns keeps old new f g serves.NoMemory h = h
+serving-failed T port conns keeps old new f g serves.NoSocket h = h
+serving-failed T port conns keeps old new f g serves.NoThread h = h
+serving-failed T port conns keeps old new f g serves.Lost h = h
+
+-- nothing was told yet
+pub silent : (port : ℕ) (old : Option (List ℕ)) (f : ℕ) → HasBegun port old f old f
+silent port old f = inl (Appends-nil old, refl)
+
+same-bytes : {Z X : Type 0} (text : Result (String Z) X) (s : List ℕ) (P : List ℕ → Type 0) → IfOk text (λ t. string_bytes t ≡ s) → IsOkAnd text (λ t. P (string_bytes t)) → P s
+same-bytes (Ok t) s P is h = subst P is h
+same-bytes (Err e) s P is h = absurd h
+
+-- the first line was told
+pub begun : {Z X : Type 0} (text : Result (String Z) X) (port sectors : ℕ) (old new : Option (List ℕ)) (f g : ℕ) → IfOk text (λ t. string_bytes t ≡ serving_text sectors port)
+    → IsOkAnd text (λ t. Appends old new (string_bytes t)) × (g ≡ f) → HasBegun port old f new g
+begun text port sectors old new f g is h = inr (sectors, same-bytes text (serving_text sectors port) (λ x. Appends old new x) is h.0, h.1)
+
+-- it could not be told
+pub first-failed : {Z X : Type 0} (T : Type 0) (text : Result (String Z) X) (port conns sectors : ℕ) (keeps : Bool) (old new : Option (List ℕ)) (f g : ℕ) (e : Fault) → IfOk text (λ t. string_bytes t ≡ serving_text sectors port)
+    → WritesText {T = T} text old f (Err e) new g → TellsServing {T = T} port conns keeps old f (Err e) new g
+first-failed T text port conns sectors keeps old new f g e is h = elim h [
+  | inl none ↦ subst (λ x. TellsServing {T = T} port conns keeps old f (Err x) new g) (sym none.0)
+      (inl (subst (λ x. Appends old x []) (sym none.1) (Appends-nil old), none.2))
+  | inr failed ↦ subst (λ x. TellsServing {T = T} port conns keeps old f (Err x) new g) (sym failed.0)
+      (sectors, 0, Fails-first old new f g (serving_text sectors port) (ended_text keeps conns 0) (same-bytes text (serving_text sectors port) (λ x. Fails old f x new g) is failed.1))
+]
+
+abbrev failed-with : (T : Type 0) → Fault → Result T Fault
+failed-with T e = Err e
+
+-- the last lines
+pub ended : {Z Y X W T : Type 0} (one : Result (String Z) X) (two : Result (String Y) W) (port conns sectors rows : ℕ) (keeps : Bool) (old mid new : Option (List ℕ)) (f g h : ℕ) (result : Result T Fault)
+    → IfOk one (λ t. string_bytes t ≡ serving_text sectors port) → IfOk two (λ t. string_bytes t ≡ ended_text keeps conns rows)
+    → IsOkAnd one (λ t. Appends old mid (string_bytes t)) × (g ≡ f) → WritesText two mid g result new h → TellsServing port conns keeps old f result new h
+ended one two port conns sectors rows keeps old mid new f g h (Ok u) is are first last =
+    let begin = same-bytes one (serving_text sectors port) (λ x. Appends old mid x) is first.0 in
+    let end = same-bytes two (ended_text keeps conns rows) (λ x. Appends mid new x) are last.0 in
+    (sectors, rows, Appends-twice old mid new (serving_text sectors port) (ended_text keeps conns rows) begin end, last.1 ∙ first.1)
+ended {T = T} one two port conns sectors rows keeps old mid new f g h (Err e) is are first last =
+    let begin = same-bytes one (serving_text sectors port) (λ x. Appends old mid x) is first.0 in
+    elim last [
+      | inl none ↦ subst (λ x. TellsServing {T = T} port conns keeps old f (Err x) new h) (sym none.0)
+          (inr (sectors, subst (λ x. Appends old x (serving_text sectors port)) (sym none.1) begin, none.2 ∙ first.1))
+      | inr failed ↦ subst (λ x. TellsServing {T = T} port conns keeps old f (Err x) new h) (sym failed.0) (
+        sectors,
+        rows,
+        Sends-twice old mid new f g h (serving_text sectors port) (ended_text keeps conns rows) (failed-with T e) (begin, first.1) (same-bytes two (ended_text keeps conns rows) (λ x. Fails mid g x new h) are failed.1),
+      )
+    ]

@@ -1,0 +1,114 @@
+-- What `serve` says, and how it ends. Source: own.
+use Rattle.std.specs.Prelude.{◌≡◌, ◌⊎◌, ℕ, List, [], ◌++◌, codes, Bool, true, false, Option, Result, Ok, Err, IsOkAnd, String}
+use Rattle.std.specs.String.{string_bytes}
+use Rattle.std.specs.Fmt.{decimal}
+use Rattle.std.specs.Io.KnownBytes.{Appends}
+use Rattle.block_device.specs.Streams.{Fails}
+use Rattle.fault_model.specs.declared.error.SimError.{SimError}
+use Rattle.fault_model.specs.declared.error.SimError.TheVariants as files
+use Rattle.flash_disk.specs.declared.error.MountError.{MountError}
+use Rattle.flash_disk.specs.declared.error.MountError.TheVariants as mounts
+use Rattle.share.specs.declared.shared.RecordError.{RecordError}
+use Rattle.share.specs.declared.shared.RecordError.TheVariants as records
+use Rattle.norbd_serve.specs.declared.fault.ServeFault.{ServeFault}
+use Rattle.norbd_serve.specs.declared.fault.ServeFault.TheVariants as serves
+use Rattle.norbd.specs.Scripting.{told_of_probe}
+use Rattle.norbd_line.specs.declared.fault.Fault.{Fault}
+use Rattle.norbd_line.specs.declared.fault.Fault.TheVariants.{Words, NoMemory, BadSize, InputFailed, OutputFailed, ImageFailed, WrongId, BadSfdp, Protected, Slow, BadRecord, NotFormatted, Corrupt, BadImageSize, NoSocket, NoThread}
+
+-- the line before the first connection is accepted
+abbrev pub serving_text : ℕ → ℕ → List ℕ
+serving_text sectors port = codes "serving " ++ (decimal sectors ++ (codes " sectors on port " ++ (decimal port ++ codes "\n")))
+
+-- the line after the last connection has ended, and where rows are kept the one about them
+abbrev pub ended_text : Bool → ℕ → ℕ → List ℕ
+ended_text true conns rows = codes "served " ++ (decimal conns ++ (codes " connections\nrecorded " ++ (decimal rows ++ codes " rows\n")))
+ended_text false conns rows = codes "served " ++ (decimal conns ++ codes " connections\n")
+
+-- all that is told
+abbrev pub all_text : ℕ → ℕ → Bool → ℕ → ℕ → List ℕ
+all_text port conns keeps sectors rows = serving_text sectors port ++ ended_text keeps conns rows
+
+-- what a refusal of an image's file is for the program
+abbrev pub told_of_file : SimError → Fault
+told_of_file files.BadSize = BadImageSize
+told_of_file files.OutOfMemory = NoMemory
+told_of_file files.File = ImageFailed
+
+-- what one of a mount is; a chip in a file loses its power where the file fails
+abbrev pub told_of_mount : MountError → Fault
+told_of_mount (mounts.Probe e) = told_of_probe e
+told_of_mount mounts.OutOfMemory = NoMemory
+told_of_mount mounts.NotFormatted = NotFormatted
+told_of_mount mounts.Corrupt = Corrupt
+
+-- what one of a server's record is
+abbrev pub told_of_record : RecordError → Fault
+told_of_record records.Cut = ImageFailed
+told_of_record records.Slow = Slow
+told_of_record records.OutOfMemory = NoMemory
+
+-- what a fault of serving is; a lost command's image has failed
+abbrev pub told_of_serving : ServeFault → Fault
+told_of_serving serves.NoMemory = NoMemory
+told_of_serving serves.NoSocket = NoSocket
+told_of_serving serves.NoThread = NoThread
+told_of_serving serves.Lost = ImageFailed
+
+-- a refusal of the image, which comes before anything is told
+abbrev pub IsRefusal : Fault → Type 0
+IsRefusal NoMemory = Unit {0}
+IsRefusal ImageFailed = Unit {0}
+IsRefusal BadImageSize = Unit {0}
+IsRefusal NotFormatted = Unit {0}
+IsRefusal Corrupt = Unit {0}
+IsRefusal WrongId = Unit {0}
+IsRefusal BadSfdp = Unit {0}
+IsRefusal Protected = Unit {0}
+IsRefusal Slow = Unit {0}
+IsRefusal (Words error) = ⊥
+IsRefusal BadSize = ⊥
+IsRefusal InputFailed = ⊥
+IsRefusal OutputFailed = ⊥
+IsRefusal BadRecord = ⊥
+IsRefusal NoSocket = ⊥
+IsRefusal NoThread = ⊥
+
+-- What writing a text says: all of it is written, there was no memory for it, or a beginning of it is written.
+abbrev pub WritesText : {Z T X : Type 0} → Result (String Z) X → Option (List ℕ) → ℕ → Result T Fault → Option (List ℕ) → ℕ → Type 0
+WritesText text old faults (Ok _) new faults' = IsOkAnd text (λ t. Appends old new (string_bytes t)) × (faults' ≡ faults)
+WritesText text old faults (Err e) new faults' =
+    ((e ≡ NoMemory) × (new ≡ old) × (faults' ≡ faults)) ⊎ ((e ≡ OutputFailed) × IsOkAnd text (λ t. Fails old faults (string_bytes t) new faults'))
+
+-- nothing was told, and no write failed
+abbrev pub IsSilent : Option (List ℕ) → ℕ → Option (List ℕ) → ℕ → Type 0
+IsSilent old faults new faults' = Appends old new [] × (faults' ≡ faults)
+
+-- nothing was told, or the first line alone
+abbrev pub HasBegun : ℕ → Option (List ℕ) → ℕ → Option (List ℕ) → ℕ → Type 0
+HasBegun port old faults new faults' =
+    IsSilent old faults new faults' ⊎ ((sectors : ℕ) × Appends old new (serving_text sectors port) × (faults' ≡ faults))
+
+-- What `serve` on this port for so many connections tells: done, all lines, and the last of them with a number of rows; with a
+-- fault of the output a beginning of them; with another fault that comes before it listens nothing, and else nothing or
+-- the first line.
+abbrev pub TellsServing : {T : Type 0} → ℕ → ℕ → Bool → Option (List ℕ) → ℕ → Result T Fault → Option (List ℕ) → ℕ → Type 0
+TellsServing port conns keeps old faults (Ok _) new faults' =
+    (sectors : ℕ) × (rows : ℕ) × Appends old new (all_text port conns keeps sectors rows) × (faults' ≡ faults)
+TellsServing port conns keeps old faults (Err OutputFailed) new faults' =
+    (sectors : ℕ) × (rows : ℕ) × Fails old faults (all_text port conns keeps sectors rows) new faults'
+TellsServing port conns keeps old faults (Err NoMemory) new faults' = HasBegun port old faults new faults'
+TellsServing port conns keeps old faults (Err ImageFailed) new faults' = HasBegun port old faults new faults'
+TellsServing port conns keeps old faults (Err NoSocket) new faults' = HasBegun port old faults new faults'
+TellsServing port conns keeps old faults (Err NoThread) new faults' = HasBegun port old faults new faults'
+TellsServing port conns keeps old faults (Err BadImageSize) new faults' = IsSilent old faults new faults'
+TellsServing port conns keeps old faults (Err NotFormatted) new faults' = IsSilent old faults new faults'
+TellsServing port conns keeps old faults (Err Corrupt) new faults' = IsSilent old faults new faults'
+TellsServing port conns keeps old faults (Err WrongId) new faults' = IsSilent old faults new faults'
+TellsServing port conns keeps old faults (Err BadSfdp) new faults' = IsSilent old faults new faults'
+TellsServing port conns keeps old faults (Err Protected) new faults' = IsSilent old faults new faults'
+TellsServing port conns keeps old faults (Err Slow) new faults' = IsSilent old faults new faults'
+TellsServing port conns keeps old faults (Err (Words error)) new faults' = ⊥
+TellsServing port conns keeps old faults (Err BadSize) new faults' = ⊥
+TellsServing port conns keeps old faults (Err InputFailed) new faults' = ⊥
+TellsServing port conns keeps old faults (Err BadRecord) new faults' = ⊥

@@ -1,0 +1,245 @@
+//! `serve`: the chip in an image file, served to clients on a port of this machine.
+ghost use Rattle.std.specs.Prelude.{◌≡◌, ◌*◌, length, string_bytes, IfOk, IfErr, true, false};
+ghost use Rattle.std.specs.Thread.{IsSend};
+ghost use Rattle.norbd.specs.Listening.{IsRefusal, TellsServing, WritesText, ended_text, serving_text, told_of_file, told_of_mount, told_of_record, told_of_serving};
+ghost use Rattle.norbd_line.specs.Line.{IsConns, IsPort};
+
+use crate::scripting::told_of_probe;
+use block_device::{Disk, Sink, send};
+use fault_model::{ImageBus, SimError};
+use flash_disk::{FlashDisk, MountError};
+use norbd_line::Fault;
+use norbd_serve::{Lists, OpenGate, ServeFault, Sleeper, listen, serve};
+use share::{FullRecord, NoRecord, OneServer, RecordError, Recorder, Server, Shared};
+use std::alloc::{AllocError, Global};
+use std::marker::Brand;
+use std::net::{Net, TcpListener, TcpStream};
+use std::os::unix::fs::FileExt;
+use std::rt::Files;
+use std::sync::Wait;
+use std::sync::ledger::Blank;
+use std::thread::Threads;
+use std::time::Clock;
+
+/// The parts of a server's ledger: one for each of 65,536 passes, and one that stays.
+const LEDGER_PARTS: u64 = 65_537;
+
+/// What a line `serve` asks besides its image: the port of 127.0.0.1, from 1 to 65,535, how many connections, from 1 to 64,
+/// and whether a row of each command is kept.
+#[derive(Clone, Copy)]
+pub struct Asked {
+    pub port: u32,
+    pub conns: u32,
+    pub record: bool,
+}
+
+/// Serves the chip in the file at a path to so many connections on a port of 127.0.0.1, and ends when all have ended.
+///
+/// Told to `writer`: a line before the first connection is accepted, one after the last has ended, and where rows are kept a
+/// third with their number.
+///
+/// Before it listens: `ImageFailed` where the file can't be opened, read or written, `BadImageSize` where no chip has so many
+/// bytes, the refusals of a mount, and `NoMemory` where there is no memory for the chip, the disk, its record or the lists.
+/// Then `NoSocket` where listening or accepting failed and `NoThread` where a thread can't be started: no more connections
+/// are accepted, and those that run are ended first. `ImageFailed` where a write of the file failed, once all have ended:
+/// the command in which it failed and all later ones get no reply. `OutputFailed` where a line could not be written.
+pub fn run_serve<R, K>(rt: &R, image: &str, asked: Asked, writer: &mut K) -> Result<(), Fault>
+where
+    R: Files
+        + AllocGlobal
+        + Threads
+        + Wait
+        + Sync
+        + Clock
+        + Net<Listener = TcpListener, Stream = TcpStream>,
+    R::File: FileExt + Send,
+    K: Sink,
+    requires { IsPort asked.port × IsConns asked.conns }
+    ensures { TellsServing asked.port asked.conns asked.record (K.written writer.old) (K.faults writer.old) result
+        (K.written writer.new) (K.faults writer.new) }
+{
+    let disk = open_disk(rt, image)?;
+    let sectors = disk.sectors();
+    serve_disk::<Brand, _, _, _>(rt, disk, sectors, Blank::new(LEDGER_PARTS), asked, writer)
+}
+
+/// The disk on the chip in a file, of which nothing is known.
+fn open_disk<R>(rt: &R, image: &str) -> Result<FlashDisk<ImageBus<R::File>, Brand>, Fault>
+where
+    R: Files + AllocGlobal,
+    R::File: FileExt,
+    ensures { IfErr result IsRefusal }
+{
+    let bus = match ImageBus::open(rt, image) {
+        Ok(bus) => bus,
+        Err(error) => return Err(told_of_file(error)),
+    };
+    match FlashDisk::<_, Brand>::mount(rt.alloc(), bus) {
+        Ok(disk) => Ok(disk),
+        Err((_, error)) => Err(told_of_mount(error)),
+    }
+}
+
+/// Serves a disk of so many sectors; `L` names its server.
+fn serve_disk<L, R, D, K>(
+    rt: &R,
+    disk: D,
+    sectors: u32,
+    blank: Blank,
+    asked: Asked,
+    writer: &mut K,
+) -> Result<(), Fault>
+where
+    L: OneServer + Send + Sync,
+    R: AllocGlobal
+        + Threads
+        + Wait
+        + Sync
+        + Clock
+        + Net<Listener = TcpListener, Stream = TcpStream>,
+    D: Disk + Send + Drop,
+    K: Sink,
+    requires size { length (D.facts disk).contents ≡ 512 * sectors }
+    requires sectors { sectors ≡ L.sectors }
+    requires name { blank.name ≡ L.name }
+    requires parts { (blank.parts ≡ L.parts) × (blank.parts ≡ 65537) }
+    requires numbers { IsPort asked.port × IsConns asked.conns }
+    ensures { TellsServing asked.port asked.conns asked.record (K.written writer.old) (K.faults writer.old) result
+        (K.written writer.new) (K.faults writer.new) }
+{
+    if !asked.record {
+        let shared = Shared::<D, NoRecord, L>::new(disk, blank);
+        return serve_shared(rt, shared, sectors, asked, writer);
+    }
+    match Shared::<D, FullRecord, L>::recording(rt.alloc(), disk, blank) {
+        Ok(shared) => serve_shared(rt, shared, sectors, asked, writer),
+        Err((error, _)) => Err(told_of_record(error)),
+    }
+}
+
+/// Serves what stands under the lock.
+fn serve_shared<L, R, D, C, K>(
+    rt: &R,
+    shared: Shared<D, C, L>,
+    sectors: u32,
+    asked: Asked,
+    writer: &mut K,
+) -> Result<(), Fault>
+where
+    L: OneServer + Send + Sync,
+    R: AllocGlobal
+        + Threads
+        + Wait
+        + Sync
+        + Clock
+        + Net<Listener = TcpListener, Stream = TcpStream>,
+    D: Disk + Send + Drop,
+    C: Recorder + Send + Drop,
+    K: Sink,
+    requires numbers { IsPort asked.port × IsConns asked.conns }
+    ensures { TellsServing asked.port asked.conns asked.record (K.written writer.old) (K.faults writer.old) result
+        (K.written writer.new) (K.faults writer.new) }
+{
+    let alloc = rt.alloc();
+    let Ok(lists) = Lists::with_room(alloc, asked.conns as usize) else {
+        return Err(Fault::NoMemory);
+    };
+    let Ok(gates) = vec![in alloc; OpenGate; asked.conns as usize] else {
+        return Err(Fault::NoMemory);
+    };
+    let server = Server::new(shared);
+    let listener = match listen(rt, asked.port as u16) {
+        Ok(listener) => listener,
+        Err(fault) => return Err(told_of_serving(fault)),
+    };
+    let first = serving_text(alloc, sectors, asked.port);
+    if let Err(fault) = tell(writer, first) {
+        return Err(fault);
+    }
+    let served = match serve(rt, alloc, &server, listener, gates, lists, Sleeper::new(rt)) {
+        Ok(served) => served,
+        Err(fault) => return Err(told_of_serving(fault)),
+    };
+    let Some(rows) = server.into_inner().total(served.passes) else {
+        return Err(Fault::NoThread);
+    };
+    let last = ended_text(alloc, asked.conns, asked.record, rows);
+    tell(writer, last)
+}
+
+/// Writes a text.
+fn tell<K: Sink>(writer: &mut K, text: Result<String, AllocError>) -> Result<(), Fault>
+    ensures { WritesText text (K.written writer.old) (K.faults writer.old) result (K.written writer.new) (K.faults writer.new) }
+{
+    let Ok(text) = text else {
+        return Err(Fault::NoMemory);
+    };
+    match send(writer, text.as_bytes()) {
+        Ok(()) => Ok(()),
+        Err(_) => Err(Fault::OutputFailed),
+    }
+}
+
+/// The line before the first connection is accepted.
+fn serving_text(alloc: Global, sectors: u32, port: u32) -> Result<String, AllocError>
+    ensures { IfOk result (λ text. string_bytes text ≡ serving_text sectors port) }
+{
+    format!(in alloc; "serving {sectors} sectors on port {port}\n")
+}
+
+/// The lines after the last connection has ended.
+fn ended_text(alloc: Global, conns: u32, record: bool, rows: u64) -> Result<String, AllocError>
+    ensures { IfOk result (λ text. string_bytes text ≡ ended_text «record» conns rows) }
+{
+    if record {
+        format!(in alloc; "served {conns} connections\nrecorded {rows} rows\n")
+    } else {
+        format!(in alloc; "served {conns} connections\n")
+    }
+}
+
+/// What a refusal of an image's file is for the program.
+fn told_of_file(error: SimError) -> Fault
+    ensures { result ≡ told_of_file error }
+{
+    match error {
+        SimError::BadSize => Fault::BadImageSize,
+        SimError::OutOfMemory => Fault::NoMemory,
+        SimError::File => Fault::ImageFailed,
+    }
+}
+
+/// What one of a mount is.
+fn told_of_mount(error: MountError) -> Fault
+    ensures { result ≡ told_of_mount error }
+{
+    match error {
+        MountError::Probe(error) => told_of_probe(error),
+        MountError::OutOfMemory => Fault::NoMemory,
+        MountError::NotFormatted => Fault::NotFormatted,
+        MountError::Corrupt => Fault::Corrupt,
+    }
+}
+
+/// What one of a server's record is.
+fn told_of_record(error: RecordError) -> Fault
+    ensures { result ≡ told_of_record error }
+{
+    match error {
+        RecordError::Cut => Fault::ImageFailed,
+        RecordError::Slow => Fault::Slow,
+        RecordError::OutOfMemory => Fault::NoMemory,
+    }
+}
+
+/// What a fault of serving is.
+fn told_of_serving(fault: ServeFault) -> Fault
+    ensures { result ≡ told_of_serving fault }
+{
+    match fault {
+        ServeFault::NoMemory => Fault::NoMemory,
+        ServeFault::NoSocket => Fault::NoSocket,
+        ServeFault::NoThread => Fault::NoThread,
+        ServeFault::Lost => Fault::ImageFailed,
+    }
+}
