@@ -64,7 +64,7 @@ last-moved m m' h s free = Last-moved (unused m) (unused m') (record {
 }) h.lasts
 
 -- Of the entries only entry i changes.
-entry-elsewhere : (i : ℕ) (m m' : List ℕ) → Spoiled (6144 + 4 * i) 4 m m' → (j k : ℕ) → j ≢ i → k < 4 → entry m' j k ≡ entry m j k
+pub entry-elsewhere : (i : ℕ) (m m' : List ℕ) → Spoiled (6144 + 4 * i) 4 m m' → (j k : ℕ) → j ≢ i → k < 4 → entry m' j k ≡ entry m j k
 entry-elsewhere i m m' s j k other small = elim (cases_lt j i) [
   | inl low ↦ s.below (6144 + 4 * j + k) (omega arith)
   | inr high ↦ s.above (6144 + 4 * j + k) (omega arith)
@@ -84,7 +84,7 @@ named-change i b m m' low s = how_many-change (λ j. is_open_entry m j && entry_
     (λ j small other. let e = λ (k : ℕ) (h : k < 4). entry-elsewhere i m m' s j k other h in
     rw (e 0 (lit< tt), e 1 (lit< tt), e 2 (lit< tt), e 3 (lit< tt), s.same_length) refl)
 
-free-change : (i : ℕ) (m m' : List ℕ) → i < 512 → Spoiled (6144 + 4 * i) 4 m m'
+pub free-change : (i : ℕ) (m m' : List ℕ) → i < 512 → Spoiled (6144 + 4 * i) 4 m m'
     → free_entries m' + (if is_free_entry m i then 1 else 0) ≡ free_entries m + (if is_free_entry m' i then 1 else 0)
 unfolding free_entries
 free-change i m m' low s = how_many-change (is_free_entry m) (is_free_entry m') 512 i low
@@ -95,7 +95,7 @@ free-change i m m' low s = how_many-change (is_free_entry m) (is_free_entry m') 
 pub not-open : (m : List ℕ) (i : ℕ) → entry m i 0 ≢ 252 → is_open_entry m i ≡ false
 not-open m i other = grind (arith, nat_tests)
 
-not-free : (m : List ℕ) (i : ℕ) → entry m i 0 ≢ 255 → is_free_entry m i ≡ false
+pub not-free : (m : List ℕ) (i : ℕ) → entry m i 0 ≢ 255 → is_free_entry m i ≡ false
 not-free m i other = grind (arith, nat_tests)
 
 -- Taking an entry, whole or torn: where no journal is tired, the journals stay sound.

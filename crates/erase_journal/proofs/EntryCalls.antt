@@ -133,7 +133,7 @@ entry-done i c m m' o is_erased change =
     let t = entry-closed i m m' o.sound o.opened o.within change in
     (record { sound = t.0; none = t.1 }, closed-same i c m m' o.sound o.within change o.opened o.names is_erased t.1)
 
-state-open : (m : List ℕ) (i : ℕ) → is_open_entry m i ≡ true → entry m i 0 ≡ 252
+pub state-open : (m : List ℕ) (i : ℕ) → is_open_entry m i ≡ true → entry m i 0 ≡ 252
 state-open m i opened = grind (arith, nat_tests)
 
 -- The calls of an erase.

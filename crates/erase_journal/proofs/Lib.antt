@@ -9,6 +9,7 @@ pub mod Effects
 pub mod VoteCalls
 pub mod Renewal
 pub mod EntryCalls
+pub mod Uses
 pub mod Data
 pub mod Faulty
 pub mod Erased

@@ -67,7 +67,7 @@ pub record SameEntries (m m' : List ℕ) : Type 0 where
   pub opened : open_entries m' ≡ open_entries m
   pub named : (b : ℕ) → entries_for m' b ≡ entries_for m b
 
-entry-kept : (m m' : List ℕ) → BytesKept 6144 2048 m m' → (i j : ℕ) → i < 512 → j < 4 → entry m' i j ≡ entry m i j
+pub entry-kept : (m m' : List ℕ) → BytesKept 6144 2048 m m' → (i j : ℕ) → i < 512 → j < 4 → entry m' i j ≡ entry m i j
 entry-kept m m' h i j low small = rw (add_assoc 6144 (4 * i) j) (h.bytes (4 * i + j) (omega arith))
 
 pub entries-kept : (m m' : List ℕ) → BytesKept 6144 2048 m m' → length m' ≡ length m → SameEntries m m'

@@ -4,6 +4,7 @@ pub mod Journals
 pub mod Blocks
 pub mod BlockLaws
 pub mod Steps
+pub mod Spending
 pub mod Faults
 pub mod Scans
 pub mod Recovery

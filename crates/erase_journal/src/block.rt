@@ -3,7 +3,8 @@ ghost use Rattle.std.specs.Result.{IsErrOf};
 ghost use Rattle.chip_model.specs.Geometry.{block_count};
 ghost use Rattle.chip_model.specs.Memory.{and_at, TornAnd};
 ghost use Rattle.nor_driver.specs.State.{IsReady, Kept, Fails, Leaves};
-ghost use Rattle.erase_journal.specs.Journals.{IsSettled, IsHealthy};
+ghost use Rattle.erase_journal.specs.Journals.{IsSettled, IsHealthy, unused};
+ghost use Rattle.erase_journal.specs.Spending.{Spends};
 ghost use Rattle.erase_journal.specs.Blocks.{block as block_of, OnlyBlock, WithErased};
 ghost use Rattle.erase_journal.specs.Steps.{IsFirst, Interrupted};
 
@@ -58,6 +59,7 @@ pub fn erase_block<N: Nor>(nor: &mut N, block: u16) -> Result<(), NorError>
     requires number { block < block_count (length (N.state nor.old).memory) }
     ensures erased { OnOk result (WithErased block (N.state nor.old).memory (N.state nor.new).memory) }
     ensures settled { OnOk result (IsSettled (N.state nor.new).memory) }
+    ensures spends { OnOk result (Spends (unused (N.state nor.old).memory) (unused (N.state nor.new).memory)) }
     ensures cut { IsErrOf result NorError.Cut → IsHealthy (N.state nor.old).memory
         → Interrupted block (N.state nor.old).memory (N.state nor.new).memory }
     ensures ready { OnOk result (IsReady (N.state nor.old)) }

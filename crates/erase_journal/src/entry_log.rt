@@ -1,10 +1,11 @@
 ghost use Rattle.std.specs.Prelude.{◌≡◌, ◌+◌, ◌*◌, ◌/◌, ◌<◌, ◌≤◌, ◌^◌, ℕ, true, false, length, OnOk, IfOk, IfErr};
 ghost use Rattle.std.specs.Result.{IsErrOf};
 ghost use Rattle.nor_driver.specs.State.{Kept, Fails};
-ghost use Rattle.erase_journal.specs.Journals.{IsSettled, is_free_entry};
+ghost use Rattle.erase_journal.specs.Journals.{IsSettled, is_free_entry, unused};
 ghost use Rattle.erase_journal.specs.Blocks.{SameBlocks, WithErased};
 ghost use Rattle.erase_journal.specs.Scans.{IsFreeAnswer, IsOpenAnswer};
-ghost use Rattle.erase_journal.specs.Steps.{IsRestful, IsTaken, IsOpened, Stands, Interrupted};
+ghost use Rattle.erase_journal.specs.Steps.{IsRestful, IsTaken, IsOpened, SameNumbers, Stands, Interrupted};
+ghost use Rattle.erase_journal.specs.Spending.{IsUsed, KeepsUse, once_used};
 
 use crate::scan::{OpenEntry, lowest_free, lowest_open};
 use nor_driver::{Nor, NorError};
@@ -61,6 +62,7 @@ fn open_entry<N: Nor>(nor: &mut N, block: u16) -> Result<u16, NorError>
     ensures opened { IfOk result (λ entry. IsOpened entry block (N.state nor.new).memory) }
     ensures lowest { IfOk result (λ entry. (k : ℕ) → k < entry → is_free_entry (N.state nor.old).memory k ≡ false) }
     ensures erased { OnOk result (WithErased block (N.state nor.old).memory (N.state nor.new).memory) }
+    ensures used { IfOk result (λ entry. IsUsed entry (N.state nor.old).memory (N.state nor.new).memory) }
     ensures cut { IsErrOf result NorError.Cut → Interrupted block (N.state nor.old).memory (N.state nor.new).memory }
     ensures size { length (N.state nor.new).memory ≡ length (N.state nor.old).memory }
     ensures kept { OnOk result (Kept (N.state nor.old) (N.state nor.new)) }
@@ -81,6 +83,7 @@ pub fn finish_entry<N: Nor>(nor: &mut N, entry: u16, block: u16) -> Result<(), N
     requires range { block < length (N.state nor.old).memory / 4096 }
     ensures settled { OnOk result (IsSettled (N.state nor.new).memory) }
     ensures blocks { OnOk result (SameBlocks (N.state nor.old).memory (N.state nor.new).memory) }
+    ensures uses { OnOk result (KeepsUse (N.state nor.old).memory (N.state nor.new).memory) }
     ensures cut { IsErrOf result NorError.Cut → Stands (N.state nor.old).memory (N.state nor.new).memory }
     ensures size { length (N.state nor.new).memory ≡ length (N.state nor.old).memory }
     ensures kept { OnOk result (Kept (N.state nor.old) (N.state nor.new)) }
@@ -99,6 +102,7 @@ pub fn erase_rested<N: Nor>(nor: &mut N, block: u16) -> Result<(), NorError>
     requires range { block < length (N.state nor.old).memory / 4096 }
     ensures settled { OnOk result (IsSettled (N.state nor.new).memory) }
     ensures erased { OnOk result (WithErased block (N.state nor.old).memory (N.state nor.new).memory) }
+    ensures numbers { OnOk result (SameNumbers (once_used (unused (N.state nor.old).memory)) (unused (N.state nor.new).memory)) }
     ensures cut { IsErrOf result NorError.Cut → Interrupted block (N.state nor.old).memory (N.state nor.new).memory }
     ensures size { length (N.state nor.new).memory ≡ length (N.state nor.old).memory }
     ensures kept { OnOk result (Kept (N.state nor.old) (N.state nor.new)) }

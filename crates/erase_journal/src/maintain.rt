@@ -1,8 +1,9 @@
 ghost use Rattle.std.specs.Prelude.{◌≡◌, ◌≤◌, length, OnOk, IfErr};
 ghost use Rattle.std.specs.Result.{IsErrOf};
 ghost use Rattle.nor_driver.specs.State.{IsReady, Kept, Fails};
-ghost use Rattle.erase_journal.specs.Journals.{IsSettled, IsHealthy};
+ghost use Rattle.erase_journal.specs.Journals.{IsSettled, IsHealthy, unused};
 ghost use Rattle.erase_journal.specs.Blocks.{SameBlocks};
+ghost use Rattle.erase_journal.specs.Spending.{Maintains};
 ghost use Rattle.erase_journal.specs.Steps.{IsRestful, IsFirst, Stands};
 
 use crate::erase::{doom, renew};
@@ -15,6 +16,7 @@ pub fn maintain<N: Nor>(nor: &mut N) -> Result<(), NorError>
     requires size { 16384 ≤ length (N.state nor.old).memory }
     requires settled { IsReady (N.state nor.old) → IsSettled (N.state nor.old).memory }
     ensures restful { OnOk result (IsRestful (N.state nor.new).memory) }
+    ensures maintains { OnOk result (Maintains (unused (N.state nor.new).memory) (unused (N.state nor.old).memory)) }
     ensures blocks { OnOk result (SameBlocks (N.state nor.old).memory (N.state nor.new).memory) }
     ensures cut { IsErrOf result NorError.Cut → IsHealthy (N.state nor.old).memory
         → Stands (N.state nor.old).memory (N.state nor.new).memory }

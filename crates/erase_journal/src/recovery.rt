@@ -1,9 +1,10 @@
 ghost use Rattle.std.specs.Prelude.{◌↔◌, ◌⊎◌, true, false, IsTrue, IfOk, ◌≡◌, ◌+◌, ◌<◌, ◌≤◌, ℕ, length, OnOk, IfErr};
 ghost use Rattle.std.specs.Result.{IsErrOf};
 ghost use Rattle.nor_driver.specs.State.{IsReady, Kept, Fails};
-ghost use Rattle.erase_journal.specs.Journals.{IsSound, IsSettled, IsHealthy};
+ghost use Rattle.erase_journal.specs.Journals.{IsSound, IsSettled, IsHealthy, settled, unused};
 ghost use Rattle.erase_journal.specs.Blocks.{SameBlocks};
-ghost use Rattle.erase_journal.specs.Steps.{IsFirst, Stands};
+ghost use Rattle.erase_journal.specs.Steps.{IsFirst, SameNumbers, Stands};
+ghost use Rattle.erase_journal.specs.Spending.{Continues};
 ghost use Rattle.erase_journal.specs.Recovery.{seen, Restored, RestoreCut, RestoreSlow, RestoreCorrupt};
 
 use crate::entry_log::{find_open, finish_entry};
@@ -20,6 +21,7 @@ fn resume_asked<N: Nor>(nor: &mut N, journal: JournalId) -> Result<(), NorError>
     requires size { 16384 ≤ length (N.state nor.old).memory }
     requires asked { IsSound (Phase.Asked journal) (N.state nor.old).memory }
     ensures settled { OnOk result (IsSettled (N.state nor.new).memory) }
+    ensures numbers { OnOk result (SameNumbers (settled (Phase.Asked journal) (unused (N.state nor.old).memory)) (unused (N.state nor.new).memory)) }
     ensures blocks { OnOk result (SameBlocks (N.state nor.old).memory (N.state nor.new).memory) }
     ensures cut { IsErrOf result NorError.Cut → Stands (N.state nor.old).memory (N.state nor.new).memory }
     ensures size { length (N.state nor.new).memory ≡ length (N.state nor.old).memory }
@@ -36,6 +38,7 @@ fn resume_doomed<N: Nor>(nor: &mut N, journal: JournalId) -> Result<(), NorError
     requires size { 16384 ≤ length (N.state nor.old).memory }
     requires doomed { IsSound (Phase.Doomed journal) (N.state nor.old).memory }
     ensures settled { OnOk result (IsSettled (N.state nor.new).memory) }
+    ensures numbers { OnOk result (SameNumbers (settled (Phase.Doomed journal) (unused (N.state nor.old).memory)) (unused (N.state nor.new).memory)) }
     ensures blocks { OnOk result (SameBlocks (N.state nor.old).memory (N.state nor.new).memory) }
     ensures cut { IsErrOf result NorError.Cut → Stands (N.state nor.old).memory (N.state nor.new).memory }
     ensures size { length (N.state nor.new).memory ≡ length (N.state nor.old).memory }
@@ -51,6 +54,7 @@ fn resume_closing<N: Nor>(nor: &mut N, journal: JournalId) -> Result<(), NorErro
     requires size { 16384 ≤ length (N.state nor.old).memory }
     requires closing { IsSound (Phase.Closing journal) (N.state nor.old).memory }
     ensures settled { OnOk result (IsSettled (N.state nor.new).memory) }
+    ensures numbers { OnOk result (SameNumbers (settled (Phase.Closing journal) (unused (N.state nor.old).memory)) (unused (N.state nor.new).memory)) }
     ensures blocks { OnOk result (SameBlocks (N.state nor.old).memory (N.state nor.new).memory) }
     ensures cut { IsErrOf result NorError.Cut → Stands (N.state nor.old).memory (N.state nor.new).memory }
     ensures size { length (N.state nor.new).memory ≡ length (N.state nor.old).memory }
@@ -66,6 +70,7 @@ fn resume_idle<N: Nor>(nor: &mut N) -> Result<(), NorError>
     requires size { 16384 ≤ length (N.state nor.old).memory }
     requires idle { IsSound Phase.Idle (N.state nor.old).memory }
     ensures settled { OnOk result (IsSettled (N.state nor.new).memory) }
+    ensures numbers { OnOk result (SameNumbers (settled Phase.Idle (unused (N.state nor.old).memory)) (unused (N.state nor.new).memory)) }
     ensures blocks { OnOk result (SameBlocks (N.state nor.old).memory (N.state nor.new).memory) }
     ensures cut { IsErrOf result NorError.Cut → Stands (N.state nor.old).memory (N.state nor.new).memory }
     ensures size { length (N.state nor.new).memory ≡ length (N.state nor.old).memory }
@@ -84,6 +89,7 @@ fn resume<N: Nor>(nor: &mut N, phase: Phase) -> Result<(), NorError>
     requires size { 16384 ≤ length (N.state nor.old).memory }
     requires sound { IsSound phase (N.state nor.old).memory }
     ensures settled { OnOk result (IsSettled (N.state nor.new).memory) }
+    ensures numbers { OnOk result (SameNumbers (settled phase (unused (N.state nor.old).memory)) (unused (N.state nor.new).memory)) }
     ensures blocks { OnOk result (SameBlocks (N.state nor.old).memory (N.state nor.new).memory) }
     ensures cut { IsErrOf result NorError.Cut → Stands (N.state nor.old).memory (N.state nor.new).memory }
     ensures size { length (N.state nor.new).memory ≡ length (N.state nor.old).memory }
@@ -103,6 +109,7 @@ pub fn settle<N: Nor>(nor: &mut N) -> Result<bool, NorError>
     requires size { 16384 ≤ length (N.state nor.old).memory }
     ensures healthy { IfOk result (λ sound. IsTrue sound ↔ IsHealthy (N.state nor.old).memory) }
     ensures settled { IfOk result (λ sound. IsTrue sound → IsSettled (N.state nor.new).memory) }
+    ensures continues { IfOk result (λ sound. IsTrue sound → Continues (N.state nor.old).memory (N.state nor.new).memory) }
     ensures blocks { IfOk result (λ sound. IsTrue sound → SameBlocks (N.state nor.old).memory (N.state nor.new).memory) }
     ensures corrupt { IfOk result (λ sound. sound ≡ false → (N.state nor.new).memory ≡ (N.state nor.old).memory) }
     ensures cut { IsErrOf result NorError.Cut → ((N.state nor.new).memory ≡ (N.state nor.old).memory)

@@ -1,6 +1,6 @@
 -- The chip that a simulator stands for, and what it was armed for.
 use Rattle.std.specs.Prelude.{◌≡◌, ◌⊎◌, ℕ, false, true, List, length}
-use Rattle.chip_model.specs.Chip.{Chip, Idle, completed}
+use Rattle.chip_model.specs.Chip.{Chip, Operation, Idle, completed}
 use Rattle.chip_model.specs.Frames.{Answers, Status1, with_polls, one_more}
 use Rattle.fault_model.specs.Fits.{operation_of}
 use Rattle.fault_model.specs.Plan.{Armed}
@@ -9,6 +9,10 @@ use Rattle.fault_model.specs.Table.{sfdp_table}
 use Rattle.fault_model.specs.declared.cells.Cells.{Cells}
 use Rattle.fault_model.specs.declared.plan.Plan.{Plan}
 use Rattle.fault_model.specs.declared.sim_chip.SimChip.{SimChip}
+
+-- the operation in progress
+abbrev pub operation_in : Cells → Operation
+operation_in s = operation_of s.latched.bytes s.operation
 
 -- the modelled chip has no bit of status registers 2 and 3 set
 abbrev pub chip_in : Cells → Chip
@@ -19,7 +23,7 @@ chip_in s = record {
   status2 = 0;
   status3 = 0;
   enabled = s.enabled;
-  operation = operation_of s.operation;
+  operation = operation_in s;
   polls = s.polls;
   powered = s.powered;
 }

@@ -1,11 +1,12 @@
 // The cells and registers of a chip in memory, and what it answers while idle.
 ghost use Rattle.std.specs.Prelude.{◌≡◌, ◌+◌, ◌%◌, ◌<◌, ◌≤◌, ◌||◌, nat_le, true, false, length};
 ghost use Rattle.chip_model.specs.Geometry.{IsChipSize};
-ghost use Rattle.fault_model.specs.Fits.{operation_of, fits_in};
+ghost use Rattle.fault_model.specs.Fits.{fits_in};
 
 use crate::answers::{fill_id, fill_sfdp, fill_with};
 use crate::copy::fill_from;
 use crate::decode::Asked;
+use crate::latch::Latch;
 use crate::operation::Operation;
 
 /// The cells and registers of a chip in memory.
@@ -21,6 +22,8 @@ pub struct Cells {
     /// WEL.
     pub enabled: bool,
     pub operation: Operation,
+    /// The bytes of a program in progress, from the first on.
+    pub latched: Latch,
     /// How many status reads of the operation showed BUSY, at most 65,535.
     pub polls: u32,
     pub powered: bool,
@@ -46,7 +49,7 @@ impl Cells {
     ghost use Rattle.chip_model.specs.Chip.{is_idle};
     ghost use Rattle.chip_model.specs.Frames.{is_protected, Answers, status_1};
     ghost use Rattle.fault_model.specs.Asked.{asked};
-    ghost use Rattle.fault_model.specs.Sim.{chip_in, fresh_chip, pace_in};
+    ghost use Rattle.fault_model.specs.Sim.{chip_in, fresh_chip, operation_in, pace_in};
 
     /// Cells with this memory, with the power on and nothing in progress.
     pub fn new(bytes: Vec<u8>) -> Cells
@@ -64,6 +67,7 @@ impl Cells {
             protection: 0,
             enabled: false,
             operation: Operation::Idle,
+            latched: Latch::new(),
             polls: 0,
             powered: true,
             stuck: false,
@@ -75,7 +79,7 @@ impl Cells {
 
     /// Whether nothing is in progress.
     pub fn is_idle(&self) -> bool
-        ensures { result ≡ is_idle (operation_of self.now.operation) }
+        ensures { result ≡ is_idle (operation_in self.now) }
     {
         matches!(self.operation, Operation::Idle)
     }

@@ -1,23 +1,30 @@
 // What a frame does to an idle chip.
-ghost use Rattle.std.specs.Prelude.{◌≡◌, ◌<◌, ◌⊎◌, not, true, length};
+ghost use Rattle.std.specs.Prelude.{◌≡◌, ◌%◌, ◌<◌, ◌⊎◌, not, true, length};
 ghost use Rattle.fault_model.specs.Fits.{operation_of, fits_in};
 
 use crate::cells::Cells;
 use crate::decode::Asked;
 use crate::operation::Operation;
-use arrayvec::ArrayVec;
+
+/// An address, modulo the chip's size.
+fn wrapped(at: u32, size: u32) -> u32
+    requires { 0 < size }
+    ensures { result ≡ at % size }
+{
+    if at < size { at } else { at % size }
+}
 
 impl Cells {
     ghost use Rattle.chip_model.specs.Chip.{is_idle};
     ghost use Rattle.chip_model.specs.Frames.{after, starts, Erase, Program};
     ghost use Rattle.fault_model.specs.Asked.{asked, HasBytes};
-    ghost use Rattle.fault_model.specs.Sim.{chip_in, pace_in};
+    ghost use Rattle.fault_model.specs.Sim.{chip_in, operation_in, pace_in};
     ghost use Rattle.fault_model.specs.Simulated.{paced};
 
     /// An operation is in progress from now on.
     fn begin(&mut self, operation: Operation)
         requires fits { fits_in operation (length self.old.memory.items) ≡ true }
-        ensures chip { chip_in self.new ≡ starts (chip_in self.old) (operation_of operation) }
+        ensures chip { chip_in self.new ≡ starts (chip_in self.old) (operation_of self.old.latched.bytes operation) }
         ensures pace { pace_in self.new ≡ paced (pace_in self.old) true }
         ensures cuts { self.new.cuts ≡ self.old.cuts }
         ensures slows { self.new.slows ≡ self.old.slows }
@@ -30,7 +37,7 @@ impl Cells {
 
     /// A program that an idle chip is asked for, and whether it is accepted.
     fn obey_program(&mut self, at: u32, bytes: &[u8]) -> bool
-        requires idle { is_idle (operation_of self.old.operation) ≡ true }
+        requires idle { is_idle (operation_in self.old) ≡ true }
         requires some { 0 < length bytes.now }
         ensures chip { chip_in self.new ≡ after (chip_in self.old) (Program at bytes.now) }
         ensures accepted { result ≡ not (is_idle (after (chip_in self.old) (Program at bytes.now)).operation) }
@@ -38,7 +45,7 @@ impl Cells {
         ensures cuts { self.new.cuts ≡ self.old.cuts }
         ensures slows { self.new.slows ≡ self.old.slows }
     {
-        let at = at % self.memory.len() as u32;
+        let at = wrapped(at, self.size);
         if !self.enabled {
             return false;
         }
@@ -48,15 +55,15 @@ impl Cells {
         }
         let skipped = bytes.len().saturating_sub(256);
         let from = at / 256 * 256 + ((at as usize % 256 + skipped) % 256) as u32;
-        let mut latched = ArrayVec::new();
-        let _fits = latched.try_extend_from_slice(&bytes[skipped..]);
-        self.begin(Operation::Programming(from, latched));
+        let count = bytes.len() - skipped;
+        self.latched.hold(&bytes[skipped..]);
+        self.begin(Operation::Programming(from, count as u16));
         true
     }
 
     /// An erase that an idle chip is asked for, and whether it is accepted.
     fn obey_erase(&mut self, at: u32, size: u32) -> bool
-        requires idle { is_idle (operation_of self.old.operation) ≡ true }
+        requires idle { is_idle (operation_in self.old) ≡ true }
         requires size { (size ≡ 4096) ⊎ (size ≡ 65536) }
         ensures chip { chip_in self.new ≡ after (chip_in self.old) (Erase at size) }
         ensures accepted { result ≡ not (is_idle (after (chip_in self.old) (Erase at size)).operation) }
@@ -64,7 +71,7 @@ impl Cells {
         ensures cuts { self.new.cuts ≡ self.old.cuts }
         ensures slows { self.new.slows ≡ self.old.slows }
     {
-        let from = at % self.memory.len() as u32 / size * size;
+        let from = wrapped(at, self.size) / size * size;
         if !self.enabled {
             return false;
         }
@@ -78,7 +85,7 @@ impl Cells {
 
     /// What a frame does to an idle chip, and whether it starts an operation.
     pub fn obey(&mut self, frame: &Asked) -> bool
-        requires idle { is_idle (operation_of self.old.operation) ≡ true }
+        requires idle { is_idle (operation_in self.old) ≡ true }
         requires some { HasBytes frame.now }
         ensures chip { chip_in self.new ≡ after (chip_in self.old) (asked frame.now) }
         ensures accepted { result ≡ not (is_idle (after (chip_in self.old) (asked frame.now)).operation) }

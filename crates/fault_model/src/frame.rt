@@ -1,6 +1,5 @@
 // The whole effect of a frame.
 ghost use Rattle.std.specs.Prelude.{◌^◌, ◌≡◌, ◌+◌, ◌<◌, false};
-ghost use Rattle.fault_model.specs.Fits.{operation_of};
 
 use crate::answers::fill_with;
 use crate::cells::Cells;
@@ -9,12 +8,12 @@ use crate::decode::{Asked, decode};
 impl Cells {
     ghost use Rattle.chip_model.specs.Chip.{is_idle};
     ghost use Rattle.chip_model.specs.Frames.{Frame, newly_slow};
-    ghost use Rattle.fault_model.specs.Sim.{chip_in, pace_in, Polls};
+    ghost use Rattle.fault_model.specs.Sim.{chip_in, operation_in, pace_in, Polls};
     ghost use Rattle.fault_model.specs.Simulated.{after_frame, is_accepted, paced, polled};
 
     /// A status read of an operation in progress.
     fn poll(&mut self, recv: &mut [u8])
-        requires running { is_idle (operation_of self.old.operation) ≡ false }
+        requires running { is_idle (operation_in self.old) ≡ false }
         ensures done { Polls (chip_in self.old) recv.new (chip_in self.new) }
         ensures exact { self.old.slows + 1 < 2 ^ 64 → chip_in self.new ≡ polled self.old.stuck (chip_in self.old) }
         ensures prompt { self.old.stuck ≡ false → chip_in self.new ≡ polled false (chip_in self.old) }

@@ -67,12 +67,12 @@ impl<F: Read + Write + Seek + OpenFile + Drop> ImageBus<F> {
 
 impl<F: FileExt + Drop> ImageBus<F> {
     ghost use Rattle.chip_model.specs.Chip.{is_idle};
-    ghost use Rattle.fault_model.specs.Fits.{operation_of};
+    ghost use Rattle.fault_model.specs.Sim.{operation_in};
 
     /// Writes the places of a completed operation to the file, where there are any, and whether that went well.
     fn saves(&self, span: Option<(u32, u32)>) -> bool
         ensures none { span ≡ None → result ≡ true }
-        ensures running { is_idle (operation_of self.now.cells.operation) ≡ false → result ≡ true }
+        ensures running { is_idle (operation_in self.now.cells) ≡ false → result ≡ true }
     {
         let Some((at, size)) = span else {
             return true;

@@ -22,6 +22,7 @@ mod decode;
 mod error;
 mod frame;
 mod image;
+mod latch;
 mod memory;
 mod operation;
 mod plan;

@@ -1,11 +1,9 @@
-use arrayvec::ArrayVec;
-
 /// What is in progress.
-#[derive(Drop)]
+#[derive(Clone, Copy)]
 pub enum Operation {
     Idle,
-    /// A program: its first place and its bytes.
-    Programming(u32, ArrayVec<u8, 256>),
+    /// A program: its first place, and how many bytes are latched for it.
+    Programming(u32, u16),
     /// An erase: its unit's first place and its size in bytes.
     Erasing(u32, u32),
     /// A write of status register 1.

@@ -21,12 +21,14 @@ impl Cells {
         ensures cuts { self.new.cuts ≡ self.old.cuts }
         ensures slows { self.new.slows ≡ self.old.slows }
     {
-        match &self.operation {
+        match self.operation {
             Operation::Idle => {}
-            Operation::Programming(at, bytes) => tear_page(&mut self.memory, *at, bytes, mask),
-            Operation::Erasing(at, size) => fill_unit(&mut self.memory, *at, *size, mask),
+            Operation::Programming(at, count) => {
+                tear_page(&mut self.memory, at, self.latched.first(count), mask)
+            }
+            Operation::Erasing(at, size) => fill_unit(&mut self.memory, at, size, mask),
             Operation::Setting(value) => {
-                self.protection = mixed(self.protection, *value / 4, mask / 4)
+                self.protection = mixed(self.protection, value / 4, mask / 4)
             }
         }
         self.enabled = false;

@@ -1,7 +1,7 @@
 //! The bytes of the frames that a driver sends to a serial flash chip, and the bits of the chip's status registers.
 //!
-//! Each builder gives exactly the bytes of its frame, in a vector of at most 260 bytes that takes no memory; none of them
-//! fails. The bits of the three status registers are sets with names.
+//! Each builder gives exactly the bytes of its frame, in a vector that takes no memory, of at most 260 bytes for a program and of
+//! at most 5 for every other frame; none of them fails. The bits of the three status registers are sets with names.
 //!
 //! Left to the crate above: that addresses lie on the chip and a program's bytes in one page, the write enable before a
 //! change, and the waiting after it.
@@ -16,8 +16,8 @@ mod register;
 mod status_bits;
 
 pub use frames::{
-    Frame, erase_large, erase_small, jedec_id, program, read, sfdp, status, write_enable,
-    write_status,
+    Frame, ShortFrame, erase_large, erase_small, jedec_id, program, read, sfdp, status,
+    write_enable, write_status,
 };
 pub use register::Register;
 pub use status_bits::{Status1, Status2, Status3};

@@ -2,6 +2,7 @@ use Rattle.std.proofs.Common.{arith}
 use Rattle.std.proofs.lemmas.Result.{err_from_is_err_and}
 use Rattle.erase_journal.proofs.EntryCalls.{block-ok, block-cut, done-ok, done-cut}
 use Rattle.erase_journal.proofs.Renewal.{stands-on, same-blocks-on}
+use Rattle.erase_journal.proofs.Uses.{finishing-keeps}
 use Rattle.erase_journal.proofs.entry_log.finish_entry.Goals as goal
 
 pub returns-in_err-erase_small-clause-cut : goal.returns-in_err-erase_small-clause-cut
@@ -24,3 +25,9 @@ pub returns-clause-blocks : goal.returns-clause-blocks
 returns-clause-blocks g c =
     let b = block-ok c.args.entry c.args.block (g.N.Nor.state c.args.nor.now).memory (g.N.Nor.state c.erase_small.new.self).memory c.requires.opened c.requires.data (omega arith) c.in_ok-erase_small.ensures.ok in
     same-blocks-on (g.N.Nor.state c.args.nor.now).memory (g.N.Nor.state c.erase_small.new.self).memory (g.N.Nor.state c.program.new.self).memory b.blocks (done-ok c.args.entry c.args.block (g.N.Nor.state c.erase_small.new.self).memory (g.N.Nor.state c.program.new.self).memory (rw b.blocks.chip.same_length c.requires.size) b.still b.bytes (rw c.entry_place.ensures at c.in_ok-program.ensures.ok)).1
+
+pub returns-clause-uses : goal.returns-clause-uses
+returns-clause-uses g c =
+    let b = block-ok c.args.entry c.args.block (g.N.Nor.state c.args.nor.now).memory (g.N.Nor.state c.erase_small.new.self).memory c.requires.opened c.requires.data (omega arith) c.in_ok-erase_small.ensures.ok in
+    finishing-keeps c.args.entry c.args.block (g.N.Nor.state c.args.nor.now).memory (g.N.Nor.state c.erase_small.new.self).memory (g.N.Nor.state c.program.new.self).memory c.requires.size c.requires.opened c.requires.data
+    c.in_ok-erase_small.ensures.ok b.still (rw c.entry_place.ensures at c.in_ok-program.ensures.ok)

@@ -1,5 +1,6 @@
 use Rattle.std.proofs.lemmas.Result.{err_from_is_err_and}
 use Rattle.erase_journal.proofs.EntryCalls.{open-ok, open-cut}
+use Rattle.erase_journal.proofs.Uses.{opening-uses}
 use Rattle.erase_journal.proofs.entry_log.open_entry.Goals as goal
 
 pub returns-in_err-program-clause-cut : goal.returns-in_err-program-clause-cut
@@ -24,3 +25,10 @@ returns-clause-erased g c =
 
 pub returns-clause-lowest : goal.returns-clause-lowest
 returns-clause-lowest g c = (rw c.in-Some.is at c.in_ok-found.ensures.found).2
+
+pub returns-clause-used : goal.returns-clause-used
+returns-clause-used g c =
+    let h = rw c.in-Some.is at c.in_ok-found.ensures.found in
+    let same = c.in_ok-found.ensures.same in
+    opening-uses c.in-Some.entry c.args.block (g.N.Nor.state c.args.nor.now).memory (g.N.Nor.state c.take_entry.new.nor).memory (g.N.Nor.state c.program.new.self).memory c.requires.size h.0 h.1 (rw same at c.in_ok-take_entry.ensures.ok)
+    (rw c.entry_place.ensures at c.in_ok-program.ensures.ok)

@@ -1,6 +1,8 @@
 use Rattle.std.proofs.Common.{◌≡◌, ◌≤◌, length}
 use Rattle.nor_driver.specs.State.{Kept}
-use Rattle.erase_journal.specs.Journals.{IsSettled, survey_of, unused_of}
+use Rattle.erase_journal.specs.Journals.{IsSettled, survey_of, unused, unused_of}
+use Rattle.erase_journal.specs.declared.unused.Unused.{Unused}
+use Rattle.erase_journal.specs.Spending.{Maintains}
 use Rattle.erase_journal.specs.Blocks.{SameBlocks}
 use Rattle.erase_journal.proofs.Lasting.{wear}
 use Rattle.erase_journal.proofs.maintain.maintain.Given as goal
@@ -10,6 +12,7 @@ invariant-loop-journal g l = record {
   size : 16384 ≤ length (g.N.Nor.state l.nor).memory;
   settled : IsSettled (g.N.Nor.state l.nor).memory;
   blocks : SameBlocks (g.N.Nor.state l.fn.nor).memory (g.N.Nor.state l.nor).memory;
+  maintains : (rest : Unused) → Maintains rest (unused (g.N.Nor.state l.nor).memory) → Maintains rest (unused (g.N.Nor.state l.fn.nor).memory);
   since : Kept (g.N.Nor.state l.fn.nor) (g.N.Nor.state l.nor);
   survey : l.survey ≡ survey_of (g.N.Nor.state l.nor).memory;
 }

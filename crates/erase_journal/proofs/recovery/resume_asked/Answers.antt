@@ -1,5 +1,8 @@
 use Rattle.std.proofs.lemmas.Result.{err_from_is_err_and}
 use Rattle.erase_journal.proofs.Renewal.{second-cut, second-opened, some-second, stands-on, same-blocks-on}
+use Rattle.erase_journal.specs.Journals.{settled, unused}
+use Rattle.erase_journal.specs.declared.phase.Phase.TheVariants.{Asked, Doomed}
+use Rattle.erase_journal.proofs.Uses.{same-on}
 use Rattle.erase_journal.proofs.recovery.resume_asked.Goals as goal
 
 pub open_vote-requires-clause-some : goal.open_vote-requires-clause-some
@@ -28,3 +31,9 @@ pub returns-clause-blocks : goal.returns-clause-blocks
 returns-clause-blocks g c =
     let s = second-opened c.args.journal (g.N.Nor.state c.args.nor.now).memory (g.N.Nor.state c.open_vote.new.nor).memory c.requires.asked (rw c.second_votes.ensures at c.in_ok-open_vote.ensures.ok) in
     same-blocks-on (g.N.Nor.state c.args.nor.now).memory (g.N.Nor.state c.open_vote.new.nor).memory (g.N.Nor.state c.renew.new.nor).memory s.1 c.in_ok-renew.ensures.blocks
+
+pub returns-clause-numbers : goal.returns-clause-numbers
+returns-clause-numbers g c =
+    let s = second-opened c.args.journal (g.N.Nor.state c.args.nor.now).memory (g.N.Nor.state c.open_vote.new.nor).memory c.requires.asked (rw c.second_votes.ensures at c.in_ok-open_vote.ensures.ok) in
+    same-on (settled (Asked c.args.journal) (unused (g.N.Nor.state c.args.nor.now).memory)) (settled (Doomed c.args.journal) (unused (g.N.Nor.state c.open_vote.new.nor).memory)) (unused (g.N.Nor.state c.renew.new.nor).memory)
+    s.0.numbers c.in_ok-renew.ensures.ok.numbers

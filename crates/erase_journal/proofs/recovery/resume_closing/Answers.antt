@@ -19,3 +19,8 @@ pub returns-clause-blocks : goal.returns-clause-blocks
 returns-clause-blocks g c =
     let s = second-closed c.args.journal (g.N.Nor.state c.args.nor.now).memory (g.N.Nor.state c.close_vote.new.nor).memory c.requires.closing (rw c.second_votes.ensures at c.in_ok-close_vote.ensures.ok) in
     s.1
+
+pub returns-clause-numbers : goal.returns-clause-numbers
+returns-clause-numbers g c =
+    let s = second-closed c.args.journal (g.N.Nor.state c.args.nor.now).memory (g.N.Nor.state c.close_vote.new.nor).memory c.requires.closing (rw c.second_votes.ensures at c.in_ok-close_vote.ensures.ok) in
+    s.0.numbers
