@@ -1,6 +1,6 @@
 //! The calls of a store of sector slots, as a trait: `SectorSlots` has them, and so has a store that keeps an index beside its slots.
 
-ghost use Rattle.std.specs.Prelude.{◌≡◌, ◌≢◌, ◌⊎◌, ◌↔◌, ◌+◌, ◌*◌, ◌/◌, ◌<◌, ℕ, Bool, true, false, List, length, OnOk, IfOk, IfErr, MatchOption, IsTrue};
+ghost use Rattle.std.specs.Prelude.{◌≡◌, ◌≢◌, ◌⊎◌, ◌↔◌, ◌+◌, ◌*◌, ◌<◌, ℕ, Bool, false, List, length, OnOk, IfOk, IfErr, MatchOption, IsTrue};
 ghost use Rattle.std.specs.Result.{IsErrOf};
 ghost use Rattle.chip_model.specs.Geometry.{IsChipSize};
 ghost use Rattle.nor_driver.specs.State.{NorState, IsReady};
@@ -10,7 +10,6 @@ ghost use Rattle.erase_journal.specs.Journals.{IsHealthy};
 ghost use Rattle.erase_journal.specs.Steps.{Interrupted};
 ghost use Rattle.erase_journal.specs.Recovery.{Restored, RestoreFails};
 ghost use Rattle.sector_slots.specs.Slots.{Free, Live, Dead, slot_at, stored_at, slot_count, data_blocks, data_block, kind_at, raw_slot, descriptor_in, read_header, IsClean, IsLive, SameSlots};
-ghost use Rattle.sector_slots.specs.Blocks.{IsReserveOf};
 ghost use Rattle.sector_slots.specs.Steps.{Succeeds, Refuses, IsWritable, PutLeaves, HoldsTag, MayHoldTag, OnlyPlace, OnlyMark, IsBegun, IsFresh, CopyLeaves, IsErasable};
 
 use erase_journal::RecoverError;
@@ -19,7 +18,8 @@ use nor_layout::{Header, Kind, Tag};
 
 /// The data blocks behind the journals, as seven slots each. Blocks and slots are counted from 0: slot 7c + i is the one at place i
 /// of data block c. Every call that can fail but `restore` answers a Slow that stands, then a power that is off, before
-/// anything else. The calls that change blocks as a whole (`begin` to `erase`) don't keep the index. Source: own, layout 2.
+/// anything else. Reads keep an index that is kept beside the slots; the calls that change the
+/// memory needn't. Source: own, layout 2.
 pub trait SlotCalls {
     ghost state: { Self → NorState };
 
@@ -78,8 +78,6 @@ pub trait SlotCalls {
         ensures cut_only { IsErrOf result NorError.Cut → OnlyPlace slot (state self.old).memory (state self.new).memory }
         ensures chip { SameChip (state self.old).memory (state self.new).memory }
         ensures healthy { IsErrOf result NorError.Cut → IsHealthy (state self.old).memory → IsHealthy (state self.new).memory }
-        ensures index { OnOk result (indexed self.old ≡ true → slot_at (state self.old).memory slot ≡ Free
-            → (r : ℕ) → IsReserveOf r (state self.old).memory → r ≢ slot / 7 → indexed self.new ≡ true) }
         ensures done { OnOk result (Succeeds (state self.old) (state self.new)) }
         ensures fails { IfErr result (λ e. Refuses e (state self.old) (state self.new)) };
 
@@ -95,7 +93,6 @@ pub trait SlotCalls {
         ensures cut_only { IsErrOf result NorError.Cut → OnlyPlace slot (state self.old).memory (state self.new).memory }
         ensures chip { SameChip (state self.old).memory (state self.new).memory }
         ensures healthy { IsErrOf result NorError.Cut → IsHealthy (state self.old).memory → IsHealthy (state self.new).memory }
-        ensures index { OnOk result (indexed self.old ≡ true → IsLive (slot_at (state self.old).memory slot) → indexed self.new ≡ true) }
         ensures done { OnOk result (Succeeds (state self.old) (state self.new)) }
         ensures fails { IfErr result (λ e. Refuses e (state self.old) (state self.new)) };
 
