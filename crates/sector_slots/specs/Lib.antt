@@ -8,8 +8,8 @@ pub mod CopyLaws
 pub mod BlockLaws
 pub mod CommitLaws
 pub mod MoveLaws
-pub mod Programs
 pub mod Steps
+pub mod Programs
 pub mod Laws
 pub mod SlotLaws
 pub mod StepLaws

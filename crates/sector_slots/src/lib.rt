@@ -13,7 +13,13 @@
 #![tactic(auto)]
 
 mod calls;
+mod head;
 mod laws;
+mod mark;
+mod read;
+mod slot;
+mod store;
+mod write;
 
 pub use calls::SlotCalls;
 pub use laws::{
@@ -21,3 +27,4 @@ pub use laws::{
     reserves_are_one, sectors_have_one_content, sound_blocks_have_no_fault, steps_keep_sectors,
     steps_keep_singles,
 };
+pub use store::SectorSlots;
