@@ -9,7 +9,6 @@ pub mod BlockLaws
 pub mod CommitLaws
 pub mod MoveLaws
 pub mod Steps
-pub mod Programs
 pub mod Laws
 pub mod SlotLaws
 pub mod StepLaws

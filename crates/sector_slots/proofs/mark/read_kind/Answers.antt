@@ -1,7 +1,0 @@
-use Rattle.std.proofs.Common.{◌+◌, ◌∙◌}
-use Rattle.erase_journal.specs.Blocks.{block}
-use Rattle.sector_slots.proofs.Marks.{kind-read}
-use Rattle.sector_slots.proofs.mark.read_kind.Goals as goal
-
-pub returns-clause-ok : goal.returns-clause-ok
-returns-clause-ok g c = c.block_kind.ensures ∙ kind-read (block c.args.journal.now.memory (c.args.block + 4)) c.read.new.into c.in_ok-read.ensures.ok

@@ -1,4 +1,0 @@
-use Rattle.sector_slots.proofs.store.SectorSlotsSlotCalls.copy.Goals as goal
-
-pub returns-clause-ok : goal.returns-clause-ok
-returns-clause-ok g c = rw (← c.self.view_is) c.copy_at.ensures.ok
