@@ -8,7 +8,6 @@ pub mod CopyLaws
 pub mod BlockLaws
 pub mod CommitLaws
 pub mod MoveLaws
-pub mod Programs
 pub mod Steps
 pub mod Laws
 pub mod SlotLaws

@@ -1,4 +1,4 @@
-//! The calls of a store of sector slots, as a trait: `SectorSlots` has them, and so has a store that keeps an index beside its slots.
+//! The calls of a store of sector slots, as a trait: `journal_slots::SectorSlots` has them, and so has a store that keeps an index beside its slots.
 
 ghost use Rattle.std.specs.Prelude.{◌≡◌, ◌≢◌, ◌⊎◌, ◌↔◌, ◌+◌, ◌*◌, ◌<◌, ℕ, Bool, false, List, length, OnOk, IfOk, IfErr, MatchOption, IsTrue};
 ghost use Rattle.std.specs.Result.{IsErrOf};

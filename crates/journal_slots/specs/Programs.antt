@@ -2,7 +2,8 @@
 use Rattle.std.specs.Prelude.{◌≡◌, ◌⊎◌, ℕ, ◌+◌, ◌*◌, ◌<◌, ◌≤◌, List, length}
 use Rattle.chip_model.specs.Memory.{byte}
 use Rattle.nor_layout.specs.declared.header.Tag.{Tag}
-use Rattle.sector_slots.specs.Slots.{Live, Dead, slot_in}
+use Rattle.sector_slots.specs.Slots.{Live, Dead, slot_in, content_in, blank_sector}
+use Rattle.sector_slots.specs.Steps.{HoldsTag}
 
 -- n bytes from `from` on may differ, all others are the same
 pub record OnlyBytes (from n : ℕ) (b t : List ℕ) : Type 0 where
@@ -18,8 +19,9 @@ pub record InPlace (i : ℕ) (b t : List ℕ) : Type 0 where
   pub same_length : length t ≡ length b
   pub each : (k : ℕ) → k < 4096 → IsElsewhere i k → byte t k ≡ byte b k
 
--- what a write of a sector into place i leaves where it is cut: the block as it was, or the slot dead, or live
+-- What a write of a sector into place i, which is free, leaves where it is cut: the block as it was, or the slot dead, or live with
+-- the tag, and where the place was erased with the sector.
 pub data WriteLeaves (i : ℕ) (tag : Tag) (x b t : List ℕ) : Type 0 where
   untouched : t ≡ b → WriteLeaves i tag x b t
   spoiled : slot_in t i ≡ Dead → WriteLeaves i tag x b t
-  filled : slot_in t i ≡ Live tag x → WriteLeaves i tag x b t
+  filled : HoldsTag tag (slot_in t i) → (content_in b i ≡ blank_sector → slot_in t i ≡ Live tag x) → WriteLeaves i tag x b t
