@@ -1,6 +1,10 @@
 -- What follows from the definitions of slots and of what calls leave. Source: own, layout 2.
-use Rattle.std.specs.Prelude.{◌≡◌, ◌≢◌, ℕ, List}
-use Rattle.sector_slots.specs.Slots.{Slot, Free, Outside, raw_slot, slot_at, stored_at}
+use Rattle.std.specs.Prelude.{◌≡◌, ◌≢◌, ℕ, List, length}
+use Rattle.chip_model.specs.Geometry.{IsChipSize}
+use Rattle.erase_journal.specs.Blocks.{IsErasedBehind}
+use Rattle.erase_journal.specs.Journals.{IsSettled}
+use Rattle.sector_slots.specs.Slots.{Slot, Free, Outside, raw_slot, slot_at, stored_at, IsClean}
+use Rattle.sector_slots.specs.Sectors.{zeros, sector_at, IsSoundMap, IsAtRestMap}
 use Rattle.sector_slots.specs.Blocks.{IsReserveOf}
 use Rattle.sector_slots.specs.Copying.{copy_slot, CopiesTag}
 use Rattle.sector_slots.specs.Steps.{IsFresh, CopyLeaves}
@@ -20,3 +24,8 @@ CopiesKeepTags = (old : Slot) (t i : ℕ) (m m' : List ℕ) → CopyLeaves old t
 -- A memory has at most one reserve.
 abbrev pub ReservesAreOne : Type 0
 ReservesAreOne = (m : List ℕ) (r s : ℕ) → IsReserveOf r m → IsReserveOf s m → r ≡ s
+
+-- A chip that is erased behind its superblock is settled and clean, nothing of it is corrupt, and each of its sectors is zeros.
+abbrev pub ErasedChipsHoldZeros : Type 0
+ErasedChipsHoldZeros = (m : List ℕ) → IsChipSize (length m) → IsErasedBehind m
+    → IsSettled m × IsClean m × IsSoundMap m × IsAtRestMap m × ((g : ℕ) → sector_at m g ≡ zeros)

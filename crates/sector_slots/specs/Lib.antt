@@ -18,3 +18,4 @@ pub mod BlankLaws
 pub mod CleanLaws
 pub mod PlaceLaws
 pub mod ClearLaws
+pub mod ErasedLaws

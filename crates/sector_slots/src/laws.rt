@@ -3,8 +3,10 @@ ghost use Rattle.std.specs.Prelude.{◌≡◌, ℕ, List};
 ghost use Rattle.sector_slots.specs.Slots.{Slot};
 ghost use Rattle.sector_slots.specs.Sectors.{SectorIs};
 ghost use Rattle.sector_slots.specs.Blocks.{SoundHasNoFault};
-ghost use Rattle.sector_slots.specs.Laws.{CountedSlotsAreStored, CopiesAreExact, CopiesKeepTags, ReservesAreOne};
+ghost use Rattle.sector_slots.specs.Laws.{CountedSlotsAreStored, CopiesAreExact, CopiesKeepTags, ReservesAreOne, ErasedChipsHoldZeros};
 ghost use Rattle.sector_slots.specs.Machine.{StepsKeepSectors, StepsKeepSingles, LastStepsSettle};
+
+use erase_journal::erased_chips_are_settled;
 
 /// A sector has at most one content, whatever the slots are.
 pub fn sectors_have_one_content()
@@ -50,3 +52,10 @@ pub fn copies_keep_tags()
 pub fn reserves_are_one()
     ensures { ReservesAreOne }
 {}
+
+/// A chip that is erased but for its superblock is healthy and clean, and each of its sectors is zeros.
+pub fn erased_chips_hold_zeros()
+    ensures { ErasedChipsHoldZeros }
+{
+    erased_chips_are_settled();
+}

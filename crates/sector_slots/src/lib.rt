@@ -19,7 +19,7 @@ mod laws;
 
 pub use calls::SlotCalls;
 pub use laws::{
-    copies_are_exact, copies_keep_tags, counted_slots_are_stored, last_steps_settle,
-    reserves_are_one, sectors_have_one_content, sound_blocks_have_no_fault, steps_keep_sectors,
-    steps_keep_singles,
+    copies_are_exact, copies_keep_tags, counted_slots_are_stored, erased_chips_hold_zeros,
+    last_steps_settle, reserves_are_one, sectors_have_one_content, sound_blocks_have_no_fault,
+    steps_keep_sectors, steps_keep_singles,
 };
