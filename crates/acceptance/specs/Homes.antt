@@ -5,7 +5,7 @@ use Rattle.slot_store.specs.Slots.{Slot, Free, Live, NoGeneration, Dead, slot_at
 -- slot s, where it is live, holds group s, which a chip of any size has
 abbrev pub IsHome : ℕ → Slot → Type 0
 IsHome s Free = Unit {0}
-IsHome s (Live tag content) = (tag.group ≡ s) × (s < 10)
+IsHome s (Live tag content) = (tag.number ≡ s) × (s < 10)
 IsHome s NoGeneration = ⊥
 IsHome s Dead = Unit {0}
 

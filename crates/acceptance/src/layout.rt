@@ -119,13 +119,13 @@ fn votes_entries_and_headers(rt: HostRuntime) {
         );
     }
     let tag = Tag {
-        group: 3_579,
+        number: 3_579,
         generation: Generation::Three,
     };
     assert_eq!(rt; begun_header(tag), [0xFE, 0xFF, 0xFB, 0x0D]);
     assert_eq!(rt; Generation::Three.next(), Generation::Zero);
     let zero = Tag {
-        group: 0,
+        number: 0,
         generation: Generation::One,
     };
     for (bytes, header) in [

@@ -15,7 +15,7 @@ fn is_home<N: Nor>(slots: &mut Slots<N>, slot: u16) -> Result<bool, NorError>
 {
     match slots.header(slot)? {
         Header::Free => Ok(true),
-        Header::Live(tag) => Ok(tag.group == slot && slot < 10),
+        Header::Live(tag) => Ok(tag.number == slot && slot < 10),
         Header::NoGeneration => Ok(false),
         Header::Dead => Ok(true),
     }

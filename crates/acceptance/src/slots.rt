@@ -15,7 +15,7 @@ const SLOT_2: usize = 0x6000;
 
 /// Group 0 in its first generation.
 const FIRST: Tag = Tag {
-    group: 0,
+    number: 0,
     generation: Generation::Zero,
 };
 
@@ -138,7 +138,7 @@ fn a_put_writes_the_header_and_the_content(rt: HostRuntime) -> Result<(), Fail> 
 #[test]
 fn the_group_has_its_low_byte_first(rt: HostRuntime) -> Result<(), Fail> {
     let tag = Tag {
-        group: 0x0102,
+        number: 0x0102,
         generation: Generation::Two,
     };
     let memory = after(rt.alloc(), &erased(rt.alloc())?, Call::Put(tag), 2)?;

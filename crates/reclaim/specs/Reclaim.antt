@@ -9,9 +9,9 @@ use Rattle.slot_store.specs.Slots.{Slot, Free, Live, NoGeneration, Dead, slot_at
 -- Each live slot holds a group of this chip, no two the same one, and no slot is without a generation. A chip has more slots
 -- than groups, so one is then free or dead.
 pub record HasRoom (m : List ℕ) : Type 0 where
-  pub groups : (s : ℕ) (tag : Tag) (x : List ℕ) → s < slot_count m → slot_at m s ≡ Live tag x → tag.group < group_count (length m)
+  pub groups : (s : ℕ) (tag : Tag) (x : List ℕ) → s < slot_count m → slot_at m s ≡ Live tag x → tag.number < group_count (length m)
   pub single : (s t : ℕ) (a b : Tag) (x y : List ℕ) → s < slot_count m → t < slot_count m → slot_at m s ≡ Live a x → slot_at m t ≡ Live b y
-      → a.group ≡ b.group → s ≡ t
+      → a.number ≡ b.number → s ≡ t
   pub whole : (s : ℕ) → s < slot_count m → slot_at m s ≢ NoGeneration
 
 -- slot w is the lowest-numbered of this kind

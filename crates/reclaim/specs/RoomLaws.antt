@@ -57,7 +57,7 @@ pigeonhole (suc n) (suc k) g a =
 
 abbrev group_in : Slot → ℕ
 group_in Free = 0
-group_in (Live tag content) = tag.group
+group_in (Live tag content) = tag.number
 group_in NoGeneration = 0
 group_in Dead = 0
 

@@ -32,7 +32,7 @@ kind_of_header headers.Dead = 3
 
 abbrev group_of_header : Header → ℕ
 group_of_header headers.Free = 0
-group_of_header (headers.Live tag) = tag.group
+group_of_header (headers.Live tag) = tag.number
 group_of_header headers.NoGeneration = 0
 group_of_header headers.Dead = 0
 
@@ -42,11 +42,11 @@ generation_of_header (headers.Live tag) = tag.generation
 generation_of_header headers.NoGeneration = Zero
 generation_of_header headers.Dead = Zero
 
-same-tag : (a b : Tag) → a.group ≡ b.group → a.generation ≡ b.generation → a ≡ b
-same-tag a b g k = (subst (λ z. record { group = a.group; generation = z } ≡ b) (sym k) (subst (λ z. record { group = z; generation = b.generation } ≡ b) (sym g) refl))
+same-tag : (a b : Tag) → a.number ≡ b.number → a.generation ≡ b.generation → a ≡ b
+same-tag a b g k = (subst (λ z. record { number = a.number; generation = z } ≡ b) (sym k) (subst (λ z. record { number = z; generation = b.generation } ≡ b) (sym g) refl))
 
 -- a slot whose header is live is live
-live-header : (s : Slot) (tag : Tag) → header_in s ≡ headers.Live tag → (x : List ℕ) × (s ≡ Live (record { group = tag.group; generation = tag.generation }) x)
+live-header : (s : Slot) (tag : Tag) → header_in s ≡ headers.Live tag → (x : List ℕ) × (s ≡ Live (record { number = tag.number; generation = tag.generation }) x)
 live-header Free tag e = let h : 0 ≡ 1 = ap kind_of_header e in absurd (omega (arith, h))
 live-header (Live t x) tag e = (x, ap (λ z. Live z x) (same-tag t tag (ap group_of_header e) (ap generation_of_header e)))
 live-header NoGeneration tag e = let h : 2 ≡ 1 = ap kind_of_header e in absurd (omega (arith, h))
@@ -60,7 +60,7 @@ no-generation Dead e = let h : 3 ≡ 2 = ap kind_of_header e in absurd (omega (a
 
 -- slot n isn't live with g
 abbrev IsOther : (ℕ → Slot) → ℕ → ℕ → Type 0
-IsOther f n g = (k : Generation) (x : List ℕ) → f n ≢ Live (record { group = g; generation = k }) x
+IsOther f n g = (k : Generation) (x : List ℕ) → f n ≢ Live (record { number = g; generation = k }) x
 
 back : (f : ℕ → Slot) (n b g : ℕ) (k : Generation) (x : List ℕ) → IsOther f n g → LiveAt f (suc n) b g k x → LiveAt f n b g k x
 back f n b g k x out l = elim (cases_eq b n) [ inl same ↦ absurd (out k x (ap f (sym same) ∙ l.is)) | inr other ↦ less f n b g k x other l ]
@@ -102,7 +102,7 @@ is-next j k e = elim (cases_eq (generation_byte j) (generation_byte (next_genera
 ]
 
 -- one more slot of the group
-pub says-noted : (e e' : Entry) (f : ℕ → Slot) (n g : ℕ) (k : Generation) (x : List ℕ) → f n ≡ Live (record { group = g; generation = k }) x → Says e f n g
+pub says-noted : (e e' : Entry) (f : ℕ → Slot) (n g : ℕ) (k : Generation) (x : List ℕ) → f n ≡ Live (record { number = g; generation = k }) x → Says e f n g
     → noted e (record { slot = n; generation = k }) ≡ Some e' → Says e' f (suc n) g
 says-noted Absent e' f n g k x here none e = subst (λ z. Says z f (suc n) g) (some-one (One (record { slot = n; generation = k })) e' e) (record {
   live = (x, record { number = omega arith; is = here });
@@ -136,7 +136,7 @@ next-is : (j k : Generation) → j ≡ next_generation k → is_next j k ≡ tru
 next-is j k e = eq-eqb (generation_byte j) (generation_byte (next_generation k)) (ap generation_byte e)
 
 -- where it is refused the slots are corrupt
-pub noted-none : (e : Entry) (f : ℕ → Slot) (n total g count : ℕ) (k : Generation) (x : List ℕ) → n < total → f n ≡ Live (record { group = g; generation = k }) x → Says e f n g
+pub noted-none : (e : Entry) (f : ℕ → Slot) (n total g count : ℕ) (k : Generation) (x : List ℕ) → n < total → f n ≡ Live (record { number = g; generation = k }) x → Says e f n g
     → noted e (record { slot = n; generation = k }) ≡ None → SoundSlots f total count → ⊥
 noted-none Absent f n total g count k x low here none e sound = absurd (none-some (One (record { slot = n; generation = k })) (sym e))
 noted-none (One h) f n total g count k x low here o e sound =
@@ -190,22 +190,22 @@ tabled-dead table f n e t = quiet-within table f n (λ g k x l. (let h : 3 ≡ 1
     (λ l. (let h : 3 ≡ 2 = ap kind_of_header (sym e ∙ ap header_in l) in omega (arith, h))) t
 
 -- after one that is live and was entered;
-pub tabled-live : (old new : List Entry) (f : ℕ → Slot) (n : ℕ) (tag : Tag) → header_in (f n) ≡ headers.Live tag → Entered old tag.group (record { slot = n; generation = tag.generation }) new
+pub tabled-live : (old new : List Entry) (f : ℕ → Slot) (n : ℕ) (tag : Tag) → header_in (f n) ≡ headers.Live tag → Entered old tag.number (record { slot = n; generation = tag.generation }) new
     → IsTabled old f n → IsTabled new f (suc n)
 tabled-live old new f n tag e d t =
     let here = live-header (f n) tag e in
-    let out : (h : ℕ) → h ≢ tag.group → IsOther f n h = λ h other k x l. other (ap group_in (sym l ∙ here.1)) in
+    let out : (h : ℕ) → h ≢ tag.number → IsOther f n h = λ h other k x l. other (ap group_in (sym l ∙ here.1)) in
     record {
-      each = λ h low. elim (cases_eq h tag.group) [
+      each = λ h low. elim (cases_eq h tag.number) [
         | inl same ↦ subst (λ z. Says (slice_index_or new z Absent) f (suc n) z) (sym same)
-            (says-noted (slice_index_or old tag.group Absent) (slice_index_or new tag.group Absent) f n tag.group tag.generation here.0 here.1 (t.each tag.group d.number) d.entry)
+            (says-noted (slice_index_or old tag.number Absent) (slice_index_or new tag.number Absent) f n tag.number tag.generation here.0 here.1 (t.each tag.number d.number) d.entry)
         | inr other ↦
             let was : h < length old = omega (arith, low, d.size) in
             subst (λ z. Says z f (suc n) h) (sym (d.others h was other)) (says-on (slice_index_or old h Absent) f n h (out h other) (t.each h was))
       ];
       within = λ s h k x l. elim (cases_eq s n) [
         | inl same ↦
-            let q : h ≡ tag.group = ap group_in (sym l.is ∙ (ap f same ∙ here.1)) in
+            let q : h ≡ tag.number = ap group_in (sym l.is ∙ (ap f same ∙ here.1)) in
             omega (arith, q, d.number, d.size)
         | inr other ↦ (let w = t.within s h k x (less f n s h k x other l) in omega (arith, w, d.size))
       ];
@@ -216,15 +216,15 @@ tabled-live old new f n tag e d t =
     }
 
 -- and where a slot is refused the slots are corrupt.
-pub corrupt-live : (table new : List Entry) (f : ℕ → Slot) (n total : ℕ) (tag : Tag) → n < total → header_in (f n) ≡ headers.Live tag → Enters table tag.group (record { slot = n; generation = tag.generation }) false new
+pub corrupt-live : (table new : List Entry) (f : ℕ → Slot) (n total : ℕ) (tag : Tag) → n < total → header_in (f n) ≡ headers.Live tag → Enters table tag.number (record { slot = n; generation = tag.generation }) false new
     → IsTabled table f n → SoundSlots f total (length table) → ⊥
 corrupt-live table new f n total tag low e (same, why) t sound =
     let here = live-header (f n) tag e in
     elim why [
-      | inl past ↦ (let q = sound.group n tag.group tag.generation here.0 (record { number = low; is = here.1 }) in omega (arith, q, past))
-      | inr none ↦ elim (cases_lt tag.group (length table)) [
-        | inl small ↦ noted-none (slice_index_or table tag.group Absent) f n total tag.group (length table) tag.generation here.0 low here.1 (t.each tag.group small) none sound
-        | inr past ↦ (let q = sound.group n tag.group tag.generation here.0 (record { number = low; is = here.1 }) in omega (arith, q, past))
+      | inl past ↦ (let q = sound.group n tag.number tag.generation here.0 (record { number = low; is = here.1 }) in omega (arith, q, past))
+      | inr none ↦ elim (cases_lt tag.number (length table)) [
+        | inl small ↦ noted-none (slice_index_or table tag.number Absent) f n total tag.number (length table) tag.generation here.0 low here.1 (t.each tag.number small) none sound
+        | inr past ↦ (let q = sound.group n tag.number tag.generation here.0 (record { number = low; is = here.1 }) in omega (arith, q, past))
       ]
     ]
 
@@ -250,16 +250,16 @@ read-dead table0 table now m m0 n next h one_more same e is t size tabled = subs
     (record { size = size; tabled = tabled-dead table (slot_at m0) n (here-is m m0 n h headers.Dead same e is) tabled }))
 
 pub read-live : (table0 table entered now : List Entry) (m m0 : List ℕ) (n next : ℕ) (h : Header) (tag : Tag) (t : Bool) → next ≡ suc n → m ≡ m0 → h ≡ header_in (slot_at m n) → h ≡ headers.Live tag → now ≡ entered
-    → t ≡ true → Enters table tag.group (record { slot = n; generation = tag.generation }) t entered → length table ≡ length table0 → IsTabled table (slot_at m0) n → Read table0 now m0 next
+    → t ≡ true → Enters table tag.number (record { slot = n; generation = tag.generation }) t entered → length table ≡ length table0 → IsTabled table (slot_at m0) n → Read table0 now m0 next
 read-live table0 table entered now m m0 n next h tag t one_more same e is q accepted d size tabled =
-    let e' : Entered table tag.group (record { slot = n; generation = tag.generation }) entered = subst (λ z. Enters table tag.group (record { slot = n; generation = tag.generation }) z entered) accepted d in
+    let e' : Entered table tag.number (record { slot = n; generation = tag.generation }) entered = subst (λ z. Enters table tag.number (record { slot = n; generation = tag.generation }) z entered) accepted d in
     subst (λ k. Read table0 now m0 k) (sym one_more) (subst (λ z. Read table0 z m0 (suc n)) (sym q)
     (record { size = e'.size ∙ size; tabled = tabled-live table entered (slot_at m0) n tag (here-is m m0 n h (headers.Live tag) same e is) e' tabled }))
 
 pub read-corrupt : (table0 table entered : List Entry) (m m0 : List ℕ) (n : ℕ) (h : Header) (tag : Tag) (t : Bool) → n < slot_count m0 → m ≡ m0 → h ≡ header_in (slot_at m n) → h ≡ headers.Live tag
-    → t ≡ false → Enters table tag.group (record { slot = n; generation = tag.generation }) t entered → length table ≡ length table0 → IsTabled table (slot_at m0) n
+    → t ≡ false → Enters table tag.number (record { slot = n; generation = tag.generation }) t entered → length table ≡ length table0 → IsTabled table (slot_at m0) n
     → SoundSlots (slot_at m0) (slot_count m0) (length table0) → ⊥
 read-corrupt table0 table entered m m0 n h tag t low same e is refused d size tabled sound =
     corrupt-live table entered (slot_at m0) n (slot_count m0) tag low (here-is m m0 n h (headers.Live tag) same e is)
-    (subst (λ z. Enters table tag.group (record { slot = n; generation = tag.generation }) z entered) refused d) tabled
+    (subst (λ z. Enters table tag.number (record { slot = n; generation = tag.generation }) z entered) refused d) tabled
     (subst (λ z. SoundSlots (slot_at m0) (slot_count m0) z) (sym size) sound)

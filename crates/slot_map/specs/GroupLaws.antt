@@ -10,7 +10,7 @@ use Rattle.slot_map.specs.Groups.{LiveAt, GroupIs, absent, held, Maps, SoundSlot
 -- the parts of a slot, to tell slots apart
 abbrev pub group_in : Slot → ℕ
 group_in Free = 0
-group_in (Live tag x) = tag.group
+group_in (Live tag x) = tag.number
 group_in NoGeneration = 0
 group_in Dead = 0
 
@@ -47,7 +47,7 @@ moved-back f f' n w s g k x only other l = record { number = l.number; is = sym 
 
 -- slot w isn't live with g
 abbrev pub Without : (ℕ → Slot) → ℕ → ℕ → Type 0
-Without f w g = (k : Generation) (x : List ℕ) → f w ≢ Live (record { group = g; generation = k }) x
+Without f w g = (k : Generation) (x : List ℕ) → f w ≢ Live (record { number = g; generation = k }) x
 
 -- a slot that is live with g neither before nor after leaves the group
 pub group-kept : (f f' : ℕ → Slot) (n w g : ℕ) (x : List ℕ) → OthersKept n w f f' → Without f w g → Without f' w g → GroupIs f n g x → GroupIs f' n g x
@@ -61,7 +61,7 @@ free-without f w g e k x l = let h : 0 ≡ 1 = ap kind_in (sym e ∙ l) in absur
 pub dead-without : (f : ℕ → Slot) (w g : ℕ) → f w ≡ Dead → Without f w g
 dead-without f w g e k x l = let h : 3 ≡ 1 = ap kind_in (sym e ∙ l) in absurd (omega (arith, h))
 
-pub other-without : (f : ℕ → Slot) (w g h : ℕ) (j : Generation) (y : List ℕ) → f w ≡ Live (record { group = h; generation = j }) y → g ≢ h → Without f w g
+pub other-without : (f : ℕ → Slot) (w g h : ℕ) (j : Generation) (y : List ℕ) → f w ≡ Live (record { number = h; generation = j }) y → g ≢ h → Without f w g
 other-without f w g h j y e other k x l = other (ap group_in (sym l ∙ e))
 
 -- what becomes of NoGeneration: nothing, where slot w is none
@@ -74,7 +74,7 @@ free-whole s a b = let h : 0 ≡ 2 = ap kind_in (sym a ∙ b) in omega (arith, h
 dead-whole : (s : Slot) → s ≡ Dead → s ≢ NoGeneration
 dead-whole s a b = let h : 3 ≡ 2 = ap kind_in (sym a ∙ b) in omega (arith, h)
 
-live-whole : (s : Slot) (g : ℕ) (k : Generation) (x : List ℕ) → s ≡ Live (record { group = g; generation = k }) x → s ≢ NoGeneration
+live-whole : (s : Slot) (g : ℕ) (k : Generation) (x : List ℕ) → s ≡ Live (record { number = g; generation = k }) x → s ≢ NoGeneration
 live-whole s g k x a b = let h : 1 ≡ 2 = ap kind_in (sym a ∙ b) in omega (arith, h)
 
 -- slot w goes from not live to not live: nothing has changed
@@ -87,7 +87,7 @@ next-of f n g k single (after s i z p e) t j y l = e ∙ ap next_generation (ap 
 
 -- slot w becomes live with the new content
 pub maps-added : (f f' : ℕ → Slot) (n w g : ℕ) (k : Generation) (count : ℕ) (x : List ℕ) (groups : ℕ → List ℕ) → w < n → OthersKept n w f f' → ((h : ℕ) → Without f w h)
-    → f' w ≡ Live (record { group = g; generation = k }) x → Single f n → NextGeneration f n g k → Maps f n count groups → Maps f' n count (with_group groups g x)
+    → f' w ≡ Live (record { number = g; generation = k }) x → Single f n → NextGeneration f n g k → Maps f n count groups → Maps f' n count (with_group groups g x)
 maps-added f f' n w g k count x groups high only out new single generation m =
     let newest = next-of f n g k single generation in
     let there : GroupIs f' n g x = held w k (record { number = high; is = new }) (λ t j y l other. newest t j y (moved-back f f' n w t g j y only other l)) in
@@ -98,7 +98,7 @@ maps-added f f' n w g k count x groups high only out new single generation m =
       ];
     }
 
-group-retired : (f f' : ℕ → Slot) (n w b g : ℕ) (j k : Generation) (x y z : List ℕ) → OthersKept n b f f' → f b ≡ Live (record { group = g; generation = j }) y → f' b ≡ Dead
+group-retired : (f f' : ℕ → Slot) (n w b g : ℕ) (j k : Generation) (x y z : List ℕ) → OthersKept n b f f' → f b ≡ Live (record { number = g; generation = j }) y → f' b ≡ Dead
     → LiveAt f n w g k x → w ≢ b → k ≡ next_generation j → GroupIs f n g z → GroupIs f' n g z
 group-retired f f' n w b g j k x y z only old dead l other generation (absent none e) = absurd (none w k x l)
 group-retired f f' n w b g j k x y z only old dead l other generation (held v i lv newest) = elim (cases_eq v b) [
@@ -113,7 +113,7 @@ group-retired f f' n w b g j k x y z only old dead l other generation (held v i 
 ]
 
 -- the older of two live slots of g becomes dead
-pub maps-retired : (f f' : ℕ → Slot) (n w b g : ℕ) (j k : Generation) (count : ℕ) (x y : List ℕ) (groups : ℕ → List ℕ) → OthersKept n b f f' → f b ≡ Live (record { group = g; generation = j }) y → f' b ≡ Dead
+pub maps-retired : (f f' : ℕ → Slot) (n w b g : ℕ) (j k : Generation) (count : ℕ) (x y : List ℕ) (groups : ℕ → List ℕ) → OthersKept n b f f' → f b ≡ Live (record { number = g; generation = j }) y → f' b ≡ Dead
     → LiveAt f n w g k x → w ≢ b → k ≡ next_generation j → Maps f n count groups → Maps f' n count groups
 maps-retired f f' n w b g j k count x y groups only old dead l other generation m = record {
   each = λ h r.
@@ -139,12 +139,12 @@ pub sub-quiet : (f f' : ℕ → Slot) (n w : ℕ) → OthersKept n w f f' → ((
 sub-quiet f f' n w only out s g k x l = elim (cases_eq s w) [ inl same ↦ absurd (out g k x (ap f' (sym same) ∙ l.is)) | inr other ↦ moved-back f f' n w s g k x only other l ]
 
 -- what slot w, now live, is
-pub at-new : (f' : ℕ → Slot) (n w s g : ℕ) (k : Generation) (h : ℕ) (j : Generation) (x y : List ℕ) → f' w ≡ Live (record { group = g; generation = k }) x → LiveAt f' n s h j y → s ≡ w → (h ≡ g) × (j ≡ k)
+pub at-new : (f' : ℕ → Slot) (n w s g : ℕ) (k : Generation) (h : ℕ) (j : Generation) (x y : List ℕ) → f' w ≡ Live (record { number = g; generation = k }) x → LiveAt f' n s h j y → s ≡ w → (h ≡ g) × (j ≡ k)
 at-new f' n w s g k h j x y new l same =
-    let e : Live (record { group = h; generation = j }) y ≡ Live (record { group = g; generation = k }) x = sym l.is ∙ (ap f' same ∙ new) in
+    let e : Live (record { number = h; generation = j }) y ≡ Live (record { number = g; generation = k }) x = sym l.is ∙ (ap f' same ∙ new) in
     (ap group_in e, ap generation_in e)
 
-pub sound-added : (f f' : ℕ → Slot) (n w g : ℕ) (k : Generation) (count : ℕ) (x : List ℕ) → g < count → OthersKept n w f f' → f' w ≡ Live (record { group = g; generation = k }) x
+pub sound-added : (f f' : ℕ → Slot) (n w g : ℕ) (k : Generation) (count : ℕ) (x : List ℕ) → g < count → OthersKept n w f f' → f' w ≡ Live (record { number = g; generation = k }) x
     → Single f n → NextGeneration f n g k → SoundSlots f n count → SoundSlots f' n count
 sound-added f f' n w g k count x within only new single generation s =
     let old = λ (b h : ℕ) (j : Generation) (y : List ℕ) (other : b ≢ w) (l : LiveAt f' n b h j y). moved-back f f' n w b h j y only other l in
@@ -195,7 +195,7 @@ dead-stands f f' n w count groups only free e = quiet-stands f f' n w count grou
 
 -- a put that was done
 pub put-done : (f f' : ℕ → Slot) (n w g : ℕ) (k : Generation) (count : ℕ) (x : List ℕ) (groups : ℕ → List ℕ) → w < n → g < count → f w ≡ Free → OthersKept n w f f'
-    → f' w ≡ Live (record { group = g; generation = k }) x → Single f n → NextGeneration f n g k → Stands f n count groups → Stands f' n count (with_group groups g x)
+    → f' w ≡ Live (record { number = g; generation = k }) x → Single f n → NextGeneration f n g k → Stands f n count groups → Stands f' n count (with_group groups g x)
 put-done f f' n w g k count x groups high within free only e single generation s =
     record { sound = sound-added f f' n w g k count x within only e single generation s.sound; maps = maps-added f f' n w g k count x groups high only (λ h. free-without f w h free) e single generation s.maps }
 

@@ -14,7 +14,7 @@ zeros = replicate 3584 0
 -- slot s is live with group g, generation k and content x
 pub record LiveAt (f : ℕ → Slot) (n s g : ℕ) (k : Generation) (x : List ℕ) : Type 0 where
   pub number : s < n
-  pub is : f s ≡ Live (record { group = g; generation = k }) x
+  pub is : f s ≡ Live (record { number = g; generation = k }) x
 
 -- no slot is live with group g
 abbrev pub IsAbsent : (ℕ → Slot) → ℕ → ℕ → Type 0
@@ -71,7 +71,7 @@ pub record OthersKept (n w : ℕ) (f f' : ℕ → Slot) : Type 0 where
 -- The same by computation. Whether a slot is live with group g:
 abbrev pub is_of : ℕ → Slot → Bool
 is_of g Free = false
-is_of g (Live tag x) = tag.group == g
+is_of g (Live tag x) = tag.number == g
 is_of g NoGeneration = false
 is_of g Dead = false
 

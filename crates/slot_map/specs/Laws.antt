@@ -30,10 +30,10 @@ GroupsHaveSevenSectors = (m : List ℕ) (g : ℕ) → length (group_at m g) ≡ 
 
 -- A write of a group into a free slot that was cut leaves the groups as they were, or this one new; and no slot is corrupt.
 abbrev pub PutsLeaveOldOrNew : Type 0
-PutsLeaveOldOrNew = (w : ℕ) (tag : Tag) (x m m' : List ℕ) (groups : ℕ → List ℕ) → w < slot_count m → tag.group < group_count (length m)
+PutsLeaveOldOrNew = (w : ℕ) (tag : Tag) (x m m' : List ℕ) (groups : ℕ → List ℕ) → w < slot_count m → tag.number < group_count (length m)
     → slot_at m w ≡ Free → OnlySlot w m m' → PutLeaves tag x (slot_at m' w)
-    → IsSingle m → NextGeneration (slot_at m) (slot_count m) tag.group tag.generation → HoldsGroups groups m
-    → HoldsGroups groups m' ⊎ HoldsGroups (with_group groups tag.group x) m'
+    → IsSingle m → NextGeneration (slot_at m) (slot_count m) tag.number tag.generation → HoldsGroups groups m
+    → HoldsGroups groups m' ⊎ HoldsGroups (with_group groups tag.number x) m'
 
 -- A retirement of the older of two slots of a group, whole or cut, changes no group; and no slot is corrupt.
 abbrev pub RetiringTheOlderKeepsGroups : Type 0
@@ -50,16 +50,16 @@ ClearingKeepsGroups = (m m' : List ℕ) → SameChip m m'
 
 -- Four slots: two hold group 5, of the generations Three and Zero; one is dead, and one free.
 abbrev pub four_slots : (x y : List ℕ) → ℕ → Slot
-four_slots x y zero = Live (record { group = 5; generation = Three }) x
+four_slots x y zero = Live (record { number = 5; generation = Three }) x
 four_slots x y (suc zero) = Dead
-four_slots x y (suc (suc zero)) = Live (record { group = 5; generation = Zero }) y
+four_slots x y (suc (suc zero)) = Live (record { number = 5; generation = Zero }) y
 four_slots x y (suc (suc (suc s))) = Free
 
 -- and these in the other order, of the generations One and Two
 abbrev pub turned_slots : (x y : List ℕ) → ℕ → Slot
-turned_slots x y zero = Live (record { group = 5; generation = Two }) y
+turned_slots x y zero = Live (record { number = 5; generation = Two }) y
 turned_slots x y (suc zero) = Dead
-turned_slots x y (suc (suc zero)) = Live (record { group = 5; generation = One }) x
+turned_slots x y (suc (suc zero)) = Live (record { number = 5; generation = One }) x
 turned_slots x y (suc (suc (suc s))) = Free
 
 -- Of Three and Zero the slot with Zero is the newer, and of One and Two the one with Two, wherever they stand; a group that no
@@ -78,9 +78,9 @@ ErasedChipsHoldZeros = (m : List ℕ) → IsChipSize (length m) → IsErasedBehi
 -- generation: what has to stand where a free slot is asked for.
 abbrev pub SoundMapsHaveRoom : Type 0
 SoundMapsHaveRoom = (m : List ℕ) → IsSoundMap m → IsSingle m
-    → ((s : ℕ) (tag : Tag) (x : List ℕ) → s < slot_count m → slot_at m s ≡ Live tag x → tag.group < group_count (length m))
+    → ((s : ℕ) (tag : Tag) (x : List ℕ) → s < slot_count m → slot_at m s ≡ Live tag x → tag.number < group_count (length m))
     × ((s t : ℕ) (a b : Tag) (x y : List ℕ) → s < slot_count m → t < slot_count m → slot_at m s ≡ Live a x → slot_at m t ≡ Live b y
-    → a.group ≡ b.group → s ≡ t)
+    → a.number ≡ b.number → s ≡ t)
     × ((s : ℕ) → s < slot_count m → slot_at m s ≢ NoGeneration)
 
 -- the table of a memory names the slot that holds each group

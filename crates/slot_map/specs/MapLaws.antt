@@ -24,15 +24,15 @@ holds-after : (m m' : List ℕ) (groups : ℕ → List ℕ) → SameChip m m' �
 holds-after m m' groups chip s = subst (λ n. Stands (slot_at m') (block_count n - 4) (group_count n) groups) (sym chip.same_length) s
 
 -- a group was written into a free slot
-pub put-holds : (w : ℕ) (tag : Tag) (x m m' : List ℕ) (groups : ℕ → List ℕ) → w < slot_count m → tag.group < group_count (length m) → slot_at m w ≡ Free → OnlySlot w m m' → slot_at m' w ≡ Live tag x
-    → IsSingle m → NextGeneration (slot_at m) (slot_count m) tag.group tag.generation → HoldsGroups groups m → HoldsGroups (with_group groups tag.group x) m'
+pub put-holds : (w : ℕ) (tag : Tag) (x m m' : List ℕ) (groups : ℕ → List ℕ) → w < slot_count m → tag.number < group_count (length m) → slot_at m w ≡ Free → OnlySlot w m m' → slot_at m' w ≡ Live tag x
+    → IsSingle m → NextGeneration (slot_at m) (slot_count m) tag.number tag.generation → HoldsGroups groups m → HoldsGroups (with_group groups tag.number x) m'
 put-holds w tag x m m' groups low within free only e single generation s =
-    holds-after m m' (with_group groups tag.group x) only.chip
-    (put-done (slot_at m) (slot_at m') (slot_count m) w tag.group tag.generation (group_count (length m)) x groups low within free (others-kept w m m' only) e single generation s)
+    holds-after m m' (with_group groups tag.number x) only.chip
+    (put-done (slot_at m) (slot_at m') (slot_count m) w tag.number tag.generation (group_count (length m)) x groups low within free (others-kept w m m' only) e single generation s)
 
 -- or that was cut
-pub put-leaves : (w : ℕ) (tag : Tag) (x m m' : List ℕ) (groups : ℕ → List ℕ) → w < slot_count m → tag.group < group_count (length m) → slot_at m w ≡ Free → OnlySlot w m m' → PutLeaves tag x (slot_at m' w)
-    → IsSingle m → NextGeneration (slot_at m) (slot_count m) tag.group tag.generation → HoldsGroups groups m → HoldsGroups groups m' ⊎ HoldsGroups (with_group groups tag.group x) m'
+pub put-leaves : (w : ℕ) (tag : Tag) (x m m' : List ℕ) (groups : ℕ → List ℕ) → w < slot_count m → tag.number < group_count (length m) → slot_at m w ≡ Free → OnlySlot w m m' → PutLeaves tag x (slot_at m' w)
+    → IsSingle m → NextGeneration (slot_at m) (slot_count m) tag.number tag.generation → HoldsGroups groups m → HoldsGroups groups m' ⊎ HoldsGroups (with_group groups tag.number x) m'
 put-leaves w tag x m m' groups low within free only (still_free e) single generation s =
     inl (holds-after m m' groups only.chip (free-stands (slot_at m) (slot_at m') (slot_count m) w (group_count (length m)) groups (others-kept w m m' only) free e s))
 put-leaves w tag x m m' groups low within free only (half_written e) single generation s =

@@ -24,7 +24,7 @@ byte-one j k h = sym (back-is j) ∙ (ap back h ∙ back-is k)
 
 pub data Winner (f : ℕ → Slot) (n g : ℕ) (s : Slot) : Type 0 where
   nobody : is_of g s ≡ false → content_in s ≡ zeros → IsAbsent f n g → Winner f n g s
-  wins : (b : ℕ) (k : Generation) (x : List ℕ) → s ≡ Live (record { group = g; generation = k }) x → LiveAt f n b g k x
+  wins : (b : ℕ) (k : Generation) (x : List ℕ) → s ≡ Live (record { number = g; generation = k }) x → LiveAt f n b g k x
       → ((t : ℕ) (j : Generation) (y : List ℕ) → LiveAt f n t g j y → t ≢ b → k ≡ next_generation j) → Winner f n g s
 
 more : (f : ℕ → Slot) (n b g : ℕ) (k : Generation) (x : List ℕ) → LiveAt f n b g k x → LiveAt f (suc n) b g k x
@@ -34,12 +34,12 @@ less : (f : ℕ → Slot) (n b g : ℕ) (k : Generation) (x : List ℕ) → b �
 less f n b g k x other l = record { number = omega (arith, l.number, other); is = l.is }
 
 -- the last slot isn't of g
-keep : (f : ℕ → Slot) (n g : ℕ) (s t : Slot) → f n ≡ s → is_of g s ≡ false → ((k : Generation) (x : List ℕ) → s ≢ Live (record { group = g; generation = k }) x) → Winner f n g t → Winner f (suc n) g (newer g s t)
+keep : (f : ℕ → Slot) (n g : ℕ) (s t : Slot) → f n ≡ s → is_of g s ≡ false → ((k : Generation) (x : List ℕ) → s ≢ Live (record { number = g; generation = k }) x) → Winner f n g t → Winner f (suc n) g (newer g s t)
 keep f n g s t e out none (nobody o z nil) = rw out (nobody o z (λ b k y l. elim (cases_eq b n) [ inl same ↦ absurd (none k y (sym e ∙ (ap f (sym same) ∙ l.is))) | inr other ↦ nil b k y (less f n b g k y other l) ]))
 keep f n g s t e out none (wins b k x q l newest) = rw out (wins b k x q (more f n b g k x l) (λ c j y lc cb. elim (cases_eq c n) [ inl same ↦ absurd (none j y (sym e ∙ (ap f (sym same) ∙ lc.is))) | inr other ↦ newest c j y (less f n c g j y other lc) cb ]))
 
-take-it : (f : ℕ → Slot) (n g : ℕ) (j : Generation) (count : ℕ) (y : List ℕ) (t : Slot) → f n ≡ Live (record { group = g; generation = j }) y → SoundSlots f (suc n) count → Winner f n g t
-    → Winner f (suc n) g (newer g (Live (record { group = g; generation = j }) y) t)
+take-it : (f : ℕ → Slot) (n g : ℕ) (j : Generation) (count : ℕ) (y : List ℕ) (t : Slot) → f n ≡ Live (record { number = g; generation = j }) y → SoundSlots f (suc n) count → Winner f n g t
+    → Winner f (suc n) g (newer g (Live (record { number = g; generation = j }) y) t)
 take-it f n g j count y t e sound (nobody o z nil) =
     let here : LiveAt f (suc n) n g j y = record { number = omega arith; is = e } in
     let self : (g == g) ≡ true = eq-eqb g g refl in
@@ -75,10 +75,10 @@ step : (f : ℕ → Slot) (n g count : ℕ) (s t : Slot) → f n ≡ s → Sound
 step f n g count Free t e sound w = keep f n g Free t e refl (λ k x q. (let h : 0 ≡ 1 = ap kind_in q in omega (arith, h))) w
 step f n g count NoGeneration t e sound w = keep f n g NoGeneration t e refl (λ k x q. (let h : 2 ≡ 1 = ap kind_in q in omega (arith, h))) w
 step f n g count Dead t e sound w = keep f n g Dead t e refl (λ k x q. (let h : 3 ≡ 1 = ap kind_in q in omega (arith, h))) w
-step f n g count (Live tag y) t e sound w = elim (cases_eq tag.group g) [
-  | inl same ↦ subst (λ z. Winner f (suc n) g (newer g (Live (record { group = z; generation = tag.generation }) y) t)) (sym same)
-      (take-it f n g tag.generation count y t (e ∙ ap (λ z. Live (record { group = z; generation = tag.generation }) y) same) sound w)
-  | inr other ↦ keep f n g (Live tag y) t e (ne_eqb tag.group g other) (λ k x q. other (ap group_in q)) w
+step f n g count (Live tag y) t e sound w = elim (cases_eq tag.number g) [
+  | inl same ↦ subst (λ z. Winner f (suc n) g (newer g (Live (record { number = z; generation = tag.generation }) y) t)) (sym same)
+      (take-it f n g tag.generation count y t (e ∙ ap (λ z. Live (record { number = z; generation = tag.generation }) y) same) sound w)
+  | inr other ↦ keep f n g (Live tag y) t e (ne_eqb tag.number g other) (λ k x q. other (ap group_in q)) w
 ]
 
 pub winner-is : (f : ℕ → Slot) (n g count : ℕ) → SoundSlots f n count → Winner f n g (winner f n g)

@@ -1,0 +1,53 @@
+use Rattle.std.proofs.Common.{◌≡◌, ◌+◌, ◌*◌, subst, arith, length, inr}
+use Rattle.std.proofs.lemmas.Result.{err_from_is_err_and}
+use Rattle.chip_model.specs.Memory.{and_at, TornAnd}
+use Rattle.nor_driver.specs.State.{Leaves}
+use Rattle.erase_journal.specs.BlockLaws.{length-block}
+use Rattle.sector_slots.specs.Slots.{data_block}
+use Rattle.journal_slots.specs.Programs.{OnlyBytes}
+use Rattle.journal_slots.proofs.Bytes.{leaves-only, and-only, placed-at, descriptor-place, content-place, place-after}
+use Rattle.journal_slots.proofs.Places.{fresh-descriptor, begun-cut, begun-state, content-cut}
+use Rattle.journal_slots.proofs.write.fill.Goals as goal
+
+pub returns-in_err-program_bytes-clause-cut : goal.returns-in_err-program_bytes-clause-cut
+returns-in_err-program_bytes-clause-cut g c is free =
+    let p = err_from_is_err_and c.from_residual.result c.from_residual.ensures.1 in
+    let m = c.args.journal.now.memory in
+    let h = c.args.header.now in
+    let b = data_block m c.args.block in
+    let t = data_block c.program_bytes.new.journal.memory c.args.block in
+    begun-cut c.args.place b h t c.requires.place (length-block m (c.args.block + 4) (omega (arith, c.requires.number))) c.requires.header c.requires.begun (fresh-descriptor c.args.block c.args.place m free)
+    (subst (λ a. Leaves b (TornAnd b a h) (and_at b a h) t) c.descriptor_place.ensures (c.in_err-program_bytes.ensures.cut (cc (p.1, p.2))))
+
+pub returns-in_err-program_bytes-clause-within : goal.returns-in_err-program_bytes-clause-within
+returns-in_err-program_bytes-clause-within g c is =
+    let p = err_from_is_err_and c.from_residual.result c.from_residual.ensures.1 in
+    let m = c.args.journal.now.memory in
+    let h = c.args.header.now in
+    let b = data_block m c.args.block in
+    let t = data_block c.program_bytes.new.journal.memory c.args.block in
+    descriptor-place c.args.place (length h) b t (omega (arith, c.requires.header)) (subst (λ a. OnlyBytes a (length h) b t) c.descriptor_place.ensures
+    (leaves-only b h t c.descriptor_place.result (length-block m (c.args.block + 4) (omega (arith, c.requires.number))) (c.in_err-program_bytes.ensures.cut (cc (p.1, p.2)))))
+
+pub returns-in_err-write_content-clause-cut : goal.returns-in_err-write_content-clause-cut
+returns-in_err-write_content-clause-cut g c is free =
+    let p = err_from_is_err_and c.from_residual-in_err-write_content.result c.from_residual-in_err-write_content.ensures.1 in
+    let m = c.args.journal.now.memory in
+    let h = c.args.header.now in
+    let b = data_block m c.args.block in
+    let d = data_block c.program_bytes.new.journal.memory c.args.block in
+    let t = data_block c.write_content.new.journal.memory c.args.block in
+    let begun : d ≡ and_at b (16 + 4 * c.args.place) h = placed-at b h d c.descriptor_place.result (16 + 4 * c.args.place) c.descriptor_place.ensures c.in_ok-program_bytes.ensures.ok in
+    let state = begun-state c.args.place b h d c.requires.place (length-block m (c.args.block + 4) (omega (arith, c.requires.number))) c.requires.header c.requires.begun (fresh-descriptor c.args.block c.args.place m free) begun in
+    inr (content-cut c.args.place d t c.requires.place state (c.in_err-write_content.ensures.cut (cc (p.1, p.2))))
+
+pub returns-in_err-write_content-clause-within : goal.returns-in_err-write_content-clause-within
+returns-in_err-write_content-clause-within g c is =
+    let p = err_from_is_err_and c.from_residual-in_err-write_content.result c.from_residual-in_err-write_content.ensures.1 in
+    let h = c.args.header.now in
+    let b = data_block c.args.journal.now.memory c.args.block in
+    let d = data_block c.program_bytes.new.journal.memory c.args.block in
+    let t = data_block c.write_content.new.journal.memory c.args.block in
+    place-after c.args.place b d t
+    (descriptor-place c.args.place (length h) b d (omega (arith, c.requires.header)) (subst (λ a. OnlyBytes a (length h) b d) c.descriptor_place.ensures (and-only b h d c.descriptor_place.result c.in_ok-program_bytes.ensures.ok)))
+    (content-place c.args.place d t (c.in_err-write_content.ensures.cut (cc (p.1, p.2))))

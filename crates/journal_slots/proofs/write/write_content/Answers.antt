@@ -1,0 +1,56 @@
+use Rattle.std.proofs.Common.{◌≡◌, ◌∙◌, ◌+◌, ◌-◌, length, sym, ap, arith}
+use Rattle.std.specs.Prelude.{take, drop}
+use Rattle.std.proofs.lemmas.List.{length-take-le, length-drop}
+use Rattle.std.proofs.lemmas.Result.{err_from_is_err_and}
+use Rattle.erase_journal.specs.BlockLaws.{length-block}
+use Rattle.chip_model.specs.Memory.{and_at}
+use Rattle.sector_slots.specs.Slots.{data_block}
+use Rattle.journal_slots.proofs.Bytes.{leaves-only, and-only, only-wider, bytes-after, last-page, two-pages}
+use Rattle.journal_slots.proofs.write.write_content.Goals as goal
+
+pub slice_bounds-program_bytes-end : goal.slice_bounds-program_bytes-end
+slice_bounds-program_bytes-end g c = sym (length-take-le 256 c.args.content.now (omega (arith, c.requires.size)))
+
+pub program_bytes-requires-clause-page : goal.program_bytes-requires-clause-page
+program_bytes-requires-clause-page g c =
+    let n = length-take-le 256 c.args.content.now (omega (arith, c.requires.size)) in
+    omega (arith, n, c.content_place-at.ensures)
+
+pub program_bytes-requires-clause-range : goal.program_bytes-requires-clause-range
+program_bytes-requires-clause-range g c =
+    let n = length-take-le 256 c.args.content.now (omega (arith, c.requires.size)) in
+    omega (arith, n, c.content_place-at.ensures, c.requires.place)
+
+pub returns-in_err-program_bytes-clause-cut : goal.returns-in_err-program_bytes-clause-cut
+returns-in_err-program_bytes-clause-cut g c is =
+    let p = err_from_is_err_and c.from_residual.result c.from_residual.ensures.1 in
+    let m = c.args.journal.now.memory in
+    let n = length-take-le 256 c.args.content.now (omega (arith, c.requires.size)) in
+    let b = data_block m c.args.block in
+    let t = data_block c.program_bytes.new.journal.memory c.args.block in
+    only-wider c.content_place-at.result (length (take 256 c.args.content.now)) _ _ b t (omega (arith, c.content_place-at.ensures)) (omega (arith, n, c.content_place-at.ensures))
+    (leaves-only b (take 256 c.args.content.now) t c.content_place-at.result (length-block m (c.args.block + 4) (omega (arith, c.requires.number))) (c.in_err-program_bytes.ensures.cut (cc (p.1, p.2))))
+
+pub returns-in_err-program_bytes-2-clause-cut : goal.returns-in_err-program_bytes-2-clause-cut
+returns-in_err-program_bytes-2-clause-cut g c is =
+    let p = err_from_is_err_and c.from_residual-in_err-program_bytes-2.result c.from_residual-in_err-program_bytes-2.ensures.1 in
+    let m = c.args.journal.now.memory in
+    let x = c.args.content.now in
+    let n = length-take-le 256 x (omega (arith, c.requires.size)) in
+    let page = take (length x - 256) (drop 256 x) in
+    let k : length page ≡ length x - 256 = ap (λ q. length q) (last-page x) ∙ length-drop 256 x in
+    let at = c.content_place-at.ensures in
+    let b = data_block m c.args.block in
+    let d = data_block c.program_bytes.new.journal.memory c.args.block in
+    let t = data_block c.program_bytes-2.new.journal.memory c.args.block in
+    let first = and-only b (take 256 x) d c.content_place-at.result c.in_ok-program_bytes.ensures.ok in
+    let long : length d ≡ 4096 = first.same_length ∙ length-block m (c.args.block + 4) (omega (arith, c.requires.number)) in
+    bytes-after _ _ b d t (only-wider c.content_place-at.result (length (take 256 x)) _ _ b d (omega (arith, at)) (omega (arith, n, at)) first)
+    (only-wider (c.content_place-at.result + 256) (length page) _ _ d t (omega (arith, at)) (omega (arith, k, at, c.requires.size))
+    (leaves-only d page t (c.content_place-at.result + 256) long (c.in_err-program_bytes-2.ensures.cut (cc (p.1, p.2)))))
+
+pub returns-clause-ok : goal.returns-clause-ok
+returns-clause-ok g c =
+    let b = data_block c.args.journal.now.memory c.args.block in
+    two-pages b (data_block c.program_bytes.new.journal.memory c.args.block) (data_block c.program_bytes-2.new.journal.memory c.args.block) c.args.content.now c.content_place-at.result c.requires.size
+    c.in_ok-program_bytes.ensures.ok c.in_ok-program_bytes-2.ensures.ok ∙ ap (λ a. and_at b a c.args.content.now) c.content_place-at.ensures

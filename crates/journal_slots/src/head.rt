@@ -1,0 +1,76 @@
+//! The head of a block: what one read says of its kind and of its seven slots.
+
+ghost use Rattle.std.specs.Prelude.{◌≡◌, ◌+◌, ◌*◌, ◌<◌, ℕ, drop, length, slice_index_or, OnOk, IfOk, IfErr};
+ghost use Rattle.chip_model.specs.Geometry.{IsChipSize};
+ghost use Rattle.nor_layout.specs.Headers.{header_of};
+ghost use Rattle.nor_layout.specs.Kinds.{kind_of};
+ghost use Rattle.sector_slots.specs.Slots.{data_blocks, data_block, descriptor_in, kind_at, read_header};
+ghost use Rattle.sector_slots.specs.Steps.{Succeeds, Refuses};
+
+use crate::store::FIRST_DATA_BLOCK;
+use erase_journal::Journal;
+use nor_driver::{Nor, NorError};
+use nor_layout::{Header, Kind, block_kind, block_state};
+
+/// The bytes of a head: eight of the mark, and seven descriptors from byte 16 on.
+pub(crate) const HEAD_LEN: usize = 44;
+
+/// What a block says of itself.
+#[derive(Drop)]
+struct BlockHead {
+    kind: Kind,
+    /// What the descriptors of its slots say, whether they count or not.
+    places: [Header; 7],
+}
+
+/// What the descriptor at a place says.
+fn place_state(head: &[u8; HEAD_LEN], place: usize) -> Header
+    requires { place < 7 }
+    ensures { result ≡ header_of (drop (16 + 4 * place) head.now) }
+{
+    let from = 16 + 4 * place;
+    block_state([head[from], head[from + 1], head[from + 2], head[from + 3]])
+}
+
+/// What the first bytes of a block say. Any bytes may be passed.
+fn head_of(head: &[u8; HEAD_LEN]) -> BlockHead
+    ensures kind { result.kind ≡ kind_of head.now }
+    ensures places { (i : ℕ) → i < 7 → slice_index_or result.places i Header.Free ≡ header_of (drop (16 + 4 * i) head.now) }
+{
+    let kind = block_kind([
+        head[0], head[1], head[2], head[3], head[4], head[5], head[6], head[7],
+    ]);
+    let places = [
+        place_state(head, 0),
+        place_state(head, 1),
+        place_state(head, 2),
+        place_state(head, 3),
+        place_state(head, 4),
+        place_state(head, 5),
+        place_state(head, 6),
+    ];
+    BlockHead { kind, places }
+}
+
+/// The kind of a block, and in `into` what its seven descriptors say, by one read.
+pub(crate) fn read_head<N: Nor>(
+    journal: &mut Journal<N>,
+    block: u16,
+    into: &mut [Header],
+) -> Result<Kind, NorError>
+    requires number { block < data_blocks journal.old.memory }
+    requires sized { IsChipSize (length journal.old.memory) }
+    requires room { length into.old ≡ 7 }
+    ensures ok { IfOk result (λ kind. kind ≡ kind_at journal.old.memory block) }
+    ensures slots { OnOk result ((i : ℕ) → i < 7 → read_header into.new i ≡ descriptor_in (data_block journal.old.memory block) i) }
+    ensures size { length into.new ≡ length into.old }
+    ensures same { journal.new.memory ≡ journal.old.memory }
+    ensures done { OnOk result (Succeeds journal.old journal.new) }
+    ensures fails { IfErr result (λ e. Refuses e journal.old journal.new) }
+{
+    let mut bytes = [0; HEAD_LEN];
+    journal.read(block + FIRST_DATA_BLOCK, 0, &mut bytes)?;
+    let head = head_of(&bytes);
+    into.copy_from_slice(&head.places);
+    Ok(head.kind)
+}

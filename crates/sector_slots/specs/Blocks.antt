@@ -1,0 +1,73 @@
+-- The data blocks while one is copied: no copying goes on, or one does; all else is corrupt. Source: own, layout 2.
+use Rattle.std.specs.Prelude.{◌≡◌, ◌≢◌, ◌⊎◌, ◌↔◌, ℕ, ◌+◌, ◌<◌, ◌≤◌, List}
+use Rattle.nor_layout.specs.declared.kind.Kind.{Kind}
+use Rattle.nor_layout.specs.declared.kind.Kind.TheVariants as kinds
+use Rattle.sector_slots.specs.Slots.{Slot, IsSpare, kind_at, raw_slot, data_blocks}
+
+-- a block into which nothing is being copied
+abbrev pub IsAtRest : Kind → Type 0
+IsAtRest kinds.Plain = Unit {0}
+IsAtRest kinds.Void = ⊥
+IsAtRest (kinds.Committed b) = ⊥
+IsAtRest kinds.Settled = Unit {0}
+IsAtRest kinds.Unknown = ⊥
+
+-- A block of this kind, data block t of n, is one into which a block is copied: void, or the committed copy of another data block.
+abbrev pub IsCopying : Kind → ℕ → ℕ → Type 0
+IsCopying kinds.Plain t n = ⊥
+IsCopying kinds.Void t n = Unit {0}
+IsCopying (kinds.Committed b) t n = (s : ℕ) × ((b ≡ s + 4) × ((s < n) × (s ≢ t)))
+IsCopying kinds.Settled t n = ⊥
+IsCopying kinds.Unknown t n = ⊥
+
+-- no copying goes on
+abbrev pub AreAtRest : (ℕ → Kind) → ℕ → Type 0
+AreAtRest kind n = (d : ℕ) → d < n → IsAtRest (kind d)
+
+-- one goes on, into block t
+pub record IsTarget (t n : ℕ) (kind : ℕ → Kind) : Type 0 where
+  pub number : t < n
+  pub copying : IsCopying (kind t) t n
+  pub others : (d : ℕ) → d < n → d ≢ t → IsAtRest (kind d)
+
+-- As it is between two calls: no copying goes on, and a block is wholly free.
+pub record IsSettledBlocks (kind : ℕ → Kind) (slots : ℕ → ℕ → Slot) (n : ℕ) : Type 0 where
+  pub rest : AreAtRest kind n
+  pub reserve : ℕ
+  pub number : reserve < n
+  pub spare : IsSpare kind slots reserve
+
+-- Blocks without a corrupt case.
+pub data SoundBlocks (kind : ℕ → Kind) (slots : ℕ → ℕ → Slot) (n : ℕ) : Type 0 where
+  settled : IsSettledBlocks kind slots n → SoundBlocks kind slots n
+  copying : (t : ℕ) → IsTarget t n kind → SoundBlocks kind slots n
+
+-- A memory's.
+abbrev pub AreSound : List ℕ → Type 0
+AreSound m = SoundBlocks (kind_at m) (raw_slot m) (data_blocks m)
+
+abbrev pub AreSettled : List ℕ → Type 0
+AreSettled m = IsSettledBlocks (kind_at m) (raw_slot m) (data_blocks m)
+
+-- the reserve: the highest-numbered wholly free block
+pub record IsReserve (r : ℕ) (kind : ℕ → Kind) (slots : ℕ → ℕ → Slot) (n : ℕ) : Type 0 where
+  pub number : r < n
+  pub spare : IsSpare kind slots r
+  pub highest : (c : ℕ) → c < n → IsSpare kind slots c → c ≤ r
+
+abbrev pub IsReserveOf : ℕ → List ℕ → Type 0
+IsReserveOf r m = IsReserve r (kind_at m) (raw_slot m) (data_blocks m)
+
+-- The corrupt cases one by one, for a reader: blocks are sound where none of them holds.
+pub record HasNoFault (kind : ℕ → Kind) (slots : ℕ → ℕ → Slot) (n : ℕ) : Type 0 where
+  -- each state byte is one of the four, and each block begins with four FFh
+  pub known : (c : ℕ) → c < n → kind c ≢ kinds.Unknown
+  -- no two blocks are void or committed
+  pub one : (c d : ℕ) → c < n → d < n → c ≢ d → IsAtRest (kind c) ⊎ IsAtRest (kind d)
+  -- a committed block's source is another data block, by its number on the chip
+  pub source : (c b : ℕ) → c < n → kind c ≡ kinds.Committed b → (4 ≤ b) × (b < n + 4) × (b ≢ c + 4)
+  -- where none is void or committed, one is wholly free
+  pub spare : AreAtRest kind n → (c : ℕ) × ((c < n) × IsSpare kind slots c)
+
+abbrev pub SoundHasNoFault : Type 0
+SoundHasNoFault = (kind : ℕ → Kind) (slots : ℕ → ℕ → Slot) (n : ℕ) → SoundBlocks kind slots n ↔ HasNoFault kind slots n

@@ -1,0 +1,102 @@
+-- The copying of one block into another, as a machine over the blocks: what each step does to the kinds and the slots of n data
+-- blocks, and what becomes of the slots that count. Source: own, layout 2.
+use Rattle.std.specs.Prelude.{◌≡◌, ◌≢◌, ◌⊎◌, ℕ, ◌+◌, ◌<◌, List}
+use Rattle.nor_layout.specs.declared.header.Generation.{Generation}
+use Rattle.nor_layout.specs.declared.header.Tag.{Tag}
+use Rattle.nor_layout.specs.declared.kind.Kind.{Kind}
+use Rattle.nor_layout.specs.declared.kind.Kind.TheVariants as kinds
+use Rattle.sector_slots.specs.Slots.{Slot, Free, Live, NoGeneration, Dead, Outside, IsSpare}
+use Rattle.sector_slots.specs.Sectors.{LiveAt}
+use Rattle.sector_slots.specs.Blocks.{AreAtRest, IsTarget}
+
+-- all data blocks but c are as they were, in kind and slots
+pub record OnlyData (c n : ℕ) (kind kind' : ℕ → Kind) (slots slots' : ℕ → ℕ → Slot) : Type 0 where
+  pub same_kind : (d : ℕ) → d < n → d ≢ c → kind' d ≡ kind d
+  pub same_slots : (d i : ℕ) → d < n → d ≢ c → slots' d i ≡ slots d i
+
+-- a slot that stands for nothing
+abbrev pub IsQuiet : Slot → Type 0
+IsQuiet Free = Unit {0}
+IsQuiet (Live tag content) = ⊥
+IsQuiet NoGeneration = ⊥
+IsQuiet Dead = Unit {0}
+IsQuiet Outside = Unit {0}
+
+-- each of n slots is as it was, or stands for nothing before and after: the sectors are the same, and the slots that hold them
+abbrev pub SameLive : (ℕ → Slot) → (ℕ → Slot) → ℕ → Type 0
+SameLive f f' n = (s : ℕ) → s < n → (f' s ≡ f s) ⊎ (IsQuiet (f s) × IsQuiet (f' s))
+
+-- what the copy of a slot is: of a live one the same sector and content; of any other nothing
+pub data IsCopy (old new : Slot) : Type 0 where
+  copied : (g : ℕ) (k j : Generation) (x : List ℕ) → old ≡ Live (record { number = g; generation = k }) x
+      → new ≡ Live (record { number = g; generation = j }) x → IsCopy old new
+  skipped : IsQuiet old → IsQuiet new → IsCopy old new
+
+-- what `copy` leaves of a slot in the other block: of a live one the same tag and content; of any other nothing was written
+abbrev pub copy_slot : Slot → Slot
+copy_slot Free = Free
+copy_slot (Live tag content) = Live tag content
+copy_slot NoGeneration = Free
+copy_slot Dead = Free
+copy_slot Outside = Free
+
+-- The tag of a slot is that of its copy: of a live one the same, of any other none, since nothing was written.
+pub data CopiesTag (old new : Slot) : Type 0 where
+  same_tag : (tag : Tag) (x y : List ℕ) → old ≡ Live tag x → new ≡ Live tag y → CopiesTag old new
+  left_free : ((tag : Tag) (x : List ℕ) → old ≢ Live tag x) → new ≡ Free → CopiesTag old new
+
+-- the live slots of f are those of f', under other numbers
+pub record Moves (f f' : ℕ → Slot) (n : ℕ) (to from : ℕ → ℕ) : Type 0 where
+  pub on : (s g : ℕ) (k : Generation) (x : List ℕ) → LiveAt f n s g k x → (j : Generation) × LiveAt f' n (to s) g j x
+  pub back : (t g : ℕ) (k : Generation) (x : List ℕ) → LiveAt f' n t g k x → (j : Generation) × LiveAt f n (from t) g j x
+  pub round : (t g : ℕ) (k : Generation) (x : List ℕ) → LiveAt f' n t g k x → to (from t) ≡ t
+  pub whole : (s : ℕ) → s < n → f' s ≢ NoGeneration
+
+-- The steps of a copying of block s into block t, by the block that changes.
+-- begin: a wholly free block becomes void.
+pub record Begins (t n : ℕ) (kind kind' : ℕ → Kind) (slots slots' : ℕ → ℕ → Slot) : Type 0 where
+  pub number : t < n
+  pub rest : AreAtRest kind n
+  pub spare : IsSpare kind slots t
+  pub only : OnlyData t n kind kind' slots slots'
+  pub now : kind' t ≡ kinds.Void
+
+-- copy: anything in a void block.
+pub record CopiesIn (t n : ℕ) (kind kind' : ℕ → Kind) (slots slots' : ℕ → ℕ → Slot) : Type 0 where
+  pub target : IsTarget t n kind
+  pub was : kind t ≡ kinds.Void
+  pub only : OnlyData t n kind kind' slots slots'
+  pub now : kind' t ≡ kinds.Void
+
+-- commit: a void block that holds the copies of the slots of block s becomes the committed copy of it.
+pub record Commits (s t n : ℕ) (kind kind' : ℕ → Kind) (slots slots' : ℕ → ℕ → Slot) : Type 0 where
+  pub target : IsTarget t n kind
+  pub was : kind t ≡ kinds.Void
+  pub number : s < n
+  pub other : s ≢ t
+  pub copies : (i : ℕ) → i < 7 → IsCopy (slots s i) (slots' t i)
+  pub only : OnlyData t n kind kind' slots slots'
+  pub now : kind' t ≡ kinds.Committed (s + 4)
+
+-- erase of the source of a committed block.
+pub record ErasesSource (s t n : ℕ) (kind kind' : ℕ → Kind) (slots slots' : ℕ → ℕ → Slot) : Type 0 where
+  pub target : IsTarget t n kind
+  pub was : kind t ≡ kinds.Committed (s + 4)
+  pub only : OnlyData s n kind kind' slots slots'
+  pub now : IsSpare kind' slots' s
+
+-- settle: a committed block whose source is wholly free.
+pub record Settles (s t n : ℕ) (kind kind' : ℕ → Kind) (slots slots' : ℕ → ℕ → Slot) : Type 0 where
+  pub target : IsTarget t n kind
+  pub was : kind t ≡ kinds.Committed (s + 4)
+  pub source : IsSpare kind slots s
+  pub only : OnlyData t n kind kind' slots slots'
+  pub same : (i : ℕ) → i < 7 → slots' t i ≡ slots t i
+  pub now : kind' t ≡ kinds.Settled
+
+-- and the erase of a void block, at mount.
+pub record ErasesVoid (t n : ℕ) (kind kind' : ℕ → Kind) (slots slots' : ℕ → ℕ → Slot) : Type 0 where
+  pub target : IsTarget t n kind
+  pub was : kind t ≡ kinds.Void
+  pub only : OnlyData t n kind kind' slots slots'
+  pub now : IsSpare kind' slots' t

@@ -1,0 +1,25 @@
+//! What slots of sectors are, and the calls of a store of them: seven in a data block, each free, dead, or holding a sector of 512
+//! bytes with its generation.
+//!
+//! Promised of any memory: which slots count (`specs/Slots.antt`), which sectors they stand for (`specs/Sectors.antt`), when blocks
+//! are corrupt (`specs/Blocks.antt`), and that no step of a copying changes a sector, whole or cut (`specs/Copying.antt`,
+//! `steps_keep_sectors`; docs/COPYING.md). Of a store `SlotCalls` says: `put` writes a sector into a free slot and `retire` makes a
+//! live one dead; `begin`, `copy`, `commit`, `erase` and `settle` move the live slots of a block into another; `free`, `get`,
+//! `content`, `kind` and `head` read; all else stays as it was. Cut, a put leaves its slot free, dead or holding the sector whole,
+//! each step of a copying what it found or what it makes. Refusals are the journals': a Slow that stands, a power that is off, and
+//! what came in the call. No call takes memory.
+//!
+//! Left to the crates above: the store, which slot is used for what, which block is copied, and when to restore. Source: own,
+//! layout 2.
+
+#![tactic(auto)]
+
+mod calls;
+mod laws;
+
+pub use calls::SlotCalls;
+pub use laws::{
+    copies_are_exact, copies_keep_tags, counted_slots_are_stored, erased_chips_hold_zeros,
+    last_steps_settle, reserves_are_one, sectors_have_one_content, sound_blocks_have_no_fault,
+    steps_keep_sectors, steps_keep_singles,
+};
