@@ -140,7 +140,14 @@ fn serves_two_clients_and_counts_their_rows(rt: HostRuntime) -> Result<(), Fail>
 fn serve_two<O, H>(rt: &H, asked: Asked, port: u16, last: &str, blank: Blank) -> Result<(), Fail>
 where
     O: Ledger,
-    H: Abort + Files + AllocGlobal + Threads + Wait + Sync + Clock + Net<Listener = TcpListener, Stream = TcpStream>,
+    H: Abort
+        + Files
+        + AllocGlobal
+        + Threads
+        + Wait
+        + Sync
+        + Clock
+        + Net<Listener = TcpListener, Stream = TcpStream>,
     H::File: FileExt + Send,
     requires numbers { IsPort asked.port × IsConns asked.conns }
     requires blank { (blank.name ≡ O.name) × (blank.parts ≡ O.parts) × (0 < O.parts) }

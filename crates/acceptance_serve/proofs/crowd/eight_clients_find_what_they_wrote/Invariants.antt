@@ -1,0 +1,8 @@
+use Rattle.acceptance_serve.proofs.crowd.eight_clients_find_what_they_wrote.Given as goal
+
+-- the server of this test's blank, and its number of sectors
+abbrev pub ghosts-serve_crowd-L-Ledger : goal.ghosts-serve_crowd-L-Ledger
+ghosts-serve_crowd-L-Ledger g a = record { name = a.blank.name; parts = a.blank.parts }
+
+abbrev pub ghosts-serve_crowd-L-OneServer : goal.ghosts-serve_crowd-L-OneServer
+ghosts-serve_crowd-L-OneServer g a = record { sectors = a.sectors }

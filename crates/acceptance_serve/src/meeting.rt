@@ -1,0 +1,162 @@
+// Two clients at once: the first is held in the middle of a WRITE until the second is answered.
+ghost use Rattle.std.specs.Prelude.{◌≡◌, ◌*◌, length};
+
+use crate::clients::{ask, begin, is_answered};
+use block_device::PlainDisk;
+use norbd_serve::{Lists, ServeFault, Sleeper, listen, serve};
+use share::{End, FullRecord, Gate, OneServer, Point, Server, Shared};
+use std::alloc::Global;
+use std::io::{Read, Write};
+use std::marker::Brand;
+use std::net::{Net, SocketAddr, TcpListener, TcpStream};
+use std::process::Abort;
+use std::sync::Wait;
+use std::sync::atomic::{AtomicBool, Ordering};
+use std::sync::ledger::Blank;
+use std::test::*;
+use std::thread::Threads;
+use std::time::{Clock, Duration};
+use std::{io, thread};
+
+/// What the two connections and the client tell each other.
+#[derive(Drop)]
+struct Signals {
+    half_sent: AtomicBool,
+    answered: AtomicBool,
+    gave_up: AtomicBool,
+}
+
+// A gate that holds its connection at Read from when half a WRITE is on its way until the other connection
+// is answered, for 1,000 turns of 10 ms at the most; or, where it doesn't hold, an open one.
+#[derive(Drop)]
+struct TestGate<'s, R: Clock> {
+    clock: &'s R,
+    holds: bool,
+    signals: &'s Signals,
+}
+
+impl<'s, R: Clock> TestGate<'s, R> {
+    fn wait_at_read(&mut self) {
+        if !self.holds || !self.signals.half_sent.load(Ordering::SeqCst) {
+            return;
+        }
+        for _turn in 0..1000u32 {
+            if self.signals.answered.load(Ordering::SeqCst) {
+                return;
+            }
+            thread::sleep(self.clock, Duration::from_millis(10));
+        }
+        self.signals.gave_up.store(true, Ordering::SeqCst);
+    }
+}
+
+impl<'s, R: Clock> Gate for TestGate<'s, R> {
+    ghost passes = { λ gate after points. Unit {0} };
+
+    fn pass(&mut self, point: Point) {
+        match point {
+            Point::Read => self.wait_at_read(),
+            Point::Execute => {}
+            Point::Tidy => {}
+        }
+    }
+
+    ghost none = { λ gate. tt };
+}
+
+// Writes sector 3 and reads it back: whether both replies are right.
+fn write_and_read(stream: &mut TcpStream) -> io::Result<bool> {
+    ask(stream, 1, 3, 1_536, 512)?;
+    stream.write_all(&[0x33; 512])?;
+    let first = is_answered(stream, 3)?;
+    ask(stream, 0, 4, 1_536, 512)?;
+    let second = is_answered(stream, 4)?;
+    let mut bytes = [0u8; 512];
+    stream.read_exact(&mut bytes)?;
+    Ok(first && second && bytes == [0x33; 512])
+}
+
+// The first client sends half of a WRITE, the second is answered, and then the first goes on.
+fn meet<H: Net<Stream = TcpStream>>(
+    rt: &H,
+    addr: SocketAddr,
+    signals: &Signals,
+) -> io::Result<bool> {
+    let mut one = begin(rt, addr)?;
+    signals.half_sent.store(true, Ordering::SeqCst);
+    ask(&mut one, 1, 1, 0, 512)?;
+    one.write_all(&[0x11; 256])?;
+    let mut two = begin(rt, addr)?;
+    let right = write_and_read(&mut two)?;
+    signals.answered.store(true, Ordering::SeqCst);
+    one.write_all(&[0x11; 256])?;
+    let also = is_answered(&mut one, 1)?;
+    ask(&mut one, 2, 2, 0, 0)?;
+    ask(&mut two, 2, 5, 0, 0)?;
+    Ok(right && also)
+}
+
+#[test]
+fn two_clients_are_served_at_once(rt: HostRuntime) -> Result<(), Fail> {
+    let disk = PlainDisk::new(rt.alloc(), 70)?;
+    serve_two::<Brand, _>(&rt, rt.alloc(), disk, 70, Blank::new(65537))
+}
+
+fn serve_two<L, H>(
+    rt: &H,
+    alloc: Global,
+    disk: PlainDisk,
+    sectors: u32,
+    blank: Blank,
+) -> Result<(), Fail>
+where
+    L: OneServer + Send + Sync,
+    H: Abort + Threads + Wait + Sync + Clock + Net<Listener = TcpListener, Stream = TcpStream>,
+    requires size { length disk ≡ 512 * sectors }
+    requires sectors { sectors ≡ L.sectors }
+    requires name { blank.name ≡ L.name }
+    requires parts { blank.parts ≡ L.parts }
+    requires all { blank.parts ≡ 65537 }
+{
+    let Ok(shared) = Shared::<PlainDisk, FullRecord, L>::recording(alloc, disk, blank) else {
+        panic!(rt; "a recording server");
+    };
+    let server = Server::new(shared);
+    let listener = listen(rt, 0).expect(rt, "a port");
+    let addr = listener.local_addr()?;
+    let signals = Signals {
+        half_sent: AtomicBool::new(false),
+        answered: AtomicBool::new(false),
+        gave_up: AtomicBool::new(false),
+    };
+    let signals = &signals;
+    let held = TestGate {
+        clock: rt,
+        holds: true,
+        signals,
+    };
+    let open = TestGate {
+        clock: rt,
+        holds: false,
+        signals,
+    };
+    let gates = vec![in alloc; held, open]?;
+    let seen = &server;
+    let (served, met) = thread::join(
+        rt,
+        move || match Lists::with_room(alloc, 2) {
+            Ok(lists) => serve(rt, alloc, seen, listener, gates, lists, Sleeper::new(rt)),
+            Err(_) => Err(ServeFault::NoMemory),
+        },
+        move || meet(rt, addr, signals),
+    );
+    assert!(rt; met?);
+    assert!(rt; !signals.gave_up.load(Ordering::SeqCst));
+    let served = served.expect(rt, "both connections");
+    for end in served.ends.iter() {
+        assert_eq!(rt; *end, End::Closed);
+    }
+    let mut shared = server.into_inner();
+    assert_eq!(rt; shared.total(served.passes), Some(3));
+    Ok(())
+}
