@@ -145,7 +145,7 @@ module _ (old new : NorState) (b at : ℕ) (bytes : List ℕ) (h : IsReady old �
   ]
 
 -- What stands is answered first.
-first-cut : (old new : NorState) → AnswersWhatStands old (Err errors.Cut) new → IsFirst errors.Cut old new
+pub first-cut : (old new : NorState) → AnswersWhatStands old (Err errors.Cut) new → IsFirst errors.Cut old new
 first-cut old new s =
     let quick : old.is_slow ≡ false = elim (cases-of old.is_slow old.powered) [
       | inl ready ↦ ready.0

@@ -13,3 +13,5 @@ pub mod Uses
 pub mod Data
 pub mod Faulty
 pub mod Erased
+pub mod Ready
+pub mod Knowing

@@ -5,6 +5,7 @@ pub mod Blocks
 pub mod BlockLaws
 pub mod Steps
 pub mod Spending
+pub mod Known
 pub mod Faults
 pub mod Scans
 pub mod Recovery

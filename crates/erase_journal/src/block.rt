@@ -4,12 +4,15 @@ ghost use Rattle.chip_model.specs.Geometry.{block_count};
 ghost use Rattle.chip_model.specs.Memory.{and_at, TornAnd};
 ghost use Rattle.nor_driver.specs.State.{IsReady, Kept, Fails, Leaves};
 ghost use Rattle.erase_journal.specs.Journals.{IsSettled, IsHealthy, unused};
+ghost use Rattle.erase_journal.specs.declared.known.Known.{Known};
+ghost use Rattle.erase_journal.specs.Known.{IsKnown};
 ghost use Rattle.erase_journal.specs.Spending.{Spends};
 ghost use Rattle.erase_journal.specs.Blocks.{block as block_of, OnlyBlock, WithErased};
 ghost use Rattle.erase_journal.specs.Steps.{IsFirst, Interrupted};
 
 use crate::entry_log::erase_rested;
-use crate::maintain::maintain;
+use crate::known::Known;
+use crate::maintain::rest;
 use nor_driver::{Nor, NorError};
 
 /// Reads bytes of a data block from its place `at` on.
@@ -40,6 +43,7 @@ pub fn program_block<N: Nor>(nor: &mut N, block: u16, at: u32, bytes: &[u8]) -> 
     ensures ok { OnOk result (block_of (N.state nor.new).memory block ≡ and_at (block_of (N.state nor.old).memory block) at bytes.now) }
     ensures only { OnlyBlock block (N.state nor.old).memory (N.state nor.new).memory }
     ensures settled { OnOk result (IsSettled (N.state nor.new).memory) }
+    ensures known { (known : Known) → OnOk result (IsKnown known (N.state nor.old).memory → IsKnown known (N.state nor.new).memory) }
     ensures cut { IsErrOf result NorError.Cut → Leaves (block_of (N.state nor.old).memory block)
         (TornAnd (block_of (N.state nor.old).memory block) at bytes.now) (and_at (block_of (N.state nor.old).memory block) at bytes.now)
         (block_of (N.state nor.new).memory block) }
@@ -53,12 +57,14 @@ pub fn program_block<N: Nor>(nor: &mut N, block: u16, at: u32, bytes: &[u8]) -> 
 }
 
 /// Erases a data block in one step: where it is cut, the block is as before or erased.
-pub fn erase_block<N: Nor>(nor: &mut N, block: u16) -> Result<(), NorError>
+pub fn erase_block<N: Nor>(nor: &mut N, known: &mut Known, block: u16) -> Result<(), NorError>
     requires settled { IsReady (N.state nor.old) → IsSettled (N.state nor.old).memory }
+    requires known { IsReady (N.state nor.old) → IsKnown known.old (N.state nor.old).memory }
     requires data { 4 ≤ block }
     requires number { block < block_count (length (N.state nor.old).memory) }
     ensures erased { OnOk result (WithErased block (N.state nor.old).memory (N.state nor.new).memory) }
     ensures settled { OnOk result (IsSettled (N.state nor.new).memory) }
+    ensures known { OnOk result (IsKnown known.new (N.state nor.new).memory) }
     ensures spends { OnOk result (Spends (unused (N.state nor.old).memory) (unused (N.state nor.new).memory)) }
     ensures cut { IsErrOf result NorError.Cut → IsHealthy (N.state nor.old).memory
         → Interrupted block (N.state nor.old).memory (N.state nor.new).memory }
@@ -68,7 +74,7 @@ pub fn erase_block<N: Nor>(nor: &mut N, block: u16) -> Result<(), NorError>
     ensures fails { IfErr result (λ e. Fails e (N.state nor.old) (N.state nor.new)) }
     ensures first { IfErr result (λ e. IsFirst e (N.state nor.old) (N.state nor.new)) }
 {
-    maintain(nor)?;
-    erase_rested(nor, block)?;
+    rest(nor, known)?;
+    erase_rested(nor, known, block)?;
     Ok(())
 }

@@ -19,6 +19,7 @@ mod entry_log;
 mod erase;
 mod error;
 mod journal;
+mod known;
 mod laws;
 mod maintain;
 mod phase;

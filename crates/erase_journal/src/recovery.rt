@@ -1,4 +1,4 @@
-ghost use Rattle.std.specs.Prelude.{◌↔◌, ◌⊎◌, true, false, IsTrue, IfOk, ◌≡◌, ◌+◌, ◌<◌, ◌≤◌, ℕ, length, OnOk, IfErr};
+ghost use Rattle.std.specs.Prelude.{◌↔◌, ◌⊎◌, None, false, IsSome, IfOk, IfSome, ◌≡◌, ◌+◌, ◌<◌, ◌≤◌, ℕ, length, OnOk, IfErr};
 ghost use Rattle.std.specs.Result.{IsErrOf};
 ghost use Rattle.nor_driver.specs.State.{IsReady, Kept, Fails};
 ghost use Rattle.erase_journal.specs.Journals.{IsSound, IsSettled, IsHealthy, settled, unused};
@@ -11,7 +11,8 @@ use crate::entry_log::{find_open, finish_entry};
 use crate::erase::renew;
 use crate::phase::Phase;
 use crate::read::read_survey;
-use crate::survey::decide;
+use crate::survey::{decide, once_settled};
+use crate::unused::Unused;
 use crate::votes::{close_vote, open_vote};
 use nor_driver::{Nor, NorError};
 use nor_layout::JournalId;
@@ -104,14 +105,16 @@ fn resume<N: Nor>(nor: &mut N, phase: Phase) -> Result<(), NorError>
     }
 }
 
-/// Reads the journals and settles them. False where they are corrupt, and then nothing has changed.
-pub fn settle<N: Nor>(nor: &mut N) -> Result<bool, NorError>
+/// Reads the journals and settles them, and answers their numbers then. `None` where they are corrupt, and then nothing has
+/// changed.
+pub fn settle<N: Nor>(nor: &mut N) -> Result<Option<Unused>, NorError>
     requires size { 16384 ≤ length (N.state nor.old).memory }
-    ensures healthy { IfOk result (λ sound. IsTrue sound ↔ IsHealthy (N.state nor.old).memory) }
-    ensures settled { IfOk result (λ sound. IsTrue sound → IsSettled (N.state nor.new).memory) }
-    ensures continues { IfOk result (λ sound. IsTrue sound → Continues (N.state nor.old).memory (N.state nor.new).memory) }
-    ensures blocks { IfOk result (λ sound. IsTrue sound → SameBlocks (N.state nor.old).memory (N.state nor.new).memory) }
-    ensures corrupt { IfOk result (λ sound. sound ≡ false → (N.state nor.new).memory ≡ (N.state nor.old).memory) }
+    ensures healthy { IfOk result (λ found. IsSome found ↔ IsHealthy (N.state nor.old).memory) }
+    ensures settled { IfOk result (λ found. IfSome found (λ u. IsSettled (N.state nor.new).memory)) }
+    ensures numbers { IfOk result (λ found. IfSome found (λ u. SameNumbers u (unused (N.state nor.new).memory))) }
+    ensures continues { IfOk result (λ found. IfSome found (λ u. Continues (N.state nor.old).memory (N.state nor.new).memory)) }
+    ensures blocks { IfOk result (λ found. IfSome found (λ u. SameBlocks (N.state nor.old).memory (N.state nor.new).memory)) }
+    ensures corrupt { IfOk result (λ found. found ≡ None → (N.state nor.new).memory ≡ (N.state nor.old).memory) }
     ensures cut { IsErrOf result NorError.Cut → ((N.state nor.new).memory ≡ (N.state nor.old).memory)
         ⊎ Stands (N.state nor.old).memory (N.state nor.new).memory }
     ensures ready { OnOk result (IsReady (N.state nor.old)) }
@@ -122,17 +125,19 @@ pub fn settle<N: Nor>(nor: &mut N) -> Result<bool, NorError>
 {
     let survey = read_survey(nor)?;
     let Some(phase) = decide(survey) else {
-        return Ok(false);
+        return Ok(None);
     };
     resume(nor, phase)?;
-    Ok(true)
+    Ok(Some(once_settled(survey.unused(), phase)))
 }
 
-/// Turns the power off and on again, reads the journals and settles them. False where they are corrupt.
-pub fn restart<N: Nor>(nor: &mut N) -> Result<bool, NorError>
+/// Turns the power off and on again, reads the journals and settles them, and answers their numbers then. `None` where they
+/// are corrupt.
+pub fn restart<N: Nor>(nor: &mut N) -> Result<Option<Unused>, NorError>
     requires size { 16384 ≤ length (N.state nor.old).memory }
-    ensures sound { IfOk result (λ sound. IsTrue sound → Restored (N.state nor.old) (N.state nor.new)) }
-    ensures corrupt { IfOk result (λ sound. sound ≡ false → RestoreCorrupt (N.state nor.old) (seen false (N.state nor.new))) }
+    ensures sound { IfOk result (λ found. IfSome found (λ u. Restored (N.state nor.old) (N.state nor.new))) }
+    ensures numbers { IfOk result (λ found. IfSome found (λ u. SameNumbers u (unused (N.state nor.new).memory))) }
+    ensures corrupt { IfOk result (λ found. found ≡ None → RestoreCorrupt (N.state nor.old) (seen false (N.state nor.new))) }
     ensures cut { IsErrOf result NorError.Cut → RestoreCut (N.state nor.old) (N.state nor.new) }
     ensures slow { IsErrOf result NorError.Slow → RestoreSlow (N.state nor.old) (N.state nor.new) }
 {

@@ -143,6 +143,18 @@ fn fits(survey: Survey, phase: Phase) -> bool
     }
 }
 
+/// The numbers once what goes on in a phase is done.
+pub fn once_settled(u: Unused, phase: Phase) -> Unused
+    ensures { result ≡ settled phase u }
+{
+    match phase {
+        Phase::Idle => u,
+        Phase::Asked(journal) => once_renewed(once_second_spent(u, journal), journal),
+        Phase::Doomed(journal) => once_renewed(u, journal),
+        Phase::Closing(_) => u,
+    }
+}
+
 /// The phase of a journal's erase in which the journals are sound.
 fn fitting(survey: Survey, journal: JournalId) -> Option<Phase>
     ensures { MatchOption result

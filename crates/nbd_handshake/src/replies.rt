@@ -8,7 +8,7 @@ use nbd_wire::{
     EXPORT_NAME, EXPORT_NAME_ANSWER_LEN, EXPORT_NAME_ZEROES_LEN, INFO_BLOCK_SIZE,
     INFO_BLOCK_SIZE_LEN, INFO_EXPORT, INFO_EXPORT_LEN, MAX_LEN, MINIMUM_BLOCK_LEN, OptionCase,
     PREFERRED_BLOCK_LEN, REP_ACK, REP_ERR_INVALID, REP_ERR_TOO_BIG, REP_ERR_UNKNOWN, REP_ERR_UNSUP,
-    REP_INFO, REP_SERVER, SECTOR_LEN, TRANSMISSION_FLAGS, put, write_option_reply,
+    REP_INFO, REP_SERVER, SECTOR_LEN, TransmissionFlags, put, write_option_reply,
 };
 
 /// The length of the longest reply in bytes: that to EXPORT_NAME, with its zeroes.
@@ -61,7 +61,7 @@ fn size_bytes(sectors: u32) -> [u8; EXPORT_NAME_ANSWER_LEN]
 {
     let mut bytes = [0; EXPORT_NAME_ANSWER_LEN];
     BigEndian::write_u64(&mut bytes, u64::from(SECTOR_LEN) * u64::from(sectors));
-    BigEndian::write_u16(&mut bytes[8..], TRANSMISSION_FLAGS);
+    BigEndian::write_u16(&mut bytes[8..], TransmissionFlags::served_word());
     bytes
 }
 

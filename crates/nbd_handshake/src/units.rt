@@ -8,12 +8,10 @@ use crate::handshake::KEPT_LEN;
 use crate::options::{case_of, phase_after};
 use crate::replies::{MAX_REPLY_LEN, write_case};
 use byteorder::{BigEndian, ByteOrder};
-use nbd_wire::{CLIENT_FLAGS_LEN, MAX_OPTION_LEN, OPT_EXPORT_NAME, OPTION_LEN, OptionHead, Phase};
-
-/// The client's flags where it set FIXED_NEWSTYLE (bit 0) alone.
-const FIXED_NEWSTYLE: u32 = 1;
-/// The client's flags where it set FIXED_NEWSTYLE (bit 0) and NO_ZEROES (bit 1).
-const FIXED_NEWSTYLE_NO_ZEROES: u32 = 3;
+use nbd_wire::{
+    CLIENT_FLAGS_LEN, HandshakeFlags, MAX_OPTION_LEN, OPT_EXPORT_NAME, OPTION_LEN, OptionHead,
+    Phase,
+};
 
 /// The length of a head in the negotiation, in bytes; none where it is over.
 pub(crate) fn head_len(phase: Phase) -> Option<u64>
@@ -99,9 +97,8 @@ pub(crate) fn complete(phase: Phase, unit: &[u8], sectors: u32, reply: &mut [u8]
 fn after_flags(flags: u32) -> Phase
     ensures { result ≡ after_flags flags }
 {
-    match flags {
-        FIXED_NEWSTYLE => Phase::Negotiating(false),
-        FIXED_NEWSTYLE_NO_ZEROES => Phase::Negotiating(true),
-        _ => Phase::Closed,
+    match HandshakeFlags::no_zeroes_of(flags) {
+        Some(no_zeroes) => Phase::Negotiating(no_zeroes),
+        None => Phase::Closed,
     }
 }

@@ -2,8 +2,9 @@
 //!
 //! A set keeps every bit that it was given: a bit without a name here is one that this server doesn't know.
 
-ghost use Rattle.std.specs.Prelude.{⊤, [], ◌∷◌, codes};
+ghost use Rattle.std.specs.Prelude.{⊤, ◌≡◌, ◌==◌, if◌then◌else◌, None, Some, false, true, [], ◌∷◌, codes};
 
+use crate::constants::{GREETING_FLAGS, TRANSMISSION_FLAGS};
 use bitflags::{Flag, Flags, bitflag_items};
 
 /// The flags of a command: 16 bits of a request's head. Source: NBD proto.md.
@@ -76,6 +77,32 @@ impl Flags for HandshakeFlags {
     }
 }
 
+impl HandshakeFlags {
+    /// The word that the server offers in its greeting: both flags.
+    pub fn greeting_word() -> u16
+        ensures { result ≡ GREETING_FLAGS }
+    {
+        HandshakeFlags::FIXED_NEWSTYLE
+            .union(HandshakeFlags::NO_ZEROES)
+            .0 as u16
+    }
+
+    /// Of a client's word: whether it set NO_ZEROES beside FIXED_NEWSTYLE; `None` where it set any others, or not the latter.
+    pub fn no_zeroes_of(word: u32) -> Option<bool>
+        ensures { result ≡ (if word == 1 then Some false else if word == 3 then Some true else None) }
+    {
+        let set = HandshakeFlags::from_bits_retain(word);
+        let both = HandshakeFlags::FIXED_NEWSTYLE.union(HandshakeFlags::NO_ZEROES);
+        if set == HandshakeFlags::FIXED_NEWSTYLE {
+            Some(false)
+        } else if set == both {
+            Some(true)
+        } else {
+            None
+        }
+    }
+}
+
 /// The transmission flags, which tell the client what the server serves: 16 bits. Source: NBD proto.md.
 ///
 /// Bit 0, HAS_FLAGS: always set. Bits 2, 3, 5 and 6: FLUSH, FUA, TRIM and WRITE_ZEROES may be sent. Bit 8, CAN_MULTI_CONN: what one
@@ -114,5 +141,18 @@ impl Flags for TransmissionFlags {
 
     fn from_bits_retain(bits: u16) -> TransmissionFlags {
         TransmissionFlags(bits)
+    }
+}
+
+impl TransmissionFlags {
+    /// The word that tells what this server serves: FLUSH and FUA, over several connections.
+    pub fn served_word() -> u16
+        ensures { result ≡ TRANSMISSION_FLAGS }
+    {
+        TransmissionFlags::HAS_FLAGS
+            .union(TransmissionFlags::SEND_FLUSH)
+            .union(TransmissionFlags::SEND_FUA)
+            .union(TransmissionFlags::CAN_MULTI_CONN)
+            .0
     }
 }

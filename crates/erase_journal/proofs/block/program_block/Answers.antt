@@ -1,4 +1,8 @@
 use Rattle.erase_journal.proofs.Data.{program-bytes, program-settled, program-only, program-leaves, program-healthy}
+use Rattle.std.proofs.Common.{◌+◌, ◌*◌, length, arith}
+use Rattle.erase_journal.proofs.Effects.{and-spoiled, on-ok}
+use Rattle.erase_journal.proofs.Uses.{data-keeps}
+use Rattle.erase_journal.proofs.Knowing.{kept-known}
 use Rattle.erase_journal.proofs.block.program_block.Goals as goal
 
 pub returns-clause-ok : goal.returns-clause-ok
@@ -20,3 +24,9 @@ returns-clause-cut g c is = program-leaves (g.N.Nor.state c.args.nor.now) (g.N.N
 pub returns-clause-healthy : goal.returns-clause-healthy
 returns-clause-healthy g c is = program-healthy (g.N.Nor.state c.args.nor.now) (g.N.Nor.state c.program.new.self) c.args.block c.args.at c.args.bytes.now c.requires.settled c.requires.data c.requires.number c.requires.range c.program.result
     c.program.ensures.cut c.program.ensures.stands is
+
+pub returns-clause-known : goal.returns-clause-known
+returns-clause-known g c known =
+    let m = (g.N.Nor.state c.args.nor.now).memory in
+    let at = 4096 * c.args.block + c.args.at in
+    on-ok c.program.result (λ e h. kept-known known m (g.N.Nor.state c.program.new.self).memory (data-keeps at (length c.args.bytes.now) m (g.N.Nor.state c.program.new.self).memory (omega arith) (rw e (and-spoiled m at c.args.bytes.now))) h) c.program.ensures.ok

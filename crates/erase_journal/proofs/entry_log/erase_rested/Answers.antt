@@ -2,19 +2,27 @@ use Rattle.std.proofs.lemmas.Result.{err_from_is_err_and}
 use Rattle.erase_journal.proofs.EntryCalls.{interrupted-after}
 use Rattle.erase_journal.specs.Journals.{unused}
 use Rattle.erase_journal.specs.Spending.{once_used}
-use Rattle.erase_journal.proofs.Uses.{same-on}
+use Rattle.erase_journal.proofs.Uses.{same-on, used-then}
+use Rattle.erase_journal.proofs.Knowing.{used-known}
 use Rattle.erase_journal.proofs.entry_log.erase_rested.Goals as goal
 
 pub returns-in_err-entry-clause-cut : goal.returns-in_err-entry-clause-cut
-returns-in_err-entry-clause-cut g c is =
+returns-in_err-entry-clause-cut g c is healthy =
     let p = err_from_is_err_and c.from_residual.result c.from_residual.ensures.1 in
-    c.in_err-entry.ensures.cut (cc (p.1, p.2))
+    c.in_err-entry.ensures.cut (cc (p.1, p.2)) healthy
 
 pub returns-in_err-finish_entry-clause-cut : goal.returns-in_err-finish_entry-clause-cut
-returns-in_err-finish_entry-clause-cut g c is =
+returns-in_err-finish_entry-clause-cut g c is healthy =
     let p = err_from_is_err_and c.from_residual-in_err-finish_entry.result c.from_residual-in_err-finish_entry.ensures.1 in
     interrupted-after c.args.block (g.N.Nor.state c.args.nor.now).memory (g.N.Nor.state c.open_entry.new.nor).memory (g.N.Nor.state c.finish_entry.new.nor).memory c.in_ok-entry.ensures.erased (c.in_err-finish_entry.ensures.cut (cc (p.1, p.2))) c.requires.data c.requires.range
 
 pub returns-clause-numbers : goal.returns-clause-numbers
 returns-clause-numbers g c =
     same-on (once_used (unused (g.N.Nor.state c.args.nor.now).memory)) (unused (g.N.Nor.state c.open_entry.new.nor).memory) (unused (g.N.Nor.state c.finish_entry.new.nor).memory) c.in_ok-entry.ensures.used.numbers c.in_ok-finish_entry.ensures.uses.numbers
+
+pub returns-clause-known : goal.returns-clause-known
+returns-clause-known g c =
+    let known = c.args.known.now in
+    used-known known c.once_used.result c.in_ok-entry.entry (g.N.Nor.state c.args.nor.now).memory (g.N.Nor.state c.finish_entry.new.nor).memory (c.requires.known c.in_ok-entry.ensures.ready) c.in_ok-entry.ensures.opened.within c.in_ok-entry.ensures.lowest
+    (used-then c.in_ok-entry.entry (g.N.Nor.state c.args.nor.now).memory (g.N.Nor.state c.open_entry.new.nor).memory (g.N.Nor.state c.finish_entry.new.nor).memory c.in_ok-entry.ensures.opened.within c.in_ok-entry.ensures.used c.in_ok-finish_entry.ensures.uses)
+    c.once_used.ensures.unused c.once_used.ensures.packed.0
