@@ -1,8 +1,8 @@
 //! What lies where on the chip, and what its bytes mean: the superblock, the three journals, and the data blocks.
 //!
 //! Promised: each reader gives exactly the meaning of the bytes that it is given, whatever they are (`specs/`), and what a
-//! writer wrote is read back. `read_super` answers the first check that fails; `vote_state`, `entry_state` and `block_state`
-//! say what a byte or four bytes are, `block_kind` what the first eight of a block of slots are; `super_bytes`, `vote_byte`,
+//! writer wrote is read back. `read_super` and `read_layout` answer the first check that fails; `vote_state`, `entry_state` and `block_state`
+//! say what a byte or four bytes are, `block_kind` what the first eight of a block of slots are; `super_bytes`, `sector_super_bytes`, `vote_byte`,
 //! `taken_entry`, `begun_header`, `live_header` and `begun_mark` give the bytes to be programmed. A state byte only loses bits:
 //! begun, committed and retired (or settled), or open and closed, are one program each.
 //! No call takes memory or touches the chip.
@@ -17,6 +17,7 @@ mod entry;
 mod header;
 mod journal;
 mod kind;
+mod layout;
 mod superblock;
 mod vote;
 
@@ -28,6 +29,7 @@ pub use header::{
 };
 pub use journal::JournalId;
 pub use kind::{Kind, MARK_LEN, SETTLED, begun_mark, block_kind};
+pub use layout::{Layout, read_layout, sector_super_bytes};
 pub use superblock::{
     SEAL, SEAL_PLACE, SUPER_LEN, SuperError, UNSEALED_LEN, read_super, super_bytes,
 };

@@ -1,0 +1,74 @@
+-- The slot that the index finds is the lowest-numbered free one of the memory.
+use Rattle.std.proofs.Common.{◌≡◌, ◌≢◌, ℕ, ◌+◌, ◌*◌, ◌<◌, List, refl, sym, ap, ◌∙◌, subst, arith, inl, inr, MatchOption, Option, Some, None}
+use Rattle.std.specs.Prelude.{◌/◌, ◌%◌}
+use Rattle.std.proofs.lemmas.Bool.{cases_lt}
+use Rattle.sector_slots.specs.Slots.{Slot, Free, Live, NoGeneration, Dead, Outside, slot_at, slot_count, data_blocks, kind_at}
+use Rattle.sector_stock.specs.declared.index.SlotState.{SlotState}
+use Rattle.sector_stock.specs.declared.index.SlotState.TheVariants as states
+use Rattle.sector_stock.specs.declared.index.BlockState.{BlockState}
+use Rattle.sector_stock.specs.declared.index.Cursors.{Cursors}
+use Rattle.sector_stock.specs.Index.{state_of, is_free, in_block, in_slots, IsListed, IsIndexOf, IsLowestWithFree, HasNoFreeBut, HasNoFreeState, IsFirstFreeState}
+use Rattle.sector_stock.specs.Room.{HasNoneFree}
+use Rattle.sector_slots.specs.Blocks.{IsReserveOf}
+use Rattle.sector_stock.specs.Takes.{IsLowestFree}
+use Rattle.sector_stock.proofs.Tallies.{tally-some, tally-none, free-is, not-both}
+
+state-free : (x : Slot) → state_of x ≡ states.Free → x ≡ Free
+state-free Free e = refl
+state-free (Live tag y) e = absurd (grind (arith, e))
+state-free NoGeneration e = absurd (grind (arith, e))
+state-free Dead e = absurd (grind (arith, e))
+state-free Outside e = absurd (grind (arith, e))
+
+pub reserve-one : (r q : ℕ) (m : List ℕ) → IsReserveOf r m → IsReserveOf q m → r ≡ q
+reserve-one r q m a b = let x = b.highest r a.number a.spare in let y = a.highest q b.number b.spare in omega (arith, x, y)
+
+-- a block with no free slot
+none-in : (m : List ℕ) (slots : List SlotState) (blocks : List BlockState) (w : ℕ) → IsListed slots blocks (slot_at m) (kind_at m) (data_blocks m) → w < slot_count m → (in_block blocks (w / 7)).free ≡ 0 → slot_at m w ≢ Free
+none-in m slots blocks w listed low none e =
+    let c = w / 7 in
+    let i = w % 7 in
+    let here : 7 * c + i ≡ w = omega arith in
+    let count = (listed.each_block c (omega (arith, low))).free in
+    not-both (is_free (slot_at m (7 * c + i))) (ap (λ v. is_free (slot_at m v)) here ∙ ap is_free e) (tally-none is_free (slot_at m) c i (sym count ∙ none) (omega arith))
+
+pub none-free-in : (m : List ℕ) (slots : List SlotState) (blocks : List BlockState) (at : Cursors) → IsIndexOf slots blocks at m → HasNoFreeBut blocks at.reserve → HasNoneFree at.reserve m
+none-free-in m slots blocks at index h w low other =
+    let n = index.listed.block_size in
+    none-in m slots blocks w index.listed low (h (w / 7) (omega (arith, low, n)) other)
+
+pub found-free : (o : Option ℕ) (b : ℕ) (m : List ℕ) (slots : List SlotState) (blocks : List BlockState) (at : Cursors) → IsIndexOf slots blocks at m → IsLowestWithFree blocks at.reserve b
+    → MatchOption o (HasNoFreeState slots b) (λ w. IsFirstFreeState slots b w) → MatchOption o (HasNoneFree at.reserve m) (λ w. IsLowestFree w m)
+found-free None b m slots blocks at index low h =
+    let n = index.listed.block_size in
+    let inside = low.0 in
+    let here : b < data_blocks m = omega (arith, inside, n) in
+    let count = (index.listed.each_block b here).free in
+    let some = low.2 in
+    let d = tally-some is_free (slot_at m) b (omega (arith, some, count)) in
+    let small = d.1.0 in
+    absurd (h d.0 small (index.listed.each_slot (7 * b + d.0) (omega (arith, here, small)) ∙ ap state_of (free-is (slot_at m (7 * b + d.0)) d.1.1)))
+found-free (Some w) b m slots blocks at index low h =
+    let n = index.listed.block_size in
+    let inside = low.0 in
+    let block = h.block in
+    let here : b < data_blocks m = omega (arith, inside, n) in
+    let number : w < slot_count m = omega (arith, here, block) in
+    record {
+      number = number;
+      free = state-free (slot_at m w) (sym (index.listed.each_slot w number) ∙ h.free);
+      reserve = at.reserve;
+      is_reserve = index.reserve;
+      outside = λ e. low.1 (sym block ∙ sym e);
+      lowest = λ s below other. elim (cases_lt (s / 7) b) as (λ _. slot_at m s ≢ Free) [
+        | inl under ↦ none-in m slots blocks s index.listed (omega (arith, below, number)) (low.3 (s / 7) under other)
+        | inr over ↦
+            let same : s / 7 ≡ b = omega (arith, over, below, block) in
+            let place : 7 * b + s % 7 ≡ s = omega (arith, same) in
+            λ e. h.first (s % 7) (omega arith) (omega (arith, place, below)) (ap (λ v. in_slots slots v) place ∙ (index.listed.each_slot s (omega (arith, below, number)) ∙ ap state_of e))
+      ];
+    }
+
+-- where none is free for the reserve, none is whichever block is called so
+pub none-free-of : (r q : ℕ) (m : List ℕ) → IsReserveOf q m → IsReserveOf r m → HasNoneFree q m → HasNoneFree r m
+none-free-of r q m a b none = subst (λ k. HasNoneFree k m) (reserve-one q r m a b) none

@@ -1,0 +1,9 @@
+pub mod Tags
+pub mod Copying
+pub mod Shifting
+pub mod Moving
+pub mod Tallies
+pub mod Moved
+pub mod Finding
+pub mod Writing
+pub mod Filling

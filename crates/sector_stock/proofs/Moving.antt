@@ -1,0 +1,79 @@
+-- The blocks of the index once one of them was copied into the reserve, and where it looks next.
+use Rattle.std.proofs.Common.{◌≡◌, ◌≢◌, ℕ, ◌<◌, ◌≤◌, ◌⊎◌, List, length, sym, ap, ◌∙◌, arith, inl, inr}
+use Rattle.std.proofs.lemmas.Bool.{cases_eq, false≢true}
+use Rattle.sector_stock.specs.declared.index.BlockState.{BlockState}
+use Rattle.sector_stock.specs.declared.index.Cursors.{Cursors}
+use Rattle.sector_stock.specs.Index.{in_block, IsAhead, BlocksMoved, NextReserve, IsPassed, Widened, IsHighestWhole}
+
+-- what isn't looked at any more wasn't before, and is neither block that changed, but that s may be the new reserve
+pub record IsLooking (s t size : ℕ) (old new : Cursors) : Type 0 where
+  pub passed : (c : ℕ) → IsPassed new c → IsPassed old c × ((c ≢ t) × (c ≡ s → new.reserve ≡ s))
+  pub within : new.beyond ≤ size
+
+passed-from : (old new : Cursors) (c : ℕ) → new.cursor ≡ old.cursor → new.beyond ≡ old.beyond → IsPassed new c → IsPassed old c
+passed-from old new c e f (inl h) = inl (omega (arith, e, h))
+passed-from old new c e f (inr h) = inr (omega (arith, f, h))
+
+pub looking-both : (s t : ℕ) (blocks : List BlockState) (a b c d : Cursors) → s < length blocks → t < length blocks → a.beyond ≤ length blocks → NextReserve blocks a b → Widened t b c → Widened s c d → IsLooking s t (length blocks) a d
+looking-both s t blocks a b c d ls lt low next one two = record {
+  passed = λ x p.
+      let q = two.passed x p in
+      let r = one.passed x q.0 in
+      (passed-from a b x next.cursor next.beyond r.0, (r.1, λ e. absurd (q.1 e)));
+  within = let e = next.beyond in elim two.within as (λ _. d.beyond ≤ length blocks) [
+    | inr h ↦ omega (arith, h, ls)
+    | inl h ↦ elim one.within as (λ _. d.beyond ≤ length blocks) [ inl k ↦ omega (arith, h, k, e, low) | inr k ↦ omega (arith, h, k, lt) ]
+  ];
+}
+
+pub looking-one : (s t : ℕ) (blocks : List BlockState) (a b c : Cursors) → t < length blocks → a.beyond ≤ length blocks → NextReserve blocks a b → Widened t b c → c.reserve ≡ s → IsLooking s t (length blocks) a c
+looking-one s t blocks a b c lt low next one reserve = record {
+  passed = λ x p.
+      let r = one.passed x p in
+      (passed-from a b x next.cursor next.beyond r.0, (r.1, λ e. reserve));
+  within = let e = next.beyond in elim one.within as (λ _. c.beyond ≤ length blocks) [ inl k ↦ omega (arith, k, e, low) | inr k ↦ omega (arith, k, lt) ];
+}
+
+none-passed : (s : ℕ) (blocks blocks' : List BlockState) (at new : Cursors) (c : ℕ) → IsAhead blocks at → BlocksMoved s at.reserve blocks blocks' → IsLooking s at.reserve (length blocks') at new
+    → c < length blocks' → IsPassed new c → c ≢ new.reserve → (in_block blocks' c).free ≡ 0
+none-passed s blocks blocks' at new c ahead moved look low p other =
+    let q = look.passed c p in
+    let n = moved.size in
+    let l : c < length blocks = omega (arith, low, n) in
+    let ns : c ≢ s = λ e. other (e ∙ sym (q.1.1 e)) in
+    ap (λ b. b.free) (moved.others c l ns q.1.0)
+    ∙ elim q.0 as (λ _. (in_block blocks c).free ≡ 0) [ inl h ↦ ahead.cursor c l h q.1.0 | inr h ↦ ahead.beyond c l h q.1.0 ]
+
+-- a block's dead slots are none, or what they were
+dead-moved : (s t : ℕ) (blocks blocks' : List BlockState) (c : ℕ) → BlocksMoved s t blocks blocks' → c < length blocks → ((in_block blocks' c).dead ≡ 0) ⊎ ((in_block blocks' c).dead ≡ (in_block blocks c).dead)
+dead-moved s t blocks blocks' c moved low = elim (cases_eq c s) as (λ _. ((in_block blocks' c).dead ≡ 0) ⊎ ((in_block blocks' c).dead ≡ (in_block blocks c).dead)) [
+  | inl e ↦ inl (ap (λ a. (in_block blocks' a).dead) e ∙ ap (λ b. b.dead) moved.source)
+  | inr ns ↦ elim (cases_eq c t) as (λ _. ((in_block blocks' c).dead ≡ 0) ⊎ ((in_block blocks' c).dead ≡ (in_block blocks c).dead)) [
+    | inl e ↦ inl (ap (λ a. (in_block blocks' a).dead) e ∙ ap (λ b. b.dead) moved.target)
+    | inr nt ↦ inr (ap (λ b. b.dead) (moved.others c low ns nt))
+  ]
+]
+
+pub ahead-moved : (s : ℕ) (blocks blocks' : List BlockState) (at mid new : Cursors) → s < length blocks → 0 < (in_block blocks s).dead → IsAhead blocks at → BlocksMoved s at.reserve blocks blocks' → NextReserve blocks' at mid
+    → IsLooking s at.reserve (length blocks') at new → new.reserve ≡ mid.reserve → new.spares ≡ mid.spares → new.most ≡ at.most → new.from ≡ at.from → IsAhead blocks' new
+ahead-moved s blocks blocks' at mid new low some ahead moved next look er es em ef =
+    let n = moved.size in
+    let top = ahead.most s low in
+    record {
+      cursor = λ c l h other. none-passed s blocks blocks' at new c ahead moved look l (inl h) other;
+      beyond = λ c l h other. none-passed s blocks blocks' at new c ahead moved look l (inr h) other;
+      spares = λ c l whole other. let p = next.spares c l whole (λ e. other (e ∙ sym er)) in omega (arith, p, es);
+      within = (look.within, (let p = next.within in omega (arith, p, es)));
+      most = λ c l. elim (dead-moved s at.reserve blocks blocks' c moved (omega (arith, l, n))) as (λ _. (in_block blocks' c).dead ≤ new.most) [
+        | inl z ↦ omega (arith, z)
+        | inr e ↦ let p = ahead.most c (omega (arith, l, n)) in omega (arith, e, p, em)
+      ];
+      from = λ c l h. elim (dead-moved s at.reserve blocks blocks' c moved (omega (arith, l, n))) as (λ _. (in_block blocks' c).dead ≢ new.most) [
+        | inl z ↦ λ e. omega (arith, e, z, em, top, some)
+        | inr e ↦ λ q. ahead.from c (omega (arith, l, n)) (omega (arith, h, ef)) (sym e ∙ (q ∙ em))
+      ];
+    }
+
+-- the block into which one was copied isn't the reserve
+pub other-reserve : (s t r : ℕ) (blocks blocks' : List BlockState) → BlocksMoved s t blocks blocks' → IsHighestWhole blocks' r → t ≢ r
+other-reserve s t r blocks blocks' moved highest e = false≢true (sym (ap (λ b. b.plain) moved.target) ∙ (ap (λ a. (in_block blocks' a).plain) e ∙ highest.whole.0))

@@ -1,0 +1,178 @@
+-- The index of a memory of which one slot was written, or retired.
+use Rattle.std.proofs.Common.{◌≡◌, ◌≢◌, ℕ, ◌+◌, ◌-◌, ◌*◌, ◌<◌, ◌≤◌, Bool, true, false, List, length, refl, sym, ap, ◌∙◌, subst, arith, inl, inr, if◌then◌else◌}
+use Rattle.std.specs.Prelude.{◌/◌, ◌%◌}
+use Rattle.std.proofs.lemmas.Bool.{cases_eq, false≢true}
+use Rattle.chip_model.specs.Geometry.{IsChipSize, block_count}
+use Rattle.nor_layout.specs.declared.header.Tag.{Tag}
+use Rattle.sector_slots.specs.Slots.{Slot, Free, Live, NoGeneration, Dead, Outside, slot_at, slot_count, data_blocks, kind_at, raw_slot, counted, is_counted, IsLive, IsSpareIn}
+use Rattle.sector_slots.specs.Steps.{OnlyPlace, HoldsTag}
+use Rattle.sector_slots.specs.MachineLaws.{block-data}
+use Rattle.sector_slots.specs.PlaceLaws.{later, later-is, place-others, place-kinds}
+use Rattle.sector_stock.specs.declared.index.SlotState.{SlotState}
+use Rattle.sector_stock.specs.declared.index.SlotState.TheVariants as states
+use Rattle.sector_stock.specs.declared.index.BlockState.{BlockState}
+use Rattle.sector_stock.specs.declared.index.Cursors.{Cursors}
+use Rattle.sector_stock.specs.Index.{is_free, is_dead, in_block, IsListed, IsIndexOf, IsAhead, IsWholeBlock, IsStocked, Marked, one_dead_more, one_free_fewer}
+use Rattle.sector_stock.specs.IndexLaws.{listed-dead, listed-live}
+use Rattle.sector_slots.specs.Blocks.{IsReserveOf}
+use Rattle.sector_stock.proofs.Moved.{numbers-in}
+use Rattle.sector_stock.proofs.Tallies.{tally-none, tally-full, tally-most, not-both}
+
+-- a free slot of a block, and one that isn't dead, in its numbers
+pub free-some : (w : ℕ) (m : List ℕ) (slots : List SlotState) (blocks : List BlockState) (at : Cursors) → IsIndexOf slots blocks at m → w < slot_count m → slot_at m w ≡ Free → 0 < (in_block blocks (w / 7)).free
+free-some w m slots blocks at index low free = elim (cases_eq (in_block blocks (w / 7)).free 0) as (λ _. 0 < (in_block blocks (w / 7)).free) [
+  | inr ne ↦ omega (arith, ne)
+  | inl e ↦
+      let c = w / 7 in
+      let i = w % 7 in
+      let here : 7 * c + i ≡ w = omega arith in
+      let count = (index.listed.each_block c (omega (arith, low))).free in
+      absurd (not-both (is_free (slot_at m (7 * c + i))) (ap (λ v. is_free (slot_at m v)) here ∙ ap is_free free) (tally-none is_free (slot_at m) c i (sym count ∙ e) (omega arith)))
+]
+
+pub dead-room : (w : ℕ) (m : List ℕ) (slots : List SlotState) (blocks : List BlockState) (at : Cursors) → IsIndexOf slots blocks at m → w < slot_count m → IsLive (slot_at m w) → (in_block blocks (w / 7)).dead < 7
+dead-room w m slots blocks at index low live =
+    let c = w / 7 in
+    let i = w % 7 in
+    let here : 7 * c + i ≡ w = omega arith in
+    let count = (index.listed.each_block c (omega (arith, low))).dead in
+    let most = tally-most is_dead (slot_at m) c in
+    elim (cases_eq (in_block blocks c).dead 7) as (λ _. (in_block blocks c).dead < 7) [
+      | inr ne ↦ omega (arith, ne, count, most)
+      | inl e ↦ absurd (not-both (is_dead (slot_at m (7 * c + i))) (tally-full is_dead (slot_at m) c i (sym count ∙ e) (omega arith)) (ap (λ v. is_dead (slot_at m v)) here ∙ ap is_dead live.2))
+    ]
+
+-- a slot of a wholly free block is free, or doesn't count
+abbrev IsBare : Slot → Type 0
+IsBare Free = Unit {0}
+IsBare (Live tag x) = ⊥
+IsBare NoGeneration = ⊥
+IsBare Dead = ⊥
+IsBare Outside = Unit {0}
+
+bare-either : (b : Bool) (x : Slot) → x ≡ Free → IsBare (if b then x else Outside)
+bare-either true x e = subst (λ a. IsBare a) (sym e) tt
+bare-either false x e = tt
+
+spare-bare : (m : List ℕ) (c w : ℕ) → IsSpareIn m c → w / 7 ≡ c → IsBare (slot_at m w)
+unfolding counted
+spare-bare m c w spare e =
+    bare-either (is_counted (kind_at m) (data_blocks m) (w / 7)) (raw_slot m (w / 7) (w % 7)) (ap (λ d. raw_slot m d (w % 7)) e ∙ spare.free (w % 7) (omega arith))
+
+spare-not : (m : List ℕ) (c w : ℕ) (x : Slot) → IsSpareIn m c → slot_at m w ≡ x → (IsBare x → ⊥) → c ≢ w / 7
+spare-not m c w x spare is not-bare e = not-bare (subst (λ a. IsBare a) is (spare-bare m c w spare (sym e)))
+
+-- the reserve stays, where the slot lies outside it and isn't free any more
+reserve-kept : (w r : ℕ) (m m' : List ℕ) → OnlyPlace w m m' → (IsBare (slot_at m' w) → ⊥) → r ≢ w / 7 → IsReserveOf r m → IsReserveOf r m'
+reserve-kept w r m m' only now other reserve =
+    let n : data_blocks m' ≡ data_blocks m = ap (λ k. block_count k - 4) only.only.chip.same_length in
+    let low = reserve.number in
+    let datas = block-data (w / 7) m m' only.only in
+    record {
+      number = omega (arith, n, low);
+      spare = record { plain = place-kinds w m m' only r low ∙ reserve.spare.plain; free = λ i small. datas.same_slots r i low other ∙ reserve.spare.free i small };
+      highest = λ c inside spare.
+          let ne : c ≢ w / 7 = spare-not m' c w (slot_at m' w) spare refl now in
+          let here : c < data_blocks m = omega (arith, n, inside) in
+          reserve.highest c here (record { plain = sym (place-kinds w m m' only c here) ∙ spare.plain; free = λ i small. sym (datas.same_slots c i here ne) ∙ spare.free i small });
+    }
+
+listed-after : (m m' : List ℕ) (slots : List SlotState) (blocks : List BlockState) → length m' ≡ length m → IsListed slots blocks (later m m') (kind_at m') (data_blocks m) → IsListed slots blocks (slot_at m') (kind_at m') (data_blocks m')
+listed-after m m' slots blocks e h = subst (λ k. IsListed slots blocks (counted (kind_at m') (raw_slot m') (block_count k - 4)) (kind_at m') (block_count k - 4)) (sym e) h
+
+live-after : (w : ℕ) (m m' : List ℕ) (tag : Tag) (x : List ℕ) → length m' ≡ length m → slot_at m' w ≡ Live tag x → IsLive (later m m' w)
+live-after w m m' tag x e h = (tag, x, sym (later-is m m' w e) ∙ h)
+
+live-bare : (x : Slot) → IsLive x → IsBare x → ⊥
+live-bare x live bare = subst (λ a. IsBare a) live.2 bare
+
+-- a sector was written
+pub index-put : (w : ℕ) (tag : Tag) (x m m' : List ℕ) (slots slots' : List SlotState) (blocks blocks' : List BlockState) (at : Cursors) → IsIndexOf slots blocks at m → w < slot_count m → slot_at m w ≡ Free → slot_at m' w ≡ Live tag x
+    → OnlyPlace w m m' → ((r : ℕ) → IsReserveOf r m → w / 7 ≢ r) → Marked w states.Live (one_free_fewer (in_block blocks (w / 7))) slots slots' blocks blocks' → IsAhead blocks' at → IsIndexOf slots' blocks' at m'
+index-put w tag x m m' slots slots' blocks blocks' at index low free now only outside marked ahead =
+    let e = only.only.chip.same_length in
+    record {
+      listed = listed-after m m' slots' blocks' e
+          (listed-live w (data_blocks m) (slot_at m) (later m m') (kind_at m) (kind_at m') slots slots' blocks blocks' low (place-others w m m' only) (place-kinds w m m' only) free (live-after w m m' tag x e now) marked index.listed);
+      ahead = ahead;
+      reserve = reserve-kept w at.reserve m m' only (live-bare (slot_at m' w) (tag, x, now)) (λ q. outside at.reserve index.reserve (sym q)) index.reserve;
+    }
+
+-- a slot was retired
+pub index-retired : (w : ℕ) (m m' : List ℕ) (slots slots' : List SlotState) (blocks blocks' : List BlockState) (at at' : Cursors) → IsIndexOf slots blocks at m → w < slot_count m → IsLive (slot_at m w) → slot_at m' w ≡ Dead
+    → OnlyPlace w m m' → Marked w states.Dead (one_dead_more (in_block blocks (w / 7))) slots slots' blocks blocks' → IsAhead blocks' at' → at'.reserve ≡ at.reserve → IsIndexOf slots' blocks' at' m'
+index-retired w m m' slots slots' blocks blocks' at at' index low live now only marked ahead same =
+    let e = only.only.chip.same_length in
+    record {
+      listed = listed-after m m' slots' blocks' e
+          (listed-dead w (data_blocks m) (slot_at m) (later m m') (kind_at m) (kind_at m') slots slots' blocks blocks' low (place-others w m m' only) (place-kinds w m m' only) live (sym (later-is m m' w e) ∙ now) marked index.listed);
+      ahead = ahead;
+      reserve = subst (λ r. IsReserveOf r m') (sym same)
+          (reserve-kept w at.reserve m m' only (λ bare. subst (λ a. IsBare a) now bare) (spare-not m at.reserve w (slot_at m w) index.reserve.spare refl (live-bare (slot_at m w) live)) index.reserve);
+    }
+
+-- where the index looks next stays where a free slot becomes live
+pub ahead-live : (w : ℕ) (slots slots' : List SlotState) (blocks blocks' : List BlockState) (at : Cursors) → w / 7 < length blocks → Marked w states.Live (one_free_fewer (in_block blocks (w / 7))) slots slots' blocks blocks'
+    → 0 < (in_block blocks (w / 7)).free → (in_block blocks (w / 7)).free ≤ 7 → IsAhead blocks at → IsAhead blocks' at
+ahead-live w slots slots' blocks blocks' at low marked some most ahead =
+    let n = marked.block_size in
+    let here = marked.its_block in
+    let fewer : (c : ℕ) → c < length blocks → (in_block blocks c).free ≡ 0 → (in_block blocks' c).free ≡ 0 = λ c l z. elim (cases_eq c (w / 7)) as (λ _. (in_block blocks' c).free ≡ 0) [
+      | inl e ↦ let y : (in_block blocks (w / 7)).free ≡ 0 = ap (λ a. (in_block blocks a).free) (sym e) ∙ z in absurd (omega (arith, y, some))
+      | inr ne ↦ ap (λ b. b.free) (marked.other_blocks c l ne) ∙ z
+    ] in
+    let dead : (c : ℕ) → c < length blocks → (in_block blocks' c).dead ≡ (in_block blocks c).dead = λ c l. elim (cases_eq c (w / 7)) as (λ _. (in_block blocks' c).dead ≡ (in_block blocks c).dead) [
+      | inl e ↦ ap (λ a. (in_block blocks' a).dead) e ∙ (ap (λ b. b.dead) here ∙ ap (λ a. (in_block blocks a).dead) (sym e))
+      | inr ne ↦ ap (λ b. b.dead) (marked.other_blocks c l ne)
+    ] in
+    record {
+      cursor = λ c l h other. fewer c (omega (arith, l, n)) (ahead.cursor c (omega (arith, l, n)) h other);
+      beyond = λ c l h other. fewer c (omega (arith, l, n)) (ahead.beyond c (omega (arith, l, n)) h other);
+      spares = λ c l whole other. elim (cases_eq c (w / 7)) as (λ _. c < at.spares) [
+        | inl e ↦
+            let f : (in_block blocks (w / 7)).free - 1 ≡ 7 = sym (ap (λ b. b.free) here) ∙ (ap (λ a. (in_block blocks' a).free) (sym e) ∙ whole.1) in
+            absurd (omega (arith, f, most))
+        | inr ne ↦ ahead.spares c (omega (arith, l, n)) (subst (λ b. IsWholeBlock b) (marked.other_blocks c (omega (arith, l, n)) ne) whole) other
+      ];
+      within = (let p = ahead.within.0 in omega (arith, p, n), let p = ahead.within.1 in omega (arith, p, n));
+      most = λ c l. let e = dead c (omega (arith, l, n)) in let p = ahead.most c (omega (arith, l, n)) in omega (arith, e, p);
+      from = λ c l h q. ahead.from c (omega (arith, l, n)) h (sym (dead c (omega (arith, l, n))) ∙ q);
+    }
+
+-- what a store's lists are after a sector was written
+pub put-indexed : (w : ℕ) (tag : Tag) (m m' : List ℕ) (slots slots' : List SlotState) (blocks blocks' : List BlockState) (at : Cursors) → IsIndexOf slots blocks at m → w < slot_count m
+    → slot_at m w ≡ Free → HoldsTag tag (slot_at m' w) → OnlyPlace w m m' → ((r : ℕ) → IsReserveOf r m → w / 7 ≢ r)
+    → Marked w states.Live (one_free_fewer (in_block blocks (w / 7))) slots slots' blocks blocks' → IsIndexOf slots' blocks' at m'
+put-indexed w tag m m' slots slots' blocks blocks' at index low free now only outside marked =
+    let n = index.listed.block_size in
+    let numbers = numbers-in (w / 7) m slots blocks at index (omega (arith, low, n)) in
+    index-put w tag now.0 m m' slots slots' blocks blocks' at index low free now.1 only outside marked
+    (ahead-live w slots slots' blocks blocks' at (omega (arith, low, n)) marked (free-some w m slots blocks at index low free) (omega (arith, numbers)) index.ahead)
+
+pub retire-indexed : (w : ℕ) (m m' : List ℕ) (slots slots' : List SlotState) (blocks blocks' : List BlockState) (at at' : Cursors) → IsIndexOf slots blocks at m → w < slot_count m
+    → IsLive (slot_at m w) → slot_at m' w ≡ Dead → OnlyPlace w m m' → Marked w states.Dead (one_dead_more (in_block blocks (w / 7))) slots slots' blocks blocks'
+    → (IsAhead blocks at → IsAhead blocks' at') → at'.reserve ≡ at.reserve → IsIndexOf slots' blocks' at' m'
+retire-indexed w m m' slots slots' blocks blocks' at at' index low live now only marked ahead same =
+    index-retired w m m' slots slots' blocks blocks' at at' index low live now only marked (ahead index.ahead) same
+
+-- a store whose memory is the same, or of which nothing is known any more but its size
+pub stocked-same : (slots : List SlotState) (blocks : List BlockState) (at : Cursors) (indexed : Bool) (m m' : List ℕ) → m' ≡ m → IsStocked slots blocks at indexed m → IsStocked slots blocks at indexed m'
+stocked-same slots blocks at indexed m m' e h = subst (λ a. IsStocked slots blocks at indexed a) (sym e) h
+
+pub stocked-lost : (slots slots' : List SlotState) (blocks blocks' : List BlockState) (at at' : Cursors) (indexed : Bool) (m m' : List ℕ) → length m' ≡ length m → length slots' ≡ length slots → length blocks' ≡ length blocks
+    → IsStocked slots blocks at indexed m → IsStocked slots' blocks' at' false m'
+stocked-lost slots slots' blocks blocks' at at' indexed m m' e f g h = record {
+  sized = subst (λ k. IsChipSize k) (sym e) h.sized;
+  slots_size = f ∙ (h.slots_size ∙ ap (λ k. 7 * (block_count k - 4)) (sym e));
+  blocks_size = g ∙ (h.blocks_size ∙ ap (λ k. block_count k - 4) (sym e));
+  index = λ q. absurd (false≢true q);
+}
+
+pub stocked-indexed : (slots slots' : List SlotState) (blocks blocks' : List BlockState) (at at' : Cursors) (indexed : Bool) (m m' : List ℕ) → length m' ≡ length m → length slots' ≡ length slots → length blocks' ≡ length blocks
+    → IsStocked slots blocks at indexed m → IsIndexOf slots' blocks' at' m' → IsStocked slots' blocks' at' true m'
+stocked-indexed slots slots' blocks blocks' at at' indexed m m' e f g h index = record {
+  sized = subst (λ k. IsChipSize k) (sym e) h.sized;
+  slots_size = f ∙ (h.slots_size ∙ ap (λ k. 7 * (block_count k - 4)) (sym e));
+  blocks_size = g ∙ (h.blocks_size ∙ ap (λ k. block_count k - 4) (sym e));
+  index = λ q. index;
+}

@@ -1,0 +1,41 @@
+use Rattle.std.proofs.lemmas.Result.{err_from_is_err_and}
+use Rattle.std.proofs.Common.{◌∙◌, ◌≡◌, subst, arith}
+use Rattle.sector_slots.specs.StepLaws.{succeeds-after}
+use Rattle.sector_stock.specs.Copy.{Progress}
+use Rattle.sector_stock.proofs.Copying.{begin-cut, begin-progress, copy-cut, copy-progress}
+use Rattle.sector_stock.proofs.copy.copy_all.Goals as goal
+
+pub returns-in_err-begin-clause-cut : goal.returns-in_err-begin-clause-cut
+returns-in_err-begin-clause-cut g c is h =
+    let p = err_from_is_err_and c.from_residual.result c.from_residual.ensures.1 in
+    begin-cut c.args.source c.args.target (g.S.SlotCalls.state c.args.slots.now).memory (g.S.SlotCalls.state c.begin.new.self).memory h (c.in_err-begin.ensures.cut_only (cc (p.1, p.2))) (c.in_err-begin.ensures.cut (cc (p.1, p.2)) h.spare.plain)
+
+pub loop-place-init : goal.loop-place-init
+loop-place-init g c = record {
+  progress = λ h. begin-progress c.args.source c.args.target (g.S.SlotCalls.state c.args.slots.now).memory (g.S.SlotCalls.state c.begin.new.self).memory h c.in_ok-begin.ensures.only (c.in_ok-begin.ensures.ok h.spare.plain);
+  size = c.in_ok-begin.ensures.only.only.chip.same_length;
+  since = c.in_ok-begin.ensures.done;
+}
+
+pub returns-in_err-copy-clause-cut : goal.returns-in_err-copy-clause-cut
+returns-in_err-copy-clause-cut g c is h =
+    let p = err_from_is_err_and c.from_residual-in_err-copy.result c.from_residual-in_err-copy.ensures.1 in
+    copy-cut c.loop-place.place c.args.source c.args.target (g.S.SlotCalls.state c.args.slots.now).memory (g.S.SlotCalls.state c.loop-place.slots).memory (g.S.SlotCalls.state c.copy.new.self).memory
+    c.loop-place-test.true (c.loop-place.invariant.progress h) (c.in_err-copy.ensures.cut_only (cc (p.1, p.2))) (c.in_err-copy.ensures.cut (cc (p.1, p.2)))
+
+pub loop-place-preserved : goal.loop-place-preserved
+loop-place-preserved g c = record {
+  progress = λ h.
+      let p = c.loop-place.invariant.progress h in
+      copy-progress c.loop-place.place c.args.source c.args.target (g.S.SlotCalls.state c.args.slots.now).memory (g.S.SlotCalls.state c.loop-place.slots).memory (g.S.SlotCalls.state c.copy.new.self).memory
+      c.loop-place-test.true p c.in_ok-copy.ensures.only
+      (c.in_ok-copy.ensures.ok c.args.source p.copied.number p.copied.begun (p.copied.free c.loop-place.place c.loop-place-test.true (omega arith)))
+      (λ i. c.in_ok-copy.ensures.fresh i);
+  size = c.in_ok-copy.ensures.only.only.chip.same_length ∙ c.loop-place.invariant.size;
+  since = succeeds-after (g.S.SlotCalls.state c.args.slots.now) (g.S.SlotCalls.state c.loop-place.slots) (g.S.SlotCalls.state c.copy.new.self) c.loop-place.invariant.since c.in_ok-copy.ensures.done;
+}
+
+pub returns-clause-ok : goal.returns-clause-ok
+returns-clause-ok g c h =
+    let seven : c.loop-place.place ≡ 7 = omega (arith, c.loop-place-test.false, c.loop-place.auto.place-end) in
+    subst (λ j. Progress j c.args.source c.args.target (g.S.SlotCalls.state c.args.slots.now).memory (g.S.SlotCalls.state c.loop-place.slots).memory) seven (c.loop-place.invariant.progress h)

@@ -1,0 +1,37 @@
+use Rattle.std.proofs.Common.{◌+◌}
+use Rattle.std.proofs.lemmas.Result.{err_from_is_err_and}
+use Rattle.sector_stock.proofs.Copying.{source-erasable, committed-found, erase-cut, erase-done, settle-cut, committed-ends, ended-whole}
+use Rattle.sector_stock.proofs.copy.end_committed.Goals as goal
+
+pub returns-in_err-erase-clause-cut : goal.returns-in_err-erase-clause-cut
+returns-in_err-erase-clause-cut g c is healthy h =
+    let p = err_from_is_err_and c.from_residual.result c.from_residual.ensures.1 in
+    let m = (g.S.SlotCalls.state c.args.slots.now).memory in
+    erase-cut c.args.source c.args.target m m (g.S.SlotCalls.state c.erase.new.self).memory (committed-found c.args.source c.args.target m h) (c.in_err-erase.ensures.cut (cc (p.1, p.2)) healthy)
+
+pub returns-in_err-settle-clause-cut : goal.returns-in_err-settle-clause-cut
+returns-in_err-settle-clause-cut g c is healthy h =
+    let p = err_from_is_err_and c.from_residual-in_err-settle.result c.from_residual-in_err-settle.ensures.1 in
+    let m = (g.S.SlotCalls.state c.args.slots.now).memory in
+    let m1 = (g.S.SlotCalls.state c.erase.new.self).memory in
+    let one = erase-done c.args.source c.args.target m m m1 (committed-found c.args.source c.args.target m h) c.in_ok-erase.ensures.ok in
+    settle-cut c.args.source c.args.target m m1 (g.S.SlotCalls.state c.settle.new.self).memory one (c.in_err-settle.ensures.cut_only (cc (p.1, p.2))) (c.in_err-settle.ensures.cut (cc (p.1, p.2)) (c.args.source + 4) one.committed.committed)
+
+pub returns-clause-ok : goal.returns-clause-ok
+returns-clause-ok g c h =
+    let m = (g.S.SlotCalls.state c.args.slots.now).memory in
+    let m1 = (g.S.SlotCalls.state c.erase.new.self).memory in
+    let one = erase-done c.args.source c.args.target m m m1 (committed-found c.args.source c.args.target m h) c.in_ok-erase.ensures.ok in
+    committed-ends c.args.source c.args.target m m1 (g.S.SlotCalls.state c.settle.new.self).memory h c.in_ok-erase.ensures.ok c.in_ok-settle.ensures.only (c.in_ok-settle.ensures.ok (c.args.source + 4) one.committed.committed)
+
+pub erase-requires-clause-dead : goal.erase-requires-clause-dead
+erase-requires-clause-dead g c ready =
+    let m = (g.S.SlotCalls.state c.args.slots.now).memory in
+    source-erasable c.args.source c.args.target m m (committed-found c.args.source c.args.target m (c.requires.committed ready))
+
+pub returns-clause-exact : goal.returns-clause-exact
+returns-clause-exact g c h =
+    let m = (g.S.SlotCalls.state c.args.slots.now).memory in
+    let m1 = (g.S.SlotCalls.state c.erase.new.self).memory in
+    let one = erase-done c.args.source c.args.target m m m1 (committed-found c.args.source c.args.target m h) c.in_ok-erase.ensures.ok in
+    ended-whole c.args.source c.args.target m m1 (g.S.SlotCalls.state c.settle.new.self).memory h c.in_ok-erase.ensures.ok c.in_ok-settle.ensures.only (c.in_ok-settle.ensures.ok (c.args.source + 4) one.committed.committed)

@@ -1,0 +1,31 @@
+use Rattle.std.proofs.lemmas.Result.{err_from_is_err_and}
+use Rattle.sector_slots.specs.StepLaws.{settled-healthy}
+use Rattle.sector_stock.proofs.Copying.{commit-cut, commit-done, finish-cut, finish-done}
+use Rattle.sector_stock.proofs.copy.finish.Goals as goal
+
+pub returns-in_err-commit-clause-cut : goal.returns-in_err-commit-clause-cut
+returns-in_err-commit-clause-cut g c is h =
+    let p = err_from_is_err_and c.from_residual.result c.from_residual.ensures.1 in
+    commit-cut c.args.source c.args.target (g.S.SlotCalls.state c.args.slots.now).memory (g.S.SlotCalls.state c.commit.new.self).memory h (c.in_err-commit.ensures.cut_only (cc (p.1, p.2))) (c.in_err-commit.ensures.cut (cc (p.1, p.2)) c.args.source h.begun)
+
+pub end_committed-requires-clause-committed : goal.end_committed-requires-clause-committed
+end_committed-requires-clause-committed g c ready =
+    let h = c.requires.copied c.in_ok-commit.ensures.done.ready in
+    commit-done c.args.source c.args.target (g.S.SlotCalls.state c.args.slots.now).memory (g.S.SlotCalls.state c.commit.new.self).memory h c.in_ok-commit.ensures.only (c.in_ok-commit.ensures.ok c.args.source h.begun)
+
+pub returns-in_err-end_committed-clause-cut : goal.returns-in_err-end_committed-clause-cut
+returns-in_err-end_committed-clause-cut g c is h =
+    let p = err_from_is_err_and c.from_residual-in_err-end_committed.result c.from_residual-in_err-end_committed.ensures.1 in
+    let m = (g.S.SlotCalls.state c.args.slots.now).memory in
+    let m1 = (g.S.SlotCalls.state c.commit.new.self).memory in
+    let now = c.in_ok-commit.ensures.ok c.args.source h.begun in
+    finish-cut c.args.source c.args.target m m1 (g.S.SlotCalls.state c.end_committed.new.slots).memory h c.in_ok-commit.ensures.only now
+    (c.in_err-end_committed.ensures.cut (cc (p.1, p.2)) (settled-healthy m1 c.in_ok-commit.ensures.done.settled) (commit-done c.args.source c.args.target m m1 h c.in_ok-commit.ensures.only now))
+
+pub returns-clause-ok : goal.returns-clause-ok
+returns-clause-ok g c h =
+    let m = (g.S.SlotCalls.state c.args.slots.now).memory in
+    let m1 = (g.S.SlotCalls.state c.commit.new.self).memory in
+    let now = c.in_ok-commit.ensures.ok c.args.source h.begun in
+    let found = commit-done c.args.source c.args.target m m1 h c.in_ok-commit.ensures.only now in
+    finish-done c.args.source c.args.target m m1 (g.S.SlotCalls.state c.end_committed.new.slots).memory h c.in_ok-commit.ensures.only now (c.in_ok-end_committed.ensures.ok found) (c.in_ok-end_committed.ensures.exact found)

@@ -1,0 +1,12 @@
+use Rattle.std.proofs.Common.{◌≡◌}
+use Rattle.sector_stock.specs.Index.{IsAhead}
+use Rattle.sector_stock.proofs.index.most_dead.Given as goal
+
+abbrev pub invariant-loop-at : goal.invariant-loop-at
+invariant-loop-at l = record {
+  ahead : IsAhead l.blocks l.at;
+  reserve : l.at.reserve ≡ l.fn.at.reserve;
+}
+
+abbrev pub decreases-loop-at : goal.decreases-loop-at
+decreases-loop-at l = l.at.most

@@ -1,0 +1,5 @@
+use Rattle.sector_stock.specs.RoomLaws.{sound-room}
+use Rattle.sector_stock.proofs.laws.sound_maps_have_room.Goals as goal
+
+pub returns : goal.returns
+returns c = sound-room

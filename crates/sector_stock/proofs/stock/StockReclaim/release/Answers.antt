@@ -1,0 +1,32 @@
+use Rattle.std.proofs.Common.{◌∙◌, ◌<◌, ◌/◌, sym, subst, true}
+use Rattle.std.proofs.lemmas.List.{with_items_is}
+use Rattle.std.specs.Vec.{with_items}
+use Rattle.sector_stock.specs.Index.{IsStocked, IsAhead, in_block}
+use Rattle.sector_stock.proofs.Writing.{dead-room, retire-indexed, stocked-indexed}
+use Rattle.sector_stock.proofs.stock.StockReclaim.release.Goals as goal
+
+pub mark_dead-requires-clause-room : goal.mark_dead-requires-clause-room
+mark_dead-requires-clause-room g c =
+    let s = c.args.self.now in
+    let ready = c.in_ok-retire.ensures.done.ready in
+    subst (λ b. (in_block b (c.args.slot / 7)).dead < 7) (sym c.as_mut_slice-2.ensures.value)
+    (dead-room c.args.slot (g.S.SlotCalls.state s.slots).memory s.states.items s.blocks.items s.at (s.stocked.index (c.requires.indexed ready)) c.requires.number (c.requires.live ready))
+
+pub invariant_of-self-2 : goal.invariant_of-self-2
+invariant_of-self-2 g c =
+    let s = c.args.self.now in
+    let ready = c.in_ok-retire.ensures.done.ready in
+    let live = c.requires.live ready in
+    let m = (g.S.SlotCalls.state s.slots).memory in
+    let m1 = (g.S.SlotCalls.state c.retire.new.self).memory in
+    let marked = rw (c.as_mut_slice.ensures.value, c.as_mut_slice-2.ensures.value) at c.mark_dead.ensures.marked in
+    let ahead = subst (λ b. IsAhead b s.at → IsAhead c.mark_dead.new.blocks c.mark_dead.new.at) c.as_mut_slice-2.ensures.value c.mark_dead.ensures.ahead in
+    let index = retire-indexed c.args.slot m m1 s.states.items c.mark_dead.new.slots s.blocks.items c.mark_dead.new.blocks s.at c.mark_dead.new.at (s.stocked.index (c.requires.indexed ready)) c.requires.number live
+    (c.in_ok-retire.ensures.ok live) c.in_ok-retire.ensures.only marked ahead c.mark_dead.ensures.reserve in
+    let states = with_items_is s.states c.mark_dead.new.slots (marked.slot_size ∙ sym s.states.ok.0) in
+    let blocks = with_items_is s.blocks c.mark_dead.new.blocks (marked.block_size ∙ sym s.blocks.ok.0) in
+    record {
+      stocked = subst (λ xs. IsStocked xs (with_items s.blocks c.mark_dead.new.blocks).items c.mark_dead.new.at true m1) (sym states)
+          (subst (λ ys. IsStocked c.mark_dead.new.slots ys c.mark_dead.new.at true m1) (sym blocks)
+          (stocked-indexed s.states.items c.mark_dead.new.slots s.blocks.items c.mark_dead.new.blocks s.at c.mark_dead.new.at s.indexed m m1 c.in_ok-retire.ensures.chip.same_length marked.slot_size marked.block_size s.stocked index));
+    }

@@ -1,0 +1,57 @@
+use Rattle.std.proofs.lemmas.Result.{err_from_is_err_and}
+use Rattle.sector_stock.proofs.Moved.{copyable-now, numbers-in, most-dead-in, copies-into, free-after, dead-falls, index-moved}
+use Rattle.sector_stock.proofs.Moving.{other-reserve}
+use Rattle.sector_stock.proofs.take.copy_most.Goals as goal
+
+pub reclaim_into-requires-clause-copyable : goal.reclaim_into-requires-clause-copyable
+reclaim_into-requires-clause-copyable g c ready =
+    copyable-now c.args.source (g.S.SlotCalls.state c.args.slots.now).memory c.args.states.now c.args.blocks.now c.args.at.now c.requires.room c.requires.index c.requires.most
+
+pub returns-in_err-reclaim_into-clause-cut : goal.returns-in_err-reclaim_into-clause-cut
+returns-in_err-reclaim_into-clause-cut g c is healthy =
+    let p = err_from_is_err_and c.from_residual.result c.from_residual.ensures.1 in
+    let h = copyable-now c.args.source (g.S.SlotCalls.state c.args.slots.now).memory c.args.states.now c.args.blocks.now c.args.at.now c.requires.room c.requires.index c.requires.most in
+    c.in_err-reclaim_into.ensures.cut (cc (p.1, p.2)) healthy h
+
+pub shift_states-requires-clause-other : goal.shift_states-requires-clause-other
+shift_states-requires-clause-other g c =
+    (copyable-now c.args.source (g.S.SlotCalls.state c.args.slots.now).memory c.args.states.now c.args.blocks.now c.args.at.now c.requires.room c.requires.index c.requires.most).other
+
+pub move_block-requires-clause-other : goal.move_block-requires-clause-other
+move_block-requires-clause-other g c =
+    (copyable-now c.args.source (g.S.SlotCalls.state c.args.slots.now).memory c.args.states.now c.args.blocks.now c.args.at.now c.requires.room c.requires.index c.requires.most).other
+
+pub move_block-requires-clause-numbers : goal.move_block-requires-clause-numbers
+move_block-requires-clause-numbers g c = numbers-in c.args.source (g.S.SlotCalls.state c.args.slots.now).memory c.args.states.now c.args.blocks.now c.args.at.now c.requires.index c.requires.most.0
+
+pub returns-clause-ok : goal.returns-clause-ok
+returns-clause-ok g c =
+    let m = (g.S.SlotCalls.state c.args.slots.now).memory in
+    let h = copyable-now c.args.source m c.args.states.now c.args.blocks.now c.args.at.now c.requires.room c.requires.index c.requires.most in
+    copies-into c.args.source c.args.at.now.reserve m (g.S.SlotCalls.state c.reclaim_into.new.slots).memory c.requires.room
+    (most-dead-in c.args.source m c.args.states.now c.args.blocks.now c.args.at.now c.requires.index c.requires.most) c.requires.index.reserve h.other (c.in_ok-reclaim_into.ensures.ok h)
+
+pub returns-clause-fewer : goal.returns-clause-fewer
+returns-clause-fewer g c =
+    let m = (g.S.SlotCalls.state c.args.slots.now).memory in
+    let h = copyable-now c.args.source m c.args.states.now c.args.blocks.now c.args.at.now c.requires.room c.requires.index c.requires.most in
+    let done = c.in_ok-reclaim_into.ensures.ok h in
+    dead-falls c.args.source c.args.at.now.reserve m (g.S.SlotCalls.state c.reclaim_into.new.slots).memory c.requires.room done.blocks
+    (most-dead-in c.args.source m c.args.states.now c.args.blocks.now c.args.at.now c.requires.index c.requires.most) c.requires.index.reserve done.slots
+
+pub returns-clause-index : goal.returns-clause-index
+returns-clause-index g c =
+    let m = (g.S.SlotCalls.state c.args.slots.now).memory in
+    let h = copyable-now c.args.source m c.args.states.now c.args.blocks.now c.args.at.now c.requires.room c.requires.index c.requires.most in
+    let done = c.in_ok-reclaim_into.ensures.ok h in
+    index-moved c.args.source m (g.S.SlotCalls.state c.reclaim_into.new.slots).memory c.args.states.now c.shift_states.new.slots c.args.blocks.now c.move_block.new.blocks c.args.at.now c.move_block.new.at
+    c.requires.room h.source done.slots done.blocks c.requires.index c.shift_states.ensures c.move_block.ensures.moved c.move_block.ensures.ahead c.move_block.ensures.reserve
+
+pub returns-clause-free : goal.returns-clause-free
+returns-clause-free g c none =
+    let m = (g.S.SlotCalls.state c.args.slots.now).memory in
+    let h = copyable-now c.args.source m c.args.states.now c.args.blocks.now c.args.at.now c.requires.room c.requires.index c.requires.most in
+    let done = c.in_ok-reclaim_into.ensures.ok h in
+    let most = most-dead-in c.args.source m c.args.states.now c.args.blocks.now c.args.at.now c.requires.index c.requires.most in
+    free-after c.args.source c.args.at.now.reserve c.move_block.new.at.reserve m (g.S.SlotCalls.state c.reclaim_into.new.slots).memory c.requires.room most c.requires.index.reserve
+    (other-reserve c.args.source c.args.at.now.reserve c.move_block.new.at.reserve c.args.blocks.now c.move_block.new.blocks c.move_block.ensures.moved c.move_block.ensures.reserve) done none

@@ -1,0 +1,22 @@
+use Rattle.std.proofs.Common.{refl}
+use Rattle.sector_stock.specs.RoomLaws.{never-full}
+use Rattle.sector_stock.specs.Takes.{was_copied}
+use Rattle.sector_stock.proofs.Moved.{none-dead-in}
+use Rattle.sector_stock.proofs.Finding.{none-free-of}
+use Rattle.sector_stock.proofs.take.take_in.Goals as goal
+
+pub unreachable-requires : goal.unreachable-requires
+unreachable-requires g c =
+    let m = (g.S.SlotCalls.state c.args.slots.now).memory in
+    never-full c.args.at.now.reserve m c.requires.sized c.requires.room c.requires.index.reserve (c.in_default.ensures.found m c.requires.index)
+    (none-dead-in m c.args.states.now c.args.blocks.now c.args.at.now c.requires.index c.in_default-most_dead.ensures.found)
+
+pub unreachable-requires-in_default-lowest_free : goal.unreachable-requires-in_default-lowest_free
+unreachable-requires-in_default-lowest_free g c =
+    c.in_ok-copied.ensures.free (c.in_default-lowest_free.ensures.found (g.S.SlotCalls.state c.copy_most.new.slots).memory c.in_ok-copied.ensures.index)
+
+pub returns-clause-ok : goal.returns-clause-ok
+returns-clause-ok g c =
+    let m = (g.S.SlotCalls.state c.args.slots.now).memory in
+    was_copied c.in_ok-copied.copied refl (λ r reserve. none-free-of r c.args.at.now.reserve m c.requires.index.reserve reserve (c.in_default.ensures.found m c.requires.index)) c.in_ok-copied.ensures.ok
+    (c.in-Some-lowest_free.ensures.found (g.S.SlotCalls.state c.copy_most.new.slots).memory c.in_ok-copied.ensures.index)

@@ -1,0 +1,297 @@
+//! The index of a store's slots in memory. Each operation changes one slot and one block of it; where it looks for a slot to
+//! give, and for a block to be copied, it goes on from where it stood.
+
+ghost use Rattle.std.specs.Prelude.{◌≡◌, ◌≢◌, ◌⊎◌, ◌+◌, ◌*◌, ◌/◌, ◌<◌, ◌≤◌, length, ℕ, List, MatchOption};
+ghost use Rattle.sector_stock.specs.Index.{IsAhead, Marked, one_dead_more, one_free_fewer, in_block, IsMostDead, HasNoDead, IsLowestWithFree, HasNoFreeBut, copied_state, Shifted, IsIndexOf, IsWholeBlock, BlocksMoved, IsHighestWhole, AreSparesBelow, NextReserve, Widened, HasNoFreeState, IsFirstFreeState};
+ghost use Rattle.sector_stock.specs.Room.{HasNoneFree};
+ghost use Rattle.sector_stock.specs.Takes.{IsLowestFree};
+
+/// What the index keeps of a slot. Source: own.
+#[derive(Clone, Copy, Debug, PartialEq, Eq, Drop)]
+pub enum SlotState {
+    Free,
+    Live,
+    Dead,
+}
+
+/// What it keeps of a block: how many of its slots are free and dead, and whether no copy was ever begun in it.
+#[derive(Clone, Copy, Debug, PartialEq, Eq, Drop)]
+pub struct BlockState {
+    pub free: u8,
+    pub dead: u8,
+    pub plain: bool,
+}
+
+/// Where it looks next.
+#[derive(Clone, Copy, Debug, PartialEq, Eq, Drop)]
+pub struct Cursors {
+    /// The highest-numbered wholly free block.
+    pub reserve: u16,
+    /// Each other wholly free block lies below this one.
+    pub spares: u16,
+    /// Below it no block but the reserve has a free slot,
+    pub cursor: u16,
+    /// nor from this one on.
+    pub beyond: u16,
+    /// No block has more dead slots,
+    pub most: u8,
+    /// and below this one none has so many.
+    pub from: u16,
+}
+
+/// A live slot became dead.
+pub fn mark_dead(slots: &mut [SlotState], blocks: &mut [BlockState], at: &mut Cursors, slot: u16)
+    requires slot { slot < length slots.old }
+    requires block { slot / 7 < length blocks.old }
+    requires room { (in_block blocks.old (slot / 7)).dead < 7 }
+    ensures marked { Marked slot SlotState.Dead (one_dead_more (in_block blocks.old (slot / 7))) slots.old slots.new blocks.old blocks.new }
+    ensures ahead { IsAhead blocks.old at.old → IsAhead blocks.new at.new }
+    ensures reserve { at.new.reserve ≡ at.old.reserve }
+{
+    slots[slot as usize] = SlotState::Dead;
+    let block = slot / 7;
+    let dead = blocks[block as usize].dead + 1;
+    blocks[block as usize].dead = dead;
+    if dead > at.most {
+        at.most = dead;
+        at.from = block;
+    } else if dead == at.most && block < at.from {
+        at.from = block;
+    }
+}
+
+/// A free slot became live.
+pub fn mark_live(slots: &mut [SlotState], blocks: &mut [BlockState], slot: u16)
+    requires slot { slot < length slots.old }
+    requires block { slot / 7 < length blocks.old }
+    requires some { 0 < (in_block blocks.old (slot / 7)).free }
+    ensures marked { Marked slot SlotState.Live (one_free_fewer (in_block blocks.old (slot / 7))) slots.old slots.new blocks.old blocks.new }
+{
+    slots[slot as usize] = SlotState::Live;
+    let block = slot / 7;
+    blocks[block as usize].free -= 1;
+}
+
+/// The block with the most dead slots, the lowest-numbered of equals.
+pub fn most_dead(blocks: &[BlockState], at: &mut Cursors) -> Option<u16>
+    requires size { length blocks.now < 65536 }
+    requires ahead { IsAhead blocks.now at.old }
+    ensures found { MatchOption result (HasNoDead blocks.now) (λ b. IsMostDead blocks.now b) }
+    ensures ahead { IsAhead blocks.now at.new }
+    ensures reserve { at.new.reserve ≡ at.old.reserve }
+{
+    while at.most > 0 {
+        match first_with(blocks, at.from, at.most) {
+            Some(block) => {
+                at.from = block;
+                return Some(block);
+            }
+            None => {
+                at.most -= 1;
+                at.from = 0;
+            }
+        }
+    }
+    None
+}
+
+/// The lowest-numbered block from `from` on with so many dead slots.
+fn first_with(blocks: &[BlockState], from: u16, dead: u8) -> Option<u16>
+    requires size { length blocks.now < 65536 }
+    ensures found { MatchOption result ((c : ℕ) → from ≤ c → c < length blocks.now → (in_block blocks.now c).dead ≢ dead)
+        (λ b. (b < length blocks.now) × (from ≤ b) × ((in_block blocks.now b).dead ≡ dead) × ((c : ℕ) → from ≤ c → c < b → (in_block blocks.now c).dead ≢ dead)) }
+{
+    let count = blocks.len() as u16;
+    for block in from..count {
+        if blocks[block as usize].dead == dead {
+            return Some(block);
+        }
+    }
+    None
+}
+
+/// The lowest-numbered block but the reserve that has a free slot.
+pub fn lowest_with_free(blocks: &[BlockState], at: &mut Cursors) -> Option<u16>
+    requires size { length blocks.now < 65536 }
+    requires ahead { IsAhead blocks.now at.old }
+    ensures found { MatchOption result (HasNoFreeBut blocks.now at.old.reserve) (λ b. IsLowestWithFree blocks.now at.old.reserve b) }
+    ensures ahead { IsAhead blocks.now at.new }
+    ensures reserve { at.new.reserve ≡ at.old.reserve }
+{
+    match first_free(blocks, at.cursor, at.beyond, at.reserve) {
+        Some(block) => {
+            at.cursor = block;
+            Some(block)
+        }
+        None => {
+            at.cursor = at.beyond;
+            None
+        }
+    }
+}
+
+/// The lowest-numbered block from `from` on and below `end`, but the reserve, that has a free slot.
+fn first_free(blocks: &[BlockState], from: u16, end: u16, reserve: u16) -> Option<u16>
+    requires end { end ≤ length blocks.now }
+    ensures found { MatchOption result ((c : ℕ) → from ≤ c → c < end → c ≢ reserve → (in_block blocks.now c).free ≡ 0)
+        (λ b. (b < length blocks.now) × (from ≤ b) × (b ≢ reserve) × (0 < (in_block blocks.now b).free) × ((c : ℕ) → from ≤ c → c < b → c ≢ reserve → (in_block blocks.now c).free ≡ 0)) }
+{
+    for block in from..end {
+        let free = blocks[block as usize].free;
+        if block != reserve && free > 0 {
+            return Some(block);
+        }
+    }
+    None
+}
+
+/// The copy of a slot of this state.
+fn copy_of(state: SlotState) -> SlotState
+    ensures { result ≡ copied_state state }
+{
+    match state {
+        SlotState::Free => SlotState::Free,
+        SlotState::Live => SlotState::Live,
+        SlotState::Dead => SlotState::Free,
+    }
+}
+
+/// The states of a block go to the block into which it was copied, and its own slots are free.
+pub fn shift_states(slots: &mut [SlotState], source: u16, target: u16)
+    requires other { source ≢ target }
+    requires source { 7 * source + 7 ≤ length slots.old }
+    requires target { 7 * target + 7 ≤ length slots.old }
+    ensures { Shifted 7 source target slots.old slots.new }
+{
+    for place in 0..7usize {
+        let from = 7 * source as usize + place;
+        let to = 7 * target as usize + place;
+        slots[to] = copy_of(slots[from]);
+        slots[from] = SlotState::Free;
+    }
+}
+
+/// The counts of a block go to the block into which it was copied.
+fn move_counts(blocks: &mut [BlockState], source: u16, target: u16)
+    requires other { source ≢ target }
+    requires source { source < length blocks.old }
+    requires target { target < length blocks.old }
+    requires numbers { (in_block blocks.old source).free + (in_block blocks.old source).dead ≤ 7 }
+    ensures { BlocksMoved source target blocks.old blocks.new }
+{
+    let old = blocks[source as usize];
+    blocks[target as usize] = BlockState {
+        free: old.free + old.dead,
+        dead: 0,
+        plain: false,
+    };
+    blocks[source as usize] = BlockState {
+        free: 7,
+        dead: 0,
+        plain: true,
+    };
+}
+
+/// The highest-numbered wholly free block from `least` on and below `below`; `least` where there is none.
+pub fn highest_whole(blocks: &[BlockState], least: u16, below: u16) -> u16
+    requires least { least < below }
+    requires below { below ≤ length blocks.now }
+    ensures found { (least ≤ result) × (result < below) }
+    ensures whole { (result ≡ least) ⊎ IsWholeBlock (in_block blocks.now result) }
+    ensures highest { (c : ℕ) → result < c → c < below → IsWholeBlock (in_block blocks.now c) → ⊥ }
+{
+    let mut block = below - 1;
+    while block > least {
+        let state = blocks[block as usize];
+        if state.plain && state.free == 7 {
+            return block;
+        }
+        block -= 1;
+    }
+    least
+}
+
+/// The reserve once block `source` is wholly free, and the old one isn't. The search goes on from where it ended: no block becomes
+/// wholly free but such a source.
+fn next_reserve(blocks: &[BlockState], at: &mut Cursors, source: u16)
+    requires source { source < length blocks.now }
+    requires whole { IsWholeBlock (in_block blocks.now source) }
+    requires spares { AreSparesBelow blocks.now source at.old.spares }
+    requires within { at.old.spares ≤ length blocks.now }
+    ensures { NextReserve blocks.now at.old at.new }
+{
+    if source < at.spares {
+        let reserve = highest_whole(blocks, source, at.spares);
+        at.reserve = reserve;
+        at.spares = reserve;
+    } else {
+        at.reserve = source;
+    }
+}
+
+/// Free slots are looked for in this block too.
+fn widen(at: &mut Cursors, block: u16)
+    requires { block < 65535 }
+    ensures { Widened block at.old at.new }
+{
+    if at.cursor >= at.beyond {
+        at.cursor = block;
+        at.beyond = block + 1;
+    } else if block < at.cursor {
+        at.cursor = block;
+    } else if block >= at.beyond {
+        at.beyond = block + 1;
+    }
+}
+
+/// The blocks once one of them was copied into the reserve: their counts, and where the index looks next.
+pub fn move_block(blocks: &mut [BlockState], at: &mut Cursors, source: u16)
+    requires size { length blocks.old < 65536 }
+    requires source { source < length blocks.old }
+    requires reserve { at.old.reserve < length blocks.old }
+    requires other { source ≢ at.old.reserve }
+    requires dead { 0 < (in_block blocks.old source).dead }
+    requires numbers { (in_block blocks.old source).free + (in_block blocks.old source).dead ≤ 7 }
+    requires ahead { IsAhead blocks.old at.old }
+    ensures moved { BlocksMoved source at.old.reserve blocks.old blocks.new }
+    ensures ahead { IsAhead blocks.new at.new }
+    ensures reserve { IsHighestWhole blocks.new at.new.reserve }
+{
+    let target = at.reserve;
+    move_counts(blocks, source, target);
+    next_reserve(blocks, at, source);
+    widen(at, target);
+    if at.reserve != source {
+        widen(at, source);
+    }
+}
+
+/// The lowest-numbered free slot outside the reserve.
+pub fn lowest_free(states: &[SlotState], blocks: &[BlockState], at: &mut Cursors) -> Option<u16>
+    requires size { length states.now < 65536 }
+    requires states { length states.now ≡ 7 * length blocks.now }
+    requires ahead { IsAhead blocks.now at.old }
+    ensures found { (m : List ℕ) → IsIndexOf states.now blocks.now at.old m → MatchOption result (HasNoneFree at.old.reserve m) (λ w. IsLowestFree w m) }
+    ensures ahead { IsAhead blocks.now at.new }
+    ensures reserve { at.new.reserve ≡ at.old.reserve }
+{
+    match lowest_with_free(blocks, at) {
+        Some(block) => first_place(states, block),
+        None => None,
+    }
+}
+
+/// The lowest-numbered free slot of a block.
+fn first_place(states: &[SlotState], block: u16) -> Option<u16>
+    requires size { length states.now < 65536 }
+    requires block { 7 * block + 7 ≤ length states.now }
+    ensures found { MatchOption result (HasNoFreeState states.now block) (λ w. IsFirstFreeState states.now block w) }
+{
+    for place in 0..7u16 {
+        let slot = 7 * block + place;
+        if states[slot as usize] == SlotState::Free {
+            return Some(slot);
+        }
+    }
+    None
+}

@@ -1,0 +1,197 @@
+ghost use Rattle.std.specs.Prelude.{◌≡◌, ◌≢◌, ◌<◌, ℕ, List, false, true, Some, None, length, OnOk, IfOk, IfErr};
+ghost use Rattle.nor_driver.specs.State.{IsReady};
+ghost use Rattle.erase_journal.specs.Journals.{IsSettled};
+ghost use Rattle.sector_slots.specs.Slots.{slot_count, data_blocks};
+ghost use Rattle.sector_stock.specs.Index.{IsStocked};
+
+use crate::Reclaim;
+use crate::given::{Copied, Given};
+use crate::index::{BlockState, Cursors, SlotState, mark_dead, mark_live};
+use crate::scan::fill_index;
+use crate::take::{take_in, tidy_in};
+use erase_journal::RecoverError;
+use nor_driver::NorError;
+use nor_layout::{Header, Kind, Tag};
+use sector_slots::SlotCalls;
+
+/// A store of slots, and an index of them in memory: the state of each slot, the counts of each block, and where to look next.
+/// While the flag `indexed` is set the index is that of the memory. Source: own, layout 2.
+pub struct Stock<S: SlotCalls> {
+    slots: S,
+    states: Vec<SlotState>,
+    blocks: Vec<BlockState>,
+    at: Cursors,
+    indexed: bool,
+    ghost stocked: { IsStocked states.items blocks.items at indexed (S.state slots).memory },
+}
+
+impl<S: SlotCalls> Stock<S> {
+    /// A store whose index has still to be made. The lists have a place for each slot and for each data block, and may hold anything.
+    pub fn new(slots: S, states: Vec<SlotState>, blocks: Vec<BlockState>) -> Stock<S>
+        requires states_size { length states.items ≡ slot_count (S.state slots).memory }
+        requires blocks_size { length blocks.items ≡ data_blocks (S.state slots).memory }
+        ensures same { ⟦<Stock<S> as SlotCalls>⟧.state result ≡ S.state slots }
+    {
+        let _count = slots.blocks();
+        Stock {
+            slots,
+            states,
+            blocks,
+            at: Cursors {
+                reserve: 0,
+                spares: 0,
+                cursor: 0,
+                beyond: 0,
+                most: 0,
+                from: 0,
+            },
+            indexed: false,
+        }
+    }
+
+    /// Gives the slots back.
+    pub fn into_inner(self) -> S
+        ensures { S.state result ≡ ⟦<Stock<S> as SlotCalls>⟧.state self }
+    {
+        let Stock {
+            slots,
+            states: _states,
+            blocks: _blocks,
+            at: _at,
+            indexed: _indexed,
+        } = self;
+        slots
+    }
+}
+
+impl<S: SlotCalls> SlotCalls for Stock<S> {
+    ghost state = { λ stock. S.state stock.slots };
+
+    ghost indexed = { λ stock. stock.indexed };
+
+    fn blocks(&self) -> u16 {
+        self.slots.blocks()
+    }
+
+    fn free(&mut self, slot: u16) -> Result<bool, NorError> {
+        self.slots.free(slot)
+    }
+
+    fn get(&mut self, slot: u16, into: &mut [u8]) -> Result<Option<Tag>, NorError> {
+        self.slots.get(slot, into)
+    }
+
+    fn content(&mut self, slot: u16, into: &mut [u8]) -> Result<(), NorError> {
+        self.slots.content(slot, into)
+    }
+
+    fn put(&mut self, slot: u16, tag: Tag, content: &[u8]) -> Result<(), NorError> {
+        self.indexed = false;
+        self.slots.put(slot, tag, content)
+    }
+
+    fn retire(&mut self, slot: u16) -> Result<(), NorError> {
+        self.indexed = false;
+        self.slots.retire(slot)
+    }
+
+    fn kind(&mut self, block: u16) -> Result<Kind, NorError> {
+        self.slots.kind(block)
+    }
+
+    fn head(&mut self, block: u16, into: &mut [Header]) -> Result<Kind, NorError> {
+        self.slots.head(block, into)
+    }
+
+    fn begin(&mut self, target: u16, source: u16) -> Result<(), NorError> {
+        self.indexed = false;
+        self.slots.begin(target, source)
+    }
+
+    fn copy(&mut self, target: u16, place: u16) -> Result<(), NorError> {
+        self.indexed = false;
+        self.slots.copy(target, place)
+    }
+
+    fn commit(&mut self, target: u16) -> Result<(), NorError> {
+        self.indexed = false;
+        self.slots.commit(target)
+    }
+
+    fn settle(&mut self, target: u16) -> Result<(), NorError> {
+        self.indexed = false;
+        self.slots.settle(target)
+    }
+
+    fn erase(&mut self, block: u16) -> Result<(), NorError> {
+        self.indexed = false;
+        self.slots.erase(block)
+    }
+
+    fn restore(&mut self) -> Result<(), RecoverError> {
+        self.indexed = false;
+        self.slots.restore()
+    }
+
+    fn arm(&mut self, count: u32, kind: u8, mask: u8) {
+        self.slots.arm(count, kind, mask)
+    }
+}
+
+impl<S: SlotCalls> Reclaim for Stock<S> {
+    fn fill(&mut self) -> Result<(), NorError> {
+        self.indexed = false;
+        self.at = fill_index(
+            &mut self.slots,
+            self.states.as_mut_slice(),
+            self.blocks.as_mut_slice(),
+        )?;
+        self.indexed = true;
+        Ok(())
+    }
+
+    fn take_free(&mut self) -> Result<Given, NorError> {
+        self.indexed = false;
+        let given = take_in(
+            &mut self.slots,
+            self.states.as_mut_slice(),
+            self.blocks.as_mut_slice(),
+            &mut self.at,
+        )?;
+        self.indexed = true;
+        Ok(given)
+    }
+
+    fn tidy(&mut self) -> Result<Option<Copied>, NorError> {
+        self.indexed = false;
+        let copied = tidy_in(
+            &mut self.slots,
+            self.states.as_mut_slice(),
+            self.blocks.as_mut_slice(),
+            &mut self.at,
+        )?;
+        self.indexed = true;
+        Ok(copied)
+    }
+
+    fn write(&mut self, slot: u16, tag: Tag, content: &[u8]) -> Result<(), NorError> {
+        self.indexed = false;
+        self.slots.put(slot, tag, content)?;
+        mark_live(self.states.as_mut_slice(), self.blocks.as_mut_slice(), slot);
+        self.indexed = true;
+        Ok(())
+    }
+
+    fn release(&mut self, slot: u16) -> Result<(), NorError> {
+        self.indexed = false;
+        self.slots.retire(slot)?;
+        mark_dead(
+            self.states.as_mut_slice(),
+            self.blocks.as_mut_slice(),
+            &mut self.at,
+            slot,
+        );
+        self.indexed = true;
+        Ok(())
+    }
+}
