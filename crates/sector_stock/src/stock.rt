@@ -10,27 +10,29 @@ use crate::index::{BlockState, Cursors, SlotState, mark_dead, mark_live};
 use crate::scan::fill_index;
 use crate::take::{take_in, tidy_in};
 use erase_journal::RecoverError;
-use nor_driver::NorError;
+use journal_slots::SectorSlots;
+use nor_driver::{Nor, NorError};
 use nor_layout::{Header, Kind, Tag};
 use sector_slots::SlotCalls;
 
 /// A store of slots, and an index of them in memory: the state of each slot, the counts of each block, and where to look next.
 /// While the flag `indexed` is set the index is that of the memory. Source: own, layout 2.
-pub struct Stock<S: SlotCalls> {
-    slots: S,
+#[derive(Drop)]
+pub struct Stock<N: Nor> {
+    slots: SectorSlots<N>,
     states: Vec<SlotState>,
     blocks: Vec<BlockState>,
     at: Cursors,
     indexed: bool,
-    ghost stocked: { IsStocked states.items blocks.items at indexed (S.state slots).memory },
+    ghost stocked: { IsStocked states.items blocks.items at indexed slots.memory },
 }
 
-impl<S: SlotCalls> Stock<S> {
+impl<N: Nor> Stock<N> {
     /// A store whose index has still to be made. The lists have a place for each slot and for each data block, and may hold anything.
-    pub fn new(slots: S, states: Vec<SlotState>, blocks: Vec<BlockState>) -> Stock<S>
-        requires states_size { length states.items ≡ slot_count (S.state slots).memory }
-        requires blocks_size { length blocks.items ≡ data_blocks (S.state slots).memory }
-        ensures same { ⟦<Stock<S> as SlotCalls>⟧.state result ≡ S.state slots }
+    pub fn new(slots: SectorSlots<N>, states: Vec<SlotState>, blocks: Vec<BlockState>) -> Stock<N>
+        requires states_size { length states.items ≡ slot_count slots.memory }
+        requires blocks_size { length blocks.items ≡ data_blocks slots.memory }
+        ensures same { ⟦<Stock<N> as SlotCalls>⟧.state result ≡ slots }
     {
         let _count = slots.blocks();
         Stock {
@@ -50,8 +52,8 @@ impl<S: SlotCalls> Stock<S> {
     }
 
     /// Gives the slots back.
-    pub fn into_inner(self) -> S
-        ensures { S.state result ≡ ⟦<Stock<S> as SlotCalls>⟧.state self }
+    pub fn into_inner(self) -> SectorSlots<N>
+        ensures { result ≡ ⟦<Stock<N> as SlotCalls>⟧.state self }
     {
         let Stock {
             slots,
@@ -64,8 +66,8 @@ impl<S: SlotCalls> Stock<S> {
     }
 }
 
-impl<S: SlotCalls> SlotCalls for Stock<S> {
-    ghost state = { λ stock. S.state stock.slots };
+impl<N: Nor> SlotCalls for Stock<N> {
+    ghost state = { λ stock. stock.slots };
 
     ghost indexed = { λ stock. stock.indexed };
 
@@ -138,7 +140,7 @@ impl<S: SlotCalls> SlotCalls for Stock<S> {
     }
 }
 
-impl<S: SlotCalls> Reclaim for Stock<S> {
+impl<N: Nor> Reclaim for Stock<N> {
     fn fill(&mut self) -> Result<(), NorError> {
         self.indexed = false;
         self.at = fill_index(

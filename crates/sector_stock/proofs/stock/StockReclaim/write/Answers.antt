@@ -16,15 +16,15 @@ mark_live-requires-clause-some g c =
     let s = c.args.self.now in
     let ready = c.in_ok-put.ensures.done.ready in
     subst (λ b. 0 < (in_block b (c.args.slot / 7)).free) (sym c.as_mut_slice-2.ensures.value)
-    (free-some c.args.slot (g.S.SlotCalls.state s.slots).memory s.states.items s.blocks.items s.at (s.stocked.index (c.requires.indexed ready)) c.requires.number (c.requires.free ready))
+    (free-some c.args.slot s.slots.memory s.states.items s.blocks.items s.at (s.stocked.index (c.requires.indexed ready)) c.requires.number (c.requires.free ready))
 
 pub invariant_of-self-2 : goal.invariant_of-self-2
 invariant_of-self-2 g c =
     let s = c.args.self.now in
     let ready = c.in_ok-put.ensures.done.ready in
     let free = c.requires.free ready in
-    let m = (g.S.SlotCalls.state s.slots).memory in
-    let m1 = (g.S.SlotCalls.state c.put.new.self).memory in
+    let m = s.slots.memory in
+    let m1 = c.put.new.self.memory in
     let marked = rw (c.as_mut_slice.ensures.value, c.as_mut_slice-2.ensures.value) at c.mark_live.ensures.marked in
     let index = put-indexed c.args.slot c.args.tag m m1 s.states.items c.mark_live.new.slots s.blocks.items c.mark_live.new.blocks s.at (s.stocked.index (c.requires.indexed ready)) c.requires.number free
     (c.in_ok-put.ensures.live free) c.in_ok-put.ensures.only (c.requires.outside ready) marked in

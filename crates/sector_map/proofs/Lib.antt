@@ -1,0 +1,12 @@
+pub mod Places
+pub mod Founds
+pub mod Replacing
+pub mod Tables
+pub mod Calls
+pub mod Retiring
+pub mod MapSteps
+pub mod Mounting
+pub mod Following
+pub mod MapCalls
+pub mod Restoring
+pub mod Opening

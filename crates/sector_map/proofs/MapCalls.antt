@@ -1,0 +1,273 @@
+-- What the calls of a map leave, from what those of its store leave.
+use Rattle.std.proofs.Common.{◌≡◌, ◌≢◌, ℕ, zero, suc, ◌-◌, ◌<◌, ◌⊎◌, Bool, true, false, List, length, refl, sym, ◌∙◌, subst, arith, inl, inr, eq-eqb}
+use Rattle.std.specs.Prelude.{Option, Some, None, IfSome, slice_index_or}
+use Rattle.std.proofs.lemmas.Bool.{ne_eqb}
+use Rattle.chip_model.specs.Geometry.{sector_count, block_count}
+use Rattle.nor_driver.specs.State.{NorState, IsReady, Kept}
+use Rattle.erase_journal.specs.Blocks.{SameChip}
+use Rattle.erase_journal.specs.Places.{how_many}
+use Rattle.sector_slots.specs.CopyLaws.{how_many-zero, how_many-suc}
+use Rattle.erase_journal.specs.Journals.{IsHealthy, IsSettled}
+use Rattle.sector_slots.specs.Slots.{Slot, Free, Live, NoGeneration, Dead, Outside, slot_at, slot_count, data_blocks, IsClean}
+use Rattle.sector_slots.specs.Blocks.{AreSettled}
+use Rattle.sector_slots.specs.Sectors.{sector_at, with_sector, IsSoundMap, IsSingle, HoldsSectors}
+use Rattle.sector_slots.specs.BlankLaws.{sound-holds}
+use Rattle.sector_slots.specs.SlotLaws.{one-reserve}
+use Rattle.sector_slots.specs.Steps.{Succeeds}
+use Rattle.sector_slots.specs.StepLaws.{chip-after, settled-healthy, succeeds-after}
+use Rattle.sector_stock.specs.declared.given.Copied.{Copied}
+use Rattle.sector_stock.specs.Copy.{SameSectors, Stays}
+use Rattle.sector_stock.specs.Room.{HasRoom, HasNoneDead}
+use Rattle.sector_stock.specs.Index.{is_dead}
+use Rattle.sector_stock.specs.Takes.{Shifts, Takes, IsLowestFree, CopiesInto, was_free, was_copied, dead_slots}
+use Rattle.sector_map.specs.Scan.{TableFollows, FollowsBlock}
+use Rattle.sector_map.specs.Replace.{HeldBy, IsReplaceable, Rewrites, RewriteLeaves}
+use Rattle.sector_map.specs.Table.{IsTableOf, Settled, holder}
+use Rattle.sector_map.specs.Maps.{IsStore, Keeps, KeepsEach, Sets, SetLeaves, Served, Wrote, Kept_on}
+use Rattle.sector_map.specs.declared.held.Held.{Held}
+use Rattle.sector_map.specs.declared.entry.Entry.{Entry}
+use Rattle.sector_map.specs.declared.entry.Entry.TheVariants.{Absent}
+use Rattle.sector_map.proofs.Places.{holds-computed, holds-sound}
+use Rattle.sector_map.proofs.MapSteps.{table-follows}
+use Rattle.sector_map.proofs.Retiring.{single-tabled, table-holder}
+use Rattle.sector_map.proofs.Mounting.{table-room}
+use Rattle.sector_map.proofs.Following.{shifts-sound, shifts-single-at, shifts-table}
+
+on-chip : (m m' : List ℕ) (g : ℕ) → SameChip m m' → g < sector_count (length m) → g < sector_count (length m')
+on-chip m m' g chip low = subst (λ n. g < sector_count n) (sym chip.same_length) low
+
+pub ready-after : (a b : NorState) → Kept a b → IsReady a → IsReady b
+ready-after a b k r = (k.powered ∙ r.0, k.is_slow ∙ r.1)
+
+pub served-room : (table : List Entry) (state : NorState) (indexed : Bool) → Served table state indexed → HasRoom state.memory
+served-room table state indexed s = table-room table state.memory s.tabled s.blocks
+
+-- nothing changed
+pub keeps-none : (m : List ℕ) → IsStore m → Keeps m m
+keeps-none m store = record { chip = record { same_length = refl; superblock = λ k low. refl }; store = store; sectors = λ c g low. refl; clean = λ c. c }
+
+pub keeps-same : (m m' : List ℕ) → m' ≡ m → IsStore m → Keeps m m'
+keeps-same m m' e store = subst (λ z. Keeps m z) (sym e) (keeps-none m store)
+
+pub keeps-after : (a b c : List ℕ) → Keeps a b → Keeps b c → Keeps a c
+keeps-after a b c p q = record {
+  chip = chip-after a b c p.chip q.chip;
+  store = q.store;
+  sectors = λ h g low. q.sectors (p.clean h) g (on-chip a b g p.chip low) ∙ p.sectors h g low;
+  clean = λ h. q.clean (p.clean h);
+}
+
+pub keeps-holds : (m m' : List ℕ) → SameChip m m' → IsHealthy m' → IsSoundMap m' → (IsClean m → HoldsSectors (sector_at m) m') → (IsClean m → IsClean m') → Keeps m m'
+keeps-holds m m' chip healthy sound holds clean = record {
+  chip = chip;
+  store = record { journals = healthy; slots = sound };
+  sectors = λ c g low. holds-computed m' (sector_at m) g (holds c) (on-chip m m' g chip low);
+  clean = clean;
+}
+
+pub keeps-each : (m m' : List ℕ) → SameChip m m' → IsHealthy m' → HoldsSectors (sector_at m) m' → (IsClean m → IsClean m') → KeepsEach m m'
+keeps-each m m' chip healthy holds clean = record {
+  chip = chip;
+  store = record { journals = healthy; slots = holds-sound m' (sector_at m) holds };
+  sectors = λ g low. holds-computed m' (sector_at m) g holds (on-chip m m' g chip low);
+  clean = clean;
+}
+
+pub each-after : (a b c : List ℕ) → KeepsEach a b → KeepsEach b c → KeepsEach a c
+each-after a b c p q = record {
+  chip = chip-after a b c p.chip q.chip;
+  store = q.store;
+  sectors = λ g low. q.sectors g (on-chip a b g p.chip low) ∙ p.sectors g low;
+  clean = λ h. q.clean (p.clean h);
+}
+
+-- what taking a slot, or a step of tidying, leaves
+pub record Moved (m b : List ℕ) : Type 0 where
+  pub chip : SameChip m b
+  pub sound : IsSoundMap b
+  pub single : IsSingle b
+  pub blocks : AreSettled b
+  pub sectors : IsClean m → SameSectors m b
+  pub clean : IsClean m → IsClean b
+
+shifts-moved : (s t : ℕ) (m b : List ℕ) → Shifts s t m b → IsSoundMap m → IsSingle m → Moved m b
+shifts-moved s t m b h sound single = record { chip = h.chip; sound = shifts-sound s t m b h sound single; single = shifts-single-at s t m b h single; blocks = h.blocks; sectors = h.sectors; clean = h.clean }
+
+pub none-moved : (m b : List ℕ) → b ≡ m → IsSoundMap m → IsSingle m → AreSettled m → Moved m b
+none-moved m b e sound single blocks = subst (λ z. Moved m z) (sym e) (record {
+  chip = record { same_length = refl; superblock = λ k low. refl };
+  sound = sound;
+  single = single;
+  blocks = blocks;
+  sectors = λ c sectors holds. holds;
+  clean = λ c. c;
+})
+
+pub copies-moved : (c : Copied) (m b : List ℕ) → CopiesInto c.source c.target m b → IsSoundMap m → IsSingle m → Moved m b
+copies-moved c m b h sound single = shifts-moved c.source c.target m b h.shifts sound single
+
+pub takes-moved : (w : ℕ) (o : Option Copied) (m b : List ℕ) → Takes w o m b → IsSoundMap m → IsSingle m → AreSettled m → Moved m b
+takes-moved w o m b (was_free n e low) sound single blocks = none-moved m b e sound single blocks
+takes-moved w o m b (was_copied c is none h low) sound single blocks = copies-moved c m b h sound single
+
+pub takes-low : (w : ℕ) (o : Option Copied) (m b : List ℕ) → Takes w o m b → IsLowestFree w b
+takes-low w o m b (was_free n e low) = low
+takes-low w o m b (was_copied c is none h low) = low
+
+pub copies-table : (c : Copied) (m b : List ℕ) (old new : List Entry) → CopiesInto c.source c.target m b → IsSoundMap m → IsSingle m → IsTableOf old m → FollowsBlock c.target old new b → IsTableOf new b
+copies-table c m b old new h sound single t f = shifts-table c.source c.target m b old new h.shifts h.target.number sound single t f
+
+pub takes-table : (w : ℕ) (o : Option Copied) (m b : List ℕ) (old new : List Entry) → Takes w o m b → TableFollows o old new b → IsSoundMap m → IsSingle m → IsTableOf old m → IsTableOf new b
+takes-table w o m b old new (was_free n e low) f sound single t =
+    let same : new ≡ old = subst (λ z. TableFollows z old new b) n f in
+    subst (λ z. IsTableOf z b) (sym same) (subst (λ z. IsTableOf old z) (sym e) t)
+takes-table w o m b old new (was_copied c is none h low) f sound single t = copies-table c m b old new h sound single t (subst (λ z. TableFollows z old new b) is f)
+
+pub target-in : (c : Copied) (m b : List ℕ) → CopiesInto c.source c.target m b → c.target < data_blocks b
+target-in c m b h = subst (λ n. c.target < block_count n - 4) (sym h.shifts.chip.same_length) h.target.number
+
+pub moved-keeps : (m b : List ℕ) → Moved m b → IsHealthy b → IsSoundMap m → Keeps m b
+moved-keeps m b h healthy sound = keeps-holds m b h.chip healthy h.sound (λ c. h.sectors c (sector_at m) (sound-holds m sound)) h.clean
+
+pub stays-keeps : (m b : List ℕ) → Stays m b → IsHealthy b → IsSoundMap m → Keeps m b
+stays-keeps m b h healthy sound = keeps-holds m b h.chip healthy (h.sound sound) (λ c. (let k = h.exact c in k.sectors (sector_at m) (sound-holds m sound))) (λ c. (let k = h.exact c in k.clean c))
+
+-- a written sector, and another
+with-there : (f : ℕ → List ℕ) (g : ℕ) (x : List ℕ) → with_sector f g x g ≡ x
+with-there f g x = rw (eq-eqb g g refl) refl
+
+with-other : (f : ℕ → List ℕ) (g h : ℕ) (x : List ℕ) → h ≢ g → with_sector f g x h ≡ f h
+with-other f g h x other = rw (ne_eqb h g other) refl
+
+pub holds-sets : (g : ℕ) (y x m b m' : List ℕ) → Moved m b → SameChip b m' → HoldsSectors (with_sector (sector_at b) g y) m' → IsHealthy m' → (IsClean b → y ≡ x) → (IsClean b → IsClean m') → IsSoundMap m → g < sector_count (length m)
+    → Sets g x m m'
+holds-sets g y x m b m' moved chip holds healthy exact clean sound low =
+    let both = chip-after m b m' moved.chip chip in
+    record {
+      chip = both;
+      store = record { journals = healthy; slots = holds-sound m' (with_sector (sector_at b) g y) holds };
+      there = λ h. holds-computed m' (with_sector (sector_at b) g y) g holds (on-chip m m' g both low) ∙ (with-there (sector_at b) g y ∙ exact (moved.clean h));
+      others = λ c h in_range other. holds-computed m' (with_sector (sector_at b) g y) h holds (on-chip m m' h both in_range)
+          ∙ (with-other (sector_at b) g h y other ∙ holds-computed b (sector_at m) h (moved.sectors c (sector_at m) (sound-holds m sound)) (on-chip m b h moved.chip in_range));
+      clean = λ h. clean (moved.clean h);
+    }
+
+holds-still : (m b m' : List ℕ) → Moved m b → SameChip b m' → HoldsSectors (sector_at b) m' → IsHealthy m' → (IsClean b → IsClean m') → IsSoundMap m → Keeps m m'
+holds-still m b m' moved chip holds healthy clean sound =
+    let both = chip-after m b m' moved.chip chip in
+    record {
+      chip = both;
+      store = record { journals = healthy; slots = holds-sound m' (sector_at b) holds };
+      sectors = λ c g low. holds-computed m' (sector_at b) g holds (on-chip m m' g both low) ∙ holds-computed b (sector_at m) g (moved.sectors c (sector_at m) (sound-holds m sound)) (on-chip m b g moved.chip low);
+      clean = λ h. clean (moved.clean h);
+    }
+
+-- a sector was written into the slot that was taken
+pub wrote : (g : ℕ) (x : List ℕ) (o : Held) (a b c : NorState) (table table' : List Entry) (indexed : Bool) → Moved a.memory b.memory → Rewrites g x o b.memory c.memory → Succeeds a c → IsSoundMap a.memory → g < sector_count (length a.memory)
+    → IsTableOf table b.memory → Settled table g o table' → IsReady a → indexed ≡ true → Wrote g x table' a c indexed
+wrote g x o a b c table table' indexed moved r done sound low t s ready index =
+    let healthy = settled-healthy c.memory done.settled in
+    let sets = holds-sets g r.content x a.memory b.memory c.memory moved r.replaces.chip r.replaces.sectors healthy r.exact r.clean sound low in
+    record {
+      sets = sets;
+      served = record {
+        ready = ready-after a c done.kept ready;
+        settled = done.settled;
+        store = sets.store;
+        blocks = r.replaces.blocks;
+        tabled = table-follows table table' b.memory c.memory g r.content o r.replaces t s;
+        index = index;
+      };
+    }
+
+-- or that was cut
+pub write-cut : (g : ℕ) (x m b m' : List ℕ) → Moved m b → RewriteLeaves g x b m' → IsHealthy m' → IsSoundMap m → g < sector_count (length m) → SetLeaves g x m m'
+write-cut g x m b m' moved l healthy sound low = elim l.leaves.sectors as (λ _. SetLeaves g x m m') [
+  | inl old ↦ inl (holds-still m b m' moved l.leaves.chip old healthy l.clean sound)
+  | inr new ↦ inr (holds-sets g l.content x m b m' moved l.leaves.chip new healthy l.exact l.clean sound low)
+]
+
+-- what a write asks of the slot that was taken
+pub taken-replaceable : (w g : ℕ) (o : Option Held) (b : List ℕ) → IsLowestFree w b → IsSoundMap b → IsSingle b → AreSettled b → g < sector_count (length b) → HeldBy o g b → IsReplaceable w g o b
+taken-replaceable w g o b low sound single blocks within held = record {
+  free = low.free;
+  place = record { reserve = low.reserve; number = low.is_reserve.number; spare = low.is_reserve.spare; apart = low.outside };
+  outside = λ r h e. low.outside (one-reserve b low.reserve r low.is_reserve h ∙ sym e);
+  sound = sound;
+  single = single;
+  blocks = blocks;
+  sector = within;
+  held = held;
+}
+
+pub held-number : (o : Option Held) (g : ℕ) (m : List ℕ) → HeldBy o g m → IfSome o (λ h. h.slot < slot_count m)
+held-number None g m none = tt
+held-number (Some h) g m (x, l) = l.number
+
+-- a step of tidying
+pub tidied : (c : Copied) (a b d : NorState) (old new : List Entry) (indexed : Bool) → Served old a indexed → CopiesInto c.source c.target a.memory b.memory → d.memory ≡ b.memory → FollowsBlock c.target old new b.memory → Succeeds a d
+    → (index : Bool) → index ≡ true → Kept_on new a d index
+tidied c a b d old new indexed s h same f done index is =
+    let single = single-tabled old a.memory s.tabled in
+    let moved = copies-moved c a.memory b.memory h s.store.slots single in
+    let keeps : Keeps a.memory d.memory = subst (λ z. Keeps a.memory z) (sym same) (moved-keeps a.memory b.memory moved (subst (λ z. IsHealthy z) same (settled-healthy d.memory done.settled)) s.store.slots) in
+    record {
+      keeps = keeps;
+      served = record {
+        ready = ready-after a d done.kept s.ready;
+        settled = done.settled;
+        store = keeps.store;
+        blocks = subst (λ z. AreSettled z) (sym same) moved.blocks;
+        tabled = subst (λ z. IsTableOf new z) (sym same) (copies-table c a.memory b.memory old new h s.store.slots single s.tabled f);
+        index = is;
+      };
+    }
+
+-- a slot was taken, and the table follows
+pub record AtSlot (w : ℕ) (table : List Entry) (m b : List ℕ) : Type 0 where
+  pub moved : Moved m b
+  pub tabled : IsTableOf table b
+  pub low : IsLowestFree w b
+
+pub at-slot : (w : ℕ) (o : Option Copied) (a : NorState) (indexed : Bool) (b b' : List ℕ) (table table' : List Entry) → Served table a indexed → Takes w o a.memory b → b' ≡ b → TableFollows o table table' b → AtSlot w table' a.memory b'
+at-slot w o a indexed b b' table table' s taken same f =
+    let single = single-tabled table a.memory s.tabled in
+    subst (λ z. AtSlot w table' a.memory z) (sym same) (record {
+      moved = takes-moved w o a.memory b taken s.store.slots single s.blocks;
+      tabled = takes-table w o a.memory b table table' taken f s.store.slots single s.tabled;
+      low = takes-low w o a.memory b taken;
+    })
+
+pub served-moved : (w : ℕ) (o : Option Copied) (a : NorState) (indexed : Bool) (b : List ℕ) (table : List Entry) → Served table a indexed → Takes w o a.memory b → Moved a.memory b
+served-moved w o a indexed b table s taken = takes-moved w o a.memory b taken s.store.slots (single-tabled table a.memory s.tabled) s.blocks
+
+pub served-copies : (c : Copied) (a : NorState) (indexed : Bool) (b : List ℕ) (table : List Entry) → Served table a indexed → CopiesInto c.source c.target a.memory b → Moved a.memory b
+served-copies c a indexed b table s h = copies-moved c a.memory b h s.store.slots (single-tabled table a.memory s.tabled)
+
+pub slot-held : (w g : ℕ) (table : List Entry) (m b : List ℕ) (o : Option Held) → AtSlot w table m b → g < length table → o ≡ holder (slice_index_or table g Absent) → HeldBy o g b
+slot-held w g table m b o h low e = subst (λ z. HeldBy z g b) (sym e) (table-holder table b g h.tabled low)
+
+pub slot-replaceable : (w g : ℕ) (table : List Entry) (m b : List ℕ) (o : Option Held) → AtSlot w table m b → g < length table → o ≡ holder (slice_index_or table g Absent) → IsReplaceable w g o b
+slot-replaceable w g table m b o h low e = taken-replaceable w g o b h.low h.moved.sound h.moved.single h.moved.blocks (subst (λ n. g < n) h.tabled.size low) (slot-held w g table m b o h low e)
+
+pub same-moved-keeps : (a : NorState) (b b' : List ℕ) → Moved a.memory b → b' ≡ b → IsSettled b → IsSoundMap a.memory → Keeps a.memory b'
+same-moved-keeps a b b' moved same settled sound = subst (λ z. Keeps a.memory z) (sym same) (moved-keeps a.memory b moved (settled-healthy b settled) sound)
+
+-- no slot is dead
+none-count : (p : ℕ → Bool) (n : ℕ) → ((k : ℕ) → k < n → p k ≡ false) → how_many p n ≡ 0
+none-count p zero none = how_many-zero p
+none-count p (suc n) none = how_many-suc p n ∙ (rw (none n (omega arith)) (let h = none-count p n (λ k low. none k (omega (arith, low))) in omega (arith, h)))
+
+not-dead : (s : Slot) → s ≢ Dead → is_dead s ≡ false
+not-dead Free ne = refl
+not-dead (Live tag x) ne = refl
+not-dead NoGeneration ne = refl
+not-dead Dead ne = absurd (ne refl)
+not-dead Outside ne = refl
+
+pub no-work : (m : List ℕ) → HasNoneDead m → dead_slots m ≡ 0
+no-work m none = none-count (λ s. is_dead (slot_at m s)) (slot_count m) (λ s low. not-dead (slot_at m s) (none s low))
+
+pub perhaps-after : (a b c : NorState) → Succeeds a b → (c ≡ b) ⊎ Succeeds b c → Succeeds a c
+perhaps-after a b c s (inl e) = subst (λ z. Succeeds a z) (sym e) s
+perhaps-after a b c s (inr t) = succeeds-after a b c s t

@@ -1,0 +1,147 @@
+-- What a restore of a map leaves, and what stands.
+use Rattle.std.proofs.Common.{◌≡◌, ℕ, ◌+◌, ◌<◌, ◌⊎◌, Bool, true, List, length, refl, sym, ap, ◌∙◌, subst, arith, inl, inr, Ok, Err}
+use Rattle.std.specs.Prelude.{Option, Some, None, Result, IfOk, IfErr, OnOk, IsTrue, IsFalse, slice_index_or}
+use Rattle.std.specs.Result.{IsErrOf}
+use Rattle.chip_model.specs.Geometry.{sector_count}
+use Rattle.nor_layout.specs.Kinds.{kind_of}
+use Rattle.nor_driver.specs.State.{NorState, IsReady}
+use Rattle.nor_driver.specs.declared.error.NorError.{NorError}
+use Rattle.nor_driver.specs.declared.error.NorError.TheVariants as errors
+use Rattle.erase_journal.specs.Blocks.{SameBlocks}
+use Rattle.erase_journal.specs.Journals.{IsHealthy, IsSettled}
+use Rattle.erase_journal.specs.Recovery.{Restored, RestoreCut, RestoreCorrupt}
+use Rattle.erase_journal.specs.Steps as steps
+use Rattle.sector_slots.specs.Slots.{slot_in, data_blocks, data_block, kind_at, raw_slot, IsClean}
+use Rattle.sector_slots.specs.Sectors.{sector_at, IsSoundMap}
+use Rattle.sector_slots.specs.BlankLaws.{sound-holds, blocks-holds, counted-same}
+use Rattle.sector_slots.specs.CleanLaws.{clean-blocks}
+use Rattle.sector_slots.specs.Steps.{Succeeds, Refuses}
+use Rattle.sector_slots.specs.StepLaws.{settled-healthy}
+use Rattle.sector_map.specs.Replace.{HeldBy}
+use Rattle.sector_map.specs.Table.{IsTableOf, Mounts, MountCut, holder}
+use Rattle.sector_map.specs.Maps.{IsStore, KeepsEach, Served, Standing, Renewed, RenewCorrupt, RenewCut, RenewFails}
+use Rattle.sector_map.specs.declared.held.Held.{Held}
+use Rattle.sector_map.specs.declared.entry.Entry.{Entry}
+use Rattle.sector_map.specs.declared.entry.Entry.TheVariants.{Absent}
+use Rattle.sector_map.proofs.Places.{holds-sound}
+use Rattle.sector_map.proofs.Retiring.{table-holder}
+use Rattle.sector_map.proofs.MapCalls.{keeps-each, each-after}
+
+-- the same blocks
+blocks-clean : (m m' : List ℕ) → SameBlocks m m' → IsClean m → IsClean m'
+blocks-clean m m' same clean =
+    let each : (d : ℕ) → d < data_blocks m → data_block m' d ≡ data_block m d = λ d low. same.each (d + 4) (omega arith) (omega (arith, low)) in
+    clean-blocks m m' same.chip each (λ w low. counted-same (kind_at m) (kind_at m') (raw_slot m) (raw_slot m') (data_blocks m) w (λ d h. ap kind_of (each d h)) (λ d i h small. ap (λ b. slot_in b i) (each d h)) low) clean
+
+pub blocks-keep : (m m' : List ℕ) → SameBlocks m m' → IsHealthy m' → IsSoundMap m → KeepsEach m m'
+blocks-keep m m' same healthy sound =
+    let holds = blocks-holds m m' (sector_at m) same (sound-holds m sound) in
+    keeps-each m m' same.chip healthy holds (blocks-clean m m' same)
+
+-- a table was made
+pub mounts-keeps : (m m' : List ℕ) (table : List Entry) → Mounts m table m' → IsSettled m' → KeepsEach m m'
+mounts-keeps m m' table h settled = keeps-each m m' h.chip (settled-healthy m' settled) h.sectors h.clean
+
+pub mount-cut-keeps : (m m' : List ℕ) → MountCut m m' → IsHealthy m' → IsSoundMap m → KeepsEach m m'
+mount-cut-keeps m m' h healthy sound = keeps-each m m' h.chip healthy (h.sectors sound) h.clean
+
+pub served-after : (t : List Entry) (b c : NorState) (indexed : Bool) → Mounts b.memory t c.memory → Succeeds b c → IsReady b → indexed ≡ true → Served t c indexed
+served-after t b c indexed h done ready is = record {
+  ready = (done.kept.powered ∙ ready.0, done.kept.is_slow ∙ ready.1);
+  settled = done.settled;
+  store = (mounts-keeps b.memory c.memory t h done.settled).store;
+  blocks = h.blocks;
+  tabled = h.tabled;
+  index = is;
+}
+
+pub renew-ok : (r : Result Bool NorError) (t : List Entry) (a b c : NorState) (indexed : Bool) → Restored a b → IfOk r (λ s. IsTrue s → Mounts b.memory t c.memory) → IfOk r (λ s. IsTrue s → indexed ≡ true) → OnOk r (Succeeds b c)
+    → IfOk r (λ s. IsTrue s → Renewed t a c indexed)
+renew-ok (Ok s) t a b c indexed r made index done = λ is.
+    let h = made is in
+    let k = mounts-keeps b.memory c.memory t h done.settled in
+    record {
+      cuts = done.kept.cuts ∙ r.cuts;
+      slows = done.kept.slows ∙ r.slows;
+      served = served-after t b c indexed h done r.ready (index is);
+      size = h.chip.same_length ∙ r.size;
+      keeps = λ quick store. each-after a.memory b.memory c.memory (blocks-keep a.memory b.memory (r.blocks quick) (settled-healthy b.memory r.settled) store.slots) k;
+    }
+renew-ok (Err e) t a b c indexed r made index done = tt
+
+pub renew-corrupt : (r : Result Bool NorError) (a b c : NorState) → Restored a b → IfOk r (λ s. IsFalse s → (IsSoundMap b.memory → ⊥) × (c.memory ≡ b.memory)) → OnOk r (Succeeds b c) → IfOk r (λ s. IsFalse s → RenewCorrupt a c)
+renew-corrupt (Ok s) a b c r made done = λ is.
+    let h = made is in
+    record {
+      cuts = done.kept.cuts ∙ r.cuts;
+      slows = done.kept.slows ∙ r.slows;
+      powered = done.kept.powered ∙ r.ready.0;
+      size = ap length h.1 ∙ r.size;
+      still = λ store. h.0 (subst (λ z. IsSoundMap z) h.1 store.slots);
+      corrupt = λ quick store. h.0 (blocks-keep a.memory b.memory (r.blocks quick) (settled-healthy b.memory r.settled) store.slots).store.slots;
+    }
+renew-corrupt (Err e) a b c r made done = tt
+
+pub renew-fails : (r : Result Bool NorError) (a b c : NorState) → Restored a b
+    → (IsErrOf r errors.Cut → IsHealthy b.memory → MountCut b.memory c.memory) → (IsErrOf r errors.Cut → IsHealthy b.memory → IsHealthy c.memory) → length c.memory ≡ length b.memory → IfErr r (λ e. Refuses e b c) → IfErr r (λ e. RenewFails e a c)
+renew-fails (Ok s) a b c r cut healthy size refuses = tt
+renew-fails (Err errors.Cut) a b c r cut healthy size f = record {
+  cuts = elim f.fails.0 as (λ _. a.cuts < c.cuts) [ inl came ↦ (let e = r.cuts in omega (arith, came, e)) | inr off ↦ (let e = r.ready.0 in let g = off.0 in absurd (cc (e, g))) ];
+  slows = f.fails.1 ∙ r.slows;
+  powered = f.fails.2;
+  size = size ∙ r.size;
+  quick = λ q. f.fails.3 ∙ r.ready.1;
+  keeps = λ quick store.
+      let sound = settled-healthy b.memory r.settled in
+      let k = blocks-keep a.memory b.memory (r.blocks quick) sound store.slots in
+      each-after a.memory b.memory c.memory k (mount-cut-keeps b.memory c.memory (cut refl sound) (healthy refl sound) k.store.slots);
+}
+renew-fails (Err errors.Slow) a b c r cut healthy size f = record {
+  slows = elim f.fails.0 as (λ _. a.slows < c.slows) [ inl came ↦ (let e = r.slows in omega (arith, came, e)) | inr slow ↦ (let e = r.ready.1 in let g = slow.0 in absurd (cc (e, g))) ];
+  cuts = f.fails.1 ∙ r.cuts;
+  powered = f.fails.2 ∙ r.ready.0;
+  size = size ∙ r.size;
+}
+
+pub left-keeps : (m m' : List ℕ) → (m' ≡ m) ⊎ steps.Stands m m' → IsStore m → KeepsEach m m'
+left-keeps m m' h store = elim h as (λ _. KeepsEach m m') [
+  | inl e ↦ subst (λ z. KeepsEach m z) (sym e) (blocks-keep m m (record { chip = record { same_length = refl; superblock = λ k low. refl }; each = λ b low high. refl }) store.journals store.slots)
+  | inr s ↦ blocks-keep m m' s.blocks s.healthy store.slots
+]
+
+pub restore-cut : (a b : NorState) → RestoreCut a b → RenewCut a b
+restore-cut a b r = record {
+  cuts = r.cuts;
+  slows = r.slows;
+  powered = r.powered;
+  size = r.size;
+  quick = r.quick;
+  keeps = λ quick store. left-keeps a.memory b.memory (r.leaves quick) store;
+}
+
+pub restore-corrupt : (a b : NorState) → RestoreCorrupt a b → RenewCorrupt a b
+restore-corrupt a b r = record {
+  cuts = r.cuts;
+  slows = r.slows;
+  powered = r.powered;
+  size = r.size;
+  still = λ store. r.still store.journals;
+  corrupt = λ quick store. r.corrupt quick store.journals;
+}
+
+-- What stands.
+pub served-none : (o : Option NorError) (table : List Entry) (s : NorState) (indexed : Bool) → o ≡ None → Standing o table s indexed → Served table s indexed
+served-none None table s indexed e h = h
+served-none (Some errors.Cut) table s indexed e h = absurd (cc e)
+served-none (Some errors.Slow) table s indexed e h = absurd (cc e)
+
+pub cut-store : (o : Option NorError) (error : NorError) (table : List Entry) (s : NorState) (indexed : Bool) → o ≡ Some error → error ≡ errors.Cut → Standing o table s indexed → IsStore s.memory
+cut-store None error table s indexed e c h = absurd (cc e)
+cut-store (Some errors.Cut) error table s indexed e c h = h.store
+cut-store (Some errors.Slow) error table s indexed e c h = absurd (cc (e, c))
+
+-- the slot that the table names
+pub held-in : (table read : List Entry) (m : List ℕ) (g : ℕ) (o : Option Held) → read ≡ table → o ≡ holder (slice_index_or read g Absent) → IsTableOf table m → g < sector_count (length m) → HeldBy o g m
+held-in table read m g o same e t low =
+    let within : g < length table = subst (λ n. g < n) (sym t.size) low in
+    subst (λ q. HeldBy q g m) (sym (e ∙ ap (λ z. holder (slice_index_or z g Absent)) same)) (table-holder table m g t within)

@@ -1,0 +1,34 @@
+use Rattle.std.proofs.Common.{◌∙◌, ap, sym, subst, length, None, Err, true}
+use Rattle.std.proofs.lemmas.List.{with_items_is}
+use Rattle.chip_model.specs.Geometry.{sector_count}
+use Rattle.erase_journal.specs.Journals.{IsHealthy}
+use Rattle.nor_driver.specs.State.{IsReady}
+use Rattle.sector_slots.specs.Steps.{Refuses}
+use Rattle.sector_map.specs.Maps.{Served, Filled, FillCut, shown_with}
+use Rattle.sector_map.proofs.Restoring.{served-after}
+use Rattle.sector_map.proofs.Opening.{filled, fill-cut}
+use Rattle.sector_map.proofs.map.fill.Goals as goal
+
+pub invariant_of-result : goal.invariant_of-result
+invariant_of-result g c =
+    let items = with_items_is c.args.tables.table c.mount_in.new.table (c.mount_in.ensures.size ∙ c.as_mut_slice.ensures.len) in
+    let now = c.mount_in.new.stock in
+    record {
+      counted = c.requires.table ∙ ap (λ n. sector_count n) (sym (c.mount_in.ensures.same_size ∙ ap (λ s. length s.memory) c.new-stock.ensures.same));
+      standing = subst (λ z. Served z now.slots now.indexed) (sym items)
+          (served-after c.mount_in.new.table c.new-stock.result.slots now.slots now.indexed (c.in-Ok-true.ensures.sound (cc c.in-Ok-true.is)) c.in-Ok-true.ensures.done
+          (subst (λ s. IsReady s) (sym c.new-stock.ensures.same) c.requires.ready) (c.in-Ok-true.ensures.indexed (cc c.in-Ok-true.is)));
+    }
+
+pub returns-in-Ok-true-clause-ok : goal.returns-in-Ok-true-clause-ok
+returns-in-Ok-true-clause-ok g c =
+    subst (λ z. Filled z (shown_with None c.mount_in.new.stock.slots)) c.new-stock.ensures.same
+    (filled c.mount_in.new.table c.new-stock.result.slots c.mount_in.new.stock.slots (c.in-Ok-true.ensures.sound (cc c.in-Ok-true.is)) c.in-Ok-true.ensures.done)
+
+pub returns-in-Err-Cut-clause-fails : goal.returns-in-Err-Cut-clause-fails
+returns-in-Err-Cut-clause-fails g c =
+    let healthy = subst (λ s. IsHealthy s.memory) (sym c.new-stock.ensures.same) c.requires.healthy in
+    let is = c.in-Err-Cut.is ∙ ap Err c.in-Err-Cut.field-0-is in
+    subst (λ z. FillCut z (g.N.Nor.state c.uncover-in-Err-Cut.result)) c.new-stock.ensures.same
+    (fill-cut c.new-stock.result.slots c.mount_in.new.stock.slots (g.N.Nor.state c.uncover-in-Err-Cut.result) (c.mount_in.ensures.cut is healthy) (c.mount_in.ensures.healthy is healthy)
+    (subst (λ e. Refuses e c.new-stock.result.slots c.mount_in.new.stock.slots) c.in-Err-Cut.field-0-is c.in-Err-Cut.ensures.fails) (subst (λ s. IsReady s) (sym c.new-stock.ensures.same) c.requires.ready) c.uncover-in-Err-Cut.ensures)

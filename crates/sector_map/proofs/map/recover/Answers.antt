@@ -1,0 +1,19 @@
+use Rattle.std.proofs.Common.{subst}
+use Rattle.std.specs.Prelude.{IfOk, IfErr}
+use Rattle.erase_journal.specs.Recovery.{RecoverFails}
+use Rattle.sector_map.specs.Maps.{Filled, FillFails}
+use Rattle.sector_map.proofs.Opening.{filled-mounted, filled-fails, recovery-cut}
+use Rattle.sector_map.proofs.map.recover.Goals as goal
+
+pub returns-in-Ok-recover-clause-ok : goal.returns-in-Ok-recover-clause-ok
+returns-in-Ok-recover-clause-ok g c =
+    filled-mounted (λ map. map) c.fill.result (g.N.Nor.state c.args.nor) c.in-Ok-recover.journal c.requires.superblock c.in-Ok-recover.ensures.ok (subst (λ j. IfOk c.fill.result (λ map. Filled j map)) c.new.ensures c.fill.ensures.ok)
+
+pub returns-in-Ok-recover-clause-fails : goal.returns-in-Ok-recover-clause-fails
+returns-in-Ok-recover-clause-fails g c =
+    filled-fails g.N.Nor.state c.fill.result (g.N.Nor.state c.args.nor) c.in-Ok-recover.journal c.in-Ok-recover.ensures.ok (subst (λ j. IfErr c.fill.result (λ e. FillFails e.1 j (g.N.Nor.state e.0))) c.new.ensures c.fill.ensures.fails)
+
+pub returns-in-Err-default-Cut-clause-fails : goal.returns-in-Err-default-Cut-clause-fails
+returns-in-Err-default-Cut-clause-fails g c =
+    recovery-cut (g.N.Nor.state c.args.nor) (g.N.Nor.state c.in-Err-default-Cut.nor)
+    (subst (λ e. RecoverFails e (g.N.Nor.state c.args.nor) (g.N.Nor.state c.in-Err-default-Cut.nor)) c.in-Err-default-Cut.field-0-1-is c.in-Err-default-Cut.ensures.fails)

@@ -1,0 +1,7 @@
+use Rattle.sector_map.proofs.Retiring.{Retired}
+use Rattle.sector_map.proofs.mount.retire_older.Given as goal
+
+abbrev pub invariant-loop-sector : goal.invariant-loop-sector
+invariant-loop-sector g l = record {
+  retired : Retired l.fn.table l.table l.sector (g.S.SlotCalls.state l.fn.slots) (g.S.SlotCalls.state l.slots);
+}

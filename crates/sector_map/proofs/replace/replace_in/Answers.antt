@@ -1,0 +1,17 @@
+use Rattle.std.proofs.Common.{subst}
+use Rattle.std.specs.Prelude.{Some, None}
+use Rattle.sector_map.specs.Replace.{IsReplaceable}
+use Rattle.sector_map.proofs.Replacing.{ok-holder}
+use Rattle.sector_map.proofs.replace.replace_in.Goals as goal
+
+pub returns-in-Some-clause-ok : goal.returns-in-Some-clause-ok
+returns-in-Some-clause-ok g c = ok-holder c.replace_held.result c.args.holder (Some c.in-Some.held) c.args.to c.args.sector c.args.content.now (g.S.SlotCalls.state c.args.stock.now).memory (g.S.SlotCalls.state c.replace_held.new.stock).memory c.in-Some.is c.replace_held.ensures.ok
+
+pub returns-in-Some-clause-cut : goal.returns-in-Some-clause-cut
+returns-in-Some-clause-cut g c is r = c.replace_held.ensures.cut is (subst (λ h. IsReplaceable c.args.to c.args.sector h (g.S.SlotCalls.state c.args.stock.now).memory) c.in-Some.is r)
+
+pub returns-in-None-clause-ok : goal.returns-in-None-clause-ok
+returns-in-None-clause-ok g c = ok-holder c.add.result c.args.holder None c.args.to c.args.sector c.args.content.now (g.S.SlotCalls.state c.args.stock.now).memory (g.S.SlotCalls.state c.add.new.stock).memory c.in-None.is c.add.ensures.ok
+
+pub returns-in-None-clause-cut : goal.returns-in-None-clause-cut
+returns-in-None-clause-cut g c is r = c.add.ensures.cut is (subst (λ h. IsReplaceable c.args.to c.args.sector h (g.S.SlotCalls.state c.args.stock.now).memory) c.in-None.is r)

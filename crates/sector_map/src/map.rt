@@ -1,0 +1,332 @@
+ghost use Rattle.std.specs.Prelude.{◌≡◌, ◌<◌, ◌≤◌, ◌*◌, ◌-◌, Bool, Ok, true, false, length, vec_len, slice_index_or, OnOk, IfOk, IfErr, IsTrue, IsFalse};
+ghost use Rattle.std.specs.Result.{IsErrOf};
+ghost use Rattle.chip_model.specs.Geometry.{IsChipSize, sector_count};
+ghost use Rattle.nor_driver.specs.State.{IsReady};
+ghost use Rattle.nor_layout.specs.Layouts.{layout_of};
+ghost use Rattle.erase_journal.specs.Journals.{IsHealthy};
+ghost use Rattle.erase_journal.specs.Recovery.{IsBehind};
+ghost use Rattle.sector_slots.specs.Slots.{slot_count, data_blocks};
+ghost use Rattle.sector_slots.specs.Sectors.{sector_at};
+ghost use Rattle.sector_slots.specs.Steps.{Succeeds, Refuses};
+ghost use Rattle.sector_stock.specs.Takes.{dead_slots};
+ghost use Rattle.sector_map.specs.Table.{holder};
+ghost use Rattle.sector_map.specs.Maps.{IsStore, Keeps, Sets, SetLeaves, Mounted, MountFails, MapRestored, MapRestoreFails, Filled, FillFails, Renewed, RenewCorrupt, RenewFails, stands_after_cut, geometry_of};
+
+use crate::Held;
+use crate::entry::Entry;
+use crate::error::MountError;
+use crate::mount::mount_in;
+use crate::replace::find_in;
+use crate::steps::{tidy_in, write_in};
+use crate::superblock::look;
+use chip_model::Geometry;
+use erase_journal::{Journal, RecoverError};
+use journal_slots::SectorSlots;
+use nor_driver::{Nor, NorError};
+use nor_layout::{Layout, SuperError};
+use sector_slots::SlotCalls;
+use sector_stock::{BlockState, Reclaim, SlotState, Stock};
+use std::alloc::{AllocError, Global};
+use std::marker::Model;
+
+/// The sectors of a chip: its slots with their index, and the table of the slots that hold them.
+///
+/// A contract sees it as the state of the memory behind it; a Slow that it answered stands in it until a `restore` that
+/// answers Ok. While an error stands every call but `restore` answers it, and does nothing. Source: own.
+#[derive(Drop)]
+pub struct SectorMap<N: Nor> {
+    stock: Stock<N>,
+    /// The entries of the sectors, in their order.
+    table: Vec<Entry>,
+    /// The error that stands; where a Cut and a Slow do, it is the Slow.
+    stands: Option<NorError>,
+}
+
+impl<N: Nor> Model for SectorMap<N> {
+    ghost use Rattle.std.specs.Prelude.{◌≡◌, length, vec_len};
+    ghost use Rattle.chip_model.specs.Geometry.{sector_count};
+    ghost use Rattle.nor_driver.specs.State.{NorState};
+    ghost use Rattle.sector_map.specs.Maps.{Standing, shown_with};
+
+    ghost Value = { NorState };
+
+    ghost view = { λ map. shown_with map.stands map.stock.slots };
+
+    ghost invariant = { λ map. record {
+      counted : vec_len map.table ≡ sector_count (length map.stock.slots.memory);
+      standing : Standing map.stands map.table.items map.stock.slots map.stock.indexed;
+    } };
+}
+
+impl<N: Nor> SectorMap<N> {
+    /// Mounts a memory: reads the superblock, takes the memory of the table and of the index, recovers the journals, reads what
+    /// the blocks say, ends a copying that was cut, and retires the older of two slots of a sector. A refusal hands the memory back.
+    pub fn mount(alloc: Global, nor: N) -> Result<SectorMap<N>, (N, MountError)>
+        ensures ok { IfOk result (λ map. Mounted (N.state nor) map) }
+        ensures fails { IfErr result (λ e. MountFails e.1 (N.state nor) (N.state e.0)) }
+    {
+        let mut nor = nor;
+        match look(&mut nor) {
+            Ok(Ok(Layout::Sectors)) => recover(alloc, nor),
+            Ok(Ok(Layout::Groups)) => Err((nor, MountError::Corrupt)),
+            Ok(Err(SuperError::NotFormatted)) => Err((nor, MountError::NotFormatted)),
+            Ok(Err(SuperError::Layout)) => Err((nor, MountError::Corrupt)),
+            Ok(Err(SuperError::Geometry)) => Err((nor, MountError::Corrupt)),
+            Err(NorError::Cut) => Err((nor, MountError::Cut)),
+            Err(NorError::Slow) => Err((nor, MountError::Slow)),
+        }
+    }
+
+    /// How many sectors there are, from 70 to 25,060.
+    pub fn sectors(&self) -> u16
+        ensures count { result ≡ sector_count (length self.now.memory) }
+        ensures sized { IsChipSize (length self.now.memory) }
+    {
+        let _blocks = self.stock.blocks();
+        self.table.len() as u16
+    }
+
+    /// Whether a Slow stands.
+    pub fn is_slow(&self) -> bool
+        ensures { result ≡ self.now.is_slow }
+    {
+        match self.stands {
+            None => false,
+            Some(NorError::Cut) => false,
+            Some(NorError::Slow) => true,
+        }
+    }
+
+    /// The content of a sector into `into`, 512 bytes; zeros where no slot holds it. After an error `into` holds any bytes.
+    pub fn find(&mut self, sector: u16, into: &mut [u8]) -> Result<(), NorError>
+        requires number { sector < sector_count (length self.old.memory) }
+        requires room { length into.old ≡ 512 }
+        ensures ok { OnOk result (into.new ≡ sector_at self.old.memory sector) }
+        ensures same { self.new.memory ≡ self.old.memory }
+        ensures cut { IsErrOf result NorError.Cut → Keeps self.old.memory self.new.memory }
+        ensures done { OnOk result (Succeeds self.old self.new) }
+        ensures fails { IfErr result (λ e. Refuses e self.old self.new) }
+    {
+        if let Some(error) = self.stands {
+            return Err(error);
+        }
+        let holder = holder_of(self.table.as_slice(), sector);
+        match find_in(&mut self.stock, holder, into) {
+            Ok(()) => Ok(()),
+            Err(error) => {
+                self.stands = Some(error);
+                Err(error)
+            }
+        }
+    }
+
+    /// Writes a sector, 512 bytes, into a free slot, and retires the slot that held it. Cut, it leaves every sector as it was,
+    /// or this one new.
+    pub fn replace(&mut self, sector: u16, content: &[u8]) -> Result<(), NorError>
+        requires number { sector < sector_count (length self.old.memory) }
+        requires size { length content.now ≡ 512 }
+        ensures ok { OnOk result (Sets sector content.now self.old.memory self.new.memory) }
+        ensures cut { IsErrOf result NorError.Cut → SetLeaves sector content.now self.old.memory self.new.memory }
+        ensures size { length self.new.memory ≡ length self.old.memory }
+        ensures done { OnOk result (Succeeds self.old self.new) }
+        ensures fails { IfErr result (λ e. Refuses e self.old self.new) }
+    {
+        if let Some(error) = self.stands {
+            return Err(error);
+        }
+        match write_in(&mut self.stock, self.table.as_mut_slice(), sector, content) {
+            Ok(()) => Ok(()),
+            Err(error) => {
+                self.stands = Some(error);
+                Err(error)
+            }
+        }
+    }
+
+    /// Copies the block with the most dead slots: true. Where none is dead nothing changes: false.
+    pub fn tidy(&mut self) -> Result<bool, NorError>
+        ensures ok { OnOk result (Keeps self.old.memory self.new.memory) }
+        ensures fewer { IfOk result (λ more. IsTrue more → dead_slots self.new.memory < dead_slots self.old.memory) }
+        ensures tidied { IfOk result (λ more. IsFalse more → dead_slots self.old.memory ≡ 0) }
+        ensures cut { IsErrOf result NorError.Cut → Keeps self.old.memory self.new.memory }
+        ensures size { length self.new.memory ≡ length self.old.memory }
+        ensures done { OnOk result (Succeeds self.old self.new) }
+        ensures fails { IfErr result (λ e. Refuses e self.old self.new) }
+    {
+        if let Some(error) = self.stands {
+            return Err(error);
+        }
+        match tidy_in(&mut self.stock, self.table.as_mut_slice()) {
+            Ok(more) => Ok(more),
+            Err(error) => {
+                self.stands = Some(error);
+                Err(error)
+            }
+        }
+    }
+
+    /// Turns the power off and on again, and mounts the memory anew into the same table. Where no Slow stood, no sector changes.
+    ///
+    /// Answers Ok, Cut or Slow; Slow also where an operation that didn't end left a memory that can't be mounted.
+    pub fn restore(&mut self) -> Result<(), NorError>
+        ensures ok { OnOk result (MapRestored self.old self.new) }
+        ensures fails { IfErr result (λ e. MapRestoreFails e self.old self.new) }
+    {
+        match renew(&mut self.stock, self.table.as_mut_slice()) {
+            Ok(true) => {
+                self.stands = None;
+                Ok(())
+            }
+            Ok(false) => {
+                self.stands = Some(NorError::Slow);
+                Err(NorError::Slow)
+            }
+            Err(NorError::Slow) => {
+                self.stands = Some(NorError::Slow);
+                Err(NorError::Slow)
+            }
+            Err(NorError::Cut) => {
+                self.stands = after_cut(self.stands);
+                Err(NorError::Cut)
+            }
+        }
+    }
+
+    /// Arms a loss of power in a simulated chip, as the memory's `arm` does.
+    pub fn arm(&mut self, count: u32, kind: u8, mask: u8)
+        ensures { self.new ≡ self.old }
+    {
+        self.stock.arm(count, kind, mask)
+    }
+
+    /// Gives the memory back. Where no Slow stands it is healthy behind its superblock.
+    pub fn into_inner(self) -> N
+        ensures behind { IsBehind self (N.state result) }
+        ensures store { self.is_slow ≡ false → IsStore (N.state result).memory }
+    {
+        let SectorMap {
+            stock,
+            table: _table,
+            stands: _stands,
+        } = self;
+        uncover(stock)
+    }
+}
+
+/// The memory that a map takes, once: a table of the sectors, and the index of slots and blocks.
+#[derive(Drop)]
+struct Tables {
+    table: Vec<Entry>,
+    states: Vec<SlotState>,
+    blocks: Vec<BlockState>,
+}
+
+/// Takes the memory of a map of a chip of these counts.
+fn take_tables(alloc: Global, chip: Geometry) -> Result<Tables, AllocError>
+    requires few { chip.sectors < 65536 }
+    requires least { 4 ≤ chip.blocks }
+    ensures table { IfOk result (λ t. vec_len t.table ≡ chip.sectors) }
+    ensures states { IfOk result (λ t. vec_len t.states ≡ 7 * (chip.blocks - 4)) }
+    ensures blocks { IfOk result (λ t. vec_len t.blocks ≡ chip.blocks - 4) }
+{
+    let count = chip.blocks as usize - 4;
+    let table = vec![in alloc; Entry::Absent; chip.sectors as usize]?;
+    let states = vec![in alloc; SlotState::Free; 7 * count]?;
+    let blank = BlockState {
+        free: 0,
+        dead: 0,
+        plain: false,
+    };
+    let blocks = vec![in alloc; blank; count]?;
+    Ok(Tables {
+        table,
+        states,
+        blocks,
+    })
+}
+
+/// Mounts a memory whose superblock was looked at.
+fn recover<N: Nor>(alloc: Global, nor: N) -> Result<SectorMap<N>, (N, MountError)>
+    requires superblock { layout_of (N.state nor).memory (geometry_of (length (N.state nor).memory)) ≡ Ok Layout.Sectors }
+    ensures ok { IfOk result (λ map. Mounted (N.state nor) map) }
+    ensures fails { IfErr result (λ e. MountFails e.1 (N.state nor) (N.state e.0)) }
+{
+    let Some(chip) = Geometry::of(nor.bytes()) else {
+        unreachable!()
+    };
+    let Ok(tables) = take_tables(alloc, chip) else {
+        return Err((nor, MountError::OutOfMemory));
+    };
+    match Journal::recover(nor) {
+        Ok(journal) => fill(SectorSlots::new(journal), tables),
+        Err((nor, RecoverError::Cut)) => Err((nor, MountError::Cut)),
+        Err((nor, RecoverError::Slow)) => Err((nor, MountError::Slow)),
+        Err((nor, RecoverError::Corrupt)) => Err((nor, MountError::Corrupt)),
+    }
+}
+
+/// Makes the map of recovered journals' slots.
+fn fill<N: Nor>(slots: SectorSlots<N>, tables: Tables) -> Result<SectorMap<N>, (N, MountError)>
+    requires ready { IsReady slots }
+    requires table { vec_len tables.table ≡ sector_count (length slots.memory) }
+    requires states { vec_len tables.states ≡ slot_count slots.memory }
+    requires blocks { vec_len tables.blocks ≡ data_blocks slots.memory }
+    requires healthy { IsHealthy slots.memory }
+    ensures ok { IfOk result (λ map. Filled slots map) }
+    ensures fails { IfErr result (λ e. FillFails e.1 slots (N.state e.0)) }
+{
+    let mut stock = Stock::new(slots, tables.states, tables.blocks);
+    let mut table = tables.table;
+    match mount_in(&mut stock, table.as_mut_slice()) {
+        Ok(true) => Ok(SectorMap {
+            stock,
+            table,
+            stands: None,
+        }),
+        Ok(false) => Err((uncover(stock), MountError::Corrupt)),
+        Err(NorError::Cut) => Err((uncover(stock), MountError::Cut)),
+        Err(NorError::Slow) => Err((uncover(stock), MountError::Slow)),
+    }
+}
+
+/// Gives the memory behind slots back.
+fn uncover<N: Nor>(stock: Stock<N>) -> N
+    ensures { IsBehind (⟦<Stock<N> as SlotCalls>⟧.state stock) (N.state result) }
+{
+    stock.into_inner().into_inner().into_inner()
+}
+
+/// The slot that holds a sector.
+fn holder_of(table: &[Entry], sector: u16) -> Option<Held>
+    requires number { sector < length table.now }
+    ensures { result ≡ holder (slice_index_or table.now sector Entry.Absent) }
+{
+    table[sector as usize].holder()
+}
+
+/// The error that stands after a restore that was cut: a Slow that stood still does.
+fn after_cut(stands: Option<NorError>) -> Option<NorError>
+    ensures { result ≡ stands_after_cut stands }
+{
+    match stands {
+        None => Some(NorError::Cut),
+        Some(NorError::Cut) => Some(NorError::Cut),
+        Some(NorError::Slow) => Some(NorError::Slow),
+    }
+}
+
+/// Turns the power on anew, recovers the journals, and makes the table again; false where the memory is corrupt.
+fn renew<S: Reclaim>(stock: &mut S, table: &mut [Entry]) -> Result<bool, NorError>
+    requires size { length table.old ≡ sector_count (length (S.state stock.old).memory) }
+    ensures ok { IfOk result (λ sound. IsTrue sound → Renewed table.new (S.state stock.old) (S.state stock.new) (S.indexed stock.new)) }
+    ensures corrupt { IfOk result (λ sound. IsFalse sound → RenewCorrupt (S.state stock.old) (S.state stock.new)) }
+    ensures fails { IfErr result (λ e. RenewFails e (S.state stock.old) (S.state stock.new)) }
+    ensures size { length table.new ≡ length table.old }
+{
+    match stock.restore() {
+        Ok(()) => mount_in(stock, table),
+        Err(RecoverError::Cut) => Err(NorError::Cut),
+        Err(RecoverError::Slow) => Err(NorError::Slow),
+        Err(RecoverError::Corrupt) => Ok(false),
+    }
+}
