@@ -9,8 +9,6 @@ use Rattle.std.proofs.lemmas.Bool.{cases_lt, cases_eq}
 use Rattle.chip_model.specs.Geometry.{sector_count}
 use Rattle.chip_model.specs.Memory.{byte, newer, placed}
 use Rattle.chip_model.specs.MemoryLaws.{length-placed, placed-inside}
-use Rattle.std.specs.Prelude.{Result, Ok, Err, OnOk}
-use Rattle.nor_driver.specs.declared.error.NorError.{NorError}
 use Rattle.chip_model.specs.Parts.{part}
 use Rattle.chip_model.specs.PartLaws.{get-part, part-whole, part-outside, part-placed}
 use Rattle.block_device.specs.Contents.{replaced, bytes_at}

@@ -1,12 +1,12 @@
-use Rattle.std.proofs.Common.{◌≡◌, ◌∙◌, ◌+◌, ◌*◌, ◌/◌, ◌%◌, ◌≤◌, ◌<◌, ◌-◌, refl, ap, subst, arith, length}
-use Rattle.std.specs.Prelude.{slice_range}
+use Rattle.std.proofs.Common.{◌≡◌, ◌∙◌, ◌+◌, ◌*◌, ◌/◌, ◌≤◌, ◌<◌, ◌-◌, refl, ap, arith, length}
 use Rattle.chip_model.specs.Geometry.{sector_count}
 use Rattle.sector_slots.specs.StepLaws.{kept-after}
+use Rattle.sector_slots.specs.SizeLaws.{length-sector}
 use Rattle.block_device.specs.Contents.{bytes_at}
 use Rattle.flash_disk.specs.Contents.{contents_of}
 use Rattle.flash_disk.proofs.Parts.{long-slice}
 use Rattle.flash_disk.proofs.Sectors.{length-contents, place-sector, sector-read, more-read, length-mid}
-use Rattle.flash_disk.proofs.sectors.read_sectors.Goals as goal
+use Rattle.flash_disk.proofs.range.read_sectors.Goals as goal
 
 pub overflow_cast-sector-in-loop-done : goal.overflow_cast-sector-in-loop-done
 overflow_cast-sector-in-loop-done g c =
@@ -37,9 +37,10 @@ loop-done-preserved g c =
     let low : s < sector_count (length m) =
     place-sector m0 m c.args.first n (length c.args.into.now) (ap length c.loop-done.invariant.same) c.requires.range (omega (arith, c.loop-done-test.true, c.loop-done.invariant.long)) in
     let read : new ≡ bytes_at d (512 * s) 512 = sector-read m new s low c.in_ok-find.ensures.ok ∙ ap (λ z. bytes_at (contents_of z) (512 * s) 512) c.loop-done.invariant.same in
+    let whole : length new ≡ 512 = ap length c.in_ok-find.ensures.ok ∙ length-sector m s in
     record {
-      taken = more-read d x new a n 512 k (512 * s) 512 c.loop-done.invariant.taken fits size refl at read ?;
-      long = length-mid n 512 k x new fits size ? ∙ c.loop-done.invariant.long;
+      taken = more-read d x new a n 512 k (512 * s) 512 c.loop-done.invariant.taken fits size refl at read whole;
+      long = length-mid n 512 k x new fits size whole ∙ c.loop-done.invariant.long;
       same = c.in_ok-find.ensures.same ∙ c.loop-done.invariant.same;
       within = omega (arith, fits, c.loop-done.invariant.long);
       whole = omega (arith, c.loop-done.invariant.whole);

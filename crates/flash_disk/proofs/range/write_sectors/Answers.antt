@@ -7,7 +7,7 @@ use Rattle.flash_disk.specs.Contents.{contents_of}
 use Rattle.block_device.specs.Contents.{replaced}
 use Rattle.flash_disk.proofs.Parts.{outcome-at, piece-written, long-slice}
 use Rattle.flash_disk.proofs.Sectors.{length-contents, place-sector, sector-written, sector-left, left-clean}
-use Rattle.flash_disk.proofs.sectors.write_sectors.Goals as goal
+use Rattle.flash_disk.proofs.range.write_sectors.Goals as goal
 
 pub overflow_cast-sector-in-loop-done : goal.overflow_cast-sector-in-loop-done
 overflow_cast-sector-in-loop-done g c =
