@@ -65,17 +65,17 @@ pub(crate) fn put<D: Disk>(
     Ok(disk.write(first, bytes))
 }
 
-/// Writes `count` sectors of this byte, one or two.
+/// Writes `count` sectors of this byte, at most 70.
 pub(crate) fn write(
     disk: &mut OnSim,
     first: u32,
     count: usize,
     byte: u8,
 ) -> Result<Result<(), DiskError>, Fail> {
-    let bytes = [byte; 1_024];
-    match bytes.get(..512 * count.min(2)) {
+    let bytes = [byte; 35_840];
+    match bytes.get(..512 * count.min(70)) {
         Some(bytes) => put(disk, first, bytes),
-        None => Err(Fail::new("more than two sectors")),
+        None => Err(Fail::new("more than all sectors")),
     }
 }
 

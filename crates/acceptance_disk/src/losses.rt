@@ -14,11 +14,12 @@ enum Call {
     Tidy,
 }
 
-/// Sector 0 is written with each byte of `before`; then the `count`-th change of a call is cut, and the next `cuts` restores in
+/// Where `full` says so all sectors are written; sector 0 is written with each byte of `before`; then the `count`-th change of a call is cut, and the next `cuts` restores in
 /// their first change; then a restore answers Ok.
 #[derive(Clone, Copy, Debug)]
 struct Row {
     name: &'static str,
+    full: bool,
     before: &'static [u8],
     count: u32,
     mask: u8,
@@ -28,13 +29,14 @@ struct Row {
     sectors: &'static [(u32, u8)],
     /// Places of the chip, and their four bytes.
     bytes: &'static [(usize, [u8; 4])],
-    /// The blocks of which each byte is FFh.
-    erased: &'static [usize],
+    /// Blocks, and how many of their bytes are FFh.
+    erased: &'static [(usize, usize)],
 }
 
 fn loss(name: &'static str, before: &'static [u8], count: u32, mask: u8, call: Call) -> Row {
     Row {
         name,
+        full: false,
         before,
         count,
         mask,
@@ -49,6 +51,9 @@ fn loss(name: &'static str, before: &'static [u8], count: u32, mask: u8, call: C
 /// The disk on a memory after the loss of a row, and the restores.
 fn after(alloc: Global, memory: Vec<u8>, row: &Row) -> Result<OnSim, Fail> {
     let mut disk = mounted(alloc, memory)?;
+    if row.full {
+        write(&mut disk, 0, 70, 0x01)??;
+    }
     for byte in row.before {
         write(&mut disk, 0, 1, *byte)??;
     }
@@ -94,11 +99,11 @@ fn check(rt: &impl Abort, alloc: Global, memory: Vec<u8>, row: Row) -> Result<()
             );
         }
     }
-    for block in row.erased {
+    for (block, blank) in row.erased {
         let start = block.saturating_mul(4_096);
         assert_eq!(rt;
             count(left.as_slice(), start, start.saturating_add(4_096), 0xFF),
-            4_096,
+            *blank,
             "{} block {block}",
             row.name
         );
@@ -112,26 +117,26 @@ fn a_write_is_old_or_new_by_its_last_change(rt: HostRuntime) -> Result<(), Fail>
     let rows = [
         Row {
             sectors: &[(0, 0x00)],
-            ..loss("commit lost", &[], 16, 0x00, first)
+            ..loss("commit lost", &[], 4, 0x00, first)
         },
         Row {
             sectors: &[(0, 0x11)],
-            ..loss("commit whole", &[], 16, 0xFF, first)
+            ..loss("commit whole", &[], 4, 0xFF, first)
         },
         Row {
             sectors: &[(6, 0x33), (7, 0x00)],
-            ..loss("between two groups", &[], 17, 0x00, Call::Write(6, 2, 0x33))
+            ..loss("between two sectors", &[], 5, 0x00, Call::Write(6, 2, 0x33))
         },
         Row {
             sectors: &[(0, 0x55)],
             bytes: &[
-                (0x7000, [0xF8, 0xFF, 0x00, 0x00]),
-                (0x8000, [0xFC, 0xFC, 0x00, 0x00]),
+                (0x401C, [0xF8, 0xFF, 0x00, 0x00]),
+                (0x4020, [0xFC, 0xFC, 0x00, 0x00]),
             ],
             ..loss(
                 "generation after the last",
                 &[0x11, 0x22, 0x33, 0x44],
-                17,
+                5,
                 0x00,
                 Call::Write(0, 1, 0x55),
             )
@@ -147,9 +152,13 @@ fn a_write_is_old_or_new_by_its_last_change(rt: HostRuntime) -> Result<(), Fail>
 fn a_tidying_that_is_cut_keeps_the_sectors(rt: HostRuntime) -> Result<(), Fail> {
     let row = Row {
         sectors: &[(0, 0x22)],
-        bytes: &[(0x1800, [0xF8, 0x04, 0x00, 0xFF])],
-        erased: &[4],
-        ..loss("in an erase", &[0x11, 0x22], 3, 0xFC, Call::Tidy)
+        bytes: &[
+            (0x1800, [0xF8, 0x04, 0x00, 0xFF]),
+            (0xF004, [0xF8, 0xFF, 0x04, 0x00]),
+            (0xF014, [0xFC, 0xFD, 0x00, 0x00]),
+        ],
+        erased: &[(4, 4_096)],
+        ..loss("in an erase", &[0x11, 0x22], 8, 0xFC, Call::Tidy)
     };
     check(&rt, rt.alloc(), formatted(rt.alloc())?, row)
 }
@@ -168,14 +177,16 @@ fn a_journal_that_is_cut_in_its_erase_is_erased_again(rt: HostRuntime) -> Result
             cuts,
             sectors: &[(0, 0x22)],
             bytes: &[
+                (0x1800, [0xF8, 0x04, 0x00, 0xFF]),
                 (0x2400, [0xFC, 0xFF, 0xFF, 0xFF]),
                 (0x3000, [0xFC, 0xFF, 0xFF, 0xFF]),
             ],
-            erased: &[1],
+            // All but the entry of the block that is erased then.
+            erased: &[(1, 4_093), (4, 4_096)],
             ..loss(
                 "in the erase of a journal",
                 &[0x11, 0x22],
-                3,
+                8,
                 0xFE,
                 Call::Tidy,
             )
@@ -186,13 +197,56 @@ fn a_journal_that_is_cut_in_its_erase_is_erased_again(rt: HostRuntime) -> Result
 }
 
 #[test]
-fn a_first_write_makes_16_changes_and_the_next_17(rt: HostRuntime) -> Result<(), Fail> {
-    for (before, changes) in [(0u32, 16u32), (1, 17), (2, 17)] {
+fn a_copying_that_is_cut_keeps_the_sectors(rt: HostRuntime) -> Result<(), Fail> {
+    let before = &[0x02, 0x03, 0x04, 0x05, 0x06, 0x07, 0x08];
+    let write = Call::Write(0, 1, 0x09);
+    let rows = [
+        // In the descriptor of the copy: the block that was copied into is erased.
+        Row {
+            full: true,
+            sectors: &[(0, 0x08), (69, 0x01)],
+            bytes: &[(0x1800, [0xF8, 0x0F, 0x00, 0xFF])],
+            erased: &[(15, 4_096)],
+            ..loss("in a copy", before, 4, 0xA5, write)
+        },
+        // In the commit of the sector, after the copying.
+        Row {
+            full: true,
+            sectors: &[(0, 0x08), (69, 0x01)],
+            bytes: &[
+                (0xF004, [0xF8, 0xFF, 0x0E, 0x00]),
+                (0xF010, [0xFE, 0xFC, 0x00, 0x00]),
+                (0xF028, [0xFC, 0xFF, 0x00, 0x00]),
+            ],
+            erased: &[(14, 4_096)],
+            ..loss("after a copying", before, 14, 0x00, write)
+        },
+    ];
+    for row in rows {
+        check(&rt, rt.alloc(), formatted(rt.alloc())?, row)?;
+    }
+    Ok(())
+}
+
+#[test]
+fn writes_make_4_changes_then_5_and_15_where_a_block_is_copied(
+    rt: HostRuntime,
+) -> Result<(), Fail> {
+    for (full, before, changes) in [
+        (false, 0u32, 4u32),
+        (false, 1, 5),
+        (false, 2, 5),
+        (true, 6, 5),
+        (true, 7, 15),
+    ] {
         for (count, answer) in [
             (changes, Err(DiskError::Cut)),
             (changes.saturating_add(1), Ok(())),
         ] {
             let mut disk = mounted(rt.alloc(), formatted(rt.alloc())?)?;
+            if full {
+                write(&mut disk, 0, 70, 0x01)??;
+            }
             for _ in 0..before {
                 write(&mut disk, 0, 1, 0x11)??;
             }
@@ -203,6 +257,40 @@ fn a_first_write_makes_16_changes_and_the_next_17(rt: HostRuntime) -> Result<(),
                 "after {before} writes, change {count}"
             );
         }
+    }
+    Ok(())
+}
+
+#[test]
+fn a_full_disk_is_written_by_280_changes(rt: HostRuntime) -> Result<(), Fail> {
+    for (count, answer) in [(280u32, Err(DiskError::Cut)), (281, Ok(()))] {
+        let mut disk = mounted(rt.alloc(), formatted(rt.alloc())?)?;
+        disk.arm(count, 1, 0x00);
+        assert_eq!(rt; write(&mut disk, 0, 70, 0x01)?, answer, "change {count}");
+    }
+    Ok(())
+}
+
+#[test]
+fn a_copied_block_is_erased_and_its_slots_lie_in_the_reserve(rt: HostRuntime) -> Result<(), Fail> {
+    let mut disk = mounted(rt.alloc(), formatted(rt.alloc())?)?;
+    write(&mut disk, 0, 70, 0x01)??;
+    for byte in 2..10u8 {
+        write(&mut disk, 0, 1, byte)??;
+    }
+    assert_eq!(rt; byte_of(&mut disk, 0)?, 0x09);
+    let left = disk.into_inner().into_inner();
+    assert_eq!(rt; count(left.as_slice(), 0xE000, 0xF000, 0xFF), 4_096);
+    for (at, four) in [
+        (0xF004usize, [0xF8, 0xFF, 0x0E, 0x00]),
+        (0xF010, [0xFC, 0xFC, 0x00, 0x00]),
+        (0xF028, [0xF8, 0xFF, 0x00, 0x00]),
+    ] {
+        assert_eq!(rt;
+            left.get(at..at.saturating_add(4)),
+            Some(four.as_slice()),
+            "place {at}"
+        );
     }
     Ok(())
 }

@@ -10,7 +10,7 @@ use std::test::*;
 
 #[test]
 fn a_mount_refuses_by_name_and_changes_nothing(rt: HostRuntime) -> Result<(), Fail> {
-    let rows: [(&str, usize, &[u8], MountError); 6] = [
+    let rows: [(&str, usize, &[u8], MountError); 10] = [
         ("another name", 0x0000, &[0x4D], MountError::NotFormatted),
         ("no seal", 0x000E, &[0xFF], MountError::NotFormatted),
         ("another layout", 0x0008, &[0x00], MountError::Corrupt),
@@ -27,9 +27,28 @@ fn a_mount_refuses_by_name_and_changes_nothing(rt: HostRuntime) -> Result<(), Fa
             MountError::Corrupt,
         ),
         (
-            "a group past the last",
+            "a sector past the last",
+            0x4010,
+            &[0xFC, 0xFC, 0x46, 0x00],
+            MountError::Corrupt,
+        ),
+        ("layout 1", 0x0008, &[0x01], MountError::Corrupt),
+        (
+            "a block of layout 1",
             0x4000,
-            &[0xFC, 0xFC, 0x0A, 0x00],
+            &[0xFC, 0xFC, 0x00, 0x00],
+            MountError::Corrupt,
+        ),
+        (
+            "a copy of the block itself",
+            0x4004,
+            &[0xFC, 0xFF, 0x04, 0x00],
+            MountError::Corrupt,
+        ),
+        (
+            "a state that no copy has",
+            0x4004,
+            &[0xF0, 0xFF, 0x05, 0x00],
             MountError::Corrupt,
         ),
     ];

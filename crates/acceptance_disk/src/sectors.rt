@@ -1,4 +1,4 @@
-// The bytes of a formatted chip, and of sectors that lie in several groups.
+// The bytes of a formatted chip, and of sectors that lie in several blocks.
 use crate::chips::{byte_of, count, filled, formatted, mounted, put};
 use crate::first_of_new;
 use block_device::Disk;
@@ -8,7 +8,7 @@ use std::test::*;
 fn a_format_writes_the_superblock_alone(rt: HostRuntime) -> Result<(), Fail> {
     let memory = formatted(rt.alloc())?;
     let superblock = [
-        0x4E, 0x4F, 0x52, 0x42, 0x4C, 0x4B, 0x30, 0x31, 0x01, 0x10, 0x00, 0x0A, 0x00, 0xFF, 0x00,
+        0x4E, 0x4F, 0x52, 0x42, 0x4C, 0x4B, 0x30, 0x31, 0x02, 0x10, 0x00, 0x0A, 0x00, 0xFF, 0x00,
         0xFF,
     ];
     assert_eq!(rt; memory.len(), 65_536);
@@ -21,7 +21,7 @@ fn a_format_writes_the_superblock_alone(rt: HostRuntime) -> Result<(), Fail> {
 }
 
 #[test]
-fn sectors_across_groups_are_read_back(rt: HostRuntime) -> Result<(), Fail> {
+fn sectors_across_blocks_are_read_back(rt: HostRuntime) -> Result<(), Fail> {
     let mut disk = mounted(rt.alloc(), formatted(rt.alloc())?)?;
     let mut all = Vec::new(rt.alloc());
     for sector in 0..70u8 {

@@ -2,13 +2,18 @@
 
 /// Names, each with the record of a script that arms a loss inside the change of this number (kind 1), counted from the next one; its
 /// last byte, the mask, follows.
-pub(crate) const ARMINGS: [&str; 4] = [
-    // the 16th, the last of a group's first write: it commits the slot; before it come a header and 14 pages
-    "IN_THE_COMMIT 43 FF 00000006 00000010 01",
-    // the 17th: the first of the second group of a write, or where the group had a slot the retirement of that one
-    "AFTER_THE_COMMIT 43 FF 00000006 00000011 01",
-    // the third of an erase, of a block or of a journal: the erase itself; before it come two that announce it
-    "IN_THE_ERASE 43 FF 00000006 00000003 01",
+pub(crate) const ARMINGS: [&str; 6] = [
+    // the fourth, the last of a sector's first write: it commits the slot; before it come a descriptor and two pages
+    "IN_THE_COMMIT 43 FF 00000006 00000004 01",
+    // the fifth: the first of the second sector of a write, or where the sector had a slot the retirement of that one
+    "AFTER_THE_COMMIT 43 FF 00000006 00000005 01",
+    // the eighth of a tidying whose block has one live slot: the erase itself; before it come the mark, two pages and a descriptor, the
+    // commit, and two that announce the erase
+    "IN_THE_ERASE 43 FF 00000006 00000008 01",
+    // the fourth of a copying: the descriptor of its first live slot
+    "IN_THE_COPY 43 FF 00000006 00000004 01",
+    // the second of a write that copied a block of one live slot first, which takes ten: the first page of the sector
+    "AFTER_THE_COPYING 43 FF 00000006 0000000C 01",
     // the first of whatever comes
     "IN_THE_FIRST 43 FF 00000006 00000001 01",
 ];

@@ -12,10 +12,12 @@ use Rattle.station.specs.Running.{Runs, Ends}
 use Rattle.station.specs.Script.{ScriptSays, events_of}
 use Rattle.station.specs.Transcript.{Transcript}
 use Rattle.flash_station.specs.declared.error.RunFault.TheVariants.{Script}
-use Rattle.nor_layout.specs.Superblock.{super_of}
+use Rattle.nor_layout.specs.Layouts.{layout_of}
+use Rattle.nor_layout.specs.declared.layout.Layout.{Layout}
+use Rattle.nor_layout.specs.declared.layout.Layout.TheVariants.{Sectors}
 use Rattle.nor_layout.specs.declared.superblock.SuperError.{SuperError}
 use Rattle.nor_layout.specs.declared.superblock.SuperError.TheVariants as supers
-use Rattle.slot_map.specs.Maps.{IsMountable, geometry_of}
+use Rattle.sector_map.specs.Maps.{IsMountable, geometry_of}
 use Rattle.flash_disk.specs.Mounting.{RefusedAt}
 use Rattle.flash_disk.specs.declared.error.MountError.{MountError}
 use Rattle.flash_disk.specs.declared.error.MountError.TheVariants as mounts
@@ -76,16 +78,16 @@ module _ (n : ℕ) (f : Facts) (b b' : Board) (new' : Seen) (sound : f.sound ≡
   script_err r was r' is BadRecord s = (s.0, s.1, s.2, s.3, answered (events_of s.0) was is s.4, s.5)
   script_err r was r' is Output s = (s.0, s.1, s.2, broken (events_of s.0) was is s.3)
 
-abbrev IsDone : Result (Unit {0}) SuperError → Type 0
+abbrev IsDone : Result Layout SuperError → Type 0
 IsDone (Ok _) = Unit {0}
 IsDone (Err _) = ⊥
 
-superblock_is_one : (r : Result (Unit {0}) SuperError) (e : SuperError) → r ≡ Ok tt → r ≡ Err e → ⊥
+superblock_is_one : (r : Result Layout SuperError) (e : SuperError) → r ≡ Ok Sectors → r ≡ Err e → ⊥
 superblock_is_one r e good bad = subst IsDone (sym good ∙ bad) tt
 
 -- a healthy memory is refused neither as not formatted nor as corrupt
 pub of_formatted : (e : MountError) (m m' : List ℕ) → IsMountable m → RefusedAt e m m' → IsOfFormatted e
 of_formatted (mounts.Probe e) m m' healthy left = tt
 of_formatted mounts.OutOfMemory m m' healthy left = tt
-of_formatted mounts.NotFormatted m m' healthy left = superblock_is_one (super_of m (geometry_of (length m))) supers.NotFormatted healthy.superblock left.0
+of_formatted mounts.NotFormatted m m' healthy left = superblock_is_one (layout_of m (geometry_of (length m))) supers.NotFormatted healthy.superblock left.0
 of_formatted mounts.Corrupt m m' healthy left = left.corrupt healthy

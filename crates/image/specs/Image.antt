@@ -1,8 +1,8 @@
--- The bytes of a chip that was just formatted. Source: own, layout 1.
+-- The bytes of a chip that was just formatted. Source: own, layout 2.
 use Rattle.std.specs.Prelude.{◌≡◌, ℕ, ◌*◌, List, length, replicate}
 use Rattle.chip_model.specs.Geometry.{sector_count}
-use Rattle.slot_store.specs.Slots.{IsClean}
-use Rattle.slot_map.specs.Maps.{IsMountable}
+use Rattle.sector_slots.specs.Slots.{IsClean}
+use Rattle.sector_map.specs.Maps.{IsMountable}
 use Rattle.flash_disk.specs.Contents.{contents_of}
 use Rattle.image.specs.declared.error.ImageError.{ImageError}
 use Rattle.image.specs.declared.error.ImageError.TheVariants.{OutOfMemory, File, Refused}

@@ -489,11 +489,11 @@ fn runs_scripts(rt: HostRuntime) -> Result<(), Fail> {
             &[STARTED, LOST, RESTORED, STARTED, DATA, "11*512", DONE],
             "",
         ),
-        // the power goes in the first change for the second group of a WRITE of 33h to sectors 6 and 7
+        // the power goes in the first change for the second sector of a WRITE of 33h to sectors 6 and 7
         (
             &[
                 START,
-                "43 FF 00000006 00000011 01 00 50 00 0000041C 25609513 0000 0001 0000000000000001 0000000000000C00 00000400 33*1024",
+                "43 FF 00000006 00000005 01 00 50 00 0000041C 25609513 0000 0001 0000000000000001 0000000000000C00 00000400 33*1024",
                 RESTORE,
                 START,
                 "50 00 0000001C 25609513 0000 0000 0000000000000002 0000000000000C00 00000400",
@@ -514,7 +514,7 @@ fn runs_scripts(rt: HostRuntime) -> Result<(), Fail> {
                 START,
                 WRITE,
                 "50 00 0000021C 25609513 0000 0001 0000000000000001 0000000000000000 00000200 22*512",
-                "43 FF 00000006 00000003 01 FC 54 FF 00000000 43 FF 00000006 00000001 00 00",
+                "43 FF 00000006 00000008 01 FC 54 FF 00000000 43 FF 00000006 00000001 00 00",
                 RESTORE,
                 RESTORE,
                 START,

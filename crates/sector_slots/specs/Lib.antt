@@ -19,3 +19,4 @@ pub mod CleanLaws
 pub mod PlaceLaws
 pub mod ClearLaws
 pub mod ErasedLaws
+pub mod SizeLaws

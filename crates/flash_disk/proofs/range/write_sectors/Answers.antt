@@ -1,0 +1,70 @@
+use Rattle.std.proofs.Common.{◌≡◌, ◌⊎◌, ◌∙◌, ◌+◌, ◌*◌, ◌/◌, ◌%◌, ◌≤◌, ◌<◌, subst, arith, length}
+use Rattle.std.specs.Prelude.{slice_range}
+use Rattle.std.proofs.lemmas.Result.{err_from_is_err_and}
+use Rattle.chip_model.specs.Geometry.{sector_count}
+use Rattle.sector_slots.specs.StepLaws.{kept-after}
+use Rattle.flash_disk.specs.Contents.{contents_of}
+use Rattle.block_device.specs.Contents.{replaced}
+use Rattle.flash_disk.proofs.Parts.{outcome-at, piece-written, long-slice}
+use Rattle.flash_disk.proofs.Sectors.{length-contents, place-sector, sector-written, sector-left, left-clean}
+use Rattle.flash_disk.proofs.range.write_sectors.Goals as goal
+
+pub overflow_cast-sector-in-loop-done : goal.overflow_cast-sector-in-loop-done
+overflow_cast-sector-in-loop-done g c =
+    let m = c.args.map.now.memory in
+    let len = length-contents m in
+    omega (arith, len, c.requires.range, c.loop-done-test.true, c.requires.chip.most)
+
+pub replace-requires-clause-number : goal.replace-requires-clause-number
+replace-requires-clause-number g c = place-sector c.args.map.now.memory c.loop-done.map.memory c.args.first c.loop-done.done (length c.args.from.now) c.loop-done.invariant.size c.requires.range c.loop-done-test.true
+
+pub returns-in_err-replace-clause-cut : goal.returns-in_err-replace-clause-cut
+returns-in_err-replace-clause-cut g c is clean =
+    let p = err_from_is_err_and c.from_residual.result c.from_residual.ensures.1 in
+    let m = c.loop-done.map.memory in
+    let m' = c.replace.new.self.memory in
+    let d = contents_of c.args.map.now.memory in
+    let r = contents_of m in
+    let left = contents_of m' in
+    let x = c.args.from.now in
+    let a = 512 * c.args.first in
+    let n = c.loop-done.done in
+    let s = c.args.first + n / 512 in
+    let fits : n + 512 ≤ length x = omega (arith, c.requires.whole, c.loop-done.invariant.whole, c.loop-done-test.true) in
+    let first : (a + n) % 512 ≡ 0 = omega (arith, c.loop-done.invariant.whole) in
+    let second : (a + (n + 512)) % 512 ≡ 0 = omega (arith, c.loop-done.invariant.whole) in
+    let at : 512 * s ≡ a + n = omega (arith, c.loop-done.invariant.whole) in
+    let low : s < sector_count (length m) = place-sector c.args.map.now.memory m c.args.first n (length x) c.loop-done.invariant.size c.requires.range c.loop-done-test.true in
+    outcome-at d r left a n 512 x c.requires.range (long-slice x n 512 fits) first second fits (c.loop-done.invariant.written clean)
+    (subst (λ q. (left ≡ r) ⊎ (left ≡ replaced r q (slice_range x n (n + 512)))) at
+    (sector-left m m' s (slice_range x n (n + 512)) (c.in_err-replace.ensures.cut (cc (p.1, p.2))) (c.loop-done.invariant.clean clean) low (long-slice x n 512 fits)))
+
+pub returns-in_err-replace-clause-cut_clean : goal.returns-in_err-replace-clause-cut_clean
+returns-in_err-replace-clause-cut_clean g c is clean =
+    let p = err_from_is_err_and c.from_residual.result c.from_residual.ensures.1 in
+    let n = c.loop-done.done in
+    left-clean c.loop-done.map.memory c.replace.new.self.memory (c.args.first + n / 512) (slice_range c.args.from.now n (n + 512)) (c.in_err-replace.ensures.cut (cc (p.1, p.2))) (c.loop-done.invariant.clean clean)
+
+pub loop-done-preserved : goal.loop-done-preserved
+loop-done-preserved g c =
+    let m = c.loop-done.map.memory in
+    let m' = c.replace.new.self.memory in
+    let d = contents_of c.args.map.now.memory in
+    let r = contents_of m in
+    let new = contents_of m' in
+    let x = c.args.from.now in
+    let a = 512 * c.args.first in
+    let n = c.loop-done.done in
+    let s = c.args.first + n / 512 in
+    let fits : n + 512 ≤ length x = omega (arith, c.requires.whole, c.loop-done.invariant.whole, c.loop-done-test.true) in
+    let at : 512 * s ≡ a + n = omega (arith, c.loop-done.invariant.whole) in
+    let low : s < sector_count (length m) = place-sector c.args.map.now.memory m c.args.first n (length x) c.loop-done.invariant.size c.requires.range c.loop-done-test.true in
+    record {
+      written = λ clean. subst (λ q. new ≡ replaced r q (slice_range x n (n + 512))) at (sector-written m m' s (slice_range x n (n + 512)) c.in_ok-replace.ensures.ok (c.loop-done.invariant.clean clean) low (long-slice x n 512 fits))
+          ∙ piece-written d r a n 512 x c.requires.range (long-slice x n 512 fits) fits (c.loop-done.invariant.written clean);
+      clean = λ clean. c.in_ok-replace.ensures.ok.clean (c.loop-done.invariant.clean clean);
+      size = c.replace.ensures.size ∙ c.loop-done.invariant.size;
+      within = fits;
+      whole = omega (arith, c.loop-done.invariant.whole);
+      kept = kept-after c.args.map.now c.loop-done.map c.replace.new.self c.loop-done.invariant.kept c.in_ok-replace.ensures.done.kept;
+    }

@@ -1,0 +1,71 @@
+//! Reading and writing of whole sectors of a map, one after the other.
+
+ghost use Rattle.std.specs.Prelude.{◌≡◌, ◌+◌, ◌*◌, ◌%◌, ◌≤◌, length, OnOk, IfErr};
+ghost use Rattle.std.specs.Result.{IsErrOf};
+ghost use Rattle.chip_model.specs.Geometry.{IsChipSize};
+ghost use Rattle.nor_driver.specs.State.{IsReady, Kept};
+ghost use Rattle.sector_slots.specs.Slots.{IsClean};
+ghost use Rattle.sector_slots.specs.Steps.{Refuses};
+ghost use Rattle.block_device.specs.Contents.{bytes_at, replaced, Outcome};
+ghost use Rattle.flash_disk.specs.Contents.{contents_of};
+
+use nor_driver::{Nor, NorError};
+use sector_map::SectorMap;
+
+/// The bytes of a sector.
+const SECTOR_LEN: usize = 512;
+
+/// Writes whole sectors from the sector `first` on, upwards.
+#[tactic(auto, using(crate::proofs::Calls::calls_since))]
+pub fn write_sectors<N: Nor>(
+    map: &mut SectorMap<N>,
+    first: u32,
+    from: &[u8],
+) -> Result<(), NorError>
+    requires ready { IsReady map.old }
+    requires whole { length from.now % 512 ≡ 0 }
+    requires range { 512 * first + length from.now ≤ length (contents_of map.old.memory) }
+    requires chip { IsChipSize (length map.old.memory) }
+    ensures ok { OnOk result (IsClean map.old.memory
+        → contents_of map.new.memory ≡ replaced (contents_of map.old.memory) (512 * first) from.now) }
+    ensures cut { IsErrOf result NorError.Cut → IsClean map.old.memory
+        → Outcome (contents_of map.old.memory) (replaced (contents_of map.old.memory) (512 * first) from.now) (contents_of map.new.memory) }
+    ensures clean { OnOk result (IsClean map.old.memory → IsClean map.new.memory) }
+    ensures cut_clean { IsErrOf result NorError.Cut → IsClean map.old.memory → IsClean map.new.memory }
+    ensures size { length map.new.memory ≡ length map.old.memory }
+    ensures kept { OnOk result (Kept map.old map.new) }
+    ensures fails { IfErr result (λ e. Refuses e map.old map.new) }
+{
+    let mut done = 0usize;
+    while done < from.len() {
+        let sector = first as usize + done / SECTOR_LEN;
+        map.replace(sector as u16, &from[done..done + SECTOR_LEN])?;
+        done += SECTOR_LEN;
+    }
+    Ok(())
+}
+
+/// Reads whole sectors from the sector `first` on.
+#[tactic(auto, using(crate::proofs::Calls::calls_since))]
+pub fn read_sectors<N: Nor>(
+    map: &mut SectorMap<N>,
+    first: u32,
+    into: &mut [u8],
+) -> Result<(), NorError>
+    requires ready { IsReady map.old }
+    requires whole { length into.old % 512 ≡ 0 }
+    requires range { 512 * first + length into.old ≤ length (contents_of map.old.memory) }
+    requires chip { IsChipSize (length map.old.memory) }
+    ensures ok { OnOk result (into.new ≡ bytes_at (contents_of map.old.memory) (512 * first) (length into.old)) }
+    ensures same { map.new.memory ≡ map.old.memory }
+    ensures kept { OnOk result (Kept map.old map.new) }
+    ensures fails { IfErr result (λ e. Refuses e map.old map.new) }
+{
+    let mut done = 0usize;
+    while done < into.len() {
+        let sector = first as usize + done / SECTOR_LEN;
+        map.find(sector as u16, &mut into[done..done + SECTOR_LEN])?;
+        done += SECTOR_LEN;
+    }
+    Ok(())
+}
