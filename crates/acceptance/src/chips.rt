@@ -2,7 +2,6 @@
 use erase_journal::{Journal, RecoverError};
 use fault_model::SimChip;
 use nor_driver::{Driver, NorError};
-use slot_store::Slots;
 use std::alloc::Global;
 use std::test::*;
 
@@ -113,20 +112,4 @@ pub(crate) fn erase(chip: SimChip) -> Result<(End, Vec<u8>), Fail> {
             Err(Fail::from(error))
         }
     }
-}
-
-/// The slots of a chip that recovers.
-pub(crate) fn slots(chip: SimChip) -> Result<Slots<Driver<SimChip>>, Fail> {
-    match Journal::recover(driver(chip)?) {
-        Ok(journal) => Ok(Slots::new(journal)),
-        Err((driver, error)) => {
-            let _memory = driver.into_inner().into_inner();
-            Err(Fail::from(error))
-        }
-    }
-}
-
-/// The chip's memory behind its slots.
-pub(crate) fn memory_of(slots: Slots<Driver<SimChip>>) -> Vec<u8> {
-    slots.into_inner().into_inner().into_inner().into_inner()
 }
