@@ -1,11 +1,11 @@
 #!/usr/bin/env bash
-# The power goes inside a tidying, in the erase of a block, its 3rd change, and leaves the block filled with FCh.
+# The power goes inside a tidying, in the erase of a block, its 8th change, and leaves the block filled with FCh.
 . "$(dirname "${BASH_SOURCE[0]}")/records.sh"
 
 start 00
 write_sector 00 0 11
 write_sector 00 0 22
-arm 3 1 FC
+arm 8 1 FC
 tidy
 restore
 start 00

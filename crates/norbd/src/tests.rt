@@ -381,7 +381,7 @@ fn formats_an_image(rt: HostRuntime) -> Result<(), Fail> {
         let image = fs::read(&rt, "formatted.img")?;
         assert_eq!(rt; image.len(), 65_536);
         let (superblock, rest) = image.split_at(16);
-        let expected = bytes_of(alloc, "4E4F52424C4B3031 01 1000 0A00 FF 00 FF")?;
+        let expected = bytes_of(alloc, "4E4F52424C4B3031 02 1000 0A00 FF 00 FF")?;
         assert_eq!(rt; superblock, expected.as_slice());
         assert!(rt; rest.iter().all(|byte| *byte == 0xFF));
         fs::remove_file(&rt, "formatted.img")?;
@@ -404,10 +404,10 @@ const WRITTEN: &str = "00 44 00000010 67446698 00000000 0000000000000001 00 41 0
 const READ: &str = "50 00 0000001C 25609513 0000 0000 0000000000000002 0000000000000000 00000200";
 
 const DATA: &str = "00 44 00000210 67446698 00000000 0000000000000002";
-/// The power goes inside the 16th change from now, the commit of a first write; its bits stay old, or are new.
-const CUT_OLD: &str = "43 FF 00000006 00000010 01 00";
+/// The power goes inside the fourth change from now, the commit of a first write; its bits stay old, or are new.
+const CUT_OLD: &str = "43 FF 00000006 00000004 01 00";
 
-const CUT_NEW: &str = "43 FF 00000006 00000010 01 FF";
+const CUT_NEW: &str = "43 FF 00000006 00000004 01 FF";
 
 const RESTORE: &str = "52 FF 00000000";
 

@@ -10,3 +10,4 @@ pub mod Following
 pub mod MapCalls
 pub mod Restoring
 pub mod Opening
+pub mod Clearing

@@ -33,7 +33,7 @@ use Rattle.sector_map.proofs.Retiring.{single-tabled, table-holder}
 use Rattle.sector_map.proofs.Mounting.{table-room}
 use Rattle.sector_map.proofs.Following.{shifts-sound, shifts-single-at, shifts-table}
 
-on-chip : (m m' : List ℕ) (g : ℕ) → SameChip m m' → g < sector_count (length m) → g < sector_count (length m')
+pub on-chip : (m m' : List ℕ) (g : ℕ) → SameChip m m' → g < sector_count (length m) → g < sector_count (length m')
 on-chip m m' g chip low = subst (λ n. g < sector_count n) (sym chip.same_length) low
 
 pub ready-after : (a b : NorState) → Kept a b → IsReady a → IsReady b
@@ -133,10 +133,10 @@ pub stays-keeps : (m b : List ℕ) → Stays m b → IsHealthy b → IsSoundMap 
 stays-keeps m b h healthy sound = keeps-holds m b h.chip healthy (h.sound sound) (λ c. (let k = h.exact c in k.sectors (sector_at m) (sound-holds m sound))) (λ c. (let k = h.exact c in k.clean c))
 
 -- a written sector, and another
-with-there : (f : ℕ → List ℕ) (g : ℕ) (x : List ℕ) → with_sector f g x g ≡ x
+pub with-there : (f : ℕ → List ℕ) (g : ℕ) (x : List ℕ) → with_sector f g x g ≡ x
 with-there f g x = rw (eq-eqb g g refl) refl
 
-with-other : (f : ℕ → List ℕ) (g h : ℕ) (x : List ℕ) → h ≢ g → with_sector f g x h ≡ f h
+pub with-other : (f : ℕ → List ℕ) (g h : ℕ) (x : List ℕ) → h ≢ g → with_sector f g x h ≡ f h
 with-other f g h x other = rw (ne_eqb h g other) refl
 
 pub holds-sets : (g : ℕ) (y x m b m' : List ℕ) → Moved m b → SameChip b m' → HoldsSectors (with_sector (sector_at b) g y) m' → IsHealthy m' → (IsClean b → y ≡ x) → (IsClean b → IsClean m') → IsSoundMap m → g < sector_count (length m)

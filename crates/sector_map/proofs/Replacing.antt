@@ -31,7 +31,7 @@ pub on-through : (f f' : ℕ → Slot) (n w h s : ℕ) (i : Generation) (z : Lis
 on-through f f' n w h s i z only out l = elim (cases_eq s w) [ inl same ↦ absurd (out i z (ap f (sym same) ∙ l.is)) | inr other ↦ moved f f' n w s h i z only other l ]
 
 -- the holder of a sector that slot w neither held nor holds
-held-step : (m m' : List ℕ) (w h : ℕ) (o : Option Held) → OnlySlot w m m' → Without (slot_at m) w h → Without (slot_at m') w h → HeldBy o h m → HeldBy o h m'
+pub held-step : (m m' : List ℕ) (w h : ℕ) (o : Option Held) → OnlySlot w m m' → Without (slot_at m) w h → Without (slot_at m') w h → HeldBy o h m → HeldBy o h m'
 held-step m m' w h None only out out' none = λ s i z l.
     none s i z (back-through (slot_at m) (slot_at m') (slot_count m) w h s i z (others-kept w m m' only) out' (subst (λ n. LiveAt (slot_at m') (7 * (block_count n - 4)) s h i z) only.chip.same_length l))
 held-step m m' w h (Some o) only out out' (z, l) =
@@ -56,7 +56,7 @@ single-added f f' n w g k x only new none single = record {
   ];
 }
 
-not-dead : (f : ℕ → Slot) (n b s h : ℕ) (i : Generation) (y : List ℕ) → f b ≡ Dead → LiveAt f n s h i y → s ≢ b
+pub not-dead : (f : ℕ → Slot) (n b s h : ℕ) (i : Generation) (y : List ℕ) → f b ≡ Dead → LiveAt f n s h i y → s ≢ b
 not-dead f n b s h i y dead l same = dead-without f b h dead i y (ap f (sym same) ∙ l.is)
 
 not-free : (f : ℕ → Slot) (n b s h : ℕ) (i : Generation) (y : List ℕ) → f b ≡ Free → LiveAt f n s h i y → s ≢ b
@@ -87,7 +87,7 @@ single-replaced f f1 f2 n w b g j k x y only new only' dead old single = record 
       ];
 }
 
-single-at : (m m' : List ℕ) → SameChip m m' → Single (slot_at m') (slot_count m) → IsSingle m'
+pub single-at : (m m' : List ℕ) → SameChip m m' → Single (slot_at m') (slot_count m) → IsSingle m'
 single-at m m' chip s = subst (λ n. Single (slot_at m') (7 * (block_count n - 4))) (sym chip.same_length) s
 
 live-at : (m m' : List ℕ) (s g : ℕ) (k : Generation) (x : List ℕ) → SameChip m m' → LiveAt (slot_at m') (slot_count m) s g k x → LiveAt (slot_at m') (slot_count m') s g k x

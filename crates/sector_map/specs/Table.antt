@@ -81,6 +81,12 @@ pub record Settled (old : List Entry) (g : ℕ) (held : Held) (new : List Entry)
   pub entry : slice_index_or new g Absent ≡ One held
   pub others : (h : ℕ) → h < length old → h ≢ g → slice_index_or new h Absent ≡ slice_index_or old h Absent
 
+-- the entry of sector g without a slot, and every other as it was
+pub record Unset (old : List Entry) (g : ℕ) (new : List Entry) : Type 0 where
+  pub size : length new ≡ length old
+  pub entry : slice_index_or new g Absent ≡ Absent
+  pub others : (h : ℕ) → h < length old → h ≢ g → slice_index_or new h Absent ≡ slice_index_or old h Absent
+
 -- no two slots
 abbrev pub IsOneAtMost : Entry → Type 0
 IsOneAtMost Absent = Unit {0}

@@ -1,15 +1,14 @@
-//! The slots of a chip as a finite map from the number of a sector to its 512 bytes (layout 2).
+//! The sectors of a chip, 512 bytes each, as a finite map over its slots.
 //!
-//! Promised: a sector holds the content of its live slot that counts, of two the newer one's, and zeros where it has none. `mount_in`
-//! reads the blocks into the table of the sectors' holders, ends a copying that was cut, and retires the older of two slots; it is
-//! refused exactly where slots or blocks are corrupt, and then nothing is changed; no sector changes in it, cut or not. `SectorMap`
-//! takes its memory once, at `mount`; `find`, `replace` and `tidy` keep the table that of the memory, also where a block is copied;
-//! cut, `replace` leaves every sector as it was or this one new, and slots and blocks that a mount accepts. What is said of the
-//! sectors' contents is said of memories in which what reads as free is erased; that slots and blocks stay sound is said of all.
+//! Promised: a sector holds the content of its live slot that counts, of two the newer one's, and zeros where it has none. `SectorMap`
+//! is all of it over a NOR memory. `mount` looks at the superblock, takes all memory that it will need, recovers the journals and reads the
+//! blocks; it is refused exactly where they are corrupt, which is decided before a slot or block changes. Then it ends a copying that
+//! was cut, retires the older of two slots, and makes the index; no sector changes in it, cut or not. `find` is one read. `replace`
+//! writes one sector and no other: cut, every sector is as it was or this one new; so is `clear`, which makes it zeros. `tidy` and
+//! `restore` change none. Slots and blocks stay sound through all calls on any memory; what is said of contents after a copy or a
+//! write is said of memories in which what reads as free is erased (`specs/Maps.antt`). An error stands until a `restore`.
 //!
-//! Left to the crate above: the superblock, and when to restore.
-//!
-//! Source: own, layout 2.
+//! Left to the crate above: when to tidy and when to restore. Source: own, layout 2. See docs/SECTORS.md and docs/INDEX.md.
 
 #![tactic(auto)]
 

@@ -6,7 +6,7 @@ ghost use Rattle.nor_layout.specs.Layouts.{layout_of};
 ghost use Rattle.erase_journal.specs.Journals.{IsHealthy};
 ghost use Rattle.erase_journal.specs.Recovery.{IsBehind};
 ghost use Rattle.sector_slots.specs.Slots.{slot_count, data_blocks};
-ghost use Rattle.sector_slots.specs.Sectors.{sector_at};
+ghost use Rattle.sector_slots.specs.Sectors.{sector_at, zeros};
 ghost use Rattle.sector_slots.specs.Steps.{Succeeds, Refuses};
 ghost use Rattle.sector_stock.specs.Takes.{dead_slots};
 ghost use Rattle.sector_map.specs.Table.{holder};
@@ -17,7 +17,7 @@ use crate::entry::Entry;
 use crate::error::MountError;
 use crate::mount::mount_in;
 use crate::replace::find_in;
-use crate::steps::{tidy_in, write_in};
+use crate::steps::{clear_in, tidy_in, write_in};
 use crate::superblock::look;
 use chip_model::Geometry;
 use erase_journal::{Journal, RecoverError};
@@ -135,6 +135,28 @@ impl<N: Nor> SectorMap<N> {
             return Err(error);
         }
         match write_in(&mut self.stock, self.table.as_mut_slice(), sector, content) {
+            Ok(()) => Ok(()),
+            Err(error) => {
+                self.stands = Some(error);
+                Err(error)
+            }
+        }
+    }
+
+    /// Makes a sector absent: it holds zeros, and its next content begins with the first generation. One change, none where it is
+    /// absent already. Cut, it leaves every sector as it was, or this one zeros.
+    pub fn clear(&mut self, sector: u16) -> Result<(), NorError>
+        requires number { sector < sector_count (length self.old.memory) }
+        ensures ok { OnOk result (Sets sector zeros self.old.memory self.new.memory) }
+        ensures cut { IsErrOf result NorError.Cut → SetLeaves sector zeros self.old.memory self.new.memory }
+        ensures size { length self.new.memory ≡ length self.old.memory }
+        ensures done { OnOk result (Succeeds self.old self.new) }
+        ensures fails { IfErr result (λ e. Refuses e self.old self.new) }
+    {
+        if let Some(error) = self.stands {
+            return Err(error);
+        }
+        match clear_in(&mut self.stock, self.table.as_mut_slice(), sector) {
             Ok(()) => Ok(()),
             Err(error) => {
                 self.stands = Some(error);

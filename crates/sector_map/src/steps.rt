@@ -12,7 +12,7 @@ ghost use Rattle.sector_map.specs.Maps.{Served, Keeps, SetLeaves, Wrote, Kept_on
 use crate::entry::Entry;
 use crate::follow::follow_copied;
 use crate::replace::replace_in;
-use crate::table::settle;
+use crate::table::{settle, unset};
 use nor_driver::NorError;
 use sector_stock::Reclaim;
 
@@ -59,5 +59,26 @@ pub fn tidy_in<S: Reclaim>(stock: &mut S, table: &mut [Entry]) -> Result<bool, N
             Ok(true)
         }
         None => Ok(false),
+    }
+}
+
+/// Retires the slot that holds a sector, if one does; the sector is absent then, and holds zeros.
+pub fn clear_in<S: Reclaim>(stock: &mut S, table: &mut [Entry], sector: u16) -> Result<(), NorError>
+    requires served { Served table.old (S.state stock.old) (S.indexed stock.old) }
+    requires number { sector < length table.old }
+    ensures ok { OnOk result (Wrote sector zeros table.new (S.state stock.old) (S.state stock.new) (S.indexed stock.new)) }
+    ensures cut { IsErrOf result NorError.Cut → SetLeaves sector zeros (S.state stock.old).memory (S.state stock.new).memory }
+    ensures table { length table.new ≡ length table.old }
+    ensures size { length (S.state stock.new).memory ≡ length (S.state stock.old).memory }
+    ensures done { OnOk result (Succeeds (S.state stock.old) (S.state stock.new)) }
+    ensures fails { IfErr result (λ e. Refuses e (S.state stock.old) (S.state stock.new)) }
+{
+    match table[sector as usize].holder() {
+        Some(held) => {
+            stock.release(held.slot)?;
+            unset(table, sector as usize);
+            Ok(())
+        }
+        None => Ok(()),
     }
 }

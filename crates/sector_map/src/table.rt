@@ -1,5 +1,5 @@
 ghost use Rattle.std.specs.Prelude.{◌≡◌, ◌<◌, length};
-ghost use Rattle.sector_map.specs.Table.{Enters, Heads, Settled};
+ghost use Rattle.sector_map.specs.Table.{Enters, Heads, Settled, Unset};
 
 use crate::Held;
 use crate::entry::{Entry, note};
@@ -45,4 +45,12 @@ pub fn settle(table: &mut [Entry], sector: usize, held: Held)
     ensures { Settled table.old sector held table.new }
 {
     table[sector] = Entry::One(held);
+}
+
+/// Leaves no slot in the entry of a sector.
+pub fn unset(table: &mut [Entry], sector: usize)
+    requires number { sector < length table.old }
+    ensures { Unset table.old sector table.new }
+{
+    table[sector] = Entry::Absent;
 }
