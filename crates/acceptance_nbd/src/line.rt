@@ -115,6 +115,27 @@ fn reads_lines(rt: HostRuntime) -> Result<(), Fail> {
     Ok(())
 }
 
+#[test]
+fn each_number_in_its_range_is_read(rt: HostRuntime) -> Result<(), Fail> {
+    for sectors in 1..65_537u32 {
+        let text = format!(in rt.alloc(); "norbd plain --sectors {sectors}")?;
+        let words = words_of(rt.alloc(), text.as_str())?;
+        assert_eq!(rt; answer_to(words.as_slice(), rt.alloc()), Ok(("", sectors)));
+    }
+    for part in 1..257u32 {
+        let kib = 64 * part;
+        for text in [
+            format!(in rt.alloc(); "norbd format a.img --kib {kib}")?,
+            format!(in rt.alloc(); "norbd script --kib {kib}")?,
+        ] {
+            let words = words_of(rt.alloc(), text.as_str())?;
+            let read = answer_to(words.as_slice(), rt.alloc()).map(|(_path, number)| number);
+            assert_eq!(rt; read, Ok(kib));
+        }
+    }
+    Ok(())
+}
+
 /// The text of the fault of these words.
 fn fault_text(alloc: Global, text: &str) -> Result<String, Fail> {
     let words = words_of(alloc, text)?;

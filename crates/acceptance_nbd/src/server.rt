@@ -1,5 +1,5 @@
 // The server of one disk: its rows, its replies on the wire, and a disk whose chip never ends a write.
-ghost use Rattle.std.specs.Prelude.{◌≡◌, ◌*◌, ◌<◌, length};
+ghost use Rattle.std.specs.Prelude.{◌≡◌, ◌*◌, ◌<◌, ◌≤◌, length};
 ghost use Rattle.share.specs.Lent.{lent_len};
 
 use crate::heads::READ_OF_SECTOR_1;
@@ -194,8 +194,20 @@ fn serve_three<K: OneServer, L: OneServer, A: Abort>(
 
 #[test]
 fn a_read_on_the_wire_is_answered(rt: HostRuntime) -> Result<(), Fail> {
-    let disk = PlainDisk::new(rt.alloc(), 2)?;
-    read_and_close::<Brand, Brand, _>(&rt, rt.alloc(), disk, 2, Blank::new(65537), Blank::new(1))
+    read_from_disk_of(&rt, rt.alloc(), 2)
+}
+
+#[test]
+fn the_largest_disk_is_served(rt: HostRuntime) -> Result<(), Fail> {
+    read_from_disk_of(&rt, rt.alloc(), 65_536)
+}
+
+fn read_from_disk_of<A: Abort>(rt: &A, alloc: Global, sectors: u32) -> Result<(), Fail>
+    requires some { 0 < sectors }
+    requires most { sectors ≤ 65536 }
+{
+    let disk = PlainDisk::new(alloc, sectors)?;
+    read_and_close::<Brand, Brand, _>(rt, alloc, disk, sectors, Blank::new(65537), Blank::new(1))
 }
 
 // The first connection asks for sector 1 and ends; the second begins with 28 bytes of zeros.

@@ -1,4 +1,4 @@
-use Rattle.acceptance_nbd.proofs.server.a_read_on_the_wire_is_answered.Given as goal
+use Rattle.acceptance_nbd.proofs.server.read_from_disk_of.Given as goal
 
 -- the server of this test's blank, and its number of sectors
 abbrev pub ghosts-read_and_close-L-Ledger : goal.ghosts-read_and_close-L-Ledger
