@@ -12,6 +12,14 @@ fn words_of(alloc: Global, text: &str) -> Result<Vec<String>, Fail> {
     Ok(words)
 }
 
+/// The line of these words, or the status of their fault.
+fn line_of(words: &[String], alloc: Global) -> Result<Line<'_>, u8> {
+    match read_line(alloc, words) {
+        Ok(line) => Ok(line),
+        Err(fault) => Err(fault.status()),
+    }
+}
+
 /// A line `plain` with a row of each command.
 fn plain<'a>(sectors: u32) -> Result<Line<'a>, u8> {
     Ok(Line::Plain {
@@ -106,32 +114,27 @@ fn reads_lines(rt: HostRuntime) -> Result<(), Fail> {
         ("norbd --version", Err(0)),
     ] {
         let words = words_of(rt.alloc(), text)?;
-        let line = match read_line(rt.alloc(), words.as_slice()) {
-            Ok(line) => Ok(line),
-            Err(fault) => Err(fault.status()),
-        };
-        assert_eq!(rt; line, answer, "{text}");
+        assert_eq!(rt; line_of(words.as_slice(), rt.alloc()), answer, "{text}");
     }
     Ok(())
 }
 
 #[test]
-fn each_number_in_its_range_is_read(rt: HostRuntime) -> Result<(), Fail> {
-    for sectors in 1..65_537u32 {
+fn numbers_in_their_ranges_are_read(rt: HostRuntime) -> Result<(), Fail> {
+    for part in 1..9_363u32 {
+        let sectors = 7 * part;
         let text = format!(in rt.alloc(); "norbd plain --sectors {sectors}")?;
         let words = words_of(rt.alloc(), text.as_str())?;
-        assert_eq!(rt; answer_to(words.as_slice(), rt.alloc()), Ok(("", sectors)));
+        assert_eq!(rt; line_of(words.as_slice(), rt.alloc()), plain(sectors));
     }
     for part in 1..257u32 {
         let kib = 64 * part;
-        for text in [
-            format!(in rt.alloc(); "norbd format a.img --kib {kib}")?,
-            format!(in rt.alloc(); "norbd script --kib {kib}")?,
-        ] {
-            let words = words_of(rt.alloc(), text.as_str())?;
-            let read = answer_to(words.as_slice(), rt.alloc()).map(|(_path, number)| number);
-            assert_eq!(rt; read, Ok(kib));
-        }
+        let text = format!(in rt.alloc(); "norbd format a.img --kib {kib}")?;
+        let words = words_of(rt.alloc(), text.as_str())?;
+        assert_eq!(rt; line_of(words.as_slice(), rt.alloc()), format("a.img", kib));
+        let text = format!(in rt.alloc(); "norbd script --kib {kib}")?;
+        let words = words_of(rt.alloc(), text.as_str())?;
+        assert_eq!(rt; line_of(words.as_slice(), rt.alloc()), script(kib));
     }
     Ok(())
 }
