@@ -1,4 +1,5 @@
 // A chip of 64 KiB with some bytes set, what is called of its journal, and what is left of its memory.
+use crate::byte_at;
 use erase_journal::{Journal, RecoverError};
 use fault_model::SimChip;
 use nor_driver::{Driver, NorError};
@@ -56,9 +57,9 @@ pub(crate) fn fill(bytes: &mut [u8], from: usize, to: usize, byte: u8) -> Result
 }
 
 /// The byte at a place.
-fn byte_at(bytes: &[u8], at: usize) -> Result<u8, Fail> {
-    match bytes.get(at) {
-        Some(byte) => Ok(*byte),
+fn known(bytes: &[u8], at: usize) -> Result<u8, Fail> {
+    match byte_at(bytes, at) {
+        Some(byte) => Ok(byte),
         None => Err(Fail::new("a place past the chip")),
     }
 }
@@ -68,10 +69,10 @@ pub(crate) fn four(bytes: &[u8], at: usize) -> Result<[u8; 4], Fail> {
     let (low, high) = (at.saturating_add(1), at.saturating_add(2));
     let last = at.saturating_add(3);
     Ok([
-        byte_at(bytes, at)?,
-        byte_at(bytes, low)?,
-        byte_at(bytes, high)?,
-        byte_at(bytes, last)?,
+        known(bytes, at)?,
+        known(bytes, low)?,
+        known(bytes, high)?,
+        known(bytes, last)?,
     ])
 }
 

@@ -1,9 +1,9 @@
 // Bytes and counts worked out by hand from the layout (docs/LAYOUT.md).
 use chip_model::Geometry;
 use nor_layout::{
-    Entry, Generation, Header, SUPER_LEN, SuperError, Tag, UNSEALED_LEN, Vote, begun_header,
-    block_state, entry_place, entry_state, read_super, super_bytes, taken_entry, vote_byte,
-    vote_state,
+    Entry, Generation, Header, Kind, Layout, SUPER_LEN, SuperError, Tag, UNSEALED_LEN, Vote,
+    begun_header, begun_mark, block_kind, block_state, entry_place, entry_state, live_header,
+    read_layout, read_super, sector_super_bytes, super_bytes, taken_entry, vote_byte, vote_state,
 };
 use std::test::*;
 
@@ -140,4 +140,67 @@ fn votes_entries_and_headers(rt: HostRuntime) {
     ] {
         assert_eq!(rt; block_state(bytes), header, "{bytes:?}");
     }
+}
+
+#[test]
+fn a_block_of_slots_is_of_the_kind_that_its_mark_says(rt: HostRuntime) -> Result<(), Fail> {
+    let blank = [0xFF; 8];
+    assert_eq!(rt; block_kind(blank), Kind::Plain);
+    for (state, kind) in [
+        (0xFF, Kind::Void),
+        (0xFE, Kind::Void),
+        (0xFC, Kind::Committed(0x0102)),
+        (0xF8, Kind::Settled),
+        (0xFD, Kind::Unknown),
+        (0xF0, Kind::Unknown),
+        (0x00, Kind::Unknown),
+    ] {
+        let bytes = [0xFF, 0xFF, 0xFF, 0xFF, state, 0xFF, 0x02, 0x01];
+        assert_eq!(rt; block_kind(bytes), kind, "{state}");
+    }
+    for (at, kind) in [
+        (0usize, Kind::Unknown),
+        (3, Kind::Unknown),
+        (5, Kind::Void),
+        (7, Kind::Void),
+    ] {
+        let mut bytes = blank;
+        bytes[at] = 0xFE;
+        assert_eq!(rt; block_kind(bytes), kind, "byte {at}");
+    }
+    assert_eq!(rt; begun_mark(14), [0xFE, 0xFF, 0x0E, 0x00]);
+    Ok(())
+}
+
+#[test]
+fn a_copied_slot_is_live_in_one_program(rt: HostRuntime) -> Result<(), Fail> {
+    let tag = Tag {
+        number: 0x0102,
+        generation: Generation::Two,
+    };
+    assert_eq!(rt; live_header(tag), [0xFC, 0xFE, 0x02, 0x01]);
+    assert_eq!(rt; block_state(live_header(tag)), Header::Live(tag));
+    Ok(())
+}
+
+#[test]
+fn a_superblock_says_its_layout(rt: HostRuntime) -> Result<(), Fail> {
+    let Some(small) = Geometry::of(65_536) else {
+        return Err(Fail::new("no chip"));
+    };
+    for (layout, answer) in [
+        (0x00, Err(SuperError::Layout)),
+        (0x01, Ok(Layout::Groups)),
+        (0x02, Ok(Layout::Sectors)),
+        (0x03, Err(SuperError::Layout)),
+    ] {
+        let mut bytes = SMALLEST;
+        bytes[8] = layout;
+        assert_eq!(rt; read_layout(&bytes, small), answer, "layout {layout}");
+    }
+    let written = sector_super_bytes(small);
+    assert_eq!(rt; written[..8] == SMALLEST[..8], true);
+    assert_eq!(rt; written[8], 0x02);
+    assert_eq!(rt; written[9..] == SMALLEST[9..13], true);
+    Ok(())
 }

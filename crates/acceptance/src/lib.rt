@@ -1,13 +1,12 @@
 //! Tests of the crates of the flash side: what no clause of one crate says, and the worked rows of several of them at once.
 //!
-//! There is no product code here. `place_of_block` is where a block of the chip begins. The chip is
+//! There is no product code here. `byte_at` reads a byte of a memory. The chip is
 //! `fault_model::SimChip`, alone or behind a bus that keeps the codes of its frames. Expected bytes and answers are those of
 //! the tables in docs/CHIP.md, docs/SFDP.md and docs/LAYOUT.md, worked out by hand, and tables of real parts. The tests of a
 //! crate that has many stand in that crate.
 
 #![tactic(auto)]
 
-mod blocks;
 #[cfg(test)]
 mod changes;
 #[cfg(test)]
@@ -22,6 +21,7 @@ mod journal;
 mod layout;
 #[cfg(test)]
 mod parts;
+mod places;
 #[cfg(test)]
 mod protection;
 #[cfg(test)]
@@ -31,4 +31,4 @@ mod sweep;
 #[cfg(test)]
 mod tables;
 
-pub use blocks::place_of_block;
+pub use places::byte_at;

@@ -9,7 +9,13 @@
 mod chips;
 #[cfg(test)]
 mod copying;
+#[cfg(test)]
+mod cuts;
 mod erase;
+#[cfg(test)]
+mod long_run;
+#[cfg(test)]
+mod maps;
 #[cfg(test)]
 mod slots;
 
