@@ -174,24 +174,24 @@ fn fail_at<L: OneServer, M: Ledger, N: Ledger, A: Abort>(
     requires writes { (writes.name ≡ N.name) × (writes.parts ≡ N.parts) × (0 < N.parts) }
 {
     let mut server = Shared::<PlainDisk, NoRecord, L>::new(disk, blank);
-    let mut reader = Io::<_, M>::new(failing(&WHOLE_CONNECTION, k), reads);
-    let mut writer = Io::<_, N>::new(failing(&[], u32::MAX), writes);
+    let mut reader = Io::<_, M>::new(stream_of(&WHOLE_CONNECTION, k), reads);
+    let mut writer = Io::<_, N>::new(stream_of(&[], u32::MAX), writes);
     let end = attend(rt, alloc, &mut server, &mut reader, &mut writer);
     let wanted = if k < 4 { End::Input } else { End::EndOfInput };
     assert_eq!(rt; end, wanted, "{k} good reads");
-    reader.inner = failing(&WHOLE_CONNECTION, u32::MAX);
-    writer.inner = failing(&[], 4 * k);
+    reader.inner = stream_of(&WHOLE_CONNECTION, u32::MAX);
+    writer.inner = stream_of(&[], 4 * k);
     let end = attend(rt, alloc, &mut server, &mut reader, &mut writer);
     assert_eq!(rt; end, End::Output, "{k} good writes");
-    reader.inner = failing(&WHOLE_CONNECTION, u32::MAX);
-    writer.inner = failing(&[], u32::MAX);
+    reader.inner = stream_of(&WHOLE_CONNECTION, u32::MAX);
+    writer.inner = stream_of(&[], u32::MAX);
     let end = attend(rt, alloc, &mut server, &mut reader, &mut writer);
     assert_eq!(rt; end, End::EndOfInput);
     Ok(())
 }
 
 // A stream whose calls fail once so many were good.
-fn failing<'a>(rest: &'a [u8], good_calls: u32) -> Failing<'a> {
+fn stream_of<'a>(rest: &'a [u8], good_calls: u32) -> Failing<'a> {
     Failing { rest, good_calls }
 }
 
