@@ -1,20 +1,14 @@
-//! Tests of the crates of the flash side: what no clause of one crate says, and the worked rows of several of them at once.
+//! Tests of the crates from the layout to the map of groups: what no clause of one crate says, and the worked rows of several
+//! at once.
 //!
 //! There is no product code here. `has_room` decides on a chip what `take_free` asks of its caller. The chip is
-//! `fault_model::SimChip`, alone or behind a bus that keeps the codes of its frames. Expected bytes and answers are those of
-//! the tables in docs/CHIP.md, docs/SFDP.md and docs/LAYOUT.md, worked out by hand, and tables of real parts. The tests of a
-//! crate that has many stand in that crate.
+//! `fault_model::SimChip`. Expected bytes are those of the tables in docs/LAYOUT.md, worked out by hand. The chip, its table and
+//! its driver are tested in `acceptance_chip`, and the tests of a crate that has many stand in that crate.
 
 #![tactic(auto)]
 
 #[cfg(test)]
-mod changes;
-#[cfg(test)]
 mod chips;
-#[cfg(test)]
-mod discovery;
-#[cfg(test)]
-mod frames;
 #[cfg(test)]
 mod free_slots;
 #[cfg(test)]
@@ -23,18 +17,10 @@ mod journal;
 mod layout;
 #[cfg(test)]
 mod mounts;
-#[cfg(test)]
-mod parts;
-#[cfg(test)]
-mod protection;
-#[cfg(test)]
-mod recorder;
 mod room;
 #[cfg(test)]
 mod slots;
 #[cfg(test)]
 mod sweep;
-#[cfg(test)]
-mod tables;
 
 pub use room::has_room;
