@@ -1,5 +1,6 @@
 // What a probe answers of chips of each size, of one whose table was spoiled, and where the power is lost in it.
-use crate::recorder::{Recorder, erased_chip};
+use crate::chips::erased_chip;
+use crate::recorder::Recorder;
 use nor_driver::{Driver, Nor, ProbeError};
 use sfdp::SfdpError;
 use std::test::*;

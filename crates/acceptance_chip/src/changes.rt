@@ -1,5 +1,6 @@
 // Programs, erases and restarts of a driver over the simulated chip.
-use crate::recorder::{Recorder, erased_chip};
+use crate::chips::erased_chip;
+use crate::recorder::Recorder;
 use fault_model::SimChip;
 use nor_driver::{Driver, Nor, NorError, ProbeError};
 use std::test::*;

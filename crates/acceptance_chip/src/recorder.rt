@@ -3,18 +3,21 @@ ghost use Rattle.std.specs.Prelude.{◌≡◌};
 
 use chip_model::{PowerLost, SpiBus};
 use fault_model::SimChip;
-use std::test::*;
 
 /// A bus that counts its frames, also those that are lost, and keeps the codes of the first sixteen.
 #[derive(Drop)]
-pub(crate) struct Recorder {
+pub struct Recorder {
     inner: SimChip,
     codes: [u8; 16],
     frames: u32,
 }
 
 impl Recorder {
-    pub(crate) fn new(inner: SimChip) -> Recorder {
+    /// A chip of whose frames none was sent yet.
+    pub fn new(inner: SimChip) -> Recorder
+        ensures frames { result.frames ≡ 0 }
+        ensures chip { result.inner ≡ inner }
+    {
         Recorder {
             inner,
             codes: [0; 16],
@@ -23,11 +26,16 @@ impl Recorder {
     }
 
     /// The codes of the first sixteen frames, 00h where there was none.
-    pub(crate) fn codes(&self) -> [u8; 16] {
+    pub fn codes(&self) -> [u8; 16]
+        ensures { result ≡ self.now.codes }
+    {
         self.codes
     }
 
-    pub(crate) fn frames(&self) -> u32 {
+    /// How many frames were sent, at most 2^32 - 1.
+    pub fn frames(&self) -> u32
+        ensures { result ≡ self.now.frames }
+    {
         self.frames
     }
 }
@@ -61,11 +69,4 @@ impl SpiBus for Recorder {
     fn arm(&mut self, count: u32, kind: u8, mask: u8) {
         self.inner.arm(count, kind, mask);
     }
-}
-
-/// An erased chip of so many bytes.
-pub(crate) fn erased_chip(rt: HostRuntime, size: usize) -> Result<SimChip, Fail> {
-    let mut bytes = Vec::new(rt.alloc());
-    bytes.resize(size, 0xFF)?;
-    Ok(SimChip::new(bytes)?)
 }

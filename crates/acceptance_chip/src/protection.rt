@@ -1,5 +1,6 @@
 // Chips of which a part is protected.
-use crate::recorder::{Recorder, erased_chip};
+use crate::chips::erased_chip;
+use crate::recorder::Recorder;
 use chip_model::{PowerLost, SpiBus};
 use fault_model::SimChip;
 use nor_driver::{Driver, ProbeError, unprotect};

@@ -1,5 +1,5 @@
 // The simulated chip's own SFDP table, with one byte changed.
-use crate::recorder::erased_chip;
+use crate::chips::erased_chip;
 use chip_model::SpiBus;
 use sfdp::{Params, SfdpError, read_params};
 use std::test::*;
