@@ -4,7 +4,3 @@ use Rattle.std.specs.Prelude.{ℕ, ◌*◌, ◌/◌, if◌then◌else◌, ◌==�
 -- how many times as long as the second time the first one is, in hundredths, rounded down; none where the second is 0
 abbrev pub ratio_of : ℕ → ℕ → Option ℕ
 ratio_of time copy = if copy == 0 then None else Some (100 * time / copy)
-
--- how many in a second, rounded down, where so many came in so many nanoseconds; none where that was no time
-abbrev pub rate_of : ℕ → ℕ → Option ℕ
-rate_of count nanos = if nanos == 0 then None else Some (1000000000 * count / nanos)

@@ -1,7 +1,6 @@
 // A row of the table of calls.
 use crate::call::Call;
-use crate::figures::{per_second, ratio};
-use crate::row::{InHundredths, OrNone};
+use crate::row::Columns;
 use std::fmt;
 
 /// What was measured of a call, and the least time that a go of it took.
@@ -18,15 +17,13 @@ pub struct CallRow {
 
 impl fmt::Display for CallRow {
     fn fmt<W: fmt::Write>(&self, f: &mut fmt::Formatter<W>) -> fmt::Result {
-        let name = self.call.name();
-        let calls = OrNone(per_second(self.call.calls() as u64, self.time));
-        let bytes = OrNone(per_second(self.bytes, self.time));
-        let copied = OrNone(per_second(self.bytes, self.copy));
-        let ratio = InHundredths(ratio(self.time, self.copy));
-        write!(
-            f,
-            "{name}: {calls} calls and {bytes} bytes a second, {copied} bytes by plain copies, {ratio} times their time"
-        )
+        let columns = Columns {
+            name: self.call.name(),
+            calls: self.call.calls() as u64,
+            time: self.time,
+            copy: self.copy,
+        };
+        write!(f, "{columns}")
     }
 }
 
@@ -45,7 +42,7 @@ mod tests {
         };
         assert_eq!(rt;
             format!(in rt.alloc(); "{row}")?.as_str(),
-            "journals, erase of a block: 100000 calls and 409600000 bytes a second, 10240000000 bytes by plain copies, 25.00 times their time"
+            "journals, erase of a block          10000.00     400.00      25.00"
         );
         Ok(())
     }

@@ -4,7 +4,7 @@ ghost use Rattle.session.specs.Line.{is_closed};
 ghost use Rattle.bench.specs.Stream.{payload_of, requests_of};
 
 use crate::figures::nanos;
-use crate::measure::{Failure, now};
+use crate::measure::{Failure, filled, now};
 use crate::stream::Stream;
 use crate::stream_row::StreamRow;
 use session::{Next, Session};
@@ -19,6 +19,9 @@ const OPENING: [u8; 20] = [
     0, 0, 0, 3, 0x49, 0x48, 0x41, 0x56, 0x45, 0x4F, 0x50, 0x54, 0, 0, 0, 1, 0, 0, 0, 0,
 ];
 
+/// The bytes of the buffer into which they are copied beside: as many as a session's own has.
+const BUFFER: usize = 65_536;
+
 /// The sectors of the disk that the session serves: those of one WRITE of 65,536 bytes.
 const SECTORS: u32 = 128;
 
@@ -29,7 +32,7 @@ pub struct Fed {
     pub commands: u64,
 }
 
-/// Feeds all bytes to a session, and finishes each command at once without an error.
+/// Feeds all bytes to a session, and finishes each command at once without an error; commands and replies are counted.
 #[inline(never)]
 pub fn feed(session: &mut Session, text: &[u8]) -> Fed
     ensures used { result.used ≤ length text.now }
@@ -47,24 +50,44 @@ pub fn feed(session: &mut Session, text: &[u8]) -> Fed
                 commands += 1;
             }
             Next::More => {}
-            Next::Reply => {}
+            Next::Reply => commands += 1,
             Next::Close => {}
         }
     }
     Fed { used, commands }
 }
 
-/// The requests of a stream, one after another: WRITEs to sector 0.
-fn text_of(alloc: Global, stream: Stream) -> Result<Vec<u8>, Failure>
+/// The head of a request of a stream: a WRITE to sector 0, or in the negotiation LIST with no data.
+fn head_of(alloc: Global, stream: Stream) -> Result<Vec<u8>, Failure>
     ensures refused { OnErr result (result ≡ Err Failure.NoMemory) }
 {
     let len = stream.payload().to_be_bytes();
+    let write = [
+        0x25, 0x60, 0x95, 0x13, 0, 0, 0, 1, 0, 0, 0, 0, 0, 0, 0, 9, 0, 0, 0, 0, 0, 0, 0, 0, len[0],
+        len[1], len[2], len[3],
+    ];
+    let list = [
+        0x49, 0x48, 0x41, 0x56, 0x45, 0x4F, 0x50, 0x54, 0, 0, 0, 3, 0, 0, 0, 0,
+    ];
+    let mut head = Vec::new(alloc);
+    let made = match stream {
+        Stream::ShortWrites => head.extend_from_slice(&write),
+        Stream::LongWrites => head.extend_from_slice(&write),
+        Stream::Options => head.extend_from_slice(&list),
+    };
+    if made.is_err() {
+        return Err(Failure::NoMemory);
+    }
+    Ok(head)
+}
+
+/// The requests of a stream, one after another.
+fn text_of(alloc: Global, stream: Stream) -> Result<Vec<u8>, Failure>
+    ensures refused { OnErr result (result ≡ Err Failure.NoMemory) }
+{
+    let head = head_of(alloc, stream)?;
     let mut text = Vec::new(alloc);
     for _request in 0..stream.requests() {
-        let head = [
-            0x25, 0x60, 0x95, 0x13, 0, 0, 0, 1, 0, 0, 0, 0, 0, 0, 0, 9, 0, 0, 0, 0, 0, 0, 0, 0,
-            len[0], len[1], len[2], len[3],
-        ];
         if text.extend_from_slice(&head).is_err() {
             return Err(Failure::NoMemory);
         }
@@ -76,14 +99,18 @@ fn text_of(alloc: Global, stream: Stream) -> Result<Vec<u8>, Failure>
     Ok(text)
 }
 
-/// A session whose transmission has begun.
-fn new_session(alloc: Global) -> Result<Session, Failure>
+/// A session whose transmission has begun, or for options its negotiation.
+fn new_session(alloc: Global, stream: Stream) -> Result<Session, Failure>
     ensures refused { OnErr result (result ≡ Err Failure.NoMemory) }
 {
     let Ok(mut session) = Session::open(alloc, SECTORS) else {
         return Err(Failure::NoMemory);
     };
-    let _opened = feed(&mut session, &OPENING);
+    let _opened = match stream {
+        Stream::ShortWrites => feed(&mut session, &OPENING),
+        Stream::LongWrites => feed(&mut session, &OPENING),
+        Stream::Options => feed(&mut session, &OPENING[..4]),
+    };
     Ok(session)
 }
 
@@ -102,15 +129,28 @@ fn time_of_feed(
     Ok((nanos(end.duration_since(start)), fed.commands))
 }
 
+/// Copies bytes into a buffer, again and again from its front, as a session's payloads go into its own.
+#[inline(never)]
+fn copy_over(text: &[u8], buffer: &mut [u8])
+    requires { 0 < length buffer.old }
+    ensures { length buffer.new ≡ length buffer.old }
+{
+    let mut done = 0;
+    while done < text.len() {
+        let count = buffer.len().min(text.len() - done);
+        buffer[..count].copy_from_slice(&text[done..done + count]);
+        done += count;
+    }
+}
+
 /// Times one plain copy of the same bytes, in nanoseconds.
 fn time_of_copy(clock: &impl Clock, text: &[u8], buffer: &mut [u8]) -> Result<u64, Failure>
-    requires { length buffer.old ≡ length text.now }
-    ensures copied { IfOk result (λ time. buffer.new ≡ text.now) }
+    requires { 0 < length buffer.old }
     ensures same { length buffer.new ≡ length buffer.old }
     ensures clock { OnErr result (result ≡ Err Failure.NoClock) }
 {
     let start = now(clock)?;
-    buffer.copy_from_slice(text);
+    copy_over(text, buffer);
     let end = now(clock)?;
     Ok(nanos(end.duration_since(start)))
 }
@@ -125,15 +165,12 @@ pub fn measured_stream<C: Clock>(
     ensures commands { IfOk result (λ row. row.commands ≤ row.bytes) }
 {
     let text = text_of(alloc, stream)?;
-    let mut buffer = text_of(alloc, stream)?;
-    let mut session = new_session(alloc)?;
+    let mut buffer = filled(alloc, BUFFER)?;
+    let mut session = new_session(alloc, stream)?;
     let mut commands = 0;
     let mut time = u64::MAX;
     let mut copy = u64::MAX;
     for _go in 0..GOES {
-        if buffer.len() != text.len() {
-            return Err(Failure::NoMemory);
-        }
         let told = time_of_feed(clock, &mut session, &text)?;
         time = time.min(told.0);
         commands = told.1;
@@ -158,6 +195,7 @@ mod tests {
         for (stream, commands, bytes) in [
             (Stream::ShortWrites, 2_048, 2_048 * 540),
             (Stream::LongWrites, 16, 16 * 65_564),
+            (Stream::Options, 2_048, 2_048 * 16),
         ] {
             let row = measured_stream(&rt, rt.alloc(), stream)?;
             assert_eq!(rt; row.commands, commands);
@@ -168,7 +206,7 @@ mod tests {
 
     #[test]
     fn a_wrong_magic_ends_a_feed(rt: HostRuntime) -> Result<(), Fail> {
-        let mut session = new_session(rt.alloc())?;
+        let mut session = new_session(rt.alloc(), Stream::ShortWrites)?;
         let fed = feed(&mut session, &[0x11; 60]);
         assert_eq!(rt;
             fed,

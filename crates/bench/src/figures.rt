@@ -1,7 +1,7 @@
 // The arithmetic of the table.
 ghost use Rattle.std.specs.Prelude.{◌≡◌, ◌-◌, ◌^◌, min};
 ghost use Rattle.std.specs.Duration.{as_nanos};
-ghost use Rattle.bench.specs.Figures.{rate_of, ratio_of};
+ghost use Rattle.bench.specs.Figures.{ratio_of};
 
 use std::time::Duration;
 
@@ -13,16 +13,6 @@ pub fn ratio(time: u64, copy: u64) -> Option<u128>
         return None;
     }
     Some(100 * time as u128 / copy as u128)
-}
-
-/// How many in a second, rounded down, where so many came in so many nanoseconds; `None` where that was no time.
-pub fn per_second(count: u64, nanos: u64) -> Option<u128>
-    ensures { result ≡ rate_of count nanos }
-{
-    if nanos == 0 {
-        return None;
-    }
-    Some(1_000_000_000 * count as u128 / nanos as u128)
 }
 
 /// A span's nanoseconds, at most 2^64 - 1.
@@ -53,19 +43,6 @@ mod tests {
             (u64::MAX, 1, Some(1_844_674_407_370_955_161_500)),
         ] {
             assert_eq!(rt; ratio(time, copy), want, "{time} and {copy}");
-        }
-    }
-
-    #[test]
-    fn rates_of_a_second(rt: HostRuntime) {
-        for (count, nanos, want) in [
-            (3, 2_000_000_000, Some(1)),
-            (50, 500_000_000, Some(100)),
-            (7, 1, Some(7_000_000_000)),
-            (0, 9, Some(0)),
-            (9, 0, None),
-        ] {
-            assert_eq!(rt; per_second(count, nanos), want, "{count} in {nanos}");
         }
     }
 

@@ -1,7 +1,7 @@
 //! The program `bench`: how fast the parts below a request are, beside a plain copy of as many bytes in the same run.
 //!
-//! With the word `run` it measures each case and prints a row for it: frames and bytes in a second, those of the plain copy,
-//! and the ratio of the times. Without words it prints one fixed line and measures nothing.
+//! With the word `run` it measures each case and prints a row for it: nanoseconds of a call and of the plain copy, and the ratio
+//! of the times. Without words it prints one fixed line and measures nothing.
 //!
 //! Proved are the arithmetic of the figures, how many frames a measured run sent, what a round leaves of a chip, and that a
 //! stream is fed to its end. That a
@@ -33,6 +33,7 @@ use crate::case::Case;
 use crate::feed::measured_stream;
 use crate::measure::{Failure, measured};
 use crate::measure_call::measured_call;
+use crate::row::HEADING;
 use crate::stream::Stream;
 
 /// Whether the words ask for the measurement: the one word `run`.
@@ -94,6 +95,7 @@ fn print_failure(rt: &HostRuntime, failure: Failure) -> std::io::Result<()> {
 
 fn main(rt: HostRuntime) -> std::io::Result<()> {
     if asks_to_run(&rt) {
+        println!(rt; "{HEADING}")?;
         print_rows(&rt)?;
         print_calls(&rt)?;
         print_streams(&rt)

@@ -1,6 +1,6 @@
 // A row of the table.
 use crate::case::Case;
-use crate::figures::{per_second, ratio};
+use crate::figures::ratio;
 use std::fmt;
 
 /// What was measured of a case: the rounds of one go, and the least time that a go of them took.
@@ -17,20 +17,7 @@ pub struct Row {
     pub copy: u64,
 }
 
-/// A number, or `-` where there is none.
-#[derive(Clone, Copy)]
-pub struct OrNone(pub Option<u128>);
-
-impl fmt::Display for OrNone {
-    fn fmt<W: fmt::Write>(&self, f: &mut fmt::Formatter<W>) -> fmt::Result {
-        match self.0 {
-            Some(number) => write!(f, "{number}"),
-            None => write!(f, "-"),
-        }
-    }
-}
-
-/// A number in hundredths, or `-` where there is none.
+/// A number in hundredths, eleven wide at least, or `-` where there is none.
 #[derive(Clone, Copy)]
 pub struct InHundredths(pub Option<u128>);
 
@@ -40,24 +27,44 @@ impl fmt::Display for InHundredths {
             Some(number) => {
                 let whole = number / 100;
                 let rest = number % 100;
-                write!(f, "{whole}.{rest:02}")
+                write!(f, "{whole:>8}.{rest:02}")
             }
-            None => write!(f, "-"),
+            None => write!(f, "          -"),
         }
+    }
+}
+
+/// What stands above the columns of the table.
+pub const HEADING: &str = "                                   ns a call  ns a copy      ratio";
+
+/// A line of the table: so many calls took this time, and as many copies that one, in nanoseconds.
+#[derive(Clone, Copy)]
+pub struct Columns {
+    pub name: &'static str,
+    pub calls: u64,
+    pub time: u64,
+    pub copy: u64,
+}
+
+impl fmt::Display for Columns {
+    fn fmt<W: fmt::Write>(&self, f: &mut fmt::Formatter<W>) -> fmt::Result {
+        let name = self.name;
+        let each = InHundredths(ratio(self.time, self.calls));
+        let copy = InHundredths(ratio(self.copy, self.calls));
+        let ratio = InHundredths(ratio(self.time, self.copy));
+        write!(f, "{name:<33}{each}{copy}{ratio}")
     }
 }
 
 impl fmt::Display for Row {
     fn fmt<W: fmt::Write>(&self, f: &mut fmt::Formatter<W>) -> fmt::Result {
-        let name = self.case.name();
-        let frames = OrNone(per_second(self.frames, self.chip));
-        let bytes = OrNone(per_second(self.bytes, self.chip));
-        let copied = OrNone(per_second(self.bytes, self.copy));
-        let ratio = InHundredths(ratio(self.chip, self.copy));
-        write!(
-            f,
-            "{name}: {frames} frames and {bytes} bytes a second, {copied} bytes by plain copies, {ratio} times their time"
-        )
+        let columns = Columns {
+            name: self.case.name(),
+            calls: self.case.rounds() as u64,
+            time: self.chip,
+            copy: self.copy,
+        };
+        write!(f, "{columns}")
     }
 }
 
@@ -70,15 +77,17 @@ mod tests {
     fn rows(rt: HostRuntime) -> Result<(), Fail> {
         let row = Row {
             case: Case::UnitErase,
-            frames: 8,
-            bytes: 8_192,
-            chip: 4_000,
-            copy: 1_900,
+            frames: 200_000,
+            bytes: 204_800_000,
+            chip: 10_000_000,
+            copy: 4_700_000,
         };
+        let text = format!(in rt.alloc(); "{row}")?;
         assert_eq!(rt;
-            format!(in rt.alloc(); "{row}")?.as_str(),
-            "erase of 4 KiB: 2000000 frames and 2048000000 bytes a second, 4311578947 bytes by plain copies, 2.10 times their time"
+            text.as_str(),
+            "erase of 4 KiB                        200.00      94.00       2.12"
         );
+        assert_eq!(rt; HEADING.len(), text.len());
         let untimed = Row {
             case: Case::ShortRead,
             frames: 1,
@@ -88,7 +97,7 @@ mod tests {
         };
         assert_eq!(rt;
             format!(in rt.alloc(); "{untimed}")?.as_str(),
-            "read of 512 bytes: - frames and - bytes a second, - bytes by plain copies, - times their time"
+            "read of 512 bytes                       0.00       0.00          -"
         );
         Ok(())
     }

@@ -9,14 +9,16 @@ pub enum Stream {
     ShortWrites,
     /// WRITEs of 65,536 bytes.
     LongWrites,
+    /// LIST, with no data, in the negotiation.
+    Options,
 }
 
 impl Stream {
     /// Each stream, in the order of the table.
-    pub fn all() -> [Stream; 2]
-        ensures { result ≡ Stream.ShortWrites ∷ Stream.LongWrites ∷ [] }
+    pub fn all() -> [Stream; 3]
+        ensures { result ≡ Stream.ShortWrites ∷ Stream.LongWrites ∷ Stream.Options ∷ [] }
     {
-        [Stream::ShortWrites, Stream::LongWrites]
+        [Stream::ShortWrites, Stream::LongWrites, Stream::Options]
     }
 
     /// The text of the stream in the table.
@@ -26,6 +28,7 @@ impl Stream {
         match self {
             Stream::ShortWrites => "session, writes of 512 bytes",
             Stream::LongWrites => "session, writes of 65,536 bytes",
+            Stream::Options => "negotiation, options LIST",
         }
     }
 
@@ -37,10 +40,11 @@ impl Stream {
         match self {
             Stream::ShortWrites => 512,
             Stream::LongWrites => 65_536,
+            Stream::Options => 0,
         }
     }
 
-    /// How many requests are fed in one go: 1 MiB of payload.
+    /// How many requests or options are fed in one go: 1 MiB of payload, where there is any.
     pub fn requests(self) -> u32
         ensures exact { result ≡ requests_of self }
         ensures most { result ≤ 2048 }
@@ -48,6 +52,7 @@ impl Stream {
         match self {
             Stream::ShortWrites => 2_048,
             Stream::LongWrites => 16,
+            Stream::Options => 2_048,
         }
     }
 }

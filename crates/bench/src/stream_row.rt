@@ -1,6 +1,5 @@
 // A row of the table of streams.
-use crate::figures::{per_second, ratio};
-use crate::row::{InHundredths, OrNone};
+use crate::row::Columns;
 use crate::stream::Stream;
 use std::fmt;
 
@@ -8,7 +7,7 @@ use std::fmt;
 #[derive(Clone, Copy, Debug, PartialEq, Eq)]
 pub struct StreamRow {
     pub stream: Stream,
-    /// The commands that ran in one go.
+    /// The commands and options that were answered in one go.
     pub commands: u64,
     /// The bytes of one go, heads and payloads.
     pub bytes: u64,
@@ -20,15 +19,13 @@ pub struct StreamRow {
 
 impl fmt::Display for StreamRow {
     fn fmt<W: fmt::Write>(&self, f: &mut fmt::Formatter<W>) -> fmt::Result {
-        let name = self.stream.name();
-        let commands = OrNone(per_second(self.commands, self.time));
-        let bytes = OrNone(per_second(self.bytes, self.time));
-        let copied = OrNone(per_second(self.bytes, self.copy));
-        let ratio = InHundredths(ratio(self.time, self.copy));
-        write!(
-            f,
-            "{name}: {commands} requests and {bytes} bytes a second, {copied} bytes by plain copies, {ratio} times their time"
-        )
+        let columns = Columns {
+            name: self.stream.name(),
+            calls: self.commands,
+            time: self.time,
+            copy: self.copy,
+        };
+        write!(f, "{columns}")
     }
 }
 
@@ -48,7 +45,7 @@ mod tests {
         };
         assert_eq!(rt;
             format!(in rt.alloc(); "{row}")?.as_str(),
-            "session, writes of 65,536 bytes: 500000 requests and 1000000000 bytes a second, 4000000000 bytes by plain copies, 4.00 times their time"
+            "session, writes of 65,536 bytes      2000.00     500.00       4.00"
         );
         Ok(())
     }
