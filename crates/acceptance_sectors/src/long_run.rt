@@ -1,4 +1,6 @@
 // A long run of writes and tidyings with losses of power, judged by a plain map that the test keeps.
+ghost use Rattle.std.specs.Prelude.{◌<◌};
+
 use crate::chips::{End, chip};
 use crate::maps::{COUNT, Sectors, formatted, memory_behind, mounted, stamp_of, write};
 use nor_driver::NorError;
@@ -17,17 +19,17 @@ struct Dice {
 }
 
 impl Dice {
-    /// A number below `n`, or 0.
-    fn below(&mut self, n: u32) -> u32 {
+    /// A number below `n`.
+    fn below(&mut self, n: u32) -> u32
+        requires { 0 < n }
+        ensures { result < n }
+    {
         let mut x = self.state;
         x ^= x << 13;
         x ^= x >> 7;
         x ^= x << 17;
         self.state = x;
-        if n == 0 {
-            return 0;
-        }
-        (x >> 32) as u32 % n
+        ((x >> 32) % u64::from(n)) as u32
     }
 }
 
@@ -59,7 +61,7 @@ fn restored(map: &mut Sectors) -> Result<u32, Fail> {
 /// Arms a loss in one of the next 20 changes, in about one call of five.
 fn arm(map: &mut Sectors, dice: &mut Dice) {
     if dice.below(5) == 0 {
-        let mask = MASKS[dice.below(6) as usize % 6];
+        let mask = MASKS[dice.below(6) as usize];
         let count = dice.below(20);
         map.arm(count.saturating_add(1), 1, mask);
     }
@@ -72,7 +74,7 @@ fn write_one(
     dice: &mut Dice,
     tally: &mut Tally,
 ) -> Result<(), Fail> {
-    let sector = dice.below(70) as u16 % COUNT;
+    let sector = dice.below(70) as u16;
     let stamp = dice.below(250) as u8;
     tally.writes = tally.writes.saturating_add(1);
     let old = plain[sector as usize];
