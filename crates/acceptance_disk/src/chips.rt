@@ -65,18 +65,29 @@ pub(crate) fn put<D: Disk>(
     Ok(disk.write(first, bytes))
 }
 
-/// Writes `count` sectors of this byte, at most 70.
+/// Writes `count` sectors of this byte, one or two.
 pub(crate) fn write(
     disk: &mut OnSim,
     first: u32,
     count: usize,
     byte: u8,
 ) -> Result<Result<(), DiskError>, Fail> {
-    let bytes = [byte; 35_840];
-    match bytes.get(..512 * count.min(70)) {
+    let bytes = [byte; 1_024];
+    match bytes.get(..512 * count.min(2)) {
         Some(bytes) => put(disk, first, bytes),
-        None => Err(Fail::new("more than all sectors")),
+        None => Err(Fail::new("more than two sectors")),
     }
+}
+
+/// Writes all 70 sectors of the disk in one write.
+pub(crate) fn write_all(
+    alloc: Global,
+    disk: &mut OnSim,
+    byte: u8,
+) -> Result<Result<(), DiskError>, Fail> {
+    let mut bytes = Vec::new(alloc);
+    bytes.resize(35_840, byte)?;
+    put(disk, 0, bytes.as_slice())
 }
 
 /// The byte that fills a sector.

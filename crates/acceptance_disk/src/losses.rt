@@ -1,5 +1,5 @@
 // A loss of power inside the n-th change (`kind` 1), what it leaves of the sectors, and of the chip's bytes.
-use crate::chips::{OnSim, byte_of, count, formatted, mounted, set, write};
+use crate::chips::{OnSim, byte_of, count, formatted, mounted, set, write, write_all};
 use block_device::{Disk, DiskError};
 use std::alloc::Global;
 use std::process::Abort;
@@ -52,7 +52,7 @@ fn loss(name: &'static str, before: &'static [u8], count: u32, mask: u8, call: C
 fn after(alloc: Global, memory: Vec<u8>, row: &Row) -> Result<OnSim, Fail> {
     let mut disk = mounted(alloc, memory)?;
     if row.full {
-        write(&mut disk, 0, 70, 0x01)??;
+        write_all(alloc, &mut disk, 0x01)??;
     }
     for byte in row.before {
         write(&mut disk, 0, 1, *byte)??;
@@ -245,7 +245,7 @@ fn writes_make_4_changes_then_5_and_15_where_a_block_is_copied(
         ] {
             let mut disk = mounted(rt.alloc(), formatted(rt.alloc())?)?;
             if full {
-                write(&mut disk, 0, 70, 0x01)??;
+                write_all(rt.alloc(), &mut disk, 0x01)??;
             }
             for _ in 0..before {
                 write(&mut disk, 0, 1, 0x11)??;
@@ -266,7 +266,11 @@ fn a_full_disk_is_written_by_280_changes(rt: HostRuntime) -> Result<(), Fail> {
     for (count, answer) in [(280u32, Err(DiskError::Cut)), (281, Ok(()))] {
         let mut disk = mounted(rt.alloc(), formatted(rt.alloc())?)?;
         disk.arm(count, 1, 0x00);
-        assert_eq!(rt; write(&mut disk, 0, 70, 0x01)?, answer, "change {count}");
+        assert_eq!(rt;
+            write_all(rt.alloc(), &mut disk, 0x01)?,
+            answer,
+            "change {count}"
+        );
     }
     Ok(())
 }
@@ -274,7 +278,7 @@ fn a_full_disk_is_written_by_280_changes(rt: HostRuntime) -> Result<(), Fail> {
 #[test]
 fn a_copied_block_is_erased_and_its_slots_lie_in_the_reserve(rt: HostRuntime) -> Result<(), Fail> {
     let mut disk = mounted(rt.alloc(), formatted(rt.alloc())?)?;
-    write(&mut disk, 0, 70, 0x01)??;
+    write_all(rt.alloc(), &mut disk, 0x01)??;
     for byte in 2..10u8 {
         write(&mut disk, 0, 1, byte)??;
     }

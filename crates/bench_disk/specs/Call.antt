@@ -21,7 +21,7 @@ calls_of ShortWrite = 400
 calls_of LongWrite = 20
 calls_of Tidy = 400
 
--- the first sector of a call: one group after another, or 128 sectors after another, and then from the first again
+-- the first sector of a call: one in seven, or 128 sectors after another, and then from the first again
 abbrev pub first_of : Call → ℕ → ℕ
 first_of ShortRead number = number % 3580 * 7
 first_of LongRead number = number % 195 * 128

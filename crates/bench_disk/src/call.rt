@@ -6,17 +6,17 @@ use crate::chips::Filling;
 /// A call of the disk of a chip of 16 MiB.
 #[derive(Clone, Copy)]
 pub enum Call {
-    /// A `read` of 512 bytes: one sector of a group, on a full chip as the other reads and writes, but for the first write.
+    /// A `read` of 512 bytes: one sector in seven, on a full chip as the other reads and writes, but for the first write.
     ShortRead,
     /// A `read` of 65,536 bytes: 128 sectors.
     LongRead,
-    /// A `write` of 512 bytes on a formatted chip: the first write of its group.
+    /// A `write` of 512 bytes on a formatted chip: the first write of its sector.
     FirstWrite,
     /// A `write` of 512 bytes, where the free slots are the last ones of the chip.
     ShortWrite,
     /// A `write` of 65,536 bytes, likewise.
     LongWrite,
-    /// A `tidy` that clears a dead slot.
+    /// A `tidy` that copies a block with one dead slot.
     Tidy,
 }
 
@@ -45,7 +45,7 @@ impl Call {
             Call::FirstWrite => "first write of 512 bytes",
             Call::ShortWrite => "write of 512 bytes",
             Call::LongWrite => "write of 65,536 bytes",
-            Call::Tidy => "tidy of a dead slot",
+            Call::Tidy => "tidy of a block",
         }
     }
 
@@ -63,7 +63,7 @@ impl Call {
         }
     }
 
-    /// How many bytes a call reads, writes or erases.
+    /// How many bytes a call reads or writes, or the block that it erases has.
     pub fn bytes(self) -> usize
         ensures exact { result ≡ call_bytes self }
         ensures most { result ≤ 65536 }
@@ -78,7 +78,8 @@ impl Call {
         }
     }
 
-    /// How many calls are timed in one go. A go of writes takes at most 400 of the 512 slots that are free on a full chip.
+    /// How many calls are timed in one go. A go of writes takes at most 2,560 of the 3,577 slots that are
+    /// free outside the reserve of a full chip.
     pub fn calls(self) -> u32
         ensures exact { result ≡ calls_of self }
         ensures some { 0 < result }
@@ -93,7 +94,7 @@ impl Call {
         }
     }
 
-    /// The first sector of a call, counted from 0: calls of 512 bytes go from group to group, those of 65,536 bytes end to end.
+    /// The first sector of a call, counted from 0: calls of 512 bytes take one sector in seven, those of 65,536 bytes end to end.
     pub fn first(self, number: u32) -> u32
         ensures exact { result ≡ first_of self number }
         ensures within { 512 * result + call_bytes self ≤ 12830720 }

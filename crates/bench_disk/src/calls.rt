@@ -51,7 +51,7 @@ pub fn calls<D: Disk>(call: Call, disk: &mut D, buffer: &mut [u8]) -> Result<(),
     Ok(())
 }
 
-/// Makes as many dead slots as a go of tidyings clears; other calls need none.
+/// Makes as many dead slots as a go of tidyings needs; other calls need none.
 pub fn prepare<D: Disk>(call: Call, disk: &mut D) -> Result<(), Failure>
     requires size { length (D.facts disk.old).contents ≡ 12830720 }
     ensures size { length (D.facts disk.new).contents ≡ 12830720 }

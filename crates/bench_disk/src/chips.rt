@@ -17,15 +17,15 @@ const CHIP_BYTES: usize = 16_777_216;
 /// The sectors of its disk, of 512 bytes each.
 const SECTORS: u32 = 25_060;
 
-/// The groups of its disk, of seven sectors each.
-const GROUPS: u32 = 3_580;
+/// The runs of seven sectors that it has.
+const RUNS: u32 = 3_580;
 
 /// What is on a chip.
 #[derive(Clone, Copy)]
 pub enum Filling {
-    /// What the format leaves: no group was written.
+    /// What the format leaves: no sector was written.
     Formatted,
-    /// Each group was written once.
+    /// Each sector was written once.
     Full,
 }
 
@@ -85,14 +85,14 @@ pub fn mounted(alloc: Global, chip: SimChip) -> Result<OnSim, Failure>
     Ok(disk)
 }
 
-/// Writes each group once.
+/// Writes each sector once.
 fn fill<D: Disk>(disk: &mut D) -> Result<(), Failure>
     requires size { length (D.facts disk.old).contents ≡ 12830720 }
     ensures size { length (D.facts disk.new).contents ≡ 12830720 }
 {
-    let group = [0x5Au8; 3_584];
-    for number in 0..GROUPS {
-        disk.write(7 * number, &group)?;
+    let run = [0x5Au8; 3_584];
+    for number in 0..RUNS {
+        disk.write(7 * number, &run)?;
     }
     Ok(())
 }
