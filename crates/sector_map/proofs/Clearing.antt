@@ -1,7 +1,7 @@
 -- A sector that is cleared: its slot is retired, and no slot holds it.
-use Rattle.std.proofs.Common.{◌≡◌, ◌≢◌, ℕ, ◌-◌, ◌*◌, ◌<◌, ◌⊎◌, Bool, true, List, length, refl, sym, ap, ◌∙◌, subst, arith, inl, inr, eq-eqb}
+use Rattle.std.proofs.Common.{◌≡◌, ◌≢◌, ℕ, ◌-◌, ◌*◌, ◌<◌, ◌⊎◌, Bool, true, List, length, refl, sym, ap, ◌∙◌, subst, arith, inl, inr}
 use Rattle.std.specs.Prelude.{Option, Some, None, slice_index_or}
-use Rattle.std.proofs.lemmas.Bool.{cases_eq, ne_eqb}
+use Rattle.std.proofs.lemmas.Bool.{cases_eq}
 use Rattle.chip_model.specs.Geometry.{sector_count, block_count}
 use Rattle.nor_layout.specs.declared.header.Generation.{Generation}
 use Rattle.nor_layout.specs.declared.header.Tag.{Tag}
@@ -19,7 +19,7 @@ use Rattle.sector_slots.specs.Sectors.{zeros, LiveAt, absent, IsAbsent, sector_a
 use Rattle.sector_slots.specs.Steps.{Succeeds, OnlyPlace}
 use Rattle.sector_slots.specs.StepLaws.{settled-healthy}
 use Rattle.sector_slots.specs.WinnerLaws.{sector-one, sector-content-is}
-use Rattle.sector_map.specs.Maps.{IsStore, Keeps, Sets, SetLeaves, Served, Wrote}
+use Rattle.sector_map.specs.Maps.{Sets, SetLeaves, Served, Wrote}
 use Rattle.sector_map.specs.Replace.{HeldBy}
 use Rattle.sector_map.specs.Table.{IsTableOf, IsOneAtMost, Unset, holder}
 use Rattle.sector_map.specs.declared.held.Held.{Held}

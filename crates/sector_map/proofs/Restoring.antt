@@ -23,7 +23,6 @@ use Rattle.sector_map.specs.Maps.{IsStore, KeepsEach, Served, Standing, Renewed,
 use Rattle.sector_map.specs.declared.held.Held.{Held}
 use Rattle.sector_map.specs.declared.entry.Entry.{Entry}
 use Rattle.sector_map.specs.declared.entry.Entry.TheVariants.{Absent}
-use Rattle.sector_map.proofs.Places.{holds-sound}
 use Rattle.sector_map.proofs.Retiring.{table-holder}
 use Rattle.sector_map.proofs.MapCalls.{keeps-each, each-after}
 

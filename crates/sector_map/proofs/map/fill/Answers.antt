@@ -1,4 +1,4 @@
-use Rattle.std.proofs.Common.{◌∙◌, ap, sym, subst, length, None, Err, true}
+use Rattle.std.proofs.Common.{◌∙◌, ap, sym, subst, length, None, Err}
 use Rattle.std.proofs.lemmas.List.{with_items_is}
 use Rattle.chip_model.specs.Geometry.{sector_count}
 use Rattle.erase_journal.specs.Journals.{IsHealthy}
