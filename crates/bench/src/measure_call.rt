@@ -146,25 +146,25 @@ mod tests {
     fn frames_of_calls(rt: HostRuntime) -> Result<(), Fail> {
         // A probe sends five frames. A recovery reads the six regions of votes and the entries, and the entries once more.
         let (probe, recovery) = (5, 5 + 8);
-        // An erase of a block reads as much, and changes the chip four times: entry, opening, block, closing.
-        for (call, driver, journal) in [
-            (Call::DriverShortRead, 1, 0),
-            (Call::DriverLongRead, 1, 0),
-            (Call::DriverProgram, 4, 0),
-            (Call::DriverErase, 4, 0),
-            (Call::JournalRead, 0, 1),
-            (Call::JournalProgram, 0, 4),
-            (Call::JournalErase, 0, 8 + 4 * 4),
+        // An erase of a block changes the chip four times: entry, opening, block, closing. The first reads the entries before.
+        for (call, driver, journal, once) in [
+            (Call::DriverShortRead, 1, 0, 0),
+            (Call::DriverLongRead, 1, 0, 0),
+            (Call::DriverProgram, 4, 0, 0),
+            (Call::DriverErase, 4, 0, 0),
+            (Call::JournalRead, 0, 1, 0),
+            (Call::JournalProgram, 0, 4, 0),
+            (Call::JournalErase, 0, 4 * 4, 1),
         ] {
             assert_eq!(rt; frames(rt.alloc(), call, 0)?, (probe, recovery));
             assert_eq!(rt;
                 frames(rt.alloc(), call, 1)?,
-                (probe + driver, recovery + journal),
+                (probe + driver, recovery + once + journal),
                 "{call:?}"
             );
             assert_eq!(rt;
                 frames(rt.alloc(), call, 3)?,
-                (probe + 3 * driver, recovery + 3 * journal),
+                (probe + 3 * driver, recovery + once + 3 * journal),
                 "{call:?}"
             );
         }
