@@ -1,0 +1,9 @@
+use Rattle.bench_serve.proofs.measure.time_of_commands.Given as goal
+
+-- the server of this go's blank
+abbrev pub ghosts-time_over-L-Ledger : goal.ghosts-time_over-L-Ledger
+ghosts-time_over-L-Ledger g a = record { name = a.blank.name; parts = a.blank.parts }
+
+-- and its number of sectors
+abbrev pub ghosts-time_over-L-OneServer : goal.ghosts-time_over-L-OneServer
+ghosts-time_over-L-OneServer g a = record { sectors = a.sectors }
