@@ -5,6 +5,7 @@ ghost use Rattle.norbd_line.specs.Line.{IsConns, IsPort};
 use crate::serving::{Asked, run_serve};
 use block_device::FixedOut;
 use image::formatted_image;
+use norbd_line::Fault;
 use std::io::{Read, Write};
 use std::marker::Brand;
 use std::net::{Ipv4Addr, Net, SocketAddr, TcpListener, TcpStream};
@@ -49,7 +50,7 @@ fn request(kind: u8, cookie: u8, sector: u8, length: u8) -> [u8; 28] {
         0,
         0,
         0,
-        sector * 2,
+        sector.wrapping_mul(2),
         0,
         0,
         0,
@@ -89,7 +90,7 @@ fn write_and_read<H: Net<Stream = TcpStream> + Clock>(
     let mut replies = [0u8; 86];
     stream.read_exact(&mut replies)?;
     stream.write_all(&request(1, 3, sector, 2))?;
-    stream.write_all(&[0x30 + sector; 512])?;
+    stream.write_all(&[0x30u8.wrapping_add(sector); 512])?;
     let mut first = [0u8; 16];
     stream.read_exact(&mut first)?;
     stream.write_all(&request(0, 4, sector, 2))?;
@@ -98,7 +99,7 @@ fn write_and_read<H: Net<Stream = TcpStream> + Clock>(
     let mut data = [0u8; 512];
     stream.read_exact(&mut data)?;
     stream.write_all(&request(2, 5, 0, 0))?;
-    Ok(first == head(3) && second == head(4) && data == [0x30 + sector; 512])
+    Ok(first == head(3) && second == head(4) && data == [0x30u8.wrapping_add(sector); 512])
 }
 
 // Two clients, one after the other.
@@ -159,7 +160,9 @@ where
     let writer_there = &mut writer;
     let (done, met) = thread::join(
         rt,
-        move || run_serve(rt, "served.img", asked, writer_there),
+        move || -> Result<(), Fault>
+            requires { IsPort asked.port × IsConns asked.conns }
+        { run_serve(rt, "served.img", asked, writer_there) },
         move || two_clients(rt, addr),
     );
     assert!(rt; met?);
