@@ -180,7 +180,7 @@ fn fail_at<L: OneServer, M: Ledger, N: Ledger, A: Abort>(
     let wanted = if k < 4 { End::Input } else { End::EndOfInput };
     assert_eq!(rt; end, wanted, "{k} good reads");
     reader.inner = stream_of(&WHOLE_CONNECTION, u32::MAX);
-    writer.inner = stream_of(&[], 4 * k);
+    writer.inner = stream_of(&[], k.saturating_mul(4));
     let end = attend(rt, alloc, &mut server, &mut reader, &mut writer);
     assert_eq!(rt; end, End::Output, "{k} good writes");
     reader.inner = stream_of(&WHOLE_CONNECTION, u32::MAX);

@@ -264,9 +264,9 @@ mod tests {
         let mut bus = image_of(rt, "again.img", 65_536)?;
         assert!(rt; send(&mut bus, &[0x06]));
         assert!(rt; send(&mut bus, &[0x02, 0x00, 0x34, 0x56, 0x70]));
-        assert_eq!(rt; fs::read(&rt, "again.img")?[0x3456], 0x77);
+        assert_eq!(rt; fs::read(&rt, "again.img")?.get(0x3456), Some(&0x77));
         bus.power_on();
-        assert_eq!(rt; fs::read(&rt, "again.img")?[0x3456], 0x70);
+        assert_eq!(rt; fs::read(&rt, "again.img")?.get(0x3456), Some(&0x70));
         assert!(rt; send(&mut bus, &[0x06]));
         assert!(rt; send(&mut bus, &[0x20, 0x00, 0x30, 0x00]));
         assert!(rt; send(&mut bus, &[0x05]));

@@ -140,7 +140,7 @@ fn serves_two_clients_and_counts_their_rows(rt: HostRuntime) -> Result<(), Fail>
 // Serves two clients, who write a sector each and read it back, and compares what is told.
 fn serve_two<O, H>(rt: &H, asked: Asked, port: u16, last: &str, blank: Blank) -> Result<(), Fail>
 where
-    O: Ledger,
+    O: Ledger + Send + Sync,
     H: Abort
         + Files
         + AllocGlobal
