@@ -5,7 +5,8 @@
 //! and ends. All of them run commands through the one lock of a `share::Server`, one at a time.
 //! [`listen`] opens the port, and [`Sleeper`] is the gate of a keeper that rests 10 ms before each step.
 //! Left to the crate above: the disk, what is printed, and `Shared::total` of the passes.
-//! No contract says that a thread gets on, nor what a socket gives or takes: tests show it.
+//! Ok says that as many connections ended as there were gates, and none by a lost command. No contract says
+//! that a thread gets on, nor what a socket gives or takes: tests show it.
 //! Source: own.
 #![tactic(auto)]
 
