@@ -70,6 +70,8 @@ pub struct Judge {
     sectors: [Sector; 70],
     pub has_power: bool,
     is_armed: bool,
+    /// How many events were judged; the last of them where one is answered wrongly.
+    pub events: usize,
     pub seen: Seen,
 }
 
@@ -103,6 +105,7 @@ impl Judge {
             sectors: [Sector { old: 0, new: 0 }; 70],
             has_power: true,
             is_armed: false,
+            events: 0,
             seen: Seen {
                 losses: 0,
                 lost_restores: 0,
@@ -116,6 +119,7 @@ impl Judge {
     pub fn judge(&mut self, events: &[Event], told: &[u8]) -> Result<(), Wrong> {
         let mut rest = told;
         for event in events {
+            self.events = self.events.saturating_add(1);
             rest = self.follow(*event, rest)?;
         }
         if rest.is_empty() {

@@ -102,7 +102,7 @@ fn sweep_chip<R: Clock + Print + Eprint>(
     for kind in KINDS {
         let mut totals = Totals::new(chip, kind);
         if let Err(failure) = sweep(rt, &mut sweeper, &mut totals, progress) {
-            let _ = print_script(rt, alloc, chip, sweeper.events.as_slice());
+            let _ = print_script(rt, alloc, chip, sweeper.events());
             return Err(failure);
         }
         if rows.push(totals).is_err() {
@@ -142,7 +142,7 @@ fn main(rt: HostRuntime) -> ExitCode {
     match sweep_all(&rt, rt.alloc(), chips) {
         Ok(()) => ExitCode::SUCCESS,
         Err(failure) => {
-            let _ = eprintln!(rt; "\nsweep: {failure:?}");
+            let _ = eprintln!(rt; "\nsweep: {failure}");
             ExitCode::FAILURE
         }
     }

@@ -118,8 +118,8 @@ pub struct Sweeper {
     memory: Vec<u8>,
     room: Vec<u8>,
     judge: Judge,
-    /// The events of the run that is made.
-    pub events: Vec<Event>,
+    /// The events of the last run.
+    events: Vec<Event>,
 }
 
 impl Sweeper {
@@ -131,6 +131,12 @@ impl Sweeper {
             judge: Judge::new(),
             events: Vec::new(alloc),
         })
+    }
+
+    /// The events of the last run, up to the first that was answered wrongly.
+    pub fn events(&self) -> &[Event] {
+        let events = self.events.as_slice();
+        events.get(..self.judge.events).unwrap_or(events)
     }
 
     /// Runs the fixed script on a new station, with a loss armed before its first event. Where that came, the power comes back,
@@ -149,24 +155,22 @@ impl Sweeper {
         Ok(self.judge.seen)
     }
 
-    /// The first count of a kind that comes to no loss, found by halving.
+    /// The first count of a kind that comes to no loss, found by halving. A wrong answer is passed over.
     pub fn first_without(&mut self, kind: u8) -> Result<u32, Failure> {
         let mut lost = 0u32;
         let mut first = 65_536u32;
         for _ in 0..16 {
             let count = lost.midpoint(first);
-            let seen = self.run(
-                Loss {
-                    count,
-                    kind,
-                    mask: 0,
-                },
-                Return::Whole,
-            )?;
-            if seen.losses == 0 {
-                first = count;
-            } else {
-                lost = count;
+            let loss = Loss {
+                count,
+                kind,
+                mask: 0,
+            };
+            match self.run(loss, Return::Whole) {
+                Ok(seen) if seen.losses == 0 => first = count,
+                Ok(_) => lost = count,
+                Err(Failure::Told(_)) => lost = count,
+                Err(failure) => return Err(failure),
             }
         }
         Ok(first)

@@ -15,7 +15,7 @@ fn swept(rt: &impl Abort, alloc: Global, chip: Chip, kind: u8) -> Result<Totals,
         let last = totals.first;
         for count in 1..65_536u32 {
             let came = totals.cut(&mut sweeper, Loss { count, kind, mask });
-            assert!(rt; came.is_ok(), "{came:?} in {:?}", sweeper.events);
+            assert!(rt; came.is_ok(), "{came:?} in {:?}", sweeper.events());
             if came.is_ok_and(|came| !came) {
                 break;
             }
