@@ -1,0 +1,256 @@
+// The sweep of a chip: the fixed script with a loss of power, and what comes after it.
+use crate::chip::{Chip, OnSim, started, told};
+use crate::event::{Event, SECTORS};
+use crate::failure::Failure;
+use crate::judge::{Judge, Seen};
+use station::Station;
+use std::alloc::Global;
+
+/// The masks of the losses.
+pub const MASKS: [u8; 6] = [0x00, 0xFF, 0xA5, 0xFE, 0xFC, 0xF8];
+
+/// How many restores in a row may be lost before one that is not.
+const MOST_RESTORES: u32 = 1_000;
+
+/// The room of a transcript: that of the fixed script has 36,512 bytes.
+const ROOM_BYTES: usize = 131_072;
+
+/// The fixed script: all sectors are written, sector 0 eight times more, two others once more, the disk is tidied, and all is read.
+const SCRIPT: [Event; 15] = [
+    Event::Open,
+    Event::Flags,
+    Event::Go,
+    Event::Write {
+        first: 0,
+        count: SECTORS,
+        value: 1,
+    },
+    Event::Write {
+        first: 0,
+        count: 1,
+        value: 2,
+    },
+    Event::Write {
+        first: 0,
+        count: 1,
+        value: 3,
+    },
+    Event::Write {
+        first: 0,
+        count: 1,
+        value: 4,
+    },
+    Event::Write {
+        first: 0,
+        count: 1,
+        value: 5,
+    },
+    Event::Write {
+        first: 0,
+        count: 1,
+        value: 6,
+    },
+    Event::Write {
+        first: 0,
+        count: 1,
+        value: 7,
+    },
+    Event::Write {
+        first: 0,
+        count: 1,
+        value: 8,
+    },
+    Event::Write {
+        first: 0,
+        count: 1,
+        value: 9,
+    },
+    Event::Write {
+        first: 6,
+        count: 2,
+        value: 10,
+    },
+    Event::Tidy,
+    Event::Read {
+        first: 0,
+        count: SECTORS,
+    },
+];
+
+/// What is read once the power is back, twice with a restore between.
+const REREAD: [Event; 6] = [
+    Event::Open,
+    Event::Flags,
+    Event::Go,
+    Event::Read {
+        first: 0,
+        count: SECTORS,
+    },
+    Event::Restore,
+    Event::Read {
+        first: 0,
+        count: SECTORS,
+    },
+];
+
+/// A loss of power: in which frame of those that count, which count (0: all, 1: those that begin a change), and the mask.
+#[derive(Clone, Copy)]
+pub struct Loss {
+    pub count: u32,
+    pub kind: u8,
+    pub mask: u8,
+}
+
+/// How the power comes back after a loss.
+#[derive(Clone, Copy)]
+pub enum Return {
+    /// By one restore.
+    Whole,
+    /// By a restore that is lost in its change of this number, if it has so many, and then a whole one.
+    Second(u32),
+    /// By restores, of which the first is lost in its first change, the next in its second, and so on, until one isn't.
+    Staircase,
+}
+
+#[derive(Drop)]
+pub struct Sweeper {
+    alloc: Global,
+    memory: Vec<u8>,
+    room: Vec<u8>,
+    judge: Judge,
+    /// The events of the last run.
+    events: Vec<Event>,
+}
+
+impl Sweeper {
+    pub fn new(alloc: Global, chip: Chip) -> Result<Sweeper, Failure> {
+        Ok(Sweeper {
+            alloc,
+            memory: chip.memory(alloc)?,
+            room: vec![in alloc; 0u8; ROOM_BYTES]?,
+            judge: Judge::new(),
+            events: Vec::new(alloc),
+        })
+    }
+
+    /// The events of the last run, up to the first that was answered wrongly.
+    pub fn events(&self) -> &[Event] {
+        let events = self.events.as_slice();
+        events.get(..self.judge.events).unwrap_or(events)
+    }
+
+    /// Runs the fixed script on a new station, with a loss armed before its first event. Where that came, the power comes back,
+    /// and all sectors are read, restored, and read again.
+    pub fn run(&mut self, loss: Loss, back: Return) -> Result<Seen, Failure> {
+        let mut station = started(self.alloc, self.memory.as_slice())?;
+        self.events.clear();
+        self.judge = Judge::new();
+        let Loss { count, kind, mask } = loss;
+        self.play(&mut station, &[Event::Arm { count, kind, mask }])?;
+        self.play(&mut station, &SCRIPT)?;
+        if !self.judge.has_power {
+            self.bring_back(&mut station, mask, back)?;
+            self.play(&mut station, &REREAD)?;
+        }
+        Ok(self.judge.seen)
+    }
+
+    /// The first count of a kind that comes to no loss, found by halving. A wrong answer is passed over.
+    pub fn first_without(&mut self, kind: u8) -> Result<u32, Failure> {
+        let mut lost = 0u32;
+        let mut first = 65_536u32;
+        for _ in 0..16 {
+            let count = lost.midpoint(first);
+            let loss = Loss {
+                count,
+                kind,
+                mask: 0,
+            };
+            match self.run(loss, Return::Whole) {
+                Ok(seen) if seen.losses == 0 => first = count,
+                Ok(_) => lost = count,
+                Err(Failure::Told(_)) => lost = count,
+                Err(failure) => return Err(failure),
+            }
+        }
+        Ok(first)
+    }
+
+    /// The power comes back.
+    fn bring_back(
+        &mut self,
+        station: &mut Station<OnSim>,
+        mask: u8,
+        back: Return,
+    ) -> Result<(), Failure> {
+        match back {
+            Return::Whole => self.play(station, &[Event::Restore]),
+            Return::Second(count) => {
+                self.restore(station, count, mask)?;
+                self.disarm(station, mask)?;
+                if self.judge.has_power {
+                    return Ok(());
+                }
+                self.play(station, &[Event::Restore])
+            }
+            Return::Staircase => self.climb(station, mask),
+        }
+    }
+
+    fn climb(&mut self, station: &mut Station<OnSim>, mask: u8) -> Result<(), Failure> {
+        for count in 1..MOST_RESTORES {
+            self.restore(station, count, mask)?;
+            if self.judge.has_power {
+                return self.disarm(station, mask);
+            }
+        }
+        Err(Failure::Endless)
+    }
+
+    /// A restore with a loss in its change of this number.
+    fn restore(
+        &mut self,
+        station: &mut Station<OnSim>,
+        count: u32,
+        mask: u8,
+    ) -> Result<(), Failure> {
+        self.play(
+            station,
+            &[
+                Event::Arm {
+                    count,
+                    kind: 1,
+                    mask,
+                },
+                Event::Restore,
+            ],
+        )
+    }
+
+    fn disarm(&mut self, station: &mut Station<OnSim>, mask: u8) -> Result<(), Failure> {
+        self.play(
+            station,
+            &[Event::Arm {
+                count: 0,
+                kind: 1,
+                mask,
+            }],
+        )
+    }
+
+    /// Runs events on a station, and judges what is told of them.
+    fn play(&mut self, station: &mut Station<OnSim>, events: &[Event]) -> Result<(), Failure> {
+        let mut script = Vec::new(self.alloc);
+        for event in events {
+            event.add_to(&mut script)?;
+        }
+        if self.events.extend_from_slice(events).is_err() {
+            return Err(Failure::NoMemory);
+        }
+        let told = told(station, script.as_slice(), self.room.as_mut_slice())?;
+        match self.judge.judge(events, told) {
+            Ok(()) => Ok(()),
+            Err(wrong) => Err(Failure::Told(wrong)),
+        }
+    }
+}
