@@ -137,7 +137,7 @@ fn work<L: OneServer, M: Ledger, A: Abort>(
 
 #[test]
 fn a_failing_stream_ends_its_own_connection(rt: HostRuntime) -> Result<(), Fail> {
-    for k in 0..8u32 {
+    for k in 0..34u32 {
         let disk = PlainDisk::new(rt.alloc(), 2)?;
         fail_at::<Brand, Brand, Brand, _>(
             &rt,
@@ -154,7 +154,8 @@ fn a_failing_stream_ends_its_own_connection(rt: HostRuntime) -> Result<(), Fail>
 }
 
 // A connection whose reads fail after `k` good ones, one whose writes do, and one after them whose streams are good: the
-// bytes come in three reads, the end in a fourth, and the replies go out in 1 + 5 + 27 writes of at most 20 bytes.
+// bytes come in three reads, the end in a fourth, and the replies go out in 1 + 5 + 27 writes of at most 20 bytes; 33 good ones are
+// all.
 fn fail_at<L: OneServer, M: Ledger, N: Ledger, A: Abort>(
     rt: &A,
     alloc: Global,
@@ -180,9 +181,10 @@ fn fail_at<L: OneServer, M: Ledger, N: Ledger, A: Abort>(
     let wanted = if k < 4 { End::Input } else { End::EndOfInput };
     assert_eq!(rt; end, wanted, "{k} good reads");
     reader.inner = stream_of(&WHOLE_CONNECTION, u32::MAX);
-    writer.inner = stream_of(&[], k.saturating_mul(4));
+    writer.inner = stream_of(&[], k);
     let end = attend(rt, alloc, &mut server, &mut reader, &mut writer);
-    assert_eq!(rt; end, End::Output, "{k} good writes");
+    let wanted = if k < 33 { End::Output } else { End::EndOfInput };
+    assert_eq!(rt; end, wanted, "{k} good writes");
     reader.inner = stream_of(&WHOLE_CONNECTION, u32::MAX);
     writer.inner = stream_of(&[], u32::MAX);
     let end = attend(rt, alloc, &mut server, &mut reader, &mut writer);

@@ -19,6 +19,8 @@ ghost use Rattle.norbd_line.specs.Line.{IfFormat, IfScript, IfServe, IsConns, Is
 mod formatting;
 mod run;
 mod scripting;
+#[cfg(test)]
+mod serve_tests;
 mod serving;
 #[cfg(test)]
 mod tests;

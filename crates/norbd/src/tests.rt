@@ -280,33 +280,38 @@ fn answers_requests_however_they_are_cut(rt: HostRuntime) -> Result<(), Fail> {
     Ok(())
 }
 
-#[test]
-fn answers_two_hundred_requests_in_order(rt: HostRuntime) -> Result<(), Fail> {
-    let alloc = rt.alloc();
+/// So many FLUSHs with cookies that rise from 0, and their replies without an error.
+fn flushes(alloc: Global, count: u64) -> Result<(Vec<u8>, Vec<u8>), Fail> {
     let mut input = Vec::new(alloc);
     let mut output = Vec::new(alloc);
-    for cookie in 0..200u64 {
+    for cookie in 0..count {
         input.extend_from_slice(&[0x25, 0x60, 0x95, 0x13, 0, 0, 0, 3])?;
         input.extend_from_slice(&cookie.to_be_bytes())?;
         input.extend_from_slice(&[0; 12])?;
         output.extend_from_slice(&[0x67, 0x44, 0x66, 0x98, 0, 0, 0, 0])?;
         output.extend_from_slice(&cookie.to_be_bytes())?;
     }
+    Ok((input, output))
+}
+
+// The largest disk, and a row of each of thousands of commands.
+#[test]
+fn answers_thousands_of_requests_in_order(rt: HostRuntime) -> Result<(), Fail> {
+    let alloc = rt.alloc();
+    let (input, output) = flushes(alloc, 5_000)?;
+    let streams = Streams {
+        room: 80_000,
+        ..cut(usize::MAX, usize::MAX)
+    };
     let expected = Expected {
         output: output.as_slice(),
         fault: "",
     };
-    check(
-        &rt,
-        alloc,
-        Line::Plain {
-            sectors: 1,
-            record: true,
-        },
-        input.as_slice(),
-        cut(usize::MAX, usize::MAX),
-        expected,
-    )
+    for (sectors, record) in [(1, true), (65_536, true), (65_536, false)] {
+        let line = Line::Plain { sectors, record };
+        check(&rt, alloc, line, input.as_slice(), streams, expected)?;
+    }
+    Ok(())
 }
 
 #[test]

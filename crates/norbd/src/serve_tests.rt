@@ -1,0 +1,472 @@
+//! Runs of `serve` on image files, with clients in another thread that send bytes written out by hand from NBD proto.md.
+ghost use Rattle.norbd_line.specs.Line.{IsConns, IsPort};
+
+use crate::serving::{Asked, run_serve};
+use block_device::{Failed, Sink};
+use image::formatted_image;
+use norbd_line::Fault;
+use std::alloc::{Allocator, Global};
+use std::fs::{Metadata, OpenFile, OpenOptions};
+use std::io::{Read, Seek, SeekFrom, Write};
+use std::net::{Ipv4Addr, Net, SocketAddr, TcpListener, TcpStream};
+use std::os::unix::fs::FileExt;
+use std::process::Abort;
+use std::rt::Files;
+use std::sync::Wait;
+use std::sync::atomic::{AtomicU32, Ordering};
+use std::test::*;
+use std::thread::Threads;
+use std::time::{Clock, Duration};
+use std::{fs, io, thread};
+
+/// The client flags, and GO `flash`.
+const NEGOTIATION: [u8; 31] = [
+    0, 0, 0, 3, 0x49, 0x48, 0x41, 0x56, 0x45, 0x4f, 0x50, 0x54, 0, 0, 0, 7, 0, 0, 0, 11, 0, 0, 0,
+    5, 0x66, 0x6c, 0x61, 0x73, 0x68, 0, 0,
+];
+
+/// A text that a run tells.
+#[derive(Drop)]
+struct Told {
+    text: Vec<u8>,
+}
+
+impl Sink for Told {
+    ghost use Rattle.std.specs.Prelude.{None};
+
+    ghost written = { λ told. None };
+
+    ghost faults = { λ told. 0 };
+
+    fn write(&mut self, bytes: &[u8]) -> Result<usize, Failed> {
+        let _ = self.text.extend_from_slice(bytes);
+        Ok(bytes.len())
+    }
+}
+
+/// A file of which so many positioned writes are good; each later one fails.
+#[derive(Drop)]
+struct Worn<'r, F> {
+    file: F,
+    good_writes: &'r AtomicU32,
+}
+
+impl<F: Read> Read for Worn<'_, F> {
+    fn read(&mut self, into: &mut [u8]) -> io::Result<usize> {
+        self.file.read(into)
+    }
+}
+
+impl<F: Write> Write for Worn<'_, F> {
+    fn write(&mut self, bytes: &[u8]) -> io::Result<usize> {
+        self.file.write(bytes)
+    }
+
+    fn flush(&mut self) -> io::Result<()> {
+        self.file.flush()
+    }
+}
+
+impl<F: Seek> Seek for Worn<'_, F> {
+    fn seek(&mut self, to: SeekFrom) -> io::Result<u64> {
+        self.file.seek(to)
+    }
+}
+
+impl<F: OpenFile> OpenFile for Worn<'_, F> {
+    fn metadata(&self) -> io::Result<Metadata> {
+        self.file.metadata()
+    }
+
+    fn set_len(&self, size: u64) -> io::Result<()> {
+        self.file.set_len(size)
+    }
+
+    fn sync_all(&self) -> io::Result<()> {
+        self.file.sync_all()
+    }
+
+    fn sync_data(&self) -> io::Result<()> {
+        self.file.sync_data()
+    }
+}
+
+impl<F: FileExt> FileExt for Worn<'_, F> {
+    fn read_at(&self, into: &mut [u8], offset: u64) -> io::Result<usize> {
+        self.file.read_at(into, offset)
+    }
+
+    fn write_at(&self, bytes: &[u8], offset: u64) -> io::Result<usize> {
+        let left = self.good_writes.load(Ordering::SeqCst);
+        if left == 0 {
+            return Err(io::Error::from(io::ErrorKind::StorageFull));
+        }
+        self.good_writes.store(left - 1, Ordering::SeqCst);
+        self.file.write_at(bytes, offset)
+    }
+}
+
+/// A system whose files are worn.
+#[derive(Drop)]
+struct Wearing<'r, R> {
+    rt: &'r R,
+    good_writes: &'r AtomicU32,
+}
+
+impl<'r, R: Files> Files for Wearing<'r, R> {
+    type File = Worn<'r, R::File>;
+
+    type Dir = R::Dir;
+
+    fn open_file(&self, how: &OpenOptions, path: &str) -> io::Result<Worn<'r, R::File>> {
+        let file = self.rt.open_file(how, path)?;
+        Ok(Worn {
+            file,
+            good_writes: self.good_writes,
+        })
+    }
+
+    fn open_dir(&self, path: &str) -> io::Result<R::Dir> {
+        self.rt.open_dir(path)
+    }
+
+    fn metadata(&self, path: &str) -> io::Result<Metadata> {
+        self.rt.metadata(path)
+    }
+
+    fn symlink_metadata(&self, path: &str) -> io::Result<Metadata> {
+        self.rt.symlink_metadata(path)
+    }
+
+    fn copy(&self, from: &str, to: &str) -> io::Result<u64> {
+        self.rt.copy(from, to)
+    }
+
+    fn rename(&self, from: &str, to: &str) -> io::Result<()> {
+        self.rt.rename(from, to)
+    }
+
+    fn remove_file(&self, path: &str) -> io::Result<()> {
+        self.rt.remove_file(path)
+    }
+
+    fn create_dir(&self, path: &str) -> io::Result<()> {
+        self.rt.create_dir(path)
+    }
+
+    fn remove_dir(&self, path: &str) -> io::Result<()> {
+        self.rt.remove_dir(path)
+    }
+
+    fn remove_dir_all<B: Allocator>(&self, alloc: B, path: &str) -> io::Result<()> {
+        self.rt.remove_dir_all(alloc, path)
+    }
+}
+
+impl<R: AllocGlobal> Alloc for Wearing<'_, R> {
+    type A = Global;
+
+    fn alloc(&self) -> Global {
+        self.rt.alloc()
+    }
+}
+
+impl<R: Threads> Threads for Wearing<'_, R> {}
+
+impl<R: Wait> Wait for Wearing<'_, R> {}
+
+impl<R: Clock> Clock for Wearing<'_, R> {
+    fn monotonic(&self) -> io::Result<Duration> {
+        self.rt.monotonic()
+    }
+
+    fn since_1970(&self) -> io::Result<Duration> {
+        self.rt.since_1970()
+    }
+
+    fn sleep(&self, duration: Duration) {
+        self.rt.sleep(duration)
+    }
+}
+
+impl<R: Net<Listener = TcpListener, Stream = TcpStream>> Net for Wearing<'_, R> {
+    type Stream = TcpStream;
+
+    type Listener = TcpListener;
+
+    fn bind(&self, addr: SocketAddr) -> io::Result<TcpListener> {
+        self.rt.bind(addr)
+    }
+
+    fn connect(&self, addr: SocketAddr) -> io::Result<TcpStream> {
+        self.rt.connect(addr)
+    }
+}
+
+/// What a client asks for, each a READ (0) or a WRITE (1) of a sector, and how many of these are answered. At one that isn't
+/// the connection ends.
+#[derive(Clone, Copy)]
+struct Client<'a> {
+    requests: &'a [(u8, u8)],
+    answered: usize,
+}
+
+/// The head of a request of so many times 256 bytes at a sector; its cookie is 7.
+fn request(kind: u8, sector: u8, pages: u8) -> [u8; 28] {
+    let mut head = [0; 28];
+    head[..4].copy_from_slice(&[0x25, 0x60, 0x95, 0x13]);
+    head[7] = kind;
+    head[15] = 7;
+    head[22] = sector.wrapping_mul(2);
+    head[26] = pages;
+    head
+}
+
+/// The head of its reply without an error.
+const REPLY: [u8; 16] = [0x67, 0x44, 0x66, 0x98, 0, 0, 0, 0, 0, 0, 0, 0, 0, 0, 0, 7];
+
+/// Connects once the server listens: 500 tries, 10 ms apart.
+fn connect<H: Net<Stream = TcpStream> + Clock>(rt: &H, addr: SocketAddr) -> io::Result<TcpStream> {
+    for _try in 0..500u32 {
+        if let Ok(stream) = TcpStream::connect(rt, addr) {
+            return Ok(stream);
+        }
+        thread::sleep(rt, Duration::from_millis(10));
+    }
+    TcpStream::connect(rt, addr)
+}
+
+/// Sends a request, and reads its reply where it is to be answered, and else the end of the connection: whether that came.
+/// Each byte of a sector is 30h and its number.
+fn ask(stream: &mut TcpStream, kind: u8, sector: u8, is_answered: bool) -> io::Result<bool> {
+    let bytes = [0x30u8.wrapping_add(sector); 512];
+    stream.write_all(&request(kind, sector, 2))?;
+    if kind == 1 {
+        stream.write_all(&bytes)?;
+    }
+    let mut reply = [0u8; 16];
+    if !is_answered {
+        return Ok(stream.read(&mut reply)? == 0);
+    }
+    stream.read_exact(&mut reply)?;
+    let mut data = bytes;
+    if kind == 0 {
+        stream.read_exact(&mut data)?;
+    }
+    Ok(reply == REPLY && data == bytes)
+}
+
+/// A whole connection, which ends by DISC where all is answered. Whether all replies were right.
+fn work<H: Net<Stream = TcpStream> + Clock>(
+    rt: &H,
+    addr: SocketAddr,
+    client: Client<'_>,
+) -> io::Result<bool> {
+    let mut stream = connect(rt, addr)?;
+    let mut greeting = [0u8; 18];
+    stream.read_exact(&mut greeting)?;
+    stream.write_all(&NEGOTIATION)?;
+    let mut replies = [0u8; 86];
+    stream.read_exact(&mut replies)?;
+    for (number, (kind, sector)) in client.requests.iter().enumerate() {
+        let is_answered = number < client.answered;
+        if !ask(&mut stream, *kind, *sector, is_answered)? {
+            return Ok(false);
+        }
+        if !is_answered {
+            return Ok(true);
+        }
+    }
+    stream.write_all(&request(2, 0, 0))?;
+    Ok(true)
+}
+
+/// Two clients, one after the other.
+fn work_both<H: Net<Stream = TcpStream> + Clock>(
+    rt: &H,
+    addr: SocketAddr,
+    clients: [Client<'_>; 2],
+) -> io::Result<bool> {
+    let [one, two] = clients;
+    let first = work(rt, addr, one)?;
+    let second = work(rt, addr, two)?;
+    Ok(first && second)
+}
+
+/// A port that nobody listens on: the one that the system gave for port 0.
+fn free_port<H: Net<Listener = TcpListener, Stream = TcpStream>>(rt: &H) -> io::Result<u16> {
+    let listener = TcpListener::bind(rt, SocketAddr::from((Ipv4Addr::LOCALHOST, 0)))?;
+    Ok(listener.local_addr()?.port())
+}
+
+/// What came of a run.
+#[derive(Drop)]
+struct Outcome {
+    port: u16,
+    told: Vec<u8>,
+    done: Result<(), Fault>,
+}
+
+/// Serves an image of 64 KiB to two clients, whose replies have to be right.
+fn serve_two<R>(rt: &R, record: bool, clients: [Client<'_>; 2]) -> Result<Outcome, Fail>
+where
+    R: Files
+        + AllocGlobal
+        + Threads
+        + Wait
+        + Sync
+        + Clock
+        + Net<Listener = TcpListener, Stream = TcpStream>,
+    R::File: FileExt + Send,
+{
+    let port = free_port(rt)?;
+    let addr = SocketAddr::from((Ipv4Addr::LOCALHOST, port));
+    if port == 0 {
+        return Err(Fail::from("no port"));
+    }
+    let asked = Asked {
+        port: u32::from(port),
+        conns: 2,
+        record,
+    };
+    let mut told = Told {
+        text: Vec::new(rt.alloc()),
+    };
+    let hears = &mut told;
+    let (met, done) = thread::join(
+        rt,
+        move || work_both(rt, addr, clients),
+        move || -> Result<(), Fault>
+            requires { IsPort asked.port × IsConns asked.conns }
+        { run_serve(rt, "served.img", asked, hears) },
+    );
+    if !met? {
+        return Err(Fail::from("another reply"));
+    }
+    Ok(Outcome {
+        port,
+        told: told.text,
+        done,
+    })
+}
+
+/// Compares what was told after the first line, and the fault, whose status is 1.
+fn compare<H: Abort + AllocGlobal>(
+    rt: &H,
+    outcome: Outcome,
+    last: &str,
+    fault: &str,
+) -> Result<(), Fail> {
+    let port = outcome.port;
+    let lines = format!(in rt.alloc(); "serving 70 sectors on port {port}\n{last}")?;
+    assert_eq!(rt; outcome.told.as_slice(), lines.as_bytes());
+    let text = text_of(rt, outcome.done)?;
+    assert_eq!(rt; text.as_str(), fault);
+    Ok(())
+}
+
+/// The text of a fault with status 1, or none.
+fn text_of<H: Abort + AllocGlobal>(rt: &H, done: Result<(), Fault>) -> Result<String, Fail> {
+    match done {
+        Ok(()) => Ok(String::new(rt.alloc())),
+        Err(fault) => {
+            assert_eq!(rt; fault.status(), 1);
+            Ok(format!(in rt.alloc(); "{fault}")?)
+        }
+    }
+}
+
+/// Makes the file the image of a formatted chip of 64 KiB, with a byte of it set.
+fn make<H: Files + AllocGlobal>(rt: &H, at: usize, byte: u8) -> Result<(), Fail> {
+    let Ok(mut image) = formatted_image(rt.alloc(), 64) else {
+        return Err(Fail::from("no image"));
+    };
+    if let Some(place) = image.get_mut(at) {
+        *place = byte;
+    }
+    Ok(fs::write(rt, "served.img", image.as_slice())?)
+}
+
+#[test]
+fn serves_two_clients_and_counts_their_rows(rt: HostRuntime) -> Result<(), Fail> {
+    make(&rt, 0, 0x4E)?;
+    let clients = [
+        Client {
+            requests: &[(1, 1), (0, 1)],
+            answered: 2,
+        },
+        Client {
+            requests: &[(1, 2), (0, 2)],
+            answered: 2,
+        },
+    ];
+    for (record, last) in [
+        (true, "served 2 connections\nrecorded 4 rows\n"),
+        (false, "served 2 connections\n"),
+    ] {
+        compare(&rt, serve_two(&rt, record, clients)?, last, "")?;
+    }
+    Ok(fs::remove_file(&rt, "served.img")?)
+}
+
+// The first WRITE of a sector makes four writes of the file: its descriptor, two pages, the commit.
+#[test]
+fn a_failed_write_of_the_image_takes_all_later_commands(rt: HostRuntime) -> Result<(), Fail> {
+    for good in 0..8u32 {
+        make(&rt, 0, 0x4E)?;
+        let good_writes = AtomicU32::new(good);
+        let wearing = Wearing {
+            rt: &rt,
+            good_writes: &good_writes,
+        };
+        let clients = [
+            Client {
+                requests: &[(1, 1), (1, 2)],
+                answered: good as usize / 4,
+            },
+            Client {
+                requests: &[(0, 1)],
+                answered: 0,
+            },
+        ];
+        compare(
+            &rt,
+            serve_two(&wearing, false, clients)?,
+            "",
+            "image failed",
+        )?;
+        assert_eq!(rt; good_writes.load(Ordering::SeqCst), 0);
+    }
+    Ok(fs::remove_file(&rt, "served.img")?)
+}
+
+#[test]
+fn files_that_hold_no_disk_are_refused_and_left(rt: HostRuntime) -> Result<(), Fail> {
+    let asked = Asked {
+        port: 1,
+        conns: 1,
+        record: false,
+    };
+    for (length, at, byte, fault) in [
+        (65_536, 0, 0x00, "not formatted"),
+        (70_000, 0, 0x00, "bad image size"),
+        (0, 0x2400, 0x55, "corrupt"),
+    ] {
+        let mut wanted = vec![in rt.alloc(); 0u8; length]?;
+        if length == 0 {
+            make(&rt, at, byte)?;
+            wanted = fs::read(&rt, "served.img")?;
+        } else {
+            fs::write(&rt, "served.img", wanted.as_slice())?;
+        }
+        let mut told = Told {
+            text: Vec::new(rt.alloc()),
+        };
+        let text = text_of(&rt, run_serve(&rt, "served.img", asked, &mut told))?;
+        assert_eq!(rt; text.as_str(), fault);
+        assert!(rt; told.text.is_empty(), "{fault}");
+        let left = fs::read(&rt, "served.img")?;
+        assert!(rt; left.as_slice() == wanted.as_slice(), "{fault}");
+    }
+    Ok(fs::remove_file(&rt, "served.img")?)
+}
