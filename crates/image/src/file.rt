@@ -11,6 +11,10 @@ use std::{fs, io};
 /// How many names beside an image are tried for the new file.
 const NAMES: u32 = 100;
 
+/// How many bytes are written at once. Some file systems keep what is written at once in one piece in memory, and then go
+/// through all of it for each page that a server writes there later.
+const PIECE_LEN: usize = 4_096;
+
 /// Makes these bytes the file at a path; one that is there is replaced as a whole, and a link to it stays.
 ///
 /// They are written to a new file in the same folder, PATH.0.new or the first such name that isn't taken, which gets the
@@ -113,6 +117,14 @@ fn fill<F: Write + OpenFile + Drop>(
     if let Some(permissions) = permissions {
         file.set_permissions(permissions)?;
     }
-    file.write_all(bytes)?;
+    write_pieces(&mut file, bytes)?;
     file.sync_all()
+}
+
+/// Writes the bytes in pieces.
+fn write_pieces<F: Write>(file: &mut F, bytes: &[u8]) -> io::Result<()> {
+    for piece in bytes.chunks(PIECE_LEN) {
+        file.write_all(piece)?;
+    }
+    Ok(())
 }

@@ -137,7 +137,7 @@ where
     C: Recorder + Send + Drop,
     K: Sink,
     requires numbers { IsPort asked.port × IsConns asked.conns }
-    ensures { TellsServing asked.port asked.conns asked.record (K.written writer.old) (K.faults writer.old) result
+    ensures { TellsServing asked.port asked.conns C.KEEPS (K.written writer.old) (K.faults writer.old) result
         (K.written writer.new) (K.faults writer.new) }
 {
     let alloc = rt.alloc();
@@ -163,7 +163,7 @@ where
     let Some(rows) = server.into_inner().total(served.passes) else {
         return Err(Fault::NoThread);
     };
-    let last = ended_text(alloc, asked.conns, asked.record, rows);
+    let last = ended_text(alloc, asked.conns, C::KEEPS, rows);
     tell(writer, last)
 }
 

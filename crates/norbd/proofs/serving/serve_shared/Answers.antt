@@ -1,5 +1,6 @@
-use Rattle.std.proofs.Common.{subst, sym, Err}
-use Rattle.norbd.specs.Listening.{TellsServing}
+use Rattle.std.proofs.Common.{◌≡◌, IfOk, subst, sym, Err}
+use Rattle.std.specs.String.{string_bytes}
+use Rattle.norbd.specs.Listening.{TellsServing, ended_text}
 use Rattle.norbd.proofs.Telling.{begun, ended, first-failed, serving-failed, silent}
 use Rattle.norbd_line.specs.declared.fault.Fault.{Fault}
 use Rattle.norbd.proofs.serving.serve_shared.Goals as goal
@@ -8,12 +9,12 @@ pub returns-in-Err : goal.returns-in-Err
 returns-in-Err g c =
     let old = g.K.Sink.written c.args.writer.now in
     let f = g.K.Sink.faults c.args.writer.now in
-    let P : Fault → Type 0 = λ x. TellsServing {T = Unit {0}} c.args.asked.port c.args.asked.conns c.args.asked.record old f (Err x) old f in
-    subst P (sym c.told_of_serving.ensures) (serving-failed (Unit {0}) c.args.asked.port c.args.asked.conns c.args.asked.record old old f f c.in-Err.fault (silent c.args.asked.port old f))
+    let P : Fault → Type 0 = λ x. TellsServing {T = Unit {0}} c.args.asked.port c.args.asked.conns g.C.Recorder.KEEPS old f (Err x) old f in
+    subst P (sym c.told_of_serving.ensures) (serving-failed (Unit {0}) c.args.asked.port c.args.asked.conns g.C.Recorder.KEEPS old old f f c.in-Err.fault (silent c.args.asked.port old f))
 
 pub returns-in-Err-tell : goal.returns-in-Err-tell
 returns-in-Err-tell g c =
-    first-failed (Unit {0}) c.serving_text-first.result c.args.asked.port c.args.asked.conns c.args.sectors c.args.asked.record
+    first-failed (Unit {0}) c.serving_text-first.result c.args.asked.port c.args.asked.conns c.args.sectors g.C.Recorder.KEEPS
     (g.K.Sink.written c.args.writer.now) (g.K.Sink.written c.tell.new.writer) (g.K.Sink.faults c.args.writer.now) (g.K.Sink.faults c.tell.new.writer)
     c.in-Err-tell.fault c.serving_text-first.ensures c.in-Err-tell.ensures
 
@@ -23,9 +24,9 @@ returns-in-Err-serve g c =
     let f = g.K.Sink.faults c.args.writer.now in
     let new = g.K.Sink.written c.tell.new.writer in
     let z = g.K.Sink.faults c.tell.new.writer in
-    let P : Fault → Type 0 = λ x. TellsServing {T = Unit {0}} c.args.asked.port c.args.asked.conns c.args.asked.record old f (Err x) new z in
+    let P : Fault → Type 0 = λ x. TellsServing {T = Unit {0}} c.args.asked.port c.args.asked.conns g.C.Recorder.KEEPS old f (Err x) new z in
     subst P (sym c.told_of_serving-in-Err-serve.ensures)
-    (serving-failed (Unit {0}) c.args.asked.port c.args.asked.conns c.args.asked.record old new f z c.in-Err-serve.fault (begun c.serving_text-first.result c.args.asked.port c.args.sectors old new f z c.serving_text-first.ensures c.in_default-tell.ensures))
+    (serving-failed (Unit {0}) c.args.asked.port c.args.asked.conns g.C.Recorder.KEEPS old new f z c.in-Err-serve.fault (begun c.serving_text-first.result c.args.asked.port c.args.sectors old new f z c.serving_text-first.ensures c.in_default-tell.ensures))
 
 pub returns-in_default-total : goal.returns-in_default-total
 returns-in_default-total g c =
@@ -34,7 +35,8 @@ returns-in_default-total g c =
 
 pub returns : goal.returns
 returns g c =
-    ended c.serving_text-first.result c.ended_text-last.result c.args.asked.port c.args.asked.conns c.args.sectors c.in-Some.rows c.args.asked.record
+    let last-is = subst (λ k. IfOk c.ended_text-last.result (λ t. string_bytes t ≡ ended_text k c.args.asked.conns c.in-Some.rows)) c.KEEPS.ensures c.ended_text-last.ensures in
+    ended c.serving_text-first.result c.ended_text-last.result c.args.asked.port c.args.asked.conns c.args.sectors c.in-Some.rows g.C.Recorder.KEEPS
     (g.K.Sink.written c.args.writer.now) (g.K.Sink.written c.tell.new.writer) (g.K.Sink.written c.tell-2.new.writer)
     (g.K.Sink.faults c.args.writer.now) (g.K.Sink.faults c.tell.new.writer) (g.K.Sink.faults c.tell-2.new.writer) c.tell-2.result
-    c.serving_text-first.ensures c.ended_text-last.ensures c.in_default-tell.ensures c.tell-2.ensures
+    c.serving_text-first.ensures last-is c.in_default-tell.ensures c.tell-2.ensures
