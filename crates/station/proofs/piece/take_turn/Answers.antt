@@ -1,4 +1,7 @@
-use Rattle.std.proofs.Common.{◌≡◌, ℕ, refl, ◌∙◌, ap, sym, subst}
+use Rattle.std.proofs.Common.{◌≡◌, ◌<◌, ℕ, [], true, refl, ◌∙◌, ap, sym, subst, inl, inr}
+use Rattle.std.proofs.KnownBytes.{Appends-nil}
+use Rattle.std.proofs.lemmas.Bool.{false≢true}
+use Rattle.nbd_wire.specs.Commands.{moves_data}
 use Rattle.nbd_wire.specs.declared.phase.Phase.TheVariants.{AwaitingFlags}
 use Rattle.session.specs.Lent.{payload_in}
 use Rattle.session.specs.Line.{IsRunning, reply_of, room_of}
@@ -50,3 +53,29 @@ returns-in_err-tell-in-Ok-clause-halts g c = λ quiet. on_err c.from_residual-in
 pub run_command-requires-clause-running : goal.run_command-requires-clause-running
 run_command-requires-clause-running g c =
     subst (λ n. IsRunning n c.in-Run.command c.take-taken.new.self) (sym c.take-taken.ensures.sectors) (rw c.in-Run.is at c.take-taken.ensures.ready)
+
+pub returns-in-Err-Cut-clause-says : goal.returns-in-Err-Cut-clause-says
+returns-in-Err-Cut-clause-says g c = λ quiet.
+    let stands = rw c.in-Err-Cut.field-0-is at c.in-Err-Cut.ensures.stands in
+    let old = g.D.Disk.facts c.args.disk.now in
+    let new = g.D.Disk.facts c.run_command.new.disk in
+    let moves : (moves_data c.in-Run.command.kind ≡ true) × (old.cuts < new.cuts) = elim stands.0 [ | inl h ↦ absurd (false≢true (sym quiet.cut ∙ h)) | inr h ↦ h ] in
+    record {
+      power = (stands.1, moves.1);
+      slow = stands.2 ∙ quiet.slow;
+      says = λ text serves.
+          let n = c.args.session.now.sectors in
+          let command = c.in-Run.command in
+          let payload = payload_in command (room_of c.take-taken.new.self) in
+          let x = rw c.in-Run.is at (c.take-taken.ensures.says AwaitingFlags text serves.0 serves.1) in
+          let ready = rw c.in-Run.is at c.take-taken.ensures.ready in
+          let left = rw c.in-Err-Cut.field-0-is at (c.in-Err-Cut.ensures.contents quiet.sound) in
+          ([], Appends-nil _, record {
+            command = command;
+            payload = payload;
+            parts_are = x.0;
+            moves = moves.0;
+            out_is = refl;
+            outcome = rw ready.accepted left;
+          });
+    }
