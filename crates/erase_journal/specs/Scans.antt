@@ -1,4 +1,4 @@
--- What a scan of a buffer counts and finds.
+-- What a scan of a buffer counts and finds. Source: own.
 use Rattle.std.specs.Prelude.{◌≡◌, ◌≢◌, ℕ, ◌+◌, ◌*◌, ◌<◌, Bool, true, false, not, List, [], ◌∷◌, Option, MatchOption, ◌==◌, ◌||◌, ◌&&◌}
 use Rattle.chip_model.specs.Memory.{byte}
 use Rattle.nor_layout.specs.Entries.{is_open}

@@ -1,4 +1,4 @@
--- The chip that a simulator stands for, and what it was armed for.
+-- The chip that a simulator stands for, and what it was armed for. Source: own.
 use Rattle.std.specs.Prelude.{◌≡◌, ◌⊎◌, ℕ, false, true, List, length}
 use Rattle.chip_model.specs.Chip.{Chip, Operation, Idle, completed}
 use Rattle.chip_model.specs.Frames.{Answers, Status1, with_polls, one_more}

@@ -1,4 +1,4 @@
--- What a command does to the contents of a disk, and what it is answered (NBD proto.md, simple replies).
+-- What a command does to the contents of a disk, and what it is answered. Source: NBD proto.md, simple replies; own is the list of bytes.
 -- Contents are one list of bytes, 512 for each sector.
 use Rattle.std.specs.Prelude.{◌≡◌, ◌⊎◌, ℕ, ◌+◌, List, [], ◌∷◌, ◌++◌, length, take, drop, Bool, true, false, Option, Some, None, if◌then◌else◌}
 use Rattle.nbd_wire.specs.declared.command.Command.{Command}

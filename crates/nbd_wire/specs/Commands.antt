@@ -1,4 +1,4 @@
--- Commands, and which of them are refused.
+-- Commands, and which of them are refused. Source: NBD proto.md; own are the limit of 65,536 bytes and the order of the checks.
 use Rattle.std.specs.Prelude.{ℕ, ◌+◌, ◌*◌, ◌%◌, ◌==◌, ◌&&◌, ◌||◌, not, Bool, true, false, nat_lt, List, [], ◌∷◌, Option, Some, None, if◌then◌else◌}
 use Rattle.std.specs.Int.RustNames.{bit_and}
 use Rattle.nbd_wire.specs.declared.constants.TheConstants.{CMD_READ, CMD_WRITE, CMD_DISC, CMD_FLUSH, EINVAL, ENOSPC, SECTOR_LEN, MAX_LEN}

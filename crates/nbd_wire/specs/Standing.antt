@@ -1,5 +1,5 @@
 -- For which texts of a connection a parser stands that takes them piece by piece: it keeps the first bytes of the unit begun and a
--- count, and never the text (own).
+-- count, and never the text (own). Source: own.
 use Rattle.std.specs.Prelude.{ℕ, ◌≡◌, List, [], length, take}
 use Rattle.nbd_wire.specs.declared.phase.Phase.{Phase}
 use Rattle.nbd_wire.specs.declared.phase.Phase.TheVariants.{Closed}

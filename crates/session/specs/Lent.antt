@@ -1,4 +1,5 @@
 -- The bytes that are lent to a command: a WRITE's payload, or the room for a READ's data; and the reply that is made of them.
+-- Source: own.
 use Rattle.std.specs.Prelude.{ℕ, ◌≡◌, ◌==◌, ◌++◌, false, List, [], Option, Some, None, if◌then◌else◌}
 use Rattle.nbd_wire.specs.declared.command.Command.{Command}
 use Rattle.nbd_wire.specs.declared.command.CommandKind.{CommandKind}

@@ -1,5 +1,5 @@
 -- What becomes of a connection: the parts of its text are answered one after another through a door.
--- `step` is what one command through the door does (`through`), `passes` what the gate says of the points passed.
+-- `step` is what one command through the door does (`through`), `passes` what the gate says of the points passed. Source: own.
 use Rattle.std.specs.Prelude.{◌≡◌, ◌⊎◌, ℕ, ◌+◌, ◌-◌, ◌*◌, ◌^◌, ◌<◌, ◌≤◌, List, [], ◌∷◌, ◌++◌, length, Bool, true, false, Option, Some, None}
 use Rattle.std.specs.Io.KnownBytes.{Appends, Consumes, IsAtEnd}
 use Rattle.nbd_wire.specs.declared.command.Command.{Command}

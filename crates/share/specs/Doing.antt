@@ -1,4 +1,4 @@
--- What one `execute` does.
+-- What one `execute` does. Source: own.
 use Rattle.std.specs.Prelude.{◌≡◌, ◌⊎◌, ℕ, ◌+◌, ◌<◌, List, [], length, Bool, true, false, Some, if◌then◌else◌, Result, OnOk, IsErrOf}
 use Rattle.block_device.specs.declared.disk.DiskError.{DiskError}
 use Rattle.block_device.specs.declared.disk.DiskError.TheVariants.{Cut, Slow}

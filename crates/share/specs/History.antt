@@ -1,4 +1,4 @@
--- Rows of commands that ran one after another on one disk, and when they are a legal history.
+-- Rows of commands that ran one after another on one disk, and when they are a legal history. Source: own.
 use Rattle.std.specs.Prelude.{◌≡◌, ◌⊎◌, ℕ, ◌==◌, ◌||◌, List, [], ◌∷◌, ◌++◌, length, Bool, true, Option, Some, None, if◌then◌else◌}
 use Rattle.block_device.specs.Contents.{Outcome}
 use Rattle.nbd_wire.specs.declared.command.Command.{Command}

@@ -1,4 +1,4 @@
--- The bytes that are lent to a command: a WRITE's payload, or the room for a READ's data.
+-- The bytes that are lent to a command: a WRITE's payload, or the room for a READ's data. Source: own.
 use Rattle.std.specs.Prelude.{ℕ, ◌==◌, List, [], Bool, true, false, if◌then◌else◌}
 use Rattle.nbd_wire.specs.declared.command.Command.{Command}
 use Rattle.nbd_wire.specs.declared.command.CommandKind.{CommandKind}

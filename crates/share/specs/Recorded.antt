@@ -1,4 +1,4 @@
--- What contracts see of a full record.
+-- What contracts see of a full record. Source: own.
 use Rattle.std.specs.Prelude.{ℕ, List, Option}
 use Rattle.share.specs.declared.recorder.Row.{Row}
 use Rattle.share.specs.declared.recorder.Interrupted.{Interrupted}

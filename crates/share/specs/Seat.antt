@@ -1,4 +1,4 @@
--- What contracts see of a pass.
+-- What contracts see of a pass. Source: own.
 use Rattle.std.specs.Prelude.{ℕ}
 
 -- the connection's number, and how many rows the pass added

@@ -1,4 +1,4 @@
--- What contracts see of a server, and what its rows say of its disk.
+-- What contracts see of a server, and what its rows say of its disk. Source: own.
 use Rattle.std.specs.Prelude.{◌≡◌, ℕ, List, Bool, true, false, Option, None}
 use Rattle.block_device.specs.Facts.{Facts}
 use Rattle.nbd_wire.specs.declared.command.Command.{Command}

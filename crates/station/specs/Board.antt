@@ -1,4 +1,4 @@
--- What contracts see of a station, and for which worlds it stands.
+-- What contracts see of a station, and for which worlds it stands. Source: own.
 use Rattle.std.specs.Prelude.{◌≡◌, ◌*◌, length, replicate, ℕ, Bool, true, false, not, List, [], ◌∷◌, map, Option, None, Some}
 use Rattle.block_device.specs.Facts.{Facts}
 use Rattle.nbd_wire.specs.declared.phase.Phase.TheVariants.{AwaitingFlags}

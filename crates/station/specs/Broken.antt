@@ -1,4 +1,4 @@
--- What is written where the output fails.
+-- What is written where the output fails. Source: own.
 use Rattle.std.specs.Prelude.{◌≡◌, ◌⊎◌, ◌<◌, length, ℕ, List, ◌∷◌, ◌++◌, MatchOption}
 use Rattle.session.specs.Parts.{Part}
 use Rattle.station.specs.declared.event.Event.{Event}

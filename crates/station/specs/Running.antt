@@ -1,4 +1,4 @@
--- What a run of a station says.
+-- What a run of a station says. Source: own.
 use Rattle.std.specs.Prelude.{◌≡◌, ℕ, ◌<◌, List, Option, Result, Ok, Err}
 use Rattle.std.specs.Io.KnownBytes.{Appends}
 use Rattle.station.specs.declared.event.Event.{Event}

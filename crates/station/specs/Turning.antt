@@ -1,4 +1,4 @@
--- What one unit, and one piece, of a connection does: the layer below an event.
+-- What one unit, and one piece, of a connection does: the layer below an event. Source: own.
 use Rattle.std.specs.Prelude.{◌≡◌, ◌⊎◌, ℕ, ◌<◌, ◌≤◌, Bool, true, false, List, [], ◌∷◌, ◌++◌, length, Option, Result, Ok, Err}
 use Rattle.std.specs.Io.KnownBytes.{Appends}
 use Rattle.block_device.specs.declared.disk.DiskError.{DiskError}
