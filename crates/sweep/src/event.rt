@@ -36,16 +36,18 @@ pub enum Event {
     Flags,
     /// Its option GO comes.
     Go,
-    /// A WRITE of so many sectors from one on comes, with this value in each of their bytes.
-    Write { first: u32, count: u32, value: u8 },
-    /// A READ of so many sectors from one on comes.
-    Read { first: u32, count: u32 },
+    /// The client is gone, and these three follow.
+    Start,
+    /// A WRITE comes: from which sector on, how many, and the value of each of their bytes.
+    Write(u32, u32, u8),
+    /// A READ comes: from which sector on, and how many.
+    Read(u32, u32),
     /// The disk is tidied.
     Tidy,
     /// The power is turned on.
     Restore,
-    /// A loss of power is armed: what counts, up to which one, and the mask.
-    Arm { count: u32, kind: u8, mask: u8 },
+    /// A loss of power is armed: the count, the kind and the mask.
+    Arm(u32, u8, u8),
 }
 
 /// The head of a record: the event, the connection, and how many bytes follow.
@@ -82,37 +84,32 @@ fn add_write(script: &mut Vec<u8>, first: u32, count: u32, value: u8) -> Result<
     script.resize(len, value)
 }
 
+/// Adds the records of an open connection, its flags and its GO to a script.
+fn add_start(script: &mut Vec<u8>) -> Result<(), AllocError> {
+    add(script, b'O', 0, &[])?;
+    add(script, b'P', 0, &FLAGS)?;
+    add(script, b'P', 0, &GO)
+}
+
 impl Event {
-    /// Adds the event's record to a script.
+    /// Adds the event's records to a script.
     pub fn add_to(self, script: &mut Vec<u8>) -> Result<(), AllocError> {
         match self {
             Event::Open => add(script, b'O', 0, &[]),
             Event::Flags => add(script, b'P', 0, &FLAGS),
             Event::Go => add(script, b'P', 0, &GO),
-            Event::Write {
-                first,
-                count,
-                value,
-            } => add_write(script, first, count, value),
-            Event::Read { first, count } => {
-                add(script, b'P', 0, &request_head(READ, first, count))
+            Event::Start => {
+                add(script, b'G', 0, &[])?;
+                add_start(script)
             }
+            Event::Write(first, count, value) => add_write(script, first, count, value),
+            Event::Read(first, count) => add(script, b'P', 0, &request_head(READ, first, count)),
             Event::Tidy => add(script, b'T', NO_ONE, &[]),
             Event::Restore => add(script, b'R', NO_ONE, &[]),
-            Event::Arm { count, kind, mask } => {
+            Event::Arm(count, kind, mask) => {
                 let [a, b, c, d] = count.to_be_bytes();
                 add(script, b'C', NO_ONE, &[a, b, c, d, kind, mask])
             }
-        }
-    }
-
-    /// The connection that the event's records name.
-    pub fn who(self) -> u8 {
-        match self {
-            Event::Tidy => NO_ONE,
-            Event::Restore => NO_ONE,
-            Event::Arm { .. } => NO_ONE,
-            _ => 0,
         }
     }
 }

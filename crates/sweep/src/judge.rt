@@ -9,6 +9,15 @@ const DONE: [u8; 6] = [0, b'A', 0, 0, 0, 0];
 /// The record that ends an event of no connection.
 const ALL_DONE: [u8; 6] = [0xFF, b'A', 0, 0, 0, 0];
 
+/// The record of an event of connection 0 that isn't open.
+const ABSENT: [u8; 6] = [0, b'N', 0, 0, 0, 0];
+
+/// The record of an event of connection 0 that the power was lost in, or off for.
+const LOST: [u8; 6] = [0, b'L', 0, 0, 0, 0];
+
+/// The same of an event of no connection.
+const ALL_LOST: [u8; 6] = [0xFF, b'L', 0, 0, 0, 0];
+
 /// The records of a connection that was opened: the greeting.
 const GREETED: [u8; 30] = [
     0, b'D', 0, 0, 0, 18, 0x4E, 0x42, 0x44, 0x4D, 0x41, 0x47, 0x49, 0x43, 0x49, 0x48, 0x41, 0x56,
@@ -32,15 +41,43 @@ const WRITTEN: [u8; 28] = [
     0, 0, 0,
 ];
 
-/// A sector, all of whose bytes are one: which one it was, and which one a WRITE that was interrupted was to make it.
+/// A sector: the value of all its bytes when it was last known, and a bit for each value that they may all have now.
 #[derive(Clone, Copy)]
 struct Sector {
-    old: u8,
-    new: u8,
+    known: u8,
+    values: [u64; 4],
+}
+
+impl Sector {
+    /// A sector that is known.
+    fn holding(value: u8) -> Sector {
+        let mut sector = Sector {
+            known: value,
+            values: [0; 4],
+        };
+        sector.add(value);
+        sector
+    }
+
+    /// It may have this value, too.
+    fn add(&mut self, value: u8) {
+        self.values[(value / 64) as usize] |= 1 << (value % 64);
+    }
+
+    /// Whether it may have this value.
+    fn may_be(&self, value: u8) -> bool {
+        self.values[(value / 64) as usize] >> (value % 64) & 1 == 1
+    }
+
+    /// Whether it has one of several values.
+    fn is_open(&self) -> bool {
+        let known = Sector::holding(self.known);
+        self.values != known.values
+    }
 }
 
 /// What a judge has seen.
-#[derive(Clone, Copy)]
+#[derive(Clone, Copy, Debug)]
 pub struct Seen {
     /// The losses of power.
     pub losses: u32,
@@ -69,6 +106,7 @@ pub enum Wrong {
 pub struct Judge {
     sectors: [Sector; 70],
     pub has_power: bool,
+    is_open: bool,
     is_armed: bool,
     /// How many events were judged; the last of them where one is answered wrongly.
     pub events: usize,
@@ -102,8 +140,9 @@ impl Judge {
     /// The power is on, nothing is armed, and all sectors are zeros.
     pub fn new() -> Judge {
         Judge {
-            sectors: [Sector { old: 0, new: 0 }; 70],
+            sectors: [Sector::holding(0); 70],
             has_power: true,
+            is_open: false,
             is_armed: false,
             events: 0,
             seen: Seen {
@@ -131,11 +170,16 @@ impl Judge {
 
     /// Judges what is told of an event, and gives what is told after it.
     fn follow<'a>(&mut self, event: Event, told: &'a [u8]) -> Result<&'a [u8], Wrong> {
-        if let Event::Arm { count, .. } = event {
-            self.is_armed = count > 0;
-            return Ok(told);
-        }
-        if let Some(rest) = after(told, &[event.who(), b'L', 0, 0, 0, 0]) {
+        let lost = match event {
+            Event::Arm(count, _, _) => {
+                self.is_armed = count > 0;
+                return Ok(told);
+            }
+            Event::Start => return self.start(told).ok_or(Wrong::Answer),
+            Event::Tidy | Event::Restore => ALL_LOST,
+            _ => LOST,
+        };
+        if let Some(rest) = after(told, &lost) {
             self.lose(event)?;
             return Ok(rest);
         }
@@ -145,18 +189,28 @@ impl Judge {
         self.answer(event, told)
     }
 
+    /// Judges what is told of a client that is gone and comes again, which sends nothing to the chip.
+    fn start<'a>(&mut self, told: &'a [u8]) -> Option<&'a [u8]> {
+        if !self.has_power {
+            let rest = after(after(told, &LOST)?, &LOST)?;
+            return after(after(rest, &LOST)?, &LOST);
+        }
+        let rest = after(told, if self.is_open { &DONE } else { &ABSENT })?;
+        self.is_open = true;
+        let rest = after(after(rest, &GREETED)?, &DONE)?;
+        after(rest, &WENT)
+    }
+
     /// The power was lost in an event, or was off.
     fn lose(&mut self, event: Event) -> Result<(), Wrong> {
         if !self.has_power && !matches!(event, Event::Restore) {
             return Ok(());
         }
         match event {
-            Event::Write {
-                first,
-                count,
-                value,
-            } => self.write(first, count, value, false),
-            Event::Read { .. } => {}
+            Event::Write(first, count, value) if self.is_open => {
+                self.write(first, count, value, false)
+            }
+            Event::Read(_, _) if self.is_open => {}
             Event::Tidy => {}
             Event::Restore => self.seen.lost_restores = self.seen.lost_restores.wrapping_add(1),
             _ => return Err(Wrong::Loss),
@@ -166,6 +220,7 @@ impl Judge {
         }
         self.seen.losses = self.seen.losses.wrapping_add(1);
         self.has_power = false;
+        self.is_open = false;
         self.is_armed = false;
         Ok(())
     }
@@ -173,24 +228,24 @@ impl Judge {
     /// Judges what is told of an event that came to its end.
     fn answer<'a>(&mut self, event: Event, told: &'a [u8]) -> Result<&'a [u8], Wrong> {
         let rest = match event {
-            Event::Open => after(told, &GREETED),
-            Event::Flags => after(told, &DONE),
-            Event::Go => after(told, &WENT),
-            Event::Write {
-                first,
-                count,
-                value,
-            } => {
-                self.write(first, count, value, true);
-                after(told, &WRITTEN)
+            Event::Open => {
+                self.is_open = true;
+                after(told, &GREETED)
             }
-            Event::Read { first, count } => return self.read(first, count, told),
             Event::Tidy => after(told, &ALL_DONE),
             Event::Restore => {
                 self.has_power = true;
                 after(told, &ALL_DONE)
             }
-            Event::Arm { .. } => Some(told),
+            _ if !self.is_open => after(told, &ABSENT),
+            Event::Flags => after(told, &DONE),
+            Event::Go => after(told, &WENT),
+            Event::Write(first, count, value) => {
+                self.write(first, count, value, true);
+                after(told, &WRITTEN)
+            }
+            Event::Read(first, count) => return self.read(first, count, told),
+            _ => None,
         };
         rest.ok_or(Wrong::Answer)
     }
@@ -199,10 +254,11 @@ impl Judge {
     fn write(&mut self, first: u32, count: u32, value: u8, is_whole: bool) {
         for k in 0..70u32 {
             if k >= first && k - first < count {
+                let sector = &mut self.sectors[k as usize];
                 if is_whole {
-                    self.sectors[k as usize].old = value;
+                    *sector = Sector::holding(value);
                 }
-                self.sectors[k as usize].new = value;
+                sector.add(value);
             }
         }
     }
@@ -224,19 +280,21 @@ impl Judge {
     fn find(&mut self, first: u32, data: &[u8]) -> Result<(), Wrong> {
         let mut k = first as usize;
         for bytes in data.chunks(512) {
-            let Some(sector) = self.sectors.get_mut(k) else {
+            let (Some(sector), Some(value)) = (self.sectors.get_mut(k), bytes.first()) else {
                 return Err(Wrong::Sector);
             };
-            let is_open = sector.old != sector.new;
-            if consists_of(bytes, sector.old) {
-                sector.new = sector.old;
-                self.seen.olds = self.seen.olds.wrapping_add(u32::from(is_open));
-            } else if consists_of(bytes, sector.new) {
-                sector.old = sector.new;
-                self.seen.news = self.seen.news.wrapping_add(u32::from(is_open));
-            } else {
+            let value = *value;
+            if !consists_of(bytes, value) || !sector.may_be(value) {
                 return Err(Wrong::Sector);
             }
+            let is_old = value == sector.known;
+            if sector.is_open() && is_old {
+                self.seen.olds = self.seen.olds.wrapping_add(1);
+            }
+            if sector.is_open() && !is_old {
+                self.seen.news = self.seen.news.wrapping_add(1);
+            }
+            *sector = Sector::holding(value);
             k = k.saturating_add(1);
         }
         Ok(())

@@ -2,8 +2,8 @@
 //! the recovery after it, on a simulated chip of 64 KiB.
 //!
 //! With the word `run`, and perhaps the name of one chip, it sweeps, tells on standard error how far it has come, and prints a
-//! table. Where an answer is wrong it prints the script that shows it as lines of bash (docs/SCRIPT.md), and ends with
-//! status 1. Without words it prints one fixed line. `tests` is the whole sweep, for the gate.
+//! table. With the word `random` it runs scripts of random events. Where an answer is wrong it prints the script that shows it as
+//! lines of bash (docs/SCRIPT.md), a random one shortened, and ends with status 1. Without words it prints one fixed line.
 //!
 //! What a station answers is judged by an array of 70 sectors, `judge`, which stands apart from the product: it knows records,
 //! sectors, and that a sector of an interrupted WRITE is old or new. `chip` alone calls the product. That each script is
@@ -15,6 +15,7 @@ mod event;
 mod failure;
 mod judge;
 mod progress;
+mod random;
 mod sweeper;
 #[cfg(test)]
 mod tests;
@@ -24,6 +25,7 @@ mod typed;
 use crate::chip::Chip;
 use crate::failure::Failure;
 use crate::progress::Progress;
+use crate::random::{EVENTS, script, shorten};
 use crate::sweeper::{Loss, MASKS, Sweeper};
 use crate::totals::{HEADING, Totals};
 use crate::typed::print_script;
@@ -39,19 +41,36 @@ fn work_of(kind: u8) -> u64 {
     if kind == 0 { 1 } else { 4 }
 }
 
-/// The chips that the words ask for: both for `run`, and one for `run` and its name.
-fn asked(rt: &HostRuntime) -> [Option<Chip>; 2] {
+/// How many random scripts a chip has.
+const SCRIPTS: u32 = 1_000;
+
+/// What the words ask for.
+#[derive(Clone, Copy)]
+enum Asked {
+    Nothing,
+    /// A sweep of these chips.
+    Sweep([Option<Chip>; 2]),
+    /// Random scripts.
+    Random,
+}
+
+/// What the words ask for: `run` for both chips, `run` and a name for one, `random`.
+fn words_of(rt: &HostRuntime) -> Asked {
     let Ok(mut words) = std::env::args(rt) else {
-        return [None, None];
+        return Asked::Nothing;
     };
     let _program = words.next();
     match words.next() {
         Some(word) if word.as_str() == "run" => {}
-        _ => return [None, None],
+        Some(word) if word.as_str() == "random" => return Asked::Random,
+        _ => return Asked::Nothing,
     }
     match words.next() {
-        None => [Some(Chip::Plain), Some(Chip::Prepared)],
-        Some(name) => [Chip::named(name.as_str()), None],
+        None => Asked::Sweep([Some(Chip::Plain), Some(Chip::Prepared)]),
+        Some(name) => match Chip::named(name.as_str()) {
+            Some(chip) => Asked::Sweep([Some(chip), None]),
+            None => Asked::Nothing,
+        },
     }
 }
 
@@ -133,13 +152,44 @@ fn sweep_all<R: Clock + Print + Eprint>(
     Ok(())
 }
 
-fn main(rt: HostRuntime) -> ExitCode {
-    let chips = asked(&rt);
-    if chips[0].is_none() {
-        let _ = println!(rt; "sweep: give the word run to sweep");
-        return ExitCode::SUCCESS;
+/// Runs random scripts on a chip, and gives how many losses came. Where one fails, prints it shortened.
+fn random_on(rt: &impl Print, alloc: Global, chip: Chip) -> Result<u32, Failure> {
+    let mut sweeper = Sweeper::new(alloc, chip)?;
+    let mut losses = 0u32;
+    for seed in 0..SCRIPTS {
+        match sweeper.run_all(script(alloc, seed)?.as_slice()) {
+            Ok(seen) => losses = losses.wrapping_add(seen.losses),
+            Err(failure) => {
+                let events = shorten(&mut sweeper, alloc, script(alloc, seed)?)?;
+                let _ = println!(rt; "# seed {seed}");
+                let _ = print_script(rt, alloc, chip, events.as_slice());
+                return Err(failure);
+            }
+        }
     }
-    match sweep_all(&rt, rt.alloc(), chips) {
+    Ok(losses)
+}
+
+/// Runs random scripts on both chips.
+fn random_all(rt: &impl Print, alloc: Global) -> Result<(), Failure> {
+    for chip in [Chip::Plain, Chip::Prepared] {
+        let losses = random_on(rt, alloc, chip)?;
+        let name = chip.name();
+        let _ = println!(rt; "{name}: {SCRIPTS} scripts of {EVENTS} events, {losses} losses");
+    }
+    Ok(())
+}
+
+fn main(rt: HostRuntime) -> ExitCode {
+    let done = match words_of(&rt) {
+        Asked::Nothing => {
+            let _ = println!(rt; "sweep: give the word run to sweep");
+            Ok(())
+        }
+        Asked::Sweep(chips) => sweep_all(&rt, rt.alloc(), chips),
+        Asked::Random => random_all(&rt, rt.alloc()),
+    };
+    match done {
         Ok(()) => ExitCode::SUCCESS,
         Err(failure) => {
             let _ = eprintln!(rt; "\nsweep: {failure}");

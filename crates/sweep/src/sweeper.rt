@@ -20,61 +20,18 @@ const SCRIPT: [Event; 15] = [
     Event::Open,
     Event::Flags,
     Event::Go,
-    Event::Write {
-        first: 0,
-        count: SECTORS,
-        value: 1,
-    },
-    Event::Write {
-        first: 0,
-        count: 1,
-        value: 2,
-    },
-    Event::Write {
-        first: 0,
-        count: 1,
-        value: 3,
-    },
-    Event::Write {
-        first: 0,
-        count: 1,
-        value: 4,
-    },
-    Event::Write {
-        first: 0,
-        count: 1,
-        value: 5,
-    },
-    Event::Write {
-        first: 0,
-        count: 1,
-        value: 6,
-    },
-    Event::Write {
-        first: 0,
-        count: 1,
-        value: 7,
-    },
-    Event::Write {
-        first: 0,
-        count: 1,
-        value: 8,
-    },
-    Event::Write {
-        first: 0,
-        count: 1,
-        value: 9,
-    },
-    Event::Write {
-        first: 6,
-        count: 2,
-        value: 10,
-    },
+    Event::Write(0, SECTORS, 1),
+    Event::Write(0, 1, 2),
+    Event::Write(0, 1, 3),
+    Event::Write(0, 1, 4),
+    Event::Write(0, 1, 5),
+    Event::Write(0, 1, 6),
+    Event::Write(0, 1, 7),
+    Event::Write(0, 1, 8),
+    Event::Write(0, 1, 9),
+    Event::Write(6, 2, 10),
     Event::Tidy,
-    Event::Read {
-        first: 0,
-        count: SECTORS,
-    },
+    Event::Read(0, SECTORS),
 ];
 
 /// What is read once the power is back, twice with a restore between.
@@ -82,15 +39,9 @@ const REREAD: [Event; 6] = [
     Event::Open,
     Event::Flags,
     Event::Go,
-    Event::Read {
-        first: 0,
-        count: SECTORS,
-    },
+    Event::Read(0, SECTORS),
     Event::Restore,
-    Event::Read {
-        first: 0,
-        count: SECTORS,
-    },
+    Event::Read(0, SECTORS),
 ];
 
 /// A loss of power: in which frame of those that count, which count (0: all, 1: those that begin a change), and the mask.
@@ -115,7 +66,7 @@ pub enum Return {
 #[derive(Drop)]
 pub struct Sweeper {
     alloc: Global,
-    memory: Vec<u8>,
+    pub memory: Vec<u8>,
     room: Vec<u8>,
     judge: Judge,
     /// The events of the last run.
@@ -146,7 +97,7 @@ impl Sweeper {
         self.events.clear();
         self.judge = Judge::new();
         let Loss { count, kind, mask } = loss;
-        self.play(&mut station, &[Event::Arm { count, kind, mask }])?;
+        self.play(&mut station, &[Event::Arm(count, kind, mask)])?;
         self.play(&mut station, &SCRIPT)?;
         if !self.judge.has_power {
             self.bring_back(&mut station, mask, back)?;
@@ -214,28 +165,22 @@ impl Sweeper {
         count: u32,
         mask: u8,
     ) -> Result<(), Failure> {
-        self.play(
-            station,
-            &[
-                Event::Arm {
-                    count,
-                    kind: 1,
-                    mask,
-                },
-                Event::Restore,
-            ],
-        )
+        self.play(station, &[Event::Arm(count, 1, mask), Event::Restore])
     }
 
     fn disarm(&mut self, station: &mut Station<OnSim>, mask: u8) -> Result<(), Failure> {
-        self.play(
-            station,
-            &[Event::Arm {
-                count: 0,
-                kind: 1,
-                mask,
-            }],
-        )
+        self.play(station, &[Event::Arm(0, 1, mask)])
+    }
+
+    /// Runs a script on a new station.
+    pub fn run_all(&mut self, events: &[Event]) -> Result<Seen, Failure> {
+        let mut station = started(self.alloc, self.memory.as_slice())?;
+        self.events.clear();
+        self.judge = Judge::new();
+        for event in events {
+            self.play(&mut station, &[*event])?;
+        }
+        Ok(self.judge.seen)
     }
 
     /// Runs events on a station, and judges what is told of them.

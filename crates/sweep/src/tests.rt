@@ -1,5 +1,7 @@
 //! The whole sweep.
-use crate::chip::Chip;
+use crate::chip::{Chip, started, told};
+use crate::event::Event;
+use crate::random::{script, shorten};
 use crate::sweeper::{Loss, MASKS, Sweeper};
 use crate::totals::Totals;
 use std::alloc::Global;
@@ -47,4 +49,41 @@ fn every_frame_is_lost(rt: HostRuntime) -> Result<(), Fail> {
         assert!(rt; totals.first > 4 * changes + 70);
     }
     Ok(())
+}
+
+#[test]
+fn random_scripts_are_answered_as_by_the_array(rt: HostRuntime) -> Result<(), Fail> {
+    let alloc = rt.alloc();
+    for chip in [Chip::Plain, Chip::Prepared] {
+        let mut sweeper = Sweeper::new(alloc, chip)?;
+        let mut losses = 0u32;
+        for seed in 0..200u32 {
+            let came = sweeper.run_all(script(alloc, seed)?.as_slice());
+            assert!(rt; came.is_ok(), "seed {seed}: {came:?}");
+            losses = losses.wrapping_add(came.map_or(0, |seen| seen.losses));
+        }
+        assert!(rt; losses > 1_000, "{losses}");
+    }
+    Ok(())
+}
+
+/// On a chip whose sector 5 was written before, of which the array knows nothing: a connection and a READ are left.
+#[test]
+fn a_wrong_answer_is_shortened(rt: HostRuntime) -> Result<(), Fail> {
+    let alloc = rt.alloc();
+    let mut sweeper = Sweeper::new(alloc, Chip::Plain)?;
+    let mut station = started(alloc, sweeper.memory.as_slice())?;
+    let mut records = Vec::new(alloc);
+    Event::Start.add_to(&mut records)?;
+    Event::Write(5, 1, 0x77).add_to(&mut records)?;
+    let mut room = [0u8; 1_000];
+    told(&mut station, records.as_slice(), &mut room)?;
+    sweeper.memory = station.into_inner().into_inner().into_inner();
+    let events = shorten(&mut sweeper, alloc, script(alloc, 1)?)?;
+    assert!(rt; sweeper.run_all(events.as_slice()).is_err());
+    match events.as_slice() {
+        [Event::Start, Event::Read(first, count)]
+            if *first <= 5 && first.wrapping_add(*count) > 5 => Ok(()),
+        _ => Err(Fail::new(format_args!("{events:?}"))),
+    }
 }
