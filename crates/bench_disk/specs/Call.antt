@@ -1,7 +1,7 @@
 -- What the calls of the disk are. Source: own.
 use Rattle.std.specs.Prelude.{ℕ, ◌*◌, ◌%◌}
 use Rattle.bench_disk.specs.declared.call.Call.{Call}
-use Rattle.bench_disk.specs.declared.call.Call.TheVariants.{ShortRead, LongRead, FirstWrite, ShortWrite, LongWrite, Tidy}
+use Rattle.bench_disk.specs.declared.call.Call.TheVariants.{ShortRead, LongRead, FirstWrite, ShortWrite, LongWrite, CopyingWrite, Tidy}
 
 -- how many bytes a call reads, writes or erases
 abbrev pub call_bytes : Call → ℕ
@@ -10,6 +10,7 @@ call_bytes LongRead = 65536
 call_bytes FirstWrite = 512
 call_bytes ShortWrite = 512
 call_bytes LongWrite = 65536
+call_bytes CopyingWrite = 512
 call_bytes Tidy = 4096
 
 -- how many calls are timed in one go
@@ -19,6 +20,7 @@ calls_of LongRead = 500
 calls_of FirstWrite = 400
 calls_of ShortWrite = 400
 calls_of LongWrite = 20
+calls_of CopyingWrite = 2000
 calls_of Tidy = 400
 
 -- the first sector of a call: one in seven, or 128 sectors after another, and then from the first again
@@ -28,4 +30,5 @@ first_of LongRead number = number % 195 * 128
 first_of FirstWrite number = number % 3580 * 7
 first_of ShortWrite number = number % 3580 * 7
 first_of LongWrite number = number % 195 * 128
+first_of CopyingWrite number = 8
 first_of Tidy number = 0

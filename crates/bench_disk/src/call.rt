@@ -16,6 +16,8 @@ pub enum Call {
     ShortWrite,
     /// A `write` of 65,536 bytes, likewise.
     LongWrite,
+    /// A `write` of 512 bytes where no slot is free outside the reserve: it copies a block with six live slots first.
+    CopyingWrite,
     /// A `tidy` that copies a block with one dead slot.
     Tidy,
 }
@@ -24,8 +26,8 @@ impl Call {
     ghost use Rattle.bench_disk.specs.Call.{call_bytes, calls_of, first_of};
 
     /// Each call, in the order of the table.
-    pub fn all() -> [Call; 6]
-        ensures { result ≡ Call.ShortRead ∷ Call.LongRead ∷ Call.FirstWrite ∷ Call.ShortWrite ∷ Call.LongWrite ∷ Call.Tidy ∷ [] }
+    pub fn all() -> [Call; 7]
+        ensures { result ≡ Call.ShortRead ∷ Call.LongRead ∷ Call.FirstWrite ∷ Call.ShortWrite ∷ Call.LongWrite ∷ Call.CopyingWrite ∷ Call.Tidy ∷ [] }
     {
         [
             Call::ShortRead,
@@ -33,6 +35,7 @@ impl Call {
             Call::FirstWrite,
             Call::ShortWrite,
             Call::LongWrite,
+            Call::CopyingWrite,
             Call::Tidy,
         ]
     }
@@ -45,6 +48,7 @@ impl Call {
             Call::FirstWrite => "first write of 512 bytes",
             Call::ShortWrite => "write of 512 bytes",
             Call::LongWrite => "write of 65,536 bytes",
+            Call::CopyingWrite => "write that copies a block",
             Call::Tidy => "tidy of a block",
         }
     }
@@ -59,6 +63,7 @@ impl Call {
             Call::FirstWrite => Filling::Formatted,
             Call::ShortWrite => Filling::Full,
             Call::LongWrite => Filling::Full,
+            Call::CopyingWrite => Filling::Full,
             Call::Tidy => Filling::Full,
         }
     }
@@ -74,12 +79,13 @@ impl Call {
             Call::FirstWrite => 512,
             Call::ShortWrite => 512,
             Call::LongWrite => 65_536,
+            Call::CopyingWrite => 512,
             Call::Tidy => 4_096,
         }
     }
 
     /// How many calls are timed in one go. A go of writes takes at most 2,560 of the 3,577 slots that are
-    /// free outside the reserve of a full chip.
+    /// free outside the reserve of a full chip, but for those that copy, which begin when all of these are used.
     pub fn calls(self) -> u32
         ensures exact { result ≡ calls_of self }
         ensures some { 0 < result }
@@ -90,11 +96,13 @@ impl Call {
             Call::FirstWrite => 400,
             Call::ShortWrite => 400,
             Call::LongWrite => 20,
+            Call::CopyingWrite => 2_000,
             Call::Tidy => 400,
         }
     }
 
-    /// The first sector of a call, counted from 0: calls of 512 bytes take one sector in seven, those of 65,536 bytes end to end.
+    /// The first sector of a call, counted from 0: calls of 512 bytes take one sector in seven, those of 65,536 bytes end to end,
+    /// and those that copy sector 8, which lies in the block that is copied.
     pub fn first(self, number: u32) -> u32
         ensures exact { result ≡ first_of self number }
         ensures within { 512 * result + call_bytes self ≤ 12830720 }
@@ -105,6 +113,7 @@ impl Call {
             Call::FirstWrite => number % 3_580 * 7,
             Call::ShortWrite => number % 3_580 * 7,
             Call::LongWrite => number % 195 * 128,
+            Call::CopyingWrite => 8,
             Call::Tidy => 0,
         }
     }

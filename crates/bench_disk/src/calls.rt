@@ -26,6 +26,7 @@ pub fn make<D: Disk>(
         Call::FirstWrite => disk.write(first, buffer)?,
         Call::ShortWrite => disk.write(first, buffer)?,
         Call::LongWrite => disk.write(first, buffer)?,
+        Call::CopyingWrite => disk.write(first, buffer)?,
         Call::Tidy => {
             let cleared = disk.tidy()?;
             if !cleared {
@@ -51,7 +52,24 @@ pub fn calls<D: Disk>(call: Call, disk: &mut D, buffer: &mut [u8]) -> Result<(),
     Ok(())
 }
 
-/// Makes as many dead slots as a go of tidyings needs; other calls need none.
+/// The slots of a full chip that are free outside the reserve.
+const FREE_SLOTS: u32 = 3_577;
+
+/// Writes one sector of each of the first 3,577 blocks of a full chip anew, so that no slot is free outside the reserve and these
+/// blocks have one dead slot each; and one more, for which the first of them is copied.
+fn use_free_slots<D: Disk>(disk: &mut D) -> Result<(), Failure>
+    requires size { length (D.facts disk.old).contents ≡ 12830720 }
+    ensures size { length (D.facts disk.new).contents ≡ 12830720 }
+{
+    let sector = [0xC3u8; 512];
+    for number in 0..FREE_SLOTS {
+        disk.write(7 * number, &sector)?;
+    }
+    disk.write(1, &sector)?;
+    Ok(())
+}
+
+/// Makes as many dead slots as a go of tidyings needs, and uses all free slots for writes that copy; other calls need neither.
 pub fn prepare<D: Disk>(call: Call, disk: &mut D) -> Result<(), Failure>
     requires size { length (D.facts disk.old).contents ≡ 12830720 }
     ensures size { length (D.facts disk.new).contents ≡ 12830720 }
@@ -62,13 +80,14 @@ pub fn prepare<D: Disk>(call: Call, disk: &mut D) -> Result<(), Failure>
         Call::FirstWrite => Ok(()),
         Call::ShortWrite => Ok(()),
         Call::LongWrite => Ok(()),
+        Call::CopyingWrite => use_free_slots(disk),
         Call::Tidy => calls(Call::ShortWrite, disk, &mut [0xA5u8; 512]),
     }
 }
 
 /// One copy, which no other is merged with.
 #[inline(never)]
-fn copy(from: &[u8], into: &mut [u8])
+pub fn copy(from: &[u8], into: &mut [u8])
     requires { length into.old ≡ length from.now }
     ensures { into.new ≡ from.now }
 {

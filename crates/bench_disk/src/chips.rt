@@ -12,10 +12,10 @@ use std::marker::Brand;
 pub type OnSim = FlashDisk<SimChip, Brand>;
 
 /// The bytes of the chip: 16 MiB.
-const CHIP_BYTES: usize = 16_777_216;
+pub const CHIP_BYTES: usize = 16_777_216;
 
 /// The sectors of its disk, of 512 bytes each.
-const SECTORS: u32 = 25_060;
+pub const SECTORS: u32 = 25_060;
 
 /// The runs of seven sectors that it has.
 const RUNS: u32 = 3_580;

@@ -1,5 +1,6 @@
 // Why there is no row.
 use block_device::DiskError;
+use nor_driver::NorError;
 
 /// Why a mount or a call has no row.
 #[derive(Clone, Copy)]
@@ -14,6 +15,12 @@ pub enum Failure {
 
 impl From<DiskError> for Failure {
     fn from(_error: DiskError) -> Failure {
+        Failure::Refused
+    }
+}
+
+impl From<NorError> for Failure {
+    fn from(_error: NorError) -> Failure {
         Failure::Refused
     }
 }

@@ -20,13 +20,13 @@ const GOES: u32 = 5;
 const MOUNTS: u32 = 20;
 
 /// How many copies are timed in one go.
-const COPIES: u32 = 1_000;
+pub const COPIES: u32 = 1_000;
 
 /// The bytes to which a mount is compared: four for each of the 4,096 blocks, as long as a header.
-const HEADERS: usize = 16_384;
+pub const HEADERS: usize = 16_384;
 
 /// What the clock tells.
-fn now(clock: &impl Clock) -> Result<Instant, Failure>
+pub fn now(clock: &impl Clock) -> Result<Instant, Failure>
     ensures { OnErr result (result ≡ Err Failure.NoClock) }
 {
     match Instant::now(clock) {
@@ -36,7 +36,7 @@ fn now(clock: &impl Clock) -> Result<Instant, Failure>
 }
 
 /// Times one go of the copies, in nanoseconds.
-fn time_of_copies(clock: &impl Clock, from: &[u8], into: &mut [u8]) -> Result<u64, Failure>
+pub fn time_of_copies(clock: &impl Clock, from: &[u8], into: &mut [u8]) -> Result<u64, Failure>
     requires { length into.old ≡ length from.now }
     ensures copied { OnOk result (into.new ≡ from.now) }
     ensures size { length into.new ≡ length into.old }

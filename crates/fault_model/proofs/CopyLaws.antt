@@ -49,3 +49,11 @@ copied xs ys rest memory at a n m k fits whole is len room old low = elim (cases
       ∙ (get_or-drop place memory j 0
       ∙ ap (λ s. byte memory s) (sym target))))
 ]
+
+-- one run, which doesn't wrap
+pub one_run : (ys memory : List ℕ) (at n i : ℕ) → ys ≡ take n (drop at memory) → i < n → at + i < length memory → byte ys i ≡ byte memory ((at + i) % length memory)
+one_run ys memory at n i is few inside =
+    ap (λ (zs : List ℕ). byte zs i) is
+    ∙ (get_or-take n (drop at memory) i 0 few
+    ∙ (get_or-drop at memory i 0
+    ∙ ap (λ s. byte memory s) (sym (mod-eq_of_lt inside))))

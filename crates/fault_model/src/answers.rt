@@ -10,6 +10,10 @@ use crate::table::sfdp_byte;
 pub fn fill_with(recv: &mut [u8], byte: u8)
     ensures { EachIndex recv.new (λ k. slice_index recv.new k ≡ byte) }
 {
+    if recv.len() == 1 {
+        recv[0] = byte;
+        return;
+    }
     for cell in recv.iter_mut() {
         *cell = byte;
     }

@@ -11,8 +11,8 @@ fn least(left: usize, right: usize) -> usize
     if left < right { left } else { right }
 }
 
-/// Bytes from a place on, past the end from the first on.
-pub fn fill_from(recv: &mut [u8], memory: &[u8], at: u32)
+/// Bytes from a place on, past the end from the first on, run by run.
+fn fill_round(recv: &mut [u8], memory: &[u8], at: u32)
     requires { 0 < length memory.now }
     ensures { EachIndex recv.new (λ k. byte recv.new k ≡ byte memory.now ((at + k) % length memory.now)) }
 {
@@ -23,4 +23,17 @@ pub fn fill_from(recv: &mut [u8], memory: &[u8], at: u32)
         recv[done..done + count].copy_from_slice(&memory[place..place + count]);
         done += count;
     }
+}
+
+/// Bytes from a place on, past the end from the first on. Where the end isn't passed they are one run.
+pub fn fill_from(recv: &mut [u8], memory: &[u8], at: u32)
+    requires { 0 < length memory.now }
+    ensures { EachIndex recv.new (λ k. byte recv.new k ≡ byte memory.now ((at + k) % length memory.now)) }
+{
+    let from = at as usize;
+    if from < memory.len() && recv.len() <= memory.len() - from {
+        recv.copy_from_slice(&memory[from..from + recv.len()]);
+        return;
+    }
+    fill_round(recv, memory, at);
 }

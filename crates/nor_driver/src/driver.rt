@@ -14,7 +14,7 @@ use crate::probe::survey;
 use crate::steps::{ask, change, wake};
 use crate::{Nor, NorError, ProbeError};
 use chip_model::SpiBus;
-use spi_frames::{Register, status};
+use spi_frames::{Frame, Register, fill_program, status};
 
 /// A chip behind a bus, of which nothing is protected.
 #[derive(Drop)]
@@ -126,7 +126,9 @@ impl<B: SpiBus> Nor for Driver<B> {
     }
 
     fn program(&mut self, at: u32, bytes: &[u8]) -> Result<(), NorError> {
-        self.apply(&spi_frames::program(at, bytes))
+        let mut frame = Frame::new();
+        fill_program(&mut frame, at, bytes);
+        self.apply(&frame)
     }
 
     fn erase_small(&mut self, at: u32) -> Result<(), NorError> {

@@ -64,14 +64,25 @@ pub fn program(at: u32, bytes: &[u8]) -> Frame
     requires page { length bytes.now ≤ 256 }
     ensures { result.items ≡ addressed 2 at bytes.now }
 {
-    let [high, middle, low] = address(at);
     let mut frame = Frame::new();
+    fill_program(&mut frame, at, bytes);
+    frame
+}
+
+/// The same into an empty frame, which then need not be moved.
+pub fn fill_program(frame: &mut Frame, at: u32, bytes: &[u8])
+    requires empty { frame.old.items ≡ [] }
+    requires address { at < 2 ^ 24 }
+    requires some { 0 < length bytes.now }
+    requires page { length bytes.now ≤ 256 }
+    ensures { frame.new.items ≡ addressed 2 at bytes.now }
+{
+    let [high, middle, low] = address(at);
     frame.push(0x02);
     frame.push(high);
     frame.push(middle);
     frame.push(low);
     let _fits = frame.try_extend_from_slice(bytes);
-    frame
 }
 
 /// 20h: an erase of the 4 KiB in which the address lies.

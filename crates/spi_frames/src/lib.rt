@@ -16,8 +16,8 @@ mod register;
 mod status_bits;
 
 pub use frames::{
-    Frame, ShortFrame, erase_large, erase_small, jedec_id, program, read, sfdp, status,
-    write_enable, write_status,
+    Frame, ShortFrame, erase_large, erase_small, fill_program, jedec_id, program, read, sfdp,
+    status, write_enable, write_status,
 };
 pub use register::Register;
 pub use status_bits::{Status1, Status2, Status3};

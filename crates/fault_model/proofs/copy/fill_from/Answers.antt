@@ -1,27 +1,15 @@
-use Rattle.std.proofs.Common.{◌≡◌, ◌<◌, ◌≤◌, ◌+◌, ◌-◌, ◌%◌, ◌∙◌, length, drop, ap, arith}
+use Rattle.std.proofs.Common.{◌≡◌, ◌+◌, ◌-◌, ◌∙◌, length, drop, ap, arith}
 use Rattle.std.proofs.lemmas.List.{length-take-le, length-drop}
-use Rattle.std.proofs.Math.Nat.{mod-lt}
-use Rattle.fault_model.proofs.CopyLaws.{copied, copied_length}
+use Rattle.fault_model.proofs.CopyLaws.{one_run}
 use Rattle.fault_model.proofs.copy.fill_from.Goals as goal
 
-pub loop-done-preserved : goal.loop-done-preserved
-loop-done-preserved c =
-    let xs = c.loop-done.recv in
+pub returns-then-recv-memory : goal.returns-then-recv-memory
+returns-then-recv-memory c = λ i low.
     let ys = c.copy_from_slice.new.self in
     let m = c.args.memory.now in
-    let a = c.loop-done.done in
-    let n = c.least-count.result in
-    let place = (c.args.at + a) % length m in
-    let q = place + n - place in
-    let low : place < length m = mod-lt (c.args.at + a) c.requires in
-    let fits : a ≤ length xs = omega arith in
-    let whole : q ≡ n = omega arith in
-    let most = c.least-count.ensures.at_most_right in
-    let room : place + n ≤ length m = omega (arith, most) in
-    let left : length (drop place m) ≡ length m - place = length-drop place m in
-    let len : length ys ≡ n = ap length c.copy_from_slice.ensures.after ∙ (length-take-le q (drop place m) (omega (arith, left)) ∙ whole) in
-    let long = copied_length xs ys (drop (a + n - a) (drop a xs)) a fits in
-    record {
-      within = omega (arith, long, len);
-      filled = λ k h. copied xs ys (drop (a + n - a) (drop a xs)) m c.args.at a n q k fits whole c.copy_from_slice.ensures.after len room c.loop-done.invariant.filled h;
-    }
+    let at = c.args.at in
+    let n = length c.args.recv.now in
+    let q = at + n - at in
+    let left : length (drop at m) ≡ length m - at = length-drop at m in
+    let len : length ys ≡ q = ap length c.copy_from_slice.ensures.after ∙ length-take-le q (drop at m) (omega (arith, left)) in
+    one_run ys m at q i c.copy_from_slice.ensures.after (omega (arith, low, len)) (omega (arith, low, len))

@@ -4,14 +4,14 @@ use Rattle.nor_driver.proofs.Shape.{IsProgram, begins_program, program_done, pro
 use Rattle.nor_driver.proofs.driver.DriverNor.program.Goals as goal
 
 pub apply-requires : goal.apply-requires
-apply-requires g c = record { begins = begins_program _ _ c.args.at c.args.bytes.now (record { unprotected = c.args.self.now.unprotected; range = c.requires.range; some = c.requires.some; page = c.requires.page; frame = c.deref.ensures.0 ∙ c.program.ensures }) }
+apply-requires g c = record { begins = begins_program _ _ c.args.at c.args.bytes.now (record { unprotected = c.args.self.now.unprotected; range = c.requires.range; some = c.requires.some; page = c.requires.page; frame = c.deref.ensures.0 ∙ c.fill_program.ensures }) }
 
 pub returns-clause-ok : goal.returns-clause-ok
 returns-clause-ok g c =
-    let p : IsProgram (g.B.SpiBus.chip c.args.self.now.bus) c.deref.result.now c.args.at c.args.bytes.now = record { unprotected = c.args.self.now.unprotected; range = c.requires.range; some = c.requires.some; page = c.requires.page; frame = c.deref.ensures.0 ∙ c.program.ensures } in
+    let p : IsProgram (g.B.SpiBus.chip c.args.self.now.bus) c.deref.result.now c.args.at c.args.bytes.now = record { unprotected = c.args.self.now.unprotected; range = c.requires.range; some = c.requires.some; page = c.requires.page; frame = c.deref.ensures.0 ∙ c.fill_program.ensures } in
     on_ok_weaker c.apply.result (λ e. e ∙ program_done _ _ _ _ p) c.apply.ensures.ok
 
 pub returns-clause-cut : goal.returns-clause-cut
 returns-clause-cut g c = λ e.
-    let p : IsProgram (g.B.SpiBus.chip c.args.self.now.bus) c.deref.result.now c.args.at c.args.bytes.now = record { unprotected = c.args.self.now.unprotected; range = c.requires.range; some = c.requires.some; page = c.requires.page; frame = c.deref.ensures.0 ∙ c.program.ensures } in
+    let p : IsProgram (g.B.SpiBus.chip c.args.self.now.bus) c.deref.result.now c.args.at c.args.bytes.now = record { unprotected = c.args.self.now.unprotected; range = c.requires.range; some = c.requires.some; page = c.requires.page; frame = c.deref.ensures.0 ∙ c.fill_program.ensures } in
     program_cut _ _ _ _ _ p (c.apply.ensures.cut e)

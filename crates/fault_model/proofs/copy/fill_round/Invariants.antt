@@ -1,6 +1,6 @@
 use Rattle.std.proofs.Common.{◌≡◌, ℕ, ◌<◌, ◌≤◌, ◌+◌, ◌-◌, ◌%◌, length}
 use Rattle.chip_model.specs.Memory.{byte}
-use Rattle.fault_model.proofs.copy.fill_from.Given as goal
+use Rattle.fault_model.proofs.copy.fill_round.Given as goal
 
 abbrev pub decreases-loop-done : goal.decreases-loop-done
 decreases-loop-done l = length l.initial.recv - l.done
