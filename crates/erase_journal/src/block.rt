@@ -10,7 +10,7 @@ ghost use Rattle.erase_journal.specs.Spending.{Spends};
 ghost use Rattle.erase_journal.specs.Blocks.{block as block_of, OnlyBlock, WithErased};
 ghost use Rattle.erase_journal.specs.Steps.{IsFirst, Interrupted};
 
-use crate::entry_log::erase_rested;
+use crate::block_erase::erase_with_entry;
 use crate::known::Known;
 use crate::maintain::rest;
 use nor_driver::{Nor, NorError};
@@ -75,6 +75,6 @@ pub fn erase_block<N: Nor>(nor: &mut N, known: &mut Known, block: u16) -> Result
     ensures first { IfErr result (λ e. IsFirst e (N.state nor.old) (N.state nor.new)) }
 {
     rest(nor, known)?;
-    erase_rested(nor, known, block)?;
+    erase_with_entry(nor, known, block)?;
     Ok(())
 }

@@ -15,10 +15,10 @@
 #![tactic(auto)]
 
 mod block;
-mod entry_log;
-mod erase;
+mod block_erase;
 mod error;
 mod journal;
+mod journal_erase;
 mod known;
 mod laws;
 mod maintain;

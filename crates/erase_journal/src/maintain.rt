@@ -7,7 +7,7 @@ ghost use Rattle.erase_journal.specs.Known.{IsKnown};
 ghost use Rattle.erase_journal.specs.Spending.{Maintains};
 ghost use Rattle.erase_journal.specs.Steps.{IsRestful, IsFirst, Stands};
 
-use crate::erase::{doom, renew};
+use crate::journal_erase::{doom, renew};
 use crate::known::Known;
 use crate::read::read_survey;
 use crate::unused::{Unused, lowest_tired};

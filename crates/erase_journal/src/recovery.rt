@@ -7,8 +7,8 @@ ghost use Rattle.erase_journal.specs.Steps.{IsFirst, SameNumbers, Stands};
 ghost use Rattle.erase_journal.specs.Spending.{Continues};
 ghost use Rattle.erase_journal.specs.Recovery.{seen, Restored, RestoreCut, RestoreSlow, RestoreCorrupt};
 
-use crate::entry_log::{find_open, finish_entry};
-use crate::erase::renew;
+use crate::block_erase::{find_open, finish_entry};
+use crate::journal_erase::renew;
 use crate::phase::Phase;
 use crate::read::read_survey;
 use crate::survey::{decide, once_settled};

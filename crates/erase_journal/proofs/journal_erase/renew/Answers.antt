@@ -5,7 +5,7 @@ use Rattle.erase_journal.specs.Journals.{unused, settled}
 use Rattle.chip_model.specs.Memory.{erased}
 use Rattle.erase_journal.proofs.Steps.{steps-on}
 use Rattle.erase_journal.proofs.Renewal.{erased-as, erase-cut, first-closed, first-close-cut, second-closed, second-close-cut, open-first, open-second, stands-on, same-blocks-on}
-use Rattle.erase_journal.proofs.erase.renew.Goals as goal
+use Rattle.erase_journal.proofs.journal_erase.renew.Goals as goal
 
 pub returns-in_err-erase_small-clause-cut : goal.returns-in_err-erase_small-clause-cut
 returns-in_err-erase_small-clause-cut g c is =

@@ -3,7 +3,7 @@ use Rattle.std.proofs.lemmas.Result.{err_from_is_err_and}
 use Rattle.erase_journal.proofs.EntryCalls.{block-ok, block-cut, done-ok, done-cut}
 use Rattle.erase_journal.proofs.Renewal.{stands-on, same-blocks-on}
 use Rattle.erase_journal.proofs.Uses.{finishing-keeps}
-use Rattle.erase_journal.proofs.entry_log.finish_entry.Goals as goal
+use Rattle.erase_journal.proofs.block_erase.finish_entry.Goals as goal
 
 pub returns-in_err-erase_small-clause-cut : goal.returns-in_err-erase_small-clause-cut
 returns-in_err-erase_small-clause-cut g c is =

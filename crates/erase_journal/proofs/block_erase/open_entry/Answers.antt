@@ -2,7 +2,7 @@ use Rattle.std.proofs.lemmas.Result.{err_from_is_err_and}
 use Rattle.erase_journal.proofs.EntryCalls.{open-ok, open-cut}
 use Rattle.erase_journal.proofs.Ready.{ready-back}
 use Rattle.erase_journal.proofs.Uses.{opening-uses}
-use Rattle.erase_journal.proofs.entry_log.open_entry.Goals as goal
+use Rattle.erase_journal.proofs.block_erase.open_entry.Goals as goal
 
 pub returns-in_err-program-clause-cut : goal.returns-in_err-program-clause-cut
 returns-in_err-program-clause-cut g c is healthy =

@@ -126,7 +126,7 @@ pub fn finish_entry<N: Nor>(nor: &mut N, entry: u16, block: u16) -> Result<(), N
 }
 
 /// Erases a dead block where no journal is tired.
-pub fn erase_rested<N: Nor>(nor: &mut N, known: &mut Known, block: u16) -> Result<(), NorError>
+pub fn erase_with_entry<N: Nor>(nor: &mut N, known: &mut Known, block: u16) -> Result<(), NorError>
     requires size { 16384 ≤ length (N.state nor.old).memory }
     requires restful { IsReady (N.state nor.old) → IsRestful (N.state nor.old).memory }
     requires known { IsReady (N.state nor.old) → IsKnown known.old (N.state nor.old).memory }

@@ -4,7 +4,7 @@ use Rattle.erase_journal.specs.Journals.{unused}
 use Rattle.erase_journal.specs.Spending.{once_used}
 use Rattle.erase_journal.proofs.Uses.{same-on, used-then}
 use Rattle.erase_journal.proofs.Knowing.{used-known}
-use Rattle.erase_journal.proofs.entry_log.erase_rested.Goals as goal
+use Rattle.erase_journal.proofs.block_erase.erase_with_entry.Goals as goal
 
 pub returns-in_err-entry-clause-cut : goal.returns-in_err-entry-clause-cut
 returns-in_err-entry-clause-cut g c is healthy =

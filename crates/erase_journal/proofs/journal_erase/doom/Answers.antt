@@ -4,7 +4,7 @@ use Rattle.erase_journal.specs.Journals.{unused}
 use Rattle.erase_journal.specs.Votes.{once_erased}
 use Rattle.erase_journal.proofs.Steps.{steps-on}
 use Rattle.erase_journal.proofs.Renewal.{first-cut, first-opened, second-cut, second-opened, some-second, stands-on, same-blocks-on}
-use Rattle.erase_journal.proofs.erase.doom.Goals as goal
+use Rattle.erase_journal.proofs.journal_erase.doom.Goals as goal
 
 pub returns-in_err-open_vote-clause-cut : goal.returns-in_err-open_vote-clause-cut
 returns-in_err-open_vote-clause-cut g c is =
