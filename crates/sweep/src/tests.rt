@@ -57,7 +57,7 @@ fn random_scripts_are_answered_as_by_the_array(rt: HostRuntime) -> Result<(), Fa
     for chip in [Chip::Plain, Chip::Prepared] {
         let mut sweeper = Sweeper::new(alloc, chip)?;
         let mut losses = 0u32;
-        for seed in 0..200u32 {
+        for seed in 0..500u32 {
             let came = sweeper.run_all(script(alloc, seed)?.as_slice());
             assert!(rt; came.is_ok(), "seed {seed}: {came:?}");
             losses = losses.wrapping_add(came.map_or(0, |seen| seen.losses));

@@ -2,13 +2,14 @@
 use crate::chip::Chip;
 use crate::event::Event;
 use crate::failure::Failure;
+use crate::judge::consists_of;
 use std::alloc::Global;
 use std::io;
 
 /// The most bytes of a record before a payload: its head, and that of a request.
 const HEADS: usize = 34;
 
-/// Prints a script, a record a line, with a payload of equal bytes in a line of its own.
+/// Prints a script, an event a line, with a payload of equal bytes in a line of its own.
 pub fn print_script(
     rt: &impl Print,
     alloc: Global,
@@ -28,14 +29,21 @@ pub fn print_script(
 /// Prints a record.
 fn print_record(rt: &impl Print, record: &[u8]) -> io::Result<()> {
     let (heads, payload) = record.split_at(record.len().min(HEADS));
+    match payload.first() {
+        Some(value) if consists_of(payload, *value) => {
+            print_bytes(rt, heads)?;
+            let len = payload.len();
+            println!(rt; "printf '\\x{value:02x}%.0s' {{1..{len}}}")
+        }
+        _ => print_bytes(rt, record),
+    }
+}
+
+/// Prints bytes.
+fn print_bytes(rt: &impl Print, bytes: &[u8]) -> io::Result<()> {
     print!(rt; "printf '")?;
-    for byte in heads {
+    for byte in bytes {
         print!(rt; "\\x{byte:02x}")?;
     }
-    println!(rt; "'")?;
-    if let Some(value) = payload.first() {
-        let len = payload.len();
-        println!(rt; "printf '\\x{value:02x}%.0s' {{1..{len}}}")?;
-    }
-    Ok(())
+    println!(rt; "'")
 }
