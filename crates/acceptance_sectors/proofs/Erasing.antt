@@ -2,7 +2,7 @@
 use Rattle.std.proofs.Common.{◌≡◌, ◌≢◌, ℕ, ◌+◌, ◌<◌, List, sym, ap, ◌∙◌}
 use Rattle.nor_layout.specs.declared.kind.Kind.TheVariants as kinds
 use Rattle.sector_slots.specs.Slots.{copies, kind_at, raw_slot, data_blocks, slot_at}
-use Rattle.sector_slots.specs.CopyLaws.{counted-source, source-copies, outside-live}
+use Rattle.sector_slots.proofs.CopyLaws.{counted-source, source-copies, outside-live}
 use Rattle.sector_slots.specs.Steps.{IsErasable}
 
 pub copied-erasable : (s t : ℕ) (m : List ℕ) → t < data_blocks m → ((b : ℕ) → kind_at m s ≢ kinds.Committed b) → kind_at m t ≡ kinds.Committed (s + 4) → IsErasable s m

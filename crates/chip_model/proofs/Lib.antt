@@ -1,0 +1,4 @@
+pub mod BitLaws
+pub mod MemoryLaws
+pub mod PartLaws
+pub mod FrameLaws

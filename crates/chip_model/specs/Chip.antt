@@ -54,6 +54,13 @@ is_idle (Programming at bytes) = false
 is_idle (Erasing at size) = false
 is_idle (Setting value) = false
 
+-- a status write
+abbrev pub is_setting : Operation → Bool
+is_setting Idle = false
+is_setting (Programming at bytes) = false
+is_setting (Erasing at size) = false
+is_setting (Setting value) = true
+
 -- the memory once the operation has completed
 abbrev pub memory_after : Operation → List ℕ → List ℕ
 memory_after Idle m = m

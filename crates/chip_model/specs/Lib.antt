@@ -5,7 +5,3 @@ pub mod Chip
 pub mod Frames
 pub mod Cut
 pub mod Geometry
-pub mod BitLaws
-pub mod MemoryLaws
-pub mod PartLaws
-pub mod FrameLaws

@@ -6,7 +6,7 @@ use Rattle.std.proofs.lemmas.Bool.{cases_lt}
 use Rattle.std.proofs.lemmas.Grind.{same_number_lists}
 use Rattle.chip_model.specs.Memory.{byte, and_at, TornAnd}
 use Rattle.chip_model.specs.Parts.{part}
-use Rattle.chip_model.specs.PartLaws.{part-whole, get-part, part-placed, part-torn}
+use Rattle.chip_model.proofs.PartLaws.{part-whole, get-part, part-placed, part-torn}
 use Rattle.chip_model.specs.Geometry.{block_count}
 use Rattle.nor_driver.specs.State.{NorState, IsReady, AnswersWhatStands, Leaves, as_before, torn_in_it, changed_whole}
 use Rattle.nor_driver.specs.declared.error.NorError.{NorError}

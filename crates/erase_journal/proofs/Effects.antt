@@ -7,8 +7,8 @@ use Rattle.std.proofs.lemmas.Nat.Bits.{bit_at-suc}
 use Rattle.std.proofs.lemmas.Bool.{cases_lt, cases_eq, cond-false}
 use Rattle.std.proofs.lemmas.Grind.{same_number_lists}
 use Rattle.chip_model.specs.Memory.{byte, and_at, erased, is_within, IsMixed, TornAnd, TornErase}
-use Rattle.chip_model.specs.MemoryLaws.{length-placed, get-placed, placed-inside, length-erased, erased-outside, erased-inside, within, not-within-below, not-within-above}
-use Rattle.chip_model.specs.BitLaws.{mixed_same, mixed_one}
+use Rattle.chip_model.proofs.MemoryLaws.{length-placed, get-placed, placed-inside, length-erased, erased-outside, erased-inside, within, not-within-below, not-within-above}
+use Rattle.chip_model.proofs.BitLaws.{mixed_same, mixed_one}
 use Rattle.nor_driver.specs.State.{NorState, Kept, Fails, Leaves, as_before, torn_in_it, changed_whole}
 use Rattle.nor_driver.specs.declared.error.NorError.{NorError}
 use Rattle.nor_driver.specs.declared.error.NorError.TheVariants as errors

@@ -6,10 +6,10 @@ use Rattle.std.proofs.lemmas.Bool.{cases_lt, cases_eq}
 use Rattle.std.proofs.lemmas.Grind.{same_number_lists}
 use Rattle.std.proofs.lemmas.Bool.Decides.{nat_tests}
 use Rattle.chip_model.specs.Memory.{byte, and_at, erased, TornAnd, TornErase}
-use Rattle.chip_model.specs.MemoryLaws.{placed-inside, not-within-above}
-use Rattle.chip_model.specs.BitLaws.{mixed_one}
+use Rattle.chip_model.proofs.MemoryLaws.{placed-inside, not-within-above}
+use Rattle.chip_model.proofs.BitLaws.{mixed_one}
 use Rattle.chip_model.specs.Parts.{part}
-use Rattle.chip_model.specs.PartLaws.{part-erased}
+use Rattle.chip_model.proofs.PartLaws.{part-erased}
 use Rattle.nor_driver.specs.State.{Leaves, as_before, torn_in_it, changed_whole}
 use Rattle.erase_journal.specs.declared.phase.Phase.TheVariants.{Idle}
 use Rattle.erase_journal.specs.Places.{how_many, Spoiled, Changed}

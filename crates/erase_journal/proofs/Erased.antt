@@ -5,13 +5,13 @@ use Rattle.std.proofs.lemmas.Grind.{same_number_lists}
 use Rattle.chip_model.specs.Memory.{byte}
 use Rattle.chip_model.specs.Geometry.{IsChipSize, block_count}
 use Rattle.chip_model.specs.Parts.{part}
-use Rattle.chip_model.specs.PartLaws.{part-whole, get-part}
+use Rattle.chip_model.proofs.PartLaws.{part-whole, get-part}
 use Rattle.nor_layout.specs.declared.journal.JournalId.TheVariants.{J0, J1, J2}
 use Rattle.nor_layout.specs.Journals.{first_at, second_at}
 use Rattle.erase_journal.specs.declared.scan.VoteCounts.{VoteCounts}
 use Rattle.erase_journal.specs.Journals.{votes_at, free_entries, open_entries, is_free_entry, is_open_entry, IsSettled}
 use Rattle.erase_journal.specs.Blocks.{block, blank, IsErasedBehind}
-use Rattle.erase_journal.specs.BlockLaws.{length-blank, byte-blank}
+use Rattle.erase_journal.proofs.BlockLaws.{length-blank, byte-blank}
 use Rattle.erase_journal.proofs.Counts.{how_many-all, how_many-each_fails}
 use Rattle.erase_journal.proofs.Blocks.{plain-none}
 

@@ -1,3 +1,4 @@
+pub mod BlockLaws
 pub mod Counts
 pub mod Scans
 pub mod Regions

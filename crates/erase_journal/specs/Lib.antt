@@ -2,7 +2,6 @@ pub mod Places
 pub mod Votes
 pub mod Journals
 pub mod Blocks
-pub mod BlockLaws
 pub mod Steps
 pub mod Spending
 pub mod Known

@@ -7,7 +7,7 @@ use Rattle.std.proofs.lemmas.Bool.{cases_lt, cases_eq}
 use Rattle.std.proofs.lemmas.Nat.Bits.{bit_at_or, bit_at_and, bit_at_not, bit_at_above, bit_at-lt}
 use Rattle.chip_model.specs.Memory.{changed, erased, fill_place, IsMixed, Torn, TornErase}
 use Rattle.chip_model.specs.Chip.{page_place, programmed, offset_in_page}
-use Rattle.chip_model.specs.MemoryLaws.{length-changed_from, get-changed, programmed_page, erased_fill, filled_torn}
+use Rattle.chip_model.proofs.MemoryLaws.{length-changed_from, get-changed, programmed_page, erased_fill, filled_torn}
 use Rattle.fault_model.specs.Mask.{by_mask, torn_byte, half_programmed, filled}
 
 by_two : (x y m n r : ℕ) → x < 2 → y < 2 → m < 2 → n ≡ 1 - m → r ≡ max (min x n) (min y m) → (r ≡ x) ⊎ (r ≡ y)

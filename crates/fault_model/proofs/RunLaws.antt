@@ -7,7 +7,7 @@ use Rattle.std.proofs.Math.Seq.{take-suc}
 use Rattle.std.proofs.lemmas.Grind.{get_or-set_at, same_number_lists}
 use Rattle.chip_model.specs.Memory.{byte, changed, placed, place_of}
 use Rattle.chip_model.specs.Chip.{page_place, offset_in_page}
-use Rattle.chip_model.specs.MemoryLaws.{length-changed_from, get-changed, length-placed, get-placed, place-in, place-below, place-above, placed-append, placed-inside, placed-outside}
+use Rattle.chip_model.proofs.MemoryLaws.{length-changed_from, get-changed, length-placed, get-placed, place-in, place-below, place-above, placed-append, placed-inside, placed-outside}
 
 -- one place
 one_placed : (op : ℕ → ℕ → ℕ) (m : List ℕ) (p v : ℕ) → p < length m → set m p (op (byte m p) v) ≡ placed op m p (v ∷ [])

@@ -4,7 +4,7 @@ use Rattle.std.specs.Prelude.{replicate, set}
 use Rattle.std.proofs.lemmas.Bool.{cond-false, and_right, ne_eqb}
 use Rattle.std.proofs.lemmas.List.{length-replicate}
 use Rattle.chip_model.specs.Memory.{byte}
-use Rattle.chip_model.specs.MemoryLaws.{length-changed_from, get-changed, changed_set}
+use Rattle.chip_model.proofs.MemoryLaws.{length-changed_from, get-changed, changed_set}
 use Rattle.fault_model.specs.Table.{sfdp_byte, sfdp_table, table_byte}
 
 pub length-sfdp_table : (size : ℕ) (spoiled : Bool) → length (sfdp_table size spoiled) ≡ 256

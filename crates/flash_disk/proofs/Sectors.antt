@@ -8,13 +8,13 @@ use borrow.Rule.Slice.PartMut.{put_mid}
 use Rattle.std.proofs.lemmas.Bool.{cases_lt, cases_eq}
 use Rattle.chip_model.specs.Geometry.{sector_count}
 use Rattle.chip_model.specs.Memory.{byte, newer, placed}
-use Rattle.chip_model.specs.MemoryLaws.{length-placed, placed-inside}
+use Rattle.chip_model.proofs.MemoryLaws.{length-placed, placed-inside}
 use Rattle.chip_model.specs.Parts.{part}
-use Rattle.chip_model.specs.PartLaws.{get-part, part-whole, part-outside, part-placed}
+use Rattle.chip_model.proofs.PartLaws.{get-part, part-whole, part-outside, part-placed}
 use Rattle.block_device.specs.Contents.{replaced, bytes_at}
 use Rattle.sector_slots.specs.Slots.{IsClean}
 use Rattle.sector_slots.specs.Sectors.{sector_at}
-use Rattle.sector_slots.specs.SizeLaws.{length-sector}
+use Rattle.sector_slots.proofs.SizeLaws.{length-sector}
 use Rattle.sector_map.specs.Maps.{Keeps, KeepsEach, Sets, SetLeaves}
 use Rattle.flash_disk.specs.Contents.{joined, contents_of}
 use Rattle.flash_disk.proofs.Parts.{replaced-placed}

@@ -6,9 +6,9 @@ use Rattle.std.proofs.lemmas.List.{ext_get_or, length-take-le, length-drop, take
 use Rattle.std.proofs.lemmas.Nat.Bits.{bit_at-suc}
 use Rattle.std.proofs.lemmas.Bool.{cases_eq, cases_lt}
 use Rattle.chip_model.specs.Memory.{byte, and_at, IsMixed, TornAnd}
-use Rattle.chip_model.specs.MemoryLaws.{length-placed, placed-append, placed-outside, placed-inside}
-use Rattle.chip_model.specs.BitLaws.{mixed_same, mixed_one}
-use Rattle.chip_model.specs.PartLaws.{part-same}
+use Rattle.chip_model.proofs.MemoryLaws.{length-placed, placed-append, placed-outside, placed-inside}
+use Rattle.chip_model.proofs.BitLaws.{mixed_same, mixed_one}
+use Rattle.chip_model.proofs.PartLaws.{part-same}
 use Rattle.nor_driver.specs.State.{Leaves, as_before, torn_in_it, changed_whole}
 use Rattle.nor_layout.specs.Kinds.{kind_of}
 use Rattle.nor_layout.specs.declared.kind.Kind.TheVariants as kinds

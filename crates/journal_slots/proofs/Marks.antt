@@ -8,9 +8,9 @@ use Rattle.std.proofs.lemmas.Nat.{and_mask, and_comm}
 use Rattle.std.proofs.lemmas.Nat.Bits.{bit_at-suc}
 use Rattle.std.proofs.lemmas.Bool.{cases_eq, cases_lt, ne_eqb}
 use Rattle.chip_model.specs.Memory.{byte, and_at, IsMixed, TornAnd}
-use Rattle.chip_model.specs.MemoryLaws.{length-placed, placed-outside, placed-inside}
-use Rattle.chip_model.specs.BitLaws.{mixed_same, mixed_one}
-use Rattle.chip_model.specs.PartLaws.{part-same}
+use Rattle.chip_model.proofs.MemoryLaws.{length-placed, placed-outside, placed-inside}
+use Rattle.chip_model.proofs.BitLaws.{mixed_same, mixed_one}
+use Rattle.chip_model.proofs.PartLaws.{part-same}
 use Rattle.nor_driver.specs.State.{Leaves, as_before, torn_in_it, changed_whole}
 use Rattle.nor_layout.specs.Headers.{header_of}
 use Rattle.nor_layout.specs.Kinds.{kind_of}

@@ -6,9 +6,9 @@ use Rattle.std.proofs.lemmas.Nat.{and_le_r}
 use Rattle.std.proofs.lemmas.Bool.{cases_eq, cases_lt, ne_eqb}
 use Rattle.byteorder.specs.Endian.{little_from}
 use Rattle.chip_model.specs.Memory.{byte, and_at, IsMixed, TornAnd}
-use Rattle.chip_model.specs.MemoryLaws.{length-placed, placed-outside, placed-inside}
-use Rattle.chip_model.specs.BitLaws.{mixed_one}
-use Rattle.chip_model.specs.PartLaws.{get-part, part-whole}
+use Rattle.chip_model.proofs.MemoryLaws.{length-placed, placed-outside, placed-inside}
+use Rattle.chip_model.proofs.BitLaws.{mixed_one}
+use Rattle.chip_model.proofs.PartLaws.{get-part, part-whole}
 use Rattle.nor_driver.specs.State.{Leaves, as_before, torn_in_it, changed_whole}
 use Rattle.nor_layout.specs.declared.header.Header.{Header}
 use Rattle.nor_layout.specs.declared.header.Header.TheVariants as headers
@@ -16,7 +16,7 @@ use Rattle.nor_layout.specs.declared.header.Generation.{Generation}
 use Rattle.nor_layout.specs.declared.header.Tag.{Tag}
 use Rattle.nor_layout.specs.Headers.{header_of, live_of, generation_of}
 use Rattle.erase_journal.specs.Blocks.{blank}
-use Rattle.erase_journal.specs.BlockLaws.{byte-blank}
+use Rattle.erase_journal.proofs.BlockLaws.{byte-blank}
 use Rattle.sector_slots.specs.Slots.{Slot, Free, Live, NoGeneration, Dead, Outside, slot_with, slot_in, content_in, descriptor_in, data_block, raw_slot, blank_sector}
 use Rattle.journal_slots.specs.Programs.{OnlyBytes, InPlace, WriteLeaves, untouched, spoiled, filled}
 use Rattle.sector_slots.specs.Steps.{HoldsTag}

@@ -4,7 +4,7 @@ use Rattle.std.specs.Prelude.{take, drop, slice_range, slice_index_or, bit_and}
 use Rattle.std.proofs.lemmas.List.{get_or-take, get_or-drop, length-take-le}
 use Rattle.std.proofs.lemmas.Bool.{cases_eq, cases_lt}
 use Rattle.chip_model.specs.Memory.{byte, and_at}
-use Rattle.chip_model.specs.MemoryLaws.{placed-outside, placed-inside}
+use Rattle.chip_model.proofs.MemoryLaws.{placed-outside, placed-inside}
 use Rattle.chip_model.specs.Parts.{part}
 use Rattle.nor_layout.specs.declared.header.Header.{Header}
 use Rattle.nor_layout.specs.declared.header.Header.TheVariants as headers

@@ -3,7 +3,7 @@ use Rattle.std.proofs.Common.{◌≡◌, ◌≢◌, ℕ, ◌+◌, ◌*◌, ◌/�
 use Rattle.std.specs.Prelude.{◌==◌, bit_and, Option, Some, None}
 use Rattle.std.proofs.lemmas.Bool.{cases_eq, cases_lt}
 use Rattle.chip_model.specs.Memory.{byte, and_at}
-use Rattle.chip_model.specs.MemoryLaws.{placed-outside, placed-inside}
+use Rattle.chip_model.proofs.MemoryLaws.{placed-outside, placed-inside}
 use Rattle.nor_layout.specs.declared.kind.Kind.{Kind}
 use Rattle.nor_layout.specs.declared.header.Tag.{Tag}
 use Rattle.nor_layout.specs.Kinds.{kind_of}
@@ -11,14 +11,14 @@ use Rattle.nor_driver.specs.State.{NorState}
 use Rattle.erase_journal.specs.Blocks.{OnlyBlock}
 use Rattle.erase_journal.specs.Steps.{Stands}
 use Rattle.erase_journal.specs.Recovery.{Restored, RestoreCut}
-use Rattle.sector_slots.specs.BlankLaws.{same-blocks_slots}
-use Rattle.sector_slots.specs.StepLaws.{same-slots}
-use Rattle.sector_slots.specs.SlotLaws.{counted-raw}
+use Rattle.sector_slots.proofs.BlankLaws.{same-blocks_slots}
+use Rattle.sector_slots.proofs.StepLaws.{same-slots}
+use Rattle.sector_slots.proofs.SlotLaws.{counted-raw}
 use Rattle.sector_slots.specs.Slots.{Slot, Free, Live, Dead, Outside, IsLive, slot_in, content_in, blank_sector, counted, copies, is_void, is_copy_of, is_counted, data_blocks, data_block, kind_at, raw_slot, slot_at, stored_at, slot_count, IsClean, SameSlots}
 use Rattle.journal_slots.specs.Programs.{InPlace, WriteLeaves, untouched, spoiled, filled}
-use Rattle.sector_slots.specs.CopyLaws.{copies-same}
-use Rattle.sector_slots.specs.CleanLaws.{clean-only}
-use Rattle.sector_slots.specs.PlaceLaws.{counted-kept, place-kinds, place-others, later, later-is}
+use Rattle.sector_slots.proofs.CopyLaws.{copies-same}
+use Rattle.sector_slots.proofs.CleanLaws.{clean-only}
+use Rattle.sector_slots.proofs.PlaceLaws.{counted-kept, place-kinds, place-others, later, later-is}
 use Rattle.sector_slots.specs.Steps.{IsWritable, IsFresh, OnlyPlace, IsBegun, HoldsTag, MayHoldTag, PutLeaves, still_free, half_written, written}
 use Rattle.journal_slots.proofs.Bytes.{place-slot, place-content, place-kind, place-mark, place-same}
 use Rattle.journal_slots.proofs.Marks.{kind-bytes}

@@ -6,7 +6,7 @@ use Rattle.sfdp.specs.declared.params.Params.{Params}
 use Rattle.chip_model.specs.Chip.{Chip, Operation, Idle, Programming, Erasing, Setting, is_idle}
 use Rattle.chip_model.specs.Cut.{TornProtection, with_power}
 use Rattle.chip_model.specs.Frames.{is_open, id_from, status_1}
-use Rattle.chip_model.specs.FrameLaws.{idle_cut}
+use Rattle.chip_model.proofs.FrameLaws.{idle_cut}
 use Rattle.nor_driver.specs.Steps.{Woken}
 use Rattle.nor_driver.specs.Probe.{told, is_served, is_free, sized, unless_protected, probe_answer, Probes}
 use Rattle.nor_driver.specs.declared.error.ProbeError.{ProbeError}

@@ -6,9 +6,10 @@ use Rattle.std.specs.Prelude.{◌||◌, slice_range, drop, get_or, ◌-◌}
 use Rattle.chip_model.specs.Chip.{Chip, Programming, Erasing, is_idle, completed, memory_after}
 use Rattle.chip_model.specs.Cut.{Cut, TornMemory}
 use Rattle.chip_model.specs.Memory.{and_at, erased, Torn, TornErase, TornAnd}
-use Rattle.chip_model.specs.MemoryLaws.{programmed_in_page}
+use Rattle.chip_model.proofs.MemoryLaws.{programmed_in_page}
 use Rattle.chip_model.specs.Frames.{command_of, Answers, is_open, starts, with_enabled, with_polls}
-use Rattle.chip_model.specs.FrameLaws.{KeepsShape, completed_shape, cut_shape, idle_cut, is_setting, idle_not_setting, started_program, started_erase, started_large_erase, address}
+use Rattle.chip_model.proofs.FrameLaws.{KeepsShape, completed_shape, cut_shape, idle_cut, idle_not_setting, started_program, started_erase, started_large_erase, address}
+use Rattle.chip_model.specs.Chip.{is_setting}
 use Rattle.nor_driver.specs.State.{Leaves, as_before, torn_in_it, changed_whole}
 use Rattle.nor_driver.specs.Steps.{started, Begins, Interrupted, not_begun, torn, whole, no_power}
 

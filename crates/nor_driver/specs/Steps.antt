@@ -3,7 +3,7 @@
 use Rattle.std.specs.Prelude.{◌≡◌, ℕ, ◌+◌, ◌⊎◌, Bool, true, false, List}
 use Rattle.chip_model.specs.Chip.{Chip, Operation, is_idle, completed}
 use Rattle.chip_model.specs.Frames.{Command, Enable, Disable, Status1, Status2, Status3, Set, Read, Program, Erase, Id, Sfdp, Unknown, command_of, after, with_enabled, with_polls, starts}
-use Rattle.chip_model.specs.FrameLaws.{is_setting}
+use Rattle.chip_model.specs.Chip.{is_setting}
 use Rattle.chip_model.specs.Cut.{Cut, with_power}
 use Rattle.nor_driver.specs.declared.error.NorError.{NorError}
 use Rattle.nor_driver.specs.declared.error.NorError.TheVariants as errors

@@ -4,7 +4,7 @@ ghost use Rattle.std.specs.Result.{IsErrOf};
 ghost use Rattle.chip_model.specs.Chip.{is_idle, completed};
 ghost use Rattle.chip_model.specs.Cut.{TornMemory};
 ghost use Rattle.chip_model.specs.Frames.{is_open};
-ghost use Rattle.chip_model.specs.FrameLaws.{is_setting};
+ghost use Rattle.chip_model.specs.Chip.{is_setting};
 ghost use Rattle.nor_driver.specs.State.{AnswersWhatStands, Fails, IsReady, Kept, Leaves};
 ghost use Rattle.nor_driver.specs.Steps.{Begins, started};
 ghost use Rattle.nor_driver.specs.Probe.{Found, Probes, probe_answer, told};

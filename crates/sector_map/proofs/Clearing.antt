@@ -10,15 +10,15 @@ use Rattle.erase_journal.specs.Blocks.{SameChip}
 use Rattle.erase_journal.specs.Journals.{IsHealthy}
 use Rattle.sector_slots.specs.Slots.{Dead, slot_at, slot_count, IsClean, IsLive}
 use Rattle.sector_slots.specs.Blocks.{AreSettled}
-use Rattle.sector_slots.specs.BlankLaws.{sound-holds}
-use Rattle.sector_slots.specs.ClearLaws.{cleared-absent, clear-stands}
-use Rattle.sector_slots.specs.MoveLaws.{live-stands}
-use Rattle.sector_slots.specs.PlaceLaws.{later, later-is, place-others, place-holds}
-use Rattle.sector_slots.specs.SectorLaws.{moved-back, dead-without, other-without}
+use Rattle.sector_slots.proofs.BlankLaws.{sound-holds}
+use Rattle.sector_slots.proofs.ClearLaws.{cleared-absent, clear-stands}
+use Rattle.sector_slots.proofs.MoveLaws.{live-stands}
+use Rattle.sector_slots.proofs.PlaceLaws.{later, later-is, place-others, place-holds}
+use Rattle.sector_slots.proofs.SectorLaws.{moved-back, dead-without, other-without}
 use Rattle.sector_slots.specs.Sectors.{zeros, LiveAt, absent, IsAbsent, sector_at, with_sector, IsSoundMap, IsSingle, HoldsSectors}
 use Rattle.sector_slots.specs.Steps.{Succeeds, OnlyPlace}
-use Rattle.sector_slots.specs.StepLaws.{settled-healthy}
-use Rattle.sector_slots.specs.WinnerLaws.{sector-one, sector-content-is}
+use Rattle.sector_slots.proofs.StepLaws.{settled-healthy}
+use Rattle.sector_slots.proofs.WinnerLaws.{sector-one, sector-content-is}
 use Rattle.sector_map.specs.Maps.{Sets, SetLeaves, Served, Wrote}
 use Rattle.sector_map.specs.Replace.{HeldBy}
 use Rattle.sector_map.specs.Table.{IsTableOf, IsOneAtMost, Unset, holder}

@@ -10,8 +10,9 @@ use Rattle.nor_layout.specs.declared.header.Tag.{Tag}
 use Rattle.sector_slots.specs.Slots.{Slot, Free, Live, NoGeneration, Dead, Outside, slot_with, descriptor_in, read_header, slot_at, slot_count, data_blocks, data_block}
 use Rattle.sector_slots.specs.Blocks.{AreSettled, settled}
 use Rattle.sector_slots.specs.Sectors.{LiveAt, SoundSlots, Single, IsSoundMap, IsSingle}
-use Rattle.sector_slots.specs.SectorLaws.{number_in, kind_in}
-use Rattle.sector_slots.specs.CopyLaws.{shifted, shifted-there, shifted-else}
+use Rattle.sector_slots.proofs.SectorLaws.{number_in, kind_in}
+use Rattle.sector_slots.proofs.CopyLaws.{shifted-there, shifted-else}
+use Rattle.sector_slots.specs.Copying.{shifted}
 use Rattle.sector_map.specs.Scan.{HeadsOf, Follows, FollowsBlock, AreApart}
 use Rattle.sector_map.specs.Table.{IsTableOf, IsOneAtMost, holder}
 use Rattle.sector_map.specs.Replace.{HeldBy}

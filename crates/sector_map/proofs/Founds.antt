@@ -8,10 +8,10 @@ use Rattle.nor_layout.specs.declared.kind.Kind.TheVariants as kinds
 use Rattle.sector_slots.specs.Slots.{Slot, Free, Outside, counted, is_void, slot_in, slot_with, descriptor_in, content_in, read_header, kind_at, data_block, data_blocks, raw_slot, slot_at, IsSpareIn, copies as copies_of}
 use Rattle.nor_layout.specs.declared.header.Header.{Header}
 use Rattle.nor_layout.specs.declared.header.Header.TheVariants as headers
-use Rattle.sector_slots.specs.SectorLaws.{kind_in}
+use Rattle.sector_slots.proofs.SectorLaws.{kind_in}
 use Rattle.sector_slots.specs.Blocks.{IsAtRest, IsCopying, IsTarget, SoundBlocks, HasNoFault}
-use Rattle.sector_slots.specs.BlockLaws.{sound-no_fault}
-use Rattle.sector_slots.specs.CopyLaws.{counted-in, counted-void, counted-source, at-rest-counts, at-rest-copies, copies-none, void-copies, committed-copies, source-copies}
+use Rattle.sector_slots.proofs.BlockLaws.{sound-no_fault}
+use Rattle.sector_slots.proofs.CopyLaws.{counted-in, counted-void, counted-source, at-rest-counts, at-rest-copies, copies-none, void-copies, committed-copies, source-copies}
 use Rattle.sector_map.specs.Scan.{HeadsOf}
 use Rattle.sector_map.specs.Found.{FoundIn, RestBelow, VoidBelow, CommittedBelow, FoundBelow, noted_first, noted_next, noted_kind, counts}
 use Rattle.sector_map.specs.declared.found.Found.{Found}

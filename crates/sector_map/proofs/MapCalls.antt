@@ -6,15 +6,15 @@ use Rattle.chip_model.specs.Geometry.{sector_count, block_count}
 use Rattle.nor_driver.specs.State.{NorState, IsReady, Kept}
 use Rattle.erase_journal.specs.Blocks.{SameChip}
 use Rattle.erase_journal.specs.Places.{how_many}
-use Rattle.sector_slots.specs.CopyLaws.{how_many-zero, how_many-suc}
+use Rattle.sector_slots.proofs.CopyLaws.{how_many-zero, how_many-suc}
 use Rattle.erase_journal.specs.Journals.{IsHealthy, IsSettled}
 use Rattle.sector_slots.specs.Slots.{Slot, Free, Live, NoGeneration, Dead, Outside, slot_at, slot_count, data_blocks, IsClean}
 use Rattle.sector_slots.specs.Blocks.{AreSettled}
 use Rattle.sector_slots.specs.Sectors.{sector_at, with_sector, IsSoundMap, IsSingle, HoldsSectors}
-use Rattle.sector_slots.specs.BlankLaws.{sound-holds}
-use Rattle.sector_slots.specs.SlotLaws.{one-reserve}
+use Rattle.sector_slots.proofs.BlankLaws.{sound-holds}
+use Rattle.sector_slots.proofs.SlotLaws.{one-reserve}
 use Rattle.sector_slots.specs.Steps.{Succeeds}
-use Rattle.sector_slots.specs.StepLaws.{chip-after, settled-healthy, succeeds-after}
+use Rattle.sector_slots.proofs.StepLaws.{chip-after, settled-healthy, succeeds-after}
 use Rattle.sector_stock.specs.declared.given.Copied.{Copied}
 use Rattle.sector_stock.specs.Copy.{SameSectors, Stays}
 use Rattle.sector_stock.specs.Room.{HasRoom, HasNoneDead}

@@ -10,11 +10,11 @@ use Rattle.erase_journal.specs.Journals.{IsHealthy}
 use Rattle.sector_slots.specs.Slots.{Slot, slot_at, slot_count, data_blocks, kind_at, raw_slot, IsClean, IsSpareIn}
 use Rattle.sector_slots.specs.Blocks.{IsAtRest, IsCopying, AreSettled, settled, copying, SoundBlocks}
 use Rattle.sector_slots.specs.Copying.{SameLive}
-use Rattle.sector_slots.specs.MoveLaws.{same-back, same-on, same-whole}
+use Rattle.sector_slots.proofs.MoveLaws.{same-back, same-on, same-whole}
 use Rattle.sector_slots.specs.Sectors.{SoundSlots, IsSoundMap, HoldsSectors, sector_at}
-use Rattle.sector_slots.specs.BlankLaws.{sound-holds}
+use Rattle.sector_slots.proofs.BlankLaws.{sound-holds}
 use Rattle.sector_slots.specs.Steps.{Succeeds}
-use Rattle.sector_slots.specs.StepLaws.{chip-after, settled-healthy}
+use Rattle.sector_slots.proofs.StepLaws.{chip-after, settled-healthy}
 use Rattle.sector_stock.specs.Copy.{KeepsSectors, Ends, IsVoidIn, IsCommittedIn}
 use Rattle.sector_stock.specs.Room.{HasRoom}
 use Rattle.sector_map.specs.Found.{FoundIn, fitting}

@@ -13,9 +13,9 @@ use Rattle.erase_journal.specs.Journals.{IsHealthy}
 use Rattle.erase_journal.specs.Recovery.{Recovers, RecoveryCut, IsBehind}
 use Rattle.sector_slots.specs.Slots.{Slot, slot_at, slot_count, SameSlots}
 use Rattle.sector_slots.specs.Sectors.{sector_at, winner, newer, content_in, IsSoundMap}
-use Rattle.sector_slots.specs.BlankLaws.{sound-holds, blocks-holds, same-blocks_slots}
+use Rattle.sector_slots.proofs.BlankLaws.{sound-holds, blocks-holds, same-blocks_slots}
 use Rattle.sector_slots.specs.Steps.{Succeeds, Refuses}
-use Rattle.sector_slots.specs.StepLaws.{settled-healthy, kept-after}
+use Rattle.sector_slots.proofs.StepLaws.{settled-healthy, kept-after}
 use Rattle.sector_map.specs.Table.{Mounts, MountCut}
 use Rattle.sector_map.specs.Maps.{IsMountable, geometry_of, KeepsEach, Filled, FillCut, FillFails, Mounted, MountWasCut, MountFails, shown_with, is_slow_in}
 use Rattle.sector_map.specs.declared.entry.Entry.{Entry}

@@ -8,11 +8,11 @@ use Rattle.nor_layout.specs.Headers.{next_generation}
 use Rattle.erase_journal.specs.Blocks.{SameChip}
 use Rattle.sector_slots.specs.Slots.{Slot, Free, Live, Dead, data_blocks, kind_at, raw_slot, slot_at, slot_count, IsSpareIn, OnlySlot}
 use Rattle.sector_slots.specs.Blocks.{AreAtRest, AreSettled, IsSettledBlocks}
-use Rattle.sector_slots.specs.CopyLaws.{counted-in, at-rest-counts, at-rest-copies, copies-none}
+use Rattle.sector_slots.proofs.CopyLaws.{counted-in, at-rest-counts, at-rest-copies, copies-none}
 use Rattle.sector_slots.specs.Sectors.{LiveAt, NextGeneration, OthersKept, with_sector, IsSingle, IsSoundMap, HoldsSectors}
-use Rattle.sector_slots.specs.SectorLaws.{kind_in, put-done}
-use Rattle.sector_slots.specs.WinnerLaws.{stands-computed}
-use Rattle.sector_slots.specs.PlaceLaws.{later, later-is, place-others, place-settled, place-holds, put-leaves, retire-holds}
+use Rattle.sector_slots.proofs.SectorLaws.{kind_in, put-done}
+use Rattle.sector_slots.proofs.WinnerLaws.{stands-computed}
+use Rattle.sector_slots.proofs.PlaceLaws.{later, later-is, place-others, place-settled, place-holds, put-leaves, retire-holds}
 use Rattle.sector_slots.specs.Steps.{PutLeaves, OnlyPlace}
 use Rattle.sector_slots.specs.Sectors.{sector_at}
 use Rattle.sector_map.specs.Replace.{IsPlaced}

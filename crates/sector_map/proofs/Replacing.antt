@@ -11,12 +11,12 @@ use Rattle.nor_layout.specs.Headers.{next_generation}
 use Rattle.erase_journal.specs.Blocks.{SameChip}
 use Rattle.sector_slots.specs.Slots.{Slot, Free, Live, Dead, slot_at, slot_count, IsClean, IsLive, OnlySlot, stored_at}
 use Rattle.sector_slots.specs.Steps.{PutLeaves, still_free, half_written, written, HoldsTag, MayHoldTag, IsWritable, OnlyPlace}
-use Rattle.sector_slots.specs.BlankLaws.{sound-holds}
+use Rattle.sector_slots.proofs.BlankLaws.{sound-holds}
 use Rattle.sector_slots.specs.Sectors.{zeros, LiveAt, IsAbsent, absent, held, Single, NextGeneration, begun, after, OthersKept, with_sector, sector_at, IsSoundMap, IsSingle, HoldsSectors, content_in}
-use Rattle.sector_slots.specs.SectorLaws.{Without, moved, moved-back, at-new, free-without, dead-without, other-without}
+use Rattle.sector_slots.proofs.SectorLaws.{Without, moved, moved-back, at-new, free-without, dead-without, other-without}
 use Rattle.sector_slots.specs.Copying.{IsQuiet}
-use Rattle.sector_slots.specs.SlotLaws.{counted-raw}
-use Rattle.sector_slots.specs.WinnerLaws.{sector-one, sector-content-is}
+use Rattle.sector_slots.proofs.SlotLaws.{counted-raw}
+use Rattle.sector_slots.proofs.WinnerLaws.{sector-one, sector-content-is}
 use Rattle.sector_map.proofs.Places.{live-not-free, dead-not-live, slot-only, others-kept, placed-settled, live-placed, put-holds, put-left, retire-held}
 use Rattle.sector_map.specs.Replace.{HeldBy, generation_after, IsReplaceable, Replaces, ReplaceLeaves, Rewrites, RewriteLeaves}
 use Rattle.sector_map.specs.declared.held.Held.{Held}

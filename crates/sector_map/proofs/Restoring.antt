@@ -13,10 +13,10 @@ use Rattle.erase_journal.specs.Recovery.{Restored, RestoreCut, RestoreCorrupt}
 use Rattle.erase_journal.specs.Steps as steps
 use Rattle.sector_slots.specs.Slots.{slot_in, data_blocks, data_block, kind_at, raw_slot, IsClean}
 use Rattle.sector_slots.specs.Sectors.{sector_at, IsSoundMap}
-use Rattle.sector_slots.specs.BlankLaws.{sound-holds, blocks-holds, counted-same}
-use Rattle.sector_slots.specs.CleanLaws.{clean-blocks}
+use Rattle.sector_slots.proofs.BlankLaws.{sound-holds, blocks-holds, counted-same}
+use Rattle.sector_slots.proofs.CleanLaws.{clean-blocks}
 use Rattle.sector_slots.specs.Steps.{Succeeds, Refuses}
-use Rattle.sector_slots.specs.StepLaws.{settled-healthy}
+use Rattle.sector_slots.proofs.StepLaws.{settled-healthy}
 use Rattle.sector_map.specs.Replace.{HeldBy}
 use Rattle.sector_map.specs.Table.{IsTableOf, Mounts, MountCut, holder}
 use Rattle.sector_map.specs.Maps.{IsStore, KeepsEach, Served, Standing, Renewed, RenewCorrupt, RenewCut, RenewFails}

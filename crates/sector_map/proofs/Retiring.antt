@@ -15,7 +15,7 @@ use Rattle.sector_slots.specs.Slots.{Slot, Dead, slot_at, slot_count, IsClean, I
 use Rattle.sector_slots.specs.Blocks.{AreSettled}
 use Rattle.sector_slots.specs.Steps.{Succeeds, Refuses, OnlyPlace}
 use Rattle.sector_slots.specs.Sectors.{LiveAt, SoundSlots, OthersKept, HoldsSectors, IsSingle, generation_in}
-use Rattle.sector_slots.specs.SectorLaws.{Without, moved, moved-back, dead-without, other-without, kind_in, never-round}
+use Rattle.sector_slots.proofs.SectorLaws.{Without, moved, moved-back, dead-without, other-without, kind_in, never-round}
 use Rattle.sector_map.proofs.Places.{others-kept, slot-only, placed-settled, live-placed, retire-held}
 use Rattle.sector_map.specs.Table.{OneHolds, TwoHold, Says, IsTabled, Settled, IsOneAtMost, IsTableOf, holder}
 use Rattle.sector_map.specs.Replace.{HeldBy}

@@ -9,8 +9,8 @@ use Rattle.nor_layout.specs.declared.header.Header.TheVariants as headers
 use Rattle.nor_layout.specs.Headers.{next_generation, generation_byte}
 use Rattle.sector_slots.specs.Slots.{Slot, Free, Live, NoGeneration, Dead, Outside, slot_with}
 use Rattle.sector_slots.specs.Sectors.{LiveAt, SoundSlots, generation_in, is_next}
-use Rattle.sector_slots.specs.SectorLaws.{number_in, kind_in, never-round}
-use Rattle.sector_slots.specs.WinnerLaws.{byte-one}
+use Rattle.sector_slots.proofs.SectorLaws.{number_in, kind_in, never-round}
+use Rattle.sector_slots.proofs.WinnerLaws.{byte-one}
 use Rattle.sector_map.specs.Table.{Says, IsTabled, noted, IsBlankTable, Entered, Enters, Heads}
 use Rattle.sector_map.specs.declared.held.Held.{Held}
 use Rattle.sector_map.specs.declared.entry.Entry.{Entry}

@@ -1,6 +1,6 @@
 -- The copying of one block into another, as a machine over the blocks: what each step does to the kinds and the slots of n data
 -- blocks, and what becomes of the slots that count. Source: own, layout 2.
-use Rattle.std.specs.Prelude.{◌≡◌, ◌≢◌, ◌⊎◌, ℕ, ◌+◌, ◌<◌, List}
+use Rattle.std.specs.Prelude.{◌≡◌, ◌≢◌, ◌⊎◌, ℕ, ◌+◌, ◌*◌, ◌/◌, ◌%◌, ◌<◌, ◌==◌, List, if◌then◌else◌}
 use Rattle.nor_layout.specs.declared.header.Generation.{Generation}
 use Rattle.nor_layout.specs.declared.header.Tag.{Tag}
 use Rattle.nor_layout.specs.declared.kind.Kind.{Kind}
@@ -100,3 +100,7 @@ pub record ErasesVoid (t n : ℕ) (kind kind' : ℕ → Kind) (slots slots' : �
   pub was : kind t ≡ kinds.Void
   pub only : OnlyData t n kind kind' slots slots'
   pub now : IsSpare kind' slots' t
+
+-- where a slot of block s goes in block t, and back
+abbrev pub shifted : ℕ → ℕ → ℕ → ℕ
+shifted s t w = if w / 7 == s then 7 * t + w % 7 else w

@@ -8,19 +8,19 @@ use Rattle.erase_journal.specs.Blocks.{SameChip, OnlyBlock, SameBlocks, WithEras
 use Rattle.erase_journal.specs.Steps.{Interrupted, as_it_was, block_erased}
 use Rattle.sector_slots.specs.Slots.{Free, is_copy_of, slot_in, content_in, data_blocks, data_block, kind_at, raw_slot, IsClean, IsSpareIn, Slot, Live, NoGeneration, Dead, Outside, slot_at, slot_count, is_void, copies as copies_of}
 use Rattle.sector_slots.specs.Blocks.{IsTarget, IsAtRest}
-use Rattle.sector_slots.specs.BlockLaws.{begin-target, copy-target, commit-target, erase_source-target}
+use Rattle.sector_slots.proofs.BlockLaws.{begin-target, copy-target, commit-target, erase_source-target}
 use Rattle.sector_slots.specs.Copying.{IsCopy, copy_slot, Begins, Commits, ErasesSource, Settles, ErasesVoid, IsQuiet, SameLive}
 use Rattle.sector_slots.specs.Sectors.{IsSingle, IsSoundMap, sector_at}
 use Rattle.sector_slots.specs.Steps.{OnlyPlace, OnlyMark, IsBegun, IsFresh, IsErasable, CopyLeaves, live_copied, passed_over}
 use Rattle.sector_slots.specs.Machine.{Step, begins, copies, commits, erases_source, settles, erases_void}
-use Rattle.sector_slots.specs.MachineLaws.{block-data, step-holds, step-single, last-settles}
-use Rattle.sector_slots.specs.SlotLaws.{copy-is, copy-is_exact}
-use Rattle.sector_slots.specs.CopyLaws.{copy-exact, counted-in, at-rest-counts, void-copies, committed-source, counted-other, quiet-live, counted-source, source-copies, counted-void, erase_source-same, settle-live, erase_void-live}
-use Rattle.sector_slots.specs.PlaceLaws.{later, later-is}
-use Rattle.sector_slots.specs.StepLaws.{chip-after}
+use Rattle.sector_slots.proofs.MachineLaws.{block-data, step-holds, step-single, last-settles}
+use Rattle.sector_slots.proofs.SlotLaws.{copy-is, copy-is_exact}
+use Rattle.sector_slots.proofs.CopyLaws.{copy-exact, counted-in, at-rest-counts, void-copies, committed-source, counted-other, quiet-live, counted-source, source-copies, counted-void, erase_source-same, settle-live, erase_void-live}
+use Rattle.sector_slots.proofs.PlaceLaws.{later, later-is}
+use Rattle.sector_slots.proofs.StepLaws.{chip-after}
 use Rattle.nor_layout.specs.Kinds.{kind_of}
-use Rattle.sector_slots.specs.CleanLaws.{clean-only, clean-blocks, void-clean, commit-clean, erase_source-clean, settle-clean, committed-clean}
-use Rattle.sector_slots.specs.BlankLaws.{blank-content, counted-same, erased-spare, same-holds, unchanged-holds, blocks-holds, sound-holds, holds-sound}
+use Rattle.sector_slots.proofs.CleanLaws.{clean-only, clean-blocks, void-clean, commit-clean, erase_source-clean, settle-clean, committed-clean}
+use Rattle.sector_slots.proofs.BlankLaws.{blank-content, counted-same, erased-spare, same-holds, unchanged-holds, blocks-holds, sound-holds, holds-sound}
 use Rattle.nor_layout.specs.declared.header.Tag.{Tag}
 use Rattle.sector_stock.specs.Copy.{bare, SameSectors, KeepsSectors, Stays, IsCopyable, IsCopiedTo, IsExactTo, Progress, Finishes, FinishLeaves, IsFinished, Copies, Reclaimed, Ends, IsVoidIn, IsCommittedIn}
 use Rattle.sector_stock.proofs.Tags.{bare-whole, tags-sound}

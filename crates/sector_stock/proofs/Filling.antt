@@ -8,7 +8,7 @@ use Rattle.nor_layout.specs.declared.header.Header.TheVariants as headers
 use Rattle.nor_layout.specs.declared.kind.Kind.{Kind}
 use Rattle.sector_slots.specs.Slots.{Slot, Free, Live, NoGeneration, Dead, Outside, slot_with, slot_in, descriptor_in, content_in, slot_at, slot_count, data_blocks, data_block, kind_at, raw_slot}
 use Rattle.sector_slots.specs.Blocks.{AreSettled}
-use Rattle.sector_slots.specs.CopyLaws.{how_many-zero, how_many-suc, how_many-same}
+use Rattle.sector_slots.proofs.CopyLaws.{how_many-zero, how_many-suc, how_many-same}
 use Rattle.sector_stock.specs.declared.index.SlotState.{SlotState}
 use Rattle.sector_stock.specs.declared.index.SlotState.TheVariants as states
 use Rattle.sector_stock.specs.declared.index.BlockState.{BlockState}

@@ -1,3 +1,5 @@
+pub mod RoomLaws
+pub mod IndexLaws
 pub mod Tags
 pub mod Copying
 pub mod Shifting

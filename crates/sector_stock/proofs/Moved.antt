@@ -11,14 +11,15 @@ use Rattle.nor_layout.specs.declared.kind.Kind.TheVariants as kinds
 use Rattle.sector_slots.specs.Slots.{Slot, Free, Live, NoGeneration, Dead, Outside, slot_at, slot_count, data_blocks, kind_at, raw_slot, is_void, IsSpareIn}
 use Rattle.sector_slots.specs.Blocks.{AreAtRest, AreSettled, settled, IsReserveOf}
 use Rattle.sector_slots.specs.Copying.{IsQuiet, copy_slot}
-use Rattle.sector_slots.specs.CopyLaws.{at-rest-copies, at-rest-counts, copies-none, counted-in, shifted, shifted-there, shifted-else, quiet-live, IsWhole}
+use Rattle.sector_slots.proofs.CopyLaws.{at-rest-copies, at-rest-counts, copies-none, counted-in, shifted-there, shifted-else, quiet-live, IsWhole}
+use Rattle.sector_slots.specs.Copying.{shifted}
 use Rattle.sector_slots.specs.Sectors.{LiveAt, IsSoundMap}
 use Rattle.sector_stock.specs.declared.index.SlotState.{SlotState}
 use Rattle.sector_stock.specs.declared.index.BlockState.{BlockState}
 use Rattle.sector_stock.specs.declared.index.Cursors.{Cursors}
 use Rattle.sector_stock.specs.Index.{state_of, is_free, is_dead, is_plain, tally, Tallies, in_block, in_slots, IsListed, IsIndexOf, copied_state, Shifted, BlocksMoved, IsHighestWhole, IsWholeBlock, IsAhead, IsMostDead, HasNoDead}
 use Rattle.sector_stock.specs.Room.{HasRoom, HasNoneDead, HasNoneFree}
-use Rattle.sector_stock.specs.RoomLaws.{settled-inside}
+use Rattle.sector_stock.proofs.RoomLaws.{settled-inside}
 use Rattle.sector_stock.specs.Copy.{bare, IsCopiedWhole, IsCopyable, Copies}
 use Rattle.sector_stock.proofs.Tags.{bare-live}
 use Rattle.sector_stock.specs.Takes.{HasMostDead, CopiesInto, dead_slots}

@@ -9,12 +9,13 @@ use Rattle.nor_layout.specs.declared.header.Tag.{Tag}
 use Rattle.nor_layout.specs.declared.kind.Kind.{Kind}
 use Rattle.sector_slots.specs.Slots.{Slot, Free, Live, NoGeneration, Dead, Outside, counted, is_counted, data_blocks, kind_at, raw_slot, slot_at, slot_count}
 use Rattle.sector_slots.specs.Blocks.{SoundBlocks, copying}
-use Rattle.sector_slots.specs.BlockLaws.{commit-target}
+use Rattle.sector_slots.proofs.BlockLaws.{commit-target}
 use Rattle.sector_slots.specs.Copying.{Commits}
-use Rattle.sector_slots.specs.CopyLaws.{IsWhole, quiet-live, shifted}
-use Rattle.sector_slots.specs.CommitLaws.{commit-moves}
-use Rattle.sector_slots.specs.MoveLaws.{moves-stands}
-use Rattle.sector_slots.specs.WinnerLaws.{sound-stands}
+use Rattle.sector_slots.proofs.CopyLaws.{IsWhole, quiet-live}
+use Rattle.sector_slots.specs.Copying.{shifted}
+use Rattle.sector_slots.proofs.CommitLaws.{commit-moves}
+use Rattle.sector_slots.proofs.MoveLaws.{moves-stands}
+use Rattle.sector_slots.proofs.WinnerLaws.{sound-stands}
 use Rattle.sector_slots.specs.Sectors.{LiveAt, SoundSlots, Single, IsSingle, IsSoundMap, sector_content}
 use Rattle.sector_stock.specs.Copy.{bare}
 

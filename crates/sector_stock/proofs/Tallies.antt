@@ -2,7 +2,7 @@
 use Rattle.std.proofs.Common.{◌≡◌, ℕ, zero, suc, ◌+◌, ◌*◌, ◌<◌, ◌≤◌, ◌⊎◌, Bool, true, false, refl, sym, ap, ◌∙◌, arith, inl, inr, if◌then◌else◌}
 use Rattle.std.proofs.lemmas.Bool.{cases_eq}
 use Rattle.erase_journal.specs.Places.{how_many}
-use Rattle.sector_slots.specs.CopyLaws.{how_many-zero, how_many-suc, how_many-same, how_many-none, how_many-each_fails}
+use Rattle.sector_slots.proofs.CopyLaws.{how_many-zero, how_many-suc, how_many-same, how_many-none, how_many-each_fails}
 use Rattle.sector_slots.specs.Slots.{Slot, Free, Live, NoGeneration, Dead, Outside}
 use Rattle.sector_stock.specs.Index.{is_free, is_dead, tally}
 

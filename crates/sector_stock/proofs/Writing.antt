@@ -6,14 +6,14 @@ use Rattle.chip_model.specs.Geometry.{IsChipSize, block_count}
 use Rattle.nor_layout.specs.declared.header.Tag.{Tag}
 use Rattle.sector_slots.specs.Slots.{Slot, Free, Live, NoGeneration, Dead, Outside, slot_at, slot_count, data_blocks, kind_at, raw_slot, counted, is_counted, IsLive, IsSpareIn}
 use Rattle.sector_slots.specs.Steps.{OnlyPlace, HoldsTag}
-use Rattle.sector_slots.specs.MachineLaws.{block-data}
-use Rattle.sector_slots.specs.PlaceLaws.{later, later-is, place-others, place-kinds}
+use Rattle.sector_slots.proofs.MachineLaws.{block-data}
+use Rattle.sector_slots.proofs.PlaceLaws.{later, later-is, place-others, place-kinds}
 use Rattle.sector_stock.specs.declared.index.SlotState.{SlotState}
 use Rattle.sector_stock.specs.declared.index.SlotState.TheVariants as states
 use Rattle.sector_stock.specs.declared.index.BlockState.{BlockState}
 use Rattle.sector_stock.specs.declared.index.Cursors.{Cursors}
 use Rattle.sector_stock.specs.Index.{is_free, is_dead, in_block, IsListed, IsIndexOf, IsAhead, IsWholeBlock, IsStocked, Marked, one_dead_more, one_free_fewer}
-use Rattle.sector_stock.specs.IndexLaws.{listed-dead, listed-live}
+use Rattle.sector_stock.proofs.IndexLaws.{listed-dead, listed-live}
 use Rattle.sector_slots.specs.Blocks.{IsReserveOf}
 use Rattle.sector_stock.proofs.Moved.{numbers-in}
 use Rattle.sector_stock.proofs.Tallies.{tally-none, tally-full, tally-most, not-both}

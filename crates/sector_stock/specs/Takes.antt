@@ -6,7 +6,7 @@ use Rattle.erase_journal.specs.Places.{how_many}
 use Rattle.sector_slots.specs.Slots.{Free, NoGeneration, slot_at, slot_count, data_blocks, IsClean, IsSpareIn}
 use Rattle.sector_slots.specs.Sectors.{LiveAt}
 use Rattle.sector_slots.specs.Blocks.{AreSettled, IsReserveOf}
-use Rattle.sector_slots.specs.CopyLaws.{shifted}
+use Rattle.sector_slots.specs.Copying.{shifted}
 use Rattle.sector_stock.specs.declared.given.Copied.{Copied}
 use Rattle.sector_stock.specs.Room.{HasNoneFree}
 use Rattle.sector_stock.specs.Index.{tally, is_dead}

@@ -1,4 +1,4 @@
-use Rattle.chip_model.specs.FrameLaws.{quiet_completes}
+use Rattle.chip_model.proofs.FrameLaws.{quiet_completes}
 use Rattle.chip_model.proofs.laws.quiet_bus_completes_operations.Goals as goal
 
 pub returns : goal.returns

@@ -1,4 +1,4 @@
-use Rattle.erase_journal.specs.BlockLaws.{length-block}
+use Rattle.erase_journal.proofs.BlockLaws.{length-block}
 use Rattle.erase_journal.proofs.laws.blocks_have_one_size.Goals as goal
 
 pub returns : goal.returns

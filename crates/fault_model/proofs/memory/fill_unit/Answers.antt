@@ -1,7 +1,7 @@
 use Rattle.std.proofs.Common.{◌≡◌, ◌+◌, ◌-◌, ◌∙◌, ap, sym, subst, List, ℕ, arith}
 use Rattle.std.specs.Prelude.{set}
 use Rattle.chip_model.specs.Memory.{changed, fill_place, TornErase}
-use Rattle.chip_model.specs.MemoryLaws.{filled_none, filled_more}
+use Rattle.chip_model.proofs.MemoryLaws.{filled_none, filled_more}
 use Rattle.fault_model.specs.Mask.{filled}
 use Rattle.fault_model.proofs.MaskLaws.{filled_unit, fill_torn, fill_erased}
 use Rattle.fault_model.proofs.memory.fill_unit.Goals as goal

@@ -2,7 +2,7 @@ use Rattle.std.proofs.Common.{◌≤◌, ◌+◌, ◌∙◌, ap, sym, List, ℕ,
 use Rattle.std.specs.Prelude.{set, bit_and}
 use Rattle.std.proofs.lemmas.List.{take_all}
 use Rattle.chip_model.specs.Memory.{placed}
-use Rattle.chip_model.specs.MemoryLaws.{placed-nothing}
+use Rattle.chip_model.proofs.MemoryLaws.{placed-nothing}
 use Rattle.fault_model.proofs.RunLaws.{placed_more}
 use Rattle.fault_model.proofs.memory.program_run.Goals as goal
 

@@ -2,7 +2,7 @@ use Rattle.std.proofs.Common.{◌+◌, ◌∙◌, ap, arith}
 use Rattle.std.proofs.lemmas.Result.{err_from_is_err_and}
 use Rattle.nor_driver.specs.State.{changed_whole}
 use Rattle.nor_layout.specs.Kinds.{kind_of}
-use Rattle.erase_journal.specs.BlockLaws.{length-block}
+use Rattle.erase_journal.proofs.BlockLaws.{length-block}
 use Rattle.sector_slots.specs.Slots.{data_block}
 use Rattle.journal_slots.proofs.Bytes.{mark-only, state-only, commit-cut}
 use Rattle.journal_slots.proofs.mark.commit_mark.Goals as goal

@@ -2,7 +2,7 @@ use Rattle.std.proofs.Common.{◌+◌, arith}
 use Rattle.std.proofs.lemmas.Result.{err_from_is_err_and}
 use Rattle.nor_driver.specs.State.{changed_whole}
 use Rattle.erase_journal.specs.Blocks.{block}
-use Rattle.erase_journal.specs.BlockLaws.{length-block}
+use Rattle.erase_journal.proofs.BlockLaws.{length-block}
 use Rattle.journal_slots.proofs.Marks.{mark-leaves, begin-leaves, plain-bytes, mark-state, mark-begun, mark-once}
 use Rattle.journal_slots.proofs.mark.program_mark.Goals as goal
 

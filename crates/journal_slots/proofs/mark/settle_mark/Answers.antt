@@ -1,7 +1,7 @@
 use Rattle.std.proofs.Common.{◌+◌, arith}
 use Rattle.std.proofs.lemmas.Result.{err_from_is_err_and}
 use Rattle.nor_driver.specs.State.{changed_whole}
-use Rattle.erase_journal.specs.BlockLaws.{length-block}
+use Rattle.erase_journal.proofs.BlockLaws.{length-block}
 use Rattle.sector_slots.specs.Slots.{data_block}
 use Rattle.journal_slots.proofs.Marks.{settle-mark}
 use Rattle.journal_slots.proofs.Bytes.{mark-only, state-only, settle-cut}

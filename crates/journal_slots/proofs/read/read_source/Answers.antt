@@ -1,5 +1,5 @@
 use Rattle.std.proofs.Common.{◌+◌, arith}
-use Rattle.erase_journal.specs.BlockLaws.{length-block}
+use Rattle.erase_journal.proofs.BlockLaws.{length-block}
 use Rattle.journal_slots.proofs.Reading.{source-read}
 use Rattle.journal_slots.proofs.read.read_source.Goals as goal
 

@@ -2,7 +2,7 @@ use Rattle.std.proofs.Common.{refl}
 use Rattle.std.proofs.lemmas.Result.{err_from_is_err_and}
 use Rattle.journal_slots.proofs.Slots.{free-inside, fresh-slot, place-only, put-live, put-clean, put-left, put-left_clean, put-holds, put-may_hold}
 use Rattle.sector_slots.specs.Slots.{Free}
-use Rattle.sector_slots.specs.SlotLaws.{counted-raw}
+use Rattle.sector_slots.proofs.SlotLaws.{counted-raw}
 use Rattle.journal_slots.proofs.slot.put_at.Goals as goal
 
 pub returns-in_err-put_in-clause-cut : goal.returns-in_err-put_in-clause-cut

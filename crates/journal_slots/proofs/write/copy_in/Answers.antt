@@ -1,7 +1,7 @@
 use Rattle.std.proofs.Common.{◌≡◌, ◌+◌, ◌*◌, ◌<◌, ◌∙◌, ℕ, ap, subst, arith, length}
 use Rattle.std.proofs.lemmas.Result.{err_from_is_err_and}
 use Rattle.chip_model.specs.Memory.{byte, and_at}
-use Rattle.erase_journal.specs.BlockLaws.{length-block}
+use Rattle.erase_journal.proofs.BlockLaws.{length-block}
 use Rattle.sector_slots.specs.Slots.{data_block}
 use Rattle.journal_slots.specs.Programs.{OnlyBytes}
 use Rattle.journal_slots.proofs.Bytes.{leaves-only, and-only, descriptor-place, content-place, place-after}

@@ -2,7 +2,7 @@ use Rattle.std.proofs.Common.{◌+◌, ◌∷◌, [], ◌∙◌, ap, subst, arit
 use Rattle.std.proofs.lemmas.Result.{err_from_is_err_and}
 use Rattle.chip_model.specs.Memory.{and_at, TornAnd}
 use Rattle.nor_driver.specs.State.{Leaves}
-use Rattle.erase_journal.specs.BlockLaws.{length-block}
+use Rattle.erase_journal.proofs.BlockLaws.{length-block}
 use Rattle.sector_slots.specs.Slots.{data_block}
 use Rattle.journal_slots.specs.Programs.{OnlyBytes}
 use Rattle.journal_slots.proofs.Bytes.{leaves-only, and-only, descriptor-place}

@@ -1,7 +1,7 @@
 use Rattle.std.proofs.Common.{sym, subst}
 use Rattle.std.specs.Prelude.{Some, IfErr}
 use Rattle.sector_slots.specs.Steps.{Refuses}
-use Rattle.sector_slots.specs.StepLaws.{settled-healthy, succeeds-after, refuses-after}
+use Rattle.sector_slots.proofs.StepLaws.{settled-healthy, succeeds-after, refuses-after}
 use Rattle.std.proofs.lemmas.Result.{err_from_is_err_and}
 use Rattle.sector_map.proofs.Replacing.{put-was-cut, replace-done, retire-was-cut, old-live}
 use Rattle.sector_map.proofs.replace.replace_held.Goals as goal

@@ -2,7 +2,7 @@ use Rattle.std.proofs.Common.{sym, subst, inl, arith}
 use Rattle.std.specs.Prelude.{IfErr}
 use Rattle.std.proofs.lemmas.Result.{err_from_is_err_and}
 use Rattle.sector_slots.specs.Steps.{Refuses}
-use Rattle.sector_slots.specs.StepLaws.{settled-healthy, succeeds-after, refuses-after}
+use Rattle.sector_slots.proofs.StepLaws.{settled-healthy, succeeds-after, refuses-after}
 use Rattle.sector_map.proofs.Retiring.{succeeds-perhaps, refuses-perhaps}
 use Rattle.sector_map.proofs.Mounting.{perhaps-healthy}
 use Rattle.sector_map.proofs.MapCalls.{served-room, stays-keeps, served-moved, same-moved-keeps, at-slot, slot-held, slot-replaceable, held-number, write-cut, wrote}

@@ -1,4 +1,4 @@
-use Rattle.sector_slots.specs.SlotLaws.{copy-is_exact}
+use Rattle.sector_slots.proofs.SlotLaws.{copy-is_exact}
 use Rattle.sector_slots.proofs.laws.copies_are_exact.Goals as goal
 
 pub returns : goal.returns

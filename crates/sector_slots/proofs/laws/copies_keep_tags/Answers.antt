@@ -1,4 +1,4 @@
-use Rattle.sector_slots.specs.SlotLaws.{copy-keeps_tag}
+use Rattle.sector_slots.proofs.SlotLaws.{copy-keeps_tag}
 use Rattle.sector_slots.proofs.laws.copies_keep_tags.Goals as goal
 
 pub returns : goal.returns

@@ -1,4 +1,4 @@
-use Rattle.sector_slots.specs.SlotLaws.{counted-raw}
+use Rattle.sector_slots.proofs.SlotLaws.{counted-raw}
 use Rattle.sector_slots.proofs.laws.counted_slots_are_stored.Goals as goal
 
 pub returns : goal.returns

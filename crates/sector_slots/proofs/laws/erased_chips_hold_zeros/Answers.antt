@@ -1,5 +1,5 @@
 use Rattle.std.proofs.Common.{◌+◌, arith}
-use Rattle.sector_slots.specs.ErasedLaws.{blank-holds_zeros}
+use Rattle.sector_slots.proofs.ErasedLaws.{blank-holds_zeros}
 use Rattle.sector_slots.proofs.laws.erased_chips_hold_zeros.Goals as goal
 
 pub returns : goal.returns

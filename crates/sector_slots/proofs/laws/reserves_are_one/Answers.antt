@@ -1,4 +1,4 @@
-use Rattle.sector_slots.specs.SlotLaws.{one-reserve}
+use Rattle.sector_slots.proofs.SlotLaws.{one-reserve}
 use Rattle.sector_slots.proofs.laws.reserves_are_one.Goals as goal
 
 pub returns : goal.returns

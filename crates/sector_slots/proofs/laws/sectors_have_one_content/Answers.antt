@@ -1,4 +1,4 @@
-use Rattle.sector_slots.specs.WinnerLaws.{sector-one}
+use Rattle.sector_slots.proofs.WinnerLaws.{sector-one}
 use Rattle.sector_slots.proofs.laws.sectors_have_one_content.Goals as goal
 
 pub returns : goal.returns

@@ -1,4 +1,4 @@
-use Rattle.sector_slots.specs.BlockLaws.{sound-no_fault}
+use Rattle.sector_slots.proofs.BlockLaws.{sound-no_fault}
 use Rattle.sector_slots.proofs.laws.sound_blocks_have_no_fault.Goals as goal
 
 pub returns : goal.returns

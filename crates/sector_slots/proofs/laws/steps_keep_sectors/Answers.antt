@@ -1,4 +1,4 @@
-use Rattle.sector_slots.specs.MachineLaws.{step-holds}
+use Rattle.sector_slots.proofs.MachineLaws.{step-holds}
 use Rattle.sector_slots.proofs.laws.steps_keep_sectors.Goals as goal
 
 pub returns : goal.returns

@@ -1,4 +1,4 @@
-use Rattle.sector_slots.specs.MachineLaws.{step-single}
+use Rattle.sector_slots.proofs.MachineLaws.{step-single}
 use Rattle.sector_slots.proofs.laws.steps_keep_singles.Goals as goal
 
 pub returns : goal.returns

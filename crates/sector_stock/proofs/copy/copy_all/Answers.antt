@@ -1,6 +1,6 @@
 use Rattle.std.proofs.lemmas.Result.{err_from_is_err_and}
 use Rattle.std.proofs.Common.{◌∙◌, ◌≡◌, subst, arith}
-use Rattle.sector_slots.specs.StepLaws.{succeeds-after}
+use Rattle.sector_slots.proofs.StepLaws.{succeeds-after}
 use Rattle.sector_stock.specs.Copy.{Progress}
 use Rattle.sector_stock.proofs.Copying.{begin-cut, begin-progress, copy-cut, copy-progress}
 use Rattle.sector_stock.proofs.copy.copy_all.Goals as goal

@@ -1,4 +1,4 @@
-use Rattle.sector_stock.specs.RoomLaws.{never-full}
+use Rattle.sector_stock.proofs.RoomLaws.{never-full}
 use Rattle.sector_stock.proofs.laws.never_full.Goals as goal
 
 pub returns : goal.returns

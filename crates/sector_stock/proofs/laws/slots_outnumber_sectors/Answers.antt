@@ -1,4 +1,4 @@
-use Rattle.sector_stock.specs.RoomLaws.{outnumber}
+use Rattle.sector_stock.proofs.RoomLaws.{outnumber}
 use Rattle.sector_stock.proofs.laws.slots_outnumber_sectors.Goals as goal
 
 pub returns : goal.returns

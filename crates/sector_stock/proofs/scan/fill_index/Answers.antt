@@ -1,7 +1,7 @@
 use Rattle.std.proofs.Common.{◌∙◌, ap, sym, subst, arith}
 use Rattle.sector_stock.specs.Index.{IsIndexOf}
 use Rattle.sector_slots.specs.Slots.{data_blocks, descriptor_in, data_block, kind_at}
-use Rattle.sector_slots.specs.StepLaws.{succeeds-after}
+use Rattle.sector_slots.proofs.StepLaws.{succeeds-after}
 use Rattle.sector_stock.proofs.Filling.{noted-next, listed-noted, numbers-listed, spare-listed, index-filled}
 use Rattle.sector_stock.proofs.scan.fill_index.Goals as goal
 

@@ -1,5 +1,5 @@
 use Rattle.std.proofs.Common.{refl}
-use Rattle.sector_stock.specs.RoomLaws.{never-full}
+use Rattle.sector_stock.proofs.RoomLaws.{never-full}
 use Rattle.sector_stock.specs.Takes.{was_copied}
 use Rattle.sector_stock.proofs.Moved.{none-dead-in}
 use Rattle.sector_stock.proofs.Finding.{none-free-of}

@@ -1,7 +1,7 @@
 use Rattle.std.proofs.Common.{ap, subst, sym, ◌∙◌}
 use Rattle.std.proofs.lemmas.Bool.{or_right}
 use Rattle.chip_model.specs.Chip.{Chip, is_idle}
-use Rattle.chip_model.specs.FrameLaws.{KeepsShape, still_open}
+use Rattle.chip_model.proofs.FrameLaws.{KeepsShape, still_open}
 use Rattle.nor_driver.proofs.Shape.{done_shape, after_loss, when_down}
 use Rattle.nor_driver.proofs.driver.Driver.apply.Goals as goal
 

@@ -1,6 +1,6 @@
 use Rattle.std.proofs.Common.{ℕ, Bool, false, sym, ap, ◌∙◌}
 use Rattle.chip_model.specs.Chip.{Chip, is_idle}
-use Rattle.chip_model.specs.FrameLaws.{is_setting}
+use Rattle.chip_model.specs.Chip.{is_setting}
 use Rattle.nor_driver.specs.Shown.{shown}
 use Rattle.nor_driver.proofs.Idle.{answer_stays, refusal_stays}
 use Rattle.nor_driver.proofs.Survey.{Accepted, accepted}

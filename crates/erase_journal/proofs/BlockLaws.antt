@@ -4,7 +4,7 @@ use Rattle.std.specs.Prelude.{nat_lt}
 use Rattle.std.proofs.lemmas.List.{length-replicate, get_or-replicate}
 use Rattle.chip_model.specs.Memory.{byte}
 use Rattle.chip_model.specs.Parts.{part}
-use Rattle.chip_model.specs.PartLaws.{part-whole}
+use Rattle.chip_model.proofs.PartLaws.{part-whole}
 use Rattle.chip_model.specs.Geometry.{block_count}
 use Rattle.erase_journal.specs.Journals.{entries_for}
 use Rattle.erase_journal.specs.Blocks.{blank, block, is_believed0}

@@ -5,8 +5,8 @@ use Rattle.std.proofs.lemmas.List.{ext_get_or, get_or-take, get_or-drop, length-
 use Rattle.std.proofs.lemmas.Bool.{cases_lt}
 use Rattle.chip_model.specs.Memory.{byte, erased, is_within, place_of, placed, IsMixed, Torn, TornErase}
 use Rattle.chip_model.specs.Parts.{part}
-use Rattle.chip_model.specs.BitLaws.{mixed_same}
-use Rattle.chip_model.specs.MemoryLaws.{length-placed, get-placed, place-in, place-below, place-above, placed-outside, length-erased, erased-inside, erased-outside, within, not-within-below, not-within-above}
+use Rattle.chip_model.proofs.BitLaws.{mixed_same}
+use Rattle.chip_model.proofs.MemoryLaws.{length-placed, get-placed, place-in, place-below, place-above, placed-outside, length-erased, erased-inside, erased-outside, within, not-within-below, not-within-above}
 
 pub length-part : (size : ℕ) (d : List ℕ) (k : ℕ) → length (part size d k) ≡ min size (length d - size * k)
 unfolding part

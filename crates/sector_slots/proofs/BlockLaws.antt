@@ -7,7 +7,7 @@ use Rattle.nor_layout.specs.declared.kind.Kind.TheVariants as kinds
 use Rattle.sector_slots.specs.Slots.{Slot, IsSpare}
 use Rattle.sector_slots.specs.Blocks.{IsAtRest, IsCopying, AreAtRest, IsTarget, IsSettledBlocks, SoundBlocks, settled, copying, HasNoFault}
 use Rattle.sector_slots.specs.Copying.{OnlyData, Begins, CopiesIn, Commits, ErasesSource, Settles, ErasesVoid}
-use Rattle.sector_slots.specs.CopyLaws.{committed-source}
+use Rattle.sector_slots.proofs.CopyLaws.{committed-source}
 
 rest-of : (k k' : Kind) → k' ≡ k → IsAtRest k → IsAtRest k'
 rest-of k k' e h = subst (λ a. IsAtRest a) (sym e) h

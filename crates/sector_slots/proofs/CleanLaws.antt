@@ -10,10 +10,10 @@ use Rattle.erase_journal.specs.Blocks.{blank, SameChip, OnlyBlock, WithErased}
 use Rattle.sector_slots.specs.Slots.{Slot, Free, Live, Dead, NoGeneration, Outside, slot_in, content_in, blank_sector, counted, copies, is_void, is_copy_of, is_counted, data_blocks, data_block, kind_at, raw_slot, slot_at, slot_count, IsSpareIn, IsClean}
 use Rattle.sector_slots.specs.Blocks.{IsTarget}
 use Rattle.sector_slots.specs.Copying.{Commits, ErasesSource, Settles}
-use Rattle.sector_slots.specs.CopyLaws.{counted-other, counted-void, counted-source, counted-in, source-copies, committed-source, committed-copies, at-rest-copies}
-use Rattle.sector_slots.specs.CommitLaws.{before-other, after-source, after-other, after-target}
-use Rattle.sector_slots.specs.MachineLaws.{block-data}
-use Rattle.sector_slots.specs.BlankLaws.{blank-content}
+use Rattle.sector_slots.proofs.CopyLaws.{counted-other, counted-void, counted-source, counted-in, source-copies, committed-source, committed-copies, at-rest-copies}
+use Rattle.sector_slots.proofs.CommitLaws.{before-other, after-source, after-other, after-target}
+use Rattle.sector_slots.proofs.MachineLaws.{block-data}
+use Rattle.sector_slots.proofs.BlankLaws.{blank-content}
 use Rattle.sector_slots.specs.Steps.{OnlyMark}
 
 -- the slots of the memory after, with the number of blocks of the memory before

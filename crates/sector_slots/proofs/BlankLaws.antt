@@ -5,7 +5,7 @@ use Rattle.std.proofs.lemmas.Bool.{cases_eq}
 use Rattle.std.proofs.lemmas.List.{get_or-drop, ext_get_or}
 use Rattle.chip_model.specs.Memory.{byte}
 use Rattle.chip_model.specs.Parts.{part}
-use Rattle.chip_model.specs.PartLaws.{get-part, part-whole}
+use Rattle.chip_model.proofs.PartLaws.{get-part, part-whole}
 use Rattle.chip_model.specs.Geometry.{block_count, sector_count}
 use Rattle.nor_layout.specs.declared.header.Header.TheVariants as headers
 use Rattle.nor_layout.specs.declared.kind.Kind.{Kind}
@@ -13,15 +13,15 @@ use Rattle.nor_layout.specs.declared.kind.Kind.TheVariants as kinds
 use Rattle.nor_layout.specs.Headers.{header_of}
 use Rattle.nor_layout.specs.Kinds.{kind_of}
 use Rattle.erase_journal.specs.Blocks.{blank, SameChip, OnlyBlock, SameBlocks}
-use Rattle.erase_journal.specs.BlockLaws.{length-blank, byte-blank}
+use Rattle.erase_journal.proofs.BlockLaws.{length-blank, byte-blank}
 use Rattle.sector_slots.specs.Slots.{Slot, Free, slot_with, slot_in, content_in, blank_sector, counted, copies, is_copy_of, data_blocks, data_block, kind_at, raw_slot, slot_at, slot_count, IsSpareIn, SameSlots}
 use Rattle.sector_slots.specs.Blocks.{IsAtRest, IsCopying, SoundBlocks, settled, copying}
 use Rattle.sector_slots.specs.Sectors.{IsSoundMap, HoldsSectors, sector_at}
-use Rattle.sector_slots.specs.WinnerLaws.{sound-stands}
+use Rattle.sector_slots.proofs.WinnerLaws.{sound-stands}
 use Rattle.sector_slots.specs.Copying.{SameLive}
-use Rattle.sector_slots.specs.CopyLaws.{copies-same}
-use Rattle.sector_slots.specs.MoveLaws.{live-stands}
-use Rattle.sector_slots.specs.MachineLaws.{holds-sized}
+use Rattle.sector_slots.proofs.CopyLaws.{copies-same}
+use Rattle.sector_slots.proofs.MoveLaws.{live-stands}
+use Rattle.sector_slots.proofs.MachineLaws.{holds-sized}
 
 pub blank-kind : kind_of blank ≡ kinds.Plain
 blank-kind =

@@ -2,10 +2,10 @@
 use Rattle.std.proofs.Common.{◌≡◌, ℕ, zero, suc, ◌+◌, ◌-◌, ◌*◌, ◌<◌, Bool, true, false, cond, List, length, sym, ap, ◌∙◌, arith}
 use Rattle.std.specs.Prelude.{◌/◌, ◌%◌}
 use Rattle.std.proofs.lemmas.List.{length-replicate}
-use Rattle.chip_model.specs.PartLaws.{part-whole}
+use Rattle.chip_model.proofs.PartLaws.{part-whole}
 use Rattle.nor_layout.specs.declared.header.Header.{Header}
 use Rattle.nor_layout.specs.declared.header.Header.TheVariants as headers
-use Rattle.erase_journal.specs.BlockLaws.{length-block}
+use Rattle.erase_journal.proofs.BlockLaws.{length-block}
 use Rattle.sector_slots.specs.Slots.{Slot, Outside, slot_with, slot_in, descriptor_in, content_in, is_counted, counted, data_blocks, data_block, kind_at, raw_slot, slot_at, slot_count}
 use Rattle.sector_slots.specs.Sectors.{zeros, is_of, is_next, generation_in, newer, winner, sector_at}
 use Rattle.sector_slots.specs.Sectors.{content_in as held_in}

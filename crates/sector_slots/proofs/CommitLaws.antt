@@ -7,7 +7,8 @@ use Rattle.nor_layout.specs.declared.kind.Kind.{Kind}
 use Rattle.sector_slots.specs.Slots.{Slot, Live, NoGeneration, Outside, is_void, is_copy_of, copies, counted}
 use Rattle.sector_slots.specs.Sectors.{LiveAt}
 use Rattle.sector_slots.specs.Copying.{Moves, Commits}
-use Rattle.sector_slots.specs.CopyLaws.{at-rest-copies, at-rest-counts, copies-none, counted-in, counted-void, counted-source, void-copies, source-copies, shifted, shifted-there, shifted-else, outside-live, copy-on, copy-back, copy-whole, IsWhole}
+use Rattle.sector_slots.proofs.CopyLaws.{at-rest-copies, at-rest-counts, copies-none, counted-in, counted-void, counted-source, void-copies, source-copies, shifted-there, shifted-else, outside-live, copy-on, copy-back, copy-whole, IsWhole}
+use Rattle.sector_slots.specs.Copying.{shifted}
 
 -- before: the slots of the target are outside, and all others count
 pub before-target : (s t n : ℕ) (kind kind' : ℕ → Kind) (slots slots' : ℕ → ℕ → Slot) (w : ℕ) → Commits s t n kind kind' slots slots' → w / 7 ≡ t → counted kind slots n w ≡ Outside

@@ -7,10 +7,11 @@ use Rattle.sector_slots.specs.Slots.{Slot, NoGeneration, slot_in, counted, data_
 use Rattle.sector_slots.specs.Sectors.{Single, Stands, IsSingle, HoldsSectors}
 use Rattle.sector_slots.specs.Blocks.{IsSettledBlocks, SoundBlocks, settled, copying, AreSettled}
 use Rattle.sector_slots.specs.Copying.{OnlyData, SameLive, Settles, ErasesVoid}
-use Rattle.sector_slots.specs.CopyLaws.{begin-live, copy-same, erase_source-same, settle-live, erase_void-live, shifted}
-use Rattle.sector_slots.specs.CommitLaws.{commit-moves}
-use Rattle.sector_slots.specs.MoveLaws.{live-stands, live-single, moves-stands, moves-single}
-use Rattle.sector_slots.specs.BlockLaws.{begin-target, copy-target, commit-target, erase_source-target, settle-settled, erase_void-settled}
+use Rattle.sector_slots.proofs.CopyLaws.{begin-live, copy-same, erase_source-same, settle-live, erase_void-live}
+use Rattle.sector_slots.specs.Copying.{shifted}
+use Rattle.sector_slots.proofs.CommitLaws.{commit-moves}
+use Rattle.sector_slots.proofs.MoveLaws.{live-stands, live-single, moves-stands, moves-single}
+use Rattle.sector_slots.proofs.BlockLaws.{begin-target, copy-target, commit-target, erase_source-target, settle-settled, erase_void-settled}
 use Rattle.sector_slots.specs.Machine.{Step, begins, copies, commits, erases_source, settles, erases_void}
 
 -- one block of the chip that changes is one data block that does

@@ -6,7 +6,7 @@ use Rattle.erase_journal.specs.Places.{how_many}
 use Rattle.nor_layout.specs.declared.kind.Kind.{Kind}
 use Rattle.sector_slots.specs.Slots.{Slot, Free, Dead, IsLive}
 use Rattle.sector_slots.specs.Sectors.{OthersKept}
-use Rattle.sector_slots.specs.CopyLaws.{how_many-suc, how_many-same}
+use Rattle.sector_slots.proofs.CopyLaws.{how_many-suc, how_many-same}
 use Rattle.sector_stock.specs.declared.index.SlotState.{SlotState}
 use Rattle.sector_stock.specs.declared.index.SlotState.TheVariants as states
 use Rattle.sector_stock.specs.declared.index.BlockState.{BlockState}

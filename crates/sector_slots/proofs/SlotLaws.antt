@@ -4,7 +4,7 @@ use Rattle.std.specs.Prelude.{◌/◌, ◌%◌}
 use Rattle.nor_layout.specs.declared.header.Tag.{Tag}
 use Rattle.sector_slots.specs.Slots.{Slot, Free, Live, NoGeneration, Dead, Outside, slot_in, content_in, counted, is_counted, kind_at, data_blocks, raw_slot}
 use Rattle.sector_slots.specs.Copying.{IsCopy, copy_slot, same_tag, left_free}
-use Rattle.sector_slots.specs.CopyLaws.{copy-exact}
+use Rattle.sector_slots.proofs.CopyLaws.{copy-exact}
 use Rattle.sector_slots.specs.Steps.{IsFresh, CopyLeaves, live_copied, passed_over}
 use Rattle.sector_slots.specs.Laws.{CountedSlotsAreStored, CopiesAreExact, CopiesKeepTags, ReservesAreOne}
 

@@ -2,8 +2,8 @@
 use Rattle.std.proofs.Common.{◌≡◌, ℕ, ◌+◌, ◌-◌, ◌*◌, ◌/◌, ◌%◌, ◌<◌, ◌≤◌, ◌⊎◌, Bool, true, false, not, cond, ◌&&◌, ◌||◌, List, [], ◌∷◌, length, drop, refl, sym, ap, ◌∙◌, subst, arith, inl, inr, eqb}
 use Rattle.std.proofs.Math.Nat.{mod-eq_of_lt}
 use Rattle.std.proofs.lemmas.Bool.{cases_lt, cond-true, cond-false, and_left, and_right, and_from, lt-leb, lt-ltb, le-ltb, le-leb, true≢false, false≢true}
-use Rattle.chip_model.specs.Chip.{Chip, Operation, Idle, Programming, Erasing, Setting, is_idle, completed, memory_after, protection_after}
-use Rattle.chip_model.specs.MemoryLaws.{length-programmed, length-erased}
+use Rattle.chip_model.specs.Chip.{Chip, Operation, Idle, Programming, Erasing, Setting, is_idle, is_setting, completed, memory_after, protection_after}
+use Rattle.chip_model.proofs.MemoryLaws.{length-programmed, length-erased}
 use Rattle.chip_model.specs.Frames.{Command, Enable, Disable, Status1, Status2, Status3, Set, Read, Program, Erase, Id, Sfdp, Unknown, command_of, program_of, after, Answers, is_status, Frame, taken, busy, done, status, ignored, is_foreign, is_in_part, is_protected, is_open, starts, with_enabled, with_polls, if_allowed, latched_at, newly_slow, one_more, QuietCompletes}
 use Rattle.chip_model.specs.Cut.{Cut, TornMemory, TornProtection}
 
@@ -131,13 +131,6 @@ cut_enabled c new b h = record { memory = h.memory; sfdp = h.sfdp; protection = 
 pub idle_not_slow : (c new : Chip) (sent received : List ℕ) → is_idle c.operation ≡ true → Frame c sent received new → newly_slow c new ≡ 0
 idle_not_slow c new sent received idle f =
     never_slow c new (subst (λ (d : Chip). Unhurried c d) (sym (when_idle c new sent received idle f).1) (unhurried c (command_of sent)))
-
--- a status write
-abbrev pub is_setting : Operation → Bool
-is_setting Idle = false
-is_setting (Programming at bytes) = false
-is_setting (Erasing at size) = false
-is_setting (Setting value) = true
 
 -- what operations other than status writes keep, and leave of the kind
 pub record KeepsShape (c new : Chip) : Type 0 where

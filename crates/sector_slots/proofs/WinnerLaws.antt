@@ -7,7 +7,7 @@ use Rattle.nor_layout.specs.declared.header.Generation.TheVariants.{Zero, One, T
 use Rattle.nor_layout.specs.Headers.{next_generation, generation_byte}
 use Rattle.sector_slots.specs.Slots.{Slot, Free, Live, NoGeneration, Dead, Outside}
 use Rattle.sector_slots.specs.Sectors.{zeros, LiveAt, IsAbsent, SectorIs, absent, held, SoundSlots, Stands, is_of, generation_in, content_in, newer, winner, sector_content}
-use Rattle.sector_slots.specs.SectorLaws.{number_in, kind_in, never-round}
+use Rattle.sector_slots.proofs.SectorLaws.{number_in, kind_in, never-round}
 
 -- a generation is known by its byte
 abbrev back : ℕ → Generation

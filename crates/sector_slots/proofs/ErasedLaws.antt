@@ -9,8 +9,8 @@ use Rattle.sector_slots.specs.Slots.{Slot, Free, Live, NoGeneration, Dead, Outsi
 use Rattle.sector_slots.specs.Blocks.{IsAtRest, AreSettled, settled}
 use Rattle.sector_slots.specs.Sectors.{zeros, LiveAt, SoundSlots, Single, winner, sector_content, sector_at, IsSoundMap, IsAtRestMap}
 use Rattle.sector_slots.specs.Sectors.{content_in as held_in}
-use Rattle.sector_slots.specs.CopyLaws.{counted-in, copies-none, IsWhole}
-use Rattle.sector_slots.specs.BlankLaws.{blank-kind, blank-slot, blank-content, erased-spare}
+use Rattle.sector_slots.proofs.CopyLaws.{counted-in, copies-none, IsWhole}
+use Rattle.sector_slots.proofs.BlankLaws.{blank-kind, blank-slot, blank-content, erased-spare}
 
 -- slots that are all free
 abbrev IsFreeSlot : Slot → Type 0

@@ -3,9 +3,9 @@ use Rattle.std.proofs.Common.{◌≡◌, ◌≢◌, ℕ, ◌<◌, List, sym, ap,
 use Rattle.nor_layout.specs.declared.header.Generation.{Generation}
 use Rattle.sector_slots.specs.Slots.{Slot, NoGeneration}
 use Rattle.sector_slots.specs.Sectors.{LiveAt, SectorIs, absent, held, Single, Stands}
-use Rattle.sector_slots.specs.SectorLaws.{sector-fewer, sound-fewer}
+use Rattle.sector_slots.proofs.SectorLaws.{sector-fewer, sound-fewer}
 use Rattle.sector_slots.specs.Copying.{IsQuiet, SameLive, Moves}
-use Rattle.sector_slots.specs.CopyLaws.{quiet-live}
+use Rattle.sector_slots.proofs.CopyLaws.{quiet-live}
 
 pub same-back : (f f' : ℕ → Slot) (n : ℕ) → SameLive f f' n → (s g : ℕ) (k : Generation) (x : List ℕ) → LiveAt f' n s g k x → LiveAt f n s g k x
 same-back f f' n same s g k x l = elim (same s l.number) [ inl e ↦ record { number = l.number; is = sym e ∙ l.is } | inr q ↦ absurd (quiet-live (f' s) g k x q.1 l.is) ]

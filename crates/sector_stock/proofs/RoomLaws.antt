@@ -8,8 +8,8 @@ use Rattle.nor_layout.specs.declared.header.Header.{Header}
 use Rattle.nor_layout.specs.declared.header.Header.TheVariants as headers
 use Rattle.sector_slots.specs.Slots.{Slot, Free, Live, NoGeneration, Dead, Outside, slot_at, slot_count, data_blocks, data_block, kind_at, raw_slot, slot_in, slot_with, descriptor_in, content_in}
 use Rattle.sector_slots.specs.Sectors.{LiveAt, IsSoundMap, IsAtRestMap}
-use Rattle.sector_slots.specs.CopyLaws.{at-rest-copies, at-rest-counts, copies-none, counted-in}
-use Rattle.sector_slots.specs.SectorLaws.{number_in}
+use Rattle.sector_slots.proofs.CopyLaws.{at-rest-copies, at-rest-counts, copies-none, counted-in}
+use Rattle.sector_slots.proofs.SectorLaws.{number_in}
 use Rattle.sector_stock.specs.Room.{HasRoom, HasNoneFree, HasNoneDead}
 use Rattle.sector_slots.specs.Blocks.{IsReserveOf}
 

@@ -8,7 +8,7 @@ use Rattle.nor_layout.specs.declared.kind.Kind.TheVariants as kinds
 use Rattle.erase_journal.specs.Places.{how_many}
 use Rattle.sector_slots.specs.Slots.{Slot, Free, Live, NoGeneration, Dead, Outside, is_void, is_copy_of, copies, is_counted, counted}
 use Rattle.sector_slots.specs.Blocks.{IsAtRest, IsCopying, IsTarget}
-use Rattle.sector_slots.specs.Copying.{OnlyData, IsQuiet, SameLive, IsCopy, copied, skipped, copy_slot, Begins, CopiesIn, ErasesSource, Settles, ErasesVoid}
+use Rattle.sector_slots.specs.Copying.{OnlyData, IsQuiet, SameLive, IsCopy, copied, skipped, copy_slot, Begins, CopiesIn, ErasesSource, Settles, ErasesVoid, shifted}
 
 pub how_many-zero : (p : ℕ → Bool) → how_many p 0 ≡ 0
 unfolding how_many
@@ -196,10 +196,6 @@ settle-live s t n kind kind' slots slots' h w low =
             inl (after ∙ (ap (λ c. slots' c (w % 7)) e ∙ (h.same (w % 7) (omega arith) ∙ (ap (λ c. slots c (w % 7)) (sym e) ∙ sym before))))
       ]
     ]
-
--- commit: where a slot of block s goes in block t, and back
-abbrev pub shifted : ℕ → ℕ → ℕ → ℕ
-shifted s t w = if w / 7 == s then 7 * t + w % 7 else w
 
 pub shifted-there : (s t w : ℕ) → w / 7 ≡ s → shifted s t w ≡ 7 * t + w % 7
 shifted-there s t w e = rw (eq-eqb (w / 7) s e) refl

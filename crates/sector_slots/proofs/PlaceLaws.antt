@@ -9,11 +9,11 @@ use Rattle.nor_layout.specs.Headers.{next_generation}
 use Rattle.nor_layout.specs.declared.kind.Kind.{Kind}
 use Rattle.sector_slots.specs.Slots.{Slot, Free, Dead, is_copy_of, copies, counted, data_blocks, kind_at, raw_slot, slot_at, slot_count, IsSpareIn}
 use Rattle.sector_slots.specs.Blocks.{IsSettledBlocks, settled, AreAtRest}
-use Rattle.sector_slots.specs.BlockLaws.{write-settled}
-use Rattle.sector_slots.specs.CopyLaws.{copies-same}
+use Rattle.sector_slots.proofs.BlockLaws.{write-settled}
+use Rattle.sector_slots.proofs.CopyLaws.{copies-same}
 use Rattle.sector_slots.specs.Sectors.{LiveAt, NextGeneration, Stands, with_sector, OthersKept, IsSingle, HoldsSectors}
-use Rattle.sector_slots.specs.SectorLaws.{put-done, free-stands, dead-stands, retire-stands}
-use Rattle.sector_slots.specs.MachineLaws.{block-data, holds-sized}
+use Rattle.sector_slots.proofs.SectorLaws.{put-done, free-stands, dead-stands, retire-stands}
+use Rattle.sector_slots.proofs.MachineLaws.{block-data, holds-sized}
 use Rattle.sector_slots.specs.Steps.{PutLeaves, still_free, half_written, written, OnlyPlace}
 
 -- a slot whose own bytes are as they were, where no kind changed

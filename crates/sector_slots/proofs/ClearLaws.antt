@@ -5,7 +5,7 @@ use Rattle.nor_layout.specs.declared.header.Generation.{Generation}
 use Rattle.nor_layout.specs.declared.header.Generation.TheVariants as generations
 use Rattle.sector_slots.specs.Slots.{Slot, Dead}
 use Rattle.sector_slots.specs.Sectors.{zeros, LiveAt, IsAbsent, SectorIs, absent, Single, Stands, NextGeneration, begun, with_sector, OthersKept}
-use Rattle.sector_slots.specs.SectorLaws.{moved-back, sector-kept, dead-without, other-without, sound-fewer, sub-quiet, whole-kept, dead-whole}
+use Rattle.sector_slots.proofs.SectorLaws.{moved-back, sector-kept, dead-without, other-without, sound-fewer, sub-quiet, whole-kept, dead-whole}
 
 pub cleared-absent : (f f' : ℕ → Slot) (n w g : ℕ) (k : Generation) (y : List ℕ) → Single f n → LiveAt f n w g k y → OthersKept n w f f' → f' w ≡ Dead → IsAbsent f' n g
 cleared-absent f f' n w g k y single l only dead = λ s j x r. elim (cases_eq s w) [
