@@ -5,15 +5,13 @@
 //! table. With the word `random` it runs scripts of random events. Where an answer is wrong it prints the script that shows it as
 //! lines of bash (docs/SCRIPT.md), a random one shortened, and ends with status 1. Without words it prints one fixed line.
 //!
-//! What a station answers is judged by an array of 70 sectors, `judge`, which stands apart from the product: it knows records,
+//! What a station answers is judged by an array of 70 sectors, `sweep_judge`, which stands apart from the product: it knows records,
 //! sectors, and that a sector of an interrupted WRITE is old or new. `chip` alone calls the product. That each script is
 //! answered so is proved in `station` and `flash_disk`; the sweep tests the definitions that these proofs rest on. Source: own.
 #![tactic(auto)]
 
 mod chip;
-mod event;
 mod failure;
-mod judge;
 mod progress;
 mod random;
 mod sweeper;

@@ -1,10 +1,9 @@
 // A script as lines of bash that print its records (docs/SCRIPT.md).
 use crate::chip::Chip;
-use crate::event::Event;
 use crate::failure::Failure;
-use crate::judge::consists_of;
 use std::alloc::Global;
 use std::io;
+use sweep_judge::{Event, consists_of};
 
 /// The most bytes of a record before a payload: its head, and that of a request.
 const HEADS: usize = 34;
