@@ -88,6 +88,24 @@ fn survey(alloc: Global, chips: [Option<Chip>; 2]) -> Result<u64, Failure> {
     Ok(total)
 }
 
+/// Sweeps a chip with the losses of a kind and a mask, up to the first count without one.
+fn sweep_mask<R: Clock + Eprint>(
+    rt: &R,
+    sweeper: &mut Sweeper,
+    totals: &mut Totals,
+    progress: &mut Progress,
+    mask: u8,
+) -> Result<(), Failure> {
+    let kind = totals.kind;
+    for count in 1..u32::MAX {
+        if !totals.cut(sweeper, Loss { count, kind, mask })? {
+            break;
+        }
+        progress.step(rt, work_of(kind))?;
+    }
+    Ok(())
+}
+
 /// Sweeps a chip with the losses of a kind.
 fn sweep<R: Clock + Eprint>(
     rt: &R,
@@ -95,14 +113,8 @@ fn sweep<R: Clock + Eprint>(
     totals: &mut Totals,
     progress: &mut Progress,
 ) -> Result<(), Failure> {
-    let kind = totals.kind;
     for mask in MASKS {
-        for count in 1..u32::MAX {
-            if !totals.cut(sweeper, Loss { count, kind, mask })? {
-                break;
-            }
-            progress.step(rt, work_of(kind))?;
-        }
+        sweep_mask(rt, sweeper, totals, progress, mask)?;
     }
     Ok(())
 }

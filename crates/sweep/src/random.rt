@@ -66,6 +66,27 @@ fn without(alloc: Global, events: &[Event], place: usize) -> Result<Vec<Event>, 
     Ok(rest)
 }
 
+/// Goes once through the events of a script from the last one on, and drops each without which it is still answered wrongly.
+fn shorten_once(
+    sweeper: &mut Sweeper,
+    alloc: Global,
+    events: Vec<Event>,
+) -> Result<Vec<Event>, Failure> {
+    let mut events = events;
+    for place in (0..events.len()).rev() {
+        if place >= events.len() {
+            continue;
+        }
+        let candidate = without(alloc, events.as_slice(), place)?;
+        match sweeper.run_all(candidate.as_slice()) {
+            Err(Failure::Told(_)) => events = candidate,
+            Err(failure) => return Err(failure),
+            Ok(_) => {}
+        }
+    }
+    Ok(events)
+}
+
 /// Drops events of a script, as long as it is still answered wrongly.
 pub fn shorten(
     sweeper: &mut Sweeper,
@@ -75,17 +96,7 @@ pub fn shorten(
     let mut events = events;
     for _ in 0..PASSES {
         let before = events.len();
-        for k in (0..before).rev() {
-            if k >= events.len() {
-                continue;
-            }
-            let candidate = without(alloc, events.as_slice(), k)?;
-            match sweeper.run_all(candidate.as_slice()) {
-                Err(Failure::Told(_)) => events = candidate,
-                Err(failure) => return Err(failure),
-                Ok(_) => {}
-            }
-        }
+        events = shorten_once(sweeper, alloc, events)?;
         if events.len() == before {
             break;
         }
