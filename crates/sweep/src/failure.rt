@@ -1,7 +1,7 @@
 // Why a sweep ended early.
-use crate::judge::Wrong;
 use std::alloc::AllocError;
 use std::fmt;
+use sweep_judge::Wrong;
 
 /// Why a sweep ended early.
 #[derive(Clone, Copy, Debug)]

@@ -5,15 +5,13 @@
 //! table. With the word `random` it runs scripts of random events. Where an answer is wrong it prints the script that shows it as
 //! lines of bash (docs/SCRIPT.md), a random one shortened, and ends with status 1. Without words it prints one fixed line.
 //!
-//! What a station answers is judged by an array of 70 sectors, `judge`, which stands apart from the product: it knows records,
+//! What a station answers is judged by an array of 70 sectors, `sweep_judge`, which stands apart from the product: it knows records,
 //! sectors, and that a sector of an interrupted WRITE is old or new. `chip` alone calls the product. That each script is
 //! answered so is proved in `station` and `flash_disk`; the sweep tests the definitions that these proofs rest on. Source: own.
 #![tactic(auto)]
 
 mod chip;
-mod event;
 mod failure;
-mod judge;
 mod progress;
 mod random;
 mod sweeper;
@@ -90,6 +88,24 @@ fn survey(alloc: Global, chips: [Option<Chip>; 2]) -> Result<u64, Failure> {
     Ok(total)
 }
 
+/// Sweeps a chip with the losses of a kind and a mask, up to the first count without one.
+fn sweep_mask<R: Clock + Eprint>(
+    rt: &R,
+    sweeper: &mut Sweeper,
+    totals: &mut Totals,
+    progress: &mut Progress,
+    mask: u8,
+) -> Result<(), Failure> {
+    let kind = totals.kind;
+    for count in 1..u32::MAX {
+        if !totals.cut(sweeper, Loss { count, kind, mask })? {
+            break;
+        }
+        progress.step(rt, work_of(kind))?;
+    }
+    Ok(())
+}
+
 /// Sweeps a chip with the losses of a kind.
 fn sweep<R: Clock + Eprint>(
     rt: &R,
@@ -97,14 +113,8 @@ fn sweep<R: Clock + Eprint>(
     totals: &mut Totals,
     progress: &mut Progress,
 ) -> Result<(), Failure> {
-    let kind = totals.kind;
     for mask in MASKS {
-        for count in 1..u32::MAX {
-            if !totals.cut(sweeper, Loss { count, kind, mask })? {
-                break;
-            }
-            progress.step(rt, work_of(kind))?;
-        }
+        sweep_mask(rt, sweeper, totals, progress, mask)?;
     }
     Ok(())
 }

@@ -1,9 +1,11 @@
 // Scripts of random events, and the shortest part of one that is still answered wrongly.
-use crate::event::{Event, SECTORS};
+ghost use Rattle.std.specs.Prelude.{◌≡◌, ◌+◌, ◌++◌, ◌<◌, IfOk, drop, length, take};
+
 use crate::failure::Failure;
 use crate::sweeper::{MASKS, Sweeper};
 use acceptance_random::Dice;
-use std::alloc::Global;
+use std::alloc::{AllocError, Global};
+use sweep_judge::{Event, SECTORS};
 
 /// The events of a script that are drawn.
 pub const EVENTS: u32 = 300;
@@ -53,13 +55,36 @@ pub fn script(alloc: Global, seed: u32) -> Result<Vec<Event>, Failure> {
     Ok(events)
 }
 
-/// The events without one of them.
-fn without(alloc: Global, events: &[Event], dropped: usize) -> Result<Vec<Event>, Failure> {
+/// The events but for the one at a place.
+fn without(alloc: Global, events: &[Event], place: usize) -> Result<Vec<Event>, AllocError>
+    requires { place < length events.now }
+    ensures { IfOk result (λ rest. rest.items ≡ take place events.now ++ drop (place + 1) events.now) }
+{
     let mut rest = Vec::new(alloc);
-    let (front, back) = events.split_at(dropped.min(events.len()));
-    rest.extend_from_slice(front)?;
-    rest.extend_from_slice(back.get(1..).unwrap_or(&[]))?;
+    rest.extend_from_slice(&events[..place])?;
+    rest.extend_from_slice(&events[place + 1..])?;
     Ok(rest)
+}
+
+/// Goes once through the events of a script from the last one on, and drops each without which it is still answered wrongly.
+fn shorten_once(
+    sweeper: &mut Sweeper,
+    alloc: Global,
+    events: Vec<Event>,
+) -> Result<Vec<Event>, Failure> {
+    let mut events = events;
+    for place in (0..events.len()).rev() {
+        if place >= events.len() {
+            continue;
+        }
+        let candidate = without(alloc, events.as_slice(), place)?;
+        match sweeper.run_all(candidate.as_slice()) {
+            Err(Failure::Told(_)) => events = candidate,
+            Err(failure) => return Err(failure),
+            Ok(_) => {}
+        }
+    }
+    Ok(events)
 }
 
 /// Drops events of a script, as long as it is still answered wrongly.
@@ -71,14 +96,7 @@ pub fn shorten(
     let mut events = events;
     for _ in 0..PASSES {
         let before = events.len();
-        for k in (0..before).rev() {
-            let candidate = without(alloc, events.as_slice(), k)?;
-            match sweeper.run_all(candidate.as_slice()) {
-                Err(Failure::Told(_)) => events = candidate,
-                Err(failure) => return Err(failure),
-                Ok(_) => {}
-            }
-        }
+        events = shorten_once(sweeper, alloc, events)?;
         if events.len() == before {
             break;
         }

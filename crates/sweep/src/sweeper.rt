@@ -1,10 +1,9 @@
 // The sweep of a chip: the fixed script with a loss of power, and what comes after it.
 use crate::chip::{Chip, OnSim, started, told};
-use crate::event::{Event, SECTORS};
 use crate::failure::Failure;
-use crate::judge::{Judge, Seen};
 use station::Station;
 use std::alloc::Global;
+use sweep_judge::{Event, Judge, SECTORS, Seen};
 
 /// The masks of the losses.
 pub const MASKS: [u8; 6] = [0x00, 0xFF, 0xA5, 0xFE, 0xFC, 0xF8];

@@ -1,12 +1,12 @@
 //! The whole sweep.
 use crate::chip::{Chip, started, told};
-use crate::event::Event;
 use crate::random::{script, shorten};
 use crate::sweeper::{Loss, MASKS, Sweeper};
 use crate::totals::Totals;
 use std::alloc::Global;
 use std::process::Abort;
 use std::test::Fail;
+use sweep_judge::Event;
 
 /// Sweeps a chip with the losses of a kind, in every frame that counts, with each mask. Each mask has the same first count
 /// without a loss.

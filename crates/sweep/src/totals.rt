@@ -1,9 +1,9 @@
 // What the sweep of a chip came to.
 use crate::chip::Chip;
 use crate::failure::Failure;
-use crate::judge::Seen;
 use crate::sweeper::{Loss, Return, Sweeper};
 use std::fmt;
+use sweep_judge::Seen;
 
 /// The most restores that one loss is followed by.
 const MOST_RESTORES: u32 = 1_000;

@@ -1,15 +1,14 @@
 // A script as lines of bash that print its records (docs/SCRIPT.md).
 use crate::chip::Chip;
-use crate::event::Event;
 use crate::failure::Failure;
-use crate::judge::consists_of;
 use std::alloc::Global;
 use std::io;
+use sweep_judge::{Event, consists_of};
 
 /// The most bytes of a record before a payload: its head, and that of a request.
 const HEADS: usize = 34;
 
-/// Prints a script, an event a line, with a payload of equal bytes in a line of its own.
+/// Prints a script: each event in words, and then its bytes, with a payload of equal bytes in a line of its own.
 pub fn print_script(
     rt: &impl Print,
     alloc: Global,
@@ -19,6 +18,7 @@ pub fn print_script(
     let name = chip.name();
     let _ = println!(rt; "# on the {name} chip");
     for event in events {
+        let _ = println!(rt; "# {event:?}");
         let mut record = Vec::new(alloc);
         event.add_to(&mut record)?;
         let _ = print_record(rt, record.as_slice());

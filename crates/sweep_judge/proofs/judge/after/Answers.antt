@@ -2,7 +2,7 @@ use Rattle.std.proofs.Common.{◌≡◌, ℕ, List, ◌++◌, ◌∙◌, ap, dro
 use Rattle.std.proofs.lemmas.Bool.Decides.{Decides-eqb}
 use Rattle.std.proofs.lemmas.List.{take-append-drop}
 use Rattle.std.proofs.lemmas.Slice.Eq.{slice_eq-Decides}
-use Rattle.sweep.proofs.judge.after.Goals as goal
+use Rattle.sweep_judge.proofs.judge.after.Goals as goal
 
 -- two parts make the whole, where the first is these bytes
 parts_make_whole : (told front beginning rest : List ℕ) → beginning ≡ take (length front) told → rest ≡ drop (length front) told
