@@ -15,17 +15,18 @@ fn a_station_without_memory_hands_the_disk_back(rt: HostRuntime) -> Result<(), F
     talk.start(alloc, 7)?;
     talk.piece(alloc, 7, READ_LAST, READ_REPLY)?;
     let mut room = [0u8; 2_048];
-    // the buffer of a piece has 65,536 bytes, those of the eight sessions 65,552: a block of 100,000 holds one of them
-    for blocks in 0..13usize {
+    // the buffer of a piece has 65,536 bytes, those of the eight sessions 65,552, and their list is longer than a step too
+    for step in 0..56usize {
         let mount: Result<OnSim, _> = FlashDisk::mount(alloc, formatted(alloc)?);
         let Ok(disk) = mount else {
             return Err(Fail::new("not mounted"));
         };
-        let held = spend(alloc, blocks, 100_000)?;
+        let size = 16_384 * step;
+        let held = spend(alloc, size)?;
         let answer = Station::new(alloc, disk);
         drop(held);
-        assert!(rt; blocks >= 9 || answer.is_err(), "{blocks} blocks");
-        assert!(rt; blocks < 12 || answer.is_ok(), "{blocks} blocks");
+        assert!(rt; size > 589_952 || answer.is_err(), "{size} bytes");
+        assert!(rt; step < 55 || answer.is_ok(), "{size} bytes");
         let again = match answer {
             Ok(station) => Ok(station),
             Err((disk, NewError::OutOfMemory)) => Station::new(alloc, disk),
@@ -54,7 +55,7 @@ fn a_mount_without_memory_changes_nothing(rt: HostRuntime) -> Result<(), Fail> {
     let mut chip = chip;
     let mut refused = 0u32;
     for step in 0..40usize {
-        let held = spend(alloc, step.min(1), 1_040 + 512 * step)?;
+        let held = spend(alloc, 1_040 + 512 * step)?;
         let answer: Result<OnSim, (SimChip, MountError)> = FlashDisk::mount(alloc, chip);
         drop(held);
         match answer {
@@ -75,8 +76,8 @@ fn a_mount_without_memory_changes_nothing(rt: HostRuntime) -> Result<(), Fail> {
 #[test]
 fn an_image_without_memory_is_refused(rt: HostRuntime) -> Result<(), Fail> {
     let alloc = rt.alloc();
-    for (blocks, is_made) in [(0, false), (1, true)] {
-        let held = spend(alloc, blocks, 65_536)?;
+    for (size, is_made) in [(0, false), (65_000, false), (65_536, true)] {
+        let held = spend(alloc, size)?;
         let answer = formatted_image(alloc, 64);
         drop(held);
         match answer {

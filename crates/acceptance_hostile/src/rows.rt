@@ -75,7 +75,7 @@ fn keep_rows<K: OneServer, L: OneServer, A: Abort>(
     requires parts { (first.parts ≡ K.parts) × (blank.parts ≡ L.parts) }
     requires all { (first.parts ≡ 65537) × (blank.parts ≡ 65537) }
 {
-    let held = spend(alloc, 0, 0)?;
+    let held = spend(alloc, 0)?;
     let refused = Shared::<PlainDisk, FullRecord, K>::recording(alloc, disk, first);
     drop(held);
     let Err((RecordError::OutOfMemory, disk)) = refused else {
@@ -90,15 +90,15 @@ fn keep_rows<K: OneServer, L: OneServer, A: Abort>(
     let read = command(CommandKind::Read, len);
     let write = command(CommandKind::Write, len);
     // no memory at all; room for the list of rows, but not for its payload beside it; then the list is there
-    for (blocks, wanted, rows) in [(0, 12, 0u64), (1, 12, 0), (1, 0, 1)] {
-        let held = spend(alloc, blocks, len as usize)?;
+    for (size, wanted, rows) in [(0, 12, 0u64), (len, 12, 0), (len, 0, 1)] {
+        let held = spend(alloc, size as usize)?;
         let error = error_of(rt, &mut server, &mut pass, &write, payload.as_mut_slice());
         drop(held);
         assert_eq!(rt; error, wanted);
         assert_eq!(rt; pass.count(), rows);
         assert!(rt; payload.iter().all(|byte| *byte == 0x11));
     }
-    let held = spend(alloc, 0, 0)?;
+    let held = spend(alloc, 0)?;
     let error = error_of(rt, &mut server, &mut pass, &read, content.as_mut_slice());
     drop(held);
     assert_eq!(rt; error, 12);

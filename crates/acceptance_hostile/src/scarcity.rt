@@ -16,18 +16,16 @@ fn hold(alloc: Global, held: &mut Vec<Vec<u8>>, size: usize) -> Result<(), Alloc
     Err(AllocError)
 }
 
-/// Uses up the memory of this process but for so many blocks of `size` bytes, which stand apart: what is held until
-/// the list is let go. The allocator refuses everything else then, down to its smallest blocks.
+/// Uses up the memory of this process but for one block of so many bytes: what is held until the list is let go. The
+/// allocator refuses everything else then, down to its smallest blocks.
 ///
-/// No byte of it is touched, so that addresses run out, and not the machine's memory.
-pub(crate) fn spend(alloc: Global, blocks: usize, size: usize) -> Result<Vec<Vec<u8>>, Fail> {
+/// No byte of it is touched, so that addresses run out, and not the machine's memory. The allocator of `rt try` can't be
+/// used up: this fails there.
+pub(crate) fn spend(alloc: Global, size: usize) -> Result<Vec<Vec<u8>>, Fail> {
     let mut held = Vec::with_capacity(alloc, 40_000)?;
-    let mut free = Vec::with_capacity(alloc, blocks)?;
-    for _ in 0..blocks {
-        held.push(Vec::with_capacity(alloc, size)?)?;
-        free.push(Vec::<u8>::with_capacity(alloc, size)?)?;
-        held.push(Vec::with_capacity(alloc, size)?)?;
-    }
+    held.push(Vec::with_capacity(alloc, size)?)?;
+    let free = Vec::<u8>::with_capacity(alloc, size)?;
+    held.push(Vec::with_capacity(alloc, size)?)?;
     for power in 0..43u32 {
         hold(alloc, &mut held, 1usize << (46 - power))?;
     }
@@ -35,5 +33,6 @@ pub(crate) fn spend(alloc: Global, blocks: usize, size: usize) -> Result<Vec<Vec
     for small in 0..65usize {
         hold(alloc, &mut held, 1_040 - 16 * small)?;
     }
+    drop(free);
     Ok(held)
 }
