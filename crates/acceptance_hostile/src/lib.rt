@@ -19,6 +19,12 @@ mod damage;
 #[cfg(test)]
 mod lengths;
 #[cfg(test)]
+mod memory;
+#[cfg(test)]
+mod rows;
+#[cfg(test)]
+mod scarcity;
+#[cfg(test)]
 mod slow;
 #[cfg(test)]
 mod tables;

@@ -17,6 +17,8 @@ ghost use Rattle.norbd.specs.Outcomes.{EndsWith};
 ghost use Rattle.norbd_line.specs.Line.{IfFormat, IfScript, IfServe, IsConns, IsPort, IsSize};
 
 mod formatting;
+#[cfg(test)]
+mod memory_tests;
 mod run;
 mod scripting;
 #[cfg(test)]

@@ -27,8 +27,8 @@ const NEGOTIATION: [u8; 31] = [
 
 /// A text that a run tells.
 #[derive(Drop)]
-struct Told {
-    text: Vec<u8>,
+pub(crate) struct Told {
+    pub(crate) text: Vec<u8>,
 }
 
 impl Sink for Told {
@@ -294,7 +294,9 @@ fn work_both<H: Net<Stream = TcpStream> + Clock>(
 }
 
 /// A port that nobody listens on: the one that the system gave for port 0.
-fn free_port<H: Net<Listener = TcpListener, Stream = TcpStream>>(rt: &H) -> io::Result<u16> {
+pub(crate) fn free_port<H: Net<Listener = TcpListener, Stream = TcpStream>>(
+    rt: &H,
+) -> io::Result<u16> {
     let listener = TcpListener::bind(rt, SocketAddr::from((Ipv4Addr::LOCALHOST, 0)))?;
     Ok(listener.local_addr()?.port())
 }
@@ -366,7 +368,10 @@ fn compare<H: Abort + AllocGlobal>(
 }
 
 /// The text of a fault with status 1, or none.
-fn text_of<H: Abort + AllocGlobal>(rt: &H, done: Result<(), Fault>) -> Result<String, Fail> {
+pub(crate) fn text_of<H: Abort + AllocGlobal>(
+    rt: &H,
+    done: Result<(), Fault>,
+) -> Result<String, Fail> {
     match done {
         Ok(()) => Ok(String::new(rt.alloc())),
         Err(fault) => {
@@ -377,7 +382,7 @@ fn text_of<H: Abort + AllocGlobal>(rt: &H, done: Result<(), Fault>) -> Result<St
 }
 
 /// Makes the file the image of a formatted chip of 64 KiB, with a byte of it set.
-fn make<H: Files + AllocGlobal>(rt: &H, at: usize, byte: u8) -> Result<(), Fail> {
+pub(crate) fn make<H: Files + AllocGlobal>(rt: &H, at: usize, byte: u8) -> Result<(), Fail> {
     let Ok(mut image) = formatted_image(rt.alloc(), 64) else {
         return Err(Fail::from("no image"));
     };

@@ -1,0 +1,175 @@
+//! Lines that find no memory: each says so, and has written nothing, or does all of its work.
+ghost use Rattle.norbd_line.specs.Line.{IfFormat, IfScript, IfServe, IsConns, IsPort, IsSize};
+
+use crate::run::run_line;
+use crate::serve_tests::{Told, free_port, make, text_of};
+use block_device::FixedIn;
+use norbd_line::Line;
+use std::alloc::{AllocError, Global};
+use std::fs;
+use std::net::{Net, TcpListener, TcpStream};
+use std::os::unix::fs::FileExt;
+use std::process::Abort;
+use std::rt::Files;
+use std::sync::Wait;
+use std::test::*;
+use std::thread::Threads;
+use std::time::Clock;
+
+/// How many blocks of one size are held at most. On a machine of 16 GiB all addresses of a process are some 8,200 blocks.
+const MOST: usize = 100_000;
+
+/// The length of a block that is left: no line asks for more than 65,552 bytes at once.
+const BLOCK_LEN: usize = 100_000;
+
+/// Holds blocks of this size until the allocator refuses one.
+fn hold(alloc: Global, held: &mut Vec<Vec<u8>>, size: usize) -> Result<(), AllocError> {
+    for _ in 0..MOST {
+        let Ok(block) = Vec::with_capacity(alloc, size) else {
+            return Ok(());
+        };
+        held.push(block)?;
+    }
+    Err(AllocError)
+}
+
+/// Uses up the memory of this process but for so many blocks, which stand apart: what is held until the list is let go.
+/// No byte of it is touched, so that addresses run out, and not the machine's memory.
+fn spend(alloc: Global, blocks: usize) -> Result<Vec<Vec<u8>>, Fail> {
+    let mut held = Vec::with_capacity(alloc, 40_000)?;
+    let mut free = Vec::with_capacity(alloc, blocks)?;
+    for _ in 0..blocks {
+        held.push(Vec::with_capacity(alloc, BLOCK_LEN)?)?;
+        free.push(Vec::<u8>::with_capacity(alloc, BLOCK_LEN)?)?;
+        held.push(Vec::with_capacity(alloc, BLOCK_LEN)?)?;
+    }
+    for power in 0..43u32 {
+        hold(alloc, &mut held, 1usize << (46 - power))?;
+    }
+    for small in 0..65usize {
+        hold(alloc, &mut held, 1_040 - 16 * small)?;
+    }
+    Ok(held)
+}
+
+/// What a line is to write where there is memory, or where a row has none, and its fault.
+#[derive(Clone, Copy)]
+struct Expected<'a> {
+    output: &'a [u8],
+    without_rows: &'a [u8],
+    fault: &'a str,
+}
+
+/// Runs a line with memory for no block, for one, and so on up to fifteen.
+fn sweep<R>(rt: &R, line: Line<'_>, input: &[u8], expected: Expected<'_>) -> Result<(), Fail>
+where
+    R: Abort
+        + Files
+        + AllocGlobal
+        + Threads
+        + Wait
+        + Sync
+        + Clock
+        + Net<Listener = TcpListener, Stream = TcpStream>,
+    R::File: FileExt + Send,
+    requires size { IfFormat line (λ _ kib. IsSize kib) }
+    requires script_size { IfScript line (λ kib. IsSize kib) }
+    requires serve_numbers { IfServe line (λ port conns _. IsPort port × IsConns conns) }
+{
+    for blocks in 0..16usize {
+        let mut told = Told {
+            text: Vec::with_capacity(rt.alloc(), 4_096)?,
+        };
+        let held = spend(rt.alloc(), blocks)?;
+        let done = run_line(rt, line, &mut FixedIn::new(input), &mut told);
+        drop(held);
+        let text = text_of(rt, done)?;
+        if text.as_str() == "no memory" {
+            assert!(rt; blocks < 15);
+            assert!(rt; told.text.is_empty(), "{blocks} blocks");
+        } else {
+            assert!(rt; blocks > 0);
+            assert_eq!(rt; text.as_str(), expected.fault, "{blocks} blocks");
+            let is_whole = told.text.as_slice() == expected.output;
+            let is_without = told.text.as_slice() == expected.without_rows;
+            assert!(rt; is_whole || is_without, "{blocks} blocks");
+            assert!(rt; is_whole || blocks < 15);
+        }
+    }
+    Ok(())
+}
+
+/// READ of sector 0, and its reply, whose 512 zeros follow; the same with ENOMEM, which is 12.
+const READ: [u8; 28] = [
+    0x25, 0x60, 0x95, 0x13, 0, 0, 0, 0, 0, 0, 0, 0, 0, 0, 0, 7, 0, 0, 0, 0, 0, 0, 0, 0, 0, 0, 2, 0,
+];
+
+const REPLY: [u8; 16] = [0x67, 0x44, 0x66, 0x98, 0, 0, 0, 0, 0, 0, 0, 0, 0, 0, 0, 7];
+
+const NO_ROW: [u8; 16] = [0x67, 0x44, 0x66, 0x98, 0, 0, 0, 12, 0, 0, 0, 0, 0, 0, 0, 7];
+
+/// An open connection, and its answer: the greeting, and its end.
+const OPEN: [u8; 6] = [0x4f, 0, 0, 0, 0, 0];
+
+const OPENED: [u8; 30] = [
+    0, 0x44, 0, 0, 0, 18, 0x4e, 0x42, 0x44, 0x4d, 0x41, 0x47, 0x49, 0x43, 0x49, 0x48, 0x41, 0x56,
+    0x45, 0x4f, 0x50, 0x54, 0, 3, 0, 0x41, 0, 0, 0, 0,
+];
+
+#[test]
+fn lines_without_memory_say_so(rt: HostRuntime) -> Result<(), Fail> {
+    let mut reply = [0u8; 528];
+    reply[..16].copy_from_slice(&REPLY);
+    let replied = Expected {
+        output: &reply,
+        without_rows: &NO_ROW,
+        fault: "",
+    };
+    let line = Line::Plain {
+        sectors: 70,
+        record: true,
+    };
+    sweep(&rt, line, &READ, replied)?;
+    let opened = Expected {
+        output: &OPENED,
+        without_rows: &OPENED,
+        fault: "",
+    };
+    sweep(&rt, Line::Script { kib: 64 }, &OPEN, opened)?;
+    let text = b"formatted 70 sectors\n".as_slice();
+    let formatted = Expected {
+        output: text,
+        without_rows: text,
+        fault: "",
+    };
+    let line = Line::Format {
+        image: "short.img",
+        kib: 64,
+    };
+    sweep(&rt, line, &[], formatted)?;
+    Ok(fs::remove_file(&rt, "short.img")?)
+}
+
+// With its lists made and its line told, serving finds no room for a thread's stack.
+#[test]
+fn serving_without_memory_says_so(rt: HostRuntime) -> Result<(), Fail> {
+    make(&rt, 0, 0x4E)?;
+    let port = free_port(&rt)?;
+    if port == 0 {
+        return Err(Fail::from("no port"));
+    }
+    let text = format!(in rt.alloc(); "serving 70 sectors on port {port}\n")?;
+    let serving = Expected {
+        output: text.as_bytes(),
+        without_rows: text.as_bytes(),
+        fault: "no thread",
+    };
+    let line = Line::Serve {
+        image: "served.img",
+        port: u32::from(port),
+        conns: 2,
+        record: true,
+    };
+    sweep(&rt, line, &[], serving)?;
+    Ok(fs::remove_file(&rt, "served.img")?)
+}
