@@ -19,9 +19,6 @@ use std::time::Clock;
 /// How many blocks of one size are held at most. On a machine of 16 GiB all addresses of a process are some 8,200 blocks.
 const MOST: usize = 100_000;
 
-/// The length of a block that is left: no line asks for more than 65,552 bytes at once.
-const BLOCK_LEN: usize = 100_000;
-
 /// Holds blocks of this size until the allocator refuses one.
 fn hold(alloc: Global, held: &mut Vec<Vec<u8>>, size: usize) -> Result<(), AllocError> {
     for _ in 0..MOST {
@@ -33,22 +30,20 @@ fn hold(alloc: Global, held: &mut Vec<Vec<u8>>, size: usize) -> Result<(), Alloc
     Err(AllocError)
 }
 
-/// Uses up the memory of this process but for so many blocks, which stand apart: what is held until the list is let go.
-/// No byte of it is touched, so that addresses run out, and not the machine's memory.
-fn spend(alloc: Global, blocks: usize) -> Result<Vec<Vec<u8>>, Fail> {
+/// Uses up the memory of this process but for one block of so many bytes: what is held until the list is let go. No byte
+/// of it is touched, so that addresses run out, and not the machine's memory.
+fn spend(alloc: Global, size: usize) -> Result<Vec<Vec<u8>>, Fail> {
     let mut held = Vec::with_capacity(alloc, 40_000)?;
-    let mut free = Vec::with_capacity(alloc, blocks)?;
-    for _ in 0..blocks {
-        held.push(Vec::with_capacity(alloc, BLOCK_LEN)?)?;
-        free.push(Vec::<u8>::with_capacity(alloc, BLOCK_LEN)?)?;
-        held.push(Vec::with_capacity(alloc, BLOCK_LEN)?)?;
-    }
+    held.push(Vec::with_capacity(alloc, size)?)?;
+    let free = Vec::<u8>::with_capacity(alloc, size)?;
+    held.push(Vec::with_capacity(alloc, size)?)?;
     for power in 0..43u32 {
         hold(alloc, &mut held, 1usize << (46 - power))?;
     }
     for small in 0..65usize {
         hold(alloc, &mut held, 1_040 - 16 * small)?;
     }
+    drop(free);
     Ok(held)
 }
 
@@ -60,8 +55,29 @@ struct Expected<'a> {
     fault: &'a str,
 }
 
-/// Runs a line with memory for no block, for one, and so on up to fifteen.
-fn sweep<R>(rt: &R, line: Line<'_>, input: &[u8], expected: Expected<'_>) -> Result<(), Fail>
+/// Sizes that memory is left for: so many, from one on, with a step between them. A step finds each block that is at least as
+/// long: with one size less it is refused.
+type Window = (usize, usize, usize);
+
+/// The sizes of windows.
+fn sizes_of(alloc: Global, windows: &[Window]) -> Result<Vec<usize>, Fail> {
+    let mut sizes = Vec::new(alloc);
+    for (from, step, count) in windows {
+        for number in 0..*count {
+            sizes.push(from.saturating_add(step.saturating_mul(number)))?;
+        }
+    }
+    Ok(sizes)
+}
+
+/// Runs a line with memory for each of these sizes: the first is too little, and the last enough.
+fn sweep<R>(
+    rt: &R,
+    line: Line<'_>,
+    input: &[u8],
+    windows: &[Window],
+    expected: Expected<'_>,
+) -> Result<(), Fail>
 where
     R: Abort
         + Files
@@ -76,26 +92,30 @@ where
     requires script_size { IfScript line (λ kib. IsSize kib) }
     requires serve_numbers { IfServe line (λ port conns _. IsPort port × IsConns conns) }
 {
-    for blocks in 0..16usize {
+    let sizes = sizes_of(rt.alloc(), windows)?;
+    let mut refused = 0usize;
+    let mut whole = 0usize;
+    for size in sizes.iter() {
         let mut told = Told {
             text: Vec::with_capacity(rt.alloc(), 4_096)?,
         };
-        let held = spend(rt.alloc(), blocks)?;
+        let held = spend(rt.alloc(), *size)?;
         let done = run_line(rt, line, &mut FixedIn::new(input), &mut told);
         drop(held);
         let text = text_of(rt, done)?;
         if text.as_str() == "no memory" {
-            assert!(rt; blocks < 15);
-            assert!(rt; told.text.is_empty(), "{blocks} blocks");
+            assert!(rt; told.text.is_empty(), "{size} bytes");
+            refused = refused.saturating_add(1);
+            whole = 0;
         } else {
-            assert!(rt; blocks > 0);
-            assert_eq!(rt; text.as_str(), expected.fault, "{blocks} blocks");
+            assert_eq!(rt; text.as_str(), expected.fault, "{size} bytes");
             let is_whole = told.text.as_slice() == expected.output;
             let is_without = told.text.as_slice() == expected.without_rows;
-            assert!(rt; is_whole || is_without, "{blocks} blocks");
-            assert!(rt; is_whole || blocks < 15);
+            assert!(rt; is_whole || is_without, "{size} bytes");
+            whole = if is_whole { whole.saturating_add(1) } else { 0 };
         }
     }
+    assert!(rt; refused > 0 && whole > 0, "{line:?}: {refused} and {whole}");
     Ok(())
 }
 
@@ -129,13 +149,17 @@ fn lines_without_memory_say_so(rt: HostRuntime) -> Result<(), Fail> {
         sectors: 70,
         record: true,
     };
-    sweep(&rt, line, &READ, replied)?;
+    // disk, record, and the buffers of replies and of pieces; then the list of rows and a row's bytes
+    let windows = [(0, 16_384, 13), (202_752, 16, 96), (262_144, 16, 1)];
+    sweep(&rt, line, &READ, &windows, replied)?;
     let opened = Expected {
         output: &OPENED,
         without_rows: &OPENED,
         fault: "",
     };
-    sweep(&rt, Line::Script { kib: 64 }, &OPEN, opened)?;
+    // the chip; what a mount takes; the station
+    let windows = [(0, 16_384, 4), (65_536, 16, 48), (81_920, 32_768, 30)];
+    sweep(&rt, Line::Script { kib: 64 }, &OPEN, &windows, opened)?;
     let text = b"formatted 70 sectors\n".as_slice();
     let formatted = Expected {
         output: text,
@@ -146,7 +170,13 @@ fn lines_without_memory_say_so(rt: HostRuntime) -> Result<(), Fail> {
         image: "short.img",
         kib: 64,
     };
-    sweep(&rt, line, &[], formatted)?;
+    sweep(
+        &rt,
+        line,
+        &[],
+        &[(0, 16_384, 4), (65_536, 16, 96), (81_920, 16, 1)],
+        formatted,
+    )?;
     Ok(fs::remove_file(&rt, "short.img")?)
 }
 
@@ -170,6 +200,14 @@ fn serving_without_memory_says_so(rt: HostRuntime) -> Result<(), Fail> {
         conns: 2,
         record: true,
     };
-    sweep(&rt, line, &[], serving)?;
+    // the chip; what a mount takes; the record; the lists and the line
+    let windows = [
+        (0, 16_384, 4),
+        (65_536, 16, 48),
+        (67_584, 8_192, 4),
+        (101_376, 16, 96),
+        (110_000, 16, 1),
+    ];
+    sweep(&rt, line, &[], &windows, serving)?;
     Ok(fs::remove_file(&rt, "served.img")?)
 }
