@@ -9,7 +9,7 @@ ghost use Rattle.bench.specs.Rounds.{ChangeLeaves, Looked, ReadLeaves, RoundLeav
 use crate::case::Case;
 use crate::meter::Meter;
 use chip_model::{PowerLost, SpiBus};
-use spi_frames::{Register, Status1, erase_small, program, read, status, write_enable};
+use spi_frames::{Frame, Register, Status1, erase_small, fill_program, read, status, write_enable};
 
 /// One read of status register 1, and whether nothing is in progress any more.
 fn is_settled<B: SpiBus>(bus: &mut Meter<B>) -> Result<bool, PowerLost>
@@ -88,7 +88,11 @@ pub fn round<B: SpiBus>(
     match case {
         Case::ShortRead => read_round(bus, at, buffer).map(|()| true),
         Case::LongRead => read_round(bus, at, buffer).map(|()| true),
-        Case::PageProgram => change_round(bus, &program(at, buffer)),
+        Case::PageProgram => {
+            let mut frame = Frame::new();
+            fill_program(&mut frame, at, buffer);
+            change_round(bus, &frame)
+        }
         Case::UnitErase => change_round(bus, &erase_small(at)),
     }
 }

@@ -78,8 +78,8 @@ recovered-mounted a b c super r f =
       kept = kept-after a b c r.kept f.kept;
     }
 
-pub recovered-fails : (e : MountError) (a b c : NorState) → Recovers a b → FillFails e b c → MountFails e a c
-recovered-fails mounts.Cut a b c r f = record {
+pub recovered-fails : (e : MountError) (a b c : NorState) → layout_of a.memory (geometry_of (length a.memory)) ≡ Ok Sectors → Recovers a b → FillFails e b c → MountFails e a c
+recovered-fails mounts.Cut a b c super r f = record {
   came = (let g = f.came in let k = r.kept.cuts in inl (omega (arith, g, k)));
   slows = f.slows ∙ r.kept.slows;
   powered = f.powered;
@@ -87,15 +87,16 @@ recovered-fails mounts.Cut a b c r f = record {
   size = f.size ∙ r.blocks.chip.same_length;
   keeps = λ m. let k = recovered-keeps a b r m.store.slots in each-after a.memory b.memory c.memory k (f.keeps k.store.slots);
 }
-recovered-fails mounts.Slow a b c r f = record {
+recovered-fails mounts.Slow a b c super r f = record {
   came = (let g = f.came in let k = r.kept.slows in inl (omega (arith, g, k)));
   cuts = f.cuts ∙ r.kept.cuts;
   size = f.size ∙ r.blocks.chip.same_length;
 }
-recovered-fails mounts.Corrupt a b c r f =
+recovered-fails mounts.Corrupt a b c super r f =
     let blocks : SameBlocks a.memory c.memory = subst (λ z. SameBlocks a.memory z) (sym f.same) r.blocks in
     record {
       corrupt = λ m. f.corrupt (recovered-keeps a b r m.store.slots).store.slots;
+      formatted = λ bare. cc (super, bare);
       cuts = f.cuts ∙ r.kept.cuts;
       slows = f.slows ∙ r.kept.slows;
       quick = λ q. f.quick (r.kept.is_slow ∙ q);
@@ -103,8 +104,8 @@ recovered-fails mounts.Corrupt a b c r f =
       size = blocks.chip.same_length;
       sectors = λ g. same-slots-sectors a.memory c.memory (same-blocks_slots a.memory c.memory blocks) g;
     }
-recovered-fails mounts.OutOfMemory a b c r f = absurd f
-recovered-fails mounts.NotFormatted a b c r f = absurd f
+recovered-fails mounts.OutOfMemory a b c super r f = absurd f
+recovered-fails mounts.NotFormatted a b c super r f = absurd f
 
 pub recovery-cut : (a b : NorState) → RecoveryCut a b → MountWasCut a b
 recovery-cut a b r = record {
@@ -136,6 +137,7 @@ mount-fails-after mounts.Slow a b c same k f = record {
 }
 mount-fails-after mounts.Corrupt a b c same k f = record {
   corrupt = λ m. f.corrupt (at-memory a b same (λ z. IsMountable z) m);
+  formatted = λ bare. f.formatted (at-memory a b same (λ z. layout_of z (geometry_of (length z)) ≡ Err refusals.NotFormatted) bare);
   cuts = f.cuts ∙ k.cuts;
   slows = f.slows ∙ k.slows;
   quick = λ q. f.quick (k.is_slow ∙ q);
@@ -157,9 +159,9 @@ pub filled-mounted : {T E : Type 0} (st : T → NorState) (r : Result T E) (a b 
 filled-mounted st (Ok v) a b super r f = recovered-mounted a b (st v) super r f
 filled-mounted st (Err e) a b super r f = tt
 
-pub filled-fails : {T N : Type 0} (st : N → NorState) (r : Result T (N × MountError)) (a b : NorState) → Recovers a b → IfErr r (λ e. FillFails e.1 b (st e.0)) → IfErr r (λ e. MountFails e.1 a (st e.0))
-filled-fails st (Ok v) a b r f = tt
-filled-fails st (Err e) a b r f = recovered-fails e.1 a b (st e.0) r f
+pub filled-fails : {T N : Type 0} (st : N → NorState) (r : Result T (N × MountError)) (a b : NorState) → layout_of a.memory (geometry_of (length a.memory)) ≡ Ok Sectors → Recovers a b → IfErr r (λ e. FillFails e.1 b (st e.0)) → IfErr r (λ e. MountFails e.1 a (st e.0))
+filled-fails st (Ok v) a b super r f = tt
+filled-fails st (Err e) a b super r f = recovered-fails e.1 a b (st e.0) super r f
 
 -- what a map shows of a call that its store answered Ok
 pub shown-succeeds : (o : Option NorError) (a b : NorState) → o ≡ None → Succeeds a b → Succeeds (shown_with o a) (shown_with o b)

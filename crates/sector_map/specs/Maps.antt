@@ -122,9 +122,10 @@ pub record MountWasSlow (old new : NorState) : Type 0 where
   pub size : length new.memory ≡ length old.memory
 
 -- One that met what no write leaves: nothing changed, or the journals were healthy and went on with an erase, which changes no
--- block. So no sector changed.
+-- block. So no sector changed. The superblock's name is there, and its seal.
 pub record MountWasCorrupt (old new : NorState) : Type 0 where
   pub corrupt : IsMountable old.memory → ⊥
+  pub formatted : layout_of old.memory (geometry_of (length old.memory)) ≢ Err refusals.NotFormatted
   pub cuts : new.cuts ≡ old.cuts
   pub slows : new.slows ≡ old.slows
   pub quick : old.is_slow ≡ false → new.is_slow ≡ false

@@ -170,6 +170,7 @@ impl<N: Nor> SectorMap<N> {
         ensures ok { OnOk result (Keeps self.old.memory self.new.memory) }
         ensures fewer { IfOk result (λ more. IsTrue more → dead_slots self.new.memory < dead_slots self.old.memory) }
         ensures tidied { IfOk result (λ more. IsFalse more → dead_slots self.old.memory ≡ 0) }
+        ensures unchanged { IfOk result (λ more. IsFalse more → self.new.memory ≡ self.old.memory) }
         ensures cut { IsErrOf result NorError.Cut → Keeps self.old.memory self.new.memory }
         ensures size { length self.new.memory ≡ length self.old.memory }
         ensures done { OnOk result (Succeeds self.old self.new) }
@@ -214,7 +215,8 @@ impl<N: Nor> SectorMap<N> {
         }
     }
 
-    /// Arms a loss of power in a simulated chip, as the memory's `arm` does.
+    /// Arms a loss of power in a simulated chip, as the memory's `arm` does. It changes nothing until the loss comes, so no clause can
+    /// tell it from a body that does nothing: tests see the loss.
     pub fn arm(&mut self, count: u32, kind: u8, mask: u8)
         ensures { self.new ≡ self.old }
     {

@@ -14,7 +14,8 @@ use nor_layout::{Generation, Tag};
 use sector_stock::Reclaim;
 
 /// Writes a sector's content, 512 bytes, into the free slot `to`, and then retires the slot that held the sector, if one did.
-/// Gives the sector's new holder. Cut, it leaves every sector as it was, or this one new.
+/// Gives the sector's new holder, whose generation is the one after the old holder's, or the first. Cut, it leaves every sector as
+/// it was, or this one new.
 pub fn replace_in<S: Reclaim>(
     stock: &mut S,
     to: u16,
@@ -31,6 +32,8 @@ pub fn replace_in<S: Reclaim>(
         → Rewrites sector content.now held (S.state stock.old).memory (S.state stock.new).memory) }
     ensures cut { IsErrOf result NorError.Cut → IsReplaceable to sector holder (S.state stock.old).memory
         → RewriteLeaves sector content.now (S.state stock.old).memory (S.state stock.new).memory }
+    ensures slot { IfOk result (λ held. held.slot ≡ to) }
+    ensures generation { IfOk result (λ held. held.generation ≡ generation_after holder) }
     ensures indexed { OnOk result (S.indexed stock.new ≡ true) }
     ensures healthy { IsErrOf result NorError.Cut → IsHealthy (S.state stock.old).memory → IsHealthy (S.state stock.new).memory }
     ensures chip { SameChip (S.state stock.old).memory (S.state stock.new).memory }
@@ -53,6 +56,8 @@ fn add<S: Reclaim>(stock: &mut S, to: u16, sector: u16, content: &[u8]) -> Resul
         → Rewrites sector content.now held (S.state stock.old).memory (S.state stock.new).memory) }
     ensures cut { IsErrOf result NorError.Cut → IsReplaceable to sector None (S.state stock.old).memory
         → RewriteLeaves sector content.now (S.state stock.old).memory (S.state stock.new).memory }
+    ensures slot { IfOk result (λ held. held.slot ≡ to) }
+    ensures generation { IfOk result (λ held. held.generation ≡ generation_after None) }
     ensures indexed { OnOk result (S.indexed stock.new ≡ true) }
     ensures healthy { IsErrOf result NorError.Cut → IsHealthy (S.state stock.old).memory → IsHealthy (S.state stock.new).memory }
     ensures chip { SameChip (S.state stock.old).memory (S.state stock.new).memory }
@@ -88,6 +93,8 @@ fn replace_held<S: Reclaim>(
         → Rewrites sector content.now now (S.state stock.old).memory (S.state stock.new).memory) }
     ensures cut { IsErrOf result NorError.Cut → IsReplaceable to sector (Some held) (S.state stock.old).memory
         → RewriteLeaves sector content.now (S.state stock.old).memory (S.state stock.new).memory }
+    ensures slot { IfOk result (λ now. now.slot ≡ to) }
+    ensures generation { IfOk result (λ now. now.generation ≡ generation_after (Some held)) }
     ensures indexed { OnOk result (S.indexed stock.new ≡ true) }
     ensures healthy { IsErrOf result NorError.Cut → IsHealthy (S.state stock.old).memory → IsHealthy (S.state stock.new).memory }
     ensures chip { SameChip (S.state stock.old).memory (S.state stock.new).memory }

@@ -47,6 +47,7 @@ pub fn tidy_in<S: Reclaim>(stock: &mut S, table: &mut [Entry]) -> Result<bool, N
     ensures ok { OnOk result (Kept_on table.new (S.state stock.old) (S.state stock.new) (S.indexed stock.new)) }
     ensures fewer { IfOk result (λ more. IsTrue more → dead_slots (S.state stock.new).memory < dead_slots (S.state stock.old).memory) }
     ensures none { IfOk result (λ more. IsFalse more → dead_slots (S.state stock.old).memory ≡ 0) }
+    ensures unchanged { IfOk result (λ more. IsFalse more → (S.state stock.new).memory ≡ (S.state stock.old).memory) }
     ensures cut { IsErrOf result NorError.Cut → Keeps (S.state stock.old).memory (S.state stock.new).memory }
     ensures table { length table.new ≡ length table.old }
     ensures size { length (S.state stock.new).memory ≡ length (S.state stock.old).memory }

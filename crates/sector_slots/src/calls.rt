@@ -197,7 +197,8 @@ pub trait SlotCalls {
         ensures cut { IsErrOf result RecoverError.Cut → (state self.old).is_slow ≡ false → SameSlots (state self.old).memory (state self.new).memory }
         ensures fails { IfErr result (λ e. RestoreFails e (state self.old) (state self.new)) };
 
-    /// Arms a loss of power in a simulated chip, as the memory's `arm` does.
+    /// Arms a loss of power in a simulated chip, as the memory's `arm` does. It changes nothing until the loss comes, so no clause can
+    /// tell it from a body that does nothing: tests see the loss.
     fn arm(&mut self, count: u32, kind: u8, mask: u8)
         ensures same { state self.new ≡ state self.old }
         ensures index { indexed self.new ≡ indexed self.old };

@@ -11,7 +11,7 @@ returns-in-Ok-recover-clause-ok g c =
 
 pub returns-in-Ok-recover-clause-fails : goal.returns-in-Ok-recover-clause-fails
 returns-in-Ok-recover-clause-fails g c =
-    filled-fails g.N.Nor.state c.fill.result (g.N.Nor.state c.args.nor) c.in-Ok-recover.journal c.in-Ok-recover.ensures.ok (subst (λ j. IfErr c.fill.result (λ e. FillFails e.1 j (g.N.Nor.state e.0))) c.new.ensures c.fill.ensures.fails)
+    filled-fails g.N.Nor.state c.fill.result (g.N.Nor.state c.args.nor) c.in-Ok-recover.journal c.requires.superblock c.in-Ok-recover.ensures.ok (subst (λ j. IfErr c.fill.result (λ e. FillFails e.1 j (g.N.Nor.state e.0))) c.new.ensures c.fill.ensures.fails)
 
 pub returns-in-Err-default-Cut-clause-fails : goal.returns-in-Err-default-Cut-clause-fails
 returns-in-Err-default-Cut-clause-fails g c =

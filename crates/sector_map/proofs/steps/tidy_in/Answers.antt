@@ -35,3 +35,6 @@ returns-in_ok-follow_copied-in-Some-clause-ok g c =
 
 pub returns-in-None-clause-none : goal.returns-in-None-clause-none
 returns-in-None-clause-none g c is = no-work (g.S.SlotCalls.state c.args.stock.now).memory (c.in_ok-copied.ensures.none c.in-None.is).0
+
+pub returns-in-None-clause-unchanged : goal.returns-in-None-clause-unchanged
+returns-in-None-clause-unchanged g c is = (c.in_ok-copied.ensures.none c.in-None.is).1

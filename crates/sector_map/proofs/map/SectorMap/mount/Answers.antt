@@ -8,3 +8,6 @@ returns-in-Ok-Ok-Sectors-clause-fails g c =
 
 pub returns-in-Ok-Err-Layout-clause-fails : goal.returns-in-Ok-Err-Layout-clause-fails
 returns-in-Ok-Err-Layout-clause-fails g c = search rules
+
+pub returns-in-Ok-Err-NotFormatted-clause-fails : goal.returns-in-Ok-Err-NotFormatted-clause-fails
+returns-in-Ok-Err-NotFormatted-clause-fails g c = search rules
