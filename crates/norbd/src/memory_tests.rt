@@ -137,7 +137,7 @@ const OPENED: [u8; 30] = [
 ];
 
 #[test]
-fn lines_without_memory_say_so(rt: HostRuntime) -> Result<(), Fail> {
+fn plain_without_memory_says_so(rt: HostRuntime) -> Result<(), Fail> {
     let mut reply = [0u8; 528];
     reply[..16].copy_from_slice(&REPLY);
     let replied = Expected {
@@ -150,16 +150,24 @@ fn lines_without_memory_say_so(rt: HostRuntime) -> Result<(), Fail> {
         record: true,
     };
     // disk, record, and the buffers of replies and of pieces; then the list of rows and a row's bytes
-    let windows = [(0, 16_384, 13), (202_752, 16, 96), (262_144, 16, 1)];
-    sweep(&rt, line, &READ, &windows, replied)?;
+    let windows = [(0, 32_768, 7), (202_752, 32, 32), (262_144, 16, 1)];
+    sweep(&rt, line, &READ, &windows, replied)
+}
+
+#[test]
+fn a_script_without_memory_says_so(rt: HostRuntime) -> Result<(), Fail> {
     let opened = Expected {
         output: &OPENED,
         without_rows: &OPENED,
         fault: "",
     };
     // the chip; what a mount takes; the station
-    let windows = [(0, 16_384, 4), (65_536, 16, 48), (81_920, 32_768, 30)];
-    sweep(&rt, Line::Script { kib: 64 }, &OPEN, &windows, opened)?;
+    let windows = [(0, 32_768, 3), (65_536, 32, 18), (98_304, 65_536, 14)];
+    sweep(&rt, Line::Script { kib: 64 }, &OPEN, &windows, opened)
+}
+
+#[test]
+fn a_format_without_memory_says_so(rt: HostRuntime) -> Result<(), Fail> {
     let text = b"formatted 70 sectors\n".as_slice();
     let formatted = Expected {
         output: text,
@@ -170,13 +178,9 @@ fn lines_without_memory_say_so(rt: HostRuntime) -> Result<(), Fail> {
         image: "short.img",
         kib: 64,
     };
-    sweep(
-        &rt,
-        line,
-        &[],
-        &[(0, 16_384, 4), (65_536, 16, 96), (81_920, 16, 1)],
-        formatted,
-    )?;
+    // the chip; the line and the names
+    let windows = [(0, 32_768, 3), (65_536, 16, 32), (81_920, 16, 1)];
+    sweep(&rt, line, &[], &windows, formatted)?;
     Ok(fs::remove_file(&rt, "short.img")?)
 }
 
@@ -202,10 +206,10 @@ fn serving_without_memory_says_so(rt: HostRuntime) -> Result<(), Fail> {
     };
     // the chip; what a mount takes; the record; the lists and the line
     let windows = [
-        (0, 16_384, 4),
-        (65_536, 16, 48),
-        (67_584, 8_192, 4),
-        (101_376, 16, 96),
+        (0, 32_768, 3),
+        (65_536, 32, 18),
+        (98_304, 16, 1),
+        (101_808, 16, 26),
         (110_000, 16, 1),
     ];
     sweep(&rt, line, &[], &windows, serving)?;
