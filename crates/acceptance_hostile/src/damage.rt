@@ -164,13 +164,12 @@ fn spoil(dice: &mut Dice, memory: &mut [u8]) {
     }
 }
 
-/// How often random damage was mounted, and refused by each name, and how often a refusal went on with an erase.
+/// How often random damage was mounted, and refused by each name.
 #[derive(Clone, Copy, Debug, Drop)]
 struct Seen {
     mounts: u32,
     not_formatted: u32,
     corrupt: u32,
-    gone_on: u32,
 }
 
 impl Seen {
@@ -187,8 +186,8 @@ impl Seen {
     }
 }
 
-// A refusal changes nothing, but where the journals were healthy and went on with an erase. A mount answers the same again,
-// then changes nothing, and finds the same sectors.
+// A refusal changes nothing: none of these images has an erase that goes on beside what is corrupt. A mount answers the same
+// again, then changes nothing, and finds the same sectors.
 #[test]
 fn random_damage_is_mounted_or_refused_by_name(rt: HostRuntime) -> Result<(), Fail> {
     let alloc = rt.alloc();
@@ -198,7 +197,6 @@ fn random_damage_is_mounted_or_refused_by_name(rt: HostRuntime) -> Result<(), Fa
         mounts: 0,
         not_formatted: 0,
         corrupt: 0,
-        gone_on: 0,
     };
     let mut first = vec![in alloc; 0u8; 35_840]?;
     let mut again = vec![in alloc; 0u8; 35_840]?;
@@ -210,10 +208,8 @@ fn random_damage_is_mounted_or_refused_by_name(rt: HostRuntime) -> Result<(), Fa
         spoiled.extend_from_slice(memory.as_slice())?;
         let (answer, left) = mounted(alloc, memory, first.as_mut_slice())?;
         assert!(rt; seen.note(answer), "image {number}: {answer:?}");
-        if answer.is_err() && left.as_slice() != spoiled.as_slice() {
-            assert_eq!(rt; answer, Err(MountError::Corrupt), "image {number}");
-            seen.gone_on = seen.gone_on.saturating_add(1);
-        }
+        let is_left = left.as_slice() == spoiled.as_slice();
+        assert!(rt; answer.is_ok() || is_left, "image {number}");
         let mut kept = Vec::new(alloc);
         kept.extend_from_slice(left.as_slice())?;
         let (same, left) = mounted(alloc, left, again.as_mut_slice())?;
@@ -223,7 +219,7 @@ fn random_damage_is_mounted_or_refused_by_name(rt: HostRuntime) -> Result<(), Fa
         assert!(rt; answer.is_err() || is_same, "image {number}");
     }
     assert!(rt;
-        seen.mounts > 200 && seen.not_formatted > 50 && seen.corrupt > 200 && seen.gone_on < 20,
+        seen.mounts > 200 && seen.not_formatted > 50 && seen.corrupt > 200,
         "{seen:?}"
     );
     Ok(())

@@ -162,7 +162,7 @@ fn a_script_without_memory_says_so(rt: HostRuntime) -> Result<(), Fail> {
         fault: "",
     };
     // the chip; what a mount takes; the station
-    let windows = [(0, 32_768, 3), (65_536, 32, 18), (98_304, 65_536, 14)];
+    let windows = [(0, 32_768, 3), (65_536, 32, 30), (98_304, 65_536, 14)];
     sweep(&rt, Line::Script { kib: 64 }, &OPEN, &windows, opened)
 }
 
@@ -207,9 +207,9 @@ fn serving_without_memory_says_so(rt: HostRuntime) -> Result<(), Fail> {
     // the chip; what a mount takes; the record; the lists and the line
     let windows = [
         (0, 32_768, 3),
-        (65_536, 32, 18),
+        (65_536, 32, 30),
         (98_304, 16, 1),
-        (101_808, 16, 26),
+        (101_872, 16, 56),
         (110_000, 16, 1),
     ];
     sweep(&rt, line, &[], &windows, serving)?;
