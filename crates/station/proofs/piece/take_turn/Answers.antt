@@ -59,7 +59,7 @@ returns-in-Err-Cut-clause-says g c = λ quiet.
     let stands = rw c.in-Err-Cut.field-0-is at c.in-Err-Cut.ensures.stands in
     let old = g.D.Disk.facts c.args.disk.now in
     let new = g.D.Disk.facts c.run_command.new.disk in
-    let moves : (moves_data c.in-Run.command.kind ≡ true) × (old.cuts < new.cuts) = elim stands.0 [ | inl h ↦ absurd (false≢true (sym quiet.cut ∙ h)) | inr h ↦ h ] in
+    let moves : (moves_data c.in-Run.command.kind ≡ true) × (old.cuts < new.cuts) = elim stands.0 [ inl h ↦ absurd (false≢true (sym quiet.cut ∙ h)) | inr h ↦ h ] in
     record {
       power = (stands.1, moves.1);
       slow = stands.2 ∙ quiet.slow;
@@ -69,13 +69,16 @@ returns-in-Err-Cut-clause-says g c = λ quiet.
           let payload = payload_in command (room_of c.take-taken.new.self) in
           let x = rw c.in-Run.is at (c.take-taken.ensures.says AwaitingFlags text serves.0 serves.1) in
           let ready = rw c.in-Run.is at c.take-taken.ensures.ready in
-          let left = rw c.in-Err-Cut.field-0-is at (c.in-Err-Cut.ensures.contents quiet.sound) in
-          ([], Appends-nil _, record {
-            command = command;
-            payload = payload;
-            parts_are = x.0;
-            moves = moves.0;
-            out_is = refl;
-            outcome = rw ready.accepted left;
-          });
+          let left = rw c.in-Err-Cut.field-0-is at (c.in-Err-Cut.ensures.contents quiet.sound) in (
+            [],
+            Appends-nil _,
+            record {
+              command = command;
+              payload = payload;
+              parts_are = x.0;
+              moves = moves.0;
+              out_is = refl;
+              outcome = rw ready.accepted left;
+            },
+          );
     }
