@@ -1,4 +1,6 @@
-// A chip of 64 KiB with some bytes set, what is called of its journal, and what is left of its memory.
+//! A chip of 64 KiB with some bytes set, what is called of its journal, and what is left of its
+//! memory.
+
 use crate::byte_at;
 use erase_journal::{Journal, RecoverError};
 use fault_model::SimChip;
@@ -39,44 +41,35 @@ pub(crate) fn erased(alloc: Global) -> Result<Vec<u8>, Fail> {
     Ok(bytes)
 }
 
-/// Sets a byte.
-pub(crate) fn set(bytes: &mut [u8], at: usize, byte: u8) -> Result<(), Fail> {
-    let Some(place) = bytes.get_mut(at) else {
-        return Err(Fail::new("a place past the chip"));
-    };
-    *place = byte;
-    Ok(())
+/// Sets a byte; a place past the chip has none.
+pub(crate) fn set(bytes: &mut [u8], at: usize, byte: u8) {
+    if let Some(place) = bytes.get_mut(at) {
+        *place = byte;
+    }
 }
 
 /// Sets the bytes from a place up to another.
-pub(crate) fn fill(bytes: &mut [u8], from: usize, to: usize, byte: u8) -> Result<(), Fail> {
+pub(crate) fn fill(bytes: &mut [u8], from: usize, to: usize, byte: u8) {
     for at in from..to {
-        set(bytes, at, byte)?;
-    }
-    Ok(())
-}
-
-/// The byte at a place.
-fn known(bytes: &[u8], at: usize) -> Result<u8, Fail> {
-    match byte_at(bytes, at) {
-        Some(byte) => Ok(byte),
-        None => Err(Fail::new("a place past the chip")),
+        set(bytes, at, byte);
     }
 }
 
-/// The four bytes from a place on.
-pub(crate) fn four(bytes: &[u8], at: usize) -> Result<[u8; 4], Fail> {
-    let (low, high) = (at.saturating_add(1), at.saturating_add(2));
-    let last = at.saturating_add(3);
-    Ok([
-        known(bytes, at)?,
-        known(bytes, low)?,
-        known(bytes, high)?,
-        known(bytes, last)?,
-    ])
+/// The four bytes from a place on, where there are so many.
+pub(crate) fn four(bytes: &[u8], at: usize) -> Option<[u8; 4]> {
+    match bytes.get(at..at.saturating_add(4)) {
+        Some([first, second, third, fourth]) => Some([*first, *second, *third, *fourth]),
+        _ => None,
+    }
 }
 
-/// A chip with this memory whose `cut`-th change is cut, 0 for none; a cut change leaves what `mask` says.
+/// The first byte from a place on, where there is one.
+pub(crate) fn first_of(bytes: &[u8], at: usize) -> Option<u8> {
+    byte_at(bytes, at)
+}
+
+/// A chip with this memory whose `cut`-th change is cut, 0 for none; a cut change leaves what
+/// `mask` says.
 pub(crate) fn chip(alloc: Global, bytes: &[u8], cut: u32, mask: u8) -> Result<SimChip, Fail> {
     let mut copy = Vec::new(alloc);
     copy.extend_from_slice(bytes)?;

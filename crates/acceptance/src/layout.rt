@@ -1,4 +1,5 @@
-// Bytes and counts worked out by hand from the layout (docs/LAYOUT.md).
+//! Bytes and counts worked out by hand from the layout (docs/LAYOUT.md).
+
 use chip_model::Geometry;
 use nor_layout::{
     Entry, Generation, Header, Kind, Layout, SUPER_LEN, SuperError, Tag, UNSEALED_LEN, Vote,
@@ -44,8 +45,8 @@ fn a_chip_of_each_size(rt: HostRuntime) {
     }
 }
 
-/// Each row has bytes of the superblock that are changed, and the answer for a chip of 64 KiB: that of the first check that
-/// fails.
+/// Each row has bytes of the superblock that are changed, and the answer for a chip of 64 KiB: that
+/// of the first check that fails.
 #[test]
 fn superblocks_are_spelled_and_read(rt: HostRuntime) {
     let Some(small) = Geometry::of(65_536) else {
@@ -86,7 +87,7 @@ fn superblocks_are_spelled_and_read(rt: HostRuntime) {
 }
 
 #[test]
-fn votes_entries_and_headers(rt: HostRuntime) {
+fn votes_of_bytes(rt: HostRuntime) {
     assert_eq!(rt; vote_state(0xFF), Some(Vote::Unused));
     assert_eq!(rt; vote_state(0xFE), Some(Vote::Open));
     assert_eq!(rt; vote_state(0xFC), Some(Vote::Closed));
@@ -94,6 +95,10 @@ fn votes_entries_and_headers(rt: HostRuntime) {
         assert_eq!(rt; vote_state(byte), None, "{byte}");
     }
     assert_eq!(rt; vote_byte(Vote::Open), 0xFE);
+}
+
+#[test]
+fn entries_of_bytes(rt: HostRuntime) {
     assert_eq!(rt; taken_entry(4), [0xFE, 0x04, 0x00]);
     assert_eq!(rt; taken_entry(4_095), [0xFE, 0xFF, 0x0F]);
     assert_eq!(rt; entry_place(0), 0x1800);
@@ -118,6 +123,10 @@ fn votes_entries_and_headers(rt: HostRuntime) {
             "{bytes:?} of {blocks} blocks"
         );
     }
+}
+
+#[test]
+fn headers_of_bytes(rt: HostRuntime) {
     let tag = Tag {
         number: 3_579,
         generation: Generation::Three,

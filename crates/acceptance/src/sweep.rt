@@ -1,4 +1,6 @@
-// A run of erases in which every change is cut once by each mask, the recovery after it is cut too, and what is left is looked at.
+//! A run of erases in which every change is cut once by each mask, the recovery after it is cut
+//! too, and what is left is looked at.
+
 use crate::chips::{End, chip, erase, erased, recover, set};
 use std::alloc::Global;
 use std::test::*;
@@ -14,17 +16,18 @@ const BLOCK_4: usize = 0x4000;
 
 const BLOCK_5: usize = 0x5000;
 
-/// An erased chip whose J0 has 62 free entries, so that it is renewed twice in the run. Block 9 holds some bytes.
+/// An erased chip whose J0 has 62 free entries, so that it is renewed twice in the run. Block 9
+/// holds some bytes.
 fn worn(alloc: Global) -> Result<Vec<u8>, Fail> {
     let mut bytes = erased(alloc)?;
     for entry in 0..450usize {
         let at = 0x1800 + 4 * entry;
-        set(&mut bytes, at, 0xF8)?;
-        set(&mut bytes, at + 1, 0x0F)?;
-        set(&mut bytes, at + 2, 0x00)?;
+        set(&mut bytes, at, 0xF8);
+        set(&mut bytes, at + 1, 0x0F);
+        set(&mut bytes, at + 2, 0x00);
     }
-    set(&mut bytes, 0x9000, 0xFC)?;
-    set(&mut bytes, 0x9FFF, 0x00)?;
+    set(&mut bytes, 0x9000, 0xFC);
+    set(&mut bytes, 0x9FFF, 0x00);
     Ok(bytes)
 }
 
@@ -37,7 +40,8 @@ fn is_old_or_erased(before: &[u8], blank: &[u8], after: &[u8]) -> bool {
     (is_same || is_erased) && others && after.get(0..0x1000) == before.get(0..0x1000)
 }
 
-/// What a recovery leaves of a torn memory: its own change of this number is cut, and then it is done again.
+/// What a recovery leaves of a torn memory: its own change of this number is cut, and then it is
+/// done again.
 fn recovered(alloc: Global, torn: &[u8], nested: u32, mask: u8) -> Result<Vec<u8>, Fail> {
     match recover(chip(alloc, torn, nested, mask)?)? {
         (End::Done, settled) => Ok(settled),
@@ -82,7 +86,7 @@ fn every_change_of_a_run_of_erases_is_cut(rt: HostRuntime) -> Result<(), Fail> {
     let mut memory = worn(rt.alloc())?;
     let (mut ordinary, mut with_a_renewal) = (0u32, 0u32);
     for _erase in 0..ERASES {
-        set(&mut memory, BLOCK_4, 0xF8)?;
+        set(&mut memory, BLOCK_4, 0xF8);
         match changes(rt.alloc(), &memory, &blank)? {
             4 => ordinary = ordinary.saturating_add(1),
             9 => with_a_renewal = with_a_renewal.saturating_add(1),

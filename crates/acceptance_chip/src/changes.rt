@@ -1,4 +1,5 @@
-// Programs, erases and restarts of a driver over the simulated chip.
+//! Programs, erases and restarts of a driver over the simulated chip.
+
 use crate::chips::erased_chip;
 use crate::recorder::Recorder;
 use fault_model::SimChip;
@@ -32,7 +33,8 @@ fn get(driver: &mut Driver<Recorder>, at: u32) -> Result<Option<u8>, NorError> {
     Ok(Some(byte[0]))
 }
 
-/// The unit of 4 KiB, or of 64 KiB, that begins at this place is erased; `Ok(false)` where there is none.
+/// The unit of 4 KiB, or of 64 KiB, that begins at this place is erased; `Ok(false)` where there is
+/// none.
 fn erase(driver: &mut Driver<Recorder>, at: u32, large: bool) -> Result<bool, NorError> {
     if at >= driver.bytes() || at % 65_536 != 0 || !driver.has_large() {
         return Ok(false);
@@ -87,16 +89,23 @@ fn what_was_programmed_and_erased_is_read_back(rt: HostRuntime) -> Result<(), Fa
     Ok(())
 }
 
+/// Why calls of each kind failed: a program, a read, a program of another page, and the erases.
+fn failures_of_five(driver: &mut Driver<Recorder>) -> [Option<NorError>; 5] {
+    [
+        put(driver, 0, 0x00).err(),
+        get(driver, 0).err(),
+        put(driver, 256, 0x00).err(),
+        erase(driver, 0, false).err(),
+        erase(driver, 0, true).err(),
+    ]
+}
+
 #[test]
 fn a_slow_operation_is_given_up_after_65535_status_reads(rt: HostRuntime) -> Result<(), Fail> {
     let mut chip = erased_chip(rt, 65_536)?;
     chip.arm_slow();
     let mut driver = driver_of(chip)?;
-    assert_eq!(rt; put(&mut driver, 0, 0x00), Err(NorError::Slow));
-    assert_eq!(rt; get(&mut driver, 0), Err(NorError::Slow));
-    assert_eq!(rt; put(&mut driver, 256, 0x00), Err(NorError::Slow));
-    assert_eq!(rt; erase(&mut driver, 0, false), Err(NorError::Slow));
-    assert_eq!(rt; erase(&mut driver, 0, true), Err(NorError::Slow));
+    assert_eq!(rt; failures_of_five(&mut driver), [Some(NorError::Slow); 5]);
     assert_eq!(rt; driver.restart(), Ok(()));
     assert_eq!(rt; put(&mut driver, 256, 0x7F), Ok(true));
     assert_eq!(rt; get(&mut driver, 256), Ok(Some(0x7F)));
@@ -128,7 +137,8 @@ fn a_cut_armed_through_the_driver_comes(rt: HostRuntime) -> Result<(), Fail> {
     Ok(())
 }
 
-/// What a program of 00h that was cut inside with this mask, a read and an erase then answer, and the byte after a restart.
+/// What a program of 00h that was cut inside with this mask, a read and an erase then answer, and
+/// the byte after a restart.
 fn torn(rt: HostRuntime, mask: u8) -> Result<([Option<NorError>; 3], Option<u8>), Fail> {
     let mut driver = driver_of(erased_chip(rt, 65_536)?)?;
     driver.arm(1, 1, mask);

@@ -1,4 +1,5 @@
-// An erased chip.
+//! An erased chip.
+
 use fault_model::SimChip;
 use std::test::*;
 

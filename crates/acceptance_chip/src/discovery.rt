@@ -1,4 +1,6 @@
-// What a probe answers of chips of each size, of one whose table was spoiled, and where the power is lost in it.
+//! What a probe answers of chips of each size, of one whose table was spoiled, and where the power
+//! is lost in it.
+
 use crate::chips::erased_chip;
 use crate::recorder::Recorder;
 use nor_driver::{Driver, Nor, ProbeError};
@@ -38,7 +40,8 @@ fn a_probe_refuses_a_spoiled_table(rt: HostRuntime) -> Result<(), Fail> {
     Ok(())
 }
 
-/// What a probe answers where the power is lost in this frame of any kind, and what a second probe of the same bus answers.
+/// What a probe answers where the power is lost in this frame of any kind, and what a second probe
+/// of the same bus answers.
 fn probed_twice(
     rt: HostRuntime,
     count: u32,

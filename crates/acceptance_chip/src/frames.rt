@@ -1,4 +1,5 @@
-// The bytes of each frame of the instruction table.
+//! The bytes of each frame of the instruction table.
+
 use spi_frames::{
     Register, erase_large, erase_small, jedec_id, program, read, sfdp, status, write_enable,
     write_status,
@@ -6,7 +7,7 @@ use spi_frames::{
 use std::test::*;
 
 #[test]
-fn each_frame_of_the_instruction_table(rt: HostRuntime) {
+fn each_frame_that_reads_or_changes_the_memory(rt: HostRuntime) {
     assert_eq!(rt; write_enable().as_slice(), [0x06].as_slice());
     assert_eq!(rt;
         read(0x00FFFF).as_slice(),
@@ -24,6 +25,10 @@ fn each_frame_of_the_instruction_table(rt: HostRuntime) {
         erase_large(0xFF0000).as_slice(),
         [0xD8, 0xFF, 0x00, 0x00].as_slice()
     );
+}
+
+#[test]
+fn each_frame_of_a_register_or_a_table(rt: HostRuntime) {
     assert_eq!(rt; status(Register::First).as_slice(), [0x05].as_slice());
     assert_eq!(rt; status(Register::Second).as_slice(), [0x35].as_slice());
     assert_eq!(rt; status(Register::Third).as_slice(), [0x15].as_slice());

@@ -1,9 +1,11 @@
-//! Tests of the crates from the chip to its driver: what no clause of one crate says, and the worked rows of several at once.
+//! Tests of the crates from the chip to its driver: what no clause of one crate says, and the
+//! worked rows of several at once.
 //!
-//! There is no product code here. `Recorder` is a bus over a simulated chip that counts its frames and keeps the codes of the
-//! first ones. Expected bytes and answers are those of the tables in docs/CHIP.md and docs/SFDP.md, worked out by hand, and
-//! tables of real parts. What stands above the driver is tested in `acceptance`, and the tests of a crate that has many stand
-//! in that crate.
+//! There is no product code here. `Recorder` is a bus over a simulated chip that counts its frames
+//! and keeps the codes of the first ones. Expected bytes and answers are those of the tables in
+//! docs/CHIP.md and docs/SFDP.md, worked out by hand, and tables of real parts. What stands above
+//! the driver is tested in `acceptance`, and the tests of a crate that has many stand in that
+//! crate.
 
 #![tactic(auto)]
 

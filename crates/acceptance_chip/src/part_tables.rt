@@ -1,4 +1,5 @@
-// Tables of real parts, as QEMU's models of them hold them (the MX25L6436: flashrom's dummy programmer).
+//! Tables of real parts, as QEMU's models of them hold them (the MX25L6436: flashrom's dummy
+//! programmer).
 
 /// Sixteen bytes of a table, and their place. A table has FFh elsewhere.
 pub(crate) type Row = (usize, [u8; 16]);

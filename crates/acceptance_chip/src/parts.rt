@@ -1,4 +1,5 @@
-// What is read of the tables of real parts, and of changes of these.
+//! What is read of the tables of real parts, and of changes of these.
+
 use crate::part_tables::{MX25L6436, MX25L25635F, MX66L1G45G, N25Q256A, Row, W25Q256, W25Q512JV};
 use sfdp::{Params, SfdpError, read_params};
 use std::test::*;

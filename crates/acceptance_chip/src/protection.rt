@@ -1,4 +1,5 @@
-// Chips of which a part is protected.
+//! Chips of which a part is protected.
+
 use crate::chips::erased_chip;
 use crate::recorder::Recorder;
 use chip_model::{PowerLost, SpiBus};

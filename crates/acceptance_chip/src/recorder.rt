@@ -1,10 +1,12 @@
-// A simulated chip, and the frames that were sent to it.
+//! A simulated chip, and the frames that were sent to it.
+
 ghost use Rattle.std.specs.Prelude.{◌≡◌};
 
 use chip_model::{PowerLost, SpiBus};
 use fault_model::SimChip;
 
-/// A bus that counts its frames, also those that are lost, and keeps the codes of the first sixteen.
+/// A bus that counts its frames, also those that are lost, and keeps the codes of the first
+/// sixteen.
 #[derive(Drop)]
 pub struct Recorder {
     inner: SimChip,

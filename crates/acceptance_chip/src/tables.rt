@@ -1,4 +1,5 @@
-// The simulated chip's own SFDP table, with one byte changed.
+//! The simulated chip's own SFDP table, with one byte changed.
+
 use crate::chips::erased_chip;
 use chip_model::SpiBus;
 use sfdp::{Params, SfdpError, read_params};

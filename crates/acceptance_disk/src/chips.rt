@@ -1,4 +1,5 @@
-// Chips of 64 KiB, the disks on them, and what is asked of both.
+//! Chips of 64 KiB, the disks on them, and what is asked of both.
+
 use block_device::{Disk, DiskError};
 use fault_model::SimChip;
 use flash_disk::{FlashDisk, MountError, format};

@@ -1,3 +1,5 @@
+//! A chip that is formatted, mounted and read.
+
 ghost use Rattle.std.specs.Prelude.{◌≡◌, true, length, replicate};
 ghost use Rattle.block_device.specs.Contents.{bytes_at};
 ghost use Rattle.flash_disk.specs.Contents.{contents_of};
@@ -9,7 +11,8 @@ use flash_disk::{FlashDisk, Provenance, format};
 use std::alloc::Global;
 use std::marker::Brand;
 
-/// Formats a chip, mounts it, and reads its first sector, which is zeros; false where something was refused.
+/// Formats a chip, mounts it, and reads its first sector, which is zeros; false where something was
+/// refused.
 pub fn first_of_new<B: SpiBus>(alloc: Global, bus: B, into: &mut [u8]) -> (B, bool)
     requires room { length into.old ≡ 512 }
     ensures { result.1 ≡ true → into.new ≡ replicate 512 0 }
@@ -21,7 +24,8 @@ pub fn first_of_new<B: SpiBus>(alloc: Global, bus: B, into: &mut [u8]) -> (B, bo
     }
 }
 
-/// Mounts a formatted chip as a sound disk, and reads its first sector; false where something was refused.
+/// Mounts a formatted chip as a sound disk, and reads its first sector; false where something was
+/// refused.
 fn first<B: SpiBus, P: Provenance>(alloc: Global, bus: B, into: &mut [u8]) -> (B, bool)
     requires sound { P.sound ≡ true }
     requires formatted { Formatted (B.chip bus) }

@@ -1,4 +1,5 @@
-// The files of images: what no contract says of them.
+//! The files of images: what no contract says of them.
+
 use image::{ImageError, write_image};
 use std::fs;
 use std::test::*;

@@ -1,4 +1,6 @@
-// A loss of power inside the n-th change (`kind` 1), what it leaves of the sectors, and of the chip's bytes.
+//! A loss of power inside the n-th change (`kind` 1), what it leaves of the sectors, and of the
+//! chip's bytes.
+
 use crate::chips::{OnSim, byte_of, count, formatted, mounted, set, write, write_all};
 use block_device::{Disk, DiskError};
 use std::alloc::Global;
@@ -14,8 +16,9 @@ enum Call {
     Tidy,
 }
 
-/// Where `full` says so all sectors are written; sector 0 is written with each byte of `before`; then the `count`-th change of a call is cut, and the next `cuts` restores in
-/// their first change; then a restore answers Ok.
+/// Where `full` says so all sectors are written; sector 0 is written with each byte of `before`;
+/// then the `count`-th change of a call is cut, and the next `cuts` restores in their first change;
+/// then a restore answers Ok.
 #[derive(Clone, Copy, Debug)]
 struct Row {
     name: &'static str,

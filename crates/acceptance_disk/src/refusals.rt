@@ -1,4 +1,5 @@
-// What mounts refuse, and that the chip is handed back.
+//! What mounts refuse, and that the chip is handed back.
+
 use crate::chips::{OnSim, filled, formatted, put, refused, set};
 use block_device::Disk;
 use chip_model::SpiBus;
@@ -97,7 +98,8 @@ fn a_mount_and_a_format_tell_what_the_probe_refused(rt: HostRuntime) -> Result<(
 
 #[test]
 fn a_mount_without_memory_hands_the_chip_back(rt: HostRuntime) -> Result<(), Fail> {
-    // Where an allocation of the mount is refused (`rt try --test --fail-alloc`), the mount after it has it.
+    // Where an allocation of the mount is refused (`rt try --test --fail-alloc`), the mount after
+    // it has it.
     let mut chip = SimChip::new(formatted(rt.alloc())?)?;
     for _ in 0..2u8 {
         let answer: Result<OnSim, (SimChip, MountError)> = FlashDisk::mount(rt.alloc(), chip);

@@ -1,4 +1,5 @@
-// The bytes of a formatted chip, and of sectors that lie in several blocks.
+//! The bytes of a formatted chip, and of sectors that lie in several blocks.
+
 use crate::chips::{byte_of, count, filled, formatted, mounted, put};
 use crate::first_of_new;
 use block_device::Disk;

@@ -1,4 +1,6 @@
-// Which blocks a sector that is written again and again wears, and that no number of writes uses the journals up.
+//! Which blocks a sector that is written again and again wears, and that no number of writes uses
+//! the journals up.
+
 use crate::chips::{OnSim, count, formatted, mounted, set, write};
 use block_device::Disk;
 use std::test::*;
@@ -17,8 +19,9 @@ fn a_hot_sector_wears_three_blocks(rt: HostRuntime) -> Result<(), Fail> {
     let mut disk = mounted(rt.alloc(), formatted(rt.alloc())?)?;
     wear(&mut disk, 0, 501)?;
     let memory = disk.into_inner().into_inner();
-    // 500 erases, each a closed entry of the first journal with its block's number. Blocks 4 and 15 are copied into one another and
-    // into all others from the highest down; from then on blocks 4 and 5 into one another.
+    // 500 erases, each a closed entry of the first journal with its block's number. Blocks 4 and 15
+    // are copied into one another and into all others from the highest down; from then on blocks 4
+    // and 5 into one another.
     for (block, erases) in [(4u8, 250u32), (5, 239), (6, 0), (14, 0), (15, 11)] {
         let mut found = 0u32;
         for entry in 0..512usize {

@@ -1,3 +1,5 @@
+//! The beginning of a list.
+
 ghost use Rattle.std.specs.Prelude.{◌≡◌, take};
 
 /// The first `len` bytes of a list, or all where it has fewer.

@@ -1,4 +1,5 @@
-// Connections and scripts that end anywhere.
+//! Connections and scripts that end anywhere.
+
 use crate::beginning_of;
 use crate::chips::{formatted, started, told};
 use crate::talk::{FLAGS, GO, GO_REPLY, GREETING, READ_LAST, READ_REPLY, Talk, bytes_of};
@@ -32,7 +33,7 @@ fn check(
     Ok(())
 }
 
-// The GO ends with the 31st byte, and the READ with the 59th.
+/// The GO ends with the 31st byte, and the READ with the 59th.
 #[test]
 fn a_unit_begun_is_not_answered(rt: HostRuntime) -> Result<(), Fail> {
     let alloc = rt.alloc();
@@ -57,7 +58,8 @@ fn a_unit_begun_is_not_answered(rt: HostRuntime) -> Result<(), Fail> {
     Ok(())
 }
 
-/// A record of each kind, in digits, and its whole answer, where connection 7 is open and nothing else.
+/// A record of each kind, in digits, and its whole answer, where connection 7 is open and nothing
+/// else.
 const RECORDS: [(&str, &str); 8] = [
     (
         "4F 00 00000000",

@@ -1,4 +1,5 @@
-// The memory of a chip of 64 KiB, and the stations on it.
+//! The memory of a chip of 64 KiB, and the stations on it.
+
 ghost use Rattle.std.specs.Prelude.{◌≡◌, ◌<◌};
 
 use block_device::{FixedIn, FixedOut};

@@ -1,4 +1,6 @@
-// Images with bytes changed: what a mount answers by docs/LAYOUT.md and docs/DISK.md, and that a refusal changes nothing.
+//! Images with bytes changed: what a mount answers by docs/LAYOUT.md and docs/DISK.md, and that a
+//! refusal changes nothing.
+
 use crate::chips::{OnSim, formatted};
 use acceptance_random::Dice;
 use block_device::Disk;
@@ -34,8 +36,8 @@ fn mounted(
     }
 }
 
-/// What a mount owes of a formatted image of 64 KiB in which one byte of blocks 0 to 4 was `was` and is one of 00h, 55h, FCh
-/// and FEh.
+/// What a mount owes of a formatted image of 64 KiB in which one byte of blocks 0 to 4 was `was`
+/// and is one of 00h, 55h, FCh and FEh.
 fn owed(place: usize, was: u8, byte: u8) -> Result<bool, MountError> {
     let within = place % 4_096;
     match place / 4_096 {
@@ -46,7 +48,8 @@ fn owed(place: usize, was: u8, byte: u8) -> Result<bool, MountError> {
         // 00h and 55h are no votes
         1 | 2 | 3 if within < 2_048 && byte < 0xFC => Err(MountError::Corrupt),
         1 | 2 | 3 => Ok(true),
-        // an unknown block, a mark of an unknown state, one that names no block, and a live slot of a sector past the last
+        // an unknown block, a mark of an unknown state, one that names no block, and a live slot of
+        // a sector past the last
         4 if within < 4 => Err(MountError::Corrupt),
         4 if within == 4 && byte != 0xFE => Err(MountError::Corrupt),
         4 if within >= 16 && within < 44 && within % 4 == 0 && byte == 0xFC => {
@@ -141,8 +144,8 @@ fn used(alloc: Global) -> Result<Vec<u8>, Fail> {
     Ok(disk.into_inner().into_inner())
 }
 
-/// Changes up to four bytes of one part of an image: of the superblock, of the journals, of the heads of data blocks, or
-/// anywhere.
+/// Changes up to four bytes of one part of an image: of the superblock, of the journals, of the
+/// heads of data blocks, or anywhere.
 fn spoil(dice: &mut Dice, memory: &mut [u8]) {
     let part = dice.below(8);
     for _ in 0..1 + dice.below(4) {
@@ -186,8 +189,8 @@ impl Seen {
     }
 }
 
-// A refusal changes nothing: none of these images has an erase that goes on beside what is corrupt. A mount answers the same
-// again, then changes nothing, and finds the same sectors.
+/// A refusal changes nothing: none of these images has an erase that goes on beside what is
+/// corrupt. A mount answers the same again, then changes nothing, and finds the same sectors.
 #[test]
 fn random_damage_is_mounted_or_refused_by_name(rt: HostRuntime) -> Result<(), Fail> {
     let alloc = rt.alloc();

@@ -1,10 +1,12 @@
-// Payloads and option data of up to 4 GiB: they are never answered while they last, and take nothing from the others.
+//! Payloads and option data of up to 4 GiB: they are never answered while they last, and take
+//! nothing from the others.
+
 use crate::chips::{formatted, started, told};
 use crate::talk::{FLAGS, READ_LAST, READ_REPLY, Talk, bytes_of};
 use std::test::*;
 
-/// Heads of units whose bytes never end, before and in the transmission: options other than EXPORT_NAME with data of 4 GiB,
-/// and WRITEs.
+/// Heads of units whose bytes never end, before and in the transmission: options other than
+/// EXPORT_NAME with data of 4 GiB, and WRITEs.
 const OPTIONS: [&str; 5] = [
     "49484156454F5054 00000002 FFFFFFFF",
     "49484156454F5054 00000003 FFFFFFFF",
@@ -20,7 +22,8 @@ const WRITES: [&str; 4] = [
     "25609513 0001 0001 0102030405060708 0000000000008C00 FFFFFE00",
 ];
 
-/// What the data repeats: an ABORT in 16 bytes, or a READ in 28. A server that took them for units would answer.
+/// What the data repeats: an ABORT in 16 bytes, or a READ in 28. A server that took them for units
+/// would answer.
 const ABORT: &str = "49484156454F5054 00000002 00000000";
 
 const PIECE_LEN: usize = 65_536;

@@ -1,11 +1,14 @@
-//! Tests of hostile bytes, of a slow chip and of want of memory, over whole connections and over a chip of 64 KiB.
+//! Tests of hostile bytes, of a slow chip and of want of memory, over whole connections and over a
+//! chip of 64 KiB.
 //!
-//! There is no product code here. `beginning_of` gives the first bytes of a list. The tests stand by subject: `tables` is a chip's
-//! own table with each byte changed and cut short; `damage` images with bytes changed; `slow` a chip whose operation never ends;
-//! `lengths` payloads and option data of up to 4 GiB; `beginnings` connections and scripts that end anywhere; `memory` calls that
-//! find no memory.
+//! There is no product code here. `beginning_of` gives the first bytes of a list. The tests stand
+//! by subject: `tables` is a chip's own table with each byte changed and cut short; `damage` images
+//! with bytes changed; `slow` a chip whose operation never ends; `lengths` payloads and option data
+//! of up to 4 GiB; `beginnings` connections and scripts that end anywhere; `memory` calls that find
+//! no memory.
 //!
-//! Source: own; expected bytes are written out by hand from NBD proto.md, docs/SCRIPT.md, docs/LAYOUT.md and docs/SFDP.md.
+//! Source: own; expected bytes are written out by hand from NBD proto.md, docs/SCRIPT.md,
+//! docs/LAYOUT.md and docs/SFDP.md.
 
 #![tactic(auto)]
 
@@ -22,8 +25,6 @@ mod lengths;
 mod memory;
 #[cfg(test)]
 mod rows;
-#[cfg(test)]
-mod scarcity;
 #[cfg(test)]
 mod slow;
 #[cfg(test)]

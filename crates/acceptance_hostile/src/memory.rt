@@ -1,10 +1,11 @@
-// Calls that find no memory, and are made again.
+//! Calls that find no memory, and are made again.
+
 use crate::chips::{OnSim, formatted, told};
-use crate::scarcity::spend;
 use crate::talk::{READ_LAST, READ_REPLY, Talk};
 use fault_model::SimChip;
 use flash_disk::{FlashDisk, MountError, format};
 use image::{ImageError, formatted_image};
+use scarcity::spend;
 use station::{NewError, Station};
 use std::test::*;
 
@@ -15,7 +16,8 @@ fn a_station_without_memory_hands_the_disk_back(rt: HostRuntime) -> Result<(), F
     talk.start(alloc, 7)?;
     talk.piece(alloc, 7, READ_LAST, READ_REPLY)?;
     let mut room = [0u8; 2_048];
-    // the buffer of a piece has 65,536 bytes, those of the eight sessions 65,552, and their list is longer than a step too
+    // the buffer of a piece has 65,536 bytes, those of the eight sessions 65,552, and their list is
+    // longer than a step too
     for step in 0..56usize {
         let mount: Result<OnSim, _> = FlashDisk::mount(alloc, formatted(alloc)?);
         let Ok(disk) = mount else {
@@ -44,7 +46,8 @@ fn a_station_without_memory_hands_the_disk_back(rt: HostRuntime) -> Result<(), F
 /// The bytes of a chip of 1 MiB.
 const CHIP_LEN: usize = 1_048_576;
 
-// The table of 1,540 sectors, the index of 1,764 slots and that of 256 blocks are each larger than a step of 512 bytes.
+/// The table of 1,540 sectors, the index of 1,764 slots and that of 256 blocks are each larger than
+/// a step of 512 bytes.
 #[test]
 fn a_mount_without_memory_changes_nothing(rt: HostRuntime) -> Result<(), Fail> {
     let alloc = rt.alloc();

@@ -1,12 +1,13 @@
-// A server that keeps rows, where there is no memory for its record or a row.
-ghost use Rattle.std.specs.Prelude.{◌≡◌, ◌*◌, length};
-ghost use Rattle.share.specs.Lent.{lent_len};
+//! A server that keeps rows, where there is no memory for its record or a row.
 
-use crate::scarcity::spend;
+ghost use Rattle.std.specs.Prelude.{◌≡◌, ◌*◌, length};
+ghost use Rattle.nbd_wire.specs.Lent.{lent_len};
+
 use bitflags::Flags;
 use block_device::PlainDisk;
 use nbd_transmission::judge;
 use nbd_wire::{Command, CommandFlags, CommandKind};
+use scarcity::spend;
 use share::{Done, FullRecord, OneServer, Pass, RecordError, Shared};
 use std::alloc::Global;
 use std::marker::Brand;
@@ -59,7 +60,7 @@ fn a_row_without_memory_is_answered_enomem(rt: HostRuntime) -> Result<(), Fail> 
     )
 }
 
-// ENOMEM is 12 (NBD proto.md).
+/// ENOMEM is 12 (NBD proto.md).
 fn keep_rows<K: OneServer, L: OneServer, A: Abort>(
     rt: &A,
     alloc: Global,
@@ -89,7 +90,8 @@ fn keep_rows<K: OneServer, L: OneServer, A: Abort>(
     let mut payload = vec![in alloc; 0x11u8; len as usize]?;
     let read = command(CommandKind::Read, len);
     let write = command(CommandKind::Write, len);
-    // no memory at all; room for the list of rows, but not for its payload beside it; then the list is there
+    // no memory at all; room for the list of rows, but not for its payload beside it; then the list
+    // is there
     for (size, wanted, rows) in [(0, 12, 0u64), (len, 12, 0), (len, 0, 1)] {
         let held = spend(alloc, size as usize)?;
         let error = error_of(rt, &mut server, &mut pass, &write, payload.as_mut_slice());

@@ -1,4 +1,5 @@
-// A chip whose first operation never ends.
+//! A chip whose first operation never ends.
+
 use crate::chips::{formatted, started, told};
 use crate::talk::{READ_REPLY, Talk, bytes_of};
 use std::test::*;

@@ -1,4 +1,6 @@
-// A chip's own table, cut short and with each byte changed, by the nine rules of docs/SFDP.md written out anew.
+//! A chip's own table, cut short and with each byte changed, by the nine rules of docs/SFDP.md
+//! written out anew.
+
 use crate::beginning_of;
 use crate::chips::formatted;
 use chip_model::SpiBus;

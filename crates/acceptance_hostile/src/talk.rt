@@ -1,17 +1,20 @@
-// A script, and the transcript that is owed for it.
+//! A script, and the transcript that is owed for it.
+
 use acceptance_station::record_head;
 use hex;
 use std::alloc::Global;
 use std::test::*;
 
-/// The client flags, GO `flash`, and a READ of the last of 70 sectors, with the cookie 0102030405060708.
+/// The client flags, GO `flash`, and a READ of the last of 70 sectors, with the cookie
+/// 0102030405060708.
 pub(crate) const FLAGS: &str = "00000003";
 
 pub(crate) const GO: &str = "49484156454F5054 00000007 0000000B 00000005 666C617368 0000";
 
 pub(crate) const READ_LAST: &str = "25609513 0000 0000 0102030405060708 0000000000008A00 00000200";
 
-/// The greeting, and the replies to this GO, for a disk of 8C00h bytes, and to this READ, of a sector that was never written.
+/// The greeting, and the replies to this GO, for a disk of 8C00h bytes, and to this READ, of a
+/// sector that was never written.
 pub(crate) const GREETING: &str = "4E42444D41474943 49484156454F5054 0003";
 
 pub(crate) const GO_REPLY: &str =
@@ -89,7 +92,8 @@ impl Talk {
     }
 }
 
-/// The bytes that a text spells: words of hexadecimal digits, and `BYTE*COUNT` for a byte so many times.
+/// The bytes that a text spells: words of hexadecimal digits, and `BYTE*COUNT` for a byte so many
+/// times.
 pub(crate) fn bytes_of(alloc: Global, text: &str) -> Result<Vec<u8>, Fail> {
     let mut bytes = Vec::new(alloc);
     for word in text.split(' ') {

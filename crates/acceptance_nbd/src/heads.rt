@@ -1,4 +1,5 @@
-// Heads of requests, replies and options, as they are sent, and the flags of the server.
+//! Heads of requests, replies and options, as they are sent, and the flags of the server.
+
 use crate::request_head;
 use bitflags::Flags;
 use nbd_wire::{

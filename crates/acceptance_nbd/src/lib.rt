@@ -1,8 +1,10 @@
-//! Tests of the crates of the NBD side: what no clause of theirs says, and bytes written out by hand from NBD proto.md.
+//! Tests of the crates of the NBD side: what no clause of theirs says, and bytes written out by
+//! hand from NBD proto.md.
 //!
-//! There is no product code here. `request_head` spells the head of a request, as a client sends it, from its fields. The tests
-//! stand by subject: heads, requests out of pieces, the negotiation, streams and a disk in memory, the server of one disk,
-//! and the program's line. Those of a crate that has many stand in that crate.
+//! There is no product code here. `request_head` spells the head of a request, as a client sends
+//! it, from its fields. The tests stand by subject: heads, requests out of pieces, the negotiation,
+//! streams and a disk in memory, the server of one disk, and the program's line. Those of a crate
+//! that has many stand in that crate.
 
 #![tactic(auto)]
 

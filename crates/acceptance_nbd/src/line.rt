@@ -1,4 +1,5 @@
-// The program's words, and the texts of its faults.
+//! The program's words, and the texts of its faults.
+
 use norbd_line::{Fault, Line, read_line};
 use std::alloc::Global;
 use std::test::Fail;

@@ -1,4 +1,5 @@
-// Negotiations for a disk of 70 sectors (8C00h bytes), written out by hand from NBD proto.md.
+//! Negotiations for a disk of 70 sectors (8C00h bytes), written out by hand from NBD proto.md.
+
 use nbd_handshake::{Handshake, MAX_REPLY_LEN, Next, greeting};
 use std::alloc::Global;
 use std::process::Abort;
@@ -34,7 +35,8 @@ fn check<R: Abort>(
     Ok(())
 }
 
-/// The bytes that a text spells: words of hexadecimal digits, and `BYTE*COUNT` for a byte so many times.
+/// The bytes that a text spells: words of hexadecimal digits, and `BYTE*COUNT` for a byte so many
+/// times.
 fn bytes_of(alloc: Global, text: &str) -> Result<Vec<u8>, Fail> {
     let mut bytes = Vec::new(alloc);
     for word in text.split(' ') {

@@ -1,4 +1,5 @@
-// Commands and refusals on a disk of 70 sectors, which are 8C00h bytes.
+//! Commands and refusals on a disk of 70 sectors, which are 8C00h bytes.
+
 use crate::heads::{LONG_WRITE, READ_OF_SECTOR_69};
 use bitflags::Flags;
 use nbd_transmission::{Next, Taken, Transmission, judge};

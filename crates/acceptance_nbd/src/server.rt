@@ -1,6 +1,8 @@
-// The server of one disk: its rows, its replies on the wire, and a disk whose chip never ends a write.
+//! The server of one disk: its rows, its replies on the wire, and a disk whose chip never ends a
+//! write.
+
 ghost use Rattle.std.specs.Prelude.{◌≡◌, ◌*◌, ◌<◌, ◌≤◌, length};
-ghost use Rattle.share.specs.Lent.{lent_len};
+ghost use Rattle.nbd_wire.specs.Lent.{lent_len};
 
 use crate::heads::READ_OF_SECTOR_1;
 use block_device::{Disk, DiskError, FixedIn, FixedOut, PlainDisk, Tally};
@@ -16,10 +18,10 @@ use std::process::Abort;
 use std::sync::ledger::{Blank, Ledger};
 use std::test::*;
 
-// The head of the reply to READ_OF_SECTOR_1: the magic, no error, and the cookie.
+/// The head of the reply to READ_OF_SECTOR_1: the magic, no error, and the cookie.
 const HEAD_OF_REPLY: [u8; 16] = [0x67, 0x44, 0x66, 0x98, 0, 0, 0, 0, 1, 2, 3, 4, 5, 6, 7, 8];
 
-// A gate that takes no time.
+/// A gate that takes no time.
 #[derive(Drop)]
 struct OpenGate;
 
@@ -31,7 +33,7 @@ impl Gate for OpenGate {
     ghost none = { λ gate. tt };
 }
 
-// A disk of two sectors whose chip never ends a write.
+/// A disk of two sectors whose chip never ends a write.
 #[derive(Drop)]
 struct StuckDisk<L: Ledger> {
     is_slow: bool,
@@ -102,7 +104,7 @@ fn command(kind: CommandKind, offset: u64, length: u32) -> Command
     }
 }
 
-// The error that answers a command; the server's name is for a failure.
+/// The error that answers a command; the server's name is for a failure.
 fn error_of<D: Disk, R: Recorder, L: OneServer, A: Abort>(
     rt: &A,
     name: &str,
@@ -120,7 +122,8 @@ fn error_of<D: Disk, R: Recorder, L: OneServer, A: Abort>(
     }
 }
 
-// A WRITE to sector 1, a READ of it and a FLUSH, on the second of two connections; the server's name is for a failure.
+/// A WRITE to sector 1, a READ of it and a FLUSH, on the second of two connections; the server's
+/// name is for a failure.
 fn run_three<R: Recorder, L: OneServer, A: Abort>(
     rt: &A,
     alloc: Global,
@@ -168,7 +171,7 @@ fn servers_count_their_rows(rt: HostRuntime) -> Result<(), Fail> {
     )
 }
 
-// A server that keeps rows, and one without rows.
+/// A server that keeps rows, and one without rows.
 fn serve_three<K: OneServer, L: OneServer, A: Abort>(
     rt: &A,
     alloc: Global,
@@ -210,7 +213,7 @@ fn read_from_disk_of<A: Abort>(rt: &A, alloc: Global, sectors: u32) -> Result<()
     read_and_close::<Brand, Brand, _>(rt, alloc, disk, sectors, Blank::new(65537), Blank::new(1))
 }
 
-// The first connection asks for sector 1 and ends; the second begins with 28 bytes of zeros.
+/// The first connection asks for sector 1 and ends; the second begins with 28 bytes of zeros.
 fn read_and_close<L: OneServer, M: Ledger, A: Abort>(
     rt: &A,
     alloc: Global,
@@ -267,7 +270,7 @@ fn a_slow_write_is_answered_eio(rt: HostRuntime) -> Result<(), Fail> {
     write_slowly::<Brand, Brand, _>(&rt, rt.alloc(), 2, Blank::new(65537), Blank::new(1))
 }
 
-// EIO is 5 (NBD proto.md).
+/// EIO is 5 (NBD proto.md).
 fn write_slowly<L: OneServer, M: Ledger, A: Abort>(
     rt: &A,
     alloc: Global,

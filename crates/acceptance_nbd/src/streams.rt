@@ -1,4 +1,5 @@
-// Streams that fail or are full, and a disk in memory.
+//! Streams that fail or are full, and a disk in memory.
+
 ghost use Rattle.std.specs.Prelude.{◌≡◌, ◌<◌, ◌≤◌, IfOk};
 
 use block_device::{Disk, Failed, FixedOut, Io, PlainDisk, Sink, Source, send};
@@ -10,7 +11,8 @@ use std::process::Abort;
 use std::sync::ledger::{Blank, Ledger};
 use std::test::*;
 
-/// Moves at most two bytes a call, and none in the second call, which fails. What it gives are 7 and 8, again and again.
+/// Moves at most two bytes a call, and none in the second call, which fails. What it gives are 7
+/// and 8, again and again.
 #[derive(Drop)]
 struct Flaky {
     calls: u32,

@@ -1,4 +1,5 @@
-// The memory of a chip of 64 KiB, the stations on it, and what these write.
+//! The memory of a chip of 64 KiB, the stations on it, and what these write.
+
 ghost use Rattle.std.specs.Prelude.{◌≡◌, ◌<◌};
 
 use block_device::{FixedIn, FixedOut};

@@ -1,4 +1,5 @@
-// Units that a client may send, drawn by dice.
+//! Units that a client may send, drawn by dice.
+
 use crate::dice::Dice;
 use crate::lines::{Answer, Line, Stage};
 use crate::sectors::{SECTORS, content};

@@ -1,4 +1,5 @@
-// Numbers that look random, from a seed.
+//! Numbers that look random, from a seed.
+
 ghost use Rattle.std.specs.Prelude.{◌<◌};
 
 /// An xorshift generator of 64 bits.

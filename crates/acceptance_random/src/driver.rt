@@ -1,4 +1,5 @@
-// A driver of random events, which judges what a station answers by a plain array of sectors.
+//! A driver of random events, which judges what a station answers by a plain array of sectors.
+
 use crate::chips::{OnSim, told};
 use crate::clients::Clients;
 use crate::lines::{Answer, Line, Stage};
@@ -283,7 +284,8 @@ impl Driver {
         Ok(())
     }
 
-    /// A piece of what a client has to send, cut anywhere. Where the connection isn't open it is mostly opened.
+    /// A piece of what a client has to send, cut anywhere. Where the connection isn't open it is
+    /// mostly opened.
     fn piece(
         &mut self,
         station: &mut Station<OnSim>,
@@ -424,7 +426,8 @@ impl Driver {
         }
     }
 
-    /// All was put on another station, whose power is on: no connection is open there, and no loss armed.
+    /// All was put on another station, whose power is on: no connection is open there, and no loss
+    /// armed.
     pub(crate) fn move_on(&mut self) {
         self.has_power = true;
         self.is_armed = false;

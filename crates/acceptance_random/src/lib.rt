@@ -1,9 +1,10 @@
-//! Tests of the station over the disk on a simulated chip of 64 KiB by random events: some thousand for each seed, on eight
-//! connections whose texts are cut anywhere, with losses of power in any frame, judged by a plain array of sectors.
+//! Tests of the station over the disk on a simulated chip of 64 KiB by random events: some thousand
+//! for each seed, on eight connections whose texts are cut anywhere, with losses of power in any
+//! frame, judged by a plain array of sectors.
 //!
-//! There is no product code here. `Dice` draws the numbers. `clients` draws what is sent, with the answer that a plain array owes
-//! it; `driver` draws the events and judges each answer; `sectors` is the array, in which a sector of an interrupted WRITE is old
-//! or new until it is read.
+//! There is no product code here. `Dice` draws the numbers. `clients` draws what is sent, with the
+//! answer that a plain array owes it; `driver` draws the events and judges each answer; `sectors`
+//! is the array, in which a sector of an interrupted WRITE is old or new until it is read.
 
 #![tactic(auto)]
 

@@ -1,4 +1,5 @@
-// Random scripts, by the driver.
+//! Random scripts, by the driver.
+
 use crate::chips::{formatted, set, started};
 use crate::driver::Driver;
 use std::test::*;
@@ -16,7 +17,8 @@ fn random_events_are_answered_as_by_an_array_of_sectors(rt: HostRuntime) -> Resu
         for event in 0..EVENTS {
             driver.step(&mut station, room.as_mut_slice())?;
             if event % 100 == 99 && driver.has_power {
-                // all entries of the first journal are used, so that the next erase renews it, and mostly not to its end
+                // all entries of the first journal are used, so that the next erase renews it, and
+                // mostly not to its end
                 let mut memory = station.into_inner().into_inner().into_inner();
                 set(
                     memory.as_mut_slice(),

@@ -1,4 +1,5 @@
-// A plain array of sectors, of which after a loss some may be old or new.
+//! A plain array of sectors, of which after a loss some may be old or new.
+
 use crate::dice::Dice;
 use std::alloc::Global;
 use std::test::*;
@@ -6,7 +7,7 @@ use std::test::*;
 /// The sectors of a chip of 64 KiB.
 pub(crate) const SECTORS: u32 = 70;
 
-/// The bytes that a stamp stands for; those of stamp 0 are zeros.
+/// The bytes that a stamp represents; those of stamp 0 are zeros.
 pub(crate) fn content(stamp: u32) -> [u8; 512] {
     let mut bytes = [0u8; 512];
     if stamp != 0 {
@@ -22,7 +23,8 @@ pub(crate) fn content(stamp: u32) -> [u8; 512] {
 #[derive(Drop)]
 pub(crate) struct Sectors {
     stamps: Vec<Vec<u32>>,
-    /// How many of those that were unknown when they were read turned out to be as before, and as written.
+    /// How many of those that were unknown when they were read turned out to be as before, and as
+    /// written.
     pub(crate) olds: u32,
     pub(crate) news: u32,
 }
@@ -43,7 +45,8 @@ impl Sectors {
         })
     }
 
-    /// Sectors were written, with the stamps from one on: all of them, or where that was interrupted each of them perhaps.
+    /// Sectors were written, with the stamps from one on: all of them, or where that was
+    /// interrupted each of them perhaps.
     pub(crate) fn write(
         &mut self,
         first: u32,
@@ -63,7 +66,8 @@ impl Sectors {
         Ok(())
     }
 
-    /// Whether bytes that were read may be those of the sectors from one on. What these hold is known then.
+    /// Whether bytes that were read may be those of the sectors from one on. What these hold is
+    /// known then.
     pub(crate) fn read(&mut self, first: u32, bytes: &[u8]) -> Result<bool, Fail> {
         let mut sector = first as usize;
         for chunk in bytes.chunks(512) {

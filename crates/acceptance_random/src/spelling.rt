@@ -1,8 +1,10 @@
-// Bytes out of texts, and records of scripts.
+//! Bytes out of texts, and records of scripts.
+
 use std::alloc::Global;
 use std::test::*;
 
-/// The bytes that a text spells: words of hexadecimal digits, and `BYTE*COUNT` for a byte so many times.
+/// The bytes that a text spells: words of hexadecimal digits, and `BYTE*COUNT` for a byte so many
+/// times.
 pub(crate) fn bytes_of(alloc: Global, text: &str) -> Result<Vec<u8>, Fail> {
     let mut bytes = Vec::new(alloc);
     for word in text.split(' ') {

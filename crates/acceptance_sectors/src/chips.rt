@@ -1,4 +1,6 @@
-// A chip of 64 KiB with some bytes set, the slots behind its journals, and what is left of its memory.
+//! A chip of 64 KiB with some bytes set, the slots behind its journals, and what is left of its
+//! memory.
+
 use crate::erase_copied;
 use erase_journal::Journal;
 use fault_model::SimChip;
@@ -77,7 +79,8 @@ pub(crate) fn first_other(bytes: &[u8], from: usize, to: usize, byte: u8) -> Opt
     None
 }
 
-/// A chip with this memory whose `cut`-th change is cut, 0 for none; a cut change leaves what `mask` says.
+/// A chip with this memory whose `cut`-th change is cut, 0 for none; a cut change leaves what
+/// `mask` says.
 pub(crate) fn chip(alloc: Global, bytes: &[u8], cut: u32, mask: u8) -> Result<SimChip, Fail> {
     let mut copy = Vec::new(alloc);
     copy.extend_from_slice(bytes)?;

@@ -1,4 +1,6 @@
-// The copying of block 4 into block 15 of an erased chip of 64 KiB, step by step: the bytes, the changes and the cuts of each.
+//! The copying of block 4 into block 15 of an erased chip of 64 KiB, step by step: the bytes, the
+//! changes and the cuts of each.
+
 use crate::chips::{
     Call, End, after, changes, chip, erased, first_other, four, head, run, sector, torn,
 };
@@ -29,7 +31,8 @@ fn copy(place: u16) -> Call {
     Call::Copy(TARGET, place)
 }
 
-/// A chip whose block 4 holds sector 5 in its last slot and a dead slot before it, the others being free.
+/// A chip whose block 4 holds sector 5 in its last slot and a dead slot before it, the others being
+/// free.
 fn filled(alloc: Global) -> Result<Vec<u8>, Fail> {
     let content = sector(alloc, 1)?;
     let old = Tag {
@@ -41,7 +44,8 @@ fn filled(alloc: Global) -> Result<Vec<u8>, Fail> {
     after(alloc, &both, Call::Retire(5), &content)
 }
 
-/// The chip after these steps of the copying: it is begun, and the last place is copied, committed, erased and settled.
+/// The chip after these steps of the copying: it is begun, and the last place is copied, committed,
+/// erased and settled.
 fn copied(alloc: Global, steps: usize) -> Result<Vec<u8>, Fail> {
     let mut memory = filled(alloc)?;
     for call in [

@@ -1,4 +1,6 @@
-// A write that copies a block first, cut in each of its changes, mounted again, and cut once more in each change of that mount.
+//! A write that copies a block first, cut in each of its changes, mounted again, and cut once more
+//! in each change of that mount.
+
 use crate::chips::{End, chip, first_other, four};
 use crate::maps::{
     COUNT, Outcome, Sectors, formatted, memory_behind, mount, mounted, stamp_of, write,
@@ -10,12 +12,13 @@ use std::test::*;
 /// What a change leaves that is cut: nothing, all, and parts of it.
 const MASKS: [u8; 6] = [0x00, 0xFF, 0xA5, 0xFE, 0xFC, 0xF8];
 
-/// The changes of the write: begin, a live slot's two pages and descriptor, commit, four of the journals' erase, settle; and then
-/// descriptor, two pages, commit and retirement of the sector itself.
+/// The changes of the write: begin, a live slot's two pages and descriptor, commit, four of the
+/// journals' erase, settle; and then descriptor, two pages, commit and retirement of the sector
+/// itself.
 const CHANGES: u32 = 15;
 
-/// The memory of a chip on which no slot outside the reserve is free: each sector holds stamp 1, and sector 0 stamp 8, its older
-/// contents being six dead slots of block 14 and one of block 4.
+/// The memory of a chip on which no slot outside the reserve is free: each sector holds stamp 1,
+/// and sector 0 stamp 8, its older contents being six dead slots of block 14 and one of block 4.
 fn filled(alloc: Global) -> Result<Vec<u8>, Fail> {
     let mut map = mounted(alloc, chip(alloc, &formatted(alloc)?, 0, 0)?)?;
     for sector in 0..COUNT {
@@ -53,8 +56,8 @@ fn stamp_at(alloc: Global, bytes: &[u8]) -> Result<Option<u8>, Fail> {
     first_stamp(&mut mounted(alloc, chip(alloc, bytes, 0, 0)?)?)
 }
 
-/// Cuts the mount of a chip in each of its changes and mounts it again: how many changes it makes, where sector 0 holds this
-/// stamp each time.
+/// Cuts the mount of a chip in each of its changes and mounts it again: how many changes it makes,
+/// where sector 0 holds this stamp each time.
 fn mounts(alloc: Global, bytes: &[u8], mask: u8, stamp: u8) -> Result<Option<u32>, Fail> {
     for count in 1..16u32 {
         match mount(alloc, chip(alloc, bytes, count, mask)?)? {
@@ -73,7 +76,8 @@ fn mounts(alloc: Global, bytes: &[u8], mask: u8, stamp: u8) -> Result<Option<u32
     Err(Fail::new("a mount of more than 15 changes"))
 }
 
-/// The stamp that sector 0 holds once this change was cut: the last change but one commits its new slot, and clears bit 1.
+/// The stamp that sector 0 holds once this change was cut: the last change but one commits its new
+/// slot, and clears bit 1.
 fn stamp_after(count: u32, mask: u8) -> u8 {
     if count == CHANGES || (count == CHANGES - 1 && mask & 0x02 != 0) {
         9
@@ -90,7 +94,8 @@ fn a_write_that_copies_a_block_makes_fifteen_changes(rt: HostRuntime) -> Result<
     let (end, after) = torn(rt.alloc(), &bytes, CHANGES + 1, 0xFF)?;
     assert_eq!(rt; end, End::Done);
     assert_eq!(rt; stamp_at(rt.alloc(), &after)?, Some(9));
-    // Block 14 is erased, block 15 its settled copy: sector 0's stamp 9 in its first slot, stamp 8, retired, in its last.
+    // Block 14 is erased, block 15 its settled copy: sector 0's stamp 9 in its first slot, stamp 8,
+    // retired, in its last.
     assert_eq!(rt; first_other(&after, 0xE000, 0xF000, 0xFF), None);
     assert_eq!(rt; four(&after, 0xF004)?, [0xF8, 0xFF, 0x0E, 0x00]);
     assert_eq!(rt; four(&after, 0xF010)?, [0xFC, 0xFC, 0x00, 0x00]);

@@ -1,4 +1,6 @@
-// A long run of writes and tidyings with losses of power, judged by a plain map that the test keeps.
+//! A long run of writes and tidyings with losses of power, judged by a plain map that the test
+//! keeps.
+
 ghost use Rattle.std.specs.Prelude.{◌<◌};
 
 use crate::chips::{End, chip};

@@ -1,4 +1,5 @@
-// Maps of sectors over simulated chips of 64 KiB, and what they hold.
+//! Maps of sectors over simulated chips of 64 KiB, and what they hold.
+
 use crate::chips::{End, erased, of_call, set};
 use fault_model::SimChip;
 use nor_driver::{Driver, NorError};
@@ -57,7 +58,8 @@ pub(crate) fn memory_behind(map: Sectors) -> Vec<u8> {
     map.into_inner().into_inner().into_inner()
 }
 
-/// The content that a stamp stands for: zeros for 0, else a first page of the stamp and a second one of the next byte.
+/// The content that a stamp represents: zeros for 0, else a first page of the stamp and a second
+/// one of the next byte.
 pub(crate) fn content(stamp: u8) -> [u8; 512] {
     let mut bytes = [0u8; 512];
     if stamp != 0 {

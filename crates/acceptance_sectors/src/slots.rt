@@ -1,4 +1,6 @@
-// Sectors in the slots of an erased chip of 64 KiB: their bytes, how many changes each call makes, and what its cuts leave.
+//! Sectors in the slots of an erased chip of 64 KiB: their bytes, how many changes each call makes,
+//! and what its cuts leave.
+
 use crate::chips::{
     Call, End, after, changes, chip, erased, first_other, four, head, memory_of, of_call, sector,
     set, slots, torn,
@@ -133,7 +135,8 @@ fn a_put_makes_four_changes_and_each_is_cut(rt: HostRuntime) -> Result<(), Fail>
     let content = sector(rt.alloc(), 1)?;
     let put = Call::Put(0, FIRST);
     assert_eq!(rt; changes(rt.alloc(), &blank, put, &content)?, 4);
-    // The change that is cut, how much of it came, what the slot is then, and how many of its pages hold the sector.
+    // The change that is cut, how much of it came, what the slot is then, and how many of its pages
+    // hold the sector.
     for (change, mask, left, pages) in [
         (1, 0x00, Header::Free, 0),
         (1, 0xFF, Header::Dead, 0),

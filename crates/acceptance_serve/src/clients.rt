@@ -1,4 +1,5 @@
-// What a client of a socket sends, and what it reads.
+//! What a client of a socket sends, and what it reads.
+
 use acceptance_nbd::request_head;
 use std::io;
 use std::io::{Read, Write};

@@ -1,4 +1,6 @@
-// Eight clients at once on an image in a file: random READs and WRITEs in pieces, each client on its own sectors.
+//! Eight clients at once on an image in a file: random READs and WRITEs in pieces, each client on
+//! its own sectors.
+
 ghost use Rattle.std.specs.Prelude.{◌≡◌, ◌*◌, ◌<◌, ◌≤◌, length};
 
 use crate::clients::{ask, begin, is_answered};
@@ -31,7 +33,8 @@ const ROUNDS: u32 = 12;
 
 const OWN_LEN: usize = 65_536;
 
-/// A command: its bytes begin at `at` of the client's own, and a WRITE's first `cut` are sent apart from the others.
+/// A command: its bytes begin at `at` of the client's own, and a WRITE's first `cut` are sent apart
+/// from the others.
 #[derive(Drop)]
 struct Turn {
     is_write: bool,
@@ -48,7 +51,8 @@ struct Client {
     turn: Turn,
 }
 
-// A random command of 512 to 65,536 bytes. Each sector of its payload is filled with a byte of its own.
+/// A random command of 512 to 65,536 bytes. Each sector of its payload is filled with a byte of its
+/// own.
 fn draw(dice: &mut Dice, turn: &mut Turn) -> bool {
     let count = 1 + dice.below(128);
     let first = dice.below(129 - count);
@@ -67,7 +71,7 @@ fn draw(dice: &mut Dice, turn: &mut Turn) -> bool {
     true
 }
 
-// Sends a command's head, and the first piece of a WRITE's payload.
+/// Sends a command's head, and the first piece of a WRITE's payload.
 fn send_first(client: &mut Client, cookie: u64) -> io::Result<()> {
     let turn = &client.turn;
     let offset = client.base.saturating_add(turn.at) as u64;
@@ -82,7 +86,7 @@ fn send_first(client: &mut Client, cookie: u64) -> io::Result<()> {
     Ok(())
 }
 
-// Sends the rest of a WRITE's payload.
+/// Sends the rest of a WRITE's payload.
 fn send_rest(client: &mut Client) -> io::Result<()> {
     if client.turn.is_write {
         if let Some(piece) = client.turn.payload.get(client.turn.cut..) {
@@ -92,7 +96,8 @@ fn send_rest(client: &mut Client) -> io::Result<()> {
     Ok(())
 }
 
-// Reads a command's reply: a READ's data is what stands in `held`, and a WRITE's payload stands there from now on.
+/// Reads a command's reply: a READ's data is what stands in `held`, and a WRITE's payload stands
+/// there from now on.
 fn receive(client: &mut Client, cookie: u64, held: &mut [u8]) -> io::Result<bool> {
     if !is_answered(&mut client.stream, cookie)? {
         return Ok(false);
@@ -114,7 +119,7 @@ fn receive(client: &mut Client, cookie: u64, held: &mut [u8]) -> io::Result<bool
     Ok(*part == *client.turn.payload.as_slice())
 }
 
-// One command of each client: all heads and first pieces, then all other pieces, then all replies.
+/// One command of each client: all heads and first pieces, then all other pieces, then all replies.
 fn round(
     clients: &mut [Client],
     dice: &mut Dice,
@@ -138,7 +143,7 @@ fn round(
     Ok(true)
 }
 
-// The client of this number, before its first command; None where there is no memory for it.
+/// The client of this number, before its first command; None where there is no memory for it.
 fn client_of<H: Net<Stream = TcpStream>>(
     rt: &H,
     alloc: Global,
@@ -159,7 +164,8 @@ fn client_of<H: Net<Stream = TcpStream>>(
     })
 }
 
-// The clients' whole work: whether all replies were right. What the disk is to hold stands in `held` then.
+/// The clients' whole work: whether all replies were right. What the disk is to hold stands in
+/// `held` then.
 fn work<H: Net<Stream = TcpStream>>(
     rt: &H,
     alloc: Global,
@@ -206,7 +212,7 @@ fn eight_clients_find_what_they_wrote(rt: HostRuntime) -> Result<(), Fail> {
 
 type OnImage<F> = FlashDisk<ImageBus<F>, Brand>;
 
-// The disk on the image.
+/// The disk on the image.
 fn mounted<H>(rt: &H, alloc: Global) -> Result<OnImage<H::File>, Fail>
 where
     H: Files + AllocGlobal,
@@ -218,7 +224,7 @@ where
     }
 }
 
-// Serves eight connections. What the disk is to hold stands in `held` then.
+/// Serves eight connections. What the disk is to hold stands in `held` then.
 fn serve_crowd<L, H>(
     rt: &H,
     alloc: Global,
@@ -267,7 +273,7 @@ where
     Ok(())
 }
 
-// Reads a sector; false past the end and after an error.
+/// Reads a sector; false past the end and after an error.
 fn read_sector<D: Disk>(disk: &mut D, sector: u32, bytes: &mut [u8]) -> bool {
     if sector >= disk.sectors() || bytes.len() != 512 {
         return false;
@@ -275,7 +281,7 @@ fn read_sector<D: Disk>(disk: &mut D, sector: u32, bytes: &mut [u8]) -> bool {
     disk.read(sector, bytes).is_ok()
 }
 
-// The image mounts again, and holds these bytes from its first sector on.
+/// The image mounts again, and holds these bytes from its first sector on.
 fn compare<H>(rt: &H, alloc: Global, held: &[u8]) -> Result<(), Fail>
 where
     H: Abort + Files + AllocGlobal,

@@ -1,8 +1,10 @@
-//! Tests of whole connections over one disk: through a socket, in threads, and over streams that fail.
+//! Tests of whole connections over one disk: through a socket, in threads, and over streams that
+//! fail.
 //!
-//! There is no product code here. `own_sectors` parts a disk among eight connections. The tests stand by subject: `clients` is what
-//! a client sends and reads; `meeting` two clients at once; `crowd` eight clients with random commands on an image; `server` a
-//! connection, a keeper and a power loss without a socket.
+//! There is no product code here. `own_sectors` parts a disk among eight connections. The tests
+//! stand by subject: `clients` is what a client sends and reads; `meeting` two clients at once;
+//! `crowd` eight clients with random commands on an image; `server` a connection, a keeper and a
+//! power loss without a socket.
 //!
 //! Source: own; the bytes are written out by hand from NBD proto.md.
 

@@ -1,4 +1,5 @@
-// Two clients at once: the first is held in the middle of a WRITE until the second is answered.
+//! Two clients at once: the first is held in the middle of a WRITE until the second is answered.
+
 ghost use Rattle.std.specs.Prelude.{◌≡◌, ◌*◌, length};
 
 use crate::clients::{ask, begin, is_answered};
@@ -26,8 +27,9 @@ struct Signals {
     gave_up: AtomicBool,
 }
 
-// A gate that holds its connection at Read from when half a WRITE is on its way until the other connection
-// is answered, for 1,000 turns of 10 ms at the most; or, where it doesn't hold, an open one.
+/// A gate that holds its connection at Read from when half a WRITE is on its way until the other
+/// connection is answered, for 1,000 turns of 10 ms at the most; or, where it doesn't hold, an open
+/// one.
 #[derive(Drop)]
 struct TestGate<'s, R: Clock> {
     clock: &'s R,
@@ -64,7 +66,7 @@ impl<'s, R: Clock> Gate for TestGate<'s, R> {
     ghost none = { λ gate. tt };
 }
 
-// Writes sector 3 and reads it back: whether both replies are right.
+/// Writes sector 3 and reads it back: whether both replies are right.
 fn write_and_read(stream: &mut TcpStream) -> io::Result<bool> {
     ask(stream, 1, 3, 1_536, 512)?;
     stream.write_all(&[0x33; 512])?;
@@ -76,7 +78,7 @@ fn write_and_read(stream: &mut TcpStream) -> io::Result<bool> {
     Ok(first && second && bytes == [0x33; 512])
 }
 
-// The first client sends half of a WRITE, the second is answered, and then the first goes on.
+/// The first client sends half of a WRITE, the second is answered, and then the first goes on.
 fn meet<H: Net<Stream = TcpStream>>(
     rt: &H,
     addr: SocketAddr,

@@ -1,3 +1,5 @@
+//! Which sectors are a connection's own.
+
 ghost use Rattle.std.specs.Prelude.{◌≡◌, ◌*◌, ◌<◌};
 
 /// The sectors of each of eight connections.

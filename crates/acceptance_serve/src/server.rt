@@ -1,6 +1,7 @@
-// A whole connection, a keeper and a power loss, without a socket.
+//! A whole connection, a keeper and a power loss, without a socket.
+
 ghost use Rattle.std.specs.Prelude.{◌≡◌, ◌*◌, ◌<◌, length};
-ghost use Rattle.share.specs.Lent.{lent_len};
+ghost use Rattle.nbd_wire.specs.Lent.{lent_len};
 
 use acceptance_nbd::request_head;
 use bitflags::Flags;
@@ -24,14 +25,15 @@ use std::sync::atomic::{AtomicBool, Ordering};
 use std::sync::ledger::{Blank, Ledger};
 use std::test::*;
 
-// The client flags, GO `flash`, and a READ of sector 1 with the cookie 0102030405060708h.
+/// The client flags, GO `flash`, and a READ of sector 1 with the cookie 0102030405060708h.
 const WHOLE_CONNECTION: [u8; 59] = [
     0, 0, 0, 3, 0x49, 0x48, 0x41, 0x56, 0x45, 0x4f, 0x50, 0x54, 0, 0, 0, 7, 0, 0, 0, 11, 0, 0, 0,
     5, 0x66, 0x6c, 0x61, 0x73, 0x68, 0, 0, 0x25, 0x60, 0x95, 0x13, 0, 0, 0, 0, 1, 2, 3, 4, 5, 6, 7,
     8, 0, 0, 0, 0, 0, 0, 2, 0, 0, 0, 2, 0,
 ];
 
-// The greeting; INFO_EXPORT of 1,024 bytes with the flags 010Dh, INFO_BLOCK_SIZE and ACK; and the head of the reply to the READ.
+/// The greeting; INFO_EXPORT of 1,024 bytes with the flags 010Dh, INFO_BLOCK_SIZE and ACK; and the
+/// head of the reply to the READ.
 const ITS_REPLIES: [u8; 120] = [
     0x4e, 0x42, 0x44, 0x4d, 0x41, 0x47, 0x49, 0x43, 0x49, 0x48, 0x41, 0x56, 0x45, 0x4f, 0x50, 0x54,
     0, 3, 0, 3, 0xe8, 0x89, 4, 0x55, 0x65, 0xa9, 0, 0, 0, 7, 0, 0, 0, 3, 0, 0, 0, 12, 0, 0, 0, 0,
@@ -40,8 +42,8 @@ const ITS_REPLIES: [u8; 120] = [
     0, 7, 0, 0, 0, 1, 0, 0, 0, 0, 0x67, 0x44, 0x66, 0x98, 0, 0, 0, 0, 1, 2, 3, 4, 5, 6, 7, 8,
 ];
 
-/// A stream that gives these bytes in pieces of at most 20, takes at most 20 at once, and whose calls fail once so many were
-/// good.
+/// A stream that gives these bytes in pieces of at most 20, takes at most 20 at once, and whose
+/// calls fail once so many were good.
 #[derive(Drop)]
 struct Failing<'a> {
     rest: &'a [u8],
@@ -89,7 +91,8 @@ fn a_whole_connection_is_answered(rt: HostRuntime) -> Result<(), Fail> {
     work::<Brand, Brand, _>(&rt, rt.alloc(), disk, 2, Blank::new(65537), Blank::new(1))
 }
 
-// One connection: the greeting, the options' replies and the READ's, and one row. The total comes once all passes are in.
+/// One connection: the greeting, the options' replies and the READ's, and one row. The total comes
+/// once all passes are in.
 fn work<L: OneServer, M: Ledger, A: Abort>(
     rt: &A,
     alloc: Global,
@@ -153,9 +156,9 @@ fn a_failing_stream_ends_its_own_connection(rt: HostRuntime) -> Result<(), Fail>
     Ok(())
 }
 
-// A connection whose reads fail after `k` good ones, one whose writes do, and one after them whose streams are good: the
-// bytes come in three reads, the end in a fourth, and the replies go out in 1 + 5 + 27 writes of at most 20 bytes; 33 good ones are
-// all.
+/// A connection whose reads fail after `k` good ones, one whose writes do, and one after them whose
+/// streams are good: the bytes come in three reads, the end in a fourth, and the replies go out in
+/// 1 + 5 + 27 writes of at most 20 bytes; 33 good ones are all.
 fn fail_at<L: OneServer, M: Ledger, N: Ledger, A: Abort>(
     rt: &A,
     alloc: Global,
@@ -192,12 +195,12 @@ fn fail_at<L: OneServer, M: Ledger, N: Ledger, A: Abort>(
     Ok(())
 }
 
-// A stream whose calls fail once so many were good.
+/// A stream whose calls fail once so many were good.
 fn stream_of<'a>(rest: &'a [u8], good_calls: u32) -> Failing<'a> {
     Failing { rest, good_calls }
 }
 
-// One connection over a server, by its next pass.
+/// One connection over a server, by its next pass.
 fn attend<D, R, L, M, N, A>(
     rt: &A,
     alloc: Global,
@@ -218,7 +221,7 @@ where
     end
 }
 
-// A gate that stops the keeper at its third passing.
+/// A gate that stops the keeper at its third passing.
 #[derive(Drop)]
 struct StopGate<'s> {
     passed: u32,
@@ -240,7 +243,7 @@ impl<'s> Gate for StopGate<'s> {
 
 type OnSim = FlashDisk<SimChip, Brand>;
 
-// The disk on a formatted chip of 64 KiB.
+/// The disk on a formatted chip of 64 KiB.
 fn formatted(alloc: Global) -> Result<OnSim, Fail> {
     let chip = SimChip::new(vec![in alloc; 0xffu8; 65_536]?)?;
     let (chip, done) = format(chip);
@@ -251,7 +254,7 @@ fn formatted(alloc: Global) -> Result<OnSim, Fail> {
     }
 }
 
-// A WRITE of sector 0.
+/// A WRITE of sector 0.
 fn write_of_sector_0() -> Command
     ensures { (lent_len result ≡ 512) }
 {
@@ -264,7 +267,7 @@ fn write_of_sector_0() -> Command
     }
 }
 
-// Whether a WRITE of sector 0 through a door is answered without an error.
+/// Whether a WRITE of sector 0 through a door is answered without an error.
 fn write_zero<L: OneServer, T: Door<L>>(
     door: &mut T,
     pass: &mut Pass<L>,

@@ -1,4 +1,5 @@
-// Connections that are not there, and what an output that fails does to all.
+//! Connections that are not there, and what an output that fails does to all.
+
 ghost use Rattle.std.specs.Prelude.{◌≡◌, ◌<◌};
 
 use crate::chips::{OnSim, formatted, started, told};

@@ -1,4 +1,5 @@
-// One text of a connection in pieces.
+//! One text of a connection in pieces.
+
 use crate::chips::formatted;
 use crate::rows::check_bytes;
 use crate::spelling::{bytes_of, push_piece};

@@ -1,4 +1,5 @@
-// Losses of power in an event, and what is read and what stands on the chip after the restore.
+//! Losses of power in an event, and what is read and what stands on the chip after the restore.
+
 use crate::rows::{Row, check, named};
 use std::test::*;
 

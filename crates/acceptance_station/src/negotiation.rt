@@ -1,4 +1,5 @@
-// The negotiation, up to the transmission.
+//! The negotiation, up to the transmission.
+
 use crate::rows::{Row, check, named};
 use std::test::*;
 

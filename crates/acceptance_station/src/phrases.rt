@@ -1,7 +1,7 @@
-// What stands in the texts for records of scripts and of transcripts. The cookie of each request is 0102030405060708, the
-// connection 0.
+//! What stands in the texts for records of scripts and of transcripts. The cookie of each request
+//! is 0102030405060708, the connection 0.
 
-/// Names, each with the digits that it stands for.
+/// Names, each with the digits that it represents.
 pub(crate) const PHRASES: [&str; 25] = [
     "OPEN 4F 00 00000000",
     "GONE 47 00 00000000",
@@ -24,7 +24,8 @@ pub(crate) const PHRASES: [&str; 25] = [
     "READ_6 50 00 0000001C 25609513 0000 0000 0102030405060708 0000000000000C00 00000200",
     "READ_7 50 00 0000001C 25609513 0000 0000 0102030405060708 0000000000000E00 00000200",
     "GREETED 00 44 00000012 4E42444D41474943 49484156454F5054 0003 00 41 00000000",
-    // the reply to a GO: the size of 70 sectors and the transmission flags, the block sizes, and the acknowledgement
+    // the reply to a GO: the size of 70 sectors and the transmission flags, the block sizes, and
+    // the acknowledgement
     "GO_ANSWER 00 44 00000056 0003E889045565A9 00000007 00000003 0000000C 0000 0000000000008C00 010D 0003E889045565A9 00000007 00000003 0000000E 0003 00000200 00001000 00010000 0003E889045565A9 00000007 00000001 00000000",
     // the answers of a START
     "STARTED 00 44 00000012 4E42444D41474943 49484156454F5054 0003 00 41 00000000 00 41 00000000 00 44 00000056 0003E889045565A9 00000007 00000003 0000000C 0000 0000000000008C00 010D 0003E889045565A9 00000007 00000003 0000000E 0003 00000200 00001000 00010000 0003E889045565A9 00000007 00000001 00000000 00 41 00000000",

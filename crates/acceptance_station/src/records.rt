@@ -1,3 +1,5 @@
+//! The heads of a script's records.
+
 ghost use Rattle.std.specs.Int.{to_be_bytes, w32};
 ghost use Rattle.std.specs.Prelude.{◌≡◌, ◌∷◌};
 

@@ -1,4 +1,5 @@
-// Requests, and scripts that are none.
+//! Requests, and scripts that are none.
+
 use crate::rows::{Row, check, named};
 use station::ScriptError;
 use std::test::*;

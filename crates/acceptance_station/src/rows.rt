@@ -1,4 +1,5 @@
-// A row: a script, its transcript, and what it leaves of the chip.
+//! A row: a script, its transcript, and what it leaves of the chip.
+
 use crate::chips::{count, formatted, set, started, told};
 use crate::spelling::bytes_of;
 use station::ScriptError;
@@ -72,7 +73,8 @@ pub(crate) fn check(rt: &impl Abort, alloc: Global, row: &Row) -> Result<(), Fai
     Ok(())
 }
 
-/// Runs a script over a chip, compares its end and its transcript, and gives the chip's memory afterwards.
+/// Runs a script over a chip, compares its end and its transcript, and gives the chip's memory
+/// afterwards.
 pub(crate) fn check_bytes(
     rt: &impl Abort,
     alloc: Global,

@@ -1,11 +1,13 @@
-// Bytes out of texts.
+//! Bytes out of texts.
+
 use crate::changes::ARMINGS;
 use crate::phrases::PHRASES;
 use crate::record_head;
 use std::alloc::Global;
 use std::test::*;
 
-/// The bytes that a text spells: words of hexadecimal digits, `BYTE*COUNT` for a byte so many times, and names of the tables.
+/// The bytes that a text spells: words of hexadecimal digits, `BYTE*COUNT` for a byte so many
+/// times, and names of the tables.
 pub(crate) fn bytes_of(alloc: Global, text: &str) -> Result<Vec<u8>, Fail> {
     let mut bytes = Vec::new(alloc);
     for word in text.split(' ') {
@@ -16,7 +18,7 @@ pub(crate) fn bytes_of(alloc: Global, text: &str) -> Result<Vec<u8>, Fail> {
     Ok(bytes)
 }
 
-/// What a name stands for in a table, where it is there.
+/// What a name represents in a table, where it is there.
 fn push_named(bytes: &mut Vec<u8>, table: &[&str], name: &str) -> Result<bool, Fail> {
     for phrase in table {
         if let Some((first, text)) = phrase.split_once(' ')

@@ -1,4 +1,5 @@
-// That no number of writes uses the journals up.
+//! That no number of writes uses the journals up.
+
 use crate::chips::{count, formatted, set};
 use crate::rows::check_bytes;
 use crate::spelling::bytes_of;

@@ -10,10 +10,10 @@ stream_name LongWrites = codes "session, writes of 65,536 bytes"
 stream_name Options = codes "negotiation, options LIST"
 
 -- the payload of a request, in bytes
-abbrev pub payload_of : Stream → ℕ
-payload_of ShortWrites = 512
-payload_of LongWrites = 65536
-payload_of Options = 0
+abbrev pub stream_payload : Stream → ℕ
+stream_payload ShortWrites = 512
+stream_payload LongWrites = 65536
+stream_payload Options = 0
 
 -- how many requests or options are fed in one go: 1 MiB of payload, where there is any
 abbrev pub requests_of : Stream → ℕ

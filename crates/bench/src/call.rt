@@ -1,10 +1,12 @@
-// What is called of the driver, and of the journals above it.
+//! What is called of the driver, and of the journals above it.
+
 ghost use Rattle.std.specs.Prelude.{◌≡◌, ◌+◌, ◌≤◌, [], ◌∷◌};
 ghost use Rattle.bench.specs.Call.{address_of, block_of, call_bytes, call_name, calls_of};
 
 use crate::case::AREA;
 
-/// A call that is repeated and timed: on the driver of a chip, or on the journals over the driver of another.
+/// A call that is repeated and timed: on the driver of a chip, or on the journals over the driver
+/// of another.
 #[derive(Clone, Copy, Debug, PartialEq, Eq)]
 pub enum Call {
     /// A READ of 512 bytes.
@@ -26,7 +28,8 @@ pub enum Call {
 impl Call {
     /// Each call, in the order of the table.
     pub fn all() -> [Call; 7]
-        ensures { result ≡ Call.DriverShortRead ∷ Call.DriverLongRead ∷ Call.DriverProgram ∷ Call.DriverErase
+        ensures { result ≡ Call.DriverShortRead ∷ Call.DriverLongRead ∷ Call.DriverProgram
+            ∷ Call.DriverErase
             ∷ Call.JournalRead ∷ Call.JournalProgram ∷ Call.JournalErase ∷ [] }
     {
         [
@@ -105,7 +108,8 @@ impl Call {
     }
 }
 
-/// The data block of a call of the journals, counted from 0: one after another in 1 MiB, and then from the first again.
+/// The data block of a call of the journals, counted from 0: one after another in 1 MiB, and then
+/// from the first again.
 pub fn block_of(number: u32) -> u16
     ensures { result ≡ block_of number }
 {

@@ -1,4 +1,5 @@
-// A row of the table of calls.
+//! A row of the table of calls.
+
 use crate::call::Call;
 use crate::row::Columns;
 use std::fmt;

@@ -1,4 +1,5 @@
-// The calls of the driver and of the journals.
+//! The calls of the driver and of the journals.
+
 ghost use Rattle.std.specs.Prelude.{◌≡◌, ◌+◌, ◌<◌, length, OnOk};
 ghost use Rattle.bench.specs.Call.{call_bytes, CallLeaves};
 
@@ -17,7 +18,8 @@ pub fn make<N: Nor>(
     requires driver { length (N.state driver.old).memory ≡ 1048576 }
     requires journal { length journal.old.memory ≡ 1048576 }
     requires bytes { length buffer.old ≡ call_bytes call }
-    ensures leaves { OnOk result (CallLeaves call number (N.state driver.old) journal.old buffer.old (N.state driver.new) journal.new buffer.new) }
+    ensures leaves { OnOk result (CallLeaves call number (N.state driver.old) journal.old buffer.old
+        (N.state driver.new) journal.new buffer.new) }
     ensures driver_size { length (N.state driver.new).memory ≡ 1048576 }
     ensures journal_size { length journal.new.memory ≡ 1048576 }
     ensures buffer_size { length buffer.new ≡ length buffer.old }

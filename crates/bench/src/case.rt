@@ -1,4 +1,5 @@
-// What is measured.
+//! What is measured.
+
 ghost use Rattle.std.specs.Prelude.{◌≡◌, ◌+◌, ◌^◌, ◌<◌, ◌≤◌, [], ◌∷◌};
 
 /// The bytes over which the rounds of a case go, again and again: 1 MiB.
@@ -18,7 +19,7 @@ pub enum Case {
 }
 
 impl Case {
-    ghost use Rattle.bench.specs.Case.{bytes_of, frames_of, name_of, place_of, rounds_of};
+    ghost use Rattle.bench.specs.Case.{bytes_of, frames_of, case_name, case_place, rounds_of};
 
     /// Each case, in the order of the table.
     pub fn all() -> [Case; 4]
@@ -34,7 +35,7 @@ impl Case {
 
     /// The text of the case in the table.
     pub fn name(self) -> &'static str
-        ensures { result.now ≡ name_of self }
+        ensures { result.now ≡ case_name self }
     {
         match self {
             Case::ShortRead => "read of 512 bytes",
@@ -82,9 +83,10 @@ impl Case {
         }
     }
 
-    /// The address of a round, counted from 0: the rounds go over the area unit by unit, and then begin again.
+    /// The address of a round, counted from 0: the rounds go over the area unit by unit, and then
+    /// begin again.
     pub fn place(self, round: u32) -> u32
-        ensures exact { result ≡ place_of self round }
+        ensures exact { result ≡ case_place self round }
         ensures within { result + bytes_of self ≤ 1048576 }
     {
         (round as usize * self.bytes() % AREA) as u32

@@ -1,7 +1,8 @@
-// The plain copies beside the rounds.
+//! The plain copies beside the rounds.
+
 ghost use Rattle.std.specs.Prelude.{◌≡◌, ◌+◌, ◌-◌, ◌<◌, length, slice_range};
 ghost use Rattle.bench.specs.Call.{address_of, call_bytes};
-ghost use Rattle.bench.specs.Case.{bytes_of, place_of};
+ghost use Rattle.bench.specs.Case.{bytes_of, case_place};
 
 use crate::call::Call;
 use crate::case::Case;
@@ -11,7 +12,9 @@ use crate::case::Case;
 pub fn copies(case: Case, area: &[u8], buffer: &mut [u8], count: u32)
     requires area { length area.now ≡ 1048576 }
     requires bytes { length buffer.old ≡ bytes_of case }
-    ensures last { 0 < count → buffer.new ≡ slice_range area.now (place_of case (count - 1)) (place_of case (count - 1) + bytes_of case) }
+    ensures last { 0 < count → buffer.new
+        ≡ slice_range area.now (case_place case (count - 1))
+        (case_place case (count - 1) + bytes_of case) }
     ensures none { count ≡ 0 → buffer.new ≡ buffer.old }
 {
     for index in 0..count {
@@ -25,7 +28,9 @@ pub fn copies(case: Case, area: &[u8], buffer: &mut [u8], count: u32)
 pub fn call_copies(call: Call, area: &[u8], buffer: &mut [u8], count: u32)
     requires area { length area.now ≡ 1048576 }
     requires bytes { length buffer.old ≡ call_bytes call }
-    ensures last { 0 < count → buffer.new ≡ slice_range area.now (address_of call (count - 1)) (address_of call (count - 1) + call_bytes call) }
+    ensures last { 0 < count → buffer.new
+        ≡ slice_range area.now (address_of call (count - 1))
+        (address_of call (count - 1) + call_bytes call) }
     ensures none { count ≡ 0 → buffer.new ≡ buffer.old }
 {
     for number in 0..count {

@@ -1,7 +1,8 @@
-// The bytes of a connection through a session.
+//! The bytes of a connection through a session.
+
 ghost use Rattle.std.specs.Prelude.{◌≡◌, ◌+◌, ◌*◌, ◌≤◌, ◌<◌, ◌⊎◌, true, false, length, IfOk, OnErr};
-ghost use Rattle.session.specs.Line.{is_closed};
-ghost use Rattle.bench.specs.Stream.{payload_of, requests_of};
+ghost use Rattle.session.specs.Sessions.{is_closed};
+ghost use Rattle.bench.specs.Stream.{stream_payload, requests_of};
 
 use crate::figures::nanos;
 use crate::measure::{Failure, filled, now};
@@ -14,7 +15,8 @@ use std::rt::Clock;
 /// How often a stream is fed; the least time counts.
 const GOES: u32 = 64;
 
-/// Client flags without zeros, and EXPORT_NAME with the empty name: the transmission begins after them.
+/// Client flags without zeros, and EXPORT_NAME with the empty name: the transmission begins after
+/// them.
 const OPENING: [u8; 20] = [
     0, 0, 0, 3, 0x49, 0x48, 0x41, 0x56, 0x45, 0x4F, 0x50, 0x54, 0, 0, 0, 1, 0, 0, 0, 0,
 ];
@@ -32,7 +34,8 @@ pub struct Fed {
     pub commands: u64,
 }
 
-/// Feeds all bytes to a session, and finishes each command at once without an error; commands and replies are counted.
+/// Feeds all bytes to a session, and finishes each command at once without an error; commands and
+/// replies are counted.
 #[inline(never)]
 pub fn feed(session: &mut Session, text: &[u8]) -> Fed
     ensures used { result.used ≤ length text.now }
@@ -129,7 +132,8 @@ fn time_of_feed(
     Ok((nanos(end.duration_since(start)), fed.commands))
 }
 
-/// Copies bytes into a buffer, again and again from its front, as a session's payloads go into its own.
+/// Copies bytes into a buffer, again and again from its front, as a session's payloads go into its
+/// own.
 #[inline(never)]
 fn copy_over(text: &[u8], buffer: &mut [u8])
     requires { 0 < length buffer.old }
@@ -155,7 +159,8 @@ fn time_of_copy(clock: &impl Clock, text: &[u8], buffer: &mut [u8]) -> Result<u6
     Ok(nanos(end.duration_since(start)))
 }
 
-/// Measures a stream: a new session, and then the stream and a copy of its bytes in turn; the least times count.
+/// Measures a stream: a new session, and then the stream and a copy of its bytes in turn; the least
+/// times count.
 pub fn measured_stream<C: Clock>(
     clock: &C,
     alloc: Global,

@@ -1,11 +1,13 @@
-// The arithmetic of the table.
+//! The arithmetic of the table.
+
 ghost use Rattle.std.specs.Prelude.{◌≡◌, ◌-◌, ◌^◌, min};
 ghost use Rattle.std.specs.Duration.{as_nanos};
 ghost use Rattle.bench.specs.Figures.{ratio_of};
 
 use std::time::Duration;
 
-/// How many times as long as a copy's time a time is, in hundredths, rounded down; `None` where the copy took no time.
+/// How many times as long as a copy's time a time is, in hundredths, rounded down; `None` where the
+/// copy took no time.
 pub fn ratio(time: u64, copy: u64) -> Option<u128>
     ensures { result ≡ ratio_of time copy }
 {

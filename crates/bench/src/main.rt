@@ -1,16 +1,18 @@
-//! The program `bench`: how fast the parts below a request are, beside a plain copy of as many bytes in the same run.
+//! The program `bench`: how fast the parts below a request are, beside a plain copy of as many
+//! bytes in the same run.
 //!
-//! With the word `run` it measures each case and prints a row for it: nanoseconds of a call and of the plain copy, and the ratio
-//! of the times. Without words it prints one fixed line and measures nothing.
+//! With the word `run` it measures each case and prints a row for it: nanoseconds of a call and of
+//! the plain copy, and the ratio of the times. Without words it prints one fixed line and measures
+//! nothing.
 //!
-//! Proved are the arithmetic of the figures, how many frames a measured run sent, what a round leaves of a chip, and that a
-//! stream is fed to its end. That a
-//! time is the time of its rounds is not proved, since no contract says what a clock tells: the figures are measured.
-//! What each call of the driver and of the journals leaves is proved too; how many frames it sends, a test counts.
-//! A part is added by an arm of `Case`, of `Call` or of `Stream`.
-//! Left to the crates below: the chip (`fault_model`), the contract of its bus (`chip_model`), the bytes of its frames
-//! (`spi_frames`), the driver (`nor_driver`) and the journals (`erase_journal`), and a connection's bytes (`session`).
-//! Source: own.
+//! Proved are the arithmetic of the figures, how many frames a measured run sent, what a round
+//! leaves of a chip, and that a stream is fed to its end. That a time is the time of its rounds is
+//! not proved, since no contract says what a clock tells: the figures are measured. What each call
+//! of the driver and of the journals leaves is proved too; how many frames it sends, a test counts.
+//! A part is added by an arm of `Case`, of `Call` or of `Stream`. Left to the crates below: the
+//! chip (`fault_model`), the contract of its bus (`chip_model`), the bytes of its frames
+//! (`spi_frames`), the driver (`nor_driver`) and the journals (`erase_journal`), and a connection's
+//! bytes (`session`). Source: own.
 #![tactic(auto)]
 
 mod call;

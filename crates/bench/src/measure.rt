@@ -1,8 +1,10 @@
-// The measurement of a case.
-ghost use Rattle.std.specs.Prelude.{◌≡◌, ◌≢◌, ◌+◌, ◌*◌, ◌^◌, ◌<◌, ◌≤◌, ◌⊎◌, ◌-◌, false, true, length, slice_range, IfOk, OnOk, OnErr};
+//! The measurement of a case.
+
+ghost use Rattle.std.specs.Prelude.{◌≡◌, ◌≢◌, ◌+◌, ◌*◌, ◌^◌, ◌<◌, ◌≤◌, ◌⊎◌, ◌-◌, false, true};
+ghost use Rattle.std.specs.Prelude.{length, slice_range, IfOk, OnOk, OnErr};
 ghost use Rattle.chip_model.specs.Chip.{is_idle};
 ghost use Rattle.fault_model.specs.Sim.{chip_of};
-ghost use Rattle.bench.specs.Case.{bytes_of, frames_of, place_of, rounds_of};
+ghost use Rattle.bench.specs.Case.{bytes_of, frames_of, case_place, rounds_of};
 
 use crate::case::{AREA, Case};
 use crate::copies::copies;
@@ -80,10 +82,13 @@ fn time_of_rounds<B: SpiBus>(
     requires bytes { length buffer.old ≡ bytes_of case }
     requires idle { is_idle (B.chip bus.old.bus).operation ≡ true }
     requires room { bus.old.frames + 800000 < 2 ^ 64 }
-    ensures counted { OnOk result (bus.new.frames ≡ bus.old.frames + rounds_of case * frames_of case) }
+    ensures counted { OnOk result (bus.new.frames
+        ≡ bus.old.frames + rounds_of case * frames_of case) }
     ensures idle { OnOk result (is_idle (B.chip bus.new.bus).operation ≡ true) }
     ensures cuts { OnOk result (B.cuts bus.new.bus ≡ B.cuts bus.old.bus) }
-    ensures lost { result ≡ Err Failure.PowerLost → ((B.chip bus.new.bus).powered ≡ false) ⊎ (is_idle (B.chip bus.new.bus).operation ≡ false) }
+    ensures lost { result ≡ Err Failure.PowerLost
+        → ((B.chip bus.new.bus).powered ≡ false)
+        ⊎ (is_idle (B.chip bus.new.bus).operation ≡ false) }
     ensures memory { result ≢ Err Failure.NoMemory }
 {
     let start = now(clock)?;
@@ -104,7 +109,9 @@ fn time_of_copies(
 ) -> Result<u64, Failure>
     requires area { length area.now ≡ 1048576 }
     requires bytes { length buffer.old ≡ bytes_of case }
-    ensures copied { OnOk result (buffer.new ≡ slice_range area.now (place_of case (rounds_of case - 1)) (place_of case (rounds_of case - 1) + bytes_of case)) }
+    ensures copied { OnOk result (buffer.new
+        ≡ slice_range area.now (case_place case (rounds_of case - 1))
+        (case_place case (rounds_of case - 1) + bytes_of case)) }
     ensures clock { OnErr result (result ≡ Err Failure.NoClock) }
 {
     let start = now(clock)?;
@@ -113,7 +120,8 @@ fn time_of_copies(
     Ok(nanos(end.duration_since(start)))
 }
 
-/// Measures a case: a new chip, and then rounds and copies in turn, each timed in one go; the least times count.
+/// Measures a case: a new chip, and then rounds and copies in turn, each timed in one go; the least
+/// times count.
 ///
 /// The row's frames and bytes are those of one go, as proved; its times are what the clock told.
 pub fn measured<C: Clock>(clock: &C, alloc: Global, case: Case) -> Result<Row, Failure>

@@ -1,5 +1,7 @@
-// The measurement of a call.
-ghost use Rattle.std.specs.Prelude.{◌≡◌, ◌≢◌, ◌+◌, ◌-◌, ◌*◌, length, slice_range, IfOk, OnOk, OnErr};
+//! The measurement of a call.
+
+ghost use Rattle.std.specs.Prelude.{◌≡◌, ◌≢◌, ◌+◌, ◌-◌, ◌*◌, length, slice_range, IfOk, OnOk};
+ghost use Rattle.std.specs.Prelude.{OnErr};
 ghost use Rattle.bench.specs.Call.{address_of, call_bytes, calls_of};
 
 use crate::call::Call;
@@ -18,7 +20,8 @@ use std::rt::Clock;
 
 /// The driver of a new chip.
 fn new_driver(alloc: Global) -> Result<Driver<Meter<SimChip>>, Failure>
-    ensures size { IfOk result (λ d. length (⟦<Driver<Meter<SimChip>> as Nor>⟧.state d).memory ≡ 1048576) }
+    ensures size { IfOk result (λ d. length (⟦<Driver<Meter<SimChip>> as Nor>⟧.state d).memory
+        ≡ 1048576) }
 {
     match Driver::probe(new_chip(alloc)?) {
         Ok(driver) => Ok(driver),
@@ -70,7 +73,9 @@ fn time_of_call_copies(
 ) -> Result<u64, Failure>
     requires area { length area.now ≡ 1048576 }
     requires bytes { length buffer.old ≡ call_bytes call }
-    ensures copied { OnOk result (buffer.new ≡ slice_range area.now (address_of call (calls_of call - 1)) (address_of call (calls_of call - 1) + call_bytes call)) }
+    ensures copied { OnOk result (buffer.new
+        ≡ slice_range area.now (address_of call (calls_of call - 1))
+        (address_of call (calls_of call - 1) + call_bytes call)) }
     ensures size { length buffer.new ≡ length buffer.old }
     ensures clock { OnErr result (result ≡ Err Failure.NoClock) }
 {
@@ -104,8 +109,8 @@ fn least_times<C: Clock, N: Nor>(
     Ok((time, copy))
 }
 
-/// Measures a call: a new chip for the driver and one for the journals, and then calls and copies in turn, each timed in one go;
-/// the least times count.
+/// Measures a call: a new chip for the driver and one for the journals, and then calls and copies
+/// in turn, each timed in one go; the least times count.
 pub fn measured_call<C: Clock>(clock: &C, alloc: Global, call: Call) -> Result<CallRow, Failure>
     ensures call { IfOk result (λ row. row.call ≡ call) }
     ensures bytes { IfOk result (λ row. row.bytes ≡ calls_of call * call_bytes call) }
@@ -131,7 +136,8 @@ mod tests {
     use crate::calls::make;
     use std::test::Fail;
 
-    /// The frames that a new chip's driver and the journals over another's have sent after so many calls.
+    /// The frames that a new chip's driver and the journals over another's have sent after so many
+    /// calls.
     fn frames(alloc: Global, call: Call, count: u32) -> Result<(u64, u64), Fail> {
         let mut buffer = filled(alloc, call.bytes())?;
         let mut driver = new_driver(alloc)?;
@@ -144,9 +150,11 @@ mod tests {
 
     #[test]
     fn frames_of_calls(rt: HostRuntime) -> Result<(), Fail> {
-        // A probe sends five frames. A recovery reads the six regions of votes and the entries, and the entries once more.
+        // A probe sends five frames. A recovery reads the six regions of votes and the entries, and
+        // the entries once more.
         let (probe, recovery) = (5, 5 + 8);
-        // An erase of a block changes the chip four times: entry, opening, block, closing. The first reads the entries before.
+        // An erase of a block changes the chip four times: entry, opening, block, closing. The
+        // first reads the entries before.
         for (call, driver, journal, once) in [
             (Call::DriverShortRead, 1, 0, 0),
             (Call::DriverLongRead, 1, 0, 0),

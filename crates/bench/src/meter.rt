@@ -1,4 +1,5 @@
-// A bus that counts its frames.
+//! A bus that counts its frames.
+
 ghost use Rattle.std.specs.Prelude.{◌≡◌, ◌+◌, ◌-◌, ◌^◌, true, min, OnOk, OnErr};
 ghost use Rattle.chip_model.specs.Cut.{Loses, PowersOn};
 ghost use Rattle.chip_model.specs.Frames.{Frame, newly_slow};
@@ -24,10 +25,14 @@ impl<B: SpiBus> SpiBus for Meter<B> {
 
     fn transact(&mut self, send: &[u8], recv: &mut [u8]) -> Result<(), PowerLost>
         ensures powered { OnOk result ((B.chip self.old.bus).powered ≡ true) }
-        ensures frame { OnOk result (Frame (B.chip self.old.bus) send.now recv.new (B.chip self.new.bus)) }
+        ensures frame { OnOk result (Frame (B.chip self.old.bus) send.now recv.new
+            (B.chip self.new.bus)) }
         ensures cuts_ok { OnOk result (B.cuts self.new.bus ≡ B.cuts self.old.bus) }
-        ensures slows_ok { OnOk result (B.slows self.new.bus ≡ B.slows self.old.bus + newly_slow (B.chip self.old.bus) (B.chip self.new.bus)) }
-        ensures lost { OnErr result (Loses (B.chip self.old.bus) (B.cuts self.old.bus) send.now (B.chip self.new.bus) (B.cuts self.new.bus)) }
+        ensures slows_ok { OnOk result
+            (B.slows self.new.bus ≡ B.slows self.old.bus
+            + newly_slow (B.chip self.old.bus) (B.chip self.new.bus)) }
+        ensures lost { OnErr result (Loses (B.chip self.old.bus) (B.cuts self.old.bus) send.now
+            (B.chip self.new.bus) (B.cuts self.new.bus)) }
         ensures slows_err { OnErr result (B.slows self.new.bus ≡ B.slows self.old.bus) }
         ensures counted { self.new.frames ≡ min (self.old.frames + 1) (2 ^ 64 - 1) }
     {
@@ -36,7 +41,8 @@ impl<B: SpiBus> SpiBus for Meter<B> {
     }
 
     fn power_on(&mut self)
-        ensures powers_on { PowersOn (B.chip self.old.bus) (B.cuts self.old.bus) (B.chip self.new.bus) (B.cuts self.new.bus) }
+        ensures powers_on { PowersOn (B.chip self.old.bus) (B.cuts self.old.bus)
+            (B.chip self.new.bus) (B.cuts self.new.bus) }
         ensures slows { B.slows self.new.bus ≡ B.slows self.old.bus }
         ensures frames { self.new.frames ≡ self.old.frames }
     {

@@ -1,8 +1,10 @@
-// The rounds on a chip.
-ghost use Rattle.std.specs.Prelude.{◌≡◌, ℕ, ◌+◌, ◌-◌, ◌*◌, ◌%◌, ◌^◌, ◌<◌, ◌≤◌, ◌⊎◌, true, false, length, IfOk, OnOk, OnErr};
+//! The rounds on a chip.
+
+ghost use Rattle.std.specs.Prelude.{◌≡◌, ℕ, ◌+◌, ◌-◌, ◌*◌, ◌%◌, ◌^◌, ◌<◌, ◌≤◌, ◌⊎◌, true, false};
+ghost use Rattle.std.specs.Prelude.{length, IfOk, OnOk, OnErr};
 ghost use Rattle.std.specs.Bool.{OnFalse, OnTrue};
 ghost use Rattle.chip_model.specs.Chip.{is_idle};
-ghost use Rattle.chip_model.specs.Frames.{after, command_of};
+ghost use Rattle.chip_model.specs.Frames.{after_command, command_of};
 ghost use Rattle.bench.specs.Case.{bytes_of, frames_of};
 ghost use Rattle.bench.specs.Rounds.{ChangeLeaves, Looked, ReadLeaves, RoundLeaves};
 
@@ -30,7 +32,8 @@ fn read_round<B: SpiBus>(bus: &mut Meter<B>, at: u32, buffer: &mut [u8]) -> Resu
     requires address { at < 2 ^ 24 }
     requires room { bus.old.frames + 1 < 2 ^ 64 }
     requires idle { is_idle (B.chip bus.old.bus).operation ≡ true }
-    ensures chip { OnOk result (ReadLeaves at (B.chip bus.old.bus) (B.chip bus.new.bus) buffer.new) }
+    ensures chip { OnOk result (ReadLeaves at (B.chip bus.old.bus) (B.chip bus.new.bus)
+        buffer.new) }
     ensures cuts { OnOk result (B.cuts bus.new.bus ≡ B.cuts bus.old.bus) }
     ensures lost { OnErr result ((B.chip bus.new.bus).powered ≡ false) }
     ensures counted { bus.new.frames ≡ bus.old.frames + 1 }
@@ -42,7 +45,8 @@ fn read_round<B: SpiBus>(bus: &mut Meter<B>, at: u32, buffer: &mut [u8]) -> Resu
 fn send<B: SpiBus>(bus: &mut Meter<B>, frame: &[u8]) -> Result<(), PowerLost>
     requires idle { is_idle (B.chip bus.old.bus).operation ≡ true }
     requires room { bus.old.frames + 1 < 2 ^ 64 }
-    ensures chip { OnOk result (B.chip bus.new.bus ≡ after (B.chip bus.old.bus) (command_of frame.now)) }
+    ensures chip { OnOk result (B.chip bus.new.bus
+        ≡ after_command (B.chip bus.old.bus) (command_of frame.now)) }
     ensures cuts { OnOk result (B.cuts bus.new.bus ≡ B.cuts bus.old.bus) }
     ensures lost { OnErr result ((B.chip bus.new.bus).powered ≡ false) }
     ensures counted { bus.new.frames ≡ bus.old.frames + 1 }
@@ -50,7 +54,8 @@ fn send<B: SpiBus>(bus: &mut Meter<B>, frame: &[u8]) -> Result<(), PowerLost>
     bus.transact(frame, &mut [])
 }
 
-/// A write enable, the frame of a change and two status reads; whether nothing is in progress after them.
+/// A write enable, the frame of a change and two status reads; whether nothing is in progress after
+/// them.
 fn change_round<B: SpiBus>(bus: &mut Meter<B>, frame: &[u8]) -> Result<bool, PowerLost>
     requires idle { is_idle (B.chip bus.old.bus).operation ≡ true }
     requires room { bus.old.frames + 4 < 2 ^ 64 }
@@ -78,7 +83,8 @@ pub fn round<B: SpiBus>(
     requires bytes { length buffer.old ≡ bytes_of case }
     requires idle { is_idle (B.chip bus.old.bus).operation ≡ true }
     requires room { bus.old.frames + 4 < 2 ^ 64 }
-    ensures chip { OnOk result (RoundLeaves case at (B.chip bus.old.bus) buffer.old (B.chip bus.new.bus) buffer.new) }
+    ensures chip { OnOk result (RoundLeaves case at (B.chip bus.old.bus) buffer.old
+        (B.chip bus.new.bus) buffer.new) }
     ensures idle { IfOk result (λ idle. idle ≡ is_idle (B.chip bus.new.bus).operation) }
     ensures cuts { OnOk result (B.cuts bus.new.bus ≡ B.cuts bus.old.bus) }
     ensures lost { OnErr result ((B.chip bus.new.bus).powered ≡ false) }
@@ -97,8 +103,8 @@ pub fn round<B: SpiBus>(
     }
 }
 
-/// So many rounds of a case, one after another; whether each of them was answered and left nothing in progress. At the first
-/// that wasn't or didn't, it stops.
+/// So many rounds of a case, one after another; whether each of them was answered and left nothing
+/// in progress. At the first that wasn't or didn't, it stops.
 #[inline(never)]
 pub fn rounds<B: SpiBus>(case: Case, bus: &mut Meter<B>, count: u32, buffer: &mut [u8]) -> bool
     requires bytes { length buffer.old ≡ bytes_of case }
@@ -107,7 +113,8 @@ pub fn rounds<B: SpiBus>(case: Case, bus: &mut Meter<B>, count: u32, buffer: &mu
     ensures counted { OnTrue result (bus.new.frames ≡ bus.old.frames + count * frames_of case) }
     ensures idle { OnTrue result (is_idle (B.chip bus.new.bus).operation ≡ true) }
     ensures cuts { OnTrue result (B.cuts bus.new.bus ≡ B.cuts bus.old.bus) }
-    ensures failed { OnFalse result (((B.chip bus.new.bus).powered ≡ false) ⊎ (is_idle (B.chip bus.new.bus).operation ≡ false)) }
+    ensures failed { OnFalse result (((B.chip bus.new.bus).powered ≡ false)
+        ⊎ (is_idle (B.chip bus.new.bus).operation ≡ false)) }
 {
     for index in 0..count {
         match round(case, bus, case.place(index), buffer) {

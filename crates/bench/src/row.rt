@@ -1,4 +1,5 @@
-// A row of the table.
+//! A row of the table.
+
 use crate::case::Case;
 use crate::figures::ratio;
 use std::fmt;

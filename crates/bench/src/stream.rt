@@ -1,6 +1,7 @@
-// What is fed to a session.
+//! What is fed to a session.
+
 ghost use Rattle.std.specs.Prelude.{◌≡◌, ◌≤◌, [], ◌∷◌};
-ghost use Rattle.bench.specs.Stream.{stream_name, payload_of, requests_of};
+ghost use Rattle.bench.specs.Stream.{stream_name, stream_payload, requests_of};
 
 /// A connection that sends one kind of request, again and again.
 #[derive(Clone, Copy, Debug, PartialEq, Eq)]
@@ -34,7 +35,7 @@ impl Stream {
 
     /// The payload of a request, in bytes.
     pub fn payload(self) -> u32
-        ensures exact { result ≡ payload_of self }
+        ensures exact { result ≡ stream_payload self }
         ensures most { result ≤ 65536 }
     {
         match self {

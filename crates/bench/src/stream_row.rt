@@ -1,4 +1,5 @@
-// A row of the table of streams.
+//! A row of the table of streams.
+
 use crate::row::Columns;
 use crate::stream::Stream;
 use std::fmt;

@@ -1,7 +1,9 @@
 -- What the calls of the disk are. Source: own.
 use Rattle.std.specs.Prelude.{ℕ, ◌*◌, ◌%◌}
 use Rattle.bench_disk.specs.declared.call.Call.{Call}
-use Rattle.bench_disk.specs.declared.call.Call.TheVariants.{ShortRead, LongRead, FirstWrite, ShortWrite, LongWrite, CopyingWrite, Tidy}
+use Rattle.bench_disk.specs.declared.call.Call.TheVariants.{ShortRead, LongRead, FirstWrite}
+use Rattle.bench_disk.specs.declared.call.Call.TheVariants.{ShortWrite, LongWrite, CopyingWrite}
+use Rattle.bench_disk.specs.declared.call.Call.TheVariants.{Tidy}
 
 -- how many bytes a call reads, writes or erases
 abbrev pub call_bytes : Call → ℕ
@@ -23,7 +25,8 @@ calls_of LongWrite = 20
 calls_of CopyingWrite = 2000
 calls_of Tidy = 400
 
--- the first sector of a call: one in seven, or 128 sectors after another, and then from the first again
+-- the first sector of a call: one in seven, or 128 sectors after another, and then from the first
+-- again
 abbrev pub first_of : Call → ℕ → ℕ
 first_of ShortRead number = number % 3580 * 7
 first_of LongRead number = number % 195 * 128

@@ -1,4 +1,5 @@
-// What is measured below the disk: the driver and the map of a full chip.
+//! What is measured below the disk: the driver and the map of a full chip.
+
 ghost use Rattle.std.specs.Prelude.{◌≡◌, ◌+◌, ◌*◌, ◌%◌, ◌<◌, ◌≤◌, length};
 ghost use Rattle.chip_model.specs.Geometry.{sector_count};
 
@@ -10,7 +11,8 @@ use sector_map::SectorMap;
 /// The blocks of a full chip each slot of which is live: the first ones, seven sectors in each.
 const FULL_BLOCKS: u32 = 3_580;
 
-/// Where the first slot of a full block has its sector: the blocks in turn, and then from the first again.
+/// Where the first slot of a full block has its sector: the blocks in turn, and then from the first
+/// again.
 pub fn place_of(number: u32) -> u32
     ensures exact { result ≡ 4096 * (4 + number % 3580) + 512 }
     ensures within { result + 512 ≤ 16777216 }

@@ -1,4 +1,5 @@
-// What is measured of a mounted disk.
+//! What is measured of a mounted disk.
+
 ghost use Rattle.std.specs.Prelude.{◌≡◌, ◌+◌, ◌*◌, ◌<◌, ◌≤◌, ◌↔◌, [], ◌∷◌};
 
 use crate::chips::Filling;
@@ -6,7 +7,8 @@ use crate::chips::Filling;
 /// A call of the disk of a chip of 16 MiB.
 #[derive(Clone, Copy)]
 pub enum Call {
-    /// A `read` of 512 bytes: one sector in seven, on a full chip as the other reads and writes, but for the first write.
+    /// A `read` of 512 bytes: one sector in seven, on a full chip as the other reads and writes,
+    /// but for the first write.
     ShortRead,
     /// A `read` of 65,536 bytes: 128 sectors.
     LongRead,
@@ -16,7 +18,8 @@ pub enum Call {
     ShortWrite,
     /// A `write` of 65,536 bytes, likewise.
     LongWrite,
-    /// A `write` of 512 bytes where no slot is free outside the reserve: it copies a block with six live slots first.
+    /// A `write` of 512 bytes where no slot is free outside the reserve: it copies a block with six
+    /// live slots first.
     CopyingWrite,
     /// A `tidy` that copies a block with one dead slot.
     Tidy,
@@ -27,7 +30,8 @@ impl Call {
 
     /// Each call, in the order of the table.
     pub fn all() -> [Call; 7]
-        ensures { result ≡ Call.ShortRead ∷ Call.LongRead ∷ Call.FirstWrite ∷ Call.ShortWrite ∷ Call.LongWrite ∷ Call.CopyingWrite ∷ Call.Tidy ∷ [] }
+        ensures { result ≡ Call.ShortRead ∷ Call.LongRead ∷ Call.FirstWrite ∷ Call.ShortWrite
+            ∷ Call.LongWrite ∷ Call.CopyingWrite ∷ Call.Tidy ∷ [] }
     {
         [
             Call::ShortRead,
@@ -84,8 +88,9 @@ impl Call {
         }
     }
 
-    /// How many calls are timed in one go. A go of writes takes at most 2,560 of the 3,577 slots that are
-    /// free outside the reserve of a full chip, but for those that copy, which begin when all of these are used.
+    /// How many calls are timed in one go. A go of writes takes at most 2,560 of the 3,577 slots
+    /// that are free outside the reserve of a full chip, but for those that copy, which begin when
+    /// all of these are used.
     pub fn calls(self) -> u32
         ensures exact { result ≡ calls_of self }
         ensures some { 0 < result }
@@ -101,8 +106,9 @@ impl Call {
         }
     }
 
-    /// The first sector of a call, counted from 0: calls of 512 bytes take one sector in seven, those of 65,536 bytes end to end,
-    /// and those that copy sector 8, which lies in the block that is copied.
+    /// The first sector of a call, counted from 0: calls of 512 bytes take one sector in seven,
+    /// those of 65,536 bytes end to end, and those that copy sector 8, which lies in the block that
+    /// is copied.
     pub fn first(self, number: u32) -> u32
         ensures exact { result ≡ first_of self number }
         ensures within { 512 * result + call_bytes self ≤ 12830720 }

@@ -1,4 +1,5 @@
-// The calls of a go, and the plain copies beside them.
+//! The calls of a go, and the plain copies beside them.
+
 ghost use Rattle.std.specs.Prelude.{◌≡◌, ◌+◌, ◌<◌, ◌≤◌, length, OnOk};
 ghost use Rattle.bench_disk.specs.Call.{call_bytes, calls_of};
 
@@ -17,7 +18,8 @@ pub fn make<D: Disk>(
     requires bytes { length buffer.old ≡ call_bytes call }
     ensures size { length (D.facts disk.new).contents ≡ 12830720 }
     ensures bytes { length buffer.new ≡ length buffer.old }
-    ensures tidied { call ≡ Call.Tidy → OnOk result ((D.facts disk.new).work < (D.facts disk.old).work) }
+    ensures tidied { call ≡ Call.Tidy
+        → OnOk result ((D.facts disk.new).work < (D.facts disk.old).work) }
 {
     let first = call.first(number);
     match call {
@@ -44,7 +46,8 @@ pub fn calls<D: Disk>(call: Call, disk: &mut D, buffer: &mut [u8]) -> Result<(),
     requires bytes { length buffer.old ≡ call_bytes call }
     ensures size { length (D.facts disk.new).contents ≡ 12830720 }
     ensures bytes { length buffer.new ≡ length buffer.old }
-    ensures tidied { call ≡ Call.Tidy → OnOk result ((D.facts disk.new).work + calls_of call ≤ (D.facts disk.old).work) }
+    ensures tidied { call ≡ Call.Tidy
+        → OnOk result ((D.facts disk.new).work + calls_of call ≤ (D.facts disk.old).work) }
 {
     for number in 0..call.calls() {
         make(call, disk, number, buffer)?;
@@ -55,8 +58,9 @@ pub fn calls<D: Disk>(call: Call, disk: &mut D, buffer: &mut [u8]) -> Result<(),
 /// The slots of a full chip that are free outside the reserve.
 const FREE_SLOTS: u32 = 3_577;
 
-/// Writes one sector of each of the first 3,577 blocks of a full chip anew, so that no slot is free outside the reserve and these
-/// blocks have one dead slot each; and one more, for which the first of them is copied.
+/// Writes one sector of each of the first 3,577 blocks of a full chip anew, so that no slot is free
+/// outside the reserve and these blocks have one dead slot each; and one more, for which the first
+/// of them is copied.
 fn use_free_slots<D: Disk>(disk: &mut D) -> Result<(), Failure>
     requires size { length (D.facts disk.old).contents ≡ 12830720 }
     ensures size { length (D.facts disk.new).contents ≡ 12830720 }
@@ -69,7 +73,8 @@ fn use_free_slots<D: Disk>(disk: &mut D) -> Result<(), Failure>
     Ok(())
 }
 
-/// Makes as many dead slots as a go of tidyings needs, and uses all free slots for writes that copy; other calls need neither.
+/// Makes as many dead slots as a go of tidyings needs, and uses all free slots for writes that
+/// copy; other calls need neither.
 pub fn prepare<D: Disk>(call: Call, disk: &mut D) -> Result<(), Failure>
     requires size { length (D.facts disk.old).contents ≡ 12830720 }
     ensures size { length (D.facts disk.new).contents ≡ 12830720 }

@@ -1,4 +1,5 @@
-// Chips of 16 MiB and the disks on them.
+//! Chips of 16 MiB and the disks on them.
+
 ghost use Rattle.std.specs.Prelude.{◌≡◌, length, IfOk, OnErr, [], ◌∷◌};
 
 use crate::failure::Failure;

@@ -1,4 +1,5 @@
-// Why there is no row.
+//! Why there is no row.
+
 use block_device::DiskError;
 use nor_driver::NorError;
 

@@ -1,15 +1,16 @@
-//! The program `bench_disk`: what the disk on a simulated chip of 16 MiB costs, in nanoseconds a call, beside a plain copy of
-//! as many bytes in the same run; and what the driver and the map below it cost.
+//! The program `bench_disk`: what the disk on a simulated chip of 16 MiB costs, in nanoseconds a
+//! call, beside a plain copy of as many bytes in the same run; and what the driver and the map
+//! below it cost.
 //!
-//! With the word `run` it measures each mount and each call and prints a row for it. Without words it prints one fixed line and
-//! measures nothing.
+//! With the word `run` it measures each mount and each call and prints a row for it. Without words
+//! it prints one fixed line and measures nothing.
 //!
-//! Proved are the arithmetic of the figures, the sectors that each call names, and that each timed tidying cleared something.
-//! That a time is the time of its calls is not proved, since no contract says what a clock tells: the figures are measured.
-//! Left to the crates below: the chip (`fault_model`), its driver, the slots and the map of sectors, and the disk and its format
-//! (`flash_disk`, `block_device`). The disk is
-//! mounted as one that isn't sound, so nothing is said of its contents but their size.
-//! Source: own.
+//! Proved are the arithmetic of the figures, the sectors that each call names, and that each timed
+//! tidying cleared something. That a time is the time of its calls is not proved, since no contract
+//! says what a clock tells: the figures are measured. Left to the crates below: the chip
+//! (`fault_model`), its driver, the slots and the map of sectors, and the disk and its format
+//! (`flash_disk`, `block_device`). The disk is mounted as one that isn't sound, so nothing is said
+//! of its contents but their size. Source: own.
 #![tactic(auto)]
 
 mod below;
@@ -51,7 +52,8 @@ fn print_row(rt: &HostRuntime, measured: Result<Row, Failure>) -> std::io::Resul
     }
 }
 
-/// Measures each mount and prints its row; and one for the table and the index that the last one makes.
+/// Measures each mount and prints its row; and one for the table and the index that the last one
+/// makes.
 fn print_mounts(rt: &HostRuntime) -> std::io::Result<()> {
     for filling in Filling::all() {
         print_row(rt, measured_mount(rt, rt.alloc(), filling))?;

@@ -1,4 +1,5 @@
-// The measurement of a mount and of a call.
+//! The measurement of a mount and of a call.
+
 ghost use Rattle.std.specs.Prelude.{◌≡◌, length, IfOk, OnErr, OnOk};
 ghost use Rattle.bench_disk.specs.Call.{call_bytes};
 
@@ -13,7 +14,8 @@ use std::alloc::Global;
 use std::rt::Clock;
 use std::time::Instant;
 
-/// How often the calls are timed; the least time counts. A chip is filled for each go, which takes a while.
+/// How often the calls are timed; the least time counts. A chip is filled for each go, which takes
+/// a while.
 const GOES: u32 = 5;
 
 /// How often a mount is timed; the least time counts.
@@ -101,7 +103,8 @@ pub fn measured_mount<C: Clock>(clock: &C, alloc: Global, filling: Filling) -> R
     })
 }
 
-/// Measures a call: calls, each go of them on a new disk, and copies in turn; the least times count.
+/// Measures a call: calls, each go of them on a new disk, and copies in turn; the least times
+/// count.
 pub fn measured_call<C: Clock>(clock: &C, alloc: Global, call: Call) -> Result<Row, Failure>
     ensures bytes { IfOk result (λ row. row.bytes ≡ call_bytes call) }
 {

@@ -1,4 +1,5 @@
-// The measurement of the driver, of the map, and of the making of its table and index.
+//! The measurement of the driver, of the map, and of the making of its table and index.
+
 ghost use Rattle.std.specs.Prelude.{◌≡◌, length, IfOk};
 ghost use Rattle.chip_model.specs.Geometry.{sector_count};
 
@@ -29,7 +30,8 @@ const BLOCKS: u16 = 4_092;
 
 /// The driver of a full chip.
 fn full_driver(alloc: Global) -> Result<Driver<SimChip>, Failure>
-    ensures size { IfOk result (λ driver. length (⟦<Driver<SimChip> as Nor>⟧.state driver).memory ≡ 16777216) }
+    ensures size { IfOk result (λ driver. length (⟦<Driver<SimChip> as Nor>⟧.state driver).memory
+        ≡ 16777216) }
 {
     let chip = new_disk(alloc, Filling::Full)?.into_inner();
     let Ok(driver) = Driver::probe(chip) else {
@@ -140,7 +142,8 @@ pub fn measured_find<C: Clock>(clock: &C, alloc: Global) -> Result<Row, Failure>
     })
 }
 
-/// Makes the table and the index of a chip, as a mount does once the journals are recovered, and times this, in nanoseconds.
+/// Makes the table and the index of a chip, as a mount does once the journals are recovered, and
+/// times this, in nanoseconds.
 fn time_of_tables(
     clock: &impl Clock,
     alloc: Global,

@@ -1,4 +1,5 @@
-// A row of the table.
+//! A row of the table.
+
 use std::fmt;
 
 /// What was measured of a mount or of a call, in the least of the goes.
@@ -13,7 +14,8 @@ pub struct Row {
     pub copy: u64,
 }
 
-/// A number with a comma before each three digits, ten wide at least: so numbers below 100,000,000 stand in a column.
+/// A number with a comma before each three digits, ten wide at least: so numbers below 100,000,000
+/// stand in a column.
 #[derive(Clone, Copy)]
 pub struct InThousands(pub u64);
 

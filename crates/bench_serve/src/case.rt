@@ -1,4 +1,5 @@
-// What is measured.
+//! What is measured.
+
 ghost use Rattle.std.specs.Prelude.{◌≡◌, ◌+◌, ◌*◌, ◌%◌, ◌<◌, ◌≤◌, [], ◌∷◌};
 
 /// How many bytes a command moves.
@@ -48,8 +49,10 @@ pub enum Case {
 impl Case {
     /// Each case, in the order of the table.
     pub fn all() -> [Case; 8]
-        ensures { result ≡ Case.PlainReadSector ∷ Case.PlainWriteSector ∷ Case.PlainReadLongest ∷ Case.PlainWriteLongest
-            ∷ Case.FlashReadSector ∷ Case.FlashWriteSector ∷ Case.FlashReadLongest ∷ Case.FlashWriteLongest ∷ [] }
+        ensures { result ≡ Case.PlainReadSector ∷ Case.PlainWriteSector ∷ Case.PlainReadLongest
+            ∷ Case.PlainWriteLongest
+            ∷ Case.FlashReadSector ∷ Case.FlashWriteSector ∷ Case.FlashReadLongest
+            ∷ Case.FlashWriteLongest ∷ [] }
     {
         [
             Case::PlainReadSector,
@@ -136,10 +139,13 @@ impl Case {
     }
 }
 
-/// The offset of a command in bytes, its number counted from 0: end to end, and then from the first again.
+/// The offset of a command in bytes, its number counted from 0: end to end, and then from the first
+/// again.
 pub fn offset_of(number: u32, length: Length) -> u64
-    ensures sector { length ≡ Length.Sector → (result ≡ number % 25060 * 512) × (result + 512 ≤ 12830720) }
-    ensures longest { length ≡ Length.Longest → (result ≡ number % 195 * 65536) × (result + 65536 ≤ 12830720) }
+    ensures sector { length ≡ Length.Sector
+        → (result ≡ number % 25060 * 512) × (result + 512 ≤ 12830720) }
+    ensures longest { length ≡ Length.Longest
+        → (result ≡ number % 195 * 65536) × (result + 65536 ≤ 12830720) }
 {
     match length {
         Length::Sector => u64::from(number % 25_060) * 512,

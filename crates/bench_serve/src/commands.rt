@@ -1,4 +1,5 @@
-// The connection of a go, and the plain copies beside it.
+//! The connection of a go, and the plain copies beside it.
+
 ghost use Rattle.std.specs.Prelude.{◌≡◌, ◌<◌, length};
 
 use crate::case::{Length, offset_of};
@@ -112,7 +113,8 @@ pub fn run<D: Disk, L: OneServer>(
     Ok(())
 }
 
-/// READs of all that so many WRITEs wrote. Refused where a byte of the data told isn't that of a payload.
+/// READs of all that so many WRITEs wrote. Refused where a byte of the data told isn't that of a
+/// payload.
 pub fn read_back<D: Disk, L: OneServer>(
     alloc: Global,
     server: &mut Shared<D, NoRecord, L>,

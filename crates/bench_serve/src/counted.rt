@@ -1,4 +1,5 @@
-// What a connection is told, counted and dropped.
+//! What a connection is told, counted and dropped.
+
 use block_device::{Failed, Sink};
 
 /// How many bytes were told.

@@ -1,4 +1,5 @@
-// The disks, each of 25,060 sectors, and bytes.
+//! The disks, each of 25,060 sectors, and bytes.
+
 ghost use Rattle.std.specs.Prelude.{◌≡◌, length, IfOk, OnErr};
 
 use crate::failure::Failure;

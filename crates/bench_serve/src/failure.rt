@@ -1,4 +1,4 @@
-// Why there is no row.
+//! Why there is no row.
 
 /// Why a case has no row.
 #[derive(Clone, Copy)]

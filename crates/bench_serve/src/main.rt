@@ -1,13 +1,15 @@
-//! The program `bench_serve`: what READs and WRITEs of 512 and of 65,536 bytes cost through `share::worker`, over streams in memory,
-//! over an array in memory and over the disk on a simulated chip of 16 MiB, beside a plain copy of as many bytes in the same run.
+//! The program `bench_serve`: what READs and WRITEs of 512 and of 65,536 bytes cost through
+//! `share::worker`, over streams in memory, over an array in memory and over the disk on a
+//! simulated chip of 16 MiB, beside a plain copy of as many bytes in the same run.
 //!
-//! With the word `run` it measures each case and prints a row for it. Without words it prints one fixed line and measures nothing.
+//! With the word `run` it measures each case and prints a row for it. Without words it prints one
+//! fixed line and measures nothing.
 //!
-//! Proved are the arithmetic of the figures and that each command lies on the disk. That a time is the time of its commands is not
-//! proved, since no contract says what a clock tells: the figures are measured. Left to the crates below: the connection (`share`),
-//! the heads (`acceptance_nbd`), the disks (`block_device`, `flash_disk`) and the chip (`fault_model`). What a connection is told is
-//! counted and dropped.
-//! Source: own.
+//! Proved are the arithmetic of the figures and that each command lies on the disk. That a time is
+//! the time of its commands is not proved, since no contract says what a clock tells: the figures
+//! are measured. Left to the crates below: the connection (`share`), the heads (`acceptance_nbd`),
+//! the disks (`block_device`, `flash_disk`) and the chip (`fault_model`). What a connection is told
+//! is counted and dropped. Source: own.
 #![tactic(auto)]
 
 mod case;

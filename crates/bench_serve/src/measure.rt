@@ -1,4 +1,5 @@
-// The measurement of a case.
+//! The measurement of a case.
+
 ghost use Rattle.std.specs.Prelude.{◌≡◌, ◌*◌, length, OnErr, OnOk};
 
 use crate::case::Case;
@@ -44,8 +45,8 @@ fn time_of_copies(clock: &impl Clock, from: &[u8], into: &mut [u8]) -> Result<u6
     Ok(nanos(end.duration_since(start)))
 }
 
-/// Times one connection over a server of a disk, in nanoseconds. What is read was written before, over
-/// another; what is written is read back afterwards.
+/// Times one connection over a server of a disk, in nanoseconds. What is read was written before,
+/// over another; what is written is read back afterwards.
 fn time_over<C: Clock, D: Disk + Drop, L: OneServer>(
     clock: &C,
     alloc: Global,
@@ -88,7 +89,8 @@ fn time_of_commands<C: Clock, D: Disk + Drop>(
     time_over::<C, D, Brand>(clock, alloc, case, disk, sectors, Blank::new(65537))
 }
 
-/// Measures a case: commands, each go of them on a new disk, and copies in turn; the least times count.
+/// Measures a case: commands, each go of them on a new disk, and copies in turn; the least times
+/// count.
 pub fn measured<C: Clock>(clock: &C, alloc: Global, case: Case) -> Result<Row, Failure> {
     let size = case.length().bytes() as usize;
     let from = filled(alloc, size, 0x5A)?;

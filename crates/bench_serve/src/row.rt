@@ -1,4 +1,5 @@
-// A row of the table.
+//! A row of the table.
+
 ghost use Rattle.std.specs.Prelude.{◌≡◌, ◌*◌, ◌/◌, ◌<◌, ◌^◌};
 
 use crate::case::Length;
@@ -16,14 +17,16 @@ pub struct Row {
     pub copy: u64,
 }
 
-/// How many commands of so many nanoseconds there are in a second, rounded down; where one takes no time, as if it took one.
+/// How many commands of so many nanoseconds there are in a second, rounded down; where one takes no
+/// time, as if it took one.
 pub fn a_second(nanos: u64) -> u64
     ensures { 0 < nanos → result ≡ 1000000000 / nanos }
 {
     1_000_000_000 / nanos.max(1)
 }
 
-/// Thousandths of a nanosecond for one of so many bytes that take so many nanoseconds, rounded down.
+/// Thousandths of a nanosecond for one of so many bytes that take so many nanoseconds, rounded
+/// down.
 pub fn a_byte(nanos: u64, bytes: u32) -> u64
     requires { 0 < bytes }
     ensures { 1000 * nanos < 2 ^ 64 → result ≡ 1000 * nanos / bytes }

@@ -1,4 +1,5 @@
-// What is measured.
+//! What is measured.
+
 ghost use Rattle.std.specs.Prelude.{◌≡◌, ◌+◌, ◌*◌, ◌%◌, ◌<◌, ◌≤◌, [], ◌∷◌};
 
 /// Requests of 65,536 bytes, one in each event.
@@ -17,7 +18,8 @@ pub enum Case {
 impl Case {
     /// Each case, in the order of the table.
     pub fn all() -> [Case; 4]
-        ensures { result ≡ Case.PlainWrite ∷ Case.PlainRead ∷ Case.FlashWrite ∷ Case.FlashRead ∷ [] }
+        ensures { result ≡ Case.PlainWrite ∷ Case.PlainRead ∷ Case.FlashWrite ∷ Case.FlashRead
+            ∷ [] }
     {
         [
             Case::PlainWrite,
@@ -57,7 +59,8 @@ impl Case {
         }
     }
 
-    /// How many events are timed in one go. Those of the chip's WRITEs lie end to end on its disk, once.
+    /// How many events are timed in one go. Those of the chip's WRITEs lie end to end on its disk,
+    /// once.
     pub fn events(self) -> u32
         ensures some { 0 < result }
     {

@@ -1,4 +1,5 @@
-// What a station tells, counted and dropped.
+//! What a station tells, counted and dropped.
+
 use block_device::{Failed, Sink};
 
 /// How many bytes were told.

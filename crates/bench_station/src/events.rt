@@ -1,4 +1,5 @@
-// The events of a go, and the plain copies beside them.
+//! The events of a go, and the plain copies beside them.
+
 ghost use Rattle.std.specs.Prelude.{◌≡◌, ◌<◌, length};
 
 use crate::case::offset_of;
@@ -49,7 +50,8 @@ pub fn new_request(alloc: Global, is_read: bool) -> Result<Vec<u8>, Failure> {
     Ok(bytes)
 }
 
-/// So many events, each with the request at the next offset. Refused where one isn't answered as it should be.
+/// So many events, each with the request at the next offset. Refused where one isn't answered as it
+/// should be.
 #[inline(never)]
 pub fn events<D: Disk>(
     station: &mut Station<D>,

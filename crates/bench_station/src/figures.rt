@@ -1,4 +1,5 @@
-// The arithmetic of the table.
+//! The arithmetic of the table.
+
 ghost use Rattle.std.specs.Prelude.{◌≡◌, ◌-◌, ◌^◌, ◌/◌, ◌<◌, min};
 ghost use Rattle.std.specs.Duration.{as_nanos};
 

@@ -1,11 +1,14 @@
-//! The program `bench_station`: what WRITEs and READs of 65,536 bytes, each in one piece, cost through a station, over an array in
-//! memory and over the disk on a simulated chip of 16 MiB, beside a plain copy of as many bytes in the same run.
+//! The program `bench_station`: what WRITEs and READs of 65,536 bytes, each in one piece, cost
+//! through a station, over an array in memory and over the disk on a simulated chip of 16 MiB,
+//! beside a plain copy of as many bytes in the same run.
 //!
-//! With the word `run` it measures each case and prints a row for it. Without words it prints one fixed line and measures nothing.
+//! With the word `run` it measures each case and prints a row for it. Without words it prints one
+//! fixed line and measures nothing.
 //!
-//! Proved are the arithmetic of the figures and that each request lies on the disk. That a time is the time of its events is not
-//! proved, since no contract says what a clock tells: the figures are measured. Left to the crates below: the station (`station`),
-//! the disks (`block_device`, `flash_disk`) and the chip (`fault_model`). What the station tells is counted and dropped.
+//! Proved are the arithmetic of the figures and that each request lies on the disk. That a time is
+//! the time of its events is not proved, since no contract says what a clock tells: the figures are
+//! measured. Left to the crates below: the station (`station`), the disks (`block_device`,
+//! `flash_disk`) and the chip (`fault_model`). What the station tells is counted and dropped.
 //! Source: own.
 #![tactic(auto)]
 

@@ -1,4 +1,5 @@
-// The measurement of a case.
+//! The measurement of a case.
+
 ghost use Rattle.std.specs.Prelude.{◌≡◌, length, OnErr, OnOk};
 
 use crate::case::Case;
@@ -66,7 +67,8 @@ fn time_of_events<C: Clock, D: Disk + Drop>(
     Ok(nanos(end.duration_since(start)))
 }
 
-/// Measures a case: events, each go of them on a new disk, and copies in turn; the least times count.
+/// Measures a case: events, each go of them on a new disk, and copies in turn; the least times
+/// count.
 pub fn measured<C: Clock>(clock: &C, alloc: Global, case: Case) -> Result<Row, Failure> {
     let from = filled(alloc, 65_536, 0x5A)?;
     let mut into = filled(alloc, 65_536, 0xFF)?;

@@ -1,4 +1,5 @@
-// A row of the table.
+//! A row of the table.
+
 ghost use Rattle.std.specs.Prelude.{◌≡◌, ◌*◌, ◌/◌, ◌<◌};
 
 use std::fmt;
@@ -13,7 +14,8 @@ pub struct Row {
     pub copy: u64,
 }
 
-/// How many events of so many nanoseconds there are in a second, rounded down; where one takes no time, as if it took one.
+/// How many events of so many nanoseconds there are in a second, rounded down; where one takes no
+/// time, as if it took one.
 pub fn a_second(nanos: u64) -> u64
     ensures { 0 < nanos → result ≡ 1000000000 / nanos }
 {

@@ -1,3 +1,4 @@
 mod Sectors
 mod Sending
+pub mod Streams
 mod Standing

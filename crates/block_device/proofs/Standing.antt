@@ -1,10 +1,10 @@
--- an error that stands is answered again
+-- a latched error is answered again
 use Rattle.std.proofs.Common.{Result, Ok, Err, inl, inr, refl}
 use Rattle.block_device.specs.declared.disk.DiskError.TheVariants.{Cut, Slow}
 use Rattle.block_device.specs.declared.disk.DiskError.{DiskError}
-use Rattle.block_device.specs.Facts.{Facts, Stands, AnswersWhatStood}
+use Rattle.block_device.specs.Facts.{Facts, Latches, AnswersWhatWasLatched}
 
-pub answers_what_stood : {T : Type 0} (old new : Facts) (result : Result T DiskError) → Stands old result new → AnswersWhatStood old result
+pub answers_what_stood : {T : Type 0} (old new : Facts) (result : Result T DiskError) → Latches old result new → AnswersWhatWasLatched old result
 answers_what_stood old new (Ok v) stands =
     record { cut = λ cut. absurd (cc (stands.0.0, cut)); slow = λ no_cut slow. absurd (cc (stands.0.1, slow)) }
 answers_what_stood old new (Err Cut) stands =

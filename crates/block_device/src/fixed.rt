@@ -1,7 +1,9 @@
+//! Streams over bytes in memory, of which no call fails.
+
 ghost use Rattle.std.specs.Prelude.{◌≡◌, [], ◌<◌, length, min, Some, IfOk};
 ghost use Rattle.std.specs.Io.{ReadsAtMost, WritesAtMost};
 ghost use Rattle.std.specs.Io.KnownBytes.{ReadConsumes, WriteAppends};
-ghost use Rattle.block_device.specs.Streams.{Counts, Accepts};
+ghost use Rattle.block_device.specs.Streams.{CountsFailure, Accepts};
 
 use crate::stream::{Failed, Sink, Source};
 use crate::tally::Tally;
@@ -42,7 +44,7 @@ impl Source for FixedIn<'_> {
     fn read(&mut self, into: &mut [u8]) -> Result<usize, Failed>
         ensures bound { ReadsAtMost result into.new }
         ensures bytes { ReadConsumes (Some self.old) (Some self.new) result into.new }
-        ensures faults { Counts 0 result 0 }
+        ensures faults { CountsFailure 0 result 0 }
         ensures count { result ≡ Ok (min (length into.old) (length self.old)) }
     {
         let n = into.len().min(self.rest.len());
@@ -107,12 +109,13 @@ impl<L: Ledger> Sink for FixedOut<'_, L> {
 
     ghost faults = { λ out. out.failures };
 
-    /// Takes as many bytes as it has room for. It fails only where there are some bytes and all room is used.
+    /// Takes as many bytes as it has room for. It fails only where there are some bytes and all
+    /// room is used.
     fn write(&mut self, bytes: &[u8]) -> Result<usize, Failed>
         ensures bound { WritesAtMost result bytes.now }
         ensures some { 0 < length bytes.now → IfOk result (λ n. 0 < n) }
         ensures bytes { WriteAppends (Some self.old.taken) (Some self.new.taken) result bytes.now }
-        ensures faults { Counts self.old.failures result self.new.failures }
+        ensures faults { CountsFailure self.old.failures result self.new.failures }
         ensures size { self.new.size ≡ self.old.size }
         ensures count { Accepts self.old result (length bytes.now) }
     {

@@ -1,3 +1,5 @@
+//! The disk that is an array in memory.
+
 ghost use Rattle.std.specs.Prelude.{◌≡◌, ◌*◌, IfOk, replicate};
 
 use crate::disk::{Disk, DiskError};

@@ -1,3 +1,5 @@
+//! Streams of the standard library, with a count of their failed calls.
+
 ghost use Rattle.std.specs.Prelude.{◌≡◌, ◌+◌, ◌<◌};
 
 use crate::stream::{Failed, Sink, Source};
@@ -59,7 +61,7 @@ impl<T: Write, L: Ledger> Sink for Io<T, L> {
     }
 }
 
-// Counts a failed call.
+/// Counts a failed call.
 fn failed<L: Ledger>(failures: &mut Tally<L>) -> Failed
     ensures { failures.new ≡ failures.old + 1 }
 {

@@ -1,7 +1,9 @@
+//! The traits of byte streams: where bytes come from and where they go.
+
 ghost use Rattle.std.specs.Prelude.{◌≡◌, ℕ, ◌<◌, List, ◌++◌, length, IfOk, Option};
 ghost use Rattle.std.specs.Io.{ReadsAtMost, WritesAtMost};
 ghost use Rattle.std.specs.Io.KnownBytes.{ReadConsumes, WriteAppends};
-ghost use Rattle.block_device.specs.Streams.{Counts, Sends};
+ghost use Rattle.block_device.specs.Streams.{CountsFailure, Sends};
 
 /// A call of a stream failed. It moved no byte.
 #[derive(Clone, Copy, Debug, PartialEq, Eq, Drop)]
@@ -15,12 +17,13 @@ pub trait Source {
     // How many calls failed so far.
     ghost faults: { Self → ℕ };
 
-    /// Moves some of the bytes that are left to the front of `into`, and answers how many: 0 only at the end or where
-    /// `into` is empty. The bytes of `into` past these are unspecified, and all of them after `Failed`.
+    /// Moves some of the bytes that are left to the front of `into`, and answers how many: 0 only
+    /// at the end or where `into` is empty. The bytes of `into` past these are unspecified, and all
+    /// of them after `Failed`.
     fn read(&mut self, into: &mut [u8]) -> Result<usize, Failed>
         ensures bound { ReadsAtMost result into.new }
         ensures bytes { ReadConsumes (remaining self.old) (remaining self.new) result into.new }
-        ensures faults { Counts (faults self.old) result (faults self.new) };
+        ensures faults { CountsFailure (faults self.old) result (faults self.new) };
 }
 
 /// Where bytes go: std's `write`, with a count of the calls that failed.
@@ -31,20 +34,22 @@ pub trait Sink {
     // How many calls failed so far.
     ghost faults: { Self → ℕ };
 
-    /// Takes a beginning of `bytes`, and answers how many bytes: at least one, unless `bytes` is empty.
+    /// Takes a beginning of `bytes`, and answers how many bytes: at least one, unless `bytes` is
+    /// empty.
     fn write(&mut self, bytes: &[u8]) -> Result<usize, Failed>
         ensures bound { WritesAtMost result bytes.now }
         ensures some { 0 < length bytes.now → IfOk result (λ n. 0 < n) }
         ensures bytes { WriteAppends (written self.old) (written self.new) result bytes.now }
-        ensures faults { Counts (faults self.old) result (faults self.new) };
+        ensures faults { CountsFailure (faults self.old) result (faults self.new) };
 
-    /// As `write` of `head` and `rest` together: a sink that can't take both in one call takes the first that is not
-    /// empty.
+    /// As `write` of `head` and `rest` together: a sink that can't take both in one call takes the
+    /// first that is not empty.
     fn write_both(&mut self, head: &[u8], rest: &[u8]) -> Result<usize, Failed>
         ensures bound { WritesAtMost result (head.now ++ rest.now) }
         ensures some { 0 < length (head.now ++ rest.now) → IfOk result (λ n. 0 < n) }
-        ensures bytes { WriteAppends (written self.old) (written self.new) result (head.now ++ rest.now) }
-        ensures faults { Counts (faults self.old) result (faults self.new) }
+        ensures bytes { WriteAppends (written self.old) (written self.new) result
+            (head.now ++ rest.now) }
+        ensures faults { CountsFailure (faults self.old) result (faults self.new) }
     {
         if head.is_empty() {
             self.write(rest)
@@ -67,8 +72,8 @@ pub fn send<W: Sink>(out: &mut W, bytes: &[u8]) -> Result<(), Failed>
     Ok(())
 }
 
-/// Writes all of `head` and then all of `bytes`, in one call where the sink takes both, or a beginning of the two together
-/// where a call of the sink failed.
+/// Writes all of `head` and then all of `bytes`, in one call where the sink takes both, or a
+/// beginning of the two together where a call of the sink failed.
 pub fn send_both<W: Sink>(out: &mut W, head: &[u8], bytes: &[u8]) -> Result<(), Failed>
     ensures { Sends (W.written out.old) (W.faults out.old) (head.now ++ bytes.now) result
         (W.written out.new) (W.faults out.new) }

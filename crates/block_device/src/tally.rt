@@ -1,9 +1,12 @@
+//! A count for contracts alone.
+
 ghost use Rattle.std.specs.Prelude.{◌≡◌, ◌+◌, ◌<◌};
 
 use std::marker::Model;
 use std::sync::ledger::{Blank, Book, Ledger, Share};
 
-/// A count that only rises, from 0 on. It takes no bytes when the program runs, so it can't overflow.
+/// A count that only rises, from 0 on. It takes no bytes when the program runs, so it can't
+/// overflow.
 #[derive(Drop)]
 pub struct Tally<L: Ledger> {
     book: Book<L>,

@@ -4,11 +4,11 @@ use Rattle.std.proofs.Math.Nat.{mod-eq_of_lt}
 use Rattle.std.proofs.lemmas.Bool.{cases_lt, cond-true, cond-false, and_left, and_right, and_from, lt-leb, lt-ltb, le-ltb, le-leb, true≢false, false≢true}
 use Rattle.chip_model.specs.Chip.{Chip, Operation, Idle, Programming, Erasing, Setting, is_idle, is_setting, completed, memory_after, protection_after}
 use Rattle.chip_model.proofs.MemoryLaws.{length-programmed, length-erased}
-use Rattle.chip_model.specs.Frames.{Command, Enable, Disable, Status1, Status2, Status3, Set, Read, Program, Erase, Id, Sfdp, Unknown, command_of, program_of, after, Answers, is_status, Frame, taken, busy, done, status, ignored, is_foreign, is_in_part, is_protected, is_open, starts, with_enabled, with_polls, if_allowed, latched_at, newly_slow, one_more, QuietCompletes}
+use Rattle.chip_model.specs.Frames.{Command, Enable, Disable, Status1, Status2, Status3, Set, Read, Program, Erase, Id, Sfdp, Unknown, command_of, program_of, after_command, Receives, is_status, Frame, taken, busy, done, status, ignored, is_foreign, is_in_part, is_protected, is_unprotected, starts, with_enabled, with_polls, if_allowed, latched_at, newly_slow, one_more_poll, QuietCompletes}
 use Rattle.chip_model.specs.Cut.{Cut, TornMemory, TornProtection}
 
 -- an idle chip takes every frame
-pub when_idle : (c new : Chip) (sent received : List ℕ) → is_idle c.operation ≡ true → Frame c sent received new → Answers c (command_of sent) received × (new ≡ after c (command_of sent))
+pub when_idle : (c new : Chip) (sent received : List ℕ) → is_idle c.operation ≡ true → Frame c sent received new → Receives c (command_of sent) received × (new ≡ after_command c (command_of sent))
 when_idle c new sent received idle f = elim f [
   | taken i a n ↦ (a, n)
   | busy b s a n ↦ absurd (true≢false (sym idle ∙ b))
@@ -19,7 +19,7 @@ when_idle c new sent received idle f = elim f [
 
 -- a status read of an operation in progress
 pub when_busy : (c new : Chip) (sent received : List ℕ) → is_idle c.operation ≡ false → command_of sent ≡ Status1 → Frame c sent received new
-    → (Answers c Status1 received × (new ≡ with_polls c (one_more c.polls))) ⊎ (Answers (completed c) Status1 received × (new ≡ completed c))
+    → (Receives c Status1 received × (new ≡ with_polls c (one_more_poll c.polls))) ⊎ (Receives (completed c) Status1 received × (new ≡ completed c))
 when_busy c new sent received running read f = elim f [
   | taken i a n ↦ absurd (true≢false (sym i ∙ running))
   | busy b s a n ↦ inl (a, n)
@@ -34,10 +34,10 @@ by_tests false true x h = refl
 by_tests false false x h = absurd (false≢true h)
 
 -- an open chip protects nothing
-pub open_unprotected : (c : Chip) (a n : ℕ) → is_open c ≡ true → is_protected c a n ≡ false
+pub open_unprotected : (c : Chip) (a n : ℕ) → is_unprotected c ≡ true → is_protected c a n ≡ false
 open_unprotected c a n h = by_tests (is_foreign c) (eqb (c.protection % 8) 0) (is_in_part c a n) h
 
-pub allowed : (c : Chip) (a n : ℕ) (o : Operation) → c.enabled ≡ true → is_open c ≡ true → if_allowed c a n o ≡ starts c o
+pub allowed : (c : Chip) (a n : ℕ) (o : Operation) → c.enabled ≡ true → is_unprotected c ≡ true → if_allowed c a n o ≡ starts c o
 allowed c a n o e h = cond-false _ _ _ (ap not e) ∙ cond-false _ _ _ (open_unprotected c a n h)
 
 -- an address as three bytes
@@ -45,8 +45,8 @@ pub address : (at : ℕ) → at / 65536 * 65536 + at / 256 % 256 * 256 + at % 25
 address at = omega arith
 
 -- what a write enable and one page program start
-pub started_program : (c : Chip) (at : ℕ) (bytes : List ℕ) → is_open c ≡ true → at < length c.memory → 0 < length bytes → at % 256 + length bytes ≤ 256
-    → after (with_enabled c true) (command_of (2 ∷ (at / 65536) ∷ (at / 256 % 256) ∷ (at % 256) ∷ bytes)) ≡ starts (with_enabled c true) (Programming at bytes)
+pub started_program : (c : Chip) (at : ℕ) (bytes : List ℕ) → is_unprotected c ≡ true → at < length c.memory → 0 < length bytes → at % 256 + length bytes ≤ 256
+    → after_command (with_enabled c true) (command_of (2 ∷ (at / 65536) ∷ (at / 256 % 256) ∷ (at % 256) ∷ bytes)) ≡ starts (with_enabled c true) (Programming at bytes)
 started_program c at bytes unprotected within some page =
     let e = with_enabled c true in
     let is_program : program_of (at / 65536 * 65536 + at / 256 % 256 * 256 + at % 256) bytes ≡ Program at bytes =
@@ -54,34 +54,34 @@ started_program c at bytes unprotected within some page =
     let short : length bytes - 256 ≡ 0 = omega arith in
     let here : at % length c.memory ≡ at = mod-eq_of_lt within in
     let place : latched_at at (length bytes) ≡ at = omega arith in
-    ap (after e) is_program
+    ap (after_command e) is_program
     ∙ (allowed e _ 256 _ refl unprotected
     ∙ (ap (λ a. starts e (Programming (latched_at a (length bytes)) (drop (length bytes - 256) bytes))) here
     ∙ (ap (λ a. starts e (Programming a (drop (length bytes - 256) bytes))) place
     ∙ ap (λ n. starts e (Programming at (drop n bytes))) short)))
 
 -- what a write enable and one erase of a small unit start
-pub started_erase : (c : Chip) (at : ℕ) → is_open c ≡ true → at < length c.memory → at % 4096 ≡ 0
-    → after (with_enabled c true) (command_of (32 ∷ (at / 65536) ∷ (at / 256 % 256) ∷ (at % 256) ∷ [])) ≡ starts (with_enabled c true) (Erasing at 4096)
+pub started_erase : (c : Chip) (at : ℕ) → is_unprotected c ≡ true → at < length c.memory → at % 4096 ≡ 0
+    → after_command (with_enabled c true) (command_of (32 ∷ (at / 65536) ∷ (at / 256 % 256) ∷ (at % 256) ∷ [])) ≡ starts (with_enabled c true) (Erasing at 4096)
 started_erase c at unprotected within unit =
     let e = with_enabled c true in
     let here : at % length c.memory / 4096 * 4096 ≡ at = let h : at % length c.memory ≡ at = mod-eq_of_lt within in let k : at / 4096 * 4096 ≡ at = omega arith in ap (λ x. x / 4096 * 4096) h ∙ k in
-    ap (λ a. after e (Erase a 4096)) (address at)
+    ap (λ a. after_command e (Erase a 4096)) (address at)
     ∙ (allowed e _ 4096 _ refl unprotected
     ∙ ap (λ a. starts e (Erasing a 4096)) here)
 
 -- what a write enable and one erase of a large unit start
-pub started_large_erase : (c : Chip) (at : ℕ) → is_open c ≡ true → at < length c.memory → at % 65536 ≡ 0
-    → after (with_enabled c true) (command_of (216 ∷ (at / 65536) ∷ (at / 256 % 256) ∷ (at % 256) ∷ [])) ≡ starts (with_enabled c true) (Erasing at 65536)
+pub started_large_erase : (c : Chip) (at : ℕ) → is_unprotected c ≡ true → at < length c.memory → at % 65536 ≡ 0
+    → after_command (with_enabled c true) (command_of (216 ∷ (at / 65536) ∷ (at / 256 % 256) ∷ (at % 256) ∷ [])) ≡ starts (with_enabled c true) (Erasing at 65536)
 started_large_erase c at unprotected within unit =
     let e = with_enabled c true in
     let here : at % length c.memory / 65536 * 65536 ≡ at = let h : at % length c.memory ≡ at = mod-eq_of_lt within in let k : at / 65536 * 65536 ≡ at = omega arith in ap (λ x. x / 65536 * 65536) h ∙ k in
-    ap (λ a. after e (Erase a 65536)) (address at)
+    ap (λ a. after_command e (Erase a 65536)) (address at)
     ∙ (allowed e _ 65536 _ refl unprotected
     ∙ ap (λ a. starts e (Erasing a 65536)) here)
 
 -- what a write enable and one status write start, whatever is protected
-pub started_setting : (c : Chip) (value : ℕ) → after (with_enabled c true) (command_of (1 ∷ value ∷ [])) ≡ starts (with_enabled c true) (Setting value)
+pub started_setting : (c : Chip) (value : ℕ) → after_command (with_enabled c true) (command_of (1 ∷ value ∷ [])) ≡ starts (with_enabled c true) (Setting value)
 started_setting c value = refl
 
 -- an idle chip's frame makes nothing slow
@@ -106,7 +106,7 @@ unhurried_allowed : (c : Chip) (a n : ℕ) (o : Operation) → Unhurried c (if_a
 unfolding Unhurried
 unhurried_allowed c a n o = unhurried_cond (not c.enabled) c c _ (inl refl) (unhurried_cond (is_protected c a n) c _ _ (inl refl) (inr refl))
 
-pub unhurried : (c : Chip) (command : Command) → Unhurried c (after c command)
+pub unhurried : (c : Chip) (command : Command) → Unhurried c (after_command c command)
 unfolding Unhurried
 unhurried c Enable = inl refl
 unhurried c Disable = inl refl
@@ -140,7 +140,7 @@ pub record KeepsShape (c new : Chip) : Type 0 where
   pub status3 : new.status3 ≡ c.status3
   pub not_setting : is_setting new.operation ≡ false
 
-pub still_open : (c new : Chip) → KeepsShape c new → is_open c ≡ true → is_open new ≡ true
+pub still_open : (c new : Chip) → KeepsShape c new → is_unprotected c ≡ true → is_unprotected new ≡ true
 still_open c new k h = rw (k.protection, k.status2, k.status3) h
 
 length_after : (o : Operation) (m : List ℕ) → length (memory_after o m) ≡ length m
@@ -193,7 +193,7 @@ idle_not_setting (Setting value) i = absurd (false≢true i)
 pub quiet_completes : QuietCompletes
 quiet_completes c new sent received slows running read late f quiet = elim (when_busy c new sent received running read f) [
   | inl one ↦
-      let reached : new.polls ≡ 65535 = ap (λ (d : Chip). d.polls) one.1 ∙ ap one_more late in
+      let reached : new.polls ≡ 65535 = ap (λ (d : Chip). d.polls) one.1 ∙ ap one_more_poll late in
       let low : c.polls < 65535 = omega (arith, late) in
       let high : 65535 ≤ new.polls = omega (arith, reached) in
       let counted : newly_slow c new ≡ 1 = cond-true _ _ _ (and_from _ _ (lt-ltb _ _ low) (le-leb _ _ high)) in

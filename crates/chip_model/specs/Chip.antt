@@ -1,15 +1,17 @@
--- The chip: what it holds, and what an operation in progress will make of it.
--- Source: datasheet of the W25Q128JV, "Status Registers", "Write Enable (06h)", "Page Program (02h)", "Sector Erase (20h)",
--- "Write Status Register (01h)"; JESD216 for the SFDP bytes. Own: that a program in progress is kept apart from the memory
--- until it completes.
-use Rattle.std.specs.Prelude.{◌≡◌, ℕ, ◌+◌, ◌-◌, ◌/◌, ◌%◌, Bool, false, true, ◌&&◌, if◌then◌else◌, nat_lt, ◌==◌, List, length, bit_and, IfOk}
+-- The chip: what it holds, and what an operation in progress will make of it. Source: datasheet of
+-- the W25Q128JV, "Status Registers", "Write Enable (06h)", "Page Program (02h)", "Sector Erase
+-- (20h)", "Write Status Register (01h)"; JESD216 for the SFDP bytes. Own: that a program in
+-- progress is kept apart from the memory until it completes.
+use Rattle.std.specs.Prelude.{◌≡◌, ℕ, ◌+◌, ◌-◌, ◌/◌, ◌%◌, Bool, false, true, ◌&&◌, if◌then◌else◌}
+use Rattle.std.specs.Prelude.{nat_lt, ◌==◌, List, length, bit_and, IfOk}
 use Rattle.sfdp.specs.Params.{params_of}
 use Rattle.chip_model.specs.Memory.{byte, changed, erased}
 
 -- what is in progress
 pub data Operation : Type 0 where
   Idle : Operation
-  -- a page program: at most 256 bytes (of a longer frame the last ones), and the address at which the first of them falls
+  -- a page program: at most 256 bytes (of a longer frame the last ones), and the address at which
+  -- the first of them falls
   Programming : (at : ℕ) (bytes : List ℕ) → Operation
   -- an erase of so many bytes
   Erasing : (at size : ℕ) → Operation
@@ -36,13 +38,16 @@ pub record IsChip (c : Chip) : Type 0 where
   pub sfdp : length c.sfdp ≡ 256
   pub size : IfOk (params_of c.sfdp) (λ p. p.bytes ≡ length c.memory)
 
--- which byte of a page program that begins at this address falls on the place i: after the page's last byte comes its first
+-- which byte of a page program that begins at this address falls on the place i: after the page's
+-- last byte comes its first
 abbrev pub offset_in_page : ℕ → ℕ → ℕ
 offset_in_page at i = (i % 256 + 256 - at % 256) % 256
 
--- in the page of the address, where a byte falls on the place: what op makes of the old byte and of that one
+-- in the page of the address, where a byte falls on the place: what op makes of the old byte and of
+-- that one
 abbrev pub page_place : (ℕ → ℕ → ℕ) → ℕ → List ℕ → ℕ → ℕ → ℕ
-page_place op at bytes i x = if (i / 256 == at / 256) && nat_lt (offset_in_page at i) (length bytes) then op x (byte bytes (offset_in_page at i)) else x
+page_place op at bytes i x = if (i / 256 == at / 256) && nat_lt (offset_in_page at i) (length bytes)
+    then op x (byte bytes (offset_in_page at i)) else x
 
 -- a page program: each byte becomes old AND new
 unfoldable pub programmed : List ℕ → ℕ → List ℕ → List ℕ
@@ -75,7 +80,8 @@ protection_after (Programming at bytes) p = p
 protection_after (Erasing at size) p = p
 protection_after (Setting value) p = value / 4
 
--- the operation in progress has completed: its change is in the memory or in the register, and WEL is 0
+-- the operation in progress has completed: its change is in the memory or in the register, and WEL
+-- is 0
 abbrev pub completed : Chip → Chip
 completed c = record {
   memory = memory_after c.operation c.memory;

@@ -1,25 +1,28 @@
--- What a loss of power may leave of a chip, and what turning the power on does. Source: own; the datasheet leaves open what
--- an interrupted operation leaves.
+-- What a loss of power may leave of a chip, and what turning the power on does. Source: own; the
+-- datasheet leaves open what an interrupted operation leaves.
 use Rattle.std.specs.Prelude.{◌≡◌, ℕ, ◌+◌, ◌/◌, ◌⊎◌, true, false, List}
 use Rattle.chip_model.specs.Memory.{IsMixed, Torn, TornErase}
 use Rattle.chip_model.specs.Chip.{Chip, Operation, Idle, Programming, Erasing, Setting, programmed}
 use Rattle.chip_model.specs.Frames.{Frame}
 
--- the memory that a loss leaves of an operation: of a program each bit old or new, of an erase any bytes in its unit
+-- the memory that a loss leaves of an operation: of a program each bit old or new, of an erase any
+-- bytes in its unit
 abbrev pub TornMemory : Operation → List ℕ → List ℕ → Type 0
 TornMemory Idle m torn = torn ≡ m
 TornMemory (Programming at bytes) m torn = Torn m (programmed m at bytes) torn
 TornMemory (Erasing at size) m torn = TornErase m at size torn
 TornMemory (Setting value) m torn = torn ≡ m
 
--- bits 2 to 7 of status register 1 that a loss leaves of an operation: of a status write each old or new
+-- bits 2 to 7 of status register 1 that a loss leaves of an operation: of a status write each old
+-- or new
 abbrev pub TornProtection : Operation → ℕ → ℕ → Type 0
 TornProtection Idle p torn = torn ≡ p
 TornProtection (Programming at bytes) p torn = torn ≡ p
 TornProtection (Erasing at size) p torn = torn ≡ p
 TornProtection (Setting value) p torn = IsMixed p (value / 4) torn
 
--- what a loss between two frames may leave: all else is as it was, WEL is 0, nothing is in progress, the power is off
+-- what a loss between two frames may leave: all else is as it was, WEL is 0, nothing is in
+-- progress, the power is off
 pub record Cut (c left : Chip) : Type 0 where
   pub memory : TornMemory c.operation c.memory left.memory
   pub sfdp : left.sfdp ≡ c.sfdp
@@ -31,12 +34,15 @@ pub record Cut (c left : Chip) : Type 0 where
   pub polls : left.polls ≡ 0
   pub powered : left.powered ≡ false
 
--- what a loss inside a frame may leave: of the chip before the frame, or of one that the frame makes of it
+-- what a loss inside a frame may leave: of the chip before the frame, or of one that the frame
+-- makes of it
 pub data CutInside (c : Chip) (sent : List ℕ) (new : Chip) : Type 0 where
   before : Cut c new → CutInside c sent new
-  after_it : (middle : Chip) (received : List ℕ) → Frame c sent received middle → Cut middle new → CutInside c sent new
+  after_it : (middle : Chip) (received : List ℕ) → Frame c sent received middle → Cut middle new
+      → CutInside c sent new
 
--- what a frame that isn't answered leaves: the power fell in it, which counts, or was off already, and then nothing changes
+-- what a frame that isn't answered leaves: the power fell in it, which counts, or was off already,
+-- and then nothing changes
 pub data Loses (c : Chip) (cuts : ℕ) (sent : List ℕ) (new : Chip) (cuts' : ℕ) : Type 0 where
   falls : c.powered ≡ true → CutInside c sent new → cuts' ≡ cuts + 1 → Loses c cuts sent new cuts'
   was_off : c.powered ≡ false → new ≡ c → cuts' ≡ cuts → Loses c cuts sent new cuts'
@@ -55,8 +61,8 @@ with_power c = record {
   powered = true;
 }
 
--- turning the power on: first off, which is a loss that doesn't count, and then on; where it can't be turned on, it stays off
--- and that counts
+-- turning the power on: first off, which is a loss that doesn't count, and then on; where it can't
+-- be turned on, it stays off and that counts
 pub record PowersOn (c : Chip) (cuts : ℕ) (new : Chip) (cuts' : ℕ) : Type 0 where
   pub off : Chip
   pub left : Cut c off

@@ -1,14 +1,17 @@
--- A memory is a list of bytes: what writes and erases make of it place by place, and what interrupted ones may leave.
--- Source: datasheet of the W25Q128JV, "Page Program (02h)" (a program only clears bits) and "Sector Erase (20h)" (an erase
--- sets bytes to FFh); what an interruption may leave is own.
-use Rattle.std.specs.Prelude.{◌≡◌, ℕ, ◌+◌, ◌-◌, ◌<◌, ◌⊎◌, Bool, false, true, ◌&&◌, if◌then◌else◌, nat_lt, nat_le, List, [], ◌∷◌, length, get_or, bit_and}
+-- A memory is a list of bytes: what writes and erases make of it place by place, and what
+-- interrupted ones may leave. Source: datasheet of the W25Q128JV, "Page Program (02h)" (a program
+-- only clears bits) and "Sector Erase (20h)" (an erase sets bytes to FFh); what an interruption may
+-- leave is own.
+use Rattle.std.specs.Prelude.{◌≡◌, ℕ, ◌+◌, ◌-◌, ◌<◌, ◌⊎◌, Bool, false, true, ◌&&◌, if◌then◌else◌}
+use Rattle.std.specs.Prelude.{nat_lt, nat_le, List, [], ◌∷◌, length, get_or, bit_and}
 use Rattle.std.specs.Int.{bit_at}
 
 -- the byte at a place, counted from 0
 abbrev pub byte : List ℕ → ℕ → ℕ
 byte m i = get_or m i 0
 
--- the list in which each byte is f of its place and of the byte that was there; the first place is i
+-- the list in which each byte is f of its place and of the byte that was there; the first place is
+-- i
 abbrev pub changed_from : (ℕ → ℕ → ℕ) → ℕ → List ℕ → List ℕ
 changed_from f i [] = []
 changed_from f i (x ∷ xs) = f i x ∷ changed_from f (i + 1) xs
@@ -20,7 +23,8 @@ changed f m = changed_from f 0 m
 abbrev pub is_within : ℕ → ℕ → ℕ → Bool
 is_within a n i = nat_le a i && nat_lt i (a + n)
 
--- at the places of the bytes, which lie from a on: op of the old byte and of the new one; elsewhere the old byte
+-- at the places of the bytes, which lie from a on: op of the old byte and of the new one; elsewhere
+-- the old byte
 abbrev pub place_of : (ℕ → ℕ → ℕ) → ℕ → List ℕ → ℕ → ℕ → ℕ
 place_of op a bytes i x = if is_within a (length bytes) i then op x (byte bytes (i - a)) else x
 
@@ -32,12 +36,12 @@ placed op m a bytes = changed (place_of op a bytes) m
 abbrev pub and_at : List ℕ → ℕ → List ℕ → List ℕ
 and_at m a bytes = placed bit_and m a bytes
 
-abbrev pub newer : ℕ → ℕ → ℕ
-newer old new = new
+abbrev pub taken_byte : ℕ → ℕ → ℕ
+taken_byte old new = new
 
 -- each byte of the range becomes the new one: a write to a disk
 abbrev pub replaced : List ℕ → ℕ → List ℕ → List ℕ
-replaced m a bytes = placed newer m a bytes
+replaced m a bytes = placed taken_byte m a bytes
 
 -- v at the places of the unit of so many bytes at a, elsewhere the old byte
 abbrev pub fill_place : ℕ → ℕ → ℕ → ℕ → ℕ → ℕ

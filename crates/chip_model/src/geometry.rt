@@ -1,3 +1,5 @@
+//! The counts of blocks, groups and sectors of a chip.
+
 ghost use Rattle.std.specs.Prelude.{◌≡◌, ◌+◌, ◌≤◌, ◌↔◌, IsSome, IfSome};
 ghost use Rattle.chip_model.specs.Geometry.{IsChipSize, block_count, group_count, sector_count};
 
@@ -13,7 +15,8 @@ pub struct Geometry {
 }
 
 impl Geometry {
-    /// The counts for a chip of so many bytes; `None` where that isn't a multiple of 64 KiB from 64 KiB to 16 MiB.
+    /// The counts for a chip of so many bytes; `None` where that isn't a multiple of 64 KiB from 64
+    /// KiB to 16 MiB.
     ///
     /// Two data blocks at least stay free of groups.
     pub fn of(bytes: u32) -> Option<Geometry>

@@ -1,15 +1,18 @@
 //! The modelled flash chip, its serial bus, and what a loss of power may leave of it.
 //!
-//! `SpiBus` is the contract of every bus: a frame that is answered did to the chip what the instruction table says
-//! (`specs/Frames.antt`), one that isn't left what a loss of power inside it may leave (`specs/Cut.antt`), and three facts
-//! are known of a bus: its chip, how often the power was lost, and how many operations were slow. A bus is quiet where the
-//! last doesn't rise. `Geometry` is the disk that a chip of a size makes.
-//! `specs/Memory.antt` and `specs/Parts.antt` say what writes and erases make of a list of bytes and of its parts of one
-//! size; their laws stand beside them, for every crate above.
+//! `SpiBus` is the contract of every bus: a frame that is answered did to the chip what the
+//! instruction table says (`specs/Frames.antt`), one that isn't left what a loss of power inside it
+//! may leave (`specs/Cut.antt`), and three facts are known of a bus: its chip, how often the power
+//! was lost, and how many operations were slow. A bus is quiet where the last doesn't rise.
+//! `Geometry` is the disk that a chip of a size makes. `specs/Memory.antt` and `specs/Parts.antt`
+//! say what writes and erases make of a list of bytes and of its parts of one size; their laws
+//! stand beside them, for every crate above.
 //!
-//! Left to the crate above: the bytes of the frames, waiting for operations, and which addresses are used for what.
+//! Left to the crate above: the bytes of the frames, waiting for operations, and which addresses
+//! are used for what.
 //!
-//! Source: datasheet of the W25Q128JV; JESD216 for the SFDP bytes; what is marked own in the definitions. See docs/CHIP.md.
+//! Source: datasheet of the W25Q128JV; JESD216 for the SFDP bytes; what is marked own in the
+//! definitions. See docs/CHIP.md.
 
 #![tactic(auto)]
 

@@ -9,7 +9,7 @@ use Rattle.erase_journal.specs.Places.{Spoiled, Changed}
 use Rattle.nor_layout.specs.declared.journal.JournalId.{JournalId}
 use Rattle.nor_layout.specs.declared.journal.JournalId.TheVariants.{J0, J1, J2}
 use Rattle.erase_journal.specs.declared.phase.Phase.TheVariants.{Idle, Asked, Doomed, Closing}
-use Rattle.erase_journal.specs.Journals.{survey_of, first, second, open_entries, entries_for, is_open_entry, entry_block, IsSound}
+use Rattle.erase_journal.specs.Journals.{survey_of, first, second, open_entries, entries_for, is_open_entry, entry_block, AreJournalsSound}
 use Rattle.erase_journal.specs.Blocks.{blank, block, blocks_of, listed, SameChip, SameBlocks, WithErased}
 use Rattle.erase_journal.proofs.Counts.{how_many-below}
 use Rattle.erase_journal.proofs.Entries.{named-change, state-changed, state-is, not-open}
@@ -32,7 +32,7 @@ pub blocks-same : (m m' : List ℕ) → SameBlocks m m' → blocks_of m' ≡ blo
 unfolding blocks_of
 blocks-same m m' h = rw h.chip.same_length (listed-same (block m') (block m) 4 (length m / 4096 - 4) (λ b low high. h.each b low (omega arith)))
 
--- each block stands for its own bytes
+-- each block represents its own bytes
 pub record IsPlain (m : List ℕ) : Type 0 where
   pub own : (b : ℕ) → block m b ≡ part 4096 m b
 
@@ -56,8 +56,8 @@ plain-kept at n m m' p p' s high low = record {
 }
 
 -- Opening an entry for block c erases it.
-pub opened-erases : (i c : ℕ) (m m' : List ℕ) → IsSound Idle m → open_entries m ≡ 0 → i < 512 → Changed (6144 + 4 * i) 254 252 m m'
-    → is_open_entry m' i ≡ true → entry_block m' i ≡ c → IsSound Idle m' → WithErased c m m'
+pub opened-erases : (i c : ℕ) (m m' : List ℕ) → AreJournalsSound Idle m → open_entries m ≡ 0 → i < 512 → Changed (6144 + 4 * i) 254 252 m m'
+    → is_open_entry m' i ≡ true → entry_block m' i ≡ c → AreJournalsSound Idle m' → WithErased c m m'
 unfolding block
 opened-erases i c m m' h none low change opened names h' =
     let s = state-changed i 254 252 m m' change in
@@ -75,7 +75,7 @@ opened-erases i c m m' h none low change opened names h' =
       };
     }
 
-block-named : (m : List ℕ) (b : ℕ) → IsSound Idle m → 0 < entries_for m b → block m b ≡ blank
+block-named : (m : List ℕ) (b : ℕ) → AreJournalsSound Idle m → 0 < entries_for m b → block m b ≡ blank
 unfolding block
 block-named m b h named = let p = h.phase in grind (arith, nat_tests)
 
@@ -84,7 +84,7 @@ unfolding block
 block-unnamed m b none = grind (arith, nat_tests)
 
 -- While an entry is open for block c, block c may hold anything.
-spoiled-each : (c : ℕ) (m m' : List ℕ) → IsSound Idle m → 0 < entries_for m c → Spoiled (4096 * c) 4096 m m' → SameEntries m m' → IsSound Idle m'
+spoiled-each : (c : ℕ) (m m' : List ℕ) → AreJournalsSound Idle m → 0 < entries_for m c → Spoiled (4096 * c) 4096 m m' → SameEntries m m' → AreJournalsSound Idle m'
     → (b : ℕ) → part 4096 m' b ≡ part 4096 m b → block m' b ≡ block m b
 spoiled-each c m m' h named s e h' b own =
     let n = e.named b in
@@ -93,7 +93,7 @@ spoiled-each c m m' h named s e h' b own =
       | inr none ↦ block-unnamed m' b (omega arith) ∙ own ∙ sym (block-unnamed m b (omega arith))
     ]
 
-pub spoiled-same : (c : ℕ) (m m' : List ℕ) → 4 ≤ c → IsSound Idle m → 0 < entries_for m c → Spoiled (4096 * c) 4096 m m' → SameEntries m m' → IsSound Idle m' → SameBlocks m m'
+pub spoiled-same : (c : ℕ) (m m' : List ℕ) → 4 ≤ c → AreJournalsSound Idle m → 0 < entries_for m c → Spoiled (4096 * c) 4096 m m' → SameEntries m m' → AreJournalsSound Idle m' → SameBlocks m m'
 spoiled-same c m m' least h named s e h' =
     record {
       chip = chip-kept (4096 * c) 4096 m m' s (omega arith);
@@ -108,7 +108,7 @@ spoiled-same c m m' least h named s e h' =
     }
 
 -- Closing it once block c is erased.
-closed-each : (i c : ℕ) (m m' : List ℕ) → IsSound Idle m → i < 512 → Changed (6144 + 4 * i) 252 248 m m'
+closed-each : (i c : ℕ) (m m' : List ℕ) → AreJournalsSound Idle m → i < 512 → Changed (6144 + 4 * i) 252 248 m m'
     → is_open_entry m i ≡ true → entry_block m i ≡ c → part 4096 m c ≡ blank → open_entries m' ≡ 0
     → (b : ℕ) → part 4096 m' b ≡ part 4096 m b → block m' b ≡ block m b
 closed-each i c m m' h low change opened names is_erased none b own =
@@ -121,7 +121,7 @@ closed-each i c m m' h low change opened names is_erased none b own =
       | inr none ↦ sym (block-unnamed m b (omega arith))
     ]
 
-pub closed-same : (i c : ℕ) (m m' : List ℕ) → IsSound Idle m → i < 512 → Changed (6144 + 4 * i) 252 248 m m'
+pub closed-same : (i c : ℕ) (m m' : List ℕ) → AreJournalsSound Idle m → i < 512 → Changed (6144 + 4 * i) 252 248 m m'
     → is_open_entry m i ≡ true → entry_block m i ≡ c → part 4096 m c ≡ blank → open_entries m' ≡ 0 → SameBlocks m m'
 closed-same i c m m' h low change opened names is_erased none = record {
   chip = chip-kept (6144 + 4 * i) 4 m m' (state-changed i 252 248 m m' change) (omega arith);
@@ -131,13 +131,13 @@ closed-same i c m m' h low change opened names is_erased none = record {
 }
 
 -- The phases of a journal's erase are plain.
-pub asked-plain : (x : JournalId) (m : List ℕ) → IsSound (Asked x) m → IsPlain m
+pub asked-plain : (x : JournalId) (m : List ℕ) → AreJournalsSound (Asked x) m → IsPlain m
 asked-plain x m h = plain-none m h.phase.4
 
-pub closing-plain : (x : JournalId) (m : List ℕ) → IsSound (Closing x) m → IsPlain m
+pub closing-plain : (x : JournalId) (m : List ℕ) → AreJournalsSound (Closing x) m → IsPlain m
 closing-plain x m h = plain-none m h.phase.4
 
-pub doomed-plain : (x : JournalId) (m : List ℕ) → IsSound (Doomed x) m → IsPlain m
+pub doomed-plain : (x : JournalId) (m : List ℕ) → AreJournalsSound (Doomed x) m → IsPlain m
 doomed-plain J0 m h = let p = h.phase in plain-doomed m p.0.0 p.1.0
 doomed-plain J1 m h = let p = h.phase in plain-none m p.4
 doomed-plain J2 m h = let p = h.phase in plain-none m p.4

@@ -1,5 +1,5 @@
 -- Bytes of a data block are read and programmed.
-use Rattle.std.proofs.Common.{◌≡◌, ◌⊎◌, ℕ, ◌+◌, ◌-◌, ◌*◌, ◌<◌, ◌≤◌, Bool, true, false, List, length, drop, get_or-take, get_or-drop, length-take, length-drop, refl, sym, ap, ◌∙◌, arith, inl, inr, add_assoc}
+use Rattle.std.proofs.Common.{◌≡◌, ℕ, ◌+◌, ◌-◌, ◌*◌, ◌<◌, ◌≤◌, List, length, drop, get_or-take, get_or-drop, length-take, length-drop, refl, sym, ap, ◌∙◌, arith, inl, inr, add_assoc}
 use Rattle.std.specs.Prelude.{slice_range, bit_and, Result, Ok, Err, OnOk}
 use Rattle.std.specs.Result.{IsErrOf}
 use Rattle.std.proofs.lemmas.Bool.{cases_lt}
@@ -8,20 +8,20 @@ use Rattle.chip_model.specs.Memory.{byte, and_at, TornAnd}
 use Rattle.chip_model.specs.Parts.{part}
 use Rattle.chip_model.proofs.PartLaws.{part-whole, get-part, part-placed, part-torn}
 use Rattle.chip_model.specs.Geometry.{block_count}
-use Rattle.nor_driver.specs.State.{NorState, IsReady, AnswersWhatStands, Leaves, as_before, torn_in_it, changed_whole}
+use Rattle.nor_driver.specs.State.{NorState, IsNorReady, IsFirst, AnswersWhatIsLatched, Leaves, as_before, torn_in_it, changed_whole}
+use Rattle.nor_driver.proofs.CallLaws.{first-or-ready, first-cut}
 use Rattle.nor_driver.specs.declared.error.NorError.{NorError}
 use Rattle.nor_driver.specs.declared.error.NorError.TheVariants as errors
 use Rattle.erase_journal.specs.declared.phase.Phase.TheVariants.{Idle}
 use Rattle.erase_journal.specs.Places.{Spoiled}
 use Rattle.erase_journal.specs.Journals.{IsSettled, IsHealthy}
 use Rattle.erase_journal.specs.Blocks.{block, OnlyBlock}
-use Rattle.erase_journal.specs.Steps.{IsFirst}
 use Rattle.erase_journal.proofs.Regions.{spoiled-below, spoiled-above}
 use Rattle.erase_journal.proofs.Entries.{data-spoiled}
 use Rattle.erase_journal.proofs.Blocks.{own-kept, chip-kept, plain-none}
 use Rattle.erase_journal.proofs.Effects.{and-spoiled, and-leaves}
 
--- Where no erase goes on, each block stands for its own bytes.
+-- Where no erase goes on, each block represents its own bytes.
 pub settled-own : (m : List ℕ) (b : ℕ) → IsSettled m → block m b ≡ part 4096 m b
 settled-own m b h = (plain-none m h.none).own b
 
@@ -103,24 +103,7 @@ program-cut b at bytes m m' h least number small l =
 pub only-refl : (b : ℕ) (m m' : List ℕ) → m' ≡ m → OnlyBlock b m m'
 only-refl b m m' e = rw e (record { chip = record { same_length = refl; superblock = λ k low. refl }; others = λ c from to other. refl })
 
--- a call that failed first thing changed nothing; else the memory was ready
-cases-of : (slow powered : Bool) → ((slow ≡ false) × (powered ≡ true)) ⊎ (slow ≡ true) ⊎ ((slow ≡ false) × (powered ≡ false))
-cases-of true p = inr (inl refl)
-cases-of false true = inl (refl, refl)
-cases-of false false = inr (inr (refl, refl))
-
--- A call that failed found the memory ready, or changed nothing.
-pub first-or-ready : (e : NorError) (old new : NorState) → IsFirst e old new → IsReady old ⊎ (new ≡ old)
-first-or-ready errors.Cut old new f = elim (cases-of old.is_slow old.powered) [
-  | inl ready ↦ inl (ready.1, ready.0)
-  | inr other ↦ elim other [ inl slow ↦ absurd (cc) | inr off ↦ inr (f.1 off.1) ]
-]
-first-or-ready errors.Slow old new f = elim (cases-of old.is_slow old.powered) [
-  | inl ready ↦ inl (ready.1, ready.0)
-  | inr other ↦ elim other [ inl slow ↦ inr (f.1 slow) | inr off ↦ absurd (cc (f.0 off.0)) ]
-]
-
-module _ (old new : NorState) (b at : ℕ) (bytes : List ℕ) (h : IsReady old → IsSettled old.memory) (least : 4 ≤ b) (number : b < block_count (length old.memory))
+module _ (old new : NorState) (b at : ℕ) (bytes : List ℕ) (h : IsNorReady old → IsSettled old.memory) (least : 4 ≤ b) (number : b < block_count (length old.memory))
     (small : at + length bytes ≤ 4096) where
   -- a program of block b that was cut
   pub cut-leaves : IsFirst errors.Cut old new → Leaves old.memory (TornAnd old.memory (4096 * b + at) bytes) (and_at old.memory (4096 * b + at) bytes) new.memory
@@ -144,41 +127,32 @@ module _ (old new : NorState) (b at : ℕ) (bytes : List ℕ) (h : IsReady old �
     | inr same ↦ rw (ap (λ s. s.memory) same) healthy
   ]
 
--- What stands is answered first.
-pub first-cut : (old new : NorState) → AnswersWhatStands old (Err errors.Cut) new → IsFirst errors.Cut old new
-first-cut old new s =
-    let quick : old.is_slow ≡ false = elim (cases-of old.is_slow old.powered) [
-      | inl ready ↦ ready.0
-      | inr other ↦ elim other [ inl slow ↦ (let e = (s.slow slow).0 in absurd (cc)) | inr off ↦ off.0 ]
-    ] in
-    (quick, λ off. (s.off quick off).1)
-
 -- a program of block b, whatever it answered
-module _ (old new : NorState) (b at : ℕ) (bytes : List ℕ) (h : IsReady old → IsSettled old.memory) (least : 4 ≤ b) (number : b < block_count (length old.memory))
+module _ (old new : NorState) (b at : ℕ) (bytes : List ℕ) (h : IsNorReady old → IsSettled old.memory) (least : 4 ≤ b) (number : b < block_count (length old.memory))
     (small : at + length bytes ≤ 4096) where
-  pub program-bytes : (r : Result (Unit {0}) NorError) → OnOk r (new.memory ≡ and_at old.memory (4096 * b + at) bytes) → OnOk r (IsReady old)
+  pub program-bytes : (r : Result (Unit {0}) NorError) → OnOk r (new.memory ≡ and_at old.memory (4096 * b + at) bytes) → OnOk r (IsNorReady old)
       → OnOk r (block new.memory b ≡ and_at (block old.memory b) at bytes)
   program-bytes (Ok x) e ready = (program-ok b at bytes old.memory new.memory (h ready) least number small e).bytes_of
   program-bytes (Err e) p q = p
 
-  pub program-settled : (r : Result (Unit {0}) NorError) → OnOk r (new.memory ≡ and_at old.memory (4096 * b + at) bytes) → OnOk r (IsReady old)
+  pub program-settled : (r : Result (Unit {0}) NorError) → OnOk r (new.memory ≡ and_at old.memory (4096 * b + at) bytes) → OnOk r (IsNorReady old)
       → OnOk r (IsSettled new.memory)
   program-settled (Ok x) e ready = (program-ok b at bytes old.memory new.memory (h ready) least number small e).settled
   program-settled (Err e) p q = p
 
-  pub program-only : (r : Result (Unit {0}) NorError) → OnOk r (new.memory ≡ and_at old.memory (4096 * b + at) bytes) → OnOk r (IsReady old)
+  pub program-only : (r : Result (Unit {0}) NorError) → OnOk r (new.memory ≡ and_at old.memory (4096 * b + at) bytes) → OnOk r (IsNorReady old)
       → (IsErrOf r errors.Cut → Leaves old.memory (TornAnd old.memory (4096 * b + at) bytes) (and_at old.memory (4096 * b + at) bytes) new.memory)
-      → (IsErrOf r errors.Slow → new.memory ≡ old.memory) → AnswersWhatStands old r new → OnlyBlock b old.memory new.memory
+      → (IsErrOf r errors.Slow → new.memory ≡ old.memory) → AnswersWhatIsLatched old r new → OnlyBlock b old.memory new.memory
   program-only (Ok x) e ready cut slow stands = (program-ok b at bytes old.memory new.memory (h ready) least number small e).only
   program-only (Err errors.Cut) e ready cut slow stands = cut-only old new b at bytes h least number small (first-cut old new stands) (cut refl)
   program-only (Err errors.Slow) e ready cut slow stands = only-refl b old.memory new.memory (slow refl)
 
   pub program-leaves : (r : Result (Unit {0}) NorError)
       → (IsErrOf r errors.Cut → Leaves old.memory (TornAnd old.memory (4096 * b + at) bytes) (and_at old.memory (4096 * b + at) bytes) new.memory)
-      → AnswersWhatStands old r new → IsErrOf r errors.Cut → Leaves (block old.memory b) (TornAnd (block old.memory b) at bytes) (and_at (block old.memory b) at bytes) (block new.memory b)
+      → AnswersWhatIsLatched old r new → IsErrOf r errors.Cut → Leaves (block old.memory b) (TornAnd (block old.memory b) at bytes) (and_at (block old.memory b) at bytes) (block new.memory b)
   program-leaves r cut stands is = cut-leaves old new b at bytes h least number small (first-cut old new (rw is at stands)) (cut is)
 
   pub program-healthy : (r : Result (Unit {0}) NorError)
       → (IsErrOf r errors.Cut → Leaves old.memory (TornAnd old.memory (4096 * b + at) bytes) (and_at old.memory (4096 * b + at) bytes) new.memory)
-      → AnswersWhatStands old r new → IsErrOf r errors.Cut → IsHealthy old.memory → IsHealthy new.memory
+      → AnswersWhatIsLatched old r new → IsErrOf r errors.Cut → IsHealthy old.memory → IsHealthy new.memory
   program-healthy r cut stands is = cut-healthy old new b at bytes h least number small (first-cut old new (rw is at stands)) (cut is)

@@ -1,6 +1,6 @@
 -- What the calls of a NOR memory do to its places.
 use Rattle.std.proofs.Common.{◌≡◌, ◌≢◌, ℕ, zero, suc, ◌+◌, ◌<◌, ◌≤◌, ◌⊎◌, false, List, [], ◌∷◌, length, refl, sym, ap, ◌∙◌, arith, inl, inr}
-use Rattle.std.specs.Prelude.{bit_and, Result, Ok, Err, OnOk, IfErr}
+use Rattle.std.specs.Prelude.{bit_and}
 use Rattle.std.specs.Int.{bit_at}
 use Rattle.std.proofs.lemmas.List.{get_or_past}
 use Rattle.std.proofs.lemmas.Nat.Bits.{bit_at-suc}
@@ -9,9 +9,7 @@ use Rattle.std.proofs.lemmas.Grind.{same_number_lists}
 use Rattle.chip_model.specs.Memory.{byte, and_at, erased, is_within, IsMixed, TornAnd, TornErase}
 use Rattle.chip_model.proofs.MemoryLaws.{length-placed, get-placed, placed-inside, length-erased, erased-outside, erased-inside, within, not-within-below, not-within-above}
 use Rattle.chip_model.proofs.BitLaws.{mixed_same, mixed_one}
-use Rattle.nor_driver.specs.State.{NorState, Kept, Fails, Leaves, as_before, torn_in_it, changed_whole}
-use Rattle.nor_driver.specs.declared.error.NorError.{NorError}
-use Rattle.nor_driver.specs.declared.error.NorError.TheVariants as errors
+use Rattle.nor_driver.specs.State.{Leaves, as_before, torn_in_it, changed_whole}
 use Rattle.erase_journal.specs.Places.{Spoiled, Changed}
 
 -- past the end both read 0
@@ -134,17 +132,3 @@ pub program-leaves : (j : ℕ) (m : List ℕ) (a old value : ℕ) (new : List �
 program-leaves j m a old value new low was one (as_before e) = inl e
 program-leaves j m a old value new low was one (torn_in_it h) = program-torn j m a old value new low was one h
 program-leaves j m a old value new low was one (changed_whole e) = inr (rw e (program-changes m a old value low was))
-
--- A call after one that answered Ok.
-pub fails-after : (e : NorError) (a b c : NorState) → Kept a b → Fails e b c → Fails e a c
-fails-after errors.Cut a b c s f = grind arith
-fails-after errors.Slow a b c s f = grind arith
-
--- Clauses on a result.
-pub on-ok : {T E : Type 0} {P Q : Type 0} (r : Result T E) → (P → Q) → OnOk r P → OnOk r Q
-on-ok (Ok x) f p = f p
-on-ok (Err e) f p = p
-
-pub if-err : {T E : Type 0} (P Q : E → Type 0) (r : Result T E) → ((e : E) → P e → Q e) → IfErr r P → IfErr r Q
-if-err P Q (Ok x) f p = p
-if-err P Q (Err e) f p = f e p

@@ -7,7 +7,7 @@ use Rattle.erase_journal.specs.Places.{Spoiled, Changed}
 use Rattle.nor_layout.specs.declared.journal.JournalId.TheVariants.{J0, J1, J2}
 use Rattle.erase_journal.specs.declared.phase.Phase.TheVariants.{Idle}
 use Rattle.erase_journal.specs.Votes.{IsRested, Last}
-use Rattle.erase_journal.specs.Journals.{votes_at, unused, free_entries, open_entries, entries_for, entry, entry_block, is_free_entry, is_open_entry, IsSound}
+use Rattle.erase_journal.specs.Journals.{votes_at, unused, free_entries, open_entries, entries_for, entry_byte, entry_block, is_free_entry, is_open_entry, AreJournalsSound}
 use Rattle.erase_journal.proofs.Counts.{how_many-change}
 use Rattle.erase_journal.proofs.Regions.{SameEntries, votes-below, votes-above, entries-below}
 use Rattle.erase_journal.proofs.Lasting.{Last-moved, Last-rested}
@@ -42,7 +42,7 @@ same-votes-data at n m m' s low = record {
 }
 
 -- with no vote changed and at most one entry open
-idle-moved : (m m' : List ℕ) → IsSound Idle m → SameVotes m m' → open_entries m' ≤ 1 → Last (unused m') → IsSound Idle m'
+idle-moved : (m m' : List ℕ) → AreJournalsSound Idle m → SameVotes m m' → open_entries m' ≤ 1 → Last (unused m') → AreJournalsSound Idle m'
 idle-moved m m' h s one last =
     let p = h.phase in
     let f0 = s.f0 in let s0 = s.s0 in let f1 = s.f1 in let s1 = s.s1 in let f2 = s.f2 in let s2 = s.s2 in
@@ -52,7 +52,7 @@ idle-moved m m' h s one last =
     }
 
 -- and the same free entries
-last-moved : (m m' : List ℕ) → IsSound Idle m → SameVotes m m' → free_entries m' ≡ free_entries m → Last (unused m')
+last-moved : (m m' : List ℕ) → AreJournalsSound Idle m → SameVotes m m' → free_entries m' ≡ free_entries m → Last (unused m')
 last-moved m m' h s free = Last-moved (unused m) (unused m') (record {
   n01 = ap (λ v. v.unused) s.s1;
   n02 = ap (λ v. v.unused) s.f2;
@@ -64,7 +64,7 @@ last-moved m m' h s free = Last-moved (unused m) (unused m') (record {
 }) h.lasts
 
 -- Of the entries only entry i changes.
-pub entry-elsewhere : (i : ℕ) (m m' : List ℕ) → Spoiled (6144 + 4 * i) 4 m m' → (j k : ℕ) → j ≢ i → k < 4 → entry m' j k ≡ entry m j k
+pub entry-elsewhere : (i : ℕ) (m m' : List ℕ) → Spoiled (6144 + 4 * i) 4 m m' → (j k : ℕ) → j ≢ i → k < 4 → entry_byte m' j k ≡ entry_byte m j k
 entry-elsewhere i m m' s j k other small = elim (cases_lt j i) [
   | inl low ↦ s.below (6144 + 4 * j + k) (omega arith)
   | inr high ↦ s.above (6144 + 4 * j + k) (omega arith)
@@ -92,16 +92,16 @@ free-change i m m' low s = how_many-change (is_free_entry m) (is_free_entry m') 
     rw (e 0 (lit< tt), e 1 (lit< tt), e 2 (lit< tt), e 3 (lit< tt)) refl)
 
 -- an entry is not open unless its state is FCh
-pub not-open : (m : List ℕ) (i : ℕ) → entry m i 0 ≢ 252 → is_open_entry m i ≡ false
+pub not-open : (m : List ℕ) (i : ℕ) → entry_byte m i 0 ≢ 252 → is_open_entry m i ≡ false
 not-open m i other = grind (arith, nat_tests)
 
-pub not-free : (m : List ℕ) (i : ℕ) → entry m i 0 ≢ 255 → is_free_entry m i ≡ false
+pub not-free : (m : List ℕ) (i : ℕ) → entry_byte m i 0 ≢ 255 → is_free_entry m i ≡ false
 not-free m i other = grind (arith, nat_tests)
 
 -- Taking an entry, whole or torn: where no journal is tired, the journals stay sound.
-pub entry-taken : (i : ℕ) (m m' : List ℕ) → IsSound Idle m → open_entries m ≡ 0 → i < 512 → Spoiled (6144 + 4 * i) 4 m m' → entry m' i 0 ≢ 252
+pub entry-taken : (i : ℕ) (m m' : List ℕ) → AreJournalsSound Idle m → open_entries m ≡ 0 → i < 512 → Spoiled (6144 + 4 * i) 4 m m' → entry_byte m' i 0 ≢ 252
     → IsRested J0 (unused m) → IsRested J1 (unused m) → IsRested J2 (unused m)
-    → IsSound Idle m' × (open_entries m' ≡ 0)
+    → AreJournalsSound Idle m' × (open_entries m' ≡ 0)
 entry-taken i m m' h none low s state r0 r1 r2 =
     let e = open-change i m m' low s in
     let e' = rw (not-open m' i state) at e in
@@ -120,15 +120,15 @@ state-changed i old new m m' h = record {
   above = λ k high. h.rest k (λ same. omega arith);
 }
 
-pub state-was : (i old new : ℕ) (m m' : List ℕ) → Changed (6144 + 4 * i) old new m m' → entry m i 0 ≡ old
+pub state-was : (i old new : ℕ) (m m' : List ℕ) → Changed (6144 + 4 * i) old new m m' → entry_byte m i 0 ≡ old
 state-was i old new m m' h = rw add-zero h.was
 
-pub state-is : (i old new : ℕ) (m m' : List ℕ) → Changed (6144 + 4 * i) old new m m' → entry m' i 0 ≡ new
+pub state-is : (i old new : ℕ) (m m' : List ℕ) → Changed (6144 + 4 * i) old new m m' → entry_byte m' i 0 ≡ new
 state-is i old new m m' h = rw add-zero h.is
 
 -- Opening it, and closing it.
-pub entry-opened : (i : ℕ) (m m' : List ℕ) → IsSound Idle m → open_entries m ≡ 0 → i < 512 → Changed (6144 + 4 * i) 254 252 m m'
-    → IsSound Idle m'
+pub entry-opened : (i : ℕ) (m m' : List ℕ) → AreJournalsSound Idle m → open_entries m ≡ 0 → i < 512 → Changed (6144 + 4 * i) 254 252 m m'
+    → AreJournalsSound Idle m'
 entry-opened i m m' h none low change =
     let s = state-changed i 254 252 m m' change in
     let was = state-was i 254 252 m m' change in
@@ -141,8 +141,8 @@ entry-opened i m m' h none low change =
     let v = same-votes-entry (6144 + 4 * i) 4 m m' s (omega arith) (omega arith) in
     idle-moved m m' h v one (last-moved m m' h v same)
 
-pub entry-closed : (i : ℕ) (m m' : List ℕ) → IsSound Idle m → is_open_entry m i ≡ true → i < 512 → Changed (6144 + 4 * i) 252 248 m m'
-    → IsSound Idle m' × (open_entries m' ≡ 0)
+pub entry-closed : (i : ℕ) (m m' : List ℕ) → AreJournalsSound Idle m → is_open_entry m i ≡ true → i < 512 → Changed (6144 + 4 * i) 252 248 m m'
+    → AreJournalsSound Idle m' × (open_entries m' ≡ 0)
 entry-closed i m m' h opened low change =
     let s = state-changed i 252 248 m m' change in
     let was = state-was i 252 248 m m' change in
@@ -157,7 +157,7 @@ entry-closed i m m' h opened low change =
     (idle-moved m m' h v (omega arith) (last-moved m m' h v same), none)
 
 -- A data block is made anything.
-pub data-spoiled : (at n : ℕ) (m m' : List ℕ) → IsSound Idle m → 16384 ≤ at → Spoiled at n m m' → IsSound Idle m' × SameEntries m m'
+pub data-spoiled : (at n : ℕ) (m m' : List ℕ) → AreJournalsSound Idle m → 16384 ≤ at → Spoiled at n m m' → AreJournalsSound Idle m' × SameEntries m m'
 data-spoiled at n m m' h low s =
     let e = entries-below at n m m' s (omega arith) in
     let p = h.phase in

@@ -13,9 +13,9 @@ use Rattle.chip_model.proofs.PartLaws.{part-erased}
 use Rattle.nor_driver.specs.State.{Leaves, as_before, torn_in_it, changed_whole}
 use Rattle.erase_journal.specs.declared.phase.Phase.TheVariants.{Idle}
 use Rattle.erase_journal.specs.Places.{how_many, Spoiled, Changed}
-use Rattle.erase_journal.specs.Journals.{entry, entry_block, is_free_entry, is_open_entry, IsSettled, entries_for}
+use Rattle.erase_journal.specs.Journals.{entry_byte, entry_block, is_free_entry, is_open_entry, IsSettled, entries_for}
 use Rattle.erase_journal.specs.Blocks.{blank, SameBlocks, WithErased}
-use Rattle.erase_journal.specs.Steps.{Stands, Interrupted, as_it_was, block_erased, IsRestful, IsOpened, IsTaken}
+use Rattle.erase_journal.specs.Steps.{KeepsBlocks, EraseInterrupted, as_it_was, block_erased, IsRestful, IsOpened, IsTaken}
 use Rattle.erase_journal.proofs.Effects.{spoiled-refl, and-spoiled, and-outside, torn-spoiled, program-leaves, program-changes, bit-open, bit-close, bit-done, erase-leaves, erased-spoiled}
 use Rattle.erase_journal.proofs.Entries.{entry-taken, entry-opened, entry-closed, data-spoiled, state-is}
 use Rattle.erase_journal.proofs.Blocks.{plain-none, plain-kept, opened-erases, spoiled-same, closed-same}
@@ -25,7 +25,7 @@ use Rattle.erase_journal.proofs.Renewal.{same-chip-on, same-blocks-refl, stands-
 and-255 : (x : ℕ) → x < 256 → bit_and 255 x ≡ x
 and-255 x low = and_comm 255 x ∙ and_mask x 8 ∙ (omega arith)
 
-free-bytes : (m : List ℕ) (i : ℕ) → is_free_entry m i ≡ true → (entry m i 0 ≡ 255) × (entry m i 1 ≡ 255) × (entry m i 2 ≡ 255) × (entry m i 3 ≡ 255)
+free-bytes : (m : List ℕ) (i : ℕ) → is_free_entry m i ≡ true → (entry_byte m i 0 ≡ 255) × (entry_byte m i 1 ≡ 255) × (entry_byte m i 2 ≡ 255) × (entry_byte m i 3 ≡ 255)
 free-bytes m i free = (grind (arith, nat_tests), grind (arith, nat_tests), grind (arith, nat_tests), grind (arith, nat_tests))
 
 -- three bytes of an entry are bytes of the entry
@@ -36,7 +36,7 @@ module _ (m : List ℕ) (i low high : ℕ) (long : 16384 ≤ length m) (small : 
   taken-spoiled : Spoiled (6144 + 4 * i) 4 m (and_at m (6144 + 4 * i) (254 ∷ low ∷ high ∷ []))
   taken-spoiled = wider (6144 + 4 * i) m (and_at m (6144 + 4 * i) (254 ∷ low ∷ high ∷ [])) (and-spoiled m (6144 + 4 * i) (254 ∷ low ∷ high ∷ []))
 
-  taken-byte : (j : ℕ) → j < 3 → entry (and_at m (6144 + 4 * i) (254 ∷ low ∷ high ∷ [])) i j ≡ bit_and 255 (get_or (254 ∷ low ∷ high ∷ []) j 0)
+  taken-byte : (j : ℕ) → j < 3 → entry_byte (and_at m (6144 + 4 * i) (254 ∷ low ∷ high ∷ [])) i j ≡ bit_and 255 (get_or (254 ∷ low ∷ high ∷ []) j 0)
   taken-byte j s =
       let f = free-bytes m i free in
       let x : byte m (6144 + 4 * i + j) ≡ 255 = elim (cases_eq j 0) [ inl z ↦ rw z f.0 | inr nz ↦ elim (cases_eq j 1) [ inl o ↦ rw o f.1 | inr rest ↦ let t : j ≡ 2 = omega arith in rw t f.2 ] ] in
@@ -56,29 +56,29 @@ module _ (m : List ℕ) (i low high : ℕ) (long : 16384 ≤ length m) (small : 
   torn-wider : (torn : List ℕ) → TornAnd m (6144 + 4 * i) (254 ∷ low ∷ high ∷ []) torn → Spoiled (6144 + 4 * i) 4 m torn
   torn-wider torn t = wider (6144 + 4 * i) m torn (torn-spoiled m (6144 + 4 * i) (254 ∷ low ∷ high ∷ []) torn t)
 
-  torn-state : (torn : List ℕ) → TornAnd m (6144 + 4 * i) (254 ∷ low ∷ high ∷ []) torn → entry torn i 0 ≢ 252
+  torn-state : (torn : List ℕ) → TornAnd m (6144 + 4 * i) (254 ∷ low ∷ high ∷ []) torn → entry_byte torn i 0 ≢ 252
   torn-state torn t is =
       let f = free-bytes m i free in
       let mixed = rw (taken-byte 0 (lit< tt), f.0) at (t.each (6144 + 4 * i + 0) (omega arith)) in
-      elim (mixed_one 0 255 254 (entry torn i 0) bit-open.others mixed) [ inl e ↦ omega arith | inr e ↦ omega arith ]
+      elim (mixed_one 0 255 254 (entry_byte torn i 0) bit-open.others mixed) [ inl e ↦ omega arith | inr e ↦ omega arith ]
 
   -- also torn: the entry isn't open
   pub take-leaves : (new : List ℕ) → Leaves m (TornAnd m (6144 + 4 * i) (254 ∷ low ∷ high ∷ [])) (and_at m (6144 + 4 * i) (254 ∷ low ∷ high ∷ [])) new
-      → Spoiled (6144 + 4 * i) 4 m new × (entry new i 0 ≢ 252)
+      → Spoiled (6144 + 4 * i) 4 m new × (entry_byte new i 0 ≢ 252)
   take-leaves new (as_before e) = let f = free-bytes m i free in (rw e (spoiled-refl (6144 + 4 * i) 4 m), rw e (λ is. omega arith))
   take-leaves new (torn_in_it t) = (torn-wider new t, torn-state new t)
   take-leaves new (changed_whole e) = (rw e taken.spoiled, rw e (λ is. let s = taken.state in omega arith))
 
 -- An entry that is taken leaves all as it was.
-pub taken-settled : (i : ℕ) (m m' : List ℕ) → IsRestful m → i < 512 → Spoiled (6144 + 4 * i) 4 m m' → entry m' i 0 ≢ 252 → IsSettled m' × SameBlocks m m'
+pub taken-settled : (i : ℕ) (m m' : List ℕ) → IsRestful m → i < 512 → Spoiled (6144 + 4 * i) 4 m m' → entry_byte m' i 0 ≢ 252 → IsSettled m' × SameBlocks m m'
 taken-settled i m m' r low s state =
     let t = entry-taken i m m' r.settled.sound r.settled.none low s state r.j0 r.j1 r.j2 in
     (record { sound = t.0; none = t.1 }, plain-kept (6144 + 4 * i) 4 m m' (plain-none m r.settled.none) (plain-none m' t.1) s (omega arith) (omega arith))
 
-pub take-cut : (i : ℕ) (m m' : List ℕ) → IsRestful m → i < 512 → Spoiled (6144 + 4 * i) 4 m m' → entry m' i 0 ≢ 252 → Stands m m'
+pub take-cut : (i : ℕ) (m m' : List ℕ) → IsRestful m → i < 512 → Spoiled (6144 + 4 * i) 4 m m' → entry_byte m' i 0 ≢ 252 → KeepsBlocks m m'
 take-cut i m m' r low s state = let t = taken-settled i m m' r low s state in record { healthy = (Idle, t.0.sound); blocks = t.1 }
 
-now-open : (m : List ℕ) (c i : ℕ) → entry m i 0 ≡ 252 → entry m i 3 ≡ 255 → entry_block m i ≡ c → 4 ≤ c → c < length m / 4096 → is_open_entry m i ≡ true
+now-open : (m : List ℕ) (c i : ℕ) → entry_byte m i 0 ≡ 252 → entry_byte m i 3 ≡ 255 → entry_block m i ≡ c → 4 ≤ c → c < length m / 4096 → is_open_entry m i ≡ true
 now-open m c i state last names least most = grind (arith, nat_tests)
 
 pub erased-after : (c : ℕ) (m m' m2 : List ℕ) → SameBlocks m m' → WithErased c m' m2 → WithErased c m m2
@@ -101,11 +101,11 @@ named-some i c m low opened names = elim (cases_lt 0 (how_many (λ j. is_open_en
 pub opens : (i c : ℕ) (m m' m2 : List ℕ) → IsRestful m → i < 512 → IsTaken i c m m' → Changed (6144 + 4 * i) 254 252 m' m2 → 4 ≤ c → c < length m / 4096
     → IsOpened i c m2 × WithErased c m m2
 opens i c m m' m2 r low t change least most =
-    let is : entry m2 i 0 ≡ 252 = state-is i 254 252 m' m2 change in
+    let is : entry_byte m2 i 0 ≡ 252 = state-is i 254 252 m' m2 change in
     let settled = taken-settled i m m' r low t.spoiled (λ e. let st = t.state in omega arith) in
-    let keeps : (j : ℕ) → 1 ≤ j → entry m2 i j ≡ entry m' i j = λ j from. change.rest (6144 + 4 * i + j) (λ same. omega arith) in
+    let keeps : (j : ℕ) → 1 ≤ j → entry_byte m2 i j ≡ entry_byte m' i j = λ j from. change.rest (6144 + 4 * i + j) (λ same. omega arith) in
     let names : entry_block m2 i ≡ c = rw (keeps 1 (lit≤ tt), keeps 2 (lit≤ tt)) t.names in
-    let last : entry m2 i 3 ≡ 255 = keeps 3 (lit≤ tt) ∙ t.last in
+    let last : entry_byte m2 i 3 ≡ 255 = keeps 3 (lit≤ tt) ∙ t.last in
     let opened : is_open_entry m2 i ≡ true = now-open m2 c i is last names least (rw (change.same_length, t.spoiled.same_length) most) in
     let sound = entry-opened i m' m2 settled.0.sound settled.0.none low change in
     let erases = opened-erases i c m' m2 settled.0.sound settled.0.none low change opened names sound in
@@ -118,7 +118,7 @@ opened-named i c m o = named-some i c m o.within o.opened o.names
 pub block-spoiled : (i c : ℕ) (m m' : List ℕ) → IsOpened i c m → 4 ≤ c → Spoiled (4096 * c) 4096 m m' → IsOpened i c m' × SameBlocks m m'
 block-spoiled i c m m' o least s =
     let d = data-spoiled (4096 * c) 4096 m m' o.sound (omega arith) s in
-    let e : (j : ℕ) → j < 4 → entry m' i j ≡ entry m i j = λ j small. let w = o.within in s.below (6144 + 4 * i + j) (omega arith) in (
+    let e : (j : ℕ) → j < 4 → entry_byte m' i j ≡ entry_byte m i j = λ j small. let w = o.within in s.below (6144 + 4 * i + j) (omega arith) in (
       record {
         sound = d.0;
         within = o.within;
@@ -133,12 +133,12 @@ entry-done i c m m' o is_erased change =
     let t = entry-closed i m m' o.sound o.opened o.within change in
     (record { sound = t.0; none = t.1 }, closed-same i c m m' o.sound o.within change o.opened o.names is_erased t.1)
 
-pub state-open : (m : List ℕ) (i : ℕ) → is_open_entry m i ≡ true → entry m i 0 ≡ 252
+pub state-open : (m : List ℕ) (i : ℕ) → is_open_entry m i ≡ true → entry_byte m i 0 ≡ 252
 state-open m i opened = grind (arith, nat_tests)
 
 -- The calls of an erase.
 pub open-cut : (i c : ℕ) (m m' m2 : List ℕ) → 16384 ≤ length m → IsRestful m → i < 512 → IsTaken i c m m' → 4 ≤ c → c < length m / 4096
-    → Leaves m' (TornAnd m' (6144 + 4 * i) (252 ∷ [])) (and_at m' (6144 + 4 * i) (252 ∷ [])) m2 → Interrupted c m m2
+    → Leaves m' (TornAnd m' (6144 + 4 * i) (252 ∷ [])) (and_at m' (6144 + 4 * i) (252 ∷ [])) m2 → EraseInterrupted c m m2
 open-cut i c m m' m2 long r low t least most l =
     let settled = taken-settled i m m' r low t.spoiled (λ e. let st = t.state in omega arith) in
     let state : byte m' (6144 + 4 * i) ≡ 254 = rw add-zero at t.state in
@@ -160,7 +160,7 @@ part-blank : (m : List ℕ) (c : ℕ) → 4096 * c + 4096 ≤ length m → part 
 unfolding blank
 part-blank m c fits = part-erased 4096 m c fits
 
-pub block-cut : (i c : ℕ) (m m' : List ℕ) → IsOpened i c m → 4 ≤ c → Leaves m (TornErase m (4096 * c) 4096) (erased m (4096 * c) 4096) m' → Stands m m'
+pub block-cut : (i c : ℕ) (m m' : List ℕ) → IsOpened i c m → 4 ≤ c → Leaves m (TornErase m (4096 * c) 4096) (erased m (4096 * c) 4096) m' → KeepsBlocks m m'
 block-cut i c m m' o least l = let s = block-spoiled i c m m' o least (erase-leaves m (4096 * c) 4096 m' l) in record { healthy = (Idle, s.0.sound); blocks = s.1 }
 
 pub record BlockErased (i c : ℕ) (m m' : List ℕ) : Type 0 where
@@ -184,7 +184,7 @@ pub done-ok : (i c : ℕ) (m m' : List ℕ) → 16384 ≤ length m → IsOpened 
 done-ok i c m m' long o bytes e = let w = o.within in entry-done i c m m' o bytes (rw e (program-changes m (6144 + 4 * i) 252 248 (omega arith) (open-state i c m o)))
 
 pub done-cut : (i c : ℕ) (m m' : List ℕ) → 16384 ≤ length m → IsOpened i c m → part 4096 m c ≡ blank
-    → Leaves m (TornAnd m (6144 + 4 * i) (248 ∷ [])) (and_at m (6144 + 4 * i) (248 ∷ [])) m' → Stands m m'
+    → Leaves m (TornAnd m (6144 + 4 * i) (248 ∷ [])) (and_at m (6144 + 4 * i) (248 ∷ [])) m' → KeepsBlocks m m'
 done-cut i c m m' long o bytes l =
     let w = o.within in
     elim (program-leaves 2 m (6144 + 4 * i) 252 248 m' (omega arith) (open-state i c m o) bit-done l) [
@@ -220,7 +220,7 @@ take-ok m new i block bytes long small free n e =
     rw (e ∙ ap (λ b. and_at m (6144 + 4 * i) b) (spelled block bytes n)) (record { spoiled = t.spoiled; state = t.state; last = t.last; names = t.names ∙ n.number })
 
 pub take-stands : (m new : List ℕ) (i block : ℕ) (bytes : List ℕ) → 16384 ≤ length m → i < 512 → is_free_entry m i ≡ true → Names block bytes → IsRestful m
-    → Leaves m (TornAnd m (6144 + 4 * i) bytes) (and_at m (6144 + 4 * i) bytes) new → Stands m new
+    → Leaves m (TornAnd m (6144 + 4 * i) bytes) (and_at m (6144 + 4 * i) bytes) new → KeepsBlocks m new
 take-stands m new i block bytes long small free n r l =
     let t = take-leaves m i (byte bytes 1) (byte bytes 2) long small free n.low n.high new
     (subst (λ b. Leaves m (TornAnd m (6144 + 4 * i) b) (and_at m (6144 + 4 * i) b) new) (spelled block bytes n) l) in
@@ -235,9 +235,9 @@ erased-then c m m1 m2 e s least most = record {
   erased = s.each c least (rw e.only.chip.same_length most) ∙ e.erased;
 }
 
-pub interrupted-after : (c : ℕ) (m m1 m2 : List ℕ) → WithErased c m m1 → Stands m1 m2 → 4 ≤ c → c < length m / 4096 → Interrupted c m m2
+pub interrupted-after : (c : ℕ) (m m1 m2 : List ℕ) → WithErased c m m1 → KeepsBlocks m1 m2 → 4 ≤ c → c < length m / 4096 → EraseInterrupted c m m2
 interrupted-after c m m1 m2 e s least most = block_erased s.healthy (erased-then c m m1 m2 e s.blocks least most)
 
-pub interrupted-behind : (c : ℕ) (m m1 m2 : List ℕ) → SameBlocks m m1 → Interrupted c m1 m2 → Interrupted c m m2
+pub interrupted-behind : (c : ℕ) (m m1 m2 : List ℕ) → SameBlocks m m1 → EraseInterrupted c m1 m2 → EraseInterrupted c m m2
 interrupted-behind c m m1 m2 s (as_it_was h) = as_it_was (stands-on m m1 m2 s h)
 interrupted-behind c m m1 m2 s (block_erased h e) = block_erased h (erased-after c m m1 m2 s e)

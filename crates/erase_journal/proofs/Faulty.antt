@@ -10,7 +10,7 @@ use Rattle.erase_journal.specs.declared.phase.Phase.{Phase}
 use Rattle.erase_journal.specs.declared.phase.Phase.TheVariants.{Idle, Asked, Doomed, Closing}
 use Rattle.erase_journal.specs.declared.survey.Survey.{Survey}
 use Rattle.erase_journal.specs.Journals.{first, second, IsInPhase, IsSoundSurvey}
-use Rattle.erase_journal.specs.Faults.{IsDoomed, IsBelieved, after_next, HasVote, HasNoFault, SoundHasNoFault}
+use Rattle.erase_journal.specs.Faults.{IsDoomed, IsBelieved, after_next, HasVote, SurveyHasNoFault, SoundSurveyHasNoFault}
 
 -- no byte is wrong, and of the open votes and entries there is one at most
 record IsCalm (s : Survey) : Type 0 where
@@ -224,7 +224,7 @@ named-is (Closing J0) s h = grind (arith, nat_tests)
 named-is (Closing J1) s h = grind (arith, nat_tests)
 named-is (Closing J2) s h = grind (arith, nat_tests)
 
-sound-faultless : (s : Survey) → (p : Phase) → IsSoundSurvey p s → HasNoFault s
+sound-faultless : (s : Survey) → (p : Phase) → IsSoundSurvey p s → SurveyHasNoFault s
 sound-faultless s p h =
     let o = phase-ordered p s h.phase in
     record {
@@ -387,11 +387,11 @@ ordered-phase s h = elim (doomed-or-not s J0) [
   ]
 ]
 
-faultless-sound : (s : Survey) → HasNoFault s → (p : Phase) × IsSoundSurvey p s
+faultless-sound : (s : Survey) → SurveyHasNoFault s → (p : Phase) × IsSoundSurvey p s
 faultless-sound s h =
     let o : IsOrdered s = record { one_doomed = h.one_doomed; first_votes = h.first_votes; second_votes = h.second_votes; one_named = h.one_named; one_entry = h.one_entry; entry_alone = h.entry_alone } in
     let (p, k) = ordered-phase s o in
     (p, record { phase = k; lasts = h.lasts p k })
 
-pub sound_has_no_fault : SoundHasNoFault
+pub sound_has_no_fault : SoundSurveyHasNoFault
 sound_has_no_fault s = (λ h. sound-faultless s h.0 h.1, faultless-sound s)

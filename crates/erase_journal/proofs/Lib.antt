@@ -15,4 +15,5 @@ pub mod Data
 pub mod Faulty
 pub mod Erased
 pub mod Ready
+pub mod SettledLaws
 pub mod Knowing

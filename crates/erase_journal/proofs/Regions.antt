@@ -4,7 +4,7 @@ use Rattle.std.specs.Prelude.{◌==◌}
 use Rattle.chip_model.specs.Memory.{byte}
 use Rattle.erase_journal.specs.Places.{how_many, Spoiled, Changed}
 use Rattle.erase_journal.specs.declared.scan.VoteCounts.{VoteCounts}
-use Rattle.erase_journal.specs.Journals.{votes_at, entry, entry_block, is_free_entry, is_open_entry, free_entries, open_entries, entries_for}
+use Rattle.erase_journal.specs.Journals.{votes_at, entry_byte, entry_block, is_free_entry, is_open_entry, free_entries, open_entries, entries_for}
 use Rattle.erase_journal.proofs.Counts.{how_many-same, how_many-change}
 
 -- the bytes from a place on are as they were
@@ -67,7 +67,7 @@ pub record SameEntries (m m' : List ℕ) : Type 0 where
   pub opened : open_entries m' ≡ open_entries m
   pub named : (b : ℕ) → entries_for m' b ≡ entries_for m b
 
-pub entry-kept : (m m' : List ℕ) → BytesKept 6144 2048 m m' → (i j : ℕ) → i < 512 → j < 4 → entry m' i j ≡ entry m i j
+pub entry-kept : (m m' : List ℕ) → BytesKept 6144 2048 m m' → (i j : ℕ) → i < 512 → j < 4 → entry_byte m' i j ≡ entry_byte m i j
 entry-kept m m' h i j low small = rw (add_assoc 6144 (4 * i) j) (h.bytes (4 * i + j) (omega arith))
 
 pub entries-kept : (m m' : List ℕ) → BytesKept 6144 2048 m m' → length m' ≡ length m → SameEntries m m'

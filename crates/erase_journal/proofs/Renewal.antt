@@ -10,9 +10,9 @@ use Rattle.erase_journal.specs.declared.phase.Phase.{Phase}
 use Rattle.erase_journal.specs.declared.phase.Phase.TheVariants.{Idle, Asked, Doomed, Closing}
 use Rattle.erase_journal.specs.Places.{Spoiled, Changed}
 use Rattle.erase_journal.specs.Votes.{once_erased}
-use Rattle.erase_journal.specs.Journals.{votes_at, unused, free_entries, open_entries, is_free_entry, is_open_entry, entry, IsSound, IsHealthy}
+use Rattle.erase_journal.specs.Journals.{votes_at, unused, free_entries, open_entries, is_free_entry, is_open_entry, entry_byte, AreJournalsSound, IsHealthy}
 use Rattle.erase_journal.specs.Blocks.{SameChip, SameBlocks}
-use Rattle.erase_journal.specs.Steps.{OneChanged, PerhapsChanged, not_begun, done, Stands, IsStep, IsNext, MayErase}
+use Rattle.erase_journal.specs.Steps.{OneChanged, PerhapsChanged, not_begun, done, KeepsBlocks, IsStep, IsNext, MayErase}
 use Rattle.erase_journal.proofs.Counts.{how_many-all, how_many-each_fails}
 use Rattle.erase_journal.proofs.Regions.{changed-spoiled, entries-below, entries-above}
 use Rattle.erase_journal.proofs.Steps.{IsBlank, asks, dooms, spoils, closes_first, closes_second}
@@ -31,13 +31,13 @@ same-blocks-on m m1 m2 a b = record {
   each = λ n from to. b.each n from (rw a.chip.same_length to) ∙ a.each n from to;
 }
 
-pub stands-as : (p : Phase) (m m' : List ℕ) → IsSound p m' → SameBlocks m m' → Stands m m'
+pub stands-as : (p : Phase) (m m' : List ℕ) → AreJournalsSound p m' → SameBlocks m m' → KeepsBlocks m m'
 stands-as p m m' h s = record { healthy = (p, h); blocks = s }
 
-pub stands-refl : (m : List ℕ) → IsHealthy m → Stands m m
+pub stands-refl : (m : List ℕ) → IsHealthy m → KeepsBlocks m m
 stands-refl m h = record { healthy = h; blocks = same-blocks-refl m }
 
-pub stands-on : (m m1 m2 : List ℕ) → SameBlocks m m1 → Stands m1 m2 → Stands m m2
+pub stands-on : (m m1 m2 : List ℕ) → SameBlocks m m1 → KeepsBlocks m1 m2 → KeepsBlocks m m2
 stands-on m m1 m2 a s = record { healthy = s.healthy; blocks = same-blocks-on m m1 m2 a s.blocks }
 
 -- a journal's erase reaches no data block
@@ -81,29 +81,29 @@ first-opened x m m' h c =
     let s = asks x c.at m m' h c.within c.change in
     (s, vote-blocks (first_at x + c.at) 255 254 m m' c.change (first-high x c.at) (first-low x c.at c.within) (plain-none m h.settled.none) (asked-plain x m' s.sound))
 
-pub first-cut : (x : JournalId) (m m' : List ℕ) → MayErase x m → PerhapsChanged (first_at x) 255 254 m m' → Stands m m'
+pub first-cut : (x : JournalId) (m m' : List ℕ) → MayErase x m → PerhapsChanged (first_at x) 255 254 m m' → KeepsBlocks m m'
 first-cut x m m' h (not_begun e) = rw e (record { healthy = (Idle, h.settled.sound); blocks = same-blocks-refl m })
 first-cut x m m' h (done c) = let s = first-opened x m m' h c in record { healthy = (Asked x, s.0.sound); blocks = s.1 }
 
 -- The second.
-pub second-opened : (x : JournalId) (m m' : List ℕ) → IsSound (Asked x) m → OneChanged (second_at x) 255 254 m m'
+pub second-opened : (x : JournalId) (m m' : List ℕ) → AreJournalsSound (Asked x) m → OneChanged (second_at x) 255 254 m m'
     → IsNext (Asked x) m (Doomed x) m' × SameBlocks m m'
 second-opened x m m' h c =
     let s = dooms x c.at m m' h c.within c.change in
     (s, vote-blocks (second_at x + c.at) 255 254 m m' c.change (second-high x c.at) (second-low x c.at c.within) (asked-plain x m h) (doomed-plain x m' s.sound))
 
-pub second-cut : (x : JournalId) (m m' : List ℕ) → IsSound (Asked x) m → PerhapsChanged (second_at x) 255 254 m m' → Stands m m'
+pub second-cut : (x : JournalId) (m m' : List ℕ) → AreJournalsSound (Asked x) m → PerhapsChanged (second_at x) 255 254 m m' → KeepsBlocks m m'
 second-cut x m m' h (not_begun e) = rw e (record { healthy = (Asked x, h); blocks = same-blocks-refl m })
 second-cut x m m' h (done c) = let s = second-opened x m m' h c in record { healthy = (Doomed x, s.0.sound); blocks = s.1 }
 
 -- The erase, whole or torn.
-pub journal-spoiled : (x : JournalId) (m m' : List ℕ) → IsSound (Doomed x) m → Spoiled (journal_at x) 4096 m m'
+pub journal-spoiled : (x : JournalId) (m m' : List ℕ) → AreJournalsSound (Doomed x) m → Spoiled (journal_at x) 4096 m m'
     → IsNext (Doomed x) m (Doomed x) m' × SameBlocks m m'
 journal-spoiled x m m' h s =
     let n = spoils x m m' h s in
     (n, plain-kept (journal_at x) 4096 m m' (doomed-plain x m h) (doomed-plain x m' n.sound) s (journal-high x) (journal-low x))
 
-pub erase-cut : (x : JournalId) (m m' : List ℕ) → IsSound (Doomed x) m → Leaves m (TornErase m (journal_at x) 4096) (erased m (journal_at x) 4096) m' → Stands m m'
+pub erase-cut : (x : JournalId) (m m' : List ℕ) → AreJournalsSound (Doomed x) m → Leaves m (TornErase m (journal_at x) 4096) (erased m (journal_at x) 4096) m' → KeepsBlocks m m'
 erase-cut x m m' h l =
     let s = journal-spoiled x m m' h (erase-leaves m (journal_at x) 4096 m' l) in
     record { healthy = (Doomed x, s.0.sound); blocks = s.1 }
@@ -120,7 +120,7 @@ blank-votes m at h = (
   ),
 )
 
-blank-entry : (m : List ℕ) → ((k : ℕ) → k < 4096 → byte m (4096 + k) ≡ 255) → (i j : ℕ) → i < 512 → j < 4 → entry m i j ≡ 255
+blank-entry : (m : List ℕ) → ((k : ℕ) → k < 4096 → byte m (4096 + k) ≡ 255) → (i j : ℕ) → i < 512 → j < 4 → entry_byte m i j ≡ 255
 blank-entry m h i j low small = let e : 6144 + 4 * i + j ≡ 4096 + (2048 + 4 * i + j) = omega arith in rw e (h (2048 + 4 * i + j) (omega arith))
 
 blank-free : (m : List ℕ) → ((k : ℕ) → k < 4096 → byte m (4096 + k) ≡ 255) → free_entries m ≡ 512
@@ -154,58 +154,58 @@ blank J2 m h = record {
   none = λ e. absurd (cc);
 }
 
-pub journal-erased : (x : JournalId) (m : List ℕ) → 16384 ≤ length m → IsSound (Doomed x) m
+pub journal-erased : (x : JournalId) (m : List ℕ) → 16384 ≤ length m → AreJournalsSound (Doomed x) m
     → IsNext (Doomed x) m (Doomed x) (erased m (journal_at x) 4096) × SameBlocks m (erased m (journal_at x) 4096) × IsBlank x (erased m (journal_at x) 4096)
 journal-erased x m long h =
     let s = journal-spoiled x m (erased m (journal_at x) 4096) h (erased-spoiled m (journal_at x) 4096) in
     (s.0, s.1, blank x (erased m (journal_at x) 4096) (erased-bytes m (journal_at x) 4096 (let l = journal-low x in omega arith)))
 
 -- The first vote is closed.
-pub first-closed : (x : JournalId) (m m' : List ℕ) → IsSound (Doomed x) m → IsBlank x m → OneChanged (first_at x) 254 252 m m'
+pub first-closed : (x : JournalId) (m m' : List ℕ) → AreJournalsSound (Doomed x) m → IsBlank x m → OneChanged (first_at x) 254 252 m m'
     → IsNext (Doomed x) m (Closing x) m' × SameBlocks m m'
 first-closed x m m' h b c =
     let s = closes_first x c.at m m' h b c.within c.change in
     (s, vote-blocks (first_at x + c.at) 254 252 m m' c.change (first-high x c.at) (first-low x c.at c.within) (doomed-plain x m h) (closing-plain x m' s.sound))
 
-pub first-close-cut : (x : JournalId) (m m' : List ℕ) → IsSound (Doomed x) m → IsBlank x m → PerhapsChanged (first_at x) 254 252 m m' → Stands m m'
+pub first-close-cut : (x : JournalId) (m m' : List ℕ) → AreJournalsSound (Doomed x) m → IsBlank x m → PerhapsChanged (first_at x) 254 252 m m' → KeepsBlocks m m'
 first-close-cut x m m' h b (not_begun e) = rw e (record { healthy = (Doomed x, h); blocks = same-blocks-refl m })
 first-close-cut x m m' h b (done c) = let s = first-closed x m m' h b c in record { healthy = (Closing x, s.0.sound); blocks = s.1 }
 
 -- The second.
-closed-none : (x : JournalId) (i : ℕ) (m m' : List ℕ) → IsSound (Closing x) m → i < 1024 → Changed (second_at x + i) 254 252 m m' → open_entries m' ≡ 0
+closed-none : (x : JournalId) (i : ℕ) (m m' : List ℕ) → AreJournalsSound (Closing x) m → i < 1024 → Changed (second_at x + i) 254 252 m m' → open_entries m' ≡ 0
 closed-none J0 i m m' h low change = let p = h.phase in let e = entries-below (12288 + i) 1 m m' (changed-spoiled (12288 + i) 254 252 m m' change) (omega arith) in omega arith
 closed-none J1 i m m' h low change = let p = h.phase in let e = entries-above (4096 + i) 1 m m' (changed-spoiled (4096 + i) 254 252 m m' change) (omega arith) in omega arith
 closed-none J2 i m m' h low change = let p = h.phase in let e = entries-below (8192 + i) 1 m m' (changed-spoiled (8192 + i) 254 252 m m' change) (omega arith) in omega arith
 
-pub second-closed : (x : JournalId) (m m' : List ℕ) → IsSound (Closing x) m → OneChanged (second_at x) 254 252 m m'
+pub second-closed : (x : JournalId) (m m' : List ℕ) → AreJournalsSound (Closing x) m → OneChanged (second_at x) 254 252 m m'
     → IsNext (Closing x) m Idle m' × SameBlocks m m' × (open_entries m' ≡ 0)
 second-closed x m m' h c =
     let s = closes_second x c.at m m' h c.within c.change in
     let none = closed-none x c.at m m' h c.within c.change in
     (s, vote-blocks (second_at x + c.at) 254 252 m m' c.change (second-high x c.at) (second-low x c.at c.within) (closing-plain x m h) (plain-none m' none), none)
 
-pub second-close-cut : (x : JournalId) (m m' : List ℕ) → IsSound (Closing x) m → PerhapsChanged (second_at x) 254 252 m m' → Stands m m'
+pub second-close-cut : (x : JournalId) (m m' : List ℕ) → AreJournalsSound (Closing x) m → PerhapsChanged (second_at x) 254 252 m m' → KeepsBlocks m m'
 second-close-cut x m m' h (not_begun e) = rw e (record { healthy = (Closing x, h); blocks = same-blocks-refl m })
 second-close-cut x m m' h (done c) = let s = second-closed x m m' h c in record { healthy = (Idle, s.0.sound); blocks = s.1 }
 
 -- The counts that the calls ask for.
-pub some-first : (x : JournalId) (m : List ℕ) → IsSound Idle m → 0 < (votes_at m (first_at x)).unused
+pub some-first : (x : JournalId) (m : List ℕ) → AreJournalsSound Idle m → 0 < (votes_at m (first_at x)).unused
 some-first J0 m h = let l = h.lasts.some in omega arith
 some-first J1 m h = let l = h.lasts.some in omega arith
 some-first J2 m h = let l = h.lasts.some in omega arith
 
 -- Once only x + 1 votes for x, x + 2 has two votes left: one to be opened now, and one that stays.
-pub some-second : (x : JournalId) (m : List ℕ) → IsSound (Asked x) m → 0 < (votes_at m (second_at x)).unused
+pub some-second : (x : JournalId) (m : List ℕ) → AreJournalsSound (Asked x) m → 0 < (votes_at m (second_at x)).unused
 some-second J0 m h = let l = h.lasts.some in omega arith
 some-second J1 m h = let l = h.lasts.some in omega arith
 some-second J2 m h = let l = h.lasts.some in omega arith
 
-pub open-first : (x : JournalId) (m : List ℕ) → IsSound (Doomed x) m → 0 < (votes_at m (first_at x)).opened
+pub open-first : (x : JournalId) (m : List ℕ) → AreJournalsSound (Doomed x) m → 0 < (votes_at m (first_at x)).opened
 open-first J0 m h = let p = h.phase in omega arith
 open-first J1 m h = let p = h.phase in omega arith
 open-first J2 m h = let p = h.phase in omega arith
 
-pub open-second : (x : JournalId) (m : List ℕ) → IsSound (Closing x) m → 0 < (votes_at m (second_at x)).opened
+pub open-second : (x : JournalId) (m : List ℕ) → AreJournalsSound (Closing x) m → 0 < (votes_at m (second_at x)).opened
 open-second J0 m h = let p = h.phase in omega arith
 open-second J1 m h = let p = h.phase in omega arith
 open-second J2 m h = let p = h.phase in omega arith
@@ -215,5 +215,5 @@ pub record JournalErased (x : JournalId) (m m' : List ℕ) : Type 0 where
   pub blocks : SameBlocks m m'
   pub blank : IsBlank x m'
 
-pub erased-as : (x : JournalId) (m m' : List ℕ) → 16384 ≤ length m → IsSound (Doomed x) m → m' ≡ erased m (journal_at x) 4096 → JournalErased x m m'
+pub erased-as : (x : JournalId) (m m' : List ℕ) → 16384 ≤ length m → AreJournalsSound (Doomed x) m → m' ≡ erased m (journal_at x) 4096 → JournalErased x m m'
 erased-as x m m' long h e = let s = journal-erased x m long h in rw e (record { step = s.0; blocks = s.1; blank = s.2 })

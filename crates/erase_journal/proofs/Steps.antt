@@ -9,7 +9,7 @@ use Rattle.erase_journal.specs.declared.unused.Unused.{Unused}
 use Rattle.erase_journal.specs.declared.phase.Phase.{Phase}
 use Rattle.erase_journal.specs.declared.phase.Phase.TheVariants.{Idle, Asked, Doomed, Closing}
 use Rattle.erase_journal.specs.Votes.{once_erased}
-use Rattle.erase_journal.specs.Journals.{survey_of, first, second, unused, free_entries, open_entries, Holds, settled, IsSound}
+use Rattle.erase_journal.specs.Journals.{survey_of, first, second, unused, free_entries, open_entries, HoldsVotes, settled, AreJournalsSound}
 use Rattle.erase_journal.specs.Steps.{SameNumbers, IsStep, IsNext, MayErase}
 use Rattle.erase_journal.proofs.Regions.{vote-opened, vote-closed, changed-spoiled, votes-below, votes-above, entries-below, entries-above}
 use Rattle.erase_journal.proofs.Lasting.{Last-erased, Last-moved}
@@ -17,8 +17,8 @@ use Rattle.erase_journal.proofs.Lasting.{Last-erased, Last-moved}
 -- journal x holds no vote, and J0 no entry
 pub record IsBlank (x : JournalId) (m : List ℕ) : Type 0 where
   -- x's votes for x + 1, and for x + 2
-  pub second : ((second (survey_of m) (next x)).unused ≡ 1024) × Holds (second (survey_of m) (next x)) 0
-  pub first : ((first (survey_of m) (next (next x))).unused ≡ 1024) × Holds (first (survey_of m) (next (next x))) 0
+  pub second : ((second (survey_of m) (next x)).unused ≡ 1024) × HoldsVotes (second (survey_of m) (next x)) 0
+  pub first : ((first (survey_of m) (next (next x))).unused ≡ 1024) × HoldsVotes (first (survey_of m) (next (next x))) 0
   pub free : x ≡ J0 → free_entries m ≡ 512
   pub none : x ≡ J0 → open_entries m ≡ 0
 
@@ -54,7 +54,7 @@ ask0 i m m' h low change =
     let numbers : SameNumbers (once_erased J0 (unused m)) (settled (Asked J0) (unused m')) = record { n01 = refl; n02 = refl; n10 = (omega arith); n12 = (unused-same s2); n20 = (ap (λ n. n - 1) (unused-same s0)); n21 = (unused-same f1); free = refl } in
     record { sound = record { phase = simp (s0, f1, s1, f2, s2) ((omega arith, omega arith), p.0.1, p.1, p.2, omega arith); lasts = Last-moved (once_erased J0 (unused m)) (settled (Asked J0) (unused m')) numbers l }; numbers = numbers }
 
-pub doom0 : (i : ℕ) (m m' : List ℕ) → IsSound (Asked J0) m → i < 1024 → Changed (12288 + i) 255 254 m m' → IsNext (Asked J0) m (Doomed J0) m'
+pub doom0 : (i : ℕ) (m m' : List ℕ) → AreJournalsSound (Asked J0) m → i < 1024 → Changed (12288 + i) 255 254 m m' → IsNext (Asked J0) m (Doomed J0) m'
 doom0 i m m' h low change =
     let s = changed-spoiled (12288 + i) 255 254 m m' change in
     let v = vote-opened 12288 i m m' low change in
@@ -68,7 +68,7 @@ doom0 i m m' h low change =
     let numbers : SameNumbers (settled (Asked J0) (unused m)) (settled (Doomed J0) (unused m')) = record { n01 = refl; n02 = refl; n10 = (unused-same f0); n12 = (unused-same s2); n20 = (omega arith); n21 = (unused-same f1); free = refl } in
     record { sound = record { phase = simp (f0, f1, s1, f2, s2) (p.0, (omega arith, omega arith), p.2.0, p.3.1); lasts = Last-moved (settled (Asked J0) (unused m)) (settled (Doomed J0) (unused m')) numbers h.lasts }; numbers = numbers }
 
-pub spoil0 : (m m' : List ℕ) → IsSound (Doomed J0) m → Spoiled 4096 4096 m m' → IsNext (Doomed J0) m (Doomed J0) m'
+pub spoil0 : (m m' : List ℕ) → AreJournalsSound (Doomed J0) m → Spoiled 4096 4096 m m' → IsNext (Doomed J0) m (Doomed J0) m'
 spoil0 m m' h s =
     let f0 = votes-above 9216 4096 4096 m m' s (omega arith) in
     let s0 = votes-above 12288 4096 4096 m m' s (omega arith) in
@@ -78,7 +78,7 @@ spoil0 m m' h s =
     let numbers : SameNumbers (settled (Doomed J0) (unused m)) (settled (Doomed J0) (unused m')) = record { n01 = refl; n02 = refl; n10 = (unused-same f0); n12 = (unused-same s2); n20 = (unused-same s0); n21 = (unused-same f1); free = refl } in
     record { sound = record { phase = simp (f0, s0, f1, s2) (p.0, p.1, p.2, p.3); lasts = Last-moved (settled (Doomed J0) (unused m)) (settled (Doomed J0) (unused m')) numbers h.lasts }; numbers = numbers }
 
-pub close_first0 : (i : ℕ) (m m' : List ℕ) → IsSound (Doomed J0) m → IsBlank J0 m → i < 1024 → Changed (9216 + i) 254 252 m m' → IsNext (Doomed J0) m (Closing J0) m'
+pub close_first0 : (i : ℕ) (m m' : List ℕ) → AreJournalsSound (Doomed J0) m → IsBlank J0 m → i < 1024 → Changed (9216 + i) 254 252 m m' → IsNext (Doomed J0) m (Closing J0) m'
 close_first0 i m m' h blank low change =
     let s = changed-spoiled (9216 + i) 254 252 m m' change in
     let v = vote-closed 9216 i m m' low change in
@@ -92,7 +92,7 @@ close_first0 i m m' h blank low change =
     let numbers : SameNumbers (settled (Doomed J0) (unused m)) (settled (Closing J0) (unused m')) = record { n01 = (unused-same s1 ∙ blank.second.0); n02 = (unused-same f2 ∙ blank.first.0); n10 = (omega arith); n12 = (unused-same s2); n20 = (unused-same s0); n21 = (unused-same f1); free = (e.free ∙ blank.free refl) } in
     record { sound = record { phase = simp (s0, f1, s1, f2, s2) ((omega arith, omega arith), p.1, (p.2, blank.second.1), (blank.first.1, p.3), e.opened ∙ blank.none refl); lasts = Last-moved (settled (Doomed J0) (unused m)) (settled (Closing J0) (unused m')) numbers h.lasts }; numbers = numbers }
 
-pub close_second0 : (i : ℕ) (m m' : List ℕ) → IsSound (Closing J0) m → i < 1024 → Changed (12288 + i) 254 252 m m' → IsNext (Closing J0) m Idle m'
+pub close_second0 : (i : ℕ) (m m' : List ℕ) → AreJournalsSound (Closing J0) m → i < 1024 → Changed (12288 + i) 254 252 m m' → IsNext (Closing J0) m Idle m'
 close_second0 i m m' h low change =
     let s = changed-spoiled (12288 + i) 254 252 m m' change in
     let v = vote-closed 12288 i m m' low change in
@@ -121,7 +121,7 @@ ask1 i m m' h low change =
     let numbers : SameNumbers (once_erased J1 (unused m)) (settled (Asked J1) (unused m')) = record { n01 = (ap (λ n. n - 1) (unused-same s1)); n02 = (unused-same f2); n10 = refl; n12 = refl; n20 = (unused-same s0); n21 = (omega arith); free = e.free } in
     record { sound = record { phase = simp (f0, s0, s1, f2, s2) ((omega arith, omega arith), p.1.1, p.2, p.0, omega arith); lasts = Last-moved (once_erased J1 (unused m)) (settled (Asked J1) (unused m')) numbers l }; numbers = numbers }
 
-pub doom1 : (i : ℕ) (m m' : List ℕ) → IsSound (Asked J1) m → i < 1024 → Changed (4096 + i) 255 254 m m' → IsNext (Asked J1) m (Doomed J1) m'
+pub doom1 : (i : ℕ) (m m' : List ℕ) → AreJournalsSound (Asked J1) m → i < 1024 → Changed (4096 + i) 255 254 m m' → IsNext (Asked J1) m (Doomed J1) m'
 doom1 i m m' h low change =
     let s = changed-spoiled (4096 + i) 255 254 m m' change in
     let v = vote-opened 4096 i m m' low change in
@@ -135,7 +135,7 @@ doom1 i m m' h low change =
     let numbers : SameNumbers (settled (Asked J1) (unused m)) (settled (Doomed J1) (unused m')) = record { n01 = (omega arith); n02 = (unused-same f2); n10 = refl; n12 = refl; n20 = (unused-same s0); n21 = (unused-same f1); free = e.free } in
     record { sound = record { phase = simp (f0, s0, f1, f2, s2) (p.0, (omega arith, omega arith), p.2.0, p.3.1, omega arith); lasts = Last-moved (settled (Asked J1) (unused m)) (settled (Doomed J1) (unused m')) numbers h.lasts }; numbers = numbers }
 
-pub spoil1 : (m m' : List ℕ) → IsSound (Doomed J1) m → Spoiled 8192 4096 m m' → IsNext (Doomed J1) m (Doomed J1) m'
+pub spoil1 : (m m' : List ℕ) → AreJournalsSound (Doomed J1) m → Spoiled 8192 4096 m m' → IsNext (Doomed J1) m (Doomed J1) m'
 spoil1 m m' h s =
     let s0 = votes-above 12288 8192 4096 m m' s (omega arith) in
     let f1 = votes-above 13312 8192 4096 m m' s (omega arith) in
@@ -146,7 +146,7 @@ spoil1 m m' h s =
     let numbers : SameNumbers (settled (Doomed J1) (unused m)) (settled (Doomed J1) (unused m')) = record { n01 = (unused-same s1); n02 = (unused-same f2); n10 = refl; n12 = refl; n20 = (unused-same s0); n21 = (unused-same f1); free = e.free } in
     record { sound = record { phase = simp (s0, f1, s1, f2) (p.0, p.1, p.2, p.3, omega arith); lasts = Last-moved (settled (Doomed J1) (unused m)) (settled (Doomed J1) (unused m')) numbers h.lasts }; numbers = numbers }
 
-pub close_first1 : (i : ℕ) (m m' : List ℕ) → IsSound (Doomed J1) m → IsBlank J1 m → i < 1024 → Changed (13312 + i) 254 252 m m' → IsNext (Doomed J1) m (Closing J1) m'
+pub close_first1 : (i : ℕ) (m m' : List ℕ) → AreJournalsSound (Doomed J1) m → IsBlank J1 m → i < 1024 → Changed (13312 + i) 254 252 m m' → IsNext (Doomed J1) m (Closing J1) m'
 close_first1 i m m' h blank low change =
     let s = changed-spoiled (13312 + i) 254 252 m m' change in
     let v = vote-closed 13312 i m m' low change in
@@ -160,7 +160,7 @@ close_first1 i m m' h blank low change =
     let numbers : SameNumbers (settled (Doomed J1) (unused m)) (settled (Closing J1) (unused m')) = record { n01 = (unused-same s1); n02 = (unused-same f2); n10 = (unused-same f0 ∙ blank.first.0); n12 = (unused-same s2 ∙ blank.second.0); n20 = (unused-same s0); n21 = (omega arith); free = e.free } in
     record { sound = record { phase = simp (f0, s0, s1, f2, s2) ((omega arith, omega arith), p.1, (p.2, blank.second.1), (blank.first.1, p.3), omega arith); lasts = Last-moved (settled (Doomed J1) (unused m)) (settled (Closing J1) (unused m')) numbers h.lasts }; numbers = numbers }
 
-pub close_second1 : (i : ℕ) (m m' : List ℕ) → IsSound (Closing J1) m → i < 1024 → Changed (4096 + i) 254 252 m m' → IsNext (Closing J1) m Idle m'
+pub close_second1 : (i : ℕ) (m m' : List ℕ) → AreJournalsSound (Closing J1) m → i < 1024 → Changed (4096 + i) 254 252 m m' → IsNext (Closing J1) m Idle m'
 close_second1 i m m' h low change =
     let s = changed-spoiled (4096 + i) 254 252 m m' change in
     let v = vote-closed 4096 i m m' low change in
@@ -189,7 +189,7 @@ ask2 i m m' h low change =
     let numbers : SameNumbers (once_erased J2 (unused m)) (settled (Asked J2) (unused m')) = record { n01 = (unused-same s1); n02 = (omega arith); n10 = (unused-same f0); n12 = (ap (λ n. n - 1) (unused-same s2)); n20 = refl; n21 = refl; free = e.free } in
     record { sound = record { phase = simp (f0, s0, f1, s1, s2) ((omega arith, omega arith), p.2.1, p.0, p.1, omega arith); lasts = Last-moved (once_erased J2 (unused m)) (settled (Asked J2) (unused m')) numbers l }; numbers = numbers }
 
-pub doom2 : (i : ℕ) (m m' : List ℕ) → IsSound (Asked J2) m → i < 1024 → Changed (8192 + i) 255 254 m m' → IsNext (Asked J2) m (Doomed J2) m'
+pub doom2 : (i : ℕ) (m m' : List ℕ) → AreJournalsSound (Asked J2) m → i < 1024 → Changed (8192 + i) 255 254 m m' → IsNext (Asked J2) m (Doomed J2) m'
 doom2 i m m' h low change =
     let s = changed-spoiled (8192 + i) 255 254 m m' change in
     let v = vote-opened 8192 i m m' low change in
@@ -203,7 +203,7 @@ doom2 i m m' h low change =
     let numbers : SameNumbers (settled (Asked J2) (unused m)) (settled (Doomed J2) (unused m')) = record { n01 = (unused-same s1); n02 = (unused-same f2); n10 = (unused-same f0); n12 = (omega arith); n20 = refl; n21 = refl; free = e.free } in
     record { sound = record { phase = simp (f0, s0, f1, s1, f2) (p.0, (omega arith, omega arith), p.2.0, p.3.1, omega arith); lasts = Last-moved (settled (Asked J2) (unused m)) (settled (Doomed J2) (unused m')) numbers h.lasts }; numbers = numbers }
 
-pub spoil2 : (m m' : List ℕ) → IsSound (Doomed J2) m → Spoiled 12288 4096 m m' → IsNext (Doomed J2) m (Doomed J2) m'
+pub spoil2 : (m m' : List ℕ) → AreJournalsSound (Doomed J2) m → Spoiled 12288 4096 m m' → IsNext (Doomed J2) m (Doomed J2) m'
 spoil2 m m' h s =
     let f0 = votes-below 9216 12288 4096 m m' s (omega arith) in
     let s1 = votes-below 4096 12288 4096 m m' s (omega arith) in
@@ -214,7 +214,7 @@ spoil2 m m' h s =
     let numbers : SameNumbers (settled (Doomed J2) (unused m)) (settled (Doomed J2) (unused m')) = record { n01 = (unused-same s1); n02 = (unused-same f2); n10 = (unused-same f0); n12 = (unused-same s2); n20 = refl; n21 = refl; free = e.free } in
     record { sound = record { phase = simp (f0, s1, f2, s2) (p.0, p.1, p.2, p.3, omega arith); lasts = Last-moved (settled (Doomed J2) (unused m)) (settled (Doomed J2) (unused m')) numbers h.lasts }; numbers = numbers }
 
-pub close_first2 : (i : ℕ) (m m' : List ℕ) → IsSound (Doomed J2) m → IsBlank J2 m → i < 1024 → Changed (5120 + i) 254 252 m m' → IsNext (Doomed J2) m (Closing J2) m'
+pub close_first2 : (i : ℕ) (m m' : List ℕ) → AreJournalsSound (Doomed J2) m → IsBlank J2 m → i < 1024 → Changed (5120 + i) 254 252 m m' → IsNext (Doomed J2) m (Closing J2) m'
 close_first2 i m m' h blank low change =
     let s = changed-spoiled (5120 + i) 254 252 m m' change in
     let v = vote-closed 5120 i m m' low change in
@@ -228,7 +228,7 @@ close_first2 i m m' h blank low change =
     let numbers : SameNumbers (settled (Doomed J2) (unused m)) (settled (Closing J2) (unused m')) = record { n01 = (unused-same s1); n02 = (omega arith); n10 = (unused-same f0); n12 = (unused-same s2); n20 = (unused-same s0 ∙ blank.second.0); n21 = (unused-same f1 ∙ blank.first.0); free = e.free } in
     record { sound = record { phase = simp (f0, s0, f1, s1, s2) ((omega arith, omega arith), p.1, (p.2, blank.second.1), (blank.first.1, p.3), omega arith); lasts = Last-moved (settled (Doomed J2) (unused m)) (settled (Closing J2) (unused m')) numbers h.lasts }; numbers = numbers }
 
-pub close_second2 : (i : ℕ) (m m' : List ℕ) → IsSound (Closing J2) m → i < 1024 → Changed (8192 + i) 254 252 m m' → IsNext (Closing J2) m Idle m'
+pub close_second2 : (i : ℕ) (m m' : List ℕ) → AreJournalsSound (Closing J2) m → i < 1024 → Changed (8192 + i) 254 252 m m' → IsNext (Closing J2) m Idle m'
 close_second2 i m m' h low change =
     let s = changed-spoiled (8192 + i) 254 252 m m' change in
     let v = vote-closed 8192 i m m' low change in
@@ -248,22 +248,22 @@ asks J0 i m m' h low change = ask0 i m m' h low change
 asks J1 i m m' h low change = ask1 i m m' h low change
 asks J2 i m m' h low change = ask2 i m m' h low change
 
-pub dooms : (x : JournalId) (i : ℕ) (m m' : List ℕ) → IsSound (Asked x) m → i < 1024 → Changed (second_at x + i) 255 254 m m' → IsNext (Asked x) m (Doomed x) m'
+pub dooms : (x : JournalId) (i : ℕ) (m m' : List ℕ) → AreJournalsSound (Asked x) m → i < 1024 → Changed (second_at x + i) 255 254 m m' → IsNext (Asked x) m (Doomed x) m'
 dooms J0 i m m' h low change = doom0 i m m' h low change
 dooms J1 i m m' h low change = doom1 i m m' h low change
 dooms J2 i m m' h low change = doom2 i m m' h low change
 
-pub spoils : (x : JournalId) (m m' : List ℕ) → IsSound (Doomed x) m → Spoiled (journal_at x) 4096 m m' → IsNext (Doomed x) m (Doomed x) m'
+pub spoils : (x : JournalId) (m m' : List ℕ) → AreJournalsSound (Doomed x) m → Spoiled (journal_at x) 4096 m m' → IsNext (Doomed x) m (Doomed x) m'
 spoils J0 m m' h s = spoil0 m m' h s
 spoils J1 m m' h s = spoil1 m m' h s
 spoils J2 m m' h s = spoil2 m m' h s
 
-pub closes_first : (x : JournalId) (i : ℕ) (m m' : List ℕ) → IsSound (Doomed x) m → IsBlank x m → i < 1024 → Changed (first_at x + i) 254 252 m m' → IsNext (Doomed x) m (Closing x) m'
+pub closes_first : (x : JournalId) (i : ℕ) (m m' : List ℕ) → AreJournalsSound (Doomed x) m → IsBlank x m → i < 1024 → Changed (first_at x + i) 254 252 m m' → IsNext (Doomed x) m (Closing x) m'
 closes_first J0 i m m' h b low change = close_first0 i m m' h b low change
 closes_first J1 i m m' h b low change = close_first1 i m m' h b low change
 closes_first J2 i m m' h b low change = close_first2 i m m' h b low change
 
-pub closes_second : (x : JournalId) (i : ℕ) (m m' : List ℕ) → IsSound (Closing x) m → i < 1024 → Changed (second_at x + i) 254 252 m m' → IsNext (Closing x) m Idle m'
+pub closes_second : (x : JournalId) (i : ℕ) (m m' : List ℕ) → AreJournalsSound (Closing x) m → i < 1024 → Changed (second_at x + i) 254 252 m m' → IsNext (Closing x) m Idle m'
 closes_second J0 i m m' h low change = close_second0 i m m' h low change
 closes_second J1 i m m' h low change = close_second1 i m m' h low change
 closes_second J2 i m m' h low change = close_second2 i m m' h low change

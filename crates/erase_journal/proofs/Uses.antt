@@ -6,7 +6,7 @@ use Rattle.nor_layout.specs.declared.journal.JournalId.{JournalId}
 use Rattle.erase_journal.specs.declared.unused.Unused.{Unused}
 use Rattle.erase_journal.specs.Places.{Spoiled, Changed}
 use Rattle.erase_journal.specs.Votes.{IsLowestTired, once_erased}
-use Rattle.erase_journal.specs.Journals.{entry, is_free_entry, free_entries, unused}
+use Rattle.erase_journal.specs.Journals.{entry_byte, is_free_entry, free_entries, unused}
 use Rattle.erase_journal.specs.Steps.{SameNumbers, IsTaken, IsOpened}
 use Rattle.erase_journal.specs.Spending.{Maintains, erases, once_used, IsUsed, KeepsUse}
 use Rattle.erase_journal.proofs.Regions.{entry-kept, spoiled-below, entries-below}
@@ -62,7 +62,7 @@ spoiled-on at n m m1 m2 a b = record {
 }
 
 -- entry i is used
-entry-used : (i : ℕ) (m m' : List ℕ) → i < 512 → Spoiled (6144 + 4 * i) 4 m m' → is_free_entry m i ≡ true → entry m' i 0 ≢ 255 → IsUsed i m m'
+entry-used : (i : ℕ) (m m' : List ℕ) → i < 512 → Spoiled (6144 + 4 * i) 4 m m' → is_free_entry m i ≡ true → entry_byte m' i 0 ≢ 255 → IsUsed i m m'
 entry-used i m m' low s free state =
     let gone = not-free m' i state in
     let f = rw (free, gone) at (free-change i m m' low s) in
@@ -74,7 +74,7 @@ entry-used i m m' low s free state =
     }
 
 -- it was in use
-entry-stays : (i : ℕ) (m m' : List ℕ) → i < 512 → Spoiled (6144 + 4 * i) 4 m m' → entry m i 0 ≢ 255 → entry m' i 0 ≢ 255 → KeepsUse m m'
+entry-stays : (i : ℕ) (m m' : List ℕ) → i < 512 → Spoiled (6144 + 4 * i) 4 m m' → entry_byte m i 0 ≢ 255 → entry_byte m' i 0 ≢ 255 → KeepsUse m m'
 entry-stays i m m' low s was state =
     let before = not-free m i was in
     let after = not-free m' i state in

@@ -1,5 +1,6 @@
--- The data blocks that a memory stands for. Source: own.
-use Rattle.std.specs.Prelude.{◌≡◌, ◌≢◌, ℕ, zero, suc, ◌-◌, ◌<◌, ◌≤◌, Bool, not, List, [], ◌∷◌, length, replicate, if◌then◌else◌, ◌&&◌, nat_lt}
+-- The data blocks that a memory represents. Source: own.
+use Rattle.std.specs.Prelude.{◌≡◌, ◌≢◌, ℕ, zero, suc, ◌-◌, ◌<◌, ◌≤◌, Bool, not, List, [], ◌∷◌}
+use Rattle.std.specs.Prelude.{length, replicate, if◌then◌else◌, ◌&&◌, nat_lt}
 use Rattle.chip_model.specs.Memory.{byte}
 use Rattle.chip_model.specs.Parts.{part}
 use Rattle.chip_model.specs.Geometry.{block_count}
@@ -8,13 +9,14 @@ use Rattle.erase_journal.specs.Journals.{survey_of, first, second, entries_for}
 
 -- J0 is believed unless both others hold an open vote for its erase
 abbrev pub is_believed0 : List ℕ → Bool
-is_believed0 m = not (nat_lt 0 (first (survey_of m) J0).opened && nat_lt 0 (second (survey_of m) J0).opened)
+is_believed0 m = not (nat_lt 0 (first (survey_of m) J0).opened
+    && nat_lt 0 (second (survey_of m) J0).opened)
 
 -- an erased block
 unfoldable pub blank : List ℕ
 blank = replicate 4096 255
 
--- what block b stands for: its bytes, but erased where the believed J0 holds an open entry for it
+-- what block b represents: its bytes, but erased where the believed J0 holds an open entry for it
 unfoldable pub block : List ℕ → ℕ → List ℕ
 block m b = if is_believed0 m && nat_lt 0 (entries_for m b) then blank else part 4096 m b
 

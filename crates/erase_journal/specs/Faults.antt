@@ -1,4 +1,5 @@
--- The cases of corrupt journals one by one, for a reader: healthy journals are those that have none of them. Source: own.
+-- The cases of corrupt journals one by one, for a reader: healthy journals are those that have none
+-- of them. Source: own.
 use Rattle.std.specs.Prelude.{◌≡◌, ◌⊎◌, ◌↔◌, ◌≤◌}
 use Rattle.nor_layout.specs.declared.journal.JournalId.{JournalId}
 use Rattle.nor_layout.specs.declared.journal.JournalId.TheVariants.{J0}
@@ -6,7 +7,8 @@ use Rattle.nor_layout.specs.Journals.{next}
 use Rattle.erase_journal.specs.declared.phase.Phase.{Phase}
 use Rattle.erase_journal.specs.declared.survey.Survey.{Survey}
 use Rattle.erase_journal.specs.Votes.{Last}
-use Rattle.erase_journal.specs.Journals.{first, second, unused_of, settled, IsInPhase, IsSoundSurvey}
+use Rattle.erase_journal.specs.Journals.{first, second, unused_of, settled, IsInPhase}
+use Rattle.erase_journal.specs.Journals.{IsSoundSurvey}
 
 -- both other journals hold an open vote for the erase of x
 abbrev pub IsDoomed : Survey → JournalId → Type 0
@@ -22,14 +24,17 @@ after_next x = next (next x)
 
 -- a believed journal holds an open vote for the erase of x
 abbrev pub HasVote : Survey → JournalId → Type 0
-HasVote s x = (IsBelieved s (next x) × (1 ≤ (first s x).opened)) ⊎ (IsBelieved s (after_next x) × (1 ≤ (second s x).opened))
+HasVote s x = (IsBelieved s (next x) × (1 ≤ (first s x).opened))
+    ⊎ (IsBelieved s (after_next x) × (1 ≤ (second s x).opened))
 
-pub record HasNoFault (s : Survey) : Type 0 where
+pub record SurveyHasNoFault (s : Survey) : Type 0 where
   -- no two journals are doomed
   pub one_doomed : (x : JournalId) → IsDoomed s x → IsDoomed s (next x) → ⊥
   -- in the regions of believed journals each byte is a vote, and one at most is open
-  pub first_votes : (x : JournalId) → IsBelieved s (next x) → ((first s x).wrong ≡ 0) × ((first s x).opened ≤ 1)
-  pub second_votes : (x : JournalId) → IsBelieved s (after_next x) → ((second s x).wrong ≡ 0) × ((second s x).opened ≤ 1)
+  pub first_votes : (x : JournalId) → IsBelieved s (next x)
+      → ((first s x).wrong ≡ 0) × ((first s x).opened ≤ 1)
+  pub second_votes : (x : JournalId) → IsBelieved s (after_next x)
+      → ((second s x).wrong ≡ 0) × ((second s x).opened ≤ 1)
   -- their open votes name one journal
   pub one_named : (x : JournalId) → HasVote s x → HasVote s (next x) → ⊥
   -- a believed J0 has one open entry at most, and none beside an open vote
@@ -39,5 +44,5 @@ pub record HasNoFault (s : Survey) : Type 0 where
   pub lasts : (p : Phase) → IsInPhase p s → Last (settled p (unused_of s))
 
 -- the journals are sound in one of the phases exactly where they have no fault
-abbrev pub SoundHasNoFault : Type 0
-SoundHasNoFault = (s : Survey) → ((p : Phase) × IsSoundSurvey p s) ↔ HasNoFault s
+abbrev pub SoundSurveyHasNoFault : Type 0
+SoundSurveyHasNoFault = (s : Survey) → ((p : Phase) × IsSoundSurvey p s) ↔ SurveyHasNoFault s

@@ -1,5 +1,5 @@
--- The three journals in a memory: their votes and entries, the phases of an erase of a journal, and what a healthy memory is.
--- Source: own.
+-- The three journals in a memory: their votes and entries, the phases of an erase of a journal, and
+-- what a healthy memory is. Source: own.
 use Rattle.std.specs.Prelude.{◌≡◌, ℕ, ◌+◌, ◌≤◌, Bool, not, List, [], ◌∷◌, length, ◌==◌, ◌&&◌, ◌||◌}
 use Rattle.chip_model.specs.Memory.{byte}
 use Rattle.chip_model.specs.Geometry.{block_count}
@@ -22,15 +22,16 @@ unfoldable pub votes_at : List ℕ → ℕ → VoteCounts
 votes_at m at = record {
   unused = how_many (λ k. byte m (at + k) == byte_of Unused) 1024;
   opened = how_many (λ k. byte m (at + k) == byte_of Open) 1024;
-  wrong = how_many (λ k. not (byte m (at + k) == byte_of Unused || byte m (at + k) == byte_of Open || byte m (at + k) == byte_of Closed)) 1024;
+  wrong = how_many (λ k. not (byte m (at + k) == byte_of Unused || byte m (at + k) == byte_of Open
+      || byte m (at + k) == byte_of Closed)) 1024;
 }
 
 -- byte j of entry i of J0, and its four bytes
-abbrev pub entry : List ℕ → ℕ → ℕ → ℕ
-entry m i j = byte m (entry_at i + j)
+abbrev pub entry_byte : List ℕ → ℕ → ℕ → ℕ
+entry_byte m i j = byte m (entry_at i + j)
 
 abbrev pub entry_bytes : List ℕ → ℕ → List ℕ
-entry_bytes m i = entry m i 0 ∷ entry m i 1 ∷ entry m i 2 ∷ entry m i 3 ∷ []
+entry_bytes m i = entry_byte m i 0 ∷ entry_byte m i 1 ∷ entry_byte m i 2 ∷ entry_byte m i 3 ∷ []
 
 -- the block that it names
 abbrev pub entry_block : List ℕ → ℕ → ℕ
@@ -38,7 +39,8 @@ entry_block m i = block_in (entry_bytes m i)
 
 -- free: four FFh
 abbrev pub is_free_entry : List ℕ → ℕ → Bool
-is_free_entry m i = entry m i 0 == 255 && entry m i 1 == 255 && entry m i 2 == 255 && entry m i 3 == 255
+is_free_entry m i = entry_byte m i 0 == 255 && entry_byte m i 1 == 255 && entry_byte m i 2 == 255
+    && entry_byte m i 3 == 255
 
 -- open, for a data block of this chip
 abbrev pub is_open_entry : List ℕ → ℕ → Bool
@@ -94,24 +96,31 @@ abbrev pub unused : List ℕ → numbers.Unused
 unused m = unused_of (survey_of m)
 
 -- so many open votes in a region, and none that is wrong
-abbrev pub Holds : VoteCounts → ℕ → Type 0
-Holds v n = (v.opened ≡ n) × (v.wrong ≡ 0)
+abbrev pub HoldsVotes : VoteCounts → ℕ → Type 0
+HoldsVotes v n = (v.opened ≡ n) × (v.wrong ≡ 0)
 
 -- no open vote for x
-abbrev pub IsQuiet : Survey → JournalId → Type 0
-IsQuiet s x = Holds (first s x) 0 × Holds (second s x) 0
+abbrev pub HasNoOpenVote : Survey → JournalId → Type 0
+HasNoOpenVote s x = HoldsVotes (first s x) 0 × HoldsVotes (second s x) 0
 
--- The journals that are believed hold nothing but what the phase says. A journal is believed unless both others hold an open
--- vote for its erase; of the votes and entries of a doomed one nothing is said.
+-- The journals that are believed hold nothing but what the phase says. A journal is believed unless
+-- both others hold an open vote for its erase; of the votes and entries of a doomed one nothing is
+-- said.
 abbrev pub IsInPhase : Phase → Survey → Type 0
-IsInPhase Idle s = IsQuiet s J0 × IsQuiet s J1 × IsQuiet s J2 × (s.opened ≤ 1)
-IsInPhase (Asked x) s = Holds (first s x) 1 × Holds (second s x) 0 × IsQuiet s (next x) × IsQuiet s (next (next x)) × (s.opened ≡ 0)
-IsInPhase (Doomed J0) s = Holds (first s J0) 1 × Holds (second s J0) 1 × Holds (first s J1) 0 × Holds (second s J2) 0
-IsInPhase (Doomed J1) s = Holds (first s J1) 1 × Holds (second s J1) 1 × Holds (first s J2) 0 × Holds (second s J0) 0 × (s.opened ≡ 0)
-IsInPhase (Doomed J2) s = Holds (first s J2) 1 × Holds (second s J2) 1 × Holds (first s J0) 0 × Holds (second s J1) 0 × (s.opened ≡ 0)
-IsInPhase (Closing x) s = Holds (first s x) 0 × Holds (second s x) 1 × IsQuiet s (next x) × IsQuiet s (next (next x)) × (s.opened ≡ 0)
+IsInPhase Idle s = HasNoOpenVote s J0 × HasNoOpenVote s J1 × HasNoOpenVote s J2 × (s.opened ≤ 1)
+IsInPhase (Asked x) s = HoldsVotes (first s x) 1 × HoldsVotes (second s x) 0
+    × HasNoOpenVote s (next x) × HasNoOpenVote s (next (next x)) × (s.opened ≡ 0)
+IsInPhase (Doomed J0) s = HoldsVotes (first s J0) 1 × HoldsVotes (second s J0) 1
+    × HoldsVotes (first s J1) 0 × HoldsVotes (second s J2) 0
+IsInPhase (Doomed J1) s = HoldsVotes (first s J1) 1 × HoldsVotes (second s J1) 1
+    × HoldsVotes (first s J2) 0 × HoldsVotes (second s J0) 0 × (s.opened ≡ 0)
+IsInPhase (Doomed J2) s = HoldsVotes (first s J2) 1 × HoldsVotes (second s J2) 1
+    × HoldsVotes (first s J0) 0 × HoldsVotes (second s J1) 0 × (s.opened ≡ 0)
+IsInPhase (Closing x) s = HoldsVotes (first s x) 0 × HoldsVotes (second s x) 1
+    × HasNoOpenVote s (next x) × HasNoOpenVote s (next (next x)) × (s.opened ≡ 0)
 
--- The numbers as they stand once the erase that goes on is done: a journal that is asked for has one vote still to be spent.
+-- The numbers as they stand once the erase that goes on is done: a journal that is asked for has
+-- one vote still to be spent.
 abbrev pub settled : Phase → numbers.Unused → numbers.Unused
 settled Idle u = u
 settled (Asked x) u = renewed x (second_spent x u)
@@ -123,14 +132,14 @@ pub record IsSoundSurvey (p : Phase) (s : Survey) : Type 0 where
   pub phase : IsInPhase p s
   pub lasts : Last (settled p (unused_of s))
 
-abbrev pub IsSound : Phase → List ℕ → Type 0
-IsSound p m = IsSoundSurvey p (survey_of m)
+abbrev pub AreJournalsSound : Phase → List ℕ → Type 0
+AreJournalsSound p m = IsSoundSurvey p (survey_of m)
 
 -- A healthy memory: the journals are sound in one of the phases. Else they are corrupt.
 abbrev pub IsHealthy : List ℕ → Type 0
-IsHealthy m = (p : Phase) × IsSound p m
+IsHealthy m = (p : Phase) × AreJournalsSound p m
 
 -- No erase goes on, neither of a journal nor of a data block.
 pub record IsSettled (m : List ℕ) : Type 0 where
-  pub sound : IsSound Idle m
+  pub sound : AreJournalsSound Idle m
   pub none : open_entries m ≡ 0

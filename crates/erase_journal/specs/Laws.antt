@@ -15,11 +15,14 @@ BlocksHaveOneSize = (m : List ℕ) (b : ℕ) → b < block_count (length m) → 
 abbrev pub SameBlocksMakeOneList : Type 0
 SameBlocksMakeOneList = (m m' : List ℕ) → SameBlocks m m' → blocks_of m' ≡ blocks_of m
 
--- votes that last still do after an erase of maintenance, which so never takes the last vote of a region
+-- votes that last still do after an erase of maintenance, which so never takes the last vote of a
+-- region
 abbrev pub MaintenanceKeepsVotes : Type 0
-MaintenanceKeepsVotes = (x : JournalId) (u : Unused) → Last u → IsLowestTired x u → Last (once_erased x u)
+MaintenanceKeepsVotes = (x : JournalId) (u : Unused) → Last u → IsLowestTired x u
+    → Last (once_erased x u)
 
--- a chip that is erased behind its superblock is a settled journal's, and each of its data blocks is erased
+-- a chip that is erased behind its superblock is a settled journal's, and each of its data blocks
+-- is erased
 abbrev pub ErasedChipsAreSettled : Type 0
 ErasedChipsAreSettled = (m : List ℕ) → IsChipSize (length m) → IsErasedBehind m
     → IsSettled m × ((b : ℕ) → 4 ≤ b → b < block_count (length m) → block m b ≡ blank)

@@ -1,5 +1,7 @@
--- How many of a row of places pass a test, and memories that differ in few places only. Source: own.
-use Rattle.std.specs.Prelude.{◌≡◌, ◌≢◌, ℕ, zero, suc, ◌+◌, ◌<◌, ◌≤◌, Bool, List, length, if◌then◌else◌}
+-- How many of a row of places pass a test, and memories that differ in few places only. Source:
+-- own.
+use Rattle.std.specs.Prelude.{◌≡◌, ◌≢◌, ℕ, zero, suc, ◌+◌, ◌<◌, ◌≤◌, Bool, List, length}
+use Rattle.std.specs.Prelude.{if◌then◌else◌}
 use Rattle.chip_model.specs.Memory.{byte}
 
 -- how many of the numbers below n pass a test

@@ -1,22 +1,25 @@
--- What an erase and a recovery make of the journals' numbers: the votes and entries that are left. Source: own.
+-- What an erase and a recovery make of the journals' numbers: the votes and entries that are left.
+-- Source: own.
 use Rattle.std.specs.Prelude.{◌≡◌, ◌≢◌, ℕ, ◌-◌, ◌<◌, false, List}
 use Rattle.nor_layout.specs.declared.journal.JournalId.{JournalId}
 use Rattle.nor_layout.specs.declared.journal.JournalId.TheVariants.{J0, J1, J2}
 use Rattle.erase_journal.specs.declared.phase.Phase.{Phase}
 use Rattle.erase_journal.specs.declared.unused.Unused.{Unused}
 use Rattle.erase_journal.specs.Votes.{IsLowestTired, IsRested, once_erased}
-use Rattle.erase_journal.specs.Journals.{IsSound, settled, unused, is_free_entry}
+use Rattle.erase_journal.specs.Journals.{AreJournalsSound, settled, unused, is_free_entry}
 use Rattle.erase_journal.specs.Steps.{SameNumbers}
 
 -- the numbers once an entry is taken
 abbrev pub once_used : Unused → Unused
 once_used u = record u { free = u.free - 1 }
 
--- Maintenance comes from these numbers to those at rest: it erases the lowest-numbered tired journal while there is one, and no
--- other.
+-- Maintenance comes from these numbers to those at rest: it erases the lowest-numbered tired
+-- journal while there is one, and no other.
 pub data Maintains (rest : Unused) : Unused → Type 0 where
-  at_rest : (u : Unused) → IsRested J0 u → IsRested J1 u → IsRested J2 u → SameNumbers u rest → Maintains rest u
-  erases : (u : Unused) (x : JournalId) → IsLowestTired x u → Maintains rest (once_erased x u) → Maintains rest u
+  at_rest : (u : Unused) → IsRested J0 u → IsRested J1 u → IsRested J2 u → SameNumbers u rest
+      → Maintains rest u
+  erases : (u : Unused) (x : JournalId) → IsLowestTired x u → Maintains rest (once_erased x u)
+      → Maintains rest u
 
 -- The erase of a data block: maintenance, and then one entry.
 pub record Spends (u v : Unused) : Type 0 where
@@ -27,7 +30,7 @@ pub record Spends (u v : Unused) : Type 0 where
 -- A recovery: the erase of a journal that went on in m is ended in m', and nothing else is spent.
 pub record Continues (m m' : List ℕ) : Type 0 where
   pub phase : Phase
-  pub sound : IsSound phase m
+  pub sound : AreJournalsSound phase m
   pub numbers : SameNumbers (settled phase (unused m)) (unused m')
 
 -- entry i was free and is used now; the votes and the other entries are as they were

@@ -1,33 +1,35 @@
 -- What the functions of the journal leave. Source: own.
-use Rattle.std.specs.Prelude.{◌≡◌, ◌≢◌, ℕ, ◌+◌, ◌*◌, ◌<◌, true, false, List}
+use Rattle.std.specs.Prelude.{◌≡◌, ◌≢◌, ℕ, ◌+◌, ◌*◌, ◌<◌, true, List}
 use Rattle.chip_model.specs.Memory.{byte}
 use Rattle.nor_layout.specs.declared.journal.JournalId.{JournalId}
 use Rattle.nor_layout.specs.declared.journal.JournalId.TheVariants.{J0, J1, J2}
-use Rattle.nor_driver.specs.State.{NorState}
-use Rattle.nor_driver.specs.declared.error.NorError.{NorError}
-use Rattle.nor_driver.specs.declared.error.NorError.TheVariants.{Cut, Slow}
+use Rattle.nor_driver.specs.State.{NorState, IsNorReady, OnlyMemoryChanges}
 use Rattle.erase_journal.specs.declared.phase.Phase.{Phase}
 use Rattle.erase_journal.specs.declared.phase.Phase.TheVariants.{Idle}
 use Rattle.erase_journal.specs.declared.unused.Unused.{Unused}
 use Rattle.erase_journal.specs.Places.{Changed, Spoiled}
 use Rattle.erase_journal.specs.Votes.{IsLowestTired, IsRested}
-use Rattle.erase_journal.specs.Journals.{IsSound, IsHealthy, IsSettled, unused, settled, is_open_entry, entry_block, entry}
+use Rattle.erase_journal.specs.Journals.{AreJournalsSound, IsHealthy, IsSettled, unused, settled}
+use Rattle.erase_journal.specs.Journals.{is_open_entry, entry_block, entry_byte}
 use Rattle.erase_journal.specs.Blocks.{SameBlocks, WithErased}
 
--- m' is healthy and stands for the blocks of m: what a loss of power leaves of a change of the journals
-pub record Stands (m m' : List ℕ) : Type 0 where
+-- m' is healthy and represents the blocks of m: what a loss of power leaves of a change of the
+-- journals
+pub record KeepsBlocks (m m' : List ℕ) : Type 0 where
   pub healthy : IsHealthy m'
   pub blocks : SameBlocks m m'
 
--- an erase of block c that was cut: m' is healthy, and its blocks are those of m, or these with block c erased
-pub data Interrupted (c : ℕ) (m m' : List ℕ) : Type 0 where
-  as_it_was : Stands m m' → Interrupted c m m'
-  block_erased : IsHealthy m' → WithErased c m m' → Interrupted c m m'
+-- an erase of block c that was cut: m' is healthy, and its blocks are those of m, or these with
+-- block c erased
+pub data EraseInterrupted (c : ℕ) (m m' : List ℕ) : Type 0 where
+  as_it_was : KeepsBlocks m m' → EraseInterrupted c m m'
+  block_erased : IsHealthy m' → WithErased c m m' → EraseInterrupted c m m'
 
--- What a call that failed answers first: a Slow that stands, then a power that is off; and then nothing has changed.
-abbrev pub IsFirst : NorError → NorState → NorState → Type 0
-IsFirst Cut old new = (old.is_slow ≡ false) × (old.powered ≡ false → new ≡ old)
-IsFirst Slow old new = (old.is_slow ≡ false → old.powered ≡ true) × (old.is_slow ≡ true → new ≡ old)
+-- a call that answered Ok, as `Succeeds` says it, and after which no erase goes on
+pub record SucceedsSettled (old new : NorState) : Type 0 where
+  pub ready : IsNorReady old
+  pub kept : OnlyMemoryChanges old new
+  pub settled : IsSettled new.memory
 
 -- the lowest byte with the old value has changed in a region of 1,024 bytes
 pub record OneChanged (place old new : ℕ) (m m' : List ℕ) : Type 0 where
@@ -58,7 +60,7 @@ pub record SameNumbers (u v : Unused) : Type 0 where
 
 -- a memory that is sound in this phase and whose numbers, once settled, are these
 pub record IsStep (u : Unused) (p : Phase) (m : List ℕ) : Type 0 where
-  pub sound : IsSound p m
+  pub sound : AreJournalsSound p m
   pub numbers : SameNumbers u (settled p (unused m))
 
 -- the next step of an erase of a journal: the settled numbers stay
@@ -74,7 +76,7 @@ pub record IsRestful (m : List ℕ) : Type 0 where
 
 -- entry i is open for block c, which so reads as erased
 pub record IsOpened (i c : ℕ) (m : List ℕ) : Type 0 where
-  pub sound : IsSound Idle m
+  pub sound : AreJournalsSound Idle m
   pub within : i < 512
   pub opened : is_open_entry m i ≡ true
   pub names : entry_block m i ≡ c
@@ -82,6 +84,6 @@ pub record IsOpened (i c : ℕ) (m : List ℕ) : Type 0 where
 -- what taking a free entry for block c leaves
 pub record IsTaken (i c : ℕ) (m m' : List ℕ) : Type 0 where
   pub spoiled : Spoiled (6144 + 4 * i) 4 m m'
-  pub state : entry m' i 0 ≡ 254
-  pub last : entry m' i 3 ≡ 255
+  pub state : entry_byte m' i 0 ≡ 254
+  pub last : entry_byte m' i 3 ≡ 255
   pub names : entry_block m' i ≡ c

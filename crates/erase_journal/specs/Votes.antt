@@ -1,10 +1,12 @@
--- The votes that are left, as numbers: whether a journal is tired, and whether the votes last. Source: own.
+-- The votes that are left, as numbers: whether a journal is tired, and whether the votes last.
+-- Source: own.
 use Rattle.std.specs.Prelude.{◌≡◌, ◌⊎◌, ◌-◌, ◌<◌, ◌≤◌, Option, Some, None}
 use Rattle.nor_layout.specs.declared.journal.JournalId.{JournalId}
 use Rattle.nor_layout.specs.declared.journal.JournalId.TheVariants.{J0, J1, J2}
 use Rattle.erase_journal.specs.declared.unused.Unused.{Unused}
 
--- a journal is tired where one of its regions has fewer than 4 unused votes, J0 also where it has no free entry
+-- a journal is tired where one of its regions has fewer than 4 unused votes, J0 also where it has
+-- no free entry
 abbrev pub IsTired : JournalId → Unused → Type 0
 IsTired J0 u = (u.j0_for_1 < 4) ⊎ (u.j0_for_2 < 4) ⊎ (u.free ≡ 0)
 IsTired J1 u = (u.j1_for_2 < 4) ⊎ (u.j1_for_0 < 4)
@@ -29,10 +31,12 @@ IsTiredAnswer u (Some x) = IsLowestTired x u
 
 -- a vote is left in each region
 abbrev pub HasSome : Unused → Type 0
-HasSome u = (1 ≤ u.j0_for_1) × (1 ≤ u.j0_for_2) × (1 ≤ u.j1_for_0) × (1 ≤ u.j1_for_2) × (1 ≤ u.j2_for_0) × (1 ≤ u.j2_for_1)
+HasSome u = (1 ≤ u.j0_for_1) × (1 ≤ u.j0_for_2) × (1 ≤ u.j1_for_0) × (1 ≤ u.j1_for_2)
+    × (1 ≤ u.j2_for_0) × (1 ≤ u.j2_for_1)
 
--- The votes last: maintenance never takes the last vote of a region. A region may be down to one vote only where no erase that
--- comes before its own renewal asks for that vote: while it has one, the journals that are erased first are not tired.
+-- The votes last: maintenance never takes the last vote of a region. A region may be down to one
+-- vote only where no erase that comes before its own renewal asks for that vote: while it has one,
+-- the journals that are erased first are not tired.
 pub record Last (u : Unused) : Type 0 where
   pub some : HasSome u
   pub j1_for_0 : u.j1_for_0 ≡ 1 → IsRested J0 u

@@ -1,49 +1,57 @@
-ghost use Rattle.std.specs.Prelude.{◌⊎◌, ◌≡◌, ◌+◌, ◌*◌, ◌/◌, ◌<◌, ◌≤◌, ◌^◌, ℕ, true, false, length, OnOk, IfOk, IfErr};
+//! The erase of a data block by an entry of J0.
+
+ghost use Rattle.std.specs.Prelude.{◌⊎◌, ◌≡◌, ◌+◌, ◌*◌, ◌/◌, ◌<◌, ◌≤◌, ◌^◌, ℕ, true, false, length};
+ghost use Rattle.std.specs.Prelude.{OnOk, IfOk, IfErr};
 ghost use Rattle.std.specs.Result.{IsErrOf};
-ghost use Rattle.nor_driver.specs.State.{IsReady, Kept, Fails};
-ghost use Rattle.erase_journal.specs.Journals.{IsSettled, IsHealthy, is_free_entry, unused};
+ghost use Rattle.nor_driver.specs.State.{IsNorReady, OnlyMemoryChanges, Succeeds, Refuses};
+ghost use Rattle.erase_journal.specs.Journals.{IsHealthy, is_free_entry, unused};
 ghost use Rattle.erase_journal.specs.Blocks.{SameBlocks, WithErased};
 ghost use Rattle.erase_journal.specs.Scans.{IsFreeAnswer, IsOpenAnswer};
-ghost use Rattle.erase_journal.specs.Steps.{IsFirst, IsRestful, IsTaken, IsOpened, SameNumbers, Stands, Interrupted};
+ghost use Rattle.erase_journal.specs.Steps.{SucceedsSettled, IsRestful, IsTaken, IsOpened};
+ghost use Rattle.erase_journal.specs.Steps.{SameNumbers, KeepsBlocks, EraseInterrupted};
 ghost use Rattle.erase_journal.specs.Spending.{IsUsed, KeepsUse, once_used};
 ghost use Rattle.erase_journal.specs.Known.{IsKnown};
 
 use crate::known::{Known, once_used};
 use crate::scan::{OpenEntry, lowest_free, lowest_open};
 use nor_driver::{Nor, NorError};
-use nor_layout::{CLOSED_ENTRY, OPEN_ENTRY, entry_place, taken_entry};
+use nor_layout::{
+    BLOCK_LEN, CLOSED_ENTRY, ENTRIES, ENTRIES_LEN, JOURNALS_END, OPEN_ENTRY, entry_place,
+    taken_entry,
+};
 
 /// The lowest free entry.
 fn find_free<N: Nor>(nor: &mut N) -> Result<Option<u16>, NorError>
-    requires { 16384 ≤ length (N.state nor.old).memory }
+    requires { JOURNALS_END ≤ length (N.state nor.old).memory }
     ensures found { IfOk result (λ found. IsFreeAnswer (N.state nor.old).memory found) }
     ensures same { (N.state nor.new).memory ≡ (N.state nor.old).memory }
-    ensures ready { OnOk result (IsReady (N.state nor.old)) }
-    ensures kept { OnOk result (Kept (N.state nor.old) (N.state nor.new)) }
-    ensures fails { IfErr result (λ e. Fails e (N.state nor.old) (N.state nor.new)) }
-    ensures first { IfErr result (λ e. IsFirst e (N.state nor.old) (N.state nor.new)) }
+    ensures done { OnOk result (Succeeds (N.state nor.old) (N.state nor.new)) }
+    ensures fails { IfErr result (λ e. Refuses e (N.state nor.old) (N.state nor.new)) }
 {
-    let mut entries = [0; 2048];
+    let mut entries = [0; ENTRIES_LEN];
     nor.read(entry_place(0), &mut entries)?;
     Ok(lowest_free(&entries))
 }
 
-/// The lowest free entry, where there is one: known where the free entries are the last ones, else read.
+/// The lowest free entry, where there is one: known where the free entries are the last ones, else
+/// read.
 fn lowest_entry<N: Nor>(nor: &mut N, known: Known) -> Result<u16, NorError>
-    requires size { 16384 ≤ length (N.state nor.old).memory }
-    requires known { IsReady (N.state nor.old) → IsKnown known (N.state nor.old).memory }
+    requires size { JOURNALS_END ≤ length (N.state nor.old).memory }
+    requires known { IsNorReady (N.state nor.old) → IsKnown known (N.state nor.old).memory }
     requires some { 1 ≤ known.unused.free }
-    ensures within { IfOk result (λ entry. entry < 512) }
-    ensures free { IfOk result (λ entry. IsReady (N.state nor.old) → is_free_entry (N.state nor.old).memory entry ≡ true) }
-    ensures lowest { IfOk result (λ entry. IsReady (N.state nor.old) → (k : ℕ) → k < entry → is_free_entry (N.state nor.old).memory k ≡ false) }
+    ensures within { IfOk result (λ entry. entry < ENTRIES) }
+    ensures free { IfOk result (λ entry. IsNorReady (N.state nor.old)
+        → is_free_entry (N.state nor.old).memory entry ≡ true) }
+    ensures lowest { IfOk result (λ entry. IsNorReady (N.state nor.old) → (k : ℕ) → k < entry
+        → is_free_entry (N.state nor.old).memory k ≡ false) }
     ensures same { (N.state nor.new).memory ≡ (N.state nor.old).memory }
-    ensures idle { OnOk result (IsReady (N.state nor.old) ⊎ (N.state nor.new ≡ N.state nor.old)) }
-    ensures kept { OnOk result (Kept (N.state nor.old) (N.state nor.new)) }
-    ensures fails { IfErr result (λ e. Fails e (N.state nor.old) (N.state nor.new)) }
-    ensures first { IfErr result (λ e. IsFirst e (N.state nor.old) (N.state nor.new)) }
+    ensures idle { OnOk result (IsNorReady (N.state nor.old)
+        ⊎ (N.state nor.new ≡ N.state nor.old)) }
+    ensures kept { OnOk result (OnlyMemoryChanges (N.state nor.old) (N.state nor.new)) }
+    ensures fails { IfErr result (λ e. Refuses e (N.state nor.old) (N.state nor.new)) }
 {
     if known.packed {
-        return Ok(512u16.saturating_sub(known.unused.free));
+        return Ok(ENTRIES.saturating_sub(known.unused.free));
     }
     let found = find_free(nor)?;
     let Some(entry) = found else { unreachable!() };
@@ -52,53 +60,56 @@ fn lowest_entry<N: Nor>(nor: &mut N, known: Known) -> Result<u16, NorError>
 
 /// The lowest open entry.
 pub fn find_open<N: Nor>(nor: &mut N) -> Result<Option<OpenEntry>, NorError>
-    requires { 16384 ≤ length (N.state nor.old).memory }
+    requires { JOURNALS_END ≤ length (N.state nor.old).memory }
     ensures found { IfOk result (λ found. IsOpenAnswer (N.state nor.old).memory found) }
     ensures same { (N.state nor.new).memory ≡ (N.state nor.old).memory }
-    ensures kept { OnOk result (Kept (N.state nor.old) (N.state nor.new)) }
-    ensures fails { IfErr result (λ e. Fails e (N.state nor.old) (N.state nor.new)) }
+    ensures done { OnOk result (Succeeds (N.state nor.old) (N.state nor.new)) }
+    ensures fails { IfErr result (λ e. Refuses e (N.state nor.old) (N.state nor.new)) }
 {
-    let blocks = (nor.bytes() / 4_096) as u16;
-    let mut entries = [0; 2048];
+    let blocks = (nor.bytes() / BLOCK_LEN) as u16;
+    let mut entries = [0; ENTRIES_LEN];
     nor.read(entry_place(0), &mut entries)?;
     Ok(lowest_open(&entries, blocks))
 }
 
 /// Takes a free entry for a block.
 fn take_entry<N: Nor>(nor: &mut N, entry: u16, block: u16) -> Result<(), NorError>
-    requires size { 16384 ≤ length (N.state nor.old).memory }
-    requires restful { IsReady (N.state nor.old) → IsRestful (N.state nor.old).memory }
-    requires within { entry < 512 }
-    requires free { IsReady (N.state nor.old) → is_free_entry (N.state nor.old).memory entry ≡ true }
-    ensures ok { OnOk result (IsTaken entry block (N.state nor.old).memory (N.state nor.new).memory) }
-    ensures cut { IsErrOf result NorError.Cut → IsHealthy (N.state nor.old).memory → Stands (N.state nor.old).memory (N.state nor.new).memory }
+    requires size { JOURNALS_END ≤ length (N.state nor.old).memory }
+    requires restful { IsNorReady (N.state nor.old) → IsRestful (N.state nor.old).memory }
+    requires within { entry < ENTRIES }
+    requires free { IsNorReady (N.state nor.old)
+        → is_free_entry (N.state nor.old).memory entry ≡ true }
+    ensures ok { OnOk result (IsTaken entry block (N.state nor.old).memory
+        (N.state nor.new).memory) }
+    ensures cut { IsErrOf result NorError.Cut → IsHealthy (N.state nor.old).memory
+        → KeepsBlocks (N.state nor.old).memory (N.state nor.new).memory }
     ensures size { length (N.state nor.new).memory ≡ length (N.state nor.old).memory }
-    ensures ready { OnOk result (IsReady (N.state nor.old)) }
-    ensures kept { OnOk result (Kept (N.state nor.old) (N.state nor.new)) }
-    ensures fails { IfErr result (λ e. Fails e (N.state nor.old) (N.state nor.new)) }
-    ensures first { IfErr result (λ e. IsFirst e (N.state nor.old) (N.state nor.new)) }
+    ensures done { OnOk result (Succeeds (N.state nor.old) (N.state nor.new)) }
+    ensures fails { IfErr result (λ e. Refuses e (N.state nor.old) (N.state nor.new)) }
 {
     nor.program(entry_place(entry), &taken_entry(block))
 }
 
 /// Opens the lowest free entry for a dead block, which erases it for every reader.
 fn open_entry<N: Nor>(nor: &mut N, known: Known, block: u16) -> Result<u16, NorError>
-    requires size { 16384 ≤ length (N.state nor.old).memory }
-    requires restful { IsReady (N.state nor.old) → IsRestful (N.state nor.old).memory }
-    requires known { IsReady (N.state nor.old) → IsKnown known (N.state nor.old).memory }
+    requires size { JOURNALS_END ≤ length (N.state nor.old).memory }
+    requires restful { IsNorReady (N.state nor.old) → IsRestful (N.state nor.old).memory }
+    requires known { IsNorReady (N.state nor.old) → IsKnown known (N.state nor.old).memory }
     requires some { 1 ≤ known.unused.free }
     requires data { 4 ≤ block }
-    requires range { block < length (N.state nor.old).memory / 4096 }
+    requires range { block < length (N.state nor.old).memory / BLOCK_LEN }
     ensures opened { IfOk result (λ entry. IsOpened entry block (N.state nor.new).memory) }
-    ensures lowest { IfOk result (λ entry. (k : ℕ) → k < entry → is_free_entry (N.state nor.old).memory k ≡ false) }
-    ensures erased { OnOk result (WithErased block (N.state nor.old).memory (N.state nor.new).memory) }
-    ensures used { IfOk result (λ entry. IsUsed entry (N.state nor.old).memory (N.state nor.new).memory) }
-    ensures cut { IsErrOf result NorError.Cut → IsHealthy (N.state nor.old).memory → Interrupted block (N.state nor.old).memory (N.state nor.new).memory }
+    ensures lowest { IfOk result (λ entry. (k : ℕ) → k < entry
+        → is_free_entry (N.state nor.old).memory k ≡ false) }
+    ensures erased { OnOk result (WithErased block (N.state nor.old).memory
+        (N.state nor.new).memory) }
+    ensures used { IfOk result (λ entry.
+        IsUsed entry (N.state nor.old).memory (N.state nor.new).memory) }
+    ensures cut { IsErrOf result NorError.Cut → IsHealthy (N.state nor.old).memory
+        → EraseInterrupted block (N.state nor.old).memory (N.state nor.new).memory }
     ensures size { length (N.state nor.new).memory ≡ length (N.state nor.old).memory }
-    ensures ready { OnOk result (IsReady (N.state nor.old)) }
-    ensures kept { OnOk result (Kept (N.state nor.old) (N.state nor.new)) }
-    ensures fails { IfErr result (λ e. Fails e (N.state nor.old) (N.state nor.new)) }
-    ensures first { IfErr result (λ e. IsFirst e (N.state nor.old) (N.state nor.new)) }
+    ensures done { OnOk result (Succeeds (N.state nor.old) (N.state nor.new)) }
+    ensures fails { IfErr result (λ e. Refuses e (N.state nor.old) (N.state nor.new)) }
 {
     let entry = lowest_entry(nor, known)?;
     take_entry(nor, entry, block)?;
@@ -108,41 +119,41 @@ fn open_entry<N: Nor>(nor: &mut N, known: Known, block: u16) -> Result<u16, NorE
 
 /// Erases the block of an open entry, and closes the entry.
 pub fn finish_entry<N: Nor>(nor: &mut N, entry: u16, block: u16) -> Result<(), NorError>
-    requires size { 16384 ≤ length (N.state nor.old).memory }
+    requires size { JOURNALS_END ≤ length (N.state nor.old).memory }
     requires opened { IsOpened entry block (N.state nor.old).memory }
     requires data { 4 ≤ block }
-    requires range { block < length (N.state nor.old).memory / 4096 }
-    ensures settled { OnOk result (IsSettled (N.state nor.new).memory) }
+    requires range { block < length (N.state nor.old).memory / BLOCK_LEN }
     ensures blocks { OnOk result (SameBlocks (N.state nor.old).memory (N.state nor.new).memory) }
     ensures uses { OnOk result (KeepsUse (N.state nor.old).memory (N.state nor.new).memory) }
-    ensures cut { IsErrOf result NorError.Cut → Stands (N.state nor.old).memory (N.state nor.new).memory }
+    ensures cut { IsErrOf result NorError.Cut
+        → KeepsBlocks (N.state nor.old).memory (N.state nor.new).memory }
     ensures size { length (N.state nor.new).memory ≡ length (N.state nor.old).memory }
-    ensures kept { OnOk result (Kept (N.state nor.old) (N.state nor.new)) }
-    ensures fails { IfErr result (λ e. Fails e (N.state nor.old) (N.state nor.new)) }
+    ensures done { OnOk result (SucceedsSettled (N.state nor.old) (N.state nor.new)) }
+    ensures fails { IfErr result (λ e. Refuses e (N.state nor.old) (N.state nor.new)) }
 {
-    nor.erase_small(4_096 * block as u32)?;
+    nor.erase_small(BLOCK_LEN * block as u32)?;
     nor.program(entry_place(entry), &[CLOSED_ENTRY])?;
     Ok(())
 }
 
 /// Erases a dead block where no journal is tired.
 pub fn erase_with_entry<N: Nor>(nor: &mut N, known: &mut Known, block: u16) -> Result<(), NorError>
-    requires size { 16384 ≤ length (N.state nor.old).memory }
-    requires restful { IsReady (N.state nor.old) → IsRestful (N.state nor.old).memory }
-    requires known { IsReady (N.state nor.old) → IsKnown known.old (N.state nor.old).memory }
+    requires size { JOURNALS_END ≤ length (N.state nor.old).memory }
+    requires restful { IsNorReady (N.state nor.old) → IsRestful (N.state nor.old).memory }
+    requires known { IsNorReady (N.state nor.old) → IsKnown known.old (N.state nor.old).memory }
     requires some { 1 ≤ known.old.unused.free }
     requires data { 4 ≤ block }
-    requires range { block < length (N.state nor.old).memory / 4096 }
-    ensures settled { OnOk result (IsSettled (N.state nor.new).memory) }
-    ensures erased { OnOk result (WithErased block (N.state nor.old).memory (N.state nor.new).memory) }
-    ensures numbers { OnOk result (SameNumbers (once_used (unused (N.state nor.old).memory)) (unused (N.state nor.new).memory)) }
+    requires range { block < length (N.state nor.old).memory / BLOCK_LEN }
+    ensures erased { OnOk result (WithErased block (N.state nor.old).memory
+        (N.state nor.new).memory) }
+    ensures numbers { OnOk result (SameNumbers (once_used (unused (N.state nor.old).memory))
+        (unused (N.state nor.new).memory)) }
     ensures known { OnOk result (IsKnown known.new (N.state nor.new).memory) }
-    ensures cut { IsErrOf result NorError.Cut → IsHealthy (N.state nor.old).memory → Interrupted block (N.state nor.old).memory (N.state nor.new).memory }
+    ensures cut { IsErrOf result NorError.Cut → IsHealthy (N.state nor.old).memory
+        → EraseInterrupted block (N.state nor.old).memory (N.state nor.new).memory }
     ensures size { length (N.state nor.new).memory ≡ length (N.state nor.old).memory }
-    ensures ready { OnOk result (IsReady (N.state nor.old)) }
-    ensures kept { OnOk result (Kept (N.state nor.old) (N.state nor.new)) }
-    ensures fails { IfErr result (λ e. Fails e (N.state nor.old) (N.state nor.new)) }
-    ensures first { IfErr result (λ e. IsFirst e (N.state nor.old) (N.state nor.new)) }
+    ensures done { OnOk result (SucceedsSettled (N.state nor.old) (N.state nor.new)) }
+    ensures fails { IfErr result (λ e. Refuses e (N.state nor.old) (N.state nor.new)) }
 {
     let entry = open_entry(nor, *known, block)?;
     finish_entry(nor, entry, block)?;

@@ -1,3 +1,5 @@
+//! Why a recovery gave no journal.
+
 /// Why a recovery gave no journal. Source: own.
 #[derive(Clone, Copy, Debug, PartialEq, Eq, Drop)]
 pub enum RecoverError {

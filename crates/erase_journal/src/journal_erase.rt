@@ -1,26 +1,30 @@
-ghost use Rattle.std.specs.Prelude.{◌≡◌, ◌+◌, ◌<◌, ◌≤◌, ℕ, length, OnOk, IfErr};
+//! The erase of a journal by the votes of both others.
+
+ghost use Rattle.std.specs.Prelude.{◌≡◌, ◌≤◌, length, OnOk, IfErr};
 ghost use Rattle.std.specs.Result.{IsErrOf};
-ghost use Rattle.nor_driver.specs.State.{Kept, Fails};
+ghost use Rattle.nor_driver.specs.State.{Succeeds, Refuses};
 ghost use Rattle.erase_journal.specs.Votes.{once_erased};
-ghost use Rattle.erase_journal.specs.Journals.{unused, open_entries, IsSound};
+ghost use Rattle.erase_journal.specs.Journals.{unused, open_entries, AreJournalsSound};
 ghost use Rattle.erase_journal.specs.Blocks.{SameBlocks};
-ghost use Rattle.erase_journal.specs.Steps.{MayErase, IsStep, IsNext, Stands};
+ghost use Rattle.erase_journal.specs.Steps.{MayErase, IsStep, IsNext, KeepsBlocks};
 
 use crate::phase::Phase;
 use crate::votes::{close_vote, open_vote};
 use nor_driver::{Nor, NorError};
-use nor_layout::JournalId;
+use nor_layout::{JOURNALS_END, JournalId};
 
 /// Opens both votes for the erase of a journal.
 pub fn doom<N: Nor>(nor: &mut N, journal: JournalId) -> Result<(), NorError>
-    requires size { 16384 ≤ length (N.state nor.old).memory }
+    requires size { JOURNALS_END ≤ length (N.state nor.old).memory }
     requires may { MayErase journal (N.state nor.old).memory }
-    ensures ok { OnOk result (IsStep (once_erased journal (unused (N.state nor.old).memory)) (Phase.Doomed journal) (N.state nor.new).memory) }
+    ensures ok { OnOk result (IsStep (once_erased journal (unused (N.state nor.old).memory))
+        (Phase.Doomed journal) (N.state nor.new).memory) }
     ensures blocks { OnOk result (SameBlocks (N.state nor.old).memory (N.state nor.new).memory) }
-    ensures cut { IsErrOf result NorError.Cut → Stands (N.state nor.old).memory (N.state nor.new).memory }
+    ensures cut { IsErrOf result NorError.Cut
+        → KeepsBlocks (N.state nor.old).memory (N.state nor.new).memory }
     ensures size { length (N.state nor.new).memory ≡ length (N.state nor.old).memory }
-    ensures kept { OnOk result (Kept (N.state nor.old) (N.state nor.new)) }
-    ensures fails { IfErr result (λ e. Fails e (N.state nor.old) (N.state nor.new)) }
+    ensures done { OnOk result (Succeeds (N.state nor.old) (N.state nor.new)) }
+    ensures fails { IfErr result (λ e. Refuses e (N.state nor.old) (N.state nor.new)) }
 {
     let first = journal.first_votes();
     let second = journal.second_votes();
@@ -31,15 +35,17 @@ pub fn doom<N: Nor>(nor: &mut N, journal: JournalId) -> Result<(), NorError>
 
 /// Erases a journal for which both others vote, and closes the votes.
 pub fn renew<N: Nor>(nor: &mut N, journal: JournalId) -> Result<(), NorError>
-    requires size { 16384 ≤ length (N.state nor.old).memory }
-    requires doomed { IsSound (Phase.Doomed journal) (N.state nor.old).memory }
-    ensures ok { OnOk result (IsNext (Phase.Doomed journal) (N.state nor.old).memory Phase.Idle (N.state nor.new).memory) }
+    requires size { JOURNALS_END ≤ length (N.state nor.old).memory }
+    requires doomed { AreJournalsSound (Phase.Doomed journal) (N.state nor.old).memory }
+    ensures ok { OnOk result (IsNext (Phase.Doomed journal) (N.state nor.old).memory Phase.Idle
+        (N.state nor.new).memory) }
     ensures none { OnOk result (open_entries (N.state nor.new).memory ≡ 0) }
     ensures blocks { OnOk result (SameBlocks (N.state nor.old).memory (N.state nor.new).memory) }
-    ensures cut { IsErrOf result NorError.Cut → Stands (N.state nor.old).memory (N.state nor.new).memory }
+    ensures cut { IsErrOf result NorError.Cut
+        → KeepsBlocks (N.state nor.old).memory (N.state nor.new).memory }
     ensures size { length (N.state nor.new).memory ≡ length (N.state nor.old).memory }
-    ensures kept { OnOk result (Kept (N.state nor.old) (N.state nor.new)) }
-    ensures fails { IfErr result (λ e. Fails e (N.state nor.old) (N.state nor.new)) }
+    ensures done { OnOk result (Succeeds (N.state nor.old) (N.state nor.new)) }
+    ensures fails { IfErr result (λ e. Refuses e (N.state nor.old) (N.state nor.new)) }
 {
     let first = journal.first_votes();
     let second = journal.second_votes();

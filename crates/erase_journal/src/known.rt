@@ -1,8 +1,10 @@
-// What is known of the votes and entries without reading them.
+//! What is known of the votes and entries without reading them.
+
 ghost use Rattle.std.specs.Prelude.{◌≡◌, ◌+◌, ◌↔◌, IsTrue};
 ghost use Rattle.erase_journal.specs.Spending.{once_used};
 
 use crate::unused::Unused;
+use nor_layout::ENTRIES;
 
 /// What is known of the votes and entries of a memory.
 #[derive(Clone, Copy, Debug, PartialEq, Eq, Drop)]
@@ -16,13 +18,13 @@ pub struct Known {
 /// What is known once the lowest free entry, from 0 to 511, is used.
 pub fn once_used(known: Known, entry: u16) -> Known
     ensures unused { result.unused ≡ once_used known.unused }
-    ensures packed { IsTrue result.packed ↔ (entry + known.unused.free ≡ 512) }
+    ensures packed { IsTrue result.packed ↔ (entry + known.unused.free ≡ ENTRIES) }
 {
     Known {
         unused: Unused {
             free: known.unused.free.saturating_sub(1),
             ..known.unused
         },
-        packed: entry as u32 + known.unused.free as u32 == 512,
+        packed: entry as u32 + known.unused.free as u32 == ENTRIES as u32,
     }
 }

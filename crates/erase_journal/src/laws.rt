@@ -1,28 +1,33 @@
-// What follows from the definitions, with no work at run time. Source: own.
-ghost use Rattle.erase_journal.specs.Faults.{SoundHasNoFault};
-ghost use Rattle.erase_journal.specs.Laws.{BlocksHaveOneSize, SameBlocksMakeOneList, MaintenanceKeepsVotes, ErasedChipsAreSettled};
+//! What follows from the definitions, with no work at run time. Source: own.
 
-/// The journals are sound in one of the phases of an erase exactly where none of the cases of corrupt journals holds of them.
+ghost use Rattle.erase_journal.specs.Faults.{SoundSurveyHasNoFault};
+ghost use Rattle.erase_journal.specs.Laws.{BlocksHaveOneSize, SameBlocksMakeOneList};
+ghost use Rattle.erase_journal.specs.Laws.{MaintenanceKeepsVotes, ErasedChipsAreSettled};
+
+/// The journals are sound in one of the phases of an erase exactly where none of the cases of
+/// corrupt journals holds of them.
 pub fn sound_journals_have_no_fault()
-    ensures { SoundHasNoFault }
+    ensures { SoundSurveyHasNoFault }
 {}
 
-/// Each block that a memory stands for has 4,096 bytes.
+/// Each block that a memory represents has 4,096 bytes.
 pub fn blocks_have_one_size()
     ensures { BlocksHaveOneSize }
 {}
 
-/// Memories with the same data blocks, one by one, stand for the same list of data blocks.
+/// Memories with the same data blocks, one by one, represent the same list of data blocks.
 pub fn same_blocks_make_one_list()
     ensures { SameBlocksMakeOneList }
 {}
 
-/// An erase of the lowest-numbered tired journal leaves votes that last, so maintenance never takes the last vote of a region.
+/// An erase of the lowest-numbered tired journal leaves votes that last, so maintenance never takes
+/// the last vote of a region.
 pub fn maintenance_keeps_votes_that_last()
     ensures { MaintenanceKeepsVotes }
 {}
 
-/// A chip that is erased but for its superblock is healthy, no erase goes on in it, and each of its data blocks is erased.
+/// A chip that is erased but for its superblock is healthy, no erase goes on in it, and each of its
+/// data blocks is erased.
 pub fn erased_chips_are_settled()
     ensures { ErasedChipsAreSettled }
 {}

@@ -1,12 +1,14 @@
 //! An erase of a data block that a loss of power can't break: it is one step, before or after.
 //!
-//! Promised: a `Journal` reads, programs and erases the data blocks that a healthy memory stands for (`specs/Blocks.antt`).
-//! An erase that is cut leaves the block as it was or erased, and every other block, the superblock and the size as they
-//! were. `Journal::recover` takes a memory exactly where its journals are healthy (`specs/Journals.antt`), and then neither it
-//! nor a loss of power in it changes a block, however often it is cut. Corrupt journals are refused, and nothing is changed.
-//! Three journals are used: an entry in J0 says which block is being erased, and two journals vote for the erase of the third.
-//! After a call that was cut every other call answers Cut until `restore`, which turns the power on and recovers anew; nothing
-//! is said of the data blocks after a Slow. No call takes memory.
+//! Promised: a `Journal` reads, programs and erases the data blocks that a healthy memory
+//! represents (`specs/Blocks.antt`). An erase that is cut leaves the block as it was or erased, and
+//! every other block, the superblock and the size as they were. `Journal::recover` takes a memory
+//! exactly where its journals are healthy (`specs/Journals.antt`), and then neither it nor a loss
+//! of power in it changes a block, however often it is cut. Corrupt journals are refused, and
+//! nothing is changed. Three journals are used: an entry in J0 says which block is being erased,
+//! and two journals vote for the erase of the third. After a call that was cut every other call
+//! answers Cut until `restore`, which turns the power on and recovers anew; nothing is said of the
+//! data blocks after a Slow. No call takes memory.
 //!
 //! Left to the crate above: what the data blocks hold, the superblock, and when to restore.
 //!

@@ -1,33 +1,35 @@
+//! The erase of journals that are nearly full.
+
 ghost use Rattle.std.specs.Prelude.{◌≡◌, ◌≤◌, ◌⊎◌, length, OnOk, IfOk, IfErr};
 ghost use Rattle.std.specs.Result.{IsErrOf};
-ghost use Rattle.nor_driver.specs.State.{IsReady, Kept, Fails};
+ghost use Rattle.nor_driver.specs.State.{IsNorReady, OnlyMemoryChanges, Succeeds, Refuses};
 ghost use Rattle.erase_journal.specs.Journals.{IsSettled, IsHealthy, unused};
 ghost use Rattle.erase_journal.specs.Blocks.{SameBlocks};
 ghost use Rattle.erase_journal.specs.Known.{IsKnown};
 ghost use Rattle.erase_journal.specs.Spending.{Maintains};
-ghost use Rattle.erase_journal.specs.Steps.{IsRestful, IsFirst, Stands};
+ghost use Rattle.erase_journal.specs.Steps.{IsRestful, KeepsBlocks};
 
 use crate::journal_erase::{doom, renew};
 use crate::known::Known;
 use crate::read::read_survey;
 use crate::unused::{Unused, lowest_tired};
 use nor_driver::{Nor, NorError};
+use nor_layout::JOURNALS_END;
 
 /// Erases the lowest-numbered tired journal while there is one.
 fn maintain<N: Nor>(nor: &mut N) -> Result<Unused, NorError>
-    requires size { 16384 ≤ length (N.state nor.old).memory }
-    requires settled { IsReady (N.state nor.old) → IsSettled (N.state nor.old).memory }
+    requires size { JOURNALS_END ≤ length (N.state nor.old).memory }
+    requires settled { IsNorReady (N.state nor.old) → IsSettled (N.state nor.old).memory }
     ensures numbers { IfOk result (λ u. u ≡ unused (N.state nor.new).memory) }
     ensures restful { OnOk result (IsRestful (N.state nor.new).memory) }
-    ensures maintains { OnOk result (Maintains (unused (N.state nor.new).memory) (unused (N.state nor.old).memory)) }
+    ensures maintains { OnOk result (Maintains (unused (N.state nor.new).memory)
+        (unused (N.state nor.old).memory)) }
     ensures blocks { OnOk result (SameBlocks (N.state nor.old).memory (N.state nor.new).memory) }
     ensures cut { IsErrOf result NorError.Cut → IsHealthy (N.state nor.old).memory
-        → Stands (N.state nor.old).memory (N.state nor.new).memory }
-    ensures ready { OnOk result (IsReady (N.state nor.old)) }
+        → KeepsBlocks (N.state nor.old).memory (N.state nor.new).memory }
     ensures size { length (N.state nor.new).memory ≡ length (N.state nor.old).memory }
-    ensures kept { OnOk result (Kept (N.state nor.old) (N.state nor.new)) }
-    ensures fails { IfErr result (λ e. Fails e (N.state nor.old) (N.state nor.new)) }
-    ensures first { IfErr result (λ e. IsFirst e (N.state nor.old) (N.state nor.new)) }
+    ensures done { OnOk result (Succeeds (N.state nor.old) (N.state nor.new)) }
+    ensures fails { IfErr result (λ e. Refuses e (N.state nor.old) (N.state nor.new)) }
 {
     let mut survey = read_survey(nor)?;
     while let Some(journal) = lowest_tired(survey.unused()) {
@@ -38,23 +40,27 @@ fn maintain<N: Nor>(nor: &mut N) -> Result<Unused, NorError>
     Ok(survey.unused())
 }
 
-/// Maintenance where the numbers say that a journal is tired. Where none is, nothing is asked of the memory.
+/// Maintenance where the numbers say that a journal is tired. Where none is, nothing is asked of
+/// the memory.
 pub fn rest<N: Nor>(nor: &mut N, known: &mut Known) -> Result<(), NorError>
-    requires size { 16384 ≤ length (N.state nor.old).memory }
-    requires settled { IsReady (N.state nor.old) → IsSettled (N.state nor.old).memory }
-    requires known { IsReady (N.state nor.old) → IsKnown known.old (N.state nor.old).memory }
-    ensures restful { OnOk result (IsReady (N.state nor.new) → IsRestful (N.state nor.new).memory) }
-    ensures known { OnOk result (IsReady (N.state nor.new) → IsKnown known.new (N.state nor.new).memory) }
+    requires size { JOURNALS_END ≤ length (N.state nor.old).memory }
+    requires settled { IsNorReady (N.state nor.old) → IsSettled (N.state nor.old).memory }
+    requires known { IsNorReady (N.state nor.old) → IsKnown known.old (N.state nor.old).memory }
+    ensures restful { OnOk result (IsNorReady (N.state nor.new)
+        → IsRestful (N.state nor.new).memory) }
+    ensures known { OnOk result (IsNorReady (N.state nor.new)
+        → IsKnown known.new (N.state nor.new).memory) }
     ensures some { OnOk result (1 ≤ known.new.unused.free) }
-    ensures maintains { OnOk result (IsReady (N.state nor.old) → Maintains (unused (N.state nor.new).memory) (unused (N.state nor.old).memory)) }
+    ensures maintains { OnOk result (IsNorReady (N.state nor.old)
+        → Maintains (unused (N.state nor.new).memory) (unused (N.state nor.old).memory)) }
     ensures blocks { OnOk result (SameBlocks (N.state nor.old).memory (N.state nor.new).memory) }
     ensures cut { IsErrOf result NorError.Cut → IsHealthy (N.state nor.old).memory
-        → Stands (N.state nor.old).memory (N.state nor.new).memory }
-    ensures idle { OnOk result (IsReady (N.state nor.old) ⊎ (N.state nor.new ≡ N.state nor.old)) }
+        → KeepsBlocks (N.state nor.old).memory (N.state nor.new).memory }
+    ensures idle { OnOk result (IsNorReady (N.state nor.old)
+        ⊎ (N.state nor.new ≡ N.state nor.old)) }
     ensures size { length (N.state nor.new).memory ≡ length (N.state nor.old).memory }
-    ensures kept { OnOk result (Kept (N.state nor.old) (N.state nor.new)) }
-    ensures fails { IfErr result (λ e. Fails e (N.state nor.old) (N.state nor.new)) }
-    ensures first { IfErr result (λ e. IsFirst e (N.state nor.old) (N.state nor.new)) }
+    ensures kept { OnOk result (OnlyMemoryChanges (N.state nor.old) (N.state nor.new)) }
+    ensures fails { IfErr result (λ e. Refuses e (N.state nor.old) (N.state nor.new)) }
 {
     match lowest_tired(known.unused) {
         None => Ok(()),

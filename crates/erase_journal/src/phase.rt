@@ -1,3 +1,5 @@
+//! The phases of a journal's erase.
+
 use nor_layout::JournalId;
 
 /// Where the votes stand: which erase of a journal goes on, and how far it has come.

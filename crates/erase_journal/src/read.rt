@@ -1,12 +1,13 @@
+//! What is read of votes and entries.
+
 ghost use Rattle.std.specs.Prelude.{◌≡◌, ◌+◌, ◌≤◌, length, OnOk, IfOk, IfErr};
-ghost use Rattle.nor_driver.specs.State.{IsReady, Kept, Fails};
+ghost use Rattle.nor_driver.specs.State.{Succeeds, Refuses};
 ghost use Rattle.erase_journal.specs.Journals.{votes_at, survey_of, free_entries, open_entries};
-ghost use Rattle.erase_journal.specs.Steps.{IsFirst};
 
 use crate::scan::{VoteCounts, count_free, count_open, count_votes};
 use crate::survey::Survey;
 use nor_driver::{Nor, NorError};
-use nor_layout::{JournalId, entry_place};
+use nor_layout::{BLOCK_LEN, ENTRIES_LEN, JOURNALS_END, JournalId, REGION_LEN, entry_place};
 
 /// J0's entries: how many are free, and how many open.
 #[derive(Clone, Copy, Drop)]
@@ -17,30 +18,29 @@ struct EntryCounts {
 
 /// The votes of the region of 1,024 bytes at this place.
 fn read_votes<N: Nor>(nor: &mut N, region: u32) -> Result<VoteCounts, NorError>
-    requires { region + 1024 ≤ length (N.state nor.old).memory }
+    requires { region + REGION_LEN ≤ length (N.state nor.old).memory }
     ensures counts { IfOk result (λ votes. votes ≡ votes_at (N.state nor.old).memory region) }
     ensures same { (N.state nor.new).memory ≡ (N.state nor.old).memory }
-    ensures ready { OnOk result (IsReady (N.state nor.old)) }
-    ensures kept { OnOk result (Kept (N.state nor.old) (N.state nor.new)) }
-    ensures fails { IfErr result (λ e. Fails e (N.state nor.old) (N.state nor.new)) }
-    ensures first { IfErr result (λ e. IsFirst e (N.state nor.old) (N.state nor.new)) }
+    ensures done { OnOk result (Succeeds (N.state nor.old) (N.state nor.new)) }
+    ensures fails { IfErr result (λ e. Refuses e (N.state nor.old) (N.state nor.new)) }
 {
-    let mut votes = [0; 1024];
+    let mut votes = [0; REGION_LEN];
     nor.read(region, &mut votes)?;
     Ok(count_votes(&votes))
 }
 
 /// The counts of J0's entries.
 fn read_entries<N: Nor>(nor: &mut N) -> Result<EntryCounts, NorError>
-    requires { 16384 ≤ length (N.state nor.old).memory }
+    requires { JOURNALS_END ≤ length (N.state nor.old).memory }
     ensures free { IfOk result (λ entries. entries.free ≡ free_entries (N.state nor.old).memory) }
-    ensures opened { IfOk result (λ entries. entries.opened ≡ open_entries (N.state nor.old).memory) }
+    ensures opened { IfOk result (λ entries. entries.opened
+        ≡ open_entries (N.state nor.old).memory) }
     ensures same { (N.state nor.new).memory ≡ (N.state nor.old).memory }
-    ensures kept { OnOk result (Kept (N.state nor.old) (N.state nor.new)) }
-    ensures fails { IfErr result (λ e. Fails e (N.state nor.old) (N.state nor.new)) }
+    ensures done { OnOk result (Succeeds (N.state nor.old) (N.state nor.new)) }
+    ensures fails { IfErr result (λ e. Refuses e (N.state nor.old) (N.state nor.new)) }
 {
-    let blocks = (nor.bytes() / 4_096) as u16;
-    let mut entries = [0; 2048];
+    let blocks = (nor.bytes() / BLOCK_LEN) as u16;
+    let mut entries = [0; ENTRIES_LEN];
     nor.read(entry_place(0), &mut entries)?;
     Ok(EntryCounts {
         free: count_free(&entries),
@@ -50,13 +50,11 @@ fn read_entries<N: Nor>(nor: &mut N) -> Result<EntryCounts, NorError>
 
 /// All numbers of the journals.
 pub fn read_survey<N: Nor>(nor: &mut N) -> Result<Survey, NorError>
-    requires { 16384 ≤ length (N.state nor.old).memory }
+    requires { JOURNALS_END ≤ length (N.state nor.old).memory }
     ensures survey { IfOk result (λ survey. survey ≡ survey_of (N.state nor.old).memory) }
     ensures same { (N.state nor.new).memory ≡ (N.state nor.old).memory }
-    ensures ready { OnOk result (IsReady (N.state nor.old)) }
-    ensures kept { OnOk result (Kept (N.state nor.old) (N.state nor.new)) }
-    ensures fails { IfErr result (λ e. Fails e (N.state nor.old) (N.state nor.new)) }
-    ensures first { IfErr result (λ e. IsFirst e (N.state nor.old) (N.state nor.new)) }
+    ensures done { OnOk result (Succeeds (N.state nor.old) (N.state nor.new)) }
+    ensures fails { IfErr result (λ e. Refuses e (N.state nor.old) (N.state nor.new)) }
 {
     let j0_for_1 = read_votes(nor, JournalId::J1.second_votes())?;
     let j0_for_2 = read_votes(nor, JournalId::J2.first_votes())?;

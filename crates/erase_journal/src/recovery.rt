@@ -1,11 +1,16 @@
-ghost use Rattle.std.specs.Prelude.{◌↔◌, ◌⊎◌, None, false, IsSome, IfOk, IfSome, ◌≡◌, ◌+◌, ◌<◌, ◌≤◌, ℕ, length, OnOk, IfErr};
+//! The end of what a loss of power interrupted.
+
+ghost use Rattle.std.specs.Prelude.{◌↔◌, ◌⊎◌, None, false, IsSome, IfOk, IfSome, ◌≡◌, ◌≤◌, length};
+ghost use Rattle.std.specs.Prelude.{OnOk, IfErr};
 ghost use Rattle.std.specs.Result.{IsErrOf};
-ghost use Rattle.nor_driver.specs.State.{IsReady, Kept, Fails};
-ghost use Rattle.erase_journal.specs.Journals.{IsSound, IsSettled, IsHealthy, settled, unused};
+ghost use Rattle.nor_driver.specs.State.{Succeeds, Refuses};
+ghost use Rattle.erase_journal.specs.Journals.{AreJournalsSound, IsSettled, IsHealthy, settled};
+ghost use Rattle.erase_journal.specs.Journals.{unused};
 ghost use Rattle.erase_journal.specs.Blocks.{SameBlocks};
-ghost use Rattle.erase_journal.specs.Steps.{IsFirst, SameNumbers, Stands};
+ghost use Rattle.erase_journal.specs.Steps.{SucceedsSettled, SameNumbers, KeepsBlocks};
 ghost use Rattle.erase_journal.specs.Spending.{Continues};
-ghost use Rattle.erase_journal.specs.Recovery.{seen, Restored, RestoreCut, RestoreSlow, RestoreCorrupt};
+ghost use Rattle.erase_journal.specs.Recovery.{seen, Restored, RestoreCut, RestoreSlow};
+ghost use Rattle.erase_journal.specs.Recovery.{RestoreCorrupt};
 
 use crate::block_erase::{find_open, finish_entry};
 use crate::journal_erase::renew;
@@ -15,19 +20,21 @@ use crate::survey::{decide, once_settled};
 use crate::unused::Unused;
 use crate::votes::{close_vote, open_vote};
 use nor_driver::{Nor, NorError};
-use nor_layout::JournalId;
+use nor_layout::{JOURNALS_END, JournalId};
 
 /// Goes on with an erase for which only the next journal votes.
 fn resume_asked<N: Nor>(nor: &mut N, journal: JournalId) -> Result<(), NorError>
-    requires size { 16384 ≤ length (N.state nor.old).memory }
-    requires asked { IsSound (Phase.Asked journal) (N.state nor.old).memory }
-    ensures settled { OnOk result (IsSettled (N.state nor.new).memory) }
-    ensures numbers { OnOk result (SameNumbers (settled (Phase.Asked journal) (unused (N.state nor.old).memory)) (unused (N.state nor.new).memory)) }
+    requires size { JOURNALS_END ≤ length (N.state nor.old).memory }
+    requires asked { AreJournalsSound (Phase.Asked journal) (N.state nor.old).memory }
+    ensures numbers { OnOk result (SameNumbers
+        (settled (Phase.Asked journal) (unused (N.state nor.old).memory))
+        (unused (N.state nor.new).memory)) }
     ensures blocks { OnOk result (SameBlocks (N.state nor.old).memory (N.state nor.new).memory) }
-    ensures cut { IsErrOf result NorError.Cut → Stands (N.state nor.old).memory (N.state nor.new).memory }
+    ensures cut { IsErrOf result NorError.Cut
+        → KeepsBlocks (N.state nor.old).memory (N.state nor.new).memory }
     ensures size { length (N.state nor.new).memory ≡ length (N.state nor.old).memory }
-    ensures kept { OnOk result (Kept (N.state nor.old) (N.state nor.new)) }
-    ensures fails { IfErr result (λ e. Fails e (N.state nor.old) (N.state nor.new)) }
+    ensures done { OnOk result (SucceedsSettled (N.state nor.old) (N.state nor.new)) }
+    ensures fails { IfErr result (λ e. Refuses e (N.state nor.old) (N.state nor.new)) }
 {
     open_vote(nor, journal.second_votes())?;
     renew(nor, journal)?;
@@ -36,15 +43,17 @@ fn resume_asked<N: Nor>(nor: &mut N, journal: JournalId) -> Result<(), NorError>
 
 /// Erases a journal for which both others vote again, and closes the votes.
 fn resume_doomed<N: Nor>(nor: &mut N, journal: JournalId) -> Result<(), NorError>
-    requires size { 16384 ≤ length (N.state nor.old).memory }
-    requires doomed { IsSound (Phase.Doomed journal) (N.state nor.old).memory }
-    ensures settled { OnOk result (IsSettled (N.state nor.new).memory) }
-    ensures numbers { OnOk result (SameNumbers (settled (Phase.Doomed journal) (unused (N.state nor.old).memory)) (unused (N.state nor.new).memory)) }
+    requires size { JOURNALS_END ≤ length (N.state nor.old).memory }
+    requires doomed { AreJournalsSound (Phase.Doomed journal) (N.state nor.old).memory }
+    ensures numbers { OnOk result (SameNumbers
+        (settled (Phase.Doomed journal) (unused (N.state nor.old).memory))
+        (unused (N.state nor.new).memory)) }
     ensures blocks { OnOk result (SameBlocks (N.state nor.old).memory (N.state nor.new).memory) }
-    ensures cut { IsErrOf result NorError.Cut → Stands (N.state nor.old).memory (N.state nor.new).memory }
+    ensures cut { IsErrOf result NorError.Cut
+        → KeepsBlocks (N.state nor.old).memory (N.state nor.new).memory }
     ensures size { length (N.state nor.new).memory ≡ length (N.state nor.old).memory }
-    ensures kept { OnOk result (Kept (N.state nor.old) (N.state nor.new)) }
-    ensures fails { IfErr result (λ e. Fails e (N.state nor.old) (N.state nor.new)) }
+    ensures done { OnOk result (SucceedsSettled (N.state nor.old) (N.state nor.new)) }
+    ensures fails { IfErr result (λ e. Refuses e (N.state nor.old) (N.state nor.new)) }
 {
     renew(nor, journal)?;
     Ok(())
@@ -52,15 +61,17 @@ fn resume_doomed<N: Nor>(nor: &mut N, journal: JournalId) -> Result<(), NorError
 
 /// Closes the last vote of an erase that is done.
 fn resume_closing<N: Nor>(nor: &mut N, journal: JournalId) -> Result<(), NorError>
-    requires size { 16384 ≤ length (N.state nor.old).memory }
-    requires closing { IsSound (Phase.Closing journal) (N.state nor.old).memory }
-    ensures settled { OnOk result (IsSettled (N.state nor.new).memory) }
-    ensures numbers { OnOk result (SameNumbers (settled (Phase.Closing journal) (unused (N.state nor.old).memory)) (unused (N.state nor.new).memory)) }
+    requires size { JOURNALS_END ≤ length (N.state nor.old).memory }
+    requires closing { AreJournalsSound (Phase.Closing journal) (N.state nor.old).memory }
+    ensures numbers { OnOk result (SameNumbers
+        (settled (Phase.Closing journal) (unused (N.state nor.old).memory))
+        (unused (N.state nor.new).memory)) }
     ensures blocks { OnOk result (SameBlocks (N.state nor.old).memory (N.state nor.new).memory) }
-    ensures cut { IsErrOf result NorError.Cut → Stands (N.state nor.old).memory (N.state nor.new).memory }
+    ensures cut { IsErrOf result NorError.Cut
+        → KeepsBlocks (N.state nor.old).memory (N.state nor.new).memory }
     ensures size { length (N.state nor.new).memory ≡ length (N.state nor.old).memory }
-    ensures kept { OnOk result (Kept (N.state nor.old) (N.state nor.new)) }
-    ensures fails { IfErr result (λ e. Fails e (N.state nor.old) (N.state nor.new)) }
+    ensures done { OnOk result (SucceedsSettled (N.state nor.old) (N.state nor.new)) }
+    ensures fails { IfErr result (λ e. Refuses e (N.state nor.old) (N.state nor.new)) }
 {
     close_vote(nor, journal.second_votes())?;
     Ok(())
@@ -68,15 +79,16 @@ fn resume_closing<N: Nor>(nor: &mut N, journal: JournalId) -> Result<(), NorErro
 
 /// Erases the block of the open entry again, if there is one, and closes the entry.
 fn resume_idle<N: Nor>(nor: &mut N) -> Result<(), NorError>
-    requires size { 16384 ≤ length (N.state nor.old).memory }
-    requires idle { IsSound Phase.Idle (N.state nor.old).memory }
-    ensures settled { OnOk result (IsSettled (N.state nor.new).memory) }
-    ensures numbers { OnOk result (SameNumbers (settled Phase.Idle (unused (N.state nor.old).memory)) (unused (N.state nor.new).memory)) }
+    requires size { JOURNALS_END ≤ length (N.state nor.old).memory }
+    requires idle { AreJournalsSound Phase.Idle (N.state nor.old).memory }
+    ensures numbers { OnOk result (SameNumbers
+        (settled Phase.Idle (unused (N.state nor.old).memory)) (unused (N.state nor.new).memory)) }
     ensures blocks { OnOk result (SameBlocks (N.state nor.old).memory (N.state nor.new).memory) }
-    ensures cut { IsErrOf result NorError.Cut → Stands (N.state nor.old).memory (N.state nor.new).memory }
+    ensures cut { IsErrOf result NorError.Cut
+        → KeepsBlocks (N.state nor.old).memory (N.state nor.new).memory }
     ensures size { length (N.state nor.new).memory ≡ length (N.state nor.old).memory }
-    ensures kept { OnOk result (Kept (N.state nor.old) (N.state nor.new)) }
-    ensures fails { IfErr result (λ e. Fails e (N.state nor.old) (N.state nor.new)) }
+    ensures done { OnOk result (SucceedsSettled (N.state nor.old) (N.state nor.new)) }
+    ensures fails { IfErr result (λ e. Refuses e (N.state nor.old) (N.state nor.new)) }
 {
     let found = find_open(nor)?;
     match found {
@@ -87,15 +99,16 @@ fn resume_idle<N: Nor>(nor: &mut N) -> Result<(), NorError>
 
 /// Goes on with what a loss of power interrupted in this phase.
 fn resume<N: Nor>(nor: &mut N, phase: Phase) -> Result<(), NorError>
-    requires size { 16384 ≤ length (N.state nor.old).memory }
-    requires sound { IsSound phase (N.state nor.old).memory }
-    ensures settled { OnOk result (IsSettled (N.state nor.new).memory) }
-    ensures numbers { OnOk result (SameNumbers (settled phase (unused (N.state nor.old).memory)) (unused (N.state nor.new).memory)) }
+    requires size { JOURNALS_END ≤ length (N.state nor.old).memory }
+    requires sound { AreJournalsSound phase (N.state nor.old).memory }
+    ensures numbers { OnOk result (SameNumbers (settled phase (unused (N.state nor.old).memory))
+        (unused (N.state nor.new).memory)) }
     ensures blocks { OnOk result (SameBlocks (N.state nor.old).memory (N.state nor.new).memory) }
-    ensures cut { IsErrOf result NorError.Cut → Stands (N.state nor.old).memory (N.state nor.new).memory }
+    ensures cut { IsErrOf result NorError.Cut
+        → KeepsBlocks (N.state nor.old).memory (N.state nor.new).memory }
     ensures size { length (N.state nor.new).memory ≡ length (N.state nor.old).memory }
-    ensures kept { OnOk result (Kept (N.state nor.old) (N.state nor.new)) }
-    ensures fails { IfErr result (λ e. Fails e (N.state nor.old) (N.state nor.new)) }
+    ensures done { OnOk result (SucceedsSettled (N.state nor.old) (N.state nor.new)) }
+    ensures fails { IfErr result (λ e. Refuses e (N.state nor.old) (N.state nor.new)) }
 {
     match phase {
         Phase::Idle => resume_idle(nor),
@@ -105,23 +118,27 @@ fn resume<N: Nor>(nor: &mut N, phase: Phase) -> Result<(), NorError>
     }
 }
 
-/// Reads the journals and settles them, and answers their numbers then. `None` where they are corrupt, and then nothing has
-/// changed.
+/// Reads the journals and settles them, and answers their numbers then. `None` where they are
+/// corrupt, and then nothing has changed.
 pub fn settle<N: Nor>(nor: &mut N) -> Result<Option<Unused>, NorError>
-    requires size { 16384 ≤ length (N.state nor.old).memory }
+    requires size { JOURNALS_END ≤ length (N.state nor.old).memory }
     ensures healthy { IfOk result (λ found. IsSome found ↔ IsHealthy (N.state nor.old).memory) }
-    ensures settled { IfOk result (λ found. IfSome found (λ u. IsSettled (N.state nor.new).memory)) }
-    ensures numbers { IfOk result (λ found. IfSome found (λ u. SameNumbers u (unused (N.state nor.new).memory))) }
-    ensures continues { IfOk result (λ found. IfSome found (λ u. Continues (N.state nor.old).memory (N.state nor.new).memory)) }
-    ensures blocks { IfOk result (λ found. IfSome found (λ u. SameBlocks (N.state nor.old).memory (N.state nor.new).memory)) }
-    ensures corrupt { IfOk result (λ found. found ≡ None → (N.state nor.new).memory ≡ (N.state nor.old).memory) }
-    ensures cut { IsErrOf result NorError.Cut → ((N.state nor.new).memory ≡ (N.state nor.old).memory)
-        ⊎ Stands (N.state nor.old).memory (N.state nor.new).memory }
-    ensures ready { OnOk result (IsReady (N.state nor.old)) }
+    ensures settled { IfOk result (λ found.
+        IfSome found (λ u. IsSettled (N.state nor.new).memory)) }
+    ensures numbers { IfOk result (λ found.
+        IfSome found (λ u. SameNumbers u (unused (N.state nor.new).memory))) }
+    ensures continues { IfOk result (λ found.
+        IfSome found (λ u. Continues (N.state nor.old).memory (N.state nor.new).memory)) }
+    ensures blocks { IfOk result (λ found.
+        IfSome found (λ u. SameBlocks (N.state nor.old).memory (N.state nor.new).memory)) }
+    ensures corrupt { IfOk result (λ found. found ≡ None
+        → (N.state nor.new).memory ≡ (N.state nor.old).memory) }
+    ensures cut { IsErrOf result NorError.Cut
+        → ((N.state nor.new).memory ≡ (N.state nor.old).memory)
+        ⊎ KeepsBlocks (N.state nor.old).memory (N.state nor.new).memory }
     ensures size { length (N.state nor.new).memory ≡ length (N.state nor.old).memory }
-    ensures kept { OnOk result (Kept (N.state nor.old) (N.state nor.new)) }
-    ensures fails { IfErr result (λ e. Fails e (N.state nor.old) (N.state nor.new)) }
-    ensures first { IfErr result (λ e. IsFirst e (N.state nor.old) (N.state nor.new)) }
+    ensures done { OnOk result (Succeeds (N.state nor.old) (N.state nor.new)) }
+    ensures fails { IfErr result (λ e. Refuses e (N.state nor.old) (N.state nor.new)) }
 {
     let survey = read_survey(nor)?;
     let Some(phase) = decide(survey) else {
@@ -131,13 +148,16 @@ pub fn settle<N: Nor>(nor: &mut N) -> Result<Option<Unused>, NorError>
     Ok(Some(once_settled(survey.unused(), phase)))
 }
 
-/// Turns the power off and on again, reads the journals and settles them, and answers their numbers then. `None` where they
-/// are corrupt.
+/// Turns the power off and on again, reads the journals and settles them, and answers their numbers
+/// then. `None` where they are corrupt.
 pub fn restart<N: Nor>(nor: &mut N) -> Result<Option<Unused>, NorError>
-    requires size { 16384 ≤ length (N.state nor.old).memory }
-    ensures sound { IfOk result (λ found. IfSome found (λ u. Restored (N.state nor.old) (N.state nor.new))) }
-    ensures numbers { IfOk result (λ found. IfSome found (λ u. SameNumbers u (unused (N.state nor.new).memory))) }
-    ensures corrupt { IfOk result (λ found. found ≡ None → RestoreCorrupt (N.state nor.old) (seen false (N.state nor.new))) }
+    requires size { JOURNALS_END ≤ length (N.state nor.old).memory }
+    ensures sound { IfOk result (λ found.
+        IfSome found (λ u. Restored (N.state nor.old) (N.state nor.new))) }
+    ensures numbers { IfOk result (λ found.
+        IfSome found (λ u. SameNumbers u (unused (N.state nor.new).memory))) }
+    ensures corrupt { IfOk result (λ found. found ≡ None
+        → RestoreCorrupt (N.state nor.old) (seen false (N.state nor.new))) }
     ensures cut { IsErrOf result NorError.Cut → RestoreCut (N.state nor.old) (N.state nor.new) }
     ensures slow { IsErrOf result NorError.Slow → RestoreSlow (N.state nor.old) (N.state nor.new) }
 {

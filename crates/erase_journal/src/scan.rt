@@ -1,8 +1,12 @@
-ghost use Rattle.std.specs.Prelude.{◌≡◌, ◌+◌, ◌<◌, ◌≤◌, ◌==◌, ◌||◌, not, true, false, ℕ, List, length, slice_index, MatchOption};
-ghost use Rattle.erase_journal.specs.Scans.{count_equal, count_wrong, free_in, is_free_in, open_in, is_open_in, entry_in};
+//! The votes and entries in bytes that were read.
+
+ghost use Rattle.std.specs.Prelude.{◌≡◌, ◌+◌, ◌<◌, ◌≤◌, ◌==◌, ◌||◌, not, true, false, ℕ, List};
+ghost use Rattle.std.specs.Prelude.{length, slice_index, MatchOption};
+ghost use Rattle.erase_journal.specs.Scans.{count_equal, count_wrong, free_in, is_free_in, open_in};
+ghost use Rattle.erase_journal.specs.Scans.{is_open_in, entry_in};
 ghost use Rattle.nor_layout.specs.Entries.{block_in};
 
-use nor_layout::{Entry, Vote, entry_state, vote_state};
+use nor_layout::{ENTRIES, ENTRIES_LEN, Entry, REGION_LEN, Vote, entry_state, vote_state};
 
 /// How many votes of a region are unused, open, and no vote at all.
 #[derive(Clone, Copy, Debug, PartialEq, Eq, Drop)]
@@ -22,7 +26,7 @@ pub struct OpenEntry {
 /// Counts the votes of a region.
 #[tactic(auto, using(crate::proofs::Scans::scan_steps))]
 pub fn count_votes(bytes: &[u8]) -> VoteCounts
-    requires { length bytes.now ≤ 1024 }
+    requires { length bytes.now ≤ REGION_LEN }
     ensures unused { result.unused ≡ count_equal bytes.now 255 (length bytes.now) }
     ensures opened { result.opened ≡ count_equal bytes.now 254 (length bytes.now) }
     ensures wrong { result.wrong ≡ count_wrong bytes.now (length bytes.now) }
@@ -48,7 +52,7 @@ pub fn count_votes(bytes: &[u8]) -> VoteCounts
 /// The lowest place of a byte.
 #[tactic(auto, using(crate::proofs::Scans::scan_steps))]
 pub fn lowest(bytes: &[u8], value: u8) -> Option<u32>
-    requires { length bytes.now ≤ 1024 }
+    requires { length bytes.now ≤ REGION_LEN }
     ensures found { MatchOption result (count_equal bytes.now value (length bytes.now) ≡ 0)
         (λ at. (at < length bytes.now) × (slice_index bytes.now at ≡ value)) }
     ensures first { MatchOption result (Unit {0}) (λ at. count_equal bytes.now value at ≡ 0) }
@@ -66,11 +70,12 @@ pub fn lowest(bytes: &[u8], value: u8) -> Option<u32>
 /// The lowest free entry of a buffer.
 #[tactic(auto, using(crate::proofs::Scans::scan_steps))]
 pub fn lowest_free(bytes: &[u8]) -> Option<u16>
-    requires { length bytes.now ≡ 2048 }
-    ensures found { MatchOption result (free_in bytes.now 512 ≡ 0) (λ i. (i < 512) × (is_free_in bytes.now i ≡ true)) }
+    requires { length bytes.now ≡ ENTRIES_LEN }
+    ensures found { MatchOption result (free_in bytes.now ENTRIES ≡ 0)
+        (λ i. (i < ENTRIES) × (is_free_in bytes.now i ≡ true)) }
     ensures first { MatchOption result (Unit {0}) (λ i. free_in bytes.now i ≡ 0) }
 {
-    for i in 0..512u16 {
+    for i in 0..ENTRIES {
         let at = 4 * i as usize;
         if bytes[at] == 0xff
             && bytes[at + 1] == 0xff
@@ -86,11 +91,11 @@ pub fn lowest_free(bytes: &[u8]) -> Option<u16>
 /// How many entries of a buffer are free.
 #[tactic(auto, using(crate::proofs::Scans::scan_steps))]
 pub fn count_free(bytes: &[u8]) -> u16
-    requires { length bytes.now ≡ 2048 }
-    ensures { result ≡ free_in bytes.now 512 }
+    requires { length bytes.now ≡ ENTRIES_LEN }
+    ensures { result ≡ free_in bytes.now ENTRIES }
 {
     let mut free = 0;
-    for i in 0..512u16 {
+    for i in 0..ENTRIES {
         let at = 4 * i as usize;
         if bytes[at] == 0xff
             && bytes[at + 1] == 0xff
@@ -106,10 +111,12 @@ pub fn count_free(bytes: &[u8]) -> u16
 /// The block of an entry of a buffer that is open, on a chip of so many blocks.
 #[tactic(auto, using(crate::proofs::Scans::scan_steps))]
 fn open_block(bytes: &[u8], blocks: u16, i: u16) -> Option<u16>
-    requires size { length bytes.now ≡ 2048 }
-    requires within { i < 512 }
-    ensures none { MatchOption result (is_open_in bytes.now blocks i ≡ false) (λ block. is_open_in bytes.now blocks i ≡ true) }
-    ensures block { MatchOption result (Unit {0}) (λ block. block ≡ block_in (entry_in bytes.now i)) }
+    requires size { length bytes.now ≡ ENTRIES_LEN }
+    requires within { i < ENTRIES }
+    ensures none { MatchOption result (is_open_in bytes.now blocks i ≡ false)
+        (λ block. is_open_in bytes.now blocks i ≡ true) }
+    ensures block { MatchOption result (Unit {0})
+        (λ block. block ≡ block_in (entry_in bytes.now i)) }
 {
     let at = 4 * i as usize;
     match entry_state(
@@ -126,12 +133,13 @@ fn open_block(bytes: &[u8], blocks: u16, i: u16) -> Option<u16>
 /// The lowest open entry of a buffer, on a chip of so many blocks.
 #[tactic(auto, using(crate::proofs::Scans::scan_steps))]
 pub fn lowest_open(bytes: &[u8], blocks: u16) -> Option<OpenEntry>
-    requires { length bytes.now ≡ 2048 }
-    ensures found { MatchOption result (open_in bytes.now blocks 512 ≡ 0)
-        (λ o. (o.entry < 512) × (is_open_in bytes.now blocks o.entry ≡ true) × (block_in (entry_in bytes.now o.entry) ≡ o.block)) }
+    requires { length bytes.now ≡ ENTRIES_LEN }
+    ensures found { MatchOption result (open_in bytes.now blocks ENTRIES ≡ 0)
+        (λ o. (o.entry < ENTRIES) × (is_open_in bytes.now blocks o.entry ≡ true)
+        × (block_in (entry_in bytes.now o.entry) ≡ o.block)) }
     ensures first { MatchOption result (Unit {0}) (λ o. open_in bytes.now blocks o.entry ≡ 0) }
 {
-    for entry in 0..512u16 {
+    for entry in 0..ENTRIES {
         if let Some(block) = open_block(bytes, blocks, entry) {
             return Some(OpenEntry { entry, block });
         }
@@ -142,11 +150,11 @@ pub fn lowest_open(bytes: &[u8], blocks: u16) -> Option<OpenEntry>
 /// How many entries of a buffer are open, on a chip of so many blocks.
 #[tactic(auto, using(crate::proofs::Scans::scan_steps))]
 pub fn count_open(bytes: &[u8], blocks: u16) -> u16
-    requires { length bytes.now ≡ 2048 }
-    ensures { result ≡ open_in bytes.now blocks 512 }
+    requires { length bytes.now ≡ ENTRIES_LEN }
+    ensures { result ≡ open_in bytes.now blocks ENTRIES }
 {
     let mut opened = 0;
-    for entry in 0..512u16 {
+    for entry in 0..ENTRIES {
         if open_block(bytes, blocks, entry).is_some() {
             opened += 1;
         }

@@ -1,14 +1,18 @@
+//! All numbers of the journals, and what they say of the phase.
+
 ghost use Rattle.std.specs.Prelude.{◌≡◌, ◌↔◌, ◌≤◌, IsTrue, MatchOption};
 ghost use Rattle.nor_layout.specs.Journals.{next};
 ghost use Rattle.erase_journal.specs.declared.phase.Phase.{Phase};
-ghost use Rattle.erase_journal.specs.Journals.{Holds, IsQuiet, IsInPhase, IsSoundSurvey, unused_of, settled, first, second};
+ghost use Rattle.erase_journal.specs.Journals.{HoldsVotes, HasNoOpenVote, IsInPhase, IsSoundSurvey};
+ghost use Rattle.erase_journal.specs.Journals.{unused_of, settled, first, second};
 
 use crate::phase::Phase;
 use crate::scan::VoteCounts;
 use crate::unused::{Unused, lasts, once_renewed, once_second_spent};
 use nor_layout::JournalId;
 
-/// What is read of the journals: the votes of each for the erase of each other, and the free and open entries of J0.
+/// What is read of the journals: the votes of each for the erase of each other, and the free and
+/// open entries of J0.
 #[derive(Clone, Copy, Debug, PartialEq, Eq, Drop)]
 pub struct Survey {
     pub j0_for_1: VoteCounts,
@@ -62,14 +66,14 @@ impl Survey {
 
 /// Whether a region has so many open votes, and none that is wrong.
 fn holds(votes: VoteCounts, opened: u16) -> bool
-    ensures { IsTrue result ↔ Holds votes opened }
+    ensures { IsTrue result ↔ HoldsVotes votes opened }
 {
     votes.opened == opened && votes.wrong == 0
 }
 
 /// Whether no vote for the erase of a journal is open.
 fn is_quiet(survey: Survey, journal: JournalId) -> bool
-    ensures { IsTrue result ↔ IsQuiet survey journal }
+    ensures { IsTrue result ↔ HasNoOpenVote survey journal }
 {
     holds(survey.first(journal), 0) && holds(survey.second(journal), 0)
 }
@@ -85,7 +89,8 @@ fn is_idle(survey: Survey) -> bool
 
 /// Whether no vote for the erase of the other two journals is open, and no entry.
 fn are_others_quiet(survey: Survey, journal: JournalId) -> bool
-    ensures { IsTrue result ↔ IsQuiet survey (next journal) × IsQuiet survey (next (next journal)) × (survey.opened ≡ 0) }
+    ensures { IsTrue result ↔ HasNoOpenVote survey (next journal)
+        × HasNoOpenVote survey (next (next journal)) × (survey.opened ≡ 0) }
 {
     survey.opened == 0
         && match journal {
@@ -176,7 +181,8 @@ fn fitting(survey: Survey, journal: JournalId) -> Option<Phase>
 
 /// The phase in which the journals are sound; `None` where they are corrupt.
 pub fn decide(survey: Survey) -> Option<Phase>
-    ensures { MatchOption result ((phase : Phase) → IsSoundSurvey phase survey → ⊥) (λ phase. IsSoundSurvey phase survey) }
+    ensures { MatchOption result ((phase : Phase) → IsSoundSurvey phase survey → ⊥)
+        (λ phase. IsSoundSurvey phase survey) }
 {
     if fits(survey, Phase::Idle) {
         return Some(Phase::Idle);

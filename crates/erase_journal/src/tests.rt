@@ -1,4 +1,5 @@
-// Numbers and bytes worked out by hand from the layout and the rules of maintenance and recovery.
+//! Numbers and bytes worked out by hand from the layout and the rules of maintenance and recovery.
+
 use crate::phase::Phase;
 use crate::scan::{
     OpenEntry, VoteCounts, count_free, count_open, count_votes, lowest, lowest_free, lowest_open,

@@ -1,7 +1,10 @@
-ghost use Rattle.std.specs.Prelude.{◌≡◌, ◌↔◌, IsTrue};
-ghost use Rattle.erase_journal.specs.Votes.{Last, IsRested, IsTiredAnswer, HasSome, Needs0, Needs1, renewed, second_spent};
+//! How many votes and entries are left.
 
-use nor_layout::JournalId;
+ghost use Rattle.std.specs.Prelude.{◌≡◌, ◌↔◌, IsTrue};
+ghost use Rattle.erase_journal.specs.Votes.{Last, IsRested, IsTiredAnswer, HasSome, Needs0, Needs1};
+ghost use Rattle.erase_journal.specs.Votes.{renewed, second_spent};
+
+use nor_layout::{ENTRIES, JournalId, VOTES};
 
 /// The unused votes of each journal for the erase of each other, and J0's free entries.
 #[derive(Clone, Copy, Debug, PartialEq, Eq, Drop)]
@@ -82,19 +85,19 @@ pub fn once_renewed(u: Unused, journal: JournalId) -> Unused
 {
     match journal {
         JournalId::J0 => Unused {
-            j0_for_1: 1024,
-            j0_for_2: 1024,
-            free: 512,
+            j0_for_1: VOTES,
+            j0_for_2: VOTES,
+            free: ENTRIES,
             ..u
         },
         JournalId::J1 => Unused {
-            j1_for_0: 1024,
-            j1_for_2: 1024,
+            j1_for_0: VOTES,
+            j1_for_2: VOTES,
             ..u
         },
         JournalId::J2 => Unused {
-            j2_for_0: 1024,
-            j2_for_1: 1024,
+            j2_for_0: VOTES,
+            j2_for_1: VOTES,
             ..u
         },
     }

@@ -1,6 +1,8 @@
-ghost use Rattle.std.specs.Prelude.{◌≡◌, ◌+◌, ◌<◌, ◌≤◌, ◌^◌, ℕ, length, OnOk, IfOk, IfErr};
+//! The lowest vote of a region, opened and closed.
+
+ghost use Rattle.std.specs.Prelude.{◌≡◌, ◌+◌, ◌<◌, ◌≤◌, ◌^◌, length, OnOk, IfOk, IfErr};
 ghost use Rattle.std.specs.Result.{IsErrOf};
-ghost use Rattle.nor_driver.specs.State.{Kept, Fails};
+ghost use Rattle.nor_driver.specs.State.{Succeeds, Refuses};
 ghost use Rattle.nor_layout.specs.Votes.{byte_of};
 ghost use Rattle.erase_journal.specs.Journals.{votes_at};
 ghost use Rattle.erase_journal.specs.Scans.{IsFound};
@@ -8,31 +10,34 @@ ghost use Rattle.erase_journal.specs.Steps.{OneChanged, PerhapsChanged};
 
 use crate::scan::lowest;
 use nor_driver::{Nor, NorError};
-use nor_layout::{Vote, vote_byte};
+use nor_layout::{REGION_LEN, Vote, vote_byte};
 
 /// The lowest place in a region of a vote of this kind.
 fn find_vote<N: Nor>(nor: &mut N, region: u32, vote: Vote) -> Result<Option<u32>, NorError>
-    requires { region + 1024 ≤ length (N.state nor.old).memory }
-    ensures found { IfOk result (λ found. IsFound (N.state nor.old).memory region (byte_of vote) found) }
+    requires { region + REGION_LEN ≤ length (N.state nor.old).memory }
+    ensures found { IfOk result (λ found.
+        IsFound (N.state nor.old).memory region (byte_of vote) found) }
     ensures same { (N.state nor.new).memory ≡ (N.state nor.old).memory }
-    ensures kept { OnOk result (Kept (N.state nor.old) (N.state nor.new)) }
-    ensures fails { IfErr result (λ e. Fails e (N.state nor.old) (N.state nor.new)) }
+    ensures done { OnOk result (Succeeds (N.state nor.old) (N.state nor.new)) }
+    ensures fails { IfErr result (λ e. Refuses e (N.state nor.old) (N.state nor.new)) }
 {
-    let mut votes = [0; 1024];
+    let mut votes = [0; REGION_LEN];
     nor.read(region, &mut votes)?;
     Ok(lowest(&votes, vote_byte(vote)))
 }
 
 /// Opens the lowest unused vote of a region.
 pub fn open_vote<N: Nor>(nor: &mut N, region: u32) -> Result<(), NorError>
-    requires range { region + 1024 ≤ length (N.state nor.old).memory }
+    requires range { region + REGION_LEN ≤ length (N.state nor.old).memory }
     requires fits { region < 2 ^ 24 }
     requires some { 0 < (votes_at (N.state nor.old).memory region).unused }
-    ensures ok { OnOk result (OneChanged region 255 254 (N.state nor.old).memory (N.state nor.new).memory) }
-    ensures cut { IsErrOf result NorError.Cut → PerhapsChanged region 255 254 (N.state nor.old).memory (N.state nor.new).memory }
+    ensures ok { OnOk result (OneChanged region 255 254 (N.state nor.old).memory
+        (N.state nor.new).memory) }
+    ensures cut { IsErrOf result NorError.Cut
+        → PerhapsChanged region 255 254 (N.state nor.old).memory (N.state nor.new).memory }
     ensures size { length (N.state nor.new).memory ≡ length (N.state nor.old).memory }
-    ensures kept { OnOk result (Kept (N.state nor.old) (N.state nor.new)) }
-    ensures fails { IfErr result (λ e. Fails e (N.state nor.old) (N.state nor.new)) }
+    ensures done { OnOk result (Succeeds (N.state nor.old) (N.state nor.new)) }
+    ensures fails { IfErr result (λ e. Refuses e (N.state nor.old) (N.state nor.new)) }
 {
     let found = find_vote(nor, region, Vote::Unused)?;
     let Some(place) = found else { unreachable!() };
@@ -41,14 +46,16 @@ pub fn open_vote<N: Nor>(nor: &mut N, region: u32) -> Result<(), NorError>
 
 /// Closes the open vote of a region.
 pub fn close_vote<N: Nor>(nor: &mut N, region: u32) -> Result<(), NorError>
-    requires range { region + 1024 ≤ length (N.state nor.old).memory }
+    requires range { region + REGION_LEN ≤ length (N.state nor.old).memory }
     requires fits { region < 2 ^ 24 }
     requires some { 0 < (votes_at (N.state nor.old).memory region).opened }
-    ensures ok { OnOk result (OneChanged region 254 252 (N.state nor.old).memory (N.state nor.new).memory) }
-    ensures cut { IsErrOf result NorError.Cut → PerhapsChanged region 254 252 (N.state nor.old).memory (N.state nor.new).memory }
+    ensures ok { OnOk result (OneChanged region 254 252 (N.state nor.old).memory
+        (N.state nor.new).memory) }
+    ensures cut { IsErrOf result NorError.Cut
+        → PerhapsChanged region 254 252 (N.state nor.old).memory (N.state nor.new).memory }
     ensures size { length (N.state nor.new).memory ≡ length (N.state nor.old).memory }
-    ensures kept { OnOk result (Kept (N.state nor.old) (N.state nor.new)) }
-    ensures fails { IfErr result (λ e. Fails e (N.state nor.old) (N.state nor.new)) }
+    ensures done { OnOk result (Succeeds (N.state nor.old) (N.state nor.new)) }
+    ensures fails { IfErr result (λ e. Refuses e (N.state nor.old) (N.state nor.new)) }
 {
     let found = find_vote(nor, region, Vote::Open)?;
     let Some(place) = found else { unreachable!() };

@@ -26,6 +26,7 @@ writes_memory (Programming at bytes) = true
 writes_memory (Erasing at size) = true
 writes_memory (Setting value) = false
 
--- the frame completes a program or an erase, which is then written to the file: one is in progress before it and none after it
+-- the frame completes a program or an erase, which is then written to the file: one is in progress
+-- before it and none after it
 abbrev pub is_saved : Chip → List ℕ → Bool
 is_saved c sent = writes_memory c.operation && is_idle (after_frame false c sent).operation

@@ -3,7 +3,7 @@ pub use Rattle.chip_model.specs.Chip
 pub use Rattle.chip_model.specs.Frames
 pub use Rattle.chip_model.specs.Cut
 pub use Rattle.chip_model.specs.Geometry
-pub mod Asked
+pub mod Decoded
 pub mod Fits
 pub mod Mask
 pub mod Plan

@@ -1,7 +1,7 @@
--- The chip that a simulator stands for, and what it was armed for. Source: own.
+-- The chip that a simulator represents, and what it was armed for. Source: own.
 use Rattle.std.specs.Prelude.{◌≡◌, ◌⊎◌, ℕ, false, true, List, length}
 use Rattle.chip_model.specs.Chip.{Chip, Operation, Idle, completed}
-use Rattle.chip_model.specs.Frames.{Answers, Status1, with_polls, one_more}
+use Rattle.chip_model.specs.Frames.{Receives, Status1, with_polls, one_more_poll}
 use Rattle.fault_model.specs.Fits.{operation_of}
 use Rattle.fault_model.specs.Plan.{Armed}
 use Rattle.fault_model.specs.Simulated.{Pace}
@@ -51,7 +51,8 @@ armed_of s = armed_in s.plan
 
 -- a status read of an operation in progress
 abbrev pub Polls : Chip → List ℕ → Chip → Type 0
-Polls c received new = (Answers c Status1 received × (new ≡ with_polls c (one_more c.polls))) ⊎ (Answers (completed c) Status1 received × (new ≡ completed c))
+Polls c received new = (Receives c Status1 received × (new ≡ with_polls c (one_more_poll c.polls)))
+    ⊎ (Receives (completed c) Status1 received × (new ≡ completed c))
 
 -- a chip with this memory, as it is when the power comes for the first time
 abbrev pub fresh_chip : List ℕ → Chip

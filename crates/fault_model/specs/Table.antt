@@ -1,5 +1,6 @@
 -- The simulator's own SFDP bytes. Source: JESD216 for what the fields mean; the values are own.
-use Rattle.std.specs.Prelude.{ℕ, ◌-◌, ◌*◌, ◌/◌, ◌%◌, Bool, ◌&&◌, if◌then◌else◌, ◌==◌, List, [], ◌∷◌, length, replicate}
+use Rattle.std.specs.Prelude.{ℕ, ◌-◌, ◌*◌, ◌/◌, ◌%◌, Bool, ◌&&◌, if◌then◌else◌, ◌==◌, List, [], ◌∷◌}
+use Rattle.std.specs.Prelude.{length, replicate}
 use Rattle.chip_model.specs.Memory.{byte, changed, is_within}
 
 -- at the places of these bytes, which lie from `at` on, these bytes, elsewhere another
@@ -10,8 +11,9 @@ row at bytes k other = if is_within at (length bytes) k then byte bytes (k - at)
 abbrev pub four_bytes : ℕ → List ℕ
 four_bytes n = (n % 256) ∷ (n / 256 % 256) ∷ (n / 65536 % 256) ∷ (n / 16777216 % 256) ∷ []
 
--- the byte at place k of the table of a chip of so many bytes: the header, the parameter header, and of the basic table at 80h
--- word 1, word 2 (the size in bits less one), words 8 and 9, word 11; all others are FFh
+-- the byte at place k of the table of a chip of so many bytes: the header, the parameter header,
+-- and of the basic table at 80h word 1, word 2 (the size in bits less one), words 8 and 9, word 11;
+-- all others are FFh
 abbrev pub table_byte : ℕ → ℕ → ℕ
 table_byte size k =
     row 0 (83 ∷ 70 ∷ 68 ∷ 80 ∷ 6 ∷ 1 ∷ 0 ∷ 255 ∷ []) k

@@ -1,4 +1,5 @@
-// The bytes that a chip answers.
+//! The bytes that a chip answers.
+
 ghost use Rattle.std.specs.Prelude.{◌≡◌, ◌+◌, ◌%◌, ◌<◌, ◌≤◌, slice_index, EachIndex};
 ghost use Rattle.chip_model.specs.Frames.{id_from, id_byte};
 ghost use Rattle.chip_model.specs.Memory.{byte};
@@ -64,7 +65,8 @@ pub fn fill_id(recv: &mut [u8], size: u32)
 pub fn fill_sfdp(recv: &mut [u8], size: u32, spoiled: bool, at: u32)
     requires some { 0 < size }
     requires most { size ≤ 16777216 }
-    ensures { EachIndex recv.new (λ k. byte recv.new k ≡ byte (sfdp_table size spoiled) ((at + k) % 256)) }
+    ensures { EachIndex recv.new (λ k. byte recv.new k
+        ≡ byte (sfdp_table size spoiled) ((at + k) % 256)) }
 {
     for k in 0..recv.len() {
         recv[k] = sfdp_byte(size, spoiled, (at as usize % 256 + k % 256) % 256);

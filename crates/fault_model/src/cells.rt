@@ -1,11 +1,12 @@
-// The cells and registers of a chip in memory, and what it answers while idle.
+//! The cells and registers of a chip in memory, and what it answers while idle.
+
 ghost use Rattle.std.specs.Prelude.{◌≡◌, ◌+◌, ◌%◌, ◌<◌, ◌≤◌, ◌||◌, nat_le, true, false, length};
 ghost use Rattle.chip_model.specs.Geometry.{IsChipSize};
 ghost use Rattle.fault_model.specs.Fits.{fits_in};
 
 use crate::answers::{fill_id, fill_sfdp, fill_with};
 use crate::copy::fill_from;
-use crate::decode::Asked;
+use crate::decode::Decoded;
 use crate::latch::Latch;
 use crate::operation::Operation;
 
@@ -47,8 +48,8 @@ pub struct Cells {
 
 impl Cells {
     ghost use Rattle.chip_model.specs.Chip.{is_idle};
-    ghost use Rattle.chip_model.specs.Frames.{is_protected, Answers, status_1};
-    ghost use Rattle.fault_model.specs.Asked.{asked};
+    ghost use Rattle.chip_model.specs.Frames.{is_protected, Receives, status_1};
+    ghost use Rattle.fault_model.specs.Decoded.{asked};
     ghost use Rattle.fault_model.specs.Sim.{chip_in, fresh_chip, operation_in, pace_in};
 
     /// Cells with this memory, with the power on and nothing in progress.
@@ -111,15 +112,15 @@ impl Cells {
     }
 
     /// The answer of an idle chip.
-    pub fn answer(&self, frame: &Asked, recv: &mut [u8])
-        ensures { Answers (chip_in self.now) (asked frame.now) recv.new }
+    pub fn answer(&self, frame: &Decoded, recv: &mut [u8])
+        ensures { Receives (chip_in self.now) (asked frame.now) recv.new }
     {
         match frame {
-            Asked::Status1 => fill_with(recv, self.status()),
-            Asked::Status2 | Asked::Status3 => fill_with(recv, 0),
-            Asked::Read(at) => fill_from(recv, &self.memory, *at),
-            Asked::Id => fill_id(recv, self.memory.len() as u32),
-            Asked::Sfdp(at) => fill_sfdp(recv, self.size, self.spoiled, *at),
+            Decoded::Status1 => fill_with(recv, self.status()),
+            Decoded::Status2 | Decoded::Status3 => fill_with(recv, 0),
+            Decoded::Read(at) => fill_from(recv, &self.memory, *at),
+            Decoded::Id => fill_id(recv, self.memory.len() as u32),
+            Decoded::Sfdp(at) => fill_sfdp(recv, self.size, self.spoiled, *at),
             _ => fill_with(recv, 0xFF),
         }
     }

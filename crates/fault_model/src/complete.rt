@@ -1,4 +1,5 @@
-// An operation that completes.
+//! An operation that completes.
+
 ghost use Rattle.std.specs.Prelude.{◌≡◌, ◌+◌, ◌≤◌, IfSome, length};
 
 use crate::cells::Cells;
@@ -30,7 +31,8 @@ impl Cells {
         self.polls = 0;
     }
 
-    /// The places that the operation in progress writes when it completes: the first of them, and how many.
+    /// The places that the operation in progress writes when it completes: the first of them, and
+    /// how many.
     pub fn span(&self) -> Option<(u32, u32)>
         ensures exact { result ≡ span_of (operation_in self.now) }
         ensures within { IfSome result (λ s. s.0 + s.1 ≤ length self.now.memory.items) }

@@ -1,4 +1,5 @@
-// Bytes of the memory, in as few copies as there are.
+//! Bytes of the memory, in as few copies as there are.
+
 ghost use Rattle.std.specs.Prelude.{◌≡◌, ◌⊎◌, ◌+◌, ◌%◌, ◌<◌, ◌≤◌, length, EachIndex};
 ghost use Rattle.chip_model.specs.Memory.{byte};
 
@@ -14,7 +15,8 @@ fn least(left: usize, right: usize) -> usize
 /// Bytes from a place on, past the end from the first on, run by run.
 fn fill_round(recv: &mut [u8], memory: &[u8], at: u32)
     requires { 0 < length memory.now }
-    ensures { EachIndex recv.new (λ k. byte recv.new k ≡ byte memory.now ((at + k) % length memory.now)) }
+    ensures { EachIndex recv.new (λ k. byte recv.new k
+        ≡ byte memory.now ((at + k) % length memory.now)) }
 {
     let mut done = 0;
     while done < recv.len() {
@@ -25,10 +27,12 @@ fn fill_round(recv: &mut [u8], memory: &[u8], at: u32)
     }
 }
 
-/// Bytes from a place on, past the end from the first on. Where the end isn't passed they are one run.
+/// Bytes from a place on, past the end from the first on. Where the end isn't passed they are one
+/// run.
 pub fn fill_from(recv: &mut [u8], memory: &[u8], at: u32)
     requires { 0 < length memory.now }
-    ensures { EachIndex recv.new (λ k. byte recv.new k ≡ byte memory.now ((at + k) % length memory.now)) }
+    ensures { EachIndex recv.new (λ k. byte recv.new k
+        ≡ byte memory.now ((at + k) % length memory.now)) }
 {
     let from = at as usize;
     if from < memory.len() && recv.len() <= memory.len() - from {

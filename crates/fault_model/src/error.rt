@@ -1,3 +1,5 @@
+//! Why there is no simulator.
+
 /// Why there is no simulator.
 #[derive(Clone, Copy, Debug, PartialEq, Eq)]
 pub enum SimError {

@@ -1,5 +1,7 @@
-// A chip whose memory is kept in a file.
-ghost use Rattle.std.specs.Prelude.{◌^◌, ◌≡◌, ◌+◌, ◌<◌, IfOk, IsErr, IsOk, None, OnErr, OnOk, false, length, true};
+//! A chip whose memory is kept in a file.
+
+ghost use Rattle.std.specs.Prelude.{◌^◌, ◌≡◌, ◌+◌, ◌<◌, IfOk, IsErr, IsOk, None, OnErr, OnOk};
+ghost use Rattle.std.specs.Prelude.{false, length, true};
 ghost use Rattle.chip_model.specs.Geometry.{IsChipSize};
 ghost use Rattle.fault_model.specs.Sim.{pace_in};
 
@@ -12,10 +14,12 @@ use std::os::unix::fs::FileExt;
 use std::path::AsPath;
 use std::rt::Files;
 
-/// A chip in memory whose completed programs and erases are written to a file, on which no operation is ever slow.
+/// A chip in memory whose completed programs and erases are written to a file, on which no
+/// operation is ever slow.
 ///
-/// Before a frame is answered in which an operation completed, one positioned write has handed its page or unit to the system;
-/// no other frame touches the file. A fault of the file is a loss of power, after which the power can't be turned on again.
+/// Before a frame is answered in which an operation completed, one positioned write has handed its
+/// page or unit to the system; no other frame touches the file. A fault of the file is a loss of
+/// power, after which the power can't be turned on again.
 #[derive(Drop)]
 pub struct ImageBus<F> {
     cells: Cells,
@@ -29,8 +33,9 @@ impl<F: Read + Write + Seek + OpenFile + Drop> ImageBus<F> {
     ghost use Rattle.fault_model.specs.Image.{image_broken, image_chip, image_cuts};
     ghost use Rattle.fault_model.specs.Sim.{fresh_chip};
 
-    /// The chip of the file at this path, with the power on: `BadSize` where no chip has so many bytes, `OutOfMemory` where
-    /// there is no memory for them, and `File` where the file can't be opened or read.
+    /// The chip of the file at this path, with the power on: `BadSize` where no chip has so many
+    /// bytes, `OutOfMemory` where there is no memory for them, and `File` where the file can't be
+    /// opened or read.
     pub fn open<R: Files<File = F> + AllocGlobal, P: AsPath>(
         rt: &R,
         path: P,
@@ -69,7 +74,8 @@ impl<F: FileExt + Drop> ImageBus<F> {
     ghost use Rattle.chip_model.specs.Chip.{is_idle};
     ghost use Rattle.fault_model.specs.Sim.{operation_in};
 
-    /// Writes the places of a completed operation to the file, where there are any, and whether that went well.
+    /// Writes the places of a completed operation to the file, where there are any, and whether
+    /// that went well.
     fn saves(&self, span: Option<(u32, u32)>) -> bool
         ensures none { span ≡ None → result ≡ true }
         ensures running { is_idle (operation_in self.now.cells) ≡ false → result ≡ true }
@@ -91,7 +97,8 @@ impl<F: FileExt + Drop> ImageBus<F> {
 impl<F: FileExt + Drop> SpiBus for ImageBus<F> {
     ghost use Rattle.chip_model.specs.Cut.{Loses, PowersOn, with_power};
     ghost use Rattle.chip_model.specs.Frames.{Frame, newly_slow};
-    ghost use Rattle.fault_model.specs.Image.{image_broken, image_chip, image_cuts, image_slows, is_saved, writes_memory};
+    ghost use Rattle.fault_model.specs.Image.{image_broken, image_chip, image_cuts, image_slows};
+    ghost use Rattle.fault_model.specs.Image.{is_saved, writes_memory};
     ghost use Rattle.fault_model.specs.Lawful.{lawful_cells};
     ghost use Rattle.fault_model.specs.Mask.{torn_by};
     ghost use Rattle.fault_model.specs.Simulated.{after_frame};
@@ -106,21 +113,31 @@ impl<F: FileExt + Drop> SpiBus for ImageBus<F> {
 
     fn transact(&mut self, send: &[u8], recv: &mut [u8]) -> Result<(), PowerLost>
         ensures powered { OnOk result ((image_chip self.old).powered ≡ true) }
-        ensures frame { OnOk result (Frame (image_chip self.old) send.now recv.new (image_chip self.new)) }
+        ensures frame { OnOk result (Frame (image_chip self.old) send.now recv.new
+            (image_chip self.new)) }
         ensures cuts_ok { OnOk result (image_cuts self.new ≡ image_cuts self.old) }
-        ensures slows_ok { OnOk result (image_slows self.new ≡ image_slows self.old + newly_slow (image_chip self.old) (image_chip self.new)) }
-        ensures lost { OnErr result (Loses (image_chip self.old) (image_cuts self.old) send.now (image_chip self.new) (image_cuts self.new)) }
+        ensures slows_ok { OnOk result
+            (image_slows self.new ≡ image_slows self.old
+            + newly_slow (image_chip self.old) (image_chip self.new)) }
+        ensures lost { OnErr result (Loses (image_chip self.old) (image_cuts self.old) send.now
+            (image_chip self.new) (image_cuts self.new)) }
         ensures slows_err { OnErr result (image_slows self.new ≡ image_slows self.old) }
 
         // A frame is lost only where it writes to the file, or the power is off.
-        ensures spared { (image_chip self.old).powered ≡ true → is_saved (image_chip self.old) send.now ≡ false → IsOk result }
+        ensures spared { (image_chip self.old).powered ≡ true
+            → is_saved (image_chip self.old) send.now ≡ false → IsOk result }
         ensures sound { OnOk result (image_broken self.new ≡ image_broken self.old) }
-        ensures broken { OnErr result ((image_chip self.old).powered ≡ true → image_broken self.new ≡ true) }
+        ensures broken { OnErr result ((image_chip self.old).powered ≡ true
+            → image_broken self.new ≡ true) }
 
         // What it leaves: all of its effect, and where the file failed no power.
-        ensures whole { OnOk result (image_chip self.new ≡ after_frame false (image_chip self.old) send.now) }
-        ensures failed { OnErr result ((image_chip self.old).powered ≡ true → image_chip self.new ≡ torn_by 255 (after_frame false (image_chip self.old) send.now)) }
-        ensures off { OnErr result ((image_chip self.old).powered ≡ false → image_broken self.new ≡ image_broken self.old) }
+        ensures whole { OnOk result (image_chip self.new
+            ≡ after_frame false (image_chip self.old) send.now) }
+        ensures failed { OnErr result ((image_chip self.old).powered ≡ true
+            → image_chip self.new ≡ torn_by 255
+            (after_frame false (image_chip self.old) send.now)) }
+        ensures off { OnErr result ((image_chip self.old).powered ≡ false
+            → image_broken self.new ≡ image_broken self.old) }
     {
         if !self.cells.powered {
             return Err(PowerLost);
@@ -140,15 +157,22 @@ impl<F: FileExt + Drop> SpiBus for ImageBus<F> {
     }
 
     fn power_on(&mut self)
-        ensures powers_on { PowersOn (image_chip self.old) (image_cuts self.old) (image_chip self.new) (image_cuts self.new) }
+        ensures powers_on { PowersOn (image_chip self.old) (image_cuts self.old)
+            (image_chip self.new) (image_cuts self.new) }
         ensures slows { image_slows self.new ≡ image_slows self.old }
 
-        // An operation in progress completes. Once the file has failed, here or before, the power stays off, and that counts.
-        ensures on { image_broken self.new ≡ false → (image_chip self.new ≡ with_power (torn_by 255 (image_chip self.old))) × (image_cuts self.new ≡ image_cuts self.old) }
+        // An operation in progress completes. Once the file has failed, here or before, the power
+        // stays off, and that counts.
+        ensures on { image_broken self.new ≡ false
+            → (image_chip self.new ≡ with_power (torn_by 255 (image_chip self.old)))
+            × (image_cuts self.new ≡ image_cuts self.old) }
         ensures off { image_broken self.new ≡ true → image_cuts self.old + 1 < 2 ^ 64
-            → (image_chip self.new ≡ torn_by 255 (image_chip self.old)) × (image_cuts self.new ≡ image_cuts self.old + 1) }
+            → (image_chip self.new ≡ torn_by 255 (image_chip self.old))
+            × (image_cuts self.new ≡ image_cuts self.old + 1) }
         ensures broken { image_broken self.old ≡ true → image_broken self.new ≡ true }
-        ensures sound { image_broken self.old ≡ false → writes_memory (image_chip self.old).operation ≡ false → image_broken self.new ≡ false }
+        ensures sound { image_broken self.old ≡ false
+            → writes_memory (image_chip self.old).operation ≡ false
+            → image_broken self.new ≡ false }
     {
         let span = self.cells.span();
         self.cells.turn_off(0xFF);

@@ -1,4 +1,5 @@
-// The bytes that a chip keeps for a program until it completes.
+//! The bytes that a chip keeps for a program until it completes.
+
 ghost use Rattle.std.specs.Prelude.{◌≡◌, ◌≤◌, length, take};
 
 /// Room for the bytes of a page program.

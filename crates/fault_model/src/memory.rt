@@ -1,4 +1,5 @@
-// What operations do to the memory, whole or torn.
+//! What operations do to the memory, whole or torn.
+
 ghost use Rattle.std.specs.Prelude.{◌≡◌, ◌+◌, ◌-◌, ◌*◌, ◌/◌, ◌%◌, ◌≤◌, length, min};
 ghost use Rattle.chip_model.specs.Memory.{and_at, erased, placed, Torn, TornErase};
 ghost use Rattle.chip_model.specs.Chip.{programmed};
@@ -32,7 +33,8 @@ fn before_end(at: u32, count: usize) -> usize
     count.min(256 - at as usize % 256)
 }
 
-/// Programs up to 256 bytes into the page of the address; after the page's last byte comes its first.
+/// Programs up to 256 bytes into the page of the address; after the page's last byte comes its
+/// first.
 pub fn program_page(memory: &mut [u8], at: u32, bytes: &[u8])
     requires page { at / 256 * 256 + 256 ≤ length memory.old }
     requires few { length bytes.now ≤ 256 }

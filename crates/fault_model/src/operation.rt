@@ -1,3 +1,5 @@
+//! What is in progress in a chip.
+
 /// What is in progress.
 #[derive(Clone, Copy)]
 pub enum Operation {

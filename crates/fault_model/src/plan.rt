@@ -1,4 +1,5 @@
-// When an armed cut comes.
+//! When an armed cut comes.
+
 ghost use Rattle.std.specs.Prelude.{◌≡◌, ◌==◌, ◌||◌};
 
 /// When and how the power goes.
@@ -12,13 +13,13 @@ pub struct Plan {
 }
 
 impl Plan {
-    ghost use Rattle.fault_model.specs.Plan.{counted, counts, strikes};
+    ghost use Rattle.fault_model.specs.Plan.{one_frame_less, counts_frame, strikes};
     ghost use Rattle.fault_model.specs.Sim.{armed_in};
 
     /// Counts a frame, and whether it is the one that was armed.
     pub fn strikes(&mut self, accepted: bool) -> bool
         ensures strikes { result ≡ strikes (armed_in self.old) accepted }
-        ensures counted { armed_in self.new ≡ counted (armed_in self.old) accepted }
+        ensures one_frame_less { armed_in self.new ≡ one_frame_less (armed_in self.old) accepted }
     {
         let counts = self.kind == 0 || accepted;
         if !counts {

@@ -1,4 +1,5 @@
-// A loss of power.
+//! A loss of power.
+
 ghost use Rattle.std.specs.Prelude.{◌≡◌, ◌<◌, false};
 ghost use Rattle.chip_model.specs.Memory.{IsMixed};
 ghost use Rattle.fault_model.specs.Mask.{by_mask};

@@ -1,4 +1,5 @@
-// A simulator whose operations all end.
+//! A simulator whose operations all end.
+
 ghost use Rattle.std.specs.Prelude.{◌↔◌, ◌≡◌, IfOk, IsOk, OnErr, length};
 ghost use Rattle.chip_model.specs.Geometry.{IsChipSize};
 
@@ -7,9 +8,11 @@ use crate::sim_chip::SimChip;
 use chip_model::{PowerLost, SpiBus};
 use std::marker::Model;
 
-/// A `SimChip` on which no operation is ever slow: it has no `arm_slow`, so its count of slow operations is 0 for good.
+/// A `SimChip` on which no operation is ever slow: it has no `arm_slow`, so its count of slow
+/// operations is 0 for good.
 ///
-/// What is proved of a bus where that count doesn't rise therefore holds of this one without a premise.
+/// What is proved of a bus where that count doesn't rise therefore holds of this one without a
+/// premise.
 #[derive(Drop)]
 pub struct PromptChip {
     chip: SimChip,
@@ -30,8 +33,8 @@ impl Model for PromptChip {
 impl PromptChip {
     ghost use Rattle.fault_model.specs.Sim.{armed_of, chip_of, cuts_of, fresh_chip};
 
-    /// A chip with this memory: the power is on, status register 1 is 0, nothing is armed. `BadSize` exactly where no chip
-    /// has so many bytes.
+    /// A chip with this memory: the power is on, status register 1 is 0, nothing is armed.
+    /// `BadSize` exactly where no chip has so many bytes.
     pub fn new(bytes: Vec<u8>) -> Result<PromptChip, SimError>
         ensures fits { IsOk result ↔ IsChipSize (length bytes.items) }
         ensures refused { OnErr result (result ≡ Err SimError.BadSize) }

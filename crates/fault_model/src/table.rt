@@ -1,4 +1,5 @@
-// The simulator's own SFDP table, byte by byte.
+//! The simulator's own SFDP table, byte by byte.
+
 ghost use Rattle.std.specs.Prelude.{◌≡◌, ◌<◌, ◌≤◌, length};
 ghost use Rattle.fault_model.specs.Table.{four_bytes, row, sfdp_byte, table_byte};
 

@@ -1,4 +1,5 @@
-// What the chip's tables say of single frames, and what a loss leaves by each mask.
+//! What the chip's tables say of single frames, and what a loss leaves by each mask.
+
 use super::*;
 use chip_model::{PowerLost, SpiBus};
 use sfdp::{Params, read_params};
@@ -176,8 +177,8 @@ fn program_that_wraps_in_its_page(rt: HostRuntime) -> Result<(), Fail> {
     Ok(())
 }
 
-/// Byte 8 becomes 00h, and then this change is cut inside by this mask: whether it and the next frame were lost. Then the
-/// power comes again.
+/// Byte 8 becomes 00h, and then this change is cut inside by this mask: whether it and the next
+/// frame were lost. Then the power comes again.
 fn is_cut_inside(chip: &mut SimChip, frame: &[u8], mask: u8) -> Result<bool, PowerLost> {
     send(chip, &[0x06])?;
     send(chip, &[0x02, 0, 0, 8, 0x00])?;

@@ -7,7 +7,7 @@ use Rattle.std.proofs.lemmas.Slice.{take-put_mid, drop-put_mid}
 use borrow.Rule.Slice.PartMut.{put_mid}
 use Rattle.std.proofs.lemmas.Bool.{cases_lt, cases_eq}
 use Rattle.chip_model.specs.Geometry.{sector_count}
-use Rattle.chip_model.specs.Memory.{byte, newer, placed}
+use Rattle.chip_model.specs.Memory.{byte, taken_byte, placed}
 use Rattle.chip_model.proofs.MemoryLaws.{length-placed, placed-inside}
 use Rattle.chip_model.specs.Parts.{part}
 use Rattle.chip_model.proofs.PartLaws.{get-part, part-whole, part-outside, part-placed}
@@ -15,7 +15,7 @@ use Rattle.block_device.specs.Contents.{replaced, bytes_at}
 use Rattle.sector_slots.specs.Slots.{IsClean}
 use Rattle.sector_slots.specs.Sectors.{sector_at}
 use Rattle.sector_slots.proofs.SizeLaws.{length-sector}
-use Rattle.sector_map.specs.Maps.{Keeps, KeepsEach, Sets, SetLeaves}
+use Rattle.sector_map.specs.Maps.{KeepsMap, KeepsEach, Sets, SetLeaves}
 use Rattle.flash_disk.specs.Contents.{joined, contents_of}
 use Rattle.flash_disk.proofs.Parts.{replaced-placed}
 
@@ -80,22 +80,22 @@ contents-same m m' e same = contents-by m m' (contents_of m) e refl (λ g low. p
 pub contents-kept : (m m' : List ℕ) → KeepsEach m m' → contents_of m' ≡ contents_of m
 contents-kept m m' k = contents-same m m' k.chip.same_length k.sectors
 
-pub contents-keeps : (m m' : List ℕ) → Keeps m m' → IsClean m → contents_of m' ≡ contents_of m
+pub contents-keeps : (m m' : List ℕ) → KeepsMap m m' → IsClean m → contents_of m' ≡ contents_of m
 contents-keeps m m' k clean = contents-same m m' k.chip.same_length (k.sectors clean)
 
-placed-sector : (m m' : List ℕ) (g off : ℕ) (x y : List ℕ) → Sets g x m m' → IsClean m → g < sector_count (length m) → off + length y ≤ 512 → x ≡ placed newer (sector_at m g) off y
-    → contents_of m' ≡ placed newer (contents_of m) (512 * g + off) y
+placed-sector : (m m' : List ℕ) (g off : ℕ) (x y : List ℕ) → Sets g x m m' → IsClean m → g < sector_count (length m) → off + length y ≤ 512 → x ≡ placed taken_byte (sector_at m g) off y
+    → contents_of m' ≡ placed taken_byte (contents_of m) (512 * g + off) y
 placed-sector m m' g off x y w clean low fits e =
     let d = contents_of m in
     let a = 512 * g + off in
     let len = length-contents m in
-    contents-by m m' (placed newer d a y) w.chip.same_length (length-placed newer d a y) (λ h in_range. elim (cases_eq h g) [
+    contents-by m m' (placed taken_byte d a y) w.chip.same_length (length-placed taken_byte d a y) (λ h in_range. elim (cases_eq h g) [
       | inl same ↦
-          subst (λ k. part 512 (placed newer d a y) k ≡ sector_at m' k) (sym same)
-          (part-placed newer 512 d g off y (omega (arith, len, low)) ∙ (ap (λ q. placed newer q off y) (part-contents m g low) ∙ (sym e ∙ sym (w.there clean))))
+          subst (λ k. part 512 (placed taken_byte d a y) k ≡ sector_at m' k) (sym same)
+          (part-placed taken_byte 512 d g off y (omega (arith, len, low)) ∙ (ap (λ q. placed taken_byte q off y) (part-contents m g low) ∙ (sym e ∙ sym (w.there clean))))
       | inr other ↦
           let out : (512 * h + 512 ≤ a) ⊎ (a + length y ≤ 512 * h) = elim (cases_lt h g) [ inl below ↦ inl (omega (arith, below)) | inr above ↦ inr (omega (arith, above, other, fits)) ] in
-          part-outside newer 512 d a y h out ∙ (part-contents m h in_range ∙ sym (w.others clean h in_range other))
+          part-outside taken_byte 512 d a y h out ∙ (part-contents m h in_range ∙ sym (w.others clean h in_range other))
     ])
 
 -- a sector of which some bytes were replaced
@@ -111,11 +111,11 @@ contents-written m m' g off x y w clean low fits e =
 pub whole-sector : (x y : List ℕ) (off : ℕ) → off + length y ≤ 512 → length y ≡ 512 → length x ≡ 512 → y ≡ replaced x off y
 whole-sector x y off fits n long =
     let zeroth : off ≡ 0 = omega (arith, fits, n) in
-    let e : replaced x off y ≡ placed newer x 0 y = replaced-placed x off y (omega (arith, fits, long)) ∙ ap (λ k. placed newer x k y) zeroth in
-    sym (e ∙ ext_get_or 0 (placed newer x 0 y) y (length-placed newer x 0 y ∙ (long ∙ sym n)) (λ i h.
-    let size = length-placed newer x 0 y in
+    let e : replaced x off y ≡ placed taken_byte x 0 y = replaced-placed x off y (omega (arith, fits, long)) ∙ ap (λ k. placed taken_byte x k y) zeroth in
+    sym (e ∙ ext_get_or 0 (placed taken_byte x 0 y) y (length-placed taken_byte x 0 y ∙ (long ∙ sym n)) (λ i h.
+    let size = length-placed taken_byte x 0 y in
     let at : 0 + i ≡ i = omega arith in
-    ap (λ k. byte (placed newer x 0 y) k) (sym at) ∙ placed-inside newer x 0 y i (omega (arith, h, size, long, n)) (omega (arith, h, size))))
+    ap (λ k. byte (placed taken_byte x 0 y) k) (sym at) ∙ placed-inside taken_byte x 0 y i (omega (arith, h, size, long, n)) (omega (arith, h, size))))
 
 -- what the writing of a sector leaves, whole and cut
 pub sector-written : (m m' : List ℕ) (g : ℕ) (x : List ℕ) → Sets g x m m' → IsClean m → g < sector_count (length m) → length x ≡ 512 → contents_of m' ≡ replaced (contents_of m) (512 * g) x

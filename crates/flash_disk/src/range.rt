@@ -3,9 +3,8 @@
 ghost use Rattle.std.specs.Prelude.{◌≡◌, ◌+◌, ◌*◌, ◌%◌, ◌≤◌, length, OnOk, IfErr};
 ghost use Rattle.std.specs.Result.{IsErrOf};
 ghost use Rattle.chip_model.specs.Geometry.{IsChipSize};
-ghost use Rattle.nor_driver.specs.State.{IsReady, Kept};
+ghost use Rattle.nor_driver.specs.State.{IsNorReady, OnlyMemoryChanges, Refuses};
 ghost use Rattle.sector_slots.specs.Slots.{IsClean};
-ghost use Rattle.sector_slots.specs.Steps.{Refuses};
 ghost use Rattle.block_device.specs.Contents.{bytes_at, replaced, Outcome};
 ghost use Rattle.flash_disk.specs.Contents.{contents_of};
 
@@ -22,18 +21,22 @@ pub fn write_sectors<N: Nor>(
     first: u32,
     from: &[u8],
 ) -> Result<(), NorError>
-    requires ready { IsReady map.old }
+    requires ready { IsNorReady map.old }
     requires whole { length from.now % 512 ≡ 0 }
     requires range { 512 * first + length from.now ≤ length (contents_of map.old.memory) }
     requires chip { IsChipSize (length map.old.memory) }
     ensures ok { OnOk result (IsClean map.old.memory
-        → contents_of map.new.memory ≡ replaced (contents_of map.old.memory) (512 * first) from.now) }
+        → contents_of map.new.memory ≡ replaced (contents_of map.old.memory) (512 * first)
+        from.now) }
     ensures cut { IsErrOf result NorError.Cut → IsClean map.old.memory
-        → Outcome (contents_of map.old.memory) (replaced (contents_of map.old.memory) (512 * first) from.now) (contents_of map.new.memory) }
+        → Outcome (contents_of map.old.memory)
+        (replaced (contents_of map.old.memory) (512 * first) from.now)
+        (contents_of map.new.memory) }
     ensures clean { OnOk result (IsClean map.old.memory → IsClean map.new.memory) }
-    ensures cut_clean { IsErrOf result NorError.Cut → IsClean map.old.memory → IsClean map.new.memory }
+    ensures cut_clean { IsErrOf result NorError.Cut → IsClean map.old.memory
+        → IsClean map.new.memory }
     ensures size { length map.new.memory ≡ length map.old.memory }
-    ensures kept { OnOk result (Kept map.old map.new) }
+    ensures kept { OnOk result (OnlyMemoryChanges map.old map.new) }
     ensures fails { IfErr result (λ e. Refuses e map.old map.new) }
 {
     let mut done = 0usize;
@@ -52,13 +55,14 @@ pub fn read_sectors<N: Nor>(
     first: u32,
     into: &mut [u8],
 ) -> Result<(), NorError>
-    requires ready { IsReady map.old }
+    requires ready { IsNorReady map.old }
     requires whole { length into.old % 512 ≡ 0 }
     requires range { 512 * first + length into.old ≤ length (contents_of map.old.memory) }
     requires chip { IsChipSize (length map.old.memory) }
-    ensures ok { OnOk result (into.new ≡ bytes_at (contents_of map.old.memory) (512 * first) (length into.old)) }
+    ensures ok { OnOk result (into.new
+        ≡ bytes_at (contents_of map.old.memory) (512 * first) (length into.old)) }
     ensures same { map.new.memory ≡ map.old.memory }
-    ensures kept { OnOk result (Kept map.old map.new) }
+    ensures kept { OnOk result (OnlyMemoryChanges map.old map.new) }
     ensures fails { IfErr result (λ e. Refuses e map.old map.new) }
 {
     let mut done = 0usize;

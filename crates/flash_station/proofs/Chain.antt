@@ -2,11 +2,11 @@
 use Rattle.std.proofs.Common.{arith, ◌≡◌, ℕ, ◌*◌, true, false, List, length, Option, None, refl, sym, ◌∙◌, ap, subst, replicate}
 use Rattle.std.specs.Prelude.{not, Result, Ok, Err}
 use Rattle.std.proofs.lemmas.List.{length-replicate}
-use Rattle.block_device.specs.Facts.{Facts, IsReady}
+use Rattle.block_device.specs.Facts.{Facts, IsDiskReady}
 use Rattle.station.specs.declared.event.Event.{Event}
 use Rattle.station.specs.declared.event.ScriptError.{ScriptError}
 use Rattle.station.specs.declared.event.ScriptError.TheVariants.{Input, BadRecord, Output}
-use Rattle.station.specs.Board.{Board, IsNew, Stands}
+use Rattle.station.specs.Board.{Board, IsNew, StationRepresents}
 use Rattle.station.specs.Broken.{Stops}
 use Rattle.station.specs.Running.{Runs, Ends}
 use Rattle.station.specs.Script.{ScriptSays, events_of}
@@ -21,7 +21,7 @@ use Rattle.sector_map.specs.Maps.{IsMountable, geometry_of}
 use Rattle.flash_disk.specs.Mounting.{RefusedAt}
 use Rattle.flash_disk.specs.declared.error.MountError.{MountError}
 use Rattle.flash_disk.specs.declared.error.MountError.TheVariants as mounts
-use Rattle.flash_station.specs.Answered.{Seen, Answers, Breaks, AnswersScript, IsOfFormatted, new_world}
+use Rattle.flash_station.specs.Answered.{Seen, AnswersEvents, BreaksEvents, AnswersScript, IsOfFormatted, new_world}
 
 -- what a disk tells of itself
 abbrev pub seen_of : ℕ → Facts → Seen
@@ -33,16 +33,16 @@ pub record GivenBack (f : Facts) (new : Seen) : Type 0 where
   pub cuts : new.cuts ≡ f.cuts
   pub slows : new.slows ≡ f.slows
 
-module _ (n : ℕ) (f : Facts) (b b' : Board) (new' : Seen) (sound : f.sound ≡ true) (ready : IsReady f) (zeros : f.contents ≡ replicate (512 * n) 0) (made : IsNew f b)
+module _ (n : ℕ) (f : Facts) (b b' : Board) (new' : Seen) (sound : f.sound ≡ true) (ready : IsDiskReady f) (zeros : f.contents ≡ replicate (512 * n) 0) (made : IsNew f b)
     (back : GivenBack b'.disk new') where
   sectors_are : b.sectors ≡ n
   sectors_are = omega (arith, made.size, ap length zeros, length-replicate {A = ℕ} (512 * n) 0)
 
-  stands : Stands b (new_world n)
+  stands : StationRepresents b (new_world n)
   stands =
-      subst (λ p. Stands b (record { sectors = n; disk = replicate (512 * n) 0; power = not p; texts = replicate 8 None })) ready.0
-      (subst (λ d. Stands b (record { sectors = n; disk = d; power = not f.cut; texts = replicate 8 None })) zeros
-      (subst (λ k. Stands b (record { sectors = k; disk = f.contents; power = not f.cut; texts = replicate 8 None })) sectors_are (made.stands sound ready.1)))
+      subst (λ p. StationRepresents b (record { sectors = n; disk = replicate (512 * n) 0; power = not p; texts = replicate 8 None })) ready.0
+      (subst (λ d. StationRepresents b (record { sectors = n; disk = d; power = not f.cut; texts = replicate 8 None })) zeros
+      (subst (λ k. StationRepresents b (record { sectors = k; disk = f.contents; power = not f.cut; texts = replicate 8 None })) sectors_are (made.stands sound ready.1)))
 
   quietly : new'.slows ≡ f.slows → b'.disk.slows ≡ b.disk.slows
   quietly quiet = sym back.slows ∙ (quiet ∙ sym (ap (λ (x : Facts). x.slows) made.disk_is))
@@ -50,7 +50,7 @@ module _ (n : ℕ) (f : Facts) (b b' : Board) (new' : Seen) (sound : f.sound ≡
   cuts_from : b.disk.cuts ≡ f.cuts
   cuts_from = ap (λ (x : Facts). x.cuts) made.disk_is
 
-  answered : (events : List Event) (was is : Option (List ℕ)) → Runs b b' events was is → Answers (seen_of n f) new' events was is
+  answered : (events : List Event) (was is : Option (List ℕ)) → Runs b b' events was is → AnswersEvents (seen_of n f) new' events was is
   answered events was is run = λ quiet.
       let r = run (quietly quiet) (new_world n) stands in (
         r.0,
@@ -60,7 +60,7 @@ module _ (n : ℕ) (f : Facts) (b b' : Board) (new' : Seen) (sound : f.sound ≡
         r.4.disk.contents ∙ sym back.contents,
       )
 
-  broken : (events : List Event) (was is : Option (List ℕ)) → Ends b b' events was is → Breaks (seen_of n f) new' events was is
+  broken : (events : List Event) (was is : Option (List ℕ)) → Ends b b' events was is → BreaksEvents (seen_of n f) new' events was is
   broken events was is ends = λ quiet.
       let r = ends (quietly quiet) (new_world n) stands in (
         r.0,

@@ -1,5 +1,6 @@
 -- What is written of a script that is run on a chip which was just formatted. Source: own.
-use Rattle.std.specs.Prelude.{◌≡◌, ℕ, ◌*◌, Bool, true, List, ◌++◌, Option, None, replicate, Result, Ok, Err}
+use Rattle.std.specs.Prelude.{◌≡◌, ℕ, ◌*◌, Bool, true, List, ◌++◌, Option, None, replicate, Result}
+use Rattle.std.specs.Prelude.{Ok, Err}
 use Rattle.std.specs.Io.KnownBytes.{Appends, Consumes, IsAtEnd}
 use Rattle.block_device.specs.Facts.{Facts}
 use Rattle.flash_disk.specs.Formatted.{FormatFails}
@@ -14,11 +15,17 @@ use Rattle.station.specs.Transcript.{Transcript}
 use Rattle.station.specs.Broken.{Stops}
 use Rattle.station.specs.Script.{Item, AreAllowed, IsBad, script_of, events_of}
 use Rattle.flash_station.specs.declared.error.RunFault.{RunFault}
-use Rattle.flash_station.specs.declared.error.RunFault.TheVariants.{Format, Mount, OutOfMemory, Script}
+use Rattle.flash_station.specs.declared.error.RunFault.TheVariants.{Format, Mount, OutOfMemory}
+use Rattle.flash_station.specs.declared.error.RunFault.TheVariants.{Script}
 
 -- a disk of zeros of so many sectors, with power, and with every connection closed
 abbrev pub new_world : ℕ → World
-new_world sectors = record { sectors = sectors; disk = replicate (512 * sectors) 0; power = true; texts = replicate 8 None }
+new_world sectors = record {
+  sectors = sectors;
+  disk = replicate (512 * sectors) 0;
+  power = true;
+  texts = replicate 8 None;
+}
 
 -- what is known of a chip: its sectors, the bytes of its disk, and what its bus counted so far
 pub record Seen : Type 0 where
@@ -27,16 +34,19 @@ pub record Seen : Type 0 where
   pub cuts : ℕ
   pub slows : ℕ
 
--- THE HEADLINE. Where the bus counted no slow operation: what was written is a transcript of the events from a disk of zeros, in
--- which as many losses stand at most as the bus counted losses of power; and the chip then holds the disk of its last world.
-abbrev pub Answers : Seen → Seen → List Event → Option (List ℕ) → Option (List ℕ) → Type 0
-Answers old new events was is = new.slows ≡ old.slows →
-    (w : World) × (out : List ℕ) × Appends was is out × Transcript old.cuts (new_world old.sectors) events out new.cuts w × (w.disk ≡ new.contents)
+-- THE HEADLINE. Where the bus counted no slow operation: what was written is a transcript of the
+-- events from a disk of zeros, in which as many losses stand at most as the bus counted losses of
+-- power; and the chip then holds the disk of its last world.
+abbrev pub AnswersEvents : Seen → Seen → List Event → Option (List ℕ) → Option (List ℕ) → Type 0
+AnswersEvents old new events was is = new.slows ≡ old.slows →
+    (w : World) × (out : List ℕ) × Appends was is out
+    × Transcript old.cuts (new_world old.sectors) events out new.cuts w × (w.disk ≡ new.contents)
 
 -- the same where the output failed: what it took is a beginning of such a transcript
-abbrev pub Breaks : Seen → Seen → List Event → Option (List ℕ) → Option (List ℕ) → Type 0
-Breaks old new events was is = new.slows ≡ old.slows →
-    (w : World) × (out : List ℕ) × Appends was is out × Stops old.cuts (new_world old.sectors) events out new.cuts w × (w.disk ≡ new.contents)
+abbrev pub BreaksEvents : Seen → Seen → List Event → Option (List ℕ) → Option (List ℕ) → Type 0
+BreaksEvents old new events was is = new.slows ≡ old.slows →
+    (w : World) × (out : List ℕ) × Appends was is out
+    × Stops old.cuts (new_world old.sectors) events out new.cuts w × (w.disk ≡ new.contents)
 
 -- a chip that was just formatted is never refused as not formatted or corrupt
 abbrev pub IsOfFormatted : MountError → Type 0
@@ -46,24 +56,34 @@ IsOfFormatted refusals.NotFormatted = ⊥
 IsOfFormatted refusals.Corrupt = ⊥
 
 -- Nothing was read or written before the script.
-abbrev pub IsUntouched : Option (List ℕ) → Option (List ℕ) → Option (List ℕ) → Option (List ℕ) → Type 0
+abbrev pub IsUntouched : Option (List ℕ) → Option (List ℕ) → Option (List ℕ) → Option (List ℕ)
+    → Type 0
 IsUntouched r was r' is = (r' ≡ r) × (is ≡ was)
 
--- What a script on a new chip says. Ok: the input is a script of allowed items to its end. A bad record: it begins with one, and
--- behind it stands no record of an allowed item. In each case the events of these items are answered.
-abbrev pub AnswersScript : Seen → Seen → Option (List ℕ) → Option (List ℕ) → Result (Unit {0}) RunFault → Option (List ℕ) → Option (List ℕ) → Type 0
+-- What a script on a new chip says. Ok: the input is a script of allowed items to its end. A bad
+-- record: it begins with one, and behind it stands no record of an allowed item. In each case the
+-- events of these items are answered.
+abbrev pub AnswersScript : Seen → Seen → Option (List ℕ) → Option (List ℕ)
+    → Result (Unit {0}) RunFault → Option (List ℕ) → Option (List ℕ) → Type 0
 AnswersScript old new r was (Ok _) r' is =
-    (items : List Item) × AreAllowed items × Consumes r r' (script_of items) × IsAtEnd r' × Answers old new (events_of items) was is
+    (items : List Item) × AreAllowed items × Consumes r r' (script_of items) × IsAtEnd r'
+    × AnswersEvents old new (events_of items) was is
 AnswersScript old new r was (Err (Script scripts.Input)) r' is =
-    (items : List Item) × (rest : List ℕ) × AreAllowed items × Consumes r r' (script_of items ++ rest) × Answers old new (events_of items) was is
+    (items : List Item) × (rest : List ℕ) × AreAllowed items
+    × Consumes r r' (script_of items ++ rest) × AnswersEvents old new (events_of items) was is
 AnswersScript old new r was (Err (Script scripts.BadRecord)) r' is =
-    (items : List Item) × (rest : List ℕ) × AreAllowed items × Consumes r r' (script_of items ++ rest) × Answers old new (events_of items) was is
+    (items : List Item) × (rest : List ℕ) × AreAllowed items
+    × Consumes r r' (script_of items ++ rest) × AnswersEvents old new (events_of items) was is
     × IsBad rest r'
 AnswersScript old new r was (Err (Script scripts.Output)) r' is =
-    (items : List Item) × AreAllowed items × Consumes r r' (script_of items) × Breaks old new (events_of items) was is
-AnswersScript old new r was (Err (Format e)) r' is = IsUntouched r was r' is × FormatFails e old.cuts old.slows new.cuts new.slows
-AnswersScript old new r was (Err (Mount e)) r' is = IsUntouched r was r' is × RefusedFor e old.cuts old.slows new.cuts new.slows × IsOfFormatted e
-AnswersScript old new r was (Err OutOfMemory) r' is = IsUntouched r was r' is × (new.cuts ≡ old.cuts) × (new.slows ≡ old.slows)
+    (items : List Item) × AreAllowed items × Consumes r r' (script_of items)
+    × BreaksEvents old new (events_of items) was is
+AnswersScript old new r was (Err (Format e)) r' is =
+    IsUntouched r was r' is × FormatFails e old.cuts old.slows new.cuts new.slows
+AnswersScript old new r was (Err (Mount e)) r' is =
+    IsUntouched r was r' is × RefusedFor e old.cuts old.slows new.cuts new.slows × IsOfFormatted e
+AnswersScript old new r was (Err OutOfMemory) r' is =
+    IsUntouched r was r' is × (new.cuts ≡ old.cuts) × (new.slows ≡ old.slows)
 
 -- the part of an answer that a script alone gives: a refusal before it counts as none
 abbrev pub script_part : Result (Unit {0}) RunFault → Result (Unit {0}) ScriptError

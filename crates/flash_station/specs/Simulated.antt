@@ -1,4 +1,5 @@
--- What is written of a script that is run on a chip in memory, where no operation is slow. Source: own.
+-- What is written of a script that is run on a chip in memory, where no operation is slow. Source:
+-- own.
 use Rattle.std.specs.Prelude.{◌≡◌, ℕ, List, ◌++◌, Option, Result, Ok, Err}
 use Rattle.std.specs.Io.KnownBytes.{Appends, Consumes, IsAtEnd}
 use Rattle.flash_disk.specs.declared.error.MountError.{MountError}
@@ -12,16 +13,20 @@ use Rattle.station.specs.Transcript.{Transcript}
 use Rattle.station.specs.Broken.{Stops}
 use Rattle.station.specs.Script.{Item, AreAllowed, IsBad, script_of, events_of}
 use Rattle.flash_station.specs.declared.error.RunFault.{RunFault}
-use Rattle.flash_station.specs.declared.error.RunFault.TheVariants.{Format, Mount, OutOfMemory, Script}
+use Rattle.flash_station.specs.declared.error.RunFault.TheVariants.{Format, Mount, OutOfMemory}
+use Rattle.flash_station.specs.declared.error.RunFault.TheVariants.{Script}
 use Rattle.flash_station.specs.Answered.{IsUntouched, new_world}
 
--- THE HEADLINE, of a chip in memory: what was written is a transcript of the events from a disk of zeros of so many sectors.
+-- THE HEADLINE, of a chip in memory: what was written is a transcript of the events from a disk of
+-- zeros of so many sectors.
 abbrev pub AnswersFrom : ℕ → List Event → Option (List ℕ) → Option (List ℕ) → Type 0
-AnswersFrom sectors events was is = (w : World) × (out : List ℕ) × (losses : ℕ) × Appends was is out × Transcript 0 (new_world sectors) events out losses w
+AnswersFrom sectors events was is = (w : World) × (out : List ℕ) × (losses : ℕ) × Appends was is out
+    × Transcript 0 (new_world sectors) events out losses w
 
 -- the same where the output failed: what it took is a beginning of such a transcript
 abbrev pub BreaksFrom : ℕ → List Event → Option (List ℕ) → Option (List ℕ) → Type 0
-BreaksFrom sectors events was is = (w : World) × (out : List ℕ) × (losses : ℕ) × Appends was is out × Stops 0 (new_world sectors) events out losses w
+BreaksFrom sectors events was is = (w : World) × (out : List ℕ) × (losses : ℕ) × Appends was is out
+    × Stops 0 (new_world sectors) events out losses w
 
 -- a probe of a chip on which no operation is slow is never refused for that
 abbrev pub IsPrompt : ProbeError → Type 0
@@ -31,7 +36,8 @@ IsPrompt probes.WrongId = Unit {0}
 IsPrompt (probes.Sfdp e) = Unit {0}
 IsPrompt probes.Protected = Unit {0}
 
--- and a mount of such a chip that was just formatted is not refused as not formatted or corrupt either
+-- and a mount of such a chip that was just formatted is not refused as not formatted or corrupt
+-- either
 abbrev pub IsOfPrompt : MountError → Type 0
 IsOfPrompt (mounts.Probe e) = IsPrompt e
 IsOfPrompt mounts.OutOfMemory = Unit {0}
@@ -39,16 +45,21 @@ IsOfPrompt mounts.NotFormatted = ⊥
 IsOfPrompt mounts.Corrupt = ⊥
 
 -- what a script on such a chip says
-abbrev pub SimulatesScript : ℕ → Option (List ℕ) → Option (List ℕ) → Result (Unit {0}) RunFault → Option (List ℕ) → Option (List ℕ) → Type 0
+abbrev pub SimulatesScript : ℕ → Option (List ℕ) → Option (List ℕ) → Result (Unit {0}) RunFault
+    → Option (List ℕ) → Option (List ℕ) → Type 0
 SimulatesScript sectors r was (Ok _) r' is =
-    (items : List Item) × AreAllowed items × Consumes r r' (script_of items) × IsAtEnd r' × AnswersFrom sectors (events_of items) was is
+    (items : List Item) × AreAllowed items × Consumes r r' (script_of items) × IsAtEnd r'
+    × AnswersFrom sectors (events_of items) was is
 SimulatesScript sectors r was (Err (Script scripts.Input)) r' is =
-    (items : List Item) × (rest : List ℕ) × AreAllowed items × Consumes r r' (script_of items ++ rest) × AnswersFrom sectors (events_of items) was is
+    (items : List Item) × (rest : List ℕ) × AreAllowed items
+    × Consumes r r' (script_of items ++ rest) × AnswersFrom sectors (events_of items) was is
 SimulatesScript sectors r was (Err (Script scripts.BadRecord)) r' is =
-    (items : List Item) × (rest : List ℕ) × AreAllowed items × Consumes r r' (script_of items ++ rest) × AnswersFrom sectors (events_of items) was is
+    (items : List Item) × (rest : List ℕ) × AreAllowed items
+    × Consumes r r' (script_of items ++ rest) × AnswersFrom sectors (events_of items) was is
     × IsBad rest r'
 SimulatesScript sectors r was (Err (Script scripts.Output)) r' is =
-    (items : List Item) × AreAllowed items × Consumes r r' (script_of items) × BreaksFrom sectors (events_of items) was is
+    (items : List Item) × AreAllowed items × Consumes r r' (script_of items)
+    × BreaksFrom sectors (events_of items) was is
 SimulatesScript sectors r was (Err (Format e)) r' is = IsUntouched r was r' is × IsPrompt e
 SimulatesScript sectors r was (Err (Mount e)) r' is = IsUntouched r was r' is × IsOfPrompt e
 SimulatesScript sectors r was (Err OutOfMemory) r' is = IsUntouched r was r' is

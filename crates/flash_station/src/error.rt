@@ -1,3 +1,5 @@
+//! Why a script was not run on a chip.
+
 use flash_disk::MountError;
 use nor_driver::ProbeError;
 use station::ScriptError;

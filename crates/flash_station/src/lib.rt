@@ -1,10 +1,12 @@
-//! A station on a chip that was just formatted: the whole chain from the frames of a chip up to the transcript of a script.
+//! A station on a chip that was just formatted: the whole chain from the frames of a chip up to the
+//! transcript of a script.
 //!
-//! Promised: `run_formatted`, over any `SpiBus`, formats the chip, mounts it, makes a station of its disk and runs a script on
-//! it. Where the bus counted no slow operation, what it wrote is a transcript of the script's events from a disk of zeros
-//! (`specs/Answered.antt`): the bytes of a plain array of sectors, in which after a loss of power every acknowledged write
-//! stands and each sector of the interrupted command is wholly old or new; the chip then holds that array. Each refusal comes
-//! with the bus, and before the script nothing is read or written.
+//! Promised: `run_formatted`, over any `SpiBus`, formats the chip, mounts it, makes a station of
+//! its disk and runs a script on it. Where the bus counted no slow operation, what it wrote is a
+//! transcript of the script's events from a disk of zeros (`specs/Answered.antt`): the bytes of a
+//! plain array of sectors, in which after a loss of power every acknowledged write stands and each
+//! sector of the interrupted command is wholly old or new; the chip then holds that array. Each
+//! refusal comes with the bus, and before the script nothing is read or written.
 //!
 //! Left to the crate above: the bus, and where the script comes from and the transcript goes.
 //!

@@ -1,3 +1,5 @@
+//! Why there is no image.
+
 ghost use Rattle.std.specs.Prelude.{◌≡◌};
 ghost use Rattle.image.specs.declared.error.ImageError.TheVariants.{OutOfMemory};
 

@@ -1,4 +1,5 @@
-// The file of an image.
+//! The file of an image.
+
 ghost use Rattle.std.specs.Prelude.{◌≡◌, IfErr};
 ghost use Rattle.image.specs.Image.{ComesOfFile};
 
@@ -11,16 +12,18 @@ use std::{fs, io};
 /// How many names beside an image are tried for the new file.
 const NAMES: u32 = 100;
 
-/// How many bytes are written at once. Some file systems keep what is written at once in one piece in memory, and then go
-/// through all of it for each page that a server writes there later.
+/// How many bytes are written at once. Some file systems keep what is written at once in one piece
+/// in memory, and then go through all of it for each page that a server writes there later.
 const PIECE_LEN: usize = 4_096;
 
-/// Makes these bytes the file at a path; one that is there is replaced as a whole, and a link to it stays.
+/// Makes these bytes the file at a path; one that is there is replaced as a whole, and a link to it
+/// stays.
 ///
-/// They are written to a new file in the same folder, PATH.0.new or the first such name that isn't taken, which gets the
-/// permissions of the one that it replaces and takes its name once the bytes are on the medium. `File` where that can't be had, and
-/// `OutOfMemory` where there is no memory for the names: what is at the path is then as it was, and the new file is removed,
-/// where it can be. What is there has to be a regular file that this process may write.
+/// They are written to a new file in the same folder, PATH.0.new or the first such name that isn't
+/// taken, which gets the permissions of the one that it replaces and takes its name once the bytes
+/// are on the medium. `File` where that can't be had, and `OutOfMemory` where there is no memory
+/// for the names: what is at the path is then as it was, and the new file is removed, where it can
+/// be. What is there has to be a regular file that this process may write.
 pub fn write_image<R: Files + AllocGlobal>(
     rt: &R,
     path: &str,
@@ -57,7 +60,8 @@ fn fault_from(error: io::Error) -> ImageError
     }
 }
 
-/// The place of a path: the path itself where nothing is there, and else that of the regular file that it leads to.
+/// The place of a path: the path itself where nothing is there, and else that of the regular file
+/// that it leads to.
 fn place_of<R: Files + AllocGlobal>(rt: &R, path: &str) -> Result<Place, ImageError>
     ensures { IfErr result ComesOfFile }
 {

@@ -1,3 +1,5 @@
+//! The bytes of a formatted chip.
+
 ghost use Rattle.std.specs.Prelude.{◌*◌, IfErr, IfOk};
 ghost use Rattle.chip_model.specs.Geometry.{IsChipSize};
 ghost use Rattle.image.specs.Image.{ComesOfFormat, IsFormattedImage};
@@ -7,7 +9,8 @@ use fault_model::SimChip;
 use flash_disk::format;
 use std::alloc::Global;
 
-/// The bytes of a chip of so many KiB that was just formatted: those of a chip in memory, all FFh at first, after a `format`.
+/// The bytes of a chip of so many KiB that was just formatted: those of a chip in memory, all FFh
+/// at first, after a `format`.
 ///
 /// `OutOfMemory` where there is no memory for them, `Refused` where the format was refused.
 pub fn formatted_image(alloc: Global, kib: u32) -> Result<Vec<u8>, ImageError>

@@ -14,8 +14,8 @@ use Rattle.nor_layout.specs.Kinds.{kind_of}
 use Rattle.nor_layout.specs.declared.kind.Kind.TheVariants as kinds
 use Rattle.erase_journal.specs.Blocks.{OnlyBlock}
 use Rattle.erase_journal.specs.Journals.{IsHealthy}
-use Rattle.erase_journal.specs.Steps.{Interrupted, as_it_was, block_erased}
-use Rattle.sector_slots.specs.Slots.{slot_in, content_in, data_block, kind_at}
+use Rattle.erase_journal.specs.Steps.{EraseInterrupted, as_it_was, block_erased}
+use Rattle.sector_slots.specs.Slots.{slot_in, content_bytes, data_block, kind_at}
 use Rattle.journal_slots.specs.Programs.{OnlyBytes, IsElsewhere, InPlace}
 use Rattle.sector_slots.specs.Steps.{OnlyMark, IsBegun}
 use Rattle.journal_slots.proofs.Marks.{slot-bytes, kind-bytes, copy-state, settle-mark}
@@ -125,7 +125,7 @@ place-slot i j b t li lj ne h = slot-bytes b t j h.same_length
     (λ q small. h.each (16 + 4 * j + q) (omega (arith, lj, small)) (other-descriptor i j q li lj ne small))
     (λ q small. h.each (512 * (j + 1) + q) (omega (arith, lj, small)) (other-content i j q li ne small))
 
-pub place-content : (i j : ℕ) (b t : List ℕ) → i < 7 → j < 7 → j ≢ i → InPlace i b t → content_in t j ≡ content_in b j
+pub place-content : (i j : ℕ) (b t : List ℕ) → i < 7 → j < 7 → j ≢ i → InPlace i b t → content_bytes t j ≡ content_bytes b j
 place-content i j b t li lj ne h = part-same 512 b t (j + 1) h.same_length (λ q small. h.each (512 * (j + 1) + q) (omega (arith, lj, small)) (other-content i j q li ne small))
 
 pub place-mark : (i : ℕ) (b t : List ℕ) → InPlace i b t → (k : ℕ) → k < 8 → byte t k ≡ byte b k
@@ -173,6 +173,6 @@ settle-cut t s m m' n k l =
     ]
 
 -- an erase that was cut leaves a healthy memory
-pub interrupted-healthy : (c : ℕ) (m m' : List ℕ) → Interrupted c m m' → IsHealthy m'
+pub interrupted-healthy : (c : ℕ) (m m' : List ℕ) → EraseInterrupted c m m' → IsHealthy m'
 interrupted-healthy c m m' (as_it_was h) = h.healthy
 interrupted-healthy c m m' (block_erased healthy h) = healthy

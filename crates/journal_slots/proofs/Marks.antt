@@ -17,7 +17,7 @@ use Rattle.nor_layout.specs.Kinds.{kind_of}
 use Rattle.nor_layout.specs.declared.kind.Kind.{Kind}
 use Rattle.nor_layout.specs.declared.kind.Kind.TheVariants as kinds
 use Rattle.erase_journal.specs.Blocks.{OnlyBlock}
-use Rattle.sector_slots.specs.Slots.{slot_in, slot_with, content_in, data_block}
+use Rattle.sector_slots.specs.Slots.{slot_in, slot_with, content_bytes, data_block}
 use Rattle.sector_slots.specs.Steps.{OnlyMark}
 
 pub header-bytes : (b h : List ℕ) → byte b 0 ≡ byte h 0 → byte b 1 ≡ byte h 1 → byte b 2 ≡ byte h 2 → byte b 3 ≡ byte h 3 → header_of b ≡ header_of h
@@ -32,7 +32,7 @@ slot-bytes b t i n head rest =
     let h = header-bytes (drop (16 + 4 * i) t) (drop (16 + 4 * i) b) (at t 0 ∙ (head 0 (omega arith) ∙ sym (at b 0))) (at t 1 ∙ (head 1 (omega arith) ∙ sym (at b 1)))
     (at t 2 ∙ (head 2 (omega arith) ∙ sym (at b 2))) (at t 3 ∙ (head 3 (omega arith) ∙ sym (at b 3))) in
     let c = part-same 512 b t (i + 1) n rest in
-    ap (λ x. slot_with x (content_in t i)) h ∙ ap (λ x. slot_with (header_of (drop (16 + 4 * i) b)) x) c
+    ap (λ x. slot_with x (content_bytes t i)) h ∙ ap (λ x. slot_with (header_of (drop (16 + 4 * i) b)) x) c
 
 pub bits-begin : (k : ℕ) → k ≢ 0 → bit_at 255 k ≡ bit_at 254 k
 bits-begin zero other = absurd (other refl)

@@ -17,7 +17,7 @@ use Rattle.nor_layout.specs.declared.header.Tag.{Tag}
 use Rattle.nor_layout.specs.Headers.{header_of, live_of, generation_of}
 use Rattle.erase_journal.specs.Blocks.{blank}
 use Rattle.erase_journal.proofs.BlockLaws.{byte-blank}
-use Rattle.sector_slots.specs.Slots.{Slot, Free, Live, NoGeneration, Dead, Outside, slot_with, slot_in, content_in, descriptor_in, data_block, raw_slot, blank_sector}
+use Rattle.sector_slots.specs.Slots.{Slot, Free, Live, NoGeneration, Dead, Outside, slot_with, slot_in, content_bytes, descriptor_in, data_block, raw_slot, blank_sector}
 use Rattle.journal_slots.specs.Programs.{OnlyBytes, InPlace, WriteLeaves, untouched, spoiled, filled}
 use Rattle.sector_slots.specs.Steps.{HoldsTag}
 use Rattle.journal_slots.proofs.Marks.{header-bytes, bits-begin, and-all}
@@ -143,21 +143,21 @@ spoiled-header h e other = elim (cases_eq (byte h 1) 255) as (λ _. header_of h 
 ]
 
 -- a slot by its descriptor
-pub slot-header : (b : List ℕ) (i : ℕ) (h : Header) → descriptor_in b i ≡ h → slot_in b i ≡ slot_with h (content_in b i)
+pub slot-header : (b : List ℕ) (i : ℕ) (h : Header) → descriptor_in b i ≡ h → slot_in b i ≡ slot_with h (content_bytes b i)
 unfolding slot_in
-slot-header b i h e = ap (λ x. slot_with x (content_in b i)) e
+slot-header b i h e = ap (λ x. slot_with x (content_bytes b i)) e
 
 pub slot-free : (b : List ℕ) (i : ℕ) → slot_in b i ≡ Free → descriptor_in b i ≡ headers.Free
 unfolding slot_in
-slot-free b i e = with-free (descriptor_in b i) (content_in b i) e
+slot-free b i e = with-free (descriptor_in b i) (content_bytes b i) e
 
-pub slot-content : (b : List ℕ) (i : ℕ) (tag : Tag) (x : List ℕ) → slot_in b i ≡ Live tag x → x ≡ content_in b i
+pub slot-content : (b : List ℕ) (i : ℕ) (tag : Tag) (x : List ℕ) → slot_in b i ≡ Live tag x → x ≡ content_bytes b i
 unfolding slot_in
-slot-content b i tag x e = with-live (descriptor_in b i) tag (content_in b i) x e
+slot-content b i tag x e = with-live (descriptor_in b i) tag (content_bytes b i) x e
 
 pub slot-number : (b : List ℕ) (i : ℕ) → number_of (slot_in b i) ≡ header_number (descriptor_in b i)
 unfolding slot_in
-slot-number b i = with-number (descriptor_in b i) (content_in b i)
+slot-number b i = with-number (descriptor_in b i) (content_bytes b i)
 
 pub slot-dead : (b : List ℕ) (i : ℕ) → byte b (16 + 4 * i) ≢ 255 → byte b (16 + 4 * i) ≢ 252 → slot_in b i ≡ Dead
 slot-dead b i n m =
@@ -175,7 +175,7 @@ live-state b i tag x e =
     sym first ∙ first-live (drop (16 + 4 * i) b) (sym (slot-number b i) ∙ ap number_of e)
 
 -- a slot by the four bytes of its descriptor, and with its sector
-pub slot-tagged : (t : List ℕ) (i : ℕ) (h : List ℕ) (tag : Tag) → ((j : ℕ) → j < 4 → byte t (16 + 4 * i + j) ≡ byte h j) → header_of h ≡ headers.Live tag → slot_in t i ≡ Live tag (content_in t i)
+pub slot-tagged : (t : List ℕ) (i : ℕ) (h : List ℕ) (tag : Tag) → ((j : ℕ) → j < 4 → byte t (16 + 4 * i + j) ≡ byte h j) → header_of h ≡ headers.Live tag → slot_in t i ≡ Live tag (content_bytes t i)
 slot-tagged t i h tag head live =
     let at = at-descriptor i t in
     let e : descriptor_in t i ≡ headers.Live tag =
@@ -185,8 +185,8 @@ slot-tagged t i h tag head live =
 pub slot-live : (t : List ℕ) (i : ℕ) (h : List ℕ) (tag : Tag) (x : List ℕ) → i < 7 → length t ≡ 4096 → ((j : ℕ) → j < 4 → byte t (16 + 4 * i + j) ≡ byte h j) → header_of h ≡ headers.Live tag
     → length x ≡ 512 → ((j : ℕ) → j < 512 → byte t (512 * (i + 1) + j) ≡ byte x j) → slot_in t i ≡ Live tag x
 slot-live t i h tag x li n head live size rest =
-    let long : length (content_in t i) ≡ 512 = part-whole 512 t (i + 1) (omega (arith, n, li)) in
-    let c : content_in t i ≡ x = ext_get_or 0 (content_in t i) x (long ∙ sym size) (λ j q.
+    let long : length (content_bytes t i) ≡ 512 = part-whole 512 t (i + 1) (omega (arith, n, li)) in
+    let c : content_bytes t i ≡ x = ext_get_or 0 (content_bytes t i) x (long ∙ sym size) (λ j q.
     let low : j < 512 = omega (arith, q, long) in
     get-part 512 t (i + 1) j low ∙ rest j low) in
     slot-tagged t i h tag head live ∙ ap (λ q. Live tag q) c
@@ -225,7 +225,7 @@ fresh-descriptor c i m free j low =
     let four = free-four (drop (16 + 4 * i) (data_block m c)) (slot-free (data_block m c) i free) in
     sym (at-descriptor i (data_block m c) j) ∙ pick (drop (16 + 4 * i) (data_block m c)) four j low
 
-pub blank-content : (b : List ℕ) (i : ℕ) → content_in b i ≡ blank_sector → (j : ℕ) → j < 512 → byte b (512 * (i + 1) + j) ≡ 255
+pub blank-content : (b : List ℕ) (i : ℕ) → content_bytes b i ≡ blank_sector → (j : ℕ) → j < 512 → byte b (512 * (i + 1) + j) ≡ 255
 blank-content b i e j low = sym (get-part 512 b (i + 1) j low) ∙ (ap (λ q. byte q j) e ∙ (get-part 512 blank 1 j low ∙ byte-blank (512 * 1 + j) (omega (arith, low))))
 
 -- A descriptor that is begun, in a free place, whole or torn.
@@ -289,10 +289,10 @@ committed-head i b h x t li n four begun bytes free e =
 
 pub committed-tag : (i : ℕ) (b h x t : List ℕ) (tag : Tag) → i < 7 → length b ≡ 4096 → length h ≡ 4 → byte h 0 ≡ 254 → ((j : ℕ) → byte h j < 256) → header_of (252 ∷ byte h 1 ∷ byte h 2 ∷ byte h 3 ∷ []) ≡ headers.Live tag
     → ((j : ℕ) → j < 4 → byte b (16 + 4 * i + j) ≡ 255) → t ≡ and_at (and_at (and_at b (16 + 4 * i) h) (512 * (i + 1)) x) (16 + 4 * i) (252 ∷ []) → HoldsTag tag (slot_in t i)
-committed-tag i b h x t tag li n four begun bytes back free e = (content_in t i, slot-tagged t i (252 ∷ byte h 1 ∷ byte h 2 ∷ byte h 3 ∷ []) tag (committed-head i b h x t li n four begun bytes free e) back)
+committed-tag i b h x t tag li n four begun bytes back free e = (content_bytes t i, slot-tagged t i (252 ∷ byte h 1 ∷ byte h 2 ∷ byte h 3 ∷ []) tag (committed-head i b h x t li n four begun bytes free e) back)
 
 pub committed : (i : ℕ) (b h x t : List ℕ) (tag : Tag) → i < 7 → length b ≡ 4096 → length h ≡ 4 → byte h 0 ≡ 254 → ((j : ℕ) → byte h j < 256) → header_of (252 ∷ byte h 1 ∷ byte h 2 ∷ byte h 3 ∷ []) ≡ headers.Live tag
-    → length x ≡ 512 → ((j : ℕ) → byte x j < 256) → ((j : ℕ) → j < 4 → byte b (16 + 4 * i + j) ≡ 255) → content_in b i ≡ blank_sector
+    → length x ≡ 512 → ((j : ℕ) → byte x j < 256) → ((j : ℕ) → j < 4 → byte b (16 + 4 * i + j) ≡ 255) → content_bytes b i ≡ blank_sector
     → t ≡ and_at (and_at (and_at b (16 + 4 * i) h) (512 * (i + 1)) x) (16 + 4 * i) (252 ∷ []) → slot_in t i ≡ Live tag x
 committed i b h x t tag li n four begun bytes back size small free blank e =
     let d = 16 + 4 * i in
@@ -318,10 +318,10 @@ copied-head i b h x t li n four bytes free e j low =
 
 pub copied-tag : (i : ℕ) (b h x t : List ℕ) (tag : Tag) → i < 7 → length b ≡ 4096 → length h ≡ 4 → ((j : ℕ) → byte h j < 256) → header_of h ≡ headers.Live tag → ((j : ℕ) → j < 4 → byte b (16 + 4 * i + j) ≡ 255)
     → t ≡ and_at (and_at b (512 * (i + 1)) x) (16 + 4 * i) h → HoldsTag tag (slot_in t i)
-copied-tag i b h x t tag li n four bytes live free e = (content_in t i, slot-tagged t i h tag (copied-head i b h x t li n four bytes free e) live)
+copied-tag i b h x t tag li n four bytes live free e = (content_bytes t i, slot-tagged t i h tag (copied-head i b h x t li n four bytes free e) live)
 
 pub copied : (i : ℕ) (b h x t : List ℕ) (tag : Tag) → i < 7 → length b ≡ 4096 → length h ≡ 4 → ((j : ℕ) → byte h j < 256) → header_of h ≡ headers.Live tag
-    → length x ≡ 512 → ((j : ℕ) → byte x j < 256) → ((j : ℕ) → j < 4 → byte b (16 + 4 * i + j) ≡ 255) → content_in b i ≡ blank_sector
+    → length x ≡ 512 → ((j : ℕ) → byte x j < 256) → ((j : ℕ) → j < 4 → byte b (16 + 4 * i + j) ≡ 255) → content_bytes b i ≡ blank_sector
     → t ≡ and_at (and_at b (512 * (i + 1)) x) (16 + 4 * i) h → slot_in t i ≡ Live tag x
 copied i b h x t tag li n four bytes live size small free blank e =
     let d = 16 + 4 * i in

@@ -12,12 +12,12 @@ use Rattle.nor_layout.specs.declared.header.Tag.{Tag}
 use Rattle.nor_layout.specs.declared.kind.Kind.TheVariants as kinds
 use Rattle.nor_layout.specs.Headers.{header_of}
 use Rattle.nor_layout.specs.Kinds.{kind_of}
-use Rattle.sector_slots.specs.Slots.{Free, Live, slot_in, content_in, descriptor_in, data_block}
+use Rattle.sector_slots.specs.Slots.{Free, Live, slot_in, content_bytes, descriptor_in, data_block}
 use Rattle.sector_slots.specs.Steps.{IsBegun}
 use Rattle.journal_slots.proofs.Marks.{header-bytes, kind-bytes}
 use Rattle.journal_slots.proofs.Places.{number_of, header_number, slot-header, slot-number}
 
-pub content-read : (b x : List ℕ) (i at n : ℕ) → at ≡ 512 * (i + 1) → n ≡ 512 → x ≡ slice_range b at (at + n) → x ≡ content_in b i
+pub content-read : (b x : List ℕ) (i at n : ℕ) → at ≡ 512 * (i + 1) → n ≡ 512 → x ≡ slice_range b at (at + n) → x ≡ content_bytes b i
 unfolding part
 content-read b x i at n e f read =
     let size : at + n - at ≡ 512 = omega (arith, f) in
@@ -30,7 +30,7 @@ known-free b i e = slot-header b i headers.Free (sym e)
 pub known-other : (b : List ℕ) (i : ℕ) (h : Header) → h ≡ descriptor_in b i → header_number h ≢ 0 → slot_in b i ≢ Free
 known-other b i h e n f = n (ap header_number e ∙ (sym (slot-number b i) ∙ ap number_of f))
 
-pub known-live : (b x : List ℕ) (i : ℕ) (tag : Tag) → headers.Live tag ≡ descriptor_in b i → x ≡ content_in b i → slot_in b i ≡ Live tag x
+pub known-live : (b x : List ℕ) (i : ℕ) (tag : Tag) → headers.Live tag ≡ descriptor_in b i → x ≡ content_bytes b i → slot_in b i ≡ Live tag x
 known-live b x i tag e read = slot-header b i (headers.Live tag) (sym e) ∙ ap (λ q. Live tag q) (sym read)
 
 pub known-not_live : (b : List ℕ) (i : ℕ) (h : Header) (tag : Tag) (x : List ℕ) → h ≡ descriptor_in b i → header_number h ≢ 1 → slot_in b i ≢ Live tag x

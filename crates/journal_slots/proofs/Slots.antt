@@ -9,17 +9,17 @@ use Rattle.nor_layout.specs.declared.header.Tag.{Tag}
 use Rattle.nor_layout.specs.Kinds.{kind_of}
 use Rattle.nor_driver.specs.State.{NorState}
 use Rattle.erase_journal.specs.Blocks.{OnlyBlock}
-use Rattle.erase_journal.specs.Steps.{Stands}
+use Rattle.erase_journal.specs.Steps.{KeepsBlocks}
 use Rattle.erase_journal.specs.Recovery.{Restored, RestoreCut}
 use Rattle.sector_slots.proofs.BlankLaws.{same-blocks_slots}
 use Rattle.sector_slots.proofs.StepLaws.{same-slots}
 use Rattle.sector_slots.proofs.SlotLaws.{counted-raw}
-use Rattle.sector_slots.specs.Slots.{Slot, Free, Live, Dead, Outside, IsLive, slot_in, content_in, blank_sector, counted, copies, is_void, is_copy_of, is_counted, data_blocks, data_block, kind_at, raw_slot, slot_at, stored_at, slot_count, IsClean, SameSlots}
+use Rattle.sector_slots.specs.Slots.{Slot, Free, Live, Dead, Outside, IsLive, slot_in, content_bytes, blank_sector, counted, copies, is_void, is_copy_of, is_counted, data_blocks, data_block, kind_at, raw_slot, slot_at, stored_at, slot_count, IsClean, SameSlots}
 use Rattle.journal_slots.specs.Programs.{InPlace, WriteLeaves, untouched, spoiled, filled}
 use Rattle.sector_slots.proofs.CopyLaws.{copies-same}
 use Rattle.sector_slots.proofs.CleanLaws.{clean-only}
 use Rattle.sector_slots.proofs.PlaceLaws.{counted-kept, place-kinds, place-others, later, later-is}
-use Rattle.sector_slots.specs.Steps.{IsWritable, IsFresh, OnlyPlace, IsBegun, HoldsTag, MayHoldTag, PutLeaves, still_free, half_written, written}
+use Rattle.sector_slots.specs.Steps.{IsWritable, IsErasedSlot, OnlyPlace, IsBegun, HoldsTag, MayHoldTag, PutLeaves, still_free, half_written, written}
 use Rattle.journal_slots.proofs.Bytes.{place-slot, place-content, place-kind, place-mark, place-same}
 use Rattle.journal_slots.proofs.Marks.{kind-bytes}
 use Rattle.journal_slots.proofs.Places.{number_of, dead-not-free, live-not-free}
@@ -39,7 +39,7 @@ free-inside s e o = let q : 4 ≡ 0 = ap number_of (sym o ∙ e) in omega (arith
 pub live-inside : (s : Slot) (tag : Tag) (x : List ℕ) → s ≡ Live tag x → s ≢ Outside
 live-inside s tag x e o = let q : 4 ≡ 1 = ap number_of (sym o ∙ e) in omega (arith, q)
 
-pub fresh-slot : (w : ℕ) (m : List ℕ) → w < slot_count m → IsWritable w m → IsFresh (w / 7) (w % 7) m
+pub fresh-slot : (w : ℕ) (m : List ℕ) → w < slot_count m → IsWritable w m → IsErasedSlot (w / 7) (w % 7) m
 fresh-slot w m low h = record { free = counted-raw m w Free h.0 (free-inside Free refl); blank = h.1.slots w low h.0 }
 
 -- one place of one block
@@ -83,16 +83,16 @@ place-clean w m m' low only within clean same =
     let lc : c < data_blocks m = omega (arith, low) in
     clean-only c m m' only clean
     (λ v lv ne free. inl (sym (others.each v lv (λ e. ne (ap (λ a. a / 7) e))) ∙ free))
-    (λ v lv e free. elim (cases_eq v w) as (λ _. content_in (data_block m' c) (v % 7) ≡ blank_sector) [
+    (λ v lv e free. elim (cases_eq v w) as (λ _. content_bytes (data_block m' c) (v % 7) ≡ blank_sector) [
       | inl s ↦
           let raw : stored_at m' v ≡ Free = counted-stored m m' v Free free (free-inside Free refl) in
           let block : data_block m' c ≡ data_block m c = same (subst (λ a. stored_at m' a ≡ Free) s raw) in
           let slot : raw_slot m' (v / 7) (v % 7) ≡ raw_slot m (v / 7) (v % 7) = ap (λ a. raw_slot m' a (v % 7)) e ∙ (ap (λ b. slot_in b (v % 7)) block ∙ ap (λ a. raw_slot m a (v % 7)) (sym e)) in
           let was : slot_at m v ≡ Free = sym (counted-kept (kind_at m) (kind_at m') (raw_slot m) (raw_slot m') (data_blocks m) v (place-kinds w m m' place) slot lv) ∙ free in
-          ap (λ b. content_in b (v % 7)) block ∙ (ap (λ a. content_in (data_block m a) (v % 7)) (sym e) ∙ clean.slots v lv was)
+          ap (λ b. content_bytes b (v % 7)) block ∙ (ap (λ a. content_bytes (data_block m a) (v % 7)) (sym e) ∙ clean.slots v lv was)
       | inr ne ↦
           place-content (w % 7) (v % 7) (data_block m c) (data_block m' c) (omega arith) (omega arith) (λ q. ne (omega (arith, q, e))) within
-          ∙ (ap (λ a. content_in (data_block m a) (v % 7)) (sym e) ∙ clean.slots v lv (sym (others.each v lv ne) ∙ free))
+          ∙ (ap (λ a. content_bytes (data_block m a) (v % 7)) (sym e) ∙ clean.slots v lv (sym (others.each v lv ne) ∙ free))
     ])
     (λ s.
     let block : data_block m' c ≡ data_block m c = same (s.free (w % 7) (omega arith)) in
@@ -147,7 +147,7 @@ retire-clean w m m' low only within clean (inl e) = place-clean w m m' low only 
 retire-clean w m m' low only within clean (inr e) = place-clean w m m' low only within clean (λ f. absurd (dead-not-free (stored_at m' w) e f))
 
 -- what a copy into one place leaves of the others, and of the mark
-pub fresh-kept : (t i j : ℕ) (m m' : List ℕ) → i < 7 → j < 7 → j ≢ i → InPlace i (data_block m t) (data_block m' t) → IsFresh t j m → IsFresh t j m'
+pub fresh-kept : (t i j : ℕ) (m m' : List ℕ) → i < 7 → j < 7 → j ≢ i → InPlace i (data_block m t) (data_block m' t) → IsErasedSlot t j m → IsErasedSlot t j m'
 fresh-kept t i j m m' li lj ne within h = record {
   free = place-slot i j (data_block m t) (data_block m' t) li lj ne within ∙ h.free;
   blank = place-content i j (data_block m t) (data_block m' t) li lj ne within ∙ h.blank;
@@ -199,7 +199,7 @@ same-number found a b e f = ap number_in (sym e ∙ f)
 pub restored-slots : (old new : NorState) → Restored old new → old.is_slow ≡ false → SameSlots old.memory new.memory
 restored-slots old new h quick = same-blocks_slots old.memory new.memory (h.blocks quick)
 
-restore-left : (old new : NorState) → (new.memory ≡ old.memory) ⊎ Stands old.memory new.memory → SameSlots old.memory new.memory
+restore-left : (old new : NorState) → (new.memory ≡ old.memory) ⊎ KeepsBlocks old.memory new.memory → SameSlots old.memory new.memory
 restore-left old new (inl e) = subst (λ m. SameSlots old.memory m) (sym e) (same-slots old.memory)
 restore-left old new (inr h) = same-blocks_slots old.memory new.memory h.blocks
 

@@ -1,8 +1,9 @@
--- What a program leaves of the bytes of a block, and what the programs of one slot do. Source: own, layout 2.
+-- What a program leaves of the bytes of a block, and what the programs of one slot do. Words of
+-- private functions: no claim rests on them. Source: own, layout 2.
 use Rattle.std.specs.Prelude.{◌≡◌, ◌⊎◌, ℕ, ◌+◌, ◌*◌, ◌<◌, ◌≤◌, List, length}
 use Rattle.chip_model.specs.Memory.{byte}
 use Rattle.nor_layout.specs.declared.header.Tag.{Tag}
-use Rattle.sector_slots.specs.Slots.{Live, Dead, slot_in, content_in, blank_sector}
+use Rattle.sector_slots.specs.Slots.{Live, Dead, slot_in, content_bytes, blank_sector}
 use Rattle.sector_slots.specs.Steps.{HoldsTag}
 
 -- n bytes from `from` on may differ, all others are the same
@@ -12,16 +13,18 @@ pub record OnlyBytes (from n : ℕ) (b t : List ℕ) : Type 0 where
 
 -- byte k of a block is neither of the descriptor nor of the sector of place i
 abbrev pub IsElsewhere : ℕ → ℕ → Type 0
-IsElsewhere i k = ((k < 16 + 4 * i) ⊎ (20 + 4 * i ≤ k)) × ((k < 512 * (i + 1)) ⊎ (512 * (i + 1) + 512 ≤ k))
+IsElsewhere i k = ((k < 16 + 4 * i) ⊎ (20 + 4 * i ≤ k))
+    × ((k < 512 * (i + 1)) ⊎ (512 * (i + 1) + 512 ≤ k))
 
 -- the bytes of place i may differ, all others are the same
 pub record InPlace (i : ℕ) (b t : List ℕ) : Type 0 where
   pub same_length : length t ≡ length b
   pub each : (k : ℕ) → k < 4096 → IsElsewhere i k → byte t k ≡ byte b k
 
--- What a write of a sector into place i, which is free, leaves where it is cut: the block as it was, or the slot dead, or live with
--- the tag, and where the place was erased with the sector.
+-- What a write of a sector into place i, which is free, leaves where it is cut: the block as it
+-- was, or the slot dead, or live with the tag, and where the place was erased with the sector.
 pub data WriteLeaves (i : ℕ) (tag : Tag) (x b t : List ℕ) : Type 0 where
   untouched : t ≡ b → WriteLeaves i tag x b t
   spoiled : slot_in t i ≡ Dead → WriteLeaves i tag x b t
-  filled : HoldsTag tag (slot_in t i) → (content_in b i ≡ blank_sector → slot_in t i ≡ Live tag x) → WriteLeaves i tag x b t
+  filled : HoldsTag tag (slot_in t i)
+      → (content_bytes b i ≡ blank_sector → slot_in t i ≡ Live tag x) → WriteLeaves i tag x b t

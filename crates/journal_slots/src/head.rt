@@ -1,11 +1,14 @@
 //! The head of a block: what one read says of its kind and of its seven slots.
 
-ghost use Rattle.std.specs.Prelude.{◌≡◌, ◌+◌, ◌*◌, ◌<◌, ℕ, drop, length, slice_index_or, OnOk, IfOk, IfErr};
+ghost use Rattle.std.specs.Prelude.{◌≡◌, ◌+◌, ◌*◌, ◌<◌, ℕ, drop, length, slice_index_or, OnOk};
+ghost use Rattle.std.specs.Prelude.{IfOk, IfErr};
 ghost use Rattle.chip_model.specs.Geometry.{IsChipSize};
+ghost use Rattle.nor_driver.specs.State.{Refuses};
 ghost use Rattle.nor_layout.specs.Headers.{header_of};
 ghost use Rattle.nor_layout.specs.Kinds.{kind_of};
-ghost use Rattle.sector_slots.specs.Slots.{data_blocks, data_block, descriptor_in, kind_at, read_header};
-ghost use Rattle.sector_slots.specs.Steps.{Succeeds, Refuses};
+ghost use Rattle.erase_journal.specs.Steps.{SucceedsSettled};
+ghost use Rattle.sector_slots.specs.Slots.{data_blocks, data_block, descriptor_in, kind_at};
+ghost use Rattle.sector_slots.specs.Slots.{read_header};
 
 use crate::store::FIRST_DATA_BLOCK;
 use erase_journal::Journal;
@@ -35,7 +38,8 @@ fn place_state(head: &[u8; HEAD_LEN], place: usize) -> Header
 /// What the first bytes of a block say. Any bytes may be passed.
 fn head_of(head: &[u8; HEAD_LEN]) -> BlockHead
     ensures kind { result.kind ≡ kind_of head.now }
-    ensures places { (i : ℕ) → i < 7 → slice_index_or result.places i Header.Free ≡ header_of (drop (16 + 4 * i) head.now) }
+    ensures places { (i : ℕ) → i < 7
+        → slice_index_or result.places i Header.Free ≡ header_of (drop (16 + 4 * i) head.now) }
 {
     let kind = block_kind([
         head[0], head[1], head[2], head[3], head[4], head[5], head[6], head[7],
@@ -62,10 +66,11 @@ pub(crate) fn read_head<N: Nor>(
     requires sized { IsChipSize (length journal.old.memory) }
     requires room { length into.old ≡ 7 }
     ensures ok { IfOk result (λ kind. kind ≡ kind_at journal.old.memory block) }
-    ensures slots { OnOk result ((i : ℕ) → i < 7 → read_header into.new i ≡ descriptor_in (data_block journal.old.memory block) i) }
+    ensures slots { OnOk result ((i : ℕ) → i < 7
+        → read_header into.new i ≡ descriptor_in (data_block journal.old.memory block) i) }
     ensures size { length into.new ≡ length into.old }
     ensures same { journal.new.memory ≡ journal.old.memory }
-    ensures done { OnOk result (Succeeds journal.old journal.new) }
+    ensures done { OnOk result (SucceedsSettled journal.old journal.new) }
     ensures fails { IfErr result (λ e. Refuses e journal.old journal.new) }
 {
     let mut bytes = [0; HEAD_LEN];

@@ -4,12 +4,13 @@ ghost use Rattle.std.specs.Prelude.{◌≡◌, ◌⊎◌, ◌+◌, ◌<◌, ◌�
 ghost use Rattle.std.specs.Result.{IsErrOf};
 ghost use Rattle.chip_model.specs.Geometry.{IsChipSize};
 ghost use Rattle.chip_model.specs.Memory.{byte};
+ghost use Rattle.nor_driver.specs.State.{Refuses};
 ghost use Rattle.nor_layout.specs.Kinds.{kind_of};
 ghost use Rattle.erase_journal.specs.Blocks.{SameChip, WithErased};
 ghost use Rattle.erase_journal.specs.Journals.{IsHealthy};
-ghost use Rattle.erase_journal.specs.Steps.{Interrupted};
+ghost use Rattle.erase_journal.specs.Steps.{EraseInterrupted, SucceedsSettled};
 ghost use Rattle.sector_slots.specs.Slots.{data_blocks, data_block, kind_at};
-ghost use Rattle.sector_slots.specs.Steps.{Succeeds, Refuses, OnlyMark, IsBegun};
+ghost use Rattle.sector_slots.specs.Steps.{OnlyMark, IsBegun};
 
 use crate::store::FIRST_DATA_BLOCK;
 use erase_journal::Journal;
@@ -22,7 +23,7 @@ pub(crate) fn read_kind<N: Nor>(journal: &mut Journal<N>, block: u16) -> Result<
     requires sized { IsChipSize (length journal.old.memory) }
     ensures ok { IfOk result (λ kind. kind ≡ kind_at journal.old.memory block) }
     ensures same { journal.new.memory ≡ journal.old.memory }
-    ensures done { OnOk result (Succeeds journal.old journal.new) }
+    ensures done { OnOk result (SucceedsSettled journal.old journal.new) }
     ensures fails { IfErr result (λ e. Refuses e journal.old journal.new) }
 {
     let mut mark = [0; MARK_LEN];
@@ -41,15 +42,20 @@ pub(crate) fn program_mark<N: Nor>(
     requires sized { IsChipSize (length journal.old.memory) }
     requires mark { length mark.now ≡ 4 }
     requires begun { byte mark.now 0 ≡ 254 }
-    requires names { kind_of (255 ∷ 255 ∷ 255 ∷ 255 ∷ 252 ∷ byte mark.now 1 ∷ byte mark.now 2 ∷ byte mark.now 3 ∷ []) ≡ Kind.Committed (source + 4) }
-    ensures ok { OnOk result (kind_at journal.old.memory target ≡ Kind.Plain → IsBegun target source journal.new.memory) }
+    requires names { kind_of (255 ∷ 255 ∷ 255 ∷ 255 ∷ 252 ∷ byte mark.now 1 ∷ byte mark.now 2
+        ∷ byte mark.now 3 ∷ []) ≡ Kind.Committed (source + 4) }
+    ensures ok { OnOk result (kind_at journal.old.memory target ≡ Kind.Plain
+        → IsBegun target source journal.new.memory) }
     ensures cut { IsErrOf result NorError.Cut → kind_at journal.old.memory target ≡ Kind.Plain
-        → (data_block journal.new.memory target ≡ data_block journal.old.memory target) ⊎ (kind_at journal.new.memory target ≡ Kind.Void) }
+        → (data_block journal.new.memory target ≡ data_block journal.old.memory target)
+        ⊎ (kind_at journal.new.memory target ≡ Kind.Void) }
     ensures only { OnOk result (OnlyMark target journal.old.memory journal.new.memory) }
-    ensures cut_only { IsErrOf result NorError.Cut → OnlyMark target journal.old.memory journal.new.memory }
+    ensures cut_only { IsErrOf result NorError.Cut
+        → OnlyMark target journal.old.memory journal.new.memory }
     ensures chip { SameChip journal.old.memory journal.new.memory }
-    ensures healthy { IsErrOf result NorError.Cut → IsHealthy journal.old.memory → IsHealthy journal.new.memory }
-    ensures done { OnOk result (Succeeds journal.old journal.new) }
+    ensures healthy { IsErrOf result NorError.Cut → IsHealthy journal.old.memory
+        → IsHealthy journal.new.memory }
+    ensures done { OnOk result (SucceedsSettled journal.old journal.new) }
     ensures fails { IfErr result (λ e. Refuses e journal.old journal.new) }
 {
     journal.program(target + FIRST_DATA_BLOCK, 4, mark)?;
@@ -60,14 +66,19 @@ pub(crate) fn program_mark<N: Nor>(
 pub(crate) fn commit_mark<N: Nor>(journal: &mut Journal<N>, target: u16) -> Result<(), NorError>
     requires target { target < data_blocks journal.old.memory }
     requires sized { IsChipSize (length journal.old.memory) }
-    ensures ok { OnOk result ((source : ℕ) → IsBegun target source journal.old.memory → kind_at journal.new.memory target ≡ Kind.Committed (source + 4)) }
-    ensures cut { IsErrOf result NorError.Cut → (source : ℕ) → IsBegun target source journal.old.memory
-        → (kind_at journal.new.memory target ≡ Kind.Void) ⊎ (kind_at journal.new.memory target ≡ Kind.Committed (source + 4)) }
+    ensures ok { OnOk result ((source : ℕ) → IsBegun target source journal.old.memory
+        → kind_at journal.new.memory target ≡ Kind.Committed (source + 4)) }
+    ensures cut { IsErrOf result NorError.Cut → (source : ℕ)
+        → IsBegun target source journal.old.memory
+        → (kind_at journal.new.memory target ≡ Kind.Void)
+        ⊎ (kind_at journal.new.memory target ≡ Kind.Committed (source + 4)) }
     ensures only { OnOk result (OnlyMark target journal.old.memory journal.new.memory) }
-    ensures cut_only { IsErrOf result NorError.Cut → OnlyMark target journal.old.memory journal.new.memory }
+    ensures cut_only { IsErrOf result NorError.Cut
+        → OnlyMark target journal.old.memory journal.new.memory }
     ensures chip { SameChip journal.old.memory journal.new.memory }
-    ensures healthy { IsErrOf result NorError.Cut → IsHealthy journal.old.memory → IsHealthy journal.new.memory }
-    ensures done { OnOk result (Succeeds journal.old journal.new) }
+    ensures healthy { IsErrOf result NorError.Cut → IsHealthy journal.old.memory
+        → IsHealthy journal.new.memory }
+    ensures done { OnOk result (SucceedsSettled journal.old journal.new) }
     ensures fails { IfErr result (λ e. Refuses e journal.old journal.new) }
 {
     journal.program(target + FIRST_DATA_BLOCK, 4, &[COMMITTED])?;
@@ -78,14 +89,20 @@ pub(crate) fn commit_mark<N: Nor>(journal: &mut Journal<N>, target: u16) -> Resu
 pub(crate) fn settle_mark<N: Nor>(journal: &mut Journal<N>, target: u16) -> Result<(), NorError>
     requires target { target < data_blocks journal.old.memory }
     requires sized { IsChipSize (length journal.old.memory) }
-    ensures ok { OnOk result ((source : ℕ) → kind_at journal.old.memory target ≡ Kind.Committed source → kind_at journal.new.memory target ≡ Kind.Settled) }
-    ensures cut { IsErrOf result NorError.Cut → (source : ℕ) → kind_at journal.old.memory target ≡ Kind.Committed source
-        → (kind_at journal.new.memory target ≡ Kind.Committed source) ⊎ (kind_at journal.new.memory target ≡ Kind.Settled) }
+    ensures ok { OnOk result ((source : ℕ)
+        → kind_at journal.old.memory target ≡ Kind.Committed source
+        → kind_at journal.new.memory target ≡ Kind.Settled) }
+    ensures cut { IsErrOf result NorError.Cut → (source : ℕ)
+        → kind_at journal.old.memory target ≡ Kind.Committed source
+        → (kind_at journal.new.memory target ≡ Kind.Committed source)
+        ⊎ (kind_at journal.new.memory target ≡ Kind.Settled) }
     ensures only { OnOk result (OnlyMark target journal.old.memory journal.new.memory) }
-    ensures cut_only { IsErrOf result NorError.Cut → OnlyMark target journal.old.memory journal.new.memory }
+    ensures cut_only { IsErrOf result NorError.Cut
+        → OnlyMark target journal.old.memory journal.new.memory }
     ensures chip { SameChip journal.old.memory journal.new.memory }
-    ensures healthy { IsErrOf result NorError.Cut → IsHealthy journal.old.memory → IsHealthy journal.new.memory }
-    ensures done { OnOk result (Succeeds journal.old journal.new) }
+    ensures healthy { IsErrOf result NorError.Cut → IsHealthy journal.old.memory
+        → IsHealthy journal.new.memory }
+    ensures done { OnOk result (SucceedsSettled journal.old journal.new) }
     ensures fails { IfErr result (λ e. Refuses e journal.old journal.new) }
 {
     journal.program(target + FIRST_DATA_BLOCK, 4, &[SETTLED])?;
@@ -97,10 +114,12 @@ pub(crate) fn erase_data<N: Nor>(journal: &mut Journal<N>, block: u16) -> Result
     requires number { block < data_blocks journal.old.memory }
     requires sized { IsChipSize (length journal.old.memory) }
     ensures ok { OnOk result (WithErased (block + 4) journal.old.memory journal.new.memory) }
-    ensures cut { IsErrOf result NorError.Cut → IsHealthy journal.old.memory → Interrupted (block + 4) journal.old.memory journal.new.memory }
-    ensures healthy { IsErrOf result NorError.Cut → IsHealthy journal.old.memory → IsHealthy journal.new.memory }
+    ensures cut { IsErrOf result NorError.Cut → IsHealthy journal.old.memory
+        → EraseInterrupted (block + 4) journal.old.memory journal.new.memory }
+    ensures healthy { IsErrOf result NorError.Cut → IsHealthy journal.old.memory
+        → IsHealthy journal.new.memory }
     ensures size { length journal.new.memory ≡ length journal.old.memory }
-    ensures done { OnOk result (Succeeds journal.old journal.new) }
+    ensures done { OnOk result (SucceedsSettled journal.old journal.new) }
     ensures fails { IfErr result (λ e. Refuses e journal.old journal.new) }
 {
     journal.erase(block + FIRST_DATA_BLOCK)?;

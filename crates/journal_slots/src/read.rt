@@ -1,11 +1,15 @@
 //! What is read of one slot, and of the mark of a copy, over a journal. No read changes the memory.
 
-ghost use Rattle.std.specs.Prelude.{◌≡◌, ◌≢◌, ◌↔◌, ◌+◌, ◌<◌, ◌∷◌, [], ℕ, List, Some, length, slice_set, OnOk, IfOk, IfErr, MatchOption, IsTrue};
+ghost use Rattle.std.specs.Prelude.{◌≡◌, ◌≢◌, ◌↔◌, ◌+◌, ◌<◌, ◌∷◌, [], ℕ, List, Some, length};
+ghost use Rattle.std.specs.Prelude.{slice_set, OnOk, IfOk, IfErr, MatchOption, IsTrue};
 ghost use Rattle.chip_model.specs.Geometry.{IsChipSize};
+ghost use Rattle.nor_driver.specs.State.{Refuses};
 ghost use Rattle.nor_layout.specs.Kinds.{kind_of};
 ghost use Rattle.nor_layout.specs.declared.header.Tag.{Tag as TagOf};
-ghost use Rattle.sector_slots.specs.Slots.{Free, Live, data_blocks, data_block, descriptor_in, content_in, raw_slot, stored_at, slot_count};
-ghost use Rattle.sector_slots.specs.Steps.{Succeeds, Refuses, IsBegun};
+ghost use Rattle.erase_journal.specs.Steps.{SucceedsSettled};
+ghost use Rattle.sector_slots.specs.Slots.{Free, Live, data_blocks, data_block, descriptor_in};
+ghost use Rattle.sector_slots.specs.Slots.{content_bytes, raw_slot, stored_at, slot_count};
+ghost use Rattle.sector_slots.specs.Steps.{IsBegun};
 
 use crate::store::FIRST_DATA_BLOCK;
 use crate::write::{PLACES, content_place, descriptor_place};
@@ -22,9 +26,10 @@ pub(crate) fn read_header<N: Nor>(
     requires number { block < data_blocks journal.old.memory }
     requires place { place < 7 }
     requires sized { IsChipSize (length journal.old.memory) }
-    ensures ok { IfOk result (λ header. header ≡ descriptor_in (data_block journal.old.memory block) place) }
+    ensures ok { IfOk result (λ header. header
+        ≡ descriptor_in (data_block journal.old.memory block) place) }
     ensures same { journal.new.memory ≡ journal.old.memory }
-    ensures done { OnOk result (Succeeds journal.old journal.new) }
+    ensures done { OnOk result (SucceedsSettled journal.old journal.new) }
     ensures fails { IfErr result (λ e. Refuses e journal.old journal.new) }
 {
     let mut head = [0; HEADER_LEN];
@@ -43,9 +48,10 @@ pub(crate) fn read_content<N: Nor>(
     requires place { place < 7 }
     requires sized { IsChipSize (length journal.old.memory) }
     requires room { length into.old ≡ 512 }
-    ensures ok { OnOk result (into.new ≡ content_in (data_block journal.old.memory block) place) }
+    ensures ok { OnOk result (into.new
+        ≡ content_bytes (data_block journal.old.memory block) place) }
     ensures same { journal.new.memory ≡ journal.old.memory }
-    ensures done { OnOk result (Succeeds journal.old journal.new) }
+    ensures done { OnOk result (SucceedsSettled journal.old journal.new) }
     ensures fails { IfErr result (λ e. Refuses e journal.old journal.new) }
 {
     journal.read(block + FIRST_DATA_BLOCK, content_place(place), into)?;
@@ -64,10 +70,11 @@ pub(crate) fn read_slot<N: Nor>(
     requires sized { IsChipSize (length journal.old.memory) }
     requires room { length into.old ≡ 512 }
     ensures ok { IfOk result (λ found. MatchOption found
-        (((tag : TagOf) (content : List ℕ) → raw_slot journal.old.memory block place ≢ Live tag content) × (into.new ≡ into.old))
+        (((tag : TagOf) (content : List ℕ)
+        → raw_slot journal.old.memory block place ≢ Live tag content) × (into.new ≡ into.old))
         (λ tag. raw_slot journal.old.memory block place ≡ Live tag into.new)) }
     ensures same { journal.new.memory ≡ journal.old.memory }
-    ensures done { OnOk result (Succeeds journal.old journal.new) }
+    ensures done { OnOk result (SucceedsSettled journal.old journal.new) }
     ensures fails { IfErr result (λ e. Refuses e journal.old journal.new) }
 {
     match read_header(journal, block, place)? {
@@ -85,9 +92,10 @@ pub(crate) fn read_slot<N: Nor>(
 pub(crate) fn free_at<N: Nor>(journal: &mut Journal<N>, slot: u16) -> Result<bool, NorError>
     requires number { slot < slot_count journal.old.memory }
     requires sized { IsChipSize (length journal.old.memory) }
-    ensures ok { IfOk result (λ is_free. IsTrue is_free ↔ (stored_at journal.old.memory slot ≡ Free)) }
+    ensures ok { IfOk result (λ is_free. IsTrue is_free
+        ↔ (stored_at journal.old.memory slot ≡ Free)) }
     ensures same { journal.new.memory ≡ journal.old.memory }
-    ensures done { OnOk result (Succeeds journal.old journal.new) }
+    ensures done { OnOk result (SucceedsSettled journal.old journal.new) }
     ensures fails { IfErr result (λ e. Refuses e journal.old journal.new) }
 {
     match read_header(journal, slot / PLACES, slot % PLACES)? {
@@ -107,9 +115,10 @@ pub(crate) fn content_at<N: Nor>(
     requires number { slot < slot_count journal.old.memory }
     requires sized { IsChipSize (length journal.old.memory) }
     requires room { length into.old ≡ 512 }
-    ensures ok { OnOk result ((tag : TagOf) (content : List ℕ) → stored_at journal.old.memory slot ≡ Live tag content → into.new ≡ content) }
+    ensures ok { OnOk result ((tag : TagOf) (content : List ℕ)
+        → stored_at journal.old.memory slot ≡ Live tag content → into.new ≡ content) }
     ensures same { journal.new.memory ≡ journal.old.memory }
-    ensures done { OnOk result (Succeeds journal.old journal.new) }
+    ensures done { OnOk result (SucceedsSettled journal.old journal.new) }
     ensures fails { IfErr result (λ e. Refuses e journal.old journal.new) }
 {
     read_content(journal, slot / PLACES, slot % PLACES, into)?;
@@ -119,7 +128,8 @@ pub(crate) fn content_at<N: Nor>(
 /// The data block that the mark of a begun copy names, where it is one of this many.
 fn marked_source(mark: [u8; MARK_LEN], blocks: u16) -> Option<u16>
     ensures within { MatchOption result (Unit {0}) (λ source. source < blocks) }
-    ensures named { (source : ℕ) → source < blocks → kind_of (slice_set mark 4 252) ≡ Kind.Committed (source + 4) → result ≡ Some source }
+    ensures named { (source : ℕ) → source < blocks
+        → kind_of (slice_set mark 4 252) ≡ Kind.Committed (source + 4) → result ≡ Some source }
 {
     let mut committed = mark;
     committed[4] = COMMITTED;
@@ -139,10 +149,12 @@ pub(crate) fn read_source<N: Nor>(
 ) -> Result<Option<u16>, NorError>
     requires target { target < data_blocks journal.old.memory }
     requires sized { IsChipSize (length journal.old.memory) }
-    ensures within { IfOk result (λ found. MatchOption found (Unit {0}) (λ source. source < data_blocks journal.old.memory)) }
-    ensures named { IfOk result (λ found. (source : ℕ) → source < data_blocks journal.old.memory → IsBegun target source journal.old.memory → found ≡ Some source) }
+    ensures within { IfOk result (λ found.
+        MatchOption found (Unit {0}) (λ source. source < data_blocks journal.old.memory)) }
+    ensures named { IfOk result (λ found. (source : ℕ) → source < data_blocks journal.old.memory
+        → IsBegun target source journal.old.memory → found ≡ Some source) }
     ensures same { journal.new.memory ≡ journal.old.memory }
-    ensures done { OnOk result (Succeeds journal.old journal.new) }
+    ensures done { OnOk result (SucceedsSettled journal.old journal.new) }
     ensures fails { IfErr result (λ e. Refuses e journal.old journal.new) }
 {
     let blocks = journal.blocks() - FIRST_DATA_BLOCK;

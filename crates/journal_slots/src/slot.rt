@@ -3,11 +3,15 @@
 ghost use Rattle.std.specs.Prelude.{◌≡◌, ◌≢◌, ◌⊎◌, ◌+◌, ◌*◌, ◌<◌, ℕ, length, OnOk, IfErr};
 ghost use Rattle.std.specs.Result.{IsErrOf};
 ghost use Rattle.chip_model.specs.Geometry.{IsChipSize};
+ghost use Rattle.nor_driver.specs.State.{Refuses};
 ghost use Rattle.erase_journal.specs.Blocks.{SameChip, OnlyBlock};
 ghost use Rattle.erase_journal.specs.Journals.{IsHealthy};
-ghost use Rattle.sector_slots.specs.Slots.{Free, Live, Dead, data_blocks, data_block, kind_at, raw_slot, slot_at, slot_count, IsClean, IsLive};
+ghost use Rattle.erase_journal.specs.Steps.{SucceedsSettled};
+ghost use Rattle.sector_slots.specs.Slots.{Free, Live, Dead, data_blocks, data_block, kind_at};
+ghost use Rattle.sector_slots.specs.Slots.{raw_slot, slot_at, slot_count, IsClean, IsLive};
 ghost use Rattle.journal_slots.specs.Programs.{InPlace};
-ghost use Rattle.sector_slots.specs.Steps.{Succeeds, Refuses, IsWritable, PutLeaves, HoldsTag, MayHoldTag, OnlyPlace, IsBegun, IsFresh, CopyLeaves};
+ghost use Rattle.sector_slots.specs.Steps.{IsWritable, PutLeaves, HoldsTag, MayHoldTag, OnlyPlace};
+ghost use Rattle.sector_slots.specs.Steps.{IsBegun, IsErasedSlot, CopyLeaves};
 
 use crate::read::{read_slot, read_source};
 use crate::write::{PLACES, copy_in, put_in, retire_in};
@@ -28,17 +32,24 @@ pub(crate) fn put_at<N: Nor>(
     requires number { slot < slot_count journal.old.memory }
     requires sized { IsChipSize (length journal.old.memory) }
     requires size { length content.now ≡ 512 }
-    ensures ok { OnOk result (IsWritable slot journal.old.memory → slot_at journal.new.memory slot ≡ Live tag content.now) }
-    ensures cut { IsErrOf result NorError.Cut → IsWritable slot journal.old.memory → PutLeaves tag content.now (slot_at journal.new.memory slot) }
-    ensures live { OnOk result (slot_at journal.old.memory slot ≡ Free → HoldsTag tag (slot_at journal.new.memory slot)) }
-    ensures cut_live { IsErrOf result NorError.Cut → slot_at journal.old.memory slot ≡ Free → MayHoldTag tag (slot_at journal.new.memory slot) }
+    ensures ok { OnOk result (IsWritable slot journal.old.memory
+        → slot_at journal.new.memory slot ≡ Live tag content.now) }
+    ensures cut { IsErrOf result NorError.Cut → IsWritable slot journal.old.memory
+        → PutLeaves tag content.now (slot_at journal.new.memory slot) }
+    ensures live { OnOk result (slot_at journal.old.memory slot ≡ Free
+        → HoldsTag tag (slot_at journal.new.memory slot)) }
+    ensures cut_live { IsErrOf result NorError.Cut → slot_at journal.old.memory slot ≡ Free
+        → MayHoldTag tag (slot_at journal.new.memory slot) }
     ensures clean { OnOk result (IsWritable slot journal.old.memory → IsClean journal.new.memory) }
-    ensures cut_clean { IsErrOf result NorError.Cut → IsWritable slot journal.old.memory → IsClean journal.new.memory }
+    ensures cut_clean { IsErrOf result NorError.Cut → IsWritable slot journal.old.memory
+        → IsClean journal.new.memory }
     ensures only { OnOk result (OnlyPlace slot journal.old.memory journal.new.memory) }
-    ensures cut_only { IsErrOf result NorError.Cut → OnlyPlace slot journal.old.memory journal.new.memory }
+    ensures cut_only { IsErrOf result NorError.Cut
+        → OnlyPlace slot journal.old.memory journal.new.memory }
     ensures chip { SameChip journal.old.memory journal.new.memory }
-    ensures healthy { IsErrOf result NorError.Cut → IsHealthy journal.old.memory → IsHealthy journal.new.memory }
-    ensures done { OnOk result (Succeeds journal.old journal.new) }
+    ensures healthy { IsErrOf result NorError.Cut → IsHealthy journal.old.memory
+        → IsHealthy journal.new.memory }
+    ensures done { OnOk result (SucceedsSettled journal.old journal.new) }
     ensures fails { IfErr result (λ e. Refuses e journal.old journal.new) }
 {
     put_in(journal, slot / PLACES, slot % PLACES, tag, content)?;
@@ -49,16 +60,22 @@ pub(crate) fn put_at<N: Nor>(
 pub(crate) fn retire_at<N: Nor>(journal: &mut Journal<N>, slot: u16) -> Result<(), NorError>
     requires number { slot < slot_count journal.old.memory }
     requires sized { IsChipSize (length journal.old.memory) }
-    ensures ok { OnOk result (IsLive (slot_at journal.old.memory slot) → slot_at journal.new.memory slot ≡ Dead) }
+    ensures ok { OnOk result (IsLive (slot_at journal.old.memory slot)
+        → slot_at journal.new.memory slot ≡ Dead) }
     ensures cut { IsErrOf result NorError.Cut → IsLive (slot_at journal.old.memory slot)
-        → (slot_at journal.new.memory slot ≡ slot_at journal.old.memory slot) ⊎ (slot_at journal.new.memory slot ≡ Dead) }
-    ensures clean { OnOk result (IsLive (slot_at journal.old.memory slot) → IsClean journal.old.memory → IsClean journal.new.memory) }
-    ensures cut_clean { IsErrOf result NorError.Cut → IsLive (slot_at journal.old.memory slot) → IsClean journal.old.memory → IsClean journal.new.memory }
+        → (slot_at journal.new.memory slot ≡ slot_at journal.old.memory slot)
+        ⊎ (slot_at journal.new.memory slot ≡ Dead) }
+    ensures clean { OnOk result (IsLive (slot_at journal.old.memory slot)
+        → IsClean journal.old.memory → IsClean journal.new.memory) }
+    ensures cut_clean { IsErrOf result NorError.Cut → IsLive (slot_at journal.old.memory slot)
+        → IsClean journal.old.memory → IsClean journal.new.memory }
     ensures only { OnOk result (OnlyPlace slot journal.old.memory journal.new.memory) }
-    ensures cut_only { IsErrOf result NorError.Cut → OnlyPlace slot journal.old.memory journal.new.memory }
+    ensures cut_only { IsErrOf result NorError.Cut
+        → OnlyPlace slot journal.old.memory journal.new.memory }
     ensures chip { SameChip journal.old.memory journal.new.memory }
-    ensures healthy { IsErrOf result NorError.Cut → IsHealthy journal.old.memory → IsHealthy journal.new.memory }
-    ensures done { OnOk result (Succeeds journal.old journal.new) }
+    ensures healthy { IsErrOf result NorError.Cut → IsHealthy journal.old.memory
+        → IsHealthy journal.new.memory }
+    ensures done { OnOk result (SucceedsSettled journal.old journal.new) }
     ensures fails { IfErr result (λ e. Refuses e journal.old journal.new) }
 {
     retire_in(journal, slot / PLACES, slot % PLACES)?;
@@ -77,12 +94,17 @@ fn copy_from<N: Nor>(
     requires place { place < 7 }
     requires sized { IsChipSize (length journal.old.memory) }
     ensures ok { OnOk result (raw_slot journal.old.memory target place ≡ Free
-        → CopyLeaves (raw_slot journal.old.memory source place) target place journal.old.memory journal.new.memory) }
-    ensures within { OnOk result (InPlace place (data_block journal.old.memory target) (data_block journal.new.memory target)) }
-    ensures cut_within { IsErrOf result NorError.Cut → InPlace place (data_block journal.old.memory target) (data_block journal.new.memory target) }
+        → CopyLeaves (raw_slot journal.old.memory source place) target place journal.old.memory
+        journal.new.memory) }
+    ensures within { OnOk result (InPlace place (data_block journal.old.memory target)
+        (data_block journal.new.memory target)) }
+    ensures cut_within { IsErrOf result NorError.Cut
+        → InPlace place (data_block journal.old.memory target)
+        (data_block journal.new.memory target) }
     ensures only { OnlyBlock (target + 4) journal.old.memory journal.new.memory }
-    ensures healthy { IsErrOf result NorError.Cut → IsHealthy journal.old.memory → IsHealthy journal.new.memory }
-    ensures done { OnOk result (Succeeds journal.old journal.new) }
+    ensures healthy { IsErrOf result NorError.Cut → IsHealthy journal.old.memory
+        → IsHealthy journal.new.memory }
+    ensures done { OnOk result (SucceedsSettled journal.old journal.new) }
     ensures fails { IfErr result (λ e. Refuses e journal.old journal.new) }
 {
     let mut content = [0; SECTOR_LEN];
@@ -104,15 +126,23 @@ pub(crate) fn copy_at<N: Nor>(
     requires target { target < data_blocks journal.old.memory }
     requires place { place < 7 }
     requires sized { IsChipSize (length journal.old.memory) }
-    ensures ok { OnOk result ((source : ℕ) → source < data_blocks journal.old.memory → IsBegun target source journal.old.memory → raw_slot journal.old.memory target place ≡ Free
-        → IsBegun target source journal.new.memory × CopyLeaves (raw_slot journal.old.memory source place) target place journal.old.memory journal.new.memory) }
-    ensures cut { IsErrOf result NorError.Cut → kind_at journal.old.memory target ≡ Kind.Void → kind_at journal.new.memory target ≡ Kind.Void }
-    ensures only { OnOk result (OnlyPlace (7 * target + place) journal.old.memory journal.new.memory) }
-    ensures cut_only { IsErrOf result NorError.Cut → OnlyPlace (7 * target + place) journal.old.memory journal.new.memory }
+    ensures ok { OnOk result ((source : ℕ) → source < data_blocks journal.old.memory
+        → IsBegun target source journal.old.memory → raw_slot journal.old.memory target place ≡ Free
+        → IsBegun target source journal.new.memory
+        × CopyLeaves (raw_slot journal.old.memory source place) target place journal.old.memory
+        journal.new.memory) }
+    ensures cut { IsErrOf result NorError.Cut → kind_at journal.old.memory target ≡ Kind.Void
+        → kind_at journal.new.memory target ≡ Kind.Void }
+    ensures only { OnOk result (OnlyPlace (7 * target + place) journal.old.memory
+        journal.new.memory) }
+    ensures cut_only { IsErrOf result NorError.Cut
+        → OnlyPlace (7 * target + place) journal.old.memory journal.new.memory }
     ensures chip { SameChip journal.old.memory journal.new.memory }
-    ensures fresh { OnOk result ((i : ℕ) → i < 7 → i ≢ place → IsFresh target i journal.old.memory → IsFresh target i journal.new.memory) }
-    ensures healthy { IsErrOf result NorError.Cut → IsHealthy journal.old.memory → IsHealthy journal.new.memory }
-    ensures done { OnOk result (Succeeds journal.old journal.new) }
+    ensures fresh { OnOk result ((i : ℕ) → i < 7 → i ≢ place
+        → IsErasedSlot target i journal.old.memory → IsErasedSlot target i journal.new.memory) }
+    ensures healthy { IsErrOf result NorError.Cut → IsHealthy journal.old.memory
+        → IsHealthy journal.new.memory }
+    ensures done { OnOk result (SucceedsSettled journal.old journal.new) }
     ensures fails { IfErr result (λ e. Refuses e journal.old journal.new) }
 {
     match read_source(journal, target)? {

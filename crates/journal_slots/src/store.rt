@@ -3,10 +3,10 @@
 ghost use Rattle.std.specs.Prelude.{◌≡◌, ◌<◌, true, length, OnOk, IfOk, IfErr};
 ghost use Rattle.std.specs.Result.{IsErrOf};
 ghost use Rattle.chip_model.specs.Geometry.{IsChipSize};
-ghost use Rattle.nor_driver.specs.State.{NorState};
+ghost use Rattle.nor_driver.specs.State.{NorState, Refuses};
 ghost use Rattle.erase_journal.specs.Recovery.{Restored, RestoreFails};
+ghost use Rattle.erase_journal.specs.Steps.{SucceedsSettled};
 ghost use Rattle.sector_slots.specs.Slots.{slot_count, descriptor_at, SameSlots};
-ghost use Rattle.sector_slots.specs.Steps.{Succeeds, Refuses};
 
 use crate::head::read_head;
 use crate::mark::{commit_mark, erase_data, program_mark, read_kind, settle_mark};
@@ -78,7 +78,7 @@ impl<N: Nor> SectorSlots<N> {
         requires number { slot < slot_count self.old.memory }
         ensures ok { IfOk result (λ header. header ≡ descriptor_at self.old.memory slot) }
         ensures same { self.new.memory ≡ self.old.memory }
-        ensures done { OnOk result (Succeeds self.old self.new) }
+        ensures done { OnOk result (SucceedsSettled self.old self.new) }
         ensures fails { IfErr result (λ e. Refuses e self.old self.new) }
     {
         read_header(&mut self.journal, slot / PLACES, slot % PLACES)

@@ -1,15 +1,18 @@
-//! The programs of one slot, over a journal: each leaves all other slots, and all other blocks, as they were.
+//! The programs of one slot, over a journal: each leaves all other slots, and all other blocks, as
+//! they were.
 
 ghost use Rattle.std.specs.Prelude.{◌≡◌, ◌⊎◌, ◌+◌, ◌*◌, ◌%◌, ◌<◌, ◌≤◌, ℕ, length, OnOk, IfErr};
 ghost use Rattle.std.specs.Result.{IsErrOf};
 ghost use Rattle.chip_model.specs.Geometry.{IsChipSize};
 ghost use Rattle.chip_model.specs.Memory.{byte, and_at, TornAnd};
-ghost use Rattle.nor_driver.specs.State.{Leaves};
+ghost use Rattle.nor_driver.specs.State.{Leaves, Refuses};
 ghost use Rattle.erase_journal.specs.Blocks.{OnlyBlock};
 ghost use Rattle.erase_journal.specs.Journals.{IsHealthy};
-ghost use Rattle.sector_slots.specs.Slots.{Free, Live, Dead, data_blocks, data_block, raw_slot, IsLive};
+ghost use Rattle.erase_journal.specs.Steps.{SucceedsSettled};
+ghost use Rattle.sector_slots.specs.Slots.{Free, Live, Dead, data_blocks, data_block, raw_slot};
+ghost use Rattle.sector_slots.specs.Slots.{IsLive};
 ghost use Rattle.journal_slots.specs.Programs.{OnlyBytes, InPlace, WriteLeaves};
-ghost use Rattle.sector_slots.specs.Steps.{Succeeds, Refuses, HoldsTag, IsFresh};
+ghost use Rattle.sector_slots.specs.Steps.{HoldsTag, IsErasedSlot};
 
 use crate::store::FIRST_DATA_BLOCK;
 use erase_journal::Journal;
@@ -50,14 +53,17 @@ pub(crate) fn program_bytes<N: Nor>(
     requires some { 0 < length bytes.now }
     requires page { at % 256 + length bytes.now ≤ 256 }
     requires range { at + length bytes.now ≤ 4096 }
-    ensures ok { OnOk result (data_block journal.new.memory block ≡ and_at (data_block journal.old.memory block) at bytes.now) }
+    ensures ok { OnOk result (data_block journal.new.memory block
+        ≡ and_at (data_block journal.old.memory block) at bytes.now) }
     ensures cut { IsErrOf result NorError.Cut → Leaves (data_block journal.old.memory block)
-        (TornAnd (data_block journal.old.memory block) at bytes.now) (and_at (data_block journal.old.memory block) at bytes.now)
+        (TornAnd (data_block journal.old.memory block) at bytes.now)
+        (and_at (data_block journal.old.memory block) at bytes.now)
         (data_block journal.new.memory block) }
     ensures bytes { (i : ℕ) → byte bytes.now i < 256 }
     ensures only { OnlyBlock (block + 4) journal.old.memory journal.new.memory }
-    ensures healthy { IsErrOf result NorError.Cut → IsHealthy journal.old.memory → IsHealthy journal.new.memory }
-    ensures done { OnOk result (Succeeds journal.old journal.new) }
+    ensures healthy { IsErrOf result NorError.Cut → IsHealthy journal.old.memory
+        → IsHealthy journal.new.memory }
+    ensures done { OnOk result (SucceedsSettled journal.old journal.new) }
     ensures fails { IfErr result (λ e. Refuses e journal.old journal.new) }
 {
     journal.program(block + FIRST_DATA_BLOCK, at, bytes)?;
@@ -75,11 +81,15 @@ fn write_content<N: Nor>(
     requires place { place < 7 }
     requires sized { IsChipSize (length journal.old.memory) }
     requires size { length content.now ≡ 512 }
-    ensures ok { OnOk result (data_block journal.new.memory block ≡ and_at (data_block journal.old.memory block) (512 * (place + 1)) content.now) }
-    ensures cut { IsErrOf result NorError.Cut → OnlyBytes (512 * (place + 1)) 512 (data_block journal.old.memory block) (data_block journal.new.memory block) }
+    ensures ok { OnOk result (data_block journal.new.memory block
+        ≡ and_at (data_block journal.old.memory block) (512 * (place + 1)) content.now) }
+    ensures cut { IsErrOf result NorError.Cut
+        → OnlyBytes (512 * (place + 1)) 512 (data_block journal.old.memory block)
+        (data_block journal.new.memory block) }
     ensures only { OnlyBlock (block + 4) journal.old.memory journal.new.memory }
-    ensures healthy { IsErrOf result NorError.Cut → IsHealthy journal.old.memory → IsHealthy journal.new.memory }
-    ensures done { OnOk result (Succeeds journal.old journal.new) }
+    ensures healthy { IsErrOf result NorError.Cut → IsHealthy journal.old.memory
+        → IsHealthy journal.new.memory }
+    ensures done { OnOk result (SucceedsSettled journal.old journal.new) }
     ensures fails { IfErr result (λ e. Refuses e journal.old journal.new) }
 {
     let at = content_place(place);
@@ -88,8 +98,8 @@ fn write_content<N: Nor>(
     Ok(())
 }
 
-/// Programs a descriptor that is begun, and the sector, 512 bytes, into a place that is free. Cut, it leaves the block as it
-/// was, or the slot dead.
+/// Programs a descriptor that is begun, and the sector, 512 bytes, into a place that is free. Cut,
+/// it leaves the block as it was, or the slot dead.
 fn fill<N: Nor>(
     journal: &mut Journal<N>,
     block: u16,
@@ -104,14 +114,19 @@ fn fill<N: Nor>(
     requires begun { byte header.now 0 ≡ 254 }
     requires size { length content.now ≡ 512 }
     ensures ok { OnOk result (data_block journal.new.memory block
-        ≡ and_at (and_at (data_block journal.old.memory block) (16 + 4 * place) header.now) (512 * (place + 1)) content.now) }
+        ≡ and_at (and_at (data_block journal.old.memory block) (16 + 4 * place) header.now)
+        (512 * (place + 1)) content.now) }
     ensures cut { IsErrOf result NorError.Cut → raw_slot journal.old.memory block place ≡ Free
-        → (data_block journal.new.memory block ≡ data_block journal.old.memory block) ⊎ (raw_slot journal.new.memory block place ≡ Dead) }
-    ensures within { IsErrOf result NorError.Cut → InPlace place (data_block journal.old.memory block) (data_block journal.new.memory block) }
+        → (data_block journal.new.memory block ≡ data_block journal.old.memory block)
+        ⊎ (raw_slot journal.new.memory block place ≡ Dead) }
+    ensures within { IsErrOf result NorError.Cut
+        → InPlace place (data_block journal.old.memory block)
+        (data_block journal.new.memory block) }
     ensures bytes { (i : ℕ) → byte header.now i < 256 }
     ensures only { OnlyBlock (block + 4) journal.old.memory journal.new.memory }
-    ensures healthy { IsErrOf result NorError.Cut → IsHealthy journal.old.memory → IsHealthy journal.new.memory }
-    ensures done { OnOk result (Succeeds journal.old journal.new) }
+    ensures healthy { IsErrOf result NorError.Cut → IsHealthy journal.old.memory
+        → IsHealthy journal.new.memory }
+    ensures done { OnOk result (SucceedsSettled journal.old journal.new) }
     ensures fails { IfErr result (λ e. Refuses e journal.old journal.new) }
 {
     program_bytes(journal, block, descriptor_place(place), header)?;
@@ -131,15 +146,22 @@ pub(crate) fn put_in<N: Nor>(
     requires place { place < 7 }
     requires sized { IsChipSize (length journal.old.memory) }
     requires size { length content.now ≡ 512 }
-    ensures ok { OnOk result (IsFresh block place journal.old.memory → raw_slot journal.new.memory block place ≡ Live tag content.now) }
-    ensures live { OnOk result (raw_slot journal.old.memory block place ≡ Free → HoldsTag tag (raw_slot journal.new.memory block place)) }
+    ensures ok { OnOk result (IsErasedSlot block place journal.old.memory
+        → raw_slot journal.new.memory block place ≡ Live tag content.now) }
+    ensures live { OnOk result (raw_slot journal.old.memory block place ≡ Free
+        → HoldsTag tag (raw_slot journal.new.memory block place)) }
     ensures cut { IsErrOf result NorError.Cut → raw_slot journal.old.memory block place ≡ Free
-        → WriteLeaves place tag content.now (data_block journal.old.memory block) (data_block journal.new.memory block) }
-    ensures within { OnOk result (InPlace place (data_block journal.old.memory block) (data_block journal.new.memory block)) }
-    ensures cut_within { IsErrOf result NorError.Cut → InPlace place (data_block journal.old.memory block) (data_block journal.new.memory block) }
+        → WriteLeaves place tag content.now (data_block journal.old.memory block)
+        (data_block journal.new.memory block) }
+    ensures within { OnOk result (InPlace place (data_block journal.old.memory block)
+        (data_block journal.new.memory block)) }
+    ensures cut_within { IsErrOf result NorError.Cut
+        → InPlace place (data_block journal.old.memory block)
+        (data_block journal.new.memory block) }
     ensures only { OnlyBlock (block + 4) journal.old.memory journal.new.memory }
-    ensures healthy { IsErrOf result NorError.Cut → IsHealthy journal.old.memory → IsHealthy journal.new.memory }
-    ensures done { OnOk result (Succeeds journal.old journal.new) }
+    ensures healthy { IsErrOf result NorError.Cut → IsHealthy journal.old.memory
+        → IsHealthy journal.new.memory }
+    ensures done { OnOk result (SucceedsSettled journal.old journal.new) }
     ensures fails { IfErr result (λ e. Refuses e journal.old journal.new) }
 {
     let header = begun_header(tag);
@@ -160,13 +182,19 @@ pub(crate) fn copy_in<N: Nor>(
     requires place { place < 7 }
     requires sized { IsChipSize (length journal.old.memory) }
     requires size { length content.now ≡ 512 }
-    ensures ok { OnOk result (IsFresh block place journal.old.memory → raw_slot journal.new.memory block place ≡ Live tag content.now) }
-    ensures live { OnOk result (raw_slot journal.old.memory block place ≡ Free → HoldsTag tag (raw_slot journal.new.memory block place)) }
-    ensures within { OnOk result (InPlace place (data_block journal.old.memory block) (data_block journal.new.memory block)) }
-    ensures cut_within { IsErrOf result NorError.Cut → InPlace place (data_block journal.old.memory block) (data_block journal.new.memory block) }
+    ensures ok { OnOk result (IsErasedSlot block place journal.old.memory
+        → raw_slot journal.new.memory block place ≡ Live tag content.now) }
+    ensures live { OnOk result (raw_slot journal.old.memory block place ≡ Free
+        → HoldsTag tag (raw_slot journal.new.memory block place)) }
+    ensures within { OnOk result (InPlace place (data_block journal.old.memory block)
+        (data_block journal.new.memory block)) }
+    ensures cut_within { IsErrOf result NorError.Cut
+        → InPlace place (data_block journal.old.memory block)
+        (data_block journal.new.memory block) }
     ensures only { OnlyBlock (block + 4) journal.old.memory journal.new.memory }
-    ensures healthy { IsErrOf result NorError.Cut → IsHealthy journal.old.memory → IsHealthy journal.new.memory }
-    ensures done { OnOk result (Succeeds journal.old journal.new) }
+    ensures healthy { IsErrOf result NorError.Cut → IsHealthy journal.old.memory
+        → IsHealthy journal.new.memory }
+    ensures done { OnOk result (SucceedsSettled journal.old journal.new) }
     ensures fails { IfErr result (λ e. Refuses e journal.old journal.new) }
 {
     let header = live_header(tag);
@@ -186,12 +214,17 @@ pub(crate) fn retire_in<N: Nor>(
     requires sized { IsChipSize (length journal.old.memory) }
     ensures ok { OnOk result (raw_slot journal.new.memory block place ≡ Dead) }
     ensures cut { IsErrOf result NorError.Cut → IsLive (raw_slot journal.old.memory block place)
-        → (data_block journal.new.memory block ≡ data_block journal.old.memory block) ⊎ (raw_slot journal.new.memory block place ≡ Dead) }
-    ensures within { OnOk result (InPlace place (data_block journal.old.memory block) (data_block journal.new.memory block)) }
-    ensures cut_within { IsErrOf result NorError.Cut → InPlace place (data_block journal.old.memory block) (data_block journal.new.memory block) }
+        → (data_block journal.new.memory block ≡ data_block journal.old.memory block)
+        ⊎ (raw_slot journal.new.memory block place ≡ Dead) }
+    ensures within { OnOk result (InPlace place (data_block journal.old.memory block)
+        (data_block journal.new.memory block)) }
+    ensures cut_within { IsErrOf result NorError.Cut
+        → InPlace place (data_block journal.old.memory block)
+        (data_block journal.new.memory block) }
     ensures only { OnlyBlock (block + 4) journal.old.memory journal.new.memory }
-    ensures healthy { IsErrOf result NorError.Cut → IsHealthy journal.old.memory → IsHealthy journal.new.memory }
-    ensures done { OnOk result (Succeeds journal.old journal.new) }
+    ensures healthy { IsErrOf result NorError.Cut → IsHealthy journal.old.memory
+        → IsHealthy journal.new.memory }
+    ensures done { OnOk result (SucceedsSettled journal.old journal.new) }
     ensures fails { IfErr result (λ e. Refuses e journal.old journal.new) }
 {
     program_bytes(journal, block, descriptor_place(place), &[RETIRED])?;

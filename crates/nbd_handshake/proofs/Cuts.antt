@@ -7,8 +7,8 @@ use Rattle.nbd_wire.specs.declared.phase.Phase.{Phase}
 use Rattle.nbd_wire.specs.declared.phase.Phase.TheVariants.{AwaitingFlags, Negotiating, Transmitting, Closed}
 use Rattle.nbd_wire.specs.Options.{option_at, case_of, phase_after, reply_in_case}
 use Rattle.nbd_wire.specs.Units.{data_len, IsUnit, after, after_option}
-use Rattle.nbd_wire.specs.Cutting.{option_front}
-use Rattle.nbd_handshake.specs.Negotiating.{IsNegotiation, reply_of, reply_to}
+use Rattle.nbd_wire.proofs.Cutting.{option_front}
+use Rattle.nbd_handshake.specs.Negotiating.{IsNegotiation, option_reply_of, negotiation_reply}
 
 long_case : (o : OptionHead) (c d : List ℕ) → 8192 < o.length → case_of o c ≡ case_of o d
 long_case o c d long = let e = lt-ltb 8192 o.length long in rw e refl
@@ -20,9 +20,9 @@ long_option o false h = h
 -- two forms of a unit that lead to the same phase with the same reply
 pub record SameAnswer (sectors : ℕ) (p : Phase) (kept unit : List ℕ) : Type 0 where
   pub phase : after p kept ≡ after p unit
-  pub reply : reply_to sectors p kept ≡ reply_to sectors p unit
+  pub reply : negotiation_reply sectors p kept ≡ negotiation_reply sectors p unit
 
-by_option : (sectors : ℕ) (no_zeroes : Bool) (o : Option OptionHead) (c d : List ℕ) → 8192 < data_len o → (after_option no_zeroes o c ≡ after_option no_zeroes o d) × (reply_of sectors no_zeroes o c ≡ reply_of sectors no_zeroes o d)
+by_option : (sectors : ℕ) (no_zeroes : Bool) (o : Option OptionHead) (c d : List ℕ) → 8192 < data_len o → (after_option no_zeroes o c ≡ after_option no_zeroes o d) × (option_reply_of sectors no_zeroes o c ≡ option_reply_of sectors no_zeroes o d)
 by_option sectors no_zeroes None c d long = absurd (omega arith)
 by_option sectors no_zeroes (Some o) c d long =
     let e = long_case o c d (long_option o _ long) in
@@ -42,5 +42,5 @@ pub same_answer : (sectors : ℕ) (p : Phase) (unit : List ℕ) → IsNegotiatio
 same_answer sectors p unit negotiation h =
     elim (cases_lt 8208 (length unit)) [
       | inl long ↦ by_phase sectors p unit negotiation h long
-      | inr short ↦ let e = take_all 8208 unit short in record { phase = ap (after p) e; reply = ap (reply_to sectors p) e }
+      | inr short ↦ let e = take_all 8208 unit short in record { phase = ap (after p) e; reply = ap (negotiation_reply sectors p) e }
     ]

@@ -4,7 +4,7 @@ use Rattle.std.proofs.lemmas.List.{length-take, take-append-drop, append_assoc, 
 use Rattle.std.proofs.Math.Seq.{take-add}
 use Rattle.nbd_wire.specs.declared.phase.Phase.{Phase}
 use Rattle.nbd_wire.specs.Units.{head_len, tail_len}
-use Rattle.nbd_wire.specs.Cutting.{tail_front}
+use Rattle.nbd_wire.proofs.Cutting.{tail_front}
 use Rattle.nbd_handshake.specs.Fronts.{HasFront}
 
 pub front_of_kept : (buffer rest : List ℕ) (count : ℕ) → length buffer ≡ 8208 → take 8208 rest ≡ take (min count 8208) buffer → length rest ≡ count → HasFront buffer count rest

@@ -1,10 +1,11 @@
--- What the units of a negotiation are answered. Source: NBD proto.md; own is that flags that aren't known and a wrong magic close
--- without a reply.
+-- What the units of a negotiation are answered. Source: NBD proto.md; own is that flags that aren't
+-- known and a wrong magic close without a reply.
 use Rattle.std.specs.Prelude.{ℕ, ◌≡◌, ◌⊎◌, Bool, List, [], drop, Option, Some, None}
-use Rattle.nbd_wire.specs.declared.constants.TheConstants.{OPTION_LEN}
+use Rattle.nbd_wire.specs.Numbers.{OPTION_LEN}
 use Rattle.nbd_wire.specs.declared.option.OptionHead.{OptionHead}
 use Rattle.nbd_wire.specs.declared.phase.Phase.{Phase}
-use Rattle.nbd_wire.specs.declared.phase.Phase.TheVariants.{AwaitingFlags, Negotiating, Transmitting, Closed}
+use Rattle.nbd_wire.specs.declared.phase.Phase.TheVariants.{AwaitingFlags, Negotiating}
+use Rattle.nbd_wire.specs.declared.phase.Phase.TheVariants.{Transmitting, Closed}
 use Rattle.nbd_wire.specs.Options.{option_at, case_of, reply_in_case}
 use Rattle.nbd_handshake.specs.declared.handshake.Next.{Next}
 use Rattle.nbd_handshake.specs.declared.handshake.Next.TheVariants.{Stay, Transmit, Close}
@@ -16,20 +17,22 @@ IsNegotiation (Negotiating no_zeroes) = Unit {0}
 IsNegotiation Transmitting = ⊥
 IsNegotiation Closed = ⊥
 
-abbrev pub IsOver : Phase → Type 0
-IsOver phase = (phase ≡ Transmitting) ⊎ (phase ≡ Closed)
+abbrev pub IsNegotiationOver : Phase → Type 0
+IsNegotiationOver phase = (phase ≡ Transmitting) ⊎ (phase ≡ Closed)
 
 -- the reply to an option, by its content; none to a head whose magic is wrong
-abbrev pub reply_of : ℕ → Bool → Option OptionHead → List ℕ → List ℕ
-reply_of sectors no_zeroes None content = []
-reply_of sectors no_zeroes (Some o) content = reply_in_case (case_of o content) o.option no_zeroes sectors
+abbrev pub option_reply_of : ℕ → Bool → Option OptionHead → List ℕ → List ℕ
+option_reply_of sectors no_zeroes None content = []
+option_reply_of sectors no_zeroes (Some o) content =
+    reply_in_case (case_of o content) o.option no_zeroes sectors
 
 -- the reply to a unit, from a disk of so many sectors: none to the client's flags
-abbrev pub reply_to : ℕ → Phase → List ℕ → List ℕ
-reply_to sectors AwaitingFlags unit = []
-reply_to sectors (Negotiating no_zeroes) unit = reply_of sectors no_zeroes (option_at unit) (drop OPTION_LEN unit)
-reply_to sectors Transmitting unit = []
-reply_to sectors Closed unit = []
+abbrev pub negotiation_reply : ℕ → Phase → List ℕ → List ℕ
+negotiation_reply sectors AwaitingFlags unit = []
+negotiation_reply sectors (Negotiating no_zeroes) unit =
+    option_reply_of sectors no_zeroes (option_at unit) (drop OPTION_LEN unit)
+negotiation_reply sectors Transmitting unit = []
+negotiation_reply sectors Closed unit = []
 
 -- what comes next where a unit led to this phase
 abbrev pub next_of : Phase → Next

@@ -1,11 +1,12 @@
 //! Flags and options, cut out of the bytes of a connection.
 
-ghost use Rattle.std.specs.Prelude.{◌≡◌, ◌+◌, ◌≤◌, ◌<◌, ◌++◌, ◌^◌, min, length, take, drop, List, ℕ, []};
+ghost use Rattle.std.specs.Prelude.{◌≡◌, ◌+◌, ◌≤◌, ◌<◌, ◌++◌, ◌^◌, min, length, take, drop, List};
+ghost use Rattle.std.specs.Prelude.{ℕ, []};
 ghost use Rattle.nbd_wire.specs.Units.{head_len, tail_len};
-ghost use Rattle.nbd_wire.specs.Standing.{Keeps, StandsFor};
+ghost use Rattle.nbd_wire.specs.Parser.{HoldsRest, ParserRepresents};
 ghost use Rattle.nbd_wire.specs.declared.phase.Phase.{Phase};
-ghost use Rattle.nbd_handshake.specs.Negotiating.{IsNegotiation, IsOver, next_of};
-ghost use Rattle.nbd_handshake.specs.Standing.{Advances, Answers, Leads};
+ghost use Rattle.nbd_handshake.specs.Negotiating.{IsNegotiation, IsNegotiationOver, next_of};
+ghost use Rattle.nbd_handshake.specs.Parser.{HandshakeAdvances, HandshakeAnswers, Leads};
 
 use crate::front::absorb;
 use crate::replies::MAX_REPLY_LEN;
@@ -51,24 +52,34 @@ pub struct Handshake {
 impl Model for Handshake {
     ghost use Rattle.std.specs.Prelude.{◌≡◌, ◌+◌, ◌<◌, ◌≤◌, ◌^◌, take, min};
     ghost use Rattle.nbd_wire.specs.Units.{head_len, tail_len};
-    ghost use Rattle.nbd_wire.specs.Standing.{Held};
+    ghost use Rattle.nbd_wire.specs.Parser.{ParserState};
     ghost use Rattle.nbd_handshake.specs.declared.handshake.TheConstants.{KEPT_LEN};
     ghost use Rattle.nbd_handshake.specs.Negotiating.{IsNegotiation};
 
-    ghost Value = { Held };
+    ghost Value = { ParserState };
 
-    ghost view = { λ h. record { sectors = h.sectors; phase = h.phase; kept = take (min h.count KEPT_LEN) h.kept; count = h.count } };
+    ghost view = { λ h. record {
+      sectors = h.sectors;
+      phase = h.phase;
+      kept = take
+          (min h.count KEPT_LEN) h.kept;
+      count = h.count;
+    } };
 
-    ghost invariant = { λ h. (h.count < 2 ^ 33) × (IsNegotiation h.phase → head_len h.phase ≤ h.count → h.count < head_len h.phase + tail_len h.phase h.kept) };
+    ghost invariant = { λ h. (h.count < 2 ^ 33)
+        × (IsNegotiation h.phase → head_len h.phase ≤ h.count
+        → h.count < head_len h.phase + tail_len h.phase h.kept) };
 }
 
 impl Handshake {
-    /// A negotiation for a disk of so many sectors, whose next byte is the first of the client's flags.
+    /// A negotiation for a disk of so many sectors, whose next byte is the first of the client's
+    /// flags.
     pub fn new(sectors: u32) -> Handshake
-        ensures exact { result ≡ record { sectors = sectors; phase = Phase.AwaitingFlags; kept = []; count = 0 } }
-        ensures keeps { Keeps KEPT_LEN result [] }
-        // It stands for the text without bytes.
-        ensures stands { StandsFor KEPT_LEN Phase.AwaitingFlags result [] }
+        ensures exact { result ≡ record
+            { sectors = sectors; phase = Phase.AwaitingFlags; kept = []; count = 0 } }
+        ensures keeps { HoldsRest KEPT_LEN result [] }
+        // It represents the text without bytes.
+        ensures stands { ParserRepresents KEPT_LEN Phase.AwaitingFlags result [] }
     {
         Handshake {
             sectors,
@@ -78,28 +89,37 @@ impl Handshake {
         }
     }
 
-    /// Takes bytes of at most one unit, and writes its reply at the front of `reply`. A negotiation that is over uses no
-    /// bytes and answers Transmit or Close.
+    /// Takes bytes of at most one unit, and writes its reply at the front of `reply`. A negotiation
+    /// that is over uses no bytes and answers Transmit or Close.
     pub fn take(&mut self, bytes: &[u8], reply: &mut [u8]) -> Taken
         requires { MAX_REPLY_LEN ≤ length reply.old }
         ensures used { result.used ≤ length bytes.now }
         ensures reply { result.reply ≤ MAX_REPLY_LEN }
         ensures rest { drop result.reply reply.new ≡ drop result.reply reply.old }
-        ensures more { result.next ≡ Next.More → (result.used ≡ length bytes.now) × (result.reply ≡ 0) }
+        ensures more { result.next ≡ Next.More
+            → (result.used ≡ length bytes.now) × (result.reply ≡ 0) }
         ensures progress { IsNegotiation self.old.phase → 0 < length bytes.now → 0 < result.used }
-        ensures over { IsOver self.old.phase → (self.new ≡ self.old) × (result ≡ record { used = 0; reply = 0; next = next_of self.old.phase }) }
+        ensures over { IsNegotiationOver self.old.phase
+            → (self.new ≡ self.old) × (result
+            ≡ record { used = 0; reply = 0; next = next_of self.old.phase }) }
         ensures sectors { self.new.sectors ≡ self.old.sectors }
         ensures phase { Leads self.old.phase result.next self.new.phase }
         // Of the unit begun: what the bytes used make of it.
-        ensures step { (rest : List ℕ) → IsNegotiation self.old.phase → Keeps KEPT_LEN self.old rest
-            → Advances self.old (rest ++ take result.used bytes.now) result.next (take result.reply reply.new) self.new }
+        ensures step { (rest : List ℕ) → IsNegotiation self.old.phase
+            → HoldsRest KEPT_LEN self.old rest
+            → HandshakeAdvances self.old (rest ++ take result.used bytes.now) result.next
+            (take result.reply reply.new) self.new }
 
-        // Of each text that the negotiation stands for: the answer is that of the next unit of this text and the bytes used,
-        ensures answer { (start : Phase) (text : List ℕ) → IsNegotiation self.old.phase → StandsFor KEPT_LEN start self.old text
-            → Answers start self.old.sectors self.old.phase text (text ++ take result.used bytes.now) result.next (take result.reply reply.new) }
-        // and the negotiation then stands for the longer text.
-        ensures stands { (start : Phase) (text : List ℕ) → StandsFor KEPT_LEN start self.old text
-            → StandsFor KEPT_LEN start self.new (text ++ take result.used bytes.now) }
+        // Of each text that the negotiation represents: the answer is that of the next unit of this
+        // text and the bytes used,
+        ensures answer { (start : Phase) (text : List ℕ) → IsNegotiation self.old.phase
+            → ParserRepresents KEPT_LEN start self.old text
+            → HandshakeAnswers start self.old.sectors self.old.phase text
+            (text ++ take result.used bytes.now) result.next (take result.reply reply.new) }
+        // and the negotiation then represents the longer text.
+        ensures stands { (start : Phase) (text : List ℕ)
+            → ParserRepresents KEPT_LEN start self.old text
+            → ParserRepresents KEPT_LEN start self.new (text ++ take result.used bytes.now) }
     {
         let Some(head) = head_len(self.phase) else {
             return Taken {
@@ -119,12 +139,14 @@ impl Handshake {
         ensures used { result.used ≤ length bytes.now }
         ensures reply { result.reply ≤ MAX_REPLY_LEN }
         ensures rest { drop result.reply reply.new ≡ drop result.reply reply.old }
-        ensures more { result.next ≡ Next.More → (result.used ≡ length bytes.now) × (result.reply ≡ 0) }
+        ensures more { result.next ≡ Next.More
+            → (result.used ≡ length bytes.now) × (result.reply ≡ 0) }
         ensures progress { 0 < length bytes.now → 0 < result.used }
         ensures sectors { self.new.sectors ≡ self.old.sectors }
         ensures phase { Leads self.old.phase result.next self.new.phase }
-        ensures step { (rest : List ℕ) → Keeps KEPT_LEN self.old rest
-            → Advances self.old (rest ++ take result.used bytes.now) result.next (take result.reply reply.new) self.new }
+        ensures step { (rest : List ℕ) → HoldsRest KEPT_LEN self.old rest
+            → HandshakeAdvances self.old (rest ++ take result.used bytes.now) result.next
+            (take result.reply reply.new) self.new }
     {
         let first = head.saturating_sub(self.count).min(bytes.len() as u64) as usize;
         absorb(&mut self.kept, self.count, &bytes[..first]);

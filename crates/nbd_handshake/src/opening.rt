@@ -6,7 +6,8 @@ ghost use Rattle.nbd_handshake.specs.Greeting.{greeting_bytes};
 use byteorder::{BigEndian, ByteOrder};
 use nbd_wire::{GREETING_LEN, GREETING_MAGIC, HandshakeFlags, OPTION_MAGIC};
 
-/// The bytes that the server sends first: both magics, FIXED_NEWSTYLE and NO_ZEROES. Source: NBD proto.md.
+/// The bytes that the server sends first: both magics, FIXED_NEWSTYLE and NO_ZEROES. Source: NBD
+/// proto.md.
 #[tactic(auto, unfolding(crate::specs::Greeting::greeting_bytes))]
 pub fn greeting() -> [u8; GREETING_LEN]
     ensures { result ≡ greeting_bytes }

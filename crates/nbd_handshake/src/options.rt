@@ -46,7 +46,9 @@ pub(crate) fn case_of(head: OptionHead, content: &[u8]) -> OptionCase
 /// The case of INFO and GO, by their content.
 fn description_case(content: &[u8]) -> OptionCase
     requires { length content.now ≤ MAX_OPTION_LEN }
-    ensures { result ≡ (if adds_up content.now then (if is_known (name_of content.now) then OptionCase.Described else OptionCase.UnknownName) else OptionCase.Invalid) }
+    ensures { result ≡ (if adds_up content.now
+        then (if is_known (name_of content.now) then OptionCase.Described
+        else OptionCase.UnknownName) else OptionCase.Invalid) }
 {
     if !adds_up(content) {
         return OptionCase::Invalid;

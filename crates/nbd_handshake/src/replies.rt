@@ -1,7 +1,8 @@
 //! The replies to options.
 
 ghost use Rattle.std.specs.Prelude.{◌≡◌, ◌≤◌, length, take, drop};
-ghost use Rattle.nbd_wire.specs.Options.{reply_in_case, size_bytes, server_content, export_content, block_size_content};
+ghost use Rattle.nbd_wire.specs.Options.{reply_in_case, size_bytes, server_content, export_content};
+ghost use Rattle.nbd_wire.specs.Options.{block_size_content};
 
 use byteorder::{BigEndian, ByteOrder};
 use nbd_wire::{
@@ -14,7 +15,8 @@ use nbd_wire::{
 /// The length of the longest reply in bytes: that to EXPORT_NAME, with its zeroes.
 pub const MAX_REPLY_LEN: usize = EXPORT_NAME_ANSWER_LEN + EXPORT_NAME_ZEROES_LEN;
 
-/// Writes the reply to an option at the front of `reply`, and answers its length. What stands behind it stays.
+/// Writes the reply to an option at the front of `reply`, and answers its length. What stands
+/// behind it stays.
 #[tactic(auto, unfolding(nbd_wire::specs::Options::reply_in_case))]
 pub(crate) fn write_case(
     case: OptionCase,
@@ -85,7 +87,8 @@ fn export_content(sectors: u32) -> [u8; INFO_EXPORT_LEN]
     content
 }
 
-/// The content of INFO_BLOCK_SIZE: its type, the smallest, the preferred and the largest length of a command in bytes.
+/// The content of INFO_BLOCK_SIZE: its type, the smallest, the preferred and the largest length of
+/// a command in bytes.
 fn block_size_content() -> [u8; INFO_BLOCK_SIZE_LEN]
     ensures { result ≡ block_size_content }
 {

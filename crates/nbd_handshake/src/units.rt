@@ -2,7 +2,8 @@
 
 ghost use Rattle.std.specs.Prelude.{◌≡◌, ◌≤◌, ◌<◌, ◌^◌, length, take, drop, MatchOption};
 ghost use Rattle.nbd_wire.specs.Units.{head_len, tail_len, after, after_flags};
-ghost use Rattle.nbd_handshake.specs.Negotiating.{IsNegotiation, IsOver, reply_to};
+ghost use Rattle.nbd_handshake.specs.Negotiating.{IsNegotiation, IsNegotiationOver};
+ghost use Rattle.nbd_handshake.specs.Negotiating.{negotiation_reply};
 
 use crate::handshake::KEPT_LEN;
 use crate::options::{case_of, phase_after};
@@ -15,7 +16,8 @@ use nbd_wire::{
 
 /// The length of a head in the negotiation, in bytes; none where it is over.
 pub(crate) fn head_len(phase: Phase) -> Option<u64>
-    ensures { MatchOption result (IsOver phase) (λ n. (n ≡ head_len phase) × IsNegotiation phase) }
+    ensures { MatchOption result (IsNegotiationOver phase)
+        (λ n. (n ≡ head_len phase) × IsNegotiation phase) }
 {
     match phase {
         Phase::AwaitingFlags => Some(CLIENT_FLAGS_LEN as u64),
@@ -60,7 +62,7 @@ pub(crate) fn complete(phase: Phase, unit: &[u8], sectors: u32, reply: &mut [u8]
     requires room { MAX_REPLY_LEN ≤ length reply.old }
     ensures len { result.reply ≤ MAX_REPLY_LEN }
     ensures phase { result.phase ≡ after phase unit.now }
-    ensures reply { take result.reply reply.new ≡ reply_to sectors phase unit.now }
+    ensures reply { take result.reply reply.new ≡ negotiation_reply sectors phase unit.now }
     ensures rest { drop result.reply reply.new ≡ drop result.reply reply.old }
 {
     match phase {

@@ -4,12 +4,12 @@ use Rattle.std.specs.Prelude.{is_none}
 use Rattle.nbd_wire.specs.declared.request.Request.{Request}
 use Rattle.nbd_wire.specs.declared.command.Command.{Command}
 use Rattle.nbd_wire.specs.declared.phase.Phase.TheVariants.{Transmitting, Closed}
-use Rattle.nbd_wire.specs.Commands.{kind_of, command_of, is_write, is_disconnect, judge_of}
+use Rattle.nbd_wire.specs.Commands.{command_kind, command_in, is_write, is_disconnect, judge_of}
 use Rattle.nbd_wire.proofs.CommandLaws.{accepted_range, write_moves_data}
 use Rattle.nbd_wire.specs.Units.{payload_len, after_request}
 use Rattle.nbd_transmission.specs.declared.transmission.Next.{Next}
 use Rattle.nbd_transmission.specs.declared.transmission.Next.TheVariants.{More, Close}
-use Rattle.nbd_transmission.specs.Taking.{verdict, answer_of, phase_of, IsAccepted, is_accepted_write}
+use Rattle.nbd_transmission.specs.Taking.{verdict, answer_of, phase_of, IsAcceptedRequest, is_accepted_write}
 
 -- the answer closes exactly where the unit does
 after_by : (c : Command) (b : Bool) (v : Option ℕ) → cond b Closed Transmitting ≡ phase_of (cond b Close (verdict c v))
@@ -19,7 +19,7 @@ after_by c false (Some e) = refl
 
 pub after_is_phase_of : (sectors : ℕ) (r : Option Request) → after_request r ≡ phase_of (answer_of sectors r)
 after_is_phase_of sectors None = refl
-after_is_phase_of sectors (Some r) = after_by (command_of r) (is_disconnect (kind_of r.kind)) (judge_of (command_of r) sectors)
+after_is_phase_of sectors (Some r) = after_by (command_in r) (is_disconnect (command_kind r.kind)) (judge_of (command_in r) sectors)
 
 -- a unit's answer is not More
 not_more_by : (c : Command) (b : Bool) (v : Option ℕ) → cond b Close (verdict c v) ≡ More → ⊥
@@ -29,19 +29,19 @@ not_more_by c false (Some v) e = cc
 
 pub answer_is_no_more : (sectors : ℕ) (r : Option Request) → answer_of sectors r ≡ More → ⊥
 answer_is_no_more sectors None e = cc
-answer_is_no_more sectors (Some r) e = not_more_by (command_of r) (is_disconnect (kind_of r.kind)) (judge_of (command_of r) sectors) e
+answer_is_no_more sectors (Some r) e = not_more_by (command_in r) (is_disconnect (command_kind r.kind)) (judge_of (command_in r) sectors) e
 
 -- a command that runs is an accepted one
-accepted_by : (sectors : ℕ) (c : Command) (b : Bool) (v : Option ℕ) → is_disconnect c.kind ≡ b → judge_of c sectors ≡ v → IsAccepted sectors (cond b Close (verdict c v))
+accepted_by : (sectors : ℕ) (c : Command) (b : Bool) (v : Option ℕ) → is_disconnect c.kind ≡ b → judge_of c sectors ≡ v → IsAcceptedRequest sectors (cond b Close (verdict c v))
 accepted_by sectors c true v kind judged = tt
 accepted_by sectors c false None kind judged = (judged, kind)
 accepted_by sectors c false (Some e) kind judged = tt
 
-pub answer_is_accepted : (sectors : ℕ) (r : Option Request) (next : Next) → next ≡ answer_of sectors r → IsAccepted sectors next
+pub answer_is_accepted : (sectors : ℕ) (r : Option Request) (next : Next) → next ≡ answer_of sectors r → IsAcceptedRequest sectors next
 answer_is_accepted sectors r next e = rw e (of r) where
-  of : (r : Option Request) → IsAccepted sectors (answer_of sectors r)
+  of : (r : Option Request) → IsAcceptedRequest sectors (answer_of sectors r)
   of None = tt
-  of (Some r) = accepted_by sectors (command_of r) (is_disconnect (kind_of r.kind)) (judge_of (command_of r) sectors) refl refl
+  of (Some r) = accepted_by sectors (command_in r) (is_disconnect (command_kind r.kind)) (judge_of (command_in r) sectors) refl refl
 
 -- ---- an accepted WRITE is no longer than the largest length
 
@@ -56,6 +56,6 @@ none_of (Some e) h = cc
 pub accepted_is_short : (sectors : ℕ) (r : Option Request) → is_accepted_write sectors r ≡ true → payload_len r ≤ 65536
 accepted_is_short sectors None h = omega arith
 accepted_is_short sectors (Some r) h =
-    let parts = both (is_write (kind_of r.kind)) (is_none (judge_of (command_of r) sectors)) h in
-    let range = accepted_range (command_of r) sectors (write_moves_data (kind_of r.kind) parts.0) (none_of (judge_of (command_of r) sectors) parts.1) in
+    let parts = both (is_write (command_kind r.kind)) (is_none (judge_of (command_in r) sectors)) h in
+    let range = accepted_range (command_in r) sectors (write_moves_data (command_kind r.kind) parts.0) (none_of (judge_of (command_in r) sectors) parts.1) in
     rw parts.0 range.3

@@ -7,14 +7,14 @@ use Rattle.nbd_wire.specs.declared.phase.Phase.{Phase}
 use Rattle.nbd_wire.specs.declared.phase.Phase.TheVariants.{Transmitting, Closed}
 use Rattle.nbd_wire.specs.Heads.{request_at}
 use Rattle.nbd_wire.specs.Units.{payload_len, IsUnit, IsPartial, Splits}
-use Rattle.nbd_wire.specs.Standing.{Held, Keeps, StandsFor, Waits, Completes}
-use Rattle.nbd_wire.specs.Cutting.{request_front, short_is_partial}
+use Rattle.nbd_wire.specs.Parser.{ParserState, HoldsRest, ParserRepresents, Waits, Completes}
+use Rattle.nbd_wire.proofs.Cutting.{request_front, short_is_partial}
 use Rattle.nbd_wire.proofs.UnitLaws.{partial_is_short, Splits_more, Splits_unit}
 use Rattle.nbd_wire.proofs.StandingLaws.{holds_the_rest, stands_waiting, stands_completed}
 use Rattle.nbd_transmission.specs.declared.transmission.Next.{Next}
 use Rattle.nbd_transmission.specs.declared.transmission.Next.TheVariants.{More, Run, Refused, Close}
 use Rattle.nbd_transmission.specs.Taking.{answer_to, is_accepted_write, payload_of, phase_of}
-use Rattle.nbd_transmission.specs.Standing.{IsAnswered, Advances, OneMore, NextOrMore, Answers}
+use Rattle.nbd_transmission.specs.Parser.{TransmissionAnswersUnit, TransmissionAdvances, TransmissionOneMore, TransmissionNextOrMore, TransmissionAnswers}
 use Rattle.nbd_transmission.proofs.Answered.{after_is_phase_of, answer_is_no_more, accepted_is_short}
 
 take_past : (k m : ℕ) (xs ys : List ℕ) → k ≡ length xs + m → take k (xs ++ ys) ≡ xs ++ take m ys
@@ -96,11 +96,11 @@ whole_head rest bytes head grown count filled n used len kept filled-is n-is cop
 
 -- ---- the exits
 
-pub waits : (old new : Held) (rest : List ℕ) → old.phase ≡ Transmitting → new.phase ≡ old.phase → (28 ≤ length rest → length rest < 28 + payload_len (request_at rest)) → Keeps 28 new rest → Waits 28 old rest new
+pub waits : (old new : ParserState) (rest : List ℕ) → old.phase ≡ Transmitting → new.phase ≡ old.phase → (28 ≤ length rest → length rest < 28 + payload_len (request_at rest)) → HoldsRest 28 new rest → Waits 28 old rest new
 waits old new rest is_open same short keeps =
     record { partial = rw is_open (short_is_partial Transmitting rest short); phase = same; keeps = keeps }
 
-pub completes : (old new : Held) (rest : List ℕ) (next : Next) → old.phase ≡ Transmitting → next ≡ answer_to old.sectors rest → IsUnit Transmitting rest → new.phase ≡ phase_of next → Keeps 28 new [] → Advances old rest next new
+pub completes : (old new : ParserState) (rest : List ℕ) (next : Next) → old.phase ≡ Transmitting → next ≡ answer_to old.sectors rest → IsUnit Transmitting rest → new.phase ≡ phase_of next → HoldsRest 28 new [] → TransmissionAdvances old rest next new
 completes old new rest next is_open answer is_unit phase keeps =
     by_next next (λ e. answer_is_no_more old.sectors (request_at rest) (sym answer ∙ e)) (whole, answer)
   where
@@ -111,21 +111,21 @@ completes old new rest next is_open answer is_unit phase keeps =
       keeps = keeps;
     }
 
-    by_next : (next : Next) → (next ≡ More → ⊥) → IsAnswered old rest next new → Advances old rest next new
+    by_next : (next : Next) → (next ≡ More → ⊥) → TransmissionAnswersUnit old rest next new → TransmissionAdvances old rest next new
     by_next More h done = absurd (h refl)
     by_next (Run c) h done = done
     by_next (Refused k e) h done = done
     by_next Close h done = done
 
 -- no more bytes have come than the head asks for
-comes_short : (old new : Held) (rest : List ℕ) (next : Next) → old.phase ≡ Transmitting → Advances old rest next new → 28 ≤ length rest → length rest ≤ 28 + payload_len (request_at rest)
+comes_short : (old new : ParserState) (rest : List ℕ) (next : Next) → old.phase ≡ Transmitting → TransmissionAdvances old rest next new → 28 ≤ length rest → length rest ≤ 28 + payload_len (request_at rest)
 comes_short old new rest next is_open a long = by_next next a where
-  unit : (next : Next) → IsAnswered old rest next new → length rest ≤ 28 + payload_len (request_at rest)
+  unit : (next : Next) → TransmissionAnswersUnit old rest next new → length rest ≤ 28 + payload_len (request_at rest)
   unit next done =
       let u : IsUnit Transmitting rest = rw is_open at done.0.is_unit in
       omega (arith, u.whole)
 
-  by_next : (next : Next) → Advances old rest next new → length rest ≤ 28 + payload_len (request_at rest)
+  by_next : (next : Next) → TransmissionAdvances old rest next new → length rest ≤ 28 + payload_len (request_at rest)
   by_next More w =
       let partial : IsPartial Transmitting rest = rw is_open at w.partial in
       let short = partial_is_short Transmitting rest tt partial long in
@@ -135,7 +135,7 @@ comes_short old new rest next is_open a long = by_next next a where
   by_next Close done = unit Close done
 
 -- so an accepted payload fits
-pub payload_fits : (old new : Held) (rest : List ℕ) (next : Next) → old.phase ≡ Transmitting → Advances old rest next new → length (payload_of old.sectors rest) ≤ 65536
+pub payload_fits : (old new : ParserState) (rest : List ℕ) (next : Next) → old.phase ≡ Transmitting → TransmissionAdvances old rest next new → length (payload_of old.sectors rest) ≤ 65536
 payload_fits old new rest next is_open a =
     elim (cases_lt (length rest) 28) [
       | inl lt ↦
@@ -152,37 +152,37 @@ payload_fits old new rest next is_open a =
 
 -- ---- from the unit begun to the whole text
 
-abbrev Stepping : Held → Held → List ℕ → Next → Type 0
-Stepping old new used next = (rest : List ℕ) → Keeps 28 old rest → Advances old (rest ++ used) next new
+abbrev Stepping : ParserState → ParserState → List ℕ → Next → Type 0
+Stepping old new used next = (rest : List ℕ) → HoldsRest 28 old rest → TransmissionAdvances old (rest ++ used) next new
 
 not_closed : (p : Phase) → p ≡ Transmitting → p ≡ Closed → ⊥
 not_closed p e shut = absurd_of (sym e ∙ shut) where
   absurd_of : Transmitting ≡ Closed → ⊥
   absurd_of e = cc
 
-pub answers_from_step : (start : Phase) (old new : Held) (text used : List ℕ) (next : Next) → old.phase ≡ Transmitting → StandsFor 28 start old text → Stepping old new used next → Answers start old.sectors text (text ++ used) next
+pub answers_from_step : (start : Phase) (old new : ParserState) (text used : List ℕ) (next : Next) → old.phase ≡ Transmitting → ParserRepresents 28 start old text → Stepping old new used next → TransmissionAnswers start old.sectors text (text ++ used) next
 answers_from_step start old new text used next is_open s step units rest split =
     let mine : Splits start text units rest old.phase = rw is_open split in
     by_next next (step rest (holds_the_rest 28 start old text units rest (not_closed old.phase is_open) s mine))
   where
-    one_more : (next : Next) → IsAnswered old (rest ++ used) next new → OneMore start old.sectors (text ++ used) next units
+    one_more : (next : Next) → TransmissionAnswersUnit old (rest ++ used) next new → TransmissionOneMore start old.sectors (text ++ used) next units
     one_more next done = record {
       unit = rest ++ used;
       split = Splits_unit start text used units rest Transmitting split (rw is_open at done.0.is_unit);
       answer = done.1;
     }
 
-    by_next : (next : Next) → Advances old (rest ++ used) next new → NextOrMore start old.sectors (text ++ used) next units
+    by_next : (next : Next) → TransmissionAdvances old (rest ++ used) next new → TransmissionNextOrMore start old.sectors (text ++ used) next units
     by_next More w = (rest ++ used, Splits_more start text used units rest Transmitting split (rw is_open at w.partial))
     by_next (Run c) done = one_more (Run c) done
     by_next (Refused k e) done = one_more (Refused k e) done
     by_next Close done = one_more Close done
 
-pub stands_from_step : (start : Phase) (old new : Held) (text used : List ℕ) (next : Next) → old.phase ≡ Transmitting → StandsFor 28 start old text → Stepping old new used next → StandsFor 28 start new (text ++ used)
+pub stands_from_step : (start : Phase) (old new : ParserState) (text used : List ℕ) (next : Next) → old.phase ≡ Transmitting → ParserRepresents 28 start old text → Stepping old new used next → ParserRepresents 28 start new (text ++ used)
 stands_from_step start old new text used next is_open s step =
     by_next next (step s.rest (s.keeps (not_closed old.phase is_open)))
   where
-    by_next : (next : Next) → Advances old (s.rest ++ used) next new → StandsFor 28 start new (text ++ used)
+    by_next : (next : Next) → TransmissionAdvances old (s.rest ++ used) next new → ParserRepresents 28 start new (text ++ used)
     by_next More w = stands_waiting 28 start old new text used s w
     by_next (Run c) done = stands_completed 28 start old new text used s done.0
     by_next (Refused k e) done = stands_completed 28 start old new text used s done.0

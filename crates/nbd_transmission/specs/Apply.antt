@@ -1,12 +1,16 @@
--- What a command does to the contents of a disk, and what it is answered. Source: NBD proto.md, simple replies; own is the list of bytes.
--- Contents are one list of bytes, 512 for each sector.
-use Rattle.std.specs.Prelude.{◌≡◌, ◌⊎◌, ℕ, ◌+◌, List, [], ◌∷◌, ◌++◌, length, take, drop, Bool, true, false, Option, Some, None, if◌then◌else◌}
+-- What a command does to the contents of a disk, and what it is answered. Source: NBD proto.md,
+-- simple replies; own is the list of bytes. Contents are one list of bytes, 512 for each sector.
+use Rattle.std.specs.Prelude.{ℕ, ◌+◌, List, [], ◌∷◌, ◌++◌, length, take, drop, Option, Some, None}
+use Rattle.std.specs.Prelude.{if◌then◌else◌}
+use Rattle.nbd_wire.specs.Numbers.{REQUEST_LEN}
 use Rattle.nbd_wire.specs.declared.command.Command.{Command}
 use Rattle.nbd_wire.specs.declared.command.CommandKind.{CommandKind}
-use Rattle.nbd_wire.specs.declared.command.CommandKind.TheVariants.{Read, Write, Disconnect, Flush, Unknown}
+use Rattle.nbd_wire.specs.declared.command.CommandKind.TheVariants.{Read, Write, Disconnect, Flush}
+use Rattle.nbd_wire.specs.declared.command.CommandKind.TheVariants.{Unknown}
 use Rattle.nbd_wire.specs.declared.request.Request.{Request}
 use Rattle.nbd_wire.specs.Heads.{reply_bytes, request_at}
-use Rattle.nbd_wire.specs.Commands.{command_of, is_disconnect, judge_of, kind_of}
+use Rattle.nbd_wire.specs.Commands.{command_in, is_disconnect, judge_of, command_kind}
+use Rattle.nbd_wire.specs.Lent.{reply_in}
 
 -- the data of an accepted command's reply: the bytes of a READ's range
 abbrev pub data_of_kind : CommandKind → List ℕ → Command → List ℕ
@@ -22,7 +26,8 @@ data_of contents c = data_of_kind c.kind contents c
 -- the contents after an accepted command: a WRITE's payload replaces the bytes of its range
 abbrev pub changed_kind : CommandKind → List ℕ → Command → List ℕ → List ℕ
 changed_kind Read contents c payload = contents
-changed_kind Write contents c payload = take c.offset contents ++ payload ++ drop (c.offset + length payload) contents
+changed_kind Write contents c payload =
+    take c.offset contents ++ payload ++ drop (c.offset + length payload) contents
 changed_kind Disconnect contents c payload = contents
 changed_kind Flush contents c payload = contents
 changed_kind (Unknown n) contents c payload = contents
@@ -33,6 +38,11 @@ changed_by contents c payload = changed_kind c.kind contents c payload
 -- a reply's head
 abbrev pub head_of : Command → ℕ → List ℕ
 head_of c error = reply_bytes record { error = error; cookie = c.cookie }
+
+-- the reply to a command that ran with this error over these lent bytes: data follow only where it
+-- met none
+abbrev pub reply_with : Command → ℕ → List ℕ → List ℕ
+reply_with c error bytes = head_of c error ++ reply_in c error bytes
 
 -- A command applied to contents: a refused one changes nothing.
 abbrev pub applied_unless : Option ℕ → List ℕ → Command → List ℕ → List ℕ
@@ -50,19 +60,34 @@ reply_unless (Some error) contents c = head_of c error
 abbrev pub reply_to : ℕ → List ℕ → Command → List ℕ
 reply_to sectors contents c = reply_unless (judge_of c sectors) contents c
 
--- The same of a unit of the transmission phase. One that closes the connection is answered nothing and changes nothing.
+-- The same of a unit of the transmission phase. One that closes the connection is answered nothing
+-- and changes nothing.
 abbrev pub request_applied : ℕ → List ℕ → Option Request → List ℕ → List ℕ
 request_applied sectors contents None payload = contents
 request_applied sectors contents (Some r) payload =
-    if is_disconnect (kind_of r.kind) then contents else applied sectors contents (command_of r) payload
+    if is_disconnect (command_kind r.kind) then contents
+    else applied sectors contents (command_in r) payload
 
 abbrev pub unit_applied : ℕ → List ℕ → List ℕ → List ℕ
-unit_applied sectors contents unit = request_applied sectors contents (request_at unit) (drop 28 unit)
+unit_applied sectors contents unit =
+    request_applied sectors contents (request_at unit) (drop REQUEST_LEN unit)
 
 abbrev pub request_reply : ℕ → List ℕ → Option Request → List ℕ
 request_reply sectors contents None = []
 request_reply sectors contents (Some r) =
-    if is_disconnect (kind_of r.kind) then [] else reply_to sectors contents (command_of r)
+    if is_disconnect (command_kind r.kind) then [] else reply_to sectors contents (command_in r)
 
 abbrev pub unit_reply : ℕ → List ℕ → List ℕ → List ℕ
 unit_reply sectors contents unit = request_reply sectors contents (request_at unit)
+
+-- The replies to the units of a transmission, one after another, and the contents after them.
+abbrev pub unit_replies : ℕ → List ℕ → List (List ℕ) → List ℕ
+unit_replies sectors contents [] = []
+unit_replies sectors contents (unit ∷ units) =
+    unit_reply sectors contents unit
+    ++ unit_replies sectors (unit_applied sectors contents unit) units
+
+abbrev pub after_units : ℕ → List ℕ → List (List ℕ) → List ℕ
+after_units sectors contents [] = contents
+after_units sectors contents (unit ∷ units) =
+    after_units sectors (unit_applied sectors contents unit) units

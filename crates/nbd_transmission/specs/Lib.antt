@@ -1,7 +1,7 @@
 pub mod Taking
-pub mod Standing
+pub mod Parser
 pub use Rattle.nbd_wire.specs.Heads
 pub use Rattle.nbd_wire.specs.Commands
 pub use Rattle.nbd_wire.specs.Units
-pub use Rattle.nbd_wire.specs.Standing as WireStanding
+pub use Rattle.nbd_wire.specs.Parser as WireParser
 pub mod Apply

@@ -1,12 +1,14 @@
--- What a complete request of the transmission phase is answered. Source: NBD proto.md; own is that nothing is said before a close.
-use Rattle.std.specs.Prelude.{ℕ, ◌≡◌, ◌&&◌, Bool, false, is_none, List, [], drop, Option, Some, None, if◌then◌else◌}
-use Rattle.nbd_wire.specs.declared.constants.TheConstants.{REQUEST_LEN}
+-- What a complete request of the transmission phase is answered. Source: NBD proto.md; own is that
+-- nothing is said before a close.
+use Rattle.std.specs.Prelude.{ℕ, ◌≡◌, ◌&&◌, Bool, false, is_none, List, [], drop, Option, Some}
+use Rattle.std.specs.Prelude.{None, if◌then◌else◌}
+use Rattle.nbd_wire.specs.Numbers.{REQUEST_LEN}
 use Rattle.nbd_wire.specs.declared.request.Request.{Request}
 use Rattle.nbd_wire.specs.declared.command.Command.{Command}
 use Rattle.nbd_wire.specs.declared.phase.Phase.{Phase}
 use Rattle.nbd_wire.specs.declared.phase.Phase.TheVariants.{Transmitting, Closed}
 use Rattle.nbd_wire.specs.Heads.{request_at}
-use Rattle.nbd_wire.specs.Commands.{kind_of, command_of, is_write, is_disconnect, judge_of}
+use Rattle.nbd_wire.specs.Commands.{command_kind, command_in, is_write, is_disconnect, judge_of}
 use Rattle.nbd_transmission.specs.declared.transmission.Next.{Next}
 use Rattle.nbd_transmission.specs.declared.transmission.Next.TheVariants.{More, Run, Refused, Close}
 
@@ -18,7 +20,8 @@ verdict c (Some error) = Refused c.cookie error
 -- the answer to a request, or to a head whose magic is wrong: that and DISC close
 abbrev pub answer_of : ℕ → Option Request → Next
 answer_of sectors None = Close
-answer_of sectors (Some r) = if is_disconnect (kind_of r.kind) then Close else verdict (command_of r) (judge_of (command_of r) sectors)
+answer_of sectors (Some r) = if is_disconnect (command_kind r.kind) then Close
+    else verdict (command_in r) (judge_of (command_in r) sectors)
 
 -- the answer to a unit
 abbrev pub answer_to : ℕ → List ℕ → Next
@@ -32,16 +35,18 @@ phase_of (Refused cookie error) = Transmitting
 phase_of Close = Closed
 
 -- a command that is to be run passes each check of the request table, and is none that closes
-abbrev pub IsAccepted : ℕ → Next → Type 0
-IsAccepted sectors More = Unit {0}
-IsAccepted sectors (Run c) = (judge_of c sectors ≡ None) × (is_disconnect c.kind ≡ false)
-IsAccepted sectors (Refused cookie error) = Unit {0}
-IsAccepted sectors Close = Unit {0}
+abbrev pub IsAcceptedRequest : ℕ → Next → Type 0
+IsAcceptedRequest sectors More = Unit {0}
+IsAcceptedRequest sectors (Run c) = (judge_of c sectors ≡ None) × (is_disconnect c.kind ≡ false)
+IsAcceptedRequest sectors (Refused cookie error) = Unit {0}
+IsAcceptedRequest sectors Close = Unit {0}
 
 abbrev pub is_accepted_write : ℕ → Option Request → Bool
 is_accepted_write sectors None = false
-is_accepted_write sectors (Some r) = is_write (kind_of r.kind) && is_none (judge_of (command_of r) sectors)
+is_accepted_write sectors (Some r) =
+    is_write (command_kind r.kind) && is_none (judge_of (command_in r) sectors)
 
 -- the part of an accepted WRITE's payload that has come with these first bytes of its unit
 abbrev pub payload_of : ℕ → List ℕ → List ℕ
-payload_of sectors rest = if is_accepted_write sectors (request_at rest) then drop REQUEST_LEN rest else []
+payload_of sectors rest = if is_accepted_write sectors (request_at rest) then drop REQUEST_LEN rest
+    else []

@@ -1,16 +1,19 @@
 //! Which commands are refused, and with which error.
 
-ghost use Rattle.std.specs.Prelude.{◌≡◌, ◌+◌, ◌*◌, ◌||◌, ◌==◌, not, nat_lt, [], ◌∷◌};
-ghost use Rattle.nbd_wire.specs.Commands.{judge_of, first_failing, is_multiple};
+ghost use Rattle.std.specs.Prelude.{◌≡◌, ◌≤◌, ◌+◌, ◌*◌, ◌||◌, ◌==◌, ℕ, None, true, not, nat_lt, []};
+ghost use Rattle.std.specs.Prelude.{◌∷◌};
+ghost use Rattle.nbd_wire.specs.Commands.{judge_of, first_failing, is_multiple, moves_data};
 
 use bitflags::Flags;
 use nbd_wire::{Command, CommandFlags, CommandKind, EINVAL, ENOSPC, MAX_LEN, SECTOR_LEN};
 
-/// The error that refuses a command on a disk of so many sectors, or none: that of the first check of the request table that fails.
+/// The error that refuses a command on a disk of so many sectors, or none: that of the first check
+/// of the request table that fails.
 ///
-/// 22 (EINVAL): a command other than READ, WRITE and FLUSH; a flag other than FUA; a FLUSH with an offset or a length;
-/// a READ or WRITE without a length, with an offset or a length that is no multiple of 512 bytes, or above 65,536 bytes;
-/// a READ past the end. 28 (ENOSPC): a WRITE past the end. Source: NBD proto.md for the errors; the limits and their order are own.
+/// 22 (EINVAL): a command other than READ, WRITE and FLUSH; a flag other than FUA; a FLUSH with an
+/// offset or a length; a READ or WRITE without a length, with an offset or a length that is no
+/// multiple of 512 bytes, or above 65,536 bytes; a READ past the end. 28 (ENOSPC): a WRITE past the
+/// end. Source: NBD proto.md for the errors; the limits and their order are own.
 #[tactic(auto, unfolding(nbd_wire::specs::Commands::judge_of))]
 pub fn judge(command: &Command, sectors: u32) -> Option<u32>
     ensures { result ≡ judge_of command.now sectors }
@@ -28,7 +31,8 @@ pub fn judge(command: &Command, sectors: u32) -> Option<u32>
     }
 }
 
-/// The error that the range of a READ or WRITE meets, which is `past_end` where it ends past the end of the disk.
+/// The error that the range of a READ or WRITE meets, which is `past_end` where it ends past the
+/// end of the disk.
 fn judge_range(offset: u64, length: u32, sectors: u32, past_end: u32) -> Option<u32>
     ensures { result ≡ first_failing (
         (length == 0 || not (is_multiple offset) || not (is_multiple length), EINVAL)
@@ -49,4 +53,15 @@ fn judge_range(offset: u64, length: u32, sectors: u32, past_end: u32) -> Option<
         return Some(past_end);
     }
     None
+}
+
+/// The first sector of an accepted READ or WRITE.
+pub fn first_sector(command: &Command, sectors: u32) -> u32
+    requires accepted { judge_of command.now sectors ≡ None }
+    requires kind { moves_data command.now.kind ≡ true }
+    ensures first { 512 * result ≡ command.now.offset }
+    ensures range { command.now.offset + command.now.length ≤ 512 * sectors }
+    ensures whole { (k : ℕ) × (command.now.length ≡ 512 * k) }
+{
+    (command.offset / u64::from(SECTOR_LEN)) as u32
 }

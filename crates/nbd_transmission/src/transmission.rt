@@ -1,16 +1,18 @@
 //! Commands and refusals, cut out of the bytes of a connection.
 
-ghost use Rattle.std.specs.Prelude.{◌≡◌, ◌<◌, ◌≤◌, ◌+◌, ◌-◌, ◌++◌, ◌⊎◌, ℕ, List, min, [], length, take, drop, false, if◌then◌else◌};
+ghost use Rattle.std.specs.Prelude.{◌≡◌, ◌<◌, ◌≤◌, ◌+◌, ◌-◌, ◌++◌, ◌⊎◌, ℕ, List, min, [], length};
+ghost use Rattle.std.specs.Prelude.{take, drop, false, if◌then◌else◌};
 ghost use Rattle.nbd_wire.specs.Heads.{request_at};
 ghost use Rattle.nbd_wire.specs.Units.{payload_len, Splits};
-ghost use Rattle.nbd_wire.specs.Standing.{Keeps, StandsFor};
+ghost use Rattle.nbd_wire.specs.Parser.{HoldsRest, ParserRepresents};
 ghost use Rattle.nbd_wire.specs.declared.phase.Phase.{Phase};
 ghost use Rattle.nbd_wire.specs.declared.phase.Phase.TheVariants.{Transmitting, Closed};
-ghost use Rattle.nbd_transmission.specs.Taking.{answer_to, verdict, is_accepted_write, payload_of, phase_of, IsAccepted};
-ghost use Rattle.nbd_transmission.specs.Standing.{Answers, Advances};
+ghost use Rattle.nbd_transmission.specs.Taking.{answer_to, verdict, is_accepted_write, payload_of};
+ghost use Rattle.nbd_transmission.specs.Taking.{phase_of, IsAcceptedRequest};
+ghost use Rattle.nbd_transmission.specs.Parser.{TransmissionAnswers, TransmissionAdvances};
 
 use crate::table::judge;
-use nbd_wire::{Command, CommandKind, MAX_LEN, REQUEST_LEN, Request};
+use nbd_wire::{Command, CommandKind, MAX_LEN, REQUEST_LEN, Request, fill};
 use std::marker::Model;
 
 /// What comes next on a connection.
@@ -20,7 +22,8 @@ pub enum Next {
     More,
     /// An accepted command is to be run. The payload of a WRITE is complete.
     Run(Command),
-    /// A refused command: its cookie and its error. The payload of a WRITE was taken and is to be dropped.
+    /// A refused command: its cookie and its error. The payload of a WRITE was taken and is to be
+    /// dropped.
     Refused(u64, u32),
     /// The connection is over, without a reply.
     Close,
@@ -50,23 +53,33 @@ impl Model for Transmission {
     ghost use Rattle.nbd_wire.specs.declared.constants.TheConstants.{REQUEST_LEN};
     ghost use Rattle.nbd_wire.specs.Heads.{request_at};
     ghost use Rattle.nbd_wire.specs.Units.{payload_len};
-    ghost use Rattle.nbd_wire.specs.Standing.{Held};
+    ghost use Rattle.nbd_wire.specs.Parser.{ParserState};
     ghost use Rattle.nbd_wire.specs.declared.phase.Phase.TheVariants.{Transmitting, Closed};
 
-    ghost Value = { Held };
+    ghost Value = { ParserState };
 
-    ghost view = { λ t. record { sectors = t.sectors; phase = (if t.is_closed then Closed else Transmitting); kept = take (min t.count REQUEST_LEN) t.head; count = t.count } };
+    ghost view = { λ t. record {
+      sectors = t.sectors;
+      phase = (if t.is_closed then Closed else Transmitting);
+      kept = take
+          (min t.count REQUEST_LEN) t.head;
+      count = t.count;
+    } };
 
-    ghost invariant = { λ t. REQUEST_LEN ≤ t.count → t.count < REQUEST_LEN + payload_len (request_at t.head) };
+    ghost invariant = { λ t. REQUEST_LEN ≤ t.count
+        → t.count < REQUEST_LEN + payload_len (request_at t.head) };
 }
 
 impl Transmission {
     /// A parser for a disk of so many sectors, whose next byte begins a request.
     pub fn new(sectors: u32) -> Transmission
-        ensures exact { result ≡ record { sectors = sectors; phase = Phase.Transmitting; kept = []; count = 0 } }
-        ensures keeps { Keeps REQUEST_LEN result [] }
-        // It stands for each text whose units lead to the transmission, without a rest.
-        ensures stands { (start : Phase) (text : List ℕ) (units : List (List ℕ)) → Splits start text units [] Phase.Transmitting → StandsFor REQUEST_LEN start result text }
+        ensures exact { result ≡ record
+            { sectors = sectors; phase = Phase.Transmitting; kept = []; count = 0 } }
+        ensures keeps { HoldsRest REQUEST_LEN result [] }
+        // It represents each text whose units lead to the transmission, without a rest.
+        ensures stands { (start : Phase) (text : List ℕ) (units : List (List ℕ))
+            → Splits start text units [] Phase.Transmitting
+            → ParserRepresents REQUEST_LEN start result text }
     {
         Transmission {
             sectors,
@@ -81,30 +94,42 @@ impl Transmission {
         ensures used { result.used ≤ length bytes.now }
         ensures payload { result.payload ≤ result.used }
         ensures more { result.next ≡ Next.More → result.used ≡ length bytes.now }
-        ensures progress { self.old.phase ≡ Phase.Transmitting → 0 < length bytes.now → 0 < result.used }
-        ensures closed { self.old.phase ≡ Phase.Closed → (self.new ≡ self.old) × (result ≡ record { used = 0; payload = 0; next = Next.Close }) }
+        ensures progress { self.old.phase ≡ Phase.Transmitting → 0 < length bytes.now
+            → 0 < result.used }
+        ensures closed { self.old.phase ≡ Phase.Closed
+            → (self.new ≡ self.old) × (result
+            ≡ record { used = 0; payload = 0; next = Next.Close }) }
         ensures sectors { self.new.sectors ≡ self.old.sectors }
         ensures phase { self.new.phase ≡ phase_of result.next }
         ensures phases { (self.old.phase ≡ Phase.Transmitting) ⊎ (self.old.phase ≡ Phase.Closed) }
-        ensures accepted { IsAccepted self.old.sectors result.next }
+        ensures accepted { IsAcceptedRequest self.old.sectors result.next }
 
         // Of the unit begun: what the bytes used make of it,
-        ensures step { (rest : List ℕ) → self.old.phase ≡ Phase.Transmitting → Keeps REQUEST_LEN self.old rest
-            → Advances self.old (rest ++ take result.used bytes.now) result.next self.new }
+        ensures step { (rest : List ℕ) → self.old.phase ≡ Phase.Transmitting
+            → HoldsRest REQUEST_LEN self.old rest
+            → TransmissionAdvances self.old (rest ++ take result.used bytes.now) result.next
+            self.new }
         // that the last of them are the next part of an accepted payload,
-        ensures part { (rest : List ℕ) → self.old.phase ≡ Phase.Transmitting → Keeps REQUEST_LEN self.old rest
+        ensures part { (rest : List ℕ) → self.old.phase ≡ Phase.Transmitting
+            → HoldsRest REQUEST_LEN self.old rest
             → payload_of self.old.sectors (rest ++ take result.used bytes.now)
-            ≡ payload_of self.old.sectors rest ++ drop (result.used - result.payload) (take result.used bytes.now) }
+            ≡ payload_of self.old.sectors rest
+            ++ drop (result.used - result.payload) (take result.used bytes.now) }
         // which never grows longer than a READ or WRITE may be.
-        ensures room { (rest : List ℕ) → self.old.phase ≡ Phase.Transmitting → Keeps REQUEST_LEN self.old rest
+        ensures room { (rest : List ℕ) → self.old.phase ≡ Phase.Transmitting
+            → HoldsRest REQUEST_LEN self.old rest
             → length (payload_of self.old.sectors (rest ++ take result.used bytes.now)) ≤ MAX_LEN }
 
-        // Of each text that the parser stands for: the answer is that of the next unit of this text and the bytes used,
-        ensures answer { (start : Phase) (text : List ℕ) → self.old.phase ≡ Phase.Transmitting → StandsFor REQUEST_LEN start self.old text
-            → Answers start self.old.sectors text (text ++ take result.used bytes.now) result.next }
-        // and the parser then stands for the longer text.
-        ensures stands { (start : Phase) (text : List ℕ) → StandsFor REQUEST_LEN start self.old text
-            → StandsFor REQUEST_LEN start self.new (text ++ take result.used bytes.now) }
+        // Of each text that the parser represents: the answer is that of the next unit of this text
+        // and the bytes used,
+        ensures answer { (start : Phase) (text : List ℕ) → self.old.phase ≡ Phase.Transmitting
+            → ParserRepresents REQUEST_LEN start self.old text
+            → TransmissionAnswers start self.old.sectors text (text ++ take result.used bytes.now)
+            result.next }
+        // and the parser then represents the longer text.
+        ensures stands { (start : Phase) (text : List ℕ)
+            → ParserRepresents REQUEST_LEN start self.old text
+            → ParserRepresents REQUEST_LEN start self.new (text ++ take result.used bytes.now) }
     {
         if self.is_closed {
             return Taken {
@@ -125,12 +150,14 @@ impl Transmission {
         ensures progress { 0 < length bytes.now → 0 < result.used }
         ensures sectors { self.new.sectors ≡ self.old.sectors }
         ensures phase { self.new.phase ≡ phase_of result.next }
-        ensures accepted { IsAccepted self.old.sectors result.next }
-        ensures step { (rest : List ℕ) → Keeps REQUEST_LEN self.old rest
-            → Advances self.old (rest ++ take result.used bytes.now) result.next self.new }
-        ensures part { (rest : List ℕ) → Keeps REQUEST_LEN self.old rest
+        ensures accepted { IsAcceptedRequest self.old.sectors result.next }
+        ensures step { (rest : List ℕ) → HoldsRest REQUEST_LEN self.old rest
+            → TransmissionAdvances self.old (rest ++ take result.used bytes.now) result.next
+            self.new }
+        ensures part { (rest : List ℕ) → HoldsRest REQUEST_LEN self.old rest
             → payload_of self.old.sectors (rest ++ take result.used bytes.now)
-            ≡ payload_of self.old.sectors rest ++ drop (result.used - result.payload) (take result.used bytes.now) }
+            ≡ payload_of self.old.sectors rest
+            ++ drop (result.used - result.payload) (take result.used bytes.now) }
     {
         let filled = self.count.min(REQUEST_LEN as u64) as usize;
         let head = fill(&mut self.head, filled, bytes);
@@ -162,17 +189,6 @@ impl Transmission {
             next: tail.next,
         }
     }
-}
-
-/// Takes bytes of a head that has `filled` of them.
-fn fill(head: &mut [u8; REQUEST_LEN], filled: usize, bytes: &[u8]) -> usize
-    requires { filled ≤ REQUEST_LEN }
-    ensures count { result ≡ min (REQUEST_LEN - filled) (length bytes.now) }
-    ensures head { take (filled + result) head.new ≡ take filled head.old ++ take result bytes.now }
-{
-    let n = (REQUEST_LEN - filled).min(bytes.len());
-    head[filled..filled + n].copy_from_slice(&bytes[..n]);
-    n
 }
 
 /// What a whole head says of its unit.

@@ -1,5 +1,5 @@
 -- What the request table lets through.
-use Rattle.std.proofs.Common.{◌≡◌, ℕ, zero, suc, ◌+◌, ◌*◌, ◌%◌, ◌<◌, ◌≤◌, ◌&&◌, ◌||◌, not, Bool, true, false, cond, eqb, List, [], ◌∷◌, Option, Some, None, refl, arith}
+use Rattle.std.proofs.Common.{◌≡◌, ℕ, zero, suc, ◌+◌, ◌*◌, ◌%◌, ◌<◌, ◌≤◌, ◌&&◌, ◌||◌, not, Bool, true, false, cond, eqb, List, [], ◌∷◌, Option, Some, None, refl, sym, ap, ◌∙◌, arith}
 use Rattle.std.proofs.lemmas.Bool.{ltb-false, eqb-true}
 use Rattle.std.proofs.Math.Dec.{ltb}
 use Rattle.nbd_wire.specs.declared.command.Command.{Command}
@@ -49,6 +49,13 @@ write_moves_data (Unknown n) e = cc
 pub accepted_is_served : (c : Command) (sectors : ℕ) → judge_of c sectors ≡ None → is_served c.kind ≡ true
 unfolding judge_of
 accepted_is_served c sectors h = not_is_false (is_served c.kind) (passes (checks c sectors) 0 h)
+
+-- it is no DISC and of no unknown type
+pub not_disconnect : (c : Command) (sectors : ℕ) → judge_of c sectors ≡ None → c.kind ≡ Disconnect → ⊥
+not_disconnect c sectors h e = let s = sym (accepted_is_served c sectors h) ∙ ap is_served e in cc
+
+pub not_unknown : (c : Command) (sectors n : ℕ) → judge_of c sectors ≡ None → c.kind ≡ Unknown n → ⊥
+not_unknown c sectors n h e = let s = sym (accepted_is_served c sectors h) ∙ ap is_served e in cc
 
 -- an accepted READ or WRITE has whole sectors, at most 65,536 bytes, all of them on the disk
 pub accepted_range : (c : Command) (sectors : ℕ) → moves_data c.kind ≡ true → judge_of c sectors ≡ None → (0 < c.length) × (c.offset % 512 ≡ 0) × (c.length % 512 ≡ 0) × (c.length ≤ 65536) × (c.offset + c.length ≤ 512 * sectors)

@@ -5,7 +5,7 @@ use Rattle.std.proofs.lemmas.List.{take_at, drop_at, take-append-drop, length-ap
 use Rattle.nbd_wire.specs.declared.phase.Phase.{Phase}
 use Rattle.nbd_wire.specs.declared.phase.Phase.TheVariants.{AwaitingFlags, Negotiating, Transmitting, Closed}
 use Rattle.nbd_wire.specs.Units.{head_len, tail_len, IsOpen, IsUnit, IsPartial, after, Splits}
-use Rattle.nbd_wire.specs.Cutting.{tail_front, head_pos, first_unit, cut}
+use Rattle.nbd_wire.proofs.Cutting.{tail_front, head_pos, first_unit, cut}
 
 -- no unit begins another
 pub one_front : (p : Phase) (u v x y : List ℕ) → IsUnit p u → IsUnit p v → u ++ x ≡ v ++ y → (u ≡ v) × (x ≡ y)

@@ -1,20 +1,32 @@
--- Commands, and which of them are refused. Source: NBD proto.md; own are the limit of 65,536 bytes and the order of the checks.
-use Rattle.std.specs.Prelude.{ℕ, ◌+◌, ◌*◌, ◌%◌, ◌==◌, ◌&&◌, ◌||◌, not, Bool, true, false, nat_lt, List, [], ◌∷◌, Option, Some, None, if◌then◌else◌}
+-- Commands, and which of them are refused. Source: NBD proto.md; own are the limit of 65,536 bytes
+-- and the order of the checks.
+use Rattle.std.specs.Prelude.{ℕ, ◌+◌, ◌*◌, ◌%◌, ◌==◌, ◌&&◌, ◌||◌, not, Bool, true, false, nat_lt}
+use Rattle.std.specs.Prelude.{List, [], ◌∷◌, Option, Some, None, if◌then◌else◌}
 use Rattle.std.specs.Int.RustNames.{bit_and}
-use Rattle.nbd_wire.specs.declared.constants.TheConstants.{CMD_READ, CMD_WRITE, CMD_DISC, CMD_FLUSH, EINVAL, ENOSPC, SECTOR_LEN, MAX_LEN}
+use Rattle.nbd_wire.specs.Numbers.{CMD_READ, CMD_WRITE, CMD_DISC, CMD_FLUSH, EINVAL, ENOSPC}
+use Rattle.nbd_wire.specs.Numbers.{SECTOR_LEN, MAX_LEN}
 use Rattle.nbd_wire.specs.declared.request.Request.{Request}
 use Rattle.nbd_wire.specs.declared.command.Command.{Command}
 use Rattle.nbd_wire.specs.declared.command.CommandKind.{CommandKind}
-use Rattle.nbd_wire.specs.declared.command.CommandKind.TheVariants.{Read, Write, Disconnect, Flush, Unknown}
+use Rattle.nbd_wire.specs.declared.command.CommandKind.TheVariants.{Read, Write, Disconnect, Flush}
+use Rattle.nbd_wire.specs.declared.command.CommandKind.TheVariants.{Unknown}
 use Rattle.nbd_wire.specs.declared.flags.CommandFlags.{CommandFlags}
 
--- what the numbers on the wire mean (NBD proto.md; TRIM, WRITE_ZEROES and all others are not served)
-abbrev pub kind_of : ℕ → CommandKind
-kind_of n = if n == CMD_READ then Read else if n == CMD_WRITE then Write else if n == CMD_DISC then Disconnect else if n == CMD_FLUSH then Flush else Unknown n
+-- what the numbers on the wire mean (NBD proto.md; TRIM, WRITE_ZEROES and all others are not
+-- served)
+abbrev pub command_kind : ℕ → CommandKind
+command_kind n = if n == CMD_READ then Read else if n == CMD_WRITE then Write else if n == CMD_DISC
+    then Disconnect else if n == CMD_FLUSH then Flush else Unknown n
 
 -- the command of a request: its fields, and the meaning of its number
-abbrev pub command_of : Request → Command
-command_of r = record { kind = kind_of r.kind; flags = r.flags; cookie = r.cookie; offset = r.offset; length = r.length }
+abbrev pub command_in : Request → Command
+command_in r = record {
+  kind = command_kind r.kind;
+  flags = r.flags;
+  cookie = r.cookie;
+  offset = r.offset;
+  length = r.length;
+}
 
 -- the commands that are answered by a reply with error 0 where nothing is wrong with them
 abbrev pub is_served : CommandKind → Bool
@@ -49,16 +61,25 @@ has_no_flag_but_fua flags = bit_and 1 flags.0 == flags.0
 abbrev pub is_multiple : ℕ → Bool
 is_multiple n = n % SECTOR_LEN == 0
 
--- The request table, row by row: whether the check fails on a disk of so many sectors, and the error then. The sum is
--- unbounded. The errors are those of NBD proto.md, the limits and the order are own.
+-- The request table, row by row: whether the check fails on a disk of so many sectors, and the
+-- error then. The sum is unbounded. The errors are those of NBD proto.md, the limits and the order
+-- are own.
 abbrev pub checks : Command → ℕ → List (Bool × ℕ)
 checks c sectors =
     (not (is_served c.kind), EINVAL)
     ∷ (not (has_no_flag_but_fua c.flags), EINVAL)
     ∷ (is_flush c.kind && not (c.offset == 0 && c.length == 0), EINVAL)
-    ∷ (moves_data c.kind && (c.length == 0 || not (is_multiple c.offset) || not (is_multiple c.length)), EINVAL)
+    ∷ (
+      moves_data c.kind && (c.length == 0 || not (is_multiple c.offset)
+          || not (is_multiple c.length)),
+      EINVAL,
+    )
     ∷ (moves_data c.kind && nat_lt MAX_LEN c.length, EINVAL)
-    ∷ (moves_data c.kind && nat_lt (SECTOR_LEN * sectors) (c.offset + c.length), if is_write c.kind then ENOSPC else EINVAL)
+    ∷ (
+      moves_data c.kind && nat_lt (SECTOR_LEN * sectors) (c.offset + c.length),
+      if is_write c.kind
+          then ENOSPC else EINVAL,
+    )
     ∷ []
 
 -- the error of the first row that fails
@@ -69,30 +90,3 @@ first_failing (row ∷ rows) = if row.0 then Some row.1 else first_failing rows
 -- the error that refuses a command on a disk of so many sectors
 unfoldable pub judge_of : Command → ℕ → Option ℕ
 judge_of c sectors = first_failing (checks c sectors)
-
--- The bytes that are lent to a command are a WRITE's payload, or the room for a READ's data: how many they are
-abbrev pub lent_len_of : CommandKind → Command → ℕ
-lent_len_of Read c = c.length
-lent_len_of Write c = c.length
-lent_len_of Disconnect c = 0
-lent_len_of Flush c = 0
-lent_len_of (Unknown n) c = 0
-
--- the payload among them
-abbrev pub payload_in_of : CommandKind → List ℕ → List ℕ
-payload_in_of Read bytes = []
-payload_in_of Write bytes = bytes
-payload_in_of Disconnect bytes = []
-payload_in_of Flush bytes = []
-payload_in_of (Unknown n) bytes = []
-
-abbrev pub payload_in : Command → List ℕ → List ℕ
-payload_in c bytes = payload_in_of c.kind bytes
-
--- the reply's data among them: those of a READ
-abbrev pub data_in_of : CommandKind → List ℕ → List ℕ
-data_in_of Read bytes = bytes
-data_in_of Write bytes = []
-data_in_of Disconnect bytes = []
-data_in_of Flush bytes = []
-data_in_of (Unknown n) bytes = []

@@ -1,14 +1,17 @@
--- The heads of requests and of simple replies as bytes, and how they are read from bytes. Source: NBD proto.md. All numbers are big-endian.
-use Rattle.std.specs.Prelude.{ℕ, ◌<◌, ◌^◌, ◌==◌, List, ◌++◌, drop, Option, Some, None, if◌then◌else◌}
+-- The heads of requests and of simple replies as bytes, and how they are read from bytes. Source:
+-- NBD proto.md. All numbers are big-endian.
+use Rattle.std.specs.Prelude.{ℕ, ◌<◌, ◌^◌, ◌==◌, List, ◌++◌, drop, Option, Some, None}
+use Rattle.std.specs.Prelude.{if◌then◌else◌}
 use Rattle.byteorder.specs.Endian.{big_bytes, big_number}
-use Rattle.nbd_wire.specs.declared.constants.TheConstants.{REQUEST_MAGIC, REPLY_MAGIC}
+use Rattle.nbd_wire.specs.Numbers.{REQUEST_MAGIC, REPLY_MAGIC}
 use Rattle.nbd_wire.specs.declared.request.Request.{Request}
 use Rattle.nbd_wire.specs.declared.reply.Reply.{Reply}
 
 -- the 28 bytes of a request's head
 unfoldable pub request_bytes : Request → List ℕ
 request_bytes r =
-    big_bytes 4 REQUEST_MAGIC ++ big_bytes 2 r.flags.0 ++ big_bytes 2 r.kind ++ big_bytes 8 r.cookie ++ big_bytes 8 r.offset ++ big_bytes 4 r.length
+    big_bytes 4 REQUEST_MAGIC ++ big_bytes 2 r.flags.0 ++ big_bytes 2 r.kind ++ big_bytes 8 r.cookie
+    ++ big_bytes 8 r.offset ++ big_bytes 4 r.length
 
 -- the 16 bytes of a simple reply's head
 unfoldable pub reply_bytes : Reply → List ℕ
@@ -26,7 +29,11 @@ request_fields bytes = record {
 
 -- the fields of a simple reply's head that begins here
 abbrev pub reply_fields : List ℕ → Reply
-reply_fields bytes = record { error = big_number 4 (drop 4 bytes); cookie = big_number 8 (drop 8 bytes) }
+reply_fields bytes = record {
+  error = big_number 4 (drop 4 bytes);
+  cookie = big_number 8
+      (drop 8 bytes);
+}
 
 -- the request whose head begins here, where the magic is right
 unfoldable pub request_at : List ℕ → Option Request

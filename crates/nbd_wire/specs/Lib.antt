@@ -1,7 +1,8 @@
+pub mod Numbers
 pub mod Heads
 pub mod Commands
+pub mod Lent
 pub mod Options
 pub mod Units
-pub mod Cutting
-pub mod Standing
+pub mod Parser
 pub use Rattle.byteorder.specs.Endian

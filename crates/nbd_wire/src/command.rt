@@ -1,13 +1,14 @@
 //! What a request asks for.
 
 ghost use Rattle.std.specs.Prelude.{◌≡◌};
-ghost use Rattle.nbd_wire.specs.Commands.{kind_of, command_of};
+ghost use Rattle.nbd_wire.specs.Commands.{command_kind, command_in};
 
 use crate::constants::{CMD_DISC, CMD_FLUSH, CMD_READ, CMD_WRITE};
 use crate::flags::CommandFlags;
 use crate::request::Request;
 
-/// What a command does. Source: NBD proto.md; the numbers of commands that this server doesn't serve are unknown ones.
+/// What a command does. Source: NBD proto.md; the numbers of commands that this server doesn't
+/// serve are unknown ones.
 #[derive(Clone, Copy, PartialEq, Eq, Debug)]
 pub enum CommandKind {
     Read,
@@ -21,7 +22,7 @@ pub enum CommandKind {
 impl CommandKind {
     /// The kind that a number on the wire means.
     pub fn of(number: u16) -> CommandKind
-        ensures { result ≡ kind_of number }
+        ensures { result ≡ command_kind number }
     {
         match number {
             CMD_READ => CommandKind::Read,
@@ -49,7 +50,7 @@ pub struct Command {
 impl Command {
     /// The command of a request.
     pub fn of(request: Request) -> Command
-        ensures { result ≡ command_of request }
+        ensures { result ≡ command_in request }
     {
         Command {
             kind: CommandKind::of(request.kind),

@@ -1,4 +1,8 @@
-//! The numbers of the NBD protocol that this server speaks, by the names that proto.md gives them without `NBD_`.
+//! The numbers of the NBD protocol that this server speaks, by the names that proto.md gives them
+//! without `NBD_`.
+
+ghost use Rattle.std.specs.Prelude.{◌≡◌};
+ghost use Rattle.nbd_wire.specs.Numbers as protocol;
 
 /// The first 8 bytes of the server's greeting, `NBDMAGIC` in ASCII.
 pub const GREETING_MAGIC: u64 = 0x4E42_444D_4147_4943;
@@ -17,19 +21,23 @@ pub const GREETING_LEN: usize = 18;
 pub const CLIENT_FLAGS_LEN: usize = 4;
 /// The length of an option's head in bytes: magic, option, length of its data.
 pub const OPTION_LEN: usize = 16;
-/// The length of the head of a reply to an option in bytes: magic, option, reply type, length of its data.
+/// The length of the head of a reply to an option in bytes: magic, option, reply type, length of
+/// its data.
 pub const OPTION_REPLY_LEN: usize = 20;
 /// The length of a request's head in bytes: magic, flags, command, cookie, offset, length.
 pub const REQUEST_LEN: usize = 28;
 /// The length of a simple reply's head in bytes: magic, error, cookie.
 pub const REPLY_LEN: usize = 16;
-/// The length of the answer to EXPORT_NAME in bytes, without its zeroes: size and transmission flags.
+/// The length of the answer to EXPORT_NAME in bytes, without its zeroes: size and transmission
+/// flags.
 pub const EXPORT_NAME_ANSWER_LEN: usize = 10;
 /// How many zero bytes end the answer to EXPORT_NAME for a client that did not set NO_ZEROES.
 pub const EXPORT_NAME_ZEROES_LEN: usize = 124;
-/// The length of the data of the information INFO_EXPORT in bytes: its type, size, transmission flags.
+/// The length of the data of the information INFO_EXPORT in bytes: its type, size, transmission
+/// flags.
 pub const INFO_EXPORT_LEN: usize = 12;
-/// The length of the data of the information INFO_BLOCK_SIZE in bytes: its type, minimum, preferred and maximum.
+/// The length of the data of the information INFO_BLOCK_SIZE in bytes: its type, minimum, preferred
+/// and maximum.
 pub const INFO_BLOCK_SIZE_LEN: usize = 14;
 
 /// The option that names an export and begins the transmission, or closes the connection.
@@ -91,7 +99,8 @@ pub const ESHUTDOWN: u32 = 108;
 pub const SECTOR_LEN: u32 = 512;
 /// The smallest length that a command may have, in bytes, as it is told to the client.
 pub const MINIMUM_BLOCK_LEN: u32 = 512;
-/// The length that serves best for a command, in bytes, as it is told to the client: an erase block of the chip.
+/// The length that serves best for a command, in bytes, as it is told to the client: an erase block
+/// of the chip.
 pub const PREFERRED_BLOCK_LEN: u32 = 4_096;
 /// The largest length of a READ or WRITE in bytes.
 pub const MAX_LEN: u32 = 65_536;
@@ -103,3 +112,37 @@ pub const GREETING_FLAGS: u16 = 0x0003;
 pub const TRANSMISSION_FLAGS: u16 = 0x010D;
 /// The name of the one export; the empty name means it too.
 pub const EXPORT_NAME: &[u8] = b"flash";
+
+/// Each number here is the one that the definitions have, which are written from proto.md and cite
+/// no constant of this file.
+pub fn constants_are_the_protocols()
+    ensures magics { (GREETING_MAGIC ≡ protocol.GREETING_MAGIC)
+        × (OPTION_MAGIC ≡ protocol.OPTION_MAGIC)
+        × (OPTION_REPLY_MAGIC ≡ protocol.OPTION_REPLY_MAGIC)
+        × (REQUEST_MAGIC ≡ protocol.REQUEST_MAGIC) × (REPLY_MAGIC ≡ protocol.REPLY_MAGIC) }
+    ensures heads { (CLIENT_FLAGS_LEN ≡ protocol.CLIENT_FLAGS_LEN)
+        × (OPTION_LEN ≡ protocol.OPTION_LEN) × (REQUEST_LEN ≡ protocol.REQUEST_LEN)
+        × (REPLY_LEN ≡ protocol.REPLY_LEN)
+        × (EXPORT_NAME_ZEROES_LEN ≡ protocol.EXPORT_NAME_ZEROES_LEN) }
+    ensures flags { (GREETING_FLAGS ≡ protocol.GREETING_FLAGS)
+        × (TRANSMISSION_FLAGS ≡ protocol.TRANSMISSION_FLAGS) }
+    ensures options { (OPT_EXPORT_NAME ≡ protocol.OPT_EXPORT_NAME)
+        × (OPT_ABORT ≡ protocol.OPT_ABORT) × (OPT_LIST ≡ protocol.OPT_LIST)
+        × (OPT_INFO ≡ protocol.OPT_INFO) × (OPT_GO ≡ protocol.OPT_GO) }
+    ensures replies { (REP_ACK ≡ protocol.REP_ACK) × (REP_SERVER ≡ protocol.REP_SERVER)
+        × (REP_INFO ≡ protocol.REP_INFO) }
+    ensures refusals { (REP_ERR_UNSUP ≡ protocol.REP_ERR_UNSUP)
+        × (REP_ERR_INVALID ≡ protocol.REP_ERR_INVALID)
+        × (REP_ERR_UNKNOWN ≡ protocol.REP_ERR_UNKNOWN)
+        × (REP_ERR_TOO_BIG ≡ protocol.REP_ERR_TOO_BIG) }
+    ensures information { (INFO_EXPORT ≡ protocol.INFO_EXPORT)
+        × (INFO_BLOCK_SIZE ≡ protocol.INFO_BLOCK_SIZE) }
+    ensures commands { (CMD_READ ≡ protocol.CMD_READ) × (CMD_WRITE ≡ protocol.CMD_WRITE)
+        × (CMD_DISC ≡ protocol.CMD_DISC) × (CMD_FLUSH ≡ protocol.CMD_FLUSH) }
+    ensures errors { (EIO ≡ protocol.EIO) × (ENOMEM ≡ protocol.ENOMEM)
+        × (EINVAL ≡ protocol.EINVAL) × (ENOSPC ≡ protocol.ENOSPC) }
+    ensures sizes { (SECTOR_LEN ≡ protocol.SECTOR_LEN)
+        × (MINIMUM_BLOCK_LEN ≡ protocol.MINIMUM_BLOCK_LEN)
+        × (PREFERRED_BLOCK_LEN ≡ protocol.PREFERRED_BLOCK_LEN) × (MAX_LEN ≡ protocol.MAX_LEN)
+        × (MAX_OPTION_LEN ≡ protocol.MAX_OPTION_LEN) }
+{}

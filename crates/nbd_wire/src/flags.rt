@@ -1,15 +1,18 @@
 //! The flag words of the protocol, as sets of named bits.
 //!
-//! A set keeps every bit that it was given: a bit without a name here is one that this server doesn't know.
+//! A set keeps every bit that it was given: a bit without a name here is one that this server
+//! doesn't know.
 
-ghost use Rattle.std.specs.Prelude.{⊤, ◌≡◌, ◌==◌, if◌then◌else◌, None, Some, false, true, [], ◌∷◌, codes};
+ghost use Rattle.std.specs.Prelude.{⊤, ◌≡◌, ◌==◌, if◌then◌else◌, None, Some, false, true, [], ◌∷◌};
+ghost use Rattle.std.specs.Prelude.{codes};
 
 use crate::constants::{GREETING_FLAGS, TRANSMISSION_FLAGS};
 use bitflags::{Flag, Flags, bitflag_items};
 
 /// The flags of a command: 16 bits of a request's head. Source: NBD proto.md.
 ///
-/// Bit 0, FUA: what is written is on the chip before the reply. Bit 1, NO_HOLE: belongs to a command that is not served.
+/// Bit 0, FUA: what is written is on the chip before the reply. Bit 1, NO_HOLE: belongs to a
+/// command that is not served.
 #[derive(Clone, Copy, PartialEq, Eq, Debug)]
 pub struct CommandFlags(u16);
 
@@ -42,9 +45,11 @@ impl Flags for CommandFlags {
     }
 }
 
-/// The flags of the negotiation, of the server in its greeting (16 bits) and of the client (32 bits). Source: NBD proto.md.
+/// The flags of the negotiation, of the server in its greeting (16 bits) and of the client (32
+/// bits). Source: NBD proto.md.
 ///
-/// Bit 0, FIXED_NEWSTYLE: options that are not known are answered. Bit 1, NO_ZEROES: the answer to EXPORT_NAME ends without zeroes.
+/// Bit 0, FIXED_NEWSTYLE: options that are not known are answered. Bit 1, NO_ZEROES: the answer to
+/// EXPORT_NAME ends without zeroes.
 #[derive(Clone, Copy, PartialEq, Eq, Debug)]
 pub struct HandshakeFlags(u32);
 
@@ -87,9 +92,11 @@ impl HandshakeFlags {
             .0 as u16
     }
 
-    /// Of a client's word: whether it set NO_ZEROES beside FIXED_NEWSTYLE; `None` where it set any others, or not the latter.
+    /// Of a client's word: whether it set NO_ZEROES beside FIXED_NEWSTYLE; `None` where it set any
+    /// others, or not the latter.
     pub fn no_zeroes_of(word: u32) -> Option<bool>
-        ensures { result ≡ (if word == 1 then Some false else if word == 3 then Some true else None) }
+        ensures { result ≡ (if word == 1 then Some false else if word == 3 then Some true
+            else None) }
     {
         let set = HandshakeFlags::from_bits_retain(word);
         let both = HandshakeFlags::FIXED_NEWSTYLE.union(HandshakeFlags::NO_ZEROES);
@@ -103,10 +110,11 @@ impl HandshakeFlags {
     }
 }
 
-/// The transmission flags, which tell the client what the server serves: 16 bits. Source: NBD proto.md.
+/// The transmission flags, which tell the client what the server serves: 16 bits. Source: NBD
+/// proto.md.
 ///
-/// Bit 0, HAS_FLAGS: always set. Bits 2, 3, 5 and 6: FLUSH, FUA, TRIM and WRITE_ZEROES may be sent. Bit 8, CAN_MULTI_CONN: what one
-/// connection wrote and flushed is seen by all.
+/// Bit 0, HAS_FLAGS: always set. Bits 2, 3, 5 and 6: FLUSH, FUA, TRIM and WRITE_ZEROES may be sent.
+/// Bit 8, CAN_MULTI_CONN: what one connection wrote and flushed is seen by all.
 #[derive(Clone, Copy, PartialEq, Eq, Debug)]
 pub struct TransmissionFlags(u16);
 
@@ -126,7 +134,8 @@ impl Flags for TransmissionFlags {
 
     ghost exact = { ⊤ };
 
-    ghost table = { (codes "HAS_FLAGS", 0x0001) ∷ (codes "SEND_FLUSH", 0x0004) ∷ (codes "SEND_FUA", 0x0008) ∷ (codes "SEND_TRIM", 0x0020)
+    ghost table = { (codes "HAS_FLAGS", 0x0001) ∷ (codes "SEND_FLUSH", 0x0004)
+        ∷ (codes "SEND_FUA", 0x0008) ∷ (codes "SEND_TRIM", 0x0020)
         ∷ (codes "SEND_WRITE_ZEROES", 0x0040) ∷ (codes "CAN_MULTI_CONN", 0x0100) ∷ [] };
 
     ghost set_of = { λ p. p.0 };

@@ -32,7 +32,8 @@ impl OptionHead {
     }
 }
 
-/// The cases of options, each of which has one form of answer. Source: NBD proto.md; the limit of 8,192 bytes is own.
+/// The cases of options, each of which has one form of answer. Source: NBD proto.md; the limit of
+/// 8,192 bytes is own.
 #[derive(Clone, Copy, PartialEq, Eq, Debug)]
 pub enum OptionCase {
     /// EXPORT_NAME with a known name.

@@ -7,8 +7,8 @@ use crate::buffer::put;
 use crate::constants::{OPTION_REPLY_LEN, OPTION_REPLY_MAGIC};
 use byteorder::{BigEndian, ByteOrder};
 
-/// Writes a reply to an option, with its content, from `at` on, and answers where it ends. The bytes before and behind it
-/// stay. Source: NBD proto.md.
+/// Writes a reply to an option, with its content, from `at` on, and answers where it ends. The
+/// bytes before and behind it stay. Source: NBD proto.md.
 pub fn write_option_reply(
     out: &mut [u8],
     at: usize,
@@ -19,7 +19,8 @@ pub fn write_option_reply(
     requires room { at + OPTION_REPLY_LEN + length content.now ≤ length out.old }
     requires fits { length content.now < 2 ^ 32 }
     ensures end { result ≡ at + OPTION_REPLY_LEN + length content.now }
-    ensures bytes { take result out.new ≡ take at out.old ++ option_reply_bytes option reply_type content.now }
+    ensures bytes { take result out.new
+        ≡ take at out.old ++ option_reply_bytes option reply_type content.now }
     ensures rest { drop result out.new ≡ drop result out.old }
 {
     let head = option_reply_head(option, reply_type, content.len() as u32);

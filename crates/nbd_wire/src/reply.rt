@@ -23,9 +23,11 @@ impl Reply {
         // The fields at their places, where the magic is right.
         ensures exact { result ≡ reply_at bytes.now }
         // What is read is spelled so.
-        ensures spelled { IfSome result (λ r. reply_bytes r ++ drop REPLY_LEN bytes.now ≡ bytes.now) }
+        ensures spelled { IfSome result
+            (λ r. reply_bytes r ++ drop REPLY_LEN bytes.now ≡ bytes.now) }
         // What is spelled so is read, whatever follows it.
-        ensures again { (r : Reply) (rest : List ℕ) → FitsReply r → bytes.now ≡ reply_bytes r ++ rest → result ≡ Some r }
+        ensures again { (r : Reply) (rest : List ℕ) → FitsReply r
+            → bytes.now ≡ reply_bytes r ++ rest → result ≡ Some r }
     {
         Reply::at_start(bytes)
     }

@@ -31,9 +31,11 @@ impl Request {
         // The fields at their places, where the magic is right.
         ensures exact { result ≡ request_at bytes.now }
         // What is read is spelled so.
-        ensures spelled { IfSome result (λ r. request_bytes r ++ drop REQUEST_LEN bytes.now ≡ bytes.now) }
+        ensures spelled { IfSome result
+            (λ r. request_bytes r ++ drop REQUEST_LEN bytes.now ≡ bytes.now) }
         // What is spelled so is read, whatever follows it.
-        ensures again { (r : Request) (rest : List ℕ) → FitsRequest r → bytes.now ≡ request_bytes r ++ rest → result ≡ Some r }
+        ensures again { (r : Request) (rest : List ℕ) → FitsRequest r
+            → bytes.now ≡ request_bytes r ++ rest → result ≡ Some r }
     {
         Request::at_start(bytes)
     }
@@ -67,7 +69,8 @@ impl Request {
     /// Writes the first three fields of the head, 8 bytes.
     fn write_to_kind(&self, out: &mut [u8])
         requires { 8 ≤ length out.old }
-        ensures { out.new ≡ big_bytes 4 REQUEST_MAGIC ++ big_bytes 2 self.now.flags.0 ++ big_bytes 2 self.now.kind ++ drop 8 out.old }
+        ensures { out.new ≡ big_bytes 4 REQUEST_MAGIC ++ big_bytes 2 self.now.flags.0
+            ++ big_bytes 2 self.now.kind ++ drop 8 out.old }
     {
         BigEndian::write_u32(out, REQUEST_MAGIC);
         BigEndian::write_u16(&mut out[4..], self.flags.bits());
@@ -77,7 +80,8 @@ impl Request {
     /// Writes the last three fields of the head, 20 bytes.
     fn write_from_cookie(&self, out: &mut [u8])
         requires { 20 ≤ length out.old }
-        ensures { out.new ≡ big_bytes 8 self.now.cookie ++ big_bytes 8 self.now.offset ++ big_bytes 4 self.now.length ++ drop 20 out.old }
+        ensures { out.new ≡ big_bytes 8 self.now.cookie ++ big_bytes 8 self.now.offset
+            ++ big_bytes 4 self.now.length ++ drop 20 out.old }
     {
         BigEndian::write_u64(out, self.cookie);
         BigEndian::write_u64(&mut out[8..], self.offset);

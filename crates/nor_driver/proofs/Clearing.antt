@@ -4,7 +4,7 @@ use Rattle.std.proofs.lemmas.Bool.{true≢false}
 use Rattle.chip_model.specs.Chip.{Chip, Operation, completed}
 use Rattle.chip_model.specs.Cut.{Cut, TornMemory, TornProtection, with_power}
 use Rattle.chip_model.specs.Frames.{with_polls}
-use Rattle.nor_driver.specs.Steps.{Woken, Lost, fell, was_off, started, ChangeFails, Interrupted, not_begun, torn, whole, no_power}
+use Rattle.nor_driver.specs.Steps.{Woken, Lost, fell, was_off, started, ChangeFails, ChangeInterrupted, not_begun, torn, whole, no_power}
 use Rattle.nor_driver.specs.Unprotect.{probe_error, clearing, ClearingCut, before_it, in_it, after_it, Unprotects}
 use Rattle.nor_driver.specs.declared.error.NorError.{NorError}
 use Rattle.nor_driver.specs.declared.error.NorError.TheVariants as errors
@@ -26,7 +26,7 @@ cut_again c off new k h =
       powered = h.powered;
     }
 
-cut_clearing : (c on new : Chip) (cuts cuts' : ℕ) → Woken c on → Interrupted on cuts (1 ∷ 0 ∷ []) new cuts' → ClearingCut c new × (cuts' ≡ cuts + 1)
+cut_clearing : (c on new : Chip) (cuts cuts' : ℕ) → Woken c on → ChangeInterrupted on cuts (1 ∷ 0 ∷ []) new cuts' → ClearingCut c new × (cuts' ≡ cuts + 1)
 cut_clearing c on new cuts cuts' w i = elim i [
   | not_begun p k n ↦ (before_it (cut_again c w.off new w.left (subst (λ (d : Chip). Cut d new) w.on k)), n)
   | torn p k n ↦ (in_it w.off w.left (subst (λ (d : Chip). Cut (started d (1 ∷ 0 ∷ [])) new) w.on k), n)

@@ -5,10 +5,10 @@ use Rattle.sfdp.specs.Params.{params_of}
 use Rattle.sfdp.specs.declared.params.Params.{Params}
 use Rattle.chip_model.specs.Chip.{Chip, Operation, Idle, Programming, Erasing, Setting, is_idle}
 use Rattle.chip_model.specs.Cut.{TornProtection, with_power}
-use Rattle.chip_model.specs.Frames.{is_open, id_from, status_1}
+use Rattle.chip_model.specs.Frames.{is_unprotected, id_from, status_1}
 use Rattle.chip_model.proofs.FrameLaws.{idle_cut}
 use Rattle.nor_driver.specs.Steps.{Woken}
-use Rattle.nor_driver.specs.Probe.{told, is_served, is_free, sized, unless_protected, probe_answer, Probes}
+use Rattle.nor_driver.specs.Probe.{told, is_served_id, is_unprotected_by, sized, unless_protected, probe_answer, Probes}
 use Rattle.nor_driver.specs.declared.error.ProbeError.{ProbeError}
 use Rattle.nor_driver.specs.declared.error.ProbeError.TheVariants as refusals
 use Rattle.nor_driver.proofs.Survey.{free_open}
@@ -21,20 +21,20 @@ idle_protection (Setting value) p torn i h = absurd (false≢true i)
 
 -- what a chip of so many bytes and with this table is known as
 abbrev named : ℕ → List ℕ → Result Params ProbeError
-named size table = cond (not (is_served 239 64 (id_from 9 16 size))) (Err refusals.WrongId) (sized (id_from 9 16 size) (params_of table))
+named size table = cond (not (is_served_id 239 64 (id_from 9 16 size))) (Err refusals.WrongId) (sized (id_from 9 16 size) (params_of table))
 
-same_answer : (c d : Chip) → d.memory ≡ c.memory → d.sfdp ≡ c.sfdp → is_open d ≡ is_open c → probe_answer (told d) ≡ probe_answer (told c)
+same_answer : (c d : Chip) → d.memory ≡ c.memory → d.sfdp ≡ c.sfdp → is_unprotected d ≡ is_unprotected c → probe_answer (told d) ≡ probe_answer (told c)
 same_answer c d m s o =
-    let free : is_free (status_1 d) d.status2 d.status3 ≡ is_free (status_1 c) c.status2 c.status3 = free_open d ∙ (o ∙ sym (free_open c)) in
+    let free : is_unprotected_by (status_1 d) d.status2 d.status3 ≡ is_unprotected_by (status_1 c) c.status2 c.status3 = free_open d ∙ (o ∙ sym (free_open c)) in
     ap (λ (b : Bool). unless_protected b (named (length d.memory) d.sfdp)) free
-    ∙ (ap (λ (x : List ℕ). unless_protected (is_free (status_1 c) c.status2 c.status3) (named (length x) d.sfdp)) m
-    ∙ ap (λ (x : List ℕ). unless_protected (is_free (status_1 c) c.status2 c.status3) (named (length c.memory) x)) s)
+    ∙ (ap (λ (x : List ℕ). unless_protected (is_unprotected_by (status_1 c) c.status2 c.status3) (named (length x) d.sfdp)) m
+    ∙ ap (λ (x : List ℕ). unless_protected (is_unprotected_by (status_1 c) c.status2 c.status3) (named (length c.memory) x)) s)
 
 pub answer_stays : (c new : Chip) → is_idle c.operation ≡ true → Woken c new → probe_answer (told new) ≡ probe_answer (told c)
 answer_stays c new idle w =
     let d : Chip = with_power w.off in
     let p : w.off.protection ≡ c.protection = idle_protection c.operation c.protection w.off.protection idle w.left.protection in
-    let o : is_open d ≡ is_open c = rw (p, w.left.status2, w.left.status3) refl in
+    let o : is_unprotected d ≡ is_unprotected c = rw (p, w.left.status2, w.left.status3) refl in
     subst (λ (x : Chip). probe_answer (told x) ≡ probe_answer (told c)) (sym w.on) (same_answer c d (idle_cut c w.off idle w.left) w.left.sfdp o)
 
 -- the refusals of a probe of an idle chip

@@ -7,28 +7,28 @@ use Rattle.chip_model.specs.Chip.{Chip, Programming, Erasing, is_idle, completed
 use Rattle.chip_model.specs.Cut.{Cut, TornMemory}
 use Rattle.chip_model.specs.Memory.{and_at, erased, Torn, TornErase, TornAnd}
 use Rattle.chip_model.proofs.MemoryLaws.{programmed_in_page}
-use Rattle.chip_model.specs.Frames.{command_of, Answers, is_open, starts, with_enabled, with_polls}
+use Rattle.chip_model.specs.Frames.{command_of, Receives, is_unprotected, starts, with_enabled, with_polls}
 use Rattle.chip_model.proofs.FrameLaws.{KeepsShape, completed_shape, cut_shape, idle_cut, idle_not_setting, started_program, started_erase, started_large_erase, address}
 use Rattle.chip_model.specs.Chip.{is_setting}
 use Rattle.nor_driver.specs.State.{Leaves, as_before, torn_in_it, changed_whole}
-use Rattle.nor_driver.specs.Steps.{started, Begins, Interrupted, not_begun, torn, whole, no_power}
+use Rattle.nor_driver.specs.Steps.{started, StartsChange, ChangeInterrupted, not_begun, torn, whole, no_power}
 
 -- the shape of a chip that is another
 pub same_shape : (c new : Chip) → new ≡ c → is_setting c.operation ≡ false → KeepsShape c new
 same_shape c new same h = subst (λ (d : Chip). KeepsShape c d) (sym same) (record { size = refl; protection = refl; status2 = refl; status3 = refl; not_setting = h })
 
 -- a whole change
-pub done_shape : (c : Chip) (sent : List ℕ) (b : Begins c sent) → KeepsShape c (completed (started c sent))
+pub done_shape : (c : Chip) (sent : List ℕ) (b : StartsChange c sent) → KeepsShape c (completed (started c sent))
 done_shape c sent b =
     let s = completed_shape (starts (with_enabled c true) b.operation) b.in_memory in
     subst (λ (d : Chip). KeepsShape c (completed d)) (sym b.is) (record { size = s.size; protection = s.protection; status2 = s.status2; status3 = s.status3; not_setting = s.not_setting })
 
 -- a change that never ended
-pub slow_shape : (c : Chip) (sent : List ℕ) (n : ℕ) (b : Begins c sent) → KeepsShape c (with_polls (started c sent) n)
+pub slow_shape : (c : Chip) (sent : List ℕ) (n : ℕ) (b : StartsChange c sent) → KeepsShape c (with_polls (started c sent) n)
 slow_shape c sent n b =
     subst (λ (d : Chip). KeepsShape c (with_polls d n)) (sym b.is) (record { size = refl; protection = refl; status2 = refl; status3 = refl; not_setting = b.in_memory })
 
-pub slow_memory : (c : Chip) (sent : List ℕ) (b : Begins c sent) → (started c sent).memory ≡ c.memory
+pub slow_memory : (c : Chip) (sent : List ℕ) (b : StartsChange c sent) → (started c sent).memory ≡ c.memory
 slow_memory c sent b = ap (λ (d : Chip). d.memory) b.is
 
 -- what a loss of power leaves of a change that begins
@@ -38,7 +38,7 @@ pub record AfterLoss (c : Chip) (begun : Chip) (new : Chip) : Type 0 where
   pub powered : new.powered ≡ false
   pub leaves : Leaves c.memory (TornMemory begun.operation begun.memory) (completed begun).memory new.memory
 
-after_start : (c : Chip) (cuts : ℕ) (sent : List ℕ) (new : Chip) (cuts' : ℕ) → is_idle c.operation ≡ true → (b : Begins c sent) → Interrupted c cuts sent new cuts'
+after_start : (c : Chip) (cuts : ℕ) (sent : List ℕ) (new : Chip) (cuts' : ℕ) → is_idle c.operation ≡ true → (b : StartsChange c sent) → ChangeInterrupted c cuts sent new cuts'
     → AfterLoss c (starts (with_enabled c true) b.operation) new
 after_start c cuts sent new cuts' idle b i = elim i [
   | not_begun on k n ↦ record {
@@ -75,11 +75,11 @@ after_start c cuts sent new cuts' idle b i = elim i [
   }
 ]
 
-pub after_loss : (c : Chip) (cuts : ℕ) (sent : List ℕ) (new : Chip) (cuts' : ℕ) → is_idle c.operation ≡ true → Begins c sent → Interrupted c cuts sent new cuts' → AfterLoss c (started c sent) new
+pub after_loss : (c : Chip) (cuts : ℕ) (sent : List ℕ) (new : Chip) (cuts' : ℕ) → is_idle c.operation ≡ true → StartsChange c sent → ChangeInterrupted c cuts sent new cuts' → AfterLoss c (started c sent) new
 after_loss c cuts sent new cuts' idle b i = subst (λ (d : Chip). AfterLoss c d new) (sym b.is) (after_start c cuts sent new cuts' idle b i)
 
 -- the power went in the call, or was off
-pub cause : (c : Chip) (cuts : ℕ) (sent : List ℕ) (new : Chip) (cuts' : ℕ) → Interrupted c cuts sent new cuts' → (cuts < cuts') ⊎ ((c.powered ≡ false) × (cuts' ≡ cuts))
+pub cause : (c : Chip) (cuts : ℕ) (sent : List ℕ) (new : Chip) (cuts' : ℕ) → ChangeInterrupted c cuts sent new cuts' → (cuts < cuts') ⊎ ((c.powered ≡ false) × (cuts' ≡ cuts))
 cause c cuts sent new cuts' i = elim i [
   | not_begun on k n ↦ inl (omega (arith, n))
   | torn on k n ↦ inl (omega (arith, n))
@@ -92,22 +92,22 @@ pub when_down : (a b : Bool) → a ≡ false → (a || b) ≡ true → b ≡ tru
 when_down a b h k = subst (λ (x : Bool). (x || b) ≡ true) h k
 
 -- what begins leaves of the memory, told of the operation
-pub done_memory : (c : Chip) (sent : List ℕ) (b : Begins c sent) → (completed (started c sent)).memory ≡ memory_after b.operation c.memory
+pub done_memory : (c : Chip) (sent : List ℕ) (b : StartsChange c sent) → (completed (started c sent)).memory ≡ memory_after b.operation c.memory
 done_memory c sent b = ap (λ (d : Chip). (completed d).memory) b.is
 
-pub cut_memory : (c : Chip) (sent m : List ℕ) (b : Begins c sent) → Leaves c.memory (TornMemory (started c sent).operation (started c sent).memory) (completed (started c sent)).memory m
+pub cut_memory : (c : Chip) (sent m : List ℕ) (b : StartsChange c sent) → Leaves c.memory (TornMemory (started c sent).operation (started c sent).memory) (completed (started c sent)).memory m
     → Leaves c.memory (TornMemory b.operation c.memory) (memory_after b.operation c.memory) m
 cut_memory c sent m b h = subst (λ (d : Chip). Leaves c.memory (TornMemory d.operation d.memory) (completed d).memory m) b.is h
 
 -- the frame of a program that a driver allows
 pub record IsProgram (c : Chip) (sent : List ℕ) (at : ℕ) (bytes : List ℕ) : Type 0 where
-  pub unprotected : is_open c ≡ true
+  pub unprotected : is_unprotected c ≡ true
   pub range : at + length bytes ≤ length c.memory
   pub some : 0 < length bytes
   pub page : at % 256 + length bytes ≤ 256
   pub frame : sent ≡ 2 ∷ (at / 65536) ∷ (at / 256 % 256) ∷ (at % 256) ∷ bytes
 
-abbrev pub begins_program : (c : Chip) (sent : List ℕ) (at : ℕ) (bytes : List ℕ) → IsProgram c sent at bytes → Begins c sent
+abbrev pub begins_program : (c : Chip) (sent : List ℕ) (at : ℕ) (bytes : List ℕ) → IsProgram c sent at bytes → StartsChange c sent
 begins_program c sent at bytes p = record {
   operation = Programming at bytes;
   is = ap (started c) p.frame ∙ started_program c at bytes p.unprotected (omega (arith, p.range, p.some)) p.some p.page;
@@ -126,12 +126,12 @@ program_cut c sent m at bytes p h =
 
 -- the frame of an erase that a driver allows: of 4 KiB by 20h, of 64 KiB by D8h
 pub record IsErase (c : Chip) (sent : List ℕ) (at code size : ℕ) : Type 0 where
-  pub unprotected : is_open c ≡ true
+  pub unprotected : is_unprotected c ≡ true
   pub range : at < length c.memory
   pub unit : at % size ≡ 0
   pub frame : sent ≡ code ∷ (at / 65536) ∷ (at / 256 % 256) ∷ (at % 256) ∷ []
 
-abbrev pub begins_small : (c : Chip) (sent : List ℕ) (at : ℕ) → IsErase c sent at 32 4096 → Begins c sent
+abbrev pub begins_small : (c : Chip) (sent : List ℕ) (at : ℕ) → IsErase c sent at 32 4096 → StartsChange c sent
 begins_small c sent at p = record {
   operation = Erasing at 4096;
   is = ap (started c) p.frame ∙ started_erase c at p.unprotected p.range p.unit;
@@ -139,7 +139,7 @@ begins_small c sent at p = record {
   in_memory = refl;
 }
 
-abbrev pub begins_large : (c : Chip) (sent : List ℕ) (at : ℕ) → IsErase c sent at 216 65536 → Begins c sent
+abbrev pub begins_large : (c : Chip) (sent : List ℕ) (at : ℕ) → IsErase c sent at 216 65536 → StartsChange c sent
 begins_large c sent at p = record {
   operation = Erasing at 65536;
   is = ap (started c) p.frame ∙ started_large_erase c at p.unprotected p.range p.unit;
@@ -165,7 +165,7 @@ large_cut c sent m at p h = cut_memory c sent m (begins_large c sent at p) h
 
 -- a read that stays within the chip
 pub read_back : (c : Chip) (at : ℕ) (received : List ℕ) → at + length received ≤ length c.memory
-    → Answers c (command_of (3 ∷ (at / 65536) ∷ (at / 256 % 256) ∷ (at % 256) ∷ [])) received → received ≡ slice_range c.memory at (at + length received)
+    → Receives c (command_of (3 ∷ (at / 65536) ∷ (at / 256 % 256) ∷ (at % 256) ∷ [])) received → received ≡ slice_range c.memory at (at + length received)
 read_back c at received h a =
     let span : at + length received - at ≡ length received = omega arith in
     let long : length (slice_range c.memory at (at + length received)) ≡ length received =

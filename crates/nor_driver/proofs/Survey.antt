@@ -6,9 +6,9 @@ use Rattle.sfdp.specs.Params.{params_of}
 use Rattle.sfdp.specs.declared.params.Params.{Params}
 use Rattle.sfdp.specs.declared.error.SfdpError.{SfdpError}
 use Rattle.chip_model.specs.Chip.{Chip, IsChip, is_idle}
-use Rattle.chip_model.specs.Frames.{is_open, id_from, status_1}
+use Rattle.chip_model.specs.Frames.{is_unprotected, id_from, status_1}
 use Rattle.chip_model.specs.Geometry.{IsChipSize}
-use Rattle.nor_driver.specs.Probe.{told, is_served, is_free, sized, unless_protected, identity, probe_answer}
+use Rattle.nor_driver.specs.Probe.{told, is_served_id, is_unprotected_by, sized, unless_protected, identity, probe_answer}
 use Rattle.nor_driver.specs.declared.error.ProbeError.{ProbeError}
 use Rattle.nor_driver.specs.declared.error.ProbeError.TheVariants as refusals
 use Rattle.nor_driver.proofs.Sizes.{size_accepted}
@@ -36,7 +36,7 @@ at_most_one true = omega arith
 at_most_one false = omega arith
 
 -- the status registers tell whether something is protected
-pub free_open : (c : Chip) → is_free (status_1 c) c.status2 c.status3 ≡ is_open c
+pub free_open : (c : Chip) → is_unprotected_by (status_1 c) c.status2 c.status3 ≡ is_unprotected c
 free_open c =
     let b = bits c.protection (cond c.enabled 2 0) (cond (is_idle c.operation) 0 1) (at_most_two c.enabled) (at_most_one (is_idle c.operation)) in
     let m : Bool = c.status2 / 64 % 2 == 1 in
@@ -61,13 +61,13 @@ ok_sized exponent (Ok q) p h = let k : Ok q ≡ Ok p = ok_cond (not (exponent ==
 pub record Accepted (c : Chip) (p : Params) : Type 0 where
   pub size : length c.memory ≡ p.bytes
   pub of_a_chip : IsChipSize p.bytes
-  pub unprotected : is_open c ≡ true
+  pub unprotected : is_unprotected c ≡ true
 
 pub accepted : (c : Chip) (p : Params) → IsChip c → probe_answer (told c) ≡ Ok p → Accepted c p
 accepted c p law h =
     let t = told c in
-    let two = ok_unless (is_free t.status1 t.status2 t.status3) (identity t) p h in
-    let one : sized t.exponent (params_of t.sfdp) ≡ Ok p = ok_cond (not (is_served t.maker t.kind t.exponent)) refusals.WrongId _ p two.1 in
+    let two = ok_unless (is_unprotected_by t.status1 t.status2 t.status3) (identity t) p h in
+    let one : sized t.exponent (params_of t.sfdp) ≡ Ok p = ok_cond (not (is_served_id t.maker t.kind t.exponent)) refusals.WrongId _ p two.1 in
     let table : params_of c.sfdp ≡ Ok p = ok_sized t.exponent (params_of t.sfdp) p one in
     record {
       size = sym (IfOk-at_ok (λ (q : Params). q.bytes ≡ length c.memory) table law.size);

@@ -13,17 +13,17 @@ pub record NorState : Type 0 where
   pub cuts : ℕ
   pub slows : ℕ
   pub powered : Bool
-  -- whether a Slow stands: it was answered, and no restart has answered Ok since
+  -- whether a Slow is latched: it was answered, and no restart has answered Ok since
   pub is_slow : Bool
   -- whether units of 64 KiB can be erased
   pub has_large : Bool
 
--- the power is on and no Slow stands
-abbrev pub IsReady : NorState → Type 0
-IsReady state = (state.powered ≡ true) × (state.is_slow ≡ false)
+-- the power is on and no Slow is latched
+abbrev pub IsNorReady : NorState → Type 0
+IsNorReady state = (state.powered ≡ true) × (state.is_slow ≡ false)
 
 -- all but the memory is as before: what a call that answered Ok leaves
-pub record Kept (old new : NorState) : Type 0 where
+pub record OnlyMemoryChanges (old new : NorState) : Type 0 where
   pub cuts : new.cuts ≡ old.cuts
   pub slows : new.slows ≡ old.slows
   pub powered : new.powered ≡ old.powered
@@ -32,30 +32,54 @@ pub record Kept (old new : NorState) : Type 0 where
 
 -- why a call failed, and what it leaves beside the memory:
 -- Cut where a loss of power came in the call, or the power was off;
--- Slow where a slow operation came in the call, or a Slow stood
-abbrev pub Fails : NorError → NorState → NorState → Type 0
-Fails Cut old new =
+-- Slow where a slow operation came in the call, or a Slow was latched
+abbrev pub NorFails : NorError → NorState → NorState → Type 0
+NorFails Cut old new =
     ((old.cuts < new.cuts) ⊎ ((old.powered ≡ false) × (new.cuts ≡ old.cuts)))
-    × (new.slows ≡ old.slows) × (new.powered ≡ false) × (new.is_slow ≡ old.is_slow) × (new.has_large ≡ old.has_large)
-Fails Slow old new =
+    × (new.slows ≡ old.slows) × (new.powered ≡ false) × (new.is_slow ≡ old.is_slow)
+    × (new.has_large ≡ old.has_large)
+NorFails Slow old new =
     ((old.slows < new.slows) ⊎ ((old.is_slow ≡ true) × (new.slows ≡ old.slows)))
-    × (new.cuts ≡ old.cuts) × (new.powered ≡ old.powered) × (new.is_slow ≡ true) × (new.has_large ≡ old.has_large)
+    × (new.cuts ≡ old.cuts) × (new.powered ≡ old.powered) × (new.is_slow ≡ true)
+    × (new.has_large ≡ old.has_large)
 
--- a Slow that stands is answered again, and a power that is off is a Cut, and neither changes anything
-pub record AnswersWhatStands (old : NorState) (result : Result (Unit {0}) NorError) (new : NorState) : Type 0 where
+-- What a call that failed answers first: a latched Slow, then a power that is off; and then nothing
+-- has changed.
+abbrev pub IsFirst : NorError → NorState → NorState → Type 0
+IsFirst Cut old new = (old.is_slow ≡ false) × (old.powered ≡ false → new ≡ old)
+IsFirst Slow old new = (old.is_slow ≡ false → old.powered ≡ true) × (old.is_slow ≡ true → new ≡ old)
+
+-- a call that answered Ok: the power was on and no Slow was latched, as it is after it
+pub record Succeeds (old new : NorState) : Type 0 where
+  pub ready : IsNorReady old
+  pub kept : OnlyMemoryChanges old new
+
+-- a call that failed: where the refusal comes from, and that what stood is answered before anything
+-- changes
+pub record Refuses (e : NorError) (old new : NorState) : Type 0 where
+  pub fails : NorFails e old new
+  pub first : IsFirst e old new
+
+-- a latched Slow is answered again, and a power that is off is a Cut, and neither changes anything
+pub record AnswersWhatIsLatched (old : NorState) (result : Result (Unit {0}) NorError)
+    (new : NorState) : Type 0 where
   pub slow : old.is_slow ≡ true → (result ≡ Err Slow) × (new ≡ old)
   pub off : old.is_slow ≡ false → old.powered ≡ false → (result ≡ Err Cut) × (new ≡ old)
 
--- what a call that was to change bytes and was cut leaves of them: as before, torn in that call's way, or changed whole
+-- what a call that was to change bytes and was cut leaves of them: as before, torn in that call's
+-- way, or changed whole
 pub data Leaves (old : List ℕ) (Torn : List ℕ → Type 0) (whole new : List ℕ) : Type 0 where
   as_before : new ≡ old → Leaves old Torn whole new
   torn_in_it : Torn new → Leaves old Torn whole new
   changed_whole : new ≡ whole → Leaves old Torn whole new
 
--- what a restart leaves beside the memory, by its answer: a Cut only where a loss of power came in it, and never a Slow
+-- what a restart leaves beside the memory, by its answer: a Cut only where a loss of power came in
+-- it, and never a Slow
 abbrev pub Restarts : Result (Unit {0}) NorError → NorState → NorState → Type 0
 Restarts (Ok _) old new =
-    (new.cuts ≡ old.cuts) × (new.slows ≡ old.slows) × (new.powered ≡ true) × (new.is_slow ≡ false) × (new.has_large ≡ old.has_large)
+    (new.cuts ≡ old.cuts) × (new.slows ≡ old.slows) × (new.powered ≡ true) × (new.is_slow ≡ false)
+    × (new.has_large ≡ old.has_large)
 Restarts (Err Cut) old new =
-    (old.cuts < new.cuts) × (new.slows ≡ old.slows) × (new.powered ≡ false) × (new.is_slow ≡ old.is_slow) × (new.has_large ≡ old.has_large)
+    (old.cuts < new.cuts) × (new.slows ≡ old.slows) × (new.powered ≡ false)
+    × (new.is_slow ≡ old.is_slow) × (new.has_large ≡ old.has_large)
 Restarts (Err Slow) old new = ⊥

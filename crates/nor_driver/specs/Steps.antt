@@ -1,8 +1,10 @@
--- What the steps of a driver leave of the chip behind a bus, by how each ended. Source: own, over the model of a frame and of a
--- loss of power.
+-- What the steps of a driver leave of the chip behind a bus, by how each ended. Source: own, over
+-- the model of a frame and of a loss of power.
 use Rattle.std.specs.Prelude.{◌≡◌, ℕ, ◌+◌, ◌⊎◌, Bool, true, false, List}
 use Rattle.chip_model.specs.Chip.{Chip, Operation, is_idle, completed}
-use Rattle.chip_model.specs.Frames.{Command, Enable, Disable, Status1, Status2, Status3, Set, Read, Program, Erase, Id, Sfdp, Unknown, command_of, after, with_enabled, with_polls, starts}
+use Rattle.chip_model.specs.Frames.{Command, Enable, Disable, Status1, Status2, Status3, Set, Read}
+use Rattle.chip_model.specs.Frames.{Program, Erase, Id, Sfdp, Unknown, command_of, after_command}
+use Rattle.chip_model.specs.Frames.{with_enabled, with_polls, starts}
 use Rattle.chip_model.specs.Chip.{is_setting}
 use Rattle.chip_model.specs.Cut.{Cut, with_power}
 use Rattle.nor_driver.specs.declared.error.NorError.{NorError}
@@ -34,31 +36,40 @@ pub record Woken (c new : Chip) : Type 0 where
   pub left : Cut c off
   pub on : new ≡ with_power off
 
--- the wait for an operation in progress failed: the power fell while it was in progress or once it had completed, or 65,535
--- status reads found it in progress
-abbrev pub SettleFails : NorError → Chip → ℕ → ℕ → Chip → ℕ → ℕ → Type 0
-SettleFails errors.Cut c cuts slows new cuts' slows' = (Cut c new ⊎ Cut (completed c) new) × (cuts' ≡ cuts + 1) × (slows' ≡ slows)
-SettleFails errors.Slow c cuts slows new cuts' slows' = (new ≡ with_polls c 65535) × (cuts' ≡ cuts) × (slows' ≡ slows + 1)
+-- the wait for an operation in progress failed: the power fell while it was in progress or once it
+-- had completed, or 65,535 status reads found it in progress
+abbrev pub WaitFails : NorError → Chip → ℕ → ℕ → Chip → ℕ → ℕ → Type 0
+WaitFails errors.Cut c cuts slows new cuts' slows' =
+    (Cut c new ⊎ Cut (completed c) new) × (cuts' ≡ cuts + 1) × (slows' ≡ slows)
+WaitFails errors.Slow c cuts slows new cuts' slows' =
+    (new ≡ with_polls c 65535) × (cuts' ≡ cuts) × (slows' ≡ slows + 1)
 
 -- the chip after a write enable and the frame of a change
 abbrev pub started : Chip → List ℕ → Chip
-started c sent = after (with_enabled c true) (command_of sent)
+started c sent = after_command (with_enabled c true) (command_of sent)
 
--- a change that a loss of power interrupted: before it began, in it, or once it had completed; or the power was off
-pub data Interrupted (c : Chip) (cuts : ℕ) (sent : List ℕ) (new : Chip) (cuts' : ℕ) : Type 0 where
-  not_begun : c.powered ≡ true → Cut c new → cuts' ≡ cuts + 1 → Interrupted c cuts sent new cuts'
-  torn : c.powered ≡ true → Cut (started c sent) new → cuts' ≡ cuts + 1 → Interrupted c cuts sent new cuts'
-  whole : c.powered ≡ true → Cut (completed (started c sent)) new → cuts' ≡ cuts + 1 → Interrupted c cuts sent new cuts'
-  no_power : c.powered ≡ false → new ≡ c → cuts' ≡ cuts → Interrupted c cuts sent new cuts'
+-- a change that a loss of power interrupted: before it began, in it, or once it had completed; or
+-- the power was off
+pub data ChangeInterrupted (c : Chip) (cuts : ℕ) (sent : List ℕ) (new : Chip)
+    (cuts' : ℕ) : Type 0 where
+  not_begun : c.powered ≡ true → Cut c new → cuts' ≡ cuts + 1
+      → ChangeInterrupted c cuts sent new cuts'
+  torn : c.powered ≡ true → Cut (started c sent) new → cuts' ≡ cuts + 1
+      → ChangeInterrupted c cuts sent new cuts'
+  whole : c.powered ≡ true → Cut (completed (started c sent)) new → cuts' ≡ cuts + 1
+      → ChangeInterrupted c cuts sent new cuts'
+  no_power : c.powered ≡ false → new ≡ c → cuts' ≡ cuts → ChangeInterrupted c cuts sent new cuts'
 
 -- a change failed: a loss of power interrupted it, or it is still in progress
 abbrev pub ChangeFails : NorError → Chip → ℕ → ℕ → List ℕ → Chip → ℕ → ℕ → Type 0
-ChangeFails errors.Cut c cuts slows sent new cuts' slows' = Interrupted c cuts sent new cuts' × (slows' ≡ slows)
+ChangeFails errors.Cut c cuts slows sent new cuts' slows' =
+    ChangeInterrupted c cuts sent new cuts' × (slows' ≡ slows)
 ChangeFails errors.Slow c cuts slows sent new cuts' slows' =
-    (c.powered ≡ true) × (new ≡ with_polls (started c sent) 65535) × (cuts' ≡ cuts) × (slows' ≡ slows + 1)
+    (c.powered ≡ true) × (new ≡ with_polls (started c sent) 65535) × (cuts' ≡ cuts)
+    × (slows' ≡ slows + 1)
 
 -- the frame starts a program or an erase once writes are enabled
-pub record Begins (c : Chip) (sent : List ℕ) : Type 0 where
+pub record StartsChange (c : Chip) (sent : List ℕ) : Type 0 where
   pub operation : Operation
   pub is : started c sent ≡ starts (with_enabled c true) operation
   pub running : is_idle operation ≡ false

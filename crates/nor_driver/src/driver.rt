@@ -1,14 +1,17 @@
-// The driver.
-ghost use Rattle.std.specs.Prelude.{◌≡◌, ◌⊎◌, ◌%◌, ◌≤◌, true, false, ◌||◌, length, IfOk, OnOk, IfErr, MatchResult};
+//! The driver.
+
+ghost use Rattle.std.specs.Prelude.{◌≡◌, ◌⊎◌, ◌%◌, ◌≤◌, true, false, ◌||◌, length, IfOk, OnOk};
+ghost use Rattle.std.specs.Prelude.{IfErr, MatchResult};
 ghost use Rattle.std.specs.Result.{IsErrOf};
 ghost use Rattle.chip_model.specs.Chip.{is_idle, completed};
 ghost use Rattle.chip_model.specs.Cut.{TornMemory};
-ghost use Rattle.chip_model.specs.Frames.{is_open};
+ghost use Rattle.chip_model.specs.Frames.{is_unprotected};
 ghost use Rattle.chip_model.specs.Chip.{is_setting};
-ghost use Rattle.nor_driver.specs.State.{AnswersWhatStands, Fails, IsReady, Kept, Leaves};
-ghost use Rattle.nor_driver.specs.Steps.{Begins, started};
+ghost use Rattle.nor_driver.specs.State.{AnswersWhatIsLatched, NorFails, IsNorReady};
+ghost use Rattle.nor_driver.specs.State.{OnlyMemoryChanges, Leaves};
+ghost use Rattle.nor_driver.specs.Steps.{StartsChange, started};
 ghost use Rattle.nor_driver.specs.Probe.{Found, Probes, probe_answer, told};
-ghost use Rattle.nor_driver.specs.Shown.{StandsBehind, chip_sized, shown};
+ghost use Rattle.nor_driver.specs.Shown.{IsBehindDriver, shown};
 
 use crate::probe::survey;
 use crate::steps::{ask, change, wake};
@@ -27,27 +30,33 @@ pub struct Driver<B: SpiBus> {
     ghost whole: { bytes % 65536 ≡ 0 },
     ghost least: { 65536 ≤ bytes },
     ghost most: { bytes ≤ 16777216 },
-    ghost unprotected: { is_open (B.chip bus) ≡ true },
+    ghost unprotected: { is_unprotected (B.chip bus) ≡ true },
     ghost in_memory: { is_setting (B.chip bus).operation ≡ false },
     ghost idle: { (slow || is_idle (B.chip bus).operation) ≡ true },
 }
 
 impl<B: SpiBus> Driver<B> {
-    /// Turns the power of the bus's chip off and on again, and checks in this order: id bytes EFh 40h and a third byte from 10h
-    /// to 18h, else `WrongId`; an SFDP table that `read_params` accepts, else `Sfdp`; that the third id byte is that of the
-    /// table's size, else `WrongId`; BP, SEC, CMP and WPS 0, else `Protected`.
+    /// Turns the power of the bus's chip off and on again, and checks in this order: id bytes EFh
+    /// 40h and a third byte from 10h to 18h, else `WrongId`; an SFDP table that `read_params`
+    /// accepts, else `Sfdp`; that the third id byte is that of the table's size, else `WrongId`;
+    /// BP, SEC, CMP and WPS 0, else `Protected`.
     ///
-    /// `Cut` only where the power went in this call or couldn't be turned on; `Slow` is never answered. With each refusal the
-    /// bus is handed back. The memory is as before, but where an operation was in progress; where none was, the answer but Cut
-    /// is that of the chip as it was.
+    /// `Cut` only where the power went in this call or couldn't be turned on; `Slow` is never
+    /// answered. With each refusal the bus is handed back. The memory is as before, but where an
+    /// operation was in progress; where none was, the answer but Cut is that of the chip as it was.
     pub fn probe(mut bus: B) -> Result<Driver<B>, (B, ProbeError)>
-        ensures found { IfOk result (λ d. Found (B.chip bus) (B.cuts bus) (B.slows bus) (⟦<Driver<B> as Nor>⟧.state d)) }
-        ensures refused { IfErr result (λ r. Probes (Err r.1) (B.chip bus) (B.cuts bus) (B.slows bus) (B.chip r.0) (B.cuts r.0) (B.slows r.0)) }
+        ensures found { IfOk result (λ d.
+            Found (B.chip bus) (B.cuts bus) (B.slows bus) (⟦<Driver<B> as Nor>⟧.state d)) }
+        ensures refused { IfErr result
+            (λ r. Probes (Err r.1) (B.chip bus) (B.cuts bus) (B.slows bus) (B.chip r.0) (B.cuts r.0)
+            (B.slows r.0)) }
         ensures known { is_idle (B.chip bus).operation ≡ true → IfErr result
             (λ r. (r.1 ≡ ProbeError.Cut) ⊎ (probe_answer (told (B.chip bus)) ≡ Err r.1)) }
         ensures same { is_idle (B.chip bus).operation ≡ true → MatchResult result
-            (λ d. (⟦<Driver<B> as Nor>⟧.state d).memory ≡ (B.chip bus).memory) (λ r. (B.chip r.0).memory ≡ (B.chip bus).memory) }
-        ensures size { MatchResult result (λ d. length (⟦<Driver<B> as Nor>⟧.state d).memory ≡ length (B.chip bus).memory)
+            (λ d. (⟦<Driver<B> as Nor>⟧.state d).memory ≡ (B.chip bus).memory)
+            (λ r. (B.chip r.0).memory ≡ (B.chip bus).memory) }
+        ensures size { MatchResult result
+            (λ d. length (⟦<Driver<B> as Nor>⟧.state d).memory ≡ length (B.chip bus).memory)
             (λ r. length (B.chip r.0).memory ≡ length (B.chip bus).memory) }
     {
         match survey(&mut bus) {
@@ -70,7 +79,8 @@ impl<B: SpiBus> Driver<B> {
 
     /// The bus.
     pub fn into_inner(self) -> B
-        ensures { StandsBehind (⟦<Driver<B> as Nor>⟧.state self) (B.chip result) (B.cuts result) (B.slows result) }
+        ensures { IsBehindDriver (⟦<Driver<B> as Nor>⟧.state self) (B.chip result) (B.cuts result)
+            (B.slows result) }
     {
         let Driver {
             bus,
@@ -83,16 +93,24 @@ impl<B: SpiBus> Driver<B> {
 
     /// One program or erase, whose frame this is.
     fn apply(&mut self, frame: &[u8]) -> Result<(), NorError>
-        requires begins { Begins (B.chip self.old.bus) frame.now }
-        ensures ok { OnOk result ((B.chip self.new.bus).memory ≡ (completed (started (B.chip self.old.bus) frame.now)).memory) }
-        ensures cut { IsErrOf result NorError.Cut → let begun = started (B.chip self.old.bus) frame.now in
-            Leaves (B.chip self.old.bus).memory (TornMemory begun.operation begun.memory) (completed begun).memory (B.chip self.new.bus).memory }
-        ensures slow { IsErrOf result NorError.Slow → (B.chip self.new.bus).memory ≡ (B.chip self.old.bus).memory }
+        requires begins { StartsChange (B.chip self.old.bus) frame.now }
+        ensures ok { OnOk result ((B.chip self.new.bus).memory
+            ≡ (completed (started (B.chip self.old.bus) frame.now)).memory) }
+        ensures cut { IsErrOf result NorError.Cut → let begun =
+            started (B.chip self.old.bus) frame.now in
+            Leaves (B.chip self.old.bus).memory (TornMemory begun.operation begun.memory)
+            (completed begun).memory (B.chip self.new.bus).memory }
+        ensures slow { IsErrOf result NorError.Slow
+            → (B.chip self.new.bus).memory ≡ (B.chip self.old.bus).memory }
         ensures size { length (B.chip self.new.bus).memory ≡ length (B.chip self.old.bus).memory }
-        ensures ready { OnOk result (IsReady (⟦<Driver<B> as Nor>⟧.state self.old)) }
-        ensures kept { OnOk result (Kept (⟦<Driver<B> as Nor>⟧.state self.old) (⟦<Driver<B> as Nor>⟧.state self.new)) }
-        ensures fails { IfErr result (λ e. Fails e (⟦<Driver<B> as Nor>⟧.state self.old) (⟦<Driver<B> as Nor>⟧.state self.new)) }
-        ensures stands { AnswersWhatStands (⟦<Driver<B> as Nor>⟧.state self.old) result (⟦<Driver<B> as Nor>⟧.state self.new) }
+        ensures ready { OnOk result (IsNorReady (⟦<Driver<B> as Nor>⟧.state self.old)) }
+        ensures kept { OnOk result (OnlyMemoryChanges (⟦<Driver<B> as Nor>⟧.state self.old)
+            (⟦<Driver<B> as Nor>⟧.state self.new)) }
+        ensures fails { IfErr result (λ e.
+            NorFails e (⟦<Driver<B> as Nor>⟧.state self.old)
+            (⟦<Driver<B> as Nor>⟧.state self.new)) }
+        ensures stands { AnswersWhatIsLatched (⟦<Driver<B> as Nor>⟧.state self.old) result
+            (⟦<Driver<B> as Nor>⟧.state self.new) }
     {
         if self.slow {
             return Err(NorError::Slow);
@@ -111,7 +129,12 @@ impl<B: SpiBus> Driver<B> {
 impl<B: SpiBus> Nor for Driver<B> {
     ghost state = { λ d. shown (B.chip d.bus) (B.cuts d.bus) (B.slows d.bus) d.slow d.large };
 
-    ghost sized = { λ d. chip_sized d.bytes (length (B.chip d.bus).memory) d.size d.whole d.least d.most };
+    ghost use Rattle.std.specs.Prelude.{ℕ};
+    ghost use Rattle.std.proofs.Common.{subst, sym};
+    ghost use Rattle.chip_model.specs.Geometry.{IsChipSize};
+
+    ghost sized = { λ d. subst (λ (n : ℕ). IsChipSize n) (sym d.size)
+        (record { whole = d.whole; least = d.least; most = d.most }) };
 
     fn bytes(&self) -> u32 {
         self.bytes

@@ -1,3 +1,5 @@
+//! Why a call on a NOR memory, or a probe, didn't do its work.
+
 ghost use Rattle.std.specs.Prelude.{◌≡◌};
 ghost use Rattle.nor_driver.specs.declared.error.NorError.TheVariants.{Cut};
 ghost use Rattle.nor_driver.specs.declared.error.ProbeError.TheVariants as refusals;
@@ -11,7 +13,8 @@ use sfdp::SfdpError;
 pub enum NorError {
     /// The power went in this call, or was off.
     Cut,
-    /// An operation didn't end: in this call, or in an earlier one with no `restart` that answered Ok since.
+    /// An operation didn't end: in this call, or in an earlier one with no `restart` that answered
+    /// Ok since.
     Slow,
 }
 
@@ -30,7 +33,8 @@ pub enum ProbeError {
     Cut,
     /// 2: an operation didn't end in this call.
     Slow,
-    /// 3: the id isn't EFh 40h and a third byte from 10h to 18h, or that byte isn't the one of the table's size.
+    /// 3: the id isn't EFh 40h and a third byte from 10h to 18h, or that byte isn't the one of the
+    /// table's size.
     WrongId,
     /// 4: the chip's SFDP table is refused.
     Sfdp(SfdpError),

@@ -1,8 +1,9 @@
-// What a chip tells of itself.
+//! What a chip tells of itself.
+
 ghost use Rattle.std.specs.Prelude.{◌≡◌, slice_index};
 ghost use Rattle.sfdp.specs.Params.{params_of};
 ghost use Rattle.chip_model.specs.Frames.{id_from};
-ghost use Rattle.nor_driver.specs.Probe.{Identifies, Probes, is_served, sized};
+ghost use Rattle.nor_driver.specs.Probe.{Identifies, Probes, is_served_id, sized};
 
 use crate::ProbeError;
 use crate::protection::is_protected;
@@ -13,7 +14,7 @@ use spi_frames::{jedec_id, sfdp as sfdp_frame};
 
 /// Whether a chip with these id bytes is served.
 fn is_served(id: [u8; 3]) -> bool
-    ensures { result ≡ is_served (slice_index id 0) (slice_index id 1) (slice_index id 2) }
+    ensures { result ≡ is_served_id (slice_index id 0) (slice_index id 1) (slice_index id 2) }
 {
     id[0] == 0xEF && id[1] == 0x40 && id[2] >= 0x10 && id[2] <= 0x18
 }
@@ -47,7 +48,8 @@ fn sized(exponent: u8, table: &[u8]) -> Result<Params, ProbeError>
 
 /// The power comes anew, and id and table are checked.
 fn identify<B: SpiBus>(bus: &mut B) -> Result<Params, ProbeError>
-    ensures identifies { Identifies result (B.chip bus.old) (B.cuts bus.old) (B.chip bus.new) (B.cuts bus.new) }
+    ensures identifies { Identifies result (B.chip bus.old) (B.cuts bus.old) (B.chip bus.new)
+        (B.cuts bus.new) }
     ensures slows { B.slows bus.new ≡ B.slows bus.old }
 {
     let mut id = [0u8; 3];
@@ -62,7 +64,8 @@ fn identify<B: SpiBus>(bus: &mut B) -> Result<Params, ProbeError>
 
 /// The power comes anew, and id, table and protection are checked.
 pub fn survey<B: SpiBus>(bus: &mut B) -> Result<Params, ProbeError>
-    ensures { Probes result (B.chip bus.old) (B.cuts bus.old) (B.slows bus.old) (B.chip bus.new) (B.cuts bus.new) (B.slows bus.new) }
+    ensures { Probes result (B.chip bus.old) (B.cuts bus.old) (B.slows bus.old) (B.chip bus.new)
+        (B.cuts bus.new) (B.slows bus.new) }
 {
     let params = identify(bus)?;
     if is_protected(bus)? {

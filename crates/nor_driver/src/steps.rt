@@ -1,9 +1,10 @@
-// Frames one after another, on any bus.
+//! Frames one after another, on any bus.
+
 ghost use Rattle.std.specs.Prelude.{◌≡◌, ◌+◌, true, false, OnOk, OnErr, IfErr};
 ghost use Rattle.chip_model.specs.Chip.{is_idle, completed};
 ghost use Rattle.chip_model.specs.Cut.{Cut, Loses};
-ghost use Rattle.chip_model.specs.Frames.{Answers, after, command_of};
-ghost use Rattle.nor_driver.specs.Steps.{ChangeFails, Lost, SettleFails, Woken, only_reads, started};
+ghost use Rattle.chip_model.specs.Frames.{Receives, after_command, command_of};
+ghost use Rattle.nor_driver.specs.Steps.{ChangeFails, Lost, WaitFails, Woken, only_reads, started};
 
 use crate::NorError;
 use chip_model::{PowerLost, SpiBus};
@@ -15,11 +16,13 @@ const READS: u32 = 65_535;
 /// One frame with no answer, to an idle chip.
 fn send<B: SpiBus>(bus: &mut B, frame: &[u8]) -> Result<(), PowerLost>
     requires { is_idle (B.chip bus.old).operation ≡ true }
-    ensures chip { OnOk result (B.chip bus.new ≡ after (B.chip bus.old) (command_of frame.now)) }
+    ensures chip { OnOk result (B.chip bus.new
+        ≡ after_command (B.chip bus.old) (command_of frame.now)) }
     ensures powered { OnOk result ((B.chip bus.old).powered ≡ true) }
     ensures cuts { OnOk result (B.cuts bus.new ≡ B.cuts bus.old) }
     ensures slows { B.slows bus.new ≡ B.slows bus.old }
-    ensures lost { OnErr result (Loses (B.chip bus.old) (B.cuts bus.old) frame.now (B.chip bus.new) (B.cuts bus.new)) }
+    ensures lost { OnErr result (Loses (B.chip bus.old) (B.cuts bus.old) frame.now (B.chip bus.new)
+        (B.cuts bus.new)) }
 {
     bus.transact(frame, &mut [])?;
     Ok(())
@@ -29,25 +32,28 @@ fn send<B: SpiBus>(bus: &mut B, frame: &[u8]) -> Result<(), PowerLost>
 pub fn ask<B: SpiBus>(bus: &mut B, frame: &[u8], into: &mut [u8]) -> Result<(), PowerLost>
     requires idle { is_idle (B.chip bus.old).operation ≡ true }
     requires reads { only_reads (command_of frame.now) ≡ true }
-    ensures answers { OnOk result (Answers (B.chip bus.old) (command_of frame.now) into.new) }
+    ensures answers { OnOk result (Receives (B.chip bus.old) (command_of frame.now) into.new) }
     ensures chip { OnOk result (B.chip bus.new ≡ B.chip bus.old) }
     ensures powered { OnOk result ((B.chip bus.old).powered ≡ true) }
     ensures cuts { OnOk result (B.cuts bus.new ≡ B.cuts bus.old) }
     ensures slows { B.slows bus.new ≡ B.slows bus.old }
-    ensures lost { OnErr result (Lost (B.chip bus.old) (B.cuts bus.old) (B.chip bus.new) (B.cuts bus.new)) }
+    ensures lost { OnErr result (Lost (B.chip bus.old) (B.cuts bus.old) (B.chip bus.new)
+        (B.cuts bus.new)) }
 {
     bus.transact(frame, into)
 }
 
 /// Reads the status until the operation in progress has completed.
-fn settle<B: SpiBus>(bus: &mut B) -> Result<(), NorError>
+fn wait_until_idle<B: SpiBus>(bus: &mut B) -> Result<(), NorError>
     requires running { is_idle (B.chip bus.old).operation ≡ false }
     requires powered { (B.chip bus.old).powered ≡ true }
     requires fresh { (B.chip bus.old).polls ≡ 0 }
     ensures chip { OnOk result (B.chip bus.new ≡ completed (B.chip bus.old)) }
     ensures cuts { OnOk result (B.cuts bus.new ≡ B.cuts bus.old) }
     ensures slows { OnOk result (B.slows bus.new ≡ B.slows bus.old) }
-    ensures err { IfErr result (λ e. SettleFails e (B.chip bus.old) (B.cuts bus.old) (B.slows bus.old) (B.chip bus.new) (B.cuts bus.new) (B.slows bus.new)) }
+    ensures err { IfErr result (λ e.
+        WaitFails e (B.chip bus.old) (B.cuts bus.old) (B.slows bus.old) (B.chip bus.new)
+        (B.cuts bus.new) (B.slows bus.new)) }
 {
     for _read in 0..READS {
         let mut answer = [0u8; 1];
@@ -69,18 +75,20 @@ pub fn change<B: SpiBus>(bus: &mut B, frame: &[u8]) -> Result<(), NorError>
     ensures on { OnOk result ((B.chip bus.old).powered ≡ true) }
     ensures cuts { OnOk result (B.cuts bus.new ≡ B.cuts bus.old) }
     ensures slows { OnOk result (B.slows bus.new ≡ B.slows bus.old) }
-    ensures err { IfErr result (λ e. ChangeFails e (B.chip bus.old) (B.cuts bus.old) (B.slows bus.old) frame.now (B.chip bus.new) (B.cuts bus.new) (B.slows bus.new)) }
+    ensures err { IfErr result (λ e.
+        ChangeFails e (B.chip bus.old) (B.cuts bus.old) (B.slows bus.old) frame.now (B.chip bus.new)
+        (B.cuts bus.new) (B.slows bus.new)) }
 {
     send(bus, &write_enable())?;
     send(bus, frame)?;
-    settle(bus)
+    wait_until_idle(bus)
 }
 
 /// Turns the power off and on again; then one frame that changes nothing, and its answer.
 pub fn wake<B: SpiBus>(bus: &mut B, frame: &[u8], into: &mut [u8]) -> Result<(), PowerLost>
     requires { only_reads (command_of frame.now) ≡ true }
     ensures woken { OnOk result (Woken (B.chip bus.old) (B.chip bus.new)) }
-    ensures answers { OnOk result (Answers (B.chip bus.new) (command_of frame.now) into.new) }
+    ensures answers { OnOk result (Receives (B.chip bus.new) (command_of frame.now) into.new) }
     ensures cuts { OnOk result (B.cuts bus.new ≡ B.cuts bus.old) }
     ensures slows { B.slows bus.new ≡ B.slows bus.old }
     ensures lost { OnErr result (Cut (B.chip bus.old) (B.chip bus.new)) }

@@ -1,22 +1,24 @@
-//! The header of a data block that holds a group of seven sectors, and the descriptor of a slot that holds one.
+//! The header of a data block that holds a group of seven sectors, and the descriptor of a slot
+//! that holds one.
 
 ghost use Rattle.std.specs.Prelude.{◌≡◌, ◌∷◌, [], Some};
 ghost use Rattle.chip_model.specs.Memory.{byte};
-ghost use Rattle.nor_layout.specs.Headers.{next_generation, generation_byte, generation_of, header_of};
+ghost use Rattle.nor_layout.specs.Headers.{next_generation, generation_byte, generation_of};
+ghost use Rattle.nor_layout.specs.Headers.{header_of};
 
 use byteorder::{ByteOrder, LittleEndian};
 
 /// The bytes of a header.
 pub const HEADER_LEN: usize = 4;
 
-/// The first byte of a header or descriptor once what it stands for is wholly written.
+/// The first byte of a header or descriptor once what it represents is wholly written.
 pub const COMMITTED: u8 = 0xFC;
 
 /// And once it stands elsewhere.
 pub const RETIRED: u8 = 0xF8;
 
-/// Which of two blocks of a group, or slots of a sector, is the newer: the one whose generation is the next of the other's.
-/// Source: own.
+/// Which of two blocks of a group, or slots of a sector, is the newer: the one whose generation is
+/// the next of the other's. Source: own.
 #[derive(Clone, Copy, Debug, PartialEq, Eq, Drop)]
 pub enum Generation {
     Zero,
@@ -102,18 +104,21 @@ pub fn block_state(bytes: [u8; HEADER_LEN]) -> Header
     }
 }
 
-/// The header of a free block into which this group is to be written, or the descriptor of a free slot: begun, and the tag. Once
-/// its first byte is programmed `COMMITTED`, the block or slot is live with this tag.
+/// The header of a free block into which this group is to be written, or the descriptor of a free
+/// slot: begun, and the tag. Once its first byte is programmed `COMMITTED`, the block or slot is
+/// live with this tag.
 pub fn begun_header(tag: Tag) -> [u8; HEADER_LEN]
     ensures begun { byte result 0 ≡ 254 }
     ensures dead { header_of result ≡ Header.Dead }
-    ensures read_back { header_of (COMMITTED ∷ byte result 1 ∷ byte result 2 ∷ byte result 3 ∷ []) ≡ Header.Live tag }
+    ensures read_back { header_of (COMMITTED ∷ byte result 1 ∷ byte result 2 ∷ byte result 3 ∷ [])
+        ≡ Header.Live tag }
 {
     let number = tag.number.to_le_bytes();
     [0xFE, tag.generation.byte(), number[0], number[1]]
 }
 
-/// The descriptor of a slot that is live with this tag, in one program: for a block whose slots don't count yet.
+/// The descriptor of a slot that is live with this tag, in one program: for a block whose slots
+/// don't count yet.
 pub fn live_header(tag: Tag) -> [u8; HEADER_LEN]
     ensures live { header_of result ≡ Header.Live tag }
 {

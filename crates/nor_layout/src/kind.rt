@@ -19,7 +19,8 @@ pub enum Kind {
     Plain,
     /// A copy of a block was begun in it: its slots don't count.
     Void,
-    /// The whole copy of the block of this number on the chip: its slots count, and those of that block don't.
+    /// The whole copy of the block of this number on the chip: its slots count, and those of that
+    /// block don't.
     Committed(u16),
     /// A copy whose source was erased: its slots count.
     Settled,
@@ -45,11 +46,13 @@ pub fn block_kind(bytes: [u8; MARK_LEN]) -> Kind
     }
 }
 
-/// Bytes 4 to 7 of a block into which the block of this number is to be copied. Once byte 4 is programmed FCh, it is committed.
+/// Bytes 4 to 7 of a block into which the block of this number is to be copied. Once byte 4 is
+/// programmed FCh, it is committed.
 pub fn begun_mark(source: u16) -> [u8; 4]
     ensures begun { byte result 0 ≡ 254 }
     ensures names { byte result 2 + 256 * byte result 3 ≡ source }
-    ensures read_back { kind_of (255 ∷ 255 ∷ 255 ∷ 255 ∷ 252 ∷ byte result 1 ∷ byte result 2 ∷ byte result 3 ∷ []) ≡ Kind.Committed source }
+    ensures read_back { kind_of (255 ∷ 255 ∷ 255 ∷ 255 ∷ 252 ∷ byte result 1 ∷ byte result 2
+        ∷ byte result 3 ∷ []) ≡ Kind.Committed source }
 {
     let number = source.to_le_bytes();
     [0xFE, 0xFF, number[0], number[1]]

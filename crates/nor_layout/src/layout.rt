@@ -18,8 +18,8 @@ pub enum Layout {
     Sectors,
 }
 
-/// Which layout the first bytes of block 0 say, where they are the superblock of a chip of these counts. Any bytes may be passed;
-/// the first check that fails is answered.
+/// Which layout the first bytes of block 0 say, where they are the superblock of a chip of these
+/// counts. Any bytes may be passed; the first check that fails is answered.
 pub fn read_layout(bytes: &[u8; SUPER_LEN], chip: Geometry) -> Result<Layout, SuperError>
     ensures { result ≡ layout_of bytes.now chip }
 {
@@ -40,10 +40,11 @@ pub fn read_layout(bytes: &[u8; SUPER_LEN], chip: Geometry) -> Result<Layout, Su
     Ok(Layout::Sectors)
 }
 
-/// The first bytes of the superblock of a chip of these counts in layout 2: its name, the layout and the counts. Sealed, a block
-/// that begins with them is read back.
+/// The first bytes of the superblock of a chip of these counts in layout 2: its name, the layout
+/// and the counts. Sealed, a block that begins with them is read back.
 pub fn sector_super_bytes(chip: Geometry) -> [u8; UNSEALED_LEN]
-    ensures { (b : List ℕ) → BeginsWith b UNSEALED_LEN result → byte b SEAL_PLACE ≡ SEAL → layout_of b chip ≡ Ok Layout.Sectors }
+    ensures { (b : List ℕ) → BeginsWith b UNSEALED_LEN result → byte b SEAL_PLACE ≡ SEAL
+        → layout_of b chip ≡ Ok Layout.Sectors }
 {
     let blocks = chip.blocks.to_le_bytes();
     let groups = chip.groups.to_le_bytes();

@@ -1,7 +1,7 @@
 -- The number of a line `format` or `script` is a size of chips, in KiB.
 use Rattle.std.proofs.Common.{ℕ, ◌*◌, arith}
 use Rattle.chip_model.specs.Geometry.{IsChipSize}
-use Rattle.norbd_line.specs.Line.{IfFormat, IfScript, IfServe, InRange, IsConns, IsPort, IsSize}
+use Rattle.norbd_line.specs.Line.{IfFormat, IfScript, IfServe, IsLineInRange, IsConns, IsPort, IsSize}
 use Rattle.norbd_line.specs.declared.line.Line.{Line}
 use Rattle.norbd_line.specs.declared.line.Line.TheVariants.{Plain, Format, Script, Serve}
 
@@ -12,19 +12,19 @@ size_of_chip kib size = record {
   most = omega (arith, size.1);
 }
 
-pub size_of_line : (line : Line) → InRange line → IfFormat line (λ _ kib. IsSize kib)
+pub size_of_line : (line : Line) → IsLineInRange line → IfFormat line (λ _ kib. IsSize kib)
 size_of_line (Plain sectors keeps_rows) range = tt
 size_of_line (Format image kib) range = range
 size_of_line (Script kib) range = tt
 size_of_line (Serve image port conns keeps_rows) range = tt
 
-pub size_of_script : (line : Line) → InRange line → IfScript line (λ kib. IsSize kib)
+pub size_of_script : (line : Line) → IsLineInRange line → IfScript line (λ kib. IsSize kib)
 size_of_script (Plain sectors keeps_rows) range = tt
 size_of_script (Format image kib) range = tt
 size_of_script (Script kib) range = range
 size_of_script (Serve image port conns keeps_rows) range = tt
 
-pub numbers_of_serve : (line : Line) → InRange line → IfServe line (λ port conns _. IsPort port × IsConns conns)
+pub numbers_of_serve : (line : Line) → IsLineInRange line → IfServe line (λ port conns _. IsPort port × IsConns conns)
 numbers_of_serve (Plain sectors keeps_rows) range = tt
 numbers_of_serve (Format image kib) range = tt
 numbers_of_serve (Script kib) range = tt

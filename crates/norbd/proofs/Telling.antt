@@ -2,8 +2,9 @@
 use Rattle.std.proofs.Common.{◌≡◌, ◌⊎◌, ℕ, ◌+◌, List, [], ◌∷◌, ◌++◌, Bool, Option, Some, None, Result, Ok, Err, IfOk, IsOkAnd, String, refl, sym, ap, subst, ◌∙◌, inl, inr, append-nil}
 use Rattle.std.specs.String.{string_bytes}
 use Rattle.std.specs.Io.KnownBytes.{Appends}
-use Rattle.std.proofs.KnownBytes.{Appends-nil}
-use Rattle.block_device.specs.Streams.{Appends-twice, Fails, Fails-first, Sends, Sends-twice}
+use Rattle.std.proofs.KnownBytes.{Appends-nil, Appends-trans}
+use Rattle.block_device.specs.Streams.{FailsToSend, Sends}
+use Rattle.block_device.proofs.Streams.{Fails-first, Sends-twice}
 use Rattle.norbd_serve.specs.declared.fault.ServeFault.{ServeFault}
 use Rattle.norbd_serve.specs.declared.fault.ServeFault.TheVariants as serves
 use Rattle.norbd.specs.Listening.{HasBegun, TellsServing, WritesText, all_text, ended_text, serving_text, told_of_serving}
@@ -38,7 +39,7 @@ first-failed T text port conns sectors keeps old new f g e is h = elim h [
   | inl none ↦ subst (λ x. TellsServing {T = T} port conns keeps old f (Err x) new g) (sym none.0)
       (inl (subst (λ x. Appends old x []) (sym none.1) (Appends-nil old), none.2))
   | inr failed ↦ subst (λ x. TellsServing {T = T} port conns keeps old f (Err x) new g) (sym failed.0)
-      (sectors, 0, Fails-first old new f g (serving_text sectors port) (ended_text keeps conns 0) (same-bytes text (serving_text sectors port) (λ x. Fails old f x new g) is failed.1))
+      (sectors, 0, Fails-first old new f g (serving_text sectors port) (ended_text keeps conns 0) (same-bytes text (serving_text sectors port) (λ x. FailsToSend old f x new g) is failed.1))
 ]
 
 abbrev failed-with : (T : Type 0) → Fault → Result T Fault
@@ -51,7 +52,7 @@ pub ended : {Z Y X W T : Type 0} (one : Result (String Z) X) (two : Result (Stri
 ended one two port conns sectors rows keeps old mid new f g h (Ok u) is are first last =
     let begin = same-bytes one (serving_text sectors port) (λ x. Appends old mid x) is first.0 in
     let end = same-bytes two (ended_text keeps conns rows) (λ x. Appends mid new x) are last.0 in
-    (sectors, rows, Appends-twice old mid new (serving_text sectors port) (ended_text keeps conns rows) begin end, last.1 ∙ first.1)
+    (sectors, rows, Appends-trans old mid new (serving_text sectors port) (ended_text keeps conns rows) begin end, last.1 ∙ first.1)
 ended {T = T} one two port conns sectors rows keeps old mid new f g h (Err e) is are first last =
     let begin = same-bytes one (serving_text sectors port) (λ x. Appends old mid x) is first.0 in
     elim last [
@@ -60,6 +61,6 @@ ended {T = T} one two port conns sectors rows keeps old mid new f g h (Err e) is
       | inr failed ↦ subst (λ x. TellsServing {T = T} port conns keeps old f (Err x) new h) (sym failed.0) (
         sectors,
         rows,
-        Sends-twice old mid new f g h (serving_text sectors port) (ended_text keeps conns rows) (failed-with T e) (begin, first.1) (same-bytes two (ended_text keeps conns rows) (λ x. Fails mid g x new h) are failed.1),
+        Sends-twice old mid new f g h (serving_text sectors port) (ended_text keeps conns rows) (failed-with T e) (begin, first.1) (same-bytes two (ended_text keeps conns rows) (λ x. FailsToSend mid g x new h) are failed.1),
       )
     ]

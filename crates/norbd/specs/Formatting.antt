@@ -2,13 +2,17 @@
 use Rattle.std.specs.Prelude.{◌≡◌, ℕ, ◌*◌, List, ◌++◌, codes, Option, Result, Ok, Err}
 use Rattle.std.specs.Fmt.{decimal}
 use Rattle.std.specs.Io.KnownBytes.{Appends}
-use Rattle.block_device.specs.Streams.{Fails}
+use Rattle.block_device.specs.Streams.{FailsToSend}
 use Rattle.chip_model.specs.Geometry.{sector_count}
 use Rattle.nor_driver.specs.declared.error.ProbeError.TheVariants as probes
 use Rattle.image.specs.declared.error.ImageError.{ImageError}
 use Rattle.image.specs.declared.error.ImageError.TheVariants.{OutOfMemory, File, Refused}
 use Rattle.norbd_line.specs.declared.fault.Fault.{Fault}
-use Rattle.norbd_line.specs.declared.fault.Fault.TheVariants.{Words, NoMemory, BadSize, InputFailed, OutputFailed, ImageFailed, WrongId, BadSfdp, Protected, Slow, BadRecord, NotFormatted, Corrupt, BadImageSize, NoSocket, NoThread}
+use Rattle.norbd_line.specs.declared.fault.Fault.TheVariants.{Words, NoMemory, BadSize, InputFailed}
+use Rattle.norbd_line.specs.declared.fault.Fault.TheVariants.{OutputFailed, ImageFailed, WrongId}
+use Rattle.norbd_line.specs.declared.fault.Fault.TheVariants.{BadSfdp, Protected, Slow, BadRecord}
+use Rattle.norbd_line.specs.declared.fault.Fault.TheVariants.{NotFormatted, Corrupt, BadImageSize}
+use Rattle.norbd_line.specs.declared.fault.Fault.TheVariants.{NoSocket, NoThread}
 
 -- the line about a formatted chip of so many KiB
 abbrev pub text_about : ℕ → List ℕ
@@ -25,26 +29,29 @@ told_as (Refused (probes.Sfdp e)) = BadSfdp
 told_as (Refused probes.Protected) = Protected
 
 -- nothing was written and no write failed
-abbrev pub IsUntouched : Option (List ℕ) → ℕ → Option (List ℕ) → ℕ → Type 0
-IsUntouched old faults new faults' = (new ≡ old) × (faults' ≡ faults)
+abbrev pub NothingWritten : Option (List ℕ) → ℕ → Option (List ℕ) → ℕ → Type 0
+NothingWritten old faults new faults' = (new ≡ old) × (faults' ≡ faults)
 
--- What `format` of so many KiB writes: done, exactly the line about the chip; a fault of the output, a beginning of it; and
--- nothing with any other fault, which is one of an image.
-abbrev pub Tells : {T : Type 0} → ℕ → Option (List ℕ) → ℕ → Result T Fault → Option (List ℕ) → ℕ → Type 0
-Tells kib old faults (Ok _) new faults' = Appends old new (text_about kib) × (faults' ≡ faults)
-Tells kib old faults (Err (Words error)) new faults' = ⊥
-Tells kib old faults (Err BadSize) new faults' = ⊥
-Tells kib old faults (Err NoMemory) new faults' = IsUntouched old faults new faults'
-Tells kib old faults (Err InputFailed) new faults' = ⊥
-Tells kib old faults (Err OutputFailed) new faults' = Fails old faults (text_about kib) new faults'
-Tells kib old faults (Err ImageFailed) new faults' = IsUntouched old faults new faults'
-Tells kib old faults (Err WrongId) new faults' = IsUntouched old faults new faults'
-Tells kib old faults (Err BadSfdp) new faults' = IsUntouched old faults new faults'
-Tells kib old faults (Err Protected) new faults' = IsUntouched old faults new faults'
-Tells kib old faults (Err Slow) new faults' = IsUntouched old faults new faults'
-Tells kib old faults (Err BadRecord) new faults' = ⊥
-Tells kib old faults (Err NotFormatted) new faults' = ⊥
-Tells kib old faults (Err Corrupt) new faults' = ⊥
-Tells kib old faults (Err BadImageSize) new faults' = ⊥
-Tells kib old faults (Err NoSocket) new faults' = ⊥
-Tells kib old faults (Err NoThread) new faults' = ⊥
+-- What `format` of so many KiB writes: done, exactly the line about the chip; a fault of the
+-- output, a beginning of it; and nothing with any other fault, which is one of an image.
+abbrev pub FormatTells : {T : Type 0} → ℕ → Option (List ℕ) → ℕ → Result T Fault → Option (List ℕ)
+    → ℕ → Type 0
+FormatTells kib old faults (Ok _) new faults' =
+    Appends old new (text_about kib) × (faults' ≡ faults)
+FormatTells kib old faults (Err (Words error)) new faults' = ⊥
+FormatTells kib old faults (Err BadSize) new faults' = ⊥
+FormatTells kib old faults (Err NoMemory) new faults' = NothingWritten old faults new faults'
+FormatTells kib old faults (Err InputFailed) new faults' = ⊥
+FormatTells kib old faults (Err OutputFailed) new faults' =
+    FailsToSend old faults (text_about kib) new faults'
+FormatTells kib old faults (Err ImageFailed) new faults' = NothingWritten old faults new faults'
+FormatTells kib old faults (Err WrongId) new faults' = NothingWritten old faults new faults'
+FormatTells kib old faults (Err BadSfdp) new faults' = NothingWritten old faults new faults'
+FormatTells kib old faults (Err Protected) new faults' = NothingWritten old faults new faults'
+FormatTells kib old faults (Err Slow) new faults' = NothingWritten old faults new faults'
+FormatTells kib old faults (Err BadRecord) new faults' = ⊥
+FormatTells kib old faults (Err NotFormatted) new faults' = ⊥
+FormatTells kib old faults (Err Corrupt) new faults' = ⊥
+FormatTells kib old faults (Err BadImageSize) new faults' = ⊥
+FormatTells kib old faults (Err NoSocket) new faults' = ⊥
+FormatTells kib old faults (Err NoThread) new faults' = ⊥

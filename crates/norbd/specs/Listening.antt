@@ -1,9 +1,10 @@
 -- What `serve` says, and how it ends. Source: own.
-use Rattle.std.specs.Prelude.{◌≡◌, ◌⊎◌, ℕ, List, [], ◌++◌, codes, Bool, true, false, Option, Result, Ok, Err, IsOkAnd, String}
+use Rattle.std.specs.Prelude.{◌≡◌, ◌⊎◌, ℕ, List, [], ◌++◌, codes, Bool, true, false, Option, Result}
+use Rattle.std.specs.Prelude.{Ok, Err, IsOkAnd, String}
 use Rattle.std.specs.String.{string_bytes}
 use Rattle.std.specs.Fmt.{decimal}
 use Rattle.std.specs.Io.KnownBytes.{Appends}
-use Rattle.block_device.specs.Streams.{Fails}
+use Rattle.block_device.specs.Streams.{FailsToSend}
 use Rattle.fault_model.specs.declared.error.SimError.{SimError}
 use Rattle.fault_model.specs.declared.error.SimError.TheVariants as files
 use Rattle.flash_disk.specs.declared.error.MountError.{MountError}
@@ -14,15 +15,21 @@ use Rattle.norbd_serve.specs.declared.fault.ServeFault.{ServeFault}
 use Rattle.norbd_serve.specs.declared.fault.ServeFault.TheVariants as serves
 use Rattle.norbd.specs.Scripting.{told_of_probe}
 use Rattle.norbd_line.specs.declared.fault.Fault.{Fault}
-use Rattle.norbd_line.specs.declared.fault.Fault.TheVariants.{Words, NoMemory, BadSize, InputFailed, OutputFailed, ImageFailed, WrongId, BadSfdp, Protected, Slow, BadRecord, NotFormatted, Corrupt, BadImageSize, NoSocket, NoThread}
+use Rattle.norbd_line.specs.declared.fault.Fault.TheVariants.{Words, NoMemory, BadSize, InputFailed}
+use Rattle.norbd_line.specs.declared.fault.Fault.TheVariants.{OutputFailed, ImageFailed, WrongId}
+use Rattle.norbd_line.specs.declared.fault.Fault.TheVariants.{BadSfdp, Protected, Slow, BadRecord}
+use Rattle.norbd_line.specs.declared.fault.Fault.TheVariants.{NotFormatted, Corrupt, BadImageSize}
+use Rattle.norbd_line.specs.declared.fault.Fault.TheVariants.{NoSocket, NoThread}
 
 -- the line before the first connection is accepted
 abbrev pub serving_text : ℕ → ℕ → List ℕ
-serving_text sectors port = codes "serving " ++ (decimal sectors ++ (codes " sectors on port " ++ (decimal port ++ codes "\n")))
+serving_text sectors port = codes "serving "
+    ++ (decimal sectors ++ (codes " sectors on port " ++ (decimal port ++ codes "\n")))
 
 -- the line after the last connection has ended, and where rows are kept the one about them
 abbrev pub ended_text : Bool → ℕ → ℕ → List ℕ
-ended_text true conns rows = codes "served " ++ (decimal conns ++ (codes " connections\nrecorded " ++ (decimal rows ++ codes " rows\n")))
+ended_text true conns rows = codes "served "
+    ++ (decimal conns ++ (codes " connections\nrecorded " ++ (decimal rows ++ codes " rows\n")))
 ended_text false conns rows = codes "served " ++ (decimal conns ++ codes " connections\n")
 
 -- all that is told
@@ -74,11 +81,15 @@ IsRefusal BadRecord = ⊥
 IsRefusal NoSocket = ⊥
 IsRefusal NoThread = ⊥
 
--- What writing a text says: all of it is written, there was no memory for it, or a beginning of it is written.
-abbrev pub WritesText : {Z T X : Type 0} → Result (String Z) X → Option (List ℕ) → ℕ → Result T Fault → Option (List ℕ) → ℕ → Type 0
-WritesText text old faults (Ok _) new faults' = IsOkAnd text (λ t. Appends old new (string_bytes t)) × (faults' ≡ faults)
+-- What writing a text says: all of it is written, there was no memory for it, or a beginning of it
+-- is written.
+abbrev pub WritesText : {Z T X : Type 0} → Result (String Z) X → Option (List ℕ) → ℕ
+    → Result T Fault → Option (List ℕ) → ℕ → Type 0
+WritesText text old faults (Ok _) new faults' =
+    IsOkAnd text (λ t. Appends old new (string_bytes t)) × (faults' ≡ faults)
 WritesText text old faults (Err e) new faults' =
-    ((e ≡ NoMemory) × (new ≡ old) × (faults' ≡ faults)) ⊎ ((e ≡ OutputFailed) × IsOkAnd text (λ t. Fails old faults (string_bytes t) new faults'))
+    ((e ≡ NoMemory) × (new ≡ old) × (faults' ≡ faults))
+    ⊎ ((e ≡ OutputFailed) × IsOkAnd text (λ t. FailsToSend old faults (string_bytes t) new faults'))
 
 -- nothing was told, and no write failed
 abbrev pub IsSilent : Option (List ℕ) → ℕ → Option (List ℕ) → ℕ → Type 0
@@ -87,26 +98,37 @@ IsSilent old faults new faults' = Appends old new [] × (faults' ≡ faults)
 -- nothing was told, or the first line alone
 abbrev pub HasBegun : ℕ → Option (List ℕ) → ℕ → Option (List ℕ) → ℕ → Type 0
 HasBegun port old faults new faults' =
-    IsSilent old faults new faults' ⊎ ((sectors : ℕ) × Appends old new (serving_text sectors port) × (faults' ≡ faults))
+    IsSilent old faults new faults' ⊎
+    ((sectors : ℕ) × Appends old new (serving_text sectors port) × (faults' ≡ faults))
 
--- What `serve` on this port for so many connections tells: done, all lines, and the last of them with a number of rows; with a
--- fault of the output a beginning of them; with another fault that comes before it listens nothing, and else nothing or
--- the first line.
-abbrev pub TellsServing : {T : Type 0} → ℕ → ℕ → Bool → Option (List ℕ) → ℕ → Result T Fault → Option (List ℕ) → ℕ → Type 0
+-- What `serve` on this port for so many connections tells: done, all lines, and the last of them
+-- with a number of rows; with a fault of the output a beginning of them; with another fault that
+-- comes before it listens nothing, and else nothing or the first line.
+abbrev pub TellsServing : {T : Type 0} → ℕ → ℕ → Bool → Option (List ℕ) → ℕ → Result T Fault
+    → Option (List ℕ) → ℕ → Type 0
 TellsServing port conns keeps old faults (Ok _) new faults' =
-    (sectors : ℕ) × (rows : ℕ) × Appends old new (all_text port conns keeps sectors rows) × (faults' ≡ faults)
+    (sectors : ℕ) × (rows : ℕ) × Appends old new (all_text port conns keeps sectors rows)
+    × (faults' ≡ faults)
 TellsServing port conns keeps old faults (Err OutputFailed) new faults' =
-    (sectors : ℕ) × (rows : ℕ) × Fails old faults (all_text port conns keeps sectors rows) new faults'
-TellsServing port conns keeps old faults (Err NoMemory) new faults' = HasBegun port old faults new faults'
-TellsServing port conns keeps old faults (Err ImageFailed) new faults' = HasBegun port old faults new faults'
-TellsServing port conns keeps old faults (Err NoSocket) new faults' = HasBegun port old faults new faults'
-TellsServing port conns keeps old faults (Err NoThread) new faults' = HasBegun port old faults new faults'
-TellsServing port conns keeps old faults (Err BadImageSize) new faults' = IsSilent old faults new faults'
-TellsServing port conns keeps old faults (Err NotFormatted) new faults' = IsSilent old faults new faults'
+    (sectors : ℕ) × (rows : ℕ) × FailsToSend old faults (all_text port conns keeps sectors rows) new
+    faults'
+TellsServing port conns keeps old faults (Err NoMemory) new faults' =
+    HasBegun port old faults new faults'
+TellsServing port conns keeps old faults (Err ImageFailed) new faults' =
+    HasBegun port old faults new faults'
+TellsServing port conns keeps old faults (Err NoSocket) new faults' =
+    HasBegun port old faults new faults'
+TellsServing port conns keeps old faults (Err NoThread) new faults' =
+    HasBegun port old faults new faults'
+TellsServing port conns keeps old faults (Err BadImageSize) new faults' =
+    IsSilent old faults new faults'
+TellsServing port conns keeps old faults (Err NotFormatted) new faults' =
+    IsSilent old faults new faults'
 TellsServing port conns keeps old faults (Err Corrupt) new faults' = IsSilent old faults new faults'
 TellsServing port conns keeps old faults (Err WrongId) new faults' = IsSilent old faults new faults'
 TellsServing port conns keeps old faults (Err BadSfdp) new faults' = IsSilent old faults new faults'
-TellsServing port conns keeps old faults (Err Protected) new faults' = IsSilent old faults new faults'
+TellsServing port conns keeps old faults (Err Protected) new faults' =
+    IsSilent old faults new faults'
 TellsServing port conns keeps old faults (Err Slow) new faults' = IsSilent old faults new faults'
 TellsServing port conns keeps old faults (Err (Words error)) new faults' = ⊥
 TellsServing port conns keeps old faults (Err BadSize) new faults' = ⊥

@@ -12,7 +12,10 @@ use Rattle.flash_station.specs.declared.error.RunFault.{RunFault}
 use Rattle.flash_station.specs.declared.error.RunFault.TheVariants as runs
 use Rattle.norbd.specs.Outcomes.{IsDone, IsFault}
 use Rattle.norbd_line.specs.declared.fault.Fault.{Fault}
-use Rattle.norbd_line.specs.declared.fault.Fault.TheVariants.{NoMemory, InputFailed, OutputFailed, ImageFailed, WrongId, BadSfdp, Protected, Slow, BadRecord, NotFormatted, Corrupt}
+use Rattle.norbd_line.specs.declared.fault.Fault.TheVariants.{NoMemory, InputFailed, OutputFailed}
+use Rattle.norbd_line.specs.declared.fault.Fault.TheVariants.{ImageFailed, WrongId, BadSfdp}
+use Rattle.norbd_line.specs.declared.fault.Fault.TheVariants.{Protected, Slow, BadRecord}
+use Rattle.norbd_line.specs.declared.fault.Fault.TheVariants.{NotFormatted, Corrupt}
 
 -- what a refusal of a probe is for the program; a chip loses its power where its image fails
 abbrev pub told_of_probe : ProbeError → Fault
@@ -45,7 +48,8 @@ pub record Streams : Type 0 where
   pub written : Option (List ℕ)
   pub writes : ℕ
 
--- What `script` on a chip of so many KiB does: what a run on a new chip in memory says, with its fault told.
+-- What `script` on a chip of so many KiB does: what a run on a new chip in memory says, with its
+-- fault told.
 abbrev pub Scripts : {T : Type 0} → ℕ → Streams → Result T Fault → Streams → Type 0
 Scripts kib old result new =
     (run : Result (Unit {0}) RunFault)

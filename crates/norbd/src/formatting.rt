@@ -1,7 +1,7 @@
 //! `format`: the file of a formatted chip.
 ghost use Rattle.std.specs.Prelude.{◌≡◌, ◌*◌, IfErr, IfOk, string_bytes};
 ghost use Rattle.chip_model.specs.Geometry.{IsChipSize};
-ghost use Rattle.norbd.specs.Formatting.{Tells, text_about, told_as};
+ghost use Rattle.norbd.specs.Formatting.{FormatTells, text_about, told_as};
 
 use block_device::{Sink, send};
 use chip_model::Geometry;
@@ -11,10 +11,12 @@ use norbd_line::Fault;
 use std::alloc::{AllocError, Global};
 use std::rt::Files;
 
-/// Makes the file at a path the bytes of a formatted chip of so many KiB, and then writes to `writer` how many sectors it has.
+/// Makes the file at a path the bytes of a formatted chip of so many KiB, and then writes to
+/// `writer` how many sectors it has.
 ///
-/// `NoMemory` where there is no memory for the chip or a text, `ImageFailed` where the file can't be had, `OutputFailed`
-/// where a write failed; the file is there then. A chip in memory gives none of the other faults.
+/// `NoMemory` where there is no memory for the chip or a text, `ImageFailed` where the file can't
+/// be had, `OutputFailed` where a write failed; the file is there then. A chip in memory gives none
+/// of the other faults.
 pub fn run_format<R: Files + AllocGlobal, K: Sink>(
     rt: &R,
     path: &str,
@@ -22,7 +24,8 @@ pub fn run_format<R: Files + AllocGlobal, K: Sink>(
     writer: &mut K,
 ) -> Result<(), Fault>
     requires { IsChipSize (1024 * kib) }
-    ensures { Tells kib (K.written writer.old) (K.faults writer.old) result (K.written writer.new) (K.faults writer.new) }
+    ensures { FormatTells kib (K.written writer.old) (K.faults writer.old) result
+        (K.written writer.new) (K.faults writer.new) }
 {
     let Ok(text) = text_about(rt.alloc(), kib) else {
         return Err(Fault::NoMemory);

@@ -1,14 +1,15 @@
-//! The program `norbd`: serves a disk by the Network Block Device protocol (NBD), in its transmission phase, and formats images
-//! of flash chips.
+//! The program `norbd`: serves a disk by the Network Block Device protocol (NBD), in its
+//! transmission phase, and formats images of flash chips.
 //!
-//! Here stand the words of the command line, the standard streams, what is printed of a fault, and the exit status:
-//! 0 where the line is done, 2 for a bad line, 1 for each other fault. `run` does what a line asks, over any reader and
-//! writer; the readers and writers here are standard input and output, unbuffered, so that each reply is out before the
-//! next request is looked at. `formatting` makes an image and tells its sectors.
-//! Left to the crates below: the words and the texts of faults (`norbd_line`), requests and replies (`share`), the disk
-//! (`block_device`), an image's bytes and its file (`image`). No contract says what is printed of a fault, nor what a file
-//! holds; tests and runs show it.
-//! Source: own for the command line and its faults; NBD proto.md for requests and replies.
+//! Here stand the words of the command line, the standard streams, what is printed of a fault, and
+//! the exit status: 0 where the line is done, 2 for a bad line, 1 for each other fault. `run` does
+//! what a line asks, over any reader and writer; the readers and writers here are standard input
+//! and output, unbuffered, so that each reply is out before the next request is looked at.
+//! `formatting` makes an image and tells its sectors. Left to the crates below: the words and the
+//! texts of faults (`norbd_line`), requests and replies (`share`), the disk (`block_device`), an
+//! image's bytes and its file (`image`). No contract says what is printed of a fault, nor what a
+//! file holds; tests and runs show it. Source: own for the command line and its faults; NBD
+//! proto.md for requests and replies.
 #![tactic(auto)]
 
 ghost use Rattle.std.specs.Prelude.{◌≡◌, ◌<◌};
@@ -41,7 +42,8 @@ use std::sync::ledger::{Blank, Ledger};
 use std::thread::Threads;
 use std::time::Clock;
 
-/// The program's words, or none where one isn't text (UTF-8): the line is then a bad one. `NoMemory` where memory ran out.
+/// The program's words, or none where one isn't text (UTF-8): the line is then a bad one.
+/// `NoMemory` where memory ran out.
 fn words_of(rt: &HostRuntime, alloc: Global) -> Result<Vec<String>, Fault> {
     match std::env::args(rt) {
         Ok(words) => words
@@ -85,8 +87,8 @@ where
     run::run_line(rt, line, &mut reader, &mut writer)
 }
 
-/// Prints a fault: `clap`'s own text for one of the words, else a line on standard error. A failure to print it is passed
-/// over.
+/// Prints a fault: `clap`'s own text for one of the words, else a line on standard error. A failure
+/// to print it is passed over.
 fn tell(rt: &HostRuntime, fault: &Fault) {
     if let Fault::Words(error) = fault {
         let _ = error.print(rt);

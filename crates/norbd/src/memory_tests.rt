@@ -5,7 +5,8 @@ use crate::run::run_line;
 use crate::serve_tests::{Told, free_port, make, text_of};
 use block_device::FixedIn;
 use norbd_line::Line;
-use std::alloc::{AllocError, Global};
+use scarcity::spend;
+use std::alloc::Global;
 use std::fs;
 use std::net::{Net, TcpListener, TcpStream};
 use std::os::unix::fs::FileExt;
@@ -16,37 +17,6 @@ use std::test::*;
 use std::thread::Threads;
 use std::time::Clock;
 
-/// How many blocks of one size are held at most. On a machine of 16 GiB all addresses of a process are some 8,200 blocks.
-const MOST: usize = 100_000;
-
-/// Holds blocks of this size until the allocator refuses one.
-fn hold(alloc: Global, held: &mut Vec<Vec<u8>>, size: usize) -> Result<(), AllocError> {
-    for _ in 0..MOST {
-        let Ok(block) = Vec::with_capacity(alloc, size) else {
-            return Ok(());
-        };
-        held.push(block)?;
-    }
-    Err(AllocError)
-}
-
-/// Uses up the memory of this process but for one block of so many bytes: what is held until the list is let go. No byte
-/// of it is touched, so that addresses run out, and not the machine's memory.
-fn spend(alloc: Global, size: usize) -> Result<Vec<Vec<u8>>, Fail> {
-    let mut held = Vec::with_capacity(alloc, 40_000)?;
-    held.push(Vec::with_capacity(alloc, size)?)?;
-    let free = Vec::<u8>::with_capacity(alloc, size)?;
-    held.push(Vec::with_capacity(alloc, size)?)?;
-    for power in 0..43u32 {
-        hold(alloc, &mut held, 1usize << (46 - power))?;
-    }
-    for small in 0..65usize {
-        hold(alloc, &mut held, 1_040 - 16 * small)?;
-    }
-    drop(free);
-    Ok(held)
-}
-
 /// What a line is to write where there is memory, or where a row has none, and its fault.
 #[derive(Clone, Copy)]
 struct Expected<'a> {
@@ -55,8 +25,8 @@ struct Expected<'a> {
     fault: &'a str,
 }
 
-/// Sizes that memory is left for: so many, from one on, with a step between them. A step finds each block that is at least as
-/// long: with one size less it is refused.
+/// Sizes that memory is left for: so many, from one on, with a step between them. A step finds each
+/// block that is at least as long: with one size less it is refused.
 type Window = (usize, usize, usize);
 
 /// The sizes of windows.
@@ -149,7 +119,8 @@ fn plain_without_memory_says_so(rt: HostRuntime) -> Result<(), Fail> {
         sectors: 70,
         record: true,
     };
-    // disk, record, and the buffers of replies and of pieces; then the list of rows and a row's bytes
+    // disk, record, and the buffers of replies and of pieces; then the list of rows and a row's
+    // bytes
     let windows = [(0, 32_768, 7), (202_752, 32, 32), (262_144, 16, 1)];
     sweep(&rt, line, &READ, &windows, replied)
 }
@@ -184,7 +155,7 @@ fn a_format_without_memory_says_so(rt: HostRuntime) -> Result<(), Fail> {
     Ok(fs::remove_file(&rt, "short.img")?)
 }
 
-// With its lists made and its line told, serving finds no room for a thread's stack.
+/// With its lists made and its line told, serving finds no room for a thread's stack.
 #[test]
 fn serving_without_memory_says_so(rt: HostRuntime) -> Result<(), Fail> {
     make(&rt, 0, 0x4E)?;

@@ -1,11 +1,12 @@
 //! What a line asks, over any reader and writer.
 ghost use Rattle.std.specs.Prelude.{◌≡◌, ◌≢◌, ℕ, List, Some, false};
 ghost use Rattle.norbd.specs.Outcomes.{Ended, Means};
-ghost use Rattle.norbd.specs.Formatting.{Tells};
+ghost use Rattle.norbd.specs.Formatting.{FormatTells};
 ghost use Rattle.norbd.specs.Scripting.{Scripts};
 ghost use Rattle.norbd.specs.Listening.{TellsServing};
-ghost use Rattle.norbd.specs.Serving.{Serves, zeros};
-ghost use Rattle.norbd_line.specs.Line.{IfFormat, IfPlain, IfScript, IfServe, IsConns, IsPort, IsSize};
+ghost use Rattle.norbd.specs.Serving.{PlainServes, zero_sectors};
+ghost use Rattle.norbd_line.specs.Line.{IfFormat, IfPlain, IfScript, IfServe, IsConns, IsPort};
+ghost use Rattle.norbd_line.specs.Line.{IsSize};
 
 use crate::formatting::run_format;
 use crate::scripting::run_script;
@@ -29,21 +30,22 @@ const LEDGER_PARTS: u64 = 65_537;
 
 /// Does what a line asks.
 ///
-/// `plain`: answers the NBD requests that come from `reader`, transmission bytes alone, over a disk of zeros in memory,
-/// with replies to `writer`, each as soon as the last byte of its request has come. Ok at the end of the input, and where
-/// a request closes the connection (a wrong magic, or DISC).
+/// `plain`: answers the NBD requests that come from `reader`, transmission bytes alone, over a disk
+/// of zeros in memory, with replies to `writer`, each as soon as the last byte of its request has
+/// come. Ok at the end of the input, and where a request closes the connection (a wrong magic, or
+/// DISC).
 ///
-/// `NoMemory` where there is no memory for the disk, its record or the buffers, `InputFailed` where a read failed (or
-/// after 2^64 - 1 bytes), `OutputFailed` where a write failed.
+/// `NoMemory` where there is no memory for the disk, its record or the buffers, `InputFailed` where
+/// a read failed (or after 2^64 - 1 bytes), `OutputFailed` where a write failed.
 ///
-/// `script`: runs the script that comes from `reader` on a formatted chip in memory, with the transcript to `writer`; its
-/// faults are those of `run_script`.
+/// `script`: runs the script that comes from `reader` on a formatted chip in memory, with the
+/// transcript to `writer`; its faults are those of `run_script`.
 ///
-/// `format`: makes the file at the path a formatted chip, and writes a line about it to `writer`; its faults are those of
-/// `run_format`. Nothing is read.
+/// `format`: makes the file at the path a formatted chip, and writes a line about it to `writer`;
+/// its faults are those of `run_format`. Nothing is read.
 ///
-/// `serve`: serves the chip in the file at the path to clients on a port, with lines about it to `writer`; its faults are those
-/// of `run_serve`. Nothing is read. Source: own.
+/// `serve`: serves the chip in the file at the path to clients on a port, with lines about it to
+/// `writer`; its faults are those of `run_serve`. Nothing is read. Source: own.
 #[tactic(auto, using(crate::proofs::Sizes::size_of_chip))]
 pub fn run_line<R, S, K>(
     rt: &R,
@@ -65,19 +67,36 @@ where
     requires size { IfFormat line (λ _ kib. IsSize kib) }
     requires script_size { IfScript line (λ kib. IsSize kib) }
     requires serve_numbers { IfServe line (λ port conns _. IsPort port × IsConns conns) }
-    ensures ends { IfPlain line.entry (λ _ _. Ended result (S.remaining reader.old) (S.remaining reader.new) (S.faults reader.old)
+    ensures ends { IfPlain line.entry
+        (λ _ _. Ended result (S.remaining reader.old) (S.remaining reader.new) (S.faults reader.old)
         (S.faults reader.new) (K.faults writer.old) (K.faults writer.new)) }
-    ensures serves { IfPlain line.entry (λ sectors keeps. (input : List ℕ) → S.remaining reader.old ≡ Some input
-        → Serves keeps sectors input (K.written writer.old) (K.written writer.new) result) }
+    ensures serves { IfPlain line.entry
+        (λ sectors keeps. (input : List ℕ) → S.remaining reader.old ≡ Some input
+        → PlainServes keeps sectors input (K.written writer.old) (K.written writer.new) result) }
     ensures unread { IfFormat line.entry (λ _ _. reader.new ≡ reader.old) }
     ensures serve_unread { IfServe line.entry (λ _ _ _. reader.new ≡ reader.old) }
-    ensures tells_serving { IfServe line.entry (λ port conns keeps. TellsServing port conns keeps (K.written writer.old) (K.faults writer.old)
+    ensures tells_serving { IfServe line.entry
+        (λ port conns keeps. TellsServing port conns keeps (K.written writer.old)
+        (K.faults writer.old)
         result (K.written writer.new) (K.faults writer.new)) }
-    ensures tells { IfFormat line.entry (λ _ kib. Tells kib (K.written writer.old) (K.faults writer.old) result
+    ensures tells { IfFormat line.entry
+        (λ _ kib. FormatTells kib (K.written writer.old) (K.faults writer.old) result
         (K.written writer.new) (K.faults writer.new)) }
     ensures scripts { IfScript line.entry (λ kib. Scripts kib
-        (record { left = S.remaining reader.old; reads = S.faults reader.old; written = K.written writer.old; writes = K.faults writer.old }) result
-        (record { left = S.remaining reader.new; reads = S.faults reader.new; written = K.written writer.new; writes = K.faults writer.new })) }
+        (record {
+          left = S.remaining reader.old;
+          reads = S.faults reader.old;
+          written = K.written
+              writer.old;
+          writes = K.faults writer.old;
+        }) result
+        (record {
+          left = S.remaining reader.new;
+          reads = S.faults reader.new;
+          written = K.written
+              writer.new;
+          writes = K.faults writer.new;
+        })) }
 {
     match line {
         Line::Plain { sectors, record } => {
@@ -108,7 +127,8 @@ where
     }
 }
 
-// Serves one connection a disk of so many sectors of zeros, with a row of each command or without; `L` names the server.
+/// Serves one connection a disk of so many sectors of zeros, with a row of each command or without;
+/// `L` names the server.
 fn run_plain<L: OneServer, S: Source, K: Sink>(
     alloc: Global,
     blank: Blank,
@@ -120,10 +140,11 @@ fn run_plain<L: OneServer, S: Source, K: Sink>(
     requires name { blank.name ≡ L.name }
     requires parts { (blank.parts ≡ L.parts) × (blank.parts ≡ 65537) }
     requires sectors { sectors ≡ L.sectors }
-    ensures ends { Ended result (S.remaining reader.old) (S.remaining reader.new) (S.faults reader.old) (S.faults reader.new)
+    ensures ends { Ended result (S.remaining reader.old) (S.remaining reader.new)
+        (S.faults reader.old) (S.faults reader.new)
         (K.faults writer.old) (K.faults writer.new) }
     ensures serves { (input : List ℕ) → S.remaining reader.old ≡ Some input
-        → Serves «record» sectors input (K.written writer.old) (K.written writer.new) result }
+        → PlainServes «record» sectors input (K.written writer.old) (K.written writer.new) result }
 {
     let Ok(disk) = PlainDisk::new(alloc, sectors) else {
         return Err(Fault::NoMemory);
@@ -139,7 +160,7 @@ fn run_plain<L: OneServer, S: Source, K: Sink>(
     }
 }
 
-// Answers all requests over a server of a disk of zeros that gave no pass yet.
+/// Answers all requests over a server of a disk of zeros that gave no pass yet.
 fn answer_all<C: Recorder + Drop, L: OneServer, S: Source, K: Sink>(
     alloc: Global,
     server: Shared<PlainDisk, C, L>,
@@ -147,13 +168,14 @@ fn answer_all<C: Recorder + Drop, L: OneServer, S: Source, K: Sink>(
     reader: &mut S,
     writer: &mut K,
 ) -> Result<(), Fault>
-    requires zeros { server.disk.contents ≡ zeros sectors }
+    requires zero_sectors { server.disk.contents ≡ zero_sectors sectors }
     requires sectors { sectors ≡ L.sectors }
     requires fresh { (server.given ≡ 0) × (server.closed ≡ false) }
-    ensures ends { Ended result (S.remaining reader.old) (S.remaining reader.new) (S.faults reader.old) (S.faults reader.new)
+    ensures ends { Ended result (S.remaining reader.old) (S.remaining reader.new)
+        (S.faults reader.old) (S.faults reader.new)
         (K.faults writer.old) (K.faults writer.new) }
     ensures serves { (input : List ℕ) → S.remaining reader.old ≡ Some input
-        → Serves C.KEEPS sectors input (K.written writer.old) (K.written writer.new) result }
+        → PlainServes C.KEEPS sectors input (K.written writer.old) (K.written writer.new) result }
 {
     let mut server = server;
     let Some(pass) = server.pass() else {
@@ -163,7 +185,8 @@ fn answer_all<C: Recorder + Drop, L: OneServer, S: Source, K: Sink>(
     outcome(end)
 }
 
-// What the end of a connection to a disk in memory means for the program: such a disk loses no command to a power loss.
+/// What the end of a connection to a disk in memory means for the program: such a disk loses no
+/// command to a power loss.
 fn outcome(end: End) -> Result<(), Fault>
     requires { end ≢ End.Lost }
     ensures { Means end result }

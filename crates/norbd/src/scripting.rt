@@ -11,11 +11,12 @@ use norbd_line::Fault;
 use station::ScriptError;
 use std::alloc::Global;
 
-/// Formats a chip of so many KiB in memory, and runs on it the script that comes from `reader`, with the transcript to
-/// `writer`.
+/// Formats a chip of so many KiB in memory, and runs on it the script that comes from `reader`,
+/// with the transcript to `writer`.
 ///
-/// `BadRecord` where the script is none, `InputFailed` and `OutputFailed` where a read or a write failed, `NoMemory` where
-/// there is no memory for the chip or the station. A chip in memory gives none of the other faults.
+/// `BadRecord` where the script is none, `InputFailed` and `OutputFailed` where a read or a write
+/// failed, `NoMemory` where there is no memory for the chip or the station. A chip in memory gives
+/// none of the other faults.
 pub fn run_script<S: Source, K: Sink>(
     alloc: Global,
     kib: u32,
@@ -24,8 +25,20 @@ pub fn run_script<S: Source, K: Sink>(
 ) -> Result<(), Fault>
     requires { IsChipSize (1024 * kib) }
     ensures { Scripts kib
-        (record { left = S.remaining reader.old; reads = S.faults reader.old; written = K.written writer.old; writes = K.faults writer.old }) result
-        (record { left = S.remaining reader.new; reads = S.faults reader.new; written = K.written writer.new; writes = K.faults writer.new }) }
+        (record {
+          left = S.remaining reader.old;
+          reads = S.faults reader.old;
+          written = K.written
+              writer.old;
+          writes = K.faults writer.old;
+        }) result
+        (record {
+          left = S.remaining reader.new;
+          reads = S.faults reader.new;
+          written = K.written
+              writer.new;
+          writes = K.faults writer.new;
+        }) }
 {
     match run_simulated(alloc, kib, reader, writer) {
         Ok(()) => Ok(()),

@@ -1,4 +1,5 @@
-//! Runs of `serve` on image files, with clients in another thread that send bytes written out by hand from NBD proto.md.
+//! Runs of `serve` on image files, with clients in another thread that send bytes written out by
+//! hand from NBD proto.md.
 ghost use Rattle.norbd_line.specs.Line.{IsConns, IsPort};
 
 use crate::serving::{Asked, run_serve};
@@ -203,8 +204,8 @@ impl<R: Net<Listener = TcpListener, Stream = TcpStream>> Net for Wearing<'_, R> 
     }
 }
 
-/// What a client asks for, each a READ (0) or a WRITE (1) of a sector, and how many of these are answered. At one that isn't
-/// the connection ends.
+/// What a client asks for, each a READ (0) or a WRITE (1) of a sector, and how many of these are
+/// answered. At one that isn't the connection ends.
 #[derive(Clone, Copy)]
 struct Client<'a> {
     requests: &'a [(u8, u8)],
@@ -236,8 +237,8 @@ fn connect<H: Net<Stream = TcpStream> + Clock>(rt: &H, addr: SocketAddr) -> io::
     TcpStream::connect(rt, addr)
 }
 
-/// Sends a request, and reads its reply where it is to be answered, and else the end of the connection: whether that came.
-/// Each byte of a sector is 30h and its number.
+/// Sends a request, and reads its reply where it is to be answered, and else the end of the
+/// connection: whether that came. Each byte of a sector is 30h and its number.
 fn ask(stream: &mut TcpStream, kind: u8, sector: u8, is_answered: bool) -> io::Result<bool> {
     let bytes = [0x30u8.wrapping_add(sector); 512];
     stream.write_all(&request(kind, sector, 2))?;
@@ -414,7 +415,8 @@ fn serves_two_clients_and_counts_their_rows(rt: HostRuntime) -> Result<(), Fail>
     Ok(fs::remove_file(&rt, "served.img")?)
 }
 
-// The first WRITE of a sector makes four writes of the file: its descriptor, two pages, the commit.
+/// The first WRITE of a sector makes four writes of the file: its descriptor, two pages, the
+/// commit.
 #[test]
 fn a_failed_write_of_the_image_takes_all_later_commands(rt: HostRuntime) -> Result<(), Fail> {
     for good in 0..8u32 {

@@ -1,7 +1,9 @@
 //! `serve`: the chip in an image file, served to clients on a port of this machine.
 ghost use Rattle.std.specs.Prelude.{◌≡◌, ◌*◌, length, string_bytes, IfOk, IfErr, true, false};
 ghost use Rattle.std.specs.Thread.{IsSend};
-ghost use Rattle.norbd.specs.Listening.{IsRefusal, TellsServing, WritesText, ended_text, serving_text, told_of_file, told_of_mount, told_of_record, told_of_serving};
+ghost use Rattle.norbd.specs.Listening.{IsRefusal, TellsServing, WritesText, ended_text};
+ghost use Rattle.norbd.specs.Listening.{serving_text, told_of_file, told_of_mount, told_of_record};
+ghost use Rattle.norbd.specs.Listening.{told_of_serving};
 ghost use Rattle.norbd_line.specs.Line.{IsConns, IsPort};
 
 use crate::scripting::told_of_probe;
@@ -24,8 +26,8 @@ use std::time::Clock;
 /// The parts of a server's ledger: one for each of 65,536 passes, and one that stays.
 const LEDGER_PARTS: u64 = 65_537;
 
-/// What a line `serve` asks besides its image: the port of 127.0.0.1, from 1 to 65,535, how many connections, from 1 to 64,
-/// and whether a row of each command is kept.
+/// What a line `serve` asks besides its image: the port of 127.0.0.1, from 1 to 65,535, how many
+/// connections, from 1 to 64, and whether a row of each command is kept.
 #[derive(Clone, Copy)]
 pub struct Asked {
     pub port: u32,
@@ -33,16 +35,19 @@ pub struct Asked {
     pub record: bool,
 }
 
-/// Serves the chip in the file at a path to so many connections on a port of 127.0.0.1, and ends when all have ended.
+/// Serves the chip in the file at a path to so many connections on a port of 127.0.0.1, and ends
+/// when all have ended.
 ///
-/// Told to `writer`: a line before the first connection is accepted, one after the last has ended, and where rows are kept a
-/// third with their number.
+/// Told to `writer`: a line before the first connection is accepted, one after the last has ended,
+/// and where rows are kept a third with their number.
 ///
-/// Before it listens: `ImageFailed` where the file can't be opened, read or written, `BadImageSize` where no chip has so many
-/// bytes, the refusals of a mount, and `NoMemory` where there is no memory for the chip, the disk, its record or the lists.
-/// Then `NoSocket` where listening or accepting failed and `NoThread` where a thread can't be started: no more connections
-/// are accepted, and those that run are ended first. `ImageFailed` where a write of the file failed, once all have ended:
-/// the command in which it failed and all later ones get no reply. `OutputFailed` where a line could not be written.
+/// Before it listens: `ImageFailed` where the file can't be opened, read or written, `BadImageSize`
+/// where no chip has so many bytes, the refusals of a mount, and `NoMemory` where there is no
+/// memory for the chip, the disk, its record or the lists. Then `NoSocket` where listening or
+/// accepting failed and `NoThread` where a thread can't be started: no more connections are
+/// accepted, and those that run are ended first. `ImageFailed` where a write of the file failed,
+/// once all have ended: the command in which it failed and all later ones get no reply.
+/// `OutputFailed` where a line could not be written.
 pub fn run_serve<R, K>(rt: &R, image: &str, asked: Asked, writer: &mut K) -> Result<(), Fault>
 where
     R: Files
@@ -55,7 +60,8 @@ where
     R::File: FileExt + Send,
     K: Sink,
     requires { IsPort asked.port × IsConns asked.conns }
-    ensures { TellsServing asked.port asked.conns asked.record (K.written writer.old) (K.faults writer.old) result
+    ensures { TellsServing asked.port asked.conns asked.record (K.written writer.old)
+        (K.faults writer.old) result
         (K.written writer.new) (K.faults writer.new) }
 {
     let disk = open_disk(rt, image)?;
@@ -104,7 +110,8 @@ where
     requires name { blank.name ≡ L.name }
     requires parts { (blank.parts ≡ L.parts) × (blank.parts ≡ 65537) }
     requires numbers { IsPort asked.port × IsConns asked.conns }
-    ensures { TellsServing asked.port asked.conns asked.record (K.written writer.old) (K.faults writer.old) result
+    ensures { TellsServing asked.port asked.conns asked.record (K.written writer.old)
+        (K.faults writer.old) result
         (K.written writer.new) (K.faults writer.new) }
 {
     if !asked.record {
@@ -137,7 +144,8 @@ where
     C: Recorder + Send + Drop,
     K: Sink,
     requires numbers { IsPort asked.port × IsConns asked.conns }
-    ensures { TellsServing asked.port asked.conns C.KEEPS (K.written writer.old) (K.faults writer.old) result
+    ensures { TellsServing asked.port asked.conns C.KEEPS (K.written writer.old)
+        (K.faults writer.old) result
         (K.written writer.new) (K.faults writer.new) }
 {
     let alloc = rt.alloc();
@@ -169,7 +177,8 @@ where
 
 /// Writes a text.
 fn tell<K: Sink>(writer: &mut K, text: Result<String, AllocError>) -> Result<(), Fault>
-    ensures { WritesText text (K.written writer.old) (K.faults writer.old) result (K.written writer.new) (K.faults writer.new) }
+    ensures { WritesText text (K.written writer.old) (K.faults writer.old) result
+        (K.written writer.new) (K.faults writer.new) }
 {
     let Ok(text) = text else {
         return Err(Fault::NoMemory);

@@ -1,6 +1,7 @@
-//! Runs of `plain` over bytes written out by hand from NBD proto.md and the table of errors: 22 (16h) for a bad request
-//! and a READ past the end, 28 (1Ch) for a WRITE past the end. Runs of `script` over records written out by hand from
-//! docs/SCRIPT.md; which change of a chip a loss falls on is counted by docs/DISK.md. Runs of `format`.
+//! Runs of `plain` over bytes written out by hand from NBD proto.md and the table of errors: 22
+//! (16h) for a bad request and a READ past the end, 28 (1Ch) for a WRITE past the end. Runs of
+//! `script` over records written out by hand from docs/SCRIPT.md; which change of a chip a loss
+//! falls on is counted by docs/DISK.md. Runs of `format`.
 ghost use Rattle.std.specs.Prelude.{◌≡◌, ◌<◌};
 ghost use Rattle.norbd_line.specs.Line.{IfFormat, IfScript, IfServe, IsConns, IsPort, IsSize};
 
@@ -21,8 +22,8 @@ use std::thread::Threads;
 use std::time::Clock;
 use std::{fs, io};
 
-/// A stream that gives its bytes in pieces: at most `most` bytes in the next call, and at most `later` in each one after
-/// it. So many calls are good; then each fails.
+/// A stream that gives its bytes in pieces: at most `most` bytes in the next call, and at most
+/// `later` in each one after it. So many calls are good; then each fails.
 #[derive(Drop)]
 struct Pieces<'a> {
     rest: &'a [u8],
@@ -54,7 +55,8 @@ struct Streams {
     room: usize,
 }
 
-/// All bytes come, the first `first` of them in one piece and then at most `later` in each, and the room is ample.
+/// All bytes come, the first `first` of them in one piece and then at most `later` in each, and the
+/// room is ample.
 fn cut(first: usize, later: usize) -> Streams {
     Streams {
         first,
@@ -156,7 +158,8 @@ where
     Ok(())
 }
 
-/// The bytes that a text spells: words of hexadecimal digits, and `BYTE*COUNT` for a byte so many times.
+/// The bytes that a text spells: words of hexadecimal digits, and `BYTE*COUNT` for a byte so many
+/// times.
 fn bytes_of(alloc: Global, text: &str) -> Result<Vec<u8>, Fail> {
     let mut bytes = Vec::new(alloc);
     for word in text.split(' ') {
@@ -294,7 +297,7 @@ fn flushes(alloc: Global, count: u64) -> Result<(Vec<u8>, Vec<u8>), Fail> {
     Ok((input, output))
 }
 
-// The largest disk, and a row of each of thousands of commands.
+/// The largest disk, and a row of each of thousands of commands.
 #[test]
 fn answers_thousands_of_requests_in_order(rt: HostRuntime) -> Result<(), Fail> {
     let alloc = rt.alloc();
@@ -409,7 +412,8 @@ const WRITTEN: &str = "00 44 00000010 67446698 00000000 0000000000000001 00 41 0
 const READ: &str = "50 00 0000001C 25609513 0000 0000 0000000000000002 0000000000000000 00000200";
 
 const DATA: &str = "00 44 00000210 67446698 00000000 0000000000000002";
-/// The power goes inside the fourth change from now, the commit of a first write; its bits stay old, or are new.
+/// The power goes inside the fourth change from now, the commit of a first write; its bits stay
+/// old, or are new.
 const CUT_OLD: &str = "43 FF 00000006 00000004 01 00";
 
 const CUT_NEW: &str = "43 FF 00000006 00000004 01 FF";
@@ -494,7 +498,8 @@ fn runs_scripts(rt: HostRuntime) -> Result<(), Fail> {
             &[STARTED, LOST, RESTORED, STARTED, DATA, "11*512", DONE],
             "",
         ),
-        // the power goes in the first change for the second sector of a WRITE of 33h to sectors 6 and 7
+        // the power goes in the first change for the second sector of a WRITE of 33h to sectors 6
+        // and 7
         (
             &[
                 START,
@@ -513,7 +518,8 @@ fn runs_scripts(rt: HostRuntime) -> Result<(), Fail> {
             ],
             "",
         ),
-        // the power goes inside the erase of a Tidy, which leaves its block full of FCh, and then in the first frame of a Restore
+        // the power goes inside the erase of a Tidy, which leaves its block full of FCh, and then
+        // in the first frame of a Restore
         (
             &[
                 START,
@@ -538,8 +544,8 @@ fn runs_scripts(rt: HostRuntime) -> Result<(), Fail> {
             ],
             "",
         ),
-        // no such event, no such connection, a piece that is too long, bytes where there are none, a Tidy of a connection, no
-        // such kind of arming, and ends inside a head and inside a piece
+        // no such event, no such connection, a piece that is too long, bytes where there are none,
+        // a Tidy of a connection, no such kind of arming, and ends inside a head and inside a piece
         (&[START, "58 00 00000000"], &[STARTED], "bad record"),
         (&[START, "4F 08 00000000"], &[STARTED], "bad record"),
         (

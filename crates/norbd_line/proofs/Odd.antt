@@ -3,7 +3,7 @@ use Rattle.std.proofs.Common.{◌≡◌, ◌⊎◌, ◌∙◌, ◌%◌, ℕ, Lis
 use Rattle.std.specs.Prelude.{IsErrAnd, option_map, slice_get, unwrap_or}
 use Rattle.clap.specs.Words.{IsAmong, Row, Text, kind_of}
 use Rattle.norbd_line.specs.Fault.{ComesFromWords}
-use Rattle.norbd_line.specs.Line.{HasOddSize, InRange, IsLineOf, IsOddSize, IsSize, Names, TakesSize, number_in}
+use Rattle.norbd_line.specs.Line.{HasOddSize, IsLineInRange, IsLineOf, IsOddSize, IsSize, Names, TakesSize, number_in}
 use Rattle.norbd_line.specs.declared.fault.Fault.{Fault}
 use Rattle.norbd_line.specs.declared.fault.Fault.TheVariants.{Words, NoMemory, BadSize, InputFailed, OutputFailed, ImageFailed, WrongId, BadSfdp, Protected, Slow, BadRecord, NotFormatted, Corrupt, BadImageSize, NoSocket, NoThread}
 use Rattle.norbd_line.specs.declared.line.Line.{Line}
@@ -40,7 +40,7 @@ size≢odd k m e size odd =
     let same : k ≡ m = ap (λ (o : Option ℕ). unwrap_or o 0) e in
     odd.2 (ap (λ n. n % 64) (sym same) ∙ size.2)
 
-pub odd_is_refused : (words : List Text) (r : Result Line Fault) → IfOk r InRange → IfOk r (IsLineOf words) → IfErr r (ComesFromWords words)
+pub odd_is_refused : (words : List Text) (r : Result Line Fault) → IfOk r IsLineInRange → IfOk r (IsLineOf words) → IfErr r (ComesFromWords words)
     → HasOddSize words → IsErrAnd r (λ e. (e ≡ BadSize) ⊎ (e ≡ NoMemory))
 odd_is_refused words (Ok (Plain sectors keeps_rows)) range line fault odd =
     let name = same_name words line.0 odd.0 line.1 odd.1 line.2 odd.2 in

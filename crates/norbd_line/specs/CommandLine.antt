@@ -42,7 +42,8 @@ image_rule = record (new_rule (codes "IMAGE")) { action = Some Set; required = t
 
 -- `plain --sectors S [--no-record]`
 abbrev pub plain_app : App
-plain_app = with_rule (with_rule (new_app (codes "plain")) sectors_rule) (flag_rule (codes "no-record"))
+plain_app = with_rule (with_rule (new_app (codes "plain")) sectors_rule)
+    (flag_rule (codes "no-record"))
 
 -- `format IMAGE --kib K`
 abbrev pub format_app : App
@@ -54,7 +55,8 @@ script_app = with_rule (new_app (codes "script")) kib_rule
 
 -- `serve IMAGE --port P --conns C [--record]`
 abbrev pub serve_app : App
-serve_app = with_rule (with_rule (with_rule (with_rule (new_app (codes "serve")) image_rule) port_rule) conns_rule) (flag_rule (codes "record"))
+serve_app = with_rule (with_rule (with_rule (with_rule (new_app (codes "serve")) image_rule)
+    port_rule) conns_rule) (flag_rule (codes "record"))
 
 -- `norbd` has a version and requires a command
 abbrev pub norbd_alone : App
@@ -64,7 +66,9 @@ norbd_alone = record (new_app (codes "norbd")) {
 
 -- the whole command line
 abbrev pub norbd_app : App
-norbd_app = with_subcommand (with_subcommand (with_subcommand (with_subcommand norbd_alone plain_app.top) format_app.top) script_app.top) serve_app.top
+norbd_app = with_subcommand (with_subcommand
+    (with_subcommand (with_subcommand norbd_alone plain_app.top) format_app.top) script_app.top)
+    serve_app.top
 
 -- the words as texts
 abbrev pub texts_of : {Z : Type 0} → List (String Z) → List Text

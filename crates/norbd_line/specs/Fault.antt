@@ -3,9 +3,14 @@ use Rattle.clap.specs.Words.{IsAmong, Row, Text, fault_of, kind_of}
 use Rattle.norbd_line.specs.CommandLine.{norbd_app}
 use Rattle.norbd_line.specs.Line.{HasOddSize, HasOddSizeIn}
 use Rattle.clap.specs.declared.error.kind.ErrorKind.{ErrorKind}
-use Rattle.clap.specs.declared.error.kind.ErrorKind.TheVariants.{DisplayHelp, DisplayVersion, OutOfMemory}
+use Rattle.clap.specs.declared.error.kind.ErrorKind.TheVariants.{DisplayHelp, DisplayVersion}
+use Rattle.clap.specs.declared.error.kind.ErrorKind.TheVariants.{OutOfMemory}
 use Rattle.norbd_line.specs.declared.fault.Fault.{Fault}
-use Rattle.norbd_line.specs.declared.fault.Fault.TheVariants.{Words, NoMemory, BadSize, InputFailed, OutputFailed, ImageFailed, WrongId, BadSfdp, Protected, Slow, BadRecord, NotFormatted, Corrupt, BadImageSize, NoSocket, NoThread}
+use Rattle.norbd_line.specs.declared.fault.Fault.TheVariants.{Words, NoMemory, BadSize, InputFailed}
+use Rattle.norbd_line.specs.declared.fault.Fault.TheVariants.{OutputFailed, ImageFailed, WrongId}
+use Rattle.norbd_line.specs.declared.fault.Fault.TheVariants.{BadSfdp, Protected, Slow, BadRecord}
+use Rattle.norbd_line.specs.declared.fault.Fault.TheVariants.{NotFormatted, Corrupt, BadImageSize}
+use Rattle.norbd_line.specs.declared.fault.Fault.TheVariants.{NoSocket, NoThread}
 
 -- the words asked for help or for the version, so they are no mistake
 abbrev pub AsksForText : ErrorKind → Type 0
@@ -31,7 +36,8 @@ HasStatus BadImageSize status = status ≡ 1
 HasStatus NoSocket status = status ≡ 1
 HasStatus NoThread status = status ≡ 1
 
--- a fault that comes of what was matched of the words of a command: a number that is no size, or want of memory
+-- a fault that comes of what was matched of the words of a command: a number that is no size, or
+-- want of memory
 abbrev pub ComesFromMatches : Text → List Row → Fault → Type 0
 ComesFromMatches name rows (Words error) = ⊥
 ComesFromMatches name rows BadSize = HasOddSizeIn name rows
@@ -50,10 +56,11 @@ ComesFromMatches name rows BadImageSize = ⊥
 ComesFromMatches name rows NoSocket = ⊥
 ComesFromMatches name rows NoThread = ⊥
 
--- a fault that reading these words may answer: one of those that they have, which isn't want of memory, a number that is no
--- size, or want of memory
+-- a fault that reading these words may answer: one of those that they have, which isn't want of
+-- memory, a number that is no size, or want of memory
 abbrev pub ComesFromWords : List Text → Fault → Type 0
-ComesFromWords words (Words error) = (kind_of error ≢ OutOfMemory) × IsAmong (kind_of error) (fault_of norbd_app words)
+ComesFromWords words (Words error) =
+    (kind_of error ≢ OutOfMemory) × IsAmong (kind_of error) (fault_of norbd_app words)
 ComesFromWords words BadSize = HasOddSize words
 ComesFromWords words NoMemory = Unit {0}
 ComesFromWords words InputFailed = ⊥

@@ -1,4 +1,5 @@
-use Rattle.std.specs.Prelude.{ℕ, Bool, true, false, not, List, [], Option, Some, codes, option_map, ◌≡◌, ◌≢◌, ◌%◌, ◌≤◌, ◌⊎◌}
+use Rattle.std.specs.Prelude.{ℕ, Bool, true, false, not, List, [], Option, Some, codes, option_map}
+use Rattle.std.specs.Prelude.{◌≡◌, ◌≢◌, ◌%◌, ◌≤◌, ◌⊎◌}
 use Rattle.std.specs.Str.Parse.{digits_value, without_leading_plus}
 use Rattle.clap.specs.Words.{Row, Text, fault_of, first_of, one_of, subcommand_of}
 use Rattle.norbd_line.specs.CommandLine.{norbd_app}
@@ -20,13 +21,13 @@ IsPort port = (1 ≤ port) × (port ≤ 65535)
 abbrev pub IsConns : ℕ → Type 0
 IsConns conns = (1 ≤ conns) × (conns ≤ 64)
 
--- the numbers of a line are in their ranges: a plain disk has from 1 to 65,536 sectors, and a chip, in a file or in memory, a size
--- of chips
-abbrev pub InRange : Line → Type 0
-InRange (Plain sectors keeps_rows) = (1 ≤ sectors) × (sectors ≤ 65536)
-InRange (Format image kib) = IsSize kib
-InRange (Script kib) = IsSize kib
-InRange (Serve image port conns keeps_rows) = IsPort port × IsConns conns
+-- the numbers of a line are in their ranges: a plain disk has from 1 to 65,536 sectors, and a chip,
+-- in a file or in memory, a size of chips
+abbrev pub IsLineInRange : Line → Type 0
+IsLineInRange (Plain sectors keeps_rows) = (1 ≤ sectors) × (sectors ≤ 65536)
+IsLineInRange (Format image kib) = IsSize kib
+IsLineInRange (Script kib) = IsSize kib
+IsLineInRange (Serve image port conns keeps_rows) = IsPort port × IsConns conns
 
 -- a fact of the number of a line `plain`, and of whether it keeps rows
 abbrev pub IfPlain : Line → (ℕ → Bool → Type 0) → Type 0
@@ -71,12 +72,16 @@ IsSet name rows false = first_of name rows ≢ Some (codes "true")
 
 -- the line is that of the command of this name, with the numbers and the text of these matches
 abbrev pub IsLineIn : Text → List Row → Line → Type 0
-IsLineIn name rows (Plain sectors keeps_rows) = (name ≡ codes "plain") × (number_in (codes "sectors") rows ≡ Some sectors)
+IsLineIn name rows (Plain sectors keeps_rows) =
+    (name ≡ codes "plain") × (number_in (codes "sectors") rows ≡ Some sectors)
     × IsSet (codes "no-record") rows (not keeps_rows)
-IsLineIn name rows (Format image kib) = (name ≡ codes "format") × (first_of (codes "IMAGE") rows ≡ Some image.now)
+IsLineIn name rows (Format image kib) =
+    (name ≡ codes "format") × (first_of (codes "IMAGE") rows ≡ Some image.now)
     × (number_in (codes "kib") rows ≡ Some kib)
-IsLineIn name rows (Script kib) = (name ≡ codes "script") × (number_in (codes "kib") rows ≡ Some kib)
-IsLineIn name rows (Serve image port conns keeps_rows) = (name ≡ codes "serve") × (first_of (codes "IMAGE") rows ≡ Some image.now)
+IsLineIn name rows (Script kib) =
+    (name ≡ codes "script") × (number_in (codes "kib") rows ≡ Some kib)
+IsLineIn name rows (Serve image port conns keeps_rows) =
+    (name ≡ codes "serve") × (first_of (codes "IMAGE") rows ≡ Some image.now)
     × (number_in (codes "port") rows ≡ Some port) × (number_in (codes "conns") rows ≡ Some conns)
     × IsSet (codes "record") rows keeps_rows
 
@@ -84,9 +89,11 @@ IsLineIn name rows (Serve image port conns keeps_rows) = (name ≡ codes "serve"
 abbrev pub TakesSize : Text → Type 0
 TakesSize name = (name ≡ codes "format") ⊎ (name ≡ codes "script")
 
--- the matches are those of a command that takes a size, whose number is in the range of the sizes, and no size
+-- the matches are those of a command that takes a size, whose number is in the range of the sizes,
+-- and no size
 abbrev pub HasOddSizeIn : Text → List Row → Type 0
-HasOddSizeIn name rows = TakesSize name × ((kib : ℕ) × (number_in (codes "kib") rows ≡ Some kib) × IsOddSize kib)
+HasOddSizeIn name rows = TakesSize name
+    × ((kib : ℕ) × (number_in (codes "kib") rows ≡ Some kib) × IsOddSize kib)
 
 -- the words are without fault, and name this command, of whose words these matches were made
 pub record Names (words : List Text) (name : Text) (rows : List Row) : Type 0 where
@@ -95,8 +102,10 @@ pub record Names (words : List Text) (name : Text) (rows : List Row) : Type 0 wh
 
 -- the line is what the words say
 abbrev pub IsLineOf : List Text → Line → Type 0
-IsLineOf words line = (name : Text) × (rows : List Row) × Names words name rows × IsLineIn name rows line
+IsLineOf words line = (name : Text) × (rows : List Row) × Names words name rows
+    × IsLineIn name rows line
 
 -- the words say `format` or `script`, with a number that is in the range of the sizes, and no size
 abbrev pub HasOddSize : List Text → Type 0
-HasOddSize words = (name : Text) × (rows : List Row) × Names words name rows × HasOddSizeIn name rows
+HasOddSize words = (name : Text) × (rows : List Row) × Names words name rows
+    × HasOddSizeIn name rows

@@ -3,8 +3,8 @@ ghost use Rattle.norbd_line.specs.Fault.{HasStatus};
 
 use thiserror::Error;
 
-/// Why the program ends without having done its line. The text is the `Display`; of the variants but `Words` it is shown
-/// after `norbd: `.
+/// Why the program ends without having done its line. The text is the `Display`; of the variants
+/// but `Words` it is shown after `norbd: `.
 #[derive(Debug, Drop, Error)]
 pub enum Fault {
     /// The words are no line of the program, or ask for help or the version: `clap`'s text.
@@ -58,7 +58,8 @@ pub enum Fault {
 }
 
 impl Fault {
-    /// The exit status: 2 for a bad line, 0 for help and the version, which were asked for, and 1 for each other fault.
+    /// The exit status: 2 for a bad line, 0 for help and the version, which were asked for, and 1
+    /// for each other fault.
     pub fn status(&self) -> u8
         ensures { HasStatus self.now result }
     {

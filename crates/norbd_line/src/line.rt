@@ -1,11 +1,16 @@
 //! The line: what the program is asked to do.
-ghost use Rattle.std.specs.Prelude.{◌≡◌, ◌≢◌, ◌≤◌, ◌%◌, ◌⊎◌, IfErr, IfOk, IfSome, IsErrAnd, Some, codes, false, option_map};
-ghost use Rattle.clap.specs.Words.{FailsBy, Text, app_of, fault_of, found_of, kind_of, one_text, rows_of, rule_of};
+ghost use Rattle.std.specs.Prelude.{◌≡◌, ◌≢◌, ◌≤◌, ◌%◌, ◌⊎◌, IfErr, IfOk, IfSome, IsErrAnd, Some};
+ghost use Rattle.std.specs.Prelude.{codes, false, option_map};
+ghost use Rattle.clap.specs.Words.{FailsBy, Text, app_of, fault_of, found_of, kind_of, one_text};
+ghost use Rattle.clap.specs.Words.{rows_of, rule_of};
 ghost use Rattle.clap.specs.Words.{subcommand_of, subcommand_rows_of, with_subcommand};
-ghost use Rattle.norbd_line.specs.CommandLine.{conns_rule, flag_rule, image_rule, kib_rule, norbd_app, port_rule, sectors_rule};
-ghost use Rattle.norbd_line.specs.CommandLine.{format_app, plain_app, script_app, serve_app, texts_of};
+ghost use Rattle.norbd_line.specs.CommandLine.{conns_rule, flag_rule, image_rule, kib_rule};
+ghost use Rattle.norbd_line.specs.CommandLine.{norbd_app, port_rule, sectors_rule};
+ghost use Rattle.norbd_line.specs.CommandLine.{format_app, plain_app, script_app, serve_app};
+ghost use Rattle.norbd_line.specs.CommandLine.{texts_of};
 ghost use Rattle.norbd_line.specs.Fault.{ComesFromMatches, ComesFromWords};
-ghost use Rattle.norbd_line.specs.Line.{HasOddSize, InRange, IsLineIn, IsLineOf, IsSet, IsSize, TakesSize, number_in, number_of};
+ghost use Rattle.norbd_line.specs.Line.{HasOddSize, IsLineInRange, IsLineIn, IsLineOf, IsSet};
+ghost use Rattle.norbd_line.specs.Line.{IsSize, TakesSize, number_in, number_of};
 
 use crate::Fault;
 use clap::error::ErrorKind;
@@ -15,25 +20,28 @@ use std::alloc::Global;
 /// What the program is asked to do. The text of a path is borrowed from the words.
 #[derive(Debug, Clone, Copy, PartialEq, Eq)]
 pub enum Line<'a> {
-    /// `plain --sectors S [--no-record]`: serve one client, from standard input to standard output, a disk of `sectors`
-    /// sectors of 512 bytes in memory, from 1 to 65,536 of them, all zeros at first; `record` unless `--no-record` is set.
+    /// `plain --sectors S [--no-record]`: serve one client, from standard input to standard output,
+    /// a disk of `sectors` sectors of 512 bytes in memory, from 1 to 65,536 of them, all zeros at
+    /// first; `record` unless `--no-record` is set.
     Plain {
         sectors: u32,
         record: bool,
     },
-    /// `format IMAGE --kib K`: make the file at the path `image` a formatted chip of `kib` KiB, a multiple of 64 from 64 to
-    /// 16,384.
+    /// `format IMAGE --kib K`: make the file at the path `image` a formatted chip of `kib` KiB, a
+    /// multiple of 64 from 64 to 16,384.
     Format {
         image: &'a str,
         kib: u32,
     },
-    /// `script --kib K`: run a script of events, from standard input, on a formatted chip in memory of `kib` KiB, a multiple
-    /// of 64 from 64 to 16,384, and tell what came of them on standard output.
+    /// `script --kib K`: run a script of events, from standard input, on a formatted chip in memory
+    /// of `kib` KiB, a multiple of 64 from 64 to 16,384, and tell what came of them on standard
+    /// output.
     Script {
         kib: u32,
     },
-    /// `serve IMAGE --port P --conns C [--record]`: serve the chip in the file at the path `image` to `conns` clients, from 1
-    /// to 64, on the port `port` of 127.0.0.1, from 1 to 65,535, and keep a row of each command where `record` is set.
+    /// `serve IMAGE --port P --conns C [--record]`: serve the chip in the file at the path `image`
+    /// to `conns` clients, from 1 to 64, on the port `port` of 127.0.0.1, from 1 to 65,535, and
+    /// keep a row of each command where `record` is set.
     Serve {
         image: &'a str,
         port: u32,
@@ -166,7 +174,8 @@ fn with_plain<'a>(alloc: Global, norbd: Command<'a>) -> Result<Command<'a>, clap
 
 /// A command line with `format` and its arguments.
 fn with_format<'a>(alloc: Global, norbd: Command<'a>) -> Result<Command<'a>, clap::Error>
-    ensures app { IfOk result (λ c. app_of c ≡ with_subcommand (app_of norbd.entry) format_app.top) }
+    ensures app { IfOk result (λ c. app_of c
+        ≡ with_subcommand (app_of norbd.entry) format_app.top) }
     ensures memory { IfErr result (λ e. kind_of e ≡ ErrorKind.OutOfMemory) }
 {
     let format = Command::new(alloc, "format")
@@ -181,7 +190,8 @@ fn with_format<'a>(alloc: Global, norbd: Command<'a>) -> Result<Command<'a>, cla
 
 /// A command line with `script` and its arguments.
 fn with_script<'a>(alloc: Global, norbd: Command<'a>) -> Result<Command<'a>, clap::Error>
-    ensures app { IfOk result (λ c. app_of c ≡ with_subcommand (app_of norbd.entry) script_app.top) }
+    ensures app { IfOk result (λ c. app_of c
+        ≡ with_subcommand (app_of norbd.entry) script_app.top) }
     ensures memory { IfErr result (λ e. kind_of e ≡ ErrorKind.OutOfMemory) }
 {
     let script = Command::new(alloc, "script")
@@ -223,7 +233,8 @@ fn whole_command<'a>(alloc: Global) -> Result<Command<'a>, clap::Error>
 
 /// What the command line makes of the words.
 fn parse<'a>(alloc: Global, words: &'a [String]) -> Result<ArgMatches<'a>, clap::Error>
-    ensures matches { IfOk result (λ m. subcommand_rows_of m ≡ subcommand_of norbd_app (texts_of words.now)) }
+    ensures matches { IfOk result (λ m. subcommand_rows_of m
+        ≡ subcommand_of norbd_app (texts_of words.now)) }
     ensures kinds { FailsBy (fault_of norbd_app (texts_of words.now)) result }
 {
     whole_command(alloc)?.try_get_matches_from(words)
@@ -244,7 +255,8 @@ fn fault_from(error: clap::Error) -> Fault
 /// A number of the line, if it is there and from `least` to `most`.
 fn number(matches: &ArgMatches<'_>, id: &str, least: u32, most: u32) -> Option<u32>
     ensures range { IfSome result (λ n. (least ≤ n) × (n ≤ most)) }
-    ensures text { IfSome result (λ n. option_map number_of (one_text (found_of matches.now) id.now) ≡ Some n) }
+    ensures text { IfSome result (λ n. option_map number_of (one_text (found_of matches.now) id.now)
+        ≡ Some n) }
 {
     match matches.get_one::<u32>(id) {
         Some(n) => if least <= n && n <= most {
@@ -269,10 +281,10 @@ fn flag(matches: &ArgMatches<'_>, id: &str) -> bool
     false
 }
 
-/// The line of `plain`. The parse refuses words without a number in its range, so the arm `None` isn't reached; it needs
-/// some fault, and answers `NoMemory`.
+/// The line of `plain`. The parse refuses words without a number in its range, so the arm `None`
+/// isn't reached; it needs some fault, and answers `NoMemory`.
 fn plain_line<'a>(matches: &ArgMatches<'a>) -> Result<Line<'a>, Fault>
-    ensures range { IfOk result InRange }
+    ensures range { IfOk result IsLineInRange }
     ensures line { IfOk result (IsLineIn (codes "plain") (rows_of (found_of matches.now))) }
     ensures fault { IfErr result (λ e. e ≡ Fault.NoMemory) }
 {
@@ -285,12 +297,15 @@ fn plain_line<'a>(matches: &ArgMatches<'a>) -> Result<Line<'a>, Fault>
     }
 }
 
-/// The number after `--kib`: the size of a chip in KiB, a multiple of 64 from 64 to 16,384. `BadSize` where it is in this range
-/// and no multiple of 64. The parse refuses words without a number in the range, so the arm for them answers `NoMemory`.
+/// The number after `--kib`: the size of a chip in KiB, a multiple of 64 from 64 to 16,384.
+/// `BadSize` where it is in this range and no multiple of 64. The parse refuses words without a
+/// number in the range, so the arm for them answers `NoMemory`.
 fn chip_size(matches: &ArgMatches<'_>) -> Result<u32, Fault>
     ensures size { IfOk result IsSize }
-    ensures number { IfOk result (λ kib. number_in (codes "kib") (rows_of (found_of matches.now)) ≡ Some kib) }
-    ensures fault { (name : Text) → TakesSize name → IfErr result (ComesFromMatches name (rows_of (found_of matches.now))) }
+    ensures number { IfOk result (λ kib. number_in (codes "kib") (rows_of (found_of matches.now))
+        ≡ Some kib) }
+    ensures fault { (name : Text) → TakesSize name
+        → IfErr result (ComesFromMatches name (rows_of (found_of matches.now))) }
 {
     let Some(kib) = number(matches, "kib", LEAST_KIB, MOST_KIB) else {
         return Err(Fault::NoMemory);
@@ -301,12 +316,13 @@ fn chip_size(matches: &ArgMatches<'_>) -> Result<u32, Fault>
     Ok(kib)
 }
 
-/// The line of `format`; its faults are those of `chip_size`. The parse refuses words without a path, so the arm for them
-/// answers `NoMemory`.
+/// The line of `format`; its faults are those of `chip_size`. The parse refuses words without a
+/// path, so the arm for them answers `NoMemory`.
 fn format_line<'a>(matches: &ArgMatches<'a>) -> Result<Line<'a>, Fault>
-    ensures range { IfOk result InRange }
+    ensures range { IfOk result IsLineInRange }
     ensures line { IfOk result (IsLineIn (codes "format") (rows_of (found_of matches.now))) }
-    ensures fault { IfErr result (ComesFromMatches (codes "format") (rows_of (found_of matches.now))) }
+    ensures fault { IfErr result (ComesFromMatches (codes "format")
+        (rows_of (found_of matches.now))) }
 {
     let kib = chip_size(matches)?;
     match matches.get_str("IMAGE") {
@@ -317,19 +333,20 @@ fn format_line<'a>(matches: &ArgMatches<'a>) -> Result<Line<'a>, Fault>
 
 /// The line of `script`; its faults are those of `chip_size`.
 fn script_line<'a>(matches: &ArgMatches<'a>) -> Result<Line<'a>, Fault>
-    ensures range { IfOk result InRange }
+    ensures range { IfOk result IsLineInRange }
     ensures line { IfOk result (IsLineIn (codes "script") (rows_of (found_of matches.now))) }
-    ensures fault { IfErr result (ComesFromMatches (codes "script") (rows_of (found_of matches.now))) }
+    ensures fault { IfErr result (ComesFromMatches (codes "script")
+        (rows_of (found_of matches.now))) }
 {
     Ok(Line::Script {
         kib: chip_size(matches)?,
     })
 }
 
-/// The line of `serve`. The parse refuses words without a path or a number in its range, so the arms for them answer
-/// `NoMemory`.
+/// The line of `serve`. The parse refuses words without a path or a number in its range, so the
+/// arms for them answer `NoMemory`.
 fn serve_line<'a>(matches: &ArgMatches<'a>) -> Result<Line<'a>, Fault>
-    ensures range { IfOk result InRange }
+    ensures range { IfOk result IsLineInRange }
     ensures line { IfOk result (IsLineIn (codes "serve") (rows_of (found_of matches.now))) }
     ensures fault { IfErr result (λ e. e ≡ Fault.NoMemory) }
 {
@@ -350,9 +367,10 @@ fn serve_line<'a>(matches: &ArgMatches<'a>) -> Result<Line<'a>, Fault>
     })
 }
 
-/// The line of the command of this name. The parse refuses every other name, so the last arm isn't reached.
+/// The line of the command of this name. The parse refuses every other name, so the last arm isn't
+/// reached.
 fn line_of<'a>(name: &str, matches: &ArgMatches<'a>) -> Result<Line<'a>, Fault>
-    ensures range { IfOk result InRange }
+    ensures range { IfOk result IsLineInRange }
     ensures line { IfOk result (IsLineIn name.now (rows_of (found_of matches.now))) }
     ensures fault { IfErr result (ComesFromMatches name.now (rows_of (found_of matches.now))) }
 {
@@ -371,7 +389,7 @@ fn line_of<'a>(name: &str, matches: &ArgMatches<'a>) -> Result<Line<'a>, Fault>
 
 /// What the words make: a line, or a fault that has its cause.
 fn line_or_fault<'a>(alloc: Global, words: &'a [String]) -> Result<Line<'a>, Fault>
-    ensures range { IfOk result InRange }
+    ensures range { IfOk result IsLineInRange }
     ensures line { IfOk result (IsLineOf (texts_of words.now)) }
     ensures fault { IfErr result (ComesFromWords (texts_of words.now)) }
 {
@@ -387,14 +405,16 @@ fn line_or_fault<'a>(alloc: Global, words: &'a [String]) -> Result<Line<'a>, Fau
 
 /// Reads the program's words, of which the first is its name.
 ///
-/// `Words` where they are no line of the program or ask for help or the version, `BadSize` where the number after `--kib` is
-/// from 64 to 16,384 and no multiple of 64, `NoMemory` where memory ran out. The parse refuses words without a command, a
-/// path or a number in its range, so what comes then isn't reached; it needs some fault, and answers `NoMemory`.
+/// `Words` where they are no line of the program or ask for help or the version, `BadSize` where
+/// the number after `--kib` is from 64 to 16,384 and no multiple of 64, `NoMemory` where memory ran
+/// out. The parse refuses words without a command, a path or a number in its range, so what comes
+/// then isn't reached; it needs some fault, and answers `NoMemory`.
 pub fn read_line<'a>(alloc: Global, words: &'a [String]) -> Result<Line<'a>, Fault>
-    ensures range { IfOk result InRange }
+    ensures range { IfOk result IsLineInRange }
     ensures line { IfOk result (IsLineOf (texts_of words.now)) }
     ensures fault { IfErr result (ComesFromWords (texts_of words.now)) }
-    ensures odd { HasOddSize (texts_of words.now) → IsErrAnd result (λ e. (e ≡ Fault.BadSize) ⊎ (e ≡ Fault.NoMemory)) }
+    ensures odd { HasOddSize (texts_of words.now)
+        → IsErrAnd result (λ e. (e ≡ Fault.BadSize) ⊎ (e ≡ Fault.NoMemory)) }
 {
     line_or_fault(alloc, words)
 }

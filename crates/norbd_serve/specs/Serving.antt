@@ -1,7 +1,8 @@
 -- What came of the connections that were served. Source: own.
 use Rattle.std.specs.Prelude.{◌≡◌, ℕ, List, [], ◌∷◌, Bool, true, false, if◌then◌else◌, vec_len}
 use Rattle.share.specs.declared.connection.End.{End}
-use Rattle.share.specs.declared.connection.End.TheVariants.{Closed, EndOfInput, Input, Output, Lost, OutOfMemory}
+use Rattle.share.specs.declared.connection.End.TheVariants.{Closed, EndOfInput, Input, Output, Lost}
+use Rattle.share.specs.declared.connection.End.TheVariants.{OutOfMemory}
 use Rattle.norbd_serve.specs.declared.serving.Served.{Served}
 
 -- the connection ended since a command was lost
@@ -18,7 +19,8 @@ abbrev pub has_lost : List End → Bool
 has_lost [] = false
 has_lost (end ∷ more) = if is_lost end then true else has_lost more
 
--- So many connections were served: the pass of each came back, and how it ended, and none by a lost command.
+-- So many connections were served: the pass of each came back, and how it ended, and none by a lost
+-- command.
 pub record Returns {L : Type 0} (count : ℕ) (served : Served L) : Type 0 where
   pub passes : vec_len served.passes ≡ count
   pub ends : vec_len served.ends ≡ count

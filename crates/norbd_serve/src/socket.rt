@@ -1,3 +1,5 @@
+//! The writing half of a socket.
+
 ghost use Rattle.std.specs.Prelude.{◌≡◌, ◌+◌, ◌<◌};
 
 use block_device::{Failed, Sink, Tally};
@@ -5,8 +7,8 @@ use std::io::{IoSlice, Write};
 use std::net::TcpStream;
 use std::sync::ledger::{Blank, Ledger};
 
-/// The writing half of a socket, whose failed calls are counted. A reply's head and its data go out in one
-/// call of the system, without a copy. No contract says what a socket has taken.
+/// The writing half of a socket, whose failed calls are counted. A reply's head and its data go out
+/// in one call of the system, without a copy. No contract says what a socket has taken.
 #[derive(Drop)]
 pub struct SocketOut<'s, L: Ledger> {
     stream: &'s TcpStream,
@@ -53,7 +55,7 @@ impl<'s, L: Ledger> Sink for SocketOut<'s, L> {
     }
 }
 
-// Counts a failed call.
+/// Counts a failed call.
 fn failed<L: Ledger>(failures: &mut Tally<L>) -> Failed
     ensures { failures.new ≡ failures.old + 1 }
 {

@@ -7,7 +7,9 @@ use Rattle.nor_layout.specs.declared.header.Generation.{Generation}
 use Rattle.nor_layout.specs.declared.header.Tag.{Tag}
 use Rattle.nor_driver.specs.State.{NorState}
 use Rattle.erase_journal.specs.Blocks.{SameChip}
+use Rattle.nor_driver.proofs.CallLaws.{ready-after}
 use Rattle.erase_journal.specs.Journals.{IsHealthy}
+use Rattle.erase_journal.specs.Steps.{SucceedsSettled}
 use Rattle.sector_slots.specs.Slots.{Dead, slot_at, slot_count, IsClean, IsLive}
 use Rattle.sector_slots.specs.Blocks.{AreSettled}
 use Rattle.sector_slots.proofs.BlankLaws.{sound-holds}
@@ -16,10 +18,10 @@ use Rattle.sector_slots.proofs.MoveLaws.{live-stands}
 use Rattle.sector_slots.proofs.PlaceLaws.{later, later-is, place-others, place-holds}
 use Rattle.sector_slots.proofs.SectorLaws.{moved-back, dead-without, other-without}
 use Rattle.sector_slots.specs.Sectors.{zeros, LiveAt, absent, IsAbsent, sector_at, with_sector, IsSoundMap, IsSingle, HoldsSectors}
-use Rattle.sector_slots.specs.Steps.{Succeeds, OnlyPlace}
-use Rattle.sector_slots.proofs.StepLaws.{settled-healthy}
+use Rattle.sector_slots.specs.Steps.{OnlyPlace}
+use Rattle.erase_journal.proofs.SettledLaws.{settled-healthy}
 use Rattle.sector_slots.proofs.WinnerLaws.{sector-one, sector-content-is}
-use Rattle.sector_map.specs.Maps.{Sets, SetLeaves, Served, Wrote}
+use Rattle.sector_map.specs.Maps.{Sets, SetLeaves, IsServing, Wrote}
 use Rattle.sector_map.specs.Replace.{HeldBy}
 use Rattle.sector_map.specs.Table.{IsTableOf, IsOneAtMost, Unset, holder}
 use Rattle.sector_map.specs.declared.held.Held.{Held}
@@ -28,7 +30,7 @@ use Rattle.sector_map.specs.declared.entry.Entry.TheVariants.{Absent}
 use Rattle.sector_map.proofs.Places.{others-kept, slot-only, placed-settled, live-placed, holds-computed, holds-sound}
 use Rattle.sector_map.proofs.Replacing.{held-step, single-at, not-dead}
 use Rattle.sector_map.proofs.MapSteps.{named-table}
-use Rattle.sector_map.proofs.MapCalls.{on-chip, ready-after, keeps-holds, keeps-none, with-there, with-other}
+use Rattle.sector_map.proofs.MapCalls.{on-chip, keeps-holds, keeps-none, with-there, with-other}
 use Rattle.sector_map.proofs.Retiring.{single-tabled, table-holder}
 
 -- what the retirement of a sector's slot leaves
@@ -87,8 +89,8 @@ pub held-live : (g : ℕ) (o : Held) (m : List ℕ) → HeldBy (Some o) g m → 
 held-live g o m (y, l) = (record { number = g; generation = o.generation }, y, l.is)
 
 -- a clearing that answered Ok
-pub clear-done : (g : ℕ) (o : Held) (a c : NorState) (table table' : List Entry) (indexed is : Bool) → Served table a indexed → HeldBy (Some o) g a.memory → OnlyPlace o.slot a.memory c.memory → slot_at c.memory o.slot ≡ Dead
-    → (IsClean a.memory → IsClean c.memory) → Succeeds a c → g < sector_count (length a.memory) → Unset table g table' → is ≡ true → Wrote g zeros table' a c is
+pub clear-done : (g : ℕ) (o : Held) (a c : NorState) (table table' : List Entry) (indexed is : Bool) → IsServing table a indexed → HeldBy (Some o) g a.memory → OnlyPlace o.slot a.memory c.memory → slot_at c.memory o.slot ≡ Dead
+    → (IsClean a.memory → IsClean c.memory) → SucceedsSettled a c → g < sector_count (length a.memory) → Unset table g table' → is ≡ true → Wrote g zeros table' a c is
 clear-done g o a c table table' indexed is s hold only dead clean done low unset e =
     let h = cleared g o a.memory c.memory only dead s.store.slots (single-tabled table a.memory s.tabled) s.blocks hold in
     let sets = sets-zeros g a.memory c.memory h.chip h.sectors (settled-healthy c.memory done.settled) clean low in
@@ -105,7 +107,7 @@ clear-done g o a c table table' indexed is s hold only dead clean done low unset
     }
 
 -- one that was cut
-pub clear-cut : (g : ℕ) (o : Held) (a : NorState) (m' : List ℕ) (table : List Entry) (indexed : Bool) → Served table a indexed → HeldBy (Some o) g a.memory → OnlyPlace o.slot a.memory m'
+pub clear-cut : (g : ℕ) (o : Held) (a : NorState) (m' : List ℕ) (table : List Entry) (indexed : Bool) → IsServing table a indexed → HeldBy (Some o) g a.memory → OnlyPlace o.slot a.memory m'
     → (slot_at m' o.slot ≡ slot_at a.memory o.slot) ⊎ (slot_at m' o.slot ≡ Dead) → (IsClean a.memory → IsClean m') → IsHealthy m' → g < sector_count (length a.memory) → SetLeaves g zeros a.memory m'
 clear-cut g o a m' table indexed s hold only (inr dead) clean healthy low =
     let h = cleared g o a.memory m' only dead s.store.slots (single-tabled table a.memory s.tabled) s.blocks hold in
@@ -125,7 +127,7 @@ clear-cut g o a m' table indexed s (y, l) only (inl same) clean healthy low =
     inl (keeps-holds m m' only.only.chip healthy (holds-sound m' (sector_at m) holds) (λ c. holds) clean)
 
 -- one of a sector that is absent already
-pub clear-none : (g : ℕ) (a : NorState) (table : List Entry) (indexed : Bool) → Served table a indexed → HeldBy None g a.memory → Wrote g zeros table a a indexed
+pub clear-none : (g : ℕ) (a : NorState) (table : List Entry) (indexed : Bool) → IsServing table a indexed → HeldBy None g a.memory → Wrote g zeros table a a indexed
 clear-none g a table indexed s none =
     let m = a.memory in
     let k = keeps-none m s.store in

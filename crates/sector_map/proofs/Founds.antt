@@ -5,15 +5,15 @@ use Rattle.std.proofs.lemmas.Bool.{cases_eq, eq-eqb, ne_eqb}
 use Rattle.std.proofs.lemmas.Bool.Decides.{leb_tells}
 use Rattle.nor_layout.specs.declared.kind.Kind.{Kind}
 use Rattle.nor_layout.specs.declared.kind.Kind.TheVariants as kinds
-use Rattle.sector_slots.specs.Slots.{Slot, Free, Outside, counted, is_void, slot_in, slot_with, descriptor_in, content_in, read_header, kind_at, data_block, data_blocks, raw_slot, slot_at, IsSpareIn, copies as copies_of}
+use Rattle.sector_slots.specs.Slots.{Slot, Free, Outside, counted, is_void, slot_in, slot_with, descriptor_in, content_bytes, read_header, kind_at, data_block, data_blocks, raw_slot, slot_at, IsSpareIn, copies as copies_of}
 use Rattle.nor_layout.specs.declared.header.Header.{Header}
 use Rattle.nor_layout.specs.declared.header.Header.TheVariants as headers
 use Rattle.sector_slots.proofs.SectorLaws.{kind_in}
-use Rattle.sector_slots.specs.Blocks.{IsAtRest, IsCopying, IsTarget, SoundBlocks, HasNoFault}
+use Rattle.sector_slots.specs.Blocks.{IsAtRest, IsCopying, IsTarget, SoundBlocks, BlocksHaveNoFault}
 use Rattle.sector_slots.proofs.BlockLaws.{sound-no_fault}
 use Rattle.sector_slots.proofs.CopyLaws.{counted-in, counted-void, counted-source, at-rest-counts, at-rest-copies, copies-none, void-copies, committed-copies, source-copies}
 use Rattle.sector_map.specs.Scan.{HeadsOf}
-use Rattle.sector_map.specs.Found.{FoundIn, RestBelow, VoidBelow, CommittedBelow, FoundBelow, noted_first, noted_next, noted_kind, counts}
+use Rattle.sector_map.specs.Found.{FoundIn, RestBelow, VoidBelow, CommittedBelow, FoundBelow, noted_first, noted_next, noted_kind, block_counts}
 use Rattle.sector_map.specs.declared.found.Found.{Found}
 use Rattle.sector_map.specs.declared.found.Found.TheVariants.{AtRest, Void, Committed}
 
@@ -110,7 +110,7 @@ void-busy k e r = subst (λ a. IsAtRest a) e r
 committed-busy : (k : Kind) (b : ℕ) → k ≡ kinds.Committed b → IsAtRest k → ⊥
 committed-busy k b e r = subst (λ a. IsAtRest a) e r
 
-first-fault : (q : Kind) (kind : ℕ → Kind) (slots : ℕ → ℕ → Slot) (k n : ℕ) → kind k ≡ q → noted_first k q n ≡ None → k < n → HasNoFault kind slots n → ⊥
+first-fault : (q : Kind) (kind : ℕ → Kind) (slots : ℕ → ℕ → Slot) (k n : ℕ) → kind k ≡ q → noted_first k q n ≡ None → k < n → BlocksHaveNoFault kind slots n → ⊥
 first-fault kinds.Plain kind slots k n here e low h = none-found AtRest (sym e)
 first-fault kinds.Void kind slots k n here e low h = none-found (Void k) (sym e)
 first-fault (kinds.Committed b) kind slots k n here e low h = elim (fit-cases b k n) [
@@ -123,17 +123,17 @@ first-fault kinds.Settled kind slots k n here e low h = none-found AtRest (sym e
 first-fault kinds.Unknown kind slots k n here e low h = h.known k low here
 
 -- another block into which something is copied
-busy-fault : (kind : ℕ → Kind) (slots : ℕ → ℕ → Slot) (k t n : ℕ) → k < n → t < k → (IsAtRest (kind k) → ⊥) → (IsAtRest (kind t) → ⊥) → HasNoFault kind slots n → ⊥
+busy-fault : (kind : ℕ → Kind) (slots : ℕ → ℕ → Slot) (k t n : ℕ) → k < n → t < k → (IsAtRest (kind k) → ⊥) → (IsAtRest (kind t) → ⊥) → BlocksHaveNoFault kind slots n → ⊥
 busy-fault kind slots k t n low below a b h = elim (h.one k t low (omega (arith, low, below)) (λ e. omega (arith, e, below))) [ inl r ↦ a r | inr r ↦ b r ]
 
-next-fault : (q : Kind) (found : Found) (kind : ℕ → Kind) (slots : ℕ → ℕ → Slot) (k t n : ℕ) → kind k ≡ q → noted_next found q ≡ None → k < n → t < k → (IsAtRest (kind t) → ⊥) → HasNoFault kind slots n → ⊥
+next-fault : (q : Kind) (found : Found) (kind : ℕ → Kind) (slots : ℕ → ℕ → Slot) (k t n : ℕ) → kind k ≡ q → noted_next found q ≡ None → k < n → t < k → (IsAtRest (kind t) → ⊥) → BlocksHaveNoFault kind slots n → ⊥
 next-fault kinds.Plain found kind slots k t n here e low below busy h = none-found found (sym e)
 next-fault kinds.Void found kind slots k t n here e low below busy h = busy-fault kind slots k t n low below (void-busy (kind k) here) busy h
 next-fault (kinds.Committed b) found kind slots k t n here e low below busy h = busy-fault kind slots k t n low below (committed-busy (kind k) b here) busy h
 next-fault kinds.Settled found kind slots k t n here e low below busy h = none-found found (sym e)
 next-fault kinds.Unknown found kind slots k t n here e low below busy h = h.known k low here
 
-none-fault : (found : Found) (kind : ℕ → Kind) (slots : ℕ → ℕ → Slot) (k n : ℕ) → noted_kind found k (kind k) n ≡ None → k < n → FoundBelow found kind k n → HasNoFault kind slots n → ⊥
+none-fault : (found : Found) (kind : ℕ → Kind) (slots : ℕ → ℕ → Slot) (k n : ℕ) → noted_kind found k (kind k) n ≡ None → k < n → FoundBelow found kind k n → BlocksHaveNoFault kind slots n → ⊥
 none-fault AtRest kind slots k n e low f h = first-fault (kind k) kind slots k n refl e low h
 none-fault (Void t) kind slots k n e low f h = next-fault (kind k) (Void t) kind slots k t n refl e low f.number (void-busy (kind t) f.void) h
 none-fault (Committed s t) kind slots k n e low f h = next-fault (kind k) (Committed s t) kind slots k t n refl e low f.number (committed-busy (kind t) (s + 4) f.committed) h
@@ -155,7 +155,7 @@ not-true a b e same = let h : false ≡ true = sym (ap not (eq-eqb a b same)) �
 not-false : (a b : ℕ) → not (a == b) ≡ false → a ≡ b
 not-false a b e = elim (cases_eq a b) [ inl same ↦ same | inr other ↦ (let h : true ≡ false = sym (ap not (ne_eqb a b other)) ∙ e in cc) ]
 
-pub found-counted : (found : Found) (kind : ℕ → Kind) (slots : ℕ → ℕ → Slot) (n w : ℕ) → FoundBelow found kind n n → w / 7 < n → counts found (w / 7) ≡ true → counted kind slots n w ≡ slots (w / 7) (w % 7)
+pub found-counted : (found : Found) (kind : ℕ → Kind) (slots : ℕ → ℕ → Slot) (n w : ℕ) → FoundBelow found kind n n → w / 7 < n → block_counts found (w / 7) ≡ true → counted kind slots n w ≡ slots (w / 7) (w % 7)
 found-counted AtRest kind slots n w h low e = counted-in kind slots n w (at-rest-counts (kind (w / 7)) (h.rest (w / 7) low)) (copies-none kind n (w / 7) (λ d l. at-rest-copies (w / 7 + 4) (kind d) (h.rest d l)))
 found-counted (Void t) kind slots n w h low e =
     let other = not-true (w / 7) t e in
@@ -168,7 +168,7 @@ found-counted (Committed s t) kind slots n w h low e =
     ] in
     counted-in kind slots n w alive (committed-copies s t n kind (w / 7) (committed-target s t n kind h) h.committed other)
 
-pub found-skipped : (found : Found) (kind : ℕ → Kind) (slots : ℕ → ℕ → Slot) (n w : ℕ) → FoundBelow found kind n n → counts found (w / 7) ≡ false → counted kind slots n w ≡ Outside
+pub found-skipped : (found : Found) (kind : ℕ → Kind) (slots : ℕ → ℕ → Slot) (n w : ℕ) → FoundBelow found kind n n → block_counts found (w / 7) ≡ false → counted kind slots n w ≡ Outside
 found-skipped AtRest kind slots n w h e = (let q : true ≡ false = e in absurd cc)
 found-skipped (Void t) kind slots n w h e = counted-void kind slots n w (ap (λ c. is_void (kind c)) (not-false (w / 7) t e) ∙ ap is_void h.void)
 found-skipped (Committed s t) kind slots n w h e =
@@ -183,13 +183,13 @@ with-free headers.Dead x e = (let q : 3 ≡ 0 = ap kind_in e in absurd (omega (a
 
 pub head-free : (b : List ℕ) (i : ℕ) → descriptor_in b i ≡ headers.Free → slot_in b i ≡ Free
 unfolding slot_in
-head-free b i e = ap (λ h. slot_with h (content_in b i)) e
+head-free b i e = ap (λ h. slot_with h (content_bytes b i)) e
 
 pub free-head : (b : List ℕ) (i : ℕ) → slot_in b i ≡ Free → descriptor_in b i ≡ headers.Free
 unfolding slot_in
-free-head b i e = with-free (descriptor_in b i) (content_in b i) e
+free-head b i e = with-free (descriptor_in b i) (content_bytes b i) e
 
-pub slot-head : (b : List ℕ) (i : ℕ) → slot_in b i ≡ slot_with (descriptor_in b i) (content_in b i)
+pub slot-head : (b : List ℕ) (i : ℕ) → slot_in b i ≡ slot_with (descriptor_in b i) (content_bytes b i)
 unfolding slot_in
 slot-head b i = refl
 
@@ -202,17 +202,17 @@ pub heads-spare : (m : List ℕ) (c : ℕ) (heads : List Header) → ((i : ℕ) 
 heads-spare m c heads each s i low = each i low ∙ free-head (data_block m c) i (s.free i low)
 
 -- the descriptors of a block that counts are those of its slots
-pub heads-of : (found : Found) (m : List ℕ) (c : ℕ) (heads : List Header) → FoundIn found m → c < data_blocks m → counts found c ≡ true → ((i : ℕ) → i < 7 → read_header heads i ≡ descriptor_in (data_block m c) i) → HeadsOf heads (slot_at m) c
+pub heads-of : (found : Found) (m : List ℕ) (c : ℕ) (heads : List Header) → FoundIn found m → c < data_blocks m → block_counts found c ≡ true → ((i : ℕ) → i < 7 → read_header heads i ≡ descriptor_in (data_block m c) i) → HeadsOf heads (slot_at m) c
 heads-of found m c heads h low counting each i small =
     let block : (7 * c + i) / 7 ≡ c = omega (arith, small) in
     let place : (7 * c + i) % 7 ≡ i = omega (arith, small) in
-    let here = found-counted found (kind_at m) (raw_slot m) (data_blocks m) (7 * c + i) h (omega (arith, low, small)) (ap (λ d. counts found d) block ∙ counting) in
-    (content_in (data_block m c) i, here ∙ (ap (λ d. raw_slot m d ((7 * c + i) % 7)) block ∙ (ap (λ j. raw_slot m c j) place ∙ (slot-head (data_block m c) i ∙ ap (λ z. slot_with z (content_in (data_block m c) i)) (sym (each i small))))))
+    let here = found-counted found (kind_at m) (raw_slot m) (data_blocks m) (7 * c + i) h (omega (arith, low, small)) (ap (λ d. block_counts found d) block ∙ counting) in
+    (content_bytes (data_block m c) i, here ∙ (ap (λ d. raw_slot m d ((7 * c + i) % 7)) block ∙ (ap (λ j. raw_slot m c j) place ∙ (slot-head (data_block m c) i ∙ ap (λ z. slot_with z (content_bytes (data_block m c) i)) (sym (each i small))))))
 
-pub skips-of : (found : Found) (m : List ℕ) (c : ℕ) → FoundIn found m → counts found c ≡ false → (i : ℕ) → i < 7 → slot_at m (7 * c + i) ≡ Outside
+pub skips-of : (found : Found) (m : List ℕ) (c : ℕ) → FoundIn found m → block_counts found c ≡ false → (i : ℕ) → i < 7 → slot_at m (7 * c + i) ≡ Outside
 skips-of found m c h none i small =
     let block : (7 * c + i) / 7 ≡ c = omega (arith, small) in
-    found-skipped found (kind_at m) (raw_slot m) (data_blocks m) (7 * c + i) h (ap (λ d. counts found d) block ∙ none)
+    found-skipped found (kind_at m) (raw_slot m) (data_blocks m) (7 * c + i) h (ap (λ d. block_counts found d) block ∙ none)
 
 -- whether one of the first k blocks is wholly free
 abbrev pub SpareSeen : Bool → List ℕ → ℕ → Type 0

@@ -3,9 +3,11 @@ use Rattle.std.proofs.Common.{◌≡◌, ◌≢◌, ℕ, zero, suc, ◌-◌, ◌
 use Rattle.std.specs.Prelude.{Option, Some, None, IfSome, slice_index_or}
 use Rattle.std.proofs.lemmas.Bool.{ne_eqb}
 use Rattle.chip_model.specs.Geometry.{sector_count, block_count}
-use Rattle.nor_driver.specs.State.{NorState, IsReady, Kept}
+use Rattle.nor_driver.specs.State.{NorState, IsNorReady}
+use Rattle.nor_driver.proofs.CallLaws.{ready-after}
 use Rattle.erase_journal.specs.Blocks.{SameChip}
 use Rattle.erase_journal.specs.Places.{how_many}
+use Rattle.erase_journal.specs.Steps.{SucceedsSettled}
 use Rattle.sector_slots.proofs.CopyLaws.{how_many-zero, how_many-suc}
 use Rattle.erase_journal.specs.Journals.{IsHealthy, IsSettled}
 use Rattle.sector_slots.specs.Slots.{Slot, Free, Live, NoGeneration, Dead, Outside, slot_at, slot_count, data_blocks, IsClean}
@@ -13,8 +15,8 @@ use Rattle.sector_slots.specs.Blocks.{AreSettled}
 use Rattle.sector_slots.specs.Sectors.{sector_at, with_sector, IsSoundMap, IsSingle, HoldsSectors}
 use Rattle.sector_slots.proofs.BlankLaws.{sound-holds}
 use Rattle.sector_slots.proofs.SlotLaws.{one-reserve}
-use Rattle.sector_slots.specs.Steps.{Succeeds}
-use Rattle.sector_slots.proofs.StepLaws.{chip-after, settled-healthy, succeeds-after}
+use Rattle.erase_journal.proofs.SettledLaws.{settled-healthy, settled-after}
+use Rattle.sector_slots.proofs.StepLaws.{chip-after}
 use Rattle.sector_stock.specs.declared.given.Copied.{Copied}
 use Rattle.sector_stock.specs.Copy.{SameSectors, Stays}
 use Rattle.sector_stock.specs.Room.{HasRoom, HasNoneDead}
@@ -22,8 +24,8 @@ use Rattle.sector_stock.specs.Index.{is_dead}
 use Rattle.sector_stock.specs.Takes.{Shifts, Takes, IsLowestFree, CopiesInto, was_free, was_copied, dead_slots}
 use Rattle.sector_map.specs.Scan.{TableFollows, FollowsBlock}
 use Rattle.sector_map.specs.Replace.{HeldBy, IsReplaceable, Rewrites, RewriteLeaves}
-use Rattle.sector_map.specs.Table.{IsTableOf, Settled, holder}
-use Rattle.sector_map.specs.Maps.{IsStore, Keeps, KeepsEach, Sets, SetLeaves, Served, Wrote, Kept_on}
+use Rattle.sector_map.specs.Table.{IsTableOf, KeptOne, holder}
+use Rattle.sector_map.specs.Maps.{IsStore, KeepsMap, KeepsEach, Sets, SetLeaves, IsServing, Wrote, KeptServing}
 use Rattle.sector_map.specs.declared.held.Held.{Held}
 use Rattle.sector_map.specs.declared.entry.Entry.{Entry}
 use Rattle.sector_map.specs.declared.entry.Entry.TheVariants.{Absent}
@@ -36,20 +38,17 @@ use Rattle.sector_map.proofs.Following.{shifts-sound, shifts-single-at, shifts-t
 pub on-chip : (m m' : List ℕ) (g : ℕ) → SameChip m m' → g < sector_count (length m) → g < sector_count (length m')
 on-chip m m' g chip low = subst (λ n. g < sector_count n) (sym chip.same_length) low
 
-pub ready-after : (a b : NorState) → Kept a b → IsReady a → IsReady b
-ready-after a b k r = (k.powered ∙ r.0, k.is_slow ∙ r.1)
-
-pub served-room : (table : List Entry) (state : NorState) (indexed : Bool) → Served table state indexed → HasRoom state.memory
+pub served-room : (table : List Entry) (state : NorState) (indexed : Bool) → IsServing table state indexed → HasRoom state.memory
 served-room table state indexed s = table-room table state.memory s.tabled s.blocks
 
 -- nothing changed
-pub keeps-none : (m : List ℕ) → IsStore m → Keeps m m
+pub keeps-none : (m : List ℕ) → IsStore m → KeepsMap m m
 keeps-none m store = record { chip = record { same_length = refl; superblock = λ k low. refl }; store = store; sectors = λ c g low. refl; clean = λ c. c }
 
-pub keeps-same : (m m' : List ℕ) → m' ≡ m → IsStore m → Keeps m m'
-keeps-same m m' e store = subst (λ z. Keeps m z) (sym e) (keeps-none m store)
+pub keeps-same : (m m' : List ℕ) → m' ≡ m → IsStore m → KeepsMap m m'
+keeps-same m m' e store = subst (λ z. KeepsMap m z) (sym e) (keeps-none m store)
 
-pub keeps-after : (a b c : List ℕ) → Keeps a b → Keeps b c → Keeps a c
+pub keeps-after : (a b c : List ℕ) → KeepsMap a b → KeepsMap b c → KeepsMap a c
 keeps-after a b c p q = record {
   chip = chip-after a b c p.chip q.chip;
   store = q.store;
@@ -57,7 +56,7 @@ keeps-after a b c p q = record {
   clean = λ h. q.clean (p.clean h);
 }
 
-pub keeps-holds : (m m' : List ℕ) → SameChip m m' → IsHealthy m' → IsSoundMap m' → (IsClean m → HoldsSectors (sector_at m) m') → (IsClean m → IsClean m') → Keeps m m'
+pub keeps-holds : (m m' : List ℕ) → SameChip m m' → IsHealthy m' → IsSoundMap m' → (IsClean m → HoldsSectors (sector_at m) m') → (IsClean m → IsClean m') → KeepsMap m m'
 keeps-holds m m' chip healthy sound holds clean = record {
   chip = chip;
   store = record { journals = healthy; slots = sound };
@@ -126,10 +125,10 @@ takes-table w o m b old new (was_copied c is none h low) f sound single t = copi
 pub target-in : (c : Copied) (m b : List ℕ) → CopiesInto c.source c.target m b → c.target < data_blocks b
 target-in c m b h = subst (λ n. c.target < block_count n - 4) (sym h.shifts.chip.same_length) h.target.number
 
-pub moved-keeps : (m b : List ℕ) → Moved m b → IsHealthy b → IsSoundMap m → Keeps m b
+pub moved-keeps : (m b : List ℕ) → Moved m b → IsHealthy b → IsSoundMap m → KeepsMap m b
 moved-keeps m b h healthy sound = keeps-holds m b h.chip healthy h.sound (λ c. h.sectors c (sector_at m) (sound-holds m sound)) h.clean
 
-pub stays-keeps : (m b : List ℕ) → Stays m b → IsHealthy b → IsSoundMap m → Keeps m b
+pub stays-keeps : (m b : List ℕ) → Stays m b → IsHealthy b → IsSoundMap m → KeepsMap m b
 stays-keeps m b h healthy sound = keeps-holds m b h.chip healthy (h.sound sound) (λ c. (let k = h.exact c in k.sectors (sector_at m) (sound-holds m sound))) (λ c. (let k = h.exact c in k.clean c))
 
 -- a written sector, and another
@@ -152,7 +151,7 @@ holds-sets g y x m b m' moved chip holds healthy exact clean sound low =
       clean = λ h. clean (moved.clean h);
     }
 
-holds-still : (m b m' : List ℕ) → Moved m b → SameChip b m' → HoldsSectors (sector_at b) m' → IsHealthy m' → (IsClean b → IsClean m') → IsSoundMap m → Keeps m m'
+holds-still : (m b m' : List ℕ) → Moved m b → SameChip b m' → HoldsSectors (sector_at b) m' → IsHealthy m' → (IsClean b → IsClean m') → IsSoundMap m → KeepsMap m m'
 holds-still m b m' moved chip holds healthy clean sound =
     let both = chip-after m b m' moved.chip chip in
     record {
@@ -163,8 +162,8 @@ holds-still m b m' moved chip holds healthy clean sound =
     }
 
 -- a sector was written into the slot that was taken
-pub wrote : (g : ℕ) (x : List ℕ) (o : Held) (a b c : NorState) (table table' : List Entry) (indexed : Bool) → Moved a.memory b.memory → Rewrites g x o b.memory c.memory → Succeeds a c → IsSoundMap a.memory → g < sector_count (length a.memory)
-    → IsTableOf table b.memory → Settled table g o table' → IsReady a → indexed ≡ true → Wrote g x table' a c indexed
+pub wrote : (g : ℕ) (x : List ℕ) (o : Held) (a b c : NorState) (table table' : List Entry) (indexed : Bool) → Moved a.memory b.memory → Rewrites g x o b.memory c.memory → SucceedsSettled a c → IsSoundMap a.memory → g < sector_count (length a.memory)
+    → IsTableOf table b.memory → KeptOne table g o table' → IsNorReady a → indexed ≡ true → Wrote g x table' a c indexed
 wrote g x o a b c table table' indexed moved r done sound low t s ready index =
     let healthy = settled-healthy c.memory done.settled in
     let sets = holds-sets g r.content x a.memory b.memory c.memory moved r.replaces.chip r.replaces.sectors healthy r.exact r.clean sound low in
@@ -205,12 +204,12 @@ held-number None g m none = tt
 held-number (Some h) g m (x, l) = l.number
 
 -- a step of tidying
-pub tidied : (c : Copied) (a b d : NorState) (old new : List Entry) (indexed : Bool) → Served old a indexed → CopiesInto c.source c.target a.memory b.memory → d.memory ≡ b.memory → FollowsBlock c.target old new b.memory → Succeeds a d
-    → (index : Bool) → index ≡ true → Kept_on new a d index
+pub tidied : (c : Copied) (a b d : NorState) (old new : List Entry) (indexed : Bool) → IsServing old a indexed → CopiesInto c.source c.target a.memory b.memory → d.memory ≡ b.memory → FollowsBlock c.target old new b.memory → SucceedsSettled a d
+    → (index : Bool) → index ≡ true → KeptServing new a d index
 tidied c a b d old new indexed s h same f done index is =
     let single = single-tabled old a.memory s.tabled in
     let moved = copies-moved c a.memory b.memory h s.store.slots single in
-    let keeps : Keeps a.memory d.memory = subst (λ z. Keeps a.memory z) (sym same) (moved-keeps a.memory b.memory moved (subst (λ z. IsHealthy z) same (settled-healthy d.memory done.settled)) s.store.slots) in
+    let keeps : KeepsMap a.memory d.memory = subst (λ z. KeepsMap a.memory z) (sym same) (moved-keeps a.memory b.memory moved (subst (λ z. IsHealthy z) same (settled-healthy d.memory done.settled)) s.store.slots) in
     record {
       keeps = keeps;
       served = record {
@@ -229,7 +228,7 @@ pub record AtSlot (w : ℕ) (table : List Entry) (m b : List ℕ) : Type 0 where
   pub tabled : IsTableOf table b
   pub low : IsLowestFree w b
 
-pub at-slot : (w : ℕ) (o : Option Copied) (a : NorState) (indexed : Bool) (b b' : List ℕ) (table table' : List Entry) → Served table a indexed → Takes w o a.memory b → b' ≡ b → TableFollows o table table' b → AtSlot w table' a.memory b'
+pub at-slot : (w : ℕ) (o : Option Copied) (a : NorState) (indexed : Bool) (b b' : List ℕ) (table table' : List Entry) → IsServing table a indexed → Takes w o a.memory b → b' ≡ b → TableFollows o table table' b → AtSlot w table' a.memory b'
 at-slot w o a indexed b b' table table' s taken same f =
     let single = single-tabled table a.memory s.tabled in
     subst (λ z. AtSlot w table' a.memory z) (sym same) (record {
@@ -238,10 +237,10 @@ at-slot w o a indexed b b' table table' s taken same f =
       low = takes-low w o a.memory b taken;
     })
 
-pub served-moved : (w : ℕ) (o : Option Copied) (a : NorState) (indexed : Bool) (b : List ℕ) (table : List Entry) → Served table a indexed → Takes w o a.memory b → Moved a.memory b
+pub served-moved : (w : ℕ) (o : Option Copied) (a : NorState) (indexed : Bool) (b : List ℕ) (table : List Entry) → IsServing table a indexed → Takes w o a.memory b → Moved a.memory b
 served-moved w o a indexed b table s taken = takes-moved w o a.memory b taken s.store.slots (single-tabled table a.memory s.tabled) s.blocks
 
-pub served-copies : (c : Copied) (a : NorState) (indexed : Bool) (b : List ℕ) (table : List Entry) → Served table a indexed → CopiesInto c.source c.target a.memory b → Moved a.memory b
+pub served-copies : (c : Copied) (a : NorState) (indexed : Bool) (b : List ℕ) (table : List Entry) → IsServing table a indexed → CopiesInto c.source c.target a.memory b → Moved a.memory b
 served-copies c a indexed b table s h = copies-moved c a.memory b h s.store.slots (single-tabled table a.memory s.tabled)
 
 pub slot-held : (w g : ℕ) (table : List Entry) (m b : List ℕ) (o : Option Held) → AtSlot w table m b → g < length table → o ≡ holder (slice_index_or table g Absent) → HeldBy o g b
@@ -250,8 +249,8 @@ slot-held w g table m b o h low e = subst (λ z. HeldBy z g b) (sym e) (table-ho
 pub slot-replaceable : (w g : ℕ) (table : List Entry) (m b : List ℕ) (o : Option Held) → AtSlot w table m b → g < length table → o ≡ holder (slice_index_or table g Absent) → IsReplaceable w g o b
 slot-replaceable w g table m b o h low e = taken-replaceable w g o b h.low h.moved.sound h.moved.single h.moved.blocks (subst (λ n. g < n) h.tabled.size low) (slot-held w g table m b o h low e)
 
-pub same-moved-keeps : (a : NorState) (b b' : List ℕ) → Moved a.memory b → b' ≡ b → IsSettled b → IsSoundMap a.memory → Keeps a.memory b'
-same-moved-keeps a b b' moved same settled sound = subst (λ z. Keeps a.memory z) (sym same) (moved-keeps a.memory b moved (settled-healthy b settled) sound)
+pub same-moved-keeps : (a : NorState) (b b' : List ℕ) → Moved a.memory b → b' ≡ b → IsSettled b → IsSoundMap a.memory → KeepsMap a.memory b'
+same-moved-keeps a b b' moved same settled sound = subst (λ z. KeepsMap a.memory z) (sym same) (moved-keeps a.memory b moved (settled-healthy b settled) sound)
 
 -- no slot is dead
 none-count : (p : ℕ → Bool) (n : ℕ) → ((k : ℕ) → k < n → p k ≡ false) → how_many p n ≡ 0
@@ -268,6 +267,6 @@ not-dead Outside ne = refl
 pub no-work : (m : List ℕ) → HasNoneDead m → dead_slots m ≡ 0
 no-work m none = none-count (λ s. is_dead (slot_at m s)) (slot_count m) (λ s low. not-dead (slot_at m s) (none s low))
 
-pub perhaps-after : (a b c : NorState) → Succeeds a b → (c ≡ b) ⊎ Succeeds b c → Succeeds a c
-perhaps-after a b c s (inl e) = subst (λ z. Succeeds a z) (sym e) s
-perhaps-after a b c s (inr t) = succeeds-after a b c s t
+pub perhaps-after : (a b c : NorState) → SucceedsSettled a b → (c ≡ b) ⊎ SucceedsSettled b c → SucceedsSettled a c
+perhaps-after a b c s (inl e) = subst (λ z. SucceedsSettled a z) (sym e) s
+perhaps-after a b c s (inr t) = settled-after a b c s t

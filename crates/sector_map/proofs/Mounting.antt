@@ -7,18 +7,19 @@ use Rattle.nor_layout.specs.declared.kind.Kind.TheVariants as kinds
 use Rattle.nor_driver.specs.State.{NorState}
 use Rattle.erase_journal.specs.Blocks.{SameChip}
 use Rattle.erase_journal.specs.Journals.{IsHealthy}
+use Rattle.erase_journal.specs.Steps.{SucceedsSettled}
 use Rattle.sector_slots.specs.Slots.{Slot, slot_at, slot_count, data_blocks, kind_at, raw_slot, IsClean, IsSpareIn}
 use Rattle.sector_slots.specs.Blocks.{IsAtRest, IsCopying, AreSettled, settled, copying, SoundBlocks}
 use Rattle.sector_slots.specs.Copying.{SameLive}
 use Rattle.sector_slots.proofs.MoveLaws.{same-back, same-on, same-whole}
 use Rattle.sector_slots.specs.Sectors.{SoundSlots, IsSoundMap, HoldsSectors, sector_at}
 use Rattle.sector_slots.proofs.BlankLaws.{sound-holds}
-use Rattle.sector_slots.specs.Steps.{Succeeds}
-use Rattle.sector_slots.proofs.StepLaws.{chip-after, settled-healthy}
-use Rattle.sector_stock.specs.Copy.{KeepsSectors, Ends, IsVoidIn, IsCommittedIn}
+use Rattle.erase_journal.proofs.SettledLaws.{settled-healthy}
+use Rattle.sector_slots.proofs.StepLaws.{chip-after}
+use Rattle.sector_stock.specs.Copy.{KeepsSectors, EndsCopy, IsVoidIn, IsCommittedIn}
 use Rattle.sector_stock.specs.Room.{HasRoom}
 use Rattle.sector_map.specs.Found.{FoundIn, fitting}
-use Rattle.sector_map.specs.Table.{Says, IsTabled, IsTableOf, Mounts, MountCut}
+use Rattle.sector_map.specs.Table.{EntryHolds, IsTabled, IsTableOf, Mounts, MountCut}
 use Rattle.sector_map.specs.declared.found.Found.{Found}
 use Rattle.sector_map.specs.declared.found.Found.TheVariants.{AtRest, Void, Committed}
 use Rattle.sector_map.specs.declared.entry.Entry.{Entry}
@@ -74,7 +75,7 @@ pub fitting-found : (found found' : Found) (spare : Bool) (m : List ℕ) → fit
 fitting-found found found' spare m e h = subst (λ z. FoundIn z m) (fitting-same found found' spare e) h
 
 -- the same live slots, the same table
-says-same : (e : Entry) (f f' : ℕ → Slot) (n g : ℕ) → SameLive f f' n → Says e f n g → Says e f' n g
+says-same : (e : Entry) (f f' : ℕ → Slot) (n g : ℕ) → SameLive f f' n → EntryHolds e f n g → EntryHolds e f' n g
 says-same entries.Absent f f' n g same none = λ s k x l. none s k x (same-back f f' n same s g k x l)
 says-same (entries.One h) f f' n g same o = record { live = (o.live.0, same-on f f' n same h.slot g h.generation o.live.0 o.live.1); only = λ s k x l. o.only s k x (same-back f f' n same s g k x l) }
 says-same (entries.Two a b) f f' n g same o = record {
@@ -84,7 +85,7 @@ says-same (entries.Two a b) f f' n g same o = record {
   only = λ s k x l. o.only s k x (same-back f f' n same s g k x l);
 }
 
-pub ends-tabled : (table : List Entry) (m m' : List ℕ) → Ends m m' → IsTabled table (slot_at m) (slot_count m) → IsTabled table (slot_at m') (slot_count m')
+pub ends-tabled : (table : List Entry) (m m' : List ℕ) → EndsCopy m m' → IsTabled table (slot_at m) (slot_count m) → IsTabled table (slot_at m') (slot_count m')
 ends-tabled table m m' e t = subst (λ n. IsTabled table (slot_at m') (7 * (block_count n - 4))) (sym e.whole.chip.same_length) (record {
   each = λ g low. says-same (slice_index_or table g entries.Absent) (slot_at m) (slot_at m') (slot_count m) g e.live (t.each g low);
   within = λ s g k x l. t.within s g k x (same-back (slot_at m) (slot_at m') (slot_count m) e.live s g k x l);
@@ -96,8 +97,8 @@ rests-settled m h (settled s) = s
 rests-settled m h (copying t s) = absurd (rest-busy (kind_at m t) t (data_blocks m) (h.rest t s.number) s.copying)
 
 -- where nothing went on, nothing was ended
-pub rests-end : (m m' : List ℕ) → m' ≡ m → FoundIn AtRest m → IsSoundMap m → Ends m m'
-rests-end m m' same h sound = subst (λ z. Ends m z) (sym same) (record {
+pub rests-end : (m m' : List ℕ) → m' ≡ m → FoundIn AtRest m → IsSoundMap m → EndsCopy m m'
+rests-end m m' same h sound = subst (λ z. EndsCopy m z) (sym same) (record {
   whole = record {
     chip = record { same_length = refl; superblock = λ k low. refl };
     sectors = λ sectors holds. holds;
@@ -115,14 +116,14 @@ cut-same m m' same = subst (λ z. MountCut m z) (sym same) (record { chip = reco
 pub cut-ending : (m m' : List ℕ) → KeepsSectors m m' → MountCut m m'
 cut-ending m m' k = record { chip = k.chip; sectors = λ sound. k.sectors (sector_at m) (sound-holds m sound); clean = k.clean }
 
-pub cut-retiring : (m m1 m2 : List ℕ) → Ends m m1 → SameChip m1 m2 → ((sectors : ℕ → List ℕ) → HoldsSectors sectors m1 → HoldsSectors sectors m2) → (IsClean m1 → IsClean m2) → MountCut m m2
+pub cut-retiring : (m m1 m2 : List ℕ) → EndsCopy m m1 → SameChip m1 m2 → ((sectors : ℕ → List ℕ) → HoldsSectors sectors m1 → HoldsSectors sectors m2) → (IsClean m1 → IsClean m2) → MountCut m m2
 cut-retiring m m1 m2 e chip sectors clean = record {
   chip = chip-after m m1 m2 e.whole.chip chip;
   sectors = λ sound. sectors (sector_at m) (e.whole.sectors (sector_at m) (sound-holds m sound));
   clean = λ c. clean (e.whole.clean c);
 }
 
-pub perhaps-healthy : (a b : NorState) → (b ≡ a) ⊎ Succeeds a b → IsHealthy a.memory → IsHealthy b.memory
+pub perhaps-healthy : (a b : NorState) → (b ≡ a) ⊎ SucceedsSettled a b → IsHealthy a.memory → IsHealthy b.memory
 perhaps-healthy a b (inl e) h = subst (λ z. IsHealthy z.memory) (sym e) h
 perhaps-healthy a b (inr s) h = settled-healthy b.memory s.settled
 
@@ -134,7 +135,7 @@ table-room table m t blocks = record {
   blocks = blocks;
 }
 
-pub mounted : (table : List Entry) (m m1 m2 m3 : List ℕ) → IsSoundMap m → Ends m m1 → SameChip m1 m2 → ((sectors : ℕ → List ℕ) → HoldsSectors sectors m1 → HoldsSectors sectors m2) → (IsClean m1 → IsClean m2)
+pub mounted : (table : List Entry) (m m1 m2 m3 : List ℕ) → IsSoundMap m → EndsCopy m m1 → SameChip m1 m2 → ((sectors : ℕ → List ℕ) → HoldsSectors sectors m1 → HoldsSectors sectors m2) → (IsClean m1 → IsClean m2)
     → IsTableOf table m2 → AreSettled m2 → m3 ≡ m2 → Mounts m table m3
 mounted table m m1 m2 m3 sound e chip sectors clean t blocks same = subst (λ z. Mounts m table z) (sym same) (record {
   sound = sound;
@@ -146,8 +147,8 @@ mounted table m m1 m2 m3 sound e chip sectors clean t blocks same = subst (λ z.
   clean = λ c. clean (e.whole.clean c);
 })
 
-pub cut-filling : (m m1 m2 m3 : List ℕ) → Ends m m1 → SameChip m1 m2 → ((sectors : ℕ → List ℕ) → HoldsSectors sectors m1 → HoldsSectors sectors m2) → (IsClean m1 → IsClean m2) → m3 ≡ m2 → MountCut m m3
+pub cut-filling : (m m1 m2 m3 : List ℕ) → EndsCopy m m1 → SameChip m1 m2 → ((sectors : ℕ → List ℕ) → HoldsSectors sectors m1 → HoldsSectors sectors m2) → (IsClean m1 → IsClean m2) → m3 ≡ m2 → MountCut m m3
 cut-filling m m1 m2 m3 e chip sectors clean same = subst (λ z. MountCut m z) (sym same) (cut-retiring m m1 m2 e chip sectors clean)
 
-pub fill-healthy : (a b c d : NorState) → (b ≡ a) ⊎ Succeeds a b → (c ≡ b) ⊎ Succeeds b c → d.memory ≡ c.memory → IsHealthy a.memory → IsHealthy d.memory
+pub fill-healthy : (a b c d : NorState) → (b ≡ a) ⊎ SucceedsSettled a b → (c ≡ b) ⊎ SucceedsSettled b c → d.memory ≡ c.memory → IsHealthy a.memory → IsHealthy d.memory
 fill-healthy a b c d p q same h = subst (λ z. IsHealthy z) (sym same) (perhaps-healthy b c q (perhaps-healthy a b p h))

@@ -2,7 +2,7 @@
 use Rattle.std.proofs.Common.{◌≡◌, ℕ, zero, suc, ◌*◌, ◌<◌, ◌-◌, ◌⊎◌, false, true, List, length, refl, sym, ap, ◌∙◌, subst, arith, inl, inr}
 use Rattle.std.specs.Prelude.{Option, None, Result, Ok, Err, IfOk, IfErr}
 use Rattle.chip_model.specs.Geometry.{block_count}
-use Rattle.nor_driver.specs.State.{NorState, IsReady, Kept}
+use Rattle.nor_driver.specs.State.{NorState, IsNorReady, OnlyMemoryChanges, Refuses}
 use Rattle.nor_driver.specs.declared.error.NorError.{NorError}
 use Rattle.nor_driver.specs.declared.error.NorError.TheVariants as errors
 use Rattle.nor_layout.specs.Layouts.{layout_of}
@@ -11,13 +11,15 @@ use Rattle.nor_layout.specs.declared.superblock.SuperError.TheVariants as refusa
 use Rattle.erase_journal.specs.Blocks.{SameBlocks}
 use Rattle.erase_journal.specs.Journals.{IsHealthy}
 use Rattle.erase_journal.specs.Recovery.{Recovers, RecoveryCut, IsBehind}
+use Rattle.erase_journal.specs.Steps.{SucceedsSettled}
 use Rattle.sector_slots.specs.Slots.{Slot, slot_at, slot_count, SameSlots}
 use Rattle.sector_slots.specs.Sectors.{sector_at, winner, newer, content_in, IsSoundMap}
 use Rattle.sector_slots.proofs.BlankLaws.{sound-holds, blocks-holds, same-blocks_slots}
-use Rattle.sector_slots.specs.Steps.{Succeeds, Refuses}
-use Rattle.sector_slots.proofs.StepLaws.{settled-healthy, kept-after}
+use Rattle.nor_driver.proofs.CallLaws.{kept-after}
+use Rattle.erase_journal.proofs.SettledLaws.{settled-healthy}
 use Rattle.sector_map.specs.Table.{Mounts, MountCut}
-use Rattle.sector_map.specs.Maps.{IsMountable, geometry_of, KeepsEach, Filled, FillCut, FillFails, Mounted, MountWasCut, MountFails, shown_with, is_slow_in}
+use Rattle.sector_map.specs.Maps.{IsMountable, geometry_of, KeepsEach, Mounted, MountWasCut, MountFails, shown_with, is_slow_in}
+use Rattle.sector_map.specs.Filling.{Filled, FillCut, FillFails}
 use Rattle.sector_map.specs.declared.entry.Entry.{Entry}
 use Rattle.sector_map.specs.declared.error.MountError.{MountError}
 use Rattle.sector_map.specs.declared.error.MountError.TheVariants as mounts
@@ -25,14 +27,14 @@ use Rattle.sector_map.proofs.Places.{holds-sound}
 use Rattle.sector_map.proofs.MapCalls.{each-after}
 use Rattle.sector_map.proofs.Restoring.{blocks-keep, left-keeps, mounts-keeps, mount-cut-keeps}
 
-pub filled : (t : List Entry) (a c : NorState) → Mounts a.memory t c.memory → Succeeds a c → Filled a (shown_with None c)
+pub filled : (t : List Entry) (a c : NorState) → Mounts a.memory t c.memory → SucceedsSettled a c → Filled a (shown_with None c)
 filled t a c h done = record {
   slots = h.sound;
   keeps = mounts-keeps a.memory c.memory t h done.settled;
   kept = record { cuts = done.kept.cuts; slows = done.kept.slows; powered = done.kept.powered; is_slow = sym done.ready.1; has_large = done.kept.has_large };
 }
 
-pub fill-cut : (a c d : NorState) → MountCut a.memory c.memory → IsHealthy c.memory → Refuses errors.Cut a c → IsReady a → IsBehind c d → FillCut a d
+pub fill-cut : (a c d : NorState) → MountCut a.memory c.memory → IsHealthy c.memory → Refuses errors.Cut a c → IsNorReady a → IsBehind c d → FillCut a d
 fill-cut a c d cut healthy f ready behind = record {
   came = elim f.fails.0 as (λ _. a.cuts < d.cuts) [ inl came ↦ (let e = behind.cuts in omega (arith, came, e)) | inr off ↦ (let e = ready.0 in let g = off.0 in absurd (cc (e, g))) ];
   slows = behind.slows ∙ f.fails.1;
@@ -121,7 +123,7 @@ recovery-cut a b r = record {
 at-memory : (a b : NorState) → b.memory ≡ a.memory → (P : List ℕ → Type 0) → P a.memory → P b.memory
 at-memory a b e P h = subst P (sym e) h
 
-mount-fails-after : (e : MountError) (a b c : NorState) → b.memory ≡ a.memory → Kept a b → MountFails e b c → MountFails e a c
+mount-fails-after : (e : MountError) (a b c : NorState) → b.memory ≡ a.memory → OnlyMemoryChanges a b → MountFails e b c → MountFails e a c
 mount-fails-after mounts.Cut a b c same k f = record {
   came = elim f.came as (λ _. (a.cuts < c.cuts) ⊎ (a.powered ≡ false)) [ inl came ↦ (let g = k.cuts in inl (omega (arith, came, g))) | inr off ↦ inr (sym k.powered ∙ off) ];
   slows = f.slows ∙ k.slows;
@@ -151,7 +153,7 @@ mount-fails-after mounts.NotFormatted a b c same k f = (
   record { same = f.1.same ∙ same; kept = kept-after a b c k f.1.kept },
 )
 
-pub looked-fails : {T N : Type 0} (st : N → NorState) (r : Result T (N × MountError)) (a b : NorState) → b.memory ≡ a.memory → Kept a b → IfErr r (λ e. MountFails e.1 b (st e.0)) → IfErr r (λ e. MountFails e.1 a (st e.0))
+pub looked-fails : {T N : Type 0} (st : N → NorState) (r : Result T (N × MountError)) (a b : NorState) → b.memory ≡ a.memory → OnlyMemoryChanges a b → IfErr r (λ e. MountFails e.1 b (st e.0)) → IfErr r (λ e. MountFails e.1 a (st e.0))
 looked-fails st (Ok v) a b same k f = tt
 looked-fails st (Err e) a b same k f = mount-fails-after e.1 a b (st e.0) same k f
 
@@ -164,7 +166,7 @@ filled-fails st (Ok v) a b super r f = tt
 filled-fails st (Err e) a b super r f = recovered-fails e.1 a b (st e.0) super r f
 
 -- what a map shows of a call that its store answered Ok
-pub shown-succeeds : (o : Option NorError) (a b : NorState) → o ≡ None → Succeeds a b → Succeeds (shown_with o a) (shown_with o b)
+pub shown-succeeds : (o : Option NorError) (a b : NorState) → o ≡ None → SucceedsSettled a b → SucceedsSettled (shown_with o a) (shown_with o b)
 shown-succeeds o a b e s = record {
   ready = (s.ready.0, ap is_slow_in e);
   kept = record { cuts = s.kept.cuts; slows = s.kept.slows; powered = s.kept.powered; is_slow = refl; has_large = s.kept.has_large };

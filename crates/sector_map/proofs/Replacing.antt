@@ -14,7 +14,7 @@ use Rattle.sector_slots.specs.Steps.{PutLeaves, still_free, half_written, writte
 use Rattle.sector_slots.proofs.BlankLaws.{sound-holds}
 use Rattle.sector_slots.specs.Sectors.{zeros, LiveAt, IsAbsent, absent, held, Single, NextGeneration, begun, after, OthersKept, with_sector, sector_at, IsSoundMap, IsSingle, HoldsSectors, content_in}
 use Rattle.sector_slots.proofs.SectorLaws.{Without, moved, moved-back, at-new, free-without, dead-without, other-without}
-use Rattle.sector_slots.specs.Copying.{IsQuiet}
+use Rattle.sector_slots.specs.Copying.{HoldsNothing}
 use Rattle.sector_slots.proofs.SlotLaws.{counted-raw}
 use Rattle.sector_slots.proofs.WinnerLaws.{sector-one, sector-content-is}
 use Rattle.sector_map.proofs.Places.{live-not-free, dead-not-live, slot-only, others-kept, placed-settled, live-placed, put-holds, put-left, retire-held}
@@ -239,7 +239,7 @@ retire-was-cut w g o k x m m1 m2 e low only live new clean only' left clean' r =
 pub content-found : (g : ℕ) (holder : Option Held) (o : Held) (x m : List ℕ) → holder ≡ Some o → ((tag : Tag) (content : List ℕ) → stored_at m o.slot ≡ Live tag content → x ≡ content)
     → IsSoundMap m → IsSingle m → HeldBy holder g m → x ≡ sector_at m g
 content-found g holder o x m e is sound single hold =
-    found g o x m sound single (subst (λ q. HeldBy q g m) e hold) (λ y l. (let tag : Tag = record { number = g; generation = o.generation } in is tag y (counted-raw m o.slot (Live tag y) l (λ e. subst (λ a. IsQuiet a) (sym e) tt))))
+    found g o x m sound single (subst (λ q. HeldBy q g m) e hold) (λ y l. (let tag : Tag = record { number = g; generation = o.generation } in is tag y (counted-raw m o.slot (Live tag y) l (λ e. subst (λ a. HoldsNothing a) (sym e) tt))))
 
 pub absent-found : (g n : ℕ) (holder : Option Held) (x m : List ℕ) → holder ≡ None → x ≡ replicate n 0 → n ≡ 512 → IsSoundMap m → HeldBy holder g m → x ≡ sector_at m g
 unfolding zeros

@@ -4,22 +4,23 @@ use Rattle.std.specs.Prelude.{Option, Some, None, Result, IfOk, IfErr, OnOk, IsT
 use Rattle.std.specs.Result.{IsErrOf}
 use Rattle.chip_model.specs.Geometry.{sector_count}
 use Rattle.nor_layout.specs.Kinds.{kind_of}
-use Rattle.nor_driver.specs.State.{NorState, IsReady}
+use Rattle.nor_driver.specs.State.{NorState, IsNorReady, Refuses}
 use Rattle.nor_driver.specs.declared.error.NorError.{NorError}
 use Rattle.nor_driver.specs.declared.error.NorError.TheVariants as errors
 use Rattle.erase_journal.specs.Blocks.{SameBlocks}
 use Rattle.erase_journal.specs.Journals.{IsHealthy, IsSettled}
 use Rattle.erase_journal.specs.Recovery.{Restored, RestoreCut, RestoreCorrupt}
 use Rattle.erase_journal.specs.Steps as steps
+use Rattle.erase_journal.specs.Steps.{SucceedsSettled}
 use Rattle.sector_slots.specs.Slots.{slot_in, data_blocks, data_block, kind_at, raw_slot, IsClean}
 use Rattle.sector_slots.specs.Sectors.{sector_at, IsSoundMap}
 use Rattle.sector_slots.proofs.BlankLaws.{sound-holds, blocks-holds, counted-same}
 use Rattle.sector_slots.proofs.CleanLaws.{clean-blocks}
-use Rattle.sector_slots.specs.Steps.{Succeeds, Refuses}
-use Rattle.sector_slots.proofs.StepLaws.{settled-healthy}
+use Rattle.erase_journal.proofs.SettledLaws.{settled-healthy}
 use Rattle.sector_map.specs.Replace.{HeldBy}
 use Rattle.sector_map.specs.Table.{IsTableOf, Mounts, MountCut, holder}
-use Rattle.sector_map.specs.Maps.{IsStore, KeepsEach, Served, Standing, Renewed, RenewCorrupt, RenewCut, RenewFails}
+use Rattle.sector_map.specs.Maps.{IsStore, KeepsEach, IsServing, KnownWhile}
+use Rattle.sector_map.specs.Filling.{Renewed, RenewCorrupt, RenewCut, RenewFails}
 use Rattle.sector_map.specs.declared.held.Held.{Held}
 use Rattle.sector_map.specs.declared.entry.Entry.{Entry}
 use Rattle.sector_map.specs.declared.entry.Entry.TheVariants.{Absent}
@@ -44,7 +45,7 @@ mounts-keeps m m' table h settled = keeps-each m m' h.chip (settled-healthy m' s
 pub mount-cut-keeps : (m m' : List ℕ) → MountCut m m' → IsHealthy m' → IsSoundMap m → KeepsEach m m'
 mount-cut-keeps m m' h healthy sound = keeps-each m m' h.chip healthy (h.sectors sound) h.clean
 
-pub served-after : (t : List Entry) (b c : NorState) (indexed : Bool) → Mounts b.memory t c.memory → Succeeds b c → IsReady b → indexed ≡ true → Served t c indexed
+pub served-after : (t : List Entry) (b c : NorState) (indexed : Bool) → Mounts b.memory t c.memory → SucceedsSettled b c → IsNorReady b → indexed ≡ true → IsServing t c indexed
 served-after t b c indexed h done ready is = record {
   ready = (done.kept.powered ∙ ready.0, done.kept.is_slow ∙ ready.1);
   settled = done.settled;
@@ -54,7 +55,7 @@ served-after t b c indexed h done ready is = record {
   index = is;
 }
 
-pub renew-ok : (r : Result Bool NorError) (t : List Entry) (a b c : NorState) (indexed : Bool) → Restored a b → IfOk r (λ s. IsTrue s → Mounts b.memory t c.memory) → IfOk r (λ s. IsTrue s → indexed ≡ true) → OnOk r (Succeeds b c)
+pub renew-ok : (r : Result Bool NorError) (t : List Entry) (a b c : NorState) (indexed : Bool) → Restored a b → IfOk r (λ s. IsTrue s → Mounts b.memory t c.memory) → IfOk r (λ s. IsTrue s → indexed ≡ true) → OnOk r (SucceedsSettled b c)
     → IfOk r (λ s. IsTrue s → Renewed t a c indexed)
 renew-ok (Ok s) t a b c indexed r made index done = λ is.
     let h = made is in
@@ -68,7 +69,7 @@ renew-ok (Ok s) t a b c indexed r made index done = λ is.
     }
 renew-ok (Err e) t a b c indexed r made index done = tt
 
-pub renew-corrupt : (r : Result Bool NorError) (a b c : NorState) → Restored a b → IfOk r (λ s. IsFalse s → (IsSoundMap b.memory → ⊥) × (c.memory ≡ b.memory)) → OnOk r (Succeeds b c) → IfOk r (λ s. IsFalse s → RenewCorrupt a c)
+pub renew-corrupt : (r : Result Bool NorError) (a b c : NorState) → Restored a b → IfOk r (λ s. IsFalse s → (IsSoundMap b.memory → ⊥) × (c.memory ≡ b.memory)) → OnOk r (SucceedsSettled b c) → IfOk r (λ s. IsFalse s → RenewCorrupt a c)
 renew-corrupt (Ok s) a b c r made done = λ is.
     let h = made is in
     record {
@@ -102,7 +103,7 @@ renew-fails (Err errors.Slow) a b c r cut healthy size f = record {
   size = size ∙ r.size;
 }
 
-pub left-keeps : (m m' : List ℕ) → (m' ≡ m) ⊎ steps.Stands m m' → IsStore m → KeepsEach m m'
+pub left-keeps : (m m' : List ℕ) → (m' ≡ m) ⊎ steps.KeepsBlocks m m' → IsStore m → KeepsEach m m'
 left-keeps m m' h store = elim h as (λ _. KeepsEach m m') [
   | inl e ↦ subst (λ z. KeepsEach m z) (sym e) (blocks-keep m m (record { chip = record { same_length = refl; superblock = λ k low. refl }; each = λ b low high. refl }) store.journals store.slots)
   | inr s ↦ blocks-keep m m' s.blocks s.healthy store.slots
@@ -129,12 +130,12 @@ restore-corrupt a b r = record {
 }
 
 -- What stands.
-pub served-none : (o : Option NorError) (table : List Entry) (s : NorState) (indexed : Bool) → o ≡ None → Standing o table s indexed → Served table s indexed
+pub served-none : (o : Option NorError) (table : List Entry) (s : NorState) (indexed : Bool) → o ≡ None → KnownWhile o table s indexed → IsServing table s indexed
 served-none None table s indexed e h = h
 served-none (Some errors.Cut) table s indexed e h = absurd (cc e)
 served-none (Some errors.Slow) table s indexed e h = absurd (cc e)
 
-pub cut-store : (o : Option NorError) (error : NorError) (table : List Entry) (s : NorState) (indexed : Bool) → o ≡ Some error → error ≡ errors.Cut → Standing o table s indexed → IsStore s.memory
+pub cut-store : (o : Option NorError) (error : NorError) (table : List Entry) (s : NorState) (indexed : Bool) → o ≡ Some error → error ≡ errors.Cut → KnownWhile o table s indexed → IsStore s.memory
 cut-store None error table s indexed e c h = absurd (cc e)
 cut-store (Some errors.Cut) error table s indexed e c h = h.store
 cut-store (Some errors.Slow) error table s indexed e c h = absurd (cc (e, c))

@@ -6,27 +6,27 @@ use Rattle.chip_model.specs.Geometry.{sector_count, block_count}
 use Rattle.nor_layout.specs.declared.header.Generation.{Generation}
 use Rattle.nor_layout.specs.declared.header.Tag.{Tag}
 use Rattle.nor_layout.specs.Headers.{next_generation}
-use Rattle.nor_driver.specs.State.{NorState}
+use Rattle.nor_driver.specs.State.{NorState, Refuses}
 use Rattle.nor_driver.specs.declared.error.NorError.{NorError}
 use Rattle.erase_journal.specs.Blocks.{SameChip}
-use Rattle.erase_journal.specs.Journals.{IsHealthy, IsSettled}
-use Rattle.erase_journal.specs.declared.phase.Phase.TheVariants.{Idle}
+use Rattle.erase_journal.specs.Journals.{IsHealthy}
+use Rattle.erase_journal.specs.Steps.{SucceedsSettled}
 use Rattle.sector_slots.specs.Slots.{Slot, Dead, slot_at, slot_count, IsClean, IsLive}
 use Rattle.sector_slots.specs.Blocks.{AreSettled}
-use Rattle.sector_slots.specs.Steps.{Succeeds, Refuses, OnlyPlace}
+use Rattle.sector_slots.specs.Steps.{OnlyPlace}
 use Rattle.sector_slots.specs.Sectors.{LiveAt, SoundSlots, OthersKept, HoldsSectors, IsSingle, generation_in}
 use Rattle.sector_slots.proofs.SectorLaws.{Without, moved, moved-back, dead-without, other-without, kind_in, never-round}
 use Rattle.sector_map.proofs.Places.{others-kept, slot-only, placed-settled, live-placed, retire-held}
-use Rattle.sector_map.specs.Table.{OneHolds, TwoHold, Says, IsTabled, Settled, IsOneAtMost, IsTableOf, holder}
+use Rattle.sector_map.specs.Table.{OneHolds, TwoHold, EntryHolds, IsTabled, KeptOne, IsOneAtMost, IsTableOf, holder}
 use Rattle.sector_map.specs.Replace.{HeldBy}
 use Rattle.sector_map.specs.declared.held.Held.{Held}
 use Rattle.sector_map.specs.declared.entry.Entry.{Entry}
 use Rattle.sector_map.specs.declared.entry.Entry.TheVariants.{Absent, One, Two}
-use Rattle.sector_map.proofs.Calls.{succeeds-after, refuses-after}
+use Rattle.erase_journal.proofs.SettledLaws.{settled-healthy, settled-after, refuses-settled}
 use Rattle.sector_map.proofs.Replacing.{chip-after, back-through, on-through}
 
 -- an entry of a sector that slot w neither held nor holds
-says-kept : (e : Entry) (f f' : ℕ → Slot) (n w g : ℕ) → OthersKept n w f f' → Without f w g → Without f' w g → Says e f n g → Says e f' n g
+says-kept : (e : Entry) (f f' : ℕ → Slot) (n w g : ℕ) → OthersKept n w f f' → Without f w g → Without f' w g → EntryHolds e f n g → EntryHolds e f' n g
 says-kept Absent f f' n w g only out out' none = λ s k x l. none s k x (back-through f f' n w g s k x only out' l)
 says-kept (One h) f f' n w g only out out' o = record {
   live = (o.live.0, on-through f f' n w g h.slot h.generation o.live.0 only out o.live.1);
@@ -52,16 +52,16 @@ says-settled a b f f' n g only dead o = record {
       elim (o.only s k x (moved-back f f' n b.slot s g k x only other l)) [ inl e ↦ e | inr e ↦ absurd (other e) ];
 }
 
-tabled-settled : (a b : Held) (old new : List Entry) (f f' : ℕ → Slot) (n g : ℕ) → g < length old → slice_index_or old g Absent ≡ Two a b → OthersKept n b.slot f f' → f' b.slot ≡ Dead → Settled old g a new
+tabled-settled : (a b : Held) (old new : List Entry) (f f' : ℕ → Slot) (n g : ℕ) → g < length old → slice_index_or old g Absent ≡ Two a b → OthersKept n b.slot f f' → f' b.slot ≡ Dead → KeptOne old g a new
     → IsTabled old f n → IsTabled new f' n
 tabled-settled a b old new f f' n g low is only dead s t =
-    let o : TwoHold a b f n g = subst (λ e. Says e f n g) is (t.each g low) in
+    let o : TwoHold a b f n g = subst (λ e. EntryHolds e f n g) is (t.each g low) in
     record {
       each = λ h small. elim (cases_eq h g) [
-        | inl same ↦ subst (λ z. Says (slice_index_or new z Absent) f' n z) (sym same) (subst (λ e. Says e f' n g) (sym s.entry) (says-settled a b f f' n g only dead o))
+        | inl same ↦ subst (λ z. EntryHolds (slice_index_or new z Absent) f' n z) (sym same) (subst (λ e. EntryHolds e f' n g) (sym s.entry) (says-settled a b f f' n g only dead o))
         | inr other ↦
             let was : h < length old = omega (arith, small, s.size) in
-            subst (λ e. Says e f' n h) (sym (s.others h was other))
+            subst (λ e. EntryHolds e f' n h) (sym (s.others h was other))
             (says-kept (slice_index_or old h Absent) f f' n b.slot h only (other-without f b.slot h g b.generation o.older_live.0 o.older_live.1.is other) (dead-without f' b.slot h dead) (t.each h was))
       ];
       within = λ r h k x l.
@@ -75,7 +75,7 @@ tabled-settled a b old new f f' n g low is only dead s t =
 -- what the loop keeps
 pub record Retired (table0 table : List Entry) (n : ℕ) (a b : NorState) : Type 0 where
   pub chip : SameChip a.memory b.memory
-  pub since : (b ≡ a) ⊎ Succeeds a b
+  pub since : (b ≡ a) ⊎ SucceedsSettled a b
   pub size : length table ≡ length table0
   pub tabled : IsTabled table (slot_at b.memory) (slot_count a.memory)
   pub sectors : (sectors : ℕ → List ℕ) → HoldsSectors sectors a.memory → HoldsSectors sectors b.memory
@@ -119,15 +119,15 @@ one-held e h q = subst (λ z. IsOneAtMost z) (sym q) tt
 
 -- the two slots of sector g, before it
 pub retired-two : (table0 table : List Entry) (n : ℕ) (a b : NorState) (x y : Held) → n < length table → slice_index_or table n Absent ≡ Two x y → Retired table0 table n a b → TwoHold x y (slot_at b.memory) (slot_count a.memory) n
-retired-two table0 table n a b x y low is r = subst (λ e. Says e (slot_at b.memory) (slot_count a.memory) n) is (r.tabled.each n low)
+retired-two table0 table n a b x y low is r = subst (λ e. EntryHolds e (slot_at b.memory) (slot_count a.memory) n) is (r.tabled.each n low)
 
-pub succeeds-perhaps : (a b c : NorState) → (b ≡ a) ⊎ Succeeds a b → Succeeds b c → Succeeds a c
-succeeds-perhaps a b c (inl e) s = subst (λ z. Succeeds z c) e s
-succeeds-perhaps a b c (inr t) s = succeeds-after a b c t s
+pub succeeds-perhaps : (a b c : NorState) → (b ≡ a) ⊎ SucceedsSettled a b → SucceedsSettled b c → SucceedsSettled a c
+succeeds-perhaps a b c (inl e) s = subst (λ z. SucceedsSettled z c) e s
+succeeds-perhaps a b c (inr t) s = settled-after a b c t s
 
-pub refuses-perhaps : (e : NorError) (a b c : NorState) → (b ≡ a) ⊎ Succeeds a b → Refuses e b c → Refuses e a c
+pub refuses-perhaps : (e : NorError) (a b c : NorState) → (b ≡ a) ⊎ SucceedsSettled a b → Refuses e b c → Refuses e a c
 refuses-perhaps e a b c (inl q) r = subst (λ z. Refuses e z c) q r
-refuses-perhaps e a b c (inr t) r = refuses-after e a b c t r
+refuses-perhaps e a b c (inr t) r = refuses-settled e a b c t r
 
 -- a retirement that was cut
 pub older-live : (table0 table : List Entry) (n : ℕ) (a b : NorState) (x y : Held) → n < length table → slice_index_or table n Absent ≡ Two x y → Retired table0 table n a b → IsLive (slot_at b.memory y.slot)
@@ -149,7 +149,7 @@ retired-sectors table0 table n a b c x y low is only left r sectors s =
     retire-held x.slot y.slot n y.generation x.generation o.newer_live.0 o.older_live.0 b.memory c.memory sectors only o.older_live.1 o.newer_live.1 (two-apart x y (slot_at b.memory) (slot_count b.memory) n o) o.next left r.blocks (r.sectors sectors s)
 
 pub retired-more : (table0 table new now : List Entry) (n next : ℕ) (a b c d : NorState) (x y : Held) → next ≡ suc n → now ≡ new → d ≡ c → n < length table → slice_index_or table n Absent ≡ Two x y → OnlyPlace y.slot b.memory c.memory
-    → (IsLive (slot_at b.memory y.slot) → slot_at c.memory y.slot ≡ Dead) → (IsLive (slot_at b.memory y.slot) → IsClean b.memory → IsClean c.memory) → Succeeds b c → Settled table n x new → Retired table0 table n a b → Retired table0 now next a d
+    → (IsLive (slot_at b.memory y.slot) → slot_at c.memory y.slot ≡ Dead) → (IsLive (slot_at b.memory y.slot) → IsClean b.memory → IsClean c.memory) → SucceedsSettled b c → KeptOne table n x new → Retired table0 table n a b → Retired table0 now next a d
 retired-more table0 table new now n next a b c d x y e t q low is only dead' clean' s settled r = let was = older-live table0 table n a b x y low is r in let dead = dead' was in let clean = clean' was in subst (λ z. Retired table0 now next a z) (sym q) (subst (λ k. Retired table0 now k a c) (sym e) (subst (λ z. Retired table0 z (suc n) a c) (sym t) (record {
   chip = chip-after a.memory b.memory c.memory r.chip only.only.chip;
   since = inr (succeeds-perhaps a b c r.since s);
@@ -174,9 +174,6 @@ retired-cut table0 table n a b c x y low is only left r =
     let either = left (older-live table0 table n a b x y low is r) in
     retired-sectors table0 table n a b c x y low is only either r
 
-settled-healthy : (m : List ℕ) → IsSettled m → IsHealthy m
-settled-healthy m s = (Idle, s.sound)
-
 pub retired-healthy : (table0 table : List Entry) (n : ℕ) (a b : NorState) → Retired table0 table n a b → IsHealthy a.memory → IsHealthy b.memory
 retired-healthy table0 table n a b r h = elim r.since [ inl e ↦ subst (λ z. IsHealthy z.memory) (sym e) h | inr s ↦ settled-healthy b.memory s.settled ]
 
@@ -191,7 +188,7 @@ retired-all table0 table n a b size e r = record {
 one-generation : (f : ℕ → Slot) (n s t g : ℕ) (j k : Generation) (x y : List ℕ) → LiveAt f n s g j x → LiveAt f n t g k y → s ≡ t → j ≡ k
 one-generation f n s t g j k x y l m e = ap generation_in (sym l.is ∙ (ap f e ∙ m.is))
 
-entry-neighbours : (e : Entry) (f : ℕ → Slot) (n g s t : ℕ) (j k : Generation) (x y : List ℕ) → Says e f n g → LiveAt f n s g j x → LiveAt f n t g k y → s ≢ t → (j ≡ next_generation k) ⊎ (k ≡ next_generation j)
+entry-neighbours : (e : Entry) (f : ℕ → Slot) (n g s t : ℕ) (j k : Generation) (x y : List ℕ) → EntryHolds e f n g → LiveAt f n s g j x → LiveAt f n t g k y → s ≢ t → (j ≡ next_generation k) ⊎ (k ≡ next_generation j)
 entry-neighbours Absent f n g s t j k x y none l m differ = absurd (none s j x l)
 entry-neighbours (One h) f n g s t j k x y o l m differ = absurd (differ (o.only s j x l ∙ sym (o.only t k y m)))
 entry-neighbours (Two a b) f n g s t j k x y o l m differ =
@@ -208,7 +205,7 @@ entry-neighbours (Two a b) f n g s t j k x y o l m differ =
       ]
     ]
 
-entry-two : (e : Entry) (f : ℕ → Slot) (n g r s t : ℕ) (i j k : Generation) (x y z : List ℕ) → Says e f n g → LiveAt f n r g i x → LiveAt f n s g j y → LiveAt f n t g k z → (r ≡ s) ⊎ ((s ≡ t) ⊎ (r ≡ t))
+entry-two : (e : Entry) (f : ℕ → Slot) (n g r s t : ℕ) (i j k : Generation) (x y z : List ℕ) → EntryHolds e f n g → LiveAt f n r g i x → LiveAt f n s g j y → LiveAt f n t g k z → (r ≡ s) ⊎ ((s ≡ t) ⊎ (r ≡ t))
 entry-two Absent f n g r s t i j k x y z none l m o = absurd (none r i x l)
 entry-two (One h) f n g r s t i j k x y z q l m o = inl (q.only r i x l ∙ sym (q.only s j y m))
 entry-two (Two a b) f n g r s t i j k x y z q l m o = elim (q.only r i x l) [
@@ -230,7 +227,7 @@ sound-tabled table f n t = record {
   whole = t.whole;
 }
 
-entry-one : (e : Entry) (f : ℕ → Slot) (n g s t : ℕ) (j k : Generation) (x y : List ℕ) → IsOneAtMost e → Says e f n g → LiveAt f n s g j x → LiveAt f n t g k y → s ≡ t
+entry-one : (e : Entry) (f : ℕ → Slot) (n g s t : ℕ) (j k : Generation) (x y : List ℕ) → IsOneAtMost e → EntryHolds e f n g → LiveAt f n s g j x → LiveAt f n t g k y → s ≡ t
 entry-one Absent f n g s t j k x y one none l m = absurd (none s j x l)
 entry-one (One h) f n g s t j k x y one o l m = o.only s j x l ∙ sym (o.only t k y m)
 entry-one (Two a b) f n g s t j k x y one o l m = absurd one
@@ -243,7 +240,7 @@ single-tabled table m t = record {
 }
 
 -- the slot that an entry names
-entry-holder : (e : Entry) (m : List ℕ) (g : ℕ) → IsOneAtMost e → Says e (slot_at m) (slot_count m) g → HeldBy (holder e) g m
+entry-holder : (e : Entry) (m : List ℕ) (g : ℕ) → IsOneAtMost e → EntryHolds e (slot_at m) (slot_count m) g → HeldBy (holder e) g m
 entry-holder Absent m g one none = none
 entry-holder (One h) m g one o = o.live
 entry-holder (Two a b) m g one o = absurd one

@@ -11,7 +11,7 @@ use Rattle.sector_slots.specs.Slots.{Slot, Free, Live, NoGeneration, Dead, Outsi
 use Rattle.sector_slots.specs.Sectors.{LiveAt, SoundSlots, generation_in, is_next}
 use Rattle.sector_slots.proofs.SectorLaws.{number_in, kind_in, never-round}
 use Rattle.sector_slots.proofs.WinnerLaws.{byte-one}
-use Rattle.sector_map.specs.Table.{Says, IsTabled, noted, IsBlankTable, Entered, Enters, Heads}
+use Rattle.sector_map.specs.Table.{EntryHolds, IsTabled, noted, IsBlankTable, Entered, Enters, Heads}
 use Rattle.sector_map.specs.declared.held.Held.{Held}
 use Rattle.sector_map.specs.declared.entry.Entry.{Entry}
 use Rattle.sector_map.specs.declared.entry.Entry.TheVariants.{Absent, One, Two}
@@ -30,7 +30,7 @@ back : (f : ℕ → Slot) (n b g : ℕ) (k : Generation) (x : List ℕ) → IsOt
 back f n b g k x out l = elim (cases_eq b n) [ inl same ↦ absurd (out k x (ap f (sym same) ∙ l.is)) | inr other ↦ less f n b g k x other l ]
 
 -- it changes nothing of the sector
-pub says-on : (e : Entry) (f : ℕ → Slot) (n g : ℕ) → IsOther f n g → Says e f n g → Says e f (suc n) g
+pub says-on : (e : Entry) (f : ℕ → Slot) (n g : ℕ) → IsOther f n g → EntryHolds e f n g → EntryHolds e f (suc n) g
 says-on Absent f n g out none = λ s k x l. none s k x (back f n s g k x out l)
 says-on (One h) f n g out o = record {
   live = (o.live.0, more f n h.slot g h.generation o.live.0 o.live.1);
@@ -66,9 +66,9 @@ is-next j k e = elim (cases_eq (generation_byte j) (generation_byte (next_genera
 ]
 
 -- one more slot of the sector
-pub says-noted : (e e' : Entry) (f : ℕ → Slot) (n g : ℕ) (k : Generation) (x : List ℕ) → f n ≡ Live (record { number = g; generation = k }) x → Says e f n g
-    → noted e (record { slot = n; generation = k }) ≡ Some e' → Says e' f (suc n) g
-says-noted Absent e' f n g k x here none e = subst (λ z. Says z f (suc n) g) (some-one (One (record { slot = n; generation = k })) e' e) (record {
+pub says-noted : (e e' : Entry) (f : ℕ → Slot) (n g : ℕ) (k : Generation) (x : List ℕ) → f n ≡ Live (record { number = g; generation = k }) x → EntryHolds e f n g
+    → noted e (record { slot = n; generation = k }) ≡ Some e' → EntryHolds e' f (suc n) g
+says-noted Absent e' f n g k x here none e = subst (λ z. EntryHolds z f (suc n) g) (some-one (One (record { slot = n; generation = k })) e' e) (record {
   live = (x, record { number = omega arith; is = here });
   only = λ s j y l. elim (cases_eq s n) [ inl same ↦ same | inr other ↦ absurd (none s j y (less f n s g j y other l)) ];
 })
@@ -81,11 +81,11 @@ says-noted (One h) e' f n g k x here o e =
     elim (bool-cases (is_next k h.generation)) [
       | inl fits ↦
           let q : Some (Two new h) ≡ Some e' = rw fits at e in
-          subst (λ z. Says z f (suc n) g) (some-one (Two new h) e' q) (record { newer_live = (x, now); older_live = (o.live.0, was); next = is-next k h.generation fits; only = either })
+          subst (λ z. EntryHolds z f (suc n) g) (some-one (Two new h) e' q) (record { newer_live = (x, now); older_live = (o.live.0, was); next = is-next k h.generation fits; only = either })
       | inr misses ↦ elim (bool-cases (is_next h.generation k)) [
         | inl fits ↦
             let q : Some (Two h new) ≡ Some e' = rw (misses, fits) at e in
-            subst (λ z. Says z f (suc n) g) (some-one (Two h new) e' q) (record {
+            subst (λ z. EntryHolds z f (suc n) g) (some-one (Two h new) e' q) (record {
               newer_live = (o.live.0, was);
               older_live = (x, now);
               next = is-next h.generation k fits;
@@ -100,7 +100,7 @@ next-is : (j k : Generation) → j ≡ next_generation k → is_next j k ≡ tru
 next-is j k e = eq-eqb (generation_byte j) (generation_byte (next_generation k)) (ap generation_byte e)
 
 -- where it is refused the slots are corrupt
-pub noted-none : (e : Entry) (f : ℕ → Slot) (n total g count : ℕ) (k : Generation) (x : List ℕ) → n < total → f n ≡ Live (record { number = g; generation = k }) x → Says e f n g
+pub noted-none : (e : Entry) (f : ℕ → Slot) (n total g count : ℕ) (k : Generation) (x : List ℕ) → n < total → f n ≡ Live (record { number = g; generation = k }) x → EntryHolds e f n g
     → noted e (record { slot = n; generation = k }) ≡ None → SoundSlots f total count → ⊥
 noted-none Absent f n total g count k x low here none e sound = absurd (none-some (One (record { slot = n; generation = k })) (sym e))
 noted-none (One h) f n total g count k x low here o e sound =
@@ -132,7 +132,7 @@ noted-none (Two a b) f n total g count k x low here o e sound =
 -- Step by step: before any slot is read;
 pub tabled-none : (table : List Entry) (f : ℕ → Slot) → IsBlankTable table → IsTabled table f 0
 tabled-none table f blank = record {
-  each = λ g low. subst (λ e. Says e f 0 g) (sym (blank g low)) (λ s k x l. omega (arith, l.number));
+  each = λ g low. subst (λ e. EntryHolds e f 0 g) (sym (blank g low)) (λ s k x l. omega (arith, l.number));
   within = λ s g k x l. omega (arith, l.number);
   whole = λ s low. omega (arith, low);
 }
@@ -169,11 +169,11 @@ tabled-live old new f n tag y here d t =
     let out : (h : ℕ) → h ≢ tag.number → IsOther f n h = λ h other k x l. other (ap number_in (sym l ∙ here)) in
     record {
       each = λ h low. elim (cases_eq h tag.number) [
-        | inl same ↦ subst (λ z. Says (slice_index_or new z Absent) f (suc n) z) (sym same)
+        | inl same ↦ subst (λ z. EntryHolds (slice_index_or new z Absent) f (suc n) z) (sym same)
             (says-noted (slice_index_or old tag.number Absent) (slice_index_or new tag.number Absent) f n tag.number tag.generation y here (t.each tag.number d.number) d.entry)
         | inr other ↦
             let was : h < length old = omega (arith, low, d.size) in
-            subst (λ z. Says z f (suc n) h) (sym (d.others h was other)) (says-on (slice_index_or old h Absent) f n h (out h other) (t.each h was))
+            subst (λ z. EntryHolds z f (suc n) h) (sym (d.others h was other)) (says-on (slice_index_or old h Absent) f n h (out h other) (t.each h was))
       ];
       within = λ s h k x l. elim (cases_eq s n) [
         | inl same ↦

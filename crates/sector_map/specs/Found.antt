@@ -1,5 +1,7 @@
--- What the kinds of the blocks say of a copying, as they are read one by one. Source: own, layout 2.
-use Rattle.std.specs.Prelude.{◌≡◌, ◌≢◌, ℕ, ◌+◌, ◌-◌, ◌<◌, ◌==◌, ◌&&◌, Bool, true, false, not, List, Option, Some, None, if◌then◌else◌, nat_le}
+-- What the kinds of the blocks say of a copying, as they are read one by one. Source: own, layout
+-- 2.
+use Rattle.std.specs.Prelude.{◌≡◌, ◌≢◌, ℕ, ◌+◌, ◌-◌, ◌<◌, ◌==◌, ◌&&◌, Bool, true, false, not, List}
+use Rattle.std.specs.Prelude.{Option, Some, None, if◌then◌else◌, nat_le}
 use Rattle.nor_layout.specs.declared.kind.Kind.{Kind}
 use Rattle.nor_layout.specs.declared.kind.Kind.TheVariants as kinds
 use Rattle.sector_slots.specs.Slots.{data_blocks, kind_at}
@@ -32,7 +34,8 @@ FoundBelow (Committed s t) kind k n = CommittedBelow s t kind k n
 abbrev pub noted_first : ℕ → Kind → ℕ → Option Found
 noted_first block kinds.Plain n = Some AtRest
 noted_first block kinds.Void n = Some (Void block)
-noted_first block (kinds.Committed b) n = if nat_le 4 b && nat_le b (n + 3) && not (b == block + 4) then Some (Committed (b - 4) block) else None
+noted_first block (kinds.Committed b) n = if nat_le 4 b && nat_le b (n + 3) && not (b == block + 4)
+    then Some (Committed (b - 4) block) else None
 noted_first block kinds.Settled n = Some AtRest
 noted_first block kinds.Unknown n = None
 
@@ -53,10 +56,10 @@ abbrev pub FoundIn : Found → List ℕ → Type 0
 FoundIn found m = FoundBelow found (kind_at m) (data_blocks m) (data_blocks m)
 
 -- whether the slots of a block count
-abbrev pub counts : Found → ℕ → Bool
-counts AtRest block = true
-counts (Void t) block = not (block == t)
-counts (Committed s t) block = not (block == s)
+abbrev pub block_counts : Found → ℕ → Bool
+block_counts AtRest block = true
+block_counts (Void t) block = not (block == t)
+block_counts (Committed s t) block = not (block == s)
 
 -- what was found, where one goes on or a block is wholly free
 abbrev pub fitting : Found → Bool → Option Found

@@ -1,14 +1,13 @@
 -- What the calls of a map leave of a chip, by their answer. Source: own, layout 2.
-use Rattle.std.specs.Prelude.{◌≡◌, ◌≢◌, ◌⊎◌, ℕ, ◌+◌, ◌<◌, ◌≤◌, Bool, true, false, List, length, Option, Some, None, Ok, Err}
+use Rattle.std.specs.Prelude.{◌≡◌, ◌≢◌, ◌⊎◌, ℕ, ◌+◌, ◌<◌, ◌≤◌, Bool, true, false, List, length}
+use Rattle.std.specs.Prelude.{Option, Some, None, Ok, Err}
 use Rattle.chip_model.specs.Parts.{part}
 use Rattle.chip_model.specs.Geometry.{block_count, group_count, sector_count}
 use Rattle.chip_model.specs.declared.geometry.Geometry.{Geometry}
 use Rattle.nor_layout.specs.Layouts.{layout_of}
 use Rattle.nor_layout.specs.declared.layout.Layout.TheVariants.{Sectors}
-use Rattle.nor_layout.specs.declared.superblock.SuperError.TheVariants as refusals
-use Rattle.nor_driver.specs.State.{NorState, IsReady, Kept}
+use Rattle.nor_driver.specs.State.{NorState, IsNorReady, OnlyMemoryChanges}
 use Rattle.nor_driver.specs.declared.error.NorError.{NorError}
-use Rattle.nor_driver.specs.declared.error.NorError.TheVariants as errors
 use Rattle.erase_journal.specs.Blocks.{SameChip, SameBlocks}
 use Rattle.erase_journal.specs.Journals.{IsHealthy, IsSettled}
 use Rattle.sector_slots.specs.Slots.{IsClean}
@@ -17,31 +16,39 @@ use Rattle.sector_slots.specs.Sectors.{IsSoundMap, sector_at}
 use Rattle.sector_map.specs.Table.{IsTableOf}
 use Rattle.sector_map.specs.declared.entry.Entry.{Entry}
 use Rattle.sector_map.specs.declared.error.MountError.{MountError}
+use Rattle.nor_layout.specs.declared.superblock.SuperError.TheVariants as refusals
+use Rattle.nor_driver.specs.declared.error.NorError.TheVariants as errors
 use Rattle.sector_map.specs.declared.error.MountError.TheVariants as mounts
 
 -- the counts of a chip of so many bytes
 abbrev pub geometry_of : ℕ → Geometry
-geometry_of bytes = record { blocks = block_count bytes; groups = group_count bytes; sectors = sector_count bytes }
+geometry_of bytes = record {
+  blocks = block_count bytes;
+  groups = group_count bytes;
+  sectors = sector_count bytes;
+}
 
 -- Behind the superblock: the journals are healthy, and slots and blocks sound.
 pub record IsStore (m : List ℕ) : Type 0 where
   pub journals : IsHealthy m
   pub slots : IsSoundMap m
 
--- A healthy chip: its superblock is that of a chip of its size in layout 2, the journals are healthy, and slots and blocks sound.
+-- A healthy chip: its superblock is that of a chip of its size in layout 2, the journals are
+-- healthy, and slots and blocks sound.
 pub record IsMountable (m : List ℕ) : Type 0 where
   pub superblock : layout_of m (geometry_of (length m)) ≡ Ok Sectors
   pub store : IsStore m
 
--- What a call leaves that writes no sector: a memory that is still one of a map; and where what read as free was erased it still
--- is, and each sector is as it was.
-pub record Keeps (m m' : List ℕ) : Type 0 where
+-- What a call leaves that writes no sector: a memory that is still one of a map; and where what
+-- read as free was erased it still is, and each sector is as it was.
+pub record KeepsMap (m m' : List ℕ) : Type 0 where
   pub chip : SameChip m m'
   pub store : IsStore m'
   pub sectors : IsClean m → (g : ℕ) → g < sector_count (length m) → sector_at m' g ≡ sector_at m g
   pub clean : IsClean m → IsClean m'
 
--- The same of any memory, also where what read as free wasn't erased: what a mount and a restore leave.
+-- The same of any memory, also where what read as free wasn't erased: what a mount and a restore
+-- leave.
 pub record KeepsEach (m m' : List ℕ) : Type 0 where
   pub chip : SameChip m m'
   pub store : IsStore m'
@@ -53,58 +60,62 @@ pub record Sets (g : ℕ) (x m m' : List ℕ) : Type 0 where
   pub chip : SameChip m m'
   pub store : IsStore m'
   pub there : IsClean m → sector_at m' g ≡ x
-  pub others : IsClean m → (h : ℕ) → h < sector_count (length m) → h ≢ g → sector_at m' h ≡ sector_at m h
+  pub others : IsClean m → (h : ℕ) → h < sector_count (length m) → h ≢ g
+      → sector_at m' h ≡ sector_at m h
   pub clean : IsClean m → IsClean m'
 
 -- Cut, it leaves every sector as it was, or this one new.
 abbrev pub SetLeaves : ℕ → List ℕ → List ℕ → List ℕ → Type 0
-SetLeaves g x m m' = Keeps m m' ⊎ Sets g x m m'
+SetLeaves g x m m' = KeepsMap m m' ⊎ Sets g x m m'
 
--- Whether the error that stands is a Slow, and what is known while it does: where nothing stands, the power is on, table and
--- index are those of the memory, and no copying goes on; while a Cut stands, the memory is that of a map.
+-- Whether the latched error is a Slow, and what is known while it does: where nothing is latched,
+-- the power is on, table and index are those of the memory, and no copying goes on; while a Cut is
+-- latched, the memory is that of a map.
 abbrev pub is_slow_in : Option NorError → Bool
 is_slow_in None = false
 is_slow_in (Some errors.Cut) = false
 is_slow_in (Some errors.Slow) = true
 
-pub record Served (table : List Entry) (state : NorState) (indexed : Bool) : Type 0 where
-  pub ready : IsReady state
+pub record IsServing (table : List Entry) (state : NorState) (indexed : Bool) : Type 0 where
+  pub ready : IsNorReady state
   pub settled : IsSettled state.memory
   pub store : IsStore state.memory
   pub blocks : AreSettled state.memory
   pub tabled : IsTableOf table state.memory
   pub index : indexed ≡ true
 
-pub record Interrupted (state : NorState) : Type 0 where
+pub record IsCutOff (state : NorState) : Type 0 where
   pub off : state.powered ≡ false
   pub quick : state.is_slow ≡ false
   pub store : IsStore state.memory
 
-abbrev pub Standing : Option NorError → List Entry → NorState → Bool → Type 0
-Standing None table state indexed = Served table state indexed
-Standing (Some errors.Cut) table state indexed = Interrupted state
-Standing (Some errors.Slow) table state indexed = Unit {0}
+abbrev pub KnownWhile : Option NorError → List Entry → NorState → Bool → Type 0
+KnownWhile None table state indexed = IsServing table state indexed
+KnownWhile (Some errors.Cut) table state indexed = IsCutOff state
+KnownWhile (Some errors.Slow) table state indexed = Unit {0}
 
--- what a map shows of the store behind it: a Slow that was answered stands until a restore answers Ok
+-- what a map shows of the store behind it: a Slow that was answered stands until a restore answers
+-- Ok
 abbrev pub shown_with : Option NorError → NorState → NorState
 shown_with stands state = record state { is_slow = is_slow_in stands }
 
 -- what a write that answered Ok leaves beside the sectors: the table is again that of the memory
-pub record Wrote (g : ℕ) (x : List ℕ) (table : List Entry) (old new : NorState) (indexed : Bool) : Type 0 where
+pub record Wrote (g : ℕ) (x : List ℕ) (table : List Entry) (old new : NorState)
+    (indexed : Bool) : Type 0 where
   pub sets : Sets g x old.memory new.memory
-  pub served : Served table new indexed
+  pub served : IsServing table new indexed
 
 -- and a call that writes none
-pub record Kept_on (table : List Entry) (old new : NorState) (indexed : Bool) : Type 0 where
-  pub keeps : Keeps old.memory new.memory
-  pub served : Served table new indexed
+pub record KeptServing (table : List Entry) (old new : NorState) (indexed : Bool) : Type 0 where
+  pub keeps : KeepsMap old.memory new.memory
+  pub served : IsServing table new indexed
 
 -- A mount that answered Ok.
 pub record Mounted (old new : NorState) : Type 0 where
   pub mountable : IsMountable old.memory
   pub keeps : KeepsEach old.memory new.memory
-  pub ready : IsReady old
-  pub kept : Kept old new
+  pub ready : IsNorReady old
+  pub kept : OnlyMemoryChanges old new
 
 -- One that was cut: a mountable memory stays one, with the same sectors.
 pub record MountWasCut (old new : NorState) : Type 0 where
@@ -121,8 +132,9 @@ pub record MountWasSlow (old new : NorState) : Type 0 where
   pub cuts : new.cuts ≡ old.cuts
   pub size : length new.memory ≡ length old.memory
 
--- One that met what no write leaves: nothing changed, or the journals were healthy and went on with an erase, which changes no
--- block. So no sector changed. The superblock's name is there, and its seal.
+-- One that met what no write leaves: nothing changed, or the journals were healthy and went on with
+-- an erase, which changes no block. So no sector changed. The superblock's name is there, and its
+-- seal.
 pub record MountWasCorrupt (old new : NorState) : Type 0 where
   pub corrupt : IsMountable old.memory → ⊥
   pub formatted : layout_of old.memory (geometry_of (length old.memory)) ≢ Err refusals.NotFormatted
@@ -136,25 +148,28 @@ pub record MountWasCorrupt (old new : NorState) : Type 0 where
 -- One that changed nothing.
 pub record MountChangedNothing (old new : NorState) : Type 0 where
   pub same : new.memory ≡ old.memory
-  pub kept : Kept old new
+  pub kept : OnlyMemoryChanges old new
 
 abbrev pub MountFails : MountError → NorState → NorState → Type 0
 MountFails mounts.Cut old new = MountWasCut old new
 MountFails mounts.Slow old new = MountWasSlow old new
 MountFails mounts.Corrupt old new = MountWasCorrupt old new
 MountFails mounts.OutOfMemory old new = MountChangedNothing old new
-MountFails mounts.NotFormatted old new = (layout_of old.memory (geometry_of (length old.memory)) ≡ Err refusals.NotFormatted) × MountChangedNothing old new
+MountFails mounts.NotFormatted old new =
+    (layout_of old.memory (geometry_of (length old.memory)) ≡ Err refusals.NotFormatted)
+    × MountChangedNothing old new
 
--- A restore that answered Ok; where no Slow stood, the sectors are as they were.
+-- A restore that answered Ok; where no Slow was latched, the sectors are as they were.
 pub record MapRestored (old new : NorState) : Type 0 where
   pub cuts : new.cuts ≡ old.cuts
   pub slows : new.slows ≡ old.slows
-  pub ready : IsReady new
+  pub ready : IsNorReady new
   pub size : length new.memory ≡ length old.memory
   pub store : IsStore new.memory
   pub keeps : old.is_slow ≡ false → KeepsEach old.memory new.memory
 
--- One that was cut, which is only where a loss of power came in it. A Slow that stood still stands.
+-- One that was cut, which is only where a loss of power came in it. A Slow that was latched still
+-- stands.
 pub record MapRestoreCut (old new : NorState) : Type 0 where
   pub cuts : old.cuts < new.cuts
   pub slows : new.slows ≡ old.slows
@@ -163,7 +178,8 @@ pub record MapRestoreCut (old new : NorState) : Type 0 where
   pub size : length new.memory ≡ length old.memory
   pub keeps : old.is_slow ≡ false → KeepsEach old.memory new.memory
 
--- One that answered Slow: an operation didn't end in it, or an earlier one that didn't left a memory that can't be mounted.
+-- One that answered Slow: an operation didn't end in it, or an earlier one that didn't left a
+-- memory that can't be mounted.
 pub record MapRestoreSlow (old new : NorState) : Type 0 where
   pub came : (old.slows < new.slows) ⊎ ((old.is_slow ≡ true) × (IsStore new.memory → ⊥))
   pub cuts : new.cuts ≡ old.cuts
@@ -176,94 +192,27 @@ abbrev pub MapRestoreFails : NorError → NorState → NorState → Type 0
 MapRestoreFails errors.Cut old new = MapRestoreCut old new
 MapRestoreFails errors.Slow old new = MapRestoreSlow old new
 
--- the table of slots that were recovered was made: what comes between them and what comes of it
-pub record Filled (old new : NorState) : Type 0 where
-  pub slots : IsSoundMap old.memory
-  pub keeps : KeepsEach old.memory new.memory
-  pub kept : Kept old new
-
-pub record FillCut (old new : NorState) : Type 0 where
-  pub came : old.cuts < new.cuts
-  pub slows : new.slows ≡ old.slows
-  pub powered : new.powered ≡ false
-  pub quick : old.is_slow ≡ false → new.is_slow ≡ false
-  pub size : length new.memory ≡ length old.memory
-  pub keeps : IsSoundMap old.memory → KeepsEach old.memory new.memory
-
-pub record FillSlow (old new : NorState) : Type 0 where
-  pub came : old.slows < new.slows
-  pub cuts : new.cuts ≡ old.cuts
-  pub size : length new.memory ≡ length old.memory
-
-pub record FillCorrupt (old new : NorState) : Type 0 where
-  pub corrupt : IsSoundMap old.memory → ⊥
-  pub cuts : new.cuts ≡ old.cuts
-  pub slows : new.slows ≡ old.slows
-  pub quick : old.is_slow ≡ false → new.is_slow ≡ false
-  pub same : new.memory ≡ old.memory
-
-abbrev pub FillFails : MountError → NorState → NorState → Type 0
-FillFails mounts.Cut old new = FillCut old new
-FillFails mounts.Slow old new = FillSlow old new
-FillFails mounts.Corrupt old new = FillCorrupt old new
-FillFails mounts.OutOfMemory old new = ⊥
-FillFails mounts.NotFormatted old new = ⊥
-
--- the store was restarted, and the table made again
-pub record Renewed (table : List Entry) (old new : NorState) (indexed : Bool) : Type 0 where
-  pub cuts : new.cuts ≡ old.cuts
-  pub slows : new.slows ≡ old.slows
-  pub served : Served table new indexed
-  pub size : length new.memory ≡ length old.memory
-  pub keeps : old.is_slow ≡ false → IsStore old.memory → KeepsEach old.memory new.memory
-
-pub record RenewCorrupt (old new : NorState) : Type 0 where
-  pub cuts : new.cuts ≡ old.cuts
-  pub slows : new.slows ≡ old.slows
-  pub powered : new.powered ≡ true
-  pub size : length new.memory ≡ length old.memory
-  pub still : IsStore new.memory → ⊥
-  pub corrupt : old.is_slow ≡ false → IsStore old.memory → ⊥
-
-pub record RenewCut (old new : NorState) : Type 0 where
-  pub cuts : old.cuts < new.cuts
-  pub slows : new.slows ≡ old.slows
-  pub powered : new.powered ≡ false
-  pub size : length new.memory ≡ length old.memory
-  pub quick : old.is_slow ≡ false → new.is_slow ≡ false
-  pub keeps : old.is_slow ≡ false → IsStore old.memory → KeepsEach old.memory new.memory
-
-pub record RenewSlow (old new : NorState) : Type 0 where
-  pub slows : old.slows < new.slows
-  pub cuts : new.cuts ≡ old.cuts
-  pub powered : new.powered ≡ true
-  pub size : length new.memory ≡ length old.memory
-
-abbrev pub RenewFails : NorError → NorState → NorState → Type 0
-RenewFails errors.Cut old new = RenewCut old new
-RenewFails errors.Slow old new = RenewSlow old new
-
--- the error that stands after a restore that was cut
-abbrev pub stands_after_cut : Option NorError → Option NorError
-stands_after_cut None = Some errors.Cut
-stands_after_cut (Some errors.Cut) = Some errors.Cut
-stands_after_cut (Some errors.Slow) = Some errors.Slow
-
 -- sector i of these bytes
 abbrev pub sector_of : List ℕ → ℕ → List ℕ
 sector_of bytes i = part 512 bytes i
 
--- The first n of the sectors from `first` on were written with these bytes, and every other is as it was.
+-- The first n of the sectors from `first` on were written with these bytes, and every other is as
+-- it was.
 pub record WritesRange (first n : ℕ) (bytes m m' : List ℕ) : Type 0 where
   pub chip : SameChip m m'
   pub inside : IsClean m → (i : ℕ) → i < n → sector_at m' (first + i) ≡ sector_of bytes i
-  pub others : IsClean m → (h : ℕ) → h < sector_count (length m) → (h < first) ⊎ (first + n ≤ h) → sector_at m' h ≡ sector_at m h
+  pub others : IsClean m → (h : ℕ) → h < sector_count (length m) → (h < first) ⊎ (first + n ≤ h)
+      → sector_at m' h ≡ sector_at m h
   pub clean : IsClean m → IsClean m'
 
--- What a write of n sectors leaves where it is cut: each of them is as it was, or written, and every other as it was.
+-- What a write of n sectors leaves where it is cut: each of them is as it was, or written, and
+-- every other as it was.
 pub record RangeLeaves (first n : ℕ) (bytes m m' : List ℕ) : Type 0 where
   pub chip : SameChip m m'
   pub store : IsStore m'
-  pub inside : IsClean m → (i : ℕ) → i < n → (sector_at m' (first + i) ≡ sector_at m (first + i)) ⊎ (sector_at m' (first + i) ≡ sector_of bytes i)
-  pub others : IsClean m → (h : ℕ) → h < sector_count (length m) → (h < first) ⊎ (first + n ≤ h) → sector_at m' h ≡ sector_at m h
+  pub inside : IsClean m → (i : ℕ) → i < n
+      → (sector_at m' (first + i) ≡ sector_at m (first + i))
+      ⊎ (sector_at m' (first + i) ≡ sector_of bytes i)
+  pub others : IsClean m → (h : ℕ) → h < sector_count (length m) → (h < first) ⊎ (first + n ≤ h)
+      → sector_at m' h ≡ sector_at m h
   pub clean : IsClean m → IsClean m'

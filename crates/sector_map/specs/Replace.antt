@@ -7,13 +7,15 @@ use Rattle.nor_layout.specs.declared.header.Generation.TheVariants as generation
 use Rattle.erase_journal.specs.Blocks.{SameChip}
 use Rattle.sector_slots.specs.Slots.{Free, slot_at, slot_count, data_blocks, IsClean, IsSpareIn}
 use Rattle.sector_slots.specs.Blocks.{AreSettled, IsReserveOf}
-use Rattle.sector_slots.specs.Sectors.{LiveAt, IsAbsent, IsSoundMap, IsSingle, HoldsSectors, sector_at, with_sector}
+use Rattle.sector_slots.specs.Sectors.{LiveAt, IsAbsent, IsSoundMap, IsSingle, HoldsSectors}
+use Rattle.sector_slots.specs.Sectors.{sector_at, with_sector}
 use Rattle.sector_map.specs.declared.held.Held.{Held}
 
 -- which slot holds sector g; None where the sector is absent
 abbrev pub HeldBy : Option Held → ℕ → List ℕ → Type 0
 HeldBy None g m = IsAbsent (slot_at m) (slot_count m) g
-HeldBy (Some held) g m = (content : List ℕ) × LiveAt (slot_at m) (slot_count m) held.slot g held.generation content
+HeldBy (Some held) g m = (content : List ℕ)
+    × LiveAt (slot_at m) (slot_count m) held.slot g held.generation content
 
 -- the generation of a sector's new content
 abbrev pub generation_after : Option Held → Generation
@@ -38,7 +40,8 @@ pub record IsReplaceable (w g : ℕ) (holder : Option Held) (m : List ℕ) : Typ
   pub sector : g < sector_count (length m)
   pub held : HeldBy holder g m
 
--- Sector g has the content x, and every other sector the one that it had; no slot but this one holds g, and no copying goes on.
+-- Sector g has the content x, and every other sector the one that it had; no slot but this one
+-- holds g, and no copying goes on.
 pub record Replaces (g : ℕ) (x : List ℕ) (holder : Held) (m m' : List ℕ) : Type 0 where
   pub chip : SameChip m m'
   pub sectors : HoldsSectors (with_sector (sector_at m) g x) m'
@@ -47,13 +50,14 @@ pub record Replaces (g : ℕ) (x : List ℕ) (holder : Held) (m m' : List ℕ) :
   pub held : HeldBy (Some holder) g m'
   pub others : (h : ℕ) (other : Option Held) → h ≢ g → HeldBy other h m → HeldBy other h m'
 
--- What it leaves where it is cut: every sector as it was, or sector g new and every other as it was.
+-- What it leaves where it is cut: every sector as it was, or sector g new and every other as it
+-- was.
 pub record ReplaceLeaves (g : ℕ) (x : List ℕ) (m m' : List ℕ) : Type 0 where
   pub chip : SameChip m m'
   pub sectors : HoldsSectors (sector_at m) m' ⊎ HoldsSectors (with_sector (sector_at m) g x) m'
 
--- The content x was written into sector g. Where free slots were erased the sector has it, and they are still; else it has some
--- content, and every other sector its own.
+-- The content x was written into sector g. Where free slots were erased the sector has it, and they
+-- are still; else it has some content, and every other sector its own.
 pub record Rewrites (g : ℕ) (x : List ℕ) (holder : Held) (m m' : List ℕ) : Type 0 where
   pub content : List ℕ
   pub replaces : Replaces g content holder m m'

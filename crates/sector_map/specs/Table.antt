@@ -1,5 +1,6 @@
 -- The table of a map: which slots hold each sector. Source: own.
-use Rattle.std.specs.Prelude.{◌≡◌, ◌≢◌, ◌⊎◌, ℕ, ◌<◌, ◌≤◌, Bool, true, false, List, length, Option, Some, None, if◌then◌else◌, slice_index_or}
+use Rattle.std.specs.Prelude.{◌≡◌, ◌≢◌, ◌⊎◌, ℕ, ◌<◌, ◌≤◌, Bool, true, false, List, length, Option}
+use Rattle.std.specs.Prelude.{Some, None, if◌then◌else◌, slice_index_or}
 use Rattle.nor_layout.specs.declared.header.Generation.{Generation}
 use Rattle.nor_layout.specs.declared.header.Header.{Header}
 use Rattle.nor_layout.specs.declared.header.Header.TheVariants as headers
@@ -8,7 +9,8 @@ use Rattle.chip_model.specs.Geometry.{sector_count}
 use Rattle.erase_journal.specs.Blocks.{SameChip}
 use Rattle.sector_slots.specs.Slots.{Slot, NoGeneration, slot_at, slot_count, IsClean}
 use Rattle.sector_slots.specs.Blocks.{AreSettled}
-use Rattle.sector_slots.specs.Sectors.{LiveAt, IsAbsent, is_next, IsSoundMap, IsSingle, HoldsSectors, sector_at}
+use Rattle.sector_slots.specs.Sectors.{LiveAt, IsAbsent, is_next, IsSoundMap, IsSingle}
+use Rattle.sector_slots.specs.Sectors.{HoldsSectors, sector_at}
 use Rattle.sector_map.specs.declared.held.Held.{Held}
 use Rattle.sector_map.specs.declared.entry.Entry.{Entry}
 use Rattle.sector_map.specs.declared.entry.Entry.TheVariants.{Absent, One, Two}
@@ -25,17 +27,19 @@ pub record TwoHold (newer older : Held) (f : ℕ → Slot) (n g : ℕ) : Type 0 
   pub newer_live : IsHeldIn newer f n g
   pub older_live : IsHeldIn older f n g
   pub next : newer.generation ≡ next_generation older.generation
-  pub only : (s : ℕ) (k : Generation) (x : List ℕ) → LiveAt f n s g k x → (s ≡ newer.slot) ⊎ (s ≡ older.slot)
+  pub only : (s : ℕ) (k : Generation) (x : List ℕ) → LiveAt f n s g k x
+      → (s ≡ newer.slot) ⊎ (s ≡ older.slot)
 
 -- the live slots of sector g, of those below n, are those of its entry
-abbrev pub Says : Entry → (ℕ → Slot) → ℕ → ℕ → Type 0
-Says Absent f n g = IsAbsent f n g
-Says (One held) f n g = OneHolds held f n g
-Says (Two newer older) f n g = TwoHold newer older f n g
+abbrev pub EntryHolds : Entry → (ℕ → Slot) → ℕ → ℕ → Type 0
+EntryHolds Absent f n g = IsAbsent f n g
+EntryHolds (One held) f n g = OneHolds held f n g
+EntryHolds (Two newer older) f n g = TwoHold newer older f n g
 
--- The table says it of each sector; each live slot's sector is in it, and no slot is without a generation.
+-- The table says it of each sector; each live slot's sector is in it, and no slot is without a
+-- generation.
 pub record IsTabled (table : List Entry) (f : ℕ → Slot) (n : ℕ) : Type 0 where
-  pub each : (g : ℕ) → g < length table → Says (slice_index_or table g Absent) f n g
+  pub each : (g : ℕ) → g < length table → EntryHolds (slice_index_or table g Absent) f n g
   pub within : (s g : ℕ) (k : Generation) (x : List ℕ) → LiveAt f n s g k x → g < length table
   pub whole : (s : ℕ) → s < n → f s ≢ NoGeneration
 
@@ -52,40 +56,48 @@ noted (Two newer older) held = None
 abbrev pub IsBlankTable : List Entry → Type 0
 IsBlankTable table = (g : ℕ) → g < length table → slice_index_or table g Absent ≡ Absent
 
--- what the entry of one more live slot leaves of the table: the sector's entry with this slot, and every other as it was
+-- what the entry of one more live slot leaves of the table: the sector's entry with this slot, and
+-- every other as it was
 pub record Entered (old : List Entry) (g : ℕ) (held : Held) (new : List Entry) : Type 0 where
   pub number : g < length old
   pub size : length new ≡ length old
   pub entry : noted (slice_index_or old g Absent) held ≡ Some (slice_index_or new g Absent)
-  pub others : (h : ℕ) → h < length old → h ≢ g → slice_index_or new h Absent ≡ slice_index_or old h Absent
+  pub others : (h : ℕ) → h < length old → h ≢ g
+      → slice_index_or new h Absent ≡ slice_index_or old h Absent
 
 -- nothing, where there is no such sector, or the slots are corrupt
 abbrev pub Enters : List Entry → ℕ → Held → Bool → List Entry → Type 0
 Enters old g held true new = Entered old g held new
-Enters old g held false new = (new ≡ old) × ((length old ≤ g) ⊎ (noted (slice_index_or old g Absent) held ≡ None))
+Enters old g held false new = (new ≡ old)
+    × ((length old ≤ g) ⊎ (noted (slice_index_or old g Absent) held ≡ None))
 
 -- the same of a slot with this descriptor: nothing to enter where it is free or dead
 abbrev pub Heads : List Entry → ℕ → Header → Bool → List Entry → Type 0
 Heads old n headers.Free true new = new ≡ old
 Heads old n headers.Free false new = ⊥
-Heads old n (headers.Live tag) true new = Entered old tag.number (record { slot = n; generation = tag.generation }) new
-Heads old n (headers.Live tag) false new = (new ≡ old) × ((length old ≤ tag.number) ⊎ (noted (slice_index_or old tag.number Absent) (record { slot = n; generation = tag.generation }) ≡ None))
+Heads old n (headers.Live tag) true new =
+    Entered old tag.number (record { slot = n; generation = tag.generation }) new
+Heads old n (headers.Live tag) false new = (new ≡ old)
+    × ((length old ≤ tag.number) ⊎ (noted (slice_index_or old tag.number Absent)
+    (record { slot = n; generation = tag.generation }) ≡ None))
 Heads old n headers.NoGeneration true new = ⊥
 Heads old n headers.NoGeneration false new = new ≡ old
 Heads old n headers.Dead true new = new ≡ old
 Heads old n headers.Dead false new = ⊥
 
 -- the entry of sector g with this one slot, and every other as it was
-pub record Settled (old : List Entry) (g : ℕ) (held : Held) (new : List Entry) : Type 0 where
+pub record KeptOne (old : List Entry) (g : ℕ) (held : Held) (new : List Entry) : Type 0 where
   pub size : length new ≡ length old
   pub entry : slice_index_or new g Absent ≡ One held
-  pub others : (h : ℕ) → h < length old → h ≢ g → slice_index_or new h Absent ≡ slice_index_or old h Absent
+  pub others : (h : ℕ) → h < length old → h ≢ g
+      → slice_index_or new h Absent ≡ slice_index_or old h Absent
 
 -- the entry of sector g without a slot, and every other as it was
 pub record Unset (old : List Entry) (g : ℕ) (new : List Entry) : Type 0 where
   pub size : length new ≡ length old
   pub entry : slice_index_or new g Absent ≡ Absent
-  pub others : (h : ℕ) → h < length old → h ≢ g → slice_index_or new h Absent ≡ slice_index_or old h Absent
+  pub others : (h : ℕ) → h < length old → h ≢ g
+      → slice_index_or new h Absent ≡ slice_index_or old h Absent
 
 -- no two slots
 abbrev pub IsOneAtMost : Entry → Type 0
@@ -105,8 +117,8 @@ pub record IsTableOf (table : List Entry) (m : List ℕ) : Type 0 where
   pub tabled : IsTabled table (slot_at m) (slot_count m)
   pub single : (g : ℕ) → g < length table → IsOneAtMost (slice_index_or table g Absent)
 
--- A table that was made, a copying ended, and the older of two slots of a sector retired: slots and blocks were sound, and the
--- sectors are what they were.
+-- A table that was made, a copying ended, and the older of two slots of a sector retired: slots and
+-- blocks were sound, and the sectors are what they were.
 pub record Mounts (m : List ℕ) (table : List Entry) (m' : List ℕ) : Type 0 where
   pub sound : IsSoundMap m
   pub chip : SameChip m m'

@@ -29,7 +29,8 @@ impl Entry {
     }
 }
 
-/// The entry once one more live slot of the sector was found; None where no write leaves these slots.
+/// The entry once one more live slot of the sector was found; None where no write leaves these
+/// slots.
 pub fn note(entry: Entry, held: Held) -> Option<Entry>
     ensures { result ≡ noted entry held }
 {

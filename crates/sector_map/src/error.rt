@@ -1,3 +1,5 @@
+//! Why a memory was not mounted.
+
 /// Why a memory was not mounted. Source: own.
 #[derive(Clone, Copy, Debug, PartialEq, Eq, Drop)]
 pub enum MountError {
@@ -5,7 +7,8 @@ pub enum MountError {
     Cut,
     /// An operation didn't end, in the mount or before it.
     Slow,
-    /// The superblock is of another layout or size, or the journals, the slots or the blocks hold what no write leaves.
+    /// The superblock is of another layout or size, or the journals, the slots or the blocks hold
+    /// what no write leaves.
     Corrupt,
     /// The allocator refused the table or the index.
     OutOfMemory,

@@ -2,23 +2,25 @@
 
 ghost use Rattle.std.specs.Prelude.{◌≡◌, ◌⊎◌, ◌<◌, ◌≤◌, length, OnOk, IfErr, IfSome};
 ghost use Rattle.chip_model.specs.Geometry.{sector_count};
+ghost use Rattle.nor_driver.specs.State.{Refuses};
 ghost use Rattle.nor_layout.specs.declared.header.Header.TheVariants as headers;
 ghost use Rattle.nor_layout.specs.declared.header.Tag.{Tag as TagOf};
+ghost use Rattle.erase_journal.specs.Steps.{SucceedsSettled};
 ghost use Rattle.sector_slots.specs.Slots.{data_blocks};
 ghost use Rattle.sector_slots.specs.Blocks.{AreSettled};
 ghost use Rattle.sector_slots.specs.Sectors.{IsSoundMap, IsSingle};
-ghost use Rattle.sector_slots.specs.Steps.{Succeeds, Refuses};
 ghost use Rattle.sector_map.specs.Scan.{Follows, FollowsHead, FollowsBlock, TableFollows, AreApart};
 
 use crate::Held;
 use crate::entry::Entry;
-use crate::table::settle;
+use crate::table::keep_one;
 use nor_driver::NorError;
 use nor_layout::Header;
 use sector_slots::SlotCalls;
 use sector_stock::Copied;
 
-/// Names the slots of the block into which one was copied, if one was, in the entries of their sectors: one read.
+/// Names the slots of the block into which one was copied, if one was, in the entries of their
+/// sectors: one read.
 pub fn follow_copied<S: SlotCalls>(
     slots: &mut S,
     table: &mut [Entry],
@@ -33,7 +35,8 @@ pub fn follow_copied<S: SlotCalls>(
     ensures size { length table.new ≡ length table.old }
     ensures same { (S.state slots.new).memory ≡ (S.state slots.old).memory }
     ensures index { S.indexed slots.new ≡ S.indexed slots.old }
-    ensures done { OnOk result ((S.state slots.new ≡ S.state slots.old) ⊎ Succeeds (S.state slots.old) (S.state slots.new)) }
+    ensures done { OnOk result ((S.state slots.new ≡ S.state slots.old)
+        ⊎ SucceedsSettled (S.state slots.old) (S.state slots.new)) }
     ensures fails { IfErr result (λ e. Refuses e (S.state slots.old) (S.state slots.new)) }
 {
     match copied {
@@ -57,7 +60,7 @@ fn follow_block<S: SlotCalls>(
     ensures size { length table.new ≡ length table.old }
     ensures same { (S.state slots.new).memory ≡ (S.state slots.old).memory }
     ensures index { S.indexed slots.new ≡ S.indexed slots.old }
-    ensures done { OnOk result (Succeeds (S.state slots.old) (S.state slots.new)) }
+    ensures done { OnOk result (SucceedsSettled (S.state slots.old) (S.state slots.new)) }
     ensures fails { IfErr result (λ e. Refuses e (S.state slots.old) (S.state slots.new)) }
 {
     let _count = slots.blocks();
@@ -91,7 +94,7 @@ fn follow_head(table: &mut [Entry], slot: u16, header: Header)
                 slot,
                 generation: tag.generation,
             };
-            settle(table, tag.number as usize, held);
+            keep_one(table, tag.number as usize, held);
         }
         Header::Free => {}
         Header::NoGeneration => {}

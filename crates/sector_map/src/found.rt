@@ -1,7 +1,7 @@
 //! What the kinds of the blocks say of a copying.
 
 ghost use Rattle.std.specs.Prelude.{◌≡◌, ◌+◌, ◌≤◌};
-ghost use Rattle.sector_map.specs.Found.{noted_kind, counts};
+ghost use Rattle.sector_map.specs.Found.{noted_kind, block_counts};
 
 use nor_layout::Kind;
 
@@ -19,7 +19,8 @@ pub enum Found {
 /// The chip's number of data block 0.
 const FIRST_DATA_BLOCK: u16 = 4;
 
-/// What is found once a block of this kind is read, of `count` blocks; None where the blocks are corrupt.
+/// What is found once a block of this kind is read, of `count` blocks; None where the blocks are
+/// corrupt.
 pub fn note_kind(found: Found, block: u16, kind: Kind, count: u16) -> Option<Found>
     requires few { count ≤ 4092 }
     requires number { block ≤ 4092 }
@@ -53,7 +54,7 @@ pub fn note_kind(found: Found, block: u16, kind: Kind, count: u16) -> Option<Fou
 
 /// Whether the slots of a block count.
 pub fn is_counted(found: Found, block: u16) -> bool
-    ensures { result ≡ counts found block }
+    ensures { result ≡ block_counts found block }
 {
     match found {
         Found::AtRest => true,

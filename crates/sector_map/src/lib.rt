@@ -1,14 +1,18 @@
 //! The sectors of a chip, 512 bytes each, as a finite map over its slots.
 //!
-//! Promised: a sector holds the content of its live slot that counts, of two the newer one's, and zeros where it has none. `SectorMap`
-//! is all of it over a NOR memory. `mount` looks at the superblock, takes all memory that it will need, recovers the journals and reads the
-//! blocks; it is refused exactly where they are corrupt, which is decided before a slot or block changes. Then it ends a copying that
-//! was cut, retires the older of two slots, and makes the index; no sector changes in it, cut or not. `find` is one read. `replace`
-//! writes one sector and no other: cut, every sector is as it was or this one new; so is `clear`, which makes it zeros. `tidy` and
-//! `restore` change none. Slots and blocks stay sound through all calls on any memory; what is said of contents after a copy or a
-//! write is said of memories in which what reads as free is erased (`specs/Maps.antt`). An error stands until a `restore`.
+//! Promised: a sector holds the content of its live slot that counts, of two the newer one's, and
+//! zeros where it has none. `SectorMap` is all of it over a NOR memory. `mount` looks at the
+//! superblock, takes all memory that it will need, recovers the journals and reads the blocks; it
+//! is refused exactly where they are corrupt, which is decided before a slot or block changes. Then
+//! it ends a copying that was cut, retires the older of two slots, and makes the index; no sector
+//! changes in it, cut or not. `find` is one read. `replace` writes one sector and no other: cut,
+//! every sector is as it was or this one new; so is `clear`, which makes it zeros. `tidy` and
+//! `restore` change none. Slots and blocks stay sound through all calls on any memory; what is said
+//! of contents after a copy or a write is said of memories in which what reads as free is erased
+//! (`specs/Maps.antt`). An error is latched until a `restore`.
 //!
-//! Left to the crate above: when to tidy and when to restore. Source: own, layout 2. See docs/SECTORS.md and docs/INDEX.md.
+//! Left to the crate above: when to tidy and when to restore. Source: own, layout 2. See
+//! docs/SECTORS.md and docs/INDEX.md.
 
 #![tactic(auto)]
 
@@ -35,4 +39,4 @@ pub use mount::mount_in;
 pub use replace::{find_in, replace_in};
 pub use scan::{is_spare, read_table, survey};
 pub use steps::{tidy_in, write_in};
-pub use table::{enter, enter_head, settle};
+pub use table::{enter, enter_head, keep_one};

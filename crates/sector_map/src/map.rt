@@ -1,16 +1,22 @@
-ghost use Rattle.std.specs.Prelude.{◌≡◌, ◌<◌, ◌≤◌, ◌*◌, ◌-◌, Bool, Ok, true, false, length, vec_len, slice_index_or, OnOk, IfOk, IfErr, IsTrue, IsFalse};
+//! The map of sectors, and its calls.
+
+ghost use Rattle.std.specs.Prelude.{◌≡◌, ◌<◌, ◌≤◌, ◌*◌, ◌-◌, Bool, Ok, true, false, length};
+ghost use Rattle.std.specs.Prelude.{vec_len, slice_index_or, OnOk, IfOk, IfErr, IsTrue, IsFalse};
 ghost use Rattle.std.specs.Result.{IsErrOf};
 ghost use Rattle.chip_model.specs.Geometry.{IsChipSize, sector_count};
-ghost use Rattle.nor_driver.specs.State.{IsReady};
+ghost use Rattle.nor_driver.specs.State.{IsNorReady, Refuses};
 ghost use Rattle.nor_layout.specs.Layouts.{layout_of};
 ghost use Rattle.erase_journal.specs.Journals.{IsHealthy};
 ghost use Rattle.erase_journal.specs.Recovery.{IsBehind};
+ghost use Rattle.erase_journal.specs.Steps.{SucceedsSettled};
 ghost use Rattle.sector_slots.specs.Slots.{slot_count, data_blocks};
 ghost use Rattle.sector_slots.specs.Sectors.{sector_at, zeros};
-ghost use Rattle.sector_slots.specs.Steps.{Succeeds, Refuses};
 ghost use Rattle.sector_stock.specs.Takes.{dead_slots};
 ghost use Rattle.sector_map.specs.Table.{holder};
-ghost use Rattle.sector_map.specs.Maps.{IsStore, Keeps, Sets, SetLeaves, Mounted, MountFails, MapRestored, MapRestoreFails, Filled, FillFails, Renewed, RenewCorrupt, RenewFails, stands_after_cut, geometry_of};
+ghost use Rattle.sector_map.specs.Maps.{IsStore, KeepsMap, Sets, SetLeaves, Mounted, MountFails};
+ghost use Rattle.sector_map.specs.Maps.{MapRestored, MapRestoreFails, geometry_of};
+ghost use Rattle.sector_map.specs.Filling.{Filled, FillFails, Renewed, RenewCorrupt, RenewFails};
+ghost use Rattle.sector_map.specs.Filling.{latched_after_cut};
 
 use crate::Held;
 use crate::entry::Entry;
@@ -31,14 +37,15 @@ use std::marker::Model;
 
 /// The sectors of a chip: its slots with their index, and the table of the slots that hold them.
 ///
-/// A contract sees it as the state of the memory behind it; a Slow that it answered stands in it until a `restore` that
-/// answers Ok. While an error stands every call but `restore` answers it, and does nothing. Source: own.
+/// A contract sees it as the state of the memory behind it; a Slow that it answered stands in it
+/// until a `restore` that answers Ok. While an error is latched every call but `restore` answers
+/// it, and does nothing. Source: own.
 #[derive(Drop)]
 pub struct SectorMap<N: Nor> {
     stock: Stock<N>,
     /// The entries of the sectors, in their order.
     table: Vec<Entry>,
-    /// The error that stands; where a Cut and a Slow do, it is the Slow.
+    /// The latched error; where a Cut and a Slow do, it is the Slow.
     stands: Option<NorError>,
 }
 
@@ -46,7 +53,7 @@ impl<N: Nor> Model for SectorMap<N> {
     ghost use Rattle.std.specs.Prelude.{◌≡◌, length, vec_len};
     ghost use Rattle.chip_model.specs.Geometry.{sector_count};
     ghost use Rattle.nor_driver.specs.State.{NorState};
-    ghost use Rattle.sector_map.specs.Maps.{Standing, shown_with};
+    ghost use Rattle.sector_map.specs.Maps.{KnownWhile, shown_with};
 
     ghost Value = { NorState };
 
@@ -54,13 +61,14 @@ impl<N: Nor> Model for SectorMap<N> {
 
     ghost invariant = { λ map. record {
       counted : vec_len map.table ≡ sector_count (length map.stock.slots.memory);
-      standing : Standing map.stands map.table.items map.stock.slots map.stock.indexed;
+      standing : KnownWhile map.stands map.table.items map.stock.slots map.stock.indexed;
     } };
 }
 
 impl<N: Nor> SectorMap<N> {
-    /// Mounts a memory: reads the superblock, takes the memory of the table and of the index, recovers the journals, reads what
-    /// the blocks say, ends a copying that was cut, and retires the older of two slots of a sector. A refusal hands the memory back.
+    /// Mounts a memory: reads the superblock, takes the memory of the table and of the index,
+    /// recovers the journals, reads what the blocks say, ends a copying that was cut, and retires
+    /// the older of two slots of a sector. A refusal hands the memory back.
     pub fn mount(alloc: Global, nor: N) -> Result<SectorMap<N>, (N, MountError)>
         ensures ok { IfOk result (λ map. Mounted (N.state nor) map) }
         ensures fails { IfErr result (λ e. MountFails e.1 (N.state nor) (N.state e.0)) }
@@ -86,7 +94,7 @@ impl<N: Nor> SectorMap<N> {
         self.table.len() as u16
     }
 
-    /// Whether a Slow stands.
+    /// Whether a Slow is latched.
     pub fn is_slow(&self) -> bool
         ensures { result ≡ self.now.is_slow }
     {
@@ -97,14 +105,15 @@ impl<N: Nor> SectorMap<N> {
         }
     }
 
-    /// The content of a sector into `into`, 512 bytes; zeros where no slot holds it. After an error `into` holds any bytes.
+    /// The content of a sector into `into`, 512 bytes; zeros where no slot holds it. After an error
+    /// `into` holds any bytes.
     pub fn find(&mut self, sector: u16, into: &mut [u8]) -> Result<(), NorError>
         requires number { sector < sector_count (length self.old.memory) }
         requires room { length into.old ≡ 512 }
         ensures ok { OnOk result (into.new ≡ sector_at self.old.memory sector) }
         ensures same { self.new.memory ≡ self.old.memory }
-        ensures cut { IsErrOf result NorError.Cut → Keeps self.old.memory self.new.memory }
-        ensures done { OnOk result (Succeeds self.old self.new) }
+        ensures cut { IsErrOf result NorError.Cut → KeepsMap self.old.memory self.new.memory }
+        ensures done { OnOk result (SucceedsSettled self.old self.new) }
         ensures fails { IfErr result (λ e. Refuses e self.old self.new) }
     {
         if let Some(error) = self.stands {
@@ -120,15 +129,16 @@ impl<N: Nor> SectorMap<N> {
         }
     }
 
-    /// Writes a sector, 512 bytes, into a free slot, and retires the slot that held it. Cut, it leaves every sector as it was,
-    /// or this one new.
+    /// Writes a sector, 512 bytes, into a free slot, and retires the slot that held it. Cut, it
+    /// leaves every sector as it was, or this one new.
     pub fn replace(&mut self, sector: u16, content: &[u8]) -> Result<(), NorError>
         requires number { sector < sector_count (length self.old.memory) }
         requires size { length content.now ≡ 512 }
         ensures ok { OnOk result (Sets sector content.now self.old.memory self.new.memory) }
-        ensures cut { IsErrOf result NorError.Cut → SetLeaves sector content.now self.old.memory self.new.memory }
+        ensures cut { IsErrOf result NorError.Cut
+            → SetLeaves sector content.now self.old.memory self.new.memory }
         ensures size { length self.new.memory ≡ length self.old.memory }
-        ensures done { OnOk result (Succeeds self.old self.new) }
+        ensures done { OnOk result (SucceedsSettled self.old self.new) }
         ensures fails { IfErr result (λ e. Refuses e self.old self.new) }
     {
         if let Some(error) = self.stands {
@@ -143,14 +153,16 @@ impl<N: Nor> SectorMap<N> {
         }
     }
 
-    /// Makes a sector absent: it holds zeros, and its next content begins with the first generation. One change, none where it is
-    /// absent already. Cut, it leaves every sector as it was, or this one zeros.
+    /// Makes a sector absent: it holds zeros, and its next content begins with the first
+    /// generation. One change, none where it is absent already. Cut, it leaves every sector as it
+    /// was, or this one zeros.
     pub fn clear(&mut self, sector: u16) -> Result<(), NorError>
         requires number { sector < sector_count (length self.old.memory) }
         ensures ok { OnOk result (Sets sector zeros self.old.memory self.new.memory) }
-        ensures cut { IsErrOf result NorError.Cut → SetLeaves sector zeros self.old.memory self.new.memory }
+        ensures cut { IsErrOf result NorError.Cut
+            → SetLeaves sector zeros self.old.memory self.new.memory }
         ensures size { length self.new.memory ≡ length self.old.memory }
-        ensures done { OnOk result (Succeeds self.old self.new) }
+        ensures done { OnOk result (SucceedsSettled self.old self.new) }
         ensures fails { IfErr result (λ e. Refuses e self.old self.new) }
     {
         if let Some(error) = self.stands {
@@ -167,13 +179,14 @@ impl<N: Nor> SectorMap<N> {
 
     /// Copies the block with the most dead slots: true. Where none is dead nothing changes: false.
     pub fn tidy(&mut self) -> Result<bool, NorError>
-        ensures ok { OnOk result (Keeps self.old.memory self.new.memory) }
-        ensures fewer { IfOk result (λ more. IsTrue more → dead_slots self.new.memory < dead_slots self.old.memory) }
+        ensures ok { OnOk result (KeepsMap self.old.memory self.new.memory) }
+        ensures fewer { IfOk result (λ more. IsTrue more
+            → dead_slots self.new.memory < dead_slots self.old.memory) }
         ensures tidied { IfOk result (λ more. IsFalse more → dead_slots self.old.memory ≡ 0) }
         ensures unchanged { IfOk result (λ more. IsFalse more → self.new.memory ≡ self.old.memory) }
-        ensures cut { IsErrOf result NorError.Cut → Keeps self.old.memory self.new.memory }
+        ensures cut { IsErrOf result NorError.Cut → KeepsMap self.old.memory self.new.memory }
         ensures size { length self.new.memory ≡ length self.old.memory }
-        ensures done { OnOk result (Succeeds self.old self.new) }
+        ensures done { OnOk result (SucceedsSettled self.old self.new) }
         ensures fails { IfErr result (λ e. Refuses e self.old self.new) }
     {
         if let Some(error) = self.stands {
@@ -188,9 +201,11 @@ impl<N: Nor> SectorMap<N> {
         }
     }
 
-    /// Turns the power off and on again, and mounts the memory anew into the same table. Where no Slow stood, no sector changes.
+    /// Turns the power off and on again, and mounts the memory anew into the same table. Where no
+    /// Slow was latched, no sector changes.
     ///
-    /// Answers Ok, Cut or Slow; Slow also where an operation that didn't end left a memory that can't be mounted.
+    /// Answers Ok, Cut or Slow; Slow also where an operation that didn't end left a memory that
+    /// can't be mounted.
     pub fn restore(&mut self) -> Result<(), NorError>
         ensures ok { OnOk result (MapRestored self.old self.new) }
         ensures fails { IfErr result (λ e. MapRestoreFails e self.old self.new) }
@@ -215,15 +230,16 @@ impl<N: Nor> SectorMap<N> {
         }
     }
 
-    /// Arms a loss of power in a simulated chip, as the memory's `arm` does. It changes nothing until the loss comes, so no clause can
-    /// tell it from a body that does nothing: tests see the loss.
+    /// Arms a loss of power in a simulated chip, as the memory's `arm` does. It changes nothing
+    /// until the loss comes, so no clause can tell it from a body that does nothing: tests see the
+    /// loss.
     pub fn arm(&mut self, count: u32, kind: u8, mask: u8)
         ensures { self.new ≡ self.old }
     {
         self.stock.arm(count, kind, mask)
     }
 
-    /// Gives the memory back. Where no Slow stands it is healthy behind its superblock.
+    /// Gives the memory back. Where no Slow is latched it is healthy behind its superblock.
     pub fn into_inner(self) -> N
         ensures behind { IsBehind self (N.state result) }
         ensures store { self.is_slow ≡ false → IsStore (N.state result).memory }
@@ -271,7 +287,8 @@ fn take_tables(alloc: Global, chip: Geometry) -> Result<Tables, AllocError>
 
 /// Mounts a memory whose superblock was looked at.
 fn recover<N: Nor>(alloc: Global, nor: N) -> Result<SectorMap<N>, (N, MountError)>
-    requires superblock { layout_of (N.state nor).memory (geometry_of (length (N.state nor).memory)) ≡ Ok Layout.Sectors }
+    requires superblock { layout_of (N.state nor).memory (geometry_of (length (N.state nor).memory))
+        ≡ Ok Layout.Sectors }
     ensures ok { IfOk result (λ map. Mounted (N.state nor) map) }
     ensures fails { IfErr result (λ e. MountFails e.1 (N.state nor) (N.state e.0)) }
 {
@@ -291,7 +308,7 @@ fn recover<N: Nor>(alloc: Global, nor: N) -> Result<SectorMap<N>, (N, MountError
 
 /// Makes the map of recovered journals' slots.
 fn fill<N: Nor>(slots: SectorSlots<N>, tables: Tables) -> Result<SectorMap<N>, (N, MountError)>
-    requires ready { IsReady slots }
+    requires ready { IsNorReady slots }
     requires table { vec_len tables.table ≡ sector_count (length slots.memory) }
     requires states { vec_len tables.states ≡ slot_count slots.memory }
     requires blocks { vec_len tables.blocks ≡ data_blocks slots.memory }
@@ -328,9 +345,9 @@ fn holder_of(table: &[Entry], sector: u16) -> Option<Held>
     table[sector as usize].holder()
 }
 
-/// The error that stands after a restore that was cut: a Slow that stood still does.
+/// The latched error after a restore that was cut: a Slow that was latched still does.
 fn after_cut(stands: Option<NorError>) -> Option<NorError>
-    ensures { result ≡ stands_after_cut stands }
+    ensures { result ≡ latched_after_cut stands }
 {
     match stands {
         None => Some(NorError::Cut),
@@ -339,11 +356,14 @@ fn after_cut(stands: Option<NorError>) -> Option<NorError>
     }
 }
 
-/// Turns the power on anew, recovers the journals, and makes the table again; false where the memory is corrupt.
+/// Turns the power on anew, recovers the journals, and makes the table again; false where the
+/// memory is corrupt.
 fn renew<S: Reclaim>(stock: &mut S, table: &mut [Entry]) -> Result<bool, NorError>
     requires size { length table.old ≡ sector_count (length (S.state stock.old).memory) }
-    ensures ok { IfOk result (λ sound. IsTrue sound → Renewed table.new (S.state stock.old) (S.state stock.new) (S.indexed stock.new)) }
-    ensures corrupt { IfOk result (λ sound. IsFalse sound → RenewCorrupt (S.state stock.old) (S.state stock.new)) }
+    ensures ok { IfOk result (λ sound. IsTrue sound
+        → Renewed table.new (S.state stock.old) (S.state stock.new) (S.indexed stock.new)) }
+    ensures corrupt { IfOk result (λ sound. IsFalse sound
+        → RenewCorrupt (S.state stock.old) (S.state stock.new)) }
     ensures fails { IfErr result (λ e. RenewFails e (S.state stock.old) (S.state stock.new)) }
     ensures size { length table.new ≡ length table.old }
 {

@@ -1,12 +1,15 @@
 //! The blocks are read: what copying goes on, and which slots hold each sector.
 
-ghost use Rattle.std.specs.Prelude.{◌≡◌, ◌≢◌, ◌+◌, ◌*◌, ◌<◌, ◌≤◌, ℕ, Bool, true, false, Some, None, ◌||◌, length, OnOk, IfOk, IfErr, IsTrue, IsFalse};
+ghost use Rattle.std.specs.Prelude.{◌≡◌, ◌≢◌, ◌+◌, ◌*◌, ◌<◌, ◌≤◌, ℕ, Bool, true, false, Some, None};
+ghost use Rattle.std.specs.Prelude.{◌||◌, length, OnOk, IfOk, IfErr, IsTrue, IsFalse};
+ghost use Rattle.nor_driver.specs.State.{Refuses};
 ghost use Rattle.nor_layout.specs.declared.header.Header.TheVariants as headers;
-ghost use Rattle.sector_slots.specs.Slots.{slot_at, slot_count, data_blocks, read_header, IsSpareIn};
+ghost use Rattle.erase_journal.specs.Steps.{SucceedsSettled};
+ghost use Rattle.sector_slots.specs.Slots.{slot_at, slot_count, data_blocks, read_header};
+ghost use Rattle.sector_slots.specs.Slots.{IsSpareIn};
 ghost use Rattle.sector_slots.specs.Blocks.{AreSound};
 ghost use Rattle.sector_slots.specs.Sectors.{SoundSlots};
-ghost use Rattle.sector_slots.specs.Steps.{Succeeds, Refuses};
-ghost use Rattle.sector_map.specs.Found.{FoundIn, counts};
+ghost use Rattle.sector_map.specs.Found.{FoundIn, block_counts};
 ghost use Rattle.sector_map.specs.declared.found.Found.{Found as FoundOf};
 ghost use Rattle.sector_map.specs.Scan.{EntersBlock, RefusesBlock};
 ghost use Rattle.sector_map.specs.Table.{IsTabled, IsBlankTable};
@@ -21,10 +24,12 @@ use sector_slots::SlotCalls;
 /// Reads the kinds of all blocks: the copying that goes on; None where the blocks are corrupt.
 #[tactic(auto, using(crate::proofs::Calls::repeated_calls))]
 pub fn survey<S: SlotCalls>(slots: &mut S) -> Result<Option<Found>, NorError>
-    ensures found { IfOk result (λ answer. (found : FoundOf) → answer ≡ Some found → FoundIn found (S.state slots.old).memory) }
-    ensures corrupt { IfOk result (λ answer. answer ≡ None → AreSound (S.state slots.old).memory → ⊥) }
+    ensures found { IfOk result (λ answer. (found : FoundOf) → answer ≡ Some found
+        → FoundIn found (S.state slots.old).memory) }
+    ensures corrupt { IfOk result (λ answer. answer ≡ None → AreSound (S.state slots.old).memory
+        → ⊥) }
     ensures same { (S.state slots.new).memory ≡ (S.state slots.old).memory }
-    ensures done { OnOk result (Succeeds (S.state slots.old) (S.state slots.new)) }
+    ensures done { OnOk result (SucceedsSettled (S.state slots.old) (S.state slots.new)) }
     ensures fails { IfErr result (λ e. Refuses e (S.state slots.old) (S.state slots.new)) }
 {
     let count = slots.blocks();
@@ -39,7 +44,8 @@ pub fn survey<S: SlotCalls>(slots: &mut S) -> Result<Option<Found>, NorError>
     Ok(Some(found))
 }
 
-/// Enters the seven slots of a block that counts into the table of those before it; false where the slots are corrupt.
+/// Enters the seven slots of a block that counts into the table of those before it; false where the
+/// slots are corrupt.
 pub fn enter_heads(table: &mut [Entry], block: u16, heads: &[Header]) -> bool
     requires number { block ≤ 4092 }
     requires room { length heads.now ≡ 7 }
@@ -60,7 +66,8 @@ pub fn enter_heads(table: &mut [Entry], block: u16, heads: &[Header]) -> bool
 pub fn all_free(heads: &[Header]) -> bool
     requires room { length heads.now ≡ 7 }
     ensures free { IsTrue result → (i : ℕ) → i < 7 → read_header heads.now i ≡ headers.Free }
-    ensures not_free { IsFalse result → ((i : ℕ) → i < 7 → read_header heads.now i ≡ headers.Free) → ⊥ }
+    ensures not_free { IsFalse result → ((i : ℕ) → i < 7 → read_header heads.now i ≡ headers.Free)
+        → ⊥ }
 {
     for place in 0..7usize {
         match heads[place] {
@@ -73,8 +80,8 @@ pub fn all_free(heads: &[Header]) -> bool
     true
 }
 
-/// Enters the slots of a block into the table, where they count, and says whether it is wholly free; None where the slots are
-/// corrupt.
+/// Enters the slots of a block into the table, where they count, and says whether it is wholly
+/// free; None where the slots are corrupt.
 fn read_block<S: SlotCalls>(
     slots: &mut S,
     table: &mut [Entry],
@@ -84,15 +91,20 @@ fn read_block<S: SlotCalls>(
     requires number { block < data_blocks (S.state slots.old).memory }
     requires few { block ≤ 4092 }
     requires found { FoundIn found (S.state slots.old).memory }
-    ensures entered { IfOk result (λ answer. (spare : Bool) → answer ≡ Some spare → IsTabled table.old (slot_at (S.state slots.old).memory) (7 * block)
+    ensures entered { IfOk result (λ answer. (spare : Bool) → answer ≡ Some spare
+        → IsTabled table.old (slot_at (S.state slots.old).memory) (7 * block)
         → IsTabled table.new (slot_at (S.state slots.old).memory) (7 * block + 7)) }
-    ensures spare { IfOk result (λ answer. answer ≡ Some true → IsSpareIn (S.state slots.old).memory block) }
-    ensures not_spare { IfOk result (λ answer. answer ≡ Some false → IsSpareIn (S.state slots.old).memory block → ⊥) }
-    ensures corrupt { IfOk result (λ answer. answer ≡ None → (count : ℕ) → length table.old ≡ count → IsTabled table.old (slot_at (S.state slots.old).memory) (7 * block)
-        → SoundSlots (slot_at (S.state slots.old).memory) (slot_count (S.state slots.old).memory) count → ⊥) }
+    ensures spare { IfOk result (λ answer. answer ≡ Some true
+        → IsSpareIn (S.state slots.old).memory block) }
+    ensures not_spare { IfOk result (λ answer. answer ≡ Some false
+        → IsSpareIn (S.state slots.old).memory block → ⊥) }
+    ensures corrupt { IfOk result (λ answer. answer ≡ None → (count : ℕ) → length table.old ≡ count
+        → IsTabled table.old (slot_at (S.state slots.old).memory) (7 * block)
+        → SoundSlots (slot_at (S.state slots.old).memory) (slot_count (S.state slots.old).memory)
+        count → ⊥) }
     ensures size { length table.new ≡ length table.old }
     ensures same { (S.state slots.new).memory ≡ (S.state slots.old).memory }
-    ensures done { OnOk result (Succeeds (S.state slots.old) (S.state slots.new)) }
+    ensures done { OnOk result (SucceedsSettled (S.state slots.old) (S.state slots.new)) }
     ensures fails { IfErr result (λ e. Refuses e (S.state slots.old) (S.state slots.new)) }
 {
     let mut heads = [Header::Free; 7];
@@ -107,9 +119,11 @@ fn read_block<S: SlotCalls>(
 fn enter_counted(table: &mut [Entry], found: Found, block: u16, heads: &[Header]) -> bool
     requires number { block ≤ 4092 }
     requires room { length heads.now ≡ 7 }
-    ensures sound { IsTrue result → counts found block ≡ true → EntersBlock heads.now block table.old table.new }
-    ensures skips { IsTrue result → counts found block ≡ false → table.new ≡ table.old }
-    ensures corrupt { IsFalse result → (counts found block ≡ true) × RefusesBlock heads.now block table.old }
+    ensures sound { IsTrue result → block_counts found block ≡ true
+        → EntersBlock heads.now block table.old table.new }
+    ensures skips { IsTrue result → block_counts found block ≡ false → table.new ≡ table.old }
+    ensures corrupt { IsFalse result
+        → (block_counts found block ≡ true) × RefusesBlock heads.now block table.old }
     ensures size { length table.new ≡ length table.old }
 {
     if is_counted(found, block) {
@@ -119,8 +133,8 @@ fn enter_counted(table: &mut [Entry], found: Found, block: u16, heads: &[Header]
     }
 }
 
-/// Reads the descriptors of all blocks into a table in which every sector is absent, and says whether a block is wholly free; None
-/// where the slots are corrupt.
+/// Reads the descriptors of all blocks into a table in which every sector is absent, and says
+/// whether a block is wholly free; None where the slots are corrupt.
 #[tactic(auto, using(crate::proofs::Calls::repeated_calls))]
 pub fn read_table<S: SlotCalls>(
     slots: &mut S,
@@ -130,14 +144,19 @@ pub fn read_table<S: SlotCalls>(
     requires blank { IsBlankTable table.old }
     requires found { FoundIn found (S.state slots.old).memory }
     ensures tabled { IfOk result (λ answer. (spare : Bool) → answer ≡ Some spare
-        → IsTabled table.new (slot_at (S.state slots.old).memory) (slot_count (S.state slots.old).memory)) }
-    ensures spare { IfOk result (λ answer. answer ≡ Some true → (c : ℕ) × ((c < data_blocks (S.state slots.old).memory) × IsSpareIn (S.state slots.old).memory c)) }
-    ensures not_spare { IfOk result (λ answer. answer ≡ Some false → (c : ℕ) → c < data_blocks (S.state slots.old).memory → IsSpareIn (S.state slots.old).memory c → ⊥) }
+        → IsTabled table.new (slot_at (S.state slots.old).memory)
+        (slot_count (S.state slots.old).memory)) }
+    ensures spare { IfOk result (λ answer. answer ≡ Some true
+        → (c : ℕ) × ((c < data_blocks (S.state slots.old).memory)
+        × IsSpareIn (S.state slots.old).memory c)) }
+    ensures not_spare { IfOk result (λ answer. answer ≡ Some false → (c : ℕ)
+        → c < data_blocks (S.state slots.old).memory → IsSpareIn (S.state slots.old).memory c → ⊥) }
     ensures corrupt { IfOk result (λ answer. answer ≡ None → (count : ℕ) → length table.old ≡ count
-        → SoundSlots (slot_at (S.state slots.old).memory) (slot_count (S.state slots.old).memory) count → ⊥) }
+        → SoundSlots (slot_at (S.state slots.old).memory) (slot_count (S.state slots.old).memory)
+        count → ⊥) }
     ensures size { length table.new ≡ length table.old }
     ensures same { (S.state slots.new).memory ≡ (S.state slots.old).memory }
-    ensures done { OnOk result (Succeeds (S.state slots.old) (S.state slots.new)) }
+    ensures done { OnOk result (SucceedsSettled (S.state slots.old) (S.state slots.new)) }
     ensures fails { IfErr result (λ e. Refuses e (S.state slots.old) (S.state slots.new)) }
 {
     let count = slots.blocks();
@@ -154,10 +173,12 @@ pub fn read_table<S: SlotCalls>(
 /// Whether a block is wholly free.
 pub fn is_spare<S: SlotCalls>(slots: &mut S, block: u16) -> Result<bool, NorError>
     requires number { block < data_blocks (S.state slots.old).memory }
-    ensures spare { IfOk result (λ spare. IsTrue spare → IsSpareIn (S.state slots.old).memory block) }
-    ensures not_spare { IfOk result (λ spare. IsFalse spare → IsSpareIn (S.state slots.old).memory block → ⊥) }
+    ensures spare { IfOk result (λ spare. IsTrue spare
+        → IsSpareIn (S.state slots.old).memory block) }
+    ensures not_spare { IfOk result (λ spare. IsFalse spare
+        → IsSpareIn (S.state slots.old).memory block → ⊥) }
     ensures same { (S.state slots.new).memory ≡ (S.state slots.old).memory }
-    ensures done { OnOk result (Succeeds (S.state slots.old) (S.state slots.new)) }
+    ensures done { OnOk result (SucceedsSettled (S.state slots.old) (S.state slots.new)) }
     ensures fails { IfErr result (λ e. Refuses e (S.state slots.old) (S.state slots.new)) }
 {
     let mut heads = [Header::Free; 7];
@@ -176,7 +197,8 @@ fn is_wholly_free(kind: Kind, heads: &[Header]) -> bool
     requires room { length heads.now ≡ 7 }
     ensures plain { IsTrue result → kind ≡ Kind.Plain }
     ensures free { IsTrue result → (i : ℕ) → i < 7 → read_header heads.now i ≡ headers.Free }
-    ensures not_free { IsFalse result → kind ≡ Kind.Plain → ((i : ℕ) → i < 7 → read_header heads.now i ≡ headers.Free) → ⊥ }
+    ensures not_free { IsFalse result → kind ≡ Kind.Plain
+        → ((i : ℕ) → i < 7 → read_header heads.now i ≡ headers.Free) → ⊥ }
 {
     is_plain(kind) && all_free(heads)
 }

@@ -1,14 +1,17 @@
+//! The table in memory: the slots of each sector.
+
 ghost use Rattle.std.specs.Prelude.{◌≡◌, ◌<◌, length};
-ghost use Rattle.sector_map.specs.Table.{Enters, Heads, Settled, Unset};
+ghost use Rattle.sector_map.specs.Table.{Enters, Heads, KeptOne, Unset};
 
 use crate::Held;
 use crate::entry::{Entry, note};
 use nor_layout::{Header, Tag};
 
-/// Enters a live slot into the table; false, and nothing changes, where its sector is none of the table's or the slots are
-/// corrupt.
+/// Enters a live slot into the table; false, and nothing changes, where its sector is none of the
+/// table's or the slots are corrupt.
 pub fn enter(table: &mut [Entry], tag: Tag, slot: u16) -> bool
-    ensures { Enters table.old tag.number (record { slot = slot; generation = tag.generation }) result table.new }
+    ensures { Enters table.old tag.number (record { slot = slot; generation = tag.generation })
+        result table.new }
 {
     let sector = tag.number as usize;
     if sector >= table.len() {
@@ -27,7 +30,8 @@ pub fn enter(table: &mut [Entry], tag: Tag, slot: u16) -> bool
     }
 }
 
-/// Enters a slot that counts, by its descriptor; false, and nothing changes, where the slots are corrupt.
+/// Enters a slot that counts, by its descriptor; false, and nothing changes, where the slots are
+/// corrupt.
 pub fn enter_head(table: &mut [Entry], slot: u16, header: Header) -> bool
     ensures { Heads table.old slot header result table.new }
 {
@@ -40,9 +44,9 @@ pub fn enter_head(table: &mut [Entry], slot: u16, header: Header) -> bool
 }
 
 /// Leaves one slot in the entry of a sector.
-pub fn settle(table: &mut [Entry], sector: usize, held: Held)
+pub fn keep_one(table: &mut [Entry], sector: usize, held: Held)
     requires number { sector < length table.old }
-    ensures { Settled table.old sector held table.new }
+    ensures { KeptOne table.old sector held table.new }
 {
     table[sector] = Entry::One(held);
 }

@@ -14,7 +14,7 @@ use Rattle.nor_layout.specs.Headers.{header_of}
 use Rattle.nor_layout.specs.Kinds.{kind_of}
 use Rattle.erase_journal.specs.Blocks.{blank, SameChip, OnlyBlock, SameBlocks}
 use Rattle.erase_journal.proofs.BlockLaws.{length-blank, byte-blank}
-use Rattle.sector_slots.specs.Slots.{Slot, Free, slot_with, slot_in, content_in, blank_sector, counted, copies, is_copy_of, data_blocks, data_block, kind_at, raw_slot, slot_at, slot_count, IsSpareIn, SameSlots}
+use Rattle.sector_slots.specs.Slots.{Slot, Free, slot_with, slot_in, content_bytes, blank_sector, counted, copies, is_copy_of, data_blocks, data_block, kind_at, raw_slot, slot_at, slot_count, IsSpareIn, SameSlots}
 use Rattle.sector_slots.specs.Blocks.{IsAtRest, IsCopying, SoundBlocks, settled, copying}
 use Rattle.sector_slots.specs.Sectors.{IsSoundMap, HoldsSectors, sector_at}
 use Rattle.sector_slots.proofs.WinnerLaws.{sound-stands}
@@ -35,9 +35,9 @@ blank-header k low = rw (blank-byte k 0 (omega arith), blank-byte k 1 (omega ari
 
 pub blank-slot : (i : ℕ) → i < 7 → slot_in blank i ≡ Free
 unfolding slot_in
-blank-slot i low = ap (λ h. slot_with h (content_in blank i)) (blank-header (16 + 4 * i) (omega arith))
+blank-slot i low = ap (λ h. slot_with h (content_bytes blank i)) (blank-header (16 + 4 * i) (omega arith))
 
-pub blank-content : (i : ℕ) → i < 7 → content_in blank i ≡ blank_sector
+pub blank-content : (i : ℕ) → i < 7 → content_bytes blank i ≡ blank_sector
 blank-content i low =
     let a : length (part 512 blank (i + 1)) ≡ 512 = part-whole 512 blank (i + 1) (omega (arith, length-blank)) in
     let b : length (part 512 blank 1) ≡ 512 = part-whole 512 blank 1 (omega (arith, length-blank)) in
@@ -115,7 +115,7 @@ same-blocks_slots m m' same =
       clean = λ clean. record {
         slots = λ s high free.
             let low : s < slot_count m = omega (arith, high, n) in
-            ap (λ b. content_in b (s % 7)) (block (s / 7) (omega (arith, low))) ∙ clean.slots s low (sym (slot s low) ∙ (sym (after s) ∙ free));
+            ap (λ b. content_bytes b (s % 7)) (block (s / 7) (omega (arith, low))) ∙ clean.slots s low (sym (slot s low) ∙ (sym (after s) ∙ free));
         spare = λ d high s.
             let low : d < data_blocks m = omega (arith, high, n) in
             let here = block d low in

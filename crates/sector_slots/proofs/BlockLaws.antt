@@ -5,8 +5,8 @@ use Rattle.std.proofs.lemmas.Bool.{cases_eq}
 use Rattle.nor_layout.specs.declared.kind.Kind.{Kind}
 use Rattle.nor_layout.specs.declared.kind.Kind.TheVariants as kinds
 use Rattle.sector_slots.specs.Slots.{Slot, IsSpare}
-use Rattle.sector_slots.specs.Blocks.{IsAtRest, IsCopying, AreAtRest, IsTarget, IsSettledBlocks, SoundBlocks, settled, copying, HasNoFault}
-use Rattle.sector_slots.specs.Copying.{OnlyData, Begins, CopiesIn, Commits, ErasesSource, Settles, ErasesVoid}
+use Rattle.sector_slots.specs.Blocks.{IsAtRest, IsCopying, AreAtRest, IsTarget, IsSettledBlocks, SoundBlocks, settled, copying, BlocksHaveNoFault}
+use Rattle.sector_slots.specs.Copying.{OnlyData, BeginsCopy, CopiesIn, Commits, ErasesSource, Settles, ErasesVoid}
 use Rattle.sector_slots.proofs.CopyLaws.{committed-source}
 
 rest-of : (k k' : Kind) → k' ≡ k → IsAtRest k → IsAtRest k'
@@ -16,7 +16,7 @@ plain-rest : (k : Kind) → k ≡ kinds.Plain → IsAtRest k
 plain-rest k e = subst (λ a. IsAtRest a) (sym e) tt
 
 -- begin
-pub begin-target : (t n : ℕ) (kind kind' : ℕ → Kind) (slots slots' : ℕ → ℕ → Slot) → Begins t n kind kind' slots slots' → IsTarget t n kind'
+pub begin-target : (t n : ℕ) (kind kind' : ℕ → Kind) (slots slots' : ℕ → ℕ → Slot) → BeginsCopy t n kind kind' slots slots' → IsTarget t n kind'
 begin-target t n kind kind' slots slots' h = record {
   number = h.number;
   copying = subst (λ k. IsCopying k t n) (sym h.now) tt;
@@ -118,7 +118,7 @@ both (kinds.Committed b) t n r c = r
 both kinds.Settled t n r c = c
 both kinds.Unknown t n r c = c
 
-to-no-fault : (kind : ℕ → Kind) (slots : ℕ → ℕ → Slot) (n : ℕ) → SoundBlocks kind slots n → HasNoFault kind slots n
+to-no-fault : (kind : ℕ → Kind) (slots : ℕ → ℕ → Slot) (n : ℕ) → SoundBlocks kind slots n → BlocksHaveNoFault kind slots n
 to-no-fault kind slots n (settled h) = record {
   known = λ c low. rest-known (kind c) (h.rest c low);
   one = λ c d lc ld other. inl (h.rest c lc);
@@ -136,7 +136,7 @@ to-no-fault kind slots n (copying t h) = record {
 }
 
 -- each block is at rest, or unknown, or is being copied into
-kind-cases : (kind : ℕ → Kind) (slots : ℕ → ℕ → Slot) (n c : ℕ) → HasNoFault kind slots n → c < n → (k : Kind) → kind c ≡ k → IsAtRest k ⊎ IsCopying k c n
+kind-cases : (kind : ℕ → Kind) (slots : ℕ → ℕ → Slot) (n c : ℕ) → BlocksHaveNoFault kind slots n → c < n → (k : Kind) → kind c ≡ k → IsAtRest k ⊎ IsCopying k c n
 kind-cases kind slots n c h low kinds.Plain e = inl tt
 kind-cases kind slots n c h low kinds.Void e = inr tt
 kind-cases kind slots n c h low (kinds.Committed b) e =
@@ -148,7 +148,7 @@ kind-cases kind slots n c h low kinds.Settled e = inl tt
 kind-cases kind slots n c h low kinds.Unknown e = absurd (h.known c low e)
 
 -- of the first m blocks, all are at rest, or one is being copied into
-some-copying : (kind : ℕ → Kind) (slots : ℕ → ℕ → Slot) (n m : ℕ) → HasNoFault kind slots n → m ≤ n → ((d : ℕ) → d < m → IsAtRest (kind d)) ⊎ ((t : ℕ) × ((t < n) × IsCopying (kind t) t n))
+some-copying : (kind : ℕ → Kind) (slots : ℕ → ℕ → Slot) (n m : ℕ) → BlocksHaveNoFault kind slots n → m ≤ n → ((d : ℕ) → d < m → IsAtRest (kind d)) ⊎ ((t : ℕ) × ((t < n) × IsCopying (kind t) t n))
 some-copying kind slots n zero h low = inl (λ d none. absurd (omega (arith, none)))
 some-copying kind slots n (suc m) h low = elim (kind-cases kind slots n m h (omega (arith, low)) (kind m) refl) [
   | inr c ↦ inr (m, (omega (arith, low), c))
@@ -158,7 +158,7 @@ some-copying kind slots n (suc m) h low = elim (kind-cases kind slots n m h (ome
   ]
 ]
 
-from-no-fault : (kind : ℕ → Kind) (slots : ℕ → ℕ → Slot) (n : ℕ) → HasNoFault kind slots n → SoundBlocks kind slots n
+from-no-fault : (kind : ℕ → Kind) (slots : ℕ → ℕ → Slot) (n : ℕ) → BlocksHaveNoFault kind slots n → SoundBlocks kind slots n
 from-no-fault kind slots n h = elim (some-copying kind slots n n h (omega arith)) [
   | inl rest ↦ let p = h.spare rest in settled (record { rest = rest; reserve = p.0; number = p.1.0; spare = p.1.1 })
   | inr c ↦ copying c.0 (record {
@@ -168,5 +168,5 @@ from-no-fault kind slots n h = elim (some-copying kind slots n n h (omega arith)
   })
 ]
 
-pub sound-no_fault : (kind : ℕ → Kind) (slots : ℕ → ℕ → Slot) (n : ℕ) → SoundBlocks kind slots n ↔ HasNoFault kind slots n
+pub sound-no_fault : (kind : ℕ → Kind) (slots : ℕ → ℕ → Slot) (n : ℕ) → SoundBlocks kind slots n ↔ BlocksHaveNoFault kind slots n
 sound-no_fault kind slots n = (to-no-fault kind slots n, from-no-fault kind slots n)

@@ -7,7 +7,7 @@ use Rattle.nor_layout.specs.declared.kind.Kind.{Kind}
 use Rattle.nor_layout.specs.declared.kind.Kind.TheVariants as kinds
 use Rattle.nor_layout.specs.Kinds.{kind_of}
 use Rattle.erase_journal.specs.Blocks.{blank, SameChip, OnlyBlock, WithErased}
-use Rattle.sector_slots.specs.Slots.{Slot, Free, Live, Dead, NoGeneration, Outside, slot_in, content_in, blank_sector, counted, copies, is_void, is_copy_of, is_counted, data_blocks, data_block, kind_at, raw_slot, slot_at, slot_count, IsSpareIn, IsClean}
+use Rattle.sector_slots.specs.Slots.{Slot, Free, Live, Dead, NoGeneration, Outside, slot_in, content_bytes, blank_sector, counted, copies, is_void, is_copy_of, is_counted, data_blocks, data_block, kind_at, raw_slot, slot_at, slot_count, IsSpareIn, IsClean}
 use Rattle.sector_slots.specs.Blocks.{IsTarget}
 use Rattle.sector_slots.specs.Copying.{Commits, ErasesSource, Settles}
 use Rattle.sector_slots.proofs.CopyLaws.{counted-other, counted-void, counted-source, counted-in, source-copies, committed-source, committed-copies, at-rest-copies}
@@ -49,7 +49,7 @@ settled-plain k a b = subst (λ q. IsPlain q) (sym b ∙ a) tt
 -- one block changes
 pub clean-only : (c : ℕ) (m m' : List ℕ) → OnlyBlock (c + 4) m m' → IsClean m
     → ((w : ℕ) → w < slot_count m → w / 7 ≢ c → counted (kind_at m') (raw_slot m') (data_blocks m) w ≡ Free → (slot_at m w ≡ Free) ⊎ IsSpareIn m (w / 7))
-    → ((w : ℕ) → w < slot_count m → w / 7 ≡ c → counted (kind_at m') (raw_slot m') (data_blocks m) w ≡ Free → content_in (data_block m' c) (w % 7) ≡ blank_sector)
+    → ((w : ℕ) → w < slot_count m → w / 7 ≡ c → counted (kind_at m') (raw_slot m') (data_blocks m) w ≡ Free → content_bytes (data_block m' c) (w % 7) ≡ blank_sector)
     → (IsSpareIn m' c → data_block m' c ≡ blank) → IsClean m'
 clean-only c m m' only clean others here spare =
     let n = only.chip.same_length in
@@ -58,13 +58,13 @@ clean-only c m m' only clean others here spare =
       slots = λ w high free.
           let low : w < slot_count m = omega (arith, high, n) in
           let free' = sym (sized m m' w only.chip) ∙ free in
-          elim (cases_eq (w / 7) c) as (λ _. content_in (data_block m' (w / 7)) (w % 7) ≡ blank_sector) [
-            | inl e ↦ ap (λ a. content_in (data_block m' a) (w % 7)) e ∙ here w low e free'
+          elim (cases_eq (w / 7) c) as (λ _. content_bytes (data_block m' (w / 7)) (w % 7) ≡ blank_sector) [
+            | inl e ↦ ap (λ a. content_bytes (data_block m' a) (w % 7)) e ∙ here w low e free'
             | inr ne ↦
                 let block = same (w / 7) (omega (arith, low)) ne in
-                ap (λ b. content_in b (w % 7)) block ∙ (elim (others w low ne free') as (λ _. content_in (data_block m (w / 7)) (w % 7) ≡ blank_sector) [
+                ap (λ b. content_bytes b (w % 7)) block ∙ (elim (others w low ne free') as (λ _. content_bytes (data_block m (w / 7)) (w % 7) ≡ blank_sector) [
                   | inl was ↦ clean.slots w low was
-                  | inr was ↦ ap (λ b. content_in b (w % 7)) (clean.spare (w / 7) (omega (arith, low)) was) ∙ blank-content (w % 7) (omega arith)
+                  | inr was ↦ ap (λ b. content_bytes b (w % 7)) (clean.spare (w / 7) (omega (arith, low)) was) ∙ blank-content (w % 7) (omega arith)
                 ])
           ];
       spare = λ d high s.
@@ -84,7 +84,7 @@ clean-blocks m m' chip same slots clean =
     record {
       slots = λ w high free.
           let low : w < slot_count m = omega (arith, high, n) in
-          ap (λ b. content_in b (w % 7)) (same (w / 7) (omega (arith, low))) ∙ clean.slots w low (sym (slots w low) ∙ (sym (sized m m' w chip) ∙ free));
+          ap (λ b. content_bytes b (w % 7)) (same (w / 7) (omega (arith, low))) ∙ clean.slots w low (sym (slots w low) ∙ (sym (sized m m' w chip) ∙ free));
       spare = λ d high s.
           let low : d < data_blocks m = omega (arith, high, n) in
           let block = same d low in
@@ -100,7 +100,7 @@ void-clean t m m' k only was none now clean = clean-only t m m' only clean
     (λ s. absurd (void-plain (kind_at m' t) now s.plain))
 
 -- commit
-pub commit-clean : (s t : ℕ) (m m' : List ℕ) → OnlyMark t m m' → Commits s t (data_blocks m) (kind_at m) (kind_at m') (raw_slot m) (raw_slot m') → ((i : ℕ) → i < 7 → raw_slot m t i ≡ Free → content_in (data_block m t) i ≡ blank_sector)
+pub commit-clean : (s t : ℕ) (m m' : List ℕ) → OnlyMark t m m' → Commits s t (data_blocks m) (kind_at m) (kind_at m') (raw_slot m) (raw_slot m') → ((i : ℕ) → i < 7 → raw_slot m t i ≡ Free → content_bytes (data_block m t) i ≡ blank_sector)
     → IsClean m → IsClean m'
 commit-clean s t m m' mark h fresh clean = clean-only t m m' mark.only clean
     (λ w low ne free. elim (cases_eq (w / 7) s) as (λ _. (slot_at m w ≡ Free) ⊎ IsSpareIn m (w / 7)) [
@@ -144,7 +144,7 @@ settle-clean s t m m' mark h clean = clean-only t m m' mark.only clean
     let before = counted-in (kind_at m) (raw_slot m) (data_blocks m) w (ap (λ c. is_void (kind_at m c)) e ∙ ap is_void h.was) (committed-copies s t (data_blocks m) (kind_at m) (w / 7) h.target h.was (λ q. place.1 (sym q ∙ e))) in
     let raw : raw_slot m' t (w % 7) ≡ Free = raw-free (kind_at m') (raw_slot m') (data_blocks m) w t e free in
     let was : slot_at m w ≡ Free = before ∙ (ap (λ c. raw_slot m c (w % 7)) e ∙ (sym (mark.slots (w % 7) (omega arith)) ∙ raw)) in
-    mark.contents (w % 7) (omega arith) ∙ (ap (λ c. content_in (data_block m c) (w % 7)) (sym e) ∙ clean.slots w low was))
+    mark.contents (w % 7) (omega arith) ∙ (ap (λ c. content_bytes (data_block m c) (w % 7)) (sym e) ∙ clean.slots w low was))
     (λ p. absurd (settled-plain (kind_at m' t) h.now p.plain))
 
 -- a committed block that stays one
@@ -156,5 +156,5 @@ committed-clean s t m m' mark target was now clean = clean-only t m m' mark.only
     let before = counted-in (kind_at m) (raw_slot m) (data_blocks m) w (ap (λ c. is_void (kind_at m c)) e ∙ ap is_void was) (committed-copies s t (data_blocks m) (kind_at m) (w / 7) target was (λ q. place.1 (sym q ∙ e))) in
     let raw : raw_slot m' t (w % 7) ≡ Free = raw-free (kind_at m') (raw_slot m') (data_blocks m) w t e free in
     let slot : slot_at m w ≡ Free = before ∙ (ap (λ c. raw_slot m c (w % 7)) e ∙ (sym (mark.slots (w % 7) (omega arith)) ∙ raw)) in
-    mark.contents (w % 7) (omega arith) ∙ (ap (λ c. content_in (data_block m c) (w % 7)) (sym e) ∙ clean.slots w low slot))
+    mark.contents (w % 7) (omega arith) ∙ (ap (λ c. content_bytes (data_block m c) (w % 7)) (sym e) ∙ clean.slots w low slot))
     (λ p. absurd (committed-plain (kind_at m' t) (s + 4) now p.plain))

@@ -4,7 +4,7 @@ use Rattle.std.proofs.lemmas.Bool.{cases_eq, cond-true, cond-false, eq-eqb, ne_e
 use Rattle.nor_layout.specs.declared.header.Generation.{Generation}
 use Rattle.nor_layout.specs.declared.header.Generation.TheVariants as generations
 use Rattle.sector_slots.specs.Slots.{Slot, Dead}
-use Rattle.sector_slots.specs.Sectors.{zeros, LiveAt, IsAbsent, SectorIs, absent, Single, Stands, NextGeneration, begun, with_sector, OthersKept}
+use Rattle.sector_slots.specs.Sectors.{zeros, LiveAt, IsAbsent, SectorIs, absent, Single, SlotsRepresent, NextGeneration, begun, with_sector, OthersKept}
 use Rattle.sector_slots.proofs.SectorLaws.{moved-back, sector-kept, dead-without, other-without, sound-fewer, sub-quiet, whole-kept, dead-whole}
 
 pub cleared-absent : (f f' : ℕ → Slot) (n w g : ℕ) (k : Generation) (y : List ℕ) → Single f n → LiveAt f n w g k y → OthersKept n w f f' → f' w ≡ Dead → IsAbsent f' n g
@@ -13,8 +13,8 @@ cleared-absent f f' n w g k y single l only dead = λ s j x r. elim (cases_eq s 
   | inr ne ↦ ne (single.one s w g j k x y (moved-back f f' n w s g j x only ne r) l)
 ]
 
-pub clear-stands : (f f' : ℕ → Slot) (n w g count : ℕ) (k : Generation) (y : List ℕ) (sectors : ℕ → List ℕ) → Single f n → LiveAt f n w g k y → OthersKept n w f f' → f' w ≡ Dead → Stands f n count sectors
-    → Stands f' n count (with_sector sectors g zeros)
+pub clear-stands : (f f' : ℕ → Slot) (n w g count : ℕ) (k : Generation) (y : List ℕ) (sectors : ℕ → List ℕ) → Single f n → LiveAt f n w g k y → OthersKept n w f f' → f' w ≡ Dead → SlotsRepresent f n count sectors
+    → SlotsRepresent f' n count (with_sector sectors g zeros)
 clear-stands f f' n w g count k y sectors single l only dead s = record {
   sound = sound-fewer f f' n count (sub-quiet f f' n w only (λ h. dead-without f' w h dead)) (whole-kept f f' n w only (dead-whole (f' w) dead) s.sound.whole) s.sound;
   maps = record {

@@ -6,7 +6,7 @@ use Rattle.nor_layout.specs.declared.header.Generation.{Generation}
 use Rattle.nor_layout.specs.declared.kind.Kind.{Kind}
 use Rattle.sector_slots.specs.Slots.{Slot, Live, NoGeneration, Outside, is_void, is_copy_of, copies, counted}
 use Rattle.sector_slots.specs.Sectors.{LiveAt}
-use Rattle.sector_slots.specs.Copying.{Moves, Commits}
+use Rattle.sector_slots.specs.Copying.{MovesSlots, Commits}
 use Rattle.sector_slots.proofs.CopyLaws.{at-rest-copies, at-rest-counts, copies-none, counted-in, counted-void, counted-source, void-copies, source-copies, shifted-there, shifted-else, outside-live, copy-on, copy-back, copy-whole, IsWhole}
 use Rattle.sector_slots.specs.Copying.{shifted}
 
@@ -126,7 +126,7 @@ commit-whole s t n kind kind' slots slots' w h whole low e = elim (cases_eq (w /
 
 -- a commit moves the live slots of s to t, and changes nothing else of the slots that count
 pub commit-moves : (s t n : ℕ) (kind kind' : ℕ → Kind) (slots slots' : ℕ → ℕ → Slot) → Commits s t n kind kind' slots slots' → ((v : ℕ) → v < 7 * n → counted kind slots n v ≢ NoGeneration)
-    → Moves (counted kind slots n) (counted kind' slots' n) (7 * n) (shifted s t) (shifted t s)
+    → MovesSlots (counted kind slots n) (counted kind' slots' n) (7 * n) (shifted s t) (shifted t s)
 commit-moves s t n kind kind' slots slots' h whole = record {
   on = λ w g k x l. commit-on s t n kind kind' slots slots' w g k x h l;
   back = λ w g k x l. commit-back s t n kind kind' slots slots' w g k x h l;

@@ -8,7 +8,7 @@ use Rattle.nor_layout.specs.declared.kind.Kind.TheVariants as kinds
 use Rattle.erase_journal.specs.Places.{how_many}
 use Rattle.sector_slots.specs.Slots.{Slot, Free, Live, NoGeneration, Dead, Outside, is_void, is_copy_of, copies, is_counted, counted}
 use Rattle.sector_slots.specs.Blocks.{IsAtRest, IsCopying, IsTarget}
-use Rattle.sector_slots.specs.Copying.{OnlyData, IsQuiet, SameLive, IsCopy, copied, skipped, copy_slot, Begins, CopiesIn, ErasesSource, Settles, ErasesVoid, shifted}
+use Rattle.sector_slots.specs.Copying.{OnlyData, HoldsNothing, SameLive, IsCopy, copied, skipped, copy_slot, BeginsCopy, CopiesIn, ErasesSource, Settles, ErasesVoid, shifted}
 
 pub how_many-zero : (p : ℕ → Bool) → how_many p 0 ≡ 0
 unfolding how_many
@@ -92,23 +92,23 @@ counted-other kind kind' slots slots' n c s only low other same =
     ]) in
     rw (k, x, z) refl
 
-free-quiet : (s : Slot) → s ≡ Free → IsQuiet s
-free-quiet s e = subst (λ a. IsQuiet a) (sym e) tt
+free-quiet : (s : Slot) → s ≡ Free → HoldsNothing s
+free-quiet s e = subst (λ a. HoldsNothing a) (sym e) tt
 
-outside-quiet : (s : Slot) → s ≡ Outside → IsQuiet s
-outside-quiet s e = subst (λ a. IsQuiet a) (sym e) tt
+outside-quiet : (s : Slot) → s ≡ Outside → HoldsNothing s
+outside-quiet s e = subst (λ a. HoldsNothing a) (sym e) tt
 
 -- a block of free slots is quiet whether it counts or not
-either-quiet : (t : Bool) (a b : Slot) → IsQuiet a → IsQuiet b → IsQuiet (cond t a b)
+either-quiet : (t : Bool) (a b : Slot) → HoldsNothing a → HoldsNothing b → HoldsNothing (cond t a b)
 either-quiet true a b p q = p
 either-quiet false a b p q = q
 
-counted-quiet : (kind : ℕ → Kind) (slots : ℕ → ℕ → Slot) (n s : ℕ) → slots (s / 7) (s % 7) ≡ Free → IsQuiet (counted kind slots n s)
+counted-quiet : (kind : ℕ → Kind) (slots : ℕ → ℕ → Slot) (n s : ℕ) → slots (s / 7) (s % 7) ≡ Free → HoldsNothing (counted kind slots n s)
 unfolding counted
 counted-quiet kind slots n s e = either-quiet (is_counted kind n (s / 7)) (slots (s / 7) (s % 7)) Outside (free-quiet (slots (s / 7) (s % 7)) e) tt
 
 -- begin
-pub begin-live : (t n : ℕ) (kind kind' : ℕ → Kind) (slots slots' : ℕ → ℕ → Slot) → Begins t n kind kind' slots slots' → SameLive (counted kind slots n) (counted kind' slots' n) (7 * n)
+pub begin-live : (t n : ℕ) (kind kind' : ℕ → Kind) (slots slots' : ℕ → ℕ → Slot) → BeginsCopy t n kind kind' slots slots' → SameLive (counted kind slots n) (counted kind' slots' n) (7 * n)
 begin-live t n kind kind' slots slots' h s low = elim (cases_eq (s / 7) t) [
   | inl e ↦
       inr (
@@ -203,8 +203,8 @@ shifted-there s t w e = rw (eq-eqb (w / 7) s e) refl
 pub shifted-else : (s t w : ℕ) → w / 7 ≢ s → shifted s t w ≡ w
 shifted-else s t w ne = rw (ne_eqb (w / 7) s ne) refl
 
-pub quiet-live : (s : Slot) (g : ℕ) (k : Generation) (x : List ℕ) → IsQuiet s → s ≡ Live (record { number = g; generation = k }) x → ⊥
-quiet-live s g k x q e = subst (λ a. IsQuiet a) e q
+pub quiet-live : (s : Slot) (g : ℕ) (k : Generation) (x : List ℕ) → HoldsNothing s → s ≡ Live (record { number = g; generation = k }) x → ⊥
+quiet-live s g k x q e = subst (λ a. HoldsNothing a) e q
 
 pub outside-live : (s : Slot) (g : ℕ) (k : Generation) (x : List ℕ) → s ≡ Outside → s ≡ Live (record { number = g; generation = k }) x → ⊥
 outside-live s g k x o e = quiet-live s g k x (outside-quiet s o) e
@@ -246,7 +246,7 @@ IsWhole Outside = Unit {0}
 
 pub copy-whole : (old new : Slot) → IsCopy old new → new ≢ NoGeneration
 copy-whole old new (copied h i j y was is) e = subst (λ a. IsWhole a) (sym is ∙ e) tt
-copy-whole old new (skipped p q) e = subst (λ a. IsQuiet a) e q
+copy-whole old new (skipped p q) e = subst (λ a. HoldsNothing a) e q
 
 -- the exact copy of a slot is a copy
 pub copy-exact : (slot : Slot) → slot ≢ NoGeneration → IsCopy slot (copy_slot slot)

@@ -5,7 +5,7 @@ use Rattle.chip_model.specs.Geometry.{IsChipSize, sector_count}
 use Rattle.nor_layout.specs.declared.header.Generation.{Generation}
 use Rattle.nor_layout.specs.Kinds.{kind_of}
 use Rattle.erase_journal.specs.Blocks.{blank}
-use Rattle.sector_slots.specs.Slots.{Slot, Free, Live, NoGeneration, Dead, Outside, is_void, is_copy_of, slot_in, content_in, data_blocks, data_block, kind_at, raw_slot, slot_at, slot_count, IsClean}
+use Rattle.sector_slots.specs.Slots.{Slot, Free, Live, NoGeneration, Dead, Outside, is_void, is_copy_of, slot_in, content_bytes, data_blocks, data_block, kind_at, raw_slot, slot_at, slot_count, IsClean}
 use Rattle.sector_slots.specs.Blocks.{IsAtRest, AreSettled, settled}
 use Rattle.sector_slots.specs.Sectors.{zeros, LiveAt, SoundSlots, Single, winner, sector_content, sector_at, IsSoundMap, IsAtRestMap}
 use Rattle.sector_slots.specs.Sectors.{content_in as held_in}
@@ -52,7 +52,7 @@ blank-free m each s low =
 
 blank-clean : (m : List ℕ) → ((c : ℕ) → c < data_blocks m → data_block m c ≡ blank) → IsClean m
 blank-clean m each = record {
-  slots = λ s low free. ap (λ b. content_in b (s % 7)) (each (s / 7) (omega (arith, low))) ∙ blank-content (s % 7) (omega arith);
+  slots = λ s low free. ap (λ b. content_bytes b (s % 7)) (each (s / 7) (omega (arith, low))) ∙ blank-content (s % 7) (omega arith);
   spare = λ c low spare. each c low;
 }
 

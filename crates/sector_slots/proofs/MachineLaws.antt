@@ -4,7 +4,7 @@ use Rattle.chip_model.specs.Geometry.{block_count, sector_count}
 use Rattle.erase_journal.specs.Blocks.{SameChip, OnlyBlock}
 use Rattle.nor_layout.specs.Kinds.{kind_of}
 use Rattle.sector_slots.specs.Slots.{Slot, NoGeneration, slot_in, counted, data_blocks, kind_at, raw_slot, slot_at, slot_count}
-use Rattle.sector_slots.specs.Sectors.{Single, Stands, IsSingle, HoldsSectors}
+use Rattle.sector_slots.specs.Sectors.{Single, SlotsRepresent, IsSingle, HoldsSectors}
 use Rattle.sector_slots.specs.Blocks.{IsSettledBlocks, SoundBlocks, settled, copying, AreSettled}
 use Rattle.sector_slots.specs.Copying.{OnlyData, SameLive, Settles, ErasesVoid}
 use Rattle.sector_slots.proofs.CopyLaws.{begin-live, copy-same, erase_source-same, settle-live, erase_void-live}
@@ -12,7 +12,7 @@ use Rattle.sector_slots.specs.Copying.{shifted}
 use Rattle.sector_slots.proofs.CommitLaws.{commit-moves}
 use Rattle.sector_slots.proofs.MoveLaws.{live-stands, live-single, moves-stands, moves-single}
 use Rattle.sector_slots.proofs.BlockLaws.{begin-target, copy-target, commit-target, erase_source-target, settle-settled, erase_void-settled}
-use Rattle.sector_slots.specs.Machine.{Step, begins, copies, commits, erases_source, settles, erases_void}
+use Rattle.sector_slots.specs.Machine.{SlotStep, begins, copies, commits, erases_source, settles, erases_void}
 
 -- one block of the chip that changes is one data block that does
 pub block-data : (c : ℕ) (m m' : List ℕ) → OnlyBlock (c + 4) m m' → OnlyData c (data_blocks m) (kind_at m) (kind_at m') (raw_slot m) (raw_slot m')
@@ -25,10 +25,10 @@ block-data c m m' only = record {
 abbrev after_slots : List ℕ → ℕ → ℕ → Slot
 after_slots m' n = counted (kind_at m') (raw_slot m') (block_count n - 4)
 
-pub holds-sized : (m m' : List ℕ) (sectors : ℕ → List ℕ) → SameChip m m' → Stands (after_slots m' (length m)) (slot_count m) (sector_count (length m)) sectors → SoundBlocks (kind_at m') (raw_slot m') (data_blocks m)
+pub holds-sized : (m m' : List ℕ) (sectors : ℕ → List ℕ) → SameChip m m' → SlotsRepresent (after_slots m' (length m)) (slot_count m) (sector_count (length m)) sectors → SoundBlocks (kind_at m') (raw_slot m') (data_blocks m)
     → HoldsSectors sectors m'
 holds-sized m m' sectors chip s b = record {
-  slots = subst (λ n. Stands (after_slots m' n) (7 * (block_count n - 4)) (sector_count n) sectors) (sym chip.same_length) s;
+  slots = subst (λ n. SlotsRepresent (after_slots m' n) (7 * (block_count n - 4)) (sector_count n) sectors) (sym chip.same_length) s;
   blocks = subst (λ n. SoundBlocks (kind_at m') (raw_slot m') (block_count n - 4)) (sym chip.same_length) b;
 }
 
@@ -38,7 +38,7 @@ single-sized m m' chip s = subst (λ n. Single (after_slots m' n) (7 * (block_co
 same-live : (f f' : ℕ → Slot) (n : ℕ) → ((s : ℕ) → s < n → f' s ≡ f s) → SameLive f f' n
 same-live f f' n same s low = inl (same s low)
 
-pub step-holds : (s t : ℕ) (m m' : List ℕ) (sectors : ℕ → List ℕ) → Step s t m m' → HoldsSectors sectors m → HoldsSectors sectors m'
+pub step-holds : (s t : ℕ) (m m' : List ℕ) (sectors : ℕ → List ℕ) → SlotStep s t m m' → HoldsSectors sectors m → HoldsSectors sectors m'
 step-holds s t m m' sectors (begins chip h) holds =
     let live = begin-live t (data_blocks m) (kind_at m) (kind_at m') (raw_slot m) (raw_slot m') h in
     holds-sized m m' sectors chip (live-stands (slot_at m) (after_slots m' (length m)) (slot_count m) (sector_count (length m)) sectors live holds.slots)
@@ -64,7 +64,7 @@ step-holds s t m m' sectors (erases_void chip h) holds =
     holds-sized m m' sectors chip (live-stands (slot_at m) (after_slots m' (length m)) (slot_count m) (sector_count (length m)) sectors live holds.slots)
     (settled (erase_void-settled t (data_blocks m) (kind_at m) (kind_at m') (raw_slot m) (raw_slot m') h))
 
-pub step-single : (s t : ℕ) (m m' : List ℕ) → Step s t m m' → ((v : ℕ) → v < slot_count m → slot_at m v ≢ NoGeneration) → IsSingle m → IsSingle m'
+pub step-single : (s t : ℕ) (m m' : List ℕ) → SlotStep s t m m' → ((v : ℕ) → v < slot_count m → slot_at m v ≢ NoGeneration) → IsSingle m → IsSingle m'
 step-single s t m m' (begins chip h) whole single = single-sized m m' chip (live-single (slot_at m) (after_slots m' (length m)) (slot_count m) (begin-live t (data_blocks m) (kind_at m) (kind_at m') (raw_slot m) (raw_slot m') h) single)
 step-single s t m m' (copies chip h) whole single = single-sized m m' chip (live-single (slot_at m) (after_slots m' (length m)) (slot_count m) (same-live (slot_at m) (after_slots m' (length m)) (slot_count m) (copy-same t (data_blocks m) (kind_at m) (kind_at m') (raw_slot m) (raw_slot m') h)) single)
 step-single s t m m' (commits chip h one) whole single = single-sized m m' chip (moves-single (slot_at m) (after_slots m' (length m)) (slot_count m) (shifted s t) (shifted t s) (commit-moves s t (data_blocks m) (kind_at m) (kind_at m') (raw_slot m) (raw_slot m') h whole) single)

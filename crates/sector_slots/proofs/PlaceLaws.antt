@@ -11,7 +11,7 @@ use Rattle.sector_slots.specs.Slots.{Slot, Free, Dead, is_copy_of, copies, count
 use Rattle.sector_slots.specs.Blocks.{IsSettledBlocks, settled, AreAtRest}
 use Rattle.sector_slots.proofs.BlockLaws.{write-settled}
 use Rattle.sector_slots.proofs.CopyLaws.{copies-same}
-use Rattle.sector_slots.specs.Sectors.{LiveAt, NextGeneration, Stands, with_sector, OthersKept, IsSingle, HoldsSectors}
+use Rattle.sector_slots.specs.Sectors.{LiveAt, NextGeneration, SlotsRepresent, with_sector, OthersKept, IsSingle, HoldsSectors}
 use Rattle.sector_slots.proofs.SectorLaws.{put-done, free-stands, dead-stands, retire-stands}
 use Rattle.sector_slots.proofs.MachineLaws.{block-data, holds-sized}
 use Rattle.sector_slots.specs.Steps.{PutLeaves, still_free, half_written, written, OnlyPlace}
@@ -53,7 +53,7 @@ pub place-settled : (w r : ℕ) (m m' : List ℕ) → r < data_blocks m → IsSp
 place-settled w r m m' low spare other rest h = write-settled (w / 7) r (data_blocks m) (kind_at m) (kind_at m') (raw_slot m) (raw_slot m') low spare other rest (block-data (w / 7) m m' h.only) h.kind
 
 pub place-holds : (w r : ℕ) (m m' : List ℕ) (sectors : ℕ → List ℕ) → r < data_blocks m → IsSpareIn m r → r ≢ w / 7 → AreAtRest (kind_at m) (data_blocks m) → OnlyPlace w m m'
-    → Stands (later m m') (slot_count m) (sector_count (length m)) sectors → HoldsSectors sectors m'
+    → SlotsRepresent (later m m') (slot_count m) (sector_count (length m)) sectors → HoldsSectors sectors m'
 place-holds w r m m' sectors low spare other rest h s = holds-sized m m' sectors h.only.chip s (settled (place-settled w r m m' low spare other rest h))
 
 -- A write of a sector into a free slot outside a wholly free block r, whole or cut: the sectors are as they were, or this one new.

@@ -5,7 +5,7 @@ use Rattle.nor_layout.specs.declared.header.Generation.{Generation}
 use Rattle.nor_layout.specs.declared.header.Generation.TheVariants.{Zero, One, Two, Three}
 use Rattle.nor_layout.specs.Headers.{next_generation, generation_byte}
 use Rattle.sector_slots.specs.Slots.{Slot, Free, Live, NoGeneration, Dead, Outside}
-use Rattle.sector_slots.specs.Sectors.{LiveAt, SectorIs, absent, held, Maps, SoundSlots, Single, NextGeneration, begun, after, Stands, with_sector, OthersKept, generation_in}
+use Rattle.sector_slots.specs.Sectors.{LiveAt, SectorIs, absent, held, Maps, SoundSlots, Single, NextGeneration, begun, after, SlotsRepresent, with_sector, OthersKept, generation_in}
 
 -- the parts of a slot, to tell slots apart
 abbrev pub number_in : Slot → ℕ
@@ -182,27 +182,27 @@ sound-added f f' n w g k count x within only new single generation s =
 
 -- a put that left nothing
 quiet-stands : (f f' : ℕ → Slot) (n w count : ℕ) (sectors : ℕ → List ℕ) → OthersKept n w f f' → ((g : ℕ) → Without f w g) → ((g : ℕ) → Without f' w g) → f' w ≢ NoGeneration
-    → Stands f n count sectors → Stands f' n count sectors
+    → SlotsRepresent f n count sectors → SlotsRepresent f' n count sectors
 quiet-stands f f' n w count sectors only out out' whole s = record {
   sound = sound-fewer f f' n count (sub-quiet f f' n w only out') (whole-kept f f' n w only whole s.sound.whole) s.sound;
   maps = maps-kept f f' n w count sectors only out out' s.maps;
 }
 
 -- a free slot that is free or dead afterwards
-pub free-stands : (f f' : ℕ → Slot) (n w count : ℕ) (sectors : ℕ → List ℕ) → OthersKept n w f f' → f w ≡ Free → f' w ≡ Free → Stands f n count sectors → Stands f' n count sectors
+pub free-stands : (f f' : ℕ → Slot) (n w count : ℕ) (sectors : ℕ → List ℕ) → OthersKept n w f f' → f w ≡ Free → f' w ≡ Free → SlotsRepresent f n count sectors → SlotsRepresent f' n count sectors
 free-stands f f' n w count sectors only free e = quiet-stands f f' n w count sectors only (λ h. free-without f w h free) (λ h. free-without f' w h e) (free-whole (f' w) e)
 
-pub dead-stands : (f f' : ℕ → Slot) (n w count : ℕ) (sectors : ℕ → List ℕ) → OthersKept n w f f' → f w ≡ Free → f' w ≡ Dead → Stands f n count sectors → Stands f' n count sectors
+pub dead-stands : (f f' : ℕ → Slot) (n w count : ℕ) (sectors : ℕ → List ℕ) → OthersKept n w f f' → f w ≡ Free → f' w ≡ Dead → SlotsRepresent f n count sectors → SlotsRepresent f' n count sectors
 dead-stands f f' n w count sectors only free e = quiet-stands f f' n w count sectors only (λ h. free-without f w h free) (λ h. dead-without f' w h e) (dead-whole (f' w) e)
 
 -- a put that was done
 pub put-done : (f f' : ℕ → Slot) (n w g : ℕ) (k : Generation) (count : ℕ) (x : List ℕ) (sectors : ℕ → List ℕ) → w < n → g < count → f w ≡ Free → OthersKept n w f f'
-    → f' w ≡ Live (record { number = g; generation = k }) x → Single f n → NextGeneration f n g k → Stands f n count sectors → Stands f' n count (with_sector sectors g x)
+    → f' w ≡ Live (record { number = g; generation = k }) x → Single f n → NextGeneration f n g k → SlotsRepresent f n count sectors → SlotsRepresent f' n count (with_sector sectors g x)
 put-done f f' n w g k count x sectors high within free only e single generation s =
     record { sound = sound-added f f' n w g k count x within only e single generation s.sound; maps = maps-added f f' n w g k count x sectors high only (λ h. free-without f w h free) e single generation s.maps }
 
 -- the same slots
-pub same-stands : (f f' : ℕ → Slot) (n count : ℕ) (sectors : ℕ → List ℕ) → ((s : ℕ) → s < n → f' s ≡ f s) → Stands f n count sectors → Stands f' n count sectors
+pub same-stands : (f f' : ℕ → Slot) (n count : ℕ) (sectors : ℕ → List ℕ) → ((s : ℕ) → s < n → f' s ≡ f s) → SlotsRepresent f n count sectors → SlotsRepresent f' n count sectors
 same-stands f f' n count sectors same s =
     let back : (c h : ℕ) (i : Generation) (z : List ℕ) → LiveAt f' n c h i z → LiveAt f n c h i z = λ c h i z m. record { number = m.number; is = sym (same c m.number) ∙ m.is } in
     let on : (c h : ℕ) (i : Generation) (z : List ℕ) → LiveAt f n c h i z → LiveAt f' n c h i z = λ c h i z m. record { number = m.number; is = same c m.number ∙ m.is } in
@@ -213,7 +213,7 @@ same-stands f f' n count sectors same s =
 
 -- a retirement of the older slot, whole or cut
 pub retire-stands : (f f' : ℕ → Slot) (n w b g : ℕ) (j k : Generation) (count : ℕ) (x y : List ℕ) (sectors : ℕ → List ℕ) → OthersKept n b f f' → LiveAt f n b g j y → LiveAt f n w g k x → w ≢ b
-    → k ≡ next_generation j → (f' b ≡ f b) ⊎ (f' b ≡ Dead) → Stands f n count sectors → Stands f' n count sectors
+    → k ≡ next_generation j → (f' b ≡ f b) ⊎ (f' b ≡ Dead) → SlotsRepresent f n count sectors → SlotsRepresent f' n count sectors
 retire-stands f f' n w b g j k count x y sectors only old l other generation (inr e) s = record {
   sound = sound-fewer f f' n count (sub-quiet f f' n b only (λ h. dead-without f' b h e)) (whole-kept f f' n b only (dead-whole (f' b) e) s.sound.whole) s.sound;
   maps = maps-retired f f' n w b g j k count x y sectors only old.is e l other generation s.maps;
@@ -231,7 +231,7 @@ freed-on f f' n each s g k x l = elim (each s l.number) [ inl same ↦ record { 
 freed-whole : (f f' : ℕ → Slot) (n : ℕ) → ((s : ℕ) → s < n → (f' s ≡ f s) ⊎ ((f s ≡ Dead) × (f' s ≡ Free))) → ((s : ℕ) → s < n → f s ≢ NoGeneration) → (s : ℕ) → s < n → f' s ≢ NoGeneration
 freed-whole f f' n each whole s low e = elim (each s low) [ inl same ↦ whole s low (sym same ∙ e) | inr p ↦ free-whole (f' s) p.1 e ]
 
-pub freed-stands : (f f' : ℕ → Slot) (n count : ℕ) (sectors : ℕ → List ℕ) → ((s : ℕ) → s < n → (f' s ≡ f s) ⊎ ((f s ≡ Dead) × (f' s ≡ Free))) → Stands f n count sectors → Stands f' n count sectors
+pub freed-stands : (f f' : ℕ → Slot) (n count : ℕ) (sectors : ℕ → List ℕ) → ((s : ℕ) → s < n → (f' s ≡ f s) ⊎ ((f s ≡ Dead) × (f' s ≡ Free))) → SlotsRepresent f n count sectors → SlotsRepresent f' n count sectors
 freed-stands f f' n count sectors each s = record {
   sound = sound-fewer f f' n count (freed-back f f' n each) (freed-whole f f' n each s.sound.whole) s.sound;
   maps = record { each = λ h r. sector-fewer f f' n h (sectors h) (λ c i z m. freed-back f f' n each c h i z m) (λ c i z m. freed-on f f' n each c h i z m) (s.maps.each h r) };

@@ -6,7 +6,7 @@ use Rattle.chip_model.proofs.PartLaws.{part-whole}
 use Rattle.nor_layout.specs.declared.header.Header.{Header}
 use Rattle.nor_layout.specs.declared.header.Header.TheVariants as headers
 use Rattle.erase_journal.proofs.BlockLaws.{length-block}
-use Rattle.sector_slots.specs.Slots.{Slot, Outside, slot_with, slot_in, descriptor_in, content_in, is_counted, counted, data_blocks, data_block, kind_at, raw_slot, slot_at, slot_count}
+use Rattle.sector_slots.specs.Slots.{Slot, Outside, slot_with, slot_in, descriptor_in, content_bytes, is_counted, counted, data_blocks, data_block, kind_at, raw_slot, slot_at, slot_count}
 use Rattle.sector_slots.specs.Sectors.{zeros, is_of, is_next, generation_in, newer, winner, sector_at}
 use Rattle.sector_slots.specs.Sectors.{content_in as held_in}
 
@@ -22,7 +22,7 @@ length-with headers.Dead x e = length-zeros
 
 length-slot : (b : List ℕ) (i : ℕ) → i < 7 → length b ≡ 4096 → length (held_in (slot_in b i)) ≡ 512
 unfolding slot_in
-length-slot b i low e = length-with (descriptor_in b i) (content_in b i) (part-whole 512 b (i + 1) (omega (arith, e, low)))
+length-slot b i low e = length-with (descriptor_in b i) (content_bytes b i) (part-whole 512 b (i + 1) (omega (arith, e, low)))
 
 either-long : (t : Bool) (a b : Slot) → length (held_in a) ≡ 512 → length (held_in b) ≡ 512 → length (held_in (cond t a b)) ≡ 512
 either-long true a b p q = p

@@ -2,10 +2,10 @@
 use Rattle.std.proofs.Common.{◌≡◌, ◌≢◌, ℕ, Bool, true, false, cond, List, refl, sym, ap, ◌∙◌, subst, arith}
 use Rattle.std.specs.Prelude.{◌/◌, ◌%◌}
 use Rattle.nor_layout.specs.declared.header.Tag.{Tag}
-use Rattle.sector_slots.specs.Slots.{Slot, Free, Live, NoGeneration, Dead, Outside, slot_in, content_in, counted, is_counted, kind_at, data_blocks, raw_slot}
+use Rattle.sector_slots.specs.Slots.{Slot, Free, Live, NoGeneration, Dead, Outside, slot_in, content_bytes, counted, is_counted, kind_at, data_blocks, raw_slot}
 use Rattle.sector_slots.specs.Copying.{IsCopy, copy_slot, same_tag, left_free}
 use Rattle.sector_slots.proofs.CopyLaws.{copy-exact}
-use Rattle.sector_slots.specs.Steps.{IsFresh, CopyLeaves, live_copied, passed_over}
+use Rattle.sector_slots.specs.Steps.{IsErasedSlot, CopyLeaves, live_copied, passed_over}
 use Rattle.sector_slots.specs.Laws.{CountedSlotsAreStored, CopiesAreExact, CopiesKeepTags, ReservesAreOne}
 
 -- What a copy leaves into a place where nothing was programmed: exactly the copy of the slot.
@@ -28,7 +28,7 @@ pub copy-keeps_tag : CopiesKeepTags
 copy-keeps_tag old t i m m' (live_copied tag x was (y, now) exact) free = same_tag tag x y was now
 copy-keeps_tag old t i m m' (passed_over other same) free = left_free other (ap (λ b. slot_in b i) same ∙ free)
 
--- What a copy leaves, for the machine: nothing that isn't live comes to stand for something, and what reads as free is erased.
+-- What a copy leaves, for the machine: nothing that isn't live comes to represent something, and what reads as free is erased.
 abbrev IsFreeSlot : Slot → Type 0
 IsFreeSlot Free = Unit {0}
 IsFreeSlot (Live tag x) = ⊥
@@ -36,11 +36,11 @@ IsFreeSlot NoGeneration = ⊥
 IsFreeSlot Dead = ⊥
 IsFreeSlot Outside = ⊥
 
-copy-fresh : (old : Slot) (t i : ℕ) (m m' : List ℕ) → CopyLeaves old t i m m' → IsFresh t i m → raw_slot m' t i ≡ Free → IsFresh t i m'
+copy-fresh : (old : Slot) (t i : ℕ) (m m' : List ℕ) → CopyLeaves old t i m m' → IsErasedSlot t i m → raw_slot m' t i ≡ Free → IsErasedSlot t i m'
 copy-fresh old t i m m' (live_copied tag x was holds exact) fresh free = absurd (subst (λ s. IsFreeSlot s) (sym free ∙ exact fresh) tt)
-copy-fresh old t i m m' (passed_over other same) fresh free = record { free = free; blank = ap (λ b. content_in b i) same ∙ fresh.blank }
+copy-fresh old t i m m' (passed_over other same) fresh free = record { free = free; blank = ap (λ b. content_bytes b i) same ∙ fresh.blank }
 
-pub copy-is : (old : Slot) (t i : ℕ) (m m' : List ℕ) → CopyLeaves old t i m m' → old ≢ NoGeneration → IsFresh t i m → IsCopy old (raw_slot m' t i) × (raw_slot m' t i ≡ Free → IsFresh t i m')
+pub copy-is : (old : Slot) (t i : ℕ) (m m' : List ℕ) → CopyLeaves old t i m m' → old ≢ NoGeneration → IsErasedSlot t i m → IsCopy old (raw_slot m' t i) × (raw_slot m' t i ≡ Free → IsErasedSlot t i m')
 copy-is old t i m m' leaves whole fresh = (subst (λ s. IsCopy old s) (sym (copy-is_exact old t i m m' leaves fresh)) (copy-exact old whole), copy-fresh old t i m m' leaves fresh)
 
 -- A slot that counts is what its bytes say.

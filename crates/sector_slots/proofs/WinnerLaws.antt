@@ -6,7 +6,7 @@ use Rattle.nor_layout.specs.declared.header.Generation.{Generation}
 use Rattle.nor_layout.specs.declared.header.Generation.TheVariants.{Zero, One, Two, Three}
 use Rattle.nor_layout.specs.Headers.{next_generation, generation_byte}
 use Rattle.sector_slots.specs.Slots.{Slot, Free, Live, NoGeneration, Dead, Outside}
-use Rattle.sector_slots.specs.Sectors.{zeros, LiveAt, IsAbsent, SectorIs, absent, held, SoundSlots, Stands, is_of, generation_in, content_in, newer, winner, sector_content}
+use Rattle.sector_slots.specs.Sectors.{zeros, LiveAt, IsAbsent, SectorIs, absent, held, SoundSlots, SlotsRepresent, is_of, generation_in, content_in, newer, winner, sector_content}
 use Rattle.sector_slots.proofs.SectorLaws.{number_in, kind_in, never-round}
 
 -- a generation is known by its byte
@@ -105,10 +105,10 @@ sector-one f n g x y (held b k l newest) (held c j m older) = elim (cases_eq b c
   | inr differ ↦ absurd (never-round k j (newest c j y m (λ h. differ (sym h))) (older b k x l differ))
 ]
 
--- so slots that stand for sectors have these by computation
-pub stands-computed : (f : ℕ → Slot) (n count : ℕ) (sectors : ℕ → List ℕ) (g : ℕ) → Stands f n count sectors → g < count → sector_content f n g ≡ sectors g
+-- so slots that represent sectors have these by computation
+pub stands-computed : (f : ℕ → Slot) (n count : ℕ) (sectors : ℕ → List ℕ) (g : ℕ) → SlotsRepresent f n count sectors → g < count → sector_content f n g ≡ sectors g
 stands-computed f n count sectors g s low = sector-one f n g (sector_content f n g) (sectors g) (sector-content-is f n g count s.sound) (s.maps.each g low)
 
--- and sound slots stand for those that are computed
-pub sound-stands : (f : ℕ → Slot) (n count : ℕ) → SoundSlots f n count → Stands f n count (sector_content f n)
+-- and sound slots represent those that are computed
+pub sound-stands : (f : ℕ → Slot) (n count : ℕ) → SoundSlots f n count → SlotsRepresent f n count (sector_content f n)
 sound-stands f n count s = record { sound = s; maps = record { each = λ g low. sector-content-is f n g count s } }

@@ -1,4 +1,5 @@
--- The data blocks while one is copied: no copying goes on, or one does; all else is corrupt. Source: own, layout 2.
+-- The data blocks while one is copied: no copying goes on, or one does; all else is corrupt.
+-- Source: own, layout 2.
 use Rattle.std.specs.Prelude.{◌≡◌, ◌≢◌, ◌⊎◌, ◌↔◌, ℕ, ◌+◌, ◌<◌, ◌≤◌, List}
 use Rattle.nor_layout.specs.declared.kind.Kind.{Kind}
 use Rattle.nor_layout.specs.declared.kind.Kind.TheVariants as kinds
@@ -12,7 +13,8 @@ IsAtRest (kinds.Committed b) = ⊥
 IsAtRest kinds.Settled = Unit {0}
 IsAtRest kinds.Unknown = ⊥
 
--- A block of this kind, data block t of n, is one into which a block is copied: void, or the committed copy of another data block.
+-- A block of this kind, data block t of n, is one into which a block is copied: void, or the
+-- committed copy of another data block.
 abbrev pub IsCopying : Kind → ℕ → ℕ → Type 0
 IsCopying kinds.Plain t n = ⊥
 IsCopying kinds.Void t n = Unit {0}
@@ -59,7 +61,7 @@ abbrev pub IsReserveOf : ℕ → List ℕ → Type 0
 IsReserveOf r m = IsReserve r (kind_at m) (raw_slot m) (data_blocks m)
 
 -- The corrupt cases one by one, for a reader: blocks are sound where none of them holds.
-pub record HasNoFault (kind : ℕ → Kind) (slots : ℕ → ℕ → Slot) (n : ℕ) : Type 0 where
+pub record BlocksHaveNoFault (kind : ℕ → Kind) (slots : ℕ → ℕ → Slot) (n : ℕ) : Type 0 where
   -- each state byte is one of the four, and each block begins with four FFh
   pub known : (c : ℕ) → c < n → kind c ≢ kinds.Unknown
   -- no two blocks are void or committed
@@ -69,5 +71,6 @@ pub record HasNoFault (kind : ℕ → Kind) (slots : ℕ → ℕ → Slot) (n : 
   -- where none is void or committed, one is wholly free
   pub spare : AreAtRest kind n → (c : ℕ) × ((c < n) × IsSpare kind slots c)
 
-abbrev pub SoundHasNoFault : Type 0
-SoundHasNoFault = (kind : ℕ → Kind) (slots : ℕ → ℕ → Slot) (n : ℕ) → SoundBlocks kind slots n ↔ HasNoFault kind slots n
+abbrev pub SoundBlocksHaveNoFault : Type 0
+SoundBlocksHaveNoFault = (kind : ℕ → Kind) (slots : ℕ → ℕ → Slot) (n : ℕ) → SoundBlocks kind slots n
+    ↔ BlocksHaveNoFault kind slots n

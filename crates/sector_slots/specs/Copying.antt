@@ -1,5 +1,6 @@
--- The copying of one block into another, as a machine over the blocks: what each step does to the kinds and the slots of n data
--- blocks, and what becomes of the slots that count. Source: own, layout 2.
+-- The copying of one block into another, as a machine over the blocks: what each step does to the
+-- kinds and the slots of n data blocks, and what becomes of the slots that count. Source: own,
+-- layout 2.
 use Rattle.std.specs.Prelude.{◌≡◌, ◌≢◌, ◌⊎◌, ℕ, ◌+◌, ◌*◌, ◌/◌, ◌%◌, ◌<◌, ◌==◌, List, if◌then◌else◌}
 use Rattle.nor_layout.specs.declared.header.Generation.{Generation}
 use Rattle.nor_layout.specs.declared.header.Tag.{Tag}
@@ -14,25 +15,28 @@ pub record OnlyData (c n : ℕ) (kind kind' : ℕ → Kind) (slots slots' : ℕ 
   pub same_kind : (d : ℕ) → d < n → d ≢ c → kind' d ≡ kind d
   pub same_slots : (d i : ℕ) → d < n → d ≢ c → slots' d i ≡ slots d i
 
--- a slot that stands for nothing
-abbrev pub IsQuiet : Slot → Type 0
-IsQuiet Free = Unit {0}
-IsQuiet (Live tag content) = ⊥
-IsQuiet NoGeneration = ⊥
-IsQuiet Dead = Unit {0}
-IsQuiet Outside = Unit {0}
+-- a slot that represents nothing
+abbrev pub HoldsNothing : Slot → Type 0
+HoldsNothing Free = Unit {0}
+HoldsNothing (Live tag content) = ⊥
+HoldsNothing NoGeneration = ⊥
+HoldsNothing Dead = Unit {0}
+HoldsNothing Outside = Unit {0}
 
--- each of n slots is as it was, or stands for nothing before and after: the sectors are the same, and the slots that hold them
+-- each of n slots is as it was, or represents nothing before and after: the sectors are the same,
+-- and the slots that hold them
 abbrev pub SameLive : (ℕ → Slot) → (ℕ → Slot) → ℕ → Type 0
-SameLive f f' n = (s : ℕ) → s < n → (f' s ≡ f s) ⊎ (IsQuiet (f s) × IsQuiet (f' s))
+SameLive f f' n = (s : ℕ) → s < n → (f' s ≡ f s) ⊎ (HoldsNothing (f s) × HoldsNothing (f' s))
 
 -- what the copy of a slot is: of a live one the same sector and content; of any other nothing
 pub data IsCopy (old new : Slot) : Type 0 where
-  copied : (g : ℕ) (k j : Generation) (x : List ℕ) → old ≡ Live (record { number = g; generation = k }) x
+  copied : (g : ℕ) (k j : Generation) (x : List ℕ)
+      → old ≡ Live (record { number = g; generation = k }) x
       → new ≡ Live (record { number = g; generation = j }) x → IsCopy old new
-  skipped : IsQuiet old → IsQuiet new → IsCopy old new
+  skipped : HoldsNothing old → HoldsNothing new → IsCopy old new
 
--- what `copy` leaves of a slot in the other block: of a live one the same tag and content; of any other nothing was written
+-- what `copy` leaves of a slot in the other block: of a live one the same tag and content; of any
+-- other nothing was written
 abbrev pub copy_slot : Slot → Slot
 copy_slot Free = Free
 copy_slot (Live tag content) = Live tag content
@@ -40,21 +44,24 @@ copy_slot NoGeneration = Free
 copy_slot Dead = Free
 copy_slot Outside = Free
 
--- The tag of a slot is that of its copy: of a live one the same, of any other none, since nothing was written.
+-- The tag of a slot is that of its copy: of a live one the same, of any other none, since nothing
+-- was written.
 pub data CopiesTag (old new : Slot) : Type 0 where
   same_tag : (tag : Tag) (x y : List ℕ) → old ≡ Live tag x → new ≡ Live tag y → CopiesTag old new
   left_free : ((tag : Tag) (x : List ℕ) → old ≢ Live tag x) → new ≡ Free → CopiesTag old new
 
 -- the live slots of f are those of f', under other numbers
-pub record Moves (f f' : ℕ → Slot) (n : ℕ) (to from : ℕ → ℕ) : Type 0 where
-  pub on : (s g : ℕ) (k : Generation) (x : List ℕ) → LiveAt f n s g k x → (j : Generation) × LiveAt f' n (to s) g j x
-  pub back : (t g : ℕ) (k : Generation) (x : List ℕ) → LiveAt f' n t g k x → (j : Generation) × LiveAt f n (from t) g j x
+pub record MovesSlots (f f' : ℕ → Slot) (n : ℕ) (to from : ℕ → ℕ) : Type 0 where
+  pub on : (s g : ℕ) (k : Generation) (x : List ℕ) → LiveAt f n s g k x
+      → (j : Generation) × LiveAt f' n (to s) g j x
+  pub back : (t g : ℕ) (k : Generation) (x : List ℕ) → LiveAt f' n t g k x
+      → (j : Generation) × LiveAt f n (from t) g j x
   pub round : (t g : ℕ) (k : Generation) (x : List ℕ) → LiveAt f' n t g k x → to (from t) ≡ t
   pub whole : (s : ℕ) → s < n → f' s ≢ NoGeneration
 
 -- The steps of a copying of block s into block t, by the block that changes.
 -- begin: a wholly free block becomes void.
-pub record Begins (t n : ℕ) (kind kind' : ℕ → Kind) (slots slots' : ℕ → ℕ → Slot) : Type 0 where
+pub record BeginsCopy (t n : ℕ) (kind kind' : ℕ → Kind) (slots slots' : ℕ → ℕ → Slot) : Type 0 where
   pub number : t < n
   pub rest : AreAtRest kind n
   pub spare : IsSpare kind slots t
@@ -68,7 +75,8 @@ pub record CopiesIn (t n : ℕ) (kind kind' : ℕ → Kind) (slots slots' : ℕ 
   pub only : OnlyData t n kind kind' slots slots'
   pub now : kind' t ≡ kinds.Void
 
--- commit: a void block that holds the copies of the slots of block s becomes the committed copy of it.
+-- commit: a void block that holds the copies of the slots of block s becomes the committed copy of
+-- it.
 pub record Commits (s t n : ℕ) (kind kind' : ℕ → Kind) (slots slots' : ℕ → ℕ → Slot) : Type 0 where
   pub target : IsTarget t n kind
   pub was : kind t ≡ kinds.Void
@@ -79,7 +87,8 @@ pub record Commits (s t n : ℕ) (kind kind' : ℕ → Kind) (slots slots' : ℕ
   pub now : kind' t ≡ kinds.Committed (s + 4)
 
 -- erase of the source of a committed block.
-pub record ErasesSource (s t n : ℕ) (kind kind' : ℕ → Kind) (slots slots' : ℕ → ℕ → Slot) : Type 0 where
+pub record ErasesSource (s t n : ℕ) (kind kind' : ℕ → Kind)
+    (slots slots' : ℕ → ℕ → Slot) : Type 0 where
   pub target : IsTarget t n kind
   pub was : kind t ≡ kinds.Committed (s + 4)
   pub only : OnlyData s n kind kind' slots slots'

@@ -1,11 +1,13 @@
--- The sectors that slots stand for: a finite map from a sector's number to its 512 bytes.
--- Slots are given by their number, from 0 to n - 1; sectors have the numbers below `count`. Source: own.
-use Rattle.std.specs.Prelude.{◌≡◌, ◌≢◌, ◌⊎◌, ℕ, zero, suc, Bool, false, ◌<◌, ◌==◌, if◌then◌else◌, List, length, replicate}
+-- The sectors that slots represent: a finite map from a sector's number to its 512 bytes. Slots are
+-- given by their number, from 0 to n - 1; sectors have the numbers below `count`. Source: own.
+use Rattle.std.specs.Prelude.{◌≡◌, ◌≢◌, ◌⊎◌, ℕ, zero, suc, Bool, false, ◌<◌, ◌==◌, if◌then◌else◌}
+use Rattle.std.specs.Prelude.{List, length, replicate}
 use Rattle.chip_model.specs.Geometry.{sector_count}
 use Rattle.nor_layout.specs.declared.header.Generation.{Generation}
 use Rattle.nor_layout.specs.declared.header.Generation.TheVariants as generations
 use Rattle.nor_layout.specs.Headers.{next_generation, generation_byte}
-use Rattle.sector_slots.specs.Slots.{Slot, Free, Live, NoGeneration, Dead, Outside, slot_at, slot_count}
+use Rattle.sector_slots.specs.Slots.{Slot, Free, Live, NoGeneration, Dead, Outside, slot_at}
+use Rattle.sector_slots.specs.Slots.{slot_count}
 use Rattle.sector_slots.specs.Blocks.{AreSound, AreSettled}
 
 -- what an absent sector holds
@@ -21,45 +23,52 @@ pub record LiveAt (f : ℕ → Slot) (n s g : ℕ) (k : Generation) (x : List �
 abbrev pub IsAbsent : (ℕ → Slot) → ℕ → ℕ → Type 0
 IsAbsent f n g = (s : ℕ) (k : Generation) (x : List ℕ) → LiveAt f n s g k x → ⊥
 
--- What sector g holds: zeros where it is absent, else the content of its newest live slot, the one whose generation is the next
--- of every other one's.
+-- What sector g holds: zeros where it is absent, else the content of its newest live slot, the one
+-- whose generation is the next of every other one's.
 pub data SectorIs (f : ℕ → Slot) (n g : ℕ) (x : List ℕ) : Type 0 where
   absent : IsAbsent f n g → x ≡ zeros → SectorIs f n g x
   held : (s : ℕ) (k : Generation) → LiveAt f n s g k x
-      → ((t : ℕ) (j : Generation) (y : List ℕ) → LiveAt f n t g j y → t ≢ s → k ≡ next_generation j) → SectorIs f n g x
+      → ((t : ℕ) (j : Generation) (y : List ℕ) → LiveAt f n t g j y → t ≢ s → k ≡ next_generation j)
+      → SectorIs f n g x
 
 -- the sectors below `count` hold these contents
 pub record Maps (f : ℕ → Slot) (n count : ℕ) (sectors : ℕ → List ℕ) : Type 0 where
   pub each : (g : ℕ) → g < count → SectorIs f n g (sectors g)
 
--- None of the cases of corrupt slots: each live slot's sector is one of the chip; two live slots of a sector are neighbours in
--- generation; there are no three of one sector; and no slot is without a generation.
+-- None of the cases of corrupt slots: each live slot's sector is one of the chip; two live slots of
+-- a sector are neighbours in generation; there are no three of one sector; and no slot is without a
+-- generation.
 pub record SoundSlots (f : ℕ → Slot) (n count : ℕ) : Type 0 where
   pub sector : (s g : ℕ) (k : Generation) (x : List ℕ) → LiveAt f n s g k x → g < count
-  pub neighbours : (s t g : ℕ) (j k : Generation) (x y : List ℕ) → LiveAt f n s g j x → LiveAt f n t g k y → s ≢ t
+  pub neighbours : (s t g : ℕ) (j k : Generation) (x y : List ℕ) → LiveAt f n s g j x
+      → LiveAt f n t g k y → s ≢ t
       → (j ≡ next_generation k) ⊎ (k ≡ next_generation j)
-  pub two : (r s t g : ℕ) (i j k : Generation) (x y z : List ℕ) → LiveAt f n r g i x → LiveAt f n s g j y → LiveAt f n t g k z
+  pub two : (r s t g : ℕ) (i j k : Generation) (x y z : List ℕ) → LiveAt f n r g i x
+      → LiveAt f n s g j y → LiveAt f n t g k z
       → (r ≡ s) ⊎ ((s ≡ t) ⊎ (r ≡ t))
   pub whole : (s : ℕ) → s < n → f s ≢ NoGeneration
 
 -- no two live slots of one sector, as it is between two calls
 pub record Single (f : ℕ → Slot) (n : ℕ) : Type 0 where
-  pub one : (s t g : ℕ) (j k : Generation) (x y : List ℕ) → LiveAt f n s g j x → LiveAt f n t g k y → s ≡ t
+  pub one : (s t g : ℕ) (j k : Generation) (x y : List ℕ) → LiveAt f n s g j x → LiveAt f n t g k y
+      → s ≡ t
 
--- the generation for a new content of sector g: Zero where it is absent, else the one after that of a live slot
+-- the generation for a new content of sector g: Zero where it is absent, else the one after that of
+-- a live slot
 pub data NextGeneration (f : ℕ → Slot) (n g : ℕ) (k : Generation) : Type 0 where
   begun : IsAbsent f n g → k ≡ generations.Zero → NextGeneration f n g k
-  after : (s : ℕ) (j : Generation) (x : List ℕ) → LiveAt f n s g j x → k ≡ next_generation j → NextGeneration f n g k
+  after : (s : ℕ) (j : Generation) (x : List ℕ) → LiveAt f n s g j x → k ≡ next_generation j
+      → NextGeneration f n g k
 
--- slots without a corrupt case that stand for these sectors
-pub record Stands (f : ℕ → Slot) (n count : ℕ) (sectors : ℕ → List ℕ) : Type 0 where
+-- slots without a corrupt case that represent these sectors
+pub record SlotsRepresent (f : ℕ → Slot) (n count : ℕ) (sectors : ℕ → List ℕ) : Type 0 where
   pub sound : SoundSlots f n count
   pub maps : Maps f n count sectors
 
 -- what an interrupted change from sectors to `new` may leave
 pub data OldOrNew (f : ℕ → Slot) (n count : ℕ) (sectors new : ℕ → List ℕ) : Type 0 where
-  still_old : Stands f n count sectors → OldOrNew f n count sectors new
-  now_new : Stands f n count new → OldOrNew f n count sectors new
+  still_old : SlotsRepresent f n count sectors → OldOrNew f n count sectors new
+  now_new : SlotsRepresent f n count new → OldOrNew f n count sectors new
 
 -- these sectors, but with this content in sector g
 abbrev pub with_sector : (ℕ → List ℕ) → ℕ → List ℕ → ℕ → List ℕ
@@ -99,7 +108,8 @@ is_next k j = generation_byte k == generation_byte (next_generation j)
 
 -- of two slots the one that holds sector g, the newer one where both are live with it
 abbrev pub newer : ℕ → Slot → Slot → Slot
-newer g s t = if is_of g s then (if is_of g t then (if is_next (generation_in s) (generation_in t) then s else t) else s) else t
+newer g s t = if is_of g s then (if is_of g t
+    then (if is_next (generation_in s) (generation_in t) then s else t) else s) else t
 
 -- of the slots below n the one that holds sector g, and a dead one where none does
 unfoldable pub winner : (ℕ → Slot) → ℕ → ℕ → Slot
@@ -109,8 +119,8 @@ winner f (suc n) g = newer g (f n) (winner f n g)
 abbrev pub sector_content : (ℕ → Slot) → ℕ → ℕ → List ℕ
 sector_content f n g = content_in (winner f n g)
 
--- A memory's: sector g of it; whether its slots and blocks are sound; whether no sector has two live slots; and whether it holds
--- these sectors.
+-- A memory's: sector g of it; whether its slots and blocks are sound; whether no sector has two
+-- live slots; and whether it holds these sectors.
 abbrev pub sector_at : List ℕ → ℕ → List ℕ
 sector_at m g = sector_content (slot_at m) (slot_count m) g
 
@@ -122,10 +132,11 @@ abbrev pub IsSingle : List ℕ → Type 0
 IsSingle m = Single (slot_at m) (slot_count m)
 
 pub record HoldsSectors (sectors : ℕ → List ℕ) (m : List ℕ) : Type 0 where
-  pub slots : Stands (slot_at m) (slot_count m) (sector_count (length m)) sectors
+  pub slots : SlotsRepresent (slot_at m) (slot_count m) (sector_count (length m)) sectors
   pub blocks : AreSound m
 
--- As it is between two calls: no sector has two live slots, no copying goes on, and a block is wholly free.
+-- As it is between two calls: no sector has two live slots, no copying goes on, and a block is
+-- wholly free.
 pub record IsAtRestMap (m : List ℕ) : Type 0 where
   pub single : IsSingle m
   pub blocks : AreSettled m

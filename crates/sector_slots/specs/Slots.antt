@@ -1,7 +1,9 @@
--- The slots that a memory stands for: seven in each data block, each free, dead, or live with a sector of 512 bytes; and which
--- of them count. Data blocks are counted from 0 here (block 4 of the chip is data block 0), slots too: slot 7c + i is the slot
--- at place i of data block c. Source: own, layout 2.
-use Rattle.std.specs.Prelude.{◌≡◌, ◌≢◌, ℕ, ◌+◌, ◌-◌, ◌*◌, ◌/◌, ◌%◌, ◌<◌, ◌==◌, ◌&&◌, Bool, true, false, not, if◌then◌else◌, List, length, drop, slice_index_or}
+-- The slots that a memory represents: seven in each data block, each free, dead, or live with a
+-- sector of 512 bytes; and which of them count. Data blocks are counted from 0 here (block 4 of the
+-- chip is data block 0), slots too: slot 7c + i is the slot at place i of data block c. Source:
+-- own, layout 2.
+use Rattle.std.specs.Prelude.{◌≡◌, ◌≢◌, ℕ, ◌+◌, ◌-◌, ◌*◌, ◌/◌, ◌%◌, ◌<◌, ◌==◌, ◌&&◌, Bool, true}
+use Rattle.std.specs.Prelude.{false, not, if◌then◌else◌, List, length, drop, slice_index_or}
 use Rattle.chip_model.specs.Parts.{part}
 use Rattle.chip_model.specs.Geometry.{block_count}
 use Rattle.nor_layout.specs.declared.header.Header.{Header}
@@ -14,8 +16,9 @@ use Rattle.nor_layout.specs.Kinds.{kind_of}
 use Rattle.erase_journal.specs.Places.{how_many}
 use Rattle.erase_journal.specs.Blocks.{block, blank, SameChip}
 
--- A slot is free; or live with a tag, which is a sector and its generation, and the sector's 512 bytes; or committed without a
--- generation, which no write leaves; or dead; or outside, in a block whose slots don't count.
+-- A slot is free; or live with a tag, which is a sector and its generation, and the sector's 512
+-- bytes; or committed without a generation, which no write leaves; or dead; or outside, in a block
+-- whose slots don't count.
 pub data Slot : Type 0 where
   Free : Slot
   Live : (tag : Tag) (content : List ℕ) → Slot
@@ -30,10 +33,10 @@ slot_with (headers.Live tag) content = Live tag content
 slot_with headers.NoGeneration content = NoGeneration
 slot_with headers.Dead content = Dead
 
--- the bytes of the slot at place i of a block: its sector is the part i + 1 of the eight of 512 bytes, its descriptor the four
--- bytes from 16 + 4i on
-abbrev pub content_in : List ℕ → ℕ → List ℕ
-content_in b i = part 512 b (i + 1)
+-- the bytes of the slot at place i of a block: its sector is the part i + 1 of the eight of 512
+-- bytes, its descriptor the four bytes from 16 + 4i on
+abbrev pub content_bytes : List ℕ → ℕ → List ℕ
+content_bytes b i = part 512 b (i + 1)
 
 abbrev pub descriptor_in : List ℕ → ℕ → Header
 descriptor_in b i = header_of (drop (16 + 4 * i) b)
@@ -44,7 +47,7 @@ read_header list i = slice_index_or list i headers.Free
 
 -- what the bytes of a block say of that slot, whether it counts or not
 unfoldable pub slot_in : List ℕ → ℕ → Slot
-slot_in b i = slot_with (descriptor_in b i) (content_in b i)
+slot_in b i = slot_with (descriptor_in b i) (content_bytes b i)
 
 -- Which blocks count. A void one doesn't, nor does one of which there is a committed copy.
 abbrev pub is_void : Kind → Bool
@@ -69,7 +72,8 @@ copies kind n c = how_many (λ d. is_copy_of (c + 4) (kind d)) n
 abbrev pub is_counted : (ℕ → Kind) → ℕ → ℕ → Bool
 is_counted kind n c = not (is_void (kind c)) && (copies kind n c == 0)
 
--- The slots of n data blocks of these kinds, of which `slots c i` is the one at place i of data block c: those that count.
+-- The slots of n data blocks of these kinds, of which `slots c i` is the one at place i of data
+-- block c: those that count.
 unfoldable pub counted : (ℕ → Kind) → (ℕ → ℕ → Slot) → ℕ → ℕ → Slot
 counted kind slots n s = if is_counted kind n (s / 7) then slots (s / 7) (s % 7) else Outside
 
@@ -116,7 +120,8 @@ blank_sector = part 512 blank 1
 
 -- What reads as free is erased: the data of each free slot that counts, and each wholly free block.
 pub record IsClean (m : List ℕ) : Type 0 where
-  pub slots : (s : ℕ) → s < slot_count m → slot_at m s ≡ Free → content_in (data_block m (s / 7)) (s % 7) ≡ blank_sector
+  pub slots : (s : ℕ) → s < slot_count m → slot_at m s ≡ Free
+      → content_bytes (data_block m (s / 7)) (s % 7) ≡ blank_sector
   pub spare : (c : ℕ) → c < data_blocks m → IsSpareIn m c → data_block m c ≡ blank
 
 -- the same superblock, the same length and the same slots

@@ -1,39 +1,27 @@
--- What the calls of a store of slots leave, by their answer. Data blocks and slots are counted from 0. Source: own, layout 2.
+-- What the calls of a store of slots leave, by their answer. Data blocks and slots are counted from
+-- 0. Source: own, layout 2.
 use Rattle.std.specs.Prelude.{◌≡◌, ◌≢◌, ◌⊎◌, ℕ, ◌+◌, ◌*◌, ◌/◌, ◌<◌, List, [], ◌∷◌}
 use Rattle.chip_model.specs.Memory.{byte, and_at}
 use Rattle.nor_layout.specs.declared.header.Tag.{Tag}
 use Rattle.nor_layout.specs.declared.kind.Kind.TheVariants as kinds
 use Rattle.nor_layout.specs.Kinds.{kind_of}
-use Rattle.nor_driver.specs.State.{NorState, IsReady, Kept, Fails}
-use Rattle.nor_driver.specs.declared.error.NorError.{NorError}
-use Rattle.erase_journal.specs.Journals.{IsSettled}
 use Rattle.erase_journal.specs.Blocks.{OnlyBlock}
-use Rattle.erase_journal.specs.Steps.{IsFirst}
-use Rattle.sector_slots.specs.Slots.{Slot, Free, Live, Dead, slot_at, slot_count, data_block, kind_at, raw_slot, content_in, blank_sector, IsClean}
-
--- A call that answered Ok: the power was on and no Slow stood, as it is after it; and no erase goes on.
-pub record Succeeds (old new : NorState) : Type 0 where
-  pub ready : IsReady old
-  pub kept : Kept old new
-  pub settled : IsSettled new.memory
-
--- A call that failed: where the refusal comes from, and that what stood is answered before anything changes.
-pub record Refuses (e : NorError) (old new : NorState) : Type 0 where
-  pub fails : Fails e old new
-  pub first : IsFirst e old new
+use Rattle.sector_slots.specs.Slots.{Slot, Free, Live, Dead, slot_at, slot_count, data_block}
+use Rattle.sector_slots.specs.Slots.{kind_at, raw_slot, content_bytes, blank_sector, IsClean}
 
 -- a sector can be written into slot s: it is free, and what reads as free is erased
 abbrev pub IsWritable : ℕ → List ℕ → Type 0
 IsWritable s m = (slot_at m s ≡ Free) × IsClean m
 
--- What a write into a free slot leaves there where it is cut: the slot is free, dead, or holds the sector whole.
+-- What a write into a free slot leaves there where it is cut: the slot is free, dead, or holds the
+-- sector whole.
 pub data PutLeaves (tag : Tag) (content : List ℕ) (slot : Slot) : Type 0 where
   still_free : slot ≡ Free → PutLeaves tag content slot
   half_written : slot ≡ Dead → PutLeaves tag content slot
   written : slot ≡ Live tag content → PutLeaves tag content slot
 
--- A slot is live with this tag, whatever its content; and what a cut write of this tag leaves, also where the bytes of the free
--- slot weren't erased.
+-- A slot is live with this tag, whatever its content; and what a cut write of this tag leaves, also
+-- where the bytes of the free slot weren't erased.
 abbrev pub HoldsTag : Tag → Slot → Type 0
 HoldsTag tag slot = (content : List ℕ) × (slot ≡ Live tag content)
 
@@ -50,27 +38,33 @@ pub record OnlyPlace (w : ℕ) (m m' : List ℕ) : Type 0 where
 pub record OnlyMark (c : ℕ) (m m' : List ℕ) : Type 0 where
   pub only : OnlyBlock (c + 4) m m'
   pub slots : (i : ℕ) → i < 7 → raw_slot m' c i ≡ raw_slot m c i
-  pub contents : (i : ℕ) → i < 7 → content_in (data_block m' c) i ≡ content_in (data_block m c) i
+  pub contents : (i : ℕ) → i < 7 → content_bytes (data_block m' c) i
+      ≡ content_bytes (data_block m c) i
 
--- a copy of data block s was begun in data block t, and not cut: its state is FEh, it is void, and once its state is programmed
--- FCh the committed copy of s. (A void block whose state is still FFh could be cut at FDh, which is no state.)
+-- a copy of data block s was begun in data block t, and not cut: its state is FEh, it is void, and
+-- once its state is programmed FCh the committed copy of s. (A void block whose state is still FFh
+-- could be cut at FDh, which is no state.)
 pub record IsBegun (t s : ℕ) (m : List ℕ) : Type 0 where
   pub state : byte (data_block m t) 4 ≡ 254
   pub void : kind_at m t ≡ kinds.Void
   pub once : kind_of (and_at (data_block m t) 4 (252 ∷ [])) ≡ kinds.Committed (s + 4)
 
 -- nothing was programmed at place i of data block t since it was erased
-pub record IsFresh (t i : ℕ) (m : List ℕ) : Type 0 where
+pub record IsErasedSlot (t i : ℕ) (m : List ℕ) : Type 0 where
   pub free : raw_slot m t i ≡ Free
-  pub blank : content_in (data_block m t) i ≡ blank_sector
+  pub blank : content_bytes (data_block m t) i ≡ blank_sector
 
--- What a copy of a slot leaves at place i of data block t, which was free: where the slot is live the same tag, and where nothing
--- was programmed at the place before, the same sector too; where it isn't live, nothing changes.
+-- What a copy of a slot leaves at place i of data block t, which was free: where the slot is live
+-- the same tag, and where nothing was programmed at the place before, the same sector too; where it
+-- isn't live, nothing changes.
 pub data CopyLeaves (old : Slot) (t i : ℕ) (m m' : List ℕ) : Type 0 where
-  live_copied : (tag : Tag) (x : List ℕ) → old ≡ Live tag x → HoldsTag tag (raw_slot m' t i) → (IsFresh t i m → raw_slot m' t i ≡ Live tag x) → CopyLeaves old t i m m'
-  passed_over : ((tag : Tag) (x : List ℕ) → old ≢ Live tag x) → data_block m' t ≡ data_block m t → CopyLeaves old t i m m'
+  live_copied : (tag : Tag) (x : List ℕ) → old ≡ Live tag x → HoldsTag tag (raw_slot m' t i)
+      → (IsErasedSlot t i m → raw_slot m' t i ≡ Live tag x) → CopyLeaves old t i m m'
+  passed_over : ((tag : Tag) (x : List ℕ) → old ≢ Live tag x) → data_block m' t ≡ data_block m t
+      → CopyLeaves old t i m m'
 
 -- a block may be erased: it isn't committed, and none of its slots counts as live
 pub record IsErasable (c : ℕ) (m : List ℕ) : Type 0 where
   pub copy : (b : ℕ) → kind_at m c ≢ kinds.Committed b
-  pub dead : (s : ℕ) (tag : Tag) (x : List ℕ) → s < slot_count m → s / 7 ≡ c → slot_at m s ≢ Live tag x
+  pub dead : (s : ℕ) (tag : Tag) (x : List ℕ) → s < slot_count m → s / 7 ≡ c
+      → slot_at m s ≢ Live tag x

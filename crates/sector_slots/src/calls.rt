@@ -1,29 +1,35 @@
-//! The calls of a store of sector slots, as a trait: `journal_slots::SectorSlots` has them, and so has a store that keeps an index beside its slots.
+//! The calls of a store of sector slots, as a trait: `journal_slots::SectorSlots` has them, and so
+//! has a store that keeps an index beside its slots.
 
-ghost use Rattle.std.specs.Prelude.{◌≡◌, ◌≢◌, ◌⊎◌, ◌↔◌, ◌+◌, ◌*◌, ◌<◌, ℕ, Bool, false, List, length, OnOk, IfOk, IfErr, MatchOption, IsTrue};
+ghost use Rattle.std.specs.Prelude.{◌≡◌, ◌≢◌, ◌⊎◌, ◌↔◌, ◌+◌, ◌*◌, ◌<◌, ℕ, Bool, false, List};
+ghost use Rattle.std.specs.Prelude.{length, OnOk, IfOk, IfErr, MatchOption, IsTrue};
 ghost use Rattle.std.specs.Result.{IsErrOf};
 ghost use Rattle.chip_model.specs.Geometry.{IsChipSize};
-ghost use Rattle.nor_driver.specs.State.{NorState, IsReady};
+ghost use Rattle.nor_driver.specs.State.{NorState, IsNorReady, Refuses};
 ghost use Rattle.nor_layout.specs.declared.header.Tag.{Tag as TagOf};
 ghost use Rattle.erase_journal.specs.Blocks.{SameChip, WithErased};
 ghost use Rattle.erase_journal.specs.Journals.{IsHealthy};
-ghost use Rattle.erase_journal.specs.Steps.{Interrupted};
+ghost use Rattle.erase_journal.specs.Steps.{EraseInterrupted, SucceedsSettled};
 ghost use Rattle.erase_journal.specs.Recovery.{Restored, RestoreFails};
-ghost use Rattle.sector_slots.specs.Slots.{Free, Live, Dead, slot_at, stored_at, slot_count, data_blocks, data_block, kind_at, raw_slot, descriptor_in, read_header, IsClean, IsLive, SameSlots};
-ghost use Rattle.sector_slots.specs.Steps.{Succeeds, Refuses, IsWritable, PutLeaves, HoldsTag, MayHoldTag, OnlyPlace, OnlyMark, IsBegun, IsFresh, CopyLeaves, IsErasable};
+ghost use Rattle.sector_slots.specs.Slots.{Free, Live, Dead, slot_at, stored_at, slot_count};
+ghost use Rattle.sector_slots.specs.Slots.{data_blocks, data_block, kind_at, raw_slot};
+ghost use Rattle.sector_slots.specs.Slots.{descriptor_in, read_header, IsClean, IsLive, SameSlots};
+ghost use Rattle.sector_slots.specs.Steps.{IsWritable, PutLeaves, HoldsTag, MayHoldTag, OnlyPlace};
+ghost use Rattle.sector_slots.specs.Steps.{OnlyMark, IsBegun, IsErasedSlot, CopyLeaves, IsErasable};
 
 use erase_journal::RecoverError;
 use nor_driver::NorError;
 use nor_layout::{Header, Kind, Tag};
 
-/// The data blocks behind the journals, as seven slots each. Blocks and slots are counted from 0: slot 7c + i is the one at place i
-/// of data block c. Every call that can fail but `restore` answers a Slow that stands, then a power that is off, before
-/// anything else. Reads keep an index that is kept beside the slots; the calls that change the
-/// memory needn't. Source: own, layout 2.
+/// The data blocks behind the journals, as seven slots each. Blocks and slots are counted from 0:
+/// slot 7c + i is the one at place i of data block c. Every call that can fail but `restore`
+/// answers a latched Slow, then a power that is off, before anything else. Reads keep an index that
+/// is kept beside the slots; the calls that change the memory needn't. Source: own, layout 2.
 pub trait SlotCalls {
     ghost state: { Self → NorState };
 
-    /// Whether the index that is kept beside the slots is that of the memory; true of a store that keeps none.
+    /// Whether the index that is kept beside the slots is that of the memory; true of a store that
+    /// keeps none.
     ghost indexed: { Self → Bool };
 
     /// How many data blocks there are, from 12 to 4,092.
@@ -34,66 +40,89 @@ pub trait SlotCalls {
     /// Whether the bytes of a slot say that it is free; whether its block counts isn't asked.
     fn free(&mut self, slot: u16) -> Result<bool, NorError>
         requires number { slot < slot_count (state self.old).memory }
-        ensures ok { IfOk result (λ is_free. IsTrue is_free ↔ (stored_at (state self.old).memory slot ≡ Free)) }
+        ensures ok { IfOk result (λ is_free. IsTrue is_free
+            ↔ (stored_at (state self.old).memory slot ≡ Free)) }
         ensures same { (state self.new).memory ≡ (state self.old).memory }
         ensures index { indexed self.new ≡ indexed self.old }
-        ensures done { OnOk result (Succeeds (state self.old) (state self.new)) }
+        ensures done { OnOk result (SucceedsSettled (state self.old) (state self.new)) }
         ensures fails { IfErr result (λ e. Refuses e (state self.old) (state self.new)) };
 
-    /// The tag of a slot that is live by its bytes, and its sector, 512 bytes, in `into`; None, and `into` as it was, where it isn't.
-    /// Whether its block counts isn't asked. After an error `into` holds any bytes.
+    /// The tag of a slot that is live by its bytes, and its sector, 512 bytes, in `into`; None, and
+    /// `into` as it was, where it isn't. Whether its block counts isn't asked. After an error
+    /// `into` holds any bytes.
     fn get(&mut self, slot: u16, into: &mut [u8]) -> Result<Option<Tag>, NorError>
         requires number { slot < slot_count (state self.old).memory }
         requires room { length into.old ≡ 512 }
         ensures ok { IfOk result (λ found. MatchOption found
-            (((tag : TagOf) (content : List ℕ) → stored_at (state self.old).memory slot ≢ Live tag content) × (into.new ≡ into.old))
+            (((tag : TagOf) (content : List ℕ)
+            → stored_at (state self.old).memory slot ≢ Live tag content) × (into.new ≡ into.old))
             (λ tag. stored_at (state self.old).memory slot ≡ Live tag into.new)) }
         ensures same { (state self.new).memory ≡ (state self.old).memory }
         ensures index { indexed self.new ≡ indexed self.old }
-        ensures done { OnOk result (Succeeds (state self.old) (state self.new)) }
+        ensures done { OnOk result (SucceedsSettled (state self.old) (state self.new)) }
         ensures fails { IfErr result (λ e. Refuses e (state self.old) (state self.new)) };
 
-    /// The sector, 512 bytes, of a slot that is known to be live: one read. After an error `into` holds any bytes.
+    /// The sector, 512 bytes, of a slot that is known to be live: one read. After an error `into`
+    /// holds any bytes.
     fn content(&mut self, slot: u16, into: &mut [u8]) -> Result<(), NorError>
         requires number { slot < slot_count (state self.old).memory }
         requires room { length into.old ≡ 512 }
-        ensures ok { OnOk result ((tag : TagOf) (content : List ℕ) → stored_at (state self.old).memory slot ≡ Live tag content → into.new ≡ content) }
+        ensures ok { OnOk result ((tag : TagOf) (content : List ℕ)
+            → stored_at (state self.old).memory slot ≡ Live tag content → into.new ≡ content) }
         ensures same { (state self.new).memory ≡ (state self.old).memory }
         ensures index { indexed self.new ≡ indexed self.old }
-        ensures done { OnOk result (Succeeds (state self.old) (state self.new)) }
+        ensures done { OnOk result (SucceedsSettled (state self.old) (state self.new)) }
         ensures fails { IfErr result (λ e. Refuses e (state self.old) (state self.new)) };
 
-    /// Writes a sector, 512 bytes, into a free slot: the descriptor, two pages, and last the commit. Cut, it leaves the slot free,
-    /// dead, or holding the sector. In a free slot that isn't erased throughout, the slot is the sector's, with any content.
+    /// Writes a sector, 512 bytes, into a free slot: the descriptor, two pages, and last the
+    /// commit. Cut, it leaves the slot free, dead, or holding the sector. In a free slot that isn't
+    /// erased throughout, the slot is the sector's, with any content.
     fn put(&mut self, slot: u16, tag: Tag, content: &[u8]) -> Result<(), NorError>
         requires number { slot < slot_count (state self.old).memory }
         requires size { length content.now ≡ 512 }
-        ensures ok { OnOk result (IsWritable slot (state self.old).memory → slot_at (state self.new).memory slot ≡ Live tag content.now) }
-        ensures cut { IsErrOf result NorError.Cut → IsWritable slot (state self.old).memory → PutLeaves tag content.now (slot_at (state self.new).memory slot) }
-        ensures live { OnOk result (slot_at (state self.old).memory slot ≡ Free → HoldsTag tag (slot_at (state self.new).memory slot)) }
-        ensures cut_live { IsErrOf result NorError.Cut → slot_at (state self.old).memory slot ≡ Free → MayHoldTag tag (slot_at (state self.new).memory slot) }
-        ensures clean { OnOk result (IsWritable slot (state self.old).memory → IsClean (state self.new).memory) }
-        ensures cut_clean { IsErrOf result NorError.Cut → IsWritable slot (state self.old).memory → IsClean (state self.new).memory }
-        ensures only { OnOk result (OnlyPlace slot (state self.old).memory (state self.new).memory) }
-        ensures cut_only { IsErrOf result NorError.Cut → OnlyPlace slot (state self.old).memory (state self.new).memory }
+        ensures ok { OnOk result (IsWritable slot (state self.old).memory
+            → slot_at (state self.new).memory slot ≡ Live tag content.now) }
+        ensures cut { IsErrOf result NorError.Cut → IsWritable slot (state self.old).memory
+            → PutLeaves tag content.now (slot_at (state self.new).memory slot) }
+        ensures live { OnOk result (slot_at (state self.old).memory slot ≡ Free
+            → HoldsTag tag (slot_at (state self.new).memory slot)) }
+        ensures cut_live { IsErrOf result NorError.Cut → slot_at (state self.old).memory slot ≡ Free
+            → MayHoldTag tag (slot_at (state self.new).memory slot) }
+        ensures clean { OnOk result (IsWritable slot (state self.old).memory
+            → IsClean (state self.new).memory) }
+        ensures cut_clean { IsErrOf result NorError.Cut → IsWritable slot (state self.old).memory
+            → IsClean (state self.new).memory }
+        ensures only { OnOk result (OnlyPlace slot (state self.old).memory
+            (state self.new).memory) }
+        ensures cut_only { IsErrOf result NorError.Cut
+            → OnlyPlace slot (state self.old).memory (state self.new).memory }
         ensures chip { SameChip (state self.old).memory (state self.new).memory }
-        ensures healthy { IsErrOf result NorError.Cut → IsHealthy (state self.old).memory → IsHealthy (state self.new).memory }
-        ensures done { OnOk result (Succeeds (state self.old) (state self.new)) }
+        ensures healthy { IsErrOf result NorError.Cut → IsHealthy (state self.old).memory
+            → IsHealthy (state self.new).memory }
+        ensures done { OnOk result (SucceedsSettled (state self.old) (state self.new)) }
         ensures fails { IfErr result (λ e. Refuses e (state self.old) (state self.new)) };
 
     /// Makes a live slot that counts dead. Cut, it leaves it as it was or dead.
     fn retire(&mut self, slot: u16) -> Result<(), NorError>
         requires number { slot < slot_count (state self.old).memory }
-        ensures ok { OnOk result (IsLive (slot_at (state self.old).memory slot) → slot_at (state self.new).memory slot ≡ Dead) }
+        ensures ok { OnOk result (IsLive (slot_at (state self.old).memory slot)
+            → slot_at (state self.new).memory slot ≡ Dead) }
         ensures cut { IsErrOf result NorError.Cut → IsLive (slot_at (state self.old).memory slot)
-            → (slot_at (state self.new).memory slot ≡ slot_at (state self.old).memory slot) ⊎ (slot_at (state self.new).memory slot ≡ Dead) }
-        ensures clean { OnOk result (IsLive (slot_at (state self.old).memory slot) → IsClean (state self.old).memory → IsClean (state self.new).memory) }
-        ensures cut_clean { IsErrOf result NorError.Cut → IsLive (slot_at (state self.old).memory slot) → IsClean (state self.old).memory → IsClean (state self.new).memory }
-        ensures only { OnOk result (OnlyPlace slot (state self.old).memory (state self.new).memory) }
-        ensures cut_only { IsErrOf result NorError.Cut → OnlyPlace slot (state self.old).memory (state self.new).memory }
+            → (slot_at (state self.new).memory slot ≡ slot_at (state self.old).memory slot)
+            ⊎ (slot_at (state self.new).memory slot ≡ Dead) }
+        ensures clean { OnOk result (IsLive (slot_at (state self.old).memory slot)
+            → IsClean (state self.old).memory → IsClean (state self.new).memory) }
+        ensures cut_clean { IsErrOf result NorError.Cut
+            → IsLive (slot_at (state self.old).memory slot) → IsClean (state self.old).memory
+            → IsClean (state self.new).memory }
+        ensures only { OnOk result (OnlyPlace slot (state self.old).memory
+            (state self.new).memory) }
+        ensures cut_only { IsErrOf result NorError.Cut
+            → OnlyPlace slot (state self.old).memory (state self.new).memory }
         ensures chip { SameChip (state self.old).memory (state self.new).memory }
-        ensures healthy { IsErrOf result NorError.Cut → IsHealthy (state self.old).memory → IsHealthy (state self.new).memory }
-        ensures done { OnOk result (Succeeds (state self.old) (state self.new)) }
+        ensures healthy { IsErrOf result NorError.Cut → IsHealthy (state self.old).memory
+            → IsHealthy (state self.new).memory }
+        ensures done { OnOk result (SucceedsSettled (state self.old) (state self.new)) }
         ensures fails { IfErr result (λ e. Refuses e (state self.old) (state self.new)) };
 
     /// What the first eight bytes of a block say of it.
@@ -102,103 +131,144 @@ pub trait SlotCalls {
         ensures ok { IfOk result (λ kind. kind ≡ kind_at (state self.old).memory block) }
         ensures same { (state self.new).memory ≡ (state self.old).memory }
         ensures index { indexed self.new ≡ indexed self.old }
-        ensures done { OnOk result (Succeeds (state self.old) (state self.new)) }
+        ensures done { OnOk result (SucceedsSettled (state self.old) (state self.new)) }
         ensures fails { IfErr result (λ e. Refuses e (state self.old) (state self.new)) };
 
-    /// The kind of a block, and in `into` what its seven descriptors say, whether its slots count or not: one read of its first 44
-    /// bytes. After an error `into` holds any descriptors.
+    /// The kind of a block, and in `into` what its seven descriptors say, whether its slots count
+    /// or not: one read of its first 44 bytes. After an error `into` holds any descriptors.
     fn head(&mut self, block: u16, into: &mut [Header]) -> Result<Kind, NorError>
         requires number { block < data_blocks (state self.old).memory }
         requires room { length into.old ≡ 7 }
         ensures ok { IfOk result (λ kind. kind ≡ kind_at (state self.old).memory block) }
-        ensures slots { OnOk result ((i : ℕ) → i < 7 → read_header into.new i ≡ descriptor_in (data_block (state self.old).memory block) i) }
+        ensures slots { OnOk result ((i : ℕ) → i < 7
+            → read_header into.new i ≡ descriptor_in (data_block (state self.old).memory block) i) }
         ensures size { length into.new ≡ length into.old }
         ensures same { (state self.new).memory ≡ (state self.old).memory }
         ensures index { indexed self.new ≡ indexed self.old }
-        ensures done { OnOk result (Succeeds (state self.old) (state self.new)) }
+        ensures done { OnOk result (SucceedsSettled (state self.old) (state self.new)) }
         ensures fails { IfErr result (λ e. Refuses e (state self.old) (state self.new)) };
 
-    /// Makes a plain block void, and names the block that is to be copied into it. Cut, it leaves the block as it was or void.
+    /// Makes a plain block void, and names the block that is to be copied into it. Cut, it leaves
+    /// the block as it was or void.
     fn begin(&mut self, target: u16, source: u16) -> Result<(), NorError>
         requires target { target < data_blocks (state self.old).memory }
         requires source { source < data_blocks (state self.old).memory }
-        ensures ok { OnOk result (kind_at (state self.old).memory target ≡ Kind.Plain → IsBegun target source (state self.new).memory) }
-        ensures cut { IsErrOf result NorError.Cut → kind_at (state self.old).memory target ≡ Kind.Plain
-            → (data_block (state self.new).memory target ≡ data_block (state self.old).memory target) ⊎ (kind_at (state self.new).memory target ≡ Kind.Void) }
-        ensures only { OnOk result (OnlyMark target (state self.old).memory (state self.new).memory) }
-        ensures cut_only { IsErrOf result NorError.Cut → OnlyMark target (state self.old).memory (state self.new).memory }
+        ensures ok { OnOk result (kind_at (state self.old).memory target ≡ Kind.Plain
+            → IsBegun target source (state self.new).memory) }
+        ensures cut { IsErrOf result NorError.Cut
+            → kind_at (state self.old).memory target ≡ Kind.Plain
+            → (data_block (state self.new).memory target
+            ≡ data_block (state self.old).memory target)
+            ⊎ (kind_at (state self.new).memory target ≡ Kind.Void) }
+        ensures only { OnOk result (OnlyMark target (state self.old).memory
+            (state self.new).memory) }
+        ensures cut_only { IsErrOf result NorError.Cut
+            → OnlyMark target (state self.old).memory (state self.new).memory }
         ensures chip { SameChip (state self.old).memory (state self.new).memory }
-        ensures healthy { IsErrOf result NorError.Cut → IsHealthy (state self.old).memory → IsHealthy (state self.new).memory }
-        ensures done { OnOk result (Succeeds (state self.old) (state self.new)) }
+        ensures healthy { IsErrOf result NorError.Cut → IsHealthy (state self.old).memory
+            → IsHealthy (state self.new).memory }
+        ensures done { OnOk result (SucceedsSettled (state self.old) (state self.new)) }
         ensures fails { IfErr result (λ e. Refuses e (state self.old) (state self.new)) };
 
-    /// Copies the slot at this place, 0 to 6, of the block that a void block names to the same place, which is free: its two pages,
-    /// and then its descriptor. Where that slot isn't live nothing is changed. Cut, it leaves the block void.
+    /// Copies the slot at this place, 0 to 6, of the block that a void block names to the same
+    /// place, which is free: its two pages, and then its descriptor. Where that slot isn't live
+    /// nothing is changed. Cut, it leaves the block void.
     fn copy(&mut self, target: u16, place: u16) -> Result<(), NorError>
         requires target { target < data_blocks (state self.old).memory }
         requires place { place < 7 }
-        ensures ok { OnOk result ((source : ℕ) → source < data_blocks (state self.old).memory → IsBegun target source (state self.old).memory
+        ensures ok { OnOk result ((source : ℕ) → source < data_blocks (state self.old).memory
+            → IsBegun target source (state self.old).memory
             → raw_slot (state self.old).memory target place ≡ Free
-            → IsBegun target source (state self.new).memory × CopyLeaves (raw_slot (state self.old).memory source place) target place (state self.old).memory (state self.new).memory) }
-        ensures cut { IsErrOf result NorError.Cut → kind_at (state self.old).memory target ≡ Kind.Void → kind_at (state self.new).memory target ≡ Kind.Void }
-        ensures only { OnOk result (OnlyPlace (7 * target + place) (state self.old).memory (state self.new).memory) }
-        ensures cut_only { IsErrOf result NorError.Cut → OnlyPlace (7 * target + place) (state self.old).memory (state self.new).memory }
+            → IsBegun target source (state self.new).memory
+            × CopyLeaves (raw_slot (state self.old).memory source place) target place
+            (state self.old).memory (state self.new).memory) }
+        ensures cut { IsErrOf result NorError.Cut
+            → kind_at (state self.old).memory target ≡ Kind.Void
+            → kind_at (state self.new).memory target ≡ Kind.Void }
+        ensures only { OnOk result (OnlyPlace (7 * target + place) (state self.old).memory
+            (state self.new).memory) }
+        ensures cut_only { IsErrOf result NorError.Cut
+            → OnlyPlace (7 * target + place) (state self.old).memory (state self.new).memory }
         ensures chip { SameChip (state self.old).memory (state self.new).memory }
-        ensures fresh { OnOk result ((i : ℕ) → i < 7 → i ≢ place → IsFresh target i (state self.old).memory → IsFresh target i (state self.new).memory) }
-        ensures healthy { IsErrOf result NorError.Cut → IsHealthy (state self.old).memory → IsHealthy (state self.new).memory }
-        ensures done { OnOk result (Succeeds (state self.old) (state self.new)) }
+        ensures fresh { OnOk result ((i : ℕ) → i < 7 → i ≢ place
+            → IsErasedSlot target i (state self.old).memory
+            → IsErasedSlot target i (state self.new).memory) }
+        ensures healthy { IsErrOf result NorError.Cut → IsHealthy (state self.old).memory
+            → IsHealthy (state self.new).memory }
+        ensures done { OnOk result (SucceedsSettled (state self.old) (state self.new)) }
         ensures fails { IfErr result (λ e. Refuses e (state self.old) (state self.new)) };
 
-    /// Makes a void block the committed copy of the block that it names. Cut, it leaves it void or committed.
+    /// Makes a void block the committed copy of the block that it names. Cut, it leaves it void or
+    /// committed.
     fn commit(&mut self, target: u16) -> Result<(), NorError>
         requires target { target < data_blocks (state self.old).memory }
-        ensures ok { OnOk result ((source : ℕ) → IsBegun target source (state self.old).memory → kind_at (state self.new).memory target ≡ Kind.Committed (source + 4)) }
-        ensures cut { IsErrOf result NorError.Cut → (source : ℕ) → IsBegun target source (state self.old).memory
-            → (kind_at (state self.new).memory target ≡ Kind.Void) ⊎ (kind_at (state self.new).memory target ≡ Kind.Committed (source + 4)) }
-        ensures only { OnOk result (OnlyMark target (state self.old).memory (state self.new).memory) }
-        ensures cut_only { IsErrOf result NorError.Cut → OnlyMark target (state self.old).memory (state self.new).memory }
+        ensures ok { OnOk result ((source : ℕ) → IsBegun target source (state self.old).memory
+            → kind_at (state self.new).memory target ≡ Kind.Committed (source + 4)) }
+        ensures cut { IsErrOf result NorError.Cut → (source : ℕ)
+            → IsBegun target source (state self.old).memory
+            → (kind_at (state self.new).memory target ≡ Kind.Void)
+            ⊎ (kind_at (state self.new).memory target ≡ Kind.Committed (source + 4)) }
+        ensures only { OnOk result (OnlyMark target (state self.old).memory
+            (state self.new).memory) }
+        ensures cut_only { IsErrOf result NorError.Cut
+            → OnlyMark target (state self.old).memory (state self.new).memory }
         ensures chip { SameChip (state self.old).memory (state self.new).memory }
-        ensures healthy { IsErrOf result NorError.Cut → IsHealthy (state self.old).memory → IsHealthy (state self.new).memory }
-        ensures done { OnOk result (Succeeds (state self.old) (state self.new)) }
+        ensures healthy { IsErrOf result NorError.Cut → IsHealthy (state self.old).memory
+            → IsHealthy (state self.new).memory }
+        ensures done { OnOk result (SucceedsSettled (state self.old) (state self.new)) }
         ensures fails { IfErr result (λ e. Refuses e (state self.old) (state self.new)) };
 
     /// Makes a committed block settled. Cut, it leaves it committed or settled.
     fn settle(&mut self, target: u16) -> Result<(), NorError>
         requires target { target < data_blocks (state self.old).memory }
-        ensures ok { OnOk result ((source : ℕ) → kind_at (state self.old).memory target ≡ Kind.Committed source → kind_at (state self.new).memory target ≡ Kind.Settled) }
-        ensures cut { IsErrOf result NorError.Cut → (source : ℕ) → kind_at (state self.old).memory target ≡ Kind.Committed source
-            → (kind_at (state self.new).memory target ≡ Kind.Committed source) ⊎ (kind_at (state self.new).memory target ≡ Kind.Settled) }
-        ensures only { OnOk result (OnlyMark target (state self.old).memory (state self.new).memory) }
-        ensures cut_only { IsErrOf result NorError.Cut → OnlyMark target (state self.old).memory (state self.new).memory }
+        ensures ok { OnOk result ((source : ℕ)
+            → kind_at (state self.old).memory target ≡ Kind.Committed source
+            → kind_at (state self.new).memory target ≡ Kind.Settled) }
+        ensures cut { IsErrOf result NorError.Cut → (source : ℕ)
+            → kind_at (state self.old).memory target ≡ Kind.Committed source
+            → (kind_at (state self.new).memory target ≡ Kind.Committed source)
+            ⊎ (kind_at (state self.new).memory target ≡ Kind.Settled) }
+        ensures only { OnOk result (OnlyMark target (state self.old).memory
+            (state self.new).memory) }
+        ensures cut_only { IsErrOf result NorError.Cut
+            → OnlyMark target (state self.old).memory (state self.new).memory }
         ensures chip { SameChip (state self.old).memory (state self.new).memory }
-        ensures healthy { IsErrOf result NorError.Cut → IsHealthy (state self.old).memory → IsHealthy (state self.new).memory }
-        ensures done { OnOk result (Succeeds (state self.old) (state self.new)) }
+        ensures healthy { IsErrOf result NorError.Cut → IsHealthy (state self.old).memory
+            → IsHealthy (state self.new).memory }
+        ensures done { OnOk result (SucceedsSettled (state self.old) (state self.new)) }
         ensures fails { IfErr result (λ e. Refuses e (state self.old) (state self.new)) };
 
-    /// Erases a block in one step. It isn't committed, and none of its slots counts as live. Cut on a healthy memory, it leaves the
-    /// block as it was or erased.
+    /// Erases a block in one step. It isn't committed, and none of its slots counts as live. Cut on
+    /// a healthy memory, it leaves the block as it was or erased.
     fn erase(&mut self, block: u16) -> Result<(), NorError>
         requires number { block < data_blocks (state self.old).memory }
-        requires dead { IsReady (state self.old) → IsErasable block (state self.old).memory }
-        ensures ok { OnOk result (WithErased (block + 4) (state self.old).memory (state self.new).memory) }
-        ensures cut { IsErrOf result NorError.Cut → IsHealthy (state self.old).memory → Interrupted (block + 4) (state self.old).memory (state self.new).memory }
-        ensures healthy { IsErrOf result NorError.Cut → IsHealthy (state self.old).memory → IsHealthy (state self.new).memory }
+        requires dead { IsNorReady (state self.old) → IsErasable block (state self.old).memory }
+        ensures ok { OnOk result (WithErased (block + 4) (state self.old).memory
+            (state self.new).memory) }
+        ensures cut { IsErrOf result NorError.Cut → IsHealthy (state self.old).memory
+            → EraseInterrupted (block + 4) (state self.old).memory (state self.new).memory }
+        ensures healthy { IsErrOf result NorError.Cut → IsHealthy (state self.old).memory
+            → IsHealthy (state self.new).memory }
         ensures size { length (state self.new).memory ≡ length (state self.old).memory }
-        ensures done { OnOk result (Succeeds (state self.old) (state self.new)) }
+        ensures done { OnOk result (SucceedsSettled (state self.old) (state self.new)) }
         ensures fails { IfErr result (λ e. Refuses e (state self.old) (state self.new)) };
 
-    /// Turns the power off and on again, and recovers the journals. The slots and the kinds of the blocks stay as they were, but
-    /// where a Slow stood. The index isn't kept.
+    /// Turns the power off and on again, and recovers the journals. The slots and the kinds of the
+    /// blocks stay as they were, but where a Slow was latched. The index isn't kept.
     ///
-    /// After Corrupt, which comes only where a Slow stood or the memory wasn't healthy before, each other call answers Slow.
+    /// After Corrupt, which comes only where a Slow was latched or the memory wasn't healthy
+    /// before, each other call answers Slow.
     fn restore(&mut self) -> Result<(), RecoverError>
         ensures ok { OnOk result (Restored (state self.old) (state self.new)) }
-        ensures slots { OnOk result ((state self.old).is_slow ≡ false → SameSlots (state self.old).memory (state self.new).memory) }
-        ensures cut { IsErrOf result RecoverError.Cut → (state self.old).is_slow ≡ false → SameSlots (state self.old).memory (state self.new).memory }
+        ensures slots { OnOk result ((state self.old).is_slow ≡ false
+            → SameSlots (state self.old).memory (state self.new).memory) }
+        ensures cut { IsErrOf result RecoverError.Cut → (state self.old).is_slow ≡ false
+            → SameSlots (state self.old).memory (state self.new).memory }
         ensures fails { IfErr result (λ e. RestoreFails e (state self.old) (state self.new)) };
 
-    /// Arms a loss of power in a simulated chip, as the memory's `arm` does. It changes nothing until the loss comes, so no clause can
-    /// tell it from a body that does nothing: tests see the loss.
+    /// Arms a loss of power in a simulated chip, as the memory's `arm` does. It changes nothing
+    /// until the loss comes, so no clause can tell it from a body that does nothing: tests see the
+    /// loss.
     fn arm(&mut self, count: u32, kind: u8, mask: u8)
         ensures same { state self.new ≡ state self.old }
         ensures index { indexed self.new ≡ indexed self.old };

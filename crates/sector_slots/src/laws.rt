@@ -1,21 +1,24 @@
-// What follows from the definitions, with no work at run time. Source: own.
+//! What follows from the definitions, with no work at run time. Source: own.
+
 ghost use Rattle.std.specs.Prelude.{◌≡◌, ℕ, List};
 ghost use Rattle.sector_slots.specs.Slots.{Slot};
 ghost use Rattle.sector_slots.specs.Sectors.{SectorIs};
-ghost use Rattle.sector_slots.specs.Blocks.{SoundHasNoFault};
-ghost use Rattle.sector_slots.specs.Laws.{CountedSlotsAreStored, CopiesAreExact, CopiesKeepTags, ReservesAreOne, ErasedChipsHoldZeros};
+ghost use Rattle.sector_slots.specs.Blocks.{SoundBlocksHaveNoFault};
+ghost use Rattle.sector_slots.specs.Laws.{CountedSlotsAreStored, CopiesAreExact, CopiesKeepTags};
+ghost use Rattle.sector_slots.specs.Laws.{ReservesAreOne, ErasedChipsHoldZeros};
 ghost use Rattle.sector_slots.specs.Machine.{StepsKeepSectors, StepsKeepSingles, LastStepsSettle};
 
 use erase_journal::erased_chips_are_settled;
 
 /// A sector has at most one content, whatever the slots are.
 pub fn sectors_have_one_content()
-    ensures { (f : ℕ → Slot) (n g : ℕ) (x y : List ℕ) → SectorIs f n g x → SectorIs f n g y → x ≡ y }
+    ensures { (f : ℕ → Slot) (n g : ℕ) (x y : List ℕ) → SectorIs f n g x → SectorIs f n g y
+        → x ≡ y }
 {}
 
 /// Blocks are sound exactly where none of the corrupt cases holds.
 pub fn sound_blocks_have_no_fault()
-    ensures { SoundHasNoFault }
+    ensures { SoundBlocksHaveNoFault }
 {}
 
 /// Each step of a copying keeps the map of sectors and sound blocks.
@@ -38,7 +41,8 @@ pub fn counted_slots_are_stored()
     ensures { CountedSlotsAreStored }
 {}
 
-/// A copy into a place where nothing was programmed is exactly the copy of the slot: a live one as it is, of any other nothing.
+/// A copy into a place where nothing was programmed is exactly the copy of the slot: a live one as
+/// it is, of any other nothing.
 pub fn copies_are_exact()
     ensures { CopiesAreExact }
 {}
@@ -53,7 +57,8 @@ pub fn reserves_are_one()
     ensures { ReservesAreOne }
 {}
 
-/// A chip that is erased but for its superblock is healthy and clean, and each of its sectors is zeros.
+/// A chip that is erased but for its superblock is healthy and clean, and each of its sectors is
+/// zeros.
 pub fn erased_chips_hold_zeros()
     ensures { ErasedChipsHoldZeros }
 {

@@ -1,16 +1,18 @@
-//! What slots of sectors are, and the calls of a store of them: seven in a data block, each free, dead, or holding a sector of 512
-//! bytes with its generation.
+//! What slots of sectors are, and the calls of a store of them: seven in a data block, each free,
+//! dead, or holding a sector of 512 bytes with its generation.
 //!
-//! Promised of any memory: which slots count (`specs/Slots.antt`), which sectors they stand for (`specs/Sectors.antt`), when blocks
-//! are corrupt (`specs/Blocks.antt`), and that no step of a copying changes a sector, whole or cut (`specs/Copying.antt`,
-//! `steps_keep_sectors`; docs/COPYING.md). Of a store `SlotCalls` says: `put` writes a sector into a free slot and `retire` makes a
-//! live one dead; `begin`, `copy`, `commit`, `erase` and `settle` move the live slots of a block into another; `free`, `get`,
-//! `content`, `kind` and `head` read; all else stays as it was. Cut, a put leaves its slot free, dead or holding the sector whole,
-//! each step of a copying what it found or what it makes. Refusals are the journals': a Slow that stands, a power that is off, and
-//! what came in the call. No call takes memory.
+//! Promised of any memory: which slots count (`specs/Slots.antt`), which sectors they represent
+//! (`specs/Sectors.antt`), when blocks are corrupt (`specs/Blocks.antt`), and that no step of a
+//! copying changes a sector, whole or cut (`specs/Copying.antt`, `steps_keep_sectors`;
+//! docs/COPYING.md). Of a store `SlotCalls` says: `put` writes a sector into a free slot and
+//! `retire` makes a live one dead; `begin`, `copy`, `commit`, `erase` and `settle` move the live
+//! slots of a block into another; `free`, `get`, `content`, `kind` and `head` read; all else stays
+//! as it was. Cut, a put leaves its slot free, dead or holding the sector whole, each step of a
+//! copying what it found or what it makes. Refusals are the journals': a latched Slow, a power that
+//! is off, and what came in the call. No call takes memory.
 //!
-//! Left to the crates above: the store, which slot is used for what, which block is copied, and when to restore. Source: own,
-//! layout 2.
+//! Left to the crates above: the store, which slot is used for what, which block is copied, and
+//! when to restore. Source: own, layout 2.
 
 #![tactic(auto)]
 

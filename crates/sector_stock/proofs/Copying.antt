@@ -5,14 +5,14 @@ use Rattle.chip_model.specs.Geometry.{block_count}
 use Rattle.nor_layout.specs.declared.kind.Kind.{Kind}
 use Rattle.nor_layout.specs.declared.kind.Kind.TheVariants as kinds
 use Rattle.erase_journal.specs.Blocks.{SameChip, OnlyBlock, SameBlocks, WithErased}
-use Rattle.erase_journal.specs.Steps.{Interrupted, as_it_was, block_erased}
-use Rattle.sector_slots.specs.Slots.{Free, is_copy_of, slot_in, content_in, data_blocks, data_block, kind_at, raw_slot, IsClean, IsSpareIn, Slot, Live, NoGeneration, Dead, Outside, slot_at, slot_count, is_void, copies as copies_of}
+use Rattle.erase_journal.specs.Steps.{EraseInterrupted, as_it_was, block_erased}
+use Rattle.sector_slots.specs.Slots.{Free, is_copy_of, slot_in, content_bytes, data_blocks, data_block, kind_at, raw_slot, IsClean, IsSpareIn, Slot, Live, NoGeneration, Dead, Outside, slot_at, slot_count, is_void, copies as copies_of}
 use Rattle.sector_slots.specs.Blocks.{IsTarget, IsAtRest}
 use Rattle.sector_slots.proofs.BlockLaws.{begin-target, copy-target, commit-target, erase_source-target}
-use Rattle.sector_slots.specs.Copying.{IsCopy, copy_slot, Begins, Commits, ErasesSource, Settles, ErasesVoid, IsQuiet, SameLive}
+use Rattle.sector_slots.specs.Copying.{IsCopy, copy_slot, BeginsCopy, Commits, ErasesSource, Settles, ErasesVoid, HoldsNothing, SameLive}
 use Rattle.sector_slots.specs.Sectors.{IsSingle, IsSoundMap, sector_at}
-use Rattle.sector_slots.specs.Steps.{OnlyPlace, OnlyMark, IsBegun, IsFresh, IsErasable, CopyLeaves, live_copied, passed_over}
-use Rattle.sector_slots.specs.Machine.{Step, begins, copies, commits, erases_source, settles, erases_void}
+use Rattle.sector_slots.specs.Steps.{OnlyPlace, OnlyMark, IsBegun, IsErasedSlot, IsErasable, CopyLeaves, live_copied, passed_over}
+use Rattle.sector_slots.specs.Machine.{SlotStep, begins, copies, commits, erases_source, settles, erases_void}
 use Rattle.sector_slots.proofs.MachineLaws.{block-data, step-holds, step-single, last-settles}
 use Rattle.sector_slots.proofs.SlotLaws.{copy-is, copy-is_exact}
 use Rattle.sector_slots.proofs.CopyLaws.{copy-exact, counted-in, at-rest-counts, void-copies, committed-source, counted-other, quiet-live, counted-source, source-copies, counted-void, erase_source-same, settle-live, erase_void-live}
@@ -22,7 +22,8 @@ use Rattle.nor_layout.specs.Kinds.{kind_of}
 use Rattle.sector_slots.proofs.CleanLaws.{clean-only, clean-blocks, void-clean, commit-clean, erase_source-clean, settle-clean, committed-clean}
 use Rattle.sector_slots.proofs.BlankLaws.{blank-content, counted-same, erased-spare, same-holds, unchanged-holds, blocks-holds, sound-holds, holds-sound}
 use Rattle.nor_layout.specs.declared.header.Tag.{Tag}
-use Rattle.sector_stock.specs.Copy.{bare, SameSectors, KeepsSectors, Stays, IsCopyable, IsCopiedTo, IsExactTo, Progress, Finishes, FinishLeaves, IsFinished, Copies, Reclaimed, Ends, IsVoidIn, IsCommittedIn}
+use Rattle.sector_stock.specs.Copy.{bare, SameSectors, KeepsSectors, Stays, IsCopyable, IsFinished, Copies, Reclaimed, EndsCopy, IsVoidIn, IsCommittedIn}
+use Rattle.sector_stock.specs.CopySteps.{IsCopiedTo, IsExactTo, CopyProgress, Finishes, FinishLeaves}
 use Rattle.sector_stock.proofs.Tags.{bare-whole, tags-sound}
 
 -- the same number of blocks
@@ -36,20 +37,20 @@ keeps : (m m' : List ℕ) → SameChip m m' → SameSectors m m' → (IsClean m 
 keeps m m' chip sectors clean = record { chip = chip; sectors = sectors; clean = clean }
 
 -- begin
-begins-now : (s t : ℕ) (m m' : List ℕ) → IsCopyable s t m → OnlyMark t m m' → kind_at m' t ≡ kinds.Void → Begins t (data_blocks m) (kind_at m) (kind_at m') (raw_slot m) (raw_slot m')
+begins-now : (s t : ℕ) (m m' : List ℕ) → IsCopyable s t m → OnlyMark t m m' → kind_at m' t ≡ kinds.Void → BeginsCopy t (data_blocks m) (kind_at m) (kind_at m') (raw_slot m) (raw_slot m')
 begins-now s t m m' h mark void = record { number = h.target; rest = h.rest; spare = h.spare; only = block-data t m m' mark.only; now = void }
 
 -- a step keeps sectors, soundness and single slots
-step-sectors : (s t : ℕ) (m m' : List ℕ) → Step s t m m' → SameSectors m m'
+step-sectors : (s t : ℕ) (m m' : List ℕ) → SlotStep s t m m' → SameSectors m m'
 step-sectors s t m m' step sectors h = step-holds s t m m' sectors step h
 
 same-sectors-sound : (m m' : List ℕ) → SameSectors m m' → IsSoundMap m → IsSoundMap m'
 same-sectors-sound m m' same sound = holds-sound m' (sector_at m) (same (sector_at m) (sound-holds m sound))
 
-step-singles : (s t : ℕ) (m m' : List ℕ) → Step s t m m' → IsSoundMap m → IsSingle m → IsSingle m'
+step-singles : (s t : ℕ) (m m' : List ℕ) → SlotStep s t m m' → IsSoundMap m → IsSingle m → IsSingle m'
 step-singles s t m m' step sound single = step-single s t m m' step sound.slots.whole single
 
-begin-step : (s t : ℕ) (m m' : List ℕ) → IsCopyable s t m → OnlyMark t m m' → kind_at m' t ≡ kinds.Void → Step s t m m'
+begin-step : (s t : ℕ) (m m' : List ℕ) → IsCopyable s t m → OnlyMark t m m' → kind_at m' t ≡ kinds.Void → SlotStep s t m m'
 begin-step s t m m' h mark void = begins mark.only.chip (begins-now s t m m' h mark void)
 
 begin-clean : (s t : ℕ) (m m' : List ℕ) → IsCopyable s t m → OnlyMark t m m' → kind_at m' t ≡ kinds.Void → IsClean m → IsClean m'
@@ -76,13 +77,13 @@ pub begin-cut : (s t : ℕ) (m m' : List ℕ) → IsCopyable s t m → OnlyMark 
 begin-cut s t m m' h mark (inl same) = stays-kept m m' (keeps m m' mark.only.chip (λ sectors holds. unchanged-holds t m m' sectors mark.only same holds) (unchanged-clean t m m' mark.only same))
 begin-cut s t m m' h mark (inr void) = stays-kept m m' (keeps m m' mark.only.chip (step-sectors s t m m' (begin-step s t m m' h mark void)) (begin-clean s t m m' h mark void))
 
-begin-fresh : (s t : ℕ) (m m' : List ℕ) → IsCopyable s t m → IsClean m → OnlyMark t m m' → (i : ℕ) → i < 7 → IsFresh t i m'
+begin-fresh : (s t : ℕ) (m m' : List ℕ) → IsCopyable s t m → IsClean m → OnlyMark t m m' → (i : ℕ) → i < 7 → IsErasedSlot t i m'
 begin-fresh s t m m' h clean mark i low = record {
   free = mark.slots i low ∙ h.spare.free i low;
-  blank = mark.contents i low ∙ (ap (λ q. content_in q i) (clean.spare t h.target h.spare) ∙ blank-content i low);
+  blank = mark.contents i low ∙ (ap (λ q. content_bytes q i) (clean.spare t h.target h.spare) ∙ blank-content i low);
 }
 
-pub begin-progress : (s t : ℕ) (m m' : List ℕ) → IsCopyable s t m → OnlyMark t m m' → IsBegun t s m' → Progress 0 s t m m'
+pub begin-progress : (s t : ℕ) (m m' : List ℕ) → IsCopyable s t m → OnlyMark t m m' → IsBegun t s m' → CopyProgress 0 s t m m'
 begin-progress s t m m' h mark begun =
     let b = begins-now s t m m' h mark begun.void in
     let step = begin-step s t m m' h mark begun.void in
@@ -125,13 +126,13 @@ place-slots t j i m m' low small other h =
     let q : (7 * t + j) / 7 ≡ t = omega arith in
     subst (λ c. raw_slot m' c i ≡ raw_slot m c i) q (h.slots i small (λ e. other (omega (arith, e, q))))
 
-copies-now : (j s t : ℕ) (m m' : List ℕ) → IsCopiedTo j s t m → OnlyBlock (t + 4) m m' → kind_at m' t ≡ kinds.Void → Step s t m m'
+copies-now : (j s t : ℕ) (m m' : List ℕ) → IsCopiedTo j s t m → OnlyBlock (t + 4) m m' → kind_at m' t ≡ kinds.Void → SlotStep s t m m'
 copies-now j s t m m' h only void = copies only.chip (record { target = h.target; was = h.begun.void; only = block-data t m m' only; now = void })
 
 copy-clean : (t : ℕ) (m m' : List ℕ) → OnlyBlock (t + 4) m m' → kind_at m t ≡ kinds.Void → kind_at m' t ≡ kinds.Void → IsClean m → IsClean m'
 copy-clean t m m' only was now clean = void-clean t m m' kinds.Void only was (λ b. refl) now clean
 
-pub copy-cut : (j s t : ℕ) (m0 m m' : List ℕ) → j < 7 → Progress j s t m0 m → OnlyPlace (7 * t + j) m m' → (kind_at m t ≡ kinds.Void → kind_at m' t ≡ kinds.Void) → Stays m0 m'
+pub copy-cut : (j s t : ℕ) (m0 m m' : List ℕ) → j < 7 → CopyProgress j s t m0 m → OnlyPlace (7 * t + j) m m' → (kind_at m t ≡ kinds.Void → kind_at m' t ≡ kinds.Void) → Stays m0 m'
 copy-cut j s t m0 m m' low p place void =
     let only = place-only t j m m' low place in
     let chip = chip-after m0 m m' p.only.chip only.chip in
@@ -167,9 +168,9 @@ tags-copied : (old : Slot) (t i : ℕ) (m m' : List ℕ) → raw_slot m t i ≡ 
 tags-copied old t i m m' free (live_copied tag x was (y, now) exact) = ap bare now ∙ sym (ap (λ a. copy_slot (bare a)) was)
 tags-copied old t i m m' free (passed_over other same) = ap bare (ap (λ b. slot_in b i) same ∙ free) ∙ sym (other-bare old other)
 
-pub copy-progress : (j s t : ℕ) (m0 m m' : List ℕ) → j < 7 → Progress j s t m0 m → OnlyPlace (7 * t + j) m m'
+pub copy-progress : (j s t : ℕ) (m0 m m' : List ℕ) → j < 7 → CopyProgress j s t m0 m → OnlyPlace (7 * t + j) m m'
     → IsBegun t s m' × CopyLeaves (raw_slot m s j) t j m m'
-    → ((i : ℕ) → i < 7 → i ≢ j → IsFresh t i m → IsFresh t i m') → Progress (j + 1) s t m0 m'
+    → ((i : ℕ) → i < 7 → i ≢ j → IsErasedSlot t i m → IsErasedSlot t i m') → CopyProgress (j + 1) s t m0 m'
 copy-progress j s t m0 m m' low p place done fresh =
     let c = p.copied in
     let only = place-only t j m m' low place in
@@ -205,8 +206,8 @@ copy-progress j s t m0 m m' low p place done fresh =
               | inr ne ↦ place-slots t j i m m' low (omega (arith, below, low)) ne place ∙ (x.copied i (omega (arith, below, ne)) ∙ ap copy_slot (sym (source i)))
             ];
             fresh = λ i small above. fresh i small (λ e. omega (arith, e, above)) (x.fresh i small (omega (arith, above)));
-            unwritten = λ i small free. elim (cases_eq i j) as (λ _. IsFresh t i m') [
-              | inl e ↦ subst (λ a. IsFresh t a m') (sym e) (after.1 (ap (λ a. raw_slot m' t a) (sym e) ∙ free))
+            unwritten = λ i small free. elim (cases_eq i j) as (λ _. IsErasedSlot t i m') [
+              | inl e ↦ subst (λ a. IsErasedSlot t a m') (sym e) (after.1 (ap (λ a. raw_slot m' t a) (sym e) ∙ free))
               | inr ne ↦ fresh i small ne (x.unwritten i small (sym (place-slots t j i m m' low small ne place) ∙ free))
             ];
             clean = copy-clean t m m' only c.begun.void done.0.void x.clean;
@@ -282,7 +283,7 @@ pub record IsCommittedTo (s t : ℕ) (m0 m : List ℕ) : Type 0 where
 erases-now : (s t : ℕ) (m0 m m' : List ℕ) → IsCommittedTo s t m0 m → WithErased (s + 4) m m' → ErasesSource s t (data_blocks m) (kind_at m) (kind_at m') (raw_slot m) (raw_slot m')
 erases-now s t m0 m m' h w = record { target = h.target; was = h.committed; only = block-data s m m' w.only; now = erased-spare m' s w.erased }
 
-pub erase-cut : (s t : ℕ) (m0 m m' : List ℕ) → IsCommittedTo s t m0 m → Interrupted (s + 4) m m' → KeepsSectors m0 m'
+pub erase-cut : (s t : ℕ) (m0 m m' : List ℕ) → IsCommittedTo s t m0 m → EraseInterrupted (s + 4) m m' → KeepsSectors m0 m'
 erase-cut s t m0 m m' h (as_it_was w) = keeps m0 m' (chip-after m0 m m' h.chip w.blocks.chip) (λ sectors holds. blocks-holds m m' sectors w.blocks (h.sectors sectors holds)) (λ c. same-clean m m' w.blocks (h.clean c))
 erase-cut s t m0 m m' h (block_erased healthy w) = keeps m0 m' (chip-after m0 m m' h.chip w.only.chip)
     (λ sectors holds. step-sectors s t m m' (erases_source w.only.chip (erases-now s t m0 m m' h w)) sectors (h.sectors sectors holds)) (λ c. erase_source-clean s t m m' w (erases-now s t m0 m m' h w) (h.clean c))
@@ -357,7 +358,7 @@ finish-cut s t m a m' h mark e k = record {
   exact = λ x. after-keeps m a m' (commit-keeps s t m a h mark e x) k;
 }
 
-pub finish-done : (s t : ℕ) (m a m' : List ℕ) → IsCopiedTo 7 s t m → OnlyMark t m a → kind_at a t ≡ kinds.Committed (s + 4) → Ends a m' → IsFinished s t a m' → Finishes s t m m'
+pub finish-done : (s t : ℕ) (m a m' : List ℕ) → IsCopiedTo 7 s t m → OnlyMark t m a → kind_at a t ≡ kinds.Committed (s + 4) → EndsCopy a m' → IsFinished s t a m' → Finishes s t m m'
 finish-done s t m a m' h mark e ends f =
     let n = mark.only.chip.same_length in
     record {
@@ -388,7 +389,7 @@ ended-whole s t m a m' h two three e =
       erased = erased-spare m' s (at-s ∙ two.erased);
     }
 
-pub reclaim-done : (s t : ℕ) (m0 m m' : List ℕ) → Progress 7 s t m0 m → Finishes s t m m' → Copies s t m0 m'
+pub reclaim-done : (s t : ℕ) (m0 m m' : List ℕ) → CopyProgress 7 s t m0 m → Finishes s t m m' → Copies s t m0 m'
 reclaim-done s t m0 m m' p f =
     let chip = chip-after m0 m m' p.only.chip f.chip in
     let whole = f.finished in
@@ -411,7 +412,7 @@ reclaim-done s t m0 m m' p f =
       clean = λ clean. (f.exact (p.exact clean)).clean (p.exact clean).clean;
     }
 
-pub reclaim-cut : (s t : ℕ) (m0 m m' : List ℕ) → Progress 7 s t m0 m → FinishLeaves s t m m' → Stays m0 m'
+pub reclaim-cut : (s t : ℕ) (m0 m m' : List ℕ) → CopyProgress 7 s t m0 m → FinishLeaves s t m m' → Stays m0 m'
 reclaim-cut s t m0 m m' p k =
     let chip = chip-after m0 m m' p.only.chip k.chip in
     record {
@@ -422,9 +423,9 @@ reclaim-cut s t m0 m m' p k =
 
 -- the slots that count, with the number of blocks of the memory after
 live-after : (m m' : List ℕ) → SameChip m m' → SameLive (slot_at m) (later m m') (slot_count m) → SameLive (slot_at m) (slot_at m') (slot_count m)
-live-after m m' chip live w low = elim (live w low) as (λ _. (slot_at m' w ≡ slot_at m w) ⊎ (IsQuiet (slot_at m w) × IsQuiet (slot_at m' w))) [
+live-after m m' chip live w low = elim (live w low) as (λ _. (slot_at m' w ≡ slot_at m w) ⊎ (HoldsNothing (slot_at m w) × HoldsNothing (slot_at m' w))) [
   | inl e ↦ inl (later-is m m' w chip.same_length ∙ e)
-  | inr q ↦ inr (q.0, subst (λ a. IsQuiet a) (sym (later-is m m' w chip.same_length)) q.1)
+  | inr q ↦ inr (q.0, subst (λ a. HoldsNothing a) (sym (later-is m m' w chip.same_length)) q.1)
 ]
 
 -- A mount ends a copying: a void block is erased.
@@ -437,14 +438,14 @@ void-keeps t m m' h w clean =
     clean-only t m m' w.only clean
     (λ v low ne free. inl (sym (counted-other (kind_at m) (kind_at m') (raw_slot m) (raw_slot m') (data_blocks m) t v now.only (omega (arith, low)) ne
     (ap (λ k. is_copy_of (v / 7 + 4) k) now.now.plain ∙ sym (ap (λ k. is_copy_of (v / 7 + 4) k) h.void))) ∙ free))
-    (λ v low e free. ap (λ b. content_in b (v % 7)) w.erased ∙ blank-content (v % 7) (omega arith))
+    (λ v low e free. ap (λ b. content_bytes b (v % 7)) w.erased ∙ blank-content (v % 7) (omega arith))
     (λ p. w.erased)
 
-pub void-cut : (t : ℕ) (m m' : List ℕ) → IsVoidIn t m → Interrupted (t + 4) m m' → KeepsSectors m m'
+pub void-cut : (t : ℕ) (m m' : List ℕ) → IsVoidIn t m → EraseInterrupted (t + 4) m m' → KeepsSectors m m'
 void-cut t m m' h (as_it_was w) = keeps m m' w.blocks.chip (λ sectors holds. blocks-holds m m' sectors w.blocks holds) (same-clean m m' w.blocks)
 void-cut t m m' h (block_erased healthy w) = keeps m m' w.only.chip (step-sectors t t m m' (erases_void w.only.chip (voids-now t m m' h w))) (void-keeps t m m' h w)
 
-pub void-done : (t : ℕ) (m m' : List ℕ) → IsVoidIn t m → WithErased (t + 4) m m' → IsSoundMap m → Ends m m'
+pub void-done : (t : ℕ) (m m' : List ℕ) → IsVoidIn t m → WithErased (t + 4) m m' → IsSoundMap m → EndsCopy m m'
 void-done t m m' h w sound =
     let now = voids-now t m m' h w in
     let step = erases_void w.only.chip now in
@@ -470,10 +471,10 @@ erased-found s t m h spare = record { committed = committed-found s t m h; sourc
 settle-lives : (s t : ℕ) (m0 m m' : List ℕ) → IsErasedFor s t m0 m → OnlyMark t m m' → kind_at m' t ≡ kinds.Settled → SameLive (slot_at m) (slot_at m') (slot_count m)
 settle-lives s t m0 m m' h mark e = live-after m m' mark.only.chip (settle-live s t (data_blocks m) (kind_at m) (kind_at m') (raw_slot m) (raw_slot m') (settles-now s t m0 m m' h mark e))
 
-pub erased-ends : (s t : ℕ) (m m' : List ℕ) → IsErasedFor s t m m → OnlyMark t m m' → kind_at m' t ≡ kinds.Settled → Ends m m'
+pub erased-ends : (s t : ℕ) (m m' : List ℕ) → IsErasedFor s t m m → OnlyMark t m m' → kind_at m' t ≡ kinds.Settled → EndsCopy m m'
 erased-ends s t m m' h mark e = record { whole = settle-done s t m m m' h mark e; live = settle-lives s t m m m' h mark e }
 
-pub committed-ends : (s t : ℕ) (m m1 m' : List ℕ) → IsCommittedIn s t m → WithErased (s + 4) m m1 → OnlyMark t m1 m' → kind_at m' t ≡ kinds.Settled → Ends m m'
+pub committed-ends : (s t : ℕ) (m m1 m' : List ℕ) → IsCommittedIn s t m → WithErased (s + 4) m m1 → OnlyMark t m1 m' → kind_at m' t ≡ kinds.Settled → EndsCopy m m'
 committed-ends s t m m1 m' h w mark e =
     let found = committed-found s t m h in
     let one = erase-done s t m m m1 found w in
@@ -484,15 +485,15 @@ committed-ends s t m m1 m' h w mark e =
       whole = settle-done s t m m1 m' one mark e;
       live = λ v low.
           let here : slot_at m1 v ≡ slot_at m v = later-is m m1 v w.only.chip.same_length ∙ same v low in
-          elim (then v (omega (arith, low, size))) as (λ _. (slot_at m' v ≡ slot_at m v) ⊎ (IsQuiet (slot_at m v) × IsQuiet (slot_at m' v))) [
+          elim (then v (omega (arith, low, size))) as (λ _. (slot_at m' v ≡ slot_at m v) ⊎ (HoldsNothing (slot_at m v) × HoldsNothing (slot_at m' v))) [
             | inl q ↦ inl (q ∙ here)
-            | inr q ↦ inr (subst (λ a. IsQuiet a) here q.0, q.1)
+            | inr q ↦ inr (subst (λ a. HoldsNothing a) here q.0, q.1)
           ];
     }
 
 -- What is erased doesn't count.
 outside-live : (x : Slot) (tag : Tag) (y : List ℕ) → x ≡ Outside → x ≢ Live tag y
-outside-live x tag y o e = quiet-live x tag.number tag.generation y (subst (λ a. IsQuiet a) (sym o) tt) e
+outside-live x tag y o e = quiet-live x tag.number tag.generation y (subst (λ a. HoldsNothing a) (sym o) tt) e
 
 rest-copy : (k : Kind) (b : ℕ) → IsAtRest k → k ≢ kinds.Committed b
 rest-copy k b h e = subst (λ a. IsAtRest a) e h

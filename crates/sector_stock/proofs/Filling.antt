@@ -6,14 +6,14 @@ use Rattle.std.proofs.lemmas.List.{get_or-set_same, get_or-set_other, length-set
 use Rattle.nor_layout.specs.declared.header.Header.{Header}
 use Rattle.nor_layout.specs.declared.header.Header.TheVariants as headers
 use Rattle.nor_layout.specs.declared.kind.Kind.{Kind}
-use Rattle.sector_slots.specs.Slots.{Slot, Free, Live, NoGeneration, Dead, Outside, slot_with, slot_in, descriptor_in, content_in, slot_at, slot_count, data_blocks, data_block, kind_at, raw_slot}
+use Rattle.sector_slots.specs.Slots.{Slot, Free, Live, NoGeneration, Dead, Outside, slot_with, slot_in, descriptor_in, content_bytes, slot_at, slot_count, data_blocks, data_block, kind_at, raw_slot}
 use Rattle.sector_slots.specs.Blocks.{AreSettled}
 use Rattle.sector_slots.proofs.CopyLaws.{how_many-zero, how_many-suc, how_many-same}
 use Rattle.sector_stock.specs.declared.index.SlotState.{SlotState}
 use Rattle.sector_stock.specs.declared.index.SlotState.TheVariants as states
 use Rattle.sector_stock.specs.declared.index.BlockState.{BlockState}
 use Rattle.sector_stock.specs.declared.index.Cursors.{Cursors}
-use Rattle.sector_stock.specs.Index.{state_of, header_state, is_free, is_dead, is_plain, is_free_state, is_dead_state, tally, in_block, in_slots, in_heads, states_count, states_tally, StatesNoted, BlockNoted, IsNoted, IsListed, IsIndexOf, IsAhead, IsHighestWhole, IsWholeBlock}
+use Rattle.sector_stock.specs.Index.{state_of, header_state, is_free_slot, is_dead, is_plain, is_free_state, is_dead_state, tally, in_block, in_slots, in_heads, states_count, states_tally, StatesNoted, BlockNoted, IsNoted, IsListed, IsIndexOf, IsAhead, IsHighestWhole, IsWholeBlock}
 use Rattle.sector_stock.proofs.Tallies.{tally-most}
 use Rattle.sector_stock.proofs.Moved.{rest-slot, spare-whole, reserve-is}
 
@@ -57,7 +57,7 @@ state-with headers.Dead x = refl
 
 state-raw : (m : List ℕ) (c i : ℕ) → state_of (raw_slot m c i) ≡ header_state (descriptor_in (data_block m c) i)
 unfolding slot_in
-state-raw m c i = state-with (descriptor_in (data_block m c) i) (content_in (data_block m c) i)
+state-raw m c i = state-with (descriptor_in (data_block m c) i) (content_bytes (data_block m c) i)
 
 noted-here : (c : ℕ) (kind : Kind) (heads : List Header) (slots slots' : List SlotState) (blocks blocks' : List BlockState) (m : List ℕ) → BlockNoted c kind heads slots slots' blocks blocks' → kind ≡ kind_at m c
     → ((i : ℕ) → i < 7 → in_heads heads i ≡ descriptor_in (data_block m c) i) → IsNoted c slots' blocks' m
@@ -85,7 +85,7 @@ noted-next b n kind heads slots slots' blocks blocks' m low ss bs h k d so-far c
 ]
 
 -- all blocks are
-free-state : (x : Slot) → is_free_state (state_of x) ≡ is_free x
+free-state : (x : Slot) → is_free_state (state_of x) ≡ is_free_slot x
 free-state Free = refl
 free-state (Live tag y) = refl
 free-state NoGeneration = refl
@@ -99,9 +99,9 @@ dead-state NoGeneration = refl
 dead-state Dead = refl
 dead-state Outside = refl
 
-tally-free : (slots : List SlotState) (f : ℕ → Slot) (c : ℕ) → ((i : ℕ) → i < 7 → in_slots slots (7 * c + i) ≡ state_of (f (7 * c + i))) → states_tally is_free_state slots c ≡ tally is_free f c
+tally-free : (slots : List SlotState) (f : ℕ → Slot) (c : ℕ) → ((i : ℕ) → i < 7 → in_slots slots (7 * c + i) ≡ state_of (f (7 * c + i))) → states_tally is_free_state slots c ≡ tally is_free_slot f c
 unfolding states_count tally
-tally-free slots f c h = how_many-same (λ i. is_free_state (in_slots slots (7 * c + i))) (λ i. is_free (f (7 * c + i))) 7 (λ i low. ap is_free_state (h i low) ∙ free-state (f (7 * c + i)))
+tally-free slots f c h = how_many-same (λ i. is_free_state (in_slots slots (7 * c + i))) (λ i. is_free_slot (f (7 * c + i))) 7 (λ i low. ap is_free_state (h i low) ∙ free-state (f (7 * c + i)))
 
 tally-dead : (slots : List SlotState) (f : ℕ → Slot) (c : ℕ) → ((i : ℕ) → i < 7 → in_slots slots (7 * c + i) ≡ state_of (f (7 * c + i))) → states_tally is_dead_state slots c ≡ tally is_dead f c
 unfolding states_count tally

@@ -7,7 +7,8 @@ use Rattle.sector_stock.specs.declared.index.SlotState.{SlotState}
 use Rattle.sector_stock.specs.declared.index.SlotState.TheVariants as states
 use Rattle.sector_stock.specs.declared.index.BlockState.{BlockState}
 use Rattle.sector_stock.specs.declared.index.Cursors.{Cursors}
-use Rattle.sector_stock.specs.Index.{state_of, is_free, in_block, in_slots, IsListed, IsIndexOf, IsLowestWithFree, HasNoFreeBut, HasNoFreeState, IsFirstFreeState}
+use Rattle.sector_stock.specs.Index.{state_of, is_free_slot, in_block, in_slots, IsListed, IsIndexOf, IsLowestWithFree, HasNoFreeBut}
+use Rattle.sector_stock.specs.IndexSteps.{HasNoFreeState, IsFirstFreeState}
 use Rattle.sector_stock.specs.Room.{HasNoneFree}
 use Rattle.sector_slots.specs.Blocks.{IsReserveOf}
 use Rattle.sector_stock.specs.Takes.{IsLowestFree}
@@ -30,7 +31,7 @@ none-in m slots blocks w listed low none e =
     let i = w % 7 in
     let here : 7 * c + i ≡ w = omega arith in
     let count = (listed.each_block c (omega (arith, low))).free in
-    not-both (is_free (slot_at m (7 * c + i))) (ap (λ v. is_free (slot_at m v)) here ∙ ap is_free e) (tally-none is_free (slot_at m) c i (sym count ∙ none) (omega arith))
+    not-both (is_free_slot (slot_at m (7 * c + i))) (ap (λ v. is_free_slot (slot_at m v)) here ∙ ap is_free_slot e) (tally-none is_free_slot (slot_at m) c i (sym count ∙ none) (omega arith))
 
 pub none-free-in : (m : List ℕ) (slots : List SlotState) (blocks : List BlockState) (at : Cursors) → IsIndexOf slots blocks at m → HasNoFreeBut blocks at.reserve → HasNoneFree at.reserve m
 none-free-in m slots blocks at index h w low other =
@@ -45,7 +46,7 @@ found-free None b m slots blocks at index low h =
     let here : b < data_blocks m = omega (arith, inside, n) in
     let count = (index.listed.each_block b here).free in
     let some = low.2 in
-    let d = tally-some is_free (slot_at m) b (omega (arith, some, count)) in
+    let d = tally-some is_free_slot (slot_at m) b (omega (arith, some, count)) in
     let small = d.1.0 in
     absurd (h d.0 small (index.listed.each_slot (7 * b + d.0) (omega (arith, here, small)) ∙ ap state_of (free-is (slot_at m (7 * b + d.0)) d.1.1)))
 found-free (Some w) b m slots blocks at index low h =

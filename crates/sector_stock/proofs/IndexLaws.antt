@@ -10,7 +10,7 @@ use Rattle.sector_slots.proofs.CopyLaws.{how_many-suc, how_many-same}
 use Rattle.sector_stock.specs.declared.index.SlotState.{SlotState}
 use Rattle.sector_stock.specs.declared.index.SlotState.TheVariants as states
 use Rattle.sector_stock.specs.declared.index.BlockState.{BlockState}
-use Rattle.sector_stock.specs.Index.{state_of, is_free, is_dead, is_plain, tally, Tallies, in_block, IsListed, Marked, one_dead_more, one_free_fewer}
+use Rattle.sector_stock.specs.Index.{state_of, is_free_slot, is_dead, is_plain, tally, Tallies, in_block, IsListed, Marked, one_dead_more, one_free_fewer}
 
 -- one place changes
 how_many-change : (p q : ℕ → Bool) (n i : ℕ) → i < n → ((k : ℕ) → k < n → k ≢ i → q k ≡ p k)
@@ -52,7 +52,7 @@ listed-one w n f f' kind kind' slots slots' blocks blocks' state b low only kind
         | inr ne ↦
             let old = h.each_block c high in
             subst (λ a. Tallies a f' kind' c) (sym (m.other_blocks c (omega (arith, high, bs)) ne)) (record {
-              free = old.free ∙ sym (tally-other is_free f f' n w c only high ne);
+              free = old.free ∙ sym (tally-other is_free_slot f f' n w c only high ne);
               dead = old.dead ∙ sym (tally-other is_dead f f' n w c only high ne);
               plain = old.plain ∙ sym (ap is_plain (kinds c high));
             })
@@ -64,11 +64,11 @@ pub listed-dead : (w n : ℕ) (f f' : ℕ → Slot) (kind kind' : ℕ → Kind) 
     → IsLive (f w) → f' w ≡ Dead → Marked w states.Dead (one_dead_more (in_block blocks (w / 7))) slots slots' blocks blocks' → IsListed slots blocks f kind n → IsListed slots' blocks' f' kind' n
 listed-dead w n f f' kind kind' slots slots' blocks blocks' low only kinds live dead m h =
     let old = h.each_block (w / 7) (omega arith) in
-    let lf : is_free (f w) ≡ false = ap is_free live.2 in
+    let lf : is_free_slot (f w) ≡ false = ap is_free_slot live.2 in
     let ld : is_dead (f w) ≡ false = ap is_dead live.2 in
-    let nf : is_free (f' w) ≡ false = ap is_free dead in
+    let nf : is_free_slot (f' w) ≡ false = ap is_free_slot dead in
     let nd : is_dead (f' w) ≡ true = ap is_dead dead in
-    let cf-at = tally-here is_free f f' n w only low in
+    let cf-at = tally-here is_free_slot f f' n w only low in
     let cf = rw (lf, nf) at cf-at in
     let cd-at = tally-here is_dead f f' n w only low in
     let cd = rw (ld, nd) at cd-at in
@@ -83,11 +83,11 @@ pub listed-live : (w n : ℕ) (f f' : ℕ → Slot) (kind kind' : ℕ → Kind) 
     → f w ≡ Free → IsLive (f' w) → Marked w states.Live (one_free_fewer (in_block blocks (w / 7))) slots slots' blocks blocks' → IsListed slots blocks f kind n → IsListed slots' blocks' f' kind' n
 listed-live w n f f' kind kind' slots slots' blocks blocks' low only kinds free live m h =
     let old = h.each_block (w / 7) (omega arith) in
-    let of : is_free (f w) ≡ true = ap is_free free in
+    let of : is_free_slot (f w) ≡ true = ap is_free_slot free in
     let od : is_dead (f w) ≡ false = ap is_dead free in
-    let nf : is_free (f' w) ≡ false = ap is_free live.2 in
+    let nf : is_free_slot (f' w) ≡ false = ap is_free_slot live.2 in
     let nd : is_dead (f' w) ≡ false = ap is_dead live.2 in
-    let cf-at = tally-here is_free f f' n w only low in
+    let cf-at = tally-here is_free_slot f f' n w only low in
     let cf = rw (of, nf) at cf-at in
     let cd-at = tally-here is_dead f f' n w only low in
     let cd = rw (od, nd) at cd-at in

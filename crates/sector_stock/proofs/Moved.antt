@@ -10,14 +10,14 @@ use Rattle.nor_layout.specs.declared.kind.Kind.{Kind}
 use Rattle.nor_layout.specs.declared.kind.Kind.TheVariants as kinds
 use Rattle.sector_slots.specs.Slots.{Slot, Free, Live, NoGeneration, Dead, Outside, slot_at, slot_count, data_blocks, kind_at, raw_slot, is_void, IsSpareIn}
 use Rattle.sector_slots.specs.Blocks.{AreAtRest, AreSettled, settled, IsReserveOf}
-use Rattle.sector_slots.specs.Copying.{IsQuiet, copy_slot}
+use Rattle.sector_slots.specs.Copying.{HoldsNothing, copy_slot}
 use Rattle.sector_slots.proofs.CopyLaws.{at-rest-copies, at-rest-counts, copies-none, counted-in, shifted-there, shifted-else, quiet-live, IsWhole}
 use Rattle.sector_slots.specs.Copying.{shifted}
 use Rattle.sector_slots.specs.Sectors.{LiveAt, IsSoundMap}
 use Rattle.sector_stock.specs.declared.index.SlotState.{SlotState}
 use Rattle.sector_stock.specs.declared.index.BlockState.{BlockState}
 use Rattle.sector_stock.specs.declared.index.Cursors.{Cursors}
-use Rattle.sector_stock.specs.Index.{state_of, is_free, is_dead, is_plain, tally, Tallies, in_block, in_slots, IsListed, IsIndexOf, copied_state, Shifted, BlocksMoved, IsHighestWhole, IsWholeBlock, IsAhead, IsMostDead, HasNoDead}
+use Rattle.sector_stock.specs.Index.{state_of, is_free_slot, is_dead, is_plain, tally, Tallies, in_block, in_slots, IsListed, IsIndexOf, copied_state, Shifted, BlocksMoved, IsHighestWhole, IsWholeBlock, IsAhead, IsMostDead, HasNoDead}
 use Rattle.sector_stock.specs.Room.{HasRoom, HasNoneDead, HasNoneFree}
 use Rattle.sector_stock.proofs.RoomLaws.{settled-inside}
 use Rattle.sector_stock.specs.Copy.{bare, IsCopiedWhole, IsCopyable, Copies}
@@ -64,7 +64,7 @@ bare-state NoGeneration = refl
 bare-state Dead = refl
 bare-state Outside = refl
 
-bare-free : (x : Slot) → is_free x ≡ is_free (bare x)
+bare-free : (x : Slot) → is_free_slot x ≡ is_free_slot (bare x)
 bare-free Free = refl
 bare-free (Live tag y) = refl
 bare-free NoGeneration = refl
@@ -100,7 +100,7 @@ state-copy NoGeneration y a b e = absurd (a refl)
 state-copy Dead y a b e = sym (bare-state y ∙ ap state_of e)
 state-copy Outside y a b e = absurd (b refl)
 
-free-copy : (x : Slot) → x ≢ NoGeneration → x ≢ Outside → (if is_free (copy_slot (bare x)) then 1 else 0) ≡ (if is_free x then 1 else 0) + (if is_dead x then 1 else 0)
+free-copy : (x : Slot) → x ≢ NoGeneration → x ≢ Outside → (if is_free_slot (copy_slot (bare x)) then 1 else 0) ≡ (if is_free_slot x then 1 else 0) + (if is_dead x then 1 else 0)
 free-copy Free a b = omega arith
 free-copy (Live tag y) a b = omega arith
 free-copy NoGeneration a b = absurd (a refl)
@@ -118,10 +118,10 @@ dead-copy : (x y : Slot) → bare y ≡ copy_slot (bare x) → is_dead y ≡ fal
 dead-copy x y e = bare-dead y ∙ (ap is_dead e ∙ none-dead (bare x))
 
 -- the tallies of the two blocks
-target-free : (s t n : ℕ) (f f' : ℕ → Slot) → SlotsMoved s t n f f' → s < n → ((w : ℕ) → w < 7 * n → f w ≢ NoGeneration) → ((w : ℕ) → w < 7 * n → f w ≢ Outside) → tally is_free f' t ≡ tally is_free f s + tally is_dead f s
+target-free : (s t n : ℕ) (f f' : ℕ → Slot) → SlotsMoved s t n f f' → s < n → ((w : ℕ) → w < 7 * n → f w ≢ NoGeneration) → ((w : ℕ) → w < 7 * n → f w ≢ Outside) → tally is_free_slot f' t ≡ tally is_free_slot f s + tally is_dead f s
 unfolding tally
-target-free s t n f f' h low whole inside = how_many-sum (λ i. is_free (f (7 * s + i))) (λ i. is_dead (f (7 * s + i))) (λ i. is_free (f' (7 * t + i))) 7
-    (λ i small. ap (λ b. if b then 1 else 0) (bare-free (f' (7 * t + i)) ∙ ap is_free (h.target i small)) ∙ free-copy (f (7 * s + i)) (whole (7 * s + i) (omega (arith, low, small))) (inside (7 * s + i) (omega (arith, low, small))))
+target-free s t n f f' h low whole inside = how_many-sum (λ i. is_free_slot (f (7 * s + i))) (λ i. is_dead (f (7 * s + i))) (λ i. is_free_slot (f' (7 * t + i))) 7
+    (λ i small. ap (λ b. if b then 1 else 0) (bare-free (f' (7 * t + i)) ∙ ap is_free_slot (h.target i small)) ∙ free-copy (f (7 * s + i)) (whole (7 * s + i) (omega (arith, low, small))) (inside (7 * s + i) (omega (arith, low, small))))
 
 pub listed-moved : (s t n : ℕ) (f f' : ℕ → Slot) (kind kind' : ℕ → Kind) (slots slots' : List SlotState) (blocks blocks' : List BlockState) → s < n → t < n → SlotsMoved s t n f f'
     → ((w : ℕ) → w < 7 * n → f w ≢ NoGeneration) → ((w : ℕ) → w < 7 * n → f w ≢ Outside) → ((d : ℕ) → d < n → d ≢ s → d ≢ t → kind' d ≡ kind d) → kind' s ≡ kinds.Plain → kind' t ≡ kinds.Settled
@@ -162,7 +162,7 @@ listed-moved s t n f f' kind kind' slots slots' blocks blocks' ls lt h whole ins
             }))
         | inr nt ↦ elim (cases_eq c s) as (λ _. Tallies (in_block blocks' c) f' kind' c) [
           | inl e ↦ subst (λ d. Tallies (in_block blocks' d) f' kind' d) (sym e) (subst (λ b. Tallies b f' kind' s) (sym moved.source) (record {
-            free = sym (tally-all is_free f' s (λ i small. ap is_free (h.source i small)));
+            free = sym (tally-all is_free_slot f' s (λ i small. ap is_free_slot (h.source i small)));
             dead = sym (tally-fails is_dead f' s (λ i small. ap is_dead (h.source i small)));
             plain = sym (ap is_plain plain);
           }))
@@ -170,7 +170,7 @@ listed-moved s t n f f' kind kind' slots slots' blocks blocks' ls lt h whole ins
               let old = listed.each_block c low in
               let each : (i : ℕ) → i < 7 → f' (7 * c + i) ≡ f (7 * c + i) = λ i small. h.others (7 * c + i) (omega (arith, low, small)) (λ q. ns (omega (arith, q, small))) (λ q. nt (omega (arith, q, small))) in
               subst (λ b. Tallies b f' kind' c) (sym (moved.others c (omega (arith, low, bs)) ns nt)) (record {
-                free = old.free ∙ sym (tally-same is_free f f' c each);
+                free = old.free ∙ sym (tally-same is_free_slot f f' c each);
                 dead = old.dead ∙ sym (tally-same is_dead f f' c each);
                 plain = old.plain ∙ sym (ap is_plain (same c low ns nt));
               })
@@ -191,13 +191,13 @@ whole-spare m slots blocks c rest listed low whole =
     let t = listed.each_block c low in
     record {
       plain = plain-is (kind_at m c) (sym t.plain ∙ whole.0);
-      free = λ i small. sym (rest-slot m c i rest low small) ∙ free-is (slot_at m (7 * c + i)) (tally-full is_free (slot_at m) c i (sym t.free ∙ whole.1) small);
+      free = λ i small. sym (rest-slot m c i rest low small) ∙ free-is (slot_at m (7 * c + i)) (tally-full is_free_slot (slot_at m) c i (sym t.free ∙ whole.1) small);
     }
 
 pub spare-whole : (m : List ℕ) (slots : List SlotState) (blocks : List BlockState) (c : ℕ) → AreAtRest (kind_at m) (data_blocks m) → IsListed slots blocks (slot_at m) (kind_at m) (data_blocks m) → c < data_blocks m → IsSpareIn m c → IsWholeBlock (in_block blocks c)
 spare-whole m slots blocks c rest listed low spare =
     let t = listed.each_block c low in
-    (t.plain ∙ ap is_plain spare.plain, t.free ∙ tally-all is_free (slot_at m) c (λ i small. ap is_free (rest-slot m c i rest low small ∙ spare.free i small)))
+    (t.plain ∙ ap is_plain spare.plain, t.free ∙ tally-all is_free_slot (slot_at m) c (λ i small. ap is_free_slot (rest-slot m c i rest low small ∙ spare.free i small)))
 
 pub reserve-is : (m : List ℕ) (slots : List SlotState) (blocks : List BlockState) (r : ℕ) → AreAtRest (kind_at m) (data_blocks m) → IsListed slots blocks (slot_at m) (kind_at m) (data_blocks m) → IsHighestWhole blocks r → IsReserveOf r m
 reserve-is m slots blocks r rest listed h =
@@ -285,7 +285,7 @@ copied-live NoGeneration tag y e = absurd (quiet-live Free tag.number tag.genera
 copied-live Dead tag y e = absurd (quiet-live Free tag.number tag.generation y tt e)
 copied-live Outside tag y e = absurd (quiet-live Free tag.number tag.generation y tt e)
 
-copied-quiet : (x y : Slot) → IsQuiet x → bare y ≡ copy_slot (bare x) → y ≡ Free
+copied-quiet : (x y : Slot) → HoldsNothing x → bare y ≡ copy_slot (bare x) → y ≡ Free
 copied-quiet Free y q e = bare-is_free y e
 copied-quiet (Live tag z) y q e = absurd q
 copied-quiet NoGeneration y q e = absurd q
@@ -300,7 +300,7 @@ copied-whole Dead = tt
 copied-whole Outside = tt
 
 free-live : (x : Slot) (g : ℕ) (k : Generation) (y : List ℕ) → x ≡ Free → x ≡ Live (record { number = g; generation = k }) y → ⊥
-free-live x g k y e l = quiet-live x g k y (subst (λ a. IsQuiet a) (sym e) tt) l
+free-live x g k y e l = quiet-live x g k y (subst (λ a. HoldsNothing a) (sym e) tt) l
 
 -- the live slots of f, which are those of f' under other numbers, with the same tags
 record TagsMoved (s t n : ℕ) (f f' : ℕ → Slot) : Type 0 where
@@ -409,7 +409,7 @@ free-after s t r m m' room most reserve other h none =
     let slots = moved-slots s t m m' room.blocks.rest h.blocks.rest ls lt h.slots in
     let d = tally-some is_dead (slot_at m) s most.some in
     let small = d.1.0 in
-    let quiet = subst (λ a. IsQuiet a) (sym (dead-is (slot_at m (7 * s + d.0)) d.1.1)) tt in
+    let quiet = subst (λ a. HoldsNothing a) (sym (dead-is (slot_at m (7 * s + d.0)) d.1.1)) tt in
     none (7 * t + d.0) (omega (arith, lt, small, n)) (λ e. other (omega (arith, e, small))) (copied-quiet (slot_at m (7 * s + d.0)) (slot_at m' (7 * t + d.0)) quiet (slots.target d.0 small))
 
 -- and fewer slots are dead

@@ -3,7 +3,8 @@ use Rattle.std.proofs.Common.{◌≡◌, ◌≢◌, ℕ, ◌<◌, ◌≤◌, ◌
 use Rattle.std.proofs.lemmas.Bool.{cases_eq, false≢true}
 use Rattle.sector_stock.specs.declared.index.BlockState.{BlockState}
 use Rattle.sector_stock.specs.declared.index.Cursors.{Cursors}
-use Rattle.sector_stock.specs.Index.{in_block, IsAhead, BlocksMoved, NextReserve, IsPassed, Widened, IsHighestWhole}
+use Rattle.sector_stock.specs.Index.{in_block, IsAhead, BlocksMoved, IsHighestWhole}
+use Rattle.sector_stock.specs.IndexSteps.{NextReserve, IsPassed, Widened}
 
 -- what isn't looked at any more wasn't before, and is neither block that changed, but that s may be the new reserve
 pub record IsLooking (s t size : ℕ) (old new : Cursors) : Type 0 where

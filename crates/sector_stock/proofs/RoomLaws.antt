@@ -6,7 +6,7 @@ use Rattle.chip_model.specs.Geometry.{IsChipSize, sector_count}
 use Rattle.nor_layout.specs.declared.header.Generation.{Generation}
 use Rattle.nor_layout.specs.declared.header.Header.{Header}
 use Rattle.nor_layout.specs.declared.header.Header.TheVariants as headers
-use Rattle.sector_slots.specs.Slots.{Slot, Free, Live, NoGeneration, Dead, Outside, slot_at, slot_count, data_blocks, data_block, kind_at, raw_slot, slot_in, slot_with, descriptor_in, content_in}
+use Rattle.sector_slots.specs.Slots.{Slot, Free, Live, NoGeneration, Dead, Outside, slot_at, slot_count, data_blocks, data_block, kind_at, raw_slot, slot_in, slot_with, descriptor_in, content_bytes}
 use Rattle.sector_slots.specs.Sectors.{LiveAt, IsSoundMap, IsAtRestMap}
 use Rattle.sector_slots.proofs.CopyLaws.{at-rest-copies, at-rest-counts, copies-none, counted-in}
 use Rattle.sector_slots.proofs.SectorLaws.{number_in}
@@ -84,7 +84,7 @@ with-inside headers.Dead x e = subst (λ a. IsInside a) e tt
 -- a block's slot isn't outside
 raw-inside : (b : List ℕ) (i : ℕ) → slot_in b i ≢ Outside
 unfolding slot_in
-raw-inside b i e = with-inside (descriptor_in b i) (content_in b i) e
+raw-inside b i e = with-inside (descriptor_in b i) (content_bytes b i) e
 
 -- where no copying goes on each slot counts
 pub settled-raw : (m : List ℕ) → HasRoom m → (s : ℕ) → s < slot_count m → slot_at m s ≡ raw_slot m (s / 7) (s % 7)

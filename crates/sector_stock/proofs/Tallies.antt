@@ -4,7 +4,7 @@ use Rattle.std.proofs.lemmas.Bool.{cases_eq}
 use Rattle.erase_journal.specs.Places.{how_many}
 use Rattle.sector_slots.proofs.CopyLaws.{how_many-zero, how_many-suc, how_many-same, how_many-none, how_many-each_fails}
 use Rattle.sector_slots.specs.Slots.{Slot, Free, Live, NoGeneration, Dead, Outside}
-use Rattle.sector_stock.specs.Index.{is_free, is_dead, tally}
+use Rattle.sector_stock.specs.Index.{is_free_slot, is_dead, tally}
 
 pub either : (b : Bool) → (b ≡ true) ⊎ (b ≡ false)
 either true = inl refl
@@ -101,7 +101,7 @@ how_many-less p q (suc n) i h low was gone = elim (cases_eq i n) as (λ _. how_m
 ]
 
 -- the tests
-pub free-is : (x : Slot) → is_free x ≡ true → x ≡ Free
+pub free-is : (x : Slot) → is_free_slot x ≡ true → x ≡ Free
 free-is Free e = refl
 free-is (Live tag y) e = absurd (grind (arith, e))
 free-is NoGeneration e = absurd (grind (arith, e))
@@ -148,7 +148,7 @@ unfolding tally
 tally-same test f f' c h = how_many-same (λ i. test (f' (7 * c + i))) (λ i. test (f (7 * c + i))) 7 (λ i low. ap test (h i low))
 
 -- a slot is free, or dead, or neither
-both-tests : (x : Slot) → (if is_free x then 1 else 0) + (if is_dead x then 1 else 0) ≤ 1
+both-tests : (x : Slot) → (if is_free_slot x then 1 else 0) + (if is_dead x then 1 else 0) ≤ 1
 both-tests Free = omega arith
 both-tests (Live tag y) = omega arith
 both-tests NoGeneration = omega arith
@@ -164,6 +164,6 @@ how_many-both p q (suc n) h =
     let rest = how_many-both p q n h in
     omega (arith, a, b, here, rest)
 
-pub tally-both : (f : ℕ → Slot) (c : ℕ) → tally is_free f c + tally is_dead f c ≤ 7
+pub tally-both : (f : ℕ → Slot) (c : ℕ) → tally is_free_slot f c + tally is_dead f c ≤ 7
 unfolding tally
-tally-both f c = how_many-both (λ i. is_free (f (7 * c + i))) (λ i. is_dead (f (7 * c + i))) 7 (λ k. both-tests (f (7 * c + k)))
+tally-both f c = how_many-both (λ i. is_free_slot (f (7 * c + i))) (λ i. is_dead (f (7 * c + i))) 7 (λ k. both-tests (f (7 * c + k)))

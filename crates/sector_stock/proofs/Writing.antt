@@ -12,7 +12,7 @@ use Rattle.sector_stock.specs.declared.index.SlotState.{SlotState}
 use Rattle.sector_stock.specs.declared.index.SlotState.TheVariants as states
 use Rattle.sector_stock.specs.declared.index.BlockState.{BlockState}
 use Rattle.sector_stock.specs.declared.index.Cursors.{Cursors}
-use Rattle.sector_stock.specs.Index.{is_free, is_dead, in_block, IsListed, IsIndexOf, IsAhead, IsWholeBlock, IsStocked, Marked, one_dead_more, one_free_fewer}
+use Rattle.sector_stock.specs.Index.{is_free_slot, is_dead, in_block, IsListed, IsIndexOf, IsAhead, IsWholeBlock, IsStocked, Marked, one_dead_more, one_free_fewer}
 use Rattle.sector_stock.proofs.IndexLaws.{listed-dead, listed-live}
 use Rattle.sector_slots.specs.Blocks.{IsReserveOf}
 use Rattle.sector_stock.proofs.Moved.{numbers-in}
@@ -27,7 +27,7 @@ free-some w m slots blocks at index low free = elim (cases_eq (in_block blocks (
       let i = w % 7 in
       let here : 7 * c + i ≡ w = omega arith in
       let count = (index.listed.each_block c (omega (arith, low))).free in
-      absurd (not-both (is_free (slot_at m (7 * c + i))) (ap (λ v. is_free (slot_at m v)) here ∙ ap is_free free) (tally-none is_free (slot_at m) c i (sym count ∙ e) (omega arith)))
+      absurd (not-both (is_free_slot (slot_at m (7 * c + i))) (ap (λ v. is_free_slot (slot_at m v)) here ∙ ap is_free_slot free) (tally-none is_free_slot (slot_at m) c i (sym count ∙ e) (omega arith)))
 ]
 
 pub dead-room : (w : ℕ) (m : List ℕ) (slots : List SlotState) (blocks : List BlockState) (at : Cursors) → IsIndexOf slots blocks at m → w < slot_count m → IsLive (slot_at m w) → (in_block blocks (w / 7)).dead < 7

@@ -1,14 +1,16 @@
 -- The copying of a block into the reserve, as its calls leave it. Source: own, layout 2.
-use Rattle.std.specs.Prelude.{◌≡◌, ◌≢◌, ℕ, ◌+◌, ◌<◌, ◌≤◌, List, [], length}
-use Rattle.nor_layout.specs.declared.kind.Kind.TheVariants as kinds
-use Rattle.erase_journal.specs.Blocks.{SameChip, OnlyBlock}
-use Rattle.sector_slots.specs.Slots.{Slot, Free, Live, NoGeneration, Dead, Outside, data_blocks, data_block, kind_at, raw_slot, slot_at, slot_count, IsClean, IsSpareIn}
+use Rattle.std.specs.Prelude.{◌≡◌, ◌≢◌, ℕ, ◌+◌, ◌<◌, List, [], length}
+use Rattle.erase_journal.specs.Blocks.{SameChip}
+use Rattle.sector_slots.specs.Slots.{Slot, Free, Live, NoGeneration, Dead, Outside, data_blocks}
+use Rattle.sector_slots.specs.Slots.{data_block, kind_at, raw_slot, slot_at, slot_count, IsClean}
+use Rattle.sector_slots.specs.Slots.{IsSpareIn}
 use Rattle.sector_slots.specs.Blocks.{AreAtRest, AreSettled, IsTarget}
 use Rattle.sector_slots.specs.Copying.{SameLive, copy_slot}
 use Rattle.sector_slots.specs.Sectors.{IsSingle, IsSoundMap, HoldsSectors}
-use Rattle.sector_slots.specs.Steps.{IsBegun, IsFresh}
+use Rattle.nor_layout.specs.declared.kind.Kind.TheVariants as kinds
 
--- a slot without its content: where the free slots of a memory aren't erased throughout, a copy has the tag, and any content
+-- a slot without its content: where the free slots of a memory aren't erased throughout, a copy has
+-- the tag, and any content
 abbrev pub bare : Slot → Slot
 bare Free = Free
 bare (Live tag content) = Live tag []
@@ -26,8 +28,8 @@ pub record KeepsSectors (m m' : List ℕ) : Type 0 where
   pub sectors : SameSectors m m'
   pub clean : IsClean m → IsClean m'
 
--- What a copying leaves that was cut: slots and blocks that a mount accepts; and the sectors as they were, where what read as free
--- was erased.
+-- What a copying leaves that was cut: slots and blocks that a mount accepts; and the sectors as
+-- they were, where what read as free was erased.
 pub record Stays (m m' : List ℕ) : Type 0 where
   pub chip : SameChip m m'
   pub sound : IsSoundMap m → IsSoundMap m'
@@ -43,31 +45,6 @@ pub record IsCopyable (s t : ℕ) (m : List ℕ) : Type 0 where
   pub sound : IsSoundMap m
   pub single : IsSingle m
 
--- The slots of the first j places of block s were copied into block t, which is void: their tags.
-pub record IsCopiedTo (j s t : ℕ) (m : List ℕ) : Type 0 where
-  pub number : s < data_blocks m
-  pub other : s ≢ t
-  pub target : IsTarget t (data_blocks m) (kind_at m)
-  pub begun : IsBegun t s m
-  pub tags : (i : ℕ) → i < j → bare (raw_slot m t i) ≡ copy_slot (bare (raw_slot m s i))
-  pub free : (i : ℕ) → i < 7 → j ≤ i → raw_slot m t i ≡ Free
-  pub sound : IsSoundMap m
-  pub single : IsSingle m
-
--- And their contents, as it is where what read as free was erased.
-pub record IsExactTo (j s t : ℕ) (m : List ℕ) : Type 0 where
-  pub copied : (i : ℕ) → i < j → raw_slot m t i ≡ copy_slot (raw_slot m s i)
-  pub fresh : (i : ℕ) → i < 7 → j ≤ i → IsFresh t i m
-  pub unwritten : (i : ℕ) → i < 7 → raw_slot m t i ≡ Free → IsFresh t i m
-  pub clean : IsClean m
-
--- so far in the loop
-pub record Progress (j s t : ℕ) (m0 m : List ℕ) : Type 0 where
-  pub only : OnlyBlock (t + 4) m0 m
-  pub copied : IsCopiedTo j s t m
-  pub sectors : SameSectors m0 m
-  pub exact : IsClean m0 → IsExactTo j s t m
-
 -- what a mount that ends a copying leaves: the same sectors, and no copying goes on
 pub record Reclaimed (m m' : List ℕ) : Type 0 where
   pub chip : SameChip m m'
@@ -76,8 +53,8 @@ pub record Reclaimed (m m' : List ℕ) : Type 0 where
   pub blocks : AreSettled m'
   pub clean : IsClean m → IsClean m'
 
--- besides, each slot that counts is as it was, or stands for nothing before and after
-pub record Ends (m m' : List ℕ) : Type 0 where
+-- besides, each slot that counts is as it was, or represents nothing before and after
+pub record EndsCopy (m m' : List ℕ) : Type 0 where
   pub whole : Reclaimed m m'
   pub live : SameLive (slot_at m) (slot_at m') (slot_count m)
 
@@ -89,8 +66,8 @@ pub record IsFinished (s t : ℕ) (m m' : List ℕ) : Type 0 where
   pub settled : kind_at m' t ≡ kinds.Settled
   pub erased : IsSpareIn m' s
 
--- Block s was copied into block t, in every slot: t is settled and has the copies of the slots of s, s is wholly free, and all other
--- blocks are as they were.
+-- Block s was copied into block t, in every slot: t is settled and has the copies of the slots of
+-- s, s is wholly free, and all other blocks are as they were.
 pub record IsCopiedWhole (s t : ℕ) (m m' : List ℕ) : Type 0 where
   pub same_length : length m' ≡ length m
   pub same_kind : (d : ℕ) → d < data_blocks m → d ≢ s → d ≢ t → kind_at m' d ≡ kind_at m d
@@ -99,21 +76,8 @@ pub record IsCopiedWhole (s t : ℕ) (m m' : List ℕ) : Type 0 where
   pub copied : (i : ℕ) → i < 7 → bare (raw_slot m' t i) ≡ copy_slot (bare (raw_slot m s i))
   pub erased : IsSpareIn m' s
 
--- What the last three calls of a copying leave, whose source and target these blocks are.
-pub record Finishes (s t : ℕ) (m m' : List ℕ) : Type 0 where
-  pub chip : SameChip m m'
-  pub blocks : AreSettled m'
-  pub finished : IsFinished s t m m'
-  pub exact : IsExactTo 7 s t m → KeepsSectors m m'
-
--- and where they are cut
-pub record FinishLeaves (s t : ℕ) (m m' : List ℕ) : Type 0 where
-  pub chip : SameChip m m'
-  pub sound : IsSoundMap m'
-  pub exact : IsExactTo 7 s t m → KeepsSectors m m'
-
--- What a whole copying leaves: every slot as above, and no copying goes on; and where what read as free was erased it still is, and
--- the sectors are what they were.
+-- What a whole copying leaves: every slot as above, and no copying goes on; and where what read as
+-- free was erased it still is, and the sectors are what they were.
 pub record Copies (s t : ℕ) (m m' : List ℕ) : Type 0 where
   pub chip : SameChip m m'
   pub blocks : AreSettled m'

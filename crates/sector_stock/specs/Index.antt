@@ -1,17 +1,20 @@
--- The index of a store's slots in memory: what it says of each slot and block, and where it looks next. Source: own, layout 2.
-use Rattle.std.specs.Prelude.{◌≡◌, ◌≢◌, ◌⊎◌, ℕ, ◌+◌, ◌-◌, ◌*◌, ◌/◌, ◌<◌, ◌≤◌, Bool, true, false, List, length, slice_index_or}
+-- The index of a store's slots in memory: what it says of each slot and block, and where it looks
+-- next. Source: own, layout 2.
+use Rattle.std.specs.Prelude.{◌≡◌, ◌≢◌, ℕ, ◌+◌, ◌-◌, ◌*◌, ◌/◌, ◌<◌, ◌≤◌, Bool, true, false, List}
+use Rattle.std.specs.Prelude.{length, slice_index_or}
 use Rattle.chip_model.specs.Geometry.{IsChipSize}
 use Rattle.erase_journal.specs.Places.{how_many}
 use Rattle.nor_layout.specs.declared.header.Header.{Header}
-use Rattle.nor_layout.specs.declared.header.Header.TheVariants as headers
 use Rattle.nor_layout.specs.declared.kind.Kind.{Kind}
-use Rattle.nor_layout.specs.declared.kind.Kind.TheVariants as kinds
-use Rattle.sector_slots.specs.Slots.{Slot, Free, Live, NoGeneration, Dead, Outside, slot_at, slot_count, kind_at, raw_slot, data_blocks}
+use Rattle.sector_slots.specs.Slots.{Slot, Free, Live, NoGeneration, Dead, Outside, slot_at}
+use Rattle.sector_slots.specs.Slots.{slot_count, kind_at, raw_slot, data_blocks}
 use Rattle.sector_stock.specs.declared.index.SlotState.{SlotState}
-use Rattle.sector_stock.specs.declared.index.SlotState.TheVariants as states
 use Rattle.sector_stock.specs.declared.index.BlockState.{BlockState}
 use Rattle.sector_stock.specs.declared.index.Cursors.{Cursors}
 use Rattle.sector_slots.specs.Blocks.{IsReserveOf}
+use Rattle.nor_layout.specs.declared.header.Header.TheVariants as headers
+use Rattle.nor_layout.specs.declared.kind.Kind.TheVariants as kinds
+use Rattle.sector_stock.specs.declared.index.SlotState.TheVariants as states
 
 -- what the index keeps of a slot
 abbrev pub state_of : Slot → SlotState
@@ -21,12 +24,12 @@ state_of NoGeneration = states.Live
 state_of Dead = states.Dead
 state_of Outside = states.Live
 
-abbrev pub is_free : Slot → Bool
-is_free Free = true
-is_free (Live tag content) = false
-is_free NoGeneration = false
-is_free Dead = false
-is_free Outside = false
+abbrev pub is_free_slot : Slot → Bool
+is_free_slot Free = true
+is_free_slot (Live tag content) = false
+is_free_slot NoGeneration = false
+is_free_slot Dead = false
+is_free_slot Outside = false
 
 abbrev pub is_dead : Slot → Bool
 is_dead Free = false
@@ -48,7 +51,7 @@ tally test f c = how_many (λ i. test (f (7 * c + i))) 7
 
 -- what the index keeps of a block
 pub record Tallies (b : BlockState) (f : ℕ → Slot) (kind : ℕ → Kind) (c : ℕ) : Type 0 where
-  pub free : b.free ≡ tally is_free f c
+  pub free : b.free ≡ tally is_free_slot f c
   pub dead : b.dead ≡ tally is_dead f c
   pub plain : b.plain ≡ is_plain (kind c)
 
@@ -60,7 +63,8 @@ abbrev pub in_block : List BlockState → ℕ → BlockState
 in_block blocks c = slice_index_or blocks c no_block
 
 -- The two lists say it of n data blocks and their slots.
-pub record IsListed (slots : List SlotState) (blocks : List BlockState) (f : ℕ → Slot) (kind : ℕ → Kind) (n : ℕ) : Type 0 where
+pub record IsListed (slots : List SlotState) (blocks : List BlockState) (f : ℕ → Slot)
+    (kind : ℕ → Kind) (n : ℕ) : Type 0 where
   pub slot_size : length slots ≡ 7 * n
   pub block_size : length blocks ≡ n
   pub each_slot : (s : ℕ) → s < 7 * n → slice_index_or slots s states.Free ≡ state_of (f s)
@@ -70,37 +74,47 @@ pub record IsListed (slots : List SlotState) (blocks : List BlockState) (f : ℕ
 abbrev pub IsWholeBlock : BlockState → Type 0
 IsWholeBlock b = (b.plain ≡ true) × (b.free ≡ 7)
 
--- Where the index looks next: below `cursor`, and from `beyond` on, no block but the reserve has a free slot; each other wholly free
--- block lies below `spares`; no block has more dead slots than `most`, and below `from` none has so many.
+-- Where the index looks next: below `cursor`, and from `beyond` on, no block but the reserve has a
+-- free slot; each other wholly free block lies below `spares`; no block has more dead slots than
+-- `most`, and below `from` none has so many.
 pub record IsAhead (blocks : List BlockState) (at : Cursors) : Type 0 where
-  pub cursor : (c : ℕ) → c < length blocks → c < at.cursor → c ≢ at.reserve → (in_block blocks c).free ≡ 0
-  pub beyond : (c : ℕ) → c < length blocks → at.beyond ≤ c → c ≢ at.reserve → (in_block blocks c).free ≡ 0
-  pub spares : (c : ℕ) → c < length blocks → IsWholeBlock (in_block blocks c) → c ≢ at.reserve → c < at.spares
+  pub cursor : (c : ℕ) → c < length blocks → c < at.cursor → c ≢ at.reserve
+      → (in_block blocks c).free ≡ 0
+  pub beyond : (c : ℕ) → c < length blocks → at.beyond ≤ c → c ≢ at.reserve
+      → (in_block blocks c).free ≡ 0
+  pub spares : (c : ℕ) → c < length blocks → IsWholeBlock (in_block blocks c) → c ≢ at.reserve
+      → c < at.spares
   pub within : (at.beyond ≤ length blocks) × (at.spares ≤ length blocks)
   pub most : (c : ℕ) → c < length blocks → (in_block blocks c).dead ≤ at.most
   pub from : (c : ℕ) → c < length blocks → c < at.from → (in_block blocks c).dead ≢ at.most
 
 -- the index of a memory
-pub record IsIndexOf (slots : List SlotState) (blocks : List BlockState) (at : Cursors) (m : List ℕ) : Type 0 where
+pub record IsIndexOf (slots : List SlotState) (blocks : List BlockState) (at : Cursors)
+    (m : List ℕ) : Type 0 where
   pub listed : IsListed slots blocks (slot_at m) (kind_at m) (data_blocks m)
   pub ahead : IsAhead blocks at
   pub reserve : IsReserveOf at.reserve m
 
--- What the lists and cursors of a store with this memory are: of its size, and where they are said to be right, its index.
-pub record IsStocked (slots : List SlotState) (blocks : List BlockState) (at : Cursors) (indexed : Bool) (m : List ℕ) : Type 0 where
+-- What the lists and cursors of a store with this memory are: of its size, and where they are said
+-- to be right, its index.
+pub record IsStocked (slots : List SlotState) (blocks : List BlockState) (at : Cursors)
+    (indexed : Bool) (m : List ℕ) : Type 0 where
   pub sized : IsChipSize (length m)
   pub slots_size : length slots ≡ slot_count m
   pub blocks_size : length blocks ≡ data_blocks m
   pub index : indexed ≡ true → IsIndexOf slots blocks at m
 
 -- the lists in which slot w has this state and its block these numbers
-pub record Marked (w : ℕ) (state : SlotState) (block : BlockState) (slots slots' : List SlotState) (blocks blocks' : List BlockState) : Type 0 where
+pub record Marked (w : ℕ) (state : SlotState) (block : BlockState) (slots slots' : List SlotState)
+    (blocks blocks' : List BlockState) : Type 0 where
   pub slot_size : length slots' ≡ length slots
   pub block_size : length blocks' ≡ length blocks
   pub here : slice_index_or slots' w states.Free ≡ state
-  pub others : (s : ℕ) → s < length slots → s ≢ w → slice_index_or slots' s states.Free ≡ slice_index_or slots s states.Free
+  pub others : (s : ℕ) → s < length slots → s ≢ w
+      → slice_index_or slots' s states.Free ≡ slice_index_or slots s states.Free
   pub its_block : in_block blocks' (w / 7) ≡ block
-  pub other_blocks : (c : ℕ) → c < length blocks → c ≢ w / 7 → in_block blocks' c ≡ in_block blocks c
+  pub other_blocks : (c : ℕ) → c < length blocks → c ≢ w / 7
+      → in_block blocks' c ≡ in_block blocks c
 
 -- a slot became dead, a slot became live
 abbrev pub one_dead_more : BlockState → BlockState
@@ -139,15 +153,19 @@ in_slots slots s = slice_index_or slots s states.Free
 -- Of the first k places: block t has the copies of the states of block s, and block s is free.
 pub record Shifted (k s t : ℕ) (slots slots' : List SlotState) : Type 0 where
   pub size : length slots' ≡ length slots
-  pub target : (i : ℕ) → i < k → in_slots slots' (7 * t + i) ≡ copied_state (in_slots slots (7 * s + i))
+  pub target : (i : ℕ) → i < k → in_slots slots' (7 * t + i)
+      ≡ copied_state (in_slots slots (7 * s + i))
   pub source : (i : ℕ) → i < k → in_slots slots' (7 * s + i) ≡ states.Free
-  pub others : (w : ℕ) → w < length slots → ((i : ℕ) → i < k → (w ≢ 7 * t + i) × (w ≢ 7 * s + i)) → in_slots slots' w ≡ in_slots slots w
+  pub others : (w : ℕ) → w < length slots → ((i : ℕ) → i < k → (w ≢ 7 * t + i) × (w ≢ 7 * s + i))
+      → in_slots slots' w ≡ in_slots slots w
 
--- Block s was copied into block t: t has as many free slots as s had free and dead ones, and none dead; s is wholly free.
+-- Block s was copied into block t: t has as many free slots as s had free and dead ones, and none
+-- dead; s is wholly free.
 pub record BlocksMoved (s t : ℕ) (blocks blocks' : List BlockState) : Type 0 where
   pub size : length blocks' ≡ length blocks
   pub source : in_block blocks' s ≡ record { free = 7; dead = 0; plain = true }
-  pub target : in_block blocks' t ≡ record { free = (in_block blocks s).free + (in_block blocks s).dead; dead = 0; plain = false }
+  pub target : in_block blocks' t ≡
+      record { free = (in_block blocks s).free + (in_block blocks s).dead; dead = 0; plain = false }
   pub others : (c : ℕ) → c < length blocks → c ≢ s → c ≢ t → in_block blocks' c ≡ in_block blocks c
 
 -- block r is the highest-numbered wholly free one
@@ -155,41 +173,6 @@ pub record IsHighestWhole (blocks : List BlockState) (r : ℕ) : Type 0 where
   pub number : r < length blocks
   pub whole : IsWholeBlock (in_block blocks r)
   pub highest : (c : ℕ) → c < length blocks → IsWholeBlock (in_block blocks c) → c ≤ r
-
--- each wholly free block but r lies below this one
-abbrev pub AreSparesBelow : List BlockState → ℕ → ℕ → Type 0
-AreSparesBelow blocks r below = (c : ℕ) → c < length blocks → IsWholeBlock (in_block blocks c) → c ≢ r → c < below
-
--- where the index looks for free slots: a block that it doesn't look at any more was none that it looked at, and isn't block b
-abbrev pub IsPassed : Cursors → ℕ → Type 0
-IsPassed at c = (c < at.cursor) ⊎ (at.beyond ≤ c)
-
-pub record Widened (b : ℕ) (old new : Cursors) : Type 0 where
-  pub passed : (c : ℕ) → IsPassed new c → IsPassed old c × (c ≢ b)
-  pub within : (new.beyond ≤ old.beyond) ⊎ (new.beyond ≡ b + 1)
-  pub reserve : new.reserve ≡ old.reserve
-  pub spares : new.spares ≡ old.spares
-  pub most : new.most ≡ old.most
-  pub from : new.from ≡ old.from
-
--- the reserve is another one, and where its search ends; all else stays
-pub record NextReserve (blocks : List BlockState) (old new : Cursors) : Type 0 where
-  pub highest : IsHighestWhole blocks new.reserve
-  pub spares : AreSparesBelow blocks new.reserve new.spares
-  pub within : new.spares ≤ length blocks
-  pub cursor : new.cursor ≡ old.cursor
-  pub beyond : new.beyond ≡ old.beyond
-  pub most : new.most ≡ old.most
-  pub from : new.from ≡ old.from
-
--- no slot of block b is free; or slot w is the first free one of it
-abbrev pub HasNoFreeState : List SlotState → ℕ → Type 0
-HasNoFreeState slots b = (i : ℕ) → i < 7 → in_slots slots (7 * b + i) ≢ states.Free
-
-pub record IsFirstFreeState (slots : List SlotState) (b w : ℕ) : Type 0 where
-  pub block : w / 7 ≡ b
-  pub free : in_slots slots w ≡ states.Free
-  pub first : (i : ℕ) → i < 7 → 7 * b + i < w → in_slots slots (7 * b + i) ≢ states.Free
 
 -- what the index keeps of a slot with this descriptor
 abbrev pub header_state : Header → SlotState
@@ -219,18 +202,32 @@ states_tally test slots c = states_count test slots c 7
 abbrev pub in_heads : List Header → ℕ → Header
 in_heads heads i = slice_index_or heads i headers.Free
 
-pub record StatesNoted (k c : ℕ) (heads : List Header) (slots slots' : List SlotState) : Type 0 where
+pub record StatesNoted (k c : ℕ) (heads : List Header)
+    (slots slots' : List SlotState) : Type 0 where
   pub size : length slots' ≡ length slots
   pub here : (i : ℕ) → i < k → in_slots slots' (7 * c + i) ≡ header_state (in_heads heads i)
-  pub others : (w : ℕ) → w < length slots → ((i : ℕ) → i < k → w ≢ 7 * c + i) → in_slots slots' w ≡ in_slots slots w
+  pub others : (w : ℕ) → w < length slots → ((i : ℕ) → i < k → w ≢ 7 * c + i)
+      → in_slots slots' w ≡ in_slots slots w
 
-pub record BlockNoted (c : ℕ) (kind : Kind) (heads : List Header) (slots slots' : List SlotState) (blocks blocks' : List BlockState) : Type 0 where
+pub record BlockNoted (c : ℕ) (kind : Kind) (heads : List Header) (slots slots' : List SlotState)
+    (blocks blocks' : List BlockState) : Type 0 where
   pub states : StatesNoted 7 c heads slots slots'
   pub block_size : length blocks' ≡ length blocks
-  pub block : in_block blocks' c ≡ record { free = states_tally is_free_state slots' c; dead = states_tally is_dead_state slots' c; plain = is_plain kind }
+  pub block : in_block blocks' c ≡
+      record {
+        free = states_tally is_free_state slots' c;
+        dead = states_tally is_dead_state slots'
+            c;
+        plain = is_plain kind;
+      }
   pub other_blocks : (d : ℕ) → d < length blocks → d ≢ c → in_block blocks' d ≡ in_block blocks d
 
 -- the lists say of block c what its bytes say
-pub record IsNoted (c : ℕ) (slots : List SlotState) (blocks : List BlockState) (m : List ℕ) : Type 0 where
+pub record IsNoted (c : ℕ) (slots : List SlotState) (blocks : List BlockState)
+    (m : List ℕ) : Type 0 where
   pub states : (i : ℕ) → i < 7 → in_slots slots (7 * c + i) ≡ state_of (raw_slot m c i)
-  pub block : in_block blocks c ≡ record { free = states_tally is_free_state slots c; dead = states_tally is_dead_state slots c; plain = is_plain (kind_at m c) }
+  pub block : in_block blocks c ≡ record {
+    free = states_tally is_free_state slots c;
+    dead = states_tally is_dead_state slots c;
+    plain = is_plain (kind_at m c);
+  }

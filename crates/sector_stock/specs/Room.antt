@@ -6,10 +6,11 @@ use Rattle.sector_slots.specs.Slots.{Free, NoGeneration, Dead, slot_at, slot_cou
 use Rattle.sector_slots.specs.Sectors.{LiveAt, IsSingle, IsSoundMap, IsAtRestMap}
 use Rattle.sector_slots.specs.Blocks.{AreSettled, IsReserveOf}
 
--- Each live slot that counts holds a sector of this chip, no two the same one, and no slot is without a generation; no copying
--- goes on, and a block is wholly free.
+-- Each live slot that counts holds a sector of this chip, no two the same one, and no slot is
+-- without a generation; no copying goes on, and a block is wholly free.
 pub record HasRoom (m : List ℕ) : Type 0 where
-  pub sector : (s g : ℕ) (k : Generation) (x : List ℕ) → LiveAt (slot_at m) (slot_count m) s g k x → g < sector_count (length m)
+  pub sector : (s g : ℕ) (k : Generation) (x : List ℕ) → LiveAt (slot_at m) (slot_count m) s g k x
+      → g < sector_count (length m)
   pub single : IsSingle m
   pub whole : (s : ℕ) → s < slot_count m → slot_at m s ≢ NoGeneration
   pub blocks : AreSettled m
@@ -23,11 +24,13 @@ HasNoneDead m = (s : ℕ) → s < slot_count m → slot_at m s ≢ Dead
 
 -- outside a block there are at least 7 slots more than sectors
 abbrev pub SlotsOutnumberSectors : Type 0
-SlotsOutnumberSectors = (m : List ℕ) → IsChipSize (length m) → sector_count (length m) + 7 ≤ slot_count m - 7
+SlotsOutnumberSectors = (m : List ℕ) → IsChipSize (length m)
+    → sector_count (length m) + 7 ≤ slot_count m - 7
 
 -- so where none of them is free, one is dead
 abbrev pub NeverFull : Type 0
-NeverFull = (r : ℕ) (m : List ℕ) → IsChipSize (length m) → HasRoom m → IsReserveOf r m → HasNoneFree r m → HasNoneDead m → ⊥
+NeverFull = (r : ℕ) (m : List ℕ) → IsChipSize (length m) → HasRoom m → IsReserveOf r m
+    → HasNoneFree r m → HasNoneDead m → ⊥
 
 abbrev pub SoundMapsHaveRoom : Type 0
 SoundMapsHaveRoom = (m : List ℕ) → IsSoundMap m → IsAtRestMap m → HasRoom m

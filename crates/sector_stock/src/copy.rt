@@ -2,28 +2,35 @@
 
 ghost use Rattle.std.specs.Prelude.{◌≡◌, ◌≢◌, ◌+◌, ◌<◌, ℕ, List, length, OnOk, IfErr};
 ghost use Rattle.std.specs.Result.{IsErrOf};
-ghost use Rattle.nor_driver.specs.State.{IsReady};
+ghost use Rattle.nor_driver.specs.State.{IsNorReady, Refuses};
 ghost use Rattle.erase_journal.specs.Journals.{IsHealthy};
+ghost use Rattle.erase_journal.specs.Steps.{SucceedsSettled};
 ghost use Rattle.sector_slots.specs.Slots.{data_blocks, IsSpareIn};
 ghost use Rattle.sector_slots.specs.Sectors.{IsSoundMap};
-ghost use Rattle.sector_slots.specs.Steps.{Succeeds, Refuses};
-ghost use Rattle.sector_stock.specs.Copy.{KeepsSectors, Stays, IsCopyable, IsCopiedTo, Progress, Finishes, FinishLeaves, IsFinished, Copies, Ends, IsVoidIn, IsCommittedIn};
+ghost use Rattle.sector_stock.specs.Copy.{KeepsSectors, Stays, IsCopyable, IsFinished, Copies};
+ghost use Rattle.sector_stock.specs.Copy.{EndsCopy, IsVoidIn, IsCommittedIn};
+ghost use Rattle.sector_stock.specs.CopySteps.{IsCopiedTo, CopyProgress, Finishes, FinishLeaves};
 
 use nor_driver::NorError;
 use sector_slots::SlotCalls;
 
-/// Copies the live slots of a block into a wholly free one, erases the block, and settles the copy. Cut, it leaves slots and
-/// blocks that a mount accepts; and where what read as free was erased, the map of sectors as it was.
+/// Copies the live slots of a block into a wholly free one, erases the block, and settles the copy.
+/// Cut, it leaves slots and blocks that a mount accepts; and where what read as free was erased,
+/// the map of sectors as it was.
 pub fn reclaim_into<S: SlotCalls>(slots: &mut S, source: u16, target: u16) -> Result<(), NorError>
     requires source { source < data_blocks (S.state slots.old).memory }
     requires target { target < data_blocks (S.state slots.old).memory }
-    requires copyable { IsReady (S.state slots.old) → IsCopyable source target (S.state slots.old).memory }
-    ensures ok { OnOk result (IsCopyable source target (S.state slots.old).memory → Copies source target (S.state slots.old).memory (S.state slots.new).memory) }
-    ensures cut { IsErrOf result NorError.Cut → IsHealthy (S.state slots.old).memory → IsCopyable source target (S.state slots.old).memory
+    requires copyable { IsNorReady (S.state slots.old)
+        → IsCopyable source target (S.state slots.old).memory }
+    ensures ok { OnOk result (IsCopyable source target (S.state slots.old).memory
+        → Copies source target (S.state slots.old).memory (S.state slots.new).memory) }
+    ensures cut { IsErrOf result NorError.Cut → IsHealthy (S.state slots.old).memory
+        → IsCopyable source target (S.state slots.old).memory
         → Stays (S.state slots.old).memory (S.state slots.new).memory }
-    ensures healthy { IsErrOf result NorError.Cut → IsHealthy (S.state slots.old).memory → IsHealthy (S.state slots.new).memory }
+    ensures healthy { IsErrOf result NorError.Cut → IsHealthy (S.state slots.old).memory
+        → IsHealthy (S.state slots.new).memory }
     ensures size { length (S.state slots.new).memory ≡ length (S.state slots.old).memory }
-    ensures done { OnOk result (Succeeds (S.state slots.old) (S.state slots.new)) }
+    ensures done { OnOk result (SucceedsSettled (S.state slots.old) (S.state slots.new)) }
     ensures fails { IfErr result (λ e. Refuses e (S.state slots.old) (S.state slots.new)) }
 {
     copy_all(slots, source, target)?;
@@ -35,12 +42,14 @@ pub fn reclaim_into<S: SlotCalls>(slots: &mut S, source: u16, target: u16) -> Re
 fn copy_all<S: SlotCalls>(slots: &mut S, source: u16, target: u16) -> Result<(), NorError>
     requires source { source < data_blocks (S.state slots.old).memory }
     requires target { target < data_blocks (S.state slots.old).memory }
-    ensures ok { OnOk result (IsCopyable source target (S.state slots.old).memory → Progress 7 source target (S.state slots.old).memory (S.state slots.new).memory) }
+    ensures ok { OnOk result (IsCopyable source target (S.state slots.old).memory
+        → CopyProgress 7 source target (S.state slots.old).memory (S.state slots.new).memory) }
     ensures cut { IsErrOf result NorError.Cut → IsCopyable source target (S.state slots.old).memory
         → Stays (S.state slots.old).memory (S.state slots.new).memory }
-    ensures healthy { IsErrOf result NorError.Cut → IsHealthy (S.state slots.old).memory → IsHealthy (S.state slots.new).memory }
+    ensures healthy { IsErrOf result NorError.Cut → IsHealthy (S.state slots.old).memory
+        → IsHealthy (S.state slots.new).memory }
     ensures size { length (S.state slots.new).memory ≡ length (S.state slots.old).memory }
-    ensures done { OnOk result (Succeeds (S.state slots.old) (S.state slots.new)) }
+    ensures done { OnOk result (SucceedsSettled (S.state slots.old) (S.state slots.new)) }
     ensures fails { IfErr result (λ e. Refuses e (S.state slots.old) (S.state slots.new)) }
 {
     slots.begin(target, source)?;
@@ -54,47 +63,62 @@ fn copy_all<S: SlotCalls>(slots: &mut S, source: u16, target: u16) -> Result<(),
 fn finish<S: SlotCalls>(slots: &mut S, source: u16, target: u16) -> Result<(), NorError>
     requires source { source < data_blocks (S.state slots.old).memory }
     requires target { target < data_blocks (S.state slots.old).memory }
-    requires copied { IsReady (S.state slots.old) → IsCopiedTo 7 source target (S.state slots.old).memory }
-    ensures ok { OnOk result (IsCopiedTo 7 source target (S.state slots.old).memory → Finishes source target (S.state slots.old).memory (S.state slots.new).memory) }
-    ensures cut { IsErrOf result NorError.Cut → IsCopiedTo 7 source target (S.state slots.old).memory
+    requires copied { IsNorReady (S.state slots.old)
+        → IsCopiedTo 7 source target (S.state slots.old).memory }
+    ensures ok { OnOk result (IsCopiedTo 7 source target (S.state slots.old).memory
+        → Finishes source target (S.state slots.old).memory (S.state slots.new).memory) }
+    ensures cut { IsErrOf result NorError.Cut
+        → IsCopiedTo 7 source target (S.state slots.old).memory
         → FinishLeaves source target (S.state slots.old).memory (S.state slots.new).memory }
-    ensures healthy { IsErrOf result NorError.Cut → IsHealthy (S.state slots.old).memory → IsHealthy (S.state slots.new).memory }
+    ensures healthy { IsErrOf result NorError.Cut → IsHealthy (S.state slots.old).memory
+        → IsHealthy (S.state slots.new).memory }
     ensures size { length (S.state slots.new).memory ≡ length (S.state slots.old).memory }
-    ensures done { OnOk result (Succeeds (S.state slots.old) (S.state slots.new)) }
+    ensures done { OnOk result (SucceedsSettled (S.state slots.old) (S.state slots.new)) }
     ensures fails { IfErr result (λ e. Refuses e (S.state slots.old) (S.state slots.new)) }
 {
     slots.commit(target)?;
     end_committed(slots, source, target)?;
     Ok(())
 }
-/// Ends a copying that was interrupted before its commit: the void block is erased. Cut, it leaves the map of sectors as it was.
+/// Ends a copying that was interrupted before its commit: the void block is erased. Cut, it leaves
+/// the map of sectors as it was.
 pub fn end_void<S: SlotCalls>(slots: &mut S, target: u16) -> Result<(), NorError>
     requires target { target < data_blocks (S.state slots.old).memory }
-    requires void { IsReady (S.state slots.old) → IsVoidIn target (S.state slots.old).memory }
-    ensures ok { OnOk result (IsVoidIn target (S.state slots.old).memory → IsSoundMap (S.state slots.old).memory → Ends (S.state slots.old).memory (S.state slots.new).memory) }
-    ensures cut { IsErrOf result NorError.Cut → IsHealthy (S.state slots.old).memory → IsVoidIn target (S.state slots.old).memory
+    requires void { IsNorReady (S.state slots.old) → IsVoidIn target (S.state slots.old).memory }
+    ensures ok { OnOk result (IsVoidIn target (S.state slots.old).memory
+        → IsSoundMap (S.state slots.old).memory
+        → EndsCopy (S.state slots.old).memory (S.state slots.new).memory) }
+    ensures cut { IsErrOf result NorError.Cut → IsHealthy (S.state slots.old).memory
+        → IsVoidIn target (S.state slots.old).memory
         → KeepsSectors (S.state slots.old).memory (S.state slots.new).memory }
-    ensures healthy { IsErrOf result NorError.Cut → IsHealthy (S.state slots.old).memory → IsHealthy (S.state slots.new).memory }
+    ensures healthy { IsErrOf result NorError.Cut → IsHealthy (S.state slots.old).memory
+        → IsHealthy (S.state slots.new).memory }
     ensures size { length (S.state slots.new).memory ≡ length (S.state slots.old).memory }
-    ensures done { OnOk result (Succeeds (S.state slots.old) (S.state slots.new)) }
+    ensures done { OnOk result (SucceedsSettled (S.state slots.old) (S.state slots.new)) }
     ensures fails { IfErr result (λ e. Refuses e (S.state slots.old) (S.state slots.new)) }
 {
     slots.erase(target)?;
     Ok(())
 }
 
-/// Ends a copying that was interrupted after its commit: the source is erased, and the copy settled.
+/// Ends a copying that was interrupted after its commit: the source is erased, and the copy
+/// settled.
 pub fn end_committed<S: SlotCalls>(slots: &mut S, source: u16, target: u16) -> Result<(), NorError>
     requires source { source < data_blocks (S.state slots.old).memory }
     requires target { target < data_blocks (S.state slots.old).memory }
-    requires committed { IsReady (S.state slots.old) → IsCommittedIn source target (S.state slots.old).memory }
-    ensures ok { OnOk result (IsCommittedIn source target (S.state slots.old).memory → Ends (S.state slots.old).memory (S.state slots.new).memory) }
-    ensures exact { OnOk result (IsCommittedIn source target (S.state slots.old).memory → IsFinished source target (S.state slots.old).memory (S.state slots.new).memory) }
-    ensures cut { IsErrOf result NorError.Cut → IsHealthy (S.state slots.old).memory → IsCommittedIn source target (S.state slots.old).memory
+    requires committed { IsNorReady (S.state slots.old)
+        → IsCommittedIn source target (S.state slots.old).memory }
+    ensures ok { OnOk result (IsCommittedIn source target (S.state slots.old).memory
+        → EndsCopy (S.state slots.old).memory (S.state slots.new).memory) }
+    ensures exact { OnOk result (IsCommittedIn source target (S.state slots.old).memory
+        → IsFinished source target (S.state slots.old).memory (S.state slots.new).memory) }
+    ensures cut { IsErrOf result NorError.Cut → IsHealthy (S.state slots.old).memory
+        → IsCommittedIn source target (S.state slots.old).memory
         → KeepsSectors (S.state slots.old).memory (S.state slots.new).memory }
-    ensures healthy { IsErrOf result NorError.Cut → IsHealthy (S.state slots.old).memory → IsHealthy (S.state slots.new).memory }
+    ensures healthy { IsErrOf result NorError.Cut → IsHealthy (S.state slots.old).memory
+        → IsHealthy (S.state slots.new).memory }
     ensures size { length (S.state slots.new).memory ≡ length (S.state slots.old).memory }
-    ensures done { OnOk result (Succeeds (S.state slots.old) (S.state slots.new)) }
+    ensures done { OnOk result (SucceedsSettled (S.state slots.old) (S.state slots.new)) }
     ensures fails { IfErr result (λ e. Refuses e (S.state slots.old) (S.state slots.new)) }
 {
     slots.erase(source)?;
@@ -106,13 +130,17 @@ pub fn end_committed<S: SlotCalls>(slots: &mut S, source: u16, target: u16) -> R
 pub fn end_erased<S: SlotCalls>(slots: &mut S, source: u16, target: u16) -> Result<(), NorError>
     requires source { source < data_blocks (S.state slots.old).memory }
     requires target { target < data_blocks (S.state slots.old).memory }
-    ensures ok { OnOk result (IsCommittedIn source target (S.state slots.old).memory → IsSpareIn (S.state slots.old).memory source
-        → Ends (S.state slots.old).memory (S.state slots.new).memory) }
-    ensures cut { IsErrOf result NorError.Cut → IsCommittedIn source target (S.state slots.old).memory → IsSpareIn (S.state slots.old).memory source
+    ensures ok { OnOk result (IsCommittedIn source target (S.state slots.old).memory
+        → IsSpareIn (S.state slots.old).memory source
+        → EndsCopy (S.state slots.old).memory (S.state slots.new).memory) }
+    ensures cut { IsErrOf result NorError.Cut
+        → IsCommittedIn source target (S.state slots.old).memory
+        → IsSpareIn (S.state slots.old).memory source
         → KeepsSectors (S.state slots.old).memory (S.state slots.new).memory }
-    ensures healthy { IsErrOf result NorError.Cut → IsHealthy (S.state slots.old).memory → IsHealthy (S.state slots.new).memory }
+    ensures healthy { IsErrOf result NorError.Cut → IsHealthy (S.state slots.old).memory
+        → IsHealthy (S.state slots.new).memory }
     ensures size { length (S.state slots.new).memory ≡ length (S.state slots.old).memory }
-    ensures done { OnOk result (Succeeds (S.state slots.old) (S.state slots.new)) }
+    ensures done { OnOk result (SucceedsSettled (S.state slots.old) (S.state slots.new)) }
     ensures fails { IfErr result (λ e. Refuses e (S.state slots.old) (S.state slots.new)) }
 {
     slots.settle(target)?;

@@ -1,8 +1,14 @@
-//! The index of a store's slots in memory. Each operation changes one slot and one block of it; where it looks for a slot to
-//! give, and for a block to be copied, it goes on from where it stood.
+//! The index of a store's slots in memory. Each operation changes one slot and one block of it;
+//! where it looks for a slot to give, and for a block to be copied, it goes on from where it stood.
 
-ghost use Rattle.std.specs.Prelude.{◌≡◌, ◌≢◌, ◌⊎◌, ◌+◌, ◌*◌, ◌/◌, ◌<◌, ◌≤◌, length, ℕ, List, MatchOption};
-ghost use Rattle.sector_stock.specs.Index.{IsAhead, Marked, one_dead_more, one_free_fewer, in_block, IsMostDead, HasNoDead, IsLowestWithFree, HasNoFreeBut, copied_state, Shifted, IsIndexOf, IsWholeBlock, BlocksMoved, IsHighestWhole, AreSparesBelow, NextReserve, Widened, HasNoFreeState, IsFirstFreeState};
+ghost use Rattle.std.specs.Prelude.{◌≡◌, ◌≢◌, ◌⊎◌, ◌+◌, ◌*◌, ◌/◌, ◌<◌, ◌≤◌, length, ℕ, List};
+ghost use Rattle.std.specs.Prelude.{MatchOption};
+ghost use Rattle.sector_stock.specs.Index.{IsAhead, Marked, one_dead_more, one_free_fewer};
+ghost use Rattle.sector_stock.specs.Index.{in_block, IsMostDead, HasNoDead, IsLowestWithFree};
+ghost use Rattle.sector_stock.specs.Index.{HasNoFreeBut, copied_state, Shifted, IsIndexOf};
+ghost use Rattle.sector_stock.specs.Index.{IsWholeBlock, BlocksMoved, IsHighestWhole};
+ghost use Rattle.sector_stock.specs.IndexSteps.{AreSparesBelow, NextReserve, Widened};
+ghost use Rattle.sector_stock.specs.IndexSteps.{HasNoFreeState, IsFirstFreeState};
 ghost use Rattle.sector_stock.specs.Room.{HasNoneFree};
 ghost use Rattle.sector_stock.specs.Takes.{IsLowestFree};
 
@@ -14,7 +20,8 @@ pub enum SlotState {
     Dead,
 }
 
-/// What it keeps of a block: how many of its slots are free and dead, and whether no copy was ever begun in it.
+/// What it keeps of a block: how many of its slots are free and dead, and whether no copy was ever
+/// begun in it.
 #[derive(Clone, Copy, Debug, PartialEq, Eq, Drop)]
 pub struct BlockState {
     pub free: u8,
@@ -44,7 +51,8 @@ pub fn mark_dead(slots: &mut [SlotState], blocks: &mut [BlockState], at: &mut Cu
     requires slot { slot < length slots.old }
     requires block { slot / 7 < length blocks.old }
     requires room { (in_block blocks.old (slot / 7)).dead < 7 }
-    ensures marked { Marked slot SlotState.Dead (one_dead_more (in_block blocks.old (slot / 7))) slots.old slots.new blocks.old blocks.new }
+    ensures marked { Marked slot SlotState.Dead (one_dead_more (in_block blocks.old (slot / 7)))
+        slots.old slots.new blocks.old blocks.new }
     ensures ahead { IsAhead blocks.old at.old → IsAhead blocks.new at.new }
     ensures reserve { at.new.reserve ≡ at.old.reserve }
 {
@@ -65,7 +73,8 @@ pub fn mark_live(slots: &mut [SlotState], blocks: &mut [BlockState], slot: u16)
     requires slot { slot < length slots.old }
     requires block { slot / 7 < length blocks.old }
     requires some { 0 < (in_block blocks.old (slot / 7)).free }
-    ensures marked { Marked slot SlotState.Live (one_free_fewer (in_block blocks.old (slot / 7))) slots.old slots.new blocks.old blocks.new }
+    ensures marked { Marked slot SlotState.Live (one_free_fewer (in_block blocks.old (slot / 7)))
+        slots.old slots.new blocks.old blocks.new }
 {
     slots[slot as usize] = SlotState::Live;
     let block = slot / 7;
@@ -98,8 +107,10 @@ pub fn most_dead(blocks: &[BlockState], at: &mut Cursors) -> Option<u16>
 /// The lowest-numbered block from `from` on with so many dead slots.
 fn first_with(blocks: &[BlockState], from: u16, dead: u8) -> Option<u16>
     requires size { length blocks.now < 65536 }
-    ensures found { MatchOption result ((c : ℕ) → from ≤ c → c < length blocks.now → (in_block blocks.now c).dead ≢ dead)
-        (λ b. (b < length blocks.now) × (from ≤ b) × ((in_block blocks.now b).dead ≡ dead) × ((c : ℕ) → from ≤ c → c < b → (in_block blocks.now c).dead ≢ dead)) }
+    ensures found { MatchOption result
+        ((c : ℕ) → from ≤ c → c < length blocks.now → (in_block blocks.now c).dead ≢ dead)
+        (λ b. (b < length blocks.now) × (from ≤ b) × ((in_block blocks.now b).dead ≡ dead)
+        × ((c : ℕ) → from ≤ c → c < b → (in_block blocks.now c).dead ≢ dead)) }
 {
     let count = blocks.len() as u16;
     for block in from..count {
@@ -114,7 +125,8 @@ fn first_with(blocks: &[BlockState], from: u16, dead: u8) -> Option<u16>
 pub fn lowest_with_free(blocks: &[BlockState], at: &mut Cursors) -> Option<u16>
     requires size { length blocks.now < 65536 }
     requires ahead { IsAhead blocks.now at.old }
-    ensures found { MatchOption result (HasNoFreeBut blocks.now at.old.reserve) (λ b. IsLowestWithFree blocks.now at.old.reserve b) }
+    ensures found { MatchOption result (HasNoFreeBut blocks.now at.old.reserve)
+        (λ b. IsLowestWithFree blocks.now at.old.reserve b) }
     ensures ahead { IsAhead blocks.now at.new }
     ensures reserve { at.new.reserve ≡ at.old.reserve }
 {
@@ -133,8 +145,11 @@ pub fn lowest_with_free(blocks: &[BlockState], at: &mut Cursors) -> Option<u16>
 /// The lowest-numbered block from `from` on and below `end`, but the reserve, that has a free slot.
 fn first_free(blocks: &[BlockState], from: u16, end: u16, reserve: u16) -> Option<u16>
     requires end { end ≤ length blocks.now }
-    ensures found { MatchOption result ((c : ℕ) → from ≤ c → c < end → c ≢ reserve → (in_block blocks.now c).free ≡ 0)
-        (λ b. (b < length blocks.now) × (from ≤ b) × (b ≢ reserve) × (0 < (in_block blocks.now b).free) × ((c : ℕ) → from ≤ c → c < b → c ≢ reserve → (in_block blocks.now c).free ≡ 0)) }
+    ensures found { MatchOption result
+        ((c : ℕ) → from ≤ c → c < end → c ≢ reserve → (in_block blocks.now c).free ≡ 0)
+        (λ b. (b < length blocks.now) × (from ≤ b) × (b ≢ reserve)
+        × (0 < (in_block blocks.now b).free)
+        × ((c : ℕ) → from ≤ c → c < b → c ≢ reserve → (in_block blocks.now c).free ≡ 0)) }
 {
     for block in from..end {
         let free = blocks[block as usize].free;
@@ -192,7 +207,8 @@ fn move_counts(blocks: &mut [BlockState], source: u16, target: u16)
     };
 }
 
-/// The highest-numbered wholly free block from `least` on and below `below`; `least` where there is none.
+/// The highest-numbered wholly free block from `least` on and below `below`; `least` where there is
+/// none.
 pub fn highest_whole(blocks: &[BlockState], least: u16, below: u16) -> u16
     requires least { least < below }
     requires below { below ≤ length blocks.now }
@@ -211,8 +227,8 @@ pub fn highest_whole(blocks: &[BlockState], least: u16, below: u16) -> u16
     least
 }
 
-/// The reserve once block `source` is wholly free, and the old one isn't. The search goes on from where it ended: no block becomes
-/// wholly free but such a source.
+/// The reserve once block `source` is wholly free, and the old one isn't. The search goes on from
+/// where it ended: no block becomes wholly free but such a source.
 fn next_reserve(blocks: &[BlockState], at: &mut Cursors, source: u16)
     requires source { source < length blocks.now }
     requires whole { IsWholeBlock (in_block blocks.now source) }
@@ -244,7 +260,8 @@ fn widen(at: &mut Cursors, block: u16)
     }
 }
 
-/// The blocks once one of them was copied into the reserve: their counts, and where the index looks next.
+/// The blocks once one of them was copied into the reserve: their counts, and where the index looks
+/// next.
 pub fn move_block(blocks: &mut [BlockState], at: &mut Cursors, source: u16)
     requires size { length blocks.old < 65536 }
     requires source { source < length blocks.old }
@@ -271,7 +288,8 @@ pub fn lowest_free(states: &[SlotState], blocks: &[BlockState], at: &mut Cursors
     requires size { length states.now < 65536 }
     requires states { length states.now ≡ 7 * length blocks.now }
     requires ahead { IsAhead blocks.now at.old }
-    ensures found { (m : List ℕ) → IsIndexOf states.now blocks.now at.old m → MatchOption result (HasNoneFree at.old.reserve m) (λ w. IsLowestFree w m) }
+    ensures found { (m : List ℕ) → IsIndexOf states.now blocks.now at.old m
+        → MatchOption result (HasNoneFree at.old.reserve m) (λ w. IsLowestFree w m) }
     ensures ahead { IsAhead blocks.now at.new }
     ensures reserve { at.new.reserve ≡ at.old.reserve }
 {
@@ -285,7 +303,8 @@ pub fn lowest_free(states: &[SlotState], blocks: &[BlockState], at: &mut Cursors
 fn first_place(states: &[SlotState], block: u16) -> Option<u16>
     requires size { length states.now < 65536 }
     requires block { 7 * block + 7 ≤ length states.now }
-    ensures found { MatchOption result (HasNoFreeState states.now block) (λ w. IsFirstFreeState states.now block w) }
+    ensures found { MatchOption result (HasNoFreeState states.now block)
+        (λ w. IsFirstFreeState states.now block w) }
 {
     for place in 0..7u16 {
         let slot = 7 * block + place;

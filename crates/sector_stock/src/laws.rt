@@ -1,4 +1,5 @@
-// What follows from the definitions, with no work at run time. Source: own.
+//! What follows from the definitions, with no work at run time. Source: own.
+
 ghost use Rattle.sector_stock.specs.Room.{NeverFull, SlotsOutnumberSectors, SoundMapsHaveRoom};
 
 /// Outside one block there are at least seven slots more than sectors.

@@ -1,13 +1,18 @@
-//! Where a store of sector slots gets its free slots from: an index of the slots in memory, and copying into a reserve.
+//! Where a store of sector slots gets its free slots from: an index of the slots in memory, and
+//! copying into a reserve.
 //!
-//! Promised: `Stock` is a store of slots with an index that is that of the memory while its flag says so (docs/INDEX.md); `fill`
-//! makes it from one read of each block. `take_free` always gives a slot, the lowest-numbered free one outside the reserve; where
-//! none is free, the block with the most dead slots is copied into the reserve first (docs/COPYING.md). `tidy` copies that block, and
-//! answers None exactly where no slot is dead. Either also tells which block was copied where: its live slots keep their places and
-//! tags. Cut anywhere, they leave slots and blocks that a mount accepts, and where what read as free was erased each sector as it was.
-//! `end_void`, `end_committed` and `end_erased` end a copying that a mount finds, and change no sector. No call takes memory.
+//! Promised: `Stock` is a store of slots with an index that is that of the memory while its flag
+//! says so (docs/INDEX.md); `fill` makes it from one read of each block. `take_free` always gives a
+//! slot, the lowest-numbered free one outside the reserve; where none is free, the block with the
+//! most dead slots is copied into the reserve first (docs/COPYING.md). `tidy` copies that block,
+//! and answers None exactly where no slot is dead. Either also tells which block was copied where:
+//! its live slots keep their places and tags. Cut anywhere, they leave slots and blocks that a
+//! mount accepts, and where what read as free was erased each sector as it was. `end_void`,
+//! `end_committed` and `end_erased` end a copying that a mount finds, and change no sector. No call
+//! takes memory.
 //!
-//! Left to the crate above: which slot holds which sector, and that no two live slots are of one sector. Source: own, layout 2.
+//! Left to the crate above: which slot holds which sector, and that no two live slots are of one
+//! sector. Source: own, layout 2.
 
 #![tactic(auto)]
 

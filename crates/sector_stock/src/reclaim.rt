@@ -1,13 +1,15 @@
 //! Where a store of slots gets its free slots from: the contract of `Stock`.
 
-ghost use Rattle.std.specs.Prelude.{◌≡◌, ◌≢◌, ◌⊎◌, ◌/◌, ◌<◌, ℕ, true, Some, None, length, OnOk, IfOk, IfErr};
+ghost use Rattle.std.specs.Prelude.{◌≡◌, ◌≢◌, ◌⊎◌, ◌/◌, ◌<◌, ℕ, true, Some, None, length, OnOk};
+ghost use Rattle.std.specs.Prelude.{IfOk, IfErr};
 ghost use Rattle.std.specs.Result.{IsErrOf};
-ghost use Rattle.nor_driver.specs.State.{IsReady};
+ghost use Rattle.nor_driver.specs.State.{IsNorReady, Refuses};
 ghost use Rattle.erase_journal.specs.Blocks.{SameChip};
 ghost use Rattle.erase_journal.specs.Journals.{IsHealthy, IsSettled};
+ghost use Rattle.erase_journal.specs.Steps.{SucceedsSettled};
 ghost use Rattle.sector_slots.specs.Slots.{Free, Live, Dead, slot_at, slot_count, IsClean, IsLive};
 ghost use Rattle.sector_slots.specs.Blocks.{IsReserveOf};
-ghost use Rattle.sector_slots.specs.Steps.{Succeeds, Refuses, IsWritable, PutLeaves, HoldsTag, MayHoldTag, OnlyPlace};
+ghost use Rattle.sector_slots.specs.Steps.{IsWritable, PutLeaves, HoldsTag, MayHoldTag, OnlyPlace};
 ghost use Rattle.sector_stock.specs.Room.{HasRoom, HasNoneDead};
 ghost use Rattle.sector_stock.specs.Copy.{Stays};
 ghost use Rattle.sector_stock.specs.Takes.{Takes, CopiesInto, dead_slots};
@@ -18,86 +20,120 @@ use nor_driver::NorError;
 use nor_layout::Tag;
 use sector_slots::SlotCalls;
 
-/// A store of slots with an index of them in memory, which `fill` makes and the other calls here keep; the calls of `SlotCalls` that
-/// change the memory don't. No call takes memory. Source: own, layout 2.
+/// A store of slots with an index of them in memory, which `fill` makes and the other calls here
+/// keep; the calls of `SlotCalls` that change the memory don't. No call takes memory. Source: own,
+/// layout 2.
 pub trait Reclaim: SlotCalls {
     /// Reads the kinds and descriptors of all blocks into the index.
     fn fill(&mut self) -> Result<(), NorError>
-        requires room { IsReady (Self.state self.old) → HasRoom (Self.state self.old).memory }
+        requires room { IsNorReady (Self.state self.old) → HasRoom (Self.state self.old).memory }
         ensures indexed { OnOk result (Self.indexed self.new ≡ true) }
         ensures same { (Self.state self.new).memory ≡ (Self.state self.old).memory }
-        ensures done { OnOk result (Succeeds (Self.state self.old) (Self.state self.new)) }
+        ensures done { OnOk result (SucceedsSettled (Self.state self.old) (Self.state self.new)) }
         ensures fails { IfErr result (λ e. Refuses e (Self.state self.old) (Self.state self.new)) };
 
-    /// The lowest-numbered free slot outside the reserve. Where none is free, the block with the most dead slots is copied into the
-    /// reserve first. There always is one. Cut, it leaves slots and blocks that a mount accepts, and the sectors as they were where
-    /// what read as free was erased.
+    /// The lowest-numbered free slot outside the reserve. Where none is free, the block with the
+    /// most dead slots is copied into the reserve first. There always is one. Cut, it leaves slots
+    /// and blocks that a mount accepts, and the sectors as they were where what read as free was
+    /// erased.
     fn take_free(&mut self) -> Result<Given, NorError>
-        requires ready { IsReady (Self.state self.old) }
+        requires ready { IsNorReady (Self.state self.old) }
         requires settled { IsSettled (Self.state self.old).memory }
         requires room { HasRoom (Self.state self.old).memory }
         requires indexed { Self.indexed self.old ≡ true }
-        ensures ok { IfOk result (λ given. Takes given.slot given.copied (Self.state self.old).memory (Self.state self.new).memory) }
-        ensures cut { IsErrOf result NorError.Cut → Stays (Self.state self.old).memory (Self.state self.new).memory }
+        ensures ok { IfOk result (λ given.
+            Takes given.slot given.copied (Self.state self.old).memory
+            (Self.state self.new).memory) }
+        ensures cut { IsErrOf result NorError.Cut
+            → Stays (Self.state self.old).memory (Self.state self.new).memory }
         ensures indexed { OnOk result (Self.indexed self.new ≡ true) }
         ensures healthy { IsErrOf result NorError.Cut → IsHealthy (Self.state self.new).memory }
         ensures size { length (Self.state self.new).memory ≡ length (Self.state self.old).memory }
-        ensures done { OnOk result (Succeeds (Self.state self.old) (Self.state self.new)) }
+        ensures done { OnOk result (SucceedsSettled (Self.state self.old) (Self.state self.new)) }
         ensures fails { IfErr result (λ e. Refuses e (Self.state self.old) (Self.state self.new)) };
 
-    /// Copies the block with the most dead slots, the lowest-numbered of equals, into the reserve: the blocks. Where no slot is dead
-    /// nothing changes: None. Cut, it leaves what `take_free` does.
+    /// Copies the block with the most dead slots, the lowest-numbered of equals, into the reserve:
+    /// the blocks. Where no slot is dead nothing changes: None. Cut, it leaves what `take_free`
+    /// does.
     fn tidy(&mut self) -> Result<Option<Copied>, NorError>
-        requires ready { IsReady (Self.state self.old) }
+        requires ready { IsNorReady (Self.state self.old) }
         requires settled { IsSettled (Self.state self.old).memory }
         requires room { HasRoom (Self.state self.old).memory }
         requires indexed { Self.indexed self.old ≡ true }
-        ensures copied { IfOk result (λ copied. (c : CopiedOf) → copied ≡ Some c → CopiesInto c.source c.target (Self.state self.old).memory (Self.state self.new).memory) }
-        ensures fewer { IfOk result (λ copied. (c : CopiedOf) → copied ≡ Some c → dead_slots (Self.state self.new).memory < dead_slots (Self.state self.old).memory) }
-        ensures none { IfOk result (λ copied. copied ≡ None → HasNoneDead (Self.state self.old).memory × ((Self.state self.new).memory ≡ (Self.state self.old).memory)) }
-        ensures cut { IsErrOf result NorError.Cut → Stays (Self.state self.old).memory (Self.state self.new).memory }
+        ensures copied { IfOk result (λ copied. (c : CopiedOf) → copied ≡ Some c
+            → CopiesInto c.source c.target (Self.state self.old).memory
+            (Self.state self.new).memory) }
+        ensures fewer { IfOk result (λ copied. (c : CopiedOf) → copied ≡ Some c
+            → dead_slots (Self.state self.new).memory < dead_slots (Self.state self.old).memory) }
+        ensures none { IfOk result (λ copied. copied ≡ None
+            → HasNoneDead (Self.state self.old).memory
+            × ((Self.state self.new).memory ≡ (Self.state self.old).memory)) }
+        ensures cut { IsErrOf result NorError.Cut
+            → Stays (Self.state self.old).memory (Self.state self.new).memory }
         ensures indexed { OnOk result (Self.indexed self.new ≡ true) }
         ensures healthy { IsErrOf result NorError.Cut → IsHealthy (Self.state self.new).memory }
         ensures size { length (Self.state self.new).memory ≡ length (Self.state self.old).memory }
-        ensures done { OnOk result (Succeeds (Self.state self.old) (Self.state self.new)) }
+        ensures done { OnOk result (SucceedsSettled (Self.state self.old) (Self.state self.new)) }
         ensures fails { IfErr result (λ e. Refuses e (Self.state self.old) (Self.state self.new)) };
 
     /// Writes a sector, 512 bytes, into a free slot outside the reserve, as `put` does.
     fn write(&mut self, slot: u16, tag: Tag, content: &[u8]) -> Result<(), NorError>
         requires number { slot < slot_count (Self.state self.old).memory }
         requires size { length content.now ≡ 512 }
-        requires free { IsReady (Self.state self.old) → slot_at (Self.state self.old).memory slot ≡ Free }
-        requires outside { IsReady (Self.state self.old) → (r : ℕ) → IsReserveOf r (Self.state self.old).memory → slot / 7 ≢ r }
-        requires indexed { IsReady (Self.state self.old) → Self.indexed self.old ≡ true }
-        ensures ok { OnOk result (IsWritable slot (Self.state self.old).memory → slot_at (Self.state self.new).memory slot ≡ Live tag content.now) }
-        ensures cut { IsErrOf result NorError.Cut → IsWritable slot (Self.state self.old).memory → PutLeaves tag content.now (slot_at (Self.state self.new).memory slot) }
-        ensures live { OnOk result (slot_at (Self.state self.old).memory slot ≡ Free → HoldsTag tag (slot_at (Self.state self.new).memory slot)) }
-        ensures cut_live { IsErrOf result NorError.Cut → slot_at (Self.state self.old).memory slot ≡ Free → MayHoldTag tag (slot_at (Self.state self.new).memory slot) }
-        ensures clean { OnOk result (IsWritable slot (Self.state self.old).memory → IsClean (Self.state self.new).memory) }
-        ensures cut_clean { IsErrOf result NorError.Cut → IsWritable slot (Self.state self.old).memory → IsClean (Self.state self.new).memory }
-        ensures only { OnOk result (OnlyPlace slot (Self.state self.old).memory (Self.state self.new).memory) }
-        ensures cut_only { IsErrOf result NorError.Cut → OnlyPlace slot (Self.state self.old).memory (Self.state self.new).memory }
+        requires free { IsNorReady (Self.state self.old)
+            → slot_at (Self.state self.old).memory slot ≡ Free }
+        requires outside { IsNorReady (Self.state self.old) → (r : ℕ)
+            → IsReserveOf r (Self.state self.old).memory → slot / 7 ≢ r }
+        requires indexed { IsNorReady (Self.state self.old) → Self.indexed self.old ≡ true }
+        ensures ok { OnOk result (IsWritable slot (Self.state self.old).memory
+            → slot_at (Self.state self.new).memory slot ≡ Live tag content.now) }
+        ensures cut { IsErrOf result NorError.Cut → IsWritable slot (Self.state self.old).memory
+            → PutLeaves tag content.now (slot_at (Self.state self.new).memory slot) }
+        ensures live { OnOk result (slot_at (Self.state self.old).memory slot ≡ Free
+            → HoldsTag tag (slot_at (Self.state self.new).memory slot)) }
+        ensures cut_live { IsErrOf result NorError.Cut
+            → slot_at (Self.state self.old).memory slot ≡ Free
+            → MayHoldTag tag (slot_at (Self.state self.new).memory slot) }
+        ensures clean { OnOk result (IsWritable slot (Self.state self.old).memory
+            → IsClean (Self.state self.new).memory) }
+        ensures cut_clean { IsErrOf result NorError.Cut
+            → IsWritable slot (Self.state self.old).memory → IsClean (Self.state self.new).memory }
+        ensures only { OnOk result (OnlyPlace slot (Self.state self.old).memory
+            (Self.state self.new).memory) }
+        ensures cut_only { IsErrOf result NorError.Cut
+            → OnlyPlace slot (Self.state self.old).memory (Self.state self.new).memory }
         ensures chip { SameChip (Self.state self.old).memory (Self.state self.new).memory }
-        ensures healthy { IsErrOf result NorError.Cut → IsHealthy (Self.state self.old).memory → IsHealthy (Self.state self.new).memory }
+        ensures healthy { IsErrOf result NorError.Cut → IsHealthy (Self.state self.old).memory
+            → IsHealthy (Self.state self.new).memory }
         ensures indexed { OnOk result (Self.indexed self.new ≡ true) }
-        ensures done { OnOk result (Succeeds (Self.state self.old) (Self.state self.new)) }
+        ensures done { OnOk result (SucceedsSettled (Self.state self.old) (Self.state self.new)) }
         ensures fails { IfErr result (λ e. Refuses e (Self.state self.old) (Self.state self.new)) };
 
     /// Makes a live slot dead, as `retire` does.
     fn release(&mut self, slot: u16) -> Result<(), NorError>
         requires number { slot < slot_count (Self.state self.old).memory }
-        requires live { IsReady (Self.state self.old) → IsLive (slot_at (Self.state self.old).memory slot) }
-        requires indexed { IsReady (Self.state self.old) → Self.indexed self.old ≡ true }
+        requires live { IsNorReady (Self.state self.old)
+            → IsLive (slot_at (Self.state self.old).memory slot) }
+        requires indexed { IsNorReady (Self.state self.old) → Self.indexed self.old ≡ true }
         ensures ok { OnOk result (slot_at (Self.state self.new).memory slot ≡ Dead) }
-        ensures cut { IsErrOf result NorError.Cut → IsLive (slot_at (Self.state self.old).memory slot)
-            → (slot_at (Self.state self.new).memory slot ≡ slot_at (Self.state self.old).memory slot) ⊎ (slot_at (Self.state self.new).memory slot ≡ Dead) }
-        ensures clean { OnOk result (IsClean (Self.state self.old).memory → IsClean (Self.state self.new).memory) }
-        ensures cut_clean { IsErrOf result NorError.Cut → IsLive (slot_at (Self.state self.old).memory slot) → IsClean (Self.state self.old).memory → IsClean (Self.state self.new).memory }
-        ensures only { OnOk result (OnlyPlace slot (Self.state self.old).memory (Self.state self.new).memory) }
-        ensures cut_only { IsErrOf result NorError.Cut → OnlyPlace slot (Self.state self.old).memory (Self.state self.new).memory }
+        ensures cut { IsErrOf result NorError.Cut
+            → IsLive (slot_at (Self.state self.old).memory slot)
+            → (slot_at (Self.state self.new).memory slot
+            ≡ slot_at (Self.state self.old).memory slot)
+            ⊎ (slot_at (Self.state self.new).memory slot ≡ Dead) }
+        ensures clean { OnOk result (IsClean (Self.state self.old).memory
+            → IsClean (Self.state self.new).memory) }
+        ensures cut_clean { IsErrOf result NorError.Cut
+            → IsLive (slot_at (Self.state self.old).memory slot)
+            → IsClean (Self.state self.old).memory → IsClean (Self.state self.new).memory }
+        ensures only { OnOk result (OnlyPlace slot (Self.state self.old).memory
+            (Self.state self.new).memory) }
+        ensures cut_only { IsErrOf result NorError.Cut
+            → OnlyPlace slot (Self.state self.old).memory (Self.state self.new).memory }
         ensures chip { SameChip (Self.state self.old).memory (Self.state self.new).memory }
-        ensures healthy { IsErrOf result NorError.Cut → IsHealthy (Self.state self.old).memory → IsHealthy (Self.state self.new).memory }
+        ensures healthy { IsErrOf result NorError.Cut → IsHealthy (Self.state self.old).memory
+            → IsHealthy (Self.state self.new).memory }
         ensures indexed { OnOk result (Self.indexed self.new ≡ true) }
-        ensures done { OnOk result (Succeeds (Self.state self.old) (Self.state self.new)) }
+        ensures done { OnOk result (SucceedsSettled (Self.state self.old) (Self.state self.new)) }
         ensures fails { IfErr result (λ e. Refuses e (Self.state self.old) (Self.state self.new)) };
 }

@@ -1,11 +1,15 @@
 //! The index of a memory, from the kinds and descriptors of its blocks.
 
-ghost use Rattle.std.specs.Prelude.{◌≡◌, ◌+◌, ◌*◌, ◌<◌, ◌≤◌, length, ℕ, OnOk, IfOk, IfErr, if◌then◌else◌};
-ghost use Rattle.nor_driver.specs.State.{IsReady};
+ghost use Rattle.std.specs.Prelude.{◌≡◌, ◌+◌, ◌*◌, ◌<◌, ◌≤◌, length, ℕ, OnOk, IfOk, IfErr};
+ghost use Rattle.std.specs.Prelude.{if◌then◌else◌};
+ghost use Rattle.nor_driver.specs.State.{IsNorReady, Refuses};
+ghost use Rattle.erase_journal.specs.Steps.{SucceedsSettled};
 ghost use Rattle.sector_slots.specs.Slots.{slot_count, data_blocks};
 ghost use Rattle.sector_slots.specs.Blocks.{AreSettled};
-ghost use Rattle.sector_slots.specs.Steps.{Succeeds, Refuses};
-ghost use Rattle.sector_stock.specs.Index.{IsAhead, IsHighestWhole, IsWholeBlock, IsIndexOf, BlockNoted, StatesNoted, in_block, header_state, is_plain as is_plain_kind, is_free_state, is_dead_state, states_tally};
+ghost use Rattle.sector_stock.specs.Index.{IsAhead, IsHighestWhole, IsWholeBlock, IsIndexOf};
+ghost use Rattle.sector_stock.specs.Index.{BlockNoted, StatesNoted, in_block, header_state};
+ghost use Rattle.sector_stock.specs.Index.{is_plain as is_plain_kind, is_free_state, is_dead_state};
+ghost use Rattle.sector_stock.specs.Index.{states_tally};
 
 use crate::index::{BlockState, Cursors, SlotState, highest_whole};
 use nor_driver::NorError;
@@ -15,8 +19,8 @@ use sector_slots::SlotCalls;
 /// The slots of a block.
 const PLACES: usize = 7;
 
-/// Makes the index of a memory in which no copying goes on: each block is read once. The lists are those of an index of this chip,
-/// whatever they hold. Source: own, layout 2.
+/// Makes the index of a memory in which no copying goes on: each block is read once. The lists are
+/// those of an index of this chip, whatever they hold. Source: own, layout 2.
 pub fn fill_index<S: SlotCalls>(
     slots: &mut S,
     states: &mut [SlotState],
@@ -24,12 +28,12 @@ pub fn fill_index<S: SlotCalls>(
 ) -> Result<Cursors, NorError>
     requires states_size { length states.old ≡ slot_count (S.state slots.old).memory }
     requires blocks_size { length blocks.old ≡ data_blocks (S.state slots.old).memory }
-    requires settled { IsReady (S.state slots.old) → AreSettled (S.state slots.old).memory }
+    requires settled { IsNorReady (S.state slots.old) → AreSettled (S.state slots.old).memory }
     ensures ok { IfOk result (λ at. IsIndexOf states.new blocks.new at (S.state slots.new).memory) }
     ensures states_size { length states.new ≡ length states.old }
     ensures blocks_size { length blocks.new ≡ length blocks.old }
     ensures same { (S.state slots.new).memory ≡ (S.state slots.old).memory }
-    ensures done { OnOk result (Succeeds (S.state slots.old) (S.state slots.new)) }
+    ensures done { OnOk result (SucceedsSettled (S.state slots.old) (S.state slots.new)) }
     ensures fails { IfErr result (λ e. Refuses e (S.state slots.old) (S.state slots.new)) }
 {
     let count = slots.blocks();

@@ -1,5 +1,8 @@
-ghost use Rattle.std.specs.Prelude.{◌≡◌, ◌≢◌, ◌<◌, ℕ, List, false, true, Some, None, length, OnOk, IfOk, IfErr};
-ghost use Rattle.nor_driver.specs.State.{IsReady};
+//! Slots with their index.
+
+ghost use Rattle.std.specs.Prelude.{◌≡◌, ◌≢◌, ◌<◌, ℕ, List, false, true, Some, None, length, OnOk};
+ghost use Rattle.std.specs.Prelude.{IfOk, IfErr};
+ghost use Rattle.nor_driver.specs.State.{IsNorReady};
 ghost use Rattle.erase_journal.specs.Journals.{IsSettled};
 ghost use Rattle.sector_slots.specs.Slots.{slot_count, data_blocks};
 ghost use Rattle.sector_stock.specs.Index.{IsStocked};
@@ -15,8 +18,9 @@ use nor_driver::{Nor, NorError};
 use nor_layout::{Header, Kind, Tag};
 use sector_slots::SlotCalls;
 
-/// A store of slots, and an index of them in memory: the state of each slot, the counts of each block, and where to look next.
-/// While the flag `indexed` is set the index is that of the memory. Source: own, layout 2.
+/// A store of slots, and an index of them in memory: the state of each slot, the counts of each
+/// block, and where to look next. While the flag `indexed` is set the index is that of the memory.
+/// Source: own, layout 2.
 #[derive(Drop)]
 pub struct Stock<N: Nor> {
     slots: SectorSlots<N>,
@@ -28,7 +32,8 @@ pub struct Stock<N: Nor> {
 }
 
 impl<N: Nor> Stock<N> {
-    /// A store whose index has still to be made. The lists have a place for each slot and for each data block, and may hold anything.
+    /// A store whose index has still to be made. The lists have a place for each slot and for each
+    /// data block, and may hold anything.
     pub fn new(slots: SectorSlots<N>, states: Vec<SlotState>, blocks: Vec<BlockState>) -> Stock<N>
         requires states_size { length states.items ≡ slot_count slots.memory }
         requires blocks_size { length blocks.items ≡ data_blocks slots.memory }

@@ -3,9 +3,9 @@
 ghost use Rattle.std.specs.Prelude.{◌≡◌, ◌≢◌, ◌<◌, ℕ, List, Some, None, length, OnOk, IfOk, IfErr};
 ghost use Rattle.std.specs.Result.{IsErrOf};
 ghost use Rattle.chip_model.specs.Geometry.{IsChipSize};
-ghost use Rattle.nor_driver.specs.State.{IsReady};
+ghost use Rattle.nor_driver.specs.State.{IsNorReady, Refuses};
 ghost use Rattle.erase_journal.specs.Journals.{IsHealthy, IsSettled};
-ghost use Rattle.sector_slots.specs.Steps.{Succeeds, Refuses};
+ghost use Rattle.erase_journal.specs.Steps.{SucceedsSettled};
 ghost use Rattle.sector_stock.specs.Room.{HasRoom, HasNoneDead, HasNoneFree};
 ghost use Rattle.sector_stock.specs.Copy.{Stays};
 ghost use Rattle.sector_stock.specs.Index.{IsIndexOf, IsMostDead};
@@ -20,7 +20,8 @@ use crate::index::{
 use nor_driver::NorError;
 use sector_slots::SlotCalls;
 
-/// Copies the block with the most dead slots into the reserve, and brings the index up to date. A slot is free afterwards.
+/// Copies the block with the most dead slots into the reserve, and brings the index up to date. A
+/// slot is free afterwards.
 fn copy_most<S: SlotCalls>(
     slots: &mut S,
     states: &mut [SlotState],
@@ -32,16 +33,21 @@ fn copy_most<S: SlotCalls>(
     requires index { IsIndexOf states.old blocks.old at.old (S.state slots.old).memory }
     requires room { HasRoom (S.state slots.old).memory }
     requires most { IsMostDead blocks.old source }
-    ensures ok { IfOk result (λ c. CopiesInto c.source c.target (S.state slots.old).memory (S.state slots.new).memory) }
-    ensures fewer { OnOk result (dead_slots (S.state slots.new).memory < dead_slots (S.state slots.old).memory) }
-    ensures index { OnOk result (IsIndexOf states.new blocks.new at.new (S.state slots.new).memory) }
+    ensures ok { IfOk result (λ c. CopiesInto c.source c.target (S.state slots.old).memory
+        (S.state slots.new).memory) }
+    ensures fewer { OnOk result (dead_slots (S.state slots.new).memory
+        < dead_slots (S.state slots.old).memory) }
+    ensures index { OnOk result (IsIndexOf states.new blocks.new at.new
+        (S.state slots.new).memory) }
     ensures free { OnOk result (HasNoneFree at.new.reserve (S.state slots.new).memory → ⊥) }
-    ensures cut { IsErrOf result NorError.Cut → IsHealthy (S.state slots.old).memory → Stays (S.state slots.old).memory (S.state slots.new).memory }
-    ensures healthy { IsErrOf result NorError.Cut → IsHealthy (S.state slots.old).memory → IsHealthy (S.state slots.new).memory }
+    ensures cut { IsErrOf result NorError.Cut → IsHealthy (S.state slots.old).memory
+        → Stays (S.state slots.old).memory (S.state slots.new).memory }
+    ensures healthy { IsErrOf result NorError.Cut → IsHealthy (S.state slots.old).memory
+        → IsHealthy (S.state slots.new).memory }
     ensures size { length (S.state slots.new).memory ≡ length (S.state slots.old).memory }
     ensures states_size { length states.new ≡ length states.old }
     ensures blocks_size { length blocks.new ≡ length blocks.old }
-    ensures done { OnOk result (Succeeds (S.state slots.old) (S.state slots.new)) }
+    ensures done { OnOk result (SucceedsSettled (S.state slots.old) (S.state slots.new)) }
     ensures fails { IfErr result (λ e. Refuses e (S.state slots.old) (S.state slots.new)) }
 {
     let target = at.reserve;
@@ -59,18 +65,21 @@ pub fn take_in<S: SlotCalls>(
     at: &mut Cursors,
 ) -> Result<Given, NorError>
     requires sized { IsChipSize (length (S.state slots.old).memory) }
-    requires ready { IsReady (S.state slots.old) }
+    requires ready { IsNorReady (S.state slots.old) }
     requires settled { IsSettled (S.state slots.old).memory }
     requires index { IsIndexOf states.old blocks.old at.old (S.state slots.old).memory }
     requires room { HasRoom (S.state slots.old).memory }
-    ensures ok { IfOk result (λ given. Takes given.slot given.copied (S.state slots.old).memory (S.state slots.new).memory) }
-    ensures index { OnOk result (IsIndexOf states.new blocks.new at.new (S.state slots.new).memory) }
-    ensures cut { IsErrOf result NorError.Cut → Stays (S.state slots.old).memory (S.state slots.new).memory }
+    ensures ok { IfOk result (λ given.
+        Takes given.slot given.copied (S.state slots.old).memory (S.state slots.new).memory) }
+    ensures index { OnOk result (IsIndexOf states.new blocks.new at.new
+        (S.state slots.new).memory) }
+    ensures cut { IsErrOf result NorError.Cut
+        → Stays (S.state slots.old).memory (S.state slots.new).memory }
     ensures healthy { IsErrOf result NorError.Cut → IsHealthy (S.state slots.new).memory }
     ensures size { length (S.state slots.new).memory ≡ length (S.state slots.old).memory }
     ensures states_size { length states.new ≡ length states.old }
     ensures blocks_size { length blocks.new ≡ length blocks.old }
-    ensures done { OnOk result (Succeeds (S.state slots.old) (S.state slots.new)) }
+    ensures done { OnOk result (SucceedsSettled (S.state slots.old) (S.state slots.new)) }
     ensures fails { IfErr result (λ e. Refuses e (S.state slots.old) (S.state slots.new)) }
 {
     if let Some(slot) = lowest_free(states, blocks, at) {
@@ -97,20 +106,26 @@ pub fn tidy_in<S: SlotCalls>(
     at: &mut Cursors,
 ) -> Result<Option<Copied>, NorError>
     requires sized { IsChipSize (length (S.state slots.old).memory) }
-    requires ready { IsReady (S.state slots.old) }
+    requires ready { IsNorReady (S.state slots.old) }
     requires settled { IsSettled (S.state slots.old).memory }
     requires index { IsIndexOf states.old blocks.old at.old (S.state slots.old).memory }
     requires room { HasRoom (S.state slots.old).memory }
-    ensures copied { IfOk result (λ copied. (c : CopiedOf) → copied ≡ Some c → CopiesInto c.source c.target (S.state slots.old).memory (S.state slots.new).memory) }
-    ensures fewer { IfOk result (λ copied. (c : CopiedOf) → copied ≡ Some c → dead_slots (S.state slots.new).memory < dead_slots (S.state slots.old).memory) }
-    ensures none { IfOk result (λ copied. copied ≡ None → HasNoneDead (S.state slots.old).memory × ((S.state slots.new).memory ≡ (S.state slots.old).memory)) }
-    ensures index { OnOk result (IsIndexOf states.new blocks.new at.new (S.state slots.new).memory) }
-    ensures cut { IsErrOf result NorError.Cut → Stays (S.state slots.old).memory (S.state slots.new).memory }
+    ensures copied { IfOk result (λ copied. (c : CopiedOf) → copied ≡ Some c
+        → CopiesInto c.source c.target (S.state slots.old).memory (S.state slots.new).memory) }
+    ensures fewer { IfOk result (λ copied. (c : CopiedOf) → copied ≡ Some c
+        → dead_slots (S.state slots.new).memory < dead_slots (S.state slots.old).memory) }
+    ensures none { IfOk result (λ copied. copied ≡ None
+        → HasNoneDead (S.state slots.old).memory
+        × ((S.state slots.new).memory ≡ (S.state slots.old).memory)) }
+    ensures index { OnOk result (IsIndexOf states.new blocks.new at.new
+        (S.state slots.new).memory) }
+    ensures cut { IsErrOf result NorError.Cut
+        → Stays (S.state slots.old).memory (S.state slots.new).memory }
     ensures healthy { IsErrOf result NorError.Cut → IsHealthy (S.state slots.new).memory }
     ensures size { length (S.state slots.new).memory ≡ length (S.state slots.old).memory }
     ensures states_size { length states.new ≡ length states.old }
     ensures blocks_size { length blocks.new ≡ length blocks.old }
-    ensures done { OnOk result (Succeeds (S.state slots.old) (S.state slots.new)) }
+    ensures done { OnOk result (SucceedsSettled (S.state slots.old) (S.state slots.new)) }
     ensures fails { IfErr result (λ e. Refuses e (S.state slots.old) (S.state slots.new)) }
 {
     match most_dead(blocks, at) {

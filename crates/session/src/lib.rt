@@ -1,17 +1,19 @@
 //! One connection's bytes, made into replies and commands.
 //!
-//! Promised: `Session::take` answers the units of a connection's text one by one, in order, however its bytes are cut into
-//! pieces: a flag word, an option or a refused request by the reply that `reply` then lends, an accepted command by handing
-//! it out with the payload that `buffer` then lends, and the last unit by a close. More comes only where all bytes were
-//! used. `finish` makes the reply of the command that ran; of a READ without an error it is head and data in one slice.
-//! A session is opened with all its buffers, and takes no memory afterwards; `reset` makes it as just opened. `requesting`
-//! opens one whose negotiation is over.
+//! Promised: `Session::take` answers the units of a connection's text one by one, in order, however
+//! its bytes are cut into pieces: a flag word, an option or a refused request by the reply that
+//! `reply` then lends, an accepted command by handing it out with the payload that `buffer` then
+//! lends, and the last unit by a close. More comes only where all bytes were used. `finish` makes
+//! the reply of the command that ran; of a READ without an error it is head and data in one slice.
+//! A session is opened with all its buffers, and takes no memory afterwards; `reset` makes it as
+//! just opened. `requesting` opens one whose negotiation is over.
 //!
-//! Left to the crate above: to send each reply before the next `take`, to run the commands, to fill a READ's buffer, and to
-//! call again with the bytes that were not used. A command that is not finished is forgotten at the next `take`.
+//! Left to the crate above: to send each reply before the next `take`, to run the commands, to fill
+//! a READ's buffer, and to call again with the bytes that were not used. A command that is not
+//! finished is forgotten at the next `take`.
 //!
-//! Source: NBD proto.md; the limits are own. `parts` says what a text comes to and `parts_laws` how it grows,
-//! `buffer_laws` what a write to the buffer leaves.
+//! Source: NBD proto.md; the limits are own. `IsPartsOf` says what a text comes to and `parts_laws`
+//! how it grows, `buffer_laws` what a write to the buffer leaves.
 #![tactic(auto)]
 
 mod laws;

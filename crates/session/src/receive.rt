@@ -1,18 +1,21 @@
 //! Requests, and their payload on its way into the buffer.
 
-ghost use Rattle.std.specs.Prelude.{◌≡◌, ◌+◌, ◌-◌, ◌<◌, ◌≤◌, ◌++◌, ℕ, List, Some, length, take, drop};
+ghost use Rattle.std.specs.Prelude.{◌≡◌, ◌+◌, ◌-◌, ◌<◌, ◌≤◌, ◌++◌, ℕ, List, Some, length, take};
+ghost use Rattle.std.specs.Prelude.{drop};
 ghost use Rattle.nbd_wire.specs.Heads.{reply_bytes};
-ghost use Rattle.nbd_wire.specs.Standing.{Keeps};
-ghost use Rattle.nbd_transmission.specs.Standing.{Advances};
-ghost use Rattle.nbd_transmission.specs.Taking.{payload_of, IsAccepted};
-ghost use Rattle.session.specs.Lent.{lent_len, data_len};
-ghost use Rattle.session.specs.Line.{IsHolding, HoldsAfter};
+ghost use Rattle.nbd_wire.specs.Parser.{HoldsRest};
+ghost use Rattle.nbd_transmission.specs.Parser.{TransmissionAdvances};
+ghost use Rattle.nbd_transmission.specs.Taking.{payload_of, IsAcceptedRequest};
+ghost use Rattle.nbd_wire.specs.Lent.{data_len};
+ghost use Rattle.session.specs.Lent.{lent_now};
+ghost use Rattle.session.specs.Sessions.{IsHolding, HoldsAfter};
 
 use crate::session::STORE_LEN;
 use nbd_transmission::{Next, Taken, Transmission};
 use nbd_wire::{Command, CommandKind, MAX_LEN, REPLY_LEN, REQUEST_LEN, Reply, put};
 
-/// Takes bytes of at most one request, and puts those that are payload behind the `filled` bytes of it that have come.
+/// Takes bytes of at most one request, and puts those that are payload behind the `filled` bytes of
+/// it that have come.
 pub(crate) fn receive(
     parser: &mut Transmission,
     store: &mut [u8],
@@ -25,16 +28,19 @@ pub(crate) fn receive(
     ensures more { result.next ≡ Next.More → result.used ≡ length bytes.now }
     ensures progress { 0 < length bytes.now → 0 < result.used }
     ensures sectors { parser.new.sectors ≡ parser.old.sectors }
-    ensures accepted { IsAccepted parser.old.sectors result.next }
+    ensures accepted { IsAcceptedRequest parser.old.sectors result.next }
     ensures fits { filled + result.payload ≤ MAX_LEN }
     ensures holds { HoldsAfter result.next parser.new (filled + result.payload) }
     ensures stored { take (filled + result.payload) (drop REPLY_LEN store.new)
-        ≡ take filled (drop REPLY_LEN store.old) ++ drop (result.used - result.payload) (take result.used bytes.now) }
-    ensures step { (rest : List ℕ) → Keeps REQUEST_LEN parser.old rest
-        → Advances parser.old (rest ++ take result.used bytes.now) result.next parser.new }
-    ensures part { (rest : List ℕ) → Keeps REQUEST_LEN parser.old rest
+        ≡ take filled (drop REPLY_LEN store.old)
+        ++ drop (result.used - result.payload) (take result.used bytes.now) }
+    ensures step { (rest : List ℕ) → HoldsRest REQUEST_LEN parser.old rest
+        → TransmissionAdvances parser.old (rest ++ take result.used bytes.now) result.next
+        parser.new }
+    ensures part { (rest : List ℕ) → HoldsRest REQUEST_LEN parser.old rest
         → payload_of parser.old.sectors (rest ++ take result.used bytes.now)
-        ≡ payload_of parser.old.sectors rest ++ drop (result.used - result.payload) (take result.used bytes.now) }
+        ≡ payload_of parser.old.sectors rest
+        ++ drop (result.used - result.payload) (take result.used bytes.now) }
 {
     let taken = parser.take(bytes);
     let part = &bytes[taken.used - taken.payload..taken.used];
@@ -42,7 +48,8 @@ pub(crate) fn receive(
     taken
 }
 
-/// Writes a simple reply's head at the front of the buffer, and answers its length. What stands behind it stays.
+/// Writes a simple reply's head at the front of the buffer, and answers its length. What stands
+/// behind it stays.
 pub(crate) fn put_head(store: &mut [u8], reply: Reply) -> usize
     requires { REPLY_LEN ≤ length store.old }
     ensures len { result ≡ REPLY_LEN }
@@ -56,7 +63,7 @@ pub(crate) fn put_head(store: &mut [u8], reply: Reply) -> usize
 
 /// How many bytes are lent to the command that runs.
 pub(crate) fn lent_len(running: Option<Command>) -> usize
-    ensures { result ≡ lent_len running }
+    ensures { result ≡ lent_now running }
 {
     let Some(command) = running else {
         return 0;

@@ -2,7 +2,7 @@
 
 ghost use Rattle.std.specs.Prelude.{◌≡◌, ◌+◌, ◌≤◌, Some, length};
 ghost use Rattle.nbd_transmission.specs.Apply.{reply_to};
-ghost use Rattle.session.specs.Line.{IsRunning, reply_of};
+ghost use Rattle.session.specs.Sessions.{IsRunning, reply_of};
 
 use crate::laws::buffer_laws;
 use crate::next::{Next, OpenError, Taken};
@@ -21,8 +21,8 @@ const BEGIN: &str = "00000003 49484156454F5054 00000007 0000000B 00000005 666C61
 const BEGUN: &str =
     "0003E889045565A9 00000007 00000003 0000000C 0000 0000000000008C00 010D 0003E889045565A9 00000007 00000003 0000000E 0003 00000200 00001000 00010000 0003E889045565A9 00000007 00000001 00000000";
 
-/// Sends a text in pieces of at most `most` bytes to a session just opened or reset, runs its commands over a disk, and
-/// compares all replies and what comes last.
+/// Sends a text in pieces of at most `most` bytes to a session just opened or reset, runs its
+/// commands over a disk, and compares all replies and what comes last.
 fn check<R: Abort>(
     rt: &R,
     alloc: Global,
@@ -79,7 +79,8 @@ fn run(session: &mut Session, command: &Command, disk: &mut [u8]) -> u32 {
     0
 }
 
-/// Answers a READ from contents: what a caller does with a buffer, and what it then knows of the reply.
+/// Answers a READ from contents: what a caller does with a buffer, and what it then knows of the
+/// reply.
 fn answer_read(session: &mut Session, command: &Command, contents: &[u8])
     requires running { IsRunning session.old.sectors command.now session.old }
     requires kind { command.now.kind ≡ CommandKind.Read }
@@ -103,7 +104,8 @@ fn name(next: Next) -> &'static str {
     }
 }
 
-/// The bytes that a text spells: words of hexadecimal digits, and `BYTE*COUNT` for a byte so many times.
+/// The bytes that a text spells: words of hexadecimal digits, and `BYTE*COUNT` for a byte so many
+/// times.
 fn bytes_of(alloc: Global, text: &str) -> Result<Vec<u8>, Fail> {
     let mut bytes = Vec::new(alloc);
     for word in text.split(' ') {
@@ -256,7 +258,8 @@ fn options_are_answered(rt: HostRuntime) -> Result<(), Fail> {
 
 #[test]
 fn a_client_asks_before_it_begins(rt: HostRuntime) -> Result<(), Fail> {
-    // STRUCTURED_REPLY, INFO `flash` with the type INFO_BLOCK_SIZE, GO of the empty name, READ of the last sector
+    // STRUCTURED_REPLY, INFO `flash` with the type INFO_BLOCK_SIZE, GO of the empty name, READ of
+    // the last sector
     check_all(
         &rt,
         rt.alloc(),
@@ -489,7 +492,17 @@ fn a_finished_command_is_replied(rt: HostRuntime) -> Result<(), Fail> {
     // without a command there is no reply
     session.finish(0);
     assert!(&rt; session.reply().is_empty());
-    // a command that isn't finished is forgotten
+    assert_eq!(&rt; name(session.take(&READ_REQUEST).next), "Run");
+    Ok(())
+}
+
+#[test]
+fn a_command_that_is_not_finished_is_forgotten(rt: HostRuntime) -> Result<(), Fail> {
+    let alloc = rt.alloc();
+    let Ok(mut session) = Session::open(alloc, 70) else {
+        return Err(Fail::from("no memory"));
+    };
+    check(&rt, alloc, &mut session, usize::MAX, BEGIN, BEGUN, "Reply")?;
     assert_eq!(&rt; name(session.take(&READ_REQUEST).next), "Run");
     assert_eq!(&rt; name(session.take(&READ_REQUEST[..27]).next), "More");
     assert!(&rt; session.buffer().is_empty());

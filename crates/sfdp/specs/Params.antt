@@ -1,13 +1,16 @@
--- The parameters that a list of SFDP bytes gives, or why it gives none.
--- Source: JESD216 for the header, the parameter headers and the words of the basic table; the order of the rules is own.
-use Rattle.std.specs.Prelude.{ℕ, zero, suc, ◌+◌, ◌*◌, ◌/◌, ◌%◌, ◌^◌, Bool, not, ◌&&◌, ◌||◌, if◌then◌else◌, nat_lt, ◌==◌, List, length, slice_index, Option, Some, None, Result, Ok, Err}
+-- The parameters that a list of SFDP bytes gives, or why it gives none. Source: JESD216 for the
+-- header, the parameter headers and the words of the basic table; the order of the rules is own.
+use Rattle.std.specs.Prelude.{ℕ, zero, suc, ◌+◌, ◌*◌, ◌/◌, ◌%◌, ◌^◌, Bool, not, ◌&&◌, ◌||◌}
+use Rattle.std.specs.Prelude.{if◌then◌else◌, nat_lt, ◌==◌, List, length, slice_index, Option, Some}
+use Rattle.std.specs.Prelude.{None, Result, Ok, Err}
 use Rattle.sfdp.specs.declared.params.Params.{Params}
 use Rattle.sfdp.specs.declared.error.SfdpError.{SfdpError}
 use Rattle.sfdp.specs.declared.error.SfdpError.TheVariants as refusals
 
 -- `53 46 44 50`, the letters SFDP
 abbrev pub has_signature : List ℕ → Bool
-has_signature b = (slice_index b 0 == 83) && (slice_index b 1 == 70) && (slice_index b 2 == 68) && (slice_index b 3 == 80)
+has_signature b = (slice_index b 0 == 83) && (slice_index b 1 == 70) && (slice_index b 2 == 68)
+    && (slice_index b 3 == 80)
 
 -- how many parameter headers there are: byte 6 is their number less one
 abbrev pub headers : List ℕ → ℕ
@@ -32,17 +35,20 @@ words_of b k = slice_index b (header_at k + 3)
 
 -- where a header's table begins: three bytes, the least significant first
 abbrev pub pointer_of : List ℕ → ℕ → ℕ
-pointer_of b k = slice_index b (header_at k + 4) + 256 * slice_index b (header_at k + 5) + 65536 * slice_index b (header_at k + 6)
+pointer_of b k = slice_index b (header_at k + 4) + 256 * slice_index b (header_at k + 5)
+    + 65536 * slice_index b (header_at k + 6)
 
 -- the number that the four bytes from a place on make, the least significant first
 abbrev pub number_at : List ℕ → ℕ → ℕ
-number_at b i = slice_index b i + 256 * slice_index b (i + 1) + 65536 * slice_index b (i + 2) + 16777216 * slice_index b (i + 3)
+number_at b i = slice_index b i + 256 * slice_index b (i + 1) + 65536 * slice_index b (i + 2)
+    + 16777216 * slice_index b (i + 3)
 
 -- word 2 of the table at `at`; where bit 31 is clear, the chip's size in bits less one
 abbrev pub density : List ℕ → ℕ → ℕ
 density b at = number_at b (at + 4)
 
--- bit 31 is clear, and the size is a multiple of 64 KiB (524,288 bits) from 64 KiB to 16 MiB (134,217,728 bits)
+-- bit 31 is clear, and the size is a multiple of 64 KiB (524,288 bits) from 64 KiB to 16 MiB
+-- (134,217,728 bits)
 abbrev pub is_size : ℕ → Bool
 is_size d = nat_lt d (2 ^ 31) && ((d + 1) % 524288 == 0) && nat_lt d 134217728
 
@@ -52,14 +58,17 @@ page_exponent b at = slice_index b (at + 40) / 16
 
 -- words 8 and 9 are four pairs, a size exponent and a code: one of them is this one
 abbrev pub is_pair : List ℕ → ℕ → ℕ → ℕ → ℕ → Bool
-is_pair b at exponent code k = (slice_index b (at + 28 + 2 * k) == exponent) && (slice_index b (at + 29 + 2 * k) == code)
+is_pair b at exponent code k = (slice_index b (at + 28 + 2 * k) == exponent)
+    && (slice_index b (at + 29 + 2 * k) == code)
 
 abbrev pub has_pair : List ℕ → ℕ → ℕ → ℕ → Bool
-has_pair b at exponent code = is_pair b at exponent code 0 || is_pair b at exponent code 1 || is_pair b at exponent code 2 || is_pair b at exponent code 3
+has_pair b at exponent code = is_pair b at exponent code 0 || is_pair b at exponent code 1
+    || is_pair b at exponent code 2 || is_pair b at exponent code 3
 
 -- word 1: bits 1 and 0 are 01, bits 15 to 8 are the code 20h; and a pair has it for 4 KiB
 abbrev pub has_small_erase : List ℕ → ℕ → Bool
-has_small_erase b at = (slice_index b at % 4 == 1) && (slice_index b (at + 1) == 32) && has_pair b at 12 32
+has_small_erase b at = (slice_index b at % 4 == 1) && (slice_index b (at + 1) == 32)
+    && has_pair b at 12 32
 
 -- word 1, bits 18 and 17: 0 where addresses have three bytes only
 abbrev pub address_bits : List ℕ → ℕ → ℕ

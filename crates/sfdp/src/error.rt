@@ -1,3 +1,5 @@
+//! Why a list of SFDP bytes gives no parameters.
+
 /// Why a list of SFDP bytes gives no parameters.
 #[derive(Clone, Copy, Debug, PartialEq, Eq)]
 pub enum SfdpError {
@@ -5,7 +7,8 @@ pub enum SfdpError {
     Signature,
     /// No parameter header has the id of the basic table, FF00h.
     NoBasicTable,
-    /// The header, a parameter header or the basic table reaches past the end, or the table has fewer than 9 words.
+    /// The header, a parameter header or the basic table reaches past the end, or the table has
+    /// fewer than 9 words.
     Short,
     /// The size isn't a multiple of 64 KiB from 64 KiB to 16 MiB.
     Density,

@@ -1,4 +1,5 @@
-// The header and the parameter headers.
+//! The header and the parameter headers.
+
 ghost use Rattle.std.specs.Prelude.{◌≡◌, ◌+◌, ◌*◌, ◌<◌, ◌≤◌, IfSome, length};
 ghost use Rattle.sfdp.specs.Params.{first_basic, has_signature, header_at, is_basic, params_of};
 
@@ -36,7 +37,8 @@ fn first_basic(bytes: &[u8], headers: usize) -> Option<usize>
     None
 }
 
-/// The parameters that a list of SFDP bytes gives, or the first rule that it breaks. Any bytes may be passed.
+/// The parameters that a list of SFDP bytes gives, or the first rule that it breaks. Any bytes may
+/// be passed.
 #[tactic(auto, unfolding(crate::specs::Params::params_of))]
 pub fn read_params(bytes: &[u8]) -> Result<Params, SfdpError>
     ensures { result ≡ params_of bytes.now }

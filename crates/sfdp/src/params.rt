@@ -1,3 +1,5 @@
+//! What a chip says of itself.
+
 /// What a chip says of itself.
 #[derive(Clone, Copy, Debug, PartialEq, Eq)]
 pub struct Params {

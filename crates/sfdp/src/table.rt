@@ -1,6 +1,8 @@
-// The basic table, word by word.
+//! The basic table, word by word.
+
 ghost use Rattle.std.specs.Prelude.{◌≡◌, ◌+◌, ◌*◌, ◌^◌, ◌<◌, ◌≤◌, length};
-ghost use Rattle.sfdp.specs.Params.{density, has_pair, has_small_erase, is_pair, is_size, number_at, table_params};
+ghost use Rattle.sfdp.specs.Params.{density, has_pair, has_small_erase, is_pair, is_size};
+ghost use Rattle.sfdp.specs.Params.{number_at, table_params};
 
 use crate::error::SfdpError;
 use crate::params::Params;

@@ -3,29 +3,27 @@ use Rattle.std.proofs.Common.{◌≡◌, ◌⊎◌, ℕ, ◌+◌, ◌*◌, ◌-�
 use Rattle.std.specs.Io.KnownBytes.{Appends, Consumes, IsAtEnd, Keeps}
 use Rattle.std.proofs.KnownBytes.{Appends-nil, Consumes-nil, Consumes-trans, Consumes-kept}
 use Rattle.nbd_wire.specs.declared.command.Command.{Command}
-use Rattle.session.specs.Line.{Begins, Line, opening}
-use Rattle.session.specs.Parts.{Part, parts, closed, ends_silently, IsGrowing}
+use Rattle.session.specs.Sessions.{BeginsSession, SessionState, opening}
+use Rattle.session.proofs.PartLaws.{parts_none}
 use Rattle.share.specs.declared.connection.End.{End}
 use Rattle.share.specs.declared.connection.End.TheVariants.{Closed, EndOfInput, Input, Output, Lost, OutOfMemory}
 use Rattle.share.specs.declared.door.Point.{Point}
 use Rattle.share.specs.declared.door.Point.TheVariants.{Read}
 use Rattle.share.specs.declared.shared.Done.{Done}
-use Rattle.share.specs.Connection.{Connection, EndsBy, FailsBy, Over, ReadsBy, Runs, Underway, let_through}
+use Rattle.share.specs.Connection.{Connection, EndsBy, FailsBy, ConnectionEnded, ReadsBy, let_through}
+use Rattle.share.specs.Turning.{ConnectionUnderway}
 use Rattle.share.specs.Places.{PassesMore, Place, Setting, Stand, asks, reading, reads}
 use Rattle.share.proofs.Turns.{executions-append, reads-append}
 
--- an empty text has no parts, and so nothing was run
-runs-none : {S : Type 0} (step : Place S → Place S → Command → List ℕ → Done → Type 0) (a b : Place S) (ps : List Part) → ps ≡ [] → b ≡ a → Runs step a ps [] b
-runs-none {S = S} step a b ps none same = let P : List Part → Type 0 = λ x. Runs step a x [] b in subst P (sym none) (refl, same)
-
 -- there was no memory
 pub connection-nothing : {S G : Type 0} (step : Place S → Place S → Command → List ℕ → Done → Type 0) (passes : G → G → List Point → Type 0) (st : Setting) (a : Stand S G) (had : Option (List ℕ)) (f : ℕ)
-    → IsGrowing st.start st.sectors → passes a.gate a.gate [] → Connection step passes st a a (reading had had f f) OutOfMemory
-connection-nothing step passes st a had f laws none = record {
+    → passes a.gate a.gate [] → Connection step passes st a a (reading had had f f) OutOfMemory
+connection-nothing step passes st a had f none = record {
   text = [];
   took = Consumes-nil had;
   over = record {
     cut = [];
+    parts = [];
     dropped = [];
     out = [];
     sent = [];
@@ -33,13 +31,14 @@ connection-nothing step passes st a had f laws none = record {
     points = [];
     last = a.place;
     text_is = refl;
-    runs = runs-none step a.place a.place (parts st.start st.sectors []) laws.none refl;
+    parts_are = parts_none st.start st.sectors;
+    runs = (refl, refl);
     out_is = append-nil (opening st.start);
     wrote = Appends-nil a.written;
     ends = (refl, refl, refl, refl);
     passed = none;
     pieces = omega arith;
-    executed = sym (ap asks laws.none);
+    executed = refl;
   };
   reader = refl;
   writer = refl;
@@ -47,13 +46,14 @@ connection-nothing step passes st a had f laws none = record {
 
 -- not all of the opening was written
 pub connection-unopened : {S G : Type 0} (step : Place S → Place S → Command → List ℕ → Done → Type 0) (passes : G → G → List Point → Type 0) (st : Setting) (a b : Stand S G) (had : Option (List ℕ)) (f : ℕ) (bytes sent unsent : List ℕ)
-    → IsGrowing st.start st.sectors → passes a.gate b.gate [] → b.place ≡ a.place → bytes ≡ opening st.start → bytes ≡ sent ++ unsent → Appends a.written b.written sent → 0 < length unsent → a.failures < b.failures
+    → passes a.gate b.gate [] → b.place ≡ a.place → bytes ≡ opening st.start → bytes ≡ sent ++ unsent → Appends a.written b.written sent → 0 < length unsent → a.failures < b.failures
     → Connection step passes st a b (reading had had f f) Output
-connection-unopened step passes st a b had f bytes sent unsent laws none same is parted wrote some failed = record {
+connection-unopened step passes st a b had f bytes sent unsent none same is parted wrote some failed = record {
   text = [];
   took = Consumes-nil had;
   over = record {
     cut = [];
+    parts = [];
     dropped = [];
     out = [];
     sent = sent;
@@ -61,45 +61,50 @@ connection-unopened step passes st a b had f bytes sent unsent laws none same is
     points = [];
     last = a.place;
     text_is = refl;
-    runs = runs-none step a.place a.place (parts st.start st.sectors []) laws.none refl;
+    parts_are = parts_none st.start st.sectors;
+    runs = (refl, refl);
     out_is = append-nil (opening st.start) ∙ sym is ∙ parted;
     wrote = wrote;
-    ends = (some, ap ends_silently laws.none, same);
+    ends = (some, refl, same);
     passed = none;
     pieces = omega arith;
-    executed = sym (ap asks laws.none);
+    executed = refl;
   };
   reader = refl;
   writer = failed;
 }
 
 -- the opening was written, and nothing has come yet
-pub underway-start : {S G : Type 0} (step : Place S → Place S → Command → List ℕ → Done → Type 0) (passes : G → G → List Point → Type 0) (st : Setting) (a b : Stand S G) (bytes : List ℕ) (line : Line)
-    → IsGrowing st.start st.sectors → Begins st.start st.sectors line → passes a.gate b.gate [] → b.place ≡ a.place → bytes ≡ opening st.start → Appends a.written b.written bytes → b.failures ≡ a.failures
-    → (w : Underway step passes st a b [] line) × (length {A = ℕ} [] ≤ 65536 * reads w.points)
-underway-start step passes st a b bytes line laws begins none same is wrote quiet = (
+pub underway-start : {S G : Type 0} (step : Place S → Place S → Command → List ℕ → Done → Type 0) (passes : G → G → List Point → Type 0) (st : Setting) (a b : Stand S G) (bytes : List ℕ) (line : SessionState)
+    → BeginsSession st.start st.sectors line → passes a.gate b.gate [] → b.place ≡ a.place → bytes ≡ opening st.start → Appends a.written b.written bytes → b.failures ≡ a.failures
+    → (w : ConnectionUnderway step passes st a b [] line) × (length {A = ℕ} [] ≤ 65536 * reads w.points)
+underway-start step passes st a b bytes line begins none same is wrote quiet = (
   record {
+    parts = [];
     out = [];
     points = [];
-    runs = runs-none step a.place b.place (parts st.start st.sectors []) laws.none same;
-    is_open = ap closed laws.none;
+    parts_are = parts_none st.start st.sectors;
+    runs = (refl, same);
+    is_open = refl;
     stands = begins.stands;
     wrote = subst (λ (x : List ℕ). Appends a.written b.written x) (is ∙ sym (append-nil (opening st.start))) wrote;
     passed = none;
-    executed = sym (ap asks laws.none);
+    executed = refl;
     quiet = quiet;
   },
   omega arith,
 )
 
 -- a piece was read, and the gate passed
-pub underway-read : {S G : Type 0} (step : Place S → Place S → Command → List ℕ → Done → Type 0) (passes : G → G → List Point → Type 0) (st : Setting) (first a : Stand S G) (gate : G) (text piece : List ℕ) (line : Line)
-    → PassesMore passes a.gate gate (Read ∷ []) → (w : Underway step passes st first a text line) → length text ≤ 65536 * reads w.points → length piece ≤ 65536
-    → (u : Underway step passes st first (record a { gate = gate }) text line) × (length (text ++ piece) ≤ 65536 * reads u.points)
+pub underway-read : {S G : Type 0} (step : Place S → Place S → Command → List ℕ → Done → Type 0) (passes : G → G → List Point → Type 0) (st : Setting) (first a : Stand S G) (gate : G) (text piece : List ℕ) (line : SessionState)
+    → PassesMore passes a.gate gate (Read ∷ []) → (w : ConnectionUnderway step passes st first a text line) → length text ≤ 65536 * reads w.points → length piece ≤ 65536
+    → (u : ConnectionUnderway step passes st first (record a { gate = gate }) text line) × (length (text ++ piece) ≤ 65536 * reads u.points)
 underway-read step passes st first a gate text piece line more w pieces short = (
   record {
+    parts = w.parts;
     out = w.out;
     points = w.points ++ Read ∷ [];
+    parts_are = w.parts_are;
     runs = w.runs;
     is_open = w.is_open;
     stands = w.stands;
@@ -112,11 +117,12 @@ underway-read step passes st first a gate text piece line more w pieces short = 
 )
 
 -- nothing more comes
-over-still : {S G : Type 0} (step : Place S → Place S → Command → List ℕ → Done → Type 0) (passes : G → G → List Point → Type 0) (st : Setting) (first a : Stand S G) (text : List ℕ) (line : Line) (end : End)
-    → (w : Underway step passes st first a text line) → length text ≤ 65536 * reads w.points → EndsBy step st a.place a.place text [] [] end → let_through end (asks (parts st.start st.sectors text)) ≡ asks (parts st.start st.sectors text)
-    → Over step passes st first a text end
+over-still : {S G : Type 0} (step : Place S → Place S → Command → List ℕ → Done → Type 0) (passes : G → G → List Point → Type 0) (st : Setting) (first a : Stand S G) (text : List ℕ) (line : SessionState) (end : End)
+    → (w : ConnectionUnderway step passes st first a text line) → length text ≤ 65536 * reads w.points → EndsBy step st a.place a.place (record { cut = text; parts = w.parts; dropped = []; unsent = [] }) end → let_through end (asks w.parts) ≡ asks w.parts
+    → ConnectionEnded step passes st first a text end
 over-still step passes st first a text line end w pieces ends through-all = record {
   cut = text;
+  parts = w.parts;
   dropped = [];
   out = w.out;
   sent = opening st.start ++ w.out;
@@ -124,6 +130,7 @@ over-still step passes st first a text line end w pieces ends through-all = reco
   points = w.points;
   last = a.place;
   text_is = sym (append-nil text);
+  parts_are = w.parts_are;
   runs = w.runs;
   out_is = sym (append-nil _);
   wrote = w.wrote;
@@ -134,8 +141,8 @@ over-still step passes st first a text line end w pieces ends through-all = reco
 }
 
 -- a read failed
-pub connection-input : {S G : Type 0} (step : Place S → Place S → Command → List ℕ → Done → Type 0) (passes : G → G → List Point → Type 0) (st : Setting) (first a : Stand S G) (had mid left : Option (List ℕ)) (f g h : ℕ) (text : List ℕ) (line : Line)
-    → Consumes had mid text → Keeps mid left → g ≡ f → h ≡ g + 1 → (w : Underway step passes st first a text line) → length text ≤ 65536 * reads w.points
+pub connection-input : {S G : Type 0} (step : Place S → Place S → Command → List ℕ → Done → Type 0) (passes : G → G → List Point → Type 0) (st : Setting) (first a : Stand S G) (had mid left : Option (List ℕ)) (f g h : ℕ) (text : List ℕ) (line : SessionState)
+    → Consumes had mid text → Keeps mid left → g ≡ f → h ≡ g + 1 → (w : ConnectionUnderway step passes st first a text line) → length text ≤ 65536 * reads w.points
     → Connection step passes st first a (reading had left f h) Input
 connection-input step passes st first a had mid left f g h text line took kept same failed w pieces = record {
   text = text;
@@ -146,8 +153,8 @@ connection-input step passes st first a had mid left f g h text line took kept s
 }
 
 -- too many pieces were read
-pub connection-long : {S G : Type 0} (step : Place S → Place S → Command → List ℕ → Done → Type 0) (passes : G → G → List Point → Type 0) (st : Setting) (first a : Stand S G) (had left : Option (List ℕ)) (f h : ℕ) (text : List ℕ) (line : Line)
-    → Consumes had left text → 2 ^ 64 - 1 ≤ length text → (w : Underway step passes st first a text line) → length text ≤ 65536 * reads w.points
+pub connection-long : {S G : Type 0} (step : Place S → Place S → Command → List ℕ → Done → Type 0) (passes : G → G → List Point → Type 0) (st : Setting) (first a : Stand S G) (had left : Option (List ℕ)) (f h : ℕ) (text : List ℕ) (line : SessionState)
+    → Consumes had left text → 2 ^ 64 - 1 ≤ length text → (w : ConnectionUnderway step passes st first a text line) → length text ≤ 65536 * reads w.points
     → Connection step passes st first a (reading had left f h) Input
 connection-long step passes st first a had left f h text line took long w pieces = record {
   text = text;
@@ -158,8 +165,8 @@ connection-long step passes st first a had left f h text line took long w pieces
 }
 
 -- nothing was left to read
-pub connection-end : {S G : Type 0} (step : Place S → Place S → Command → List ℕ → Done → Type 0) (passes : G → G → List Point → Type 0) (st : Setting) (first a : Stand S G) (had mid left : Option (List ℕ)) (f h : ℕ) (text none : List ℕ) (line : Line)
-    → Consumes had mid text → Consumes mid left none → none ≡ [] → IsAtEnd left → h ≡ f → (w : Underway step passes st first a text line) → length text ≤ 65536 * reads w.points
+pub connection-end : {S G : Type 0} (step : Place S → Place S → Command → List ℕ → Done → Type 0) (passes : G → G → List Point → Type 0) (st : Setting) (first a : Stand S G) (had mid left : Option (List ℕ)) (f h : ℕ) (text none : List ℕ) (line : SessionState)
+    → Consumes had mid text → Consumes mid left none → none ≡ [] → IsAtEnd left → h ≡ f → (w : ConnectionUnderway step passes st first a text line) → length text ≤ 65536 * reads w.points
     → Connection step passes st first a (reading had left f h) EndOfInput
 connection-end step passes st first a had mid left f h text none line took more is at_end same w pieces = record {
   text = text;
@@ -179,7 +186,7 @@ reads-by had left f h text OutOfMemory same ends = elim ends [ inl a ↦ cc | in
 
 -- a piece ended it
 pub connection-piece : {S G : Type 0} (step : Place S → Place S → Command → List ℕ → Done → Type 0) (passes : G → G → List Point → Type 0) (st : Setting) (first b : Stand S G) (had mid left : Option (List ℕ)) (f h : ℕ) (text piece : List ℕ) (end : End)
-    → Consumes had mid text → Consumes mid left piece → h ≡ f → (end ≡ Closed) ⊎ ((end ≡ Output) ⊎ (end ≡ Lost)) → Over step passes st first b (text ++ piece) end × FailsBy end first.failures b.failures
+    → Consumes had mid text → Consumes mid left piece → h ≡ f → (end ≡ Closed) ⊎ ((end ≡ Output) ⊎ (end ≡ Lost)) → ConnectionEnded step passes st first b (text ++ piece) end × FailsBy end first.failures b.failures
     → Connection step passes st first b (reading had left f h) end
 connection-piece step passes st first b had mid left f h text piece end took more same ends by = record {
   text = text ++ piece;

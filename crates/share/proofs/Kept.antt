@@ -9,8 +9,8 @@ use Rattle.nbd_wire.specs.Commands.{judge_of, moves_data}
 use Rattle.nbd_transmission.specs.Apply.{data_of, data_of_kind, changed_by, changed_kind}
 use Rattle.share.specs.declared.recorder.Row.{Row}
 use Rattle.share.specs.declared.recorder.Interrupted.{Interrupted}
-use Rattle.share.specs.Lent.{is_read, is_read_of, lent_len, lent_len_of, payload_in_of, payload_len_of, reply_in, data_in_of}
-use Rattle.share.specs.History.{row_of, interrupted_of, after_row, replay, has_failed, MayStand, IsLegal, rows_with}
+use Rattle.nbd_wire.specs.Lent.{is_read, is_read_of, lent_len, lent_len_of, payload_in_of, payload_len_of, reply_in, data_in_of}
+use Rattle.share.specs.History.{row_of, interrupted_of, after_row, replay, has_failed, MayComeNext, IsLegal, rows_with}
 use Rattle.share.specs.State.{IsKept}
 
 replay-push : (d : List ℕ) (rows : List Row) (r : Row) → replay d (rows ++ r ∷ []) ≡ after_row (replay d rows) r
@@ -21,7 +21,7 @@ failed-push : (b : Bool) (rows : List Row) (r : Row) → has_failed b (rows ++ r
 failed-push b [] r = refl
 failed-push b (x ∷ xs) r = failed-push (b || x.error == 5) xs r
 
-legal-push : (n : ℕ) (d : List ℕ) (failed : Bool) (rs : List Row) (r : Row) → IsLegal n d failed rs → MayStand n (replay d rs) (has_failed failed rs) r → IsLegal n d failed (rs ++ r ∷ [])
+legal-push : (n : ℕ) (d : List ℕ) (failed : Bool) (rs : List Row) (r : Row) → IsLegal n d failed rs → MayComeNext n (replay d rs) (has_failed failed rs) r → IsLegal n d failed (rs ++ r ∷ [])
 legal-push n d failed [] r h f = (f, tt)
 legal-push n d failed (x ∷ xs) r h f = (h.0, legal-push n (after_row d x) (failed || x.error == 5) xs r h.1 f)
 
@@ -60,7 +60,7 @@ pub has_power : (cut lost : Bool) → (cut ≡ true → lost ≡ true) → lost 
 has_power true lost h e = absurd (not_both lost (h refl) e)
 has_power false lost h e = refl
 
--- where a Cut stood, or came where no Slow stood: without the first no Slow stood
+-- where a Cut was latched, or came where no Slow was latched: without the first no Slow was latched
 pub was_quiet : (cut slow : Bool) (A : Type 0) → (cut ≡ true) ⊎ ((slow ≡ false) × A) → cut ≡ false → slow ≡ false
 was_quiet cut slow A (inl stood) e = absurd (not_both cut stood e)
 was_quiet cut slow A (inr came) e = came.0

@@ -5,15 +5,16 @@ use Rattle.nbd_wire.specs.declared.command.Command.{Command}
 use Rattle.nbd_wire.specs.declared.command.CommandKind.{CommandKind}
 use Rattle.nbd_wire.specs.declared.command.CommandKind.TheVariants.{Read, Write, Disconnect, Flush, Unknown}
 use Rattle.nbd_transmission.specs.Apply.{changed_kind, head_of}
-use Rattle.session.specs.Line.{opening}
-use Rattle.session.specs.Parts.{Part, Told, Asked, Last, parts, closed, IsGrowing}
+use Rattle.session.specs.Sessions.{opening}
+use Rattle.session.specs.Parts.{Part, Told, ForDisk, Last, IsPartsOf, closed}
+use Rattle.session.proofs.PartLaws.{one_list, parts_end, parts_none}
 use Rattle.share.specs.declared.connection.End.{End}
 use Rattle.share.specs.declared.connection.End.TheVariants.{Closed as ClosedEnd, EndOfInput, Input, Output, Lost as LostEnd, OutOfMemory}
 use Rattle.share.specs.declared.door.Point.{Point}
-use Rattle.share.specs.Connection.{AnsweredBy, Connection, Executed, Runs, Taken, answer_bytes}
-use Rattle.share.specs.Lent.{payload_in_of, reply_in}
+use Rattle.share.specs.Connection.{AnsweredBy, Connection, Executed, PartsAnsweredBy, ExecutedAndLost, answer_bytes}
+use Rattle.nbd_wire.specs.Lent.{payload_in_of, reply_in}
 use Rattle.share.specs.Places.{Place, Reading, Setting, Stand}
-use Rattle.share.specs.Plain.{IsQuiet, AnswersAll, PlainBy, Replies, RepliesTo, of_server}
+use Rattle.share.specs.Plain.{IsServerQuiet, AnswersAll, PlainBy, RepliesToPart, RepliesToParts, of_server}
 use Rattle.share.specs.State.{Reply, Served}
 
 -- counts never fall
@@ -26,10 +27,10 @@ rises-same a b e = record { cuts = rw e (omega arith); slows = rw e (omega arith
 
 answered-rises : (keeps : Bool) (a b : Place Served) (part : Part) (out : List ℕ) → AnsweredBy (of_server keeps) a part out b → Rises a.door b.door
 answered-rises keeps a b (Told reply) out h = rises-same a b h.1
-answered-rises keeps a b (Asked c payload) out h = record { cuts = h.run.0.goes.cuts; slows = h.run.0.goes.slows }
+answered-rises keeps a b (ForDisk c payload) out h = record { cuts = h.run.0.goes.cuts; slows = h.run.0.goes.slows }
 answered-rises keeps a b (Last reply) out h = rises-same a b h.1
 
-runs-rise : (keeps : Bool) (a b : Place Served) (ps : List Part) (out : List ℕ) → Runs (of_server keeps) a ps out b → Rises a.door b.door
+runs-rise : (keeps : Bool) (a b : Place Served) (ps : List Part) (out : List ℕ) → PartsAnsweredBy (of_server keeps) a ps out b → Rises a.door b.door
 runs-rise keeps a b [] out r = rises-same a b r.1
 runs-rise keeps a b (p ∷ ps) out r =
     let one = answered-rises keeps a r.2 p r.0 r.4 in
@@ -49,15 +50,15 @@ not_both b t f = cc
 
 -- what one part leaves, and says
 pub record Plainly (keeps : Bool) (a b : Place Served) (part : Part) (out : List ℕ) : Type 0 where
-  pub quiet : IsQuiet b.door
-  pub replies : Replies keeps a.door.disk.contents part out b.door.disk.contents
+  pub quiet : IsServerQuiet b.door
+  pub replies : RepliesToPart keeps a.door.disk.contents part out b.door.disk.contents
 
 answer-at : (a : Reply) (c : Command) (e : ℕ) (out : List ℕ) → out ≡ answer_bytes a → a.command ≡ c → a.error ≡ e → out ≡ head_of c e ++ reply_in c e a.bytes
 answer-at a c e out o f g =
     o ∙ ap (λ (x : Command). head_of x a.error ++ reply_in x a.error a.bytes) f ∙ ap (λ (x : ℕ). head_of c x ++ reply_in c x a.bytes) g
 
-executed-plainly : (keeps : Bool) (a b : Place Served) (c : Command) (payload out : List ℕ) → IsQuiet a.door → b.door.disk.cuts ≤ a.door.disk.cuts → b.door.disk.slows ≤ a.door.disk.slows
-    → Executed (of_server keeps) a b c payload out → Plainly keeps a b (Asked c payload) out
+executed-plainly : (keeps : Bool) (a b : Place Served) (c : Command) (payload out : List ℕ) → IsServerQuiet a.door → b.door.disk.cuts ≤ a.door.disk.cuts → b.door.disk.slows ≤ a.door.disk.slows
+    → Executed (of_server keeps) a b c payload out → Plainly keeps a b (ForDisk c payload) out
 executed-plainly keeps a b c payload out q cuts slows x =
     let s = a.door in
     let r = x.run.0.replied in
@@ -85,20 +86,20 @@ executed-plainly keeps a b c payload out q cuts slows x =
       ]
     ]
 
-answered-plainly : (keeps : Bool) (a b : Place Served) (part : Part) (out : List ℕ) → IsQuiet a.door → b.door.disk.cuts ≤ a.door.disk.cuts → b.door.disk.slows ≤ a.door.disk.slows
+answered-plainly : (keeps : Bool) (a b : Place Served) (part : Part) (out : List ℕ) → IsServerQuiet a.door → b.door.disk.cuts ≤ a.door.disk.cuts → b.door.disk.slows ≤ a.door.disk.slows
     → AnsweredBy (of_server keeps) a part out b → Plainly keeps a b part out
-answered-plainly keeps a b (Told reply) out q cuts slows h = record { quiet = subst (λ (x : Place Served). IsQuiet x.door) (sym h.1) q; replies = (h.0, ap (λ (x : Place Served). x.door.disk.contents) h.1) }
-answered-plainly keeps a b (Asked c payload) out q cuts slows h = executed-plainly keeps a b c payload out q cuts slows h
-answered-plainly keeps a b (Last reply) out q cuts slows h = record { quiet = subst (λ (x : Place Served). IsQuiet x.door) (sym h.1) q; replies = (h.0, ap (λ (x : Place Served). x.door.disk.contents) h.1) }
+answered-plainly keeps a b (Told reply) out q cuts slows h = record { quiet = subst (λ (x : Place Served). IsServerQuiet x.door) (sym h.1) q; replies = (h.0, ap (λ (x : Place Served). x.door.disk.contents) h.1) }
+answered-plainly keeps a b (ForDisk c payload) out q cuts slows h = executed-plainly keeps a b c payload out q cuts slows h
+answered-plainly keeps a b (Last reply) out q cuts slows h = record { quiet = subst (λ (x : Place Served). IsServerQuiet x.door) (sym h.1) q; replies = (h.0, ap (λ (x : Place Served). x.door.disk.contents) h.1) }
 
 -- all parts, one after another
 pub record AllPlainly (keeps : Bool) (a b : Place Served) (ps : List Part) (out : List ℕ) : Type 0 where
-  pub quiet : IsQuiet b.door
-  pub replies : RepliesTo keeps a.door.disk.contents ps out b.door.disk.contents
+  pub quiet : IsServerQuiet b.door
+  pub replies : RepliesToParts keeps a.door.disk.contents ps out b.door.disk.contents
 
-runs-plainly : (keeps : Bool) (a b : Place Served) (ps : List Part) (out : List ℕ) → IsQuiet a.door → b.door.disk.cuts ≤ a.door.disk.cuts → b.door.disk.slows ≤ a.door.disk.slows
-    → Runs (of_server keeps) a ps out b → AllPlainly keeps a b ps out
-runs-plainly keeps a b [] out q cuts slows r = record { quiet = subst (λ (x : Place Served). IsQuiet x.door) (sym r.1) q; replies = (r.0, ap (λ (x : Place Served). x.door.disk.contents) r.1) }
+runs-plainly : (keeps : Bool) (a b : Place Served) (ps : List Part) (out : List ℕ) → IsServerQuiet a.door → b.door.disk.cuts ≤ a.door.disk.cuts → b.door.disk.slows ≤ a.door.disk.slows
+    → PartsAnsweredBy (of_server keeps) a ps out b → AllPlainly keeps a b ps out
+runs-plainly keeps a b [] out q cuts slows r = record { quiet = subst (λ (x : Place Served). IsServerQuiet x.door) (sym r.1) q; replies = (r.0, ap (λ (x : Place Served). x.door.disk.contents) r.1) }
 runs-plainly keeps a b (p ∷ ps) out q cuts slows r =
     let one = answered-rises keeps a r.2 p r.0 r.4 in
     let others = runs-rise keeps r.2 b ps r.1 r.5 in
@@ -106,18 +107,18 @@ runs-plainly keeps a b (p ∷ ps) out q cuts slows r =
     let there = runs-plainly keeps r.2 b ps r.1 here.quiet (omega (arith, cuts, one.cuts)) (omega (arith, slows, one.slows)) r.5 in
     record { quiet = there.quiet; replies = (r.0, r.1, r.2.door.disk.contents, r.3, here.replies, there.replies) }
 
--- nothing is lost where no Cut stands or comes
-taken-never : (keeps : Bool) (a b : Place Served) (c : Command) (payload : List ℕ) → IsQuiet a.door → b.door.disk.cuts ≤ a.door.disk.cuts → Taken (of_server keeps) a b c payload → ⊥
+-- nothing is lost where no Cut is latched or comes
+taken-never : (keeps : Bool) (a b : Place Served) (c : Command) (payload : List ℕ) → IsServerQuiet a.door → b.door.disk.cuts ≤ a.door.disk.cuts → ExecutedAndLost (of_server keeps) a b c payload → ⊥
 taken-never keeps a b c payload q cuts x = elim x.run.0.loses.cause [ inl stood ↦ not_both a.door.disk.cut stood q.cut | inr rose ↦ omega arith ]
 
-pub never-lost : {G : Type 0} (keeps : Bool) (passes : G → G → List Point → Type 0) (st : Setting) (a b : Stand Served G) (read : Reading) → IsQuiet a.place.door
+pub never-lost : {G : Type 0} (keeps : Bool) (passes : G → G → List Point → Type 0) (st : Setting) (a b : Stand Served G) (read : Reading) → IsServerQuiet a.place.door
     → b.place.door.disk.cuts ≤ a.place.door.disk.cuts → b.place.door.disk.slows ≤ a.place.door.disk.slows → Connection (of_server keeps) passes st a b read LostEnd → ⊥
 never-lost keeps passes st a b read q cuts slows x =
     let o = x.over in
     let l = o.ends.1 in
     let rises : Rises o.last.door b.place.door = record { cuts = l.taken.run.0.goes.cuts; slows = l.taken.run.0.goes.slows } in
-    let began = runs-rise keeps a.place o.last (parts st.start st.sectors o.cut) o.out o.runs in
-    let all = runs-plainly keeps a.place o.last (parts st.start st.sectors o.cut) o.out q (omega (arith, cuts, rises.cuts)) (omega (arith, slows, rises.slows)) o.runs in
+    let began = runs-rise keeps a.place o.last o.parts o.out o.runs in
+    let all = runs-plainly keeps a.place o.last o.parts o.out q (omega (arith, cuts, rises.cuts)) (omega (arith, slows, rises.slows)) o.runs in
     taken-never keeps o.last b.place l.command l.payload all.quiet (omega (arith, cuts, began.cuts)) l.taken
 
 -- what a reader that tells its bytes has left
@@ -129,19 +130,21 @@ none-left : (left : Option (List ℕ)) (others : List ℕ) → left ≡ Some oth
 none-left left others e h = let P : Option (List ℕ) → Type 0 = λ x. IsAtEnd x in subst P e h
 
 -- up to the place after the last answer
-answers-to : (keeps : Bool) (a last b : Place Served) (ps : List Part) (out : List ℕ) → IsQuiet a.door → b.door.disk.cuts ≤ a.door.disk.cuts → b.door.disk.slows ≤ a.door.disk.slows → b ≡ last
-    → Runs (of_server keeps) a ps out last → RepliesTo keeps a.door.disk.contents ps out b.door.disk.contents
+answers-to : (keeps : Bool) (a last b : Place Served) (ps : List Part) (out : List ℕ) → IsServerQuiet a.door → b.door.disk.cuts ≤ a.door.disk.cuts → b.door.disk.slows ≤ a.door.disk.slows → b ≡ last
+    → PartsAnsweredBy (of_server keeps) a ps out last → RepliesToParts keeps a.door.disk.contents ps out b.door.disk.contents
 answers-to keeps a last b ps out q cuts slows same r =
-    let P : Place Served → Type 0 = λ x. Runs (of_server keeps) a ps out x in
+    let P : Place Served → Type 0 = λ x. PartsAnsweredBy (of_server keeps) a ps out x in
     (runs-plainly keeps a b ps out q cuts slows (subst P (sym same) r)).replies
 
-plain-all : (keeps : Bool) (st : Setting) (contents contents' input cut out sent unsent : List ℕ) (old new : Option (List ℕ)) (closes : Bool)
-    → parts st.start st.sectors input ≡ parts st.start st.sectors cut → closed (parts st.start st.sectors cut) ≡ closes → RepliesTo keeps contents (parts st.start st.sectors cut) out contents'
+plain-all : (keeps : Bool) (st : Setting) (contents contents' input out sent unsent : List ℕ) (ps : List Part) (old new : Option (List ℕ)) (closes : Bool)
+    → IsPartsOf st.start st.sectors input ps → closed ps ≡ closes → RepliesToParts keeps contents ps out contents'
     → opening st.start ++ out ≡ sent ++ unsent → unsent ≡ [] → Appends old new sent → AnswersAll keeps st contents contents' input old new closes
-plain-all keeps st contents contents' input cut out sent unsent old new closes same closed_is replies is none wrote = record {
+plain-all keeps st contents contents' input out sent unsent ps old new closes are closed_is replies is none wrote = record {
+  parts = ps;
   out = out;
-  closes_is = ap closed same ∙ closed_is;
-  replies = subst (λ (x : List Part). RepliesTo keeps contents x out contents') (sym same) replies;
+  parts_are = are;
+  closes_is = closed_is;
+  replies = replies;
   wrote = subst (λ (x : List ℕ). Appends old new x) (sym (is ∙ ap (λ (x : List ℕ). sent ++ x) none ∙ append-nil sent)) wrote;
 }
 
@@ -152,56 +155,62 @@ none-sent first out (x ∷ xs) unsent e none all =
     let long = ap (λ (y : List ℕ). length y) e in
     absurd (omega (arith, long, length-append first out, length-append (x ∷ xs) unsent, ap (λ (y : List ℕ). length y) none, ap (λ (y : List ℕ). length y) all))
 
-pub plain-by : {G : Type 0} (keeps : Bool) (passes : G → G → List Point → Type 0) (st : Setting) (a b : Stand Served G) (read : Reading) (input : List ℕ) (end : End) → IsGrowing st.start st.sectors → IsQuiet a.place.door
+pub plain-by : {G : Type 0} (keeps : Bool) (passes : G → G → List Point → Type 0) (st : Setting) (a b : Stand Served G) (read : Reading) (input : List ℕ) (end : End) → IsServerQuiet a.place.door
     → b.place.door.disk.cuts ≤ a.place.door.disk.cuts → b.place.door.disk.slows ≤ a.place.door.disk.slows → read.had ≡ Some input → Connection (of_server keeps) passes st a b read end
     → PlainBy keeps st a.place.door.disk.contents b.place.door.disk.contents input a.written b.written end
-plain-by keeps passes st a b read input ClosedEnd laws q cuts slows tells x =
+plain-by keeps passes st a b read input ClosedEnd q cuts slows tells x =
     let o = x.over in
     let left = rest-of input x.text read.left (subst (λ (y : Option (List ℕ)). Consumes y read.left x.text) tells x.took) in
     let is : input ≡ o.cut ++ (o.dropped ++ left.0) = left.2 ∙ ap (λ (y : List ℕ). y ++ left.0) o.text_is ∙ append_assoc o.cut o.dropped left.0 in
-    let same = ap (λ (y : List ℕ). parts st.start st.sectors y) is ∙ laws.ends o.cut (o.dropped ++ left.0) o.ends.0 in
-    plain-all keeps st a.place.door.disk.contents b.place.door.disk.contents input o.cut o.out o.sent o.unsent a.written b.written true same o.ends.0
-    (answers-to keeps a.place o.last b.place (parts st.start st.sectors o.cut) o.out q cuts slows o.ends.2 o.runs) o.out_is o.ends.1 o.wrote
-plain-by keeps passes st a b read input EndOfInput laws q cuts slows tells x =
+    let are : IsPartsOf st.start st.sectors input o.parts =
+    subst (λ (y : List ℕ). IsPartsOf st.start st.sectors y o.parts) (sym is) (parts_end st.start st.sectors o.cut (o.dropped ++ left.0) o.parts o.parts_are o.ends.0) in
+    plain-all keeps st a.place.door.disk.contents b.place.door.disk.contents input o.out o.sent o.unsent o.parts a.written b.written true are o.ends.0
+    (answers-to keeps a.place o.last b.place o.parts o.out q cuts slows o.ends.2 o.runs) o.out_is o.ends.1 o.wrote
+plain-by keeps passes st a b read input EndOfInput q cuts slows tells x =
     let o = x.over in
     let left = rest-of input x.text read.left (subst (λ (y : Option (List ℕ)). Consumes y read.left x.text) tells x.took) in
     let none = none-left read.left left.0 left.1 x.reader.0 in
     let is : input ≡ o.cut = left.2 ∙ ap (λ (y : List ℕ). x.text ++ y) none ∙ append-nil x.text ∙ o.text_is ∙ ap (λ (y : List ℕ). o.cut ++ y) o.ends.2 ∙ append-nil o.cut in
-    let same = ap (λ (y : List ℕ). parts st.start st.sectors y) is in
-    plain-all keeps st a.place.door.disk.contents b.place.door.disk.contents input o.cut o.out o.sent o.unsent a.written b.written false same o.ends.0
-    (answers-to keeps a.place o.last b.place (parts st.start st.sectors o.cut) o.out q cuts slows o.ends.3 o.runs) o.out_is o.ends.1 o.wrote
-plain-by keeps passes st a b read input Input laws q cuts slows tells x =
+    let are : IsPartsOf st.start st.sectors input o.parts = subst (λ (y : List ℕ). IsPartsOf st.start st.sectors y o.parts) (sym is) o.parts_are in
+    plain-all keeps st a.place.door.disk.contents b.place.door.disk.contents input o.out o.sent o.unsent o.parts a.written b.written false are o.ends.0
+    (answers-to keeps a.place o.last b.place o.parts o.out q cuts slows o.ends.3 o.runs) o.out_is o.ends.1 o.wrote
+plain-by keeps passes st a b read input Input q cuts slows tells x =
     let o = x.over in
     let left = rest-of input x.text read.left (subst (λ (y : Option (List ℕ)). Consumes y read.left x.text) tells x.took) in
     record {
       cut = o.cut;
+      parts = o.parts;
       others = o.dropped ++ left.0;
       out = o.out;
       sent = o.sent;
       unsent = o.unsent;
       input_is = left.2 ∙ ap (λ (y : List ℕ). y ++ left.0) o.text_is ∙ append_assoc o.cut o.dropped left.0;
-      replies = answers-to keeps a.place o.last b.place (parts st.start st.sectors o.cut) o.out q cuts slows o.ends.3 o.runs;
+      parts_are = o.parts_are;
+      replies = answers-to keeps a.place o.last b.place o.parts o.out q cuts slows o.ends.3 o.runs;
       out_is = o.out_is;
       wrote = o.wrote;
     }
-plain-by keeps passes st a b read input Output laws q cuts slows tells x =
+plain-by keeps passes st a b read input Output q cuts slows tells x =
     let o = x.over in
     let left = rest-of input x.text read.left (subst (λ (y : Option (List ℕ)). Consumes y read.left x.text) tells x.took) in
     record {
       cut = o.cut;
+      parts = o.parts;
       others = o.dropped ++ left.0;
       out = o.out;
       sent = o.sent;
       unsent = o.unsent;
       input_is = left.2 ∙ ap (λ (y : List ℕ). y ++ left.0) o.text_is ∙ append_assoc o.cut o.dropped left.0;
-      replies = answers-to keeps a.place o.last b.place (parts st.start st.sectors o.cut) o.out q cuts slows o.ends.2 o.runs;
+      parts_are = o.parts_are;
+      replies = answers-to keeps a.place o.last b.place o.parts o.out q cuts slows o.ends.2 o.runs;
       out_is = o.out_is;
       wrote = o.wrote;
     }
-plain-by keeps passes st a b read input LostEnd laws q cuts slows tells x = never-lost keeps passes st a b read q cuts slows x
-plain-by keeps passes st a b read input OutOfMemory laws q cuts slows tells x =
+plain-by keeps passes st a b read input LostEnd q cuts slows tells x = never-lost keeps passes st a b read q cuts slows x
+plain-by keeps passes st a b read input OutOfMemory q cuts slows tells x =
     let o = x.over in
-    let P : List Part → Type 0 = λ y. Runs (of_server keeps) a.place y o.out o.last in
-    let none = subst P (ap (λ (y : List ℕ). parts st.start st.sectors y) o.ends.0 ∙ laws.none) o.runs in
+    let P : List Part → Type 0 = λ y. PartsAnsweredBy (of_server keeps) a.place y o.out o.last in
+    let empty : IsPartsOf st.start st.sectors [] o.parts = subst (λ (y : List ℕ). IsPartsOf st.start st.sectors y o.parts) o.ends.0 o.parts_are in
+    let none = subst P (one_list st.start st.sectors [] o.parts [] empty (parts_none st.start st.sectors)) o.runs in
     let unsent = none-sent (opening st.start) o.out o.sent o.unsent o.out_is none.0 o.ends.2 in
     (ap (λ (y : Place Served). y.door.disk.contents) (o.ends.3 ∙ none.1), subst (λ (y : List ℕ). Appends a.written b.written y) unsent o.wrote)

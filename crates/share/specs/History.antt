@@ -1,17 +1,26 @@
--- Rows of commands that ran one after another on one disk, and when they are a legal history. Source: own.
-use Rattle.std.specs.Prelude.{◌≡◌, ◌⊎◌, ℕ, ◌==◌, ◌||◌, List, [], ◌∷◌, ◌++◌, length, Bool, true, Option, Some, None, if◌then◌else◌}
+-- Rows of commands that ran one after another on one disk, and when they are a legal history.
+-- Source: own.
+use Rattle.std.specs.Prelude.{◌≡◌, ◌⊎◌, ℕ, ◌==◌, ◌||◌, List, [], ◌∷◌, ◌++◌, length, Bool, true}
+use Rattle.std.specs.Prelude.{Option, Some, None, if◌then◌else◌}
 use Rattle.block_device.specs.Contents.{Outcome}
 use Rattle.nbd_wire.specs.declared.command.Command.{Command}
 use Rattle.nbd_wire.specs.Commands.{judge_of, moves_data}
+use Rattle.nbd_wire.specs.Numbers.{EIO}
 use Rattle.nbd_transmission.specs.Apply.{changed_by, data_of}
 use Rattle.share.specs.declared.recorder.Row.{Row}
 use Rattle.share.specs.declared.recorder.Interrupted.{Interrupted}
-use Rattle.share.specs.Lent.{payload_in, payload_len_of, reply_in}
+use Rattle.nbd_wire.specs.Lent.{payload_in, payload_len_of, reply_in}
 
 -- the row of a command that ran over these lent bytes
 abbrev pub row_of : ℕ → Command → ℕ → List ℕ → Row
 row_of connection command error bytes =
-    record { connection = connection; command = command; payload = payload_in command bytes; error = error; reply = reply_in command error bytes }
+    record {
+      connection = connection;
+      command = command;
+      payload = payload_in command bytes;
+      error = error;
+      reply = reply_in command error bytes;
+    }
 
 abbrev pub interrupted_of : Command → List ℕ → Interrupted
 interrupted_of command bytes = record { command = command; payload = payload_in command bytes }
@@ -22,38 +31,40 @@ rows_with keeps rows row = if keeps then rows ++ row ∷ [] else rows
 
 -- the contents after a row: those with error 0 changed them
 abbrev pub after_row : List ℕ → Row → List ℕ
-after_row contents row = if row.error == 0 then changed_by contents row.command row.payload else contents
+after_row contents row = if row.error == 0 then changed_by contents row.command row.payload
+    else contents
 
 -- the contents after all rows with error 0, applied in order
 abbrev pub replay : List ℕ → List Row → List ℕ
 replay contents [] = contents
 replay contents (row ∷ rows) = replay (after_row contents row) rows
 
--- What a loss of power in a command left of the contents: each sector is wholly as it was, or wholly as the command was to make it.
--- Where no command was interrupted, they are as they were.
+-- What a loss of power in a command left of the contents: each sector is wholly as it was, or
+-- wholly as the command was to make it. Where no command was interrupted, they are as they were.
 abbrev pub IsLeft : Option Interrupted → List ℕ → List ℕ → Type 0
 IsLeft None old new = new ≡ old
 IsLeft (Some lost) old new = Outcome old (changed_by old lost.command lost.payload) new
 
--- a row with error 5 stands among them, or one was before
+-- a row with error EIO stands among them, or one was before
 abbrev pub has_failed : Bool → List Row → Bool
 has_failed failed [] = failed
-has_failed failed (row ∷ rows) = has_failed (failed || row.error == 5) rows
+has_failed failed (row ∷ rows) = has_failed (failed || row.error == EIO) rows
 
 -- A row that may stand at this point of a history.
-pub record MayStand (sectors : ℕ) (contents : List ℕ) (failed : Bool) (row : Row) : Type 0 where
+pub record MayComeNext (sectors : ℕ) (contents : List ℕ) (failed : Bool) (row : Row) : Type 0 where
   pub accepted : judge_of row.command sectors ≡ None
   pub payload : length row.payload ≡ payload_len_of row.command.kind row.command
-  pub error : (row.error ≡ 0) ⊎ (row.error ≡ 5)
+  pub error : (row.error ≡ 0) ⊎ (row.error ≡ EIO)
   -- answered 0: with the data of the contents at this point
   pub answered : row.error ≡ 0 → row.reply ≡ data_of contents row.command
-  -- answered 5: a READ or WRITE, without data
-  pub refused : row.error ≡ 5 → (moves_data row.command.kind ≡ true) × (row.reply ≡ [])
-  -- after an error 5 no READ or WRITE is answered 0
-  pub later : failed ≡ true → moves_data row.command.kind ≡ true → row.error ≡ 5
+  -- answered EIO: a READ or WRITE, without data
+  pub refused : row.error ≡ EIO → (moves_data row.command.kind ≡ true) × (row.reply ≡ [])
+  -- after an EIO no READ or WRITE is answered 0
+  pub later : failed ≡ true → moves_data row.command.kind ≡ true → row.error ≡ EIO
 
 -- the rows may stand from this point on
 abbrev pub IsLegal : ℕ → List ℕ → Bool → List Row → Type 0
 IsLegal sectors contents failed [] = Unit {0}
 IsLegal sectors contents failed (row ∷ rows) =
-    MayStand sectors contents failed row × IsLegal sectors (after_row contents row) (failed || row.error == 5) rows
+    MayComeNext sectors contents failed row
+    × IsLegal sectors (after_row contents row) (failed || row.error == EIO) rows

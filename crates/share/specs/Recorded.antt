@@ -3,8 +3,8 @@ use Rattle.std.specs.Prelude.{ℕ, List, Option}
 use Rattle.share.specs.declared.recorder.Row.{Row}
 use Rattle.share.specs.declared.recorder.Interrupted.{Interrupted}
 
--- the contents at the start, the rows, the interrupted command,
--- and the memory that is there: how many rows may still be added, and how many bytes the next one may hold
+-- the contents at the start, the rows, the interrupted command, and the memory that is there: how
+-- many rows may still be added, and how many bytes the next one may hold
 pub record Recorded : Type 0 where
   pub base : List ℕ
   pub rows : List Row

@@ -6,18 +6,22 @@ use Rattle.share.specs.declared.recorder.Row.{Row}
 use Rattle.share.specs.declared.recorder.Interrupted.{Interrupted}
 use Rattle.share.specs.History.{has_failed, replay, IsLeft, IsLegal}
 
--- The rows are a legal history of the contents at the start. While neither a Cut nor a Slow stands in the disk its contents are
--- their replay; where a Cut stands they are what it left of that. All this is said of a sound disk.
-pub record IsKept (sectors : ℕ) (disk : Facts) (base : List ℕ) (rows : List Row) (interrupted : Option Interrupted) : Type 0 where
+-- The rows are a legal history of the contents at the start. While neither a Cut nor a Slow is
+-- latched in the disk its contents are their replay; where a Cut is latched they are what it left
+-- of that. All this is said of a sound disk.
+pub record IsKept (sectors : ℕ) (disk : Facts) (base : List ℕ) (rows : List Row)
+    (interrupted : Option Interrupted) : Type 0 where
   pub legal : disk.sound ≡ true → IsLegal sectors base false rows
-  pub replayed : disk.sound ≡ true → disk.cut ≡ false → disk.slow ≡ false → disk.contents ≡ replay base rows
+  pub replayed : disk.sound ≡ true → disk.cut ≡ false → disk.slow ≡ false
+      → disk.contents ≡ replay base rows
   -- the interrupted command is the one that the Cut took; where it came in tidying there is none
-  pub cut : disk.sound ≡ true → disk.cut ≡ true → IsLeft interrupted (replay base rows) disk.contents
+  pub cut : disk.sound ≡ true → disk.cut ≡ true
+      → IsLeft interrupted (replay base rows) disk.contents
   -- after a Slow no Cut comes
   pub alone : disk.cut ≡ true → disk.slow ≡ false
-  -- a row has error 5 only where a Slow stands
+  -- a row has error EIO only where a Slow is latched
   pub failed : has_failed false rows ≡ true → disk.slow ≡ true
-  -- a command was interrupted only where a Cut stands
+  -- a command was interrupted only where a Cut is latched
   pub whole : disk.cut ≡ false → interrupted ≡ None
 
 -- a server: its disk, the contents at the start, its rows, the command that a cut interrupted,

@@ -1,5 +1,9 @@
-ghost use Rattle.std.specs.Prelude.{◌≡◌, ℕ, ◌+◌, ◌<◌, ◌≤◌, ◌^◌, ◌∷◌, ◌++◌, List, [], length, Bool, true, false, Option, Some, None, OnOk, IsOk, vec_len, vec_capacity};
-ghost use Rattle.share.specs.Lent.{payload_in, reply_in};
+//! What keeps the rows, or nothing.
+
+ghost use Rattle.std.specs.Prelude.{◌≡◌, ℕ, ◌+◌, ◌<◌, ◌≤◌, ◌^◌, ◌∷◌, ◌++◌, List, [], length, Bool};
+ghost use Rattle.std.specs.Prelude.{true, false, Option, Some, None, OnOk, IsOk, vec_len};
+ghost use Rattle.std.specs.Prelude.{vec_capacity};
+ghost use Rattle.nbd_wire.specs.Lent.{payload_in, reply_in};
 
 use nbd_wire::{Command, CommandKind};
 use std::alloc::{AllocError, Global};
@@ -85,11 +89,13 @@ pub trait Recorder {
         ensures rows { rows self.new ≡ rows self.old }
         ensures interrupted { interrupted self.new ≡ interrupted self.old };
 
-    /// Adds a row, in the memory that `prepare` took. `bytes` are those that were lent to the command.
+    /// Adds a row, in the memory that `prepare` took. `bytes` are those that were lent to the
+    /// command.
     fn add(&mut self, connection: u32, command: &Command, error: u32, bytes: &[u8])
         requires { room self.old (length bytes.now) }
         ensures base { base self.new ≡ base self.old }
-        ensures rows { rows self.new ≡ rows_with KEEPS (rows self.old) (row_of connection command.now error bytes.now) }
+        ensures rows { rows self.new ≡ rows_with KEEPS (rows self.old)
+            (row_of connection command.now error bytes.now) }
         ensures fits { KEEPS ≡ true → length (rows self.new) < 2 ^ 64 }
         ensures interrupted { interrupted self.new ≡ interrupted self.old };
 
@@ -98,7 +104,8 @@ pub trait Recorder {
         requires { room self.old (length bytes.now) }
         ensures base { base self.new ≡ base self.old }
         ensures rows { rows self.new ≡ rows self.old }
-        ensures interrupted { KEEPS ≡ true → interrupted self.new ≡ Some (interrupted_of command.now bytes.now) };
+        ensures interrupted { KEEPS ≡ true
+            → interrupted self.new ≡ Some (interrupted_of command.now bytes.now) };
 
     ghost nothing: { (r : Self) → KEEPS ≡ false → rows r ≡ [] };
 }
@@ -182,7 +189,7 @@ impl FullRecord {
     }
 }
 
-// The bytes in the memory that was taken for them.
+/// The bytes in the memory that was taken for them.
 fn filled(spare: Vec<u8>, bytes: &[u8]) -> Vec<u8>
     requires empty { vec_len spare ≡ 0 }
     requires room { length bytes.now ≤ vec_capacity spare }
@@ -195,7 +202,7 @@ fn filled(spare: Vec<u8>, bytes: &[u8]) -> Vec<u8>
     }
 }
 
-// The payload and the reply's data among the lent bytes, in the memory that was taken for them.
+/// The payload and the reply's data among the lent bytes, in the memory that was taken for them.
 fn parts(
     alloc: Global,
     spare: Vec<u8>,

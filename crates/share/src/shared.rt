@@ -1,22 +1,28 @@
-ghost use Rattle.std.specs.Prelude.{◌≡◌, ◌⊎◌, ℕ, ◌+◌, ◌*◌, ◌/◌, ◌%◌, ◌<◌, ◌≤◌, ◌^◌, ◌↔◌, List, [], ◌∷◌, ◌++◌, length, Bool, true, false, Option, Some, None, IfSome, IfNone, IsSome, OnSome, IfOk, IfErr, OnOk, OnErr, IsErrOf, MatchResult, vec_len, sum_by};
+//! One disk with its recorder: a command is run, and its row kept.
+
+ghost use Rattle.std.specs.Prelude.{◌≡◌, ◌⊎◌, ℕ, ◌+◌, ◌*◌, ◌/◌, ◌%◌, ◌<◌, ◌≤◌, ◌^◌, ◌↔◌, List, []};
+ghost use Rattle.std.specs.Prelude.{◌∷◌, ◌++◌, length, Bool, true, false, Option, Some, None};
+ghost use Rattle.std.specs.Prelude.{IfSome, IfNone, IsSome, OnSome, IfOk, IfErr, OnOk, OnErr};
+ghost use Rattle.std.specs.Prelude.{IsErrOf, MatchResult, vec_len, sum_by};
 ghost use Rattle.block_device.specs.Contents.{Outcome};
-ghost use Rattle.block_device.specs.Facts.{Facts, Goes, Tidies};
+ghost use Rattle.block_device.specs.Facts.{Facts, CountsNeverFall, Tidies};
 ghost use Rattle.nbd_wire.specs.Commands.{judge_of, moves_data};
 ghost use Rattle.nbd_transmission.specs.Apply.{changed_by, data_of};
-ghost use Rattle.share.specs.Lent.{lent_len, is_read, reply_in};
+ghost use Rattle.nbd_wire.specs.Lent.{lent_len, is_read, reply_in};
 ghost use Rattle.share.specs.History.{row_of, rows_with};
 ghost use Rattle.share.specs.Doing.{one_more};
 
 use crate::pass::{Counts, OneServer, Pass};
 use crate::recorder::{Bytes, FullRecord, NoRecord, Recorder, Row};
 use block_device::{Disk, DiskError};
+use nbd_transmission::first_sector;
 use nbd_wire::{Command, CommandKind, EIO, ENOMEM, SECTOR_LEN};
 use std::alloc::Global;
 use std::marker::Model;
 use std::sync::ledger::Blank;
 
-/// A command, the error that answers it (0, EIO or ENOMEM), and the borrow of the bytes that were lent
-/// to it: a READ's data where the error is 0. Only this module makes one.
+/// A command, the error that answers it (0, EIO or ENOMEM), and the borrow of the bytes that were
+/// lent to it: a READ's data where the error is 0. Only this module makes one.
 #[derive(Drop)]
 pub struct Answer<'a> {
     command: Command,
@@ -72,8 +78,8 @@ impl<'a> Answer<'a> {
 pub enum Done<'a> {
     /// It is answered.
     Replied(Answer<'a>),
-    /// A power loss took it: each sector of a sound disk is as before, or as the command was to make
-    /// it. No later command runs.
+    /// A power loss took it: each sector of a sound disk is as before, or as the command was to
+    /// make it. No later command runs.
     Lost,
 }
 
@@ -117,7 +123,8 @@ impl<D: Disk, R: Recorder, L: OneServer> Model for Shared<D, R, L> {
       fits : length (R.rows s.recorder) < 2 ^ 64;
       lost : s.lost ≡ true → (D.facts s.disk).cut ≡ true;
       stands : R.KEEPS ≡ true → (D.facts s.disk).cut ≡ true → s.lost ≡ true;
-      kept : R.KEEPS ≡ true → IsKept L.sectors (D.facts s.disk) (R.base s.recorder) (R.rows s.recorder) (R.interrupted s.recorder);
+      kept : R.KEEPS ≡ true → IsKept L.sectors (D.facts s.disk) (R.base s.recorder)
+          (R.rows s.recorder) (R.interrupted s.recorder);
     } };
 }
 
@@ -142,9 +149,9 @@ impl<D: Disk, L: OneServer> Shared<D, NoRecord, L> {
 }
 
 impl<D: Disk, L: OneServer> Shared<D, FullRecord, L> {
-    /// A server that keeps its rows, with the disk's contents as their base. `blank` has 65,537 parts.
-    /// Cut and Slow come from reading the disk; each error hands the disk back, of the same size, and sound
-    /// where it was. Cut leaves the contents, OutOfMemory all of the disk.
+    /// A server that keeps its rows, with the disk's contents as their base. `blank` has 65,537
+    /// parts. Cut and Slow come from reading the disk; each error hands the disk back, of the same
+    /// size, and sound where it was. Cut leaves the contents, OutOfMemory all of the disk.
     pub fn recording(
         alloc: Global,
         disk: D,
@@ -153,16 +160,25 @@ impl<D: Disk, L: OneServer> Shared<D, FullRecord, L> {
         requires sectors { length (D.facts disk).contents ≡ 512 * L.sectors }
         requires name { blank.name ≡ L.name }
         requires parts { (blank.parts ≡ L.parts) × (blank.parts ≡ 65537) }
-        ensures base { IfOk result (λ s. (D.facts disk).sound ≡ true → (s.base ≡ (D.facts disk).contents) × (s.disk.contents ≡ (D.facts disk).contents)) }
-        ensures disk { IfOk result (λ s. (s.disk.sound ≡ (D.facts disk).sound) × (s.disk.cut ≡ false) × (s.disk.slow ≡ false) × Goes (D.facts disk) s.disk) }
+        ensures base { IfOk result (λ s. (D.facts disk).sound ≡ true
+            → (s.base ≡ (D.facts disk).contents) × (s.disk.contents ≡ (D.facts disk).contents)) }
+        ensures disk { IfOk result (λ s. (s.disk.sound ≡ (D.facts disk).sound)
+            × (s.disk.cut ≡ false) × (s.disk.slow ≡ false)
+            × CountsNeverFall (D.facts disk) s.disk) }
         ensures rows { IfOk result (λ s. (s.rows ≡ []) × (s.interrupted ≡ None)) }
         ensures given { IfOk result (λ s. (s.given ≡ 0) × (s.closed ≡ false)) }
         ensures lost { IfOk result (λ s. s.lost ≡ false) }
-        ensures cut { IfErr result (λ e. e.0 ≡ RecordError.Cut → ((D.facts e.1).cut ≡ true) × (((D.facts disk).cut ≡ true) ⊎ ((D.facts disk).cuts < (D.facts e.1).cuts))) }
-        ensures slow { IfErr result (λ e. e.0 ≡ RecordError.Slow → ((D.facts e.1).slow ≡ true) × (((D.facts disk).slow ≡ true) ⊎ ((D.facts disk).slows < (D.facts e.1).slows))) }
+        ensures cut { IfErr result (λ e. e.0 ≡ RecordError.Cut
+            → ((D.facts e.1).cut ≡ true) ×
+            (((D.facts disk).cut ≡ true) ⊎ ((D.facts disk).cuts < (D.facts e.1).cuts))) }
+        ensures slow { IfErr result (λ e. e.0 ≡ RecordError.Slow
+            → ((D.facts e.1).slow ≡ true)
+            × (((D.facts disk).slow ≡ true) ⊎ ((D.facts disk).slows < (D.facts e.1).slows))) }
         ensures memory { IfErr result (λ e. e.0 ≡ RecordError.OutOfMemory → e.1 ≡ disk) }
-        ensures back { IfErr result (λ e. Goes (D.facts disk) (D.facts e.1) × ((D.facts e.1).sound ≡ (D.facts disk).sound)) }
-        ensures kept { IfErr result (λ e. e.0 ≡ RecordError.Cut → (D.facts disk).sound ≡ true → (D.facts e.1).contents ≡ (D.facts disk).contents) }
+        ensures back { IfErr result (λ e. CountsNeverFall (D.facts disk) (D.facts e.1)
+            × ((D.facts e.1).sound ≡ (D.facts disk).sound)) }
+        ensures kept { IfErr result (λ e. e.0 ≡ RecordError.Cut → (D.facts disk).sound ≡ true
+            → (D.facts e.1).contents ≡ (D.facts disk).contents) }
     {
         let mut disk = disk;
         let size = SECTOR_LEN as usize * disk.sectors() as usize;
@@ -185,9 +201,10 @@ impl<D: Disk, L: OneServer> Shared<D, FullRecord, L> {
 impl<D: Disk, R: Recorder, L: OneServer> Shared<D, R, L> {
     ghost use Rattle.share.specs.Doing.{Executes, Tidied};
 
-    /// Runs one command that the request table accepts, over the bytes that are lent to it: a WRITE's
-    /// payload, the room for a READ's data, none for a FLUSH. The memory of the row comes first: where
-    /// it is refused, the reply is ENOMEM and nothing runs. Then the disk, then the row.
+    /// Runs one command that the request table accepts, over the bytes that are lent to it: a
+    /// WRITE's payload, the room for a READ's data, none for a FLUSH. The memory of the row comes
+    /// first: where it is refused, the reply is ENOMEM and nothing runs. Then the disk, then the
+    /// row.
     pub fn execute<'a>(
         &mut self,
         pass: &mut Pass<L>,
@@ -196,7 +213,8 @@ impl<D: Disk, R: Recorder, L: OneServer> Shared<D, R, L> {
     ) -> Done<'a>
         requires accepted { judge_of command.now L.sectors ≡ None }
         requires lent { length «data».old ≡ lent_len command.now }
-        ensures executes { Executes R.KEEPS self.old self.new pass.old pass.new command.now «data».old result }
+        ensures executes { Executes R.KEEPS self.old self.new pass.old pass.new command.now
+            «data».old result }
     {
         let Shared {
             disk,
@@ -227,8 +245,8 @@ impl<D: Disk, R: Recorder, L: OneServer> Shared<D, R, L> {
         }
     }
 
-    /// One step of tidying. It adds no row, and Ok and Cut keep the contents; false says that nothing was
-    /// left to tidy, true that less is left. After a Cut every later command is lost.
+    /// One step of tidying. It adds no row, and Ok and Cut keep the contents; false says that
+    /// nothing was left to tidy, true that less is left. After a Cut every later command is lost.
     pub fn tidy(&mut self) -> Result<bool, DiskError>
         ensures { Tidied self.old self.new result }
     {
@@ -246,8 +264,8 @@ impl<D: Disk, R: Recorder, L: OneServer> Shared<D, R, L> {
         &self.disk
     }
 
-    /// The pass with the next number: 0, 1, 2 and so on to 65,535, each once; then None, and also once
-    /// `total` answered Some.
+    /// The pass with the next number: 0, 1, 2 and so on to 65,535, each once; then None, and also
+    /// once `total` answered Some.
     pub fn pass(&mut self) -> Option<Pass<L>>
         ensures next { IfSome result (λ p. (p.connection ≡ self.old.given) × (p.count ≡ 0)) }
         ensures some { IsSome result ↔ ((self.old.closed ≡ false) × (self.old.given < 65536)) }
@@ -258,11 +276,12 @@ impl<D: Disk, R: Recorder, L: OneServer> Shared<D, R, L> {
         self.counts.pass(sectors)
     }
 
-    /// How many rows were added: the sum of the counts of the passes, exactly where every pass that was
-    /// given is handed in. From then on `pass` and `total` answer None. None drops the passes, and changes
-    /// nothing else.
+    /// How many rows were added: the sum of the counts of the passes, exactly where every pass that
+    /// was given is handed in. From then on `pass` and `total` answer None. None drops the passes,
+    /// and changes nothing else.
     pub fn total(&mut self, passes: Vec<Pass<L>>) -> Option<u64>
-        ensures some { IsSome result ↔ ((self.old.closed ≡ false) × (vec_len passes ≡ self.old.given)) }
+        ensures some { IsSome result ↔
+            ((self.old.closed ≡ false) × (vec_len passes ≡ self.old.given)) }
         ensures sum { IfSome result (λ n. n ≡ sum_by (λ p. p.count) passes.items) }
         ensures rows { IfSome result (λ n. n ≡ length self.old.rows) }
         ensures closed { OnSome result (self.new ≡ record self.old { closed = true }) }
@@ -275,20 +294,21 @@ impl<D: Disk, R: Recorder, L: OneServer> Shared<D, R, L> {
 impl<D: Disk, L: OneServer> Shared<D, FullRecord, L> {
     ghost use Rattle.share.specs.State.{IsKept};
 
-    /// Lends the rows, in the order in which their commands ran. Whenever a server that keeps rows is
-    /// got, they are a legal history of the contents at its start, and while neither a Cut nor a Slow
-    /// stands in its sound disk, the disk's contents are their replay. Where a Cut stands, each
-    /// sector is as in their replay, or as the lost command was to make it; they are the replay where
-    /// the Cut came in tidying.
+    /// Lends the rows, in the order in which their commands ran. Whenever a server that keeps rows
+    /// is got, they are a legal history of the contents at its start, and while neither a Cut nor a
+    /// Slow is latched in its sound disk, the disk's contents are their replay. Where a Cut is
+    /// latched, each sector is as in their replay, or as the lost command was to make it; they are
+    /// the replay where the Cut came in tidying.
     pub fn rows(&self) -> &[Row]
         ensures rows { result.now ≡ self.now.rows }
-        ensures kept { IsKept L.sectors self.now.disk self.now.base self.now.rows self.now.interrupted }
+        ensures kept { IsKept L.sectors self.now.disk self.now.base self.now.rows
+            self.now.interrupted }
     {
         self.recorder.rows()
     }
 }
 
-// A row more, and one more for the pass.
+/// A row more, and one more for the pass.
 fn note<R: Recorder, L: OneServer>(
     recorder: &mut R,
     counts: &mut Counts<L>,
@@ -299,12 +319,15 @@ fn note<R: Recorder, L: OneServer>(
 )
     requires room { R.room recorder.old (length bytes.now) }
     requires counted { counts.old.book.total ≡ length (R.rows recorder.old) }
-    ensures rows { R.rows recorder.new ≡ rows_with R.KEEPS (R.rows recorder.old) (row_of pass.old.connection command.now error bytes.now) }
+    ensures rows { R.rows recorder.new
+        ≡ rows_with R.KEEPS (R.rows recorder.old)
+        (row_of pass.old.connection command.now error bytes.now) }
     ensures base { R.base recorder.new ≡ R.base recorder.old }
     ensures interrupted { R.interrupted recorder.new ≡ R.interrupted recorder.old }
     ensures counted { counts.new.book.total ≡ length (R.rows recorder.new) }
     ensures fits { length (R.rows recorder.old) < 2 ^ 64 → length (R.rows recorder.new) < 2 ^ 64 }
-    ensures given { (counts.new.given ≡ counts.old.given) × (counts.new.closed ≡ counts.old.closed) }
+    ensures given { (counts.new.given ≡ counts.old.given)
+        × (counts.new.closed ≡ counts.old.closed) }
     ensures count { pass.new.count ≡ one_more R.KEEPS pass.old.count }
     ensures connection { pass.new.connection ≡ pass.old.connection }
 {
@@ -314,7 +337,7 @@ fn note<R: Recorder, L: OneServer>(
     }
 }
 
-// Runs an accepted command on the disk.
+/// Runs an accepted command on the disk.
 fn run<D: Disk>(
     disk: &mut D,
     command: &Command,
@@ -324,15 +347,28 @@ fn run<D: Disk>(
     requires accepted { judge_of command.now sectors ≡ None }
     requires size { length (D.facts disk.old).contents ≡ 512 * sectors }
     requires lent { length bytes.old ≡ lent_len command.now }
-    ensures goes { Goes (D.facts disk.old) (D.facts disk.new) }
+    ensures goes { CountsNeverFall (D.facts disk.old) (D.facts disk.new) }
     ensures sound { (D.facts disk.new).sound ≡ (D.facts disk.old).sound }
     ensures kept { is_read command.now ≡ false → bytes.new ≡ bytes.old }
-    ensures contents { OnOk result ((D.facts disk.old).sound ≡ true → (D.facts disk.new).contents ≡ changed_by (D.facts disk.old).contents command.now bytes.old) }
-    ensures reply { OnOk result ((D.facts disk.old).sound ≡ true → reply_in command.now 0 bytes.new ≡ data_of (D.facts disk.old).contents command.now) }
-    ensures left { IsErrOf result DiskError.Cut → (D.facts disk.old).sound ≡ true → Outcome (D.facts disk.old).contents (changed_by (D.facts disk.old).contents command.now bytes.old) (D.facts disk.new).contents }
-    ensures ok { OnOk result (((D.facts disk.old).cut ≡ false) × ((D.facts disk.new).cut ≡ false) × ((D.facts disk.new).slow ≡ (D.facts disk.old).slow) × (moves_data command.now.kind ≡ true → (D.facts disk.old).slow ≡ false)) }
-    ensures cut { IsErrOf result DiskError.Cut → (((D.facts disk.old).cut ≡ true) ⊎ (((D.facts disk.old).slow ≡ false) × ((D.facts disk.old).cuts < (D.facts disk.new).cuts))) × ((D.facts disk.new).cut ≡ true) × ((D.facts disk.new).slow ≡ (D.facts disk.old).slow) }
-    ensures slow { IsErrOf result DiskError.Slow → (moves_data command.now.kind ≡ true) × ((D.facts disk.old).cut ≡ false) × (((D.facts disk.old).slow ≡ true) ⊎ ((D.facts disk.old).slows < (D.facts disk.new).slows)) × ((D.facts disk.new).cut ≡ false) × ((D.facts disk.new).slow ≡ true) }
+    ensures contents { OnOk result ((D.facts disk.old).sound ≡ true
+        → (D.facts disk.new).contents ≡ changed_by (D.facts disk.old).contents command.now
+        bytes.old) }
+    ensures reply { OnOk result ((D.facts disk.old).sound ≡ true
+        → reply_in command.now 0 bytes.new ≡ data_of (D.facts disk.old).contents command.now) }
+    ensures left { IsErrOf result DiskError.Cut → (D.facts disk.old).sound ≡ true
+        → Outcome (D.facts disk.old).contents
+        (changed_by (D.facts disk.old).contents command.now bytes.old) (D.facts disk.new).contents }
+    ensures ok { OnOk result (((D.facts disk.old).cut ≡ false) × ((D.facts disk.new).cut ≡ false)
+        × ((D.facts disk.new).slow ≡ (D.facts disk.old).slow)
+        × (moves_data command.now.kind ≡ true → (D.facts disk.old).slow ≡ false)) }
+    ensures cut { IsErrOf result DiskError.Cut
+        → (((D.facts disk.old).cut ≡ true)
+        ⊎ (((D.facts disk.old).slow ≡ false) × ((D.facts disk.old).cuts < (D.facts disk.new).cuts)))
+        × ((D.facts disk.new).cut ≡ true) × ((D.facts disk.new).slow ≡ (D.facts disk.old).slow) }
+    ensures slow { IsErrOf result DiskError.Slow
+        → (moves_data command.now.kind ≡ true) × ((D.facts disk.old).cut ≡ false)
+        × (((D.facts disk.old).slow ≡ true) ⊎ ((D.facts disk.old).slows < (D.facts disk.new).slows))
+        × ((D.facts disk.new).cut ≡ false) × ((D.facts disk.new).slow ≡ true) }
 {
     match command.kind {
         CommandKind::Read => disk.read(first_sector(command, sectors), bytes),
@@ -341,15 +377,4 @@ fn run<D: Disk>(
         CommandKind::Disconnect => unreachable!(),
         CommandKind::Unknown(_) => unreachable!(),
     }
-}
-
-// The first sector of an accepted READ or WRITE.
-fn first_sector(command: &Command, sectors: u32) -> u32
-    requires accepted { judge_of command.now sectors ≡ None }
-    requires kind { moves_data command.now.kind ≡ true }
-    ensures first { 512 * result ≡ command.now.offset }
-    ensures range { command.now.offset + command.now.length ≤ 512 * sectors }
-    ensures whole { (k : ℕ) × (command.now.length ≡ 512 * k) }
-{
-    (command.offset / u64::from(SECTOR_LEN)) as u32
 }

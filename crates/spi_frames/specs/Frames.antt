@@ -1,4 +1,5 @@
--- The bytes of frames with an address. Source: datasheet of the W25Q128JV, the instruction set table.
+-- The bytes of frames with an address. Source: datasheet of the W25Q128JV, the instruction set
+-- table.
 use Rattle.std.specs.Prelude.{ℕ, ◌/◌, ◌%◌, List, ◌∷◌}
 use Rattle.spi_frames.specs.declared.register.Register.{Register}
 use Rattle.spi_frames.specs.declared.register.Register.TheVariants as registers

@@ -1,3 +1,5 @@
+//! The bytes of each frame.
+
 ghost use Rattle.std.specs.Prelude.{◌≡◌, ◌^◌, ◌/◌, ◌%◌, ◌<◌, ◌≤◌, [], ◌∷◌, length};
 ghost use Rattle.spi_frames.specs.Frames.{addressed, status_code};
 

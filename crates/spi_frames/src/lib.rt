@@ -1,13 +1,15 @@
-//! The bytes of the frames that a driver sends to a serial flash chip, and the bits of the chip's status registers.
+//! The bytes of the frames that a driver sends to a serial flash chip, and the bits of the chip's
+//! status registers.
 //!
-//! Each builder gives exactly the bytes of its frame, in a vector that takes no memory, of at most 260 bytes for a program and of
-//! at most 5 for every other frame; none of them fails. The bits of the three status registers are sets with names.
+//! Each builder gives exactly the bytes of its frame, in a vector that takes no memory, of at most
+//! 260 bytes for a program and of at most 5 for every other frame; none of them fails. The bits of
+//! the three status registers are sets with names.
 //!
-//! Left to the crate above: that addresses lie on the chip and a program's bytes in one page, the write enable before a
-//! change, and the waiting after it.
+//! Left to the crate above: that addresses lie on the chip and a program's bytes in one page, the
+//! write enable before a change, and the waiting after it.
 //!
-//! Source: datasheet of the W25Q128JV, the instruction set table, the descriptions of the instructions, and "Status
-//! Registers".
+//! Source: datasheet of the W25Q128JV, the instruction set table, the descriptions of the
+//! instructions, and "Status Registers".
 
 #![tactic(auto)]
 

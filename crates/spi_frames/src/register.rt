@@ -1,3 +1,5 @@
+//! The three status registers.
+
 /// A status register.
 #[derive(Clone, Copy, Debug, PartialEq, Eq)]
 pub enum Register {

@@ -1,4 +1,5 @@
-// The bits of the status registers.
+//! The bits of the status registers.
+
 ghost use Rattle.std.specs.Prelude.{⊤, ◌≡◌, ◌==◌, ◌/◌, ◌%◌, [], ◌∷◌, codes, not};
 
 use bitflags::{Flag, Flags, bitflag_items};
@@ -23,7 +24,8 @@ impl Flags for Status1 {
 
     ghost exact = { ⊤ };
 
-    ghost table = { (codes "BUSY", 1) ∷ (codes "WEL", 2) ∷ (codes "BP", 28) ∷ (codes "TB", 32) ∷ (codes "SEC", 64) ∷ (codes "SRP", 128) ∷ [] };
+    ghost table = { (codes "BUSY", 1) ∷ (codes "WEL", 2) ∷ (codes "BP", 28) ∷ (codes "TB", 32)
+        ∷ (codes "SEC", 64) ∷ (codes "SRP", 128) ∷ [] };
 
     ghost set_of = { λ s. s.0 };
 

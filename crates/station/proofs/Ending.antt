@@ -2,15 +2,16 @@
 use Rattle.std.proofs.Common.{◌≡◌, inl, inr, ℕ, Bool, true, false, List, [], ◌∷◌, ◌++◌, length, Option, None, Some, replicate, zero, suc, ◌<◌, ◌≤◌, arith, refl, sym, ◌∙◌, ap, append_assoc, subst, get_or, take, drop, ◌+◌}
 use Rattle.std.specs.Prelude.{MatchOption, not, ◌*◌}
 use Rattle.std.proofs.lemmas.List.{append-nil, take_more}
-use Rattle.block_device.specs.Streams.{Appends-twice}
+use Rattle.std.proofs.KnownBytes.{Appends-trans}
 use Rattle.station.specs.declared.event.Event.{Event}
 use Rattle.station.specs.declared.event.Event.TheVariants.{Open, Piece, Gone, Tidy, Restore}
 use Rattle.station.specs.World.{World, text_at}
 use Rattle.station.specs.Transcript.{Move, Transcript}
 use Rattle.block_device.specs.Facts.{Facts}
-use Rattle.station.specs.Board.{Board, IsNew, LinesStand}
+use Rattle.station.specs.Board.{Board, IsNew, ConnectionsRepresent}
 use Rattle.station.specs.Broken.{Breaks, Begun, BegunBy}
-use Rattle.station.specs.Running.{Moves, Halts, HangsUp, Runs, Ends}
+use Rattle.station.specs.Running.{Runs, Ends}
+use Rattle.station.specs.Moving.{Moves, Halts, HangsUp}
 use Rattle.station.proofs.Pieces.{appends_none}
 use Rattle.station.proofs.Lines.{lines_dark}
 
@@ -34,7 +35,7 @@ runs_more old mid new es e was is now a b run move = λ same w s.
     let two : new.disk.slows ≡ mid.disk.slows = omega arith in
     let r = run one w s in
     let m = move two r.0 r.4 in
-    (m.0, r.1 ++ m.1, Appends-twice was is now r.1 m.1 r.2 m.2, transcript_more old.disk.cuts mid.disk.cuts new.disk.cuts w r.0 m.0 es e r.1 m.1 r.3 m.3, m.4)
+    (m.0, r.1 ++ m.1, Appends-trans was is now r.1 m.1 r.2 m.2, transcript_more old.disk.cuts mid.disk.cuts new.disk.cuts w r.0 m.0 es e r.1 m.1 r.3 m.3, m.4)
 
 pub runs_more_at : (old mid new : Board) (es : List Event) (i : ℕ) (d : Event) (was is now : Option (List ℕ))
     → i < length es → old.disk.slows ≤ mid.disk.slows → mid.disk.slows ≤ new.disk.slows → Runs old mid (take i es) was is → Moves mid new (get_or es i d) is now
@@ -59,7 +60,7 @@ ends_at old mid new es i d was is now lt a b run hangs = λ same w s.
     let m = hangs two r.0 r.4 in (
       m.0,
       r.1 ++ m.1,
-      Appends-twice was is now r.1 m.1 r.2 m.2,
+      Appends-trans was is now r.1 m.1 r.2 m.2,
       record {
         before = take i es;
         event = get_or es i d;
@@ -91,7 +92,7 @@ begun_by_hung Restore w w' b = absurd b
 breaks_hung : (c c' : ℕ) (w w' : World) (e : Event) (out : List ℕ) → Breaks c w e out c' w' → w'.texts ≡ replicate 8 None
 breaks_hung c c' w w' e out b = elim b.reached [ inl h ↦ ap (λ (v : World). v.texts) h | inr h ↦ begun_by_hung e w w' h ]
 
--- so the station stands for that world once it closed them too
+-- so the station represents that world once it closed them too
 pub hangs_up : (old mid new : Board) (e : Event) (was is : Option (List ℕ)) → length mid.sessions ≡ 8 → new ≡ record mid { is_open = replicate 8 false } → Halts old mid e was is → HangsUp old new e was is
 hangs_up old mid new e was is eight same h =
     subst (λ b. HangsUp old b e was is) (sym same) (λ quiet w s.
@@ -103,7 +104,7 @@ hangs_up old mid new e was is eight same h =
       x.3,
       record {
         disk = record { sound = d.sound; slow = d.slow; cut = d.cut; sectors = d.sectors; contents = d.contents; power = d.power };
-        texts = subst (λ t. LinesStand mid.sessions (replicate 8 false) t) (sym (breaks_hung old.disk.cuts mid.disk.cuts w x.0 e x.1 x.3)) (lines_dark 8 mid.sessions eight);
+        texts = subst (λ t. ConnectionsRepresent mid.sessions (replicate 8 false) t) (sym (breaks_hung old.disk.cuts mid.disk.cuts w x.0 e x.1 x.3)) (lines_dark 8 mid.sessions eight);
       },
     ))
 
@@ -125,6 +126,6 @@ is_new f b same size power eight shut = record {
       contents = ap (λ (x : Facts). x.contents) (sym same);
       power = ap not power ∙ not_not b.power;
     };
-    texts = subst (λ bs. LinesStand b.sessions bs (replicate 8 None)) (sym shut) (lines_dark 8 b.sessions eight);
+    texts = subst (λ bs. ConnectionsRepresent b.sessions bs (replicate 8 None)) (sym shut) (lines_dark 8 b.sessions eight);
   };
 }

@@ -1,4 +1,3 @@
-mod Accepted
 mod Turns
 mod Pieces
 mod Lines
@@ -10,3 +9,4 @@ mod Plainly
 mod Filling
 mod Refusing
 mod Scripting
+mod Rows

@@ -4,29 +4,29 @@ use Rattle.std.specs.Borrow.{Bor}
 use Rattle.std.specs.Prelude.{not, MatchBool, MatchOption, Result, Ok, Err}
 use Rattle.std.specs.Io.KnownBytes.{Appends}
 use Rattle.block_device.specs.Facts.{Facts}
-use Rattle.block_device.specs.Streams.{Appends-twice, Sends, Fails}
+use Rattle.block_device.specs.Streams.{Sends, FailsToSend}
+use Rattle.std.proofs.KnownBytes.{Appends-trans}
 use Rattle.nbd_handshake.specs.Greeting.{greeting_bytes}
-use Rattle.session.specs.Line.{Line}
-use Rattle.station.specs.declared.entries.TheConstants.{DONE, LOST, ABSENT, NO_ONE}
+use Rattle.session.specs.Sessions.{SessionState}
+use Rattle.station.specs.Records.{DONE, LOST, ABSENT, NO_ONE, entry, replied}
 use Rattle.station.specs.declared.event.Event.{Event}
 use Rattle.station.specs.declared.event.Event.TheVariants.{Open, Piece, Gone, Tidy, Restore}
-use Rattle.station.specs.Records.{entry, replied}
 use Rattle.station.specs.World.{World, Powered, Unpowered, dark, hung_up, text_at, with_text}
 use Rattle.station.specs.Transcript.{Move}
-use Rattle.station.specs.Board.{Board, DiskStands, Stands, Serves}
-use Rattle.station.specs.Running.{Does, Halts}
+use Rattle.station.specs.Board.{Board, DiskRepresents, StationRepresents, ServesText}
+use Rattle.station.specs.Moving.{Does, Halts}
 use Rattle.station.proofs.Pieces.{longer, appends_none}
 use Rattle.station.proofs.Lines.{lines_set, lines_dark, lines_past, lines_none, lines_some, lines_close}
 
-abbrev pub board : Facts → ℕ → Bool → List Line → List Bool → Board
+abbrev pub board : Facts → ℕ → Bool → List SessionState → List Bool → Board
 board f n on ss bs = record { disk = f; sectors = n; power = on; sessions = ss; is_open = bs }
 
 -- an event whose last record is this one: what was told before it, and the move
 abbrev pub Leads : Board → Board → Event → Option (List ℕ) → Option (List ℕ) → List ℕ → Type 0
-Leads old new e was mid last = new.disk.slows ≡ old.disk.slows → (w : World) → Stands old w →
-    (told : List ℕ) × Appends was mid told × (w' : World) × Move old.disk.cuts w e (told ++ last) new.disk.cuts w' × Stands new w'
+Leads old new e was mid last = new.disk.slows ≡ old.disk.slows → (w : World) → StationRepresents old w →
+    (told : List ℕ) × Appends was mid told × (w' : World) × Move old.disk.cuts w e (told ++ last) new.disk.cuts w' × StationRepresents new w'
 
-hung : (b : Board) (w : World) → DiskStands b w → DiskStands b (hung_up w)
+hung : (b : Board) (w : World) → DiskRepresents b w → DiskRepresents b (hung_up w)
 hung b w s = record { sound = s.sound; slow = s.slow; cut = s.cut; sectors = s.sectors; contents = s.contents; power = s.power }
 
 -- an event whose records end with this one, by what became of the output
@@ -34,13 +34,13 @@ pub does_by : {T E : Type 0} (old new : Board) (e : Event) (was mid is : Option 
     → Leads old new e was mid last → Sends mid f last r is f' → Does old new e was r is
 does_by old new e was mid is last (Ok v) f f' leads sent = λ same w s.
     let l = leads same w s in
-    (l.2, l.0 ++ last, Appends-twice was mid is l.0 last l.1 sent.0, l.3, l.4)
+    (l.2, l.0 ++ last, Appends-trans was mid is l.0 last l.1 sent.0, l.3, l.4)
 does_by old new e was mid is last (Err x) f f' leads sent = λ same w s.
     let l = leads same w s in
     let t = sent.0 in (
       hung_up l.2,
       l.0 ++ t.0,
-      Appends-twice was mid is l.0 t.0 l.1 t.3,
+      Appends-trans was mid is l.0 t.0 l.1 t.3,
       record {
         unsent = t.1;
         missing = t.4;
@@ -53,7 +53,7 @@ does_by old new e was mid is last (Err x) f f' leads sent = λ same w s.
 
 -- an event of one record
 pub simply : (old new : Board) (e : Event) (was : Option (List ℕ)) (last : List ℕ)
-    → (new.disk.slows ≡ old.disk.slows → (w : World) → Stands old w → (w' : World) × Move old.disk.cuts w e last new.disk.cuts w' × Stands new w')
+    → (new.disk.slows ≡ old.disk.slows → (w : World) → StationRepresents old w → (w' : World) × Move old.disk.cuts w e last new.disk.cuts w' × StationRepresents new w')
     → Leads old new e was was last
 simply old new e was last m = λ same w s. let x = m same w s in ([], appends_none was, x.0, x.1, x.2)
 
@@ -73,13 +73,13 @@ refused b e who was off un = simply b b e was (entry who LOST []) (λ same w s.
     (w, inl (step_off w.power (Powered w e (entry who LOST []) w) (Unpowered w e (entry who LOST []) w) p (un w), omega arith), s))
 
 -- an event that changes nothing
-pub ignored : (b : Board) (e : Event) (who : ℕ) (kind : ℕ) (was : Option (List ℕ)) → b.power ≡ true → ((w : World) → Stands b w → Powered w e (entry who kind []) w) → Leads b b e was was (entry who kind [])
+pub ignored : (b : Board) (e : Event) (who : ℕ) (kind : ℕ) (was : Option (List ℕ)) → b.power ≡ true → ((w : World) → StationRepresents b w → Powered w e (entry who kind []) w) → Leads b b e was was (entry who kind [])
 ignored b e who kind was on po = simply b b e was (entry who kind []) (λ same w s.
     let d = s.disk in
     let p : w.power ≡ true = d.power ∙ on in
     (w, inl (step_on w.power (Powered w e (entry who kind []) w) (Unpowered w e (entry who kind []) w) p (po w s), omega arith), s))
 
-module _ (f f' : Facts) (n : ℕ) (on : Bool) (ss : List Line) (bs : List Bool) (was : Option (List ℕ)) where
+module _ (f f' : Facts) (n : ℕ) (on : Bool) (ss : List SessionState) (bs : List Bool) (was : Option (List ℕ)) where
   pub tidied : on ≡ true → (f.sound ≡ true → f'.contents ≡ f.contents) → f'.sound ≡ f.sound → f.cuts ≤ f'.cuts → f'.cut ≡ false → f'.slow ≡ false
       → Leads (board f n on ss bs) (board f' n on ss bs) Tidy was was (entry NO_ONE DONE [])
   tidied power kept sound cuts cut slow = simply (board f n on ss bs) (board f' n on ss bs) Tidy was (entry NO_ONE DONE []) (λ same w s.
@@ -113,8 +113,8 @@ module _ (f f' : Facts) (n : ℕ) (on : Bool) (ss : List Line) (bs : List Bool) 
   restored kept sound cuts cut slow = simply (board f n on ss bs) (board f' n true ss bs) Restore was (entry NO_ONE DONE []) (λ same w s.
       let d = s.disk in
       by_power on w d.power s d) where
-        by_power : (b : Bool) → (w : World) → w.power ≡ b → Stands (board f n on ss bs) w → DiskStands (board f n on ss bs) w
-            → (w' : World) × Move f.cuts w Restore (entry NO_ONE DONE []) f'.cuts w' × Stands (board f' n true ss bs) w'
+        by_power : (b : Bool) → (w : World) → w.power ≡ b → StationRepresents (board f n on ss bs) w → DiskRepresents (board f n on ss bs) w
+            → (w' : World) × Move f.cuts w Restore (entry NO_ONE DONE []) f'.cuts w' × StationRepresents (board f' n true ss bs) w'
         by_power true w p s d = (
           w,
           inl (rw p (refl, refl), cuts),
@@ -151,7 +151,7 @@ does_seen view old new e was is r same d = subst (λ b. Does b new e was r is) s
 pub seen_power : (view old : Board) (b : Bool) → view ≡ old → view.power ≡ b → old.power ≡ b
 seen_power view old b same p = subst (λ (v : Board). v.power ≡ b) same p
 
-no_text : (b : Board) (c : ℕ) (w : World) → length b.sessions ≡ 8 → (8 ≤ c) ⊎ (get_or b.is_open c false ≡ false) → Stands b w → text_at w c ≡ None
+no_text : (b : Board) (c : ℕ) (w : World) → length b.sessions ≡ 8 → (8 ≤ c) ⊎ (get_or b.is_open c false ≡ false) → StationRepresents b w → text_at w c ≡ None
 no_text b c w eight cause s = elim cause [
   | inl h ↦ (let le : length b.sessions ≤ c = omega arith in lines_past b.sessions b.is_open w.texts c s.texts le)
   | inr h ↦ lines_none b.sessions b.is_open w.texts c s.texts h
@@ -178,7 +178,7 @@ open_none b c was on cause = ignored b (Open c) c ABSENT was on (λ w s.
     let why : (8 ≤ c) ⊎ (text_at w c ≡ None → ⊥) = elim cause [ inl h ↦ inl h | inr h ↦ inr (λ e. let some = (lines_some b.sessions b.is_open w.texts c s.texts h).1 in cc) ] in
     inr (why, (refl, refl)))
 
-module _ (f : Facts) (n : ℕ) (on : Bool) (ss : List Line) (bs : List Bool) (c : ℕ) (power : on ≡ true) where
+module _ (f : Facts) (n : ℕ) (on : Bool) (ss : List SessionState) (bs : List Bool) (c : ℕ) (power : on ≡ true) where
   pub gone_done : (was : Option (List ℕ)) → get_or bs c false ≡ true → Leads (board f n on ss bs) (board f n on ss (set bs c false)) (Gone c) was was (entry c DONE [])
   gone_done was here = simply (board f n on ss bs) (board f n on ss (set bs c false)) (Gone c) was (entry c DONE []) (λ same w s.
       let d = s.disk in
@@ -197,7 +197,7 @@ module _ (f : Facts) (n : ℕ) (on : Bool) (ss : List Line) (bs : List Bool) (c 
       ))
 
   -- a connection is opened: its greeting is told, and then that it is done
-  pub open_done : (was mid : Option (List ℕ)) (s' : Line) (reply : List ℕ) → c < 8 → get_or bs c false ≡ false → Serves s' [] → reply ≡ greeting_bytes → Appends was mid (replied c reply)
+  pub open_done : (was mid : Option (List ℕ)) (s' : SessionState) (reply : List ℕ) → c < 8 → get_or bs c false ≡ false → ServesText s' [] → reply ≡ greeting_bytes → Appends was mid (replied c reply)
       → Leads (board f n on ss bs) (board f n on (set ss c s') (set bs c true)) (Open c) was mid (entry c DONE [])
   open_done was mid s' reply lt shut serves greeting one = λ same w s.
       let d = s.disk in
@@ -219,7 +219,7 @@ module _ (f : Facts) (n : ℕ) (on : Bool) (ss : List Line) (bs : List Bool) (c 
       )
 
   -- the output fails in its greeting
-  pub open_halts : (was is : Option (List ℕ)) (s' : Line) (reply : List ℕ) (t t' : ℕ) → c < 8 → get_or bs c false ≡ false → Serves s' [] → reply ≡ greeting_bytes → Fails was t (replied c reply) is t'
+  pub open_halts : (was is : Option (List ℕ)) (s' : SessionState) (reply : List ℕ) (t t' : ℕ) → c < 8 → get_or bs c false ≡ false → ServesText s' [] → reply ≡ greeting_bytes → FailsToSend was t (replied c reply) is t'
       → Halts (board f n on ss bs) (board f n on (set ss c s') (set bs c true)) (Open c) was is
   open_halts was is s' reply t t' lt shut serves greeting failed = λ same w s.
       let d = s.disk in

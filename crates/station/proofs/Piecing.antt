@@ -5,24 +5,22 @@ use Rattle.std.specs.Prelude.{not, MatchBool, if◌then◌else◌}
 use Rattle.block_device.specs.Contents.{Outcome}
 use Rattle.block_device.specs.Facts.{Facts}
 use Rattle.nbd_transmission.specs.Apply.{applied}
-use Rattle.nbd_wire.specs.declared.phase.Phase.TheVariants.{AwaitingFlags}
-use Rattle.session.specs.Line.{Line}
-use Rattle.session.specs.Parts.{Part, Asked, closed, parts}
-use Rattle.station.specs.declared.entries.TheConstants.{DONE, SHUT, LOST}
+use Rattle.session.specs.Sessions.{SessionState}
+use Rattle.session.specs.Parts.{Part, ForDisk, closed}
+use Rattle.station.specs.Records.{DONE, SHUT, LOST, entry, replied}
 use Rattle.station.specs.declared.event.Event.TheVariants.{Piece}
 use Rattle.station.specs.declared.piece.Ending.{Ending}
 use Rattle.station.specs.declared.piece.Ending.TheVariants.{Stays, Shut, Lost}
 use Rattle.station.specs.Answers.{after_parts, replies, after_part, reply_of_part}
-use Rattle.station.specs.Records.{entry, replied}
-use Rattle.station.specs.World.{World, Powered, Unpowered, Answers, Interrupted, Lacked, dark, hung_up, text_at}
-use Rattle.station.specs.Board.{Stands, Serves}
-use Rattle.station.specs.Running.{Halts}
-use Rattle.station.specs.Turning.{Desk, IsQuiet, LostParts, Pieced, PieceHalts}
+use Rattle.station.specs.World.{World, Powered, Unpowered, AnswersPiece, PieceInterrupted, Lacked, dark, hung_up, text_at}
+use Rattle.station.specs.Board.{StationRepresents, ServesText}
+use Rattle.station.specs.Moving.{Halts}
+use Rattle.station.specs.Turning.{Desk, IsRunQuiet, LostParts, Pieced, PieceHalts}
 use Rattle.station.proofs.Pieces.{longer}
 use Rattle.station.proofs.Lines.{lines_put, lines_set, lines_dark, text_of}
 use Rattle.station.proofs.Moving.{board, Leads, step_on, by_some}
 
-abbrev pub desk : Facts → Line → Option (List ℕ) → Desk
+abbrev pub desk : Facts → SessionState → Option (List ℕ) → Desk
 desk f line written = record { disk = f; line = line; written = written }
 
 replies_append : (n who : ℕ) (d : List ℕ) (xs ys : List Part) → replies n who d (xs ++ ys) ≡ replies n who d xs ++ replies n who (after_parts n d xs) ys
@@ -34,7 +32,7 @@ replies_append n who d (x ∷ xs) ys =
 -- some parts are answered in a world with this disk
 answers_in : (w : World) (who n : ℕ) (d text bytes told disk : List ℕ) (more : List Part) (b : Bool)
     → w.sectors ≡ n → w.disk ≡ d → Lacked n text bytes more → told ≡ replies n who d more → disk ≡ after_parts n d more → closed more ≡ b
-    → Answers w who text bytes (told ++ entry who (if b then SHUT else DONE) [])
+    → AnswersPiece w who text bytes (told ++ entry who (if b then SHUT else DONE) [])
     (record { sectors = w.sectors; disk = disk; power = true; texts = set w.texts who (if b then None else Some (text ++ bytes)) })
 answers_in w who n d text bytes told disk more b sectors same lacked out after shut =
     let said : told ≡ replies w.sectors who w.disk more = out ∙ (ap (λ m. replies m who d more) (sym sectors) ∙ ap (λ k. replies w.sectors who k more) (sym same)) in
@@ -49,7 +47,7 @@ answers_in w who n d text bytes told disk more b sectors same lacked out after s
 
 -- one is interrupted
 interrupted_in : (w : World) (who n : ℕ) (d text bytes told disk : List ℕ) (o : Desk) → o.line.sectors ≡ n → o.disk.contents ≡ d
-    → w.sectors ≡ n → w.disk ≡ d → LostParts who o text bytes told disk → Interrupted w who text bytes (told ++ entry who LOST []) (dark w disk)
+    → w.sectors ≡ n → w.disk ≡ d → LostParts who o text bytes told disk → PieceInterrupted w who text bytes (told ++ entry who LOST []) (dark w disk)
 interrupted_in w who n d text bytes told disk o on od sectors same x =
     let m : o.line.sectors ≡ w.sectors = on ∙ sym sectors in
     let k : o.disk.contents ≡ w.disk = od ∙ sym same in
@@ -59,7 +57,7 @@ interrupted_in w who n d text bytes told disk o on od sectors same x =
       payload = x.payload;
       rest = x.rest;
       disk = disk;
-      lacked = subst (λ j. Lacked j text bytes (x.before ++ Asked x.command x.payload ∷ x.rest)) m x.lacked;
+      lacked = subst (λ j. Lacked j text bytes (x.before ++ ForDisk x.command x.payload ∷ x.rest)) m x.lacked;
       moves = x.moves;
       outcome = subst (λ j. Outcome (after_parts j w.disk x.before) (applied j (after_parts j w.disk x.before) x.command x.payload) disk) m
           (subst (λ e. Outcome (after_parts o.line.sectors e x.before) (applied o.line.sectors (after_parts o.line.sectors e x.before) x.command x.payload) disk) k x.outcome);
@@ -67,16 +65,16 @@ interrupted_in w who n d text bytes told disk o on od sectors same x =
       world = refl;
     }
 
-module _ (f f' : Facts) (n : ℕ) (on : Bool) (ss : List Line) (bs : List Bool) (was is : Option (List ℕ)) (c : ℕ) (bytes : Bor (List ℕ)) (d s s' : Line)
+module _ (f f' : Facts) (n : ℕ) (on : Bool) (ss : List SessionState) (bs : List Bool) (was is : Option (List ℕ)) (c : ℕ) (bytes : Bor (List ℕ)) (d s s' : SessionState)
     (eight : length ss ≡ 8) (power : on ≡ true) (lt : c < 8) (at : get_or ss c d ≡ s) (here : get_or bs c false ≡ true) (sectors : s.sectors ≡ n)
     (sound : f'.sound ≡ f.sound) (cuts : f.cuts ≤ f'.cuts) where
-  is_quiet : f'.slows ≡ f.slows → (w : World) → Stands (board f n on ss bs) w → IsQuiet f f'
+  is_quiet : f'.slows ≡ f.slows → (w : World) → StationRepresents (board f n on ss bs) w → IsRunQuiet f f'
   is_quiet same w st = let k = st.disk in record { sound = k.sound; cut = k.cut ∙ ap not power; slow = k.slow; slows = same }
 
-  text_here : (w : World) → Stands (board f n on ss bs) w → (u : List ℕ) × (text_at w c ≡ Some u) × Serves s u
+  text_here : (w : World) → StationRepresents (board f n on ss bs) w → (u : List ℕ) × (text_at w c ≡ Some u) × ServesText s u
   text_here w st = let inside : c < length ss = omega arith in text_of ss bs w.texts c d s st.texts inside at here
 
-  pub piece_shut : (IsQuiet f f' → Pieced c (desk f s was) (desk f' s' is) Shut bytes.now)
+  pub piece_shut : (IsRunQuiet f f' → Pieced c (desk f s was) (desk f' s' is) Shut bytes.now)
       → Leads (board f n on ss bs) (board f' n on (set ss c s') (set bs c false)) (Piece c bytes) was is (entry c SHUT [])
   piece_shut goes = λ same w st.
       let k = st.disk in
@@ -102,7 +100,7 @@ module _ (f f' : Facts) (n : ℕ) (on : Bool) (ss : List Line) (bs : List Bool) 
         },
       )
 
-  pub piece_stays : (IsQuiet f f' → Pieced c (desk f s was) (desk f' s' is) Stays bytes.now)
+  pub piece_stays : (IsRunQuiet f f' → Pieced c (desk f s was) (desk f' s' is) Stays bytes.now)
       → Leads (board f n on ss bs) (board f' n on (set ss c s') bs) (Piece c bytes) was is (entry c DONE [])
   piece_stays goes = λ same w st.
       let k = st.disk in
@@ -129,7 +127,7 @@ module _ (f f' : Facts) (n : ℕ) (on : Bool) (ss : List Line) (bs : List Bool) 
         },
       )
 
-  pub piece_lost : length (set ss c s') ≡ 8 → (IsQuiet f f' → Pieced c (desk f s was) (desk f' s' is) Lost bytes.now)
+  pub piece_lost : length (set ss c s') ≡ 8 → (IsRunQuiet f f' → Pieced c (desk f s was) (desk f' s' is) Lost bytes.now)
       → Leads (board f n on ss bs) (board f' n false (set ss c s') (replicate 8 false)) (Piece c bytes) was is (entry c LOST [])
   piece_lost still goes = λ same w st.
       let k = st.disk in
@@ -148,7 +146,7 @@ module _ (f f' : Facts) (n : ℕ) (on : Bool) (ss : List Line) (bs : List Bool) 
       )
 
   -- the output fails in a reply of the piece
-  pub piece_stops : (IsQuiet f f' → PieceHalts c (desk f s was) (desk f' s' is) bytes.now)
+  pub piece_stops : (IsRunQuiet f f' → PieceHalts c (desk f s was) (desk f' s' is) bytes.now)
       → Halts (board f n on ss bs) (board f' n on (set ss c s') bs) (Piece c bytes) was is
   piece_stops goes = λ same w st.
       let k = st.disk in
@@ -161,7 +159,7 @@ module _ (f f' : Facts) (n : ℕ) (on : Bool) (ss : List Line) (bs : List Bool) 
       let mid = after_parts n f.contents front in
       let tail = replies n c mid h.rest in
       let whole : h.before ++ h.part ∷ h.rest ≡ all = sym (append_assoc h.before (h.part ∷ []) h.rest) in
-      let lacked : Lacked n l.0 bytes.now all = subst (λ m. Lacked m l.0 bytes.now all) sectors (h.lacked ∙ ap (λ v. parts AwaitingFlags s.sectors l.0 ++ v) whole) in
+      let lacked : Lacked n l.0 bytes.now all = subst (λ m. Lacked m l.0 bytes.now all) sectors (subst (λ v. Lacked s.sectors l.0 bytes.now v) whole h.lacked) in
       let out_is : replies n c f.contents front ≡ h.out ++ h.unsent = subst (λ m. replies m c f.contents front ≡ h.out ++ h.unsent) sectors h.out_is in
       let disk_is : f'.contents ≡ mid = subst (λ m. f'.contents ≡ after_parts m f.contents front) sectors h.disk_is in
       let b = closed all in

@@ -1,14 +1,14 @@
 -- transcripts without a loss are those of a plain array, and there is one alone
-use Rattle.std.proofs.Common.{◌≡◌, inl, inr, ℕ, Bool, true, false, List, [], ◌∷◌, ◌++◌, drop, Option, None, Some, ◌≤◌, arith, sym, ◌∙◌, ap, subst, set}
+use Rattle.std.proofs.Common.{◌≡◌, inl, inr, ℕ, Bool, true, false, List, [], ◌∷◌, ◌++◌, Option, None, Some, ◌≤◌, arith, sym, ◌∙◌, ap, subst, set}
 use Rattle.std.specs.Prelude.{MatchBool, MatchOption, if◌then◌else◌}
 use Rattle.nbd_wire.specs.declared.phase.Phase.TheVariants.{AwaitingFlags}
-use Rattle.session.specs.Parts.{Part, closed, parts}
-use Rattle.station.specs.declared.entries.TheConstants.{DONE, SHUT}
+use Rattle.session.specs.Parts.{closed}
+use Rattle.session.proofs.PartLaws.{one_gain}
+use Rattle.station.specs.Records.{DONE, SHUT, entry}
 use Rattle.station.specs.declared.event.Event.{Event}
 use Rattle.station.specs.declared.event.Event.TheVariants.{Open, Piece, Gone, Tidy, Restore}
 use Rattle.station.specs.Answers.{after_parts, replies}
-use Rattle.station.specs.Records.{entry}
-use Rattle.station.specs.World.{World, Powered, Unpowered, Answers, Ignores, text_at, with_text}
+use Rattle.station.specs.World.{World, Powered, Unpowered, AnswersPiece, Ignores, text_at, with_text}
 use Rattle.station.specs.Transcript.{Transcript, Plain, PlainWithoutLoss, OnePlain}
 
 cuts_rise : (c c' : ℕ) (w w' : World) (es : List Event) (out : List ℕ) → Transcript c w es out c' w' → c ≤ c'
@@ -28,25 +28,21 @@ without_loss c c' w w' (e ∷ es) out t same =
       | inr h ↦ (let lt = h.1 in absurd (omega (arith, lt, more, same)))
     ]
 
-cancel : (xs ys zs : List Part) → xs ++ ys ≡ xs ++ zs → ys ≡ zs
-cancel [] ys zs e = e
-cancel (x ∷ xs) ys zs e = cancel xs ys zs (ap (λ (l : List Part). drop 1 l) e)
-
 abbrev Same : List ℕ → List ℕ → World → World → Type 0
 Same out out' v v' = (out ≡ out') × (v ≡ v')
 
 both : (a out out' : List ℕ) (x v v' : World) → (out ≡ a) × (v ≡ x) → (out' ≡ a) × (v' ≡ x) → Same out out' v v'
 both a out out' x v v' p q = (p.0 ∙ sym q.0, p.1 ∙ sym q.1)
 
-answers_one : (w : World) (c : ℕ) (t bytes out out' : List ℕ) (v v' : World) → Answers w c t bytes out v → Answers w c t bytes out' v' → Same out out' v v'
+answers_one : (w : World) (c : ℕ) (t bytes out out' : List ℕ) (v v' : World) → AnswersPiece w c t bytes out v → AnswersPiece w c t bytes out' v' → Same out out' v v'
 answers_one w c t bytes out out' v v' p q =
-    let same : p.more ≡ q.more = cancel (parts AwaitingFlags w.sectors t) p.more q.more (sym p.lacked ∙ q.lacked) in (
+    let same : p.more ≡ q.more = one_gain AwaitingFlags w.sectors t (t ++ bytes) p.more q.more p.lacked q.lacked in (
       p.wrote ∙ (ap (λ m. replies w.sectors c w.disk m ++ entry c (if closed m then SHUT else DONE) []) same ∙ sym q.wrote),
       p.world ∙ (ap (λ m. record { sectors = w.sectors; disk = after_parts w.sectors w.disk m; power = true; texts = set w.texts c (if closed m then None else Some (t ++ bytes)) }) same ∙ sym q.world),
     )
 
 piece_one : (o : Option (List ℕ)) (w : World) (c k : ℕ) (bytes out out' : List ℕ) (v v' : World)
-    → MatchOption o (Ignores w c k out v) (λ t. Answers w c t bytes out v) → MatchOption o (Ignores w c k out' v') (λ t. Answers w c t bytes out' v') → Same out out' v v'
+    → MatchOption o (Ignores w c k out v) (λ t. AnswersPiece w c t bytes out v) → MatchOption o (Ignores w c k out' v') (λ t. AnswersPiece w c t bytes out' v') → Same out out' v v'
 piece_one None w c k bytes out out' v v' p q = both (entry c k []) out out' w v v' p q
 piece_one (Some t) w c k bytes out out' v v' p q = answers_one w c t bytes out out' v v' p q
 

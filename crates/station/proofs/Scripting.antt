@@ -3,7 +3,7 @@ use Rattle.std.proofs.Common.{arith, append_assoc, ◌≡◌, ◌⊎◌, inl, in
 use Rattle.std.specs.Borrow.{Bor}
 use Rattle.std.specs.Int.{to_be_bytes, w32}
 use Rattle.std.specs.Io.KnownBytes.{Consumes, IsAtEnd}
-use Rattle.station.specs.declared.entries.TheConstants.{NO_ONE}
+use Rattle.station.specs.Records.{NO_ONE}
 use Rattle.station.specs.declared.event.Event.{Event}
 use Rattle.station.specs.declared.event.Event.TheVariants.{Piece}
 use Rattle.station.specs.declared.script.Form.{Form}
@@ -12,23 +12,24 @@ use Rattle.station.specs.declared.event.ScriptError.{ScriptError}
 use Rattle.station.specs.declared.event.ScriptError.TheVariants.{Input, BadRecord, Output as OutputFailed}
 use Rattle.station.specs.Board.{Board}
 use Rattle.station.specs.Running.{Runs, Ends}
-use Rattle.station.specs.Script.{Item, Happens, Arms, ArmsNothing, IsAllowed, AreAllowed, IsBad, IsForm, ItemMoves, ItemHangs, FormDoes, PieceDoes, ArmDoes, ReadsForm, FailsToRead, FailsToReadAll, FailsToWrite, ScriptSays, line_of, head_of, script_of, events_of, events_in}
+use Rattle.station.specs.Script.{Item, Happens, Arms, IsAllowed, AreAllowed, IsBad, FailsToReadAll, FailsToWrite, ScriptSays, line_of, script_of, events_of, events_in, progress}
+use Rattle.station.specs.ScriptSteps.{ArmsNothing, IsForm, ItemMoves, ItemHangs, FormDoes, PieceDoes, ArmDoes, ReadsForm, FailsToRead, record_head}
 use Rattle.station.proofs.Ending.{runs_more}
 use Rattle.station.proofs.Filling.{consumes_twice}
 use Rattle.station.proofs.Refusing.{short_body, no_arming, head_long}
 use Rattle.std.specs.Prelude.{Result, Ok, Err}
 use Rattle.std.proofs.lemmas.List.{append-nil}
-use Rattle.block_device.specs.Streams.{Appends-twice}
+use Rattle.std.proofs.KnownBytes.{Appends-trans}
 
 pub consumes_none : (r : Option (List ℕ)) → Consumes r r []
 consumes_none None = tt
 consumes_none (Some s) = refl
 
 abbrev pub Done : Form → Option (List ℕ) → Option (List ℕ) → (Item → Type 0) → Type 0
-Done form r r' P = (item : Item) × (rest : List ℕ) × IsAllowed item × (line_of item ≡ head_of form ++ rest) × Consumes r r' rest × P item
+Done form r r' P = (item : Item) × (rest : List ℕ) × IsAllowed item × (line_of item ≡ record_head form ++ rest) × Consumes r r' rest × P item
 
 -- an event of which the head is all
-pub alone : (form form' : Form) (e : Event) (r : Option (List ℕ)) (P : Item → Type 0) → form ≡ form' → (IsForm form' → IsAllowed (Happens e)) → IsForm form → line_of (Happens e) ≡ head_of form' ++ [] → P (Happens e) → Done form r r P
+pub alone : (form form' : Form) (e : Event) (r : Option (List ℕ)) (P : Item → Type 0) → form ≡ form' → (IsForm form' → IsAllowed (Happens e)) → IsForm form → line_of (Happens e) ≡ record_head form' ++ [] → P (Happens e) → Done form r r P
 alone form form' e r P same allowed ok is p =
     subst (λ f. Done f r r P) (sym same) (Happens e, [], allowed (subst IsForm same ok), is, consumes_none r, p)
 
@@ -79,7 +80,7 @@ ends_item old mid new es (Happens e) was is now a b run hangs = λ same w s.
     let m = hangs two r.0 r.4 in (
       m.0,
       r.1 ++ m.1,
-      Appends-twice was is now r.1 m.1 r.2 m.2,
+      Appends-trans was is now r.1 m.1 r.2 m.2,
       record {
         before = es;
         event = e;
@@ -109,11 +110,11 @@ lines_done old now r was r' r'' is i end =
 abbrev pub AreRead : ℕ → Option (List ℕ) → Option (List ℕ) → Type 0
 AreRead n r r' = (bytes : List ℕ) × Consumes r r' bytes × (n ≤ length bytes)
 
-pub read_more : (n : ℕ) (r r' r'' r3 : Option (List ℕ)) (form : Form) (P : Item → Type 0) → Consumes r' r'' (head_of form) → AreRead n r r' → Done form r'' r3 P → AreRead (n + 1) r r3
+pub read_more : (n : ℕ) (r r' r'' r3 : Option (List ℕ)) (form : Form) (P : Item → Type 0) → Consumes r' r'' (record_head form) → AreRead n r r' → Done form r'' r3 P → AreRead (n + 1) r r3
 read_more n r r' r'' r3 form P head many d = (
-  many.0 ++ (head_of form ++ d.1),
-  consumes_twice r r' r3 many.0 (head_of form ++ d.1) many.1 (consumes_twice r' r'' r3 (head_of form) d.1 head d.4),
-  omega (arith, many.2, length-append many.0 (head_of form ++ d.1), length-append (head_of form) d.1, head_long form),
+  many.0 ++ (record_head form ++ d.1),
+  consumes_twice r r' r3 many.0 (record_head form ++ d.1) many.1 (consumes_twice r' r'' r3 (record_head form) d.1 head d.4),
+  omega (arith, many.2, length-append many.0 (record_head form ++ d.1), length-append (record_head form) d.1, head_long form),
 )
 
 pub read_so_many : (n : ℕ) (r r' : Option (List ℕ)) → AreRead n r r' → (bytes : List ℕ) → r ≡ Some bytes → n ≤ length bytes
@@ -146,12 +147,12 @@ reading_reads r r' input a b c BadRecord reads same f = f ∙ same
 reading_reads r r' input a b c OutputFailed reads same f = absurd reads
 
 module _ (old mid new : Board) (r r' r'' r3 was is now : Option (List ℕ)) (form : Form) (a : old.disk.slows ≤ mid.disk.slows) (b : mid.disk.slows ≤ new.disk.slows)
-    (head : Consumes r' r'' (head_of form)) where
+    (head : Consumes r' r'' (record_head form)) where
   pub lines_more : SoMany old mid r was r' is → Done form r'' r3 (λ i. ItemMoves i mid new is now) → SoMany old new r was r3 now
   lines_more i d =
       let items = i.0 in
       let item = d.0 in
-      let both : Consumes r' r3 (line_of item) = subst (λ l. Consumes r' r3 l) (sym d.3) (consumes_twice r' r'' r3 (head_of form) d.1 head d.4) in (
+      let both : Consumes r' r3 (line_of item) = subst (λ l. Consumes r' r3 l) (sym d.3) (consumes_twice r' r'' r3 (record_head form) d.1 head d.4) in (
         items ++ item ∷ [],
         allowed_more items item i.1 d.2,
         subst (λ l. Consumes r r3 l) (sym (script_more items item)) (consumes_twice r r' r3 (script_of items) (line_of item) i.2 both),
@@ -163,7 +164,7 @@ module _ (old mid new : Board) (r r' r'' r3 was is now : Option (List ℕ)) (for
   lines_end i d =
       let items = i.0 in
       let item = d.0 in
-      let both : Consumes r' r3 (line_of item) = subst (λ l. Consumes r' r3 l) (sym d.3) (consumes_twice r' r'' r3 (head_of form) d.1 head d.4) in (
+      let both : Consumes r' r3 (line_of item) = subst (λ l. Consumes r' r3 l) (sym d.3) (consumes_twice r' r'' r3 (record_head form) d.1 head d.4) in (
         items ++ item ∷ [],
         allowed_more items item i.1 d.2,
         subst (λ l. Consumes r r3 l) (sym (script_more items item)) (consumes_twice r r' r3 (script_of items) (line_of item) i.2 both),
@@ -176,21 +177,21 @@ module _ (old mid new : Board) (r r' r'' r3 was is now : Option (List ℕ)) (for
   lines_stop i d =
       let items = i.0 in (
         items,
-        head_of form ++ d.0,
+        record_head form ++ d.0,
         i.1,
-        consumes_twice r r' r3 (script_of items) (head_of form ++ d.0) i.2 (consumes_twice r' r'' r3 (head_of form) d.0 head d.1),
+        consumes_twice r r' r3 (script_of items) (record_head form ++ d.0) i.2 (consumes_twice r' r'' r3 (record_head form) d.0 head d.1),
         subst (λ o. Runs old new (events_of items) was o) (sym d.3) (subst (λ v. Runs old v (events_of items) was is) (sym d.2) i.3),
       )
 
   -- a record of which the rest is not there, or not as it should be
-  pub lines_bad : SoMany old mid r was r' is → (taken : List ℕ) × Consumes r'' r3 taken × (new ≡ mid) × (now ≡ is) × IsBad (head_of form ++ taken) r3
+  pub lines_bad : SoMany old mid r was r' is → (taken : List ℕ) × Consumes r'' r3 taken × (new ≡ mid) × (now ≡ is) × IsBad (record_head form ++ taken) r3
       → (items : List Item) × (rest : List ℕ) × AreAllowed items × Consumes r r3 (script_of items ++ rest) × Runs old new (events_of items) was now × IsBad rest r3
   lines_bad i d =
       let items = i.0 in (
         items,
-        head_of form ++ d.0,
+        record_head form ++ d.0,
         i.1,
-        consumes_twice r r' r3 (script_of items) (head_of form ++ d.0) i.2 (consumes_twice r' r'' r3 (head_of form) d.0 head d.1),
+        consumes_twice r r' r3 (script_of items) (record_head form ++ d.0) i.2 (consumes_twice r' r'' r3 (record_head form) d.0 head d.1),
         subst (λ o. Runs old new (events_of items) was o) (sym d.3) (subst (λ v. Runs old v (events_of items) was is) (sym d.2) i.3),
         d.4,
       )
@@ -203,15 +204,15 @@ module _ (old mid new : Board) (r r' r'' r3 was is now : Option (List ℕ)) (for
 -- ---- the records that have bytes
 
 pub piece_form : (form : Form) (who len len' : ℕ) (old new : Board) (r was : Option (List ℕ)) (res : Result (Unit {0}) ScriptError) (r' is : Option (List ℕ))
-    → form ≡ PieceForm who len → IsForm form → len' ≡ len → PieceDoes who len' old new r was res r' is → FormDoes form old new r was res r' is
+    → form ≡ PieceForm who len → IsForm form → len' ≡ len → PieceDoes who len' (progress old r was) res (progress new r' is) → FormDoes form old new r was res r' is
 piece_form form who len len' old new r was (Ok v) r' is same ok e d = piece_done form who len d.0 r r' (λ i. ItemMoves i old new was is) same ok (d.1 ∙ e) d.2 d.3
 piece_form form who len len' old new r was (Err Input) r' is same ok e d = d
 piece_form form who len len' old new r was (Err BadRecord) r' is same ok e d =
     let ok' = subst IsForm same ok in
-    (d.0, d.1, d.2, d.3, subst (λ f. IsBad (head_of f ++ d.0) r') (sym same) (short_body r' (PieceForm who len) d.0 ok' (subst (λ k. length d.0 < k) e d.4) d.5))
+    (d.0, d.1, d.2, d.3, subst (λ f. IsBad (record_head f ++ d.0) r') (sym same) (short_body r' (PieceForm who len) d.0 ok' (subst (λ k. length d.0 < k) e d.4) d.5))
 piece_form form who len len' old new r was (Err OutputFailed) r' is same ok e d = piece_done form who len d.0 r r' (λ i. ItemHangs i old new was is) same ok (d.1 ∙ e) d.2 d.3
 
-bad_arming : (r : Option (List ℕ)) (taken : List ℕ) → ((length taken < 6) × IsAtEnd r) ⊎ ((length taken ≡ 6) × ArmsNothing taken) → IsBad (head_of ArmForm ++ taken) r
+bad_arming : (r : Option (List ℕ)) (taken : List ℕ) → ((length taken < 6) × IsAtEnd r) ⊎ ((length taken ≡ 6) × ArmsNothing taken) → IsBad (record_head ArmForm ++ taken) r
 bad_arming r taken (inl short) = short_body r ArmForm taken tt short.0 short.1
 bad_arming r taken (inr none) = no_arming r taken none.0 none.1
 
@@ -221,6 +222,6 @@ arm_form form old new r was (Ok v) r' same still d =
     arm_done form d.0 d.1 d.2 (to_be_bytes w32 d.0 ++ d.1 ∷ d.2 ∷ []) r r' (λ i. ItemMoves i old new was was) same d.3 refl refl d.4 (still, refl)
 arm_form form old new r was (Err Input) r' same still d = (d.0, d.1, still, refl)
 arm_form form old new r was (Err BadRecord) r' same still d =
-    let bad : IsBad (head_of ArmForm ++ d.0) r' = bad_arming r' d.0 d.2 in
-    (d.0, d.1, still, refl, subst (λ f. IsBad (head_of f ++ d.0) r') (sym same) bad)
+    let bad : IsBad (record_head ArmForm ++ d.0) r' = bad_arming r' d.0 d.2 in
+    (d.0, d.1, still, refl, subst (λ f. IsBad (record_head f ++ d.0) r') (sym same) bad)
 arm_form form old new r was (Err OutputFailed) r' same still d = absurd d

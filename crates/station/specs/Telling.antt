@@ -2,38 +2,40 @@
 use Rattle.std.specs.Prelude.{◌≡◌, ◌⊎◌, ◌<◌, ℕ, true, List, [], ◌∷◌, ◌++◌, Option, if◌then◌else◌}
 use Rattle.std.specs.Io.KnownBytes.{Appends}
 use Rattle.block_device.specs.Facts.{Facts}
-use Rattle.station.specs.declared.entries.TheConstants.{DONE, LOST, STUCK, NO_ONE}
 use Rattle.station.specs.declared.event.Event.{Event}
 use Rattle.station.specs.declared.event.Event.TheVariants.{Open, Piece, Gone, Tidy, Restore}
 use Rattle.station.specs.Board.{Board}
-use Rattle.station.specs.Records.{entry}
+use Rattle.station.specs.Records.{DONE, LOST, STUCK, NO_ONE, entry}
 
--- how a Tidy or a Restore ends: by a loss where a Cut stands in the disk then, as stuck where a Slow does, and else as done
+-- how a Tidy or a Restore ends: by a loss where a Cut is latched in the disk then, as stuck where a
+-- Slow does, and else as done
 abbrev pub ending_of : Facts → ℕ
 ending_of disk = if disk.cut then LOST else if disk.slow then STUCK else DONE
 
--- a Slow that stands is one that stood, or a slow operation was counted
+-- a latched Slow is one that stood, or a slow operation was counted
 abbrev pub SlowComes : Facts → Facts → Type 0
 SlowComes old new = new.slow ≡ true → (old.slow ≡ true) ⊎ (old.slows < new.slows)
 
 -- what an event writes of them; the records of a connection are another matter (`Step`, `Loss`)
-abbrev pub Tells : Board → Event → List ℕ → Board → Type 0
-Tells old (Open who) out new = Unit {0}
-Tells old (Piece who bytes) out new = Unit {0}
-Tells old (Gone who) out new = Unit {0}
-Tells old Tidy out new = out ≡ entry NO_ONE (if old.power then ending_of new.disk else LOST) []
-Tells old Restore out new = out ≡ entry NO_ONE (ending_of new.disk) []
+abbrev pub EventTells : Board → Event → List ℕ → Board → Type 0
+EventTells old (Open who) out new = Unit {0}
+EventTells old (Piece who bytes) out new = Unit {0}
+EventTells old (Gone who) out new = Unit {0}
+EventTells old Tidy out new = out ≡ entry NO_ONE (if old.power then ending_of new.disk else LOST) []
+EventTells old Restore out new = out ≡ entry NO_ONE (ending_of new.disk) []
 
 -- an event, by the bytes that it added
-abbrev pub Told : Board → Event → Option (List ℕ) → Option (List ℕ) → Board → Type 0
-Told old event was is new = (out : List ℕ) × Appends was is out × Tells old event out new × SlowComes old.disk new.disk
+abbrev pub EventTold : Board → Event → Option (List ℕ) → Option (List ℕ) → Board → Type 0
+EventTold old event was is new = (out : List ℕ) × Appends was is out × EventTells old event out new
+    × SlowComes old.disk new.disk
 
 -- events, one after another
 abbrev pub AllTell : Board → List Event → List ℕ → Board → Type 0
 AllTell old [] out new = (out ≡ []) × (new ≡ old)
 AllTell old (event ∷ events) out new =
     (first : List ℕ) × (rest : List ℕ) × (mid : Board)
-    × (out ≡ first ++ rest) × Tells old event first mid × SlowComes old.disk mid.disk × AllTell mid events rest new
+    × (out ≡ first ++ rest) × EventTells old event first mid × SlowComes old.disk mid.disk
+    × AllTell mid events rest new
 
 abbrev pub AllTold : Board → List Event → Option (List ℕ) → Option (List ℕ) → Board → Type 0
 AllTold old events was is new = (out : List ℕ) × Appends was is out × AllTell old events out new

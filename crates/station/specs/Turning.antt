@@ -1,5 +1,7 @@
--- What one unit, and one piece, of a connection does: the layer below an event. Source: own.
-use Rattle.std.specs.Prelude.{◌≡◌, ◌⊎◌, ℕ, ◌<◌, ◌≤◌, Bool, true, false, List, [], ◌∷◌, ◌++◌, length, Option, Result, Ok, Err}
+-- What one unit, and one piece, of a connection does: the layer below an event. Words of private
+-- functions: no claim rests on them. Source: own.
+use Rattle.std.specs.Prelude.{◌≡◌, ◌⊎◌, ℕ, ◌<◌, ◌≤◌, Bool, true, false, List, [], ◌∷◌, ◌++◌, length}
+use Rattle.std.specs.Prelude.{Option, Result, Ok, Err}
 use Rattle.std.specs.Io.KnownBytes.{Appends}
 use Rattle.block_device.specs.declared.disk.DiskError.{DiskError}
 use Rattle.block_device.specs.declared.disk.DiskError.TheVariants.{Cut, Slow}
@@ -9,8 +11,8 @@ use Rattle.nbd_wire.specs.declared.command.Command.{Command}
 use Rattle.nbd_wire.specs.Commands.{moves_data}
 use Rattle.nbd_transmission.specs.Apply.{applied, changed_by}
 use Rattle.nbd_wire.specs.declared.phase.Phase.TheVariants.{AwaitingFlags}
-use Rattle.session.specs.Line.{Line}
-use Rattle.session.specs.Parts.{Part, Asked, closes, closed, parts}
+use Rattle.session.specs.Sessions.{SessionState}
+use Rattle.session.specs.Parts.{Part, ForDisk, Gains, closes, closed}
 use Rattle.station.specs.declared.piece.Turn.{Turn}
 use Rattle.station.specs.declared.piece.Turn.TheVariants.{Waits, Answered, Closes, Loses}
 use Rattle.station.specs.declared.piece.Ending.{Ending}
@@ -18,29 +20,34 @@ use Rattle.station.specs.declared.piece.Ending.TheVariants.{Stays, Shut, Lost}
 use Rattle.station.specs.Answers.{reply_of_part, after_part, after_parts, replies}
 use Rattle.station.specs.Records.{replied}
 use Rattle.station.specs.World.{Lacked}
-use Rattle.station.specs.Board.{Serves}
+use Rattle.station.specs.Board.{ServesText}
 
 -- what a run of an accepted command leaves of the contents
-abbrev pub Executes : {T : Type 0} → List ℕ → Command → List ℕ → Result T DiskError → List ℕ → Type 0
-Executes old command payload (Ok _) new = new ≡ changed_by old command payload
-Executes old command payload (Err Cut) new = Outcome old (changed_by old command payload) new
-Executes old command payload (Err Slow) new = Unit {0}
+abbrev pub CommandLeaves : {T : Type 0} → List ℕ → Command → List ℕ → Result T DiskError → List ℕ
+    → Type 0
+CommandLeaves old command payload (Ok _) new = new ≡ changed_by old command payload
+CommandLeaves old command payload (Err Cut) new = Outcome old (changed_by old command payload) new
+CommandLeaves old command payload (Err Slow) new = Unit {0}
 
 -- what stands before and after it; a FLUSH is never cut or slow itself
-abbrev pub CommandStands : {T : Type 0} → Command → Facts → Result T DiskError → Facts → Type 0
-CommandStands command old (Ok _) new = (old.cut ≡ false) × (new.cut ≡ false) × (new.slow ≡ old.slow)
-CommandStands command old (Err Cut) new =
-    ((old.cut ≡ true) ⊎ ((moves_data command.kind ≡ true) × (old.cuts < new.cuts))) × (new.cut ≡ true) × (new.slow ≡ old.slow)
-CommandStands command old (Err Slow) new = ((old.slow ≡ true) ⊎ (old.slows < new.slows)) × (new.cut ≡ false) × (new.slow ≡ true)
+abbrev pub CommandLatches : {T : Type 0} → Command → Facts → Result T DiskError → Facts → Type 0
+CommandLatches command old (Ok _) new =
+    (old.cut ≡ false) × (new.cut ≡ false) × (new.slow ≡ old.slow)
+CommandLatches command old (Err Cut) new =
+    ((old.cut ≡ true) ⊎ ((moves_data command.kind ≡ true) × (old.cuts < new.cuts)))
+    × (new.cut ≡ true) × (new.slow ≡ old.slow)
+CommandLatches command old (Err Slow) new =
+    ((old.slow ≡ true) ⊎ (old.slows < new.slows)) × (new.cut ≡ false) × (new.slow ≡ true)
 
 -- one connection at work: the disk, its session, and what was written so far
 pub record Desk : Type 0 where
   pub disk : Facts
-  pub line : Line
+  pub line : SessionState
   pub written : Option (List ℕ)
 
--- a disk of which all is said that is said of contents: sound, with power, not slow, and no operation is slow until later
-pub record IsQuiet (old new : Facts) : Type 0 where
+-- a disk of which all is said that is said of contents: sound, with power, not slow, and no
+-- operation is slow until later
+pub record IsRunQuiet (old new : Facts) : Type 0 where
   pub sound : old.sound ≡ true
   pub cut : old.cut ≡ false
   pub slow : old.slow ≡ false
@@ -54,9 +61,10 @@ PowerAfter Closes old new = new.cut ≡ false
 PowerAfter Loses old new = (new.cut ≡ true) × (old.cuts < new.cuts)
 
 -- one part more of a text is answered
-pub record OnePart (who : ℕ) (old : Desk) (text longer out disk : List ℕ) (closing : Bool) : Type 0 where
+pub record OnePart (who : ℕ) (old : Desk) (text longer out disk : List ℕ)
+    (closing : Bool) : Type 0 where
   pub part : Part
-  pub parts_are : parts AwaitingFlags old.line.sectors longer ≡ parts AwaitingFlags old.line.sectors text ++ part ∷ []
+  pub gains : Gains AwaitingFlags old.line.sectors text longer (part ∷ [])
   pub is_closing : closes part ≡ closing
   pub out_is : out ≡ replied who (reply_of_part old.line.sectors old.disk.contents part)
   pub disk_is : disk ≡ after_part old.line.sectors old.disk.contents part
@@ -65,16 +73,19 @@ pub record OnePart (who : ℕ) (old : Desk) (text longer out disk : List ℕ) (c
 pub record LostPart (old : Desk) (text longer out disk : List ℕ) : Type 0 where
   pub command : Command
   pub payload : List ℕ
-  pub parts_are : parts AwaitingFlags old.line.sectors longer ≡ parts AwaitingFlags old.line.sectors text ++ Asked command payload ∷ []
+  pub gains : Gains AwaitingFlags old.line.sectors text longer (ForDisk command payload ∷ [])
   pub moves : moves_data command.kind ≡ true
   pub out_is : out ≡ []
-  pub outcome : Outcome old.disk.contents (applied old.line.sectors old.disk.contents command payload) disk
+  pub outcome : Outcome old.disk.contents
+      (applied old.line.sectors old.disk.contents command payload) disk
 
 -- what a turn says of a text that grew
 abbrev pub TurnSays : ℕ → Desk → Desk → List ℕ → List ℕ → List ℕ → Turn → Type 0
 TurnSays who old new text longer out Waits =
-    (parts AwaitingFlags old.line.sectors longer ≡ parts AwaitingFlags old.line.sectors text) × (out ≡ []) × (new.disk.contents ≡ old.disk.contents) × Serves new.line longer
-TurnSays who old new text longer out Answered = OnePart who old text longer out new.disk.contents false × Serves new.line longer
+    Gains AwaitingFlags old.line.sectors text longer [] × (out ≡ [])
+    × (new.disk.contents ≡ old.disk.contents) × ServesText new.line longer
+TurnSays who old new text longer out Answered =
+    OnePart who old text longer out new.disk.contents false × ServesText new.line longer
 TurnSays who old new text longer out Closes = OnePart who old text longer out new.disk.contents true
 TurnSays who old new text longer out Loses = LostPart old text longer out new.disk.contents
 
@@ -82,8 +93,9 @@ TurnSays who old new text longer out Loses = LostPart old text longer out new.di
 pub record Turned (who : ℕ) (old new : Desk) (turn : Turn) (bytes : List ℕ) : Type 0 where
   pub power : PowerAfter turn old.disk new.disk
   pub slow : new.disk.slow ≡ false
-  pub says : (text : List ℕ) → Serves old.line text →
-      (out : List ℕ) × Appends old.written new.written out × TurnSays who old new text (text ++ bytes) out turn
+  pub says : (text : List ℕ) → ServesText old.line text →
+      (out : List ℕ) × Appends old.written new.written out
+      × TurnSays who old new text (text ++ bytes) out turn
 
 -- The output fails in a turn: a part was answered, and a beginning of its reply's record was taken.
 pub record PartHalts (who : ℕ) (old new : Desk) (text bytes : List ℕ) : Type 0 where
@@ -100,10 +112,11 @@ pub record PartHalts (who : ℕ) (old new : Desk) (text bytes : List ℕ) : Type
 pub record TurnHalts (who : ℕ) (old new : Desk) (bytes : List ℕ) : Type 0 where
   pub power : new.disk.cut ≡ false
   pub slow : new.disk.slow ≡ false
-  pub says : (text : List ℕ) → Serves old.line text → PartHalts who old new text bytes
+  pub says : (text : List ℕ) → ServesText old.line text → PartHalts who old new text bytes
 
 -- these parts more are answered
-pub record SomeParts (who : ℕ) (old : Desk) (text bytes out disk : List ℕ) (more : List Part) : Type 0 where
+pub record SomeParts (who : ℕ) (old : Desk) (text bytes out disk : List ℕ)
+    (more : List Part) : Type 0 where
   pub lacked : Lacked old.line.sectors text bytes more
   pub out_is : out ≡ replies old.line.sectors who old.disk.contents more
   pub disk_is : disk ≡ after_parts old.line.sectors old.disk.contents more
@@ -114,11 +127,12 @@ pub record LostParts (who : ℕ) (old : Desk) (text bytes out disk : List ℕ) :
   pub command : Command
   pub payload : List ℕ
   pub rest : List Part
-  pub lacked : Lacked old.line.sectors text bytes (before ++ Asked command payload ∷ rest)
+  pub lacked : Lacked old.line.sectors text bytes (before ++ ForDisk command payload ∷ rest)
   pub moves : moves_data command.kind ≡ true
   pub out_is : out ≡ replies old.line.sectors who old.disk.contents before
   pub outcome : Outcome (after_parts old.line.sectors old.disk.contents before)
-      (applied old.line.sectors (after_parts old.line.sectors old.disk.contents before) command payload) disk
+      (applied old.line.sectors (after_parts old.line.sectors old.disk.contents before) command
+      payload) disk
 
 -- the power is still there, or it went just now
 abbrev pub PowerAtEnd : Ending → Facts → Facts → Type 0
@@ -129,18 +143,22 @@ PowerAtEnd Lost old new = (new.cut ≡ true) × (old.cuts < new.cuts)
 -- what a piece says of a text that got longer by its bytes
 abbrev pub PieceSays : ℕ → Desk → Desk → List ℕ → List ℕ → List ℕ → Ending → Type 0
 PieceSays who old new text bytes out Stays =
-    ((more : List Part) × (closed more ≡ false) × SomeParts who old text bytes out new.disk.contents more) × Serves new.line (text ++ bytes)
-PieceSays who old new text bytes out Shut = (more : List Part) × (closed more ≡ true) × SomeParts who old text bytes out new.disk.contents more
+    ((more : List Part) × (closed more ≡ false)
+    × SomeParts who old text bytes out new.disk.contents more) × ServesText new.line (text ++ bytes)
+PieceSays who old new text bytes out Shut = (more : List Part) × (closed more ≡ true)
+    × SomeParts who old text bytes out new.disk.contents more
 PieceSays who old new text bytes out Lost = LostParts who old text bytes out new.disk.contents
 
 -- what a whole piece does
 pub record Pieced (who : ℕ) (old new : Desk) (ending : Ending) (bytes : List ℕ) : Type 0 where
   pub power : PowerAtEnd ending old.disk new.disk
   pub slow : new.disk.slow ≡ false
-  pub says : (text : List ℕ) → Serves old.line text →
-      (out : List ℕ) × Appends old.written new.written out × PieceSays who old new text bytes out ending
+  pub says : (text : List ℕ) → ServesText old.line text →
+      (out : List ℕ) × Appends old.written new.written out
+      × PieceSays who old new text bytes out ending
 
--- The output fails in a piece: some parts were answered, and of the last of them a beginning of the reply's record was taken.
+-- The output fails in a piece: some parts were answered, and of the last of them a beginning of the
+-- reply's record was taken.
 pub record PartsHalt (who : ℕ) (old new : Desk) (text bytes : List ℕ) : Type 0 where
   pub before : List Part
   pub part : Part
@@ -151,12 +169,13 @@ pub record PartsHalt (who : ℕ) (old new : Desk) (text bytes : List ℕ) : Type
   pub lacked : Lacked old.line.sectors text bytes (before ++ part ∷ rest)
   pub appends : Appends old.written new.written out
   pub out_is : replies old.line.sectors who old.disk.contents (before ++ part ∷ []) ≡ out ++ unsent
-  pub disk_is : new.disk.contents ≡ after_parts old.line.sectors old.disk.contents (before ++ part ∷ [])
+  pub disk_is : new.disk.contents ≡ after_parts old.line.sectors old.disk.contents
+      (before ++ part ∷ [])
 
 pub record PieceHalts (who : ℕ) (old new : Desk) (bytes : List ℕ) : Type 0 where
   pub power : new.disk.cut ≡ false
   pub slow : new.disk.slow ≡ false
-  pub says : (text : List ℕ) → Serves old.line text → PartsHalt who old new text bytes
+  pub says : (text : List ℕ) → ServesText old.line text → PartsHalt who old new text bytes
 
 -- a piece in its midst, where the rest of its bytes isn't taken yet
 pub record SoFar (who : ℕ) (old now : Desk) (text bytes rest : List ℕ) : Type 0 where
@@ -167,10 +186,10 @@ pub record SoFar (who : ℕ) (old now : Desk) (text bytes rest : List ℕ) : Typ
   pub appends : Appends old.written now.written out
   pub still : closed more ≡ false
   pub answered : SomeParts who old text used out now.disk.contents more
-  pub serves : Serves now.line (text ++ used)
+  pub serves : ServesText now.line (text ++ used)
 
-pub record Underway (who : ℕ) (old now : Desk) (bytes rest : List ℕ) : Type 0 where
+pub record PieceUnderway (who : ℕ) (old now : Desk) (bytes rest : List ℕ) : Type 0 where
   pub cut : now.disk.cut ≡ false
   pub slow : now.disk.slow ≡ false
   pub cuts : old.disk.cuts ≤ now.disk.cuts
-  pub text : (text : List ℕ) → Serves old.line text → SoFar who old now text bytes rest
+  pub text : (text : List ℕ) → ServesText old.line text → SoFar who old now text bytes rest

@@ -1,19 +1,24 @@
 //! One accepted command, run on the disk.
 
-ghost use Rattle.std.specs.Prelude.{◌≡◌, ◌⊎◌, ℕ, ◌+◌, ◌*◌, ◌<◌, ◌≤◌, List, length, true, false, None, Some, OnOk, IsErrOf};
-ghost use Rattle.block_device.specs.Facts.{Goes};
+ghost use Rattle.std.specs.Prelude.{◌≡◌, ◌⊎◌, ℕ, ◌+◌, ◌*◌, ◌<◌, ◌≤◌, List, length, true, false};
+ghost use Rattle.std.specs.Prelude.{None, Some, OnOk, IsErrOf};
+ghost use Rattle.block_device.specs.Facts.{CountsNeverFall};
 ghost use Rattle.nbd_wire.specs.declared.phase.Phase.TheVariants.{AwaitingFlags};
-ghost use Rattle.nbd_wire.specs.Commands.{judge_of, moves_data, lent_len_of, payload_in};
+ghost use Rattle.nbd_wire.specs.Commands.{judge_of};
+ghost use Rattle.nbd_wire.specs.Lent.{lent_len, payload_in};
 ghost use Rattle.nbd_transmission.specs.Apply.{head_of, reply_to};
 ghost use Rattle.session.specs.Lent.{IsFilled};
-ghost use Rattle.session.specs.Line.{IsRunning, StandsFor, is_closed, reply_of, room_of};
-ghost use Rattle.station.specs.Turning.{Executes, CommandStands};
+ghost use Rattle.session.specs.Sessions.{IsRunning, SessionRepresents, is_closed, reply_of};
+ghost use Rattle.session.specs.Sessions.{room_of};
+ghost use Rattle.station.specs.Turning.{CommandLeaves, CommandLatches};
 
 use block_device::{Disk, DiskError};
-use nbd_wire::{Command, CommandKind, EIO, SECTOR_LEN};
+use nbd_transmission::first_sector;
+use nbd_wire::{Command, CommandKind, EIO};
 use session::{Session, buffer_laws};
 
-/// Runs an accepted command over the bytes that are lent to it: a WRITE's payload, or the room for a READ's data.
+/// Runs an accepted command over the bytes that are lent to it: a WRITE's payload, or the room for
+/// a READ's data.
 pub(crate) fn execute<D: Disk>(
     disk: &mut D,
     command: &Command,
@@ -22,12 +27,15 @@ pub(crate) fn execute<D: Disk>(
 ) -> Result<(), DiskError>
     requires accepted { judge_of command.now sectors ≡ None }
     requires size { length (D.facts disk.old).contents ≡ 512 * sectors }
-    requires lent { length bytes.old ≡ lent_len_of command.now.kind command.now }
-    ensures contents { (D.facts disk.old).sound ≡ true → Executes (D.facts disk.old).contents command.now (payload_in command.now bytes.old) result (D.facts disk.new).contents }
-    ensures filled { OnOk result ((D.facts disk.old).sound ≡ true → IsFilled command.now (D.facts disk.old).contents bytes.new) }
+    requires lent { length bytes.old ≡ lent_len command.now }
+    ensures contents { (D.facts disk.old).sound ≡ true
+        → CommandLeaves (D.facts disk.old).contents command.now (payload_in command.now bytes.old)
+        result (D.facts disk.new).contents }
+    ensures filled { OnOk result ((D.facts disk.old).sound ≡ true
+        → IsFilled command.now (D.facts disk.old).contents bytes.new) }
     ensures sound { (D.facts disk.new).sound ≡ (D.facts disk.old).sound }
-    ensures goes { Goes (D.facts disk.old) (D.facts disk.new) }
-    ensures stands { CommandStands command.now (D.facts disk.old) result (D.facts disk.new) }
+    ensures goes { CountsNeverFall (D.facts disk.old) (D.facts disk.new) }
+    ensures stands { CommandLatches command.now (D.facts disk.old) result (D.facts disk.new) }
 {
     match command.kind {
         CommandKind::Read => disk.read(first_sector(command, sectors), bytes),
@@ -38,18 +46,8 @@ pub(crate) fn execute<D: Disk>(
     }
 }
 
-/// The first sector of an accepted READ or WRITE.
-fn first_sector(command: &Command, sectors: u32) -> u32
-    requires accepted { judge_of command.now sectors ≡ None }
-    requires kind { moves_data command.now.kind ≡ true }
-    ensures first { 512 * result ≡ command.now.offset }
-    ensures range { command.now.offset + command.now.length ≤ 512 * sectors }
-    ensures whole { (k : ℕ) × (command.now.length ≡ 512 * k) }
-{
-    (command.offset / u64::from(SECTOR_LEN)) as u32
-}
-
-/// Runs the command that a session handed out, and has the session make its reply. After a Cut there is none.
+/// Runs the command that a session handed out, and has the session make its reply. After a Cut
+/// there is none.
 pub(crate) fn run_command<D: Disk>(
     disk: &mut D,
     session: &mut Session,
@@ -57,16 +55,21 @@ pub(crate) fn run_command<D: Disk>(
 ) -> Result<(), DiskError>
     requires running { IsRunning session.old.sectors command.now session.old }
     requires size { length (D.facts disk.old).contents ≡ 512 * session.old.sectors }
-    ensures contents { (D.facts disk.old).sound ≡ true → Executes (D.facts disk.old).contents command.now (payload_in command.now (room_of session.old)) result (D.facts disk.new).contents }
-    ensures reply { OnOk result ((D.facts disk.old).sound ≡ true → reply_of session.new ≡ reply_to session.old.sectors (D.facts disk.old).contents command.now) }
+    ensures contents { (D.facts disk.old).sound ≡ true
+        → CommandLeaves (D.facts disk.old).contents command.now
+        (payload_in command.now (room_of session.old)) result (D.facts disk.new).contents }
+    ensures reply { OnOk result ((D.facts disk.old).sound ≡ true
+        → reply_of session.new ≡ reply_to session.old.sectors (D.facts disk.old).contents
+        command.now) }
     ensures slow { IsErrOf result DiskError.Slow → reply_of session.new ≡ head_of command.now 5 }
-    ensures serves { (text : List ℕ) → StandsFor AwaitingFlags session.old text → StandsFor AwaitingFlags session.new text }
+    ensures serves { (text : List ℕ) → SessionRepresents AwaitingFlags session.old text
+        → SessionRepresents AwaitingFlags session.new text }
     ensures closed { is_closed session.new ≡ is_closed session.old }
     ensures sectors { session.new.sectors ≡ session.old.sectors }
     ensures memory { session.new.memory ≡ session.old.memory }
     ensures sound { (D.facts disk.new).sound ≡ (D.facts disk.old).sound }
-    ensures goes { Goes (D.facts disk.old) (D.facts disk.new) }
-    ensures stands { CommandStands command.now (D.facts disk.old) result (D.facts disk.new) }
+    ensures goes { CountsNeverFall (D.facts disk.old) (D.facts disk.new) }
+    ensures stands { CommandLatches command.now (D.facts disk.old) result (D.facts disk.new) }
 {
     buffer_laws();
     let sectors = disk.sectors();

@@ -29,7 +29,13 @@ impl<D: Disk> Model for Hub<D> {
 
     ghost Value = { Board };
 
-    ghost view = { λ s. record { disk = D.facts s.disk; sectors = s.sectors; power = s.power; sessions = s.sessions.items; is_open = s.is_open } };
+    ghost view = { λ s. record {
+      disk = D.facts s.disk;
+      sectors = s.sectors;
+      power = s.power;
+      sessions = s.sessions.items;
+      is_open = s.is_open;
+    } };
 
     ghost invariant = { λ s. record {
       eight : vec_len s.sessions ≡ 8;
@@ -39,12 +45,14 @@ impl<D: Disk> Model for Hub<D> {
 }
 
 impl<D: Disk> Hub<D> {
-    ghost use Rattle.std.specs.Prelude.{◌≡◌, false, true, replicate, length, IfOk, IfErr, OnOk, OnErr};
-    ghost use Rattle.block_device.specs.Facts.{Goes};
+    ghost use Rattle.std.specs.Prelude.{◌≡◌, false, true, replicate, length, IfOk, IfErr, OnOk};
+    ghost use Rattle.std.specs.Prelude.{OnErr};
+    ghost use Rattle.block_device.specs.Facts.{CountsNeverFall};
     ghost use Rattle.station.specs.declared.event.Event.{Event};
     ghost use Rattle.station.specs.Board.{IsNew, memories};
-    ghost use Rattle.station.specs.Running.{Does, Ends, FailsOnly, HangsUp, Moves, Runs};
-    ghost use Rattle.station.specs.Telling.{AllTold, Told};
+    ghost use Rattle.station.specs.Running.{Ends, FailsOnly, Runs};
+    ghost use Rattle.station.specs.Moving.{Does, HangsUp, Moves};
+    ghost use Rattle.station.specs.Telling.{AllTold, EventTold};
 
     /// The power went: every connection is closed.
     fn go_dark(&mut self)
@@ -56,11 +64,13 @@ impl<D: Disk> Hub<D> {
 
     /// Does a step of the disk's tidying.
     fn tidy<W: Sink>(&mut self, out: &mut W) -> Result<(), Failed>
-        ensures goes { Goes self.old.disk self.new.disk }
+        ensures goes { CountsNeverFall self.old.disk self.new.disk }
         ensures memory { memories self.new ≡ memories self.old }
         ensures faults { FailsOnly (W.faults out.old) result (W.faults out.new) }
-        ensures does { Does self.old self.new Event.Tidy (W.written out.old) result (W.written out.new) }
-        ensures tells { OnOk result (Told self.old Event.Tidy (W.written out.old) (W.written out.new) self.new) }
+        ensures does { Does self.old self.new Event.Tidy (W.written out.old) result
+            (W.written out.new) }
+        ensures tells { OnOk result (EventTold self.old Event.Tidy (W.written out.old)
+            (W.written out.new) self.new) }
     {
         if !self.power {
             return put(out, NO_ONE, LOST, &[]);
@@ -77,11 +87,13 @@ impl<D: Disk> Hub<D> {
 
     /// Turns the power on anew.
     fn restore<W: Sink>(&mut self, out: &mut W) -> Result<(), Failed>
-        ensures goes { Goes self.old.disk self.new.disk }
+        ensures goes { CountsNeverFall self.old.disk self.new.disk }
         ensures memory { memories self.new ≡ memories self.old }
         ensures faults { FailsOnly (W.faults out.old) result (W.faults out.new) }
-        ensures does { Does self.old self.new Event.Restore (W.written out.old) result (W.written out.new) }
-        ensures tells { OnOk result (Told self.old Event.Restore (W.written out.old) (W.written out.new) self.new) }
+        ensures does { Does self.old self.new Event.Restore (W.written out.old) result
+            (W.written out.new) }
+        ensures tells { OnOk result (EventTold self.old Event.Restore (W.written out.old)
+            (W.written out.new) self.new) }
     {
         match self.disk.restore() {
             Ok(()) => {
@@ -101,11 +113,13 @@ impl<D: Disk> Hub<D> {
 
     /// Opens a connection.
     fn open<W: Sink>(&mut self, who: u8, out: &mut W) -> Result<(), Failed>
-        ensures goes { Goes self.old.disk self.new.disk }
+        ensures goes { CountsNeverFall self.old.disk self.new.disk }
         ensures memory { memories self.new ≡ memories self.old }
         ensures faults { FailsOnly (W.faults out.old) result (W.faults out.new) }
-        ensures does { Does self.old self.new (Event.Open who) (W.written out.old) result (W.written out.new) }
-        ensures tells { OnOk result (Told self.old (Event.Open who) (W.written out.old) (W.written out.new) self.new) }
+        ensures does { Does self.old self.new (Event.Open who) (W.written out.old) result
+            (W.written out.new) }
+        ensures tells { OnOk result (EventTold self.old (Event.Open who) (W.written out.old)
+            (W.written out.new) self.new) }
     {
         if !self.power {
             return put(out, who, LOST, &[]);
@@ -125,11 +139,13 @@ impl<D: Disk> Hub<D> {
 
     /// Closes a connection.
     fn gone<W: Sink>(&mut self, who: u8, out: &mut W) -> Result<(), Failed>
-        ensures goes { Goes self.old.disk self.new.disk }
+        ensures goes { CountsNeverFall self.old.disk self.new.disk }
         ensures memory { memories self.new ≡ memories self.old }
         ensures faults { FailsOnly (W.faults out.old) result (W.faults out.new) }
-        ensures does { Does self.old self.new (Event.Gone who) (W.written out.old) result (W.written out.new) }
-        ensures tells { OnOk result (Told self.old (Event.Gone who) (W.written out.old) (W.written out.new) self.new) }
+        ensures does { Does self.old self.new (Event.Gone who) (W.written out.old) result
+            (W.written out.new) }
+        ensures tells { OnOk result (EventTold self.old (Event.Gone who) (W.written out.old)
+            (W.written out.new) self.new) }
     {
         if !self.power {
             return put(out, who, LOST, &[]);
@@ -146,11 +162,13 @@ impl<D: Disk> Hub<D> {
 
     /// Takes bytes of a connection.
     fn take<W: Sink>(&mut self, who: u8, bytes: &[u8], out: &mut W) -> Result<(), Failed>
-        ensures goes { Goes self.old.disk self.new.disk }
+        ensures goes { CountsNeverFall self.old.disk self.new.disk }
         ensures memory { memories self.new ≡ memories self.old }
         ensures faults { FailsOnly (W.faults out.old) result (W.faults out.new) }
-        ensures does { Does self.old self.new (Event.Piece who bytes.entry) (W.written out.old) result (W.written out.new) }
-        ensures tells { OnOk result (Told self.old (Event.Piece who bytes.entry) (W.written out.old) (W.written out.new) self.new) }
+        ensures does { Does self.old self.new (Event.Piece who bytes.entry) (W.written out.old)
+            result (W.written out.new) }
+        ensures tells { OnOk result (EventTold self.old (Event.Piece who bytes.entry)
+            (W.written out.old) (W.written out.new) self.new) }
     {
         if !self.power {
             return put(out, who, LOST, &[]);
@@ -175,11 +193,13 @@ impl<D: Disk> Hub<D> {
 
     /// Answers one event.
     fn answer<W: Sink>(&mut self, event: Event, out: &mut W) -> Result<(), Failed>
-        ensures goes { Goes self.old.disk self.new.disk }
+        ensures goes { CountsNeverFall self.old.disk self.new.disk }
         ensures memory { memories self.new ≡ memories self.old }
         ensures faults { FailsOnly (W.faults out.old) result (W.faults out.new) }
-        ensures does { Does self.old self.new event.entry (W.written out.old) result (W.written out.new) }
-        ensures tells { OnOk result (Told self.old event.entry (W.written out.old) (W.written out.new) self.new) }
+        ensures does { Does self.old self.new event.entry (W.written out.old) result
+            (W.written out.new) }
+        ensures tells { OnOk result (EventTold self.old event.entry (W.written out.old)
+            (W.written out.new) self.new) }
     {
         match event {
             Event::Open(who) => self.open(who, out),
@@ -192,12 +212,15 @@ impl<D: Disk> Hub<D> {
 
     /// Answers one event. Where the output fails, every connection is closed.
     pub(crate) fn step<W: Sink>(&mut self, event: Event, out: &mut W) -> Result<(), Failed>
-        ensures goes { Goes self.old.disk self.new.disk }
+        ensures goes { CountsNeverFall self.old.disk self.new.disk }
         ensures memory { memories self.new ≡ memories self.old }
         ensures faults { FailsOnly (W.faults out.old) result (W.faults out.new) }
-        ensures moves { OnOk result (Moves self.old self.new event.entry (W.written out.old) (W.written out.new)) }
-        ensures tells { OnOk result (Told self.old event.entry (W.written out.old) (W.written out.new) self.new) }
-        ensures hangs { OnErr result (HangsUp self.old self.new event.entry (W.written out.old) (W.written out.new)) }
+        ensures moves { OnOk result (Moves self.old self.new event.entry (W.written out.old)
+            (W.written out.new)) }
+        ensures tells { OnOk result (EventTold self.old event.entry (W.written out.old)
+            (W.written out.new) self.new) }
+        ensures hangs { OnErr result (HangsUp self.old self.new event.entry (W.written out.old)
+            (W.written out.new)) }
         ensures closed { OnErr result (self.new.is_open ≡ replicate 8 false) }
     {
         match self.answer(event, out) {
@@ -212,12 +235,15 @@ impl<D: Disk> Hub<D> {
     /// Answers events in order, and says how many.
     pub(crate) fn run<W: Sink>(&mut self, events: &[Event], out: &mut W) -> Result<usize, Failed>
         ensures number { IfOk result (λ n. n ≡ length events.now) }
-        ensures goes { Goes self.old.disk self.new.disk }
+        ensures goes { CountsNeverFall self.old.disk self.new.disk }
         ensures memory { memories self.new ≡ memories self.old }
         ensures faults { FailsOnly (W.faults out.old) result (W.faults out.new) }
-        ensures says { OnOk result (Runs self.old self.new events.now (W.written out.old) (W.written out.new)) }
-        ensures tells { OnOk result (AllTold self.old events.now (W.written out.old) (W.written out.new) self.new) }
-        ensures ends { OnErr result (Ends self.old self.new events.now (W.written out.old) (W.written out.new)) }
+        ensures says { OnOk result (Runs self.old self.new events.now (W.written out.old)
+            (W.written out.new)) }
+        ensures tells { OnOk result (AllTold self.old events.now (W.written out.old)
+            (W.written out.new) self.new) }
+        ensures ends { OnErr result (Ends self.old self.new events.now (W.written out.old)
+            (W.written out.new)) }
         ensures closed { OnErr result (self.new.is_open ≡ replicate 8 false) }
     {
         for event in events {
@@ -267,7 +293,7 @@ impl<D: Disk> Hub<D> {
     }
 }
 
-/// Whether no Cut stands in the disk, which a flush tells.
+/// Whether no Cut is latched in the disk, which a flush tells.
 fn has_power<D: Disk>(disk: &mut D) -> bool
     ensures facts { D.facts disk.new ≡ D.facts disk.old }
     ensures power { (D.facts disk.old).cut ≡ not result }
@@ -282,7 +308,8 @@ fn has_power<D: Disk>(disk: &mut D) -> bool
 /// All sessions, for a disk of so many sectors.
 fn open_all(alloc: Global, sectors: u32) -> Result<Vec<Session>, NewError>
     ensures eight { IfOk result (λ sessions. vec_len sessions ≡ 8) }
-    ensures same { IfOk result (λ sessions. All (λ session. session.sectors ≡ sectors) sessions.items) }
+    ensures same { IfOk result (λ sessions.
+        All (λ session. session.sectors ≡ sectors) sessions.items) }
 {
     let mut sessions = Vec::new(alloc);
     for _ in 0..CONNECTIONS {

@@ -1,17 +1,18 @@
 //! Pieces of one connection's bytes.
 
 ghost use Rattle.std.specs.Io.KnownBytes.{Appends};
-ghost use Rattle.std.specs.Prelude.{◌≡◌, ◌<◌, ◌≤◌, ◌*◌, ℕ, List, false, length, take, IfOk, OnErr, OnOk};
-ghost use Rattle.block_device.specs.Facts.{Goes};
-ghost use Rattle.session.specs.Line.{is_closed};
+ghost use Rattle.std.specs.Prelude.{◌≡◌, ◌<◌, ◌≤◌, ◌*◌, ℕ, List, false, length, take, IfOk, OnErr};
+ghost use Rattle.std.specs.Prelude.{OnOk};
+ghost use Rattle.block_device.specs.Facts.{CountsNeverFall};
+ghost use Rattle.session.specs.Sessions.{is_closed};
 ghost use Rattle.station.specs.Running.{FailsOnly};
 ghost use Rattle.station.specs.Telling.{SlowComes};
-ghost use Rattle.station.specs.Turning.{IsQuiet, Turned, TurnHalts, Pieced, PieceHalts};
+ghost use Rattle.station.specs.Turning.{IsRunQuiet, Turned, TurnHalts, Pieced, PieceHalts};
 
 use crate::command::run_command;
 use crate::entries::tell;
 use block_device::{Disk, DiskError, Failed, Sink};
-use session::{Next, Session, parts_laws};
+use session::{Next, Session};
 
 /// How far a connection came with some bytes.
 #[derive(Clone, Copy, Debug, PartialEq, Eq, Drop)]
@@ -37,7 +38,8 @@ pub(crate) enum Ending {
     Lost,
 }
 
-/// Takes bytes of at most one unit, and answers it where it is complete. Answers how many bytes were used.
+/// Takes bytes of at most one unit, and answers it where it is complete. Answers how many bytes
+/// were used.
 pub(crate) fn take_turn<D: Disk, W: Sink>(
     disk: &mut D,
     session: &mut Session,
@@ -52,18 +54,20 @@ pub(crate) fn take_turn<D: Disk, W: Sink>(
     ensures sectors { session.new.sectors ≡ session.old.sectors }
     ensures memory { session.new.memory ≡ session.old.memory }
     ensures sound { (D.facts disk.new).sound ≡ (D.facts disk.old).sound }
-    ensures goes { Goes (D.facts disk.old) (D.facts disk.new) }
+    ensures goes { CountsNeverFall (D.facts disk.old) (D.facts disk.new) }
     ensures slow { SlowComes (D.facts disk.old) (D.facts disk.new) }
-    ensures wrote { OnOk result ((wrote : List ℕ) × Appends (W.written out.old) (W.written out.new) wrote) }
+    ensures wrote { OnOk result ((wrote : List ℕ)
+        × Appends (W.written out.old) (W.written out.new) wrote) }
     ensures faults { FailsOnly (W.faults out.old) result (W.faults out.new) }
-    ensures says { IsQuiet (D.facts disk.old) (D.facts disk.new) → IfOk result (λ r. Turned who
+    ensures says { IsRunQuiet (D.facts disk.old) (D.facts disk.new) → IfOk result (λ r. Turned who
         (record { disk = D.facts disk.old; line = session.old; written = W.written out.old })
-        (record { disk = D.facts disk.new; line = session.new; written = W.written out.new }) r.1 (take r.0 bytes.now)) }
-    ensures halts { IsQuiet (D.facts disk.old) (D.facts disk.new) → OnErr result (TurnHalts who
+        (record { disk = D.facts disk.new; line = session.new; written = W.written out.new }) r.1
+        (take r.0 bytes.now)) }
+    ensures halts { IsRunQuiet (D.facts disk.old) (D.facts disk.new) → OnErr result (TurnHalts who
         (record { disk = D.facts disk.old; line = session.old; written = W.written out.old })
-        (record { disk = D.facts disk.new; line = session.new; written = W.written out.new }) bytes.now) }
+        (record { disk = D.facts disk.new; line = session.new; written = W.written out.new })
+        bytes.now) }
 {
-    parts_laws();
     let taken = session.take(bytes);
     match taken.next {
         Next::More => Ok((taken.used, Turn::Waits)),
@@ -89,7 +93,8 @@ pub(crate) fn take_turn<D: Disk, W: Sink>(
     }
 }
 
-/// Takes a whole piece, and answers each unit that it completes, up to one that closes the connection or a loss of power.
+/// Takes a whole piece, and answers each unit that it completes, up to one that closes the
+/// connection or a loss of power.
 pub(crate) fn take_piece<D: Disk, W: Sink>(
     disk: &mut D,
     session: &mut Session,
@@ -101,18 +106,21 @@ pub(crate) fn take_piece<D: Disk, W: Sink>(
     ensures sectors { session.new.sectors ≡ session.old.sectors }
     ensures memory { session.new.memory ≡ session.old.memory }
     ensures sound { (D.facts disk.new).sound ≡ (D.facts disk.old).sound }
-    ensures goes { Goes (D.facts disk.old) (D.facts disk.new) }
+    ensures goes { CountsNeverFall (D.facts disk.old) (D.facts disk.new) }
     ensures slow { SlowComes (D.facts disk.old) (D.facts disk.new) }
-    ensures wrote { OnOk result ((wrote : List ℕ) × Appends (W.written out.old) (W.written out.new) wrote) }
+    ensures wrote { OnOk result ((wrote : List ℕ)
+        × Appends (W.written out.old) (W.written out.new) wrote) }
     ensures faults { FailsOnly (W.faults out.old) result (W.faults out.new) }
-    ensures says { IsQuiet (D.facts disk.old) (D.facts disk.new) → IfOk result (λ ending. Pieced who
+    ensures says { IsRunQuiet (D.facts disk.old) (D.facts disk.new)
+        → IfOk result (λ ending. Pieced who
         (record { disk = D.facts disk.old; line = session.old; written = W.written out.old })
-        (record { disk = D.facts disk.new; line = session.new; written = W.written out.new }) ending bytes.now) }
-    ensures halts { IsQuiet (D.facts disk.old) (D.facts disk.new) → OnErr result (PieceHalts who
+        (record { disk = D.facts disk.new; line = session.new; written = W.written out.new }) ending
+        bytes.now) }
+    ensures halts { IsRunQuiet (D.facts disk.old) (D.facts disk.new) → OnErr result (PieceHalts who
         (record { disk = D.facts disk.old; line = session.old; written = W.written out.old })
-        (record { disk = D.facts disk.new; line = session.new; written = W.written out.new }) bytes.now) }
+        (record { disk = D.facts disk.new; line = session.new; written = W.written out.new })
+        bytes.now) }
 {
-    parts_laws();
     let mut rest = bytes;
     while !rest.is_empty() {
         let (used, turn) = take_turn(disk, session, who, rest, out)?;

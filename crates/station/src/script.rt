@@ -1,13 +1,17 @@
 //! Records of a script.
 
 ghost use Rattle.std.specs.Int.{to_be_bytes, w32};
-ghost use Rattle.std.specs.Prelude.{◌≡◌, ◌≢◌, ◌<◌, ◌++◌, ◌∷◌, [], None, false, length, replicate, IfSome, IsErrOf};
+ghost use Rattle.std.specs.Prelude.{◌≡◌, ◌≢◌, ◌<◌, ◌++◌, ◌∷◌, [], None, false, length, replicate};
+ghost use Rattle.std.specs.Prelude.{IfSome, IsErrOf};
 ghost use Rattle.station.specs.Running.{FailsOnly};
-ghost use Rattle.block_device.specs.Facts.{Goes};
+ghost use Rattle.block_device.specs.Facts.{CountsNeverFall};
 ghost use Rattle.station.specs.Board.{memories};
 ghost use Rattle.station.specs.declared.script.Form.{Form};
-ghost use Rattle.station.specs.Script.{ArmDoes, ArmsNothing, FailsToRead, FailsToReadAll, FailsToWrite, Fills, FormDoes, IsForm};
-ghost use Rattle.station.specs.Script.{PieceDoes, ReadsForm, ScriptSays, head_of};
+ghost use Rattle.station.specs.Script.{FailsToReadAll, FailsToWrite};
+ghost use Rattle.station.specs.ScriptSteps.{ArmDoes, ArmsNothing, FailsToRead, Fills, FormDoes};
+ghost use Rattle.station.specs.ScriptSteps.{IsForm};
+ghost use Rattle.station.specs.Script.{ScriptSays, progress};
+ghost use Rattle.station.specs.ScriptSteps.{PieceDoes, ReadsForm, record_head};
 
 use crate::entries::NO_ONE;
 use crate::event::{Event, ScriptError};
@@ -53,8 +57,8 @@ pub(crate) fn fill<S: Source>(reader: &mut S, into: &mut [u8]) -> Result<usize, 
 /// The form of a record with this head, if there is one.
 pub(crate) fn form_of(head: [u8; HEAD_LEN]) -> Option<Form>
     ensures form { IfSome result (λ form. IsForm form) }
-    ensures head { IfSome result (λ form. head ≡ head_of form) }
-    ensures none { result ≡ None → (form : Form) → IsForm form → head ≢ head_of form }
+    ensures head { IfSome result (λ form. head ≡ record_head form) }
+    ensures none { result ≡ None → (form : Form) → IsForm form → head ≢ record_head form }
 {
     let [kind, who, a, b, c, d] = head;
     let len = u32::from_be_bytes([a, b, c, d]) as usize;
@@ -114,9 +118,10 @@ pub(crate) fn run_form<D: Disk, S: Source, W: Sink>(
 ) -> Result<(), ScriptError>
     requires form { IsForm form }
     requires piece { length piece.old ≡ PIECE_LEN }
-    ensures goes { Goes hub.old.disk hub.new.disk }
+    ensures goes { CountsNeverFall hub.old.disk hub.new.disk }
     ensures memory { memories hub.new ≡ memories hub.old }
-    ensures does { FormDoes form hub.old hub.new (S.remaining reader.old) (W.written out.old) result (S.remaining reader.new) (W.written out.new) }
+    ensures does { FormDoes form hub.old hub.new (S.remaining reader.old) (W.written out.old) result
+        (S.remaining reader.new) (W.written out.new) }
     ensures reads { FailsToRead (S.faults reader.old) result (S.faults reader.new) }
     ensures writes { FailsToWrite (W.faults out.old) result (W.faults out.new) }
     ensures closed { IsErrOf result ScriptError.Output → hub.new.is_open ≡ replicate 8 false }
@@ -151,9 +156,11 @@ fn run_piece<D: Disk, S: Source, W: Sink>(
     reader: &mut S,
     out: &mut W,
 ) -> Result<(), ScriptError>
-    ensures goes { Goes hub.old.disk hub.new.disk }
+    ensures goes { CountsNeverFall hub.old.disk hub.new.disk }
     ensures memory { memories hub.new ≡ memories hub.old }
-    ensures does { PieceDoes who (length bytes.old) hub.old hub.new (S.remaining reader.old) (W.written out.old) result (S.remaining reader.new) (W.written out.new) }
+    ensures does { PieceDoes who (length bytes.old)
+        (progress hub.old (S.remaining reader.old) (W.written out.old)) result
+        (progress hub.new (S.remaining reader.new) (W.written out.new)) }
     ensures reads { FailsToRead (S.faults reader.old) result (S.faults reader.new) }
     ensures writes { FailsToWrite (W.faults out.old) result (W.faults out.new) }
     ensures closed { IsErrOf result ScriptError.Output → hub.new.is_open ≡ replicate 8 false }
@@ -217,10 +224,12 @@ pub(crate) fn run_lines<D: Disk, S: Source, W: Sink>(
     out: &mut W,
 ) -> Result<(), ScriptError>
     requires piece { length piece.old ≡ PIECE_LEN }
-    ensures goes { Goes hub.old.disk hub.new.disk }
+    ensures goes { CountsNeverFall hub.old.disk hub.new.disk }
     ensures memory { memories hub.new ≡ memories hub.old }
-    ensures says { ScriptSays hub.old hub.new (S.remaining reader.old) (W.written out.old) result (S.remaining reader.new) (W.written out.new) }
-    ensures reads { FailsToReadAll (S.remaining reader.old) (S.faults reader.old) result (S.faults reader.new) }
+    ensures says { ScriptSays hub.old hub.new (S.remaining reader.old) (W.written out.old) result
+        (S.remaining reader.new) (W.written out.new) }
+    ensures reads { FailsToReadAll (S.remaining reader.old) (S.faults reader.old) result
+        (S.faults reader.new) }
     ensures writes { FailsToWrite (W.faults out.old) result (W.faults out.new) }
     ensures closed { IsErrOf result ScriptError.Output → hub.new.is_open ≡ replicate 8 false }
 {

@@ -31,15 +31,17 @@ impl<D: Disk> Model for Station<D> {
 }
 
 impl<D: Disk> Station<D> {
-    ghost use Rattle.std.specs.Prelude.{◌≡◌, false, replicate, length, IfOk, IfErr, IsErrOf, OnOk, OnErr};
-    ghost use Rattle.block_device.specs.Facts.{Goes};
+    ghost use Rattle.std.specs.Prelude.{◌≡◌, false, replicate, length, IfOk, IfErr, IsErrOf, OnOk};
+    ghost use Rattle.std.specs.Prelude.{OnErr};
+    ghost use Rattle.block_device.specs.Facts.{CountsNeverFall};
     ghost use Rattle.station.specs.Board.{IsNew, memories};
     ghost use Rattle.station.specs.Running.{Ends, FailsOnly, Runs};
     ghost use Rattle.station.specs.Telling.{AllTold};
     ghost use Rattle.station.specs.Script.{FailsToReadAll, FailsToWrite, ScriptSays};
 
-    /// A station of this disk, with every connection closed. Its eight sessions and the buffer of a piece (65,536 bytes) are made
-    /// here, and no later call takes memory. `OutOfMemory` hands the disk back. Source: own.
+    /// A station of this disk, with every connection closed. Its eight sessions and the buffer of a
+    /// piece (65,536 bytes) are made here, and no later call takes memory. `OutOfMemory` hands the
+    /// disk back. Source: own.
     pub fn new(alloc: Global, disk: D) -> Result<Station<D>, (D, NewError)>
         ensures new { IfOk result (λ station. IsNew (D.facts disk) station) }
         ensures back { IfErr result (λ e. e.0 ≡ disk) }
@@ -60,23 +62,29 @@ impl<D: Disk> Station<D> {
         self.hub.into_inner()
     }
 
-    /// Answers events in order by records that it writes (docs/SCRIPT.md), and says how many events these were. Each reply is
-    /// written before the next unit of the connection's bytes is looked at.
+    /// Answers events in order by records that it writes (docs/SCRIPT.md), and says how many events
+    /// these were. Each reply is written before the next unit of the connection's bytes is looked
+    /// at.
     ///
-    /// `Output` where a write failed: the records taken are then a beginning of a transcript, and every connection is closed.
-    /// What is said of the records is said of a sound disk and of a run in which no operation of it was slow; a READ or WRITE
-    /// that meets a slow one is replied to with error 5 (EIO). Source: own; the replies are those of NBD proto.md.
+    /// `Output` where a write failed: the records taken are then a beginning of a transcript, and
+    /// every connection is closed. What is said of the records is said of a sound disk and of a run
+    /// in which no operation of it was slow; a READ or WRITE that meets a slow one is replied to
+    /// with error 5 (EIO). Source: own; the replies are those of NBD proto.md.
     pub fn run<W: Sink>(&mut self, events: &[Event], out: &mut W) -> Result<usize, RunError>
         ensures number { IfOk result (λ n. n ≡ length events.now) }
-        ensures goes { Goes self.old.disk self.new.disk }
+        ensures goes { CountsNeverFall self.old.disk self.new.disk }
         // no buffer takes more memory
         ensures memory { memories self.new ≡ memories self.old }
         // it answers Output exactly where a write failed
         ensures faults { FailsOnly (W.faults out.old) result (W.faults out.new) }
-        ensures says { OnOk result (Runs self.old self.new events.now (W.written out.old) (W.written out.new)) }
-        // whatever disk it is: a Tidy and a Restore end by what stands in the disk then, and a Slow stands only where one did or came
-        ensures tells { OnOk result (AllTold self.old events.now (W.written out.old) (W.written out.new) self.new) }
-        ensures ends { OnErr result (Ends self.old self.new events.now (W.written out.old) (W.written out.new)) }
+        ensures says { OnOk result (Runs self.old self.new events.now (W.written out.old)
+            (W.written out.new)) }
+        // whatever disk it is: a Tidy and a Restore end by what stands in the disk then, and a Slow
+        // is latched only where one did or came
+        ensures tells { OnOk result (AllTold self.old events.now (W.written out.old)
+            (W.written out.new) self.new) }
+        ensures ends { OnErr result (Ends self.old self.new events.now (W.written out.old)
+            (W.written out.new)) }
         ensures closed { OnErr result (self.new.is_open ≡ replicate 8 false) }
     {
         match self.hub.run(events, out) {
@@ -85,21 +93,26 @@ impl<D: Disk> Station<D> {
         }
     }
 
-    /// Runs a script: records of events, and of losses of power to be armed (docs/SCRIPT.md), up to the end of the input.
+    /// Runs a script: records of events, and of losses of power to be armed (docs/SCRIPT.md), up to
+    /// the end of the input.
     ///
-    /// `BadRecord` where no record of a script stands, or the input ends inside one; `Input` where a read failed, or where the
-    /// script has no end in 2^64 - 1 records; `Output` where a write failed. The events before it have been run. Source: own.
+    /// `BadRecord` where no record of a script stands, or the input ends inside one; `Input` where
+    /// a read failed, or where the script has no end in 2^64 - 1 records; `Output` where a write
+    /// failed. The events before it have been run. Source: own.
     pub fn run_script<S: Source, W: Sink>(
         &mut self,
         reader: &mut S,
         writer: &mut W,
     ) -> Result<(), ScriptError>
-        ensures goes { Goes self.old.disk self.new.disk }
+        ensures goes { CountsNeverFall self.old.disk self.new.disk }
         // no buffer takes more memory
         ensures memory { memories self.new ≡ memories self.old }
-        ensures says { ScriptSays self.old self.new (S.remaining reader.old) (W.written writer.old) result (S.remaining reader.new) (W.written writer.new) }
-        // it answers Input exactly where a read failed or the input didn't end, and Output exactly where a write failed
-        ensures reads { FailsToReadAll (S.remaining reader.old) (S.faults reader.old) result (S.faults reader.new) }
+        ensures says { ScriptSays self.old self.new (S.remaining reader.old) (W.written writer.old)
+            result (S.remaining reader.new) (W.written writer.new) }
+        // it answers Input exactly where a read failed or the input didn't end, and Output exactly
+        // where a write failed
+        ensures reads { FailsToReadAll (S.remaining reader.old) (S.faults reader.old) result
+            (S.faults reader.new) }
         ensures writes { FailsToWrite (W.faults writer.old) result (W.faults writer.new) }
         ensures closed { IsErrOf result ScriptError.Output → self.new.is_open ≡ replicate 8 false }
     {

@@ -1,4 +1,5 @@
-// The chips of the sweep, and the product: a station over the disk on such a chip.
+//! The chips of the sweep, and the product: a station over the disk on such a chip.
+
 ghost use Rattle.std.specs.Prelude.{◌≡◌, ◌<◌};
 
 use crate::failure::Failure;
@@ -18,7 +19,8 @@ pub type OnSim = FlashDisk<SimChip, Brand>;
 pub enum Chip {
     /// As the format leaves it.
     Plain,
-    /// All entries of J0 are used, and all but three votes of J1 for J0: the next erase renews both.
+    /// All entries of J0 are used, and all but three votes of J1 for J0: the next erase renews
+    /// both.
     Prepared,
 }
 

@@ -1,4 +1,5 @@
-// Why a sweep ended early.
+//! Why a sweep ended early.
+
 use std::alloc::AllocError;
 use std::fmt;
 use sweep_judge::Wrong;
@@ -38,7 +39,6 @@ impl fmt::Display for Failure {
             Failure::Told(Wrong::Sector) => "a sector is neither what it was nor what it was to be",
             Failure::Told(Wrong::Loss) =>
                 "a loss of power that was not armed, or in no event of the chip",
-            Failure::Told(Wrong::Rest) => "records behind the last event",
         };
         write!(f, "{text}")
     }

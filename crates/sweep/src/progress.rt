@@ -1,4 +1,5 @@
-// The line that says how far the sweep has come.
+//! The line that says how far the sweep has come.
+
 use crate::failure::Failure;
 use std::rt::Clock;
 use std::time::Instant;

@@ -1,9 +1,11 @@
-// The sweep of a chip: the fixed script with a loss of power, and what comes after it.
+//! The sweep of a chip: the fixed script with a loss of power, and what comes after it.
+
 use crate::chip::{Chip, OnSim, started, told};
 use crate::failure::Failure;
 use station::Station;
 use std::alloc::Global;
-use sweep_judge::{Event, Judge, SECTORS, Seen};
+use std::io;
+use sweep_judge::{Event, Judge, Request, SECTORS, Seen, print_script};
 
 /// The masks of the losses.
 pub const MASKS: [u8; 6] = [0x00, 0xFF, 0xA5, 0xFE, 0xFC, 0xF8];
@@ -11,39 +13,36 @@ pub const MASKS: [u8; 6] = [0x00, 0xFF, 0xA5, 0xFE, 0xFC, 0xF8];
 /// How many restores in a row may be lost before one that is not.
 const MOST_RESTORES: u32 = 1_000;
 
-/// The room of a transcript: that of the fixed script has 36,512 bytes.
-const ROOM_BYTES: usize = 131_072;
+/// The room of what is told of an event: of some READs of all sectors.
+const ROOM_BYTES: usize = 1_048_576;
 
-/// The fixed script: all sectors are written, sector 0 eight times more, two others once more, the disk is tidied, and all is read.
-const SCRIPT: [Event; 15] = [
-    Event::Open,
-    Event::Flags,
-    Event::Go,
-    Event::Write(0, SECTORS, 1),
-    Event::Write(0, 1, 2),
-    Event::Write(0, 1, 3),
-    Event::Write(0, 1, 4),
-    Event::Write(0, 1, 5),
-    Event::Write(0, 1, 6),
-    Event::Write(0, 1, 7),
-    Event::Write(0, 1, 8),
-    Event::Write(0, 1, 9),
-    Event::Write(6, 2, 10),
+/// A READ of all sectors by the client of connection 0.
+const READ_ALL: Event = Event::Ask(0, Request::Read(0, SECTORS), 0);
+
+/// The fixed script: all sectors are written, sector 0 eight times more, two others once more, the
+/// disk is tidied, and all is read.
+const SCRIPT: [Event; 14] = [
+    Event::Open(0),
+    Event::Rest(0),
+    Event::Ask(0, Request::Write(0, SECTORS, 1), 0),
+    Event::Ask(0, Request::Write(0, 1, 2), 0),
+    Event::Ask(0, Request::Write(0, 1, 3), 0),
+    Event::Ask(0, Request::Write(0, 1, 4), 0),
+    Event::Ask(0, Request::Write(0, 1, 5), 0),
+    Event::Ask(0, Request::Write(0, 1, 6), 0),
+    Event::Ask(0, Request::Write(0, 1, 7), 0),
+    Event::Ask(0, Request::Write(0, 1, 8), 0),
+    Event::Ask(0, Request::Write(0, 1, 9), 0),
+    Event::Ask(0, Request::Write(6, 2, 10), 0),
     Event::Tidy,
-    Event::Read(0, SECTORS),
+    READ_ALL,
 ];
 
 /// What is read once the power is back, twice with a restore between.
-const REREAD: [Event; 6] = [
-    Event::Open,
-    Event::Flags,
-    Event::Go,
-    Event::Read(0, SECTORS),
-    Event::Restore,
-    Event::Read(0, SECTORS),
-];
+const REREAD: [Event; 4] = [Event::Open(0), READ_ALL, Event::Restore, READ_ALL];
 
-/// A loss of power: in which frame of those that count, which count (0: all, 1: those that begin a change), and the mask.
+/// A loss of power: in which frame of those that count, which count (0: all, 1: those that begin a
+/// change), and the mask.
 #[derive(Clone, Copy)]
 pub struct Loss {
     pub count: u32,
@@ -56,9 +55,11 @@ pub struct Loss {
 pub enum Return {
     /// By one restore.
     Whole,
-    /// By a restore that is lost in its change of this number, if it has so many, and then a whole one.
+    /// By a restore that is lost in its change of this number, if it has so many, and then a whole
+    /// one.
     Second(u32),
-    /// By restores, of which the first is lost in its first change, the next in its second, and so on, until one isn't.
+    /// By restores, of which the first is lost in its first change, the next in its second, and so
+    /// on, until one isn't.
     Staircase,
 }
 
@@ -68,8 +69,9 @@ pub struct Sweeper {
     pub memory: Vec<u8>,
     room: Vec<u8>,
     judge: Judge,
-    /// The events of the last run.
+    /// The events of the last run, up to the first that was answered wrongly, and their records.
     events: Vec<Event>,
+    script: Vec<u8>,
 }
 
 impl Sweeper {
@@ -78,23 +80,36 @@ impl Sweeper {
             alloc,
             memory: chip.memory(alloc)?,
             room: vec![in alloc; 0u8; ROOM_BYTES]?,
-            judge: Judge::new(),
+            judge: Judge::new(alloc)?,
             events: Vec::new(alloc),
+            script: Vec::new(alloc),
         })
     }
 
     /// The events of the last run, up to the first that was answered wrongly.
     pub fn events(&self) -> &[Event] {
-        let events = self.events.as_slice();
-        events.get(..self.judge.events).unwrap_or(events)
+        self.events.as_slice()
     }
 
-    /// Runs the fixed script on a new station, with a loss armed before its first event. Where that came, the power comes back,
-    /// and all sectors are read, restored, and read again.
-    pub fn run(&mut self, loss: Loss, back: Return) -> Result<Seen, Failure> {
-        let mut station = started(self.alloc, self.memory.as_slice())?;
+    /// Prints them as lines of bash.
+    pub fn print(&self, rt: &impl Print, chip: Chip) -> io::Result<()> {
+        let name = chip.name();
+        println!(rt; "# on the {name} chip")?;
+        print_script(rt, self.events.as_slice(), self.script.as_slice())
+    }
+
+    /// A new station, of which nothing is told yet.
+    fn begin(&mut self) -> Result<Station<OnSim>, Failure> {
         self.events.clear();
-        self.judge = Judge::new();
+        self.script.clear();
+        self.judge = Judge::new(self.alloc)?;
+        started(self.alloc, self.memory.as_slice())
+    }
+
+    /// Runs the fixed script on a new station, with a loss armed before its first event. Where that
+    /// came, the power comes back, and all sectors are read, restored, and read again.
+    pub fn run(&mut self, loss: Loss, back: Return) -> Result<Seen, Failure> {
+        let mut station = self.begin()?;
         let Loss { count, kind, mask } = loss;
         self.play(&mut station, &[Event::Arm(count, kind, mask)])?;
         self.play(&mut station, &SCRIPT)?;
@@ -105,7 +120,8 @@ impl Sweeper {
         Ok(self.judge.seen)
     }
 
-    /// The first count of a kind that comes to no loss, found by halving. A wrong answer is passed over.
+    /// The first count of a kind that comes to no loss, found by halving. A wrong answer is passed
+    /// over.
     pub fn first_without(&mut self, kind: u8) -> Result<u32, Failure> {
         let mut lost = 0u32;
         let mut first = 65_536u32;
@@ -173,26 +189,29 @@ impl Sweeper {
 
     /// Runs a script on a new station.
     pub fn run_all(&mut self, events: &[Event]) -> Result<Seen, Failure> {
-        let mut station = started(self.alloc, self.memory.as_slice())?;
-        self.events.clear();
-        self.judge = Judge::new();
-        for event in events {
-            self.play(&mut station, &[*event])?;
-        }
+        let mut station = self.begin()?;
+        self.play(&mut station, events)?;
         Ok(self.judge.seen)
     }
 
     /// Runs events on a station, and judges what is told of them.
     fn play(&mut self, station: &mut Station<OnSim>, events: &[Event]) -> Result<(), Failure> {
-        let mut script = Vec::new(self.alloc);
         for event in events {
-            event.add_to(&mut script)?;
+            self.step(station, *event)?;
         }
-        if self.events.extend_from_slice(events).is_err() {
+        Ok(())
+    }
+
+    /// Runs an event.
+    fn step(&mut self, station: &mut Station<OnSim>, event: Event) -> Result<(), Failure> {
+        let mut record = Vec::new(self.alloc);
+        self.judge.record(event, &mut record)?;
+        self.script.extend_from_slice(record.as_slice())?;
+        if self.events.push(event).is_err() {
             return Err(Failure::NoMemory);
         }
-        let told = told(station, script.as_slice(), self.room.as_mut_slice())?;
-        match self.judge.judge(events, told) {
+        let told = told(station, record.as_slice(), self.room.as_mut_slice())?;
+        match self.judge.judge(event, told) {
             Ok(()) => Ok(()),
             Err(wrong) => Err(Failure::Told(wrong)),
         }

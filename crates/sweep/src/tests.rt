@@ -6,10 +6,10 @@ use crate::totals::Totals;
 use std::alloc::Global;
 use std::process::Abort;
 use std::test::Fail;
-use sweep_judge::Event;
+use sweep_judge::{Event, Judge, Request, Seen};
 
-/// Sweeps a chip with the losses of a kind, in every frame that counts, with each mask. Each mask has the same first count
-/// without a loss.
+/// Sweeps a chip with the losses of a kind, in every frame that counts, with each mask. Each mask
+/// has the same first count without a loss.
 fn swept(rt: &impl Abort, alloc: Global, chip: Chip, kind: u8) -> Result<Totals, Fail> {
     let mut sweeper = Sweeper::new(alloc, chip)?;
     let mut totals = Totals::new(chip, kind);
@@ -25,18 +25,19 @@ fn swept(rt: &impl Abort, alloc: Global, chip: Chip, kind: u8) -> Result<Totals,
         assert!(rt; last == 0 || totals.first == last, "mask {mask}");
     }
     assert_eq!(rt; totals.losses, totals.first.wrapping_sub(1).wrapping_mul(6));
-    assert!(rt; totals.olds > 10_000 && totals.news > 10_000);
+    assert!(rt; totals.seen.olds > 10_000 && totals.seen.news > 10_000);
     Ok(totals)
 }
 
-/// Of the 362 changes on a formatted chip the first write of each sector makes 4, each later one 5, the one that copies a block 10
-/// more, and the tidying 22; on the prepared one two journals are renewed, by 5 changes each.
+/// Of the 362 changes on a formatted chip the first write of each sector makes 4, each later one 5,
+/// the one that copies a block 10 more, and the tidying 22; on the prepared one two journals are
+/// renewed, by 5 changes each.
 #[test]
 fn every_change_is_lost(rt: HostRuntime) -> Result<(), Fail> {
     for (chip, first) in [(Chip::Plain, 363u32), (Chip::Prepared, 373)] {
         let totals = swept(&rt, rt.alloc(), chip, 1)?;
         assert_eq!(rt; totals.first, first);
-        assert!(rt; totals.nested > 1_000);
+        assert!(rt; totals.seen.lost_restores > 1_000);
     }
     Ok(())
 }
@@ -56,34 +57,48 @@ fn random_scripts_are_answered_as_by_the_array(rt: HostRuntime) -> Result<(), Fa
     let alloc = rt.alloc();
     for chip in [Chip::Plain, Chip::Prepared] {
         let mut sweeper = Sweeper::new(alloc, chip)?;
-        let mut losses = 0u32;
+        let mut seen = Seen::nothing();
         for seed in 0..500u32 {
             let came = sweeper.run_all(script(alloc, seed)?.as_slice());
             assert!(rt; came.is_ok(), "seed {seed}: {came:?}");
-            losses = losses.wrapping_add(came.map_or(0, |seen| seen.losses));
+            if let Ok(more) = came {
+                seen.add(more);
+            }
         }
-        assert!(rt; losses > 1_000, "{losses}");
+        assert!(rt; seen.losses > 1_000 && seen.replies > 10_000, "{seen:?}");
     }
     Ok(())
 }
 
-/// On a chip whose sector 5 was written before, of which the array knows nothing: a connection and a READ are left.
+/// On a chip whose sector 5 was written before, of which the array knows nothing: a connection and
+/// a READ are left.
 #[test]
 fn a_wrong_answer_is_shortened(rt: HostRuntime) -> Result<(), Fail> {
     let alloc = rt.alloc();
     let mut sweeper = Sweeper::new(alloc, Chip::Plain)?;
     let mut station = started(alloc, sweeper.memory.as_slice())?;
     let mut records = Vec::new(alloc);
-    Event::Start.add_to(&mut records)?;
-    Event::Write(5, 1, 0x77).add_to(&mut records)?;
+    let mut judge = Judge::new(alloc)?;
+    judge.record(Event::Open(0), &mut records)?;
+    judge.record(Event::Ask(0, Request::Write(5, 1, 0x77), 0), &mut records)?;
     let mut room = [0u8; 1_000];
     told(&mut station, records.as_slice(), &mut room)?;
     sweeper.memory = station.into_inner().into_inner().into_inner();
-    let events = shorten(&mut sweeper, alloc, script(alloc, 1)?)?;
+    let mut wrong = Vec::new(alloc);
+    for seed in 0..40u32 {
+        let events = script(alloc, seed)?;
+        if sweeper.run_all(events.as_slice()).is_err() {
+            wrong = events;
+            break;
+        }
+    }
+    let events = shorten(&mut sweeper, alloc, wrong)?;
     assert!(rt; sweeper.run_all(events.as_slice()).is_err());
     match events.as_slice() {
-        [Event::Start, Event::Read(first, count)]
-            if *first <= 5 && first.wrapping_add(*count) > 5 => Ok(()),
+        [
+            Event::Open(one),
+            Event::Ask(other, Request::Read(first, count), 0),
+        ] if *one == *other && *first <= 5 && first.wrapping_add(*count) > 5 => Ok(()),
         _ => Err(Fail::new(format_args!("{events:?}"))),
     }
 }

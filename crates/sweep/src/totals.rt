@@ -1,4 +1,5 @@
-// What the sweep of a chip came to.
+//! What the sweep of a chip came to.
+
 use crate::chip::Chip;
 use crate::failure::Failure;
 use crate::sweeper::{Loss, Return, Sweeper};
@@ -17,12 +18,8 @@ pub struct Totals {
     pub first: u32,
     /// The losses in the fixed script.
     pub losses: u32,
-    /// The losses in the restores after them.
-    pub nested: u32,
-    /// The sectors of interrupted WRITEs that were as before.
-    pub olds: u32,
-    /// Those that were as written.
-    pub news: u32,
+    /// What all runs have seen.
+    pub seen: Seen,
 }
 
 impl Totals {
@@ -32,21 +29,12 @@ impl Totals {
             kind,
             first: 0,
             losses: 0,
-            nested: 0,
-            olds: 0,
-            news: 0,
+            seen: Seen::nothing(),
         }
     }
 
-    /// Adds what was seen in a run.
-    fn add(&mut self, seen: Seen) {
-        self.nested = self.nested.wrapping_add(seen.lost_restores);
-        self.olds = self.olds.wrapping_add(seen.olds);
-        self.news = self.news.wrapping_add(seen.news);
-    }
-
-    /// Runs the fixed script with a loss, and where it came in a change once more with each loss of the restore after it. Whether
-    /// the loss came.
+    /// Runs the fixed script with a loss, and where it came in a change once more with each loss of
+    /// the restore after it. Whether the loss came.
     pub fn cut(&mut self, sweeper: &mut Sweeper, loss: Loss) -> Result<bool, Failure> {
         let seen = sweeper.run(loss, Return::Whole)?;
         if seen.losses == 0 {
@@ -54,9 +42,9 @@ impl Totals {
             return Ok(false);
         }
         self.losses = self.losses.wrapping_add(1);
-        self.add(seen);
+        self.seen.add(seen);
         if loss.kind == 1 {
-            self.add(sweeper.run(loss, Return::Staircase)?);
+            self.seen.add(sweeper.run(loss, Return::Staircase)?);
             self.nest(sweeper, loss)?;
         }
         Ok(true)
@@ -66,7 +54,7 @@ impl Totals {
     fn nest(&mut self, sweeper: &mut Sweeper, loss: Loss) -> Result<(), Failure> {
         for change in 1..MOST_RESTORES {
             let seen = sweeper.run(loss, Return::Second(change))?;
-            self.add(seen);
+            self.seen.add(seen);
             if seen.lost_restores == 0 {
                 return Ok(());
             }
@@ -84,7 +72,8 @@ impl fmt::Display for Totals {
         let name = self.chip.name();
         let counted = if self.kind == 0 { "frames" } else { "changes" };
         let number = self.first.saturating_sub(1);
-        let (losses, nested, olds, news) = (self.losses, self.nested, self.olds, self.news);
+        let losses = self.losses;
+        let (nested, olds, news) = (self.seen.lost_restores, self.seen.olds, self.seen.news);
         write!(
             f,
             "{name:<10}{counted:<9}{number:>9}{losses:>9}{nested:>11}{olds:>11}{news:>11}"

@@ -1,4 +1,6 @@
-// The events of the sweep's scripts, and their records (docs/SCRIPT.md).
+//! The events of scripts, and the bytes of their records and of what a client sends
+//! (docs/SCRIPT.md).
+
 ghost use Rattle.std.specs.Int.{to_be_bytes, w32};
 ghost use Rattle.std.specs.Prelude.{◌≡◌, ◌∷◌};
 
@@ -11,12 +13,10 @@ pub const SECTORS: u32 = 70;
 pub const SECTOR_BYTES: u32 = 512;
 
 /// The connection byte of an event of no connection.
-const NO_ONE: u8 = 0xFF;
+pub const NO_ONE: u8 = 0xFF;
 
-/// The kinds of requests.
-const READ: u8 = 0;
-
-const WRITE: u8 = 1;
+/// The most bytes of a piece.
+pub const PIECE_BYTES: usize = 65_536;
 
 /// The client's flags.
 const FLAGS: [u8; 4] = [0, 0, 0, 3];
@@ -27,21 +27,47 @@ const GO: [u8; 27] = [
     0x6C, 0x61, 0x73, 0x68, 0, 0,
 ];
 
-/// What happens. A client's events are those of connection 0.
+/// The errors of requests past the end of the disk: of a READ, and of a WRITE.
+const INVALID: u32 = 22;
+
+const NO_SPACE: u32 = 28;
+
+/// What a client asks for.
+#[derive(Clone, Copy, Debug)]
+pub enum Request {
+    /// A READ: from which sector on, and how many.
+    Read(u32, u32),
+    /// A WRITE: the same, and the value of each of their bytes.
+    Write(u32, u32, u8),
+    /// A FLUSH.
+    Flush,
+    /// A DISC, at which the server closes the connection.
+    Leave,
+}
+
+/// A unit of what a client sends.
+#[derive(Clone, Copy)]
+pub enum Unit {
+    /// Its flags.
+    Flags,
+    /// Its option GO.
+    Go,
+    /// A request, with its cookie.
+    Ask(Request, u64),
+}
+
+/// What happens. The first number of a client's event is its connection, from 0 to 7.
 #[derive(Clone, Copy, Debug)]
 pub enum Event {
-    /// The connection is opened.
-    Open,
-    /// The client's flags come.
-    Flags,
-    /// Its option GO comes.
-    Go,
-    /// The client is gone, and these three follow.
-    Start,
-    /// A WRITE comes: from which sector on, how many, and the value of each of their bytes.
-    Write(u32, u32, u8),
-    /// A READ comes: from which sector on, and how many.
-    Read(u32, u32),
+    /// The connection is opened. If it wasn't open, its client has its flags and its GO to send.
+    Open(u8),
+    /// The client has one more request to send, and a piece comes: all that it has to send but for
+    /// so many bytes at the end.
+    Ask(u8, Request, u32),
+    /// All comes that it has still to send.
+    Rest(u8),
+    /// The client is gone.
+    Gone(u8),
     /// The disk is tidied.
     Tidy,
     /// The power is turned on.
@@ -50,66 +76,68 @@ pub enum Event {
     Arm(u32, u8, u8),
 }
 
-/// The head of a record: the event, the connection, and how many bytes follow.
-pub fn record_head(event: u8, who: u8, len: u32) -> [u8; 6]
-    ensures { result ≡ event ∷ who ∷ to_be_bytes w32 len }
+/// The head of a record: its first two bytes, which are an event and a connection in a script, a
+/// connection and a kind in a transcript, and how many bytes follow.
+pub fn record_head(first: u8, second: u8, len: u32) -> [u8; 6]
+    ensures { result ≡ first ∷ second ∷ to_be_bytes w32 len }
 {
     let [a, b, c, d] = len.to_be_bytes();
-    [event, who, a, b, c, d]
-}
-
-/// The head of a READ or WRITE of so many sectors from one on, with the cookie 0102030405060708.
-fn request_head(kind: u8, first: u32, count: u32) -> [u8; 28] {
-    let [a, b, c, d] = first.wrapping_mul(SECTOR_BYTES).to_be_bytes();
-    let [e, f, g, h] = count.wrapping_mul(SECTOR_BYTES).to_be_bytes();
-    [
-        0x25, 0x60, 0x95, 0x13, 0, 0, 0, kind, 1, 2, 3, 4, 5, 6, 7, 8, 0, 0, 0, 0, a, b, c, d, e,
-        f, g, h,
-    ]
+    [first, second, a, b, c, d]
 }
 
 /// Adds a record to a script.
-fn add(script: &mut Vec<u8>, event: u8, who: u8, bytes: &[u8]) -> Result<(), AllocError> {
-    let len = bytes.len().min(65_536) as u32;
+pub fn add(script: &mut Vec<u8>, event: u8, who: u8, bytes: &[u8]) -> Result<(), AllocError> {
+    let len = bytes.len().min(PIECE_BYTES) as u32;
     script.extend_from_slice(&record_head(event, who, len))?;
     script.extend_from_slice(bytes)
 }
 
-/// Adds the record of a WRITE to a script.
-fn add_write(script: &mut Vec<u8>, first: u32, count: u32, value: u8) -> Result<(), AllocError> {
-    let payload = count.wrapping_mul(SECTOR_BYTES);
-    script.extend_from_slice(&record_head(b'P', 0, payload.wrapping_add(28)))?;
-    script.extend_from_slice(&request_head(WRITE, first, count))?;
-    let len = script.len().saturating_add(payload as usize);
-    script.resize(len, value)
+/// The head of a request of so many sectors from one on.
+fn request_head(kind: u8, cookie: u64, first: u32, count: u32) -> [u8; 28] {
+    let [a, b, c, d, e, f, g, h] = cookie.to_be_bytes();
+    let [i, j, k, l] = first.wrapping_mul(SECTOR_BYTES).to_be_bytes();
+    let [m, n, o, p] = count.wrapping_mul(SECTOR_BYTES).to_be_bytes();
+    [
+        0x25, 0x60, 0x95, 0x13, 0, 0, 0, kind, a, b, c, d, e, f, g, h, 0, 0, 0, 0, i, j, k, l, m,
+        n, o, p,
+    ]
 }
 
-/// Adds the records of an open connection, its flags and its GO to a script.
-fn add_start(script: &mut Vec<u8>) -> Result<(), AllocError> {
-    add(script, b'O', 0, &[])?;
-    add(script, b'P', 0, &FLAGS)?;
-    add(script, b'P', 0, &GO)
-}
-
-impl Event {
-    /// Adds the event's records to a script.
-    pub fn add_to(self, script: &mut Vec<u8>) -> Result<(), AllocError> {
+impl Request {
+    /// The error that it is answered with.
+    pub fn error(self) -> u32 {
         match self {
-            Event::Open => add(script, b'O', 0, &[]),
-            Event::Flags => add(script, b'P', 0, &FLAGS),
-            Event::Go => add(script, b'P', 0, &GO),
-            Event::Start => {
-                add(script, b'G', 0, &[])?;
-                add_start(script)
+            Request::Read(first, count) if first.saturating_add(count) > SECTORS => INVALID,
+            Request::Write(first, count, _) if first.saturating_add(count) > SECTORS => NO_SPACE,
+            _ => 0,
+        }
+    }
+
+    /// Adds its bytes to a text.
+    fn add_to(self, text: &mut Vec<u8>, cookie: u64) -> Result<(), AllocError> {
+        match self {
+            Request::Read(first, count) => {
+                text.extend_from_slice(&request_head(0, cookie, first, count))
             }
-            Event::Write(first, count, value) => add_write(script, first, count, value),
-            Event::Read(first, count) => add(script, b'P', 0, &request_head(READ, first, count)),
-            Event::Tidy => add(script, b'T', NO_ONE, &[]),
-            Event::Restore => add(script, b'R', NO_ONE, &[]),
-            Event::Arm(count, kind, mask) => {
-                let [a, b, c, d] = count.to_be_bytes();
-                add(script, b'C', NO_ONE, &[a, b, c, d, kind, mask])
+            Request::Write(first, count, value) => {
+                text.extend_from_slice(&request_head(1, cookie, first, count))?;
+                let payload = count.wrapping_mul(SECTOR_BYTES) as usize;
+                let len = text.len().saturating_add(payload);
+                text.resize(len, value)
             }
+            Request::Leave => text.extend_from_slice(&request_head(2, cookie, 0, 0)),
+            Request::Flush => text.extend_from_slice(&request_head(3, cookie, 0, 0)),
+        }
+    }
+}
+
+impl Unit {
+    /// Adds its bytes to a text.
+    pub fn add_to(self, text: &mut Vec<u8>) -> Result<(), AllocError> {
+        match self {
+            Unit::Flags => text.extend_from_slice(&FLAGS),
+            Unit::Go => text.extend_from_slice(&GO),
+            Unit::Ask(request, cookie) => request.add_to(text, cookie),
         }
     }
 }

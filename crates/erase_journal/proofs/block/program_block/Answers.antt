@@ -1,6 +1,9 @@
 use Rattle.erase_journal.proofs.Data.{program-bytes, program-settled, program-only, program-leaves, program-healthy}
 use Rattle.std.proofs.Common.{◌+◌, ◌*◌, length, arith}
-use Rattle.erase_journal.proofs.Effects.{and-spoiled, on-ok}
+use Rattle.std.proofs.lemmas.Result.{on_ok_weaker}
+use Rattle.nor_driver.proofs.CallLaws.{refuses-of}
+use Rattle.erase_journal.proofs.Effects.{and-spoiled}
+use Rattle.erase_journal.proofs.SettledLaws.{settled-of}
 use Rattle.erase_journal.proofs.Uses.{data-keeps}
 use Rattle.erase_journal.proofs.Knowing.{kept-known}
 use Rattle.erase_journal.proofs.block.program_block.Goals as goal
@@ -13,9 +16,14 @@ pub returns-clause-only : goal.returns-clause-only
 returns-clause-only g c = program-only (g.N.Nor.state c.args.nor.now) (g.N.Nor.state c.program.new.self) c.args.block c.args.at c.args.bytes.now c.requires.settled c.requires.data c.requires.number c.requires.range c.program.result
     c.program.ensures.ok c.program.ensures.ready c.program.ensures.cut c.program.ensures.slow c.program.ensures.stands
 
-pub returns-clause-settled : goal.returns-clause-settled
-returns-clause-settled g c = program-settled (g.N.Nor.state c.args.nor.now) (g.N.Nor.state c.program.new.self) c.args.block c.args.at c.args.bytes.now c.requires.settled c.requires.data c.requires.number c.requires.range c.program.result
-    c.program.ensures.ok c.program.ensures.ready
+pub returns-clause-done : goal.returns-clause-done
+returns-clause-done g c =
+    settled-of (g.N.Nor.state c.args.nor.now) (g.N.Nor.state c.program.new.self) c.program.result c.program.ensures.ready c.program.ensures.kept
+    (program-settled (g.N.Nor.state c.args.nor.now) (g.N.Nor.state c.program.new.self) c.args.block c.args.at c.args.bytes.now c.requires.settled c.requires.data c.requires.number c.requires.range c.program.result
+    c.program.ensures.ok c.program.ensures.ready)
+
+pub returns-clause-fails : goal.returns-clause-fails
+returns-clause-fails g c = refuses-of (g.N.Nor.state c.args.nor.now) (g.N.Nor.state c.program.new.self) c.program.result c.program.ensures.fails c.program.ensures.stands
 
 pub returns-clause-cut : goal.returns-clause-cut
 returns-clause-cut g c is = program-leaves (g.N.Nor.state c.args.nor.now) (g.N.Nor.state c.program.new.self) c.args.block c.args.at c.args.bytes.now c.requires.settled c.requires.data c.requires.number c.requires.range c.program.result
@@ -29,4 +37,4 @@ pub returns-clause-known : goal.returns-clause-known
 returns-clause-known g c known =
     let m = (g.N.Nor.state c.args.nor.now).memory in
     let at = 4096 * c.args.block + c.args.at in
-    on-ok c.program.result (λ e h. kept-known known m (g.N.Nor.state c.program.new.self).memory (data-keeps at (length c.args.bytes.now) m (g.N.Nor.state c.program.new.self).memory (omega arith) (rw e (and-spoiled m at c.args.bytes.now))) h) c.program.ensures.ok
+    on_ok_weaker c.program.result (λ e h. kept-known known m (g.N.Nor.state c.program.new.self).memory (data-keeps at (length c.args.bytes.now) m (g.N.Nor.state c.program.new.self).memory (omega arith) (rw e (and-spoiled m at c.args.bytes.now))) h) c.program.ensures.ok

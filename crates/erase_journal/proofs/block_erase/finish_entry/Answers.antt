@@ -1,5 +1,6 @@
 use Rattle.std.proofs.Common.{arith}
 use Rattle.std.proofs.lemmas.Result.{err_from_is_err_and}
+use Rattle.nor_driver.proofs.CallLaws.{kept-after}
 use Rattle.erase_journal.proofs.EntryCalls.{block-ok, block-cut, done-ok, done-cut}
 use Rattle.erase_journal.proofs.Renewal.{stands-on, same-blocks-on}
 use Rattle.erase_journal.proofs.Uses.{finishing-keeps}
@@ -16,10 +17,14 @@ returns-in_err-program-clause-cut g c is =
     let b = block-ok c.args.entry c.args.block (g.N.Nor.state c.args.nor.now).memory (g.N.Nor.state c.erase_small.new.self).memory c.requires.opened c.requires.data (omega arith) c.in_ok-erase_small.ensures.ok in
     stands-on (g.N.Nor.state c.args.nor.now).memory (g.N.Nor.state c.erase_small.new.self).memory (g.N.Nor.state c.program.new.self).memory b.blocks (done-cut c.args.entry c.args.block (g.N.Nor.state c.erase_small.new.self).memory (g.N.Nor.state c.program.new.self).memory (rw b.blocks.chip.same_length c.requires.size) b.still b.bytes (rw c.entry_place.ensures at (c.in_err-program.ensures.cut (cc (p.1, p.2)))))
 
-pub returns-clause-settled : goal.returns-clause-settled
-returns-clause-settled g c =
+pub returns-clause-done : goal.returns-clause-done
+returns-clause-done g c =
     let b = block-ok c.args.entry c.args.block (g.N.Nor.state c.args.nor.now).memory (g.N.Nor.state c.erase_small.new.self).memory c.requires.opened c.requires.data (omega arith) c.in_ok-erase_small.ensures.ok in
-    (done-ok c.args.entry c.args.block (g.N.Nor.state c.erase_small.new.self).memory (g.N.Nor.state c.program.new.self).memory (rw b.blocks.chip.same_length c.requires.size) b.still b.bytes (rw c.entry_place.ensures at c.in_ok-program.ensures.ok)).0
+    record {
+      ready = c.in_ok-erase_small.ensures.ready;
+      kept = kept-after (g.N.Nor.state c.args.nor.now) (g.N.Nor.state c.erase_small.new.self) (g.N.Nor.state c.program.new.self) c.in_ok-erase_small.ensures.kept c.in_ok-program.ensures.kept;
+      settled = (done-ok c.args.entry c.args.block (g.N.Nor.state c.erase_small.new.self).memory (g.N.Nor.state c.program.new.self).memory (rw b.blocks.chip.same_length c.requires.size) b.still b.bytes (rw c.entry_place.ensures at c.in_ok-program.ensures.ok)).0;
+    }
 
 pub returns-clause-blocks : goal.returns-clause-blocks
 returns-clause-blocks g c =

@@ -1,5 +1,5 @@
 use Rattle.std.proofs.Common.{◌≡◌, ◌≤◌, length}
-use Rattle.nor_driver.specs.State.{Kept}
+use Rattle.nor_driver.specs.State.{OnlyMemoryChanges}
 use Rattle.erase_journal.specs.Journals.{IsSettled, survey_of, unused, unused_of}
 use Rattle.erase_journal.specs.declared.unused.Unused.{Unused}
 use Rattle.erase_journal.specs.Spending.{Maintains}
@@ -13,7 +13,7 @@ invariant-loop-journal g l = record {
   settled : IsSettled (g.N.Nor.state l.nor).memory;
   blocks : SameBlocks (g.N.Nor.state l.fn.nor).memory (g.N.Nor.state l.nor).memory;
   maintains : (rest : Unused) → Maintains rest (unused (g.N.Nor.state l.nor).memory) → Maintains rest (unused (g.N.Nor.state l.fn.nor).memory);
-  since : Kept (g.N.Nor.state l.fn.nor) (g.N.Nor.state l.nor);
+  since : OnlyMemoryChanges (g.N.Nor.state l.fn.nor) (g.N.Nor.state l.nor);
   survey : l.survey ≡ survey_of (g.N.Nor.state l.nor).memory;
 }
 

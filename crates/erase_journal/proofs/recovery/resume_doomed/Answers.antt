@@ -1,7 +1,11 @@
 use Rattle.erase_journal.proofs.recovery.resume_doomed.Goals as goal
 
-pub returns-clause-settled : goal.returns-clause-settled
-returns-clause-settled g c = record { sound = c.in_ok-renew.ensures.ok.sound; none = c.in_ok-renew.ensures.none }
+pub returns-clause-done : goal.returns-clause-done
+returns-clause-done g c = record {
+  ready = c.in_ok-renew.ensures.done.ready;
+  kept = c.in_ok-renew.ensures.done.kept;
+  settled = record { sound = c.in_ok-renew.ensures.ok.sound; none = c.in_ok-renew.ensures.none };
+}
 
 pub returns-clause-numbers : goal.returns-clause-numbers
 returns-clause-numbers g c = c.in_ok-renew.ensures.ok.numbers

@@ -1,8 +1,9 @@
 use Rattle.std.proofs.Common.{arith}
 use Rattle.erase_journal.proofs.Scans.{unused-count}
-use Rattle.erase_journal.proofs.Effects.{fails-after, bit-open, on-ok, if-err}
+use Rattle.std.proofs.lemmas.Result.{on_ok_weaker}
+use Rattle.nor_driver.proofs.CallLaws.{succeeds-then, refuses-then}
+use Rattle.erase_journal.proofs.Effects.{bit-open}
 use Rattle.erase_journal.proofs.VoteCalls.{set-ok, set-cut}
-use Rattle.nor_driver.specs.State.{Fails}
 use Rattle.erase_journal.proofs.votes.open_vote.Goals as goal
 
 pub unreachable-requires : goal.unreachable-requires
@@ -14,7 +15,7 @@ pub returns-clause-ok : goal.returns-clause-ok
 returns-clause-ok g c =
     let state = g.N.Nor.state in
     let h = rw c.in-Some.is at c.in_ok-found.ensures.found in
-    on-ok c.program.result (set-ok (state c.args.nor.now).memory (state c.find_vote.new.nor).memory (state c.program.new.self).memory c.args.region c.in-Some.place 255 254
+    on_ok_weaker c.program.result (set-ok (state c.args.nor.now).memory (state c.find_vote.new.nor).memory (state c.program.new.self).memory c.args.region c.in-Some.place 255 254
     c.in_ok-found.ensures.same c.requires.range h.0 h.1 h.2) (rw c.vote_byte.ensures.exact at c.program.ensures.ok)
 
 pub returns-clause-cut : goal.returns-clause-cut
@@ -24,8 +25,12 @@ returns-clause-cut g c is_cut =
     set-cut (state c.args.nor.now).memory (state c.find_vote.new.nor).memory (state c.program.new.self).memory c.args.region c.in-Some.place 255 254
     c.in_ok-found.ensures.same c.requires.range h.0 h.1 h.2 0 bit-open (rw c.vote_byte.ensures.exact at (c.program.ensures.cut is_cut))
 
+pub returns-clause-done : goal.returns-clause-done
+returns-clause-done g c =
+    let state = g.N.Nor.state in
+    succeeds-then (state c.args.nor.now) (state c.find_vote.new.nor) (state c.program.new.self) c.program.result c.in_ok-found.ensures.done c.program.ensures.kept
+
 pub returns-clause-fails : goal.returns-clause-fails
 returns-clause-fails g c =
     let state = g.N.Nor.state in
-    if-err (λ e. Fails e (state c.find_vote.new.nor) (state c.program.new.self)) (λ e. Fails e (state c.args.nor.now) (state c.program.new.self)) c.program.result
-    (λ e f. fails-after e (state c.args.nor.now) (state c.find_vote.new.nor) (state c.program.new.self) c.in_ok-found.ensures.kept f) c.program.ensures.fails
+    refuses-then (state c.args.nor.now) (state c.find_vote.new.nor) (state c.program.new.self) c.program.result c.in_ok-found.ensures.done c.program.ensures.fails

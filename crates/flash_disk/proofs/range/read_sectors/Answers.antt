@@ -1,6 +1,6 @@
 use Rattle.std.proofs.Common.{◌≡◌, ◌∙◌, ◌+◌, ◌*◌, ◌/◌, ◌≤◌, ◌<◌, ◌-◌, refl, ap, arith, length}
 use Rattle.chip_model.specs.Geometry.{sector_count}
-use Rattle.sector_slots.proofs.StepLaws.{kept-after}
+use Rattle.nor_driver.proofs.CallLaws.{kept-after}
 use Rattle.sector_slots.proofs.SizeLaws.{length-sector}
 use Rattle.block_device.specs.Contents.{bytes_at}
 use Rattle.flash_disk.specs.Contents.{contents_of}

@@ -2,7 +2,7 @@ use Rattle.std.proofs.Common.{◌≡◌, ◌⊎◌, ◌∙◌, ◌+◌, ◌*◌,
 use Rattle.std.specs.Prelude.{slice_range}
 use Rattle.std.proofs.lemmas.Result.{err_from_is_err_and}
 use Rattle.chip_model.specs.Geometry.{sector_count}
-use Rattle.sector_slots.proofs.StepLaws.{kept-after}
+use Rattle.nor_driver.proofs.CallLaws.{kept-after}
 use Rattle.flash_disk.specs.Contents.{contents_of}
 use Rattle.block_device.specs.Contents.{replaced}
 use Rattle.flash_disk.proofs.Parts.{outcome-at, piece-written, long-slice}

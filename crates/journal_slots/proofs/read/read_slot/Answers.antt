@@ -1,6 +1,6 @@
 use Rattle.std.proofs.Common.{◌∙◌, ap, sym, refl, arith}
 use Rattle.nor_layout.specs.declared.header.Header.TheVariants as headers
-use Rattle.sector_slots.specs.Slots.{content_in, data_block}
+use Rattle.sector_slots.specs.Slots.{content_bytes, data_block}
 use Rattle.journal_slots.proofs.Reading.{known-live, known-not_live}
 use Rattle.journal_slots.proofs.read.read_slot.Goals as goal
 
@@ -8,7 +8,7 @@ pub returns-in_ok-read_content-in-Live-clause-ok : goal.returns-in_ok-read_conte
 returns-in_ok-read_content-in-Live-clause-ok g c =
     let m = c.args.journal.now.memory in
     known-live (data_block m c.args.block) c.read_content.new.into c.args.place c.in-Live.tag (sym c.in-Live.is ∙ c.in_ok-tag.ensures.ok)
-    (c.in_ok-read_content-in-Live.ensures.ok ∙ ap (λ a. content_in (data_block a c.args.block) c.args.place) c.in_ok-tag.ensures.same)
+    (c.in_ok-read_content-in-Live.ensures.ok ∙ ap (λ a. content_bytes (data_block a c.args.block) c.args.place) c.in_ok-tag.ensures.same)
 
 pub returns-in-Free-clause-ok : goal.returns-in-Free-clause-ok
 returns-in-Free-clause-ok g c =

@@ -1,4 +1,4 @@
-use Rattle.nbd_wire.specs.Cutting.{cut}
+use Rattle.nbd_wire.proofs.Cutting.{cut}
 use Rattle.nbd_wire.proofs.UnitLaws.{Splits_one, units_begin}
 use Rattle.nbd_wire.proofs.phase.one_cutting.Goals as goal
 

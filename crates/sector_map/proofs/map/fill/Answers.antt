@@ -2,9 +2,9 @@ use Rattle.std.proofs.Common.{◌∙◌, ap, sym, subst, length, None, Err}
 use Rattle.std.proofs.lemmas.List.{with_items_is}
 use Rattle.chip_model.specs.Geometry.{sector_count}
 use Rattle.erase_journal.specs.Journals.{IsHealthy}
-use Rattle.nor_driver.specs.State.{IsReady}
-use Rattle.sector_slots.specs.Steps.{Refuses}
-use Rattle.sector_map.specs.Maps.{Served, Filled, FillCut, shown_with}
+use Rattle.nor_driver.specs.State.{IsNorReady, Refuses}
+use Rattle.sector_map.specs.Maps.{IsServing, shown_with}
+use Rattle.sector_map.specs.Filling.{Filled, FillCut}
 use Rattle.sector_map.proofs.Restoring.{served-after}
 use Rattle.sector_map.proofs.Opening.{filled, fill-cut}
 use Rattle.sector_map.proofs.map.fill.Goals as goal
@@ -15,9 +15,9 @@ invariant_of-result g c =
     let now = c.mount_in.new.stock in
     record {
       counted = c.requires.table ∙ ap (λ n. sector_count n) (sym (c.mount_in.ensures.same_size ∙ ap (λ s. length s.memory) c.new-stock.ensures.same));
-      standing = subst (λ z. Served z now.slots now.indexed) (sym items)
+      standing = subst (λ z. IsServing z now.slots now.indexed) (sym items)
           (served-after c.mount_in.new.table c.new-stock.result.slots now.slots now.indexed (c.in-Ok-true.ensures.sound (cc c.in-Ok-true.is)) c.in-Ok-true.ensures.done
-          (subst (λ s. IsReady s) (sym c.new-stock.ensures.same) c.requires.ready) (c.in-Ok-true.ensures.indexed (cc c.in-Ok-true.is)));
+          (subst (λ s. IsNorReady s) (sym c.new-stock.ensures.same) c.requires.ready) (c.in-Ok-true.ensures.indexed (cc c.in-Ok-true.is)));
     }
 
 pub returns-in-Ok-true-clause-ok : goal.returns-in-Ok-true-clause-ok
@@ -31,4 +31,4 @@ returns-in-Err-Cut-clause-fails g c =
     let is = c.in-Err-Cut.is ∙ ap Err c.in-Err-Cut.field-0-is in
     subst (λ z. FillCut z (g.N.Nor.state c.uncover-in-Err-Cut.result)) c.new-stock.ensures.same
     (fill-cut c.new-stock.result.slots c.mount_in.new.stock.slots (g.N.Nor.state c.uncover-in-Err-Cut.result) (c.mount_in.ensures.cut is healthy) (c.mount_in.ensures.healthy is healthy)
-    (subst (λ e. Refuses e c.new-stock.result.slots c.mount_in.new.stock.slots) c.in-Err-Cut.field-0-is c.in-Err-Cut.ensures.fails) (subst (λ s. IsReady s) (sym c.new-stock.ensures.same) c.requires.ready) c.uncover-in-Err-Cut.ensures)
+    (subst (λ e. Refuses e c.new-stock.result.slots c.mount_in.new.stock.slots) c.in-Err-Cut.field-0-is c.in-Err-Cut.ensures.fails) (subst (λ s. IsNorReady s) (sym c.new-stock.ensures.same) c.requires.ready) c.uncover-in-Err-Cut.ensures)

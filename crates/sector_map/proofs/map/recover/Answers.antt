@@ -1,7 +1,7 @@
 use Rattle.std.proofs.Common.{subst}
 use Rattle.std.specs.Prelude.{IfOk, IfErr}
 use Rattle.erase_journal.specs.Recovery.{RecoverFails}
-use Rattle.sector_map.specs.Maps.{Filled, FillFails}
+use Rattle.sector_map.specs.Filling.{Filled, FillFails}
 use Rattle.sector_map.proofs.Opening.{filled-mounted, filled-fails, recovery-cut}
 use Rattle.sector_map.proofs.map.recover.Goals as goal
 

@@ -2,7 +2,7 @@ use Rattle.std.proofs.Common.{subst}
 use Rattle.std.proofs.lemmas.Result.{err_from_is_err_and}
 use Rattle.erase_journal.specs.Journals.{IsHealthy}
 use Rattle.sector_slots.specs.Slots.{IsSpareIn}
-use Rattle.sector_stock.specs.Copy.{KeepsSectors, Ends, IsCommittedIn}
+use Rattle.sector_stock.specs.Copy.{KeepsSectors, EndsCopy, IsCommittedIn}
 use Rattle.sector_map.proofs.Mounting.{found-committed}
 use Rattle.sector_map.proofs.mount.end_copy.Goals as goal
 
@@ -20,10 +20,10 @@ returns-in_err-end_committed-clause-cut g c is healthy =
 
 pub returns-in_ok-end_erased-clause-ok : goal.returns-in_ok-end_erased-clause-ok
 returns-in_ok-end_erased-clause-ok g c =
-    subst (λ z. IsCommittedIn c.args.source c.args.target z → IsSpareIn z c.args.source → Ends z (g.S.SlotCalls.state c.end_erased.new.slots).memory) c.is_spare.ensures.same c.in_ok-end_erased.ensures.ok
+    subst (λ z. IsCommittedIn c.args.source c.args.target z → IsSpareIn z c.args.source → EndsCopy z (g.S.SlotCalls.state c.end_erased.new.slots).memory) c.is_spare.ensures.same c.in_ok-end_erased.ensures.ok
     (found-committed c.args.source c.args.target (g.S.SlotCalls.state c.args.slots.now).memory c.requires.found c.requires.sound) (c.in_ok-is_spare.ensures.spare (cc c.if-branch.true))
 
 pub returns-in_ok-end_committed-clause-ok : goal.returns-in_ok-end_committed-clause-ok
 returns-in_ok-end_committed-clause-ok g c =
-    subst (λ z. IsCommittedIn c.args.source c.args.target z → Ends z (g.S.SlotCalls.state c.end_committed.new.slots).memory) c.is_spare.ensures.same c.in_ok-end_committed.ensures.ok
+    subst (λ z. IsCommittedIn c.args.source c.args.target z → EndsCopy z (g.S.SlotCalls.state c.end_committed.new.slots).memory) c.is_spare.ensures.same c.in_ok-end_committed.ensures.ok
     (found-committed c.args.source c.args.target (g.S.SlotCalls.state c.args.slots.now).memory c.requires.found c.requires.sound)

@@ -1,6 +1,6 @@
 use Rattle.std.proofs.Common.{◌≡◌, ◌+◌, suc, ap, sym, subst, arith}
 use Rattle.std.specs.Prelude.{IfErr}
-use Rattle.sector_slots.specs.Steps.{Refuses}
+use Rattle.nor_driver.specs.State.{Refuses}
 use Rattle.std.proofs.lemmas.Result.{err_from_is_err_and}
 use Rattle.sector_map.proofs.Retiring.{Retired, retired-quiet, one-absent, one-held, retired-more, retired-cut, retired-healthy, older-live, refuses-perhaps}
 use Rattle.sector_map.proofs.mount.retire_older.Goals as goal
@@ -26,9 +26,9 @@ loop-sector-preserved g c =
             w.table-is (ap (λ z. g.S.SlotCalls.state z) w.slots-is) (one-absent _ w.in-Absent.is) c.loop-sector.invariant.retired
         | in-One w ↦ retired-quiet c.args.table.now c.loop-sector.table c.match-table-sector.table c.loop-sector.sector (c.loop-sector.sector + 1) (g.S.SlotCalls.state c.args.slots.now) (g.S.SlotCalls.state c.loop-sector.slots) (g.S.SlotCalls.state c.match-table-sector.slots) next
             w.table-is (ap (λ z. g.S.SlotCalls.state z) w.slots-is) (one-held _ _ w.in-One.is) c.loop-sector.invariant.retired
-        | in-Two+in_ok-retire-in-Two w ↦ retired-more c.args.table.now c.loop-sector.table w.settle.new.table c.match-table-sector.table c.loop-sector.sector (c.loop-sector.sector + 1) (g.S.SlotCalls.state c.args.slots.now) (g.S.SlotCalls.state c.loop-sector.slots)
+        | in-Two+in_ok-retire-in-Two w ↦ retired-more c.args.table.now c.loop-sector.table w.keep_one.new.table c.match-table-sector.table c.loop-sector.sector (c.loop-sector.sector + 1) (g.S.SlotCalls.state c.args.slots.now) (g.S.SlotCalls.state c.loop-sector.slots)
             (g.S.SlotCalls.state w.retire.new.self) (g.S.SlotCalls.state c.match-table-sector.slots) w.in-Two.newer w.in-Two.older next w.table-is (ap (λ z. g.S.SlotCalls.state z) w.slots-is) (omega (arith, c.loop-sector-test.true, c.loop-sector.invariant.retired.size)) w.in-Two.is w.in_ok-retire-in-Two.ensures.only
-            w.in_ok-retire-in-Two.ensures.ok w.in_ok-retire-in-Two.ensures.clean w.in_ok-retire-in-Two.ensures.done w.settle.ensures c.loop-sector.invariant.retired
+            w.in_ok-retire-in-Two.ensures.ok w.in_ok-retire-in-Two.ensures.clean w.in_ok-retire-in-Two.ensures.done w.keep_one.ensures c.loop-sector.invariant.retired
       ];
     }
 

@@ -1,7 +1,7 @@
 use Rattle.std.proofs.Common.{sym, subst}
 use Rattle.std.specs.Prelude.{Some, IfErr}
-use Rattle.sector_slots.specs.Steps.{Refuses}
-use Rattle.sector_slots.proofs.StepLaws.{settled-healthy, succeeds-after, refuses-after}
+use Rattle.nor_driver.specs.State.{Refuses}
+use Rattle.erase_journal.proofs.SettledLaws.{settled-healthy, settled-after, refuses-settled}
 use Rattle.std.proofs.lemmas.Result.{err_from_is_err_and}
 use Rattle.sector_map.proofs.Replacing.{put-was-cut, replace-done, retire-was-cut, old-live}
 use Rattle.sector_map.proofs.replace.replace_held.Goals as goal
@@ -33,10 +33,10 @@ pub returns-in_err-release-clause-fails : goal.returns-in_err-release-clause-fai
 returns-in_err-release-clause-fails g c =
     let p = err_from_is_err_and c.from_residual-in_err-release.result c.from_residual-in_err-release.ensures.1 in
     subst (λ z. IfErr z (λ e. Refuses e (g.S.SlotCalls.state c.args.stock.now) (g.S.SlotCalls.state c.release.new.self))) (sym p.1)
-    (refuses-after p.0 (g.S.SlotCalls.state c.args.stock.now) (g.S.SlotCalls.state c.write.new.self) (g.S.SlotCalls.state c.release.new.self) c.in_ok-write.ensures.done (subst (λ e. Refuses e (g.S.SlotCalls.state c.write.new.self) (g.S.SlotCalls.state c.release.new.self)) (sym p.2) c.in_err-release.ensures.fails))
+    (refuses-settled p.0 (g.S.SlotCalls.state c.args.stock.now) (g.S.SlotCalls.state c.write.new.self) (g.S.SlotCalls.state c.release.new.self) c.in_ok-write.ensures.done (subst (λ e. Refuses e (g.S.SlotCalls.state c.write.new.self) (g.S.SlotCalls.state c.release.new.self)) (sym p.2) c.in_err-release.ensures.fails))
 
 pub returns-clause-done : goal.returns-clause-done
-returns-clause-done g c = succeeds-after (g.S.SlotCalls.state c.args.stock.now) (g.S.SlotCalls.state c.write.new.self) (g.S.SlotCalls.state c.release.new.self) c.in_ok-write.ensures.done c.in_ok-release.ensures.done
+returns-clause-done g c = settled-after (g.S.SlotCalls.state c.args.stock.now) (g.S.SlotCalls.state c.write.new.self) (g.S.SlotCalls.state c.release.new.self) c.in_ok-write.ensures.done c.in_ok-release.ensures.done
 
 pub write-requires-clause-free : goal.write-requires-clause-free
 write-requires-clause-free g c ready = (c.requires.replaceable ready).free

@@ -2,7 +2,7 @@ use Rattle.std.proofs.Common.{◌+◌, ◌*◌, sym, subst, arith, inl, inr}
 use Rattle.std.specs.Prelude.{true, false}
 use Rattle.sector_slots.specs.Slots.{slot_at, slot_count}
 use Rattle.sector_map.specs.Table.{IsTabled}
-use Rattle.sector_map.specs.Found.{counts}
+use Rattle.sector_map.specs.Found.{block_counts}
 use Rattle.sector_map.proofs.Tables.{tabled-skipped}
 use Rattle.sector_map.proofs.Founds.{spare-heads, block-spare, heads-of, skips-of, bool-cases, some-bool}
 use Rattle.sector_map.proofs.scan.read_block.Goals as goal
@@ -17,7 +17,7 @@ returns-then-not-enter_counted-clause-corrupt g c is count size tabled sound =
 pub returns-clause-entered : goal.returns-clause-entered
 returns-clause-entered g c spare is tabled =
     let m = (g.S.SlotCalls.state c.args.slots.now).memory in
-    elim (bool-cases (counts c.args.found c.args.block)) as (λ _. IsTabled c.enter_counted.new.table (slot_at m) (7 * c.args.block + 7)) [
+    elim (bool-cases (block_counts c.args.found c.args.block)) as (λ _. IsTabled c.enter_counted.new.table (slot_at m) (7 * c.args.block + 7)) [
       | inl here ↦ c.enter_counted.ensures.sound (cc c.if-not-enter_counted.false) here (slot_at m) (heads-of c.args.found m c.args.block c.head.new.into c.requires.found c.requires.number here c.in_ok-kind.ensures.slots) tabled
       | inr none ↦ subst (λ z. IsTabled z (slot_at m) (7 * c.args.block + 7)) (sym (c.enter_counted.ensures.skips (cc c.if-not-enter_counted.false) none))
           (tabled-skipped c.args.table.now (slot_at m) (7 * c.args.block) 7 (skips-of c.args.found m c.args.block c.requires.found none) tabled)

@@ -1,8 +1,8 @@
 use Rattle.std.proofs.Common.{sym, subst, inl, arith}
 use Rattle.std.specs.Prelude.{IfErr}
 use Rattle.std.proofs.lemmas.Result.{err_from_is_err_and}
-use Rattle.sector_slots.specs.Steps.{Refuses}
-use Rattle.sector_slots.proofs.StepLaws.{settled-healthy, succeeds-after, refuses-after}
+use Rattle.nor_driver.specs.State.{Refuses}
+use Rattle.erase_journal.proofs.SettledLaws.{settled-healthy, settled-after, refuses-settled}
 use Rattle.sector_map.proofs.Retiring.{succeeds-perhaps, refuses-perhaps}
 use Rattle.sector_map.proofs.Mounting.{perhaps-healthy}
 use Rattle.sector_map.proofs.MapCalls.{served-room, stays-keeps, served-moved, same-moved-keeps, at-slot, slot-held, slot-replaceable, held-number, write-cut, wrote}
@@ -53,22 +53,22 @@ pub returns-in_err-held-clause-fails : goal.returns-in_err-held-clause-fails
 returns-in_err-held-clause-fails g c =
     let p = err_from_is_err_and c.from_residual-in_err-held.result c.from_residual-in_err-held.ensures.1 in
     subst (λ z. IfErr z (λ e. Refuses e (g.S.SlotCalls.state c.args.stock.now) (g.S.SlotCalls.state c.replace_in.new.stock))) (sym p.1)
-    (refuses-after p.0 (g.S.SlotCalls.state c.args.stock.now) (g.S.SlotCalls.state c.take_free.new.self) (g.S.SlotCalls.state c.replace_in.new.stock) c.in_ok-given.ensures.done (refuses-perhaps p.0 (g.S.SlotCalls.state c.take_free.new.self) (g.S.SlotCalls.state c.follow_copied.new.slots) (g.S.SlotCalls.state c.replace_in.new.stock) c.in_ok-follow_copied.ensures.done (subst (λ e. Refuses e (g.S.SlotCalls.state c.follow_copied.new.slots) (g.S.SlotCalls.state c.replace_in.new.stock)) (sym p.2) c.in_err-held.ensures.fails)))
+    (refuses-settled p.0 (g.S.SlotCalls.state c.args.stock.now) (g.S.SlotCalls.state c.take_free.new.self) (g.S.SlotCalls.state c.replace_in.new.stock) c.in_ok-given.ensures.done (refuses-perhaps p.0 (g.S.SlotCalls.state c.take_free.new.self) (g.S.SlotCalls.state c.follow_copied.new.slots) (g.S.SlotCalls.state c.replace_in.new.stock) c.in_ok-follow_copied.ensures.done (subst (λ e. Refuses e (g.S.SlotCalls.state c.follow_copied.new.slots) (g.S.SlotCalls.state c.replace_in.new.stock)) (sym p.2) c.in_err-held.ensures.fails)))
 
 pub returns-clause-done : goal.returns-clause-done
-returns-clause-done g c = succeeds-after (g.S.SlotCalls.state c.args.stock.now) (g.S.SlotCalls.state c.take_free.new.self) (g.S.SlotCalls.state c.replace_in.new.stock) c.in_ok-given.ensures.done (succeeds-perhaps (g.S.SlotCalls.state c.take_free.new.self) (g.S.SlotCalls.state c.follow_copied.new.slots) (g.S.SlotCalls.state c.replace_in.new.stock) c.in_ok-follow_copied.ensures.done c.in_ok-held.ensures.done)
+returns-clause-done g c = settled-after (g.S.SlotCalls.state c.args.stock.now) (g.S.SlotCalls.state c.take_free.new.self) (g.S.SlotCalls.state c.replace_in.new.stock) c.in_ok-given.ensures.done (succeeds-perhaps (g.S.SlotCalls.state c.take_free.new.self) (g.S.SlotCalls.state c.follow_copied.new.slots) (g.S.SlotCalls.state c.replace_in.new.stock) c.in_ok-follow_copied.ensures.done c.in_ok-held.ensures.done)
 
 pub returns-clause-ok : goal.returns-clause-ok
 returns-clause-ok g c =
     let at = at-slot c.in_ok-given.given.slot c.in_ok-given.given.copied (g.S.SlotCalls.state c.args.stock.now) (g.S.SlotCalls.indexed c.args.stock.now) (g.S.SlotCalls.state c.take_free.new.self).memory (g.S.SlotCalls.state c.follow_copied.new.slots).memory c.args.table.now c.follow_copied.new.table c.requires.served c.in_ok-given.ensures.ok c.follow_copied.ensures.same c.in_ok-follow_copied.ensures.ok in
     let replaceable = slot-replaceable c.in_ok-given.given.slot c.args.sector c.follow_copied.new.table (g.S.SlotCalls.state c.args.stock.now).memory (g.S.SlotCalls.state c.follow_copied.new.slots).memory c.holder-holder.result at (omega (arith, c.requires.number, c.follow_copied.ensures.size)) c.holder-holder.ensures in
-    let done = succeeds-after (g.S.SlotCalls.state c.args.stock.now) (g.S.SlotCalls.state c.take_free.new.self) (g.S.SlotCalls.state c.replace_in.new.stock) c.in_ok-given.ensures.done (succeeds-perhaps (g.S.SlotCalls.state c.take_free.new.self) (g.S.SlotCalls.state c.follow_copied.new.slots) (g.S.SlotCalls.state c.replace_in.new.stock) c.in_ok-follow_copied.ensures.done c.in_ok-held.ensures.done) in
-    wrote c.args.sector c.args.content.now c.in_ok-held.held (g.S.SlotCalls.state c.args.stock.now) (g.S.SlotCalls.state c.follow_copied.new.slots) (g.S.SlotCalls.state c.replace_in.new.stock) c.follow_copied.new.table c.settle.new.table (g.S.SlotCalls.indexed c.replace_in.new.stock) at.moved (c.in_ok-held.ensures.ok replaceable) done c.requires.served.store.slots
-    (omega (arith, c.requires.number, c.requires.served.tabled.size)) at.tabled c.settle.ensures c.requires.served.ready c.in_ok-held.ensures.indexed
+    let done = settled-after (g.S.SlotCalls.state c.args.stock.now) (g.S.SlotCalls.state c.take_free.new.self) (g.S.SlotCalls.state c.replace_in.new.stock) c.in_ok-given.ensures.done (succeeds-perhaps (g.S.SlotCalls.state c.take_free.new.self) (g.S.SlotCalls.state c.follow_copied.new.slots) (g.S.SlotCalls.state c.replace_in.new.stock) c.in_ok-follow_copied.ensures.done c.in_ok-held.ensures.done) in
+    wrote c.args.sector c.args.content.now c.in_ok-held.held (g.S.SlotCalls.state c.args.stock.now) (g.S.SlotCalls.state c.follow_copied.new.slots) (g.S.SlotCalls.state c.replace_in.new.stock) c.follow_copied.new.table c.keep_one.new.table (g.S.SlotCalls.indexed c.replace_in.new.stock) at.moved (c.in_ok-held.ensures.ok replaceable) done c.requires.served.store.slots
+    (omega (arith, c.requires.number, c.requires.served.tabled.size)) at.tabled c.keep_one.ensures c.requires.served.ready c.in_ok-held.ensures.indexed
 
 pub returns-in_err-follow_copied-clause-fails : goal.returns-in_err-follow_copied-clause-fails
 returns-in_err-follow_copied-clause-fails g c =
     let p = err_from_is_err_and c.from_residual-in_err-follow_copied.result c.from_residual-in_err-follow_copied.ensures.1 in
     subst (λ z. IfErr z (λ e. Refuses e (g.S.SlotCalls.state c.args.stock.now) (g.S.SlotCalls.state c.follow_copied.new.slots))) (sym p.1)
-    (refuses-after p.0 (g.S.SlotCalls.state c.args.stock.now) (g.S.SlotCalls.state c.take_free.new.self) (g.S.SlotCalls.state c.follow_copied.new.slots) c.in_ok-given.ensures.done
+    (refuses-settled p.0 (g.S.SlotCalls.state c.args.stock.now) (g.S.SlotCalls.state c.take_free.new.self) (g.S.SlotCalls.state c.follow_copied.new.slots) c.in_ok-given.ensures.done
     (subst (λ e. Refuses e (g.S.SlotCalls.state c.take_free.new.self) (g.S.SlotCalls.state c.follow_copied.new.slots)) (sym p.2) c.in_err-follow_copied.ensures.fails))

@@ -1,7 +1,7 @@
 use Rattle.std.proofs.lemmas.Result.{err_from_is_err_and}
 use Rattle.std.proofs.Common.{◌∙◌, ◌≡◌, subst, arith}
-use Rattle.sector_slots.proofs.StepLaws.{succeeds-after}
-use Rattle.sector_stock.specs.Copy.{Progress}
+use Rattle.erase_journal.proofs.SettledLaws.{settled-after}
+use Rattle.sector_stock.specs.CopySteps.{CopyProgress}
 use Rattle.sector_stock.proofs.Copying.{begin-cut, begin-progress, copy-cut, copy-progress}
 use Rattle.sector_stock.proofs.copy.copy_all.Goals as goal
 
@@ -32,10 +32,10 @@ loop-place-preserved g c = record {
       (c.in_ok-copy.ensures.ok c.args.source p.copied.number p.copied.begun (p.copied.free c.loop-place.place c.loop-place-test.true (omega arith)))
       (λ i. c.in_ok-copy.ensures.fresh i);
   size = c.in_ok-copy.ensures.only.only.chip.same_length ∙ c.loop-place.invariant.size;
-  since = succeeds-after (g.S.SlotCalls.state c.args.slots.now) (g.S.SlotCalls.state c.loop-place.slots) (g.S.SlotCalls.state c.copy.new.self) c.loop-place.invariant.since c.in_ok-copy.ensures.done;
+  since = settled-after (g.S.SlotCalls.state c.args.slots.now) (g.S.SlotCalls.state c.loop-place.slots) (g.S.SlotCalls.state c.copy.new.self) c.loop-place.invariant.since c.in_ok-copy.ensures.done;
 }
 
 pub returns-clause-ok : goal.returns-clause-ok
 returns-clause-ok g c h =
     let seven : c.loop-place.place ≡ 7 = omega (arith, c.loop-place-test.false, c.loop-place.auto.place-end) in
-    subst (λ j. Progress j c.args.source c.args.target (g.S.SlotCalls.state c.args.slots.now).memory (g.S.SlotCalls.state c.loop-place.slots).memory) seven (c.loop-place.invariant.progress h)
+    subst (λ j. CopyProgress j c.args.source c.args.target (g.S.SlotCalls.state c.args.slots.now).memory (g.S.SlotCalls.state c.loop-place.slots).memory) seven (c.loop-place.invariant.progress h)

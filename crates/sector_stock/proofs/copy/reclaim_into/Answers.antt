@@ -1,5 +1,5 @@
 use Rattle.std.proofs.lemmas.Result.{err_from_is_err_and}
-use Rattle.sector_slots.proofs.StepLaws.{settled-healthy}
+use Rattle.erase_journal.proofs.SettledLaws.{settled-healthy}
 use Rattle.sector_stock.proofs.Copying.{reclaim-done, reclaim-cut}
 use Rattle.sector_stock.proofs.copy.reclaim_into.Goals as goal
 

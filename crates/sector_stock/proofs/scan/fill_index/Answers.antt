@@ -1,7 +1,7 @@
 use Rattle.std.proofs.Common.{◌∙◌, ap, sym, subst, arith}
 use Rattle.sector_stock.specs.Index.{IsIndexOf}
 use Rattle.sector_slots.specs.Slots.{data_blocks, descriptor_in, data_block, kind_at}
-use Rattle.sector_slots.proofs.StepLaws.{succeeds-after}
+use Rattle.erase_journal.proofs.SettledLaws.{settled-after}
 use Rattle.sector_stock.proofs.Filling.{noted-next, listed-noted, numbers-listed, spare-listed, index-filled}
 use Rattle.sector_stock.proofs.scan.fill_index.Goals as goal
 
@@ -13,7 +13,7 @@ loop-block-preserved g c =
     let below = c.loop-block-test.true in
     record {
       same = c.in_ok-kind-2.ensures.same ∙ same;
-      since = succeeds-after (g.S.SlotCalls.state c.args.slots.now) (g.S.SlotCalls.state c.loop-block.slots) (g.S.SlotCalls.state c.head.new.self) c.loop-block.invariant.since c.in_ok-kind-2.ensures.done;
+      since = settled-after (g.S.SlotCalls.state c.args.slots.now) (g.S.SlotCalls.state c.loop-block.slots) (g.S.SlotCalls.state c.head.new.self) c.loop-block.invariant.since c.in_ok-kind-2.ensures.done;
       states_size = c.note_block.ensures.states.size ∙ c.loop-block.invariant.states_size;
       blocks_size = c.note_block.ensures.block_size ∙ c.loop-block.invariant.blocks_size;
       noted = noted-next c.loop-block.block (data_blocks m) c.in_ok-kind-2.kind c.head.new.into c.loop-block.states c.note_block.new.states c.loop-block.blocks c.note_block.new.blocks m (omega (arith, below, count))

@@ -2,7 +2,8 @@ use Rattle.std.proofs.Common.{◌≡◌, ◌+◌, ◌-◌, ℕ, List, Option, le
 use Rattle.nbd_wire.specs.declared.command.Command.{Command}
 use Rattle.nbd_wire.specs.declared.command.CommandKind.{CommandKind}
 use Rattle.nbd_wire.specs.declared.command.CommandKind.TheVariants.{Read}
-use Rattle.session.specs.Lent.{IsFilled, lent_len, lent_len_of}
+use Rattle.nbd_wire.specs.Lent.{lent_len_of}
+use Rattle.session.specs.Lent.{IsFilled, lent_now}
 use Rattle.session.proofs.tests.answer_read.Goals as goal
 
 filled_read : (c : Command) (contents room : List ℕ) → c.kind ≡ Read → room ≡ take c.length (drop c.offset contents) → IsFilled c contents room
@@ -14,7 +15,7 @@ returns c =
     let bytes = c.copy_from_slice.new.self in
     let running = c.requires.running in
     let given = c.buffer_laws.ensures.running c.args.session.now.sectors command c.args.session.now bytes running in
-    let len : length c.buffer-buffer.result.now ≡ command.length = c.buffer-buffer.ensures.len ∙ ap (λ (o : Option Command). lent_len o) running.running ∙ ap (λ (k : CommandKind). lent_len_of k command) c.requires.kind in
+    let len : length c.buffer-buffer.result.now ≡ command.length = c.buffer-buffer.ensures.len ∙ ap (λ (o : Option Command). lent_now o) running.running ∙ ap (λ (k : CommandKind). lent_len_of k command) c.requires.kind in
     let same : length bytes ≡ length c.buffer-buffer.result.now = c.copy_from_slice.ensures.len in
     let room = given.room (same ∙ ap (λ (l : List ℕ). length l) c.buffer-buffer.ensures.value) in
     let size : command.offset + length c.buffer-buffer.result.now - command.offset ≡ command.length = omega (arith, len) in

@@ -1,7 +1,7 @@
 use Rattle.std.proofs.Common.{◌≡◌, ◌<◌, ◌≤◌, ◌++◌, ℕ, List, [], length, length-append, take, refl, ap, subst, ◌∙◌, arith, Some, None}
 use Rattle.std.proofs.lemmas.List.{with_items_is}
 use Rattle.std.proofs.KnownBytes.{Consumes-nil, Consumes-trans}
-use Rattle.share.specs.Connection.{PieceBy}
+use Rattle.share.specs.Turning.{PieceBy}
 use Rattle.share.specs.Places.{setting, stand, through}
 use Rattle.share.proofs.Connections.{connection-end, connection-input, connection-long, connection-nothing, connection-piece, connection-unopened, underway-read, underway-start}
 use Rattle.share.proofs.connection.attend.Goals as goal
@@ -11,7 +11,7 @@ returns-in_default-clause-says g c start begins =
     let step = through g.T.Door.executes g.T.Door.keeps in
     let st = setting start g.L.OneServer.sectors in
     let first = stand c.args.door.now c.args.pass.now c.args.gate.now (g.K.Sink.written c.args.writer.now) (g.K.Sink.faults c.args.writer.now) in
-    connection-nothing step g.G.Gate.passes st first (g.S.Source.remaining c.args.reader.now) (g.S.Source.faults c.args.reader.now) (c.parts_laws.ensures start g.L.OneServer.sectors) (g.met.G.Gate.none c.args.gate.now)
+    connection-nothing step g.G.Gate.passes st first (g.S.Source.remaining c.args.reader.now) (g.S.Source.faults c.args.reader.now) (g.met.G.Gate.none c.args.gate.now)
 
 pub returns-in-Err-clause-says : goal.returns-in-Err-clause-says
 returns-in-Err-clause-says g c start begins =
@@ -20,7 +20,7 @@ returns-in-Err-clause-says g c start begins =
     let first = stand c.args.door.now c.args.pass.now c.args.gate.now (g.K.Sink.written c.args.writer.now) (g.K.Sink.faults c.args.writer.now) in
     let b = stand c.args.door.now c.args.pass.now c.args.gate.now (g.K.Sink.written c.send.new.out) (g.K.Sink.faults c.send.new.out) in
     let f = c.in-Err.ensures in
-    connection-unopened step g.G.Gate.passes st first b (g.S.Source.remaining c.args.reader.now) (g.S.Source.faults c.args.reader.now) c.reply.result.now f.0.0 f.0.1 (c.parts_laws.ensures start g.L.OneServer.sectors) (g.met.G.Gate.none c.args.gate.now)
+    connection-unopened step g.G.Gate.passes st first b (g.S.Source.remaining c.args.reader.now) (g.S.Source.faults c.args.reader.now) c.reply.result.now f.0.0 f.0.1 (g.met.G.Gate.none c.args.gate.now)
     refl (c.reply.ensures.value ∙ begins.reply) f.0.2 f.0.3 f.0.4 f.1
 
 pub loop-piece-init : goal.loop-piece-init
@@ -35,7 +35,7 @@ loop-piece-init g c = record {
       let st = setting start g.L.OneServer.sectors in
       let first = stand c.args.door.now c.args.pass.now c.args.gate.now (g.K.Sink.written c.args.writer.now) (g.K.Sink.faults c.args.writer.now) in
       let b = stand c.args.door.now c.args.pass.now c.args.gate.now (g.K.Sink.written c.send.new.out) (g.K.Sink.faults c.send.new.out) in
-      let w = underway-start step g.G.Gate.passes st first b c.reply.result.now c.args.session (c.parts_laws.ensures start g.L.OneServer.sectors) begins (g.met.G.Gate.none c.args.gate.now)
+      let w = underway-start step g.G.Gate.passes st first b c.reply.result.now c.args.session begins (g.met.G.Gate.none c.args.gate.now)
       refl (c.reply.ensures.value ∙ begins.reply) c.in_default-send.ensures.0 c.in_default-send.ensures.1 in
       ([], omega arith, Consumes-nil (g.S.Source.remaining c.args.reader.now), w.0, w.1);
 }

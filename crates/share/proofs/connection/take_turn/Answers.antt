@@ -1,7 +1,7 @@
 use Rattle.std.proofs.Common.{◌++◌, ◌∷◌, [], take, refl}
-use Rattle.session.specs.Line.{reply_of, room_of}
-use Rattle.session.specs.Parts.{Told, Asked, Last}
-use Rattle.share.specs.Lent.{payload_in}
+use Rattle.session.specs.Sessions.{reply_of, room_of}
+use Rattle.session.specs.Parts.{Told, ForDisk, Last}
+use Rattle.nbd_wire.specs.Lent.{payload_in}
 use Rattle.share.specs.Places.{stand, through}
 use Rattle.share.proofs.Turns.{last-closes, last-fails, passes-none, says-close, says-reply, says-run, told-answered, told-fails, turned-command}
 use Rattle.share.proofs.connection.take_turn.Goals as goal
@@ -46,7 +46,7 @@ returns-in-Run-clause-turned g c start text h =
     let w = c.run_command-turn.new in
     let a = stand c.args.door.now c.args.pass.now c.args.gate.now (g.K.Sink.written c.args.writer.now) (g.K.Sink.faults c.args.writer.now) in
     let b = stand w.door w.pass w.gate (g.K.Sink.written w.writer) (g.K.Sink.faults w.writer) in (
-      Asked command payload ∷ [],
+      ForDisk command payload ∷ [],
       says-run start c.args.session.now.sectors g.L.OneServer.sectors text new c.take-taken.result.next command line w.session c.requires.sectors c.in-Run.is says (e.stands start new),
       e.gate,
       turned-command (through g.T.Door.executes g.T.Door.keeps) a b command payload c.run_command-turn.result e.turned,

@@ -1,4 +1,4 @@
-use Rattle.share.proofs.Ranges.{not_disconnect, not_unknown}
+use Rattle.nbd_wire.proofs.CommandLaws.{not_disconnect, not_unknown}
 use Rattle.share.proofs.shared.run.Goals as goal
 
 pub unreachable-requires : goal.unreachable-requires

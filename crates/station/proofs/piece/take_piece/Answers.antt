@@ -1,6 +1,5 @@
 use Rattle.std.proofs.Common.{refl, ◌∙◌}
 use Rattle.std.proofs.lemmas.List.{take_rest}
-use Rattle.nbd_wire.specs.declared.phase.Phase.TheVariants.{AwaitingFlags}
 use Rattle.station.proofs.Turns.{on_err}
 use Rattle.station.proofs.Pieces.{start, underway_answered, underway_waits, piece_closes, piece_loses, piece_halts, turned_at, quiet_first, quiet_then, goes_twice, goes_still}
 use Rattle.station.proofs.Telling.{slow_still, slow_twice, grows_still, grows_twice}
@@ -49,7 +48,7 @@ returns-in-Closes-clause-says g c = λ quiet.
     let e = c.in_ok-used.ensures in
     let u = i.4 (quiet_first _ _ _ quiet i.2 e.goes) in
     let t = turned_at _ _ _ _ _ _ c.in-Closes.is (e.says (quiet_then _ _ _ quiet i.2 e.goes i.1 u.cut u.slow)) in
-    piece_closes _ _ _ _ _ _ c.in_ok-used.used i.0 u (c.parts_laws.ensures AwaitingFlags c.args.session.now.sectors) t
+    piece_closes _ _ _ _ _ _ c.in_ok-used.used i.0 u t
 
 pub returns-in-Loses-clause-says : goal.returns-in-Loses-clause-says
 returns-in-Loses-clause-says g c = λ quiet.
@@ -57,7 +56,7 @@ returns-in-Loses-clause-says g c = λ quiet.
     let e = c.in_ok-used.ensures in
     let u = i.4 (quiet_first _ _ _ quiet i.2 e.goes) in
     let t = turned_at _ _ _ _ _ _ c.in-Loses.is (e.says (quiet_then _ _ _ quiet i.2 e.goes i.1 u.cut u.slow)) in
-    piece_loses _ _ _ _ _ _ c.in_ok-used.used i.0 u (c.parts_laws.ensures AwaitingFlags c.args.session.now.sectors) t
+    piece_loses _ _ _ _ _ _ c.in_ok-used.used i.0 u t
 
 pub returns-in_err-used-clause-halts : goal.returns-in_err-used-clause-halts
 returns-in_err-used-clause-halts g c = λ quiet. on_err c.from_residual.result _ (

@@ -3,9 +3,9 @@ use Rattle.std.proofs.KnownBytes.{Appends-nil}
 use Rattle.std.proofs.lemmas.Bool.{false≢true}
 use Rattle.nbd_wire.specs.Commands.{moves_data}
 use Rattle.nbd_wire.specs.declared.phase.Phase.TheVariants.{AwaitingFlags}
-use Rattle.session.specs.Lent.{payload_in}
-use Rattle.session.specs.Line.{IsRunning, reply_of, room_of}
-use Rattle.session.specs.Parts.{Told, Asked, Last}
+use Rattle.nbd_wire.specs.Lent.{payload_in}
+use Rattle.session.specs.Sessions.{IsRunning, reply_of, room_of}
+use Rattle.session.specs.Parts.{Told, ForDisk, Last}
 use Rattle.nbd_transmission.specs.Apply.{reply_to, applied}
 use Rattle.station.proofs.Turns.{on_err, part_halts}
 use Rattle.station.proofs.piece.take_turn.Goals as goal
@@ -17,7 +17,7 @@ returns-in_err-tell-in-Reply-clause-halts g c = λ quiet. on_err c.from_residual
   says = λ text serves.
       let x = rw c.in-Reply.is at (c.take-taken.ensures.says AwaitingFlags text serves.0 serves.1) in
       part_halts c.args.who _ _ text c.args.bytes.now c.take-taken.result.used _ _ (Told (reply_of c.take-taken.new.self)) c.reply.result.now
-      (c.parts_laws.ensures AwaitingFlags c.args.session.now.sectors) x.0 c.reply.ensures.value c.in_err-tell-in-Reply.ensures refl;
+      x.0 c.reply.ensures.value c.in_err-tell-in-Reply.ensures refl;
 })
 
 pub returns-in_err-tell-in-Close-clause-halts : goal.returns-in_err-tell-in-Close-clause-halts
@@ -27,7 +27,7 @@ returns-in_err-tell-in-Close-clause-halts g c = λ quiet. on_err c.from_residual
   says = λ text serves.
       let x = rw c.in-Close.is at (c.take-taken.ensures.says AwaitingFlags text serves.0 serves.1) in
       part_halts c.args.who _ _ text c.args.bytes.now c.take-taken.result.used _ _ (Last (reply_of c.take-taken.new.self)) c.reply-in-Close.result.now
-      (c.parts_laws.ensures AwaitingFlags c.args.session.now.sectors) x.0 c.reply-in-Close.ensures.value c.in_err-tell-in-Close.ensures refl;
+      x.0 c.reply-in-Close.ensures.value c.in_err-tell-in-Close.ensures refl;
 })
 
 pub returns-in_err-tell-in-Ok-clause-halts : goal.returns-in_err-tell-in-Ok-clause-halts
@@ -46,8 +46,8 @@ returns-in_err-tell-in-Ok-clause-halts g c = λ quiet. on_err c.from_residual-in
           let reply : c.reply-in-Ok.result.now ≡ reply_to n contents command =
           c.reply-in-Ok.ensures.value ∙ (e.reply quiet.sound ∙ ap (λ (m : ℕ). reply_to m contents command) c.take-taken.ensures.sectors) in
           let disk : (g.D.Disk.facts c.run_command.new.disk).contents ≡ applied n contents command payload = rw ready.accepted (e.contents quiet.sound) in
-          part_halts c.args.who _ _ text c.args.bytes.now c.take-taken.result.used _ _ (Asked command payload) c.reply-in-Ok.result.now
-          (c.parts_laws.ensures AwaitingFlags n) x.0 reply c.in_err-tell-in-Ok.ensures disk;
+          part_halts c.args.who _ _ text c.args.bytes.now c.take-taken.result.used _ _ (ForDisk command payload) c.reply-in-Ok.result.now
+          x.0 reply c.in_err-tell-in-Ok.ensures disk;
     })
 
 pub run_command-requires-clause-running : goal.run_command-requires-clause-running
@@ -75,7 +75,7 @@ returns-in-Err-Cut-clause-says g c = λ quiet.
             record {
               command = command;
               payload = payload;
-              parts_are = x.0;
+              gains = x.0;
               moves = moves.0;
               out_is = refl;
               outcome = rw ready.accepted left;

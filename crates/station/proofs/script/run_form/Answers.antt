@@ -2,7 +2,7 @@ use Rattle.std.proofs.lemmas.List.{length-take-le}
 use Rattle.std.proofs.Common.{arith, subst, refl}
 use Rattle.station.specs.declared.event.Event.TheVariants.{Open, Gone, Tidy, Restore}
 use Rattle.station.specs.declared.script.Form.TheVariants.{Open as OpenForm, Gone as GoneForm, Tidy as TidyForm, Restore as RestoreForm}
-use Rattle.station.specs.Script.{IsForm, ItemMoves, ItemHangs}
+use Rattle.station.specs.ScriptSteps.{IsForm, ItemMoves, ItemHangs}
 use Rattle.station.proofs.Scripting.{alone, piece_form, arm_form}
 use Rattle.station.proofs.script.run_form.Goals as goal
 

@@ -1,13 +1,13 @@
 use Rattle.std.proofs.Common.{◌≡◌, length}
-use Rattle.block_device.specs.Facts.{Goes}
-use Rattle.station.specs.declared.station.TheConstants.{PIECE_LEN}
+use Rattle.block_device.specs.Facts.{CountsNeverFall}
+use Rattle.station.specs.Script.{PIECE_LEN}
 use Rattle.station.specs.Board.{memories}
 use Rattle.station.proofs.Scripting.{SoMany, AreRead}
 use Rattle.station.proofs.script.run_lines.Given as goal
 
 abbrev pub invariant-loop : goal.invariant-loop
 invariant-loop g l =
-    Goes l.initial.hub.disk l.hub.disk
+    CountsNeverFall l.initial.hub.disk l.hub.disk
     × (length l.piece ≡ PIECE_LEN)
     × SoMany l.initial.hub l.hub (g.S.Source.remaining l.initial.reader) (g.W.Sink.written l.initial.out) (g.S.Source.remaining l.reader) (g.W.Sink.written l.out)
     × (g.S.Source.faults l.reader ≡ g.S.Source.faults l.initial.reader)

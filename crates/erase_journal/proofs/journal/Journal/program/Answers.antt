@@ -3,4 +3,4 @@ use Rattle.erase_journal.proofs.journal.Journal.program.Goals as goal
 
 pub invariant_of-self : goal.invariant_of-self
 invariant_of-self g c = still-kept c.self.inside.sound c.self.inside.known (g.N.Nor.state c.self.inside.nor) (g.N.Nor.state c.program_block.new.nor) c.program_block.result c.self.invariant
-    c.program_block.ensures.settled (c.program_block.ensures.known c.self.inside.known) c.program_block.ensures.ready c.program_block.ensures.fails
+    c.program_block.ensures.done (c.program_block.ensures.known c.self.inside.known) c.program_block.ensures.fails

@@ -2,9 +2,9 @@ use Rattle.std.proofs.Common.{◌≡◌, ℕ, ◌+◌, ◌-◌, ◌≤◌, min, 
 use Rattle.std.proofs.lemmas.Bool.{cases_lt}
 use Rattle.std.proofs.lemmas.List.{length-take}
 use Rattle.nbd_wire.specs.Units.{head_len, tail_len, IsUnit, after}
-use Rattle.nbd_wire.specs.Cutting.{tail_front}
+use Rattle.nbd_wire.proofs.Cutting.{tail_front}
 use Rattle.nbd_handshake.specs.Fronts.{HasFront}
-use Rattle.nbd_handshake.specs.Negotiating.{IsNegotiation, reply_to}
+use Rattle.nbd_handshake.specs.Negotiating.{IsNegotiation, negotiation_reply}
 use Rattle.nbd_handshake.proofs.Cuts.{same_answer}
 use Rattle.nbd_handshake.proofs.Fronts.{front_of_kept, kept_of_front, joined, joined_text, front_tail}
 use Rattle.nbd_handshake.proofs.Steps.{head_range, is_open, tail_stays, waits, completes}
@@ -146,6 +146,6 @@ returns-clause-step c rest keeps =
     let j-is : j ≡ min (c.self.inside.count + n + m) 8208 = omega arith in
     let kept-is : take j c.absorb-2.new.buffer ≡ take 8208 text = ap (λ (t : ℕ). take t c.absorb-2.new.buffer) j-is ∙ sym kept in
     let reply = take c.complete-answer.result.reply c.complete-answer.new.reply in
-    let reply-is : reply ≡ reply_to sectors p text = c.complete-answer.ensures.reply ∙ ap (reply_to sectors p) kept-is ∙ same.reply in
+    let reply-is : reply ≡ negotiation_reply sectors p text = c.complete-answer.ensures.reply ∙ ap (negotiation_reply sectors p) kept-is ∙ same.reply in
     let phase-is : c.complete-answer.result.phase ≡ after p text = c.complete-answer.ensures.phase ∙ ap (after p) kept-is ∙ same.phase in
     rw (← c.self.view_is) (completes _ _ text c.next_of.result reply c.next_of.ensures is_unit reply-is phase-is record { kept = refl; count = refl })

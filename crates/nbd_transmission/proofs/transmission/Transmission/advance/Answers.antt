@@ -3,9 +3,9 @@ use Rattle.std.proofs.lemmas.Bool.{cases_lt}
 use Rattle.std.proofs.lemmas.List.{length-take, drop_all, take_all}
 use Rattle.nbd_wire.specs.Heads.{request_at}
 use Rattle.nbd_wire.specs.Units.{IsUnit, payload_len}
-use Rattle.nbd_wire.specs.Standing.{Held}
+use Rattle.nbd_wire.specs.Parser.{ParserState}
 use Rattle.nbd_wire.specs.declared.phase.Phase.TheVariants.{Transmitting}
-use Rattle.nbd_wire.specs.Cutting.{request_front}
+use Rattle.nbd_wire.proofs.Cutting.{request_front}
 use Rattle.nbd_transmission.specs.Taking.{is_accepted_write, answer_of, answer_to}
 use Rattle.nbd_transmission.proofs.Answered.{answer_is_accepted}
 use Rattle.nbd_transmission.proofs.Steps.{head_grows, whole_head, payload_short, payload_grows, request_in_head, length_used, waits, completes}
@@ -20,13 +20,13 @@ returns-then-count-clause-step c rest keeps =
     let n = c.fill-head.result in
     let count : length rest ≡ c.self.inside.count = k.count in
     let filled = c.min-filled.ensures in
-    let n-is = c.fill-head.ensures.count in
+    let n-is : n ≡ min (28 - c.min-filled.result) (length bytes) = omega (arith, c.fill-head.ensures.count, c.self.told) in
     let small = c.if-count.true in
     let kept : take 28 rest ≡ take c.min-filled.result c.self.inside.head = k.kept ∙ ap (λ (m : ℕ). take m c.self.inside.head) (sym filled) in
-    let grows = head_grows rest bytes c.self.inside.head c.fill-head.new.head c.min-filled.result n n kept (omega arith) n-is c.fill-head.ensures.head (omega arith) (λ _. refl) in
+    let grows = head_grows rest bytes c.self.inside.head c.fill-head.new.buffer c.min-filled.result n n kept (omega arith) n-is c.fill-head.ensures.bytes (omega arith) (λ _. refl) in
     let len = length_used rest bytes n (omega arith) in
     let to : c.min-filled.result + n ≡ min (c.self.inside.count + n) 28 = omega arith in
-    waits c.args.self.now _ (rest ++ take n bytes) c.requires (ap (λ (h : Held). h.phase) c.self.view_is) (λ long. absurd (omega arith)) record { kept = grows ∙ ap (λ (m : ℕ). take m c.fill-head.new.head) to; count = omega arith }
+    waits c.args.self.now _ (rest ++ take n bytes) c.requires (ap (λ (h : ParserState). h.phase) c.self.view_is) (λ long. absurd (omega arith)) record { kept = grows ∙ ap (λ (m : ℕ). take m c.fill-head.new.buffer) to; count = omega arith }
 
 pub returns-then-count-clause-part : goal.returns-then-count-clause-part
 returns-then-count-clause-part c rest keeps =
@@ -36,7 +36,7 @@ returns-then-count-clause-part c rest keeps =
     let sectors = c.args.self.now.sectors in
     let count : length rest ≡ c.self.inside.count = k.count in
     let filled = c.min-filled.ensures in
-    let n-is = c.fill-head.ensures.count in
+    let n-is : n ≡ min (28 - c.min-filled.result) (length bytes) = omega (arith, c.fill-head.ensures.count, c.self.told) in
     let small = c.if-count.true in
     let len = length_used rest bytes n (omega arith) in
     let nothing : drop (n - 0) (take n bytes) ≡ [] = drop_all (n - 0) (take n bytes) (omega (arith, length-take n bytes)) in
@@ -49,19 +49,19 @@ returns-then-left-missing-clause-step c rest keeps =
     let bytes = c.args.bytes.now in
     let n = c.fill-head.result in
     let used = length bytes in
-    let grown = c.fill-head.new.head in
+    let grown = c.fill-head.new.buffer in
     let count : length rest ≡ c.self.inside.count = k.count in
     let filled = c.min-filled.ensures in
-    let n-is = c.fill-head.ensures.count in
+    let n-is : n ≡ min (28 - c.min-filled.result) (length bytes) = omega (arith, c.fill-head.ensures.count, c.self.told) in
     let long = c.if-count.false in
     let small = c.if-left-missing.true in
-    let size : length grown ≡ 28 = omega (arith, c.fill-head.array_long) in
-    let head = whole_head rest bytes c.self.inside.head grown c.self.inside.count c.min-filled.result n used count k.kept filled n-is c.fill-head.ensures.head size (omega arith) (omega arith) (omega arith) in
+    let size : length grown ≡ 28 = c.fill-head.auto.buffer ∙ c.self.told in
+    let head = whole_head rest bytes c.self.inside.head grown c.self.inside.count c.min-filled.result n used count k.kept filled n-is c.fill-head.ensures.bytes size (omega arith) (omega arith) (omega arith) in
     let len = length_used rest bytes used (omega arith) in
     let tail = c.tail_of-tail.ensures.len in
     let from = c.from.ensures in
     let all : take (min (c.self.inside.count + n + (used - n)) 28) grown ≡ grown = take_all (min (c.self.inside.count + n + (used - n)) 28) grown (omega arith) in
-    waits c.args.self.now _ (rest ++ take used bytes) c.requires (ap (λ (h : Held). h.phase) c.self.view_is) (λ _. rw head.1 (omega arith)) record { kept = head.0 ∙ sym all; count = omega arith }
+    waits c.args.self.now _ (rest ++ take used bytes) c.requires (ap (λ (h : ParserState). h.phase) c.self.view_is) (λ _. rw head.1 (omega arith)) record { kept = head.0 ∙ sym all; count = omega arith }
 
 pub returns-then-left-missing-clause-part : goal.returns-then-left-missing-clause-part
 returns-then-left-missing-clause-part c rest keeps =
@@ -69,14 +69,14 @@ returns-then-left-missing-clause-part c rest keeps =
     let bytes = c.args.bytes.now in
     let n = c.fill-head.result in
     let used = length bytes in
-    let grown = c.fill-head.new.head in
+    let grown = c.fill-head.new.buffer in
     let sectors = c.self.inside.sectors in
     let count : length rest ≡ c.self.inside.count = k.count in
     let filled = c.min-filled.ensures in
-    let n-is = c.fill-head.ensures.count in
+    let n-is : n ≡ min (28 - c.min-filled.result) (length bytes) = omega (arith, c.fill-head.ensures.count, c.self.told) in
     let long = c.if-count.false in
-    let size : length grown ≡ 28 = omega (arith, c.fill-head.array_long) in
-    let head = whole_head rest bytes c.self.inside.head grown c.self.inside.count c.min-filled.result n used count k.kept filled n-is c.fill-head.ensures.head size (omega arith) (omega arith) (omega arith) in
+    let size : length grown ≡ 28 = c.fill-head.auto.buffer ∙ c.self.told in
+    let head = whole_head rest bytes c.self.inside.head grown c.self.inside.count c.min-filled.result n used count k.kept filled n-is c.fill-head.ensures.bytes size (omega arith) (omega arith) (omega arith) in
     let accepted : is_accepted_write sectors (request_at (rest ++ take used bytes)) ≡ c.tail_of-tail.result.accepted = ap (is_accepted_write sectors) head.1 ∙ sym c.tail_of-tail.ensures.accepted in
     let p-is : c.if-tail.result ≡ cond c.tail_of-tail.result.accepted (used - (28 - length rest)) 0 =
     elim c.if-tail.branch [ then-tail w ↦ rw w.if-tail.true (omega arith) | else-tail w ↦ rw w.if-tail.false (omega arith) ] in
@@ -89,17 +89,17 @@ returns-clause-step c rest keeps =
     let bytes = c.args.bytes.now in
     let n = c.fill-head.result in
     let used = n + (28 + c.from.result - (c.self.inside.count + n)) in
-    let grown = c.fill-head.new.head in
+    let grown = c.fill-head.new.buffer in
     let text = rest ++ take used bytes in
     let count : length rest ≡ c.self.inside.count = k.count in
     let filled = c.min-filled.ensures in
-    let n-is = c.fill-head.ensures.count in
+    let n-is : n ≡ min (28 - c.min-filled.result) (length bytes) = omega (arith, c.fill-head.ensures.count, c.self.told) in
     let long = c.if-count.false in
     let enough = c.if-left-missing.false in
-    let size : length grown ≡ 28 = omega (arith, c.fill-head.array_long) in
+    let size : length grown ≡ 28 = c.fill-head.auto.buffer ∙ c.self.told in
     let tail = c.tail_of-tail.ensures.len in
     let from = c.from.ensures in
-    let head = whole_head rest bytes c.self.inside.head grown c.self.inside.count c.min-filled.result n used count k.kept filled n-is c.fill-head.ensures.head size (omega arith) (omega arith) (omega arith) in
+    let head = whole_head rest bytes c.self.inside.head grown c.self.inside.count c.min-filled.result n used count k.kept filled n-is c.fill-head.ensures.bytes size (omega arith) (omega arith) (omega arith) in
     let len = length_used rest bytes used (omega arith) in
     let before = c.self.invariant in
     let within : c.self.inside.count + n ≤ 28 + payload_len (request_at grown) =
@@ -113,14 +113,14 @@ returns-clause-step c rest keeps =
           omega arith
     ] in
     let is_unit : IsUnit Transmitting text = record { is_open = tt; whole_head = omega arith; whole = rw head.1 (omega arith) } in
-    let sectors : c.self.inside.sectors ≡ c.args.self.now.sectors = ap (λ (h : Held). h.sectors) c.self.view_is in
+    let sectors : c.self.inside.sectors ≡ c.args.self.now.sectors = ap (λ (h : ParserState). h.sectors) c.self.view_is in
     let answer : c.tail_of-tail.result.next ≡ answer_to c.args.self.now.sectors text =
     c.tail_of-tail.ensures.next ∙ ap (answer_of c.self.inside.sectors) (sym head.1) ∙ ap (λ (s : ℕ). answer_to s text) sectors in
     completes c.args.self.now _ text c.tail_of-tail.result.next c.requires answer is_unit c.closes-self-inside.ensures record { kept = refl; count = refl }
 
 pub returns-clause-accepted : goal.returns-clause-accepted
 returns-clause-accepted c =
-    rw (← c.self.view_is) (answer_is_accepted c.self.inside.sectors (request_at c.fill-head.new.head) c.tail_of-tail.result.next c.tail_of-tail.ensures.next)
+    rw (← c.self.view_is) (answer_is_accepted c.self.inside.sectors (request_at c.fill-head.new.buffer) c.tail_of-tail.result.next c.tail_of-tail.ensures.next)
 
 pub returns-clause-part : goal.returns-clause-part
 returns-clause-part c rest keeps =
@@ -128,15 +128,15 @@ returns-clause-part c rest keeps =
     let bytes = c.args.bytes.now in
     let n = c.fill-head.result in
     let used = n + (28 + c.from.result - (c.self.inside.count + n)) in
-    let grown = c.fill-head.new.head in
+    let grown = c.fill-head.new.buffer in
     let sectors = c.self.inside.sectors in
     let count : length rest ≡ c.self.inside.count = k.count in
     let filled = c.min-filled.ensures in
-    let n-is = c.fill-head.ensures.count in
+    let n-is : n ≡ min (28 - c.min-filled.result) (length bytes) = omega (arith, c.fill-head.ensures.count, c.self.told) in
     let long = c.if-count.false in
     let enough = c.if-left-missing.false in
-    let size : length grown ≡ 28 = omega (arith, c.fill-head.array_long) in
-    let head = whole_head rest bytes c.self.inside.head grown c.self.inside.count c.min-filled.result n used count k.kept filled n-is c.fill-head.ensures.head size (omega arith) (omega arith) (omega arith) in
+    let size : length grown ≡ 28 = c.fill-head.auto.buffer ∙ c.self.told in
+    let head = whole_head rest bytes c.self.inside.head grown c.self.inside.count c.min-filled.result n used count k.kept filled n-is c.fill-head.ensures.bytes size (omega arith) (omega arith) (omega arith) in
     let accepted : is_accepted_write sectors (request_at (rest ++ take used bytes)) ≡ c.tail_of-tail.result.accepted = ap (is_accepted_write sectors) head.1 ∙ sym c.tail_of-tail.ensures.accepted in
     let p-is : c.if-tail-2.result ≡ cond c.tail_of-tail.result.accepted (used - (28 - length rest)) 0 =
     elim c.if-tail-2.branch [ then-tail-2 w ↦ rw w.if-tail-2.true (omega arith) | else-tail-2 w ↦ rw w.if-tail-2.false (omega arith) ] in

@@ -1,6 +1,6 @@
 use Rattle.std.proofs.Common.{◌≡◌, take, cond, ap, sym, ◌∙◌, refl}
 use Rattle.nbd_wire.specs.declared.phase.Phase.TheVariants.{Transmitting, Closed}
-use Rattle.nbd_wire.specs.Standing.{Held}
+use Rattle.nbd_wire.specs.Parser.{ParserState}
 use Rattle.nbd_transmission.proofs.Steps.{answers_from_step, stands_from_step, payload_fits}
 use Rattle.nbd_transmission.proofs.transmission.Transmission.take.Goals as goal
 
@@ -15,5 +15,5 @@ returns-clause-room c rest is_open keeps =
 pub returns-clause-stands : goal.returns-clause-stands
 returns-clause-stands c start text stands =
     let open_inside : cond c.self.inside.is_closed Closed Transmitting ≡ Transmitting = rw c.if-self.false refl in
-    let is_open : c.args.self.now.phase ≡ Transmitting = ap (λ (h : Held). h.phase) (sym c.self.view_is) ∙ open_inside in
+    let is_open : c.args.self.now.phase ≡ Transmitting = ap (λ (h : ParserState). h.phase) (sym c.self.view_is) ∙ open_inside in
     stands_from_step start c.args.self.now c.advance.new.self text (take c.advance.result.used c.args.bytes.now) c.advance.result.next is_open stands c.advance.ensures.step

@@ -1,6 +1,6 @@
 use Rattle.std.proofs.Common.{◌∙◌, ◌+◌, ◌≤◌, List, ℕ, length, subst, ap, arith}
 use Rattle.std.specs.Prelude.{slice_range}
-use Rattle.chip_model.specs.Frames.{Answers, command_of}
+use Rattle.chip_model.specs.Frames.{Receives, command_of}
 use Rattle.nor_driver.proofs.Shape.{read_back}
 use Rattle.nor_driver.proofs.driver.DriverNor.read.Goals as goal
 
@@ -9,5 +9,5 @@ returns-clause-ok g c =
     let chip = g.B.SpiBus.chip c.args.self.now.bus in
     let same = c.ask.auto.into in
     let fits : c.args.at + length c.ask.new.into ≤ length chip.memory = omega (arith, same, c.requires.range) in
-    read_back chip c.args.at c.ask.new.into fits (subst (λ (s : List ℕ). Answers chip (command_of s) c.ask.new.into) (c.deref.ensures.0 ∙ c.read.ensures) c.in_ok-ask.ensures.answers)
+    read_back chip c.args.at c.ask.new.into fits (subst (λ (s : List ℕ). Receives chip (command_of s) c.ask.new.into) (c.deref.ensures.0 ∙ c.read.ensures) c.in_ok-ask.ensures.answers)
     ∙ ap (λ n. slice_range chip.memory c.args.at (c.args.at + n)) same

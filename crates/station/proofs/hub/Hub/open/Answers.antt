@@ -1,7 +1,7 @@
 use Rattle.std.proofs.Common.{◌≡◌, ◌⊎◌, inl, inr, ◌≤◌, refl, ◌∙◌, sym, get_or, set, false, true, ap, []}
 use Rattle.station.specs.declared.event.Event.TheVariants.{Open}
-use Rattle.session.specs.Line.{is_ended}
-use Rattle.station.specs.Board.{Serves, memories}
+use Rattle.session.specs.Sessions.{is_ended}
+use Rattle.station.specs.Board.{ServesText, memories}
 use Rattle.station.proofs.Lines.{memory_stays}
 use Rattle.station.proofs.Moving.{board, does_by, does_seen, does_same, seen_power, refused, open_none, open_done, open_halts, halts_seen}
 use Rattle.station.proofs.Telling.{told_sent, slow_still}
@@ -27,7 +27,7 @@ returns-in-Err-clause-does g c =
     let s = c.self.inside in
     let line = c.reset.new.self in
     let fresh = c.reset.ensures.fresh in
-    let serves : Serves line [] = (ap is_ended fresh.stage, fresh.stands) in
+    let serves : ServesText line [] = (ap is_ended fresh.stage, fresh.stands) in
     let before = board (g.D.Disk.facts s.disk) s.sectors s.power s.sessions.items s.is_open in
     let after = board (g.D.Disk.facts s.disk) s.sectors s.power (set s.sessions.items c.args.who line) (set s.is_open c.args.who true) in
     halts_seen before c.args.self.now after (Open c.args.who) _ _ c.self.view_is
@@ -39,7 +39,7 @@ returns-clause-does g c =
     let s = c.self.inside in
     let line = c.reset.new.self in
     let fresh = c.reset.ensures.fresh in
-    let serves : Serves line [] = (ap is_ended fresh.stage, fresh.stands) in
+    let serves : ServesText line [] = (ap is_ended fresh.stage, fresh.stands) in
     let before = board (g.D.Disk.facts s.disk) s.sectors s.power s.sessions.items s.is_open in
     let after = board (g.D.Disk.facts s.disk) s.sectors s.power (set s.sessions.items c.args.who line) (set s.is_open c.args.who true) in
     does_seen before c.args.self.now after (Open c.args.who) _ _ c.put-2.result c.self.view_is (does_by before after (Open c.args.who) _ _ _ _ c.put-2.result _ _

@@ -1,6 +1,6 @@
 use Rattle.std.proofs.Common.{◌∙◌, sym, replicate, false, true, subst}
 use Rattle.station.specs.declared.event.Event.TheVariants.{Restore}
-use Rattle.station.specs.Running.{Does}
+use Rattle.station.specs.Moving.{Does}
 use Rattle.station.proofs.Moving.{board, does_by, does_seen, restored, restore_lost}
 use Rattle.station.proofs.hub.Hub.restore.Goals as goal
 

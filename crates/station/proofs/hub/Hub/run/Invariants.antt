@@ -1,5 +1,5 @@
 use Rattle.std.proofs.Common.{◌≡◌, take}
-use Rattle.block_device.specs.Facts.{Goes}
+use Rattle.block_device.specs.Facts.{CountsNeverFall}
 use Rattle.station.specs.Board.{memories}
 use Rattle.station.specs.Running.{Runs}
 use Rattle.station.specs.Telling.{AllTold}
@@ -7,7 +7,7 @@ use Rattle.station.proofs.hub.Hub.run.Given as goal
 
 abbrev pub invariant-loop-event : goal.invariant-loop-event
 invariant-loop-event g l =
-    Goes l.initial.self.disk l.self.disk
+    CountsNeverFall l.initial.self.disk l.self.disk
     × (g.W.Sink.faults l.out ≡ g.W.Sink.faults l.initial.out)
     × Runs l.initial.self l.self (take l.event-index l.events) (g.W.Sink.written l.initial.out) (g.W.Sink.written l.out)
     × (memories l.self ≡ memories l.initial.self)

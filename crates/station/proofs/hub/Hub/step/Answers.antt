@@ -1,5 +1,5 @@
 use Rattle.std.proofs.Common.{refl, ◌∙◌, sym, replicate, false, subst}
-use Rattle.station.specs.Running.{Halts}
+use Rattle.station.specs.Moving.{Halts}
 use Rattle.station.proofs.Moving.{board}
 use Rattle.station.proofs.Ending.{hangs_up}
 use Rattle.station.proofs.hub.Hub.step.Goals as goal

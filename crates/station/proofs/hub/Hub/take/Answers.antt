@@ -2,7 +2,7 @@ use Rattle.std.proofs.Common.{◌≡◌, ◌⊎◌, inl, inr, ◌≤◌, refl, �
 use Rattle.std.proofs.lemmas.List.{length-set}
 use Rattle.station.specs.declared.event.Event.TheVariants.{Piece}
 use Rattle.station.specs.Board.{Board, memories}
-use Rattle.station.specs.Running.{Does}
+use Rattle.station.specs.Moving.{Does}
 use Rattle.station.specs.Telling.{SlowComes}
 use Rattle.station.proofs.Lines.{memory_stays}
 use Rattle.station.proofs.Moving.{board, does_by, does_seen, does_same, seen_power, refused, piece_none, halts_seen}

@@ -1,6 +1,6 @@
 use Rattle.std.proofs.Common.{refl, ◌∙◌, sym, replicate, false, subst}
 use Rattle.station.specs.declared.event.Event.TheVariants.{Tidy}
-use Rattle.station.specs.Running.{Does}
+use Rattle.station.specs.Moving.{Does}
 use Rattle.station.proofs.Moving.{board, does_by, does_seen, seen_power, refused, tidied, tidy_lost}
 use Rattle.station.proofs.hub.Hub.tidy.Goals as goal
 

@@ -3,9 +3,8 @@
 use Rattle.std.specs.Prelude.{◌≡◌, ℕ, true, List, [], ◌∷◌, ◌++◌, None, Some, replicate}
 use Rattle.std.proofs.Common.{refl, arith, inl, inr}
 use Rattle.nbd_handshake.specs.Greeting.{greeting_bytes}
-use Rattle.station.specs.declared.entries.TheConstants.{DONE, LOST, NO_ONE}
 use Rattle.station.specs.declared.event.Event.TheVariants.{Open, Gone, Tidy, Restore}
-use Rattle.station.specs.Records.{entry, replied}
+use Rattle.station.specs.Records.{DONE, LOST, NO_ONE, entry, replied}
 use Rattle.station.specs.Script.{Happens, Arms, line_of}
 use Rattle.station.specs.World.{World, Step, Loss, dark}
 use Rattle.station.specs.Transcript.{Transcript}
@@ -37,43 +36,43 @@ tidy_line = refl
 arming_line : line_of (Arms 16 1 0) ≡ 67 ∷ 255 ∷ 0 ∷ 0 ∷ 0 ∷ 6 ∷ 0 ∷ 0 ∷ 0 ∷ 16 ∷ 1 ∷ 0 ∷ []
 arming_line = refl
 
--- a disk of one sector, on which connection 0 is opened
-abbrev closed : World
-closed = record { sectors = 1; disk = replicate 512 0; power = true; texts = replicate 8 None }
+-- a disk of one sector, on which connection 0 is opened_world
+abbrev closed_world : World
+closed_world = record { sectors = 1; disk = replicate 512 0; power = true; texts = replicate 8 None }
 
-abbrev opened : World
-opened = record { sectors = 1; disk = replicate 512 0; power = true; texts = Some [] ∷ replicate 7 None }
+abbrev opened_world : World
+opened_world = record { sectors = 1; disk = replicate 512 0; power = true; texts = Some [] ∷ replicate 7 None }
 
-opens : Step closed (Open 0) (replied 0 greeting_bytes ++ (0 ∷ 65 ∷ 0 ∷ 0 ∷ 0 ∷ 0 ∷ [])) opened
+opens : Step closed_world (Open 0) (replied 0 greeting_bytes ++ (0 ∷ 65 ∷ 0 ∷ 0 ∷ 0 ∷ 0 ∷ [])) opened_world
 opens = inl (omega arith, refl, refl, refl)
 
 -- connection 8 is none, and connection 3 isn't open
-no_such : Step opened (Open 8) (8 ∷ 78 ∷ 0 ∷ 0 ∷ 0 ∷ 0 ∷ []) opened
+no_such : Step opened_world (Open 8) (8 ∷ 78 ∷ 0 ∷ 0 ∷ 0 ∷ 0 ∷ []) opened_world
 no_such = inr (inl (omega arith), (refl, refl))
 
-not_open : Step opened (Gone 3) (3 ∷ 78 ∷ 0 ∷ 0 ∷ 0 ∷ 0 ∷ []) opened
+not_open : Step opened_world (Gone 3) (3 ∷ 78 ∷ 0 ∷ 0 ∷ 0 ∷ 0 ∷ []) opened_world
 not_open = (refl, refl)
 
 -- after a loss an Open is lost, and a Restore turns the power on
-dark_open : Step (dark opened (replicate 512 0)) (Open 1) (1 ∷ 76 ∷ 0 ∷ 0 ∷ 0 ∷ 0 ∷ []) (dark opened (replicate 512 0))
+dark_open : Step (dark opened_world (replicate 512 0)) (Open 1) (1 ∷ 76 ∷ 0 ∷ 0 ∷ 0 ∷ 0 ∷ []) (dark opened_world (replicate 512 0))
 dark_open = (refl, refl)
 
-lit : Step (dark opened (replicate 512 0)) Restore (255 ∷ 65 ∷ 0 ∷ 0 ∷ 0 ∷ 0 ∷ []) closed
+lit : Step (dark opened_world (replicate 512 0)) Restore (255 ∷ 65 ∷ 0 ∷ 0 ∷ 0 ∷ 0 ∷ []) closed_world
 lit = (refl, refl)
 
 -- an Open and a Tidy in which the power goes, where one loss was counted
-loses : Transcript 4 closed (Open 0 ∷ Tidy ∷ []) (replied 0 greeting_bytes ++ (0 ∷ 65 ∷ 0 ∷ 0 ∷ 0 ∷ 0 ∷ 255 ∷ 76 ∷ 0 ∷ 0 ∷ 0 ∷ 0 ∷ [])) 5 (dark opened (replicate 512 0))
+loses : Transcript 4 closed_world (Open 0 ∷ Tidy ∷ []) (replied 0 greeting_bytes ++ (0 ∷ 65 ∷ 0 ∷ 0 ∷ 0 ∷ 0 ∷ 255 ∷ 76 ∷ 0 ∷ 0 ∷ 0 ∷ 0 ∷ [])) 5 (dark opened_world (replicate 512 0))
 unfolding greeting_bytes
 loses = (
   replied 0 greeting_bytes ++ (0 ∷ 65 ∷ 0 ∷ 0 ∷ 0 ∷ 0 ∷ []),
   255 ∷ 76 ∷ 0 ∷ 0 ∷ 0 ∷ 0 ∷ [],
   4,
-  opened,
+  opened_world,
   refl,
   inl (opens, omega arith),
-  (255 ∷ 76 ∷ 0 ∷ 0 ∷ 0 ∷ 0 ∷ [], [], 5, dark opened (replicate 512 0), refl, inr ((refl, refl, refl), omega arith), (refl, refl, refl)),
+  (255 ∷ 76 ∷ 0 ∷ 0 ∷ 0 ∷ 0 ∷ [], [], 5, dark opened_world (replicate 512 0), refl, inr ((refl, refl, refl), omega arith), (refl, refl, refl)),
 )
 
 -- an Open is never lost
-never : (out : List ℕ) (w : World) → Loss closed (Open 0) out w → ⊥
+never : (out : List ℕ) (w : World) → Loss closed_world (Open 0) out w → ⊥
 never out w h = h

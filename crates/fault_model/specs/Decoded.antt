@@ -1,10 +1,11 @@
 use Rattle.std.specs.Prelude.{◌<◌, length}
-use Rattle.chip_model.specs.Frames.{Command, Enable, Disable, Status1, Status2, Status3, Set, Read, Program, Erase, Id, Sfdp, Unknown}
-use Rattle.fault_model.specs.declared.decode.Asked.{Asked}
-use Rattle.fault_model.specs.declared.decode.Asked.TheVariants as asks
+use Rattle.chip_model.specs.Frames.{Command, Enable, Disable, Status1, Status2, Status3, Set, Read}
+use Rattle.chip_model.specs.Frames.{Program, Erase, Id, Sfdp, Unknown}
+use Rattle.fault_model.specs.declared.decode.Decoded.{Decoded}
+use Rattle.fault_model.specs.declared.decode.Decoded.TheVariants as asks
 
--- the command that a decoded frame stands for
-abbrev pub asked : Asked → Command
+-- the command that a decoded frame represents
+abbrev pub asked : Decoded → Command
 asked asks.Enable = Enable
 asked asks.Disable = Disable
 asked asks.Status1 = Status1
@@ -20,7 +21,7 @@ asked (asks.Sfdp a) = Sfdp a
 asked asks.Unknown = Unknown
 
 -- a program has bytes
-abbrev pub HasBytes : Asked → Type 0
+abbrev pub HasBytes : Decoded → Type 0
 HasBytes (asks.Program a b) = 0 < length b.now
 HasBytes asks.Enable = Unit {0}
 HasBytes asks.Disable = Unit {0}

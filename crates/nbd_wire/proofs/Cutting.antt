@@ -1,5 +1,4 @@
 -- Each text has a cutting into units and a rest, and this is it. That it is the only one, and what more bytes do to it: `one_cutting`.
--- Source: own.
 use Rattle.std.proofs.Common.{◌≡◌, ℕ, zero, suc, ◌+◌, ◌<◌, ◌≤◌, ◌⊎◌, List, [], ◌∷◌, ◌++◌, length, take, drop, refl, sym, ap, ◌∙◌, arith, inl, inr}
 use Rattle.std.proofs.lemmas.Bool.{cases_lt}
 use Rattle.std.proofs.lemmas.List.{take-append-drop, drop-append-le, length-drop, length-append, length-take-le}

@@ -1,0 +1,84 @@
+-- What the steps of a mount and of a restore leave. Words of private functions: no claim rests on
+-- them. Source: own.
+use Rattle.std.specs.Prelude.{◌≡◌, ◌<◌, Bool, true, false, List, length, Option, Some, None}
+use Rattle.nor_driver.specs.State.{NorState, OnlyMemoryChanges}
+use Rattle.nor_driver.specs.declared.error.NorError.{NorError}
+use Rattle.sector_slots.specs.Sectors.{IsSoundMap}
+use Rattle.sector_map.specs.declared.entry.Entry.{Entry}
+use Rattle.sector_map.specs.declared.error.MountError.{MountError}
+use Rattle.nor_driver.specs.declared.error.NorError.TheVariants as errors
+use Rattle.sector_map.specs.declared.error.MountError.TheVariants as mounts
+use Rattle.sector_map.specs.Maps.{IsStore, KeepsEach, IsServing}
+
+-- the table of slots that were recovered was made: what comes between them and what comes of it
+pub record Filled (old new : NorState) : Type 0 where
+  pub slots : IsSoundMap old.memory
+  pub keeps : KeepsEach old.memory new.memory
+  pub kept : OnlyMemoryChanges old new
+
+pub record FillCut (old new : NorState) : Type 0 where
+  pub came : old.cuts < new.cuts
+  pub slows : new.slows ≡ old.slows
+  pub powered : new.powered ≡ false
+  pub quick : old.is_slow ≡ false → new.is_slow ≡ false
+  pub size : length new.memory ≡ length old.memory
+  pub keeps : IsSoundMap old.memory → KeepsEach old.memory new.memory
+
+pub record FillSlow (old new : NorState) : Type 0 where
+  pub came : old.slows < new.slows
+  pub cuts : new.cuts ≡ old.cuts
+  pub size : length new.memory ≡ length old.memory
+
+pub record FillCorrupt (old new : NorState) : Type 0 where
+  pub corrupt : IsSoundMap old.memory → ⊥
+  pub cuts : new.cuts ≡ old.cuts
+  pub slows : new.slows ≡ old.slows
+  pub quick : old.is_slow ≡ false → new.is_slow ≡ false
+  pub same : new.memory ≡ old.memory
+
+abbrev pub FillFails : MountError → NorState → NorState → Type 0
+FillFails mounts.Cut old new = FillCut old new
+FillFails mounts.Slow old new = FillSlow old new
+FillFails mounts.Corrupt old new = FillCorrupt old new
+FillFails mounts.OutOfMemory old new = ⊥
+FillFails mounts.NotFormatted old new = ⊥
+
+-- the store was restarted, and the table made again
+pub record Renewed (table : List Entry) (old new : NorState) (indexed : Bool) : Type 0 where
+  pub cuts : new.cuts ≡ old.cuts
+  pub slows : new.slows ≡ old.slows
+  pub served : IsServing table new indexed
+  pub size : length new.memory ≡ length old.memory
+  pub keeps : old.is_slow ≡ false → IsStore old.memory → KeepsEach old.memory new.memory
+
+pub record RenewCorrupt (old new : NorState) : Type 0 where
+  pub cuts : new.cuts ≡ old.cuts
+  pub slows : new.slows ≡ old.slows
+  pub powered : new.powered ≡ true
+  pub size : length new.memory ≡ length old.memory
+  pub still : IsStore new.memory → ⊥
+  pub corrupt : old.is_slow ≡ false → IsStore old.memory → ⊥
+
+pub record RenewCut (old new : NorState) : Type 0 where
+  pub cuts : old.cuts < new.cuts
+  pub slows : new.slows ≡ old.slows
+  pub powered : new.powered ≡ false
+  pub size : length new.memory ≡ length old.memory
+  pub quick : old.is_slow ≡ false → new.is_slow ≡ false
+  pub keeps : old.is_slow ≡ false → IsStore old.memory → KeepsEach old.memory new.memory
+
+pub record RenewSlow (old new : NorState) : Type 0 where
+  pub slows : old.slows < new.slows
+  pub cuts : new.cuts ≡ old.cuts
+  pub powered : new.powered ≡ true
+  pub size : length new.memory ≡ length old.memory
+
+abbrev pub RenewFails : NorError → NorState → NorState → Type 0
+RenewFails errors.Cut old new = RenewCut old new
+RenewFails errors.Slow old new = RenewSlow old new
+
+-- the latched error after a restore that was cut
+abbrev pub latched_after_cut : Option NorError → Option NorError
+latched_after_cut None = Some errors.Cut
+latched_after_cut (Some errors.Cut) = Some errors.Cut
+latched_after_cut (Some errors.Slow) = Some errors.Slow

@@ -1,0 +1,46 @@
+-- How far a search of the index has come. Words of private functions: no claim rests on them.
+-- Source: own.
+use Rattle.std.specs.Prelude.{◌≡◌, ◌≢◌, ◌⊎◌, ℕ, ◌+◌, ◌*◌, ◌/◌, ◌<◌, ◌≤◌, List, length}
+use Rattle.sector_slots.specs.Slots.{Free}
+use Rattle.sector_stock.specs.declared.index.SlotState.{SlotState}
+use Rattle.sector_stock.specs.declared.index.BlockState.{BlockState}
+use Rattle.sector_stock.specs.declared.index.Cursors.{Cursors}
+use Rattle.sector_stock.specs.declared.index.SlotState.TheVariants as states
+use Rattle.sector_stock.specs.Index.{in_block, IsWholeBlock, in_slots, IsHighestWhole}
+
+-- each wholly free block but r lies below this one
+abbrev pub AreSparesBelow : List BlockState → ℕ → ℕ → Type 0
+AreSparesBelow blocks r below = (c : ℕ) → c < length blocks → IsWholeBlock (in_block blocks c)
+    → c ≢ r → c < below
+
+-- where the index looks for free slots: a block that it doesn't look at any more was none that it
+-- looked at, and isn't block b
+abbrev pub IsPassed : Cursors → ℕ → Type 0
+IsPassed at c = (c < at.cursor) ⊎ (at.beyond ≤ c)
+
+pub record Widened (b : ℕ) (old new : Cursors) : Type 0 where
+  pub passed : (c : ℕ) → IsPassed new c → IsPassed old c × (c ≢ b)
+  pub within : (new.beyond ≤ old.beyond) ⊎ (new.beyond ≡ b + 1)
+  pub reserve : new.reserve ≡ old.reserve
+  pub spares : new.spares ≡ old.spares
+  pub most : new.most ≡ old.most
+  pub from : new.from ≡ old.from
+
+-- the reserve is another one, and where its search ends; all else stays
+pub record NextReserve (blocks : List BlockState) (old new : Cursors) : Type 0 where
+  pub highest : IsHighestWhole blocks new.reserve
+  pub spares : AreSparesBelow blocks new.reserve new.spares
+  pub within : new.spares ≤ length blocks
+  pub cursor : new.cursor ≡ old.cursor
+  pub beyond : new.beyond ≡ old.beyond
+  pub most : new.most ≡ old.most
+  pub from : new.from ≡ old.from
+
+-- no slot of block b is free; or slot w is the first free one of it
+abbrev pub HasNoFreeState : List SlotState → ℕ → Type 0
+HasNoFreeState slots b = (i : ℕ) → i < 7 → in_slots slots (7 * b + i) ≢ states.Free
+
+pub record IsFirstFreeState (slots : List SlotState) (b w : ℕ) : Type 0 where
+  pub block : w / 7 ≡ b
+  pub free : in_slots slots w ≡ states.Free
+  pub first : (i : ℕ) → i < 7 → 7 * b + i < w → in_slots slots (7 * b + i) ≢ states.Free
