@@ -2,7 +2,8 @@
 
 use crate::beginning_of;
 use crate::chips::{formatted, started, told};
-use crate::talk::{FLAGS, GO, GO_REPLY, GREETING, READ_LAST, READ_REPLY, Talk, bytes_of};
+use crate::talk::{FLAGS, GO, GO_REPLY, GREETING, READ_LAST, READ_REPLY, Talk};
+use spelling::bytes_of;
 use station::ScriptError;
 use std::alloc::Global;
 use std::process::Abort;

@@ -2,7 +2,8 @@
 //! nothing from the others.
 
 use crate::chips::{formatted, started, told};
-use crate::talk::{FLAGS, READ_LAST, READ_REPLY, Talk, bytes_of};
+use crate::talk::{FLAGS, READ_LAST, READ_REPLY, Talk};
+use spelling::bytes_of;
 use std::test::*;
 
 /// Heads of units whose bytes never end, before and in the transmission: options other than

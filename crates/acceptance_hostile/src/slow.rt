@@ -1,7 +1,8 @@
 //! A chip whose first operation never ends.
 
 use crate::chips::{formatted, started, told};
-use crate::talk::{READ_REPLY, Talk, bytes_of};
+use crate::talk::{READ_REPLY, Talk};
+use spelling::bytes_of;
 use std::test::*;
 
 #[test]

@@ -1,7 +1,7 @@
 //! A script, and the transcript that is owed for it.
 
 use acceptance_station::record_head;
-use hex;
+use spelling::bytes_of;
 use std::alloc::Global;
 use std::test::*;
 
@@ -90,21 +90,4 @@ impl Talk {
         self.event(event, who, &[])?;
         self.owes(who, b'A', &[])
     }
-}
-
-/// The bytes that a text spells: words of hexadecimal digits, and `BYTE*COUNT` for a byte so many
-/// times.
-pub(crate) fn bytes_of(alloc: Global, text: &str) -> Result<Vec<u8>, Fail> {
-    let mut bytes = Vec::new(alloc);
-    for word in text.split(' ') {
-        let (digits, count) = word.split_once('*').unwrap_or((word, "1"));
-        let Ok(count) = count.parse::<u32>() else {
-            return Err(Fail::new("no count"));
-        };
-        let spelled = hex::decode(alloc, digits)?;
-        for _ in 0..count {
-            bytes.extend_from_slice(spelled.as_slice())?;
-        }
-    }
-    Ok(bytes)
 }

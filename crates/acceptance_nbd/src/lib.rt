@@ -3,8 +3,7 @@
 //!
 //! There is no product code here. `request_head` spells the head of a request, as a client sends
 //! it, from its fields. The tests stand by subject: heads, requests out of pieces, the negotiation,
-//! streams and a disk in memory, the server of one disk, and the program's line. Those of a crate
-//! that has many stand in that crate.
+//! whole sessions, streams and a disk in memory, the server of one disk, and the program's line.
 
 #![tactic(auto)]
 
@@ -19,6 +18,8 @@ mod options;
 mod requests;
 #[cfg(test)]
 mod server;
+#[cfg(test)]
+mod sessions;
 #[cfg(test)]
 mod streams;
 

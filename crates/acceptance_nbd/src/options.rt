@@ -1,6 +1,7 @@
 //! Negotiations for a disk of 70 sectors (8C00h bytes), written out by hand from NBD proto.md.
 
 use nbd_handshake::{Handshake, MAX_REPLY_LEN, Next, greeting};
+use spelling::bytes_of;
 use std::alloc::Global;
 use std::process::Abort;
 use std::test::Fail;
@@ -33,23 +34,6 @@ fn check<R: Abort>(
     assert_eq!(rt; next, last, "{text}");
     assert!(rt; rest.is_empty(), "{text}");
     Ok(())
-}
-
-/// The bytes that a text spells: words of hexadecimal digits, and `BYTE*COUNT` for a byte so many
-/// times.
-fn bytes_of(alloc: Global, text: &str) -> Result<Vec<u8>, Fail> {
-    let mut bytes = Vec::new(alloc);
-    for word in text.split(' ') {
-        let (digits, count) = word.split_once('*').unwrap_or((word, "1"));
-        let Ok(count) = count.parse::<u32>() else {
-            return Err(Fail::from("no count"));
-        };
-        let spelled = hex::decode(alloc, digits)?;
-        for _ in 0..count {
-            bytes.extend_from_slice(spelled.as_slice())?;
-        }
-    }
-    Ok(bytes)
 }
 
 #[test]

@@ -3,8 +3,9 @@
 use crate::chips::{OnSim, told};
 use crate::clients::Clients;
 use crate::lines::{Answer, Line, Stage};
+use crate::records::record;
 use crate::sectors::{SECTORS, Sectors};
-use crate::spelling::{bytes_of, record};
+use spelling::bytes_of;
 use station::Station;
 use std::alloc::Global;
 use std::test::*;

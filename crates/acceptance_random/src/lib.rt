@@ -20,8 +20,8 @@ mod lines;
 #[cfg(test)]
 mod random;
 #[cfg(test)]
-mod sectors;
+mod records;
 #[cfg(test)]
-mod spelling;
+mod sectors;
 
 pub use dice::Dice;

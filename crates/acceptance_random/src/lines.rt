@@ -1,6 +1,6 @@
 //! What a client has to send on a connection, and what it expects for it.
 
-use crate::spelling::bytes_of;
+use spelling::bytes_of;
 use std::alloc::Global;
 use std::test::*;
 

@@ -4,7 +4,7 @@ ghost use Rattle.std.specs.Prelude.{◌≡◌, ◌<◌};
 
 use crate::chips::{OnSim, formatted, started, told};
 use crate::rows::{Row, check, named};
-use crate::spelling::bytes_of;
+use crate::scripts::bytes_of;
 use block_device::FixedOut;
 use station::{Event, ScriptError, Station};
 use std::marker::Brand;

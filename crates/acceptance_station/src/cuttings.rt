@@ -2,7 +2,7 @@
 
 use crate::chips::formatted;
 use crate::rows::check_bytes;
-use crate::spelling::{bytes_of, push_piece};
+use crate::scripts::{bytes_of, push_piece};
 use std::alloc::Global;
 use std::process::Abort;
 use std::test::*;

@@ -28,7 +28,7 @@ mod requests;
 #[cfg(test)]
 mod rows;
 #[cfg(test)]
-mod spelling;
+mod scripts;
 #[cfg(test)]
 mod wear;
 

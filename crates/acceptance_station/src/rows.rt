@@ -1,7 +1,7 @@
 //! A row: a script, its transcript, and what it leaves of the chip.
 
 use crate::chips::{count, formatted, set, started, told};
-use crate::spelling::bytes_of;
+use crate::scripts::bytes_of;
 use station::ScriptError;
 use std::alloc::Global;
 use std::process::Abort;

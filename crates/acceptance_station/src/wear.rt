@@ -2,7 +2,7 @@
 
 use crate::chips::{count, formatted, set};
 use crate::rows::check_bytes;
-use crate::spelling::bytes_of;
+use crate::scripts::bytes_of;
 use std::test::*;
 
 #[test]

@@ -4,7 +4,7 @@ ghost use Rattle.norbd_line.specs.Line.{IfFormat, IfScript, IfServe, IsConns, Is
 use crate::run::run_line;
 use crate::serve_tests::{Told, free_port, make, text_of};
 use block_device::FixedIn;
-use norbd_line::Line;
+use norbd_line::{Fault, Line, read_line};
 use scarcity::spend;
 use std::alloc::Global;
 use std::fs;
@@ -185,4 +185,47 @@ fn serving_without_memory_says_so(rt: HostRuntime) -> Result<(), Fail> {
     ];
     sweep(&rt, line, &[], &windows, serving)?;
     Ok(fs::remove_file(&rt, "served.img")?)
+}
+
+/// What is read of words that ask for an image of 64 KiB at `x.img`: that line, want of memory, a
+/// fault of the words, or something else.
+fn reading(alloc: Global, words: &[String]) -> &'static str {
+    match read_line(alloc, words) {
+        Ok(Line::Format { image, kib }) => if image == "x.img" && kib == 64 {
+            "the line"
+        } else {
+            "another line"
+        },
+        Ok(_) => "another line",
+        Err(Fault::NoMemory) => "no memory",
+        Err(Fault::Words(_)) => "a fault of the words",
+        Err(_) => "another fault",
+    }
+}
+
+#[test]
+fn words_without_memory_say_so(rt: HostRuntime) -> Result<(), Fail> {
+    let alloc = rt.alloc();
+    for (number, expected) in [("64", "the line"), ("many", "a fault of the words")] {
+        let mut words = Vec::new(alloc);
+        for word in ["norbd", "format", "x.img", "--kib", number] {
+            words.push(format!(in alloc; "{word}")?)?;
+        }
+        let mut refused = 0usize;
+        let mut whole = 0usize;
+        for step in 0..64usize {
+            let held = spend(alloc, 512 * step)?;
+            let read = reading(alloc, words.as_slice());
+            drop(held);
+            if read == "no memory" {
+                refused = refused.saturating_add(1);
+                whole = 0;
+            } else {
+                assert_eq!(rt; read, expected, "step {step}");
+                whole = whole.saturating_add(1);
+            }
+        }
+        assert!(rt; refused > 0 && whole > 0, "{refused} and {whole}");
+    }
+    Ok(())
 }

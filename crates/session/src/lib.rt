@@ -21,8 +21,6 @@ mod next;
 mod receive;
 mod session;
 mod stage;
-#[cfg(test)]
-mod tests;
 
 pub use laws::{buffer_laws, parts_laws};
 pub use next::{Next, OpenError, Taken};

@@ -4,7 +4,7 @@ use Rattle.nbd_wire.specs.declared.command.CommandKind.{CommandKind}
 use Rattle.nbd_wire.specs.declared.command.CommandKind.TheVariants.{Read}
 use Rattle.nbd_wire.specs.Lent.{lent_len_of}
 use Rattle.session.specs.Lent.{IsFilled, lent_now}
-use Rattle.session.proofs.tests.answer_read.Goals as goal
+use Rattle.acceptance_nbd.proofs.sessions.answer_read.Goals as goal
 
 filled_read : (c : Command) (contents room : List ℕ) → c.kind ≡ Read → room ≡ take c.length (drop c.offset contents) → IsFilled c contents room
 filled_read c contents room kind h = rw kind h

@@ -4,10 +4,9 @@ ghost use Rattle.std.specs.Prelude.{◌≡◌, ◌+◌, ◌≤◌, Some, length}
 ghost use Rattle.nbd_transmission.specs.Apply.{reply_to};
 ghost use Rattle.session.specs.Sessions.{IsRunning, reply_of};
 
-use crate::laws::buffer_laws;
-use crate::next::{Next, OpenError, Taken};
-use crate::session::Session;
 use nbd_wire::{Command, CommandKind};
+use session::{Next, OpenError, Session, Taken, buffer_laws};
+use spelling::bytes_of;
 use std::alloc::Global;
 use std::process::Abort;
 use std::test::Fail;
@@ -102,47 +101,6 @@ fn name(next: Next) -> &'static str {
         Next::Run(_) => "Run",
         Next::Close => "Close",
     }
-}
-
-/// The bytes that a text spells: words of hexadecimal digits, and `BYTE*COUNT` for a byte so many
-/// times.
-fn bytes_of(alloc: Global, text: &str) -> Result<Vec<u8>, Fail> {
-    let mut bytes = Vec::new(alloc);
-    for word in text.split(' ') {
-        match word.split_once('*') {
-            Some((byte, count)) => push_times(&mut bytes, byte, count)?,
-            None => push_digits(&mut bytes, word)?,
-        }
-    }
-    Ok(bytes)
-}
-
-fn push_times(bytes: &mut Vec<u8>, byte: &str, count: &str) -> Result<(), Fail> {
-    let (Ok(byte), Ok(count)) = (u8::from_str_radix(byte, 16), count.parse::<u32>()) else {
-        return Err(Fail::from("no byte or no count"));
-    };
-    for _ in 0..count {
-        bytes.push(byte)?;
-    }
-    Ok(())
-}
-
-fn push_digits(bytes: &mut Vec<u8>, digits: &str) -> Result<(), Fail> {
-    let mut high = None;
-    for digit in digits.chars() {
-        let Some(digit) = digit.to_digit(16) else {
-            return Err(Fail::from("no digit"));
-        };
-        let digit = digit as u8;
-        high = match high {
-            None => Some(digit),
-            Some(high) => {
-                bytes.push(u8::wrapping_mul(16, high) | digit)?;
-                None
-            }
-        };
-    }
-    Ok(())
 }
 
 /// Each text in one piece and in pieces of one byte, on one session that is reset before each.
