@@ -4,8 +4,7 @@
 //! There is no product code here. `Recorder` is a bus over a simulated chip that counts its frames
 //! and keeps the codes of the first ones. Expected bytes and answers are those of the tables in
 //! docs/CHIP.md and docs/SFDP.md, worked out by hand, and tables of real parts. What stands above
-//! the driver is tested in `acceptance`, and the tests of a crate that has many stand in that
-//! crate.
+//! the driver is tested in `acceptance`.
 
 #![tactic(auto)]
 
@@ -17,6 +16,10 @@ mod chips;
 mod discovery;
 #[cfg(test)]
 mod frames;
+#[cfg(test)]
+mod images;
+#[cfg(test)]
+mod operations;
 #[cfg(test)]
 mod part_tables;
 #[cfg(test)]

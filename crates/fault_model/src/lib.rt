@@ -34,8 +34,6 @@ mod power;
 mod prompt;
 mod sim_chip;
 mod table;
-#[cfg(test)]
-mod tests;
 
 pub use error::SimError;
 pub use image::ImageBus;

@@ -1,16 +1,10 @@
 //! What the chip's tables say of single frames, and what a loss leaves by each mask.
 
-use super::*;
+use crate::chips::erased_chip;
 use chip_model::{PowerLost, SpiBus};
+use fault_model::{SimChip, SimError};
 use sfdp::{Params, read_params};
 use std::test::*;
-
-/// An erased chip of 64 KiB.
-fn erased_chip(rt: HostRuntime) -> Result<SimChip, Fail> {
-    let mut bytes = Vec::new(rt.alloc());
-    bytes.resize(65_536, 0xFF)?;
-    Ok(SimChip::new(bytes)?)
-}
 
 /// Status register 1.
 fn status(chip: &mut SimChip) -> Result<u8, PowerLost> {
@@ -51,7 +45,7 @@ fn id_and_reads_that_wrap(rt: HostRuntime) -> Result<(), Fail> {
 
 #[test]
 fn its_own_table(rt: HostRuntime) -> Result<(), Fail> {
-    let mut chip = erased_chip(rt)?;
+    let mut chip = erased_chip(rt, 65_536)?;
     let mut table = [0; 256];
     chip.transact(&[0x5A, 0, 0, 0, 0], &mut table)?;
     let params = Params {
@@ -72,7 +66,7 @@ fn its_own_table(rt: HostRuntime) -> Result<(), Fail> {
 
 #[test]
 fn protection_of_one_sixty_fourth(rt: HostRuntime) -> Result<(), Fail> {
-    let mut chip = erased_chip(rt)?;
+    let mut chip = erased_chip(rt, 65_536)?;
     send(&mut chip, &[0x06])?;
     send(&mut chip, &[0x01, 0x04])?;
     assert_eq!(rt; status(&mut chip), Ok(0x03));
@@ -107,7 +101,7 @@ fn is_accepted(chip: &mut SimChip, value: u8, page: u8) -> Result<bool, PowerLos
 
 #[test]
 fn each_protection_at_its_border(rt: HostRuntime) -> Result<(), Fail> {
-    let mut chip = erased_chip(rt)?;
+    let mut chip = erased_chip(rt, 65_536)?;
     let rows = [
         (0x00, 0x00, true),
         (0x00, 0xFF, true),
@@ -144,7 +138,7 @@ fn each_protection_at_its_border(rt: HostRuntime) -> Result<(), Fail> {
 
 #[test]
 fn more_than_a_page(rt: HostRuntime) -> Result<(), Fail> {
-    let mut chip = erased_chip(rt)?;
+    let mut chip = erased_chip(rt, 65_536)?;
     let mut frame = [0; 261];
     frame[0] = 0x02;
     frame[260] = 0xF0;
@@ -164,7 +158,7 @@ fn more_than_a_page(rt: HostRuntime) -> Result<(), Fail> {
 
 #[test]
 fn program_that_wraps_in_its_page(rt: HostRuntime) -> Result<(), Fail> {
-    let mut chip = erased_chip(rt)?;
+    let mut chip = erased_chip(rt, 65_536)?;
     send(&mut chip, &[0x06])?;
     send(&mut chip, &[0x02, 0x00, 0x00, 0xFE, 1, 2, 3, 4])?;
     let _busy = status(&mut chip)?;
@@ -195,7 +189,7 @@ fn is_cut_inside(chip: &mut SimChip, frame: &[u8], mask: u8) -> Result<bool, Pow
 #[test]
 fn programs_and_erases_cut_by_each_mask(rt: HostRuntime) -> Result<(), Fail> {
     for (mask, programmed) in [(0x00, 0xFF), (0xFF, 0x00), (0xA5, 0x5A)] {
-        let mut chip = erased_chip(rt)?;
+        let mut chip = erased_chip(rt, 65_536)?;
         assert_eq!(rt;
             is_cut_inside(&mut chip, &[0x02, 0, 0, 0, 0x00], mask),
             Ok(true)
@@ -214,7 +208,7 @@ fn programs_and_erases_cut_by_each_mask(rt: HostRuntime) -> Result<(), Fail> {
 #[test]
 fn status_writes_cut_by_each_mask(rt: HostRuntime) -> Result<(), Fail> {
     for (mask, set) in [(0x00, 0x00), (0xFF, 0x7C), (0xA5, 0x24)] {
-        let mut chip = erased_chip(rt)?;
+        let mut chip = erased_chip(rt, 65_536)?;
         assert_eq!(rt; is_cut_inside(&mut chip, &[0x01, 0x7C], mask), Ok(true));
         assert_eq!(rt; status(&mut chip), Ok(set));
     }
@@ -223,7 +217,7 @@ fn status_writes_cut_by_each_mask(rt: HostRuntime) -> Result<(), Fail> {
 
 #[test]
 fn frames_that_are_ignored(rt: HostRuntime) -> Result<(), Fail> {
-    let mut chip = erased_chip(rt)?;
+    let mut chip = erased_chip(rt, 65_536)?;
     send(&mut chip, &[0x06])?;
     let frames: [&[u8]; 24] = [
         &[],
@@ -262,7 +256,7 @@ fn frames_that_are_ignored(rt: HostRuntime) -> Result<(), Fail> {
 
 #[test]
 fn busy_chip_and_slow_operation(rt: HostRuntime) -> Result<(), Fail> {
-    let mut chip = erased_chip(rt)?;
+    let mut chip = erased_chip(rt, 65_536)?;
     chip.arm_slow();
     send(&mut chip, &[0x06])?;
     send(&mut chip, &[0xD8, 0, 0, 0])?;
