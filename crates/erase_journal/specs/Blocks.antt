@@ -5,6 +5,7 @@ use Rattle.chip_model.specs.Memory.{byte}
 use Rattle.chip_model.specs.Parts.{part}
 use Rattle.chip_model.specs.Geometry.{block_count}
 use Rattle.nor_layout.specs.declared.journal.JournalId.TheVariants.{J0}
+use Rattle.nor_layout.specs.Journals.{block_len}
 use Rattle.erase_journal.specs.Journals.{survey_of, first, second, entries_for}
 
 -- J0 is believed unless both others hold an open vote for its erase
@@ -14,11 +15,11 @@ is_believed0 m = not (nat_lt 0 (first (survey_of m) J0).opened
 
 -- an erased block
 unfoldable pub blank : List ℕ
-blank = replicate 4096 255
+blank = replicate block_len 255
 
 -- what block b represents: its bytes, but erased where the believed J0 holds an open entry for it
 unfoldable pub block : List ℕ → ℕ → List ℕ
-block m b = if is_believed0 m && nat_lt 0 (entries_for m b) then blank else part 4096 m b
+block m b = if is_believed0 m && nat_lt 0 (entries_for m b) then blank else part block_len m b
 
 -- f of each number from one on, so many
 unfoldable pub listed : (ℕ → List ℕ) → ℕ → ℕ → List (List ℕ)
@@ -31,12 +32,12 @@ blocks_of m = listed (block m) 4 (block_count (length m) - 4)
 
 -- FFh from block 1 on, as a format leaves it
 abbrev pub IsErasedBehind : List ℕ → Type 0
-IsErasedBehind m = (k : ℕ) → 4096 ≤ k → k < length m → byte m k ≡ 255
+IsErasedBehind m = (k : ℕ) → block_len ≤ k → k < length m → byte m k ≡ 255
 
 -- two memories of one length with the same superblock
 pub record SameChip (m m' : List ℕ) : Type 0 where
   pub same_length : length m' ≡ length m
-  pub superblock : (k : ℕ) → k < 4096 → byte m' k ≡ byte m k
+  pub superblock : (k : ℕ) → k < block_len → byte m' k ≡ byte m k
 
 -- and the same data blocks
 pub record SameBlocks (m m' : List ℕ) : Type 0 where

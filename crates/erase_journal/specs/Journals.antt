@@ -5,10 +5,10 @@ use Rattle.chip_model.specs.Memory.{byte}
 use Rattle.chip_model.specs.Geometry.{block_count}
 use Rattle.nor_layout.specs.declared.journal.JournalId.{JournalId}
 use Rattle.nor_layout.specs.declared.journal.JournalId.TheVariants.{J0, J1, J2}
-use Rattle.nor_layout.specs.Journals.{next, first_at, second_at}
+use Rattle.nor_layout.specs.Journals.{region_len, next, first_at, second_at}
 use Rattle.nor_layout.specs.declared.vote.Vote.TheVariants.{Unused, Open, Closed}
 use Rattle.nor_layout.specs.Votes.{byte_of}
-use Rattle.nor_layout.specs.Entries.{entry_at, block_in, is_open}
+use Rattle.nor_layout.specs.Entries.{entry_count, entry_at, block_in, is_open}
 use Rattle.erase_journal.specs.declared.phase.Phase.{Phase}
 use Rattle.erase_journal.specs.declared.phase.Phase.TheVariants.{Idle, Asked, Doomed, Closing}
 use Rattle.erase_journal.specs.declared.scan.VoteCounts.{VoteCounts}
@@ -17,13 +17,13 @@ use Rattle.erase_journal.specs.declared.unused.Unused as numbers
 use Rattle.erase_journal.specs.Places.{how_many}
 use Rattle.erase_journal.specs.Votes.{Last, renewed, second_spent}
 
--- The 1,024 votes of a region: how many are unused, open, and no vote.
+-- The votes of a region: how many are unused, open, and no vote.
 unfoldable pub votes_at : List ℕ → ℕ → VoteCounts
 votes_at m at = record {
-  unused = how_many (λ k. byte m (at + k) == byte_of Unused) 1024;
-  opened = how_many (λ k. byte m (at + k) == byte_of Open) 1024;
+  unused = how_many (λ k. byte m (at + k) == byte_of Unused) region_len;
+  opened = how_many (λ k. byte m (at + k) == byte_of Open) region_len;
   wrong = how_many (λ k. not (byte m (at + k) == byte_of Unused || byte m (at + k) == byte_of Open
-      || byte m (at + k) == byte_of Closed)) 1024;
+      || byte m (at + k) == byte_of Closed)) region_len;
 }
 
 -- byte j of entry i of J0, and its four bytes
@@ -47,14 +47,14 @@ abbrev pub is_open_entry : List ℕ → ℕ → Bool
 is_open_entry m i = is_open (block_count (length m)) (entry_bytes m i)
 
 unfoldable pub free_entries : List ℕ → ℕ
-free_entries m = how_many (is_free_entry m) 512
+free_entries m = how_many (is_free_entry m) entry_count
 
 unfoldable pub open_entries : List ℕ → ℕ
-open_entries m = how_many (is_open_entry m) 512
+open_entries m = how_many (is_open_entry m) entry_count
 
 -- the open entries for block b
 unfoldable pub entries_for : List ℕ → ℕ → ℕ
-entries_for m b = how_many (λ i. is_open_entry m i && entry_block m i == b) 512
+entries_for m b = how_many (λ i. is_open_entry m i && entry_block m i == b) entry_count
 
 -- all numbers of the journals of a memory
 abbrev pub survey_of : List ℕ → Survey

@@ -2,14 +2,16 @@
 use Rattle.std.specs.Prelude.{◌≡◌, ℕ, ◌<◌, ◌≤◌, List, length}
 use Rattle.chip_model.specs.Geometry.{IsChipSize, block_count}
 use Rattle.nor_layout.specs.declared.journal.JournalId.{JournalId}
+use Rattle.nor_layout.specs.Journals.{block_len}
 use Rattle.erase_journal.specs.declared.unused.Unused.{Unused}
 use Rattle.erase_journal.specs.Votes.{Last, IsLowestTired, once_erased}
 use Rattle.erase_journal.specs.Journals.{IsSettled}
 use Rattle.erase_journal.specs.Blocks.{block, blank, blocks_of, IsErasedBehind, SameBlocks}
 
--- a block has 4,096 bytes
+-- all blocks have one length
 abbrev pub BlocksHaveOneSize : Type 0
-BlocksHaveOneSize = (m : List ℕ) (b : ℕ) → b < block_count (length m) → length (block m b) ≡ 4096
+BlocksHaveOneSize = (m : List ℕ) (b : ℕ) → b < block_count (length m)
+    → length (block m b) ≡ block_len
 
 -- two memories with the same data blocks have the same list of them
 abbrev pub SameBlocksMakeOneList : Type 0

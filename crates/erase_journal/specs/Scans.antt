@@ -2,7 +2,8 @@
 use Rattle.std.specs.Prelude.{◌≡◌, ◌≢◌, ℕ, ◌+◌, ◌*◌, ◌<◌, Bool, true, false, not, List, [], ◌∷◌}
 use Rattle.std.specs.Prelude.{Option, MatchOption, ◌==◌, ◌||◌, ◌&&◌}
 use Rattle.chip_model.specs.Memory.{byte}
-use Rattle.nor_layout.specs.Entries.{is_open}
+use Rattle.nor_layout.specs.Journals.{region_len}
+use Rattle.nor_layout.specs.Entries.{entry_count, is_open}
 use Rattle.erase_journal.specs.declared.scan.OpenEntry.{OpenEntry}
 use Rattle.erase_journal.specs.Places.{how_many}
 use Rattle.erase_journal.specs.Journals.{free_entries, open_entries, is_free_entry, is_open_entry}
@@ -17,12 +18,12 @@ count_wrong xs n = how_many (λ k. not (byte xs k == 255 || byte xs k == 254 || 
 
 -- how many votes of a region have this byte
 unfoldable pub count_at : List ℕ → ℕ → ℕ → ℕ
-count_at m region value = how_many (λ k. byte m (region + k) == value) 1024
+count_at m region value = how_many (λ k. byte m (region + k) == value) region_len
 
 -- the lowest place in the region with this byte, or none has it
 abbrev pub IsFound : List ℕ → ℕ → ℕ → Option ℕ → Type 0
 IsFound m region value found = MatchOption found (count_at m region value ≡ 0)
-    (λ at. (at < 1024) × (byte m (region + at) ≡ value)
+    (λ at. (at < region_len) × (byte m (region + at) ≡ value)
     × ((k : ℕ) → k < at → byte m (region + k) ≢ value))
 
 -- whether entry i of a buffer is free, and how many of the first n are
@@ -48,9 +49,11 @@ open_in bytes blocks n = how_many (is_open_in bytes blocks) n
 -- the lowest free entry, or there is none
 abbrev pub IsFreeAnswer : List ℕ → Option ℕ → Type 0
 IsFreeAnswer m found = MatchOption found (free_entries m ≡ 0)
-    (λ i. (i < 512) × (is_free_entry m i ≡ true) × ((k : ℕ) → k < i → is_free_entry m k ≡ false))
+    (λ i. (i < entry_count) × (is_free_entry m i ≡ true)
+    × ((k : ℕ) → k < i → is_free_entry m k ≡ false))
 
 -- an open entry and its block, or there is none
 abbrev pub IsOpenAnswer : List ℕ → Option OpenEntry → Type 0
 IsOpenAnswer m found = MatchOption found (open_entries m ≡ 0)
-    (λ o. (o.entry < 512) × (is_open_entry m o.entry ≡ true) × (entry_block m o.entry ≡ o.block))
+    (λ o. (o.entry < entry_count) × (is_open_entry m o.entry ≡ true)
+    × (entry_block m o.entry ≡ o.block))

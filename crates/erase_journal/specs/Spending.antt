@@ -3,6 +3,7 @@
 use Rattle.std.specs.Prelude.{◌≡◌, ◌≢◌, ℕ, ◌-◌, ◌<◌, false, List}
 use Rattle.nor_layout.specs.declared.journal.JournalId.{JournalId}
 use Rattle.nor_layout.specs.declared.journal.JournalId.TheVariants.{J0, J1, J2}
+use Rattle.nor_layout.specs.Entries.{entry_count}
 use Rattle.erase_journal.specs.declared.phase.Phase.{Phase}
 use Rattle.erase_journal.specs.declared.unused.Unused.{Unused}
 use Rattle.erase_journal.specs.Votes.{IsLowestTired, IsRested, once_erased}
@@ -37,9 +38,9 @@ pub record Continues (m m' : List ℕ) : Type 0 where
 pub record IsUsed (i : ℕ) (m m' : List ℕ) : Type 0 where
   pub numbers : SameNumbers (once_used (unused m)) (unused m')
   pub here : is_free_entry m' i ≡ false
-  pub others : (k : ℕ) → k < 512 → k ≢ i → is_free_entry m' k ≡ is_free_entry m k
+  pub others : (k : ℕ) → k < entry_count → k ≢ i → is_free_entry m' k ≡ is_free_entry m k
 
 -- no vote and no entry is used
 pub record KeepsUse (m m' : List ℕ) : Type 0 where
   pub numbers : SameNumbers (unused m) (unused m')
-  pub entries : (k : ℕ) → k < 512 → is_free_entry m' k ≡ is_free_entry m k
+  pub entries : (k : ℕ) → k < entry_count → is_free_entry m' k ≡ is_free_entry m k

@@ -1,8 +1,10 @@
 -- What the functions of the journal leave. Source: own.
-use Rattle.std.specs.Prelude.{◌≡◌, ◌≢◌, ℕ, ◌+◌, ◌*◌, ◌<◌, true, List}
+use Rattle.std.specs.Prelude.{◌≡◌, ◌≢◌, ℕ, ◌+◌, ◌<◌, true, List}
 use Rattle.chip_model.specs.Memory.{byte}
 use Rattle.nor_layout.specs.declared.journal.JournalId.{JournalId}
 use Rattle.nor_layout.specs.declared.journal.JournalId.TheVariants.{J0, J1, J2}
+use Rattle.nor_layout.specs.Journals.{region_len}
+use Rattle.nor_layout.specs.Entries.{entry_count, entry_at}
 use Rattle.nor_driver.specs.State.{NorState, IsNorReady, OnlyMemoryChanges}
 use Rattle.erase_journal.specs.declared.phase.Phase.{Phase}
 use Rattle.erase_journal.specs.declared.phase.Phase.TheVariants.{Idle}
@@ -31,10 +33,10 @@ pub record SucceedsSettled (old new : NorState) : Type 0 where
   pub kept : OnlyMemoryChanges old new
   pub settled : IsSettled new.memory
 
--- the lowest byte with the old value has changed in a region of 1,024 bytes
+-- the lowest byte with the old value has changed in a region
 pub record OneChanged (place old new : ℕ) (m m' : List ℕ) : Type 0 where
   pub at : ℕ
-  pub within : at < 1024
+  pub within : at < region_len
   pub lowest : (k : ℕ) → k < at → byte m (place + k) ≢ old
   pub change : Changed (place + at) old new m m'
 
@@ -77,13 +79,13 @@ pub record IsRestful (m : List ℕ) : Type 0 where
 -- entry i is open for block c, which so reads as erased
 pub record IsOpened (i c : ℕ) (m : List ℕ) : Type 0 where
   pub sound : AreJournalsSound Idle m
-  pub within : i < 512
+  pub within : i < entry_count
   pub opened : is_open_entry m i ≡ true
   pub names : entry_block m i ≡ c
 
 -- what taking a free entry for block c leaves
 pub record IsTaken (i c : ℕ) (m m' : List ℕ) : Type 0 where
-  pub spoiled : Spoiled (6144 + 4 * i) 4 m m'
+  pub spoiled : Spoiled (entry_at i) 4 m m'
   pub state : entry_byte m' i 0 ≡ 254
   pub last : entry_byte m' i 3 ≡ 255
   pub names : entry_block m' i ≡ c

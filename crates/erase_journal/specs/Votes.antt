@@ -3,6 +3,8 @@
 use Rattle.std.specs.Prelude.{◌≡◌, ◌⊎◌, ◌-◌, ◌<◌, ◌≤◌, Option, Some, None}
 use Rattle.nor_layout.specs.declared.journal.JournalId.{JournalId}
 use Rattle.nor_layout.specs.declared.journal.JournalId.TheVariants.{J0, J1, J2}
+use Rattle.nor_layout.specs.Journals.{region_len}
+use Rattle.nor_layout.specs.Entries.{entry_count}
 use Rattle.erase_journal.specs.declared.unused.Unused.{Unused}
 
 -- a journal is tired where one of its regions has fewer than 4 unused votes, J0 also where it has
@@ -54,9 +56,9 @@ Needs1 u = (u.j2_for_1 ≡ 1) ⊎ ((u.j2_for_0 ≡ 1) × (u.j0_for_1 ≡ 4))
 
 -- the numbers once journal x is blank: all votes of its own, J0 also all entries
 abbrev pub renewed : JournalId → Unused → Unused
-renewed J0 u = record u { j0_for_1 = 1024; j0_for_2 = 1024; free = 512 }
-renewed J1 u = record u { j1_for_0 = 1024; j1_for_2 = 1024 }
-renewed J2 u = record u { j2_for_0 = 1024; j2_for_1 = 1024 }
+renewed J0 u = record u { j0_for_1 = region_len; j0_for_2 = region_len; free = entry_count }
+renewed J1 u = record u { j1_for_0 = region_len; j1_for_2 = region_len }
+renewed J2 u = record u { j2_for_0 = region_len; j2_for_1 = region_len }
 
 -- the numbers once the next journal spent a vote for the erase of x
 abbrev pub first_spent : JournalId → Unused → Unused
