@@ -61,9 +61,9 @@ has_power true lost h e = absurd (not_both lost (h refl) e)
 has_power false lost h e = refl
 
 -- where a Cut was latched, or came where no Slow was latched: without the first no Slow was latched
-pub was_quiet : (cut slow : Bool) (A : Type 0) → (cut ≡ true) ⊎ ((slow ≡ false) × A) → cut ≡ false → slow ≡ false
-was_quiet cut slow A (inl stood) e = absurd (not_both cut stood e)
-was_quiet cut slow A (inr came) e = came.0
+pub was_quiet : (cut slow : Bool) (A B : Type 0) → (cut ≡ true) ⊎ (A × (slow ≡ false) × B) → cut ≡ false → slow ≡ false
+was_quiet cut slow A B (inl stood) e = absurd (not_both cut stood e)
+was_quiet cut slow A B (inr came) e = came.1
 
 -- a row with error 0
 pub kept-ok : (n : ℕ) (f f' : Facts) (base : List ℕ) (rows : List Row) (int : Option Interrupted) (c : Command) (conn : ℕ) (bytes bytes' : List ℕ)

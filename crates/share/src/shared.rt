@@ -2,21 +2,19 @@
 
 ghost use Rattle.std.specs.Prelude.{◌≡◌, ◌⊎◌, ℕ, ◌+◌, ◌*◌, ◌/◌, ◌%◌, ◌<◌, ◌≤◌, ◌^◌, ◌↔◌, List, []};
 ghost use Rattle.std.specs.Prelude.{◌∷◌, ◌++◌, length, Bool, true, false, Option, Some, None};
-ghost use Rattle.std.specs.Prelude.{IfSome, IfNone, IsSome, OnSome, IfOk, IfErr, OnOk, OnErr};
-ghost use Rattle.std.specs.Prelude.{IsErrOf, MatchResult, vec_len, sum_by};
-ghost use Rattle.block_device.specs.Contents.{Outcome};
+ghost use Rattle.std.specs.Prelude.{IfSome, IfNone, IsSome, OnSome, IfOk, IfErr, OnErr};
+ghost use Rattle.std.specs.Prelude.{MatchResult, vec_len, sum_by};
 ghost use Rattle.block_device.specs.Facts.{Facts, CountsNeverFall, Tidies};
-ghost use Rattle.nbd_wire.specs.Commands.{judge_of, moves_data};
-ghost use Rattle.nbd_transmission.specs.Apply.{changed_by, data_of};
-ghost use Rattle.nbd_wire.specs.Lent.{lent_len, is_read, reply_in};
+ghost use Rattle.nbd_wire.specs.Commands.{judge_of};
+ghost use Rattle.nbd_wire.specs.Lent.{lent_len};
 ghost use Rattle.share.specs.History.{row_of, rows_with};
 ghost use Rattle.share.specs.Doing.{one_more};
 
 use crate::pass::{Counts, OneServer, Pass};
 use crate::recorder::{Bytes, FullRecord, NoRecord, Recorder, Row};
 use block_device::{Disk, DiskError};
-use nbd_transmission::first_sector;
-use nbd_wire::{Command, CommandKind, EIO, ENOMEM, SECTOR_LEN};
+use disk_command::run;
+use nbd_wire::{Command, EIO, ENOMEM, SECTOR_LEN};
 use std::alloc::Global;
 use std::marker::Model;
 use std::sync::ledger::Blank;
@@ -334,47 +332,5 @@ fn note<R: Recorder, L: OneServer>(
     recorder.add(pass.connection(), command, error, bytes);
     if R::KEEPS {
         counts.add(pass);
-    }
-}
-
-/// Runs an accepted command on the disk.
-fn run<D: Disk>(
-    disk: &mut D,
-    command: &Command,
-    sectors: u32,
-    bytes: &mut [u8],
-) -> Result<(), DiskError>
-    requires accepted { judge_of command.now sectors ≡ None }
-    requires size { length (D.facts disk.old).contents ≡ 512 * sectors }
-    requires lent { length bytes.old ≡ lent_len command.now }
-    ensures goes { CountsNeverFall (D.facts disk.old) (D.facts disk.new) }
-    ensures sound { (D.facts disk.new).sound ≡ (D.facts disk.old).sound }
-    ensures kept { is_read command.now ≡ false → bytes.new ≡ bytes.old }
-    ensures contents { OnOk result ((D.facts disk.old).sound ≡ true
-        → (D.facts disk.new).contents ≡ changed_by (D.facts disk.old).contents command.now
-        bytes.old) }
-    ensures reply { OnOk result ((D.facts disk.old).sound ≡ true
-        → reply_in command.now 0 bytes.new ≡ data_of (D.facts disk.old).contents command.now) }
-    ensures left { IsErrOf result DiskError.Cut → (D.facts disk.old).sound ≡ true
-        → Outcome (D.facts disk.old).contents
-        (changed_by (D.facts disk.old).contents command.now bytes.old) (D.facts disk.new).contents }
-    ensures ok { OnOk result (((D.facts disk.old).cut ≡ false) × ((D.facts disk.new).cut ≡ false)
-        × ((D.facts disk.new).slow ≡ (D.facts disk.old).slow)
-        × (moves_data command.now.kind ≡ true → (D.facts disk.old).slow ≡ false)) }
-    ensures cut { IsErrOf result DiskError.Cut
-        → (((D.facts disk.old).cut ≡ true)
-        ⊎ (((D.facts disk.old).slow ≡ false) × ((D.facts disk.old).cuts < (D.facts disk.new).cuts)))
-        × ((D.facts disk.new).cut ≡ true) × ((D.facts disk.new).slow ≡ (D.facts disk.old).slow) }
-    ensures slow { IsErrOf result DiskError.Slow
-        → (moves_data command.now.kind ≡ true) × ((D.facts disk.old).cut ≡ false)
-        × (((D.facts disk.old).slow ≡ true) ⊎ ((D.facts disk.old).slows < (D.facts disk.new).slows))
-        × ((D.facts disk.new).cut ≡ false) × ((D.facts disk.new).slow ≡ true) }
-{
-    match command.kind {
-        CommandKind::Read => disk.read(first_sector(command, sectors), bytes),
-        CommandKind::Write => disk.write(first_sector(command, sectors), bytes),
-        CommandKind::Flush => disk.flush(),
-        CommandKind::Disconnect => unreachable!(),
-        CommandKind::Unknown(_) => unreachable!(),
     }
 }

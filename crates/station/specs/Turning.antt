@@ -1,15 +1,13 @@
 -- What one unit, and one piece, of a connection does: the layer below an event. Words of private
 -- functions: no claim rests on them. Source: own.
-use Rattle.std.specs.Prelude.{◌≡◌, ◌⊎◌, ℕ, ◌<◌, ◌≤◌, Bool, true, false, List, [], ◌∷◌, ◌++◌, length}
-use Rattle.std.specs.Prelude.{Option, Result, Ok, Err}
+use Rattle.std.specs.Prelude.{◌≡◌, ℕ, ◌<◌, ◌≤◌, Bool, true, false, List, [], ◌∷◌, ◌++◌, length}
+use Rattle.std.specs.Prelude.{Option}
 use Rattle.std.specs.Io.KnownBytes.{Appends}
-use Rattle.block_device.specs.declared.disk.DiskError.{DiskError}
-use Rattle.block_device.specs.declared.disk.DiskError.TheVariants.{Cut, Slow}
 use Rattle.block_device.specs.Facts.{Facts}
 use Rattle.block_device.specs.Contents.{Outcome}
 use Rattle.nbd_wire.specs.declared.command.Command.{Command}
 use Rattle.nbd_wire.specs.Commands.{moves_data}
-use Rattle.nbd_transmission.specs.Apply.{applied, changed_by}
+use Rattle.nbd_transmission.specs.Apply.{applied}
 use Rattle.nbd_wire.specs.declared.phase.Phase.TheVariants.{AwaitingFlags}
 use Rattle.session.specs.Sessions.{SessionState}
 use Rattle.session.specs.Parts.{Part, ForDisk, Gains, closes, closed}
@@ -21,23 +19,6 @@ use Rattle.station.specs.Answers.{reply_of_part, after_part, after_parts, replie
 use Rattle.station.specs.Records.{replied}
 use Rattle.station.specs.World.{Lacked}
 use Rattle.station.specs.Board.{ServesText}
-
--- what a run of an accepted command leaves of the contents
-abbrev pub CommandLeaves : {T : Type 0} → List ℕ → Command → List ℕ → Result T DiskError → List ℕ
-    → Type 0
-CommandLeaves old command payload (Ok _) new = new ≡ changed_by old command payload
-CommandLeaves old command payload (Err Cut) new = Outcome old (changed_by old command payload) new
-CommandLeaves old command payload (Err Slow) new = Unit {0}
-
--- what stands before and after it; a FLUSH is never cut or slow itself
-abbrev pub CommandLatches : {T : Type 0} → Command → Facts → Result T DiskError → Facts → Type 0
-CommandLatches command old (Ok _) new =
-    (old.cut ≡ false) × (new.cut ≡ false) × (new.slow ≡ old.slow)
-CommandLatches command old (Err Cut) new =
-    ((old.cut ≡ true) ⊎ ((moves_data command.kind ≡ true) × (old.cuts < new.cuts)))
-    × (new.cut ≡ true) × (new.slow ≡ old.slow)
-CommandLatches command old (Err Slow) new =
-    ((old.slow ≡ true) ⊎ (old.slows < new.slows)) × (new.cut ≡ false) × (new.slow ≡ true)
 
 -- one connection at work: the disk, its session, and what was written so far
 pub record Desk : Type 0 where

@@ -1,50 +1,18 @@
-//! One accepted command, run on the disk.
+//! The command of a session, run on the disk.
 
-ghost use Rattle.std.specs.Prelude.{◌≡◌, ◌⊎◌, ℕ, ◌+◌, ◌*◌, ◌<◌, ◌≤◌, List, length, true, false};
-ghost use Rattle.std.specs.Prelude.{None, Some, OnOk, IsErrOf};
+ghost use Rattle.std.specs.Prelude.{◌≡◌, ℕ, ◌*◌, List, length, true, OnOk, IsErrOf};
 ghost use Rattle.block_device.specs.Facts.{CountsNeverFall};
 ghost use Rattle.nbd_wire.specs.declared.phase.Phase.TheVariants.{AwaitingFlags};
-ghost use Rattle.nbd_wire.specs.Commands.{judge_of};
-ghost use Rattle.nbd_wire.specs.Lent.{lent_len, payload_in};
+ghost use Rattle.nbd_wire.specs.Lent.{payload_in};
 ghost use Rattle.nbd_transmission.specs.Apply.{head_of, reply_to};
-ghost use Rattle.session.specs.Lent.{IsFilled};
 ghost use Rattle.session.specs.Sessions.{IsRunning, SessionRepresents, is_closed, reply_of};
 ghost use Rattle.session.specs.Sessions.{room_of};
-ghost use Rattle.station.specs.Turning.{CommandLeaves, CommandLatches};
+ghost use Rattle.disk_command.specs.Effects.{CommandLeaves, CommandLatches};
 
 use block_device::{Disk, DiskError};
-use nbd_transmission::first_sector;
-use nbd_wire::{Command, CommandKind, EIO};
+use disk_command::run;
+use nbd_wire::{Command, EIO};
 use session::{Session, buffer_laws};
-
-/// Runs an accepted command over the bytes that are lent to it: a WRITE's payload, or the room for
-/// a READ's data.
-pub(crate) fn execute<D: Disk>(
-    disk: &mut D,
-    command: &Command,
-    sectors: u32,
-    bytes: &mut [u8],
-) -> Result<(), DiskError>
-    requires accepted { judge_of command.now sectors ≡ None }
-    requires size { length (D.facts disk.old).contents ≡ 512 * sectors }
-    requires lent { length bytes.old ≡ lent_len command.now }
-    ensures contents { (D.facts disk.old).sound ≡ true
-        → CommandLeaves (D.facts disk.old).contents command.now (payload_in command.now bytes.old)
-        result (D.facts disk.new).contents }
-    ensures filled { OnOk result ((D.facts disk.old).sound ≡ true
-        → IsFilled command.now (D.facts disk.old).contents bytes.new) }
-    ensures sound { (D.facts disk.new).sound ≡ (D.facts disk.old).sound }
-    ensures goes { CountsNeverFall (D.facts disk.old) (D.facts disk.new) }
-    ensures stands { CommandLatches command.now (D.facts disk.old) result (D.facts disk.new) }
-{
-    match command.kind {
-        CommandKind::Read => disk.read(first_sector(command, sectors), bytes),
-        CommandKind::Write => disk.write(first_sector(command, sectors), bytes),
-        CommandKind::Flush => disk.flush(),
-        CommandKind::Disconnect => unreachable!(),
-        CommandKind::Unknown(_) => unreachable!(),
-    }
-}
 
 /// Runs the command that a session handed out, and has the session make its reply. After a Cut
 /// there is none.
@@ -73,7 +41,7 @@ pub(crate) fn run_command<D: Disk>(
 {
     buffer_laws();
     let sectors = disk.sectors();
-    let result = execute(disk, command, sectors, session.buffer());
+    let result = run(disk, command, sectors, session.buffer());
     match result {
         Ok(()) => session.finish(0),
         Err(DiskError::Slow) => session.finish(EIO),

@@ -59,7 +59,7 @@ returns-in-Err-Cut-clause-says g c = λ quiet.
     let stands = rw c.in-Err-Cut.field-0-is at c.in-Err-Cut.ensures.stands in
     let old = g.D.Disk.facts c.args.disk.now in
     let new = g.D.Disk.facts c.run_command.new.disk in
-    let moves : (moves_data c.in-Run.command.kind ≡ true) × (old.cuts < new.cuts) = elim stands.0 [ inl h ↦ absurd (false≢true (sym quiet.cut ∙ h)) | inr h ↦ h ] in
+    let moves : (moves_data c.in-Run.command.kind ≡ true) × (old.cuts < new.cuts) = elim stands.0 [ inl h ↦ absurd (false≢true (sym quiet.cut ∙ h)) | inr h ↦ (h.0, h.2) ] in
     record {
       power = (stands.1, moves.1);
       slow = stands.2 ∙ quiet.slow;

@@ -1,7 +1,5 @@
 use Rattle.std.proofs.Common.{◌≡◌, true, false, List, ◌∙◌, ap, length, refl, sym, inl, inr, Some, rules}
 use Rattle.std.proofs.lemmas.Bool.{both_ways}
-use Rattle.std.specs.Prelude.{Err}
-use Rattle.block_device.specs.declared.disk.DiskError.{DiskError}
 use Rattle.share.specs.declared.recorder.Interrupted.{Interrupted}
 use Rattle.share.specs.declared.recorder.Row.{Row}
 use Rattle.share.proofs.Kept.{has_power, interrupted-same, kept-lost, kept-row-ok, kept-row-slow, was_quiet}
@@ -18,11 +16,11 @@ invariant_of-self-in-Ok g c =
       counted = n.counted;
       fits = n.fits (rw p.rows inv.fits);
       lost = λ l. absurd (both_ways _ c.if-lost.false l);
-      stands = λ k s. absurd (both_ways _ r.ok.1 s);
+      stands = λ k s. absurd (both_ways _ r.stands.1 s);
       kept = λ k. kept-row-ok R.KEEPS g.L.OneServer.sectors (D.facts was.disk) (D.facts c.run.new.disk)
           (R.base was.recorder) (R.base c.prepare.new.self) (R.base c.note.new.recorder) (R.rows was.recorder) (R.rows c.prepare.new.self) (R.rows c.note.new.recorder)
           (R.interrupted was.recorder) (R.interrupted c.prepare.new.self) (R.interrupted c.note.new.recorder) c.args.command.now c.args.pass.now.connection c.args.data.now c.run.new.bytes
-          k (inv.kept k) c.requires.accepted c.run.auto.bytes c.requires.lent r.kept r.sound r.contents r.reply r.ok.0 r.ok.1 r.ok.2 r.ok.3
+          k (inv.kept k) c.requires.accepted c.run.auto.bytes c.requires.lent r.kept r.sound r.contents r.reply r.stands.0 r.stands.1 r.stands.2 r.stands.3
           p.base n.base p.interrupted n.interrupted p.rows n.rows;
     }
 
@@ -31,7 +29,7 @@ invariant_of-self-in-Err-Slow g c =
     let inv = c.self.invariant in let p = c.prepare.ensures in let r = c.in-Err-Slow.ensures in let n = c.note-in-Err-Slow.ensures in
     let was = c.self.inside in
     let D = g.D.Disk in let R = g.R.Recorder in
-    let s = r.slow (ap (λ (x : DiskError). Err x) c.in-Err-Slow.field-0-is) in
+    let s = rw c.in-Err-Slow.field-0-is at r.stands in
     record {
       sectors = r.goes.size ∙ inv.sectors;
       parts = inv.parts;
@@ -51,8 +49,8 @@ invariant_of-self-in-Err-Cut g c =
     let inv = c.self.invariant in let p = c.prepare.ensures in let r = c.in-Err-Cut.ensures in let i = c.interrupt.ensures in
     let was = c.self.inside in
     let D = g.D.Disk in let R = g.R.Recorder in
-    let e = ap (λ (x : DiskError). Err x) c.in-Err-Cut.field-0-is in
-    let s = r.cut e in
+    let s = rw c.in-Err-Cut.field-0-is at r.stands in
+    let left = rw c.in-Err-Cut.field-0-is at r.contents in
     let had : R.KEEPS ≡ true → (D.facts was.disk).cut ≡ false = λ k. has_power _ _ (inv.stands k) c.if-lost.false in
     record {
       sectors = r.goes.size ∙ inv.sectors;
@@ -64,7 +62,7 @@ invariant_of-self-in-Err-Cut g c =
       kept = λ k. kept-lost R.KEEPS g.L.OneServer.sectors (D.facts was.disk) (D.facts c.run.new.disk)
           (R.base was.recorder) (R.base c.prepare.new.self) (R.base c.interrupt.new.self) (R.rows was.recorder) (R.rows c.prepare.new.self) (R.rows c.interrupt.new.self)
           (R.interrupted was.recorder) (R.interrupted c.interrupt.new.self) c.args.command.now c.args.data.now c.run.new.bytes
-          k (inv.kept k) r.kept r.sound (r.left e) (had k) (was_quiet _ _ _ s.0 (had k)) s.1 s.2
+          k (inv.kept k) r.kept r.sound left (had k) (was_quiet _ _ _ _ s.0 (had k)) s.1 s.2
           p.base i.base p.rows i.rows i.interrupted;
     }
 
@@ -72,8 +70,8 @@ pub returns-in-Err-Cut : goal.returns-in-Err-Cut
 returns-in-Err-Cut g c =
     let p = c.prepare.ensures in let r = c.in-Err-Cut.ensures in let i = c.interrupt.ensures in
     let R = g.R.Recorder in
-    let e = ap (λ (x : DiskError). Err x) c.in-Err-Cut.field-0-is in
-    let s = r.cut e in
+    let s = rw c.in-Err-Cut.field-0-is at r.stands in
+    let left = rw c.in-Err-Cut.field-0-is at r.contents in
     rw (← c.self.view_is) record {
       executes = record {
         replied = tt;
@@ -81,9 +79,9 @@ returns-in-Err-Cut g c =
           rows = i.rows ∙ p.rows;
           counts = refl {a = c.args.pass.now.count};
           stands = s.1;
-          cause = elim s.0 [ inl stood ↦ inl stood | inr came ↦ inr came.1 ];
+          cause = elim s.0 [ inl stood ↦ inl stood | inr came ↦ inr came.2 ];
           lost = refl;
-          left = r.left e;
+          left = left;
           interrupted = λ k _. i.interrupted k ∙ ap (λ (x : Interrupted). Some x) (interrupted-same c.args.command.now c.args.data.now c.run.new.bytes r.kept);
         };
         connection = refl {a = c.args.pass.now.connection};

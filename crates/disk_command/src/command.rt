@@ -1,0 +1,42 @@
+//! The command.
+
+ghost use Rattle.std.specs.Prelude.{◌≡◌, ◌*◌, length, true, false, None, OnOk};
+ghost use Rattle.block_device.specs.Facts.{CountsNeverFall};
+ghost use Rattle.nbd_wire.specs.Commands.{judge_of};
+ghost use Rattle.nbd_wire.specs.Lent.{is_read, lent_len, reply_in};
+ghost use Rattle.nbd_transmission.specs.Apply.{data_of};
+ghost use Rattle.disk_command.specs.Effects.{CommandLeaves, CommandLatches};
+
+use block_device::{Disk, DiskError};
+use nbd_transmission::first_sector;
+use nbd_wire::{Command, CommandKind};
+
+/// Runs an accepted command on a disk of so many sectors, over the bytes that are lent to it: a
+/// WRITE's payload, the room for a READ's data, none for a FLUSH.
+pub fn run<D: Disk>(
+    disk: &mut D,
+    command: &Command,
+    sectors: u32,
+    bytes: &mut [u8],
+) -> Result<(), DiskError>
+    requires accepted { judge_of command.now sectors ≡ None }
+    requires size { length (D.facts disk.old).contents ≡ 512 * sectors }
+    requires lent { length bytes.old ≡ lent_len command.now }
+    ensures contents { (D.facts disk.old).sound ≡ true
+        → CommandLeaves (D.facts disk.old).contents command.now bytes.old result
+        (D.facts disk.new).contents }
+    ensures reply { OnOk result ((D.facts disk.old).sound ≡ true
+        → reply_in command.now 0 bytes.new ≡ data_of (D.facts disk.old).contents command.now) }
+    ensures kept { is_read command.now ≡ false → bytes.new ≡ bytes.old }
+    ensures sound { (D.facts disk.new).sound ≡ (D.facts disk.old).sound }
+    ensures goes { CountsNeverFall (D.facts disk.old) (D.facts disk.new) }
+    ensures stands { CommandLatches command.now (D.facts disk.old) result (D.facts disk.new) }
+{
+    match command.kind {
+        CommandKind::Read => disk.read(first_sector(command, sectors), bytes),
+        CommandKind::Write => disk.write(first_sector(command, sectors), bytes),
+        CommandKind::Flush => disk.flush(),
+        CommandKind::Disconnect => unreachable!(),
+        CommandKind::Unknown(_) => unreachable!(),
+    }
+}
