@@ -2,8 +2,8 @@
 
 ghost use Rattle.std.specs.Prelude.{◌≡◌, ◌*◌, length, true, false, None, OnOk};
 ghost use Rattle.block_device.specs.Facts.{CountsNeverFall};
-ghost use Rattle.nbd_wire.specs.Commands.{judge_of};
-ghost use Rattle.nbd_wire.specs.Lent.{is_read, lent_len, reply_in};
+ghost use Rattle.nbd_wire.specs.Commands.{is_read, judge_of};
+ghost use Rattle.nbd_wire.specs.Lent.{lent_len, reply_in};
 ghost use Rattle.nbd_transmission.specs.Apply.{data_of};
 ghost use Rattle.disk_command.specs.Effects.{CommandLeaves, CommandLatches};
 
@@ -27,7 +27,7 @@ pub fn run<D: Disk>(
         (D.facts disk.new).contents }
     ensures reply { OnOk result ((D.facts disk.old).sound ≡ true
         → reply_in command.now 0 bytes.new ≡ data_of (D.facts disk.old).contents command.now) }
-    ensures kept { is_read command.now ≡ false → bytes.new ≡ bytes.old }
+    ensures kept { is_read command.now.kind ≡ false → bytes.new ≡ bytes.old }
     ensures sound { (D.facts disk.new).sound ≡ (D.facts disk.old).sound }
     ensures goes { CountsNeverFall (D.facts disk.old) (D.facts disk.new) }
     ensures stands { CommandLatches command.now (D.facts disk.old) result (D.facts disk.new) }

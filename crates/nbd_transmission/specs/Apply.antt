@@ -5,32 +5,25 @@ use Rattle.std.specs.Prelude.{if◌then◌else◌}
 use Rattle.nbd_wire.specs.Numbers.{REQUEST_LEN}
 use Rattle.nbd_wire.specs.declared.command.Command.{Command}
 use Rattle.nbd_wire.specs.declared.command.CommandKind.{CommandKind}
-use Rattle.nbd_wire.specs.declared.command.CommandKind.TheVariants.{Read, Write, Disconnect, Flush}
-use Rattle.nbd_wire.specs.declared.command.CommandKind.TheVariants.{Unknown}
 use Rattle.nbd_wire.specs.declared.request.Request.{Request}
 use Rattle.nbd_wire.specs.Heads.{reply_bytes, request_at}
-use Rattle.nbd_wire.specs.Commands.{command_in, is_disconnect, judge_of, command_kind}
+use Rattle.nbd_wire.specs.Commands.{command_in, is_disconnect, is_read, is_write, judge_of}
+use Rattle.nbd_wire.specs.Commands.{command_kind}
 use Rattle.nbd_wire.specs.Lent.{reply_in}
 
 -- the data of an accepted command's reply: the bytes of a READ's range
 abbrev pub data_of_kind : CommandKind → List ℕ → Command → List ℕ
-data_of_kind Read contents c = take c.length (drop c.offset contents)
-data_of_kind Write contents c = []
-data_of_kind Disconnect contents c = []
-data_of_kind Flush contents c = []
-data_of_kind (Unknown n) contents c = []
+data_of_kind kind contents c =
+    if is_read kind then take c.length (drop c.offset contents) else []
 
 abbrev pub data_of : List ℕ → Command → List ℕ
 data_of contents c = data_of_kind c.kind contents c
 
 -- the contents after an accepted command: a WRITE's payload replaces the bytes of its range
 abbrev pub changed_kind : CommandKind → List ℕ → Command → List ℕ → List ℕ
-changed_kind Read contents c payload = contents
-changed_kind Write contents c payload =
-    take c.offset contents ++ payload ++ drop (c.offset + length payload) contents
-changed_kind Disconnect contents c payload = contents
-changed_kind Flush contents c payload = contents
-changed_kind (Unknown n) contents c payload = contents
+changed_kind kind contents c payload = if is_write kind
+    then take c.offset contents ++ payload ++ drop (c.offset + length payload) contents
+    else contents
 
 abbrev pub changed_by : List ℕ → Command → List ℕ → List ℕ
 changed_by contents c payload = changed_kind c.kind contents c payload

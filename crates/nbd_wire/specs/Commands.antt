@@ -28,27 +28,24 @@ command_in r = record {
   length = r.length;
 }
 
--- the commands that are answered by a reply with error 0 where nothing is wrong with them
-abbrev pub is_served : CommandKind → Bool
-is_served Read = true
-is_served Write = true
-is_served Flush = true
-is_served Disconnect = false
-is_served (Unknown n) = false
-
-abbrev pub is_flush : CommandKind → Bool
-is_flush Flush = true
-is_flush _ = false
+abbrev pub is_read : CommandKind → Bool
+is_read Read = true
+is_read _ = false
 
 abbrev pub is_write : CommandKind → Bool
 is_write Write = true
 is_write _ = false
 
--- READ and WRITE
+abbrev pub is_flush : CommandKind → Bool
+is_flush Flush = true
+is_flush _ = false
+
 abbrev pub moves_data : CommandKind → Bool
-moves_data Read = true
-moves_data Write = true
-moves_data _ = false
+moves_data kind = is_read kind || is_write kind
+
+-- the commands that are answered by a reply with error 0 where nothing is wrong with them
+abbrev pub is_served : CommandKind → Bool
+is_served kind = moves_data kind || is_flush kind
 
 abbrev pub is_disconnect : CommandKind → Bool
 is_disconnect Disconnect = true

@@ -3,8 +3,7 @@
 use Rattle.std.specs.Prelude.{ℕ, ◌≡◌, false, List, [], Option, Some, None}
 use Rattle.nbd_wire.specs.declared.command.Command.{Command}
 use Rattle.nbd_wire.specs.declared.command.CommandKind.{CommandKind}
-use Rattle.nbd_wire.specs.declared.command.CommandKind.TheVariants.{Read, Write, Disconnect, Flush}
-use Rattle.nbd_wire.specs.declared.command.CommandKind.TheVariants.{Unknown}
+use Rattle.nbd_wire.specs.declared.command.CommandKind.TheVariants.{Read}
 use Rattle.nbd_wire.specs.Commands.{is_disconnect, judge_of}
 use Rattle.nbd_wire.specs.Lent.{lent_len}
 use Rattle.nbd_transmission.specs.Apply.{data_of, reply_with}
@@ -23,10 +22,7 @@ finished (Some c) error bytes = reply_with c error bytes
 -- nothing
 abbrev pub FilledOf : CommandKind → Command → List ℕ → List ℕ → Type 0
 FilledOf Read c contents bytes = bytes ≡ data_of contents c
-FilledOf Write c contents bytes = Unit {0}
-FilledOf Disconnect c contents bytes = Unit {0}
-FilledOf Flush c contents bytes = Unit {0}
-FilledOf (Unknown n) c contents bytes = Unit {0}
+FilledOf _ c contents bytes = Unit {0}
 
 abbrev pub IsFilled : Command → List ℕ → List ℕ → Type 0
 IsFilled c contents bytes = FilledOf c.kind c contents bytes

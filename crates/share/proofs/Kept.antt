@@ -5,11 +5,11 @@ use Rattle.block_device.specs.Facts.{Facts}
 use Rattle.nbd_wire.specs.declared.command.Command.{Command}
 use Rattle.nbd_wire.specs.declared.command.CommandKind.{CommandKind}
 use Rattle.nbd_wire.specs.declared.command.CommandKind.TheVariants.{Read, Write, Disconnect, Flush, Unknown}
-use Rattle.nbd_wire.specs.Commands.{judge_of, moves_data}
+use Rattle.nbd_wire.specs.Commands.{is_read, judge_of, moves_data}
 use Rattle.nbd_transmission.specs.Apply.{data_of, data_of_kind, changed_by, changed_kind}
 use Rattle.share.specs.declared.recorder.Row.{Row}
 use Rattle.share.specs.declared.recorder.Interrupted.{Interrupted}
-use Rattle.nbd_wire.specs.Lent.{is_read, is_read_of, lent_len, lent_len_of, payload_in_of, payload_len_of, reply_in, data_in_of}
+use Rattle.nbd_wire.specs.Lent.{lent_len, lent_len_of, payload_in_of, payload_len_of, reply_in, data_in_of}
 use Rattle.share.specs.History.{row_of, interrupted_of, after_row, replay, has_failed, MayComeNext, IsLegal, rows_with}
 use Rattle.share.specs.State.{IsKept}
 
@@ -30,7 +30,7 @@ or-false true = refl
 or-false false = refl
 
 -- the row keeps a WRITE's payload, and no other command takes any
-changed-payload : (k : CommandKind) (d : List ℕ) (c : Command) (bytes bytes' : List ℕ) → (is_read_of k ≡ false → bytes' ≡ bytes) → changed_kind k d c (payload_in_of k bytes') ≡ changed_kind k d c bytes
+changed-payload : (k : CommandKind) (d : List ℕ) (c : Command) (bytes bytes' : List ℕ) → (is_read k ≡ false → bytes' ≡ bytes) → changed_kind k d c (payload_in_of k bytes') ≡ changed_kind k d c bytes
 changed-payload Read d c bytes bytes' h = refl
 changed-payload Write d c bytes bytes' h = ap (λ (p : List ℕ). changed_kind Write d c p) (h refl)
 changed-payload Disconnect d c bytes bytes' h = refl
@@ -67,7 +67,7 @@ was_quiet cut slow A B (inr came) e = came.1
 
 -- a row with error 0
 pub kept-ok : (n : ℕ) (f f' : Facts) (base : List ℕ) (rows : List Row) (int : Option Interrupted) (c : Command) (conn : ℕ) (bytes bytes' : List ℕ)
-    → IsKept n f base rows int → judge_of c n ≡ None → length bytes' ≡ length bytes → length bytes ≡ lent_len c → (is_read c ≡ false → bytes' ≡ bytes)
+    → IsKept n f base rows int → judge_of c n ≡ None → length bytes' ≡ length bytes → length bytes ≡ lent_len c → (is_read c.kind ≡ false → bytes' ≡ bytes)
     → f'.sound ≡ f.sound → (f.sound ≡ true → f'.contents ≡ changed_by f.contents c bytes) → (f.sound ≡ true → reply_in c 0 bytes' ≡ data_of f.contents c)
     → f.cut ≡ false → f'.cut ≡ false → f'.slow ≡ f.slow → (moves_data c.kind ≡ true → f.slow ≡ false)
     → IsKept n f' base (rows ++ row_of conn c 0 bytes' ∷ []) int
@@ -110,7 +110,7 @@ kept-slow n f f' base rows int c conn bytes bytes' kept accepted same long sound
   whole = λ _. kept.whole no_cut;
 }
 
-payload-same : (k : CommandKind) (bytes bytes' : List ℕ) → (is_read_of k ≡ false → bytes' ≡ bytes) → payload_in_of k bytes' ≡ payload_in_of k bytes
+payload-same : (k : CommandKind) (bytes bytes' : List ℕ) → (is_read k ≡ false → bytes' ≡ bytes) → payload_in_of k bytes' ≡ payload_in_of k bytes
 payload-same Read bytes bytes' h = refl
 payload-same Write bytes bytes' h = h refl
 payload-same Disconnect bytes bytes' h = refl
@@ -118,12 +118,12 @@ payload-same Flush bytes bytes' h = refl
 payload-same (Unknown n) bytes bytes' h = refl
 
 -- what is kept of a command that a Cut interrupted is its own payload
-pub interrupted-same : (c : Command) (bytes bytes' : List ℕ) → (is_read c ≡ false → bytes' ≡ bytes) → interrupted_of c bytes' ≡ interrupted_of c bytes
+pub interrupted-same : (c : Command) (bytes bytes' : List ℕ) → (is_read c.kind ≡ false → bytes' ≡ bytes) → interrupted_of c bytes' ≡ interrupted_of c bytes
 interrupted-same c bytes bytes' h = ap (λ (p : List ℕ). record { command = c; payload = p }) (payload-same c.kind bytes bytes' h)
 
 -- a command that a Cut interrupted
 kept-cut : (n : ℕ) (f f' : Facts) (base : List ℕ) (rows : List Row) (int : Option Interrupted) (c : Command) (bytes bytes' : List ℕ)
-    → IsKept n f base rows int → (is_read c ≡ false → bytes' ≡ bytes)
+    → IsKept n f base rows int → (is_read c.kind ≡ false → bytes' ≡ bytes)
     → f'.sound ≡ f.sound → (f.sound ≡ true → Outcome f.contents (changed_by f.contents c bytes) f'.contents)
     → f.cut ≡ false → f.slow ≡ false → f'.cut ≡ true → f'.slow ≡ f.slow
     → IsKept n f' base rows (Some (interrupted_of c bytes'))
@@ -143,7 +143,7 @@ kept-cut n f f' base rows int c bytes bytes' kept untouched sound left no_cut qu
 
 -- the same, where rows are kept, of what the calls leave
 pub kept-row-ok : (keeps : Bool) (n : ℕ) (f f' : Facts) (base base₁ base' : List ℕ) (rows rows₁ rows' : List Row) (int int₁ int' : Option Interrupted) (c : Command) (conn : ℕ) (bytes bytes' : List ℕ)
-    → keeps ≡ true → IsKept n f base rows int → judge_of c n ≡ None → length bytes' ≡ length bytes → length bytes ≡ lent_len c → (is_read c ≡ false → bytes' ≡ bytes)
+    → keeps ≡ true → IsKept n f base rows int → judge_of c n ≡ None → length bytes' ≡ length bytes → length bytes ≡ lent_len c → (is_read c.kind ≡ false → bytes' ≡ bytes)
     → f'.sound ≡ f.sound → (f.sound ≡ true → f'.contents ≡ changed_by f.contents c bytes) → (f.sound ≡ true → reply_in c 0 bytes' ≡ data_of f.contents c)
     → f.cut ≡ false → f'.cut ≡ false → f'.slow ≡ f.slow → (moves_data c.kind ≡ true → f.slow ≡ false)
     → base₁ ≡ base → base' ≡ base₁ → int₁ ≡ int → int' ≡ int₁ → rows₁ ≡ rows → rows' ≡ rows_with keeps rows₁ (row_of conn c 0 bytes')
@@ -164,7 +164,7 @@ kept-row-slow keeps n f f' base base₁ base' rows rows₁ rows' int int₁ int'
     rw (eb', eb, ei', ei, rows_is) (kept-slow n f f' base rows int c conn bytes bytes' kept accepted same long sound moving no_cut no_cut' slow)
 
 pub kept-lost : (keeps : Bool) (n : ℕ) (f f' : Facts) (base base₁ base' : List ℕ) (rows rows₁ rows' : List Row) (int int' : Option Interrupted) (c : Command) (bytes bytes' : List ℕ)
-    → keeps ≡ true → IsKept n f base rows int → (is_read c ≡ false → bytes' ≡ bytes)
+    → keeps ≡ true → IsKept n f base rows int → (is_read c.kind ≡ false → bytes' ≡ bytes)
     → f'.sound ≡ f.sound → (f.sound ≡ true → Outcome f.contents (changed_by f.contents c bytes) f'.contents)
     → f.cut ≡ false → f.slow ≡ false → f'.cut ≡ true → f'.slow ≡ f.slow
     → base₁ ≡ base → base' ≡ base₁ → rows₁ ≡ rows → rows' ≡ rows₁ → (keeps ≡ true → int' ≡ Some (interrupted_of c bytes'))

@@ -6,13 +6,13 @@ use Rattle.block_device.specs.declared.disk.DiskError.TheVariants.{Cut, Slow}
 use Rattle.block_device.specs.Contents.{Outcome}
 use Rattle.block_device.specs.Facts.{Facts, CountsNeverFall, IsDiskReady, KeepsContents, Tidies}
 use Rattle.nbd_wire.specs.declared.command.Command.{Command}
-use Rattle.nbd_wire.specs.Commands.{moves_data}
+use Rattle.nbd_wire.specs.Commands.{is_read, moves_data}
 use Rattle.nbd_wire.specs.Numbers.{EIO, ENOMEM}
 use Rattle.nbd_transmission.specs.Apply.{changed_by, data_of}
 use Rattle.share.specs.declared.shared.Done.{Done}
 use Rattle.share.specs.declared.shared.Done.TheVariants.{Replied, Lost}
 use Rattle.share.specs.History.{interrupted_of, row_of, rows_with}
-use Rattle.nbd_wire.specs.Lent.{is_read, reply_in}
+use Rattle.nbd_wire.specs.Lent.{reply_in}
 use Rattle.share.specs.Seat.{Seat}
 use Rattle.share.specs.State.{Reply, Served}
 
@@ -34,7 +34,7 @@ one_more keeps n = if keeps then n + 1 else n
 pub record HoldsReply (command : Command) (bytes : List ℕ) (a : Reply) : Type 0 where
   pub command_is : a.command ≡ command
   pub error_is : (a.error ≡ 0) ⊎ ((a.error ≡ EIO) ⊎ (a.error ≡ ENOMEM))
-  pub bytes_are : is_read command ≡ false → a.bytes ≡ bytes
+  pub bytes_are : is_read command.kind ≡ false → a.bytes ≡ bytes
   pub length_is : length a.bytes ≡ length bytes
 
 -- Answered 0: the disk changed and the data was read as the definition says, and no Cut or Slow was
