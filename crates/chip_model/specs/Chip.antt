@@ -55,42 +55,31 @@ programmed m at bytes = changed (page_place bit_and at bytes) m
 
 abbrev pub is_idle : Operation → Bool
 is_idle Idle = true
-is_idle (Programming at bytes) = false
-is_idle (Erasing at size) = false
-is_idle (Setting value) = false
+is_idle _ = false
 
 -- a status write
 abbrev pub is_setting : Operation → Bool
-is_setting Idle = false
-is_setting (Programming at bytes) = false
-is_setting (Erasing at size) = false
 is_setting (Setting value) = true
+is_setting _ = false
 
 -- the memory once the operation has completed
 abbrev pub memory_after : Operation → List ℕ → List ℕ
-memory_after Idle m = m
 memory_after (Programming at bytes) m = programmed m at bytes
 memory_after (Erasing at size) m = erased m at size
-memory_after (Setting value) m = m
+memory_after _ m = m
 
 -- bits 2 to 7 of status register 1 once the operation has completed
 abbrev pub protection_after : Operation → ℕ → ℕ
-protection_after Idle p = p
-protection_after (Programming at bytes) p = p
-protection_after (Erasing at size) p = p
 protection_after (Setting value) p = value / 4
+protection_after _ p = p
 
 -- the operation in progress has completed: its change is in the memory or in the register, and WEL
 -- is 0
 abbrev pub completed : Chip → Chip
-completed c = record {
+completed c = record c {
   memory = memory_after c.operation c.memory;
-  sfdp = c.sfdp;
   protection = protection_after c.operation c.protection;
-  status2 = c.status2;
-  status3 = c.status3;
   enabled = false;
   operation = Idle;
   polls = 0;
-  powered = c.powered;
 }

@@ -8,18 +8,15 @@ use Rattle.chip_model.specs.Frames.{Frame}
 -- the memory that a loss leaves of an operation: of a program each bit old or new, of an erase any
 -- bytes in its unit
 abbrev pub TornMemory : Operation → List ℕ → List ℕ → Type 0
-TornMemory Idle m torn = torn ≡ m
 TornMemory (Programming at bytes) m torn = Torn m (programmed m at bytes) torn
 TornMemory (Erasing at size) m torn = TornErase m at size torn
-TornMemory (Setting value) m torn = torn ≡ m
+TornMemory _ m torn = torn ≡ m
 
 -- bits 2 to 7 of status register 1 that a loss leaves of an operation: of a status write each old
 -- or new
 abbrev pub TornProtection : Operation → ℕ → ℕ → Type 0
-TornProtection Idle p torn = torn ≡ p
-TornProtection (Programming at bytes) p torn = torn ≡ p
-TornProtection (Erasing at size) p torn = torn ≡ p
 TornProtection (Setting value) p torn = IsMixed p (value / 4) torn
+TornProtection _ p torn = torn ≡ p
 
 -- what a loss between two frames may leave: all else is as it was, WEL is 0, nothing is in
 -- progress, the power is off
@@ -49,17 +46,7 @@ pub data Loses (c : Chip) (cuts : ℕ) (sent : List ℕ) (new : Chip) (cuts' : �
 
 -- the power is on
 abbrev pub with_power : Chip → Chip
-with_power c = record {
-  memory = c.memory;
-  sfdp = c.sfdp;
-  protection = c.protection;
-  status2 = c.status2;
-  status3 = c.status3;
-  enabled = c.enabled;
-  operation = c.operation;
-  polls = c.polls;
-  powered = true;
-}
+with_power c = record c { powered = true }
 
 -- turning the power on: first off, which is a loss that doesn't count, and then on; where it can't
 -- be turned on, it stays off and that counts

@@ -91,18 +91,13 @@ status_1 c = 4 * c.protection + (if c.enabled then 2 else 0)
 
 -- the byte at place k of the answer of a chip that takes the frame
 abbrev pub answer_byte : Chip → Command → ℕ → ℕ
-answer_byte c Enable k = 255
-answer_byte c Disable k = 255
 answer_byte c Status1 k = status_1 c
 answer_byte c Status2 k = c.status2
 answer_byte c Status3 k = c.status3
-answer_byte c (Set value) k = 255
 answer_byte c (Read at) k = byte c.memory ((at + k) % length c.memory)
-answer_byte c (Program at bytes) k = 255
-answer_byte c (Erase at size) k = 255
 answer_byte c Id k = id_byte (length c.memory) k
 answer_byte c (Sfdp at) k = byte c.sfdp ((at + k) % 256)
-answer_byte c Unknown k = 255
+answer_byte c _ k = 255
 
 -- SEC, CMP or WPS is set
 abbrev pub is_foreign : Chip → Bool
@@ -123,43 +118,13 @@ is_protected c a size = is_foreign c || (not (c.protection % 8 == 0) && is_in_pa
 
 -- the operation is in progress from now on
 abbrev pub starts : Chip → Operation → Chip
-starts c o = record {
-  memory = c.memory;
-  sfdp = c.sfdp;
-  protection = c.protection;
-  status2 = c.status2;
-  status3 = c.status3;
-  enabled = c.enabled;
-  operation = o;
-  polls = 0;
-  powered = c.powered;
-}
+starts c o = record c { operation = o; polls = 0 }
 
 abbrev pub with_enabled : Chip → Bool → Chip
-with_enabled c b = record {
-  memory = c.memory;
-  sfdp = c.sfdp;
-  protection = c.protection;
-  status2 = c.status2;
-  status3 = c.status3;
-  enabled = b;
-  operation = c.operation;
-  polls = c.polls;
-  powered = c.powered;
-}
+with_enabled c b = record c { enabled = b }
 
 abbrev pub with_polls : Chip → ℕ → Chip
-with_polls c n = record {
-  memory = c.memory;
-  sfdp = c.sfdp;
-  protection = c.protection;
-  status2 = c.status2;
-  status3 = c.status3;
-  enabled = c.enabled;
-  operation = c.operation;
-  polls = n;
-  powered = c.powered;
-}
+with_polls c n = record c { polls = n }
 
 -- a change of the n places from a on: ignored without WEL; where one of them is protected, WEL is
 -- cleared and that is all
@@ -175,11 +140,7 @@ latched_at at n = at / 256 * 256 + (at % 256 + (n - 256)) % 256
 abbrev pub after_command : Chip → Command → Chip
 after_command c Enable = with_enabled c true
 after_command c Disable = with_enabled c false
-after_command c Status1 = c
-after_command c Status2 = c
-after_command c Status3 = c
 after_command c (Set value) = if c.enabled then starts c (Setting value) else c
-after_command c (Read at) = c
 after_command c (Program at bytes) =
     if_allowed c (at % length c.memory / 256 * 256) 256
     (Programming (latched_at (at % length c.memory) (length bytes))
@@ -187,9 +148,7 @@ after_command c (Program at bytes) =
 after_command c (Erase at size) =
     if_allowed c (at % length c.memory / size * size) size
     (Erasing (at % length c.memory / size * size) size)
-after_command c Id = c
-after_command c (Sfdp at) = c
-after_command c Unknown = c
+after_command c _ = c
 
 -- the bytes received, as many as the bus asks for
 abbrev pub Receives : Chip → Command → List ℕ → Type 0
@@ -200,15 +159,7 @@ abbrev pub is_status : Command → Bool
 is_status Status1 = true
 is_status Status2 = true
 is_status Status3 = true
-is_status Enable = false
-is_status Disable = false
-is_status (Set value) = false
-is_status (Read at) = false
-is_status (Program at bytes) = false
-is_status (Erase at size) = false
-is_status Id = false
-is_status (Sfdp at) = false
-is_status Unknown = false
+is_status _ = false
 
 -- the status reads of an operation that answered BUSY 1 are counted up to 65,535
 abbrev pub one_more_poll : ℕ → ℕ

@@ -23,15 +23,4 @@ asked asks.Unknown = Unknown
 -- a program has bytes
 abbrev pub HasBytes : Decoded → Type 0
 HasBytes (asks.Program a b) = 0 < length b.now
-HasBytes asks.Enable = Unit {0}
-HasBytes asks.Disable = Unit {0}
-HasBytes asks.Status1 = Unit {0}
-HasBytes asks.Status2 = Unit {0}
-HasBytes asks.Status3 = Unit {0}
-HasBytes (asks.Set v) = Unit {0}
-HasBytes (asks.Read a) = Unit {0}
-HasBytes (asks.EraseSmall a) = Unit {0}
-HasBytes (asks.EraseLarge a) = Unit {0}
-HasBytes asks.Id = Unit {0}
-HasBytes (asks.Sfdp a) = Unit {0}
-HasBytes asks.Unknown = Unit {0}
+HasBytes _ = Unit {0}

@@ -21,26 +21,20 @@ filled v m at size = changed (fill_place v at size) m
 
 -- of a program each bit of the page by the mask; an erase's unit is filled with the mask
 abbrev pub torn_memory : ℕ → Operation → List ℕ → List ℕ
-torn_memory mask Idle m = m
 torn_memory mask (Programming at bytes) m = half_programmed mask m at bytes
 torn_memory mask (Erasing at size) m = filled mask m at size
-torn_memory mask (Setting value) m = m
+torn_memory mask _ m = m
 
 -- of a status write bits 2 to 7 by the mask's bits 2 to 7
 abbrev pub torn_protection : ℕ → Operation → ℕ → ℕ
-torn_protection mask Idle p = p
-torn_protection mask (Programming at bytes) p = p
-torn_protection mask (Erasing at size) p = p
 torn_protection mask (Setting value) p = by_mask (mask / 4) p (value / 4)
+torn_protection mask _ p = p
 
 -- the chip that a loss of power leaves
 abbrev pub torn_by : ℕ → Chip → Chip
-torn_by mask c = record {
+torn_by mask c = record c {
   memory = torn_memory mask c.operation c.memory;
-  sfdp = c.sfdp;
   protection = torn_protection mask c.operation c.protection;
-  status2 = c.status2;
-  status3 = c.status3;
   enabled = false;
   operation = Idle;
   polls = 0;

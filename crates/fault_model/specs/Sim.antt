@@ -70,14 +70,4 @@ fresh_chip m = record {
 
 -- the chip with other SFDP bytes
 abbrev pub with_sfdp : Chip → List ℕ → Chip
-with_sfdp c sfdp = record {
-  memory = c.memory;
-  sfdp = sfdp;
-  protection = c.protection;
-  status2 = c.status2;
-  status3 = c.status3;
-  enabled = c.enabled;
-  operation = c.operation;
-  polls = c.polls;
-  powered = c.powered;
-}
+with_sfdp c sfdp = record c { sfdp = sfdp }

@@ -2,9 +2,8 @@
 -- one status read, but where it is stuck it stays busy until the power goes. Source: own.
 use Rattle.std.specs.Prelude.{ℕ, Bool, false, not, ◌&&◌, if◌then◌else◌, nat_lt, List}
 use Rattle.chip_model.specs.Chip.{Chip, is_idle, completed}
-use Rattle.chip_model.specs.Frames.{Command, Enable, Disable, Status1, Status2, Status3, Set, Read}
-use Rattle.chip_model.specs.Frames.{Program, Erase, Id, Sfdp, Unknown, command_of, after_command}
-use Rattle.chip_model.specs.Frames.{with_polls, one_more_poll}
+use Rattle.chip_model.specs.Frames.{Command, Status1, command_of, after_command, with_polls}
+use Rattle.chip_model.specs.Frames.{one_more_poll}
 
 -- the frame starts a program, an erase or a status write
 abbrev pub is_accepted : Chip → List ℕ → Bool
@@ -19,17 +18,7 @@ polled stuck c = if nat_lt 0 c.polls && not stuck then completed c
 -- a frame to a chip with an operation in progress
 abbrev pub after_busy : Bool → Chip → Command → Chip
 after_busy stuck c Status1 = polled stuck c
-after_busy stuck c Enable = c
-after_busy stuck c Disable = c
-after_busy stuck c Status2 = c
-after_busy stuck c Status3 = c
-after_busy stuck c (Set value) = c
-after_busy stuck c (Read at) = c
-after_busy stuck c (Program at bytes) = c
-after_busy stuck c (Erase at size) = c
-after_busy stuck c Id = c
-after_busy stuck c (Sfdp at) = c
-after_busy stuck c Unknown = c
+after_busy stuck c _ = c
 
 -- the whole effect of a frame
 abbrev pub after_frame : Bool → Chip → List ℕ → Chip

@@ -2,9 +2,8 @@
 -- the model of a frame and of a loss of power.
 use Rattle.std.specs.Prelude.{◌≡◌, ℕ, ◌+◌, ◌⊎◌, Bool, true, false, List}
 use Rattle.chip_model.specs.Chip.{Chip, Operation, is_idle, completed}
-use Rattle.chip_model.specs.Frames.{Command, Enable, Disable, Status1, Status2, Status3, Set, Read}
-use Rattle.chip_model.specs.Frames.{Program, Erase, Id, Sfdp, Unknown, command_of, after_command}
-use Rattle.chip_model.specs.Frames.{with_enabled, with_polls, starts}
+use Rattle.chip_model.specs.Frames.{Command, Status1, Status2, Status3, Read, Id, Sfdp, command_of}
+use Rattle.chip_model.specs.Frames.{after_command, with_enabled, with_polls, starts}
 use Rattle.chip_model.specs.Chip.{is_setting}
 use Rattle.chip_model.specs.Cut.{Cut, with_power}
 use Rattle.nor_driver.specs.declared.error.NorError.{NorError}
@@ -12,18 +11,13 @@ use Rattle.nor_driver.specs.declared.error.NorError.TheVariants as errors
 
 -- the command asks and changes nothing
 abbrev pub only_reads : Command → Bool
-only_reads Enable = false
-only_reads Disable = false
 only_reads Status1 = true
 only_reads Status2 = true
 only_reads Status3 = true
-only_reads (Set value) = false
 only_reads (Read at) = true
-only_reads (Program at bytes) = false
-only_reads (Erase at size) = false
 only_reads Id = true
 only_reads (Sfdp at) = true
-only_reads Unknown = false
+only_reads _ = false
 
 -- a frame that changes nothing wasn't answered: the power fell in it, or was off
 pub data Lost (c : Chip) (cuts : ℕ) (new : Chip) (cuts' : ℕ) : Type 0 where
