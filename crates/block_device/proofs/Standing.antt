@@ -5,9 +5,9 @@ use Rattle.block_device.specs.declared.disk.DiskError.{DiskError}
 use Rattle.block_device.specs.Facts.{Facts, Latches, AnswersWhatWasLatched}
 
 pub answers_what_stood : {T : Type 0} (old new : Facts) (result : Result T DiskError) → Latches old result new → AnswersWhatWasLatched old result
-answers_what_stood old new (Ok v) stands =
-    record { cut = λ cut. absurd (cc (stands.0.0, cut)); slow = λ no_cut slow. absurd (cc (stands.0.1, slow)) }
-answers_what_stood old new (Err Cut) stands =
-    record { cut = λ _. refl; slow = λ no_cut slow. elim stands.0 [ inl cut ↦ absurd (cc (no_cut, cut)) | inr came ↦ absurd (cc (came.0.1, slow)) ] }
-answers_what_stood old new (Err Slow) stands =
-    record { cut = λ cut. absurd (cc (stands.0, cut)); slow = λ _ _. refl }
+answers_what_stood old new (Ok v) latches =
+    record { cut = λ cut. absurd (cc (latches.0.0, cut)); slow = λ no_cut slow. absurd (cc (latches.0.1, slow)) }
+answers_what_stood old new (Err Cut) latches =
+    record { cut = λ _. refl; slow = λ no_cut slow. elim latches.0 [ inl cut ↦ absurd (cc (no_cut, cut)) | inr came ↦ absurd (cc (came.0.1, slow)) ] }
+answers_what_stood old new (Err Slow) latches =
+    record { cut = λ cut. absurd (cc (latches.0, cut)); slow = λ _ _. refl }

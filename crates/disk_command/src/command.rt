@@ -30,7 +30,7 @@ pub fn run<D: Disk>(
     ensures kept { is_read command.now.kind ≡ false → bytes.new ≡ bytes.old }
     ensures sound { (D.facts disk.new).sound ≡ (D.facts disk.old).sound }
     ensures goes { CountsNeverFall (D.facts disk.old) (D.facts disk.new) }
-    ensures stands { CommandLatches command.now (D.facts disk.old) result (D.facts disk.new) }
+    ensures latches { CommandLatches command.now (D.facts disk.old) result (D.facts disk.new) }
 {
     match command.kind {
         CommandKind::Read => disk.read(first_sector(command, sectors), bytes),

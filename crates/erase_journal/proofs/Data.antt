@@ -143,16 +143,16 @@ module _ (old new : NorState) (b at : ℕ) (bytes : List ℕ) (h : IsNorReady ol
   pub program-only : (r : Result (Unit {0}) NorError) → OnOk r (new.memory ≡ and_at old.memory (4096 * b + at) bytes) → OnOk r (IsNorReady old)
       → (IsErrOf r errors.Cut → Leaves old.memory (TornAnd old.memory (4096 * b + at) bytes) (and_at old.memory (4096 * b + at) bytes) new.memory)
       → (IsErrOf r errors.Slow → new.memory ≡ old.memory) → AnswersWhatIsLatched old r new → OnlyBlock b old.memory new.memory
-  program-only (Ok x) e ready cut slow stands = (program-ok b at bytes old.memory new.memory (h ready) least number small e).only
-  program-only (Err errors.Cut) e ready cut slow stands = cut-only old new b at bytes h least number small (first-cut old new stands) (cut refl)
-  program-only (Err errors.Slow) e ready cut slow stands = only-refl b old.memory new.memory (slow refl)
+  program-only (Ok x) e ready cut slow latches = (program-ok b at bytes old.memory new.memory (h ready) least number small e).only
+  program-only (Err errors.Cut) e ready cut slow latches = cut-only old new b at bytes h least number small (first-cut old new latches) (cut refl)
+  program-only (Err errors.Slow) e ready cut slow latches = only-refl b old.memory new.memory (slow refl)
 
   pub program-leaves : (r : Result (Unit {0}) NorError)
       → (IsErrOf r errors.Cut → Leaves old.memory (TornAnd old.memory (4096 * b + at) bytes) (and_at old.memory (4096 * b + at) bytes) new.memory)
       → AnswersWhatIsLatched old r new → IsErrOf r errors.Cut → Leaves (block old.memory b) (TornAnd (block old.memory b) at bytes) (and_at (block old.memory b) at bytes) (block new.memory b)
-  program-leaves r cut stands is = cut-leaves old new b at bytes h least number small (first-cut old new (rw is at stands)) (cut is)
+  program-leaves r cut latches is = cut-leaves old new b at bytes h least number small (first-cut old new (rw is at latches)) (cut is)
 
   pub program-healthy : (r : Result (Unit {0}) NorError)
       → (IsErrOf r errors.Cut → Leaves old.memory (TornAnd old.memory (4096 * b + at) bytes) (and_at old.memory (4096 * b + at) bytes) new.memory)
       → AnswersWhatIsLatched old r new → IsErrOf r errors.Cut → IsHealthy old.memory → IsHealthy new.memory
-  program-healthy r cut stands is = cut-healthy old new b at bytes h least number small (first-cut old new (rw is at stands)) (cut is)
+  program-healthy r cut latches is = cut-healthy old new b at bytes h least number small (first-cut old new (rw is at latches)) (cut is)

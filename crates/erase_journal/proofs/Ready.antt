@@ -14,7 +14,7 @@ use Rattle.erase_journal.specs.Known.{IsKnown}
 
 -- a call that was cut found the memory ready, or changed nothing
 pub cut-or-ready : (old new : NorState) (r : Result (Unit {0}) NorError) → AnswersWhatIsLatched old r new → IsErrOf r errors.Cut → IsNorReady old ⊎ (new ≡ old)
-cut-or-ready old new r stands is = first-or-ready errors.Cut old new (first-cut old new (rw is at stands))
+cut-or-ready old new r latches is = first-or-ready errors.Cut old new (first-cut old new (rw is at latches))
 
 -- what an answer says where the memory was ready
 pub on-ready : {P Q : Type 0} (old : NorState) (r : Result (Unit {0}) NorError) → OnOk r (IsNorReady old) → (IsNorReady old → P → Q) → OnOk r P → OnOk r Q

@@ -38,11 +38,11 @@ module _ (n : ℕ) (f : Facts) (b b' : Board) (new' : Seen) (sound : f.sound ≡
   sectors_are : b.sectors ≡ n
   sectors_are = omega (arith, made.size, ap length zeros, length-replicate {A = ℕ} (512 * n) 0)
 
-  stands : StationRepresents b (new_world n)
-  stands =
+  represents : StationRepresents b (new_world n)
+  represents =
       subst (λ p. StationRepresents b (record { sectors = n; disk = replicate (512 * n) 0; power = not p; texts = replicate 8 None })) ready.0
       (subst (λ d. StationRepresents b (record { sectors = n; disk = d; power = not f.cut; texts = replicate 8 None })) zeros
-      (subst (λ k. StationRepresents b (record { sectors = k; disk = f.contents; power = not f.cut; texts = replicate 8 None })) sectors_are (made.stands sound ready.1)))
+      (subst (λ k. StationRepresents b (record { sectors = k; disk = f.contents; power = not f.cut; texts = replicate 8 None })) sectors_are (made.represents sound ready.1)))
 
   quietly : new'.slows ≡ f.slows → b'.disk.slows ≡ b.disk.slows
   quietly quiet = sym back.slows ∙ (quiet ∙ sym (ap (λ (x : Facts). x.slows) made.disk_is))
@@ -52,7 +52,7 @@ module _ (n : ℕ) (f : Facts) (b b' : Board) (new' : Seen) (sound : f.sound ≡
 
   answered : (events : List Event) (was is : Option (List ℕ)) → Runs b b' events was is → AnswersEvents (seen_of n f) new' events was is
   answered events was is run = λ quiet.
-      let r = run (quietly quiet) (new_world n) stands in (
+      let r = run (quietly quiet) (new_world n) represents in (
         r.0,
         r.1,
         r.2,
@@ -62,7 +62,7 @@ module _ (n : ℕ) (f : Facts) (b b' : Board) (new' : Seen) (sound : f.sound ≡
 
   broken : (events : List Event) (was is : Option (List ℕ)) → Ends b b' events was is → BreaksEvents (seen_of n f) new' events was is
   broken events was is ends = λ quiet.
-      let r = ends (quietly quiet) (new_world n) stands in (
+      let r = ends (quietly quiet) (new_world n) represents in (
         r.0,
         r.1,
         r.2,

@@ -62,8 +62,8 @@ completes old new unit next reply next-is is_unit reply-is phase keeps =
 
 pub answers_from_step : (start : Phase) (old new : ParserState) (text used : List ℕ) (next : Next) (reply : List ℕ) → IsNegotiation old.phase → ParserRepresents 8208 start old text
     → ((rest : List ℕ) → HoldsRest 8208 old rest → HandshakeAdvances old (rest ++ used) next reply new) → HandshakeAnswers start old.sectors old.phase text (text ++ used) next reply
-answers_from_step start old new text used next reply negotiation stands step units rest split =
-    by_next next (step rest (holds_the_rest 8208 start old text units rest (not_closed old.phase negotiation) stands split))
+answers_from_step start old new text used next reply negotiation represents step units rest split =
+    by_next next (step rest (holds_the_rest 8208 start old text units rest (not_closed old.phase negotiation) represents split))
   where
     one_more : (n : Next) → HandshakeAnswersUnit old (rest ++ used) n reply new → HandshakeOneMore start old.sectors old.phase (text ++ used) n reply units
     one_more n h = record {
@@ -79,13 +79,13 @@ answers_from_step start old new text used next reply negotiation stands step uni
     by_next Transmit h = one_more Transmit h
     by_next Close h = one_more Close h
 
-pub stands_from_step : (start : Phase) (old new : ParserState) (text used : List ℕ) (next : Next) (reply : List ℕ) → IsNegotiation old.phase → (stands : ParserRepresents 8208 start old text)
+pub stands_from_step : (start : Phase) (old new : ParserState) (text used : List ℕ) (next : Next) (reply : List ℕ) → IsNegotiation old.phase → (represents : ParserRepresents 8208 start old text)
     → ((rest : List ℕ) → HoldsRest 8208 old rest → HandshakeAdvances old (rest ++ used) next reply new) → ParserRepresents 8208 start new (text ++ used)
-stands_from_step start old new text used next reply negotiation stands step =
-    by_next next (step stands.rest (stands.keeps (not_closed old.phase negotiation)))
+stands_from_step start old new text used next reply negotiation represents step =
+    by_next next (step represents.rest (represents.keeps (not_closed old.phase negotiation)))
   where
-    by_next : (n : Next) → HandshakeAdvances old (stands.rest ++ used) n reply new → ParserRepresents 8208 start new (text ++ used)
-    by_next More h = stands_waiting 8208 start old new text used stands h.0
-    by_next Stay h = stands_completed 8208 start old new text used stands h.completes
-    by_next Transmit h = stands_completed 8208 start old new text used stands h.completes
-    by_next Close h = stands_completed 8208 start old new text used stands h.completes
+    by_next : (n : Next) → HandshakeAdvances old (represents.rest ++ used) n reply new → ParserRepresents 8208 start new (text ++ used)
+    by_next More h = stands_waiting 8208 start old new text used represents h.0
+    by_next Stay h = stands_completed 8208 start old new text used represents h.completes
+    by_next Transmit h = stands_completed 8208 start old new text used represents h.completes
+    by_next Close h = stands_completed 8208 start old new text used represents h.completes

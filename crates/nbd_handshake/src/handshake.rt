@@ -79,7 +79,7 @@ impl Handshake {
             { sectors = sectors; phase = Phase.AwaitingFlags; kept = []; count = 0 } }
         ensures keeps { HoldsRest KEPT_LEN result [] }
         // It represents the text without bytes.
-        ensures stands { ParserRepresents KEPT_LEN Phase.AwaitingFlags result [] }
+        ensures represents { ParserRepresents KEPT_LEN Phase.AwaitingFlags result [] }
     {
         Handshake {
             sectors,
@@ -117,7 +117,7 @@ impl Handshake {
             → HandshakeAnswers start self.old.sectors self.old.phase text
             (text ++ take result.used bytes.now) result.next (take result.reply reply.new) }
         // and the negotiation then represents the longer text.
-        ensures stands { (start : Phase) (text : List ℕ)
+        ensures represents { (start : Phase) (text : List ℕ)
             → ParserRepresents KEPT_LEN start self.old text
             → ParserRepresents KEPT_LEN start self.new (text ++ take result.used bytes.now) }
     {

@@ -77,7 +77,7 @@ impl Transmission {
             { sectors = sectors; phase = Phase.Transmitting; kept = []; count = 0 } }
         ensures keeps { HoldsRest REQUEST_LEN result [] }
         // It represents each text whose units lead to the transmission, without a rest.
-        ensures stands { (start : Phase) (text : List ℕ) (units : List (List ℕ))
+        ensures represents { (start : Phase) (text : List ℕ) (units : List (List ℕ))
             → Splits start text units [] Phase.Transmitting
             → ParserRepresents REQUEST_LEN start result text }
     {
@@ -127,7 +127,7 @@ impl Transmission {
             → TransmissionAnswers start self.old.sectors text (text ++ take result.used bytes.now)
             result.next }
         // and the parser then represents the longer text.
-        ensures stands { (start : Phase) (text : List ℕ)
+        ensures represents { (start : Phase) (text : List ℕ)
             → ParserRepresents REQUEST_LEN start self.old text
             → ParserRepresents REQUEST_LEN start self.new (text ++ take result.used bytes.now) }
     {

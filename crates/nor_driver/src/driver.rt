@@ -109,7 +109,7 @@ impl<B: SpiBus> Driver<B> {
         ensures fails { IfErr result (λ e.
             NorFails e (⟦<Driver<B> as Nor>⟧.state self.old)
             (⟦<Driver<B> as Nor>⟧.state self.new)) }
-        ensures stands { AnswersWhatIsLatched (⟦<Driver<B> as Nor>⟧.state self.old) result
+        ensures latches { AnswersWhatIsLatched (⟦<Driver<B> as Nor>⟧.state self.old) result
             (⟦<Driver<B> as Nor>⟧.state self.new) }
     {
         if self.slow {

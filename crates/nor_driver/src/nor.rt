@@ -38,7 +38,7 @@ pub trait Nor {
         ensures ready { OnOk result (IsNorReady (state self.old)) }
         ensures kept { OnOk result (OnlyMemoryChanges (state self.old) (state self.new)) }
         ensures fails { IfErr result (λ e. NorFails e (state self.old) (state self.new)) }
-        ensures stands { AnswersWhatIsLatched (state self.old) result (state self.new) };
+        ensures latches { AnswersWhatIsLatched (state self.old) result (state self.new) };
 
     /// Programs 1 to 256 bytes of one page: each byte becomes old AND new.
     fn program(&mut self, at: u32, bytes: &[u8]) -> Result<(), NorError>
@@ -56,7 +56,7 @@ pub trait Nor {
         ensures ready { OnOk result (IsNorReady (state self.old)) }
         ensures kept { OnOk result (OnlyMemoryChanges (state self.old) (state self.new)) }
         ensures fails { IfErr result (λ e. NorFails e (state self.old) (state self.new)) }
-        ensures stands { AnswersWhatIsLatched (state self.old) result (state self.new) };
+        ensures latches { AnswersWhatIsLatched (state self.old) result (state self.new) };
 
     /// Erases the unit of 4 KiB that begins at `at`: each byte becomes FFh.
     fn erase_small(&mut self, at: u32) -> Result<(), NorError>
@@ -73,7 +73,7 @@ pub trait Nor {
         ensures ready { OnOk result (IsNorReady (state self.old)) }
         ensures kept { OnOk result (OnlyMemoryChanges (state self.old) (state self.new)) }
         ensures fails { IfErr result (λ e. NorFails e (state self.old) (state self.new)) }
-        ensures stands { AnswersWhatIsLatched (state self.old) result (state self.new) };
+        ensures latches { AnswersWhatIsLatched (state self.old) result (state self.new) };
 
     /// Erases the unit of 64 KiB that begins at `at`, where the chip has such units: each byte
     /// becomes FFh.
@@ -92,7 +92,7 @@ pub trait Nor {
         ensures ready { OnOk result (IsNorReady (state self.old)) }
         ensures kept { OnOk result (OnlyMemoryChanges (state self.old) (state self.new)) }
         ensures fails { IfErr result (λ e. NorFails e (state self.old) (state self.new)) }
-        ensures stands { AnswersWhatIsLatched (state self.old) result (state self.new) };
+        ensures latches { AnswersWhatIsLatched (state self.old) result (state self.new) };
 
     /// Turns the power off and on again, which ends a Slow. Answers Ok or Cut. The bytes are as
     /// before, but that an operation which a Slow left in progress may leave any of its own.

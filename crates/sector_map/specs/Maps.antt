@@ -97,7 +97,7 @@ KnownWhile (Some errors.Slow) table state indexed = Unit {0}
 -- what a map shows of the store behind it: a Slow that was answered stands until a restore answers
 -- Ok
 abbrev pub shown_with : Option NorError → NorState → NorState
-shown_with stands state = record state { is_slow = is_slow_in stands }
+shown_with latched state = record state { is_slow = is_slow_in latched }
 
 -- what a write that answered Ok leaves beside the sectors: the table is again that of the memory
 pub record Wrote (g : ℕ) (x : List ℕ) (table : List Entry) (old new : NorState)

@@ -37,8 +37,8 @@ use std::marker::Model;
 
 /// The sectors of a chip: its slots with their index, and the table of the slots that hold them.
 ///
-/// A contract sees it as the state of the memory behind it; a Slow that it answered stands in it
-/// until a `restore` that answers Ok. While an error is latched every call but `restore` answers
+/// A contract sees it as the state of the memory behind it; a Slow that it answered is latched in
+/// it until a `restore` that answers Ok. While an error is latched every call but `restore` answers
 /// it, and does nothing. Source: own.
 #[derive(Drop)]
 pub struct SectorMap<N: Nor> {
@@ -46,7 +46,7 @@ pub struct SectorMap<N: Nor> {
     /// The entries of the sectors, in their order.
     table: Vec<Entry>,
     /// The latched error; where a Cut and a Slow do, it is the Slow.
-    stands: Option<NorError>,
+    latched: Option<NorError>,
 }
 
 impl<N: Nor> Model for SectorMap<N> {
@@ -57,11 +57,11 @@ impl<N: Nor> Model for SectorMap<N> {
 
     ghost Value = { NorState };
 
-    ghost view = { λ map. shown_with map.stands map.stock.slots };
+    ghost view = { λ map. shown_with map.latched map.stock.slots };
 
     ghost invariant = { λ map. record {
       counted : vec_len map.table ≡ sector_count (length map.stock.slots.memory);
-      standing : KnownWhile map.stands map.table.items map.stock.slots map.stock.indexed;
+      standing : KnownWhile map.latched map.table.items map.stock.slots map.stock.indexed;
     } };
 }
 
@@ -98,7 +98,7 @@ impl<N: Nor> SectorMap<N> {
     pub fn is_slow(&self) -> bool
         ensures { result ≡ self.now.is_slow }
     {
-        match self.stands {
+        match self.latched {
             None => false,
             Some(NorError::Cut) => false,
             Some(NorError::Slow) => true,
@@ -116,14 +116,14 @@ impl<N: Nor> SectorMap<N> {
         ensures done { OnOk result (SucceedsSettled self.old self.new) }
         ensures fails { IfErr result (λ e. Refuses e self.old self.new) }
     {
-        if let Some(error) = self.stands {
+        if let Some(error) = self.latched {
             return Err(error);
         }
         let holder = holder_of(self.table.as_slice(), sector);
         match find_in(&mut self.stock, holder, into) {
             Ok(()) => Ok(()),
             Err(error) => {
-                self.stands = Some(error);
+                self.latched = Some(error);
                 Err(error)
             }
         }
@@ -141,13 +141,13 @@ impl<N: Nor> SectorMap<N> {
         ensures done { OnOk result (SucceedsSettled self.old self.new) }
         ensures fails { IfErr result (λ e. Refuses e self.old self.new) }
     {
-        if let Some(error) = self.stands {
+        if let Some(error) = self.latched {
             return Err(error);
         }
         match write_in(&mut self.stock, self.table.as_mut_slice(), sector, content) {
             Ok(()) => Ok(()),
             Err(error) => {
-                self.stands = Some(error);
+                self.latched = Some(error);
                 Err(error)
             }
         }
@@ -165,13 +165,13 @@ impl<N: Nor> SectorMap<N> {
         ensures done { OnOk result (SucceedsSettled self.old self.new) }
         ensures fails { IfErr result (λ e. Refuses e self.old self.new) }
     {
-        if let Some(error) = self.stands {
+        if let Some(error) = self.latched {
             return Err(error);
         }
         match clear_in(&mut self.stock, self.table.as_mut_slice(), sector) {
             Ok(()) => Ok(()),
             Err(error) => {
-                self.stands = Some(error);
+                self.latched = Some(error);
                 Err(error)
             }
         }
@@ -189,13 +189,13 @@ impl<N: Nor> SectorMap<N> {
         ensures done { OnOk result (SucceedsSettled self.old self.new) }
         ensures fails { IfErr result (λ e. Refuses e self.old self.new) }
     {
-        if let Some(error) = self.stands {
+        if let Some(error) = self.latched {
             return Err(error);
         }
         match tidy_in(&mut self.stock, self.table.as_mut_slice()) {
             Ok(more) => Ok(more),
             Err(error) => {
-                self.stands = Some(error);
+                self.latched = Some(error);
                 Err(error)
             }
         }
@@ -212,19 +212,19 @@ impl<N: Nor> SectorMap<N> {
     {
         match renew(&mut self.stock, self.table.as_mut_slice()) {
             Ok(true) => {
-                self.stands = None;
+                self.latched = None;
                 Ok(())
             }
             Ok(false) => {
-                self.stands = Some(NorError::Slow);
+                self.latched = Some(NorError::Slow);
                 Err(NorError::Slow)
             }
             Err(NorError::Slow) => {
-                self.stands = Some(NorError::Slow);
+                self.latched = Some(NorError::Slow);
                 Err(NorError::Slow)
             }
             Err(NorError::Cut) => {
-                self.stands = after_cut(self.stands);
+                self.latched = after_cut(self.latched);
                 Err(NorError::Cut)
             }
         }
@@ -247,7 +247,7 @@ impl<N: Nor> SectorMap<N> {
         let SectorMap {
             stock,
             table: _table,
-            stands: _stands,
+            latched: _latched,
         } = self;
         uncover(stock)
     }
@@ -322,7 +322,7 @@ fn fill<N: Nor>(slots: SectorSlots<N>, tables: Tables) -> Result<SectorMap<N>, (
         Ok(true) => Ok(SectorMap {
             stock,
             table,
-            stands: None,
+            latched: None,
         }),
         Ok(false) => Err((uncover(stock), MountError::Corrupt)),
         Err(NorError::Cut) => Err((uncover(stock), MountError::Cut)),
@@ -346,10 +346,10 @@ fn holder_of(table: &[Entry], sector: u16) -> Option<Held>
 }
 
 /// The latched error after a restore that was cut: a Slow that was latched still does.
-fn after_cut(stands: Option<NorError>) -> Option<NorError>
-    ensures { result ≡ latched_after_cut stands }
+fn after_cut(latched: Option<NorError>) -> Option<NorError>
+    ensures { result ≡ latched_after_cut latched }
 {
-    match stands {
+    match latched {
         None => Some(NorError::Cut),
         Some(NorError::Cut) => Some(NorError::Cut),
         Some(NorError::Slow) => Some(NorError::Slow),

@@ -141,7 +141,7 @@ pub record IsFreshSession (sectors : ℕ) (line : SessionState) : Type 0 where
   pub running : line.running ≡ None
   pub filled : line.filled ≡ 0
   pub reply : reply_of line ≡ greeting_bytes
-  pub stands : SessionRepresents AwaitingFlags line []
+  pub represents : SessionRepresents AwaitingFlags line []
 
 -- a transmission holds so many bytes of a payload, and these are as many as have come of it
 pub record IsHolding (transmission : ParserState) (filled : ℕ) : Type 0 where
@@ -187,4 +187,4 @@ pub record BeginsSession (start : Phase) (sectors : ℕ) (line : SessionState) :
   pub sectors_is : line.sectors ≡ sectors
   pub is_open : is_closed line ≡ false
   pub reply : reply_of line ≡ opening start
-  pub stands : SessionRepresents start line []
+  pub represents : SessionRepresents start line []

@@ -129,11 +129,11 @@ says-reply start n m old new next line e f h =
 
 pub says-run : (start : Phase) (n m : ℕ) (old new : List ℕ) (next : Next) (c : Command) (line line' : SessionState) → n ≡ m → next ≡ Run c → SessionSays start n old new next line → (SessionRepresents start line new → SessionRepresents start line' new)
     → Grows (setting start m) old new (ForDisk c (payload_in c (room_of line)) ∷ []) line'
-says-run start n m old new next c line line' e f h stands =
+says-run start n m old new next c line line' e f h represents =
     let P : ℕ → Type 0 = λ x. SessionSays start x old new next line in
     let Q : Next → Type 0 = λ x. SessionSays start m old new x line in
     let s = subst Q f (subst P e h) in
-    (s.0, stands s.1)
+    (s.0, represents s.1)
 
 pub says-close : (start : Phase) (n m : ℕ) (old new : List ℕ) (next : Next) (line : SessionState) → n ≡ m → next ≡ Close → SessionSays start n old new next line → Grows (setting start m) old new (Last (reply_of line) ∷ []) line
 says-close start n m old new next line e f h =
@@ -189,7 +189,7 @@ underway-more step passes st first a b old new line next added out w grows gate 
         parts_are = has;
         runs = runs-append step first.place a.place b.place had added w.out out w.runs runs;
         is_open = closed-behind had added w.is_open ∙ shut;
-        stands = grows.1;
+        represents = grows.1;
         wrote = subst (λ (x : List ℕ). Appends first.written b.written x) (append_assoc (opening st.start) w.out out) (Appends-trans first.written a.written b.written (opening st.start ++ w.out) out w.wrote wrote);
         passed = gate first.gate w.points w.passed;
         executed = executions-append w.points (points_of added) ∙ omega (arith, w.executed, executions-of added, asks-append had added);

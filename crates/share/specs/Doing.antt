@@ -48,7 +48,7 @@ pub record Ran (old new : Facts) (command : Command) (bytes : List ℕ) (a : Rep
 -- Answered EIO: the disk answered Slow in this call.
 pub record MetSlow (old new : Facts) (command : Command) : Type 0 where
   pub moves : moves_data command.kind ≡ true
-  pub stands : new.slow ≡ true
+  pub latched : new.slow ≡ true
   pub cause : (old.slow ≡ true) ⊎ (old.slows < new.slows)
   pub no_cut : (old.cut ≡ false) × (new.cut ≡ false)
 
@@ -73,7 +73,7 @@ pub record LosesCommand (keeps : Bool) (old new : Served) (pass pass' : Seat) (c
     (bytes : List ℕ) : Type 0 where
   pub rows : new.rows ≡ old.rows
   pub counts : pass'.count ≡ pass.count
-  pub stands : new.disk.cut ≡ true
+  pub latched : new.disk.cut ≡ true
   pub cause : (old.disk.cut ≡ true) ⊎ (old.disk.cuts < new.disk.cuts)
   pub lost : new.lost ≡ true
   -- each sector is as it was, or as the command was to make it

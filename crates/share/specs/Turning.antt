@@ -76,7 +76,7 @@ pub record ConnectionUnderway {S G : Type 0}
   pub parts_are : IsPartsOf setting.start setting.sectors text parts
   pub runs : PartsAnsweredBy step a.place parts out b.place
   pub is_open : closed parts ≡ false
-  pub stands : SessionRepresents setting.start line text
+  pub represents : SessionRepresents setting.start line text
   pub wrote : Appends a.written b.written (opening setting.start ++ out)
   pub passed : passes a.gate b.gate points
   pub executed : executions points ≡ asks parts

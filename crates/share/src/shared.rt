@@ -120,7 +120,7 @@ impl<D: Disk, R: Recorder, L: OneServer> Model for Shared<D, R, L> {
       counted : s.counts.book.total ≡ length (R.rows s.recorder);
       fits : length (R.rows s.recorder) < 2 ^ 64;
       lost : s.lost ≡ true → (D.facts s.disk).cut ≡ true;
-      stands : R.KEEPS ≡ true → (D.facts s.disk).cut ≡ true → s.lost ≡ true;
+      latched : R.KEEPS ≡ true → (D.facts s.disk).cut ≡ true → s.lost ≡ true;
       kept : R.KEEPS ≡ true → IsKept L.sectors (D.facts s.disk) (R.base s.recorder)
           (R.rows s.recorder) (R.interrupted s.recorder);
     } };

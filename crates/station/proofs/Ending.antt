@@ -117,7 +117,7 @@ pub is_new : (f : Facts) (b : Board) → b.disk ≡ f → length f.contents ≡ 
 is_new f b same size power eight shut = record {
   disk_is = same;
   size = size;
-  stands = λ sound slow. record {
+  represents = λ sound slow. record {
     disk = record {
       sound = ap (λ (x : Facts). x.sound) same ∙ sound;
       slow = ap (λ (x : Facts). x.slow) same ∙ slow;

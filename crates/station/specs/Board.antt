@@ -56,7 +56,7 @@ pub record StationRepresents (board : Board) (w : World) : Type 0 where
 pub record IsNew (disk : Facts) (board : Board) : Type 0 where
   pub disk_is : board.disk ≡ disk
   pub size : length disk.contents ≡ 512 * board.sectors
-  pub stands : disk.sound ≡ true → disk.slow ≡ false
+  pub represents : disk.sound ≡ true → disk.slow ≡ false
       → StationRepresents board (record {
         sectors = board.sectors;
         disk = disk.contents;

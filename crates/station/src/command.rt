@@ -37,7 +37,7 @@ pub(crate) fn run_command<D: Disk>(
     ensures memory { session.new.memory ≡ session.old.memory }
     ensures sound { (D.facts disk.new).sound ≡ (D.facts disk.old).sound }
     ensures goes { CountsNeverFall (D.facts disk.old) (D.facts disk.new) }
-    ensures stands { CommandLatches command.now (D.facts disk.old) result (D.facts disk.new) }
+    ensures latches { CommandLatches command.now (D.facts disk.old) result (D.facts disk.new) }
 {
     buffer_laws();
     let sectors = disk.sectors();

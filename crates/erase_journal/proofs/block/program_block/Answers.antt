@@ -14,7 +14,7 @@ returns-clause-ok g c = program-bytes (g.N.Nor.state c.args.nor.now) (g.N.Nor.st
 
 pub returns-clause-only : goal.returns-clause-only
 returns-clause-only g c = program-only (g.N.Nor.state c.args.nor.now) (g.N.Nor.state c.program.new.self) c.args.block c.args.at c.args.bytes.now c.requires.settled c.requires.data c.requires.number c.requires.range c.program.result
-    c.program.ensures.ok c.program.ensures.ready c.program.ensures.cut c.program.ensures.slow c.program.ensures.stands
+    c.program.ensures.ok c.program.ensures.ready c.program.ensures.cut c.program.ensures.slow c.program.ensures.latches
 
 pub returns-clause-done : goal.returns-clause-done
 returns-clause-done g c =
@@ -23,15 +23,15 @@ returns-clause-done g c =
     c.program.ensures.ok c.program.ensures.ready)
 
 pub returns-clause-fails : goal.returns-clause-fails
-returns-clause-fails g c = refuses-of (g.N.Nor.state c.args.nor.now) (g.N.Nor.state c.program.new.self) c.program.result c.program.ensures.fails c.program.ensures.stands
+returns-clause-fails g c = refuses-of (g.N.Nor.state c.args.nor.now) (g.N.Nor.state c.program.new.self) c.program.result c.program.ensures.fails c.program.ensures.latches
 
 pub returns-clause-cut : goal.returns-clause-cut
 returns-clause-cut g c is = program-leaves (g.N.Nor.state c.args.nor.now) (g.N.Nor.state c.program.new.self) c.args.block c.args.at c.args.bytes.now c.requires.settled c.requires.data c.requires.number c.requires.range c.program.result
-    c.program.ensures.cut c.program.ensures.stands is
+    c.program.ensures.cut c.program.ensures.latches is
 
 pub returns-clause-healthy : goal.returns-clause-healthy
 returns-clause-healthy g c is = program-healthy (g.N.Nor.state c.args.nor.now) (g.N.Nor.state c.program.new.self) c.args.block c.args.at c.args.bytes.now c.requires.settled c.requires.data c.requires.number c.requires.range c.program.result
-    c.program.ensures.cut c.program.ensures.stands is
+    c.program.ensures.cut c.program.ensures.latches is
 
 pub returns-clause-known : goal.returns-clause-known
 returns-clause-known g c known =

@@ -47,7 +47,7 @@ returns-in-Run-clause-turned g c start text h =
     let a = stand c.args.door.now c.args.pass.now c.args.gate.now (g.K.Sink.written c.args.writer.now) (g.K.Sink.faults c.args.writer.now) in
     let b = stand w.door w.pass w.gate (g.K.Sink.written w.writer) (g.K.Sink.faults w.writer) in (
       ForDisk command payload ∷ [],
-      says-run start c.args.session.now.sectors g.L.OneServer.sectors text new c.take-taken.result.next command line w.session c.requires.sectors c.in-Run.is says (e.stands start new),
+      says-run start c.args.session.now.sectors g.L.OneServer.sectors text new c.take-taken.result.next command line w.session c.requires.sectors c.in-Run.is says (e.represents start new),
       e.gate,
       turned-command (through g.T.Door.executes g.T.Door.keeps) a b command payload c.run_command-turn.result e.turned,
     )

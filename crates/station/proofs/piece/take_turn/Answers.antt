@@ -34,8 +34,8 @@ pub returns-in_err-tell-in-Ok-clause-halts : goal.returns-in_err-tell-in-Ok-clau
 returns-in_err-tell-in-Ok-clause-halts g c = λ quiet. on_err c.from_residual-in_err-tell-in-Ok.result _ (
     let e = c.in-Ok.ensures in
     record {
-      power = e.stands.1;
-      slow = e.stands.2 ∙ quiet.slow;
+      power = e.latches.1;
+      slow = e.latches.2 ∙ quiet.slow;
       says = λ text serves.
           let n = c.args.session.now.sectors in
           let command = c.in-Run.command in
@@ -56,13 +56,13 @@ run_command-requires-clause-running g c =
 
 pub returns-in-Err-Cut-clause-says : goal.returns-in-Err-Cut-clause-says
 returns-in-Err-Cut-clause-says g c = λ quiet.
-    let stands = rw c.in-Err-Cut.field-0-is at c.in-Err-Cut.ensures.stands in
+    let latches = rw c.in-Err-Cut.field-0-is at c.in-Err-Cut.ensures.latches in
     let old = g.D.Disk.facts c.args.disk.now in
     let new = g.D.Disk.facts c.run_command.new.disk in
-    let moves : (moves_data c.in-Run.command.kind ≡ true) × (old.cuts < new.cuts) = elim stands.0 [ inl h ↦ absurd (false≢true (sym quiet.cut ∙ h)) | inr h ↦ (h.0, h.2) ] in
+    let moves : (moves_data c.in-Run.command.kind ≡ true) × (old.cuts < new.cuts) = elim latches.0 [ inl h ↦ absurd (false≢true (sym quiet.cut ∙ h)) | inr h ↦ (h.0, h.2) ] in
     record {
-      power = (stands.1, moves.1);
-      slow = stands.2 ∙ quiet.slow;
+      power = (latches.1, moves.1);
+      slow = latches.2 ∙ quiet.slow;
       says = λ text serves.
           let n = c.args.session.now.sectors in
           let command = c.in-Run.command in

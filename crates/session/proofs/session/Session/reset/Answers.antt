@@ -14,5 +14,5 @@ returns-clause-fresh c =
       running = refl;
       filled = refl;
       reply = grind (arith, common_steps);
-      stands = search rules;
+      represents = search rules;
     }

@@ -16,11 +16,11 @@ invariant_of-self-in-Ok g c =
       counted = n.counted;
       fits = n.fits (rw p.rows inv.fits);
       lost = λ l. absurd (both_ways _ c.if-lost.false l);
-      stands = λ k s. absurd (both_ways _ r.stands.1 s);
+      latched = λ k s. absurd (both_ways _ r.latches.1 s);
       kept = λ k. kept-row-ok R.KEEPS g.L.OneServer.sectors (D.facts was.disk) (D.facts c.run.new.disk)
           (R.base was.recorder) (R.base c.prepare.new.self) (R.base c.note.new.recorder) (R.rows was.recorder) (R.rows c.prepare.new.self) (R.rows c.note.new.recorder)
           (R.interrupted was.recorder) (R.interrupted c.prepare.new.self) (R.interrupted c.note.new.recorder) c.args.command.now c.args.pass.now.connection c.args.data.now c.run.new.bytes
-          k (inv.kept k) c.requires.accepted c.run.auto.bytes c.requires.lent r.kept r.sound r.contents r.reply r.stands.0 r.stands.1 r.stands.2 r.stands.3
+          k (inv.kept k) c.requires.accepted c.run.auto.bytes c.requires.lent r.kept r.sound r.contents r.reply r.latches.0 r.latches.1 r.latches.2 r.latches.3
           p.base n.base p.interrupted n.interrupted p.rows n.rows;
     }
 
@@ -29,14 +29,14 @@ invariant_of-self-in-Err-Slow g c =
     let inv = c.self.invariant in let p = c.prepare.ensures in let r = c.in-Err-Slow.ensures in let n = c.note-in-Err-Slow.ensures in
     let was = c.self.inside in
     let D = g.D.Disk in let R = g.R.Recorder in
-    let s = rw c.in-Err-Slow.field-0-is at r.stands in
+    let s = rw c.in-Err-Slow.field-0-is at r.latches in
     record {
       sectors = r.goes.size ∙ inv.sectors;
       parts = inv.parts;
       counted = n.counted;
       fits = n.fits (rw p.rows inv.fits);
       lost = λ l. absurd (both_ways _ c.if-lost.false l);
-      stands = λ k e. absurd (both_ways _ s.3 e);
+      latched = λ k e. absurd (both_ways _ s.3 e);
       kept = λ k. kept-row-slow R.KEEPS g.L.OneServer.sectors (D.facts was.disk) (D.facts c.run.new.disk)
           (R.base was.recorder) (R.base c.prepare.new.self) (R.base c.note-in-Err-Slow.new.recorder) (R.rows was.recorder) (R.rows c.prepare.new.self) (R.rows c.note-in-Err-Slow.new.recorder)
           (R.interrupted was.recorder) (R.interrupted c.prepare.new.self) (R.interrupted c.note-in-Err-Slow.new.recorder) c.args.command.now c.args.pass.now.connection c.args.data.now c.run.new.bytes
@@ -49,16 +49,16 @@ invariant_of-self-in-Err-Cut g c =
     let inv = c.self.invariant in let p = c.prepare.ensures in let r = c.in-Err-Cut.ensures in let i = c.interrupt.ensures in
     let was = c.self.inside in
     let D = g.D.Disk in let R = g.R.Recorder in
-    let s = rw c.in-Err-Cut.field-0-is at r.stands in
+    let s = rw c.in-Err-Cut.field-0-is at r.latches in
     let left = rw c.in-Err-Cut.field-0-is at r.contents in
-    let had : R.KEEPS ≡ true → (D.facts was.disk).cut ≡ false = λ k. has_power _ _ (inv.stands k) c.if-lost.false in
+    let had : R.KEEPS ≡ true → (D.facts was.disk).cut ≡ false = λ k. has_power _ _ (inv.latched k) c.if-lost.false in
     record {
       sectors = r.goes.size ∙ inv.sectors;
       parts = inv.parts;
       counted = inv.counted ∙ sym (ap (λ (rows : List Row). length rows) (i.rows ∙ p.rows));
       fits = rw (i.rows, p.rows) inv.fits;
       lost = λ _. s.1;
-      stands = λ _ _. refl;
+      latched = λ _ _. refl;
       kept = λ k. kept-lost R.KEEPS g.L.OneServer.sectors (D.facts was.disk) (D.facts c.run.new.disk)
           (R.base was.recorder) (R.base c.prepare.new.self) (R.base c.interrupt.new.self) (R.rows was.recorder) (R.rows c.prepare.new.self) (R.rows c.interrupt.new.self)
           (R.interrupted was.recorder) (R.interrupted c.interrupt.new.self) c.args.command.now c.args.data.now c.run.new.bytes
@@ -70,7 +70,7 @@ pub returns-in-Err-Cut : goal.returns-in-Err-Cut
 returns-in-Err-Cut g c =
     let p = c.prepare.ensures in let r = c.in-Err-Cut.ensures in let i = c.interrupt.ensures in
     let R = g.R.Recorder in
-    let s = rw c.in-Err-Cut.field-0-is at r.stands in
+    let s = rw c.in-Err-Cut.field-0-is at r.latches in
     let left = rw c.in-Err-Cut.field-0-is at r.contents in
     rw (← c.self.view_is) record {
       executes = record {
@@ -78,7 +78,7 @@ returns-in-Err-Cut g c =
         loses = record {
           rows = i.rows ∙ p.rows;
           counts = refl {a = c.args.pass.now.count};
-          stands = s.1;
+          latched = s.1;
           cause = elim s.0 [ inl stood ↦ inl stood | inr came ↦ inr came.2 ];
           lost = refl;
           left = left;

@@ -27,7 +27,7 @@ returns-in-Err-clause-does g c =
     let s = c.self.inside in
     let line = c.reset.new.self in
     let fresh = c.reset.ensures.fresh in
-    let serves : ServesText line [] = (ap is_ended fresh.stage, fresh.stands) in
+    let serves : ServesText line [] = (ap is_ended fresh.stage, fresh.represents) in
     let before = board (g.D.Disk.facts s.disk) s.sectors s.power s.sessions.items s.is_open in
     let after = board (g.D.Disk.facts s.disk) s.sectors s.power (set s.sessions.items c.args.who line) (set s.is_open c.args.who true) in
     halts_seen before c.args.self.now after (Open c.args.who) _ _ c.self.view_is
@@ -39,7 +39,7 @@ returns-clause-does g c =
     let s = c.self.inside in
     let line = c.reset.new.self in
     let fresh = c.reset.ensures.fresh in
-    let serves : ServesText line [] = (ap is_ended fresh.stage, fresh.stands) in
+    let serves : ServesText line [] = (ap is_ended fresh.stage, fresh.represents) in
     let before = board (g.D.Disk.facts s.disk) s.sectors s.power s.sessions.items s.is_open in
     let after = board (g.D.Disk.facts s.disk) s.sectors s.power (set s.sessions.items c.args.who line) (set s.is_open c.args.who true) in
     does_seen before c.args.self.now after (Open c.args.who) _ _ c.put-2.result c.self.view_is (does_by before after (Open c.args.who) _ _ _ _ c.put-2.result _ _
