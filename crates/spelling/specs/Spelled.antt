@@ -1,10 +1,12 @@
--- The bytes that a text spells. Source: own; digits as `hex` reads them, counts as `str::parse` does.
-use Rattle.std.specs.Prelude.{ℕ, Bool, ◌<◌, ◌^◌, ◌==◌, ◌&&◌, if◌then◌else◌, nat_lt, List, [], ◌∷◌, ◌++◌, length, Option, Some, None, Result, Ok, Err}
+-- The bytes that a text spells. Source: own; digits as `hex` reads them, counts as `parse` does.
+use Rattle.std.specs.Prelude.{ℕ, Bool, ◌^◌, ◌==◌, ◌&&◌, if◌then◌else◌, nat_lt}
+use Rattle.std.specs.Prelude.{List, [], ◌∷◌, ◌++◌, length, Option, Some, None, Result, Ok, Err}
 use Rattle.std.specs.List.{repeat, slice_split, before_first, after_first, position_or_len}
 use Rattle.std.specs.Str.{all_ascii_digits}
 use Rattle.std.specs.Str.Parse.{digits_value, without_leading_plus}
 use Rattle.hex.specs.declared.error.FromHexError.{FromHexError}
-use Rattle.hex.specs.declared.error.FromHexError.TheVariants.{InvalidHexCharacter, OddLength, InvalidStringLength, OutOfMemory}
+use Rattle.hex.specs.declared.error.FromHexError.TheVariants.{InvalidHexCharacter, OddLength}
+use Rattle.hex.specs.declared.error.FromHexError.TheVariants.{InvalidStringLength, OutOfMemory}
 use Rattle.hex.specs.Hex.{decode_of}
 use Rattle.spelling.specs.declared.SpellingError.{SpellingError}
 use Rattle.spelling.specs.declared.SpellingError.TheVariants.{NoMemory, NoDigits, NoCount}
@@ -21,8 +23,8 @@ abbrev pub words_of : List ℕ → List (List ℕ)
 words_of text = slice_split (λ c. c == space) text
 
 -- the number that decimal digits write, if it is below 2^32; a plus may stand before them
-abbrev pub number_of : List ℕ → Option ℕ
-number_of digits =
+abbrev pub small_number : List ℕ → Option ℕ
+small_number digits =
     if nat_lt 0 (length digits)
     && (all_ascii_digits digits && nat_lt (digits_value 10 digits) (2 ^ 32))
     then Some (digits_value 10 digits) else None
@@ -35,7 +37,7 @@ has_star word = nat_lt (position_or_len (λ c. c == star) word) (length word)
 abbrev pub count_of : List ℕ → Option ℕ
 count_of word =
     if has_star word
-    then number_of (without_leading_plus (after_first (λ c. c == star) word)) else Some 1
+    then small_number (without_leading_plus (after_first (λ c. c == star) word)) else Some 1
 
 -- the fault of a word whose digits could not be decoded: want of memory, or no digits
 abbrev pub fault_from : FromHexError → SpellingError
@@ -60,7 +62,8 @@ with_front front (Ok bytes) = Ok (front ++ bytes)
 with_front front (Err e) = Err e
 
 -- the bytes of a word, with those of the words behind it
-abbrev pub followed : Result (List ℕ) SpellingError → Result (List ℕ) SpellingError → Result (List ℕ) SpellingError
+abbrev pub followed : Result (List ℕ) SpellingError → Result (List ℕ) SpellingError
+    → Result (List ℕ) SpellingError
 followed (Ok bytes) rest = with_front bytes rest
 followed (Err e) rest = Err e
 

@@ -1,9 +1,9 @@
 //! Bytes that a text spells, for tests whose bytes are written out by hand.
 //!
-//! Promised to the crate above: `bytes_of` answers the bytes that a text spells (`spelled`), what is
-//! wrong with its first word that spells none, or want of memory. Words stand with one space between
-//! them: an even number of hexadecimal digits for as many bytes as half of them, read by `hex`, and
-//! `DIGITS*COUNT` for these bytes so many times, as in `00*512`. Source: own.
+//! Promised to the crate above: `bytes_of` answers the bytes that a text spells (`spelled`), what
+//! is wrong with its first word that spells none, or want of memory. Words stand with one space
+//! between them: an even number of hexadecimal digits for as many bytes as half of them, read by
+//! `hex`, and `DIGITS*COUNT` for these bytes so many times, as in `00*512`. Source: own.
 #![tactic(auto)]
 
 ghost use Rattle.std.specs.Prelude.{◌≡◌, ◌⊎◌, ◌++◌, IfErr, IfOk, MatchResult};
@@ -49,7 +49,8 @@ fn fault_of(error: FromHexError) -> SpellingError
 fn push_word(alloc: Global, bytes: &mut Vec<u8>, word: &str) -> Result<(), SpellingError>
     ensures items { IfOk result (λ _. MatchResult (word_bytes word.now)
         (λ spelled. bytes.new.items ≡ bytes.old.items ++ spelled) (λ _. ⊥)) }
-    ensures fault { IfErr result (λ e. (e ≡ SpellingError.NoMemory) ⊎ (word_bytes word.now ≡ Err e)) }
+    ensures fault { IfErr result (λ e. (e ≡ SpellingError.NoMemory)
+        ⊎ (word_bytes word.now ≡ Err e)) }
 {
     let (digits, count) = word.split_once('*').unwrap_or((word, "1"));
     let Ok(count) = count.parse::<u32>() else {
@@ -68,8 +69,8 @@ fn push_word(alloc: Global, bytes: &mut Vec<u8>, word: &str) -> Result<(), Spell
 /// The bytes that a text spells: words of hexadecimal digits, and `DIGITS*COUNT` for bytes so many
 /// times, with one space between two words. None for the empty text.
 ///
-/// Fails with `NoMemory` where there is no room for the bytes; else with what is wrong with the first
-/// word that spells none: `NoCount` before `NoDigits`.
+/// Fails with `NoMemory` where there is no room for the bytes; else with what is wrong with the
+/// first word that spells none: `NoCount` before `NoDigits`.
 pub fn bytes_of(alloc: Global, text: &str) -> Result<Vec<u8>, SpellingError>
     ensures bytes { IfOk result (λ v. spelled text.now ≡ Ok v.items) }
     ensures fault { IfErr result (λ e. (e ≡ SpellingError.NoMemory) ⊎ (spelled text.now ≡ Err e)) }
