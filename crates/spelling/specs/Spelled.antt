@@ -19,8 +19,8 @@ abbrev pub star : ℕ
 star = 42
 
 -- the words of a text: what stands before, between and behind its spaces
-abbrev pub words_of : List ℕ → List (List ℕ)
-words_of text = slice_split (λ c. c == space) text
+abbrev pub text_words : List ℕ → List (List ℕ)
+text_words text = slice_split (λ c. c == space) text
 
 -- the number that decimal digits write, if it is below 2^32; a plus may stand before them
 abbrev pub small_number : List ℕ → Option ℕ
@@ -74,4 +74,4 @@ bytes_of_words (word ∷ rest) = followed (word_bytes word) (bytes_of_words rest
 
 -- the bytes that a text spells
 abbrev pub spelled : List ℕ → Result (List ℕ) SpellingError
-spelled text = bytes_of_words (words_of text)
+spelled text = bytes_of_words (text_words text)

@@ -5,13 +5,13 @@ use Rattle.std.proofs.lemmas.List.{length_push}
 use Rattle.std.proofs.lemmas.Result.{err_from_is_err_and}
 use Rattle.std.specs.Str.Iter.{split_text, split_has_more, split_pattern}
 use Rattle.spelling.specs.declared.SpellingError.TheVariants.{NoMemory}
-use Rattle.spelling.specs.Spelled.{bytes_of_words, spelled, with_front, word_bytes, words_of}
+use Rattle.spelling.specs.Spelled.{bytes_of_words, spelled, with_front, word_bytes, text_words}
 use Rattle.spelling.proofs.Words.{goes_on, refused, is_done}
 use Rattle.spelling.proofs.bytes_of.Goals as goal
 
 pub loop-word-preserved : goal.loop-word-preserved
 loop-word-preserved c =
-    let words = words_of c.args.text.now in
+    let words = text_words c.args.text.now in
     let same = c.into_iter-word-iterator.ensures.into_iter_gives in
     let of = c.split-word-items.ensures in
     let t = YieldsList-turn (YieldsList-from_str_split 32 c.args.text.now (lit< tt) (ap split_text same ∙ of.text) (ap split_has_more same ∙ of.has_more) (ap split_pattern same ∙ of.pattern)) c.loop-word.yielded _ c.loop-word.yielded_by _ _ c.in-Some.word c.in-Some.is c.next.ensures.steps in
@@ -20,7 +20,7 @@ loop-word-preserved c =
 
 pub returns-in_err-push_word-clause-fault : goal.returns-in_err-push_word-clause-fault
 returns-in_err-push_word-clause-fault c =
-    let words = words_of c.args.text.now in
+    let words = text_words c.args.text.now in
     let same = c.into_iter-word-iterator.ensures.into_iter_gives in
     let of = c.split-word-items.ensures in
     let t = YieldsList-turn (YieldsList-from_str_split 32 c.args.text.now (lit< tt) (ap split_text same ∙ of.text) (ap split_has_more same ∙ of.has_more) (ap split_pattern same ∙ of.pattern)) c.loop-word.yielded _ c.loop-word.yielded_by _ _ c.in-Some.word c.in-Some.is c.next.ensures.steps in
@@ -34,4 +34,4 @@ returns-clause-bytes c =
     let same = c.into_iter-word-iterator.ensures.into_iter_gives in
     let of = c.split-word-items.ensures in
     let t = YieldsList-end (YieldsList-from_str_split 32 c.args.text.now (lit< tt) (ap split_text same ∙ of.text) (ap split_has_more same ∙ of.has_more) (ap split_pattern same ∙ of.pattern)) c.loop-word.yielded _ c.loop-word.yielded_by _ _ c.in-None.is c.next.ensures.steps in
-    is_done c.loop-word.bytes.items (words_of c.args.text.now) (length c.loop-word.yielded) (omega (arith, t.1)) c.loop-word.invariant
+    is_done c.loop-word.bytes.items (text_words c.args.text.now) (length c.loop-word.yielded) (omega (arith, t.1)) c.loop-word.invariant
