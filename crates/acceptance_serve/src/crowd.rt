@@ -10,7 +10,7 @@ use block_device::Disk;
 use fault_model::ImageBus;
 use flash_disk::FlashDisk;
 use image::formatted_image;
-use norbd_serve::{Lists, OpenGate, ServeFault, Sleeper, listen, serve};
+use norbd_serve::{Connections, OpenGate, ServeFault, Sleeper, listen, serve};
 use share::{End, NoRecord, OneServer, Server, Shared};
 use std::alloc::Global;
 use std::io::{Read, Write};
@@ -259,8 +259,8 @@ where
     let seen = &server;
     let (served, right) = thread::join(
         rt,
-        move || match Lists::with_room(alloc, CLIENTS as usize) {
-            Ok(lists) => serve(rt, alloc, seen, listener, gates, lists, Sleeper::new(rt)),
+        move || match Connections::new(alloc, gates) {
+            Ok(connections) => serve(rt, alloc, seen, listener, connections, Sleeper::new(rt)),
             Err(_) => Err(ServeFault::NoMemory),
         },
         move || work(rt, alloc, addr, held),

@@ -4,7 +4,7 @@ ghost use Rattle.std.specs.Prelude.{◌≡◌, ◌*◌, length};
 
 use crate::clients::{ask, begin, is_answered};
 use block_device::PlainDisk;
-use norbd_serve::{Lists, ServeFault, Sleeper, listen, serve};
+use norbd_serve::{Connections, ServeFault, Sleeper, listen, serve};
 use share::{End, FullRecord, Gate, OneServer, Point, Server, Shared};
 use std::alloc::Global;
 use std::io::{Read, Write};
@@ -146,8 +146,8 @@ where
     let seen = &server;
     let (served, met) = thread::join(
         rt,
-        move || match Lists::with_room(alloc, 2) {
-            Ok(lists) => serve(rt, alloc, seen, listener, gates, lists, Sleeper::new(rt)),
+        move || match Connections::new(alloc, gates) {
+            Ok(connections) => serve(rt, alloc, seen, listener, connections, Sleeper::new(rt)),
             Err(_) => Err(ServeFault::NoMemory),
         },
         move || meet(rt, addr, signals),

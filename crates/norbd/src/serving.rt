@@ -11,7 +11,7 @@ use block_device::{Disk, Sink, send};
 use fault_model::{ImageBus, SimError};
 use flash_disk::{FlashDisk, MountError};
 use norbd_line::Fault;
-use norbd_serve::{Lists, OpenGate, ServeFault, Sleeper, listen, serve};
+use norbd_serve::{Connections, OpenGate, ServeFault, Sleeper, listen, serve};
 use share::{FullRecord, NoRecord, OneServer, RecordError, Recorder, Server, Shared};
 use std::alloc::{AllocError, Global};
 use std::marker::Brand;
@@ -149,10 +149,10 @@ where
         (K.written writer.new) (K.faults writer.new) }
 {
     let alloc = rt.alloc();
-    let Ok(lists) = Lists::with_room(alloc, asked.conns as usize) else {
+    let Ok(gates) = vec![in alloc; OpenGate; asked.conns as usize] else {
         return Err(Fault::NoMemory);
     };
-    let Ok(gates) = vec![in alloc; OpenGate; asked.conns as usize] else {
+    let Ok(connections) = Connections::new(alloc, gates) else {
         return Err(Fault::NoMemory);
     };
     let server = Server::new(shared);
@@ -164,7 +164,7 @@ where
     if let Err(fault) = tell(writer, first) {
         return Err(fault);
     }
-    let served = match serve(rt, alloc, &server, listener, gates, lists, Sleeper::new(rt)) {
+    let served = match serve(rt, alloc, &server, listener, connections, Sleeper::new(rt)) {
         Ok(served) => served,
         Err(fault) => return Err(told_of_serving(fault)),
     };

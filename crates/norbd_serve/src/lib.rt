@@ -19,5 +19,5 @@ mod socket;
 pub use accepting::listen;
 pub use fault::ServeFault;
 pub use gates::{OpenGate, Sleeper};
-pub use serving::{Lists, Served, serve};
+pub use serving::{Connections, Served, serve};
 pub use socket::SocketOut;

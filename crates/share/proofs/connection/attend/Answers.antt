@@ -3,15 +3,8 @@ use Rattle.std.proofs.lemmas.List.{with_items_is}
 use Rattle.std.proofs.KnownBytes.{Consumes-nil, Consumes-trans}
 use Rattle.share.specs.Turning.{PieceBy}
 use Rattle.share.specs.Places.{setting, stand, through}
-use Rattle.share.proofs.Connections.{connection-end, connection-input, connection-long, connection-nothing, connection-piece, connection-unopened, underway-read, underway-start}
+use Rattle.share.proofs.Connections.{connection-end, connection-input, connection-long, connection-piece, connection-unopened, underway-read, underway-start}
 use Rattle.share.proofs.connection.attend.Goals as goal
-
-pub returns-in_default-clause-says : goal.returns-in_default-clause-says
-returns-in_default-clause-says g c start begins =
-    let step = through g.T.Door.executes g.T.Door.keeps in
-    let st = setting start g.L.OneServer.sectors in
-    let first = stand c.args.door.now c.args.pass.now c.args.gate.now (g.K.Sink.written c.args.writer.now) (g.K.Sink.faults c.args.writer.now) in
-    connection-nothing step g.G.Gate.passes st first (g.S.Source.remaining c.args.reader.now) (g.S.Source.faults c.args.reader.now) (g.met.G.Gate.none c.args.gate.now)
 
 pub returns-in-Err-clause-says : goal.returns-in-Err-clause-says
 returns-in-Err-clause-says g c start begins =
@@ -28,15 +21,15 @@ loop-piece-init g c = record {
   connection = refl;
   sectors = c.requires.sectors;
   is_open = c.requires.open;
-  room = omega (arith, c.in-Ok.ensures.len);
+  room = c.args.begun.room;
   reader = refl;
   underway = λ start begins.
       let step = through g.T.Door.executes g.T.Door.keeps in
       let st = setting start g.L.OneServer.sectors in
       let first = stand c.args.door.now c.args.pass.now c.args.gate.now (g.K.Sink.written c.args.writer.now) (g.K.Sink.faults c.args.writer.now) in
       let b = stand c.args.door.now c.args.pass.now c.args.gate.now (g.K.Sink.written c.send.new.out) (g.K.Sink.faults c.send.new.out) in
-      let w = underway-start step g.G.Gate.passes st first b c.reply.result.now c.args.session begins (g.met.G.Gate.none c.args.gate.now)
-      refl (c.reply.ensures.value ∙ begins.reply) c.in_default-send.ensures.0 c.in_default-send.ensures.1 in
+      let w = underway-start step g.G.Gate.passes st first b c.reply.result.now c.args.begun.session begins (g.met.G.Gate.none c.args.gate.now)
+      refl (c.reply.ensures.value ∙ begins.reply) c.in_default.ensures.0 c.in_default.ensures.1 in
       ([], omega arith, Consumes-nil (g.S.Source.remaining c.args.reader.now), w.0, w.1);
 }
 
@@ -61,14 +54,14 @@ returns-then-n-eq0-clause-says g c start begins =
     let u = i.underway start begins in
     let mid = stand c.loop-piece.door c.loop-piece.pass c.loop-piece.gate (g.K.Sink.written c.loop-piece.writer) (g.K.Sink.faults c.loop-piece.writer) in
     let into = c.read.new.into in
-    let n = c.in-Ok-read.n in
-    let bytes = c.in-Ok-read.ensures.bytes in
+    let n = c.in-Ok.n in
+    let bytes = c.in-Ok.ensures.bytes in
     let value = ap (λ (xs : List ℕ). length xs) c.as_mut_slice.ensures.value in
     let long : 0 < length into = omega (arith, i.room, value, c.read.auto.into, c.loop-piece.buffer.ok.0) in
     let none : take n into ≡ [] = ap (λ (m : ℕ). take m into) c.if-n-eq0.true in
     connection-end step g.G.Gate.passes st first mid (g.S.Source.remaining c.args.reader.now) (g.S.Source.remaining c.loop-piece.reader) (g.S.Source.remaining c.read.new.self)
     (g.S.Source.faults c.args.reader.now) (g.S.Source.faults c.read.new.self) u.0 (take n into) c.loop-piece.session
-    u.2 bytes.0 none (bytes.1 c.if-n-eq0.true long) (c.in-Ok-read.ensures.faults ∙ i.reader) u.3 u.4
+    u.2 bytes.0 none (bytes.1 c.if-n-eq0.true long) (c.in-Ok.ensures.faults ∙ i.reader) u.3 u.4
 
 pub returns-in-Some-clause-says : goal.returns-in-Some-clause-says
 returns-in-Some-clause-says g c start begins =
@@ -79,9 +72,9 @@ returns-in-Some-clause-says g c start begins =
     let u = i.underway start begins in
     let mid = stand c.loop-piece.door c.loop-piece.pass c.loop-piece.gate (g.K.Sink.written c.loop-piece.writer) (g.K.Sink.faults c.loop-piece.writer) in
     let into = c.read.new.into in
-    let n = c.in-Ok-read.n in
-    let bytes = c.in-Ok-read.ensures.bytes in
-    let bound = c.in-Ok-read.ensures.bound in
+    let n = c.in-Ok.n in
+    let bytes = c.in-Ok.ensures.bytes in
+    let bound = c.in-Ok.ensures.bound in
     let value = ap (λ (xs : List ℕ). length xs) c.as_mut_slice.ensures.value in
     let size : length into ≡ c.loop-piece.buffer.len = omega (arith, value, c.read.auto.into, c.loop-piece.buffer.ok.0) in
     let whole = with_items_is c.loop-piece.buffer into size in
@@ -94,15 +87,15 @@ returns-in-Some-clause-says g c start begins =
     let B : List ℕ → Type 0 = λ x. PieceBy step g.G.Gate.passes st first b (u.0 ++ x) new.session (Some c.in-Some.end) in
     connection-piece step g.G.Gate.passes st first b (g.S.Source.remaining c.args.reader.now) (g.S.Source.remaining c.loop-piece.reader) (g.S.Source.remaining c.read.new.self)
     (g.S.Source.faults c.args.reader.now) (g.S.Source.faults c.read.new.self) u.0 (take n into) c.in-Some.end
-    u.2 bytes.0 (c.in-Ok-read.ensures.faults ∙ i.reader) c.in-Some.ensures.ends (subst B piece by)
+    u.2 bytes.0 (c.in-Ok.ensures.faults ∙ i.reader) c.in-Some.ensures.ends (subst B piece by)
 
 pub loop-piece-preserved : goal.loop-piece-preserved
 loop-piece-preserved g c =
     let e = c.in-None.ensures in
     let into = c.read.new.into in
-    let n = c.in-Ok-read.n in
-    let bytes = c.in-Ok-read.ensures.bytes in
-    let bound = c.in-Ok-read.ensures.bound in
+    let n = c.in-Ok.n in
+    let bytes = c.in-Ok.ensures.bytes in
+    let bound = c.in-Ok.ensures.bound in
     let value = ap (λ (xs : List ℕ). length xs) c.as_mut_slice.ensures.value in
     let size : length into ≡ c.loop-piece.buffer.len = omega (arith, value, c.read.auto.into, c.loop-piece.buffer.ok.0) in
     let whole = with_items_is c.loop-piece.buffer into size in
@@ -112,7 +105,7 @@ loop-piece-preserved g c =
       sectors = e.sectors;
       is_open = e.open refl;
       room = c.loop-piece.invariant.room;
-      reader = c.in-Ok-read.ensures.faults ∙ c.loop-piece.invariant.reader;
+      reader = c.in-Ok.ensures.faults ∙ c.loop-piece.invariant.reader;
       underway = λ start begins.
           let step = through g.T.Door.executes g.T.Door.keeps in
           let st = setting start g.L.OneServer.sectors in
