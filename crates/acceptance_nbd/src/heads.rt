@@ -65,7 +65,7 @@ fn requests_are_written_and_read(rt: HostRuntime) {
 }
 
 #[test]
-fn replies_options_and_flags_have_their_bytes(rt: HostRuntime) {
+fn replies_have_their_bytes(rt: HostRuntime) {
     let refusal = Reply {
         error: ENOSPC,
         cookie: 0x0102_0304_0506_0708,
@@ -74,6 +74,10 @@ fn replies_options_and_flags_have_their_bytes(rt: HostRuntime) {
     refusal.write(&mut bytes);
     assert_eq!(rt; bytes, REFUSAL);
     assert_eq!(rt; Reply::read(&REFUSAL), Some(refusal));
+}
+
+#[test]
+fn options_have_their_bytes(rt: HostRuntime) {
     let head = OptionHead {
         option: OPT_GO,
         length: 11,
@@ -82,12 +86,16 @@ fn replies_options_and_flags_have_their_bytes(rt: HostRuntime) {
     let mut reply = [0xFF; 20];
     assert_eq!(rt; write_option_reply(&mut reply, 0, OPT_GO, REP_ACK, &[]), 20);
     assert_eq!(rt; reply, ACKNOWLEDGED);
+}
+
+#[test]
+fn flags_have_their_bits(rt: HostRuntime) {
     let handshake = HandshakeFlags::FIXED_NEWSTYLE | HandshakeFlags::NO_ZEROES;
-    assert_eq!(rt; handshake.bits(), 3);
     let transmission = TransmissionFlags::HAS_FLAGS
         | TransmissionFlags::SEND_FLUSH
         | TransmissionFlags::SEND_FUA
         | TransmissionFlags::CAN_MULTI_CONN;
-    assert_eq!(rt; transmission.bits(), 0x010D);
-    assert_eq!(rt; (CommandFlags::FUA | CommandFlags::NO_HOLE).bits(), 3);
+    let command = CommandFlags::FUA | CommandFlags::NO_HOLE;
+    assert_eq!(rt; handshake.bits(), 3);
+    assert_eq!(rt; [transmission.bits(), command.bits()], [0x010D, 3]);
 }

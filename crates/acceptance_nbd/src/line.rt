@@ -55,29 +55,6 @@ fn reads_lines(rt: HostRuntime) -> Result<(), Fail> {
         ("norbd plain --sectors 70", plain(70)),
         ("norbd plain --sectors 1", plain(1)),
         ("norbd plain --sectors 65536", plain(65536)),
-        ("norbd plain --sectors 0", Err(2)),
-        ("norbd plain --sectors 65537", Err(2)),
-        ("norbd plain --sectors", Err(2)),
-        ("norbd plain", Err(2)),
-        ("norbd plain --sectors 70 more", Err(2)),
-        ("norbd format a.img --kib 64", format("a.img", 64)),
-        ("norbd format --kib 16384 d/a.img", format("d/a.img", 16384)),
-        ("norbd format a.img --kib 0", Err(2)),
-        ("norbd format a.img --kib 63", Err(2)),
-        ("norbd format a.img --kib 65", Err(2)),
-        ("norbd format a.img --kib 16448", Err(2)),
-        ("norbd format a.img --kib x", Err(2)),
-        ("norbd format a.img --kib", Err(2)),
-        ("norbd format a.img", Err(2)),
-        ("norbd format --kib 64", Err(2)),
-        ("norbd script --kib 64", script(64)),
-        ("norbd script --kib 16384", script(16384)),
-        ("norbd script --kib 63", Err(2)),
-        ("norbd script --kib 65", Err(2)),
-        ("norbd script --kib 16385", Err(2)),
-        ("norbd script --kib", Err(2)),
-        ("norbd script", Err(2)),
-        ("norbd script --kib 64 more", Err(2)),
         (
             "norbd plain --no-record --sectors 70",
             Ok(Line::Plain {
@@ -85,7 +62,20 @@ fn reads_lines(rt: HostRuntime) -> Result<(), Fail> {
                 record: false,
             }),
         ),
-        ("norbd plain --sectors 70 --record", Err(2)),
+        ("norbd format a.img --kib 64", format("a.img", 64)),
+        ("norbd format --kib 16384 d/a.img", format("d/a.img", 16384)),
+        ("norbd script --kib 64", script(64)),
+        ("norbd script --kib 16384", script(16384)),
+    ] {
+        let words = words_of(rt.alloc(), text)?;
+        assert_eq!(rt; line_of(words.as_slice(), rt.alloc()), answer, "{text}");
+    }
+    Ok(())
+}
+
+#[test]
+fn reads_lines_of_serve(rt: HostRuntime) -> Result<(), Fail> {
+    for (text, answer) in [
         (
             "norbd serve a.img --port 10809 --conns 2",
             serve(10809, 2, false),
@@ -98,21 +88,6 @@ fn reads_lines(rt: HostRuntime) -> Result<(), Fail> {
             "norbd serve a.img --port 65535 --conns 1",
             serve(65535, 1, false),
         ),
-        ("norbd serve a.img --port 0 --conns 1", Err(2)),
-        ("norbd serve a.img --port 65536 --conns 1", Err(2)),
-        ("norbd serve a.img --port 10809 --conns 0", Err(2)),
-        ("norbd serve a.img --port 10809 --conns 65", Err(2)),
-        ("norbd serve a.img --port 10809", Err(2)),
-        ("norbd serve a.img --conns 2", Err(2)),
-        ("norbd serve --port 10809 --conns 2", Err(2)),
-        ("norbd serve --help", Err(0)),
-        ("norbd other", Err(2)),
-        ("norbd", Err(2)),
-        ("norbd --help", Err(0)),
-        ("norbd plain --help", Err(0)),
-        ("norbd format --help", Err(0)),
-        ("norbd script --help", Err(0)),
-        ("norbd --version", Err(0)),
     ] {
         let words = words_of(rt.alloc(), text)?;
         assert_eq!(rt; line_of(words.as_slice(), rt.alloc()), answer, "{text}");
@@ -121,13 +96,73 @@ fn reads_lines(rt: HostRuntime) -> Result<(), Fail> {
 }
 
 #[test]
-fn numbers_in_their_ranges_are_read(rt: HostRuntime) -> Result<(), Fail> {
+fn faulty_lines_have_the_status_2(rt: HostRuntime) -> Result<(), Fail> {
+    for text in [
+        "norbd plain --sectors 0",
+        "norbd plain --sectors 65537",
+        "norbd plain --sectors",
+        "norbd plain",
+        "norbd plain --sectors 70 more",
+        "norbd plain --sectors 70 --record",
+        "norbd format a.img --kib 0",
+        "norbd format a.img --kib 63",
+        "norbd format a.img --kib 65",
+        "norbd format a.img --kib 16448",
+        "norbd format a.img --kib x",
+        "norbd format a.img --kib",
+        "norbd format a.img",
+        "norbd format --kib 64",
+        "norbd script --kib 63",
+        "norbd script --kib 65",
+        "norbd script --kib 16385",
+        "norbd script --kib",
+        "norbd script",
+        "norbd script --kib 64 more",
+        "norbd serve a.img --port 0 --conns 1",
+        "norbd serve a.img --port 65536 --conns 1",
+        "norbd serve a.img --port 10809 --conns 0",
+        "norbd serve a.img --port 10809 --conns 65",
+        "norbd serve a.img --port 10809",
+        "norbd serve a.img --conns 2",
+        "norbd serve --port 10809 --conns 2",
+        "norbd other",
+        "norbd",
+    ] {
+        let words = words_of(rt.alloc(), text)?;
+        assert_eq!(rt; line_of(words.as_slice(), rt.alloc()), Err(2), "{text}");
+    }
+    Ok(())
+}
+
+#[test]
+fn what_is_asked_for_has_the_status_0(rt: HostRuntime) -> Result<(), Fail> {
+    for text in [
+        "norbd --help",
+        "norbd plain --help",
+        "norbd format --help",
+        "norbd script --help",
+        "norbd serve --help",
+        "norbd --version",
+    ] {
+        let words = words_of(rt.alloc(), text)?;
+        assert_eq!(rt; line_of(words.as_slice(), rt.alloc()), Err(0), "{text}");
+    }
+    Ok(())
+}
+
+#[test]
+fn sectors_in_their_range_are_read(rt: HostRuntime) -> Result<(), Fail> {
     for part in 1..9_363u32 {
         let sectors = 7 * part;
         let text = format!(in rt.alloc(); "norbd plain --sectors {sectors}")?;
         let words = words_of(rt.alloc(), text.as_str())?;
         assert_eq!(rt; line_of(words.as_slice(), rt.alloc()), plain(sectors));
     }
+    Ok(())
+}
+
+#[test]
+fn sizes_of_chips_are_read(rt: HostRuntime) -> Result<(), Fail> {
     for part in 1..257u32 {
         let kib = 64 * part;
         let text = format!(in rt.alloc(); "norbd format a.img --kib {kib}")?;
@@ -170,10 +205,15 @@ fn faults_show_their_texts(rt: HostRuntime) -> Result<(), Fail> {
     ] {
         assert_eq!(rt; format!(in rt.alloc(); "{fault}")?.as_str(), text);
     }
-    let text = fault_text(rt.alloc(), "norbd format a.img --kib 65")?;
-    assert_eq!(rt; text.as_str(), "bad size");
-    let text = fault_text(rt.alloc(), "norbd script --kib 65")?;
-    assert_eq!(rt; text.as_str(), "bad size");
+    Ok(())
+}
+
+#[test]
+fn faulty_lines_show_their_texts(rt: HostRuntime) -> Result<(), Fail> {
+    for line in ["norbd format a.img --kib 65", "norbd script --kib 65"] {
+        let text = fault_text(rt.alloc(), line)?;
+        assert_eq!(rt; text.as_str(), "bad size");
+    }
     // `clap`'s text says norbd whatever the first word.
     let text = fault_text(rt.alloc(), "out/program")?;
     assert!(rt; text.as_str().contains("Usage: norbd <COMMAND>"), "{text}");

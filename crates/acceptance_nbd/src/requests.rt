@@ -38,34 +38,51 @@ fn the_end_of_the_disk(rt: HostRuntime) {
     }
 }
 
-#[test]
-fn requests_are_cut_out_of_pieces(rt: HostRuntime) {
-    let read = Next::Run(Command {
+/// The READ of sector 69 as a command.
+fn read_of_sector_69() -> Next {
+    Next::Run(Command {
         kind: CommandKind::Read,
         flags: CommandFlags::from_bits_retain(0),
         cookie: 0x0102_0304_0506_0708,
         offset: 0x8A00,
         length: 512,
-    });
-    let refused = Next::Refused(0x0102_0304_0506_0708, 22);
-    let sector = [0x25; 512];
-    let zeros = [0; 28];
-    // A READ in pieces of one byte.
+    })
+}
+
+#[test]
+fn a_request_comes_in_pieces_of_one_byte(rt: HostRuntime) {
     let mut parser = Transmission::new(70);
     for byte in &READ_OF_SECTOR_69[..27] {
         assert_eq!(rt; parser.take(&[*byte]), taken(1, Next::More));
     }
-    assert_eq!(rt; parser.take(&READ_OF_SECTOR_69[27..]), taken(1, read));
-    // The payload of a refused WRITE, and a READ after it.
+    let last = parser.take(&READ_OF_SECTOR_69[27..]);
+    assert_eq!(rt; last, taken(1, read_of_sector_69()));
+}
+
+#[test]
+fn the_payload_of_a_refused_write_is_dropped(rt: HostRuntime) {
+    let sector = [0x25; 512];
     let mut parser = Transmission::new(70);
     assert_eq!(rt; parser.take(&LONG_WRITE), taken(28, Next::More));
     for _ in 0..128 {
         assert_eq!(rt; parser.take(&sector), taken(512, Next::More));
     }
-    assert_eq!(rt; parser.take(&sector), taken(512, refused));
-    assert_eq!(rt; parser.take(&READ_OF_SECTOR_69), taken(28, read));
-    // A wrong magic closes.
+    let refused = parser.take(&sector);
+    assert_eq!(rt;
+        refused,
+        taken(512, Next::Refused(0x0102_0304_0506_0708, 22))
+    );
+    let behind = parser.take(&READ_OF_SECTOR_69);
+    assert_eq!(rt; behind, taken(28, read_of_sector_69()));
+}
+
+#[test]
+fn a_wrong_magic_closes(rt: HostRuntime) {
     let mut parser = Transmission::new(70);
-    assert_eq!(rt; parser.take(&zeros), taken(28, Next::Close));
-    assert_eq!(rt; parser.take(&READ_OF_SECTOR_69), taken(0, Next::Close));
+    let zeros = parser.take(&[0; 28]);
+    let behind = parser.take(&READ_OF_SECTOR_69);
+    assert_eq!(rt;
+        [zeros, behind],
+        [taken(28, Next::Close), taken(0, Next::Close)]
+    );
 }

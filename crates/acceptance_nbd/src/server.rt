@@ -122,8 +122,30 @@ fn error_of<D: Disk, R: Recorder, L: OneServer, A: Abort>(
     }
 }
 
-/// A WRITE to sector 1, a READ of it and a FLUSH, on the second of two connections; the server's
-/// name is for a failure.
+/// The errors that answer a WRITE to sector 1, a READ of it and a FLUSH.
+fn errors_of_three<R: Recorder, L: OneServer, A: Abort>(
+    rt: &A,
+    name: &str,
+    server: &mut Shared<PlainDisk, R, L>,
+    pass: &mut Pass<L>,
+    payload: &mut [u8],
+    content: &mut [u8],
+) -> [u32; 3]
+    requires payload { length payload.old ≡ 512 }
+    requires content { length content.old ≡ 512 }
+{
+    let write = command(CommandKind::Write, 512, 512);
+    let read = command(CommandKind::Read, 512, 512);
+    let flush = command(CommandKind::Flush, 0, 0);
+    [
+        error_of(rt, name, server, pass, &write, payload),
+        error_of(rt, name, server, pass, &read, content),
+        error_of(rt, name, server, pass, &flush, &mut []),
+    ]
+}
+
+/// A WRITE, a READ and a FLUSH on the second of two connections; the server's name is for a
+/// failure.
 fn run_three<R: Recorder, L: OneServer, A: Abort>(
     rt: &A,
     alloc: Global,
@@ -131,26 +153,14 @@ fn run_three<R: Recorder, L: OneServer, A: Abort>(
     server: &mut Shared<PlainDisk, R, L>,
     rows: u64,
 ) -> Result<(), Fail> {
-    let Some(first) = server.pass() else {
-        panic!(rt; "{name}: the first pass");
-    };
-    let Some(mut pass) = server.pass() else {
-        panic!(rt; "{name}: the second pass");
-    };
-    assert_eq!(rt; first.connection(), 0, "{name}");
-    assert_eq!(rt; pass.connection(), 1, "{name}");
-    let mut payload = vec![in alloc; 0x11u8; 512]?;
-    let mut content = vec![in alloc; 0u8; 512]?;
-    let write = command(CommandKind::Write, 512, 512);
-    let read = command(CommandKind::Read, 512, 512);
-    let flush = command(CommandKind::Flush, 0, 0);
-    let written = error_of(rt, name, server, &mut pass, &write, payload.as_mut_slice());
-    assert_eq!(rt; written, 0, "{name}: a WRITE");
-    let got = error_of(rt, name, server, &mut pass, &read, content.as_mut_slice());
-    assert_eq!(rt; got, 0, "{name}: a READ");
-    let flushed = error_of(rt, name, server, &mut pass, &flush, &mut []);
-    assert_eq!(rt; flushed, 0, "{name}: a FLUSH");
-    assert_eq!(rt; content.as_slice(), payload.as_slice(), "{name}");
+    let first = server.pass().expect(rt, "the first pass");
+    let mut pass = server.pass().expect(rt, "the second pass");
+    assert_eq!(rt; [first.connection(), pass.connection()], [0, 1], "{name}");
+    let mut payload = [0x11u8; 512];
+    let mut content = [0u8; 512];
+    let errors = errors_of_three(rt, name, server, &mut pass, &mut payload, &mut content);
+    assert_eq!(rt; errors, [0, 0, 0], "{name}");
+    assert_eq!(rt; content, payload, "{name}");
     assert_eq!(rt; pass.count(), rows, "{name}");
     assert_eq!(rt; server.tidy(), Ok(false), "{name}");
     Ok(())
@@ -234,35 +244,44 @@ fn read_and_close<L: OneServer, M: Ledger, A: Abort>(
     let mut server = Shared::<PlainDisk, NoRecord, L>::new(disk, blank);
     let first = server.pass().expect(rt, "the first pass");
     let second = server.pass().expect(rt, "the second pass");
-    let mut room = vec![in alloc; 0xffu8; 600]?;
-    let mut wanted = vec![in alloc; 0u8; 528]?;
+    let mut room = [0xffu8; 600];
+    let mut writer = FixedOut::<M>::new(&mut room, tally);
+    assert_eq!(rt;
+        read_sector(alloc, &mut server, first, &mut writer),
+        (0, End::EndOfInput)
+    );
+    assert_eq!(rt;
+        send_zeros(alloc, &mut server, second, &mut writer),
+        End::Closed
+    );
+    let mut wanted = [0u8; 528];
     wanted[..16].copy_from_slice(&HEAD_OF_REPLY);
-    let mut writer = FixedOut::<M>::new(room.as_mut_slice(), tally);
-    let mut reader = FixedIn::new(&READ_OF_SECTOR_1);
-    let (first, end) = exchange(
-        alloc,
-        &mut server,
-        first,
-        &mut reader,
-        &mut writer,
-        &mut OpenGate,
-    );
-    assert_eq!(rt; end, End::EndOfInput);
-    assert_eq!(rt; first.count(), 0);
-    assert_eq!(rt; writer.bytes(), wanted.as_slice());
-    let zeros = [0u8; 28];
-    let mut reader = FixedIn::new(&zeros);
-    let (_, end) = exchange_alone(
-        alloc,
-        &mut server,
-        second,
-        &mut reader,
-        &mut writer,
-        &mut OpenGate,
-    );
-    assert_eq!(rt; end, End::Closed);
     assert_eq!(rt; writer.bytes(), wanted.as_slice());
     Ok(())
+}
+
+/// How many rows a connection has that asks for sector 1, and how it ends.
+fn read_sector<L: OneServer, M: Ledger>(
+    alloc: Global,
+    server: &mut Shared<PlainDisk, NoRecord, L>,
+    pass: Pass<L>,
+    writer: &mut FixedOut<'_, M>,
+) -> (u64, End) {
+    let mut reader = FixedIn::new(&READ_OF_SECTOR_1);
+    let (pass, end) = exchange(alloc, server, pass, &mut reader, writer, &mut OpenGate);
+    (pass.count(), end)
+}
+
+/// How a connection ends that begins with 28 bytes of zeros.
+fn send_zeros<L: OneServer, M: Ledger>(
+    alloc: Global,
+    server: &mut Shared<PlainDisk, NoRecord, L>,
+    pass: Pass<L>,
+    writer: &mut FixedOut<'_, M>,
+) -> End {
+    let mut reader = FixedIn::new(&[0u8; 28]);
+    let (_, end) = exchange_alone(alloc, server, pass, &mut reader, writer, &mut OpenGate);
+    end
 }
 
 #[test]
@@ -295,48 +314,31 @@ fn write_slowly<L: OneServer, M: Ledger, A: Abort>(
         panic!(rt; "a recording server");
     };
     let mut pass = server.pass().expect(rt, "the first pass");
-    let mut bytes = vec![in alloc; 0x11u8; 512]?;
-    let write = command(CommandKind::Write, 512, 512);
-    let read = command(CommandKind::Read, 512, 512);
-    let flush = command(CommandKind::Flush, 0, 0);
-    assert_eq!(rt;
-        error_of(
-            rt,
-            "a stuck disk",
-            &mut server,
-            &mut pass,
-            &read,
-            bytes.as_mut_slice()
-        ),
-        0
-    );
-    assert_eq!(rt;
-        error_of(
-            rt,
-            "a stuck disk",
-            &mut server,
-            &mut pass,
-            &write,
-            bytes.as_mut_slice()
-        ),
-        5
-    );
-    assert_eq!(rt;
-        error_of(
-            rt,
-            "a stuck disk",
-            &mut server,
-            &mut pass,
-            &read,
-            bytes.as_mut_slice()
-        ),
-        5
-    );
-    assert_eq!(rt;
-        error_of(rt, "a stuck disk", &mut server, &mut pass, &flush, &mut []),
-        0
-    );
+    let mut bytes = [0x11u8; 512];
+    let errors = errors_of_four(rt, &mut server, &mut pass, &mut bytes);
+    assert_eq!(rt; errors, [0, 5, 5, 0]);
     assert_eq!(rt; pass.count(), 4);
     assert_eq!(rt; server.tidy(), Err(DiskError::Slow));
     Ok(())
+}
+
+/// The errors that answer a READ, a WRITE, the READ again and a FLUSH.
+fn errors_of_four<L: OneServer, M: Ledger, A: Abort>(
+    rt: &A,
+    server: &mut Shared<StuckDisk<M>, FullRecord, L>,
+    pass: &mut Pass<L>,
+    bytes: &mut [u8],
+) -> [u32; 4]
+    requires { length bytes.old ≡ 512 }
+{
+    let name = "a stuck disk";
+    let write = command(CommandKind::Write, 512, 512);
+    let read = command(CommandKind::Read, 512, 512);
+    let flush = command(CommandKind::Flush, 0, 0);
+    [
+        error_of(rt, name, server, pass, &read, bytes),
+        error_of(rt, name, server, pass, &write, bytes),
+        error_of(rt, name, server, pass, &read, bytes),
+        error_of(rt, name, server, pass, &flush, &mut []),
+    ]
 }

@@ -52,58 +52,59 @@ impl Write for Flaky {
     }
 }
 
-#[test]
-fn a_failed_call_moves_nothing(rt: HostRuntime) -> Result<(), Fail> {
-    read_send_and_fill::<Brand, Brand, Brand, _>(
-        &rt,
-        rt.alloc(),
-        Blank::new(1),
-        Blank::new(1),
-        Blank::new(1),
-    )
+/// A stream that has moved nothing.
+fn new_flaky(alloc: Global) -> Flaky {
+    Flaky {
+        calls: 0,
+        taken: Vec::new(alloc),
+    }
 }
 
-fn read_send_and_fill<I: Ledger, O: Ledger, F: Ledger, R: Abort>(
-    rt: &R,
-    alloc: Global,
-    reads: Blank,
-    writes: Blank,
-    fills: Blank,
-) -> Result<(), Fail>
-    requires reads { (reads.name ≡ I.name) × (reads.parts ≡ I.parts) × (0 < I.parts) }
-    requires writes { (writes.name ≡ O.name) × (writes.parts ≡ O.parts) × (0 < O.parts) }
-    requires fills { (fills.name ≡ F.name) × (fills.parts ≡ F.parts) × (0 < F.parts) }
+#[test]
+fn a_failed_read_gives_nothing(rt: HostRuntime) {
+    read_flakily::<Brand, _>(&rt, rt.alloc(), Blank::new(1));
+}
+
+fn read_flakily<L: Ledger, R: Abort>(rt: &R, alloc: Global, reads: Blank)
+    requires { (reads.name ≡ L.name) × (reads.parts ≡ L.parts) × (0 < L.parts) }
 {
-    // A failed read gives nothing.
-    let inner = Flaky {
-        calls: 0,
-        taken: Vec::new(alloc),
-    };
-    let mut source = Io::<Flaky, I>::new(inner, reads);
+    let mut source = Io::<Flaky, L>::new(new_flaky(alloc), reads);
     let mut into = [0u8; 4];
-    assert_eq!(rt; source.read(&mut into), Ok(2));
+    let first = source.read(&mut into);
+    let moved = [first, source.read(&mut into), source.read(&mut into)];
+    assert_eq!(rt; moved, [Ok(2), Err(Failed), Ok(2)]);
     assert_eq!(rt; into, [7, 8, 0, 0]);
-    assert_eq!(rt; source.read(&mut into), Err(Failed));
-    assert_eq!(rt; source.read(&mut into), Ok(2));
-    // A failed write ends a send.
-    let inner = Flaky {
-        calls: 0,
-        taken: Vec::new(alloc),
-    };
-    let mut sink = Io::<Flaky, O>::new(inner, writes);
-    assert_eq!(rt; send(&mut sink, &[1, 2, 3, 4, 5]), Err(Failed));
-    assert_eq!(rt; sink.inner.taken.as_slice(), [1, 2].as_slice());
-    assert_eq!(rt; send(&mut sink, &[6, 7, 8]), Ok(()));
+}
+
+#[test]
+fn a_failed_write_ends_a_send(rt: HostRuntime) {
+    send_flakily::<Brand, _>(&rt, rt.alloc(), Blank::new(1));
+}
+
+fn send_flakily<L: Ledger, R: Abort>(rt: &R, alloc: Global, writes: Blank)
+    requires { (writes.name ≡ L.name) × (writes.parts ≡ L.parts) × (0 < L.parts) }
+{
+    let mut sink = Io::<Flaky, L>::new(new_flaky(alloc), writes);
+    let first = send(&mut sink, &[1, 2, 3, 4, 5]);
+    assert_eq!(rt; [first, send(&mut sink, &[6, 7, 8])], [Err(Failed), Ok(())]);
     assert_eq!(rt; sink.inner.taken.as_slice(), [1, 2, 6, 7, 8].as_slice());
-    // A full room keeps what it took.
+}
+
+#[test]
+fn a_full_room_keeps_what_it_took(rt: HostRuntime) {
+    fill::<Brand, _>(&rt, Blank::new(1));
+}
+
+fn fill<L: Ledger, R: Abort>(rt: &R, writes: Blank)
+    requires { (writes.name ≡ L.name) × (writes.parts ≡ L.parts) × (0 < L.parts) }
+{
     let mut room = [0u8; 3];
-    let mut full = FixedOut::<F>::new(&mut room, fills);
-    assert_eq!(rt; send(&mut full, &[1, 2]), Ok(()));
-    assert_eq!(rt; send(&mut full, &[3, 4]), Err(Failed));
+    let mut full = FixedOut::<L>::new(&mut room, writes);
+    let first = send(&mut full, &[1, 2]);
+    assert_eq!(rt; [first, send(&mut full, &[3, 4])], [Ok(()), Err(Failed)]);
+    let first = full.write(&[5]);
+    assert_eq!(rt; [first, full.write(&[])], [Err(Failed), Ok(0)]);
     assert_eq!(rt; full.bytes(), [1, 2, 3].as_slice());
-    assert_eq!(rt; full.write(&[5]), Err(Failed));
-    assert_eq!(rt; full.write(&[]), Ok(0));
-    Ok(())
 }
 
 #[test]
