@@ -79,6 +79,16 @@ pub(crate) fn first_other(bytes: &[u8], from: usize, to: usize, byte: u8) -> Opt
     None
 }
 
+/// The first place of these stretches, each from a place up to another, that doesn't hold its byte.
+pub(crate) fn first_unlike(bytes: &[u8], stretches: &[(usize, usize, u8)]) -> Option<usize> {
+    for (from, to, byte) in stretches {
+        if let Some(at) = first_other(bytes, *from, *to, *byte) {
+            return Some(at);
+        }
+    }
+    None
+}
+
 /// A chip with this memory whose `cut`-th change is cut, 0 for none; a cut change leaves what
 /// `mask` says.
 pub(crate) fn chip(alloc: Global, bytes: &[u8], cut: u32, mask: u8) -> Result<SimChip, Fail> {

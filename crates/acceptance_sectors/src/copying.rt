@@ -2,7 +2,8 @@
 //! changes and the cuts of each.
 
 use crate::chips::{
-    Call, End, after, changes, chip, erased, first_other, four, head, run, sector, torn,
+    Call, End, after, changes, chip, erased, first_other, first_unlike, four, head, run, sector,
+    torn,
 };
 use nor_layout::{Generation, Header, Kind, Tag};
 use std::alloc::Global;
@@ -19,6 +20,9 @@ const MARK: usize = 0xF004;
 const FIRST_PLACE: usize = 0xF010;
 
 const LAST_PLACE: usize = 0xF028;
+
+/// The two pages of the last slot of block 15, and what each holds of a copied sector.
+const PAGES: [(usize, usize, u8); 2] = [(0xFE00, 0xFF00, 1), (0xFF00, 0x1_0000, 2)];
 
 /// Sector 5 in its third generation.
 const FIVE: Tag = Tag {
@@ -70,13 +74,18 @@ fn a_begun_block_is_void_and_names_its_source(rt: HostRuntime) -> Result<(), Fai
     assert_eq!(rt; changes(rt.alloc(), &memory, begin, &[])?, 1);
     let begun = after(rt.alloc(), &memory, begin, &[])?;
     assert_eq!(rt; four(&begun, MARK)?, [0xFE, 0xFF, 0x04, 0x00]);
-    assert_eq!(rt;
-        head(rt.alloc(), &begun, TARGET, 0)?,
-        (Kind::Void, Header::Free)
-    );
     assert_eq!(rt; begun.get(0..MARK) == memory.get(0..MARK), true);
     assert_eq!(rt; first_other(&begun, MARK + 4, 0x1_0000, 0xFF), None);
-    // Cut: nothing came, the state with one bit of the source, all but the state, or all.
+    let found = head(rt.alloc(), &begun, TARGET, 0)?;
+    assert_eq!(rt; found, (Kind::Void, Header::Free));
+    Ok(())
+}
+
+#[test]
+fn a_beginning_that_is_cut_leaves_one_kind_or_the_other(rt: HostRuntime) -> Result<(), Fail> {
+    let memory = filled(rt.alloc())?;
+    let begin = Call::Begin(TARGET, SOURCE);
+    // Nothing came, the state with one bit of the source, all but the state, or all.
     for (mask, kind) in [
         (0x00, Kind::Plain),
         (0x01, Kind::Void),
@@ -95,22 +104,21 @@ fn a_live_slot_is_copied_by_three_changes(rt: HostRuntime) -> Result<(), Fail> {
     assert_eq!(rt; changes(rt.alloc(), &begun, copy(6), &[])?, 3);
     let memory = after(rt.alloc(), &begun, copy(6), &[])?;
     assert_eq!(rt; four(&memory, LAST_PLACE)?, [0xFC, 0xFE, 0x05, 0x00]);
-    assert_eq!(rt; first_other(&memory, 0xFE00, 0xFF00, 1), None);
-    assert_eq!(rt; first_other(&memory, 0xFF00, 0x1_0000, 2), None);
-    assert_eq!(rt;
-        head(rt.alloc(), &memory, TARGET, 6)?,
-        (Kind::Void, Header::Live(FIVE))
-    );
+    assert_eq!(rt; first_unlike(&memory, &PAGES), None);
+    let found = head(rt.alloc(), &memory, TARGET, 6)?;
+    assert_eq!(rt; found, (Kind::Void, Header::Live(FIVE)));
     assert_eq!(rt; memory.get(0..LAST_PLACE) == begun.get(0..LAST_PLACE), true);
-    // The descriptor comes last.
+    Ok(())
+}
+
+#[test]
+fn the_descriptor_of_a_copy_comes_last(rt: HostRuntime) -> Result<(), Fail> {
+    let begun = copied(rt.alloc(), 1)?;
     for (change, pages) in [(1, 1), (2, 2)] {
         let left = torn(rt.alloc(), &begun, copy(6), &[], change, 0xFF)?;
         assert_eq!(rt; four(&left, LAST_PLACE)?, [0xFF; 4]);
-        assert_eq!(rt; first_other(&left, 0xFE00, 0xFF00, 1), None);
-        assert_eq!(rt;
-            first_other(&left, 0xFF00, 0x1_0000, 2).is_none(),
-            pages == 2
-        );
+        let wrong = first_unlike(&left, &PAGES);
+        assert_eq!(rt; wrong, if pages == 1 { Some(0xFF00) } else { None });
     }
     Ok(())
 }
@@ -139,23 +147,28 @@ fn a_commit_an_erase_and_a_settlement_end_the_copying(rt: HostRuntime) -> Result
         (4, Call::Settle(TARGET), 1, [0xF8, 0xFF, 0x04, 0x00]),
     ] {
         let memory = copied(rt.alloc(), steps)?;
-        assert_eq!(rt; changes(rt.alloc(), &memory, call, &[])?, count, "{call:?}");
-        assert_eq!(rt;
-            four(&after(rt.alloc(), &memory, call, &[])?, MARK)?,
-            mark,
-            "{call:?}"
-        );
+        let made = changes(rt.alloc(), &memory, call, &[])?;
+        let left = four(&after(rt.alloc(), &memory, call, &[])?, MARK)?;
+        assert_eq!(rt; (made, left), (count, mark), "{call:?}");
     }
+    Ok(())
+}
+
+#[test]
+fn a_copy_that_is_settled_stands_alone(rt: HostRuntime) -> Result<(), Fail> {
     let memory = copied(rt.alloc(), 5)?;
     assert_eq!(rt; four(&memory, 0x1800)?, [0xF8, 0x04, 0x00, 0xFF]);
     assert_eq!(rt; first_other(&memory, 0x4000, 0xF000, 0xFF), None);
-    assert_eq!(rt;
-        head(rt.alloc(), &memory, TARGET, 6)?,
-        (Kind::Settled, Header::Live(FIVE))
-    );
-    assert_eq!(rt;
+    let heads = [
         head(rt.alloc(), &memory, SOURCE, 6)?,
-        (Kind::Plain, Header::Free)
+        head(rt.alloc(), &memory, TARGET, 6)?,
+    ];
+    assert_eq!(rt;
+        heads,
+        [
+            (Kind::Plain, Header::Free),
+            (Kind::Settled, Header::Live(FIVE))
+        ]
     );
     Ok(())
 }

@@ -2,8 +2,8 @@
 //! and what its cuts leave.
 
 use crate::chips::{
-    Call, End, after, changes, chip, erased, first_other, four, head, memory_of, of_call, sector,
-    set, slots, torn,
+    Call, End, after, changes, chip, erased, first_other, first_unlike, four, head, memory_of,
+    of_call, sector, set, slots, torn,
 };
 use nor_layout::{Generation, Header, Kind, Tag};
 use sector_slots::SlotCalls;
@@ -81,17 +81,23 @@ fn a_put_writes_the_descriptor_and_the_sector(rt: HostRuntime) -> Result<(), Fai
         Call::Put(0, FIRST),
         &sector(rt.alloc(), 1)?,
     )?;
-    assert_eq!(rt; first_other(&memory, 0, 0x4010, 0xFF), None);
     assert_eq!(rt; four(&memory, 0x4010)?, [0xFC, 0xFC, 0x00, 0x00]);
-    assert_eq!(rt; first_other(&memory, 0x4014, 0x4200, 0xFF), None);
-    assert_eq!(rt; first_other(&memory, 0x4200, 0x4300, 1), None);
-    assert_eq!(rt; first_other(&memory, 0x4300, 0x4400, 2), None);
-    assert_eq!(rt; first_other(&memory, 0x4400, 0x1_0000, 0xFF), None);
-    assert_eq!(rt;
+    let beside = [
+        (0, 0x4010, 0xFF),
+        (0x4014, 0x4200, 0xFF),
+        (0x4200, 0x4300, 1),
+        (0x4300, 0x4400, 2),
+        (0x4400, 0x1_0000, 0xFF),
+    ];
+    assert_eq!(rt; first_unlike(&memory, &beside), None);
+    let headers = [
         header(rt.alloc(), &memory, 0)?,
-        (Header::Live(FIRST), false)
+        header(rt.alloc(), &memory, 1)?,
+    ];
+    assert_eq!(rt;
+        headers,
+        [(Header::Live(FIRST), false), (Header::Free, true)]
     );
-    assert_eq!(rt; header(rt.alloc(), &memory, 1)?, (Header::Free, true));
     Ok(())
 }
 
@@ -109,23 +115,31 @@ fn a_sector_has_its_low_byte_first(rt: HostRuntime) -> Result<(), Fail> {
         &sector(rt.alloc(), 7)?,
     )?;
     assert_eq!(rt; four(&memory, 0x6028)?, [0xFC, 0xFE, 0x02, 0x01]);
-    assert_eq!(rt; first_other(&memory, 0x6E00, 0x6F00, 7), None);
-    assert_eq!(rt; first_other(&memory, 0x6F00, 0x7000, 8), None);
-    let (found, content) = get(rt.alloc(), &memory, 20)?;
-    assert_eq!(rt; found, Some(tag));
-    assert_eq!(rt; content, sector(rt.alloc(), 7)?);
-    assert_eq!(rt;
-        content_of(rt.alloc(), &memory, 20)?,
-        sector(rt.alloc(), 7)?
-    );
-    assert_eq!(rt;
-        head(rt.alloc(), &memory, 2, 6)?,
-        (Kind::Plain, Header::Live(tag))
-    );
-    assert_eq!(rt;
+    let pages = [(0x6E00, 0x6F00, 7), (0x6F00, 0x7000, 8)];
+    assert_eq!(rt; first_unlike(&memory, &pages), None);
+    let heads = [
         head(rt.alloc(), &memory, 2, 5)?,
-        (Kind::Plain, Header::Free)
+        head(rt.alloc(), &memory, 2, 6)?,
+    ];
+    assert_eq!(rt;
+        heads,
+        [
+            (Kind::Plain, Header::Free),
+            (Kind::Plain, Header::Live(tag))
+        ]
     );
+    Ok(())
+}
+
+#[test]
+fn a_put_sector_is_got(rt: HostRuntime) -> Result<(), Fail> {
+    let content = sector(rt.alloc(), 7)?;
+    let blank = erased(rt.alloc())?;
+    let memory = after(rt.alloc(), &blank, Call::Put(20, FIRST), &content)?;
+    let (found, got) = get(rt.alloc(), &memory, 20)?;
+    assert_eq!(rt; found, Some(FIRST));
+    assert_eq!(rt; got, content);
+    assert_eq!(rt; content_of(rt.alloc(), &memory, 20)?, content);
     Ok(())
 }
 
@@ -191,12 +205,14 @@ fn a_retired_slot_is_dead(rt: HostRuntime) -> Result<(), Fail> {
     assert_eq!(rt; changes(rt.alloc(), &live, Call::Retire(0), &content)?, 1);
     let dead = after(rt.alloc(), &live, Call::Retire(0), &content)?;
     assert_eq!(rt; four(&dead, 0x4010)?, [0xF8, 0xFC, 0x00, 0x00]);
-    assert_eq!(rt; header(rt.alloc(), &dead, 0)?, (Header::Dead, false));
     let (found, kept) = get(rt.alloc(), &dead, 0)?;
-    assert_eq!(rt; found, None);
-    assert_eq!(rt; four(&kept, 0)?, [0; 4]);
+    assert_eq!(rt; (found, four(&kept, 0)?), (None, [0; 4]));
     let none = torn(rt.alloc(), &live, Call::Retire(0), &content, 1, 0x00)?;
-    assert_eq!(rt; header(rt.alloc(), &none, 0)?.0, Header::Live(FIRST));
+    let headers = [header(rt.alloc(), &dead, 0)?, header(rt.alloc(), &none, 0)?];
+    assert_eq!(rt;
+        headers,
+        [(Header::Dead, false), (Header::Live(FIRST), false)]
+    );
     Ok(())
 }
 
