@@ -6,6 +6,7 @@ ghost use Rattle.std.specs.Prelude.{◌<◌};
 use crate::chips::{End, chip};
 use crate::maps::{COUNT, Sectors, formatted, memory_behind, mounted, stamp_of, write};
 use nor_driver::NorError;
+use std::alloc::Global;
 use std::test::*;
 
 /// How many calls a run makes.
@@ -154,6 +155,22 @@ fn run(map: &mut Sectors, plain: &mut [u8; 70], seed: u64) -> Result<Tally, Fail
     Ok(tally)
 }
 
+/// Whether the run met enough of each kind.
+fn is_enough(tally: &Tally) -> bool {
+    tally.writes > 8_000
+        && tally.tidyings > 1_000
+        && tally.losses > 500
+        && tally.olds > 100
+        && tally.news > 50
+        && tally.cut_mounts > 10
+}
+
+/// The first sector that isn't what the plain map says, where the chip is mounted from its bytes
+/// alone.
+fn first_wrong_of(alloc: Global, bytes: &[u8], plain: &[u8; 70]) -> Result<Option<u16>, Fail> {
+    first_wrong(&mut mounted(alloc, chip(alloc, bytes, 0, 0)?)?, plain)
+}
+
 #[test]
 fn ten_thousand_calls_with_losses_leave_what_a_plain_map_holds(
     rt: HostRuntime,
@@ -161,15 +178,10 @@ fn ten_thousand_calls_with_losses_leave_what_a_plain_map_holds(
     let mut map = mounted(rt.alloc(), chip(rt.alloc(), &formatted(rt.alloc())?, 0, 0)?)?;
     let mut plain = [0u8; 70];
     let tally = run(&mut map, &mut plain, 0x5EC7_0255)?;
+    assert!(rt; is_enough(&tally), "{tally:?}");
     map.arm(0, 1, 0);
-    assert_eq!(rt; first_wrong(&mut map, &plain)?, None);
-    // The run met enough of each kind, and a mount from the bytes alone finds the same.
-    let enough = tally.writes > 8_000 && tally.tidyings > 1_000;
-    assert_eq!(rt; enough, true, "{tally:?}");
-    let lost = tally.losses > 500 && tally.olds > 100 && tally.news > 50;
-    assert_eq!(rt; lost && tally.cut_mounts > 10, true, "{tally:?}");
-    let bytes = memory_behind(map);
-    let mut again = mounted(rt.alloc(), chip(rt.alloc(), &bytes, 0, 0)?)?;
-    assert_eq!(rt; first_wrong(&mut again, &plain)?, None);
+    let wrong = first_wrong(&mut map, &plain)?;
+    let again = first_wrong_of(rt.alloc(), &memory_behind(map), &plain)?;
+    assert_eq!(rt; [wrong, again], [None, None]);
     Ok(())
 }
