@@ -94,8 +94,10 @@ fn flags_have_their_bits(rt: HostRuntime) {
     let transmission = TransmissionFlags::HAS_FLAGS
         | TransmissionFlags::SEND_FLUSH
         | TransmissionFlags::SEND_FUA
+        | TransmissionFlags::SEND_TRIM
+        | TransmissionFlags::SEND_WRITE_ZEROES
         | TransmissionFlags::CAN_MULTI_CONN;
     let command = CommandFlags::FUA | CommandFlags::NO_HOLE;
     assert_eq!(rt; handshake.bits(), 3);
-    assert_eq!(rt; [transmission.bits(), command.bits()], [0x010D, 3]);
+    assert_eq!(rt; [transmission.bits(), command.bits()], [0x016D, 3]);
 }

@@ -21,6 +21,11 @@ fn the_end_of_the_disk(rt: HostRuntime) {
         (CommandKind::Read, 0x8C00, 512, Some(22)),
         (CommandKind::Write, 0x8C00, 512, Some(28)),
         (CommandKind::Write, 0, 66_048, Some(22)),
+        (CommandKind::Trim, 0, 0x8C00, None),
+        (CommandKind::Trim, 0x8C00, 512, Some(22)),
+        (CommandKind::Trim, 0, 0, Some(22)),
+        (CommandKind::WriteZeroes, 0x8C00, 512, Some(28)),
+        (CommandKind::WriteZeroes, 0x8A00, 66_048, Some(28)),
         (CommandKind::Read, 0xFFFF_FFFF_FFFF_FE00, 1_024, Some(22)),
     ] {
         let command = Command {

@@ -71,6 +71,12 @@ impl<L: Ledger> Disk for StuckDisk<L> {
         Err(DiskError::Slow)
     }
 
+    fn zero(&mut self, _first: u32, _count: u32) -> Result<(), DiskError> {
+        self.slows.tick();
+        self.is_slow = true;
+        Err(DiskError::Slow)
+    }
+
     fn flush(&mut self) -> Result<(), DiskError> {
         Ok(())
     }

@@ -177,7 +177,7 @@ impl Driver {
                 line.spell(
                     self.alloc,
                     "49484156454F5054 00000001 00000000",
-                    Answer::Told("0000000000008C00 010D"),
+                    Answer::Told("0000000000008C00 016D"),
                 )?;
                 line.stage = Stage::Requests;
             }

@@ -32,7 +32,7 @@ const WHOLE_CONNECTION: [u8; 59] = [
     8, 0, 0, 0, 0, 0, 0, 2, 0, 0, 0, 2, 0,
 ];
 
-/// The greeting; INFO_EXPORT of 1,024 bytes with the flags 010Dh, INFO_BLOCK_SIZE and ACK; and the
+/// The greeting; INFO_EXPORT of 1,024 bytes with the flags 016Dh, INFO_BLOCK_SIZE and ACK; and the
 /// head of the reply to the READ.
 const ITS_REPLIES: [u8; 120] = [
     0x4e, 0x42, 0x44, 0x4d, 0x41, 0x47, 0x49, 0x43, 0x49, 0x48, 0x41, 0x56, 0x45, 0x4f, 0x50, 0x54,

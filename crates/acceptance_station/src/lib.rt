@@ -31,5 +31,7 @@ mod rows;
 mod scripts;
 #[cfg(test)]
 mod wear;
+#[cfg(test)]
+mod zeros;
 
 pub use records::record_head;

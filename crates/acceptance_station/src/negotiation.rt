@@ -18,7 +18,7 @@ fn a_negotiation_is_answered(rt: HostRuntime) -> Result<(), Fail> {
         },
         Row {
             script: "OPEN 50 00 00000004 00000001 50 00 00000010 49484156454F5054 00000001 00000000",
-            transcript: "GREETED DONE 00 44 00000086 0000000000008C00 010D 00*124 DONE",
+            transcript: "GREETED DONE 00 44 00000086 0000000000008C00 016D 00*124 DONE",
             ..named("an export name with zeros behind")
         },
         Row {

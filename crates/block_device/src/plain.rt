@@ -62,6 +62,12 @@ impl Disk for PlainDisk {
         Ok(())
     }
 
+    fn zero(&mut self, first: u32, count: u32) -> Result<(), DiskError> {
+        let begin = 512 * first as usize;
+        self.bytes[begin..begin + 512 * count as usize].fill(0);
+        Ok(())
+    }
+
     fn flush(&mut self) -> Result<(), DiskError> {
         Ok(())
     }

@@ -9,10 +9,10 @@ ghost use Rattle.disk_command.specs.Effects.{CommandLeaves, CommandLatches};
 
 use block_device::{Disk, DiskError};
 use nbd_transmission::first_sector;
-use nbd_wire::{Command, CommandKind};
+use nbd_wire::{Command, CommandKind, SECTOR_LEN};
 
 /// Runs an accepted command on a disk of so many sectors, over the bytes that are lent to it: a
-/// WRITE's payload, the room for a READ's data, none for a FLUSH.
+/// WRITE's payload, the room for a READ's data, none for any other.
 pub fn run<D: Disk>(
     disk: &mut D,
     command: &Command,
@@ -36,6 +36,9 @@ pub fn run<D: Disk>(
         CommandKind::Read => disk.read(first_sector(command, sectors), bytes),
         CommandKind::Write => disk.write(first_sector(command, sectors), bytes),
         CommandKind::Flush => disk.flush(),
+        CommandKind::Trim | CommandKind::WriteZeroes => {
+            disk.zero(first_sector(command, sectors), command.length / SECTOR_LEN)
+        }
         CommandKind::Disconnect => unreachable!(),
         CommandKind::Unknown(_) => unreachable!(),
     }

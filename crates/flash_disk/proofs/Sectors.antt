@@ -1,8 +1,9 @@
 -- Contents as sectors one after the other.
-use Rattle.std.proofs.Common.{◌≡◌, ℕ, zero, suc, ◌+◌, ◌-◌, ◌*◌, ◌/◌, ◌%◌, ◌<◌, ◌≤◌, ◌⊎◌, List, ◌++◌, length, take, drop, refl, sym, ap, ◌∙◌, subst, arith, inl, inr, length-append}
+use Rattle.std.proofs.Common.{replicate, ◌≡◌, ℕ, zero, suc, ◌+◌, ◌-◌, ◌*◌, ◌/◌, ◌%◌, ◌<◌, ◌≤◌, ◌⊎◌, List, ◌++◌, length, take, drop, refl, sym, ap, ◌∙◌, subst, arith, inl, inr, length-append}
 use Rattle.std.proofs.Math.Seq.{get_or-append_right, take-add}
 use Rattle.std.proofs.Math.ListN.{get_or-append}
-use Rattle.std.proofs.lemmas.List.{ext_get_or, get_or-take, get_or-drop, length-take-le, length-drop, take-append-drop, drop-drop, take_all}
+use Rattle.std.specs.Prelude.{slice_range}
+use Rattle.std.proofs.lemmas.List.{take-replicate, drop-replicate, ext_get_or, get_or-take, get_or-drop, length-take-le, length-drop, take-append-drop, drop-drop, take_all}
 use Rattle.std.proofs.lemmas.Slice.{take-put_mid, drop-put_mid}
 use borrow.Rule.Slice.PartMut.{put_mid}
 use Rattle.std.proofs.lemmas.Bool.{cases_lt, cases_eq}
@@ -13,7 +14,7 @@ use Rattle.chip_model.specs.Parts.{part}
 use Rattle.chip_model.proofs.PartLaws.{get-part, part-whole, part-outside, part-placed}
 use Rattle.block_device.specs.Contents.{replaced, bytes_at}
 use Rattle.sector_slots.specs.Slots.{IsClean}
-use Rattle.sector_slots.specs.Sectors.{sector_at}
+use Rattle.sector_slots.specs.Sectors.{sector_at, zeros}
 use Rattle.sector_slots.proofs.SizeLaws.{length-sector}
 use Rattle.sector_map.specs.Maps.{KeepsMap, KeepsEach, Sets, SetLeaves}
 use Rattle.flash_disk.specs.Contents.{joined, contents_of}
@@ -139,6 +140,20 @@ pub place-sector : (m m' : List ℕ) (first done all : ℕ) → length m' ≡ le
 place-sector m m' first done all e fits low =
     let len = length-contents m in
     subst (λ n. first + done / 512 < sector_count n) (sym e) (omega (arith, len, fits, low))
+
+-- Bytes that are zeros.
+pub zeros-slice : (k n : ℕ) → n + 512 ≤ k → slice_range (replicate k 0) n (n + 512) ≡ zeros
+unfolding zeros
+zeros-slice k n fits =
+    let size : n + 512 - n ≡ 512 = omega arith in
+    ap (λ q. take (n + 512 - n) q) (drop-replicate n k 0)
+    ∙ (take-replicate (n + 512 - n) (k - n) 0 (omega (arith, fits)) ∙ ap (λ q. replicate q 0) size)
+
+-- the sector of a place, counted in sectors
+pub counted-sector : (m m' : List ℕ) (first done count : ℕ) → length m' ≡ length m → 512 * first + 512 * count ≤ length (contents_of m) → done < count → first + done < sector_count (length m')
+counted-sector m m' first done count e fits low =
+    let len = length-contents m in
+    subst (λ n. first + done < sector_count n) (sym e) (omega (arith, len, fits, low))
 
 -- Bytes that are read.
 pub bytes-of-sector : (m : List ℕ) (g off n : ℕ) → g < sector_count (length m) → off + n ≤ 512 → take n (drop off (sector_at m g)) ≡ bytes_at (contents_of m) (512 * g + off) n

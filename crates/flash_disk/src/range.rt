@@ -1,6 +1,6 @@
-//! Reading and writing of whole sectors of a map, one after the other.
+//! Reading, writing and zeroing of whole sectors of a map, one after the other.
 
-ghost use Rattle.std.specs.Prelude.{◌≡◌, ◌+◌, ◌*◌, ◌%◌, ◌≤◌, length, OnOk, IfErr};
+ghost use Rattle.std.specs.Prelude.{◌≡◌, ◌+◌, ◌*◌, ◌%◌, ◌≤◌, length, OnOk, IfErr, replicate};
 ghost use Rattle.std.specs.Result.{IsErrOf};
 ghost use Rattle.chip_model.specs.Geometry.{IsChipSize};
 ghost use Rattle.nor_driver.specs.State.{IsNorReady, OnlyMemoryChanges, Refuses};
@@ -44,6 +44,34 @@ pub fn write_sectors<N: Nor>(
         let sector = first as usize + done / SECTOR_LEN;
         map.replace(sector as u16, &from[done..done + SECTOR_LEN])?;
         done += SECTOR_LEN;
+    }
+    Ok(())
+}
+
+/// Writes zeros over whole sectors from the sector `first` on, upwards.
+#[tactic(auto, using(crate::proofs::Calls::calls_since))]
+pub fn zero_sectors<N: Nor>(map: &mut SectorMap<N>, first: u32, count: u32) -> Result<(), NorError>
+    requires ready { IsNorReady map.old }
+    requires range { 512 * first + 512 * count ≤ length (contents_of map.old.memory) }
+    requires chip { IsChipSize (length map.old.memory) }
+    ensures ok { OnOk result (IsClean map.old.memory
+        → contents_of map.new.memory ≡ replaced (contents_of map.old.memory) (512 * first)
+        (replicate (512 * count) 0)) }
+    ensures cut { IsErrOf result NorError.Cut → IsClean map.old.memory
+        → Outcome (contents_of map.old.memory)
+        (replaced (contents_of map.old.memory) (512 * first) (replicate (512 * count) 0))
+        (contents_of map.new.memory) }
+    ensures clean { OnOk result (IsClean map.old.memory → IsClean map.new.memory) }
+    ensures cut_clean { IsErrOf result NorError.Cut → IsClean map.old.memory
+        → IsClean map.new.memory }
+    ensures size { length map.new.memory ≡ length map.old.memory }
+    ensures kept { OnOk result (OnlyMemoryChanges map.old map.new) }
+    ensures fails { IfErr result (λ e. Refuses e map.old map.new) }
+{
+    let mut done = 0u32;
+    while done < count {
+        map.clear((first + done) as u16)?;
+        done += 1;
     }
     Ok(())
 }

@@ -1,14 +1,14 @@
 -- What a command does to the contents of a disk, and what it is answered. Source: NBD proto.md,
 -- simple replies; own is the list of bytes. Contents are one list of bytes, 512 for each sector.
 use Rattle.std.specs.Prelude.{ℕ, ◌+◌, List, [], ◌∷◌, ◌++◌, length, take, drop, Option, Some, None}
-use Rattle.std.specs.Prelude.{if◌then◌else◌}
+use Rattle.std.specs.Prelude.{replicate, if◌then◌else◌}
 use Rattle.nbd_wire.specs.Numbers.{REQUEST_LEN}
 use Rattle.nbd_wire.specs.declared.command.Command.{Command}
 use Rattle.nbd_wire.specs.declared.command.CommandKind.{CommandKind}
 use Rattle.nbd_wire.specs.declared.request.Request.{Request}
 use Rattle.nbd_wire.specs.Heads.{reply_bytes, request_at}
 use Rattle.nbd_wire.specs.Commands.{command_in, is_disconnect, is_read, is_write, judge_of}
-use Rattle.nbd_wire.specs.Commands.{command_kind}
+use Rattle.nbd_wire.specs.Commands.{command_kind, is_zeroing}
 use Rattle.nbd_wire.specs.Lent.{reply_in}
 
 -- the data of an accepted command's reply: the bytes of a READ's range
@@ -19,11 +19,15 @@ data_of_kind kind contents c =
 abbrev pub data_of : List ℕ → Command → List ℕ
 data_of contents c = data_of_kind c.kind contents c
 
--- the contents after an accepted command: a WRITE's payload replaces the bytes of its range
+-- the contents with these bytes from a place on, in place of as many others
+abbrev pub with_bytes : List ℕ → ℕ → List ℕ → List ℕ
+with_bytes contents at bytes = take at contents ++ bytes ++ drop (at + length bytes) contents
+
+-- The contents after an accepted command: in its range a WRITE puts its payload, a TRIM and a
+-- WRITE_ZEROES put zeros.
 abbrev pub changed_kind : CommandKind → List ℕ → Command → List ℕ → List ℕ
-changed_kind kind contents c payload = if is_write kind
-    then take c.offset contents ++ payload ++ drop (c.offset + length payload) contents
-    else contents
+changed_kind kind contents c payload = if is_write kind then with_bytes contents c.offset payload
+    else if is_zeroing kind then with_bytes contents c.offset (replicate c.length 0) else contents
 
 abbrev pub changed_by : List ℕ → Command → List ℕ → List ℕ
 changed_by contents c payload = changed_kind c.kind contents c payload

@@ -1,11 +1,11 @@
 //! The requests of a connection, cut out of its bytes piece by piece, and judged.
 //!
 //! Promised: `judge` refuses exactly the commands that the request table refuses, with its errors;
-//! `first_sector` is where an accepted READ or WRITE begins. `Transmission::take` answers each
-//! complete request once, in order, however the bytes are cut into pieces: an accepted command runs
-//! when its payload is complete, a refused one is answered with its error after its payload was
-//! taken, a wrong magic and DISC close. It tells which bytes are payload of an accepted WRITE, at
-//! most 65,536 in all, and never keeps them itself.
+//! `first_sector` is where the range of an accepted command begins. `Transmission::take` answers
+//! each complete request once, in order, however the bytes are cut into pieces: an accepted command
+//! runs when its payload is complete, a refused one is answered with its error after its payload
+//! was taken, a wrong magic and DISC close. It tells which bytes are payload of an accepted WRITE,
+//! at most 65,536 in all, and never keeps them itself.
 //!
 //! Left to the crate above: to keep the payload's bytes, to run the commands, to write the replies,
 //! to call again with the bytes that were not used. A closed parser uses no bytes and answers

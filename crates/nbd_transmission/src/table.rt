@@ -2,28 +2,34 @@
 
 ghost use Rattle.std.specs.Prelude.{◌≡◌, ◌≤◌, ◌+◌, ◌*◌, ◌||◌, ◌==◌, ℕ, None, true, not, nat_lt, []};
 ghost use Rattle.std.specs.Prelude.{◌∷◌};
-ghost use Rattle.nbd_wire.specs.Commands.{judge_of, first_failing, is_multiple, moves_data};
+ghost use Rattle.nbd_wire.specs.Commands.{judge_of, first_failing, is_multiple, has_range};
 
 use bitflags::Flags;
-use nbd_wire::{Command, CommandFlags, CommandKind, EINVAL, ENOSPC, MAX_LEN, SECTOR_LEN};
+use nbd_wire::{Command, CommandKind, EINVAL, ENOSPC, MAX_LEN, SECTOR_LEN};
 
 /// The error that refuses a command on a disk of so many sectors, or none: that of the first check
 /// of the request table that fails.
 ///
-/// 22 (EINVAL): a command other than READ, WRITE and FLUSH; a flag other than FUA; a FLUSH with an
-/// offset or a length; a READ or WRITE without a length, with an offset or a length that is no
-/// multiple of 512 bytes, or above 65,536 bytes; a READ past the end. 28 (ENOSPC): a WRITE past the
-/// end. Source: NBD proto.md for the errors; the limits and their order are own.
+/// 22 (EINVAL): a command other than READ, WRITE, FLUSH, TRIM and WRITE_ZEROES; a flag other than
+/// FUA, or of WRITE_ZEROES than FUA and NO_HOLE; a FLUSH with an offset or a length; a range of
+/// length 0, or with an offset or a length that is no multiple of 512 bytes; a READ or WRITE above
+/// 65,536 bytes; a READ or TRIM past the end. 28 (ENOSPC): a WRITE or WRITE_ZEROES past the end.
+/// Source: NBD proto.md for the errors; the limits and their order are own.
 #[tactic(auto, unfolding(nbd_wire::specs::Commands::judge_of))]
 pub fn judge(command: &Command, sectors: u32) -> Option<u32>
     ensures { result ≡ judge_of command.now sectors }
 {
-    if !CommandFlags::FUA.contains(command.flags) {
+    if !command.kind.allowed_flags().contains(command.flags) {
+        return Some(EINVAL);
+    }
+    if command.kind.moves_data() && command.length > MAX_LEN {
         return Some(EINVAL);
     }
     match command.kind {
         CommandKind::Read => judge_range(command.offset, command.length, sectors, EINVAL),
         CommandKind::Write => judge_range(command.offset, command.length, sectors, ENOSPC),
+        CommandKind::Trim => judge_range(command.offset, command.length, sectors, EINVAL),
+        CommandKind::WriteZeroes => judge_range(command.offset, command.length, sectors, ENOSPC),
         CommandKind::Flush if command.offset == 0 && command.length == 0 => None,
         CommandKind::Flush => Some(EINVAL),
         CommandKind::Disconnect => Some(EINVAL),
@@ -31,19 +37,17 @@ pub fn judge(command: &Command, sectors: u32) -> Option<u32>
     }
 }
 
-/// The error that the range of a READ or WRITE meets, which is `past_end` where it ends past the
-/// end of the disk.
+/// The error that a range of any length meets, which is `past_end` where it ends past the end of
+/// the disk.
 fn judge_range(offset: u64, length: u32, sectors: u32, past_end: u32) -> Option<u32>
     ensures { result ≡ first_failing (
         (length == 0 || not (is_multiple offset) || not (is_multiple length), EINVAL)
-        ∷ (nat_lt MAX_LEN length, EINVAL)
         ∷ (nat_lt (SECTOR_LEN * sectors) (offset + length), past_end)
         ∷ []) }
 {
     if length == 0
         || !offset.is_multiple_of(u64::from(SECTOR_LEN))
         || !length.is_multiple_of(SECTOR_LEN)
-        || length > MAX_LEN
     {
         return Some(EINVAL);
     }
@@ -55,10 +59,10 @@ fn judge_range(offset: u64, length: u32, sectors: u32, past_end: u32) -> Option<
     None
 }
 
-/// The first sector of an accepted READ or WRITE.
+/// The first sector of an accepted command's range.
 pub fn first_sector(command: &Command, sectors: u32) -> u32
     requires accepted { judge_of command.now sectors ≡ None }
-    requires kind { moves_data command.now.kind ≡ true }
+    requires kind { has_range command.now.kind ≡ true }
     ensures first { 512 * result ≡ command.now.offset }
     ensures range { command.now.offset + command.now.length ≤ 512 * sectors }
     ensures whole { (k : ℕ) × (command.now.length ≡ 512 * k) }

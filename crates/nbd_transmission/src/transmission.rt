@@ -228,17 +228,7 @@ fn tail_of(head: &[u8; REQUEST_LEN], sectors: u32) -> Tail
             accepted: false,
             next: Next::Close,
         },
-        CommandKind::Read => Tail {
-            len: 0,
-            accepted: false,
-            next: answer(command, refusal),
-        },
-        CommandKind::Flush => Tail {
-            len: 0,
-            accepted: false,
-            next: answer(command, refusal),
-        },
-        CommandKind::Unknown(_) => Tail {
+        _ => Tail {
             len: 0,
             accepted: false,
             next: answer(command, refusal),

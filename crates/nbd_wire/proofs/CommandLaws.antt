@@ -4,8 +4,8 @@ use Rattle.std.proofs.lemmas.Bool.{ltb-false, eqb-true}
 use Rattle.std.proofs.Math.Dec.{ltb}
 use Rattle.nbd_wire.specs.declared.command.Command.{Command}
 use Rattle.nbd_wire.specs.declared.command.CommandKind.{CommandKind}
-use Rattle.nbd_wire.specs.declared.command.CommandKind.TheVariants.{Read, Write, Disconnect, Flush, Unknown}
-use Rattle.nbd_wire.specs.Commands.{is_served, is_write, moves_data, is_multiple, checks, first_failing, judge_of}
+use Rattle.nbd_wire.specs.declared.command.CommandKind.TheVariants.{Write, Disconnect, Unknown}
+use Rattle.nbd_wire.specs.Commands.{is_served, is_write, moves_data, has_range, is_multiple, checks, first_failing, judge_of}
 
 passes_first : (b : Bool) (e : ℕ) (o : Option ℕ) → cond b (Some e) o ≡ None → (b ≡ false) × (o ≡ None)
 passes_first true e o h = cc
@@ -39,13 +39,13 @@ not_zero zero h = cc
 not_zero (suc n) h = omega arith
 
 pub write_moves_data : (k : CommandKind) → is_write k ≡ true → moves_data k ≡ true
-write_moves_data Read e = refl
 write_moves_data Write e = refl
-write_moves_data Flush e = cc
-write_moves_data Disconnect e = cc
-write_moves_data (Unknown n) e = cc
+write_moves_data k e = cc
 
--- an accepted command is READ, WRITE or FLUSH
+pub mover_has_range : (k : CommandKind) → moves_data k ≡ true → has_range k ≡ true
+mover_has_range k e = rw e refl
+
+-- an accepted command is READ, WRITE, FLUSH, TRIM or WRITE_ZEROES
 pub accepted_is_served : (c : Command) (sectors : ℕ) → judge_of c sectors ≡ None → is_served c.kind ≡ true
 unfolding judge_of
 accepted_is_served c sectors h = not_is_false (is_served c.kind) (passes (checks c sectors) 0 h)
@@ -57,13 +57,18 @@ not_disconnect c sectors h e = let s = sym (accepted_is_served c sectors h) ∙ 
 pub not_unknown : (c : Command) (sectors n : ℕ) → judge_of c sectors ≡ None → c.kind ≡ Unknown n → ⊥
 not_unknown c sectors n h e = let s = sym (accepted_is_served c sectors h) ∙ ap is_served e in cc
 
--- an accepted READ or WRITE has whole sectors, at most 65,536 bytes, all of them on the disk
-pub accepted_range : (c : Command) (sectors : ℕ) → moves_data c.kind ≡ true → judge_of c sectors ≡ None → (0 < c.length) × (c.offset % 512 ≡ 0) × (c.length % 512 ≡ 0) × (c.length ≤ 65536) × (c.offset + c.length ≤ 512 * sectors)
+-- the range of an accepted command is whole sectors, some, all of them on the disk
+pub accepted_range : (c : Command) (sectors : ℕ) → has_range c.kind ≡ true → judge_of c sectors ≡ None → (0 < c.length) × (c.offset % 512 ≡ 0) × (c.length % 512 ≡ 0) × (c.offset + c.length ≤ 512 * sectors)
 unfolding judge_of
-accepted_range c sectors moves h =
-    let aligned = and_is_false (moves_data c.kind) (eqb c.length 0 || not (is_multiple c.offset) || not (is_multiple c.length)) moves (passes (checks c sectors) 3 h) in
+accepted_range c sectors ranged h =
+    let aligned = and_is_false (has_range c.kind) (eqb c.length 0 || not (is_multiple c.offset) || not (is_multiple c.length)) ranged (passes (checks c sectors) 3 h) in
     let first = or_is_false (eqb c.length 0 || not (is_multiple c.offset)) (not (is_multiple c.length)) aligned in
     let second = or_is_false (eqb c.length 0) (not (is_multiple c.offset)) first.0 in
-    let short = and_is_false (moves_data c.kind) (ltb 65536 c.length) moves (passes (checks c sectors) 4 h) in
-    let ends = and_is_false (moves_data c.kind) (ltb (512 * sectors) (c.offset + c.length)) moves (passes (checks c sectors) 5 h) in
-    (not_zero c.length second.0, eqb-true _ _ (not_is_false (is_multiple c.offset) second.1), eqb-true _ _ (not_is_false (is_multiple c.length) first.1), ltb-false 65536 c.length short, ltb-false (512 * sectors) (c.offset + c.length) ends)
+    let ends = and_is_false (has_range c.kind) (ltb (512 * sectors) (c.offset + c.length)) ranged (passes (checks c sectors) 5 h) in
+    (not_zero c.length second.0, eqb-true _ _ (not_is_false (is_multiple c.offset) second.1), eqb-true _ _ (not_is_false (is_multiple c.length) first.1), ltb-false (512 * sectors) (c.offset + c.length) ends)
+
+-- an accepted READ or WRITE has at most 65,536 bytes
+pub accepted_short : (c : Command) (sectors : ℕ) → moves_data c.kind ≡ true → judge_of c sectors ≡ None → c.length ≤ 65536
+unfolding judge_of
+accepted_short c sectors moves h =
+    ltb-false 65536 c.length (and_is_false (moves_data c.kind) (ltb 65536 c.length) moves (passes (checks c sectors) 4 h))

@@ -3,20 +3,20 @@
 use Rattle.std.specs.Prelude.{ℕ, ◌+◌, ◌*◌, ◌%◌, ◌==◌, ◌&&◌, ◌||◌, not, Bool, true, false, nat_lt}
 use Rattle.std.specs.Prelude.{List, [], ◌∷◌, Option, Some, None, if◌then◌else◌}
 use Rattle.std.specs.Int.RustNames.{bit_and}
-use Rattle.nbd_wire.specs.Numbers.{CMD_READ, CMD_WRITE, CMD_DISC, CMD_FLUSH, EINVAL, ENOSPC}
-use Rattle.nbd_wire.specs.Numbers.{SECTOR_LEN, MAX_LEN}
+use Rattle.nbd_wire.specs.Numbers.{CMD_READ, CMD_WRITE, CMD_DISC, CMD_FLUSH, CMD_TRIM}
+use Rattle.nbd_wire.specs.Numbers.{CMD_WRITE_ZEROES, EINVAL, ENOSPC, SECTOR_LEN, MAX_LEN}
 use Rattle.nbd_wire.specs.declared.request.Request.{Request}
 use Rattle.nbd_wire.specs.declared.command.Command.{Command}
 use Rattle.nbd_wire.specs.declared.command.CommandKind.{CommandKind}
 use Rattle.nbd_wire.specs.declared.command.CommandKind.TheVariants.{Read, Write, Disconnect, Flush}
+use Rattle.nbd_wire.specs.declared.command.CommandKind.TheVariants.{Trim, WriteZeroes}
 use Rattle.nbd_wire.specs.declared.command.CommandKind.TheVariants.{Unknown}
-use Rattle.nbd_wire.specs.declared.flags.CommandFlags.{CommandFlags}
 
--- what the numbers on the wire mean (NBD proto.md; TRIM, WRITE_ZEROES and all others are not
--- served)
+-- what the numbers on the wire mean (NBD proto.md; all others are not served)
 abbrev pub command_kind : ℕ → CommandKind
 command_kind n = if n == CMD_READ then Read else if n == CMD_WRITE then Write else if n == CMD_DISC
-    then Disconnect else if n == CMD_FLUSH then Flush else Unknown n
+    then Disconnect else if n == CMD_FLUSH then Flush else if n == CMD_TRIM then Trim
+    else if n == CMD_WRITE_ZEROES then WriteZeroes else Unknown n
 
 -- the command of a request: its fields, and the meaning of its number
 abbrev pub command_in : Request → Command
@@ -40,20 +40,42 @@ abbrev pub is_flush : CommandKind → Bool
 is_flush Flush = true
 is_flush _ = false
 
+-- the commands that make their range zeros
+abbrev pub is_zeroing : CommandKind → Bool
+is_zeroing Trim = true
+is_zeroing WriteZeroes = true
+is_zeroing _ = false
+
+-- the commands that carry the bytes of their range, to the server or from it
 abbrev pub moves_data : CommandKind → Bool
 moves_data kind = is_read kind || is_write kind
 
+-- the commands that have a range of sectors
+abbrev pub has_range : CommandKind → Bool
+has_range kind = moves_data kind || is_zeroing kind
+
 -- the commands that are answered by a reply with error 0 where nothing is wrong with them
 abbrev pub is_served : CommandKind → Bool
-is_served kind = moves_data kind || is_flush kind
+is_served kind = has_range kind || is_flush kind
 
 abbrev pub is_disconnect : CommandKind → Bool
 is_disconnect Disconnect = true
 is_disconnect _ = false
 
--- no flag is set but FUA, which is bit 0
-abbrev pub has_no_flag_but_fua : CommandFlags → Bool
-has_no_flag_but_fua flags = bit_and 1 flags.0 == flags.0
+-- the flags that a command may have: FUA, which is bit 0, and WRITE_ZEROES also NO_HOLE, bit 1
+abbrev pub allowed_flags : CommandKind → ℕ
+allowed_flags WriteZeroes = 3
+allowed_flags _ = 1
+
+-- no other is set
+abbrev pub has_allowed_flags : Command → Bool
+has_allowed_flags c = bit_and (allowed_flags c.kind) c.flags.0 == c.flags.0
+
+-- the error of a range that ends past the end of the disk
+abbrev pub past_end_error : CommandKind → ℕ
+past_end_error Write = ENOSPC
+past_end_error WriteZeroes = ENOSPC
+past_end_error _ = EINVAL
 
 abbrev pub is_multiple : ℕ → Bool
 is_multiple n = n % SECTOR_LEN == 0
@@ -64,18 +86,17 @@ is_multiple n = n % SECTOR_LEN == 0
 abbrev pub checks : Command → ℕ → List (Bool × ℕ)
 checks c sectors =
     (not (is_served c.kind), EINVAL)
-    ∷ (not (has_no_flag_but_fua c.flags), EINVAL)
+    ∷ (not (has_allowed_flags c), EINVAL)
     ∷ (is_flush c.kind && not (c.offset == 0 && c.length == 0), EINVAL)
     ∷ (
-      moves_data c.kind && (c.length == 0 || not (is_multiple c.offset)
+      has_range c.kind && (c.length == 0 || not (is_multiple c.offset)
           || not (is_multiple c.length)),
       EINVAL,
     )
     ∷ (moves_data c.kind && nat_lt MAX_LEN c.length, EINVAL)
     ∷ (
-      moves_data c.kind && nat_lt (SECTOR_LEN * sectors) (c.offset + c.length),
-      if is_write c.kind
-          then ENOSPC else EINVAL,
+      has_range c.kind && nat_lt (SECTOR_LEN * sectors) (c.offset + c.length),
+      past_end_error c.kind,
     )
     ∷ []
 

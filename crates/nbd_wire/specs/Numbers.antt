@@ -52,9 +52,10 @@ REPLY_MAGIC = 1732535960
 abbrev pub GREETING_FLAGS : ℕ
 GREETING_FLAGS = 3
 
--- 010Dh, of the export: HAS_FLAGS (bit 0), SEND_FLUSH (2), SEND_FUA (3) and CAN_MULTI_CONN (8)
+-- 016Dh, of the export: HAS_FLAGS (bit 0), SEND_FLUSH (2), SEND_FUA (3), SEND_TRIM (5),
+-- SEND_WRITE_ZEROES (6) and CAN_MULTI_CONN (8)
 abbrev pub TRANSMISSION_FLAGS : ℕ
-TRANSMISSION_FLAGS = 269
+TRANSMISSION_FLAGS = 365
 
 -- ---- options
 
@@ -122,6 +123,12 @@ CMD_DISC = 2
 abbrev pub CMD_FLUSH : ℕ
 CMD_FLUSH = 3
 
+abbrev pub CMD_TRIM : ℕ
+CMD_TRIM = 4
+
+abbrev pub CMD_WRITE_ZEROES : ℕ
+CMD_WRITE_ZEROES = 6
+
 -- ---- errors
 
 -- a command whose run failed
@@ -132,11 +139,11 @@ EIO = 5
 abbrev pub ENOMEM : ℕ
 ENOMEM = 12
 
--- a command that is refused for its form, and a READ past the end
+-- a command that is refused for its form, and a READ or TRIM past the end
 abbrev pub EINVAL : ℕ
 EINVAL = 22
 
--- a WRITE past the end
+-- a WRITE or WRITE_ZEROES past the end
 abbrev pub ENOSPC : ℕ
 ENOSPC = 28
 

@@ -1,11 +1,13 @@
 //! What a request asks for.
 
 ghost use Rattle.std.specs.Prelude.{◌≡◌};
-ghost use Rattle.nbd_wire.specs.Commands.{command_kind, command_in};
+ghost use Rattle.nbd_wire.specs.Commands.{command_kind, command_in, moves_data};
+ghost use Rattle.nbd_wire.specs.Commands.{allowed_flags};
 
-use crate::constants::{CMD_DISC, CMD_FLUSH, CMD_READ, CMD_WRITE};
+use crate::constants::{CMD_DISC, CMD_FLUSH, CMD_READ, CMD_TRIM, CMD_WRITE, CMD_WRITE_ZEROES};
 use crate::flags::CommandFlags;
 use crate::request::Request;
+use bitflags::Flags;
 
 /// What a command does. Source: NBD proto.md; the numbers of commands that this server doesn't
 /// serve are unknown ones.
@@ -15,6 +17,8 @@ pub enum CommandKind {
     Write,
     Disconnect,
     Flush,
+    Trim,
+    WriteZeroes,
     /// Any other number.
     Unknown(u16),
 }
@@ -29,7 +33,26 @@ impl CommandKind {
             CMD_WRITE => CommandKind::Write,
             CMD_DISC => CommandKind::Disconnect,
             CMD_FLUSH => CommandKind::Flush,
+            CMD_TRIM => CommandKind::Trim,
+            CMD_WRITE_ZEROES => CommandKind::WriteZeroes,
             _ => CommandKind::Unknown(number),
+        }
+    }
+
+    /// Whether it is READ or WRITE, which carry the bytes of their range.
+    pub fn moves_data(self) -> bool
+        ensures { result ≡ moves_data self }
+    {
+        matches!(self, CommandKind::Read | CommandKind::Write)
+    }
+
+    /// The flags that a command of this kind may have.
+    pub fn allowed_flags(self) -> CommandFlags
+        ensures { result.0 ≡ allowed_flags self }
+    {
+        match self {
+            CommandKind::WriteZeroes => CommandFlags::FUA.union(CommandFlags::NO_HOLE),
+            _ => CommandFlags::FUA,
         }
     }
 }

@@ -79,18 +79,18 @@ pub const CMD_WRITE: u16 = 1;
 pub const CMD_DISC: u16 = 2;
 /// The number of the command that asks that all writes before it are on the chip.
 pub const CMD_FLUSH: u16 = 3;
-/// The number of the command that discards; not served.
+/// The number of the command that discards: its range is zeros from then on.
 pub const CMD_TRIM: u16 = 4;
-/// The number of the command that writes zeroes; not served.
+/// The number of the command that writes zeroes.
 pub const CMD_WRITE_ZEROES: u16 = 6;
 
 /// The error of a command whose run failed.
 pub const EIO: u32 = 5;
 /// The error of a command for which no memory was left.
 pub const ENOMEM: u32 = 12;
-/// The error of a command that is refused for its form, and of a READ past the end.
+/// The error of a command that is refused for its form, and of a READ or TRIM past the end.
 pub const EINVAL: u32 = 22;
-/// The error of a WRITE past the end.
+/// The error of a WRITE or WRITE_ZEROES past the end.
 pub const ENOSPC: u32 = 28;
 /// The error of a server that shuts down; never sent.
 pub const ESHUTDOWN: u32 = 108;
@@ -108,8 +108,9 @@ pub const MAX_LEN: u32 = 65_536;
 pub const MAX_OPTION_LEN: u32 = 8_192;
 /// The flags of the server's greeting: FIXED_NEWSTYLE and NO_ZEROES.
 pub const GREETING_FLAGS: u16 = 0x0003;
-/// The transmission flags of the export: HAS_FLAGS, SEND_FLUSH, SEND_FUA and CAN_MULTI_CONN.
-pub const TRANSMISSION_FLAGS: u16 = 0x010D;
+/// The transmission flags of the export: HAS_FLAGS, SEND_FLUSH, SEND_FUA, SEND_TRIM,
+/// SEND_WRITE_ZEROES and CAN_MULTI_CONN.
+pub const TRANSMISSION_FLAGS: u16 = 0x016D;
 /// The name of the one export; the empty name means it too.
 pub const EXPORT_NAME: &[u8] = b"flash";
 
@@ -138,7 +139,9 @@ pub fn constants_are_the_protocols()
     ensures information { (INFO_EXPORT ≡ protocol.INFO_EXPORT)
         × (INFO_BLOCK_SIZE ≡ protocol.INFO_BLOCK_SIZE) }
     ensures commands { (CMD_READ ≡ protocol.CMD_READ) × (CMD_WRITE ≡ protocol.CMD_WRITE)
-        × (CMD_DISC ≡ protocol.CMD_DISC) × (CMD_FLUSH ≡ protocol.CMD_FLUSH) }
+        × (CMD_DISC ≡ protocol.CMD_DISC) × (CMD_FLUSH ≡ protocol.CMD_FLUSH)
+        × (CMD_TRIM ≡ protocol.CMD_TRIM)
+        × (CMD_WRITE_ZEROES ≡ protocol.CMD_WRITE_ZEROES) }
     ensures errors { (EIO ≡ protocol.EIO) × (ENOMEM ≡ protocol.ENOMEM)
         × (EINVAL ≡ protocol.EINVAL) × (ENOSPC ≡ protocol.ENOSPC) }
     ensures sizes { (SECTOR_LEN ≡ protocol.SECTOR_LEN)

@@ -11,8 +11,8 @@ use bitflags::{Flag, Flags, bitflag_items};
 
 /// The flags of a command: 16 bits of a request's head. Source: NBD proto.md.
 ///
-/// Bit 0, FUA: what is written is on the chip before the reply. Bit 1, NO_HOLE: belongs to a
-/// command that is not served.
+/// Bit 0, FUA: what is written is on the chip before the reply. Bit 1, NO_HOLE: of WRITE_ZEROES,
+/// room for the range is to be kept, which is always so.
 #[derive(Clone, Copy, PartialEq, Eq, Debug)]
 pub struct CommandFlags(u16);
 
@@ -154,13 +154,16 @@ impl Flags for TransmissionFlags {
 }
 
 impl TransmissionFlags {
-    /// The word that tells what this server serves: FLUSH and FUA, over several connections.
+    /// The word that tells what this server serves: FLUSH, FUA, TRIM and WRITE_ZEROES, over several
+    /// connections.
     pub fn served_word() -> u16
         ensures { result ≡ TRANSMISSION_FLAGS }
     {
         TransmissionFlags::HAS_FLAGS
             .union(TransmissionFlags::SEND_FLUSH)
             .union(TransmissionFlags::SEND_FUA)
+            .union(TransmissionFlags::SEND_TRIM)
+            .union(TransmissionFlags::SEND_WRITE_ZEROES)
             .union(TransmissionFlags::CAN_MULTI_CONN)
             .0
     }

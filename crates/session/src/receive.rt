@@ -68,12 +68,10 @@ pub(crate) fn lent_len(running: Option<Command>) -> usize
     let Some(command) = running else {
         return 0;
     };
-    match command.kind {
-        CommandKind::Read => command.length as usize,
-        CommandKind::Write => command.length as usize,
-        CommandKind::Disconnect => 0,
-        CommandKind::Flush => 0,
-        CommandKind::Unknown(_) => 0,
+    if command.kind.moves_data() {
+        command.length as usize
+    } else {
+        0
     }
 }
 
@@ -83,10 +81,6 @@ pub(crate) fn data_len(command: &Command, error: u32) -> usize
 {
     match command.kind {
         CommandKind::Read if error == 0 => command.length as usize,
-        CommandKind::Read => 0,
-        CommandKind::Write => 0,
-        CommandKind::Disconnect => 0,
-        CommandKind::Flush => 0,
-        CommandKind::Unknown(_) => 0,
+        _ => 0,
     }
 }

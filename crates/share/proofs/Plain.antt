@@ -3,7 +3,7 @@ use Rattle.std.proofs.Common.{◌≡◌, ℕ, ◌≤◌, List, [], ◌∷◌, �
 use Rattle.std.specs.Io.KnownBytes.{Appends, Consumes, IsAtEnd}
 use Rattle.nbd_wire.specs.declared.command.Command.{Command}
 use Rattle.nbd_wire.specs.declared.command.CommandKind.{CommandKind}
-use Rattle.nbd_wire.specs.declared.command.CommandKind.TheVariants.{Read, Write, Disconnect, Flush, Unknown}
+use Rattle.nbd_wire.specs.declared.command.CommandKind.TheVariants.{Read, Write, Disconnect, Flush, Trim, WriteZeroes, Unknown}
 use Rattle.nbd_transmission.specs.Apply.{changed_kind, head_of}
 use Rattle.session.specs.Sessions.{opening}
 use Rattle.session.specs.Parts.{Part, Told, ForDisk, Last, IsPartsOf, closed}
@@ -43,6 +43,8 @@ changed-same Read d c bytes payload h = refl
 changed-same Write d c bytes payload h = ap (λ (p : List ℕ). changed_kind Write d c p) h
 changed-same Disconnect d c bytes payload h = refl
 changed-same Flush d c bytes payload h = refl
+changed-same Trim d c bytes payload h = refl
+changed-same WriteZeroes d c bytes payload h = refl
 changed-same (Unknown n) d c bytes payload h = refl
 
 not_both : (b : Bool) → b ≡ true → b ≡ false → ⊥

@@ -200,7 +200,7 @@ impl<D: Disk, R: Recorder, L: OneServer> Shared<D, R, L> {
     ghost use Rattle.share.specs.Doing.{Executes, Tidied};
 
     /// Runs one command that the request table accepts, over the bytes that are lent to it: a
-    /// WRITE's payload, the room for a READ's data, none for a FLUSH. The memory of the row comes
+    /// WRITE's payload, the room for a READ's data, none for any other. The memory of the row comes
     /// first: where it is refused, the reply is ENOMEM and nothing runs. Then the disk, then the
     /// row.
     pub fn execute<'a>(

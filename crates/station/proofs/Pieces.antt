@@ -7,7 +7,7 @@ use Rattle.block_device.specs.Contents.{Outcome}
 use Rattle.block_device.specs.Facts.{Facts, CountsNeverFall}
 use Rattle.std.proofs.KnownBytes.{Appends-trans}
 use Rattle.nbd_wire.specs.declared.command.Command.{Command}
-use Rattle.nbd_wire.specs.Commands.{moves_data}
+use Rattle.nbd_wire.specs.Commands.{has_range}
 use Rattle.nbd_transmission.specs.Apply.{applied}
 use Rattle.nbd_wire.specs.declared.phase.Phase.TheVariants.{AwaitingFlags}
 use Rattle.session.specs.Parts.{Part, ForDisk, Gains, closes, closed}
@@ -71,9 +71,9 @@ one_at n who mid text longer out disk b same o =
     same (o.part, o.gains, o.is_closing, o.out_is, o.disk_is)
 
 lost_at : (n : ℕ) (mid : Desk) (text longer out disk : List ℕ) → mid.line.sectors ≡ n → LostPart mid text longer out disk
-    → (c : Command) × (payload : List ℕ) × Gains AwaitingFlags n text longer (ForDisk c payload ∷ []) × (moves_data c.kind ≡ true) × (out ≡ []) × Outcome mid.disk.contents (applied n mid.disk.contents c payload) disk
+    → (c : Command) × (payload : List ℕ) × Gains AwaitingFlags n text longer (ForDisk c payload ∷ []) × (has_range c.kind ≡ true) × (out ≡ []) × Outcome mid.disk.contents (applied n mid.disk.contents c payload) disk
 lost_at n mid text longer out disk same o =
-    subst (λ m. (c : Command) × (payload : List ℕ) × Gains AwaitingFlags m text longer (ForDisk c payload ∷ []) × (moves_data c.kind ≡ true) × (out ≡ []) × Outcome mid.disk.contents (applied m mid.disk.contents c payload) disk)
+    subst (λ m. (c : Command) × (payload : List ℕ) × Gains AwaitingFlags m text longer (ForDisk c payload ∷ []) × (has_range c.kind ≡ true) × (out ≡ []) × Outcome mid.disk.contents (applied m mid.disk.contents c payload) disk)
     same (o.command, o.payload, o.gains, o.moves, o.out_is, o.outcome)
 
 -- the bytes so far, and those that a turn takes

@@ -6,7 +6,7 @@ use Rattle.std.specs.Io.KnownBytes.{Appends}
 use Rattle.block_device.specs.Facts.{Facts}
 use Rattle.block_device.specs.Contents.{Outcome}
 use Rattle.nbd_wire.specs.declared.command.Command.{Command}
-use Rattle.nbd_wire.specs.Commands.{moves_data}
+use Rattle.nbd_wire.specs.Commands.{has_range}
 use Rattle.nbd_transmission.specs.Apply.{applied}
 use Rattle.nbd_wire.specs.declared.phase.Phase.TheVariants.{AwaitingFlags}
 use Rattle.session.specs.Sessions.{SessionState}
@@ -50,12 +50,12 @@ pub record OnePart (who : ℕ) (old : Desk) (text longer out disk : List ℕ)
   pub out_is : out ≡ replied who (reply_of_part old.line.sectors old.disk.contents part)
   pub disk_is : disk ≡ after_part old.line.sectors old.disk.contents part
 
--- an accepted READ or WRITE is interrupted
+-- an accepted command with a range is interrupted
 pub record LostPart (old : Desk) (text longer out disk : List ℕ) : Type 0 where
   pub command : Command
   pub payload : List ℕ
   pub gains : Gains AwaitingFlags old.line.sectors text longer (ForDisk command payload ∷ [])
-  pub moves : moves_data command.kind ≡ true
+  pub moves : has_range command.kind ≡ true
   pub out_is : out ≡ []
   pub outcome : Outcome old.disk.contents
       (applied old.line.sectors old.disk.contents command payload) disk
@@ -102,14 +102,14 @@ pub record SomeParts (who : ℕ) (old : Desk) (text bytes out disk : List ℕ)
   pub out_is : out ≡ replies old.line.sectors who old.disk.contents more
   pub disk_is : disk ≡ after_parts old.line.sectors old.disk.contents more
 
--- some are answered, and then a READ or WRITE is interrupted
+-- some are answered, and then a command with a range is interrupted
 pub record LostParts (who : ℕ) (old : Desk) (text bytes out disk : List ℕ) : Type 0 where
   pub before : List Part
   pub command : Command
   pub payload : List ℕ
   pub rest : List Part
   pub lacked : Lacked old.line.sectors text bytes (before ++ ForDisk command payload ∷ rest)
-  pub moves : moves_data command.kind ≡ true
+  pub moves : has_range command.kind ≡ true
   pub out_is : out ≡ replies old.line.sectors who old.disk.contents before
   pub outcome : Outcome (after_parts old.line.sectors old.disk.contents before)
       (applied old.line.sectors (after_parts old.line.sectors old.disk.contents before) command

@@ -34,7 +34,8 @@ fn draw_request(dice: &mut Dice) -> Request {
     match dice.below(20) {
         0 => Request::Flush,
         1 => Request::Leave,
-        2..=6 => Request::Read(first, count),
+        2 => Request::Trim(first, count),
+        3..=6 => Request::Read(first, count),
         _ => Request::Write(first, count, dice.below(256) as u8),
     }
 }

@@ -20,8 +20,8 @@ const ROOM_BYTES: usize = 1_048_576;
 const READ_ALL: Event = Event::Ask(0, Request::Read(0, SECTORS), 0);
 
 /// The fixed script: all sectors are written, sector 0 eight times more, two others once more, the
-/// disk is tidied, and all is read.
-const SCRIPT: [Event; 14] = [
+/// first three are zeroed, the disk is tidied, and all is read.
+const SCRIPT: [Event; 15] = [
     Event::Open(0),
     Event::Rest(0),
     Event::Ask(0, Request::Write(0, SECTORS, 1), 0),
@@ -34,6 +34,7 @@ const SCRIPT: [Event; 14] = [
     Event::Ask(0, Request::Write(0, 1, 8), 0),
     Event::Ask(0, Request::Write(0, 1, 9), 0),
     Event::Ask(0, Request::Write(6, 2, 10), 0),
+    Event::Ask(0, Request::Trim(0, 3), 0),
     Event::Tidy,
     READ_ALL,
 ];

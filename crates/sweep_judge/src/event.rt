@@ -27,7 +27,7 @@ const GO: [u8; 27] = [
     0x6C, 0x61, 0x73, 0x68, 0, 0,
 ];
 
-/// The errors of requests past the end of the disk: of a READ, and of a WRITE.
+/// The errors of requests past the end of the disk: of a READ or TRIM, and of a WRITE.
 const INVALID: u32 = 22;
 
 const NO_SPACE: u32 = 28;
@@ -39,6 +39,8 @@ pub enum Request {
     Read(u32, u32),
     /// A WRITE: the same, and the value of each of their bytes.
     Write(u32, u32, u8),
+    /// A TRIM: the same two, which are zeros then.
+    Trim(u32, u32),
     /// A FLUSH.
     Flush,
     /// A DISC, at which the server closes the connection.
@@ -109,6 +111,7 @@ impl Request {
         match self {
             Request::Read(first, count) if first.saturating_add(count) > SECTORS => INVALID,
             Request::Write(first, count, _) if first.saturating_add(count) > SECTORS => NO_SPACE,
+            Request::Trim(first, count) if first.saturating_add(count) > SECTORS => INVALID,
             _ => 0,
         }
     }
@@ -124,6 +127,9 @@ impl Request {
                 let payload = count.wrapping_mul(SECTOR_BYTES) as usize;
                 let len = text.len().saturating_add(payload);
                 text.resize(len, value)
+            }
+            Request::Trim(first, count) => {
+                text.extend_from_slice(&request_head(4, cookie, first, count))
             }
             Request::Leave => text.extend_from_slice(&request_head(2, cookie, 0, 0)),
             Request::Flush => text.extend_from_slice(&request_head(3, cookie, 0, 0)),

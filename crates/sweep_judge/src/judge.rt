@@ -15,9 +15,9 @@ const GREETING: [u8; 18] = [
 
 /// The replies to a GO: the size of the disk and the flags, the sizes of blocks, and ACK.
 const WENT: [u8; 86] = [
-    // 70 sectors, flags 010Dh
+    // 70 sectors, flags 016Dh
     0x00, 0x03, 0xE8, 0x89, 0x04, 0x55, 0x65, 0xA9, 0, 0, 0, 7, 0, 0, 0, 3, 0, 0, 0, 12, 0, 0, 0,
-    0, 0, 0, 0, 0, 0x8C, 0, 1, 0x0D, // 512, 4,096 and 65,536 bytes
+    0, 0, 0, 0, 0, 0x8C, 0, 1, 0x6D, // 512, 4,096 and 65,536 bytes
     0x00, 0x03, 0xE8, 0x89, 0x04, 0x55, 0x65, 0xA9, 0, 0, 0, 7, 0, 0, 0, 3, 0, 0, 0, 14, 0, 3, 0,
     0, 2, 0, 0, 0, 0x10, 0, 0, 1, 0, 0, // and no more
     0x00, 0x03, 0xE8, 0x89, 0x04, 0x55, 0x65, 0xA9, 0, 0, 0, 7, 0, 0, 0, 1, 0, 0, 0, 0,
@@ -402,6 +402,9 @@ impl Judge {
             Request::Write(first, count, value) if request.error() == 0 => {
                 self.write(first, count, value, false)
             }
+            Request::Trim(first, count) if request.error() == 0 => {
+                self.write(first, count, 0, false)
+            }
             Request::Read(_, _) if request.error() == 0 => {}
             _ => return Err(Wrong::Loss),
         }
@@ -431,6 +434,7 @@ impl Judge {
             Request::Write(first, count, value) if error == 0 => {
                 self.write(first, count, value, true)
             }
+            Request::Trim(first, count) if error == 0 => self.write(first, count, 0, true),
             _ => {}
         }
         Ok(rest)

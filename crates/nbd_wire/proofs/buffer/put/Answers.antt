@@ -1,4 +1,4 @@
-use Rattle.std.proofs.Common.{◌≡◌, ◌+◌, ◌-◌, length, take, drop, arith}
+use Rattle.std.proofs.Common.{◌+◌, ◌-◌, length, drop, arith}
 use Rattle.std.proofs.lemmas.Slice.{drop-put_mid}
 use Rattle.std.proofs.lemmas.List.{length-take, length-drop}
 use Rattle.nbd_wire.proofs.buffer.put.Goals as goal

@@ -1,4 +1,4 @@
-use Rattle.std.proofs.Common.{◌≡◌, length, arith, ◌∙◌}
+use Rattle.std.proofs.Common.{arith, ◌∙◌}
 use Rattle.nbd_wire.proofs.BufferLaws.{same_behind}
 use Rattle.nbd_wire.proofs.option_reply.write_option_reply.Goals as goal
 
