@@ -20,10 +20,10 @@ pub(crate) const HEAD_LEN: usize = 44;
 
 /// What a block says of itself.
 #[derive(Drop)]
-struct BlockHead {
-    kind: Kind,
+pub(crate) struct BlockHead {
+    pub(crate) kind: Kind,
     /// What the descriptors of its slots say, whether they count or not.
-    places: [Header; 7],
+    pub(crate) places: [Header; 7],
 }
 
 /// What the descriptor at a place says.
@@ -36,7 +36,7 @@ fn place_state(head: &[u8; HEAD_LEN], place: usize) -> Header
 }
 
 /// What the first bytes of a block say. Any bytes may be passed.
-fn head_of(head: &[u8; HEAD_LEN]) -> BlockHead
+pub(crate) fn head_of(head: &[u8; HEAD_LEN]) -> BlockHead
     ensures kind { result.kind ≡ kind_of head.now }
     ensures places { (i : ℕ) → i < 7
         → slice_index_or result.places i Header.Free ≡ header_of (drop (16 + 4 * i) head.now) }

@@ -11,6 +11,7 @@
 
 #![tactic(auto)]
 
+mod clean;
 mod head;
 mod mark;
 mod read;

@@ -1,13 +1,16 @@
 //! `SectorSlots`: the data blocks of a journal as slots. What each call does stands in `SlotCalls`.
 
-ghost use Rattle.std.specs.Prelude.{◌≡◌, ◌<◌, true, length, OnOk, IfOk, IfErr};
+ghost use Rattle.std.specs.Prelude.{◌≡◌, ◌<◌, true, length, OnOk, IfOk, IfErr, IsTrue, IsFalse};
 ghost use Rattle.std.specs.Result.{IsErrOf};
 ghost use Rattle.chip_model.specs.Geometry.{IsChipSize};
 ghost use Rattle.nor_driver.specs.State.{NorState, Refuses};
 ghost use Rattle.erase_journal.specs.Recovery.{Restored, RestoreFails};
 ghost use Rattle.erase_journal.specs.Steps.{SucceedsSettled};
-ghost use Rattle.sector_slots.specs.Slots.{slot_count, descriptor_at, SameSlots};
+ghost use Rattle.sector_slots.specs.Blocks.{AreAtRest};
+ghost use Rattle.sector_slots.specs.Slots.{slot_count, descriptor_at, SameSlots, IsClean};
+ghost use Rattle.sector_slots.specs.Slots.{data_blocks, kind_at};
 
+use crate::clean::read_clean;
 use crate::head::read_head;
 use crate::mark::{commit_mark, erase_data, program_mark, read_kind, settle_mark};
 use crate::read::{content_at, free_at, read_header, read_slot};
@@ -82,6 +85,20 @@ impl<N: Nor> SectorSlots<N> {
         ensures fails { IfErr result (λ e. Refuses e self.old self.new) }
     {
         read_header(&mut self.journal, slot / PLACES, slot % PLACES)
+    }
+
+    /// Whether what reads as free is erased: it reads each data block whole, until one isn't. It is
+    /// exact where no copying goes on.
+    pub fn is_clean(&mut self) -> Result<bool, NorError>
+        ensures clean { IfOk result (λ clean. IsTrue clean → IsClean self.old.memory) }
+        ensures not_clean { IfOk result (λ clean. IsFalse clean
+            → AreAtRest (kind_at self.old.memory) (data_blocks self.old.memory)
+            → IsClean self.old.memory → ⊥) }
+        ensures same { self.new.memory ≡ self.old.memory }
+        ensures done { OnOk result (SucceedsSettled self.old self.new) }
+        ensures fails { IfErr result (λ e. Refuses e self.old self.new) }
+    {
+        read_clean(&mut self.journal, self.blocks)
     }
 }
 

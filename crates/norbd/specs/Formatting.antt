@@ -11,7 +11,8 @@ use Rattle.norbd_line.specs.declared.fault.Fault.{Fault}
 use Rattle.norbd_line.specs.declared.fault.Fault.TheVariants.{Words, NoMemory, BadSize, InputFailed}
 use Rattle.norbd_line.specs.declared.fault.Fault.TheVariants.{OutputFailed, ImageFailed, WrongId}
 use Rattle.norbd_line.specs.declared.fault.Fault.TheVariants.{BadSfdp, Protected, Slow, BadRecord}
-use Rattle.norbd_line.specs.declared.fault.Fault.TheVariants.{NotFormatted, Corrupt, BadImageSize}
+use Rattle.norbd_line.specs.declared.fault.Fault.TheVariants.{NotFormatted, Corrupt, NotClean}
+use Rattle.norbd_line.specs.declared.fault.Fault.TheVariants.{BadImageSize}
 use Rattle.norbd_line.specs.declared.fault.Fault.TheVariants.{NoSocket, NoThread}
 
 -- the line about a formatted chip of so many KiB
@@ -52,6 +53,7 @@ FormatTells kib old faults (Err Slow) new faults' = NothingWritten old faults ne
 FormatTells kib old faults (Err BadRecord) new faults' = ⊥
 FormatTells kib old faults (Err NotFormatted) new faults' = ⊥
 FormatTells kib old faults (Err Corrupt) new faults' = ⊥
+FormatTells kib old faults (Err NotClean) new faults' = ⊥
 FormatTells kib old faults (Err BadImageSize) new faults' = ⊥
 FormatTells kib old faults (Err NoSocket) new faults' = ⊥
 FormatTells kib old faults (Err NoThread) new faults' = ⊥

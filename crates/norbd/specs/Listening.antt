@@ -18,7 +18,8 @@ use Rattle.norbd_line.specs.declared.fault.Fault.{Fault}
 use Rattle.norbd_line.specs.declared.fault.Fault.TheVariants.{Words, NoMemory, BadSize, InputFailed}
 use Rattle.norbd_line.specs.declared.fault.Fault.TheVariants.{OutputFailed, ImageFailed, WrongId}
 use Rattle.norbd_line.specs.declared.fault.Fault.TheVariants.{BadSfdp, Protected, Slow, BadRecord}
-use Rattle.norbd_line.specs.declared.fault.Fault.TheVariants.{NotFormatted, Corrupt, BadImageSize}
+use Rattle.norbd_line.specs.declared.fault.Fault.TheVariants.{NotFormatted, Corrupt, NotClean}
+use Rattle.norbd_line.specs.declared.fault.Fault.TheVariants.{BadImageSize}
 use Rattle.norbd_line.specs.declared.fault.Fault.TheVariants.{NoSocket, NoThread}
 
 -- the line before the first connection is accepted
@@ -69,6 +70,7 @@ IsRefusal ImageFailed = Unit {0}
 IsRefusal BadImageSize = Unit {0}
 IsRefusal NotFormatted = Unit {0}
 IsRefusal Corrupt = Unit {0}
+IsRefusal NotClean = Unit {0}
 IsRefusal WrongId = Unit {0}
 IsRefusal BadSfdp = Unit {0}
 IsRefusal Protected = Unit {0}
@@ -125,6 +127,7 @@ TellsServing port conns keeps old faults (Err BadImageSize) new faults' =
 TellsServing port conns keeps old faults (Err NotFormatted) new faults' =
     IsSilent old faults new faults'
 TellsServing port conns keeps old faults (Err Corrupt) new faults' = IsSilent old faults new faults'
+TellsServing port conns keeps old faults (Err NotClean) new faults' = IsSilent old faults new faults'
 TellsServing port conns keeps old faults (Err WrongId) new faults' = IsSilent old faults new faults'
 TellsServing port conns keeps old faults (Err BadSfdp) new faults' = IsSilent old faults new faults'
 TellsServing port conns keeps old faults (Err Protected) new faults' =

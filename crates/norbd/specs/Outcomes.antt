@@ -7,7 +7,8 @@ use Rattle.norbd_line.specs.declared.fault.Fault.{Fault}
 use Rattle.norbd_line.specs.declared.fault.Fault.TheVariants.{Words, NoMemory, BadSize, InputFailed}
 use Rattle.norbd_line.specs.declared.fault.Fault.TheVariants.{OutputFailed, ImageFailed, WrongId}
 use Rattle.norbd_line.specs.declared.fault.Fault.TheVariants.{BadSfdp, Protected, Slow, BadRecord}
-use Rattle.norbd_line.specs.declared.fault.Fault.TheVariants.{NotFormatted, Corrupt, BadImageSize}
+use Rattle.norbd_line.specs.declared.fault.Fault.TheVariants.{NotFormatted, Corrupt, NotClean}
+use Rattle.norbd_line.specs.declared.fault.Fault.TheVariants.{BadImageSize}
 use Rattle.norbd_line.specs.declared.fault.Fault.TheVariants.{NoSocket, NoThread}
 use Rattle.share.specs.declared.connection.End.{End}
 use Rattle.share.specs.declared.connection.End.TheVariants.{Closed, EndOfInput, Input, Output, Lost}
@@ -56,6 +57,7 @@ HasCause Slow had left reads reads' writes writes' = ⊥
 HasCause BadRecord had left reads reads' writes writes' = ⊥
 HasCause NotFormatted had left reads reads' writes writes' = ⊥
 HasCause Corrupt had left reads reads' writes writes' = ⊥
+HasCause NotClean had left reads reads' writes writes' = ⊥
 HasCause BadImageSize had left reads reads' writes writes' = ⊥
 HasCause NoSocket had left reads reads' writes writes' = ⊥
 HasCause NoThread had left reads reads' writes writes' = ⊥

@@ -7,7 +7,8 @@ use Rattle.norbd_line.specs.declared.fault.Fault.{Fault}
 use Rattle.norbd_line.specs.declared.fault.Fault.TheVariants.{Words, NoMemory, BadSize, InputFailed}
 use Rattle.norbd_line.specs.declared.fault.Fault.TheVariants.{OutputFailed, ImageFailed, WrongId}
 use Rattle.norbd_line.specs.declared.fault.Fault.TheVariants.{BadSfdp, Protected, Slow, BadRecord}
-use Rattle.norbd_line.specs.declared.fault.Fault.TheVariants.{NotFormatted, Corrupt, BadImageSize}
+use Rattle.norbd_line.specs.declared.fault.Fault.TheVariants.{NotFormatted, Corrupt, NotClean}
+use Rattle.norbd_line.specs.declared.fault.Fault.TheVariants.{BadImageSize}
 use Rattle.norbd_line.specs.declared.fault.Fault.TheVariants.{NoSocket, NoThread}
 use Rattle.share.specs.Places.{setting}
 use Rattle.share.specs.Plain.{AnswersAll, AnswersSome}
@@ -39,6 +40,7 @@ PlainServes keeps sectors input old new (Err Slow) = ⊥
 PlainServes keeps sectors input old new (Err BadRecord) = ⊥
 PlainServes keeps sectors input old new (Err NotFormatted) = ⊥
 PlainServes keeps sectors input old new (Err Corrupt) = ⊥
+PlainServes keeps sectors input old new (Err NotClean) = ⊥
 PlainServes keeps sectors input old new (Err BadImageSize) = ⊥
 PlainServes keeps sectors input old new (Err NoSocket) = ⊥
 PlainServes keeps sectors input old new (Err NoThread) = ⊥

@@ -1,5 +1,6 @@
 //! What a line asks, over any reader and writer.
 ghost use Rattle.std.specs.Prelude.{◌≡◌, ◌≢◌, ℕ, List, Some, false};
+ghost use Rattle.std.specs.Prelude.{IsFalse};
 ghost use Rattle.norbd.specs.Outcomes.{Ended, Means};
 ghost use Rattle.norbd.specs.Formatting.{FormatTells};
 ghost use Rattle.norbd.specs.Scripting.{Scripts};
@@ -140,6 +141,7 @@ fn run_plain<L: OneServer, S: Source, K: Sink>(
     requires name { blank.name ≡ L.name }
     requires parts { (blank.parts ≡ L.parts) × (blank.parts ≡ 65537) }
     requires sectors { sectors ≡ L.sectors }
+    requires unsaid { IsFalse L.sound }
     ensures ends { Ended result (S.remaining reader.old) (S.remaining reader.new)
         (S.faults reader.old) (S.faults reader.new)
         (K.faults writer.old) (K.faults writer.new) }

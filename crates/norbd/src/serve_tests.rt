@@ -458,6 +458,7 @@ fn files_that_hold_no_disk_are_refused_and_left(rt: HostRuntime) -> Result<(), F
         (65_536, 0, 0x00, "not formatted"),
         (70_000, 0, 0x00, "bad image size"),
         (0, 0x2400, 0x55, "corrupt"),
+        (0, 0x4300, 0x55, "not clean"),
     ] {
         let mut wanted = vec![in rt.alloc(); 0u8; length]?;
         if length == 0 {

@@ -1,5 +1,7 @@
 //! `serve`: the chip in an image file, served to clients on a port of this machine.
-ghost use Rattle.std.specs.Prelude.{◌≡◌, ◌*◌, length, string_bytes, IfOk, IfErr, true, false};
+ghost use Rattle.std.specs.Prelude.{◌≡◌, ◌*◌, ℕ, List, length, string_bytes, IfOk, IfErr, true};
+ghost use Rattle.std.specs.Prelude.{false};
+ghost use Rattle.flash_disk.specs.Mounting.{OpenedFrom};
 ghost use Rattle.std.specs.Thread.{IsSend};
 ghost use Rattle.norbd.specs.Listening.{IsRefusal, TellsServing, WritesText, ended_text};
 ghost use Rattle.norbd.specs.Listening.{serving_text, told_of_file, told_of_mount, told_of_record};
@@ -7,7 +9,7 @@ ghost use Rattle.norbd.specs.Listening.{told_of_serving};
 ghost use Rattle.norbd_line.specs.Line.{IsConns, IsPort};
 
 use crate::scripting::told_of_probe;
-use block_device::{Disk, Sink, send};
+use block_device::{Disk, DiskError, Sink, send};
 use fault_model::{ImageBus, SimError};
 use flash_disk::{FlashDisk, MountError};
 use norbd_line::Fault;
@@ -65,24 +67,55 @@ where
         (K.written writer.new) (K.faults writer.new) }
 {
     let disk = open_disk(rt, image)?;
+    serve_opened(rt, disk, asked, writer)
+}
+
+/// Serves a sound disk.
+fn serve_opened<R, D, K>(rt: &R, disk: D, asked: Asked, writer: &mut K) -> Result<(), Fault>
+where
+    R: AllocGlobal
+        + Threads
+        + Wait
+        + Sync
+        + Clock
+        + Net<Listener = TcpListener, Stream = TcpStream>,
+    D: Disk + Send + Drop,
+    K: Sink,
+    requires sound { (D.facts disk).sound ≡ true }
+    requires numbers { IsPort asked.port × IsConns asked.conns }
+    ensures { TellsServing asked.port asked.conns asked.record (K.written writer.old)
+        (K.faults writer.old) result
+        (K.written writer.new) (K.faults writer.new) }
+{
     let sectors = disk.sectors();
     serve_disk::<Brand, _, _, _>(rt, disk, sectors, Blank::new(LEDGER_PARTS), asked, writer)
 }
 
-/// The disk on the chip in a file, of which nothing is known.
+/// The disk on the chip in a file, which is read once whole: it is sound, and holds what the chip's
+/// memory, which is healthy, stands for.
 fn open_disk<R>(rt: &R, image: &str) -> Result<FlashDisk<ImageBus<R::File>, Brand>, Fault>
 where
     R: Files + AllocGlobal,
     R::File: FileExt,
-    ensures { IfErr result IsRefusal }
+    ensures refused { IfErr result IsRefusal }
+    ensures sound { IfOk result (λ disk.
+        (⟦<FlashDisk<ImageBus<R::File>, Brand> as Disk>⟧.facts disk).sound ≡ true) }
+    ensures from { IfOk result (λ disk. (m : List ℕ)
+        × OpenedFrom m (⟦<FlashDisk<ImageBus<R::File>, Brand> as Disk>⟧.facts disk)) }
 {
     let bus = match ImageBus::open(rt, image) {
         Ok(bus) => bus,
         Err(error) => return Err(told_of_file(error)),
     };
-    match FlashDisk::<_, Brand>::mount(rt.alloc(), bus) {
-        Ok(disk) => Ok(disk),
-        Err((_, error)) => Err(told_of_mount(error)),
+    let mut disk = match FlashDisk::<_, Brand>::mount(rt.alloc(), bus) {
+        Ok(disk) => disk,
+        Err((_, error)) => return Err(told_of_mount(error)),
+    };
+    match disk.check() {
+        Ok(true) => Ok(disk),
+        Ok(false) => Err(Fault::NotClean),
+        Err(DiskError::Cut) => Err(Fault::ImageFailed),
+        Err(DiskError::Slow) => Err(Fault::Slow),
     }
 }
 
@@ -107,6 +140,8 @@ where
     K: Sink,
     requires size { length (D.facts disk).contents ≡ 512 * sectors }
     requires sectors { sectors ≡ L.sectors }
+    requires sound { ((D.facts disk).sound ≡ true) × (L.sound ≡ true) }
+    requires base { L.base ≡ (D.facts disk).contents }
     requires name { blank.name ≡ L.name }
     requires parts { (blank.parts ≡ L.parts) × (blank.parts ≡ 65537) }
     requires numbers { IsPort asked.port × IsConns asked.conns }

@@ -5,7 +5,7 @@ use Rattle.clap.specs.Words.{IsAmong, Row, Text, kind_of}
 use Rattle.norbd_line.specs.Fault.{ComesFromWords}
 use Rattle.norbd_line.specs.Line.{HasOddSize, IsLineInRange, IsLineOf, IsOddSize, IsSize, Names, TakesSize, number_in}
 use Rattle.norbd_line.specs.declared.fault.Fault.{Fault}
-use Rattle.norbd_line.specs.declared.fault.Fault.TheVariants.{Words, NoMemory, BadSize, InputFailed, OutputFailed, ImageFailed, WrongId, BadSfdp, Protected, Slow, BadRecord, NotFormatted, Corrupt, BadImageSize, NoSocket, NoThread}
+use Rattle.norbd_line.specs.declared.fault.Fault.TheVariants.{Words, NoMemory, BadSize, InputFailed, OutputFailed, ImageFailed, WrongId, BadSfdp, Protected, Slow, BadRecord, NotFormatted, Corrupt, NotClean, BadImageSize, NoSocket, NoThread}
 use Rattle.norbd_line.specs.declared.line.Line.{Line}
 use Rattle.norbd_line.specs.declared.line.Line.TheVariants.{Plain, Format, Script, Serve}
 
@@ -69,6 +69,7 @@ odd_is_refused words (Err Slow) range line fault odd = absurd fault
 odd_is_refused words (Err BadRecord) range line fault odd = absurd fault
 odd_is_refused words (Err NotFormatted) range line fault odd = absurd fault
 odd_is_refused words (Err Corrupt) range line fault odd = absurd fault
+odd_is_refused words (Err NotClean) range line fault odd = absurd fault
 odd_is_refused words (Err BadImageSize) range line fault odd = absurd fault
 odd_is_refused words (Err NoSocket) range line fault odd = absurd fault
 odd_is_refused words (Err NoThread) range line fault odd = absurd fault

@@ -9,7 +9,8 @@ use Rattle.norbd_line.specs.declared.fault.Fault.{Fault}
 use Rattle.norbd_line.specs.declared.fault.Fault.TheVariants.{Words, NoMemory, BadSize, InputFailed}
 use Rattle.norbd_line.specs.declared.fault.Fault.TheVariants.{OutputFailed, ImageFailed, WrongId}
 use Rattle.norbd_line.specs.declared.fault.Fault.TheVariants.{BadSfdp, Protected, Slow, BadRecord}
-use Rattle.norbd_line.specs.declared.fault.Fault.TheVariants.{NotFormatted, Corrupt, BadImageSize}
+use Rattle.norbd_line.specs.declared.fault.Fault.TheVariants.{NotFormatted, Corrupt, NotClean}
+use Rattle.norbd_line.specs.declared.fault.Fault.TheVariants.{BadImageSize}
 use Rattle.norbd_line.specs.declared.fault.Fault.TheVariants.{NoSocket, NoThread}
 
 -- the words asked for help or for the version, so they are no mistake
@@ -32,6 +33,7 @@ HasStatus Slow status = status ≡ 1
 HasStatus BadRecord status = status ≡ 1
 HasStatus NotFormatted status = status ≡ 1
 HasStatus Corrupt status = status ≡ 1
+HasStatus NotClean status = status ≡ 1
 HasStatus BadImageSize status = status ≡ 1
 HasStatus NoSocket status = status ≡ 1
 HasStatus NoThread status = status ≡ 1
@@ -52,6 +54,7 @@ ComesFromMatches name rows Slow = ⊥
 ComesFromMatches name rows BadRecord = ⊥
 ComesFromMatches name rows NotFormatted = ⊥
 ComesFromMatches name rows Corrupt = ⊥
+ComesFromMatches name rows NotClean = ⊥
 ComesFromMatches name rows BadImageSize = ⊥
 ComesFromMatches name rows NoSocket = ⊥
 ComesFromMatches name rows NoThread = ⊥
@@ -73,6 +76,7 @@ ComesFromWords words Slow = ⊥
 ComesFromWords words BadRecord = ⊥
 ComesFromWords words NotFormatted = ⊥
 ComesFromWords words Corrupt = ⊥
+ComesFromWords words NotClean = ⊥
 ComesFromWords words BadImageSize = ⊥
 ComesFromWords words NoSocket = ⊥
 ComesFromWords words NoThread = ⊥

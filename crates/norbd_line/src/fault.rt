@@ -46,6 +46,10 @@ pub enum Fault {
     /// The chip can't be mounted: what is stored on it is corrupt.
     #[error("corrupt")]
     Corrupt,
+    /// What reads as free on the chip isn't erased: it was written by something else, or an
+    /// operation of it didn't end.
+    #[error("not clean")]
+    NotClean,
     /// The image's length in bytes is no chip's.
     #[error("bad image size")]
     BadImageSize,
@@ -77,6 +81,7 @@ impl Fault {
             Fault::BadRecord => 1,
             Fault::NotFormatted => 1,
             Fault::Corrupt => 1,
+            Fault::NotClean => 1,
             Fault::BadImageSize => 1,
             Fault::NoSocket => 1,
             Fault::NoThread => 1,

@@ -9,7 +9,7 @@ ghost use Rattle.nor_layout.specs.Layouts.{layout_of};
 ghost use Rattle.erase_journal.specs.Journals.{IsHealthy};
 ghost use Rattle.erase_journal.specs.Recovery.{IsBehind};
 ghost use Rattle.erase_journal.specs.Steps.{SucceedsSettled};
-ghost use Rattle.sector_slots.specs.Slots.{slot_count, data_blocks};
+ghost use Rattle.sector_slots.specs.Slots.{slot_count, data_blocks, IsClean};
 ghost use Rattle.sector_slots.specs.Sectors.{sector_at, zeros};
 ghost use Rattle.sector_stock.specs.Takes.{dead_slots};
 ghost use Rattle.sector_map.specs.Table.{holder};
@@ -194,6 +194,27 @@ impl<N: Nor> SectorMap<N> {
         }
         match tidy_in(&mut self.stock, self.table.as_mut_slice()) {
             Ok(more) => Ok(more),
+            Err(error) => {
+                self.latched = Some(error);
+                Err(error)
+            }
+        }
+    }
+
+    /// Whether what reads as free is erased, by reading each data block until one is met that isn't.
+    /// Nothing changes.
+    pub fn is_clean(&mut self) -> Result<bool, NorError>
+        ensures clean { IfOk result (λ clean. IsTrue clean → IsClean self.old.memory) }
+        ensures not_clean { IfOk result (λ clean. IsFalse clean → IsClean self.old.memory → ⊥) }
+        ensures same { self.new.memory ≡ self.old.memory }
+        ensures done { OnOk result (SucceedsSettled self.old self.new) }
+        ensures fails { IfErr result (λ e. Refuses e self.old self.new) }
+    {
+        if let Some(error) = self.latched {
+            return Err(error);
+        }
+        match self.stock.is_clean() {
+            Ok(clean) => Ok(clean),
             Err(error) => {
                 self.latched = Some(error);
                 Err(error)

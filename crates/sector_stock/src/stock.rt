@@ -1,10 +1,12 @@
 //! Slots with their index.
 
 ghost use Rattle.std.specs.Prelude.{◌≡◌, ◌≢◌, ◌<◌, ℕ, List, false, true, Some, None, length, OnOk};
-ghost use Rattle.std.specs.Prelude.{IfOk, IfErr};
-ghost use Rattle.nor_driver.specs.State.{IsNorReady};
+ghost use Rattle.std.specs.Prelude.{IfOk, IfErr, IsTrue, IsFalse};
+ghost use Rattle.nor_driver.specs.State.{IsNorReady, Refuses};
 ghost use Rattle.erase_journal.specs.Journals.{IsSettled};
-ghost use Rattle.sector_slots.specs.Slots.{slot_count, data_blocks};
+ghost use Rattle.erase_journal.specs.Steps.{SucceedsSettled};
+ghost use Rattle.sector_slots.specs.Blocks.{AreAtRest};
+ghost use Rattle.sector_slots.specs.Slots.{slot_count, data_blocks, kind_at, IsClean};
 ghost use Rattle.sector_stock.specs.Index.{IsStocked};
 
 use crate::Reclaim;
@@ -68,6 +70,27 @@ impl<N: Nor> Stock<N> {
             indexed: _indexed,
         } = self;
         slots
+    }
+
+    /// Whether what reads as free is erased, by reading each data block until one is met that
+    /// isn't; exact where no copying goes on.
+    pub fn is_clean(&mut self) -> Result<bool, NorError>
+        ensures clean { IfOk result (λ clean. IsTrue clean
+            → IsClean (⟦<Stock<N> as SlotCalls>⟧.state self.old).memory) }
+        ensures not_clean { IfOk result (λ clean. IsFalse clean
+            → AreAtRest (kind_at (⟦<Stock<N> as SlotCalls>⟧.state self.old).memory)
+            (data_blocks (⟦<Stock<N> as SlotCalls>⟧.state self.old).memory)
+            → IsClean (⟦<Stock<N> as SlotCalls>⟧.state self.old).memory → ⊥) }
+        ensures same { (⟦<Stock<N> as SlotCalls>⟧.state self.new).memory
+            ≡ (⟦<Stock<N> as SlotCalls>⟧.state self.old).memory }
+        ensures index { ⟦<Stock<N> as SlotCalls>⟧.indexed self.new
+            ≡ ⟦<Stock<N> as SlotCalls>⟧.indexed self.old }
+        ensures done { OnOk result (SucceedsSettled (⟦<Stock<N> as SlotCalls>⟧.state self.old)
+            (⟦<Stock<N> as SlotCalls>⟧.state self.new)) }
+        ensures fails { IfErr result (λ e. Refuses e (⟦<Stock<N> as SlotCalls>⟧.state self.old)
+            (⟦<Stock<N> as SlotCalls>⟧.state self.new)) }
+    {
+        self.slots.is_clean()
     }
 }
 

@@ -123,6 +123,8 @@ impl<D: Disk, R: Recorder, L: OneServer> Model for Shared<D, R, L> {
       latched : R.KEEPS ≡ true → (D.facts s.disk).cut ≡ true → s.lost ≡ true;
       kept : R.KEEPS ≡ true → IsKept L.sectors (D.facts s.disk) (R.base s.recorder)
           (R.rows s.recorder) (R.interrupted s.recorder);
+      trusted : L.sound ≡ true → (D.facts s.disk).sound ≡ true;
+      based : R.KEEPS ≡ true → L.sound ≡ true → R.base s.recorder ≡ L.base;
     } };
 }
 
@@ -130,6 +132,7 @@ impl<D: Disk, L: OneServer> Shared<D, NoRecord, L> {
     /// A server that keeps no rows. `blank` has 65,537 parts.
     pub fn new(disk: D, blank: Blank) -> Shared<D, NoRecord, L>
         requires sectors { length (D.facts disk).contents ≡ 512 * L.sectors }
+        requires sound { L.sound ≡ true → (D.facts disk).sound ≡ true }
         requires name { blank.name ≡ L.name }
         requires parts { (blank.parts ≡ L.parts) × (blank.parts ≡ 65537) }
         ensures disk { result.disk ≡ D.facts disk }
@@ -156,6 +159,8 @@ impl<D: Disk, L: OneServer> Shared<D, FullRecord, L> {
         blank: Blank,
     ) -> Result<Shared<D, FullRecord, L>, (RecordError, D)>
         requires sectors { length (D.facts disk).contents ≡ 512 * L.sectors }
+        requires sound { L.sound ≡ true → (D.facts disk).sound ≡ true }
+        requires base { L.sound ≡ true → (D.facts disk).contents ≡ L.base }
         requires name { blank.name ≡ L.name }
         requires parts { (blank.parts ≡ L.parts) × (blank.parts ≡ 65537) }
         ensures base { IfOk result (λ s. (D.facts disk).sound ≡ true
@@ -198,6 +203,7 @@ impl<D: Disk, L: OneServer> Shared<D, FullRecord, L> {
 
 impl<D: Disk, R: Recorder, L: OneServer> Shared<D, R, L> {
     ghost use Rattle.share.specs.Doing.{Executes, Tidied};
+    ghost use Rattle.share.specs.Locking.{IsServed};
 
     /// Runs one command that the request table accepts, over the bytes that are lent to it: a
     /// WRITE's payload, the room for a READ's data, none for any other. The memory of the row comes
@@ -253,6 +259,13 @@ impl<D: Disk, R: Recorder, L: OneServer> Shared<D, R, L> {
             self.lost = true;
         }
         result
+    }
+
+    /// Does nothing: what is known of a server, whenever it is got.
+    pub fn stands(&self)
+        ensures { IsServed R.KEEPS L.sound L.sectors L.base self.now }
+    {
+        let _lost = self.lost;
     }
 
     /// Lends the disk.

@@ -1,3 +1,4 @@
+use Rattle.std.proofs.Common.{false, []}
 use Rattle.acceptance_nbd.proofs.server.a_slow_write_is_answered_eio.Given as goal
 
 -- the server of this test's blank, and its number of sectors
@@ -5,7 +6,7 @@ abbrev pub ghosts-write_slowly-L-Ledger : goal.ghosts-write_slowly-L-Ledger
 ghosts-write_slowly-L-Ledger g a = record { name = a.blank.name; parts = a.blank.parts }
 
 abbrev pub ghosts-write_slowly-L-OneServer : goal.ghosts-write_slowly-L-OneServer
-ghosts-write_slowly-L-OneServer g a = record { sectors = a.sectors }
+ghosts-write_slowly-L-OneServer g a = record { sectors = a.sectors; sound = false; base = [] }
 
 -- the ledger of its tally
 abbrev pub ghosts-write_slowly-M-Ledger : goal.ghosts-write_slowly-M-Ledger

@@ -1,3 +1,4 @@
+use Rattle.std.proofs.Common.{false, []}
 use Rattle.acceptance_nbd.proofs.server.read_from_disk_of.Given as goal
 
 -- the server of this test's blank, and its number of sectors
@@ -5,7 +6,7 @@ abbrev pub ghosts-read_and_close-L-Ledger : goal.ghosts-read_and_close-L-Ledger
 ghosts-read_and_close-L-Ledger g a = record { name = a.blank.name; parts = a.blank.parts }
 
 abbrev pub ghosts-read_and_close-L-OneServer : goal.ghosts-read_and_close-L-OneServer
-ghosts-read_and_close-L-OneServer g a = record { sectors = a.sectors }
+ghosts-read_and_close-L-OneServer g a = record { sectors = a.sectors; sound = false; base = [] }
 
 -- the ledger of its tally
 abbrev pub ghosts-read_and_close-M-Ledger : goal.ghosts-read_and_close-M-Ledger

@@ -1,3 +1,4 @@
+use Rattle.std.proofs.Common.{false, []}
 use Rattle.acceptance_serve.proofs.crowd.eight_clients_find_what_they_wrote.Given as goal
 
 -- the server of this test's blank, and its number of sectors
@@ -5,4 +6,4 @@ abbrev pub ghosts-serve_crowd-L-Ledger : goal.ghosts-serve_crowd-L-Ledger
 ghosts-serve_crowd-L-Ledger g a = record { name = a.blank.name; parts = a.blank.parts }
 
 abbrev pub ghosts-serve_crowd-L-OneServer : goal.ghosts-serve_crowd-L-OneServer
-ghosts-serve_crowd-L-OneServer g a = record { sectors = a.sectors }
+ghosts-serve_crowd-L-OneServer g a = record { sectors = a.sectors; sound = false; base = [] }

@@ -1,3 +1,4 @@
+use Rattle.std.proofs.Common.{false, []}
 use Rattle.acceptance_serve.proofs.meeting.two_clients_are_served_at_once.Given as goal
 
 -- the server of this test's blank, and its number of sectors
@@ -5,4 +6,4 @@ abbrev pub ghosts-serve_two-L-Ledger : goal.ghosts-serve_two-L-Ledger
 ghosts-serve_two-L-Ledger g a = record { name = a.blank.name; parts = a.blank.parts }
 
 abbrev pub ghosts-serve_two-L-OneServer : goal.ghosts-serve_two-L-OneServer
-ghosts-serve_two-L-OneServer g a = record { sectors = a.sectors }
+ghosts-serve_two-L-OneServer g a = record { sectors = a.sectors; sound = false; base = [] }

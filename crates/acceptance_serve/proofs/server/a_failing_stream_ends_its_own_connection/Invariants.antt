@@ -1,3 +1,4 @@
+use Rattle.std.proofs.Common.{false, []}
 use Rattle.acceptance_serve.proofs.server.a_failing_stream_ends_its_own_connection.Given as goal
 
 -- the server of this test's blank
@@ -6,7 +7,7 @@ ghosts-fail_at-L-Ledger g a = record { name = a.blank.name; parts = a.blank.part
 
 -- and its number of sectors
 abbrev pub ghosts-fail_at-L-OneServer : goal.ghosts-fail_at-L-OneServer
-ghosts-fail_at-L-OneServer g a = record { sectors = a.sectors }
+ghosts-fail_at-L-OneServer g a = record { sectors = a.sectors; sound = false; base = [] }
 
 -- the ledger of a stream: that of its blank
 abbrev pub ghosts-fail_at-M-Ledger : goal.ghosts-fail_at-M-Ledger

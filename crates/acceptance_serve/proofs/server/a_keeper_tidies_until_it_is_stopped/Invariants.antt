@@ -1,3 +1,4 @@
+use Rattle.std.proofs.Common.{false, []}
 use Rattle.acceptance_serve.proofs.server.a_keeper_tidies_until_it_is_stopped.Given as goal
 
 -- the server of this test's blank
@@ -6,4 +7,4 @@ ghosts-keep_two-L-Ledger g a = record { name = a.blank.name; parts = a.blank.par
 
 -- and its number of sectors
 abbrev pub ghosts-keep_two-L-OneServer : goal.ghosts-keep_two-L-OneServer
-ghosts-keep_two-L-OneServer g a = record { sectors = a.sectors }
+ghosts-keep_two-L-OneServer g a = record { sectors = a.sectors; sound = false; base = [] }

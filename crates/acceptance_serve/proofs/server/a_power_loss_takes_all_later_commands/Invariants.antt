@@ -1,3 +1,4 @@
+use Rattle.std.proofs.Common.{false, []}
 use Rattle.acceptance_serve.proofs.server.a_power_loss_takes_all_later_commands.Given as goal
 
 -- the server of this test's blank
@@ -6,4 +7,4 @@ ghosts-lose-L-Ledger g a = record { name = a.blank.name; parts = a.blank.parts }
 
 -- and its number of sectors
 abbrev pub ghosts-lose-L-OneServer : goal.ghosts-lose-L-OneServer
-ghosts-lose-L-OneServer g a = record { sectors = a.sectors }
+ghosts-lose-L-OneServer g a = record { sectors = a.sectors; sound = false; base = [] }

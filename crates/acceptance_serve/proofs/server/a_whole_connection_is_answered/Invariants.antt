@@ -1,3 +1,4 @@
+use Rattle.std.proofs.Common.{false, []}
 use Rattle.acceptance_serve.proofs.server.a_whole_connection_is_answered.Given as goal
 
 -- the server of this test's blank
@@ -6,7 +7,7 @@ ghosts-work-L-Ledger g a = record { name = a.blank.name; parts = a.blank.parts }
 
 -- and its number of sectors
 abbrev pub ghosts-work-L-OneServer : goal.ghosts-work-L-OneServer
-ghosts-work-L-OneServer g a = record { sectors = a.sectors }
+ghosts-work-L-OneServer g a = record { sectors = a.sectors; sound = false; base = [] }
 
 -- the ledger of a stream: that of its blank
 abbrev pub ghosts-work-M-Ledger : goal.ghosts-work-M-Ledger

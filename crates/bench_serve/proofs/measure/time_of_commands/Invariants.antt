@@ -1,3 +1,4 @@
+use Rattle.std.proofs.Common.{false, []}
 use Rattle.bench_serve.proofs.measure.time_of_commands.Given as goal
 
 -- the server of this go's blank
@@ -6,4 +7,4 @@ ghosts-time_over-L-Ledger g a = record { name = a.blank.name; parts = a.blank.pa
 
 -- and its number of sectors
 abbrev pub ghosts-time_over-L-OneServer : goal.ghosts-time_over-L-OneServer
-ghosts-time_over-L-OneServer g a = record { sectors = a.sectors }
+ghosts-time_over-L-OneServer g a = record { sectors = a.sectors; sound = false; base = [] }

@@ -1,3 +1,4 @@
+use Rattle.std.proofs.Common.{false, []}
 use Rattle.norbd.proofs.run.run_line.Given as goal
 
 -- the ledger of the server: that of its blank
@@ -6,4 +7,4 @@ ghosts-run_plain-L-Ledger g a = record { name = a.blank.name; parts = a.blank.pa
 
 -- the server's number of sectors: that of its line
 abbrev pub ghosts-run_plain-L-OneServer : goal.ghosts-run_plain-L-OneServer
-ghosts-run_plain-L-OneServer g a = record { sectors = a.sectors }
+ghosts-run_plain-L-OneServer g a = record { sectors = a.sectors; sound = false; base = [] }

@@ -22,6 +22,8 @@ invariant_of-self-in-Ok g c =
           (R.interrupted was.recorder) (R.interrupted c.prepare.new.self) (R.interrupted c.note.new.recorder) c.args.command.now c.args.pass.now.connection c.args.data.now c.run.new.bytes
           k (inv.kept k) c.requires.accepted c.run.auto.bytes c.requires.lent r.kept r.sound r.contents r.reply r.latches.0 r.latches.1 r.latches.2 r.latches.3
           p.base n.base p.interrupted n.interrupted p.rows n.rows;
+      trusted = λ t. r.sound ∙ inv.trusted t;
+      based = λ k t. n.base ∙ p.base ∙ inv.based k t;
     }
 
 pub invariant_of-self-in-Err-Slow : goal.invariant_of-self-in-Err-Slow
@@ -42,6 +44,8 @@ invariant_of-self-in-Err-Slow g c =
           (R.interrupted was.recorder) (R.interrupted c.prepare.new.self) (R.interrupted c.note-in-Err-Slow.new.recorder) c.args.command.now c.args.pass.now.connection c.args.data.now c.run.new.bytes
           k (inv.kept k) c.requires.accepted c.run.auto.bytes c.requires.lent r.sound s.0 s.1 s.3 s.4
           p.base n.base p.interrupted n.interrupted p.rows n.rows;
+      trusted = λ t. r.sound ∙ inv.trusted t;
+      based = λ k t. n.base ∙ p.base ∙ inv.based k t;
     }
 
 pub invariant_of-self-in-Err-Cut : goal.invariant_of-self-in-Err-Cut
@@ -64,6 +68,8 @@ invariant_of-self-in-Err-Cut g c =
           (R.interrupted was.recorder) (R.interrupted c.interrupt.new.self) c.args.command.now c.args.data.now c.run.new.bytes
           k (inv.kept k) r.kept r.sound left (had k) (was_quiet _ _ _ _ s.0 (had k)) s.1 s.2
           p.base i.base p.rows i.rows i.interrupted;
+      trusted = λ t. r.sound ∙ inv.trusted t;
+      based = λ k t. i.base ∙ p.base ∙ inv.based k t;
     }
 
 pub returns-in-Err-Cut : goal.returns-in-Err-Cut

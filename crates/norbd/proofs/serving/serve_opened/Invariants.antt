@@ -1,0 +1,10 @@
+use Rattle.std.proofs.Common.{true}
+use Rattle.norbd.proofs.serving.serve_opened.Given as goal
+
+-- the ledger of the server: that of its blank
+abbrev pub ghosts-serve_disk-L-Ledger : goal.ghosts-serve_disk-L-Ledger
+ghosts-serve_disk-L-Ledger g a = record { name = a.blank.name; parts = a.blank.parts }
+
+-- the server's number of sectors and what it holds: those of its disk, which is sound
+abbrev pub ghosts-serve_disk-L-OneServer : goal.ghosts-serve_disk-L-OneServer
+ghosts-serve_disk-L-OneServer g a = record { sectors = a.sectors; sound = true; base = (g.D.Disk.facts a.disk).contents }
