@@ -5,8 +5,8 @@
 //! may leave (`specs/Cut.antt`), and three facts are known of a bus: its chip, how often the power
 //! was lost, and how many operations were slow. A bus is quiet where the last doesn't rise.
 //! `Geometry` is the disk that a chip of a size makes. `specs/Memory.antt` and `specs/Parts.antt`
-//! say what writes and erases make of a list of bytes and of its parts of one size; their laws
-//! stand beside them, for every crate above.
+//! say what writes and erases make of a list of bytes and of its parts of one size; their laws are
+//! in `proofs/`, for every crate above.
 //!
 //! Left to the crate above: the bytes of the frames, waiting for operations, and which addresses
 //! are used for what.
