@@ -16,14 +16,16 @@ pub record IsServed (keeps sound : Bool) (sectors : ℕ) (base : List ℕ) (a : 
   pub kept : keeps ≡ true → IsKept sectors a.disk a.base a.rows a.interrupted
   pub based : keeps ≡ true → sound ≡ true → a.base ≡ base
 
--- What one `execute` does to such a state, which is left unsaid, as is the one that it leaves.
+-- What one `execute` does to such a state, which is left unsaid, as is the one that it leaves: that
+-- is such a state again.
 abbrev pub ExecutesLocked : Bool → Bool → ℕ → List ℕ → Seat → Seat → Command → List ℕ → Done
     → Type 0
 ExecutesLocked keeps sound sectors base pass pass' command bytes done =
     (a : Served) × ((b : Served) × (IsServed keeps sound sectors base a
-    × Executes keeps a b pass pass' command bytes done))
+    × Executes keeps a b pass pass' command bytes done × IsServed keeps sound sectors base b))
 
 -- and one `tidy`
 abbrev pub TidiesLocked : Bool → Bool → ℕ → List ℕ → Result Bool DiskError → Type 0
 TidiesLocked keeps sound sectors base result =
-    (a : Served) × ((b : Served) × (IsServed keeps sound sectors base a × Tidied a b result))
+    (a : Served) × ((b : Served) × (IsServed keeps sound sectors base a × Tidied a b result
+    × IsServed keeps sound sectors base b))

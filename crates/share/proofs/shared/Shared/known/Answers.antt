@@ -1,4 +1,4 @@
-use Rattle.share.proofs.shared.Shared.stands.Goals as goal
+use Rattle.share.proofs.shared.Shared.known.Goals as goal
 
 pub returns : goal.returns
 returns g c =
