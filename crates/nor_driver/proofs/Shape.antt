@@ -1,8 +1,8 @@
 -- What a program or an erase keeps of the chip, and leaves of its memory.
-use Rattle.std.proofs.Common.{[], ◌∷◌, ◌/◌, ◌≡◌, ℕ, ◌+◌, ◌%◌, ◌<◌, ◌≤◌, ◌⊎◌, Bool, true, false, List, length, refl, sym, ap, ◌∙◌, subst, arith, inl, inr}
+use Rattle.std.proofs.Common.{[], ◌∷◌, ◌/◌, ◌≡◌, ℕ, ◌+◌, ◌%◌, ◌<◌, ◌≤◌, ◌⊎◌, Bool, true, false, List, length, refl, sym, ap, ◌∙◌, subst, arith, inl, inr, Result, Ok, Err}
 use Rattle.std.proofs.Math.Nat.{mod-eq_of_lt}
 use Rattle.std.proofs.lemmas.List.{length-take, length-drop, ext_get_or, get_or-take, get_or-drop}
-use Rattle.std.specs.Prelude.{◌||◌, slice_range, drop, get_or, ◌-◌}
+use Rattle.std.specs.Prelude.{◌||◌, slice_range, drop, get_or, ◌-◌, OnOk, OnErr}
 use Rattle.chip_model.specs.Chip.{Chip, Programming, Erasing, is_idle, completed, memory_after}
 use Rattle.chip_model.specs.Cut.{Cut, TornMemory}
 use Rattle.chip_model.specs.Memory.{and_at, erased, Torn, TornErase, TornAnd}
@@ -11,7 +11,7 @@ use Rattle.chip_model.specs.Frames.{command_of, Receives, is_unprotected, starts
 use Rattle.chip_model.proofs.FrameLaws.{KeepsShape, completed_shape, cut_shape, idle_cut, idle_not_setting, started_program, started_erase, started_large_erase, address}
 use Rattle.chip_model.specs.Chip.{is_setting}
 use Rattle.nor_driver.specs.State.{Leaves, as_before, torn_in_it, changed_whole}
-use Rattle.nor_driver.specs.Steps.{started, StartsChange, ChangeInterrupted, not_begun, torn, whole, no_power}
+use Rattle.nor_driver.specs.Steps.{Woken, started, StartsChange, ChangeInterrupted, not_begun, torn, whole, no_power}
 
 -- the shape of a chip that is another
 pub same_shape : (c new : Chip) → new ≡ c → is_setting c.operation ≡ false → KeepsShape c new
@@ -31,9 +31,28 @@ slow_shape c sent n b =
 pub slow_memory : (c : Chip) (sent : List ℕ) (b : StartsChange c sent) → (started c sent).memory ≡ c.memory
 slow_memory c sent b = ap (λ (d : Chip). d.memory) b.is
 
+-- a change leaves the table, as long as it lasts and once it has ended
+pub started_table : (c : Chip) (sent : List ℕ) (b : StartsChange c sent) → (started c sent).sfdp ≡ c.sfdp
+started_table c sent b = ap (λ (d : Chip). d.sfdp) b.is
+
+-- what a power that comes anew keeps, where it came and where it didn't
+woken_shape : (c new : Chip) → is_setting c.operation ≡ false → Woken c new → KeepsShape c new
+woken_shape c new n w =
+    let k = cut_shape c w.off n w.left in
+    subst (λ (d : Chip). KeepsShape c d) (sym w.on) (record { size = k.size; protection = k.protection; status2 = k.status2; status3 = k.status3; not_setting = k.not_setting })
+
+pub waked_shape : {T E : Type 0} (r : Result T E) (c new : Chip) → is_setting c.operation ≡ false → OnOk r (Woken c new) → OnErr r (Cut c new) → KeepsShape c new
+waked_shape (Ok x) c new n woken lost = woken_shape c new n woken
+waked_shape (Err e) c new n woken lost = cut_shape c new n lost
+
+pub waked_idle : {T E : Type 0} (r : Result T E) (c new : Chip) → OnOk r (Woken c new) → OnErr r (Cut c new) → is_idle new.operation ≡ true
+waked_idle (Ok x) c new woken lost = ap (λ (d : Chip). is_idle d.operation) woken.on ∙ ap is_idle woken.left.operation
+waked_idle (Err e) c new woken lost = ap is_idle lost.operation
+
 -- what a loss of power leaves of a change that begins
 pub record AfterLoss (c : Chip) (begun : Chip) (new : Chip) : Type 0 where
   pub shape : KeepsShape c new
+  pub table : new.sfdp ≡ c.sfdp
   pub idle : is_idle new.operation ≡ true
   pub powered : new.powered ≡ false
   pub leaves : Leaves c.memory (TornMemory begun.operation begun.memory) (completed begun).memory new.memory
@@ -43,6 +62,7 @@ after_start : (c : Chip) (cuts : ℕ) (sent : List ℕ) (new : Chip) (cuts' : �
 after_start c cuts sent new cuts' idle b i = elim i [
   | not_begun on k n ↦ record {
     shape = cut_shape c new (idle_not_setting c.operation idle) k;
+    table = k.sfdp;
     idle = ap is_idle k.operation;
     powered = k.powered;
     leaves = as_before (idle_cut c new idle k);
@@ -52,6 +72,7 @@ after_start c cuts sent new cuts' idle b i = elim i [
       let s = cut_shape (starts (with_enabled c true) b.operation) new b.in_memory t in
       record {
         shape = record { size = s.size; protection = s.protection; status2 = s.status2; status3 = s.status3; not_setting = s.not_setting };
+        table = t.sfdp;
         idle = ap is_idle t.operation;
         powered = t.powered;
         leaves = torn_in_it t.memory;
@@ -63,12 +84,14 @@ after_start c cuts sent new cuts' idle b i = elim i [
       let q = completed_shape (starts (with_enabled c true) b.operation) b.in_memory in
       record {
         shape = record { size = s.size ∙ q.size; protection = s.protection ∙ q.protection; status2 = s.status2; status3 = s.status3; not_setting = s.not_setting };
+        table = t.sfdp;
         idle = ap is_idle t.operation;
         powered = t.powered;
         leaves = changed_whole t.memory;
       }
   | no_power off same n ↦ record {
     shape = same_shape c new same (idle_not_setting c.operation idle);
+    table = ap (λ (d : Chip). d.sfdp) same;
     idle = ap (λ (d : Chip). is_idle d.operation) same ∙ idle;
     powered = ap (λ (d : Chip). d.powered) same ∙ off;
     leaves = as_before (ap (λ (d : Chip). d.memory) same);

@@ -1,5 +1,5 @@
 pub mod State
 pub mod Steps
-pub mod Shown
 pub mod Probe
+pub mod Shown
 pub mod Unprotect

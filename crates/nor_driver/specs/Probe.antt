@@ -2,17 +2,15 @@
 -- JEDEC ID (9Fh)" and "Status Registers", for the id bytes and the bits; JESD216 for the table;
 -- own: the order of the checks and the sizes that are served.
 use Rattle.std.specs.Prelude.{◌≡◌, ℕ, ◌+◌, ◌/◌, ◌%◌, Bool, not, ◌&&◌, if◌then◌else◌, nat_le, ◌==◌}
-use Rattle.std.specs.Prelude.{true, List, length, is_some, Result, Ok, Err, false}
+use Rattle.std.specs.Prelude.{true, List, is_ok, Result, Ok, Err}
 use Rattle.sfdp.specs.Params.{params_of}
 use Rattle.sfdp.specs.declared.params.Params.{Params}
 use Rattle.sfdp.specs.declared.error.SfdpError.{SfdpError}
-use Rattle.chip_model.specs.Chip.{Chip, is_idle}
+use Rattle.chip_model.specs.Chip.{Chip}
 use Rattle.chip_model.specs.Frames.{Id, answer_byte, id_from, is_unprotected, status_1}
 use Rattle.chip_model.specs.Cut as losses
 use Rattle.spi_frames.specs.declared.register.Register.{Register}
 use Rattle.spi_frames.specs.declared.register.Register.TheVariants as registers
-use Rattle.nor_driver.specs.State.{NorState}
-use Rattle.nor_driver.specs.Shown.{shown}
 use Rattle.nor_driver.specs.Steps.{Woken}
 use Rattle.nor_driver.specs.declared.error.ProbeError.{ProbeError}
 use Rattle.nor_driver.specs.declared.error.ProbeError.TheVariants as refusals
@@ -84,6 +82,10 @@ identity t = if not (is_served_id t.maker t.kind t.exponent) then Err refusals.W
 abbrev pub probe_answer : Readings → Result Params ProbeError
 probe_answer t = unless_protected (is_unprotected_by t.status1 t.status2 t.status3) (identity t)
 
+-- what the chip tells passes the checks of a probe
+abbrev pub IsAcceptedChip : Chip → Type 0
+IsAcceptedChip c = is_ok (probe_answer (told c)) ≡ true
+
 -- the checks of the id and of the table answered of the chip as it is since its power came
 pub record AnswersIdentity (answer : Result Params ProbeError) (c new : Chip) : Type 0 where
   pub woken : Woken c new
@@ -119,15 +121,3 @@ Probes (Err (refusals.Sfdp e)) c cuts slows new cuts' slows' =
     AnswersProbe (Err (refusals.Sfdp e)) c new × (cuts' ≡ cuts) × (slows' ≡ slows)
 Probes (Err refusals.Protected) c cuts slows new cuts' slows' =
     AnswersProbe (Err refusals.Protected) c new × (cuts' ≡ cuts) × (slows' ≡ slows)
-
--- the driver that a probe gives: over the chip as it is since its power came, which has the table's
--- size
-pub record Found (c : Chip) (cuts slows : ℕ) (state : NorState) : Type 0 where
-  pub new : Chip
-  pub woken : Woken c new
-  pub params : Params
-  pub table : probe_answer (told new) ≡ Ok params
-  -- where nothing was in progress, that is the answer of the chip as it was
-  pub known : is_idle c.operation ≡ true → probe_answer (told c) ≡ Ok params
-  pub size : length new.memory ≡ params.bytes
-  pub state_is : state ≡ shown new cuts slows false (is_some params.large)

@@ -10,8 +10,8 @@ ghost use Rattle.chip_model.specs.Chip.{is_setting};
 ghost use Rattle.nor_driver.specs.State.{AnswersWhatIsLatched, NorFails, IsNorReady};
 ghost use Rattle.nor_driver.specs.State.{OnlyMemoryChanges, Leaves};
 ghost use Rattle.nor_driver.specs.Steps.{StartsChange, started};
-ghost use Rattle.nor_driver.specs.Probe.{Found, Probes, probe_answer, told};
-ghost use Rattle.nor_driver.specs.Shown.{IsBehindDriver, shown};
+ghost use Rattle.nor_driver.specs.Probe.{IsAcceptedChip, Probes, probe_answer, told};
+ghost use Rattle.nor_driver.specs.Shown.{Found, IsBehindDriver, shown};
 
 use crate::probe::survey;
 use crate::steps::{ask, change, wake};
@@ -19,7 +19,7 @@ use crate::{Nor, NorError, ProbeError};
 use chip_model::SpiBus;
 use spi_frames::{Frame, Register, fill_program, status};
 
-/// A chip behind a bus, of which nothing is protected.
+/// A chip behind a bus, of which nothing is protected; it passes the checks of a probe at any time.
 #[derive(Drop)]
 pub struct Driver<B: SpiBus> {
     bus: B,
@@ -30,6 +30,7 @@ pub struct Driver<B: SpiBus> {
     ghost whole: { bytes % 65536 ≡ 0 },
     ghost least: { 65536 ≤ bytes },
     ghost most: { bytes ≤ 16777216 },
+    ghost accepted: { IsAcceptedChip (B.chip bus) },
     ghost unprotected: { is_unprotected (B.chip bus) ≡ true },
     ghost in_memory: { is_setting (B.chip bus).operation ≡ false },
     ghost idle: { (slow || is_idle (B.chip bus).operation) ≡ true },
@@ -43,7 +44,8 @@ impl<B: SpiBus> Driver<B> {
     ///
     /// `Cut` only where the power went in this call or couldn't be turned on; `Slow` is never
     /// answered. With each refusal the bus is handed back. The memory is as before, but where an
-    /// operation was in progress; where none was, the answer but Cut is that of the chip as it was.
+    /// operation was in progress; where none was, the answer but Cut is that of the chip as it was,
+    /// and a further probe of the bus that is handed back gives it too.
     pub fn probe(mut bus: B) -> Result<Driver<B>, (B, ProbeError)>
         ensures found { IfOk result (λ d.
             Found (B.chip bus) (B.cuts bus) (B.slows bus) (⟦<Driver<B> as Nor>⟧.state d)) }
@@ -52,6 +54,8 @@ impl<B: SpiBus> Driver<B> {
             (B.slows r.0)) }
         ensures known { is_idle (B.chip bus).operation ≡ true → IfErr result
             (λ r. (r.1 ≡ ProbeError.Cut) ⊎ (probe_answer (told (B.chip bus)) ≡ Err r.1)) }
+        ensures stays { is_setting (B.chip bus).operation ≡ false → IfErr result
+            (λ r. probe_answer (told (B.chip r.0)) ≡ probe_answer (told (B.chip bus))) }
         ensures same { is_idle (B.chip bus).operation ≡ true → MatchResult result
             (λ d. (⟦<Driver<B> as Nor>⟧.state d).memory ≡ (B.chip bus).memory)
             (λ r. (B.chip r.0).memory ≡ (B.chip bus).memory) }

@@ -1,8 +1,9 @@
-use Rattle.std.proofs.Common.{ℕ, Bool, false, sym, ap, ◌∙◌}
+use Rattle.std.proofs.Common.{ℕ, Bool, false, sym, ap, ◌∙◌, is_ok}
 use Rattle.chip_model.specs.Chip.{Chip, is_idle}
 use Rattle.chip_model.specs.Chip.{is_setting}
 use Rattle.nor_driver.specs.Shown.{shown}
 use Rattle.nor_driver.proofs.Idle.{answer_stays, refusal_stays}
+use Rattle.nor_driver.proofs.Stays.{refusal_tells}
 use Rattle.nor_driver.proofs.Survey.{Accepted, accepted}
 use Rattle.nor_driver.proofs.driver.Driver.probe.Goals as goal
 
@@ -17,6 +18,7 @@ invariant_of-result g c =
       whole = a.of_a_chip.whole;
       least = a.of_a_chip.least;
       most = a.of_a_chip.most;
+      accepted = ap is_ok (sym h.0.table);
       unprotected = a.unprotected;
       in_memory = ap (λ (x : Chip). is_setting x.operation) w.on ∙ ap is_setting w.left.operation;
       idle = ap (λ (x : Chip). is_idle x.operation) w.on ∙ ap is_idle w.left.operation;
@@ -42,3 +44,6 @@ returns-in-Ok-clause-found g c =
 
 pub returns-in-Err-clause-known : goal.returns-in-Err-clause-known
 returns-in-Err-clause-known g c = λ i. refusal_stays c.in-Err.error _ _ _ _ _ _ i c.in-Err.ensures
+
+pub returns-in-Err-clause-stays : goal.returns-in-Err-clause-stays
+returns-in-Err-clause-stays g c = λ n. refusal_tells c.in-Err.error _ _ _ _ _ _ n c.in-Err.ensures
