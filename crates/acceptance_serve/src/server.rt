@@ -1,6 +1,6 @@
 //! A whole connection, a keeper and a power loss, without a socket.
 
-ghost use Rattle.std.specs.Prelude.{◌≡◌, ◌*◌, ◌<◌, length};
+ghost use Rattle.std.specs.Prelude.{◌≡◌, ◌*◌, ◌<◌, length, IsFalse};
 ghost use Rattle.nbd_wire.specs.Lent.{lent_len};
 
 use acceptance_nbd::request_head;
@@ -106,6 +106,7 @@ fn work<L: OneServer, M: Ledger, A: Abort>(
     requires name { blank.name ≡ L.name }
     requires parts { blank.parts ≡ L.parts }
     requires all { blank.parts ≡ 65537 }
+    requires unsaid { IsFalse L.sound }
     requires tally { (tally.name ≡ M.name) × (tally.parts ≡ M.parts) × (0 < M.parts) }
 {
     let Ok(mut server) = Shared::<PlainDisk, FullRecord, L>::recording(alloc, disk, blank) else {
@@ -300,6 +301,7 @@ where
     requires name { blank.name ≡ L.name }
     requires parts { blank.parts ≡ L.parts }
     requires all { blank.parts ≡ 65537 }
+    requires unsaid { IsFalse L.sound }
 {
     if disk.sectors() != sectors {
         return Err(Fail::new("another size"));
@@ -335,6 +337,7 @@ where
     requires name { blank.name ≡ L.name }
     requires parts { blank.parts ≡ L.parts }
     requires all { blank.parts ≡ 65537 }
+    requires unsaid { IsFalse L.sound }
 {
     if disk.sectors() != sectors {
         return Err(Fail::new("another size"));
