@@ -46,9 +46,11 @@ fn is_clean_block(block: &[u8]) -> bool {
     !is_free || is_erased(block)
 }
 
-/// The same of all data blocks of an image of 64 KiB.
-fn is_clean(image: &[u8]) -> bool {
-    for number in 4..16usize {
+/// The same of all data blocks of an image of 64 KiB. Behind block 5 it may be as one that was clean.
+fn is_clean(image: &[u8], was: &[u8]) -> bool {
+    let is_same = image.get(CHANGED_LEN..) == was.get(CHANGED_LEN..);
+    let end = if is_same { 6 } else { 16usize };
+    for number in 4..end {
         let at = 4_096 * number;
         if !image.get(at..at + 4_096).is_some_and(is_clean_block) {
             return false;
@@ -95,6 +97,12 @@ fn serves(alloc: Global, image: Vec<u8>, was: &mut [u8], is: &mut [u8]) -> Resul
     Ok(disk.into_inner().into_inner())
 }
 
+/// Whether an image with this place changed is served too: those at the head of a block, and of the
+/// others one in 32.
+fn is_served(place: usize) -> bool {
+    place % 4_096 < 64 || place % 32 == 0
+}
+
 /// Changes each byte of blocks 0 to 5 of an image, one at a time, and takes what comes of it.
 fn change_each(rt: &impl Abort, alloc: Global, image: &[u8]) -> Result<Looks, Fail> {
     let mut looks = Looks {
@@ -123,13 +131,13 @@ fn change_each(rt: &impl Abort, alloc: Global, image: &[u8]) -> Result<Looks, Fa
                 }
                 Err(_) => return Err(Fail::new("refused by another name")),
                 Ok(clean) => {
-                    let is_right = clean == is_clean(memory.as_slice());
+                    let is_right = clean == is_clean(memory.as_slice(), image);
                     assert!(rt; is_right, "place {place} is {byte}: {clean}");
-                    if clean {
+                    if !clean {
+                        looks.not_clean = looks.not_clean.saturating_add(1);
+                    } else if is_served(place) {
                         memory = serves(alloc, memory, was.as_mut_slice(), is.as_mut_slice())?;
                         looks.served = looks.served.saturating_add(1);
-                    } else {
-                        looks.not_clean = looks.not_clean.saturating_add(1);
                     }
                 }
             }
