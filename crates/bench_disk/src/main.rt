@@ -9,8 +9,8 @@
 //!
 //! Proved are the arithmetic of the figures, the sectors that each call names, that each request
 //! lies on the disk, and that each timed tidying cleared something. That a time is the time of its
-//! calls is not proved, since no contract says what a clock tells: the figures are measured. Left to
-//! the crates below: the chip (`fault_model`), its driver, the slots and the map of sectors, the
+//! calls is not proved, since no contract says what a clock tells: the figures are measured. Left
+//! to the crates below: the chip (`fault_model`), its driver, the slots and the map of sectors, the
 //! disk and its format (`flash_disk`, `block_device`), the station (`station`) and the connection
 //! (`share`). The disk is mounted as one that isn't sound, so nothing is said of its contents but
 //! their size; what is told is counted and dropped. Source: own.

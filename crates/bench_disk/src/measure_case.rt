@@ -92,8 +92,8 @@ fn time_of_commands<C: Clock, D: Disk + Drop>(
     time_over::<C, D, Brand>(clock, alloc, case, disk, sectors, Blank::new(65537))
 }
 
-/// Measures a case through a station: events, each go of them on a new disk, and copies in turn; the
-/// least times count.
+/// Measures a case through a station: events, each go of them on a new disk, and copies in turn;
+/// the least times count.
 pub fn measured_events<C: Clock>(clock: &C, alloc: Global, case: Case) -> Result<Row, Failure> {
     let size = case.length().bytes() as usize;
     let from = filled(alloc, size, 0x5A)?;

@@ -10,9 +10,9 @@
 //! looked at. `formatting`, `scripting` and `serving` have one line each. Left to the crates below:
 //! the words and the texts of faults (`norbd_line`), requests and replies (`share`), threads and
 //! sockets (`norbd_serve`), the chain from the chip to a transcript (`flash_station`), the disks
-//! (`block_device`, `flash_disk`), an image's bytes and its file (`image`). No contract says what is
-//! printed of a fault, nor what a file holds; tests and runs show it. Source: own for the command
-//! line and its faults; NBD proto.md for requests and replies.
+//! (`block_device`, `flash_disk`), an image's bytes and its file (`image`). No contract says what
+//! is printed of a fault, nor what a file holds; tests and runs show it. Source: own for the
+//! command line and its faults; NBD proto.md for requests and replies.
 #![tactic(auto)]
 
 ghost use Rattle.std.specs.Prelude.{◌≡◌, ◌<◌};

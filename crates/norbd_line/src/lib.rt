@@ -4,12 +4,12 @@
 //! answers has its numbers in their ranges (`IsLineInRange`) and is what the words say
 //! (`IsLineOf`); a fault that it answers is one of those that the words have, a number in its range
 //! that is no size of a chip, or want of memory (`ComesFromWords`), and such a number is never
-//! taken, for a file nor for a script (`HasOddSize`). What words say, and which faults they have, are `clap`'s definitions at
-//! the command line that `norbd_app` writes out. `Fault::status` is the exit status by the table
-//! `HasStatus`. Tests show the texts of faults. Left to the program above: to fetch its words from
-//! the system, to print a fault (`clap`'s own text for a fault of the words, else `norbd: ` and the
-//! text), and to do what a line asks. Source: own (the program's command line); `clap` for how
-//! words are read and for the texts of their faults.
+//! taken, for a file nor for a script (`HasOddSize`). What words say, and which faults they have,
+//! are `clap`'s definitions at the command line that `norbd_app` writes out. `Fault::status` is the
+//! exit status by the table `HasStatus`. Tests show the texts of faults. Left to the program above:
+//! to fetch its words from the system, to print a fault (`clap`'s own text for a fault of the
+//! words, else `norbd: ` and the text), and to do what a line asks. Source: own (the program's
+//! command line); `clap` for how words are read and for the texts of their faults.
 #![tactic(auto)]
 
 mod fault;
