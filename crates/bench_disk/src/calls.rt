@@ -1,4 +1,4 @@
-//! The calls of a go, and the plain copies beside them.
+//! The calls of a go.
 
 ghost use Rattle.std.specs.Prelude.{◌≡◌, ◌+◌, ◌<◌, ◌≤◌, length, OnOk};
 ghost use Rattle.bench_disk.specs.Call.{call_bytes, calls_of};
@@ -87,26 +87,5 @@ pub fn prepare<D: Disk>(call: Call, disk: &mut D) -> Result<(), Failure>
         Call::LongWrite => Ok(()),
         Call::CopyingWrite => use_free_slots(disk),
         Call::Tidy => calls(Call::ShortWrite, disk, &mut [0xA5u8; 512]),
-    }
-}
-
-/// One copy, which no other is merged with.
-#[inline(never)]
-pub fn copy(from: &[u8], into: &mut [u8])
-    requires { length into.old ≡ length from.now }
-    ensures { into.new ≡ from.now }
-{
-    into.copy_from_slice(from);
-}
-
-/// So many copies of the same bytes.
-#[inline(never)]
-pub fn copies(from: &[u8], into: &mut [u8], count: u32)
-    requires bytes { length into.old ≡ length from.now }
-    requires some { 0 < count }
-    ensures { into.new ≡ from.now }
-{
-    for _ in 0..count {
-        copy(from, into);
     }
 }

@@ -1,5 +1,5 @@
 use Rattle.std.proofs.Common.{◌≡◌, ◌<◌, length}
-use Rattle.bench_disk.proofs.calls.copies.Given as goal
+use Rattle.bench_disk.proofs.clock.copies.Given as goal
 
 -- the bytes of the copy before
 abbrev pub invariant-loop : goal.invariant-loop

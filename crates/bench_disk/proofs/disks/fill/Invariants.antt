@@ -1,5 +1,5 @@
 use Rattle.std.proofs.Common.{◌≡◌, length}
-use Rattle.bench_disk.proofs.chips.fill.Given as goal
+use Rattle.bench_disk.proofs.disks.fill.Given as goal
 
 -- the size stays
 abbrev pub invariant-loop-number : goal.invariant-loop-number

@@ -1,55 +1,14 @@
-//! The connection of a go, and the plain copies beside it.
+//! The connection of a go.
 
-ghost use Rattle.std.specs.Prelude.{◌≡◌, ◌<◌, length};
-
-use crate::case::{Length, offset_of};
+use crate::case::Length;
 use crate::counted::{Counted, Marked};
 use crate::disks::filled;
 use crate::failure::Failure;
-use acceptance_nbd::request_head;
+use crate::requests::{NEGOTIATED, NEGOTIATION, PAYLOAD, REPLY_HEAD, add};
 use block_device::{Disk, FixedIn, Sink};
 use norbd_serve::OpenGate;
 use share::{End, NoRecord, OneServer, Shared, worker};
 use std::alloc::Global;
-
-/// The client's flags, and an EXPORT_NAME of the export `flash`.
-const NEGOTIATION: [u8; 25] = [
-    0, 0, 0, 3, 0x49, 0x48, 0x41, 0x56, 0x45, 0x4F, 0x50, 0x54, 0, 0, 0, 1, 0, 0, 0, 5, 0x66, 0x6C,
-    0x61, 0x73, 0x68,
-];
-
-/// The bytes that answer it: a greeting of 18 and an answer of 10.
-const NEGOTIATED: u64 = 28;
-
-/// The bytes of a reply's head.
-const REPLY_HEAD: u64 = 16;
-
-/// The cookie of each command.
-const COOKIE: u64 = 0x0102_0304_0506_0708;
-
-/// Each byte of a payload. No head of a reply has it, nor has the negotiation.
-const PAYLOAD: u8 = 0xA5;
-
-/// Adds one command, with its payload where it is a WRITE.
-fn add(
-    bytes: &mut Vec<u8>,
-    number: u32,
-    length: Length,
-    is_read: bool,
-    payload: &[u8],
-) -> Result<(), Failure> {
-    let offset = offset_of(number, length);
-    let head = request_head(if is_read { 0 } else { 1 }, COOKIE, offset, length.bytes());
-    if bytes.extend_from_slice(&head).is_err() {
-        return Err(Failure::NoMemory);
-    }
-    if !is_read {
-        if bytes.extend_from_slice(payload).is_err() {
-            return Err(Failure::NoMemory);
-        }
-    }
-    Ok(())
-}
 
 /// What a client sends: the negotiation, and so many commands, end to end on the disk.
 pub fn new_input(
@@ -131,25 +90,4 @@ pub fn read_back<D: Disk, L: OneServer>(
         return Err(Failure::Refused);
     }
     Ok(())
-}
-
-/// One copy, which no other is merged with.
-#[inline(never)]
-fn copy(from: &[u8], into: &mut [u8])
-    requires { length into.old ≡ length from.now }
-    ensures { into.new ≡ from.now }
-{
-    into.copy_from_slice(from);
-}
-
-/// So many copies of the same bytes.
-#[inline(never)]
-pub fn copies(from: &[u8], into: &mut [u8], count: u32)
-    requires bytes { length into.old ≡ length from.now }
-    requires some { 0 < count }
-    ensures { into.new ≡ from.now }
-{
-    for _ in 0..count {
-        copy(from, into);
-    }
 }

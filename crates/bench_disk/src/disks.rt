@@ -1,9 +1,9 @@
-//! Chips of 16 MiB and the disks on them.
+//! Chips of 16 MiB, the disks on them, an array as large, and bytes.
 
 ghost use Rattle.std.specs.Prelude.{◌≡◌, length, IfOk, OnErr, [], ◌∷◌};
 
 use crate::failure::Failure;
-use block_device::Disk;
+use block_device::{Disk, PlainDisk};
 use fault_model::SimChip;
 use flash_disk::{FlashDisk, format};
 use std::alloc::Global;
@@ -39,21 +39,29 @@ impl Filling {
     }
 
     /// The text of its mount in the table.
-    pub fn name(self) -> &'static str {
+    pub fn mount_name(self) -> &'static str {
         match self {
             Filling::Formatted => "mount of a formatted chip",
             Filling::Full => "mount of a full chip",
         }
     }
+
+    /// The text of its check in the table.
+    pub fn check_name(self) -> &'static str {
+        match self {
+            Filling::Formatted => "check of a formatted chip",
+            Filling::Full => "check of a full chip",
+        }
+    }
 }
 
-/// So many bytes of FFh.
-pub fn filled(alloc: Global, count: usize) -> Result<Vec<u8>, Failure>
+/// So many bytes of a value.
+pub fn filled(alloc: Global, count: usize, byte: u8) -> Result<Vec<u8>, Failure>
     ensures bytes { IfOk result (λ bytes. length bytes.items ≡ count) }
     ensures refused { OnErr result (result ≡ Err Failure.NoMemory) }
 {
     let mut bytes = Vec::new(alloc);
-    if bytes.resize(count, 0xFF).is_err() {
+    if bytes.resize(count, byte).is_err() {
         return Err(Failure::NoMemory);
     }
     Ok(bytes)
@@ -61,7 +69,7 @@ pub fn filled(alloc: Global, count: usize) -> Result<Vec<u8>, Failure>
 
 /// A formatted chip.
 fn formatted(alloc: Global) -> Result<SimChip, Failure> {
-    let bytes = filled(alloc, CHIP_BYTES)?;
+    let bytes = filled(alloc, CHIP_BYTES, 0xFF)?;
     let Ok(chip) = SimChip::new(bytes) else {
         return Err(Failure::Refused);
     };
@@ -107,5 +115,13 @@ pub fn new_disk(alloc: Global, filling: Filling) -> Result<OnSim, Failure>
         Filling::Formatted => {}
         Filling::Full => fill(&mut disk)?,
     }
+    Ok(disk)
+}
+
+/// The array.
+pub fn plain(alloc: Global) -> Result<PlainDisk, Failure> {
+    let Ok(disk) = PlainDisk::new(alloc, SECTORS) else {
+        return Err(Failure::NoMemory);
+    };
     Ok(disk)
 }

@@ -1,5 +1,5 @@
 use Rattle.std.proofs.Common.{arith, refl}
-use Rattle.bench_disk.proofs.chips.fill.Goals as goal
+use Rattle.bench_disk.proofs.disks.fill.Goals as goal
 
 pub write-requires : goal.write-requires
 write-requires g c = record {

@@ -1,4 +1,4 @@
-//! What is measured.
+//! What is measured through a station and through a connection.
 
 ghost use Rattle.std.specs.Prelude.{◌≡◌, ◌+◌, ◌*◌, ◌%◌, ◌<◌, ◌≤◌, [], ◌∷◌};
 
@@ -25,7 +25,8 @@ impl Length {
     }
 }
 
-/// Commands of one connection, end to end.
+/// Commands of one connection, end to end: through a station those of 65,536 bytes, each in an
+/// event of its own; through `worker` all.
 #[derive(Clone, Copy)]
 pub enum Case {
     /// READs of 512 bytes of an array in memory.
@@ -63,6 +64,19 @@ impl Case {
             Case::FlashWriteSector,
             Case::FlashReadLongest,
             Case::FlashWriteLongest,
+        ]
+    }
+
+    /// Those that a station is measured with.
+    pub fn longest() -> [Case; 4]
+        ensures { result ≡ Case.PlainWriteLongest ∷ Case.PlainReadLongest ∷ Case.FlashWriteLongest
+            ∷ Case.FlashReadLongest ∷ [] }
+    {
+        [
+            Case::PlainWriteLongest,
+            Case::PlainReadLongest,
+            Case::FlashWriteLongest,
+            Case::FlashReadLongest,
         ]
     }
 

@@ -1,4 +1,4 @@
-//! What a connection is told, counted and dropped.
+//! What a station or a connection tells, counted and dropped.
 
 use block_device::{Failed, Sink};
 

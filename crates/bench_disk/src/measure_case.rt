@@ -1,10 +1,12 @@
-//! The measurement of a case.
+//! The measurement of a case, through a station and through a connection.
 
-ghost use Rattle.std.specs.Prelude.{◌≡◌, ◌*◌, length, OnErr, OnOk};
+ghost use Rattle.std.specs.Prelude.{◌≡◌, ◌*◌, length};
 
 use crate::case::Case;
-use crate::commands::{copies, new_input, read_back, run, told};
-use crate::disks::{filled, flash, plain};
+use crate::clock::{COPIES, now, time_of_copies};
+use crate::commands::{new_input, read_back, run, told};
+use crate::disks::{Filling, filled, new_disk, plain};
+use crate::events::{events, new_request, ready};
 use crate::failure::Failure;
 use crate::figures::{nanos, per_call};
 use crate::row::Row;
@@ -14,34 +16,35 @@ use std::alloc::Global;
 use std::marker::Brand;
 use std::rt::Clock;
 use std::sync::ledger::Blank;
-use std::time::Instant;
 
 /// How often the commands are timed; the least time counts.
 const GOES: u32 = 5;
 
-/// How many copies are timed in one go.
-const COPIES: u32 = 1_000;
+/// How many events write each sector of a disk that is then read.
+const WRITES: u32 = 195;
 
-/// What the clock tells.
-fn now(clock: &impl Clock) -> Result<Instant, Failure>
-    ensures { OnErr result (result ≡ Err Failure.NoClock) }
-{
-    match Instant::now(clock) {
-        Ok(instant) => Ok(instant),
-        Err(_) => Err(Failure::NoClock),
+/// Times one go of the events on a disk, in nanoseconds. What is read was written before.
+fn time_of_events<C: Clock, D: Disk + Drop>(
+    clock: &C,
+    alloc: Global,
+    case: Case,
+    disk: D,
+) -> Result<u64, Failure> {
+    let mut station = ready(alloc, disk)?;
+    if case.is_read() {
+        let mut write = new_request(alloc, false)?;
+        events(&mut station, write.as_mut_slice(), WRITES, false)?;
     }
-}
-
-/// Times one go of the copies, in nanoseconds.
-fn time_of_copies(clock: &impl Clock, from: &[u8], into: &mut [u8]) -> Result<u64, Failure>
-    requires { length into.old ≡ length from.now }
-    ensures copied { OnOk result (into.new ≡ from.now) }
-    ensures size { length into.new ≡ length into.old }
-    ensures clock { OnErr result (result ≡ Err Failure.NoClock) }
-{
+    let mut request = new_request(alloc, case.is_read())?;
     let start = now(clock)?;
-    copies(from, into, COPIES);
+    let made = events(
+        &mut station,
+        request.as_mut_slice(),
+        case.commands(),
+        case.is_read(),
+    );
     let end = now(clock)?;
+    made?;
     Ok(nanos(end.duration_since(start)))
 }
 
@@ -89,9 +92,9 @@ fn time_of_commands<C: Clock, D: Disk + Drop>(
     time_over::<C, D, Brand>(clock, alloc, case, disk, sectors, Blank::new(65537))
 }
 
-/// Measures a case: commands, each go of them on a new disk, and copies in turn; the least times
-/// count.
-pub fn measured<C: Clock>(clock: &C, alloc: Global, case: Case) -> Result<Row, Failure> {
+/// Measures a case through a station: events, each go of them on a new disk, and copies in turn;
+/// the least times count.
+pub fn measured_events<C: Clock>(clock: &C, alloc: Global, case: Case) -> Result<Row, Failure> {
     let size = case.length().bytes() as usize;
     let from = filled(alloc, size, 0x5A)?;
     let mut into = filled(alloc, size, 0xFF)?;
@@ -99,17 +102,42 @@ pub fn measured<C: Clock>(clock: &C, alloc: Global, case: Case) -> Result<Row, F
     let mut copy = u64::MAX;
     for _go in 0..GOES {
         let this = if case.is_on_flash() {
-            time_of_commands(clock, alloc, case, flash(alloc)?)?
+            time_of_events(clock, alloc, case, new_disk(alloc, Filling::Formatted)?)?
+        } else {
+            time_of_events(clock, alloc, case, plain(alloc)?)?
+        };
+        time = time.min(this);
+        copy = copy.min(time_of_copies(clock, &from, &mut into, COPIES)?);
+    }
+    Ok(Row {
+        name: case.name(),
+        bytes: size as u64,
+        call: per_call(time, case.commands()),
+        copy: per_call(copy, COPIES),
+    })
+}
+
+/// Measures a case through a connection: commands, each go of them on a new disk, and copies in
+/// turn; the least times count.
+pub fn measured_commands<C: Clock>(clock: &C, alloc: Global, case: Case) -> Result<Row, Failure> {
+    let size = case.length().bytes() as usize;
+    let from = filled(alloc, size, 0x5A)?;
+    let mut into = filled(alloc, size, 0xFF)?;
+    let mut time = u64::MAX;
+    let mut copy = u64::MAX;
+    for _go in 0..GOES {
+        let this = if case.is_on_flash() {
+            time_of_commands(clock, alloc, case, new_disk(alloc, Filling::Formatted)?)?
         } else {
             time_of_commands(clock, alloc, case, plain(alloc)?)?
         };
         time = time.min(this);
-        copy = copy.min(time_of_copies(clock, &from, &mut into)?);
+        copy = copy.min(time_of_copies(clock, &from, &mut into, COPIES)?);
     }
     Ok(Row {
         name: case.name(),
-        length: case.length(),
-        command: per_call(time, case.commands()),
+        bytes: size as u64,
+        call: per_call(time, case.commands()),
         copy: per_call(copy, COPIES),
     })
 }

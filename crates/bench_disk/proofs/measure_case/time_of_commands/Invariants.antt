@@ -1,5 +1,5 @@
 use Rattle.std.proofs.Common.{false, []}
-use Rattle.bench_serve.proofs.measure.time_of_commands.Given as goal
+use Rattle.bench_disk.proofs.measure_case.time_of_commands.Given as goal
 
 -- the server of this go's blank
 abbrev pub ghosts-time_over-L-Ledger : goal.ghosts-time_over-L-Ledger
