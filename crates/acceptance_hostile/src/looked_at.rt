@@ -46,7 +46,7 @@ fn is_clean_block(block: &[u8]) -> bool {
     !is_free || is_erased(block)
 }
 
-/// The same of all data blocks of an image of 64 KiB. Behind block 5 it may be as one that was clean.
+/// The same of all data blocks of an image of 64 KiB, which may be as a clean one behind block 5.
 fn is_clean(image: &[u8], was: &[u8]) -> bool {
     let is_same = image.get(CHANGED_LEN..) == was.get(CHANGED_LEN..);
     let end = if is_same { 6 } else { 16usize };

@@ -39,7 +39,7 @@ impl CommandKind {
         }
     }
 
-    /// Whether the bytes of its range are lent to it: a WRITE's payload, the room for a READ's data.
+    /// Whether the bytes of its range are lent to it: a WRITE's payload, or room for a READ's data.
     pub fn lends_data(self) -> bool
         ensures { result ≡ lends_data self }
     {

@@ -203,7 +203,7 @@ impl<D: Disk, L: OneServer> Shared<D, FullRecord, L> {
 
 impl<D: Disk, R: Recorder, L: OneServer> Shared<D, R, L> {
     ghost use Rattle.share.specs.Doing.{Executes, Tidied};
-    ghost use Rattle.share.specs.Locking.{IsServed};
+    ghost use Rattle.share.specs.Locking.{IsServed, start_of};
 
     /// Runs one command that the request table accepts, over the bytes that are lent to it: a
     /// WRITE's payload, the room for a READ's data, none for any other. The memory of the row comes
@@ -263,7 +263,7 @@ impl<D: Disk, R: Recorder, L: OneServer> Shared<D, R, L> {
 
     /// Does nothing: what is known of a server, whenever it is got.
     pub fn known(&self)
-        ensures { IsServed R.KEEPS L.sound L.sectors L.base self.now }
+        ensures { IsServed (start_of R.KEEPS L.sound L.sectors L.base) self.now }
     {
         let _lost = self.lost;
     }
