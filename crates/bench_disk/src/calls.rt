@@ -4,6 +4,7 @@ ghost use Rattle.std.specs.Prelude.{◌≡◌, ◌+◌, ◌<◌, ◌≤◌, leng
 ghost use Rattle.bench_disk.specs.Call.{call_bytes, calls_of};
 
 use crate::call::Call;
+use crate::disks::SECTORS;
 use crate::failure::Failure;
 use block_device::Disk;
 
@@ -88,4 +89,13 @@ pub fn prepare<D: Disk>(call: Call, disk: &mut D) -> Result<(), Failure>
         Call::CopyingWrite => use_free_slots(disk),
         Call::Tidy => calls(Call::ShortWrite, disk, &mut [0xA5u8; 512]),
     }
+}
+
+/// Writes zeros over all sectors by one call.
+#[inline(never)]
+pub fn zero_all<D: Disk>(disk: &mut D) -> Result<(), Failure>
+    requires size { length (D.facts disk.old).contents ≡ 12830720 }
+{
+    disk.zero(0, SECTORS)?;
+    Ok(())
 }

@@ -4,9 +4,9 @@ ghost use Rattle.std.specs.Prelude.{◌≡◌, length, IfOk};
 ghost use Rattle.bench_disk.specs.Call.{call_bytes};
 
 use crate::call::Call;
-use crate::calls::{calls, prepare};
+use crate::calls::{calls, prepare, zero_all};
 use crate::clock::{COPIES, now, time_of_copies};
-use crate::disks::{CHIP_BYTES, Filling, OnSim, SECTORS, filled, mounted, new_disk};
+use crate::disks::{CHIP_BYTES, Filling, OnSim, filled, mounted, new_disk};
 use crate::failure::Failure;
 use crate::figures::{nanos, per_call};
 use crate::row::Row;
@@ -139,7 +139,7 @@ pub fn measured_check<C: Clock>(clock: &C, alloc: Global, filling: Filling) -> R
 fn time_of_zero(clock: &impl Clock, alloc: Global) -> Result<u64, Failure> {
     let mut disk = new_disk(alloc, Filling::Full)?;
     let start = now(clock)?;
-    let made = disk.zero(0, SECTORS);
+    let made = zero_all(&mut disk);
     let end = now(clock)?;
     made?;
     Ok(nanos(end.duration_since(start)))
