@@ -1,6 +1,6 @@
 //! The measurement of a case, through a station and through a connection.
 
-ghost use Rattle.std.specs.Prelude.{◌≡◌, ◌*◌, length};
+ghost use Rattle.std.specs.Prelude.{◌≡◌, ◌*◌, length, IsFalse};
 
 use crate::case::Case;
 use crate::clock::{COPIES, now, time_of_copies};
@@ -62,6 +62,7 @@ fn time_over<C: Clock, D: Disk + Drop, L: OneServer>(
     requires sectors { sectors ≡ L.sectors }
     requires name { blank.name ≡ L.name }
     requires parts { (blank.parts ≡ L.parts) × (blank.parts ≡ 65537) }
+    requires unsaid { IsFalse L.sound }
 {
     let (count, length) = (case.commands(), case.length());
     let mut server = Shared::<D, NoRecord, L>::new(disk, blank);
