@@ -8,7 +8,7 @@
 //! connections and scripts that end anywhere; `memory` calls that find no memory.
 //!
 //! Source: own; expected bytes are written out by hand from NBD proto.md, docs/SCRIPT.md,
-//! docs/LAYOUT.md and docs/SFDP.md.
+//! docs/LAYOUT.md and docs/CHIP.md.
 
 #![tactic(auto)]
 
