@@ -1,0 +1,5 @@
+pub mod Beginnings
+pub mod Cells
+pub mod Steps
+pub mod Meeting
+pub mod Calls
