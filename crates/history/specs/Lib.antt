@@ -1,3 +1,4 @@
 pub mod Notes
 pub mod Rules
 pub mod Accounts
+pub mod RowsSaid

@@ -3,11 +3,6 @@ use Rattle.std.specs.Prelude.{◌≡◌, ℕ, ◌==◌, List, [], ◌∷◌, ◌
 use Rattle.std.specs.List.{filter}
 use Rattle.history.specs.declared.note.Note.{Note}
 
--- what a keeper knows: the whole history, and how many hands there are
-pub record Kept (E : Type 0) : Type 0 where
-  pub told : List E
-  pub given : ℕ
-
 -- what a hand knows: its number, and a beginning of the history
 pub record Sight (E : Type 0) : Type 0 where
   pub by : ℕ

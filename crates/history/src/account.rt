@@ -7,7 +7,7 @@ ghost use Rattle.history.specs.Notes.{of, Sight};
 ghost use Rattle.history.specs.Accounts.{Extends, Ended, entry_by, is_legal, value_of};
 
 use crate::hand::{Hand, Naming};
-use crate::keeper::{Keeper, Opened};
+use crate::keeper::{Hands, Keeper, Opened};
 use crate::note::{Says, Told};
 use std::marker::Model;
 use std::sync::{Mutex, Wait};
@@ -41,34 +41,33 @@ pub struct Account<J: Naming> {
 }
 
 impl<J: Naming> Model for Account<J> {
-    ghost use Rattle.std.specs.Prelude.{◌≡◌, true};
-    ghost use Rattle.history.specs.Notes.{Kept};
+    ghost use Rattle.std.specs.Prelude.{◌≡◌, true, List};
     ghost use Rattle.history.specs.declared.account.Entry.{Entry};
     ghost use Rattle.history.specs.Accounts.{is_legal, value_of};
 
-    ghost Value = { Kept Entry };
+    ghost Value = { List Entry };
 
     ghost view = { λ a. a.keeper };
 
-    ghost invariant = { λ a. (a.value ≡ value_of 0 a.keeper.told) × (is_legal 0 a.keeper.told ≡ true) };
+    ghost invariant = { λ a. (a.value ≡ value_of 0 a.keeper) × (is_legal 0 a.keeper ≡ true) };
 }
 
 impl<J: Naming> Account<J> {
     pub fn new(keeper: Keeper<Entry, J>) -> Account<J>
-        requires { keeper.told ≡ [] }
+        requires { keeper ≡ [] }
         ensures { result ≡ keeper }
     {
         Account { value: 0, keeper }
     }
 
     /// The hand with the next number.
-    pub fn hand<W: Wait>(&mut self, wait: &W) -> Hand<Entry, J>
-        requires { self.old.given < 65536 }
-        ensures by { result.by ≡ self.old.given }
+    pub fn hand<W: Wait>(&mut self, wait: &W, hands: &mut Hands<Entry, J>) -> Hand<Entry, J>
+        requires { hands.old < 65536 }
+        ensures by { result.by ≡ hands.old }
         ensures none { of entry_by result.by result.seen ≡ [] }
-        ensures told { (self.new.told ≡ self.old.told) × (self.new.given ≡ self.old.given + 1) }
+        ensures told { (self.new ≡ self.old) × (hands.new ≡ hands.old + 1) }
     {
-        self.keeper.hand(wait)
+        hands.hand(wait, &mut self.keeper)
     }
 
     /// One call.
@@ -79,7 +78,7 @@ impl<J: Naming> Account<J> {
         sets: bool,
         amount: u64,
     ) -> u64
-        ensures reply { result ≡ value_of 0 self.old.told }
+        ensures reply { result ≡ value_of 0 self.old }
         ensures extends { Extends hand.old sets amount result hand.new }
     {
         let reply = self.value;
@@ -98,7 +97,7 @@ impl<J: Naming> Account<J> {
     /// replay of the history.
     pub fn ended<W: Wait>(&mut self, wait: &W, hand: &Hand<Entry, J>) -> u64
         ensures same { self.new ≡ self.old }
-        ensures ended { Ended hand.now self.old.told result }
+        ensures ended { Ended hand.now self.old result }
     {
         self.keeper.meet(wait, hand);
         self.value
@@ -154,9 +153,10 @@ pub fn step_both<J: Naming + Send + Sync, R: Threads + Wait + Sync>(
     ensures one { (v : Sight Entry) × (of entry_by v.by v.seen ≡ []) × Extends v true first result.answers.0 result.one }
     ensures two { (v : Sight Entry) × (of entry_by v.by v.seen ≡ []) × Extends v false second result.answers.1 result.two }
 {
-    let mut account = Account::new(opened.named::<J>());
-    let one = account.hand(rt);
-    let two = account.hand(rt);
+    let (keeper, mut hands) = opened.named::<J>();
+    let mut account = Account::new(keeper);
+    let one = account.hand(rt, &mut hands);
+    let two = account.hand(rt, &mut hands);
     let shared = Mutex::new(account);
     let (a, b) = join(
         rt,

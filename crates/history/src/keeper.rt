@@ -63,59 +63,59 @@ impl<E: Told> Opened<E> {
         Opened { seen, pen, pens }
     }
 
-    /// The keeper of the history, under a name.
-    pub fn named<J: Naming>(self) -> Keeper<E, J>
+    /// The keeper of the history, and what makes its hands, under a name.
+    pub fn named<J: Naming>(self) -> (Keeper<E, J>, Hands<E, J>)
         requires { self ≡ J.book }
-        ensures { (result.told ≡ []) × (result.given ≡ 0) }
+        ensures { (result.0 ≡ []) × (result.1 ≡ 0) }
     {
         let Opened { seen, pen, pens } = self;
-        Keeper {
-            seen,
-            pen,
-            pens,
-            given: 0,
-            name: PhantomData,
-        }
+        (
+            Keeper {
+                seen,
+                pen,
+                name: PhantomData,
+            },
+            Hands {
+                pens,
+                given: 0,
+                name: PhantomData,
+            },
+        )
     }
 }
 
-/// All of the history.
+/// Makes the hands of a history. It stays in its thread, since the pens of `logbook` do.
 #[derive(Drop)]
-pub struct Keeper<E: Told, J: Naming> {
-    seen: Seen<Note<E>, u64, Law>,
-    pen: Pen,
+pub struct Hands<E: Told, J: Naming> {
     pens: Pens,
     given: u32,
-    name: PhantomData<J>,
+    name: PhantomData<(E, J)>,
 }
 
-impl<E: Told, J: Naming> Model for Keeper<E, J> {
-    ghost use Rattle.std.specs.Prelude.{◌≡◌, ◌+◌};
-    ghost use Rattle.logbook.specs.Pages.{may_write};
-    ghost use Rattle.history.specs.Notes.{Kept, told};
-    ghost use Rattle.history.specs.Rules.{Ends};
+impl<E: Told, J: Naming> Model for Hands<E, J> {
+    ghost use Rattle.std.specs.Prelude.{◌≡◌, ℕ, ◌+◌};
 
-    ghost Value = { Kept E };
+    ghost Value = { ℕ };
 
-    ghost view = { λ k. record { told = told k.seen.log; given = k.given } };
+    ghost view = { λ h. h.given };
 
-    ghost invariant = { λ k. (k.seen.book ≡ J.book) × (k.pen.book ≡ J.book) × (k.pens.book ≡ J.book) × (k.pen.nib.right ≡ may_write) × Ends k.seen.log k.pen.nib.key × (k.pens.next ≡ k.given + 1) × (k.pens.left + k.given ≡ 65536) };
+    ghost invariant = { λ h. (h.pens.book ≡ J.book) × (h.pens.next ≡ h.given + 1) × (h.pens.left + h.given ≡ 65536) };
 }
 
-impl<E: Told, J: Naming> Keeper<E, J> {
+impl<E: Told, J: Naming> Hands<E, J> {
     /// The hand with the next number.
-    pub fn hand<W: Wait>(&mut self, wait: &W) -> Hand<E, J>
-        requires { self.old.given < 65536 }
-        ensures by { result.by ≡ self.old.given }
-        ensures seen { result.seen ≡ self.old.told }
+    pub fn hand<W: Wait>(&mut self, wait: &W, keeper: &mut Keeper<E, J>) -> Hand<E, J>
+        requires { self.old < 65536 }
+        ensures by { result.by ≡ self.old }
+        ensures seen { result.seen ≡ keeper.old }
         ensures none { of E.by result.by result.seen ≡ [] }
-        ensures told { self.new.told ≡ self.old.told }
-        ensures given { self.new.given ≡ self.old.given + 1 }
+        ensures keeper { keeper.new ≡ keeper.old }
+        ensures given { self.new ≡ self.old + 1 }
     {
         let mut right = self.pens.take();
         let word: Word<Note<E>, u64, Law> = Word::tracked(0, &mut right);
-        let mut seen = self.seen.again();
-        let found = counted(&word, &mut seen, &mut self.pen);
+        let mut seen = keeper.seen.again();
+        let found = counted(&word, &mut seen, &mut keeper.pen);
         if found != 0 {
             stop(wait);
         }
@@ -129,7 +129,30 @@ impl<E: Told, J: Naming> Keeper<E, J> {
             name: PhantomData,
         }
     }
+}
 
+/// All of the history. Contracts see it as its entries.
+#[derive(Drop)]
+pub struct Keeper<E: Told, J: Naming> {
+    seen: Seen<Note<E>, u64, Law>,
+    pen: Pen,
+    name: PhantomData<J>,
+}
+
+impl<E: Told, J: Naming> Model for Keeper<E, J> {
+    ghost use Rattle.std.specs.Prelude.{◌≡◌, List};
+    ghost use Rattle.logbook.specs.Pages.{may_write};
+    ghost use Rattle.history.specs.Notes.{told};
+    ghost use Rattle.history.specs.Rules.{Ends};
+
+    ghost Value = { List E };
+
+    ghost view = { λ k. told k.seen.log };
+
+    ghost invariant = { λ k. (k.seen.book ≡ J.book) × (k.pen.book ≡ J.book) × (k.pen.nib.right ≡ may_write) × Ends k.seen.log k.pen.nib.key };
+}
+
+impl<E: Told, J: Naming> Keeper<E, J> {
     /// Adds an entry of a hand: the history that the hand had seen is a beginning of this one, in
     /// which the hand has no other entries. Waits for good where it does not know this.
     pub fn add<X, M: Says<X, E>, W: Wait>(
@@ -139,11 +162,10 @@ impl<E: Told, J: Naming> Keeper<E, J> {
         about: &X,
     )
         requires by { E.by (M.says about.now) ≡ hand.old.by }
-        ensures told { self.new.told ≡ self.old.told ++ M.says about.now ∷ [] }
-        ensures given { self.new.given ≡ self.old.given }
-        ensures seen { (hand.new.by ≡ hand.old.by) × (hand.new.seen ≡ self.new.told) }
-        ensures before { IsPrefix hand.old.seen self.old.told }
-        ensures own { of E.by hand.old.by self.old.told ≡ of E.by hand.old.by hand.old.seen }
+        ensures told { self.new ≡ self.old ++ M.says about.now ∷ [] }
+        ensures seen { (hand.new.by ≡ hand.old.by) × (hand.new.seen ≡ self.new) }
+        ensures before { IsPrefix hand.old.seen self.old }
+        ensures own { of E.by hand.old.by self.old ≡ of E.by hand.old.by hand.old.seen }
     {
         if hand.count >= MOST {
             stop(wait);
@@ -178,8 +200,8 @@ impl<E: Told, J: Naming> Keeper<E, J> {
     /// What a hand has seen is a beginning of the history, which has no other entries of it.
     pub fn meet<W: Wait>(&mut self, wait: &W, hand: &Hand<E, J>)
         ensures same { self.new ≡ self.old }
-        ensures before { IsPrefix hand.now.seen self.old.told }
-        ensures own { of E.by hand.now.by self.old.told ≡ of E.by hand.now.by hand.now.seen }
+        ensures before { IsPrefix hand.now.seen self.old }
+        ensures own { of E.by hand.now.by self.old ≡ of E.by hand.now.by hand.now.seen }
     {
         let mut both = self.seen.again();
         both.learn(&hand.seen);

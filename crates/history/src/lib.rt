@@ -6,8 +6,10 @@ mod account;
 mod hand;
 mod keeper;
 mod note;
+mod rows;
 
 pub use account::{Account, Entry, Itself, step};
 pub use hand::{Hand, Naming};
-pub use keeper::{Keeper, Opened};
+pub use keeper::{Hands, Keeper, Opened};
+pub use rows::{Bytes, Row, RowSaid, tell};
 pub use note::{Note, Says, Told};
