@@ -132,7 +132,7 @@ impl Naming for Brand {
 }
 
 /// Waits for good.
-pub(crate) fn stop<W: Wait>(wait: &W)
+pub fn stop<W: Wait>(wait: &W)
     ensures { ⊥ }
 {
     for _ in wait.forever() {}

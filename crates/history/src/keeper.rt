@@ -103,6 +103,13 @@ impl<E: Told, J: Naming> Model for Hands<E, J> {
 }
 
 impl<E: Told, J: Naming> Hands<E, J> {
+    /// How many hands it made.
+    pub fn given(&self) -> u32
+        ensures { result ≡ self.now }
+    {
+        self.given
+    }
+
     /// The hand with the next number.
     pub fn hand<W: Wait>(&mut self, wait: &W, keeper: &mut Keeper<E, J>) -> Hand<E, J>
         requires { self.old < 65536 }

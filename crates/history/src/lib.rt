@@ -9,7 +9,7 @@ mod note;
 mod rows;
 
 pub use account::{Account, Entry, Itself, step};
-pub use hand::{Hand, Naming};
+pub use hand::{Hand, Naming, stop};
 pub use keeper::{Hands, Keeper, Opened};
 pub use rows::{Bytes, Row, RowSaid, tell};
 pub use note::{Note, Says, Told};
