@@ -8,6 +8,7 @@ ghost use Rattle.nbd_wire.specs.Lent.{lent_len};
 ghost use Rattle.share.specs.Doing.{Executes, Tidied};
 ghost use Rattle.share.specs.Locking.{IsServed};
 ghost use Rattle.share.specs.Telling.{IsTold, Tells, connection_of};
+ghost use Rattle.share.specs.ToldRows.{PartsAreTold};
 
 use crate::pass::{OneServer, Pass};
 use crate::recorder::{Recorder, Row};
@@ -160,3 +161,8 @@ impl<D: Disk, R: Recorder, L: OneServer> Chronicle<D, R, L> {
         self.shared.stands();
     }
 }
+
+/// The parts of a connection that go through a locked door stand in the server's history.
+pub fn told_rows()
+    ensures { PartsAreTold }
+{}

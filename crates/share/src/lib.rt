@@ -27,7 +27,7 @@ mod recorder;
 mod shared;
 
 pub use alone::{exchange_alone, exchange_plain, plain_replies, worker_alone};
-pub use chronicle::{Chronicle, RowParts, RowSaid};
+pub use chronicle::{Chronicle, RowParts, RowSaid, told_rows};
 pub use connection::{End, exchange, worker};
 pub use door::{Door, Gate, Point};
 pub use keeping::keeper;
