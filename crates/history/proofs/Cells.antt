@@ -107,13 +107,13 @@ module _ {E : Type 0} (by : E → ℕ) where
       let sum : length (of by d (told (log ++ n ∷ []))) ≡ length (of by d (told log)) + length (of by d (e ∷ [])) = ap length all ∙ length-append (of by d (told log)) (of by d (e ∷ [])) in
       dite (ℕ_discrete d c)
       (λ q.
-        let one : length (of by d (e ∷ [])) ≡ 1 = ap length (one_own by d e (own ∙ sym q)) in
-        let grown : length (of by d (told log)) + 1 ≡ length (of by d (told (log ++ n ∷ []))) = omega arith in
-        ap (λ k. cell next (k + 1)) q ∙ (here ∙ ap (λ (k : ℕ). (k, true)) (ap (λ k. length (of by k (told log)) + 1) (sym q) ∙ grown)))
+      let one : length (of by d (e ∷ [])) ≡ 1 = ap length (one_own by d e (own ∙ sym q)) in
+      let grown : length (of by d (told log)) + 1 ≡ length (of by d (told (log ++ n ∷ []))) = omega arith in
+      ap (λ k. cell next (k + 1)) q ∙ (here ∙ ap (λ (k : ℕ). (k, true)) (ap (λ k. length (of by k (told log)) + 1) (sym q) ∙ grown)))
       (λ ne.
-        let none : length (of by d (e ∷ [])) ≡ 0 = ap length (one_other by d e (λ q. ne (sym q ∙ own))) in
-        let same : length (of by d (told log)) ≡ length (of by d (told (log ++ n ∷ []))) = omega arith in
-        stays (d + 1) (length (of by d (told log))) (kept.counts d less) (λ q. ne (omega arith)) ∙ ap (λ (k : ℕ). (k, true)) same)
+      let none : length (of by d (e ∷ [])) ≡ 0 = ap length (one_other by d e (λ q. ne (sym q ∙ own))) in
+      let same : length (of by d (told log)) ≡ length (of by d (told (log ++ n ∷ []))) = omega arith in
+      stays (d + 1) (length (of by d (told log))) (kept.counts d less) (λ q. ne (omega arith)) ∙ ap (λ (k : ℕ). (k, true)) same)
 
   pub kept_add : (cs : List Cell) (log : List (Note E)) → IsKept by cs log → (c : ℕ) → c < 65536 → (n : Note E) (e : E) → n.what ≡ Some e → by e ≡ c → (p value : ℕ) → Ends log p → p < length cs → (cell cs p).1 ≡ false
       → IsKept by (slice_set (slice_set cs (c + 1) (length (of by c (told log)) + 1, true)) p (value, true)) (log ++ n ∷ [])
@@ -124,21 +124,21 @@ module _ {E : Type 0} (by : E → ℕ) where
       let long : length next ≡ length cs = length-set mid p (value, true) ∙ length-set cs (c + 1) (length (of by c (told log)) + 1, true) in
       let far : (k m : ℕ) → cell cs k ≡ (m, true) → k ≢ p = λ k m is q. absurd (cc (is, away, ap (cell cs) q)) in
       let stays : (k m : ℕ) → cell cs k ≡ (m, true) → k ≢ c + 1 → cell next k ≡ (m, true) =
-        λ k m is ne. get_or-set_other mid p k (value, true) (0, false) (far k m is) ∙ (get_or-set_other cs (c + 1) k (length (of by c (told log)) + 1, true) (0, false) ne ∙ is) in
+      λ k m is ne. get_or-set_other mid p k (value, true) (0, false) (far k m is) ∙ (get_or-set_other cs (c + 1) k (length (of by c (told log)) + 1, true) (0, false) ne ∙ is) in
       let here : cell next (c + 1) ≡ (length (of by c (told log)) + 1, true) =
-        get_or-set_other mid p (c + 1) (value, true) (0, false) (far (c + 1) (length (of by c (told log))) (kept.counts c lt))
-        ∙ get_or-set_same cs (c + 1) (length (of by c (told log)) + 1, true) (0, false) (omega arith) in
+      get_or-set_other mid p (c + 1) (value, true) (0, false) (far (c + 1) (length (of by c (told log))) (kept.counts c lt))
+      ∙ get_or-set_same cs (c + 1) (length (of by c (told log)) + 1, true) (0, false) (omega arith) in
       let pen : (cell next p).1 ≡ true = ap (λ (x : Cell). x.1) (get_or-set_same mid p (value, true) (0, false) (omega (arith, length-set cs (c + 1) (length (of by c (told log)) + 1, true)))) in
       let homes : (k : ℕ) → (cell cs k).1 ≡ true → (cell next k).1 ≡ true =
-        λ k h. dite (ℕ_discrete k (c + 1))
-          (λ q. ap (λ (x : Cell). x.1) (ap (cell next) q ∙ here))
-          (λ ne. ap (λ (x : Cell). x.1) (stays k (cell cs k).0 (ap (λ (b : Bool). ((cell cs k).0, b)) h) ne)) in
+      λ k h. dite (ℕ_discrete k (c + 1))
+      (λ q. ap (λ (x : Cell). x.1) (ap (cell next) q ∙ here))
+      (λ ne. ap (λ (x : Cell). x.1) (stays k (cell cs k).0 (ap (λ (b : Bool). ((cell cs k).0, b)) h) ne)) in
       record {
         size = omega arith;
         start = stays 0 (started log) kept.start (λ q. omega arith) ∙ ap (λ (m : ℕ). (m, true)) (ends_started log p ends ∙ sym (snoc_started log n));
         counts = λ d less. counts_more cs log kept c n e what own next stays here d less;
         chain = λ front m o rest q. elim (snoc_cases front log m o n rest q) [
-          inl s ↦ homes m.next (kept.chain front m o s.0 s.1)
+          | inl s ↦ homes m.next (kept.chain front m o s.0 s.1)
           | inr s ↦ subst (λ k. (cell next k).1 ≡ true) (sym (ap (λ (x : Note E). x.next) (last_same front ends.0 m ends.1 (sym s ∙ ends.2)) ∙ ends.3)) pen
         ];
       }

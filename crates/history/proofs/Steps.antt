@@ -104,7 +104,7 @@ module _ {E : Type 0} (by : E → ℕ) where
         None,
         right,
         subst (λ k. IsKept by (slice_set (slice_set cs (c + 1) (k, true)) p.key (p.value, true)) (log ++ n ∷ [])) (sym new)
-        (kept_add by cs log kept c lt n e what own p.key p.value ends' away.0 away.1),
+            (kept_add by cs log kept c lt n e what own p.key p.value ends' away.0 away.1),
         inl (refl, refl),
         rw is (ap (λ l. l ++ n ∷ []) same, is_whole cs log v p.key kept pre away.1, counted cs log v (c + 1) kept same),
       )
@@ -112,7 +112,7 @@ module _ {E : Type 0} (by : E → ℕ) where
       let new : either ((cell cs (c + 1)).0 == old) (old + 1) (cell cs (c + 1)).0 ≡ (cell cs (c + 1)).0 = rw is refl in
       let here : ((cell cs (c + 1)).0, true) ≡ cell cs (c + 1) = ap (λ (b : Bool). ((cell cs (c + 1)).0, b)) (sym (ap (λ (x : Cell). x.1) (kept.counts c lt))) in
       let cells : slice_set cs (c + 1) (either ((cell cs (c + 1)).0 == old) (old + 1) (cell cs (c + 1)).0, true) ≡ cs =
-        ap (λ (k : ℕ). slice_set cs (c + 1) (k, true)) new ∙ (ap (slice_set cs (c + 1)) here ∙ set-get_or cs (c + 1) (0, false)) in (
+      ap (λ (k : ℕ). slice_set cs (c + 1) (k, true)) new ∙ (ap (slice_set cs (c + 1)) here ∙ set-get_or cs (c + 1) (0, false)) in (
         keeps,
         [],
         None,
@@ -163,7 +163,7 @@ module _ {E : Type 0} (by : E → ℕ) where
         None,
         tt,
         subst (λ k. IsKept by (slice_set cs 0 (k, true)) (log ++ n ∷ [])) (sym new)
-        (subst (λ l. IsKept by (slice_set cs 0 (1, true)) (l ++ n ∷ [])) (sym none) (kept_begin cs n what (subst (IsKept by cs) none kept))),
+            (subst (λ l. IsKept by (slice_set cs 0 (1, true)) (l ++ n ∷ [])) (sym none) (kept_begin cs n what (subst (IsKept by cs) none kept))),
         inl (refl, refl),
         rw is (ap (λ l. l ++ n ∷ []) none),
       )
@@ -171,7 +171,7 @@ module _ {E : Type 0} (by : E → ℕ) where
       let new : either ((cell cs 0).0 == 0) 1 (cell cs 0).0 ≡ (cell cs 0).0 = rw is refl in
       let here : ((cell cs 0).0, true) ≡ cell cs 0 = ap (λ (b : Bool). ((cell cs 0).0, b)) (sym (ap (λ (x : Cell). x.1) kept.start)) in
       let cells : slice_set cs 0 (either ((cell cs 0).0 == 0) 1 (cell cs 0).0, true) ≡ cs =
-        ap (λ (k : ℕ). slice_set cs 0 (k, true)) new ∙ (ap (slice_set cs 0) here ∙ set-get_or cs 0 (0, false)) in (
+      ap (λ (k : ℕ). slice_set cs 0 (k, true)) new ∙ (ap (slice_set cs 0) here ∙ set-get_or cs 0 (0, false)) in (
         keeps,
         [],
         None,

@@ -89,7 +89,11 @@ impl<J: Naming> Account<J> {
             reply,
         };
         self.keeper.add::<Entry, Itself, W>(wait, hand, &entry);
-        self.value = if sets { amount } else { reply.saturating_sub(amount) };
+        self.value = if sets {
+            amount
+        } else {
+            reply.saturating_sub(amount)
+        };
         reply
     }
 

@@ -140,10 +140,7 @@ pub fn stop<W: Wait>(wait: &W)
 }
 
 /// A pen that was made just now.
-pub(crate) fn grown<E: Told>(
-    word: &Word<Note<E>, u64, Law>,
-    seen: &Seen<Note<E>, u64, Law>,
-) -> Pen
+pub(crate) fn grown<E: Told>(word: &Word<Note<E>, u64, Law>, seen: &Seen<Note<E>, u64, Law>) -> Pen
     requires word { (word.now.tracked ≡ true) × (word.now.book ≡ seen.now.book) }
     requires key { word.now.key < 65537 }
     ensures book { result.book ≡ seen.now.book }
@@ -152,8 +149,7 @@ pub(crate) fn grown<E: Told>(
     let mut now = seen.again();
     let mut offer: Offer<Note<E>, u64, Law, Nothing> = now.plain::<Nothing, (), Nothing>(&());
     let mut pen = now.no_pen();
-    let _found = word
-        .compare_exchange::<Grow, Nothing>(0, 0, &mut now, &mut offer, &mut pen);
+    let _found = word.compare_exchange::<Grow, Nothing>(0, 0, &mut now, &mut offer, &mut pen);
     let _word: Word<Note<E>, u64, Law> = Word::tracked(0, &mut pen);
     pen
 }

@@ -55,8 +55,7 @@ impl<E: Told> Opened<E> {
         let pen = grown(&head, &seen);
         let mut offer: Offer<Note<E>, u64, Law, Nothing> = seen.plain::<Nothing, Pen, Begin>(&pen);
         let mut none = seen.no_pen();
-        let found = head
-            .compare_exchange::<Begin, Nothing>(0, 1, &mut seen, &mut offer, &mut none);
+        let found = head.compare_exchange::<Begin, Nothing>(0, 1, &mut seen, &mut offer, &mut none);
         if found != 0 {
             stop(wait);
         }
@@ -162,12 +161,7 @@ impl<E: Told, J: Naming> Model for Keeper<E, J> {
 impl<E: Told, J: Naming> Keeper<E, J> {
     /// Adds an entry of a hand: the history that the hand had seen is a beginning of this one, in
     /// which the hand has no other entries. Waits for good where it does not know this.
-    pub fn add<X, M: Says<X, E>, W: Wait>(
-        &mut self,
-        wait: &W,
-        hand: &mut Hand<E, J>,
-        about: &X,
-    )
+    pub fn add<X, M: Says<X, E>, W: Wait>(&mut self, wait: &W, hand: &mut Hand<E, J>, about: &X)
         requires by { E.by (M.says about.now) ≡ hand.old.by }
         ensures told { self.new ≡ self.old ++ M.says about.now ∷ [] }
         ensures seen { (hand.new.by ≡ hand.old.by) × (hand.new.seen ≡ self.new) }
@@ -182,8 +176,11 @@ impl<E: Told, J: Naming> Keeper<E, J> {
         let mut both = self.seen.again();
         both.learn(&hand.seen);
         let speech = Speech { about, pen: &next };
-        let mut offer: Offer<Note<E>, u64, Law, Nothing> = both
-            .plain::<Nothing, Speech<'_, X>, Saying<M>>(&speech);
+        let mut offer: Offer<Note<E>, u64, Law, Nothing> = both.plain::<
+            Nothing,
+            Speech<'_, X>,
+            Saying<M>,
+        >(&speech);
         let count = hand.count;
         let found = hand
             .word

@@ -11,5 +11,5 @@ mod rows;
 pub use account::{Account, Entry, Itself, step};
 pub use hand::{Hand, Naming, stop};
 pub use keeper::{Hands, Keeper, Opened};
-pub use rows::{Bytes, Row, RowSaid, tell};
 pub use note::{Note, Says, Told};
+pub use rows::{Bytes, Row, RowSaid, tell};

@@ -38,13 +38,13 @@ told_replied : (keeps : Bool) (n : ℕ) (base : List ℕ) (old new : Served) (pa
 told_replied keeps n base old new pass pass' c bytes a rows rows' v w told accepted lent sound replies heard memory (inl zero) =
     let ran = replies.ran zero in
     let k = kept-ok n old.disk new.disk base rows None c v.by bytes a.bytes (as_kept n old.disk base rows told ran.no_cut.0) accepted replies.holds.length_is lent replies.holds.bytes_are
-      sound ran.contents ran.reply ran.no_cut.0 ran.no_cut.1 ran.no_slow.0 ran.no_slow.1 in
+    sound ran.contents ran.reply ran.no_cut.0 ran.no_cut.1 ran.no_slow.0 ran.no_slow.1 in
     let grown : rows' ≡ rows ++ row_of v.by c 0 a.bytes ∷ [] = (heard (λ h. cc (zero, h))).grown ∙ ap (λ e. rows ++ row_of v.by c e a.bytes ∷ []) zero in
     subst (IsTold n new.disk base) (sym grown) (record { legal = k.legal; replayed = k.replayed; failed = λ _. k.failed })
 told_replied keeps n base old new pass pass' c bytes a rows rows' v w told accepted lent sound replies heard memory (inr (inl slow)) =
     let met = replies.slow slow in
     let k = kept-slow n old.disk new.disk base rows None c v.by bytes a.bytes (as_kept n old.disk base rows told met.no_cut.0) accepted replies.holds.length_is lent
-      sound met.moves met.no_cut.0 met.no_cut.1 met.latched in
+    sound met.moves met.no_cut.0 met.no_cut.1 met.latched in
     let grown : rows' ≡ rows ++ row_of v.by c 5 a.bytes ∷ [] = (heard (λ h. cc (slow, h))).grown ∙ ap (λ e. rows ++ row_of v.by c e a.bytes ∷ []) slow in
     subst (IsTold n new.disk base) (sym grown) (record { legal = k.legal; replayed = k.replayed; failed = λ _. k.failed })
 told_replied keeps n base old new pass pass' c bytes a rows rows' v w told accepted lent sound replies heard memory (inr (inr none)) =

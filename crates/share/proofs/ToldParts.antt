@@ -43,7 +43,7 @@ heard_row sound sectors base old new v w command out row at h is legal = record 
   by = h.seen.0;
   before = subst (IsPrefix v.seen) (sym h.seen.1) (prefix_trans v.seen old new h.before (row ∷ [], sym h.grown));
   own = ap (of connection_of v.by) (h.seen.1 ∙ h.grown) ∙ (filter-append (λ r. connection_of r == v.by) old (row ∷ [])
-    ∙ (ap (λ l. l ++ of connection_of v.by (row ∷ [])) h.own ∙ ap (λ l. of connection_of v.by v.seen ++ l) (one_own connection_of v.by row at)));
+      ∙ (ap (λ l. l ++ of connection_of v.by (row ∷ [])) h.own ∙ ap (λ l. of connection_of v.by v.seen ++ l) (one_own connection_of v.by row at)));
   legal = λ s _. subst (IsLegal sectors base false) (sym h.seen.1) (legal s);
 }
 
@@ -54,11 +54,11 @@ one_row keeps sound sectors base a b command payload out x e =
     let t = x.run.0 in
     let holds = t.executes.replied.holds in
     elim holds.error_is [
-      inl zero ↦ heard_row sound sectors base t.before.rows t.after.rows a.door b.door command out (row_of a.door.by command x.reply.error x.reply.bytes) refl (t.tells.row (λ h. cc (zero, h)))
-        (record { reply = x.reply; out_is = x.out_is; command_is = holds.command_is; rows_are = inr refl }) (λ s. (t.legal s).legal (t.executes.sound ∙ t.stood.trusted s))
-      | inr other ↦ elim other [
-        inl slow ↦ heard_row sound sectors base t.before.rows t.after.rows a.door b.door command out (row_of a.door.by command x.reply.error x.reply.bytes) refl (t.tells.row (λ h. cc (slow, h)))
+      | inl zero ↦ heard_row sound sectors base t.before.rows t.after.rows a.door b.door command out (row_of a.door.by command x.reply.error x.reply.bytes) refl (t.tells.row (λ h. cc (zero, h)))
           (record { reply = x.reply; out_is = x.out_is; command_is = holds.command_is; rows_are = inr refl }) (λ s. (t.legal s).legal (t.executes.sound ∙ t.stood.trusted s))
+      | inr other ↦ elim other [
+        | inl slow ↦ heard_row sound sectors base t.before.rows t.after.rows a.door b.door command out (row_of a.door.by command x.reply.error x.reply.bytes) refl (t.tells.row (λ h. cc (slow, h)))
+            (record { reply = x.reply; out_is = x.out_is; command_is = holds.command_is; rows_are = inr refl }) (λ s. (t.legal s).legal (t.executes.sound ∙ t.stood.trusted s))
         | inr none ↦ no_row sound sectors base a.door b.door command out (t.tells.memory none).1 (record { reply = x.reply; out_is = x.out_is; command_is = holds.command_is; rows_are = inl (none, refl) })
       ]
     ]

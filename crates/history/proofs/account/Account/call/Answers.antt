@@ -11,7 +11,7 @@ invariant_of-self g c =
     let v : value_of 0 c.add.new.self ≡ value_after (value_of 0 old) e = ap (value_of 0) c.add.ensures.told ∙ value_more 0 old e in
     let l : is_legal 0 c.add.new.self ≡ true = ap (is_legal 0) c.add.ensures.told ∙ legal_more 0 old e c.self.invariant.1 c.self.invariant.0 in
     elim c.if-sets.branch [
-      then-sets w ↦ (let s : value_after (value_of 0 old) e ≡ c.args.amount = rw w.if-sets.true refl in w.self-is ∙ sym (v ∙ s), l)
+      | then-sets w ↦ (let s : value_after (value_of 0 old) e ≡ c.args.amount = rw w.if-sets.true refl in w.self-is ∙ sym (v ∙ s), l)
       | else-sets w ↦ (let s : value_after (value_of 0 old) e ≡ c.self.inside.value - c.args.amount = rw w.if-sets.false (ap (λ n. n - c.args.amount) (sym c.self.invariant.0)) in w.self-is ∙ (w.saturating_sub-self-inside.ensures ∙ sym (v ∙ s)), l)
     ]
 

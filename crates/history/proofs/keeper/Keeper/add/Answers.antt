@@ -21,7 +21,7 @@ compare_exchange-found-requires g c =
       c.self.invariant.1 ∙ theirs,
       offer.0,
       rw (ap (λ w. w.key) word, offer.3) (adds_moves g.E.Told.by both keep c.self.inside.pen.nib c.hand.inside.by c.hand.inside.count c.plain-offer.result.ask (g.M.Says.says c.args.about.now) c.hand.invariant.2
-        (ap (λ n. n.what) offer.1) own c.self.invariant.2 kp c.self.invariant.3),
+          (ap (λ n. n.what) offer.1) own c.self.invariant.2 kp c.self.invariant.3),
     )
 
 pub returns-clause-told : goal.returns-clause-told
@@ -33,7 +33,7 @@ returns-clause-told g c =
     let kp : IsPrefix keep both = subst (λ (s : List (Note g.row.E.Denot)). IsPrefix s both) (ap (λ s. s.log) c.again-both.ensures) c.learn.ensures.2 in
     let own : g.E.Told.by e ≡ c.hand.inside.by = c.requires.by ∙ sym (ap (λ s. s.by) c.hand.view_is) in
     let a = added g.E.Told.by c.hand.inside.by hand keep both c.compare_exchange-found.new.seen.log c.plain-offer.result.ask e c.self.inside.pen.nib.key c.hand.inside.word.key c.compare_exchange-found.result c.hand.inside.count
-      kp c.learn.ensures.3 c.self.invariant.3 (ap (λ w. w.key) c.hand.invariant.0) c.hand.invariant.2 c.if-found-count.false c.hand.invariant.3 (ap (λ n. n.what) c.plain-offer.ensures.1) own c.compare_exchange-found.ensures.7 in
+    kp c.learn.ensures.3 c.self.invariant.3 (ap (λ w. w.key) c.hand.invariant.0) c.hand.invariant.2 c.if-found-count.false c.hand.invariant.3 (ap (λ n. n.what) c.plain-offer.ensures.1) own c.compare_exchange-found.ensures.7 in
     rw (← c.self.view_is) a.more
 
 pub returns-clause-before : goal.returns-clause-before
@@ -45,7 +45,7 @@ returns-clause-before g c =
     let kp : IsPrefix keep both = subst (λ (s : List (Note g.row.E.Denot)). IsPrefix s both) (ap (λ s. s.log) c.again-both.ensures) c.learn.ensures.2 in
     let own : g.E.Told.by e ≡ c.hand.inside.by = c.requires.by ∙ sym (ap (λ s. s.by) c.hand.view_is) in
     let a = added g.E.Told.by c.hand.inside.by hand keep both c.compare_exchange-found.new.seen.log c.plain-offer.result.ask e c.self.inside.pen.nib.key c.hand.inside.word.key c.compare_exchange-found.result c.hand.inside.count
-      kp c.learn.ensures.3 c.self.invariant.3 (ap (λ w. w.key) c.hand.invariant.0) c.hand.invariant.2 c.if-found-count.false c.hand.invariant.3 (ap (λ n. n.what) c.plain-offer.ensures.1) own c.compare_exchange-found.ensures.7 in
+    kp c.learn.ensures.3 c.self.invariant.3 (ap (λ w. w.key) c.hand.invariant.0) c.hand.invariant.2 c.if-found-count.false c.hand.invariant.3 (ap (λ n. n.what) c.plain-offer.ensures.1) own c.compare_exchange-found.ensures.7 in
     rw (← ap (λ s. s.seen) c.hand.view_is, ← c.self.view_is) a.met.before
 
 pub returns-clause-own : goal.returns-clause-own
@@ -57,7 +57,7 @@ returns-clause-own g c =
     let kp : IsPrefix keep both = subst (λ (s : List (Note g.row.E.Denot)). IsPrefix s both) (ap (λ s. s.log) c.again-both.ensures) c.learn.ensures.2 in
     let own : g.E.Told.by e ≡ c.hand.inside.by = c.requires.by ∙ sym (ap (λ s. s.by) c.hand.view_is) in
     let a = added g.E.Told.by c.hand.inside.by hand keep both c.compare_exchange-found.new.seen.log c.plain-offer.result.ask e c.self.inside.pen.nib.key c.hand.inside.word.key c.compare_exchange-found.result c.hand.inside.count
-      kp c.learn.ensures.3 c.self.invariant.3 (ap (λ w. w.key) c.hand.invariant.0) c.hand.invariant.2 c.if-found-count.false c.hand.invariant.3 (ap (λ n. n.what) c.plain-offer.ensures.1) own c.compare_exchange-found.ensures.7 in
+    kp c.learn.ensures.3 c.self.invariant.3 (ap (λ w. w.key) c.hand.invariant.0) c.hand.invariant.2 c.if-found-count.false c.hand.invariant.3 (ap (λ n. n.what) c.plain-offer.ensures.1) own c.compare_exchange-found.ensures.7 in
     rw (← ap (λ s. s.by) c.hand.view_is, ← ap (λ s. s.seen) c.hand.view_is, ← c.self.view_is) a.met.own
 
 pub invariant_of-hand : goal.invariant_of-hand
@@ -69,6 +69,9 @@ invariant_of-hand g c =
     let kp : IsPrefix keep both = subst (λ (s : List (Note g.row.E.Denot)). IsPrefix s both) (ap (λ s. s.log) c.again-both.ensures) c.learn.ensures.2 in
     let own : g.E.Told.by e ≡ c.hand.inside.by = c.requires.by ∙ sym (ap (λ s. s.by) c.hand.view_is) in
     let a = added g.E.Told.by c.hand.inside.by hand keep both c.compare_exchange-found.new.seen.log c.plain-offer.result.ask e c.self.inside.pen.nib.key c.hand.inside.word.key c.compare_exchange-found.result c.hand.inside.count
-      kp c.learn.ensures.3 c.self.invariant.3 (ap (λ w. w.key) c.hand.invariant.0) c.hand.invariant.2 c.if-found-count.false c.hand.invariant.3 (ap (λ n. n.what) c.plain-offer.ensures.1) own c.compare_exchange-found.ensures.7 in
-    (c.hand.invariant.0, ap (λ s. s.book) c.again.ensures ∙ (c.compare_exchange-found.ensures.0 ∙ (c.learn.ensures.0 ∙ (ap (λ s. s.book) c.again-both.ensures ∙ c.self.invariant.0))), c.hand.invariant.2,
-      rw (ap (λ s. s.log) c.again.ensures) a.long)
+    kp c.learn.ensures.3 c.self.invariant.3 (ap (λ w. w.key) c.hand.invariant.0) c.hand.invariant.2 c.if-found-count.false c.hand.invariant.3 (ap (λ n. n.what) c.plain-offer.ensures.1) own c.compare_exchange-found.ensures.7 in (
+      c.hand.invariant.0,
+      ap (λ s. s.book) c.again.ensures ∙ (c.compare_exchange-found.ensures.0 ∙ (c.learn.ensures.0 ∙ (ap (λ s. s.book) c.again-both.ensures ∙ c.self.invariant.0))),
+      c.hand.invariant.2,
+      rw (ap (λ s. s.log) c.again.ensures) a.long,
+    )
