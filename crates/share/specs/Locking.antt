@@ -1,10 +1,16 @@
 -- What is known of a server each time its lock is got, and what is done to it under the lock.
 -- Source: own.
-use Rattle.std.specs.Prelude.{◌≡◌, ℕ, ◌*◌, List, length, Bool, true, Result}
+use Rattle.std.specs.Prelude.{◌≡◌, ℕ, ◌*◌, List, [], ◌∷◌, ◌++◌, length, Bool, true, false, Result}
+use mathlib.Core.List.{IsPrefix}
 use Rattle.block_device.specs.declared.disk.DiskError.{DiskError}
+use Rattle.block_device.specs.Facts.{Facts}
+use Rattle.history.specs.Notes.{Sight, entries_by}
 use Rattle.nbd_wire.specs.declared.command.Command.{Command}
+use Rattle.nbd_wire.specs.Numbers.{ENOMEM}
+use Rattle.share.specs.declared.recorder.Row.{Row}
 use Rattle.share.specs.declared.shared.Done.{Done}
-use Rattle.share.specs.Doing.{Executes, Tidied}
+use Rattle.share.specs.Doing.{Executes, IfReplied, OnLost, Tidied}
+use Rattle.share.specs.History.{has_failed, replay, row_of, IsLegal}
 use Rattle.share.specs.Seat.{Seat}
 use Rattle.share.specs.State.{Served, IsKept}
 
@@ -28,14 +34,59 @@ pub record IsServed (start : Start) (a : Served) : Type 0 where
   pub kept : start.keeps ≡ true → IsKept start.sectors a.disk a.base a.rows a.interrupted
   pub based : start.keeps ≡ true → start.sound ≡ true → a.base ≡ start.base
 
--- What one `execute` does to such a state, which is left unsaid, as is the one that it leaves: that
--- is such a state again.
-abbrev pub ExecutesLocked : Start → Seat → Seat → Command → List ℕ → Done → Type 0
-ExecutesLocked start pass pass' command bytes done =
-    (a : Served) × ((b : Served) × (IsServed start a
-    × Executes start.keeps a b pass pass' command bytes done × IsServed start b))
+-- A server and its history: the rows of all commands that were answered, also where the server
+-- keeps none. They exist in proofs alone.
+pub record Chronicled : Type 0 where
+  pub served : Served
+  pub rows : List Row
+
+-- The rows are a legal history of these contents, and while neither a Cut nor a Slow is latched in
+-- a sound disk its contents are their replay.
+pub record IsHistoryOf (sectors : ℕ) (disk : Facts) (base : List ℕ) (rows : List Row) : Type 0 where
+  pub legal : disk.sound ≡ true → IsLegal sectors base false rows
+  pub replayed : disk.sound ≡ true → disk.cut ≡ false → disk.slow ≡ false
+      → disk.contents ≡ replay base rows
+  pub failed : disk.cut ≡ false → has_failed false rows ≡ true → disk.slow ≡ true
+
+-- so this holds of a server each time its lock is got
+pub record IsChronicled (start : Start) (a : Chronicled) : Type 0 where
+  pub served : IsServed start a.served
+  pub history : start.sound ≡ true → IsHistoryOf start.sectors a.served.disk start.base a.rows
+
+abbrev pub connection_of : Row → ℕ
+connection_of row = row.connection
+
+-- A row was added to the history. It begins with what the hand had seen, and all its rows of the
+-- hand were among these.
+pub record Adds (old new : List Row) (v w : Sight Row) (row : Row) : Type 0 where
+  pub grown : new ≡ old ++ row ∷ []
+  pub seen : (w.by ≡ v.by) × (w.seen ≡ new)
+  pub before : IsPrefix v.seen old
+  pub own : entries_by connection_of v.by old ≡ entries_by connection_of v.by v.seen
+
+-- What a command adds: its row, with exactly the reply that is handed out. Nothing where there was
+-- no memory for a row, or where the command is lost.
+pub record AddsRow (old new : List Row) (v w : Sight Row) (command : Command)
+    (done : Done) : Type 0 where
+  pub row : IfReplied done (λ a. (a.error ≡ ENOMEM → ⊥)
+      → Adds old new v w (row_of v.by command a.error a.bytes))
+  pub memory : IfReplied done (λ a. a.error ≡ ENOMEM → (new ≡ old) × (w ≡ v))
+  pub lost : OnLost done ((new ≡ old) × (w ≡ v))
+
+-- What one command does under the lock, through a door whose hand had seen so much of the history.
+-- The states before and after are left unsaid; both stand in the one history of the server.
+pub record ExecutesLocked (start : Start) (v w : Sight Row) (pass pass' : Seat)
+    (command : Command) (bytes : List ℕ) (done : Done) : Type 0 where
+  pub before : Chronicled
+  pub after : Chronicled
+  pub known : IsChronicled start before
+  pub executes : Executes start.keeps before.served after.served pass pass' command bytes done
+  pub adds : AddsRow before.rows after.rows v w command done
+  pub by : v.by ≡ pass.connection
+  pub then : IsChronicled start after
 
 -- and one `tidy`
 abbrev pub TidiesLocked : Start → Result Bool DiskError → Type 0
 TidiesLocked start result =
-    (a : Served) × ((b : Served) × (IsServed start a × Tidied a b result × IsServed start b))
+    (a : Chronicled) × ((b : Chronicled) × (IsChronicled start a × Tidied a.served b.served result
+    × (b.rows ≡ a.rows) × IsChronicled start b))

@@ -17,6 +17,7 @@
 #![tactic(auto)]
 
 mod alone;
+mod chronicle;
 mod connection;
 mod door;
 mod keeping;
@@ -26,6 +27,7 @@ mod recorder;
 mod shared;
 
 pub use alone::{exchange_alone, exchange_plain, plain_replies, worker_alone};
+pub use chronicle::{Chronicle, RowParts, RowSaid, told_rows};
 pub use connection::{End, exchange, worker};
 pub use door::{Door, Gate, Point};
 pub use keeping::keeper;

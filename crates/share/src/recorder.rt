@@ -5,6 +5,7 @@ ghost use Rattle.std.specs.Prelude.{true, false, Option, Some, None, OnOk, IsOk,
 ghost use Rattle.std.specs.Prelude.{vec_capacity};
 ghost use Rattle.nbd_wire.specs.Lent.{payload_in, reply_in};
 
+use history::OfHand;
 use nbd_wire::{Command, CommandKind};
 use std::alloc::{AllocError, Global};
 use std::marker::Model;
@@ -49,6 +50,10 @@ pub struct Row {
     pub payload: Bytes,
     pub error: u32,
     pub reply: Bytes,
+}
+
+impl OfHand for Row {
+    ghost by = { λ r. r.connection };
 }
 
 /// A command that a power loss interrupted, with a WRITE's payload.
