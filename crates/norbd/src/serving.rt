@@ -14,9 +14,12 @@ use block_device::{Disk, DiskError, Sink, send};
 use chip_model::SpiBus;
 use fault_model::{ImageBus, SimError};
 use flash_disk::{FlashDisk, MountError};
+use history::{Hands, Opened};
 use norbd_line::Fault;
 use norbd_serve::{Connections, OpenGate, ServeFault, Sleeper, listen, serve};
-use share::{FullRecord, NoRecord, OneServer, RecordError, Recorder, Server, Shared};
+use share::{
+    Chronicle, FullRecord, NoRecord, OneServer, RecordError, Recorder, Row, Server, Shared,
+};
 use std::alloc::{AllocError, Global};
 use std::marker::Brand;
 use std::net::{Net, TcpListener, TcpStream};
@@ -90,7 +93,18 @@ where
         (K.written writer.new) (K.faults writer.new) }
 {
     let sectors = disk.sectors();
-    serve_disk::<Brand, _, _, _>(rt, disk, sectors, Blank::new(LEDGER_PARTS), asked, writer)
+    let unnamed = Unnamed {
+        blank: Blank::new(LEDGER_PARTS),
+        opened: Opened::new(rt),
+    };
+    serve_disk::<Brand, _, _, _>(rt, disk, sectors, unnamed, asked, writer)
+}
+
+/// What a server's name is for, before it has one: the ledger of its counts, and its history.
+#[derive(Drop)]
+struct Unnamed {
+    blank: Blank,
+    opened: Opened<Row>,
 }
 
 /// The disk on the chip in a file.
@@ -135,7 +149,7 @@ fn serve_disk<L, R, D, K>(
     rt: &R,
     disk: D,
     sectors: u32,
-    blank: Blank,
+    unnamed: Unnamed,
     asked: Asked,
     writer: &mut K,
 ) -> Result<(), Fault>
@@ -153,27 +167,35 @@ where
     requires sectors { sectors ≡ L.sectors }
     requires sound { ((D.facts disk).sound ≡ true) × (L.sound ≡ true) }
     requires base { L.base ≡ (D.facts disk).contents }
-    requires name { blank.name ≡ L.name }
-    requires parts { (blank.parts ≡ L.parts) × (blank.parts ≡ 65537) }
+    requires name { unnamed.blank.name ≡ L.name }
+    requires parts { (unnamed.blank.parts ≡ L.parts) × (unnamed.blank.parts ≡ 65537) }
+    requires history { unnamed.opened ≡ L.book }
     requires numbers { IsPort asked.port × IsConns asked.conns }
     ensures { TellsServing asked.port asked.conns asked.record (K.written writer.old)
         (K.faults writer.old) result
         (K.written writer.new) (K.faults writer.new) }
 {
+    let Unnamed { blank, opened } = unnamed;
+    let (keeper, hands) = opened.named::<L>();
     if !asked.record {
         let shared = Shared::<D, NoRecord, L>::new(disk, blank);
-        return serve_shared(rt, shared, sectors, asked, writer);
+        let chronicle = Chronicle::new(shared, keeper);
+        return serve_shared(rt, chronicle, hands, sectors, asked, writer);
     }
     match Shared::<D, FullRecord, L>::recording(rt.alloc(), disk, blank) {
-        Ok(shared) => serve_shared(rt, shared, sectors, asked, writer),
+        Ok(shared) => {
+            let chronicle = Chronicle::new(shared, keeper);
+            serve_shared(rt, chronicle, hands, sectors, asked, writer)
+        }
         Err((error, _)) => Err(told_of_record(error)),
     }
 }
 
-/// Serves what stands under the lock.
+/// Serves a server with its history.
 fn serve_shared<L, R, D, C, K>(
     rt: &R,
-    shared: Shared<D, C, L>,
+    chronicle: Chronicle<D, C, L>,
+    hands: Hands<Row, L>,
     sectors: u32,
     asked: Asked,
     writer: &mut K,
@@ -198,10 +220,10 @@ where
     let Ok(gates) = vec![in alloc; OpenGate; asked.conns as usize] else {
         return Err(Fault::NoMemory);
     };
-    let Ok(connections) = Connections::new(alloc, gates) else {
+    let Ok(connections) = Connections::new(alloc, gates, hands) else {
         return Err(Fault::NoMemory);
     };
-    let server = Server::new(shared);
+    let server = Server::new(chronicle);
     let listener = match listen(rt, asked.port as u16) {
         Ok(listener) => listener,
         Err(fault) => return Err(told_of_serving(fault)),
@@ -214,7 +236,8 @@ where
         Ok(served) => served,
         Err(fault) => return Err(told_of_serving(fault)),
     };
-    let Some(rows) = server.into_inner().total(served.passes) else {
+    let mut shared = server.into_inner().into_shared();
+    let Some(rows) = shared.total(served.passes) else {
         return Err(Fault::NoThread);
     };
     let last = ended_text(alloc, asked.conns, C::KEEPS, rows);

@@ -1,8 +1,11 @@
 -- Of connections that end one after another, one ended by a lost command.
-use Rattle.std.proofs.Common.{◌≡◌, List, [], ◌∷◌, ◌++◌, Bool, true, false, refl, sym, ◌∙◌, subst, if◌then◌else◌}
+use Rattle.std.proofs.Common.{◌≡◌, ℕ, List, [], ◌∷◌, ◌++◌, Bool, true, false, refl, sym, ◌∙◌, subst, if◌then◌else◌}
 use Rattle.share.specs.declared.connection.End.{End}
 use Rattle.share.specs.declared.connection.End.TheVariants.{Closed, EndOfInput, Input, Output, Lost, OutOfMemory}
-use Rattle.norbd_serve.specs.Serving.{has_lost, is_lost}
+use Rattle.history.specs.Notes.{Sight}
+use Rattle.share.specs.declared.recorder.Row.{Row}
+use Rattle.share.specs.History.{IsLegal}
+use Rattle.norbd_serve.specs.Serving.{AreLegal, has_lost, is_lost}
 
 either-way : (b : Bool) → true ≡ (if b then true else true)
 either-way true = refl
@@ -28,3 +31,8 @@ lost_before ends end h = has_lost_one_more ends end ∙ subst (λ b. (if is_lost
 -- where none was
 pub lost_now : (ends : List End) (end : End) → has_lost ends ≡ false → has_lost (ends ++ end ∷ []) ≡ is_lost end
 lost_now ends end h = has_lost_one_more ends end ∙ subst (λ b. (if is_lost end then true else b) ≡ is_lost end) (sym h) (same (is_lost end))
+
+-- one more hand whose history is legal
+pub legal_more : (sectors : ℕ) (base : List ℕ) (hands : List (Sight Row)) (hand : Sight Row) → AreLegal sectors base hands → IsLegal sectors base false hand.seen → AreLegal sectors base (hands ++ hand ∷ [])
+legal_more sectors base [] hand all one = (one, tt)
+legal_more sectors base (first ∷ more) hand all one = (all.0, legal_more sectors base more hand all.1 one)

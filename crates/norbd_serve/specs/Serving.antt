@@ -1,5 +1,8 @@
 -- What came of the connections that were served. Source: own.
 use Rattle.std.specs.Prelude.{◌≡◌, ℕ, List, [], ◌∷◌, Bool, true, false, if◌then◌else◌, vec_len}
+use Rattle.history.specs.Notes.{Sight}
+use Rattle.share.specs.declared.recorder.Row.{Row}
+use Rattle.share.specs.History.{IsLegal}
 use Rattle.share.specs.declared.connection.End.{End}
 use Rattle.share.specs.declared.connection.End.TheVariants.{Closed, EndOfInput, Input, Output, Lost}
 use Rattle.share.specs.declared.connection.End.TheVariants.{OutOfMemory}
@@ -19,9 +22,19 @@ abbrev pub has_lost : List End → Bool
 has_lost [] = false
 has_lost (end ∷ more) = if is_lost end then true else has_lost more
 
--- So many connections were served: the pass of each came back, and how it ended, and none by a lost
--- command.
-pub record Returns {L : Type 0} (count : ℕ) (served : Served L) : Type 0 where
+-- what each of these hands has seen is a legal history of a disk of so many sectors that held these
+-- contents
+abbrev pub AreLegal : ℕ → List ℕ → List (Sight Row) → Type 0
+AreLegal sectors base [] = Unit {0}
+AreLegal sectors base (hand ∷ hands) =
+    IsLegal sectors base false hand.seen × AreLegal sectors base hands
+
+-- So many connections were served: the pass of each came back, how it ended, and what its hand knows
+-- of the server's history; none ended by a lost command.
+pub record Returns {L : Type 0} (sound : Bool) (sectors : ℕ) (base : List ℕ) (count : ℕ)
+    (served : Served L) : Type 0 where
   pub passes : vec_len served.passes ≡ count
   pub ends : vec_len served.ends ≡ count
+  pub hands : vec_len served.hands ≡ count
   pub none_lost : has_lost served.ends.items ≡ false
+  pub legal : sound ≡ true → AreLegal sectors base served.hands.items

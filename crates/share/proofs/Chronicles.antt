@@ -12,10 +12,10 @@ use Rattle.share.specs.declared.recorder.Row.{Row}
 use Rattle.share.specs.declared.shared.Done.{Done}
 use Rattle.share.specs.declared.shared.Done.TheVariants.{Replied, Lost}
 use Rattle.share.specs.Doing.{Executes, RepliesToCommand, Tidied}
-use Rattle.share.specs.History.{row_of}
+use Rattle.share.specs.History.{row_of, IsLegal}
 use Rattle.share.specs.Seat.{Seat}
 use Rattle.share.specs.State.{IsKept, Served, Reply}
-use Rattle.share.specs.Locking.{IsHistoryOf, Adds, AddsRow}
+use Rattle.share.specs.Locking.{IsHistoryOf, Adds, AddsRow, Start, Chronicled, IsChronicled}
 use Rattle.share.proofs.Kept.{kept-ok, kept-slow}
 
 not_both : (b : Bool) → b ≡ true → b ≡ false → ⊥
@@ -78,3 +78,18 @@ told_tidied n base old new (Err Slow) rows told t = record {
   replayed = λ _ _ e. absurd (not_both new.disk.slow (t.slow refl).1 e);
   failed = λ _ _. (t.slow refl).1;
 }
+
+-- what a door's hand has seen after a command is legal
+pub legal_seen : (start : Start) (old new : Chronicled) (v w : Sight Row) (pass pass' : Seat) (c : Command) (bytes : List ℕ) (done : Done)
+    → Executes start.keeps old.served new.served pass pass' c bytes done → AddsRow old.rows new.rows v w c done → IsChronicled start new
+    → (start.sound ≡ true → IsLegal start.sectors start.base false v.seen) → start.sound ≡ true → IsLegal start.sectors start.base false w.seen
+legal_seen start old new v w pass pass' c bytes (Replied a) x t k was s =
+    let now : IsLegal start.sectors start.base false new.rows = (k.history s).legal (k.served.trusted s) in
+    elim x.replied.holds.error_is [
+      | inl zero ↦ subst (IsLegal start.sectors start.base false) (sym (t.row (λ h. cc (zero, h))).seen.1) now
+      | inr other ↦ elim other [
+        | inl slow ↦ subst (IsLegal start.sectors start.base false) (sym (t.row (λ h. cc (slow, h))).seen.1) now
+        | inr none ↦ subst (λ (z : Sight Row). IsLegal start.sectors start.base false z.seen) (sym (t.memory none).1) (was s)
+      ]
+    ]
+legal_seen start old new v w pass pass' c bytes Lost x t k was s = subst (λ (z : Sight Row). IsLegal start.sectors start.base false z.seen) (sym t.lost.1) (was s)

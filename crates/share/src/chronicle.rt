@@ -1,12 +1,13 @@
 //! A server with its history, which exists in proofs alone, so that a server that keeps no rows has
 //! one too.
 
-ghost use Rattle.std.specs.Prelude.{◌≡◌, ◌<◌, ℕ, List, [], length, None, true, IfSome};
+ghost use Rattle.std.specs.Prelude.{◌≡◌, ◌<◌, ℕ, List, [], length, None, true, false, IfSome};
 ghost use mathlib.Core.List.{IsPrefix};
 ghost use Rattle.history.specs.Notes.{entries_by};
 ghost use Rattle.nbd_wire.specs.Commands.{judge_of};
 ghost use Rattle.nbd_wire.specs.Lent.{lent_len};
 ghost use Rattle.share.specs.Doing.{Executes, Tidied};
+ghost use Rattle.share.specs.History.{IsLegal};
 ghost use Rattle.share.specs.Locking.{AddsRow, IsChronicled, IsHistoryOf, connection_of, start_of};
 ghost use Rattle.share.specs.ToldRows.{PartsAreTold};
 
@@ -127,7 +128,10 @@ impl<D: Disk, R: Recorder, L: OneServer> Chronicle<D, R, L> {
     ) -> Option<(Pass<L>, Hand<Row, L>)>
         ensures same { IfSome result (λ r. r.0.connection ≡ r.1.by) }
         ensures none { IfSome result (λ r. entries_by connection_of r.1.by r.1.seen ≡ []) }
+        ensures legal { L.sound ≡ true
+            → IfSome result (λ r. IsLegal L.sectors L.base false r.1.seen) }
     {
+        self.known();
         if hands.given() >= 65_536 {
             return None;
         }
@@ -166,7 +170,7 @@ impl<D: Disk, R: Recorder, L: OneServer> Chronicle<D, R, L> {
 
     /// The server alone.
     pub fn into_shared(self) -> Shared<D, R, L>
-        ensures { result ≡ self.entry.served }
+        ensures { result ≡ self.served }
     {
         let Chronicle {
             shared,

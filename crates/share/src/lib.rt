@@ -31,7 +31,7 @@ pub use chronicle::{Chronicle, RowParts, RowSaid, told_rows};
 pub use connection::{End, exchange, worker};
 pub use door::{Door, Gate, Point};
 pub use keeping::keeper;
-pub use locked::{Locked, Server};
+pub use locked::{Locked, Server, Tidier};
 pub use pass::{OneServer, Pass};
 pub use recorder::{Bytes, FullRecord, Interrupted, NoRecord, Recorder, Row};
 pub use shared::{Answer, Done, RecordError, Shared};

@@ -24,8 +24,8 @@ compare_exchange-found-requires g c =
           (ap (λ n. n.what) offer.1) own c.self.invariant.2 kp c.self.invariant.3),
     )
 
-pub returns-clause-entries_of : goal.returns-clause-entries_of
-returns-clause-entries_of g c =
+pub returns-clause-added : goal.returns-clause-added
+returns-clause-added g c =
     let keep = c.self.inside.seen.log in
     let hand = c.hand.inside.seen.log in
     let both = c.learn.new.self.log in
