@@ -3,6 +3,7 @@ use Rattle.std.specs.Prelude.{◌≡◌, ℕ, List, [], ◌∷◌, Bool, true, f
 use Rattle.history.specs.Notes.{Sight}
 use Rattle.share.specs.declared.recorder.Row.{Row}
 use Rattle.share.specs.History.{IsLegal}
+use Rattle.share.specs.Seat.{Seat}
 use Rattle.share.specs.declared.connection.End.{End}
 use Rattle.share.specs.declared.connection.End.TheVariants.{Closed, EndOfInput, Input, Output, Lost}
 use Rattle.share.specs.declared.connection.End.TheVariants.{OutOfMemory}
@@ -21,6 +22,17 @@ is_lost OutOfMemory = false
 abbrev pub has_lost : List End → Bool
 has_lost [] = false
 has_lost (end ∷ more) = if is_lost end then true else has_lost more
+
+-- a connection that ended: its pass, how it ended, and what its hand knows of the history
+pub record Attended : Type 0 where
+  pub pass : Seat
+  pub end : End
+  pub hand : Sight Row
+
+-- a connection that is to begin: its pass, and its hand
+pub record Entitled : Type 0 where
+  pub pass : Seat
+  pub hand : Sight Row
 
 -- what each of these hands has seen is a legal history of a disk of so many sectors that held these
 -- contents

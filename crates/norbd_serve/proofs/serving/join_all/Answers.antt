@@ -18,5 +18,5 @@ loop-handle-preserved-in-Ok g c = λ kept.
       ],
       ap length e.hands ∙ (length-append c.loop-handle.served.hands.items (c.join-ended.result.hand ∷ []) ∙ (ap (λ n. n + 1) i.3 ∙ sym one_more)),
       (λ sound. subst (AreLegal g.L.OneServer.sectors g.L.OneServer.base) (sym e.hands)
-          (legal_more g.L.OneServer.sectors g.L.OneServer.base c.loop-handle.served.hands.items c.join-ended.result.hand (i.4 sound) (c.join-ended.legal sound))),
+          (legal_more g.L.OneServer.sectors g.L.OneServer.base c.loop-handle.served.hands.items c.join-ended.result.hand (i.4 sound) (e.legal sound))),
     )
