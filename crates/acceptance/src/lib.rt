@@ -4,7 +4,7 @@
 //! There is no product code here. `byte_at` reads a byte of a memory. The chip is
 //! `fault_model::SimChip`. Expected bytes are those of the tables in docs/LAYOUT.md, worked out by
 //! hand. The chip, its table and its driver are tested in `acceptance_chip`, the slots of sectors
-//! in `acceptance_sectors`, and the tests of a crate that has many stand in that crate.
+//! in `acceptance_sectors`.
 
 #![tactic(auto)]
 

@@ -3,8 +3,8 @@
 //!
 //! There is no product code here. `Recorder` is a bus over a simulated chip that counts its frames
 //! and keeps the codes of the first ones. Expected bytes and answers are those of the tables in
-//! docs/CHIP.md and docs/SFDP.md, worked out by hand, and tables of real parts. What stands above
-//! the driver is tested in `acceptance`.
+//! docs/CHIP.md, worked out by hand, and tables of real parts. What is above the driver is tested in
+//! `acceptance`.
 
 #![tactic(auto)]
 

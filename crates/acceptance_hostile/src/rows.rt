@@ -1,6 +1,6 @@
 //! A server that keeps rows, where there is no memory for its record or a row.
 
-ghost use Rattle.std.specs.Prelude.{◌≡◌, ◌*◌, length};
+ghost use Rattle.std.specs.Prelude.{◌≡◌, ◌*◌, length, IsFalse};
 ghost use Rattle.nbd_wire.specs.Lent.{lent_len};
 
 use bitflags::Flags;
@@ -75,6 +75,8 @@ fn keep_rows<K: OneServer, L: OneServer, A: Abort>(
     requires names { (first.name ≡ K.name) × (blank.name ≡ L.name) }
     requires parts { (first.parts ≡ K.parts) × (blank.parts ≡ L.parts) }
     requires all { (first.parts ≡ 65537) × (blank.parts ≡ 65537) }
+    requires unsaid { IsFalse K.sound }
+    requires also_unsaid { IsFalse L.sound }
 {
     let held = spend(alloc, 0)?;
     let refused = Shared::<PlainDisk, FullRecord, K>::recording(alloc, disk, first);

@@ -1,4 +1,4 @@
-//! A chip's own table, cut short and with each byte changed, by the nine rules of docs/SFDP.md
+//! A chip's own table, cut short and with each byte changed, by the nine rules of docs/CHIP.md
 //! written out anew.
 
 use crate::beginning_of;

@@ -1,7 +1,7 @@
 //! The server of one disk: its rows, its replies on the wire, and a disk whose chip never ends a
 //! write.
 
-ghost use Rattle.std.specs.Prelude.{◌≡◌, ◌*◌, ◌<◌, ◌≤◌, length};
+ghost use Rattle.std.specs.Prelude.{◌≡◌, ◌*◌, ◌<◌, ◌≤◌, length, IsFalse};
 ghost use Rattle.nbd_wire.specs.Lent.{lent_len};
 
 use crate::heads::READ_OF_SECTOR_1;
@@ -202,6 +202,8 @@ fn serve_three<K: OneServer, L: OneServer, A: Abort>(
     requires names { (kept.name ≡ K.name) × (blank.name ≡ L.name) }
     requires parts { (kept.parts ≡ K.parts) × (blank.parts ≡ L.parts) }
     requires all { (kept.parts ≡ 65537) × (blank.parts ≡ 65537) }
+    requires unsaid { IsFalse K.sound }
+    requires also_unsaid { IsFalse L.sound }
 {
     match Shared::<PlainDisk, FullRecord, K>::recording(alloc, recorded, kept) {
         Ok(mut server) => run_three(rt, alloc, "a recording server", &mut server, 3)?,
@@ -308,6 +310,7 @@ fn write_slowly<L: OneServer, M: Ledger, A: Abort>(
     requires name { blank.name ≡ L.name }
     requires parts { blank.parts ≡ L.parts }
     requires all { blank.parts ≡ 65537 }
+    requires unsaid { IsFalse L.sound }
     requires tally_name { tally.name ≡ M.name }
     requires tally_parts { tally.parts ≡ M.parts }
     requires some { 0 < M.parts }

@@ -25,6 +25,11 @@ const FLUSH: u16 = 3;
 
 const TRIM: u16 = 4;
 
+/// A command that this server doesn't know.
+const CACHE: u16 = 5;
+
+const WRITE_ZEROES: u16 = 6;
+
 /// The errors that refuse one.
 const INVALID: u32 = 22;
 
@@ -125,6 +130,7 @@ impl Clients {
         match self.dice.below(100) {
             0..=44 => self.add_write(alloc, line, first, count),
             45..=79 => self.add_read(alloc, line, first, count),
+            80..=87 => self.add_zeros(alloc, line, first, count),
             _ => self.add_other(alloc, line, first, count),
         }
     }
@@ -169,6 +175,27 @@ impl Clients {
         line.add(bytes.as_slice(), Answer::Data(cookie, first, count))
     }
 
+    /// A TRIM or a WRITE_ZEROES, with any flags that it may have.
+    fn add_zeros(
+        &mut self,
+        alloc: Global,
+        line: &mut Line,
+        first: u32,
+        count: u32,
+    ) -> Result<(), Fail> {
+        self.cookie = self.cookie.wrapping_add(1);
+        let cookie = self.cookie;
+        let (kind, flags) = if self.dice.below(2) == 0 {
+            (TRIM, self.dice.below(2) as u16)
+        } else {
+            (WRITE_ZEROES, self.dice.below(4) as u16)
+        };
+        let length = count.wrapping_mul(512);
+        let offset = u64::from(first).wrapping_mul(512);
+        let bytes = request(alloc, flags, kind, cookie, offset, length, 0)?;
+        line.add(bytes.as_slice(), Answer::Zeroed(cookie, first, count))
+    }
+
     /// A FLUSH, a request that is refused, or one that closes.
     fn add_other(
         &mut self,
@@ -185,7 +212,7 @@ impl Clients {
             .wrapping_mul(512)
             .wrapping_sub(u64::from(length));
         let invalid = Answer::Head(cookie, INVALID);
-        let (flags, kind, offset, length, payload, answer) = match self.dice.below(20) {
+        let (flags, kind, offset, length, payload, answer) = match self.dice.below(24) {
             0..=5 => (1, FLUSH, 0, 0, 0, Answer::Head(cookie, 0)),
             6 => (0, FLUSH, 0, length, 0, invalid),
             7 | 8 => (0, DISCONNECT, 0, 0, 0, Answer::Close),
@@ -203,7 +230,18 @@ impl Clients {
             15 => (0, READ, past, length, 0, invalid),
             16 => (0, READ, offset, 0, 0, invalid),
             17 => (0, READ, offset, length ^ 1, 0, invalid),
-            18 => (0, TRIM, offset, length, 0, invalid),
+            18 => (0, CACHE, offset, length, 0, invalid),
+            19 => (2, TRIM, offset, length, 0, invalid),
+            20 => (0, TRIM, past, length, 0, invalid),
+            21 => (
+                2,
+                WRITE_ZEROES,
+                past,
+                length,
+                0,
+                Answer::Head(cookie, NO_SPACE),
+            ),
+            22 => (4, WRITE_ZEROES, offset, length, 0, invalid),
             _ => {
                 return line.add(&[0; 28], Answer::Close);
             }

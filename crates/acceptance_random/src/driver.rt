@@ -20,7 +20,9 @@ const MASKS: [u8; 6] = [0x00, 0xFF, 0xA5, 0xFE, 0xFC, 0xF8];
 pub(crate) struct Seen {
     pub(crate) writes: u32,
     pub(crate) reads: u32,
+    pub(crate) zeroings: u32,
     pub(crate) lost_writes: u32,
+    pub(crate) lost_zeroings: u32,
     pub(crate) lost_reads: u32,
     pub(crate) lost_tidyings: u32,
     pub(crate) lost_restores: u32,
@@ -84,7 +86,9 @@ impl Driver {
             seen: Seen {
                 writes: 0,
                 reads: 0,
+                zeroings: 0,
                 lost_writes: 0,
+                lost_zeroings: 0,
                 lost_reads: 0,
                 lost_tidyings: 0,
                 lost_restores: 0,
@@ -383,7 +387,7 @@ impl Driver {
         Ok(())
     }
 
-    /// The power went in a unit: one that reads or writes.
+    /// The power went in a unit: one that reads, writes or zeroes.
     fn interrupt(&mut self, answer: Answer) -> Result<(), Fail> {
         match answer {
             Answer::Data(_, _, _) => {
@@ -392,6 +396,10 @@ impl Driver {
             Answer::Written(_, first, count, stamp) => {
                 self.seen.lost_writes = self.seen.lost_writes.wrapping_add(1);
                 self.sectors.write(first, count, stamp, false)?;
+            }
+            Answer::Zeroed(_, first, count) => {
+                self.seen.lost_zeroings = self.seen.lost_zeroings.wrapping_add(1);
+                self.sectors.zero(first, count, false)?;
             }
             _ => return Err(self.wrong("a loss in a unit that touches no sector")),
         }
@@ -421,6 +429,11 @@ impl Driver {
             Answer::Written(cookie, first, count, stamp) => {
                 self.seen.writes = self.seen.writes.wrapping_add(1);
                 self.sectors.write(first, count, stamp, true)?;
+                Ok(reply == reply_head(self.alloc, cookie, 0)?.as_slice())
+            }
+            Answer::Zeroed(cookie, first, count) => {
+                self.seen.zeroings = self.seen.zeroings.wrapping_add(1);
+                self.sectors.zero(first, count, true)?;
                 Ok(reply == reply_head(self.alloc, cookie, 0)?.as_slice())
             }
             _ => Ok(false),

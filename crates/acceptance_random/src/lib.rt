@@ -4,7 +4,8 @@
 //!
 //! There is no product code here. `Dice` draws the numbers. `clients` draws what is sent, with the
 //! answer that a plain array owes it; `driver` draws the events and judges each answer; `sectors`
-//! is the array, in which a sector of an interrupted WRITE is old or new until it is read.
+//! is the array, in which a sector of an interrupted WRITE, TRIM or WRITE_ZEROES is old or new
+//! until it is read.
 
 #![tactic(auto)]
 

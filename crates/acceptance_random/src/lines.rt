@@ -21,6 +21,8 @@ pub(crate) enum Answer {
     Data(u64, u32, u32),
     /// That a WRITE stands: the same, and the stamp of the first sector.
     Written(u64, u32, u32, u32),
+    /// That the zeros of a TRIM or a WRITE_ZEROES stand: the cookie, the first sector, how many.
+    Zeroed(u64, u32, u32),
 }
 
 /// How far a client has come.

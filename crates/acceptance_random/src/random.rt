@@ -47,6 +47,10 @@ fn random_events_are_answered_as_by_an_array_of_sectors(rt: HostRuntime) -> Resu
             "seed {seed}: {seen:?}"
         );
         assert!(rt;
+            seen.zeroings > 200 && seen.lost_zeroings > 2,
+            "seed {seed}: {seen:?}"
+        );
+        assert!(rt;
             seen.lost_tidyings > 20 && seen.lost_restores > 10,
             "seed {seed}: {seen:?}"
         );

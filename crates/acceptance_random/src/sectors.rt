@@ -55,14 +55,28 @@ impl Sectors {
         is_whole: bool,
     ) -> Result<(), Fail> {
         for k in 0..count {
-            let Some(stamps) = self.stamps.get_mut(first.saturating_add(k) as usize) else {
-                return Err(Fail::new("a sector past the disk"));
-            };
-            if is_whole {
-                stamps.clear();
-            }
-            stamps.push(stamp.wrapping_add(k))?;
+            self.put(first.saturating_add(k), stamp.wrapping_add(k), is_whole)?;
         }
+        Ok(())
+    }
+
+    /// Sectors became zeros: all of them, or where that was interrupted each of them perhaps.
+    pub(crate) fn zero(&mut self, first: u32, count: u32, is_whole: bool) -> Result<(), Fail> {
+        for k in 0..count {
+            self.put(first.saturating_add(k), 0, is_whole)?;
+        }
+        Ok(())
+    }
+
+    /// A sector has this stamp now, or where that was interrupted perhaps.
+    fn put(&mut self, sector: u32, stamp: u32, is_whole: bool) -> Result<(), Fail> {
+        let Some(stamps) = self.stamps.get_mut(sector as usize) else {
+            return Err(Fail::new("a sector past the disk"));
+        };
+        if is_whole {
+            stamps.clear();
+        }
+        stamps.push(stamp)?;
         Ok(())
     }
 

@@ -10,6 +10,8 @@
 #[cfg(test)]
 mod chips;
 #[cfg(test)]
+mod clearing;
+#[cfg(test)]
 mod copying;
 #[cfg(test)]
 mod cuts;

@@ -1,7 +1,7 @@
 //! Eight clients at once on an image in a file: random READs and WRITEs in pieces, each client on
 //! its own sectors.
 
-ghost use Rattle.std.specs.Prelude.{◌≡◌, ◌*◌, ◌<◌, ◌≤◌, length};
+ghost use Rattle.std.specs.Prelude.{◌≡◌, ◌*◌, ◌<◌, ◌≤◌, length, IsFalse};
 
 use crate::clients::{ask, begin, is_answered};
 use crate::own::own_sectors;
@@ -247,6 +247,7 @@ where
     requires name { blank.name ≡ L.name }
     requires parts { blank.parts ≡ L.parts }
     requires all { blank.parts ≡ 65537 }
+    requires unsaid { IsFalse L.sound }
 {
     let disk = mounted(rt, alloc)?;
     if disk.sectors() != sectors {

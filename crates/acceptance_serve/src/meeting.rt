@@ -1,6 +1,6 @@
 //! Two clients at once: the first is held in the middle of a WRITE until the second is answered.
 
-ghost use Rattle.std.specs.Prelude.{◌≡◌, ◌*◌, length};
+ghost use Rattle.std.specs.Prelude.{◌≡◌, ◌*◌, length, IsFalse};
 
 use crate::clients::{ask, begin, is_answered};
 use block_device::PlainDisk;
@@ -119,6 +119,7 @@ where
     requires name { blank.name ≡ L.name }
     requires parts { blank.parts ≡ L.parts }
     requires all { blank.parts ≡ 65537 }
+    requires unsaid { IsFalse L.sound }
 {
     let Ok(shared) = Shared::<PlainDisk, FullRecord, L>::recording(alloc, disk, blank) else {
         panic!(rt; "a recording server");

@@ -1,6 +1,6 @@
 //! A whole connection, a keeper and a power loss, without a socket.
 
-ghost use Rattle.std.specs.Prelude.{◌≡◌, ◌*◌, ◌<◌, length};
+ghost use Rattle.std.specs.Prelude.{◌≡◌, ◌*◌, ◌<◌, length, IsFalse};
 ghost use Rattle.nbd_wire.specs.Lent.{lent_len};
 
 use acceptance_nbd::request_head;
@@ -37,7 +37,7 @@ const WHOLE_CONNECTION: [u8; 59] = [
 const ITS_REPLIES: [u8; 120] = [
     0x4e, 0x42, 0x44, 0x4d, 0x41, 0x47, 0x49, 0x43, 0x49, 0x48, 0x41, 0x56, 0x45, 0x4f, 0x50, 0x54,
     0, 3, 0, 3, 0xe8, 0x89, 4, 0x55, 0x65, 0xa9, 0, 0, 0, 7, 0, 0, 0, 3, 0, 0, 0, 12, 0, 0, 0, 0,
-    0, 0, 0, 0, 4, 0, 1, 0x0d, 0, 3, 0xe8, 0x89, 4, 0x55, 0x65, 0xa9, 0, 0, 0, 7, 0, 0, 0, 3, 0, 0,
+    0, 0, 0, 0, 4, 0, 1, 0x6d, 0, 3, 0xe8, 0x89, 4, 0x55, 0x65, 0xa9, 0, 0, 0, 7, 0, 0, 0, 3, 0, 0,
     0, 14, 0, 3, 0, 0, 2, 0, 0, 0, 16, 0, 0, 1, 0, 0, 0, 3, 0xe8, 0x89, 4, 0x55, 0x65, 0xa9, 0, 0,
     0, 7, 0, 0, 0, 1, 0, 0, 0, 0, 0x67, 0x44, 0x66, 0x98, 0, 0, 0, 0, 1, 2, 3, 4, 5, 6, 7, 8,
 ];
@@ -106,6 +106,7 @@ fn work<L: OneServer, M: Ledger, A: Abort>(
     requires name { blank.name ≡ L.name }
     requires parts { blank.parts ≡ L.parts }
     requires all { blank.parts ≡ 65537 }
+    requires unsaid { IsFalse L.sound }
     requires tally { (tally.name ≡ M.name) × (tally.parts ≡ M.parts) × (0 < M.parts) }
 {
     let Ok(mut server) = Shared::<PlainDisk, FullRecord, L>::recording(alloc, disk, blank) else {
@@ -300,6 +301,7 @@ where
     requires name { blank.name ≡ L.name }
     requires parts { blank.parts ≡ L.parts }
     requires all { blank.parts ≡ 65537 }
+    requires unsaid { IsFalse L.sound }
 {
     if disk.sectors() != sectors {
         return Err(Fail::new("another size"));
@@ -335,6 +337,7 @@ where
     requires name { blank.name ≡ L.name }
     requires parts { blank.parts ≡ L.parts }
     requires all { blank.parts ≡ 65537 }
+    requires unsaid { IsFalse L.sound }
 {
     if disk.sectors() != sectors {
         return Err(Fail::new("another size"));

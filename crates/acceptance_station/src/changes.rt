@@ -2,7 +2,7 @@
 
 /// Names, each with the record of a script that arms a loss inside the change of this number (kind
 /// 1), counted from the next one; its last byte, the mask, follows.
-pub(crate) const ARMINGS: [&str; 7] = [
+pub(crate) const ARMINGS: [&str; 8] = [
     // the fourth, the last of a sector's first write: it commits the slot; before it come a
     // descriptor and two pages
     "IN_THE_COMMIT 43 FF 00000006 00000004 01",
@@ -19,6 +19,8 @@ pub(crate) const ARMINGS: [&str; 7] = [
     "AFTER_THE_COPYING 43 FF 00000006 0000000C 01",
     // the second of a TRIM: the retirement of its second sector that has a slot
     "IN_THE_SECOND 43 FF 00000006 00000002 01",
+    // and the third
+    "IN_THE_THIRD 43 FF 00000006 00000003 01",
     // the first of whatever comes
     "IN_THE_FIRST 43 FF 00000006 00000001 01",
 ];

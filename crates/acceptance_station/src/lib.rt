@@ -1,10 +1,10 @@
 //! Tests of the station over the disk on a simulated chip of 64 KiB: worked rows of its
-//! transcripts, and random scripts against a plain array of sectors.
+//! transcripts. Random events against a plain array of sectors are in `acceptance_random`.
 //!
 //! There is no product code here. `record_head` spells the head of a script's record. The rows are
 //! written out by hand, as bytes in hexadecimal digits; those of the negotiation and of the
 //! requests from NBD proto.md, those of the chip from docs/LAYOUT.md. How many changes of the chip
-//! a loss of power comes after stands in `changes` alone.
+//! a loss of power comes after is written in `changes` alone.
 
 #![tactic(auto)]
 

@@ -3,7 +3,7 @@
 ghost use Rattle.std.specs.Prelude.{◌≡◌, ◌+◌, ◌*◌, ◌%◌, ◌<◌, ◌≤◌, length};
 ghost use Rattle.chip_model.specs.Geometry.{sector_count};
 
-use crate::calls::copy;
+use crate::clock::copy;
 use crate::failure::Failure;
 use nor_driver::Nor;
 use sector_map::SectorMap;

@@ -2,7 +2,7 @@
 
 ghost use Rattle.std.specs.Prelude.{◌≡◌, ◌+◌, ◌*◌, ◌<◌, ◌≤◌, ◌↔◌, [], ◌∷◌};
 
-use crate::chips::Filling;
+use crate::disks::Filling;
 
 /// A call of the disk of a chip of 16 MiB.
 #[derive(Clone, Copy)]

@@ -1,9 +1,10 @@
-//! The calls of a go, and the plain copies beside them.
+//! The calls of a go.
 
 ghost use Rattle.std.specs.Prelude.{◌≡◌, ◌+◌, ◌<◌, ◌≤◌, length, OnOk};
 ghost use Rattle.bench_disk.specs.Call.{call_bytes, calls_of};
 
 use crate::call::Call;
+use crate::disks::SECTORS;
 use crate::failure::Failure;
 use block_device::Disk;
 
@@ -90,23 +91,11 @@ pub fn prepare<D: Disk>(call: Call, disk: &mut D) -> Result<(), Failure>
     }
 }
 
-/// One copy, which no other is merged with.
+/// Writes zeros over all sectors by one call.
 #[inline(never)]
-pub fn copy(from: &[u8], into: &mut [u8])
-    requires { length into.old ≡ length from.now }
-    ensures { into.new ≡ from.now }
+pub fn zero_all<D: Disk>(disk: &mut D) -> Result<(), Failure>
+    requires size { length (D.facts disk.old).contents ≡ 12830720 }
 {
-    into.copy_from_slice(from);
-}
-
-/// So many copies of the same bytes.
-#[inline(never)]
-pub fn copies(from: &[u8], into: &mut [u8], count: u32)
-    requires bytes { length into.old ≡ length from.now }
-    requires some { 0 < count }
-    ensures { into.new ≡ from.now }
-{
-    for _ in 0..count {
-        copy(from, into);
-    }
+    disk.zero(0, SECTORS)?;
+    Ok(())
 }

@@ -3,14 +3,15 @@
 use block_device::DiskError;
 use nor_driver::NorError;
 
-/// Why a mount or a call has no row.
+/// Why a row could not be measured.
 #[derive(Clone, Copy)]
 pub enum Failure {
-    /// There is no memory for the chip or for the bytes to be copied.
+    /// There is no memory for a disk, a station, a connection or the bytes to be copied.
     NoMemory,
     /// The clock told no time.
     NoClock,
-    /// A chip, a format, a mount or a call was refused, or a tidying found nothing to clear.
+    /// A chip, a format, a mount, a call, an event or a connection was refused, a tidying found
+    /// nothing to clear, or not all was told.
     Refused,
 }
 

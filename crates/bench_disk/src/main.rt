@@ -1,46 +1,92 @@
-//! The program `bench_disk`: what the disk on a simulated chip of 16 MiB costs, in nanoseconds a
-//! call, beside a plain copy of as many bytes in the same run; and what the driver and the map
-//! below it cost.
+//! The program `bench_disk`: what the disk on a simulated chip of 16 MiB costs, and the driver and
+//! the map below it; and what READs and WRITEs cost through a station and through `share::worker`,
+//! over that disk and over an array in memory; each in nanoseconds, beside a plain copy of as many
+//! bytes in the same run.
 //!
-//! With the word `run` it measures each mount and each call and prints a row for it. Without words
-//! it prints one fixed line and measures nothing.
+//! With the word `run` it measures all of it and prints a row for each; with `disk`, `station` or
+//! `server` behind that word only this part. Without words it prints one fixed line and measures
+//! nothing.
 //!
-//! Proved are the arithmetic of the figures, the sectors that each call names, and that each timed
-//! tidying cleared something. That a time is the time of its calls is not proved, since no contract
-//! says what a clock tells: the figures are measured. Left to the crates below: the chip
-//! (`fault_model`), its driver, the slots and the map of sectors, and the disk and its format
-//! (`flash_disk`, `block_device`). The disk is mounted as one that isn't sound, so nothing is said
-//! of its contents but their size. Source: own.
+//! Proved are the arithmetic of the figures, the sectors that each call names, that each request
+//! lies on the disk, and that each timed tidying cleared something. That a time is the time of its
+//! calls is not proved, since no contract says what a clock tells: the figures are measured. Left
+//! to the crates below: the chip (`fault_model`), its driver, the slots and the map of sectors, the
+//! disk and its format (`flash_disk`, `block_device`), the station (`station`) and the connection
+//! (`share`). The disk is mounted as one that isn't sound, so nothing is said of its contents but
+//! their size; what is told is counted and dropped. Source: own.
 #![tactic(auto)]
 
 mod below;
 mod call;
 mod calls;
-mod chips;
+mod case;
+mod clock;
+mod commands;
+mod counted;
+mod disks;
+mod events;
 mod failure;
 mod figures;
 mod measure;
 mod measure_below;
+mod measure_case;
+mod requests;
 mod row;
 
 use crate::call::Call;
-use crate::chips::Filling;
+use crate::case::Case;
+use crate::disks::Filling;
 use crate::failure::Failure;
-use crate::measure::{measured_call, measured_mount};
+use crate::measure::{measured_call, measured_check, measured_mount, measured_zero};
 use crate::measure_below::{measured_driver, measured_find, measured_tables};
+use crate::measure_case::{measured_commands, measured_events};
 use crate::row::Row;
 
-/// Whether the words ask for the measurement: the one word `run`.
-fn asks_to_run(rt: &HostRuntime) -> bool {
+/// What the words ask for.
+#[derive(Clone, Copy)]
+enum Asked {
+    Nothing,
+    All,
+    /// The mounts, checks and calls of the disk, and the driver and the map below it.
+    Disk,
+    /// Events through a station.
+    Station,
+    /// Commands through a connection.
+    Server,
+}
+
+/// The part that a word names.
+fn part_of(word: &str) -> Asked {
+    if word == "disk" {
+        Asked::Disk
+    } else if word == "station" {
+        Asked::Station
+    } else if word == "server" {
+        Asked::Server
+    } else {
+        Asked::Nothing
+    }
+}
+
+/// What the words ask for: `run`, and perhaps a part.
+fn read_words(rt: &HostRuntime) -> Asked {
     match std::env::args(rt) {
         Ok(mut words) => {
             let _program = words.next();
             match words.next() {
-                Some(word) => word.as_str() == "run" && words.next().is_none(),
-                None => false,
+                Some(word) => {
+                    if word.as_str() != "run" {
+                        return Asked::Nothing;
+                    }
+                }
+                None => return Asked::Nothing,
+            }
+            match words.next() {
+                Some(word) => part_of(word.as_str()),
+                None => Asked::All,
             }
         }
-        Err(_) => false,
+        Err(_) => Asked::Nothing,
     }
 }
 
@@ -52,25 +98,37 @@ fn print_row(rt: &HostRuntime, measured: Result<Row, Failure>) -> std::io::Resul
     }
 }
 
-/// Measures each mount and prints its row; and one for the table and the index that the last one
-/// makes.
-fn print_mounts(rt: &HostRuntime) -> std::io::Result<()> {
+/// Measures what concerns the disk, and prints a row for each.
+fn print_disk(rt: &HostRuntime) -> std::io::Result<()> {
     for filling in Filling::all() {
         print_row(rt, measured_mount(rt, rt.alloc(), filling))?;
     }
-    print_row(rt, measured_tables(rt, rt.alloc()))
-}
-
-/// Measures the driver and the map below the disk and prints their rows.
-fn print_below(rt: &HostRuntime) -> std::io::Result<()> {
+    print_row(rt, measured_tables(rt, rt.alloc()))?;
+    for filling in Filling::all() {
+        print_row(rt, measured_check(rt, rt.alloc(), filling))?;
+    }
     print_row(rt, measured_driver(rt, rt.alloc()))?;
-    print_row(rt, measured_find(rt, rt.alloc()))
-}
-
-/// Measures each call and prints its row.
-fn print_calls(rt: &HostRuntime) -> std::io::Result<()> {
+    print_row(rt, measured_find(rt, rt.alloc()))?;
     for call in Call::all() {
         print_row(rt, measured_call(rt, rt.alloc(), call))?;
+    }
+    print_row(rt, measured_zero(rt, rt.alloc()))
+}
+
+/// Measures each case through a station, and prints its row.
+fn print_station(rt: &HostRuntime) -> std::io::Result<()> {
+    println!(rt; "through a station")?;
+    for case in Case::longest() {
+        print_row(rt, measured_events(rt, rt.alloc(), case))?;
+    }
+    Ok(())
+}
+
+/// Measures each case through a connection, and prints its row.
+fn print_server(rt: &HostRuntime) -> std::io::Result<()> {
+    println!(rt; "through a connection")?;
+    for case in Case::all() {
+        print_row(rt, measured_commands(rt, rt.alloc(), case))?;
     }
     Ok(())
 }
@@ -80,16 +138,20 @@ fn print_failure(rt: &HostRuntime, failure: Failure) -> std::io::Result<()> {
     match failure {
         Failure::NoMemory => eprintln!(rt; "bench_disk: no memory"),
         Failure::NoClock => eprintln!(rt; "bench_disk: no clock"),
-        Failure::Refused => eprintln!(rt; "bench_disk: a chip or a call was refused"),
+        Failure::Refused => eprintln!(rt; "bench_disk: a disk, a call or a connection was refused"),
     }
 }
 
 fn main(rt: HostRuntime) -> std::io::Result<()> {
-    if asks_to_run(&rt) {
-        print_mounts(&rt)?;
-        print_below(&rt)?;
-        print_calls(&rt)
-    } else {
-        println!(rt; "bench_disk: give the word run to measure")
+    match read_words(&rt) {
+        Asked::Nothing => println!(rt; "bench_disk: give the word run to measure"),
+        Asked::All => {
+            print_disk(&rt)?;
+            print_station(&rt)?;
+            print_server(&rt)
+        }
+        Asked::Disk => print_disk(&rt),
+        Asked::Station => print_station(&rt),
+        Asked::Server => print_server(&rt),
     }
 }

@@ -1,18 +1,18 @@
-//! The measurement of a mount and of a call.
+//! The measurement of a mount, of a call, and of what goes over the whole disk.
 
-ghost use Rattle.std.specs.Prelude.{◌≡◌, length, IfOk, OnErr, OnOk};
+ghost use Rattle.std.specs.Prelude.{◌≡◌, length, IfOk};
 ghost use Rattle.bench_disk.specs.Call.{call_bytes};
 
 use crate::call::Call;
-use crate::calls::{calls, copies, prepare};
-use crate::chips::{Filling, OnSim, filled, mounted, new_disk};
+use crate::calls::{calls, prepare, zero_all};
+use crate::clock::{COPIES, now, time_of_copies};
+use crate::disks::{CHIP_BYTES, Filling, OnSim, filled, mounted, new_disk};
 use crate::failure::Failure;
 use crate::figures::{nanos, per_call};
 use crate::row::Row;
 use block_device::Disk;
 use std::alloc::Global;
 use std::rt::Clock;
-use std::time::Instant;
 
 /// How often the calls are timed; the least time counts. A chip is filled for each go, which takes
 /// a while.
@@ -21,34 +21,11 @@ const GOES: u32 = 5;
 /// How often a mount is timed; the least time counts.
 const MOUNTS: u32 = 20;
 
-/// How many copies are timed in one go.
-pub const COPIES: u32 = 1_000;
-
 /// The bytes to which a mount is compared: four for each of the 4,096 blocks, as long as a header.
 pub const HEADERS: usize = 16_384;
 
-/// What the clock tells.
-pub fn now(clock: &impl Clock) -> Result<Instant, Failure>
-    ensures { OnErr result (result ≡ Err Failure.NoClock) }
-{
-    match Instant::now(clock) {
-        Ok(instant) => Ok(instant),
-        Err(_) => Err(Failure::NoClock),
-    }
-}
-
-/// Times one go of the copies, in nanoseconds.
-pub fn time_of_copies(clock: &impl Clock, from: &[u8], into: &mut [u8]) -> Result<u64, Failure>
-    requires { length into.old ≡ length from.now }
-    ensures copied { OnOk result (into.new ≡ from.now) }
-    ensures size { length into.new ≡ length into.old }
-    ensures clock { OnErr result (result ≡ Err Failure.NoClock) }
-{
-    let start = now(clock)?;
-    copies(from, into, COPIES);
-    let end = now(clock)?;
-    Ok(nanos(end.duration_since(start)))
-}
+/// The bytes of the disk: 25,060 sectors.
+const DISK_BYTES: usize = 12_830_720;
 
 /// Times one go of the calls on a new disk, in nanoseconds.
 fn time_of_calls<C: Clock>(
@@ -84,8 +61,8 @@ fn time_of_mount(clock: &impl Clock, alloc: Global, disk: OnSim) -> Result<(OnSi
 pub fn measured_mount<C: Clock>(clock: &C, alloc: Global, filling: Filling) -> Result<Row, Failure>
     ensures bytes { IfOk result (λ row. row.bytes ≡ 16384) }
 {
-    let from = filled(alloc, HEADERS)?;
-    let mut into = filled(alloc, HEADERS)?;
+    let from = filled(alloc, HEADERS, 0xFF)?;
+    let mut into = filled(alloc, HEADERS, 0xFF)?;
     let mut disk = new_disk(alloc, filling)?;
     let mut time = u64::MAX;
     let mut copy = u64::MAX;
@@ -93,10 +70,10 @@ pub fn measured_mount<C: Clock>(clock: &C, alloc: Global, filling: Filling) -> R
         let (again, this) = time_of_mount(clock, alloc, disk)?;
         disk = again;
         time = time.min(this);
-        copy = copy.min(time_of_copies(clock, &from, &mut into)?);
+        copy = copy.min(time_of_copies(clock, &from, &mut into, COPIES)?);
     }
     Ok(Row {
-        name: filling.name(),
+        name: filling.mount_name(),
         bytes: HEADERS as u64,
         call: time,
         copy: per_call(copy, COPIES),
@@ -108,18 +85,83 @@ pub fn measured_mount<C: Clock>(clock: &C, alloc: Global, filling: Filling) -> R
 pub fn measured_call<C: Clock>(clock: &C, alloc: Global, call: Call) -> Result<Row, Failure>
     ensures bytes { IfOk result (λ row. row.bytes ≡ call_bytes call) }
 {
-    let from = filled(alloc, call.bytes())?;
-    let mut buffer = filled(alloc, call.bytes())?;
+    let from = filled(alloc, call.bytes(), 0xFF)?;
+    let mut buffer = filled(alloc, call.bytes(), 0xFF)?;
     let mut time = u64::MAX;
     let mut copy = u64::MAX;
     for _go in 0..GOES {
         time = time.min(time_of_calls(clock, alloc, call, &mut buffer)?);
-        copy = copy.min(time_of_copies(clock, &from, &mut buffer)?);
+        copy = copy.min(time_of_copies(clock, &from, &mut buffer, COPIES)?);
     }
     Ok(Row {
         name: call.name(),
         bytes: call.bytes() as u64,
         call: per_call(time, call.calls()),
         copy: per_call(copy, COPIES),
+    })
+}
+
+/// Times a `check` of a disk, in nanoseconds.
+fn time_of_check(clock: &impl Clock, disk: &mut OnSim) -> Result<u64, Failure> {
+    let start = now(clock)?;
+    let checked = disk.check();
+    let end = now(clock)?;
+    if checked? {
+        Ok(nanos(end.duration_since(start)))
+    } else {
+        Err(Failure::Refused)
+    }
+}
+
+/// Measures the check of a chip, which reads all its data blocks once, beside a copy of as many
+/// bytes as the chip has; the least times count.
+pub fn measured_check<C: Clock>(clock: &C, alloc: Global, filling: Filling) -> Result<Row, Failure>
+    ensures bytes { IfOk result (λ row. row.bytes ≡ 16777216) }
+{
+    let from = filled(alloc, CHIP_BYTES, 0xFF)?;
+    let mut into = filled(alloc, CHIP_BYTES, 0xFF)?;
+    let mut disk = new_disk(alloc, filling)?;
+    let mut time = u64::MAX;
+    let mut copy = u64::MAX;
+    for _go in 0..GOES {
+        time = time.min(time_of_check(clock, &mut disk)?);
+        copy = copy.min(time_of_copies(clock, &from, &mut into, 1)?);
+    }
+    Ok(Row {
+        name: filling.check_name(),
+        bytes: CHIP_BYTES as u64,
+        call: time,
+        copy,
+    })
+}
+
+/// Times a `zero` of the whole disk on a new full chip, in nanoseconds.
+fn time_of_zero(clock: &impl Clock, alloc: Global) -> Result<u64, Failure> {
+    let mut disk = new_disk(alloc, Filling::Full)?;
+    let start = now(clock)?;
+    let made = zero_all(&mut disk);
+    let end = now(clock)?;
+    made?;
+    Ok(nanos(end.duration_since(start)))
+}
+
+/// Measures a `zero` of the whole disk, of which each sector was written, beside a copy of as many
+/// bytes; the least times count.
+pub fn measured_zero<C: Clock>(clock: &C, alloc: Global) -> Result<Row, Failure>
+    ensures bytes { IfOk result (λ row. row.bytes ≡ 12830720) }
+{
+    let from = filled(alloc, DISK_BYTES, 0)?;
+    let mut into = filled(alloc, DISK_BYTES, 0xFF)?;
+    let mut time = u64::MAX;
+    let mut copy = u64::MAX;
+    for _go in 0..GOES {
+        time = time.min(time_of_zero(clock, alloc)?);
+        copy = copy.min(time_of_copies(clock, &from, &mut into, 1)?);
+    }
+    Ok(Row {
+        name: "zero of the whole disk",
+        bytes: DISK_BYTES as u64,
+        call: time,
+        copy,
     })
 }

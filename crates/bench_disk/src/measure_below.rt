@@ -4,10 +4,11 @@ ghost use Rattle.std.specs.Prelude.{◌≡◌, length, IfOk};
 ghost use Rattle.chip_model.specs.Geometry.{sector_count};
 
 use crate::below::{finds, reads, slot_copies};
-use crate::chips::{CHIP_BYTES, Filling, SECTORS, filled, new_disk};
+use crate::clock::{COPIES, now, time_of_copies};
+use crate::disks::{CHIP_BYTES, Filling, SECTORS, filled, new_disk};
 use crate::failure::Failure;
 use crate::figures::{nanos, per_call};
-use crate::measure::{COPIES, HEADERS, now, time_of_copies};
+use crate::measure::HEADERS;
 use crate::row::Row;
 use erase_journal::Journal;
 use fault_model::SimChip;
@@ -106,8 +107,8 @@ fn time_of_slot_copies(clock: &impl Clock, chip: &[u8], buffer: &mut [u8]) -> Re
 
 /// Measures the driver's READ of a sector where it lies, on a full chip.
 pub fn measured_driver<C: Clock>(clock: &C, alloc: Global) -> Result<Row, Failure> {
-    let list = filled(alloc, CHIP_BYTES)?;
-    let mut buffer = filled(alloc, 512)?;
+    let list = filled(alloc, CHIP_BYTES, 0xFF)?;
+    let mut buffer = filled(alloc, 512, 0xFF)?;
     let mut driver = full_driver(alloc)?;
     let mut time = u64::MAX;
     let mut copy = u64::MAX;
@@ -125,8 +126,8 @@ pub fn measured_driver<C: Clock>(clock: &C, alloc: Global) -> Result<Row, Failur
 
 /// Measures `find` of the same sectors.
 pub fn measured_find<C: Clock>(clock: &C, alloc: Global) -> Result<Row, Failure> {
-    let list = filled(alloc, CHIP_BYTES)?;
-    let mut buffer = filled(alloc, 512)?;
+    let list = filled(alloc, CHIP_BYTES, 0xFF)?;
+    let mut buffer = filled(alloc, 512, 0xFF)?;
     let mut map = full_map(alloc)?;
     let mut time = u64::MAX;
     let mut copy = u64::MAX;
@@ -184,8 +185,8 @@ fn time_of_tables(
 
 /// Measures the making of the table and the index of a full chip.
 pub fn measured_tables<C: Clock>(clock: &C, alloc: Global) -> Result<Row, Failure> {
-    let from = filled(alloc, HEADERS)?;
-    let mut into = filled(alloc, HEADERS)?;
+    let from = filled(alloc, HEADERS, 0xFF)?;
+    let mut into = filled(alloc, HEADERS, 0xFF)?;
     let mut driver = full_driver(alloc)?;
     let mut time = u64::MAX;
     let mut copy = u64::MAX;
@@ -193,7 +194,7 @@ pub fn measured_tables<C: Clock>(clock: &C, alloc: Global) -> Result<Row, Failur
         let (again, this) = time_of_tables(clock, alloc, driver)?;
         driver = again;
         time = time.min(this);
-        copy = copy.min(time_of_copies(clock, &from, &mut into)?);
+        copy = copy.min(time_of_copies(clock, &from, &mut into, COPIES)?);
     }
     Ok(Row {
         name: "its table and index alone",

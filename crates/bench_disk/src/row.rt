@@ -1,14 +1,15 @@
 //! A row of the table.
 
+use crate::figures::{a_byte, a_second};
 use std::fmt;
 
-/// What was measured of a mount or of a call, in the least of the goes.
+/// What was measured, in the least of the goes.
 #[derive(Clone, Copy)]
 pub struct Row {
     pub name: &'static str,
     /// The bytes that one copy copies.
     pub bytes: u64,
-    /// Nanoseconds of one call.
+    /// Nanoseconds of one call, event or command.
     pub call: u64,
     /// Nanoseconds of one copy.
     pub copy: u64,
@@ -36,17 +37,33 @@ impl fmt::Display for InThousands {
     }
 }
 
+/// Thousandths as a number with three places behind the point.
+#[derive(Clone, Copy)]
+pub struct InWhole(pub u64);
+
+impl fmt::Display for InWhole {
+    fn fmt<W: fmt::Write>(&self, f: &mut fmt::Formatter<W>) -> fmt::Result {
+        let (whole, part) = (self.0 / 1_000, self.0 % 1_000);
+        write!(f, "{whole}.{part:03}")
+    }
+}
+
 impl fmt::Display for Row {
     fn fmt<W: fmt::Write>(&self, f: &mut fmt::Formatter<W>) -> fmt::Result {
         let name = self.name;
-        let (bytes, call, copy) = (
-            InThousands(self.bytes),
+        let (call, second, each) = (
             InThousands(self.call),
+            InThousands(a_second(self.call)),
+            InWhole(a_byte(self.call, self.bytes)),
+        );
+        let (bytes, copy, copied) = (
+            InThousands(self.bytes),
             InThousands(self.copy),
+            InWhole(a_byte(self.copy, self.bytes)),
         );
         write!(
             f,
-            "{name:<27}{call} ns a call, plain copy of {bytes} bytes {copy} ns"
+            "{name:<31}{call} ns, {second} a second, {each} ns a byte; plain copy of {bytes} bytes {copy} ns, {copied} ns a byte"
         )
     }
 }

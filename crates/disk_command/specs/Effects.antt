@@ -6,7 +6,7 @@ use Rattle.block_device.specs.declared.disk.DiskError.TheVariants.{Cut, Slow}
 use Rattle.block_device.specs.Facts.{Facts}
 use Rattle.block_device.specs.Contents.{Outcome}
 use Rattle.nbd_wire.specs.declared.command.Command.{Command}
-use Rattle.nbd_wire.specs.Commands.{has_range}
+use Rattle.nbd_wire.specs.Commands.{touches_chip}
 use Rattle.nbd_transmission.specs.Apply.{changed_by}
 
 -- what a run of an accepted command leaves of the contents
@@ -21,11 +21,11 @@ CommandLeaves old command payload (Err Slow) new = Unit {0}
 abbrev pub CommandLatches : {T : Type 0} → Command → Facts → Result T DiskError → Facts → Type 0
 CommandLatches command old (Ok _) new =
     (old.cut ≡ false) × (new.cut ≡ false) × (new.slow ≡ old.slow)
-    × (has_range command.kind ≡ true → old.slow ≡ false)
+    × (touches_chip command.kind ≡ true → old.slow ≡ false)
 CommandLatches command old (Err Cut) new =
     ((old.cut ≡ true)
-    ⊎ ((has_range command.kind ≡ true) × (old.slow ≡ false) × (old.cuts < new.cuts)))
+    ⊎ ((touches_chip command.kind ≡ true) × (old.slow ≡ false) × (old.cuts < new.cuts)))
     × (new.cut ≡ true) × (new.slow ≡ old.slow)
 CommandLatches command old (Err Slow) new =
-    (has_range command.kind ≡ true) × (old.cut ≡ false)
+    (touches_chip command.kind ≡ true) × (old.cut ≡ false)
     × ((old.slow ≡ true) ⊎ (old.slows < new.slows)) × (new.cut ≡ false) × (new.slow ≡ true)

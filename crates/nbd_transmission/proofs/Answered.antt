@@ -5,7 +5,7 @@ use Rattle.nbd_wire.specs.declared.request.Request.{Request}
 use Rattle.nbd_wire.specs.declared.command.Command.{Command}
 use Rattle.nbd_wire.specs.declared.phase.Phase.TheVariants.{Transmitting, Closed}
 use Rattle.nbd_wire.specs.Commands.{command_kind, command_in, is_write, is_disconnect, judge_of}
-use Rattle.nbd_wire.proofs.CommandLaws.{accepted_short, write_moves_data}
+use Rattle.nbd_wire.proofs.CommandLaws.{accepted_short, write_lends_data}
 use Rattle.nbd_wire.specs.Units.{payload_len, after_request}
 use Rattle.nbd_transmission.specs.declared.transmission.Next.{Next}
 use Rattle.nbd_transmission.specs.declared.transmission.Next.TheVariants.{More, Close}
@@ -57,5 +57,5 @@ pub accepted_is_short : (sectors : ℕ) (r : Option Request) → is_accepted_wri
 accepted_is_short sectors None h = omega arith
 accepted_is_short sectors (Some r) h =
     let parts = both (is_write (command_kind r.kind)) (is_none (judge_of (command_in r) sectors)) h in
-    let short = accepted_short (command_in r) sectors (write_moves_data (command_kind r.kind) parts.0) (none_of (judge_of (command_in r) sectors) parts.1) in
+    let short = accepted_short (command_in r) sectors (write_lends_data (command_kind r.kind) parts.0) (none_of (judge_of (command_in r) sectors) parts.1) in
     rw parts.0 short

@@ -22,7 +22,7 @@ pub fn judge(command: &Command, sectors: u32) -> Option<u32>
     if !command.kind.allowed_flags().contains(command.flags) {
         return Some(EINVAL);
     }
-    if command.kind.moves_data() && command.length > MAX_LEN {
+    if command.kind.has_limit() && command.length > MAX_LEN {
         return Some(EINVAL);
     }
     match command.kind {

@@ -5,7 +5,7 @@ use Rattle.std.proofs.Math.Dec.{ltb}
 use Rattle.nbd_wire.specs.declared.command.Command.{Command}
 use Rattle.nbd_wire.specs.declared.command.CommandKind.{CommandKind}
 use Rattle.nbd_wire.specs.declared.command.CommandKind.TheVariants.{Write, Disconnect, Unknown}
-use Rattle.nbd_wire.specs.Commands.{is_served, is_write, moves_data, has_range, is_multiple, checks, first_failing, judge_of}
+use Rattle.nbd_wire.specs.Commands.{is_served, is_write, lends_data, has_limit, has_range, is_multiple, checks, first_failing, judge_of}
 
 passes_first : (b : Bool) (e : ℕ) (o : Option ℕ) → cond b (Some e) o ≡ None → (b ≡ false) × (o ≡ None)
 passes_first true e o h = cc
@@ -38,12 +38,9 @@ not_zero : (n : ℕ) → eqb n 0 ≡ false → 0 < n
 not_zero zero h = cc
 not_zero (suc n) h = omega arith
 
-pub write_moves_data : (k : CommandKind) → is_write k ≡ true → moves_data k ≡ true
-write_moves_data Write e = refl
-write_moves_data k e = cc
-
-pub mover_has_range : (k : CommandKind) → moves_data k ≡ true → has_range k ≡ true
-mover_has_range k e = rw e refl
+pub write_lends_data : (k : CommandKind) → is_write k ≡ true → lends_data k ≡ true
+write_lends_data Write e = refl
+write_lends_data k e = cc
 
 -- an accepted command is READ, WRITE, FLUSH, TRIM or WRITE_ZEROES
 pub accepted_is_served : (c : Command) (sectors : ℕ) → judge_of c sectors ≡ None → is_served c.kind ≡ true
@@ -68,7 +65,7 @@ accepted_range c sectors ranged h =
     (not_zero c.length second.0, eqb-true _ _ (not_is_false (is_multiple c.offset) second.1), eqb-true _ _ (not_is_false (is_multiple c.length) first.1), ltb-false (512 * sectors) (c.offset + c.length) ends)
 
 -- an accepted READ or WRITE has at most 65,536 bytes
-pub accepted_short : (c : Command) (sectors : ℕ) → moves_data c.kind ≡ true → judge_of c sectors ≡ None → c.length ≤ 65536
+pub accepted_short : (c : Command) (sectors : ℕ) → has_limit c.kind ≡ true → judge_of c sectors ≡ None → c.length ≤ 65536
 unfolding judge_of
-accepted_short c sectors moves h =
-    ltb-false 65536 c.length (and_is_false (moves_data c.kind) (ltb 65536 c.length) moves (passes (checks c sectors) 4 h))
+accepted_short c sectors limited h =
+    ltb-false 65536 c.length (and_is_false (has_limit c.kind) (ltb 65536 c.length) limited (passes (checks c sectors) 4 h))

@@ -46,13 +46,23 @@ is_zeroing Trim = true
 is_zeroing WriteZeroes = true
 is_zeroing _ = false
 
--- the commands that carry the bytes of their range, to the server or from it
-abbrev pub moves_data : CommandKind → Bool
-moves_data kind = is_read kind || is_write kind
+-- The commands to which the bytes of their range are lent: a WRITE's payload, the room for a READ's
+-- data.
+abbrev pub lends_data : CommandKind → Bool
+lends_data kind = is_read kind || is_write kind
+
+-- so their length has a limit
+abbrev pub has_limit : CommandKind → Bool
+has_limit kind = lends_data kind
 
 -- the commands that have a range of sectors
 abbrev pub has_range : CommandKind → Bool
-has_range kind = moves_data kind || is_zeroing kind
+has_range kind = lends_data kind || is_zeroing kind
+
+-- They touch the chip: a loss of power or a slow operation may meet them. A FLUSH finds nothing to
+-- do.
+abbrev pub touches_chip : CommandKind → Bool
+touches_chip kind = has_range kind
 
 -- the commands that are answered by a reply with error 0 where nothing is wrong with them
 abbrev pub is_served : CommandKind → Bool
@@ -93,7 +103,7 @@ checks c sectors =
           || not (is_multiple c.length)),
       EINVAL,
     )
-    ∷ (moves_data c.kind && nat_lt MAX_LEN c.length, EINVAL)
+    ∷ (has_limit c.kind && nat_lt MAX_LEN c.length, EINVAL)
     ∷ (
       has_range c.kind && nat_lt (SECTOR_LEN * sectors) (c.offset + c.length),
       past_end_error c.kind,

@@ -3,11 +3,11 @@
 use Rattle.std.specs.Prelude.{ℕ, ◌==◌, List, [], if◌then◌else◌}
 use Rattle.nbd_wire.specs.declared.command.Command.{Command}
 use Rattle.nbd_wire.specs.declared.command.CommandKind.{CommandKind}
-use Rattle.nbd_wire.specs.Commands.{is_read, is_write, moves_data}
+use Rattle.nbd_wire.specs.Commands.{is_read, is_write, lends_data}
 
 -- how many they are
 abbrev pub lent_len_of : CommandKind → Command → ℕ
-lent_len_of kind c = if moves_data kind then c.length else 0
+lent_len_of kind c = if lends_data kind then c.length else 0
 
 abbrev pub lent_len : Command → ℕ
 lent_len c = lent_len_of c.kind c

@@ -1,8 +1,8 @@
 //! What a request asks for.
 
 ghost use Rattle.std.specs.Prelude.{◌≡◌};
-ghost use Rattle.nbd_wire.specs.Commands.{command_kind, command_in, moves_data};
-ghost use Rattle.nbd_wire.specs.Commands.{allowed_flags};
+ghost use Rattle.nbd_wire.specs.Commands.{command_kind, command_in, lends_data};
+ghost use Rattle.nbd_wire.specs.Commands.{has_limit, allowed_flags};
 
 use crate::constants::{CMD_DISC, CMD_FLUSH, CMD_READ, CMD_TRIM, CMD_WRITE, CMD_WRITE_ZEROES};
 use crate::flags::CommandFlags;
@@ -39,11 +39,18 @@ impl CommandKind {
         }
     }
 
-    /// Whether it is READ or WRITE, which carry the bytes of their range.
-    pub fn moves_data(self) -> bool
-        ensures { result ≡ moves_data self }
+    /// Whether the bytes of its range are lent to it: a WRITE's payload, or room for a READ's data.
+    pub fn lends_data(self) -> bool
+        ensures { result ≡ lends_data self }
     {
         matches!(self, CommandKind::Read | CommandKind::Write)
+    }
+
+    /// Whether its length has a limit.
+    pub fn has_limit(self) -> bool
+        ensures { result ≡ has_limit self }
+    {
+        self.lends_data()
     }
 
     /// The flags that a command of this kind may have.

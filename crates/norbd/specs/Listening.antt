@@ -127,7 +127,8 @@ TellsServing port conns keeps old faults (Err BadImageSize) new faults' =
 TellsServing port conns keeps old faults (Err NotFormatted) new faults' =
     IsSilent old faults new faults'
 TellsServing port conns keeps old faults (Err Corrupt) new faults' = IsSilent old faults new faults'
-TellsServing port conns keeps old faults (Err NotClean) new faults' = IsSilent old faults new faults'
+TellsServing port conns keeps old faults (Err NotClean) new faults' =
+    IsSilent old faults new faults'
 TellsServing port conns keeps old faults (Err WrongId) new faults' = IsSilent old faults new faults'
 TellsServing port conns keeps old faults (Err BadSfdp) new faults' = IsSilent old faults new faults'
 TellsServing port conns keeps old faults (Err Protected) new faults' =

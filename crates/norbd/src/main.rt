@@ -1,15 +1,18 @@
-//! The program `norbd`: serves a disk by the Network Block Device protocol (NBD), in its
-//! transmission phase, and formats images of flash chips.
+//! The program `norbd`, a disk on a flash chip behind the Network Block Device protocol (NBD), in
+//! four lines: `plain` serves a disk in memory over standard input and output, in the transmission
+//! phase; `format` makes an image of a formatted chip; `script` runs events, losses of power too,
+//! on a chip in memory; `serve` serves the chip in an image to connections on a port.
 //!
-//! Here stand the words of the command line, the standard streams, what is printed of a fault, and
-//! the exit status: 0 where the line is done, 2 for a bad line, 1 for each other fault. `run` does
-//! what a line asks, over any reader and writer; the readers and writers here are standard input
-//! and output, unbuffered, so that each reply is out before the next request is looked at.
-//! `formatting` makes an image and tells its sectors. Left to the crates below: the words and the
-//! texts of faults (`norbd_line`), requests and replies (`share`), the disk (`block_device`), an
-//! image's bytes and its file (`image`). No contract says what is printed of a fault, nor what a
-//! file holds; tests and runs show it. Source: own for the command line and its faults; NBD
-//! proto.md for requests and replies.
+//! The root file has the words of the command line, the standard streams, what is printed of a
+//! fault, and the exit status: 0 where the line is done, 2 for a bad line, 1 for each other fault.
+//! `run` does what a line asks, over any reader and writer; the readers and writers here are
+//! standard input and output, unbuffered, so that each reply is out before the next request is
+//! looked at. `formatting`, `scripting` and `serving` have one line each. Left to the crates below:
+//! the words and the texts of faults (`norbd_line`), requests and replies (`share`), threads and
+//! sockets (`norbd_serve`), the chain from the chip to a transcript (`flash_station`), the disks
+//! (`block_device`, `flash_disk`), an image's bytes and its file (`image`). No contract says what
+//! is printed of a fault, nor what a file holds; tests and runs show it. Source: own for the
+//! command line and its faults; NBD proto.md for requests and replies.
 #![tactic(auto)]
 
 ghost use Rattle.std.specs.Prelude.{◌≡◌, ◌<◌};

@@ -1,6 +1,7 @@
 //! `serve`: the chip in an image file, served to clients on a port of this machine.
-ghost use Rattle.std.specs.Prelude.{◌≡◌, ◌*◌, ℕ, List, length, string_bytes, IfOk, IfErr, true};
+ghost use Rattle.std.specs.Prelude.{◌≡◌, ◌*◌, length, string_bytes, IfOk, IfErr, true};
 ghost use Rattle.std.specs.Prelude.{false};
+ghost use Rattle.chip_model.specs.Chip.{is_idle};
 ghost use Rattle.flash_disk.specs.Mounting.{OpenedFrom};
 ghost use Rattle.std.specs.Thread.{IsSend};
 ghost use Rattle.norbd.specs.Listening.{IsRefusal, TellsServing, WritesText, ended_text};
@@ -10,6 +11,7 @@ ghost use Rattle.norbd_line.specs.Line.{IsConns, IsPort};
 
 use crate::scripting::told_of_probe;
 use block_device::{Disk, DiskError, Sink, send};
+use chip_model::SpiBus;
 use fault_model::{ImageBus, SimError};
 use flash_disk::{FlashDisk, MountError};
 use norbd_line::Fault;
@@ -91,8 +93,7 @@ where
     serve_disk::<Brand, _, _, _>(rt, disk, sectors, Blank::new(LEDGER_PARTS), asked, writer)
 }
 
-/// The disk on the chip in a file, which is read once whole: it is sound, and holds what the chip's
-/// memory, which is healthy, stands for.
+/// The disk on the chip in a file.
 fn open_disk<R>(rt: &R, image: &str) -> Result<FlashDisk<ImageBus<R::File>, Brand>, Fault>
 where
     R: Files + AllocGlobal,
@@ -100,14 +101,24 @@ where
     ensures refused { IfErr result IsRefusal }
     ensures sound { IfOk result (λ disk.
         (⟦<FlashDisk<ImageBus<R::File>, Brand> as Disk>⟧.facts disk).sound ≡ true) }
-    ensures from { IfOk result (λ disk. (m : List ℕ)
-        × OpenedFrom m (⟦<FlashDisk<ImageBus<R::File>, Brand> as Disk>⟧.facts disk)) }
 {
-    let bus = match ImageBus::open(rt, image) {
-        Ok(bus) => bus,
-        Err(error) => return Err(told_of_file(error)),
-    };
-    let mut disk = match FlashDisk::<_, Brand>::mount(rt.alloc(), bus) {
+    match ImageBus::open(rt, image) {
+        Ok(bus) => look_at(rt.alloc(), bus),
+        Err(error) => Err(told_of_file(error)),
+    }
+}
+
+/// The disk on the chip behind a bus, on which nothing is in progress. Its data blocks are read
+/// once whole: the disk is sound, and holds what the chip's memory, which is healthy, represents.
+fn look_at<B: SpiBus>(alloc: Global, bus: B) -> Result<FlashDisk<B, Brand>, Fault>
+    requires idle { is_idle (B.chip bus).operation ≡ true }
+    ensures refused { IfErr result IsRefusal }
+    ensures sound { IfOk result (λ disk.
+        (⟦<FlashDisk<B, Brand> as Disk>⟧.facts disk).sound ≡ true) }
+    ensures from { IfOk result (λ disk. OpenedFrom (B.chip bus).memory
+        (⟦<FlashDisk<B, Brand> as Disk>⟧.facts disk)) }
+{
+    let mut disk = match FlashDisk::<_, Brand>::mount(alloc, bus) {
         Ok(disk) => disk,
         Err((_, error)) => return Err(told_of_mount(error)),
     };

@@ -201,7 +201,7 @@ impl<N: Nor> SectorMap<N> {
         }
     }
 
-    /// Whether what reads as free is erased, by reading each data block until one is met that isn't.
+    /// Whether what reads as free is erased: reads each data block, until one is met that isn't so.
     /// Nothing changes.
     pub fn is_clean(&mut self) -> Result<bool, NorError>
         ensures clean { IfOk result (λ clean. IsTrue clean → IsClean self.old.memory) }

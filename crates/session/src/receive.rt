@@ -68,7 +68,7 @@ pub(crate) fn lent_len(running: Option<Command>) -> usize
     let Some(command) = running else {
         return 0;
     };
-    if command.kind.moves_data() {
+    if command.kind.lends_data() {
         command.length as usize
     } else {
         0

@@ -5,7 +5,7 @@ use Rattle.block_device.specs.Facts.{Facts}
 use Rattle.nbd_wire.specs.declared.command.Command.{Command}
 use Rattle.nbd_wire.specs.declared.command.CommandKind.{CommandKind}
 use Rattle.nbd_wire.specs.declared.command.CommandKind.TheVariants.{Read, Write, Disconnect, Flush, Trim, WriteZeroes, Unknown}
-use Rattle.nbd_wire.specs.Commands.{is_read, judge_of, has_range}
+use Rattle.nbd_wire.specs.Commands.{is_read, judge_of, touches_chip}
 use Rattle.nbd_transmission.specs.Apply.{data_of, data_of_kind, changed_by, changed_kind}
 use Rattle.share.specs.declared.recorder.Row.{Row}
 use Rattle.share.specs.declared.recorder.Interrupted.{Interrupted}
@@ -49,7 +49,7 @@ payload-length WriteZeroes c bytes bytes' same long = refl
 payload-length (Unknown n) c bytes bytes' same long = refl
 
 -- the data of an accepted command that moves none is the same on all contents
-data-same : (k : CommandKind) (c : Command) (d e : List ℕ) (bytes : List ℕ) → (has_range k ≡ true → e ≡ d) → data_in_of k bytes ≡ data_of_kind k d c → data_in_of k bytes ≡ data_of_kind k e c
+data-same : (k : CommandKind) (c : Command) (d e : List ℕ) (bytes : List ℕ) → (touches_chip k ≡ true → e ≡ d) → data_in_of k bytes ≡ data_of_kind k d c → data_in_of k bytes ≡ data_of_kind k e c
 data-same Read c d e bytes same h = h ∙ ap (λ (x : List ℕ). data_of_kind Read x c) (sym (same refl))
 data-same Write c d e bytes same h = h
 data-same Disconnect c d e bytes same h = h
@@ -75,7 +75,7 @@ was_quiet cut slow A B (inr came) e = came.1
 pub kept-ok : (n : ℕ) (f f' : Facts) (base : List ℕ) (rows : List Row) (int : Option Interrupted) (c : Command) (conn : ℕ) (bytes bytes' : List ℕ)
     → IsKept n f base rows int → judge_of c n ≡ None → length bytes' ≡ length bytes → length bytes ≡ lent_len c → (is_read c.kind ≡ false → bytes' ≡ bytes)
     → f'.sound ≡ f.sound → (f.sound ≡ true → f'.contents ≡ changed_by f.contents c bytes) → (f.sound ≡ true → reply_in c 0 bytes' ≡ data_of f.contents c)
-    → f.cut ≡ false → f'.cut ≡ false → f'.slow ≡ f.slow → (has_range c.kind ≡ true → f.slow ≡ false)
+    → f.cut ≡ false → f'.cut ≡ false → f'.slow ≡ f.slow → (touches_chip c.kind ≡ true → f.slow ≡ false)
     → IsKept n f' base (rows ++ row_of conn c 0 bytes' ∷ []) int
 kept-ok n f f' base rows int c conn bytes bytes' kept accepted same long untouched sound changed replied no_cut no_cut' slow quiet = record {
   legal = λ s. legal-push n base false rows (row_of conn c 0 bytes') (kept.legal (sym sound ∙ s)) (record {
@@ -98,7 +98,7 @@ kept-ok n f f' base rows int c conn bytes bytes' kept accepted same long untouch
 -- a row with error 5
 pub kept-slow : (n : ℕ) (f f' : Facts) (base : List ℕ) (rows : List Row) (int : Option Interrupted) (c : Command) (conn : ℕ) (bytes bytes' : List ℕ)
     → IsKept n f base rows int → judge_of c n ≡ None → length bytes' ≡ length bytes → length bytes ≡ lent_len c
-    → f'.sound ≡ f.sound → has_range c.kind ≡ true → f.cut ≡ false → f'.cut ≡ false → f'.slow ≡ true
+    → f'.sound ≡ f.sound → touches_chip c.kind ≡ true → f.cut ≡ false → f'.cut ≡ false → f'.slow ≡ true
     → IsKept n f' base (rows ++ row_of conn c 5 bytes' ∷ []) int
 kept-slow n f f' base rows int c conn bytes bytes' kept accepted same long sound moving no_cut no_cut' slow = record {
   legal = λ s. legal-push n base false rows (row_of conn c 5 bytes') (kept.legal (sym sound ∙ s)) (record {
@@ -153,7 +153,7 @@ kept-cut n f f' base rows int c bytes bytes' kept untouched sound left no_cut qu
 pub kept-row-ok : (keeps : Bool) (n : ℕ) (f f' : Facts) (base base₁ base' : List ℕ) (rows rows₁ rows' : List Row) (int int₁ int' : Option Interrupted) (c : Command) (conn : ℕ) (bytes bytes' : List ℕ)
     → keeps ≡ true → IsKept n f base rows int → judge_of c n ≡ None → length bytes' ≡ length bytes → length bytes ≡ lent_len c → (is_read c.kind ≡ false → bytes' ≡ bytes)
     → f'.sound ≡ f.sound → (f.sound ≡ true → f'.contents ≡ changed_by f.contents c bytes) → (f.sound ≡ true → reply_in c 0 bytes' ≡ data_of f.contents c)
-    → f.cut ≡ false → f'.cut ≡ false → f'.slow ≡ f.slow → (has_range c.kind ≡ true → f.slow ≡ false)
+    → f.cut ≡ false → f'.cut ≡ false → f'.slow ≡ f.slow → (touches_chip c.kind ≡ true → f.slow ≡ false)
     → base₁ ≡ base → base' ≡ base₁ → int₁ ≡ int → int' ≡ int₁ → rows₁ ≡ rows → rows' ≡ rows_with keeps rows₁ (row_of conn c 0 bytes')
     → IsKept n f' base' rows' int'
 kept-row-ok keeps n f f' base base₁ base' rows rows₁ rows' int int₁ int' c conn bytes bytes' k kept accepted same long untouched sound changed replied no_cut no_cut' slow quiet eb eb' ei ei' er er' =
@@ -163,7 +163,7 @@ kept-row-ok keeps n f f' base base₁ base' rows rows₁ rows' int int₁ int' c
 
 pub kept-row-slow : (keeps : Bool) (n : ℕ) (f f' : Facts) (base base₁ base' : List ℕ) (rows rows₁ rows' : List Row) (int int₁ int' : Option Interrupted) (c : Command) (conn : ℕ) (bytes bytes' : List ℕ)
     → keeps ≡ true → IsKept n f base rows int → judge_of c n ≡ None → length bytes' ≡ length bytes → length bytes ≡ lent_len c
-    → f'.sound ≡ f.sound → has_range c.kind ≡ true → f.cut ≡ false → f'.cut ≡ false → f'.slow ≡ true
+    → f'.sound ≡ f.sound → touches_chip c.kind ≡ true → f.cut ≡ false → f'.cut ≡ false → f'.slow ≡ true
     → base₁ ≡ base → base' ≡ base₁ → int₁ ≡ int → int' ≡ int₁ → rows₁ ≡ rows → rows' ≡ rows_with keeps rows₁ (row_of conn c 5 bytes')
     → IsKept n f' base' rows' int'
 kept-row-slow keeps n f f' base base₁ base' rows rows₁ rows' int int₁ int' c conn bytes bytes' k kept accepted same long sound moving no_cut no_cut' slow eb eb' ei ei' er er' =

@@ -6,7 +6,7 @@ use Rattle.block_device.specs.declared.disk.DiskError.TheVariants.{Cut, Slow}
 use Rattle.block_device.specs.Contents.{Outcome}
 use Rattle.block_device.specs.Facts.{Facts, CountsNeverFall, IsDiskReady, KeepsContents, Tidies}
 use Rattle.nbd_wire.specs.declared.command.Command.{Command}
-use Rattle.nbd_wire.specs.Commands.{is_read, has_range}
+use Rattle.nbd_wire.specs.Commands.{is_read, touches_chip}
 use Rattle.nbd_wire.specs.Numbers.{EIO, ENOMEM}
 use Rattle.nbd_transmission.specs.Apply.{changed_by, data_of}
 use Rattle.share.specs.declared.shared.Done.{Done}
@@ -43,11 +43,11 @@ pub record Ran (old new : Facts) (command : Command) (bytes : List ℕ) (a : Rep
   pub contents : old.sound ≡ true → new.contents ≡ changed_by old.contents command bytes
   pub reply : old.sound ≡ true → reply_in command 0 a.bytes ≡ data_of old.contents command
   pub no_cut : (old.cut ≡ false) × (new.cut ≡ false)
-  pub no_slow : (new.slow ≡ old.slow) × (has_range command.kind ≡ true → old.slow ≡ false)
+  pub no_slow : (new.slow ≡ old.slow) × (touches_chip command.kind ≡ true → old.slow ≡ false)
 
 -- Answered EIO: the disk answered Slow in this call.
 pub record MetSlow (old new : Facts) (command : Command) : Type 0 where
-  pub moves : has_range command.kind ≡ true
+  pub touches : touches_chip command.kind ≡ true
   pub latched : new.slow ≡ true
   pub cause : (old.slow ≡ true) ⊎ (old.slows < new.slows)
   pub no_cut : (old.cut ≡ false) × (new.cut ≡ false)

@@ -4,7 +4,7 @@ use Rattle.std.specs.Prelude.{◌≡◌, ◌⊎◌, ℕ, ◌==◌, ◌||◌, Lis
 use Rattle.std.specs.Prelude.{Option, Some, None, if◌then◌else◌}
 use Rattle.block_device.specs.Contents.{Outcome}
 use Rattle.nbd_wire.specs.declared.command.Command.{Command}
-use Rattle.nbd_wire.specs.Commands.{judge_of, has_range}
+use Rattle.nbd_wire.specs.Commands.{judge_of, touches_chip}
 use Rattle.nbd_wire.specs.Numbers.{EIO}
 use Rattle.nbd_transmission.specs.Apply.{changed_by, data_of}
 use Rattle.share.specs.declared.recorder.Row.{Row}
@@ -58,9 +58,9 @@ pub record MayComeNext (sectors : ℕ) (contents : List ℕ) (failed : Bool) (ro
   -- answered 0: with the data of the contents at this point
   pub answered : row.error ≡ 0 → row.reply ≡ data_of contents row.command
   -- answered EIO: a READ, WRITE, TRIM or WRITE_ZEROES, without data
-  pub refused : row.error ≡ EIO → (has_range row.command.kind ≡ true) × (row.reply ≡ [])
+  pub refused : row.error ≡ EIO → (touches_chip row.command.kind ≡ true) × (row.reply ≡ [])
   -- after an EIO none of these is answered 0
-  pub later : failed ≡ true → has_range row.command.kind ≡ true → row.error ≡ EIO
+  pub later : failed ≡ true → touches_chip row.command.kind ≡ true → row.error ≡ EIO
 
 -- the rows may stand from this point on
 abbrev pub IsLegal : ℕ → List ℕ → Bool → List Row → Type 0

@@ -182,6 +182,12 @@ impl FullRecord {
         }
     }
 
+    pub(crate) fn base(&self) -> &[u8]
+        ensures { result.now ≡ self.now.base }
+    {
+        self.base.as_slice()
+    }
+
     pub(crate) fn rows(&self) -> &[Row]
         ensures { result.now ≡ self.now.rows }
     {

@@ -203,7 +203,7 @@ impl<D: Disk, L: OneServer> Shared<D, FullRecord, L> {
 
 impl<D: Disk, R: Recorder, L: OneServer> Shared<D, R, L> {
     ghost use Rattle.share.specs.Doing.{Executes, Tidied};
-    ghost use Rattle.share.specs.Locking.{IsServed};
+    ghost use Rattle.share.specs.Locking.{IsServed, start_of};
 
     /// Runs one command that the request table accepts, over the bytes that are lent to it: a
     /// WRITE's payload, the room for a READ's data, none for any other. The memory of the row comes
@@ -262,8 +262,8 @@ impl<D: Disk, R: Recorder, L: OneServer> Shared<D, R, L> {
     }
 
     /// Does nothing: what is known of a server, whenever it is got.
-    pub fn stands(&self)
-        ensures { IsServed R.KEEPS L.sound L.sectors L.base self.now }
+    pub fn known(&self)
+        ensures { IsServed (start_of R.KEEPS L.sound L.sectors L.base) self.now }
     {
         let _lost = self.lost;
     }
@@ -304,6 +304,14 @@ impl<D: Disk, R: Recorder, L: OneServer> Shared<D, R, L> {
 
 impl<D: Disk, L: OneServer> Shared<D, FullRecord, L> {
     ghost use Rattle.share.specs.State.{IsKept};
+
+    /// Lends the contents at the start, of which the rows are a history.
+    pub fn base(&self) -> &[u8]
+        ensures base { result.now ≡ self.now.base }
+        ensures known { L.sound ≡ true → result.now ≡ L.base }
+    {
+        self.recorder.base()
+    }
 
     /// Lends the rows, in the order in which their commands ran. Whenever a server that keeps rows
     /// is got, they are a legal history of the contents at its start, and while neither a Cut nor a

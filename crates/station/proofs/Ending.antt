@@ -78,19 +78,19 @@ ends_at old mid new es i d was is now lt a b run hangs = λ same w s.
     )
 
 -- where the output fails, every connection of the world that is left is closed
-begun_hung : (o : Option (List ℕ)) (w w' : World) (bytes : List ℕ) → MatchOption o ⊥ (λ text. Begun w text bytes w') → w'.texts ≡ replicate 8 None
-begun_hung None w w' bytes b = absurd b
-begun_hung (Some text) w w' bytes b = ap (λ (v : World). v.texts) b.world
+begun_hung : (o : Option (List ℕ)) (w w' : World) (c : ℕ) (bytes out : List ℕ) → MatchOption o ⊥ (λ text. Begun w c text bytes out w') → w'.texts ≡ replicate 8 None
+begun_hung None w w' c bytes out b = absurd b
+begun_hung (Some text) w w' c bytes out b = ap (λ (v : World). v.texts) b.world
 
-begun_by_hung : (e : Event) (w w' : World) → BegunBy w e w' → w'.texts ≡ replicate 8 None
-begun_by_hung (Open c) w w' b = absurd b
-begun_by_hung (Piece c bytes) w w' b = begun_hung (text_at w c) w w' bytes.now b
-begun_by_hung (Gone c) w w' b = absurd b
-begun_by_hung Tidy w w' b = absurd b
-begun_by_hung Restore w w' b = absurd b
+begun_by_hung : (e : Event) (w w' : World) (out : List ℕ) → BegunBy w e out w' → w'.texts ≡ replicate 8 None
+begun_by_hung (Open c) w w' out b = absurd b
+begun_by_hung (Piece c bytes) w w' out b = begun_hung (text_at w c) w w' c bytes.now out b
+begun_by_hung (Gone c) w w' out b = absurd b
+begun_by_hung Tidy w w' out b = absurd b
+begun_by_hung Restore w w' out b = absurd b
 
 breaks_hung : (c c' : ℕ) (w w' : World) (e : Event) (out : List ℕ) → Breaks c w e out c' w' → w'.texts ≡ replicate 8 None
-breaks_hung c c' w w' e out b = elim b.reached [ inl h ↦ ap (λ (v : World). v.texts) h | inr h ↦ begun_by_hung e w w' h ]
+breaks_hung c c' w w' e out b = elim b.reached [ inl h ↦ ap (λ (v : World). v.texts) h | inr h ↦ begun_by_hung e w w' out h ]
 
 -- so the station represents that world once it closed them too
 pub hangs_up : (old mid new : Board) (e : Event) (was is : Option (List ℕ)) → length mid.sessions ≡ 8 → new ≡ record mid { is_open = replicate 8 false } → Halts old mid e was is → HangsUp old new e was is

@@ -7,7 +7,7 @@ use Rattle.block_device.specs.Contents.{Outcome}
 use Rattle.block_device.specs.Facts.{Facts, CountsNeverFall}
 use Rattle.std.proofs.KnownBytes.{Appends-trans}
 use Rattle.nbd_wire.specs.declared.command.Command.{Command}
-use Rattle.nbd_wire.specs.Commands.{has_range}
+use Rattle.nbd_wire.specs.Commands.{touches_chip}
 use Rattle.nbd_transmission.specs.Apply.{applied}
 use Rattle.nbd_wire.specs.declared.phase.Phase.TheVariants.{AwaitingFlags}
 use Rattle.session.specs.Parts.{Part, ForDisk, Gains, closes, closed}
@@ -71,10 +71,10 @@ one_at n who mid text longer out disk b same o =
     same (o.part, o.gains, o.is_closing, o.out_is, o.disk_is)
 
 lost_at : (n : ℕ) (mid : Desk) (text longer out disk : List ℕ) → mid.line.sectors ≡ n → LostPart mid text longer out disk
-    → (c : Command) × (payload : List ℕ) × Gains AwaitingFlags n text longer (ForDisk c payload ∷ []) × (has_range c.kind ≡ true) × (out ≡ []) × Outcome mid.disk.contents (applied n mid.disk.contents c payload) disk
+    → (c : Command) × (payload : List ℕ) × Gains AwaitingFlags n text longer (ForDisk c payload ∷ []) × (touches_chip c.kind ≡ true) × (out ≡ []) × Outcome mid.disk.contents (applied n mid.disk.contents c payload) disk
 lost_at n mid text longer out disk same o =
-    subst (λ m. (c : Command) × (payload : List ℕ) × Gains AwaitingFlags m text longer (ForDisk c payload ∷ []) × (has_range c.kind ≡ true) × (out ≡ []) × Outcome mid.disk.contents (applied m mid.disk.contents c payload) disk)
-    same (o.command, o.payload, o.gains, o.moves, o.out_is, o.outcome)
+    subst (λ m. (c : Command) × (payload : List ℕ) × Gains AwaitingFlags m text longer (ForDisk c payload ∷ []) × (touches_chip c.kind ≡ true) × (out ≡ []) × Outcome mid.disk.contents (applied m mid.disk.contents c payload) disk)
+    same (o.command, o.payload, o.gains, o.touches, o.out_is, o.outcome)
 
 -- the bytes so far, and those that a turn takes
 split_on : (bytes used rest : List ℕ) (k : ℕ) → bytes ≡ used ++ rest → bytes ≡ (used ++ take k rest) ++ drop k rest
@@ -210,7 +210,7 @@ module _ (who : ℕ) (old mid new : Desk) (bytes rest : List ℕ) (k : ℕ) (sam
             payload = p.1;
             rest = more.0;
             lacked = subst (λ l. Gains AwaitingFlags n t l (f.more ++ ForDisk p.0 p.1 ∷ more.0)) (sym (cut_here t f.used bytes rest k f.split)) all;
-            moves = p.3;
+            touches = p.3;
             out_is = ap (λ l. f.out ++ l) p.4 ∙ (append-nil f.out ∙ a.out_is);
             outcome = subst (λ l. Outcome l (applied n l p.0 p.1) new.disk.contents) a.disk_is p.5;
           },
@@ -241,7 +241,10 @@ module _ (who : ℕ) (old mid new : Desk) (bytes rest : List ℕ) (k : ℕ) (sam
           part = x.0;
           rest = x.1;
           out = f.out ++ x.2;
+          first = x.2;
           unsent = x.3;
+          split = ap (λ l. l ++ x.2) a.out_is;
+          reply_is = ap (λ l. replied who (reply_of_part n l x.0)) (sym a.disk_is) ∙ x.6;
           missing = x.8;
           lacked = subst (λ l. Gains AwaitingFlags n t l (f.more ++ x.0 ∷ x.1)) (append_assoc t f.used rest ∙ ap (λ l. t ++ l) (sym f.split))
               (gains_both AwaitingFlags n t (t ++ f.used) ((t ++ f.used) ++ rest) f.more (x.0 ∷ x.1) a.lacked x.4);

@@ -58,7 +58,7 @@ interrupted_in w who n d text bytes told disk o on od sectors same x =
       rest = x.rest;
       disk = disk;
       lacked = subst (λ j. Lacked j text bytes (x.before ++ ForDisk x.command x.payload ∷ x.rest)) m x.lacked;
-      moves = x.moves;
+      touches = x.touches;
       outcome = subst (λ j. Outcome (after_parts j w.disk x.before) (applied j (after_parts j w.disk x.before) x.command x.payload) disk) m
           (subst (λ e. Outcome (after_parts o.line.sectors e x.before) (applied o.line.sectors (after_parts o.line.sectors e x.before) x.command x.payload) disk) k x.outcome);
       wrote = ap (λ t. t ++ entry who LOST []) (x.out_is ∙ (ap (λ j. replies j who o.disk.contents x.before) m ∙ ap (λ e. replies w.sectors who e x.before) k));
@@ -180,7 +180,21 @@ module _ (f f' : Facts) (n : ℕ) (on : Bool) (ss : List SessionState) (bs : Lis
           missing = longer h.unsent (tail ++ last) h.missing;
           end = end;
           move = inl (subst (λ o. MatchBool w.power (Powered w (Piece c bytes) o end) (Unpowered w (Piece c bytes) o end)) told step, cuts);
-          reached = inr (by_some (text_at w c) l.0 _ _ l.1 (record { before = front; rest = h.rest; lacked = subst (λ m. Lacked m l.0 bytes.now all) (sym k.sectors) lacked; world = refl }));
+          reached = inr (by_some (text_at w c) l.0 _ _ l.1 (record {
+            before = h.before;
+            part = h.part;
+            rest = h.rest;
+            lacked = subst (λ m. Lacked m l.0 bytes.now (h.before ++ h.part ∷ h.rest)) (sectors ∙ sym k.sectors) h.lacked;
+            first = h.first;
+            unsent = h.unsent;
+            missing = h.missing;
+            reply_is = ap (λ v. replied c (reply_of_part w.sectors (after_parts w.sectors v h.before) h.part)) k.contents
+                ∙ (ap (λ m. replied c (reply_of_part m (after_parts m f.contents h.before) h.part)) (k.sectors ∙ sym sectors) ∙ h.reply_is);
+            out_is = h.split
+                ∙ (ap (λ m. replies m c f.contents h.before ++ h.first) (sectors ∙ sym k.sectors)
+                ∙ ap (λ v. replies w.sectors c v h.before ++ h.first) (sym k.contents));
+            world = refl;
+          }));
         },
         record {
           sound = sound ∙ k.sound;

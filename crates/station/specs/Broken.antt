@@ -1,37 +1,48 @@
 -- What is written where the output fails. Source: own.
-use Rattle.std.specs.Prelude.{◌≡◌, ◌⊎◌, ◌<◌, length, ℕ, List, ◌∷◌, ◌++◌, MatchOption}
+use Rattle.std.specs.Prelude.{◌≡◌, ◌⊎◌, ◌<◌, length, ℕ, List, [], ◌∷◌, ◌++◌, MatchOption}
 use Rattle.session.specs.Parts.{Part}
 use Rattle.station.specs.declared.event.Event.{Event}
 use Rattle.station.specs.declared.event.Event.TheVariants.{Open, Piece, Gone, Tidy, Restore}
-use Rattle.station.specs.Answers.{after_parts}
+use Rattle.station.specs.Answers.{after_parts, replies, reply_of_part}
+use Rattle.station.specs.Records.{replied}
 use Rattle.station.specs.World.{World, Lacked, hung_up, text_at}
 use Rattle.station.specs.Transcript.{Move, Transcript}
 
--- some first parts of those that a piece brings were answered and applied, and then every
--- connection was closed
-pub record Begun (w : World) (text bytes : List ℕ) (w' : World) : Type 0 where
+-- Of the parts that a piece brings the first were answered and their replies taken whole. Of the
+-- reply to the next one only a beginning was taken. These parts were applied, and no other; then
+-- every connection was closed. So each part that was acknowledged was applied.
+pub record Begun (w : World) (who : ℕ) (text bytes out : List ℕ) (w' : World) : Type 0 where
   pub before : List Part
+  pub part : Part
   pub rest : List Part
-  pub lacked : Lacked w.sectors text bytes (before ++ rest)
-  pub world : w' ≡ hung_up (record w { disk = after_parts w.sectors w.disk before })
+  pub lacked : Lacked w.sectors text bytes (before ++ part ∷ rest)
+  pub first : List ℕ
+  pub unsent : List ℕ
+  pub missing : 0 < length unsent
+  pub reply_is : replied who
+      (reply_of_part w.sectors (after_parts w.sectors w.disk before) part) ≡ first ++ unsent
+  pub out_is : out ≡ replies w.sectors who w.disk before ++ first
+  pub world : w'
+      ≡ hung_up (record w { disk = after_parts w.sectors w.disk (before ++ part ∷ []) })
 
-abbrev pub BegunBy : World → Event → World → Type 0
-BegunBy w (Open who) w' = ⊥
-BegunBy w (Piece who bytes) w' = MatchOption (text_at w who) ⊥ (λ text. Begun w text bytes.now w')
-BegunBy w (Gone who) w' = ⊥
-BegunBy w Tidy w' = ⊥
-BegunBy w Restore w' = ⊥
+abbrev pub BegunBy : World → Event → List ℕ → World → Type 0
+BegunBy w (Open who) out w' = ⊥
+BegunBy w (Piece who bytes) out w' =
+    MatchOption (text_at w who) ⊥ (λ text. Begun w who text bytes.now out w')
+BegunBy w (Gone who) out w' = ⊥
+BegunBy w Tidy out w' = ⊥
+BegunBy w Restore out w' = ⊥
 
 -- The output fails in an event: what it took is a beginning of what a move writes, and not all of
--- it. The disk is that after the move, or that after some first units of a piece, and every
--- connection is closed.
+-- it. The disk is that after the move, or that after the units of a piece whose replies were taken
+-- and the next one, and every connection is closed.
 pub record Breaks (cuts : ℕ) (w : World) (event : Event) (out : List ℕ) (cuts' : ℕ)
     (w' : World) : Type 0 where
   pub unsent : List ℕ
   pub missing : 0 < length unsent
   pub end : World
   pub move : Move cuts w event (out ++ unsent) cuts' end
-  pub reached : (w' ≡ hung_up end) ⊎ BegunBy w event w'
+  pub reached : (w' ≡ hung_up end) ⊎ BegunBy w event out w'
 
 -- The same in a list of events: the records of the first events were wholly taken, and the output
 -- failed in the next.

@@ -6,7 +6,7 @@ use Rattle.std.specs.Io.KnownBytes.{Appends}
 use Rattle.block_device.specs.Facts.{Facts}
 use Rattle.block_device.specs.Contents.{Outcome}
 use Rattle.nbd_wire.specs.declared.command.Command.{Command}
-use Rattle.nbd_wire.specs.Commands.{has_range}
+use Rattle.nbd_wire.specs.Commands.{touches_chip}
 use Rattle.nbd_transmission.specs.Apply.{applied}
 use Rattle.nbd_wire.specs.declared.phase.Phase.TheVariants.{AwaitingFlags}
 use Rattle.session.specs.Sessions.{SessionState}
@@ -55,7 +55,7 @@ pub record LostPart (old : Desk) (text longer out disk : List ℕ) : Type 0 wher
   pub command : Command
   pub payload : List ℕ
   pub gains : Gains AwaitingFlags old.line.sectors text longer (ForDisk command payload ∷ [])
-  pub moves : has_range command.kind ≡ true
+  pub touches : touches_chip command.kind ≡ true
   pub out_is : out ≡ []
   pub outcome : Outcome old.disk.contents
       (applied old.line.sectors old.disk.contents command payload) disk
@@ -109,7 +109,7 @@ pub record LostParts (who : ℕ) (old : Desk) (text bytes out disk : List ℕ) :
   pub payload : List ℕ
   pub rest : List Part
   pub lacked : Lacked old.line.sectors text bytes (before ++ ForDisk command payload ∷ rest)
-  pub moves : has_range command.kind ≡ true
+  pub touches : touches_chip command.kind ≡ true
   pub out_is : out ≡ replies old.line.sectors who old.disk.contents before
   pub outcome : Outcome (after_parts old.line.sectors old.disk.contents before)
       (applied old.line.sectors (after_parts old.line.sectors old.disk.contents before) command
@@ -145,11 +145,15 @@ pub record PartsHalt (who : ℕ) (old new : Desk) (text bytes : List ℕ) : Type
   pub part : Part
   pub rest : List Part
   pub out : List ℕ
+  pub first : List ℕ
   pub unsent : List ℕ
   pub missing : 0 < length unsent
   pub lacked : Lacked old.line.sectors text bytes (before ++ part ∷ rest)
   pub appends : Appends old.written new.written out
   pub out_is : replies old.line.sectors who old.disk.contents (before ++ part ∷ []) ≡ out ++ unsent
+  pub split : out ≡ replies old.line.sectors who old.disk.contents before ++ first
+  pub reply_is : replied who (reply_of_part old.line.sectors
+      (after_parts old.line.sectors old.disk.contents before) part) ≡ first ++ unsent
   pub disk_is : new.disk.contents ≡ after_parts old.line.sectors old.disk.contents
       (before ++ part ∷ [])
 

@@ -1,7 +1,7 @@
 use Rattle.std.proofs.Common.{◌≡◌, ◌<◌, ℕ, [], true, refl, ◌∙◌, ap, sym, subst, inl, inr}
 use Rattle.std.proofs.KnownBytes.{Appends-nil}
 use Rattle.std.proofs.lemmas.Bool.{false≢true}
-use Rattle.nbd_wire.specs.Commands.{has_range}
+use Rattle.nbd_wire.specs.Commands.{touches_chip}
 use Rattle.nbd_wire.specs.declared.phase.Phase.TheVariants.{AwaitingFlags}
 use Rattle.nbd_wire.specs.Lent.{payload_in}
 use Rattle.session.specs.Sessions.{IsRunning, reply_of, room_of}
@@ -59,9 +59,9 @@ returns-in-Err-Cut-clause-says g c = λ quiet.
     let latches = rw c.in-Err-Cut.field-0-is at c.in-Err-Cut.ensures.latches in
     let old = g.D.Disk.facts c.args.disk.now in
     let new = g.D.Disk.facts c.run_command.new.disk in
-    let moves : (has_range c.in-Run.command.kind ≡ true) × (old.cuts < new.cuts) = elim latches.0 [ inl h ↦ absurd (false≢true (sym quiet.cut ∙ h)) | inr h ↦ (h.0, h.2) ] in
+    let touches : (touches_chip c.in-Run.command.kind ≡ true) × (old.cuts < new.cuts) = elim latches.0 [ inl h ↦ absurd (false≢true (sym quiet.cut ∙ h)) | inr h ↦ (h.0, h.2) ] in
     record {
-      power = (latches.1, moves.1);
+      power = (latches.1, touches.1);
       slow = latches.2 ∙ quiet.slow;
       says = λ text serves.
           let n = c.args.session.now.sectors in
@@ -76,7 +76,7 @@ returns-in-Err-Cut-clause-says g c = λ quiet.
               command = command;
               payload = payload;
               gains = x.0;
-              moves = moves.0;
+              touches = touches.0;
               out_is = refl;
               outcome = rw ready.accepted left;
             },

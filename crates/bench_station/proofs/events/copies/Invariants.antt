@@ -1,9 +1,0 @@
-use Rattle.std.proofs.Common.{◌≡◌, ◌<◌, length}
-use Rattle.bench_station.proofs.events.copies.Given as goal
-
--- the bytes of the copy before
-abbrev pub invariant-loop : goal.invariant-loop
-invariant-loop l = record {
-  size : length l.into ≡ length l.from;
-  last : 0 < l.counter → l.into ≡ l.from;
-}
