@@ -1,3 +1,4 @@
 pub mod CopyLaws
 pub mod MaskLaws
 pub mod RunLaws
+pub mod Accepted
