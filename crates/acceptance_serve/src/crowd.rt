@@ -2,6 +2,7 @@
 //! its own sectors.
 
 ghost use Rattle.std.specs.Prelude.{◌≡◌, ◌*◌, ◌<◌, ◌≤◌, length, IsFalse};
+ghost use Rattle.std.specs.Thread.{IsSend, IsSync};
 
 use crate::clients::{ask, begin, is_answered};
 use crate::own::own_sectors;
@@ -9,9 +10,10 @@ use acceptance_random::Dice;
 use block_device::Disk;
 use fault_model::ImageBus;
 use flash_disk::FlashDisk;
+use history::Opened;
 use image::formatted_image;
-use norbd_serve::{Connections, OpenGate, ServeFault, Sleeper, listen, serve};
-use share::{End, NoRecord, OneServer, Server, Shared};
+use norbd_serve::{Connections, OpenGate, ServeFault, Served, Sleeper, listen, serve};
+use share::{Chronicle, End, NoRecord, OneServer, Row, Server, Shared};
 use std::alloc::Global;
 use std::io::{Read, Write};
 use std::marker::Brand;
@@ -205,6 +207,7 @@ fn eight_clients_find_what_they_wrote(rt: HostRuntime) -> Result<(), Fail> {
         1_540,
         held.as_mut_slice(),
         Blank::new(65537),
+        Opened::new(&rt),
     )?;
     compare(&rt, rt.alloc(), held.as_slice())?;
     Ok(fs::remove_file(&rt, "crowd.img")?)
@@ -231,6 +234,7 @@ fn serve_crowd<L, H>(
     sectors: u32,
     held: &mut [u8],
     blank: Blank,
+    opened: Opened<Row>,
 ) -> Result<(), Fail>
 where
     L: OneServer + Send + Sync,
@@ -247,26 +251,35 @@ where
     requires name { blank.name ≡ L.name }
     requires parts { blank.parts ≡ L.parts }
     requires all { blank.parts ≡ 65537 }
+    requires history { opened ≡ L.book }
     requires unsaid { IsFalse L.sound }
 {
     let disk = mounted(rt, alloc)?;
     if disk.sectors() != sectors {
         return Err(Fail::new("another size"));
     }
-    let server = Server::new(Shared::<_, NoRecord, L>::new(disk, blank));
+    let (keeping, hands) = opened.named::<L>();
+    let shared = Shared::<_, NoRecord, L>::new(disk, blank);
+    let server = Server::new(Chronicle::new(shared, keeping));
     let listener = listen(rt, 0).expect(rt, "a port");
     let addr = listener.local_addr()?;
     let gates = vec![in alloc; OpenGate; CLIENTS as usize]?;
+    let connections = Connections::new(alloc, gates, hands)?;
     let seen = &server;
-    let (served, right) = thread::join(
+    let (served, right) = thread::scope(
+        thread::scope_env(),
         rt,
-        move || match Connections::new(alloc, gates) {
-            Ok(connections) => serve(rt, alloc, seen, listener, connections, Sleeper::new(rt)),
-            Err(_) => Err(ServeFault::NoMemory),
+        move |scope| -> (Result<Served<L>, ServeFault>, Option<io::Result<bool>>)
+            requires send { IsSend L.row × IsSync L.row × IsSync H.row }
+        {
+            let Ok(clients) = scope.spawn(move || work(rt, alloc, addr, held)) else {
+                return (Err(ServeFault::NoThread), None);
+            };
+            let served = serve(rt, alloc, seen, listener, connections, Sleeper::new(rt));
+            (served, Some(clients.join(rt)))
         },
-        move || work(rt, alloc, addr, held),
     );
-    assert!(rt; right?);
+    assert!(rt; right.expect(rt, "clients")?);
     let served = served.expect(rt, "all connections");
     for end in served.ends.iter() {
         assert_eq!(rt; *end, End::Closed);

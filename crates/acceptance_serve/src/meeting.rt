@@ -1,11 +1,13 @@
 //! Two clients at once: the first is held in the middle of a WRITE until the second is answered.
 
 ghost use Rattle.std.specs.Prelude.{◌≡◌, ◌*◌, length, IsFalse};
+ghost use Rattle.std.specs.Thread.{IsSend, IsSync};
 
 use crate::clients::{ask, begin, is_answered};
 use block_device::PlainDisk;
-use norbd_serve::{Connections, ServeFault, Sleeper, listen, serve};
-use share::{End, FullRecord, Gate, OneServer, Point, Server, Shared};
+use history::Opened;
+use norbd_serve::{Connections, ServeFault, Served, Sleeper, listen, serve};
+use share::{Chronicle, End, FullRecord, Gate, OneServer, Point, Row, Server, Shared};
 use std::alloc::Global;
 use std::io::{Read, Write};
 use std::marker::Brand;
@@ -101,7 +103,14 @@ fn meet<H: Net<Stream = TcpStream>>(
 #[test]
 fn two_clients_are_served_at_once(rt: HostRuntime) -> Result<(), Fail> {
     let disk = PlainDisk::new(rt.alloc(), 70)?;
-    serve_two::<Brand, _>(&rt, rt.alloc(), disk, 70, Blank::new(65537))
+    serve_two::<Brand, _>(
+        &rt,
+        rt.alloc(),
+        disk,
+        70,
+        Blank::new(65537),
+        Opened::new(&rt),
+    )
 }
 
 fn serve_two<L, H>(
@@ -110,6 +119,7 @@ fn serve_two<L, H>(
     disk: PlainDisk,
     sectors: u32,
     blank: Blank,
+    opened: Opened<Row>,
 ) -> Result<(), Fail>
 where
     L: OneServer + Send + Sync,
@@ -119,12 +129,14 @@ where
     requires name { blank.name ≡ L.name }
     requires parts { blank.parts ≡ L.parts }
     requires all { blank.parts ≡ 65537 }
+    requires history { opened ≡ L.book }
     requires unsaid { IsFalse L.sound }
 {
     let Ok(shared) = Shared::<PlainDisk, FullRecord, L>::recording(alloc, disk, blank) else {
         panic!(rt; "a recording server");
     };
-    let server = Server::new(shared);
+    let (keeping, hands) = opened.named::<L>();
+    let server = Server::new(Chronicle::new(shared, keeping));
     let listener = listen(rt, 0).expect(rt, "a port");
     let addr = listener.local_addr()?;
     let signals = Signals {
@@ -144,22 +156,28 @@ where
         signals,
     };
     let gates = vec![in alloc; held, open]?;
+    let connections = Connections::new(alloc, gates, hands)?;
     let seen = &server;
-    let (served, met) = thread::join(
+    let (served, met) = thread::scope(
+        thread::scope_env(),
         rt,
-        move || match Connections::new(alloc, gates) {
-            Ok(connections) => serve(rt, alloc, seen, listener, connections, Sleeper::new(rt)),
-            Err(_) => Err(ServeFault::NoMemory),
+        move |scope| -> (Result<Served<L>, ServeFault>, Option<io::Result<bool>>)
+            requires send { IsSend L.row × IsSync L.row × IsSync H.row }
+        {
+            let Ok(clients) = scope.spawn(move || meet(rt, addr, signals)) else {
+                return (Err(ServeFault::NoThread), None);
+            };
+            let served = serve(rt, alloc, seen, listener, connections, Sleeper::new(rt));
+            (served, Some(clients.join(rt)))
         },
-        move || meet(rt, addr, signals),
     );
-    assert!(rt; met?);
+    assert!(rt; met.expect(rt, "clients")?);
     assert!(rt; !signals.gave_up.load(Ordering::SeqCst));
     let served = served.expect(rt, "both connections");
     for end in served.ends.iter() {
         assert_eq!(rt; *end, End::Closed);
     }
-    let mut shared = server.into_inner();
+    let mut shared = server.into_inner().into_shared();
     assert_eq!(rt; shared.total(served.passes), Some(3));
     Ok(())
 }

@@ -8,12 +8,13 @@ use bitflags::Flags;
 use block_device::{Disk, DiskError, FixedIn, FixedOut, Io, PlainDisk};
 use fault_model::SimChip;
 use flash_disk::{FlashDisk, format};
+use history::Opened;
 use nbd_transmission::judge;
 use nbd_wire::{Command, CommandFlags, CommandKind};
 use norbd_serve::OpenGate;
 use share::{
-    Done, Door, End, FullRecord, Gate, Locked, NoRecord, OneServer, Pass, Point, Recorder, Server,
-    Shared, keeper, worker,
+    Chronicle, Done, Door, End, FullRecord, Gate, Locked, NoRecord, OneServer, Pass, Point,
+    Recorder, Row, Server, Shared, Tidier, keeper, worker,
 };
 use std::alloc::Global;
 use std::io;
@@ -290,10 +291,16 @@ fn write_zero<L: OneServer, T: Door<L>>(
 #[test]
 fn a_keeper_tidies_until_it_is_stopped(rt: HostRuntime) -> Result<(), Fail> {
     let disk = formatted(rt.alloc())?;
-    keep_two::<Brand, _>(&rt, disk, 70, Blank::new(65537))
+    keep_two::<Brand, _>(&rt, disk, 70, Blank::new(65537), Opened::new(&rt))
 }
 
-fn keep_two<L, H>(rt: &H, disk: OnSim, sectors: u32, blank: Blank) -> Result<(), Fail>
+fn keep_two<L, H>(
+    rt: &H,
+    disk: OnSim,
+    sectors: u32,
+    blank: Blank,
+    opened: Opened<Row>,
+) -> Result<(), Fail>
 where
     L: OneServer,
     H: Abort + Wait,
@@ -301,14 +308,17 @@ where
     requires name { blank.name ≡ L.name }
     requires parts { blank.parts ≡ L.parts }
     requires all { blank.parts ≡ 65537 }
+    requires history { opened ≡ L.book }
     requires unsaid { IsFalse L.sound }
 {
     if disk.sectors() != sectors {
         return Err(Fail::new("another size"));
     }
-    let server = Server::new(Shared::<_, NoRecord, L>::new(disk, blank));
-    let mut pass = server.pass(rt).expect(rt, "a pass");
-    let mut door = Locked::new(&server, rt);
+    let (keeping, mut hands) = opened.named::<L>();
+    let shared = Shared::<_, NoRecord, L>::new(disk, blank);
+    let server = Server::new(Chronicle::new(shared, keeping));
+    let (mut pass, hand) = server.pass(rt, &mut hands).expect(rt, "a pass");
+    let mut door = Locked::new(&server, rt, hand);
     for _time in 0..2u32 {
         assert_eq!(rt; write_zero(&mut door, &mut pass, sectors), Some(0));
     }
@@ -317,7 +327,8 @@ where
         passed: 0,
         stop: &stop,
     };
-    assert_eq!(rt; keeper(&mut door, &stop, &mut gate), Ok(()));
+    let mut tidier = Tidier::new(&server, rt);
+    assert_eq!(rt; keeper(&mut tidier, &stop, &mut gate), Ok(()));
     assert_eq!(rt; server.into_inner().tidy(), Ok(false));
     Ok(())
 }
@@ -326,10 +337,16 @@ where
 fn a_power_loss_takes_all_later_commands(rt: HostRuntime) -> Result<(), Fail> {
     let mut disk = formatted(rt.alloc())?;
     disk.arm(3, 1, 0xFF);
-    lose::<Brand, _>(&rt, disk, 70, Blank::new(65537))
+    lose::<Brand, _>(&rt, disk, 70, Blank::new(65537), Opened::new(&rt))
 }
 
-fn lose<L, H>(rt: &H, disk: OnSim, sectors: u32, blank: Blank) -> Result<(), Fail>
+fn lose<L, H>(
+    rt: &H,
+    disk: OnSim,
+    sectors: u32,
+    blank: Blank,
+    opened: Opened<Row>,
+) -> Result<(), Fail>
 where
     L: OneServer,
     H: Abort + Wait,
@@ -337,21 +354,26 @@ where
     requires name { blank.name ≡ L.name }
     requires parts { blank.parts ≡ L.parts }
     requires all { blank.parts ≡ 65537 }
+    requires history { opened ≡ L.book }
     requires unsaid { IsFalse L.sound }
 {
     if disk.sectors() != sectors {
         return Err(Fail::new("another size"));
     }
-    let server = Server::new(Shared::<_, NoRecord, L>::new(disk, blank));
-    let mut pass = server.pass(rt).expect(rt, "a pass");
-    let mut other = server.pass(rt).expect(rt, "another pass");
-    let mut door = Locked::new(&server, rt);
+    let (keeping, mut hands) = opened.named::<L>();
+    let shared = Shared::<_, NoRecord, L>::new(disk, blank);
+    let server = Server::new(Chronicle::new(shared, keeping));
+    let (mut pass, hand) = server.pass(rt, &mut hands).expect(rt, "a pass");
+    let (mut other, second) = server.pass(rt, &mut hands).expect(rt, "another pass");
+    let mut door = Locked::new(&server, rt, hand);
+    let mut beside = Locked::new(&server, rt, second);
     for _time in 0..3u32 {
         assert_eq!(rt; write_zero(&mut door, &mut pass, sectors), None);
-        assert_eq!(rt; write_zero(&mut door, &mut other, sectors), None);
+        assert_eq!(rt; write_zero(&mut beside, &mut other, sectors), None);
     }
     let stop = AtomicBool::new(false);
     let mut gate = OpenGate;
-    assert_eq!(rt; keeper(&mut door, &stop, &mut gate), Err(DiskError::Cut));
+    let mut tidier = Tidier::new(&server, rt);
+    assert_eq!(rt; keeper(&mut tidier, &stop, &mut gate), Err(DiskError::Cut));
     Ok(())
 }

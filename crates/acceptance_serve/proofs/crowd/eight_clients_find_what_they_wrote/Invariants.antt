@@ -7,3 +7,7 @@ ghosts-serve_crowd-L-Ledger g a = record { name = a.blank.name; parts = a.blank.
 
 abbrev pub ghosts-serve_crowd-L-OneServer : goal.ghosts-serve_crowd-L-OneServer
 ghosts-serve_crowd-L-OneServer g a = record { sectors = a.sectors; sound = false; base = [] }
+
+-- the book of its history
+abbrev pub ghosts-serve_crowd-L-Naming : goal.ghosts-serve_crowd-L-Naming
+ghosts-serve_crowd-L-Naming g a = record { book = a.opened }

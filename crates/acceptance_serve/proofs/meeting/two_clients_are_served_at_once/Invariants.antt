@@ -7,3 +7,7 @@ ghosts-serve_two-L-Ledger g a = record { name = a.blank.name; parts = a.blank.pa
 
 abbrev pub ghosts-serve_two-L-OneServer : goal.ghosts-serve_two-L-OneServer
 ghosts-serve_two-L-OneServer g a = record { sectors = a.sectors; sound = false; base = [] }
+
+-- the book of its history
+abbrev pub ghosts-serve_two-L-Naming : goal.ghosts-serve_two-L-Naming
+ghosts-serve_two-L-Naming g a = record { book = a.opened }

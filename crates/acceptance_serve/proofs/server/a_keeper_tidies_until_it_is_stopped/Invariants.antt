@@ -8,3 +8,7 @@ ghosts-keep_two-L-Ledger g a = record { name = a.blank.name; parts = a.blank.par
 -- and its number of sectors
 abbrev pub ghosts-keep_two-L-OneServer : goal.ghosts-keep_two-L-OneServer
 ghosts-keep_two-L-OneServer g a = record { sectors = a.sectors; sound = false; base = [] }
+
+-- the book of its history
+abbrev pub ghosts-keep_two-L-Naming : goal.ghosts-keep_two-L-Naming
+ghosts-keep_two-L-Naming g a = record { book = a.opened }

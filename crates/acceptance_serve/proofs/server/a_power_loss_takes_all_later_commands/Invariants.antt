@@ -8,3 +8,7 @@ ghosts-lose-L-Ledger g a = record { name = a.blank.name; parts = a.blank.parts }
 -- and its number of sectors
 abbrev pub ghosts-lose-L-OneServer : goal.ghosts-lose-L-OneServer
 ghosts-lose-L-OneServer g a = record { sectors = a.sectors; sound = false; base = [] }
+
+-- the book of its history
+abbrev pub ghosts-lose-L-Naming : goal.ghosts-lose-L-Naming
+ghosts-lose-L-Naming g a = record { book = a.opened }
