@@ -124,7 +124,7 @@ where
 
 /// The disk on the chip behind a bus, on which nothing is in progress. Its data blocks are read
 /// once whole: the disk is sound, and holds what the chip's memory, which is healthy, represents.
-fn look_at<B: SpiBus>(alloc: Global, bus: B) -> Result<FlashDisk<B, Brand>, Fault>
+fn look_at<B: SpiBus + Drop>(alloc: Global, bus: B) -> Result<FlashDisk<B, Brand>, Fault>
     requires idle { is_idle (B.chip bus).operation ≡ true }
     ensures refused { IfErr result IsRefusal }
     ensures sound { IfOk result (λ disk.
