@@ -13,7 +13,7 @@ pub enum ImageError {
     OutOfMemory,
     /// The file can't be made, written or put in its place.
     File,
-    /// The chip in memory refused the format. It is none that a simulated chip gives.
+    /// The chip in memory refused the format: only as one whose power went.
     Refused(ProbeError),
 }
 
