@@ -41,8 +41,8 @@ AreLegal sectors base [] = Unit {0}
 AreLegal sectors base (hand ∷ hands) =
     IsLegal sectors base false hand.seen × AreLegal sectors base hands
 
--- So many connections were served: the pass of each came back, how it ended, and what its hand knows
--- of the server's history; none ended by a lost command.
+-- So many connections were served: the pass of each came back, how it ended, and what its hand
+-- knows of the server's history; none ended by a lost command.
 pub record Returns {L : Type 0} (sound : Bool) (sectors : ℕ) (base : List ℕ) (count : ℕ)
     (served : Served L) : Type 0 where
   pub passes : vec_len served.passes ≡ count
