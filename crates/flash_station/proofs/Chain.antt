@@ -1,6 +1,7 @@
 -- a run of a station that was just made of a disk of zeros
-use Rattle.std.proofs.Common.{arith, ◌≡◌, ℕ, ◌*◌, true, false, List, length, Option, None, refl, sym, ◌∙◌, ap, subst, replicate}
-use Rattle.std.specs.Prelude.{not, Result, Ok, Err}
+use Rattle.std.proofs.Common.{arith, ◌≡◌, ℕ, ◌*◌, true, List, length, Option, None, sym, ◌∙◌, ap, subst, replicate}
+use Rattle.std.specs.Prelude.{not, is_ok, Result, Ok, Err}
+use Rattle.std.proofs.lemmas.Bool.{false≢true}
 use Rattle.std.proofs.lemmas.List.{length-replicate}
 use Rattle.block_device.specs.Facts.{Facts, IsDiskReady}
 use Rattle.station.specs.declared.event.Event.{Event}
@@ -11,17 +12,23 @@ use Rattle.station.specs.Broken.{Stops}
 use Rattle.station.specs.Running.{Runs, Ends}
 use Rattle.station.specs.Script.{ScriptSays, events_of}
 use Rattle.station.specs.Transcript.{Transcript}
-use Rattle.flash_station.specs.declared.error.RunFault.TheVariants.{Script}
+use Rattle.flash_station.specs.declared.error.RunFault.{RunFault}
+use Rattle.flash_station.specs.declared.error.RunFault.TheVariants.{Format, Mount, OutOfMemory, Script}
 use Rattle.nor_layout.specs.Layouts.{layout_of}
 use Rattle.nor_layout.specs.declared.layout.Layout.{Layout}
 use Rattle.nor_layout.specs.declared.layout.Layout.TheVariants.{Sectors}
 use Rattle.nor_layout.specs.declared.superblock.SuperError.{SuperError}
 use Rattle.nor_layout.specs.declared.superblock.SuperError.TheVariants as supers
 use Rattle.sector_map.specs.Maps.{IsMountable, geometry_of}
-use Rattle.flash_disk.specs.Mounting.{RefusedAt}
+use Rattle.chip_model.specs.Chip.{Chip}
+use Rattle.nor_driver.specs.Probe.{IsAcceptedChip, Readings, probe_answer, told}
+use Rattle.nor_driver.specs.declared.error.ProbeError.{ProbeError}
+use Rattle.nor_driver.specs.declared.error.ProbeError.TheVariants as probes
+use Rattle.flash_disk.specs.Formatted.{AnswersAsTold}
+use Rattle.flash_disk.specs.Mounting.{RefusedAt, RefusedAs}
 use Rattle.flash_disk.specs.declared.error.MountError.{MountError}
 use Rattle.flash_disk.specs.declared.error.MountError.TheVariants as mounts
-use Rattle.flash_station.specs.Answered.{Seen, AnswersEvents, BreaksEvents, AnswersScript, IsOfFormatted, new_world}
+use Rattle.flash_station.specs.Answered.{Seen, AnswersEvents, BreaksEvents, AnswersScript, FormatsAsTold, IsOfFormatted, IsPastFormat, new_world}
 
 -- what a disk tells of itself
 abbrev pub seen_of : ℕ → Facts → Seen
@@ -85,9 +92,25 @@ IsDone (Err _) = ⊥
 superblock_is_one : (r : Result Layout SuperError) (e : SuperError) → r ≡ Ok Sectors → r ≡ Err e → ⊥
 superblock_is_one r e good bad = subst IsDone (sym good ∙ bad) tt
 
--- a healthy memory is refused neither as not formatted nor as corrupt
-pub of_formatted : (e : MountError) (m m' : List ℕ) → IsMountable m → RefusedAt e m m' → IsOfFormatted e
-of_formatted (mounts.Probe e) m m' healthy left = tt
-of_formatted mounts.OutOfMemory m m' healthy left = tt
-of_formatted mounts.NotFormatted m m' healthy left = superblock_is_one (layout_of m (geometry_of (length m))) supers.NotFormatted healthy.superblock left.0
-of_formatted mounts.Corrupt m m' healthy left = left.corrupt healthy
+-- a healthy chip that passes the checks of a probe is refused neither for these nor as not formatted
+-- or corrupt
+accepts-none : (c : Chip) (e : ProbeError) → IsAcceptedChip c → probe_answer (told c) ≡ Err e → ⊥
+accepts-none c e accepted refused = false≢true (sym (ap is_ok refused) ∙ accepted)
+
+pub of_formatted : (e : MountError) (c : Chip) (m' : List ℕ) → IsMountable c.memory → IsAcceptedChip c → RefusedAt e c.memory m' → RefusedAs e c → IsOfFormatted e
+of_formatted (mounts.Probe probes.Cut) c m' healthy accepted left refused = tt
+of_formatted (mounts.Probe probes.Slow) c m' healthy accepted left refused = tt
+of_formatted (mounts.Probe probes.WrongId) c m' healthy accepted left refused = accepts-none c probes.WrongId accepted refused
+of_formatted (mounts.Probe (probes.Sfdp e)) c m' healthy accepted left refused = accepts-none c (probes.Sfdp e) accepted refused
+of_formatted (mounts.Probe probes.Protected) c m' healthy accepted left refused = accepts-none c probes.Protected accepted refused
+of_formatted mounts.OutOfMemory c m' healthy accepted left refused = tt
+of_formatted mounts.NotFormatted c m' healthy accepted left refused = superblock_is_one (layout_of c.memory (geometry_of (length c.memory))) supers.NotFormatted healthy.superblock left.0
+of_formatted mounts.Corrupt c m' healthy accepted left refused = left.corrupt healthy
+
+-- behind the format
+pub formats_past : (r : Result (Unit {0}) RunFault) (t : Readings) → IsPastFormat r → AnswersAsTold (Ok tt) t → FormatsAsTold r t
+formats_past (Ok v) t past ok = ok
+formats_past (Err (Format e)) t past ok = absurd past
+formats_past (Err (Mount e)) t past ok = ok
+formats_past (Err OutOfMemory) t past ok = ok
+formats_past (Err (Script e)) t past ok = ok

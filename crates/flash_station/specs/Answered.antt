@@ -1,9 +1,10 @@
 -- What is written of a script that is run on a chip which was just formatted. Source: own.
-use Rattle.std.specs.Prelude.{◌≡◌, ℕ, ◌*◌, Bool, true, List, ◌++◌, Option, None, replicate, Result}
+use Rattle.std.specs.Prelude.{◌≡◌, ℕ, ◌*◌, true, List, ◌++◌, Option, None, replicate, Result}
 use Rattle.std.specs.Prelude.{Ok, Err}
 use Rattle.std.specs.Io.KnownBytes.{Appends, Consumes, IsAtEnd}
-use Rattle.block_device.specs.Facts.{Facts}
-use Rattle.flash_disk.specs.Formatted.{FormatFails}
+use Rattle.nor_driver.specs.Probe.{Readings}
+use Rattle.nor_driver.specs.declared.error.ProbeError.TheVariants as probes
+use Rattle.flash_disk.specs.Formatted.{AnswersAsTold, FormatFails}
 use Rattle.flash_disk.specs.Mounting.{RefusedFor}
 use Rattle.flash_disk.specs.declared.error.MountError.{MountError}
 use Rattle.flash_disk.specs.declared.error.MountError.TheVariants as refusals
@@ -48,9 +49,14 @@ BreaksEvents old new events was is = new.slows ≡ old.slows →
     (w : World) × (out : List ℕ) × Appends was is out
     × Stops old.cuts (new_world old.sectors) events out new.cuts w × (w.disk ≡ new.contents)
 
--- a chip that was just formatted is never refused as not formatted or corrupt
+-- a chip that was just formatted is refused only for a loss of power, a slow operation or want of
+-- memory
 abbrev pub IsOfFormatted : MountError → Type 0
-IsOfFormatted (refusals.Probe e) = Unit {0}
+IsOfFormatted (refusals.Probe probes.Cut) = Unit {0}
+IsOfFormatted (refusals.Probe probes.Slow) = Unit {0}
+IsOfFormatted (refusals.Probe probes.WrongId) = ⊥
+IsOfFormatted (refusals.Probe (probes.Sfdp e)) = ⊥
+IsOfFormatted (refusals.Probe probes.Protected) = ⊥
 IsOfFormatted refusals.OutOfMemory = Unit {0}
 IsOfFormatted refusals.NotFormatted = ⊥
 IsOfFormatted refusals.Corrupt = ⊥
@@ -84,6 +90,23 @@ AnswersScript old new r was (Err (Mount e)) r' is =
     IsUntouched r was r' is × RefusedFor e old.cuts old.slows new.cuts new.slows × IsOfFormatted e
 AnswersScript old new r was (Err OutOfMemory) r' is =
     IsUntouched r was r' is × (new.cuts ≡ old.cuts) × (new.slows ≡ old.slows)
+
+-- an answer that comes of the mount or of the script, and not of a format
+abbrev pub IsPastFormat : Result (Unit {0}) RunFault → Type 0
+IsPastFormat (Ok _) = Unit {0}
+IsPastFormat (Err (Format e)) = ⊥
+IsPastFormat (Err (Mount e)) = Unit {0}
+IsPastFormat (Err OutOfMemory) = Unit {0}
+IsPastFormat (Err (Script e)) = Unit {0}
+
+-- What the format answered of what the chip told; each answer that isn't its refusal comes of a
+-- chip that it accepts.
+abbrev pub FormatsAsTold : Result (Unit {0}) RunFault → Readings → Type 0
+FormatsAsTold (Ok _) t = AnswersAsTold (Ok tt) t
+FormatsAsTold (Err (Format e)) t = AnswersAsTold (Err e) t
+FormatsAsTold (Err (Mount e)) t = AnswersAsTold (Ok tt) t
+FormatsAsTold (Err OutOfMemory) t = AnswersAsTold (Ok tt) t
+FormatsAsTold (Err (Script e)) t = AnswersAsTold (Ok tt) t
 
 -- the part of an answer that a script alone gives: a refusal before it counts as none
 abbrev pub script_part : Result (Unit {0}) RunFault → Result (Unit {0}) ScriptError

@@ -1,6 +1,6 @@
 -- What is written of a script that is run on a chip in memory, where no operation is slow. Source:
 -- own.
-use Rattle.std.specs.Prelude.{◌≡◌, ℕ, List, ◌++◌, Option, Result, Ok, Err}
+use Rattle.std.specs.Prelude.{ℕ, List, ◌++◌, Option, Result, Ok, Err}
 use Rattle.std.specs.Io.KnownBytes.{Appends, Consumes, IsAtEnd}
 use Rattle.flash_disk.specs.declared.error.MountError.{MountError}
 use Rattle.flash_disk.specs.declared.error.MountError.TheVariants as mounts
@@ -28,16 +28,16 @@ abbrev pub BreaksFrom : ℕ → List Event → Option (List ℕ) → Option (Lis
 BreaksFrom sectors events was is = (w : World) × (out : List ℕ) × (losses : ℕ) × Appends was is out
     × Stops 0 (new_world sectors) events out losses w
 
--- a probe of a chip on which no operation is slow is never refused for that
+-- a chip in memory passes the checks of a probe, and no operation of it is slow: it is refused only
+-- for a loss of power
 abbrev pub IsPrompt : ProbeError → Type 0
 IsPrompt probes.Cut = Unit {0}
 IsPrompt probes.Slow = ⊥
-IsPrompt probes.WrongId = Unit {0}
-IsPrompt (probes.Sfdp e) = Unit {0}
-IsPrompt probes.Protected = Unit {0}
+IsPrompt probes.WrongId = ⊥
+IsPrompt (probes.Sfdp e) = ⊥
+IsPrompt probes.Protected = ⊥
 
--- and a mount of such a chip that was just formatted is not refused as not formatted or corrupt
--- either
+-- and the mount of one that was just formatted for that or for want of memory
 abbrev pub IsOfPrompt : MountError → Type 0
 IsOfPrompt (mounts.Probe e) = IsPrompt e
 IsOfPrompt mounts.OutOfMemory = Unit {0}

@@ -5,7 +5,9 @@ ghost use Rattle.block_device.specs.Facts.{IsDiskReady};
 ghost use Rattle.chip_model.specs.Geometry.{sector_count};
 ghost use Rattle.flash_disk.specs.Contents.{contents_of};
 ghost use Rattle.flash_disk.specs.Formatted.{Formatted};
-ghost use Rattle.flash_station.specs.Answered.{AnswersScript, script_part};
+ghost use Rattle.nor_driver.specs.Probe.{told};
+ghost use Rattle.flash_station.specs.Answered.{AnswersScript, FormatsAsTold, IsPastFormat};
+ghost use Rattle.flash_station.specs.Answered.{script_part};
 ghost use Rattle.station.specs.Script.{FailsToReadAll, FailsToWrite};
 
 use crate::error::RunFault;
@@ -51,6 +53,9 @@ pub fn run_formatted<B: SpiBus, S: Source, W: Sink>(
         (script_part result.1) (S.faults reader.new) }
     ensures writes { FailsToWrite (W.faults writer.old) (script_part result.1)
         (W.faults writer.new) }
+    // it refuses the format exactly as the chip's id, table and registers say, but for what
+    // interrupts it
+    ensures told { FormatsAsTold result.1 (told (B.chip bus)) }
 {
     let (bus, answer) = format(bus);
     match answer {
@@ -89,6 +94,7 @@ fn run_mounted<B: SpiBus, P: Provenance, S: Source, W: Sink>(
         (script_part result.1) (S.faults reader.new) }
     ensures writes { FailsToWrite (W.faults writer.old) (script_part result.1)
         (W.faults writer.new) }
+    ensures past { IsPastFormat result.1 }
 {
     match FlashDisk::<B, P>::mount(alloc, bus) {
         Ok(disk) => run_on(alloc, disk, reader, writer),
@@ -126,6 +132,7 @@ fn run_on<B: SpiBus, P: Provenance, S: Source, W: Sink>(
         (script_part result.1) (S.faults reader.new) }
     ensures writes { FailsToWrite (W.faults writer.old) (script_part result.1)
         (W.faults writer.new) }
+    ensures past { IsPastFormat result.1 }
 {
     match Station::new(alloc, disk) {
         Ok(station) => {

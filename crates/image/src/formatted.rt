@@ -12,8 +12,7 @@ use std::alloc::Global;
 /// The bytes of a chip of so many KiB that was just formatted: those of a chip in memory, all FFh
 /// at first, after a `format`.
 ///
-/// `OutOfMemory` where there is no memory for them, `Refused` where the chip lost its power, which
-/// it doesn't.
+/// `OutOfMemory` where there is no memory for them, `Refused` only where the chip lost its power.
 pub fn formatted_image(alloc: Global, kib: u32) -> Result<Vec<u8>, ImageError>
     requires { IsChipSize (1024 * kib) }
     ensures image { IfOk result (λ image. IsFormattedImage (1024 * kib) image.items) }

@@ -1,4 +1,4 @@
-use Rattle.std.proofs.Common.{◌≡◌, ap, ◌∙◌, length}
+use Rattle.std.proofs.Common.{ap, ◌∙◌, length}
 use Rattle.block_device.specs.Facts.{Facts}
 use Rattle.chip_model.specs.Geometry.{sector_count}
 use Rattle.flash_disk.specs.Contents.{contents_of}
