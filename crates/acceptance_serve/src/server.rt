@@ -318,9 +318,11 @@ where
     let shared = Shared::<_, NoRecord, L>::new(disk, blank);
     let server = Server::new(Chronicle::new(shared, keeping));
     let (mut pass, hand) = server.pass(rt, &mut hands).expect(rt, "a pass");
-    let mut door = Locked::new(&server, rt, hand);
-    for _time in 0..2u32 {
-        assert_eq!(rt; write_zero(&mut door, &mut pass, sectors), Some(0));
+    {
+        let mut door = Locked::new(&server, rt, hand);
+        for _time in 0..2u32 {
+            assert_eq!(rt; write_zero(&mut door, &mut pass, sectors), Some(0));
+        }
     }
     let stop = AtomicBool::new(false);
     let mut gate = StopGate {
