@@ -74,18 +74,23 @@ fn looked_at(alloc: Global, image: Vec<u8>) -> Result<(Result<bool, MountError>,
     }
 }
 
+/// Reads all sectors of a disk.
+fn read_all(disk: &mut OnSim, into: &mut [u8]) -> Result<(), Fail> {
+    if disk.sectors() != 70 || into.len() != 35_840 {
+        return Err(Fail::new("another size"));
+    }
+    Ok(disk.read(0, into)?)
+}
+
 /// Serves an image: a sector is written, and read again, and each other is as it was.
 fn serves(alloc: Global, image: Vec<u8>, was: &mut [u8], is: &mut [u8]) -> Result<Vec<u8>, Fail> {
     let mount: Result<OnSim, _> = FlashDisk::mount(alloc, SimChip::new(image)?);
     let Ok(mut disk) = mount else {
         return Err(Fail::new("not mounted"));
     };
-    if disk.sectors() != 70 || was.len() != 35_840 || is.len() != 35_840 {
-        return Err(Fail::new("another size"));
-    }
-    disk.read(0, was)?;
+    read_all(&mut disk, was)?;
     fill(&mut disk, WRITTEN, 0xA7)?;
-    disk.read(0, is)?;
+    read_all(&mut disk, is)?;
     let at = 512 * WRITTEN as usize;
     let is_same = was.get(..at) == is.get(..at) && was.get(at + 512..) == is.get(at + 512..);
     let is_written = is
