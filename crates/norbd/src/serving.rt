@@ -1,6 +1,7 @@
 //! `serve`: the chip in an image file, served to clients on a port of this machine.
 ghost use Rattle.std.specs.Prelude.{◌≡◌, ◌*◌, length, string_bytes, IfOk, IfErr, true};
 ghost use Rattle.std.specs.Prelude.{false};
+ghost use Rattle.block_device.specs.Facts.{IsDiskReady};
 ghost use Rattle.chip_model.specs.Chip.{is_idle};
 ghost use Rattle.flash_disk.specs.Mounting.{OpenedFrom};
 ghost use Rattle.std.specs.Thread.{IsSend};
@@ -87,6 +88,7 @@ where
     D: Disk + Send + Drop,
     K: Sink,
     requires sound { (D.facts disk).sound ≡ true }
+    requires ready { IsDiskReady (D.facts disk) }
     requires numbers { IsPort asked.port × IsConns asked.conns }
     ensures { TellsServing asked.port asked.conns asked.record (K.written writer.old)
         (K.faults writer.old) result
@@ -115,6 +117,8 @@ where
     ensures refused { IfErr result IsRefusal }
     ensures sound { IfOk result (λ disk.
         (⟦<FlashDisk<ImageBus<R::File>, Brand> as Disk>⟧.facts disk).sound ≡ true) }
+    ensures ready { IfOk result (λ disk.
+        IsDiskReady (⟦<FlashDisk<ImageBus<R::File>, Brand> as Disk>⟧.facts disk)) }
 {
     match ImageBus::open(rt, image) {
         Ok(bus) => look_at(rt.alloc(), bus),
@@ -129,6 +133,8 @@ fn look_at<B: SpiBus + Drop>(alloc: Global, bus: B) -> Result<FlashDisk<B, Brand
     ensures refused { IfErr result IsRefusal }
     ensures sound { IfOk result (λ disk.
         (⟦<FlashDisk<B, Brand> as Disk>⟧.facts disk).sound ≡ true) }
+    ensures ready { IfOk result (λ disk.
+        IsDiskReady (⟦<FlashDisk<B, Brand> as Disk>⟧.facts disk)) }
     ensures from { IfOk result (λ disk. OpenedFrom (B.chip bus).memory
         (⟦<FlashDisk<B, Brand> as Disk>⟧.facts disk)) }
 {
@@ -166,6 +172,7 @@ where
     requires size { length (D.facts disk).contents ≡ 512 * sectors }
     requires sectors { sectors ≡ L.sectors }
     requires sound { ((D.facts disk).sound ≡ true) × (L.sound ≡ true) }
+    requires ready { IsDiskReady (D.facts disk) }
     requires base { L.base ≡ (D.facts disk).contents }
     requires name { unnamed.blank.name ≡ L.name }
     requires parts { (unnamed.blank.parts ≡ L.parts) × (unnamed.blank.parts ≡ 65537) }

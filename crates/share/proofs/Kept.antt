@@ -30,7 +30,7 @@ or-false true = refl
 or-false false = refl
 
 -- the row keeps a WRITE's payload, and no other command takes any
-changed-payload : (k : CommandKind) (d : List ℕ) (c : Command) (bytes bytes' : List ℕ) → (is_read k ≡ false → bytes' ≡ bytes) → changed_kind k d c (payload_in_of k bytes') ≡ changed_kind k d c bytes
+pub changed-payload : (k : CommandKind) (d : List ℕ) (c : Command) (bytes bytes' : List ℕ) → (is_read k ≡ false → bytes' ≡ bytes) → changed_kind k d c (payload_in_of k bytes') ≡ changed_kind k d c bytes
 changed-payload Read d c bytes bytes' h = refl
 changed-payload Write d c bytes bytes' h = ap (λ (p : List ℕ). changed_kind Write d c p) (h refl)
 changed-payload Disconnect d c bytes bytes' h = refl
@@ -39,7 +39,7 @@ changed-payload Trim d c bytes bytes' h = refl
 changed-payload WriteZeroes d c bytes bytes' h = refl
 changed-payload (Unknown n) d c bytes bytes' h = refl
 
-payload-length : (k : CommandKind) (c : Command) (bytes bytes' : List ℕ) → length bytes' ≡ length bytes → length bytes ≡ lent_len_of k c → length (payload_in_of k bytes') ≡ payload_len_of k c
+pub payload-length : (k : CommandKind) (c : Command) (bytes bytes' : List ℕ) → length bytes' ≡ length bytes → length bytes ≡ lent_len_of k c → length (payload_in_of k bytes') ≡ payload_len_of k c
 payload-length Read c bytes bytes' same long = refl
 payload-length Write c bytes bytes' same long = same ∙ long
 payload-length Disconnect c bytes bytes' same long = refl
@@ -58,7 +58,7 @@ data-same Trim c d e bytes same h = h
 data-same WriteZeroes c d e bytes same h = h
 data-same (Unknown n) c d e bytes same h = h
 
-not_both : (b : Bool) → b ≡ true → b ≡ false → ⊥
+pub not_both : (b : Bool) → b ≡ true → b ≡ false → ⊥
 not_both b t f = cc
 
 -- where a Cut would have made the server lost, none stood

@@ -76,6 +76,8 @@ pub record LosesCommand (keeps : Bool) (old new : Served) (pass pass' : Seat) (c
   pub latched : new.disk.cut ≡ true
   pub cause : (old.disk.cut ≡ true) ⊎ (old.disk.cuts < new.disk.cuts)
   pub lost : new.lost ≡ true
+  -- a Cut comes only where no Slow is latched
+  pub quiet : old.disk.cut ≡ false → old.disk.slow ≡ false
   -- each sector is as it was, or as the command was to make it
   pub left : old.disk.sound ≡ true
       → Outcome old.disk.contents (changed_by old.disk.contents command bytes) new.disk.contents
@@ -118,3 +120,5 @@ pub record Tidied (old new : Served) (result : Result Bool DiskError) : Type 0 w
       × (new.disk.cut ≡ true) × (new.lost ≡ true)
   pub slow : IsErrOf result Slow → ((old.disk.slow ≡ true) ⊎ (old.disk.slows < new.disk.slows))
       × (new.disk.slow ≡ true) × (new.lost ≡ old.lost)
+  pub alone : IsErrOf result Slow → new.disk.cut ≡ false
+  pub quiet : IsErrOf result Cut → old.disk.cut ≡ false → old.disk.slow ≡ false

@@ -1,16 +1,20 @@
 -- What is known of a server each time its lock is got, and what is done to it under the lock.
 -- Source: own.
 use Rattle.std.specs.Prelude.{◌≡◌, ℕ, ◌*◌, List, [], ◌∷◌, ◌++◌, length, Bool, true, false, Result}
+use Rattle.std.specs.Prelude.{Option, None, IfSome}
 use mathlib.Core.List.{IsPrefix}
 use Rattle.block_device.specs.declared.disk.DiskError.{DiskError}
 use Rattle.block_device.specs.Facts.{Facts}
 use Rattle.history.specs.Notes.{Sight, entries_by}
 use Rattle.nbd_wire.specs.declared.command.Command.{Command}
+use Rattle.nbd_wire.specs.Commands.{judge_of}
+use Rattle.nbd_wire.specs.Lent.{payload_len_of}
 use Rattle.nbd_wire.specs.Numbers.{ENOMEM}
+use Rattle.share.specs.declared.recorder.Interrupted.{Interrupted}
 use Rattle.share.specs.declared.recorder.Row.{Row}
 use Rattle.share.specs.declared.shared.Done.{Done}
 use Rattle.share.specs.Doing.{Executes, IfReplied, OnLost, Tidied}
-use Rattle.share.specs.History.{has_failed, replay, row_of, IsLegal}
+use Rattle.share.specs.History.{has_failed, replay, row_of, IsLeft, IsLegal}
 use Rattle.share.specs.Seat.{Seat}
 use Rattle.share.specs.State.{Served, IsKept}
 
@@ -40,17 +44,31 @@ pub record Chronicled : Type 0 where
   pub served : Served
   pub rows : List Row
 
+-- A Cut took at most one command, which the request table accepts: each sector is wholly as it was,
+-- or wholly as that command was to make it. Where it came in tidying they are all as they were.
+pub record IsCutIn (sectors : ℕ) (old new : List ℕ) : Type 0 where
+  pub interrupted : Option Interrupted
+  pub accepted : IfSome interrupted (λ lost. judge_of lost.command sectors ≡ None)
+  pub payload : IfSome interrupted (λ lost.
+      length lost.payload ≡ payload_len_of lost.command.kind lost.command)
+  pub left : IsLeft interrupted old new
+
 -- The rows are a legal history of these contents, and while neither a Cut nor a Slow is latched in
--- a sound disk its contents are their replay.
+-- a sound disk its contents are their replay; where a Cut is latched they are what it left of that.
 pub record IsHistoryOf (sectors : ℕ) (disk : Facts) (base : List ℕ) (rows : List Row) : Type 0 where
   pub legal : disk.sound ≡ true → IsLegal sectors base false rows
   pub replayed : disk.sound ≡ true → disk.cut ≡ false → disk.slow ≡ false
       → disk.contents ≡ replay base rows
+  pub cut : disk.sound ≡ true → disk.cut ≡ true → IsCutIn sectors (replay base rows) disk.contents
   pub failed : disk.cut ≡ false → has_failed false rows ≡ true → disk.slow ≡ true
 
 -- so this holds of a server each time its lock is got
 pub record IsChronicled (start : Start) (a : Chronicled) : Type 0 where
   pub served : IsServed start a.served
+  -- after a Cut every command is lost
+  pub latched : start.sound ≡ true → a.served.disk.cut ≡ true → a.served.lost ≡ true
+  -- where rows are kept they are the history
+  pub recorded : start.keeps ≡ true → a.served.rows ≡ a.rows
   pub history : start.sound ≡ true → IsHistoryOf start.sectors a.served.disk start.base a.rows
 
 abbrev pub connection_of : Row → ℕ

@@ -78,14 +78,18 @@ impl<D: Disk, R: Recorder, L: OneServer> Model for Chronicle<D, R, L> {
 
     ghost view = { λ c. record { served = c.shared; rows = c.keeper } };
 
-    ghost invariant = { λ c. L.sound ≡ true
-        → IsHistoryOf L.sectors c.shared.disk L.base c.keeper };
+    ghost invariant = { λ c. record {
+      latched : L.sound ≡ true → c.shared.disk.cut ≡ true → c.shared.lost ≡ true;
+      recorded : R.KEEPS ≡ true → c.shared.rows ≡ c.keeper;
+      history : L.sound ≡ true → IsHistoryOf L.sectors c.shared.disk L.base c.keeper;
+    } };
 }
 
 impl<D: Disk, R: Recorder, L: OneServer> Chronicle<D, R, L> {
-    /// A server whose history has no row.
+    /// A server whose history has no row. In a sound disk no Cut is latched.
     pub fn new(shared: Shared<D, R, L>, keeper: Keeper<Row, L>) -> Chronicle<D, R, L>
-        requires none { keeper ≡ [] }
+        requires none { (keeper ≡ []) × (shared.rows ≡ []) }
+        requires whole { L.sound ≡ true → shared.disk.cut ≡ false }
         requires base { L.sound ≡ true → shared.disk.contents ≡ L.base }
         ensures served { result.served ≡ shared }
         ensures rows { result.rows ≡ [] }

@@ -1,5 +1,12 @@
-use Rattle.share.proofs.Chronicles.{told_tidied}
+use Rattle.std.proofs.Common.{◌∙◌}
+use Rattle.share.proofs.Chronicles.{latched_tidied, told_tidied}
 use Rattle.share.proofs.chronicle.Chronicle.tidy.Goals as goal
 
 pub invariant_of-self : goal.invariant_of-self
-invariant_of-self g c = λ s. told_tidied g.L.OneServer.sectors g.L.OneServer.base c.self.inside.shared c.tidy.new.self c.tidy.result c.self.inside.keeper (c.self.invariant s) c.tidy.ensures
+invariant_of-self g c =
+    let inv = c.self.invariant in
+    record {
+      latched = λ s. latched_tidied c.self.inside.shared c.tidy.new.self c.tidy.result (inv.latched s) c.tidy.ensures;
+      recorded = λ k. c.tidy.ensures.rows ∙ inv.recorded k;
+      history = λ s. told_tidied g.L.OneServer.sectors g.L.OneServer.base c.self.inside.shared c.tidy.new.self c.tidy.result c.self.inside.keeper (inv.history s) c.tidy.ensures;
+    }

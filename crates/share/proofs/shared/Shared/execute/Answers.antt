@@ -87,6 +87,7 @@ returns-in-Err-Cut g c =
           latched = s.1;
           cause = elim s.0 [ inl stood ↦ inl stood | inr came ↦ inr came.2 ];
           lost = refl;
+          quiet = was_quiet _ _ _ _ s.0;
           left = left;
           interrupted = λ k _. i.interrupted k ∙ ap (λ (x : Interrupted). Some x) (interrupted-same c.args.command.now c.args.data.now c.run.new.bytes r.kept);
         };
