@@ -1,7 +1,8 @@
 //! The program's words, and the texts of its faults.
 
-use norbd_line::{Fault, Line, read_line};
+use norbd_line::{Cause, Fault, Line, ServeLine, SyncPolicy, read_line};
 use std::alloc::Global;
+use std::io::ErrorKind;
 use std::test::Fail;
 
 /// These words, set apart by blanks.
@@ -29,9 +30,13 @@ fn plain<'a>(sectors: u32) -> Result<Line<'a>, u8> {
     })
 }
 
-/// A line `format`.
+/// A line `format` without `--force`.
 fn format<'a>(image: &'a str, kib: u32) -> Result<Line<'a>, u8> {
-    Ok(Line::Format { image, kib })
+    Ok(Line::Format {
+        image,
+        kib,
+        force: false,
+    })
 }
 
 /// A line `script`.
@@ -40,13 +45,19 @@ fn script<'a>(kib: u32) -> Result<Line<'a>, u8> {
 }
 
 /// A line `serve` of the image `a.img`.
-fn serve<'a>(port: u32, conns: u32, record: bool) -> Result<Line<'a>, u8> {
-    Ok(Line::Serve {
+fn serve<'a>(
+    port: u32,
+    conns: Option<u32>,
+    record: bool,
+    sync: SyncPolicy,
+) -> Result<Line<'a>, u8> {
+    Ok(Line::Serve(ServeLine {
         image: "a.img",
         port,
         conns,
         record,
-    })
+        sync,
+    }))
 }
 
 #[test]
@@ -64,6 +75,14 @@ fn reads_lines(rt: HostRuntime) -> Result<(), Fail> {
         ),
         ("norbd format a.img --kib 64", format("a.img", 64)),
         ("norbd format --kib 16384 d/a.img", format("d/a.img", 16384)),
+        (
+            "norbd format a.img --force --kib 64",
+            Ok(Line::Format {
+                image: "a.img",
+                kib: 64,
+                force: true,
+            }),
+        ),
         ("norbd script --kib 64", script(64)),
         ("norbd script --kib 16384", script(16384)),
     ] {
@@ -78,15 +97,23 @@ fn reads_lines_of_serve(rt: HostRuntime) -> Result<(), Fail> {
     for (text, answer) in [
         (
             "norbd serve a.img --port 10809 --conns 2",
-            serve(10809, 2, false),
+            serve(10809, Some(2), false, SyncPolicy::AtFlush),
         ),
         (
             "norbd serve --record a.img --conns 64 --port 1",
-            serve(1, 64, true),
+            serve(1, Some(64), true, SyncPolicy::AtFlush),
         ),
         (
-            "norbd serve a.img --port 65535 --conns 1",
-            serve(65535, 1, false),
+            "norbd serve a.img --port 65535 --conns 1 --sync never",
+            serve(65535, Some(1), false, SyncPolicy::Never),
+        ),
+        (
+            "norbd serve a.img --sync always --port 10809",
+            serve(10809, None, false, SyncPolicy::Always),
+        ),
+        (
+            "norbd serve --sync flush --port 10809 a.img",
+            serve(10809, None, false, SyncPolicy::AtFlush),
         ),
     ] {
         let words = words_of(rt.alloc(), text)?;
@@ -122,7 +149,10 @@ fn faulty_lines_have_the_status_2(rt: HostRuntime) -> Result<(), Fail> {
         "norbd serve a.img --port 65536 --conns 1",
         "norbd serve a.img --port 10809 --conns 0",
         "norbd serve a.img --port 10809 --conns 65",
-        "norbd serve a.img --port 10809",
+        "norbd serve a.img --port 10809 --sync",
+        "norbd serve a.img --port 10809 --sync often",
+        "norbd serve a.img --port 10809 --sync Flush",
+        "norbd serve a.img --port 10809 --force",
         "norbd serve a.img --conns 2",
         "norbd serve --port 10809 --conns 2",
         "norbd other",
@@ -191,7 +221,11 @@ fn faults_show_their_texts(rt: HostRuntime) -> Result<(), Fail> {
         (Fault::NoMemory, "no memory"),
         (Fault::InputFailed, "input failed"),
         (Fault::OutputFailed, "output failed"),
-        (Fault::ImageFailed, "image failed"),
+        (Fault::BadSync, "bad sync"),
+        (Fault::NotText, "a word is not UTF-8"),
+        (Fault::ImageFailed(Cause::NotAFile), "image failed"),
+        (Fault::InUse, "image in use"),
+        (Fault::Formatted, "image is formatted"),
         (Fault::WrongId, "wrong id"),
         (Fault::BadSfdp, "bad sfdp"),
         (Fault::Protected, "protected"),
@@ -199,11 +233,30 @@ fn faults_show_their_texts(rt: HostRuntime) -> Result<(), Fail> {
         (Fault::BadRecord, "bad record"),
         (Fault::NotFormatted, "not formatted"),
         (Fault::Corrupt, "corrupt"),
-        (Fault::BadImageSize, "bad image size"),
-        (Fault::NoSocket, "no socket"),
+        (Fault::BadImageSize(1), "bad image size"),
+        (Fault::NoSocket(Cause::Accept), "no socket"),
         (Fault::NoThread, "no thread"),
     ] {
         assert_eq!(rt; format!(in rt.alloc(); "{fault}")?.as_str(), text);
+    }
+    Ok(())
+}
+
+#[test]
+fn causes_show_their_texts(rt: HostRuntime) -> Result<(), Fail> {
+    for (cause, text) in [
+        (
+            Cause::System(ErrorKind::PermissionDenied),
+            "permission denied",
+        ),
+        (Cause::System(ErrorKind::AddrInUse), "address in use"),
+        (Cause::NotAFile, "not a regular file"),
+        (Cause::Accept, "accepting failed"),
+        (Cause::Read, "a read failed"),
+        (Cause::Write, "a write failed"),
+        (Cause::Sync, "a sync failed"),
+    ] {
+        assert_eq!(rt; format!(in rt.alloc(); "{cause}")?.as_str(), text);
     }
     Ok(())
 }

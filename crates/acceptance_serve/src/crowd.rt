@@ -5,9 +5,11 @@ ghost use Rattle.std.specs.Prelude.{◌≡◌, ◌*◌, ◌<◌, ◌≤◌, leng
 ghost use Rattle.std.specs.Thread.{IsSend, IsSync};
 
 use crate::clients::{ask, begin, is_answered};
+use crate::counted::Counted;
 use crate::own::own_sectors;
 use acceptance_random::Dice;
 use block_device::Disk;
+use durable::{Durable, Policy};
 use fault_model::ImageBus;
 use flash_disk::FlashDisk;
 use history::Opened;
@@ -22,6 +24,7 @@ use std::os::unix::fs::FileExt;
 use std::process::Abort;
 use std::rt::Files;
 use std::sync::Wait;
+use std::sync::atomic::AtomicU32;
 use std::sync::ledger::Blank;
 use std::test::*;
 use std::thread::Threads;
@@ -266,6 +269,9 @@ where
     let gates = vec![in alloc; OpenGate; CLIENTS as usize]?;
     let connections = Connections::new(alloc, gates, hands)?;
     let seen = &server;
+    let syncs = AtomicU32::new(0);
+    let durable = Durable::new(Counted { syncs: &syncs }, Policy::AtFlush);
+    let durable = &durable;
     let (served, right) = thread::scope(
         thread::scope_env(),
         rt,
@@ -275,7 +281,15 @@ where
             let Ok(clients) = scope.spawn(move || work(rt, alloc, addr, held)) else {
                 return (Err(ServeFault::NoThread), None);
             };
-            let served = serve(rt, alloc, seen, listener, connections, Sleeper::new(rt));
+            let served = serve(
+                rt,
+                alloc,
+                seen,
+                durable,
+                listener,
+                connections,
+                Sleeper::new(rt),
+            );
             (served, Some(clients.join(rt)))
         },
     );

@@ -2,7 +2,8 @@
 //! fail.
 //!
 //! There is no product code here. `own_sectors` parts a disk among eight connections. The tests
-//! stand by subject: `clients` is what a client sends and reads; `meeting` two clients at once;
+//! stand by subject: `clients` is what a client sends and reads; `counted` a
+//! file that counts its syncs; `meeting` two clients at once;
 //! `crowd` eight clients with random commands on an image; `server` a connection, a keeper and a
 //! power loss without a socket.
 //!
@@ -12,6 +13,8 @@
 
 #[cfg(test)]
 mod clients;
+#[cfg(test)]
+mod counted;
 #[cfg(test)]
 mod crowd;
 #[cfg(test)]

@@ -4,7 +4,9 @@ ghost use Rattle.std.specs.Prelude.{◌≡◌, ◌*◌, length, IsFalse};
 ghost use Rattle.std.specs.Thread.{IsSend, IsSync};
 
 use crate::clients::{ask, begin, is_answered};
+use crate::counted::Counted;
 use block_device::PlainDisk;
+use durable::{Durable, Policy};
 use history::Opened;
 use norbd_serve::{Connections, ServeFault, Served, Sleeper, listen, serve};
 use share::{Chronicle, End, FullRecord, Gate, OneServer, Point, Row, Server, Shared};
@@ -14,7 +16,7 @@ use std::marker::Brand;
 use std::net::{Net, SocketAddr, TcpListener, TcpStream};
 use std::process::Abort;
 use std::sync::Wait;
-use std::sync::atomic::{AtomicBool, Ordering};
+use std::sync::atomic::{AtomicBool, AtomicU32, Ordering};
 use std::sync::ledger::Blank;
 use std::test::*;
 use std::thread::Threads;
@@ -158,6 +160,9 @@ where
     let gates = vec![in alloc; held, open]?;
     let connections = Connections::new(alloc, gates, hands)?;
     let seen = &server;
+    let syncs = AtomicU32::new(0);
+    let durable = Durable::new(Counted { syncs: &syncs }, Policy::AtFlush);
+    let durable = &durable;
     let (served, met) = thread::scope(
         thread::scope_env(),
         rt,
@@ -167,7 +172,15 @@ where
             let Ok(clients) = scope.spawn(move || meet(rt, addr, signals)) else {
                 return (Err(ServeFault::NoThread), None);
             };
-            let served = serve(rt, alloc, seen, listener, connections, Sleeper::new(rt));
+            let served = serve(
+                rt,
+                alloc,
+                seen,
+                durable,
+                listener,
+                connections,
+                Sleeper::new(rt),
+            );
             (served, Some(clients.join(rt)))
         },
     );

@@ -2,8 +2,10 @@
 //!
 //! `formatted_image` formats a chip in memory and gives its bytes: a healthy and clean memory of
 //! the size asked for, whose disk is one of zeros (`specs/Image.antt`). `write_image` puts bytes
-//! into a file as a whole: they are written beside it, and the new file takes its name. What a file
-//! holds no contract can say; tests and runs show it.
+//! into a file as a whole: they are written beside it, and the new file takes its name; one that
+//! begins as a formatted chip is refused unless it is forced (`leave_to_replace`). `hold` opens a
+//! file and takes its lock, so that one process at a time has it, and `Held::chip` is the chip in
+//! it. What a file holds, and who has its lock, no contract can say; tests and runs show it.
 //!
 //! Left to the crate above: that the size is a chip's, and which bytes a file is given.
 //!
@@ -14,7 +16,9 @@
 mod error;
 mod file;
 mod formatted;
+mod owner;
 
 pub use error::ImageError;
 pub use file::write_image;
 pub use formatted::formatted_image;
+pub use owner::{Held, ImageFile, hold};

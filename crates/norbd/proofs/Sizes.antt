@@ -1,5 +1,5 @@
 -- The number of a line `format` or `script` is a size of chips, in KiB.
-use Rattle.std.proofs.Common.{ℕ, ◌*◌, arith}
+use Rattle.std.proofs.Common.{ℕ, ◌*◌, IfSome, arith}
 use Rattle.chip_model.specs.Geometry.{IsChipSize}
 use Rattle.norbd_line.specs.Line.{IfFormat, IfScript, IfServe, IsLineInRange, IsConns, IsPort, IsSize}
 use Rattle.norbd_line.specs.declared.line.Line.{Line}
@@ -14,18 +14,18 @@ size_of_chip kib size = record {
 
 pub size_of_line : (line : Line) → IsLineInRange line → IfFormat line (λ _ kib. IsSize kib)
 size_of_line (Plain sectors keeps_rows) range = tt
-size_of_line (Format image kib) range = range
+size_of_line (Format image kib forced) range = range
 size_of_line (Script kib) range = tt
-size_of_line (Serve image port conns keeps_rows) range = tt
+size_of_line (Serve asked) range = tt
 
 pub size_of_script : (line : Line) → IsLineInRange line → IfScript line (λ kib. IsSize kib)
 size_of_script (Plain sectors keeps_rows) range = tt
-size_of_script (Format image kib) range = tt
+size_of_script (Format image kib forced) range = tt
 size_of_script (Script kib) range = range
-size_of_script (Serve image port conns keeps_rows) range = tt
+size_of_script (Serve asked) range = tt
 
-pub numbers_of_serve : (line : Line) → IsLineInRange line → IfServe line (λ port conns _. IsPort port × IsConns conns)
+pub numbers_of_serve : (line : Line) → IsLineInRange line → IfServe line (λ s. IsPort s.port × IfSome s.conns IsConns)
 numbers_of_serve (Plain sectors keeps_rows) range = tt
-numbers_of_serve (Format image kib) range = tt
+numbers_of_serve (Format image kib forced) range = tt
 numbers_of_serve (Script kib) range = tt
-numbers_of_serve (Serve image port conns keeps_rows) range = range
+numbers_of_serve (Serve asked) range = range

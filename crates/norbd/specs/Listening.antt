@@ -13,14 +13,20 @@ use Rattle.share.specs.declared.shared.RecordError.{RecordError}
 use Rattle.share.specs.declared.shared.RecordError.TheVariants as records
 use Rattle.norbd_serve.specs.declared.fault.ServeFault.{ServeFault}
 use Rattle.norbd_serve.specs.declared.fault.ServeFault.TheVariants as serves
+use Rattle.durable.specs.declared.durable.Policy.{Policy}
+use Rattle.durable.specs.declared.durable.Policy.TheVariants as policies
 use Rattle.norbd.specs.Scripting.{told_of_probe}
+use Rattle.norbd_line.specs.declared.line.SyncPolicy.{SyncPolicy}
+use Rattle.norbd_line.specs.declared.line.SyncPolicy.TheVariants as syncs
+use Rattle.norbd_line.specs.declared.fault.Cause.TheVariants.{Accept, Read, Write}
 use Rattle.norbd_line.specs.declared.fault.Fault.{Fault}
 use Rattle.norbd_line.specs.declared.fault.Fault.TheVariants.{Words, NoMemory, BadSize, InputFailed}
 use Rattle.norbd_line.specs.declared.fault.Fault.TheVariants.{OutputFailed, ImageFailed, WrongId}
 use Rattle.norbd_line.specs.declared.fault.Fault.TheVariants.{BadSfdp, Protected, Slow, BadRecord}
 use Rattle.norbd_line.specs.declared.fault.Fault.TheVariants.{NotFormatted, Corrupt, NotClean}
 use Rattle.norbd_line.specs.declared.fault.Fault.TheVariants.{BadImageSize}
-use Rattle.norbd_line.specs.declared.fault.Fault.TheVariants.{NoSocket, NoThread}
+use Rattle.norbd_line.specs.declared.fault.Fault.TheVariants.{NoSocket, NoThread, BadSync, NotText}
+use Rattle.norbd_line.specs.declared.fault.Fault.TheVariants.{InUse, Formatted}
 
 -- the line before the first connection is accepted
 abbrev pub serving_text : ℕ → ℕ → List ℕ
@@ -37,11 +43,11 @@ ended_text false conns rows = codes "served " ++ (decimal conns ++ codes " conne
 abbrev pub all_text : ℕ → ℕ → Bool → ℕ → ℕ → List ℕ
 all_text port conns keeps sectors rows = serving_text sectors port ++ ended_text keeps conns rows
 
--- what a refusal of an image's file is for the program
-abbrev pub told_of_file : SimError → Fault
-told_of_file files.BadSize = BadImageSize
-told_of_file files.OutOfMemory = NoMemory
-told_of_file files.File = ImageFailed
+-- what a refusal of an image's file of so many bytes is for the program
+abbrev pub told_of_file : ℕ → SimError → Fault
+told_of_file length files.BadSize = BadImageSize length
+told_of_file length files.OutOfMemory = NoMemory
+told_of_file length files.File = ImageFailed Read
 
 -- what one of a mount is; a chip in a file loses its power where the file fails
 abbrev pub told_of_mount : MountError → Fault
@@ -52,22 +58,30 @@ told_of_mount mounts.Corrupt = Corrupt
 
 -- what one of a server's record is
 abbrev pub told_of_record : RecordError → Fault
-told_of_record records.Cut = ImageFailed
+told_of_record records.Cut = ImageFailed Write
 told_of_record records.Slow = Slow
 told_of_record records.OutOfMemory = NoMemory
 
 -- what a fault of serving is; a lost command's image has failed
 abbrev pub told_of_serving : ServeFault → Fault
 told_of_serving serves.NoMemory = NoMemory
-told_of_serving serves.NoSocket = NoSocket
+told_of_serving serves.NoSocket = NoSocket Accept
 told_of_serving serves.NoThread = NoThread
-told_of_serving serves.Lost = ImageFailed
+told_of_serving serves.Lost = ImageFailed Write
+
+-- whose replies wait for a sync, by what the line asks
+abbrev pub policy_of : SyncPolicy → Policy
+policy_of syncs.AtFlush = policies.AtFlush
+policy_of syncs.Never = policies.Never
+policy_of syncs.Always = policies.Always
 
 -- a refusal of the image, which comes before anything is told
 abbrev pub IsRefusal : Fault → Type 0
 IsRefusal NoMemory = Unit {0}
-IsRefusal ImageFailed = Unit {0}
-IsRefusal BadImageSize = Unit {0}
+IsRefusal (ImageFailed cause) = Unit {0}
+IsRefusal InUse = Unit {0}
+IsRefusal Formatted = ⊥
+IsRefusal (BadImageSize length) = Unit {0}
 IsRefusal NotFormatted = Unit {0}
 IsRefusal Corrupt = Unit {0}
 IsRefusal NotClean = Unit {0}
@@ -77,10 +91,12 @@ IsRefusal Protected = Unit {0}
 IsRefusal Slow = Unit {0}
 IsRefusal (Words error) = ⊥
 IsRefusal BadSize = ⊥
+IsRefusal BadSync = ⊥
+IsRefusal NotText = ⊥
 IsRefusal InputFailed = ⊥
 IsRefusal OutputFailed = ⊥
 IsRefusal BadRecord = ⊥
-IsRefusal NoSocket = ⊥
+IsRefusal (NoSocket cause) = ⊥
 IsRefusal NoThread = ⊥
 
 -- What writing a text says: all of it is written, there was no memory for it, or a beginning of it
@@ -116,13 +132,16 @@ TellsServing port conns keeps old faults (Err OutputFailed) new faults' =
     faults'
 TellsServing port conns keeps old faults (Err NoMemory) new faults' =
     HasBegun port old faults new faults'
-TellsServing port conns keeps old faults (Err ImageFailed) new faults' =
+TellsServing port conns keeps old faults (Err (ImageFailed cause)) new faults' =
     HasBegun port old faults new faults'
-TellsServing port conns keeps old faults (Err NoSocket) new faults' =
+TellsServing port conns keeps old faults (Err InUse) new faults' =
+    IsSilent old faults new faults'
+TellsServing port conns keeps old faults (Err Formatted) new faults' = ⊥
+TellsServing port conns keeps old faults (Err (NoSocket cause)) new faults' =
     HasBegun port old faults new faults'
 TellsServing port conns keeps old faults (Err NoThread) new faults' =
     HasBegun port old faults new faults'
-TellsServing port conns keeps old faults (Err BadImageSize) new faults' =
+TellsServing port conns keeps old faults (Err (BadImageSize length)) new faults' =
     IsSilent old faults new faults'
 TellsServing port conns keeps old faults (Err NotFormatted) new faults' =
     IsSilent old faults new faults'
@@ -136,5 +155,7 @@ TellsServing port conns keeps old faults (Err Protected) new faults' =
 TellsServing port conns keeps old faults (Err Slow) new faults' = IsSilent old faults new faults'
 TellsServing port conns keeps old faults (Err (Words error)) new faults' = ⊥
 TellsServing port conns keeps old faults (Err BadSize) new faults' = ⊥
+TellsServing port conns keeps old faults (Err BadSync) new faults' = ⊥
+TellsServing port conns keeps old faults (Err NotText) new faults' = ⊥
 TellsServing port conns keeps old faults (Err InputFailed) new faults' = ⊥
 TellsServing port conns keeps old faults (Err BadRecord) new faults' = ⊥

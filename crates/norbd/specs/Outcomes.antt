@@ -9,7 +9,8 @@ use Rattle.norbd_line.specs.declared.fault.Fault.TheVariants.{OutputFailed, Imag
 use Rattle.norbd_line.specs.declared.fault.Fault.TheVariants.{BadSfdp, Protected, Slow, BadRecord}
 use Rattle.norbd_line.specs.declared.fault.Fault.TheVariants.{NotFormatted, Corrupt, NotClean}
 use Rattle.norbd_line.specs.declared.fault.Fault.TheVariants.{BadImageSize}
-use Rattle.norbd_line.specs.declared.fault.Fault.TheVariants.{NoSocket, NoThread}
+use Rattle.norbd_line.specs.declared.fault.Fault.TheVariants.{NoSocket, NoThread, BadSync, NotText}
+use Rattle.norbd_line.specs.declared.fault.Fault.TheVariants.{InUse, Formatted}
 use Rattle.share.specs.declared.connection.End.{End}
 use Rattle.share.specs.declared.connection.End.TheVariants.{Closed, EndOfInput, Input, Output, Lost}
 use Rattle.share.specs.declared.connection.End.TheVariants.{OutOfMemory}
@@ -49,7 +50,11 @@ HasCause InputFailed had left reads reads' writes writes' =
     InputFails had left reads reads' × (writes' ≡ writes)
 HasCause OutputFailed had left reads reads' writes writes' = (reads' ≡ reads) × (writes < writes')
 HasCause BadSize had left reads reads' writes writes' = ⊥
-HasCause ImageFailed had left reads reads' writes writes' = ⊥
+HasCause BadSync had left reads reads' writes writes' = ⊥
+HasCause NotText had left reads reads' writes writes' = ⊥
+HasCause (ImageFailed cause) had left reads reads' writes writes' = ⊥
+HasCause InUse had left reads reads' writes writes' = ⊥
+HasCause Formatted had left reads reads' writes writes' = ⊥
 HasCause WrongId had left reads reads' writes writes' = ⊥
 HasCause BadSfdp had left reads reads' writes writes' = ⊥
 HasCause Protected had left reads reads' writes writes' = ⊥
@@ -58,8 +63,8 @@ HasCause BadRecord had left reads reads' writes writes' = ⊥
 HasCause NotFormatted had left reads reads' writes writes' = ⊥
 HasCause Corrupt had left reads reads' writes writes' = ⊥
 HasCause NotClean had left reads reads' writes writes' = ⊥
-HasCause BadImageSize had left reads reads' writes writes' = ⊥
-HasCause NoSocket had left reads reads' writes writes' = ⊥
+HasCause (BadImageSize length) had left reads reads' writes writes' = ⊥
+HasCause (NoSocket cause) had left reads reads' writes writes' = ⊥
 HasCause NoThread had left reads reads' writes writes' = ⊥
 
 -- How serving ended: done, and no call of a stream failed, or with a fault that has its cause.

@@ -11,6 +11,7 @@ use Rattle.flash_station.specs.Simulated.{SimulatesScript}
 use Rattle.flash_station.specs.declared.error.RunFault.{RunFault}
 use Rattle.flash_station.specs.declared.error.RunFault.TheVariants as runs
 use Rattle.norbd.specs.Outcomes.{IsDone, IsFault}
+use Rattle.norbd_line.specs.declared.fault.Cause.TheVariants.{Write}
 use Rattle.norbd_line.specs.declared.fault.Fault.{Fault}
 use Rattle.norbd_line.specs.declared.fault.Fault.TheVariants.{NoMemory, InputFailed, OutputFailed}
 use Rattle.norbd_line.specs.declared.fault.Fault.TheVariants.{ImageFailed, WrongId, BadSfdp}
@@ -19,7 +20,7 @@ use Rattle.norbd_line.specs.declared.fault.Fault.TheVariants.{NotFormatted, Corr
 
 -- what a refusal of a probe is for the program; a chip loses its power where its image fails
 abbrev pub told_of_probe : ProbeError → Fault
-told_of_probe probes.Cut = ImageFailed
+told_of_probe probes.Cut = ImageFailed Write
 told_of_probe probes.Slow = Slow
 told_of_probe probes.WrongId = WrongId
 told_of_probe (probes.Sfdp e) = BadSfdp

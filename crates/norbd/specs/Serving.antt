@@ -9,7 +9,8 @@ use Rattle.norbd_line.specs.declared.fault.Fault.TheVariants.{OutputFailed, Imag
 use Rattle.norbd_line.specs.declared.fault.Fault.TheVariants.{BadSfdp, Protected, Slow, BadRecord}
 use Rattle.norbd_line.specs.declared.fault.Fault.TheVariants.{NotFormatted, Corrupt, NotClean}
 use Rattle.norbd_line.specs.declared.fault.Fault.TheVariants.{BadImageSize}
-use Rattle.norbd_line.specs.declared.fault.Fault.TheVariants.{NoSocket, NoThread}
+use Rattle.norbd_line.specs.declared.fault.Fault.TheVariants.{NoSocket, NoThread, BadSync, NotText}
+use Rattle.norbd_line.specs.declared.fault.Fault.TheVariants.{InUse, Formatted}
 use Rattle.share.specs.Places.{setting}
 use Rattle.share.specs.Plain.{AnswersAll, AnswersSome}
 
@@ -32,7 +33,11 @@ PlainServes keeps sectors input old new (Err InputFailed) = (contents : List ℕ
 PlainServes keeps sectors input old new (Err OutputFailed) = (contents : List ℕ)
     × AnswersSome keeps (setting Transmitting sectors) (zero_sectors sectors) contents input old new
 PlainServes keeps sectors input old new (Err BadSize) = ⊥
-PlainServes keeps sectors input old new (Err ImageFailed) = ⊥
+PlainServes keeps sectors input old new (Err BadSync) = ⊥
+PlainServes keeps sectors input old new (Err NotText) = ⊥
+PlainServes keeps sectors input old new (Err (ImageFailed cause)) = ⊥
+PlainServes keeps sectors input old new (Err InUse) = ⊥
+PlainServes keeps sectors input old new (Err Formatted) = ⊥
 PlainServes keeps sectors input old new (Err WrongId) = ⊥
 PlainServes keeps sectors input old new (Err BadSfdp) = ⊥
 PlainServes keeps sectors input old new (Err Protected) = ⊥
@@ -41,6 +46,6 @@ PlainServes keeps sectors input old new (Err BadRecord) = ⊥
 PlainServes keeps sectors input old new (Err NotFormatted) = ⊥
 PlainServes keeps sectors input old new (Err Corrupt) = ⊥
 PlainServes keeps sectors input old new (Err NotClean) = ⊥
-PlainServes keeps sectors input old new (Err BadImageSize) = ⊥
-PlainServes keeps sectors input old new (Err NoSocket) = ⊥
+PlainServes keeps sectors input old new (Err (BadImageSize length)) = ⊥
+PlainServes keeps sectors input old new (Err (NoSocket cause)) = ⊥
 PlainServes keeps sectors input old new (Err NoThread) = ⊥

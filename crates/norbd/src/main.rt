@@ -15,10 +15,11 @@
 //! command line and its faults; NBD proto.md for requests and replies.
 #![tactic(auto)]
 
-ghost use Rattle.std.specs.Prelude.{◌≡◌, ◌<◌};
+ghost use Rattle.std.specs.Prelude.{◌≡◌, ◌<◌, IfSome};
 ghost use Rattle.std.specs.Process.{exit_status};
 ghost use Rattle.norbd.specs.Outcomes.{EndsWith};
-ghost use Rattle.norbd_line.specs.Line.{IfFormat, IfScript, IfServe, IsConns, IsPort, IsSize};
+ghost use Rattle.norbd_line.specs.Line.{IfFormat, IfScript, IfServe, IsConns, IsLineInRange};
+ghost use Rattle.norbd_line.specs.Line.{IsPort, IsSize};
 
 mod formatting;
 #[cfg(test)]
@@ -28,16 +29,22 @@ mod scripting;
 #[cfg(test)]
 mod serve_tests;
 mod serving;
+mod standard;
+mod telling;
+#[cfg(test)]
+mod telling_tests;
 #[cfg(test)]
 mod tests;
 
+use crate::standard::{Null, hold_standard};
+use crate::telling::Telling;
 use block_device::Io;
+use image::ImageFile;
 use norbd_line::{Fault, Line, read_line};
 use std::alloc::Global;
 use std::io::{ErrorKind, Read, Write};
 use std::marker::Brand;
 use std::net::{Net, TcpListener, TcpStream};
-use std::os::unix::fs::FileExt;
 use std::process::ExitCode;
 use std::rt::Files;
 use std::sync::Wait;
@@ -45,15 +52,14 @@ use std::sync::ledger::{Blank, Ledger};
 use std::thread::Threads;
 use std::time::Clock;
 
-/// The program's words, or none where one isn't text (UTF-8): the line is then a bad one.
-/// `NoMemory` where memory ran out.
+/// The program's words. `NotText` where one isn't text (UTF-8), `NoMemory` where memory ran out.
 fn words_of(rt: &HostRuntime, alloc: Global) -> Result<Vec<String>, Fault> {
     match std::env::args(rt) {
         Ok(words) => words
             .collect::<Vec<String>>(alloc)
             .map_err(|_| Fault::NoMemory),
         Err(error) if error.kind() == ErrorKind::OutOfMemory => Err(Fault::NoMemory),
-        Err(_) => Ok(Vec::new(alloc)),
+        Err(_) => Err(Fault::NotText),
     }
 }
 
@@ -74,7 +80,7 @@ where
         + Sync
         + Clock
         + Net<Listener = TcpListener, Stream = TcpStream>,
-    R::File: FileExt + Send,
+    R::File: ImageFile + Send + Sync,
     A: Read + Drop,
     B: Write + Drop,
     I: Ledger,
@@ -83,7 +89,7 @@ where
     requires output { (output.name ≡ O.name) × (output.parts ≡ O.parts) × (0 < O.parts) }
     requires size { IfFormat line (λ _ kib. IsSize kib) }
     requires script_size { IfScript line (λ kib. IsSize kib) }
-    requires serve_numbers { IfServe line (λ port conns _. IsPort port × IsConns conns) }
+    requires serve_numbers { IfServe line (λ s. IsPort s.port × IfSome s.conns IsConns) }
 {
     let mut reader = Io::<_, I>::new(stdin, input);
     let mut writer = Io::<_, O>::new(stdout, output);
@@ -92,11 +98,12 @@ where
 
 /// Prints a fault: `clap`'s own text for one of the words, else a line on standard error. A failure
 /// to print it is passed over.
-fn tell(rt: &HostRuntime, fault: &Fault) {
+fn tell(rt: &HostRuntime, fault: &Fault, line: Option<Line<'_>>) {
     if let Fault::Words(error) = fault {
         let _ = error.print(rt);
     } else {
-        let _ = eprintln!(rt; "norbd: {fault}");
+        let telling = Telling { fault, line };
+        let _ = eprintln!(rt; "norbd: {telling}");
     }
 }
 
@@ -110,9 +117,9 @@ fn exit_code(done: &Result<(), Fault>) -> ExitCode
     }
 }
 
-/// Reads the program's words and does their line.
+/// Does the line of the program's words.
 #[tactic(auto, using(crate::proofs::Sizes::size_of_line, crate::proofs::Sizes::size_of_script, crate::proofs::Sizes::numbers_of_serve))]
-fn run_words<R, A, B>(rt: &R, words: &[String], stdin: A, stdout: B) -> Result<(), Fault>
+fn do_line<R, A, B>(rt: &R, line: Line<'_>, stdin: A, stdout: B) -> Result<(), Fault>
 where
     R: Files
         + AllocGlobal
@@ -121,21 +128,35 @@ where
         + Sync
         + Clock
         + Net<Listener = TcpListener, Stream = TcpStream>,
-    R::File: FileExt + Send,
+    R::File: ImageFile + Send + Sync,
     A: Read + Drop,
     B: Write + Drop,
+    requires { IsLineInRange line }
 {
-    let line = read_line(rt.alloc(), words)?;
     run_streams::<_, _, _, Brand, Brand>(rt, line, stdin, stdout, Blank::new(1), Blank::new(1))
 }
 
+/// Prints a fault of the words, and tells its exit status.
+fn refuse(rt: &HostRuntime, fault: Fault) -> ExitCode {
+    tell(rt, &fault, None);
+    exit_code(&Err(fault))
+}
+
 fn main(rt: HostRuntime) -> ExitCode {
-    let done = match words_of(&rt, rt.alloc()) {
-        Ok(words) => run_words(&rt, words.as_slice(), rt.stdin(), rt.stdout()),
-        Err(fault) => Err(fault),
+    let Ok(_standard) = hold_standard(&mut Null { rt: &rt }) else {
+        return refuse(&rt, Fault::OutputFailed);
     };
+    let words = match words_of(&rt, rt.alloc()) {
+        Ok(words) => words,
+        Err(fault) => return refuse(&rt, fault),
+    };
+    let line = match read_line(rt.alloc(), words.as_slice()) {
+        Ok(line) => line,
+        Err(fault) => return refuse(&rt, fault),
+    };
+    let done = do_line(&rt, line, rt.stdin(), rt.stdout());
     if let Err(fault) = &done {
-        tell(&rt, fault);
+        tell(&rt, fault, Some(line));
     }
     exit_code(&done)
 }

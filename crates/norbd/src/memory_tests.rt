@@ -1,15 +1,16 @@
 //! Lines that find no memory: each says so, and has written nothing, or does all of its work.
+ghost use Rattle.std.specs.Prelude.{IfSome};
 ghost use Rattle.norbd_line.specs.Line.{IfFormat, IfScript, IfServe, IsConns, IsPort, IsSize};
 
 use crate::run::run_line;
 use crate::serve_tests::{Told, free_port, make, text_of};
 use block_device::FixedIn;
-use norbd_line::{Fault, Line, read_line};
+use image::ImageFile;
+use norbd_line::{Fault, Line, ServeLine, SyncPolicy, read_line};
 use scarcity::spend;
 use std::alloc::Global;
 use std::fs;
 use std::net::{Net, TcpListener, TcpStream};
-use std::os::unix::fs::FileExt;
 use std::process::Abort;
 use std::rt::Files;
 use std::sync::Wait;
@@ -57,10 +58,10 @@ where
         + Sync
         + Clock
         + Net<Listener = TcpListener, Stream = TcpStream>,
-    R::File: FileExt + Send,
+    R::File: ImageFile + Send + Sync,
     requires size { IfFormat line (λ _ kib. IsSize kib) }
     requires script_size { IfScript line (λ kib. IsSize kib) }
-    requires serve_numbers { IfServe line (λ port conns _. IsPort port × IsConns conns) }
+    requires serve_numbers { IfServe line (λ s. IsPort s.port × IfSome s.conns IsConns) }
 {
     let sizes = sizes_of(rt.alloc(), windows)?;
     let mut refused = 0usize;
@@ -148,6 +149,7 @@ fn a_format_without_memory_says_so(rt: HostRuntime) -> Result<(), Fail> {
     let line = Line::Format {
         image: "short.img",
         kib: 64,
+        force: true,
     };
     // the chip; the line and the names
     let windows = [(0, 32_768, 3), (65_536, 16, 32), (81_920, 16, 1)];
@@ -169,12 +171,13 @@ fn serving_without_memory_says_so(rt: HostRuntime) -> Result<(), Fail> {
         without_rows: text.as_bytes(),
         fault: "no thread",
     };
-    let line = Line::Serve {
+    let line = Line::Serve(ServeLine {
         image: "served.img",
         port: u32::from(port),
-        conns: 2,
+        conns: Some(2),
         record: true,
-    };
+        sync: SyncPolicy::AtFlush,
+    });
     // the chip; what a mount takes; the record; the lists and the line
     let windows = [
         (0, 32_768, 3),
@@ -191,7 +194,7 @@ fn serving_without_memory_says_so(rt: HostRuntime) -> Result<(), Fail> {
 /// fault of the words, or something else.
 fn reading(alloc: Global, words: &[String]) -> &'static str {
     match read_line(alloc, words) {
-        Ok(Line::Format { image, kib }) => if image == "x.img" && kib == 64 {
+        Ok(Line::Format { image, kib, .. }) => if image == "x.img" && kib == 64 {
             "the line"
         } else {
             "another line"

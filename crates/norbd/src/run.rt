@@ -1,6 +1,6 @@
 //! What a line asks, over any reader and writer.
 ghost use Rattle.std.specs.Prelude.{◌≡◌, ◌≢◌, ℕ, List, Some, false};
-ghost use Rattle.std.specs.Prelude.{IsFalse};
+ghost use Rattle.std.specs.Prelude.{IfSome, IsFalse, unwrap_or};
 ghost use Rattle.norbd.specs.Outcomes.{Ended, Means};
 ghost use Rattle.norbd.specs.Formatting.{FormatTells};
 ghost use Rattle.norbd.specs.Scripting.{Scripts};
@@ -13,13 +13,13 @@ use crate::formatting::run_format;
 use crate::scripting::run_script;
 use crate::serving::{Asked, run_serve};
 use block_device::{PlainDisk, Sink, Source};
+use image::ImageFile;
 use norbd_line::{Fault, Line};
 use norbd_serve::OpenGate;
 use share::{End, FullRecord, NoRecord, OneServer, Recorder, Shared, exchange_plain};
 use std::alloc::Global;
 use std::marker::Brand;
 use std::net::{Net, TcpListener, TcpStream};
-use std::os::unix::fs::FileExt;
 use std::rt::Files;
 use std::sync::Wait;
 use std::sync::ledger::Blank;
@@ -28,6 +28,9 @@ use std::time::Clock;
 
 /// The parts of a server's ledger: one for each of 65,536 passes, and one that stays.
 const LEDGER_PARTS: u64 = 65_537;
+
+/// How many connections a server has where the line doesn't say it.
+const MOST_CONNS: u32 = 64;
 
 /// Does what a line asks.
 ///
@@ -62,12 +65,12 @@ where
         + Sync
         + Clock
         + Net<Listener = TcpListener, Stream = TcpStream>,
-    R::File: FileExt + Send,
+    R::File: ImageFile + Send + Sync,
     S: Source,
     K: Sink,
     requires size { IfFormat line (λ _ kib. IsSize kib) }
     requires script_size { IfScript line (λ kib. IsSize kib) }
-    requires serve_numbers { IfServe line (λ port conns _. IsPort port × IsConns conns) }
+    requires serve_numbers { IfServe line (λ s. IsPort s.port × IfSome s.conns IsConns) }
     ensures ends { IfPlain line.entry
         (λ _ _. Ended result (S.remaining reader.old) (S.remaining reader.new) (S.faults reader.old)
         (S.faults reader.new) (K.faults writer.old) (K.faults writer.new)) }
@@ -75,11 +78,10 @@ where
         (λ sectors keeps. (input : List ℕ) → S.remaining reader.old ≡ Some input
         → PlainServes keeps sectors input (K.written writer.old) (K.written writer.new) result) }
     ensures unread { IfFormat line.entry (λ _ _. reader.new ≡ reader.old) }
-    ensures serve_unread { IfServe line.entry (λ _ _ _. reader.new ≡ reader.old) }
+    ensures serve_unread { IfServe line.entry (λ _. reader.new ≡ reader.old) }
     ensures tells_serving { IfServe line.entry
-        (λ port conns keeps. TellsServing port conns keeps (K.written writer.old)
-        (K.faults writer.old)
-        result (K.written writer.new) (K.faults writer.new)) }
+        (λ s. TellsServing s.port (unwrap_or s.conns 64) s.record (K.written writer.old)
+        (K.faults writer.old) result (K.written writer.new) (K.faults writer.new)) }
     ensures tells { IfFormat line.entry
         (λ _ kib. FormatTells kib (K.written writer.old) (K.faults writer.old) result
         (K.written writer.new) (K.faults writer.new)) }
@@ -110,20 +112,16 @@ where
                 writer,
             )
         }
-        Line::Format { image, kib } => run_format(rt, image, kib, writer),
+        Line::Format { image, kib, force } => run_format(rt, image, kib, force, writer),
         Line::Script { kib } => run_script(rt.alloc(), kib, reader, writer),
-        Line::Serve {
-            image,
-            port,
-            conns,
-            record,
-        } => {
+        Line::Serve(line) => {
             let asked = Asked {
-                port,
-                conns,
-                record,
+                port: line.port,
+                conns: line.conns.unwrap_or(MOST_CONNS),
+                record: line.record,
+                sync: line.sync,
             };
-            run_serve(rt, image, asked, writer)
+            run_serve(rt, line.image, asked, writer)
         }
     }
 }

@@ -7,7 +7,7 @@ use block_device::{Sink, Source};
 use flash_disk::MountError;
 use flash_station::{RunFault, run_simulated};
 use nor_driver::ProbeError;
-use norbd_line::Fault;
+use norbd_line::{Cause, Fault};
 use station::ScriptError;
 use std::alloc::Global;
 
@@ -68,7 +68,7 @@ pub(crate) fn told_of_probe(error: ProbeError) -> Fault
     ensures { result ≡ told_of_probe error }
 {
     match error {
-        ProbeError::Cut => Fault::ImageFailed,
+        ProbeError::Cut => Fault::ImageFailed(Cause::Write),
         ProbeError::Slow => Fault::Slow,
         ProbeError::WrongId => Fault::WrongId,
         ProbeError::Sfdp(_) => Fault::BadSfdp,

@@ -2,10 +2,11 @@
 //! hand from NBD proto.md.
 ghost use Rattle.norbd_line.specs.Line.{IsConns, IsPort};
 
+use crate::formatting::run_format;
 use crate::serving::{Asked, run_serve};
 use block_device::{Failed, Sink};
-use image::formatted_image;
-use norbd_line::Fault;
+use image::{ImageFile, formatted_image, hold};
+use norbd_line::{Fault, SyncPolicy};
 use std::alloc::{Allocator, Global};
 use std::fs::{Metadata, OpenFile, OpenOptions};
 use std::io::{Read, Seek, SeekFrom, Write};
@@ -45,11 +46,22 @@ impl Sink for Told {
     }
 }
 
-/// A file of which so many positioned writes are good; each later one fails.
+/// A file of which so many positioned writes and so many syncs are good; each later one fails.
 #[derive(Drop)]
 struct Worn<'r, F> {
     file: F,
     good_writes: &'r AtomicU32,
+    good_syncs: &'r AtomicU32,
+}
+
+/// Counts one down, and whether there was one left.
+fn takes_one(left: &AtomicU32) -> bool {
+    let number = left.load(Ordering::SeqCst);
+    if number == 0 {
+        return false;
+    }
+    left.store(number - 1, Ordering::SeqCst);
+    true
 }
 
 impl<F: Read> Read for Worn<'_, F> {
@@ -88,7 +100,24 @@ impl<F: OpenFile> OpenFile for Worn<'_, F> {
     }
 
     fn sync_data(&self) -> io::Result<()> {
+        if !takes_one(self.good_syncs) {
+            return Err(io::Error::from(io::ErrorKind::Other));
+        }
         self.file.sync_data()
+    }
+
+    fn try_clone(&self) -> io::Result<Self> {
+        Ok(Worn {
+            file: self.file.try_clone()?,
+            good_writes: self.good_writes,
+            good_syncs: self.good_syncs,
+        })
+    }
+}
+
+impl<F: ImageFile> ImageFile for Worn<'_, F> {
+    fn claim(&self) -> io::Result<bool> {
+        self.file.claim()
     }
 }
 
@@ -98,11 +127,9 @@ impl<F: FileExt> FileExt for Worn<'_, F> {
     }
 
     fn write_at(&self, bytes: &[u8], offset: u64) -> io::Result<usize> {
-        let left = self.good_writes.load(Ordering::SeqCst);
-        if left == 0 {
+        if !takes_one(self.good_writes) {
             return Err(io::Error::from(io::ErrorKind::StorageFull));
         }
-        self.good_writes.store(left - 1, Ordering::SeqCst);
         self.file.write_at(bytes, offset)
     }
 }
@@ -112,6 +139,7 @@ impl<F: FileExt> FileExt for Worn<'_, F> {
 struct Wearing<'r, R> {
     rt: &'r R,
     good_writes: &'r AtomicU32,
+    good_syncs: &'r AtomicU32,
 }
 
 impl<'r, R: Files> Files for Wearing<'r, R> {
@@ -124,6 +152,7 @@ impl<'r, R: Files> Files for Wearing<'r, R> {
         Ok(Worn {
             file,
             good_writes: self.good_writes,
+            good_syncs: self.good_syncs,
         })
     }
 
@@ -204,18 +233,28 @@ impl<R: Net<Listener = TcpListener, Stream = TcpStream>> Net for Wearing<'_, R> 
     }
 }
 
-/// What a client asks for, each a READ (0) or a WRITE (1) of a sector, and how many of these are
-/// answered. At one that isn't the connection ends.
+/// What a client asks for: of a sector, or a FLUSH.
+#[derive(Clone, Copy)]
+enum Asks {
+    Read(u8),
+    Write(u8),
+    WriteWithFua(u8),
+    Flush,
+}
+
+/// What a client asks for, and how many of these are answered. At one that isn't the connection
+/// ends.
 #[derive(Clone, Copy)]
 struct Client<'a> {
-    requests: &'a [(u8, u8)],
+    requests: &'a [Asks],
     answered: usize,
 }
 
 /// The head of a request of so many times 256 bytes at a sector; its cookie is 7.
-fn request(kind: u8, sector: u8, pages: u8) -> [u8; 28] {
+fn request(flags: u8, kind: u8, sector: u8, pages: u8) -> [u8; 28] {
     let mut head = [0; 28];
     head[..4].copy_from_slice(&[0x25, 0x60, 0x95, 0x13]);
+    head[5] = flags;
     head[7] = kind;
     head[15] = 7;
     head[22] = sector.wrapping_mul(2);
@@ -237,24 +276,42 @@ fn connect<H: Net<Stream = TcpStream> + Clock>(rt: &H, addr: SocketAddr) -> io::
     TcpStream::connect(rt, addr)
 }
 
-/// Sends a request, and reads its reply where it is to be answered, and else the end of the
-/// connection: whether that came. Each byte of a sector is 30h and its number.
-fn ask(stream: &mut TcpStream, kind: u8, sector: u8, is_answered: bool) -> io::Result<bool> {
-    let bytes = [0x30u8.wrapping_add(sector); 512];
-    stream.write_all(&request(kind, sector, 2))?;
-    if kind == 1 {
-        stream.write_all(&bytes)?;
+/// The bytes of a sector, each 30h and its number.
+fn sector_bytes(sector: u8) -> [u8; 512] {
+    [0x30u8.wrapping_add(sector); 512]
+}
+
+/// Sends a request.
+fn send_request(stream: &mut TcpStream, asks: Asks) -> io::Result<()> {
+    match asks {
+        Asks::Read(sector) => stream.write_all(&request(0, 0, sector, 2)),
+        Asks::Write(sector) => {
+            stream.write_all(&request(0, 1, sector, 2))?;
+            stream.write_all(&sector_bytes(sector))
+        }
+        Asks::WriteWithFua(sector) => {
+            stream.write_all(&request(1, 1, sector, 2))?;
+            stream.write_all(&sector_bytes(sector))
+        }
+        Asks::Flush => stream.write_all(&request(0, 3, 0, 0)),
     }
+}
+
+/// Sends a request, and reads its reply where it is to be answered, and else the end of the
+/// connection: whether that came.
+fn ask(stream: &mut TcpStream, asks: Asks, is_answered: bool) -> io::Result<bool> {
+    send_request(stream, asks)?;
     let mut reply = [0u8; 16];
     if !is_answered {
         return Ok(stream.read(&mut reply)? == 0);
     }
     stream.read_exact(&mut reply)?;
-    let mut data = bytes;
-    if kind == 0 {
+    if let Asks::Read(sector) = asks {
+        let mut data = [0u8; 512];
         stream.read_exact(&mut data)?;
+        return Ok(reply == REPLY && data == sector_bytes(sector));
     }
-    Ok(reply == REPLY && data == bytes)
+    Ok(reply == REPLY)
 }
 
 /// A whole connection, which ends by DISC where all is answered. Whether all replies were right.
@@ -269,16 +326,16 @@ fn work<H: Net<Stream = TcpStream> + Clock>(
     stream.write_all(&NEGOTIATION)?;
     let mut replies = [0u8; 86];
     stream.read_exact(&mut replies)?;
-    for (number, (kind, sector)) in client.requests.iter().enumerate() {
+    for (number, asks) in client.requests.iter().enumerate() {
         let is_answered = number < client.answered;
-        if !ask(&mut stream, *kind, *sector, is_answered)? {
+        if !ask(&mut stream, *asks, is_answered)? {
             return Ok(false);
         }
         if !is_answered {
             return Ok(true);
         }
     }
-    stream.write_all(&request(2, 0, 0))?;
+    stream.write_all(&request(0, 2, 0, 0))?;
     Ok(true)
 }
 
@@ -311,7 +368,12 @@ struct Outcome {
 }
 
 /// Serves an image of 64 KiB to two clients, whose replies have to be right.
-fn serve_two<R>(rt: &R, record: bool, clients: [Client<'_>; 2]) -> Result<Outcome, Fail>
+fn serve_two<R>(
+    rt: &R,
+    record: bool,
+    sync: SyncPolicy,
+    clients: [Client<'_>; 2],
+) -> Result<Outcome, Fail>
 where
     R: Files
         + AllocGlobal
@@ -320,7 +382,7 @@ where
         + Sync
         + Clock
         + Net<Listener = TcpListener, Stream = TcpStream>,
-    R::File: FileExt + Send,
+    R::File: ImageFile + Send + Sync,
 {
     let port = free_port(rt)?;
     let addr = SocketAddr::from((Ipv4Addr::LOCALHOST, port));
@@ -331,6 +393,7 @@ where
         port: u32::from(port),
         conns: 2,
         record,
+        sync,
     };
     let mut told = Told {
         text: Vec::new(rt.alloc()),
@@ -398,11 +461,11 @@ fn serves_two_clients_and_counts_their_rows(rt: HostRuntime) -> Result<(), Fail>
     make(&rt, 0, 0x4E)?;
     let clients = [
         Client {
-            requests: &[(1, 1), (0, 1)],
+            requests: &[Asks::Write(1), Asks::Read(1)],
             answered: 2,
         },
         Client {
-            requests: &[(1, 2), (0, 2)],
+            requests: &[Asks::Write(2), Asks::Read(2)],
             answered: 2,
         },
     ];
@@ -410,7 +473,8 @@ fn serves_two_clients_and_counts_their_rows(rt: HostRuntime) -> Result<(), Fail>
         (true, "served 2 connections\nrecorded 4 rows\n"),
         (false, "served 2 connections\n"),
     ] {
-        compare(&rt, serve_two(&rt, record, clients)?, last, "")?;
+        let outcome = serve_two(&rt, record, SyncPolicy::AtFlush, clients)?;
+        compare(&rt, outcome, last, "")?;
     }
     Ok(fs::remove_file(&rt, "served.img")?)
 }
@@ -422,26 +486,24 @@ fn a_failed_write_of_the_image_takes_all_later_commands(rt: HostRuntime) -> Resu
     for good in 0..8u32 {
         make(&rt, 0, 0x4E)?;
         let good_writes = AtomicU32::new(good);
+        let good_syncs = AtomicU32::new(1);
         let wearing = Wearing {
             rt: &rt,
             good_writes: &good_writes,
+            good_syncs: &good_syncs,
         };
         let clients = [
             Client {
-                requests: &[(1, 1), (1, 2)],
+                requests: &[Asks::Write(1), Asks::Write(2)],
                 answered: good as usize / 4,
             },
             Client {
-                requests: &[(0, 1)],
+                requests: &[Asks::Read(1)],
                 answered: 0,
             },
         ];
-        compare(
-            &rt,
-            serve_two(&wearing, false, clients)?,
-            "",
-            "image failed",
-        )?;
+        let outcome = serve_two(&wearing, false, SyncPolicy::AtFlush, clients)?;
+        compare(&rt, outcome, "", "image failed")?;
         assert_eq!(rt; good_writes.load(Ordering::SeqCst), 0);
     }
     Ok(fs::remove_file(&rt, "served.img")?)
@@ -449,10 +511,15 @@ fn a_failed_write_of_the_image_takes_all_later_commands(rt: HostRuntime) -> Resu
 
 #[test]
 fn files_that_hold_no_disk_are_refused_and_left(rt: HostRuntime) -> Result<(), Fail> {
+    let port = free_port(&rt)?;
+    if port == 0 {
+        return Err(Fail::from("no port"));
+    }
     let asked = Asked {
-        port: 1,
+        port: u32::from(port),
         conns: 1,
         record: false,
+        sync: SyncPolicy::AtFlush,
     };
     for (length, at, byte, fault) in [
         (65_536, 0, 0x00, "not formatted"),
@@ -477,4 +544,135 @@ fn files_that_hold_no_disk_are_refused_and_left(rt: HostRuntime) -> Result<(), F
         assert!(rt; left.as_slice() == wanted.as_slice(), "{fault}");
     }
     Ok(fs::remove_file(&rt, "served.img")?)
+}
+
+/// By NBD proto.md a FLUSH and a command with FUA are answered once what was written is durable;
+/// the last sync is that of the end.
+#[test]
+fn replies_that_owe_it_wait_for_a_sync(rt: HostRuntime) -> Result<(), Fail> {
+    let clients = [
+        Client {
+            requests: &[Asks::Write(1), Asks::Flush, Asks::WriteWithFua(2)],
+            answered: 3,
+        },
+        Client {
+            requests: &[Asks::Read(1), Asks::Read(2), Asks::Write(3)],
+            answered: 3,
+        },
+    ];
+    for (sync, syncs) in [
+        (SyncPolicy::Never, 0),
+        (SyncPolicy::AtFlush, 3),
+        (SyncPolicy::Always, 5),
+    ] {
+        make(&rt, 0, 0x4E)?;
+        let good_writes = AtomicU32::new(100);
+        let good_syncs = AtomicU32::new(100);
+        let wearing = Wearing {
+            rt: &rt,
+            good_writes: &good_writes,
+            good_syncs: &good_syncs,
+        };
+        let outcome = serve_two(&wearing, false, sync, clients)?;
+        compare(&rt, outcome, "served 2 connections\n", "")?;
+        let made = 100u32.saturating_sub(good_syncs.load(Ordering::SeqCst));
+        assert_eq!(rt; made, syncs, "{sync:?}");
+    }
+    Ok(fs::remove_file(&rt, "served.img")?)
+}
+
+/// A FLUSH whose sync fails gets no reply, nor does a later one, also where a second sync would go
+/// well; a WRITE and a READ do.
+#[test]
+fn a_sync_that_fails_is_not_answered(rt: HostRuntime) -> Result<(), Fail> {
+    make(&rt, 0, 0x4E)?;
+    let good_writes = AtomicU32::new(100);
+    let good_syncs = AtomicU32::new(0);
+    let wearing = Wearing {
+        rt: &rt,
+        good_writes: &good_writes,
+        good_syncs: &good_syncs,
+    };
+    let clients = [
+        Client {
+            requests: &[Asks::Write(1), Asks::Flush],
+            answered: 1,
+        },
+        Client {
+            requests: &[Asks::Read(1), Asks::Write(2), Asks::WriteWithFua(3)],
+            answered: 2,
+        },
+    ];
+    let outcome = serve_two(&wearing, false, SyncPolicy::AtFlush, clients)?;
+    compare(&rt, outcome, "", "image failed")?;
+    Ok(fs::remove_file(&rt, "served.img")?)
+}
+
+/// What is asked of a port that is free, for one client.
+fn one_client<H: Net<Listener = TcpListener, Stream = TcpStream>>(rt: &H) -> Result<Asked, Fail> {
+    let port = free_port(rt)?;
+    if port == 0 {
+        return Err(Fail::from("no port"));
+    }
+    Ok(Asked {
+        port: u32::from(port),
+        conns: 1,
+        record: false,
+        sync: SyncPolicy::AtFlush,
+    })
+}
+
+/// While one process has an image, no other serves or formats it, nor changes a byte of it.
+#[test]
+fn an_image_has_one_owner(rt: HostRuntime) -> Result<(), Fail> {
+    make(&rt, 0x2400, 0x55)?;
+    let wanted = fs::read(&rt, "served.img")?;
+    let asked = one_client(&rt)?;
+    let mut told = Told {
+        text: Vec::new(rt.alloc()),
+    };
+    let Ok(held) = hold(&rt, "served.img") else {
+        return Err(Fail::from("not held"));
+    };
+    let text = text_of(&rt, run_serve(&rt, "served.img", asked, &mut told))?;
+    assert_eq!(rt; text.as_str(), "image in use");
+    let text = text_of(&rt, run_format(&rt, "served.img", 64, true, &mut told))?;
+    assert_eq!(rt; text.as_str(), "image in use");
+    drop(held);
+    // nobody has it, and each says what is in it
+    let text = text_of(&rt, run_serve(&rt, "served.img", asked, &mut told))?;
+    assert_eq!(rt; text.as_str(), "corrupt");
+    let text = text_of(&rt, run_format(&rt, "served.img", 64, false, &mut told))?;
+    assert_eq!(rt; text.as_str(), "image is formatted");
+    assert!(rt; told.text.is_empty());
+    let left = fs::read(&rt, "served.img")?;
+    assert!(rt; left.as_slice() == wanted.as_slice());
+    assert!(rt; !fs::exists(&rt, "served.img.0.new")?);
+    let text = text_of(&rt, run_format(&rt, "served.img", 64, true, &mut told))?;
+    assert_eq!(rt; text.as_str(), "");
+    Ok(fs::remove_file(&rt, "served.img")?)
+}
+
+/// The port is taken before the image is looked for.
+#[test]
+fn a_port_in_use_is_told_before_the_image_is_opened(rt: HostRuntime) -> Result<(), Fail> {
+    let listener = TcpListener::bind(&rt, SocketAddr::from((Ipv4Addr::LOCALHOST, 0)))?;
+    let port = listener.local_addr()?.port();
+    if port == 0 {
+        return Err(Fail::from("no port"));
+    }
+    let asked = Asked {
+        port: u32::from(port),
+        ..one_client(&rt)?
+    };
+    let mut told = Told {
+        text: Vec::new(rt.alloc()),
+    };
+    let text = text_of(&rt, run_serve(&rt, "missing.img", asked, &mut told))?;
+    assert_eq!(rt; text.as_str(), "no socket");
+    let asked = one_client(&rt)?;
+    let text = text_of(&rt, run_serve(&rt, "missing.img", asked, &mut told))?;
+    assert_eq!(rt; text.as_str(), "image failed");
+    assert!(rt; told.text.is_empty());
+    Ok(())
 }

@@ -7,23 +7,28 @@ ghost use Rattle.flash_disk.specs.Mounting.{OpenedFrom};
 ghost use Rattle.std.specs.Thread.{IsSend};
 ghost use Rattle.norbd.specs.Listening.{IsRefusal, TellsServing, WritesText, ended_text};
 ghost use Rattle.norbd.specs.Listening.{serving_text, told_of_file, told_of_mount, told_of_record};
-ghost use Rattle.norbd.specs.Listening.{told_of_serving};
+ghost use Rattle.norbd.specs.Listening.{policy_of, told_of_serving};
+ghost use Rattle.norbd_line.specs.declared.fault.Cause.{Cause};
 ghost use Rattle.norbd_line.specs.Line.{IsConns, IsPort};
 
+use crate::formatting::told_as;
 use crate::scripting::told_of_probe;
 use block_device::{Disk, DiskError, Sink, send};
 use chip_model::SpiBus;
+use durable::{Durable, Policy};
 use fault_model::{ImageBus, SimError};
 use flash_disk::{FlashDisk, MountError};
 use history::{Hands, Opened};
-use norbd_line::Fault;
-use norbd_serve::{Connections, OpenGate, ServeFault, Sleeper, listen, serve};
+use image::{Held, ImageFile, hold};
+use norbd_line::{Cause, Fault, SyncPolicy};
+use norbd_serve::{Connections, OpenGate, ServeFault, Sleeper, serve};
 use share::{
     Chronicle, FullRecord, NoRecord, OneServer, RecordError, Recorder, Row, Server, Shared,
 };
 use std::alloc::{AllocError, Global};
+use std::fs::OpenFile;
 use std::marker::Brand;
-use std::net::{Net, TcpListener, TcpStream};
+use std::net::{Ipv4Addr, Net, SocketAddr, TcpListener, TcpStream};
 use std::os::unix::fs::FileExt;
 use std::rt::Files;
 use std::sync::Wait;
@@ -35,12 +40,13 @@ use std::time::Clock;
 const LEDGER_PARTS: u64 = 65_537;
 
 /// What a line `serve` asks besides its image: the port of 127.0.0.1, from 1 to 65,535, how many
-/// connections, from 1 to 64, and whether a row of each command is kept.
+/// connections, from 1 to 64, whether a row of each command is kept, and when the file is synced.
 #[derive(Clone, Copy)]
 pub struct Asked {
     pub port: u32,
     pub conns: u32,
     pub record: bool,
+    pub sync: SyncPolicy,
 }
 
 /// Serves the chip in the file at a path to so many connections on a port of 127.0.0.1, and ends
@@ -49,13 +55,15 @@ pub struct Asked {
 /// Told to `writer`: a line before the first connection is accepted, one after the last has ended,
 /// and where rows are kept a third with their number.
 ///
-/// Before it listens: `ImageFailed` where the file can't be opened, read or written, `BadImageSize`
-/// where no chip has so many bytes, the refusals of a mount, and `NoMemory` where there is no
-/// memory for the chip, the disk, its record or the lists. Then `NoSocket` where listening or
-/// accepting failed and `NoThread` where a thread can't be started: no more connections are
-/// accepted, and those that run are ended first. `ImageFailed` where a write of the file failed,
-/// once all have ended: the command in which it failed and all later ones get no reply.
-/// `OutputFailed` where a line could not be written.
+/// `NoSocket` where the port can't be had: the image isn't opened then. Before a line is told:
+/// `InUse` where another process serves or formats the image, and then nothing of it is read or
+/// written; `ImageFailed` where it can't be opened, read or written, `BadImageSize` where no chip
+/// has so many bytes, the refusals of a mount, and `NoMemory` where there is no memory for the
+/// chip, the disk, its record or the lists. Then `NoSocket` where accepting failed and `NoThread`
+/// where a thread can't be started: no more connections are accepted, and those that run are ended
+/// first. `ImageFailed` where a write or a sync of the file failed, once all have ended: the
+/// command in which a write failed and all later ones get no reply, nor does one whose reply waits
+/// for a sync after one that failed. `OutputFailed` where a line could not be written.
 pub fn run_serve<R, K>(rt: &R, image: &str, asked: Asked, writer: &mut K) -> Result<(), Fault>
 where
     R: Files
@@ -65,19 +73,54 @@ where
         + Sync
         + Clock
         + Net<Listener = TcpListener, Stream = TcpStream>,
-    R::File: FileExt + Send,
+    R::File: ImageFile + Send + Sync,
     K: Sink,
     requires { IsPort asked.port × IsConns asked.conns }
     ensures { TellsServing asked.port asked.conns asked.record (K.written writer.old)
         (K.faults writer.old) result
         (K.written writer.new) (K.faults writer.new) }
 {
-    let disk = open_disk(rt, image)?;
-    serve_opened(rt, disk, asked, writer)
+    let listener = bind(rt, asked.port as u16)?;
+    let OpenedImage { disk, held } = open_disk(rt, &listener, image)?;
+    let durable = match held.handle() {
+        Ok(file) => Durable::new(file, policy_of(asked.sync)),
+        Err(error) => return Err(Fault::ImageFailed(Cause::System(error.kind()))),
+    };
+    serve_opened(rt, listener, disk, &durable, asked, writer)
+}
+
+/// Whose replies wait for a sync.
+fn policy_of(sync: SyncPolicy) -> Policy
+    ensures { result ≡ policy_of sync }
+{
+    match sync {
+        SyncPolicy::AtFlush => Policy::AtFlush,
+        SyncPolicy::Never => Policy::Never,
+        SyncPolicy::Always => Policy::Always,
+    }
+}
+
+/// Takes a port of 127.0.0.1.
+fn bind<R>(rt: &R, port: u16) -> Result<TcpListener, Fault>
+where
+    R: Net<Listener = TcpListener, Stream = TcpStream>,
+    ensures { IfErr result (λ e. (cause : Cause) × (e ≡ Fault.NoSocket cause)) }
+{
+    match TcpListener::bind(rt, SocketAddr::from((Ipv4Addr::LOCALHOST, port))) {
+        Ok(listener) => Ok(listener),
+        Err(error) => Err(Fault::NoSocket(Cause::System(error.kind()))),
+    }
 }
 
 /// Serves a sound disk.
-fn serve_opened<R, D, K>(rt: &R, disk: D, asked: Asked, writer: &mut K) -> Result<(), Fault>
+fn serve_opened<R, D, F, K>(
+    rt: &R,
+    listener: TcpListener,
+    disk: D,
+    durable: &Durable<F>,
+    asked: Asked,
+    writer: &mut K,
+) -> Result<(), Fault>
 where
     R: AllocGlobal
         + Threads
@@ -86,6 +129,7 @@ where
         + Clock
         + Net<Listener = TcpListener, Stream = TcpStream>,
     D: Disk + Send + Drop,
+    F: OpenFile + Send + Sync + Drop,
     K: Sink,
     requires sound { (D.facts disk).sound ≡ true }
     requires ready { IsDiskReady (D.facts disk) }
@@ -99,7 +143,7 @@ where
         blank: Blank::new(LEDGER_PARTS),
         opened: Opened::new(rt),
     };
-    serve_disk::<Brand, _, _, _>(rt, disk, sectors, unnamed, asked, writer)
+    serve_disk::<Brand, _, _, _, _>(rt, listener, disk, durable, sectors, unnamed, asked, writer)
 }
 
 /// What a server's name is for, before it has one: the ledger of its counts, and its history.
@@ -109,20 +153,36 @@ struct Unnamed {
     opened: Opened<Row>,
 }
 
-/// The disk on the chip in a file.
-fn open_disk<R>(rt: &R, image: &str) -> Result<FlashDisk<ImageBus<R::File>, Brand>, Fault>
+/// A disk that was opened, and the file of its image, which nobody else has as long as this is
+/// there.
+#[derive(Drop)]
+struct OpenedImage<F: FileExt + Drop> {
+    disk: FlashDisk<ImageBus<F>, Brand>,
+    held: Held<F>,
+}
+
+/// The disk on the chip in a file, whose lock is taken before anything of it is read. That the port
+/// is there already is what `_bound` shows: a mount may write to the file.
+fn open_disk<R>(rt: &R, _bound: &TcpListener, image: &str) -> Result<OpenedImage<R::File>, Fault>
 where
     R: Files + AllocGlobal,
-    R::File: FileExt,
+    R::File: ImageFile,
     ensures refused { IfErr result IsRefusal }
-    ensures sound { IfOk result (λ disk.
-        (⟦<FlashDisk<ImageBus<R::File>, Brand> as Disk>⟧.facts disk).sound ≡ true) }
-    ensures ready { IfOk result (λ disk.
-        IsDiskReady (⟦<FlashDisk<ImageBus<R::File>, Brand> as Disk>⟧.facts disk)) }
+    ensures sound { IfOk result (λ opened.
+        (⟦<FlashDisk<ImageBus<R::File>, Brand> as Disk>⟧.facts opened.disk).sound ≡ true) }
+    ensures ready { IfOk result (λ opened.
+        IsDiskReady (⟦<FlashDisk<ImageBus<R::File>, Brand> as Disk>⟧.facts opened.disk)) }
 {
-    match ImageBus::open(rt, image) {
-        Ok(bus) => look_at(rt.alloc(), bus),
-        Err(error) => Err(told_of_file(error)),
+    let held = match hold(rt, image) {
+        Ok(held) => held,
+        Err(error) => return Err(told_as(error)),
+    };
+    match held.chip(rt.alloc()) {
+        Ok(bus) => Ok(OpenedImage {
+            disk: look_at(rt.alloc(), bus)?,
+            held,
+        }),
+        Err(error) => Err(told_of_file(held.length().unwrap_or(0), error)),
     }
 }
 
@@ -145,15 +205,17 @@ fn look_at<B: SpiBus + Drop>(alloc: Global, bus: B) -> Result<FlashDisk<B, Brand
     match disk.check() {
         Ok(true) => Ok(disk),
         Ok(false) => Err(Fault::NotClean),
-        Err(DiskError::Cut) => Err(Fault::ImageFailed),
+        Err(DiskError::Cut) => Err(Fault::ImageFailed(Cause::Write)),
         Err(DiskError::Slow) => Err(Fault::Slow),
     }
 }
 
 /// Serves a disk of so many sectors; `L` names its server.
-fn serve_disk<L, R, D, K>(
+fn serve_disk<L, R, D, F, K>(
     rt: &R,
+    listener: TcpListener,
     disk: D,
+    durable: &Durable<F>,
     sectors: u32,
     unnamed: Unnamed,
     asked: Asked,
@@ -168,6 +230,7 @@ where
         + Clock
         + Net<Listener = TcpListener, Stream = TcpStream>,
     D: Disk + Send + Drop,
+    F: OpenFile + Send + Sync + Drop,
     K: Sink,
     requires size { length (D.facts disk).contents ≡ 512 * sectors }
     requires sectors { sectors ≡ L.sectors }
@@ -187,21 +250,27 @@ where
     if !asked.record {
         let shared = Shared::<D, NoRecord, L>::new(disk, blank);
         let chronicle = Chronicle::new(shared, keeper);
-        return serve_shared(rt, chronicle, hands, sectors, asked, writer);
+        return serve_shared(
+            rt, listener, chronicle, durable, hands, sectors, asked, writer,
+        );
     }
     match Shared::<D, FullRecord, L>::recording(rt.alloc(), disk, blank) {
         Ok(shared) => {
             let chronicle = Chronicle::new(shared, keeper);
-            serve_shared(rt, chronicle, hands, sectors, asked, writer)
+            serve_shared(
+                rt, listener, chronicle, durable, hands, sectors, asked, writer,
+            )
         }
         Err((error, _)) => Err(told_of_record(error)),
     }
 }
 
 /// Serves a server with its history.
-fn serve_shared<L, R, D, C, K>(
+fn serve_shared<L, R, D, C, F, K>(
     rt: &R,
+    listener: TcpListener,
     chronicle: Chronicle<D, C, L>,
+    durable: &Durable<F>,
     hands: Hands<Row, L>,
     sectors: u32,
     asked: Asked,
@@ -217,6 +286,7 @@ where
         + Net<Listener = TcpListener, Stream = TcpStream>,
     D: Disk + Send + Drop,
     C: Recorder + Send + Drop,
+    F: OpenFile + Send + Sync + Drop,
     K: Sink,
     requires numbers { IsPort asked.port × IsConns asked.conns }
     ensures { TellsServing asked.port asked.conns C.KEEPS (K.written writer.old)
@@ -231,18 +301,20 @@ where
         return Err(Fault::NoMemory);
     };
     let server = Server::new(chronicle);
-    let listener = match listen(rt, asked.port as u16) {
-        Ok(listener) => listener,
-        Err(fault) => return Err(told_of_serving(fault)),
-    };
     let first = serving_text(alloc, sectors, asked.port);
     if let Err(fault) = tell(writer, first) {
         return Err(fault);
     }
-    let served = match serve(rt, alloc, &server, listener, connections, Sleeper::new(rt)) {
+    let resting = Sleeper::new(rt);
+    let served = serve(rt, alloc, &server, durable, listener, connections, resting);
+    let is_synced = durable.finish();
+    let served = match served {
         Ok(served) => served,
         Err(fault) => return Err(told_of_serving(fault)),
     };
+    if !is_synced {
+        return Err(Fault::ImageFailed(Cause::Sync));
+    }
     let mut shared = server.into_inner().into_shared();
     let Some(rows) = shared.total(served.passes) else {
         return Err(Fault::NoThread);
@@ -283,14 +355,14 @@ fn ended_text(alloc: Global, conns: u32, record: bool, rows: u64) -> Result<Stri
     }
 }
 
-/// What a refusal of an image's file is for the program.
-fn told_of_file(error: SimError) -> Fault
-    ensures { result ≡ told_of_file error }
+/// What a refusal of an image's file, of so many bytes, is for the program.
+fn told_of_file(length: u64, error: SimError) -> Fault
+    ensures { result ≡ told_of_file length error }
 {
     match error {
-        SimError::BadSize => Fault::BadImageSize,
+        SimError::BadSize => Fault::BadImageSize(length),
         SimError::OutOfMemory => Fault::NoMemory,
-        SimError::File => Fault::ImageFailed,
+        SimError::File => Fault::ImageFailed(Cause::Read),
     }
 }
 
@@ -311,7 +383,7 @@ fn told_of_record(error: RecordError) -> Fault
     ensures { result ≡ told_of_record error }
 {
     match error {
-        RecordError::Cut => Fault::ImageFailed,
+        RecordError::Cut => Fault::ImageFailed(Cause::Write),
         RecordError::Slow => Fault::Slow,
         RecordError::OutOfMemory => Fault::NoMemory,
     }
@@ -323,8 +395,8 @@ fn told_of_serving(fault: ServeFault) -> Fault
 {
     match fault {
         ServeFault::NoMemory => Fault::NoMemory,
-        ServeFault::NoSocket => Fault::NoSocket,
+        ServeFault::NoSocket => Fault::NoSocket(Cause::Accept),
         ServeFault::NoThread => Fault::NoThread,
-        ServeFault::Lost => Fault::ImageFailed,
+        ServeFault::Lost => Fault::ImageFailed(Cause::Write),
     }
 }

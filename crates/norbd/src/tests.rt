@@ -2,18 +2,18 @@
 //! (16h) for a bad request and a READ past the end, 28 (1Ch) for a WRITE past the end. Runs of
 //! `script` over records written out by hand from docs/SCRIPT.md; which change of a chip a loss
 //! falls on is counted by docs/DISK.md. Runs of `format`.
-ghost use Rattle.std.specs.Prelude.{◌≡◌, ◌<◌};
+ghost use Rattle.std.specs.Prelude.{◌≡◌, ◌<◌, IfSome};
 ghost use Rattle.norbd_line.specs.Line.{IfFormat, IfScript, IfServe, IsConns, IsPort, IsSize};
 
 use crate::run::run_line;
 use block_device::{FixedOut, Io};
+use image::ImageFile;
 use norbd_line::Line;
 use spelling::bytes_of;
 use std::alloc::Global;
 use std::io::Read;
 use std::marker::Brand;
 use std::net::{Net, TcpListener, TcpStream};
-use std::os::unix::fs::FileExt;
 use std::process::Abort;
 use std::rt::Files;
 use std::sync::Wait;
@@ -92,10 +92,10 @@ where
         + Sync
         + Clock
         + Net<Listener = TcpListener, Stream = TcpStream>,
-    R::File: FileExt + Send,
+    R::File: ImageFile + Send + Sync,
     requires size { IfFormat line (λ _ kib. IsSize kib) }
     requires script_size { IfScript line (λ kib. IsSize kib) }
-    requires serve_numbers { IfServe line (λ port conns _. IsPort port × IsConns conns) }
+    requires serve_numbers { IfServe line (λ s. IsPort s.port × IfSome s.conns IsConns) }
 {
     check_counted::<Brand, Brand, R>(
         rt,
@@ -130,10 +130,10 @@ where
         + Sync
         + Clock
         + Net<Listener = TcpListener, Stream = TcpStream>,
-    R::File: FileExt + Send,
+    R::File: ImageFile + Send + Sync,
     requires size { IfFormat line (λ _ kib. IsSize kib) }
     requires script_size { IfScript line (λ kib. IsSize kib) }
-    requires serve_numbers { IfServe line (λ port conns _. IsPort port × IsConns conns) }
+    requires serve_numbers { IfServe line (λ s. IsPort s.port × IfSome s.conns IsConns) }
     requires reads { (reads.name ≡ I.name) × (reads.parts ≡ I.parts) × (0 < I.parts) }
     requires writes { (writes.name ≡ O.name) × (writes.parts ≡ O.parts) × (0 < O.parts) }
 {
@@ -344,6 +344,7 @@ fn formats_an_image(rt: HostRuntime) -> Result<(), Fail> {
         let line = Line::Format {
             image: "formatted.img",
             kib: 64,
+            force: false,
         };
         check(&rt, alloc, line, &[], streams, expected)?;
         let image = fs::read(&rt, "formatted.img")?;

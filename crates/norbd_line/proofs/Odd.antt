@@ -5,7 +5,7 @@ use Rattle.clap.specs.Words.{IsAmong, Row, Text, kind_of}
 use Rattle.norbd_line.specs.Fault.{ComesFromWords}
 use Rattle.norbd_line.specs.Line.{HasOddSize, IsLineInRange, IsLineOf, IsOddSize, IsSize, Names, TakesSize, number_in}
 use Rattle.norbd_line.specs.declared.fault.Fault.{Fault}
-use Rattle.norbd_line.specs.declared.fault.Fault.TheVariants.{Words, NoMemory, BadSize, InputFailed, OutputFailed, ImageFailed, WrongId, BadSfdp, Protected, Slow, BadRecord, NotFormatted, Corrupt, NotClean, BadImageSize, NoSocket, NoThread}
+use Rattle.norbd_line.specs.declared.fault.Fault.TheVariants.{Words, NoMemory, BadSize, InputFailed, OutputFailed, ImageFailed, WrongId, BadSfdp, Protected, Slow, BadRecord, NotFormatted, Corrupt, NotClean, BadImageSize, NoSocket, NoThread, BadSync, NotText, InUse, Formatted}
 use Rattle.norbd_line.specs.declared.line.Line.{Line}
 use Rattle.norbd_line.specs.declared.line.Line.TheVariants.{Plain, Format, Script, Serve}
 
@@ -45,7 +45,7 @@ pub odd_is_refused : (words : List Text) (r : Result Line Fault) → IfOk r IsLi
 odd_is_refused words (Ok (Plain sectors keeps_rows)) range line fault odd =
     let name = same_name words line.0 odd.0 line.1 odd.1 line.2 odd.2 in
     absurd (plain_takes_no_size (subst TakesSize (sym name ∙ line.3.0) odd.3.0))
-odd_is_refused words (Ok (Format image kib)) range line fault odd =
+odd_is_refused words (Ok (Format image kib forced)) range line fault odd =
     let rows = same_rows words line.0 odd.0 line.1 odd.1 line.2 odd.2 in
     let number = sym line.3.2 ∙ ap (number_in (codes "kib")) rows ∙ odd.3.1.1 in
     absurd (size≢odd kib odd.3.1.0 number range odd.3.1.2)
@@ -53,15 +53,21 @@ odd_is_refused words (Ok (Script kib)) range line fault odd =
     let rows = same_rows words line.0 odd.0 line.1 odd.1 line.2 odd.2 in
     let number = sym line.3.1 ∙ ap (number_in (codes "kib")) rows ∙ odd.3.1.1 in
     absurd (size≢odd kib odd.3.1.0 number range odd.3.1.2)
-odd_is_refused words (Ok (Serve image port conns keeps_rows)) range line fault odd =
+odd_is_refused words (Ok (Serve asked)) range line fault odd =
     let name = same_name words line.0 odd.0 line.1 odd.1 line.2 odd.2 in
     absurd (serve_takes_no_size (subst TakesSize (sym name ∙ line.3.0) odd.3.0))
 odd_is_refused words (Err (Words error)) range line fault odd = absurd (subst (IsAmong (kind_of error)) odd.2.faultless fault.1)
 odd_is_refused words (Err BadSize) range line fault odd = inl refl
+odd_is_refused words (Err BadSync) range line fault odd =
+    let name = same_name words fault.0 odd.0 fault.1 odd.1 fault.2 odd.2 in
+    absurd (serve_takes_no_size (subst TakesSize (sym name ∙ fault.3.0) odd.3.0))
+odd_is_refused words (Err NotText) range line fault odd = absurd fault
 odd_is_refused words (Err NoMemory) range line fault odd = inr refl
 odd_is_refused words (Err InputFailed) range line fault odd = absurd fault
 odd_is_refused words (Err OutputFailed) range line fault odd = absurd fault
-odd_is_refused words (Err ImageFailed) range line fault odd = absurd fault
+odd_is_refused words (Err (ImageFailed cause)) range line fault odd = absurd fault
+odd_is_refused words (Err InUse) range line fault odd = absurd fault
+odd_is_refused words (Err Formatted) range line fault odd = absurd fault
 odd_is_refused words (Err WrongId) range line fault odd = absurd fault
 odd_is_refused words (Err BadSfdp) range line fault odd = absurd fault
 odd_is_refused words (Err Protected) range line fault odd = absurd fault
@@ -70,6 +76,6 @@ odd_is_refused words (Err BadRecord) range line fault odd = absurd fault
 odd_is_refused words (Err NotFormatted) range line fault odd = absurd fault
 odd_is_refused words (Err Corrupt) range line fault odd = absurd fault
 odd_is_refused words (Err NotClean) range line fault odd = absurd fault
-odd_is_refused words (Err BadImageSize) range line fault odd = absurd fault
-odd_is_refused words (Err NoSocket) range line fault odd = absurd fault
+odd_is_refused words (Err (BadImageSize length)) range line fault odd = absurd fault
+odd_is_refused words (Err (NoSocket cause)) range line fault odd = absurd fault
 odd_is_refused words (Err NoThread) range line fault odd = absurd fault

@@ -1,4 +1,4 @@
-use Rattle.std.specs.Prelude.{List, ℕ, Some, String, codes, map, pos, true}
+use Rattle.std.specs.Prelude.{List, ℕ, Some, String, codes, false, map, pos, true}
 use Rattle.std.specs.String.{string_bytes}
 use Rattle.clap.specs.Words.{App, Rule, Text, new_app, new_rule, with_rule, with_subcommand}
 use Rattle.clap.specs.declared.builder.action.ArgAction.TheVariants.{Set, SetTrue}
@@ -28,9 +28,17 @@ kib_rule = number_rule (codes "kib") 64 16384
 abbrev pub port_rule : Rule
 port_rule = number_rule (codes "port") 1 65535
 
--- `--conns C`: required, one number from 1 to 64
+-- `--conns C`: one number from 1 to 64
 abbrev pub conns_rule : Rule
-conns_rule = number_rule (codes "conns") 1 64
+conns_rule = record (number_rule (codes "conns") 1 64) { required = false }
+
+-- `--sync WHEN`: one text
+abbrev pub sync_rule : Rule
+sync_rule = record (new_rule (codes "sync")) {
+  long = Some (codes "sync");
+  action = Some Set;
+  value_names = 1;
+}
 
 -- a flag of this name
 abbrev pub flag_rule : Text → Rule
@@ -45,18 +53,19 @@ abbrev pub plain_app : App
 plain_app = with_rule (with_rule (new_app (codes "plain")) sectors_rule)
     (flag_rule (codes "no-record"))
 
--- `format IMAGE --kib K`
+-- `format IMAGE --kib K [--force]`
 abbrev pub format_app : App
-format_app = with_rule (with_rule (new_app (codes "format")) image_rule) kib_rule
+format_app = with_rule (with_rule (with_rule (new_app (codes "format")) image_rule) kib_rule)
+    (flag_rule (codes "force"))
 
 -- `script --kib K`
 abbrev pub script_app : App
 script_app = with_rule (new_app (codes "script")) kib_rule
 
--- `serve IMAGE --port P --conns C [--record]`
+-- `serve IMAGE --port P [--conns C] [--record] [--sync WHEN]`
 abbrev pub serve_app : App
-serve_app = with_rule (with_rule (with_rule (with_rule (new_app (codes "serve")) image_rule)
-    port_rule) conns_rule) (flag_rule (codes "record"))
+serve_app = with_rule (with_rule (with_rule (with_rule (with_rule (new_app (codes "serve"))
+    image_rule) port_rule) conns_rule) (flag_rule (codes "record"))) sync_rule
 
 -- `norbd` has a version and requires a command
 abbrev pub norbd_alone : App

@@ -1,7 +1,7 @@
 use Rattle.std.specs.Prelude.{ℕ, List, ◌≡◌, ◌≢◌, ◌⊎◌}
 use Rattle.clap.specs.Words.{IsAmong, Row, Text, fault_of, kind_of}
 use Rattle.norbd_line.specs.CommandLine.{norbd_app}
-use Rattle.norbd_line.specs.Line.{HasOddSize, HasOddSizeIn}
+use Rattle.norbd_line.specs.Line.{HasOddSize, HasOddSizeIn, HasBadSync, HasBadSyncIn}
 use Rattle.clap.specs.declared.error.kind.ErrorKind.{ErrorKind}
 use Rattle.clap.specs.declared.error.kind.ErrorKind.TheVariants.{DisplayHelp, DisplayVersion}
 use Rattle.clap.specs.declared.error.kind.ErrorKind.TheVariants.{OutOfMemory}
@@ -11,7 +11,8 @@ use Rattle.norbd_line.specs.declared.fault.Fault.TheVariants.{OutputFailed, Imag
 use Rattle.norbd_line.specs.declared.fault.Fault.TheVariants.{BadSfdp, Protected, Slow, BadRecord}
 use Rattle.norbd_line.specs.declared.fault.Fault.TheVariants.{NotFormatted, Corrupt, NotClean}
 use Rattle.norbd_line.specs.declared.fault.Fault.TheVariants.{BadImageSize}
-use Rattle.norbd_line.specs.declared.fault.Fault.TheVariants.{NoSocket, NoThread}
+use Rattle.norbd_line.specs.declared.fault.Fault.TheVariants.{NoSocket, NoThread, BadSync, NotText}
+use Rattle.norbd_line.specs.declared.fault.Fault.TheVariants.{InUse, Formatted}
 
 -- the words asked for help or for the version, so they are no mistake
 abbrev pub AsksForText : ErrorKind → Type 0
@@ -22,10 +23,14 @@ abbrev pub HasStatus : Fault → ℕ → Type 0
 HasStatus (Words error) status =
     (AsksForText (kind_of error) → status ≡ 0) × ((AsksForText (kind_of error) → ⊥) → status ≡ 2)
 HasStatus BadSize status = status ≡ 2
+HasStatus BadSync status = status ≡ 2
+HasStatus NotText status = status ≡ 2
 HasStatus NoMemory status = status ≡ 1
 HasStatus InputFailed status = status ≡ 1
 HasStatus OutputFailed status = status ≡ 1
-HasStatus ImageFailed status = status ≡ 1
+HasStatus (ImageFailed cause) status = status ≡ 1
+HasStatus InUse status = status ≡ 1
+HasStatus Formatted status = status ≡ 1
 HasStatus WrongId status = status ≡ 1
 HasStatus BadSfdp status = status ≡ 1
 HasStatus Protected status = status ≡ 1
@@ -34,19 +39,23 @@ HasStatus BadRecord status = status ≡ 1
 HasStatus NotFormatted status = status ≡ 1
 HasStatus Corrupt status = status ≡ 1
 HasStatus NotClean status = status ≡ 1
-HasStatus BadImageSize status = status ≡ 1
-HasStatus NoSocket status = status ≡ 1
+HasStatus (BadImageSize length) status = status ≡ 1
+HasStatus (NoSocket cause) status = status ≡ 1
 HasStatus NoThread status = status ≡ 1
 
--- a fault that comes of what was matched of the words of a command: a number that is no size, or
--- want of memory
+-- a fault that comes of what was matched of the words of a command: a number that is no size, a
+-- word that says no syncing, or want of memory
 abbrev pub ComesFromMatches : Text → List Row → Fault → Type 0
 ComesFromMatches name rows (Words error) = ⊥
 ComesFromMatches name rows BadSize = HasOddSizeIn name rows
+ComesFromMatches name rows BadSync = HasBadSyncIn name rows
+ComesFromMatches name rows NotText = ⊥
 ComesFromMatches name rows NoMemory = Unit {0}
 ComesFromMatches name rows InputFailed = ⊥
 ComesFromMatches name rows OutputFailed = ⊥
-ComesFromMatches name rows ImageFailed = ⊥
+ComesFromMatches name rows (ImageFailed cause) = ⊥
+ComesFromMatches name rows InUse = ⊥
+ComesFromMatches name rows Formatted = ⊥
 ComesFromMatches name rows WrongId = ⊥
 ComesFromMatches name rows BadSfdp = ⊥
 ComesFromMatches name rows Protected = ⊥
@@ -55,20 +64,24 @@ ComesFromMatches name rows BadRecord = ⊥
 ComesFromMatches name rows NotFormatted = ⊥
 ComesFromMatches name rows Corrupt = ⊥
 ComesFromMatches name rows NotClean = ⊥
-ComesFromMatches name rows BadImageSize = ⊥
-ComesFromMatches name rows NoSocket = ⊥
+ComesFromMatches name rows (BadImageSize length) = ⊥
+ComesFromMatches name rows (NoSocket cause) = ⊥
 ComesFromMatches name rows NoThread = ⊥
 
 -- a fault that reading these words may answer: one of those that they have, which isn't want of
--- memory, a number that is no size, or want of memory
+-- memory, a number that is no size, a word that says no syncing, or want of memory
 abbrev pub ComesFromWords : List Text → Fault → Type 0
 ComesFromWords words (Words error) =
     (kind_of error ≢ OutOfMemory) × IsAmong (kind_of error) (fault_of norbd_app words)
 ComesFromWords words BadSize = HasOddSize words
+ComesFromWords words BadSync = HasBadSync words
+ComesFromWords words NotText = ⊥
 ComesFromWords words NoMemory = Unit {0}
 ComesFromWords words InputFailed = ⊥
 ComesFromWords words OutputFailed = ⊥
-ComesFromWords words ImageFailed = ⊥
+ComesFromWords words (ImageFailed cause) = ⊥
+ComesFromWords words InUse = ⊥
+ComesFromWords words Formatted = ⊥
 ComesFromWords words WrongId = ⊥
 ComesFromWords words BadSfdp = ⊥
 ComesFromWords words Protected = ⊥
@@ -77,6 +90,6 @@ ComesFromWords words BadRecord = ⊥
 ComesFromWords words NotFormatted = ⊥
 ComesFromWords words Corrupt = ⊥
 ComesFromWords words NotClean = ⊥
-ComesFromWords words BadImageSize = ⊥
-ComesFromWords words NoSocket = ⊥
+ComesFromWords words (BadImageSize length) = ⊥
+ComesFromWords words (NoSocket cause) = ⊥
 ComesFromWords words NoThread = ⊥

@@ -1,10 +1,15 @@
-use Rattle.std.specs.Prelude.{ℕ, Bool, true, false, not, List, [], Option, Some, codes, option_map}
+use Rattle.std.specs.Prelude.{ℕ, Bool, true, false, not, List, [], Option, Some, None, codes}
+use Rattle.std.specs.Prelude.{option_map, if◌then◌else◌, IfSome}
 use Rattle.std.specs.Prelude.{◌≡◌, ◌≢◌, ◌%◌, ◌≤◌, ◌⊎◌}
+use Rattle.std.specs.Str.{bytes_eq}
 use Rattle.std.specs.Str.Parse.{digits_value, without_leading_plus}
 use Rattle.clap.specs.Words.{Row, Text, fault_of, first_of, one_of, subcommand_of}
 use Rattle.norbd_line.specs.CommandLine.{norbd_app}
 use Rattle.norbd_line.specs.declared.line.Line.{Line}
 use Rattle.norbd_line.specs.declared.line.Line.TheVariants.{Plain, Format, Script, Serve}
+use Rattle.norbd_line.specs.declared.line.ServeLine.{ServeLine}
+use Rattle.norbd_line.specs.declared.line.SyncPolicy.{SyncPolicy}
+use Rattle.norbd_line.specs.declared.line.SyncPolicy.TheVariants.{AtFlush, Never, Always}
 
 -- a chip's size in KiB: a multiple of 64 from 64 to 16,384
 abbrev pub IsSize : ℕ → Type 0
@@ -25,37 +30,37 @@ IsConns conns = (1 ≤ conns) × (conns ≤ 64)
 -- in a file or in memory, a size of chips
 abbrev pub IsLineInRange : Line → Type 0
 IsLineInRange (Plain sectors keeps_rows) = (1 ≤ sectors) × (sectors ≤ 65536)
-IsLineInRange (Format image kib) = IsSize kib
+IsLineInRange (Format image kib forced) = IsSize kib
 IsLineInRange (Script kib) = IsSize kib
-IsLineInRange (Serve image port conns keeps_rows) = IsPort port × IsConns conns
+IsLineInRange (Serve asked) = IsPort asked.port × IfSome asked.conns IsConns
 
 -- a fact of the number of a line `plain`, and of whether it keeps rows
 abbrev pub IfPlain : Line → (ℕ → Bool → Type 0) → Type 0
 IfPlain (Plain sectors keeps_rows) p = p sectors keeps_rows
-IfPlain (Format image kib) p = Unit {0}
+IfPlain (Format image kib forced) p = Unit {0}
 IfPlain (Script kib) p = Unit {0}
-IfPlain (Serve image port conns keeps_rows) p = Unit {0}
+IfPlain (Serve asked) p = Unit {0}
 
 -- a fact of the path and the number of a line `format`
 abbrev pub IfFormat : Line → (Text → ℕ → Type 0) → Type 0
 IfFormat (Plain sectors keeps_rows) p = Unit {0}
-IfFormat (Format image kib) p = p image.now kib
+IfFormat (Format image kib forced) p = p image.now kib
 IfFormat (Script kib) p = Unit {0}
-IfFormat (Serve image port conns keeps_rows) p = Unit {0}
+IfFormat (Serve asked) p = Unit {0}
 
 -- a fact of the number of a line `script`
 abbrev pub IfScript : Line → (ℕ → Type 0) → Type 0
 IfScript (Plain sectors keeps_rows) p = Unit {0}
-IfScript (Format image kib) p = Unit {0}
+IfScript (Format image kib forced) p = Unit {0}
 IfScript (Script kib) p = p kib
-IfScript (Serve image port conns keeps_rows) p = Unit {0}
+IfScript (Serve asked) p = Unit {0}
 
--- a fact of the port, the number of connections and whether rows are kept, of a line `serve`
-abbrev pub IfServe : Line → (ℕ → ℕ → Bool → Type 0) → Type 0
+-- a fact of what a line `serve` asks
+abbrev pub IfServe : Line → (ServeLine → Type 0) → Type 0
 IfServe (Plain sectors keeps_rows) p = Unit {0}
-IfServe (Format image kib) p = Unit {0}
+IfServe (Format image kib forced) p = Unit {0}
 IfServe (Script kib) p = Unit {0}
-IfServe (Serve image port conns keeps_rows) p = p port conns keeps_rows
+IfServe (Serve asked) p = p asked
 
 -- the number that a text writes in decimal digits
 abbrev pub number_of : Text → ℕ
@@ -64,6 +69,17 @@ number_of text = digits_value 10 (without_leading_plus text)
 -- the number after `--NAME`, in what was matched of the words of a command
 abbrev pub number_in : Text → List Row → Option ℕ
 number_in name rows = option_map number_of (one_of name rows)
+
+-- when a server syncs, by the word after `--sync`: at each FLUSH where there is none
+abbrev pub sync_of : Option Text → Option SyncPolicy
+sync_of None = Some AtFlush
+sync_of (Some word) =
+    if bytes_eq word (codes "flush") then Some AtFlush else
+    if bytes_eq word (codes "never") then Some Never else
+    if bytes_eq word (codes "always") then Some Always else None
+
+abbrev pub sync_in : List Row → Option SyncPolicy
+sync_in rows = sync_of (first_of (codes "sync") rows)
 
 -- whether the flag of this name is among the words of a command
 abbrev pub IsSet : Text → List Row → Bool → Type 0
@@ -75,15 +91,16 @@ abbrev pub IsLineIn : Text → List Row → Line → Type 0
 IsLineIn name rows (Plain sectors keeps_rows) =
     (name ≡ codes "plain") × (number_in (codes "sectors") rows ≡ Some sectors)
     × IsSet (codes "no-record") rows (not keeps_rows)
-IsLineIn name rows (Format image kib) =
+IsLineIn name rows (Format image kib forced) =
     (name ≡ codes "format") × (first_of (codes "IMAGE") rows ≡ Some image.now)
-    × (number_in (codes "kib") rows ≡ Some kib)
+    × (number_in (codes "kib") rows ≡ Some kib) × IsSet (codes "force") rows forced
 IsLineIn name rows (Script kib) =
     (name ≡ codes "script") × (number_in (codes "kib") rows ≡ Some kib)
-IsLineIn name rows (Serve image port conns keeps_rows) =
-    (name ≡ codes "serve") × (first_of (codes "IMAGE") rows ≡ Some image.now)
-    × (number_in (codes "port") rows ≡ Some port) × (number_in (codes "conns") rows ≡ Some conns)
-    × IsSet (codes "record") rows keeps_rows
+IsLineIn name rows (Serve asked) =
+    (name ≡ codes "serve") × (first_of (codes "IMAGE") rows ≡ Some asked.image.now)
+    × (number_in (codes "port") rows ≡ Some asked.port)
+    × (number_in (codes "conns") rows ≡ asked.conns) × IsSet (codes "record") rows asked.record
+    × (sync_in rows ≡ Some asked.sync)
 
 -- the commands that take the size of a chip: `format` and `script`
 abbrev pub TakesSize : Text → Type 0
@@ -109,3 +126,12 @@ IsLineOf words line = (name : Text) × (rows : List Row) × Names words name row
 abbrev pub HasOddSize : List Text → Type 0
 HasOddSize words = (name : Text) × (rows : List Row) × Names words name rows
     × HasOddSizeIn name rows
+
+-- the matches are those of `serve`, with a word after `--sync` that says no syncing
+abbrev pub HasBadSyncIn : Text → List Row → Type 0
+HasBadSyncIn name rows = (name ≡ codes "serve") × (sync_in rows ≡ None)
+
+-- the words say `serve`, with such a word
+abbrev pub HasBadSync : List Text → Type 0
+HasBadSync words = (name : Text) × (rows : List Row) × Names words name rows
+    × HasBadSyncIn name rows

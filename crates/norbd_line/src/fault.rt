@@ -1,7 +1,31 @@
 //! The faults of the program.
 ghost use Rattle.norbd_line.specs.Fault.{HasStatus};
 
+use std::io::ErrorKind;
 use thiserror::Error;
+
+/// What is known of why a file or a socket failed. Its text stands behind that of the fault.
+#[derive(Clone, Copy, Debug, PartialEq, Eq, Drop, Error)]
+pub enum Cause {
+    /// The system's answer to opening, locking, making or binding it.
+    #[error("{0}")]
+    System(ErrorKind),
+    /// What is at the path is no regular file.
+    #[error("not a regular file")]
+    NotAFile,
+    /// Accepting a connection failed.
+    #[error("accepting failed")]
+    Accept,
+    /// A read of the image failed.
+    #[error("a read failed")]
+    Read,
+    /// A write of the image failed.
+    #[error("a write failed")]
+    Write,
+    /// Handing the image to its disk failed.
+    #[error("a sync failed")]
+    Sync,
+}
 
 /// Why the program ends without having done its line. The text is the `Display`; of the variants
 /// but `Words` it is shown after `norbd: `.
@@ -13,6 +37,12 @@ pub enum Fault {
     /// The chip's size is in its range and no multiple of 64 KiB.
     #[error("bad size")]
     BadSize,
+    /// The word after `--sync` is none of `flush`, `never` and `always`.
+    #[error("bad sync")]
+    BadSync,
+    /// A word, as the name of a file, isn't text (UTF-8).
+    #[error("a word is not UTF-8")]
+    NotText,
     /// Memory ran out.
     #[error("no memory")]
     NoMemory,
@@ -24,7 +54,13 @@ pub enum Fault {
     OutputFailed,
     /// The image can't be opened, read or written.
     #[error("image failed")]
-    ImageFailed,
+    ImageFailed(Cause),
+    /// Another process serves or formats the image.
+    #[error("image in use")]
+    InUse,
+    /// The file holds a formatted chip, and `--force` isn't set.
+    #[error("image is formatted")]
+    Formatted,
     /// The chip's id is another.
     #[error("wrong id")]
     WrongId,
@@ -50,12 +86,12 @@ pub enum Fault {
     /// operation of it didn't end.
     #[error("not clean")]
     NotClean,
-    /// The image's length in bytes is no chip's.
+    /// The image's length in bytes, which is this one, is no chip's.
     #[error("bad image size")]
-    BadImageSize,
+    BadImageSize(u64),
     /// Listening on the port or accepting a connection failed.
     #[error("no socket")]
-    NoSocket,
+    NoSocket(Cause),
     /// A thread could not be started.
     #[error("no thread")]
     NoThread,
@@ -70,10 +106,14 @@ impl Fault {
         match self {
             Fault::Words(error) => if error.use_stderr() { 2 } else { 0 },
             Fault::BadSize => 2,
+            Fault::BadSync => 2,
+            Fault::NotText => 2,
             Fault::NoMemory => 1,
             Fault::InputFailed => 1,
             Fault::OutputFailed => 1,
-            Fault::ImageFailed => 1,
+            Fault::ImageFailed(_) => 1,
+            Fault::InUse => 1,
+            Fault::Formatted => 1,
             Fault::WrongId => 1,
             Fault::BadSfdp => 1,
             Fault::Protected => 1,
@@ -82,8 +122,8 @@ impl Fault {
             Fault::NotFormatted => 1,
             Fault::Corrupt => 1,
             Fault::NotClean => 1,
-            Fault::BadImageSize => 1,
-            Fault::NoSocket => 1,
+            Fault::BadImageSize(_) => 1,
+            Fault::NoSocket(_) => 1,
             Fault::NoThread => 1,
         }
     }

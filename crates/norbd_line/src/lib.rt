@@ -3,17 +3,18 @@
 //! Promised to the program above: a line (`plain`, `format`, `script` or `serve`) that `read_line`
 //! answers has its numbers in their ranges (`IsLineInRange`) and is what the words say
 //! (`IsLineOf`); a fault that it answers is one of those that the words have, a number in its range
-//! that is no size of a chip, or want of memory (`ComesFromWords`), and such a number is never
-//! taken, for a file nor for a script (`HasOddSize`). What words say, and which faults they have,
-//! are `clap`'s definitions at the command line that `norbd_app` writes out. `Fault::status` is the
-//! exit status by the table `HasStatus`. Tests show the texts of faults. Left to the program above:
-//! to fetch its words from the system, to print a fault (`clap`'s own text for a fault of the
-//! words, else `norbd: ` and the text), and to do what a line asks. Source: own (the program's
-//! command line); `clap` for how words are read and for the texts of their faults.
+//! that is no size of a chip, a word that says no syncing, or want of memory (`ComesFromWords`),
+//! and such a number is never taken, for a file nor for a script (`HasOddSize`). What words say,
+//! and which faults they have, are `clap`'s definitions at the command line that `norbd_app` writes
+//! out. `Fault::status` is the exit status by the table `HasStatus`. Tests show the texts of
+//! faults. Left to the program above: to fetch its words from the system, to print a fault
+//! (`clap`'s own text for a fault of the words, else `norbd: ` and the text, with the file or the
+//! port and the `Cause`), and to do what a line asks. Source: own (the program's command line);
+//! `clap` for how words are read and for the texts of their faults.
 #![tactic(auto)]
 
 mod fault;
 mod line;
 
-pub use fault::Fault;
-pub use line::{Line, read_line};
+pub use fault::{Cause, Fault};
+pub use line::{Line, ServeLine, SyncPolicy, read_line};

@@ -1,16 +1,16 @@
 //! The line: what the program is asked to do.
 ghost use Rattle.std.specs.Prelude.{◌≡◌, ◌≢◌, ◌≤◌, ◌%◌, ◌⊎◌, IfErr, IfOk, IfSome, IsErrAnd, Some};
-ghost use Rattle.std.specs.Prelude.{codes, false, option_map};
+ghost use Rattle.std.specs.Prelude.{None, codes, false, option_map};
 ghost use Rattle.clap.specs.Words.{FailsBy, Text, app_of, fault_of, found_of, kind_of, one_text};
 ghost use Rattle.clap.specs.Words.{rows_of, rule_of};
 ghost use Rattle.clap.specs.Words.{subcommand_of, subcommand_rows_of, with_subcommand};
 ghost use Rattle.norbd_line.specs.CommandLine.{conns_rule, flag_rule, image_rule, kib_rule};
 ghost use Rattle.norbd_line.specs.CommandLine.{norbd_app, port_rule, sectors_rule};
 ghost use Rattle.norbd_line.specs.CommandLine.{format_app, plain_app, script_app, serve_app};
-ghost use Rattle.norbd_line.specs.CommandLine.{texts_of};
+ghost use Rattle.norbd_line.specs.CommandLine.{sync_rule, texts_of};
 ghost use Rattle.norbd_line.specs.Fault.{ComesFromMatches, ComesFromWords};
-ghost use Rattle.norbd_line.specs.Line.{HasOddSize, IsLineInRange, IsLineIn, IsLineOf, IsSet};
-ghost use Rattle.norbd_line.specs.Line.{IsSize, TakesSize, number_in, number_of};
+ghost use Rattle.norbd_line.specs.Line.{HasOddSize, IsConns, IsLineInRange, IsLineIn, IsLineOf};
+ghost use Rattle.norbd_line.specs.Line.{IsSet, IsSize, TakesSize, number_in, number_of, sync_in};
 
 use crate::Fault;
 use clap::error::ErrorKind;
@@ -27,11 +27,12 @@ pub enum Line<'a> {
         sectors: u32,
         record: bool,
     },
-    /// `format IMAGE --kib K`: make the file at the path `image` a formatted chip of `kib` KiB, a
-    /// multiple of 64 from 64 to 16,384.
+    /// `format IMAGE --kib K [--force]`: make the file at the path `image` a formatted chip of
+    /// `kib` KiB, a multiple of 64 from 64 to 16,384, one that is formatted only if `force` is set.
     Format {
         image: &'a str,
         kib: u32,
+        force: bool,
     },
     /// `script --kib K`: run a script of events, from standard input, on a formatted chip in memory
     /// of `kib` KiB, a multiple of 64 from 64 to 16,384, and tell what came of them on standard
@@ -39,15 +40,31 @@ pub enum Line<'a> {
     Script {
         kib: u32,
     },
-    /// `serve IMAGE --port P --conns C [--record]`: serve the chip in the file at the path `image`
-    /// to `conns` clients, from 1 to 64, on the port `port` of 127.0.0.1, from 1 to 65,535, and
-    /// keep a row of each command where `record` is set.
-    Serve {
-        image: &'a str,
-        port: u32,
-        conns: u32,
-        record: bool,
-    },
+    /// `serve IMAGE --port P [--conns C] [--record] [--sync WHEN]`: serve the chip in an image.
+    Serve(ServeLine<'a>),
+}
+
+/// What a line `serve` asks: to serve the chip in the file at the path `image` on the port `port`
+/// of 127.0.0.1, from 1 to 65,535, to `conns` clients in all, from 1 to 64, or without end where it
+/// is `None`; to keep a row of each command where `record` is set; and when the file is synced.
+#[derive(Debug, Clone, Copy, PartialEq, Eq)]
+pub struct ServeLine<'a> {
+    pub image: &'a str,
+    pub port: u32,
+    pub conns: Option<u32>,
+    pub record: bool,
+    pub sync: SyncPolicy,
+}
+
+/// When what a server has written to its image is handed on to the disk of this machine.
+#[derive(Debug, Clone, Copy, PartialEq, Eq, Drop)]
+pub enum SyncPolicy {
+    /// `--sync flush`, and without `--sync`: at each FLUSH, and at the end.
+    AtFlush,
+    /// `--sync never`: when the system likes.
+    Never,
+    /// `--sync always`: with each command that changes sectors too.
+    Always,
 }
 
 /// The least number of sectors of a plain disk.
@@ -121,10 +138,34 @@ fn conns_arg<'a>(alloc: Global) -> Arg<'a>
     Arg::new(alloc, "conns")
         .long("conns")
         .value_name("C")
-        .help("How many connections are served, from 1 to 64")
-        .required(true)
+        .help("How many connections are served in all, from 1 to 64; without it, any number")
         .action(ArgAction::Set)
         .value_parser(value_parser!(u32).range(1..=64))
+}
+
+/// `--sync WHEN`.
+fn sync_arg<'a>(alloc: Global) -> Arg<'a>
+    ensures rule { rule_of result ≡ sync_rule }
+    ensures local { result.global ≡ false }
+{
+    Arg::new(alloc, "sync")
+        .long("sync")
+        .value_name("WHEN")
+        .help(
+            "When the image is synced to this machine's disk: flush (as without it), never or always",
+        )
+        .action(ArgAction::Set)
+}
+
+/// `--force`.
+fn force_arg<'a>(alloc: Global) -> Arg<'a>
+    ensures rule { rule_of result ≡ flag_rule (codes "force") }
+    ensures local { result.global ≡ false }
+{
+    Arg::new(alloc, "force")
+        .long("force")
+        .help("Replaces a file that holds a formatted chip, too")
+        .action(ArgAction::SetTrue)
 }
 
 /// `--record`.
@@ -184,7 +225,8 @@ fn with_format<'a>(alloc: Global, norbd: Command<'a>) -> Result<Command<'a>, cla
             alloc,
             "The file of the chip's bytes; one that is there is replaced",
         ))?
-        .arg(kib_arg(alloc))?;
+        .arg(kib_arg(alloc))?
+        .arg(force_arg(alloc))?;
     Ok(norbd.subcommand(format)?)
 }
 
@@ -212,7 +254,8 @@ fn with_serve<'a>(alloc: Global, norbd: Command<'a>) -> Result<Command<'a>, clap
         .arg(image_arg(alloc, "The file of the chip's bytes"))?
         .arg(port_arg(alloc))?
         .arg(conns_arg(alloc))?
-        .arg(record_arg(alloc))?;
+        .arg(record_arg(alloc))?
+        .arg(sync_arg(alloc))?;
     Ok(norbd.subcommand(serve)?)
 }
 
@@ -326,7 +369,11 @@ fn format_line<'a>(matches: &ArgMatches<'a>) -> Result<Line<'a>, Fault>
 {
     let kib = chip_size(matches)?;
     match matches.get_str("IMAGE") {
-        Some(image) => Ok(Line::Format { image, kib }),
+        Some(image) => Ok(Line::Format {
+            image,
+            kib,
+            force: flag(matches, "force"),
+        }),
         None => Err(Fault::NoMemory),
     }
 }
@@ -343,28 +390,67 @@ fn script_line<'a>(matches: &ArgMatches<'a>) -> Result<Line<'a>, Fault>
     })
 }
 
-/// The line of `serve`. The parse refuses words without a path or a number in its range, so the
-/// arms for them answer `NoMemory`.
+/// The number after `--conns`, or `None` where there is none. The parse refuses one out of its
+/// range, so the arm for it answers `NoMemory`.
+fn conns_of(matches: &ArgMatches<'_>) -> Result<Option<u32>, Fault>
+    ensures range { IfOk result (λ conns. IfSome conns IsConns) }
+    ensures number { IfOk result (λ conns.
+        number_in (codes "conns") (rows_of (found_of matches.now)) ≡ conns) }
+{
+    let Some(_) = matches.get_str("conns") else {
+        return Ok(None);
+    };
+    match number(matches, "conns", 1, MOST_CONNS) {
+        Some(conns) => Ok(Some(conns)),
+        None => Err(Fault::NoMemory),
+    }
+}
+
+/// What the word after `--sync` says, if it says something.
+fn sync_of(matches: &ArgMatches<'_>) -> Option<SyncPolicy>
+    ensures { sync_in (rows_of (found_of matches.now)) ≡ result }
+{
+    let Some(word) = matches.get_str("sync") else {
+        return Some(SyncPolicy::AtFlush);
+    };
+    if word == "flush" {
+        Some(SyncPolicy::AtFlush)
+    } else if word == "never" {
+        Some(SyncPolicy::Never)
+    } else if word == "always" {
+        Some(SyncPolicy::Always)
+    } else {
+        None
+    }
+}
+
+/// The line of `serve`; `BadSync` where the word after `--sync` says nothing. The parse refuses
+/// words without a path or a number in its range, so the arms for them answer `NoMemory`.
 fn serve_line<'a>(matches: &ArgMatches<'a>) -> Result<Line<'a>, Fault>
     ensures range { IfOk result IsLineInRange }
     ensures line { IfOk result (IsLineIn (codes "serve") (rows_of (found_of matches.now))) }
-    ensures fault { IfErr result (λ e. e ≡ Fault.NoMemory) }
+    ensures fault { IfErr result (ComesFromMatches (codes "serve")
+        (rows_of (found_of matches.now))) }
 {
     let Some(port) = number(matches, "port", 1, MOST_PORT) else {
         return Err(Fault::NoMemory);
     };
-    let Some(conns) = number(matches, "conns", 1, MOST_CONNS) else {
+    let Ok(conns) = conns_of(matches) else {
         return Err(Fault::NoMemory);
+    };
+    let Some(sync) = sync_of(matches) else {
+        return Err(Fault::BadSync);
     };
     let Some(image) = matches.get_str("IMAGE") else {
         return Err(Fault::NoMemory);
     };
-    Ok(Line::Serve {
+    Ok(Line::Serve(ServeLine {
         image,
         port,
         conns,
         record: flag(matches, "record"),
-    })
+        sync,
+    }))
 }
 
 /// The line of the command of this name. The parse refuses every other name, so the last arm isn't
@@ -406,9 +492,10 @@ fn line_or_fault<'a>(alloc: Global, words: &'a [String]) -> Result<Line<'a>, Fau
 /// Reads the program's words, of which the first is its name.
 ///
 /// `Words` where they are no line of the program or ask for help or the version, `BadSize` where
-/// the number after `--kib` is from 64 to 16,384 and no multiple of 64, `NoMemory` where memory ran
-/// out. The parse refuses words without a command, a path or a number in its range, so what comes
-/// then isn't reached; it needs some fault, and answers `NoMemory`.
+/// the number after `--kib` is from 64 to 16,384 and no multiple of 64, `BadSync` where the word
+/// after `--sync` is none that says when, `NoMemory` where memory ran out. The parse refuses words
+/// without a command, a path or a number in its range, so what comes then isn't reached; it needs
+/// some fault, and answers `NoMemory`.
 pub fn read_line<'a>(alloc: Global, words: &'a [String]) -> Result<Line<'a>, Fault>
     ensures range { IfOk result IsLineInRange }
     ensures line { IfOk result (IsLineOf (texts_of words.now)) }

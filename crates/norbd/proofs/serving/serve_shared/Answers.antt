@@ -5,13 +5,6 @@ use Rattle.norbd.proofs.Telling.{begun, ended, first-failed, serving-failed, sil
 use Rattle.norbd_line.specs.declared.fault.Fault.{Fault}
 use Rattle.norbd.proofs.serving.serve_shared.Goals as goal
 
-pub returns-in-Err : goal.returns-in-Err
-returns-in-Err g c =
-    let old = g.K.Sink.written c.args.writer.now in
-    let f = g.K.Sink.faults c.args.writer.now in
-    let P : Fault → Type 0 = λ x. TellsServing {T = Unit {0}} c.args.asked.port c.args.asked.conns g.C.Recorder.KEEPS old f (Err x) old f in
-    subst P (sym c.told_of_serving.ensures) (serving-failed (Unit {0}) c.args.asked.port c.args.asked.conns g.C.Recorder.KEEPS old old f f c.in-Err.fault (silent c.args.asked.port old f))
-
 pub returns-in-Err-tell : goal.returns-in-Err-tell
 returns-in-Err-tell g c =
     first-failed (Unit {0}) c.serving_text-first.result c.args.asked.port c.args.asked.conns c.args.sectors g.C.Recorder.KEEPS

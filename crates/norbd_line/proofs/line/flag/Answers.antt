@@ -1,4 +1,4 @@
-use Rattle.std.proofs.Common.{ap, codes, option_map, Some, None, sym, ◌∙◌}
+use Rattle.std.proofs.Common.{ap, codes, option_map, Some, sym, ◌∙◌}
 use Rattle.std.proofs.lemmas.Bool.Decides.{Decides-at, not_from_Decides}
 use Rattle.std.proofs.lemmas.Slice.Eq.{bytes_eq-Decides}
 use Rattle.std.specs.Str.{bytes_eq}

@@ -10,6 +10,7 @@ returns-clause-line c =
       refl,
       sym (first_value-rows found (codes "IMAGE")) ∙ sym c.get_str.ensures ∙ ap (option_map (λ s. s.now)) c.in-Some-get_str.is,
       ap (option_map number_of) (sym (one_text-rows found (codes "port"))) ∙ c.in-Some.ensures.text,
-      ap (option_map number_of) (sym (one_text-rows found (codes "conns"))) ∙ c.in-Some-number.ensures.text,
+      c.in-Ok.ensures.number,
       c.flag.ensures,
+      c.sync_of.ensures ∙ c.in-Some-sync_of.is,
     )

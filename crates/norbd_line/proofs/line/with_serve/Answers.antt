@@ -1,6 +1,6 @@
 use Rattle.std.proofs.Common.{rules, ap, ap₂, codes, ◌≡◌, ◌∙◌}
 use Rattle.clap.specs.Words.{App, app_of, new_app, with_rule, with_subcommand}
-use Rattle.norbd_line.specs.CommandLine.{conns_rule, image_rule, port_rule, serve_app}
+use Rattle.norbd_line.specs.CommandLine.{conns_rule, flag_rule, image_rule, port_rule, serve_app}
 use Rattle.norbd_line.proofs.line.with_serve.Goals as goal
 
 pub returns-clause-app : goal.returns-clause-app
@@ -12,7 +12,9 @@ returns-clause-app c =
     c.in_ok-arg-2.ensures.shape c.port_arg.ensures.local ∙ ap₂ with_rule one c.port_arg.ensures.rule in
     let three : app_of c.in_ok-arg-3.field-0 ≡ with_rule (with_rule (with_rule (new_app (codes "serve")) image_rule) port_rule) conns_rule =
     c.in_ok-arg-3.ensures.shape c.conns_arg.ensures.local ∙ ap₂ with_rule two c.conns_arg.ensures.rule in
+    let four : app_of c.in_ok-arg-4.field-0 ≡ with_rule (with_rule (with_rule (with_rule (new_app (codes "serve")) image_rule) port_rule) conns_rule) (flag_rule (codes "record")) =
+    c.in_ok-arg-4.ensures.shape c.record_arg.ensures.local ∙ ap₂ with_rule three c.record_arg.ensures.rule in
     let serve : app_of c.in_ok-serve.serve ≡ serve_app =
-    c.in_ok-serve.ensures.shape c.record_arg.ensures.local ∙ ap₂ with_rule three c.record_arg.ensures.rule in
-    c.in_ok-subcommand.ensures.shape (search (rules, c.in_ok-serve.ensures.globals, c.record_arg.ensures.local, c.in_ok-arg-3.ensures.globals, c.conns_arg.ensures.local, c.in_ok-arg-2.ensures.globals, c.port_arg.ensures.local, c.in_ok-arg.ensures.globals, c.image_arg.ensures.local, c.about.ensures, c.new.ensures.local))
+    c.in_ok-serve.ensures.shape c.sync_arg.ensures.local ∙ ap₂ with_rule four c.sync_arg.ensures.rule in
+    c.in_ok-subcommand.ensures.shape (search (rules, c.in_ok-serve.ensures.globals, c.sync_arg.ensures.local, c.in_ok-arg-4.ensures.globals, c.record_arg.ensures.local, c.in_ok-arg-3.ensures.globals, c.conns_arg.ensures.local, c.in_ok-arg-2.ensures.globals, c.port_arg.ensures.local, c.in_ok-arg.ensures.globals, c.image_arg.ensures.local, c.about.ensures, c.new.ensures.local))
     ∙ ap (λ (a : App). with_subcommand (app_of c.args.norbd) a.top) serve

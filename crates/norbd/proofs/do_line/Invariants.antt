@@ -1,4 +1,4 @@
-use Rattle.norbd.proofs.run_words.Given as goal
+use Rattle.norbd.proofs.do_line.Given as goal
 
 -- the ledgers of standard input and standard output: those of their blanks
 abbrev pub ghosts-run_streams-I-Ledger : goal.ghosts-run_streams-I-Ledger

@@ -1,0 +1,74 @@
+//! The descriptors 0, 1 and 2, which a starter may have closed: a file that is opened then would
+//! get their number, and what is printed would be written into it.
+
+ghost use Rattle.std.specs.Prelude.{◌≡◌};
+
+use std::fs::OpenOptions;
+use std::io;
+use std::os::fd::AsRawFd;
+use std::rt::Files;
+
+/// Opens files, each of which gets the lowest number that is free.
+pub trait Opens {
+    type File: AsRawFd + Drop;
+
+    /// Opens one more.
+    fn open(&mut self) -> io::Result<Self::File>;
+}
+
+/// Opens the file that takes all and holds nothing, or where there is none the root folder, which
+/// takes nothing.
+#[derive(Drop)]
+pub struct Null<'r, R> {
+    pub rt: &'r R,
+}
+
+impl<R: Files> Opens for Null<'_, R>
+where
+    R::File: AsRawFd,
+{
+    type File = R::File;
+
+    fn open(&mut self) -> io::Result<R::File> {
+        match OpenOptions::new()
+            .read(true)
+            .write(true)
+            .open(self.rt, "/dev/null")
+        {
+            Ok(file) => Ok(file),
+            Err(_) => OpenOptions::new().read(true).open(self.rt, "/"),
+        }
+    }
+}
+
+/// The descriptors that are held, so that no file gets their number.
+#[derive(Drop)]
+pub struct Standard<F: Drop> {
+    held: [Option<F>; 3],
+}
+
+impl<F: Drop> Standard<F> {
+    /// How many of the three weren't open.
+    pub fn count(&self) -> usize {
+        self.held.iter().filter(|file| file.is_some()).count()
+    }
+}
+
+/// A file, if its number is 0, 1 or 2.
+fn open_low<O: Opens>(opens: &mut O) -> io::Result<Option<O::File>> {
+    let file = opens.open()?;
+    if file.as_raw_fd() <= 2 {
+        return Ok(Some(file));
+    }
+    Ok(None)
+}
+
+/// Sees to it that 0, 1 and 2 are open: those that aren't are opened. Err where that fails.
+pub fn hold_standard<O: Opens>(opens: &mut O) -> io::Result<Standard<O::File>> {
+    let first = open_low(opens)?;
+    let second = open_low(opens)?;
+    let third = open_low(opens)?;
+    Ok(Standard {
+        held: [first, second, third],
+    })
+}

@@ -1,0 +1,108 @@
+//! What is printed of faults, and which descriptors are held.
+
+use crate::standard::{Opens, hold_standard};
+use crate::telling::Telling;
+use norbd_line::{Cause, Fault, Line, ServeLine, SyncPolicy};
+use std::io;
+use std::io::ErrorKind;
+use std::os::fd::{AsRawFd, RawFd};
+use std::test::*;
+
+#[test]
+fn faults_tell_which_file_and_why(rt: HostRuntime) -> Result<(), Fail> {
+    let serve = Line::Serve(ServeLine {
+        image: "a.img",
+        port: 80,
+        conns: None,
+        record: false,
+        sync: SyncPolicy::AtFlush,
+    });
+    let format = Line::Format {
+        image: "b.img",
+        kib: 64,
+        force: false,
+    };
+    for (fault, line, text) in [
+        (
+            Fault::ImageFailed(Cause::System(ErrorKind::PermissionDenied)),
+            Some(serve),
+            "image failed: a.img: permission denied",
+        ),
+        (
+            Fault::NoSocket(Cause::System(ErrorKind::AddrInUse)),
+            Some(serve),
+            "no socket: port 80: address in use",
+        ),
+        (
+            Fault::BadImageSize(65_569),
+            Some(serve),
+            "bad image size: a.img: 65569 bytes",
+        ),
+        (Fault::Corrupt, Some(serve), "corrupt: a.img"),
+        (Fault::InUse, Some(format), "image in use: b.img"),
+        (
+            Fault::Formatted,
+            Some(format),
+            "image is formatted: b.img: --force replaces it",
+        ),
+        (Fault::NoMemory, Some(format), "no memory"),
+        (Fault::Slow, Some(Line::Script { kib: 64 }), "slow"),
+        (Fault::NotText, None, "a word is not UTF-8"),
+        (Fault::BadSync, None, "bad sync: flush, never or always"),
+    ] {
+        let telling = Telling {
+            fault: &fault,
+            line,
+        };
+        assert_eq!(rt; format!(in rt.alloc(); "{telling}")?.as_str(), text);
+    }
+    Ok(())
+}
+
+/// A file of this number.
+#[derive(Drop)]
+struct Numbered {
+    number: RawFd,
+}
+
+impl AsRawFd for Numbered {
+    fn as_raw_fd(&self) -> RawFd {
+        self.number
+    }
+}
+
+/// A system in which these numbers are free, and then those from 3 on.
+#[derive(Drop)]
+struct Free<'a> {
+    numbers: &'a [RawFd],
+}
+
+impl Opens for Free<'_> {
+    type File = Numbered;
+
+    fn open(&mut self) -> io::Result<Numbered> {
+        if self.numbers.is_empty() {
+            return Ok(Numbered { number: 3 });
+        }
+        let number = self.numbers[0];
+        self.numbers = &self.numbers[1..];
+        Ok(Numbered { number })
+    }
+}
+
+#[test]
+fn closed_descriptors_are_held(rt: HostRuntime) -> Result<(), Fail> {
+    for (numbers, count) in [
+        ([].as_slice(), 0),
+        ([0].as_slice(), 1),
+        ([1].as_slice(), 1),
+        ([1, 2].as_slice(), 2),
+        ([0, 1, 2].as_slice(), 3),
+    ] {
+        let mut free = Free { numbers };
+        let standard = hold_standard(&mut free)?;
+        assert_eq!(rt; standard.count(), count);
+        assert!(rt; free.open()?.number > 2);
+    }
+    Ok(())
+}
