@@ -121,7 +121,7 @@ fn change(
 }
 
 /// Fills a sector of a disk with a byte.
-fn fill<D: Disk>(disk: &mut D, sector: u32, byte: u8) -> Result<(), Fail> {
+pub(crate) fn fill<D: Disk>(disk: &mut D, sector: u32, byte: u8) -> Result<(), Fail> {
     if sector >= disk.sectors() {
         return Err(Fail::new("no sector of the disk"));
     }
@@ -129,7 +129,7 @@ fn fill<D: Disk>(disk: &mut D, sector: u32, byte: u8) -> Result<(), Fail> {
 }
 
 /// The image of a disk in use: each sector was written, nine of them again, and a block was copied.
-fn used(alloc: Global) -> Result<Vec<u8>, Fail> {
+pub(crate) fn used(alloc: Global) -> Result<Vec<u8>, Fail> {
     let mount: Result<OnSim, _> = FlashDisk::mount(alloc, formatted(alloc)?);
     let Ok(mut disk) = mount else {
         return Err(Fail::new("not mounted"));

@@ -3,7 +3,7 @@
 //!
 //! There is no product code here. `beginning_of` gives the first bytes of a list. The tests stand
 //! by subject: `tables` is a chip's own table with each byte changed and cut short; `damage` images
-//! with bytes changed; `slow` a chip whose operation never ends; `lengths` payloads and option data
+//! with bytes changed, and `looked_at` such images as they are served; `slow` a chip whose operation never ends; `lengths` payloads and option data
 //! of up to 4 GiB; `beginnings` connections and scripts that end anywhere; `memory` calls that find
 //! no memory.
 //!
@@ -21,6 +21,8 @@ mod chips;
 mod damage;
 #[cfg(test)]
 mod lengths;
+#[cfg(test)]
+mod looked_at;
 #[cfg(test)]
 mod memory;
 #[cfg(test)]

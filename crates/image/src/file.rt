@@ -52,6 +52,33 @@ where
     }
 }
 
+/// Makes these bytes the file at a path, which this process holds and which is replaced as a whole,
+/// as `write_image` does it: after a fault the file is as it was.
+pub fn rewrite_image<R>(
+    rt: &R,
+    path: &str,
+    _held: &Held<R::File>,
+    bytes: &[u8],
+) -> Result<(), ImageError>
+where
+    R: Files + AllocGlobal,
+    R::File: ImageFile,
+    ensures { IfErr result ComesOfHolding }
+{
+    match (fs::metadata(rt, path), fs::canonicalize(rt, path)) {
+        (Ok(found), Ok(place)) => {
+            replace(
+                rt,
+                place.into_string().as_str(),
+                Some(found.permissions()),
+                bytes,
+            )
+        }
+        (Err(error), _) => Err(fault_from(error)),
+        (_, Err(error)) => Err(fault_from(error)),
+    }
+}
+
 /// Writes the bytes beside a path, and gives them its name.
 fn replace<R: Files + AllocGlobal>(
     rt: &R,
@@ -59,7 +86,8 @@ fn replace<R: Files + AllocGlobal>(
     permissions: Option<Permissions>,
     bytes: &[u8],
 ) -> Result<(), ImageError>
-    ensures { IfErr result ComesOfFile }
+    ensures file { IfErr result ComesOfFile }
+    ensures holding { IfErr result ComesOfHolding }
 {
     let (file, name) = new_beside(rt, path)?;
     let put = match fill(file, bytes, permissions) {
@@ -187,7 +215,8 @@ fn makes_target<R: Files>(rt: &R, path: &str) -> Result<bool, ImageError>
 
 /// A new file in the folder of a place, and its path.
 fn new_beside<R: Files + AllocGlobal>(rt: &R, place: &str) -> Result<(R::File, String), ImageError>
-    ensures { IfErr result ComesOfFile }
+    ensures file { IfErr result ComesOfFile }
+    ensures holding { IfErr result ComesOfHolding }
 {
     for number in 0..NAMES {
         let name = format!(in rt.alloc(); "{place}.{number}.new")?;

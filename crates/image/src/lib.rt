@@ -1,11 +1,14 @@
-//! Images: the memory of a chip that was just formatted, and the file of such bytes.
+//! Images: the memory of a chip that was just formatted, of one that was mended, and the file of
+//! such bytes.
 //!
 //! `formatted_image` formats a chip in memory and gives its bytes: a healthy and clean memory of
-//! the size asked for, whose disk is one of zeros (`specs/Image.antt`). `write_image` puts bytes
-//! into a file as a whole: they are written beside it, and the new file takes its name; one that
-//! begins as a formatted chip is refused unless it is forced (`leave_to_replace`). `hold` opens a
-//! file and takes its lock, so that one process at a time has it, and `Held::chip` is the chip in
-//! it. What a file holds, and who has its lock, no contract can say; tests and runs show it.
+//! the size asked for, whose disk is one of zeros (`specs/Image.antt`). `mended_image` gives the
+//! bytes of a healthy and clean chip with the sectors of a healthy one, which need not be clean
+//! (`specs/Mended.antt`). `write_image` puts bytes into a file as a whole: they are written beside
+//! it, and the new file takes its name; one that begins as a formatted chip is refused unless it is
+//! forced (`leave_to_replace`). `hold` opens a file and takes its lock, so that one process at a
+//! time has it, and `Held::chip` is the chip in it. What a file holds, and who has its lock, no
+//! contract can say; tests and runs show it.
 //!
 //! Left to the crate above: that the size is a chip's, and which bytes a file is given.
 //!
@@ -16,9 +19,11 @@
 mod error;
 mod file;
 mod formatted;
+mod mended;
 mod owner;
 
 pub use error::ImageError;
-pub use file::write_image;
+pub use file::{rewrite_image, write_image};
 pub use formatted::formatted_image;
+pub use mended::mended_image;
 pub use owner::{Held, ImageFile, hold};

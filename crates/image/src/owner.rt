@@ -97,6 +97,26 @@ impl<F: Read + Write + Seek + OpenFile + FileExt + Drop> Held<F> {
         }
     }
 
+    /// All bytes of the file: `BadSize` where no chip has so many, `OutOfMemory` where there is no
+    /// memory for them, and `File` where it can't be read.
+    pub fn bytes(&self, alloc: Global) -> Result<Vec<u8>, SimError>
+        ensures { IfOk result (λ bytes. IsChipSize (length bytes.items)) }
+    {
+        let Ok(length) = self.length() else {
+            return Err(SimError::File);
+        };
+        if length == 0 || length > 16_777_216 || length % 65_536 != 0 {
+            return Err(SimError::BadSize);
+        }
+        let Ok(mut bytes) = vec![in alloc; 0xFFu8; length as usize] else {
+            return Err(SimError::OutOfMemory);
+        };
+        match self.file.read_exact_at(bytes.as_mut_slice(), 0) {
+            Ok(()) => Ok(bytes),
+            Err(_) => Err(SimError::File),
+        }
+    }
+
     /// Another handle of the file, which has the lock too.
     pub fn handle(&self) -> io::Result<F> {
         self.file.try_clone()

@@ -3,3 +3,4 @@ pub mod Outcomes
 pub mod Scripting
 pub mod Listening
 pub mod Serving
+pub mod Checking

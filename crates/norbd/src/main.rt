@@ -1,13 +1,14 @@
 //! The program `norbd`, a disk on a flash chip behind the Network Block Device protocol (NBD), in
-//! four lines: `plain` serves a disk in memory over standard input and output, in the transmission
+//! five lines: `plain` serves a disk in memory over standard input and output, in the transmission
 //! phase; `format` makes an image of a formatted chip; `script` runs events, losses of power too,
-//! on a chip in memory; `serve` serves the chip in an image to connections on a port.
+//! on a chip in memory; `serve` serves the chip in an image to connections on a port; `check` says
+//! whether an image would be served, and mends one.
 //!
 //! The root file has the words of the command line, the standard streams, what is printed of a
 //! fault, and the exit status: 0 where the line is done, 2 for a bad line, 1 for each other fault.
 //! `run` does what a line asks, over any reader and writer; the readers and writers here are
 //! standard input and output, unbuffered, so that each reply is out before the next request is
-//! looked at. `formatting`, `scripting` and `serving` have one line each. Left to the crates below:
+//! looked at. `formatting`, `scripting`, `serving` and `checking` have one line each. Left to the crates below:
 //! the words and the texts of faults (`norbd_line`), requests and replies (`share`), threads and
 //! sockets (`norbd_serve`), the chain from the chip to a transcript (`flash_station`), the disks
 //! (`block_device`, `flash_disk`), an image's bytes and its file (`image`). No contract says what
@@ -21,6 +22,9 @@ ghost use Rattle.norbd.specs.Outcomes.{EndsWith};
 ghost use Rattle.norbd_line.specs.Line.{IfFormat, IfScript, IfServe, IsConns, IsLineInRange};
 ghost use Rattle.norbd_line.specs.Line.{IsPort, IsSize};
 
+mod checking;
+#[cfg(test)]
+mod checking_tests;
 mod formatting;
 #[cfg(test)]
 mod memory_tests;

@@ -1,14 +1,16 @@
 //! What a line asks, over any reader and writer.
 ghost use Rattle.std.specs.Prelude.{◌≡◌, ◌≢◌, ℕ, List, Some, false};
 ghost use Rattle.std.specs.Prelude.{IfSome, IsFalse, unwrap_or};
+ghost use Rattle.norbd.specs.Checking.{CheckTells};
 ghost use Rattle.norbd.specs.Outcomes.{Ended, Means};
 ghost use Rattle.norbd.specs.Formatting.{FormatTells};
 ghost use Rattle.norbd.specs.Scripting.{Scripts};
 ghost use Rattle.norbd.specs.Listening.{TellsServing};
 ghost use Rattle.norbd.specs.Serving.{PlainServes, zero_sectors};
-ghost use Rattle.norbd_line.specs.Line.{IfFormat, IfPlain, IfScript, IfServe, IsConns, IsPort};
-ghost use Rattle.norbd_line.specs.Line.{IsSize};
+ghost use Rattle.norbd_line.specs.Line.{IfCheck, IfFormat, IfPlain, IfScript, IfServe, IsConns};
+ghost use Rattle.norbd_line.specs.Line.{IsPort, IsSize};
 
+use crate::checking::run_check;
 use crate::formatting::run_format;
 use crate::scripting::run_script;
 use crate::serving::{Asked, run_serve};
@@ -49,7 +51,10 @@ const MOST_CONNS: u32 = 64;
 /// its faults are those of `run_format`. Nothing is read.
 ///
 /// `serve`: serves the chip in the file at the path to clients on a port, with lines about it to
-/// `writer`; its faults are those of `run_serve`. Nothing is read. Source: own.
+/// `writer`; its faults are those of `run_serve`. Nothing is read.
+///
+/// `check`: says on `writer` whether the image in the file at the path would be served, and mends
+/// it where that is asked; its faults are those of `run_check`. Nothing is read. Source: own.
 #[tactic(auto, using(crate::proofs::Sizes::size_of_chip))]
 pub fn run_line<R, S, K>(
     rt: &R,
@@ -79,6 +84,10 @@ where
         → PlainServes keeps sectors input (K.written writer.old) (K.written writer.new) result) }
     ensures unread { IfFormat line.entry (λ _ _. reader.new ≡ reader.old) }
     ensures serve_unread { IfServe line.entry (λ _. reader.new ≡ reader.old) }
+    ensures check_unread { IfCheck line.entry (λ _. reader.new ≡ reader.old) }
+    ensures tells_check { IfCheck line.entry
+        (λ mends. CheckTells mends (K.written writer.old) (K.faults writer.old) result
+        (K.written writer.new) (K.faults writer.new)) }
     ensures tells_serving { IfServe line.entry
         (λ s. TellsServing s.port (unwrap_or s.conns 64) s.record (K.written writer.old)
         (K.faults writer.old) result (K.written writer.new) (K.faults writer.new)) }
@@ -123,6 +132,7 @@ where
             };
             run_serve(rt, line.image, asked, writer)
         }
+        Line::Check { image, mend } => run_check(rt, image, mend, writer),
     }
 }
 

@@ -188,7 +188,7 @@ where
 
 /// The disk on the chip behind a bus, on which nothing is in progress. Its data blocks are read
 /// once whole: the disk is sound, and holds what the chip's memory, which is healthy, represents.
-fn look_at<B: SpiBus + Drop>(alloc: Global, bus: B) -> Result<FlashDisk<B, Brand>, Fault>
+pub(crate) fn look_at<B: SpiBus + Drop>(alloc: Global, bus: B) -> Result<FlashDisk<B, Brand>, Fault>
     requires idle { is_idle (B.chip bus).operation ≡ true }
     ensures refused { IfErr result IsRefusal }
     ensures sound { IfOk result (λ disk.
@@ -324,7 +324,7 @@ where
 }
 
 /// Writes a text.
-fn tell<K: Sink>(writer: &mut K, text: Result<String, AllocError>) -> Result<(), Fault>
+pub(crate) fn tell<K: Sink>(writer: &mut K, text: Result<String, AllocError>) -> Result<(), Fault>
     ensures { WritesText text (K.written writer.old) (K.faults writer.old) result
         (K.written writer.new) (K.faults writer.new) }
 {
@@ -356,7 +356,7 @@ fn ended_text(alloc: Global, conns: u32, record: bool, rows: u64) -> Result<Stri
 }
 
 /// What a refusal of an image's file, of so many bytes, is for the program.
-fn told_of_file(length: u64, error: SimError) -> Fault
+pub(crate) fn told_of_file(length: u64, error: SimError) -> Fault
     ensures { result ≡ told_of_file length error }
 {
     match error {
@@ -367,7 +367,7 @@ fn told_of_file(length: u64, error: SimError) -> Fault
 }
 
 /// What one of a mount is.
-fn told_of_mount(error: MountError) -> Fault
+pub(crate) fn told_of_mount(error: MountError) -> Fault
     ensures { result ≡ told_of_mount error }
 {
     match error {

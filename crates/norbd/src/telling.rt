@@ -24,6 +24,7 @@ fn image_of(line: Option<Line<'_>>) -> Subject<'_> {
     match line {
         Some(Line::Format { image, .. }) => Subject::Image(image),
         Some(Line::Serve(asked)) => Subject::Image(asked.image),
+        Some(Line::Check { image, .. }) => Subject::Image(image),
         _ => Subject::Nothing,
     }
 }
@@ -69,6 +70,7 @@ impl fmt::Display for Telling<'_, '_> {
             Fault::BadImageSize(length) => write!(f, ": {length} bytes"),
             Fault::BadSync => f.write_str(": flush, never or always"),
             Fault::Formatted => f.write_str(": --force replaces it"),
+            Fault::NotClean => f.write_str(": norbd check --mend mends it"),
             _ => Ok(()),
         }
     }

@@ -7,7 +7,7 @@ use Rattle.norbd_line.specs.Line.{HasOddSize, IsLineInRange, IsLineOf, IsOddSize
 use Rattle.norbd_line.specs.declared.fault.Fault.{Fault}
 use Rattle.norbd_line.specs.declared.fault.Fault.TheVariants.{Words, NoMemory, BadSize, InputFailed, OutputFailed, ImageFailed, WrongId, BadSfdp, Protected, Slow, BadRecord, NotFormatted, Corrupt, NotClean, BadImageSize, NoSocket, NoThread, BadSync, NotText, InUse, Formatted}
 use Rattle.norbd_line.specs.declared.line.Line.{Line}
-use Rattle.norbd_line.specs.declared.line.Line.TheVariants.{Plain, Format, Script, Serve}
+use Rattle.norbd_line.specs.declared.line.Line.TheVariants.{Plain, Format, Script, Serve, Check}
 
 -- the words name one command
 same_name : (words : List Text) (n m : Text) (rows others : List Row) → Names words n rows → Names words m others → n ≡ m
@@ -35,6 +35,11 @@ unfolding first_of_name second_of_name
 serve_takes_no_size (inl e) = let first : 115 ≡ 102 = ap first_of_name e in omega (arith, first)
 serve_takes_no_size (inr e) = let second : 101 ≡ 99 = ap second_of_name e in omega (arith, second)
 
+check_takes_no_size : TakesSize (codes "check") → ⊥
+unfolding first_of_name
+check_takes_no_size (inl e) = let first : 99 ≡ 102 = ap first_of_name e in omega (arith, first)
+check_takes_no_size (inr e) = let first : 99 ≡ 115 = ap first_of_name e in omega (arith, first)
+
 size≢odd : (k m : ℕ) → Some k ≡ Some m → IsSize k → IsOddSize m → ⊥
 size≢odd k m e size odd =
     let same : k ≡ m = ap (λ (o : Option ℕ). unwrap_or o 0) e in
@@ -56,6 +61,9 @@ odd_is_refused words (Ok (Script kib)) range line fault odd =
 odd_is_refused words (Ok (Serve asked)) range line fault odd =
     let name = same_name words line.0 odd.0 line.1 odd.1 line.2 odd.2 in
     absurd (serve_takes_no_size (subst TakesSize (sym name ∙ line.3.0) odd.3.0))
+odd_is_refused words (Ok (Check image mends)) range line fault odd =
+    let name = same_name words line.0 odd.0 line.1 odd.1 line.2 odd.2 in
+    absurd (check_takes_no_size (subst TakesSize (sym name ∙ line.3.0) odd.3.0))
 odd_is_refused words (Err (Words error)) range line fault odd = absurd (subst (IsAmong (kind_of error)) odd.2.faultless fault.1)
 odd_is_refused words (Err BadSize) range line fault odd = inl refl
 odd_is_refused words (Err BadSync) range line fault odd =

@@ -67,6 +67,10 @@ abbrev pub serve_app : App
 serve_app = with_rule (with_rule (with_rule (with_rule (with_rule (new_app (codes "serve"))
     image_rule) port_rule) conns_rule) (flag_rule (codes "record"))) sync_rule
 
+-- `check IMAGE [--mend]`
+abbrev pub check_app : App
+check_app = with_rule (with_rule (new_app (codes "check")) image_rule) (flag_rule (codes "mend"))
+
 -- `norbd` has a version and requires a command
 abbrev pub norbd_alone : App
 norbd_alone = record (new_app (codes "norbd")) {
@@ -75,9 +79,9 @@ norbd_alone = record (new_app (codes "norbd")) {
 
 -- the whole command line
 abbrev pub norbd_app : App
-norbd_app = with_subcommand (with_subcommand
+norbd_app = with_subcommand (with_subcommand (with_subcommand
     (with_subcommand (with_subcommand norbd_alone plain_app.top) format_app.top) script_app.top)
-    serve_app.top
+    serve_app.top) check_app.top
 
 -- the words as texts
 abbrev pub texts_of : {Z : Type 0} → List (String Z) → List Text

@@ -6,7 +6,7 @@ use Rattle.std.specs.Str.Parse.{digits_value, without_leading_plus}
 use Rattle.clap.specs.Words.{Row, Text, fault_of, first_of, one_of, subcommand_of}
 use Rattle.norbd_line.specs.CommandLine.{norbd_app}
 use Rattle.norbd_line.specs.declared.line.Line.{Line}
-use Rattle.norbd_line.specs.declared.line.Line.TheVariants.{Plain, Format, Script, Serve}
+use Rattle.norbd_line.specs.declared.line.Line.TheVariants.{Plain, Format, Script, Serve, Check}
 use Rattle.norbd_line.specs.declared.line.ServeLine.{ServeLine}
 use Rattle.norbd_line.specs.declared.line.SyncPolicy.{SyncPolicy}
 use Rattle.norbd_line.specs.declared.line.SyncPolicy.TheVariants.{AtFlush, Never, Always}
@@ -33,6 +33,7 @@ IsLineInRange (Plain sectors keeps_rows) = (1 ≤ sectors) × (sectors ≤ 65536
 IsLineInRange (Format image kib forced) = IsSize kib
 IsLineInRange (Script kib) = IsSize kib
 IsLineInRange (Serve asked) = IsPort asked.port × IfSome asked.conns IsConns
+IsLineInRange (Check image mends) = Unit {0}
 
 -- a fact of the number of a line `plain`, and of whether it keeps rows
 abbrev pub IfPlain : Line → (ℕ → Bool → Type 0) → Type 0
@@ -40,6 +41,7 @@ IfPlain (Plain sectors keeps_rows) p = p sectors keeps_rows
 IfPlain (Format image kib forced) p = Unit {0}
 IfPlain (Script kib) p = Unit {0}
 IfPlain (Serve asked) p = Unit {0}
+IfPlain (Check image mends) p = Unit {0}
 
 -- a fact of the path and the number of a line `format`
 abbrev pub IfFormat : Line → (Text → ℕ → Type 0) → Type 0
@@ -47,6 +49,7 @@ IfFormat (Plain sectors keeps_rows) p = Unit {0}
 IfFormat (Format image kib forced) p = p image.now kib
 IfFormat (Script kib) p = Unit {0}
 IfFormat (Serve asked) p = Unit {0}
+IfFormat (Check image mends) p = Unit {0}
 
 -- a fact of the number of a line `script`
 abbrev pub IfScript : Line → (ℕ → Type 0) → Type 0
@@ -54,6 +57,7 @@ IfScript (Plain sectors keeps_rows) p = Unit {0}
 IfScript (Format image kib forced) p = Unit {0}
 IfScript (Script kib) p = p kib
 IfScript (Serve asked) p = Unit {0}
+IfScript (Check image mends) p = Unit {0}
 
 -- a fact of what a line `serve` asks
 abbrev pub IfServe : Line → (ServeLine → Type 0) → Type 0
@@ -61,6 +65,15 @@ IfServe (Plain sectors keeps_rows) p = Unit {0}
 IfServe (Format image kib forced) p = Unit {0}
 IfServe (Script kib) p = Unit {0}
 IfServe (Serve asked) p = p asked
+IfServe (Check image mends) p = Unit {0}
+
+-- a fact of whether a line `check` mends
+abbrev pub IfCheck : Line → (Bool → Type 0) → Type 0
+IfCheck (Plain sectors keeps_rows) p = Unit {0}
+IfCheck (Format image kib forced) p = Unit {0}
+IfCheck (Script kib) p = Unit {0}
+IfCheck (Serve asked) p = Unit {0}
+IfCheck (Check image mends) p = p mends
 
 -- the number that a text writes in decimal digits
 abbrev pub number_of : Text → ℕ
@@ -101,6 +114,9 @@ IsLineIn name rows (Serve asked) =
     × (number_in (codes "port") rows ≡ Some asked.port)
     × (number_in (codes "conns") rows ≡ asked.conns) × IsSet (codes "record") rows asked.record
     × (sync_in rows ≡ Some asked.sync)
+IsLineIn name rows (Check image mends) =
+    (name ≡ codes "check") × (first_of (codes "IMAGE") rows ≡ Some image.now)
+    × IsSet (codes "mend") rows mends
 
 -- the commands that take the size of a chip: `format` and `script`
 abbrev pub TakesSize : Text → Type 0

@@ -6,7 +6,8 @@ ghost use Rattle.clap.specs.Words.{rows_of, rule_of};
 ghost use Rattle.clap.specs.Words.{subcommand_of, subcommand_rows_of, with_subcommand};
 ghost use Rattle.norbd_line.specs.CommandLine.{conns_rule, flag_rule, image_rule, kib_rule};
 ghost use Rattle.norbd_line.specs.CommandLine.{norbd_app, port_rule, sectors_rule};
-ghost use Rattle.norbd_line.specs.CommandLine.{format_app, plain_app, script_app, serve_app};
+ghost use Rattle.norbd_line.specs.CommandLine.{check_app, format_app, plain_app, script_app};
+ghost use Rattle.norbd_line.specs.CommandLine.{serve_app};
 ghost use Rattle.norbd_line.specs.CommandLine.{sync_rule, texts_of};
 ghost use Rattle.norbd_line.specs.Fault.{ComesFromMatches, ComesFromWords};
 ghost use Rattle.norbd_line.specs.Line.{HasOddSize, IsConns, IsLineInRange, IsLineIn, IsLineOf};
@@ -42,6 +43,12 @@ pub enum Line<'a> {
     },
     /// `serve IMAGE --port P [--conns C] [--record] [--sync WHEN]`: serve the chip in an image.
     Serve(ServeLine<'a>),
+    /// `check IMAGE [--mend]`: say whether the image in the file at the path `image` would be
+    /// served, and mend it where `mend` is set.
+    Check {
+        image: &'a str,
+        mend: bool,
+    },
 }
 
 /// What a line `serve` asks: to serve the chip in the file at the path `image` on the port `port`
@@ -190,6 +197,17 @@ fn no_record_arg<'a>(alloc: Global) -> Arg<'a>
         .action(ArgAction::SetTrue)
 }
 
+/// `--mend`.
+fn mend_arg<'a>(alloc: Global) -> Arg<'a>
+    ensures rule { rule_of result ≡ flag_rule (codes "mend") }
+    ensures local { result.global ≡ false }
+{
+    Arg::new(alloc, "mend")
+        .long("mend")
+        .help("Replaces an image that isn't clean by a clean one of the same sectors")
+        .action(ArgAction::SetTrue)
+}
+
 /// `IMAGE`.
 fn image_arg<'a>(alloc: Global, help: &'a str) -> Arg<'a>
     ensures rule { rule_of result ≡ image_rule }
@@ -259,6 +277,18 @@ fn with_serve<'a>(alloc: Global, norbd: Command<'a>) -> Result<Command<'a>, clap
     Ok(norbd.subcommand(serve)?)
 }
 
+/// A command line with `check` and its arguments.
+fn with_check<'a>(alloc: Global, norbd: Command<'a>) -> Result<Command<'a>, clap::Error>
+    ensures app { IfOk result (λ c. app_of c ≡ with_subcommand (app_of norbd.entry) check_app.top) }
+    ensures memory { IfErr result (λ e. kind_of e ≡ ErrorKind.OutOfMemory) }
+{
+    let check = Command::new(alloc, "check")
+        .about("Says whether an image would be served, and mends one that isn't clean")
+        .arg(image_arg(alloc, "The file of the chip's bytes"))?
+        .arg(mend_arg(alloc))?;
+    Ok(norbd.subcommand(check)?)
+}
+
 /// The program's whole command line.
 fn whole_command<'a>(alloc: Global) -> Result<Command<'a>, clap::Error>
     ensures app { IfOk result (λ c. app_of c ≡ norbd_app) }
@@ -271,7 +301,8 @@ fn whole_command<'a>(alloc: Global) -> Result<Command<'a>, clap::Error>
     let norbd = with_plain(alloc, norbd)?;
     let norbd = with_format(alloc, norbd)?;
     let norbd = with_script(alloc, norbd)?;
-    with_serve(alloc, norbd)
+    let norbd = with_serve(alloc, norbd)?;
+    with_check(alloc, norbd)
 }
 
 /// What the command line makes of the words.
@@ -453,6 +484,22 @@ fn serve_line<'a>(matches: &ArgMatches<'a>) -> Result<Line<'a>, Fault>
     }))
 }
 
+/// The line of `check`. The parse refuses words without a path, so the arm for them answers
+/// `NoMemory`.
+fn check_line<'a>(matches: &ArgMatches<'a>) -> Result<Line<'a>, Fault>
+    ensures range { IfOk result IsLineInRange }
+    ensures line { IfOk result (IsLineIn (codes "check") (rows_of (found_of matches.now))) }
+    ensures fault { IfErr result (λ e. e ≡ Fault.NoMemory) }
+{
+    match matches.get_str("IMAGE") {
+        Some(image) => Ok(Line::Check {
+            image,
+            mend: flag(matches, "mend"),
+        }),
+        None => Err(Fault::NoMemory),
+    }
+}
+
 /// The line of the command of this name. The parse refuses every other name, so the last arm isn't
 /// reached.
 fn line_of<'a>(name: &str, matches: &ArgMatches<'a>) -> Result<Line<'a>, Fault>
@@ -468,6 +515,8 @@ fn line_of<'a>(name: &str, matches: &ArgMatches<'a>) -> Result<Line<'a>, Fault>
         script_line(matches)
     } else if name == "serve" {
         serve_line(matches)
+    } else if name == "check" {
+        check_line(matches)
     } else {
         Err(Fault::NoMemory)
     }
