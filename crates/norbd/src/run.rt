@@ -50,7 +50,7 @@ const MOST_CONNS: u32 = 64;
 ///
 /// `serve`: serves the chip in the file at the path to clients on a port, with lines about it to
 /// `writer`; its faults are those of `run_serve`. Nothing is read. Source: own.
-#[tactic(auto, using(crate::proofs::Sizes::size_of_chip))]
+#[tactic(auto, using(crate::proofs::Sizes::size_of_chip, crate::proofs::Sizes::conns_or_most))]
 pub fn run_line<R, S, K>(
     rt: &R,
     line: Line<'_>,
