@@ -64,7 +64,9 @@ fn a_formatted_file_is_replaced_by_force_alone(rt: HostRuntime) -> Result<(), Fa
         (14, 0xFF, Ok(())),
     ] {
         let mut head = HEAD;
-        head[place] = byte;
+        if let Some(at) = head.get_mut(place) {
+            *at = byte;
+        }
         fs::write(&rt, "held.img", head.as_slice())?;
         let done = write_image(&rt, "held.img", &[1], false);
         assert_eq!(rt; done, answer, "{place}");

@@ -40,7 +40,7 @@ impl<'s, 'o, D: Disk, R: Recorder, L: OneServer, W: Wait, F: OpenFile> Owing<
 > {
     /// This door, with what its connection owes.
     pub fn new(door: Locked<'s, D, R, L, W>, owed: &'o Owed<'s, F>) -> Owing<'s, 'o, D, R, L, W, F>
-        ensures { result ≡ door }
+        ensures { result ≡ door.entry }
     {
         Owing { door, owed }
     }

@@ -1,2 +1,3 @@
 mod Accepted
 mod Mending
+pub mod Faults

@@ -80,6 +80,7 @@ where
 }
 
 /// Writes the bytes beside a path, and gives them its name.
+#[tactic(auto, using(crate::proofs::Faults::holding_is_file))]
 fn replace<R: Files + AllocGlobal>(
     rt: &R,
     path: &str,
@@ -115,6 +116,7 @@ struct Place<F> {
 
 /// The place of a path: the path itself where nothing is there, and else that of the regular file
 /// that it leads to.
+#[tactic(auto, using(crate::proofs::Faults::holding_is_file))]
 fn place_of<R>(rt: &R, path: &str, force: bool) -> Result<Place<R::File>, ImageError>
 where
     R: Files + AllocGlobal,
@@ -146,6 +148,7 @@ where
 }
 
 /// The place of a file that is there, with its lock.
+#[tactic(auto, using(crate::proofs::Faults::holding_is_file))]
 fn place_of_file<R>(
     rt: &R,
     path: &str,
@@ -187,6 +190,7 @@ fn leave_to_replace(force: bool, head: &[u8; SUPER_LEN]) -> Result<(), ImageErro
 }
 
 /// Whether a file that begins with these bytes holds a formatted chip, of any size and layout.
+#[tactic(auto, using(crate::proofs::Faults::first_check))]
 fn is_formatted(head: &[u8; SUPER_LEN]) -> bool
     ensures { result ≡ is_formatted head.now }
 {
@@ -194,8 +198,10 @@ fn is_formatted(head: &[u8; SUPER_LEN]) -> bool
         unreachable!()
     };
     match read_layout(head, any) {
+        Ok(_) => true,
         Err(SuperError::NotFormatted) => false,
-        _ => true,
+        Err(SuperError::Layout) => true,
+        Err(SuperError::Geometry) => true,
     }
 }
 
@@ -214,6 +220,7 @@ fn makes_target<R: Files>(rt: &R, path: &str) -> Result<bool, ImageError>
 }
 
 /// A new file in the folder of a place, and its path.
+#[tactic(auto, using(crate::proofs::Faults::holding_is_file))]
 fn new_beside<R: Files + AllocGlobal>(rt: &R, place: &str) -> Result<(R::File, String), ImageError>
     ensures file { IfErr result ComesOfFile }
     ensures holding { IfErr result ComesOfHolding }

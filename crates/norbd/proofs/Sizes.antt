@@ -1,5 +1,6 @@
 -- The number of a line `format` or `script` is a size of chips, in KiB.
-use Rattle.std.proofs.Common.{ℕ, ◌*◌, IfSome, arith}
+use Rattle.std.proofs.Common.{ℕ, ◌*◌, IfSome, Option, Some, None, arith}
+use Rattle.std.specs.Prelude.{unwrap_or}
 use Rattle.chip_model.specs.Geometry.{IsChipSize}
 use Rattle.norbd_line.specs.Line.{IfFormat, IfScript, IfServe, IsLineInRange, IsConns, IsPort, IsSize}
 use Rattle.norbd_line.specs.declared.line.Line.{Line}
@@ -32,3 +33,8 @@ numbers_of_serve (Format image kib forced) range = tt
 numbers_of_serve (Script kib) range = tt
 numbers_of_serve (Serve asked) range = range
 numbers_of_serve (Check image mends) range = tt
+
+-- a line without a number of connections has the most
+pub conns_or_most : (conns : Option ℕ) → IfSome conns IsConns → IsConns (unwrap_or conns 64)
+conns_or_most (Some conns) range = range
+conns_or_most None range = (omega arith, omega arith)

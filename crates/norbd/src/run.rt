@@ -55,7 +55,7 @@ const MOST_CONNS: u32 = 64;
 ///
 /// `check`: says on `writer` whether the image in the file at the path would be served, and mends
 /// it where that is asked; its faults are those of `run_check`. Nothing is read. Source: own.
-#[tactic(auto, using(crate::proofs::Sizes::size_of_chip))]
+#[tactic(auto, using(crate::proofs::Sizes::size_of_chip, crate::proofs::Sizes::conns_or_most))]
 pub fn run_line<R, S, K>(
     rt: &R,
     line: Line<'_>,

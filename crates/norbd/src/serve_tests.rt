@@ -1,5 +1,6 @@
 //! Runs of `serve` on image files, with clients in another thread that send bytes written out by
 //! hand from NBD proto.md.
+ghost use Rattle.std.specs.Prelude.{IfOk};
 ghost use Rattle.norbd_line.specs.Line.{IsConns, IsPort};
 
 use crate::formatting::run_format;
@@ -609,7 +610,9 @@ fn a_sync_that_fails_is_not_answered(rt: HostRuntime) -> Result<(), Fail> {
 }
 
 /// What is asked of a port that is free, for one client.
-fn one_client<H: Net<Listener = TcpListener, Stream = TcpStream>>(rt: &H) -> Result<Asked, Fail> {
+fn one_client<H: Net<Listener = TcpListener, Stream = TcpStream>>(rt: &H) -> Result<Asked, Fail>
+    ensures { IfOk result (λ asked. IsPort asked.port × IsConns asked.conns) }
+{
     let port = free_port(rt)?;
     if port == 0 {
         return Err(Fail::from("no port"));

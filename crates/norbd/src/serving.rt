@@ -8,7 +8,6 @@ ghost use Rattle.std.specs.Thread.{IsSend};
 ghost use Rattle.norbd.specs.Listening.{IsRefusal, TellsServing, WritesText, ended_text};
 ghost use Rattle.norbd.specs.Listening.{serving_text, told_of_file, told_of_mount, told_of_record};
 ghost use Rattle.norbd.specs.Listening.{policy_of, told_of_serving};
-ghost use Rattle.norbd_line.specs.declared.fault.Cause.{Cause};
 ghost use Rattle.norbd_line.specs.Line.{IsConns, IsPort};
 
 use crate::formatting::told_as;
@@ -80,7 +79,10 @@ where
         (K.faults writer.old) result
         (K.written writer.new) (K.faults writer.new) }
 {
-    let listener = bind(rt, asked.port as u16)?;
+    let listener = match bind(rt, asked.port as u16) {
+        Ok(listener) => listener,
+        Err(cause) => return Err(Fault::NoSocket(cause)),
+    };
     let OpenedImage { disk, held } = open_disk(rt, &listener, image)?;
     let durable = match held.handle() {
         Ok(file) => Durable::new(file, policy_of(asked.sync)),
@@ -101,14 +103,13 @@ fn policy_of(sync: SyncPolicy) -> Policy
 }
 
 /// Takes a port of 127.0.0.1.
-fn bind<R>(rt: &R, port: u16) -> Result<TcpListener, Fault>
+fn bind<R>(rt: &R, port: u16) -> Result<TcpListener, Cause>
 where
     R: Net<Listener = TcpListener, Stream = TcpStream>,
-    ensures { IfErr result (λ e. (cause : Cause) × (e ≡ Fault.NoSocket cause)) }
 {
     match TcpListener::bind(rt, SocketAddr::from((Ipv4Addr::LOCALHOST, port))) {
         Ok(listener) => Ok(listener),
-        Err(error) => Err(Fault::NoSocket(Cause::System(error.kind()))),
+        Err(error) => Err(Cause::System(error.kind())),
     }
 }
 
@@ -163,6 +164,7 @@ struct OpenedImage<F: FileExt + Drop> {
 
 /// The disk on the chip in a file, whose lock is taken before anything of it is read. That the port
 /// is there already is what `_bound` shows: a mount may write to the file.
+#[tactic(auto, using(crate::proofs::Refusals::held_is_refusal, crate::proofs::Refusals::file_is_refusal))]
 fn open_disk<R>(rt: &R, _bound: &TcpListener, image: &str) -> Result<OpenedImage<R::File>, Fault>
 where
     R: Files + AllocGlobal,
@@ -177,12 +179,13 @@ where
         Ok(held) => held,
         Err(error) => return Err(told_as(error)),
     };
-    match held.chip(rt.alloc()) {
-        Ok(bus) => Ok(OpenedImage {
-            disk: look_at(rt.alloc(), bus)?,
-            held,
-        }),
-        Err(error) => Err(told_of_file(held.length().unwrap_or(0), error)),
+    let bus = match held.chip(rt.alloc()) {
+        Ok(bus) => bus,
+        Err(error) => return Err(told_of_file(held.length().unwrap_or(0), error)),
+    };
+    match look_at(rt.alloc(), bus) {
+        Ok(disk) => Ok(OpenedImage { disk, held }),
+        Err(fault) => Err(fault),
     }
 }
 
@@ -306,14 +309,15 @@ where
         return Err(fault);
     }
     let resting = Sleeper::new(rt);
-    let served = serve(rt, alloc, &server, durable, listener, connections, resting);
-    let is_synced = durable.finish();
-    let served = match served {
+    let served = match serve(rt, alloc, &server, durable, listener, connections, resting) {
         Ok(served) => served,
-        Err(fault) => return Err(told_of_serving(fault)),
+        Err(fault) => {
+            let _ = durable.finish();
+            return Err(told_of_serving(fault));
+        }
     };
-    if !is_synced {
-        return Err(Fault::ImageFailed(Cause::Sync));
+    if let Err(fault) = finish(durable) {
+        return Err(fault);
     }
     let mut shared = server.into_inner().into_shared();
     let Some(rows) = shared.total(served.passes) else {
@@ -321,6 +325,16 @@ where
     };
     let last = ended_text(alloc, asked.conns, C::KEEPS, rows);
     tell(writer, last)
+}
+
+/// The last sync.
+fn finish<F: OpenFile>(durable: &Durable<F>) -> Result<(), Fault>
+    ensures { IfErr result (λ e. e ≡ Fault.ImageFailed Cause.Sync) }
+{
+    if durable.finish() {
+        return Ok(());
+    }
+    Err(Fault::ImageFailed(Cause::Sync))
 }
 
 /// Writes a text.

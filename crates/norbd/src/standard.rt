@@ -44,14 +44,9 @@ where
 /// The descriptors that are held, so that no file gets their number.
 #[derive(Drop)]
 pub struct Standard<F: Drop> {
-    held: [Option<F>; 3],
-}
-
-impl<F: Drop> Standard<F> {
-    /// How many of the three weren't open.
-    pub fn count(&self) -> usize {
-        self.held.iter().filter(|file| file.is_some()).count()
-    }
+    pub first: Option<F>,
+    pub second: Option<F>,
+    pub third: Option<F>,
 }
 
 /// A file, if its number is 0, 1 or 2.
@@ -65,10 +60,9 @@ fn open_low<O: Opens>(opens: &mut O) -> io::Result<Option<O::File>> {
 
 /// Sees to it that 0, 1 and 2 are open: those that aren't are opened. Err where that fails.
 pub fn hold_standard<O: Opens>(opens: &mut O) -> io::Result<Standard<O::File>> {
-    let first = open_low(opens)?;
-    let second = open_low(opens)?;
-    let third = open_low(opens)?;
     Ok(Standard {
-        held: [first, second, third],
+        first: open_low(opens)?,
+        second: open_low(opens)?,
+        third: open_low(opens)?,
     })
 }

@@ -1,7 +1,7 @@
 use Rattle.std.proofs.Common.{◌≡◌, IfOk, subst, sym, Err}
 use Rattle.std.specs.String.{string_bytes}
 use Rattle.norbd.specs.Listening.{TellsServing, ended_text}
-use Rattle.norbd.proofs.Telling.{begun, ended, first-failed, serving-failed, silent}
+use Rattle.norbd.proofs.Telling.{begun, ended, first-failed, serving-failed}
 use Rattle.norbd_line.specs.declared.fault.Fault.{Fault}
 use Rattle.norbd.proofs.serving.serve_shared.Goals as goal
 
@@ -20,6 +20,16 @@ returns-in-Err-serve g c =
     let P : Fault → Type 0 = λ x. TellsServing {T = Unit {0}} c.args.asked.port c.args.asked.conns g.C.Recorder.KEEPS old f (Err x) new z in
     subst P (sym c.told_of_serving-in-Err-serve.ensures)
     (serving-failed (Unit {0}) c.args.asked.port c.args.asked.conns g.C.Recorder.KEEPS old new f z c.in-Err-serve.fault (begun c.serving_text-first.result c.args.asked.port c.args.sectors old new f z c.serving_text-first.ensures c.in_default-tell.ensures))
+
+pub returns-in-Err-finish : goal.returns-in-Err-finish
+returns-in-Err-finish g c =
+    let old = g.K.Sink.written c.args.writer.now in
+    let f = g.K.Sink.faults c.args.writer.now in
+    let new = g.K.Sink.written c.tell.new.writer in
+    let z = g.K.Sink.faults c.tell.new.writer in
+    let P : Fault → Type 0 = λ x. TellsServing {T = Unit {0}} c.args.asked.port c.args.asked.conns g.C.Recorder.KEEPS old f (Err x) new z in
+    subst P (sym c.in-Err-finish.ensures)
+    (begun c.serving_text-first.result c.args.asked.port c.args.sectors old new f z c.serving_text-first.ensures c.in_default-tell.ensures)
 
 pub returns-in_default-total : goal.returns-in_default-total
 returns-in_default-total g c =
