@@ -4,6 +4,7 @@ ghost use Rattle.std.specs.Prelude.{◌≡◌, ◌+◌, ◌*◌, ◌%◌, ◌≤
 ghost use Rattle.std.specs.Result.{IsErrOf};
 ghost use Rattle.chip_model.specs.Geometry.{IsChipSize};
 ghost use Rattle.nor_driver.specs.State.{IsNorReady, OnlyMemoryChanges, Refuses};
+ghost use Rattle.erase_journal.specs.Blocks.{SameChip};
 ghost use Rattle.sector_slots.specs.Slots.{IsClean};
 ghost use Rattle.block_device.specs.Contents.{bytes_at, replaced, Outcome};
 ghost use Rattle.flash_disk.specs.Contents.{contents_of};
@@ -36,6 +37,8 @@ pub fn write_sectors<N: Nor>(
     ensures cut_clean { IsErrOf result NorError.Cut → IsClean map.old.memory
         → IsClean map.new.memory }
     ensures size { length map.new.memory ≡ length map.old.memory }
+    ensures chip { OnOk result (SameChip map.old.memory map.new.memory) }
+    ensures cut_chip { IsErrOf result NorError.Cut → SameChip map.old.memory map.new.memory }
     ensures kept { OnOk result (OnlyMemoryChanges map.old map.new) }
     ensures fails { IfErr result (λ e. Refuses e map.old map.new) }
 {
@@ -65,6 +68,8 @@ pub fn zero_sectors<N: Nor>(map: &mut SectorMap<N>, first: u32, count: u32) -> R
     ensures cut_clean { IsErrOf result NorError.Cut → IsClean map.old.memory
         → IsClean map.new.memory }
     ensures size { length map.new.memory ≡ length map.old.memory }
+    ensures chip { OnOk result (SameChip map.old.memory map.new.memory) }
+    ensures cut_chip { IsErrOf result NorError.Cut → SameChip map.old.memory map.new.memory }
     ensures kept { OnOk result (OnlyMemoryChanges map.old map.new) }
     ensures fails { IfErr result (λ e. Refuses e map.old map.new) }
 {

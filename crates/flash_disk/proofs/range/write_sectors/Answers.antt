@@ -6,6 +6,8 @@ use Rattle.nor_driver.proofs.CallLaws.{kept-after}
 use Rattle.flash_disk.specs.Contents.{contents_of}
 use Rattle.block_device.specs.Contents.{replaced}
 use Rattle.flash_disk.proofs.Parts.{outcome-at, piece-written, long-slice}
+use Rattle.erase_journal.proofs.Renewal.{same-chip-on}
+use Rattle.flash_disk.proofs.Naming.{left-chip}
 use Rattle.flash_disk.proofs.Sectors.{length-contents, place-sector, sector-written, sector-left, left-clean}
 use Rattle.flash_disk.proofs.range.write_sectors.Goals as goal
 
@@ -45,6 +47,13 @@ returns-in_err-replace-clause-cut_clean g c is clean =
     let n = c.loop-done.done in
     left-clean c.loop-done.map.memory c.replace.new.self.memory (c.args.first + n / 512) (slice_range c.args.from.now n (n + 512)) (c.in_err-replace.ensures.cut (cc (p.1, p.2))) (c.loop-done.invariant.clean clean)
 
+pub returns-in_err-replace-clause-cut_chip : goal.returns-in_err-replace-clause-cut_chip
+returns-in_err-replace-clause-cut_chip g c is =
+    let p = err_from_is_err_and c.from_residual.result c.from_residual.ensures.1 in
+    let n = c.loop-done.done in
+    same-chip-on c.args.map.now.memory c.loop-done.map.memory c.replace.new.self.memory c.loop-done.invariant.chip
+    (left-chip c.loop-done.map.memory c.replace.new.self.memory (c.args.first + n / 512) (slice_range c.args.from.now n (n + 512)) (c.in_err-replace.ensures.cut (cc (p.1, p.2))))
+
 pub loop-done-preserved : goal.loop-done-preserved
 loop-done-preserved g c =
     let m = c.loop-done.map.memory in
@@ -64,6 +73,7 @@ loop-done-preserved g c =
           ∙ piece-written d r a n 512 x c.requires.range (long-slice x n 512 fits) fits (c.loop-done.invariant.written clean);
       clean = λ clean. c.in_ok-replace.ensures.ok.clean (c.loop-done.invariant.clean clean);
       size = c.replace.ensures.size ∙ c.loop-done.invariant.size;
+      chip = same-chip-on c.args.map.now.memory m m' c.loop-done.invariant.chip c.in_ok-replace.ensures.ok.chip;
       within = fits;
       whole = omega (arith, c.loop-done.invariant.whole);
       kept = kept-after c.args.map.now c.loop-done.map c.replace.new.self c.loop-done.invariant.kept c.in_ok-replace.ensures.done.kept;

@@ -9,6 +9,8 @@ use Rattle.sector_slots.proofs.SizeLaws.{length-zeros}
 use Rattle.flash_disk.specs.Contents.{contents_of}
 use Rattle.block_device.specs.Contents.{replaced}
 use Rattle.flash_disk.proofs.Parts.{outcome-at, piece-written, long-slice}
+use Rattle.erase_journal.proofs.Renewal.{same-chip-on}
+use Rattle.flash_disk.proofs.Naming.{left-chip}
 use Rattle.flash_disk.proofs.Sectors.{length-contents, counted-sector, sector-written, sector-left, left-clean, zeros-slice}
 use Rattle.flash_disk.proofs.range.zero_sectors.Goals as goal
 
@@ -55,6 +57,12 @@ returns-in_err-clear-clause-cut_clean g c is clean =
     let p = err_from_is_err_and c.from_residual.result c.from_residual.ensures.1 in
     left-clean c.loop-done.map.memory c.clear.new.self.memory (c.args.first + c.loop-done.done) zeros (c.in_err-clear.ensures.cut (cc (p.1, p.2))) (c.loop-done.invariant.clean clean)
 
+pub returns-in_err-clear-clause-cut_chip : goal.returns-in_err-clear-clause-cut_chip
+returns-in_err-clear-clause-cut_chip g c is =
+    let p = err_from_is_err_and c.from_residual.result c.from_residual.ensures.1 in
+    same-chip-on c.args.map.now.memory c.loop-done.map.memory c.clear.new.self.memory c.loop-done.invariant.chip
+    (left-chip c.loop-done.map.memory c.clear.new.self.memory (c.args.first + c.loop-done.done) zeros (c.in_err-clear.ensures.cut (cc (p.1, p.2))))
+
 pub loop-done-preserved : goal.loop-done-preserved
 loop-done-preserved g c =
     let m = c.loop-done.map.memory in
@@ -80,6 +88,7 @@ loop-done-preserved g c =
           ∙ piece-written d r a n 512 x inside (long-slice x n 512 fits) fits (c.loop-done.invariant.written clean));
       clean = λ clean. c.in_ok-clear.ensures.ok.clean (c.loop-done.invariant.clean clean);
       size = c.clear.ensures.size ∙ c.loop-done.invariant.size;
+      chip = same-chip-on c.args.map.now.memory m m' c.loop-done.invariant.chip c.in_ok-clear.ensures.ok.chip;
       within = omega (arith, c.loop-done-test.true);
       kept = kept-after c.args.map.now c.loop-done.map c.clear.new.self c.loop-done.invariant.kept c.in_ok-clear.ensures.done.kept;
     }
