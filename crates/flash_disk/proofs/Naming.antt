@@ -1,5 +1,5 @@
 -- A superblock that is kept, and what is known of a disk while no operation was slow.
-use Rattle.std.proofs.Common.{◌≡◌, ℕ, ◌+◌, ◌*◌, ◌<◌, ◌≤◌, Bool, true, false, List, length, refl, sym, ap, ◌∙◌, subst, arith, inl, inr}
+use Rattle.std.proofs.Common.{◌≡◌, ℕ, ◌+◌, ◌*◌, ◌<◌, ◌≤◌, Bool, false, List, length, refl, sym, ap, ◌∙◌, subst, arith, inl, inr}
 use Rattle.std.specs.Prelude.{not, ◌||◌, if◌then◌else◌, ◌==◌, ◌&&◌, Result, Ok, Err}
 use Rattle.chip_model.specs.Memory.{byte}
 use Rattle.chip_model.specs.declared.geometry.Geometry.{Geometry}

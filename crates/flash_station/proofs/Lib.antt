@@ -1,2 +1,4 @@
 mod Chain
+mod Staying
+mod Living
 mod Simulating

@@ -18,8 +18,8 @@ use Rattle.station.specs.declared.event.Event.{Event}
 use Rattle.station.specs.declared.event.ScriptError.TheVariants.{Input, BadRecord, Output}
 use Rattle.station.specs.Script.{events_of}
 use Rattle.flash_station.specs.declared.error.RunFault.{RunFault}
-use Rattle.flash_station.specs.declared.error.RunFault.TheVariants.{Format, Mount, OutOfMemory, Script}
-use Rattle.flash_station.specs.Answered.{Seen, AnswersEvents, BreaksEvents, AnswersScript, FormatsAsTold, IsOfFormatted}
+use Rattle.flash_station.specs.declared.error.RunFault.TheVariants.{Format, Mount, NotClean, OutOfMemory, Script}
+use Rattle.flash_station.specs.Answered.{Seen, AnswersEvents, BreaksEvents, AnswersScript, FormatsAsTold, IsOfFormatted, new_world}
 use Rattle.flash_station.specs.Simulated.{AnswersFrom, BreaksFrom, IsPrompt, IsOfPrompt, SimulatesScript}
 
 -- a format accepts it
@@ -52,10 +52,10 @@ module _ (n : ℕ) (was_there is_there : List ℕ) (cuts : ℕ) (after : ℕ) (r
   abbrev new : Seen
   new = record { sectors = after; contents = is_there; cuts = cuts; slows = 0 }
 
-  from-answers : (events : List Event) → AnswersEvents old new events was is → AnswersFrom n events was is
+  from-answers : (events : List Event) → AnswersEvents (new_world n) old new events was is → AnswersFrom n events was is
   from-answers events a = (let x = a refl in (x.0, x.1, cuts, x.2, x.3))
 
-  from-breaks : (events : List Event) → BreaksEvents old new events was is → BreaksFrom n events was is
+  from-breaks : (events : List Event) → BreaksEvents (new_world n) old new events was is → BreaksFrom n events was is
   from-breaks events a = (let x = a refl in (x.0, x.1, cuts, x.2, x.3))
 
   simulated : (result : Result (Unit {0}) RunFault) (t : Readings) (p : Params) → format_answer t ≡ Ok p → FormatsAsTold result t → AnswersScript old new r was result r' is → SimulatesScript n r was result r' is
@@ -65,6 +65,7 @@ module _ (n : ℕ) (was_there is_there : List ℕ) (cuts : ℕ) (after : ℕ) (r
   simulated (Err (Script Output)) t p good tells x = (x.0, x.1, x.2, from-breaks (events_of x.0) x.3)
   simulated (Err (Format e)) t p good tells x = (x.0, prompt-format e t p 0 cuts good tells x.1)
   simulated (Err (Mount e)) t p good tells x = (x.0, prompt-mount e 0 cuts x.2 x.1)
+  simulated (Err NotClean) t p good tells x = x
   simulated (Err OutOfMemory) t p good tells x = x.0
 
 -- from a chip of so many sectors on whose bus nothing was counted

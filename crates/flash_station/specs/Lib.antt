@@ -1,2 +1,4 @@
 pub mod Answered
 pub mod Simulated
+pub mod Lives
+pub mod Running

@@ -13,8 +13,8 @@ use Rattle.station.specs.Transcript.{Transcript}
 use Rattle.station.specs.Broken.{Stops}
 use Rattle.station.specs.Script.{Item, AreAllowed, IsBad, script_of, events_of}
 use Rattle.flash_station.specs.declared.error.RunFault.{RunFault}
-use Rattle.flash_station.specs.declared.error.RunFault.TheVariants.{Format, Mount, OutOfMemory}
-use Rattle.flash_station.specs.declared.error.RunFault.TheVariants.{Script}
+use Rattle.flash_station.specs.declared.error.RunFault.TheVariants.{Format, Mount, NotClean}
+use Rattle.flash_station.specs.declared.error.RunFault.TheVariants.{OutOfMemory, Script}
 use Rattle.flash_station.specs.Answered.{IsUntouched, new_world}
 
 -- THE HEADLINE, of a chip in memory: what was written is a transcript of the events from a disk of
@@ -62,4 +62,5 @@ SimulatesScript sectors r was (Err (Script scripts.Output)) r' is =
     × BreaksFrom sectors (events_of items) was is
 SimulatesScript sectors r was (Err (Format e)) r' is = IsUntouched r was r' is × IsPrompt e
 SimulatesScript sectors r was (Err (Mount e)) r' is = IsUntouched r was r' is × IsOfPrompt e
+SimulatesScript sectors r was (Err NotClean) r' is = ⊥
 SimulatesScript sectors r was (Err OutOfMemory) r' is = IsUntouched r was r' is

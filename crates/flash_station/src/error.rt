@@ -9,8 +9,10 @@ use station::ScriptError;
 pub enum RunFault {
     /// The chip was not formatted.
     Format(ProbeError),
-    /// The formatted chip was not mounted.
+    /// The chip was not mounted; a Cut and a Slow also where they came as its blocks were read.
     Mount(MountError),
+    /// What reads as free on the mounted chip isn't erased.
+    NotClean,
     /// There was no memory for the station.
     OutOfMemory,
     /// The script ended with a bad record, or its input or its output failed.

@@ -1,12 +1,14 @@
-//! A station on a chip that was just formatted: the whole chain from the frames of a chip up to the
-//! transcript of a script.
+//! A station on a chip: the whole chain from the frames of a chip up to the transcript of a script.
 //!
 //! Promised: `run_formatted`, over any `SpiBus`, formats the chip, mounts it, makes a station of
 //! its disk and runs a script on it. Where the bus counted no slow operation, what it wrote is a
 //! transcript of the script's events from a disk of zeros (`specs/Answered.antt`): the bytes of a
 //! plain array of sectors, in which after a loss of power every acknowledged write stands and each
 //! sector of the interrupted command is wholly old or new; the chip then holds that array. Each
-//! refusal comes with the bus, and before the script nothing is read or written.
+//! refusal comes with the bus, and before the script nothing is read or written. `run_mounted` does
+//! the same on a chip as it is, from the array that its memory represents; any number of its calls
+//! on a healthy chip are one life, each beginning where the one before it ended
+//! (`specs/Lives.antt`, `mounts_make_a_life`).
 //!
 //! Left to the crate above: the bus, and where the script comes from and the transcript goes.
 //!
@@ -14,9 +16,11 @@
 #![tactic(auto)]
 
 mod error;
+mod laws;
 mod running;
 mod simulated;
 
 pub use error::RunFault;
-pub use running::run_formatted;
+pub use laws::mounts_make_a_life;
+pub use running::{run_formatted, run_mounted};
 pub use simulated::run_simulated;

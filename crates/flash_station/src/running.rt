@@ -1,6 +1,6 @@
-//! Format, mount and a script in one call, over any bus.
+//! Format, mount and a script in one call, and mount and a script in one, over any bus.
 
-ghost use Rattle.std.specs.Prelude.{◌≡◌, ◌*◌, ℕ, true, length, replicate};
+ghost use Rattle.std.specs.Prelude.{◌≡◌, ◌*◌, ◌≤◌, ℕ, true, false, length};
 ghost use Rattle.block_device.specs.Facts.{IsDiskReady};
 ghost use Rattle.chip_model.specs.Geometry.{sector_count};
 ghost use Rattle.flash_disk.specs.Contents.{contents_of};
@@ -8,12 +8,15 @@ ghost use Rattle.flash_disk.specs.Formatted.{Formatted};
 ghost use Rattle.nor_driver.specs.Probe.{told};
 ghost use Rattle.flash_station.specs.Answered.{AnswersScript, FormatsAsTold, IsPastFormat};
 ghost use Rattle.flash_station.specs.Answered.{script_part};
+ghost use Rattle.flash_station.specs.Lives.{RunsMounted};
+ghost use Rattle.flash_station.specs.Running.{IsPastMount, RunsOn};
 ghost use Rattle.station.specs.Script.{FailsToReadAll, FailsToWrite};
 
 use crate::error::RunFault;
-use block_device::{Disk, Sink, Source};
+use block_device::{Disk, DiskError, Sink, Source};
 use chip_model::SpiBus;
-use flash_disk::{FlashDisk, Provenance, format};
+use flash_disk::{FlashDisk, MountError, Provenance, format};
+use nor_driver::ProbeError;
 use station::Station;
 use std::alloc::Global;
 use std::marker::Brand;
@@ -59,19 +62,108 @@ pub fn run_formatted<B: SpiBus, S: Source, W: Sink>(
 {
     let (bus, answer) = format(bus);
     match answer {
-        Ok(()) => run_mounted::<B, Brand, S, W>(alloc, bus, reader, writer),
+        Ok(()) => run_new::<B, Brand, S, W>(alloc, bus, reader, writer),
         Err(error) => (bus, Err(RunFault::Format(error))),
     }
 }
 
+/// Mounts the chip behind a bus, reads each of its data blocks, and runs a script on it, whose
+/// records come from `reader`, with the transcript to `writer`. The bus is handed back, with what
+/// became of the script.
+///
+/// The script begins from the sectors that the chip's memory represents, and what it leaves is what
+/// the next call finds. `Mount` where the mount is refused, or where in the reading of the blocks
+/// the power went or an operation was slow, `NotClean` where what reads as free isn't erased, and
+/// `OutOfMemory` where there is no memory for the station: then nothing is read or written, and a
+/// healthy chip keeps its sectors. Power may be lost inside any frame. The records are those of
+/// `Station::run_script`.
+pub fn run_mounted<B: SpiBus, S: Source, W: Sink>(
+    alloc: Global,
+    bus: B,
+    reader: &mut S,
+    writer: &mut W,
+) -> (B, Result<(), RunFault>)
+    ensures says { RunsMounted
+        (record { chip = B.chip bus; cuts = B.cuts bus; slows = B.slows bus })
+        (record {
+          input = S.remaining reader.old;
+          was = W.written writer.old;
+          answer = result.1;
+          left = S.remaining reader.new;
+          is = W.written writer.new;
+        })
+        (record {
+          chip = B.chip result.0;
+          cuts = B.cuts result.0;
+          slows = B.slows result.0;
+        }) }
+    // its refusals of the input and of the output come exactly where a read or a write failed, or
+    // the input didn't end
+    ensures reads { FailsToReadAll (S.remaining reader.old) (S.faults reader.old)
+        (script_part result.1) (S.faults reader.new) }
+    ensures writes { FailsToWrite (W.faults writer.old) (script_part result.1)
+        (W.faults writer.new) }
+{
+    run_checked::<B, Brand, S, W>(alloc, bus, reader, writer)
+}
+
+/// The same, where `P` has the count of slow operations.
+fn run_checked<B: SpiBus, P: Provenance, S: Source, W: Sink>(
+    alloc: Global,
+    bus: B,
+    reader: &mut S,
+    writer: &mut W,
+) -> (B, Result<(), RunFault>)
+    requires sound { P.sound ≡ false }
+    requires counted { P.slows ≡ B.slows bus }
+    ensures says { RunsMounted
+        (record { chip = B.chip bus; cuts = B.cuts bus; slows = B.slows bus })
+        (record {
+          input = S.remaining reader.old;
+          was = W.written writer.old;
+          answer = result.1;
+          left = S.remaining reader.new;
+          is = W.written writer.new;
+        })
+        (record {
+          chip = B.chip result.0;
+          cuts = B.cuts result.0;
+          slows = B.slows result.0;
+        }) }
+    ensures reads { FailsToReadAll (S.remaining reader.old) (S.faults reader.old)
+        (script_part result.1) (S.faults reader.new) }
+    ensures writes { FailsToWrite (W.faults writer.old) (script_part result.1)
+        (W.faults writer.new) }
+{
+    match FlashDisk::<B, P>::mount(alloc, bus) {
+        Ok(disk) => {
+            let mut disk = disk;
+            match disk.check() {
+                Ok(true) => run_on(alloc, disk, reader, writer),
+                Ok(false) => (disk.into_inner(), Err(RunFault::NotClean)),
+                Err(DiskError::Cut) => (
+                    disk.into_inner(),
+                    Err(RunFault::Mount(MountError::Probe(ProbeError::Cut))),
+                ),
+                Err(DiskError::Slow) => (
+                    disk.into_inner(),
+                    Err(RunFault::Mount(MountError::Probe(ProbeError::Slow))),
+                ),
+            }
+        }
+        Err((back, error)) => (back, Err(RunFault::Mount(error))),
+    }
+}
+
 /// Mounts a chip that was just formatted, and runs a script on it.
-fn run_mounted<B: SpiBus, P: Provenance, S: Source, W: Sink>(
+fn run_new<B: SpiBus, P: Provenance, S: Source, W: Sink>(
     alloc: Global,
     bus: B,
     reader: &mut S,
     writer: &mut W,
 ) -> (B, Result<(), RunFault>)
     requires sound { P.sound ≡ true }
+    requires counted { P.slows ≤ B.slows bus }
     requires formatted { Formatted (B.chip bus) }
     ensures says { AnswersScript
         (record {
@@ -111,28 +203,24 @@ fn run_on<B: SpiBus, P: Provenance, S: Source, W: Sink>(
 ) -> (B, Result<(), RunFault>)
     requires sound { (⟦<FlashDisk<B, P> as Disk>⟧.facts disk).sound ≡ true }
     requires ready { IsDiskReady (⟦<FlashDisk<B, P> as Disk>⟧.facts disk) }
-    ensures says { (sectors : ℕ) → (⟦<FlashDisk<B, P> as Disk>⟧.facts disk).contents
-        ≡ replicate (512 * sectors) 0 → AnswersScript
+    ensures says { RunsOn (⟦<FlashDisk<B, P> as Disk>⟧.facts disk) P.slows
         (record {
-          sectors = sectors;
-          contents = (⟦<FlashDisk<B, P> as Disk>⟧.facts disk).contents;
-          cuts = (⟦<FlashDisk<B, P> as Disk>⟧.facts disk).cuts;
-          slows = (⟦<FlashDisk<B, P> as Disk>⟧.facts disk).slows;
+          input = S.remaining reader.old;
+          was = W.written writer.old;
+          answer = result.1;
+          left = S.remaining reader.new;
+          is = W.written writer.new;
         })
         (record {
-          sectors = sector_count (length (B.chip result.0).memory);
-          contents = contents_of
-              (B.chip result.0).memory;
+          chip = B.chip result.0;
           cuts = B.cuts result.0;
           slows = B.slows result.0;
-        })
-        (S.remaining reader.old) (W.written writer.old) result.1 (S.remaining reader.new)
-        (W.written writer.new) }
+        }) }
     ensures reads { FailsToReadAll (S.remaining reader.old) (S.faults reader.old)
         (script_part result.1) (S.faults reader.new) }
     ensures writes { FailsToWrite (W.faults writer.old) (script_part result.1)
         (W.faults writer.new) }
-    ensures past { IsPastFormat result.1 }
+    ensures past { IsPastMount result.1 }
 {
     match Station::new(alloc, disk) {
         Ok(station) => {

@@ -16,7 +16,7 @@ use Rattle.norbd_line.specs.declared.fault.Fault.{Fault}
 use Rattle.norbd_line.specs.declared.fault.Fault.TheVariants.{NoMemory, InputFailed, OutputFailed}
 use Rattle.norbd_line.specs.declared.fault.Fault.TheVariants.{ImageFailed, WrongId, BadSfdp}
 use Rattle.norbd_line.specs.declared.fault.Fault.TheVariants.{Protected, Slow, BadRecord}
-use Rattle.norbd_line.specs.declared.fault.Fault.TheVariants.{NotFormatted, Corrupt}
+use Rattle.norbd_line.specs.declared.fault.Fault.TheVariants.{NotClean, NotFormatted, Corrupt}
 
 -- what a refusal of a probe is for the program; a chip loses its power where its image fails
 abbrev pub told_of_probe : ProbeError → Fault
@@ -33,6 +33,7 @@ told_of (runs.Mount (mounts.Probe e)) = told_of_probe e
 told_of (runs.Mount mounts.OutOfMemory) = NoMemory
 told_of (runs.Mount mounts.NotFormatted) = NotFormatted
 told_of (runs.Mount mounts.Corrupt) = Corrupt
+told_of runs.NotClean = NotClean
 told_of runs.OutOfMemory = NoMemory
 told_of (runs.Script scripts.Input) = InputFailed
 told_of (runs.Script scripts.BadRecord) = BadRecord

@@ -56,6 +56,7 @@ fn told_of(fault: RunFault) -> Fault
         RunFault::Mount(MountError::OutOfMemory) => Fault::NoMemory,
         RunFault::Mount(MountError::NotFormatted) => Fault::NotFormatted,
         RunFault::Mount(MountError::Corrupt) => Fault::Corrupt,
+        RunFault::NotClean => Fault::NotClean,
         RunFault::OutOfMemory => Fault::NoMemory,
         RunFault::Script(ScriptError::Input) => Fault::InputFailed,
         RunFault::Script(ScriptError::BadRecord) => Fault::BadRecord,

@@ -1,33 +1,58 @@
-use Rattle.std.proofs.Common.{ap, ◌∙◌, length}
+use Rattle.std.proofs.Common.{ap, ◌∙◌}
 use Rattle.block_device.specs.Facts.{Facts}
-use Rattle.chip_model.specs.Geometry.{sector_count}
-use Rattle.flash_disk.specs.Contents.{contents_of}
-use Rattle.flash_station.specs.Answered.{Seen}
-use Rattle.flash_station.proofs.Chain.{script_ok, script_err}
+use Rattle.flash_station.specs.Lives.{OnBus}
+use Rattle.flash_station.proofs.Chain.{disk_facts, ran_ok, ran_err, ran_nothing}
 use Rattle.flash_station.proofs.running.run_on.Goals as goal
 
 pub returns-in-Ok-run_script-clause-says : goal.returns-in-Ok-run_script-clause-says
-returns-in-Ok-run_script-clause-says g c = λ n zeros.
+returns-in-Ok-run_script-clause-says g c =
     let same = c.into_inner.ensures in
     let e = c.into_inner-in-Ok-run_script.ensures in
-    let chip = g.B.SpiBus.chip c.into_inner-in-Ok-run_script.result in
-    let seen : Seen = record { sectors = sector_count (length chip.memory); contents = contents_of chip.memory; cuts = g.B.SpiBus.cuts c.into_inner-in-Ok-run_script.result; slows = g.B.SpiBus.slows c.into_inner-in-Ok-run_script.result } in
-    script_ok n _ c.in-Ok.station c.run_script.new.self seen c.requires.sound c.requires.ready zeros c.in-Ok.ensures.new
+    let bus = c.into_inner-in-Ok-run_script.result in
+    let new : OnBus = record { chip = g.B.SpiBus.chip bus; cuts = g.B.SpiBus.cuts bus; slows = g.B.SpiBus.slows bus } in
+    ran_ok _ g.P.Provenance.slows c.in-Ok.station c.run_script.new.self new c.requires.sound c.requires.ready c.in-Ok.ensures.new c.run_script.ensures.goes
     (record {
       contents = e.contents ∙ ap (λ (x : Facts). x.contents) same;
       cuts = e.cuts ∙ ap (λ (x : Facts). x.cuts) same;
-      slows = e.slows ∙ ap (λ (x : Facts). x.slows) same;
+      slow_count = e.slows ∙ ap (λ (x : Facts). x.slows) same;
+      accepted = e.accepted;
+      idle = λ q. e.idle (ap (λ (x : Facts). x.slow) same ∙ q);
+      clean = λ q s. e.clean (ap (λ (x : Facts). x.slow) same ∙ q) (ap (λ (x : Facts). x.sound) same ∙ s);
+      mountable = λ q. e.mountable (ap (λ (x : Facts). x.slows) same ∙ q);
     }) _ _ _ _ c.in-Ok-run_script.ensures.says
 
 pub returns-in-Err-run_script-clause-says : goal.returns-in-Err-run_script-clause-says
-returns-in-Err-run_script-clause-says g c = λ n zeros.
+returns-in-Err-run_script-clause-says g c =
     let same = c.into_inner-in-Err-run_script.ensures in
     let e = c.into_inner-in-Err-run_script-2.ensures in
-    let chip = g.B.SpiBus.chip c.into_inner-in-Err-run_script-2.result in
-    let seen : Seen = record { sectors = sector_count (length chip.memory); contents = contents_of chip.memory; cuts = g.B.SpiBus.cuts c.into_inner-in-Err-run_script-2.result; slows = g.B.SpiBus.slows c.into_inner-in-Err-run_script-2.result } in
-    script_err n _ c.in-Ok.station c.run_script.new.self seen c.requires.sound c.requires.ready zeros c.in-Ok.ensures.new
+    let bus = c.into_inner-in-Err-run_script-2.result in
+    let new : OnBus = record { chip = g.B.SpiBus.chip bus; cuts = g.B.SpiBus.cuts bus; slows = g.B.SpiBus.slows bus } in
+    ran_err _ g.P.Provenance.slows c.in-Ok.station c.run_script.new.self new c.requires.sound c.requires.ready c.in-Ok.ensures.new c.run_script.ensures.goes
     (record {
       contents = e.contents ∙ ap (λ (x : Facts). x.contents) same;
       cuts = e.cuts ∙ ap (λ (x : Facts). x.cuts) same;
-      slows = e.slows ∙ ap (λ (x : Facts). x.slows) same;
+      slow_count = e.slows ∙ ap (λ (x : Facts). x.slows) same;
+      accepted = e.accepted;
+      idle = λ q. e.idle (ap (λ (x : Facts). x.slow) same ∙ q);
+      clean = λ q s. e.clean (ap (λ (x : Facts). x.slow) same ∙ q) (ap (λ (x : Facts). x.sound) same ∙ s);
+      mountable = λ q. e.mountable (ap (λ (x : Facts). x.slows) same ∙ q);
     }) _ _ _ _ c.in-Err-run_script.error c.in-Err-run_script.ensures.says
+
+pub returns-in-Err-clause-says : goal.returns-in-Err-clause-says
+returns-in-Err-clause-says g c =
+    let d = c.args.disk in
+    let f = disk_facts g.P.Provenance.sound d.checked d.doubtful d.map d.cut in
+    let same = ap (λ x. disk_facts g.P.Provenance.sound x.checked x.doubtful x.map x.cut) c.in-Err.ensures.back in
+    let e = c.into_inner-in-Err.ensures in
+    let bus = c.into_inner-in-Err.result in
+    let new : OnBus = record { chip = g.B.SpiBus.chip bus; cuts = g.B.SpiBus.cuts bus; slows = g.B.SpiBus.slows bus } in
+    ran_nothing f g.P.Provenance.slows new _ _ c.requires.sound c.requires.ready
+    (record {
+      contents = e.contents ∙ ap (λ (x : Facts). x.contents) same;
+      cuts = e.cuts ∙ ap (λ (x : Facts). x.cuts) same;
+      slow_count = e.slows ∙ ap (λ (x : Facts). x.slows) same;
+      accepted = e.accepted;
+      idle = λ q. e.idle (ap (λ (x : Facts). x.slow) same ∙ q);
+      clean = λ q s. e.clean (ap (λ (x : Facts). x.slow) same ∙ q) (ap (λ (x : Facts). x.sound) same ∙ s);
+      mountable = λ q. e.mountable (ap (λ (x : Facts). x.slows) same ∙ q);
+    })
