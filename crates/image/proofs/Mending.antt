@@ -1,5 +1,5 @@
 -- A chip in memory is accepted, and what its mount refuses.
-use Rattle.std.proofs.Common.{◌≡◌, ℕ, ◌*◌, ◌<◌, List, length, arith, sym, ap, subst, refl, Ok, Err}
+use Rattle.std.proofs.Common.{◌≡◌, ℕ, ◌*◌, ◌<◌, List, length, true, arith, sym, ap, subst, refl, Ok, Err}
 use Rattle.sfdp.specs.declared.params.Params.{Params}
 use Rattle.chip_model.specs.Chip.{Chip}
 use Rattle.chip_model.specs.Geometry.{IsChipSize, sector_count}
@@ -22,19 +22,19 @@ accepted m size =
     (t.0, ap (unless_protected true) a)
 
 fails : (e : MountError) (m m' : List ℕ) (cuts cuts' : ℕ) → IsChipSize (length m) → RefusedFor e cuts 0 cuts' 0 → RefusedAt e m m' → RefusedAs e (fresh_chip m) → MendFails m e
-fails (Probe probes.Cut) m m' cuts cuts' size counts left as = tt
-fails (Probe probes.Slow) m m' cuts cuts' size counts left as = (let h = counts.1 in absurd (omega (arith, h)))
-fails (Probe probes.WrongId) m m' cuts cuts' size counts left as = (let a = (accepted m size).1 in absurd (cc (a, as)))
-fails (Probe (probes.Sfdp e)) m m' cuts cuts' size counts left as = (let a = (accepted m size).1 in absurd (cc (a, as)))
-fails (Probe probes.Protected) m m' cuts cuts' size counts left as = (let a = (accepted m size).1 in absurd (cc (a, as)))
-fails OutOfMemory m m' cuts cuts' size counts left as = tt
-fails NotFormatted m m' cuts cuts' size counts left as = left.0
-fails Corrupt m m' cuts cuts' size counts left as = left.corrupt
+fails (Probe probes.Cut) m m' cuts cuts' size counts left answers = tt
+fails (Probe probes.Slow) m m' cuts cuts' size counts left answers = (let h = counts.1 in absurd (omega (arith, h)))
+fails (Probe probes.WrongId) m m' cuts cuts' size counts left answers = (let a = (accepted m size).1 in absurd (cc (a, answers)))
+fails (Probe (probes.Sfdp e)) m m' cuts cuts' size counts left answers = (let a = (accepted m size).1 in absurd (cc (a, answers)))
+fails (Probe probes.Protected) m m' cuts cuts' size counts left answers = (let a = (accepted m size).1 in absurd (cc (a, answers)))
+fails OutOfMemory m m' cuts cuts' size counts left answers = tt
+fails NotFormatted m m' cuts cuts' size counts left answers = left.0
+fails Corrupt m m' cuts cuts' size counts left answers = left.corrupt
 
 -- what a mount of a chip with this memory refuses
 pub fails-on : (e : MountError) (c : Chip) (m m' : List ℕ) (cuts cuts' : ℕ) → c ≡ fresh_chip m → IsChipSize (length m) → RefusedFor e cuts 0 cuts' 0 → RefusedAt e c.memory m' → RefusedAs e c → MendFails m e
-fails-on e c m m' cuts cuts' same size counts left as =
-    fails e m m' cuts cuts' size counts (subst (λ (x : Chip). RefusedAt e x.memory m') same left) (subst (λ (x : Chip). RefusedAs e x) same as)
+fails-on e c m m' cuts cuts' same size counts left answers =
+    fails e m m' cuts cuts' size counts (subst (λ (x : Chip). RefusedAt e x.memory m') same left) (subst (λ (x : Chip). RefusedAs e x) same answers)
 
 -- a healthy memory is refused for want of memory or a loss of power alone
 pub comes-of-memory : (e : MountError) (m : List ℕ) → IsMountable m → MendFails m e → ComesOfMemory e
