@@ -129,7 +129,7 @@ fn mends(
         return Err(Fail::new("mended, and not clean"));
     }
     let left = serves(alloc, left, was, is)?;
-    if was != plain {
+    if &*was != plain {
         return Err(Fail::new("mended, with other sectors"));
     }
     Ok(left)
