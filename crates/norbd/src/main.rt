@@ -28,20 +28,20 @@ mod checking_tests;
 mod formatting;
 #[cfg(test)]
 mod memory_tests;
+mod printing;
+#[cfg(test)]
+mod printing_tests;
 mod run;
 mod scripting;
 #[cfg(test)]
 mod serve_tests;
 mod serving;
 mod standard;
-mod telling;
-#[cfg(test)]
-mod telling_tests;
 #[cfg(test)]
 mod tests;
 
+use crate::printing::Telling;
 use crate::standard::{Null, hold_standard};
-use crate::telling::Telling;
 use block_device::Io;
 use image::ImageFile;
 use norbd_line::{Fault, Line, read_line};

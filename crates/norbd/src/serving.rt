@@ -28,7 +28,6 @@ use std::alloc::{AllocError, Global};
 use std::fs::OpenFile;
 use std::marker::Brand;
 use std::net::{Ipv4Addr, Net, SocketAddr, TcpListener, TcpStream};
-use std::os::unix::fs::FileExt;
 use std::rt::Files;
 use std::sync::Wait;
 use std::sync::ledger::Blank;
@@ -83,7 +82,7 @@ where
         Ok(listener) => listener,
         Err(cause) => return Err(Fault::NoSocket(cause)),
     };
-    let OpenedImage { disk, held } = open_disk(rt, &listener, image)?;
+    let (disk, held) = open_disk(rt, &listener, image)?;
     let durable = match held.handle() {
         Ok(file) => Durable::new(file, policy_of(asked.sync)),
         Err(error) => return Err(Fault::ImageFailed(Cause::System(error.kind()))),
@@ -154,26 +153,23 @@ struct Unnamed {
     opened: Opened<Row>,
 }
 
-/// A disk that was opened, and the file of its image, which nobody else has as long as this is
-/// there.
-#[derive(Drop)]
-struct OpenedImage<F: FileExt + Drop> {
-    disk: FlashDisk<ImageBus<F>, Brand>,
-    held: Held<F>,
-}
-
-/// The disk on the chip in a file, whose lock is taken before anything of it is read. That the port
-/// is there already is what `_bound` shows: a mount may write to the file.
+/// The disk on the chip in a file, and the file, whose lock is taken before anything of it is read,
+/// and which nobody else has as long as this is there. That the port is taken already is what
+/// `_bound` shows: a mount may write to the file.
 #[tactic(auto, using(crate::proofs::Refusals::held_is_refusal, crate::proofs::Refusals::file_is_refusal))]
-fn open_disk<R>(rt: &R, _bound: &TcpListener, image: &str) -> Result<OpenedImage<R::File>, Fault>
+fn open_disk<R>(
+    rt: &R,
+    _bound: &TcpListener,
+    image: &str,
+) -> Result<(FlashDisk<ImageBus<R::File>, Brand>, Held<R::File>), Fault>
 where
     R: Files + AllocGlobal,
     R::File: ImageFile,
     ensures refused { IfErr result IsRefusal }
     ensures sound { IfOk result (λ opened.
-        (⟦<FlashDisk<ImageBus<R::File>, Brand> as Disk>⟧.facts opened.disk).sound ≡ true) }
+        (⟦<FlashDisk<ImageBus<R::File>, Brand> as Disk>⟧.facts opened.0).sound ≡ true) }
     ensures ready { IfOk result (λ opened.
-        IsDiskReady (⟦<FlashDisk<ImageBus<R::File>, Brand> as Disk>⟧.facts opened.disk)) }
+        IsDiskReady (⟦<FlashDisk<ImageBus<R::File>, Brand> as Disk>⟧.facts opened.0)) }
 {
     let held = match hold(rt, image) {
         Ok(held) => held,
@@ -184,7 +180,7 @@ where
         Err(error) => return Err(told_of_file(held.length().unwrap_or(0), error)),
     };
     match look_at(rt.alloc(), bus) {
-        Ok(disk) => Ok(OpenedImage { disk, held }),
+        Ok(disk) => Ok((disk, held)),
         Err(fault) => Err(fault),
     }
 }

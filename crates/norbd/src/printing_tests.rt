@@ -1,7 +1,7 @@
 //! What is printed of faults, and which descriptors are held.
 
+use crate::printing::Telling;
 use crate::standard::{Opens, hold_standard};
-use crate::telling::Telling;
 use norbd_line::{Cause, Fault, Line, ServeLine, SyncPolicy};
 use std::io;
 use std::io::ErrorKind;
