@@ -6,9 +6,10 @@ ghost use Rattle.chip_model.specs.Geometry.{sector_count};
 ghost use Rattle.flash_disk.specs.Contents.{contents_of};
 ghost use Rattle.flash_disk.specs.Formatted.{Formatted};
 ghost use Rattle.nor_driver.specs.Probe.{told};
+ghost use Rattle.sector_slots.specs.Slots.{IsClean};
 ghost use Rattle.flash_station.specs.Answered.{AnswersScript, FormatsAsTold, IsPastFormat};
 ghost use Rattle.flash_station.specs.Answered.{script_part};
-ghost use Rattle.flash_station.specs.Lives.{RunsMounted};
+ghost use Rattle.flash_station.specs.Lives.{IsHealthyChip, RunsMounted};
 ghost use Rattle.flash_station.specs.Running.{IsPastMount, RunsOn};
 ghost use Rattle.station.specs.Script.{FailsToReadAll, FailsToWrite};
 
@@ -59,6 +60,12 @@ pub fn run_formatted<B: SpiBus, S: Source, W: Sink>(
     // it refuses the format exactly as the chip's id, table and registers say, but for what
     // interrupts it
     ensures told { FormatsAsTold result.1 (told (B.chip bus)) }
+    // past the format it leaves a healthy and clean chip, with which a life can begin, where no
+    // operation was slow
+    ensures healthy { IsPastFormat result.1 → B.slows result.0 ≡ B.slows bus
+        → IsHealthyChip (B.chip result.0) }
+    ensures clean { IsPastFormat result.1 → B.slows result.0 ≡ B.slows bus
+        → IsClean (B.chip result.0).memory }
 {
     let (bus, answer) = format(bus);
     match answer {
@@ -163,7 +170,7 @@ fn run_new<B: SpiBus, P: Provenance, S: Source, W: Sink>(
     writer: &mut W,
 ) -> (B, Result<(), RunFault>)
     requires sound { P.sound ≡ true }
-    requires counted { P.slows ≤ B.slows bus }
+    requires counted { P.slows ≡ B.slows bus }
     requires formatted { Formatted (B.chip bus) }
     ensures says { AnswersScript
         (record {
@@ -187,6 +194,8 @@ fn run_new<B: SpiBus, P: Provenance, S: Source, W: Sink>(
     ensures writes { FailsToWrite (W.faults writer.old) (script_part result.1)
         (W.faults writer.new) }
     ensures past { IsPastFormat result.1 }
+    ensures healthy { B.slows result.0 ≡ B.slows bus → IsHealthyChip (B.chip result.0) }
+    ensures clean { B.slows result.0 ≡ B.slows bus → IsClean (B.chip result.0).memory }
 {
     match FlashDisk::<B, P>::mount(alloc, bus) {
         Ok(disk) => run_on(alloc, disk, reader, writer),
