@@ -25,7 +25,7 @@ use std::sync::Wait;
 use std::sync::ledger::Blank;
 use std::test::*;
 use std::thread::Threads;
-use std::time::Clock;
+use std::time::{Clock, Duration};
 use std::{fs, io, thread};
 
 /// Connections, rounds of one command for each, and the bytes of each client's own sectors.
@@ -264,7 +264,13 @@ where
     let listener = listen(rt, 0).expect(rt, "a port");
     let addr = listener.local_addr()?;
     let gates = vec![in alloc; OpenGate; CLIENTS as usize]?;
-    let connections = Connections::new(alloc, gates, hands)?;
+    let connections = Connections::new(
+        alloc,
+        gates,
+        hands,
+        Some(CLIENTS),
+        Duration::from_secs(10),
+    )?;
     let seen = &server;
     let (served, right) = thread::scope(
         thread::scope_env(),

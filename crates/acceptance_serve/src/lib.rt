@@ -3,8 +3,8 @@
 //!
 //! There is no product code here. `own_sectors` parts a disk among eight connections. The tests
 //! stand by subject: `clients` is what a client sends and reads; `meeting` two clients at once;
-//! `crowd` eight clients with random commands on an image; `server` a connection, a keeper and a
-//! power loss without a socket.
+//! `crowd` eight clients with random commands on an image; `endless` servers that are left running;
+//! `server` a connection, a keeper and a power loss without a socket.
 //!
 //! Source: own; the bytes are written out by hand from NBD proto.md.
 
@@ -14,6 +14,8 @@
 mod clients;
 #[cfg(test)]
 mod crowd;
+#[cfg(test)]
+mod endless;
 #[cfg(test)]
 mod meeting;
 mod own;

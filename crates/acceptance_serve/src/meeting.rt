@@ -156,7 +156,7 @@ where
         signals,
     };
     let gates = vec![in alloc; held, open]?;
-    let connections = Connections::new(alloc, gates, hands)?;
+    let connections = Connections::new(alloc, gates, hands, Some(2), Duration::from_secs(10))?;
     let seen = &server;
     let (served, met) = thread::scope(
         thread::scope_env(),

@@ -28,10 +28,13 @@ use std::rt::Files;
 use std::sync::Wait;
 use std::sync::ledger::Blank;
 use std::thread::Threads;
-use std::time::Clock;
+use std::time::{Clock, Duration};
 
 /// The parts of a server's ledger: one for each of 65,536 passes, and one that stays.
 const LEDGER_PARTS: u64 = 65_537;
+
+/// How long a client may negotiate.
+const NEGOTIATION_SECONDS: u64 = 10;
 
 /// What a line `serve` asks besides its image: the port of 127.0.0.1, from 1 to 65,535, how many
 /// connections, from 1 to 64, and whether a row of each command is kept.
@@ -50,11 +53,11 @@ pub struct Asked {
 ///
 /// Before it listens: `ImageFailed` where the file can't be opened, read or written, `BadImageSize`
 /// where no chip has so many bytes, the refusals of a mount, and `NoMemory` where there is no
-/// memory for the chip, the disk, its record or the lists. Then `NoSocket` where listening or
-/// accepting failed and `NoThread` where a thread can't be started: no more connections are
-/// accepted, and those that run are ended first. `ImageFailed` where a write of the file failed,
-/// once all have ended: the command in which it failed and all later ones get no reply.
-/// `OutputFailed` where a line could not be written.
+/// memory for the chip, the disk, its record or the lists. Then `NoSocket` where listening failed,
+/// and `NoThread` where a thread can't be started: no more connections are accepted, and those that
+/// run are ended by their clients first. `ImageFailed` where a write of the file failed: the
+/// command in which it failed and all later ones get no reply, and all connections are closed at
+/// once. `OutputFailed` where a line could not be written.
 pub fn run_serve<R, K>(rt: &R, image: &str, asked: Asked, writer: &mut K) -> Result<(), Fault>
 where
     R: Files
@@ -220,7 +223,8 @@ where
     let Ok(gates) = vec![in alloc; OpenGate; asked.conns as usize] else {
         return Err(Fault::NoMemory);
     };
-    let Ok(connections) = Connections::new(alloc, gates, hands) else {
+    let limit = Duration::from_secs(NEGOTIATION_SECONDS);
+    let Ok(connections) = Connections::new(alloc, gates, hands, Some(asked.conns), limit) else {
         return Err(Fault::NoMemory);
     };
     let server = Server::new(chronicle);
