@@ -28,7 +28,7 @@ use std::sync::atomic::AtomicU32;
 use std::sync::ledger::Blank;
 use std::test::*;
 use std::thread::Threads;
-use std::time::Clock;
+use std::time::{Clock, Duration};
 use std::{fs, io, thread};
 
 /// Connections, rounds of one command for each, and the bytes of each client's own sectors.
@@ -267,7 +267,13 @@ where
     let listener = listen(rt, 0).expect(rt, "a port");
     let addr = listener.local_addr()?;
     let gates = vec![in alloc; OpenGate; CLIENTS as usize]?;
-    let connections = Connections::new(alloc, gates, hands)?;
+    let connections = Connections::new(
+        alloc,
+        gates,
+        hands,
+        Some(CLIENTS),
+        Duration::from_secs(10),
+    )?;
     let seen = &server;
     let syncs = AtomicU32::new(0);
     let durable = Durable::new(Counted { syncs: &syncs }, Policy::AtFlush);

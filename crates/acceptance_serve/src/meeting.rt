@@ -158,7 +158,7 @@ where
         signals,
     };
     let gates = vec![in alloc; held, open]?;
-    let connections = Connections::new(alloc, gates, hands)?;
+    let connections = Connections::new(alloc, gates, hands, Some(2), Duration::from_secs(10))?;
     let seen = &server;
     let syncs = AtomicU32::new(0);
     let durable = Durable::new(Counted { syncs: &syncs }, Policy::AtFlush);

@@ -243,10 +243,10 @@ impl<'s> Gate for StopGate<'s> {
     ghost none = { λ gate. tt };
 }
 
-type OnSim = FlashDisk<SimChip, Brand>;
+pub(crate) type OnSim = FlashDisk<SimChip, Brand>;
 
 /// The disk on a formatted chip of 64 KiB.
-fn formatted(alloc: Global) -> Result<OnSim, Fail> {
+pub(crate) fn formatted(alloc: Global) -> Result<OnSim, Fail> {
     let chip = SimChip::new(vec![in alloc; 0xffu8; 65_536]?)?;
     let (chip, done) = format(chip);
     done?;

@@ -1,5 +1,5 @@
 -- The rule, and how its cells may change. Source: own.
-use Rattle.std.proofs.Common.{◌≡◌, ℕ, zero, suc, ◌+◌, ◌<◌, ◌≤◌, ◌≢◌, ◌==◌, ◌⊎◌, inl, inr, Bool, true, false, Option, Some, None, List, [], ◌∷◌, ◌++◌, length, refl, ap, sym, subst, ◌∙◌, arith, eqb, eq-eqb, ne_eqb, append_assoc, length-append, replicate}
+use Rattle.std.proofs.Common.{◌≡◌, ℕ, zero, suc, ◌+◌, ◌^◌, ◌<◌, ◌≤◌, ◌≢◌, ◌==◌, ◌⊎◌, inl, inr, Bool, true, false, Option, Some, None, List, [], ◌∷◌, ◌++◌, length, refl, ap, sym, subst, ◌∙◌, arith, eqb, eq-eqb, ne_eqb, append_assoc, length-append, replicate}
 use Rattle.std.proofs.lemmas.List.{append-nil, set-get_or, get_or-set_same, get_or-set_other}
 use Rattle.std.proofs.lemmas.List.Elements.{filter-append}
 use Rattle.std.proofs.lemmas.Bool.Decides.{nat_tests}
@@ -57,7 +57,7 @@ told_more log n e what = told_append log (n ∷ []) ∙ ap (λ w. entries_of log
 
 module _ {E : Type 0} (by : E → ℕ) where
   -- a row of words that hold 0
-  pub kept_row : (n : ℕ) → 65536 < n → IsBook by (replicate n (0, true)) []
+  pub kept_row : (n : ℕ) → 2 ^ 62 < n → IsBook by (replicate n (0, true)) []
   kept_row n lt =
       let at : (k : ℕ) → k < n → cell (replicate n (0, true)) k ≡ (0, true) = λ k h. cell_row n k h in
       record {
@@ -68,7 +68,7 @@ module _ {E : Type 0} (by : E → ℕ) where
       }
 
   -- the words of hands, and the first, are home
-  pub home : (cs : List Cell) (log : List (Note E)) → IsBook by cs log → (k : ℕ) → k < 65537 → (n : ℕ) × (cell cs k ≡ (n, true))
+  pub home : (cs : List Cell) (log : List (Note E)) → IsBook by cs log → (k : ℕ) → k < 2 ^ 62 + 1 → (n : ℕ) × (cell cs k ≡ (n, true))
   home cs log kept zero lt = (started log, kept.start)
   home cs log kept (suc c) lt =
       let is : c + 1 ≡ suc c = omega arith in
@@ -101,7 +101,7 @@ module _ {E : Type 0} (by : E → ℕ) where
 
   counts_more : (cs : List Cell) (log : List (Note E)) → IsBook by cs log → (c : ℕ) → (n : Note E) (e : E) → n.what ≡ Some e → by e ≡ c → (next : List Cell)
       → ((k m : ℕ) → cell cs k ≡ (m, true) → k ≢ c + 1 → cell next k ≡ (m, true)) → cell next (c + 1) ≡ (length (entries_by by c (entries_of log)) + 1, true)
-      → (d : ℕ) → d < 65536 → cell next (d + 1) ≡ (length (entries_by by d (entries_of (log ++ n ∷ []))), true)
+      → (d : ℕ) → d < 2 ^ 62 → cell next (d + 1) ≡ (length (entries_by by d (entries_of (log ++ n ∷ []))), true)
   counts_more cs log kept c n e what own next stays here d less =
       let all : entries_by by d (entries_of (log ++ n ∷ [])) ≡ entries_by by d (entries_of log) ++ entries_by by d (e ∷ []) = ap (entries_by by d) (told_more log n e what) ∙ filter-append (λ x. by x == d) (entries_of log) (e ∷ []) in
       let sum : length (entries_by by d (entries_of (log ++ n ∷ []))) ≡ length (entries_by by d (entries_of log)) + length (entries_by by d (e ∷ [])) = ap length all ∙ length-append (entries_by by d (entries_of log)) (entries_by by d (e ∷ [])) in
@@ -115,12 +115,12 @@ module _ {E : Type 0} (by : E → ℕ) where
       let same : length (entries_by by d (entries_of log)) ≡ length (entries_by by d (entries_of (log ++ n ∷ []))) = omega arith in
       stays (d + 1) (length (entries_by by d (entries_of log))) (kept.counts d less) (λ q. ne (omega arith)) ∙ ap (λ (k : ℕ). (k, true)) same)
 
-  pub kept_add : (cs : List Cell) (log : List (Note E)) → IsBook by cs log → (c : ℕ) → c < 65536 → (n : Note E) (e : E) → n.what ≡ Some e → by e ≡ c → (p value : ℕ) → EndsWithPen log p → p < length cs → (cell cs p).1 ≡ false
+  pub kept_add : (cs : List Cell) (log : List (Note E)) → IsBook by cs log → (c : ℕ) → c < 2 ^ 62 → (n : Note E) (e : E) → n.what ≡ Some e → by e ≡ c → (p value : ℕ) → EndsWithPen log p → p < length cs → (cell cs p).1 ≡ false
       → IsBook by (slice_set (slice_set cs (c + 1) (length (entries_by by c (entries_of log)) + 1, true)) p (value, true)) (log ++ n ∷ [])
   kept_add cs log kept c lt n e what own p value ends inside away =
       let mid : List Cell = slice_set cs (c + 1) (length (entries_by by c (entries_of log)) + 1, true) in
       let next : List Cell = slice_set mid p (value, true) in
-      let size : 65536 < length cs = kept.size in
+      let size : 2 ^ 62 < length cs = kept.size in
       let long : length next ≡ length cs = length-set mid p (value, true) ∙ length-set cs (c + 1) (length (entries_by by c (entries_of log)) + 1, true) in
       let far : (k m : ℕ) → cell cs k ≡ (m, true) → k ≢ p = λ k m is q. absurd (cc (is, away, ap (cell cs) q)) in
       let stays : (k m : ℕ) → cell cs k ≡ (m, true) → k ≢ c + 1 → cell next k ≡ (m, true) =

@@ -1,5 +1,5 @@
 -- What a keeper and a hand know of one another. Source: own.
-use Rattle.std.proofs.Common.{◌≡◌, ℕ, ◌+◌, ◌<◌, ◌==◌, Option, Some, List, [], ◌∷◌, ◌++◌, length, refl, ap, sym, subst, ◌∙◌, arith, eq-eqb, length-append}
+use Rattle.std.proofs.Common.{◌≡◌, ℕ, ◌+◌, ◌^◌, ◌<◌, ◌==◌, Option, Some, List, [], ◌∷◌, ◌++◌, length, refl, ap, sym, subst, ◌∙◌, arith, eq-eqb, length-append}
 use Rattle.std.specs.Prelude.{MatchBool}
 use Rattle.std.proofs.lemmas.List.Elements.{filter-append}
 use mathlib.Core.List.{IsPrefix}
@@ -15,7 +15,7 @@ pub record Meets {E : Type 0} (by : E → ℕ) (c : ℕ) (hand keep both : List 
   pub own : entries_by by c (entries_of keep) ≡ entries_by by c (entries_of hand)
 
 pub meets : {E : Type 0} (by : E → ℕ) (c : ℕ) (hand keep both : List (Note E)) (key word found : ℕ)
-    → IsPrefix keep both → IsPrefix hand both → IsWhole both key → EndsWithPen keep key → CountsOwn by word both found → word ≡ c + 1 → c < 65536 → found ≡ length (entries_by by c (entries_of hand))
+    → IsPrefix keep both → IsPrefix hand both → IsWhole both key → EndsWithPen keep key → CountsOwn by word both found → word ≡ c + 1 → c < 2 ^ 62 → found ≡ length (entries_by by c (entries_of hand))
     → Meets by c hand keep both
 meets by c hand keep both key word found kp hp whole ends counts at lt is =
     let all : both ≡ keep = whole keep kp ends in
@@ -32,7 +32,7 @@ hit : (A B : Type 0) (found old : ℕ) → found ≡ old → MatchBool (found ==
 hit A B found old is m = subst (λ b. MatchBool b A B) (eq-eqb found old is) m
 
 pub added : {E : Type 0} (by : E → ℕ) (c : ℕ) (hand keep both log : List (Note E)) (n : Note E) (e : E) (key word found old : ℕ)
-    → IsPrefix keep both → IsPrefix hand both → EndsWithPen keep key → word ≡ c + 1 → c < 65536 → found ≡ old → old ≡ length (entries_by by c (entries_of hand)) → n.what ≡ Some e → by e ≡ c
+    → IsPrefix keep both → IsPrefix hand both → EndsWithPen keep key → word ≡ c + 1 → c < 2 ^ 62 → found ≡ old → old ≡ length (entries_by by c (entries_of hand)) → n.what ≡ Some e → by e ≡ c
     → MatchBool (found == old) ((log ≡ both ++ n ∷ []) × IsWhole both key × CountsOwn by word both found) (Unit {0})
     → Added by c hand keep both log e old
 added by c hand keep both log n e key word found old kp hp ends at lt is counted what own tells =

@@ -1,5 +1,5 @@
 -- What the steps do. Source: own.
-use Rattle.std.proofs.Common.{◌≡◌, ℕ, zero, suc, ◌+◌, ◌<◌, ◌≤◌, ◌≢◌, ◌==◌, inl, inr, Bool, true, false, Option, Some, None, List, [], ◌∷◌, ◌++◌, length, refl, ap, sym, subst, ◌∙◌, arith, length-append}
+use Rattle.std.proofs.Common.{◌≡◌, ℕ, zero, suc, ◌+◌, ◌^◌, ◌<◌, ◌≤◌, ◌≢◌, ◌==◌, inl, inr, Bool, true, false, Option, Some, None, List, [], ◌∷◌, ◌++◌, length, refl, ap, sym, subst, ◌∙◌, arith, length-append}
 use Rattle.std.proofs.lemmas.List.{append-nil, set-get_or, get_or-set_same, get_or-set_other}
 use Rattle.std.proofs.lemmas.Bool.Decides.{nat_tests}
 use Rattle.std.proofs.Math.ListN.{length-set}
@@ -41,11 +41,11 @@ module _ {E : Type 0} (by : E → ℕ) where
   kept_same : (cs other : List Cell) (log : List (Note E)) → IsBook by cs log → other ≡ cs → IsBook by other (log ++ [])
   kept_same cs other log kept is = subst (λ l. IsBook by other l) (sym (append-nil log)) (subst (λ c. IsBook by c log) (sym is) kept)
 
-  pub grows_moves : (v : List (Note E)) (ask : Note E) (key : ℕ) → key < 65537
+  pub grows_moves : (v : List (Note E)) (ask : Note E) (key : ℕ) → key < 2 ^ 62 + 1
       → Moves (IsBook by) shown moved key (v, (no_nib, None)) (λ n. either (n == 0) 0 n) (MakesPen (step key 0 0 ask) (v, (no_nib, None)))
   grows_moves v ask key lt cs log kept pre away =
       let h = home by cs log kept key lt in
-      let size : 65536 < length cs = kept.size in (
+      let size : 2 ^ 62 < length cs = kept.size in (
         omega arith,
         ap (λ (x : Cell). x.1) h.1,
         (
@@ -68,11 +68,11 @@ module _ {E : Type 0} (by : E → ℕ) where
   counted cs log v key kept is c lt at =
       ap (λ l. length (entries_by by c (entries_of l))) (sym is) ∙ (sym (ap (λ (x : Cell). x.0) (kept.counts c lt)) ∙ ap (λ k. (cell cs k).0) (sym at))
 
-  pub looks_moves : (v : List (Note E)) (p : Nib) (ask : Note E) (key : ℕ) → key < 65537 → p.right ≡ may_write → ((xs : List (Note E)) × IsPrefix xs v × EndsWithPen xs p.key)
+  pub looks_moves : (v : List (Note E)) (p : Nib) (ask : Note E) (key : ℕ) → key < 2 ^ 62 + 1 → p.right ≡ may_write → ((xs : List (Note E)) × IsPrefix xs v × EndsWithPen xs p.key)
       → Moves (IsBook by) shown moved key (v, (p, None)) (λ n. either (n == 0) 0 n) (SeesAll by (step key 0 0 ask) (v, (p, None)))
   looks_moves v p ask key lt right begins cs log kept pre away =
       let h = home by cs log kept key lt in
-      let size : 65536 < length cs = kept.size in
+      let size : 2 ^ 62 < length cs = kept.size in
       let a = away right in
       let all : log ≡ begins.0 = whole by cs log begins.0 p.key kept (prefix_trans begins.0 v log begins.1 pre) begins.2 a.1 in
       let same : log ≡ v = sym (squeezed begins.0 v log begins.1 pre all) in (
@@ -90,7 +90,7 @@ module _ {E : Type 0} (by : E → ℕ) where
       )
 
   -- what a step that adds a note does, where the number found is as expected, and where not
-  adds_goes : (cs : List Cell) (log v : List (Note E)) (p : Nib) (c old : ℕ) (n : Note E) (e : E) → c < 65536 → n.what ≡ Some e → by e ≡ c → p.right ≡ may_write → IsBook by cs log → IsPrefix v log
+  adds_goes : (cs : List Cell) (log v : List (Note E)) (p : Nib) (c old : ℕ) (n : Note E) (e : E) → c < 2 ^ 62 → n.what ≡ Some e → by e ≡ c → p.right ≡ may_write → IsBook by cs log → IsPrefix v log
       → (p.key < length cs) × ((cell cs p.key).1 ≡ false) → EndsWithPen v p.key → log ≡ v
       → (b : Bool) → ((cell cs (c + 1)).0 == old) ≡ b
       → Goes (IsBook by) shown moved (c + 1) (v, (p, None)) (λ m. either (m == old) (old + 1) m) (AddsNote by (step (c + 1) old (old + 1) n) (v, (p, None))) cs log
@@ -122,10 +122,10 @@ module _ {E : Type 0} (by : E → ℕ) where
         rw is tt,
       )
 
-  pub adds_moves : (v xs : List (Note E)) (p : Nib) (c old : ℕ) (n : Note E) (e : E) → c < 65536 → n.what ≡ Some e → by e ≡ c → p.right ≡ may_write → IsPrefix xs v → EndsWithPen xs p.key
+  pub adds_moves : (v xs : List (Note E)) (p : Nib) (c old : ℕ) (n : Note E) (e : E) → c < 2 ^ 62 → n.what ≡ Some e → by e ≡ c → p.right ≡ may_write → IsPrefix xs v → EndsWithPen xs p.key
       → Moves (IsBook by) shown moved (c + 1) (v, (p, None)) (λ m. either (m == old) (old + 1) m) (AddsNote by (step (c + 1) old (old + 1) n) (v, (p, None)))
   adds_moves v xs p c old n e lt what own right begins ends cs log kept pre away =
-      let size : 65536 < length cs = kept.size in
+      let size : 2 ^ 62 < length cs = kept.size in
       let a = away right in
       let all : log ≡ xs = whole by cs log xs p.key kept (prefix_trans xs v log begins pre) ends a.1 in
       let same : v ≡ log = squeezed xs v log begins pre all in
@@ -141,7 +141,7 @@ module _ {E : Type 0} (by : E → ℕ) where
 
   kept_begin : (cs : List Cell) (n : Note E) → n.what ≡ None → IsBook by cs [] → IsBook by (slice_set cs 0 (1, true)) (n ∷ [])
   kept_begin cs n what kept =
-      let size : 65536 < length cs = kept.size in
+      let size : 2 ^ 62 < length cs = kept.size in
       record {
         size = omega (arith, length-set cs 0 (1, true));
         start = get_or-set_same cs 0 (1, true) (0, false) (omega arith);
@@ -184,7 +184,7 @@ module _ {E : Type 0} (by : E → ℕ) where
   pub begins_moves : (n : Note E) → n.what ≡ None
       → Moves (IsBook by) shown moved 0 ([], (no_nib, None)) (λ m. either (m == 0) 1 m) (AddsFirst (step 0 0 1 n) ([], (no_nib, None)))
   begins_moves n what cs log kept pre away =
-      let size : 65536 < length cs = kept.size in (
+      let size : 2 ^ 62 < length cs = kept.size in (
         omega arith,
         ap (λ (x : Cell). x.1) kept.start,
         begins_goes cs log n what kept ((cell cs 0).0 == 0) refl,

@@ -1,5 +1,6 @@
 -- The rule of the book, and what its steps tell. Source: own.
-use Rattle.std.specs.Prelude.{◌≡◌, ℕ, ◌+◌, ◌<◌, ◌==◌, true, List, [], ◌∷◌, ◌++◌, length, MatchBool}
+use Rattle.std.specs.Prelude.{◌≡◌, ℕ, ◌+◌, ◌^◌, ◌<◌, ◌==◌, true, List, [], ◌∷◌, ◌++◌, length}
+use Rattle.std.specs.Prelude.{MatchBool}
 use mathlib.Core.List.{IsPrefix}
 use Rattle.logbook.specs.Pages.{Cell, cell, Nib, nib, may_make, Step, View, Book, Named}
 use Rattle.history.specs.declared.note.Note.{Note}
@@ -12,9 +13,9 @@ started (n ∷ ns) = 1
 -- The first word says whether there is a note. The word of each hand counts its entries. The pens
 -- of all notes but the last are home.
 pub record IsBook {E : Type 0} (by : E → ℕ) (cells : List Cell) (log : List (Note E)) : Type 0 where
-  pub size : 65536 < length cells
+  pub size : 2 ^ 62 < length cells
   pub start : cell cells 0 ≡ (started log, true)
-  pub counts : (c : ℕ) → c < 65536
+  pub counts : (c : ℕ) → c < 2 ^ 62
       → cell cells (c + 1) ≡ (length (entries_by by c (entries_of log)), true)
   pub chain : (front : List (Note E)) (n m : Note E) (rest : List (Note E))
       → log ≡ front ++ n ∷ m ∷ rest → (cell cells n.next).1 ≡ true
@@ -46,7 +47,7 @@ AddsFirst s v found w = MatchBool (found == s.old) (w.0 ≡ s.ask ∷ []) (Unit 
 -- so many entries of the word's hand were found
 abbrev pub CountsOwn : {E : Type 0} → (E → ℕ) → ℕ → List (Note E) → ℕ → Type 0
 CountsOwn by key log found =
-    (c : ℕ) → c < 65536 → key ≡ c + 1 → length (entries_by by c (entries_of log)) ≡ found
+    (c : ℕ) → c < 2 ^ 62 → key ≡ c + 1 → length (entries_by by c (entries_of log)) ≡ found
 
 -- what was seen is all that there is
 abbrev pub SeesAll : {E : Type 0} → (E → ℕ) → Step (Note E) → View (Note E) ℕ → ℕ

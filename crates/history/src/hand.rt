@@ -145,7 +145,7 @@ pub(crate) fn grown<E: OfHand>(
     seen: &Seen<Note<E>, u64, Law>,
 ) -> Pen
     requires word { (word.now.tracked ≡ true) × (word.now.book ≡ seen.now.book) }
-    requires key { word.now.key < 65537 }
+    requires key { word.now.key < 2 ^ 62 + 1 }
     ensures book { result.book ≡ seen.now.book }
     ensures right { result.nib.right ≡ may_write }
 {
@@ -165,7 +165,7 @@ pub(crate) fn counted<E: OfHand>(
 ) -> u64
     requires word { (word.now.tracked ≡ true) × (word.now.book ≡ seen.old.book) }
     requires pen { (pen.old.book ≡ seen.old.book) × (pen.old.nib.right ≡ may_write) }
-    requires key { word.now.key < 65537 }
+    requires key { word.now.key < 2 ^ 62 + 1 }
     requires ends { (xs : List (Note E)) × IsPrefix xs seen.old.log
         × EndsWithPen xs pen.old.nib.key }
     ensures seen { (seen.new.log ≡ seen.old.log) × (seen.new.book ≡ seen.old.book) }
@@ -183,12 +183,12 @@ pub struct Hand<E: OfHand, J: Naming> {
     pub(crate) word: Word<Note<E>, u64, Law>,
     pub(crate) seen: Seen<Note<E>, u64, Law>,
     pub(crate) count: u64,
-    pub(crate) by: u32,
+    pub(crate) by: u64,
     pub(crate) name: PhantomData<J>,
 }
 
 impl<E: OfHand, J: Naming> Model for Hand<E, J> {
-    ghost use Rattle.std.specs.Prelude.{◌≡◌, ◌+◌, ◌<◌, length};
+    ghost use Rattle.std.specs.Prelude.{◌≡◌, ◌+◌, ◌<◌, ◌^◌, length};
     ghost use Rattle.history.specs.Notes.{Sight, entries_of, entries_by};
     ghost use Rattle.history.specs.Rules.{word_of};
 
@@ -197,15 +197,15 @@ impl<E: OfHand, J: Naming> Model for Hand<E, J> {
     ghost view = { λ h. record { by = h.by; seen = entries_of h.seen.log } };
 
     ghost invariant = { λ h. (h.word ≡ word_of (h.by + 1) J.book) × (h.seen.book ≡ J.book)
-        × (h.by < 65536)
+        × (h.by < 2 ^ 62)
         × (h.count ≡ length (entries_by E.by h.by (entries_of h.seen.log))) };
 }
 
 impl<E: OfHand, J: Naming> Hand<E, J> {
     /// Its number.
-    pub fn by(&self) -> u32
+    pub fn by(&self) -> u64
         ensures number { result ≡ self.now.by }
-        ensures few { self.now.by < 65536 }
+        ensures few { self.now.by < 2 ^ 62 }
     {
         self.by
     }

@@ -1,6 +1,7 @@
 //! All of the history, and who may add to it.
 
-ghost use Rattle.std.specs.Prelude.{◌≡◌, ◌+◌, ◌-◌, ◌<◌, ◌≤◌, ◌++◌, ◌∷◌, [], length, true, List};
+ghost use Rattle.std.specs.Prelude.{◌≡◌, ◌+◌, ◌-◌, ◌^◌, ◌<◌, ◌≤◌, ◌++◌, ◌∷◌, [], length, true};
+ghost use Rattle.std.specs.Prelude.{List};
 ghost use mathlib.Core.List.{IsPrefix};
 ghost use Rattle.logbook.specs.Pages.{may_write};
 ghost use Rattle.history.specs.declared.note.Note.{Note};
@@ -13,13 +14,13 @@ use logbook::{Offer, Pen, Pens, Seen, Start, Word};
 use std::marker::{Model, PhantomData};
 use std::sync::Wait;
 
-const PLACES: usize = 65_537;
+const PLACES: usize = (1 << 62) + 1;
 
 const MOST: u64 = 1 << 62;
 
 /// A book with so many words.
 fn row<E: OfHand>(count: usize) -> (Seen<Note<E>, u64, Law>, Pens)
-    requires { 65536 < count }
+    requires { 2 ^ 62 < count }
     ensures seen { (result.0.log ≡ []) }
     ensures pens { (result.1.book ≡ result.0.book) × (result.1.next ≡ 0) × (result.1.left ≡ count) }
 {
@@ -35,7 +36,7 @@ pub struct Opened<E: OfHand> {
 }
 
 impl<E: OfHand> Model for Opened<E> {
-    ghost use Rattle.std.specs.Prelude.{◌≡◌, []};
+    ghost use Rattle.std.specs.Prelude.{◌≡◌, ◌^◌, []};
     ghost use Rattle.logbook.specs.Pages.{Book, may_write};
     ghost use Rattle.history.specs.Notes.{entries_of};
     ghost use Rattle.history.specs.Rules.{EndsWithPen};
@@ -46,7 +47,7 @@ impl<E: OfHand> Model for Opened<E> {
 
     ghost invariant = { λ o. (o.pen.book ≡ o.seen.book) × (o.pens.book ≡ o.seen.book)
         × (o.pen.nib.right ≡ may_write) × EndsWithPen o.seen.log o.pen.nib.key
-        × (entries_of o.seen.log ≡ []) × (o.pens.next ≡ 1) × (o.pens.left ≡ 65536) };
+        × (entries_of o.seen.log ≡ []) × (o.pens.next ≡ 1) × (o.pens.left ≡ 2 ^ 62) };
 }
 
 impl<E: OfHand> Opened<E> {
@@ -89,24 +90,24 @@ impl<E: OfHand> Opened<E> {
 #[derive(Drop)]
 pub struct Hands<E: OfHand, J: Naming> {
     pens: Pens,
-    given: u32,
+    given: u64,
     name: PhantomData<(E, J)>,
 }
 
 impl<E: OfHand, J: Naming> Model for Hands<E, J> {
-    ghost use Rattle.std.specs.Prelude.{◌≡◌, ℕ, ◌+◌};
+    ghost use Rattle.std.specs.Prelude.{◌≡◌, ℕ, ◌+◌, ◌^◌};
 
     ghost Value = { ℕ };
 
     ghost view = { λ h. h.given };
 
     ghost invariant = { λ h. (h.pens.book ≡ J.book) × (h.pens.next ≡ h.given + 1)
-        × (h.pens.left + h.given ≡ 65536) };
+        × (h.pens.left + h.given ≡ 2 ^ 62) };
 }
 
 impl<E: OfHand, J: Naming> Hands<E, J> {
     /// How many hands it made.
-    pub fn given(&self) -> u32
+    pub fn given(&self) -> u64
         ensures { result ≡ self.now }
     {
         self.given
@@ -114,7 +115,7 @@ impl<E: OfHand, J: Naming> Hands<E, J> {
 
     /// The hand with the next number.
     pub fn hand<W: Wait>(&mut self, wait: &W, keeper: &mut Keeper<E, J>) -> Hand<E, J>
-        requires { self.old < 65536 }
+        requires { self.old < 2 ^ 62 }
         ensures by { result.by ≡ self.old }
         ensures seen { result.seen ≡ keeper.old }
         ensures none { entries_by E.by result.by result.seen ≡ [] }

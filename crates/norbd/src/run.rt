@@ -1,6 +1,6 @@
 //! What a line asks, over any reader and writer.
 ghost use Rattle.std.specs.Prelude.{◌≡◌, ◌≢◌, ℕ, List, Some, false};
-ghost use Rattle.std.specs.Prelude.{IfSome, IsFalse, unwrap_or};
+ghost use Rattle.std.specs.Prelude.{IfSome, IsErr, IsFalse, None, unwrap_or};
 ghost use Rattle.norbd.specs.Checking.{CheckTells};
 ghost use Rattle.norbd.specs.Outcomes.{Ended, Means};
 ghost use Rattle.norbd.specs.Formatting.{FormatTells};
@@ -31,7 +31,7 @@ use std::time::Clock;
 /// The parts of a server's ledger: one for each of 65,536 passes, and one that stays.
 const LEDGER_PARTS: u64 = 65_537;
 
-/// How many connections a server has where the line doesn't say it.
+/// How many connections are served at once where the line doesn't say how many in all.
 const MOST_CONNS: u32 = 64;
 
 /// Does what a line asks.
@@ -91,6 +91,7 @@ where
     ensures tells_serving { IfServe line.entry
         (λ s. TellsServing s.port (unwrap_or s.conns 64) s.record (K.written writer.old)
         (K.faults writer.old) result (K.written writer.new) (K.faults writer.new)) }
+    ensures serves_without_end { IfServe line.entry (λ s. s.conns ≡ None → IsErr result) }
     ensures tells { IfFormat line.entry
         (λ _ kib. FormatTells kib (K.written writer.old) (K.faults writer.old) result
         (K.written writer.new) (K.faults writer.new)) }
@@ -127,6 +128,7 @@ where
             let asked = Asked {
                 port: line.port,
                 conns: line.conns.unwrap_or(MOST_CONNS),
+                ends: line.conns.is_some(),
                 record: line.record,
                 sync: line.sync,
             };

@@ -340,15 +340,32 @@ fn work<H: Net<Stream = TcpStream> + Clock>(
     Ok(true)
 }
 
-/// Two clients, one after the other.
+/// Whether nobody listens any more: 500 tries, 10 ms apart.
+fn is_refused<H: Net<Stream = TcpStream> + Clock>(rt: &H, addr: SocketAddr) -> bool {
+    for _try in 0..500u32 {
+        if TcpStream::connect(rt, addr).is_err() {
+            return true;
+        }
+        thread::sleep(rt, Duration::from_millis(10));
+    }
+    false
+}
+
+/// Two clients, one after the other. Where a request of the first isn't to be answered, the second
+/// has to find no server.
 fn work_both<H: Net<Stream = TcpStream> + Clock>(
     rt: &H,
     addr: SocketAddr,
     clients: [Client<'_>; 2],
 ) -> io::Result<bool> {
     let [one, two] = clients;
+    let ends = one.answered < one.requests.len();
     let first = work(rt, addr, one)?;
-    let second = work(rt, addr, two)?;
+    let second = if ends {
+        is_refused(rt, addr)
+    } else {
+        work(rt, addr, two)?
+    };
     Ok(first && second)
 }
 
@@ -393,6 +410,7 @@ where
     let asked = Asked {
         port: u32::from(port),
         conns: 2,
+        ends: true,
         record,
         sync,
     };
@@ -481,9 +499,9 @@ fn serves_two_clients_and_counts_their_rows(rt: HostRuntime) -> Result<(), Fail>
 }
 
 /// The first WRITE of a sector makes four writes of the file: its descriptor, two pages, the
-/// commit.
+/// commit. The write that fails ends the server.
 #[test]
-fn a_failed_write_of_the_image_takes_all_later_commands(rt: HostRuntime) -> Result<(), Fail> {
+fn a_failed_write_of_the_image_ends_the_server(rt: HostRuntime) -> Result<(), Fail> {
     for good in 0..8u32 {
         make(&rt, 0, 0x4E)?;
         let good_writes = AtomicU32::new(good);
@@ -519,6 +537,7 @@ fn files_that_hold_no_disk_are_refused_and_left(rt: HostRuntime) -> Result<(), F
     let asked = Asked {
         port: u32::from(port),
         conns: 1,
+        ends: true,
         record: false,
         sync: SyncPolicy::AtFlush,
     };
@@ -620,6 +639,7 @@ fn one_client<H: Net<Listener = TcpListener, Stream = TcpStream>>(rt: &H) -> Res
     Ok(Asked {
         port: u32::from(port),
         conns: 1,
+        ends: true,
         record: false,
         sync: SyncPolicy::AtFlush,
     })

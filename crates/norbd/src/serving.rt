@@ -1,6 +1,6 @@
 //! `serve`: the chip in an image file, served to clients on a port of this machine.
 ghost use Rattle.std.specs.Prelude.{◌≡◌, ◌*◌, length, string_bytes, IfOk, IfErr, true};
-ghost use Rattle.std.specs.Prelude.{false};
+ghost use Rattle.std.specs.Prelude.{false, if◌then◌else◌, IsErr, IsFalse, None, Some};
 ghost use Rattle.block_device.specs.Facts.{IsDiskReady};
 ghost use Rattle.chip_model.specs.Chip.{is_idle};
 ghost use Rattle.flash_disk.specs.Mounting.{OpenedFrom};
@@ -32,23 +32,29 @@ use std::rt::Files;
 use std::sync::Wait;
 use std::sync::ledger::Blank;
 use std::thread::Threads;
-use std::time::Clock;
+use std::time::{Clock, Duration};
 
 /// The parts of a server's ledger: one for each of 65,536 passes, and one that stays.
 const LEDGER_PARTS: u64 = 65_537;
 
-/// What a line `serve` asks besides its image: the port of 127.0.0.1, from 1 to 65,535, how many
-/// connections, from 1 to 64, whether a row of each command is kept, and when the file is synced.
+/// How long a client may negotiate.
+const NEGOTIATION_SECONDS: u64 = 10;
+
+/// What a line `serve` asks besides its image: the port of 127.0.0.1, from 1 to 65,535; how many
+/// connections, from 1 to 64, and whether serving ends once so many were served in all: else so
+/// many are served at once, without end; whether a row of each command is kept, and when the file
+/// is synced.
 #[derive(Clone, Copy)]
 pub struct Asked {
     pub port: u32,
     pub conns: u32,
+    pub ends: bool,
     pub record: bool,
     pub sync: SyncPolicy,
 }
 
 /// Serves the chip in the file at a path to so many connections on a port of 127.0.0.1, and ends
-/// when all have ended.
+/// when all have ended, or serves without end.
 ///
 /// Told to `writer`: a line before the first connection is accepted, one after the last has ended,
 /// and where rows are kept a third with their number.
@@ -57,11 +63,12 @@ pub struct Asked {
 /// `InUse` where another process serves or formats the image, and then nothing of it is read or
 /// written; `ImageFailed` where it can't be opened, read or written, `BadImageSize` where no chip
 /// has so many bytes, the refusals of a mount, and `NoMemory` where there is no memory for the
-/// chip, the disk, its record or the lists. Then `NoSocket` where accepting failed and `NoThread`
-/// where a thread can't be started: no more connections are accepted, and those that run are ended
-/// first. `ImageFailed` where a write or a sync of the file failed, once all have ended: the
-/// command in which a write failed and all later ones get no reply, nor does one whose reply waits
-/// for a sync after one that failed. `OutputFailed` where a line could not be written.
+/// chip, the disk, its record or the lists. Then `NoThread` where a thread can't be started: no
+/// more connections are accepted, and those that run are ended by their clients first.
+/// `ImageFailed` where a write of the file failed: the command in which it failed and all later
+/// ones get no reply, and all connections are closed at once; also where a sync failed, once all
+/// have ended: a reply that waits for one isn't sent. `OutputFailed` where a line could not be
+/// written.
 pub fn run_serve<R, K>(rt: &R, image: &str, asked: Asked, writer: &mut K) -> Result<(), Fault>
 where
     R: Files
@@ -74,9 +81,10 @@ where
     R::File: ImageFile + Send + Sync,
     K: Sink,
     requires { IsPort asked.port × IsConns asked.conns }
-    ensures { TellsServing asked.port asked.conns asked.record (K.written writer.old)
+    ensures tells { TellsServing asked.port asked.conns asked.record (K.written writer.old)
         (K.faults writer.old) result
         (K.written writer.new) (K.faults writer.new) }
+    ensures endless { IsFalse asked.ends → IsErr result }
 {
     let listener = match bind(rt, asked.port as u16) {
         Ok(listener) => listener,
@@ -134,9 +142,10 @@ where
     requires sound { (D.facts disk).sound ≡ true }
     requires ready { IsDiskReady (D.facts disk) }
     requires numbers { IsPort asked.port × IsConns asked.conns }
-    ensures { TellsServing asked.port asked.conns asked.record (K.written writer.old)
+    ensures tells { TellsServing asked.port asked.conns asked.record (K.written writer.old)
         (K.faults writer.old) result
         (K.written writer.new) (K.faults writer.new) }
+    ensures endless { IsFalse asked.ends → IsErr result }
 {
     let sectors = disk.sectors();
     let unnamed = Unnamed {
@@ -240,9 +249,10 @@ where
     requires parts { (unnamed.blank.parts ≡ L.parts) × (unnamed.blank.parts ≡ 65537) }
     requires history { unnamed.opened ≡ L.book }
     requires numbers { IsPort asked.port × IsConns asked.conns }
-    ensures { TellsServing asked.port asked.conns asked.record (K.written writer.old)
+    ensures tells { TellsServing asked.port asked.conns asked.record (K.written writer.old)
         (K.faults writer.old) result
         (K.written writer.new) (K.faults writer.new) }
+    ensures endless { IsFalse asked.ends → IsErr result }
 {
     let Unnamed { blank, opened } = unnamed;
     let (keeper, hands) = opened.named::<L>();
@@ -288,15 +298,17 @@ where
     F: OpenFile + Send + Sync + Drop,
     K: Sink,
     requires numbers { IsPort asked.port × IsConns asked.conns }
-    ensures { TellsServing asked.port asked.conns C.KEEPS (K.written writer.old)
+    ensures tells { TellsServing asked.port asked.conns C.KEEPS (K.written writer.old)
         (K.faults writer.old) result
         (K.written writer.new) (K.faults writer.new) }
+    ensures endless { IsFalse asked.ends → IsErr result }
 {
     let alloc = rt.alloc();
     let Ok(gates) = vec![in alloc; OpenGate; asked.conns as usize] else {
         return Err(Fault::NoMemory);
     };
-    let Ok(connections) = Connections::new(alloc, gates, hands) else {
+    let limit = Duration::from_secs(NEGOTIATION_SECONDS);
+    let Ok(connections) = Connections::new(alloc, gates, hands, in_all(asked), limit) else {
         return Err(Fault::NoMemory);
     };
     let server = Server::new(chronicle);
@@ -331,6 +343,13 @@ fn finish<F: OpenFile>(durable: &Durable<F>) -> Result<(), Fault>
         return Ok(());
     }
     Err(Fault::ImageFailed(Cause::Sync))
+}
+
+/// How many connections are served in all, where there is an end.
+fn in_all(asked: Asked) -> Option<u32>
+    ensures { result ≡ if asked.ends then Some asked.conns else None }
+{
+    if asked.ends { Some(asked.conns) } else { None }
 }
 
 /// Writes a text.

@@ -20,17 +20,9 @@ has_lost_one_more (Output ∷ more) end = has_lost_one_more more end
 has_lost_one_more (Lost ∷ more) end = either-way (is_lost end)
 has_lost_one_more (OutOfMemory ∷ more) end = has_lost_one_more more end
 
-same : (b : Bool) → (if b then true else false) ≡ b
-same true = refl
-same false = refl
-
--- where one was lost before
-pub lost_before : (ends : List End) (end : End) → has_lost ends ≡ true → has_lost (ends ++ end ∷ []) ≡ true
-lost_before ends end h = has_lost_one_more ends end ∙ subst (λ b. (if is_lost end then true else b) ≡ true) (sym h) (sym (either-way (is_lost end)))
-
--- where none was
-pub lost_now : (ends : List End) (end : End) → has_lost ends ≡ false → has_lost (ends ++ end ∷ []) ≡ is_lost end
-lost_now ends end h = has_lost_one_more ends end ∙ subst (λ b. (if is_lost end then true else b) ≡ is_lost end) (sym h) (same (is_lost end))
+-- one more that did not
+pub none_lost_more : (ends : List End) (end : End) → has_lost ends ≡ false → is_lost end ≡ false → has_lost (ends ++ end ∷ []) ≡ false
+none_lost_more ends end none lives = has_lost_one_more ends end ∙ (subst (λ b. (if b then true else has_lost ends) ≡ has_lost ends) (sym lives) refl ∙ none)
 
 -- one more hand whose history is legal
 pub legal_more : (sectors : ℕ) (base : List ℕ) (hands : List (Sight Row)) (hand : Sight Row) → AreLegal sectors base hands → IsLegal sectors base false hand.seen → AreLegal sectors base (hands ++ hand ∷ [])

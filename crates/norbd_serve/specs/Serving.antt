@@ -1,5 +1,6 @@
 -- What came of the connections that were served. Source: own.
 use Rattle.std.specs.Prelude.{◌≡◌, ℕ, List, [], ◌∷◌, Bool, true, false, if◌then◌else◌, vec_len}
+use Rattle.std.specs.Prelude.{Option, Some, None}
 use Rattle.history.specs.Notes.{Sight}
 use Rattle.share.specs.declared.recorder.Row.{Row}
 use Rattle.share.specs.History.{IsLegal}
@@ -7,7 +8,7 @@ use Rattle.share.specs.Seat.{Seat}
 use Rattle.share.specs.declared.connection.End.{End}
 use Rattle.share.specs.declared.connection.End.TheVariants.{Closed, EndOfInput, Input, Output, Lost}
 use Rattle.share.specs.declared.connection.End.TheVariants.{OutOfMemory}
-use Rattle.norbd_serve.specs.declared.serving.Served.{Served}
+use Rattle.norbd_serve.specs.declared.kept.Served.{Served}
 
 -- the connection ended since a command was lost
 abbrev pub is_lost : End → Bool
@@ -50,3 +51,8 @@ pub record Returns {L : Type 0} (sound : Bool) (sectors : ℕ) (base : List ℕ)
   pub hands : vec_len served.hands ≡ count
   pub none_lost : has_lost served.ends.items ≡ false
   pub legal : sound ≡ true → AreLegal sectors base served.hands.items
+
+-- As many as were asked for were served. Where no number was, serving never ends well.
+abbrev pub ReturnsAsked : {L : Type 0} → Bool → ℕ → List ℕ → Option ℕ → Served L → Type 0
+ReturnsAsked sound sectors base None served = ⊥
+ReturnsAsked sound sectors base (Some count) served = Returns sound sectors base count served

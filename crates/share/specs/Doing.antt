@@ -95,6 +95,7 @@ pub record Executes (keeps : Bool) (old new : Served) (pass pass' : Seat) (comma
   pub sound : new.disk.sound ≡ old.disk.sound
   pub goes : CountsNeverFall old.disk new.disk
   pub given : new.given ≡ old.given
+  pub returned : (new.returned ≡ old.returned) × (new.counted ≡ old.counted)
   pub closed : new.closed ≡ old.closed
   pub no_rows : keeps ≡ false → new.rows ≡ []
   -- after Lost every command is lost at once
@@ -107,6 +108,7 @@ pub record Tidied (old new : Served) (result : Result Bool DiskError) : Type 0 w
   pub base : new.base ≡ old.base
   pub interrupted : new.interrupted ≡ old.interrupted
   pub given : new.given ≡ old.given
+  pub returned : (new.returned ≡ old.returned) × (new.counted ≡ old.counted)
   pub closed : new.closed ≡ old.closed
   pub sound : new.disk.sound ≡ old.disk.sound
   pub goes : CountsNeverFall old.disk new.disk

@@ -1,7 +1,7 @@
 -- What is known of a server each time its lock is got, and what is done to it under the lock.
 -- Source: own.
-use Rattle.std.specs.Prelude.{◌≡◌, ℕ, ◌*◌, List, [], ◌∷◌, ◌++◌, length, Bool, true, false, Result}
-use Rattle.std.specs.Prelude.{Option, None, IfSome}
+use Rattle.std.specs.Prelude.{◌≡◌, ℕ, ◌+◌, ◌*◌, List, [], ◌∷◌, ◌++◌, length, Bool, true, false}
+use Rattle.std.specs.Prelude.{Option, None, Result, IfSome}
 use mathlib.Core.List.{IsPrefix}
 use Rattle.block_device.specs.declared.disk.DiskError.{DiskError}
 use Rattle.block_device.specs.Facts.{Facts}
@@ -108,3 +108,20 @@ abbrev pub TidiesLocked : Start → Result Bool DiskError → Type 0
 TidiesLocked start result =
     (a : Chronicled) × ((b : Chronicled) × (IsChronicled start a × Tidied a.served b.served result
     × (b.rows ≡ a.rows) × IsChronicled start b))
+
+-- and one end of a connection: the history at that time begins with all that its hand had seen, and
+-- has no other row of its number
+pub record EndsLocked (start : Start) (hand : Sight Row) (pass : Seat) : Type 0 where
+  pub before : Chronicled
+  pub after : Chronicled
+  pub known : IsChronicled start before
+  pub by : hand.by ≡ pass.connection
+  pub seen : IsPrefix hand.seen before.rows
+  pub own : entries_by connection_of hand.by before.rows
+      ≡ entries_by connection_of hand.by hand.seen
+  pub rows : after.rows ≡ before.rows
+  pub returned : after.served ≡ record before.served {
+    returned = before.served.returned + 1;
+    counted = before.served.counted + pass.count;
+  }
+  pub then : IsChronicled start after

@@ -25,13 +25,16 @@ pub record IsKept (sectors : ℕ) (disk : Facts) (base : List ℕ) (rows : List 
   pub whole : disk.cut ≡ false → interrupted ≡ None
 
 -- a server: its disk, the contents at the start, its rows, the command that a cut interrupted,
--- how many passes it gave, whether their counts are closed, and whether a command was lost
+-- how many passes it gave, how many of them came back and with how many rows, whether the counts
+-- are closed, and whether a command was lost
 pub record Served : Type 0 where
   pub disk : Facts
   pub base : List ℕ
   pub rows : List Row
   pub interrupted : Option Interrupted
   pub given : ℕ
+  pub returned : ℕ
+  pub counted : ℕ
   pub closed : Bool
   pub lost : Bool
 

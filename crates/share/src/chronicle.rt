@@ -1,7 +1,7 @@
 //! A server with its history, which exists in proofs alone, so that a server that keeps no rows has
 //! one too.
 
-ghost use Rattle.std.specs.Prelude.{◌≡◌, ◌<◌, ℕ, List, [], length, None, true, false, IfSome};
+ghost use Rattle.std.specs.Prelude.{◌≡◌, ◌+◌, ◌<◌, ℕ, List, [], length, None, true, false, IfSome};
 ghost use mathlib.Core.List.{IsPrefix};
 ghost use Rattle.history.specs.Notes.{entries_by};
 ghost use Rattle.nbd_wire.specs.Commands.{judge_of};
@@ -23,7 +23,7 @@ use std::sync::Wait;
 /// The parts of a row that are lent.
 #[derive(Drop)]
 pub struct RowParts<'a> {
-    connection: u32,
+    connection: u64,
     command: Command,
     error: u32,
     bytes: &'a [u8],
@@ -136,7 +136,7 @@ impl<D: Disk, R: Recorder, L: OneServer> Chronicle<D, R, L> {
             → IfSome result (λ r. IsLegal L.sectors L.base false r.1.seen) }
     {
         self.known();
-        if hands.given() >= 65_536 {
+        if hands.given() >= 1 << 62 {
             return None;
         }
         let pass = self.shared.pass()?;
@@ -155,6 +155,27 @@ impl<D: Disk, R: Recorder, L: OneServer> Chronicle<D, R, L> {
             ≡ entries_by connection_of hand.now.by hand.now.seen }
     {
         self.keeper.meet(wait, hand);
+    }
+
+    /// A connection ends: its pass comes back, and its hand is met for the last time. Waits for
+    /// good where their numbers differ.
+    pub fn end<W: Wait>(&mut self, wait: &W, pass: Pass<L>, hand: Hand<Row, L>)
+        ensures by { hand.by ≡ pass.connection }
+        ensures rows { self.new.rows ≡ self.old.rows }
+        ensures served { self.new.served ≡ record self.old.served {
+          returned = self.old.served.returned + 1;
+          counted = self.old.served.counted + pass.count;
+        } }
+        ensures before { IsPrefix hand.seen self.old.rows }
+        ensures own { entries_by connection_of hand.by self.old.rows
+            ≡ entries_by connection_of hand.by hand.seen }
+    {
+        if pass.connection() != hand.by() {
+            stop(wait);
+            unreachable!()
+        }
+        self.keeper.meet(wait, &hand);
+        self.shared.take_back(pass);
     }
 
     /// One step of tidying.

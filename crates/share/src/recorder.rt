@@ -45,7 +45,7 @@ impl Bytes {
 /// error (0, or EIO), and the data of a READ that was answered 0.
 #[derive(Drop)]
 pub struct Row {
-    pub connection: u32,
+    pub connection: u64,
     pub command: Command,
     pub payload: Bytes,
     pub error: u32,
@@ -96,7 +96,7 @@ pub trait Recorder {
 
     /// Adds a row, in the memory that `prepare` took. `bytes` are those that were lent to the
     /// command.
-    fn add(&mut self, connection: u32, command: &Command, error: u32, bytes: &[u8])
+    fn add(&mut self, connection: u64, command: &Command, error: u32, bytes: &[u8])
         requires { room self.old (length bytes.now) }
         ensures base { base self.new ≡ base self.old }
         ensures rows { rows self.new ≡ rows_with KEEPS (rows self.old)
@@ -140,7 +140,7 @@ impl Recorder for NoRecord {
         Ok(())
     }
 
-    fn add(&mut self, _connection: u32, _command: &Command, _error: u32, _bytes: &[u8]) {}
+    fn add(&mut self, _connection: u64, _command: &Command, _error: u32, _bytes: &[u8]) {}
 
     fn interrupt(&mut self, _command: &Command, _bytes: &[u8]) {}
 }
@@ -261,7 +261,7 @@ impl Recorder for FullRecord {
         self.spare.reserve(bytes)
     }
 
-    fn add(&mut self, connection: u32, command: &Command, error: u32, bytes: &[u8]) {
+    fn add(&mut self, connection: u64, command: &Command, error: u32, bytes: &[u8]) {
         let spare = mem::replace(&mut self.spare, Vec::new(self.alloc));
         let (payload, reply) = parts(self.alloc, spare, command, error, bytes);
         self.rows.push_reserved(Row {

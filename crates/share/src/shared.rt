@@ -110,6 +110,8 @@ impl<D: Disk, R: Recorder, L: OneServer> Model for Shared<D, R, L> {
       rows = R.rows s.recorder;
       interrupted = R.interrupted s.recorder;
       given = s.counts.given;
+      returned = s.counts.returned;
+      counted = s.counts.counted;
       closed = s.counts.closed;
       lost = s.lost;
     } };
@@ -138,6 +140,7 @@ impl<D: Disk, L: OneServer> Shared<D, NoRecord, L> {
         ensures disk { result.disk ≡ D.facts disk }
         ensures rows { (result.rows ≡ []) × (result.interrupted ≡ None) }
         ensures given { (result.given ≡ 0) × (result.closed ≡ false) }
+        ensures returned { (result.returned ≡ 0) × (result.counted ≡ 0) }
         ensures lost { result.lost ≡ false }
     {
         Shared {
@@ -170,6 +173,7 @@ impl<D: Disk, L: OneServer> Shared<D, FullRecord, L> {
             × CountsNeverFall (D.facts disk) s.disk) }
         ensures rows { IfOk result (λ s. (s.rows ≡ []) × (s.interrupted ≡ None)) }
         ensures given { IfOk result (λ s. (s.given ≡ 0) × (s.closed ≡ false)) }
+        ensures returned { IfOk result (λ s. (s.returned ≡ 0) × (s.counted ≡ 0)) }
         ensures lost { IfOk result (λ s. s.lost ≡ false) }
         ensures cut { IfErr result (λ e. e.0 ≡ RecordError.Cut
             → ((D.facts e.1).cut ≡ true) ×
@@ -275,11 +279,12 @@ impl<D: Disk, R: Recorder, L: OneServer> Shared<D, R, L> {
         &self.disk
     }
 
-    /// The pass with the next number: 0, 1, 2 and so on to 65,535, each once; then None, and also
-    /// once `total` answered Some.
+    /// The pass with the next number: 0, 1, 2 and so on, each once. None while 65,536 passes are
+    /// out, after 2^62 passes, and once `total` answered Some.
     pub fn pass(&mut self) -> Option<Pass<L>>
         ensures next { IfSome result (λ p. (p.connection ≡ self.old.given) × (p.count ≡ 0)) }
-        ensures some { IsSome result ↔ ((self.old.closed ≡ false) × (self.old.given < 65536)) }
+        ensures some { IsSome result ↔ ((self.old.closed ≡ false)
+            × (self.old.given < self.old.returned + 65536) × (self.old.given < 2 ^ 62)) }
         ensures given { OnSome result (self.new ≡ record self.old { given = self.old.given + 1 }) }
         ensures none { IfNone result (self.new ≡ self.old) }
     {
@@ -287,13 +292,23 @@ impl<D: Disk, R: Recorder, L: OneServer> Shared<D, R, L> {
         self.counts.pass(sectors)
     }
 
-    /// How many rows were added: the sum of the counts of the passes, exactly where every pass that
-    /// was given is handed in. From then on `pass` and `total` answer None. None drops the passes,
-    /// and changes nothing else.
+    /// A pass comes back: another may be given in its place, with a number of its own, and its rows
+    /// stay in the total.
+    pub fn take_back(&mut self, pass: Pass<L>)
+        ensures { self.new ≡ record self.old
+            { returned = self.old.returned + 1; counted = self.old.counted + pass.count } }
+    {
+        self.counts.take_back(pass);
+    }
+
+    /// How many rows were added: the sum of the counts of the passes that came back and of those
+    /// that are handed in, exactly where these are all that are out. From then on `pass` and
+    /// `total` answer None. None drops the passes, and changes nothing else.
     pub fn total(&mut self, passes: Vec<Pass<L>>) -> Option<u64>
-        ensures some { IsSome result ↔
-            ((self.old.closed ≡ false) × (vec_len passes ≡ self.old.given)) }
-        ensures sum { IfSome result (λ n. n ≡ sum_by (λ p. p.count) passes.items) }
+        ensures some { IsSome result ↔ ((self.old.closed ≡ false)
+            × (self.old.returned + vec_len passes ≡ self.old.given)) }
+        ensures sum { IfSome result
+            (λ n. n ≡ self.old.counted + sum_by (λ p. p.count) passes.items) }
         ensures rows { IfSome result (λ n. n ≡ length self.old.rows) }
         ensures closed { OnSome result (self.new ≡ record self.old { closed = true }) }
         ensures none { IfNone result (self.new ≡ self.old) }
@@ -347,6 +362,8 @@ fn note<R: Recorder, L: OneServer>(
     ensures fits { length (R.rows recorder.old) < 2 ^ 64 → length (R.rows recorder.new) < 2 ^ 64 }
     ensures given { (counts.new.given ≡ counts.old.given)
         × (counts.new.closed ≡ counts.old.closed) }
+    ensures returned { (counts.new.returned ≡ counts.old.returned)
+        × (counts.new.counted ≡ counts.old.counted) }
     ensures count { pass.new.count ≡ one_more R.KEEPS pass.old.count }
     ensures connection { pass.new.connection ≡ pass.old.connection }
 {

@@ -5,14 +5,14 @@ use Rattle.norbd.proofs.Telling.{begun, ended, first-failed, serving-failed}
 use Rattle.norbd_line.specs.declared.fault.Fault.{Fault}
 use Rattle.norbd.proofs.serving.serve_shared.Goals as goal
 
-pub returns-in-Err-tell : goal.returns-in-Err-tell
-returns-in-Err-tell g c =
+pub returns-in-Err-tell-clause-tells : goal.returns-in-Err-tell-clause-tells
+returns-in-Err-tell-clause-tells g c =
     first-failed (Unit {0}) c.serving_text-first.result c.args.asked.port c.args.asked.conns c.args.sectors g.C.Recorder.KEEPS
     (g.K.Sink.written c.args.writer.now) (g.K.Sink.written c.tell.new.writer) (g.K.Sink.faults c.args.writer.now) (g.K.Sink.faults c.tell.new.writer)
     c.in-Err-tell.fault c.serving_text-first.ensures c.in-Err-tell.ensures
 
-pub returns-in-Err-serve : goal.returns-in-Err-serve
-returns-in-Err-serve g c =
+pub returns-in-Err-serve-clause-tells : goal.returns-in-Err-serve-clause-tells
+returns-in-Err-serve-clause-tells g c =
     let old = g.K.Sink.written c.args.writer.now in
     let f = g.K.Sink.faults c.args.writer.now in
     let new = g.K.Sink.written c.tell.new.writer in
@@ -21,8 +21,8 @@ returns-in-Err-serve g c =
     subst P (sym c.told_of_serving-in-Err-serve.ensures)
     (serving-failed (Unit {0}) c.args.asked.port c.args.asked.conns g.C.Recorder.KEEPS old new f z c.in-Err-serve.fault (begun c.serving_text-first.result c.args.asked.port c.args.sectors old new f z c.serving_text-first.ensures c.in_default-tell.ensures))
 
-pub returns-in-Err-finish : goal.returns-in-Err-finish
-returns-in-Err-finish g c =
+pub returns-in-Err-finish-clause-tells : goal.returns-in-Err-finish-clause-tells
+returns-in-Err-finish-clause-tells g c =
     let old = g.K.Sink.written c.args.writer.now in
     let f = g.K.Sink.faults c.args.writer.now in
     let new = g.K.Sink.written c.tell.new.writer in
@@ -31,13 +31,13 @@ returns-in-Err-finish g c =
     subst P (sym c.in-Err-finish.ensures)
     (begun c.serving_text-first.result c.args.asked.port c.args.sectors old new f z c.serving_text-first.ensures c.in_default-tell.ensures)
 
-pub returns-in_default-total : goal.returns-in_default-total
-returns-in_default-total g c =
+pub returns-in_default-total-clause-tells : goal.returns-in_default-total-clause-tells
+returns-in_default-total-clause-tells g c =
     begun c.serving_text-first.result c.args.asked.port c.args.sectors (g.K.Sink.written c.args.writer.now) (g.K.Sink.written c.tell.new.writer) (g.K.Sink.faults c.args.writer.now) (g.K.Sink.faults c.tell.new.writer)
     c.serving_text-first.ensures c.in_default-tell.ensures
 
-pub returns : goal.returns
-returns g c =
+pub returns-clause-tells : goal.returns-clause-tells
+returns-clause-tells g c =
     let last-is = subst (λ k. IfOk c.ended_text-last.result (λ t. string_bytes t ≡ ended_text k c.args.asked.conns c.in-Some.rows)) c.KEEPS.ensures c.ended_text-last.ensures in
     ended c.serving_text-first.result c.ended_text-last.result c.args.asked.port c.args.asked.conns c.args.sectors c.in-Some.rows g.C.Recorder.KEEPS
     (g.K.Sink.written c.args.writer.now) (g.K.Sink.written c.tell.new.writer) (g.K.Sink.written c.tell-2.new.writer)

@@ -96,6 +96,7 @@ returns-in-Err-Cut g c =
         sound = r.sound;
         goes = r.goes;
         given = refl {a = c.self.inside.counts.given};
+        returned = (refl {a = c.self.inside.counts.returned}, refl {a = c.self.inside.counts.counted});
         closed = refl {a = c.self.inside.counts.closed};
         no_rows = g.met.R.Recorder.nothing c.interrupt.new.self;
         stays_lost = λ l. absurd (both_ways _ c.if-lost.false l);

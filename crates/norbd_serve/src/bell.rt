@@ -1,0 +1,120 @@
+//! What wakes the keeper: a change of the disk.
+
+ghost use Rattle.std.specs.Prelude.{◌≡◌, length, None};
+ghost use Rattle.nbd_wire.specs.Commands.{judge_of};
+ghost use Rattle.nbd_wire.specs.Lent.{lent_len};
+ghost use Rattle.share.specs.Promise.{Promise};
+
+use block_device::DiskError;
+use nbd_wire::{Command, CommandKind};
+use share::{Done, Door, Gate, OneServer, Pass, Point};
+use std::sync::atomic::{AtomicBool, Ordering};
+use std::sync::{Condvar, Mutex, Wait};
+
+/// Is rung after each command that may have changed the disk. The keeper sleeps until then where it
+/// found nothing to tidy.
+#[derive(Drop)]
+pub(crate) struct Bell {
+    rung: Mutex<bool>,
+    ringing: Condvar,
+    idle: AtomicBool,
+}
+
+impl Bell {
+    pub(crate) fn new() -> Bell {
+        Bell {
+            rung: Mutex::new(false),
+            ringing: Condvar::new(),
+            idle: AtomicBool::new(false),
+        }
+    }
+
+    /// Wakes the keeper, where it sleeps.
+    pub(crate) fn ring<W: Wait>(&self, wait: &W) {
+        let mut rung = self.rung.lock(wait);
+        if !*rung {
+            *rung = true;
+            self.ringing.notify_all();
+        }
+    }
+
+    /// Sleeps until the bell was rung since it was last waited for.
+    fn wait<W: Wait>(&self, wait: &W) {
+        let mut rung = self.rung.lock(wait);
+        for _ in wait.forever() {
+            if *rung {
+                *rung = false;
+                return;
+            }
+            rung = self.ringing.wait(wait, rung);
+        }
+    }
+}
+
+/// Whether a command of this kind may change the disk.
+fn may_change(kind: CommandKind) -> bool {
+    match kind {
+        CommandKind::Write | CommandKind::Trim | CommandKind::WriteZeroes => true,
+        _ => false,
+    }
+}
+
+/// A door that rings the bell after each command that may have changed the disk, and notes where
+/// nothing was left to tidy.
+#[derive(Drop)]
+pub(crate) struct Ringing<'s, T, W: Wait> {
+    pub(crate) door: T,
+    pub(crate) bell: &'s Bell,
+    pub(crate) wait: &'s W,
+}
+
+impl<'s, L: OneServer, T: Door<L>, W: Wait> Door<L> for Ringing<'s, T, W> {
+    ghost keeps = { T.keeps };
+
+    ghost executes = { λ old new pass pass' command bytes done.
+        T.executes old.door new.door pass pass' command bytes done };
+
+    ghost tidies = { λ old new result. T.tidies old.door new.door result };
+
+    fn execute<'a>(
+        &mut self,
+        pass: &mut Pass<L>,
+        command: &Command,
+        data: &'a mut [u8],
+    ) -> Done<'a> {
+        let done = self.door.execute(pass, command, data);
+        if may_change(command.kind) {
+            self.bell.ring(self.wait);
+        }
+        done
+    }
+
+    fn tidy(&mut self) -> Result<bool, DiskError> {
+        let result = self.door.tidy();
+        if let Ok(false) = result {
+            self.bell.idle.store(true, Ordering::SeqCst);
+        }
+        result
+    }
+}
+
+/// The keeper's gate: where nothing was left to tidy it waits for the bell first.
+#[derive(Drop)]
+pub(crate) struct Resting<'s, K, W: Wait> {
+    pub(crate) gate: K,
+    pub(crate) bell: &'s Bell,
+    pub(crate) wait: &'s W,
+}
+
+impl<'s, K: Gate, W: Wait> Gate for Resting<'s, K, W> {
+    ghost passes = { λ gate after points. Unit {0} };
+
+    fn pass(&mut self, point: Point) {
+        if self.bell.idle.swap(false, Ordering::SeqCst) {
+            self.bell.wait(self.wait);
+        }
+        self.gate.pass(point);
+    }
+
+    ghost none = { λ gate. tt };
+}
