@@ -1,7 +1,6 @@
 //! A chip of 64 KiB with some bytes set, what is called of its journal, and what is left of its
 //! memory.
 
-use crate::byte_at;
 use erase_journal::{Journal, RecoverError};
 use fault_model::SimChip;
 use nor_driver::{Driver, NorError};
@@ -46,26 +45,6 @@ pub(crate) fn set(bytes: &mut [u8], at: usize, byte: u8) {
     if let Some(place) = bytes.get_mut(at) {
         *place = byte;
     }
-}
-
-/// Sets the bytes from a place up to another.
-pub(crate) fn fill(bytes: &mut [u8], from: usize, to: usize, byte: u8) {
-    for at in from..to {
-        set(bytes, at, byte);
-    }
-}
-
-/// The four bytes from a place on, where there are so many.
-pub(crate) fn four(bytes: &[u8], at: usize) -> Option<[u8; 4]> {
-    match bytes.get(at..at.saturating_add(4)) {
-        Some([first, second, third, fourth]) => Some([*first, *second, *third, *fourth]),
-        _ => None,
-    }
-}
-
-/// The first byte from a place on, where there is one.
-pub(crate) fn first_of(bytes: &[u8], at: usize) -> Option<u8> {
-    byte_at(bytes, at)
 }
 
 /// A chip with this memory whose `cut`-th change is cut, 0 for none; a cut change leaves what

@@ -1,21 +1,11 @@
-//! Tests of the layout and the journals: what no clause of one crate says, and the worked rows of
-//! several at once.
+//! A sweep of the journals that is no case of `cases`: a run of 600 erases, of which each change is
+//! cut by five masks, and cut again in the recovery.
 //!
-//! There is no product code here. `byte_at` reads a byte of a memory. The chip is
-//! `fault_model::SimChip`. Expected bytes are those of the tables in docs/LAYOUT.md, worked out by
-//! hand. The chip, its table and its driver are tested in `acceptance_chip`, the slots of sectors
-//! in `acceptance_sectors`.
+//! There is no product code here. The chip is `fault_model::SimChip`.
 
 #![tactic(auto)]
 
 #[cfg(test)]
 mod chips;
 #[cfg(test)]
-mod journal;
-#[cfg(test)]
-mod layout;
-mod places;
-#[cfg(test)]
 mod sweep;
-
-pub use places::byte_at;

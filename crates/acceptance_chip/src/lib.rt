@@ -1,33 +1,9 @@
-//! Tests of the crates from the chip to its driver: what no clause of one crate says, and the
-//! worked rows of several at once.
+//! Tests of chips whose memory is kept in a file: what the file holds, and when. What a chip in
+//! memory answers, and its driver, are cases of `cases`.
 //!
-//! There is no product code here. `Recorder` is a bus over a simulated chip that counts its frames
-//! and keeps the codes of the first ones. Expected bytes and answers are those of the tables in
-//! docs/CHIP.md, worked out by hand, and tables of real parts. What is above the driver is tested
-//! in `acceptance`.
+//! There is no product code here.
 
 #![tactic(auto)]
 
 #[cfg(test)]
-mod changes;
-#[cfg(test)]
-mod chips;
-#[cfg(test)]
-mod discovery;
-#[cfg(test)]
-mod frames;
-#[cfg(test)]
 mod images;
-#[cfg(test)]
-mod operations;
-#[cfg(test)]
-mod part_tables;
-#[cfg(test)]
-mod parts;
-#[cfg(test)]
-mod protection;
-mod recorder;
-#[cfg(test)]
-mod tables;
-
-pub use recorder::Recorder;

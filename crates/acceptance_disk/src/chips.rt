@@ -2,7 +2,7 @@
 
 use block_device::{Disk, DiskError};
 use fault_model::SimChip;
-use flash_disk::{FlashDisk, MountError, format};
+use flash_disk::{FlashDisk, format};
 use std::alloc::Global;
 use std::marker::Brand;
 use std::test::*;
@@ -77,40 +77,5 @@ pub(crate) fn write(
     match bytes.get(..512 * count.min(2)) {
         Some(bytes) => put(disk, first, bytes),
         None => Err(Fail::new("more than two sectors")),
-    }
-}
-
-/// Writes all 70 sectors of the disk in one write.
-pub(crate) fn write_all(
-    alloc: Global,
-    disk: &mut OnSim,
-    byte: u8,
-) -> Result<Result<(), DiskError>, Fail> {
-    let mut bytes = Vec::new(alloc);
-    bytes.resize(35_840, byte)?;
-    put(disk, 0, bytes.as_slice())
-}
-
-/// The byte that fills a sector.
-pub(crate) fn byte_of(disk: &mut OnSim, sector: u32) -> Result<u8, Fail> {
-    let mut bytes = [0x77u8; 512];
-    if sector >= disk.sectors() {
-        return Err(Fail::new("a sector past the disk"));
-    }
-    if disk.read(sector, &mut bytes) != Ok(()) {
-        return Err(Fail::new("not read"));
-    }
-    if count(&bytes, 0, 512, bytes[0]) != 512 {
-        return Err(Fail::new("a sector of several bytes"));
-    }
-    Ok(bytes[0])
-}
-
-/// The refusal of a mount, and the memory of the chip that it hands back.
-pub(crate) fn refused(alloc: Global, chip: SimChip) -> Result<(MountError, Vec<u8>), Fail> {
-    let answer: Result<OnSim, (SimChip, MountError)> = FlashDisk::mount(alloc, chip);
-    match answer {
-        Ok(_) => Err(Fail::new("mounted")),
-        Err((chip, error)) => Ok((error, chip.into_inner())),
     }
 }

@@ -1,6 +1,5 @@
 //! Scripts and transcripts out of texts with names.
 
-use crate::changes::ARMINGS;
 use crate::phrases::PHRASES;
 use crate::record_head;
 use spelling;
@@ -8,7 +7,7 @@ use std::alloc::Global;
 use std::test::*;
 
 /// The bytes that a text spells: words of hexadecimal digits, `BYTE*COUNT` for a byte so many
-/// times, and names of the tables.
+/// times, and names of the table.
 pub(crate) fn bytes_of(alloc: Global, text: &str) -> Result<Vec<u8>, Fail> {
     let mut bytes = Vec::new(alloc);
     for word in text.split(' ') {
@@ -29,12 +28,11 @@ fn found_in(table: &'static [&'static str], word: &str) -> Option<&'static str> 
     None
 }
 
-/// The text that a name of the tables represents, or the word itself.
+/// The text that a name represents, or the word itself.
 fn named(word: &str) -> &str {
-    match (found_in(&ARMINGS, word), found_in(&PHRASES, word)) {
-        (Some(text), _) => text,
-        (None, Some(text)) => text,
-        (None, None) => word,
+    match found_in(&PHRASES, word) {
+        Some(text) => text,
+        None => word,
     }
 }
 

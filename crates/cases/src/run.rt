@@ -1,0 +1,269 @@
+//! A case, run line by line.
+
+use crate::bench::Bench;
+use crate::chip::Loss;
+use crate::fault::Fault;
+use crate::losses::{Line, Losses};
+use crate::names::Names;
+use crate::words::halves;
+use std::alloc::Global;
+
+/// Why a line did not come out as written.
+#[derive(Drop)]
+pub(crate) enum Wrong {
+    /// Something else came of it; the second text says after which loss of power.
+    Otherwise(usize, String, String),
+    /// It could not be run.
+    NotRun(usize, Fault),
+}
+
+/// The answer to a line, or why it could not be run.
+fn at<T: Drop>(line: Line, answer: Result<T, Fault>) -> Result<T, Wrong> {
+    match answer {
+        Ok(value) => Ok(value),
+        Err(fault) => Err(Wrong::NotRun(line.number, fault)),
+    }
+}
+
+/// How often a line is run, and which: `70000 times frame 05` is `frame 05`, so often.
+fn times(text: &str) -> (u32, &str) {
+    match text.split_once(" times ") {
+        Some((number, rest)) => match number.parse::<u32>() {
+            Ok(number) => (number, rest),
+            Err(_) => (1, text),
+        },
+        None => (1, text),
+    }
+}
+
+/// A loss of power as a text, and the second one where there is one.
+fn tell_loss(alloc: Global, loss: Loss, second: u32) -> Result<String, Fault> {
+    let Loss { count, kind, mask } = loss;
+    let what = if kind == 0 { "frame" } else { "change" };
+    if second == 0 {
+        return Ok(format!(in alloc; "{what} {count}, mask {mask:02X}")?);
+    }
+    Ok(format!(in alloc; "{what} {count}, mask {mask:02X}, and then {what} {second}")?)
+}
+
+/// The wrong answer that a line made so many changes, or that it made more.
+fn wrong_number(alloc: Global, line: Line, made: u32, is_more: bool) -> Wrong {
+    let more = if is_more { "more than " } else { "" };
+    match format!(in alloc; "{more}{made}") {
+        Ok(text) => Wrong::Otherwise(line.number, text, String::new(alloc)),
+        Err(_) => Wrong::NotRun(line.number, Fault::NoMemory),
+    }
+}
+
+/// What a case has come to.
+#[derive(Drop)]
+pub(crate) struct Case<'a> {
+    bench: Bench,
+    /// Its lines so far, but those of losses.
+    past: Vec<Line<'a>>,
+}
+
+impl<'a> Case<'a> {
+    /// A case of which no line was run.
+    pub(crate) fn new(alloc: Global) -> Case<'a> {
+        Case {
+            bench: Bench::new(alloc),
+            past: Vec::new(alloc),
+        }
+    }
+
+    /// Runs a line: None where what came of it is what it says, and else what came.
+    fn other(&mut self, alloc: Global, names: &Names, text: &str) -> Result<Option<String>, Fault> {
+        let (what, wanted) = halves(text);
+        let came = self.bench.run(alloc, names, what, wanted)?;
+        if came.is(alloc, names, wanted)? {
+            return Ok(None);
+        }
+        Ok(Some(came.tell(alloc)?))
+    }
+
+    /// Runs a line after a loss of power, or after none, and compares what came of it.
+    fn check(
+        &mut self,
+        alloc: Global,
+        names: &Names,
+        line: Line,
+        loss: Option<(Loss, u32)>,
+    ) -> Result<(), Wrong> {
+        let Some(came) = at(line, self.other(alloc, names, line.text))? else {
+            return Ok(());
+        };
+        let told = match loss {
+            Some((loss, second)) => at(line, tell_loss(alloc, loss, second))?,
+            None => String::new(alloc),
+        };
+        Err(Wrong::Otherwise(line.number, came, told))
+    }
+
+    /// Runs a line as often as it says.
+    fn repeat(&mut self, alloc: Global, names: &Names, line: Line) -> Result<(), Wrong> {
+        let (count, text) = times(line.text);
+        let once = Line {
+            number: line.number,
+            text,
+        };
+        for _ in 0..count {
+            self.check(alloc, names, once, None)?;
+        }
+        Ok(())
+    }
+
+    /// Runs a line of the case.
+    pub(crate) fn line(
+        &mut self,
+        alloc: Global,
+        names: &Names,
+        line: Line<'a>,
+    ) -> Result<(), Wrong> {
+        self.repeat(alloc, names, line)?;
+        match self.past.push(line) {
+            Ok(()) => Ok(()),
+            Err(_) => Err(Wrong::NotRun(line.number, Fault::NoMemory)),
+        }
+    }
+
+    /// The case anew, up to where it is.
+    fn again(&self, alloc: Global, names: &Names) -> Result<Case<'a>, Wrong> {
+        let mut again = Case::new(alloc);
+        for line in self.past.iter() {
+            again.repeat(alloc, names, *line)?;
+        }
+        Ok(again)
+    }
+
+    /// Arms a loss and runs a line: whether it was lost.
+    fn is_lost(
+        &mut self,
+        alloc: Global,
+        names: &Names,
+        line: Line,
+        loss: Loss,
+    ) -> Result<bool, Fault> {
+        self.bench.arm(alloc, loss)?;
+        let (what, wanted) = halves(line.text);
+        let came = self.bench.run(alloc, names, what, wanted)?;
+        Ok(came.is_cut())
+    }
+
+    /// Runs the lines that come after a loss.
+    fn after(
+        &mut self,
+        alloc: Global,
+        names: &Names,
+        losses: &Losses,
+        loss: (Loss, u32),
+    ) -> Result<(), Wrong> {
+        for line in losses.lines.iter() {
+            self.check(alloc, names, *line, Some(loss))?;
+        }
+        Ok(())
+    }
+
+    /// Loses the power once, and then once more in this change of the first line after it; 0 for
+    /// none. False where one of the two doesn't come.
+    fn one_loss(
+        &self,
+        alloc: Global,
+        names: &Names,
+        losses: &Losses,
+        loss: Loss,
+        second: u32,
+    ) -> Result<bool, Wrong> {
+        let mut case = self.again(alloc, names)?;
+        if !at(losses.of, case.is_lost(alloc, names, losses.of, loss))? {
+            return Ok(false);
+        }
+        if let Some(recovery) = losses.lines.first()
+            && second != 0
+        {
+            let again = Loss {
+                count: second,
+                kind: loss.kind,
+                mask: loss.mask,
+            };
+            if !at(*recovery, case.is_lost(alloc, names, *recovery, again))? {
+                return Ok(false);
+            }
+        }
+        case.after(alloc, names, losses, (loss, second))?;
+        Ok(true)
+    }
+
+    /// Loses the power once, and once more in each change of the recovery where that is asked for.
+    /// False where there is no such change.
+    fn loss(
+        &self,
+        alloc: Global,
+        names: &Names,
+        losses: &Losses,
+        loss: Loss,
+    ) -> Result<bool, Wrong> {
+        if !self.one_loss(alloc, names, losses, loss, 0)? {
+            return Ok(false);
+        }
+        let most = if losses.twice { MOST } else { 1 };
+        for second in 1..most {
+            if !self.one_loss(alloc, names, losses, loss, second)? {
+                return Ok(true);
+            }
+        }
+        Ok(true)
+    }
+
+    /// Loses the power in this change by each mask. False where there is no such change.
+    fn each_mask(
+        &self,
+        alloc: Global,
+        names: &Names,
+        losses: &Losses,
+        count: u32,
+    ) -> Result<bool, Wrong> {
+        for mask in losses.masks.iter() {
+            let loss = Loss {
+                count,
+                kind: losses.kind,
+                mask: *mask,
+            };
+            if !self.loss(alloc, names, losses, loss)? {
+                return Ok(false);
+            }
+        }
+        Ok(true)
+    }
+
+    /// Loses the power in each change that is asked for. Where it is asked of each, the line makes
+    /// no more of them, and comes out well.
+    pub(crate) fn each_loss(
+        &self,
+        alloc: Global,
+        names: &Names,
+        losses: &Losses,
+    ) -> Result<(), Wrong> {
+        for count in losses.from..losses.to.saturating_add(1) {
+            if !self.each_mask(alloc, names, losses, count)? {
+                return Err(wrong_number(alloc, losses.of, count.saturating_sub(1), false));
+            }
+        }
+        if !losses.all {
+            return Ok(());
+        }
+        let next = Loss {
+            count: losses.to.saturating_add(1),
+            kind: losses.kind,
+            mask: 0xFF,
+        };
+        let mut case = self.again(alloc, names)?;
+        if at(losses.of, case.is_lost(alloc, names, losses.of, next))? {
+            return Err(wrong_number(alloc, losses.of, losses.to, true));
+        }
+        Ok(())
+    }
+}
+
+/// The most changes of a recovery.
+const MOST: u32 = 1_000;
