@@ -3,9 +3,9 @@
 //!
 //! There is no product code here. `beginning_of` gives the first bytes of a list. The tests stand
 //! by subject: `tables` is a chip's own table with each byte changed and cut short; `damage` images
-//! with bytes changed, and `looked_at` such images as they are served; `slow` a chip whose operation never ends; `lengths` payloads and option data
-//! of up to 4 GiB; `beginnings` connections and scripts that end anywhere; `memory` calls that find
-//! no memory.
+//! with bytes changed, and `looked_at` such images as they are served; `slow` a chip whose
+//! operation never ends; `lengths` payloads and option data of up to 4 GiB; `beginnings`
+//! connections and scripts that end anywhere; `memory` calls that find no memory.
 //!
 //! Source: own; expected bytes are written out by hand from NBD proto.md, docs/SCRIPT.md,
 //! docs/LAYOUT.md and docs/CHIP.md.

@@ -3,8 +3,9 @@
 //!
 //! There is no product code here. `own_sectors` parts a disk among eight connections. The tests
 //! stand by subject: `clients` is what a client sends and reads; `counted` a file that counts its
-//! syncs; `meeting` two clients at once; `crowd` eight clients with random commands on an image; `endless` servers that are left running;
-//! `server` a connection, a keeper and a power loss without a socket.
+//! syncs; `meeting` two clients at once; `crowd` eight clients with random commands on an image;
+//! `endless` servers that are left running; `server` a connection, a keeper and a power loss
+//! without a socket.
 //!
 //! Source: own; the bytes are written out by hand from NBD proto.md.
 

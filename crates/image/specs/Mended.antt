@@ -39,5 +39,6 @@ ComesOfMemory Corrupt = ⊥
 abbrev pub MendFails : List ℕ → MountError → Type 0
 MendFails bytes (Probe e) = ComesOfMemory (Probe e)
 MendFails bytes OutOfMemory = Unit {0}
-MendFails bytes NotFormatted = layout_of bytes (geometry_of (length bytes)) ≡ Err supers.NotFormatted
+MendFails bytes NotFormatted =
+    layout_of bytes (geometry_of (length bytes)) ≡ Err supers.NotFormatted
 MendFails bytes Corrupt = IsMountable bytes → ⊥

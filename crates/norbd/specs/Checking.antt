@@ -20,8 +20,8 @@ pub record Says (mends : Bool) : Type 0 where
   pub sectors : ℕ
   pub asked : mended ≡ true → mends ≡ true
 
--- What `check` writes: done, exactly the line about the image; a fault of the output, a beginning of
--- it; and nothing with a refusal of the image.
+-- What `check` writes: done, exactly the line about the image; a fault of the output, a beginning
+-- of it; and nothing with a refusal of the image.
 abbrev pub CheckTells : {T : Type 0} → Bool → Option (List ℕ) → ℕ → Result T Fault
     → Option (List ℕ) → ℕ → Type 0
 CheckTells mends old faults (Ok _) new faults' =

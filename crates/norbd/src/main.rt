@@ -8,12 +8,12 @@
 //! fault, and the exit status: 0 where the line is done, 2 for a bad line, 1 for each other fault.
 //! `run` does what a line asks, over any reader and writer; the readers and writers here are
 //! standard input and output, unbuffered, so that each reply is out before the next request is
-//! looked at. `formatting`, `scripting`, `serving` and `checking` have one line each. Left to the crates below:
-//! the words and the texts of faults (`norbd_line`), requests and replies (`share`), threads and
-//! sockets (`norbd_serve`), the chain from the chip to a transcript (`flash_station`), the disks
-//! (`block_device`, `flash_disk`), an image's bytes and its file (`image`). No contract says what
-//! is printed of a fault, nor what a file holds; tests and runs show it. Source: own for the
-//! command line and its faults; NBD proto.md for requests and replies.
+//! looked at. `formatting`, `scripting`, `serving` and `checking` have one line each. Left to the
+//! crates below: the words and the texts of faults (`norbd_line`), requests and replies (`share`),
+//! threads and sockets (`norbd_serve`), the chain from the chip to a transcript (`flash_station`),
+//! the disks (`block_device`, `flash_disk`), an image's bytes and its file (`image`). No contract
+//! says what is printed of a fault, nor what a file holds; tests and runs show it. Source: own for
+//! the command line and its faults; NBD proto.md for requests and replies.
 #![tactic(auto)]
 
 ghost use Rattle.std.specs.Prelude.{◌≡◌, ◌<◌, IfSome};

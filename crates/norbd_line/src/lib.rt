@@ -1,7 +1,7 @@
 //! The words of the program `norbd`, read into a `Line`, and the program's faults.
 //!
-//! Promised to the program above: a line (`plain`, `format`, `script`, `serve` or `check`) that `read_line`
-//! answers has its numbers in their ranges (`IsLineInRange`) and is what the words say
+//! Promised to the program above: a line (`plain`, `format`, `script`, `serve` or `check`) that
+//! `read_line` answers has its numbers in their ranges (`IsLineInRange`) and is what the words say
 //! (`IsLineOf`); a fault that it answers is one of those that the words have, a number in its range
 //! that is no size of a chip, a word that says no syncing, or want of memory (`ComesFromWords`),
 //! and such a number is never taken, for a file nor for a script (`HasOddSize`). What words say,
