@@ -66,7 +66,7 @@ where
         Ok(held) => held,
         Err(error) => return Err(told_as(error)),
     };
-    match sectors_of(rt.alloc(), bytes_of(rt.alloc(), &held)?) {
+    match sectors_of(rt.alloc(), bytes_of(rt, &held)?) {
         Ok(sectors) => Ok(Checked {
             sectors,
             mended: false,
@@ -80,11 +80,14 @@ where
 }
 
 /// The bytes of an image that is held.
-fn bytes_of<F: ImageFile>(alloc: Global, held: &Held<F>) -> Result<Vec<u8>, Fault>
+fn bytes_of<R>(rt: &R, held: &Held<R::File>) -> Result<Vec<u8>, Fault>
+where
+    R: Files + AllocGlobal,
+    R::File: ImageFile,
     ensures size { IfOk result (λ bytes. IsChipSize (length bytes.items)) }
     ensures refused { IfErr result IsRefusal }
 {
-    match held.bytes(alloc) {
+    match held.bytes(rt.alloc()) {
         Ok(bytes) => Ok(bytes),
         Err(error) => Err(told_of_file(held.length().unwrap_or(0), error)),
     }
@@ -109,7 +112,7 @@ where
     R::File: ImageFile,
     ensures { IfErr result IsRefusal }
 {
-    let mended = match mended_image(rt.alloc(), bytes_of(rt.alloc(), held)?) {
+    let mended = match mended_image(rt.alloc(), bytes_of(rt, held)?) {
         Ok(mended) => mended,
         Err(error) => return Err(told_of_mount(error)),
     };
