@@ -7,7 +7,8 @@ use Rattle.block_device.specs.Streams.{FailsToSend, Sends}
 use Rattle.block_device.proofs.Streams.{Fails-first, Sends-twice}
 use Rattle.norbd_serve.specs.declared.fault.ServeFault.{ServeFault}
 use Rattle.norbd_serve.specs.declared.fault.ServeFault.TheVariants as serves
-use Rattle.norbd.specs.Listening.{HasBegun, TellsServing, WritesText, all_text, ended_text, serving_text, told_of_serving}
+use Rattle.norbd.specs.Checking.{CheckTells, Says, checked_text}
+use Rattle.norbd.specs.Listening.{HasBegun, IsRefusal, TellsServing, WritesText, all_text, ended_text, serving_text, told_of_serving}
 use Rattle.norbd_line.specs.declared.fault.Fault.{Fault}
 use Rattle.norbd_line.specs.declared.fault.Fault.TheVariants.{NoMemory, OutputFailed}
 
@@ -64,3 +65,12 @@ ended {T = T} one two port conns sectors rows keeps old mid new f g h (Err e) is
         Sends-twice old mid new f g h (serving_text sectors port) (ended_text keeps conns rows) (failed-with T e) (begin, first.1) (same-bytes two (ended_text keeps conns rows) (λ x. FailsToSend mid g x new h) are failed.1),
       )
     ]
+
+-- the line about an image that was checked
+pub checked : {Z X T : Type 0} (mends : Bool) (s : Says mends) (text : Result (String Z) X) (old new : Option (List ℕ)) (f g : ℕ) (result : Result T Fault)
+    → IfOk text (λ t. string_bytes t ≡ checked_text s.mended s.sectors) → WritesText text old f result new g → CheckTells mends old f result new g
+checked mends s text old new f g (Ok u) is h = (s, same-bytes text (checked_text s.mended s.sectors) (λ x. Appends old new x) is h.0, h.1)
+checked mends s text old new f g (Err e) is h = elim h [
+  | inl none ↦ inl (subst IsRefusal (sym none.0) tt, (none.1, none.2))
+  | inr failed ↦ inr (failed.0, (s, same-bytes text (checked_text s.mended s.sectors) (λ x. FailsToSend old f x new g) is failed.1))
+]

@@ -5,11 +5,11 @@ use Rattle.norbd.proofs.Telling.{begun, ended, first-failed, serving-failed}
 use Rattle.norbd_line.specs.declared.fault.Fault.{Fault}
 use Rattle.norbd.proofs.serving.serve_shared.Goals as goal
 
-pub returns-in-Err-tell-clause-tells : goal.returns-in-Err-tell-clause-tells
-returns-in-Err-tell-clause-tells g c =
+pub returns-in-Err-clause-tells : goal.returns-in-Err-clause-tells
+returns-in-Err-clause-tells g c =
     first-failed (Unit {0}) c.serving_text-first.result c.args.asked.port c.args.asked.conns c.args.sectors g.C.Recorder.KEEPS
     (g.K.Sink.written c.args.writer.now) (g.K.Sink.written c.tell.new.writer) (g.K.Sink.faults c.args.writer.now) (g.K.Sink.faults c.tell.new.writer)
-    c.in-Err-tell.fault c.serving_text-first.ensures c.in-Err-tell.ensures
+    c.in-Err.fault c.serving_text-first.ensures c.in-Err.ensures
 
 pub returns-in-Err-serve-clause-tells : goal.returns-in-Err-serve-clause-tells
 returns-in-Err-serve-clause-tells g c =
@@ -18,7 +18,7 @@ returns-in-Err-serve-clause-tells g c =
     let new = g.K.Sink.written c.tell.new.writer in
     let z = g.K.Sink.faults c.tell.new.writer in
     let P : Fault → Type 0 = λ x. TellsServing {T = Unit {0}} c.args.asked.port c.args.asked.conns g.C.Recorder.KEEPS old f (Err x) new z in
-    subst P (sym c.told_of_serving-in-Err-serve.ensures)
+    subst P (sym c.told_of_serving.ensures)
     (serving-failed (Unit {0}) c.args.asked.port c.args.asked.conns g.C.Recorder.KEEPS old new f z c.in-Err-serve.fault (begun c.serving_text-first.result c.args.asked.port c.args.sectors old new f z c.serving_text-first.ensures c.in_default-tell.ensures))
 
 pub returns-in-Err-finish-clause-tells : goal.returns-in-Err-finish-clause-tells
