@@ -5,8 +5,10 @@ ghost use Rattle.std.specs.Prelude.{◌≡◌, ◌*◌, length, IsFalse};
 ghost use Rattle.std.specs.Thread.{IsSend, IsSync};
 
 use crate::clients::{ask, begin, is_answered};
+use crate::counted::Counted;
 use crate::server::{OnSim, formatted};
 use block_device::Disk;
+use durable::{Durable, Policy};
 use history::Opened;
 use norbd_serve::{Connections, OpenGate, ServeFault, listen, serve};
 use share::{Chronicle, FullRecord, Gate, OneServer, Point, Row, Server, Shared};
@@ -250,6 +252,9 @@ where
     let connections = Connections::new(alloc, gates, hands, case.asked, limit)?;
     let passed = AtomicU32::new(0);
     let passed = &passed;
+    let syncs = AtomicU32::new(0);
+    let durable = Durable::new(Counted { syncs: &syncs }, Policy::Never);
+    let durable = &durable;
     let seen = &server;
     let (served, right) = thread::scope(
         thread::scope_env(),
@@ -261,7 +266,7 @@ where
                 return (Err(ServeFault::NoThread), None);
             };
             let resting = Counting { clock: rt, passed };
-            let served = serve(rt, alloc, seen, listener, connections, resting);
+            let served = serve(rt, alloc, seen, durable, listener, connections, resting);
             (served.map(|all| all.ends.len()), Some(clients.join(rt)))
         },
     );
