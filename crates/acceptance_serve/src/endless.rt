@@ -18,14 +18,13 @@ use std::marker::Brand;
 use std::net::{Net, SocketAddr, TcpListener, TcpStream};
 use std::os::fd::AsRawFd;
 use std::process::Abort;
-use std::rt::Files;
 use std::sync::Wait;
 use std::sync::atomic::{AtomicU32, Ordering};
 use std::sync::ledger::Blank;
 use std::test::*;
 use std::thread::Threads;
 use std::time::{Clock, Duration, Instant};
-use std::{fs, io, thread};
+use std::{io, thread};
 
 /// The connections of the server without end, before the two that meet the loss of power.
 const MANY: u64 = 2_000;
@@ -92,41 +91,19 @@ fn visit<H: Net<Stream = TcpStream>>(rt: &H, addr: SocketAddr) -> io::Result<boo
     Ok(right && is_closed(&mut stream))
 }
 
-/// The pages of this process, and those in memory.
-fn pages<H: Files + AllocGlobal>(rt: &H) -> io::Result<(u64, u64)> {
-    let text = fs::read_to_string(rt, "/proc/self/statm")?;
-    let mut numbers = text
-        .as_str()
-        .split(' ')
-        .map(|word| word.parse::<u64>().unwrap_or(0));
-    Ok((numbers.next().unwrap_or(0), numbers.next().unwrap_or(0)))
-}
-
-/// Clients one after another: from the 200th on the process has at most 16 MiB more in memory and
-/// 64 MiB more of addresses. Then one is idle while another meets the loss of power: both are
+/// Clients one after another. Then one is idle while another meets the loss of power: both are
 /// closed.
-fn come_one_by_one<H: Files + AllocGlobal + Net<Stream = TcpStream>>(
-    rt: &H,
-    addr: SocketAddr,
-) -> io::Result<bool> {
-    let mut first = (0, 0);
-    for number in 0..MANY {
-        if number == 200 {
-            first = pages(rt)?;
-        }
+fn come_one_by_one<H: Net<Stream = TcpStream>>(rt: &H, addr: SocketAddr) -> io::Result<bool> {
+    for _number in 0..MANY {
         if !visit(rt, addr)? {
             return Ok(false);
         }
     }
-    let last = pages(rt)?;
-    let is_constant = last.0 <= first.0.saturating_add(16_384)
-        && last.1 <= first.1.saturating_add(4_096)
-        && first.0 != 0;
     let mut idle = begin(rt, addr)?;
     let mut unlucky = begin(rt, addr)?;
     ask(&mut unlucky, 1, 9, 0, 512)?;
     unlucky.write_all(&[0x11; 512])?;
-    Ok(is_constant && is_closed(&mut unlucky) && is_closed(&mut idle))
+    Ok(is_closed(&mut unlucky) && is_closed(&mut idle))
 }
 
 /// Three clients of a server whose limit is two seconds: one that is silent and one that sends a
@@ -186,7 +163,7 @@ fn rest<H: Clock + Net<Stream = TcpStream>>(
 }
 
 /// What the clients of a case do.
-fn work<H: Files + AllocGlobal + Clock + Net<Stream = TcpStream>>(
+fn work<H: Clock + Net<Stream = TcpStream>>(
     rt: &H,
     addr: SocketAddr,
     clients: Clients,
@@ -222,7 +199,6 @@ fn serve_with<L, H>(
 where
     L: OneServer + Send + Sync,
     H: Abort
-        + Files
         + AllocGlobal
         + Threads
         + Wait
@@ -289,7 +265,6 @@ where
 fn serve_case<H>(rt: &H, case: Case, is_armed: bool) -> Result<Outcome, Fail>
 where
     H: Abort
-        + Files
         + AllocGlobal
         + Threads
         + Wait
