@@ -240,7 +240,7 @@ fn change_formatted(rt: &impl Abort, alloc: Global, byte: u8) -> Result<(), Fail
     let looks = change_each(rt, alloc, image, plain, byte)?;
     // in two free blocks: 468 bytes behind the descriptors, 8 before them, and 3,584 of data
     assert_eq!(rt; looks.not_clean, 2 * (8 + 468 + 3_584), "{looks:?}");
-    assert!(rt; looks.refused > 16 && looks.served > 500, "{looks:?}");
+    assert!(rt; looks.refused > 16 && looks.served > 300, "{looks:?}");
     Ok(())
 }
 
@@ -252,7 +252,7 @@ fn change_used(rt: &impl Abort, alloc: Global, byte: u8) -> Result<(), Fail> {
         plain.extend_from_slice([held; 512].as_slice())?;
     }
     let looks = change_each(rt, alloc, used(alloc)?, plain, byte)?;
-    assert!(rt; looks.refused > 16 && looks.served > 500, "{looks:?}");
+    assert!(rt; looks.refused > 16 && looks.served > 300, "{looks:?}");
     Ok(())
 }
 
