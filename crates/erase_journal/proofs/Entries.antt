@@ -9,7 +9,7 @@ use Rattle.erase_journal.specs.declared.phase.Phase.TheVariants.{Idle}
 use Rattle.erase_journal.specs.Votes.{IsRested, Last}
 use Rattle.erase_journal.specs.Journals.{votes_at, unused, free_entries, open_entries, entries_for, entry_byte, entry_block, is_free_entry, is_open_entry, AreJournalsSound}
 use Rattle.erase_journal.proofs.Counts.{how_many-change}
-use Rattle.erase_journal.proofs.Regions.{SameEntries, votes-below, votes-above, entries-below}
+use Rattle.erase_journal.proofs.Regions.{SameEntries, votes-below, votes-above, entries-below, entries-above}
 use Rattle.erase_journal.proofs.Lasting.{Last-moved, Last-rested}
 
 -- no vote changed
@@ -39,6 +39,16 @@ same-votes-data at n m m' s low = record {
   s1 = votes-below 4096 at n m m' s (omega arith);
   f2 = votes-below 5120 at n m m' s (omega arith);
   s2 = votes-below 8192 at n m m' s (omega arith);
+}
+
+pub same-votes-super : (at n : ℕ) (m m' : List ℕ) → Spoiled at n m m' → at + n ≤ 4096 → SameVotes m m'
+same-votes-super at n m m' s low = record {
+  f0 = votes-above 9216 at n m m' s (omega arith);
+  s0 = votes-above 12288 at n m m' s (omega arith);
+  f1 = votes-above 13312 at n m m' s (omega arith);
+  s1 = votes-above 4096 at n m m' s (omega arith);
+  f2 = votes-above 5120 at n m m' s (omega arith);
+  s2 = votes-above 8192 at n m m' s (omega arith);
 }
 
 -- with no vote changed and at most one entry open
@@ -162,4 +172,12 @@ data-spoiled at n m m' h low s =
     let e = entries-below at n m m' s (omega arith) in
     let p = h.phase in
     let v = same-votes-data at n m m' s low in
+    (idle-moved m m' h v (omega arith) (last-moved m m' h v e.free), e)
+
+-- The superblock is made anything.
+pub super-spoiled : (at n : ℕ) (m m' : List ℕ) → AreJournalsSound Idle m → at + n ≤ 4096 → Spoiled at n m m' → AreJournalsSound Idle m' × SameEntries m m'
+super-spoiled at n m m' h low s =
+    let e = entries-above at n m m' s (omega arith) in
+    let p = h.phase in
+    let v = same-votes-super at n m m' s low in
     (idle-moved m m' h v (omega arith) (last-moved m m' h v e.free), e)

@@ -17,3 +17,4 @@ pub mod Erased
 pub mod Ready
 pub mod SettledLaws
 pub mod Knowing
+pub mod Marking

@@ -9,8 +9,8 @@ use Rattle.erase_journal.specs.Votes.{IsLowestTired, once_erased}
 use Rattle.erase_journal.specs.Journals.{entry_byte, is_free_entry, free_entries, unused}
 use Rattle.erase_journal.specs.Steps.{SameNumbers, IsTaken, IsOpened}
 use Rattle.erase_journal.specs.Spending.{Maintains, erases, once_used, IsUsed, KeepsUse}
-use Rattle.erase_journal.proofs.Regions.{entry-kept, spoiled-below, entries-below}
-use Rattle.erase_journal.proofs.Entries.{SameVotes, same-votes-entry, same-votes-data, entry-elsewhere, free-change, not-free, state-is}
+use Rattle.erase_journal.proofs.Regions.{entry-kept, spoiled-below, spoiled-above, entries-below, entries-above}
+use Rattle.erase_journal.proofs.Entries.{SameVotes, same-votes-entry, same-votes-data, same-votes-super, entry-elsewhere, free-change, not-free, state-is}
 use Rattle.erase_journal.proofs.Effects.{erased-spoiled, program-changes}
 use Rattle.erase_journal.proofs.EntryCalls.{state-open}
 
@@ -95,6 +95,16 @@ data-keeps at n m m' low s =
     let b = entry-kept m m' (spoiled-below at n 6144 2048 m m' s (omega arith)) in
     record {
       numbers = counted m m' (unused m) (same-votes-data at n m m' s low) refl e.free;
+      entries = λ k small. rw (b k 0 small (lit< tt), b k 1 small (lit< tt), b k 2 small (lit< tt), b k 3 small (lit< tt)) refl;
+    }
+
+-- the superblock is made anything
+pub super-keeps : (at n : ℕ) (m m' : List ℕ) → at + n ≤ 4096 → Spoiled at n m m' → KeepsUse m m'
+super-keeps at n m m' low s =
+    let e = entries-above at n m m' s (omega arith) in
+    let b = entry-kept m m' (spoiled-above at n 6144 2048 m m' s (omega arith)) in
+    record {
+      numbers = counted m m' (unused m) (same-votes-super at n m m' s low) refl e.free;
       entries = λ k small. rw (b k 0 small (lit< tt), b k 1 small (lit< tt), b k 2 small (lit< tt), b k 3 small (lit< tt)) refl;
     }
 

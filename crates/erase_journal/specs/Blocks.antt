@@ -44,7 +44,13 @@ pub record SameBlocks (m m' : List ℕ) : Type 0 where
   pub chip : SameChip m m'
   pub each : (b : ℕ) → 4 ≤ b → b < block_count (length m) → block m' b ≡ block m b
 
--- and the same data blocks but for block c
+-- two memories of one length with the same data blocks, whose superblocks differ in this byte alone
+pub record OnlySuper (at : ℕ) (m m' : List ℕ) : Type 0 where
+  pub same_length : length m' ≡ length m
+  pub superblock : (k : ℕ) → k < block_len → k ≢ at → byte m' k ≡ byte m k
+  pub each : (b : ℕ) → 4 ≤ b → b < block_count (length m) → block m' b ≡ block m b
+
+-- two with the same superblock, and the same data blocks but for block c
 pub record OnlyBlock (c : ℕ) (m m' : List ℕ) : Type 0 where
   pub chip : SameChip m m'
   pub others : (b : ℕ) → 4 ≤ b → b < block_count (length m) → b ≢ c → block m' b ≡ block m b

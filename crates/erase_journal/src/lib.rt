@@ -8,7 +8,8 @@
 //! nothing is changed. Three journals are used: an entry in J0 says which block is being erased,
 //! and two journals vote for the erase of the third. After a call that was cut every other call
 //! answers Cut until `restore`, which turns the power on and recovers anew; nothing is said of the
-//! data blocks after a Slow. No call takes memory.
+//! data blocks after a Slow. `superblock` reads the superblock's first bytes, and `mark` programs
+//! byte 15 of it and no other. No call takes memory.
 //!
 //! Left to the crate above: what the data blocks hold, the superblock, and when to restore.
 //!
@@ -28,6 +29,7 @@ mod phase;
 mod read;
 mod recovery;
 mod scan;
+mod superblock;
 mod survey;
 #[cfg(test)]
 mod tests;

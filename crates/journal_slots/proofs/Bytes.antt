@@ -1,5 +1,5 @@
 -- What one program leaves of a block's bytes, whole or torn, and what the bytes of a place are to the block's slots.
-use Rattle.std.proofs.Common.{◌≡◌, ◌≢◌, ℕ, zero, suc, ◌+◌, ◌-◌, ◌*◌, ◌<◌, ◌≤◌, ◌⊎◌, List, [], ◌∷◌, length, refl, sym, ap, ◌∙◌, subst, arith, inl, inr}
+use Rattle.std.proofs.Common.{◌≡◌, ◌≢◌, ℕ, zero, suc, ◌+◌, ◌-◌, ◌*◌, ◌<◌, ◌≤◌, ◌⊎◌, false, List, [], ◌∷◌, length, refl, sym, ap, ◌∙◌, subst, arith, inl, inr}
 use Rattle.std.specs.Prelude.{take, drop, bit_and}
 use Rattle.std.specs.Int.{bit_at}
 use Rattle.std.proofs.lemmas.List.{ext_get_or, length-take-le, length-drop, take_all, take-append-drop}
@@ -15,7 +15,7 @@ use Rattle.nor_layout.specs.declared.kind.Kind.TheVariants as kinds
 use Rattle.erase_journal.specs.Blocks.{OnlyBlock}
 use Rattle.erase_journal.specs.Journals.{IsHealthy}
 use Rattle.erase_journal.specs.Steps.{EraseInterrupted, as_it_was, block_erased}
-use Rattle.sector_slots.specs.Slots.{slot_in, content_bytes, data_block, kind_at}
+use Rattle.sector_slots.specs.Slots.{slot_in, content_bytes, is_group, data_block, kind_at}
 use Rattle.journal_slots.specs.Programs.{OnlyBytes, IsElsewhere, InPlace}
 use Rattle.sector_slots.specs.Steps.{OnlyMark, IsBegun}
 use Rattle.journal_slots.proofs.Marks.{slot-bytes, kind-bytes, copy-state, settle-mark}
@@ -120,19 +120,23 @@ other-content i j q li ne small = (
   elim (cases_lt j i) as (λ _. (512 * (j + 1) + q < 512 * (i + 1)) ⊎ (512 * (i + 1) + 512 ≤ 512 * (j + 1) + q)) [ inl l ↦ inl (omega (arith, l, small)) | inr r ↦ inr (omega (arith, r, ne)) ],
 )
 
+pub place-mark : (i : ℕ) (b t : List ℕ) → InPlace i b t → (k : ℕ) → k < 8 → byte t k ≡ byte b k
+place-mark i b t h k low = h.each k (omega (arith, low)) (inl (omega (arith, low)), inl (omega (arith, low)))
+
 pub place-slot : (i j : ℕ) (b t : List ℕ) → i < 7 → j < 7 → j ≢ i → InPlace i b t → slot_in t j ≡ slot_in b j
-place-slot i j b t li lj ne h = slot-bytes b t j h.same_length
+place-slot i j b t li lj ne h = slot-bytes b t j h.same_length (λ q small. place-mark i b t h q (omega (arith, small)))
     (λ q small. h.each (16 + 4 * j + q) (omega (arith, lj, small)) (other-descriptor i j q li lj ne small))
     (λ q small. h.each (512 * (j + 1) + q) (omega (arith, lj, small)) (other-content i j q li ne small))
 
 pub place-content : (i j : ℕ) (b t : List ℕ) → i < 7 → j < 7 → j ≢ i → InPlace i b t → content_bytes t j ≡ content_bytes b j
 place-content i j b t li lj ne h = part-same 512 b t (j + 1) h.same_length (λ q small. h.each (512 * (j + 1) + q) (omega (arith, lj, small)) (other-content i j q li ne small))
 
-pub place-mark : (i : ℕ) (b t : List ℕ) → InPlace i b t → (k : ℕ) → k < 8 → byte t k ≡ byte b k
-place-mark i b t h k low = h.each k (omega (arith, low)) (inl (omega (arith, low)), inl (omega (arith, low)))
-
 pub place-kind : (i : ℕ) (b t : List ℕ) → InPlace i b t → kind_of t ≡ kind_of b
 place-kind i b t h = kind-bytes t b (λ k low. place-mark i b t h k low)
+
+-- so a block of slots stays one
+pub place-group : (i : ℕ) (b t : List ℕ) → InPlace i b t → is_group (kind_of b) ≡ false → is_group (kind_of t) ≡ false
+place-group i b t h g = ap is_group (place-kind i b t h) ∙ g
 
 -- a sector that is written page by page
 pub last-page : (x : List ℕ) → take (length x - 256) (drop 256 x) ≡ drop 256 x
@@ -147,7 +151,7 @@ two-pages b c t x at n first second =
 pub mark-only : (c : ℕ) (m m' : List ℕ) → OnlyBlock (c + 4) m m' → OnlyBytes 4 4 (data_block m c) (data_block m' c) → OnlyMark c m m'
 mark-only c m m' only h = record {
   only = only;
-  slots = λ i low. slot-bytes (data_block m c) (data_block m' c) i h.same_length (λ j small. h.each (16 + 4 * i + j) (omega (arith, low, small)) (inr (omega arith)))
+  slots = λ i low. slot-bytes (data_block m c) (data_block m' c) i h.same_length (λ j small. h.each j (omega (arith, small)) (inl small)) (λ j small. h.each (16 + 4 * i + j) (omega (arith, low, small)) (inr (omega arith)))
       (λ j small. h.each (512 * (i + 1) + j) (omega (arith, low, small)) (inr (omega arith)));
   contents = λ i low. part-same 512 (data_block m c) (data_block m' c) (i + 1) h.same_length (λ j small. h.each (512 * (i + 1) + j) (omega (arith, low, small)) (inr (omega arith)));
 }

@@ -1,6 +1,6 @@
 -- What a program of the bytes 4 to 7 of a block leaves of it, whole or torn.
-use Rattle.std.proofs.Common.{◌≡◌, ◌≢◌, ℕ, zero, suc, ◌+◌, ◌*◌, ◌%◌, ◌<◌, ◌≤◌, ◌⊎◌, Bool, true, false, cond, List, [], ◌∷◌, length, refl, sym, ap, ◌∙◌, subst, arith, inl, inr}
-use Rattle.std.specs.Prelude.{drop, slice_range, bit_and, ◌==◌}
+use Rattle.std.proofs.Common.{◌≡◌, ◌≢◌, ℕ, zero, suc, ◌+◌, ◌*◌, ◌%◌, ◌<◌, ◌≤◌, ◌⊎◌, Bool, true, false, ◌&&◌, cond, List, [], ◌∷◌, length, refl, sym, ap, ◌∙◌, subst, arith, inl, inr}
+use Rattle.std.specs.Prelude.{drop, slice_range, bit_and, ◌==◌, nat_lt}
 use Rattle.byteorder.specs.Endian.{little_from}
 use Rattle.std.specs.Int.{bit_at}
 use Rattle.std.proofs.lemmas.List.{ext_get_or, get_or-take, get_or-drop}
@@ -13,26 +13,31 @@ use Rattle.chip_model.proofs.BitLaws.{mixed_same, mixed_one}
 use Rattle.chip_model.proofs.PartLaws.{part-same}
 use Rattle.nor_driver.specs.State.{Leaves, as_before, torn_in_it, changed_whole}
 use Rattle.nor_layout.specs.Headers.{header_of}
-use Rattle.nor_layout.specs.Kinds.{kind_of}
+use Rattle.nor_layout.specs.declared.header.Header.{Header}
+use Rattle.nor_layout.specs.declared.header.Header.TheVariants as headers
+use Rattle.nor_layout.specs.declared.header.Tag.{Tag}
+use Rattle.nor_layout.specs.Kinds.{kind_of, mark_of, group_kind}
 use Rattle.nor_layout.specs.declared.kind.Kind.{Kind}
 use Rattle.nor_layout.specs.declared.kind.Kind.TheVariants as kinds
 use Rattle.erase_journal.specs.Blocks.{OnlyBlock}
-use Rattle.sector_slots.specs.Slots.{slot_in, slot_with, content_bytes, data_block}
+use Rattle.sector_slots.specs.Slots.{slot_in, slot_with, descriptor_in, written_in, header_in, content_bytes, data_block}
+use Rattle.sector_slots.proofs.GroupLaws.{place-four}
 use Rattle.sector_slots.specs.Steps.{OnlyMark}
 
 pub header-bytes : (b h : List ℕ) → byte b 0 ≡ byte h 0 → byte b 1 ≡ byte h 1 → byte b 2 ≡ byte h 2 → byte b 3 ≡ byte h 3 → header_of b ≡ header_of h
 header-bytes b h e0 e1 e2 e3 = rw (e0, e1, e2, e3) refl
 
 -- a slot is said by its four bytes and its 512
-pub slot-bytes : (b t : List ℕ) (i : ℕ) → length t ≡ length b → ((j : ℕ) → j < 4 → byte t (16 + 4 * i + j) ≡ byte b (16 + 4 * i + j)) → ((j : ℕ) → j < 512 → byte t (512 * (i + 1) + j) ≡ byte b (512 * (i + 1) + j))
+pub slot-bytes : (b t : List ℕ) (i : ℕ) → length t ≡ length b → ((j : ℕ) → j < 4 → byte t j ≡ byte b j) → ((j : ℕ) → j < 4 → byte t (16 + 4 * i + j) ≡ byte b (16 + 4 * i + j)) → ((j : ℕ) → j < 512 → byte t (512 * (i + 1) + j) ≡ byte b (512 * (i + 1) + j))
     → slot_in t i ≡ slot_in b i
-unfolding slot_in
-slot-bytes b t i n head rest =
+unfolding slot_in descriptor_in
+slot-bytes b t i n mark head rest =
     let at = λ (x : List ℕ) (j : ℕ). get_or-drop (16 + 4 * i) x j 0 in
     let h = header-bytes (drop (16 + 4 * i) t) (drop (16 + 4 * i) b) (at t 0 ∙ (head 0 (omega arith) ∙ sym (at b 0))) (at t 1 ∙ (head 1 (omega arith) ∙ sym (at b 1)))
     (at t 2 ∙ (head 2 (omega arith) ∙ sym (at b 2))) (at t 3 ∙ (head 3 (omega arith) ∙ sym (at b 3))) in
     let c = part-same 512 b t (i + 1) n rest in
-    ap (λ x. slot_with x (content_bytes t i)) h ∙ ap (λ x. slot_with (header_of (drop (16 + 4 * i) b)) x) c
+    let k = place-four b t (written_in b i) i (mark 0 (omega arith)) (mark 1 (omega arith)) (mark 2 (omega arith)) (mark 3 (omega arith)) in
+    ap (λ x. slot_with (header_in (kind_of t) x i) (content_bytes t i)) h ∙ (ap (λ x. slot_with x (content_bytes t i)) k ∙ ap (λ x. slot_with (descriptor_in b i) x) c)
 
 pub bits-begin : (k : ℕ) → k ≢ 0 → bit_at 255 k ≡ bit_at 254 k
 bits-begin zero other = absurd (other refl)
@@ -90,13 +95,14 @@ mark-torn b h t n four begun plain torn =
     ]
 
 -- bytes after the mark stay, and so do the slots
-after-mark : (b h t : List ℕ) → length b ≡ 4096 → length h ≡ 4 → Leaves b (TornAnd b 4 h) (and_at b 4 h) t → (length t ≡ length b) × ((k : ℕ) → 8 ≤ k → k < 4096 → byte t k ≡ byte b k)
-after-mark b h t n four (as_before e) = (ap (λ x. length x) e, λ k from low. ap (λ x. byte x k) e)
-after-mark b h t n four (changed_whole e) = (ap (λ x. length x) e ∙ length-placed bit_and b 4 h, λ k from low. ap (λ x. byte x k) e ∙ placed-outside bit_and b 4 h k (inr (omega (arith, four, from))))
+after-mark : (b h t : List ℕ) → length b ≡ 4096 → length h ≡ 4 → Leaves b (TornAnd b 4 h) (and_at b 4 h) t → (length t ≡ length b) × ((k : ℕ) → 8 ≤ k → k < 4096 → byte t k ≡ byte b k) × ((k : ℕ) → k < 4 → byte t k ≡ byte b k)
+after-mark b h t n four (as_before e) = (ap (λ x. length x) e, λ k from low. ap (λ x. byte x k) e, λ k low. ap (λ x. byte x k) e)
+after-mark b h t n four (changed_whole e) = (ap (λ x. length x) e ∙ length-placed bit_and b 4 h, λ k from low. ap (λ x. byte x k) e ∙ placed-outside bit_and b 4 h k (inr (omega (arith, four, from))), λ k low. ap (λ x. byte x k) e ∙ placed-outside bit_and b 4 h k (inl (omega (arith, low))))
 after-mark b h t n four (torn_in_it torn) = (
   torn.same_length,
   λ k from low.
       mixed_same (byte b k) (byte t k) (subst (λ x. IsMixed (byte b k) x (byte t k)) (placed-outside bit_and b 4 h k (inr (omega (arith, four, from)))) (torn.each k (omega (arith, n, low)))),
+  λ k low. mixed_same (byte b k) (byte t k) (subst (λ x. IsMixed (byte b k) x (byte t k)) (placed-outside bit_and b 4 h k (inl (omega (arith, low)))) (torn.each k (omega (arith, n, low)))),
 )
 
 pub mark-leaves : (c : ℕ) (m m' h : List ℕ) → length (data_block m c) ≡ 4096 → length h ≡ 4 → OnlyBlock (c + 4) m m'
@@ -105,7 +111,7 @@ mark-leaves c m m' h n four only l =
     let a = after-mark (data_block m c) h (data_block m' c) n four l in
     record {
       only = only;
-      slots = λ i low. slot-bytes (data_block m c) (data_block m' c) i a.0 (λ j small. a.1 (16 + 4 * i + j) (omega arith) (omega (arith, low, small))) (λ j small. a.1 (512 * (i + 1) + j) (omega arith) (omega (arith, low, small)));
+      slots = λ i low. slot-bytes (data_block m c) (data_block m' c) i a.0 (λ j small. a.2 j small) (λ j small. a.1 (16 + 4 * i + j) (omega arith) (omega (arith, low, small))) (λ j small. a.1 (512 * (i + 1) + j) (omega arith) (omega (arith, low, small)));
       contents = λ i low. part-same 512 (data_block m c) (data_block m' c) (i + 1) a.0 (λ j small. a.1 (512 * (i + 1) + j) (omega arith) (omega (arith, low, small)));
     }
 
@@ -138,7 +144,21 @@ IsPlain kinds.Plain = Unit {0}
 IsPlain kinds.Void = ⊥
 IsPlain (kinds.Committed b) = ⊥
 IsPlain kinds.Settled = ⊥
+IsPlain (kinds.Group tag) = ⊥
+IsPlain kinds.DeadGroup = ⊥
+IsPlain kinds.SpoiltGroup = ⊥
 IsPlain kinds.Unknown = ⊥
+
+-- a block with a header is no block of slots
+either-group : (t : Bool) (tag : Tag) → IsPlain (cond t (kinds.Group tag) kinds.SpoiltGroup) → ⊥
+either-group true tag p = p
+either-group false tag p = p
+
+group-plain : (h : Header) → IsPlain (group_kind h) → ⊥
+group-plain headers.Free p = p
+group-plain (headers.Live tag) p = either-group (nat_lt tag.number 9362) tag p
+group-plain headers.NoGeneration p = p
+group-plain headers.Dead p = p
 
 not-plain : (b : List ℕ) (k : Kind) → kind_of b ≡ kinds.Plain → kind_of b ≡ k → IsPlain k
 not-plain b k e f = subst (λ q. IsPlain q) (sym e ∙ f) tt
@@ -150,16 +170,16 @@ no-mark false false true source h = h
 no-mark false false false source h = h
 
 byte-0 : (b : List ℕ) → kind_of b ≡ kinds.Plain → byte b 0 ≡ 255
-byte-0 b e = elim (cases_eq (byte b 0) 255) as (λ _. byte b 0 ≡ 255) [ inl q ↦ q | inr n ↦ absurd (not-plain b kinds.Unknown e (rw (ne_eqb (byte b 0) 255 n) refl)) ]
+byte-0 b e = elim (cases_eq (byte b 0) 255) as (λ _. byte b 0 ≡ 255) [ inl q ↦ q | inr n ↦ absurd (group-plain (header_of b) (not-plain b (group_kind (header_of b)) e (rw (ne_eqb (byte b 0) 255 n) refl))) ]
 
 byte-1 : (b : List ℕ) → kind_of b ≡ kinds.Plain → byte b 1 ≡ 255
-byte-1 b e = elim (cases_eq (byte b 1) 255) as (λ _. byte b 1 ≡ 255) [ inl q ↦ q | inr n ↦ absurd (not-plain b kinds.Unknown e (rw (byte-0 b e, ne_eqb (byte b 1) 255 n) refl)) ]
+byte-1 b e = elim (cases_eq (byte b 1) 255) as (λ _. byte b 1 ≡ 255) [ inl q ↦ q | inr n ↦ absurd (group-plain (header_of b) (not-plain b (group_kind (header_of b)) e (rw (byte-0 b e, ne_eqb (byte b 1) 255 n) refl))) ]
 
 byte-2 : (b : List ℕ) → kind_of b ≡ kinds.Plain → byte b 2 ≡ 255
-byte-2 b e = elim (cases_eq (byte b 2) 255) as (λ _. byte b 2 ≡ 255) [ inl q ↦ q | inr n ↦ absurd (not-plain b kinds.Unknown e (rw (byte-0 b e, byte-1 b e, ne_eqb (byte b 2) 255 n) refl)) ]
+byte-2 b e = elim (cases_eq (byte b 2) 255) as (λ _. byte b 2 ≡ 255) [ inl q ↦ q | inr n ↦ absurd (group-plain (header_of b) (not-plain b (group_kind (header_of b)) e (rw (byte-0 b e, byte-1 b e, ne_eqb (byte b 2) 255 n) refl))) ]
 
 byte-3 : (b : List ℕ) → kind_of b ≡ kinds.Plain → byte b 3 ≡ 255
-byte-3 b e = elim (cases_eq (byte b 3) 255) as (λ _. byte b 3 ≡ 255) [ inl q ↦ q | inr n ↦ absurd (not-plain b kinds.Unknown e (rw (byte-0 b e, byte-1 b e, byte-2 b e, ne_eqb (byte b 3) 255 n) refl)) ]
+byte-3 b e = elim (cases_eq (byte b 3) 255) as (λ _. byte b 3 ≡ 255) [ inl q ↦ q | inr n ↦ absurd (group-plain (header_of b) (not-plain b (group_kind (header_of b)) e (rw (byte-0 b e, byte-1 b e, byte-2 b e, ne_eqb (byte b 3) 255 n) refl))) ]
 
 byte-4 : (b : List ℕ) → kind_of b ≡ kinds.Plain → byte b 4 ≡ 255
 byte-4 b e = elim (cases_eq (byte b 4) 255) as (λ _. byte b 4 ≡ 255) [
@@ -215,7 +235,20 @@ IsCopyKind kinds.Plain = ⊥
 IsCopyKind kinds.Void = ⊥
 IsCopyKind (kinds.Committed b) = Unit {0}
 IsCopyKind kinds.Settled = ⊥
+IsCopyKind (kinds.Group tag) = ⊥
+IsCopyKind kinds.DeadGroup = ⊥
+IsCopyKind kinds.SpoiltGroup = ⊥
 IsCopyKind kinds.Unknown = ⊥
+
+either-copy : (t : Bool) (tag : Tag) → IsCopyKind (cond t (kinds.Group tag) kinds.SpoiltGroup) → ⊥
+either-copy true tag p = p
+either-copy false tag p = p
+
+group-copy : (h : Header) → IsCopyKind (group_kind h) → ⊥
+group-copy headers.Free p = p
+group-copy (headers.Live tag) p = either-copy (nat_lt tag.number 9362) tag p
+group-copy headers.NoGeneration p = p
+group-copy headers.Dead p = p
 
 not-copy : (b : List ℕ) (s : ℕ) (k : Kind) → kind_of b ≡ kinds.Committed s → kind_of b ≡ k → IsCopyKind k
 not-copy b s k e f = subst (λ q. IsCopyKind q) (sym e ∙ f) tt
@@ -225,18 +258,18 @@ late-mark true h = h
 late-mark false h = h
 
 copy-0 : (b : List ℕ) (s : ℕ) → kind_of b ≡ kinds.Committed s → byte b 0 ≡ 255
-copy-0 b s e = elim (cases_eq (byte b 0) 255) as (λ _. byte b 0 ≡ 255) [ inl q ↦ q | inr n ↦ absurd (not-copy b s kinds.Unknown e (rw (ne_eqb (byte b 0) 255 n) refl)) ]
+copy-0 b s e = elim (cases_eq (byte b 0) 255) as (λ _. byte b 0 ≡ 255) [ inl q ↦ q | inr n ↦ absurd (group-copy (header_of b) (not-copy b s (group_kind (header_of b)) e (rw (ne_eqb (byte b 0) 255 n) refl))) ]
 
 copy-1 : (b : List ℕ) (s : ℕ) → kind_of b ≡ kinds.Committed s → byte b 1 ≡ 255
-copy-1 b s e = elim (cases_eq (byte b 1) 255) as (λ _. byte b 1 ≡ 255) [ inl q ↦ q | inr n ↦ absurd (not-copy b s kinds.Unknown e (rw (copy-0 b s e, ne_eqb (byte b 1) 255 n) refl)) ]
+copy-1 b s e = elim (cases_eq (byte b 1) 255) as (λ _. byte b 1 ≡ 255) [ inl q ↦ q | inr n ↦ absurd (group-copy (header_of b) (not-copy b s (group_kind (header_of b)) e (rw (copy-0 b s e, ne_eqb (byte b 1) 255 n) refl))) ]
 
 copy-2 : (b : List ℕ) (s : ℕ) → kind_of b ≡ kinds.Committed s → byte b 2 ≡ 255
-copy-2 b s e = elim (cases_eq (byte b 2) 255) as (λ _. byte b 2 ≡ 255) [ inl q ↦ q | inr n ↦ absurd (not-copy b s kinds.Unknown e (rw (copy-0 b s e, copy-1 b s e, ne_eqb (byte b 2) 255 n) refl)) ]
+copy-2 b s e = elim (cases_eq (byte b 2) 255) as (λ _. byte b 2 ≡ 255) [ inl q ↦ q | inr n ↦ absurd (group-copy (header_of b) (not-copy b s (group_kind (header_of b)) e (rw (copy-0 b s e, copy-1 b s e, ne_eqb (byte b 2) 255 n) refl))) ]
 
 copy-3 : (b : List ℕ) (s : ℕ) → kind_of b ≡ kinds.Committed s → byte b 3 ≡ 255
 copy-3 b s e = elim (cases_eq (byte b 3) 255) as (λ _. byte b 3 ≡ 255) [
   | inl q ↦ q
-  | inr n ↦ absurd (not-copy b s kinds.Unknown e (rw (copy-0 b s e, copy-1 b s e, copy-2 b s e, ne_eqb (byte b 3) 255 n) refl))
+  | inr n ↦ absurd (group-copy (header_of b) (not-copy b s (group_kind (header_of b)) e (rw (copy-0 b s e, copy-1 b s e, copy-2 b s e, ne_eqb (byte b 3) 255 n) refl)))
 ]
 
 copy-4 : (b : List ℕ) (s : ℕ) → kind_of b ≡ kinds.Committed s → byte b 4 ≡ 252
@@ -272,3 +305,33 @@ settle-mark b t s n k e =
     let low = λ (i : ℕ) (h4 : i < 4). ap (λ x. byte x i) e ∙ placed-outside bit_and b 4 (248 ∷ []) i (inl h4) in
     let first : byte t 4 ≡ 248 = ap (λ x. byte x 4) e ∙ (placed-inside bit_and b 4 (248 ∷ []) 0 (omega arith) (omega (arith, n)) ∙ ap (λ x. bit_and x 248) (copy-4 b s k)) in
     settled-kind t (low 0 (omega arith) ∙ copy-0 b s k) (low 1 (omega arith) ∙ copy-1 b s k) (low 2 (omega arith) ∙ copy-2 b s k) (low 3 (omega arith) ∙ copy-3 b s k) first
+
+-- A block of a group: its state byte, and what a retirement makes of it.
+abbrev pub IsGroupKind : Kind → Type 0
+IsGroupKind kinds.Plain = ⊥
+IsGroupKind kinds.Void = ⊥
+IsGroupKind (kinds.Committed b) = ⊥
+IsGroupKind kinds.Settled = ⊥
+IsGroupKind (kinds.Group tag) = Unit {0}
+IsGroupKind kinds.DeadGroup = ⊥
+IsGroupKind kinds.SpoiltGroup = ⊥
+IsGroupKind kinds.Unknown = ⊥
+
+pub dead-kind : (b : List ℕ) → byte b 0 ≢ 255 → byte b 0 ≢ 252 → kind_of b ≡ kinds.DeadGroup
+dead-kind b n m = rw (ne_eqb (byte b 0) 255 n, ne_eqb (byte b 0) 252 m) refl
+
+slots-mark : (a p q r s : Bool) (source : ℕ) → IsGroupKind (cond a kinds.Plain (cond p kinds.Void (cond q kinds.Void (cond r (kinds.Committed source) (cond s kinds.Settled kinds.Unknown))))) → ⊥
+slots-mark true p q r s source h = h
+slots-mark false true q r s source h = h
+slots-mark false false true r s source h = h
+slots-mark false false false true s source h = h
+slots-mark false false false false true source h = h
+slots-mark false false false false false source h = h
+
+kind-by : (t : Bool) (m g : Kind) → (IsGroupKind m → ⊥) → IsGroupKind (cond t m g) → IsGroupKind g
+kind-by true m g never h = absurd (never h)
+kind-by false m g never h = h
+
+pub group-header : (b : List ℕ) (tag : Tag) → kind_of b ≡ kinds.Group tag → IsGroupKind (group_kind (header_of b))
+group-header b tag e = kind-by ((byte b 0 == 255) && (byte b 1 == 255) && (byte b 2 == 255) && (byte b 3 == 255)) (mark_of b) (group_kind (header_of b))
+    (slots-mark ((byte b 4 == 255) && (byte b 5 == 255) && (byte b 6 == 255) && (byte b 7 == 255)) (byte b 4 == 255) (byte b 4 == 254) (byte b 4 == 252) (byte b 4 == 248) _) (subst (λ k. IsGroupKind k) (sym e) tt)

@@ -17,11 +17,14 @@ use Rattle.nor_layout.specs.declared.header.Tag.{Tag}
 use Rattle.nor_layout.specs.Headers.{header_of, live_of, generation_of}
 use Rattle.erase_journal.specs.Blocks.{blank}
 use Rattle.erase_journal.proofs.BlockLaws.{byte-blank}
-use Rattle.sector_slots.specs.Slots.{Slot, Free, Live, NoGeneration, Dead, Outside, slot_with, slot_in, content_bytes, descriptor_in, data_block, raw_slot, blank_sector}
+use Rattle.sector_slots.specs.Slots.{Slot, Free, Live, NoGeneration, Dead, Outside, slot_with, slot_in, content_bytes, descriptor_in, is_group, data_block, raw_slot, blank_sector}
+use Rattle.nor_layout.specs.Kinds.{kind_of, group_kind}
+use Rattle.nor_layout.specs.declared.kind.Kind.TheVariants as kinds
 use Rattle.journal_slots.specs.Programs.{OnlyBytes, InPlace, WriteLeaves, untouched, spoiled, filled}
 use Rattle.sector_slots.specs.Steps.{HoldsTag}
-use Rattle.journal_slots.proofs.Marks.{header-bytes, bits-begin, and-all}
-use Rattle.journal_slots.proofs.Bytes.{leaves-only, and-only, state-leaves, bits-commit, bits-retire, descriptor-place, content-place, place-after}
+use Rattle.journal_slots.proofs.Marks.{header-bytes, bits-begin, and-all, IsGroupKind, group-header, dead-kind}
+use Rattle.journal_slots.proofs.Bytes.{leaves-only, and-only, state-leaves, bits-commit, bits-retire, descriptor-place, content-place, place-after, place-same, place-group}
+use Rattle.sector_slots.proofs.GroupLaws.{descriptor-slot, free-no_group}
 
 -- slots as numbers, and what a live one holds
 abbrev pub number_of : Slot → ℕ
@@ -159,37 +162,37 @@ pub slot-number : (b : List ℕ) (i : ℕ) → number_of (slot_in b i) ≡ heade
 unfolding slot_in
 slot-number b i = with-number (descriptor_in b i) (content_bytes b i)
 
-pub slot-dead : (b : List ℕ) (i : ℕ) → byte b (16 + 4 * i) ≢ 255 → byte b (16 + 4 * i) ≢ 252 → slot_in b i ≡ Dead
-slot-dead b i n m =
+pub slot-dead : (b : List ℕ) (i : ℕ) → is_group (kind_of b) ≡ false → byte b (16 + 4 * i) ≢ 255 → byte b (16 + 4 * i) ≢ 252 → slot_in b i ≡ Dead
+slot-dead b i g n m =
     let z : 16 + 4 * i + 0 ≡ 16 + 4 * i = omega arith in
     let e : byte (drop (16 + 4 * i) b) 0 ≡ byte b (16 + 4 * i) = at-descriptor i b 0 ∙ ap (λ k. byte b k) z in
-    slot-header b i headers.Dead (dead-header (drop (16 + 4 * i) b) (λ q. n (sym e ∙ q)) (λ q. m (sym e ∙ q)))
+    slot-header b i headers.Dead (descriptor-slot b i g ∙ dead-header (drop (16 + 4 * i) b) (λ q. n (sym e ∙ q)) (λ q. m (sym e ∙ q)))
 
-pub slot-begun : (b : List ℕ) (i : ℕ) → byte b (16 + 4 * i) ≡ 254 → slot_in b i ≡ Dead
-slot-begun b i e = slot-dead b i (λ q. omega (arith, e, q)) (λ q. omega (arith, e, q))
+pub slot-begun : (b : List ℕ) (i : ℕ) → is_group (kind_of b) ≡ false → byte b (16 + 4 * i) ≡ 254 → slot_in b i ≡ Dead
+slot-begun b i g e = slot-dead b i g (λ q. omega (arith, e, q)) (λ q. omega (arith, e, q))
 
-pub live-state : (b : List ℕ) (i : ℕ) (tag : Tag) (x : List ℕ) → slot_in b i ≡ Live tag x → byte b (16 + 4 * i) ≡ 252
-live-state b i tag x e =
+pub live-state : (b : List ℕ) (i : ℕ) (tag : Tag) (x : List ℕ) → is_group (kind_of b) ≡ false → slot_in b i ≡ Live tag x → byte b (16 + 4 * i) ≡ 252
+live-state b i tag x g e =
     let z : 16 + 4 * i + 0 ≡ 16 + 4 * i = omega arith in
     let first : byte (drop (16 + 4 * i) b) 0 ≡ byte b (16 + 4 * i) = at-descriptor i b 0 ∙ ap (λ k. byte b k) z in
-    sym first ∙ first-live (drop (16 + 4 * i) b) (sym (slot-number b i) ∙ ap number_of e)
+    sym first ∙ first-live (drop (16 + 4 * i) b) (ap header_number (sym (descriptor-slot b i g)) ∙ (sym (slot-number b i) ∙ ap number_of e))
 
 -- a slot by the four bytes of its descriptor, and with its sector
-pub slot-tagged : (t : List ℕ) (i : ℕ) (h : List ℕ) (tag : Tag) → ((j : ℕ) → j < 4 → byte t (16 + 4 * i + j) ≡ byte h j) → header_of h ≡ headers.Live tag → slot_in t i ≡ Live tag (content_bytes t i)
-slot-tagged t i h tag head live =
+pub slot-tagged : (t : List ℕ) (i : ℕ) (h : List ℕ) (tag : Tag) → is_group (kind_of t) ≡ false → ((j : ℕ) → j < 4 → byte t (16 + 4 * i + j) ≡ byte h j) → header_of h ≡ headers.Live tag → slot_in t i ≡ Live tag (content_bytes t i)
+slot-tagged t i h tag g head live =
     let at = at-descriptor i t in
     let e : descriptor_in t i ≡ headers.Live tag =
-    header-bytes (drop (16 + 4 * i) t) h (at 0 ∙ head 0 (omega arith)) (at 1 ∙ head 1 (omega arith)) (at 2 ∙ head 2 (omega arith)) (at 3 ∙ head 3 (omega arith)) ∙ live in
+    descriptor-slot t i g ∙ (header-bytes (drop (16 + 4 * i) t) h (at 0 ∙ head 0 (omega arith)) (at 1 ∙ head 1 (omega arith)) (at 2 ∙ head 2 (omega arith)) (at 3 ∙ head 3 (omega arith)) ∙ live) in
     slot-header t i (headers.Live tag) e
 
-pub slot-live : (t : List ℕ) (i : ℕ) (h : List ℕ) (tag : Tag) (x : List ℕ) → i < 7 → length t ≡ 4096 → ((j : ℕ) → j < 4 → byte t (16 + 4 * i + j) ≡ byte h j) → header_of h ≡ headers.Live tag
+pub slot-live : (t : List ℕ) (i : ℕ) (h : List ℕ) (tag : Tag) (x : List ℕ) → is_group (kind_of t) ≡ false → i < 7 → length t ≡ 4096 → ((j : ℕ) → j < 4 → byte t (16 + 4 * i + j) ≡ byte h j) → header_of h ≡ headers.Live tag
     → length x ≡ 512 → ((j : ℕ) → j < 512 → byte t (512 * (i + 1) + j) ≡ byte x j) → slot_in t i ≡ Live tag x
-slot-live t i h tag x li n head live size rest =
+slot-live t i h tag x g li n head live size rest =
     let long : length (content_bytes t i) ≡ 512 = part-whole 512 t (i + 1) (omega (arith, n, li)) in
     let c : content_bytes t i ≡ x = ext_get_or 0 (content_bytes t i) x (long ∙ sym size) (λ j q.
     let low : j < 512 = omega (arith, q, long) in
     get-part 512 t (i + 1) j low ∙ rest j low) in
-    slot-tagged t i h tag head live ∙ ap (λ q. Live tag q) c
+    slot-tagged t i h tag g head live ∙ ap (λ q. Live tag q) c
 
 -- one of four bytes
 pick : (h : List ℕ) → (byte h 0 ≡ 255) × (byte h 1 ≡ 255) × (byte h 2 ≡ 255) × (byte h 3 ≡ 255) → (j : ℕ) → j < 4 → byte h j ≡ 255
@@ -222,15 +225,15 @@ same-four d b t long n four only same = ext_get_or 0 t b only.same_length (λ k 
 -- a free place, and one where nothing was programmed
 pub fresh-descriptor : (c i : ℕ) (m : List ℕ) → raw_slot m c i ≡ Free → (j : ℕ) → j < 4 → byte (data_block m c) (16 + 4 * i + j) ≡ 255
 fresh-descriptor c i m free j low =
-    let four = free-four (drop (16 + 4 * i) (data_block m c)) (slot-free (data_block m c) i free) in
+    let four = free-four (drop (16 + 4 * i) (data_block m c)) (sym (descriptor-slot (data_block m c) i (free-no_group (data_block m c) i free)) ∙ slot-free (data_block m c) i free) in
     sym (at-descriptor i (data_block m c) j) ∙ pick (drop (16 + 4 * i) (data_block m c)) four j low
 
 pub blank-content : (b : List ℕ) (i : ℕ) → content_bytes b i ≡ blank_sector → (j : ℕ) → j < 512 → byte b (512 * (i + 1) + j) ≡ 255
 blank-content b i e j low = sym (get-part 512 b (i + 1) j low) ∙ (ap (λ q. byte q j) e ∙ (get-part 512 blank 1 j low ∙ byte-blank (512 * 1 + j) (omega (arith, low))))
 
 -- A descriptor that is begun, in a free place, whole or torn.
-begun-torn : (i : ℕ) (b h t : List ℕ) → i < 7 → length b ≡ 4096 → length h ≡ 4 → byte h 0 ≡ 254 → ((j : ℕ) → j < 4 → byte b (16 + 4 * i + j) ≡ 255) → TornAnd b (16 + 4 * i) h t → (t ≡ b) ⊎ (slot_in t i ≡ Dead)
-begun-torn i b h t li n four begun free torn =
+begun-torn : (i : ℕ) (b h t : List ℕ) → i < 7 → length b ≡ 4096 → length h ≡ 4 → byte h 0 ≡ 254 → ((j : ℕ) → j < 4 → byte b (16 + 4 * i + j) ≡ 255) → TornAnd b (16 + 4 * i) h t → is_group (kind_of t) ≡ false → (t ≡ b) ⊎ (slot_in t i ≡ Dead)
+begun-torn i b h t li n four begun free torn g =
     let d = 16 + 4 * i in
     let w = and_at b d h in
     let only = leaves-only b h t d n (torn_in_it torn) in
@@ -240,10 +243,10 @@ begun-torn i b h t li n four begun free torn =
     let state : (byte t d ≡ 255) ⊎ (byte t d ≡ 254) = mixed_one 0 255 254 (byte t d) bits-begin (subst (λ x. IsMixed x 254 (byte t d)) bd (subst (λ x. IsMixed (byte b d) x (byte t d)) first (torn.each d (omega (arith, n, li))))) in
     let at = at-descriptor i t in
     elim state as (λ _. (t ≡ b) ⊎ (slot_in t i ≡ Dead)) [
-      | inr e ↦ inr (slot-begun t i e)
+      | inr e ↦ inr (slot-begun t i g e)
       | inl e ↦
           let e0 : byte (drop d t) 0 ≡ 255 = at 0 ∙ (ap (λ k. byte t k) z ∙ e) in
-          let spoil = λ (q : byte (drop d t) 1 ≡ 255 → byte (drop d t) 2 ≡ 255 → byte (drop d t) 3 ≡ 255 → ⊥). slot-header t i headers.Dead (spoiled-header (drop d t) e0 q) in
+          let spoil = λ (q : byte (drop d t) 1 ≡ 255 → byte (drop d t) 2 ≡ 255 → byte (drop d t) 3 ≡ 255 → ⊥). slot-header t i headers.Dead (descriptor-slot t i g ∙ spoiled-header (drop d t) e0 q) in
           elim (cases_eq (byte (drop d t) 1) 255) as (λ _. (t ≡ b) ⊎ (slot_in t i ≡ Dead)) [
             | inr n1 ↦ inr (spoil (λ x y z. n1 x))
             | inl e1 ↦ elim (cases_eq (byte (drop d t) 2) 255) as (λ _. (t ≡ b) ⊎ (slot_in t i ≡ Dead)) [
@@ -264,14 +267,26 @@ begun-state i b h t li n four begun free e =
     ap (λ q. byte q d) e ∙ subst (λ q. byte (and_at b d h) q ≡ 254) z (placed-inside bit_and b d h 0 (omega (arith, four)) (omega (arith, n, li)) ∙ (ap (λ x. bit_and x (byte h 0)) (free 0 (omega arith)) ∙ ap (λ x. bit_and 255 x) begun))
 
 pub begun-cut : (i : ℕ) (b h t : List ℕ) → i < 7 → length b ≡ 4096 → length h ≡ 4 → byte h 0 ≡ 254 → ((j : ℕ) → j < 4 → byte b (16 + 4 * i + j) ≡ 255)
-    → Leaves b (TornAnd b (16 + 4 * i) h) (and_at b (16 + 4 * i) h) t → (t ≡ b) ⊎ (slot_in t i ≡ Dead)
-begun-cut i b h t li n four begun free (as_before e) = inl e
-begun-cut i b h t li n four begun free (torn_in_it torn) = begun-torn i b h t li n four begun free torn
-begun-cut i b h t li n four begun free (changed_whole e) = inr (slot-begun t i (begun-state i b h t li n four begun free e))
+    → Leaves b (TornAnd b (16 + 4 * i) h) (and_at b (16 + 4 * i) h) t → is_group (kind_of b) ≡ false → (t ≡ b) ⊎ (slot_in t i ≡ Dead)
+begun-cut i b h t li n four begun free (as_before e) g = inl e
+begun-cut i b h t li n four begun free (torn_in_it torn) g =
+    begun-torn i b h t li n four begun free torn (place-group i b t (descriptor-place i (length h) b t (omega (arith, four)) (leaves-only b h t (16 + 4 * i) n (torn_in_it torn))) g)
+begun-cut i b h t li n four begun free (changed_whole e) g =
+    inr (slot-begun t i (place-group i b t (descriptor-place i (length h) b t (omega (arith, four)) (and-only b h t (16 + 4 * i) e)) g) (begun-state i b h t li n four begun free e))
+
+-- What the programs of a write leave of the place, and of all others.
+pub filled-within : (i : ℕ) (b h x t : List ℕ) → length h ≡ 4 → length x ≡ 512 → t ≡ and_at (and_at b (16 + 4 * i) h) (512 * (i + 1)) x → InPlace i b t
+filled-within i b h x t four size e =
+    let d = and_at b (16 + 4 * i) h in
+    place-after i b d t (descriptor-place i (length h) b d (omega (arith, four)) (and-only b h d (16 + 4 * i) refl))
+    (content-place i d t (subst (λ n. OnlyBytes (512 * (i + 1)) n d t) size (and-only d x t (512 * (i + 1)) e)))
+
+pub copied-within : (i : ℕ) (b x t : List ℕ) → length x ≡ 512 → t ≡ and_at b (512 * (i + 1)) x → InPlace i b t
+copied-within i b x t size e = content-place i b t (subst (λ n. OnlyBytes (512 * (i + 1)) n b t) size (and-only b x t (512 * (i + 1)) e))
 
 -- A slot whose descriptor was begun and whose sector is written, whole or torn.
-pub content-cut : (i : ℕ) (b t : List ℕ) → i < 7 → byte b (16 + 4 * i) ≡ 254 → OnlyBytes (512 * (i + 1)) 512 b t → slot_in t i ≡ Dead
-content-cut i b t li e only = slot-begun t i (only.each (16 + 4 * i) (omega (arith, li)) (inl (omega (arith, li))) ∙ e)
+pub content-cut : (i : ℕ) (b t : List ℕ) → i < 7 → byte b (16 + 4 * i) ≡ 254 → OnlyBytes (512 * (i + 1)) 512 b t → is_group (kind_of b) ≡ false → slot_in t i ≡ Dead
+content-cut i b t li e only g = slot-begun t i (place-group i b t (content-place i b t only) g) (only.each (16 + 4 * i) (omega (arith, li)) (inl (omega (arith, li))) ∙ e)
 
 -- its commit: the descriptor, and where the place was erased the sector
 committed-head : (i : ℕ) (b h x t : List ℕ) → i < 7 → length b ≡ 4096 → length h ≡ 4 → byte h 0 ≡ 254 → ((j : ℕ) → byte h j < 256) → ((j : ℕ) → j < 4 → byte b (16 + 4 * i + j) ≡ 255)
@@ -287,21 +302,27 @@ committed-head i b h x t li n four begun bytes free e =
     let rest = λ (j : ℕ) (from : 1 ≤ j) (low : j < 4). ap (λ q. byte q (d + j)) e ∙ (placed-outside bit_and b2 d (252 ∷ []) (d + j) (inr (omega (arith, from))) ∙ head j low) in
     four-bytes d t h t0 (rest 1 (omega arith) (omega arith)) (rest 2 (omega arith) (omega arith)) (rest 3 (omega arith) (omega arith))
 
+committed-within : (i : ℕ) (b h x t : List ℕ) → length h ≡ 4 → length x ≡ 512 → t ≡ and_at (and_at (and_at b (16 + 4 * i) h) (512 * (i + 1)) x) (16 + 4 * i) (252 ∷ []) → InPlace i b t
+committed-within i b h x t four size e =
+    let d = and_at (and_at b (16 + 4 * i) h) (512 * (i + 1)) x in
+    place-after i b d t (filled-within i b h x d four size refl) (descriptor-place i 1 d t (omega arith) (and-only d (252 ∷ []) t (16 + 4 * i) e))
+
 pub committed-tag : (i : ℕ) (b h x t : List ℕ) (tag : Tag) → i < 7 → length b ≡ 4096 → length h ≡ 4 → byte h 0 ≡ 254 → ((j : ℕ) → byte h j < 256) → header_of (252 ∷ byte h 1 ∷ byte h 2 ∷ byte h 3 ∷ []) ≡ headers.Live tag
-    → ((j : ℕ) → j < 4 → byte b (16 + 4 * i + j) ≡ 255) → t ≡ and_at (and_at (and_at b (16 + 4 * i) h) (512 * (i + 1)) x) (16 + 4 * i) (252 ∷ []) → HoldsTag tag (slot_in t i)
-committed-tag i b h x t tag li n four begun bytes back free e = (content_bytes t i, slot-tagged t i (252 ∷ byte h 1 ∷ byte h 2 ∷ byte h 3 ∷ []) tag (committed-head i b h x t li n four begun bytes free e) back)
+    → ((j : ℕ) → j < 4 → byte b (16 + 4 * i + j) ≡ 255) → t ≡ and_at (and_at (and_at b (16 + 4 * i) h) (512 * (i + 1)) x) (16 + 4 * i) (252 ∷ []) → length x ≡ 512 → is_group (kind_of b) ≡ false → HoldsTag tag (slot_in t i)
+committed-tag i b h x t tag li n four begun bytes back free e size g =
+    (content_bytes t i, slot-tagged t i (252 ∷ byte h 1 ∷ byte h 2 ∷ byte h 3 ∷ []) tag (place-group i b t (committed-within i b h x t four size e) g) (committed-head i b h x t li n four begun bytes free e) back)
 
 pub committed : (i : ℕ) (b h x t : List ℕ) (tag : Tag) → i < 7 → length b ≡ 4096 → length h ≡ 4 → byte h 0 ≡ 254 → ((j : ℕ) → byte h j < 256) → header_of (252 ∷ byte h 1 ∷ byte h 2 ∷ byte h 3 ∷ []) ≡ headers.Live tag
     → length x ≡ 512 → ((j : ℕ) → byte x j < 256) → ((j : ℕ) → j < 4 → byte b (16 + 4 * i + j) ≡ 255) → content_bytes b i ≡ blank_sector
-    → t ≡ and_at (and_at (and_at b (16 + 4 * i) h) (512 * (i + 1)) x) (16 + 4 * i) (252 ∷ []) → slot_in t i ≡ Live tag x
-committed i b h x t tag li n four begun bytes back size small free blank e =
+    → t ≡ and_at (and_at (and_at b (16 + 4 * i) h) (512 * (i + 1)) x) (16 + 4 * i) (252 ∷ []) → is_group (kind_of b) ≡ false → slot_in t i ≡ Live tag x
+committed i b h x t tag li n four begun bytes back size small free blank e g =
     let d = 16 + 4 * i in
     let f = 512 * (i + 1) in
     let b1 = and_at b d h in
     let b2 = and_at b1 f x in
     let n1 : length b1 ≡ 4096 = length-placed bit_and b d h ∙ n in
     let n2 : length b2 ≡ 4096 = length-placed bit_and b1 f x ∙ n1 in
-    slot-live t i (252 ∷ byte h 1 ∷ byte h 2 ∷ byte h 3 ∷ []) tag x li (ap (λ q. length q) e ∙ (length-placed bit_and b2 d (252 ∷ []) ∙ n2)) (committed-head i b h x t li n four begun bytes free e) back size
+    slot-live t i (252 ∷ byte h 1 ∷ byte h 2 ∷ byte h 3 ∷ []) tag x (place-group i b t (committed-within i b h x t four size e) g) li (ap (λ q. length q) e ∙ (length-placed bit_and b2 d (252 ∷ []) ∙ n2)) (committed-head i b h x t li n four begun bytes free e) back size
     (λ j low. ap (λ q. byte q (f + j)) e ∙ (placed-outside bit_and b2 d (252 ∷ []) (f + j) (inr (omega (arith, li)))
     ∙ (placed-inside bit_and b1 f x j (omega (arith, size, low)) (omega (arith, n1, li, low))
     ∙ (ap (λ q. bit_and q (byte x j)) (placed-outside bit_and b d h (f + j) (inr (omega (arith, four, li))) ∙ blank-content b i blank j low) ∙ and-all (byte x j) (small j)))))
@@ -316,46 +337,41 @@ copied-head i b h x t li n four bytes free e j low =
     ap (λ q. byte q (d + j)) e ∙ (placed-inside bit_and b1 d h j (omega (arith, four, low)) (omega (arith, n1, li, low))
     ∙ (ap (λ q. bit_and q (byte h j)) (placed-outside bit_and b (512 * (i + 1)) x (d + j) (inl (omega (arith, low, li))) ∙ free j low) ∙ and-all (byte h j) (bytes j)))
 
+copied-all_within : (i : ℕ) (b h x t : List ℕ) → length h ≡ 4 → length x ≡ 512 → t ≡ and_at (and_at b (512 * (i + 1)) x) (16 + 4 * i) h → InPlace i b t
+copied-all_within i b h x t four size e =
+    let d = and_at b (512 * (i + 1)) x in
+    place-after i b d t (copied-within i b x d size refl) (descriptor-place i (length h) d t (omega (arith, four)) (and-only d h t (16 + 4 * i) e))
+
 pub copied-tag : (i : ℕ) (b h x t : List ℕ) (tag : Tag) → i < 7 → length b ≡ 4096 → length h ≡ 4 → ((j : ℕ) → byte h j < 256) → header_of h ≡ headers.Live tag → ((j : ℕ) → j < 4 → byte b (16 + 4 * i + j) ≡ 255)
-    → t ≡ and_at (and_at b (512 * (i + 1)) x) (16 + 4 * i) h → HoldsTag tag (slot_in t i)
-copied-tag i b h x t tag li n four bytes live free e = (content_bytes t i, slot-tagged t i h tag (copied-head i b h x t li n four bytes free e) live)
+    → t ≡ and_at (and_at b (512 * (i + 1)) x) (16 + 4 * i) h → length x ≡ 512 → is_group (kind_of b) ≡ false → HoldsTag tag (slot_in t i)
+copied-tag i b h x t tag li n four bytes live free e size g = (content_bytes t i, slot-tagged t i h tag (place-group i b t (copied-all_within i b h x t four size e) g) (copied-head i b h x t li n four bytes free e) live)
 
 pub copied : (i : ℕ) (b h x t : List ℕ) (tag : Tag) → i < 7 → length b ≡ 4096 → length h ≡ 4 → ((j : ℕ) → byte h j < 256) → header_of h ≡ headers.Live tag
     → length x ≡ 512 → ((j : ℕ) → byte x j < 256) → ((j : ℕ) → j < 4 → byte b (16 + 4 * i + j) ≡ 255) → content_bytes b i ≡ blank_sector
-    → t ≡ and_at (and_at b (512 * (i + 1)) x) (16 + 4 * i) h → slot_in t i ≡ Live tag x
-copied i b h x t tag li n four bytes live size small free blank e =
+    → t ≡ and_at (and_at b (512 * (i + 1)) x) (16 + 4 * i) h → is_group (kind_of b) ≡ false → slot_in t i ≡ Live tag x
+copied i b h x t tag li n four bytes live size small free blank e g =
     let d = 16 + 4 * i in
     let f = 512 * (i + 1) in
     let b1 = and_at b f x in
     let n1 : length b1 ≡ 4096 = length-placed bit_and b f x ∙ n in
-    slot-live t i h tag x li (ap (λ q. length q) e ∙ (length-placed bit_and b1 d h ∙ n1)) (copied-head i b h x t li n four bytes free e) live size
+    slot-live t i h tag x (place-group i b t (copied-all_within i b h x t four size e) g) li (ap (λ q. length q) e ∙ (length-placed bit_and b1 d h ∙ n1)) (copied-head i b h x t li n four bytes free e) live size
     (λ j low. ap (λ q. byte q (f + j)) e ∙ (placed-outside bit_and b1 d h (f + j) (inr (omega (arith, four, li)))
     ∙ (placed-inside bit_and b f x j (omega (arith, size, low)) (omega (arith, n, li, low)) ∙ (ap (λ q. bit_and q (byte x j)) (blank-content b i blank j low) ∙ and-all (byte x j) (small j)))))
 
--- A retirement makes any slot dead.
-pub retired : (i : ℕ) (b t : List ℕ) → i < 7 → length b ≡ 4096 → t ≡ and_at b (16 + 4 * i) (248 ∷ []) → slot_in t i ≡ Dead
-retired i b t li n e =
+-- A retirement makes any slot dead, in a block of slots.
+pub retired : (i : ℕ) (b t : List ℕ) → i < 7 → length b ≡ 4096 → t ≡ and_at b (16 + 4 * i) (248 ∷ []) → is_group (kind_of b) ≡ false → slot_in t i ≡ Dead
+retired i b t li n e g =
     let d = 16 + 4 * i in
     let z : d + 0 ≡ d = omega arith in
     let first : byte t d ≡ bit_and (byte b d) 248 = ap (λ q. byte q d) e ∙ subst (λ q. byte (and_at b d (248 ∷ [])) q ≡ bit_and (byte b q) 248) z (placed-inside bit_and b d (248 ∷ []) 0 (omega arith) (omega (arith, n, li))) in
     let most = and_le_r (byte b d) 248 in
-    slot-dead t i (λ q. omega (arith, first, most, q)) (λ q. omega (arith, first, most, q))
+    slot-dead t i (place-group i b t (descriptor-place i 1 b t (omega arith) (and-only b (248 ∷ []) t d e)) g) (λ q. omega (arith, first, most, q)) (λ q. omega (arith, first, most, q))
 
-pub retire-cut : (i : ℕ) (b t : List ℕ) (tag : Tag) (x : List ℕ) → i < 7 → length b ≡ 4096 → slot_in b i ≡ Live tag x → Leaves b (TornAnd b (16 + 4 * i) (248 ∷ [])) (and_at b (16 + 4 * i) (248 ∷ [])) t → (t ≡ b) ⊎ (slot_in t i ≡ Dead)
-retire-cut i b t tag x li n live l = elim (state-leaves (16 + 4 * i) 2 252 248 b t bits-retire (omega (arith, li)) n (live-state b i tag x live) refl l) as (λ _. (t ≡ b) ⊎ (slot_in t i ≡ Dead)) [
+pub retire-cut : (i : ℕ) (b t : List ℕ) (tag : Tag) (x : List ℕ) → i < 7 → length b ≡ 4096 → slot_in b i ≡ Live tag x → Leaves b (TornAnd b (16 + 4 * i) (248 ∷ [])) (and_at b (16 + 4 * i) (248 ∷ [])) t → is_group (kind_of b) ≡ false → (t ≡ b) ⊎ (slot_in t i ≡ Dead)
+retire-cut i b t tag x li n live l g = elim (state-leaves (16 + 4 * i) 2 252 248 b t bits-retire (omega (arith, li)) n (live-state b i tag x g live) refl l) as (λ _. (t ≡ b) ⊎ (slot_in t i ≡ Dead)) [
   | inl e ↦ inl e
-  | inr e ↦ inr (retired i b t li n e)
+  | inr e ↦ inr (retired i b t li n e g)
 ]
-
--- What the programs of a write leave of the place, and of all others.
-pub filled-within : (i : ℕ) (b h x t : List ℕ) → length h ≡ 4 → length x ≡ 512 → t ≡ and_at (and_at b (16 + 4 * i) h) (512 * (i + 1)) x → InPlace i b t
-filled-within i b h x t four size e =
-    let d = and_at b (16 + 4 * i) h in
-    place-after i b d t (descriptor-place i (length h) b d (omega (arith, four)) (and-only b h d (16 + 4 * i) refl))
-    (content-place i d t (subst (λ n. OnlyBytes (512 * (i + 1)) n d t) size (and-only d x t (512 * (i + 1)) e)))
-
-pub copied-within : (i : ℕ) (b x t : List ℕ) → length x ≡ 512 → t ≡ and_at b (512 * (i + 1)) x → InPlace i b t
-copied-within i b x t size e = content-place i b t (subst (λ n. OnlyBytes (512 * (i + 1)) n b t) size (and-only b x t (512 * (i + 1)) e))
 
 -- the state byte once the sector is written
 pub filled-state : (i : ℕ) (b h x t : List ℕ) → i < 7 → length b ≡ 4096 → length h ≡ 4 → byte h 0 ≡ 254 → ((j : ℕ) → j < 4 → byte b (16 + 4 * i + j) ≡ 255)
@@ -366,17 +382,38 @@ filled-state i b h x t li n four begun free e =
 
 pub commit-leaves : (i : ℕ) (b h x d t : List ℕ) (tag : Tag) → i < 7 → length b ≡ 4096 → length h ≡ 4 → byte h 0 ≡ 254 → ((j : ℕ) → byte h j < 256) → header_of (252 ∷ byte h 1 ∷ byte h 2 ∷ byte h 3 ∷ []) ≡ headers.Live tag
     → length x ≡ 512 → ((j : ℕ) → byte x j < 256) → ((j : ℕ) → j < 4 → byte b (16 + 4 * i + j) ≡ 255)
-    → d ≡ and_at (and_at b (16 + 4 * i) h) (512 * (i + 1)) x → Leaves d (TornAnd d (16 + 4 * i) (252 ∷ [])) (and_at d (16 + 4 * i) (252 ∷ [])) t → WriteLeaves i tag x b t
-commit-leaves i b h x d t tag li n four begun bytes back size small free e l =
+    → d ≡ and_at (and_at b (16 + 4 * i) h) (512 * (i + 1)) x → Leaves d (TornAnd d (16 + 4 * i) (252 ∷ [])) (and_at d (16 + 4 * i) (252 ∷ [])) t → is_group (kind_of b) ≡ false → WriteLeaves i tag x b t
+commit-leaves i b h x d t tag li n four begun bytes back size small free e l g =
     let state = filled-state i b h x d li n four begun free e in
     let long : length d ≡ 4096 = (filled-within i b h x d four size e).same_length ∙ n in
     elim (state-leaves (16 + 4 * i) 1 254 252 d t bits-commit (omega (arith, li)) long state refl l) as (λ _. WriteLeaves i tag x b t) [
-      | inl s ↦ spoiled (slot-begun t i (ap (λ q. byte q (16 + 4 * i)) s ∙ state))
+      | inl s ↦ spoiled (slot-begun t i (place-group i b t (place-after i b d t (filled-within i b h x d four size e) (place-same i d t s)) g) (ap (λ q. byte q (16 + 4 * i)) s ∙ state))
       | inr s ↦
           let whole = s ∙ ap (λ q. and_at q (16 + 4 * i) (252 ∷ [])) e in
-          filled (committed-tag i b h x t tag li n four begun bytes back free whole) (λ blank. committed i b h x t tag li n four begun bytes back size small free blank whole)
+          filled (committed-tag i b h x t tag li n four begun bytes back free whole size g) (λ blank. committed i b h x t tag li n four begun bytes back size small free blank whole g)
     ]
 
 pub fill-leaves : (i : ℕ) (tag : Tag) (x b t : List ℕ) → (t ≡ b) ⊎ (slot_in t i ≡ Dead) → WriteLeaves i tag x b t
 fill-leaves i tag x b t (inl e) = untouched e
 fill-leaves i tag x b t (inr e) = spoiled e
+
+-- a block of a group: its state byte, and its retirement
+live-number : (h : Header) → IsGroupKind (group_kind h) → header_number h ≡ 1
+live-number headers.Free p = absurd p
+live-number (headers.Live tag) p = refl
+live-number headers.NoGeneration p = absurd p
+live-number headers.Dead p = absurd p
+
+group-state : (b : List ℕ) (tag : Tag) → kind_of b ≡ kinds.Group tag → byte b 0 ≡ 252
+group-state b tag e = first-live b (live-number (header_of b) (group-header b tag e))
+
+pub retire-group : (b t : List ℕ) (tag : Tag) → length b ≡ 4096 → kind_of b ≡ kinds.Group tag → t ≡ and_at b 0 (248 ∷ []) → kind_of t ≡ kinds.DeadGroup
+retire-group b t tag n k e =
+    let first : byte t 0 ≡ 248 = ap (λ x. byte x 0) e ∙ (placed-inside bit_and b 0 (248 ∷ []) 0 (omega arith) (omega (arith, n)) ∙ ap (λ x. bit_and x 248) (group-state b tag k)) in
+    dead-kind t (λ q. omega (arith, first, q)) (λ q. omega (arith, first, q))
+
+pub retire-group_cut : (b t : List ℕ) (tag : Tag) → length b ≡ 4096 → kind_of b ≡ kinds.Group tag → Leaves b (TornAnd b 0 (248 ∷ [])) (and_at b 0 (248 ∷ [])) t → (t ≡ b) ⊎ (kind_of t ≡ kinds.DeadGroup)
+retire-group_cut b t tag n k l = elim (state-leaves 0 2 252 248 b t bits-retire (omega arith) n (group-state b tag k) refl l) as (λ _. (t ≡ b) ⊎ (kind_of t ≡ kinds.DeadGroup)) [
+  | inl e ↦ inl e
+  | inr e ↦ inr (retire-group b t tag n k e)
+]

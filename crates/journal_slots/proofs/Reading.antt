@@ -9,10 +9,11 @@ use Rattle.chip_model.specs.Parts.{part}
 use Rattle.nor_layout.specs.declared.header.Header.{Header}
 use Rattle.nor_layout.specs.declared.header.Header.TheVariants as headers
 use Rattle.nor_layout.specs.declared.header.Tag.{Tag}
+use Rattle.nor_layout.specs.declared.kind.Kind.{Kind}
 use Rattle.nor_layout.specs.declared.kind.Kind.TheVariants as kinds
 use Rattle.nor_layout.specs.Headers.{header_of}
 use Rattle.nor_layout.specs.Kinds.{kind_of}
-use Rattle.sector_slots.specs.Slots.{Free, Live, slot_in, content_bytes, descriptor_in, data_block}
+use Rattle.sector_slots.specs.Slots.{Free, Live, slot_in, content_bytes, descriptor_in, header_in, data_block}
 use Rattle.sector_slots.specs.Steps.{IsBegun}
 use Rattle.journal_slots.proofs.Marks.{header-bytes, kind-bytes}
 use Rattle.journal_slots.proofs.Places.{number_of, header_number, slot-header, slot-number}
@@ -67,13 +68,21 @@ head-descriptor b h i e low =
     let at = λ (j : ℕ) (small : j < 4). get_or-drop (16 + 4 * i) h j 0 ∙ (head-byte b h (16 + 4 * i + j) e (omega (arith, low, small)) ∙ sym (get_or-drop (16 + 4 * i) b j 0)) in
     header-bytes (drop (16 + 4 * i) h) (drop (16 + 4 * i) b) (at 0 (omega arith)) (at 1 (omega arith)) (at 2 (omega arith)) (at 3 (omega arith))
 
-pub seven-headers : (h : List ℕ) (a b c d e f g : Header) → a ≡ header_of (drop 16 h) → b ≡ header_of (drop 20 h) → c ≡ header_of (drop 24 h) → d ≡ header_of (drop 28 h) → e ≡ header_of (drop 32 h) → f ≡ header_of (drop 36 h) → g ≡ header_of (drop 40 h)
-    → (i : ℕ) → i < 7 → slice_index_or (a ∷ b ∷ c ∷ d ∷ e ∷ f ∷ g ∷ []) i headers.Free ≡ header_of (drop (16 + 4 * i) h)
-seven-headers h a b c d e f g p q r s t u v zero low = p
-seven-headers h a b c d e f g p q r s t u v (suc zero) low = q
-seven-headers h a b c d e f g p q r s t u v (suc (suc zero)) low = r
-seven-headers h a b c d e f g p q r s t u v (suc (suc (suc zero))) low = s
-seven-headers h a b c d e f g p q r s t u v (suc (suc (suc (suc zero)))) low = t
-seven-headers h a b c d e f g p q r s t u v (suc (suc (suc (suc (suc zero))))) low = u
-seven-headers h a b c d e f g p q r s t u v (suc (suc (suc (suc (suc (suc zero)))))) low = v
-seven-headers h a b c d e f g p q r s t u v (suc (suc (suc (suc (suc (suc (suc i))))))) low = absurd (omega (arith, low))
+-- what is said of a place
+pub head-kind : (b h : List ℕ) → h ≡ slice_range b 0 44 → kind_of h ≡ kind_of b
+head-kind b h e = kind-bytes h b (λ k low. head-byte b h k e (omega (arith, low)))
+
+pub head-place : (b h : List ℕ) (i : ℕ) → h ≡ slice_range b 0 44 → i < 7 → header_in (kind_of h) (header_of (drop (16 + 4 * i) h)) i ≡ descriptor_in b i
+unfolding descriptor_in
+head-place b h i e low = ap (λ k. header_in k (header_of (drop (16 + 4 * i) h)) i) (head-kind b h e) ∙ ap (λ w. header_in (kind_of b) w i) (head-descriptor b h i e low)
+
+pub seven-headers : (k : Kind) (h : List ℕ) (a b c d e f g : Header) → a ≡ header_in k (header_of (drop 16 h)) 0 → b ≡ header_in k (header_of (drop 20 h)) 1 → c ≡ header_in k (header_of (drop 24 h)) 2 → d ≡ header_in k (header_of (drop 28 h)) 3 → e ≡ header_in k (header_of (drop 32 h)) 4 → f ≡ header_in k (header_of (drop 36 h)) 5 → g ≡ header_in k (header_of (drop 40 h)) 6
+    → (i : ℕ) → i < 7 → slice_index_or (a ∷ b ∷ c ∷ d ∷ e ∷ f ∷ g ∷ []) i headers.Free ≡ header_in k (header_of (drop (16 + 4 * i) h)) i
+seven-headers k h a b c d e f g p q r s t u v zero low = p
+seven-headers k h a b c d e f g p q r s t u v (suc zero) low = q
+seven-headers k h a b c d e f g p q r s t u v (suc (suc zero)) low = r
+seven-headers k h a b c d e f g p q r s t u v (suc (suc (suc zero))) low = s
+seven-headers k h a b c d e f g p q r s t u v (suc (suc (suc (suc zero)))) low = t
+seven-headers k h a b c d e f g p q r s t u v (suc (suc (suc (suc (suc zero))))) low = u
+seven-headers k h a b c d e f g p q r s t u v (suc (suc (suc (suc (suc (suc zero)))))) low = v
+seven-headers k h a b c d e f g p q r s t u v (suc (suc (suc (suc (suc (suc (suc i))))))) low = absurd (omega (arith, low))

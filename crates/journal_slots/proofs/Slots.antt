@@ -14,7 +14,8 @@ use Rattle.erase_journal.specs.Recovery.{Restored, RestoreCut}
 use Rattle.sector_slots.proofs.BlankLaws.{same-blocks_slots}
 use Rattle.sector_slots.proofs.StepLaws.{same-slots}
 use Rattle.sector_slots.proofs.SlotLaws.{counted-raw}
-use Rattle.sector_slots.specs.Slots.{Slot, Free, Live, Dead, Outside, IsLive, slot_in, content_bytes, blank_sector, counted, copies, is_void, is_copy_of, is_counted, data_blocks, data_block, kind_at, raw_slot, slot_at, stored_at, slot_count, IsClean, SameSlots}
+use Rattle.sector_slots.specs.Slots.{Slot, Free, Live, NoGeneration, Dead, Outside, IsLive, slot_in, content_bytes, blank_sector, counted, copies, is_void, is_copy_of, is_counted, data_blocks, data_block, kind_at, raw_slot, slot_at, stored_at, slot_count, IsClean, SameSlots}
+use Rattle.sector_slots.specs.Copying.{to_copy}
 use Rattle.journal_slots.specs.Programs.{InPlace, WriteLeaves, untouched, spoiled, filled}
 use Rattle.sector_slots.proofs.CopyLaws.{copies-same}
 use Rattle.sector_slots.proofs.CleanLaws.{clean-only}
@@ -192,6 +193,9 @@ abbrev number_in : Option ℕ → ℕ
 number_in None = 0
 number_in (Some n) = n
 
+pub none-some : (found : Option ℕ) (a : ℕ) → found ≡ None → found ≡ Some a → ⊥
+none-some found a e f = cc
+
 pub same-number : (found : Option ℕ) (a b : ℕ) → found ≡ Some a → found ≡ Some b → a ≡ b
 same-number found a b e f = ap number_in (sym e ∙ f)
 
@@ -205,3 +209,11 @@ restore-left old new (inr h) = same-blocks_slots old.memory new.memory h.blocks
 
 pub restore-cut_slots : (old new : NorState) → RestoreCut old new → old.is_slow ≡ false → SameSlots old.memory new.memory
 restore-cut_slots old new h quick = restore-left old new (h.leaves quick)
+
+-- what isn't live isn't copied
+pub not-copied : (kind : Kind) (old : Slot) → ((tag : Tag) (x : List ℕ) → old ≢ Live tag x) → (tag : Tag) (x : List ℕ) → to_copy kind old ≢ Live tag x
+not-copied kind Free out tag x e = out tag x e
+not-copied kind (Live t y) out tag x e = out t y refl
+not-copied kind NoGeneration out tag x e = out tag x e
+not-copied kind Dead out tag x e = out tag x e
+not-copied kind Outside out tag x e = out tag x e

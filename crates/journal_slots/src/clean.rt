@@ -160,6 +160,9 @@ fn is_plain(kind: Kind) -> bool
         Kind::Void => false,
         Kind::Committed(_) => false,
         Kind::Settled => false,
+        Kind::Group(_) => false,
+        Kind::DeadGroup => false,
+        Kind::SpoiltGroup => false,
         Kind::Unknown => false,
     }
 }

@@ -8,12 +8,13 @@ ghost use Rattle.nor_layout.specs.Headers.{header_of};
 ghost use Rattle.nor_layout.specs.Kinds.{kind_of};
 ghost use Rattle.erase_journal.specs.Steps.{SucceedsSettled};
 ghost use Rattle.sector_slots.specs.Slots.{data_blocks, data_block, descriptor_in, kind_at};
-ghost use Rattle.sector_slots.specs.Slots.{read_header};
+ghost use Rattle.sector_slots.specs.Slots.{read_header, header_in};
+ghost use Rattle.nor_layout.specs.declared.header.Tag.{Tag as TagOf};
 
 use crate::store::FIRST_DATA_BLOCK;
 use erase_journal::Journal;
 use nor_driver::{Nor, NorError};
-use nor_layout::{Header, Kind, block_kind, block_state};
+use nor_layout::{Header, Kind, Tag, block_kind, block_state};
 
 /// The bytes of a head: eight of the mark, and seven descriptors from byte 16 on.
 pub(crate) const HEAD_LEN: usize = 44;
@@ -22,7 +23,7 @@ pub(crate) const HEAD_LEN: usize = 44;
 #[derive(Drop)]
 pub(crate) struct BlockHead {
     pub(crate) kind: Kind,
-    /// What the descriptors of its slots say, whether they count or not.
+    /// What is said of its places, whether they count or not.
     pub(crate) places: [Header; 7],
 }
 
@@ -35,23 +36,46 @@ fn place_state(head: &[u8; HEAD_LEN], place: usize) -> Header
     block_state([head[from], head[from + 1], head[from + 2], head[from + 3]])
 }
 
+/// What is said of a place in a block of this kind, whose descriptor says this: of a block of a
+/// group that it is live with one of the group's sectors, or dead.
+fn seen(kind: Kind, written: Header, place: u16) -> Header
+    requires place { place < 7 }
+    requires small { (group : TagOf) → kind ≡ Kind.Group group → group.number < 9362 }
+    ensures { result ≡ header_in kind written place }
+{
+    match kind {
+        Kind::Plain => written,
+        Kind::Void => written,
+        Kind::Committed(_) => written,
+        Kind::Settled => written,
+        Kind::Group(group) => Header::Live(Tag {
+            number: 7 * group.number + place,
+            generation: group.generation,
+        }),
+        Kind::DeadGroup => Header::Dead,
+        Kind::SpoiltGroup => Header::NoGeneration,
+        Kind::Unknown => written,
+    }
+}
+
 /// What the first bytes of a block say. Any bytes may be passed.
 pub(crate) fn head_of(head: &[u8; HEAD_LEN]) -> BlockHead
     ensures kind { result.kind ≡ kind_of head.now }
     ensures places { (i : ℕ) → i < 7
-        → slice_index_or result.places i Header.Free ≡ header_of (drop (16 + 4 * i) head.now) }
+        → slice_index_or result.places i Header.Free
+        ≡ header_in (kind_of head.now) (header_of (drop (16 + 4 * i) head.now)) i }
 {
     let kind = block_kind([
         head[0], head[1], head[2], head[3], head[4], head[5], head[6], head[7],
     ]);
     let places = [
-        place_state(head, 0),
-        place_state(head, 1),
-        place_state(head, 2),
-        place_state(head, 3),
-        place_state(head, 4),
-        place_state(head, 5),
-        place_state(head, 6),
+        seen(kind, place_state(head, 0), 0),
+        seen(kind, place_state(head, 1), 1),
+        seen(kind, place_state(head, 2), 2),
+        seen(kind, place_state(head, 3), 3),
+        seen(kind, place_state(head, 4), 4),
+        seen(kind, place_state(head, 5), 5),
+        seen(kind, place_state(head, 6), 6),
     ];
     BlockHead { kind, places }
 }

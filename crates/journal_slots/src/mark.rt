@@ -6,7 +6,8 @@ ghost use Rattle.chip_model.specs.Geometry.{IsChipSize};
 ghost use Rattle.chip_model.specs.Memory.{byte};
 ghost use Rattle.nor_driver.specs.State.{Refuses};
 ghost use Rattle.nor_layout.specs.Kinds.{kind_of};
-ghost use Rattle.erase_journal.specs.Blocks.{SameChip, WithErased};
+ghost use Rattle.nor_layout.specs.declared.header.Tag.{Tag as TagOf};
+ghost use Rattle.erase_journal.specs.Blocks.{SameChip, OnlyBlock, WithErased};
 ghost use Rattle.erase_journal.specs.Journals.{IsHealthy};
 ghost use Rattle.erase_journal.specs.Steps.{EraseInterrupted, SucceedsSettled};
 ghost use Rattle.sector_slots.specs.Slots.{data_blocks, data_block, kind_at};
@@ -15,7 +16,7 @@ ghost use Rattle.sector_slots.specs.Steps.{OnlyMark, IsBegun};
 use crate::store::FIRST_DATA_BLOCK;
 use erase_journal::Journal;
 use nor_driver::{Nor, NorError};
-use nor_layout::{COMMITTED, Kind, MARK_LEN, SETTLED, block_kind};
+use nor_layout::{COMMITTED, Kind, MARK_LEN, RETIRED, SETTLED, block_kind};
 
 /// What the first eight bytes of a block say of it.
 pub(crate) fn read_kind<N: Nor>(journal: &mut Journal<N>, block: u16) -> Result<Kind, NorError>
@@ -106,6 +107,27 @@ pub(crate) fn settle_mark<N: Nor>(journal: &mut Journal<N>, target: u16) -> Resu
     ensures fails { IfErr result (λ e. Refuses e journal.old journal.new) }
 {
     journal.program(target + FIRST_DATA_BLOCK, 4, &[SETTLED])?;
+    Ok(())
+}
+
+/// Makes a live block of a group dead.
+pub(crate) fn retire_header<N: Nor>(journal: &mut Journal<N>, block: u16) -> Result<(), NorError>
+    requires number { block < data_blocks journal.old.memory }
+    requires sized { IsChipSize (length journal.old.memory) }
+    ensures ok { OnOk result ((group : TagOf)
+        → kind_at journal.old.memory block ≡ Kind.Group group
+        → kind_at journal.new.memory block ≡ Kind.DeadGroup) }
+    ensures cut { IsErrOf result NorError.Cut → (group : TagOf)
+        → kind_at journal.old.memory block ≡ Kind.Group group
+        → (data_block journal.new.memory block ≡ data_block journal.old.memory block)
+        ⊎ (kind_at journal.new.memory block ≡ Kind.DeadGroup) }
+    ensures only { OnlyBlock (block + 4) journal.old.memory journal.new.memory }
+    ensures healthy { IsErrOf result NorError.Cut → IsHealthy journal.old.memory
+        → IsHealthy journal.new.memory }
+    ensures done { OnOk result (SucceedsSettled journal.old journal.new) }
+    ensures fails { IfErr result (λ e. Refuses e journal.old journal.new) }
+{
+    journal.program(block + FIRST_DATA_BLOCK, 0, &[RETIRED])?;
     Ok(())
 }
 

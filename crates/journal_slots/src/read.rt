@@ -11,13 +11,14 @@ ghost use Rattle.sector_slots.specs.Slots.{Free, Live, data_blocks, data_block, 
 ghost use Rattle.sector_slots.specs.Slots.{content_bytes, raw_slot, stored_at, slot_count};
 ghost use Rattle.sector_slots.specs.Steps.{IsBegun};
 
+use crate::head::read_head;
 use crate::store::FIRST_DATA_BLOCK;
-use crate::write::{PLACES, content_place, descriptor_place};
+use crate::write::{PLACES, content_place};
 use erase_journal::Journal;
 use nor_driver::{Nor, NorError};
-use nor_layout::{COMMITTED, HEADER_LEN, Header, Kind, MARK_LEN, Tag, block_kind, block_state};
+use nor_layout::{COMMITTED, Header, Kind, MARK_LEN, Tag, block_kind};
 
-/// What the descriptor at a place says.
+/// What is said of a place: by its descriptor, or in a block of a group by its header.
 pub(crate) fn read_header<N: Nor>(
     journal: &mut Journal<N>,
     block: u16,
@@ -32,9 +33,9 @@ pub(crate) fn read_header<N: Nor>(
     ensures done { OnOk result (SucceedsSettled journal.old journal.new) }
     ensures fails { IfErr result (λ e. Refuses e journal.old journal.new) }
 {
-    let mut head = [0; HEADER_LEN];
-    journal.read(block + FIRST_DATA_BLOCK, descriptor_place(place), &mut head)?;
-    Ok(block_state(head))
+    let mut heads = [Header::Free; 7];
+    read_head(journal, block, &mut heads)?;
+    Ok(heads[place as usize])
 }
 
 /// The sector at a place, live or not.

@@ -11,13 +11,15 @@ ghost use Rattle.sector_slots.specs.Slots.{Free, Live, Dead, data_blocks, data_b
 ghost use Rattle.sector_slots.specs.Slots.{raw_slot, slot_at, slot_count, IsClean, IsLive};
 ghost use Rattle.journal_slots.specs.Programs.{InPlace};
 ghost use Rattle.sector_slots.specs.Steps.{IsWritable, PutLeaves, HoldsTag, MayHoldTag, OnlyPlace};
-ghost use Rattle.sector_slots.specs.Steps.{IsBegun, IsErasedSlot, CopyLeaves};
+ghost use Rattle.sector_slots.specs.Steps.{IsRetirable, IsBegun, IsErasedSlot, CopyLeaves};
+ghost use Rattle.sector_slots.specs.Copying.{copied_tag, source_slot};
 
+use crate::mark::read_kind;
 use crate::read::{read_slot, read_source};
 use crate::write::{PLACES, copy_in, put_in, retire_in};
 use erase_journal::Journal;
 use nor_driver::{Nor, NorError};
-use nor_layout::{Kind, Tag};
+use nor_layout::{Generation, Kind, Tag};
 
 /// The bytes of a sector.
 pub const SECTOR_LEN: usize = 512;
@@ -56,18 +58,18 @@ pub(crate) fn put_at<N: Nor>(
     Ok(())
 }
 
-/// Makes a live slot dead.
+/// Makes a live slot dead, in a block of slots.
 pub(crate) fn retire_at<N: Nor>(journal: &mut Journal<N>, slot: u16) -> Result<(), NorError>
     requires number { slot < slot_count journal.old.memory }
     requires sized { IsChipSize (length journal.old.memory) }
-    ensures ok { OnOk result (IsLive (slot_at journal.old.memory slot)
+    ensures ok { OnOk result (IsRetirable slot journal.old.memory
         → slot_at journal.new.memory slot ≡ Dead) }
-    ensures cut { IsErrOf result NorError.Cut → IsLive (slot_at journal.old.memory slot)
+    ensures cut { IsErrOf result NorError.Cut → IsRetirable slot journal.old.memory
         → (slot_at journal.new.memory slot ≡ slot_at journal.old.memory slot)
         ⊎ (slot_at journal.new.memory slot ≡ Dead) }
-    ensures clean { OnOk result (IsLive (slot_at journal.old.memory slot)
+    ensures clean { OnOk result (IsRetirable slot journal.old.memory
         → IsClean journal.old.memory → IsClean journal.new.memory) }
-    ensures cut_clean { IsErrOf result NorError.Cut → IsLive (slot_at journal.old.memory slot)
+    ensures cut_clean { IsErrOf result NorError.Cut → IsRetirable slot journal.old.memory
         → IsClean journal.old.memory → IsClean journal.new.memory }
     ensures only { OnOk result (OnlyPlace slot journal.old.memory journal.new.memory) }
     ensures cut_only { IsErrOf result NorError.Cut
@@ -82,6 +84,26 @@ pub(crate) fn retire_at<N: Nor>(journal: &mut Journal<N>, slot: u16) -> Result<(
     Ok(())
 }
 
+/// The tag of the copy of a slot in a block of this kind: of a block of a group with the first
+/// generation, of any other the slot's own.
+fn copied_tag(kind: Kind, tag: Tag) -> Tag
+    ensures { result ≡ copied_tag kind tag }
+{
+    match kind {
+        Kind::Plain => tag,
+        Kind::Void => tag,
+        Kind::Committed(_) => tag,
+        Kind::Settled => tag,
+        Kind::Group(_) => Tag {
+            number: tag.number,
+            generation: Generation::Zero,
+        },
+        Kind::DeadGroup => tag,
+        Kind::SpoiltGroup => tag,
+        Kind::Unknown => tag,
+    }
+}
+
 /// Copies a slot of one block, where it is live, to the same place of another.
 fn copy_from<N: Nor>(
     journal: &mut Journal<N>,
@@ -94,7 +116,7 @@ fn copy_from<N: Nor>(
     requires place { place < 7 }
     requires sized { IsChipSize (length journal.old.memory) }
     ensures ok { OnOk result (raw_slot journal.old.memory target place ≡ Free
-        → CopyLeaves (raw_slot journal.old.memory source place) target place journal.old.memory
+        → CopyLeaves (source_slot journal.old.memory source place) target place journal.old.memory
         journal.new.memory) }
     ensures within { OnOk result (InPlace place (data_block journal.old.memory target)
         (data_block journal.new.memory target)) }
@@ -108,9 +130,10 @@ fn copy_from<N: Nor>(
     ensures fails { IfErr result (λ e. Refuses e journal.old journal.new) }
 {
     let mut content = [0; SECTOR_LEN];
+    let kind = read_kind(journal, source)?;
     match read_slot(journal, source, place, &mut content)? {
         Some(tag) => {
-            copy_in(journal, target, place, tag, &content)?;
+            copy_in(journal, target, place, copied_tag(kind, tag), &content)?;
             Ok(())
         }
         None => Ok(()),
@@ -129,7 +152,7 @@ pub(crate) fn copy_at<N: Nor>(
     ensures ok { OnOk result ((source : ℕ) → source < data_blocks journal.old.memory
         → IsBegun target source journal.old.memory → raw_slot journal.old.memory target place ≡ Free
         → IsBegun target source journal.new.memory
-        × CopyLeaves (raw_slot journal.old.memory source place) target place journal.old.memory
+        × CopyLeaves (source_slot journal.old.memory source place) target place journal.old.memory
         journal.new.memory) }
     ensures cut { IsErrOf result NorError.Cut → kind_at journal.old.memory target ≡ Kind.Void
         → kind_at journal.new.memory target ≡ Kind.Void }

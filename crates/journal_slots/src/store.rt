@@ -12,7 +12,7 @@ ghost use Rattle.sector_slots.specs.Slots.{data_blocks, kind_at};
 
 use crate::clean::read_clean;
 use crate::head::read_head;
-use crate::mark::{commit_mark, erase_data, program_mark, read_kind, settle_mark};
+use crate::mark::{commit_mark, erase_data, program_mark, read_kind, retire_header, settle_mark};
 use crate::read::{content_at, free_at, read_header, read_slot};
 use crate::slot::{copy_at, put_at, retire_at};
 use crate::write::PLACES;
@@ -131,6 +131,10 @@ impl<N: Nor> SlotCalls for SectorSlots<N> {
         retire_at(&mut self.journal, slot)
     }
 
+    fn retire_group(&mut self, block: u16) -> Result<(), NorError> {
+        retire_header(&mut self.journal, block)
+    }
+
     fn kind(&mut self, block: u16) -> Result<Kind, NorError> {
         read_kind(&mut self.journal, block)
     }
@@ -159,6 +163,14 @@ impl<N: Nor> SlotCalls for SectorSlots<N> {
 
     fn erase(&mut self, block: u16) -> Result<(), NorError> {
         erase_data(&mut self.journal, block)
+    }
+
+    fn superblock(&mut self, into: &mut [u8]) -> Result<(), NorError> {
+        self.journal.superblock(into)
+    }
+
+    fn mark(&mut self) -> Result<(), NorError> {
+        self.journal.mark()
     }
 
     fn restore(&mut self) -> Result<(), RecoverError> {

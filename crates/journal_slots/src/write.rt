@@ -1,7 +1,8 @@
 //! The programs of one slot, over a journal: each leaves all other slots, and all other blocks, as
 //! they were.
 
-ghost use Rattle.std.specs.Prelude.{◌≡◌, ◌⊎◌, ◌+◌, ◌*◌, ◌%◌, ◌<◌, ◌≤◌, ℕ, length, OnOk, IfErr};
+ghost use Rattle.std.specs.Prelude.{◌≡◌, ◌⊎◌, false, ◌+◌, ◌*◌, ◌%◌, ◌<◌, ◌≤◌, ℕ, length, OnOk};
+ghost use Rattle.std.specs.Prelude.{IfErr};
 ghost use Rattle.std.specs.Result.{IsErrOf};
 ghost use Rattle.chip_model.specs.Geometry.{IsChipSize};
 ghost use Rattle.chip_model.specs.Memory.{byte, and_at, TornAnd};
@@ -10,7 +11,7 @@ ghost use Rattle.erase_journal.specs.Blocks.{OnlyBlock};
 ghost use Rattle.erase_journal.specs.Journals.{IsHealthy};
 ghost use Rattle.erase_journal.specs.Steps.{SucceedsSettled};
 ghost use Rattle.sector_slots.specs.Slots.{Free, Live, Dead, data_blocks, data_block, raw_slot};
-ghost use Rattle.sector_slots.specs.Slots.{IsLive};
+ghost use Rattle.sector_slots.specs.Slots.{IsLive, is_group, kind_at};
 ghost use Rattle.journal_slots.specs.Programs.{OnlyBytes, InPlace, WriteLeaves};
 ghost use Rattle.sector_slots.specs.Steps.{HoldsTag, IsErasedSlot};
 
@@ -203,7 +204,7 @@ pub(crate) fn copy_in<N: Nor>(
     Ok(())
 }
 
-/// Makes a live slot dead.
+/// Makes a live slot dead, in a block of slots.
 pub(crate) fn retire_in<N: Nor>(
     journal: &mut Journal<N>,
     block: u16,
@@ -212,8 +213,10 @@ pub(crate) fn retire_in<N: Nor>(
     requires number { block < data_blocks journal.old.memory }
     requires place { place < 7 }
     requires sized { IsChipSize (length journal.old.memory) }
-    ensures ok { OnOk result (raw_slot journal.new.memory block place ≡ Dead) }
+    ensures ok { OnOk result (is_group (kind_at journal.old.memory block) ≡ false
+        → raw_slot journal.new.memory block place ≡ Dead) }
     ensures cut { IsErrOf result NorError.Cut → IsLive (raw_slot journal.old.memory block place)
+        → is_group (kind_at journal.old.memory block) ≡ false
         → (data_block journal.new.memory block ≡ data_block journal.old.memory block)
         ⊎ (raw_slot journal.new.memory block place ≡ Dead) }
     ensures within { OnOk result (InPlace place (data_block journal.old.memory block)

@@ -1,18 +1,25 @@
-//! How the slots of a data block came into it (layout 2).
+//! What a data block is: slots, and how they came into it (layout 2), or a group (layout 1).
 
-ghost use Rattle.std.specs.Prelude.{◌≡◌, ◌∷◌, [], ◌+◌, ◌*◌};
+ghost use Rattle.std.specs.Prelude.{◌≡◌, ◌<◌, ◌∷◌, [], ◌+◌, ◌*◌};
 ghost use Rattle.chip_model.specs.Memory.{byte};
-ghost use Rattle.nor_layout.specs.Kinds.{kind_of};
+ghost use Rattle.nor_layout.specs.Headers.{header_of};
+ghost use Rattle.nor_layout.specs.declared.header.Tag.{Tag as TagOf};
+ghost use Rattle.nor_layout.specs.Kinds.{kind_of, group_kind};
 
+use crate::header::{Header, Tag, block_state};
 use byteorder::{ByteOrder, LittleEndian};
 
 /// The bytes of a data block that say its kind.
 pub const MARK_LEN: usize = 8;
 
+/// How many groups have sectors whose numbers fit 16 bits.
+const GROUP_LIMIT: u16 = 9_362;
+
 /// Byte 4 of a block that is a copy, and whose source is erased.
 pub const SETTLED: u8 = 0xF8;
 
-/// How the slots of a data block came into it, and so whether they count. Source: own, layout 2.
+/// What a data block is: how the slots came into it, and so whether they count; or that it holds a
+/// group of seven sectors. Source: own.
 #[derive(Clone, Copy, Debug, PartialEq, Eq, Drop)]
 pub enum Kind {
     /// Its slots were written one by one.
@@ -24,16 +31,38 @@ pub enum Kind {
     Committed(u16),
     /// A copy whose source was erased: its slots count.
     Settled,
+    /// A block of layout 1: the seven sectors of a group, which count.
+    Group(Tag),
+    /// A block of layout 1 that holds nothing: its write was interrupted, or it was retired.
+    DeadGroup,
+    /// A block of layout 1 that is committed without a generation, or with a group that no chip
+    /// has. No write leaves this.
+    SpoiltGroup,
     /// No write leaves this.
     Unknown,
 }
 
+fn group_kind(header: Header) -> Kind
+    ensures exact { result ≡ group_kind header }
+    ensures small { (group : TagOf) → result ≡ Kind.Group group → group.number < GROUP_LIMIT }
+{
+    match header {
+        Header::Free => Kind::Unknown,
+        Header::Live(tag) if tag.number < GROUP_LIMIT => Kind::Group(tag),
+        Header::Live(_) => Kind::SpoiltGroup,
+        Header::NoGeneration => Kind::SpoiltGroup,
+        Header::Dead => Kind::DeadGroup,
+    }
+}
+
 /// What the first eight bytes of a data block say. Any bytes may be passed.
 pub fn block_kind(bytes: [u8; MARK_LEN]) -> Kind
-    ensures { result ≡ kind_of bytes }
+    ensures exact { result ≡ kind_of bytes }
+    // So the numbers of its sectors fit 16 bits.
+    ensures small { (group : TagOf) → result ≡ Kind.Group group → group.number < GROUP_LIMIT }
 {
     if bytes[0] != 0xFF || bytes[1] != 0xFF || bytes[2] != 0xFF || bytes[3] != 0xFF {
-        return Kind::Unknown;
+        return group_kind(block_state([bytes[0], bytes[1], bytes[2], bytes[3]]));
     }
     let source = LittleEndian::read_u16(&[bytes[6], bytes[7]]);
     match bytes[4] {

@@ -5,7 +5,7 @@ ghost use Rattle.chip_model.specs.Memory.{byte};
 ghost use Rattle.nor_layout.specs.Layouts.{layout_of};
 ghost use Rattle.nor_layout.specs.Superblock.{BeginsWith};
 
-use crate::superblock::{SEAL, SEAL_PLACE, SUPER_LEN, SuperError, UNSEALED_LEN, has_name};
+use crate::superblock::{MIXED, SEAL, SEAL_PLACE, SUPER_LEN, SuperError, UNSEALED_LEN, has_name};
 use byteorder::{ByteOrder, LittleEndian};
 use chip_model::Geometry;
 
@@ -16,6 +16,8 @@ pub enum Layout {
     Groups,
     /// Layout 2: a block has seven slots, each of one sector.
     Sectors,
+    /// Layout 1 on its way to layout 2: blocks of both.
+    Mixed,
 }
 
 /// Which layout the first bytes of block 0 say, where they are the superblock of a chip of these
@@ -26,7 +28,7 @@ pub fn read_layout(bytes: &[u8; SUPER_LEN], chip: Geometry) -> Result<Layout, Su
     if !has_name(bytes) || bytes[14] != SEAL {
         return Err(SuperError::NotFormatted);
     }
-    if bytes[8] != 1 && bytes[8] != 2 {
+    if bytes[8] != 2 && (bytes[8] != 1 || bytes[15] != 0xFF && bytes[15] != MIXED) {
         return Err(SuperError::Layout);
     }
     let blocks = LittleEndian::read_u16(&[bytes[9], bytes[10]]);
@@ -34,10 +36,13 @@ pub fn read_layout(bytes: &[u8; SUPER_LEN], chip: Geometry) -> Result<Layout, Su
     if blocks != chip.blocks || groups != chip.groups {
         return Err(SuperError::Geometry);
     }
-    if bytes[8] == 1 {
+    if bytes[8] == 2 {
+        return Ok(Layout::Sectors);
+    }
+    if bytes[15] == 0xFF {
         return Ok(Layout::Groups);
     }
-    Ok(Layout::Sectors)
+    Ok(Layout::Mixed)
 }
 
 /// The first bytes of the superblock of a chip of these counts in layout 2: its name, the layout

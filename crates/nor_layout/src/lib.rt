@@ -4,7 +4,7 @@
 //! Promised: each reader gives exactly the meaning of the bytes that it is given, whatever they are
 //! (`specs/`), and what a writer wrote is read back. `read_super` and `read_layout` answer the
 //! first check that fails; `vote_state`, `entry_state` and `block_state` say what a byte or four
-//! bytes are, `block_kind` what the first eight of a block of slots are; `super_bytes`,
+//! bytes are, `block_kind` what the first eight of a data block are; `super_bytes`,
 //! `sector_super_bytes`, `vote_byte`, `taken_entry`, `begun_header`, `live_header` and `begun_mark`
 //! give the bytes to be programmed. A state byte only loses bits: begun, committed and retired (or
 //! settled), or open and closed, are one program each. No call takes memory or touches the chip.
@@ -34,6 +34,7 @@ pub use journal::{BLOCK_LEN, JOURNALS_END, JournalId};
 pub use kind::{Kind, MARK_LEN, SETTLED, begun_mark, block_kind};
 pub use layout::{Layout, read_layout, sector_super_bytes};
 pub use superblock::{
-    SEAL, SEAL_PLACE, SUPER_LEN, SuperError, UNSEALED_LEN, read_super, super_bytes,
+    MIXED, MIXED_PLACE, SEAL, SEAL_PLACE, SUPER_LEN, SuperError, UNSEALED_LEN, read_super,
+    super_bytes,
 };
 pub use vote::{REGION_LEN, VOTES, Vote, vote_byte, vote_state};

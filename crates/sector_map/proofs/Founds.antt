@@ -3,9 +3,10 @@ use Rattle.std.proofs.Common.{◌≡◌, ◌≢◌, ℕ, suc, ◌+◌, ◌-◌, 
 use Rattle.std.specs.Prelude.{Some, None, ◌/◌, ◌%◌, ◌==◌, ◌&&◌, ◌||◌, not, nat_le}
 use Rattle.std.proofs.lemmas.Bool.{cases_eq, eq-eqb, ne_eqb}
 use Rattle.std.proofs.lemmas.Bool.Decides.{leb_tells}
+use Rattle.nor_layout.specs.declared.header.Tag.{Tag}
 use Rattle.nor_layout.specs.declared.kind.Kind.{Kind}
 use Rattle.nor_layout.specs.declared.kind.Kind.TheVariants as kinds
-use Rattle.sector_slots.specs.Slots.{Slot, Free, Outside, counted, is_void, slot_in, slot_with, descriptor_in, content_bytes, read_header, kind_at, data_block, data_blocks, raw_slot, slot_at, IsSpareIn, copies as copies_of}
+use Rattle.sector_slots.specs.Slots.{Slot, Free, Outside, counted, is_void, slot_in, slot_with, descriptor_in, content_bytes, read_header, is_group, kind_at, data_block, data_blocks, raw_slot, slot_at, IsSpareIn, copies as copies_of}
 use Rattle.nor_layout.specs.declared.header.Header.{Header}
 use Rattle.nor_layout.specs.declared.header.Header.TheVariants as headers
 use Rattle.sector_slots.proofs.SectorLaws.{kind_in}
@@ -89,6 +90,9 @@ first-step (kinds.Committed b) found' kind k n here e h = elim (fit-cases b k n)
   | inr unfit ↦ (let q : None ≡ Some found' = rw unfit.0 at e in absurd (none-found found' q))
 ]
 first-step kinds.Settled found' kind k n here e h = same-found AtRest found' kind k n (settled-rest (kind k) here) e h
+first-step (kinds.Group tag) found' kind k n here e h = absurd (none-found found' e)
+first-step kinds.DeadGroup found' kind k n here e h = absurd (none-found found' e)
+first-step kinds.SpoiltGroup found' kind k n here e h = absurd (none-found found' e)
 first-step kinds.Unknown found' kind k n here e h = absurd (none-found found' e)
 
 next-step : (q : Kind) (found found' : Found) (kind : ℕ → Kind) (k n : ℕ) → kind k ≡ q → noted_next found q ≡ Some found' → FoundBelow found kind k n → FoundBelow found' kind (suc k) n
@@ -96,6 +100,9 @@ next-step kinds.Plain found found' kind k n here e h = same-found found found' k
 next-step kinds.Void found found' kind k n here e h = absurd (none-found found' e)
 next-step (kinds.Committed b) found found' kind k n here e h = absurd (none-found found' e)
 next-step kinds.Settled found found' kind k n here e h = same-found found found' kind k n (settled-rest (kind k) here) e h
+next-step (kinds.Group tag) found found' kind k n here e h = absurd (none-found found' e)
+next-step kinds.DeadGroup found found' kind k n here e h = absurd (none-found found' e)
+next-step kinds.SpoiltGroup found found' kind k n here e h = absurd (none-found found' e)
 next-step kinds.Unknown found found' kind k n here e h = absurd (none-found found' e)
 
 pub found-step : (found found' : Found) (kind : ℕ → Kind) (k n : ℕ) → noted_kind found k (kind k) n ≡ Some found' → FoundBelow found kind k n → FoundBelow found' kind (suc k) n
@@ -103,43 +110,84 @@ found-step AtRest found' kind k n e h = first-step (kind k) found' kind k n refl
 found-step (Void t) found' kind k n e h = next-step (kind k) (Void t) found' kind k n refl e h
 found-step (Committed s t) found' kind k n e h = next-step (kind k) (Committed s t) found' kind k n refl e h
 
--- a block that is refused is a fault
+-- a block of a group is refused
+first-alone : (q : Kind) (found' : Found) (k n : ℕ) → noted_first k q n ≡ Some found' → is_group q ≡ false
+first-alone kinds.Plain found' k n e = refl
+first-alone kinds.Void found' k n e = refl
+first-alone (kinds.Committed b) found' k n e = refl
+first-alone kinds.Settled found' k n e = refl
+first-alone (kinds.Group tag) found' k n e = absurd (none-found found' e)
+first-alone kinds.DeadGroup found' k n e = absurd (none-found found' e)
+first-alone kinds.SpoiltGroup found' k n e = absurd (none-found found' e)
+first-alone kinds.Unknown found' k n e = refl
+
+next-alone : (q : Kind) (found found' : Found) → noted_next found q ≡ Some found' → is_group q ≡ false
+next-alone kinds.Plain found found' e = refl
+next-alone kinds.Void found found' e = refl
+next-alone (kinds.Committed b) found found' e = refl
+next-alone kinds.Settled found found' e = refl
+next-alone (kinds.Group tag) found found' e = absurd (none-found found' e)
+next-alone kinds.DeadGroup found found' e = absurd (none-found found' e)
+next-alone kinds.SpoiltGroup found found' e = absurd (none-found found' e)
+next-alone kinds.Unknown found found' e = refl
+
+noted-alone : (found found' : Found) (q : Kind) (k n : ℕ) → noted_kind found k q n ≡ Some found' → is_group q ≡ false
+noted-alone AtRest found' q k n e = first-alone q found' k n e
+noted-alone (Void t) found' q k n e = next-alone q (Void t) found' e
+noted-alone (Committed s t) found' q k n e = next-alone q (Committed s t) found' e
+
+pub alone-more : (found found' : Found) (kind : ℕ → Kind) (k n : ℕ) → noted_kind found k (kind k) n ≡ Some found' → ((d : ℕ) → d < k → is_group (kind d) ≡ false) → (d : ℕ) → d < suc k → is_group (kind d) ≡ false
+alone-more found found' kind k n e below d low = elim (cases_eq d k) as (λ _. is_group (kind d) ≡ false) [
+  | inl same ↦ ap (λ a. is_group (kind a)) same ∙ noted-alone found found' (kind k) k n e
+  | inr other ↦ below d (omega (arith, low, other))
+]
+
+true-false : true ≡ false → ⊥
+true-false e = cc
+
+-- a block that is refused, and isn't of a group, is a fault
 void-busy : (k : Kind) → k ≡ kinds.Void → IsAtRest k → ⊥
 void-busy k e r = subst (λ a. IsAtRest a) e r
 
 committed-busy : (k : Kind) (b : ℕ) → k ≡ kinds.Committed b → IsAtRest k → ⊥
 committed-busy k b e r = subst (λ a. IsAtRest a) e r
 
-first-fault : (q : Kind) (kind : ℕ → Kind) (slots : ℕ → ℕ → Slot) (k n : ℕ) → kind k ≡ q → noted_first k q n ≡ None → k < n → BlocksHaveNoFault kind slots n → ⊥
-first-fault kinds.Plain kind slots k n here e low h = none-found AtRest (sym e)
-first-fault kinds.Void kind slots k n here e low h = none-found (Void k) (sym e)
-first-fault (kinds.Committed b) kind slots k n here e low h = elim (fit-cases b k n) [
+first-fault : (q : Kind) (kind : ℕ → Kind) (slots : ℕ → ℕ → Slot) (k n : ℕ) → kind k ≡ q → noted_first k q n ≡ None → k < n → is_group q ≡ false → BlocksHaveNoFault kind slots n → ⊥
+first-fault kinds.Plain kind slots k n here e low own h = none-found AtRest (sym e)
+first-fault kinds.Void kind slots k n here e low own h = none-found (Void k) (sym e)
+first-fault (kinds.Committed b) kind slots k n here e low own h = elim (fit-cases b k n) [
   | inl fit ↦ (let q : Some (Committed (b - 4) k) ≡ None = rw fit.0 at e in absurd (none-found (Committed (b - 4) k) (sym q)))
   | inr unfit ↦
       let p = h.source k b low here in
       unfit.1 (record { least = p.0; most = p.1; other = p.2 })
 ]
-first-fault kinds.Settled kind slots k n here e low h = none-found AtRest (sym e)
-first-fault kinds.Unknown kind slots k n here e low h = h.known k low here
+first-fault kinds.Settled kind slots k n here e low own h = none-found AtRest (sym e)
+first-fault (kinds.Group tag) kind slots k n here e low own h = true-false own
+first-fault kinds.DeadGroup kind slots k n here e low own h = true-false own
+first-fault kinds.SpoiltGroup kind slots k n here e low own h = true-false own
+first-fault kinds.Unknown kind slots k n here e low own h = h.known k low here
 
 -- another block into which something is copied
 busy-fault : (kind : ℕ → Kind) (slots : ℕ → ℕ → Slot) (k t n : ℕ) → k < n → t < k → (IsAtRest (kind k) → ⊥) → (IsAtRest (kind t) → ⊥) → BlocksHaveNoFault kind slots n → ⊥
 busy-fault kind slots k t n low below a b h = elim (h.one k t low (omega (arith, low, below)) (λ e. omega (arith, e, below))) [ inl r ↦ a r | inr r ↦ b r ]
 
-next-fault : (q : Kind) (found : Found) (kind : ℕ → Kind) (slots : ℕ → ℕ → Slot) (k t n : ℕ) → kind k ≡ q → noted_next found q ≡ None → k < n → t < k → (IsAtRest (kind t) → ⊥) → BlocksHaveNoFault kind slots n → ⊥
-next-fault kinds.Plain found kind slots k t n here e low below busy h = none-found found (sym e)
-next-fault kinds.Void found kind slots k t n here e low below busy h = busy-fault kind slots k t n low below (void-busy (kind k) here) busy h
-next-fault (kinds.Committed b) found kind slots k t n here e low below busy h = busy-fault kind slots k t n low below (committed-busy (kind k) b here) busy h
-next-fault kinds.Settled found kind slots k t n here e low below busy h = none-found found (sym e)
-next-fault kinds.Unknown found kind slots k t n here e low below busy h = h.known k low here
+next-fault : (q : Kind) (found : Found) (kind : ℕ → Kind) (slots : ℕ → ℕ → Slot) (k t n : ℕ) → kind k ≡ q → noted_next found q ≡ None → k < n → is_group q ≡ false → t < k → (IsAtRest (kind t) → ⊥) → BlocksHaveNoFault kind slots n → ⊥
+next-fault kinds.Plain found kind slots k t n here e low own below busy h = none-found found (sym e)
+next-fault kinds.Void found kind slots k t n here e low own below busy h = busy-fault kind slots k t n low below (void-busy (kind k) here) busy h
+next-fault (kinds.Committed b) found kind slots k t n here e low own below busy h = busy-fault kind slots k t n low below (committed-busy (kind k) b here) busy h
+next-fault kinds.Settled found kind slots k t n here e low own below busy h = none-found found (sym e)
+next-fault (kinds.Group tag) found kind slots k t n here e low own below busy h = true-false own
+next-fault kinds.DeadGroup found kind slots k t n here e low own below busy h = true-false own
+next-fault kinds.SpoiltGroup found kind slots k t n here e low own below busy h = true-false own
+next-fault kinds.Unknown found kind slots k t n here e low own below busy h = h.known k low here
 
-none-fault : (found : Found) (kind : ℕ → Kind) (slots : ℕ → ℕ → Slot) (k n : ℕ) → noted_kind found k (kind k) n ≡ None → k < n → FoundBelow found kind k n → BlocksHaveNoFault kind slots n → ⊥
-none-fault AtRest kind slots k n e low f h = first-fault (kind k) kind slots k n refl e low h
-none-fault (Void t) kind slots k n e low f h = next-fault (kind k) (Void t) kind slots k t n refl e low f.number (void-busy (kind t) f.void) h
-none-fault (Committed s t) kind slots k n e low f h = next-fault (kind k) (Committed s t) kind slots k t n refl e low f.number (committed-busy (kind t) (s + 4) f.committed) h
+none-fault : (found : Found) (kind : ℕ → Kind) (slots : ℕ → ℕ → Slot) (k n : ℕ) → noted_kind found k (kind k) n ≡ None → k < n → is_group (kind k) ≡ false → FoundBelow found kind k n → BlocksHaveNoFault kind slots n → ⊥
+none-fault AtRest kind slots k n e low own f h = first-fault (kind k) kind slots k n refl e low own h
+none-fault (Void t) kind slots k n e low own f h = next-fault (kind k) (Void t) kind slots k t n refl e low own f.number (void-busy (kind t) f.void) h
+none-fault (Committed s t) kind slots k n e low own f h = next-fault (kind k) (Committed s t) kind slots k t n refl e low own f.number (committed-busy (kind t) (s + 4) f.committed) h
 
-pub found-fault : (found : Found) (kind : ℕ → Kind) (slots : ℕ → ℕ → Slot) (k n : ℕ) → noted_kind found k (kind k) n ≡ None → k < n → FoundBelow found kind k n → SoundBlocks kind slots n → ⊥
-found-fault found kind slots k n e low f s = none-fault found kind slots k n e low f ((sound-no_fault kind slots n).0 s)
+pub found-fault : (found : Found) (kind : ℕ → Kind) (slots : ℕ → ℕ → Slot) (k n : ℕ) → noted_kind found k (kind k) n ≡ None → k < n → is_group (kind k) ≡ false → FoundBelow found kind k n → SoundBlocks kind slots n → ⊥
+found-fault found kind slots k n e low own f s = none-fault found kind slots k n e low own f ((sound-no_fault kind slots n).0 s)
 
 -- what is found of all blocks
 pub void-target : (t n : ℕ) (kind : ℕ → Kind) → VoidBelow t kind n → IsTarget t n kind

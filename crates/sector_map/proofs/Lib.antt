@@ -1,3 +1,5 @@
+pub mod Alone
+pub mod Looking
 pub mod Places
 pub mod Founds
 pub mod Replacing
@@ -11,3 +13,4 @@ pub mod MapCalls
 pub mod Restoring
 pub mod Opening
 pub mod Clearing
+pub mod Leaving

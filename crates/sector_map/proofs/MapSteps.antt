@@ -7,8 +7,8 @@ use Rattle.nor_layout.specs.declared.header.Generation.{Generation}
 use Rattle.erase_journal.specs.Blocks.{SameChip}
 use Rattle.sector_slots.specs.Slots.{slot_at, slot_count}
 use Rattle.sector_slots.specs.Sectors.{LiveAt, IsSingle, IsSoundMap, sector_at, with_sector}
+use Rattle.sector_slots.proofs.BlankLaws.{holds-sound}
 use Rattle.sector_map.specs.Replace.{HeldBy, Replaces}
-use Rattle.sector_map.proofs.Places.{holds-sound}
 use Rattle.sector_map.specs.Table.{EntryHolds, IsOneAtMost, IsTableOf, KeptOne, holder}
 use Rattle.sector_map.specs.declared.held.Held.{Held}
 use Rattle.sector_map.specs.declared.entry.Entry.{Entry}

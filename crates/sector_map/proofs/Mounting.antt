@@ -9,15 +9,17 @@ use Rattle.erase_journal.specs.Blocks.{SameChip}
 use Rattle.erase_journal.specs.Journals.{IsHealthy}
 use Rattle.erase_journal.specs.Steps.{SucceedsSettled}
 use Rattle.sector_slots.specs.Slots.{Slot, slot_at, slot_count, data_blocks, kind_at, raw_slot, IsClean, IsSpareIn}
-use Rattle.sector_slots.specs.Blocks.{IsAtRest, IsCopying, AreSettled, settled, copying, SoundBlocks}
+use Rattle.sector_slots.specs.Blocks.{IsAtRest, IsCopying, AreSettled, settled, crowded, copying, SoundBlocks}
 use Rattle.sector_slots.specs.Copying.{SameLive}
 use Rattle.sector_slots.proofs.MoveLaws.{same-back, same-on, same-whole}
-use Rattle.sector_slots.specs.Sectors.{SoundSlots, IsSoundMap, HoldsSectors, sector_at}
-use Rattle.sector_slots.proofs.BlankLaws.{sound-holds}
+use Rattle.sector_slots.specs.Sectors.{SoundSlots, sector_at, HasSlotsAlone, HasOnlySlots}
+use Rattle.sector_slots.proofs.AloneLaws.{alone-fit}
 use Rattle.erase_journal.proofs.SettledLaws.{settled-healthy}
 use Rattle.sector_slots.proofs.StepLaws.{chip-after}
 use Rattle.sector_stock.specs.Copy.{KeepsSectors, EndsCopy, IsVoidIn, IsCommittedIn}
 use Rattle.sector_stock.specs.Room.{HasRoom}
+use Rattle.sector_map.proofs.Alone.{sound-holds, kept-holds, ends-holds, no-room}
+use Rattle.sector_map.specs.Alone.{IsSlotMap, SlotsHold}
 use Rattle.sector_map.specs.Found.{FoundIn, fitting}
 use Rattle.sector_map.specs.Table.{EntryHolds, IsTabled, IsTableOf, Mounts, MountCut}
 use Rattle.sector_map.specs.declared.found.Found.{Found}
@@ -31,8 +33,8 @@ use Rattle.sector_map.proofs.Retiring.{sound-tabled, single-tabled}
 pub found-void : (t : ℕ) (m : List ℕ) → FoundIn (Void t) m → IsVoidIn t m
 found-void t m h = record { target = void-target t (data_blocks m) (kind_at m) h; void = h.void }
 
-pub found-committed : (s t : ℕ) (m : List ℕ) → FoundIn (Committed s t) m → IsSoundMap m → IsCommittedIn s t m
-found-committed s t m h sound = record { target = committed-target s t (data_blocks m) (kind_at m) h; committed = h.committed; sound = sound }
+pub found-committed : (s t : ℕ) (m : List ℕ) → FoundIn (Committed s t) m → IsSlotMap m → IsCommittedIn s t m
+found-committed s t m h sound = record { target = committed-target s t (data_blocks m) (kind_at m) h; committed = h.committed; sound = sound.sound }
 
 -- whether the blocks are sound
 fits-sound : (found found' : Found) (spare : Bool) (m : List ℕ) → FoundIn found m → fitting found spare ≡ Some found' → (spare ≡ true → (c : ℕ) × ((c < data_blocks m) × IsSpareIn m c)) → SoundBlocks (kind_at m) (raw_slot m) (data_blocks m)
@@ -46,23 +48,31 @@ rest-busy kinds.Plain t n r c = c
 rest-busy kinds.Void t n r c = r
 rest-busy (kinds.Committed b) t n r c = r
 rest-busy kinds.Settled t n r c = c
+rest-busy (kinds.Group tag) t n r c = c
+rest-busy kinds.DeadGroup t n r c = c
+rest-busy kinds.SpoiltGroup t n r c = c
 rest-busy kinds.Unknown t n r c = c
 
-no-spare : (m : List ℕ) → FoundIn AtRest m → ((c : ℕ) → c < data_blocks m → IsSpareIn m c → ⊥) → SoundBlocks (kind_at m) (raw_slot m) (data_blocks m) → ⊥
-no-spare m h none (settled s) = none s.reserve s.number s.spare
-no-spare m h none (copying t s) = rest-busy (kind_at m t) t (data_blocks m) (h.rest t s.number) s.copying
+no-spare : (m : List ℕ) → FoundIn AtRest m → ((c : ℕ) → c < data_blocks m → IsSpareIn m c → ⊥) → HasSlotsAlone m → SoundBlocks (kind_at m) (raw_slot m) (data_blocks m) → ⊥
+no-spare m h none alone (settled s) = none s.reserve s.number s.spare
+no-spare m h none alone (crowded rest room) = no-room m alone room
+no-spare m h none alone (copying t s) = rest-busy (kind_at m t) t (data_blocks m) (h.rest t s.number) s.copying
 
-pub fits-none : (found : Found) (spare : Bool) (m : List ℕ) → FoundIn found m → fitting found spare ≡ None → (spare ≡ false → (c : ℕ) → c < data_blocks m → IsSpareIn m c → ⊥) → IsSoundMap m → ⊥
+pub fits-none : (found : Found) (spare : Bool) (m : List ℕ) → FoundIn found m → fitting found spare ≡ None → (spare ≡ false → (c : ℕ) → c < data_blocks m → IsSpareIn m c → ⊥) → IsSlotMap m → ⊥
 fits-none AtRest true m h e none sound = (let q : Some AtRest ≡ None = e in absurd cc)
-fits-none AtRest false m h e none sound = no-spare m h (none refl) sound.blocks
+fits-none AtRest false m h e none sound = no-spare m h (none refl) sound.alone sound.sound.blocks
 fits-none (Void t) spare m h e none sound = (let q : Some (Void t) ≡ None = e in absurd cc)
 fits-none (Committed s t) spare m h e none sound = (let q : Some (Committed s t) ≡ None = e in absurd cc)
 
 pub look-sound : (found found' : Found) (spare : Bool) (table table0 : List Entry) (m : List ℕ) → FoundIn found m → fitting found spare ≡ Some found' → (spare ≡ true → (c : ℕ) × ((c < data_blocks m) × IsSpareIn m c))
-    → IsTabled table (slot_at m) (slot_count m) → length table ≡ length table0 → length table0 ≡ sector_count (length m) → IsSoundMap m
-look-sound found found' spare table table0 m h e some t size count = record {
-  slots = subst (λ n. SoundSlots (slot_at m) (slot_count m) n) (size ∙ count) (sound-tabled table (slot_at m) (slot_count m) t);
-  blocks = fits-sound found found' spare m h e some;
+    → IsTabled table (slot_at m) (slot_count m) → length table ≡ length table0 → length table0 ≡ sector_count (length m) → HasSlotsAlone m → IsSlotMap m
+look-sound found found' spare table table0 m h e some t size count alone = record {
+  sound = record {
+    slots = subst (λ n. SoundSlots (slot_at m) (slot_count m) n) (size ∙ count) (sound-tabled table (slot_at m) (slot_count m) t);
+    blocks = fits-sound found found' spare m h e some;
+    groups = alone-fit m alone;
+  };
+  alone = alone;
 }
 
 fitting-same : (found found' : Found) (spare : Bool) → fitting found spare ≡ Some found' → found ≡ found'
@@ -92,18 +102,20 @@ ends-tabled table m m' e t = subst (λ n. IsTabled table (slot_at m') (7 * (bloc
   whole = same-whole (slot_at m) (slot_at m') (slot_count m) e.live t.whole;
 })
 
-rests-settled : (m : List ℕ) → FoundIn AtRest m → SoundBlocks (kind_at m) (raw_slot m) (data_blocks m) → AreSettled m
-rests-settled m h (settled s) = s
-rests-settled m h (copying t s) = absurd (rest-busy (kind_at m t) t (data_blocks m) (h.rest t s.number) s.copying)
+rests-settled : (m : List ℕ) → FoundIn AtRest m → HasSlotsAlone m → SoundBlocks (kind_at m) (raw_slot m) (data_blocks m) → AreSettled m
+rests-settled m h alone (settled s) = s
+rests-settled m h alone (crowded rest room) = absurd (no-room m alone room)
+rests-settled m h alone (copying t s) = absurd (rest-busy (kind_at m t) t (data_blocks m) (h.rest t s.number) s.copying)
 
 -- where nothing went on, nothing was ended
-pub rests-end : (m m' : List ℕ) → m' ≡ m → FoundIn AtRest m → IsSoundMap m → EndsCopy m m'
+pub rests-end : (m m' : List ℕ) → m' ≡ m → FoundIn AtRest m → IsSlotMap m → EndsCopy m m'
 rests-end m m' same h sound = subst (λ z. EndsCopy m z) (sym same) (record {
   whole = record {
     chip = record { same_length = refl; superblock = λ k low. refl };
     sectors = λ sectors holds. holds;
     single = λ one. one;
-    blocks = rests-settled m h sound.blocks;
+    blocks = rests-settled m h sound.alone sound.sound.blocks;
+    alone = λ a. a;
     clean = λ c. c;
   };
   live = λ s low. inl refl;
@@ -114,12 +126,12 @@ pub cut-same : (m m' : List ℕ) → m' ≡ m → MountCut m m'
 cut-same m m' same = subst (λ z. MountCut m z) (sym same) (record { chip = record { same_length = refl; superblock = λ k low. refl }; sectors = λ sound. sound-holds m sound; clean = λ c. c })
 
 pub cut-ending : (m m' : List ℕ) → KeepsSectors m m' → MountCut m m'
-cut-ending m m' k = record { chip = k.chip; sectors = λ sound. k.sectors (sector_at m) (sound-holds m sound); clean = k.clean }
+cut-ending m m' k = record { chip = k.chip; sectors = λ sound. kept-holds m m' (sector_at m) k (sound-holds m sound); clean = k.clean }
 
-pub cut-retiring : (m m1 m2 : List ℕ) → EndsCopy m m1 → SameChip m1 m2 → ((sectors : ℕ → List ℕ) → HoldsSectors sectors m1 → HoldsSectors sectors m2) → (IsClean m1 → IsClean m2) → MountCut m m2
+pub cut-retiring : (m m1 m2 : List ℕ) → EndsCopy m m1 → SameChip m1 m2 → ((sectors : ℕ → List ℕ) → SlotsHold sectors m1 → SlotsHold sectors m2) → (IsClean m1 → IsClean m2) → MountCut m m2
 cut-retiring m m1 m2 e chip sectors clean = record {
   chip = chip-after m m1 m2 e.whole.chip chip;
-  sectors = λ sound. sectors (sector_at m) (e.whole.sectors (sector_at m) (sound-holds m sound));
+  sectors = λ sound. sectors (sector_at m) (ends-holds m m1 (sector_at m) e (sound-holds m sound));
   clean = λ c. clean (e.whole.clean c);
 }
 
@@ -127,27 +139,28 @@ pub perhaps-healthy : (a b : NorState) → (b ≡ a) ⊎ SucceedsSettled a b →
 perhaps-healthy a b (inl e) h = subst (λ z. IsHealthy z.memory) (sym e) h
 perhaps-healthy a b (inr s) h = settled-healthy b.memory s.settled
 
-pub table-room : (table : List Entry) (m : List ℕ) → IsTableOf table m → AreSettled m → HasRoom m
-table-room table m t blocks = record {
+pub table-room : (table : List Entry) (m : List ℕ) → IsTableOf table m → AreSettled m → HasOnlySlots m → HasRoom m
+table-room table m t blocks layout = record {
   sector = λ s g k x l. subst (λ n. g < n) t.size (t.tabled.within s g k x l);
   single = single-tabled table m t;
   whole = t.tabled.whole;
   blocks = blocks;
+  layout = layout;
 }
 
-pub mounted : (table : List Entry) (m m1 m2 m3 : List ℕ) → IsSoundMap m → EndsCopy m m1 → SameChip m1 m2 → ((sectors : ℕ → List ℕ) → HoldsSectors sectors m1 → HoldsSectors sectors m2) → (IsClean m1 → IsClean m2)
+pub mounted : (table : List Entry) (m m1 m2 m3 : List ℕ) → IsSlotMap m → EndsCopy m m1 → SameChip m1 m2 → ((sectors : ℕ → List ℕ) → SlotsHold sectors m1 → SlotsHold sectors m2) → (IsClean m1 → IsClean m2)
     → IsTableOf table m2 → AreSettled m2 → m3 ≡ m2 → Mounts m table m3
 mounted table m m1 m2 m3 sound e chip sectors clean t blocks same = subst (λ z. Mounts m table z) (sym same) (record {
   sound = sound;
   chip = chip-after m m1 m2 e.whole.chip chip;
-  sectors = sectors (sector_at m) (e.whole.sectors (sector_at m) (sound-holds m sound));
+  sectors = sectors (sector_at m) (ends-holds m m1 (sector_at m) e (sound-holds m sound));
   tabled = t;
   single = single-tabled table m2 t;
   blocks = blocks;
   clean = λ c. clean (e.whole.clean c);
 })
 
-pub cut-filling : (m m1 m2 m3 : List ℕ) → EndsCopy m m1 → SameChip m1 m2 → ((sectors : ℕ → List ℕ) → HoldsSectors sectors m1 → HoldsSectors sectors m2) → (IsClean m1 → IsClean m2) → m3 ≡ m2 → MountCut m m3
+pub cut-filling : (m m1 m2 m3 : List ℕ) → EndsCopy m m1 → SameChip m1 m2 → ((sectors : ℕ → List ℕ) → SlotsHold sectors m1 → SlotsHold sectors m2) → (IsClean m1 → IsClean m2) → m3 ≡ m2 → MountCut m m3
 cut-filling m m1 m2 m3 e chip sectors clean same = subst (λ z. MountCut m z) (sym same) (cut-retiring m m1 m2 e chip sectors clean)
 
 pub fill-healthy : (a b c d : NorState) → (b ≡ a) ⊎ SucceedsSettled a b → (c ≡ b) ⊎ SucceedsSettled b c → d.memory ≡ c.memory → IsHealthy a.memory → IsHealthy d.memory

@@ -2,7 +2,7 @@
 use Rattle.std.proofs.Common.{◌≡◌, ℕ, zero, suc, ◌*◌, ◌<◌, ◌-◌, ◌⊎◌, false, true, List, length, refl, sym, ap, ◌∙◌, subst, arith, inl, inr}
 use Rattle.std.specs.Prelude.{Option, None, Result, Ok, Err, IfOk, IfErr}
 use Rattle.chip_model.specs.Geometry.{block_count}
-use Rattle.nor_driver.specs.State.{NorState, IsNorReady, OnlyMemoryChanges, Refuses}
+use Rattle.nor_driver.specs.State.{NorState, IsNorReady, OnlyMemoryChanges, NorFails, Refuses}
 use Rattle.nor_driver.specs.declared.error.NorError.{NorError}
 use Rattle.nor_driver.specs.declared.error.NorError.TheVariants as errors
 use Rattle.nor_layout.specs.Layouts.{layout_of}
@@ -13,17 +13,18 @@ use Rattle.erase_journal.specs.Journals.{IsHealthy}
 use Rattle.erase_journal.specs.Recovery.{Recovers, RecoveryCut, IsBehind}
 use Rattle.erase_journal.specs.Steps.{SucceedsSettled}
 use Rattle.sector_slots.specs.Slots.{Slot, slot_at, slot_count, SameSlots}
-use Rattle.sector_slots.specs.Sectors.{sector_at, winner, newer, content_in, IsSoundMap}
-use Rattle.sector_slots.proofs.BlankLaws.{sound-holds, blocks-holds, same-blocks_slots}
+use Rattle.sector_slots.specs.Sectors.{sector_at, winner, newer, content_in}
+use Rattle.sector_slots.proofs.BlankLaws.{same-blocks_slots}
 use Rattle.nor_driver.proofs.CallLaws.{kept-after}
 use Rattle.erase_journal.proofs.SettledLaws.{settled-healthy}
+use Rattle.sector_map.proofs.Alone.{blocks-holds, holds-sound, sound-holds}
+use Rattle.sector_map.specs.Alone.{IsSlotMap}
 use Rattle.sector_map.specs.Table.{Mounts, MountCut}
 use Rattle.sector_map.specs.Maps.{IsMountable, geometry_of, KeepsEach, Mounted, MountWasCut, MountFails, shown_with, is_slow_in}
 use Rattle.sector_map.specs.Filling.{Filled, FillCut, FillFails}
 use Rattle.sector_map.specs.declared.entry.Entry.{Entry}
 use Rattle.sector_map.specs.declared.error.MountError.{MountError}
 use Rattle.sector_map.specs.declared.error.MountError.TheVariants as mounts
-use Rattle.sector_map.proofs.Places.{holds-sound}
 use Rattle.sector_map.proofs.MapCalls.{each-after}
 use Rattle.sector_map.proofs.Restoring.{blocks-keep, left-keeps, mounts-keeps, mount-cut-keeps}
 
@@ -53,7 +54,7 @@ blocks-back m m' s =
       each = λ b high low. sym (s.each b high (subst (λ k. b < block_count k) n low));
     }
 
-same-back : (m m' : List ℕ) → SameBlocks m m' → IsSoundMap m' → IsSoundMap m
+same-back : (m m' : List ℕ) → SameBlocks m m' → IsSlotMap m' → IsSlotMap m
 same-back m m' s sound = holds-sound m (sector_at m') (blocks-holds m' m (sector_at m') (blocks-back m m' s) (sound-holds m' sound))
 
 -- the same slots make the same sectors, corrupt or not
@@ -67,7 +68,7 @@ same-slots-sectors : (m m' : List ℕ) → SameSlots m m' → (g : ℕ) → sect
 same-slots-sectors m m' s g =
     ap content_in (ap (λ n. winner (slot_at m') (7 * (block_count n - 4)) g) s.chip.same_length ∙ winner-same (slot_at m) (slot_at m') (slot_count m) g s.each)
 
-recovered-keeps : (a b : NorState) → Recovers a b → IsSoundMap a.memory → KeepsEach a.memory b.memory
+recovered-keeps : (a b : NorState) → Recovers a b → IsSlotMap a.memory → KeepsEach a.memory b.memory
 recovered-keeps a b r sound = blocks-keep a.memory b.memory r.blocks (settled-healthy b.memory r.settled) sound
 
 pub recovered-mounted : (a b c : NorState) → layout_of a.memory (geometry_of (length a.memory)) ≡ Ok Sectors → Recovers a b → Filled b c → Mounted a c
@@ -117,6 +118,17 @@ recovery-cut a b r = record {
   quick = λ q. r.fails.3 ∙ q;
   size = elim r.leaves as (λ _. length b.memory ≡ length a.memory) [ inl e ↦ ap length e | inr s ↦ s.blocks.chip.same_length ];
   keeps = λ m. left-keeps a.memory b.memory r.leaves m.store;
+}
+
+-- the superblock wasn't read, for a loss of power
+pub look-was-cut : (a b : NorState) → NorFails errors.Cut a b → b.memory ≡ a.memory → MountWasCut a b
+look-was-cut a b f same = record {
+  came = elim f.0 as (λ _. (a.cuts < b.cuts) ⊎ (a.powered ≡ false)) [ inl came ↦ inl came | inr off ↦ inr off.0 ];
+  slows = f.1;
+  powered = f.2;
+  quick = λ q. f.3 ∙ q;
+  size = ap length same;
+  keeps = λ m. left-keeps a.memory b.memory (inl same) m.store;
 }
 
 -- after the superblock was read

@@ -1,5 +1,5 @@
 -- The sectors of a memory of which one slot changes, where no copying goes on.
-use Rattle.std.proofs.Common.{◌≡◌, ◌≢◌, ℕ, ◌+◌, ◌-◌, ◌<◌, ◌⊎◌, List, length, sym, ap, ◌∙◌, subst, arith}
+use Rattle.std.proofs.Common.{◌≡◌, ◌≢◌, ℕ, ◌+◌, ◌-◌, ◌<◌, ◌⊎◌, List, length, sym, ap, ◌∙◌, subst, arith, inl, inr}
 use Rattle.std.specs.Prelude.{◌/◌, ◌%◌}
 use Rattle.chip_model.specs.Geometry.{block_count, sector_count}
 use Rattle.nor_layout.specs.declared.header.Generation.{Generation}
@@ -9,13 +9,15 @@ use Rattle.erase_journal.specs.Blocks.{SameChip}
 use Rattle.sector_slots.specs.Slots.{Slot, Free, Live, Dead, data_blocks, kind_at, raw_slot, slot_at, slot_count, IsSpareIn, OnlySlot}
 use Rattle.sector_slots.specs.Blocks.{AreAtRest, AreSettled, IsSettledBlocks}
 use Rattle.sector_slots.proofs.CopyLaws.{counted-in, at-rest-counts, at-rest-copies, copies-none}
-use Rattle.sector_slots.specs.Sectors.{LiveAt, NextGeneration, OthersKept, with_sector, IsSingle, IsSoundMap, HoldsSectors}
+use Rattle.sector_slots.specs.Sectors.{LiveAt, NextGeneration, OthersKept, with_sector, IsSingle, GroupsFit, HoldsSectors}
+use Rattle.sector_slots.proofs.AloneLaws.{place-alone}
 use Rattle.sector_slots.proofs.SectorLaws.{kind_in, put-done}
 use Rattle.sector_slots.proofs.WinnerLaws.{stands-computed}
 use Rattle.sector_slots.proofs.PlaceLaws.{later, later-is, place-others, place-settled, place-holds, put-leaves, retire-holds}
-use Rattle.sector_slots.specs.Steps.{PutLeaves, OnlyPlace}
+use Rattle.sector_slots.specs.Steps.{PutLeaves, written, OnlyPlace}
 use Rattle.sector_slots.specs.Sectors.{sector_at}
-use Rattle.sector_map.specs.Replace.{IsPlaced}
+use Rattle.sector_map.specs.Alone.{SlotsHold}
+use Rattle.sector_map.specs.Replace.{IsPlaced, IsInSlots}
 
 pub live-not-free : (s : Slot) (tag : Tag) (x : List ℕ) → s ≡ Live tag x → s ≢ Free
 live-not-free s tag x live free = let h : 1 ≡ 0 = ap kind_in (sym live ∙ free) in omega (arith, h)
@@ -51,27 +53,30 @@ live-placed w tag x m s low live = record { reserve = s.reserve; number = s.numb
 
 -- a sector was written into a free slot
 pub put-holds : (w : ℕ) (tag : Tag) (x m m' : List ℕ) (sectors : ℕ → List ℕ) → w < slot_count m → tag.number < sector_count (length m) → slot_at m w ≡ Free → OnlyPlace w m m' → slot_at m' w ≡ Live tag x
-    → AreSettled m → IsPlaced w m → IsSingle m → NextGeneration (slot_at m) (slot_count m) tag.number tag.generation → HoldsSectors sectors m → HoldsSectors (with_sector sectors tag.number x) m'
-put-holds w tag x m m' sectors low within free only e s p single generation h =
+    → AreSettled m → IsPlaced w m → IsSingle m → NextGeneration (slot_at m) (slot_count m) tag.number tag.generation → IsInSlots tag.number m → HoldsSectors sectors m → HoldsSectors (with_sector sectors tag.number x) m'
+put-holds w tag x m m' sectors low within free only e s p single generation own h =
+    let fit : GroupsFit m' = elim (put-leaves w p.reserve tag x m m' sectors low within free only (written e) p.number p.spare p.apart s.rest single generation own h) as (λ _. GroupsFit m') [ inl a ↦ a.groups | inr b ↦ b.groups ] in
     place-holds w p.reserve m m' (with_sector sectors tag.number x) p.number p.spare p.apart s.rest only
     (put-done (slot_at m) (later m m') (slot_count m) w tag.number tag.generation (sector_count (length m)) x sectors low within free (place-others w m m' only)
-    (sym (later-is m m' w only.only.chip.same_length) ∙ e) single generation h.slots)
+    (sym (later-is m m' w only.only.chip.same_length) ∙ e) single generation h.slots) fit
 
 pub put-left : (w : ℕ) (tag : Tag) (x m m' : List ℕ) (sectors : ℕ → List ℕ) → w < slot_count m → tag.number < sector_count (length m) → slot_at m w ≡ Free → OnlyPlace w m m' → PutLeaves tag x (slot_at m' w)
-    → AreSettled m → IsPlaced w m → IsSingle m → NextGeneration (slot_at m) (slot_count m) tag.number tag.generation → HoldsSectors sectors m → HoldsSectors sectors m' ⊎ HoldsSectors (with_sector sectors tag.number x) m'
-put-left w tag x m m' sectors low within free only left s p single generation h =
-    put-leaves w p.reserve tag x m m' sectors low within free only left p.number p.spare p.apart s.rest single generation h
+    → AreSettled m → IsPlaced w m → IsSingle m → NextGeneration (slot_at m) (slot_count m) tag.number tag.generation → IsInSlots tag.number m → HoldsSectors sectors m → HoldsSectors sectors m' ⊎ HoldsSectors (with_sector sectors tag.number x) m'
+put-left w tag x m m' sectors low within free only left s p single generation own h =
+    put-leaves w p.reserve tag x m m' sectors low within free only left p.number p.spare p.apart s.rest single generation own h
 
 -- the older of two slots of a sector was retired, or its retirement was cut
-pub retire-held : (w b g : ℕ) (j k : Generation) (x y m m' : List ℕ) (sectors : ℕ → List ℕ) → OnlyPlace b m m' → LiveAt (slot_at m) (slot_count m) b g j y → LiveAt (slot_at m) (slot_count m) w g k x → w ≢ b
+pub retire-left : (w b g : ℕ) (j k : Generation) (x y m m' : List ℕ) (sectors : ℕ → List ℕ) → OnlyPlace b m m' → LiveAt (slot_at m) (slot_count m) b g j y → LiveAt (slot_at m) (slot_count m) w g k x → w ≢ b
     → k ≡ next_generation j → (slot_at m' b ≡ slot_at m b) ⊎ (slot_at m' b ≡ Dead) → AreSettled m → HoldsSectors sectors m → HoldsSectors sectors m'
-retire-held w b g j k x y m m' sectors only old new other generation left s h =
+retire-left w b g j k x y m m' sectors only old new other generation left s h =
     let p = live-placed b (record { number = g; generation = j }) y m s old.number old.is in
     retire-holds w b p.reserve g j k x y m m' sectors only old new other generation left p.number p.spare p.apart s.rest h
+
+pub retire-held : (w b g : ℕ) (j k : Generation) (x y m m' : List ℕ) (sectors : ℕ → List ℕ) → OnlyPlace b m m' → LiveAt (slot_at m) (slot_count m) b g j y → LiveAt (slot_at m) (slot_count m) w g k x → w ≢ b
+    → k ≡ next_generation j → (slot_at m' b ≡ slot_at m b) ⊎ (slot_at m' b ≡ Dead) → AreSettled m → SlotsHold sectors m → SlotsHold sectors m'
+retire-held w b g j k x y m m' sectors only old new other generation left s h =
+    record { holds = retire-left w b g j k x y m m' sectors only old new other generation left s h.holds; alone = place-alone b m m' only h.alone }
 
 -- the sectors of a memory are those that are computed
 pub holds-computed : (m : List ℕ) (sectors : ℕ → List ℕ) (g : ℕ) → HoldsSectors sectors m → g < sector_count (length m) → sector_at m g ≡ sectors g
 holds-computed m sectors g s low = stands-computed (slot_at m) (slot_count m) (sector_count (length m)) sectors g s.slots low
-
-pub holds-sound : (m : List ℕ) (sectors : ℕ → List ℕ) → HoldsSectors sectors m → IsSoundMap m
-holds-sound m sectors h = record { slots = h.slots.sound; blocks = h.blocks }

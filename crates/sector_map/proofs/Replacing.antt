@@ -1,5 +1,5 @@
 -- A sector that is replaced: put, then retire.
-use Rattle.std.proofs.Common.{◌≡◌, ◌≢◌, ℕ, ◌-◌, ◌*◌, ◌<◌, ◌⊎◌, List, length, refl, sym, ap, ◌∙◌, subst, inl, inr}
+use Rattle.std.proofs.Common.{◌≡◌, ◌≢◌, ℕ, ◌-◌, ◌*◌, ◌/◌, ◌<◌, ◌⊎◌, List, length, refl, sym, ap, ◌∙◌, subst, arith, inl, inr}
 use Rattle.std.specs.Prelude.{Option, Some, None, replicate, Result, Ok, Err, IfOk}
 use Rattle.nor_driver.specs.declared.error.NorError.{NorError}
 use Rattle.std.proofs.lemmas.Bool.{cases_eq}
@@ -9,15 +9,17 @@ use Rattle.nor_layout.specs.declared.header.Generation.TheVariants as generation
 use Rattle.nor_layout.specs.declared.header.Tag.{Tag}
 use Rattle.nor_layout.specs.Headers.{next_generation}
 use Rattle.erase_journal.specs.Blocks.{SameChip}
-use Rattle.sector_slots.specs.Slots.{Slot, Free, Live, Dead, slot_at, slot_count, IsClean, IsLive, OnlySlot, stored_at}
-use Rattle.sector_slots.specs.Steps.{PutLeaves, still_free, half_written, written, HoldsTag, MayHoldTag, IsWritable, OnlyPlace}
+use Rattle.sector_slots.specs.Slots.{Slot, Free, Live, Dead, slot_at, slot_count, data_blocks, is_group, IsClean, OnlySlot, stored_at}
+use Rattle.sector_slots.proofs.AloneLaws.{place-alone}
+use Rattle.sector_slots.proofs.PlaceLaws.{place-kinds}
 use Rattle.sector_slots.proofs.BlankLaws.{sound-holds}
-use Rattle.sector_slots.specs.Sectors.{zeros, LiveAt, IsAbsent, absent, held, Single, NextGeneration, begun, after, OthersKept, with_sector, sector_at, IsSoundMap, IsSingle, HoldsSectors, content_in}
+use Rattle.sector_slots.specs.Steps.{IsRetirable, PutLeaves, still_free, half_written, written, HoldsTag, MayHoldTag, IsWritable, OnlyPlace}
+use Rattle.sector_slots.specs.Sectors.{zeros, LiveAt, IsAbsent, absent, held, Single, NextGeneration, begun, after, OthersKept, with_sector, sector_at, IsSingle, IsSoundMap, HoldsSectors, content_in}
 use Rattle.sector_slots.proofs.SectorLaws.{Without, moved, moved-back, at-new, free-without, dead-without, other-without}
 use Rattle.sector_slots.specs.Copying.{HoldsNothing}
 use Rattle.sector_slots.proofs.SlotLaws.{counted-raw}
 use Rattle.sector_slots.proofs.WinnerLaws.{sector-one, sector-content-is}
-use Rattle.sector_map.proofs.Places.{live-not-free, dead-not-live, slot-only, others-kept, placed-settled, live-placed, put-holds, put-left, retire-held}
+use Rattle.sector_map.proofs.Places.{live-not-free, dead-not-live, slot-only, others-kept, placed-settled, live-placed, put-holds, put-left, retire-left}
 use Rattle.sector_map.specs.Replace.{HeldBy, generation_after, IsReplaceable, Replaces, ReplaceLeaves, Rewrites, RewriteLeaves}
 use Rattle.sector_map.specs.declared.held.Held.{Held}
 
@@ -103,7 +105,8 @@ pub added : (w g : ℕ) (x m m' : List ℕ) → w < slot_count m → OnlyPlace w
     → IsReplaceable w g None m → Replaces g x (record { slot = w; generation = generations.Zero }) m m'
 added w g x m m' low only new r = record {
   chip = only.only.chip;
-  sectors = put-holds w (record { number = g; generation = generations.Zero }) x m m' (sector_at m) low r.sector r.free only new r.blocks r.place r.single (generation-next m g None r.held) (sound-holds m r.sound);
+  sectors = put-holds w (record { number = g; generation = generations.Zero }) x m m' (sector_at m) low r.sector r.free only new r.blocks r.place r.single (generation-next m g None r.held) r.own (sound-holds m r.sound);
+  alone = place-alone w m m' only;
   single = single-at m m' only.only.chip (single-added (slot_at m) (slot_at m') (slot_count m) w g generations.Zero x (others-kept w m m' (slot-only w m m' only)) new r.held r.single);
   blocks = placed-settled w m m' r.blocks r.place only;
   held = (x, live-at m m' w g generations.Zero x only.only.chip (record { number = low; is = new }));
@@ -115,7 +118,8 @@ pub put-cut : (w g : ℕ) (o : Option Held) (x m m' : List ℕ) → w < slot_cou
     → IsReplaceable w g o m → ReplaceLeaves g x m m'
 put-cut w g o x m m' low only left r = record {
   chip = only.only.chip;
-  sectors = put-left w (record { number = g; generation = generation_after o }) x m m' (sector_at m) low r.sector r.free only left r.blocks r.place r.single (generation-next m g o r.held) (sound-holds m r.sound);
+  sectors = put-left w (record { number = g; generation = generation_after o }) x m m' (sector_at m) low r.sector r.free only left r.blocks r.place r.single (generation-next m g o r.held) r.own (sound-holds m r.sound);
+  alone = place-alone w m m' only;
 }
 
 -- after a whole put: the old slot is as it was
@@ -128,9 +132,9 @@ retired-holds : (w g : ℕ) (o : Held) (x m m1 m2 : List ℕ) → w < slot_count
 retired-holds w g o x m m1 m2 low only new r only' left =
     let old = old-kept w g o m m1 only r.free r.held in
     let apart : w ≢ o.slot = λ e. not-free (slot_at m) (slot_count m) w o.slot g o.generation r.held.0 r.free r.held.1 (sym e) in
-    retire-held w o.slot g o.generation (next_generation o.generation) x old.0 m1 m2 (with_sector (sector_at m) g x) only' old.1
+    retire-left w o.slot g o.generation (next_generation o.generation) x old.0 m1 m2 (with_sector (sector_at m) g x) only' old.1
     (live-at m m1 w g (next_generation o.generation) x only.only.chip (record { number = low; is = new })) apart refl left (placed-settled w m m1 r.blocks r.place only)
-    (put-holds w (record { number = g; generation = next_generation o.generation }) x m m1 (sector_at m) low r.sector r.free only new r.blocks r.place r.single (generation-next m g (Some o) r.held) (sound-holds m r.sound))
+    (put-holds w (record { number = g; generation = next_generation o.generation }) x m m1 (sector_at m) low r.sector r.free only new r.blocks r.place r.single (generation-next m g (Some o) r.held) r.own (sound-holds m r.sound))
 
 -- a put and a retirement, whole
 pub replaced : (w g : ℕ) (o : Held) (x m m1 m2 : List ℕ) → w < slot_count m → OnlyPlace w m m1 → slot_at m1 w ≡ Live (record { number = g; generation = next_generation o.generation }) x
@@ -144,6 +148,7 @@ replaced w g o x m m1 m2 low only new only' dead r =
     record {
       chip = chip;
       sectors = retired-holds w g o x m m1 m2 low only new r only' (inr dead);
+      alone = λ a. place-alone o.slot m1 m2 only' (place-alone w m m1 only a);
       single = single-at m m2 chip (single-replaced (slot_at m) (slot_at m1) (slot_at m2) (slot_count m) w o.slot g o.generation k x r.held.0 (others-kept w m m1 (slot-only w m m1 only)) new only1 dead r.held.1 r.single);
       blocks =
           let one = placed-settled w m m1 r.blocks r.place only in
@@ -159,6 +164,7 @@ pub retire-cut : (w g : ℕ) (o : Held) (x m m1 m2 : List ℕ) → w < slot_coun
 retire-cut w g o x m m1 m2 low only new only' left r = record {
   chip = chip-after m m1 m2 only.only.chip only'.only.chip;
   sectors = inr (retired-holds w g o x m m1 m2 low only new r only' left);
+  alone = λ a. place-alone o.slot m1 m2 only' (place-alone w m m1 only a);
 }
 
 -- what the holder's slot has is the sector's content
@@ -167,6 +173,15 @@ found g o x m sound single (y, l) is =
     is y l.is ∙ sector-one (slot_at m) (slot_count m) g y (sector_at m g)
     (held o.slot o.generation l (λ t j z lt other. absurd (other (single.one t o.slot g j o.generation z y lt l))))
     (sector-content-is (slot_at m) (slot_count m) g (sector_count (length m)) sound.slots)
+
+-- the holder's slot is still live once the new one is written, and its block isn't of a group
+pub old-retirable : (w g : ℕ) (o : Held) (m m1 : List ℕ) → OnlyPlace w m m1 → IsReplaceable w g (Some o) m → IsRetirable o.slot m1
+old-retirable w g o m m1 only r =
+    let old = old-kept w g o m m1 only r.free r.held in
+    let tag : Tag = record { number = g; generation = o.generation } in
+    let low = r.held.1.number in
+    let inside : o.slot / 7 < data_blocks m = omega (arith, low) in
+    ((tag, old.0, old.1.is), ap is_group (place-kinds w m m1 only (o.slot / 7) inside) ∙ r.own o.slot o.generation r.held.0 r.held.1)
 
 -- The same in the words of the calls: the generation was computed, and each clause has its premises.
 pub add-done : (w g : ℕ) (x m m' : List ℕ) → w < slot_count m → OnlyPlace w m m' → (slot_at m w ≡ Free → HoldsTag (record { number = g; generation = generations.Zero }) (slot_at m' w))
@@ -204,12 +219,10 @@ put-was-cut w g o k x m m' e low only live left clean r =
 
 pub replace-done : (w g : ℕ) (o : Held) (k : Generation) (x m m1 m2 : List ℕ) → k ≡ next_generation o.generation → w < slot_count m → OnlyPlace w m m1
     → (slot_at m w ≡ Free → HoldsTag (record { number = g; generation = k }) (slot_at m1 w)) → (IsWritable w m → slot_at m1 w ≡ Live (record { number = g; generation = k }) x)
-    → (IsWritable w m → IsClean m1) → OnlyPlace o.slot m1 m2 → (IsLive (slot_at m1 o.slot) → slot_at m2 o.slot ≡ Dead) → (IsLive (slot_at m1 o.slot) → IsClean m1 → IsClean m2) → IsReplaceable w g (Some o) m → Rewrites g x (record { slot = w; generation = k }) m m2
+    → (IsWritable w m → IsClean m1) → OnlyPlace o.slot m1 m2 → (IsRetirable o.slot m1 → slot_at m2 o.slot ≡ Dead) → (IsRetirable o.slot m1 → IsClean m1 → IsClean m2) → IsReplaceable w g (Some o) m → Rewrites g x (record { slot = w; generation = k }) m m2
 replace-done w g o k x m m1 m2 e low only live new clean only' dead clean' r =
     let (y, f) = live r.free in
-    let old = old-kept w g o m m1 only r.free r.held in
-    let tag : Tag = record { number = g; generation = o.generation } in
-    let was : IsLive (slot_at m1 o.slot) = (tag, old.0, old.1.is) in
+    let was = old-retirable w g o m m1 only r in
     record {
       content = y;
       replaces = subst (λ z. Replaces g y (record { slot = w; generation = z }) m m2) (sym e)
@@ -221,18 +234,17 @@ replace-done w g o k x m m1 m2 e low only live new clean only' dead clean' r =
 pub retire-was-cut : (w g : ℕ) (o : Held) (k : Generation) (x m m1 m2 : List ℕ) → k ≡ next_generation o.generation → w < slot_count m → OnlyPlace w m m1
     → (slot_at m w ≡ Free → HoldsTag (record { number = g; generation = k }) (slot_at m1 w)) → (IsWritable w m → slot_at m1 w ≡ Live (record { number = g; generation = k }) x)
     → (IsWritable w m → IsClean m1) → OnlyPlace o.slot m1 m2
-    → (IsLive (slot_at m1 o.slot) → (slot_at m2 o.slot ≡ slot_at m1 o.slot) ⊎ (slot_at m2 o.slot ≡ Dead))
-    → (IsLive (slot_at m1 o.slot) → IsClean m1 → IsClean m2) → IsReplaceable w g (Some o) m → RewriteLeaves g x m m2
+    → (IsRetirable o.slot m1 → (slot_at m2 o.slot ≡ slot_at m1 o.slot) ⊎ (slot_at m2 o.slot ≡ Dead))
+    → (IsRetirable o.slot m1 → IsClean m1 → IsClean m2) → IsReplaceable w g (Some o) m → RewriteLeaves g x m m2
 retire-was-cut w g o k x m m1 m2 e low only live new clean only' left clean' r =
     let (y, f) = live r.free in
-    let old = old-kept w g o m m1 only r.free r.held in
-    let tag : Tag = record { number = g; generation = o.generation } in
-    let either = left (tag, old.0, old.1.is) in
+    let was = old-retirable w g o m m1 only r in
+    let either = left was in
     record {
       content = y;
       leaves = retire-cut w g o y m m1 m2 low only (subst (λ z. slot_at m1 w ≡ Live (record { number = g; generation = z }) y) e f) only' either r;
       exact = λ c. ap content_in (sym f ∙ new (r.free, c));
-      clean = λ c. clean' (tag, old.0, old.1.is) (clean (r.free, c));
+      clean = λ c. clean' was (clean (r.free, c));
     }
 
 -- the content that was read from the holder's slot
@@ -246,13 +258,6 @@ unfolding zeros
 absent-found g n holder x m e filled size sound hold =
     sector-one (slot_at m) (slot_count m) g x (sector_at m g) (absent (subst (λ q. HeldBy q g m) e hold) (filled ∙ ap (λ k. replicate k 0) size))
     (sector-content-is (slot_at m) (slot_count m) g (sector_count (length m)) sound.slots)
-
--- the holder's slot is still live once the new one is written
-pub old-live : (w g : ℕ) (o : Held) (m m1 : List ℕ) → OnlyPlace w m m1 → IsReplaceable w g (Some o) m → IsLive (slot_at m1 o.slot)
-old-live w g o m m1 only r =
-    let old = old-kept w g o m m1 only r.free r.held in
-    let tag : Tag = record { number = g; generation = o.generation } in
-    (tag, old.0, old.1.is)
 
 -- the same of an answer, whose holder is known
 pub ok-holder : (r : Result Held NorError) (o o' : Option Held) (w g : ℕ) (x m m' : List ℕ) → o ≡ o' → IfOk r (λ h. IsReplaceable w g o' m → Rewrites g x h m m') → IfOk r (λ h. IsReplaceable w g o m → Rewrites g x h m m')

@@ -1,5 +1,5 @@
 -- The older of two slots is retired, sector by sector.
-use Rattle.std.proofs.Common.{◌≡◌, ◌≢◌, ℕ, suc, ◌-◌, ◌*◌, ◌<◌, ◌⊎◌, List, length, refl, sym, ap, ◌∙◌, subst, arith, inl, inr}
+use Rattle.std.proofs.Common.{◌≡◌, ◌≢◌, ℕ, suc, ◌-◌, ◌*◌, ◌/◌, ◌<◌, ◌⊎◌, List, length, refl, sym, ap, ◌∙◌, subst, arith, inl, inr}
 use Rattle.std.specs.Prelude.{slice_index_or}
 use Rattle.std.proofs.lemmas.Bool.{cases_eq}
 use Rattle.chip_model.specs.Geometry.{sector_count, block_count}
@@ -11,11 +11,13 @@ use Rattle.nor_driver.specs.declared.error.NorError.{NorError}
 use Rattle.erase_journal.specs.Blocks.{SameChip}
 use Rattle.erase_journal.specs.Journals.{IsHealthy}
 use Rattle.erase_journal.specs.Steps.{SucceedsSettled}
-use Rattle.sector_slots.specs.Slots.{Slot, Dead, slot_at, slot_count, IsClean, IsLive}
+use Rattle.sector_slots.specs.Slots.{Slot, Dead, slot_at, slot_count, IsClean}
 use Rattle.sector_slots.specs.Blocks.{AreSettled}
-use Rattle.sector_slots.specs.Steps.{OnlyPlace}
-use Rattle.sector_slots.specs.Sectors.{LiveAt, SoundSlots, OthersKept, HoldsSectors, IsSingle, generation_in}
+use Rattle.sector_slots.specs.Steps.{IsRetirable, OnlyPlace}
+use Rattle.sector_slots.proofs.AloneLaws.{place-alone}
+use Rattle.sector_slots.specs.Sectors.{LiveAt, SoundSlots, OthersKept, IsSingle, HasSlotsAlone, generation_in}
 use Rattle.sector_slots.proofs.SectorLaws.{Without, moved, moved-back, dead-without, other-without, kind_in, never-round}
+use Rattle.sector_map.specs.Alone.{SlotsHold}
 use Rattle.sector_map.proofs.Places.{others-kept, slot-only, placed-settled, live-placed, retire-held}
 use Rattle.sector_map.specs.Table.{OneHolds, TwoHold, EntryHolds, IsTabled, KeptOne, IsOneAtMost, IsTableOf, holder}
 use Rattle.sector_map.specs.Replace.{HeldBy}
@@ -78,13 +80,14 @@ pub record Retired (table0 table : List Entry) (n : ℕ) (a b : NorState) : Type
   pub since : (b ≡ a) ⊎ SucceedsSettled a b
   pub size : length table ≡ length table0
   pub tabled : IsTabled table (slot_at b.memory) (slot_count a.memory)
-  pub sectors : (sectors : ℕ → List ℕ) → HoldsSectors sectors a.memory → HoldsSectors sectors b.memory
+  pub sectors : (sectors : ℕ → List ℕ) → SlotsHold sectors a.memory → SlotsHold sectors b.memory
   pub clean : IsClean a.memory → IsClean b.memory
   pub blocks : AreSettled b.memory
+  pub alone : HasSlotsAlone b.memory
   pub single : (g : ℕ) → g < n → IsOneAtMost (slice_index_or table g Absent)
 
-pub retired-none : (table : List Entry) (a : NorState) → IsTabled table (slot_at a.memory) (slot_count a.memory) → AreSettled a.memory → Retired table table 0 a a
-retired-none table a t blocks = record {
+pub retired-none : (table : List Entry) (a : NorState) → IsTabled table (slot_at a.memory) (slot_count a.memory) → AreSettled a.memory → HasSlotsAlone a.memory → Retired table table 0 a a
+retired-none table a t blocks alone = record {
   chip = record { same_length = refl; superblock = λ k low. refl };
   since = inl refl;
   size = refl;
@@ -92,6 +95,7 @@ retired-none table a t blocks = record {
   sectors = λ g s. s;
   clean = λ c. c;
   blocks = blocks;
+  alone = alone;
   single = λ g low. absurd (omega (arith, low));
 }
 
@@ -108,6 +112,7 @@ retired-quiet table0 table now n next a b c e t q here r = subst (λ z. Retired 
   sectors = r.sectors;
   clean = r.clean;
   blocks = r.blocks;
+  alone = r.alone;
   single = one-more table n here r.single;
 })))
 
@@ -129,28 +134,29 @@ pub refuses-perhaps : (e : NorError) (a b c : NorState) → (b ≡ a) ⊎ Succee
 refuses-perhaps e a b c (inl q) r = subst (λ z. Refuses e z c) q r
 refuses-perhaps e a b c (inr t) r = refuses-settled e a b c t r
 
--- a retirement that was cut
-pub older-live : (table0 table : List Entry) (n : ℕ) (a b : NorState) (x y : Held) → n < length table → slice_index_or table n Absent ≡ Two x y → Retired table0 table n a b → IsLive (slot_at b.memory y.slot)
-older-live table0 table n a b x y low is r =
-    let o = retired-two table0 table n a b x y low is r in
-    let tag : Tag = record { number = n; generation = y.generation } in
-    (tag, o.older_live.0, o.older_live.1.is)
-
 pub older-number : (table0 table : List Entry) (n : ℕ) (a b : NorState) (x y : Held) → n < length table → slice_index_or table n Absent ≡ Two x y → Retired table0 table n a b → y.slot < slot_count b.memory
 older-number table0 table n a b x y low is r =
     let o = retired-two table0 table n a b x y low is r in
     subst (λ k. y.slot < 7 * (block_count k - 4)) (sym r.chip.same_length) o.older_live.1.number
 
+-- a retirement that was cut
+pub older-retirable : (table0 table : List Entry) (n : ℕ) (a b : NorState) (x y : Held) → n < length table → slice_index_or table n Absent ≡ Two x y → Retired table0 table n a b → IsRetirable y.slot b.memory
+older-retirable table0 table n a b x y low is r =
+    let o = retired-two table0 table n a b x y low is r in
+    let tag : Tag = record { number = n; generation = y.generation } in
+    let low = older-number table0 table n a b x y low is r in
+    ((tag, o.older_live.0, o.older_live.1.is), r.alone (y.slot / 7) (omega (arith, low)))
+
 -- the sectors, once the older slot of sector n was retired or its retirement cut
 pub retired-sectors : (table0 table : List Entry) (n : ℕ) (a b c : NorState) (x y : Held) → n < length table → slice_index_or table n Absent ≡ Two x y → OnlyPlace y.slot b.memory c.memory
-    → (slot_at c.memory y.slot ≡ slot_at b.memory y.slot) ⊎ (slot_at c.memory y.slot ≡ Dead) → Retired table0 table n a b → (sectors : ℕ → List ℕ) → HoldsSectors sectors a.memory → HoldsSectors sectors c.memory
+    → (slot_at c.memory y.slot ≡ slot_at b.memory y.slot) ⊎ (slot_at c.memory y.slot ≡ Dead) → Retired table0 table n a b → (sectors : ℕ → List ℕ) → SlotsHold sectors a.memory → SlotsHold sectors c.memory
 retired-sectors table0 table n a b c x y low is only left r sectors s =
     let o : TwoHold x y (slot_at b.memory) (slot_count b.memory) n = subst (λ k. TwoHold x y (slot_at b.memory) (7 * (block_count k - 4)) n) (sym r.chip.same_length) (retired-two table0 table n a b x y low is r) in
     retire-held x.slot y.slot n y.generation x.generation o.newer_live.0 o.older_live.0 b.memory c.memory sectors only o.older_live.1 o.newer_live.1 (two-apart x y (slot_at b.memory) (slot_count b.memory) n o) o.next left r.blocks (r.sectors sectors s)
 
 pub retired-more : (table0 table new now : List Entry) (n next : ℕ) (a b c d : NorState) (x y : Held) → next ≡ suc n → now ≡ new → d ≡ c → n < length table → slice_index_or table n Absent ≡ Two x y → OnlyPlace y.slot b.memory c.memory
-    → (IsLive (slot_at b.memory y.slot) → slot_at c.memory y.slot ≡ Dead) → (IsLive (slot_at b.memory y.slot) → IsClean b.memory → IsClean c.memory) → SucceedsSettled b c → KeptOne table n x new → Retired table0 table n a b → Retired table0 now next a d
-retired-more table0 table new now n next a b c d x y e t q low is only dead' clean' s settled r = let was = older-live table0 table n a b x y low is r in let dead = dead' was in let clean = clean' was in subst (λ z. Retired table0 now next a z) (sym q) (subst (λ k. Retired table0 now k a c) (sym e) (subst (λ z. Retired table0 z (suc n) a c) (sym t) (record {
+    → (IsRetirable y.slot b.memory → slot_at c.memory y.slot ≡ Dead) → (IsRetirable y.slot b.memory → IsClean b.memory → IsClean c.memory) → SucceedsSettled b c → KeptOne table n x new → Retired table0 table n a b → Retired table0 now next a d
+retired-more table0 table new now n next a b c d x y e t q low is only dead' clean' s settled r = let was = older-retirable table0 table n a b x y low is r in let dead = dead' was in let clean = clean' was in subst (λ z. Retired table0 now next a z) (sym q) (subst (λ k. Retired table0 now k a c) (sym e) (subst (λ z. Retired table0 z (suc n) a c) (sym t) (record {
   chip = chip-after a.memory b.memory c.memory r.chip only.only.chip;
   since = inr (succeeds-perhaps a b c r.since s);
   size = settled.size ∙ r.size;
@@ -158,6 +164,7 @@ retired-more table0 table new now n next a b c d x y e t q low is only dead' cle
       (subst (λ k. OthersKept (7 * (block_count k - 4)) y.slot (slot_at b.memory) (slot_at c.memory)) r.chip.same_length (others-kept y.slot b.memory c.memory (slot-only y.slot b.memory c.memory only))) dead settled r.tabled;
   sectors = retired-sectors table0 table n a b c x y low is only (inr dead) r;
   clean = λ h. clean (r.clean h);
+  alone = place-alone y.slot b.memory c.memory only r.alone;
   blocks =
       let o = retired-two table0 table n a b x y low is r in
       placed-settled y.slot b.memory c.memory r.blocks (live-placed y.slot (record { number = n; generation = y.generation }) o.older_live.0 b.memory r.blocks (older-number table0 table n a b x y low is r) o.older_live.1.is) only;
@@ -168,10 +175,10 @@ retired-more table0 table new now n next a b c d x y e t q low is only dead' cle
 })))
 
 pub retired-cut : (table0 table : List Entry) (n : ℕ) (a b c : NorState) (x y : Held) → n < length table → slice_index_or table n Absent ≡ Two x y → OnlyPlace y.slot b.memory c.memory
-    → (IsLive (slot_at b.memory y.slot) → (slot_at c.memory y.slot ≡ slot_at b.memory y.slot) ⊎ (slot_at c.memory y.slot ≡ Dead))
-    → Retired table0 table n a b → (sectors : ℕ → List ℕ) → HoldsSectors sectors a.memory → HoldsSectors sectors c.memory
+    → (IsRetirable y.slot b.memory → (slot_at c.memory y.slot ≡ slot_at b.memory y.slot) ⊎ (slot_at c.memory y.slot ≡ Dead))
+    → Retired table0 table n a b → (sectors : ℕ → List ℕ) → SlotsHold sectors a.memory → SlotsHold sectors c.memory
 retired-cut table0 table n a b c x y low is only left r =
-    let either = left (older-live table0 table n a b x y low is r) in
+    let either = left (older-retirable table0 table n a b x y low is r) in
     retired-sectors table0 table n a b c x y low is only either r
 
 pub retired-healthy : (table0 table : List Entry) (n : ℕ) (a b : NorState) → Retired table0 table n a b → IsHealthy a.memory → IsHealthy b.memory

@@ -30,13 +30,17 @@ FoundBelow AtRest kind k n = RestBelow kind k
 FoundBelow (Void t) kind k n = VoidBelow t kind k
 FoundBelow (Committed s t) kind k n = CommittedBelow s t kind k n
 
--- what is found once one more block is read; None where the blocks are corrupt
+-- What is found once one more block is read; None where the blocks are corrupt, or one is of a
+-- group: on a chip of layout 2 none is.
 abbrev pub noted_first : ℕ → Kind → ℕ → Option Found
 noted_first block kinds.Plain n = Some AtRest
 noted_first block kinds.Void n = Some (Void block)
 noted_first block (kinds.Committed b) n = if nat_le 4 b && nat_le b (n + 3) && not (b == block + 4)
     then Some (Committed (b - 4) block) else None
 noted_first block kinds.Settled n = Some AtRest
+noted_first block (kinds.Group group) n = None
+noted_first block kinds.DeadGroup n = None
+noted_first block kinds.SpoiltGroup n = None
 noted_first block kinds.Unknown n = None
 
 abbrev pub noted_next : Found → Kind → Option Found
@@ -44,6 +48,9 @@ noted_next found kinds.Plain = Some found
 noted_next found kinds.Void = None
 noted_next found (kinds.Committed b) = None
 noted_next found kinds.Settled = Some found
+noted_next found (kinds.Group group) = None
+noted_next found kinds.DeadGroup = None
+noted_next found kinds.SpoiltGroup = None
 noted_next found kinds.Unknown = None
 
 abbrev pub noted_kind : Found → ℕ → Kind → ℕ → Option Found

@@ -12,7 +12,8 @@ use Rattle.erase_journal.specs.Blocks.{SameChip, SameBlocks}
 use Rattle.erase_journal.specs.Journals.{IsHealthy, IsSettled}
 use Rattle.sector_slots.specs.Slots.{IsClean}
 use Rattle.sector_slots.specs.Blocks.{AreSettled}
-use Rattle.sector_slots.specs.Sectors.{IsSoundMap, sector_at}
+use Rattle.sector_slots.specs.Sectors.{IsSoundMap, HasSlotsAlone, sector_at}
+use Rattle.sector_map.specs.Alone.{IsSlotMap}
 use Rattle.sector_map.specs.Table.{IsTableOf}
 use Rattle.sector_map.specs.declared.entry.Entry.{Entry}
 use Rattle.sector_map.specs.declared.error.MountError.{MountError}
@@ -28,8 +29,13 @@ geometry_of bytes = record {
   sectors = sector_count bytes;
 }
 
--- Behind the superblock: the journals are healthy, and slots and blocks sound.
+-- Behind the superblock: the journals are healthy, slots and blocks sound, and no block of a group.
 pub record IsStore (m : List ℕ) : Type 0 where
+  pub journals : IsHealthy m
+  pub slots : IsSlotMap m
+
+-- The same of a store with blocks of slots, of groups, or of both.
+pub record IsMixedStore (m : List ℕ) : Type 0 where
   pub journals : IsHealthy m
   pub slots : IsSoundMap m
 
@@ -68,9 +74,30 @@ pub record Sets (g : ℕ) (x m m' : List ℕ) : Type 0 where
 abbrev pub SetLeaves : ℕ → List ℕ → List ℕ → List ℕ → Type 0
 SetLeaves g x m m' = KeepsMap m m' ⊎ Sets g x m m'
 
+-- The same on a store with blocks of slots, of groups, or of both; where no block was of a group,
+-- none is.
+pub record KeepsMixed (m m' : List ℕ) : Type 0 where
+  pub chip : SameChip m m'
+  pub store : IsMixedStore m'
+  pub alone : HasSlotsAlone m → HasSlotsAlone m'
+  pub sectors : IsClean m → (g : ℕ) → g < sector_count (length m) → sector_at m' g ≡ sector_at m g
+  pub clean : IsClean m → IsClean m'
+
+pub record SetsMixed (g : ℕ) (x m m' : List ℕ) : Type 0 where
+  pub chip : SameChip m m'
+  pub store : IsMixedStore m'
+  pub alone : HasSlotsAlone m → HasSlotsAlone m'
+  pub there : IsClean m → sector_at m' g ≡ x
+  pub others : IsClean m → (h : ℕ) → h < sector_count (length m) → h ≢ g
+      → sector_at m' h ≡ sector_at m h
+  pub clean : IsClean m → IsClean m'
+
+abbrev pub SetMixedLeaves : ℕ → List ℕ → List ℕ → List ℕ → Type 0
+SetMixedLeaves g x m m' = KeepsMixed m m' ⊎ SetsMixed g x m m'
+
 -- Whether the latched error is a Slow, and what is known while it does: where nothing is latched,
--- the power is on, table and index are those of the memory, and no copying goes on; while a Cut is
--- latched, the memory is that of a map.
+-- the power is on, table and index are those of the memory, no copying goes on, and no block is of
+-- a group; while a Cut is latched, the memory is that of a map.
 abbrev pub is_slow_in : Option NorError → Bool
 is_slow_in None = false
 is_slow_in (Some errors.Cut) = false
@@ -79,7 +106,7 @@ is_slow_in (Some errors.Slow) = true
 pub record IsServing (table : List Entry) (state : NorState) (indexed : Bool) : Type 0 where
   pub ready : IsNorReady state
   pub settled : IsSettled state.memory
-  pub store : IsStore state.memory
+  pub store : IsMixedStore state.memory
   pub blocks : AreSettled state.memory
   pub tabled : IsTableOf table state.memory
   pub index : indexed ≡ true
@@ -90,7 +117,7 @@ pub record IsCutOff (state : NorState) : Type 0 where
   pub store : IsStore state.memory
 
 abbrev pub KnownWhile : Option NorError → List Entry → NorState → Bool → Type 0
-KnownWhile None table state indexed = IsServing table state indexed
+KnownWhile None table state indexed = IsServing table state indexed × HasSlotsAlone state.memory
 KnownWhile (Some errors.Cut) table state indexed = IsCutOff state
 KnownWhile (Some errors.Slow) table state indexed = Unit {0}
 
@@ -102,12 +129,12 @@ shown_with latched state = record state { is_slow = is_slow_in latched }
 -- what a write that answered Ok leaves beside the sectors: the table is again that of the memory
 pub record Wrote (g : ℕ) (x : List ℕ) (table : List Entry) (old new : NorState)
     (indexed : Bool) : Type 0 where
-  pub sets : Sets g x old.memory new.memory
+  pub sets : SetsMixed g x old.memory new.memory
   pub served : IsServing table new indexed
 
 -- and a call that writes none
 pub record KeptServing (table : List Entry) (old new : NorState) (indexed : Bool) : Type 0 where
-  pub keeps : KeepsMap old.memory new.memory
+  pub keeps : KeepsMixed old.memory new.memory
   pub served : IsServing table new indexed
 
 -- A mount that answered Ok.

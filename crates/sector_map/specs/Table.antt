@@ -9,8 +9,9 @@ use Rattle.chip_model.specs.Geometry.{sector_count}
 use Rattle.erase_journal.specs.Blocks.{SameChip}
 use Rattle.sector_slots.specs.Slots.{Slot, NoGeneration, slot_at, slot_count, IsClean}
 use Rattle.sector_slots.specs.Blocks.{AreSettled}
-use Rattle.sector_slots.specs.Sectors.{LiveAt, IsAbsent, is_next, IsSoundMap, IsSingle}
-use Rattle.sector_slots.specs.Sectors.{HoldsSectors, sector_at}
+use Rattle.sector_slots.specs.Sectors.{LiveAt, IsAbsent, is_next, IsSingle}
+use Rattle.sector_slots.specs.Sectors.{sector_at}
+use Rattle.sector_map.specs.Alone.{IsSlotMap, SlotsHold}
 use Rattle.sector_map.specs.declared.held.Held.{Held}
 use Rattle.sector_map.specs.declared.entry.Entry.{Entry}
 use Rattle.sector_map.specs.declared.entry.Entry.TheVariants.{Absent, One, Two}
@@ -120,9 +121,9 @@ pub record IsTableOf (table : List Entry) (m : List ℕ) : Type 0 where
 -- A table that was made, a copying ended, and the older of two slots of a sector retired: slots and
 -- blocks were sound, and the sectors are what they were.
 pub record Mounts (m : List ℕ) (table : List Entry) (m' : List ℕ) : Type 0 where
-  pub sound : IsSoundMap m
+  pub sound : IsSlotMap m
   pub chip : SameChip m m'
-  pub sectors : HoldsSectors (sector_at m) m'
+  pub sectors : SlotsHold (sector_at m) m'
   pub tabled : IsTableOf table m'
   pub single : IsSingle m'
   pub blocks : AreSettled m'
@@ -131,5 +132,5 @@ pub record Mounts (m : List ℕ) (table : List Entry) (m' : List ℕ) : Type 0 w
 -- One that was cut: where the slots were sound they are, and the sectors are what they were.
 pub record MountCut (m m' : List ℕ) : Type 0 where
   pub chip : SameChip m m'
-  pub sectors : IsSoundMap m → HoldsSectors (sector_at m) m'
+  pub sectors : IsSlotMap m → SlotsHold (sector_at m) m'
   pub clean : IsClean m → IsClean m'

@@ -8,7 +8,7 @@ ghost use Rattle.nor_layout.specs.declared.header.Tag.{Tag as TagOf};
 ghost use Rattle.erase_journal.specs.Steps.{SucceedsSettled};
 ghost use Rattle.sector_slots.specs.Slots.{data_blocks};
 ghost use Rattle.sector_slots.specs.Blocks.{AreSettled};
-ghost use Rattle.sector_slots.specs.Sectors.{IsSoundMap, IsSingle};
+ghost use Rattle.sector_slots.specs.Sectors.{IsSingle, IsSoundMap};
 ghost use Rattle.sector_map.specs.Scan.{Follows, FollowsHead, FollowsBlock, TableFollows, AreApart};
 
 use crate::Held;

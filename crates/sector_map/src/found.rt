@@ -20,7 +20,7 @@ pub enum Found {
 const FIRST_DATA_BLOCK: u16 = 4;
 
 /// What is found once a block of this kind is read, of `count` blocks; None where the blocks are
-/// corrupt.
+/// corrupt, or this one is of a group.
 pub fn note_kind(found: Found, block: u16, kind: Kind, count: u16) -> Option<Found>
     requires few { count ≤ 4092 }
     requires number { block ≤ 4092 }
@@ -29,6 +29,9 @@ pub fn note_kind(found: Found, block: u16, kind: Kind, count: u16) -> Option<Fou
     match kind {
         Kind::Plain => Some(found),
         Kind::Settled => Some(found),
+        Kind::Group(_) => None,
+        Kind::DeadGroup => None,
+        Kind::SpoiltGroup => None,
         Kind::Unknown => None,
         Kind::Void => match found {
             Found::AtRest => Some(Found::Void(block)),

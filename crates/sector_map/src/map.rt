@@ -11,7 +11,7 @@ ghost use Rattle.erase_journal.specs.Recovery.{IsBehind};
 ghost use Rattle.erase_journal.specs.Steps.{SucceedsSettled};
 ghost use Rattle.sector_slots.specs.Slots.{slot_count, data_blocks, IsClean};
 ghost use Rattle.sector_slots.specs.Sectors.{sector_at, zeros};
-ghost use Rattle.sector_stock.specs.Takes.{dead_slots};
+ghost use Rattle.sector_stock.specs.Takes.{work_of};
 ghost use Rattle.sector_map.specs.Table.{holder};
 ghost use Rattle.sector_map.specs.Maps.{IsStore, KeepsMap, Sets, SetLeaves, Mounted, MountFails};
 ghost use Rattle.sector_map.specs.Maps.{MapRestored, MapRestoreFails, geometry_of};
@@ -77,6 +77,7 @@ impl<N: Nor> SectorMap<N> {
         match look(&mut nor) {
             Ok(Ok(Layout::Sectors)) => recover(alloc, nor),
             Ok(Ok(Layout::Groups)) => Err((nor, MountError::Corrupt)),
+            Ok(Ok(Layout::Mixed)) => Err((nor, MountError::Corrupt)),
             Ok(Err(SuperError::NotFormatted)) => Err((nor, MountError::NotFormatted)),
             Ok(Err(SuperError::Layout)) => Err((nor, MountError::Corrupt)),
             Ok(Err(SuperError::Geometry)) => Err((nor, MountError::Corrupt)),
@@ -181,8 +182,8 @@ impl<N: Nor> SectorMap<N> {
     pub fn tidy(&mut self) -> Result<bool, NorError>
         ensures ok { OnOk result (KeepsMap self.old.memory self.new.memory) }
         ensures fewer { IfOk result (λ more. IsTrue more
-            → dead_slots self.new.memory < dead_slots self.old.memory) }
-        ensures tidied { IfOk result (λ more. IsFalse more → dead_slots self.old.memory ≡ 0) }
+            → work_of self.new.memory < work_of self.old.memory) }
+        ensures tidied { IfOk result (λ more. IsFalse more → work_of self.old.memory ≡ 0) }
         ensures unchanged { IfOk result (λ more. IsFalse more → self.new.memory ≡ self.old.memory) }
         ensures cut { IsErrOf result NorError.Cut → KeepsMap self.old.memory self.new.memory }
         ensures size { length self.new.memory ≡ length self.old.memory }
@@ -297,6 +298,7 @@ fn take_tables(alloc: Global, chip: Geometry) -> Result<Tables, AllocError>
         free: 0,
         dead: 0,
         plain: false,
+        group: false,
     };
     let blocks = vec![in alloc; blank; count]?;
     Ok(Tables {

@@ -11,8 +11,9 @@ ghost use Rattle.erase_journal.specs.Journals.{IsHealthy};
 ghost use Rattle.erase_journal.specs.Steps.{SucceedsSettled};
 ghost use Rattle.sector_slots.specs.Slots.{slot_at, slot_count, IsClean};
 ghost use Rattle.sector_slots.specs.Blocks.{AreSettled};
-ghost use Rattle.sector_slots.specs.Sectors.{IsSoundMap, HoldsSectors};
+ghost use Rattle.sector_slots.specs.Sectors.{HasSlotsAlone};
 ghost use Rattle.sector_stock.specs.Copy.{KeepsSectors, EndsCopy};
+ghost use Rattle.sector_map.specs.Alone.{IsSlotMap, SlotsHold};
 ghost use Rattle.sector_map.specs.Found.{FoundIn, fitting};
 ghost use Rattle.sector_map.specs.Table.{IsTabled, IsTableOf, IsBlankTable, Mounts, MountCut};
 ghost use Rattle.sector_map.specs.declared.found.Found.{Found as FoundOf};
@@ -34,7 +35,7 @@ pub fn mount_in<S: Reclaim>(stock: &mut S, table: &mut [Entry]) -> Result<bool, 
         → Mounts (S.state stock.old).memory table.new (S.state stock.new).memory) }
     ensures indexed { IfOk result (λ sound. IsTrue sound → S.indexed stock.new ≡ true) }
     ensures corrupt { IfOk result (λ sound. IsFalse sound
-        → (IsSoundMap (S.state stock.old).memory → ⊥)
+        → (IsSlotMap (S.state stock.old).memory → ⊥)
         × ((S.state stock.new).memory ≡ (S.state stock.old).memory)) }
     ensures cut { IsErrOf result NorError.Cut → IsHealthy (S.state stock.old).memory
         → MountCut (S.state stock.old).memory (S.state stock.new).memory }
@@ -66,8 +67,8 @@ fn look<S: Reclaim>(stock: &mut S, table: &mut [Entry]) -> Result<Option<Found>,
         → IsTabled table.new (slot_at (S.state stock.old).memory)
         (slot_count (S.state stock.old).memory)) }
     ensures sound { IfOk result (λ answer. (found : FoundOf) → answer ≡ Some found
-        → IsSoundMap (S.state stock.old).memory) }
-    ensures corrupt { IfOk result (λ answer. answer ≡ None → IsSoundMap (S.state stock.old).memory
+        → IsSlotMap (S.state stock.old).memory) }
+    ensures corrupt { IfOk result (λ answer. answer ≡ None → IsSlotMap (S.state stock.old).memory
         → ⊥) }
     ensures size { length table.new ≡ length table.old }
     ensures same { (S.state stock.new).memory ≡ (S.state stock.old).memory }
@@ -100,7 +101,7 @@ fn repair<S: Reclaim>(stock: &mut S, table: &mut [Entry], found: Found) -> Resul
     requires tabled { IsTabled table.old (slot_at (S.state stock.old).memory)
         (slot_count (S.state stock.old).memory) }
     requires found { FoundIn found (S.state stock.old).memory }
-    requires sound { IsSoundMap (S.state stock.old).memory }
+    requires sound { IsSlotMap (S.state stock.old).memory }
     ensures ok { OnOk result (Mounts (S.state stock.old).memory table.new
         (S.state stock.new).memory) }
     ensures indexed { OnOk result (S.indexed stock.new ≡ true) }
@@ -122,7 +123,7 @@ fn repair<S: Reclaim>(stock: &mut S, table: &mut [Entry], found: Found) -> Resul
 /// Ends a copying that was found.
 fn end_copying<S: SlotCalls>(slots: &mut S, found: Found) -> Result<(), NorError>
     requires found { FoundIn found (S.state slots.old).memory }
-    requires sound { IsSoundMap (S.state slots.old).memory }
+    requires sound { IsSlotMap (S.state slots.old).memory }
     ensures ok { OnOk result (EndsCopy (S.state slots.old).memory (S.state slots.new).memory) }
     ensures cut { IsErrOf result NorError.Cut → IsHealthy (S.state slots.old).memory
         → KeepsSectors (S.state slots.old).memory (S.state slots.new).memory }
@@ -143,7 +144,7 @@ fn end_copying<S: SlotCalls>(slots: &mut S, found: Found) -> Result<(), NorError
 /// Ends a copying that is committed.
 fn end_copy<S: SlotCalls>(slots: &mut S, source: u16, target: u16) -> Result<(), NorError>
     requires found { FoundIn (Found.Committed source target) (S.state slots.old).memory }
-    requires sound { IsSoundMap (S.state slots.old).memory }
+    requires sound { IsSlotMap (S.state slots.old).memory }
     ensures ok { OnOk result (EndsCopy (S.state slots.old).memory (S.state slots.new).memory) }
     ensures cut { IsErrOf result NorError.Cut → IsHealthy (S.state slots.old).memory
         → KeepsSectors (S.state slots.old).memory (S.state slots.new).memory }
@@ -167,14 +168,15 @@ fn retire_older<S: SlotCalls>(slots: &mut S, table: &mut [Entry]) -> Result<(), 
     requires tabled { IsTabled table.old (slot_at (S.state slots.old).memory)
         (slot_count (S.state slots.old).memory) }
     requires blocks { AreSettled (S.state slots.old).memory }
+    requires alone { HasSlotsAlone (S.state slots.old).memory }
     ensures ok { OnOk result (IsTableOf table.new (S.state slots.new).memory) }
     ensures sectors { OnOk result ((sectors : ℕ → List ℕ)
-        → HoldsSectors sectors (S.state slots.old).memory
-        → HoldsSectors sectors (S.state slots.new).memory) }
+        → SlotsHold sectors (S.state slots.old).memory
+        → SlotsHold sectors (S.state slots.new).memory) }
     ensures blocks { OnOk result (AreSettled (S.state slots.new).memory) }
     ensures cut { IsErrOf result NorError.Cut → (sectors : ℕ → List ℕ)
-        → HoldsSectors sectors (S.state slots.old).memory
-        → HoldsSectors sectors (S.state slots.new).memory }
+        → SlotsHold sectors (S.state slots.old).memory
+        → SlotsHold sectors (S.state slots.new).memory }
     ensures clean { OnOk result (IsClean (S.state slots.old).memory
         → IsClean (S.state slots.new).memory) }
     ensures cut_clean { IsErrOf result NorError.Cut → IsClean (S.state slots.old).memory

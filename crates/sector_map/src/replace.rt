@@ -8,7 +8,7 @@ ghost use Rattle.erase_journal.specs.Blocks.{SameChip};
 ghost use Rattle.erase_journal.specs.Journals.{IsHealthy, IsSettled};
 ghost use Rattle.erase_journal.specs.Steps.{SucceedsSettled};
 ghost use Rattle.sector_slots.specs.Slots.{slot_count};
-ghost use Rattle.sector_slots.specs.Sectors.{IsSoundMap, IsSingle, sector_at};
+ghost use Rattle.sector_slots.specs.Sectors.{IsSingle, IsSoundMap, sector_at};
 ghost use Rattle.sector_map.specs.Replace.{HeldBy, generation_after, IsReplaceable, Rewrites};
 ghost use Rattle.sector_map.specs.Replace.{RewriteLeaves};
 

@@ -8,7 +8,7 @@ ghost use Rattle.erase_journal.specs.Steps.{SucceedsSettled};
 ghost use Rattle.sector_slots.specs.Slots.{slot_at, slot_count, data_blocks, read_header};
 ghost use Rattle.sector_slots.specs.Slots.{IsSpareIn};
 ghost use Rattle.sector_slots.specs.Blocks.{AreSound};
-ghost use Rattle.sector_slots.specs.Sectors.{SoundSlots};
+ghost use Rattle.sector_slots.specs.Sectors.{SoundSlots, HasSlotsAlone};
 ghost use Rattle.sector_map.specs.Found.{FoundIn, block_counts};
 ghost use Rattle.sector_map.specs.declared.found.Found.{Found as FoundOf};
 ghost use Rattle.sector_map.specs.Scan.{EntersBlock, RefusesBlock};
@@ -21,13 +21,16 @@ use nor_driver::NorError;
 use nor_layout::{Header, Kind};
 use sector_slots::SlotCalls;
 
-/// Reads the kinds of all blocks: the copying that goes on; None where the blocks are corrupt.
+/// Reads the kinds of all blocks: the copying that goes on; None where the blocks are corrupt, or
+/// one is of a group.
 #[tactic(auto, using(crate::proofs::Calls::repeated_calls))]
 pub fn survey<S: SlotCalls>(slots: &mut S) -> Result<Option<Found>, NorError>
     ensures found { IfOk result (λ answer. (found : FoundOf) → answer ≡ Some found
         → FoundIn found (S.state slots.old).memory) }
+    ensures alone { IfOk result (λ answer. (found : FoundOf) → answer ≡ Some found
+        → HasSlotsAlone (S.state slots.old).memory) }
     ensures corrupt { IfOk result (λ answer. answer ≡ None → AreSound (S.state slots.old).memory
-        → ⊥) }
+        → HasSlotsAlone (S.state slots.old).memory → ⊥) }
     ensures same { (S.state slots.new).memory ≡ (S.state slots.old).memory }
     ensures done { OnOk result (SucceedsSettled (S.state slots.old) (S.state slots.new)) }
     ensures fails { IfErr result (λ e. Refuses e (S.state slots.old) (S.state slots.new)) }
@@ -212,6 +215,9 @@ fn is_plain(kind: Kind) -> bool
         Kind::Void => false,
         Kind::Committed(_) => false,
         Kind::Settled => false,
+        Kind::Group(_) => false,
+        Kind::DeadGroup => false,
+        Kind::SpoiltGroup => false,
         Kind::Unknown => false,
     }
 }

@@ -1,13 +1,15 @@
 //! The calls of a map, over a store and the table of its sectors.
 
-ghost use Rattle.std.specs.Prelude.{◌≡◌, ◌<◌, Bool, length, OnOk, IfOk, IfErr, IsTrue, IsFalse};
+ghost use Rattle.std.specs.Prelude.{◌≡◌, ◌⊎◌, ◌<◌, Bool, length, OnOk, IfOk, IfErr, IsTrue};
+ghost use Rattle.std.specs.Prelude.{IsFalse};
 ghost use Rattle.std.specs.Result.{IsErrOf};
 ghost use Rattle.chip_model.specs.Geometry.{sector_count};
 ghost use Rattle.nor_driver.specs.State.{IsNorReady, Refuses};
 ghost use Rattle.erase_journal.specs.Steps.{SucceedsSettled};
 ghost use Rattle.sector_slots.specs.Sectors.{sector_at, zeros};
-ghost use Rattle.sector_stock.specs.Takes.{dead_slots};
-ghost use Rattle.sector_map.specs.Maps.{IsServing, KeepsMap, SetLeaves, Wrote, KeptServing};
+ghost use Rattle.sector_stock.specs.Takes.{work_of};
+ghost use Rattle.sector_map.specs.Replace.{IsInSlots};
+ghost use Rattle.sector_map.specs.Maps.{IsServing, KeepsMixed, SetMixedLeaves, Wrote, KeptServing};
 
 use crate::entry::Entry;
 use crate::follow::follow_copied;
@@ -16,7 +18,8 @@ use crate::table::{keep_one, unset};
 use nor_driver::NorError;
 use sector_stock::Reclaim;
 
-/// Writes a sector into a slot that it takes, and retires the slot that held it, if one did.
+/// Writes a sector into a slot that it takes, and retires the slot that held it, if one did. Where
+/// a block with its group holds it, converts that block first.
 pub fn write_in<S: Reclaim>(
     stock: &mut S,
     table: &mut [Entry],
@@ -29,7 +32,58 @@ pub fn write_in<S: Reclaim>(
     ensures ok { OnOk result (Wrote sector content.now table.new (S.state stock.old)
         (S.state stock.new) (S.indexed stock.new)) }
     ensures cut { IsErrOf result NorError.Cut
-        → SetLeaves sector content.now (S.state stock.old).memory (S.state stock.new).memory }
+        → SetMixedLeaves sector content.now (S.state stock.old).memory (S.state stock.new).memory }
+    ensures table { length table.new ≡ length table.old }
+    ensures size { length (S.state stock.new).memory ≡ length (S.state stock.old).memory }
+    ensures done { OnOk result (SucceedsSettled (S.state stock.old) (S.state stock.new)) }
+    ensures fails { IfErr result (λ e. Refuses e (S.state stock.old) (S.state stock.new)) }
+{
+    leave_group(stock, table, sector)?;
+    write_own(stock, table, sector, content)
+}
+
+/// Converts the block that holds a sector with its group, if one does: no such block does then. The
+/// table follows, and no sector changes.
+fn leave_group<S: Reclaim>(stock: &mut S, table: &mut [Entry], sector: u16) -> Result<(), NorError>
+    requires served { IsServing table.old (S.state stock.old) (S.indexed stock.old) }
+    requires number { sector < length table.old }
+    ensures ok { OnOk result (KeptServing table.new (S.state stock.old) (S.state stock.new)
+        (S.indexed stock.new)) }
+    ensures own { OnOk result (IsInSlots sector (S.state stock.new).memory) }
+    ensures cut { IsErrOf result NorError.Cut
+        → KeepsMixed (S.state stock.old).memory (S.state stock.new).memory }
+    ensures table { length table.new ≡ length table.old }
+    ensures size { length (S.state stock.new).memory ≡ length (S.state stock.old).memory }
+    ensures done { OnOk result ((S.state stock.new ≡ S.state stock.old)
+        ⊎ SucceedsSettled (S.state stock.old) (S.state stock.new)) }
+    ensures fails { IfErr result (λ e. Refuses e (S.state stock.old) (S.state stock.new)) }
+{
+    let Some(held) = table[sector as usize].holder() else {
+        return Ok(());
+    };
+    if !stock.is_group(held.slot) {
+        return Ok(());
+    }
+    let copied = stock.convert(held.slot / 7)?;
+    follow_copied(stock, table, Some(copied))?;
+    Ok(())
+}
+
+/// Writes a sector that no block with its group holds.
+fn write_own<S: Reclaim>(
+    stock: &mut S,
+    table: &mut [Entry],
+    sector: u16,
+    content: &[u8],
+) -> Result<(), NorError>
+    requires served { IsServing table.old (S.state stock.old) (S.indexed stock.old) }
+    requires own { IsInSlots sector (S.state stock.old).memory }
+    requires number { sector < length table.old }
+    requires size { length content.now ≡ 512 }
+    ensures ok { OnOk result (Wrote sector content.now table.new (S.state stock.old)
+        (S.state stock.new) (S.indexed stock.new)) }
+    ensures cut { IsErrOf result NorError.Cut
+        → SetMixedLeaves sector content.now (S.state stock.old).memory (S.state stock.new).memory }
     ensures table { length table.new ≡ length table.old }
     ensures size { length (S.state stock.new).memory ≡ length (S.state stock.old).memory }
     ensures done { OnOk result (SucceedsSettled (S.state stock.old) (S.state stock.new)) }
@@ -43,18 +97,19 @@ pub fn write_in<S: Reclaim>(
     Ok(())
 }
 
-/// Copies the block with the most dead slots; false, and nothing changes, where none is dead.
+/// Copies the block with the most dead slots; where none is dead, converts the lowest-numbered
+/// block that is live with a group; false, and nothing changes, where there is neither.
 pub fn tidy_in<S: Reclaim>(stock: &mut S, table: &mut [Entry]) -> Result<bool, NorError>
     requires served { IsServing table.old (S.state stock.old) (S.indexed stock.old) }
     ensures ok { OnOk result (KeptServing table.new (S.state stock.old) (S.state stock.new)
         (S.indexed stock.new)) }
     ensures fewer { IfOk result (λ more. IsTrue more
-        → dead_slots (S.state stock.new).memory < dead_slots (S.state stock.old).memory) }
-    ensures none { IfOk result (λ more. IsFalse more → dead_slots (S.state stock.old).memory ≡ 0) }
+        → work_of (S.state stock.new).memory < work_of (S.state stock.old).memory) }
+    ensures none { IfOk result (λ more. IsFalse more → work_of (S.state stock.old).memory ≡ 0) }
     ensures unchanged { IfOk result (λ more. IsFalse more
         → (S.state stock.new).memory ≡ (S.state stock.old).memory) }
     ensures cut { IsErrOf result NorError.Cut
-        → KeepsMap (S.state stock.old).memory (S.state stock.new).memory }
+        → KeepsMixed (S.state stock.old).memory (S.state stock.new).memory }
     ensures table { length table.new ≡ length table.old }
     ensures size { length (S.state stock.new).memory ≡ length (S.state stock.old).memory }
     ensures done { OnOk result (SucceedsSettled (S.state stock.old) (S.state stock.new)) }
@@ -70,13 +125,32 @@ pub fn tidy_in<S: Reclaim>(stock: &mut S, table: &mut [Entry]) -> Result<bool, N
 }
 
 /// Retires the slot that holds a sector, if one does; the sector is absent then, and holds zeros.
+/// Where a block with its group holds it, converts that block first.
 pub fn clear_in<S: Reclaim>(stock: &mut S, table: &mut [Entry], sector: u16) -> Result<(), NorError>
     requires served { IsServing table.old (S.state stock.old) (S.indexed stock.old) }
     requires number { sector < length table.old }
     ensures ok { OnOk result (Wrote sector zeros table.new (S.state stock.old) (S.state stock.new)
         (S.indexed stock.new)) }
     ensures cut { IsErrOf result NorError.Cut
-        → SetLeaves sector zeros (S.state stock.old).memory (S.state stock.new).memory }
+        → SetMixedLeaves sector zeros (S.state stock.old).memory (S.state stock.new).memory }
+    ensures table { length table.new ≡ length table.old }
+    ensures size { length (S.state stock.new).memory ≡ length (S.state stock.old).memory }
+    ensures done { OnOk result (SucceedsSettled (S.state stock.old) (S.state stock.new)) }
+    ensures fails { IfErr result (λ e. Refuses e (S.state stock.old) (S.state stock.new)) }
+{
+    leave_group(stock, table, sector)?;
+    clear_own(stock, table, sector)
+}
+
+/// Clears a sector that no block with its group holds.
+fn clear_own<S: Reclaim>(stock: &mut S, table: &mut [Entry], sector: u16) -> Result<(), NorError>
+    requires served { IsServing table.old (S.state stock.old) (S.indexed stock.old) }
+    requires own { IsInSlots sector (S.state stock.old).memory }
+    requires number { sector < length table.old }
+    ensures ok { OnOk result (Wrote sector zeros table.new (S.state stock.old) (S.state stock.new)
+        (S.indexed stock.new)) }
+    ensures cut { IsErrOf result NorError.Cut
+        → SetMixedLeaves sector zeros (S.state stock.old).memory (S.state stock.new).memory }
     ensures table { length table.new ≡ length table.old }
     ensures size { length (S.state stock.new).memory ≡ length (S.state stock.old).memory }
     ensures done { OnOk result (SucceedsSettled (S.state stock.old) (S.state stock.new)) }

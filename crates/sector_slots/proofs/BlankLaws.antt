@@ -14,13 +14,14 @@ use Rattle.nor_layout.specs.Headers.{header_of}
 use Rattle.nor_layout.specs.Kinds.{kind_of}
 use Rattle.erase_journal.specs.Blocks.{blank, SameChip, OnlyBlock, SameBlocks}
 use Rattle.erase_journal.proofs.BlockLaws.{length-blank, byte-blank}
-use Rattle.sector_slots.specs.Slots.{Slot, Free, slot_with, slot_in, content_bytes, blank_sector, counted, copies, is_copy_of, data_blocks, data_block, kind_at, raw_slot, slot_at, slot_count, IsSpareIn, SameSlots}
-use Rattle.sector_slots.specs.Blocks.{IsAtRest, IsCopying, SoundBlocks, settled, copying}
+use Rattle.sector_slots.specs.Slots.{Slot, Free, slot_with, slot_in, descriptor_in, header_in, written_in, content_bytes, blank_sector, counted, copies, is_copy_of, data_blocks, data_block, kind_at, raw_slot, slot_at, slot_count, IsSpareIn, SameSlots}
+use Rattle.sector_slots.specs.Blocks.{IsAtRest, IsCopying, SoundBlocks, settled, crowded, copying}
+use Rattle.sector_slots.proofs.GroupLaws.{room-same, kinds-stay, fit-step}
 use Rattle.sector_slots.specs.Sectors.{IsSoundMap, HoldsSectors, sector_at}
 use Rattle.sector_slots.proofs.WinnerLaws.{sound-stands}
 use Rattle.sector_slots.specs.Copying.{SameLive}
 use Rattle.sector_slots.proofs.CopyLaws.{copies-same}
-use Rattle.sector_slots.proofs.MoveLaws.{live-stands}
+use Rattle.sector_slots.proofs.MoveLaws.{live-stands, same-back}
 use Rattle.sector_slots.proofs.MachineLaws.{holds-sized}
 
 pub blank-kind : kind_of blank ≡ kinds.Plain
@@ -33,9 +34,13 @@ blank-byte k j low = get_or-drop k blank j 0 ∙ byte-blank (k + j) low
 blank-header : (k : ℕ) → k < 4000 → header_of (drop k blank) ≡ headers.Free
 blank-header k low = rw (blank-byte k 0 (omega arith), blank-byte k 1 (omega arith), blank-byte k 2 (omega arith), blank-byte k 3 (omega arith)) refl
 
+blank-descriptor : (i : ℕ) → i < 7 → descriptor_in blank i ≡ headers.Free
+unfolding descriptor_in
+blank-descriptor i low = ap (λ k. header_in k (written_in blank i) i) blank-kind ∙ blank-header (16 + 4 * i) (omega arith)
+
 pub blank-slot : (i : ℕ) → i < 7 → slot_in blank i ≡ Free
 unfolding slot_in
-blank-slot i low = ap (λ h. slot_with h (content_bytes blank i)) (blank-header (16 + 4 * i) (omega arith))
+blank-slot i low = ap (λ h. slot_with h (content_bytes blank i)) (blank-descriptor i low)
 
 pub blank-content : (i : ℕ) → i < 7 → content_bytes blank i ≡ blank_sector
 blank-content i low =
@@ -59,13 +64,14 @@ counted-same kind kind' slots slots' n s k x low =
     let z : copies kind' n (s / 7) ≡ copies kind n (s / 7) = copies-same kind kind' n (s / 7) (λ d h. ap (λ q. is_copy_of (s / 7 + 4) q) (k d h)) in
     rw (a, b, z) refl
 
-same-sound : (kind kind' : ℕ → Kind) (slots slots' : ℕ → ℕ → Slot) (n : ℕ) → ((d : ℕ) → d < n → kind' d ≡ kind d) → ((d i : ℕ) → d < n → i < 7 → slots' d i ≡ slots d i) → SoundBlocks kind slots n → SoundBlocks kind' slots' n
+pub same-sound : (kind kind' : ℕ → Kind) (slots slots' : ℕ → ℕ → Slot) (n : ℕ) → ((d : ℕ) → d < n → kind' d ≡ kind d) → ((d i : ℕ) → d < n → i < 7 → slots' d i ≡ slots d i) → SoundBlocks kind slots n → SoundBlocks kind' slots' n
 same-sound kind kind' slots slots' n k x (settled h) = settled (record {
   rest = λ d low. subst (λ q. IsAtRest q) (sym (k d low)) (h.rest d low);
   reserve = h.reserve;
   number = h.number;
   spare = record { plain = k h.reserve h.number ∙ h.spare.plain; free = λ i low. x h.reserve i h.number low ∙ h.spare.free i low };
 })
+same-sound kind kind' slots slots' n k x (crowded rest room) = crowded (λ d low. subst (λ q. IsAtRest q) (sym (k d low)) (rest d low)) (room-same kind kind' n k room)
 same-sound kind kind' slots slots' n k x (copying t h) = copying t (record {
   number = h.number;
   copying = subst (λ q. IsCopying q t n) (sym (k t h.number)) h.copying;
@@ -80,6 +86,7 @@ same-holds m m' sectors chip k x h =
     λ s low. inl (counted-same (kind_at m) (kind_at m') (raw_slot m) (raw_slot m') (data_blocks m) s k x low) in
     holds-sized m m' sectors chip (live-stands (slot_at m) (counted (kind_at m') (raw_slot m') (data_blocks m)) (slot_count m) (sector_count (length m)) sectors live h.slots)
     (same-sound (kind_at m) (kind_at m') (raw_slot m) (raw_slot m') (data_blocks m) k x h.blocks)
+    (fit-step m m' chip (kinds-stay (kind_at m) (kind_at m') (counted (kind_at m') (raw_slot m') (data_blocks m)) (data_blocks m) k) (same-back (slot_at m) (counted (kind_at m') (raw_slot m') (data_blocks m)) (slot_count m) live) h.groups)
 
 -- one block that is as it was
 pub unchanged-holds : (c : ℕ) (m m' : List ℕ) (sectors : ℕ → List ℕ) → OnlyBlock (c + 4) m m' → data_block m' c ≡ data_block m c → HoldsSectors sectors m → HoldsSectors sectors m'
@@ -96,10 +103,10 @@ blocks-holds m m' sectors same h = same-holds m m' sectors same.chip (λ d low. 
 
 -- sound maps hold the sectors that are computed
 pub sound-holds : (m : List ℕ) → IsSoundMap m → HoldsSectors (sector_at m) m
-sound-holds m s = record { slots = sound-stands (slot_at m) (slot_count m) (sector_count (length m)) s.slots; blocks = s.blocks }
+sound-holds m s = record { slots = sound-stands (slot_at m) (slot_count m) (sector_count (length m)) s.slots; blocks = s.blocks; groups = s.groups }
 
 pub holds-sound : (m : List ℕ) (sectors : ℕ → List ℕ) → HoldsSectors sectors m → IsSoundMap m
-holds-sound m sectors h = record { slots = h.slots.sound; blocks = h.blocks }
+holds-sound m sectors h = record { slots = h.slots.sound; blocks = h.blocks; groups = h.groups }
 
 -- and are the same slots
 pub same-blocks_slots : (m m' : List ℕ) → SameBlocks m m' → SameSlots m m'

@@ -5,14 +5,14 @@ use Rattle.std.proofs.lemmas.Bool.{cases_eq}
 use Rattle.nor_layout.specs.declared.kind.Kind.{Kind}
 use Rattle.nor_layout.specs.declared.kind.Kind.TheVariants as kinds
 use Rattle.sector_slots.specs.Slots.{Slot, IsSpare}
-use Rattle.sector_slots.specs.Blocks.{IsAtRest, IsCopying, AreAtRest, IsTarget, IsSettledBlocks, SoundBlocks, settled, copying, BlocksHaveNoFault}
+use Rattle.sector_slots.specs.Blocks.{IsAtRest, IsCopying, AreAtRest, IsTarget, IsSettledBlocks, SoundBlocks, settled, crowded, copying, BlocksHaveNoFault}
 use Rattle.sector_slots.specs.Copying.{OnlyData, BeginsCopy, CopiesIn, Commits, ErasesSource, Settles, ErasesVoid}
 use Rattle.sector_slots.proofs.CopyLaws.{committed-source}
 
-rest-of : (k k' : Kind) → k' ≡ k → IsAtRest k → IsAtRest k'
+pub rest-of : (k k' : Kind) → k' ≡ k → IsAtRest k → IsAtRest k'
 rest-of k k' e h = subst (λ a. IsAtRest a) (sym e) h
 
-plain-rest : (k : Kind) → k ≡ kinds.Plain → IsAtRest k
+pub plain-rest : (k : Kind) → k ≡ kinds.Plain → IsAtRest k
 plain-rest k e = subst (λ a. IsAtRest a) (sym e) tt
 
 -- begin
@@ -111,11 +111,14 @@ copying-committed k t n b h e =
     let low = p.1.1.0 in
     (omega (arith, q), omega (arith, q, low), λ same. p.1.1.1 (omega (arith, q, same)))
 
-both : (k : Kind) (t n : ℕ) → IsAtRest k → IsCopying k t n → ⊥
+pub both : (k : Kind) (t n : ℕ) → IsAtRest k → IsCopying k t n → ⊥
 both kinds.Plain t n r c = c
 both kinds.Void t n r c = r
 both (kinds.Committed b) t n r c = r
 both kinds.Settled t n r c = c
+both (kinds.Group tag) t n r c = c
+both kinds.DeadGroup t n r c = c
+both kinds.SpoiltGroup t n r c = c
 both kinds.Unknown t n r c = c
 
 to-no-fault : (kind : ℕ → Kind) (slots : ℕ → ℕ → Slot) (n : ℕ) → SoundBlocks kind slots n → BlocksHaveNoFault kind slots n
@@ -123,7 +126,13 @@ to-no-fault kind slots n (settled h) = record {
   known = λ c low. rest-known (kind c) (h.rest c low);
   one = λ c d lc ld other. inl (h.rest c lc);
   source = λ c b low e. absurd (rest-committed (kind c) b (h.rest c low) e);
-  spare = λ rest. (h.reserve, (h.number, h.spare));
+  spare = λ rest. inl (h.reserve, (h.number, h.spare));
+}
+to-no-fault kind slots n (crowded rest room) = record {
+  known = λ c low. rest-known (kind c) (rest c low);
+  one = λ c d lc ld other. inl (rest c lc);
+  source = λ c b low e. absurd (rest-committed (kind c) b (rest c low) e);
+  spare = λ all. inr room;
 }
 to-no-fault kind slots n (copying t h) = record {
   known = λ c low. elim (cases_eq c t) [ inl e ↦ copying-known (kind c) t n (subst (λ a. IsCopying (kind a) t n) (sym e) h.copying) | inr ne ↦ rest-known (kind c) (h.others c low ne) ];
@@ -145,6 +154,9 @@ kind-cases kind slots n c h low (kinds.Committed b) e =
     let p1 = p.1 in
     inr (b - 4, (omega (arith, p0), (omega (arith, p0, p1), λ q. p.2 (omega (arith, q, p0)))))
 kind-cases kind slots n c h low kinds.Settled e = inl tt
+kind-cases kind slots n c h low (kinds.Group tag) e = inl tt
+kind-cases kind slots n c h low kinds.DeadGroup e = inl tt
+kind-cases kind slots n c h low kinds.SpoiltGroup e = inl tt
 kind-cases kind slots n c h low kinds.Unknown e = absurd (h.known c low e)
 
 -- of the first m blocks, all are at rest, or one is being copied into
@@ -160,7 +172,7 @@ some-copying kind slots n (suc m) h low = elim (kind-cases kind slots n m h (ome
 
 from-no-fault : (kind : ℕ → Kind) (slots : ℕ → ℕ → Slot) (n : ℕ) → BlocksHaveNoFault kind slots n → SoundBlocks kind slots n
 from-no-fault kind slots n h = elim (some-copying kind slots n n h (omega arith)) [
-  | inl rest ↦ let p = h.spare rest in settled (record { rest = rest; reserve = p.0; number = p.1.0; spare = p.1.1 })
+  | inl rest ↦ elim (h.spare rest) as (λ _. SoundBlocks kind slots n) [ inl p ↦ settled (record { rest = rest; reserve = p.0; number = p.1.0; spare = p.1.1 }) | inr room ↦ crowded rest room ]
   | inr c ↦ copying c.0 (record {
     number = c.1.0;
     copying = c.1.1;

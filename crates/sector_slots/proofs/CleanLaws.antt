@@ -35,6 +35,9 @@ IsPlain kinds.Plain = Unit {0}
 IsPlain kinds.Void = ⊥
 IsPlain (kinds.Committed b) = ⊥
 IsPlain kinds.Settled = ⊥
+IsPlain (kinds.Group tag) = ⊥
+IsPlain kinds.DeadGroup = ⊥
+IsPlain kinds.SpoiltGroup = ⊥
 IsPlain kinds.Unknown = ⊥
 
 void-plain : (k : Kind) → k ≡ kinds.Void → k ≢ kinds.Plain
@@ -42,6 +45,9 @@ void-plain k a b = subst (λ q. IsPlain q) (sym b ∙ a) tt
 
 committed-plain : (k : Kind) (s : ℕ) → k ≡ kinds.Committed s → k ≢ kinds.Plain
 committed-plain k s a b = subst (λ q. IsPlain q) (sym b ∙ a) tt
+
+pub group-plain : (k : Kind) → k ≡ kinds.DeadGroup → k ≢ kinds.Plain
+group-plain k a b = subst (λ q. IsPlain q) (sym b ∙ a) tt
 
 settled-plain : (k : Kind) → k ≡ kinds.Settled → k ≢ kinds.Plain
 settled-plain k a b = subst (λ q. IsPlain q) (sym b ∙ a) tt
@@ -127,7 +133,7 @@ either-free : (t : Bool) (a : Slot) → cond t a Outside ≡ Free → a ≡ Free
 either-free true a e = e
 either-free false a e = absurd (outside-free Outside refl e)
 
-raw-free : (kind : ℕ → Kind) (slots : ℕ → ℕ → Slot) (n w t : ℕ) → w / 7 ≡ t → counted kind slots n w ≡ Free → slots t (w % 7) ≡ Free
+pub raw-free : (kind : ℕ → Kind) (slots : ℕ → ℕ → Slot) (n w t : ℕ) → w / 7 ≡ t → counted kind slots n w ≡ Free → slots t (w % 7) ≡ Free
 unfolding counted
 raw-free kind slots n w t e free = ap (λ c. slots c (w % 7)) (sym e) ∙ either-free (is_counted kind n (w / 7)) (slots (w / 7) (w % 7)) free
 

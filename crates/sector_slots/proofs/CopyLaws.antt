@@ -3,12 +3,13 @@ use Rattle.std.proofs.Common.{◌≡◌, ◌≢◌, ℕ, zero, suc, ◌+◌, ◌
 use Rattle.std.specs.Prelude.{◌/◌, ◌%◌, ◌==◌}
 use Rattle.std.proofs.lemmas.Bool.{cases_eq, eq-eqb, ne_eqb}
 use Rattle.nor_layout.specs.declared.header.Generation.{Generation}
+use Rattle.nor_layout.specs.declared.header.Tag.{Tag}
 use Rattle.nor_layout.specs.declared.kind.Kind.{Kind}
 use Rattle.nor_layout.specs.declared.kind.Kind.TheVariants as kinds
 use Rattle.erase_journal.specs.Places.{how_many}
 use Rattle.sector_slots.specs.Slots.{Slot, Free, Live, NoGeneration, Dead, Outside, is_void, is_copy_of, copies, is_counted, counted}
-use Rattle.sector_slots.specs.Blocks.{IsAtRest, IsCopying, IsTarget}
-use Rattle.sector_slots.specs.Copying.{OnlyData, HoldsNothing, SameLive, IsCopy, copied, skipped, copy_slot, BeginsCopy, CopiesIn, ErasesSource, Settles, ErasesVoid, shifted}
+use Rattle.sector_slots.specs.Blocks.{IsAtRest, AreAtRest, IsCopying, IsTarget}
+use Rattle.sector_slots.specs.Copying.{OnlyData, HoldsNothing, SameLive, IsCopy, copied, skipped, copy_slot, copied_tag, to_copy, BeginsCopy, CopiesIn, ErasesSource, Settles, ErasesVoid, shifted}
 
 pub how_many-zero : (p : ℕ → Bool) → how_many p 0 ≡ 0
 unfolding how_many
@@ -39,6 +40,9 @@ at-rest-copies b kinds.Plain h = refl
 at-rest-copies b kinds.Void h = absurd h
 at-rest-copies b (kinds.Committed s) h = absurd h
 at-rest-copies b kinds.Settled h = refl
+at-rest-copies b (kinds.Group tag) h = refl
+at-rest-copies b kinds.DeadGroup h = refl
+at-rest-copies b kinds.SpoiltGroup h = refl
 at-rest-copies b kinds.Unknown h = absurd h
 
 pub at-rest-counts : (k : Kind) → IsAtRest k → is_void k ≡ false
@@ -46,6 +50,9 @@ at-rest-counts kinds.Plain h = refl
 at-rest-counts kinds.Void h = absurd h
 at-rest-counts (kinds.Committed s) h = absurd h
 at-rest-counts kinds.Settled h = refl
+at-rest-counts (kinds.Group tag) h = refl
+at-rest-counts kinds.DeadGroup h = refl
+at-rest-counts kinds.SpoiltGroup h = refl
 at-rest-counts kinds.Unknown h = absurd h
 
 -- how many copies of a block there are
@@ -92,7 +99,7 @@ counted-other kind kind' slots slots' n c s only low other same =
     ]) in
     rw (k, x, z) refl
 
-free-quiet : (s : Slot) → s ≡ Free → HoldsNothing s
+pub free-quiet : (s : Slot) → s ≡ Free → HoldsNothing s
 free-quiet s e = subst (λ a. HoldsNothing a) (sym e) tt
 
 outside-quiet : (s : Slot) → s ≡ Outside → HoldsNothing s
@@ -103,7 +110,7 @@ either-quiet : (t : Bool) (a b : Slot) → HoldsNothing a → HoldsNothing b →
 either-quiet true a b p q = p
 either-quiet false a b p q = q
 
-counted-quiet : (kind : ℕ → Kind) (slots : ℕ → ℕ → Slot) (n s : ℕ) → slots (s / 7) (s % 7) ≡ Free → HoldsNothing (counted kind slots n s)
+pub counted-quiet : (kind : ℕ → Kind) (slots : ℕ → ℕ → Slot) (n s : ℕ) → slots (s / 7) (s % 7) ≡ Free → HoldsNothing (counted kind slots n s)
 unfolding counted
 counted-quiet kind slots n s e = either-quiet (is_counted kind n (s / 7)) (slots (s / 7) (s % 7)) Outside (free-quiet (slots (s / 7) (s % 7)) e) tt
 
@@ -223,6 +230,16 @@ data_of NoGeneration y = y
 data_of Dead y = y
 data_of Outside y = y
 
+copied-number : (kind : Kind) (tag : Tag) → (copied_tag kind tag).number ≡ tag.number
+copied-number kinds.Plain tag = refl
+copied-number kinds.Void tag = refl
+copied-number (kinds.Committed b) tag = refl
+copied-number kinds.Settled tag = refl
+copied-number (kinds.Group group) tag = refl
+copied-number kinds.DeadGroup tag = refl
+copied-number kinds.SpoiltGroup tag = refl
+copied-number kinds.Unknown tag = refl
+
 pub copy-on : (old new : Slot) (g : ℕ) (k : Generation) (x : List ℕ) → IsCopy old new → old ≡ Live (record { number = g; generation = k }) x → (j : Generation) × (new ≡ Live (record { number = g; generation = j }) x)
 copy-on old new g k x (copied h i j y was is) e =
     let number : h ≡ g = ap number_of (sym was ∙ e) in
@@ -255,3 +272,22 @@ copy-exact (Live tag x) whole = copied tag.number tag.generation tag.generation 
 copy-exact NoGeneration whole = absurd (whole refl)
 copy-exact Dead whole = skipped tt tt
 copy-exact Outside whole = skipped tt tt
+
+-- while no copying goes on every slot counts
+pub rest-counted : (kind : ℕ → Kind) (slots : ℕ → ℕ → Slot) (n w : ℕ) → AreAtRest kind n → w < 7 * n → counted kind slots n w ≡ slots (w / 7) (w % 7)
+rest-counted kind slots n w rest low = counted-in kind slots n w (at-rest-counts (kind (w / 7)) (rest (w / 7) (omega arith))) (copies-none kind n (w / 7) (λ d l. at-rest-copies (w / 7 + 4) (kind d) (rest d l)))
+
+-- the copy of what is to be copied of a slot is a copy of it
+pub copied-from : (kind : Kind) (old new : Slot) → old ≢ NoGeneration → IsCopy (to_copy kind old) new → IsCopy old new
+copied-from kind Free new whole (copied g k j x was now) = absurd (quiet-live Free g k x tt was)
+copied-from kind Free new whole (skipped p q) = skipped tt q
+copied-from kind (Live tag x) new whole (copied g k j y was now) =
+    let number : tag.number ≡ g = sym (copied-number kind tag) ∙ ap number_of was in
+    let content : x ≡ y = ap (λ s. data_of s x) was in
+    copied tag.number tag.generation j x refl (now ∙ (ap (λ a. Live (record { number = a; generation = j }) y) (sym number) ∙ ap (λ a. Live (record { number = tag.number; generation = j }) a) (sym content)))
+copied-from kind (Live tag x) new whole (skipped p q) = absurd p
+copied-from kind NoGeneration new whole c = absurd (whole refl)
+copied-from kind Dead new whole (copied g k j x was now) = absurd (quiet-live Dead g k x tt was)
+copied-from kind Dead new whole (skipped p q) = skipped tt q
+copied-from kind Outside new whole (copied g k j x was now) = absurd (quiet-live Outside g k x tt was)
+copied-from kind Outside new whole (skipped p q) = skipped tt q

@@ -5,11 +5,12 @@ use Rattle.chip_model.specs.Geometry.{IsChipSize, sector_count}
 use Rattle.nor_layout.specs.declared.header.Generation.{Generation}
 use Rattle.nor_layout.specs.Kinds.{kind_of}
 use Rattle.erase_journal.specs.Blocks.{blank}
-use Rattle.sector_slots.specs.Slots.{Slot, Free, Live, NoGeneration, Dead, Outside, is_void, is_copy_of, slot_in, content_bytes, data_blocks, data_block, kind_at, raw_slot, slot_at, slot_count, IsClean}
+use Rattle.sector_slots.specs.Slots.{Slot, Free, Live, NoGeneration, Dead, Outside, is_void, is_copy_of, is_group, slot_in, content_bytes, data_blocks, data_block, kind_at, raw_slot, slot_at, slot_count, IsClean}
 use Rattle.sector_slots.specs.Blocks.{IsAtRest, AreSettled, settled}
-use Rattle.sector_slots.specs.Sectors.{zeros, LiveAt, SoundSlots, Single, winner, sector_content, sector_at, IsSoundMap, IsAtRestMap}
+use Rattle.sector_slots.specs.Sectors.{zeros, LiveAt, SoundSlots, Single, winner, sector_content, sector_at, GroupsFit, IsSoundMap, IsAtRestMap}
 use Rattle.sector_slots.specs.Sectors.{content_in as held_in}
 use Rattle.sector_slots.proofs.CopyLaws.{counted-in, copies-none, IsWhole}
+use Rattle.sector_slots.proofs.GroupLaws.{apart-single}
 use Rattle.sector_slots.proofs.BlankLaws.{blank-kind, blank-slot, blank-content, erased-spare}
 
 -- slots that are all free
@@ -66,12 +67,18 @@ blank-settled m size each =
       spare = erased-spare m 0 (each 0 some);
     }
 
+blank-fit : (m : List ℕ) → ((t : ℕ) → t < slot_count m → slot_at m t ≡ Free) → ((c : ℕ) → c < data_blocks m → data_block m c ≡ blank) → GroupsFit m
+blank-fit m free each = record {
+  sectors = apart-single (kind_at m) (slot_at m) (slot_count m) (free-single (slot_at m) (slot_count m) free);
+  layout = λ two c low. ap is_group (ap kind_of (each c low) ∙ blank-kind);
+}
+
 pub blank-holds_zeros : (m : List ℕ) → IsChipSize (length m) → ((c : ℕ) → c < data_blocks m → data_block m c ≡ blank) → IsClean m × IsSoundMap m × IsAtRestMap m × ((g : ℕ) → sector_at m g ≡ zeros)
 blank-holds_zeros m size each =
     let free = blank-free m each in
     let blocks = blank-settled m size each in (
       blank-clean m each,
-      record { slots = free-sound (slot_at m) (slot_count m) (sector_count (length m)) free; blocks = settled blocks },
+      record { slots = free-sound (slot_at m) (slot_count m) (sector_count (length m)) free; blocks = settled blocks; groups = blank-fit m free each },
       record { single = free-single (slot_at m) (slot_count m) free; blocks = blocks },
       λ g. free-zeros (slot_at m) (slot_count m) g free,
     )

@@ -1,6 +1,7 @@
 -- The data blocks while one is copied: no copying goes on, or one does; all else is corrupt.
 -- Source: own, layout 2.
 use Rattle.std.specs.Prelude.{◌≡◌, ◌≢◌, ◌⊎◌, ◌↔◌, ℕ, ◌+◌, ◌<◌, ◌≤◌, List}
+use Rattle.nor_layout.specs.declared.header.Tag.{Tag}
 use Rattle.nor_layout.specs.declared.kind.Kind.{Kind}
 use Rattle.nor_layout.specs.declared.kind.Kind.TheVariants as kinds
 use Rattle.sector_slots.specs.Slots.{Slot, IsSpare, kind_at, raw_slot, data_blocks}
@@ -11,6 +12,9 @@ IsAtRest kinds.Plain = Unit {0}
 IsAtRest kinds.Void = ⊥
 IsAtRest (kinds.Committed b) = ⊥
 IsAtRest kinds.Settled = Unit {0}
+IsAtRest (kinds.Group tag) = Unit {0}
+IsAtRest kinds.DeadGroup = Unit {0}
+IsAtRest kinds.SpoiltGroup = Unit {0}
 IsAtRest kinds.Unknown = ⊥
 
 -- A block of this kind, data block t of n, is one into which a block is copied: void, or the
@@ -20,6 +24,9 @@ IsCopying kinds.Plain t n = ⊥
 IsCopying kinds.Void t n = Unit {0}
 IsCopying (kinds.Committed b) t n = (s : ℕ) × ((b ≡ s + 4) × ((s < n) × (s ≢ t)))
 IsCopying kinds.Settled t n = ⊥
+IsCopying (kinds.Group tag) t n = ⊥
+IsCopying kinds.DeadGroup t n = ⊥
+IsCopying kinds.SpoiltGroup t n = ⊥
 IsCopying kinds.Unknown t n = ⊥
 
 -- no copying goes on
@@ -39,9 +46,18 @@ pub record IsSettledBlocks (kind : ℕ → Kind) (slots : ℕ → ℕ → Slot) 
   pub number : reserve < n
   pub spare : IsSpare kind slots reserve
 
--- Blocks without a corrupt case.
+-- On a mixed chip a mount can make a block wholly free: one with a group is dead, or two are live
+-- with the same group, of which it retires the older.
+pub data HasGroupRoom (kind : ℕ → Kind) (n : ℕ) : Type 0 where
+  dead_group : (c : ℕ) → c < n → kind c ≡ kinds.DeadGroup → HasGroupRoom kind n
+  two_blocks : (c d : ℕ) (a b : Tag) → c < n → d < n → c ≢ d → kind c ≡ kinds.Group a
+      → kind d ≡ kinds.Group b → a.number ≡ b.number → HasGroupRoom kind n
+
+-- Blocks without a corrupt case: no copying goes on, and a block is wholly free or can be made so;
+-- or one goes on.
 pub data SoundBlocks (kind : ℕ → Kind) (slots : ℕ → ℕ → Slot) (n : ℕ) : Type 0 where
   settled : IsSettledBlocks kind slots n → SoundBlocks kind slots n
+  crowded : AreAtRest kind n → HasGroupRoom kind n → SoundBlocks kind slots n
   copying : (t : ℕ) → IsTarget t n kind → SoundBlocks kind slots n
 
 -- A memory's.
@@ -62,14 +78,14 @@ IsReserveOf r m = IsReserve r (kind_at m) (raw_slot m) (data_blocks m)
 
 -- The corrupt cases one by one, for a reader: blocks are sound where none of them holds.
 pub record BlocksHaveNoFault (kind : ℕ → Kind) (slots : ℕ → ℕ → Slot) (n : ℕ) : Type 0 where
-  -- each state byte is one of the four, and each block begins with four FFh
+  -- each block is of slots, its state byte one of the four, or of a group
   pub known : (c : ℕ) → c < n → kind c ≢ kinds.Unknown
   -- no two blocks are void or committed
   pub one : (c d : ℕ) → c < n → d < n → c ≢ d → IsAtRest (kind c) ⊎ IsAtRest (kind d)
   -- a committed block's source is another data block, by its number on the chip
   pub source : (c b : ℕ) → c < n → kind c ≡ kinds.Committed b → (4 ≤ b) × (b < n + 4) × (b ≢ c + 4)
-  -- where none is void or committed, one is wholly free
-  pub spare : AreAtRest kind n → (c : ℕ) × ((c < n) × IsSpare kind slots c)
+  -- where none is void or committed, one is wholly free, or can be made so
+  pub spare : AreAtRest kind n → ((c : ℕ) × ((c < n) × IsSpare kind slots c)) ⊎ HasGroupRoom kind n
 
 abbrev pub SoundBlocksHaveNoFault : Type 0
 SoundBlocksHaveNoFault = (kind : ℕ → Kind) (slots : ℕ → ℕ → Slot) (n : ℕ) → SoundBlocks kind slots n

@@ -3,10 +3,13 @@
 -- layout 2.
 use Rattle.std.specs.Prelude.{◌≡◌, ◌≢◌, ◌⊎◌, ℕ, ◌+◌, ◌*◌, ◌/◌, ◌%◌, ◌<◌, ◌==◌, List, if◌then◌else◌}
 use Rattle.nor_layout.specs.declared.header.Generation.{Generation}
+use Rattle.nor_layout.specs.declared.header.Generation.TheVariants as generations
+use Rattle.nor_layout.specs.Headers.{next_generation}
 use Rattle.nor_layout.specs.declared.header.Tag.{Tag}
 use Rattle.nor_layout.specs.declared.kind.Kind.{Kind}
 use Rattle.nor_layout.specs.declared.kind.Kind.TheVariants as kinds
 use Rattle.sector_slots.specs.Slots.{Slot, Free, Live, NoGeneration, Dead, Outside, IsSpare}
+use Rattle.sector_slots.specs.Slots.{kind_at, raw_slot}
 use Rattle.sector_slots.specs.Sectors.{LiveAt}
 use Rattle.sector_slots.specs.Blocks.{AreAtRest, IsTarget}
 
@@ -49,6 +52,28 @@ copy_slot Outside = Free
 pub data CopiesTag (old new : Slot) : Type 0 where
   same_tag : (tag : Tag) (x y : List ℕ) → old ≡ Live tag x → new ≡ Live tag y → CopiesTag old new
   left_free : ((tag : Tag) (x : List ℕ) → old ≢ Live tag x) → new ≡ Free → CopiesTag old new
+
+-- What the copy of a slot is to hold that lies in a block of this kind: the slot itself; of a
+-- group's sector, which becomes a slot by it, with the first generation.
+abbrev pub copied_tag : Kind → Tag → Tag
+copied_tag kinds.Plain tag = tag
+copied_tag kinds.Void tag = tag
+copied_tag (kinds.Committed source) tag = tag
+copied_tag kinds.Settled tag = tag
+copied_tag (kinds.Group group) tag = record { number = tag.number; generation = generations.Zero }
+copied_tag kinds.DeadGroup tag = tag
+copied_tag kinds.SpoiltGroup tag = tag
+copied_tag kinds.Unknown tag = tag
+
+abbrev pub to_copy : Kind → Slot → Slot
+to_copy kind Free = Free
+to_copy kind (Live tag content) = Live (copied_tag kind tag) content
+to_copy kind NoGeneration = NoGeneration
+to_copy kind Dead = Dead
+to_copy kind Outside = Outside
+
+abbrev pub source_slot : List ℕ → ℕ → ℕ → Slot
+source_slot m s i = to_copy (kind_at m s) (raw_slot m s i)
 
 -- the live slots of f are those of f', under other numbers
 pub record MovesSlots (f f' : ℕ → Slot) (n : ℕ) (to from : ℕ → ℕ) : Type 0 where
@@ -109,6 +134,31 @@ pub record ErasesVoid (t n : ℕ) (kind kind' : ℕ → Kind) (slots slots' : �
   pub was : kind t ≡ kinds.Void
   pub only : OnlyData t n kind kind' slots slots'
   pub now : IsSpare kind' slots' t
+
+-- On a mixed chip a mount makes room: of two blocks that are live with the same group the older, c,
+-- is retired;
+pub record RetiresGroup (c d n : ℕ) (kind kind' : ℕ → Kind) (slots slots' : ℕ → ℕ → Slot)
+    : Type 0 where
+  pub rest : AreAtRest kind n
+  pub number : c < n
+  pub newer : d < n
+  pub other : c ≢ d
+  pub group : ℕ
+  pub generation : Generation
+  pub was : kind c ≡ kinds.Group (record { number = group; generation = generation })
+  pub by : kind d
+      ≡ kinds.Group (record { number = group; generation = next_generation generation })
+  pub only : OnlyData c n kind kind' slots slots'
+  pub now : kind' c ≡ kinds.DeadGroup
+
+-- and a dead one is erased.
+pub record ErasesGroup (c n : ℕ) (kind kind' : ℕ → Kind) (slots slots' : ℕ → ℕ → Slot)
+    : Type 0 where
+  pub rest : AreAtRest kind n
+  pub number : c < n
+  pub was : kind c ≡ kinds.DeadGroup
+  pub only : OnlyData c n kind kind' slots slots'
+  pub now : IsSpare kind' slots' c
 
 -- where a slot of block s goes in block t, and back
 abbrev pub shifted : ℕ → ℕ → ℕ → ℕ

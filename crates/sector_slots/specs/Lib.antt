@@ -5,3 +5,4 @@ pub mod Copying
 pub mod Steps
 pub mod Laws
 pub mod Machine
+pub mod Groups

@@ -6,9 +6,11 @@ use Rattle.sector_slots.specs.Slots.{data_blocks, kind_at, raw_slot}
 use Rattle.sector_slots.specs.Sectors.{IsSingle, IsSoundMap, HoldsSectors}
 use Rattle.sector_slots.specs.Blocks.{AreSettled}
 use Rattle.sector_slots.specs.Copying.{BeginsCopy, CopiesIn, Commits, ErasesSource, Settles}
-use Rattle.sector_slots.specs.Copying.{ErasesVoid}
+use Rattle.sector_slots.specs.Copying.{ErasesVoid, RetiresGroup, ErasesGroup}
 
--- One step of a copying of data block s into data block t, or of a mount that ends one.
+-- One step of a copying of data block s into data block t, or of a mount that ends one; or of a
+-- mount of a mixed chip that makes room (block s is the older of two of a group, t the newer one;
+-- block t is a dead one).
 pub data SlotStep (s t : ℕ) (m m' : List ℕ) : Type 0 where
   begins : SameChip m m' → BeginsCopy t (data_blocks m) (kind_at m) (kind_at m') (raw_slot m)
       (raw_slot m') → SlotStep s t m m'
@@ -21,6 +23,10 @@ pub data SlotStep (s t : ℕ) (m m' : List ℕ) : Type 0 where
   settles : SameChip m m' → Settles s t (data_blocks m) (kind_at m) (kind_at m') (raw_slot m)
       (raw_slot m') → SlotStep s t m m'
   erases_void : SameChip m m' → ErasesVoid t (data_blocks m) (kind_at m) (kind_at m') (raw_slot m)
+      (raw_slot m') → SlotStep s t m m'
+  retires_group : SameChip m m' → RetiresGroup s t (data_blocks m) (kind_at m) (kind_at m')
+      (raw_slot m) (raw_slot m') → SlotStep s t m m'
+  erases_group : SameChip m m' → ErasesGroup t (data_blocks m) (kind_at m) (kind_at m') (raw_slot m)
       (raw_slot m') → SlotStep s t m m'
 
 -- The map of sectors is what it was in every memory that a step leaves, and blocks stay sound.

@@ -1,13 +1,15 @@
 -- The sectors that slots represent: a finite map from a sector's number to its 512 bytes. Slots are
 -- given by their number, from 0 to n - 1; sectors have the numbers below `count`. Source: own.
-use Rattle.std.specs.Prelude.{◌≡◌, ◌≢◌, ◌⊎◌, ℕ, zero, suc, Bool, false, ◌<◌, ◌==◌, if◌then◌else◌}
-use Rattle.std.specs.Prelude.{List, length, replicate}
+use Rattle.std.specs.Prelude.{◌≡◌, ◌≢◌, ◌⊎◌, ℕ, zero, suc, Bool, false, ◌/◌, ◌<◌, ◌==◌, List}
+use Rattle.std.specs.Prelude.{if◌then◌else◌, length, replicate}
 use Rattle.chip_model.specs.Geometry.{sector_count}
 use Rattle.nor_layout.specs.declared.header.Generation.{Generation}
 use Rattle.nor_layout.specs.declared.header.Generation.TheVariants as generations
 use Rattle.nor_layout.specs.Headers.{next_generation, generation_byte}
 use Rattle.sector_slots.specs.Slots.{Slot, Free, Live, NoGeneration, Dead, Outside, slot_at}
-use Rattle.sector_slots.specs.Slots.{slot_count}
+use Rattle.nor_layout.specs.declared.kind.Kind.{Kind}
+use Rattle.nor_layout.specs.Superblock.{layout_in}
+use Rattle.sector_slots.specs.Slots.{is_group, slot_count, kind_at, data_blocks}
 use Rattle.sector_slots.specs.Blocks.{AreSound, AreSettled}
 
 -- what an absent sector holds
@@ -59,6 +61,11 @@ pub data NextGeneration (f : ℕ → Slot) (n g : ℕ) (k : Generation) : Type 0
   begun : IsAbsent f n g → k ≡ generations.Zero → NextGeneration f n g k
   after : (s : ℕ) (j : Generation) (x : List ℕ) → LiveAt f n s g j x → k ≡ next_generation j
       → NextGeneration f n g k
+
+-- no sector is live both in a slot of its own and in a block with its group
+pub record GroupsAreApart (kind : ℕ → Kind) (f : ℕ → Slot) (n : ℕ) : Type 0 where
+  pub apart : (s t g : ℕ) (j k : Generation) (x y : List ℕ) → LiveAt f n s g j x
+      → LiveAt f n t g k y → is_group (kind (s / 7)) ≡ is_group (kind (t / 7))
 
 -- slots without a corrupt case that represent these sectors
 pub record SlotsRepresent (f : ℕ → Slot) (n count : ℕ) (sectors : ℕ → List ℕ) : Type 0 where
@@ -124,9 +131,23 @@ sector_content f n g = content_in (winner f n g)
 abbrev pub sector_at : List ℕ → ℕ → List ℕ
 sector_at m g = sector_content (slot_at m) (slot_count m) g
 
+-- No block is of a group, live or dead.
+abbrev pub HasSlotsAlone : List ℕ → Type 0
+HasSlotsAlone m = (c : ℕ) → c < data_blocks m → is_group (kind_at m c) ≡ false
+
+-- So it is where the superblock says layout 2.
+abbrev pub HasOnlySlots : List ℕ → Type 0
+HasOnlySlots m = layout_in m ≡ 2 → HasSlotsAlone m
+
+-- what is asked of blocks with groups
+pub record GroupsFit (m : List ℕ) : Type 0 where
+  pub sectors : GroupsAreApart (kind_at m) (slot_at m) (slot_count m)
+  pub layout : HasOnlySlots m
+
 pub record IsSoundMap (m : List ℕ) : Type 0 where
   pub slots : SoundSlots (slot_at m) (slot_count m) (sector_count (length m))
   pub blocks : AreSound m
+  pub groups : GroupsFit m
 
 abbrev pub IsSingle : List ℕ → Type 0
 IsSingle m = Single (slot_at m) (slot_count m)
@@ -134,6 +155,7 @@ IsSingle m = Single (slot_at m) (slot_count m)
 pub record HoldsSectors (sectors : ℕ → List ℕ) (m : List ℕ) : Type 0 where
   pub slots : SlotsRepresent (slot_at m) (slot_count m) (sector_count (length m)) sectors
   pub blocks : AreSound m
+  pub groups : GroupsFit m
 
 -- As it is between two calls: no sector has two live slots, no copying goes on, and a block is
 -- wholly free.

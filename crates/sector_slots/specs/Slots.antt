@@ -38,8 +38,28 @@ slot_with headers.Dead content = Dead
 abbrev pub content_bytes : List ℕ → ℕ → List ℕ
 content_bytes b i = part 512 b (i + 1)
 
-abbrev pub descriptor_in : List ℕ → ℕ → Header
-descriptor_in b i = header_of (drop (16 + 4 * i) b)
+-- what these four bytes say
+abbrev pub written_in : List ℕ → ℕ → Header
+written_in b i = header_of (drop (16 + 4 * i) b)
+
+-- The place i of a block with a group is seen as a slot too: sector 7g + i, with the group's
+-- generation.
+abbrev pub group_tag : Tag → ℕ → Tag
+group_tag group i = record { number = 7 * group.number + i; generation = group.generation }
+
+-- what is said of place i in a block of this kind, whose descriptor says this
+abbrev pub header_in : Kind → Header → ℕ → Header
+header_in kinds.Plain written i = written
+header_in kinds.Void written i = written
+header_in (kinds.Committed source) written i = written
+header_in kinds.Settled written i = written
+header_in (kinds.Group group) written i = headers.Live (group_tag group i)
+header_in kinds.DeadGroup written i = headers.Dead
+header_in kinds.SpoiltGroup written i = headers.NoGeneration
+header_in kinds.Unknown written i = written
+
+unfoldable pub descriptor_in : List ℕ → ℕ → Header
+descriptor_in b i = header_in (kind_of b) (written_in b i) i
 
 -- what a list of descriptors says of place i
 abbrev pub read_header : List Header → ℕ → Header
@@ -55,7 +75,21 @@ is_void kinds.Plain = false
 is_void kinds.Void = true
 is_void (kinds.Committed source) = false
 is_void kinds.Settled = false
+is_void (kinds.Group tag) = false
+is_void kinds.DeadGroup = false
+is_void kinds.SpoiltGroup = false
 is_void kinds.Unknown = false
+
+-- whether a block is of a group, live or dead
+abbrev pub is_group : Kind → Bool
+is_group kinds.Plain = false
+is_group kinds.Void = false
+is_group (kinds.Committed source) = false
+is_group kinds.Settled = false
+is_group (kinds.Group tag) = true
+is_group kinds.DeadGroup = true
+is_group kinds.SpoiltGroup = true
+is_group kinds.Unknown = false
 
 -- whether a block of this kind is the committed copy of block b of the chip
 abbrev pub is_copy_of : ℕ → Kind → Bool
@@ -63,6 +97,9 @@ is_copy_of b kinds.Plain = false
 is_copy_of b kinds.Void = false
 is_copy_of b (kinds.Committed source) = source == b
 is_copy_of b kinds.Settled = false
+is_copy_of b (kinds.Group tag) = false
+is_copy_of b kinds.DeadGroup = false
+is_copy_of b kinds.SpoiltGroup = false
 is_copy_of b kinds.Unknown = false
 
 -- of n data blocks of these kinds, how many are copies of data block c

@@ -1,17 +1,22 @@
 -- What the calls of a store of slots leave, by their answer. Data blocks and slots are counted from
 -- 0. Source: own, layout 2.
-use Rattle.std.specs.Prelude.{◌≡◌, ◌≢◌, ◌⊎◌, ℕ, ◌+◌, ◌*◌, ◌/◌, ◌<◌, List, [], ◌∷◌}
+use Rattle.std.specs.Prelude.{◌≡◌, ◌≢◌, ◌⊎◌, ℕ, ◌+◌, ◌*◌, ◌/◌, ◌<◌, false, List, [], ◌∷◌}
 use Rattle.chip_model.specs.Memory.{byte, and_at}
 use Rattle.nor_layout.specs.declared.header.Tag.{Tag}
 use Rattle.nor_layout.specs.declared.kind.Kind.TheVariants as kinds
 use Rattle.nor_layout.specs.Kinds.{kind_of}
 use Rattle.erase_journal.specs.Blocks.{OnlyBlock}
-use Rattle.sector_slots.specs.Slots.{Slot, Free, Live, Dead, slot_at, slot_count, data_block}
-use Rattle.sector_slots.specs.Slots.{kind_at, raw_slot, content_bytes, blank_sector, IsClean}
+use Rattle.sector_slots.specs.Slots.{Slot, Free, Live, Dead, IsLive, is_group, slot_at}
+use Rattle.sector_slots.specs.Slots.{slot_count, data_block, kind_at, raw_slot, content_bytes}
+use Rattle.sector_slots.specs.Slots.{blank_sector, IsClean}
 
 -- a sector can be written into slot s: it is free, and what reads as free is erased
 abbrev pub IsWritable : ℕ → List ℕ → Type 0
 IsWritable s m = (slot_at m s ≡ Free) × IsClean m
+
+-- slot s can be retired alone: it counts as live, and its block isn't of a group
+abbrev pub IsRetirable : ℕ → List ℕ → Type 0
+IsRetirable s m = IsLive (slot_at m s) × (is_group (kind_at m (s / 7)) ≡ false)
 
 -- What a write into a free slot leaves there where it is cut: the slot is free, dead, or holds the
 -- sector whole.

@@ -2,24 +2,29 @@
 //! has a store that keeps an index beside its slots.
 
 ghost use Rattle.std.specs.Prelude.{◌≡◌, ◌≢◌, ◌⊎◌, ◌↔◌, ◌+◌, ◌*◌, ◌<◌, ℕ, Bool, false, List};
+ghost use Rattle.std.specs.Prelude.{slice_range};
+ghost use Rattle.chip_model.specs.Memory.{byte};
 ghost use Rattle.std.specs.Prelude.{length, OnOk, IfOk, IfErr, MatchOption, IsTrue};
 ghost use Rattle.std.specs.Result.{IsErrOf};
 ghost use Rattle.chip_model.specs.Geometry.{IsChipSize};
 ghost use Rattle.nor_driver.specs.State.{NorState, IsNorReady, Refuses};
 ghost use Rattle.nor_layout.specs.declared.header.Tag.{Tag as TagOf};
-ghost use Rattle.erase_journal.specs.Blocks.{SameChip, WithErased};
+ghost use Rattle.erase_journal.specs.Blocks.{SameChip, OnlyBlock, OnlySuper};
+ghost use Rattle.erase_journal.specs.Blocks.{WithErased};
 ghost use Rattle.erase_journal.specs.Journals.{IsHealthy};
 ghost use Rattle.erase_journal.specs.Steps.{EraseInterrupted, SucceedsSettled};
 ghost use Rattle.erase_journal.specs.Recovery.{Restored, RestoreFails};
 ghost use Rattle.sector_slots.specs.Slots.{Free, Live, Dead, slot_at, stored_at, slot_count};
 ghost use Rattle.sector_slots.specs.Slots.{data_blocks, data_block, kind_at, raw_slot};
 ghost use Rattle.sector_slots.specs.Slots.{descriptor_in, read_header, IsClean, IsLive, SameSlots};
+ghost use Rattle.sector_slots.specs.Copying.{source_slot};
+ghost use Rattle.sector_slots.specs.Steps.{IsRetirable};
 ghost use Rattle.sector_slots.specs.Steps.{IsWritable, PutLeaves, HoldsTag, MayHoldTag, OnlyPlace};
 ghost use Rattle.sector_slots.specs.Steps.{OnlyMark, IsBegun, IsErasedSlot, CopyLeaves, IsErasable};
 
 use erase_journal::RecoverError;
 use nor_driver::NorError;
-use nor_layout::{Header, Kind, Tag};
+use nor_layout::{Header, Kind, MIXED, MIXED_PLACE, SUPER_LEN, Tag};
 
 /// The data blocks behind the journals, as seven slots each. Blocks and slots are counted from 0:
 /// slot 7c + i is the one at place i of data block c. Every call that can fail but `restore`
@@ -102,24 +107,43 @@ pub trait SlotCalls {
         ensures done { OnOk result (SucceedsSettled (state self.old) (state self.new)) }
         ensures fails { IfErr result (λ e. Refuses e (state self.old) (state self.new)) };
 
-    /// Makes a live slot that counts dead. Cut, it leaves it as it was or dead.
+    /// Makes a live slot that counts dead, in a block of slots. Cut, it leaves it as it was or
+    /// dead.
     fn retire(&mut self, slot: u16) -> Result<(), NorError>
         requires number { slot < slot_count (state self.old).memory }
-        ensures ok { OnOk result (IsLive (slot_at (state self.old).memory slot)
+        ensures ok { OnOk result (IsRetirable slot (state self.old).memory
             → slot_at (state self.new).memory slot ≡ Dead) }
-        ensures cut { IsErrOf result NorError.Cut → IsLive (slot_at (state self.old).memory slot)
+        ensures cut { IsErrOf result NorError.Cut → IsRetirable slot (state self.old).memory
             → (slot_at (state self.new).memory slot ≡ slot_at (state self.old).memory slot)
             ⊎ (slot_at (state self.new).memory slot ≡ Dead) }
-        ensures clean { OnOk result (IsLive (slot_at (state self.old).memory slot)
+        ensures clean { OnOk result (IsRetirable slot (state self.old).memory
             → IsClean (state self.old).memory → IsClean (state self.new).memory) }
         ensures cut_clean { IsErrOf result NorError.Cut
-            → IsLive (slot_at (state self.old).memory slot) → IsClean (state self.old).memory
+            → IsRetirable slot (state self.old).memory → IsClean (state self.old).memory
             → IsClean (state self.new).memory }
         ensures only { OnOk result (OnlyPlace slot (state self.old).memory
             (state self.new).memory) }
         ensures cut_only { IsErrOf result NorError.Cut
             → OnlyPlace slot (state self.old).memory (state self.new).memory }
         ensures chip { SameChip (state self.old).memory (state self.new).memory }
+        ensures healthy { IsErrOf result NorError.Cut → IsHealthy (state self.old).memory
+            → IsHealthy (state self.new).memory }
+        ensures done { OnOk result (SucceedsSettled (state self.old) (state self.new)) }
+        ensures fails { IfErr result (λ e. Refuses e (state self.old) (state self.new)) };
+
+    /// Makes a live block of a group dead: its seven places are. Cut, it leaves it as it was or
+    /// dead.
+    fn retire_group(&mut self, block: u16) -> Result<(), NorError>
+        requires number { block < data_blocks (state self.old).memory }
+        ensures ok { OnOk result ((group : TagOf)
+            → kind_at (state self.old).memory block ≡ Kind.Group group
+            → kind_at (state self.new).memory block ≡ Kind.DeadGroup) }
+        ensures cut { IsErrOf result NorError.Cut → (group : TagOf)
+            → kind_at (state self.old).memory block ≡ Kind.Group group
+            → (data_block (state self.new).memory block
+            ≡ data_block (state self.old).memory block)
+            ⊎ (kind_at (state self.new).memory block ≡ Kind.DeadGroup) }
+        ensures only { OnlyBlock (block + 4) (state self.old).memory (state self.new).memory }
         ensures healthy { IsErrOf result NorError.Cut → IsHealthy (state self.old).memory
             → IsHealthy (state self.new).memory }
         ensures done { OnOk result (SucceedsSettled (state self.old) (state self.new)) }
@@ -171,7 +195,8 @@ pub trait SlotCalls {
         ensures fails { IfErr result (λ e. Refuses e (state self.old) (state self.new)) };
 
     /// Copies the slot at this place, 0 to 6, of the block that a void block names to the same
-    /// place, which is free: its two pages, and then its descriptor. Where that slot isn't live
+    /// place, which is free: its two pages, and then its descriptor, which of a block of a group
+    /// has the first generation. Where that slot isn't live
     /// nothing is changed. Cut, it leaves the block void.
     fn copy(&mut self, target: u16, place: u16) -> Result<(), NorError>
         requires target { target < data_blocks (state self.old).memory }
@@ -180,7 +205,7 @@ pub trait SlotCalls {
             → IsBegun target source (state self.old).memory
             → raw_slot (state self.old).memory target place ≡ Free
             → IsBegun target source (state self.new).memory
-            × CopyLeaves (raw_slot (state self.old).memory source place) target place
+            × CopyLeaves (source_slot (state self.old).memory source place) target place
             (state self.old).memory (state self.new).memory) }
         ensures cut { IsErrOf result NorError.Cut
             → kind_at (state self.old).memory target ≡ Kind.Void
@@ -250,6 +275,31 @@ pub trait SlotCalls {
         ensures healthy { IsErrOf result NorError.Cut → IsHealthy (state self.old).memory
             → IsHealthy (state self.new).memory }
         ensures size { length (state self.new).memory ≡ length (state self.old).memory }
+        ensures done { OnOk result (SucceedsSettled (state self.old) (state self.new)) }
+        ensures fails { IfErr result (λ e. Refuses e (state self.old) (state self.new)) };
+
+    /// The first bytes of the superblock. After an error `into` holds any bytes.
+    fn superblock(&mut self, into: &mut [u8]) -> Result<(), NorError>
+        requires room { length into.old ≡ SUPER_LEN }
+        ensures ok { OnOk result (into.new
+            ≡ slice_range (state self.old).memory 0 SUPER_LEN) }
+        ensures size { length into.new ≡ length into.old }
+        ensures same { (state self.new).memory ≡ (state self.old).memory }
+        ensures index { indexed self.new ≡ indexed self.old }
+        ensures done { OnOk result (SucceedsSettled (state self.old) (state self.new)) }
+        ensures fails { IfErr result (λ e. Refuses e (state self.old) (state self.new)) };
+
+    /// Programs byte 15 of the superblock, which says that a chip of layout 1 is mixed: no slot is
+    /// changed. Cut, it is as it was or programmed.
+    fn mark(&mut self) -> Result<(), NorError>
+        ensures ok { OnOk result (byte (state self.old).memory MIXED_PLACE ≡ 255
+            → byte (state self.new).memory MIXED_PLACE ≡ MIXED) }
+        ensures cut { IsErrOf result NorError.Cut → byte (state self.old).memory MIXED_PLACE ≡ 255
+            → ((state self.new).memory ≡ (state self.old).memory)
+            ⊎ (byte (state self.new).memory MIXED_PLACE ≡ MIXED) }
+        ensures only { OnlySuper MIXED_PLACE (state self.old).memory (state self.new).memory }
+        ensures healthy { IsErrOf result NorError.Cut → IsHealthy (state self.old).memory
+            → IsHealthy (state self.new).memory }
         ensures done { OnOk result (SucceedsSettled (state self.old) (state self.new)) }
         ensures fails { IfErr result (λ e. Refuses e (state self.old) (state self.new)) };
 

@@ -5,7 +5,9 @@ ghost use Rattle.sector_slots.specs.Slots.{Slot};
 ghost use Rattle.sector_slots.specs.Sectors.{SectorIs};
 ghost use Rattle.sector_slots.specs.Blocks.{SoundBlocksHaveNoFault};
 ghost use Rattle.sector_slots.specs.Laws.{CountedSlotsAreStored, CopiesAreExact, CopiesKeepTags};
-ghost use Rattle.sector_slots.specs.Laws.{ReservesAreOne, ErasedChipsHoldZeros};
+ghost use Rattle.sector_slots.specs.Laws.{ReservesAreOne, ErasedChipsHoldZeros, GroupsAreSeen};
+ghost use Rattle.sector_slots.specs.Laws.{SectorsAreSaid, MarksKeepSectors};
+ghost use Rattle.sector_slots.specs.Groups.{GroupChipsAreSound};
 ghost use Rattle.sector_slots.specs.Machine.{StepsKeepSectors, StepsKeepSingles, LastStepsSettle};
 
 use erase_journal::erased_chips_are_settled;
@@ -55,6 +57,26 @@ pub fn copies_keep_tags()
 /// A memory has at most one reserve.
 pub fn reserves_are_one()
     ensures { ReservesAreOne }
+{}
+
+/// A block with a group is seven slots.
+pub fn groups_are_seen()
+    ensures { GroupsAreSeen }
+{}
+
+/// What a sector of a mixed chip holds, in the words of the two layouts.
+pub fn sectors_are_said()
+    ensures { SectorsAreSaid }
+{}
+
+/// The program of byte 15 of the superblock keeps the sectors.
+pub fn marks_keep_sectors()
+    ensures { MarksKeepSectors }
+{}
+
+/// A chip of layout 1 that is healthy and clean in its own words is so as a mixed one.
+pub fn group_chips_are_sound()
+    ensures { GroupChipsAreSound }
 {}
 
 /// A chip that is erased but for its superblock is healthy and clean, and each of its sectors is

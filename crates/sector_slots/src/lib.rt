@@ -4,12 +4,14 @@
 //! Promised of any memory: which slots count (`specs/Slots.antt`), which sectors they represent
 //! (`specs/Sectors.antt`), when blocks are corrupt (`specs/Blocks.antt`), and that no step of a
 //! copying changes a sector, whole or cut (`specs/Copying.antt`, `steps_keep_sectors`;
-//! docs/COPYING.md). Of a store `SlotCalls` says: `put` writes a sector into a free slot and
-//! `retire` makes a live one dead; `begin`, `copy`, `commit`, `erase` and `settle` move the live
-//! slots of a block into another; `free`, `get`, `content`, `kind` and `head` read; all else stays
-//! as it was. Cut, a put leaves its slot free, dead or holding the sector whole, each step of a
-//! copying what it found or what it makes. Refusals are the journals': a latched Slow, a power that
-//! is off, and what came in the call. No call takes memory.
+//! docs/COPYING.md). A block of a group of layout 1 is seen as seven slots. Of a store `SlotCalls`
+//! says: `put` writes a sector into a free slot and `retire` makes a live one dead; `begin`,
+//! `copy`, `commit`, `erase` and `settle` move the live slots of a block into another;
+//! `retire_group` makes a block of a group dead, and `mark` programs byte 15 of the superblock;
+//! `free`, `get`, `content`, `kind`, `head` and `superblock` read; all else stays as it was. Cut, a
+//! put leaves its slot free, dead or holding the sector whole, each step of a copying what it found
+//! or what it makes. Refusals are the journals': a latched Slow, a power that is off, and what came
+//! in the call. No call takes memory.
 //!
 //! Left to the crates above: the store, which slot is used for what, which block is copied, and
 //! when to restore. Source: own, layout 2.
@@ -22,6 +24,7 @@ mod laws;
 pub use calls::SlotCalls;
 pub use laws::{
     copies_are_exact, copies_keep_tags, counted_slots_are_stored, erased_chips_hold_zeros,
-    last_steps_settle, reserves_are_one, sectors_have_one_content, sound_blocks_have_no_fault,
+    group_chips_are_sound, groups_are_seen, last_steps_settle, marks_keep_sectors,
+    reserves_are_one, sectors_are_said, sectors_have_one_content, sound_blocks_have_no_fault,
     steps_keep_sectors, steps_keep_singles,
 };

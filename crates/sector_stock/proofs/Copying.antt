@@ -1,21 +1,22 @@
 -- What the calls of a copying leave, in the words of the machine.
-use Rattle.std.proofs.Common.{◌≡◌, ◌≢◌, ℕ, ◌+◌, ◌-◌, ◌*◌, ◌/◌, ◌%◌, ◌<◌, ◌⊎◌, List, refl, sym, ap, ◌∙◌, subst, arith, inl, inr}
+use Rattle.std.proofs.Common.{◌≡◌, ◌≢◌, ℕ, ◌+◌, ◌-◌, ◌*◌, ◌/◌, ◌%◌, ◌<◌, ◌⊎◌, false, List, refl, sym, ap, ◌∙◌, subst, arith, inl, inr}
 use Rattle.std.proofs.lemmas.Bool.{cases_eq}
 use Rattle.chip_model.specs.Geometry.{block_count}
 use Rattle.nor_layout.specs.declared.kind.Kind.{Kind}
 use Rattle.nor_layout.specs.declared.kind.Kind.TheVariants as kinds
 use Rattle.erase_journal.specs.Blocks.{SameChip, OnlyBlock, SameBlocks, WithErased}
 use Rattle.erase_journal.specs.Steps.{EraseInterrupted, as_it_was, block_erased}
-use Rattle.sector_slots.specs.Slots.{Free, is_copy_of, slot_in, content_bytes, data_blocks, data_block, kind_at, raw_slot, IsClean, IsSpareIn, Slot, Live, NoGeneration, Dead, Outside, slot_at, slot_count, is_void, copies as copies_of}
+use Rattle.sector_slots.specs.Slots.{Free, is_group, is_copy_of, slot_in, content_bytes, data_blocks, data_block, kind_at, raw_slot, IsClean, IsSpareIn, Slot, Live, NoGeneration, Dead, Outside, slot_at, slot_count, is_void, copies as copies_of}
 use Rattle.sector_slots.specs.Blocks.{IsTarget, IsAtRest}
 use Rattle.sector_slots.proofs.BlockLaws.{begin-target, copy-target, commit-target, erase_source-target}
-use Rattle.sector_slots.specs.Copying.{IsCopy, copy_slot, BeginsCopy, Commits, ErasesSource, Settles, ErasesVoid, HoldsNothing, SameLive}
-use Rattle.sector_slots.specs.Sectors.{IsSingle, IsSoundMap, sector_at}
+use Rattle.sector_slots.specs.Copying.{IsCopy, copy_slot, to_copy, source_slot, BeginsCopy, Commits, ErasesSource, Settles, ErasesVoid, HoldsNothing, SameLive}
+use Rattle.sector_slots.specs.Sectors.{IsSingle, IsSoundMap, HasSlotsAlone, sector_at}
+use Rattle.sector_slots.proofs.AloneLaws.{block-alone, blocks-alone}
 use Rattle.sector_slots.specs.Steps.{OnlyPlace, OnlyMark, IsBegun, IsErasedSlot, IsErasable, CopyLeaves, live_copied, passed_over}
 use Rattle.sector_slots.specs.Machine.{SlotStep, begins, copies, commits, erases_source, settles, erases_void}
 use Rattle.sector_slots.proofs.MachineLaws.{block-data, step-holds, step-single, last-settles}
 use Rattle.sector_slots.proofs.SlotLaws.{copy-is, copy-is_exact}
-use Rattle.sector_slots.proofs.CopyLaws.{copy-exact, counted-in, at-rest-counts, void-copies, committed-source, counted-other, quiet-live, counted-source, source-copies, counted-void, erase_source-same, settle-live, erase_void-live}
+use Rattle.sector_slots.proofs.CopyLaws.{copy-exact, copied-from, counted-in, at-rest-counts, void-copies, committed-source, counted-other, quiet-live, counted-source, source-copies, counted-void, erase_source-same, settle-live, erase_void-live}
 use Rattle.sector_slots.proofs.PlaceLaws.{later, later-is}
 use Rattle.sector_slots.proofs.StepLaws.{chip-after}
 use Rattle.nor_layout.specs.Kinds.{kind_of}
@@ -24,7 +25,7 @@ use Rattle.sector_slots.proofs.BlankLaws.{blank-content, counted-same, erased-sp
 use Rattle.nor_layout.specs.declared.header.Tag.{Tag}
 use Rattle.sector_stock.specs.Copy.{bare, SameSectors, KeepsSectors, Stays, IsCopyable, IsFinished, Copies, Reclaimed, EndsCopy, IsVoidIn, IsCommittedIn}
 use Rattle.sector_stock.specs.CopySteps.{IsCopiedTo, IsExactTo, CopyProgress, Finishes, FinishLeaves}
-use Rattle.sector_stock.proofs.Tags.{bare-whole, tags-sound}
+use Rattle.sector_stock.proofs.Tags.{bare-whole, tags-sound, bare-to_copy, to_copy-whole}
 
 -- the same number of blocks
 blocks-same : (m m' : List ℕ) → SameChip m m' → data_blocks m' ≡ data_blocks m
@@ -33,8 +34,12 @@ blocks-same m m' chip = ap (λ n. block_count n - 4) chip.same_length
 target-sized : (t : ℕ) (m m' : List ℕ) → SameChip m m' → IsTarget t (data_blocks m) (kind_at m') → IsTarget t (data_blocks m') (kind_at m')
 target-sized t m m' chip h = subst (λ n. IsTarget t n (kind_at m')) (sym (blocks-same m m' chip)) h
 
-keeps : (m m' : List ℕ) → SameChip m m' → SameSectors m m' → (IsClean m → IsClean m') → KeepsSectors m m'
-keeps m m' chip sectors clean = record { chip = chip; sectors = sectors; clean = clean }
+keeps : (m m' : List ℕ) → SameChip m m' → SameSectors m m' → (HasSlotsAlone m → HasSlotsAlone m') → (IsClean m → IsClean m') → KeepsSectors m m'
+keeps m m' chip sectors alone clean = record { chip = chip; sectors = sectors; alone = alone; clean = clean }
+
+-- a block of this kind isn't of a group
+of-kind : (t : ℕ) (m m' : List ℕ) (k : Kind) → OnlyBlock (t + 4) m m' → kind_at m' t ≡ k → is_group k ≡ false → HasSlotsAlone m → HasSlotsAlone m'
+of-kind t m m' k only now none = block-alone t m m' only (λ q. ap is_group now ∙ none)
 
 -- begin
 begins-now : (s t : ℕ) (m m' : List ℕ) → IsCopyable s t m → OnlyMark t m m' → kind_at m' t ≡ kinds.Void → BeginsCopy t (data_blocks m) (kind_at m) (kind_at m') (raw_slot m) (raw_slot m')
@@ -71,11 +76,11 @@ same-clean m m' same clean =
 
 -- what keeps the sectors leaves slots and blocks that a mount accepts
 pub stays-kept : (m m' : List ℕ) → KeepsSectors m m' → Stays m m'
-stays-kept m m' k = record { chip = k.chip; sound = λ s. same-sectors-sound m m' k.sectors s; exact = λ c. k }
+stays-kept m m' k = record { chip = k.chip; sound = λ s. same-sectors-sound m m' k.sectors s; alone = k.alone; exact = λ c. k }
 
 pub begin-cut : (s t : ℕ) (m m' : List ℕ) → IsCopyable s t m → OnlyMark t m m' → (data_block m' t ≡ data_block m t) ⊎ (kind_at m' t ≡ kinds.Void) → Stays m m'
-begin-cut s t m m' h mark (inl same) = stays-kept m m' (keeps m m' mark.only.chip (λ sectors holds. unchanged-holds t m m' sectors mark.only same holds) (unchanged-clean t m m' mark.only same))
-begin-cut s t m m' h mark (inr void) = stays-kept m m' (keeps m m' mark.only.chip (step-sectors s t m m' (begin-step s t m m' h mark void)) (begin-clean s t m m' h mark void))
+begin-cut s t m m' h mark (inl same) = stays-kept m m' (keeps m m' mark.only.chip (λ sectors holds. unchanged-holds t m m' sectors mark.only same holds) (block-alone t m m' mark.only (λ q. ap (λ b. is_group (kind_of b)) same ∙ q)) (unchanged-clean t m m' mark.only same))
+begin-cut s t m m' h mark (inr void) = stays-kept m m' (keeps m m' mark.only.chip (step-sectors s t m m' (begin-step s t m m' h mark void)) (of-kind t m m' kinds.Void mark.only void refl) (begin-clean s t m m' h mark void))
 
 begin-fresh : (s t : ℕ) (m m' : List ℕ) → IsCopyable s t m → IsClean m → OnlyMark t m m' → (i : ℕ) → i < 7 → IsErasedSlot t i m'
 begin-fresh s t m m' h clean mark i low = record {
@@ -132,16 +137,19 @@ copies-now j s t m m' h only void = copies only.chip (record { target = h.target
 copy-clean : (t : ℕ) (m m' : List ℕ) → OnlyBlock (t + 4) m m' → kind_at m t ≡ kinds.Void → kind_at m' t ≡ kinds.Void → IsClean m → IsClean m'
 copy-clean t m m' only was now clean = void-clean t m m' kinds.Void only was (λ b. refl) now clean
 
+progress-alone : (j s t : ℕ) (m0 m : List ℕ) → CopyProgress j s t m0 m → HasSlotsAlone m0 → HasSlotsAlone m
+progress-alone j s t m0 m p = of-kind t m0 m kinds.Void p.only p.copied.begun.void refl
+
 pub copy-cut : (j s t : ℕ) (m0 m m' : List ℕ) → j < 7 → CopyProgress j s t m0 m → OnlyPlace (7 * t + j) m m' → (kind_at m t ≡ kinds.Void → kind_at m' t ≡ kinds.Void) → Stays m0 m'
 copy-cut j s t m0 m m' low p place void =
     let only = place-only t j m m' low place in
     let chip = chip-after m0 m m' p.only.chip only.chip in
     let now = void p.copied.begun.void in
     let same : SameSectors m0 m' = λ sectors holds. step-sectors s t m m' (copies-now j s t m m' p.copied only now) sectors (p.sectors sectors holds) in
-    stays-kept m0 m' (keeps m0 m' chip same (λ c. copy-clean t m m' only p.copied.begun.void now (p.exact c).clean))
+    stays-kept m0 m' (keeps m0 m' chip same (λ a. of-kind t m m' kinds.Void only now refl (progress-alone j s t m0 m p a)) (λ c. copy-clean t m m' only p.copied.begun.void now (p.exact c).clean))
 
-source-same : (s t : ℕ) (m m' : List ℕ) (i : ℕ) → s < data_blocks m → s ≢ t → OnlyBlock (t + 4) m m' → raw_slot m' s i ≡ raw_slot m s i
-source-same s t m m' i low other only = ap (λ b. slot_in b i) (only.others (s + 4) (omega arith) (omega (arith, low)) (λ e. other (omega (arith, e))))
+source-same : (s t : ℕ) (m m' : List ℕ) (i : ℕ) → s < data_blocks m → s ≢ t → OnlyBlock (t + 4) m m' → source_slot m' s i ≡ source_slot m s i
+source-same s t m m' i low other only = ap (λ b. to_copy (kind_of b) (slot_in b i)) (only.others (s + 4) (omega arith) (omega (arith, low)) (λ e. other (omega (arith, e))))
 
 -- each slot of the source counts, so none is without a generation
 source-whole : (j s t : ℕ) (m : List ℕ) (i : ℕ) → IsCopiedTo j s t m → i < 7 → raw_slot m s i ≢ NoGeneration
@@ -169,7 +177,7 @@ tags-copied old t i m m' free (live_copied tag x was (y, now) exact) = ap bare n
 tags-copied old t i m m' free (passed_over other same) = ap bare (ap (λ b. slot_in b i) same ∙ free) ∙ sym (other-bare old other)
 
 pub copy-progress : (j s t : ℕ) (m0 m m' : List ℕ) → j < 7 → CopyProgress j s t m0 m → OnlyPlace (7 * t + j) m m'
-    → IsBegun t s m' × CopyLeaves (raw_slot m s j) t j m m'
+    → IsBegun t s m' × CopyLeaves (source_slot m s j) t j m m'
     → ((i : ℕ) → i < 7 → i ≢ j → IsErasedSlot t i m → IsErasedSlot t i m') → CopyProgress (j + 1) s t m0 m'
 copy-progress j s t m0 m m' low p place done fresh =
     let c = p.copied in
@@ -178,7 +186,7 @@ copy-progress j s t m0 m m' low p place done fresh =
     let size = blocks-same m m' only.chip in
     let here = step-sectors s t m m' step in
     let open-place = c.free j low (omega arith) in
-    let source : (i : ℕ) → raw_slot m' s i ≡ raw_slot m s i = λ i. source-same s t m m' i c.number c.other only in
+    let source : (i : ℕ) → source_slot m' s i ≡ source_slot m s i = λ i. source-same s t m m' i c.number c.other only in
     record {
       only = only-twice (t + 4) m0 m m' p.only only;
       copied = record {
@@ -187,8 +195,8 @@ copy-progress j s t m0 m m' low p place done fresh =
         target = target-sized t m m' only.chip (copy-target t (data_blocks m) (kind_at m) (kind_at m') (raw_slot m) (raw_slot m')
             (record { target = c.target; was = c.begun.void; only = block-data t m m' only; now = done.0.void }));
         begun = done.0;
-        tags = λ i below. elim (cases_eq i j) as (λ _. bare (raw_slot m' t i) ≡ copy_slot (bare (raw_slot m' s i))) [
-          | inl e ↦ subst (λ a. bare (raw_slot m' t a) ≡ copy_slot (bare (raw_slot m' s a))) (sym e) (tags-copied (raw_slot m s j) t j m m' open-place done.1 ∙ ap (λ a. copy_slot (bare a)) (sym (source j)))
+        tags = λ i below. elim (cases_eq i j) as (λ _. bare (raw_slot m' t i) ≡ copy_slot (bare (source_slot m' s i))) [
+          | inl e ↦ subst (λ a. bare (raw_slot m' t a) ≡ copy_slot (bare (source_slot m' s a))) (sym e) (tags-copied (source_slot m s j) t j m m' open-place done.1 ∙ ap (λ a. copy_slot (bare a)) (sym (source j)))
           | inr ne ↦ ap bare (place-slots t j i m m' low (omega (arith, below, low)) ne place) ∙ (c.tags i (omega (arith, below, ne)) ∙ ap (λ a. copy_slot (bare a)) (sym (source i)))
         ];
         free = λ i small above. place-slots t j i m m' low small (λ e. omega (arith, e, above)) place ∙ c.free i small (omega (arith, above));
@@ -199,10 +207,10 @@ copy-progress j s t m0 m m' low p place done fresh =
       exact = λ clean.
           let x = p.exact clean in
           let now = x.fresh j low (omega arith) in
-          let after = copy-is (raw_slot m s j) t j m m' done.1 (source-whole j s t m j c low) now in
+          let after = copy-is (source_slot m s j) t j m m' done.1 (to_copy-whole (kind_at m s) (raw_slot m s j) (source-whole j s t m j c low)) now in
           record {
-            copied = λ i below. elim (cases_eq i j) as (λ _. raw_slot m' t i ≡ copy_slot (raw_slot m' s i)) [
-              | inl e ↦ subst (λ a. raw_slot m' t a ≡ copy_slot (raw_slot m' s a)) (sym e) (copy-is_exact (raw_slot m s j) t j m m' done.1 now ∙ ap copy_slot (sym (source j)))
+            copied = λ i below. elim (cases_eq i j) as (λ _. raw_slot m' t i ≡ copy_slot (source_slot m' s i)) [
+              | inl e ↦ subst (λ a. raw_slot m' t a ≡ copy_slot (source_slot m' s a)) (sym e) (copy-is_exact (source_slot m s j) t j m m' done.1 now ∙ ap copy_slot (sym (source j)))
               | inr ne ↦ place-slots t j i m m' low (omega (arith, below, low)) ne place ∙ (x.copied i (omega (arith, below, ne)) ∙ ap copy_slot (sym (source i)))
             ];
             fresh = λ i small above. fresh i small (λ e. omega (arith, e, above)) (x.fresh i small (omega (arith, above)));
@@ -224,7 +232,12 @@ commits-tags s t m m' h mark e =
       was = h.begun.void;
       number = h.number;
       other = h.other;
-      copies = λ i low. subst (λ a. IsCopy (bare (raw_slot m s i)) a) (sym (ap bare (mark.slots i low) ∙ h.tags i low)) (copy-exact (bare (raw_slot m s i)) (bare-whole (raw_slot m s i) (source-whole 7 s t m i h low)));
+      copies = λ i low.
+          let k = kind_at m s in
+          let x = raw_slot m s i in
+          let whole = source-whole 7 s t m i h low in
+          subst (λ a. IsCopy (bare x) a) (sym (ap bare (mark.slots i low) ∙ h.tags i low)) (copied-from k (bare x) (copy_slot (bare (to_copy k x))) (bare-whole x whole)
+          (subst (λ a. IsCopy a (copy_slot (bare (to_copy k x)))) (bare-to_copy k x) (copy-exact (bare (to_copy k x)) (bare-whole (to_copy k x) (to_copy-whole k x whole)))));
       only = record { same_kind = only.same_kind; same_slots = λ d i low ne. ap bare (only.same_slots d i low ne) };
       now = e;
     }
@@ -236,7 +249,11 @@ commits-now s t m m' h x mark e = record {
   was = h.begun.void;
   number = h.number;
   other = h.other;
-  copies = λ i low. subst (λ a. IsCopy (raw_slot m s i) a) (sym (mark.slots i low ∙ x.copied i low)) (copy-exact (raw_slot m s i) (source-whole 7 s t m i h low));
+  copies = λ i low.
+      let k = kind_at m s in
+      let old = raw_slot m s i in
+      let whole = source-whole 7 s t m i h low in
+      subst (λ a. IsCopy old a) (sym (mark.slots i low ∙ x.copied i low)) (copied-from k old (copy_slot (to_copy k old)) whole (copy-exact (to_copy k old) (to_copy-whole k old whole)));
   only = block-data t m m' mark.only;
   now = e;
 }
@@ -244,7 +261,7 @@ commits-now s t m m' h x mark e = record {
 commit-keeps : (s t : ℕ) (m m' : List ℕ) → IsCopiedTo 7 s t m → OnlyMark t m m' → kind_at m' t ≡ kinds.Committed (s + 4) → IsExactTo 7 s t m → KeepsSectors m m'
 commit-keeps s t m m' h mark e x =
     let now = commits-now s t m m' h x mark e in
-    keeps m m' mark.only.chip (step-sectors s t m m' (commits mark.only.chip now h.single)) (λ c. commit-clean s t m m' mark now (λ i low free. (x.unwritten i low free).blank) c)
+    keeps m m' mark.only.chip (step-sectors s t m m' (commits mark.only.chip now h.single)) (of-kind t m m' (kinds.Committed (s + 4)) mark.only e refl) (λ c. commit-clean s t m m' mark now (λ i low free. (x.unwritten i low free).blank) c)
 
 -- what a commit leaves of any memory: slots and blocks without a corrupt case
 commit-sound : (s t : ℕ) (m m' : List ℕ) → IsCopiedTo 7 s t m → OnlyMark t m m' → kind_at m' t ≡ kinds.Committed (s + 4) → IsSoundMap m'
@@ -265,9 +282,10 @@ commit-cut s t m m' h mark (inl e) =
     record {
       chip = mark.only.chip;
       sound = same-sectors-sound m m' same h.sound;
-      exact = λ x. keeps m m' mark.only.chip same (λ c. copy-clean t m m' mark.only h.begun.void e c);
+      alone = of-kind t m m' kinds.Void mark.only e refl;
+      exact = λ x. keeps m m' mark.only.chip same (of-kind t m m' kinds.Void mark.only e refl) (λ c. copy-clean t m m' mark.only h.begun.void e c);
     }
-commit-cut s t m m' h mark (inr e) = record { chip = mark.only.chip; sound = commit-sound s t m m' h mark e; exact = commit-keeps s t m m' h mark e }
+commit-cut s t m m' h mark (inr e) = record { chip = mark.only.chip; sound = commit-sound s t m m' h mark e; alone = of-kind t m m' (kinds.Committed (s + 4)) mark.only e refl; exact = commit-keeps s t m m' h mark e }
 
 -- block t is the committed copy of s
 pub record IsCommittedTo (s t : ℕ) (m0 m : List ℕ) : Type 0 where
@@ -275,6 +293,7 @@ pub record IsCommittedTo (s t : ℕ) (m0 m : List ℕ) : Type 0 where
   pub committed : kind_at m t ≡ kinds.Committed (s + 4)
   pub sound : IsSoundMap m
   pub single : IsSingle m0 → IsSingle m
+  pub alone : HasSlotsAlone m0 → HasSlotsAlone m
   pub clean : IsClean m0 → IsClean m
   pub chip : SameChip m0 m
   pub sectors : SameSectors m0 m
@@ -284,9 +303,9 @@ erases-now : (s t : ℕ) (m0 m m' : List ℕ) → IsCommittedTo s t m0 m → Wit
 erases-now s t m0 m m' h w = record { target = h.target; was = h.committed; only = block-data s m m' w.only; now = erased-spare m' s w.erased }
 
 pub erase-cut : (s t : ℕ) (m0 m m' : List ℕ) → IsCommittedTo s t m0 m → EraseInterrupted (s + 4) m m' → KeepsSectors m0 m'
-erase-cut s t m0 m m' h (as_it_was w) = keeps m0 m' (chip-after m0 m m' h.chip w.blocks.chip) (λ sectors holds. blocks-holds m m' sectors w.blocks (h.sectors sectors holds)) (λ c. same-clean m m' w.blocks (h.clean c))
+erase-cut s t m0 m m' h (as_it_was w) = keeps m0 m' (chip-after m0 m m' h.chip w.blocks.chip) (λ sectors holds. blocks-holds m m' sectors w.blocks (h.sectors sectors holds)) (λ a. blocks-alone m m' w.blocks (h.alone a)) (λ c. same-clean m m' w.blocks (h.clean c))
 erase-cut s t m0 m m' h (block_erased healthy w) = keeps m0 m' (chip-after m0 m m' h.chip w.only.chip)
-    (λ sectors holds. step-sectors s t m m' (erases_source w.only.chip (erases-now s t m0 m m' h w)) sectors (h.sectors sectors holds)) (λ c. erase_source-clean s t m m' w (erases-now s t m0 m m' h w) (h.clean c))
+    (λ sectors holds. step-sectors s t m m' (erases_source w.only.chip (erases-now s t m0 m m' h w)) sectors (h.sectors sectors holds)) (λ a. of-kind s m m' kinds.Plain w.only (erases-now s t m0 m m' h w).now.plain refl (h.alone a)) (λ c. erase_source-clean s t m m' w (erases-now s t m0 m m' h w) (h.clean c))
 
 pub record IsErasedFor (s t : ℕ) (m0 m : List ℕ) : Type 0 where
   pub committed : IsCommittedTo s t m0 m
@@ -304,6 +323,7 @@ erase-done s t m0 m m' h w =
         committed = now.only.same_kind t h.target.number (λ e. place.1 (sym e)) ∙ h.committed;
         sound = same-sectors-sound m m' same h.sound;
         single = λ one. step-singles s t m m' step h.sound (h.single one);
+        alone = λ a. of-kind s m m' kinds.Plain w.only now.now.plain refl (h.alone a);
         clean = λ c. erase_source-clean s t m m' w now (h.clean c);
         chip = chip-after m0 m m' h.chip w.only.chip;
         sectors = λ sectors holds. same sectors (h.sectors sectors holds);
@@ -328,9 +348,9 @@ mark-same t m m' k mark was is sectors holds = same-holds m m' sectors mark.only
 
 pub settle-cut : (s t : ℕ) (m0 m m' : List ℕ) → IsErasedFor s t m0 m → OnlyMark t m m' → (kind_at m' t ≡ kinds.Committed (s + 4)) ⊎ (kind_at m' t ≡ kinds.Settled) → KeepsSectors m0 m'
 settle-cut s t m0 m m' h mark (inl e) = keeps m0 m' (chip-after m0 m m' h.committed.chip mark.only.chip)
-    (λ sectors holds. mark-same t m m' (kinds.Committed (s + 4)) mark h.committed.committed e sectors (h.committed.sectors sectors holds)) (λ c. committed-clean s t m m' mark h.committed.target h.committed.committed e (h.committed.clean c))
+    (λ sectors holds. mark-same t m m' (kinds.Committed (s + 4)) mark h.committed.committed e sectors (h.committed.sectors sectors holds)) (λ a. of-kind t m m' (kinds.Committed (s + 4)) mark.only e refl (h.committed.alone a)) (λ c. committed-clean s t m m' mark h.committed.target h.committed.committed e (h.committed.clean c))
 settle-cut s t m0 m m' h mark (inr e) = keeps m0 m' (chip-after m0 m m' h.committed.chip mark.only.chip)
-    (λ sectors holds. step-sectors s t m m' (settles mark.only.chip (settles-now s t m0 m m' h mark e)) sectors (h.committed.sectors sectors holds)) (λ c. settle-clean s t m m' mark (settles-now s t m0 m m' h mark e) (h.committed.clean c))
+    (λ sectors holds. step-sectors s t m m' (settles mark.only.chip (settles-now s t m0 m m' h mark e)) sectors (h.committed.sectors sectors holds)) (λ a. of-kind t m m' kinds.Settled mark.only e refl (h.committed.alone a)) (λ c. settle-clean s t m m' mark (settles-now s t m0 m m' h mark e) (h.committed.clean c))
 
 pub settle-done : (s t : ℕ) (m0 m m' : List ℕ) → IsErasedFor s t m0 m → OnlyMark t m m' → kind_at m' t ≡ kinds.Settled → Reclaimed m0 m'
 settle-done s t m0 m m' h mark e =
@@ -341,20 +361,22 @@ settle-done s t m0 m m' h mark e =
       sectors = λ sectors holds. step-sectors s t m m' step sectors (h.committed.sectors sectors holds);
       single = λ one. step-singles s t m m' step h.committed.sound (h.committed.single one);
       blocks = last-settles s t m m' mark.only.chip (inl now);
+      alone = λ a. of-kind t m m' kinds.Settled mark.only e refl (h.committed.alone a);
       clean = λ c. settle-clean s t m m' mark now (h.committed.clean c);
     }
 
 -- after the commit
 after-keeps : (m0 m m' : List ℕ) → KeepsSectors m0 m → KeepsSectors m m' → KeepsSectors m0 m'
-after-keeps m0 m m' a b = keeps m0 m' (chip-after m0 m m' a.chip b.chip) (λ sectors holds. b.sectors sectors (a.sectors sectors holds)) (λ c. b.clean (a.clean c))
+after-keeps m0 m m' a b = keeps m0 m' (chip-after m0 m m' a.chip b.chip) (λ sectors holds. b.sectors sectors (a.sectors sectors holds)) (λ q. b.alone (a.alone q)) (λ c. b.clean (a.clean c))
 
 reclaimed-keeps : (m m' : List ℕ) → Reclaimed m m' → KeepsSectors m m'
-reclaimed-keeps m m' r = keeps m m' r.chip r.sectors r.clean
+reclaimed-keeps m m' r = keeps m m' r.chip r.sectors r.alone r.clean
 
 pub finish-cut : (s t : ℕ) (m a m' : List ℕ) → IsCopiedTo 7 s t m → OnlyMark t m a → kind_at a t ≡ kinds.Committed (s + 4) → KeepsSectors a m' → FinishLeaves s t m m'
 finish-cut s t m a m' h mark e k = record {
   chip = chip-after m a m' mark.only.chip k.chip;
   sound = same-sectors-sound a m' k.sectors (commit-sound s t m a h mark e);
+  alone = λ q. k.alone (of-kind t m a (kinds.Committed (s + 4)) mark.only e refl q);
   exact = λ x. after-keeps m a m' (commit-keeps s t m a h mark e x) k;
 }
 
@@ -396,7 +418,7 @@ reclaim-done s t m0 m m' p f =
     let n = p.only.chip.same_length in
     let size = blocks-same m0 m p.only.chip in
     let number = p.copied.number in
-    let source : (i : ℕ) → raw_slot m s i ≡ raw_slot m0 s i = λ i. source-same s t m0 m i (omega (arith, number, size)) p.copied.other p.only in
+    let source : (i : ℕ) → source_slot m s i ≡ source_slot m0 s i = λ i. source-same s t m0 m i (omega (arith, number, size)) p.copied.other p.only in
     record {
       chip = chip;
       blocks = f.blocks;
@@ -418,7 +440,8 @@ reclaim-cut s t m0 m m' p k =
     record {
       chip = chip;
       sound = λ s. k.sound;
-      exact = λ clean. keeps m0 m' chip (λ sectors holds. (k.exact (p.exact clean)).sectors sectors (p.sectors sectors holds)) (λ c. (k.exact (p.exact c)).clean (p.exact c).clean);
+      alone = λ a. k.alone (progress-alone 7 s t m0 m p a);
+      exact = λ clean. keeps m0 m' chip (λ sectors holds. (k.exact (p.exact clean)).sectors sectors (p.sectors sectors holds)) (λ a. k.alone (progress-alone 7 s t m0 m p a)) (λ c. (k.exact (p.exact c)).clean (p.exact c).clean);
     }
 
 -- the slots that count, with the number of blocks of the memory after
@@ -442,8 +465,8 @@ void-keeps t m m' h w clean =
     (λ p. w.erased)
 
 pub void-cut : (t : ℕ) (m m' : List ℕ) → IsVoidIn t m → EraseInterrupted (t + 4) m m' → KeepsSectors m m'
-void-cut t m m' h (as_it_was w) = keeps m m' w.blocks.chip (λ sectors holds. blocks-holds m m' sectors w.blocks holds) (same-clean m m' w.blocks)
-void-cut t m m' h (block_erased healthy w) = keeps m m' w.only.chip (step-sectors t t m m' (erases_void w.only.chip (voids-now t m m' h w))) (void-keeps t m m' h w)
+void-cut t m m' h (as_it_was w) = keeps m m' w.blocks.chip (λ sectors holds. blocks-holds m m' sectors w.blocks holds) (blocks-alone m m' w.blocks) (same-clean m m' w.blocks)
+void-cut t m m' h (block_erased healthy w) = keeps m m' w.only.chip (step-sectors t t m m' (erases_void w.only.chip (voids-now t m m' h w))) (of-kind t m m' kinds.Plain w.only (voids-now t m m' h w).now.plain refl) (void-keeps t m m' h w)
 
 pub void-done : (t : ℕ) (m m' : List ℕ) → IsVoidIn t m → WithErased (t + 4) m m' → IsSoundMap m → EndsCopy m m'
 void-done t m m' h w sound =
@@ -455,6 +478,7 @@ void-done t m m' h w sound =
         sectors = step-sectors t t m m' step;
         single = λ one. step-singles t t m m' step sound one;
         blocks = last-settles t t m m' w.only.chip (inr now);
+        alone = of-kind t m m' kinds.Plain w.only now.now.plain refl;
         clean = void-keeps t m m' h w;
       };
       live = live-after m m' w.only.chip (erase_void-live t (data_blocks m) (kind_at m) (kind_at m') (raw_slot m) (raw_slot m') now);
@@ -462,7 +486,7 @@ void-done t m m' h w sound =
 
 -- and a committed one's source
 pub committed-found : (s t : ℕ) (m : List ℕ) → IsCommittedIn s t m → IsCommittedTo s t m m
-committed-found s t m h = record { target = h.target; committed = h.committed; sound = h.sound; single = λ one. one; clean = λ c. c; chip = record { same_length = refl; superblock = λ k low. refl }; sectors = λ sectors holds. holds }
+committed-found s t m h = record { target = h.target; committed = h.committed; sound = h.sound; single = λ one. one; alone = λ a. a; clean = λ c. c; chip = record { same_length = refl; superblock = λ k low. refl }; sectors = λ sectors holds. holds }
 
 pub erased-found : (s t : ℕ) (m : List ℕ) → IsCommittedIn s t m → IsSpareIn m s → IsErasedFor s t m m
 erased-found s t m h spare = record { committed = committed-found s t m h; source = spare }
@@ -503,6 +527,9 @@ IsVoid kinds.Plain = ⊥
 IsVoid kinds.Void = Unit {0}
 IsVoid (kinds.Committed b) = ⊥
 IsVoid kinds.Settled = ⊥
+IsVoid (kinds.Group tag) = ⊥
+IsVoid kinds.DeadGroup = ⊥
+IsVoid kinds.SpoiltGroup = ⊥
 IsVoid kinds.Unknown = ⊥
 
 void-copy : (k : Kind) (b : ℕ) → k ≡ kinds.Void → k ≢ kinds.Committed b

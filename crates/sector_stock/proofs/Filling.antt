@@ -13,9 +13,10 @@ use Rattle.sector_stock.specs.declared.index.SlotState.{SlotState}
 use Rattle.sector_stock.specs.declared.index.SlotState.TheVariants as states
 use Rattle.sector_stock.specs.declared.index.BlockState.{BlockState}
 use Rattle.sector_stock.specs.declared.index.Cursors.{Cursors}
-use Rattle.sector_stock.specs.Index.{state_of, header_state, is_free_slot, is_dead, is_plain, is_free_state, is_dead_state, tally, in_block, in_slots, in_heads, states_count, states_tally, StatesNoted, BlockNoted, IsNoted, IsListed, IsIndexOf, IsAhead, IsHighestWhole, IsWholeBlock}
+use Rattle.sector_stock.specs.Index.{state_of, header_state, is_free_slot, is_dead, is_plain, is_live_group, is_free_state, is_dead_state, tally, in_block, in_slots, in_heads, states_count, states_tally, StatesNoted, BlockNoted, IsNoted, IsListed, IsIndexOf, IsAhead, IsHighestWhole, IsWholeBlock}
 use Rattle.sector_stock.proofs.Tallies.{tally-most}
 use Rattle.sector_stock.proofs.Moved.{rest-slot, spare-whole, reserve-is}
+use Rattle.sector_stock.proofs.RoomLaws.{spare-block}
 
 -- counting
 pub count-zero : (test : SlotState → Bool) (slots : List SlotState) (c : ℕ) → states_count test slots c 0 ≡ 0
@@ -63,7 +64,7 @@ noted-here : (c : ℕ) (kind : Kind) (heads : List Header) (slots slots' : List 
     → ((i : ℕ) → i < 7 → in_heads heads i ≡ descriptor_in (data_block m c) i) → IsNoted c slots' blocks' m
 noted-here c kind heads slots slots' blocks blocks' m h k d = record {
   states = λ i low. h.states.here i low ∙ (ap header_state (d i low) ∙ sym (state-raw m c i));
-  block = h.block ∙ ap (λ a. record { free = states_tally is_free_state slots' c; dead = states_tally is_dead_state slots' c; plain = is_plain a }) k;
+  block = h.block ∙ ap (λ a. record { free = states_tally is_free_state slots' c; dead = states_tally is_dead_state slots' c; plain = is_plain a; group = is_live_group a }) k;
 }
 
 noted-other : (c b : ℕ) (kind : Kind) (heads : List Header) (slots slots' : List SlotState) (blocks blocks' : List BlockState) (m : List ℕ) → BlockNoted b kind heads slots slots' blocks blocks' → c ≢ b → 7 * c + 7 ≤ length slots → c < length blocks
@@ -73,8 +74,8 @@ noted-other c b kind heads slots slots' blocks blocks' m h other fits low old =
     record {
       states = λ i small. same i small ∙ old.states i small;
       block = h.other_blocks c low other ∙ (old.block
-          ∙ (ap (λ a. record { free = a; dead = states_tally is_dead_state slots c; plain = is_plain (kind_at m c) }) (sym (count-same is_free_state slots slots' c same))
-          ∙ ap (λ a. record { free = states_tally is_free_state slots' c; dead = a; plain = is_plain (kind_at m c) }) (sym (count-same is_dead_state slots slots' c same))));
+          ∙ (ap (λ a. record { free = a; dead = states_tally is_dead_state slots c; plain = is_plain (kind_at m c); group = is_live_group (kind_at m c) }) (sym (count-same is_free_state slots slots' c same))
+          ∙ ap (λ a. record { free = states_tally is_free_state slots' c; dead = a; plain = is_plain (kind_at m c); group = is_live_group (kind_at m c) }) (sym (count-same is_dead_state slots slots' c same))));
     }
 
 pub noted-next : (b n : ℕ) (kind : Kind) (heads : List Header) (slots slots' : List SlotState) (blocks blocks' : List BlockState) (m : List ℕ) → b < n → length slots ≡ 7 * n → length blocks ≡ n → BlockNoted b kind heads slots slots' blocks blocks'
@@ -121,6 +122,7 @@ listed-noted m slots blocks settled-now ss bs h =
         free = ap (λ b. b.free) (h c low).block ∙ tally-free slots (slot_at m) c (λ i small. each c i low small);
         dead = ap (λ b. b.dead) (h c low).block ∙ tally-dead slots (slot_at m) c (λ i small. each c i low small);
         plain = ap (λ b. b.plain) (h c low).block;
+        group = ap (λ b. b.group) (h c low).block;
       };
     }
 
@@ -139,4 +141,6 @@ spare-listed m slots blocks h listed =
 
 pub index-filled : (m : List ℕ) (slots : List SlotState) (blocks : List BlockState) (at : Cursors) → AreSettled m → IsListed slots blocks (slot_at m) (kind_at m) (data_blocks m) → IsAhead blocks at → IsHighestWhole blocks at.reserve
     → IsIndexOf slots blocks at m
-index-filled m slots blocks at h listed ahead highest = record { listed = listed; ahead = ahead; reserve = reserve-is m slots blocks at.reserve h.rest listed highest }
+index-filled m slots blocks at h listed ahead highest =
+    let reserve = reserve-is m slots blocks at.reserve h.rest listed highest in
+    record { listed = listed; ahead = ahead; reserve = spare-block at.reserve m reserve; highest = reserve }

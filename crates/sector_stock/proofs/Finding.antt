@@ -1,4 +1,5 @@
 -- The slot that the index finds is the lowest-numbered free one of the memory.
+use Rattle.std.specs.Prelude.{IfSome}
 use Rattle.std.proofs.Common.{◌≡◌, ◌≢◌, ℕ, ◌+◌, ◌*◌, ◌<◌, List, refl, sym, ap, ◌∙◌, subst, arith, inl, inr, MatchOption, Option, Some, None}
 use Rattle.std.specs.Prelude.{◌/◌, ◌%◌}
 use Rattle.std.proofs.lemmas.Bool.{cases_lt}
@@ -9,9 +10,10 @@ use Rattle.sector_stock.specs.declared.index.BlockState.{BlockState}
 use Rattle.sector_stock.specs.declared.index.Cursors.{Cursors}
 use Rattle.sector_stock.specs.Index.{state_of, is_free_slot, in_block, in_slots, IsListed, IsIndexOf, IsLowestWithFree, HasNoFreeBut}
 use Rattle.sector_stock.specs.IndexSteps.{HasNoFreeState, IsFirstFreeState}
-use Rattle.sector_stock.specs.Room.{HasNoneFree}
+use Rattle.sector_stock.specs.Room.{HasNoneFree, IsSpareBlock}
 use Rattle.sector_slots.specs.Blocks.{IsReserveOf}
-use Rattle.sector_stock.specs.Takes.{IsLowestFree}
+use Rattle.sector_stock.specs.Takes.{IsLowestFree, IsGivable}
+use Rattle.sector_stock.proofs.RoomLaws.{spare-block}
 use Rattle.sector_stock.proofs.Tallies.{tally-some, tally-none, free-is, not-both}
 
 state-free : (x : Slot) → state_of x ≡ states.Free → x ≡ Free
@@ -59,7 +61,7 @@ found-free (Some w) b m slots blocks at index low h =
       number = number;
       free = state-free (slot_at m w) (sym (index.listed.each_slot w number) ∙ h.free);
       reserve = at.reserve;
-      is_reserve = index.reserve;
+      is_reserve = index.highest;
       outside = λ e. low.1 (sym block ∙ sym e);
       lowest = λ s below other. elim (cases_lt (s / 7) b) as (λ _. slot_at m s ≢ Free) [
         | inl under ↦ none-in m slots blocks s index.listed (omega (arith, below, number)) (low.3 (s / 7) under other)
@@ -70,6 +72,14 @@ found-free (Some w) b m slots blocks at index low h =
       ];
     }
 
--- where none is free for the reserve, none is whichever block is called so
-pub none-free-of : (r q : ℕ) (m : List ℕ) → IsReserveOf q m → IsReserveOf r m → HasNoneFree q m → HasNoneFree r m
-none-free-of r q m a b none = subst (λ k. HasNoneFree k m) (reserve-one q r m a b) none
+-- the lowest-numbered one is one, whatever the policy
+pub givable : (w : ℕ) (m : List ℕ) → IsLowestFree w m → IsGivable w m
+givable w m h = record { number = h.number; free = h.free; reserve = h.reserve; is_spare = spare-block h.reserve m h.is_reserve; apart = h.outside }
+
+pub any-free : (o : Option ℕ) (r : ℕ) (m : List ℕ) → MatchOption o (HasNoneFree r m) (λ w. IsLowestFree w m) → MatchOption o (HasNoneFree r m) (λ w. IsGivable w m)
+any-free None r m h = h
+any-free (Some w) r m h = givable w m h
+
+pub only-some : (o : Option ℕ) (r : ℕ) (m : List ℕ) → MatchOption o (HasNoneFree r m) (λ w. IsLowestFree w m) → IfSome o (λ w. IsLowestFree w m)
+only-some None r m h = tt
+only-some (Some w) r m h = h

@@ -10,7 +10,7 @@ use Rattle.sector_slots.proofs.CopyLaws.{how_many-suc, how_many-same}
 use Rattle.sector_stock.specs.declared.index.SlotState.{SlotState}
 use Rattle.sector_stock.specs.declared.index.SlotState.TheVariants as states
 use Rattle.sector_stock.specs.declared.index.BlockState.{BlockState}
-use Rattle.sector_stock.specs.Index.{state_of, is_free_slot, is_dead, is_plain, tally, Tallies, in_block, IsListed, Marked, one_dead_more, one_free_fewer}
+use Rattle.sector_stock.specs.Index.{state_of, is_free_slot, is_dead, is_plain, is_live_group, tally, Tallies, in_block, IsListed, Marked, one_dead_more, one_free_fewer}
 
 -- one place changes
 how_many-change : (p q : ℕ → Bool) (n i : ℕ) → i < n → ((k : ℕ) → k < n → k ≢ i → q k ≡ p k)
@@ -55,6 +55,7 @@ listed-one w n f f' kind kind' slots slots' blocks blocks' state b low only kind
               free = old.free ∙ sym (tally-other is_free_slot f f' n w c only high ne);
               dead = old.dead ∙ sym (tally-other is_dead f f' n w c only high ne);
               plain = old.plain ∙ sym (ap is_plain (kinds c high));
+              group = old.group ∙ sym (ap is_live_group (kinds c high));
             })
       ];
     }
@@ -76,6 +77,7 @@ listed-dead w n f f' kind kind' slots slots' blocks blocks' low only kinds live 
       free = old.free ∙ omega (arith, cf);
       dead = ap (λ k. k + 1) old.dead ∙ omega (arith, cd);
       plain = old.plain ∙ sym (ap is_plain (kinds (w / 7) (omega arith)));
+      group = old.group ∙ sym (ap is_live_group (kinds (w / 7) (omega arith)));
     }) h
 
 -- a free slot became live
@@ -95,4 +97,5 @@ listed-live w n f f' kind kind' slots slots' blocks blocks' low only kinds free 
       free = ap (λ k. k - 1) old.free ∙ omega (arith, cf);
       dead = old.dead ∙ omega (arith, cd);
       plain = old.plain ∙ sym (ap is_plain (kinds (w / 7) (omega arith)));
+      group = old.group ∙ sym (ap is_live_group (kinds (w / 7) (omega arith)));
     }) h

@@ -9,3 +9,4 @@ pub mod Moved
 pub mod Finding
 pub mod Writing
 pub mod Filling
+pub mod Converting

@@ -8,21 +8,22 @@ use Rattle.nor_layout.specs.declared.header.Generation.{Generation}
 use Rattle.nor_layout.specs.declared.header.Tag.{Tag}
 use Rattle.nor_layout.specs.declared.kind.Kind.{Kind}
 use Rattle.nor_layout.specs.declared.kind.Kind.TheVariants as kinds
-use Rattle.sector_slots.specs.Slots.{Slot, Free, Live, NoGeneration, Dead, Outside, slot_at, slot_count, data_blocks, kind_at, raw_slot, is_void, IsSpareIn}
+use Rattle.sector_slots.specs.Slots.{Slot, Free, Live, NoGeneration, Dead, Outside, slot_at, slot_count, data_blocks, data_block, kind_at, raw_slot, is_group, is_void, IsSpareIn}
 use Rattle.sector_slots.specs.Blocks.{AreAtRest, AreSettled, settled, IsReserveOf}
-use Rattle.sector_slots.specs.Copying.{HoldsNothing, copy_slot}
+use Rattle.sector_slots.specs.Copying.{HoldsNothing, copy_slot, copied_tag, to_copy}
+use Rattle.sector_slots.proofs.GroupLaws.{group-slot, apart-single}
 use Rattle.sector_slots.proofs.CopyLaws.{at-rest-copies, at-rest-counts, copies-none, counted-in, shifted-there, shifted-else, quiet-live, IsWhole}
 use Rattle.sector_slots.specs.Copying.{shifted}
 use Rattle.sector_slots.specs.Sectors.{LiveAt, IsSoundMap}
 use Rattle.sector_stock.specs.declared.index.SlotState.{SlotState}
 use Rattle.sector_stock.specs.declared.index.BlockState.{BlockState}
 use Rattle.sector_stock.specs.declared.index.Cursors.{Cursors}
-use Rattle.sector_stock.specs.Index.{state_of, is_free_slot, is_dead, is_plain, tally, Tallies, in_block, in_slots, IsListed, IsIndexOf, copied_state, Shifted, BlocksMoved, IsHighestWhole, IsWholeBlock, IsAhead, IsMostDead, HasNoDead}
-use Rattle.sector_stock.specs.Room.{HasRoom, HasNoneDead, HasNoneFree}
-use Rattle.sector_stock.proofs.RoomLaws.{settled-inside}
+use Rattle.sector_stock.specs.Index.{state_of, is_free_slot, is_dead, is_plain, is_live_group, tally, Tallies, in_block, in_slots, IsListed, IsIndexOf, copied_state, Shifted, BlocksMoved, IsHighestWhole, IsWholeBlock, IsAhead, IsMostDead, HasNoDead}
+use Rattle.sector_stock.specs.Room.{HasRoom, HasNoneDead, HasNoneFree, IsSpareBlock}
+use Rattle.sector_stock.proofs.RoomLaws.{settled-inside, spare-block}
 use Rattle.sector_stock.specs.Copy.{bare, IsCopiedWhole, IsCopyable, Copies}
-use Rattle.sector_stock.proofs.Tags.{bare-live}
-use Rattle.sector_stock.specs.Takes.{HasMostDead, CopiesInto, dead_slots}
+use Rattle.sector_stock.proofs.Tags.{bare-live, same-tag, to_copy-same}
+use Rattle.sector_stock.specs.Takes.{HasDead, HasMostDead, MakesNoGroup, CopiesInto, dead_slots}
 use Rattle.sector_stock.proofs.Tallies.{free-is, dead-is, tally-some, tally-none, tally-fails, tally-all, tally-full, tally-same, tally-both, how_many-sum, how_many-less, not-both}
 
 -- where no copying goes on each slot counts
@@ -36,16 +37,16 @@ rest-slot m c i rest low small =
     ∙ (ap (λ d. raw_slot m d (w % 7)) block ∙ ap (λ j. raw_slot m c j) place)
 
 -- the slots of n blocks, once block s was copied into block t
-pub record SlotsMoved (s t n : ℕ) (f f' : ℕ → Slot) : Type 0 where
-  pub target : (i : ℕ) → i < 7 → bare (f' (7 * t + i)) ≡ copy_slot (bare (f (7 * s + i)))
+pub record SlotsMoved (k : Kind) (s t n : ℕ) (f f' : ℕ → Slot) : Type 0 where
+  pub target : (i : ℕ) → i < 7 → bare (f' (7 * t + i)) ≡ copy_slot (bare (to_copy k (f (7 * s + i))))
   pub source : (i : ℕ) → i < 7 → f' (7 * s + i) ≡ Free
   pub others : (w : ℕ) → w < 7 * n → w / 7 ≢ s → w / 7 ≢ t → f' w ≡ f w
 
-pub moved-slots : (s t : ℕ) (m m' : List ℕ) → AreAtRest (kind_at m) (data_blocks m) → AreAtRest (kind_at m') (data_blocks m') → s < data_blocks m → t < data_blocks m → IsCopiedWhole s t m m' → SlotsMoved s t (data_blocks m) (slot_at m) (slot_at m')
+pub moved-slots : (s t : ℕ) (m m' : List ℕ) → AreAtRest (kind_at m) (data_blocks m) → AreAtRest (kind_at m') (data_blocks m') → s < data_blocks m → t < data_blocks m → IsCopiedWhole s t m m' → SlotsMoved (kind_at m s) s t (data_blocks m) (slot_at m) (slot_at m')
 moved-slots s t m m' rest rest' ls lt h =
     let n : data_blocks m' ≡ data_blocks m = ap (λ k. block_count k - 4) h.same_length in
     record {
-      target = λ i low. ap bare (rest-slot m' t i rest' (omega (arith, n, lt)) low) ∙ (h.copied i low ∙ ap (λ a. copy_slot (bare a)) (sym (rest-slot m s i rest ls low)));
+      target = λ i low. ap bare (rest-slot m' t i rest' (omega (arith, n, lt)) low) ∙ (h.copied i low ∙ ap (λ a. copy_slot (bare (to_copy (kind_at m s) a))) (sym (rest-slot m s i rest ls low)));
       source = λ i low. rest-slot m' s i rest' (omega (arith, n, ls)) low ∙ h.erased.free i low;
       others = λ w low ns nt.
           let c = w / 7 in
@@ -93,19 +94,19 @@ bare-is_free Dead e = absurd (subst (λ a. IsOpen a) (sym e) tt)
 bare-is_free Outside e = absurd (subst (λ a. IsOpen a) (sym e) tt)
 
 -- a slot and its copy
-state-copy : (x y : Slot) → x ≢ NoGeneration → x ≢ Outside → bare y ≡ copy_slot (bare x) → copied_state (state_of x) ≡ state_of y
-state-copy Free y a b e = sym (bare-state y ∙ ap state_of e)
-state-copy (Live tag z) y a b e = sym (bare-state y ∙ ap state_of e)
-state-copy NoGeneration y a b e = absurd (a refl)
-state-copy Dead y a b e = sym (bare-state y ∙ ap state_of e)
-state-copy Outside y a b e = absurd (b refl)
+state-copy : (k : Kind) (x y : Slot) → x ≢ NoGeneration → x ≢ Outside → bare y ≡ copy_slot (bare (to_copy k x)) → copied_state (state_of x) ≡ state_of y
+state-copy k Free y a b e = sym (bare-state y ∙ ap state_of e)
+state-copy k (Live tag z) y a b e = sym (bare-state y ∙ ap state_of e)
+state-copy k NoGeneration y a b e = absurd (a refl)
+state-copy k Dead y a b e = sym (bare-state y ∙ ap state_of e)
+state-copy k Outside y a b e = absurd (b refl)
 
-free-copy : (x : Slot) → x ≢ NoGeneration → x ≢ Outside → (if is_free_slot (copy_slot (bare x)) then 1 else 0) ≡ (if is_free_slot x then 1 else 0) + (if is_dead x then 1 else 0)
-free-copy Free a b = omega arith
-free-copy (Live tag y) a b = omega arith
-free-copy NoGeneration a b = absurd (a refl)
-free-copy Dead a b = omega arith
-free-copy Outside a b = absurd (b refl)
+free-copy : (k : Kind) (x : Slot) → x ≢ NoGeneration → x ≢ Outside → (if is_free_slot (copy_slot (bare (to_copy k x))) then 1 else 0) ≡ (if is_free_slot x then 1 else 0) + (if is_dead x then 1 else 0)
+free-copy k Free a b = omega arith
+free-copy k (Live tag y) a b = omega arith
+free-copy k NoGeneration a b = absurd (a refl)
+free-copy k Dead a b = omega arith
+free-copy k Outside a b = absurd (b refl)
 
 none-dead : (x : Slot) → is_dead (copy_slot x) ≡ false
 none-dead Free = refl
@@ -114,19 +115,19 @@ none-dead NoGeneration = refl
 none-dead Dead = refl
 none-dead Outside = refl
 
-dead-copy : (x y : Slot) → bare y ≡ copy_slot (bare x) → is_dead y ≡ false
+pub dead-copy : (x y : Slot) → bare y ≡ copy_slot (bare x) → is_dead y ≡ false
 dead-copy x y e = bare-dead y ∙ (ap is_dead e ∙ none-dead (bare x))
 
 -- the tallies of the two blocks
-target-free : (s t n : ℕ) (f f' : ℕ → Slot) → SlotsMoved s t n f f' → s < n → ((w : ℕ) → w < 7 * n → f w ≢ NoGeneration) → ((w : ℕ) → w < 7 * n → f w ≢ Outside) → tally is_free_slot f' t ≡ tally is_free_slot f s + tally is_dead f s
+target-free : (k : Kind) (s t n : ℕ) (f f' : ℕ → Slot) → SlotsMoved k s t n f f' → s < n → ((w : ℕ) → w < 7 * n → f w ≢ NoGeneration) → ((w : ℕ) → w < 7 * n → f w ≢ Outside) → tally is_free_slot f' t ≡ tally is_free_slot f s + tally is_dead f s
 unfolding tally
-target-free s t n f f' h low whole inside = how_many-sum (λ i. is_free_slot (f (7 * s + i))) (λ i. is_dead (f (7 * s + i))) (λ i. is_free_slot (f' (7 * t + i))) 7
-    (λ i small. ap (λ b. if b then 1 else 0) (bare-free (f' (7 * t + i)) ∙ ap is_free_slot (h.target i small)) ∙ free-copy (f (7 * s + i)) (whole (7 * s + i) (omega (arith, low, small))) (inside (7 * s + i) (omega (arith, low, small))))
+target-free k s t n f f' h low whole inside = how_many-sum (λ i. is_free_slot (f (7 * s + i))) (λ i. is_dead (f (7 * s + i))) (λ i. is_free_slot (f' (7 * t + i))) 7
+    (λ i small. ap (λ b. if b then 1 else 0) (bare-free (f' (7 * t + i)) ∙ ap is_free_slot (h.target i small)) ∙ free-copy k (f (7 * s + i)) (whole (7 * s + i) (omega (arith, low, small))) (inside (7 * s + i) (omega (arith, low, small))))
 
-pub listed-moved : (s t n : ℕ) (f f' : ℕ → Slot) (kind kind' : ℕ → Kind) (slots slots' : List SlotState) (blocks blocks' : List BlockState) → s < n → t < n → SlotsMoved s t n f f'
+pub listed-moved : (k : Kind) (s t n : ℕ) (f f' : ℕ → Slot) (kind kind' : ℕ → Kind) (slots slots' : List SlotState) (blocks blocks' : List BlockState) → s < n → t < n → SlotsMoved k s t n f f'
     → ((w : ℕ) → w < 7 * n → f w ≢ NoGeneration) → ((w : ℕ) → w < 7 * n → f w ≢ Outside) → ((d : ℕ) → d < n → d ≢ s → d ≢ t → kind' d ≡ kind d) → kind' s ≡ kinds.Plain → kind' t ≡ kinds.Settled
     → Shifted 7 s t slots slots' → BlocksMoved s t blocks blocks' → IsListed slots blocks f kind n → IsListed slots' blocks' f' kind' n
-listed-moved s t n f f' kind kind' slots slots' blocks blocks' ls lt h whole inside same plain settled-now shift moved listed =
+listed-moved k s t n f f' kind kind' slots slots' blocks blocks' ls lt h whole inside same plain settled-now shift moved listed =
     let ss = listed.slot_size in
     let bs = listed.block_size in
     record {
@@ -141,7 +142,7 @@ listed-moved s t n f f' kind kind' slots slots' blocks blocks' ls lt h whole ins
                 let here : 7 * t + i ≡ w = omega (arith, e) in
                 let from : 7 * s + i < 7 * n = omega (arith, ls, small) in
                 subst (λ v. in_slots slots' v ≡ state_of (f' v)) here
-                (shift.target i small ∙ (ap copied_state (listed.each_slot (7 * s + i) from) ∙ state-copy (f (7 * s + i)) (f' (7 * t + i)) (whole (7 * s + i) from) (inside (7 * s + i) from) (h.target i small)))
+                (shift.target i small ∙ (ap copied_state (listed.each_slot (7 * s + i) from) ∙ state-copy k (f (7 * s + i)) (f' (7 * t + i)) (whole (7 * s + i) from) (inside (7 * s + i) from) (h.target i small)))
             | inr nt ↦ elim (cases_eq c s) as (λ _. in_slots slots' w ≡ state_of (f' w)) [
               | inl e ↦
                   let here : 7 * s + i ≡ w = omega (arith, e) in
@@ -154,17 +155,19 @@ listed-moved s t n f f' kind kind' slots slots' blocks blocks' ls lt h whole ins
             let old = listed.each_block s ls in
             let fs = old.free in
             let ds = old.dead in
-            let ft = target-free s t n f f' h ls whole inside in
+            let ft = target-free k s t n f f' h ls whole inside in
             subst (λ d. Tallies (in_block blocks' d) f' kind' d) (sym e) (subst (λ b. Tallies b f' kind' t) (sym moved.target) (record {
               free = omega (arith, fs, ds, ft);
-              dead = sym (tally-fails is_dead f' t (λ i small. dead-copy (f (7 * s + i)) (f' (7 * t + i)) (h.target i small)));
+              dead = sym (tally-fails is_dead f' t (λ i small. dead-copy (to_copy k (f (7 * s + i))) (f' (7 * t + i)) (h.target i small)));
               plain = sym (ap is_plain settled-now);
+              group = sym (ap is_live_group settled-now);
             }))
         | inr nt ↦ elim (cases_eq c s) as (λ _. Tallies (in_block blocks' c) f' kind' c) [
           | inl e ↦ subst (λ d. Tallies (in_block blocks' d) f' kind' d) (sym e) (subst (λ b. Tallies b f' kind' s) (sym moved.source) (record {
             free = sym (tally-all is_free_slot f' s (λ i small. ap is_free_slot (h.source i small)));
             dead = sym (tally-fails is_dead f' s (λ i small. ap is_dead (h.source i small)));
             plain = sym (ap is_plain plain);
+            group = sym (ap is_live_group plain);
           }))
           | inr ns ↦
               let old = listed.each_block c low in
@@ -173,6 +176,7 @@ listed-moved s t n f f' kind kind' slots slots' blocks blocks' ls lt h whole ins
                 free = old.free ∙ sym (tally-same is_free_slot f f' c each);
                 dead = old.dead ∙ sym (tally-same is_dead f f' c each);
                 plain = old.plain ∙ sym (ap is_plain (same c low ns nt));
+                group = old.group ∙ sym (ap is_live_group (same c low ns nt));
               })
         ]
       ];
@@ -184,6 +188,9 @@ plain-is kinds.Plain e = refl
 plain-is kinds.Void e = absurd (grind (arith, e))
 plain-is (kinds.Committed b) e = absurd (grind (arith, e))
 plain-is kinds.Settled e = absurd (grind (arith, e))
+plain-is (kinds.Group tag) e = absurd (grind (arith, e))
+plain-is kinds.DeadGroup e = absurd (grind (arith, e))
+plain-is kinds.SpoiltGroup e = absurd (grind (arith, e))
 plain-is kinds.Unknown e = absurd (grind (arith, e))
 
 pub whole-spare : (m : List ℕ) (slots : List SlotState) (blocks : List BlockState) (c : ℕ) → AreAtRest (kind_at m) (data_blocks m) → IsListed slots blocks (slot_at m) (kind_at m) (data_blocks m) → c < data_blocks m → IsWholeBlock (in_block blocks c) → IsSpareIn m c
@@ -217,10 +224,11 @@ index-moved s m m' slots slots' blocks blocks' at new room low exact settled-now
     let lt = index.reserve.number in
     let n : data_blocks m' ≡ data_blocks m = ap (λ k. block_count k - 4) exact.same_length in
     let f = moved-slots s t m m' room.blocks.rest settled-now.rest low lt exact in
-    let listed = listed-moved s t (data_blocks m) (slot_at m) (slot_at m') (kind_at m) (kind_at m') slots slots' blocks blocks' low lt f (λ w h. room.whole w h) (λ w h. settled-inside m room w h) exact.same_kind exact.erased.plain
+    let listed = listed-moved (kind_at m s) s t (data_blocks m) (slot_at m) (slot_at m') (kind_at m) (kind_at m') slots slots' blocks blocks' low lt f (λ w h. room.whole w h) (λ w h. settled-inside m room w h) exact.same_kind exact.erased.plain
     exact.settled shift moved index.listed in
     let here : IsListed slots' blocks' (slot_at m') (kind_at m') (data_blocks m') = subst (λ k. IsListed slots' blocks' (slot_at m') (kind_at m') k) (sym n) listed in
-    record { listed = here; ahead = ahead; reserve = reserve-is m' slots' blocks' new.reserve settled-now.rest here highest }
+    let reserve = reserve-is m' slots' blocks' new.reserve settled-now.rest here highest in
+    record { listed = here; ahead = ahead; reserve = spare-block new.reserve m' reserve; highest = reserve }
 
 -- What the copying needs, where the index says which block has dead slots.
 pub sound-of : (m : List ℕ) → HasRoom m → IsSoundMap m
@@ -232,6 +240,7 @@ sound-of m room = record {
     whole = room.whole;
   };
   blocks = settled room.blocks;
+  groups = record { sectors = apart-single (kind_at m) (slot_at m) (slot_count m) room.single; layout = room.layout };
 }
 
 -- a dead slot of block s: it isn't the reserve
@@ -254,6 +263,9 @@ most-dead-in s m slots blocks at index h =
       lowest = λ c below. let e = (index.listed.each_block c (omega (arith, below, here))).dead in let q = h.3 c below in omega (arith, q, e, own);
     }
 
+pub dead-in : (s : ℕ) (m : List ℕ) (slots : List SlotState) (blocks : List BlockState) (at : Cursors) → IsIndexOf slots blocks at m → IsMostDead blocks s → HasDead s m
+dead-in s m slots blocks at index h = let most = most-dead-in s m slots blocks at index h in record { number = most.number; some = most.some }
+
 pub none-dead-in : (m : List ℕ) (slots : List SlotState) (blocks : List BlockState) (at : Cursors) → IsIndexOf slots blocks at m → HasNoDead blocks → HasNoneDead m
 none-dead-in m slots blocks at index h w low e =
     let n = index.listed.block_size in
@@ -264,7 +276,7 @@ none-dead-in m slots blocks at index h w low e =
     let zero-dead = h c (omega (arith, low, n)) in
     not-both (is_dead (slot_at m (7 * c + i))) (ap (λ v. is_dead (slot_at m v)) here ∙ ap is_dead e) (tally-none is_dead (slot_at m) c i (sym tally-is ∙ zero-dead) (omega arith))
 
-pub copyable : (s t : ℕ) (m : List ℕ) → HasRoom m → IsReserveOf t m → HasMostDead s m → IsCopyable s t m
+pub copyable : (s t : ℕ) (m : List ℕ) → HasRoom m → IsSpareBlock t m → HasDead s m → IsCopyable s t m
 copyable s t m room reserve most =
     let d = tally-some is_dead (slot_at m) s most.some in
     record {
@@ -285,12 +297,12 @@ copied-live NoGeneration tag y e = absurd (quiet-live Free tag.number tag.genera
 copied-live Dead tag y e = absurd (quiet-live Free tag.number tag.generation y tt e)
 copied-live Outside tag y e = absurd (quiet-live Free tag.number tag.generation y tt e)
 
-copied-quiet : (x y : Slot) → HoldsNothing x → bare y ≡ copy_slot (bare x) → y ≡ Free
-copied-quiet Free y q e = bare-is_free y e
-copied-quiet (Live tag z) y q e = absurd q
-copied-quiet NoGeneration y q e = absurd q
-copied-quiet Dead y q e = bare-is_free y e
-copied-quiet Outside y q e = bare-is_free y e
+copied-quiet : (k : Kind) (x y : Slot) → HoldsNothing x → bare y ≡ copy_slot (bare (to_copy k x)) → y ≡ Free
+copied-quiet k Free y q e = bare-is_free y e
+copied-quiet k (Live tag z) y q e = absurd q
+copied-quiet k NoGeneration y q e = absurd q
+copied-quiet k Dead y q e = bare-is_free y e
+copied-quiet k Outside y q e = bare-is_free y e
 
 copied-whole : (x : Slot) → IsWhole (copy_slot x)
 copied-whole Free = tt
@@ -309,81 +321,103 @@ record TagsMoved (s t n : ℕ) (f f' : ℕ → Slot) : Type 0 where
   round : (w g : ℕ) (k : Generation) (x : List ℕ) → LiveAt f' n w g k x → shifted s t (shifted t s w) ≡ w
   whole : (w : ℕ) → w < n → f' w ≢ NoGeneration
 
-moves-of : (s t n : ℕ) (f f' : ℕ → Slot) → s < n → t < n → s ≢ t → SlotsMoved s t n f f' → ((i : ℕ) → i < 7 → f (7 * t + i) ≡ Free) → ((w : ℕ) → w < 7 * n → f w ≢ NoGeneration) → TagsMoved s t (7 * n) f f'
-moves-of s t n f f' ls lt other h free whole = record {
-  on = λ w g k x l.
-      let low = l.number in
-      let i = w % 7 in
-      let small : i < 7 = omega arith in
-      elim (cases_eq (w / 7) s) [
-        | inl e ↦
-            let here : 7 * s + i ≡ w = omega (arith, e) in
-            let was : f (7 * s + i) ≡ Live (record { number = g; generation = k }) x = ap f here ∙ l.is in
-            let p = bare-live (f' (7 * t + i)) (record { number = g; generation = k }) [] (h.target i small ∙ ap (λ a. copy_slot (bare a)) was) in
-            (p.0, subst (λ v. LiveAt f' (7 * n) v g k p.0) (sym (shifted-there s t w e)) (record { number = omega (arith, lt, small); is = p.1 }))
-        | inr ns ↦ elim (cases_eq (w / 7) t) [
-          | inl e ↦
-              let here : 7 * t + i ≡ w = omega (arith, e) in
-              absurd (free-live (f w) g k x (sym (ap f here) ∙ free i small) l.is)
-          | inr nt ↦ (x, subst (λ v. LiveAt f' (7 * n) v g k x) (sym (shifted-else s t w ns)) (record { number = low; is = h.others w low ns nt ∙ l.is }))
-        ]
-      ];
-  back = λ w g k x l.
-      let low = l.number in
-      let i = w % 7 in
-      let small : i < 7 = omega arith in
-      elim (cases_eq (w / 7) t) [
-        | inl e ↦
-            let here : 7 * t + i ≡ w = omega (arith, e) in
-            let is : copy_slot (bare (f (7 * s + i))) ≡ Live (record { number = g; generation = k }) [] = sym (h.target i small) ∙ ap bare (ap f' here ∙ l.is) in
-            let p = copied-live (f (7 * s + i)) (record { number = g; generation = k }) [] is in
-            (p.0, subst (λ v. LiveAt f (7 * n) v g k p.0) (sym (shifted-there t s w e)) (record { number = omega (arith, ls, small); is = p.1 }))
-        | inr nt ↦ elim (cases_eq (w / 7) s) [
-          | inl e ↦
-              let here : 7 * s + i ≡ w = omega (arith, e) in
-              absurd (free-live (f' w) g k x (sym (ap f' here) ∙ h.source i small) l.is)
-          | inr ns ↦ (x, subst (λ v. LiveAt f (7 * n) v g k x) (sym (shifted-else t s w nt)) (record { number = low; is = sym (h.others w low ns nt) ∙ l.is }))
-        ]
-      ];
-  round = λ w g k x l.
-      let i = w % 7 in
-      let small : i < 7 = omega arith in
-      elim (cases_eq (w / 7) t) [
-        | inl e ↦
-            let v = 7 * s + w % 7 in
-            let block : v / 7 ≡ s = omega arith in
-            let back : 7 * t + v % 7 ≡ w = omega (arith, e) in
-            ap (λ a. shifted s t a) (shifted-there t s w e) ∙ (shifted-there s t v block ∙ back)
-        | inr nt ↦ elim (cases_eq (w / 7) s) [
-          | inl e ↦
-              let here : 7 * s + i ≡ w = omega (arith, e) in
-              absurd (free-live (f' w) g k x (sym (ap f' here) ∙ h.source i small) l.is)
-          | inr ns ↦ ap (λ a. shifted s t a) (shifted-else t s w nt) ∙ shifted-else s t w ns
-        ]
-      ];
-  whole = λ w low none.
-      let i = w % 7 in
-      let small : i < 7 = omega arith in
-      elim (cases_eq (w / 7) t) [
-        | inl e ↦
-            let here : 7 * t + i ≡ w = omega (arith, e) in
-            subst (λ a. IsWhole a) (sym (h.target i small) ∙ ap bare (ap f' here ∙ none)) (copied-whole (bare (f (7 * s + i))))
-        | inr nt ↦ elim (cases_eq (w / 7) s) [
-          | inl e ↦
-              let here : 7 * s + i ≡ w = omega (arith, e) in
-              subst (λ a. IsWhole a) (sym (h.source i small) ∙ (ap f' here ∙ none)) tt
-          | inr ns ↦ whole w low (sym (h.others w low ns nt) ∙ none)
-        ]
-      ];
-}
+moves-of : (kind : Kind) (s t n : ℕ) (f f' : ℕ → Slot) → s < n → t < n → s ≢ t → ((tag : Tag) → copied_tag kind tag ≡ tag) → SlotsMoved kind s t n f f' → ((i : ℕ) → i < 7 → f (7 * t + i) ≡ Free) → ((w : ℕ) → w < 7 * n → f w ≢ NoGeneration) → TagsMoved s t (7 * n) f f'
+moves-of kind s t n f f' ls lt other same h free whole =
+    let plain : (i : ℕ) → i < 7 → bare (f' (7 * t + i)) ≡ copy_slot (bare (f (7 * s + i))) = λ i low. h.target i low ∙ ap (λ a. copy_slot (bare a)) (to_copy-same kind same (f (7 * s + i))) in
+    record {
+      on = λ w g k x l.
+          let low = l.number in
+          let i = w % 7 in
+          let small : i < 7 = omega arith in
+          elim (cases_eq (w / 7) s) [
+            | inl e ↦
+                let here : 7 * s + i ≡ w = omega (arith, e) in
+                let was : f (7 * s + i) ≡ Live (record { number = g; generation = k }) x = ap f here ∙ l.is in
+                let p = bare-live (f' (7 * t + i)) (record { number = g; generation = k }) [] (plain i small ∙ ap (λ a. copy_slot (bare a)) was) in
+                (p.0, subst (λ v. LiveAt f' (7 * n) v g k p.0) (sym (shifted-there s t w e)) (record { number = omega (arith, lt, small); is = p.1 }))
+            | inr ns ↦ elim (cases_eq (w / 7) t) [
+              | inl e ↦
+                  let here : 7 * t + i ≡ w = omega (arith, e) in
+                  absurd (free-live (f w) g k x (sym (ap f here) ∙ free i small) l.is)
+              | inr nt ↦ (x, subst (λ v. LiveAt f' (7 * n) v g k x) (sym (shifted-else s t w ns)) (record { number = low; is = h.others w low ns nt ∙ l.is }))
+            ]
+          ];
+      back = λ w g k x l.
+          let low = l.number in
+          let i = w % 7 in
+          let small : i < 7 = omega arith in
+          elim (cases_eq (w / 7) t) [
+            | inl e ↦
+                let here : 7 * t + i ≡ w = omega (arith, e) in
+                let is : copy_slot (bare (f (7 * s + i))) ≡ Live (record { number = g; generation = k }) [] = sym (plain i small) ∙ ap bare (ap f' here ∙ l.is) in
+                let p = copied-live (f (7 * s + i)) (record { number = g; generation = k }) [] is in
+                (p.0, subst (λ v. LiveAt f (7 * n) v g k p.0) (sym (shifted-there t s w e)) (record { number = omega (arith, ls, small); is = p.1 }))
+            | inr nt ↦ elim (cases_eq (w / 7) s) [
+              | inl e ↦
+                  let here : 7 * s + i ≡ w = omega (arith, e) in
+                  absurd (free-live (f' w) g k x (sym (ap f' here) ∙ h.source i small) l.is)
+              | inr ns ↦ (x, subst (λ v. LiveAt f (7 * n) v g k x) (sym (shifted-else t s w nt)) (record { number = low; is = sym (h.others w low ns nt) ∙ l.is }))
+            ]
+          ];
+      round = λ w g k x l.
+          let i = w % 7 in
+          let small : i < 7 = omega arith in
+          elim (cases_eq (w / 7) t) [
+            | inl e ↦
+                let v = 7 * s + w % 7 in
+                let block : v / 7 ≡ s = omega arith in
+                let back : 7 * t + v % 7 ≡ w = omega (arith, e) in
+                ap (λ a. shifted s t a) (shifted-there t s w e) ∙ (shifted-there s t v block ∙ back)
+            | inr nt ↦ elim (cases_eq (w / 7) s) [
+              | inl e ↦
+                  let here : 7 * s + i ≡ w = omega (arith, e) in
+                  absurd (free-live (f' w) g k x (sym (ap f' here) ∙ h.source i small) l.is)
+              | inr ns ↦ ap (λ a. shifted s t a) (shifted-else t s w nt) ∙ shifted-else s t w ns
+            ]
+          ];
+      whole = λ w low none.
+          let i = w % 7 in
+          let small : i < 7 = omega arith in
+          elim (cases_eq (w / 7) t) [
+            | inl e ↦
+                let here : 7 * t + i ≡ w = omega (arith, e) in
+                subst (λ a. IsWhole a) (sym (plain i small) ∙ ap bare (ap f' here ∙ none)) (copied-whole (bare (f (7 * s + i))))
+            | inr nt ↦ elim (cases_eq (w / 7) s) [
+              | inl e ↦
+                  let here : 7 * s + i ≡ w = omega (arith, e) in
+                  subst (λ a. IsWhole a) (sym (h.source i small) ∙ (ap f' here ∙ none)) tt
+              | inr ns ↦ whole w low (sym (h.others w low ns nt) ∙ none)
+            ]
+          ];
+    }
 
-pub copies-into : (s t : ℕ) (m m' : List ℕ) → HasRoom m → HasMostDead s m → IsReserveOf t m → s ≢ t → Copies s t m m' → CopiesInto s t m m'
+-- a block with a dead slot isn't live with a group
+live-not_dead : (x : Slot) (tag : Tag) (y : List ℕ) → x ≡ Live tag y → is_dead x ≡ false
+live-not_dead x tag y e = ap is_dead e
+
+dead-no_group : (s : ℕ) (m : List ℕ) → AreAtRest (kind_at m) (data_blocks m) → HasDead s m → (g : Tag) → kind_at m s ≢ kinds.Group g
+dead-no_group s m rest most g e =
+    let d = tally-some is_dead (slot_at m) s most.some in
+    let slot = rest-slot m s d.0 rest most.number d.1.0 ∙ group-slot (data_block m s) d.0 g e in
+    not-both (is_dead (slot_at m (7 * s + d.0))) d.1.1 (ap is_dead slot)
+
+-- a copying makes no block one of a group
+pub whole-groups : (s t : ℕ) (m m' : List ℕ) → IsCopiedWhole s t m m' → MakesNoGroup m m'
+whole-groups s t m m' c d low none = elim (cases_eq d t) as (λ _. is_group (kind_at m' d) ≡ false) [
+  | inl e ↦ ap (λ a. is_group (kind_at m' a)) e ∙ ap is_group c.settled
+  | inr nt ↦ elim (cases_eq d s) as (λ _. is_group (kind_at m' d) ≡ false) [
+    | inl e ↦ ap (λ a. is_group (kind_at m' a)) e ∙ ap is_group c.erased.plain
+    | inr ns ↦ ap is_group (c.same_kind d low ns nt) ∙ none
+  ]
+]
+
+pub copies-into : (s t : ℕ) (m m' : List ℕ) → HasRoom m → HasDead s m → IsSpareBlock t m → s ≢ t → Copies s t m m' → CopiesInto s t m m'
 copies-into s t m m' room most reserve other h =
     let ls = most.number in
     let lt = reserve.number in
     let rest = room.blocks.rest in
     let slots = moved-slots s t m m' rest h.blocks.rest ls lt h.slots in
-    let moves = moves-of s t (data_blocks m) (slot_at m) (slot_at m') ls lt other slots (λ i small. rest-slot m t i rest lt small ∙ reserve.spare.free i small) room.whole in
+    let moves = moves-of (kind_at m s) s t (data_blocks m) (slot_at m) (slot_at m') ls lt other (same-tag (kind_at m s) (dead-no_group s m rest most)) slots (λ i small. rest-slot m t i rest lt small ∙ reserve.spare.free i small) room.whole in
     record {
       source = most;
       target = reserve;
@@ -394,6 +428,7 @@ copies-into s t m m' room most reserve other h =
         round = moves.round;
         whole = moves.whole;
         blocks = h.blocks;
+        groups = whole-groups s t m m' h.slots;
         sectors = h.sectors;
         clean = h.clean;
       };
@@ -401,7 +436,7 @@ copies-into s t m m' room most reserve other h =
     }
 
 -- after a copy of a block with a dead slot one of the copy's is free
-pub free-after : (s t r : ℕ) (m m' : List ℕ) → HasRoom m → HasMostDead s m → IsReserveOf t m → t ≢ r → Copies s t m m' → HasNoneFree r m' → ⊥
+pub free-after : (s t r : ℕ) (m m' : List ℕ) → HasRoom m → HasDead s m → IsSpareBlock t m → t ≢ r → Copies s t m m' → HasNoneFree r m' → ⊥
 free-after s t r m m' room most reserve other h none =
     let ls = most.number in
     let lt = reserve.number in
@@ -410,10 +445,10 @@ free-after s t r m m' room most reserve other h none =
     let d = tally-some is_dead (slot_at m) s most.some in
     let small = d.1.0 in
     let quiet = subst (λ a. HoldsNothing a) (sym (dead-is (slot_at m (7 * s + d.0)) d.1.1)) tt in
-    none (7 * t + d.0) (omega (arith, lt, small, n)) (λ e. other (omega (arith, e, small))) (copied-quiet (slot_at m (7 * s + d.0)) (slot_at m' (7 * t + d.0)) quiet (slots.target d.0 small))
+    none (7 * t + d.0) (omega (arith, lt, small, n)) (λ e. other (omega (arith, e, small))) (copied-quiet (kind_at m s) (slot_at m (7 * s + d.0)) (slot_at m' (7 * t + d.0)) quiet (slots.target d.0 small))
 
 -- and fewer slots are dead
-pub dead-falls : (s t : ℕ) (m m' : List ℕ) → HasRoom m → AreSettled m' → HasMostDead s m → IsReserveOf t m → IsCopiedWhole s t m m' → dead_slots m' < dead_slots m
+pub dead-falls : (s t : ℕ) (m m' : List ℕ) → HasRoom m → AreSettled m' → HasDead s m → IsSpareBlock t m → IsCopiedWhole s t m m' → dead_slots m' < dead_slots m
 dead-falls s t m m' room settled-now most reserve exact =
     let ls = most.number in
     let n : data_blocks m' ≡ data_blocks m = ap (λ k. block_count k - 4) exact.same_length in
@@ -428,7 +463,7 @@ dead-falls s t m m' room settled-now most reserve exact =
     elim (cases_eq (w / 7) t) as (λ _. is_dead (slot_at m w) ≡ true) [
       | inl e ↦
           let here : 7 * t + i ≡ w = omega (arith, e) in
-          absurd (not-both (is_dead (slot_at m' w)) dead (ap (λ v. is_dead (slot_at m' v)) (sym here) ∙ dead-copy (slot_at m (7 * s + i)) (slot_at m' (7 * t + i)) (h.target i tiny)))
+          absurd (not-both (is_dead (slot_at m' w)) dead (ap (λ v. is_dead (slot_at m' v)) (sym here) ∙ dead-copy (to_copy (kind_at m s) (slot_at m (7 * s + i))) (slot_at m' (7 * t + i)) (h.target i tiny)))
       | inr nt ↦ elim (cases_eq (w / 7) s) as (λ _. is_dead (slot_at m w) ≡ true) [
         | inl e ↦
             let here : 7 * s + i ≡ w = omega (arith, e) in
@@ -440,7 +475,7 @@ dead-falls s t m m' room settled-now most reserve exact =
 
 -- where the index is that of the memory
 pub copyable-now : (s : ℕ) (m : List ℕ) (slots : List SlotState) (blocks : List BlockState) (at : Cursors) → HasRoom m → IsIndexOf slots blocks at m → IsMostDead blocks s → IsCopyable s at.reserve m
-copyable-now s m slots blocks at room index most = copyable s at.reserve m room index.reserve (most-dead-in s m slots blocks at index most)
+copyable-now s m slots blocks at room index most = copyable s at.reserve m room index.reserve (dead-in s m slots blocks at index most)
 
 pub numbers-in : (c : ℕ) (m : List ℕ) (slots : List SlotState) (blocks : List BlockState) (at : Cursors) → IsIndexOf slots blocks at m → c < length blocks → (in_block blocks c).free + (in_block blocks c).dead ≤ 7
 numbers-in c m slots blocks at index low =

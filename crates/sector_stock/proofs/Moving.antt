@@ -55,11 +55,10 @@ dead-moved s t blocks blocks' c moved low = elim (cases_eq c s) as (λ _. ((in_b
   ]
 ]
 
-pub ahead-moved : (s : ℕ) (blocks blocks' : List BlockState) (at mid new : Cursors) → s < length blocks → 0 < (in_block blocks s).dead → IsAhead blocks at → BlocksMoved s at.reserve blocks blocks' → NextReserve blocks' at mid
+pub ahead-moved : (s : ℕ) (blocks blocks' : List BlockState) (at mid new : Cursors) → IsAhead blocks at → BlocksMoved s at.reserve blocks blocks' → NextReserve blocks' at mid
     → IsLooking s at.reserve (length blocks') at new → new.reserve ≡ mid.reserve → new.spares ≡ mid.spares → new.most ≡ at.most → new.from ≡ at.from → IsAhead blocks' new
-ahead-moved s blocks blocks' at mid new low some ahead moved next look er es em ef =
+ahead-moved s blocks blocks' at mid new ahead moved next look er es em ef =
     let n = moved.size in
-    let top = ahead.most s low in
     record {
       cursor = λ c l h other. none-passed s blocks blocks' at new c ahead moved look l (inl h) other;
       beyond = λ c l h other. none-passed s blocks blocks' at new c ahead moved look l (inr h) other;
@@ -70,7 +69,7 @@ ahead-moved s blocks blocks' at mid new low some ahead moved next look er es em 
         | inr e ↦ let p = ahead.most c (omega (arith, l, n)) in omega (arith, e, p, em)
       ];
       from = λ c l h. elim (dead-moved s at.reserve blocks blocks' c moved (omega (arith, l, n))) as (λ _. (in_block blocks' c).dead ≢ new.most) [
-        | inl z ↦ λ e. omega (arith, e, z, em, top, some)
+        | inl z ↦ λ e. (let top = ahead.most c (omega (arith, l, n)) in ahead.from c (omega (arith, l, n)) (omega (arith, h, ef)) (omega (arith, e, z, em, top)))
         | inr e ↦ λ q. ahead.from c (omega (arith, l, n)) (omega (arith, h, ef)) (sym e ∙ (q ∙ em))
       ];
     }

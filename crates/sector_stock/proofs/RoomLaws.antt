@@ -10,8 +10,11 @@ use Rattle.sector_slots.specs.Slots.{Slot, Free, Live, NoGeneration, Dead, Outsi
 use Rattle.sector_slots.specs.Sectors.{LiveAt, IsSoundMap, IsAtRestMap}
 use Rattle.sector_slots.proofs.CopyLaws.{at-rest-copies, at-rest-counts, copies-none, counted-in}
 use Rattle.sector_slots.proofs.SectorLaws.{number_in}
-use Rattle.sector_stock.specs.Room.{HasRoom, HasNoneFree, HasNoneDead}
 use Rattle.sector_slots.specs.Blocks.{IsReserveOf}
+use Rattle.sector_stock.specs.Room.{HasRoom, HasNoneFree, HasNoneDead, IsSpareBlock}
+
+pub spare-block : (r : ℕ) (m : List ℕ) → IsReserveOf r m → IsSpareBlock r m
+spare-block r m h = record { number = h.number; spare = h.spare }
 
 -- numbers below k at the places below n, no two the same
 record Apart (n k : ℕ) (g : ℕ → ℕ) : Type 0 where
@@ -129,7 +132,7 @@ live-number m v room low free dead =
     let number : l.0 ≡ number_in (slot_at m v) = sym (ap number_in l.1.1.1) in
     (l.1.0, (l.1.1.0, subst (λ g. LiveAt (slot_at m) (slot_count m) v g l.1.0 l.1.1.0) number (record { number = low; is = l.1.1.1 })))
 
-apart-sectors : (r : ℕ) (m : List ℕ) → HasRoom m → IsReserveOf r m → HasNoneFree r m → HasNoneDead m → Apart (slot_count m - 7) (sector_count (length m)) (λ s. number_in (slot_at m (past r s)))
+apart-sectors : (r : ℕ) (m : List ℕ) → HasRoom m → IsSpareBlock r m → HasNoneFree r m → HasNoneDead m → Apart (slot_count m - 7) (sector_count (length m)) (λ s. number_in (slot_at m (past r s)))
 apart-sectors r m room reserve free dead = record {
   below = λ s low.
       let p = past-is r (data_blocks m) s reserve.number low in
@@ -148,11 +151,11 @@ apart-sectors r m room reserve free dead = record {
 pub outnumber : (m : List ℕ) → IsChipSize (length m) → sector_count (length m) + 7 ≤ slot_count m - 7
 outnumber m size = let least = size.least in omega arith
 
-pub never-full : (r : ℕ) (m : List ℕ) → IsChipSize (length m) → HasRoom m → IsReserveOf r m → HasNoneFree r m → HasNoneDead m → ⊥
+pub never-full : (r : ℕ) (m : List ℕ) → IsChipSize (length m) → HasRoom m → IsSpareBlock r m → HasNoneFree r m → HasNoneDead m → ⊥
 never-full r m size room reserve free dead =
     let few = pigeonhole (slot_count m - 7) (sector_count (length m)) (λ s. number_in (slot_at m (past r s))) (apart-sectors r m room reserve free dead) in
     let more = outnumber m size in
     omega (arith, few, more)
 
 pub sound-room : (m : List ℕ) → IsSoundMap m → IsAtRestMap m → HasRoom m
-sound-room m sound rest = record { sector = sound.slots.sector; single = rest.single; whole = sound.slots.whole; blocks = rest.blocks }
+sound-room m sound rest = record { sector = sound.slots.sector; single = rest.single; whole = sound.slots.whole; blocks = rest.blocks; layout = sound.groups.layout }

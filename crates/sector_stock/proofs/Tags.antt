@@ -7,17 +7,52 @@ use Rattle.erase_journal.specs.Blocks.{SameChip}
 use Rattle.nor_layout.specs.declared.header.Generation.{Generation}
 use Rattle.nor_layout.specs.declared.header.Tag.{Tag}
 use Rattle.nor_layout.specs.declared.kind.Kind.{Kind}
-use Rattle.sector_slots.specs.Slots.{Slot, Free, Live, NoGeneration, Dead, Outside, counted, is_counted, data_blocks, kind_at, raw_slot, slot_at, slot_count}
+use Rattle.sector_slots.specs.Slots.{Slot, Free, Live, NoGeneration, Dead, Outside, is_group, counted, is_counted, data_blocks, kind_at, raw_slot, slot_at, slot_count}
 use Rattle.sector_slots.specs.Blocks.{SoundBlocks, copying}
 use Rattle.sector_slots.proofs.BlockLaws.{commit-target}
-use Rattle.sector_slots.specs.Copying.{Commits}
+use Rattle.nor_layout.specs.declared.kind.Kind.TheVariants as kinds
+use Rattle.sector_slots.specs.Copying.{Commits, copied_tag, to_copy}
 use Rattle.sector_slots.proofs.CopyLaws.{IsWhole, quiet-live}
 use Rattle.sector_slots.specs.Copying.{shifted}
 use Rattle.sector_slots.proofs.CommitLaws.{commit-moves}
-use Rattle.sector_slots.proofs.MoveLaws.{moves-stands}
+use Rattle.sector_slots.proofs.MoveLaws.{moves-single, moves-stands}
+use Rattle.sector_slots.proofs.GroupLaws.{fit-sized, apart-single, only-stays}
 use Rattle.sector_slots.proofs.WinnerLaws.{sound-stands}
-use Rattle.sector_slots.specs.Sectors.{LiveAt, SoundSlots, Single, IsSingle, IsSoundMap, sector_content}
+use Rattle.sector_slots.specs.Sectors.{LiveAt, SoundSlots, Single, IsSingle, GroupsFit, IsSoundMap, sector_content}
 use Rattle.sector_stock.specs.Copy.{bare}
+
+-- what is to be copied of a slot, and its content
+pub bare-to_copy : (k : Kind) (x : Slot) → bare (to_copy k x) ≡ to_copy k (bare x)
+bare-to_copy k Free = refl
+bare-to_copy k (Live tag y) = refl
+bare-to_copy k NoGeneration = refl
+bare-to_copy k Dead = refl
+bare-to_copy k Outside = refl
+
+pub to_copy-whole : (k : Kind) (x : Slot) → x ≢ NoGeneration → to_copy k x ≢ NoGeneration
+to_copy-whole k Free whole e = whole e
+to_copy-whole k (Live tag y) whole e = subst (λ a. IsWhole a) e tt
+to_copy-whole k NoGeneration whole e = whole refl
+to_copy-whole k Dead whole e = whole e
+to_copy-whole k Outside whole e = whole e
+
+-- of a block that isn't live with a group it is the slot itself
+pub same-tag : (k : Kind) → ((g : Tag) → k ≢ kinds.Group g) → (tag : Tag) → copied_tag k tag ≡ tag
+same-tag kinds.Plain n tag = refl
+same-tag kinds.Void n tag = refl
+same-tag (kinds.Committed b) n tag = refl
+same-tag kinds.Settled n tag = refl
+same-tag (kinds.Group g) n tag = absurd (n g refl)
+same-tag kinds.DeadGroup n tag = refl
+same-tag kinds.SpoiltGroup n tag = refl
+same-tag kinds.Unknown n tag = refl
+
+pub to_copy-same : (k : Kind) → ((tag : Tag) → copied_tag k tag ≡ tag) → (x : Slot) → to_copy k x ≡ x
+to_copy-same k same Free = refl
+to_copy-same k same (Live tag y) = ap (λ a. Live a y) (same tag)
+to_copy-same k same NoGeneration = refl
+to_copy-same k same Dead = refl
+to_copy-same k same Outside = refl
 
 either-bare : (t : Bool) (x : Slot) → (if t then bare x else Outside) ≡ bare (if t then x else Outside)
 either-bare true x = refl
@@ -92,11 +127,15 @@ bare-single f b n same h = record {
       h.one s t g j k p.0 q.0 p.1 q.1;
 }
 
-sound-sized : (m m' : List ℕ) → SameChip m m' → SoundSlots (counted (kind_at m') (raw_slot m') (data_blocks m)) (slot_count m) (sector_count (length m)) → SoundBlocks (kind_at m') (raw_slot m') (data_blocks m) → IsSoundMap m'
-sound-sized m m' chip s b = record {
+sound-sized : (m m' : List ℕ) → SameChip m m' → SoundSlots (counted (kind_at m') (raw_slot m') (data_blocks m)) (slot_count m) (sector_count (length m)) → SoundBlocks (kind_at m') (raw_slot m') (data_blocks m) → GroupsFit m' → IsSoundMap m'
+sound-sized m m' chip s b g = record {
   slots = subst (λ n. SoundSlots (counted (kind_at m') (raw_slot m') (block_count n - 4)) (7 * (block_count n - 4)) (sector_count n)) (sym chip.same_length) s;
   blocks = subst (λ n. SoundBlocks (kind_at m') (raw_slot m') (block_count n - 4)) (sym chip.same_length) b;
+  groups = g;
 }
+
+single-of_bare : (f b : ℕ → Slot) (n : ℕ) → IsBareOf f b → Single b n → Single f n
+single-of_bare f b n same h = record { one = λ s t g j k x y l r. h.one s t g j k [] [] (bare-on f b n s g j x same l) (bare-on f b n t g k y same r) }
 
 -- a commit of tags leaves slots and blocks without a corrupt case
 pub tags-sound : (s t : ℕ) (m m' : List ℕ) → SameChip m m' → Commits s t (data_blocks m) (kind_at m) (kind_at m') (λ c i. bare (raw_slot m c i)) (λ c i. bare (raw_slot m' c i)) → IsSoundMap m → IsSingle m → IsSoundMap m'
@@ -109,5 +148,9 @@ tags-sound s t m m' chip now sound single =
     let moves = commit-moves s t n (kind_at m) (kind_at m') (λ c i. bare (raw_slot m c i)) (λ c i. bare (raw_slot m' c i)) now before.whole in
     let after = moves-stands old new (slot_count m) count (sector_content old (slot_count m)) (shifted s t) (shifted t s) moves
     (bare-single (slot_at m) old (slot_count m) (counted-bare (kind_at m) (raw_slot m) n) single) (sound-stands old (slot_count m) count before) in
+    let one = moves-single old new (slot_count m) (shifted s t) (shifted t s) moves (bare-single (slot_at m) old (slot_count m) (counted-bare (kind_at m) (raw_slot m) n) single) in
+    let one' = single-of_bare (counted (kind_at m') (raw_slot m') n) new (slot_count m) (counted-bare (kind_at m') (raw_slot m') n) one in
     sound-sized m m' chip (sound-bare (counted (kind_at m') (raw_slot m') n) new (slot_count m) count (counted-bare (kind_at m') (raw_slot m') n) after.sound)
     (copying t (commit-target s t n (kind_at m) (kind_at m') (λ c i. bare (raw_slot m c i)) (λ c i. bare (raw_slot m' c i)) now))
+    (fit-sized m m' chip (apart-single (kind_at m') (counted (kind_at m') (raw_slot m') n) (slot_count m) one')
+    (only-stays t n (kind_at m) (kind_at m') (λ c i. bare (raw_slot m c i)) (λ c i. bare (raw_slot m' c i)) (counted (kind_at m') (raw_slot m') n) now.only (ap is_group now.now ∙ sym (ap is_group now.was))) sound.groups.layout)

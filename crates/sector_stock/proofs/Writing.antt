@@ -1,4 +1,5 @@
 -- The index of a memory of which one slot was written, or retired.
+use Rattle.std.specs.Prelude.{◌⊎◌}
 use Rattle.std.proofs.Common.{◌≡◌, ◌≢◌, ℕ, ◌+◌, ◌-◌, ◌*◌, ◌<◌, ◌≤◌, Bool, true, false, List, length, refl, sym, ap, ◌∙◌, subst, arith, inl, inr, if◌then◌else◌}
 use Rattle.std.specs.Prelude.{◌/◌, ◌%◌}
 use Rattle.std.proofs.lemmas.Bool.{cases_eq, false≢true}
@@ -12,10 +13,12 @@ use Rattle.sector_stock.specs.declared.index.SlotState.{SlotState}
 use Rattle.sector_stock.specs.declared.index.SlotState.TheVariants as states
 use Rattle.sector_stock.specs.declared.index.BlockState.{BlockState}
 use Rattle.sector_stock.specs.declared.index.Cursors.{Cursors}
-use Rattle.sector_stock.specs.Index.{is_free_slot, is_dead, in_block, IsListed, IsIndexOf, IsAhead, IsWholeBlock, IsStocked, Marked, one_dead_more, one_free_fewer}
+use Rattle.sector_stock.specs.Index.{is_free_slot, is_dead, in_block, IsListed, IsIndexOf, IsAhead, IsHighestWhole, IsWholeBlock, IsStocked, Marked, one_dead_more, one_free_fewer}
 use Rattle.sector_stock.proofs.IndexLaws.{listed-dead, listed-live}
-use Rattle.sector_slots.specs.Blocks.{IsReserveOf}
-use Rattle.sector_stock.proofs.Moved.{numbers-in}
+use Rattle.sector_slots.specs.Blocks.{IsReserveOf, IsAtRest}
+use Rattle.sector_stock.specs.Room.{IsOutside}
+use Rattle.sector_stock.proofs.Moved.{numbers-in, reserve-is}
+use Rattle.sector_stock.proofs.RoomLaws.{spare-block}
 use Rattle.sector_stock.proofs.Tallies.{tally-none, tally-full, tally-most, not-both}
 
 -- a free slot of a block, and one that isn't dead, in its numbers
@@ -88,14 +91,15 @@ live-bare x live bare = subst (λ a. IsBare a) live.2 bare
 
 -- a sector was written
 pub index-put : (w : ℕ) (tag : Tag) (x m m' : List ℕ) (slots slots' : List SlotState) (blocks blocks' : List BlockState) (at : Cursors) → IsIndexOf slots blocks at m → w < slot_count m → slot_at m w ≡ Free → slot_at m' w ≡ Live tag x
-    → OnlyPlace w m m' → ((r : ℕ) → IsReserveOf r m → w / 7 ≢ r) → Marked w states.Live (one_free_fewer (in_block blocks (w / 7))) slots slots' blocks blocks' → IsAhead blocks' at → IsIndexOf slots' blocks' at m'
+    → OnlyPlace w m m' → at.reserve ≢ w / 7 → Marked w states.Live (one_free_fewer (in_block blocks (w / 7))) slots slots' blocks blocks' → IsAhead blocks' at → IsIndexOf slots' blocks' at m'
 index-put w tag x m m' slots slots' blocks blocks' at index low free now only outside marked ahead =
     let e = only.only.chip.same_length in
     record {
       listed = listed-after m m' slots' blocks' e
           (listed-live w (data_blocks m) (slot_at m) (later m m') (kind_at m) (kind_at m') slots slots' blocks blocks' low (place-others w m m' only) (place-kinds w m m' only) free (live-after w m m' tag x e now) marked index.listed);
       ahead = ahead;
-      reserve = reserve-kept w at.reserve m m' only (live-bare (slot_at m' w) (tag, x, now)) (λ q. outside at.reserve index.reserve (sym q)) index.reserve;
+      reserve = spare-block at.reserve m' (reserve-kept w at.reserve m m' only (live-bare (slot_at m' w) (tag, x, now)) outside index.highest);
+      highest = reserve-kept w at.reserve m m' only (live-bare (slot_at m' w) (tag, x, now)) outside index.highest;
     }
 
 -- a slot was retired
@@ -103,12 +107,14 @@ pub index-retired : (w : ℕ) (m m' : List ℕ) (slots slots' : List SlotState) 
     → OnlyPlace w m m' → Marked w states.Dead (one_dead_more (in_block blocks (w / 7))) slots slots' blocks blocks' → IsAhead blocks' at' → at'.reserve ≡ at.reserve → IsIndexOf slots' blocks' at' m'
 index-retired w m m' slots slots' blocks blocks' at at' index low live now only marked ahead same =
     let e = only.only.chip.same_length in
+    let reserve = subst (λ r. IsReserveOf r m') (sym same)
+    (reserve-kept w at.reserve m m' only (λ bare. subst (λ a. IsBare a) now bare) (spare-not m at.reserve w (slot_at m w) index.reserve.spare refl (live-bare (slot_at m w) live)) index.highest) in
     record {
       listed = listed-after m m' slots' blocks' e
           (listed-dead w (data_blocks m) (slot_at m) (later m m') (kind_at m) (kind_at m') slots slots' blocks blocks' low (place-others w m m' only) (place-kinds w m m' only) live (sym (later-is m m' w e) ∙ now) marked index.listed);
       ahead = ahead;
-      reserve = subst (λ r. IsReserveOf r m') (sym same)
-          (reserve-kept w at.reserve m m' only (λ bare. subst (λ a. IsBare a) now bare) (spare-not m at.reserve w (slot_at m w) index.reserve.spare refl (live-bare (slot_at m w) live)) index.reserve);
+      reserve = spare-block at'.reserve m' reserve;
+      highest = reserve;
     }
 
 -- where the index looks next stays where a free slot becomes live
@@ -139,15 +145,26 @@ ahead-live w slots slots' blocks blocks' at low marked some most ahead =
       from = λ c l h q. ahead.from c (omega (arith, l, n)) h (sym (dead c (omega (arith, l, n))) ∙ q);
     }
 
--- what a store's lists are after a sector was written
-pub put-indexed : (w : ℕ) (tag : Tag) (m m' : List ℕ) (slots slots' : List SlotState) (blocks blocks' : List BlockState) (at : Cursors) → IsIndexOf slots blocks at m → w < slot_count m
-    → slot_at m w ≡ Free → HoldsTag tag (slot_at m' w) → OnlyPlace w m m' → ((r : ℕ) → IsReserveOf r m → w / 7 ≢ r)
-    → Marked w states.Live (one_free_fewer (in_block blocks (w / 7))) slots slots' blocks blocks' → IsIndexOf slots' blocks' at m'
-put-indexed w tag m m' slots slots' blocks blocks' at index low free now only outside marked =
-    let n = index.listed.block_size in
-    let numbers = numbers-in (w / 7) m slots blocks at index (omega (arith, low, n)) in
-    index-put w tag now.0 m m' slots slots' blocks blocks' at index low free now.1 only outside marked
-    (ahead-live w slots slots' blocks blocks' at (omega (arith, low, n)) marked (free-some w m slots blocks at index low free) (omega (arith, numbers)) index.ahead)
+-- what a store's lists are after a sector was written: the reserve stays, or is another one
+pub put-indexed : (w : ℕ) (tag : Tag) (m m' : List ℕ) (slots slots' : List SlotState) (blocks blocks' : List BlockState) (at at' : Cursors) → IsIndexOf slots blocks at m → w < slot_count m
+    → slot_at m w ≡ Free → HoldsTag tag (slot_at m' w) → OnlyPlace w m m' → IsOutside w m
+    → Marked w states.Live (one_free_fewer (in_block blocks (w / 7))) slots slots' blocks blocks'
+    → ((at' ≡ at) × (at.reserve ≢ w / 7)) ⊎ (IsAhead blocks' at' × IsHighestWhole blocks' at'.reserve) → IsIndexOf slots' blocks' at' m'
+put-indexed w tag m m' slots slots' blocks blocks' at at' index low free now only outside marked after = elim after as (λ _. IsIndexOf slots' blocks' at' m') [
+  | inl same ↦
+      let n = index.listed.block_size in
+      let numbers = numbers-in (w / 7) m slots blocks at index (omega (arith, low, n)) in
+      subst (λ a. IsIndexOf slots' blocks' a m') (sym same.0)
+      (index-put w tag now.0 m m' slots slots' blocks blocks' at index low free now.1 only same.1 marked
+      (ahead-live w slots slots' blocks blocks' at (omega (arith, low, n)) marked (free-some w m slots blocks at index low free) (omega (arith, numbers)) index.ahead))
+  | inr next ↦
+      let e = only.only.chip.same_length in
+      let n : data_blocks m' ≡ data_blocks m = ap (λ k. block_count k - 4) e in
+      let listed = listed-after m m' slots' blocks' e
+      (listed-live w (data_blocks m) (slot_at m) (later m m') (kind_at m) (kind_at m') slots slots' blocks blocks' low (place-others w m m' only) (place-kinds w m m' only) free (live-after w m m' tag now.0 e now.1) marked index.listed) in
+      let reserve = reserve-is m' slots' blocks' at'.reserve (λ d inside. let here : d < data_blocks m = omega (arith, n, inside) in subst (λ k. IsAtRest k) (sym (place-kinds w m m' only d here)) (outside.rest d here)) listed next.1 in
+      record { listed = listed; ahead = next.0; reserve = spare-block at'.reserve m' reserve; highest = reserve }
+]
 
 pub retire-indexed : (w : ℕ) (m m' : List ℕ) (slots slots' : List SlotState) (blocks blocks' : List BlockState) (at at' : Cursors) → IsIndexOf slots blocks at m → w < slot_count m
     → IsLive (slot_at m w) → slot_at m' w ≡ Dead → OnlyPlace w m m' → Marked w states.Dead (one_dead_more (in_block blocks (w / 7))) slots slots' blocks blocks'

@@ -5,8 +5,8 @@ use Rattle.sector_slots.specs.Slots.{Slot, Free, Live, NoGeneration, Dead, Outsi
 use Rattle.sector_slots.specs.Slots.{data_block, kind_at, raw_slot, slot_at, slot_count, IsClean}
 use Rattle.sector_slots.specs.Slots.{IsSpareIn}
 use Rattle.sector_slots.specs.Blocks.{AreAtRest, AreSettled, IsTarget}
-use Rattle.sector_slots.specs.Copying.{SameLive, copy_slot}
-use Rattle.sector_slots.specs.Sectors.{IsSingle, IsSoundMap, HoldsSectors}
+use Rattle.sector_slots.specs.Copying.{SameLive, copy_slot, source_slot}
+use Rattle.sector_slots.specs.Sectors.{IsSingle, IsSoundMap, HasSlotsAlone, HoldsSectors}
 use Rattle.nor_layout.specs.declared.kind.Kind.TheVariants as kinds
 
 -- a slot without its content: where the free slots of a memory aren't erased throughout, a copy has
@@ -22,10 +22,11 @@ bare Outside = Outside
 abbrev pub SameSectors : List ℕ → List ℕ → Type 0
 SameSectors m m' = (sectors : ℕ → List ℕ) → HoldsSectors sectors m → HoldsSectors sectors m'
 
--- what leaves the map of sectors as it was, and a clean memory clean
+-- what leaves the map of sectors as it was, a clean memory clean, and makes no block one of a group
 pub record KeepsSectors (m m' : List ℕ) : Type 0 where
   pub chip : SameChip m m'
   pub sectors : SameSectors m m'
+  pub alone : HasSlotsAlone m → HasSlotsAlone m'
   pub clean : IsClean m → IsClean m'
 
 -- What a copying leaves that was cut: slots and blocks that a mount accepts; and the sectors as
@@ -33,6 +34,7 @@ pub record KeepsSectors (m m' : List ℕ) : Type 0 where
 pub record Stays (m m' : List ℕ) : Type 0 where
   pub chip : SameChip m m'
   pub sound : IsSoundMap m → IsSoundMap m'
+  pub alone : HasSlotsAlone m → HasSlotsAlone m'
   pub exact : IsClean m → KeepsSectors m m'
 
 -- Block s can be copied into block t: no copying goes on, and t is wholly free.
@@ -51,6 +53,7 @@ pub record Reclaimed (m m' : List ℕ) : Type 0 where
   pub sectors : SameSectors m m'
   pub single : IsSingle m → IsSingle m'
   pub blocks : AreSettled m'
+  pub alone : HasSlotsAlone m → HasSlotsAlone m'
   pub clean : IsClean m → IsClean m'
 
 -- besides, each slot that counts is as it was, or represents nothing before and after
@@ -73,7 +76,7 @@ pub record IsCopiedWhole (s t : ℕ) (m m' : List ℕ) : Type 0 where
   pub same_kind : (d : ℕ) → d < data_blocks m → d ≢ s → d ≢ t → kind_at m' d ≡ kind_at m d
   pub same_slots : (d i : ℕ) → d < data_blocks m → d ≢ s → d ≢ t → raw_slot m' d i ≡ raw_slot m d i
   pub settled : kind_at m' t ≡ kinds.Settled
-  pub copied : (i : ℕ) → i < 7 → bare (raw_slot m' t i) ≡ copy_slot (bare (raw_slot m s i))
+  pub copied : (i : ℕ) → i < 7 → bare (raw_slot m' t i) ≡ copy_slot (bare (source_slot m s i))
   pub erased : IsSpareIn m' s
 
 -- What a whole copying leaves: every slot as above, and no copying goes on; and where what read as

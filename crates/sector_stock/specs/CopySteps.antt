@@ -3,8 +3,8 @@ use Rattle.std.specs.Prelude.{◌≡◌, ◌≢◌, ℕ, ◌+◌, ◌<◌, ◌�
 use Rattle.erase_journal.specs.Blocks.{SameChip, OnlyBlock}
 use Rattle.sector_slots.specs.Slots.{Free, data_blocks, kind_at, raw_slot, IsClean}
 use Rattle.sector_slots.specs.Blocks.{AreSettled, IsTarget}
-use Rattle.sector_slots.specs.Copying.{copy_slot}
-use Rattle.sector_slots.specs.Sectors.{IsSingle, IsSoundMap}
+use Rattle.sector_slots.specs.Copying.{copy_slot, source_slot}
+use Rattle.sector_slots.specs.Sectors.{IsSingle, IsSoundMap, HasSlotsAlone}
 use Rattle.sector_slots.specs.Steps.{IsBegun, IsErasedSlot}
 use Rattle.sector_stock.specs.Copy.{bare, SameSectors, KeepsSectors, IsFinished}
 
@@ -14,14 +14,14 @@ pub record IsCopiedTo (j s t : ℕ) (m : List ℕ) : Type 0 where
   pub other : s ≢ t
   pub target : IsTarget t (data_blocks m) (kind_at m)
   pub begun : IsBegun t s m
-  pub tags : (i : ℕ) → i < j → bare (raw_slot m t i) ≡ copy_slot (bare (raw_slot m s i))
+  pub tags : (i : ℕ) → i < j → bare (raw_slot m t i) ≡ copy_slot (bare (source_slot m s i))
   pub free : (i : ℕ) → i < 7 → j ≤ i → raw_slot m t i ≡ Free
   pub sound : IsSoundMap m
   pub single : IsSingle m
 
 -- And their contents, as it is where what read as free was erased.
 pub record IsExactTo (j s t : ℕ) (m : List ℕ) : Type 0 where
-  pub copied : (i : ℕ) → i < j → raw_slot m t i ≡ copy_slot (raw_slot m s i)
+  pub copied : (i : ℕ) → i < j → raw_slot m t i ≡ copy_slot (source_slot m s i)
   pub fresh : (i : ℕ) → i < 7 → j ≤ i → IsErasedSlot t i m
   pub unwritten : (i : ℕ) → i < 7 → raw_slot m t i ≡ Free → IsErasedSlot t i m
   pub clean : IsClean m
@@ -44,4 +44,5 @@ pub record Finishes (s t : ℕ) (m m' : List ℕ) : Type 0 where
 pub record FinishLeaves (s t : ℕ) (m m' : List ℕ) : Type 0 where
   pub chip : SameChip m m'
   pub sound : IsSoundMap m'
+  pub alone : HasSlotsAlone m → HasSlotsAlone m'
   pub exact : IsExactTo 7 s t m → KeepsSectors m m'

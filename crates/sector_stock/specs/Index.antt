@@ -12,6 +12,7 @@ use Rattle.sector_stock.specs.declared.index.SlotState.{SlotState}
 use Rattle.sector_stock.specs.declared.index.BlockState.{BlockState}
 use Rattle.sector_stock.specs.declared.index.Cursors.{Cursors}
 use Rattle.sector_slots.specs.Blocks.{IsReserveOf}
+use Rattle.sector_stock.specs.Room.{IsSpareBlock}
 use Rattle.nor_layout.specs.declared.header.Header.TheVariants as headers
 use Rattle.nor_layout.specs.declared.kind.Kind.TheVariants as kinds
 use Rattle.sector_stock.specs.declared.index.SlotState.TheVariants as states
@@ -43,7 +44,21 @@ is_plain kinds.Plain = true
 is_plain kinds.Void = false
 is_plain (kinds.Committed source) = false
 is_plain kinds.Settled = false
+is_plain (kinds.Group tag) = false
+is_plain kinds.DeadGroup = false
+is_plain kinds.SpoiltGroup = false
 is_plain kinds.Unknown = false
+
+-- whether a block is live with a group
+abbrev pub is_live_group : Kind → Bool
+is_live_group kinds.Plain = false
+is_live_group kinds.Void = false
+is_live_group (kinds.Committed source) = false
+is_live_group kinds.Settled = false
+is_live_group (kinds.Group group) = true
+is_live_group kinds.DeadGroup = false
+is_live_group kinds.SpoiltGroup = false
+is_live_group kinds.Unknown = false
 
 -- how many of the seven slots of data block c pass a test
 unfoldable pub tally : (Slot → Bool) → (ℕ → Slot) → ℕ → ℕ
@@ -54,10 +69,11 @@ pub record Tallies (b : BlockState) (f : ℕ → Slot) (kind : ℕ → Kind) (c 
   pub free : b.free ≡ tally is_free_slot f c
   pub dead : b.dead ≡ tally is_dead f c
   pub plain : b.plain ≡ is_plain (kind c)
+  pub group : b.group ≡ is_live_group (kind c)
 
 -- past the end of the list, for reading it
 abbrev pub no_block : BlockState
-no_block = record { free = 0; dead = 0; plain = false }
+no_block = record { free = 0; dead = 0; plain = false; group = false }
 
 abbrev pub in_block : List BlockState → ℕ → BlockState
 in_block blocks c = slice_index_or blocks c no_block
@@ -88,12 +104,13 @@ pub record IsAhead (blocks : List BlockState) (at : Cursors) : Type 0 where
   pub most : (c : ℕ) → c < length blocks → (in_block blocks c).dead ≤ at.most
   pub from : (c : ℕ) → c < length blocks → c < at.from → (in_block blocks c).dead ≢ at.most
 
--- the index of a memory
+-- the index of a memory: its reserve is wholly free, the highest-numbered such block
 pub record IsIndexOf (slots : List SlotState) (blocks : List BlockState) (at : Cursors)
     (m : List ℕ) : Type 0 where
   pub listed : IsListed slots blocks (slot_at m) (kind_at m) (data_blocks m)
   pub ahead : IsAhead blocks at
-  pub reserve : IsReserveOf at.reserve m
+  pub reserve : IsSpareBlock at.reserve m
+  pub highest : IsReserveOf at.reserve m
 
 -- What the lists and cursors of a store with this memory are: of its size, and where they are said
 -- to be right, its index.
@@ -132,6 +149,14 @@ IsMostDead blocks b = (b < length blocks) × (0 < (in_block blocks b).dead)
 abbrev pub HasNoDead : List BlockState → Type 0
 HasNoDead blocks = (c : ℕ) → c < length blocks → (in_block blocks c).dead ≡ 0
 
+-- the lowest-numbered block that is live with a group; or none is
+abbrev pub IsLowestGroup : List BlockState → ℕ → Type 0
+IsLowestGroup blocks b = (b < length blocks) × ((in_block blocks b).group ≡ true)
+    × ((c : ℕ) → c < b → (in_block blocks c).group ≡ false)
+
+abbrev pub HasNoGroup : List BlockState → Type 0
+HasNoGroup blocks = (c : ℕ) → c < length blocks → (in_block blocks c).group ≡ false
+
 -- the lowest-numbered block but the reserve that has a free slot; or none has
 abbrev pub IsLowestWithFree : List BlockState → ℕ → ℕ → Type 0
 IsLowestWithFree blocks r b = (b < length blocks) × (b ≢ r) × (0 < (in_block blocks b).free)
@@ -163,9 +188,14 @@ pub record Shifted (k s t : ℕ) (slots slots' : List SlotState) : Type 0 where
 -- dead; s is wholly free.
 pub record BlocksMoved (s t : ℕ) (blocks blocks' : List BlockState) : Type 0 where
   pub size : length blocks' ≡ length blocks
-  pub source : in_block blocks' s ≡ record { free = 7; dead = 0; plain = true }
+  pub source : in_block blocks' s ≡ record { free = 7; dead = 0; plain = true; group = false }
   pub target : in_block blocks' t ≡
-      record { free = (in_block blocks s).free + (in_block blocks s).dead; dead = 0; plain = false }
+      record {
+        free = (in_block blocks s).free + (in_block blocks s).dead;
+        dead = 0;
+        plain = false;
+        group = false;
+      }
   pub others : (c : ℕ) → c < length blocks → c ≢ s → c ≢ t → in_block blocks' c ≡ in_block blocks c
 
 -- block r is the highest-numbered wholly free one
@@ -219,6 +249,7 @@ pub record BlockNoted (c : ℕ) (kind : Kind) (heads : List Header) (slots slots
         dead = states_tally is_dead_state slots'
             c;
         plain = is_plain kind;
+        group = is_live_group kind;
       }
   pub other_blocks : (d : ℕ) → d < length blocks → d ≢ c → in_block blocks' d ≡ in_block blocks d
 
@@ -230,4 +261,5 @@ pub record IsNoted (c : ℕ) (slots : List SlotState) (blocks : List BlockState)
     free = states_tally is_free_state slots c;
     dead = states_tally is_dead_state slots c;
     plain = is_plain (kind_at m c);
+    group = is_live_group (kind_at m c);
   }

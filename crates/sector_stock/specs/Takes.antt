@@ -1,17 +1,22 @@
--- What giving a slot leaves: nothing changed, or a block was copied into the reserve first. Source:
--- own, layout 2.
-use Rattle.std.specs.Prelude.{◌≡◌, ◌≢◌, ℕ, ◌/◌, ◌<◌, ◌≤◌, List, Option, Some, None}
+-- What giving a slot leaves: nothing changed, or a block was copied into a wholly free one first.
+-- Source: own, layout 2.
+use Rattle.std.specs.Prelude.{◌≡◌, ◌≢◌, ℕ, ◌+◌, ◌*◌, Bool, true, false, ◌/◌, ◌<◌, ◌≤◌, List}
+use Rattle.std.specs.Prelude.{Option, Some, None}
 use Rattle.nor_layout.specs.declared.header.Generation.{Generation}
+use Rattle.nor_layout.specs.declared.header.Generation.TheVariants as generations
+use Rattle.nor_layout.specs.declared.header.Tag.{Tag}
+use Rattle.nor_layout.specs.declared.kind.Kind.{Kind}
+use Rattle.nor_layout.specs.declared.kind.Kind.TheVariants as kinds
 use Rattle.erase_journal.specs.Blocks.{SameChip}
 use Rattle.erase_journal.specs.Places.{how_many}
-use Rattle.sector_slots.specs.Slots.{Free, NoGeneration, slot_at, slot_count, data_blocks, IsClean}
-use Rattle.sector_slots.specs.Slots.{IsSpareIn}
+use Rattle.sector_slots.specs.Slots.{Free, Live, NoGeneration, slot_at, slot_count, data_blocks}
+use Rattle.sector_slots.specs.Slots.{IsClean, IsSpareIn, kind_at, is_group}
 use Rattle.sector_slots.specs.Sectors.{LiveAt}
 use Rattle.sector_slots.specs.Blocks.{AreSettled, IsReserveOf}
 use Rattle.sector_slots.specs.Copying.{shifted}
 use Rattle.sector_stock.specs.declared.given.Copied.{Copied}
-use Rattle.sector_stock.specs.Room.{HasNoneFree}
-use Rattle.sector_stock.specs.Index.{tally, is_dead}
+use Rattle.sector_stock.specs.Room.{HasNoneDead, IsSpareBlock, IsFull}
+use Rattle.sector_stock.specs.Index.{tally, is_dead, is_live_group}
 use Rattle.sector_stock.specs.Copy.{SameSectors}
 
 -- how many slots of data block c are dead, and of all
@@ -21,12 +26,22 @@ dead_in m c = tally is_dead (slot_at m) c
 abbrev pub dead_slots : List ℕ → ℕ
 dead_slots m = how_many (λ s. is_dead (slot_at m s)) (slot_count m)
 
+-- a slot of block s is dead
+pub record HasDead (s : ℕ) (m : List ℕ) : Type 0 where
+  pub number : s < data_blocks m
+  pub some : 0 < dead_in m s
+
 -- the block with the most dead slots, the lowest-numbered of equals
 pub record HasMostDead (s : ℕ) (m : List ℕ) : Type 0 where
   pub number : s < data_blocks m
   pub some : 0 < dead_in m s
   pub most : (c : ℕ) → c < data_blocks m → dead_in m c ≤ dead_in m s
   pub lowest : (c : ℕ) → c < s → dead_in m c < dead_in m s
+
+-- no block is of a group that wasn't one of it
+abbrev pub MakesNoGroup : List ℕ → List ℕ → Type 0
+MakesNoGroup m m' = (c : ℕ) → c < data_blocks m → is_group (kind_at m c) ≡ false
+    → is_group (kind_at m' c) ≡ false
 
 -- The live slots of block s moved to the same places of block t, and keep their tags; all others
 -- stay, and no copying goes on. Where what read as free was erased the sectors are what they were,
@@ -41,15 +56,58 @@ pub record Shifts (s t : ℕ) (m m' : List ℕ) : Type 0 where
       → shifted s t (shifted t s w) ≡ w
   pub whole : (w : ℕ) → w < slot_count m → slot_at m' w ≢ NoGeneration
   pub blocks : AreSettled m'
+  pub groups : MakesNoGroup m m'
   pub sectors : IsClean m → SameSectors m m'
   pub clean : IsClean m → IsClean m'
 
--- block s was copied into the reserve t and is wholly free
+-- block s, of which a slot was dead, was copied into block t, which was wholly free; now s is
 pub record CopiesInto (s t : ℕ) (m m' : List ℕ) : Type 0 where
-  pub source : HasMostDead s m
-  pub target : IsReserveOf t m
+  pub source : HasDead s m
+  pub target : IsSpareBlock t m
   pub shifts : Shifts s t m m'
   pub erased : IsSpareIn m' s
+
+-- how many blocks are live with a group, and what is left to be tidied: dead slots, and those
+-- blocks
+abbrev pub live_groups : List ℕ → ℕ
+live_groups m = how_many (λ c. is_live_group (kind_at m c)) (data_blocks m)
+
+abbrev pub work_of : List ℕ → ℕ
+work_of m = dead_slots m + live_groups m
+
+abbrev pub IsLiveGroup : ℕ → List ℕ → Type 0
+IsLiveGroup s m = (group : Tag) × (kind_at m s ≡ kinds.Group group)
+
+-- Block s, which was live with a group, was converted into slots: those of block t, which was
+-- wholly free, hold the seven sectors, with the first generation; s is wholly free, all other slots
+-- are as they were, and less is left to be tidied.
+pub record Converts (s t : ℕ) (m m' : List ℕ) : Type 0 where
+  pub group : Tag
+  pub was : kind_at m s ≡ kinds.Group group
+  pub source : s < data_blocks m
+  pub target : IsSpareBlock t m
+  pub chip : SameChip m m'
+  pub slots : (i : ℕ) → i < 7 → (y : List ℕ) × (slot_at m' (7 * t + i)
+      ≡ Live (record { number = 7 * group.number + i; generation = generations.Zero }) y)
+  pub freed : (i : ℕ) → i < 7 → slot_at m' (7 * s + i) ≡ Free
+  pub others : (w : ℕ) → w < slot_count m → w / 7 ≢ s → w / 7 ≢ t → slot_at m' w ≡ slot_at m w
+  pub blocks : AreSettled m'
+  pub groups : MakesNoGroup m m'
+  pub erased : IsSpareIn m' s
+  pub fewer : work_of m' < work_of m
+  pub sectors : IsClean m → SameSectors m m'
+  pub clean : IsClean m → IsClean m'
+
+-- no block is live with a group
+abbrev pub HasNoGroups : List ℕ → Type 0
+HasNoGroups m = (c : ℕ) → c < data_blocks m → is_live_group (kind_at m c) ≡ false
+
+-- Less is left to be tidied: a block with dead slots was copied; or, where no slot is dead, the
+-- lowest-numbered block that is live with a group was converted.
+pub data TidiesStock (s t : ℕ) (m m' : List ℕ) : Type 0 where
+  copies : CopiesInto s t m m' → TidiesStock s t m m'
+  converts : HasNoneDead m → ((c : ℕ) → c < s → is_live_group (kind_at m c) ≡ false)
+      → Converts s t m m' → TidiesStock s t m m'
 
 -- slot w is the lowest-numbered free one outside the reserve
 pub record IsLowestFree (w : ℕ) (m : List ℕ) : Type 0 where
@@ -60,8 +118,16 @@ pub record IsLowestFree (w : ℕ) (m : List ℕ) : Type 0 where
   pub outside : reserve ≢ w / 7
   pub lowest : (s : ℕ) → s < w → s / 7 ≢ reserve → slot_at m s ≢ Free
 
--- slot w was given
+-- slot w is free, and another block than its own is wholly free
+pub record IsGivable (w : ℕ) (m : List ℕ) : Type 0 where
+  pub number : w < slot_count m
+  pub free : slot_at m w ≡ Free
+  pub reserve : ℕ
+  pub is_spare : IsSpareBlock reserve m
+  pub apart : reserve ≢ w / 7
+
+-- slot w was given, by whatever policy
 pub data Takes (w : ℕ) (copied : Option Copied) (m m' : List ℕ) : Type 0 where
-  was_free : copied ≡ None → m' ≡ m → IsLowestFree w m' → Takes w copied m m'
-  was_copied : (c : Copied) → copied ≡ Some c → ((r : ℕ) → IsReserveOf r m → HasNoneFree r m)
-      → CopiesInto c.source c.target m m' → IsLowestFree w m' → Takes w copied m m'
+  was_free : copied ≡ None → m' ≡ m → IsGivable w m' → Takes w copied m m'
+  was_copied : (c : Copied) → copied ≡ Some c → IsFull m
+      → CopiesInto c.source c.target m m' → IsGivable w m' → Takes w copied m m'

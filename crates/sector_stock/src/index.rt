@@ -2,7 +2,7 @@
 //! where it looks for a slot to give, and for a block to be copied, it goes on from where it stood.
 
 ghost use Rattle.std.specs.Prelude.{◌≡◌, ◌≢◌, ◌⊎◌, ◌+◌, ◌*◌, ◌/◌, ◌<◌, ◌≤◌, length, ℕ, List};
-ghost use Rattle.std.specs.Prelude.{MatchOption};
+ghost use Rattle.std.specs.Prelude.{MatchOption, IfSome};
 ghost use Rattle.sector_stock.specs.Index.{IsAhead, Marked, one_dead_more, one_free_fewer};
 ghost use Rattle.sector_stock.specs.Index.{in_block, IsMostDead, HasNoDead, IsLowestWithFree};
 ghost use Rattle.sector_stock.specs.Index.{HasNoFreeBut, copied_state, Shifted, IsIndexOf};
@@ -10,7 +10,8 @@ ghost use Rattle.sector_stock.specs.Index.{IsWholeBlock, BlocksMoved, IsHighestW
 ghost use Rattle.sector_stock.specs.IndexSteps.{AreSparesBelow, NextReserve, Widened};
 ghost use Rattle.sector_stock.specs.IndexSteps.{HasNoFreeState, IsFirstFreeState};
 ghost use Rattle.sector_stock.specs.Room.{HasNoneFree};
-ghost use Rattle.sector_stock.specs.Takes.{IsLowestFree};
+ghost use Rattle.sector_stock.specs.Index.{IsLowestGroup, HasNoGroup};
+ghost use Rattle.sector_stock.specs.Takes.{IsGivable, IsLowestFree};
 
 /// What the index keeps of a slot. Source: own.
 #[derive(Clone, Copy, Debug, PartialEq, Eq, Drop)]
@@ -20,13 +21,14 @@ pub enum SlotState {
     Dead,
 }
 
-/// What it keeps of a block: how many of its slots are free and dead, and whether no copy was ever
-/// begun in it.
+/// What it keeps of a block: how many of its slots are free and dead, whether no copy was ever
+/// begun in it, and whether it is live with a group.
 #[derive(Clone, Copy, Debug, PartialEq, Eq, Drop)]
 pub struct BlockState {
     pub free: u8,
     pub dead: u8,
     pub plain: bool,
+    pub group: bool,
 }
 
 /// Where it looks next.
@@ -121,6 +123,20 @@ fn first_with(blocks: &[BlockState], from: u16, dead: u8) -> Option<u16>
     None
 }
 
+/// The lowest-numbered block that is live with a group.
+pub fn lowest_group(blocks: &[BlockState]) -> Option<u16>
+    requires size { length blocks.now < 65536 }
+    ensures { MatchOption result (HasNoGroup blocks.now) (λ b. IsLowestGroup blocks.now b) }
+{
+    let count = blocks.len() as u16;
+    for block in 0..count {
+        if blocks[block as usize].group {
+            return Some(block);
+        }
+    }
+    None
+}
+
 /// The lowest-numbered block but the reserve that has a free slot.
 pub fn lowest_with_free(blocks: &[BlockState], at: &mut Cursors) -> Option<u16>
     requires size { length blocks.now < 65536 }
@@ -199,11 +215,13 @@ fn move_counts(blocks: &mut [BlockState], source: u16, target: u16)
         free: old.free + old.dead,
         dead: 0,
         plain: false,
+        group: false,
     };
     blocks[source as usize] = BlockState {
         free: 7,
         dead: 0,
         plain: true,
+        group: false,
     };
 }
 
@@ -267,7 +285,6 @@ pub fn move_block(blocks: &mut [BlockState], at: &mut Cursors, source: u16)
     requires source { source < length blocks.old }
     requires reserve { at.old.reserve < length blocks.old }
     requires other { source ≢ at.old.reserve }
-    requires dead { 0 < (in_block blocks.old source).dead }
     requires numbers { (in_block blocks.old source).free + (in_block blocks.old source).dead ≤ 7 }
     requires ahead { IsAhead blocks.old at.old }
     ensures moved { BlocksMoved source at.old.reserve blocks.old blocks.new }
@@ -289,7 +306,9 @@ pub fn lowest_free(states: &[SlotState], blocks: &[BlockState], at: &mut Cursors
     requires states { length states.now ≡ 7 * length blocks.now }
     requires ahead { IsAhead blocks.now at.old }
     ensures found { (m : List ℕ) → IsIndexOf states.now blocks.now at.old m
-        → MatchOption result (HasNoneFree at.old.reserve m) (λ w. IsLowestFree w m) }
+        → MatchOption result (HasNoneFree at.old.reserve m) (λ w. IsGivable w m) }
+    ensures lowest { (m : List ℕ) → IsIndexOf states.now blocks.now at.old m
+        → IfSome result (λ w. IsLowestFree w m) }
     ensures ahead { IsAhead blocks.now at.new }
     ensures reserve { at.new.reserve ≡ at.old.reserve }
 {

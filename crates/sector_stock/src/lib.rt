@@ -4,12 +4,13 @@
 //! Promised: `Stock` is a store of slots with an index that is that of the memory while its flag
 //! says so (docs/INDEX.md); `fill` makes it from one read of each block. `take_free` always gives a
 //! slot, the lowest-numbered free one outside the reserve; where none is free, the block with the
-//! most dead slots is copied into the reserve first (docs/COPYING.md). `tidy` copies that block,
-//! and answers None exactly where no slot is dead. Either also tells which block was copied where:
-//! its live slots keep their places and tags. Cut anywhere, they leave slots and blocks that a
-//! mount accepts, and where what read as free was erased each sector as it was. `end_void`,
-//! `end_committed` and `end_erased` end a copying that a mount finds, and change no sector. No call
-//! takes memory.
+//! most dead slots is copied into the reserve first (docs/COPYING.md). `tidy` copies that block, or
+//! where no slot is dead makes the lowest-numbered block of a group of layout 1 slots of the
+//! reserve, as `convert` does; it answers None exactly where there is neither. Each also tells
+//! which block was copied where: its live slots keep their places and tags, of a group with the
+//! first generation. Cut anywhere, they leave slots and blocks that a mount accepts, and where what
+//! read as free was erased each sector as it was. `end_void`, `end_committed` and `end_erased` end
+//! a copying that a mount finds, and change no sector. No call takes memory.
 //!
 //! Left to the crate above: which slot holds which sector, and that no two live slots are of one
 //! sector. Source: own, layout 2.
@@ -33,6 +34,6 @@ pub use index::{
 };
 pub use laws::{never_full, slots_outnumber_sectors, sound_maps_have_room};
 pub use reclaim::Reclaim;
-pub use scan::{fill_index, first_cursors, note_block};
+pub use scan::{fill_index, first_cursors, mark_written, note_block};
 pub use stock::Stock;
 pub use take::{take_in, tidy_in};

@@ -7,12 +7,17 @@ ghost use Rattle.nor_driver.specs.State.{IsNorReady, Refuses};
 ghost use Rattle.erase_journal.specs.Blocks.{SameChip};
 ghost use Rattle.erase_journal.specs.Journals.{IsHealthy, IsSettled};
 ghost use Rattle.erase_journal.specs.Steps.{SucceedsSettled};
-ghost use Rattle.sector_slots.specs.Slots.{Free, Live, Dead, slot_at, slot_count, IsClean, IsLive};
-ghost use Rattle.sector_slots.specs.Blocks.{IsReserveOf};
+ghost use Rattle.sector_slots.specs.Slots.{Free, Live, Dead, slot_at, slot_count, IsClean};
+ghost use Rattle.sector_slots.specs.Steps.{IsRetirable};
 ghost use Rattle.sector_slots.specs.Steps.{IsWritable, PutLeaves, HoldsTag, MayHoldTag, OnlyPlace};
-ghost use Rattle.sector_stock.specs.Room.{HasRoom, HasNoneDead};
+ghost use Rattle.sector_stock.specs.Room.{HasRoom, HasNoneDead, IsOutside};
 ghost use Rattle.sector_stock.specs.Copy.{Stays};
-ghost use Rattle.sector_stock.specs.Takes.{Takes, CopiesInto, dead_slots};
+ghost use Rattle.sector_slots.specs.Blocks.{IsReserveOf};
+ghost use Rattle.sector_stock.specs.Takes.{Takes, TidiesStock, HasNoGroups, work_of};
+ghost use Rattle.sector_stock.specs.Takes.{IsLowestFree, HasMostDead};
+ghost use Rattle.sector_stock.specs.Takes.{Converts, IsLiveGroup};
+ghost use Rattle.sector_slots.specs.Slots.{data_blocks, kind_at};
+ghost use Rattle.sector_stock.specs.Index.{is_live_group};
 ghost use Rattle.sector_stock.specs.declared.given.Copied.{Copied as CopiedOf};
 
 use crate::given::{Copied, Given};
@@ -32,10 +37,11 @@ pub trait Reclaim: SlotCalls {
         ensures done { OnOk result (SucceedsSettled (Self.state self.old) (Self.state self.new)) }
         ensures fails { IfErr result (λ e. Refuses e (Self.state self.old) (Self.state self.new)) };
 
-    /// The lowest-numbered free slot outside the reserve. Where none is free, the block with the
-    /// most dead slots is copied into the reserve first. There always is one. Cut, it leaves slots
-    /// and blocks that a mount accepts, and the sectors as they were where what read as free was
-    /// erased.
+    /// A free slot; another block than its own is wholly free. Where no slot outside the reserve is
+    /// free, a block with dead slots is copied into the reserve first. There always is one: the
+    /// lowest-numbered free slot outside the highest-numbered wholly free block. Copied is the
+    /// block with the most dead slots. Cut, it leaves slots and blocks that a mount accepts, and
+    /// the sectors as they were where what read as free was erased.
     fn take_free(&mut self) -> Result<Given, NorError>
         requires ready { IsNorReady (Self.state self.old) }
         requires settled { IsSettled (Self.state self.old).memory }
@@ -44,6 +50,11 @@ pub trait Reclaim: SlotCalls {
         ensures ok { IfOk result (λ given.
             Takes given.slot given.copied (Self.state self.old).memory
             (Self.state self.new).memory) }
+        ensures lowest { IfOk result (λ given. IsLowestFree given.slot
+            (Self.state self.new).memory) }
+        ensures most { IfOk result (λ given. (c : CopiedOf) → given.copied ≡ Some c
+            → HasMostDead c.source (Self.state self.old).memory
+            × IsReserveOf c.target (Self.state self.old).memory) }
         ensures cut { IsErrOf result NorError.Cut
             → Stays (Self.state self.old).memory (Self.state self.new).memory }
         ensures indexed { OnOk result (Self.indexed self.new ≡ true) }
@@ -52,21 +63,27 @@ pub trait Reclaim: SlotCalls {
         ensures done { OnOk result (SucceedsSettled (Self.state self.old) (Self.state self.new)) }
         ensures fails { IfErr result (λ e. Refuses e (Self.state self.old) (Self.state self.new)) };
 
-    /// Copies the block with the most dead slots, the lowest-numbered of equals, into the reserve:
-    /// the blocks. Where no slot is dead nothing changes: None. Cut, it leaves what `take_free`
-    /// does.
+    /// Copies a block with dead slots, that with the most, the lowest-numbered of equals, into the
+    /// reserve; where no slot is dead, converts the lowest-numbered block that is live with a
+    /// group: the blocks. Where none is either, nothing changes: None. Cut, it leaves what
+    /// `take_free` does.
     fn tidy(&mut self) -> Result<Option<Copied>, NorError>
         requires ready { IsNorReady (Self.state self.old) }
         requires settled { IsSettled (Self.state self.old).memory }
         requires room { HasRoom (Self.state self.old).memory }
         requires indexed { Self.indexed self.old ≡ true }
         ensures copied { IfOk result (λ copied. (c : CopiedOf) → copied ≡ Some c
-            → CopiesInto c.source c.target (Self.state self.old).memory
+            → TidiesStock c.source c.target (Self.state self.old).memory
             (Self.state self.new).memory) }
         ensures fewer { IfOk result (λ copied. (c : CopiedOf) → copied ≡ Some c
-            → dead_slots (Self.state self.new).memory < dead_slots (Self.state self.old).memory) }
-        ensures none { IfOk result (λ copied. copied ≡ None
+            → work_of (Self.state self.new).memory < work_of (Self.state self.old).memory) }
+        ensures most { IfOk result (λ copied. (c : CopiedOf) → copied ≡ Some c
             → HasNoneDead (Self.state self.old).memory
+            ⊎ HasMostDead c.source (Self.state self.old).memory) }
+        ensures target { IfOk result (λ copied. (c : CopiedOf) → copied ≡ Some c
+            → IsReserveOf c.target (Self.state self.old).memory) }
+        ensures none { IfOk result (λ copied. copied ≡ None
+            → HasNoneDead (Self.state self.old).memory × HasNoGroups (Self.state self.old).memory
             × ((Self.state self.new).memory ≡ (Self.state self.old).memory)) }
         ensures cut { IsErrOf result NorError.Cut
             → Stays (Self.state self.old).memory (Self.state self.new).memory }
@@ -76,14 +93,43 @@ pub trait Reclaim: SlotCalls {
         ensures done { OnOk result (SucceedsSettled (Self.state self.old) (Self.state self.new)) }
         ensures fails { IfErr result (λ e. Refuses e (Self.state self.old) (Self.state self.new)) };
 
-    /// Writes a sector, 512 bytes, into a free slot outside the reserve, as `put` does.
+    /// Whether the block of a slot is live with a group. Nothing is read.
+    fn is_group(&self, slot: u16) -> bool
+        requires number { slot < slot_count (Self.state self.now).memory }
+        requires indexed { Self.indexed self.now ≡ true }
+        ensures { result ≡ is_live_group (kind_at (Self.state self.now).memory (slot / 7)) };
+
+    /// Converts a block that is live with a group: the seven sectors go to slots of the reserve,
+    /// and less is left to be tidied. Cut, it leaves what `take_free` does.
+    fn convert(&mut self, block: u16) -> Result<Copied, NorError>
+        requires ready { IsNorReady (Self.state self.old) }
+        requires settled { IsSettled (Self.state self.old).memory }
+        requires room { HasRoom (Self.state self.old).memory }
+        requires indexed { Self.indexed self.old ≡ true }
+        requires number { block < data_blocks (Self.state self.old).memory }
+        requires group { IsLiveGroup block (Self.state self.old).memory }
+        ensures ok { IfOk result (λ copied. Converts copied.source copied.target
+            (Self.state self.old).memory (Self.state self.new).memory) }
+        ensures source { IfOk result (λ copied. copied.source ≡ block) }
+        ensures target { IfOk result (λ copied.
+            IsReserveOf copied.target (Self.state self.old).memory) }
+        ensures cut { IsErrOf result NorError.Cut
+            → Stays (Self.state self.old).memory (Self.state self.new).memory }
+        ensures indexed { OnOk result (Self.indexed self.new ≡ true) }
+        ensures healthy { IsErrOf result NorError.Cut → IsHealthy (Self.state self.new).memory }
+        ensures size { length (Self.state self.new).memory ≡ length (Self.state self.old).memory }
+        ensures done { OnOk result (SucceedsSettled (Self.state self.old) (Self.state self.new)) }
+        ensures fails { IfErr result (λ e. Refuses e (Self.state self.old) (Self.state self.new)) };
+
+    /// Writes a sector, 512 bytes, into a free slot, as `put` does. Another block than the slot's
+    /// is wholly free.
     fn write(&mut self, slot: u16, tag: Tag, content: &[u8]) -> Result<(), NorError>
         requires number { slot < slot_count (Self.state self.old).memory }
         requires size { length content.now ≡ 512 }
         requires free { IsNorReady (Self.state self.old)
             → slot_at (Self.state self.old).memory slot ≡ Free }
-        requires outside { IsNorReady (Self.state self.old) → (r : ℕ)
-            → IsReserveOf r (Self.state self.old).memory → slot / 7 ≢ r }
+        requires outside { IsNorReady (Self.state self.old)
+            → IsOutside slot (Self.state self.old).memory }
         requires indexed { IsNorReady (Self.state self.old) → Self.indexed self.old ≡ true }
         ensures ok { OnOk result (IsWritable slot (Self.state self.old).memory
             → slot_at (Self.state self.new).memory slot ≡ Live tag content.now) }
@@ -109,22 +155,22 @@ pub trait Reclaim: SlotCalls {
         ensures done { OnOk result (SucceedsSettled (Self.state self.old) (Self.state self.new)) }
         ensures fails { IfErr result (λ e. Refuses e (Self.state self.old) (Self.state self.new)) };
 
-    /// Makes a live slot dead, as `retire` does.
+    /// Makes a live slot of a block of slots dead, as `retire` does.
     fn release(&mut self, slot: u16) -> Result<(), NorError>
         requires number { slot < slot_count (Self.state self.old).memory }
         requires live { IsNorReady (Self.state self.old)
-            → IsLive (slot_at (Self.state self.old).memory slot) }
+            → IsRetirable slot (Self.state self.old).memory }
         requires indexed { IsNorReady (Self.state self.old) → Self.indexed self.old ≡ true }
         ensures ok { OnOk result (slot_at (Self.state self.new).memory slot ≡ Dead) }
         ensures cut { IsErrOf result NorError.Cut
-            → IsLive (slot_at (Self.state self.old).memory slot)
+            → IsRetirable slot (Self.state self.old).memory
             → (slot_at (Self.state self.new).memory slot
             ≡ slot_at (Self.state self.old).memory slot)
             ⊎ (slot_at (Self.state self.new).memory slot ≡ Dead) }
         ensures clean { OnOk result (IsClean (Self.state self.old).memory
             → IsClean (Self.state self.new).memory) }
         ensures cut_clean { IsErrOf result NorError.Cut
-            → IsLive (slot_at (Self.state self.old).memory slot)
+            → IsRetirable slot (Self.state self.old).memory
             → IsClean (Self.state self.old).memory → IsClean (Self.state self.new).memory }
         ensures only { OnOk result (OnlyPlace slot (Self.state self.old).memory
             (Self.state self.new).memory) }

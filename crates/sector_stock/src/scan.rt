@@ -1,6 +1,7 @@
 //! The index of a memory, from the kinds and descriptors of its blocks.
 
-ghost use Rattle.std.specs.Prelude.{◌≡◌, ◌+◌, ◌*◌, ◌<◌, ◌≤◌, length, ℕ, OnOk, IfOk, IfErr};
+ghost use Rattle.std.specs.Prelude.{◌≡◌, ◌≢◌, ◌⊎◌, ◌/◌, ◌+◌, ◌*◌, ◌<◌, ◌≤◌, length, ℕ};
+ghost use Rattle.std.specs.Prelude.{OnOk, IfOk, IfErr};
 ghost use Rattle.std.specs.Prelude.{if◌then◌else◌};
 ghost use Rattle.nor_driver.specs.State.{IsNorReady, Refuses};
 ghost use Rattle.erase_journal.specs.Steps.{SucceedsSettled};
@@ -9,9 +10,9 @@ ghost use Rattle.sector_slots.specs.Blocks.{AreSettled};
 ghost use Rattle.sector_stock.specs.Index.{IsAhead, IsHighestWhole, IsWholeBlock, IsIndexOf};
 ghost use Rattle.sector_stock.specs.Index.{BlockNoted, StatesNoted, in_block, header_state};
 ghost use Rattle.sector_stock.specs.Index.{is_plain as is_plain_kind, is_free_state, is_dead_state};
-ghost use Rattle.sector_stock.specs.Index.{states_tally};
+ghost use Rattle.sector_stock.specs.Index.{states_tally, is_live_group, Marked, one_free_fewer};
 
-use crate::index::{BlockState, Cursors, SlotState, highest_whole};
+use crate::index::{BlockState, Cursors, SlotState, highest_whole, mark_live};
 use nor_driver::NorError;
 use nor_layout::{Header, Kind};
 use sector_slots::SlotCalls;
@@ -66,6 +67,7 @@ pub fn note_block(
         free,
         dead,
         plain: is_plain(kind),
+        group: is_group(kind),
     };
 }
 
@@ -101,8 +103,18 @@ fn is_plain(kind: Kind) -> bool
         Kind::Void => false,
         Kind::Committed(_) => false,
         Kind::Settled => false,
+        Kind::Group(_) => false,
+        Kind::DeadGroup => false,
+        Kind::SpoiltGroup => false,
         Kind::Unknown => false,
     }
+}
+
+/// Whether a block of this kind is live with a group.
+fn is_group(kind: Kind) -> bool
+    ensures { result ≡ is_live_group kind }
+{
+    matches!(kind, Kind::Group(_))
 }
 
 /// 1 for a free slot.
@@ -149,6 +161,26 @@ fn count_dead(states: &[SlotState], block: u16) -> u8
         count += one_dead(states[PLACES * block as usize + place]);
     }
     count
+}
+
+/// A free slot became live. Where its block was the reserve, another one is.
+pub fn mark_written(slots: &mut [SlotState], blocks: &mut [BlockState], at: &mut Cursors, slot: u16)
+    requires slot { slot < length slots.old }
+    requires block { slot / 7 < length blocks.old }
+    requires some { 0 < (in_block blocks.old (slot / 7)).free }
+    requires size { length blocks.old < 65536 }
+    requires numbers { (c : ℕ) → c < length blocks.old → (in_block blocks.old c).dead ≤ 7 }
+    requires spare { (c : ℕ) × (c < length blocks.old) × IsWholeBlock (in_block blocks.old c)
+        × (c ≢ slot / 7) }
+    ensures marked { Marked slot SlotState.Live (one_free_fewer (in_block blocks.old (slot / 7)))
+        slots.old slots.new blocks.old blocks.new }
+    ensures at { ((at.new ≡ at.old) × (at.old.reserve ≢ slot / 7))
+        ⊎ (IsAhead blocks.new at.new × IsHighestWhole blocks.new at.new.reserve) }
+{
+    mark_live(slots, blocks, slot);
+    if at.reserve == slot / 7 {
+        *at = first_cursors(blocks);
+    }
 }
 
 /// Where the index looks first.

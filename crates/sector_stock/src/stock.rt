@@ -11,9 +11,9 @@ ghost use Rattle.sector_stock.specs.Index.{IsStocked};
 
 use crate::Reclaim;
 use crate::given::{Copied, Given};
-use crate::index::{BlockState, Cursors, SlotState, mark_dead, mark_live};
-use crate::scan::fill_index;
-use crate::take::{take_in, tidy_in};
+use crate::index::{BlockState, Cursors, SlotState, mark_dead};
+use crate::scan::{fill_index, mark_written};
+use crate::take::{convert_in, take_in, tidy_in};
 use erase_journal::RecoverError;
 use journal_slots::SectorSlots;
 use nor_driver::{Nor, NorError};
@@ -125,6 +125,11 @@ impl<N: Nor> SlotCalls for Stock<N> {
         self.slots.retire(slot)
     }
 
+    fn retire_group(&mut self, block: u16) -> Result<(), NorError> {
+        self.indexed = false;
+        self.slots.retire_group(block)
+    }
+
     fn kind(&mut self, block: u16) -> Result<Kind, NorError> {
         self.slots.kind(block)
     }
@@ -156,6 +161,15 @@ impl<N: Nor> SlotCalls for Stock<N> {
     fn erase(&mut self, block: u16) -> Result<(), NorError> {
         self.indexed = false;
         self.slots.erase(block)
+    }
+
+    fn superblock(&mut self, into: &mut [u8]) -> Result<(), NorError> {
+        self.slots.superblock(into)
+    }
+
+    fn mark(&mut self) -> Result<(), NorError> {
+        self.indexed = false;
+        self.slots.mark()
     }
 
     fn restore(&mut self) -> Result<(), RecoverError> {
@@ -204,10 +218,32 @@ impl<N: Nor> Reclaim for Stock<N> {
         Ok(copied)
     }
 
+    fn is_group(&self, slot: u16) -> bool {
+        self.blocks[(slot / 7) as usize].group
+    }
+
+    fn convert(&mut self, block: u16) -> Result<Copied, NorError> {
+        self.indexed = false;
+        let converted = convert_in(
+            &mut self.slots,
+            self.states.as_mut_slice(),
+            self.blocks.as_mut_slice(),
+            &mut self.at,
+            block,
+        )?;
+        self.indexed = true;
+        Ok(converted)
+    }
+
     fn write(&mut self, slot: u16, tag: Tag, content: &[u8]) -> Result<(), NorError> {
         self.indexed = false;
         self.slots.put(slot, tag, content)?;
-        mark_live(self.states.as_mut_slice(), self.blocks.as_mut_slice(), slot);
+        mark_written(
+            self.states.as_mut_slice(),
+            self.blocks.as_mut_slice(),
+            &mut self.at,
+            slot,
+        );
         self.indexed = true;
         Ok(())
     }

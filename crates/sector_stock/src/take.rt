@@ -1,6 +1,7 @@
 //! A free slot is taken from a store and its index; a block is copied where none is free.
 
-ghost use Rattle.std.specs.Prelude.{◌≡◌, ◌≢◌, ◌<◌, ℕ, List, Some, None, length, OnOk, IfOk, IfErr};
+ghost use Rattle.std.specs.Prelude.{◌≡◌, ◌≢◌, ◌⊎◌, ◌<◌, ℕ, List, Some, None, length, OnOk};
+ghost use Rattle.std.specs.Prelude.{IfOk, IfErr};
 ghost use Rattle.std.specs.Result.{IsErrOf};
 ghost use Rattle.chip_model.specs.Geometry.{IsChipSize};
 ghost use Rattle.nor_driver.specs.State.{IsNorReady, Refuses};
@@ -9,13 +10,16 @@ ghost use Rattle.erase_journal.specs.Steps.{SucceedsSettled};
 ghost use Rattle.sector_stock.specs.Room.{HasRoom, HasNoneDead, HasNoneFree};
 ghost use Rattle.sector_stock.specs.Copy.{Stays};
 ghost use Rattle.sector_stock.specs.Index.{IsIndexOf, IsMostDead};
-ghost use Rattle.sector_stock.specs.Takes.{Takes, CopiesInto, dead_slots};
+ghost use Rattle.sector_slots.specs.Blocks.{IsReserveOf};
+ghost use Rattle.sector_stock.specs.Takes.{Takes, CopiesInto, IsLowestFree, HasMostDead, work_of};
+ghost use Rattle.sector_stock.specs.Takes.{Converts, IsLiveGroup, HasNoGroups, TidiesStock};
+ghost use Rattle.sector_slots.specs.Slots.{data_blocks};
 ghost use Rattle.sector_stock.specs.declared.given.Copied.{Copied as CopiedOf};
 
 use crate::copy::reclaim_into;
 use crate::given::{Copied, Given};
 use crate::index::{
-    BlockState, Cursors, SlotState, lowest_free, most_dead, move_block, shift_states,
+    BlockState, Cursors, SlotState, lowest_free, lowest_group, most_dead, move_block, shift_states,
 };
 use nor_driver::NorError;
 use sector_slots::SlotCalls;
@@ -35,8 +39,12 @@ fn copy_most<S: SlotCalls>(
     requires most { IsMostDead blocks.old source }
     ensures ok { IfOk result (λ c. CopiesInto c.source c.target (S.state slots.old).memory
         (S.state slots.new).memory) }
-    ensures fewer { OnOk result (dead_slots (S.state slots.new).memory
-        < dead_slots (S.state slots.old).memory) }
+    ensures most { IfOk result (λ c. HasMostDead c.source (S.state slots.old).memory
+        × IsReserveOf c.target (S.state slots.old).memory) }
+    ensures tidies { IfOk result (λ c. TidiesStock c.source c.target (S.state slots.old).memory
+        (S.state slots.new).memory) }
+    ensures fewer { OnOk result (work_of (S.state slots.new).memory
+        < work_of (S.state slots.old).memory) }
     ensures index { OnOk result (IsIndexOf states.new blocks.new at.new
         (S.state slots.new).memory) }
     ensures free { OnOk result (HasNoneFree at.new.reserve (S.state slots.new).memory → ⊥) }
@@ -57,6 +65,46 @@ fn copy_most<S: SlotCalls>(
     Ok(Copied { source, target })
 }
 
+/// Converts a block that is live with a group into slots of the reserve, and brings the index up to
+/// date.
+pub fn convert_in<S: SlotCalls>(
+    slots: &mut S,
+    states: &mut [SlotState],
+    blocks: &mut [BlockState],
+    at: &mut Cursors,
+    source: u16,
+) -> Result<Copied, NorError>
+    requires size { length blocks.old < 65536 }
+    requires source { source < data_blocks (S.state slots.old).memory }
+    requires group { IsLiveGroup source (S.state slots.old).memory }
+    requires index { IsIndexOf states.old blocks.old at.old (S.state slots.old).memory }
+    requires room { HasRoom (S.state slots.old).memory }
+    ensures ok { IfOk result (λ c. Converts c.source c.target (S.state slots.old).memory
+        (S.state slots.new).memory) }
+    ensures source { IfOk result (λ c. c.source ≡ source) }
+    ensures target { IfOk result (λ c. IsReserveOf c.target (S.state slots.old).memory) }
+    ensures index { OnOk result (IsIndexOf states.new blocks.new at.new
+        (S.state slots.new).memory) }
+    ensures cut { IsErrOf result NorError.Cut → IsHealthy (S.state slots.old).memory
+        → Stays (S.state slots.old).memory (S.state slots.new).memory }
+    ensures healthy { IsErrOf result NorError.Cut → IsHealthy (S.state slots.old).memory
+        → IsHealthy (S.state slots.new).memory }
+    ensures size { length (S.state slots.new).memory ≡ length (S.state slots.old).memory }
+    ensures states_size { length states.new ≡ length states.old }
+    ensures blocks_size { length blocks.new ≡ length blocks.old }
+    ensures done { OnOk result (SucceedsSettled (S.state slots.old) (S.state slots.new)) }
+    ensures fails { IfErr result (λ e. Refuses e (S.state slots.old) (S.state slots.new)) }
+{
+    let reserve = at.reserve;
+    reclaim_into(slots, source, reserve)?;
+    shift_states(states, source, reserve);
+    move_block(blocks, at, source);
+    Ok(Copied {
+        source,
+        target: reserve,
+    })
+}
+
 /// The lowest-numbered free slot outside the reserve. Where none is free, a block is copied first.
 pub fn take_in<S: SlotCalls>(
     slots: &mut S,
@@ -71,6 +119,10 @@ pub fn take_in<S: SlotCalls>(
     requires room { HasRoom (S.state slots.old).memory }
     ensures ok { IfOk result (λ given.
         Takes given.slot given.copied (S.state slots.old).memory (S.state slots.new).memory) }
+    ensures lowest { IfOk result (λ given. IsLowestFree given.slot (S.state slots.new).memory) }
+    ensures most { IfOk result (λ given. (c : CopiedOf) → given.copied ≡ Some c
+        → HasMostDead c.source (S.state slots.old).memory
+        × IsReserveOf c.target (S.state slots.old).memory) }
     ensures index { OnOk result (IsIndexOf states.new blocks.new at.new
         (S.state slots.new).memory) }
     ensures cut { IsErrOf result NorError.Cut
@@ -98,7 +150,49 @@ pub fn take_in<S: SlotCalls>(
     })
 }
 
-/// Copies the block with the most dead slots, where one is dead.
+/// Converts the lowest-numbered block that is live with a group, where there is one.
+fn convert_lowest<S: SlotCalls>(
+    slots: &mut S,
+    states: &mut [SlotState],
+    blocks: &mut [BlockState],
+    at: &mut Cursors,
+) -> Result<Option<Copied>, NorError>
+    requires sized { IsChipSize (length (S.state slots.old).memory) }
+    requires ready { IsNorReady (S.state slots.old) }
+    requires settled { IsSettled (S.state slots.old).memory }
+    requires index { IsIndexOf states.old blocks.old at.old (S.state slots.old).memory }
+    requires room { HasRoom (S.state slots.old).memory }
+    requires none { HasNoneDead (S.state slots.old).memory }
+    ensures copied { IfOk result (λ copied. (c : CopiedOf) → copied ≡ Some c
+        → TidiesStock c.source c.target (S.state slots.old).memory (S.state slots.new).memory) }
+    ensures fewer { IfOk result (λ copied. (c : CopiedOf) → copied ≡ Some c
+        → work_of (S.state slots.new).memory < work_of (S.state slots.old).memory) }
+    ensures target { IfOk result (λ copied. (c : CopiedOf) → copied ≡ Some c
+        → IsReserveOf c.target (S.state slots.old).memory) }
+    ensures none { IfOk result (λ copied. copied ≡ None → HasNoGroups (S.state slots.old).memory
+        × ((S.state slots.new).memory ≡ (S.state slots.old).memory)) }
+    ensures index { OnOk result (IsIndexOf states.new blocks.new at.new
+        (S.state slots.new).memory) }
+    ensures cut { IsErrOf result NorError.Cut
+        → Stays (S.state slots.old).memory (S.state slots.new).memory }
+    ensures healthy { IsErrOf result NorError.Cut → IsHealthy (S.state slots.new).memory }
+    ensures size { length (S.state slots.new).memory ≡ length (S.state slots.old).memory }
+    ensures states_size { length states.new ≡ length states.old }
+    ensures blocks_size { length blocks.new ≡ length blocks.old }
+    ensures done { OnOk result (SucceedsSettled (S.state slots.old) (S.state slots.new)) }
+    ensures fails { IfErr result (λ e. Refuses e (S.state slots.old) (S.state slots.new)) }
+{
+    match lowest_group(blocks) {
+        Some(source) => {
+            let converted = convert_in(slots, states, blocks, at, source)?;
+            Ok(Some(converted))
+        }
+        None => Ok(None),
+    }
+}
+
+/// Copies the block with the most dead slots, where one is dead; else converts the lowest-numbered
+/// block that is live with a group, where one is.
 pub fn tidy_in<S: SlotCalls>(
     slots: &mut S,
     states: &mut [SlotState],
@@ -111,11 +205,16 @@ pub fn tidy_in<S: SlotCalls>(
     requires index { IsIndexOf states.old blocks.old at.old (S.state slots.old).memory }
     requires room { HasRoom (S.state slots.old).memory }
     ensures copied { IfOk result (λ copied. (c : CopiedOf) → copied ≡ Some c
-        → CopiesInto c.source c.target (S.state slots.old).memory (S.state slots.new).memory) }
+        → TidiesStock c.source c.target (S.state slots.old).memory (S.state slots.new).memory) }
     ensures fewer { IfOk result (λ copied. (c : CopiedOf) → copied ≡ Some c
-        → dead_slots (S.state slots.new).memory < dead_slots (S.state slots.old).memory) }
-    ensures none { IfOk result (λ copied. copied ≡ None
+        → work_of (S.state slots.new).memory < work_of (S.state slots.old).memory) }
+    ensures most { IfOk result (λ copied. (c : CopiedOf) → copied ≡ Some c
         → HasNoneDead (S.state slots.old).memory
+        ⊎ HasMostDead c.source (S.state slots.old).memory) }
+    ensures target { IfOk result (λ copied. (c : CopiedOf) → copied ≡ Some c
+        → IsReserveOf c.target (S.state slots.old).memory) }
+    ensures none { IfOk result (λ copied. copied ≡ None
+        → HasNoneDead (S.state slots.old).memory × HasNoGroups (S.state slots.old).memory
         × ((S.state slots.new).memory ≡ (S.state slots.old).memory)) }
     ensures index { OnOk result (IsIndexOf states.new blocks.new at.new
         (S.state slots.new).memory) }
@@ -133,6 +232,6 @@ pub fn tidy_in<S: SlotCalls>(
             let copied = copy_most(slots, states, blocks, at, source)?;
             Ok(Some(copied))
         }
-        None => Ok(None),
+        None => convert_lowest(slots, states, blocks, at),
     }
 }

@@ -1,12 +1,22 @@
-use Rattle.std.proofs.Common.{◌≡◌, sym, subst}
-use Rattle.sector_slots.specs.Slots.{Free, Live, raw_slot}
+use Rattle.std.proofs.Common.{◌≡◌, ◌∙◌, ap, sym, subst}
+use Rattle.sector_slots.specs.Slots.{Free, Live, raw_slot, kind_at}
+use Rattle.sector_slots.specs.Copying.{copied_tag, to_copy, source_slot}
 use Rattle.sector_slots.specs.Steps.{IsErasedSlot, live_copied}
 use Rattle.journal_slots.proofs.slot.copy_from.Goals as goal
 
 pub returns-in_ok-copy_in-in-Some-clause-ok : goal.returns-in_ok-copy_in-in-Some-clause-ok
 returns-in_ok-copy_in-in-Some-clause-ok g c free =
     let m = c.args.journal.now.memory in
+    let k = c.read_kind.new.journal.memory in
+    let n = c.read_slot.new.journal.memory in
     let x = c.read_slot.new.into in
-    let was : raw_slot m c.args.source c.args.place ≡ Live c.in-Some.tag x = rw c.in-Some.is at c.in_ok-tag.ensures.ok in
-    live_copied c.in-Some.tag x was (c.in_ok-copy_in-in-Some.ensures.live (subst (λ a. raw_slot a c.args.target c.args.place ≡ Free) (sym c.in_ok-tag.ensures.same) free))
-    (λ fresh. c.in_ok-copy_in-in-Some.ensures.ok (subst (λ a. IsErasedSlot c.args.target c.args.place a) (sym c.in_ok-tag.ensures.same) fresh))
+    let s = c.args.source in
+    let i = c.args.place in
+    let same : n ≡ m = c.in_ok-tag.ensures.same ∙ c.in_ok-kind.ensures.same in
+    let read : raw_slot k s i ≡ Live c.in-Some.tag x = rw c.in-Some.is at c.in_ok-tag.ensures.ok in
+    let was : raw_slot m s i ≡ Live c.in-Some.tag x = subst (λ a. raw_slot a s i ≡ Live c.in-Some.tag x) c.in_ok-kind.ensures.same read in
+    let kind : c.in_ok-kind.kind ≡ kind_at m s = c.in_ok-kind.ensures.ok in
+    let tag : c.copied_tag.result ≡ copied_tag (kind_at m s) c.in-Some.tag = c.copied_tag.ensures ∙ ap (λ q. copied_tag q c.in-Some.tag) kind in
+    let source : source_slot m s i ≡ Live c.copied_tag.result x = ap (λ q. to_copy (kind_at m s) q) was ∙ ap (λ t. Live t x) (sym tag) in
+    live_copied c.copied_tag.result x source (c.in_ok-copy_in-in-Some.ensures.live (subst (λ a. raw_slot a c.args.target i ≡ Free) (sym same) free))
+    (λ fresh. c.in_ok-copy_in-in-Some.ensures.ok (subst (λ a. IsErasedSlot c.args.target i a) (sym same) fresh))

@@ -8,15 +8,15 @@ returns-in_err-retire_in-clause-cut g c is live =
     let p = err_from_is_err_and c.from_residual.result c.from_residual.ensures.1 in
     let m = c.args.journal.now.memory in
     let m' = c.retire_in.new.journal.memory in
-    retire-left c.args.slot m m' c.requires.number (place-only c.args.slot m m' c.in_err-retire_in.ensures.only (c.in_err-retire_in.ensures.cut_within (cc (p.1, p.2)))) live
-    (c.in_err-retire_in.ensures.cut (cc (p.1, p.2)) (live-raw m c.args.slot live))
+    retire-left c.args.slot m m' c.requires.number (place-only c.args.slot m m' c.in_err-retire_in.ensures.only (c.in_err-retire_in.ensures.cut_within (cc (p.1, p.2)))) live.0
+    (c.in_err-retire_in.ensures.cut (cc (p.1, p.2)) (live-raw m c.args.slot live.0) live.1)
 
 pub returns-in_err-retire_in-clause-cut_clean : goal.returns-in_err-retire_in-clause-cut_clean
 returns-in_err-retire_in-clause-cut_clean g c is live clean =
     let p = err_from_is_err_and c.from_residual.result c.from_residual.ensures.1 in
     let m = c.args.journal.now.memory in
     retire-clean c.args.slot m c.retire_in.new.journal.memory c.requires.number c.in_err-retire_in.ensures.only (c.in_err-retire_in.ensures.cut_within (cc (p.1, p.2))) clean
-    (c.in_err-retire_in.ensures.cut (cc (p.1, p.2)) (live-raw m c.args.slot live))
+    (c.in_err-retire_in.ensures.cut (cc (p.1, p.2)) (live-raw m c.args.slot live.0) live.1)
 
 pub returns-in_err-retire_in-clause-cut_only : goal.returns-in_err-retire_in-clause-cut_only
 returns-in_err-retire_in-clause-cut_only g c is =
@@ -27,11 +27,11 @@ pub returns-clause-ok : goal.returns-clause-ok
 returns-clause-ok g c live =
     let m = c.args.journal.now.memory in
     let m' = c.retire_in.new.journal.memory in
-    retire-dead c.args.slot m m' c.requires.number (place-only c.args.slot m m' c.in_ok-retire_in.ensures.only c.in_ok-retire_in.ensures.within) live c.in_ok-retire_in.ensures.ok
+    retire-dead c.args.slot m m' c.requires.number (place-only c.args.slot m m' c.in_ok-retire_in.ensures.only c.in_ok-retire_in.ensures.within) live.0 (c.in_ok-retire_in.ensures.ok live.1)
 
 pub returns-clause-clean : goal.returns-clause-clean
 returns-clause-clean g c live clean =
-    retire-clean c.args.slot c.args.journal.now.memory c.retire_in.new.journal.memory c.requires.number c.in_ok-retire_in.ensures.only c.in_ok-retire_in.ensures.within clean (inr c.in_ok-retire_in.ensures.ok)
+    retire-clean c.args.slot c.args.journal.now.memory c.retire_in.new.journal.memory c.requires.number c.in_ok-retire_in.ensures.only c.in_ok-retire_in.ensures.within clean (inr (c.in_ok-retire_in.ensures.ok live.1))
 
 pub returns-clause-only : goal.returns-clause-only
 returns-clause-only g c = place-only c.args.slot c.args.journal.now.memory c.retire_in.new.journal.memory c.in_ok-retire_in.ensures.only c.in_ok-retire_in.ensures.within

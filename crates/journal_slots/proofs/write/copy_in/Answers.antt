@@ -6,6 +6,7 @@ use Rattle.sector_slots.specs.Slots.{data_block}
 use Rattle.journal_slots.specs.Programs.{OnlyBytes}
 use Rattle.journal_slots.proofs.Bytes.{leaves-only, and-only, descriptor-place, content-place, place-after}
 use Rattle.journal_slots.proofs.Places.{fresh-descriptor, copied-within, copied, copied-tag}
+use Rattle.sector_slots.proofs.GroupLaws.{free-no_group}
 use Rattle.journal_slots.proofs.write.copy_in.Goals as goal
 
 pub returns-in_err-write_content-clause-cut_within : goal.returns-in_err-write_content-clause-cut_within
@@ -36,7 +37,7 @@ returns-clause-ok g c fresh =
     let bytes : (i : ℕ) → byte h i < 256 = c.in_ok-program_bytes.ensures.bytes in
     copied c.args.place b h c.args.content.now t c.args.tag c.requires.place (length-block m (c.args.block + 4) (omega (arith, c.requires.number))) (omega arith) bytes
     c.live_header-header.ensures.live c.requires.size (λ i. omega (arith, c.type_inv.content i)) (fresh-descriptor c.args.block c.args.place m fresh.free) fresh.blank
-    (c.in_ok-program_bytes.ensures.ok ∙ (ap (λ a. and_at d a h) c.descriptor_place.ensures ∙ ap (λ q. and_at q (16 + 4 * c.args.place) h) c.in_ok-write_content.ensures.ok))
+    (c.in_ok-program_bytes.ensures.ok ∙ (ap (λ a. and_at d a h) c.descriptor_place.ensures ∙ ap (λ q. and_at q (16 + 4 * c.args.place) h) c.in_ok-write_content.ensures.ok)) (free-no_group b c.args.place fresh.free)
 
 pub returns-clause-live : goal.returns-clause-live
 returns-clause-live g c free =
@@ -48,7 +49,7 @@ returns-clause-live g c free =
     let bytes : (i : ℕ) → byte h i < 256 = c.in_ok-program_bytes.ensures.bytes in
     copied-tag c.args.place b h c.args.content.now t c.args.tag c.requires.place (length-block m (c.args.block + 4) (omega (arith, c.requires.number))) (omega arith) bytes
     c.live_header-header.ensures.live (fresh-descriptor c.args.block c.args.place m free)
-    (c.in_ok-program_bytes.ensures.ok ∙ (ap (λ a. and_at d a h) c.descriptor_place.ensures ∙ ap (λ q. and_at q (16 + 4 * c.args.place) h) c.in_ok-write_content.ensures.ok))
+    (c.in_ok-program_bytes.ensures.ok ∙ (ap (λ a. and_at d a h) c.descriptor_place.ensures ∙ ap (λ q. and_at q (16 + 4 * c.args.place) h) c.in_ok-write_content.ensures.ok)) c.requires.size (free-no_group b c.args.place free)
 
 pub returns-clause-within : goal.returns-clause-within
 returns-clause-within g c =

@@ -5,7 +5,8 @@ use Rattle.nor_driver.specs.State.{Leaves}
 use Rattle.erase_journal.proofs.BlockLaws.{length-block}
 use Rattle.sector_slots.specs.Slots.{data_block}
 use Rattle.journal_slots.specs.Programs.{OnlyBytes}
-use Rattle.journal_slots.proofs.Bytes.{leaves-only, and-only, placed-at, descriptor-place, content-place, place-after}
+use Rattle.journal_slots.proofs.Bytes.{leaves-only, and-only, placed-at, descriptor-place, content-place, place-after, place-group}
+use Rattle.sector_slots.proofs.GroupLaws.{free-no_group}
 use Rattle.journal_slots.proofs.Places.{fresh-descriptor, begun-cut, begun-state, content-cut}
 use Rattle.journal_slots.proofs.write.fill.Goals as goal
 
@@ -17,7 +18,7 @@ returns-in_err-program_bytes-clause-cut g c is free =
     let b = data_block m c.args.block in
     let t = data_block c.program_bytes.new.journal.memory c.args.block in
     begun-cut c.args.place b h t c.requires.place (length-block m (c.args.block + 4) (omega (arith, c.requires.number))) c.requires.header c.requires.begun (fresh-descriptor c.args.block c.args.place m free)
-    (subst (λ a. Leaves b (TornAnd b a h) (and_at b a h) t) c.descriptor_place.ensures (c.in_err-program_bytes.ensures.cut (cc (p.1, p.2))))
+    (subst (λ a. Leaves b (TornAnd b a h) (and_at b a h) t) c.descriptor_place.ensures (c.in_err-program_bytes.ensures.cut (cc (p.1, p.2)))) (free-no_group b c.args.place free)
 
 pub returns-in_err-program_bytes-clause-within : goal.returns-in_err-program_bytes-clause-within
 returns-in_err-program_bytes-clause-within g c is =
@@ -39,7 +40,8 @@ returns-in_err-write_content-clause-cut g c is free =
     let t = data_block c.write_content.new.journal.memory c.args.block in
     let begun : d ≡ and_at b (16 + 4 * c.args.place) h = placed-at b h d c.descriptor_place.result (16 + 4 * c.args.place) c.descriptor_place.ensures c.in_ok-program_bytes.ensures.ok in
     let state = begun-state c.args.place b h d c.requires.place (length-block m (c.args.block + 4) (omega (arith, c.requires.number))) c.requires.header c.requires.begun (fresh-descriptor c.args.block c.args.place m free) begun in
-    inr (content-cut c.args.place d t c.requires.place state (c.in_err-write_content.ensures.cut (cc (p.1, p.2))))
+    let within = descriptor-place c.args.place (length h) b d (omega (arith, c.requires.header)) (and-only b h d (16 + 4 * c.args.place) begun) in
+    inr (content-cut c.args.place d t c.requires.place state (c.in_err-write_content.ensures.cut (cc (p.1, p.2))) (place-group c.args.place b d within (free-no_group b c.args.place free)))
 
 pub returns-in_err-write_content-clause-within : goal.returns-in_err-write_content-clause-within
 returns-in_err-write_content-clause-within g c is =

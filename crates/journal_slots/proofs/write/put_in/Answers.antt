@@ -7,6 +7,7 @@ use Rattle.sector_slots.specs.Slots.{data_block}
 use Rattle.journal_slots.specs.Programs.{OnlyBytes}
 use Rattle.journal_slots.proofs.Bytes.{leaves-only, and-only, descriptor-place, place-after}
 use Rattle.journal_slots.proofs.Places.{fresh-descriptor, fill-leaves, filled-within, commit-leaves, committed, committed-tag}
+use Rattle.sector_slots.proofs.GroupLaws.{free-no_group}
 use Rattle.journal_slots.proofs.write.put_in.Goals as goal
 
 pub returns-in_err-fill-clause-cut : goal.returns-in_err-fill-clause-cut
@@ -25,7 +26,7 @@ returns-in_err-program_bytes-clause-cut g c is free =
     let bytes : (i : ℕ) → byte h i < 256 = c.in_ok-fill.ensures.bytes in
     commit-leaves c.args.place b h c.args.content.now d t c.args.tag c.requires.place (length-block m (c.args.block + 4) (omega (arith, c.requires.number))) (omega arith) c.begun_header-header.ensures.begun bytes
     c.begun_header-header.ensures.read_back c.requires.size (λ i. omega (arith, c.type_inv.content i)) (fresh-descriptor c.args.block c.args.place m free) c.in_ok-fill.ensures.ok
-    (subst (λ a. Leaves d (TornAnd d a (252 ∷ [])) (and_at d a (252 ∷ [])) t) c.descriptor_place.ensures (c.in_err-program_bytes.ensures.cut (cc (p.1, p.2))))
+    (subst (λ a. Leaves d (TornAnd d a (252 ∷ [])) (and_at d a (252 ∷ [])) t) c.descriptor_place.ensures (c.in_err-program_bytes.ensures.cut (cc (p.1, p.2)))) (free-no_group b c.args.place free)
 
 pub returns-in_err-program_bytes-clause-cut_within : goal.returns-in_err-program_bytes-clause-cut_within
 returns-in_err-program_bytes-clause-cut_within g c is =
@@ -50,7 +51,7 @@ returns-clause-ok g c fresh =
     let bytes : (i : ℕ) → byte h i < 256 = c.in_ok-fill.ensures.bytes in
     committed c.args.place b h c.args.content.now t c.args.tag c.requires.place (length-block m (c.args.block + 4) (omega (arith, c.requires.number))) (omega arith) c.begun_header-header.ensures.begun bytes
     c.begun_header-header.ensures.read_back c.requires.size (λ i. omega (arith, c.type_inv.content i)) (fresh-descriptor c.args.block c.args.place m fresh.free) fresh.blank
-    (c.in_ok-program_bytes.ensures.ok ∙ (ap (λ a. and_at d a (252 ∷ [])) c.descriptor_place.ensures ∙ ap (λ q. and_at q (16 + 4 * c.args.place) (252 ∷ [])) c.in_ok-fill.ensures.ok))
+    (c.in_ok-program_bytes.ensures.ok ∙ (ap (λ a. and_at d a (252 ∷ [])) c.descriptor_place.ensures ∙ ap (λ q. and_at q (16 + 4 * c.args.place) (252 ∷ [])) c.in_ok-fill.ensures.ok)) (free-no_group b c.args.place fresh.free)
 
 pub returns-clause-live : goal.returns-clause-live
 returns-clause-live g c free =
@@ -62,7 +63,7 @@ returns-clause-live g c free =
     let bytes : (i : ℕ) → byte h i < 256 = c.in_ok-fill.ensures.bytes in
     committed-tag c.args.place b h c.args.content.now t c.args.tag c.requires.place (length-block m (c.args.block + 4) (omega (arith, c.requires.number))) (omega arith) c.begun_header-header.ensures.begun bytes
     c.begun_header-header.ensures.read_back (fresh-descriptor c.args.block c.args.place m free)
-    (c.in_ok-program_bytes.ensures.ok ∙ (ap (λ a. and_at d a (252 ∷ [])) c.descriptor_place.ensures ∙ ap (λ q. and_at q (16 + 4 * c.args.place) (252 ∷ [])) c.in_ok-fill.ensures.ok))
+    (c.in_ok-program_bytes.ensures.ok ∙ (ap (λ a. and_at d a (252 ∷ [])) c.descriptor_place.ensures ∙ ap (λ q. and_at q (16 + 4 * c.args.place) (252 ∷ [])) c.in_ok-fill.ensures.ok)) c.requires.size (free-no_group b c.args.place free)
 
 pub returns-clause-within : goal.returns-clause-within
 returns-clause-within g c =

@@ -10,14 +10,14 @@ use Rattle.journal_slots.proofs.Places.{retired, retire-cut}
 use Rattle.journal_slots.proofs.write.retire_in.Goals as goal
 
 pub returns-in_err-program_bytes-clause-cut : goal.returns-in_err-program_bytes-clause-cut
-returns-in_err-program_bytes-clause-cut g c is live =
+returns-in_err-program_bytes-clause-cut g c is live slots =
     let p = err_from_is_err_and c.from_residual.result c.from_residual.ensures.1 in
     let m = c.args.journal.now.memory in
     let b = data_block m c.args.block in
     let t = data_block c.program_bytes.new.journal.memory c.args.block in
     let (tag, x, e) = live in
     retire-cut c.args.place b t tag x c.requires.place (length-block m (c.args.block + 4) (omega (arith, c.requires.number))) e
-    (subst (λ a. Leaves b (TornAnd b a (248 ∷ [])) (and_at b a (248 ∷ [])) t) c.descriptor_place.ensures (c.in_err-program_bytes.ensures.cut (cc (p.1, p.2))))
+    (subst (λ a. Leaves b (TornAnd b a (248 ∷ [])) (and_at b a (248 ∷ [])) t) c.descriptor_place.ensures (c.in_err-program_bytes.ensures.cut (cc (p.1, p.2)))) slots
 
 pub returns-in_err-program_bytes-clause-cut_within : goal.returns-in_err-program_bytes-clause-cut_within
 returns-in_err-program_bytes-clause-cut_within g c is =
@@ -29,11 +29,11 @@ returns-in_err-program_bytes-clause-cut_within g c is =
     (leaves-only b (248 ∷ []) t c.descriptor_place.result (length-block m (c.args.block + 4) (omega (arith, c.requires.number))) (c.in_err-program_bytes.ensures.cut (cc (p.1, p.2)))))
 
 pub returns-clause-ok : goal.returns-clause-ok
-returns-clause-ok g c =
+returns-clause-ok g c slots =
     let m = c.args.journal.now.memory in
     let b = data_block m c.args.block in
     retired c.args.place b (data_block c.program_bytes.new.journal.memory c.args.block) c.requires.place (length-block m (c.args.block + 4) (omega (arith, c.requires.number)))
-    (c.in_ok-program_bytes.ensures.ok ∙ ap (λ a. and_at b a (248 ∷ [])) c.descriptor_place.ensures)
+    (c.in_ok-program_bytes.ensures.ok ∙ ap (λ a. and_at b a (248 ∷ [])) c.descriptor_place.ensures) slots
 
 pub returns-clause-within : goal.returns-clause-within
 returns-clause-within g c =

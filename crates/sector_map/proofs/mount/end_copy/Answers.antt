@@ -1,6 +1,7 @@
-use Rattle.std.proofs.Common.{subst}
+use Rattle.std.proofs.Common.{sym, subst}
 use Rattle.std.proofs.lemmas.Result.{err_from_is_err_and}
 use Rattle.erase_journal.specs.Journals.{IsHealthy}
+use Rattle.erase_journal.proofs.SettledLaws.{settled-after}
 use Rattle.sector_slots.specs.Slots.{IsSpareIn}
 use Rattle.sector_stock.specs.Copy.{KeepsSectors, EndsCopy, IsCommittedIn}
 use Rattle.sector_map.proofs.Mounting.{found-committed}
@@ -27,3 +28,10 @@ pub returns-in_ok-end_committed-clause-ok : goal.returns-in_ok-end_committed-cla
 returns-in_ok-end_committed-clause-ok g c =
     subst (λ z. IsCommittedIn c.args.source c.args.target z → EndsCopy z (g.S.SlotCalls.state c.end_committed.new.slots).memory) c.is_spare.ensures.same c.in_ok-end_committed.ensures.ok
     (found-committed c.args.source c.args.target (g.S.SlotCalls.state c.args.slots.now).memory c.requires.found c.requires.sound)
+
+pub end_committed-requires-clause-committed : goal.end_committed-requires-clause-committed
+end_committed-requires-clause-committed g c ready =
+    subst (λ z. IsCommittedIn c.args.source c.args.target z) (sym c.is_spare.ensures.same) (found-committed c.args.source c.args.target (g.S.SlotCalls.state c.args.slots.now).memory c.requires.found c.requires.sound)
+
+pub returns-in_ok-end_erased-clause-done : goal.returns-in_ok-end_erased-clause-done
+returns-in_ok-end_erased-clause-done g c = settled-after (g.S.SlotCalls.state c.args.slots.now) (g.S.SlotCalls.state c.is_spare.new.slots) (g.S.SlotCalls.state c.end_erased.new.slots) c.in_ok-is_spare.ensures.done c.in_ok-end_erased.ensures.done

@@ -2,7 +2,7 @@ use Rattle.std.proofs.Common.{◌≡◌, ◌+◌, suc, ap, sym, subst, arith}
 use Rattle.std.specs.Prelude.{IfErr}
 use Rattle.nor_driver.specs.State.{Refuses}
 use Rattle.std.proofs.lemmas.Result.{err_from_is_err_and}
-use Rattle.sector_map.proofs.Retiring.{Retired, retired-quiet, one-absent, one-held, retired-more, retired-cut, retired-healthy, older-live, refuses-perhaps}
+use Rattle.sector_map.proofs.Retiring.{Retired, retired-quiet, one-absent, one-held, retired-more, retired-cut, retired-healthy, older-retirable, refuses-perhaps}
 use Rattle.sector_map.proofs.mount.retire_older.Goals as goal
 use Rattle.sector_map.proofs.mount.retire_older.Goals.{in-Absent, in-One, in-Two+in_ok-retire-in-Two}
 
@@ -36,7 +36,7 @@ pub returns-in_err-retire-in-Two-clause-cut_clean : goal.returns-in_err-retire-i
 returns-in_err-retire-in-Two-clause-cut_clean g c is clean =
     let p = err_from_is_err_and c.from_residual.result c.from_residual.ensures.1 in
     c.in_err-retire-in-Two.ensures.cut_clean (cc (p.1, p.2))
-    (older-live c.args.table.now c.loop-sector.table c.loop-sector.sector (g.S.SlotCalls.state c.args.slots.now) (g.S.SlotCalls.state c.loop-sector.slots) c.in-Two.newer c.in-Two.older (omega (arith, c.loop-sector-test.true, c.loop-sector.invariant.retired.size)) c.in-Two.is c.loop-sector.invariant.retired)
+    (older-retirable c.args.table.now c.loop-sector.table c.loop-sector.sector (g.S.SlotCalls.state c.args.slots.now) (g.S.SlotCalls.state c.loop-sector.slots) c.in-Two.newer c.in-Two.older (omega (arith, c.loop-sector-test.true, c.loop-sector.invariant.retired.size)) c.in-Two.is c.loop-sector.invariant.retired)
     (c.loop-sector.invariant.retired.clean clean)
 
 pub returns-in_err-retire-in-Two-clause-fails : goal.returns-in_err-retire-in-Two-clause-fails

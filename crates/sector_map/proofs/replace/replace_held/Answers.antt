@@ -3,7 +3,7 @@ use Rattle.std.specs.Prelude.{Some, IfErr}
 use Rattle.nor_driver.specs.State.{Refuses}
 use Rattle.erase_journal.proofs.SettledLaws.{settled-healthy, settled-after, refuses-settled}
 use Rattle.std.proofs.lemmas.Result.{err_from_is_err_and}
-use Rattle.sector_map.proofs.Replacing.{put-was-cut, replace-done, retire-was-cut, old-live}
+use Rattle.sector_map.proofs.Replacing.{put-was-cut, replace-done, retire-was-cut, old-retirable}
 use Rattle.sector_map.proofs.replace.replace_held.Goals as goal
 
 pub returns-in_err-write-clause-cut : goal.returns-in_err-write-clause-cut
@@ -46,4 +46,4 @@ write-requires-clause-outside g c ready = (c.requires.replaceable ready).outside
 
 pub release-requires-clause-live : goal.release-requires-clause-live
 release-requires-clause-live g c now =
-    old-live c.args.to c.args.sector c.args.held (g.S.SlotCalls.state c.args.stock.now).memory (g.S.SlotCalls.state c.write.new.self).memory c.in_ok-write.ensures.only (c.requires.replaceable c.in_ok-write.ensures.done.ready)
+    old-retirable c.args.to c.args.sector c.args.held (g.S.SlotCalls.state c.args.stock.now).memory (g.S.SlotCalls.state c.write.new.self).memory c.in_ok-write.ensures.only (c.requires.replaceable c.in_ok-write.ensures.done.ready)

@@ -1,5 +1,5 @@
-use Rattle.std.proofs.Common.{◌≡◌}
-use Rattle.sector_slots.specs.Slots.{data_blocks, kind_at}
+use Rattle.std.proofs.Common.{◌≡◌, ◌<◌, ℕ, false}
+use Rattle.sector_slots.specs.Slots.{is_group, data_blocks, kind_at}
 use Rattle.sector_map.specs.Found.{FoundBelow}
 use Rattle.sector_map.proofs.Calls.{Repeated}
 use Rattle.sector_map.proofs.scan.survey.Given as goal
@@ -9,4 +9,5 @@ invariant-loop-block g l = record {
   same : (g.S.SlotCalls.state l.slots).memory ≡ (g.S.SlotCalls.state l.fn.slots).memory;
   since : Repeated l.block (g.S.SlotCalls.state l.fn.slots) (g.S.SlotCalls.state l.slots);
   found : FoundBelow l.found (kind_at (g.S.SlotCalls.state l.fn.slots).memory) l.block (data_blocks (g.S.SlotCalls.state l.fn.slots).memory);
+  alone : (d : ℕ) → d < l.block → is_group (kind_at (g.S.SlotCalls.state l.fn.slots).memory d) ≡ false;
 }

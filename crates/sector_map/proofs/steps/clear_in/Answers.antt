@@ -1,42 +1,36 @@
-use Rattle.std.proofs.Common.{sym, subst, arith}
+use Rattle.std.proofs.Common.{inl}
 use Rattle.std.proofs.lemmas.Result.{err_from_is_err_and}
-use Rattle.sector_map.specs.Replace.{HeldBy}
-use Rattle.sector_map.proofs.Retiring.{table-holder}
-use Rattle.sector_map.proofs.Clearing.{held-live, clear-done, clear-cut, clear-none}
+use Rattle.sector_slots.specs.Sectors.{zeros}
+use Rattle.sector_map.specs.Maps.{Wrote}
+use Rattle.sector_map.proofs.Retiring.{succeeds-perhaps}
+use Rattle.erase_journal.specs.Steps.{SucceedsSettled}
+use Rattle.sector_map.proofs.MapCalls.{wrote-after, leaves-after, after-ok, after-fails}
 use Rattle.sector_map.proofs.steps.clear_in.Goals as goal
 
-pub release-requires-clause-number : goal.release-requires-clause-number
-release-requires-clause-number g c =
-    let m = (g.S.SlotCalls.state c.args.stock.now).memory in
-    let hold = subst (λ o. HeldBy o c.args.sector m) (sym c.in-Some.ensures) (table-holder c.args.table.now m c.args.sector c.requires.served.tabled c.requires.number) in
-    hold.1.number
-
-pub release-requires-clause-live : goal.release-requires-clause-live
-release-requires-clause-live g c ready =
-    let m = (g.S.SlotCalls.state c.args.stock.now).memory in
-    let hold = subst (λ o. HeldBy o c.args.sector m) (sym c.in-Some.ensures) (table-holder c.args.table.now m c.args.sector c.requires.served.tabled c.requires.number) in
-    held-live c.args.sector c.in-Some.held m hold
-
-pub returns-in_err-release-in-Some-clause-cut : goal.returns-in_err-release-in-Some-clause-cut
-returns-in_err-release-in-Some-clause-cut g c is =
+pub returns-in_err-leave_group-clause-cut : goal.returns-in_err-leave_group-clause-cut
+returns-in_err-leave_group-clause-cut g c is =
     let p = err_from_is_err_and c.from_residual.result c.from_residual.ensures.1 in
-    let a = g.S.SlotCalls.state c.args.stock.now in
-    let s = c.requires.served in
-    let hold = subst (λ o. HeldBy o c.args.sector a.memory) (sym c.in-Some.ensures) (table-holder c.args.table.now a.memory c.args.sector s.tabled c.requires.number) in
-    let live = held-live c.args.sector c.in-Some.held a.memory hold in
-    clear-cut c.args.sector c.in-Some.held a (g.S.SlotCalls.state c.release.new.self).memory c.args.table.now (g.S.SlotCalls.indexed c.args.stock.now) s hold (c.in_err-release-in-Some.ensures.cut_only (cc (p.1, p.2))) (c.in_err-release-in-Some.ensures.cut (cc (p.1, p.2)) live)
-    (c.in_err-release-in-Some.ensures.cut_clean (cc (p.1, p.2)) live) (c.in_err-release-in-Some.ensures.healthy (cc (p.1, p.2)) s.store.journals) (omega (arith, c.requires.number, s.tabled.size))
+    inl (c.in_err-leave_group.ensures.cut (cc (p.1, p.2)))
 
-pub returns-in_ok-release-in-Some-clause-ok : goal.returns-in_ok-release-in-Some-clause-ok
-returns-in_ok-release-in-Some-clause-ok g c =
+pub returns-clause-ok : goal.returns-clause-ok
+returns-clause-ok g c =
     let a = g.S.SlotCalls.state c.args.stock.now in
-    let s = c.requires.served in
-    let hold = subst (λ o. HeldBy o c.args.sector a.memory) (sym c.in-Some.ensures) (table-holder c.args.table.now a.memory c.args.sector s.tabled c.requires.number) in
-    clear-done c.args.sector c.in-Some.held a (g.S.SlotCalls.state c.release.new.self) c.args.table.now c.unset.new.table (g.S.SlotCalls.indexed c.args.stock.now) (g.S.SlotCalls.indexed c.release.new.self) s hold
-    c.in_ok-release-in-Some.ensures.only c.in_ok-release-in-Some.ensures.ok c.in_ok-release-in-Some.ensures.clean c.in_ok-release-in-Some.ensures.done (omega (arith, c.requires.number, s.tabled.size)) c.unset.ensures c.in_ok-release-in-Some.ensures.indexed
+    let b = g.S.SlotCalls.state c.leave_group.new.stock in
+    let d = g.S.SlotCalls.state c.clear_own.new.stock in
+    let i = g.S.SlotCalls.indexed c.leave_group.new.stock in
+    let j = g.S.SlotCalls.indexed c.clear_own.new.stock in
+    after-ok c.clear_own.result (Wrote c.args.sector zeros c.clear_own.new.table b d j) (Wrote c.args.sector zeros c.clear_own.new.table a d j)
+    (λ w. wrote-after c.args.sector zeros c.clear_own.new.table c.leave_group.new.table a b d i j c.in_ok-leave_group.ensures.ok w) c.clear_own.ensures.ok
 
-pub returns-in-None-clause-ok : goal.returns-in-None-clause-ok
-returns-in-None-clause-ok g c =
+pub returns-clause-cut : goal.returns-clause-cut
+returns-clause-cut g c is = leaves-after c.args.sector zeros (g.S.SlotCalls.state c.args.stock.now).memory (g.S.SlotCalls.state c.leave_group.new.stock).memory (g.S.SlotCalls.state c.clear_own.new.stock).memory c.in_ok-leave_group.ensures.ok.keeps (c.clear_own.ensures.cut is)
+
+pub returns-clause-done : goal.returns-clause-done
+returns-clause-done g c =
     let a = g.S.SlotCalls.state c.args.stock.now in
-    let s = c.requires.served in
-    clear-none c.args.sector a c.args.table.now (g.S.SlotCalls.indexed c.args.stock.now) s (subst (λ o. HeldBy o c.args.sector a.memory) (sym c.in-None.ensures) (table-holder c.args.table.now a.memory c.args.sector s.tabled c.requires.number))
+    let b = g.S.SlotCalls.state c.leave_group.new.stock in
+    let d = g.S.SlotCalls.state c.clear_own.new.stock in
+    after-ok c.clear_own.result (SucceedsSettled b d) (SucceedsSettled a d) (λ s. succeeds-perhaps a b d c.in_ok-leave_group.ensures.done s) c.clear_own.ensures.done
+
+pub returns-clause-fails : goal.returns-clause-fails
+returns-clause-fails g c = after-fails c.clear_own.result (g.S.SlotCalls.state c.args.stock.now) (g.S.SlotCalls.state c.leave_group.new.stock) (g.S.SlotCalls.state c.clear_own.new.stock) c.in_ok-leave_group.ensures.done c.clear_own.ensures.fails

@@ -1,74 +1,35 @@
-use Rattle.std.proofs.Common.{sym, subst, inl, arith}
-use Rattle.std.specs.Prelude.{IfErr}
+use Rattle.std.proofs.Common.{inl}
 use Rattle.std.proofs.lemmas.Result.{err_from_is_err_and}
-use Rattle.nor_driver.specs.State.{Refuses}
-use Rattle.erase_journal.proofs.SettledLaws.{settled-healthy, settled-after, refuses-settled}
-use Rattle.sector_map.proofs.Retiring.{succeeds-perhaps, refuses-perhaps}
-use Rattle.sector_map.proofs.Mounting.{perhaps-healthy}
-use Rattle.sector_map.proofs.MapCalls.{served-room, stays-keeps, served-moved, same-moved-keeps, at-slot, slot-held, slot-replaceable, held-number, write-cut, wrote}
+use Rattle.sector_map.specs.Maps.{Wrote}
+use Rattle.sector_map.proofs.Retiring.{succeeds-perhaps}
+use Rattle.erase_journal.specs.Steps.{SucceedsSettled}
+use Rattle.sector_map.proofs.MapCalls.{wrote-after, leaves-after, after-ok, after-fails}
 use Rattle.sector_map.proofs.steps.write_in.Goals as goal
 
-pub take_free-requires-clause-room : goal.take_free-requires-clause-room
-take_free-requires-clause-room g c = served-room c.args.table.now (g.S.SlotCalls.state c.args.stock.now) (g.S.SlotCalls.indexed c.args.stock.now) c.requires.served
-
-pub returns-in_err-given-clause-cut : goal.returns-in_err-given-clause-cut
-returns-in_err-given-clause-cut g c is =
+pub returns-in_err-leave_group-clause-cut : goal.returns-in_err-leave_group-clause-cut
+returns-in_err-leave_group-clause-cut g c is =
     let p = err_from_is_err_and c.from_residual.result c.from_residual.ensures.1 in
-    let s = c.requires.served in
-    inl (stays-keeps (g.S.SlotCalls.state c.args.stock.now).memory (g.S.SlotCalls.state c.take_free.new.self).memory (c.in_err-given.ensures.cut (cc (p.1, p.2))) (c.in_err-given.ensures.healthy (cc (p.1, p.2))) s.store.slots)
-
-pub follow_copied-requires-clause-sound : goal.follow_copied-requires-clause-sound
-follow_copied-requires-clause-sound g c = (served-moved c.in_ok-given.given.slot c.in_ok-given.given.copied (g.S.SlotCalls.state c.args.stock.now) (g.S.SlotCalls.indexed c.args.stock.now) (g.S.SlotCalls.state c.take_free.new.self).memory c.args.table.now c.requires.served c.in_ok-given.ensures.ok).sound
-
-pub follow_copied-requires-clause-single : goal.follow_copied-requires-clause-single
-follow_copied-requires-clause-single g c = (served-moved c.in_ok-given.given.slot c.in_ok-given.given.copied (g.S.SlotCalls.state c.args.stock.now) (g.S.SlotCalls.indexed c.args.stock.now) (g.S.SlotCalls.state c.take_free.new.self).memory c.args.table.now c.requires.served c.in_ok-given.ensures.ok).single
-
-pub follow_copied-requires-clause-blocks : goal.follow_copied-requires-clause-blocks
-follow_copied-requires-clause-blocks g c = (served-moved c.in_ok-given.given.slot c.in_ok-given.given.copied (g.S.SlotCalls.state c.args.stock.now) (g.S.SlotCalls.indexed c.args.stock.now) (g.S.SlotCalls.state c.take_free.new.self).memory c.args.table.now c.requires.served c.in_ok-given.ensures.ok).blocks
-
-pub returns-in_err-follow_copied-clause-cut : goal.returns-in_err-follow_copied-clause-cut
-returns-in_err-follow_copied-clause-cut g c is =
-    inl (same-moved-keeps (g.S.SlotCalls.state c.args.stock.now) (g.S.SlotCalls.state c.take_free.new.self).memory (g.S.SlotCalls.state c.follow_copied.new.slots).memory (served-moved c.in_ok-given.given.slot c.in_ok-given.given.copied (g.S.SlotCalls.state c.args.stock.now) (g.S.SlotCalls.indexed c.args.stock.now) (g.S.SlotCalls.state c.take_free.new.self).memory c.args.table.now c.requires.served c.in_ok-given.ensures.ok) c.follow_copied.ensures.same c.in_ok-given.ensures.done.settled c.requires.served.store.slots)
-
-pub replace_in-requires-clause-holder : goal.replace_in-requires-clause-holder
-replace_in-requires-clause-holder g c =
-    let at = at-slot c.in_ok-given.given.slot c.in_ok-given.given.copied (g.S.SlotCalls.state c.args.stock.now) (g.S.SlotCalls.indexed c.args.stock.now) (g.S.SlotCalls.state c.take_free.new.self).memory (g.S.SlotCalls.state c.follow_copied.new.slots).memory c.args.table.now c.follow_copied.new.table c.requires.served c.in_ok-given.ensures.ok c.follow_copied.ensures.same c.in_ok-follow_copied.ensures.ok in
-    held-number c.holder-holder.result c.args.sector (g.S.SlotCalls.state c.follow_copied.new.slots).memory (slot-held c.in_ok-given.given.slot c.args.sector c.follow_copied.new.table (g.S.SlotCalls.state c.args.stock.now).memory (g.S.SlotCalls.state c.follow_copied.new.slots).memory c.holder-holder.result at (omega (arith, c.requires.number, c.follow_copied.ensures.size)) c.holder-holder.ensures)
-
-pub replace_in-requires-clause-replaceable : goal.replace_in-requires-clause-replaceable
-replace_in-requires-clause-replaceable g c ready =
-    let at = at-slot c.in_ok-given.given.slot c.in_ok-given.given.copied (g.S.SlotCalls.state c.args.stock.now) (g.S.SlotCalls.indexed c.args.stock.now) (g.S.SlotCalls.state c.take_free.new.self).memory (g.S.SlotCalls.state c.follow_copied.new.slots).memory c.args.table.now c.follow_copied.new.table c.requires.served c.in_ok-given.ensures.ok c.follow_copied.ensures.same c.in_ok-follow_copied.ensures.ok in
-    slot-replaceable c.in_ok-given.given.slot c.args.sector c.follow_copied.new.table (g.S.SlotCalls.state c.args.stock.now).memory (g.S.SlotCalls.state c.follow_copied.new.slots).memory c.holder-holder.result at (omega (arith, c.requires.number, c.follow_copied.ensures.size)) c.holder-holder.ensures
-
-pub returns-in_err-held-clause-cut : goal.returns-in_err-held-clause-cut
-returns-in_err-held-clause-cut g c is =
-    let p = err_from_is_err_and c.from_residual-in_err-held.result c.from_residual-in_err-held.ensures.1 in
-    let at = at-slot c.in_ok-given.given.slot c.in_ok-given.given.copied (g.S.SlotCalls.state c.args.stock.now) (g.S.SlotCalls.indexed c.args.stock.now) (g.S.SlotCalls.state c.take_free.new.self).memory (g.S.SlotCalls.state c.follow_copied.new.slots).memory c.args.table.now c.follow_copied.new.table c.requires.served c.in_ok-given.ensures.ok c.follow_copied.ensures.same c.in_ok-follow_copied.ensures.ok in
-    let replaceable = slot-replaceable c.in_ok-given.given.slot c.args.sector c.follow_copied.new.table (g.S.SlotCalls.state c.args.stock.now).memory (g.S.SlotCalls.state c.follow_copied.new.slots).memory c.holder-holder.result at (omega (arith, c.requires.number, c.follow_copied.ensures.size)) c.holder-holder.ensures in
-    let healthy = perhaps-healthy (g.S.SlotCalls.state c.take_free.new.self) (g.S.SlotCalls.state c.follow_copied.new.slots) c.in_ok-follow_copied.ensures.done (settled-healthy (g.S.SlotCalls.state c.take_free.new.self).memory c.in_ok-given.ensures.done.settled) in
-    write-cut c.args.sector c.args.content.now (g.S.SlotCalls.state c.args.stock.now).memory (g.S.SlotCalls.state c.follow_copied.new.slots).memory (g.S.SlotCalls.state c.replace_in.new.stock).memory at.moved (c.in_err-held.ensures.cut (cc (p.1, p.2)) replaceable) (c.in_err-held.ensures.healthy (cc (p.1, p.2)) healthy) c.requires.served.store.slots
-    (omega (arith, c.requires.number, c.requires.served.tabled.size))
-
-pub returns-in_err-held-clause-fails : goal.returns-in_err-held-clause-fails
-returns-in_err-held-clause-fails g c =
-    let p = err_from_is_err_and c.from_residual-in_err-held.result c.from_residual-in_err-held.ensures.1 in
-    subst (λ z. IfErr z (λ e. Refuses e (g.S.SlotCalls.state c.args.stock.now) (g.S.SlotCalls.state c.replace_in.new.stock))) (sym p.1)
-    (refuses-settled p.0 (g.S.SlotCalls.state c.args.stock.now) (g.S.SlotCalls.state c.take_free.new.self) (g.S.SlotCalls.state c.replace_in.new.stock) c.in_ok-given.ensures.done (refuses-perhaps p.0 (g.S.SlotCalls.state c.take_free.new.self) (g.S.SlotCalls.state c.follow_copied.new.slots) (g.S.SlotCalls.state c.replace_in.new.stock) c.in_ok-follow_copied.ensures.done (subst (λ e. Refuses e (g.S.SlotCalls.state c.follow_copied.new.slots) (g.S.SlotCalls.state c.replace_in.new.stock)) (sym p.2) c.in_err-held.ensures.fails)))
-
-pub returns-clause-done : goal.returns-clause-done
-returns-clause-done g c = settled-after (g.S.SlotCalls.state c.args.stock.now) (g.S.SlotCalls.state c.take_free.new.self) (g.S.SlotCalls.state c.replace_in.new.stock) c.in_ok-given.ensures.done (succeeds-perhaps (g.S.SlotCalls.state c.take_free.new.self) (g.S.SlotCalls.state c.follow_copied.new.slots) (g.S.SlotCalls.state c.replace_in.new.stock) c.in_ok-follow_copied.ensures.done c.in_ok-held.ensures.done)
+    inl (c.in_err-leave_group.ensures.cut (cc (p.1, p.2)))
 
 pub returns-clause-ok : goal.returns-clause-ok
 returns-clause-ok g c =
-    let at = at-slot c.in_ok-given.given.slot c.in_ok-given.given.copied (g.S.SlotCalls.state c.args.stock.now) (g.S.SlotCalls.indexed c.args.stock.now) (g.S.SlotCalls.state c.take_free.new.self).memory (g.S.SlotCalls.state c.follow_copied.new.slots).memory c.args.table.now c.follow_copied.new.table c.requires.served c.in_ok-given.ensures.ok c.follow_copied.ensures.same c.in_ok-follow_copied.ensures.ok in
-    let replaceable = slot-replaceable c.in_ok-given.given.slot c.args.sector c.follow_copied.new.table (g.S.SlotCalls.state c.args.stock.now).memory (g.S.SlotCalls.state c.follow_copied.new.slots).memory c.holder-holder.result at (omega (arith, c.requires.number, c.follow_copied.ensures.size)) c.holder-holder.ensures in
-    let done = settled-after (g.S.SlotCalls.state c.args.stock.now) (g.S.SlotCalls.state c.take_free.new.self) (g.S.SlotCalls.state c.replace_in.new.stock) c.in_ok-given.ensures.done (succeeds-perhaps (g.S.SlotCalls.state c.take_free.new.self) (g.S.SlotCalls.state c.follow_copied.new.slots) (g.S.SlotCalls.state c.replace_in.new.stock) c.in_ok-follow_copied.ensures.done c.in_ok-held.ensures.done) in
-    wrote c.args.sector c.args.content.now c.in_ok-held.held (g.S.SlotCalls.state c.args.stock.now) (g.S.SlotCalls.state c.follow_copied.new.slots) (g.S.SlotCalls.state c.replace_in.new.stock) c.follow_copied.new.table c.keep_one.new.table (g.S.SlotCalls.indexed c.replace_in.new.stock) at.moved (c.in_ok-held.ensures.ok replaceable) done c.requires.served.store.slots
-    (omega (arith, c.requires.number, c.requires.served.tabled.size)) at.tabled c.keep_one.ensures c.requires.served.ready c.in_ok-held.ensures.indexed
+    let a = g.S.SlotCalls.state c.args.stock.now in
+    let b = g.S.SlotCalls.state c.leave_group.new.stock in
+    let d = g.S.SlotCalls.state c.write_own.new.stock in
+    let i = g.S.SlotCalls.indexed c.leave_group.new.stock in
+    let j = g.S.SlotCalls.indexed c.write_own.new.stock in
+    after-ok c.write_own.result (Wrote c.args.sector c.args.content.now c.write_own.new.table b d j) (Wrote c.args.sector c.args.content.now c.write_own.new.table a d j)
+    (λ w. wrote-after c.args.sector c.args.content.now c.write_own.new.table c.leave_group.new.table a b d i j c.in_ok-leave_group.ensures.ok w) c.write_own.ensures.ok
 
-pub returns-in_err-follow_copied-clause-fails : goal.returns-in_err-follow_copied-clause-fails
-returns-in_err-follow_copied-clause-fails g c =
-    let p = err_from_is_err_and c.from_residual-in_err-follow_copied.result c.from_residual-in_err-follow_copied.ensures.1 in
-    subst (λ z. IfErr z (λ e. Refuses e (g.S.SlotCalls.state c.args.stock.now) (g.S.SlotCalls.state c.follow_copied.new.slots))) (sym p.1)
-    (refuses-settled p.0 (g.S.SlotCalls.state c.args.stock.now) (g.S.SlotCalls.state c.take_free.new.self) (g.S.SlotCalls.state c.follow_copied.new.slots) c.in_ok-given.ensures.done
-    (subst (λ e. Refuses e (g.S.SlotCalls.state c.take_free.new.self) (g.S.SlotCalls.state c.follow_copied.new.slots)) (sym p.2) c.in_err-follow_copied.ensures.fails))
+pub returns-clause-cut : goal.returns-clause-cut
+returns-clause-cut g c is = leaves-after c.args.sector c.args.content.now (g.S.SlotCalls.state c.args.stock.now).memory (g.S.SlotCalls.state c.leave_group.new.stock).memory (g.S.SlotCalls.state c.write_own.new.stock).memory c.in_ok-leave_group.ensures.ok.keeps (c.write_own.ensures.cut is)
+
+pub returns-clause-done : goal.returns-clause-done
+returns-clause-done g c =
+    let a = g.S.SlotCalls.state c.args.stock.now in
+    let b = g.S.SlotCalls.state c.leave_group.new.stock in
+    let d = g.S.SlotCalls.state c.write_own.new.stock in
+    after-ok c.write_own.result (SucceedsSettled b d) (SucceedsSettled a d) (λ s. succeeds-perhaps a b d c.in_ok-leave_group.ensures.done s) c.write_own.ensures.done
+
+pub returns-clause-fails : goal.returns-clause-fails
+returns-clause-fails g c = after-fails c.write_own.result (g.S.SlotCalls.state c.args.stock.now) (g.S.SlotCalls.state c.leave_group.new.stock) (g.S.SlotCalls.state c.write_own.new.stock) c.in_ok-leave_group.ensures.done c.write_own.ensures.fails

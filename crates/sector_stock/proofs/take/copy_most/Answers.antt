@@ -1,5 +1,7 @@
 use Rattle.std.proofs.lemmas.Result.{err_from_is_err_and}
-use Rattle.sector_stock.proofs.Moved.{copyable-now, numbers-in, most-dead-in, copies-into, free-after, dead-falls, index-moved}
+use Rattle.sector_stock.proofs.Moved.{copyable-now, numbers-in, dead-in, most-dead-in, copies-into, free-after, index-moved}
+use Rattle.sector_stock.specs.Takes.{copies}
+use Rattle.sector_stock.proofs.Converting.{work-falls}
 use Rattle.sector_stock.proofs.Moving.{other-reserve}
 use Rattle.sector_stock.proofs.take.copy_most.Goals as goal
 
@@ -29,15 +31,26 @@ returns-clause-ok g c =
     let m = (g.S.SlotCalls.state c.args.slots.now).memory in
     let h = copyable-now c.args.source m c.args.states.now c.args.blocks.now c.args.at.now c.requires.room c.requires.index c.requires.most in
     copies-into c.args.source c.args.at.now.reserve m (g.S.SlotCalls.state c.reclaim_into.new.slots).memory c.requires.room
-    (most-dead-in c.args.source m c.args.states.now c.args.blocks.now c.args.at.now c.requires.index c.requires.most) c.requires.index.reserve h.other (c.in_ok-reclaim_into.ensures.ok h)
+    (dead-in c.args.source m c.args.states.now c.args.blocks.now c.args.at.now c.requires.index c.requires.most) c.requires.index.reserve h.other (c.in_ok-reclaim_into.ensures.ok h)
+
+pub returns-clause-tidies : goal.returns-clause-tidies
+returns-clause-tidies g c =
+    let m = (g.S.SlotCalls.state c.args.slots.now).memory in
+    let h = copyable-now c.args.source m c.args.states.now c.args.blocks.now c.args.at.now c.requires.room c.requires.index c.requires.most in
+    copies (copies-into c.args.source c.args.at.now.reserve m (g.S.SlotCalls.state c.reclaim_into.new.slots).memory c.requires.room
+    (dead-in c.args.source m c.args.states.now c.args.blocks.now c.args.at.now c.requires.index c.requires.most) c.requires.index.reserve h.other (c.in_ok-reclaim_into.ensures.ok h))
+
+pub returns-clause-most : goal.returns-clause-most
+returns-clause-most g c =
+    (most-dead-in c.args.source (g.S.SlotCalls.state c.args.slots.now).memory c.args.states.now c.args.blocks.now c.args.at.now c.requires.index c.requires.most, c.requires.index.highest)
 
 pub returns-clause-fewer : goal.returns-clause-fewer
 returns-clause-fewer g c =
     let m = (g.S.SlotCalls.state c.args.slots.now).memory in
     let h = copyable-now c.args.source m c.args.states.now c.args.blocks.now c.args.at.now c.requires.room c.requires.index c.requires.most in
     let done = c.in_ok-reclaim_into.ensures.ok h in
-    dead-falls c.args.source c.args.at.now.reserve m (g.S.SlotCalls.state c.reclaim_into.new.slots).memory c.requires.room done.blocks
-    (most-dead-in c.args.source m c.args.states.now c.args.blocks.now c.args.at.now c.requires.index c.requires.most) c.requires.index.reserve done.slots
+    work-falls c.args.source c.args.at.now.reserve m (g.S.SlotCalls.state c.reclaim_into.new.slots).memory c.requires.room done.blocks
+    (dead-in c.args.source m c.args.states.now c.args.blocks.now c.args.at.now c.requires.index c.requires.most) c.requires.index.reserve done.slots
 
 pub returns-clause-index : goal.returns-clause-index
 returns-clause-index g c =
@@ -52,6 +65,6 @@ returns-clause-free g c none =
     let m = (g.S.SlotCalls.state c.args.slots.now).memory in
     let h = copyable-now c.args.source m c.args.states.now c.args.blocks.now c.args.at.now c.requires.room c.requires.index c.requires.most in
     let done = c.in_ok-reclaim_into.ensures.ok h in
-    let most = most-dead-in c.args.source m c.args.states.now c.args.blocks.now c.args.at.now c.requires.index c.requires.most in
+    let most = dead-in c.args.source m c.args.states.now c.args.blocks.now c.args.at.now c.requires.index c.requires.most in
     free-after c.args.source c.args.at.now.reserve c.move_block.new.at.reserve m (g.S.SlotCalls.state c.reclaim_into.new.slots).memory c.requires.room most c.requires.index.reserve
     (other-reserve c.args.source c.args.at.now.reserve c.move_block.new.at.reserve c.args.blocks.now c.move_block.new.blocks c.move_block.ensures.moved c.move_block.ensures.reserve) done none

@@ -2,7 +2,6 @@ use Rattle.std.proofs.Common.{refl}
 use Rattle.sector_stock.proofs.RoomLaws.{never-full}
 use Rattle.sector_stock.specs.Takes.{was_copied}
 use Rattle.sector_stock.proofs.Moved.{none-dead-in}
-use Rattle.sector_stock.proofs.Finding.{none-free-of}
 use Rattle.sector_stock.proofs.take.take_in.Goals as goal
 
 pub unreachable-requires : goal.unreachable-requires
@@ -18,5 +17,8 @@ unreachable-requires-in_default-lowest_free g c =
 pub returns-clause-ok : goal.returns-clause-ok
 returns-clause-ok g c =
     let m = (g.S.SlotCalls.state c.args.slots.now).memory in
-    was_copied c.in_ok-copied.copied refl (λ r reserve. none-free-of r c.args.at.now.reserve m c.requires.index.reserve reserve (c.in_default.ensures.found m c.requires.index)) c.in_ok-copied.ensures.ok
+    was_copied c.in_ok-copied.copied refl (record { reserve = c.args.at.now.reserve; is_spare = c.requires.index.reserve; none = c.in_default.ensures.found m c.requires.index }) c.in_ok-copied.ensures.ok
     (c.in-Some-lowest_free.ensures.found (g.S.SlotCalls.state c.copy_most.new.slots).memory c.in_ok-copied.ensures.index)
+
+pub returns-clause-lowest : goal.returns-clause-lowest
+returns-clause-lowest g c = c.in-Some-lowest_free.ensures.lowest (g.S.SlotCalls.state c.copy_most.new.slots).memory c.in_ok-copied.ensures.index

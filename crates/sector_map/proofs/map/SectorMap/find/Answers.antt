@@ -1,5 +1,7 @@
+use Rattle.std.proofs.Common.{◌∙◌, ap, sym, length}
+use Rattle.chip_model.specs.Geometry.{sector_count}
 use Rattle.sector_map.proofs.Retiring.{single-tabled}
-use Rattle.sector_map.proofs.Restoring.{served-none, held-in}
+use Rattle.sector_map.proofs.Restoring.{served-none, held-in, known-keeps, known-same, known-latched}
 use Rattle.sector_map.proofs.map.SectorMap.find.Goals as goal
 
 pub returns-in-Ok-clause-ok : goal.returns-in-Ok-clause-ok
@@ -9,3 +11,13 @@ returns-in-Ok-clause-ok g c =
     let number = rw (← c.self.view_is) at c.requires.number in
     rw (← c.self.view_is) (c.in-Ok.ensures.ok s.store.slots (single-tabled c.self.inside.table.items m s.tabled) c.args.sector
     (held-in c.self.inside.table.items c.as_slice.result.now m c.args.sector c.holder_of-holder.result c.as_slice.ensures.value c.holder_of-holder.ensures s.tabled number))
+
+pub returns-in-Err-clause-cut : goal.returns-in-Err-clause-cut
+returns-in-Err-clause-cut g c is = rw (← c.self.view_is) (known-keeps c.self.inside.latched c.self.inside.table.items c.self.inside.stock.slots c.self.inside.stock.indexed c.find_in.new.stock.slots.memory c.in_default.is c.self.invariant.standing c.find_in.ensures.same)
+
+pub invariant_of-self-in-Err : goal.invariant_of-self-in-Err
+invariant_of-self-in-Err g c = record {
+  counted = c.self.invariant.counted ∙ ap (λ m. sector_count (length m)) (sym c.find_in.ensures.same);
+  standing = known-latched c.self.inside.latched c.in-Err.error c.self.inside.table.items _ c.self.inside.stock.slots c.find_in.new.stock.slots c.self.inside.stock.indexed c.find_in.new.stock.indexed c.in_default.is c.self.invariant.standing c.in-Err.ensures.fails
+      (λ e. known-same c.self.inside.latched c.self.inside.table.items c.self.inside.stock.slots c.self.inside.stock.indexed c.find_in.new.stock.slots.memory c.in_default.is c.self.invariant.standing c.find_in.ensures.same);
+}

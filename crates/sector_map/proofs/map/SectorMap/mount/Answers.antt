@@ -1,5 +1,6 @@
-use Rattle.std.proofs.Common.{rules}
-use Rattle.sector_map.proofs.Opening.{looked-fails}
+use Rattle.std.proofs.Common.{rules, subst}
+use Rattle.nor_driver.specs.State.{NorFails}
+use Rattle.sector_map.proofs.Opening.{looked-fails, look-was-cut}
 use Rattle.sector_map.proofs.map.SectorMap.mount.Goals as goal
 
 pub returns-in-Ok-Ok-Sectors-clause-fails : goal.returns-in-Ok-Ok-Sectors-clause-fails
@@ -11,3 +12,7 @@ returns-in-Ok-Err-Layout-clause-fails g c = search rules
 
 pub returns-in-Ok-Err-NotFormatted-clause-fails : goal.returns-in-Ok-Err-NotFormatted-clause-fails
 returns-in-Ok-Err-NotFormatted-clause-fails g c = search rules
+
+pub returns-in-Err-Cut-clause-fails : goal.returns-in-Err-Cut-clause-fails
+returns-in-Err-Cut-clause-fails g c =
+    look-was-cut (g.N.Nor.state c.args.nor) (g.N.Nor.state c.look.new.nor) (subst (λ e. NorFails e (g.N.Nor.state c.args.nor) (g.N.Nor.state c.look.new.nor)) c.in-Err-Cut.field-0-is c.in-Err-Cut.ensures.fails) c.look.ensures.same

@@ -1,0 +1,65 @@
+use Rattle.std.proofs.Common.{◌≡◌, sym, subst, ◌∙◌, arith}
+use Rattle.std.specs.Prelude.{None, Some, ◌/◌, slice_index_or}
+use Rattle.std.proofs.lemmas.Result.{err_from_is_err_and}
+use Rattle.sector_map.specs.Replace.{HeldBy, IsInSlots}
+use Rattle.sector_map.specs.Table.{holder}
+use Rattle.sector_map.specs.declared.entry.Entry.TheVariants.{Absent}
+use Rattle.sector_map.proofs.Retiring.{table-holder, single-tabled}
+use Rattle.sector_map.proofs.MapCalls.{served-room, served-converts, served-steps, stays-keeps, same-moved-keeps, stepped, perhaps-after}
+use Rattle.sector_map.proofs.Leaving.{own-absent, own-held, own-converted, group-is_live}
+use Rattle.sector_map.proofs.steps.leave_group.Goals as goal
+
+pub returns-in_default-clause-own : goal.returns-in_default-clause-own
+returns-in_default-clause-own g c =
+    let m = g.S.SlotCalls.state c.args.stock.now in
+    let e : holder (slice_index_or c.args.table.now c.args.sector Absent) ≡ None = cc (c.holder.ensures, c.in_default.is) in
+    own-absent c.args.sector m.memory (subst (λ o. HeldBy o c.args.sector m.memory) e (table-holder c.args.table.now m.memory c.args.sector c.requires.served.tabled c.requires.number))
+
+pub returns-then-not-is_group-clause-own : goal.returns-then-not-is_group-clause-own
+returns-then-not-is_group-clause-own g c =
+    let m = g.S.SlotCalls.state c.args.stock.now in
+    let e : holder (slice_index_or c.args.table.now c.args.sector Absent) ≡ Some c.in-Some.held = cc (c.holder.ensures, c.in-Some.is) in
+    let hold = subst (λ o. HeldBy o c.args.sector m.memory) e (table-holder c.args.table.now m.memory c.args.sector c.requires.served.tabled c.requires.number) in
+    own-held c.args.sector c.in-Some.held m.memory c.requires.served.blocks.rest (single-tabled c.args.table.now m.memory c.requires.served.tabled) hold (sym c.is_group.ensures ∙ cc c.if-not-is_group.true)
+
+pub convert-requires-clause-room : goal.convert-requires-clause-room
+convert-requires-clause-room g c = served-room c.args.table.now (g.S.SlotCalls.state c.args.stock.now) (g.S.SlotCalls.indexed c.args.stock.now) c.requires.served
+
+pub convert-requires-clause-number : goal.convert-requires-clause-number
+convert-requires-clause-number g c =
+    let m = g.S.SlotCalls.state c.args.stock.now in
+    let e : holder (slice_index_or c.args.table.now c.args.sector Absent) ≡ Some c.in-Some.held = cc (c.holder.ensures, c.in-Some.is) in
+    let hold = subst (λ o. HeldBy o c.args.sector m.memory) e (table-holder c.args.table.now m.memory c.args.sector c.requires.served.tabled c.requires.number) in
+    let low = hold.1.number in
+    omega (arith, low)
+
+pub convert-requires-clause-group : goal.convert-requires-clause-group
+convert-requires-clause-group g c = group-is_live (g.S.SlotCalls.state c.args.stock.now).memory (c.in-Some.held.slot / 7) (sym c.is_group.ensures ∙ cc c.if-not-is_group.false)
+
+pub returns-in_err-copied-clause-cut : goal.returns-in_err-copied-clause-cut
+returns-in_err-copied-clause-cut g c is =
+    let p = err_from_is_err_and c.from_residual.result c.from_residual.ensures.1 in
+    stays-keeps (g.S.SlotCalls.state c.args.stock.now).memory (g.S.SlotCalls.state c.convert.new.self).memory (c.in_err-copied.ensures.cut (cc (p.1, p.2))) (c.in_err-copied.ensures.healthy (cc (p.1, p.2))) c.requires.served.store.slots
+
+pub follow_copied-requires-clause-sound : goal.follow_copied-requires-clause-sound
+follow_copied-requires-clause-sound g c = (served-steps c.in_ok-copied.copied (g.S.SlotCalls.state c.args.stock.now) (g.S.SlotCalls.indexed c.args.stock.now) (g.S.SlotCalls.state c.convert.new.self).memory c.args.table.now c.requires.served (served-converts c.in_ok-copied.copied (g.S.SlotCalls.state c.args.stock.now) (g.S.SlotCalls.indexed c.args.stock.now) (g.S.SlotCalls.state c.convert.new.self).memory c.args.table.now c.requires.served c.in_ok-copied.ensures.ok)).sound
+
+pub follow_copied-requires-clause-single : goal.follow_copied-requires-clause-single
+follow_copied-requires-clause-single g c = (served-steps c.in_ok-copied.copied (g.S.SlotCalls.state c.args.stock.now) (g.S.SlotCalls.indexed c.args.stock.now) (g.S.SlotCalls.state c.convert.new.self).memory c.args.table.now c.requires.served (served-converts c.in_ok-copied.copied (g.S.SlotCalls.state c.args.stock.now) (g.S.SlotCalls.indexed c.args.stock.now) (g.S.SlotCalls.state c.convert.new.self).memory c.args.table.now c.requires.served c.in_ok-copied.ensures.ok)).single
+
+pub returns-in_err-follow_copied-clause-cut : goal.returns-in_err-follow_copied-clause-cut
+returns-in_err-follow_copied-clause-cut g c is =
+    same-moved-keeps (g.S.SlotCalls.state c.args.stock.now) (g.S.SlotCalls.state c.convert.new.self).memory (g.S.SlotCalls.state c.follow_copied.new.slots).memory (served-steps c.in_ok-copied.copied (g.S.SlotCalls.state c.args.stock.now) (g.S.SlotCalls.indexed c.args.stock.now) (g.S.SlotCalls.state c.convert.new.self).memory c.args.table.now c.requires.served (served-converts c.in_ok-copied.copied (g.S.SlotCalls.state c.args.stock.now) (g.S.SlotCalls.indexed c.args.stock.now) (g.S.SlotCalls.state c.convert.new.self).memory c.args.table.now c.requires.served c.in_ok-copied.ensures.ok)) c.follow_copied.ensures.same c.in_ok-copied.ensures.done.settled c.requires.served.store.slots
+
+pub returns-clause-ok : goal.returns-clause-ok
+returns-clause-ok g c =
+    stepped c.in_ok-copied.copied (g.S.SlotCalls.state c.args.stock.now) (g.S.SlotCalls.state c.convert.new.self) (g.S.SlotCalls.state c.follow_copied.new.slots) c.args.table.now c.follow_copied.new.table (g.S.SlotCalls.indexed c.args.stock.now) c.requires.served (served-converts c.in_ok-copied.copied (g.S.SlotCalls.state c.args.stock.now) (g.S.SlotCalls.indexed c.args.stock.now) (g.S.SlotCalls.state c.convert.new.self).memory c.args.table.now c.requires.served c.in_ok-copied.ensures.ok) c.follow_copied.ensures.same c.in_ok-follow_copied.ensures.ok
+    (perhaps-after (g.S.SlotCalls.state c.args.stock.now) (g.S.SlotCalls.state c.convert.new.self) (g.S.SlotCalls.state c.follow_copied.new.slots) c.in_ok-copied.ensures.done c.in_ok-follow_copied.ensures.done) (g.S.SlotCalls.indexed c.follow_copied.new.slots) (c.follow_copied.ensures.index ∙ c.in_ok-copied.ensures.indexed)
+
+pub returns-clause-own : goal.returns-clause-own
+returns-clause-own g c =
+    let m = g.S.SlotCalls.state c.args.stock.now in
+    let e : holder (slice_index_or c.args.table.now c.args.sector Absent) ≡ Some c.in-Some.held = cc (c.holder.ensures, c.in-Some.is) in
+    let hold = subst (λ o. HeldBy o c.args.sector m.memory) e (table-holder c.args.table.now m.memory c.args.sector c.requires.served.tabled c.requires.number) in
+    subst (λ z. IsInSlots c.args.sector z) (sym c.follow_copied.ensures.same)
+    (own-converted c.in_ok-copied.copied c.args.sector c.in-Some.held m.memory (g.S.SlotCalls.state c.convert.new.self).memory (served-converts c.in_ok-copied.copied (g.S.SlotCalls.state c.args.stock.now) (g.S.SlotCalls.indexed c.args.stock.now) (g.S.SlotCalls.state c.convert.new.self).memory c.args.table.now c.requires.served c.in_ok-copied.ensures.ok) (single-tabled c.args.table.now m.memory c.requires.served.tabled) hold c.in_ok-copied.ensures.source)
