@@ -9,18 +9,18 @@ ghost use Rattle.disk_command.specs.Effects.{CommandLeaves, CommandLatches};
 
 use block_device::{Disk, DiskError};
 use nbd_transmission::first_sector;
-use nbd_wire::{Command, CommandKind, SECTOR_LEN};
+use nbd_wire::{Command, CommandKind, Export, SECTOR_LEN};
 
-/// Runs an accepted command on a disk of so many sectors, over the bytes that are lent to it: a
+/// Runs an accepted command of this export, over the bytes that are lent to it: a
 /// WRITE's payload, the room for a READ's data, none for any other.
 pub fn run<D: Disk>(
     disk: &mut D,
     command: &Command,
-    sectors: u32,
+    export: Export,
     bytes: &mut [u8],
 ) -> Result<(), DiskError>
-    requires accepted { judge_of command.now sectors ≡ None }
-    requires size { length (D.facts disk.old).contents ≡ 512 * sectors }
+    requires accepted { judge_of command.now export ≡ None }
+    requires size { length (D.facts disk.old).contents ≡ 512 * export.sectors }
     requires lent { length bytes.old ≡ lent_len command.now }
     ensures contents { (D.facts disk.old).sound ≡ true
         → CommandLeaves (D.facts disk.old).contents command.now bytes.old result
@@ -33,11 +33,11 @@ pub fn run<D: Disk>(
     ensures latches { CommandLatches command.now (D.facts disk.old) result (D.facts disk.new) }
 {
     match command.kind {
-        CommandKind::Read => disk.read(first_sector(command, sectors), bytes),
-        CommandKind::Write => disk.write(first_sector(command, sectors), bytes),
+        CommandKind::Read => disk.read(first_sector(command, export), bytes),
+        CommandKind::Write => disk.write(first_sector(command, export), bytes),
         CommandKind::Flush => disk.flush(),
         CommandKind::Trim | CommandKind::WriteZeroes => {
-            disk.zero(first_sector(command, sectors), command.length / SECTOR_LEN)
+            disk.zero(first_sector(command, export), command.length / SECTOR_LEN)
         }
         CommandKind::Disconnect => unreachable!(),
         CommandKind::Unknown(_) => unreachable!(),

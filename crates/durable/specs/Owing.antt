@@ -1,6 +1,6 @@
 -- Whose replies wait for a sync. Source: NBD proto.md for FLUSH and FUA; the policies are own.
 use Rattle.std.specs.Prelude.{ℕ, ◌%◌, ◌==◌, ◌||◌, Bool, false}
-use Rattle.nbd_wire.specs.Commands.{is_flush, is_write, is_zeroing}
+use Rattle.nbd_wire.specs.Commands.{changes_disk, is_flush}
 use Rattle.nbd_wire.specs.declared.command.Command.{Command}
 use Rattle.durable.specs.declared.durable.Policy.{Policy}
 use Rattle.durable.specs.declared.durable.Policy.TheVariants.{AtFlush, Never, Always}
@@ -10,12 +10,8 @@ use Rattle.durable.specs.declared.durable.Policy.TheVariants.{AtFlush, Never, Al
 abbrev pub is_asked : Command → Bool
 is_asked c = is_flush c.kind || (c.flags.0 % 2 == 1)
 
--- the command changes sectors
-abbrev pub changes : Command → Bool
-changes c = is_write c.kind || is_zeroing c.kind
-
 -- the reply to a command waits for a sync
 abbrev pub owes : Policy → Command → Bool
 owes Never c = false
 owes AtFlush c = is_asked c
-owes Always c = is_asked c || changes c
+owes Always c = is_asked c || changes_disk c.kind

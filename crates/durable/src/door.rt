@@ -48,7 +48,7 @@ impl<'s, 'o, D: Disk, R: Recorder, L: OneServer, W: Wait, F: OpenFile> Owing<
     /// The hand again: what it has seen is a legal history of what the disk held at its start.
     pub fn into_hand(self) -> Hand<Row, L>
         ensures same { result ≡ self.entry }
-        ensures legal { L.sound ≡ true → IsLegal L.sectors L.base false result.seen }
+        ensures legal { L.sound ≡ true → IsLegal L.export L.base false result.seen }
     {
         let Owing { door, .. } = self;
         door.into_hand()
@@ -62,11 +62,11 @@ impl<'s, 'o, D: Disk, R: Recorder, L: OneServer, W: Wait, F: OpenFile> Door<L>
     ghost keeps = { R.KEEPS };
 
     ghost executes = { λ old new pass pass' command bytes done.
-        ExecutesLocked (start_of R.KEEPS L.sound L.sectors L.base) old new pass pass' command bytes
+        ExecutesLocked (start_of R.KEEPS L.sound L.export L.base) old new pass pass' command bytes
         done };
 
     ghost tidies = { λ old new result.
-        TidiesLocked (start_of R.KEEPS L.sound L.sectors L.base) result };
+        TidiesLocked (start_of R.KEEPS L.sound L.export L.base) result };
 
     /// Notes what the command's reply owes, and hands on what the locked door answers.
     fn execute<'a>(

@@ -1,7 +1,7 @@
 //! The file behind a disk, and when it is synced.
 
 ghost use Rattle.std.specs.Prelude.{◌≡◌};
-ghost use Rattle.durable.specs.Owing.{changes, is_asked, owes};
+ghost use Rattle.durable.specs.Owing.{is_asked, owes};
 
 use bitflags::Flags;
 use nbd_wire::{Command, CommandKind};
@@ -29,18 +29,6 @@ fn is_asked(command: &Command) -> bool
     }
 }
 
-/// Whether a command changes sectors.
-fn changes(command: &Command) -> bool
-    ensures { result ≡ changes command.now }
-{
-    match command.kind {
-        CommandKind::Write => true,
-        CommandKind::Trim => true,
-        CommandKind::WriteZeroes => true,
-        _ => false,
-    }
-}
-
 /// Whether the reply to a command waits for a sync.
 fn owes(policy: Policy, command: &Command) -> bool
     ensures { result ≡ owes policy command.now }
@@ -48,7 +36,7 @@ fn owes(policy: Policy, command: &Command) -> bool
     match policy {
         Policy::Never => false,
         Policy::AtFlush => is_asked(command),
-        Policy::Always => is_asked(command) || changes(command),
+        Policy::Always => is_asked(command) || command.kind.changes_disk(),
     }
 }
 
@@ -71,9 +59,14 @@ impl<F: OpenFile> Durable<F> {
         }
     }
 
+    /// Whether a sync has failed.
+    pub fn has_failed(&self) -> bool {
+        self.failed.load(Ordering::SeqCst)
+    }
+
     /// Syncs the file's data, and tells whether that and each sync before it went well.
     fn sync(&self) -> bool {
-        if self.failed.load(Ordering::SeqCst) {
+        if self.has_failed() {
             return false;
         }
         match self.file.sync_data() {

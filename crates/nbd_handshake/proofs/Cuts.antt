@@ -2,6 +2,7 @@
 use Rattle.std.proofs.Common.{◌≡◌, ℕ, ◌<◌, Bool, true, false, cond, List, length, take, drop, Option, Some, None, refl, sym, ap, ◌∙◌, arith, inl, inr}
 use Rattle.std.proofs.lemmas.Bool.{cases_lt, lt-ltb}
 use Rattle.std.proofs.lemmas.List.{take_all, take-append-drop, length-take}
+use Rattle.nbd_wire.specs.declared.export.Export.{Export}
 use Rattle.nbd_wire.specs.declared.option.OptionHead.{OptionHead}
 use Rattle.nbd_wire.specs.declared.phase.Phase.{Phase}
 use Rattle.nbd_wire.specs.declared.phase.Phase.TheVariants.{AwaitingFlags, Negotiating, Transmitting, Closed}
@@ -18,29 +19,29 @@ long_option o true h = absurd (omega arith)
 long_option o false h = h
 
 -- two forms of a unit that lead to the same phase with the same reply
-pub record SameAnswer (sectors : ℕ) (p : Phase) (kept unit : List ℕ) : Type 0 where
+pub record SameAnswer (export : Export) (p : Phase) (kept unit : List ℕ) : Type 0 where
   pub phase : after p kept ≡ after p unit
-  pub reply : negotiation_reply sectors p kept ≡ negotiation_reply sectors p unit
+  pub reply : negotiation_reply export p kept ≡ negotiation_reply export p unit
 
-by_option : (sectors : ℕ) (no_zeroes : Bool) (o : Option OptionHead) (c d : List ℕ) → 8192 < data_len o → (after_option no_zeroes o c ≡ after_option no_zeroes o d) × (option_reply_of sectors no_zeroes o c ≡ option_reply_of sectors no_zeroes o d)
-by_option sectors no_zeroes None c d long = absurd (omega arith)
-by_option sectors no_zeroes (Some o) c d long =
+by_option : (export : Export) (no_zeroes : Bool) (o : Option OptionHead) (c d : List ℕ) → 8192 < data_len o → (after_option no_zeroes o c ≡ after_option no_zeroes o d) × (option_reply_of export no_zeroes o c ≡ option_reply_of export no_zeroes o d)
+by_option export no_zeroes None c d long = absurd (omega arith)
+by_option export no_zeroes (Some o) c d long =
     let e = long_case o c d (long_option o _ long) in
-    (ap (λ k. phase_after k o.option no_zeroes) e, ap (λ k. reply_in_case k o.option no_zeroes sectors) e)
+    (ap (λ k. phase_after k o.option no_zeroes) e, ap (λ k. reply_in_case k o.option no_zeroes export) e)
 
-by_phase : (sectors : ℕ) (p : Phase) (unit : List ℕ) → IsNegotiation p → IsUnit p unit → 8208 < length unit → SameAnswer sectors p (take 8208 unit) unit
-by_phase sectors AwaitingFlags unit _ h long = absurd (omega (arith, h.whole))
-by_phase sectors (Negotiating no_zeroes) unit _ h long =
+by_phase : (export : Export) (p : Phase) (unit : List ℕ) → IsNegotiation p → IsUnit p unit → 8208 < length unit → SameAnswer export p (take 8208 unit) unit
+by_phase export AwaitingFlags unit _ h long = absurd (omega (arith, h.whole))
+by_phase export (Negotiating no_zeroes) unit _ h long =
     let kept = take 8208 unit in
     let same : option_at unit ≡ option_at kept = ap option_at (sym (take-append-drop 8208 unit)) ∙ option_front kept (drop 8208 unit) (omega (arith, length-take 8208 unit)) in
-    let answer = by_option sectors no_zeroes (option_at unit) (drop 16 kept) (drop 16 unit) (omega (arith, h.whole)) in
+    let answer = by_option export no_zeroes (option_at unit) (drop 16 kept) (drop 16 unit) (omega (arith, h.whole)) in
     record { phase = rw (← same) answer.0; reply = rw (← same) answer.1 }
-by_phase sectors Transmitting unit negotiation h long = absurd negotiation
-by_phase sectors Closed unit negotiation h long = absurd negotiation
+by_phase export Transmitting unit negotiation h long = absurd negotiation
+by_phase export Closed unit negotiation h long = absurd negotiation
 
-pub same_answer : (sectors : ℕ) (p : Phase) (unit : List ℕ) → IsNegotiation p → IsUnit p unit → SameAnswer sectors p (take 8208 unit) unit
-same_answer sectors p unit negotiation h =
+pub same_answer : (export : Export) (p : Phase) (unit : List ℕ) → IsNegotiation p → IsUnit p unit → SameAnswer export p (take 8208 unit) unit
+same_answer export p unit negotiation h =
     elim (cases_lt 8208 (length unit)) [
-      | inl long ↦ by_phase sectors p unit negotiation h long
-      | inr short ↦ let e = take_all 8208 unit short in record { phase = ap (after p) e; reply = ap (negotiation_reply sectors p) e }
+      | inl long ↦ by_phase export p unit negotiation h long
+      | inr short ↦ let e = take_all 8208 unit short in record { phase = ap (after p) e; reply = ap (negotiation_reply export p) e }
     ]

@@ -50,7 +50,7 @@ answered old unit (Negotiating no_zeroes) reply new h = h
 answered old unit Transmitting reply new h = h
 answered old unit Closed reply new h = h
 
-pub completes : (old new : ParserState) (unit : List ℕ) (next : Next) (reply : List ℕ) → next ≡ next_of new.phase → IsUnit old.phase unit → reply ≡ negotiation_reply old.sectors old.phase unit → new.phase ≡ after old.phase unit → HoldsRest 8208 new [] → HandshakeAdvances old unit next reply new
+pub completes : (old new : ParserState) (unit : List ℕ) (next : Next) (reply : List ℕ) → next ≡ next_of new.phase → IsUnit old.phase unit → reply ≡ negotiation_reply old.export old.phase unit → new.phase ≡ after old.phase unit → HoldsRest 8208 new [] → HandshakeAdvances old unit next reply new
 completes old new unit next reply next-is is_unit reply-is phase keeps =
     rw next-is (answered old unit new.phase reply new record {
       completes = record { is_unit = is_unit; phase = phase; keeps = keeps };
@@ -61,11 +61,11 @@ completes old new unit next reply next-is is_unit reply-is phase keeps =
 -- ---- whole texts
 
 pub answers_from_step : (start : Phase) (old new : ParserState) (text used : List ℕ) (next : Next) (reply : List ℕ) → IsNegotiation old.phase → ParserRepresents 8208 start old text
-    → ((rest : List ℕ) → HoldsRest 8208 old rest → HandshakeAdvances old (rest ++ used) next reply new) → HandshakeAnswers start old.sectors old.phase text (text ++ used) next reply
+    → ((rest : List ℕ) → HoldsRest 8208 old rest → HandshakeAdvances old (rest ++ used) next reply new) → HandshakeAnswers start old.export old.phase text (text ++ used) next reply
 answers_from_step start old new text used next reply negotiation represents step units rest split =
     by_next next (step rest (holds_the_rest 8208 start old text units rest (not_closed old.phase negotiation) represents split))
   where
-    one_more : (n : Next) → HandshakeAnswersUnit old (rest ++ used) n reply new → HandshakeOneMore start old.sectors old.phase (text ++ used) n reply units
+    one_more : (n : Next) → HandshakeAnswersUnit old (rest ++ used) n reply new → HandshakeOneMore start old.export old.phase (text ++ used) n reply units
     one_more n h = record {
       unit = rest ++ used;
       split = Splits_unit start text used units rest old.phase split h.completes.is_unit;
@@ -73,7 +73,7 @@ answers_from_step start old new text used next reply negotiation represents step
       reply_is = h.reply_is;
     }
 
-    by_next : (n : Next) → HandshakeAdvances old (rest ++ used) n reply new → HandshakeNextOrMore start old.sectors old.phase (text ++ used) n reply units
+    by_next : (n : Next) → HandshakeAdvances old (rest ++ used) n reply new → HandshakeNextOrMore start old.export old.phase (text ++ used) n reply units
     by_next More h = (rest ++ used, Splits_more start text used units rest old.phase split h.0.partial, h.1)
     by_next Stay h = one_more Stay h
     by_next Transmit h = one_more Transmit h

@@ -1,6 +1,7 @@
 -- What one call of the negotiation says of the unit begun, and of each text that the negotiation
 -- represents. Source: own.
 use Rattle.std.specs.Prelude.{ℕ, ◌≡◌, List, [], ◌∷◌, ◌++◌}
+use Rattle.nbd_wire.specs.declared.export.Export.{Export}
 use Rattle.nbd_wire.specs.declared.phase.Phase.{Phase}
 use Rattle.nbd_wire.specs.declared.phase.Phase.TheVariants.{Transmitting, Closed}
 use Rattle.nbd_wire.specs.Units.{Splits, after}
@@ -26,7 +27,7 @@ pub record HandshakeAnswersUnit (old : ParserState) (unit : List ℕ) (next : Ne
     (new : ParserState) : Type 0 where
   pub completes : Completes KEPT_LEN old unit new
   pub next_is : next ≡ next_of (after old.phase unit)
-  pub reply_is : reply ≡ negotiation_reply old.sectors old.phase unit
+  pub reply_is : reply ≡ negotiation_reply old.export old.phase unit
 
 -- More, without a reply, where all bytes of the unit begun that have come are no unit yet; any
 -- other answer where they are one.
@@ -38,28 +39,29 @@ HandshakeAdvances old rest Close reply new = HandshakeAnswersUnit old rest Close
 
 -- the new text has one unit more than the old one, ends with it, this is its reply, and this comes
 -- next
-pub record HandshakeOneMore (start : Phase) (sectors : ℕ) (phase : Phase) (new : List ℕ)
+pub record HandshakeOneMore (start : Phase) (export : Export) (phase : Phase) (new : List ℕ)
     (next : Next) (reply : List ℕ) (units : List (List ℕ)) : Type 0 where
   pub unit : List ℕ
   pub split : Splits start new (units ++ unit ∷ []) [] (after phase unit)
   pub next_is : next ≡ next_of (after phase unit)
-  pub reply_is : reply ≡ negotiation_reply sectors phase unit
+  pub reply_is : reply ≡ negotiation_reply export phase unit
 
 -- More, without a reply, where the new text has the old text's units and no other; any other answer
 -- where it has one more.
-abbrev pub HandshakeNextOrMore : Phase → ℕ → Phase → List ℕ → Next → List ℕ → List (List ℕ) → Type 0
-HandshakeNextOrMore start sectors phase new More reply units =
+abbrev pub HandshakeNextOrMore : Phase → Export → Phase → List ℕ → Next → List ℕ → List (List ℕ)
+    → Type 0
+HandshakeNextOrMore start export phase new More reply units =
     (rest : List ℕ) × Splits start new units rest phase × (reply ≡ [])
-HandshakeNextOrMore start sectors phase new Stay reply units =
-    HandshakeOneMore start sectors phase new Stay reply units
-HandshakeNextOrMore start sectors phase new Transmit reply units =
-    HandshakeOneMore start sectors phase new Transmit reply units
-HandshakeNextOrMore start sectors phase new Close reply units =
-    HandshakeOneMore start sectors phase new Close reply units
+HandshakeNextOrMore start export phase new Stay reply units =
+    HandshakeOneMore start export phase new Stay reply units
+HandshakeNextOrMore start export phase new Transmit reply units =
+    HandshakeOneMore start export phase new Transmit reply units
+HandshakeNextOrMore start export phase new Close reply units =
+    HandshakeOneMore start export phase new Close reply units
 
 -- how a text that grows from old to new is answered, whose units lead from the phase start to this
 -- phase
-abbrev pub HandshakeAnswers : Phase → ℕ → Phase → List ℕ → List ℕ → Next → List ℕ → Type 0
-HandshakeAnswers start sectors phase old new next reply =
+abbrev pub HandshakeAnswers : Phase → Export → Phase → List ℕ → List ℕ → Next → List ℕ → Type 0
+HandshakeAnswers start export phase old new next reply =
     (units : List (List ℕ)) (rest : List ℕ) → Splits start old units rest phase
-    → HandshakeNextOrMore start sectors phase new next reply units
+    → HandshakeNextOrMore start export phase new next reply units

@@ -11,7 +11,7 @@ ghost use Rattle.nbd_handshake.specs.Parser.{HandshakeAdvances, HandshakeAnswers
 use crate::front::absorb;
 use crate::replies::MAX_REPLY_LEN;
 use crate::units::{complete, head_len, tail_len};
-use nbd_wire::{MAX_OPTION_LEN, OPTION_LEN, Phase};
+use nbd_wire::{Export, MAX_OPTION_LEN, OPTION_LEN, Phase};
 use std::marker::Model;
 
 /// How many bytes of an option are kept at most: its head, and as much data as is looked at.
@@ -43,7 +43,7 @@ pub struct Taken {
 /// Cuts the bytes of a negotiation into flags and options, and answers them.
 #[derive(Drop)]
 pub struct Handshake {
-    sectors: u32,
+    export: Export,
     phase: Phase,
     kept: [u8; KEPT_LEN],
     count: u64,
@@ -59,7 +59,7 @@ impl Model for Handshake {
     ghost Value = { ParserState };
 
     ghost view = { λ h. record {
-      sectors = h.sectors;
+      export = h.export;
       phase = h.phase;
       kept = take
           (min h.count KEPT_LEN) h.kept;
@@ -72,17 +72,17 @@ impl Model for Handshake {
 }
 
 impl Handshake {
-    /// A negotiation for a disk of so many sectors, whose next byte is the first of the client's
+    /// A negotiation for this export, whose next byte is the first of the client's
     /// flags.
-    pub fn new(sectors: u32) -> Handshake
+    pub fn new(export: Export) -> Handshake
         ensures exact { result ≡ record
-            { sectors = sectors; phase = Phase.AwaitingFlags; kept = []; count = 0 } }
+            { export = export; phase = Phase.AwaitingFlags; kept = []; count = 0 } }
         ensures keeps { HoldsRest KEPT_LEN result [] }
         // It represents the text without bytes.
         ensures represents { ParserRepresents KEPT_LEN Phase.AwaitingFlags result [] }
     {
         Handshake {
-            sectors,
+            export,
             phase: Phase::AwaitingFlags,
             kept: [0; KEPT_LEN],
             count: 0,
@@ -102,7 +102,7 @@ impl Handshake {
         ensures over { IsNegotiationOver self.old.phase
             → (self.new ≡ self.old) × (result
             ≡ record { used = 0; reply = 0; next = next_of self.old.phase }) }
-        ensures sectors { self.new.sectors ≡ self.old.sectors }
+        ensures export { self.new.export ≡ self.old.export }
         ensures phase { Leads self.old.phase result.next self.new.phase }
         // Of the unit begun: what the bytes used make of it.
         ensures step { (rest : List ℕ) → IsNegotiation self.old.phase
@@ -114,7 +114,7 @@ impl Handshake {
         // text and the bytes used,
         ensures answer { (start : Phase) (text : List ℕ) → IsNegotiation self.old.phase
             → ParserRepresents KEPT_LEN start self.old text
-            → HandshakeAnswers start self.old.sectors self.old.phase text
+            → HandshakeAnswers start self.old.export self.old.phase text
             (text ++ take result.used bytes.now) result.next (take result.reply reply.new) }
         // and the negotiation then represents the longer text.
         ensures represents { (start : Phase) (text : List ℕ)
@@ -142,7 +142,7 @@ impl Handshake {
         ensures more { result.next ≡ Next.More
             → (result.used ≡ length bytes.now) × (result.reply ≡ 0) }
         ensures progress { 0 < length bytes.now → 0 < result.used }
-        ensures sectors { self.new.sectors ≡ self.old.sectors }
+        ensures export { self.new.export ≡ self.old.export }
         ensures phase { Leads self.old.phase result.next self.new.phase }
         ensures step { (rest : List ℕ) → HoldsRest KEPT_LEN self.old rest
             → HandshakeAdvances self.old (rest ++ take result.used bytes.now) result.next
@@ -175,7 +175,7 @@ impl Handshake {
             };
         }
         let unit = total.min(KEPT_LEN as u64) as usize;
-        let answer = complete(self.phase, &self.kept[..unit], self.sectors, reply);
+        let answer = complete(self.phase, &self.kept[..unit], self.export, reply);
         self.phase = answer.phase;
         self.count = 0;
         Taken {

@@ -10,8 +10,8 @@ use crate::options::{case_of, phase_after};
 use crate::replies::{MAX_REPLY_LEN, write_case};
 use byteorder::{BigEndian, ByteOrder};
 use nbd_wire::{
-    CLIENT_FLAGS_LEN, HandshakeFlags, MAX_OPTION_LEN, OPT_EXPORT_NAME, OPTION_LEN, OptionHead,
-    Phase,
+    CLIENT_FLAGS_LEN, Export, HandshakeFlags, MAX_OPTION_LEN, OPT_EXPORT_NAME, OPTION_LEN,
+    OptionHead, Phase,
 };
 
 /// The length of a head in the negotiation, in bytes; none where it is over.
@@ -55,14 +55,14 @@ pub(crate) struct Answer {
 }
 
 /// Answers a complete unit by what is kept of it, and writes the reply at the front of `reply`.
-pub(crate) fn complete(phase: Phase, unit: &[u8], sectors: u32, reply: &mut [u8]) -> Answer
+pub(crate) fn complete(phase: Phase, unit: &[u8], export: Export, reply: &mut [u8]) -> Answer
     requires phase { IsNegotiation phase }
     requires whole { head_len phase ≤ length unit.now }
     requires short { length unit.now ≤ KEPT_LEN }
     requires room { MAX_REPLY_LEN ≤ length reply.old }
     ensures len { result.reply ≤ MAX_REPLY_LEN }
     ensures phase { result.phase ≡ after phase unit.now }
-    ensures reply { take result.reply reply.new ≡ negotiation_reply sectors phase unit.now }
+    ensures reply { take result.reply reply.new ≡ negotiation_reply export phase unit.now }
     ensures rest { drop result.reply reply.new ≡ drop result.reply reply.old }
 {
     match phase {
@@ -77,7 +77,7 @@ pub(crate) fn complete(phase: Phase, unit: &[u8], sectors: u32, reply: &mut [u8]
             },
             Some(head) => {
                 let case = case_of(head, &unit[OPTION_LEN..]);
-                let written = write_case(case, head.option, no_zeroes, sectors, reply);
+                let written = write_case(case, head.option, no_zeroes, export, reply);
                 Answer {
                     reply: written,
                     phase: phase_after(case, head.option, no_zeroes),

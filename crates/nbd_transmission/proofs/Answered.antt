@@ -1,6 +1,7 @@
 -- What follows from an answer and from the request table.
 use Rattle.std.proofs.Common.{◌≡◌, ℕ, ◌≤◌, ◌&&◌, Bool, true, false, cond, Option, Some, None, refl, arith}
 use Rattle.std.specs.Prelude.{is_none}
+use Rattle.nbd_wire.specs.declared.export.Export.{Export}
 use Rattle.nbd_wire.specs.declared.request.Request.{Request}
 use Rattle.nbd_wire.specs.declared.command.Command.{Command}
 use Rattle.nbd_wire.specs.declared.phase.Phase.TheVariants.{Transmitting, Closed}
@@ -17,9 +18,9 @@ after_by c true v = refl
 after_by c false None = refl
 after_by c false (Some e) = refl
 
-pub after_is_phase_of : (sectors : ℕ) (r : Option Request) → after_request r ≡ phase_of (answer_of sectors r)
-after_is_phase_of sectors None = refl
-after_is_phase_of sectors (Some r) = after_by (command_in r) (is_disconnect (command_kind r.kind)) (judge_of (command_in r) sectors)
+pub after_is_phase_of : (export : Export) (r : Option Request) → after_request r ≡ phase_of (answer_of export r)
+after_is_phase_of export None = refl
+after_is_phase_of export (Some r) = after_by (command_in r) (is_disconnect (command_kind r.kind)) (judge_of (command_in r) export)
 
 -- a unit's answer is not More
 not_more_by : (c : Command) (b : Bool) (v : Option ℕ) → cond b Close (verdict c v) ≡ More → ⊥
@@ -27,23 +28,23 @@ not_more_by c true v e = cc
 not_more_by c false None e = cc
 not_more_by c false (Some v) e = cc
 
-pub answer_is_no_more : (sectors : ℕ) (r : Option Request) → answer_of sectors r ≡ More → ⊥
-answer_is_no_more sectors None e = cc
-answer_is_no_more sectors (Some r) e = not_more_by (command_in r) (is_disconnect (command_kind r.kind)) (judge_of (command_in r) sectors) e
+pub answer_is_no_more : (export : Export) (r : Option Request) → answer_of export r ≡ More → ⊥
+answer_is_no_more export None e = cc
+answer_is_no_more export (Some r) e = not_more_by (command_in r) (is_disconnect (command_kind r.kind)) (judge_of (command_in r) export) e
 
 -- a command that runs is an accepted one
-accepted_by : (sectors : ℕ) (c : Command) (b : Bool) (v : Option ℕ) → is_disconnect c.kind ≡ b → judge_of c sectors ≡ v → IsAcceptedRequest sectors (cond b Close (verdict c v))
-accepted_by sectors c true v kind judged = tt
-accepted_by sectors c false None kind judged = (judged, kind)
-accepted_by sectors c false (Some e) kind judged = tt
+accepted_by : (export : Export) (c : Command) (b : Bool) (v : Option ℕ) → is_disconnect c.kind ≡ b → judge_of c export ≡ v → IsAcceptedRequest export (cond b Close (verdict c v))
+accepted_by export c true v kind judged = tt
+accepted_by export c false None kind judged = (judged, kind)
+accepted_by export c false (Some e) kind judged = tt
 
-pub answer_is_accepted : (sectors : ℕ) (r : Option Request) (next : Next) → next ≡ answer_of sectors r → IsAcceptedRequest sectors next
-answer_is_accepted sectors r next e = rw e (of r) where
-  of : (r : Option Request) → IsAcceptedRequest sectors (answer_of sectors r)
+pub answer_is_accepted : (export : Export) (r : Option Request) (next : Next) → next ≡ answer_of export r → IsAcceptedRequest export next
+answer_is_accepted export r next e = rw e (of r) where
+  of : (r : Option Request) → IsAcceptedRequest export (answer_of export r)
   of None = tt
-  of (Some r) = accepted_by sectors (command_in r) (is_disconnect (command_kind r.kind)) (judge_of (command_in r) sectors) refl refl
+  of (Some r) = accepted_by export (command_in r) (is_disconnect (command_kind r.kind)) (judge_of (command_in r) export) refl refl
 
--- ---- an accepted WRITE is no longer than the largest length
+-- ---- an accepted WRITE is no longer than the export says
 
 both : (a b : Bool) → (a && b) ≡ true → (a ≡ true) × (b ≡ true)
 both true b h = (refl, h)
@@ -53,9 +54,9 @@ none_of : (o : Option ℕ) → is_none o ≡ true → o ≡ None
 none_of None h = refl
 none_of (Some e) h = cc
 
-pub accepted_is_short : (sectors : ℕ) (r : Option Request) → is_accepted_write sectors r ≡ true → payload_len r ≤ 65536
-accepted_is_short sectors None h = omega arith
-accepted_is_short sectors (Some r) h =
-    let parts = both (is_write (command_kind r.kind)) (is_none (judge_of (command_in r) sectors)) h in
-    let short = accepted_short (command_in r) sectors (write_lends_data (command_kind r.kind) parts.0) (none_of (judge_of (command_in r) sectors) parts.1) in
+pub accepted_is_short : (export : Export) (r : Option Request) → is_accepted_write export r ≡ true → payload_len r ≤ export.max_len
+accepted_is_short export None h = omega arith
+accepted_is_short export (Some r) h =
+    let parts = both (is_write (command_kind r.kind)) (is_none (judge_of (command_in r) export)) h in
+    let short = accepted_short (command_in r) export (write_lends_data (command_kind r.kind) parts.0) (none_of (judge_of (command_in r) export) parts.1) in
     rw parts.0 short

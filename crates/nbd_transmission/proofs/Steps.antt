@@ -3,6 +3,7 @@ use Rattle.std.proofs.Common.{◌≡◌, ℕ, ◌+◌, ◌-◌, ◌<◌, ◌≤�
 use Rattle.std.proofs.lemmas.Bool.{cases_lt}
 use Rattle.std.proofs.lemmas.List.{take-append-drop, take-append-le, drop-append-le, take-take, take_all, drop_all, length-drop, length-append, length-take, append-nil}
 use Rattle.std.proofs.Math.Seq.{take-append-add, drop-append-add}
+use Rattle.nbd_wire.specs.declared.export.Export.{Export}
 use Rattle.nbd_wire.specs.declared.phase.Phase.{Phase}
 use Rattle.nbd_wire.specs.declared.phase.Phase.TheVariants.{Transmitting, Closed}
 use Rattle.nbd_wire.specs.Heads.{request_at}
@@ -47,32 +48,32 @@ head_grows rest bytes head grown filled n used kept filled-is n-is copied le sho
           take-append-le 28 rest (take used bytes) ge ∙ kept ∙ sym (append-nil (take filled head)) ∙ ap (λ (t : List ℕ). take filled head ++ t) (sym nothing) ∙ sym copied
     ]
 
-pub payload_short : (sectors : ℕ) (rest : List ℕ) → length rest ≤ 28 → payload_of sectors rest ≡ []
-payload_short sectors rest short = by_test (is_accepted_write sectors (request_at rest)) where
+pub payload_short : (export : Export) (rest : List ℕ) → length rest ≤ 28 → payload_of export rest ≡ []
+payload_short export rest short = by_test (is_accepted_write export (request_at rest)) where
   by_test : (b : Bool) → cond b (drop 28 rest) [] ≡ []
   by_test true = drop_all 28 rest short
   by_test false = refl
 
 -- behind a whole head each further byte is payload, or none is
-pub payload_grows : (sectors : ℕ) (rest x : List ℕ) (b : Bool) (p u : ℕ) → u ≡ length x → 28 ≤ length rest + u → is_accepted_write sectors (request_at (rest ++ x)) ≡ b → p ≡ cond b (u - (28 - length rest)) 0
-    → payload_of sectors (rest ++ x) ≡ payload_of sectors rest ++ drop (u - p) x
-payload_grows sectors rest x true p u u-is long accepted p-is =
+pub payload_grows : (export : Export) (rest x : List ℕ) (b : Bool) (p u : ℕ) → u ≡ length x → 28 ≤ length rest + u → is_accepted_write export (request_at (rest ++ x)) ≡ b → p ≡ cond b (u - (28 - length rest)) 0
+    → payload_of export (rest ++ x) ≡ payload_of export rest ++ drop (u - p) x
+payload_grows export rest x true p u u-is long accepted p-is =
     elim (cases_lt (length rest) 28) [
       | inl lt ↦
           let at : u - p ≡ 28 - length rest = omega arith in
-          rw (accepted, payload_short sectors rest (omega arith), at) (drop_past 28 (28 - length rest) rest x (omega arith))
+          rw (accepted, payload_short export rest (omega arith), at) (drop_past 28 (28 - length rest) rest x (omega arith))
       | inr ge ↦
           let at : u - p ≡ 0 = omega arith in
-          let before : is_accepted_write sectors (request_at rest) ≡ true = ap (is_accepted_write sectors) (sym (request_front rest x ge)) ∙ accepted in
+          let before : is_accepted_write export (request_at rest) ≡ true = ap (is_accepted_write export) (sym (request_front rest x ge)) ∙ accepted in
           rw (accepted, before, at) (drop-append-le 28 rest x ge)
     ]
-payload_grows sectors rest x false p u u-is long accepted p-is =
+payload_grows export rest x false p u u-is long accepted p-is =
     let at : u - p ≡ length x = omega arith in
     let none : drop (length x) x ≡ [] = drop_all (length x) x (omega arith) in
     elim (cases_lt (length rest) 28) [
-      | inl lt ↦ rw (accepted, payload_short sectors rest (omega arith), at, none) refl
+      | inl lt ↦ rw (accepted, payload_short export rest (omega arith), at, none) refl
       | inr ge ↦
-          let before : is_accepted_write sectors (request_at rest) ≡ false = ap (is_accepted_write sectors) (sym (request_front rest x ge)) ∙ accepted in
+          let before : is_accepted_write export (request_at rest) ≡ false = ap (is_accepted_write export) (sym (request_front rest x ge)) ∙ accepted in
           rw (accepted, before, at, none) refl
     ]
 
@@ -100,14 +101,14 @@ pub waits : (old new : ParserState) (rest : List ℕ) → old.phase ≡ Transmit
 waits old new rest is_open same short keeps =
     record { partial = rw is_open (short_is_partial Transmitting rest short); phase = same; keeps = keeps }
 
-pub completes : (old new : ParserState) (rest : List ℕ) (next : Next) → old.phase ≡ Transmitting → next ≡ answer_to old.sectors rest → IsUnit Transmitting rest → new.phase ≡ phase_of next → HoldsRest 28 new [] → TransmissionAdvances old rest next new
+pub completes : (old new : ParserState) (rest : List ℕ) (next : Next) → old.phase ≡ Transmitting → next ≡ answer_to old.export rest → IsUnit Transmitting rest → new.phase ≡ phase_of next → HoldsRest 28 new [] → TransmissionAdvances old rest next new
 completes old new rest next is_open answer is_unit phase keeps =
-    by_next next (λ e. answer_is_no_more old.sectors (request_at rest) (sym answer ∙ e)) (whole, answer)
+    by_next next (λ e. answer_is_no_more old.export (request_at rest) (sym answer ∙ e)) (whole, answer)
   where
     whole : Completes 28 old rest new
     whole = record {
       is_unit = rw is_open is_unit;
-      phase = rw is_open (phase ∙ ap phase_of answer ∙ sym (after_is_phase_of old.sectors (request_at rest)));
+      phase = rw is_open (phase ∙ ap phase_of answer ∙ sym (after_is_phase_of old.export (request_at rest)));
       keeps = keeps;
     }
 
@@ -135,18 +136,18 @@ comes_short old new rest next is_open a long = by_next next a where
   by_next Close done = unit Close done
 
 -- so an accepted payload fits
-pub payload_fits : (old new : ParserState) (rest : List ℕ) (next : Next) → old.phase ≡ Transmitting → TransmissionAdvances old rest next new → length (payload_of old.sectors rest) ≤ 65536
+pub payload_fits : (old new : ParserState) (rest : List ℕ) (next : Next) → old.phase ≡ Transmitting → TransmissionAdvances old rest next new → length (payload_of old.export rest) ≤ old.export.max_len
 payload_fits old new rest next is_open a =
     elim (cases_lt (length rest) 28) [
       | inl lt ↦
-          let none = payload_short old.sectors rest (omega arith) in
+          let none = payload_short old.export rest (omega arith) in
           rw none (omega arith)
-      | inr long ↦ by_test (is_accepted_write old.sectors (request_at rest)) refl (comes_short old new rest next is_open a long)
+      | inr long ↦ by_test (is_accepted_write old.export (request_at rest)) refl (comes_short old new rest next is_open a long)
     ]
   where
-    by_test : (b : Bool) → is_accepted_write old.sectors (request_at rest) ≡ b → length rest ≤ 28 + payload_len (request_at rest) → length (cond b (drop 28 rest) []) ≤ 65536
+    by_test : (b : Bool) → is_accepted_write old.export (request_at rest) ≡ b → length rest ≤ 28 + payload_len (request_at rest) → length (cond b (drop 28 rest) []) ≤ old.export.max_len
     by_test true e short =
-        let most = accepted_is_short old.sectors (request_at rest) e in
+        let most = accepted_is_short old.export (request_at rest) e in
         omega (arith, length-drop 28 rest)
     by_test false e short = omega arith
 
@@ -160,19 +161,19 @@ not_closed p e shut = absurd_of (sym e ∙ shut) where
   absurd_of : Transmitting ≡ Closed → ⊥
   absurd_of e = cc
 
-pub answers_from_step : (start : Phase) (old new : ParserState) (text used : List ℕ) (next : Next) → old.phase ≡ Transmitting → ParserRepresents 28 start old text → Stepping old new used next → TransmissionAnswers start old.sectors text (text ++ used) next
+pub answers_from_step : (start : Phase) (old new : ParserState) (text used : List ℕ) (next : Next) → old.phase ≡ Transmitting → ParserRepresents 28 start old text → Stepping old new used next → TransmissionAnswers start old.export text (text ++ used) next
 answers_from_step start old new text used next is_open s step units rest split =
     let mine : Splits start text units rest old.phase = rw is_open split in
     by_next next (step rest (holds_the_rest 28 start old text units rest (not_closed old.phase is_open) s mine))
   where
-    one_more : (next : Next) → TransmissionAnswersUnit old (rest ++ used) next new → TransmissionOneMore start old.sectors (text ++ used) next units
+    one_more : (next : Next) → TransmissionAnswersUnit old (rest ++ used) next new → TransmissionOneMore start old.export (text ++ used) next units
     one_more next done = record {
       unit = rest ++ used;
       split = Splits_unit start text used units rest Transmitting split (rw is_open at done.0.is_unit);
       answer = done.1;
     }
 
-    by_next : (next : Next) → TransmissionAdvances old (rest ++ used) next new → TransmissionNextOrMore start old.sectors (text ++ used) next units
+    by_next : (next : Next) → TransmissionAdvances old (rest ++ used) next new → TransmissionNextOrMore start old.export (text ++ used) next units
     by_next More w = (rest ++ used, Splits_more start text used units rest Transmitting split (rw is_open at w.partial))
     by_next (Run c) done = one_more (Run c) done
     by_next (Refused k e) done = one_more (Refused k e) done

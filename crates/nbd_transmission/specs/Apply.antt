@@ -2,6 +2,7 @@
 -- simple replies; own is the list of bytes. Contents are one list of bytes, 512 for each sector.
 use Rattle.std.specs.Prelude.{ℕ, ◌+◌, List, [], ◌∷◌, ◌++◌, length, take, drop, Option, Some, None}
 use Rattle.std.specs.Prelude.{replicate, if◌then◌else◌}
+use Rattle.nbd_wire.specs.declared.export.Export.{Export}
 use Rattle.nbd_wire.specs.Numbers.{REQUEST_LEN}
 use Rattle.nbd_wire.specs.declared.command.Command.{Command}
 use Rattle.nbd_wire.specs.declared.command.CommandKind.{CommandKind}
@@ -46,45 +47,45 @@ abbrev pub applied_unless : Option ℕ → List ℕ → Command → List ℕ →
 applied_unless None contents c payload = changed_by contents c payload
 applied_unless (Some error) contents c payload = contents
 
-abbrev pub applied : ℕ → List ℕ → Command → List ℕ → List ℕ
-applied sectors contents c payload = applied_unless (judge_of c sectors) contents c payload
+abbrev pub applied : Export → List ℕ → Command → List ℕ → List ℕ
+applied export contents c payload = applied_unless (judge_of c export) contents c payload
 
 -- The reply to a command: a refused one is answered its error and no data.
 abbrev pub reply_unless : Option ℕ → List ℕ → Command → List ℕ
 reply_unless None contents c = head_of c 0 ++ data_of contents c
 reply_unless (Some error) contents c = head_of c error
 
-abbrev pub reply_to : ℕ → List ℕ → Command → List ℕ
-reply_to sectors contents c = reply_unless (judge_of c sectors) contents c
+abbrev pub reply_to : Export → List ℕ → Command → List ℕ
+reply_to export contents c = reply_unless (judge_of c export) contents c
 
 -- The same of a unit of the transmission phase. One that closes the connection is answered nothing
 -- and changes nothing.
-abbrev pub request_applied : ℕ → List ℕ → Option Request → List ℕ → List ℕ
-request_applied sectors contents None payload = contents
-request_applied sectors contents (Some r) payload =
+abbrev pub request_applied : Export → List ℕ → Option Request → List ℕ → List ℕ
+request_applied export contents None payload = contents
+request_applied export contents (Some r) payload =
     if is_disconnect (command_kind r.kind) then contents
-    else applied sectors contents (command_in r) payload
+    else applied export contents (command_in r) payload
 
-abbrev pub unit_applied : ℕ → List ℕ → List ℕ → List ℕ
-unit_applied sectors contents unit =
-    request_applied sectors contents (request_at unit) (drop REQUEST_LEN unit)
+abbrev pub unit_applied : Export → List ℕ → List ℕ → List ℕ
+unit_applied export contents unit =
+    request_applied export contents (request_at unit) (drop REQUEST_LEN unit)
 
-abbrev pub request_reply : ℕ → List ℕ → Option Request → List ℕ
-request_reply sectors contents None = []
-request_reply sectors contents (Some r) =
-    if is_disconnect (command_kind r.kind) then [] else reply_to sectors contents (command_in r)
+abbrev pub request_reply : Export → List ℕ → Option Request → List ℕ
+request_reply export contents None = []
+request_reply export contents (Some r) =
+    if is_disconnect (command_kind r.kind) then [] else reply_to export contents (command_in r)
 
-abbrev pub unit_reply : ℕ → List ℕ → List ℕ → List ℕ
-unit_reply sectors contents unit = request_reply sectors contents (request_at unit)
+abbrev pub unit_reply : Export → List ℕ → List ℕ → List ℕ
+unit_reply export contents unit = request_reply export contents (request_at unit)
 
 -- The replies to the units of a transmission, one after another, and the contents after them.
-abbrev pub unit_replies : ℕ → List ℕ → List (List ℕ) → List ℕ
-unit_replies sectors contents [] = []
-unit_replies sectors contents (unit ∷ units) =
-    unit_reply sectors contents unit
-    ++ unit_replies sectors (unit_applied sectors contents unit) units
+abbrev pub unit_replies : Export → List ℕ → List (List ℕ) → List ℕ
+unit_replies export contents [] = []
+unit_replies export contents (unit ∷ units) =
+    unit_reply export contents unit
+    ++ unit_replies export (unit_applied export contents unit) units
 
-abbrev pub after_units : ℕ → List ℕ → List (List ℕ) → List ℕ
-after_units sectors contents [] = contents
-after_units sectors contents (unit ∷ units) =
-    after_units sectors (unit_applied sectors contents unit) units
+abbrev pub after_units : Export → List ℕ → List (List ℕ) → List ℕ
+after_units export contents [] = contents
+after_units export contents (unit ∷ units) =
+    after_units export (unit_applied export contents unit) units

@@ -1,6 +1,7 @@
 -- What one call of the parser says of the unit begun, and of each text that the parser represents
 -- (own).
 use Rattle.std.specs.Prelude.{ℕ, ◌≡◌, List, [], ◌∷◌, ◌++◌}
+use Rattle.nbd_wire.specs.declared.export.Export.{Export}
 use Rattle.nbd_wire.specs.Numbers.{REQUEST_LEN}
 use Rattle.nbd_wire.specs.declared.phase.Phase.{Phase}
 use Rattle.nbd_wire.specs.declared.phase.Phase.TheVariants.{Transmitting}
@@ -13,7 +14,7 @@ use Rattle.nbd_transmission.specs.Taking.{answer_to}
 -- the bytes are a unit, and this is its answer
 abbrev pub TransmissionAnswersUnit : ParserState → List ℕ → Next → ParserState → Type 0
 TransmissionAnswersUnit old unit next new =
-    Completes REQUEST_LEN old unit new × (next ≡ answer_to old.sectors unit)
+    Completes REQUEST_LEN old unit new × (next ≡ answer_to old.export unit)
 
 -- More where all bytes of the unit begun that have come are no unit yet; any other answer where
 -- they are one.
@@ -25,26 +26,26 @@ TransmissionAdvances old rest (Refused cookie error) new =
 TransmissionAdvances old rest Close new = TransmissionAnswersUnit old rest Close new
 
 -- the new text has one unit more than the old one, ends with it, and this is its answer
-pub record TransmissionOneMore (start : Phase) (sectors : ℕ) (new : List ℕ) (next : Next)
+pub record TransmissionOneMore (start : Phase) (export : Export) (new : List ℕ) (next : Next)
     (units : List (List ℕ)) : Type 0 where
   pub unit : List ℕ
   pub split : Splits start new (units ++ unit ∷ []) [] (after Transmitting unit)
-  pub answer : next ≡ answer_to sectors unit
+  pub answer : next ≡ answer_to export unit
 
 -- More where the new text has the old text's units and no other; any other answer where it has one
 -- more.
-abbrev pub TransmissionNextOrMore : Phase → ℕ → List ℕ → Next → List (List ℕ) → Type 0
-TransmissionNextOrMore start sectors new More units =
+abbrev pub TransmissionNextOrMore : Phase → Export → List ℕ → Next → List (List ℕ) → Type 0
+TransmissionNextOrMore start export new More units =
     (rest : List ℕ) × Splits start new units rest Transmitting
-TransmissionNextOrMore start sectors new (Run c) units =
-    TransmissionOneMore start sectors new (Run c) units
-TransmissionNextOrMore start sectors new (Refused cookie error) units =
-    TransmissionOneMore start sectors new (Refused cookie error) units
-TransmissionNextOrMore start sectors new Close units =
-    TransmissionOneMore start sectors new Close units
+TransmissionNextOrMore start export new (Run c) units =
+    TransmissionOneMore start export new (Run c) units
+TransmissionNextOrMore start export new (Refused cookie error) units =
+    TransmissionOneMore start export new (Refused cookie error) units
+TransmissionNextOrMore start export new Close units =
+    TransmissionOneMore start export new Close units
 
 -- how a text that grows from old to new is answered, whose units lead from the phase start to the
 -- transmission
-abbrev pub TransmissionAnswers : Phase → ℕ → List ℕ → List ℕ → Next → Type 0
-TransmissionAnswers start sectors old new next = (units : List (List ℕ)) (rest : List ℕ)
-    → Splits start old units rest Transmitting → TransmissionNextOrMore start sectors new next units
+abbrev pub TransmissionAnswers : Phase → Export → List ℕ → List ℕ → Next → Type 0
+TransmissionAnswers start export old new next = (units : List (List ℕ)) (rest : List ℕ)
+    → Splits start old units rest Transmitting → TransmissionNextOrMore start export new next units

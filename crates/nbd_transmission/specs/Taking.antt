@@ -2,6 +2,7 @@
 -- nothing is said before a close.
 use Rattle.std.specs.Prelude.{ℕ, ◌≡◌, ◌&&◌, Bool, false, is_none, List, [], drop, Option, Some}
 use Rattle.std.specs.Prelude.{None, if◌then◌else◌}
+use Rattle.nbd_wire.specs.declared.export.Export.{Export}
 use Rattle.nbd_wire.specs.Numbers.{REQUEST_LEN}
 use Rattle.nbd_wire.specs.declared.request.Request.{Request}
 use Rattle.nbd_wire.specs.declared.command.Command.{Command}
@@ -18,14 +19,14 @@ verdict c None = Run c
 verdict c (Some error) = Refused c.cookie error
 
 -- the answer to a request, or to a head whose magic is wrong: that and DISC close
-abbrev pub answer_of : ℕ → Option Request → Next
-answer_of sectors None = Close
-answer_of sectors (Some r) = if is_disconnect (command_kind r.kind) then Close
-    else verdict (command_in r) (judge_of (command_in r) sectors)
+abbrev pub answer_of : Export → Option Request → Next
+answer_of export None = Close
+answer_of export (Some r) = if is_disconnect (command_kind r.kind) then Close
+    else verdict (command_in r) (judge_of (command_in r) export)
 
 -- the answer to a unit
-abbrev pub answer_to : ℕ → List ℕ → Next
-answer_to sectors unit = answer_of sectors (request_at unit)
+abbrev pub answer_to : Export → List ℕ → Next
+answer_to export unit = answer_of export (request_at unit)
 
 -- the phase of a parser that has given this answer
 abbrev pub phase_of : Next → Phase
@@ -35,18 +36,18 @@ phase_of (Refused cookie error) = Transmitting
 phase_of Close = Closed
 
 -- a command that is to be run passes each check of the request table, and is none that closes
-abbrev pub IsAcceptedRequest : ℕ → Next → Type 0
-IsAcceptedRequest sectors More = Unit {0}
-IsAcceptedRequest sectors (Run c) = (judge_of c sectors ≡ None) × (is_disconnect c.kind ≡ false)
-IsAcceptedRequest sectors (Refused cookie error) = Unit {0}
-IsAcceptedRequest sectors Close = Unit {0}
+abbrev pub IsAcceptedRequest : Export → Next → Type 0
+IsAcceptedRequest export More = Unit {0}
+IsAcceptedRequest export (Run c) = (judge_of c export ≡ None) × (is_disconnect c.kind ≡ false)
+IsAcceptedRequest export (Refused cookie error) = Unit {0}
+IsAcceptedRequest export Close = Unit {0}
 
-abbrev pub is_accepted_write : ℕ → Option Request → Bool
-is_accepted_write sectors None = false
-is_accepted_write sectors (Some r) =
-    is_write (command_kind r.kind) && is_none (judge_of (command_in r) sectors)
+abbrev pub is_accepted_write : Export → Option Request → Bool
+is_accepted_write export None = false
+is_accepted_write export (Some r) =
+    is_write (command_kind r.kind) && is_none (judge_of (command_in r) export)
 
 -- the part of an accepted WRITE's payload that has come with these first bytes of its unit
-abbrev pub payload_of : ℕ → List ℕ → List ℕ
-payload_of sectors rest = if is_accepted_write sectors (request_at rest) then drop REQUEST_LEN rest
+abbrev pub payload_of : Export → List ℕ → List ℕ
+payload_of export rest = if is_accepted_write export (request_at rest) then drop REQUEST_LEN rest
     else []

@@ -5,7 +5,8 @@
 //! each complete request once, in order, however the bytes are cut into pieces: an accepted command
 //! runs when its payload is complete, a refused one is answered with its error after its payload
 //! was taken, a wrong magic and DISC close. It tells which bytes are payload of an accepted WRITE,
-//! at most 65,536 in all, and never keeps them itself.
+//! at most as many as the export says, and never keeps them itself. `read_only_law`: nothing that
+//! is sent to a read-only export changes its disk.
 //!
 //! Left to the crate above: to keep the payload's bytes, to run the commands, to write the replies,
 //! to call again with the bytes that were not used. A closed parser uses no bytes and answers
@@ -14,8 +15,10 @@
 //! Source: NBD proto.md; the limits of the request table are own. No call takes memory.
 #![tactic(auto)]
 
+mod laws;
 mod table;
 mod transmission;
 
+pub use laws::read_only_law;
 pub use table::{first_sector, judge};
 pub use transmission::{Next, Taken, Transmission};

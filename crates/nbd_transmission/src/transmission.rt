@@ -12,7 +12,7 @@ ghost use Rattle.nbd_transmission.specs.Taking.{phase_of, IsAcceptedRequest};
 ghost use Rattle.nbd_transmission.specs.Parser.{TransmissionAnswers, TransmissionAdvances};
 
 use crate::table::judge;
-use nbd_wire::{Command, CommandKind, MAX_LEN, REQUEST_LEN, Request, fill};
+use nbd_wire::{Command, CommandKind, Export, REQUEST_LEN, Request, fill};
 use std::marker::Model;
 
 /// What comes next on a connection.
@@ -42,7 +42,7 @@ pub struct Taken {
 /// Cuts the bytes of a transmission into commands.
 #[derive(Drop)]
 pub struct Transmission {
-    sectors: u32,
+    export: Export,
     head: [u8; REQUEST_LEN],
     count: u64,
     is_closed: bool,
@@ -59,7 +59,7 @@ impl Model for Transmission {
     ghost Value = { ParserState };
 
     ghost view = { λ t. record {
-      sectors = t.sectors;
+      export = t.export;
       phase = (if t.is_closed then Closed else Transmitting);
       kept = take
           (min t.count REQUEST_LEN) t.head;
@@ -71,10 +71,10 @@ impl Model for Transmission {
 }
 
 impl Transmission {
-    /// A parser for a disk of so many sectors, whose next byte begins a request.
-    pub fn new(sectors: u32) -> Transmission
+    /// A parser for this export, whose next byte begins a request.
+    pub fn new(export: Export) -> Transmission
         ensures exact { result ≡ record
-            { sectors = sectors; phase = Phase.Transmitting; kept = []; count = 0 } }
+            { export = export; phase = Phase.Transmitting; kept = []; count = 0 } }
         ensures keeps { HoldsRest REQUEST_LEN result [] }
         // It represents each text whose units lead to the transmission, without a rest.
         ensures represents { (start : Phase) (text : List ℕ) (units : List (List ℕ))
@@ -82,7 +82,7 @@ impl Transmission {
             → ParserRepresents REQUEST_LEN start result text }
     {
         Transmission {
-            sectors,
+            export,
             head: [0; REQUEST_LEN],
             count: 0,
             is_closed: false,
@@ -99,10 +99,10 @@ impl Transmission {
         ensures closed { self.old.phase ≡ Phase.Closed
             → (self.new ≡ self.old) × (result
             ≡ record { used = 0; payload = 0; next = Next.Close }) }
-        ensures sectors { self.new.sectors ≡ self.old.sectors }
+        ensures export { self.new.export ≡ self.old.export }
         ensures phase { self.new.phase ≡ phase_of result.next }
         ensures phases { (self.old.phase ≡ Phase.Transmitting) ⊎ (self.old.phase ≡ Phase.Closed) }
-        ensures accepted { IsAcceptedRequest self.old.sectors result.next }
+        ensures accepted { IsAcceptedRequest self.old.export result.next }
 
         // Of the unit begun: what the bytes used make of it,
         ensures step { (rest : List ℕ) → self.old.phase ≡ Phase.Transmitting
@@ -112,19 +112,20 @@ impl Transmission {
         // that the last of them are the next part of an accepted payload,
         ensures part { (rest : List ℕ) → self.old.phase ≡ Phase.Transmitting
             → HoldsRest REQUEST_LEN self.old rest
-            → payload_of self.old.sectors (rest ++ take result.used bytes.now)
-            ≡ payload_of self.old.sectors rest
+            → payload_of self.old.export (rest ++ take result.used bytes.now)
+            ≡ payload_of self.old.export rest
             ++ drop (result.used - result.payload) (take result.used bytes.now) }
         // which never grows longer than a READ or WRITE may be.
         ensures room { (rest : List ℕ) → self.old.phase ≡ Phase.Transmitting
             → HoldsRest REQUEST_LEN self.old rest
-            → length (payload_of self.old.sectors (rest ++ take result.used bytes.now)) ≤ MAX_LEN }
+            → length (payload_of self.old.export (rest ++ take result.used bytes.now))
+            ≤ self.old.export.max_len }
 
         // Of each text that the parser represents: the answer is that of the next unit of this text
         // and the bytes used,
         ensures answer { (start : Phase) (text : List ℕ) → self.old.phase ≡ Phase.Transmitting
             → ParserRepresents REQUEST_LEN start self.old text
-            → TransmissionAnswers start self.old.sectors text (text ++ take result.used bytes.now)
+            → TransmissionAnswers start self.old.export text (text ++ take result.used bytes.now)
             result.next }
         // and the parser then represents the longer text.
         ensures represents { (start : Phase) (text : List ℕ)
@@ -148,15 +149,15 @@ impl Transmission {
         ensures payload { result.payload ≤ result.used }
         ensures more { result.next ≡ Next.More → result.used ≡ length bytes.now }
         ensures progress { 0 < length bytes.now → 0 < result.used }
-        ensures sectors { self.new.sectors ≡ self.old.sectors }
+        ensures export { self.new.export ≡ self.old.export }
         ensures phase { self.new.phase ≡ phase_of result.next }
-        ensures accepted { IsAcceptedRequest self.old.sectors result.next }
+        ensures accepted { IsAcceptedRequest self.old.export result.next }
         ensures step { (rest : List ℕ) → HoldsRest REQUEST_LEN self.old rest
             → TransmissionAdvances self.old (rest ++ take result.used bytes.now) result.next
             self.new }
         ensures part { (rest : List ℕ) → HoldsRest REQUEST_LEN self.old rest
-            → payload_of self.old.sectors (rest ++ take result.used bytes.now)
-            ≡ payload_of self.old.sectors rest
+            → payload_of self.old.export (rest ++ take result.used bytes.now)
+            ≡ payload_of self.old.export rest
             ++ drop (result.used - result.payload) (take result.used bytes.now) }
     {
         let filled = self.count.min(REQUEST_LEN as u64) as usize;
@@ -170,7 +171,7 @@ impl Transmission {
                 next: Next::More,
             };
         }
-        let tail = tail_of(&self.head, self.sectors);
+        let tail = tail_of(&self.head, self.export);
         let missing = REQUEST_LEN as u64 + u64::from(tail.len) - count;
         let left = bytes.len() - head;
         if (left as u64) < missing {
@@ -203,10 +204,10 @@ struct Tail {
 }
 
 /// Reads a whole head.
-fn tail_of(head: &[u8; REQUEST_LEN], sectors: u32) -> Tail
+fn tail_of(head: &[u8; REQUEST_LEN], export: Export) -> Tail
     ensures len { result.len ≡ payload_len (request_at head.now) }
-    ensures accepted { result.accepted ≡ is_accepted_write sectors (request_at head.now) }
-    ensures next { result.next ≡ answer_to sectors head.now }
+    ensures accepted { result.accepted ≡ is_accepted_write export (request_at head.now) }
+    ensures next { result.next ≡ answer_to export head.now }
 {
     let Some(request) = Request::read(head) else {
         return Tail {
@@ -216,7 +217,7 @@ fn tail_of(head: &[u8; REQUEST_LEN], sectors: u32) -> Tail
         };
     };
     let command = Command::of(request);
-    let refusal = judge(&command, sectors);
+    let refusal = judge(&command, export);
     match command.kind {
         CommandKind::Write => Tail {
             len: command.length,

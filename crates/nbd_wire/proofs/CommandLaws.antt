@@ -3,9 +3,10 @@ use Rattle.std.proofs.Common.{◌≡◌, ℕ, zero, suc, ◌+◌, ◌*◌, ◌%�
 use Rattle.std.proofs.lemmas.Bool.{ltb-false, eqb-true}
 use Rattle.std.proofs.Math.Dec.{ltb}
 use Rattle.nbd_wire.specs.declared.command.Command.{Command}
+use Rattle.nbd_wire.specs.declared.export.Export.{Export}
 use Rattle.nbd_wire.specs.declared.command.CommandKind.{CommandKind}
 use Rattle.nbd_wire.specs.declared.command.CommandKind.TheVariants.{Write, Disconnect, Unknown}
-use Rattle.nbd_wire.specs.Commands.{is_served, is_write, lends_data, has_limit, has_range, is_multiple, checks, first_failing, judge_of}
+use Rattle.nbd_wire.specs.Commands.{is_served, is_write, lends_data, has_limit, has_range, changes_disk, is_multiple, checks, first_failing, judge_of}
 
 passes_first : (b : Bool) (e : ℕ) (o : Option ℕ) → cond b (Some e) o ≡ None → (b ≡ false) × (o ≡ None)
 passes_first true e o h = cc
@@ -43,29 +44,35 @@ write_lends_data Write e = refl
 write_lends_data k e = cc
 
 -- an accepted command is READ, WRITE, FLUSH, TRIM or WRITE_ZEROES
-pub accepted_is_served : (c : Command) (sectors : ℕ) → judge_of c sectors ≡ None → is_served c.kind ≡ true
+pub accepted_is_served : (c : Command) (export : Export) → judge_of c export ≡ None → is_served c.kind ≡ true
 unfolding judge_of
-accepted_is_served c sectors h = not_is_false (is_served c.kind) (passes (checks c sectors) 0 h)
+accepted_is_served c export h = not_is_false (is_served c.kind) (passes (checks c export) 0 h)
 
 -- it is no DISC and of no unknown type
-pub not_disconnect : (c : Command) (sectors : ℕ) → judge_of c sectors ≡ None → c.kind ≡ Disconnect → ⊥
-not_disconnect c sectors h e = let s = sym (accepted_is_served c sectors h) ∙ ap is_served e in cc
+pub not_disconnect : (c : Command) (export : Export) → judge_of c export ≡ None → c.kind ≡ Disconnect → ⊥
+not_disconnect c export h e = let s = sym (accepted_is_served c export h) ∙ ap is_served e in cc
 
-pub not_unknown : (c : Command) (sectors n : ℕ) → judge_of c sectors ≡ None → c.kind ≡ Unknown n → ⊥
-not_unknown c sectors n h e = let s = sym (accepted_is_served c sectors h) ∙ ap is_served e in cc
+pub not_unknown : (c : Command) (export : Export) (n : ℕ) → judge_of c export ≡ None → c.kind ≡ Unknown n → ⊥
+not_unknown c export n h e = let s = sym (accepted_is_served c export h) ∙ ap is_served e in cc
 
 -- the range of an accepted command is whole sectors, some, all of them on the disk
-pub accepted_range : (c : Command) (sectors : ℕ) → has_range c.kind ≡ true → judge_of c sectors ≡ None → (0 < c.length) × (c.offset % 512 ≡ 0) × (c.length % 512 ≡ 0) × (c.offset + c.length ≤ 512 * sectors)
+pub accepted_range : (c : Command) (export : Export) → has_range c.kind ≡ true → judge_of c export ≡ None → (0 < c.length) × (c.offset % 512 ≡ 0) × (c.length % 512 ≡ 0) × (c.offset + c.length ≤ 512 * export.sectors)
 unfolding judge_of
-accepted_range c sectors ranged h =
-    let aligned = and_is_false (has_range c.kind) (eqb c.length 0 || not (is_multiple c.offset) || not (is_multiple c.length)) ranged (passes (checks c sectors) 3 h) in
+accepted_range c export ranged h =
+    let aligned = and_is_false (has_range c.kind) (eqb c.length 0 || not (is_multiple c.offset) || not (is_multiple c.length)) ranged (passes (checks c export) 4 h) in
     let first = or_is_false (eqb c.length 0 || not (is_multiple c.offset)) (not (is_multiple c.length)) aligned in
     let second = or_is_false (eqb c.length 0) (not (is_multiple c.offset)) first.0 in
-    let ends = and_is_false (has_range c.kind) (ltb (512 * sectors) (c.offset + c.length)) ranged (passes (checks c sectors) 5 h) in
-    (not_zero c.length second.0, eqb-true _ _ (not_is_false (is_multiple c.offset) second.1), eqb-true _ _ (not_is_false (is_multiple c.length) first.1), ltb-false (512 * sectors) (c.offset + c.length) ends)
+    let ends = and_is_false (has_range c.kind) (ltb (512 * export.sectors) (c.offset + c.length)) ranged (passes (checks c export) 6 h) in
+    (not_zero c.length second.0, eqb-true _ _ (not_is_false (is_multiple c.offset) second.1), eqb-true _ _ (not_is_false (is_multiple c.length) first.1), ltb-false (512 * export.sectors) (c.offset + c.length) ends)
 
--- an accepted READ or WRITE has at most 65,536 bytes
-pub accepted_short : (c : Command) (sectors : ℕ) → has_limit c.kind ≡ true → judge_of c sectors ≡ None → c.length ≤ 65536
+-- an accepted READ or WRITE is no longer than the export says
+pub accepted_short : (c : Command) (export : Export) → has_limit c.kind ≡ true → judge_of c export ≡ None → c.length ≤ export.max_len
 unfolding judge_of
-accepted_short c sectors limited h =
-    ltb-false 65536 c.length (and_is_false (has_limit c.kind) (ltb 65536 c.length) limited (passes (checks c sectors) 4 h))
+accepted_short c export limited h =
+    ltb-false export.max_len c.length (and_is_false (has_limit c.kind) (ltb export.max_len c.length) limited (passes (checks c export) 5 h))
+
+-- no accepted command changes a read-only export
+pub accepted_keeps : (c : Command) (export : Export) → export.read_only ≡ true → judge_of c export ≡ None → changes_disk c.kind ≡ false
+unfolding judge_of
+accepted_keeps c export closed h =
+    and_is_false export.read_only (changes_disk c.kind) closed (passes (checks c export) 1 h)

@@ -1,16 +1,21 @@
--- Commands, and which of them are refused. Source: NBD proto.md; own are the limit of 65,536 bytes
--- and the order of the checks.
+-- Commands, and which of them are refused. Source: NBD proto.md; own is the order of the checks.
 use Rattle.std.specs.Prelude.{ℕ, ◌+◌, ◌*◌, ◌%◌, ◌==◌, ◌&&◌, ◌||◌, not, Bool, true, false, nat_lt}
 use Rattle.std.specs.Prelude.{List, [], ◌∷◌, Option, Some, None, if◌then◌else◌}
 use Rattle.std.specs.Int.RustNames.{bit_and}
 use Rattle.nbd_wire.specs.Numbers.{CMD_READ, CMD_WRITE, CMD_DISC, CMD_FLUSH, CMD_TRIM}
-use Rattle.nbd_wire.specs.Numbers.{CMD_WRITE_ZEROES, EINVAL, ENOSPC, SECTOR_LEN, MAX_LEN}
+use Rattle.nbd_wire.specs.Numbers.{CMD_WRITE_ZEROES, EPERM, EINVAL, ENOSPC, SECTOR_LEN}
+use Rattle.nbd_wire.specs.Numbers.{MAX_LEN}
 use Rattle.nbd_wire.specs.declared.request.Request.{Request}
+use Rattle.nbd_wire.specs.declared.export.Export.{Export}
 use Rattle.nbd_wire.specs.declared.command.Command.{Command}
 use Rattle.nbd_wire.specs.declared.command.CommandKind.{CommandKind}
 use Rattle.nbd_wire.specs.declared.command.CommandKind.TheVariants.{Read, Write, Disconnect, Flush}
 use Rattle.nbd_wire.specs.declared.command.CommandKind.TheVariants.{Trim, WriteZeroes}
 use Rattle.nbd_wire.specs.declared.command.CommandKind.TheVariants.{Unknown}
+
+-- what a disk of so many sectors is served as where nothing else is asked for (own)
+abbrev pub default_export : ℕ → Export
+default_export sectors = record { sectors = sectors; max_len = MAX_LEN; read_only = false }
 
 -- what the numbers on the wire mean (NBD proto.md; all others are not served)
 abbrev pub command_kind : ℕ → CommandKind
@@ -59,6 +64,10 @@ has_limit kind = lends_data kind
 abbrev pub has_range : CommandKind → Bool
 has_range kind = lends_data kind || is_zeroing kind
 
+-- the commands that change the disk, which a read-only export refuses (NBD proto.md)
+abbrev pub changes_disk : CommandKind → Bool
+changes_disk kind = is_write kind || is_zeroing kind
+
 -- They touch the chip: a loss of power or a slow operation may meet them. A FLUSH finds nothing to
 -- do.
 abbrev pub touches_chip : CommandKind → Bool
@@ -90,12 +99,12 @@ past_end_error _ = EINVAL
 abbrev pub is_multiple : ℕ → Bool
 is_multiple n = n % SECTOR_LEN == 0
 
--- The request table, row by row: whether the check fails on a disk of so many sectors, and the
--- error then. The sum is unbounded. The errors are those of NBD proto.md, the limits and the order
--- are own.
-abbrev pub checks : Command → ℕ → List (Bool × ℕ)
-checks c sectors =
+-- The request table, row by row: whether the check fails for this export, and the error then. The
+-- sum is unbounded. The errors are those of NBD proto.md, the order is own.
+abbrev pub checks : Command → Export → List (Bool × ℕ)
+checks c export =
     (not (is_served c.kind), EINVAL)
+    ∷ (export.read_only && changes_disk c.kind, EPERM)
     ∷ (not (has_allowed_flags c), EINVAL)
     ∷ (is_flush c.kind && not (c.offset == 0 && c.length == 0), EINVAL)
     ∷ (
@@ -103,9 +112,9 @@ checks c sectors =
           || not (is_multiple c.length)),
       EINVAL,
     )
-    ∷ (has_limit c.kind && nat_lt MAX_LEN c.length, EINVAL)
+    ∷ (has_limit c.kind && nat_lt export.max_len c.length, EINVAL)
     ∷ (
-      has_range c.kind && nat_lt (SECTOR_LEN * sectors) (c.offset + c.length),
+      has_range c.kind && nat_lt (SECTOR_LEN * export.sectors) (c.offset + c.length),
       past_end_error c.kind,
     )
     ∷ []
@@ -115,6 +124,6 @@ abbrev pub first_failing : List (Bool × ℕ) → Option ℕ
 first_failing [] = None
 first_failing (row ∷ rows) = if row.0 then Some row.1 else first_failing rows
 
--- the error that refuses a command on a disk of so many sectors
-unfoldable pub judge_of : Command → ℕ → Option ℕ
-judge_of c sectors = first_failing (checks c sectors)
+-- the error that refuses a command of this export
+unfoldable pub judge_of : Command → Export → Option ℕ
+judge_of c export = first_failing (checks c export)

@@ -57,6 +57,11 @@ GREETING_FLAGS = 3
 abbrev pub TRANSMISSION_FLAGS : ℕ
 TRANSMISSION_FLAGS = 365
 
+-- 010Fh, of a read-only export: READ_ONLY (1) beside HAS_FLAGS (0), SEND_FLUSH (2), SEND_FUA (3)
+-- and CAN_MULTI_CONN (8)
+abbrev pub READ_ONLY_TRANSMISSION_FLAGS : ℕ
+READ_ONLY_TRANSMISSION_FLAGS = 271
+
 -- ---- options
 
 abbrev pub OPT_EXPORT_NAME : ℕ
@@ -131,6 +136,10 @@ CMD_WRITE_ZEROES = 6
 
 -- ---- errors
 
+-- a command that would change a read-only export
+abbrev pub EPERM : ℕ
+EPERM = 1
+
 -- a command whose run failed
 abbrev pub EIO : ℕ
 EIO = 5
@@ -161,7 +170,7 @@ MINIMUM_BLOCK_LEN = 512
 abbrev pub PREFERRED_BLOCK_LEN : ℕ
 PREFERRED_BLOCK_LEN = 4096
 
--- the largest length of a READ or WRITE
+-- the largest length of a READ or WRITE where nothing else is asked for
 abbrev pub MAX_LEN : ℕ
 MAX_LEN = 65536
 

@@ -9,8 +9,10 @@ use Rattle.nbd_wire.specs.Numbers.{OPTION_MAGIC, OPTION_REPLY_MAGIC, OPT_EXPORT_
 use Rattle.nbd_wire.specs.Numbers.{OPT_LIST, OPT_INFO, OPT_GO, REP_ACK, REP_SERVER, REP_INFO}
 use Rattle.nbd_wire.specs.Numbers.{REP_ERR_UNSUP, REP_ERR_INVALID, REP_ERR_UNKNOWN, REP_ERR_TOO_BIG}
 use Rattle.nbd_wire.specs.Numbers.{INFO_EXPORT, INFO_BLOCK_SIZE, SECTOR_LEN, MINIMUM_BLOCK_LEN}
-use Rattle.nbd_wire.specs.Numbers.{PREFERRED_BLOCK_LEN, MAX_LEN, MAX_OPTION_LEN}
+use Rattle.nbd_wire.specs.Numbers.{PREFERRED_BLOCK_LEN, MAX_OPTION_LEN}
 use Rattle.nbd_wire.specs.Numbers.{EXPORT_NAME_ZEROES_LEN, TRANSMISSION_FLAGS}
+use Rattle.nbd_wire.specs.Numbers.{READ_ONLY_TRANSMISSION_FLAGS}
+use Rattle.nbd_wire.specs.declared.export.Export.{Export as Exported}
 use Rattle.nbd_wire.specs.declared.option.OptionHead.{OptionHead}
 use Rattle.nbd_wire.specs.declared.option.OptionCase.{OptionCase}
 use Rattle.nbd_wire.specs.declared.option.OptionCase.TheVariants.{Export, NoExport, Abort, Listed}
@@ -77,33 +79,40 @@ phase_after Invalid option no_zeroes = Negotiating no_zeroes
 phase_after UnknownName option no_zeroes = Negotiating no_zeroes
 phase_after Unsupported option no_zeroes = Negotiating no_zeroes
 
--- the size of a disk of so many sectors in bytes, and the transmission flags
-abbrev pub size_bytes : ℕ → List ℕ
-size_bytes sectors = big_bytes 8 (SECTOR_LEN * sectors) ++ big_bytes 2 TRANSMISSION_FLAGS
+-- what clients are told of what they may send: nothing that changes a read-only export
+abbrev pub transmission_flags : Bool → ℕ
+transmission_flags read_only =
+    if read_only then READ_ONLY_TRANSMISSION_FLAGS else TRANSMISSION_FLAGS
+
+-- the size of the disk in bytes, and the transmission flags
+abbrev pub size_bytes : Exported → List ℕ
+size_bytes export =
+    big_bytes 8 (SECTOR_LEN * export.sectors) ++ big_bytes 2 (transmission_flags export.read_only)
 
 -- the contents of replies
 abbrev pub server_content : List ℕ
 server_content = big_bytes 4 5 ++ codes "flash"
 
-abbrev pub export_content : ℕ → List ℕ
-export_content sectors = big_bytes 2 INFO_EXPORT ++ size_bytes sectors
+abbrev pub export_content : Exported → List ℕ
+export_content export = big_bytes 2 INFO_EXPORT ++ size_bytes export
 
-abbrev pub block_size_content : List ℕ
-block_size_content = big_bytes 2 INFO_BLOCK_SIZE ++ big_bytes 4 MINIMUM_BLOCK_LEN
-    ++ big_bytes 4 PREFERRED_BLOCK_LEN ++ big_bytes 4 MAX_LEN
+abbrev pub block_size_content : ℕ → List ℕ
+block_size_content max_len = big_bytes 2 INFO_BLOCK_SIZE ++ big_bytes 4 MINIMUM_BLOCK_LEN
+    ++ big_bytes 4 PREFERRED_BLOCK_LEN ++ big_bytes 4 max_len
 
 -- the bytes that answer an option, by its case
-unfoldable pub reply_in_case : OptionCase → ℕ → Bool → ℕ → List ℕ
-reply_in_case Export option no_zeroes sectors =
-    size_bytes sectors ++ (if no_zeroes then [] else replicate EXPORT_NAME_ZEROES_LEN 0)
-reply_in_case NoExport option no_zeroes sectors = []
-reply_in_case Abort option no_zeroes sectors = option_reply_bytes option REP_ACK []
-reply_in_case Listed option no_zeroes sectors =
+unfoldable pub reply_in_case : OptionCase → ℕ → Bool → Exported → List ℕ
+reply_in_case Export option no_zeroes export =
+    size_bytes export ++ (if no_zeroes then [] else replicate EXPORT_NAME_ZEROES_LEN 0)
+reply_in_case NoExport option no_zeroes export = []
+reply_in_case Abort option no_zeroes export = option_reply_bytes option REP_ACK []
+reply_in_case Listed option no_zeroes export =
     option_reply_bytes option REP_SERVER server_content ++ option_reply_bytes option REP_ACK []
-reply_in_case Described option no_zeroes sectors =
-    option_reply_bytes option REP_INFO (export_content sectors)
-    ++ option_reply_bytes option REP_INFO block_size_content ++ option_reply_bytes option REP_ACK []
-reply_in_case TooBig option no_zeroes sectors = option_reply_bytes option REP_ERR_TOO_BIG []
-reply_in_case Invalid option no_zeroes sectors = option_reply_bytes option REP_ERR_INVALID []
-reply_in_case UnknownName option no_zeroes sectors = option_reply_bytes option REP_ERR_UNKNOWN []
-reply_in_case Unsupported option no_zeroes sectors = option_reply_bytes option REP_ERR_UNSUP []
+reply_in_case Described option no_zeroes export =
+    option_reply_bytes option REP_INFO (export_content export)
+    ++ option_reply_bytes option REP_INFO (block_size_content export.max_len)
+    ++ option_reply_bytes option REP_ACK []
+reply_in_case TooBig option no_zeroes export = option_reply_bytes option REP_ERR_TOO_BIG []
+reply_in_case Invalid option no_zeroes export = option_reply_bytes option REP_ERR_INVALID []
+reply_in_case UnknownName option no_zeroes export = option_reply_bytes option REP_ERR_UNKNOWN []
+reply_in_case Unsupported option no_zeroes export = option_reply_bytes option REP_ERR_UNSUP []

@@ -1,13 +1,14 @@
 -- For which texts of a connection a parser stands that takes them piece by piece: it keeps the
 -- first bytes of the unit begun and a count, and never the text (own). Source: own.
 use Rattle.std.specs.Prelude.{ℕ, ◌≡◌, List, [], length, take}
+use Rattle.nbd_wire.specs.declared.export.Export.{Export}
 use Rattle.nbd_wire.specs.declared.phase.Phase.{Phase}
 use Rattle.nbd_wire.specs.declared.phase.Phase.TheVariants.{Closed}
 use Rattle.nbd_wire.specs.Units.{IsUnit, IsPartial, Splits, after}
 
--- what a parser holds of a connection, on a disk of so many sectors
+-- what a parser holds of a connection to this export
 pub record ParserState : Type 0 where
-  pub sectors : ℕ
+  pub export : Export
   pub phase : Phase
   -- the first bytes of the unit begun, as many as there is room for
   pub kept : List ℕ

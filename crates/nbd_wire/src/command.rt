@@ -2,7 +2,7 @@
 
 ghost use Rattle.std.specs.Prelude.{◌≡◌};
 ghost use Rattle.nbd_wire.specs.Commands.{command_kind, command_in, lends_data};
-ghost use Rattle.nbd_wire.specs.Commands.{has_limit, allowed_flags};
+ghost use Rattle.nbd_wire.specs.Commands.{has_limit, changes_disk, allowed_flags};
 
 use crate::constants::{CMD_DISC, CMD_FLUSH, CMD_READ, CMD_TRIM, CMD_WRITE, CMD_WRITE_ZEROES};
 use crate::flags::CommandFlags;
@@ -51,6 +51,16 @@ impl CommandKind {
         ensures { result ≡ has_limit self }
     {
         self.lends_data()
+    }
+
+    /// Whether it changes the disk: WRITE, TRIM and WRITE_ZEROES, which a read-only export refuses.
+    pub fn changes_disk(self) -> bool
+        ensures { result ≡ changes_disk self }
+    {
+        matches!(
+            self,
+            CommandKind::Write | CommandKind::Trim | CommandKind::WriteZeroes
+        )
     }
 
     /// The flags that a command of this kind may have.

@@ -84,6 +84,8 @@ pub const CMD_TRIM: u16 = 4;
 /// The number of the command that writes zeroes.
 pub const CMD_WRITE_ZEROES: u16 = 6;
 
+/// The error of a command that would change a read-only export.
+pub const EPERM: u32 = 1;
 /// The error of a command whose run failed.
 pub const EIO: u32 = 5;
 /// The error of a command for which no memory was left.
@@ -102,7 +104,7 @@ pub const MINIMUM_BLOCK_LEN: u32 = 512;
 /// The length that serves best for a command, in bytes, as it is told to the client: an erase block
 /// of the chip.
 pub const PREFERRED_BLOCK_LEN: u32 = 4_096;
-/// The largest length of a READ or WRITE in bytes.
+/// The largest length of a READ or WRITE in bytes where nothing else is asked for.
 pub const MAX_LEN: u32 = 65_536;
 /// The largest length of an option's data that is looked at, in bytes.
 pub const MAX_OPTION_LEN: u32 = 8_192;
@@ -111,6 +113,9 @@ pub const GREETING_FLAGS: u16 = 0x0003;
 /// The transmission flags of the export: HAS_FLAGS, SEND_FLUSH, SEND_FUA, SEND_TRIM,
 /// SEND_WRITE_ZEROES and CAN_MULTI_CONN.
 pub const TRANSMISSION_FLAGS: u16 = 0x016D;
+/// The transmission flags of a read-only export: HAS_FLAGS, READ_ONLY, SEND_FLUSH, SEND_FUA and
+/// CAN_MULTI_CONN.
+pub const READ_ONLY_TRANSMISSION_FLAGS: u16 = 0x010F;
 /// The name of the one export; the empty name means it too.
 pub const EXPORT_NAME: &[u8] = b"flash";
 
@@ -126,7 +131,8 @@ pub fn constants_are_the_protocols()
         × (REPLY_LEN ≡ protocol.REPLY_LEN)
         × (EXPORT_NAME_ZEROES_LEN ≡ protocol.EXPORT_NAME_ZEROES_LEN) }
     ensures flags { (GREETING_FLAGS ≡ protocol.GREETING_FLAGS)
-        × (TRANSMISSION_FLAGS ≡ protocol.TRANSMISSION_FLAGS) }
+        × (TRANSMISSION_FLAGS ≡ protocol.TRANSMISSION_FLAGS)
+        × (READ_ONLY_TRANSMISSION_FLAGS ≡ protocol.READ_ONLY_TRANSMISSION_FLAGS) }
     ensures options { (OPT_EXPORT_NAME ≡ protocol.OPT_EXPORT_NAME)
         × (OPT_ABORT ≡ protocol.OPT_ABORT) × (OPT_LIST ≡ protocol.OPT_LIST)
         × (OPT_INFO ≡ protocol.OPT_INFO) × (OPT_GO ≡ protocol.OPT_GO) }
@@ -142,7 +148,7 @@ pub fn constants_are_the_protocols()
         × (CMD_DISC ≡ protocol.CMD_DISC) × (CMD_FLUSH ≡ protocol.CMD_FLUSH)
         × (CMD_TRIM ≡ protocol.CMD_TRIM)
         × (CMD_WRITE_ZEROES ≡ protocol.CMD_WRITE_ZEROES) }
-    ensures errors { (EIO ≡ protocol.EIO) × (ENOMEM ≡ protocol.ENOMEM)
+    ensures errors { (EPERM ≡ protocol.EPERM) × (EIO ≡ protocol.EIO) × (ENOMEM ≡ protocol.ENOMEM)
         × (EINVAL ≡ protocol.EINVAL) × (ENOSPC ≡ protocol.ENOSPC) }
     ensures sizes { (SECTOR_LEN ≡ protocol.SECTOR_LEN)
         × (MINIMUM_BLOCK_LEN ≡ protocol.MINIMUM_BLOCK_LEN)

@@ -5,8 +5,9 @@
 
 ghost use Rattle.std.specs.Prelude.{⊤, ◌≡◌, ◌==◌, if◌then◌else◌, None, Some, false, true, [], ◌∷◌};
 ghost use Rattle.std.specs.Prelude.{codes};
+ghost use Rattle.nbd_wire.specs.Options.{transmission_flags};
 
-use crate::constants::{GREETING_FLAGS, TRANSMISSION_FLAGS};
+use crate::constants::GREETING_FLAGS;
 use bitflags::{Flag, Flags, bitflag_items};
 
 /// The flags of a command: 16 bits of a request's head. Source: NBD proto.md.
@@ -113,14 +114,16 @@ impl HandshakeFlags {
 /// The transmission flags, which tell the client what the server serves: 16 bits. Source: NBD
 /// proto.md.
 ///
-/// Bit 0, HAS_FLAGS: always set. Bits 2, 3, 5 and 6: FLUSH, FUA, TRIM and WRITE_ZEROES may be sent.
-/// Bit 8, CAN_MULTI_CONN: what one connection wrote and flushed is seen by all.
+/// Bit 0, HAS_FLAGS: always set. Bit 1, READ_ONLY: the disk can't be changed. Bits 2, 3, 5 and 6:
+/// FLUSH, FUA, TRIM and WRITE_ZEROES may be sent. Bit 8, CAN_MULTI_CONN: what one connection wrote
+/// and flushed is seen by all.
 #[derive(Clone, Copy, PartialEq, Eq, Debug)]
 pub struct TransmissionFlags(u16);
 
 bitflag_items! {
     impl TransmissionFlags: u16 {
         const HAS_FLAGS = 0x0001;
+        const READ_ONLY = 0x0002;
         const SEND_FLUSH = 0x0004;
         const SEND_FUA = 0x0008;
         const SEND_TRIM = 0x0020;
@@ -134,8 +137,8 @@ impl Flags for TransmissionFlags {
 
     ghost exact = { ⊤ };
 
-    ghost table = { (codes "HAS_FLAGS", 0x0001) ∷ (codes "SEND_FLUSH", 0x0004)
-        ∷ (codes "SEND_FUA", 0x0008) ∷ (codes "SEND_TRIM", 0x0020)
+    ghost table = { (codes "HAS_FLAGS", 0x0001) ∷ (codes "READ_ONLY", 0x0002)
+        ∷ (codes "SEND_FLUSH", 0x0004) ∷ (codes "SEND_FUA", 0x0008) ∷ (codes "SEND_TRIM", 0x0020)
         ∷ (codes "SEND_WRITE_ZEROES", 0x0040) ∷ (codes "CAN_MULTI_CONN", 0x0100) ∷ [] };
 
     ghost set_of = { λ p. p.0 };
@@ -154,17 +157,22 @@ impl Flags for TransmissionFlags {
 }
 
 impl TransmissionFlags {
-    /// The word that tells what this server serves: FLUSH, FUA, TRIM and WRITE_ZEROES, over several
-    /// connections.
-    pub fn served_word() -> u16
-        ensures { result ≡ TRANSMISSION_FLAGS }
+    /// The word that tells what this server serves: FLUSH and FUA, over several connections, and
+    /// TRIM and WRITE_ZEROES where the export isn't read-only.
+    pub fn served_word(read_only: bool) -> u16
+        ensures { result ≡ transmission_flags read_only }
     {
-        TransmissionFlags::HAS_FLAGS
+        let always = TransmissionFlags::HAS_FLAGS
             .union(TransmissionFlags::SEND_FLUSH)
             .union(TransmissionFlags::SEND_FUA)
-            .union(TransmissionFlags::SEND_TRIM)
-            .union(TransmissionFlags::SEND_WRITE_ZEROES)
-            .union(TransmissionFlags::CAN_MULTI_CONN)
-            .0
+            .union(TransmissionFlags::CAN_MULTI_CONN);
+        if read_only {
+            always.union(TransmissionFlags::READ_ONLY).0
+        } else {
+            always
+                .union(TransmissionFlags::SEND_TRIM)
+                .union(TransmissionFlags::SEND_WRITE_ZEROES)
+                .0
+        }
     }
 }

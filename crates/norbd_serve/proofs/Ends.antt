@@ -3,6 +3,7 @@ use Rattle.std.proofs.Common.{◌≡◌, ℕ, List, [], ◌∷◌, ◌++◌, Boo
 use Rattle.share.specs.declared.connection.End.{End}
 use Rattle.share.specs.declared.connection.End.TheVariants.{Closed, EndOfInput, Input, Output, Lost, OutOfMemory}
 use Rattle.history.specs.Notes.{Sight}
+use Rattle.nbd_wire.specs.declared.export.Export.{Export}
 use Rattle.share.specs.declared.recorder.Row.{Row}
 use Rattle.share.specs.History.{IsLegal}
 use Rattle.norbd_serve.specs.Serving.{AreLegal, has_lost, is_lost}
@@ -25,6 +26,6 @@ pub none_lost_more : (ends : List End) (end : End) → has_lost ends ≡ false �
 none_lost_more ends end none lives = has_lost_one_more ends end ∙ (subst (λ b. (if b then true else has_lost ends) ≡ has_lost ends) (sym lives) refl ∙ none)
 
 -- one more hand whose history is legal
-pub legal_more : (sectors : ℕ) (base : List ℕ) (hands : List (Sight Row)) (hand : Sight Row) → AreLegal sectors base hands → IsLegal sectors base false hand.seen → AreLegal sectors base (hands ++ hand ∷ [])
-legal_more sectors base [] hand all one = (one, tt)
-legal_more sectors base (first ∷ more) hand all one = (all.0, legal_more sectors base more hand all.1 one)
+pub legal_more : (export : Export) (base : List ℕ) (hands : List (Sight Row)) (hand : Sight Row) → AreLegal export base hands → IsLegal export base false hand.seen → AreLegal export base (hands ++ hand ∷ [])
+legal_more export base [] hand all one = (one, tt)
+legal_more export base (first ∷ more) hand all one = (all.0, legal_more export base more hand all.1 one)

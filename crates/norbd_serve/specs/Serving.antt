@@ -2,6 +2,7 @@
 use Rattle.std.specs.Prelude.{◌≡◌, ℕ, List, [], ◌∷◌, Bool, true, false, if◌then◌else◌, vec_len}
 use Rattle.std.specs.Prelude.{Option, Some, None}
 use Rattle.history.specs.Notes.{Sight}
+use Rattle.nbd_wire.specs.declared.export.Export.{Export}
 use Rattle.share.specs.declared.recorder.Row.{Row}
 use Rattle.share.specs.History.{IsLegal}
 use Rattle.share.specs.Seat.{Seat}
@@ -35,24 +36,24 @@ pub record Entitled : Type 0 where
   pub pass : Seat
   pub hand : Sight Row
 
--- what each of these hands has seen is a legal history of a disk of so many sectors that held these
+-- what each of these hands has seen is a legal history of this export of a disk that held these
 -- contents
-abbrev pub AreLegal : ℕ → List ℕ → List (Sight Row) → Type 0
-AreLegal sectors base [] = Unit {0}
-AreLegal sectors base (hand ∷ hands) =
-    IsLegal sectors base false hand.seen × AreLegal sectors base hands
+abbrev pub AreLegal : Export → List ℕ → List (Sight Row) → Type 0
+AreLegal export base [] = Unit {0}
+AreLegal export base (hand ∷ hands) =
+    IsLegal export base false hand.seen × AreLegal export base hands
 
 -- So many connections were served: the pass of each came back, how it ended, and what its hand
 -- knows of the server's history; none ended by a lost command.
-pub record Returns {L : Type 0} (sound : Bool) (sectors : ℕ) (base : List ℕ) (count : ℕ)
+pub record Returns {L : Type 0} (sound : Bool) (export : Export) (base : List ℕ) (count : ℕ)
     (served : Served L) : Type 0 where
   pub passes : vec_len served.passes ≡ count
   pub ends : vec_len served.ends ≡ count
   pub hands : vec_len served.hands ≡ count
   pub none_lost : has_lost served.ends.items ≡ false
-  pub legal : sound ≡ true → AreLegal sectors base served.hands.items
+  pub legal : sound ≡ true → AreLegal export base served.hands.items
 
 -- As many as were asked for were served. Where no number was, serving never ends well.
-abbrev pub ReturnsAsked : {L : Type 0} → Bool → ℕ → List ℕ → Option ℕ → Served L → Type 0
-ReturnsAsked sound sectors base None served = ⊥
-ReturnsAsked sound sectors base (Some count) served = Returns sound sectors base count served
+abbrev pub ReturnsAsked : {L : Type 0} → Bool → Export → List ℕ → Option ℕ → Served L → Type 0
+ReturnsAsked sound export base None served = ⊥
+ReturnsAsked sound export base (Some count) served = Returns sound export base count served

@@ -41,7 +41,7 @@ impl<L: OneServer> Model for Kept<L> {
       passes : vec_len k.served.passes ≡ vec_len k.served.ends;
       hands : vec_len k.served.hands ≡ vec_len k.served.ends;
       none_lost : has_lost k.served.ends.items ≡ false;
-      legal : L.sound ≡ true → AreLegal L.sectors L.base k.served.hands.items;
+      legal : L.sound ≡ true → AreLegal L.export L.base k.served.hands.items;
     } };
 }
 
@@ -96,10 +96,15 @@ impl<L: OneServer> Kept<L> {
         self.is_lost = true;
     }
 
+    /// Whether a command was lost.
+    pub(crate) fn has_lost(&self) -> bool {
+        self.is_lost
+    }
+
     /// Keeps what a connection's worker gave.
     pub(crate) fn keep(&mut self, pass: Pass<L>, end: End, hand: Hand<Row, L>)
         requires lives { is_lost end ≡ false }
-        requires legal { L.sound ≡ true → IsLegal L.sectors L.base false hand.seen }
+        requires legal { L.sound ≡ true → IsLegal L.export L.base false hand.seen }
     {
         let was_whole = self.is_whole;
         self.is_whole = false;
@@ -111,7 +116,7 @@ impl<L: OneServer> Kept<L> {
     /// All connections, where so many were asked for, all were kept, and no command was lost. None
     /// asked for is without end, which only a loss or a fault ends.
     pub(crate) fn into_served(self, asked: Option<u32>) -> Result<Served<L>, ServeFault>
-        ensures { IfOk result (ReturnsAsked L.sound L.sectors L.base asked) }
+        ensures { IfOk result (ReturnsAsked L.sound L.export L.base asked) }
     {
         let Kept {
             served,

@@ -1,77 +1,98 @@
-//! The time that a client has for its negotiation.
+//! What is read of a connection: the time that its client has for the negotiation, and the requests
+//! that are told.
 
+use crate::requests::Requests;
+use crate::telling::{Log, Teller};
 use nbd_handshake::{Handshake, MAX_REPLY_LEN, Next};
+use nbd_wire::Export;
 use std::io;
 use std::io::Read;
 use std::net::TcpStream;
+use std::sync::Wait;
 use std::time::{Clock, Duration, Instant};
 
 /// The reading half of a socket. Its reads fail once the time for the negotiation is over, and take
 /// as long as the client does from then on, when the transmission has begun. It follows the
-/// negotiation by a handshake of its own, which takes the same bytes.
+/// negotiation by a handshake of its own, which takes the same bytes, and then the requests.
 #[derive(Drop)]
-pub(crate) struct Limited<'s, R: Clock> {
-    stream: &'s TcpStream,
-    clock: &'s R,
+pub(crate) struct Limited<'s, 't, W> {
+    stream: &'t TcpStream,
+    teller: &'t Teller<'s, W>,
     start: Option<Instant>,
     limit: Duration,
     handshake: Handshake,
+    negotiates: bool,
+    requests: Requests,
 }
 
-impl<'s, R: Clock> Limited<'s, R> {
+impl<'s, 't, W: Clock + Wait + Log> Limited<'s, 't, W> {
     /// The half of a socket whose connection begins now. Where there is no time, there is no limit.
     pub(crate) fn new(
-        stream: &'s TcpStream,
-        clock: &'s R,
+        stream: &'t TcpStream,
+        teller: &'t Teller<'s, W>,
         limit: Duration,
-        sectors: u32,
-    ) -> Limited<'s, R> {
+        export: Export,
+    ) -> Limited<'s, 't, W> {
         Limited {
             stream,
-            clock,
-            start: Instant::now(clock).ok(),
+            teller,
+            start: Instant::now(teller.rt).ok(),
             limit,
-            handshake: Handshake::new(sectors),
+            handshake: Handshake::new(export),
+            negotiates: true,
+            requests: Requests::new(export),
         }
     }
 
     /// What is left of the time; an error where none is.
     fn left(&self, start: Instant) -> io::Result<Duration> {
-        let left = self.limit.saturating_sub(start.elapsed(self.clock)?);
+        let left = self.limit.saturating_sub(start.elapsed(self.teller.rt)?);
         if left.is_zero() {
             return Err(io::Error::from(io::ErrorKind::TimedOut));
         }
         Ok(left)
     }
 
-    /// Follows the negotiation over these bytes. Once it is over there is no limit.
-    fn follow(&mut self, piece: &[u8]) {
+    /// Follows the negotiation over these bytes. Once it is over there is no limit, and the bytes
+    /// behind it are the transmission's.
+    fn negotiate(&mut self, piece: &[u8]) {
         let mut reply = [0; MAX_REPLY_LEN];
         let mut rest = piece;
         for _unit in 0..u64::MAX {
             let taken = self.handshake.take(rest, &mut reply);
+            rest = &rest[taken.used..];
             match taken.next {
                 Next::More => return,
-                Next::Stay => rest = &rest[taken.used..],
+                Next::Stay => {}
                 Next::Transmit | Next::Close => {
                     self.start = None;
+                    self.negotiates = false;
                     let _ = self.stream.set_read_timeout(None);
+                    self.transmit(rest);
                     return;
                 }
             }
         }
     }
+
+    /// Follows the requests over these bytes.
+    fn transmit(&mut self, piece: &[u8]) {
+        self.requests.follow(piece, self.teller);
+    }
 }
 
-impl<'s, R: Clock> Read for Limited<'s, R> {
+impl<'s, 't, W: Clock + Wait + Log> Read for Limited<'s, 't, W> {
     fn read(&mut self, into: &mut [u8]) -> io::Result<usize> {
         let mut stream = self.stream;
-        let Some(start) = self.start else {
-            return stream.read(into);
-        };
-        stream.set_read_timeout(Some(self.left(start)?))?;
+        if let Some(start) = self.start {
+            stream.set_read_timeout(Some(self.left(start)?))?;
+        }
         let n = stream.read(into)?;
-        self.follow(&into[..n]);
+        if self.negotiates {
+            self.negotiate(&into[..n]);
+        } else {
+            self.transmit(&into[..n]);
+        }
         Ok(n)
     }
 }

@@ -1,6 +1,7 @@
 -- The bytes that are lent to the command that runs, and the reply that is made of them.
 -- Source: own.
 use Rattle.std.specs.Prelude.{ℕ, ◌≡◌, false, List, [], Option, Some, None}
+use Rattle.nbd_wire.specs.declared.export.Export.{Export}
 use Rattle.nbd_wire.specs.declared.command.Command.{Command}
 use Rattle.nbd_wire.specs.declared.command.CommandKind.{CommandKind}
 use Rattle.nbd_wire.specs.declared.command.CommandKind.TheVariants.{Read}
@@ -27,7 +28,7 @@ FilledOf _ c contents bytes = Unit {0}
 abbrev pub IsFilled : Command → List ℕ → List ℕ → Type 0
 IsFilled c contents bytes = FilledOf c.kind c contents bytes
 
--- a command that runs is an accepted one, on a disk of so many sectors
-abbrev pub IsRunnable : ℕ → Option Command → Type 0
-IsRunnable sectors None = Unit {0}
-IsRunnable sectors (Some c) = (judge_of c sectors ≡ None) × (is_disconnect c.kind ≡ false)
+-- a command that runs is an accepted one, of this export
+abbrev pub IsRunnable : Export → Option Command → Type 0
+IsRunnable export None = Unit {0}
+IsRunnable export (Some c) = (judge_of c export ≡ None) × (is_disconnect c.kind ≡ false)

@@ -1,8 +1,10 @@
 -- What contracts see of a session, for which texts it stands, and what its answers say of them.
 -- Source: own.
-use Rattle.std.specs.Prelude.{ℕ, ◌≡◌, ◌≤◌, Bool, true, false, List, [], ◌∷◌, length, take, drop}
+use Rattle.std.specs.Prelude.{ℕ, ◌≡◌, ◌≤◌, ◌<◌, ◌^◌, ◌+◌, Bool, true, false, List, [], ◌∷◌}
+use Rattle.std.specs.Prelude.{length, take, drop}
 use Rattle.std.specs.Prelude.{Option, Some, None}
-use Rattle.nbd_wire.specs.Numbers.{REPLY_LEN, REQUEST_LEN, MAX_LEN}
+use Rattle.nbd_wire.specs.declared.export.Export.{Export}
+use Rattle.nbd_wire.specs.Numbers.{REPLY_LEN, REQUEST_LEN}
 use Rattle.nbd_wire.specs.declared.command.Command.{Command}
 use Rattle.nbd_wire.specs.declared.phase.Phase.{Phase}
 use Rattle.nbd_wire.specs.declared.phase.Phase.TheVariants.{AwaitingFlags, Negotiating as Choosing}
@@ -27,13 +29,13 @@ use Rattle.nbd_wire.specs.Lent.{payload_in}
 use Rattle.session.specs.Lent.{IsRunnable, lent_now}
 use Rattle.session.specs.Parts.{Told, ForDisk, Last, Gains}
 
--- the length of a session's buffer in bytes: a reply's head of 16 bytes, and the 65,536 bytes of
--- data of the largest READ or WRITE
+-- the least length of a session's buffer in bytes: a reply's head of 16 bytes, and the 65,536 bytes
+-- of data of the largest READ or WRITE where nothing else is asked for
 abbrev pub STORE_LEN : ℕ
 STORE_LEN = 65552
 
 pub record SessionState : Type 0 where
-  pub sectors : ℕ
+  pub export : Export
   pub stage : Stage
   -- what the two parsers hold
   pub handshake : ParserState
@@ -73,7 +75,7 @@ is_closed line = is_ended line.stage
 -- a transmission represents a text, and what it has of a payload is what has come of it
 pub record Carries (start : Phase) (line : SessionState) (text : List ℕ) : Type 0 where
   pub parser : ParserStandsFor REQUEST_LEN start line.transmission text
-  pub payload : payload_so_far line ≡ payload_of line.sectors parser.rest
+  pub payload : payload_so_far line ≡ payload_of line.export parser.rest
 
 -- a text whose units lead to a close
 pub record LeadsToClose (start : Phase) (text : List ℕ) : Type 0 where
@@ -94,32 +96,32 @@ SessionRepresents start line text = StageRepresents start line.stage line text
 -- What an answer says of a text that grows from old to new: it gains no part, a reply that is told,
 -- a command that is asked with the payload that is lent, or the last; and the session represents
 -- the longer text.
-abbrev pub SessionSays : Phase → ℕ → List ℕ → List ℕ → Next → SessionState → Type 0
-SessionSays start sectors old new More line =
-    Gains start sectors old new [] × SessionRepresents start line new
-SessionSays start sectors old new Reply line =
-    Gains start sectors old new (Told (reply_of line) ∷ []) × SessionRepresents start line new
-SessionSays start sectors old new (Run c) line =
-    Gains start sectors old new (ForDisk c (payload_in c (room_of line)) ∷ [])
+abbrev pub SessionSays : Phase → Export → List ℕ → List ℕ → Next → SessionState → Type 0
+SessionSays start export old new More line =
+    Gains start export old new [] × SessionRepresents start line new
+SessionSays start export old new Reply line =
+    Gains start export old new (Told (reply_of line) ∷ []) × SessionRepresents start line new
+SessionSays start export old new (Run c) line =
+    Gains start export old new (ForDisk c (payload_in c (room_of line)) ∷ [])
     × SessionRepresents start line new
-SessionSays start sectors old new Close line =
-    Gains start sectors old new (Last (reply_of line) ∷ []) × SessionRepresents start line new
+SessionSays start export old new Close line =
+    Gains start export old new (Last (reply_of line) ∷ []) × SessionRepresents start line new
 
 -- A command runs: it is accepted, its bytes are there, and nothing of another unit or reply is.
-pub record IsRunning (sectors : ℕ) (c : Command) (line : SessionState) : Type 0 where
+pub record IsRunning (export : Export) (c : Command) (line : SessionState) : Type 0 where
   pub running : line.running ≡ Some c
-  pub accepted : judge_of c sectors ≡ None
+  pub accepted : judge_of c export ≡ None
   pub is_request : is_disconnect c.kind ≡ false
   pub room : length (room_of line) ≡ lent_now (Some c)
   pub filled : line.filled ≡ 0
   pub replied : line.replied ≡ 0
 
 -- what runs after an answer; without a Reply or Close there is no reply
-abbrev pub RunsAfter : ℕ → Next → SessionState → Type 0
-RunsAfter sectors More line = (line.running ≡ None) × (line.replied ≡ 0)
-RunsAfter sectors Reply line = line.running ≡ None
-RunsAfter sectors (Run c) line = IsRunning sectors c line
-RunsAfter sectors Close line = line.running ≡ None
+abbrev pub RunsAfter : Export → Next → SessionState → Type 0
+RunsAfter export More line = (line.running ≡ None) × (line.replied ≡ 0)
+RunsAfter export Reply line = line.running ≡ None
+RunsAfter export (Run c) line = IsRunning export c line
+RunsAfter export Close line = line.running ≡ None
 
 -- only a Close closes
 abbrev pub is_close : Next → Bool
@@ -133,11 +135,11 @@ abbrev pub silent : SessionState → SessionState
 silent line = record line { running = None; replied = 0 }
 
 -- a session as it was opened: nothing has come, and its reply is the greeting
-pub record IsFreshSession (sectors : ℕ) (line : SessionState) : Type 0 where
-  pub sectors_is : line.sectors ≡ sectors
+pub record IsFreshSession (export : Export) (line : SessionState) : Type 0 where
+  pub export_is : line.export ≡ export
   pub stage : line.stage ≡ Negotiating
   pub handshake : line.handshake ≡
-      record { sectors = sectors; phase = AwaitingFlags; kept = []; count = 0 }
+      record { export = export; phase = AwaitingFlags; kept = []; count = 0 }
   pub running : line.running ≡ None
   pub filled : line.filled ≡ 0
   pub reply : reply_of line ≡ greeting_bytes
@@ -148,7 +150,7 @@ pub record IsHolding (transmission : ParserState) (filled : ℕ) : Type 0 where
   pub phase : transmission.phase ≡ Transmitting
   pub rest : List ℕ
   pub keeps : HoldsRest REQUEST_LEN transmission rest
-  pub filled_is : filled ≡ length (payload_of transmission.sectors rest)
+  pub filled_is : filled ≡ length (payload_of transmission.export rest)
 
 -- the same after an answer of the transmission: behind a complete request nothing is held
 abbrev pub HoldsAfter : Answer → ParserState → ℕ → Type 0
@@ -164,14 +166,16 @@ InStage Requesting handshake transmission filled = IsHolding transmission filled
 InStage Ended handshake transmission filled = Unit {0}
 
 -- what holds of every session
-pub record IsSoundSession (sectors : ℕ) (stage : Stage) (handshake transmission : ParserState)
+pub record IsSoundSession (export : Export) (stage : Stage) (handshake transmission : ParserState)
     (running : Option Command) (len filled replied : ℕ) : Type 0 where
-  pub size : len ≡ STORE_LEN
-  pub negotiates : handshake.sectors ≡ sectors
-  pub transmits : transmission.sectors ≡ sectors
-  pub runs : IsRunnable sectors running
-  pub fits : filled ≤ MAX_LEN
-  pub replies : replied ≤ STORE_LEN
+  pub size : REPLY_LEN + export.max_len ≤ len
+  pub least : STORE_LEN ≤ len
+  pub most : len < 2 ^ 32
+  pub negotiates : handshake.export ≡ export
+  pub transmits : transmission.export ≡ export
+  pub runs : IsRunnable export running
+  pub fits : filled ≤ export.max_len
+  pub replies : replied ≤ len
   pub works : InStage stage handshake transmission filled
 
 -- what a connection that begins in this phase is sent first: the greeting where it negotiates
@@ -183,8 +187,8 @@ opening Closed = []
 
 -- a session whose connection begins in this phase: nothing has come, and its reply is what is sent
 -- first
-pub record BeginsSession (start : Phase) (sectors : ℕ) (line : SessionState) : Type 0 where
-  pub sectors_is : line.sectors ≡ sectors
+pub record BeginsSession (start : Phase) (export : Export) (line : SessionState) : Type 0 where
+  pub export_is : line.export ≡ export
   pub is_open : is_closed line ≡ false
   pub reply : reply_of line ≡ opening start
   pub represents : SessionRepresents start line []

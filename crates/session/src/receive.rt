@@ -10,9 +10,8 @@ ghost use Rattle.nbd_wire.specs.Lent.{data_len};
 ghost use Rattle.session.specs.Lent.{lent_now};
 ghost use Rattle.session.specs.Sessions.{IsHolding, HoldsAfter};
 
-use crate::session::STORE_LEN;
 use nbd_transmission::{Next, Taken, Transmission};
-use nbd_wire::{Command, CommandKind, MAX_LEN, REPLY_LEN, REQUEST_LEN, Reply, put};
+use nbd_wire::{Command, CommandKind, REPLY_LEN, REQUEST_LEN, Reply, put};
 
 /// Takes bytes of at most one request, and puts those that are payload behind the `filled` bytes of
 /// it that have come.
@@ -23,13 +22,13 @@ pub(crate) fn receive(
     bytes: &[u8],
 ) -> Taken
     requires holding { IsHolding parser.old filled }
-    requires store { length store.old ≡ STORE_LEN }
+    requires store { REPLY_LEN + parser.old.export.max_len ≤ length store.old }
     ensures used { result.used ≤ length bytes.now }
     ensures more { result.next ≡ Next.More → result.used ≡ length bytes.now }
     ensures progress { 0 < length bytes.now → 0 < result.used }
-    ensures sectors { parser.new.sectors ≡ parser.old.sectors }
-    ensures accepted { IsAcceptedRequest parser.old.sectors result.next }
-    ensures fits { filled + result.payload ≤ MAX_LEN }
+    ensures export { parser.new.export ≡ parser.old.export }
+    ensures accepted { IsAcceptedRequest parser.old.export result.next }
+    ensures fits { filled + result.payload ≤ parser.old.export.max_len }
     ensures holds { HoldsAfter result.next parser.new (filled + result.payload) }
     ensures stored { take (filled + result.payload) (drop REPLY_LEN store.new)
         ≡ take filled (drop REPLY_LEN store.old)
@@ -38,8 +37,8 @@ pub(crate) fn receive(
         → TransmissionAdvances parser.old (rest ++ take result.used bytes.now) result.next
         parser.new }
     ensures part { (rest : List ℕ) → HoldsRest REQUEST_LEN parser.old rest
-        → payload_of parser.old.sectors (rest ++ take result.used bytes.now)
-        ≡ payload_of parser.old.sectors rest
+        → payload_of parser.old.export (rest ++ take result.used bytes.now)
+        ≡ payload_of parser.old.export rest
         ++ drop (result.used - result.payload) (take result.used bytes.now) }
 {
     let taken = parser.take(bytes);

@@ -7,6 +7,7 @@ use Rattle.block_device.specs.Contents.{Outcome}
 use Rattle.block_device.specs.Facts.{Facts}
 use Rattle.history.specs.Notes.{Sight}
 use Rattle.nbd_wire.specs.declared.command.Command.{Command}
+use Rattle.nbd_wire.specs.declared.export.Export.{Export}
 use Rattle.nbd_wire.specs.Commands.{judge_of}
 use Rattle.nbd_wire.specs.Lent.{lent_len, payload_in, payload_in_of}
 use Rattle.nbd_transmission.specs.Apply.{changed_by, changed_kind}
@@ -20,7 +21,7 @@ use Rattle.share.specs.State.{IsKept, Served, Reply}
 use Rattle.share.specs.Locking.{IsCutIn, IsHistoryOf, Adds, AddsRow, Start, Chronicled, IsChronicled}
 use Rattle.share.proofs.Kept.{changed-payload, kept-ok, kept-slow, not_both, payload-length}
 
-as_kept : (n : ℕ) (f : Facts) (base : List ℕ) (rows : List Row) → IsHistoryOf n f base rows → f.cut ≡ false → IsKept n f base rows None
+as_kept : (n : Export) (f : Facts) (base : List ℕ) (rows : List Row) → IsHistoryOf n f base rows → f.cut ≡ false → IsKept n f base rows None
 as_kept n f base rows told no_cut = record {
   legal = told.legal;
   replayed = told.replayed;
@@ -30,7 +31,7 @@ as_kept n f base rows told no_cut = record {
   whole = λ _. refl;
 }
 
-told_replied : (keeps : Bool) (n : ℕ) (base : List ℕ) (old new : Served) (pass pass' : Seat) (c : Command) (bytes : List ℕ) (a : Reply) (rows rows' : List Row) (v w : Sight Row)
+told_replied : (keeps : Bool) (n : Export) (base : List ℕ) (old new : Served) (pass pass' : Seat) (c : Command) (bytes : List ℕ) (a : Reply) (rows rows' : List Row) (v w : Sight Row)
     → IsHistoryOf n old.disk base rows → judge_of c n ≡ None → length bytes ≡ lent_len c → new.disk.sound ≡ old.disk.sound → RepliesToCommand keeps old new pass pass' c bytes a
     → ((a.error ≡ 12 → ⊥) → Adds rows rows' v w (row_of v.by c a.error a.bytes)) → (a.error ≡ 12 → (rows' ≡ rows) × (w ≡ v))
     → (a.error ≡ 0) ⊎ ((a.error ≡ 5) ⊎ (a.error ≡ 12)) → IsHistoryOf n new.disk base rows'
@@ -50,7 +51,7 @@ told_replied keeps n base old new pass pass' c bytes a rows rows' v w told accep
     subst (λ f. IsHistoryOf n f base rows') (ap (λ (s : Served). s.disk) (sym (replies.memory none).0)) (subst (IsHistoryOf n old.disk base) (sym (memory none).0) told)
 
 -- a lost command, where a Cut was latched and where none was
-told_lost : (keeps : Bool) (n : ℕ) (base : List ℕ) (old new : Served) (pass pass' : Seat) (c : Command) (bytes : List ℕ) (rows : List Row) (b : Bool)
+told_lost : (keeps : Bool) (n : Export) (base : List ℕ) (old new : Served) (pass pass' : Seat) (c : Command) (bytes : List ℕ) (rows : List Row) (b : Bool)
     → old.disk.cut ≡ b → IsHistoryOf n old.disk base rows → (old.disk.cut ≡ true → old.lost ≡ true) → judge_of c n ≡ None → length bytes ≡ lent_len c
     → Executes keeps old new pass pass' c bytes Lost → IsHistoryOf n new.disk base rows
 told_lost keeps n base old new pass pass' c bytes rows true stood told latched accepted lent x =
@@ -74,7 +75,7 @@ told_lost keeps n base old new pass pass' c bytes rows false stood told latched 
       failed = λ e. absurd (not_both new.disk.cut l.latched e);
     }
 
-pub told_more : (keeps : Bool) (n : ℕ) (base : List ℕ) (old new : Served) (pass pass' : Seat) (c : Command) (bytes : List ℕ) (done : Done) (rows rows' : List Row) (v w : Sight Row)
+pub told_more : (keeps : Bool) (n : Export) (base : List ℕ) (old new : Served) (pass pass' : Seat) (c : Command) (bytes : List ℕ) (done : Done) (rows rows' : List Row) (v w : Sight Row)
     → IsHistoryOf n old.disk base rows → (old.disk.cut ≡ true → old.lost ≡ true) → judge_of c n ≡ None → length bytes ≡ lent_len c → Executes keeps old new pass pass' c bytes done
     → AddsRow rows rows' v w c done → IsHistoryOf n new.disk base rows'
 told_more keeps n base old new pass pass' c bytes (Replied a) rows rows' v w told latched accepted lent x t =
@@ -117,7 +118,7 @@ recorded_more old new pass pass' c bytes (Replied a) rows rows' v w same by x t 
 recorded_more old new pass pass' c bytes Lost rows rows' v w same by x t = x.loses.rows ∙ same ∙ sym t.lost.0
 
 -- a Cut in tidying, where one was latched and where none was
-cut_tidied : (n : ℕ) (base : List ℕ) (old new : Served) (rows : List Row) (b : Bool) → old.disk.cut ≡ b → IsHistoryOf n old.disk base rows → Tidied old new (Err Cut) → old.disk.sound ≡ true
+cut_tidied : (n : Export) (base : List ℕ) (old new : Served) (rows : List Row) (b : Bool) → old.disk.cut ≡ b → IsHistoryOf n old.disk base rows → Tidied old new (Err Cut) → old.disk.sound ≡ true
     → IsCutIn n (replay base rows) new.disk.contents
 cut_tidied n base old new rows true stood told t s = subst (IsCutIn n (replay base rows)) (sym (t.contents s)) (told.cut s stood)
 cut_tidied n base old new rows false stood told t s = record {
@@ -127,7 +128,7 @@ cut_tidied n base old new rows false stood told t s = record {
   left = t.contents s ∙ told.replayed s stood (t.quiet refl stood);
 }
 
-pub told_tidied : (n : ℕ) (base : List ℕ) (old new : Served) (result : Result Bool DiskError) (rows : List Row) → IsHistoryOf n old.disk base rows → Tidied old new result → IsHistoryOf n new.disk base rows
+pub told_tidied : (n : Export) (base : List ℕ) (old new : Served) (result : Result Bool DiskError) (rows : List Row) → IsHistoryOf n old.disk base rows → Tidied old new result → IsHistoryOf n new.disk base rows
 told_tidied n base old new (Ok done) rows told t = record {
   legal = λ s. told.legal (sym t.sound ∙ s);
   replayed = λ s _ _. t.contents (sym t.sound ∙ s) ∙ told.replayed (sym t.sound ∙ s) t.ok.0.0 t.ok.0.1;
@@ -155,14 +156,14 @@ latched_tidied old new (Err Slow) latched t cut = absurd (not_both new.disk.cut 
 -- what a door's hand has seen after a command is legal
 pub legal_seen : (start : Start) (old new : Chronicled) (v w : Sight Row) (pass pass' : Seat) (c : Command) (bytes : List ℕ) (done : Done)
     → Executes start.keeps old.served new.served pass pass' c bytes done → AddsRow old.rows new.rows v w c done → IsChronicled start new
-    → (start.sound ≡ true → IsLegal start.sectors start.base false v.seen) → start.sound ≡ true → IsLegal start.sectors start.base false w.seen
+    → (start.sound ≡ true → IsLegal start.export start.base false v.seen) → start.sound ≡ true → IsLegal start.export start.base false w.seen
 legal_seen start old new v w pass pass' c bytes (Replied a) x t k was s =
-    let now : IsLegal start.sectors start.base false new.rows = (k.history s).legal (k.served.trusted s) in
+    let now : IsLegal start.export start.base false new.rows = (k.history s).legal (k.served.trusted s) in
     elim x.replied.holds.error_is [
-      | inl zero ↦ subst (IsLegal start.sectors start.base false) (sym (t.row (λ h. cc (zero, h))).seen.1) now
+      | inl zero ↦ subst (IsLegal start.export start.base false) (sym (t.row (λ h. cc (zero, h))).seen.1) now
       | inr other ↦ elim other [
-        | inl slow ↦ subst (IsLegal start.sectors start.base false) (sym (t.row (λ h. cc (slow, h))).seen.1) now
-        | inr none ↦ subst (λ (z : Sight Row). IsLegal start.sectors start.base false z.seen) (sym (t.memory none).1) (was s)
+        | inl slow ↦ subst (IsLegal start.export start.base false) (sym (t.row (λ h. cc (slow, h))).seen.1) now
+        | inr none ↦ subst (λ (z : Sight Row). IsLegal start.export start.base false z.seen) (sym (t.memory none).1) (was s)
       ]
     ]
-legal_seen start old new v w pass pass' c bytes Lost x t k was s = subst (λ (z : Sight Row). IsLegal start.sectors start.base false z.seen) (sym t.lost.1) (was s)
+legal_seen start old new v w pass pass' c bytes Lost x t k was s = subst (λ (z : Sight Row). IsLegal start.export start.base false z.seen) (sym t.lost.1) (was s)

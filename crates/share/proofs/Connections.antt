@@ -31,7 +31,7 @@ connection-nothing step passes st a had f none = record {
     points = [];
     last = a.place;
     text_is = refl;
-    parts_are = parts_none st.start st.sectors;
+    parts_are = parts_none st.start st.export;
     runs = (refl, refl);
     out_is = append-nil (opening st.start);
     wrote = Appends-nil a.written;
@@ -61,7 +61,7 @@ connection-unopened step passes st a b had f bytes sent unsent none same is part
     points = [];
     last = a.place;
     text_is = refl;
-    parts_are = parts_none st.start st.sectors;
+    parts_are = parts_none st.start st.export;
     runs = (refl, refl);
     out_is = append-nil (opening st.start) ∙ sym is ∙ parted;
     wrote = wrote;
@@ -76,14 +76,14 @@ connection-unopened step passes st a b had f bytes sent unsent none same is part
 
 -- the opening was written, and nothing has come yet
 pub underway-start : {S G : Type 0} (step : Place S → Place S → Command → List ℕ → Done → Type 0) (passes : G → G → List Point → Type 0) (st : Setting) (a b : Stand S G) (bytes : List ℕ) (line : SessionState)
-    → BeginsSession st.start st.sectors line → passes a.gate b.gate [] → b.place ≡ a.place → bytes ≡ opening st.start → Appends a.written b.written bytes → b.failures ≡ a.failures
+    → BeginsSession st.start st.export line → passes a.gate b.gate [] → b.place ≡ a.place → bytes ≡ opening st.start → Appends a.written b.written bytes → b.failures ≡ a.failures
     → (w : ConnectionUnderway step passes st a b [] line) × (length {A = ℕ} [] ≤ 65536 * reads w.points)
 underway-start step passes st a b bytes line begins none same is wrote quiet = (
   record {
     parts = [];
     out = [];
     points = [];
-    parts_are = parts_none st.start st.sectors;
+    parts_are = parts_none st.start st.export;
     runs = (refl, same);
     is_open = refl;
     represents = begins.represents;

@@ -1,5 +1,6 @@
 -- What a row more leaves of the history.
 use Rattle.std.proofs.Common.{◌≡◌, ◌⊎◌, ℕ, List, [], ◌∷◌, ◌++◌, length, Bool, true, false, ◌||◌, ◌==◌, refl, sym, ap, ◌∙◌, subst, inl, inr, Option, Some, None}
+use Rattle.nbd_wire.specs.declared.export.Export.{Export}
 use Rattle.block_device.specs.Contents.{Outcome}
 use Rattle.block_device.specs.Facts.{Facts}
 use Rattle.nbd_wire.specs.declared.command.Command.{Command}
@@ -21,7 +22,7 @@ failed-push : (b : Bool) (rows : List Row) (r : Row) → has_failed b (rows ++ r
 failed-push b [] r = refl
 failed-push b (x ∷ xs) r = failed-push (b || x.error == 5) xs r
 
-legal-push : (n : ℕ) (d : List ℕ) (failed : Bool) (rs : List Row) (r : Row) → IsLegal n d failed rs → MayComeNext n (replay d rs) (has_failed failed rs) r → IsLegal n d failed (rs ++ r ∷ [])
+legal-push : (n : Export) (d : List ℕ) (failed : Bool) (rs : List Row) (r : Row) → IsLegal n d failed rs → MayComeNext n (replay d rs) (has_failed failed rs) r → IsLegal n d failed (rs ++ r ∷ [])
 legal-push n d failed [] r h f = (f, tt)
 legal-push n d failed (x ∷ xs) r h f = (h.0, legal-push n (after_row d x) (failed || x.error == 5) xs r h.1 f)
 
@@ -72,7 +73,7 @@ was_quiet cut slow A B (inl stood) e = absurd (not_both cut stood e)
 was_quiet cut slow A B (inr came) e = came.1
 
 -- a row with error 0
-pub kept-ok : (n : ℕ) (f f' : Facts) (base : List ℕ) (rows : List Row) (int : Option Interrupted) (c : Command) (conn : ℕ) (bytes bytes' : List ℕ)
+pub kept-ok : (n : Export) (f f' : Facts) (base : List ℕ) (rows : List Row) (int : Option Interrupted) (c : Command) (conn : ℕ) (bytes bytes' : List ℕ)
     → IsKept n f base rows int → judge_of c n ≡ None → length bytes' ≡ length bytes → length bytes ≡ lent_len c → (is_read c.kind ≡ false → bytes' ≡ bytes)
     → f'.sound ≡ f.sound → (f.sound ≡ true → f'.contents ≡ changed_by f.contents c bytes) → (f.sound ≡ true → reply_in c 0 bytes' ≡ data_of f.contents c)
     → f.cut ≡ false → f'.cut ≡ false → f'.slow ≡ f.slow → (touches_chip c.kind ≡ true → f.slow ≡ false)
@@ -96,7 +97,7 @@ kept-ok n f f' base rows int c conn bytes bytes' kept accepted same long untouch
 }
 
 -- a row with error 5
-pub kept-slow : (n : ℕ) (f f' : Facts) (base : List ℕ) (rows : List Row) (int : Option Interrupted) (c : Command) (conn : ℕ) (bytes bytes' : List ℕ)
+pub kept-slow : (n : Export) (f f' : Facts) (base : List ℕ) (rows : List Row) (int : Option Interrupted) (c : Command) (conn : ℕ) (bytes bytes' : List ℕ)
     → IsKept n f base rows int → judge_of c n ≡ None → length bytes' ≡ length bytes → length bytes ≡ lent_len c
     → f'.sound ≡ f.sound → touches_chip c.kind ≡ true → f.cut ≡ false → f'.cut ≡ false → f'.slow ≡ true
     → IsKept n f' base (rows ++ row_of conn c 5 bytes' ∷ []) int
@@ -130,7 +131,7 @@ pub interrupted-same : (c : Command) (bytes bytes' : List ℕ) → (is_read c.ki
 interrupted-same c bytes bytes' h = ap (λ (p : List ℕ). record { command = c; payload = p }) (payload-same c.kind bytes bytes' h)
 
 -- a command that a Cut interrupted
-kept-cut : (n : ℕ) (f f' : Facts) (base : List ℕ) (rows : List Row) (int : Option Interrupted) (c : Command) (bytes bytes' : List ℕ)
+kept-cut : (n : Export) (f f' : Facts) (base : List ℕ) (rows : List Row) (int : Option Interrupted) (c : Command) (bytes bytes' : List ℕ)
     → IsKept n f base rows int → (is_read c.kind ≡ false → bytes' ≡ bytes)
     → f'.sound ≡ f.sound → (f.sound ≡ true → Outcome f.contents (changed_by f.contents c bytes) f'.contents)
     → f.cut ≡ false → f.slow ≡ false → f'.cut ≡ true → f'.slow ≡ f.slow
@@ -150,7 +151,7 @@ kept-cut n f f' base rows int c bytes bytes' kept untouched sound left no_cut qu
 }
 
 -- the same, where rows are kept, of what the calls leave
-pub kept-row-ok : (keeps : Bool) (n : ℕ) (f f' : Facts) (base base₁ base' : List ℕ) (rows rows₁ rows' : List Row) (int int₁ int' : Option Interrupted) (c : Command) (conn : ℕ) (bytes bytes' : List ℕ)
+pub kept-row-ok : (keeps : Bool) (n : Export) (f f' : Facts) (base base₁ base' : List ℕ) (rows rows₁ rows' : List Row) (int int₁ int' : Option Interrupted) (c : Command) (conn : ℕ) (bytes bytes' : List ℕ)
     → keeps ≡ true → IsKept n f base rows int → judge_of c n ≡ None → length bytes' ≡ length bytes → length bytes ≡ lent_len c → (is_read c.kind ≡ false → bytes' ≡ bytes)
     → f'.sound ≡ f.sound → (f.sound ≡ true → f'.contents ≡ changed_by f.contents c bytes) → (f.sound ≡ true → reply_in c 0 bytes' ≡ data_of f.contents c)
     → f.cut ≡ false → f'.cut ≡ false → f'.slow ≡ f.slow → (touches_chip c.kind ≡ true → f.slow ≡ false)
@@ -161,7 +162,7 @@ kept-row-ok keeps n f f' base base₁ base' rows rows₁ rows' int int₁ int' c
     let rows_is : rows' ≡ rows ++ row ∷ [] = er' ∙ ap (λ (b : Bool). rows_with b rows₁ row) k ∙ ap (λ (rs : List Row). rs ++ row ∷ []) er in
     rw (eb', eb, ei', ei, rows_is) (kept-ok n f f' base rows int c conn bytes bytes' kept accepted same long untouched sound changed replied no_cut no_cut' slow quiet)
 
-pub kept-row-slow : (keeps : Bool) (n : ℕ) (f f' : Facts) (base base₁ base' : List ℕ) (rows rows₁ rows' : List Row) (int int₁ int' : Option Interrupted) (c : Command) (conn : ℕ) (bytes bytes' : List ℕ)
+pub kept-row-slow : (keeps : Bool) (n : Export) (f f' : Facts) (base base₁ base' : List ℕ) (rows rows₁ rows' : List Row) (int int₁ int' : Option Interrupted) (c : Command) (conn : ℕ) (bytes bytes' : List ℕ)
     → keeps ≡ true → IsKept n f base rows int → judge_of c n ≡ None → length bytes' ≡ length bytes → length bytes ≡ lent_len c
     → f'.sound ≡ f.sound → touches_chip c.kind ≡ true → f.cut ≡ false → f'.cut ≡ false → f'.slow ≡ true
     → base₁ ≡ base → base' ≡ base₁ → int₁ ≡ int → int' ≡ int₁ → rows₁ ≡ rows → rows' ≡ rows_with keeps rows₁ (row_of conn c 5 bytes')
@@ -171,7 +172,7 @@ kept-row-slow keeps n f f' base base₁ base' rows rows₁ rows' int int₁ int'
     let rows_is : rows' ≡ rows ++ row ∷ [] = er' ∙ ap (λ (b : Bool). rows_with b rows₁ row) k ∙ ap (λ (rs : List Row). rs ++ row ∷ []) er in
     rw (eb', eb, ei', ei, rows_is) (kept-slow n f f' base rows int c conn bytes bytes' kept accepted same long sound moving no_cut no_cut' slow)
 
-pub kept-lost : (keeps : Bool) (n : ℕ) (f f' : Facts) (base base₁ base' : List ℕ) (rows rows₁ rows' : List Row) (int int' : Option Interrupted) (c : Command) (bytes bytes' : List ℕ)
+pub kept-lost : (keeps : Bool) (n : Export) (f f' : Facts) (base base₁ base' : List ℕ) (rows rows₁ rows' : List Row) (int int' : Option Interrupted) (c : Command) (bytes bytes' : List ℕ)
     → keeps ≡ true → IsKept n f base rows int → (is_read c.kind ≡ false → bytes' ≡ bytes)
     → f'.sound ≡ f.sound → (f.sound ≡ true → Outcome f.contents (changed_by f.contents c bytes) f'.contents)
     → f.cut ≡ false → f.slow ≡ false → f'.cut ≡ true → f'.slow ≡ f.slow

@@ -139,7 +139,7 @@ answers-to keeps a last b ps out q cuts slows same r =
     (runs-plainly keeps a b ps out q cuts slows (subst P (sym same) r)).replies
 
 plain-all : (keeps : Bool) (st : Setting) (contents contents' input out sent unsent : List ℕ) (ps : List Part) (old new : Option (List ℕ)) (closes : Bool)
-    → IsPartsOf st.start st.sectors input ps → closed ps ≡ closes → RepliesToParts keeps contents ps out contents'
+    → IsPartsOf st.start st.export input ps → closed ps ≡ closes → RepliesToParts keeps contents ps out contents'
     → opening st.start ++ out ≡ sent ++ unsent → unsent ≡ [] → Appends old new sent → AnswersAll keeps st contents contents' input old new closes
 plain-all keeps st contents contents' input out sent unsent ps old new closes are closed_is replies is none wrote = record {
   parts = ps;
@@ -164,8 +164,8 @@ plain-by keeps passes st a b read input ClosedEnd q cuts slows tells x =
     let o = x.over in
     let left = rest-of input x.text read.left (subst (λ (y : Option (List ℕ)). Consumes y read.left x.text) tells x.took) in
     let is : input ≡ o.cut ++ (o.dropped ++ left.0) = left.2 ∙ ap (λ (y : List ℕ). y ++ left.0) o.text_is ∙ append_assoc o.cut o.dropped left.0 in
-    let are : IsPartsOf st.start st.sectors input o.parts =
-    subst (λ (y : List ℕ). IsPartsOf st.start st.sectors y o.parts) (sym is) (parts_end st.start st.sectors o.cut (o.dropped ++ left.0) o.parts o.parts_are o.ends.0) in
+    let are : IsPartsOf st.start st.export input o.parts =
+    subst (λ (y : List ℕ). IsPartsOf st.start st.export y o.parts) (sym is) (parts_end st.start st.export o.cut (o.dropped ++ left.0) o.parts o.parts_are o.ends.0) in
     plain-all keeps st a.place.door.disk.contents b.place.door.disk.contents input o.out o.sent o.unsent o.parts a.written b.written true are o.ends.0
     (answers-to keeps a.place o.last b.place o.parts o.out q cuts slows o.ends.2 o.runs) o.out_is o.ends.1 o.wrote
 plain-by keeps passes st a b read input EndOfInput q cuts slows tells x =
@@ -173,7 +173,7 @@ plain-by keeps passes st a b read input EndOfInput q cuts slows tells x =
     let left = rest-of input x.text read.left (subst (λ (y : Option (List ℕ)). Consumes y read.left x.text) tells x.took) in
     let none = none-left read.left left.0 left.1 x.reader.0 in
     let is : input ≡ o.cut = left.2 ∙ ap (λ (y : List ℕ). x.text ++ y) none ∙ append-nil x.text ∙ o.text_is ∙ ap (λ (y : List ℕ). o.cut ++ y) o.ends.2 ∙ append-nil o.cut in
-    let are : IsPartsOf st.start st.sectors input o.parts = subst (λ (y : List ℕ). IsPartsOf st.start st.sectors y o.parts) (sym is) o.parts_are in
+    let are : IsPartsOf st.start st.export input o.parts = subst (λ (y : List ℕ). IsPartsOf st.start st.export y o.parts) (sym is) o.parts_are in
     plain-all keeps st a.place.door.disk.contents b.place.door.disk.contents input o.out o.sent o.unsent o.parts a.written b.written false are o.ends.0
     (answers-to keeps a.place o.last b.place o.parts o.out q cuts slows o.ends.3 o.runs) o.out_is o.ends.1 o.wrote
 plain-by keeps passes st a b read input Input q cuts slows tells x =
@@ -212,7 +212,7 @@ plain-by keeps passes st a b read input LostEnd q cuts slows tells x = never-los
 plain-by keeps passes st a b read input OutOfMemory q cuts slows tells x =
     let o = x.over in
     let P : List Part → Type 0 = λ y. PartsAnsweredBy (of_server keeps) a.place y o.out o.last in
-    let empty : IsPartsOf st.start st.sectors [] o.parts = subst (λ (y : List ℕ). IsPartsOf st.start st.sectors y o.parts) o.ends.0 o.parts_are in
-    let none = subst P (one_list st.start st.sectors [] o.parts [] empty (parts_none st.start st.sectors)) o.runs in
+    let empty : IsPartsOf st.start st.export [] o.parts = subst (λ (y : List ℕ). IsPartsOf st.start st.export y o.parts) o.ends.0 o.parts_are in
+    let none = subst P (one_list st.start st.export [] o.parts [] empty (parts_none st.start st.export)) o.runs in
     let unsent = none-sent (opening st.start) o.out o.sent o.unsent o.out_is none.0 o.ends.2 in
     (ap (λ (y : Place Served). y.door.disk.contents) (o.ends.3 ∙ none.1), subst (λ (y : List ℕ). Appends a.written b.written y) unsent o.wrote)

@@ -23,7 +23,7 @@ record OneRow (start : Start) (v w : Sight Row) (command : Command) (out : List 
   by : w.by ≡ v.by
   before : IsPrefix v.seen w.seen
   own : entries_by connection_of v.by w.seen ≡ entries_by connection_of v.by v.seen ++ mine
-  legal : start.sound ≡ true → IsLegal start.sectors start.base false v.seen → IsLegal start.sectors start.base false w.seen
+  legal : start.sound ≡ true → IsLegal start.export start.base false v.seen → IsLegal start.export start.base false w.seen
 
 no_row : (start : Start) (v w : Sight Row) (command : Command) (out : List ℕ) → w ≡ v → IsRowOf v.by command out [] → OneRow start v w command out
 no_row start v w command out same row = record {
@@ -32,11 +32,11 @@ no_row start v w command out same row = record {
   by = ap (λ (s : Sight Row). s.by) same;
   before = subst (λ (s : Sight Row). IsPrefix v.seen s.seen) (sym same) (prefix_self v.seen);
   own = ap (λ (s : Sight Row). entries_by connection_of v.by s.seen) same ∙ sym (append-nil (entries_by connection_of v.by v.seen));
-  legal = λ _ l. subst (λ (s : Sight Row). IsLegal start.sectors start.base false s.seen) (sym same) l;
+  legal = λ _ l. subst (λ (s : Sight Row). IsLegal start.export start.base false s.seen) (sym same) l;
 }
 
 heard_row : (start : Start) (old new : List Row) (v w : Sight Row) (command : Command) (out : List ℕ) (row : Row) → row.connection ≡ v.by
-    → Adds old new v w row → IsRowOf v.by command out (row ∷ []) → (start.sound ≡ true → IsLegal start.sectors start.base false new) → OneRow start v w command out
+    → Adds old new v w row → IsRowOf v.by command out (row ∷ []) → (start.sound ≡ true → IsLegal start.export start.base false new) → OneRow start v w command out
 heard_row start old new v w command out row at h is legal = record {
   mine = row ∷ [];
   row_is = is;
@@ -44,7 +44,7 @@ heard_row start old new v w command out row at h is legal = record {
   before = subst (IsPrefix v.seen) (sym h.seen.1) (prefix_trans v.seen old new h.before (row ∷ [], sym h.grown));
   own = ap (entries_by connection_of v.by) (h.seen.1 ∙ h.grown) ∙ (filter-append (λ r. connection_of r == v.by) old (row ∷ [])
       ∙ (ap (λ l. l ++ entries_by connection_of v.by (row ∷ [])) h.own ∙ ap (λ l. entries_by connection_of v.by v.seen ++ l) (one_own connection_of v.by row at)));
-  legal = λ s _. subst (IsLegal start.sectors start.base false) (sym h.seen.1) (legal s);
+  legal = λ s _. subst (IsLegal start.export start.base false) (sym h.seen.1) (legal s);
 }
 
 one_row : (start : Start) (a b : Place (Sight Row)) (command : Command) (payload out : List ℕ)
@@ -71,7 +71,7 @@ told_parts start a b [] out p = record {
   by = ap (λ (x : Place (Sight Row)). x.door.by) p.1;
   before = subst (λ (x : Place (Sight Row)). IsPrefix a.door.seen x.door.seen) (sym p.1) (prefix_self a.door.seen);
   own = ap (λ (x : Place (Sight Row)). entries_by connection_of a.door.by x.door.seen) p.1 ∙ sym (append-nil (entries_by connection_of a.door.by a.door.seen));
-  legal = λ _ l. subst (λ (x : Place (Sight Row)). IsLegal start.sectors start.base false x.door.seen) (sym p.1) l;
+  legal = λ _ l. subst (λ (x : Place (Sight Row)). IsLegal start.export start.base false x.door.seen) (sym p.1) l;
 }
 told_parts start a b (Told reply ∷ parts) out p =
     let q = subst (λ (x : Place (Sight Row)). PartsAnsweredBy (through (ExecutesLocked start) start.keeps) x parts p.1 b) p.4.1 p.5 in

@@ -5,6 +5,7 @@ use Rattle.std.proofs.lemmas.List.{take_rest, take-append-drop}
 use Rattle.std.proofs.lemmas.Bool.{eqb-true}
 use Rattle.std.specs.Io.KnownBytes.{Appends}
 use Rattle.std.proofs.KnownBytes.{Appends-trans}
+use Rattle.nbd_wire.specs.declared.export.Export.{Export}
 use Rattle.nbd_wire.specs.declared.command.Command.{Command}
 use Rattle.nbd_wire.specs.declared.phase.Phase.{Phase}
 use Rattle.session.specs.Sessions.{SessionState, SessionSays, SessionRepresents, opening, reply_of, room_of}
@@ -115,29 +116,29 @@ runs-one step a b p out h = (out, [], b, sym (append-nil out), h, (refl, refl))
 
 -- ---- what one call of the session says
 
-pub says-more : (start : Phase) (n m : ℕ) (old new : List ℕ) (next : Next) (line : SessionState) → n ≡ m → next ≡ More → SessionSays start n old new next line → Grows (setting start m) old new [] line
+pub says-more : (start : Phase) (n m : Export) (old new : List ℕ) (next : Next) (line : SessionState) → n ≡ m → next ≡ More → SessionSays start n old new next line → Grows (setting start m) old new [] line
 says-more start n m old new next line e f h =
-    let P : ℕ → Type 0 = λ x. SessionSays start x old new next line in
+    let P : Export → Type 0 = λ x. SessionSays start x old new next line in
     let Q : Next → Type 0 = λ x. SessionSays start m old new x line in
     subst Q f (subst P e h)
 
-pub says-reply : (start : Phase) (n m : ℕ) (old new : List ℕ) (next : Next) (line : SessionState) → n ≡ m → next ≡ Reply → SessionSays start n old new next line → Grows (setting start m) old new (Told (reply_of line) ∷ []) line
+pub says-reply : (start : Phase) (n m : Export) (old new : List ℕ) (next : Next) (line : SessionState) → n ≡ m → next ≡ Reply → SessionSays start n old new next line → Grows (setting start m) old new (Told (reply_of line) ∷ []) line
 says-reply start n m old new next line e f h =
-    let P : ℕ → Type 0 = λ x. SessionSays start x old new next line in
+    let P : Export → Type 0 = λ x. SessionSays start x old new next line in
     let Q : Next → Type 0 = λ x. SessionSays start m old new x line in
     subst Q f (subst P e h)
 
-pub says-run : (start : Phase) (n m : ℕ) (old new : List ℕ) (next : Next) (c : Command) (line line' : SessionState) → n ≡ m → next ≡ Run c → SessionSays start n old new next line → (SessionRepresents start line new → SessionRepresents start line' new)
+pub says-run : (start : Phase) (n m : Export) (old new : List ℕ) (next : Next) (c : Command) (line line' : SessionState) → n ≡ m → next ≡ Run c → SessionSays start n old new next line → (SessionRepresents start line new → SessionRepresents start line' new)
     → Grows (setting start m) old new (ForDisk c (payload_in c (room_of line)) ∷ []) line'
 says-run start n m old new next c line line' e f h represents =
-    let P : ℕ → Type 0 = λ x. SessionSays start x old new next line in
+    let P : Export → Type 0 = λ x. SessionSays start x old new next line in
     let Q : Next → Type 0 = λ x. SessionSays start m old new x line in
     let s = subst Q f (subst P e h) in
     (s.0, represents s.1)
 
-pub says-close : (start : Phase) (n m : ℕ) (old new : List ℕ) (next : Next) (line : SessionState) → n ≡ m → next ≡ Close → SessionSays start n old new next line → Grows (setting start m) old new (Last (reply_of line) ∷ []) line
+pub says-close : (start : Phase) (n m : Export) (old new : List ℕ) (next : Next) (line : SessionState) → n ≡ m → next ≡ Close → SessionSays start n old new next line → Grows (setting start m) old new (Last (reply_of line) ∷ []) line
 says-close start n m old new next line e f h =
-    let P : ℕ → Type 0 = λ x. SessionSays start x old new next line in
+    let P : Export → Type 0 = λ x. SessionSays start x old new next line in
     let Q : Next → Type 0 = λ x. SessionSays start m old new x line in
     subst Q f (subst P e h)
 
@@ -181,7 +182,7 @@ underway-more : {S G : Type 0} (step : Place S → Place S → Command → List 
     → (u : ConnectionUnderway step passes st first b new next) × (reads u.points ≡ reads w.points)
 underway-more step passes st first a b old new line next added out w grows gate runs shut wrote quiet =
     let had = w.parts in
-    let has = gains_behind st.start st.sectors old new had added w.parts_are grows.0 in (
+    let has = gains_behind st.start st.export old new had added w.parts_are grows.0 in (
       record {
         parts = had ++ added;
         out = w.out ++ out;
@@ -224,7 +225,7 @@ over-closes step passes st first a b old new rest all line next added turn e w g
     let T : Turn → Type 0 = λ x. TurnedBy step a b added x in
     let d = subst T e does in
     let had = w.parts in
-    let has = gains_behind st.start st.sectors old new had added w.parts_are grows.0 in (
+    let has = gains_behind st.start st.export old new had added w.parts_are grows.0 in (
       record {
         cut = new;
         parts = had ++ added;
@@ -254,7 +255,7 @@ over-output step passes st first a b old new rest all line next added turn e w g
     let T : Turn → Type 0 = λ x. TurnedBy step a b added x in
     let d = subst T e does in
     let had = w.parts in
-    let has = gains_behind st.start st.sectors old new had added w.parts_are grows.0 in (
+    let has = gains_behind st.start st.export old new had added w.parts_are grows.0 in (
       record {
         cut = new;
         parts = had ++ added;
@@ -297,7 +298,7 @@ over-lost step passes st first a b old x rest all line next added turn e w grows
         runs = w.runs;
         out_is = sym (append-nil _);
         wrote = subst (λ (y : List ℕ). Appends first.written b.written y) (append-nil _) (Appends-trans first.written a.written b.written (opening st.start ++ w.out) [] w.wrote d.4);
-        ends = (refl, record { unit = x; others = rest; command = d.0; payload = d.1; ahead_is = refl; next = subst (λ (ps : List Part). Gains st.start st.sectors old (old ++ x) ps) d.2 grows.0; taken = d.3 });
+        ends = (refl, record { unit = x; others = rest; command = d.0; payload = d.1; ahead_is = refl; next = subst (λ (ps : List Part). Gains st.start st.export old (old ++ x) ps) d.2 grows.0; taken = d.3 });
         passed = gate first.gate w.points w.passed;
         pieces = omega (arith, pieces, reads-append w.points (points_of added));
         executed = executions-append w.points (points_of added) ∙ omega (arith, w.executed, executions-of added, ap asks d.2);

@@ -2,6 +2,7 @@
 use Rattle.std.proofs.Common.{◌≡◌, ◌⊎◌, ℕ, List, [], ◌∷◌, ◌++◌, Bool, true, false, refl, sym, ap, ◌∙◌, subst, drop, Option, Some, None, inl, inr}
 use Rattle.std.specs.Prelude.{if◌then◌else◌}
 use Rattle.std.proofs.lemmas.Bool.{false≢true}
+use Rattle.nbd_wire.specs.declared.export.Export.{Export}
 use Rattle.nbd_wire.specs.declared.request.Request.{Request}
 use Rattle.nbd_wire.specs.declared.command.Command.{Command}
 use Rattle.nbd_wire.specs.declared.phase.Phase.{Phase}
@@ -22,7 +23,7 @@ of_verdict true d c payload v out d' h = h
 of_verdict false d c payload None out d' h = elim h [ inl x ↦ x | inr y ↦ absurd (false≢true y.0) ]
 of_verdict false d c payload (Some e) out d' h = h
 
-of_request : (n : ℕ) (d : List ℕ) (r : Option Request) (payload out d' : List ℕ) → RepliesToPart false d (requested n r payload) out d' → (out ≡ request_reply n d r) × (d' ≡ request_applied n d r payload)
+of_request : (n : Export) (d : List ℕ) (r : Option Request) (payload out d' : List ℕ) → RepliesToPart false d (requested n r payload) out d' → (out ≡ request_reply n d r) × (d' ≡ request_applied n d r payload)
 of_request n d None payload out d' h = h
 of_request n d (Some r) payload out d' h = of_verdict (is_disconnect (command_kind r.kind)) d (command_in r) payload (judge_of (command_in r) n) out d' h
 
@@ -32,13 +33,13 @@ by_verdict true d c payload v = (refl, refl)
 by_verdict false d c payload None = inl (refl, refl)
 by_verdict false d c payload (Some e) = (refl, refl)
 
-by_request : (n : ℕ) (d : List ℕ) (r : Option Request) (payload : List ℕ) → RepliesToPart false d (requested n r payload) (request_reply n d r) (request_applied n d r payload)
+by_request : (n : Export) (d : List ℕ) (r : Option Request) (payload : List ℕ) → RepliesToPart false d (requested n r payload) (request_reply n d r) (request_applied n d r payload)
 by_request n d None payload = (refl, refl)
 by_request n d (Some r) payload = by_verdict (is_disconnect (command_kind r.kind)) d (command_in r) payload (judge_of (command_in r) n)
 
 -- ---- all of them
 
-of_units : (n : ℕ) (p : Phase) (text : List ℕ) (us : List (List ℕ)) (r : List ℕ) (q : Phase) (d out d' : List ℕ) → (p ≡ Transmitting) ⊎ (p ≡ Closed) → Splits p text us r q
+of_units : (n : Export) (p : Phase) (text : List ℕ) (us : List (List ℕ)) (r : List ℕ) (q : Phase) (d out d' : List ℕ) → (p ≡ Transmitting) ⊎ (p ≡ Closed) → Splits p text us r q
     → RepliesToParts false d (parts_from n p us) out d' → (out ≡ unit_replies n d us) × (d' ≡ after_units n d us)
 of_units n p text [] r q d out d' is split h = h
 of_units n AwaitingFlags text (u ∷ us) r q d out d' is split h = elim is [ inl e ↦ cc | inr e ↦ cc ]
@@ -51,7 +52,7 @@ of_units n Transmitting text (u ∷ us) r q d out d' is split h =
     )
 of_units n Closed text (u ∷ us) r q d out d' is split h = absurd split.2.is_open
 
-by_units : (n : ℕ) (p : Phase) (text : List ℕ) (us : List (List ℕ)) (r : List ℕ) (q : Phase) (d : List ℕ) → (p ≡ Transmitting) ⊎ (p ≡ Closed) → Splits p text us r q
+by_units : (n : Export) (p : Phase) (text : List ℕ) (us : List (List ℕ)) (r : List ℕ) (q : Phase) (d : List ℕ) → (p ≡ Transmitting) ⊎ (p ≡ Closed) → Splits p text us r q
     → RepliesToParts false d (parts_from n p us) (unit_replies n d us) (after_units n d us)
 by_units n p text [] r q d is split = (refl, refl)
 by_units n AwaitingFlags text (u ∷ us) r q d is split = elim is [ inl e ↦ cc | inr e ↦ cc ]

@@ -67,7 +67,7 @@ pub record LosesNext {S : Type 0} (step : Place S → Place S → Command → Li
   pub command : Command
   pub payload : List ℕ
   pub ahead_is : ahead ≡ unit ++ others
-  pub next : Gains setting.start setting.sectors text (text ++ unit) (ForDisk command payload ∷ [])
+  pub next : Gains setting.start setting.export text (text ++ unit) (ForDisk command payload ∷ [])
   pub taken : ExecutedAndLost step a b command payload
 
 -- where a connection stops: the bytes that were answered, their parts, the bytes behind them, and
@@ -120,7 +120,7 @@ pub record ConnectionEnded {S G : Type 0}
   pub points : List Point
   pub last : Place S
   pub text_is : text ≡ cut ++ dropped
-  pub parts_are : IsPartsOf setting.start setting.sectors cut parts
+  pub parts_are : IsPartsOf setting.start setting.export cut parts
   pub runs : PartsAnsweredBy step a.place parts out last
   pub out_is : opening setting.start ++ out ≡ sent ++ unsent
   pub wrote : Appends a.written b.written sent

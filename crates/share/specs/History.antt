@@ -2,6 +2,7 @@
 -- Source: own.
 use Rattle.std.specs.Prelude.{◌≡◌, ◌⊎◌, ℕ, ◌==◌, ◌||◌, List, [], ◌∷◌, ◌++◌, length, Bool, true}
 use Rattle.std.specs.Prelude.{Option, Some, None, if◌then◌else◌}
+use Rattle.nbd_wire.specs.declared.export.Export.{Export}
 use Rattle.block_device.specs.Contents.{Outcome}
 use Rattle.nbd_wire.specs.declared.command.Command.{Command}
 use Rattle.nbd_wire.specs.Commands.{judge_of, touches_chip}
@@ -51,20 +52,21 @@ has_failed failed [] = failed
 has_failed failed (row ∷ rows) = has_failed (failed || row.error == EIO) rows
 
 -- A row that may stand at this point of a history.
-pub record MayComeNext (sectors : ℕ) (contents : List ℕ) (failed : Bool) (row : Row) : Type 0 where
-  pub accepted : judge_of row.command sectors ≡ None
-  pub payload : length row.payload ≡ payload_len_of row.command.kind row.command
-  pub error : (row.error ≡ 0) ⊎ (row.error ≡ EIO)
-  -- answered 0: with the data of the contents at this point
-  pub answered : row.error ≡ 0 → row.reply ≡ data_of contents row.command
-  -- answered EIO: a READ, WRITE, TRIM or WRITE_ZEROES, without data
-  pub refused : row.error ≡ EIO → (touches_chip row.command.kind ≡ true) × (row.reply ≡ [])
-  -- after an EIO none of these is answered 0
-  pub later : failed ≡ true → touches_chip row.command.kind ≡ true → row.error ≡ EIO
+pub record MayComeNext (export : Export) (contents : List ℕ) (failed : Bool) (row : Row) : Type 0
+  where
+    pub accepted : judge_of row.command export ≡ None
+    pub payload : length row.payload ≡ payload_len_of row.command.kind row.command
+    pub error : (row.error ≡ 0) ⊎ (row.error ≡ EIO)
+    -- answered 0: with the data of the contents at this point
+    pub answered : row.error ≡ 0 → row.reply ≡ data_of contents row.command
+    -- answered EIO: a READ, WRITE, TRIM or WRITE_ZEROES, without data
+    pub refused : row.error ≡ EIO → (touches_chip row.command.kind ≡ true) × (row.reply ≡ [])
+    -- after an EIO none of these is answered 0
+    pub later : failed ≡ true → touches_chip row.command.kind ≡ true → row.error ≡ EIO
 
 -- the rows may stand from this point on
-abbrev pub IsLegal : ℕ → List ℕ → Bool → List Row → Type 0
-IsLegal sectors contents failed [] = Unit {0}
-IsLegal sectors contents failed (row ∷ rows) =
-    MayComeNext sectors contents failed row
-    × IsLegal sectors (after_row contents row) (failed || row.error == EIO) rows
+abbrev pub IsLegal : Export → List ℕ → Bool → List Row → Type 0
+IsLegal export contents failed [] = Unit {0}
+IsLegal export contents failed (row ∷ rows) =
+    MayComeNext export contents failed row
+    × IsLegal export (after_row contents row) (failed || row.error == EIO) rows

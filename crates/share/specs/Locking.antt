@@ -7,6 +7,7 @@ use Rattle.block_device.specs.declared.disk.DiskError.{DiskError}
 use Rattle.block_device.specs.Facts.{Facts}
 use Rattle.history.specs.Notes.{Sight, entries_by}
 use Rattle.nbd_wire.specs.declared.command.Command.{Command}
+use Rattle.nbd_wire.specs.declared.export.Export.{Export}
 use Rattle.nbd_wire.specs.Commands.{judge_of}
 use Rattle.nbd_wire.specs.Lent.{payload_len_of}
 use Rattle.nbd_wire.specs.Numbers.{ENOMEM}
@@ -19,23 +20,23 @@ use Rattle.share.specs.Seat.{Seat}
 use Rattle.share.specs.State.{Served, IsKept}
 
 -- what a server is by its type: whether rows are kept, whether its disk was sound at its start, of
--- how many sectors it is, and what it held then
+-- what is served of it, and what it held then
 pub record Start : Type 0 where
   pub keeps : Bool
   pub sound : Bool
-  pub sectors : ℕ
+  pub export : Export
   pub base : List ℕ
 
-abbrev pub start_of : Bool → Bool → ℕ → List ℕ → Start
-start_of keeps sound sectors base =
-    record { keeps = keeps; sound = sound; sectors = sectors; base = base }
+abbrev pub start_of : Bool → Bool → Export → List ℕ → Start
+start_of keeps sound export base =
+    record { keeps = keeps; sound = sound; export = export; base = base }
 
 -- A state of such a server: its disk is sound where it was, and where rows are kept they are a
 -- legal history of what it held.
 pub record IsServed (start : Start) (a : Served) : Type 0 where
-  pub size : length a.disk.contents ≡ 512 * start.sectors
+  pub size : length a.disk.contents ≡ 512 * start.export.sectors
   pub trusted : start.sound ≡ true → a.disk.sound ≡ true
-  pub kept : start.keeps ≡ true → IsKept start.sectors a.disk a.base a.rows a.interrupted
+  pub kept : start.keeps ≡ true → IsKept start.export a.disk a.base a.rows a.interrupted
   pub based : start.keeps ≡ true → start.sound ≡ true → a.base ≡ start.base
 
 -- A server and its history: the rows of all commands that were answered, also where the server
@@ -46,21 +47,22 @@ pub record Chronicled : Type 0 where
 
 -- A Cut took at most one command, which the request table accepts: each sector is wholly as it was,
 -- or wholly as that command was to make it. Where it came in tidying they are all as they were.
-pub record IsCutIn (sectors : ℕ) (old new : List ℕ) : Type 0 where
+pub record IsCutIn (export : Export) (old new : List ℕ) : Type 0 where
   pub interrupted : Option Interrupted
-  pub accepted : IfSome interrupted (λ lost. judge_of lost.command sectors ≡ None)
+  pub accepted : IfSome interrupted (λ lost. judge_of lost.command export ≡ None)
   pub payload : IfSome interrupted (λ lost.
       length lost.payload ≡ payload_len_of lost.command.kind lost.command)
   pub left : IsLeft interrupted old new
 
 -- The rows are a legal history of these contents, and while neither a Cut nor a Slow is latched in
 -- a sound disk its contents are their replay; where a Cut is latched they are what it left of that.
-pub record IsHistoryOf (sectors : ℕ) (disk : Facts) (base : List ℕ) (rows : List Row) : Type 0 where
-  pub legal : disk.sound ≡ true → IsLegal sectors base false rows
-  pub replayed : disk.sound ≡ true → disk.cut ≡ false → disk.slow ≡ false
-      → disk.contents ≡ replay base rows
-  pub cut : disk.sound ≡ true → disk.cut ≡ true → IsCutIn sectors (replay base rows) disk.contents
-  pub failed : disk.cut ≡ false → has_failed false rows ≡ true → disk.slow ≡ true
+pub record IsHistoryOf (export : Export) (disk : Facts) (base : List ℕ) (rows : List Row) : Type 0
+  where
+    pub legal : disk.sound ≡ true → IsLegal export base false rows
+    pub replayed : disk.sound ≡ true → disk.cut ≡ false → disk.slow ≡ false
+        → disk.contents ≡ replay base rows
+    pub cut : disk.sound ≡ true → disk.cut ≡ true → IsCutIn export (replay base rows) disk.contents
+    pub failed : disk.cut ≡ false → has_failed false rows ≡ true → disk.slow ≡ true
 
 -- so this holds of a server each time its lock is got
 pub record IsChronicled (start : Start) (a : Chronicled) : Type 0 where
@@ -69,7 +71,7 @@ pub record IsChronicled (start : Start) (a : Chronicled) : Type 0 where
   pub latched : start.sound ≡ true → a.served.disk.cut ≡ true → a.served.lost ≡ true
   -- where rows are kept they are the history
   pub recorded : start.keeps ≡ true → a.served.rows ≡ a.rows
-  pub history : start.sound ≡ true → IsHistoryOf start.sectors a.served.disk start.base a.rows
+  pub history : start.sound ≡ true → IsHistoryOf start.export a.served.disk start.base a.rows
 
 abbrev pub connection_of : Row → ℕ
 connection_of row = row.connection

@@ -1,5 +1,6 @@
 -- What contracts see of a server, and what its rows say of its disk. Source: own.
 use Rattle.std.specs.Prelude.{◌≡◌, ℕ, List, Bool, true, false, Option, None}
+use Rattle.nbd_wire.specs.declared.export.Export.{Export}
 use Rattle.block_device.specs.Facts.{Facts}
 use Rattle.nbd_wire.specs.declared.command.Command.{Command}
 use Rattle.share.specs.declared.recorder.Row.{Row}
@@ -9,9 +10,9 @@ use Rattle.share.specs.History.{has_failed, replay, IsLeft, IsLegal}
 -- The rows are a legal history of the contents at the start. While neither a Cut nor a Slow is
 -- latched in the disk its contents are their replay; where a Cut is latched they are what it left
 -- of that. All this is said of a sound disk.
-pub record IsKept (sectors : ℕ) (disk : Facts) (base : List ℕ) (rows : List Row)
+pub record IsKept (export : Export) (disk : Facts) (base : List ℕ) (rows : List Row)
     (interrupted : Option Interrupted) : Type 0 where
-  pub legal : disk.sound ≡ true → IsLegal sectors base false rows
+  pub legal : disk.sound ≡ true → IsLegal export base false rows
   pub replayed : disk.sound ≡ true → disk.cut ≡ false → disk.slow ≡ false
       → disk.contents ≡ replay base rows
   -- the interrupted command is the one that the Cut took; where it came in tidying there is none

@@ -42,8 +42,8 @@ pub record HasRows (start : Start) (v w : Sight Row) (parts : List Part)
   pub by : w.by ≡ v.by
   pub before : IsPrefix v.seen w.seen
   pub own : entries_by connection_of v.by w.seen ≡ entries_by connection_of v.by v.seen ++ rows
-  pub legal : start.sound ≡ true → IsLegal start.sectors start.base false v.seen
-      → IsLegal start.sectors start.base false w.seen
+  pub legal : start.sound ≡ true → IsLegal start.export start.base false v.seen
+      → IsLegal start.export start.base false w.seen
 
 -- so it is with all parts of a connection that go through a door with a lock
 abbrev pub PartsAreTold : Type 0

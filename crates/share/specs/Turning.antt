@@ -54,7 +54,7 @@ TurnedBy step a b added Loses =
 -- a text that grows from old to new gains these parts, and the session represents the longer text
 abbrev pub Grows : Setting → List ℕ → List ℕ → List Part → SessionState → Type 0
 Grows setting old new added line =
-    Gains setting.start setting.sectors old new added × SessionRepresents setting.start line new
+    Gains setting.start setting.export old new added × SessionRepresents setting.start line new
 
 -- a turn after which the connection goes on
 abbrev pub goes_on : Turn → Bool
@@ -73,7 +73,7 @@ pub record ConnectionUnderway {S G : Type 0}
   pub parts : List Part
   pub out : List ℕ
   pub points : List Point
-  pub parts_are : IsPartsOf setting.start setting.sectors text parts
+  pub parts_are : IsPartsOf setting.start setting.export text parts
   pub runs : PartsAnsweredBy step a.place parts out b.place
   pub is_open : closed parts ≡ false
   pub represents : SessionRepresents setting.start line text

@@ -81,7 +81,7 @@ impl<D: Disk, R: Recorder, L: OneServer> Model for Chronicle<D, R, L> {
     ghost invariant = { λ c. record {
       latched : L.sound ≡ true → c.shared.disk.cut ≡ true → c.shared.lost ≡ true;
       recorded : R.KEEPS ≡ true → c.shared.rows ≡ c.keeper;
-      history : L.sound ≡ true → IsHistoryOf L.sectors c.shared.disk L.base c.keeper;
+      history : L.sound ≡ true → IsHistoryOf L.export c.shared.disk L.base c.keeper;
     } };
 }
 
@@ -106,14 +106,14 @@ impl<D: Disk, R: Recorder, L: OneServer> Chronicle<D, R, L> {
         command: &Command,
         data: &'a mut [u8],
     ) -> Done<'a>
-        requires accepted { judge_of command.now L.sectors ≡ None }
+        requires accepted { judge_of command.now L.export ≡ None }
         requires lent { length «data».old ≡ lent_len command.now }
         ensures executes { Executes R.KEEPS self.old.served self.new.served pass.old pass.new
             command.now «data».old result }
         ensures adds { AddsRow self.old.rows self.new.rows hand.old hand.new command.now result }
         ensures by { hand.old.by ≡ pass.old.connection }
         ensures history { L.sound ≡ true
-            → IsHistoryOf L.sectors self.new.served.disk L.base self.new.rows }
+            → IsHistoryOf L.export self.new.served.disk L.base self.new.rows }
     {
         if pass.connection() != hand.by() {
             stop(wait);
@@ -133,7 +133,7 @@ impl<D: Disk, R: Recorder, L: OneServer> Chronicle<D, R, L> {
         ensures same { IfSome result (λ r. r.0.connection ≡ r.1.by) }
         ensures none { IfSome result (λ r. entries_by connection_of r.1.by r.1.seen ≡ []) }
         ensures legal { L.sound ≡ true
-            → IfSome result (λ r. IsLegal L.sectors L.base false r.1.seen) }
+            → IfSome result (λ r. IsLegal L.export L.base false r.1.seen) }
     {
         self.known();
         if hands.given() >= 1 << 62 {
@@ -188,7 +188,7 @@ impl<D: Disk, R: Recorder, L: OneServer> Chronicle<D, R, L> {
 
     /// Does nothing: what is known of a server with its history, whenever it is got.
     pub fn known(&self)
-        ensures { IsChronicled (start_of R.KEEPS L.sound L.sectors L.base) self.now }
+        ensures { IsChronicled (start_of R.KEEPS L.sound L.export L.base) self.now }
     {
         self.shared.known();
     }

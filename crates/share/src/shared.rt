@@ -14,7 +14,7 @@ use crate::pass::{Counts, OneServer, Pass};
 use crate::recorder::{Bytes, FullRecord, NoRecord, Recorder, Row};
 use block_device::{Disk, DiskError};
 use disk_command::run;
-use nbd_wire::{Command, EIO, ENOMEM, SECTOR_LEN};
+use nbd_wire::{Command, EIO, ENOMEM, Export, SECTOR_LEN};
 use std::alloc::Global;
 use std::marker::Model;
 use std::sync::ledger::Blank;
@@ -117,13 +117,13 @@ impl<D: Disk, R: Recorder, L: OneServer> Model for Shared<D, R, L> {
     } };
 
     ghost invariant = { λ s. record {
-      sectors : length (D.facts s.disk).contents ≡ 512 * L.sectors;
+      sectors : length (D.facts s.disk).contents ≡ 512 * L.export.sectors;
       parts : L.parts ≡ 65537;
       counted : s.counts.book.total ≡ length (R.rows s.recorder);
       fits : length (R.rows s.recorder) < 2 ^ 64;
       lost : s.lost ≡ true → (D.facts s.disk).cut ≡ true;
       latched : R.KEEPS ≡ true → (D.facts s.disk).cut ≡ true → s.lost ≡ true;
-      kept : R.KEEPS ≡ true → IsKept L.sectors (D.facts s.disk) (R.base s.recorder)
+      kept : R.KEEPS ≡ true → IsKept L.export (D.facts s.disk) (R.base s.recorder)
           (R.rows s.recorder) (R.interrupted s.recorder);
       trusted : L.sound ≡ true → (D.facts s.disk).sound ≡ true;
       based : R.KEEPS ≡ true → L.sound ≡ true → R.base s.recorder ≡ L.base;
@@ -131,9 +131,10 @@ impl<D: Disk, R: Recorder, L: OneServer> Model for Shared<D, R, L> {
 }
 
 impl<D: Disk, L: OneServer> Shared<D, NoRecord, L> {
-    /// A server that keeps no rows. `blank` has 65,537 parts.
-    pub fn new(disk: D, blank: Blank) -> Shared<D, NoRecord, L>
-        requires sectors { length (D.facts disk).contents ≡ 512 * L.sectors }
+    /// A server of this export that keeps no rows. `blank` has 65,537 parts.
+    pub fn new(disk: D, export: Export, blank: Blank) -> Shared<D, NoRecord, L>
+        requires export { export ≡ L.export }
+        requires sectors { length (D.facts disk).contents ≡ 512 * L.export.sectors }
         requires sound { L.sound ≡ true → (D.facts disk).sound ≡ true }
         requires name { blank.name ≡ L.name }
         requires parts { (blank.parts ≡ L.parts) × (blank.parts ≡ 65537) }
@@ -146,22 +147,25 @@ impl<D: Disk, L: OneServer> Shared<D, NoRecord, L> {
         Shared {
             disk,
             recorder: NoRecord,
-            counts: Counts::new(blank),
+            counts: Counts::new(blank, export),
             lost: false,
         }
     }
 }
 
 impl<D: Disk, L: OneServer> Shared<D, FullRecord, L> {
-    /// A server that keeps its rows, with the disk's contents as their base. `blank` has 65,537
-    /// parts. Cut and Slow come from reading the disk; each error hands the disk back, of the same
-    /// size, and sound where it was. Cut leaves the contents, OutOfMemory all of the disk.
+    /// A server of this export that keeps its rows, with the disk's contents as their base. `blank`
+    /// has 65,537 parts. Cut and Slow come from reading the disk; each error hands the disk back,
+    /// of the same size, and sound where it was. Cut leaves the contents, OutOfMemory all of the
+    /// disk.
     pub fn recording(
         alloc: Global,
         disk: D,
+        export: Export,
         blank: Blank,
     ) -> Result<Shared<D, FullRecord, L>, (RecordError, D)>
-        requires sectors { length (D.facts disk).contents ≡ 512 * L.sectors }
+        requires export { export ≡ L.export }
+        requires sectors { length (D.facts disk).contents ≡ 512 * L.export.sectors }
         requires sound { L.sound ≡ true → (D.facts disk).sound ≡ true }
         requires base { L.sound ≡ true → (D.facts disk).contents ≡ L.base }
         requires name { blank.name ≡ L.name }
@@ -196,7 +200,7 @@ impl<D: Disk, L: OneServer> Shared<D, FullRecord, L> {
             Ok(()) => Ok(Shared {
                 disk,
                 recorder: FullRecord::new(alloc, Bytes::new(base)),
-                counts: Counts::new(blank),
+                counts: Counts::new(blank, export),
                 lost: false,
             }),
             Err(DiskError::Cut) => Err((RecordError::Cut, disk)),
@@ -219,7 +223,7 @@ impl<D: Disk, R: Recorder, L: OneServer> Shared<D, R, L> {
         command: &Command,
         data: &'a mut [u8],
     ) -> Done<'a>
-        requires accepted { judge_of command.now L.sectors ≡ None }
+        requires accepted { judge_of command.now L.export ≡ None }
         requires lent { length «data».old ≡ lent_len command.now }
         ensures executes { Executes R.KEEPS self.old self.new pass.old pass.new command.now
             «data».old result }
@@ -236,7 +240,7 @@ impl<D: Disk, R: Recorder, L: OneServer> Shared<D, R, L> {
         if recorder.prepare(data.len()).is_err() {
             return Done::Replied(Answer::new(command, ENOMEM, data));
         }
-        match run(disk, command, pass.sectors(), data) {
+        match run(disk, command, pass.export(), data) {
             Ok(()) => {
                 note(recorder, counts, pass, command, 0, data);
                 return Done::Replied(Answer::new(command, 0, data));
@@ -267,7 +271,7 @@ impl<D: Disk, R: Recorder, L: OneServer> Shared<D, R, L> {
 
     /// Does nothing: what is known of a server, whenever it is got.
     pub fn known(&self)
-        ensures { IsServed (start_of R.KEEPS L.sound L.sectors L.base) self.now }
+        ensures { IsServed (start_of R.KEEPS L.sound L.export L.base) self.now }
     {
         let _lost = self.lost;
     }
@@ -288,8 +292,7 @@ impl<D: Disk, R: Recorder, L: OneServer> Shared<D, R, L> {
         ensures given { OnSome result (self.new ≡ record self.old { given = self.old.given + 1 }) }
         ensures none { IfNone result (self.new ≡ self.old) }
     {
-        let sectors = self.disk.sectors();
-        self.counts.pass(sectors)
+        self.counts.pass()
     }
 
     /// A pass comes back: another may be given in its place, with a number of its own, and its rows
@@ -335,7 +338,7 @@ impl<D: Disk, L: OneServer> Shared<D, FullRecord, L> {
     /// the replay where the Cut came in tidying.
     pub fn rows(&self) -> &[Row]
         ensures rows { result.now ≡ self.now.rows }
-        ensures kept { IsKept L.sectors self.now.disk self.now.base self.now.rows
+        ensures kept { IsKept L.export self.now.disk self.now.base self.now.rows
             self.now.interrupted }
     {
         self.recorder.rows()

@@ -7,6 +7,7 @@ use Rattle.station.specs.declared.event.Event.{Event}
 use Rattle.station.specs.declared.event.Event.TheVariants.{Open, Piece, Gone, Tidy, Restore}
 use Rattle.station.specs.World.{World, text_at}
 use Rattle.station.specs.Transcript.{Move, Transcript}
+use Rattle.nbd_wire.specs.Commands.{default_export}
 use Rattle.block_device.specs.Facts.{Facts}
 use Rattle.station.specs.Board.{Board, IsNew, ConnectionsRepresent}
 use Rattle.station.specs.Broken.{Breaks, Begun, BegunBy}
@@ -103,7 +104,7 @@ hangs_up old mid new e was is eight same h =
       x.2,
       x.3,
       record {
-        disk = record { sound = d.sound; slow = d.slow; cut = d.cut; sectors = d.sectors; contents = d.contents; power = d.power };
+        disk = record { sound = d.sound; slow = d.slow; cut = d.cut; export = d.export; contents = d.contents; power = d.power };
         texts = subst (λ t. ConnectionsRepresent mid.sessions (replicate 8 false) t) (sym (breaks_hung old.disk.cuts mid.disk.cuts w x.0 e x.1 x.3)) (lines_dark 8 mid.sessions eight);
       },
     ))
@@ -113,16 +114,17 @@ not_not true = refl
 not_not false = refl
 
 -- a station just made
-pub is_new : (f : Facts) (b : Board) → b.disk ≡ f → length f.contents ≡ 512 * b.sectors → f.cut ≡ not b.power → length b.sessions ≡ 8 → b.is_open ≡ replicate 8 false → IsNew f b
-is_new f b same size power eight shut = record {
+pub is_new : (f : Facts) (b : Board) → b.disk ≡ f → length f.contents ≡ 512 * b.export.sectors → b.export ≡ default_export b.export.sectors → f.cut ≡ not b.power → length b.sessions ≡ 8 → b.is_open ≡ replicate 8 false → IsNew f b
+is_new f b same size served power eight shut = record {
   disk_is = same;
   size = size;
+  served = served;
   represents = λ sound slow. record {
     disk = record {
       sound = ap (λ (x : Facts). x.sound) same ∙ sound;
       slow = ap (λ (x : Facts). x.slow) same ∙ slow;
       cut = ap (λ (x : Facts). x.cut) same ∙ power;
-      sectors = refl;
+      export = refl;
       contents = ap (λ (x : Facts). x.contents) (sym same);
       power = ap not power ∙ not_not b.power;
     };

@@ -3,6 +3,7 @@ use Rattle.std.proofs.Common.{◌≡◌, ◌⊎◌, inl, inr, ℕ, Bool, true, f
 use Rattle.std.specs.Borrow.{Bor}
 use Rattle.std.specs.Prelude.{not, MatchBool, MatchOption, Result, Ok, Err}
 use Rattle.std.specs.Io.KnownBytes.{Appends}
+use Rattle.nbd_wire.specs.declared.export.Export.{Export}
 use Rattle.block_device.specs.Facts.{Facts}
 use Rattle.block_device.specs.Streams.{Sends, FailsToSend}
 use Rattle.std.proofs.KnownBytes.{Appends-trans}
@@ -18,8 +19,8 @@ use Rattle.station.specs.Moving.{Does, Halts}
 use Rattle.station.proofs.Pieces.{longer, appends_none}
 use Rattle.station.proofs.Lines.{lines_set, lines_dark, lines_past, lines_none, lines_some, lines_close}
 
-abbrev pub board : Facts → ℕ → Bool → List SessionState → List Bool → Board
-board f n on ss bs = record { disk = f; sectors = n; power = on; sessions = ss; is_open = bs }
+abbrev pub board : Facts → Export → Bool → List SessionState → List Bool → Board
+board f n on ss bs = record { disk = f; export = n; power = on; sessions = ss; is_open = bs }
 
 -- an event whose last record is this one: what was told before it, and the move
 abbrev pub Leads : Board → Board → Event → Option (List ℕ) → Option (List ℕ) → List ℕ → Type 0
@@ -27,7 +28,7 @@ Leads old new e was mid last = new.disk.slows ≡ old.disk.slows → (w : World)
     (told : List ℕ) × Appends was mid told × (w' : World) × Move old.disk.cuts w e (told ++ last) new.disk.cuts w' × StationRepresents new w'
 
 hung : (b : Board) (w : World) → DiskRepresents b w → DiskRepresents b (hung_up w)
-hung b w s = record { sound = s.sound; slow = s.slow; cut = s.cut; sectors = s.sectors; contents = s.contents; power = s.power }
+hung b w s = record { sound = s.sound; slow = s.slow; cut = s.cut; export = s.export; contents = s.contents; power = s.power }
 
 -- an event whose records end with this one, by what became of the output
 pub does_by : {T E : Type 0} (old new : Board) (e : Event) (was mid is : Option (List ℕ)) (last : List ℕ) (r : Result T E) (f f' : ℕ)
@@ -79,7 +80,7 @@ ignored b e who kind was on po = simply b b e was (entry who kind []) (λ same w
     let p : w.power ≡ true = d.power ∙ on in
     (w, inl (step_on w.power (Powered w e (entry who kind []) w) (Unpowered w e (entry who kind []) w) p (po w s), omega arith), s))
 
-module _ (f f' : Facts) (n : ℕ) (on : Bool) (ss : List SessionState) (bs : List Bool) (was : Option (List ℕ)) where
+module _ (f f' : Facts) (n : Export) (on : Bool) (ss : List SessionState) (bs : List Bool) (was : Option (List ℕ)) where
   pub tidied : on ≡ true → (f.sound ≡ true → f'.contents ≡ f.contents) → f'.sound ≡ f.sound → f.cuts ≤ f'.cuts → f'.cut ≡ false → f'.slow ≡ false
       → Leads (board f n on ss bs) (board f' n on ss bs) Tidy was was (entry NO_ONE DONE [])
   tidied power kept sound cuts cut slow = simply (board f n on ss bs) (board f' n on ss bs) Tidy was (entry NO_ONE DONE []) (λ same w s.
@@ -88,7 +89,7 @@ module _ (f f' : Facts) (n : ℕ) (on : Bool) (ss : List SessionState) (bs : Lis
         w,
         inl (rw p (refl, refl), cuts),
         record {
-          disk = record { sound = sound ∙ d.sound; slow = slow; cut = cut ∙ ap not (sym power); sectors = d.sectors; contents = d.contents ∙ sym (kept d.sound); power = d.power };
+          disk = record { sound = sound ∙ d.sound; slow = slow; cut = cut ∙ ap not (sym power); export = d.export; contents = d.contents ∙ sym (kept d.sound); power = d.power };
           texts = s.texts;
         },
       ))
@@ -103,7 +104,7 @@ module _ (f f' : Facts) (n : ℕ) (on : Bool) (ss : List SessionState) (bs : Lis
         dark w w.disk,
         inr ((d.power ∙ power, refl, refl), rose),
         record {
-          disk = record { sound = sound ∙ d.sound; slow = slow ∙ d.slow; cut = cut; sectors = d.sectors; contents = d.contents ∙ sym (kept d.sound); power = refl };
+          disk = record { sound = sound ∙ d.sound; slow = slow ∙ d.slow; cut = cut; export = d.export; contents = d.contents ∙ sym (kept d.sound); power = refl };
           texts = lines_dark 8 ss eight;
         },
       ))
@@ -119,7 +120,7 @@ module _ (f f' : Facts) (n : ℕ) (on : Bool) (ss : List SessionState) (bs : Lis
           w,
           inl (rw p (refl, refl), cuts),
           record {
-            disk = record { sound = sound d.slow ∙ d.sound; slow = slow; cut = cut; sectors = d.sectors; contents = d.contents ∙ sym (kept d.sound d.slow); power = p };
+            disk = record { sound = sound d.slow ∙ d.sound; slow = slow; cut = cut; export = d.export; contents = d.contents ∙ sym (kept d.sound d.slow); power = p };
             texts = s.texts;
           },
         )
@@ -127,7 +128,7 @@ module _ (f f' : Facts) (n : ℕ) (on : Bool) (ss : List SessionState) (bs : Lis
           record w { power = true },
           inl (rw p (refl, refl), cuts),
           record {
-            disk = record { sound = sound d.slow ∙ d.sound; slow = slow; cut = cut; sectors = d.sectors; contents = d.contents ∙ sym (kept d.sound d.slow); power = refl };
+            disk = record { sound = sound d.slow ∙ d.sound; slow = slow; cut = cut; export = d.export; contents = d.contents ∙ sym (kept d.sound d.slow); power = refl };
             texts = s.texts;
           },
         )
@@ -139,7 +140,7 @@ module _ (f f' : Facts) (n : ℕ) (on : Bool) (ss : List SessionState) (bs : Lis
         dark w w.disk,
         inr ((refl, refl), rose),
         record {
-          disk = record { sound = sound d.slow ∙ d.sound; slow = slow ∙ d.slow; cut = cut; sectors = d.sectors; contents = d.contents ∙ sym (kept d.sound d.slow); power = refl };
+          disk = record { sound = sound d.slow ∙ d.sound; slow = slow ∙ d.slow; cut = cut; export = d.export; contents = d.contents ∙ sym (kept d.sound d.slow); power = refl };
           texts = lines_dark 8 ss eight;
         },
       ))
@@ -178,7 +179,7 @@ open_none b c was on cause = ignored b (Open c) c ABSENT was on (λ w s.
     let why : (8 ≤ c) ⊎ (text_at w c ≡ None → ⊥) = elim cause [ inl h ↦ inl h | inr h ↦ inr (λ e. let some = (lines_some b.sessions b.is_open w.texts c s.texts h).1 in cc) ] in
     inr (why, (refl, refl)))
 
-module _ (f : Facts) (n : ℕ) (on : Bool) (ss : List SessionState) (bs : List Bool) (c : ℕ) (power : on ≡ true) where
+module _ (f : Facts) (n : Export) (on : Bool) (ss : List SessionState) (bs : List Bool) (c : ℕ) (power : on ≡ true) where
   pub gone_done : (was : Option (List ℕ)) → get_or bs c false ≡ true → Leads (board f n on ss bs) (board f n on ss (set bs c false)) (Gone c) was was (entry c DONE [])
   gone_done was here = simply (board f n on ss bs) (board f n on ss (set bs c false)) (Gone c) was (entry c DONE []) (λ same w s.
       let d = s.disk in
@@ -191,7 +192,7 @@ module _ (f : Facts) (n : ℕ) (on : Bool) (ss : List SessionState) (bs : List B
           omega arith,
         ),
         record {
-          disk = record { sound = d.sound; slow = d.slow; cut = d.cut; sectors = d.sectors; contents = d.contents; power = d.power };
+          disk = record { sound = d.sound; slow = d.slow; cut = d.cut; export = d.export; contents = d.contents; power = d.power };
           texts = lines_close ss bs w.texts c s.texts;
         },
       ))
@@ -213,7 +214,7 @@ module _ (f : Facts) (n : ℕ) (on : Bool) (ss : List SessionState) (bs : List B
           omega arith,
         ),
         record {
-          disk = record { sound = d.sound; slow = d.slow; cut = d.cut; sectors = d.sectors; contents = d.contents; power = d.power };
+          disk = record { sound = d.sound; slow = d.slow; cut = d.cut; export = d.export; contents = d.contents; power = d.power };
           texts = lines_set ss bs w.texts c s' true (Some []) s.texts serves;
         },
       )
@@ -240,7 +241,7 @@ module _ (f : Facts) (n : ℕ) (on : Bool) (ss : List SessionState) (bs : List B
           move = inl (step_on w.power (Powered w (Open c) out end) (Unpowered w (Open c) out end) lit (inl (lt, none, whole, refl)), omega arith);
           reached = inl refl;
         },
-        record { sound = d.sound; slow = d.slow; cut = d.cut; sectors = d.sectors; contents = d.contents; power = d.power },
+        record { sound = d.sound; slow = d.slow; cut = d.cut; export = d.export; contents = d.contents; power = d.power },
       )
 
 -- the same where nothing changed

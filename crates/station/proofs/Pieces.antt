@@ -3,6 +3,7 @@ use Rattle.std.proofs.Common.{◌≡◌, ℕ, ◌<◌, ◌≤◌, Bool, true, fa
 use Rattle.std.specs.Prelude.{◌||◌}
 use Rattle.std.proofs.lemmas.List.{take-append-drop, append-nil}
 use Rattle.std.specs.Io.KnownBytes.{Appends}
+use Rattle.nbd_wire.specs.declared.export.Export.{Export}
 use Rattle.block_device.specs.Contents.{Outcome}
 use Rattle.block_device.specs.Facts.{Facts, CountsNeverFall}
 use Rattle.std.proofs.KnownBytes.{Appends-trans}
@@ -34,13 +35,13 @@ goes_still a = record { size = refl; cuts = omega arith; slows = omega arith }
 pub quiet_both : (old mid new : ℕ) → old ≤ mid → mid ≤ new → new ≡ old → (mid ≡ old) × (new ≡ mid)
 quiet_both old mid new a b e = (omega arith, omega arith)
 
-pub replies_more : (n who : ℕ) (d : List ℕ) (more : List Part) (p : Part) → replies n who d (more ++ p ∷ []) ≡ replies n who d more ++ replied who (reply_of_part n (after_parts n d more) p)
+pub replies_more : (n : Export) (who : ℕ) (d : List ℕ) (more : List Part) (p : Part) → replies n who d (more ++ p ∷ []) ≡ replies n who d more ++ replied who (reply_of_part n (after_parts n d more) p)
 replies_more n who d [] p = append-nil (replied who (reply_of_part n d p))
 replies_more n who d (q ∷ more) p =
     ap (λ l. replied who (reply_of_part n d q) ++ l) (replies_more n who (after_part n d q) more p)
     ∙ sym (append_assoc (replied who (reply_of_part n d q)) (replies n who (after_part n d q) more) (replied who (reply_of_part n (after_parts n (after_part n d q) more) p)))
 
-pub after_more : (n : ℕ) (d : List ℕ) (more : List Part) (p : Part) → after_parts n d (more ++ p ∷ []) ≡ after_part n (after_parts n d more) p
+pub after_more : (n : Export) (d : List ℕ) (more : List Part) (p : Part) → after_parts n d (more ++ p ∷ []) ≡ after_part n (after_parts n d more) p
 after_more n d [] p = refl
 after_more n d (q ∷ more) p = after_more n (after_part n d q) more p
 
@@ -52,10 +53,10 @@ closed_more (q ∷ more) p e =
 
 -- one more part is answered
 some_more : (who : ℕ) (old : Desk) (text used new : List ℕ) (more : List Part) (out disk : List ℕ) (p : Part)
-    → SomeParts who old text used out disk more → Gains AwaitingFlags old.line.sectors (text ++ used) ((text ++ used) ++ new) (p ∷ [])
-    → SomeParts who old text (used ++ new) (out ++ replied who (reply_of_part old.line.sectors disk p)) (after_part old.line.sectors disk p) (more ++ p ∷ [])
+    → SomeParts who old text used out disk more → Gains AwaitingFlags old.line.export (text ++ used) ((text ++ used) ++ new) (p ∷ [])
+    → SomeParts who old text (used ++ new) (out ++ replied who (reply_of_part old.line.export disk p)) (after_part old.line.export disk p) (more ++ p ∷ [])
 some_more who old text used new more out disk p a e =
-    let n = old.line.sectors in
+    let n = old.line.export in
     let d = old.disk.contents in
     record {
       lacked = subst (λ l. Gains AwaitingFlags n text l (more ++ p ∷ [])) (append_assoc text used new) (gains_both AwaitingFlags n text (text ++ used) ((text ++ used) ++ new) more (p ∷ []) a.lacked e);
@@ -63,14 +64,14 @@ some_more who old text used new more out disk p a e =
       disk_is = ap (λ l. after_part n l p) a.disk_is ∙ sym (after_more n d more p);
     }
 
--- the same sectors under another name
-one_at : (n who : ℕ) (mid : Desk) (text longer out disk : List ℕ) (b : Bool) → mid.line.sectors ≡ n → OnePart who mid text longer out disk b
+-- the same export under another name
+one_at : (n : Export) (who : ℕ) (mid : Desk) (text longer out disk : List ℕ) (b : Bool) → mid.line.export ≡ n → OnePart who mid text longer out disk b
     → (p : Part) × Gains AwaitingFlags n text longer (p ∷ []) × (closes p ≡ b) × (out ≡ replied who (reply_of_part n mid.disk.contents p)) × (disk ≡ after_part n mid.disk.contents p)
 one_at n who mid text longer out disk b same o =
     subst (λ m. (p : Part) × Gains AwaitingFlags m text longer (p ∷ []) × (closes p ≡ b) × (out ≡ replied who (reply_of_part m mid.disk.contents p)) × (disk ≡ after_part m mid.disk.contents p))
     same (o.part, o.gains, o.is_closing, o.out_is, o.disk_is)
 
-lost_at : (n : ℕ) (mid : Desk) (text longer out disk : List ℕ) → mid.line.sectors ≡ n → LostPart mid text longer out disk
+lost_at : (n : Export) (mid : Desk) (text longer out disk : List ℕ) → mid.line.export ≡ n → LostPart mid text longer out disk
     → (c : Command) × (payload : List ℕ) × Gains AwaitingFlags n text longer (ForDisk c payload ∷ []) × (touches_chip c.kind ≡ true) × (out ≡ []) × Outcome mid.disk.contents (applied n mid.disk.contents c payload) disk
 lost_at n mid text longer out disk same o =
     subst (λ m. (c : Command) × (payload : List ℕ) × Gains AwaitingFlags m text longer (ForDisk c payload ∷ []) × (touches_chip c.kind ≡ true) × (out ≡ []) × Outcome mid.disk.contents (applied m mid.disk.contents c payload) disk)
@@ -98,12 +99,12 @@ start who old bytes on fast = record {
     split = refl;
     appends = appends_none old.written;
     still = refl;
-    answered = record { lacked = subst (λ l. Gains AwaitingFlags old.line.sectors t l []) (sym (append-nil t)) (gains_still AwaitingFlags old.line.sectors t); out_is = refl; disk_is = refl };
+    answered = record { lacked = subst (λ l. Gains AwaitingFlags old.line.export t l []) (sym (append-nil t)) (gains_still AwaitingFlags old.line.export t); out_is = refl; disk_is = refl };
     serves = subst (λ l. ServesText old.line l) (sym (append-nil t)) serves;
   };
 }
 
-module _ (who : ℕ) (old mid new : Desk) (bytes rest : List ℕ) (k : ℕ) (same : mid.line.sectors ≡ old.line.sectors) (u : PieceUnderway who old mid bytes rest) where
+module _ (who : ℕ) (old mid new : Desk) (bytes rest : List ℕ) (k : ℕ) (same : mid.line.export ≡ old.line.export) (u : PieceUnderway who old mid bytes rest) where
   -- after a turn that answers a part
   pub underway_answered : Turned who mid new Answered (take k rest) → mid.disk.cuts ≤ new.disk.cuts → PieceUnderway who old new bytes (drop k rest)
   underway_answered g le = record {
@@ -113,7 +114,7 @@ module _ (who : ℕ) (old mid new : Desk) (bytes rest : List ℕ) (k : ℕ) (sam
     text = λ t serves.
         let f = u.text t serves in
         let x = g.says (t ++ f.used) f.serves in
-        let p = one_at old.line.sectors who mid (t ++ f.used) ((t ++ f.used) ++ take k rest) x.0 new.disk.contents false same x.2.0 in
+        let p = one_at old.line.export who mid (t ++ f.used) ((t ++ f.used) ++ take k rest) x.0 new.disk.contents false same x.2.0 in
         record {
           used = f.used ++ take k rest;
           more = f.more ++ p.0 ∷ [];
@@ -122,7 +123,7 @@ module _ (who : ℕ) (old mid new : Desk) (bytes rest : List ℕ) (k : ℕ) (sam
           appends = Appends-trans old.written mid.written new.written f.out x.0 f.appends x.1;
           still = closed_more f.more p.0 f.still ∙ p.2;
           answered = subst (λ o. SomeParts who old t (f.used ++ take k rest) (f.out ++ o) new.disk.contents (f.more ++ p.0 ∷ [])) (sym p.3)
-              (subst (λ d. SomeParts who old t (f.used ++ take k rest) (f.out ++ replied who (reply_of_part old.line.sectors mid.disk.contents p.0)) d (f.more ++ p.0 ∷ [])) (sym p.4)
+              (subst (λ d. SomeParts who old t (f.used ++ take k rest) (f.out ++ replied who (reply_of_part old.line.export mid.disk.contents p.0)) d (f.more ++ p.0 ∷ [])) (sym p.4)
               (some_more who old t f.used (take k rest) f.more f.out mid.disk.contents p.0 f.answered p.1));
           serves = subst (λ l. ServesText new.line l) (append_assoc t f.used (take k rest)) x.2.1;
         };
@@ -137,7 +138,7 @@ module _ (who : ℕ) (old mid new : Desk) (bytes rest : List ℕ) (k : ℕ) (sam
     text = λ t serves.
         let f = u.text t serves in
         let x = g.says (t ++ f.used) f.serves in
-        let says : Gains AwaitingFlags old.line.sectors (t ++ f.used) ((t ++ f.used) ++ take k rest) [] = subst (λ m. Gains AwaitingFlags m (t ++ f.used) ((t ++ f.used) ++ take k rest) []) same x.2.0 in
+        let says : Gains AwaitingFlags old.line.export (t ++ f.used) ((t ++ f.used) ++ take k rest) [] = subst (λ m. Gains AwaitingFlags m (t ++ f.used) ((t ++ f.used) ++ take k rest) []) same x.2.0 in
         let a = f.answered in
         record {
           used = f.used ++ take k rest;
@@ -147,8 +148,8 @@ module _ (who : ℕ) (old mid new : Desk) (bytes rest : List ℕ) (k : ℕ) (sam
           appends = Appends-trans old.written mid.written new.written f.out x.0 f.appends x.1;
           still = f.still;
           answered = record {
-            lacked = subst (λ l. Gains AwaitingFlags old.line.sectors t l f.more) (append_assoc t f.used (take k rest))
-                (subst (λ ps. Gains AwaitingFlags old.line.sectors t ((t ++ f.used) ++ take k rest) ps) (append-nil f.more) (gains_both AwaitingFlags old.line.sectors t (t ++ f.used) ((t ++ f.used) ++ take k rest) f.more [] a.lacked says));
+            lacked = subst (λ l. Gains AwaitingFlags old.line.export t l f.more) (append_assoc t f.used (take k rest))
+                (subst (λ ps. Gains AwaitingFlags old.line.export t ((t ++ f.used) ++ take k rest) ps) (append-nil f.more) (gains_both AwaitingFlags old.line.export t (t ++ f.used) ((t ++ f.used) ++ take k rest) f.more [] a.lacked says));
             out_is = ap (λ l. f.out ++ l) x.2.1 ∙ (append-nil f.out ∙ a.out_is);
             disk_is = x.2.2 ∙ a.disk_is;
           };
@@ -162,7 +163,7 @@ module _ (who : ℕ) (old mid new : Desk) (bytes rest : List ℕ) (k : ℕ) (sam
     power = g.power;
     slow = g.slow;
     says = λ t serves.
-        let n = old.line.sectors in
+        let n = old.line.export in
         let f = u.text t serves in
         let x = g.says (t ++ f.used) f.serves in
         let p = one_at n who mid (t ++ f.used) ((t ++ f.used) ++ take k rest) x.0 new.disk.contents true same x.2 in
@@ -192,7 +193,7 @@ module _ (who : ℕ) (old mid new : Desk) (bytes rest : List ℕ) (k : ℕ) (sam
     power = (g.power.0, omega (arith, u.cuts, g.power.1));
     slow = g.slow;
     says = λ t serves.
-        let n = old.line.sectors in
+        let n = old.line.export in
         let f = u.text t serves in
         let x = g.says (t ++ f.used) f.serves in
         let p = lost_at n mid (t ++ f.used) ((t ++ f.used) ++ take k rest) x.0 new.disk.contents same x.2 in
@@ -217,7 +218,7 @@ module _ (who : ℕ) (old mid new : Desk) (bytes rest : List ℕ) (k : ℕ) (sam
         );
   }
 
-  halt_at : (n : ℕ) (text : List ℕ) → mid.line.sectors ≡ n → PartHalts who mid new text rest
+  halt_at : (n : Export) (text : List ℕ) → mid.line.export ≡ n → PartHalts who mid new text rest
       → (p : Part) × (more : List Part) × (out : List ℕ) × (unsent : List ℕ) × Lacked n text rest (p ∷ more) × Appends mid.written new.written out
       × (replied who (reply_of_part n mid.disk.contents p) ≡ out ++ unsent) × (new.disk.contents ≡ after_part n mid.disk.contents p) × (0 < length unsent)
   halt_at n text e o =
@@ -231,7 +232,7 @@ module _ (who : ℕ) (old mid new : Desk) (bytes rest : List ℕ) (k : ℕ) (sam
     power = g.power;
     slow = g.slow;
     says = λ t serves.
-        let n = old.line.sectors in
+        let n = old.line.export in
         let d = old.disk.contents in
         let f = u.text t serves in
         let x = halt_at n (t ++ f.used) same (g.says (t ++ f.used) f.serves) in
@@ -261,7 +262,7 @@ piece_waits who old new bytes rest u all = record {
   power = u.cut;
   slow = u.slow;
   says = λ t serves.
-      let n = old.line.sectors in
+      let n = old.line.export in
       let f = u.text t serves in
       let a = f.answered in
       let whole : bytes ≡ f.used = f.split ∙ (ap (λ l. f.used ++ l) all ∙ append-nil f.used) in (

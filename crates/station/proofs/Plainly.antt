@@ -36,9 +36,9 @@ both a out out' x v v' p q = (p.0 ∙ sym q.0, p.1 ∙ sym q.1)
 
 answers_one : (w : World) (c : ℕ) (t bytes out out' : List ℕ) (v v' : World) → AnswersPiece w c t bytes out v → AnswersPiece w c t bytes out' v' → Same out out' v v'
 answers_one w c t bytes out out' v v' p q =
-    let same : p.more ≡ q.more = one_gain AwaitingFlags w.sectors t (t ++ bytes) p.more q.more p.lacked q.lacked in (
-      p.wrote ∙ (ap (λ m. replies w.sectors c w.disk m ++ entry c (if closed m then SHUT else DONE) []) same ∙ sym q.wrote),
-      p.world ∙ (ap (λ m. record { sectors = w.sectors; disk = after_parts w.sectors w.disk m; power = true; texts = set w.texts c (if closed m then None else Some (t ++ bytes)) }) same ∙ sym q.world),
+    let same : p.more ≡ q.more = one_gain AwaitingFlags w.export t (t ++ bytes) p.more q.more p.lacked q.lacked in (
+      p.wrote ∙ (ap (λ m. replies w.export c w.disk m ++ entry c (if closed m then SHUT else DONE) []) same ∙ sym q.wrote),
+      p.world ∙ (ap (λ m. record { export = w.export; disk = after_parts w.export w.disk m; power = true; texts = set w.texts c (if closed m then None else Some (t ++ bytes)) }) same ∙ sym q.world),
     )
 
 piece_one : (o : Option (List ℕ)) (w : World) (c k : ℕ) (bytes out out' : List ℕ) (v v' : World)

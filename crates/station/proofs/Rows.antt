@@ -2,6 +2,7 @@
 -- computed.
 use Rattle.std.specs.Prelude.{◌≡◌, ℕ, true, List, [], ◌∷◌, ◌++◌, None, Some, replicate}
 use Rattle.std.proofs.Common.{refl, arith, inl, inr}
+use Rattle.nbd_wire.specs.Commands.{default_export}
 use Rattle.nbd_handshake.specs.Greeting.{greeting_bytes}
 use Rattle.station.specs.declared.event.Event.TheVariants.{Open, Gone, Tidy, Restore}
 use Rattle.station.specs.Records.{DONE, LOST, NO_ONE, entry, replied}
@@ -38,10 +39,10 @@ arming_line = refl
 
 -- a disk of one sector, on which connection 0 is opened_world
 abbrev closed_world : World
-closed_world = record { sectors = 1; disk = replicate 512 0; power = true; texts = replicate 8 None }
+closed_world = record { export = default_export 1; disk = replicate 512 0; power = true; texts = replicate 8 None }
 
 abbrev opened_world : World
-opened_world = record { sectors = 1; disk = replicate 512 0; power = true; texts = Some [] ∷ replicate 7 None }
+opened_world = record { export = default_export 1; disk = replicate 512 0; power = true; texts = Some [] ∷ replicate 7 None }
 
 opens : Step closed_world (Open 0) (replied 0 greeting_bytes ++ (0 ∷ 65 ∷ 0 ∷ 0 ∷ 0 ∷ 0 ∷ [])) opened_world
 opens = inl (omega arith, refl, refl, refl)

@@ -1,6 +1,8 @@
 -- What contracts see of a station, and for which worlds it stands. Source: own.
 use Rattle.std.specs.Prelude.{◌≡◌, ◌*◌, length, replicate, ℕ, Bool, true, false, not, List, [], ◌∷◌}
 use Rattle.std.specs.Prelude.{map, Option, None, Some}
+use Rattle.nbd_wire.specs.Commands.{default_export}
+use Rattle.nbd_wire.specs.declared.export.Export.{Export}
 use Rattle.block_device.specs.Facts.{Facts}
 use Rattle.nbd_wire.specs.declared.phase.Phase.TheVariants.{AwaitingFlags}
 use Rattle.session.specs.Sessions.{SessionState, SessionRepresents, is_closed}
@@ -8,7 +10,7 @@ use Rattle.station.specs.World.{World}
 
 pub record Board : Type 0 where
   pub disk : Facts
-  pub sectors : ℕ
+  pub export : Export
   pub power : Bool
   -- the sessions of the eight connections, and whether each is open
   pub sessions : List SessionState
@@ -41,7 +43,7 @@ pub record DiskRepresents (board : Board) (w : World) : Type 0 where
   pub sound : board.disk.sound ≡ true
   pub slow : board.disk.slow ≡ false
   pub cut : board.disk.cut ≡ not board.power
-  pub sectors : w.sectors ≡ board.sectors
+  pub export : w.export ≡ board.export
   pub contents : w.disk ≡ board.disk.contents
   pub power : w.power ≡ board.power
 
@@ -55,10 +57,11 @@ pub record StationRepresents (board : Board) (w : World) : Type 0 where
 -- represents its contents, with power where no Cut is latched, and with every connection closed.
 pub record IsNew (disk : Facts) (board : Board) : Type 0 where
   pub disk_is : board.disk ≡ disk
-  pub size : length disk.contents ≡ 512 * board.sectors
+  pub size : length disk.contents ≡ 512 * board.export.sectors
+  pub served : board.export ≡ default_export board.export.sectors
   pub represents : disk.sound ≡ true → disk.slow ≡ false
       → StationRepresents board (record {
-        sectors = board.sectors;
+        export = board.export;
         disk = disk.contents;
         power = not disk.cut;
         texts = replicate 8

@@ -15,15 +15,15 @@ pub record Begun (w : World) (who : ℕ) (text bytes out : List ℕ) (w' : World
   pub before : List Part
   pub part : Part
   pub rest : List Part
-  pub lacked : Lacked w.sectors text bytes (before ++ part ∷ rest)
+  pub lacked : Lacked w.export text bytes (before ++ part ∷ rest)
   pub first : List ℕ
   pub unsent : List ℕ
   pub missing : 0 < length unsent
   pub reply_is : replied who
-      (reply_of_part w.sectors (after_parts w.sectors w.disk before) part) ≡ first ++ unsent
-  pub out_is : out ≡ replies w.sectors who w.disk before ++ first
+      (reply_of_part w.export (after_parts w.export w.disk before) part) ≡ first ++ unsent
+  pub out_is : out ≡ replies w.export who w.disk before ++ first
   pub world : w'
-      ≡ hung_up (record w { disk = after_parts w.sectors w.disk (before ++ part ∷ []) })
+      ≡ hung_up (record w { disk = after_parts w.export w.disk (before ++ part ∷ []) })
 
 abbrev pub BegunBy : World → Event → List ℕ → World → Type 0
 BegunBy w (Open who) out w' = ⊥

@@ -45,25 +45,25 @@ PowerAfter Loses old new = (new.cut ≡ true) × (old.cuts < new.cuts)
 pub record OnePart (who : ℕ) (old : Desk) (text longer out disk : List ℕ)
     (closing : Bool) : Type 0 where
   pub part : Part
-  pub gains : Gains AwaitingFlags old.line.sectors text longer (part ∷ [])
+  pub gains : Gains AwaitingFlags old.line.export text longer (part ∷ [])
   pub is_closing : closes part ≡ closing
-  pub out_is : out ≡ replied who (reply_of_part old.line.sectors old.disk.contents part)
-  pub disk_is : disk ≡ after_part old.line.sectors old.disk.contents part
+  pub out_is : out ≡ replied who (reply_of_part old.line.export old.disk.contents part)
+  pub disk_is : disk ≡ after_part old.line.export old.disk.contents part
 
 -- an accepted command with a range is interrupted
 pub record LostPart (old : Desk) (text longer out disk : List ℕ) : Type 0 where
   pub command : Command
   pub payload : List ℕ
-  pub gains : Gains AwaitingFlags old.line.sectors text longer (ForDisk command payload ∷ [])
+  pub gains : Gains AwaitingFlags old.line.export text longer (ForDisk command payload ∷ [])
   pub touches : touches_chip command.kind ≡ true
   pub out_is : out ≡ []
   pub outcome : Outcome old.disk.contents
-      (applied old.line.sectors old.disk.contents command payload) disk
+      (applied old.line.export old.disk.contents command payload) disk
 
 -- what a turn says of a text that grew
 abbrev pub TurnSays : ℕ → Desk → Desk → List ℕ → List ℕ → List ℕ → Turn → Type 0
 TurnSays who old new text longer out Waits =
-    Gains AwaitingFlags old.line.sectors text longer [] × (out ≡ [])
+    Gains AwaitingFlags old.line.export text longer [] × (out ≡ [])
     × (new.disk.contents ≡ old.disk.contents) × ServesText new.line longer
 TurnSays who old new text longer out Answered =
     OnePart who old text longer out new.disk.contents false × ServesText new.line longer
@@ -85,10 +85,10 @@ pub record PartHalts (who : ℕ) (old new : Desk) (text bytes : List ℕ) : Type
   pub out : List ℕ
   pub unsent : List ℕ
   pub missing : 0 < length unsent
-  pub lacked : Lacked old.line.sectors text bytes (part ∷ rest)
+  pub lacked : Lacked old.line.export text bytes (part ∷ rest)
   pub appends : Appends old.written new.written out
-  pub out_is : replied who (reply_of_part old.line.sectors old.disk.contents part) ≡ out ++ unsent
-  pub disk_is : new.disk.contents ≡ after_part old.line.sectors old.disk.contents part
+  pub out_is : replied who (reply_of_part old.line.export old.disk.contents part) ≡ out ++ unsent
+  pub disk_is : new.disk.contents ≡ after_part old.line.export old.disk.contents part
 
 pub record TurnHalts (who : ℕ) (old new : Desk) (bytes : List ℕ) : Type 0 where
   pub power : new.disk.cut ≡ false
@@ -98,9 +98,9 @@ pub record TurnHalts (who : ℕ) (old new : Desk) (bytes : List ℕ) : Type 0 wh
 -- these parts more are answered
 pub record SomeParts (who : ℕ) (old : Desk) (text bytes out disk : List ℕ)
     (more : List Part) : Type 0 where
-  pub lacked : Lacked old.line.sectors text bytes more
-  pub out_is : out ≡ replies old.line.sectors who old.disk.contents more
-  pub disk_is : disk ≡ after_parts old.line.sectors old.disk.contents more
+  pub lacked : Lacked old.line.export text bytes more
+  pub out_is : out ≡ replies old.line.export who old.disk.contents more
+  pub disk_is : disk ≡ after_parts old.line.export old.disk.contents more
 
 -- some are answered, and then a command with a range is interrupted
 pub record LostParts (who : ℕ) (old : Desk) (text bytes out disk : List ℕ) : Type 0 where
@@ -108,11 +108,11 @@ pub record LostParts (who : ℕ) (old : Desk) (text bytes out disk : List ℕ) :
   pub command : Command
   pub payload : List ℕ
   pub rest : List Part
-  pub lacked : Lacked old.line.sectors text bytes (before ++ ForDisk command payload ∷ rest)
+  pub lacked : Lacked old.line.export text bytes (before ++ ForDisk command payload ∷ rest)
   pub touches : touches_chip command.kind ≡ true
-  pub out_is : out ≡ replies old.line.sectors who old.disk.contents before
-  pub outcome : Outcome (after_parts old.line.sectors old.disk.contents before)
-      (applied old.line.sectors (after_parts old.line.sectors old.disk.contents before) command
+  pub out_is : out ≡ replies old.line.export who old.disk.contents before
+  pub outcome : Outcome (after_parts old.line.export old.disk.contents before)
+      (applied old.line.export (after_parts old.line.export old.disk.contents before) command
       payload) disk
 
 -- the power is still there, or it went just now
@@ -148,13 +148,13 @@ pub record PartsHalt (who : ℕ) (old new : Desk) (text bytes : List ℕ) : Type
   pub first : List ℕ
   pub unsent : List ℕ
   pub missing : 0 < length unsent
-  pub lacked : Lacked old.line.sectors text bytes (before ++ part ∷ rest)
+  pub lacked : Lacked old.line.export text bytes (before ++ part ∷ rest)
   pub appends : Appends old.written new.written out
-  pub out_is : replies old.line.sectors who old.disk.contents (before ++ part ∷ []) ≡ out ++ unsent
-  pub split : out ≡ replies old.line.sectors who old.disk.contents before ++ first
-  pub reply_is : replied who (reply_of_part old.line.sectors
-      (after_parts old.line.sectors old.disk.contents before) part) ≡ first ++ unsent
-  pub disk_is : new.disk.contents ≡ after_parts old.line.sectors old.disk.contents
+  pub out_is : replies old.line.export who old.disk.contents (before ++ part ∷ []) ≡ out ++ unsent
+  pub split : out ≡ replies old.line.export who old.disk.contents before ++ first
+  pub reply_is : replied who (reply_of_part old.line.export
+      (after_parts old.line.export old.disk.contents before) part) ≡ first ++ unsent
+  pub disk_is : new.disk.contents ≡ after_parts old.line.export old.disk.contents
       (before ++ part ∷ [])
 
 pub record PieceHalts (who : ℕ) (old new : Desk) (bytes : List ℕ) : Type 0 where

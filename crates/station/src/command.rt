@@ -21,27 +21,27 @@ pub(crate) fn run_command<D: Disk>(
     session: &mut Session,
     command: &Command,
 ) -> Result<(), DiskError>
-    requires running { IsRunning session.old.sectors command.now session.old }
-    requires size { length (D.facts disk.old).contents ≡ 512 * session.old.sectors }
+    requires running { IsRunning session.old.export command.now session.old }
+    requires size { length (D.facts disk.old).contents ≡ 512 * session.old.export.sectors }
     ensures contents { (D.facts disk.old).sound ≡ true
         → CommandLeaves (D.facts disk.old).contents command.now
         (payload_in command.now (room_of session.old)) result (D.facts disk.new).contents }
     ensures reply { OnOk result ((D.facts disk.old).sound ≡ true
-        → reply_of session.new ≡ reply_to session.old.sectors (D.facts disk.old).contents
+        → reply_of session.new ≡ reply_to session.old.export (D.facts disk.old).contents
         command.now) }
     ensures slow { IsErrOf result DiskError.Slow → reply_of session.new ≡ head_of command.now 5 }
     ensures serves { (text : List ℕ) → SessionRepresents AwaitingFlags session.old text
         → SessionRepresents AwaitingFlags session.new text }
     ensures closed { is_closed session.new ≡ is_closed session.old }
-    ensures sectors { session.new.sectors ≡ session.old.sectors }
+    ensures export { session.new.export ≡ session.old.export }
     ensures memory { session.new.memory ≡ session.old.memory }
     ensures sound { (D.facts disk.new).sound ≡ (D.facts disk.old).sound }
     ensures goes { CountsNeverFall (D.facts disk.old) (D.facts disk.new) }
     ensures latches { CommandLatches command.now (D.facts disk.old) result (D.facts disk.new) }
 {
     buffer_laws();
-    let sectors = disk.sectors();
-    let result = run(disk, command, sectors, session.buffer());
+    let export = session.export();
+    let result = run(disk, command, export, session.buffer());
     match result {
         Ok(()) => session.finish(0),
         Err(DiskError::Slow) => session.finish(EIO),

@@ -6,6 +6,7 @@ use crate::entries::{ABSENT, DONE, LOST, NO_ONE, SHUT, STUCK, put, tell};
 use crate::event::{Event, NewError};
 use crate::piece::{Ending, take_piece};
 use block_device::{Disk, DiskError, Failed, Sink};
+use nbd_wire::Export;
 use session::Session;
 use std::alloc::Global;
 use std::marker::Model;
@@ -17,7 +18,7 @@ pub(crate) const CONNECTIONS: usize = 8;
 #[derive(Drop)]
 pub(crate) struct Hub<D: Disk> {
     disk: D,
-    sectors: u32,
+    export: Export,
     power: bool,
     sessions: Vec<Session>,
     is_open: [bool; 8],
@@ -31,7 +32,7 @@ impl<D: Disk> Model for Hub<D> {
 
     ghost view = { λ s. record {
       disk = D.facts s.disk;
-      sectors = s.sectors;
+      export = s.export;
       power = s.power;
       sessions = s.sessions.items;
       is_open = s.is_open;
@@ -39,8 +40,8 @@ impl<D: Disk> Model for Hub<D> {
 
     ghost invariant = { λ s. record {
       eight : vec_len s.sessions ≡ 8;
-      size : length (D.facts s.disk).contents ≡ 512 * s.sectors;
-      same : All (λ session. session.sectors ≡ s.sectors) s.sessions.items;
+      size : length (D.facts s.disk).contents ≡ 512 * s.export.sectors;
+      same : All (λ session. session.export ≡ s.export) s.sessions.items;
     } };
 }
 
@@ -260,14 +261,14 @@ impl<D: Disk> Hub<D> {
         ensures back { IfErr result (λ back. back ≡ disk) }
     {
         let mut disk = disk;
-        let sectors = disk.sectors();
-        let Ok(sessions) = open_all(alloc, sectors) else {
+        let export = Export::default_for(disk.sectors());
+        let Ok(sessions) = open_all(alloc, export) else {
             return Err(disk);
         };
         let power = has_power(&mut disk);
         Ok(Hub {
             disk,
-            sectors,
+            export,
             power,
             sessions,
             is_open: [false; 8],
@@ -305,15 +306,15 @@ fn has_power<D: Disk>(disk: &mut D) -> bool
     }
 }
 
-/// All sessions, for a disk of so many sectors.
-fn open_all(alloc: Global, sectors: u32) -> Result<Vec<Session>, NewError>
+/// All sessions, for this export.
+fn open_all(alloc: Global, export: Export) -> Result<Vec<Session>, NewError>
     ensures eight { IfOk result (λ sessions. vec_len sessions ≡ 8) }
     ensures same { IfOk result (λ sessions.
-        All (λ session. session.sectors ≡ sectors) sessions.items) }
+        All (λ session. session.export ≡ export) sessions.items) }
 {
     let mut sessions = Vec::new(alloc);
     for _ in 0..CONNECTIONS {
-        let Ok(session) = Session::open(alloc, sectors) else {
+        let Ok(session) = Session::open(alloc, export) else {
             return Err(NewError::OutOfMemory);
         };
         if sessions.push(session).is_err() {

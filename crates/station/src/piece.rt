@@ -47,11 +47,11 @@ pub(crate) fn take_turn<D: Disk, W: Sink>(
     bytes: &[u8],
     out: &mut W,
 ) -> Result<(usize, Turn), Failed>
-    requires size { length (D.facts disk.old).contents ≡ 512 * session.old.sectors }
+    requires size { length (D.facts disk.old).contents ≡ 512 * session.old.export.sectors }
     ensures used { IfOk result (λ r. r.0 ≤ length bytes.now) }
     ensures waits { IfOk result (λ r. r.1 ≡ Turn.Waits → r.0 ≡ length bytes.now) }
     ensures progress { IfOk result (λ r. r.1 ≡ Turn.Answered → 0 < length bytes.now → 0 < r.0) }
-    ensures sectors { session.new.sectors ≡ session.old.sectors }
+    ensures export { session.new.export ≡ session.old.export }
     ensures memory { session.new.memory ≡ session.old.memory }
     ensures sound { (D.facts disk.new).sound ≡ (D.facts disk.old).sound }
     ensures goes { CountsNeverFall (D.facts disk.old) (D.facts disk.new) }
@@ -102,8 +102,8 @@ pub(crate) fn take_piece<D: Disk, W: Sink>(
     bytes: &[u8],
     out: &mut W,
 ) -> Result<Ending, Failed>
-    requires size { length (D.facts disk.old).contents ≡ 512 * session.old.sectors }
-    ensures sectors { session.new.sectors ≡ session.old.sectors }
+    requires size { length (D.facts disk.old).contents ≡ 512 * session.old.export.sectors }
+    ensures export { session.new.export ≡ session.old.export }
     ensures memory { session.new.memory ≡ session.old.memory }
     ensures sound { (D.facts disk.new).sound ≡ (D.facts disk.old).sound }
     ensures goes { CountsNeverFall (D.facts disk.old) (D.facts disk.new) }

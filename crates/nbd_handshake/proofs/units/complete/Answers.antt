@@ -10,4 +10,4 @@ returns-in-Some-clause-phase c =
 
 pub returns-in-Some-clause-reply : goal.returns-in-Some-clause-reply
 returns-in-Some-clause-reply c =
-    rw (c.in-Negotiating.is, ← c.in-Some.ensures) (c.write_case-written.ensures.bytes ∙ ap (λ (k : OptionCase). reply_in_case k c.in-Some.head.option c.in-Negotiating.no_zeroes c.args.sectors) (c.case_of-case.ensures ∙ ap (case_of c.in-Some.head) (take_rest c.args.unit.now 16)))
+    rw (c.in-Negotiating.is, ← c.in-Some.ensures) (c.write_case-written.ensures.bytes ∙ ap (λ (k : OptionCase). reply_in_case k c.in-Some.head.option c.in-Negotiating.no_zeroes c.args.export) (c.case_of-case.ensures ∙ ap (case_of c.in-Some.head) (take_rest c.args.unit.now 16)))

@@ -9,7 +9,7 @@ use Rattle.share.proofs.connection.attend.Goals as goal
 pub returns-in-Err-clause-says : goal.returns-in-Err-clause-says
 returns-in-Err-clause-says g c start begins =
     let step = through g.T.Door.executes g.T.Door.keeps in
-    let st = setting start g.L.OneServer.sectors in
+    let st = setting start g.L.OneServer.export in
     let first = stand c.args.door.now c.args.pass.now c.args.gate.now (g.K.Sink.written c.args.writer.now) (g.K.Sink.faults c.args.writer.now) in
     let b = stand c.args.door.now c.args.pass.now c.args.gate.now (g.K.Sink.written c.send.new.out) (g.K.Sink.faults c.send.new.out) in
     let f = c.in-Err.ensures in
@@ -19,13 +19,13 @@ returns-in-Err-clause-says g c start begins =
 pub loop-piece-init : goal.loop-piece-init
 loop-piece-init g c = record {
   connection = refl;
-  sectors = c.requires.sectors;
+  export = c.requires.export;
   is_open = c.requires.open;
   room = c.args.begun.room;
   reader = refl;
   underway = λ start begins.
       let step = through g.T.Door.executes g.T.Door.keeps in
-      let st = setting start g.L.OneServer.sectors in
+      let st = setting start g.L.OneServer.export in
       let first = stand c.args.door.now c.args.pass.now c.args.gate.now (g.K.Sink.written c.args.writer.now) (g.K.Sink.faults c.args.writer.now) in
       let b = stand c.args.door.now c.args.pass.now c.args.gate.now (g.K.Sink.written c.send.new.out) (g.K.Sink.faults c.send.new.out) in
       let w = underway-start step g.G.Gate.passes st first b c.reply.result.now c.args.begun.session begins (g.met.G.Gate.none c.args.gate.now)
@@ -36,7 +36,7 @@ loop-piece-init g c = record {
 pub returns-in_default-read-clause-says : goal.returns-in_default-read-clause-says
 returns-in_default-read-clause-says g c start begins =
     let step = through g.T.Door.executes g.T.Door.keeps in
-    let st = setting start g.L.OneServer.sectors in
+    let st = setting start g.L.OneServer.export in
     let first = stand c.args.door.now c.args.pass.now c.args.gate.now (g.K.Sink.written c.args.writer.now) (g.K.Sink.faults c.args.writer.now) in
     let i = c.loop-piece.invariant in
     let u = i.underway start begins in
@@ -48,7 +48,7 @@ returns-in_default-read-clause-says g c start begins =
 pub returns-then-n-eq0-clause-says : goal.returns-then-n-eq0-clause-says
 returns-then-n-eq0-clause-says g c start begins =
     let step = through g.T.Door.executes g.T.Door.keeps in
-    let st = setting start g.L.OneServer.sectors in
+    let st = setting start g.L.OneServer.export in
     let first = stand c.args.door.now c.args.pass.now c.args.gate.now (g.K.Sink.written c.args.writer.now) (g.K.Sink.faults c.args.writer.now) in
     let i = c.loop-piece.invariant in
     let u = i.underway start begins in
@@ -66,7 +66,7 @@ returns-then-n-eq0-clause-says g c start begins =
 pub returns-in-Some-clause-says : goal.returns-in-Some-clause-says
 returns-in-Some-clause-says g c start begins =
     let step = through g.T.Door.executes g.T.Door.keeps in
-    let st = setting start g.L.OneServer.sectors in
+    let st = setting start g.L.OneServer.export in
     let first = stand c.args.door.now c.args.pass.now c.args.gate.now (g.K.Sink.written c.args.writer.now) (g.K.Sink.faults c.args.writer.now) in
     let i = c.loop-piece.invariant in
     let u = i.underway start begins in
@@ -102,13 +102,13 @@ loop-piece-preserved g c =
     let piece : take n c.deref.result.now ≡ take n into = ap (λ (xs : List ℕ). take n xs) (c.deref.ensures.value ∙ whole) in
     record {
       connection = e.connection ∙ c.loop-piece.invariant.connection;
-      sectors = e.sectors;
+      export = e.export;
       is_open = e.open refl;
       room = c.loop-piece.invariant.room;
       reader = c.in-Ok.ensures.faults ∙ c.loop-piece.invariant.reader;
       underway = λ start begins.
           let step = through g.T.Door.executes g.T.Door.keeps in
-          let st = setting start g.L.OneServer.sectors in
+          let st = setting start g.L.OneServer.export in
           let first = stand c.args.door.now c.args.pass.now c.args.gate.now (g.K.Sink.written c.args.writer.now) (g.K.Sink.faults c.args.writer.now) in
           let i = c.loop-piece.invariant in
           let u = i.underway start begins in
@@ -126,7 +126,7 @@ loop-piece-preserved g c =
 pub returns-clause-says : goal.returns-clause-says
 returns-clause-says g c start begins =
     let step = through g.T.Door.executes g.T.Door.keeps in
-    let st = setting start g.L.OneServer.sectors in
+    let st = setting start g.L.OneServer.export in
     let first = stand c.args.door.now c.args.pass.now c.args.gate.now (g.K.Sink.written c.args.writer.now) (g.K.Sink.faults c.args.writer.now) in
     let i = c.loop-piece.invariant in
     let u = i.underway start begins in

@@ -15,7 +15,7 @@ returns-in-Ok-clause-turned g c start text h =
     let a = stand c.args.door.now c.args.pass.now gate (g.K.Sink.written c.args.writer.now) (g.K.Sink.faults c.args.writer.now) in
     let b = stand c.args.door.now c.args.pass.now gate (g.K.Sink.written c.send.new.out) (g.K.Sink.faults c.send.new.out) in (
       Told (reply_of line) ∷ [],
-      says-reply start c.args.session.now.sectors g.L.OneServer.sectors text new c.take-taken.result.next line c.requires.sectors c.in-Reply.is says,
+      says-reply start c.args.session.now.export g.L.OneServer.export text new c.take-taken.result.next line c.requires.export c.in-Reply.is says,
       passes-none g.G.Gate.passes gate,
       told-answered (through g.T.Door.executes g.T.Door.keeps) a b (reply_of line) c.reply.result.now refl c.reply.ensures.value c.in-Ok.ensures.0 c.in-Ok.ensures.1,
     )
@@ -30,7 +30,7 @@ returns-in-Err-clause-turned g c start text h =
     let a = stand c.args.door.now c.args.pass.now gate (g.K.Sink.written c.args.writer.now) (g.K.Sink.faults c.args.writer.now) in
     let b = stand c.args.door.now c.args.pass.now gate (g.K.Sink.written c.send.new.out) (g.K.Sink.faults c.send.new.out) in (
       Told (reply_of line) ∷ [],
-      says-reply start c.args.session.now.sectors g.L.OneServer.sectors text new c.take-taken.result.next line c.requires.sectors c.in-Reply.is says,
+      says-reply start c.args.session.now.export g.L.OneServer.export text new c.take-taken.result.next line c.requires.export c.in-Reply.is says,
       passes-none g.G.Gate.passes gate,
       told-fails (through g.T.Door.executes g.T.Door.keeps) a b (reply_of line) c.reply.result.now f.0.0 f.0.1 refl c.reply.ensures.value f.0.2 f.0.3 f.0.4 f.1,
     )
@@ -47,7 +47,7 @@ returns-in-Run-clause-turned g c start text h =
     let a = stand c.args.door.now c.args.pass.now c.args.gate.now (g.K.Sink.written c.args.writer.now) (g.K.Sink.faults c.args.writer.now) in
     let b = stand w.door w.pass w.gate (g.K.Sink.written w.writer) (g.K.Sink.faults w.writer) in (
       ForDisk command payload ∷ [],
-      says-run start c.args.session.now.sectors g.L.OneServer.sectors text new c.take-taken.result.next command line w.session c.requires.sectors c.in-Run.is says (e.represents start new),
+      says-run start c.args.session.now.export g.L.OneServer.export text new c.take-taken.result.next command line w.session c.requires.export c.in-Run.is says (e.represents start new),
       e.gate,
       turned-command (through g.T.Door.executes g.T.Door.keeps) a b command payload c.run_command-turn.result e.turned,
     )
@@ -62,7 +62,7 @@ returns-in-Ok-send-clause-turned g c start text h =
     let a = stand c.args.door.now c.args.pass.now gate (g.K.Sink.written c.args.writer.now) (g.K.Sink.faults c.args.writer.now) in
     let b = stand c.args.door.now c.args.pass.now gate (g.K.Sink.written sent) (g.K.Sink.faults sent) in (
       Last (reply_of line) ∷ [],
-      says-close start c.args.session.now.sectors g.L.OneServer.sectors text new c.take-taken.result.next line c.requires.sectors c.in-Close.is says,
+      says-close start c.args.session.now.export g.L.OneServer.export text new c.take-taken.result.next line c.requires.export c.in-Close.is says,
       passes-none g.G.Gate.passes gate,
       last-closes (through g.T.Door.executes g.T.Door.keeps) a b (reply_of line) c.reply-in-Close.result.now refl c.reply-in-Close.ensures.value c.in-Ok-send.ensures.0 c.in-Ok-send.ensures.1,
     )
@@ -78,7 +78,7 @@ returns-in-Err-send-clause-turned g c start text h =
     let a = stand c.args.door.now c.args.pass.now gate (g.K.Sink.written c.args.writer.now) (g.K.Sink.faults c.args.writer.now) in
     let b = stand c.args.door.now c.args.pass.now gate (g.K.Sink.written sent) (g.K.Sink.faults sent) in (
       Last (reply_of line) ∷ [],
-      says-close start c.args.session.now.sectors g.L.OneServer.sectors text new c.take-taken.result.next line c.requires.sectors c.in-Close.is says,
+      says-close start c.args.session.now.export g.L.OneServer.export text new c.take-taken.result.next line c.requires.export c.in-Close.is says,
       passes-none g.G.Gate.passes gate,
       last-fails (through g.T.Door.executes g.T.Door.keeps) a b (reply_of line) c.reply-in-Close.result.now f.0.0 f.0.1 refl c.reply-in-Close.ensures.value f.0.2 f.0.3 f.0.4 f.1,
     )

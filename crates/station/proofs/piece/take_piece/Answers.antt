@@ -12,7 +12,7 @@ pub loop-rest-preserved-in-Waits : goal.loop-rest-preserved-in-Waits
 loop-rest-preserved-in-Waits g c =
     let i = c.loop-rest.invariant in
     let e = c.in_ok-used.ensures in (
-      e.sectors ∙ i.0,
+      e.export ∙ i.0,
       e.sound ∙ i.1,
       goes_twice _ _ _ i.2 e.goes,
       e.faults ∙ i.3,
@@ -29,7 +29,7 @@ pub loop-rest-preserved : goal.loop-rest-preserved
 loop-rest-preserved g c =
     let i = c.loop-rest.invariant in
     let e = c.in_ok-used.ensures in (
-      e.sectors ∙ i.0,
+      e.export ∙ i.0,
       e.sound ∙ i.1,
       goes_twice _ _ _ i.2 e.goes,
       e.faults ∙ i.3,

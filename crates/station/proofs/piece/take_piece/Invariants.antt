@@ -7,7 +7,7 @@ use Rattle.station.proofs.piece.take_piece.Given as goal
 
 abbrev pub invariant-loop-rest : goal.invariant-loop-rest
 invariant-loop-rest g l =
-    (l.session.sectors ≡ l.initial.session.sectors)
+    (l.session.export ≡ l.initial.session.export)
     × ((g.D.Disk.facts l.disk).sound ≡ (g.D.Disk.facts l.initial.disk).sound)
     × CountsNeverFall (g.D.Disk.facts l.initial.disk) (g.D.Disk.facts l.disk)
     × (g.W.Sink.faults l.out ≡ g.W.Sink.faults l.initial.out)

@@ -1,6 +1,7 @@
 use Rattle.std.proofs.Common.{◌≡◌, ◌<◌, ℕ, [], true, refl, ◌∙◌, ap, sym, subst, inl, inr}
 use Rattle.std.proofs.KnownBytes.{Appends-nil}
 use Rattle.std.proofs.lemmas.Bool.{false≢true}
+use Rattle.nbd_wire.specs.declared.export.Export.{Export}
 use Rattle.nbd_wire.specs.Commands.{touches_chip}
 use Rattle.nbd_wire.specs.declared.phase.Phase.TheVariants.{AwaitingFlags}
 use Rattle.nbd_wire.specs.Lent.{payload_in}
@@ -37,14 +38,14 @@ returns-in_err-tell-in-Ok-clause-halts g c = λ quiet. on_err c.from_residual-in
       power = e.latches.1;
       slow = e.latches.2 ∙ quiet.slow;
       says = λ text serves.
-          let n = c.args.session.now.sectors in
+          let n = c.args.session.now.export in
           let command = c.in-Run.command in
           let payload = payload_in command (room_of c.take-taken.new.self) in
           let contents = (g.D.Disk.facts c.args.disk.now).contents in
           let x = rw c.in-Run.is at (c.take-taken.ensures.says AwaitingFlags text serves.0 serves.1) in
           let ready = rw c.in-Run.is at c.take-taken.ensures.ready in
           let reply : c.reply-in-Ok.result.now ≡ reply_to n contents command =
-          c.reply-in-Ok.ensures.value ∙ (e.reply quiet.sound ∙ ap (λ (m : ℕ). reply_to m contents command) c.take-taken.ensures.sectors) in
+          c.reply-in-Ok.ensures.value ∙ (e.reply quiet.sound ∙ ap (λ (m : Export). reply_to m contents command) c.take-taken.ensures.export) in
           let disk : (g.D.Disk.facts c.run_command.new.disk).contents ≡ applied n contents command payload = rw ready.accepted (e.contents quiet.sound) in
           part_halts c.args.who _ _ text c.args.bytes.now c.take-taken.result.used _ _ (ForDisk command payload) c.reply-in-Ok.result.now
           x.0 reply c.in_err-tell-in-Ok.ensures disk;
@@ -52,7 +53,7 @@ returns-in_err-tell-in-Ok-clause-halts g c = λ quiet. on_err c.from_residual-in
 
 pub run_command-requires-clause-running : goal.run_command-requires-clause-running
 run_command-requires-clause-running g c =
-    subst (λ n. IsRunning n c.in-Run.command c.take-taken.new.self) (sym c.take-taken.ensures.sectors) (rw c.in-Run.is at c.take-taken.ensures.ready)
+    subst (λ n. IsRunning n c.in-Run.command c.take-taken.new.self) (sym c.take-taken.ensures.export) (rw c.in-Run.is at c.take-taken.ensures.ready)
 
 pub returns-in-Err-Cut-clause-says : goal.returns-in-Err-Cut-clause-says
 returns-in-Err-Cut-clause-says g c = λ quiet.
@@ -64,7 +65,7 @@ returns-in-Err-Cut-clause-says g c = λ quiet.
       power = (latches.1, touches.1);
       slow = latches.2 ∙ quiet.slow;
       says = λ text serves.
-          let n = c.args.session.now.sectors in
+          let n = c.args.session.now.export in
           let command = c.in-Run.command in
           let payload = payload_in command (room_of c.take-taken.new.self) in
           let x = rw c.in-Run.is at (c.take-taken.ensures.says AwaitingFlags text serves.0 serves.1) in

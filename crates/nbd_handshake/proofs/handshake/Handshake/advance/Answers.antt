@@ -103,7 +103,7 @@ pub returns-clause-step : goal.returns-clause-step
 returns-clause-step c rest keeps =
     let k = rw (← c.self.view_is) at keeps in
     let bytes = c.args.bytes.now in
-    let sectors = c.self.inside.sectors in
+    let export = c.self.inside.export in
     let p = c.self.inside.phase in
     let n = c.min-first.result in
     let m = c.min-second.result in
@@ -141,11 +141,11 @@ returns-clause-step c rest keeps =
     let is_unit : IsUnit p text = record { is_open = is_open p negotiation; whole_head = omega arith; whole = omega arith } in
     let kept = kept_of_front c.absorb-2.new.buffer text (c.self.inside.count + n + m) size2 again in
     let unit-is = c.min-unit.ensures in
-    let same = same_answer sectors p text negotiation is_unit in
+    let same = same_answer export p text negotiation is_unit in
     let j = c.min-unit.result in
     let j-is : j ≡ min (c.self.inside.count + n + m) 8208 = omega arith in
     let kept-is : take j c.absorb-2.new.buffer ≡ take 8208 text = ap (λ (t : ℕ). take t c.absorb-2.new.buffer) j-is ∙ sym kept in
     let reply = take c.complete-answer.result.reply c.complete-answer.new.reply in
-    let reply-is : reply ≡ negotiation_reply sectors p text = c.complete-answer.ensures.reply ∙ ap (negotiation_reply sectors p) kept-is ∙ same.reply in
+    let reply-is : reply ≡ negotiation_reply export p text = c.complete-answer.ensures.reply ∙ ap (negotiation_reply export p) kept-is ∙ same.reply in
     let phase-is : c.complete-answer.result.phase ≡ after p text = c.complete-answer.ensures.phase ∙ ap (after p) kept-is ∙ same.phase in
     rw (← c.self.view_is) (completes _ _ text c.next_of.result reply c.next_of.ensures is_unit reply-is phase-is record { kept = refl; count = refl })

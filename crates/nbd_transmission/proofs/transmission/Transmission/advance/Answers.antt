@@ -1,6 +1,7 @@
 use Rattle.std.proofs.Common.{◌≡◌, ℕ, ◌+◌, ◌-◌, ◌≤◌, min, length, take, drop, ◌++◌, cond, [], arith, ap, sym, ◌∙◌, refl, inl, inr}
 use Rattle.std.proofs.lemmas.Bool.{cases_lt}
 use Rattle.std.proofs.lemmas.List.{length-take, drop_all, take_all}
+use Rattle.nbd_wire.specs.declared.export.Export.{Export}
 use Rattle.nbd_wire.specs.Heads.{request_at}
 use Rattle.nbd_wire.specs.Units.{IsUnit, payload_len}
 use Rattle.nbd_wire.specs.Parser.{ParserState}
@@ -33,14 +34,14 @@ returns-then-count-clause-part c rest keeps =
     let k = rw (← c.self.view_is) at keeps in
     let bytes = c.args.bytes.now in
     let n = c.fill-head.result in
-    let sectors = c.args.self.now.sectors in
+    let export = c.args.self.now.export in
     let count : length rest ≡ c.self.inside.count = k.count in
     let filled = c.min-filled.ensures in
     let n-is : n ≡ min (28 - c.min-filled.result) (length bytes) = omega (arith, c.fill-head.ensures.count, c.self.told) in
     let small = c.if-count.true in
     let len = length_used rest bytes n (omega arith) in
     let nothing : drop (n - 0) (take n bytes) ≡ [] = drop_all (n - 0) (take n bytes) (omega (arith, length-take n bytes)) in
-    rw (payload_short sectors rest (omega arith), payload_short sectors (rest ++ take n bytes) (omega arith), nothing) refl
+    rw (payload_short export rest (omega arith), payload_short export (rest ++ take n bytes) (omega arith), nothing) refl
 
 -- the head is whole, and its unit is not
 pub returns-then-left-missing-clause-step : goal.returns-then-left-missing-clause-step
@@ -70,17 +71,17 @@ returns-then-left-missing-clause-part c rest keeps =
     let n = c.fill-head.result in
     let used = length bytes in
     let grown = c.fill-head.new.buffer in
-    let sectors = c.self.inside.sectors in
+    let export = c.self.inside.export in
     let count : length rest ≡ c.self.inside.count = k.count in
     let filled = c.min-filled.ensures in
     let n-is : n ≡ min (28 - c.min-filled.result) (length bytes) = omega (arith, c.fill-head.ensures.count, c.self.told) in
     let long = c.if-count.false in
     let size : length grown ≡ 28 = c.fill-head.auto.buffer ∙ c.self.told in
     let head = whole_head rest bytes c.self.inside.head grown c.self.inside.count c.min-filled.result n used count k.kept filled n-is c.fill-head.ensures.bytes size (omega arith) (omega arith) (omega arith) in
-    let accepted : is_accepted_write sectors (request_at (rest ++ take used bytes)) ≡ c.tail_of-tail.result.accepted = ap (is_accepted_write sectors) head.1 ∙ sym c.tail_of-tail.ensures.accepted in
+    let accepted : is_accepted_write export (request_at (rest ++ take used bytes)) ≡ c.tail_of-tail.result.accepted = ap (is_accepted_write export) head.1 ∙ sym c.tail_of-tail.ensures.accepted in
     let p-is : c.if-tail.result ≡ cond c.tail_of-tail.result.accepted (used - (28 - length rest)) 0 =
     elim c.if-tail.branch [ then-tail w ↦ rw w.if-tail.true (omega arith) | else-tail w ↦ rw w.if-tail.false (omega arith) ] in
-    rw (← c.self.view_is) (payload_grows sectors rest (take used bytes) c.tail_of-tail.result.accepted c.if-tail.result used (omega (arith, length-take used bytes)) (omega arith) accepted p-is)
+    rw (← c.self.view_is) (payload_grows export rest (take used bytes) c.tail_of-tail.result.accepted c.if-tail.result used (omega (arith, length-take used bytes)) (omega arith) accepted p-is)
 
 -- the unit is whole
 pub returns-clause-step : goal.returns-clause-step
@@ -113,14 +114,14 @@ returns-clause-step c rest keeps =
           omega arith
     ] in
     let is_unit : IsUnit Transmitting text = record { is_open = tt; whole_head = omega arith; whole = rw head.1 (omega arith) } in
-    let sectors : c.self.inside.sectors ≡ c.args.self.now.sectors = ap (λ (h : ParserState). h.sectors) c.self.view_is in
-    let answer : c.tail_of-tail.result.next ≡ answer_to c.args.self.now.sectors text =
-    c.tail_of-tail.ensures.next ∙ ap (answer_of c.self.inside.sectors) (sym head.1) ∙ ap (λ (s : ℕ). answer_to s text) sectors in
+    let export : c.self.inside.export ≡ c.args.self.now.export = ap (λ (h : ParserState). h.export) c.self.view_is in
+    let answer : c.tail_of-tail.result.next ≡ answer_to c.args.self.now.export text =
+    c.tail_of-tail.ensures.next ∙ ap (answer_of c.self.inside.export) (sym head.1) ∙ ap (λ (s : Export). answer_to s text) export in
     completes c.args.self.now _ text c.tail_of-tail.result.next c.requires answer is_unit c.closes-self-inside.ensures record { kept = refl; count = refl }
 
 pub returns-clause-accepted : goal.returns-clause-accepted
 returns-clause-accepted c =
-    rw (← c.self.view_is) (answer_is_accepted c.self.inside.sectors (request_at c.fill-head.new.buffer) c.tail_of-tail.result.next c.tail_of-tail.ensures.next)
+    rw (← c.self.view_is) (answer_is_accepted c.self.inside.export (request_at c.fill-head.new.buffer) c.tail_of-tail.result.next c.tail_of-tail.ensures.next)
 
 pub returns-clause-part : goal.returns-clause-part
 returns-clause-part c rest keeps =
@@ -129,7 +130,7 @@ returns-clause-part c rest keeps =
     let n = c.fill-head.result in
     let used = n + (28 + c.from.result - (c.self.inside.count + n)) in
     let grown = c.fill-head.new.buffer in
-    let sectors = c.self.inside.sectors in
+    let export = c.self.inside.export in
     let count : length rest ≡ c.self.inside.count = k.count in
     let filled = c.min-filled.ensures in
     let n-is : n ≡ min (28 - c.min-filled.result) (length bytes) = omega (arith, c.fill-head.ensures.count, c.self.told) in
@@ -137,7 +138,7 @@ returns-clause-part c rest keeps =
     let enough = c.if-left-missing.false in
     let size : length grown ≡ 28 = c.fill-head.auto.buffer ∙ c.self.told in
     let head = whole_head rest bytes c.self.inside.head grown c.self.inside.count c.min-filled.result n used count k.kept filled n-is c.fill-head.ensures.bytes size (omega arith) (omega arith) (omega arith) in
-    let accepted : is_accepted_write sectors (request_at (rest ++ take used bytes)) ≡ c.tail_of-tail.result.accepted = ap (is_accepted_write sectors) head.1 ∙ sym c.tail_of-tail.ensures.accepted in
+    let accepted : is_accepted_write export (request_at (rest ++ take used bytes)) ≡ c.tail_of-tail.result.accepted = ap (is_accepted_write export) head.1 ∙ sym c.tail_of-tail.ensures.accepted in
     let p-is : c.if-tail-2.result ≡ cond c.tail_of-tail.result.accepted (used - (28 - length rest)) 0 =
     elim c.if-tail-2.branch [ then-tail-2 w ↦ rw w.if-tail-2.true (omega arith) | else-tail-2 w ↦ rw w.if-tail-2.false (omega arith) ] in
-    rw (← c.self.view_is) (payload_grows sectors rest (take used bytes) c.tail_of-tail.result.accepted c.if-tail-2.result used (omega (arith, length-take used bytes)) (omega arith) accepted p-is)
+    rw (← c.self.view_is) (payload_grows export rest (take used bytes) c.tail_of-tail.result.accepted c.if-tail-2.result used (omega (arith, length-take used bytes)) (omega arith) accepted p-is)

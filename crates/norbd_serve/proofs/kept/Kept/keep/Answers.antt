@@ -12,6 +12,6 @@ invariant_of-self g c = λ was.
       hands = e.known ∙ (ap (λ n. n + 1) i.hands ∙ sym e.counts);
       none_lost = subst (λ ends. has_lost ends ≡ false) (sym e.ends) (none_lost_more c.self.inside.served.ends.items c.args.end i.none_lost c.requires.lives);
       legal = λ sound.
-          subst (AreLegal g.L.OneServer.sectors g.L.OneServer.base) (sym e.hands)
-          (legal_more g.L.OneServer.sectors g.L.OneServer.base c.self.inside.served.hands.items c.args.hand (i.legal sound) (c.requires.legal sound));
+          subst (AreLegal g.L.OneServer.export g.L.OneServer.base) (sym e.hands)
+          (legal_more g.L.OneServer.export g.L.OneServer.base c.self.inside.served.hands.items c.args.hand (i.legal sound) (c.requires.legal sound));
     }

@@ -4,7 +4,7 @@ use Rattle.session.proofs.session.Session.buffer.Goals as goal
 
 pub slice_mut-requires-clause-in_bounds : goal.slice_mut-requires-clause-in_bounds
 slice_mut-requires-clause-in_bounds c =
-    let fits = lent_fits c.self.inside.sectors c.self.inside.running c.self.invariant.runs in
+    let fits = lent_fits c.self.inside.export c.self.inside.running c.self.invariant.runs in
     let len = c.lent_len-len.ensures in
     let size = c.self.invariant.size in
     omega (arith, fits, len, size)

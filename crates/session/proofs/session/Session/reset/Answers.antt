@@ -8,7 +8,7 @@ invariant_of-self c = search rules
 pub returns-clause-fresh : goal.returns-clause-fresh
 returns-clause-fresh c =
     record {
-      sectors_is = search rules;
+      export_is = search rules;
       stage = refl;
       handshake = grind (arith, common_steps);
       running = refl;

@@ -8,5 +8,5 @@ invariant_of-self g c =
     record {
       latched = λ s. latched_tidied c.self.inside.shared c.tidy.new.self c.tidy.result (inv.latched s) c.tidy.ensures;
       recorded = λ k. c.tidy.ensures.rows ∙ inv.recorded k;
-      history = λ s. told_tidied g.L.OneServer.sectors g.L.OneServer.base c.self.inside.shared c.tidy.new.self c.tidy.result c.self.inside.keeper (inv.history s) c.tidy.ensures;
+      history = λ s. told_tidied g.L.OneServer.export g.L.OneServer.base c.self.inside.shared c.tidy.new.self c.tidy.result c.self.inside.keeper (inv.history s) c.tidy.ensures;
     }

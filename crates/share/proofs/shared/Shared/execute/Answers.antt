@@ -17,7 +17,7 @@ invariant_of-self-in-Ok g c =
       fits = n.fits (rw p.rows inv.fits);
       lost = λ l. absurd (both_ways _ c.if-lost.false l);
       latched = λ k s. absurd (both_ways _ r.latches.1 s);
-      kept = λ k. kept-row-ok R.KEEPS g.L.OneServer.sectors (D.facts was.disk) (D.facts c.run.new.disk)
+      kept = λ k. kept-row-ok R.KEEPS g.L.OneServer.export (D.facts was.disk) (D.facts c.run.new.disk)
           (R.base was.recorder) (R.base c.prepare.new.self) (R.base c.note.new.recorder) (R.rows was.recorder) (R.rows c.prepare.new.self) (R.rows c.note.new.recorder)
           (R.interrupted was.recorder) (R.interrupted c.prepare.new.self) (R.interrupted c.note.new.recorder) c.args.command.now c.args.pass.now.connection c.args.data.now c.run.new.bytes
           k (inv.kept k) c.requires.accepted c.run.auto.bytes c.requires.lent r.kept r.sound r.contents r.reply r.latches.0 r.latches.1 r.latches.2 r.latches.3
@@ -39,7 +39,7 @@ invariant_of-self-in-Err-Slow g c =
       fits = n.fits (rw p.rows inv.fits);
       lost = λ l. absurd (both_ways _ c.if-lost.false l);
       latched = λ k e. absurd (both_ways _ s.3 e);
-      kept = λ k. kept-row-slow R.KEEPS g.L.OneServer.sectors (D.facts was.disk) (D.facts c.run.new.disk)
+      kept = λ k. kept-row-slow R.KEEPS g.L.OneServer.export (D.facts was.disk) (D.facts c.run.new.disk)
           (R.base was.recorder) (R.base c.prepare.new.self) (R.base c.note-in-Err-Slow.new.recorder) (R.rows was.recorder) (R.rows c.prepare.new.self) (R.rows c.note-in-Err-Slow.new.recorder)
           (R.interrupted was.recorder) (R.interrupted c.prepare.new.self) (R.interrupted c.note-in-Err-Slow.new.recorder) c.args.command.now c.args.pass.now.connection c.args.data.now c.run.new.bytes
           k (inv.kept k) c.requires.accepted c.run.auto.bytes c.requires.lent r.sound s.0 s.1 s.3 s.4
@@ -63,7 +63,7 @@ invariant_of-self-in-Err-Cut g c =
       fits = rw (i.rows, p.rows) inv.fits;
       lost = λ _. s.1;
       latched = λ _ _. refl;
-      kept = λ k. kept-lost R.KEEPS g.L.OneServer.sectors (D.facts was.disk) (D.facts c.run.new.disk)
+      kept = λ k. kept-lost R.KEEPS g.L.OneServer.export (D.facts was.disk) (D.facts c.run.new.disk)
           (R.base was.recorder) (R.base c.prepare.new.self) (R.base c.interrupt.new.self) (R.rows was.recorder) (R.rows c.prepare.new.self) (R.rows c.interrupt.new.self)
           (R.interrupted was.recorder) (R.interrupted c.interrupt.new.self) c.args.command.now c.args.data.now c.run.new.bytes
           k (inv.kept k) r.kept r.sound left (had k) (was_quiet _ _ _ _ s.0 (had k)) s.1 s.2

@@ -11,7 +11,7 @@ returns-then-not-self-clause-does g c =
 pub returns-then-at-ge-CONNECTIONS-clause-does : goal.returns-then-at-ge-CONNECTIONS-clause-does
 returns-then-at-ge-CONNECTIONS-clause-does g c =
     let s = c.self.inside in
-    let before = board (g.D.Disk.facts s.disk) s.sectors s.power s.sessions.items s.is_open in
+    let before = board (g.D.Disk.facts s.disk) s.export s.power s.sessions.items s.is_open in
     let cause : (8 ≤ c.args.who) ⊎ (get_or s.is_open c.args.who false ≡ false) =
     elim c.then-at-ge-CONNECTIONS.branch [ then-at-ge-CONNECTIONS-via-then-at-ge-CONNECTIONS w ↦ inl w.if-at-ge-CONNECTIONS.true | then-at-ge-CONNECTIONS-via-else-at-ge-CONNECTIONS+then-not-self-at w ↦ inr w.if-not-self-at.true ] in
     does_same before c.args.self.now (Gone c.args.who) _ _ c.put-then-at-ge-CONNECTIONS.result c.self.view_is
@@ -21,7 +21,7 @@ returns-then-at-ge-CONNECTIONS-clause-does g c =
 pub returns-clause-does : goal.returns-clause-does
 returns-clause-does g c =
     let s = c.self.inside in
-    let before = board (g.D.Disk.facts s.disk) s.sectors s.power s.sessions.items s.is_open in
-    let after = board (g.D.Disk.facts s.disk) s.sectors s.power s.sessions.items (set s.is_open c.args.who false) in
+    let before = board (g.D.Disk.facts s.disk) s.export s.power s.sessions.items s.is_open in
+    let after = board (g.D.Disk.facts s.disk) s.export s.power s.sessions.items (set s.is_open c.args.who false) in
     does_seen before c.args.self.now after (Gone c.args.who) _ _ c.put-2.result c.self.view_is (does_by before after (Gone c.args.who) _ _ _ _ c.put-2.result _ _
-    (gone_done (g.D.Disk.facts s.disk) s.sectors s.power s.sessions.items s.is_open c.args.who c.if-not-self.false _ c.if-not-self-at.false) c.put-2.ensures)
+    (gone_done (g.D.Disk.facts s.disk) s.export s.power s.sessions.items s.is_open c.args.who c.if-not-self.false _ c.if-not-self-at.false) c.put-2.ensures)

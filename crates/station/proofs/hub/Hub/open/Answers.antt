@@ -15,7 +15,7 @@ returns-then-not-self-clause-does g c =
 pub returns-then-at-ge-CONNECTIONS-clause-does : goal.returns-then-at-ge-CONNECTIONS-clause-does
 returns-then-at-ge-CONNECTIONS-clause-does g c =
     let s = c.self.inside in
-    let before = board (g.D.Disk.facts s.disk) s.sectors s.power s.sessions.items s.is_open in
+    let before = board (g.D.Disk.facts s.disk) s.export s.power s.sessions.items s.is_open in
     let cause : (8 ≤ c.args.who) ⊎ (get_or s.is_open c.args.who false ≡ true) =
     elim c.then-at-ge-CONNECTIONS.branch [ then-at-ge-CONNECTIONS-via-then-at-ge-CONNECTIONS w ↦ inl w.if-at-ge-CONNECTIONS.true | then-at-ge-CONNECTIONS-via-else-at-ge-CONNECTIONS+then-self-at w ↦ inr w.if-self-at.true ] in
     does_same before c.args.self.now (Open c.args.who) _ _ c.put-then-at-ge-CONNECTIONS.result c.self.view_is
@@ -28,10 +28,10 @@ returns-in-Err-clause-does g c =
     let line = c.reset.new.self in
     let fresh = c.reset.ensures.fresh in
     let serves : ServesText line [] = (ap is_ended fresh.stage, fresh.represents) in
-    let before = board (g.D.Disk.facts s.disk) s.sectors s.power s.sessions.items s.is_open in
-    let after = board (g.D.Disk.facts s.disk) s.sectors s.power (set s.sessions.items c.args.who line) (set s.is_open c.args.who true) in
+    let before = board (g.D.Disk.facts s.disk) s.export s.power s.sessions.items s.is_open in
+    let after = board (g.D.Disk.facts s.disk) s.export s.power (set s.sessions.items c.args.who line) (set s.is_open c.args.who true) in
     halts_seen before c.args.self.now after (Open c.args.who) _ _ c.self.view_is
-    (open_halts (g.D.Disk.facts s.disk) s.sectors s.power s.sessions.items s.is_open c.args.who c.if-not-self.false _ _ line c.reply.result.now _ _
+    (open_halts (g.D.Disk.facts s.disk) s.export s.power s.sessions.items s.is_open c.args.who c.if-not-self.false _ _ line c.reply.result.now _ _
     c.if-at-ge-CONNECTIONS.false c.if-self-at.false serves (c.reply.ensures.value ∙ fresh.reply) c.in-Err.ensures)
 
 pub returns-clause-does : goal.returns-clause-does
@@ -40,10 +40,10 @@ returns-clause-does g c =
     let line = c.reset.new.self in
     let fresh = c.reset.ensures.fresh in
     let serves : ServesText line [] = (ap is_ended fresh.stage, fresh.represents) in
-    let before = board (g.D.Disk.facts s.disk) s.sectors s.power s.sessions.items s.is_open in
-    let after = board (g.D.Disk.facts s.disk) s.sectors s.power (set s.sessions.items c.args.who line) (set s.is_open c.args.who true) in
+    let before = board (g.D.Disk.facts s.disk) s.export s.power s.sessions.items s.is_open in
+    let after = board (g.D.Disk.facts s.disk) s.export s.power (set s.sessions.items c.args.who line) (set s.is_open c.args.who true) in
     does_seen before c.args.self.now after (Open c.args.who) _ _ c.put-2.result c.self.view_is (does_by before after (Open c.args.who) _ _ _ _ c.put-2.result _ _
-    (open_done (g.D.Disk.facts s.disk) s.sectors s.power s.sessions.items s.is_open c.args.who c.if-not-self.false _ _ line c.reply.result.now
+    (open_done (g.D.Disk.facts s.disk) s.export s.power s.sessions.items s.is_open c.args.who c.if-not-self.false _ _ line c.reply.result.now
     c.if-at-ge-CONNECTIONS.false c.if-self-at.false serves (c.reply.ensures.value ∙ fresh.reply) (let t = rw c.in_default.is at c.tell.ensures in t.0)) c.put-2.ensures)
 
 pub returns-in-Err-clause-memory : goal.returns-in-Err-clause-memory
@@ -57,6 +57,6 @@ returns-clause-memory g c =
 pub returns-clause-tells : goal.returns-clause-tells
 returns-clause-tells g c =
     let s = c.self.inside in
-    let before = board (g.D.Disk.facts s.disk) s.sectors s.power s.sessions.items s.is_open in
-    let after = board (g.D.Disk.facts s.disk) s.sectors s.power (set s.sessions.items c.args.who c.reset.new.self) (set s.is_open c.args.who true) in
+    let before = board (g.D.Disk.facts s.disk) s.export s.power s.sessions.items s.is_open in
+    let after = board (g.D.Disk.facts s.disk) s.export s.power (set s.sessions.items c.args.who c.reset.new.self) (set s.is_open c.args.who true) in
     told_sent before c.args.self.now after (Open c.args.who) _ _ _ _ _ _ c.put-2.result c.self.view_is (_, let t = rw c.in_default.is at c.tell.ensures in t.0) c.put-2.ensures (λ x. tt) (slow_still (g.D.Disk.facts s.disk))

@@ -18,7 +18,7 @@ returns-then-not-self-clause-does g c =
 pub returns-then-at-ge-CONNECTIONS-clause-does : goal.returns-then-at-ge-CONNECTIONS-clause-does
 returns-then-at-ge-CONNECTIONS-clause-does g c =
     let s = c.self.inside in
-    let before = board (g.D.Disk.facts s.disk) s.sectors s.power s.sessions.items s.is_open in
+    let before = board (g.D.Disk.facts s.disk) s.export s.power s.sessions.items s.is_open in
     let cause : (8 ≤ c.args.who) ⊎ (get_or s.is_open c.args.who false ≡ false) =
     elim c.then-at-ge-CONNECTIONS.branch [ then-at-ge-CONNECTIONS-via-then-at-ge-CONNECTIONS w ↦ inl w.if-at-ge-CONNECTIONS.true | then-at-ge-CONNECTIONS-via-else-at-ge-CONNECTIONS+then-not-self-at w ↦ inr w.if-not-self-at.true ] in
     does_same before c.args.self.now (Piece c.args.who c.args.bytes) _ _ c.put-then-at-ge-CONNECTIONS.result c.self.view_is
@@ -32,13 +32,13 @@ returns-in-Ok-Stays-clause-does g c =
     let f = g.D.Disk.facts s.disk in
     let f' = g.D.Disk.facts c.take_piece.new.disk in
     let e = c.in-Ok-Stays.ensures in
-    let sec : c.index_mut.result.now.sectors ≡ s.sectors = search rules in
+    let sec : c.index_mut.result.now.export ≡ s.export = search rules in
     let eight : length s.sessions.items ≡ 8 = sym s.sessions.ok.0 ∙ c.self.invariant.eight in
-    let before = board f s.sectors s.power s.sessions.items s.is_open in
-    let after = board f' s.sectors s.power (set s.sessions.items c.args.who line) s.is_open in
+    let before = board f s.export s.power s.sessions.items s.is_open in
+    let after = board f' s.export s.power (set s.sessions.items c.args.who line) s.is_open in
     does_seen before c.args.self.now after (Piece c.args.who c.args.bytes) _ _ c.put-in-Ok-Stays.result c.self.view_is
     (does_by before after (Piece c.args.who c.args.bytes) _ _ _ _ c.put-in-Ok-Stays.result _ _
-    (piece_stays f f' s.sectors s.power s.sessions.items s.is_open (g.W.Sink.written c.args.out.now) (g.W.Sink.written c.take_piece.new.out) c.args.who c.args.bytes _ c.index_mut.result.now line
+    (piece_stays f f' s.export s.power s.sessions.items s.is_open (g.W.Sink.written c.args.out.now) (g.W.Sink.written c.take_piece.new.out) c.args.who c.args.bytes _ c.index_mut.result.now line
     eight c.if-not-self.false c.if-at-ge-CONNECTIONS.false (sym c.index_mut.ensures.value) c.if-not-self-at.false sec e.sound e.goes.cuts
     (λ quiet. pieced_at _ _ _ _ _ _ c.in-Ok-Stays.field-0-is (e.says quiet))) c.put-in-Ok-Stays.ensures)
 
@@ -49,13 +49,13 @@ returns-in-Ok-Shut-clause-does g c =
     let f = g.D.Disk.facts s.disk in
     let f' = g.D.Disk.facts c.take_piece.new.disk in
     let e = c.in-Ok-Shut.ensures in
-    let sec : c.index_mut.result.now.sectors ≡ s.sectors = search rules in
+    let sec : c.index_mut.result.now.export ≡ s.export = search rules in
     let eight : length s.sessions.items ≡ 8 = sym s.sessions.ok.0 ∙ c.self.invariant.eight in
-    let before = board f s.sectors s.power s.sessions.items s.is_open in
-    let after = board f' s.sectors s.power (set s.sessions.items c.args.who line) (set s.is_open c.args.who false) in
+    let before = board f s.export s.power s.sessions.items s.is_open in
+    let after = board f' s.export s.power (set s.sessions.items c.args.who line) (set s.is_open c.args.who false) in
     does_seen before c.args.self.now after (Piece c.args.who c.args.bytes) _ _ c.put-in-Ok-Shut.result c.self.view_is
     (does_by before after (Piece c.args.who c.args.bytes) _ _ _ _ c.put-in-Ok-Shut.result _ _
-    (piece_shut f f' s.sectors s.power s.sessions.items s.is_open (g.W.Sink.written c.args.out.now) (g.W.Sink.written c.take_piece.new.out) c.args.who c.args.bytes _ c.index_mut.result.now line
+    (piece_shut f f' s.export s.power s.sessions.items s.is_open (g.W.Sink.written c.args.out.now) (g.W.Sink.written c.take_piece.new.out) c.args.who c.args.bytes _ c.index_mut.result.now line
     eight c.if-not-self.false c.if-at-ge-CONNECTIONS.false (sym c.index_mut.ensures.value) c.if-not-self-at.false sec e.sound e.goes.cuts
     (λ quiet. pieced_at _ _ _ _ _ _ c.in-Ok-Shut.field-0-is (e.says quiet))) c.put-in-Ok-Shut.ensures)
 
@@ -66,14 +66,14 @@ returns-in-Ok-Lost-clause-does g c =
     let f = g.D.Disk.facts s.disk in
     let f' = g.D.Disk.facts c.take_piece.new.disk in
     let e = c.in-Ok-Lost.ensures in
-    let sec : c.index_mut.result.now.sectors ≡ s.sectors = search rules in
+    let sec : c.index_mut.result.now.export ≡ s.export = search rules in
     let eight : length s.sessions.items ≡ 8 = sym s.sessions.ok.0 ∙ c.self.invariant.eight in
-    let before = board f s.sectors s.power s.sessions.items s.is_open in
-    let after = board f' s.sectors false (set s.sessions.items c.args.who line) (replicate 8 false) in
+    let before = board f s.export s.power s.sessions.items s.is_open in
+    let after = board f' s.export false (set s.sessions.items c.args.who line) (replicate 8 false) in
     subst (λ b. Does c.args.self.now b (Piece c.args.who c.args.bytes) (g.W.Sink.written c.args.out.now) c.put-in-Ok-Lost.result (g.W.Sink.written c.put-in-Ok-Lost.new.out)) (sym c.go_dark.ensures)
     (does_seen before c.args.self.now after (Piece c.args.who c.args.bytes) _ _ c.put-in-Ok-Lost.result c.self.view_is
     (does_by before after (Piece c.args.who c.args.bytes) _ _ _ _ c.put-in-Ok-Lost.result _ _
-    (piece_lost f f' s.sectors s.power s.sessions.items s.is_open (g.W.Sink.written c.args.out.now) (g.W.Sink.written c.take_piece.new.out) c.args.who c.args.bytes _ c.index_mut.result.now line
+    (piece_lost f f' s.export s.power s.sessions.items s.is_open (g.W.Sink.written c.args.out.now) (g.W.Sink.written c.take_piece.new.out) c.args.who c.args.bytes _ c.index_mut.result.now line
     eight c.if-not-self.false c.if-at-ge-CONNECTIONS.false (sym c.index_mut.ensures.value) c.if-not-self-at.false sec e.sound e.goes.cuts (length-set s.sessions.items c.args.who _ ∙ eight)
     (λ quiet. pieced_at _ _ _ _ _ _ c.in-Ok-Lost.field-0-is (e.says quiet))) c.put-in-Ok-Lost.ensures))
 
@@ -84,12 +84,12 @@ returns-in-Err-clause-does g c =
     let f = g.D.Disk.facts s.disk in
     let f' = g.D.Disk.facts c.take_piece.new.disk in
     let e = c.in-Err.ensures in
-    let sec : c.index_mut.result.now.sectors ≡ s.sectors = search rules in
+    let sec : c.index_mut.result.now.export ≡ s.export = search rules in
     let eight : length s.sessions.items ≡ 8 = sym s.sessions.ok.0 ∙ c.self.invariant.eight in
-    let before = board f s.sectors s.power s.sessions.items s.is_open in
-    let after = board f' s.sectors s.power (set s.sessions.items c.args.who line) s.is_open in
+    let before = board f s.export s.power s.sessions.items s.is_open in
+    let after = board f' s.export s.power (set s.sessions.items c.args.who line) s.is_open in
     halts_seen before c.args.self.now after (Piece c.args.who c.args.bytes) _ _ c.self.view_is
-    (piece_stops f f' s.sectors s.power s.sessions.items s.is_open (g.W.Sink.written c.args.out.now) (g.W.Sink.written c.take_piece.new.out) c.args.who c.args.bytes _ c.index_mut.result.now line
+    (piece_stops f f' s.export s.power s.sessions.items s.is_open (g.W.Sink.written c.args.out.now) (g.W.Sink.written c.take_piece.new.out) c.args.who c.args.bytes _ c.index_mut.result.now line
     eight c.if-not-self.false c.if-at-ge-CONNECTIONS.false (sym c.index_mut.ensures.value) c.if-not-self-at.false sec e.sound e.goes.cuts
     (λ quiet. e.halts quiet))
 
@@ -112,20 +112,20 @@ returns-in-Err-clause-memory g c =
 pub returns-in-Ok-Stays-clause-tells : goal.returns-in-Ok-Stays-clause-tells
 returns-in-Ok-Stays-clause-tells g c =
     let s = c.self.inside in
-    let before = board (g.D.Disk.facts s.disk) s.sectors s.power s.sessions.items s.is_open in
-    let after = board (g.D.Disk.facts c.take_piece.new.disk) s.sectors s.power (set s.sessions.items c.args.who c.take_piece.new.session) s.is_open in
+    let before = board (g.D.Disk.facts s.disk) s.export s.power s.sessions.items s.is_open in
+    let after = board (g.D.Disk.facts c.take_piece.new.disk) s.export s.power (set s.sessions.items c.args.who c.take_piece.new.session) s.is_open in
     told_sent before c.args.self.now after (Piece c.args.who c.args.bytes) _ _ _ _ _ _ c.put-in-Ok-Stays.result c.self.view_is c.in-Ok-Stays.ensures.wrote c.put-in-Ok-Stays.ensures (λ x. tt) c.in-Ok-Stays.ensures.slow
 
 pub returns-in-Ok-Shut-clause-tells : goal.returns-in-Ok-Shut-clause-tells
 returns-in-Ok-Shut-clause-tells g c =
     let s = c.self.inside in
-    let before = board (g.D.Disk.facts s.disk) s.sectors s.power s.sessions.items s.is_open in
-    let after = board (g.D.Disk.facts c.take_piece.new.disk) s.sectors s.power (set s.sessions.items c.args.who c.take_piece.new.session) (set s.is_open c.args.who false) in
+    let before = board (g.D.Disk.facts s.disk) s.export s.power s.sessions.items s.is_open in
+    let after = board (g.D.Disk.facts c.take_piece.new.disk) s.export s.power (set s.sessions.items c.args.who c.take_piece.new.session) (set s.is_open c.args.who false) in
     told_sent before c.args.self.now after (Piece c.args.who c.args.bytes) _ _ _ _ _ _ c.put-in-Ok-Shut.result c.self.view_is c.in-Ok-Shut.ensures.wrote c.put-in-Ok-Shut.ensures (λ x. tt) c.in-Ok-Shut.ensures.slow
 
 pub returns-in-Ok-Lost-clause-tells : goal.returns-in-Ok-Lost-clause-tells
 returns-in-Ok-Lost-clause-tells g c =
     let s = c.self.inside in
-    let before = board (g.D.Disk.facts s.disk) s.sectors s.power s.sessions.items s.is_open in
+    let before = board (g.D.Disk.facts s.disk) s.export s.power s.sessions.items s.is_open in
     told_sent before c.args.self.now c.go_dark.new.self (Piece c.args.who c.args.bytes) _ _ _ _ _ _ c.put-in-Ok-Lost.result c.self.view_is c.in-Ok-Lost.ensures.wrote c.put-in-Ok-Lost.ensures (λ x. tt)
     (subst (λ (b : Board). SlowComes (g.D.Disk.facts s.disk) b.disk) (sym c.go_dark.ensures) c.in-Ok-Lost.ensures.slow)

@@ -1,0 +1,178 @@
+//! What is told of connections while they are served.
+
+ghost use Rattle.std.specs.Prelude.{◌≡◌, length, None};
+ghost use Rattle.nbd_wire.specs.Commands.{judge_of};
+ghost use Rattle.nbd_wire.specs.Lent.{lent_len};
+ghost use Rattle.share.specs.Promise.{Promise};
+
+use block_device::DiskError;
+use nbd_wire::{Command, CommandKind, EINVAL, EIO, ENOMEM, ENOSPC, EPERM, ESHUTDOWN};
+use share::{Done, Door, End, OneServer, Pass};
+use std::fmt;
+use std::sync::{Mutex, Wait};
+
+/// The largest length that an export may have as its limit, in bytes.
+const LONGEST: u32 = 33_554_432;
+
+/// What becomes of a connection.
+#[derive(Clone, Copy, Debug, PartialEq, Eq)]
+pub enum Event {
+    Begins,
+    /// A request got this error.
+    Refused(Command, u32),
+    /// A READ or WRITE of so many bytes was refused, since so many are the most.
+    TooLong(u32, u32),
+    Ends(End),
+}
+
+/// What became of the connection with this number; they are counted from 1.
+#[derive(Clone, Copy, Debug, PartialEq, Eq)]
+pub struct Notice {
+    pub connection: u64,
+    pub event: Event,
+}
+
+/// Where it is told what becomes of connections.
+pub trait Log {
+    /// Tells one thing. A failure to do so is passed over.
+    fn tell(&self, notice: &Notice);
+}
+
+impl Log for HostRuntime {
+    /// A line on standard error.
+    fn tell(&self, notice: &Notice) {
+        let _ = eprintln!(self; "norbd: {notice}");
+    }
+}
+
+/// Writes the name of a command. Source: NBD proto.md.
+fn write_kind<W: fmt::Write>(f: &mut fmt::Formatter<W>, kind: CommandKind) -> fmt::Result {
+    match kind {
+        CommandKind::Read => f.write_str("READ"),
+        CommandKind::Write => f.write_str("WRITE"),
+        CommandKind::Disconnect => f.write_str("DISC"),
+        CommandKind::Flush => f.write_str("FLUSH"),
+        CommandKind::Trim => f.write_str("TRIM"),
+        CommandKind::WriteZeroes => f.write_str("WRITE_ZEROES"),
+        CommandKind::Unknown(number) => write!(f, "command {number}"),
+    }
+}
+
+/// Writes the name of an error. Source: NBD proto.md.
+fn write_error<W: fmt::Write>(f: &mut fmt::Formatter<W>, error: u32) -> fmt::Result {
+    match error {
+        EPERM => f.write_str("EPERM"),
+        EIO => f.write_str("EIO"),
+        ENOMEM => f.write_str("ENOMEM"),
+        EINVAL => f.write_str("EINVAL"),
+        ENOSPC => f.write_str("ENOSPC"),
+        ESHUTDOWN => f.write_str("ESHUTDOWN"),
+        _ => write!(f, "error {error}"),
+    }
+}
+
+/// Writes which option would take a request of this length, where one would.
+fn write_advice<W: fmt::Write>(f: &mut fmt::Formatter<W>, length: u32, most: u32) -> fmt::Result {
+    write!(
+        f,
+        ": {length} bytes at once are refused, {most} are the most"
+    )?;
+    if length > LONGEST {
+        return Ok(());
+    }
+    let kib = length.div_ceil(1_024);
+    write!(f, ": serve with --max-request {kib}")
+}
+
+/// Why a connection ended.
+fn end_text(end: End) -> &'static str {
+    match end {
+        End::Closed => "closed by a request",
+        End::EndOfInput => "end of input",
+        End::Input => "a read failed, or the negotiation took too long",
+        End::Output => "a write failed, or a sync before it",
+        End::Lost => "the image failed",
+        End::OutOfMemory => "no memory",
+    }
+}
+
+impl fmt::Display for Notice {
+    fn fmt<W: fmt::Write>(&self, f: &mut fmt::Formatter<W>) -> fmt::Result {
+        write!(f, "connection {}", self.connection)?;
+        match self.event {
+            Event::Begins => f.write_str(" begins"),
+            Event::Refused(command, error) => {
+                f.write_str(": ")?;
+                write_kind(f, command.kind)?;
+                write!(f, " of {} bytes at {}: ", command.length, command.offset)?;
+                write_error(f, error)
+            }
+            Event::TooLong(length, most) => write_advice(f, length, most),
+            Event::Ends(end) => write!(f, " ends: {}", end_text(end)),
+        }
+    }
+}
+
+/// Tells what becomes of one connection, where that is asked, one thing at a time.
+#[derive(Drop)]
+pub(crate) struct Teller<'s, W> {
+    pub(crate) rt: &'s W,
+    pub(crate) turn: &'s Mutex<bool>,
+    pub(crate) connection: u64,
+    pub(crate) tells: bool,
+}
+
+impl<'s, W: Wait + Log> Teller<'s, W> {
+    /// Tells one thing, where that is asked.
+    pub(crate) fn tell(&self, event: Event) {
+        if self.tells {
+            self.advise(event);
+        }
+    }
+
+    /// Tells one thing, whether or not that is asked.
+    pub(crate) fn advise(&self, event: Event) {
+        let turn = self.turn.lock(self.rt);
+        self.rt.tell(&Notice {
+            connection: self.connection,
+            event,
+        });
+        drop(turn);
+    }
+}
+
+/// A door that tells of each command whose reply has an error.
+#[derive(Drop)]
+pub(crate) struct Telling<'s, 't, T, W> {
+    pub(crate) door: T,
+    pub(crate) teller: &'t Teller<'s, W>,
+}
+
+impl<'s, 't, L: OneServer, T: Door<L>, W: Wait + Log> Door<L> for Telling<'s, 't, T, W> {
+    ghost keeps = { T.keeps };
+
+    ghost executes = { λ old new pass pass' command bytes done.
+        T.executes old.door new.door pass pass' command bytes done };
+
+    ghost tidies = { λ old new result. T.tidies old.door new.door result };
+
+    fn execute<'a>(
+        &mut self,
+        pass: &mut Pass<L>,
+        command: &Command,
+        data: &'a mut [u8],
+    ) -> Done<'a> {
+        let done = self.door.execute(pass, command, data);
+        if let Done::Replied(answer) = &done {
+            let error = answer.error();
+            if error != 0 {
+                self.teller.tell(Event::Refused(*command, error));
+            }
+        }
+        done
+    }
+
+    fn tidy(&mut self) -> Result<bool, DiskError> {
+        self.door.tidy()
+    }
+}
