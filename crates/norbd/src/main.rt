@@ -1,50 +1,27 @@
 //! The program `norbd`, a disk on a flash chip behind the Network Block Device protocol (NBD), in
 //! five lines: `plain` serves a disk in memory over standard input and output, in the transmission
 //! phase; `format` makes an image of a formatted chip; `script` runs events, losses of power too,
-//! on a chip in memory; `serve` serves the chip in an image to connections on a port; `check` says
-//! whether an image would be served, and mends one.
+//! on a chip in memory; `serve` serves the chip in an image to connections on a port or a Unix
+//! socket; `check` says whether an image would be served, and mends one.
 //!
-//! The root file has the words of the command line, the standard streams, what is printed of a
-//! fault, and the exit status: 0 where the line is done, 2 for a bad line, 1 for each other fault.
-//! `run` does what a line asks, over any reader and writer; the readers and writers here are
-//! standard input and output, unbuffered, so that each reply is out before the next request is
-//! looked at. `formatting`, `scripting`, `serving` and `checking` have one line each. Left to the
-//! crates below: the words and the texts of faults (`norbd_line`), requests and replies (`share`),
-//! threads and sockets (`norbd_serve`), the chain from the chip to a transcript (`flash_station`),
-//! the disks (`block_device`, `flash_disk`), an image's bytes and its file (`image`). No contract
-//! says what is printed of a fault, nor what a file holds; tests and runs show it. Source: own for
-//! the command line and its faults; NBD proto.md for requests and replies.
+//! Here are the words of the command line, the standard streams, what is printed of a fault, and
+//! the exit status: 0 where the line is done, 2 for a bad line, 1 for each other fault. `norbd_run`
+//! does what a line asks; its reader and writer are standard input and output, unbuffered, so that
+//! each reply is out before the next request is looked at. `norbd_line` reads the words and has the
+//! texts of faults. Source: own.
 #![tactic(auto)]
 
-ghost use Rattle.std.specs.Prelude.{◌≡◌, ◌<◌, IfSome};
+ghost use Rattle.std.specs.Prelude.{◌≡◌, ◌<◌};
 ghost use Rattle.std.specs.Process.{exit_status};
-ghost use Rattle.norbd.specs.Outcomes.{EndsWith};
-ghost use Rattle.norbd_line.specs.Line.{IfFormat, IfScript, IfServe, IsConns, IsLineInRange};
-ghost use Rattle.norbd_line.specs.Line.{IsPort, IsSize};
+ghost use Rattle.norbd_run.specs.Outcomes.{EndsWith};
+ghost use Rattle.norbd_line.specs.Line.{IfFormat, IfScript, IfServe, IsLineInRange};
+ghost use Rattle.norbd_line.specs.Line.{IsServeInRange, IsSize};
 
-mod checking;
-#[cfg(test)]
-mod checking_tests;
-mod formatting;
-#[cfg(test)]
-mod memory_tests;
-mod printing;
-#[cfg(test)]
-mod printing_tests;
-mod run;
-mod scripting;
-#[cfg(test)]
-mod serve_tests;
-mod serving;
-mod standard;
-#[cfg(test)]
-mod tests;
-
-use crate::printing::Telling;
-use crate::standard::{Null, hold_standard};
 use block_device::Io;
-use image::ImageFile;
+use norbd_image::ImageFile;
 use norbd_line::{Fault, Line, read_line};
+use norbd_run::{Null, Telling, hold_standard, run_line};
+use norbd_serve::Log;
 use std::alloc::Global;
 use std::io::{ErrorKind, Read, Write};
 use std::marker::Brand;
@@ -83,6 +60,7 @@ where
         + Wait
         + Sync
         + Clock
+        + Log
         + Net<Listener = TcpListener, Stream = TcpStream>,
     R::File: ImageFile + Send + Sync,
     A: Read + Drop,
@@ -93,11 +71,11 @@ where
     requires output { (output.name ≡ O.name) × (output.parts ≡ O.parts) × (0 < O.parts) }
     requires size { IfFormat line (λ _ kib. IsSize kib) }
     requires script_size { IfScript line (λ kib. IsSize kib) }
-    requires serve_numbers { IfServe line (λ s. IsPort s.port × IfSome s.conns IsConns) }
+    requires serve_numbers { IfServe line (λ s. IsServeInRange s) }
 {
     let mut reader = Io::<_, I>::new(stdin, input);
     let mut writer = Io::<_, O>::new(stdout, output);
-    run::run_line(rt, line, &mut reader, &mut writer)
+    run_line(rt, line, &mut reader, &mut writer)
 }
 
 /// Prints a fault: `clap`'s own text for one of the words, else a line on standard error. A failure
@@ -131,6 +109,7 @@ where
         + Wait
         + Sync
         + Clock
+        + Log
         + Net<Listener = TcpListener, Stream = TcpStream>,
     R::File: ImageFile + Send + Sync,
     A: Read + Drop,

@@ -5,7 +5,7 @@ use Rattle.clap.specs.Words.{IsAmong, Row, Text, kind_of}
 use Rattle.norbd_line.specs.Fault.{ComesFromWords}
 use Rattle.norbd_line.specs.Line.{HasOddSize, IsLineInRange, IsLineOf, IsOddSize, IsSize, Names, TakesSize, number_in}
 use Rattle.norbd_line.specs.declared.fault.Fault.{Fault}
-use Rattle.norbd_line.specs.declared.fault.Fault.TheVariants.{Words, NoMemory, BadSize, InputFailed, OutputFailed, ImageFailed, WrongId, BadSfdp, Protected, Slow, BadRecord, NotFormatted, Corrupt, NotClean, BadImageSize, NoSocket, NoThread, BadSync, NotText, InUse, Formatted}
+use Rattle.norbd_line.specs.declared.fault.Fault.TheVariants.{Words, NoMemory, BadSize, InputFailed, OutputFailed, ImageFailed, WrongId, BadSfdp, Protected, Slow, BadRecord, NotFormatted, Corrupt, NotClean, BadImageSize, NoSocket, NoThread, BadSync, NotText, InUse, Formatted, BadAddress}
 use Rattle.norbd_line.specs.declared.line.Line.{Line}
 use Rattle.norbd_line.specs.declared.line.Line.TheVariants.{Plain, Format, Script, Serve, Check}
 
@@ -67,6 +67,9 @@ odd_is_refused words (Ok (Check image mends)) range line fault odd =
 odd_is_refused words (Err (Words error)) range line fault odd = absurd (subst (IsAmong (kind_of error)) odd.2.faultless fault.1)
 odd_is_refused words (Err BadSize) range line fault odd = inl refl
 odd_is_refused words (Err BadSync) range line fault odd =
+    let name = same_name words fault.0 odd.0 fault.1 odd.1 fault.2 odd.2 in
+    absurd (serve_takes_no_size (subst TakesSize (sym name ∙ fault.3.0) odd.3.0))
+odd_is_refused words (Err BadAddress) range line fault odd =
     let name = same_name words fault.0 odd.0 fault.1 odd.1 fault.2 odd.2 in
     absurd (serve_takes_no_size (subst TakesSize (sym name ∙ fault.3.0) odd.3.0))
 odd_is_refused words (Err NotText) range line fault odd = absurd fault

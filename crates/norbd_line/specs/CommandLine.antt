@@ -24,18 +24,22 @@ sectors_rule = number_rule (codes "sectors") 1 65536
 abbrev pub kib_rule : Rule
 kib_rule = number_rule (codes "kib") 64 16384
 
--- `--port P`: required, one number from 1 to 65,535
+-- `--port P`: one number from 1 to 65,535
 abbrev pub port_rule : Rule
-port_rule = number_rule (codes "port") 1 65535
+port_rule = record (number_rule (codes "port") 1 65535) { required = false }
 
 -- `--conns C`: one number from 1 to 64
 abbrev pub conns_rule : Rule
 conns_rule = record (number_rule (codes "conns") 1 64) { required = false }
 
--- `--sync WHEN`: one text
-abbrev pub sync_rule : Rule
-sync_rule = record (new_rule (codes "sync")) {
-  long = Some (codes "sync");
+-- `--max-request KIB`: one number from 64 to 32,768
+abbrev pub max_request_rule : Rule
+max_request_rule = record (number_rule (codes "max-request") 64 32768) { required = false }
+
+-- an option of this name that takes one text
+abbrev pub text_rule : Text → Rule
+text_rule name = record (new_rule name) {
+  long = Some name;
   action = Some Set;
   value_names = 1;
 }
@@ -43,6 +47,10 @@ sync_rule = record (new_rule (codes "sync")) {
 -- a flag of this name
 abbrev pub flag_rule : Text → Rule
 flag_rule name = record (new_rule name) { long = Some name; action = Some SetTrue }
+
+-- `-v` or `--verbose`
+abbrev pub verbose_rule : Rule
+verbose_rule = record (flag_rule (codes "verbose")) { short = Some 118 }
 
 -- `IMAGE`: required, one text at its place
 abbrev pub image_rule : Rule
@@ -62,10 +70,16 @@ format_app = with_rule (with_rule (with_rule (new_app (codes "format")) image_ru
 abbrev pub script_app : App
 script_app = with_rule (new_app (codes "script")) kib_rule
 
--- `serve IMAGE --port P [--conns C] [--record] [--sync WHEN]`
+-- where `serve` listens: `IMAGE [--port P] [--bind ADDR] [--unix PATH]`
+abbrev pub placed_app : App
+placed_app = with_rule (with_rule (with_rule (with_rule (new_app (codes "serve")) image_rule)
+    port_rule) (text_rule (codes "bind"))) (text_rule (codes "unix"))
+
+-- and how: `[--conns C] [--record] [--sync WHEN] [--max-request KIB] [--read-only] [-v]`
 abbrev pub serve_app : App
-serve_app = with_rule (with_rule (with_rule (with_rule (with_rule (new_app (codes "serve"))
-    image_rule) port_rule) conns_rule) (flag_rule (codes "record"))) sync_rule
+serve_app = with_rule (with_rule (with_rule (with_rule (with_rule (with_rule placed_app conns_rule)
+    (flag_rule (codes "record"))) (text_rule (codes "sync"))) max_request_rule)
+    (flag_rule (codes "read-only"))) verbose_rule
 
 -- `check IMAGE [--mend]`
 abbrev pub check_app : App

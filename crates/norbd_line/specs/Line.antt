@@ -7,6 +7,8 @@ use Rattle.clap.specs.Words.{Row, Text, fault_of, first_of, one_of, subcommand_o
 use Rattle.norbd_line.specs.CommandLine.{norbd_app}
 use Rattle.norbd_line.specs.declared.line.Line.{Line}
 use Rattle.norbd_line.specs.declared.line.Line.TheVariants.{Plain, Format, Script, Serve, Check}
+use Rattle.norbd_line.specs.declared.line.Place.{Place}
+use Rattle.norbd_line.specs.declared.line.Place.TheVariants as places
 use Rattle.norbd_line.specs.declared.line.ServeLine.{ServeLine}
 use Rattle.norbd_line.specs.declared.line.SyncPolicy.{SyncPolicy}
 use Rattle.norbd_line.specs.declared.line.SyncPolicy.TheVariants.{AtFlush, Never, Always}
@@ -26,13 +28,27 @@ IsPort port = (1 ≤ port) × (port ≤ 65535)
 abbrev pub IsConns : ℕ → Type 0
 IsConns conns = (1 ≤ conns) × (conns ≤ 64)
 
+-- the port of a place is one
+abbrev pub IsPlace : Place → Type 0
+IsPlace (places.Port port bind) = IsPort port
+IsPlace (places.Unix path) = Unit {0}
+
+-- the largest length of a READ or WRITE, in KiB
+abbrev pub IsMaxRequest : ℕ → Type 0
+IsMaxRequest kib = (64 ≤ kib) × (kib ≤ 32768)
+
+-- the numbers of a line `serve` are in their ranges
+abbrev pub IsServeInRange : ServeLine → Type 0
+IsServeInRange asked = IsPlace asked.place × IfSome asked.conns IsConns
+    × IfSome asked.max_request IsMaxRequest
+
 -- the numbers of a line are in their ranges: a plain disk has from 1 to 65,536 sectors, and a chip,
 -- in a file or in memory, a size of chips
 abbrev pub IsLineInRange : Line → Type 0
 IsLineInRange (Plain sectors keeps_rows) = (1 ≤ sectors) × (sectors ≤ 65536)
 IsLineInRange (Format image kib forced) = IsSize kib
 IsLineInRange (Script kib) = IsSize kib
-IsLineInRange (Serve asked) = IsPort asked.port × IfSome asked.conns IsConns
+IsLineInRange (Serve asked) = IsServeInRange asked
 IsLineInRange (Check image mends) = Unit {0}
 
 -- a fact of the number of a line `plain`, and of whether it keeps rows
@@ -94,6 +110,21 @@ sync_of (Some word) =
 abbrev pub sync_in : List Row → Option SyncPolicy
 sync_in rows = sync_of (first_of (codes "sync") rows)
 
+-- Where a server listens, by what follows `--port`, `--bind` and `--unix`: a port of an address, or
+-- a Unix socket, and never both.
+abbrev pub IsPlaceIn : List Row → Place → Type 0
+IsPlaceIn rows (places.Port port bind) =
+    (number_in (codes "port") rows ≡ Some port)
+    × (first_of (codes "bind") rows ≡ option_map (λ text. text.now) bind)
+    × (first_of (codes "unix") rows ≡ None)
+IsPlaceIn rows (places.Unix path) =
+    (number_in (codes "port") rows ≡ None) × (first_of (codes "bind") rows ≡ None)
+    × (first_of (codes "unix") rows ≡ Some path.now)
+
+-- the words say no such place
+abbrev pub HasNoPlace : List Row → Type 0
+HasNoPlace rows = (place : Place) → IsPlaceIn rows place → ⊥
+
 -- whether the flag of this name is among the words of a command
 abbrev pub IsSet : Text → List Row → Bool → Type 0
 IsSet name rows true = first_of name rows ≡ Some (codes "true")
@@ -111,9 +142,12 @@ IsLineIn name rows (Script kib) =
     (name ≡ codes "script") × (number_in (codes "kib") rows ≡ Some kib)
 IsLineIn name rows (Serve asked) =
     (name ≡ codes "serve") × (first_of (codes "IMAGE") rows ≡ Some asked.image.now)
-    × (number_in (codes "port") rows ≡ Some asked.port)
+    × IsPlaceIn rows asked.place
     × (number_in (codes "conns") rows ≡ asked.conns) × IsSet (codes "record") rows asked.record
     × (sync_in rows ≡ Some asked.sync)
+    × (number_in (codes "max-request") rows ≡ asked.max_request)
+    × IsSet (codes "read-only") rows asked.read_only
+    × IsSet (codes "verbose") rows asked.verbose
 IsLineIn name rows (Check image mends) =
     (name ≡ codes "check") × (first_of (codes "IMAGE") rows ≡ Some image.now)
     × IsSet (codes "mend") rows mends
@@ -151,3 +185,12 @@ HasBadSyncIn name rows = (name ≡ codes "serve") × (sync_in rows ≡ None)
 abbrev pub HasBadSync : List Text → Type 0
 HasBadSync words = (name : Text) × (rows : List Row) × Names words name rows
     × HasBadSyncIn name rows
+
+-- the matches are those of `serve`, and say no place to listen at
+abbrev pub HasBadPlaceIn : Text → List Row → Type 0
+HasBadPlaceIn name rows = (name ≡ codes "serve") × HasNoPlace rows
+
+-- the words say `serve`, and no such place
+abbrev pub HasBadPlace : List Text → Type 0
+HasBadPlace words = (name : Text) × (rows : List Row) × Names words name rows
+    × HasBadPlaceIn name rows

@@ -40,6 +40,9 @@ pub enum Fault {
     /// The word after `--sync` is none of `flush`, `never` and `always`.
     #[error("bad sync")]
     BadSync,
+    /// The words say no place to listen at, or two, or the word after `--bind` is no IP address.
+    #[error("bad address")]
+    BadAddress,
     /// A word, as the name of a file, isn't text (UTF-8).
     #[error("a word is not UTF-8")]
     NotText,
@@ -89,7 +92,7 @@ pub enum Fault {
     /// The image's length in bytes, which is this one, is no chip's.
     #[error("bad image size")]
     BadImageSize(u64),
-    /// Listening on the port or accepting a connection failed.
+    /// Listening at the place or accepting a connection failed.
     #[error("no socket")]
     NoSocket(Cause),
     /// A thread could not be started.
@@ -107,6 +110,7 @@ impl Fault {
             Fault::Words(error) => if error.use_stderr() { 2 } else { 0 },
             Fault::BadSize => 2,
             Fault::BadSync => 2,
+            Fault::BadAddress => 2,
             Fault::NotText => 2,
             Fault::NoMemory => 1,
             Fault::InputFailed => 1,

@@ -2,15 +2,16 @@
 ghost use Rattle.std.specs.Prelude.{◌≡◌, ◌≢◌, ◌≤◌, ◌%◌, ◌⊎◌, IfErr, IfOk, IfSome, IsErrAnd, Some};
 ghost use Rattle.std.specs.Prelude.{None, codes, false, option_map};
 ghost use Rattle.clap.specs.Words.{FailsBy, Text, app_of, fault_of, found_of, kind_of, one_text};
-ghost use Rattle.clap.specs.Words.{rows_of, rule_of};
+ghost use Rattle.clap.specs.Words.{first_of, rows_of, rule_of};
 ghost use Rattle.clap.specs.Words.{subcommand_of, subcommand_rows_of, with_subcommand};
 ghost use Rattle.norbd_line.specs.CommandLine.{conns_rule, flag_rule, image_rule, kib_rule};
 ghost use Rattle.norbd_line.specs.CommandLine.{norbd_app, port_rule, sectors_rule};
 ghost use Rattle.norbd_line.specs.CommandLine.{check_app, format_app, plain_app, script_app};
-ghost use Rattle.norbd_line.specs.CommandLine.{serve_app};
-ghost use Rattle.norbd_line.specs.CommandLine.{sync_rule, texts_of};
+ghost use Rattle.norbd_line.specs.CommandLine.{max_request_rule, serve_app};
+ghost use Rattle.norbd_line.specs.CommandLine.{text_rule, texts_of, verbose_rule};
 ghost use Rattle.norbd_line.specs.Fault.{ComesFromMatches, ComesFromWords};
-ghost use Rattle.norbd_line.specs.Line.{HasOddSize, IsConns, IsLineInRange, IsLineIn, IsLineOf};
+ghost use Rattle.norbd_line.specs.Line.{HasOddSize, IsLineInRange, IsLineIn, IsLineOf};
+ghost use Rattle.norbd_line.specs.Line.{HasNoPlace, IsPlace, IsPlaceIn, IsPort};
 ghost use Rattle.norbd_line.specs.Line.{IsSet, IsSize, TakesSize, number_in, number_of, sync_in};
 
 use crate::Fault;
@@ -41,7 +42,9 @@ pub enum Line<'a> {
     Script {
         kib: u32,
     },
-    /// `serve IMAGE --port P [--conns C] [--record] [--sync WHEN]`: serve the chip in an image.
+    /// `serve IMAGE --port P [--bind ADDR]`, or with `--unix PATH` in their place, and `[--conns C]
+    /// [--record] [--sync WHEN] [--max-request KIB] [--read-only] [-v]`: serve the chip in an
+    /// image.
     Serve(ServeLine<'a>),
     /// `check IMAGE [--mend]`: say whether the image in the file at the path `image` would be
     /// served, and mend it where `mend` is set.
@@ -51,16 +54,30 @@ pub enum Line<'a> {
     },
 }
 
-/// What a line `serve` asks: to serve the chip in the file at the path `image` on the port `port`
-/// of 127.0.0.1, from 1 to 65,535, to `conns` clients in all, from 1 to 64, or without end where it
-/// is `None`; to keep a row of each command where `record` is set; and when the file is synced.
+/// What a line `serve` asks: to serve the chip in the file at the path `image` at a place, to
+/// `conns` clients in all, from 1 to 64, or without end where it is `None`; to keep a row of each
+/// command where `record` is set; when the file is synced; with READs and WRITEs of `max_request`
+/// KiB at most, from 64 to 32,768, or of 64 where it is `None`; without changing anything where
+/// `read_only` is set; and to tell of each connection and each refused request where `verbose` is.
 #[derive(Debug, Clone, Copy, PartialEq, Eq)]
 pub struct ServeLine<'a> {
     pub image: &'a str,
-    pub port: u32,
+    pub place: Place<'a>,
     pub conns: Option<u32>,
     pub record: bool,
     pub sync: SyncPolicy,
+    pub max_request: Option<u32>,
+    pub read_only: bool,
+    pub verbose: bool,
+}
+
+/// Where clients connect to.
+#[derive(Debug, Clone, Copy, PartialEq, Eq)]
+pub enum Place<'a> {
+    /// The port `port`, from 1 to 65,535, of the address that `bind` writes, or of 127.0.0.1.
+    Port { port: u32, bind: Option<&'a str> },
+    /// The Unix socket at a path.
+    Unix(&'a str),
 }
 
 /// When what a server has written to its image is handed on to the disk of this machine.
@@ -85,6 +102,12 @@ const MOST_PORT: u32 = 65_535;
 
 /// The largest number of connections; the least is 1.
 const MOST_CONNS: u32 = 64;
+
+/// The least length in KiB that may be the largest of a READ or WRITE.
+const LEAST_REQUEST: u32 = 64;
+
+/// The largest one, in KiB: what an NBD client may send at most where no sizes are told.
+const MOST_REQUEST: u32 = 32_768;
 
 /// The least size of a chip, in KiB.
 const LEAST_KIB: u32 = 64;
@@ -131,8 +154,7 @@ fn port_arg<'a>(alloc: Global) -> Arg<'a>
     Arg::new(alloc, "port")
         .long("port")
         .value_name("P")
-        .help("The port of 127.0.0.1, from 1 to 65535")
-        .required(true)
+        .help("The port, from 1 to 65535")
         .action(ArgAction::Set)
         .value_parser(value_parser!(u32).range(1..=65535))
 }
@@ -150,9 +172,59 @@ fn conns_arg<'a>(alloc: Global) -> Arg<'a>
         .value_parser(value_parser!(u32).range(1..=64))
 }
 
+/// `--max-request KIB`.
+fn max_request_arg<'a>(alloc: Global) -> Arg<'a>
+    ensures rule { rule_of result ≡ max_request_rule }
+    ensures local { result.global ≡ false }
+{
+    Arg::new(alloc, "max-request")
+        .long("max-request")
+        .value_name("KIB")
+        .help("The longest READ or WRITE in KiB, from 64 to 32768; without it, 64")
+        .action(ArgAction::Set)
+        .value_parser(value_parser!(u32).range(64..=32768))
+}
+
+/// `--read-only`.
+fn read_only_arg<'a>(alloc: Global) -> Arg<'a>
+    ensures rule { rule_of result ≡ flag_rule (codes "read-only") }
+    ensures local { result.global ≡ false }
+{
+    Arg::new(alloc, "read-only")
+        .long("read-only")
+        .help("Refuses whatever would change the disk, and changes nothing of the file")
+        .action(ArgAction::SetTrue)
+}
+
+/// `--bind ADDR`.
+fn bind_arg<'a>(alloc: Global) -> Arg<'a>
+    ensures rule { rule_of result ≡ text_rule (codes "bind") }
+    ensures local { result.global ≡ false }
+{
+    Arg::new(alloc, "bind")
+        .long("bind")
+        .value_name("ADDR")
+        .help(
+            "The IP address of the port, 127.0.0.1 without it; whoever reaches it can read and write",
+        )
+        .action(ArgAction::Set)
+}
+
+/// `--unix PATH`.
+fn unix_arg<'a>(alloc: Global) -> Arg<'a>
+    ensures rule { rule_of result ≡ text_rule (codes "unix") }
+    ensures local { result.global ≡ false }
+{
+    Arg::new(alloc, "unix")
+        .long("unix")
+        .value_name("PATH")
+        .help("The Unix socket that is made for clients, in the place of a port")
+        .action(ArgAction::Set)
+}
+
 /// `--sync WHEN`.
 fn sync_arg<'a>(alloc: Global) -> Arg<'a>
-    ensures rule { rule_of result ≡ sync_rule }
+    ensures rule { rule_of result ≡ text_rule (codes "sync") }
     ensures local { result.global ≡ false }
 {
     Arg::new(alloc, "sync")
@@ -182,7 +254,23 @@ fn record_arg<'a>(alloc: Global) -> Arg<'a>
 {
     Arg::new(alloc, "record")
         .long("record")
-        .help("Keeps a row of each command, and tells how many they are")
+        .help(
+            "Keeps a row of each command in memory, its reply's bytes too, and tells how many they are",
+        )
+        .action(ArgAction::SetTrue)
+}
+
+/// `-v`.
+fn verbose_arg<'a>(alloc: Global) -> Arg<'a>
+    ensures rule { rule_of result ≡ verbose_rule }
+    ensures local { result.global ≡ false }
+{
+    Arg::new(alloc, "verbose")
+        .short('v')
+        .long("verbose")
+        .help(
+            "Tells on standard error of each connection's begin and end, and of each refused request",
+        )
         .action(ArgAction::SetTrue)
 }
 
@@ -219,13 +307,20 @@ fn image_arg<'a>(alloc: Global, help: &'a str) -> Arg<'a>
         .action(ArgAction::Set)
 }
 
+/// What an image is, and what the exit statuses mean.
+const AFTER_HELP: &str =
+    "An image is a file of a flash chip's bytes, 64 KiB to 16 MiB. Exit status: 0 done, 1 a fault, which is printed, 2 a bad line.";
+
 /// A command line with `plain` and its arguments.
 fn with_plain<'a>(alloc: Global, norbd: Command<'a>) -> Result<Command<'a>, clap::Error>
     ensures app { IfOk result (λ c. app_of c ≡ with_subcommand (app_of norbd.entry) plain_app.top) }
     ensures memory { IfErr result (λ e. kind_of e ≡ ErrorKind.OutOfMemory) }
 {
     let plain = Command::new(alloc, "plain")
-        .about("Serves a disk in memory over standard input and output")
+        .about(
+            "Serves a disk in memory over standard input and output.\nExample: norbd plain --sectors 70 < requests.bin > replies.bin",
+        )
+        .after_help(AFTER_HELP)
         .arg(sectors_arg(alloc))?
         .arg(no_record_arg(alloc))?;
     Ok(norbd.subcommand(plain)?)
@@ -238,7 +333,8 @@ fn with_format<'a>(alloc: Global, norbd: Command<'a>) -> Result<Command<'a>, cla
     ensures memory { IfErr result (λ e. kind_of e ≡ ErrorKind.OutOfMemory) }
 {
     let format = Command::new(alloc, "format")
-        .about("Makes the file of a formatted chip")
+        .about("Makes the file of a formatted chip.\nExample: norbd format chip.img --kib 1024")
+        .after_help(AFTER_HELP)
         .arg(image_arg(
             alloc,
             "The file of the chip's bytes; one that is there is replaced",
@@ -256,8 +352,9 @@ fn with_script<'a>(alloc: Global, norbd: Command<'a>) -> Result<Command<'a>, cla
 {
     let script = Command::new(alloc, "script")
         .about(
-            "Runs a script of events on a formatted chip in memory, from standard input to standard output",
+            "Runs a script of events on a formatted chip in memory, from standard input to standard output.\nExample: norbd script --kib 64 < events.bin",
         )
+        .after_help(AFTER_HELP)
         .arg(kib_arg(alloc))?;
     Ok(norbd.subcommand(script)?)
 }
@@ -268,12 +365,20 @@ fn with_serve<'a>(alloc: Global, norbd: Command<'a>) -> Result<Command<'a>, clap
     ensures memory { IfErr result (λ e. kind_of e ≡ ErrorKind.OutOfMemory) }
 {
     let serve = Command::new(alloc, "serve")
-        .about("Serves the chip in an image file to NBD clients on 127.0.0.1")
+        .about(
+            "Serves the chip in an image file to NBD clients, on a port or a Unix socket.\nExample: norbd serve chip.img --port 10809",
+        )
+        .after_help(AFTER_HELP)
         .arg(image_arg(alloc, "The file of the chip's bytes"))?
         .arg(port_arg(alloc))?
+        .arg(bind_arg(alloc))?
+        .arg(unix_arg(alloc))?
         .arg(conns_arg(alloc))?
         .arg(record_arg(alloc))?
-        .arg(sync_arg(alloc))?;
+        .arg(sync_arg(alloc))?
+        .arg(max_request_arg(alloc))?
+        .arg(read_only_arg(alloc))?
+        .arg(verbose_arg(alloc))?;
     Ok(norbd.subcommand(serve)?)
 }
 
@@ -283,11 +388,17 @@ fn with_check<'a>(alloc: Global, norbd: Command<'a>) -> Result<Command<'a>, clap
     ensures memory { IfErr result (λ e. kind_of e ≡ ErrorKind.OutOfMemory) }
 {
     let check = Command::new(alloc, "check")
-        .about("Says whether an image would be served, and mends one that isn't clean")
+        .about(
+            "Says whether an image would be served, and mends one that isn't clean.\nExample: norbd check chip.img --mend",
+        )
+        .after_help(AFTER_HELP)
         .arg(image_arg(alloc, "The file of the chip's bytes"))?
         .arg(mend_arg(alloc))?;
     Ok(norbd.subcommand(check)?)
 }
+
+/// What `--version` says after the name: the version, and the toolchain that proved and built it.
+const VERSION: &str = "0.1.0, proved by rattle-kit-13f logic dac8208d650f15bf";
 
 /// The program's whole command line.
 fn whole_command<'a>(alloc: Global) -> Result<Command<'a>, clap::Error>
@@ -296,7 +407,7 @@ fn whole_command<'a>(alloc: Global) -> Result<Command<'a>, clap::Error>
 {
     let norbd = Command::new(alloc, "norbd")
         .bin_name("norbd")?
-        .version("0.1.0")
+        .version(VERSION)
         .subcommand_required(true);
     let norbd = with_plain(alloc, norbd)?;
     let norbd = with_format(alloc, norbd)?;
@@ -421,18 +532,23 @@ fn script_line<'a>(matches: &ArgMatches<'a>) -> Result<Line<'a>, Fault>
     })
 }
 
-/// The number after `--conns`, or `None` where there is none. The parse refuses one out of its
-/// range, so the arm for it answers `NoMemory`.
-fn conns_of(matches: &ArgMatches<'_>) -> Result<Option<u32>, Fault>
-    ensures range { IfOk result (λ conns. IfSome conns IsConns) }
-    ensures number { IfOk result (λ conns.
-        number_in (codes "conns") (rows_of (found_of matches.now)) ≡ conns) }
+/// The number after an option that may be left out, or `None` where it is. The parse refuses one
+/// that isn't from `least` to `most`, so the arm for it answers `NoMemory`.
+fn number_if_there(
+    matches: &ArgMatches<'_>,
+    id: &str,
+    least: u32,
+    most: u32,
+) -> Result<Option<u32>, Fault>
+    ensures range { IfOk result (λ there. IfSome there (λ n. (least ≤ n) × (n ≤ most))) }
+    ensures number { IfOk result (λ there.
+        number_in id.now (rows_of (found_of matches.now)) ≡ there) }
 {
-    let Some(_) = matches.get_str("conns") else {
+    let Some(_) = matches.get_str(id) else {
         return Ok(None);
     };
-    match number(matches, "conns", 1, MOST_CONNS) {
-        Some(conns) => Ok(Some(conns)),
+    match number(matches, id, least, most) {
+        Some(n) => Ok(Some(n)),
         None => Err(Fault::NoMemory),
     }
 }
@@ -455,18 +571,72 @@ fn sync_of(matches: &ArgMatches<'_>) -> Option<SyncPolicy>
     }
 }
 
-/// The line of `serve`; `BadSync` where the word after `--sync` says nothing. The parse refuses
-/// words without a path or a number in its range, so the arms for them answer `NoMemory`.
+/// The number after `--port`, or `None` where there is none. The parse refuses one out of its
+/// range, so the arm for it answers `NoMemory`.
+fn port_of(matches: &ArgMatches<'_>) -> Result<Option<u32>, Fault>
+    ensures range { IfOk result (λ port. IfSome port IsPort) }
+    ensures number { IfOk result (λ port.
+        number_in (codes "port") (rows_of (found_of matches.now)) ≡ port) }
+    ensures fault { IfErr result (λ e. e ≡ Fault.NoMemory) }
+{
+    let Some(_) = matches.get_str("port") else {
+        return Ok(None);
+    };
+    match number(matches, "port", 1, MOST_PORT) {
+        Some(port) => Ok(Some(port)),
+        None => Err(Fault::NoMemory),
+    }
+}
+
+/// The text of an option, if it is there.
+fn text_of<'a>(matches: &ArgMatches<'a>, id: &str) -> Option<&'a str>
+    ensures { first_of id.now (rows_of (found_of matches.now))
+        ≡ option_map (λ text. text.now) result }
+{
+    matches.get_str(id)
+}
+
+/// Where a line `serve` listens: a port with or without an address, or a Unix socket. `BadAddress`
+/// where the words say none of the two, or both.
+fn place_of<'a>(matches: &ArgMatches<'a>) -> Result<Place<'a>, Fault>
+    ensures range { IfOk result IsPlace }
+    ensures place { IfOk result (IsPlaceIn (rows_of (found_of matches.now))) }
+    ensures fault { IfErr result (λ e. (e ≡ Fault.NoMemory)
+        ⊎ ((e ≡ Fault.BadAddress) × HasNoPlace (rows_of (found_of matches.now)))) }
+{
+    let port = port_of(matches)?;
+    let bind = text_of(matches, "bind");
+    let unix = text_of(matches, "unix");
+    match unix {
+        None => match port {
+            Some(port) => Ok(Place::Port { port, bind }),
+            None => Err(Fault::BadAddress),
+        },
+        Some(path) => match port {
+            Some(_) => Err(Fault::BadAddress),
+            None => match bind {
+                Some(_) => Err(Fault::BadAddress),
+                None => Ok(Place::Unix(path)),
+            },
+        },
+    }
+}
+
+/// The line of `serve`; `BadAddress` where the words say no place or two, `BadSync` where the word
+/// after `--sync` says nothing. The parse refuses words without a path or with a number out of its
+/// range, so the arms for them answer `NoMemory`.
 fn serve_line<'a>(matches: &ArgMatches<'a>) -> Result<Line<'a>, Fault>
     ensures range { IfOk result IsLineInRange }
     ensures line { IfOk result (IsLineIn (codes "serve") (rows_of (found_of matches.now))) }
     ensures fault { IfErr result (ComesFromMatches (codes "serve")
         (rows_of (found_of matches.now))) }
 {
-    let Some(port) = number(matches, "port", 1, MOST_PORT) else {
+    let place = place_of(matches)?;
+    let Ok(conns) = number_if_there(matches, "conns", 1, MOST_CONNS) else {
         return Err(Fault::NoMemory);
     };
-    let Ok(conns) = conns_of(matches) else {
+    let Ok(max_request) = number_if_there(matches, "max-request", LEAST_REQUEST, MOST_REQUEST)
+    else {
         return Err(Fault::NoMemory);
     };
     let Some(sync) = sync_of(matches) else {
@@ -477,10 +647,13 @@ fn serve_line<'a>(matches: &ArgMatches<'a>) -> Result<Line<'a>, Fault>
     };
     Ok(Line::Serve(ServeLine {
         image,
-        port,
+        place,
         conns,
         record: flag(matches, "record"),
         sync,
+        max_request,
+        read_only: flag(matches, "read-only"),
+        verbose: flag(matches, "verbose"),
     }))
 }
 
@@ -541,8 +714,9 @@ fn line_or_fault<'a>(alloc: Global, words: &'a [String]) -> Result<Line<'a>, Fau
 /// Reads the program's words, of which the first is its name.
 ///
 /// `Words` where they are no line of the program or ask for help or the version, `BadSize` where
-/// the number after `--kib` is from 64 to 16,384 and no multiple of 64, `BadSync` where the word
-/// after `--sync` is none that says when, `NoMemory` where memory ran out. The parse refuses words
+/// the number after `--kib` is from 64 to 16,384 and no multiple of 64, `BadAddress` where `serve`
+/// has neither a port nor a Unix socket, or both, `BadSync` where the word after `--sync` is none
+/// that says when, `NoMemory` where memory ran out. The parse refuses words
 /// without a command, a path or a number in its range, so what comes then isn't reached; it needs
 /// some fault, and answers `NoMemory`.
 pub fn read_line<'a>(alloc: Global, words: &'a [String]) -> Result<Line<'a>, Fault>

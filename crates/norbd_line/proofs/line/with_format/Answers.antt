@@ -5,12 +5,12 @@ use Rattle.norbd_line.proofs.line.with_format.Goals as goal
 
 pub returns-clause-app : goal.returns-clause-app
 returns-clause-app c =
-    let new : app_of c.about.result ≡ new_app (codes "format") = search (rules, c.new.ensures.app, c.about.ensures) in
+    let new : app_of c.after_help.result ≡ new_app (codes "format") = search (rules, c.new.ensures.app, c.about.ensures, c.after_help.ensures) in
     let one : app_of c.in_ok-arg.field-0 ≡ with_rule (new_app (codes "format")) image_rule =
     c.in_ok-arg.ensures.shape c.image_arg.ensures.local ∙ ap₂ with_rule new c.image_arg.ensures.rule in
     let two : app_of c.in_ok-arg-2.field-0 ≡ with_rule (with_rule (new_app (codes "format")) image_rule) kib_rule =
     c.in_ok-arg-2.ensures.shape c.kib_arg.ensures.local ∙ ap₂ with_rule one c.kib_arg.ensures.rule in
     let format : app_of c.in_ok-format.format ≡ format_app =
     c.in_ok-format.ensures.shape c.force_arg.ensures.local ∙ ap₂ with_rule two c.force_arg.ensures.rule in
-    c.in_ok-subcommand.ensures.shape (search (rules, c.in_ok-format.ensures.globals, c.force_arg.ensures.local, c.in_ok-arg-2.ensures.globals, c.kib_arg.ensures.local, c.in_ok-arg.ensures.globals, c.image_arg.ensures.local, c.about.ensures, c.new.ensures.local))
+    c.in_ok-subcommand.ensures.shape (search (rules, c.in_ok-format.ensures.globals, c.force_arg.ensures.local, c.in_ok-arg-2.ensures.globals, c.kib_arg.ensures.local, c.in_ok-arg.ensures.globals, c.image_arg.ensures.local, c.after_help.ensures, c.about.ensures, c.new.ensures.local))
     ∙ ap (λ (a : App). with_subcommand (app_of c.args.norbd) a.top) format

@@ -1,5 +1,0 @@
-use Rattle.std.specs.Prelude.{true}
-use Rattle.flash_station.proofs.running.run_formatted.Given as goal
-
-abbrev pub ghosts-run_new : goal.ghosts-run_new
-ghosts-run_new g a = record { sound = true; slows = g.B.SpiBus.slows a.bus }

@@ -1,0 +1,3 @@
+pub mod Image
+pub mod Mended
+pub mod Order

@@ -1,0 +1,33 @@
+//! Why there is no image.
+
+ghost use Rattle.std.specs.Prelude.{◌≡◌};
+ghost use Rattle.norbd_image.specs.declared.error.ImageError.TheVariants.{OutOfMemory};
+
+use nor_driver::ProbeError;
+use std::alloc::AllocError;
+use std::io::ErrorKind;
+
+/// Why there is no image. Source: own.
+#[derive(Clone, Copy, Debug, PartialEq, Eq)]
+pub enum ImageError {
+    /// Memory ran out.
+    OutOfMemory,
+    /// The file can't be had, made, written or put in its place: the system's answer.
+    File(ErrorKind),
+    /// What is at the path is no regular file.
+    NotAFile,
+    /// Another process has the file.
+    InUse,
+    /// The file holds a formatted chip, which is not to be replaced.
+    Formatted,
+    /// The chip in memory refused the format: only as one whose power went.
+    Refused(ProbeError),
+}
+
+impl From<AllocError> for ImageError {
+    ghost from_gives = { λ _ e. e ≡ OutOfMemory };
+
+    fn from(_: AllocError) -> Self {
+        ImageError::OutOfMemory
+    }
+}

@@ -1,0 +1,243 @@
+//! The file of an image, which one process at a time serves or formats.
+
+ghost use Rattle.std.specs.Prelude.{◌≡◌, IfErr};
+ghost use Rattle.norbd_image.specs.Image.{ComesOfHolding};
+
+use crate::error::ImageError;
+use crate::ordered::{Barrier, Ordered, SyncHandle};
+use fault_model::{ImageBus, SimError};
+use std::alloc::{Allocator, Global};
+use std::fs::{File, Metadata, OpenFile, OpenOptions, TryLockError};
+use std::io::{Empty, ErrorKind, Read, Seek, Write};
+use std::os::unix::fs::{FileExt, MetadataExt};
+use std::rt::Files;
+use std::{fs, io};
+
+/// The fault that a failed call on files is.
+pub(crate) fn fault_from(error: io::Error) -> ImageError
+    ensures { ComesOfHolding result }
+{
+    match error.kind() {
+        ErrorKind::OutOfMemory => ImageError::OutOfMemory,
+        kind => ImageError::File(kind),
+    }
+}
+
+/// What the file of an image does besides what files do: it has one owner.
+pub trait ImageFile: FileExt {
+    /// Takes the lock of this open file, which lasts until its last handle is closed, and tells
+    /// whether it was free. It doesn't wait.
+    fn claim(&self) -> io::Result<bool>;
+}
+
+impl ImageFile for File {
+    fn claim(&self) -> io::Result<bool> {
+        match self.try_lock() {
+            Ok(()) => Ok(true),
+            Err(TryLockError::WouldBlock) => Ok(false),
+            Err(TryLockError::Error(error)) => Err(error),
+        }
+    }
+}
+
+/// The file of an image that this process alone serves or formats, as long as this is there. Only
+/// `hold` and `hold_to_read` make one, and they have read and written nothing.
+#[derive(Drop)]
+pub struct Held<F> {
+    file: F,
+}
+
+/// Opens the file at a path and takes its lock, which waits for nobody and reads and writes
+/// nothing.
+///
+/// `InUse` where another process has it, or where the path leads to another file meanwhile, `File`
+/// where it can't be opened for reading and writing, or not be locked.
+pub fn hold<R>(rt: &R, path: &str) -> Result<Held<R::File>, ImageError>
+where
+    R: Files,
+    R::File: ImageFile,
+    ensures { IfErr result ComesOfHolding }
+{
+    hold_by(rt, path, true)
+}
+
+/// As `hold`, of a file that this process may not write, or that it is not to write: every write of
+/// it fails.
+pub fn hold_to_read<R>(rt: &R, path: &str) -> Result<Held<R::File>, ImageError>
+where
+    R: Files,
+    R::File: ImageFile,
+    ensures { IfErr result ComesOfHolding }
+{
+    hold_by(rt, path, false)
+}
+
+/// Opens the file at a path to read it, and to write it too where `writes` is set, and takes its
+/// lock.
+fn hold_by<R>(rt: &R, path: &str, writes: bool) -> Result<Held<R::File>, ImageError>
+where
+    R: Files,
+    R::File: ImageFile,
+    ensures { IfErr result ComesOfHolding }
+{
+    let file = match OpenOptions::new().read(true).write(writes).open(rt, path) {
+        Ok(file) => file,
+        Err(error) => return Err(fault_from(error)),
+    };
+    match file.claim() {
+        Ok(true) => {}
+        Ok(false) => return Err(ImageError::InUse),
+        Err(error) => return Err(fault_from(error)),
+    }
+    match (file.metadata(), fs::metadata(rt, path)) {
+        (Ok(one), Ok(other)) => if one.dev() == other.dev() && one.ino() == other.ino() {
+            Ok(Held { file })
+        } else {
+            Err(ImageError::InUse)
+        },
+        (Err(error), _) => Err(fault_from(error)),
+        (_, Err(error)) => Err(fault_from(error)),
+    }
+}
+
+impl<F: Read + Write + Seek + OpenFile + FileExt + Drop> Held<F> {
+    ghost use Rattle.std.specs.Prelude.{◌≡◌, IfOk, false, length};
+    ghost use Rattle.chip_model.specs.Geometry.{IsChipSize};
+    ghost use Rattle.fault_model.specs.Image.{image_broken, image_chip, image_cuts};
+    ghost use Rattle.fault_model.specs.Sim.{fresh_chip};
+
+    /// The length of the file in bytes, where the system tells it.
+    pub fn length(&self) -> io::Result<u64> {
+        Ok(self.file.metadata()?.len())
+    }
+
+    /// The block in which the file's system writes it to the disk of this machine, in bytes, where
+    /// the system tells it. Source: stat(2), `st_blksize`.
+    pub fn block_len(&self) -> io::Result<u64> {
+        Ok(self.file.metadata()?.blksize())
+    }
+
+    /// Fills `head` with the first bytes of the file: whether it has so many.
+    pub fn has_head(&self, head: &mut [u8]) -> io::Result<bool> {
+        match self.file.read_exact_at(head, 0) {
+            Ok(()) => Ok(true),
+            Err(error) if error.kind() == ErrorKind::UnexpectedEof => Ok(false),
+            Err(error) => Err(error),
+        }
+    }
+
+    /// All bytes of the file: `BadSize` where no chip has so many, `OutOfMemory` where there is no
+    /// memory for them, and `File` where it can't be read.
+    pub fn bytes(&self, alloc: Global) -> Result<Vec<u8>, SimError>
+        ensures { IfOk result (λ bytes. IsChipSize (length bytes.items)) }
+    {
+        let Ok(length) = self.length() else {
+            return Err(SimError::File);
+        };
+        if length == 0 || length > 16_777_216 || length % 65_536 != 0 {
+            return Err(SimError::BadSize);
+        }
+        let Ok(mut bytes) = vec![in alloc; 0xFFu8; length as usize] else {
+            return Err(SimError::OutOfMemory);
+        };
+        match self.file.read_exact_at(bytes.as_mut_slice(), 0) {
+            Ok(()) => Ok(bytes),
+            Err(_) => Err(SimError::File),
+        }
+    }
+
+    /// Another handle of the file, which has the lock too, to sync it by a barrier.
+    pub fn handle<'b>(&self, barrier: &'b Barrier) -> io::Result<SyncHandle<'b, F>> {
+        Ok(SyncHandle {
+            file: self.file.try_clone()?,
+            barrier,
+        })
+    }
+
+    /// The chip in the file, whose changes get to the disk of this machine in a barrier's order:
+    /// the refusals of `ImageBus::open`.
+    pub fn chip<'b>(
+        &self,
+        alloc: Global,
+        barrier: &'b Barrier,
+    ) -> Result<ImageBus<Ordered<'b, F>>, SimError>
+        ensures size { IfOk result (λ b. IsChipSize (length (image_chip b).memory)) }
+        ensures chip { IfOk result (λ b. image_chip b ≡ fresh_chip (image_chip b).memory) }
+        ensures cuts { IfOk result (λ b. image_cuts b ≡ 0) }
+        ensures sound { IfOk result (λ b. image_broken b ≡ false) }
+    {
+        let opened = Opened {
+            file: &self.file,
+            barrier,
+            alloc,
+        };
+        ImageBus::open(&opened, "")
+    }
+}
+
+/// A system that has one file, which is open: every opening gives another handle of it.
+#[derive(Drop)]
+struct Opened<'f, 'b, F> {
+    file: &'f F,
+    barrier: &'b Barrier,
+    alloc: Global,
+}
+
+impl<F> Alloc for Opened<'_, '_, F> {
+    type A = Global;
+
+    fn alloc(&self) -> Global {
+        self.alloc
+    }
+}
+
+/// A call that such a system has not.
+fn unsupported<T>() -> io::Result<T> {
+    Err(io::Error::from(ErrorKind::Unsupported))
+}
+
+impl<'b, F: Read + Write + Seek + OpenFile + FileExt + Drop> Files for Opened<'_, 'b, F> {
+    type File = Ordered<'b, F>;
+
+    type Dir = Empty;
+
+    fn open_file(&self, _how: &OpenOptions, _path: &str) -> io::Result<Ordered<'b, F>> {
+        Ok(Ordered::new(self.file.try_clone()?, self.barrier))
+    }
+
+    fn open_dir(&self, _path: &str) -> io::Result<Empty> {
+        unsupported()
+    }
+
+    fn metadata(&self, _path: &str) -> io::Result<Metadata> {
+        self.file.metadata()
+    }
+
+    fn symlink_metadata(&self, _path: &str) -> io::Result<Metadata> {
+        self.file.metadata()
+    }
+
+    fn copy(&self, _from: &str, _to: &str) -> io::Result<u64> {
+        unsupported()
+    }
+
+    fn rename(&self, _from: &str, _to: &str) -> io::Result<()> {
+        unsupported()
+    }
+
+    fn remove_file(&self, _path: &str) -> io::Result<()> {
+        unsupported()
+    }
+
+    fn create_dir(&self, _path: &str) -> io::Result<()> {
+        unsupported()
+    }
+
+    fn remove_dir(&self, _path: &str) -> io::Result<()> {
+        unsupported()
+    }
+
+    fn remove_dir_all<B: Allocator>(&self, _alloc: B, _path: &str) -> io::Result<()> {
+        unsupported()
+    }
+}

@@ -1,0 +1,105 @@
+-- What `serve` tells, step by step.
+use Rattle.std.proofs.Common.{◌≡◌, ℕ, List, [], Bool, Option, Result, Ok, Err, IfOk, IsOkAnd, String, refl, sym, subst, ◌∙◌, inl, inr}
+use Rattle.std.specs.String.{string_bytes}
+use Rattle.std.specs.Io.KnownBytes.{Appends}
+use Rattle.std.proofs.KnownBytes.{Appends-nil, Appends-trans}
+use Rattle.block_device.specs.Streams.{FailsToSend}
+use Rattle.block_device.proofs.Streams.{Fails-first, Sends-twice}
+use Rattle.norbd_serve.specs.declared.fault.ServeFault.{ServeFault}
+use Rattle.norbd_serve.specs.declared.fault.ServeFault.TheVariants as serves
+use Rattle.norbd_run.specs.Checking.{CheckTells, Says, checked_text}
+use Rattle.norbd_run.specs.Listening.{HasBegun, IsPlaceRefusal, IsRefusal, TellsServing, WritesText, ended_text, serving_text, told_of_serving}
+use Rattle.norbd_line.specs.declared.fault.Fault.{Fault}
+use Rattle.norbd_line.specs.declared.line.Place.{Place}
+use Rattle.norbd_line.specs.declared.fault.Fault.TheVariants as faults
+use Rattle.norbd_line.specs.declared.fault.Fault.TheVariants.{NoMemory, OutputFailed}
+
+-- a fault of serving comes when nothing was told, or the first line
+pub serving-failed : (T : Type 0) (place : Place) (conns : ℕ) (keeps : Bool) (old new : Option (List ℕ)) (f g : ℕ) (fault : ServeFault) → HasBegun place old f new g
+    → TellsServing {T = T} place conns keeps old f (Err (told_of_serving fault)) new g
+serving-failed T place conns keeps old new f g serves.NoMemory h = h
+serving-failed T place conns keeps old new f g serves.NoSocket h = h
+serving-failed T place conns keeps old new f g serves.NoThread h = h
+serving-failed T place conns keeps old new f g serves.Lost h = h
+serving-failed T place conns keeps old new f g serves.Unsynced h = h
+
+-- nothing was told yet
+pub silent : (place : Place) (old : Option (List ℕ)) (f : ℕ) → HasBegun place old f old f
+silent place old f = inl (Appends-nil old, refl)
+
+-- the place can't be had, and nothing was told
+pub place-refused : (T : Type 0) (place : Place) (conns : ℕ) (keeps : Bool) (old : Option (List ℕ)) (f : ℕ) (e : Fault) → IsPlaceRefusal e
+    → TellsServing {T = T} place conns keeps old f (Err e) old f
+place-refused T place conns keeps old f faults.BadAddress h = (Appends-nil old, refl)
+place-refused T place conns keeps old f (faults.NoSocket cause) h = silent place old f
+place-refused T place conns keeps old f (faults.Words error) h = absurd h
+place-refused T place conns keeps old f faults.NoMemory h = absurd h
+place-refused T place conns keeps old f faults.BadSize h = absurd h
+place-refused T place conns keeps old f faults.BadSync h = absurd h
+place-refused T place conns keeps old f faults.NotText h = absurd h
+place-refused T place conns keeps old f faults.InputFailed h = absurd h
+place-refused T place conns keeps old f faults.OutputFailed h = absurd h
+place-refused T place conns keeps old f (faults.ImageFailed cause) h = absurd h
+place-refused T place conns keeps old f faults.InUse h = absurd h
+place-refused T place conns keeps old f faults.Formatted h = absurd h
+place-refused T place conns keeps old f faults.WrongId h = absurd h
+place-refused T place conns keeps old f faults.BadSfdp h = absurd h
+place-refused T place conns keeps old f faults.Protected h = absurd h
+place-refused T place conns keeps old f faults.Slow h = absurd h
+place-refused T place conns keeps old f faults.BadRecord h = absurd h
+place-refused T place conns keeps old f faults.NotFormatted h = absurd h
+place-refused T place conns keeps old f faults.Corrupt h = absurd h
+place-refused T place conns keeps old f faults.NotClean h = absurd h
+place-refused T place conns keeps old f (faults.BadImageSize length) h = absurd h
+place-refused T place conns keeps old f faults.NoThread h = absurd h
+
+same-bytes : {Z X : Type 0} (text : Result (String Z) X) (s : List ℕ) (P : List ℕ → Type 0) → IfOk text (λ t. string_bytes t ≡ s) → IsOkAnd text (λ t. P (string_bytes t)) → P s
+same-bytes (Ok t) s P is h = subst P is h
+same-bytes (Err e) s P is h = absurd h
+
+-- the first line was told
+pub begun : {Z X : Type 0} (text : Result (String Z) X) (place : Place) (sectors : ℕ) (old new : Option (List ℕ)) (f g : ℕ) → IfOk text (λ t. string_bytes t ≡ serving_text sectors place)
+    → IsOkAnd text (λ t. Appends old new (string_bytes t)) × (g ≡ f) → HasBegun place old f new g
+begun text place sectors old new f g is h = inr (sectors, same-bytes text (serving_text sectors place) (λ x. Appends old new x) is h.0, h.1)
+
+-- it could not be told
+pub first-failed : {Z X : Type 0} (T : Type 0) (text : Result (String Z) X) (place : Place) (conns sectors : ℕ) (keeps : Bool) (old new : Option (List ℕ)) (f g : ℕ) (e : Fault) → IfOk text (λ t. string_bytes t ≡ serving_text sectors place)
+    → WritesText {T = T} text old f (Err e) new g → TellsServing {T = T} place conns keeps old f (Err e) new g
+first-failed T text place conns sectors keeps old new f g e is h = elim h [
+  | inl none ↦ subst (λ x. TellsServing {T = T} place conns keeps old f (Err x) new g) (sym none.0)
+      (inl (subst (λ x. Appends old x []) (sym none.1) (Appends-nil old), none.2))
+  | inr failed ↦ subst (λ x. TellsServing {T = T} place conns keeps old f (Err x) new g) (sym failed.0)
+      (sectors, 0, Fails-first old new f g (serving_text sectors place) (ended_text keeps conns 0) (same-bytes text (serving_text sectors place) (λ x. FailsToSend old f x new g) is failed.1))
+]
+
+abbrev failed-with : (T : Type 0) → Fault → Result T Fault
+failed-with T e = Err e
+
+-- the last lines
+pub ended : {Z Y X W T : Type 0} (one : Result (String Z) X) (two : Result (String Y) W) (place : Place) (conns sectors rows : ℕ) (keeps : Bool) (old mid new : Option (List ℕ)) (f g h : ℕ) (result : Result T Fault)
+    → IfOk one (λ t. string_bytes t ≡ serving_text sectors place) → IfOk two (λ t. string_bytes t ≡ ended_text keeps conns rows)
+    → IsOkAnd one (λ t. Appends old mid (string_bytes t)) × (g ≡ f) → WritesText two mid g result new h → TellsServing place conns keeps old f result new h
+ended one two place conns sectors rows keeps old mid new f g h (Ok u) is are first last =
+    let begin = same-bytes one (serving_text sectors place) (λ x. Appends old mid x) is first.0 in
+    let end = same-bytes two (ended_text keeps conns rows) (λ x. Appends mid new x) are last.0 in
+    (sectors, rows, Appends-trans old mid new (serving_text sectors place) (ended_text keeps conns rows) begin end, last.1 ∙ first.1)
+ended {T = T} one two place conns sectors rows keeps old mid new f g h (Err e) is are first last =
+    let begin = same-bytes one (serving_text sectors place) (λ x. Appends old mid x) is first.0 in
+    elim last [
+      | inl none ↦ subst (λ x. TellsServing {T = T} place conns keeps old f (Err x) new h) (sym none.0)
+          (inr (sectors, subst (λ x. Appends old x (serving_text sectors place)) (sym none.1) begin, none.2 ∙ first.1))
+      | inr failed ↦ subst (λ x. TellsServing {T = T} place conns keeps old f (Err x) new h) (sym failed.0) (
+        sectors,
+        rows,
+        Sends-twice old mid new f g h (serving_text sectors place) (ended_text keeps conns rows) (failed-with T e) (begin, first.1) (same-bytes two (ended_text keeps conns rows) (λ x. FailsToSend mid g x new h) are failed.1),
+      )
+    ]
+
+-- the line about an image that was checked
+pub checked : {Z X T : Type 0} (mends : Bool) (s : Says mends) (text : Result (String Z) X) (old new : Option (List ℕ)) (f g : ℕ) (result : Result T Fault)
+    → IfOk text (λ t. string_bytes t ≡ checked_text s.mended s.sectors) → WritesText text old f result new g → CheckTells mends old f result new g
+checked mends s text old new f g (Ok u) is h = (s, same-bytes text (checked_text s.mended s.sectors) (λ x. Appends old new x) is h.0, h.1)
+checked mends s text old new f g (Err e) is h = elim h [
+  | inl none ↦ inl (subst IsRefusal (sym none.0) tt, (none.1, none.2))
+  | inr failed ↦ inr (failed.0, (s, same-bytes text (checked_text s.mended s.sectors) (λ x. FailsToSend old f x new g) is failed.1))
+]

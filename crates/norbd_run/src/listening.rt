@@ -1,0 +1,80 @@
+//! The place where clients connect to.
+
+ghost use Rattle.std.specs.Prelude.{IfErr};
+ghost use Rattle.norbd_line.specs.Line.{IsPlace};
+ghost use Rattle.norbd_run.specs.Listening.{IsPlaceRefusal};
+
+use norbd_line::{Cause, Fault, Place};
+use norbd_serve::Listener;
+use std::io::ErrorKind;
+use std::net::{IpAddr, Ipv4Addr, Net, SocketAddr, TcpListener, TcpStream};
+use std::os::unix::fs::FileTypeExt;
+use std::os::unix::net::{UnixListener, UnixStream};
+use std::rt::Files;
+use std::{fs, io};
+
+/// Listens at a place. `BadAddress` where the text of the address is none, `NoSocket` where the
+/// place can't be had.
+pub fn listen_at<R>(rt: &R, place: Place<'_>) -> Result<Listener, Fault>
+where
+    R: Files + Net<Listener = TcpListener, Stream = TcpStream>,
+    requires { IsPlace place }
+    ensures { IfErr result IsPlaceRefusal }
+{
+    let listener = match place {
+        Place::Port { port, bind } => {
+            let Some(address) = address_of(bind) else {
+                return Err(Fault::BadAddress);
+            };
+            listen_on_port(rt, SocketAddr::from((address, port as u16)))
+        }
+        Place::Unix(path) => listen_on_path(rt, path),
+    };
+    match listener {
+        Ok(listener) => Ok(listener),
+        Err(error) => Err(Fault::NoSocket(Cause::System(error.kind()))),
+    }
+}
+
+/// The address that a text writes, if it is one; without a text 127.0.0.1.
+fn address_of(bind: Option<&str>) -> Option<IpAddr> {
+    let Some(text) = bind else {
+        return Some(IpAddr::from(Ipv4Addr::LOCALHOST));
+    };
+    match text.parse::<IpAddr>() {
+        Ok(address) => Some(address),
+        Err(_) => None,
+    }
+}
+
+/// Takes a port of an address.
+fn listen_on_port<R>(rt: &R, address: SocketAddr) -> io::Result<Listener>
+where
+    R: Net<Listener = TcpListener, Stream = TcpStream>,
+{
+    Ok(Listener::Port(TcpListener::bind(rt, address)?))
+}
+
+/// Makes the Unix socket at a path. One that is there is replaced where nobody listens at it.
+fn listen_on_path<R: Files + Net>(rt: &R, path: &str) -> io::Result<Listener> {
+    match UnixListener::bind(rt, path) {
+        Err(error) if error.kind() == ErrorKind::AddrInUse && is_left(rt, path) => {
+            fs::remove_file(rt, path)?;
+            Ok(Listener::Path(UnixListener::bind(rt, path)?))
+        }
+        Ok(listener) => Ok(Listener::Path(listener)),
+        Err(error) => Err(error),
+    }
+}
+
+/// Whether a path is that of a socket at which nobody listens, as one that was killed leaves it.
+fn is_left<R: Files + Net>(rt: &R, path: &str) -> bool {
+    match fs::symlink_metadata(rt, path) {
+        Ok(metadata) if metadata.file_type().is_socket() => {}
+        _ => return false,
+    }
+    match UnixStream::connect(rt, path) {
+        Ok(_) => false,
+        Err(error) => error.kind() == ErrorKind::ConnectionRefused,
+    }
+}

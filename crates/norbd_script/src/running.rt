@@ -1,0 +1,247 @@
+//! Format, mount and a script in one call, and mount and a script in one, over any bus.
+
+ghost use Rattle.std.specs.Prelude.{◌≡◌, ◌*◌, ◌≤◌, ℕ, true, false, length};
+ghost use Rattle.block_device.specs.Facts.{IsDiskReady};
+ghost use Rattle.chip_model.specs.Geometry.{sector_count};
+ghost use Rattle.flash_disk.specs.Contents.{contents_of};
+ghost use Rattle.flash_disk.specs.Formatted.{Formatted};
+ghost use Rattle.nor_driver.specs.Probe.{told};
+ghost use Rattle.sector_slots.specs.Slots.{IsClean};
+ghost use Rattle.norbd_script.specs.Answered.{AnswersScript, FormatsAsTold, IsPastFormat};
+ghost use Rattle.norbd_script.specs.Answered.{script_part};
+ghost use Rattle.norbd_script.specs.Lives.{IsHealthyChip, RunsMounted};
+ghost use Rattle.norbd_script.specs.Running.{IsPastMount, RunsOn};
+ghost use Rattle.station.specs.Script.{FailsToReadAll, FailsToWrite};
+
+use crate::error::RunFault;
+use block_device::{Disk, DiskError, Sink, Source};
+use chip_model::SpiBus;
+use flash_disk::{FlashDisk, MountError, Provenance, format};
+use nor_driver::ProbeError;
+use station::Station;
+use std::alloc::Global;
+use std::marker::Brand;
+
+/// Formats the chip behind a bus, mounts it, and runs a script on it, whose records come from
+/// `reader`, with the transcript to `writer`. The bus is handed back, with what became of the
+/// script.
+///
+/// Power may be lost inside any frame, also inside those of the format and of the mount, which are
+/// then refused. The records are those of `Station::run_script`.
+pub fn run_formatted<B: SpiBus, S: Source, W: Sink>(
+    alloc: Global,
+    bus: B,
+    reader: &mut S,
+    writer: &mut W,
+) -> (B, Result<(), RunFault>)
+    ensures says { AnswersScript
+        (record {
+          sectors = sector_count (length (B.chip bus).memory);
+          contents = contents_of
+              (B.chip bus).memory;
+          cuts = B.cuts bus;
+          slows = B.slows bus;
+        })
+        (record {
+          sectors = sector_count (length (B.chip result.0).memory);
+          contents = contents_of
+              (B.chip result.0).memory;
+          cuts = B.cuts result.0;
+          slows = B.slows result.0;
+        })
+        (S.remaining reader.old) (W.written writer.old) result.1 (S.remaining reader.new)
+        (W.written writer.new) }
+    // its refusals of the input and of the output come exactly where a read or a write failed, or
+    // the input didn't end
+    ensures reads { FailsToReadAll (S.remaining reader.old) (S.faults reader.old)
+        (script_part result.1) (S.faults reader.new) }
+    ensures writes { FailsToWrite (W.faults writer.old) (script_part result.1)
+        (W.faults writer.new) }
+    // it refuses the format exactly as the chip's id, table and registers say, but for what
+    // interrupts it
+    ensures told { FormatsAsTold result.1 (told (B.chip bus)) }
+    // past the format it leaves a healthy and clean chip, with which a life can begin, where no
+    // operation was slow
+    ensures healthy { IsPastFormat result.1 → B.slows result.0 ≡ B.slows bus
+        → IsHealthyChip (B.chip result.0) }
+    ensures clean { IsPastFormat result.1 → B.slows result.0 ≡ B.slows bus
+        → IsClean (B.chip result.0).memory }
+{
+    let (bus, answer) = format(bus);
+    match answer {
+        Ok(()) => run_new::<B, Brand, S, W>(alloc, bus, reader, writer),
+        Err(error) => (bus, Err(RunFault::Format(error))),
+    }
+}
+
+/// Mounts the chip behind a bus, reads each of its data blocks, and runs a script on it, whose
+/// records come from `reader`, with the transcript to `writer`. The bus is handed back, with what
+/// became of the script.
+///
+/// The script begins from the sectors that the chip's memory represents, and what it leaves is what
+/// the next call finds. `Mount` where the mount is refused, or where in the reading of the blocks
+/// the power went or an operation was slow, `NotClean` where what reads as free isn't erased, and
+/// `OutOfMemory` where there is no memory for the station: then nothing is read or written, and a
+/// healthy chip keeps its sectors. Power may be lost inside any frame. The records are those of
+/// `Station::run_script`.
+pub fn run_mounted<B: SpiBus, S: Source, W: Sink>(
+    alloc: Global,
+    bus: B,
+    reader: &mut S,
+    writer: &mut W,
+) -> (B, Result<(), RunFault>)
+    ensures says { RunsMounted
+        (record { chip = B.chip bus; cuts = B.cuts bus; slows = B.slows bus })
+        (record {
+          input = S.remaining reader.old;
+          was = W.written writer.old;
+          answer = result.1;
+          left = S.remaining reader.new;
+          is = W.written writer.new;
+        })
+        (record {
+          chip = B.chip result.0;
+          cuts = B.cuts result.0;
+          slows = B.slows result.0;
+        }) }
+    // its refusals of the input and of the output come exactly where a read or a write failed, or
+    // the input didn't end
+    ensures reads { FailsToReadAll (S.remaining reader.old) (S.faults reader.old)
+        (script_part result.1) (S.faults reader.new) }
+    ensures writes { FailsToWrite (W.faults writer.old) (script_part result.1)
+        (W.faults writer.new) }
+{
+    run_checked::<B, Brand, S, W>(alloc, bus, reader, writer)
+}
+
+/// The same, where `P` has the count of slow operations.
+fn run_checked<B: SpiBus, P: Provenance, S: Source, W: Sink>(
+    alloc: Global,
+    bus: B,
+    reader: &mut S,
+    writer: &mut W,
+) -> (B, Result<(), RunFault>)
+    requires sound { P.sound ≡ false }
+    requires counted { P.slows ≡ B.slows bus }
+    ensures says { RunsMounted
+        (record { chip = B.chip bus; cuts = B.cuts bus; slows = B.slows bus })
+        (record {
+          input = S.remaining reader.old;
+          was = W.written writer.old;
+          answer = result.1;
+          left = S.remaining reader.new;
+          is = W.written writer.new;
+        })
+        (record {
+          chip = B.chip result.0;
+          cuts = B.cuts result.0;
+          slows = B.slows result.0;
+        }) }
+    ensures reads { FailsToReadAll (S.remaining reader.old) (S.faults reader.old)
+        (script_part result.1) (S.faults reader.new) }
+    ensures writes { FailsToWrite (W.faults writer.old) (script_part result.1)
+        (W.faults writer.new) }
+{
+    match FlashDisk::<B, P>::mount(alloc, bus) {
+        Ok(disk) => {
+            let mut disk = disk;
+            match disk.check() {
+                Ok(true) => run_on(alloc, disk, reader, writer),
+                Ok(false) => (disk.into_inner(), Err(RunFault::NotClean)),
+                Err(DiskError::Cut) => (
+                    disk.into_inner(),
+                    Err(RunFault::Mount(MountError::Probe(ProbeError::Cut))),
+                ),
+                Err(DiskError::Slow) => (
+                    disk.into_inner(),
+                    Err(RunFault::Mount(MountError::Probe(ProbeError::Slow))),
+                ),
+            }
+        }
+        Err((back, error)) => (back, Err(RunFault::Mount(error))),
+    }
+}
+
+/// Mounts a chip that was just formatted, and runs a script on it.
+fn run_new<B: SpiBus, P: Provenance, S: Source, W: Sink>(
+    alloc: Global,
+    bus: B,
+    reader: &mut S,
+    writer: &mut W,
+) -> (B, Result<(), RunFault>)
+    requires sound { P.sound ≡ true }
+    requires counted { P.slows ≡ B.slows bus }
+    requires formatted { Formatted (B.chip bus) }
+    ensures says { AnswersScript
+        (record {
+          sectors = sector_count (length (B.chip bus).memory);
+          contents = contents_of
+              (B.chip bus).memory;
+          cuts = B.cuts bus;
+          slows = B.slows bus;
+        })
+        (record {
+          sectors = sector_count (length (B.chip result.0).memory);
+          contents = contents_of
+              (B.chip result.0).memory;
+          cuts = B.cuts result.0;
+          slows = B.slows result.0;
+        })
+        (S.remaining reader.old) (W.written writer.old) result.1 (S.remaining reader.new)
+        (W.written writer.new) }
+    ensures reads { FailsToReadAll (S.remaining reader.old) (S.faults reader.old)
+        (script_part result.1) (S.faults reader.new) }
+    ensures writes { FailsToWrite (W.faults writer.old) (script_part result.1)
+        (W.faults writer.new) }
+    ensures past { IsPastFormat result.1 }
+    ensures healthy { B.slows result.0 ≡ B.slows bus → IsHealthyChip (B.chip result.0) }
+    ensures clean { B.slows result.0 ≡ B.slows bus → IsClean (B.chip result.0).memory }
+{
+    match FlashDisk::<B, P>::mount(alloc, bus) {
+        Ok(disk) => run_on(alloc, disk, reader, writer),
+        Err((bus, error)) => (bus, Err(RunFault::Mount(error))),
+    }
+}
+
+/// Runs a script on a sound disk.
+fn run_on<B: SpiBus, P: Provenance, S: Source, W: Sink>(
+    alloc: Global,
+    disk: FlashDisk<B, P>,
+    reader: &mut S,
+    writer: &mut W,
+) -> (B, Result<(), RunFault>)
+    requires sound { (⟦<FlashDisk<B, P> as Disk>⟧.facts disk).sound ≡ true }
+    requires ready { IsDiskReady (⟦<FlashDisk<B, P> as Disk>⟧.facts disk) }
+    ensures says { RunsOn (⟦<FlashDisk<B, P> as Disk>⟧.facts disk) P.slows
+        (record {
+          input = S.remaining reader.old;
+          was = W.written writer.old;
+          answer = result.1;
+          left = S.remaining reader.new;
+          is = W.written writer.new;
+        })
+        (record {
+          chip = B.chip result.0;
+          cuts = B.cuts result.0;
+          slows = B.slows result.0;
+        }) }
+    ensures reads { FailsToReadAll (S.remaining reader.old) (S.faults reader.old)
+        (script_part result.1) (S.faults reader.new) }
+    ensures writes { FailsToWrite (W.faults writer.old) (script_part result.1)
+        (W.faults writer.new) }
+    ensures past { IsPastMount result.1 }
+{
+    match Station::new(alloc, disk) {
+        Ok(station) => {
+            let mut station = station;
+            match station.run_script(reader, writer) {
+                Ok(()) => (station.into_inner().into_inner(), Ok(())),
+                Err(error) => (
+                    station.into_inner().into_inner(),
+                    Err(RunFault::Script(error)),
+                ),
+            }
+        }
+        Err((disk, _)) => (disk.into_inner(), Err(RunFault::OutOfMemory)),
+    }
+}
