@@ -161,6 +161,7 @@ fn time_of_tables(
         free: 0,
         dead: 0,
         plain: false,
+        group: false,
     };
     let Ok(states) = vec![in alloc; SlotState::Free; 28_644] else {
         return Err(Failure::NoMemory);

@@ -1,6 +1,7 @@
 //! The measurement of a case, through a station and through a connection.
 
 ghost use Rattle.std.specs.Prelude.{◌≡◌, ◌*◌, length, IsFalse};
+ghost use Rattle.nbd_wire.specs.Commands.{default_export};
 
 use crate::case::Case;
 use crate::clock::{COPIES, now, time_of_copies};
@@ -11,6 +12,7 @@ use crate::failure::Failure;
 use crate::figures::{nanos, per_call};
 use crate::row::Row;
 use block_device::Disk;
+use nbd_wire::Export;
 use share::{NoRecord, OneServer, Shared};
 use std::alloc::Global;
 use std::marker::Brand;
@@ -59,13 +61,13 @@ fn time_over<C: Clock, D: Disk + Drop, L: OneServer>(
     blank: Blank,
 ) -> Result<u64, Failure>
     requires size { length (D.facts disk).contents ≡ 512 * sectors }
-    requires sectors { sectors ≡ L.sectors }
+    requires sectors { L.export ≡ default_export sectors }
     requires name { blank.name ≡ L.name }
     requires parts { (blank.parts ≡ L.parts) × (blank.parts ≡ 65537) }
     requires unsaid { IsFalse L.sound }
 {
     let (count, length) = (case.commands(), case.length());
-    let mut server = Shared::<D, NoRecord, L>::new(disk, blank);
+    let mut server = Shared::<D, NoRecord, L>::new(disk, Export::default_for(sectors), blank);
     if case.is_read() {
         let writes = new_input(alloc, count, length, false)?;
         run(alloc, &mut server, &writes, told(count, length, false))?;

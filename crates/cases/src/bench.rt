@@ -1,4 +1,4 @@
-//! What a line finds: nothing, a chip, or one of the layers on it.
+//! What a line finds: nothing, a chip, one of the layers on it, or a session alone.
 
 use crate::came::Came;
 use crate::chip::{self, Loss};
@@ -11,6 +11,7 @@ use crate::map::{self, OnMap};
 use crate::names::Names;
 use crate::recorder::Recorder;
 use crate::refusals::{of_map, of_mount, of_probe, of_recovery};
+use crate::sessions::Pair;
 use crate::slots::{self, OnSlots};
 use crate::words::Words;
 use crate::{layout, memory, table};
@@ -25,7 +26,7 @@ use sector_slots::SlotCalls;
 use station::Station;
 use std::alloc::Global;
 
-/// A chip, or one of the layers on it.
+/// A chip, one of the layers on it, or what needs none.
 #[derive(Drop)]
 enum Layer {
     Empty,
@@ -38,6 +39,8 @@ enum Layer {
     Station(OnStation),
     /// A table of parameters alone.
     Table(Vec<u8>),
+    /// A session alone.
+    Session(Pair),
 }
 
 /// How many bytes the records of an event find room for, where `room` says nothing else.
@@ -67,6 +70,7 @@ impl Bench {
         match std::mem::replace(&mut self.layer, Layer::Empty) {
             Layer::Empty => Err(Fault::NotUnderstood),
             Layer::Table(_) => Err(Fault::NotUnderstood),
+            Layer::Session(_) => Err(Fault::NotUnderstood),
             Layer::Chip(chip) => Ok(chip),
             Layer::Driver(driver) => Ok(driver.into_inner()),
             Layer::Journal(journal) => Ok(journal.into_inner().into_inner()),
@@ -239,6 +243,7 @@ impl Bench {
             Layer::Slots(slots) => slots::run(alloc, names, slots, verb, words),
             Layer::Map(map) => map::run(alloc, names, map, verb, words),
             Layer::Table(bytes) => table::run(alloc, names, bytes, verb, words),
+            Layer::Session(pair) => pair.run(alloc, names, verb, words),
             Layer::Disk(disk) => disk::run(alloc, disk, verb, words),
             Layer::Station(station) => connections::run(
                 alloc, names, station, verb, words, self.room,
@@ -249,7 +254,9 @@ impl Bench {
     /// Arms a loss of power in the layer that is there.
     pub(crate) fn arm(&mut self, alloc: Global, loss: Loss) -> Result<(), Fault> {
         match &mut self.layer {
-            Layer::Empty | Layer::Table(_) => return Err(Fault::NotUnderstood),
+            Layer::Empty | Layer::Table(_) | Layer::Session(_) => {
+                return Err(Fault::NotUnderstood);
+            }
             Layer::Journal(journal) => journal.arm(loss.count, loss.kind, loss.mask),
             Layer::Slots(slots) => slots.arm(loss.count, loss.kind, loss.mask),
             Layer::Map(map) => map.arm(loss.count, loss.kind, loss.mask),
@@ -276,6 +283,16 @@ impl Bench {
         Ok(Came::Said("ok"))
     }
 
+    /// A session without a chip, and what it says first.
+    fn session(&mut self, alloc: Global, requests: bool, words: Words) -> Result<Came, Fault> {
+        let Some(pair) = Pair::open(alloc, requests, words)? else {
+            return Ok(Came::Said("no memory"));
+        };
+        let came = pair.greeting(alloc)?;
+        self.layer = Layer::Session(pair);
+        Ok(came)
+    }
+
     /// A line that takes a chip, or the table of one, from layer to layer.
     fn climb(&mut self, alloc: Global, verb: &str) -> Result<Came, Fault> {
         match verb {
@@ -292,8 +309,8 @@ impl Bench {
         }
     }
 
-    /// A line that needs no layer: `chip`, `size`, `room`, `written` and the readers of the layout,
-    /// `sent`. None where it is another.
+    /// A line that needs no layer: `chip`, `chip-of`, `session`, `requesting`, `room`, `sent`,
+    /// `layout`. None where it is another.
     fn on_nothing(
         &mut self,
         alloc: Global,
@@ -313,6 +330,8 @@ impl Bench {
                 words.end()?;
                 Came::Said("ok")
             }
+            "session" => self.session(alloc, false, words)?,
+            "requesting" => self.session(alloc, true, words)?,
             "sent" => table::sent(alloc, names, words)?,
             "layout" => {
                 let verb = words.word()?;

@@ -61,14 +61,22 @@ pub(crate) fn header_word(alloc: Global, header: Header) -> Result<Came, Fault> 
     }
 }
 
-/// What a mark says: `plain`, `void`, `committed` with the block that was copied, `settled`.
+/// What a mark says: `plain`, `void`, `committed` with the block that was copied, `settled`; or
+/// `group` with its number and generation, `dead group`, `spoilt group`.
 pub(crate) fn kind_word(alloc: Global, kind: Kind) -> Result<Came, Fault> {
     match kind {
         Kind::Plain => Ok(Came::Said("plain")),
         Kind::Void => Ok(Came::Said("void")),
         Kind::Settled => Ok(Came::Said("settled")),
+        Kind::DeadGroup => Ok(Came::Said("dead group")),
+        Kind::SpoiltGroup => Ok(Came::Said("spoilt group")),
         Kind::Unknown => Ok(Came::Said("unknown")),
         Kind::Committed(block) => Ok(Came::Text(format!(in alloc; "committed {block}")?)),
+        Kind::Group(tag) => {
+            let number = tag.number;
+            let generation = number_of(tag.generation);
+            Ok(Came::Text(format!(in alloc; "group {number} {generation}")?))
+        }
     }
 }
 
@@ -138,6 +146,7 @@ fn superblock(alloc: Global, names: &Names, words: Words, is_any: bool) -> Resul
         return Ok(Came::Said(match read_layout(&block, chip) {
             Ok(Layout::Groups) => "groups",
             Ok(Layout::Sectors) => "sectors",
+            Ok(Layout::Mixed) => "mixed",
             Err(error) => super_word(error),
         }));
     }

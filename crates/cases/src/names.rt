@@ -1,8 +1,8 @@
 //! Bytes that a text spells, and the names that a file gives some of them.
 
 use crate::fault::Fault;
-use spelling::SpellingError;
 use std::alloc::Global;
+use test_kit::SpellingError;
 
 /// A name, and the bytes that it stands for.
 #[derive(Drop)]
@@ -51,7 +51,7 @@ impl<'a> Names<'a> {
             bytes.extend_from_slice(found)?;
             return Ok(());
         }
-        match spelling::bytes_of(alloc, word) {
+        match test_kit::bytes_of(alloc, word) {
             Ok(more) => {
                 bytes.extend_from_slice(more.as_slice())?;
                 Ok(())
@@ -113,7 +113,12 @@ fn letter(word: &str) -> Result<u8, Fault> {
 }
 
 /// Appends a record of a transcript.
-fn push_record(records: &mut Vec<u8>, who: u8, kind: u8, bytes: &[u8]) -> Result<(), Fault> {
+pub(crate) fn push_record(
+    records: &mut Vec<u8>,
+    who: u8,
+    kind: u8,
+    bytes: &[u8],
+) -> Result<(), Fault> {
     let Ok(len) = u32::try_from(bytes.len()) else {
         return Err(Fault::NotUnderstood);
     };

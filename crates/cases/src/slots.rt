@@ -14,7 +14,7 @@ use crate::refusals::{of_nor, of_recovery};
 use crate::words::Words;
 use journal_slots::SectorSlots;
 use nor_driver::NorError;
-use nor_layout::{Header, Kind};
+use nor_layout::{Header, Kind, SUPER_LEN};
 use sector_slots::SlotCalls;
 use std::alloc::Global;
 
@@ -161,6 +161,24 @@ fn retire(slots: &mut OnSlots, slot: u16) -> Result<Came, Fault> {
     Ok(Came::Said(of_nor(slots.retire(slot))))
 }
 
+/// Makes a block of a group dead.
+fn retire_group(slots: &mut OnSlots, block: u16) -> Result<Came, Fault> {
+    if block >= slots.blocks() {
+        return Err(Fault::NotUnderstood);
+    }
+    Ok(Came::Said(of_nor(slots.retire_group(block))))
+}
+
+/// The first bytes of the superblock.
+fn superblock(alloc: Global, slots: &mut OnSlots) -> Result<Came, Fault> {
+    let mut into = Vec::new(alloc);
+    into.resize(SUPER_LEN, 0)?;
+    Ok(match slots.superblock(into.as_mut_slice()) {
+        Ok(()) => Came::Bytes(into),
+        Err(error) => Came::Said(of_nor(Err(error))),
+    })
+}
+
 /// A line of the slots.
 pub(crate) fn run(
     alloc: Global,
@@ -174,6 +192,9 @@ pub(crate) fn run(
         "begin" | "copy" | "erase" => return step(slots, verb, words),
         "commit" | "settle" => end(slots, verb, words.short()?)?,
         "retire" => retire(slots, words.short()?)?,
+        "retire-group" => retire_group(slots, words.short()?)?,
+        "superblock" => superblock(alloc, slots)?,
+        "mark" => Came::Said(of_nor(slots.mark())),
         "get" => content(alloc, slots, words.short()?, false)?,
         "content" => content(alloc, slots, words.short()?, true)?,
         "free" => is_free(slots, words.short()?)?,

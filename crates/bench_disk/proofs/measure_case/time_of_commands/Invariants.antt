@@ -1,3 +1,4 @@
+use Rattle.nbd_wire.specs.Commands.{default_export}
 use Rattle.std.proofs.Common.{false, []}
 use Rattle.bench_disk.proofs.measure_case.time_of_commands.Given as goal
 
@@ -7,4 +8,4 @@ ghosts-time_over-L-Ledger g a = record { name = a.blank.name; parts = a.blank.pa
 
 -- and its number of sectors
 abbrev pub ghosts-time_over-L-OneServer : goal.ghosts-time_over-L-OneServer
-ghosts-time_over-L-OneServer g a = record { sectors = a.sectors; sound = false; base = [] }
+ghosts-time_over-L-OneServer g a = record { export = default_export a.sectors; sound = false; base = [] }

@@ -1,0 +1,96 @@
+//! The files of images: what no contract says of them.
+
+use norbd_image::{ImageError, hold, write_image};
+use std::fs;
+use std::io::ErrorKind;
+use std::os::unix::fs::symlink;
+use std::test::*;
+
+#[test]
+fn a_file_is_replaced_as_a_whole(rt: HostRuntime) -> Result<(), Fail> {
+    fs::write(&rt, "replaced.img", b"more than three".as_slice())?;
+    fs::write(&rt, "replaced.img.0.new", b"taken".as_slice())?;
+    write_image(&rt, "replaced.img", &[1, 2, 3], false)?;
+    let replaced = fs::read(&rt, "replaced.img")?;
+    assert_eq!(rt; replaced.as_slice(), [1, 2, 3].as_slice());
+    let taken = fs::read(&rt, "replaced.img.0.new")?;
+    assert_eq!(rt; taken.as_slice(), b"taken".as_slice());
+    assert!(rt; !fs::exists(&rt, "replaced.img.1.new")?);
+    fs::remove_file(&rt, "replaced.img")?;
+    fs::remove_file(&rt, "replaced.img.0.new")?;
+    Ok(())
+}
+
+#[test]
+fn a_folder_is_left_alone(rt: HostRuntime) -> Result<(), Fail> {
+    fs::create_dir(&rt, "folder.img")?;
+    assert_eq!(rt;
+        write_image(&rt, "folder.img", &[1], true),
+        Err(ImageError::NotAFile)
+    );
+    assert!(rt; !fs::exists(&rt, "folder.img.0.new")?);
+    fs::remove_dir(&rt, "folder.img")?;
+    assert_eq!(rt;
+        write_image(&rt, "missing/a.img", &[1], true),
+        Err(ImageError::File(ErrorKind::NotFound))
+    );
+    Ok(())
+}
+
+#[test]
+fn a_link_stays_also_one_that_leads_to_nothing(rt: HostRuntime) -> Result<(), Fail> {
+    symlink(&rt, "target.img", "link.img")?;
+    for byte in [1u8, 2] {
+        write_image(&rt, "link.img", &[byte], false)?;
+        assert!(rt; fs::symlink_metadata(&rt, "link.img")?.is_symlink());
+        let target = fs::read(&rt, "target.img")?;
+        assert_eq!(rt; target.as_slice(), [byte].as_slice());
+    }
+    fs::remove_file(&rt, "link.img")?;
+    fs::remove_file(&rt, "target.img")?;
+    Ok(())
+}
+
+/// The name, a layout that is none, and the seal at its place: a chip that was formatted once.
+const HEAD: [u8; 16] = [
+    0x4E, 0x4F, 0x52, 0x42, 0x4C, 0x4B, 0x30, 0x31, 9, 0, 0, 0, 0, 0xFF, 0x00, 0xFF,
+];
+
+#[test]
+fn a_formatted_file_is_replaced_by_force_alone(rt: HostRuntime) -> Result<(), Fail> {
+    for (place, byte, answer) in [
+        (8, 9, Err(ImageError::Formatted)),
+        (0, 0x4F, Ok(())),
+        (14, 0xFF, Ok(())),
+    ] {
+        let mut head = HEAD;
+        if let Some(at) = head.get_mut(place) {
+            *at = byte;
+        }
+        fs::write(&rt, "held.img", head.as_slice())?;
+        let done = write_image(&rt, "held.img", &[1], false);
+        assert_eq!(rt; done, answer, "{place}");
+        let left = fs::read(&rt, "held.img")?;
+        assert_eq!(rt; left.len(), if done.is_ok() { 1 } else { 16 });
+        write_image(&rt, "held.img", &[1, 2], true)?;
+        let left = fs::read(&rt, "held.img")?;
+        assert_eq!(rt; left.as_slice(), [1, 2].as_slice());
+    }
+    Ok(fs::remove_file(&rt, "held.img")?)
+}
+
+#[test]
+fn a_held_file_is_neither_replaced_nor_held_again(rt: HostRuntime) -> Result<(), Fail> {
+    fs::write(&rt, "owned.img", b"mine".as_slice())?;
+    let held = hold(&rt, "owned.img")?;
+    assert_eq!(rt;
+        write_image(&rt, "owned.img", &[1], true),
+        Err(ImageError::InUse)
+    );
+    assert_eq!(rt; hold(&rt, "owned.img").err(), Some(ImageError::InUse));
+    let left = fs::read(&rt, "owned.img")?;
+    assert_eq!(rt; left.as_slice(), b"mine".as_slice());
+    drop(held);
+    write_image(&rt, "owned.img", &[1], false)?;
+    Ok(fs::remove_file(&rt, "owned.img")?)
+}

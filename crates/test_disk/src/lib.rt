@@ -1,0 +1,48 @@
+//! Tests of the chip side that are no cases of `cases`: chips whose memory is a file, a run of
+//! erases cut in each change, a long run of the map of sectors with losses, the disk's wear, a
+//! mount without memory, the files of images, what a loss of the host's power leaves of them, and a
+//! connection's text cut at each place.
+//!
+//! There is no product code here. `first_of_new` formats a chip, mounts it as a sound disk and
+//! reads its first sector, so that the contracts of `format`, `mount` and `read` meet: it is proved
+//! to give zeros. The chips are `fault_model::SimChip`, of 64 KiB.
+
+#![tactic(auto)]
+
+#[cfg(test)]
+mod chip_files;
+#[cfg(test)]
+mod cuttings;
+#[cfg(test)]
+mod first_sector;
+mod fresh;
+#[cfg(test)]
+mod host;
+#[cfg(test)]
+mod host_power;
+#[cfg(test)]
+mod image_files;
+#[cfg(test)]
+mod journal_chips;
+#[cfg(test)]
+mod journal_sweep;
+#[cfg(test)]
+mod long_run;
+#[cfg(test)]
+mod maps;
+#[cfg(test)]
+mod mount_memory;
+#[cfg(test)]
+mod phrases;
+#[cfg(test)]
+mod rows;
+#[cfg(test)]
+mod scripts;
+#[cfg(test)]
+mod station_wear;
+#[cfg(test)]
+mod wear;
+#[cfg(test)]
+mod writes;
+
+pub use fresh::first_of_new;

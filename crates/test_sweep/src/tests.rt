@@ -1,0 +1,105 @@
+//! The whole sweep.
+use crate::chip::{Chip, started, told};
+use crate::random::{script, shorten};
+use crate::sweeper::{Loss, Sweeper};
+use crate::totals::Totals;
+use std::alloc::Global;
+use std::process::Abort;
+use std::test::Fail;
+use test_judge::{Event, Judge, Request, Seen};
+use test_kit::MASKS;
+
+/// Sweeps a chip with the losses of a kind, in every frame that counts, with each mask. Each mask
+/// has the same first count without a loss.
+fn swept(rt: &impl Abort, alloc: Global, chip: Chip, kind: u8) -> Result<Totals, Fail> {
+    let mut sweeper = Sweeper::new(alloc, chip)?;
+    let mut totals = Totals::new(chip, kind);
+    for mask in MASKS {
+        let last = totals.first;
+        for count in 1..65_536u32 {
+            let came = totals.cut(&mut sweeper, Loss { count, kind, mask });
+            assert!(rt; came.is_ok(), "{came:?} in {:?}", sweeper.events());
+            if came.is_ok_and(|came| !came) {
+                break;
+            }
+        }
+        assert!(rt; last == 0 || totals.first == last, "mask {mask}");
+    }
+    assert_eq!(rt; totals.losses, totals.first.wrapping_sub(1).wrapping_mul(6));
+    assert!(rt; totals.seen.olds > 10_000 && totals.seen.news > 10_000);
+    Ok(totals)
+}
+
+/// Of the 359 changes on a formatted chip the first write of each sector makes 4, each later one 5,
+/// the one that copies a block 10 more, the TRIM of three sectors 3, and the tidying of a block of
+/// three live slots 16; on the prepared one two journals are renewed, by 5 changes each.
+#[test]
+fn every_change_is_lost(rt: HostRuntime) -> Result<(), Fail> {
+    for (chip, first) in [(Chip::Plain, 360u32), (Chip::Prepared, 370)] {
+        let totals = swept(&rt, rt.alloc(), chip, 1)?;
+        assert_eq!(rt; totals.first, first);
+        assert!(rt; totals.seen.lost_restores > 1_000);
+    }
+    Ok(())
+}
+
+/// A change is three frames and a status read at the least, and the last READ one for each sector.
+#[test]
+fn every_frame_is_lost(rt: HostRuntime) -> Result<(), Fail> {
+    for (chip, changes) in [(Chip::Plain, 359u32), (Chip::Prepared, 369)] {
+        let totals = swept(&rt, rt.alloc(), chip, 0)?;
+        assert!(rt; totals.first > 4 * changes + 70);
+    }
+    Ok(())
+}
+
+#[test]
+fn random_scripts_are_answered_as_by_the_array(rt: HostRuntime) -> Result<(), Fail> {
+    let alloc = rt.alloc();
+    for chip in [Chip::Plain, Chip::Prepared] {
+        let mut sweeper = Sweeper::new(alloc, chip)?;
+        let mut seen = Seen::nothing();
+        for seed in 0..500u32 {
+            let came = sweeper.run_all(script(alloc, seed)?.as_slice());
+            assert!(rt; came.is_ok(), "seed {seed}: {came:?}");
+            if let Ok(more) = came {
+                seen.add(more);
+            }
+        }
+        assert!(rt; seen.losses > 1_000 && seen.replies > 10_000, "{seen:?}");
+    }
+    Ok(())
+}
+
+/// On a chip whose sector 5 was written before, of which the array knows nothing: a connection and
+/// a READ are left.
+#[test]
+fn a_wrong_answer_is_shortened(rt: HostRuntime) -> Result<(), Fail> {
+    let alloc = rt.alloc();
+    let mut sweeper = Sweeper::new(alloc, Chip::Plain)?;
+    let mut station = started(alloc, sweeper.memory.as_slice())?;
+    let mut records = Vec::new(alloc);
+    let mut judge = Judge::new(alloc)?;
+    judge.record(Event::Open(0), &mut records)?;
+    judge.record(Event::Ask(0, Request::Write(5, 1, 0x77), 0), &mut records)?;
+    let mut room = [0u8; 1_000];
+    told(&mut station, records.as_slice(), &mut room)?;
+    sweeper.memory = station.into_inner().into_inner().into_inner();
+    let mut wrong = Vec::new(alloc);
+    for seed in 0..40u32 {
+        let events = script(alloc, seed)?;
+        if sweeper.run_all(events.as_slice()).is_err() {
+            wrong = events;
+            break;
+        }
+    }
+    let events = shorten(&mut sweeper, alloc, wrong)?;
+    assert!(rt; sweeper.run_all(events.as_slice()).is_err());
+    match events.as_slice() {
+        [
+            Event::Open(one),
+            Event::Ask(other, Request::Read(first, count), 0),
+        ] if *one == *other && *first <= 5 && first.wrapping_add(*count) > 5 => Ok(()),
+        _ => Err(Fail::new(format_args!("{events:?}"))),
+    }
+}
