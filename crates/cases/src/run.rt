@@ -164,8 +164,51 @@ impl<'a> Case<'a> {
         Ok(())
     }
 
+    /// Loses the power once more in this change of the first line after a loss; 0 for none. False
+    /// where it doesn't come.
+    fn is_lost_again(
+        &mut self,
+        alloc: Global,
+        names: &Names,
+        losses: &Losses,
+        loss: Loss,
+        second: u32,
+    ) -> Result<bool, Wrong> {
+        let Some(recovery) = losses.lines.first() else {
+            return Ok(true);
+        };
+        if second == 0 {
+            return Ok(true);
+        }
+        let again = Loss {
+            count: second,
+            kind: loss.kind,
+            mask: loss.mask,
+        };
+        at(*recovery, self.is_lost(alloc, names, *recovery, again))
+    }
+
     /// Loses the power once, and then once more in this change of the first line after it; 0 for
     /// none. False where one of the two doesn't come.
+    fn outlives(
+        &mut self,
+        alloc: Global,
+        names: &Names,
+        losses: &Losses,
+        loss: Loss,
+        second: u32,
+    ) -> Result<bool, Wrong> {
+        if !at(losses.of, self.is_lost(alloc, names, losses.of, loss))? {
+            return Ok(false);
+        }
+        if !self.is_lost_again(alloc, names, losses, loss, second)? {
+            return Ok(false);
+        }
+        self.after(alloc, names, losses, (loss, second))?;
+        Ok(true)
+    }
+
+    /// `outlives`, of the case as it is now, which stays so.
     fn one_loss(
         &self,
         alloc: Global,
@@ -175,23 +218,7 @@ impl<'a> Case<'a> {
         second: u32,
     ) -> Result<bool, Wrong> {
         let mut case = self.again(alloc, names)?;
-        if !at(losses.of, case.is_lost(alloc, names, losses.of, loss))? {
-            return Ok(false);
-        }
-        if let Some(recovery) = losses.lines.first()
-            && second != 0
-        {
-            let again = Loss {
-                count: second,
-                kind: loss.kind,
-                mask: loss.mask,
-            };
-            if !at(*recovery, case.is_lost(alloc, names, *recovery, again))? {
-                return Ok(false);
-            }
-        }
-        case.after(alloc, names, losses, (loss, second))?;
-        Ok(true)
+        case.outlives(alloc, names, losses, loss, second)
     }
 
     /// Loses the power once, and once more in each change of the recovery where that is asked for.
@@ -236,6 +263,17 @@ impl<'a> Case<'a> {
         Ok(true)
     }
 
+    /// Whether the line has another change after those in which the power was lost.
+    fn has_more(&self, alloc: Global, names: &Names, losses: &Losses) -> Result<bool, Wrong> {
+        let next = Loss {
+            count: losses.to.saturating_add(1),
+            kind: losses.kind,
+            mask: 0xFF,
+        };
+        let mut case = self.again(alloc, names)?;
+        at(losses.of, case.is_lost(alloc, names, losses.of, next))
+    }
+
     /// Loses the power in each change that is asked for. Where it is asked of each, the line makes
     /// no more of them, and comes out well.
     pub(crate) fn each_loss(
@@ -249,16 +287,7 @@ impl<'a> Case<'a> {
                 return Err(wrong_number(alloc, losses.of, count.saturating_sub(1), false));
             }
         }
-        if !losses.all {
-            return Ok(());
-        }
-        let next = Loss {
-            count: losses.to.saturating_add(1),
-            kind: losses.kind,
-            mask: 0xFF,
-        };
-        let mut case = self.again(alloc, names)?;
-        if at(losses.of, case.is_lost(alloc, names, losses.of, next))? {
+        if losses.all && self.has_more(alloc, names, losses)? {
             return Err(wrong_number(alloc, losses.of, losses.to, true));
         }
         Ok(())
