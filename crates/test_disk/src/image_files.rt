@@ -2,20 +2,24 @@
 
 use norbd_image::{ImageError, hold, write_image};
 use std::fs;
+use std::fs::Permissions;
 use std::io::ErrorKind;
-use std::os::unix::fs::symlink;
+use std::os::unix::fs::{PermissionsExt, symlink};
 use std::test::*;
 
 #[test]
 fn a_file_is_replaced_as_a_whole(rt: HostRuntime) -> Result<(), Fail> {
     fs::write(&rt, "replaced.img", b"more than three".as_slice())?;
     fs::write(&rt, "replaced.img.0.new", b"taken".as_slice())?;
+    fs::set_permissions(&rt, "replaced.img", Permissions::from_mode(0o604))?;
     write_image(&rt, "replaced.img", &[1, 2, 3], false)?;
     let replaced = fs::read(&rt, "replaced.img")?;
     assert_eq!(rt; replaced.as_slice(), [1, 2, 3].as_slice());
     let taken = fs::read(&rt, "replaced.img.0.new")?;
     assert_eq!(rt; taken.as_slice(), b"taken".as_slice());
     assert!(rt; !fs::exists(&rt, "replaced.img.1.new")?);
+    let mode = fs::metadata(&rt, "replaced.img")?.permissions().mode();
+    assert_eq!(rt; mode & 0o777, 0o604);
     fs::remove_file(&rt, "replaced.img")?;
     fs::remove_file(&rt, "replaced.img.0.new")?;
     Ok(())

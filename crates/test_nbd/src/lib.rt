@@ -12,6 +12,8 @@ mod heads;
 #[cfg(test)]
 mod line;
 #[cfg(test)]
+mod order;
+#[cfg(test)]
 mod server;
 #[cfg(test)]
 mod sessions;

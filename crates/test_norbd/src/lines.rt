@@ -334,31 +334,64 @@ fn ends_with_the_fault_of_a_stream(rt: HostRuntime) -> Result<(), Fail> {
 
 #[test]
 fn formats_an_image(rt: HostRuntime) -> Result<(), Fail> {
-    let alloc = rt.alloc();
-    for (room, output, fault) in [
-        (64, "formatted 70 sectors\n", ""),
-        (9, "formatted", "output failed"),
-    ] {
-        let streams = Streams { room, ..cut(0, 0) };
-        let expected = Expected {
-            output: output.as_bytes(),
-            fault,
-        };
-        let line = Line::Format {
-            image: "formatted.img",
-            kib: 64,
-            force: false,
-        };
-        check(&rt, alloc, line, &[], streams, expected)?;
-        let image = fs::read(&rt, "formatted.img")?;
-        assert_eq!(rt; image.len(), 65_536);
-        let (superblock, rest) = image.split_at(16);
-        let expected = bytes_of(alloc, "4E4F52424C4B3031 02 1000 0A00 FF 00 FF")?;
-        assert_eq!(rt; superblock, expected.as_slice());
-        assert!(rt; rest.iter().all(|byte| *byte == 0xFF));
-        fs::remove_file(&rt, "formatted.img")?;
+    let small = "4E4F52424C4B3031 02 1000 0A00 FF 00 FF";
+    let large = "4E4F52424C4B3031 02 0010 FC0D FF 00 FF";
+    check_format(&rt, 64, 64, told("formatted 70 sectors\n", ""), small)?;
+    check_format(&rt, 64, 9, told("formatted", "output failed"), small)?;
+    check_format(
+        &rt,
+        16_384,
+        64,
+        told("formatted 25060 sectors\n", ""),
+        large,
+    )
+}
+
+/// An output, and the fault behind it.
+fn told<'a>(output: &'a str, fault: &'a str) -> Expected<'a> {
+    Expected {
+        output: output.as_bytes(),
+        fault,
     }
-    Ok(())
+}
+
+/// A chip of so many KiB is formatted: what is told where there is so much room, its file's
+/// superblock, and that it is erased behind it.
+fn check_format<R>(
+    rt: &R,
+    kib: u32,
+    room: usize,
+    expected: Expected<'_>,
+    head: &str,
+) -> Result<(), Fail>
+where
+    R: Abort
+        + Files
+        + AllocGlobal
+        + Threads
+        + Wait
+        + Sync
+        + Clock
+        + Log
+        + Net<Listener = TcpListener, Stream = TcpStream>,
+    R::File: ImageFile + Send + Sync,
+    requires { IsSize kib }
+{
+    let alloc = rt.alloc();
+    let streams = Streams { room, ..cut(0, 0) };
+    let line = Line::Format {
+        image: "formatted.img",
+        kib,
+        force: false,
+    };
+    check(rt, alloc, line, &[], streams, expected)?;
+    let image = fs::read(rt, "formatted.img")?;
+    assert_eq!(rt; image.len(), 1_024 * kib as usize);
+    let (superblock, rest) = image.split_at(16);
+    let expected = bytes_of(alloc, head)?;
+    assert_eq!(rt; superblock, expected.as_slice());
+    assert!(rt; rest.iter().all(|byte| *byte == 0xFF));
+    Ok(fs::remove_file(rt, "formatted.img")?)
 }
 
 /// Connection 0 is opened, and begins the transmission: its flags, and GO `flash`.
