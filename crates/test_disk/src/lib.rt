@@ -35,6 +35,8 @@ mod mount_memory;
 #[cfg(test)]
 mod phrases;
 #[cfg(test)]
+mod replacing;
+#[cfg(test)]
 mod rows;
 #[cfg(test)]
 mod scripts;
