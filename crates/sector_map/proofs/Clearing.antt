@@ -22,7 +22,7 @@ use Rattle.sector_slots.specs.Sectors.{zeros, LiveAt, absent, IsAbsent, sector_a
 use Rattle.sector_slots.specs.Steps.{IsRetirable, OnlyPlace}
 use Rattle.erase_journal.proofs.SettledLaws.{settled-healthy}
 use Rattle.sector_slots.proofs.WinnerLaws.{sector-one, sector-content-is}
-use Rattle.sector_map.specs.Maps.{SetsMixed, SetMixedLeaves, IsServing, Wrote}
+use Rattle.sector_map.specs.Maps.{Sets, SetLeaves, IsServing, Wrote}
 use Rattle.sector_map.specs.Replace.{HeldBy, IsInSlots}
 use Rattle.sector_map.specs.Table.{IsTableOf, IsOneAtMost, Unset, holder}
 use Rattle.sector_map.specs.declared.held.Held.{Held}
@@ -31,7 +31,7 @@ use Rattle.sector_map.specs.declared.entry.Entry.TheVariants.{Absent}
 use Rattle.sector_map.proofs.Places.{others-kept, slot-only, placed-settled, live-placed, holds-computed}
 use Rattle.sector_map.proofs.Replacing.{held-step, single-at, not-dead}
 use Rattle.sector_map.proofs.MapSteps.{named-table}
-use Rattle.sector_map.proofs.MapCalls.{on-chip, keeps-holds, mixed-none, with-there, with-other}
+use Rattle.sector_map.proofs.MapCalls.{on-chip, keeps-holds, keeps-none, with-there, with-other}
 use Rattle.sector_map.proofs.Retiring.{single-tabled, table-holder}
 
 -- what the retirement of a sector's slot leaves
@@ -79,7 +79,7 @@ table-without table table' m m' g r t s =
           (r.others h (holder (slice_index_or table h Absent)) other (table-holder table m h t (omega (arith, low, s.size))))
     ])
 
-sets-zeros : (g : ℕ) (m m' : List ℕ) → SameChip m m' → HoldsSectors (with_sector (sector_at m) g zeros) m' → (HasSlotsAlone m → HasSlotsAlone m') → IsHealthy m' → (IsClean m → IsClean m') → g < sector_count (length m) → SetsMixed g zeros m m'
+sets-zeros : (g : ℕ) (m m' : List ℕ) → SameChip m m' → HoldsSectors (with_sector (sector_at m) g zeros) m' → (HasSlotsAlone m → HasSlotsAlone m') → IsHealthy m' → (IsClean m → IsClean m') → g < sector_count (length m) → Sets g zeros m m'
 sets-zeros g m m' chip holds alone healthy clean low = record {
   chip = chip;
   store = record { journals = healthy; slots = holds-sound m' (with_sector (sector_at m) g zeros) holds };
@@ -113,7 +113,7 @@ clear-done g o a c table table' indexed is s hold only dead clean done low unset
 
 -- one that was cut
 pub clear-cut : (g : ℕ) (o : Held) (a : NorState) (m' : List ℕ) (table : List Entry) (indexed : Bool) → IsServing table a indexed → HeldBy (Some o) g a.memory → OnlyPlace o.slot a.memory m'
-    → (slot_at m' o.slot ≡ slot_at a.memory o.slot) ⊎ (slot_at m' o.slot ≡ Dead) → (IsClean a.memory → IsClean m') → IsHealthy m' → g < sector_count (length a.memory) → SetMixedLeaves g zeros a.memory m'
+    → (slot_at m' o.slot ≡ slot_at a.memory o.slot) ⊎ (slot_at m' o.slot ≡ Dead) → (IsClean a.memory → IsClean m') → IsHealthy m' → g < sector_count (length a.memory) → SetLeaves g zeros a.memory m'
 clear-cut g o a m' table indexed s hold only (inr dead) clean healthy low =
     let h = cleared g o a.memory m' only dead s.store.slots (single-tabled table a.memory s.tabled) s.blocks hold in
     inr (sets-zeros g a.memory m' h.chip h.sectors h.alone healthy clean low)
@@ -136,7 +136,7 @@ clear-cut g o a m' table indexed s (y, l) only (inl same) clean healthy low =
 pub clear-none : (g : ℕ) (a : NorState) (table : List Entry) (indexed : Bool) → IsServing table a indexed → HeldBy None g a.memory → Wrote g zeros table a a indexed
 clear-none g a table indexed s none =
     let m = a.memory in
-    let k = mixed-none m s.store in
+    let k = keeps-none m s.store in
     record {
       sets = record {
         chip = k.chip;

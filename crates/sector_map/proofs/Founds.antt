@@ -1,6 +1,6 @@
 -- The kinds of the blocks, read one by one.
 use Rattle.std.proofs.Common.{◌≡◌, ◌≢◌, ℕ, suc, ◌+◌, ◌-◌, ◌*◌, ◌<◌, ◌≤◌, ◌⊎◌, Bool, true, false, List, refl, sym, ap, ◌∙◌, subst, arith, inl, inr}
-use Rattle.std.specs.Prelude.{Some, None, ◌/◌, ◌%◌, ◌==◌, ◌&&◌, ◌||◌, not, nat_le}
+use Rattle.std.specs.Prelude.{Option, Some, None, if◌then◌else◌, ◌/◌, ◌%◌, ◌==◌, ◌&&◌, ◌||◌, not, nat_le}
 use Rattle.std.proofs.lemmas.Bool.{cases_eq, eq-eqb, ne_eqb}
 use Rattle.std.proofs.lemmas.Bool.Decides.{leb_tells}
 use Rattle.nor_layout.specs.declared.header.Tag.{Tag}
@@ -14,7 +14,7 @@ use Rattle.sector_slots.specs.Blocks.{IsAtRest, IsCopying, IsTarget, SoundBlocks
 use Rattle.sector_slots.proofs.BlockLaws.{sound-no_fault}
 use Rattle.sector_slots.proofs.CopyLaws.{counted-in, counted-void, counted-source, at-rest-counts, at-rest-copies, copies-none, void-copies, committed-copies, source-copies}
 use Rattle.sector_map.specs.Scan.{HeadsOf}
-use Rattle.sector_map.specs.Found.{FoundIn, RestBelow, VoidBelow, CommittedBelow, FoundBelow, noted_first, noted_next, noted_kind, block_counts}
+use Rattle.sector_map.specs.Found.{FoundIn, RestBelow, VoidBelow, CommittedBelow, FoundBelow, noted_first, noted_next, noted_kind, noted_where, block_counts}
 use Rattle.sector_map.specs.declared.found.Found.{Found}
 use Rattle.sector_map.specs.declared.found.Found.TheVariants.{AtRest, Void, Committed}
 
@@ -29,6 +29,15 @@ plain-rest k e = subst (λ a. IsAtRest a) (sym e) tt
 
 settled-rest : (k : Kind) → k ≡ kinds.Settled → IsAtRest k
 settled-rest k e = subst (λ a. IsAtRest a) (sym e) tt
+
+group-rest : (k : Kind) (tag : Tag) → k ≡ kinds.Group tag → IsAtRest k
+group-rest k tag e = subst (λ a. IsAtRest a) (sym e) tt
+
+dead-rest : (k : Kind) → k ≡ kinds.DeadGroup → IsAtRest k
+dead-rest k e = subst (λ a. IsAtRest a) (sym e) tt
+
+spoilt-rest : (k : Kind) → k ≡ kinds.SpoiltGroup → IsAtRest k
+spoilt-rest k e = subst (λ a. IsAtRest a) (sym e) tt
 
 -- one more block at rest
 rest-more : (found : Found) (kind : ℕ → Kind) (k n : ℕ) → IsAtRest (kind k) → FoundBelow found kind k n → FoundBelow found kind (suc k) n
@@ -90,9 +99,9 @@ first-step (kinds.Committed b) found' kind k n here e h = elim (fit-cases b k n)
   | inr unfit ↦ (let q : None ≡ Some found' = rw unfit.0 at e in absurd (none-found found' q))
 ]
 first-step kinds.Settled found' kind k n here e h = same-found AtRest found' kind k n (settled-rest (kind k) here) e h
-first-step (kinds.Group tag) found' kind k n here e h = absurd (none-found found' e)
-first-step kinds.DeadGroup found' kind k n here e h = absurd (none-found found' e)
-first-step kinds.SpoiltGroup found' kind k n here e h = absurd (none-found found' e)
+first-step (kinds.Group tag) found' kind k n here e h = same-found AtRest found' kind k n (group-rest (kind k) tag here) e h
+first-step kinds.DeadGroup found' kind k n here e h = same-found AtRest found' kind k n (dead-rest (kind k) here) e h
+first-step kinds.SpoiltGroup found' kind k n here e h = same-found AtRest found' kind k n (spoilt-rest (kind k) here) e h
 first-step kinds.Unknown found' kind k n here e h = absurd (none-found found' e)
 
 next-step : (q : Kind) (found found' : Found) (kind : ℕ → Kind) (k n : ℕ) → kind k ≡ q → noted_next found q ≡ Some found' → FoundBelow found kind k n → FoundBelow found' kind (suc k) n
@@ -100,9 +109,9 @@ next-step kinds.Plain found found' kind k n here e h = same-found found found' k
 next-step kinds.Void found found' kind k n here e h = absurd (none-found found' e)
 next-step (kinds.Committed b) found found' kind k n here e h = absurd (none-found found' e)
 next-step kinds.Settled found found' kind k n here e h = same-found found found' kind k n (settled-rest (kind k) here) e h
-next-step (kinds.Group tag) found found' kind k n here e h = absurd (none-found found' e)
-next-step kinds.DeadGroup found found' kind k n here e h = absurd (none-found found' e)
-next-step kinds.SpoiltGroup found found' kind k n here e h = absurd (none-found found' e)
+next-step (kinds.Group tag) found found' kind k n here e h = same-found found found' kind k n (group-rest (kind k) tag here) e h
+next-step kinds.DeadGroup found found' kind k n here e h = same-found found found' kind k n (dead-rest (kind k) here) e h
+next-step kinds.SpoiltGroup found found' kind k n here e h = same-found found found' kind k n (spoilt-rest (kind k) here) e h
 next-step kinds.Unknown found found' kind k n here e h = absurd (none-found found' e)
 
 pub found-step : (found found' : Found) (kind : ℕ → Kind) (k n : ℕ) → noted_kind found k (kind k) n ≡ Some found' → FoundBelow found kind k n → FoundBelow found' kind (suc k) n
@@ -110,84 +119,81 @@ found-step AtRest found' kind k n e h = first-step (kind k) found' kind k n refl
 found-step (Void t) found' kind k n e h = next-step (kind k) (Void t) found' kind k n refl e h
 found-step (Committed s t) found' kind k n e h = next-step (kind k) (Committed s t) found' kind k n refl e h
 
--- a block of a group is refused
-first-alone : (q : Kind) (found' : Found) (k n : ℕ) → noted_first k q n ≡ Some found' → is_group q ≡ false
-first-alone kinds.Plain found' k n e = refl
-first-alone kinds.Void found' k n e = refl
-first-alone (kinds.Committed b) found' k n e = refl
-first-alone kinds.Settled found' k n e = refl
-first-alone (kinds.Group tag) found' k n e = absurd (none-found found' e)
-first-alone kinds.DeadGroup found' k n e = absurd (none-found found' e)
-first-alone kinds.SpoiltGroup found' k n e = absurd (none-found found' e)
-first-alone kinds.Unknown found' k n e = refl
+-- a block of a group is refused where none may be
+where-cases : (groups here : Bool) (o : Option Found) (found : Found) → (if here && not groups then None else o) ≡ Some found → (o ≡ Some found) × (groups ≡ false → here ≡ false)
+where-cases true true o found e = (e, λ q. absurd (let h : true ≡ false = q in cc))
+where-cases true false o found e = (e, λ q. refl)
+where-cases false true o found e = absurd (none-found found e)
+where-cases false false o found e = (e, λ q. refl)
 
-next-alone : (q : Kind) (found found' : Found) → noted_next found q ≡ Some found' → is_group q ≡ false
-next-alone kinds.Plain found found' e = refl
-next-alone kinds.Void found found' e = refl
-next-alone (kinds.Committed b) found found' e = refl
-next-alone kinds.Settled found found' e = refl
-next-alone (kinds.Group tag) found found' e = absurd (none-found found' e)
-next-alone kinds.DeadGroup found found' e = absurd (none-found found' e)
-next-alone kinds.SpoiltGroup found found' e = absurd (none-found found' e)
-next-alone kinds.Unknown found found' e = refl
+where-none : (groups here : Bool) (o : Option Found) → (if here && not groups then None else o) ≡ None → (o ≡ None) ⊎ ((groups ≡ false) × (here ≡ true))
+where-none true true o e = inl e
+where-none true false o e = inl e
+where-none false true o e = inr (refl, refl)
+where-none false false o e = inl e
 
-noted-alone : (found found' : Found) (q : Kind) (k n : ℕ) → noted_kind found k q n ≡ Some found' → is_group q ≡ false
-noted-alone AtRest found' q k n e = first-alone q found' k n e
-noted-alone (Void t) found' q k n e = next-alone q (Void t) found' e
-noted-alone (Committed s t) found' q k n e = next-alone q (Committed s t) found' e
+pub allowed-noted : (groups : Bool) (found found' : Found) (k : ℕ) (q : Kind) (n : ℕ) → noted_where groups found k q n ≡ Some found' → noted_kind found k q n ≡ Some found'
+allowed-noted groups found found' k q n e = (where-cases groups (is_group q) (noted_kind found k q n) found' e).0
 
-pub alone-more : (found found' : Found) (kind : ℕ → Kind) (k n : ℕ) → noted_kind found k (kind k) n ≡ Some found' → ((d : ℕ) → d < k → is_group (kind d) ≡ false) → (d : ℕ) → d < suc k → is_group (kind d) ≡ false
-alone-more found found' kind k n e below d low = elim (cases_eq d k) as (λ _. is_group (kind d) ≡ false) [
-  | inl same ↦ ap (λ a. is_group (kind a)) same ∙ noted-alone found found' (kind k) k n e
-  | inr other ↦ below d (omega (arith, low, other))
+pub alone-more : (groups : Bool) (found found' : Found) (kind : ℕ → Kind) (k n : ℕ) → noted_where groups found k (kind k) n ≡ Some found' → (groups ≡ false → (d : ℕ) → d < k → is_group (kind d) ≡ false) → groups ≡ false → (d : ℕ) → d < suc k → is_group (kind d) ≡ false
+alone-more groups found found' kind k n e below none d low = elim (cases_eq d k) as (λ _. is_group (kind d) ≡ false) [
+  | inl same ↦ ap (λ a. is_group (kind a)) same ∙ (where-cases groups (is_group (kind k)) (noted_kind found k (kind k) n) found' e).1 none
+  | inr other ↦ below none d (omega (arith, low, other))
 ]
 
 true-false : true ≡ false → ⊥
 true-false e = cc
 
--- a block that is refused, and isn't of a group, is a fault
+-- a block that is refused for its kind is a fault
 void-busy : (k : Kind) → k ≡ kinds.Void → IsAtRest k → ⊥
 void-busy k e r = subst (λ a. IsAtRest a) e r
 
 committed-busy : (k : Kind) (b : ℕ) → k ≡ kinds.Committed b → IsAtRest k → ⊥
 committed-busy k b e r = subst (λ a. IsAtRest a) e r
 
-first-fault : (q : Kind) (kind : ℕ → Kind) (slots : ℕ → ℕ → Slot) (k n : ℕ) → kind k ≡ q → noted_first k q n ≡ None → k < n → is_group q ≡ false → BlocksHaveNoFault kind slots n → ⊥
-first-fault kinds.Plain kind slots k n here e low own h = none-found AtRest (sym e)
-first-fault kinds.Void kind slots k n here e low own h = none-found (Void k) (sym e)
-first-fault (kinds.Committed b) kind slots k n here e low own h = elim (fit-cases b k n) [
+first-fault : (q : Kind) (kind : ℕ → Kind) (slots : ℕ → ℕ → Slot) (k n : ℕ) → kind k ≡ q → noted_first k q n ≡ None → k < n → BlocksHaveNoFault kind slots n → ⊥
+first-fault kinds.Plain kind slots k n here e low h = none-found AtRest (sym e)
+first-fault kinds.Void kind slots k n here e low h = none-found (Void k) (sym e)
+first-fault (kinds.Committed b) kind slots k n here e low h = elim (fit-cases b k n) [
   | inl fit ↦ (let q : Some (Committed (b - 4) k) ≡ None = rw fit.0 at e in absurd (none-found (Committed (b - 4) k) (sym q)))
   | inr unfit ↦
       let p = h.source k b low here in
       unfit.1 (record { least = p.0; most = p.1; other = p.2 })
 ]
-first-fault kinds.Settled kind slots k n here e low own h = none-found AtRest (sym e)
-first-fault (kinds.Group tag) kind slots k n here e low own h = true-false own
-first-fault kinds.DeadGroup kind slots k n here e low own h = true-false own
-first-fault kinds.SpoiltGroup kind slots k n here e low own h = true-false own
-first-fault kinds.Unknown kind slots k n here e low own h = h.known k low here
+first-fault kinds.Settled kind slots k n here e low h = none-found AtRest (sym e)
+first-fault (kinds.Group tag) kind slots k n here e low h = none-found AtRest (sym e)
+first-fault kinds.DeadGroup kind slots k n here e low h = none-found AtRest (sym e)
+first-fault kinds.SpoiltGroup kind slots k n here e low h = none-found AtRest (sym e)
+first-fault kinds.Unknown kind slots k n here e low h = h.known k low here
 
 -- another block into which something is copied
 busy-fault : (kind : ℕ → Kind) (slots : ℕ → ℕ → Slot) (k t n : ℕ) → k < n → t < k → (IsAtRest (kind k) → ⊥) → (IsAtRest (kind t) → ⊥) → BlocksHaveNoFault kind slots n → ⊥
 busy-fault kind slots k t n low below a b h = elim (h.one k t low (omega (arith, low, below)) (λ e. omega (arith, e, below))) [ inl r ↦ a r | inr r ↦ b r ]
 
-next-fault : (q : Kind) (found : Found) (kind : ℕ → Kind) (slots : ℕ → ℕ → Slot) (k t n : ℕ) → kind k ≡ q → noted_next found q ≡ None → k < n → is_group q ≡ false → t < k → (IsAtRest (kind t) → ⊥) → BlocksHaveNoFault kind slots n → ⊥
-next-fault kinds.Plain found kind slots k t n here e low own below busy h = none-found found (sym e)
-next-fault kinds.Void found kind slots k t n here e low own below busy h = busy-fault kind slots k t n low below (void-busy (kind k) here) busy h
-next-fault (kinds.Committed b) found kind slots k t n here e low own below busy h = busy-fault kind slots k t n low below (committed-busy (kind k) b here) busy h
-next-fault kinds.Settled found kind slots k t n here e low own below busy h = none-found found (sym e)
-next-fault (kinds.Group tag) found kind slots k t n here e low own below busy h = true-false own
-next-fault kinds.DeadGroup found kind slots k t n here e low own below busy h = true-false own
-next-fault kinds.SpoiltGroup found kind slots k t n here e low own below busy h = true-false own
-next-fault kinds.Unknown found kind slots k t n here e low own below busy h = h.known k low here
+next-fault : (q : Kind) (found : Found) (kind : ℕ → Kind) (slots : ℕ → ℕ → Slot) (k t n : ℕ) → kind k ≡ q → noted_next found q ≡ None → k < n → t < k → (IsAtRest (kind t) → ⊥) → BlocksHaveNoFault kind slots n → ⊥
+next-fault kinds.Plain found kind slots k t n here e low below busy h = none-found found (sym e)
+next-fault kinds.Void found kind slots k t n here e low below busy h = busy-fault kind slots k t n low below (void-busy (kind k) here) busy h
+next-fault (kinds.Committed b) found kind slots k t n here e low below busy h = busy-fault kind slots k t n low below (committed-busy (kind k) b here) busy h
+next-fault kinds.Settled found kind slots k t n here e low below busy h = none-found found (sym e)
+next-fault (kinds.Group tag) found kind slots k t n here e low below busy h = none-found found (sym e)
+next-fault kinds.DeadGroup found kind slots k t n here e low below busy h = none-found found (sym e)
+next-fault kinds.SpoiltGroup found kind slots k t n here e low below busy h = none-found found (sym e)
+next-fault kinds.Unknown found kind slots k t n here e low below busy h = h.known k low here
 
-none-fault : (found : Found) (kind : ℕ → Kind) (slots : ℕ → ℕ → Slot) (k n : ℕ) → noted_kind found k (kind k) n ≡ None → k < n → is_group (kind k) ≡ false → FoundBelow found kind k n → BlocksHaveNoFault kind slots n → ⊥
-none-fault AtRest kind slots k n e low own f h = first-fault (kind k) kind slots k n refl e low own h
-none-fault (Void t) kind slots k n e low own f h = next-fault (kind k) (Void t) kind slots k t n refl e low own f.number (void-busy (kind t) f.void) h
-none-fault (Committed s t) kind slots k n e low own f h = next-fault (kind k) (Committed s t) kind slots k t n refl e low own f.number (committed-busy (kind t) (s + 4) f.committed) h
+none-fault : (found : Found) (kind : ℕ → Kind) (slots : ℕ → ℕ → Slot) (k n : ℕ) → noted_kind found k (kind k) n ≡ None → k < n → FoundBelow found kind k n → BlocksHaveNoFault kind slots n → ⊥
+none-fault AtRest kind slots k n e low f h = first-fault (kind k) kind slots k n refl e low h
+none-fault (Void t) kind slots k n e low f h = next-fault (kind k) (Void t) kind slots k t n refl e low f.number (void-busy (kind t) f.void) h
+none-fault (Committed s t) kind slots k n e low f h = next-fault (kind k) (Committed s t) kind slots k t n refl e low f.number (committed-busy (kind t) (s + 4) f.committed) h
 
-pub found-fault : (found : Found) (kind : ℕ → Kind) (slots : ℕ → ℕ → Slot) (k n : ℕ) → noted_kind found k (kind k) n ≡ None → k < n → is_group (kind k) ≡ false → FoundBelow found kind k n → SoundBlocks kind slots n → ⊥
-found-fault found kind slots k n e low own f s = none-fault found kind slots k n e low own f ((sound-no_fault kind slots n).0 s)
+found-fault : (found : Found) (kind : ℕ → Kind) (slots : ℕ → ℕ → Slot) (k n : ℕ) → noted_kind found k (kind k) n ≡ None → k < n → FoundBelow found kind k n → SoundBlocks kind slots n → ⊥
+found-fault found kind slots k n e low f s = none-fault found kind slots k n e low f ((sound-no_fault kind slots n).0 s)
+
+pub where-fault : (groups : Bool) (found : Found) (kind : ℕ → Kind) (slots : ℕ → ℕ → Slot) (k n : ℕ) → noted_where groups found k (kind k) n ≡ None → k < n → FoundBelow found kind k n → SoundBlocks kind slots n
+    → (groups ≡ false → (d : ℕ) → d < n → is_group (kind d) ≡ false) → ⊥
+where-fault groups found kind slots k n e low f s alone = elim (where-none groups (is_group (kind k)) (noted_kind found k (kind k) n) e) [
+  | inl none ↦ found-fault found kind slots k n none low f s
+  | inr p ↦ true-false (sym p.1 ∙ alone p.0 k low)
+]
 
 -- what is found of all blocks
 pub void-target : (t n : ℕ) (kind : ℕ → Kind) → VoidBelow t kind n → IsTarget t n kind

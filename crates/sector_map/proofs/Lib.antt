@@ -1,4 +1,3 @@
-pub mod Alone
 pub mod Looking
 pub mod Places
 pub mod Founds
@@ -6,11 +5,14 @@ pub mod Replacing
 pub mod Tables
 pub mod Calls
 pub mod Retiring
+pub mod Grouping
 pub mod MapSteps
 pub mod Mounting
+pub mod Marking
 pub mod Following
 pub mod MapCalls
 pub mod Restoring
+pub mod Mending
 pub mod Opening
 pub mod Clearing
 pub mod Leaving

@@ -22,12 +22,12 @@ use Rattle.sector_stock.specs.Room.{HasRoom, HasNoneDead, IsSpareBlock}
 use Rattle.sector_stock.specs.Index.{is_dead, is_live_group}
 use Rattle.sector_stock.specs.Takes.{TidiesStock, copies, converts, Converts, Takes, IsGivable, CopiesInto, was_free, was_copied, HasNoGroups, work_of}
 use Rattle.sector_slots.proofs.BlankLaws.{holds-sound, sound-holds}
-use Rattle.sector_map.proofs.Alone.{holds-sound as slots-sound}
-use Rattle.sector_map.specs.Alone.{SlotsHold}
+use Rattle.sector_map.specs.Marking.{SameDisk}
+use Rattle.sector_map.proofs.Marking.{disk-after}
 use Rattle.sector_map.specs.Scan.{TableFollows, FollowsBlock}
 use Rattle.sector_map.specs.Replace.{HeldBy, IsInSlots, IsReplaceable, Rewrites, RewriteLeaves}
 use Rattle.sector_map.specs.Table.{IsTableOf, KeptOne, holder}
-use Rattle.sector_map.specs.Maps.{IsStore, IsMixedStore, KeepsMap, KeepsMixed, KeepsEach, Sets, SetsMixed, SetLeaves, SetMixedLeaves, IsServing, Wrote, KeptServing}
+use Rattle.sector_map.specs.Maps.{IsStore, KeepsMap, KeepsEach, Sets, SetLeaves, IsServing, Wrote, KeptServing}
 use Rattle.sector_map.specs.declared.held.Held.{Held}
 use Rattle.sector_map.specs.declared.entry.Entry.{Entry}
 use Rattle.sector_map.specs.declared.entry.Entry.TheVariants.{Absent}
@@ -45,25 +45,11 @@ served-room table state indexed s = table-room table state.memory s.tabled s.blo
 
 -- nothing changed
 pub keeps-none : (m : List ℕ) → IsStore m → KeepsMap m m
-keeps-none m store = record { chip = record { same_length = refl; superblock = λ k low. refl }; store = store; sectors = λ c g low. refl; clean = λ c. c }
-
-pub mixed-none : (m : List ℕ) → IsMixedStore m → KeepsMixed m m
-mixed-none m store = record { chip = record { same_length = refl; superblock = λ k low. refl }; store = store; alone = λ a. a; sectors = λ c g low. refl; clean = λ c. c }
-
--- where no block is of a group, none is after it
-pub keeps-alone : (m m' : List ℕ) → HasSlotsAlone m → KeepsMixed m m' → KeepsMap m m'
-keeps-alone m m' alone k = record { chip = k.chip; store = record { journals = k.store.journals; slots = record { sound = k.store.slots; alone = k.alone alone } }; sectors = k.sectors; clean = k.clean }
-
-pub sets-alone : (g : ℕ) (x m m' : List ℕ) → HasSlotsAlone m → SetsMixed g x m m' → Sets g x m m'
-sets-alone g x m m' alone k = record { chip = k.chip; store = record { journals = k.store.journals; slots = record { sound = k.store.slots; alone = k.alone alone } }; there = k.there; others = k.others; clean = k.clean }
-
-pub leaves-alone : (g : ℕ) (x m m' : List ℕ) → HasSlotsAlone m → SetMixedLeaves g x m m' → SetLeaves g x m m'
-leaves-alone g x m m' alone (inl k) = inl (keeps-alone m m' alone k)
-leaves-alone g x m m' alone (inr k) = inr (sets-alone g x m m' alone k)
+keeps-none m store = record { chip = record { same_length = refl; superblock = λ k low. refl }; store = store; alone = λ a. a; sectors = λ c g low. refl; clean = λ c. c }
 
 -- a call after one that writes no sector
-pub mixed-after : (a b c : List ℕ) → KeepsMixed a b → KeepsMixed b c → KeepsMixed a c
-mixed-after a b c p q = record {
+pub keeps-after : (a b c : List ℕ) → KeepsMap a b → KeepsMap b c → KeepsMap a c
+keeps-after a b c p q = record {
   chip = chip-after a b c p.chip q.chip;
   store = q.store;
   alone = λ h. q.alone (p.alone h);
@@ -71,7 +57,7 @@ mixed-after a b c p q = record {
   clean = λ h. q.clean (p.clean h);
 }
 
-pub sets-after : (g : ℕ) (x a b c : List ℕ) → KeepsMixed a b → SetsMixed g x b c → SetsMixed g x a c
+pub sets-after : (g : ℕ) (x a b c : List ℕ) → KeepsMap a b → Sets g x b c → Sets g x a c
 sets-after g x a b c p q = record {
   chip = chip-after a b c p.chip q.chip;
   store = q.store;
@@ -81,14 +67,14 @@ sets-after g x a b c p q = record {
   clean = λ h. q.clean (p.clean h);
 }
 
-pub leaves-after : (g : ℕ) (x a b c : List ℕ) → KeepsMixed a b → SetMixedLeaves g x b c → SetMixedLeaves g x a c
-leaves-after g x a b c p (inl q) = inl (mixed-after a b c p q)
+pub leaves-after : (g : ℕ) (x a b c : List ℕ) → KeepsMap a b → SetLeaves g x b c → SetLeaves g x a c
+leaves-after g x a b c p (inl q) = inl (keeps-after a b c p q)
 leaves-after g x a b c p (inr q) = inr (sets-after g x a b c p q)
 
 pub wrote-after : (g : ℕ) (x : List ℕ) (table between : List Entry) (a b c : NorState) (i j : Bool) → KeptServing between a b i → Wrote g x table b c j → Wrote g x table a c j
 wrote-after g x table between a b c i j p q = record { sets = sets-after g x a.memory b.memory c.memory p.keeps q.sets; served = q.served }
 
-pub keeps-holds : (m m' : List ℕ) → SameChip m m' → IsHealthy m' → IsSoundMap m' → (HasSlotsAlone m → HasSlotsAlone m') → (IsClean m → HoldsSectors (sector_at m) m') → (IsClean m → IsClean m') → KeepsMixed m m'
+pub keeps-holds : (m m' : List ℕ) → SameChip m m' → IsHealthy m' → IsSoundMap m' → (HasSlotsAlone m → HasSlotsAlone m') → (IsClean m → HoldsSectors (sector_at m) m') → (IsClean m → IsClean m') → KeepsMap m m'
 keeps-holds m m' chip healthy sound alone holds clean = record {
   chip = chip;
   store = record { journals = healthy; slots = sound };
@@ -97,19 +83,19 @@ keeps-holds m m' chip healthy sound alone holds clean = record {
   clean = clean;
 }
 
-pub keeps-each : (m m' : List ℕ) → SameChip m m' → IsHealthy m' → SlotsHold (sector_at m) m' → (IsClean m → IsClean m') → KeepsEach m m'
-keeps-each m m' chip healthy holds clean = record {
-  chip = chip;
-  store = record { journals = healthy; slots = slots-sound m' (sector_at m) holds };
-  sectors = λ g low. holds-computed m' (sector_at m) g holds.holds (on-chip m m' g chip low);
+pub keeps-each : (m m' : List ℕ) → SameDisk m m' → IsHealthy m' → HoldsSectors (sector_at m) m' → (IsClean m → IsClean m') → KeepsEach m m'
+keeps-each m m' disk healthy holds clean = record {
+  disk = disk;
+  store = record { journals = healthy; slots = holds-sound m' (sector_at m) holds };
+  sectors = λ g low. holds-computed m' (sector_at m) g holds (subst (λ n. g < sector_count n) (sym disk.same_length) low);
   clean = clean;
 }
 
 pub each-after : (a b c : List ℕ) → KeepsEach a b → KeepsEach b c → KeepsEach a c
 each-after a b c p q = record {
-  chip = chip-after a b c p.chip q.chip;
+  disk = disk-after a b c p.disk q.disk;
   store = q.store;
-  sectors = λ g low. q.sectors g (on-chip a b g p.chip low) ∙ p.sectors g low;
+  sectors = λ g low. q.sectors g (subst (λ n. g < sector_count n) (sym p.disk.same_length) low) ∙ p.sectors g low;
   clean = λ h. q.clean (p.clean h);
 }
 
@@ -188,10 +174,10 @@ takes-table w o m b old new (was_copied c is none h low) f sound single t = step
 pub steps-target : (c : Copied) (m b : List ℕ) → Steps c m b → c.target < data_blocks b
 steps-target c m b h = subst (λ n. c.target < block_count n - 4) (sym h.relocates.chip.same_length) h.reserve.number
 
-pub moved-keeps : (m b : List ℕ) → Moved m b → IsHealthy b → IsSoundMap m → KeepsMixed m b
+pub moved-keeps : (m b : List ℕ) → Moved m b → IsHealthy b → IsSoundMap m → KeepsMap m b
 moved-keeps m b h healthy sound = keeps-holds m b h.chip healthy h.sound h.alone (λ c. h.sectors c (sector_at m) (sound-holds m sound)) h.clean
 
-pub stays-keeps : (m b : List ℕ) → Stays m b → IsHealthy b → IsSoundMap m → KeepsMixed m b
+pub stays-keeps : (m b : List ℕ) → Stays m b → IsHealthy b → IsSoundMap m → KeepsMap m b
 stays-keeps m b h healthy sound = keeps-holds m b h.chip healthy (h.sound sound) h.alone (λ c. (h.exact c).sectors (sector_at m) (sound-holds m sound)) (λ c. (let k = h.exact c in k.clean c))
 
 -- a written sector, and another
@@ -202,7 +188,7 @@ pub with-other : (f : ℕ → List ℕ) (g h : ℕ) (x : List ℕ) → h ≢ g �
 with-other f g h x other = rw (ne_eqb h g other) refl
 
 pub holds-sets : (g : ℕ) (y x m b m' : List ℕ) → Moved m b → SameChip b m' → HoldsSectors (with_sector (sector_at b) g y) m' → (HasSlotsAlone b → HasSlotsAlone m') → IsHealthy m' → (IsClean b → y ≡ x) → (IsClean b → IsClean m') → IsSoundMap m → g < sector_count (length m)
-    → SetsMixed g x m m'
+    → Sets g x m m'
 holds-sets g y x m b m' moved chip holds alone healthy exact clean sound low =
     let both = chip-after m b m' moved.chip chip in
     record {
@@ -215,7 +201,7 @@ holds-sets g y x m b m' moved chip holds alone healthy exact clean sound low =
       clean = λ h. clean (moved.clean h);
     }
 
-holds-still : (m b m' : List ℕ) → Moved m b → SameChip b m' → HoldsSectors (sector_at b) m' → (HasSlotsAlone b → HasSlotsAlone m') → IsHealthy m' → (IsClean b → IsClean m') → IsSoundMap m → KeepsMixed m m'
+holds-still : (m b m' : List ℕ) → Moved m b → SameChip b m' → HoldsSectors (sector_at b) m' → (HasSlotsAlone b → HasSlotsAlone m') → IsHealthy m' → (IsClean b → IsClean m') → IsSoundMap m → KeepsMap m m'
 holds-still m b m' moved chip holds alone healthy clean sound =
     let both = chip-after m b m' moved.chip chip in
     record {
@@ -245,8 +231,8 @@ wrote g x o a b c table table' indexed moved r done sound low t s ready index =
     }
 
 -- or that was cut
-pub write-cut : (g : ℕ) (x m b m' : List ℕ) → Moved m b → RewriteLeaves g x b m' → IsHealthy m' → IsSoundMap m → g < sector_count (length m) → SetMixedLeaves g x m m'
-write-cut g x m b m' moved l healthy sound low = elim l.leaves.sectors as (λ _. SetMixedLeaves g x m m') [
+pub write-cut : (g : ℕ) (x m b m' : List ℕ) → Moved m b → RewriteLeaves g x b m' → IsHealthy m' → IsSoundMap m → g < sector_count (length m) → SetLeaves g x m m'
+write-cut g x m b m' moved l healthy sound low = elim l.leaves.sectors as (λ _. SetLeaves g x m m') [
   | inl old ↦ inl (holds-still m b m' moved l.leaves.chip old l.leaves.alone healthy l.clean sound)
   | inr new ↦ inr (holds-sets g l.content x m b m' moved l.leaves.chip new l.leaves.alone healthy l.exact l.clean sound low)
 ]
@@ -275,7 +261,7 @@ pub stepped : (c : Copied) (a b d : NorState) (old new : List Entry) (indexed : 
 stepped c a b d old new indexed s step same f done index is =
     let single = single-tabled old a.memory s.tabled in
     let moved = steps-moved c a.memory b.memory step s.store.slots single in
-    let keeps : KeepsMixed a.memory d.memory = subst (λ z. KeepsMixed a.memory z) (sym same) (moved-keeps a.memory b.memory moved (subst (λ z. IsHealthy z) same (settled-healthy d.memory done.settled)) s.store.slots) in
+    let keeps : KeepsMap a.memory d.memory = subst (λ z. KeepsMap a.memory z) (sym same) (moved-keeps a.memory b.memory moved (subst (λ z. IsHealthy z) same (settled-healthy d.memory done.settled)) s.store.slots) in
     record {
       keeps = keeps;
       served = record {
@@ -290,7 +276,7 @@ stepped c a b d old new indexed s step same f done index is =
 
 -- nothing was to be done
 pub kept-none : (table : List Entry) (a : NorState) (indexed : Bool) → IsServing table a indexed → KeptServing table a a indexed
-kept-none table a indexed s = record { keeps = mixed-none a.memory s.store; served = s }
+kept-none table a indexed s = record { keeps = keeps-none a.memory s.store; served = s }
 
 -- a slot was taken, and the table follows
 pub record AtSlot (w : ℕ) (table : List Entry) (m b : List ℕ) : Type 0 where
@@ -325,8 +311,8 @@ slot-held w g table m b o h low e = subst (λ z. HeldBy z g b) (sym e) (table-ho
 pub slot-replaceable : (w g : ℕ) (table : List Entry) (m b : List ℕ) (o : Option Held) → AtSlot w table m b → IsInSlots g m → g < length table → o ≡ holder (slice_index_or table g Absent) → IsReplaceable w g o b
 slot-replaceable w g table m b o h own low e = taken-replaceable w g o b h.low h.moved.sound h.moved.single h.moved.blocks (subst (λ n. g < n) h.tabled.size low) (slot-held w g table m b o h low e) (h.moved.own g own)
 
-pub same-moved-keeps : (a : NorState) (b b' : List ℕ) → Moved a.memory b → b' ≡ b → IsSettled b → IsSoundMap a.memory → KeepsMixed a.memory b'
-same-moved-keeps a b b' moved same settled sound = subst (λ z. KeepsMixed a.memory z) (sym same) (moved-keeps a.memory b moved (settled-healthy b settled) sound)
+pub same-moved-keeps : (a : NorState) (b b' : List ℕ) → Moved a.memory b → b' ≡ b → IsSettled b → IsSoundMap a.memory → KeepsMap a.memory b'
+same-moved-keeps a b b' moved same settled sound = subst (λ z. KeepsMap a.memory z) (sym same) (moved-keeps a.memory b moved (settled-healthy b settled) sound)
 
 -- no slot is dead
 none-count : (p : ℕ → Bool) (n : ℕ) → ((k : ℕ) → k < n → p k ≡ false) → how_many p n ≡ 0

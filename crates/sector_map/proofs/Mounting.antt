@@ -1,6 +1,8 @@
 -- What a mount finds, and what it leaves.
-use Rattle.std.proofs.Common.{◌≡◌, ℕ, ◌-◌, ◌*◌, ◌<◌, ◌⊎◌, Bool, true, false, List, length, refl, sym, ◌∙◌, subst, inl, inr}
-use Rattle.std.specs.Prelude.{Some, None, slice_index_or}
+use Rattle.std.proofs.Common.{◌≡◌, ℕ, ◌-◌, ◌*◌, ◌<◌, ◌⊎◌, Bool, true, false, List, length, refl, sym, ap, ◌∙◌, subst, inl, inr}
+use Rattle.std.specs.Prelude.{Option, Some, None, ◌==◌, not, slice_index_or}
+use Rattle.sector_map.specs.declared.found.Seen.{Seen}
+use Rattle.std.proofs.lemmas.Bool.{cases_eq, eq-eqb, ne_eqb}
 use Rattle.chip_model.specs.Geometry.{sector_count, block_count}
 use Rattle.nor_layout.specs.declared.kind.Kind.{Kind}
 use Rattle.nor_layout.specs.declared.kind.Kind.TheVariants as kinds
@@ -9,19 +11,19 @@ use Rattle.erase_journal.specs.Blocks.{SameChip}
 use Rattle.erase_journal.specs.Journals.{IsHealthy}
 use Rattle.erase_journal.specs.Steps.{SucceedsSettled}
 use Rattle.sector_slots.specs.Slots.{Slot, slot_at, slot_count, data_blocks, kind_at, raw_slot, IsClean, IsSpareIn}
-use Rattle.sector_slots.specs.Blocks.{IsAtRest, IsCopying, AreSettled, settled, crowded, copying, SoundBlocks}
+use Rattle.sector_slots.specs.Blocks.{IsAtRest, IsCopying, AreSettled, HasGroupRoom, dead_group, settled, crowded, copying, SoundBlocks}
 use Rattle.sector_slots.specs.Copying.{SameLive}
 use Rattle.sector_slots.proofs.MoveLaws.{same-back, same-on, same-whole}
-use Rattle.sector_slots.specs.Sectors.{SoundSlots, sector_at, HasSlotsAlone, HasOnlySlots}
-use Rattle.sector_slots.proofs.AloneLaws.{alone-fit}
-use Rattle.erase_journal.proofs.SettledLaws.{settled-healthy}
-use Rattle.sector_slots.proofs.StepLaws.{chip-after}
-use Rattle.sector_stock.specs.Copy.{KeepsSectors, EndsCopy, IsVoidIn, IsCommittedIn}
+use Rattle.sector_slots.specs.Sectors.{SoundSlots, IsSoundMap, HasSlotsAlone, HasOnlySlots}
+use Rattle.nor_layout.specs.Superblock.{layout_in}
+use Rattle.erase_journal.proofs.SettledLaws.{settled-healthy, settled-after}
+use Rattle.sector_stock.specs.Copy.{IsVoidIn, IsCommittedIn}
 use Rattle.sector_stock.specs.Room.{HasRoom}
-use Rattle.sector_map.proofs.Alone.{sound-holds, kept-holds, ends-holds, no-room}
-use Rattle.sector_map.specs.Alone.{IsSlotMap, SlotsHold}
-use Rattle.sector_map.specs.Found.{FoundIn, fitting}
-use Rattle.sector_map.specs.Table.{EntryHolds, IsTabled, IsTableOf, Mounts, MountCut}
+use Rattle.sector_map.specs.Found.{FoundIn, RoomSeen, leaves_room}
+use Rattle.sector_map.specs.Marking.{may_have_groups}
+use Rattle.sector_map.specs.Mending.{PairsSeen, IsMixedPair, HasDeadGroup}
+use Rattle.sector_map.proofs.Grouping.{none-room, tabled-apart}
+use Rattle.sector_map.specs.Table.{EntryHolds, IsTabled, IsTableOf}
 use Rattle.sector_map.specs.declared.found.Found.{Found}
 use Rattle.sector_map.specs.declared.found.Found.TheVariants.{AtRest, Void, Committed}
 use Rattle.sector_map.specs.declared.entry.Entry.{Entry}
@@ -33,17 +35,17 @@ use Rattle.sector_map.proofs.Retiring.{sound-tabled, single-tabled}
 pub found-void : (t : ℕ) (m : List ℕ) → FoundIn (Void t) m → IsVoidIn t m
 found-void t m h = record { target = void-target t (data_blocks m) (kind_at m) h; void = h.void }
 
-pub found-committed : (s t : ℕ) (m : List ℕ) → FoundIn (Committed s t) m → IsSlotMap m → IsCommittedIn s t m
-found-committed s t m h sound = record { target = committed-target s t (data_blocks m) (kind_at m) h; committed = h.committed; sound = sound.sound }
+pub found-committed : (s t : ℕ) (m : List ℕ) → FoundIn (Committed s t) m → IsSoundMap m → IsCommittedIn s t m
+found-committed s t m h sound = record { target = committed-target s t (data_blocks m) (kind_at m) h; committed = h.committed; sound = sound }
 
 -- whether the blocks are sound
-fits-sound : (found found' : Found) (spare : Bool) (m : List ℕ) → FoundIn found m → fitting found spare ≡ Some found' → (spare ≡ true → (c : ℕ) × ((c < data_blocks m) × IsSpareIn m c)) → SoundBlocks (kind_at m) (raw_slot m) (data_blocks m)
-fits-sound AtRest found' true m h e some = let s = some refl in settled (record { rest = h.rest; reserve = s.0; number = s.1.0; spare = s.1.1 })
-fits-sound AtRest found' false m h e some = absurd (let q : None ≡ Some found' = e in cc)
-fits-sound (Void t) found' spare m h e some = copying t (void-target t (data_blocks m) (kind_at m) h)
-fits-sound (Committed s t) found' spare m h e some = copying t (committed-target s t (data_blocks m) (kind_at m) h)
+pub fits-sound : (found : Found) (spare : Bool) (m : List ℕ) → FoundIn found m → RoomSeen found spare m → SoundBlocks (kind_at m) (raw_slot m) (data_blocks m)
+fits-sound AtRest true m h room = settled room
+fits-sound AtRest false m h room = crowded h.rest room
+fits-sound (Void t) spare m h room = copying t (void-target t (data_blocks m) (kind_at m) h)
+fits-sound (Committed s t) spare m h room = copying t (committed-target s t (data_blocks m) (kind_at m) h)
 
-rest-busy : (k : Kind) (t n : ℕ) → IsAtRest k → IsCopying k t n → ⊥
+pub rest-busy : (k : Kind) (t n : ℕ) → IsAtRest k → IsCopying k t n → ⊥
 rest-busy kinds.Plain t n r c = c
 rest-busy kinds.Void t n r c = r
 rest-busy (kinds.Committed b) t n r c = r
@@ -53,36 +55,60 @@ rest-busy kinds.DeadGroup t n r c = c
 rest-busy kinds.SpoiltGroup t n r c = c
 rest-busy kinds.Unknown t n r c = c
 
-no-spare : (m : List ℕ) → FoundIn AtRest m → ((c : ℕ) → c < data_blocks m → IsSpareIn m c → ⊥) → HasSlotsAlone m → SoundBlocks (kind_at m) (raw_slot m) (data_blocks m) → ⊥
-no-spare m h none alone (settled s) = none s.reserve s.number s.spare
-no-spare m h none alone (crowded rest room) = no-room m alone room
-no-spare m h none alone (copying t s) = rest-busy (kind_at m t) t (data_blocks m) (h.rest t s.number) s.copying
+-- what was seen of a wholly free block
+pub spare-room : (found : Found) (spare : Bool) (m : List ℕ) → FoundIn found m → (spare ≡ true → (c : ℕ) × ((c < data_blocks m) × IsSpareIn m c)) → leaves_room found spare ≡ true → RoomSeen found spare m
+spare-room AtRest true m h some e = let s = some refl in record { rest = h.rest; reserve = s.0; number = s.1.0; spare = s.1.1 }
+spare-room AtRest false m h some e = absurd (let q : false ≡ true = e in cc)
+spare-room (Void t) spare m h some e = tt
+spare-room (Committed s t) spare m h some e = tt
 
-pub fits-none : (found : Found) (spare : Bool) (m : List ℕ) → FoundIn found m → fitting found spare ≡ None → (spare ≡ false → (c : ℕ) → c < data_blocks m → IsSpareIn m c → ⊥) → IsSlotMap m → ⊥
-fits-none AtRest true m h e none sound = (let q : Some AtRest ≡ None = e in absurd cc)
-fits-none AtRest false m h e none sound = no-spare m h (none refl) sound.alone sound.sound.blocks
-fits-none (Void t) spare m h e none sound = (let q : Some (Void t) ≡ None = e in absurd cc)
-fits-none (Committed s t) spare m h e none sound = (let q : Some (Committed s t) ≡ None = e in absurd cc)
+pub pair-seen : (found : Found) (spare pair : Bool) (m : List ℕ) → (leaves_room found spare ≡ true → RoomSeen found spare m) → (pair ≡ true → HasGroupRoom (kind_at m) (data_blocks m)) → (leaves_room found spare ≡ true) ⊎ (pair ≡ true) → RoomSeen found spare m
+pair-seen AtRest true pair m room twice either = room refl
+pair-seen AtRest false pair m room twice either = elim either as (λ _. HasGroupRoom (kind_at m) (data_blocks m)) [ inl e ↦ absurd (let q : false ≡ true = e in cc) | inr e ↦ twice e ]
+pair-seen (Void t) spare pair m room twice either = tt
+pair-seen (Committed s t) spare pair m room twice either = tt
 
-pub look-sound : (found found' : Found) (spare : Bool) (table table0 : List Entry) (m : List ℕ) → FoundIn found m → fitting found spare ≡ Some found' → (spare ≡ true → (c : ℕ) × ((c < data_blocks m) × IsSpareIn m c))
-    → IsTabled table (slot_at m) (slot_count m) → length table ≡ length table0 → length table0 ≡ sector_count (length m) → HasSlotsAlone m → IsSlotMap m
-look-sound found found' spare table table0 m h e some t size count alone = record {
-  sound = record {
-    slots = subst (λ n. SoundSlots (slot_at m) (slot_count m) n) (size ∙ count) (sound-tabled table (slot_at m) (slot_count m) t);
-    blocks = fits-sound found found' spare m h e some;
-    groups = alone-fit m alone;
-  };
-  alone = alone;
+pub dead-seen : (found : Found) (spare : Bool) (m : List ℕ) (c : ℕ) → (leaves_room found spare ≡ true → RoomSeen found spare m) → (c < data_blocks m) × (kind_at m c ≡ kinds.DeadGroup) → RoomSeen found spare m
+dead-seen AtRest true m c room dead = room refl
+dead-seen AtRest false m c room dead = dead_group c dead.0 dead.1
+dead-seen (Void t) spare m c room dead = tt
+dead-seen (Committed s t) spare m c room dead = tt
+
+no-room : (table : List Entry) (m : List ℕ) → FoundIn AtRest m → ((c : ℕ) → c < data_blocks m → IsSpareIn m c → ⊥) → IsTabled table (slot_at m) (slot_count m) → PairsSeen false table m → (HasDeadGroup m → ⊥)
+    → SoundBlocks (kind_at m) (raw_slot m) (data_blocks m) → ⊥
+no-room table m h none t pairs dead (settled s) = none s.reserve s.number s.spare
+no-room table m h none t pairs dead (crowded rest room) = dead (none-room table m t rest pairs room)
+no-room table m h none t pairs dead (copying t0 s) = rest-busy (kind_at m t0) t0 (data_blocks m) (h.rest t0 s.number) s.copying
+
+pub fits-none : (found : Found) (spare : Bool) (table : List Entry) (m : List ℕ) → FoundIn found m → leaves_room found spare ≡ false → (spare ≡ false → (c : ℕ) → c < data_blocks m → IsSpareIn m c → ⊥) → IsTabled table (slot_at m) (slot_count m) → PairsSeen false table m
+    → (HasDeadGroup m → ⊥) → IsSoundMap m → ⊥
+fits-none AtRest spare table m h e none t pairs dead sound = no-room table m h (none e) t pairs dead sound.blocks
+fits-none (Void k) spare table m h e none t pairs dead sound = (let q : true ≡ false = e in absurd cc)
+fits-none (Committed s k) spare table m h e none t pairs dead sound = (let q : true ≡ false = e in absurd cc)
+
+groups-none : (a b : Bool) → not a ≡ b → b ≡ false → a ≡ true
+groups-none true b e f = refl
+groups-none false b e f = (let q : true ≡ false = e ∙ f in absurd cc)
+
+two-layout : (m : List ℕ) (groups : Bool) → groups ≡ may_have_groups m → groups ≡ false → layout_in m ≡ 2
+two-layout m groups e none = elim (cases_eq (layout_in m) 2) [
+  | inl same ↦ same
+  | inr other ↦ absurd (let q : true ≡ false = sym (groups-none (layout_in m == 2) groups (sym e) none) ∙ ne_eqb (layout_in m) 2 other in cc)
+]
+
+layout-two : (m : List ℕ) (groups : Bool) → groups ≡ may_have_groups m → layout_in m ≡ 2 → groups ≡ false
+layout-two m groups e two = e ∙ ap not (eq-eqb (layout_in m) 2 two)
+
+pub slots-alone : (m : List ℕ) (groups : Bool) → groups ≡ may_have_groups m → IsSoundMap m → groups ≡ false → HasSlotsAlone m
+slots-alone m groups e sound none = sound.groups.layout (two-layout m groups e none)
+
+pub look-sound : (found : Found) (spare groups : Bool) (table : List Entry) (m : List ℕ) → FoundIn found m → RoomSeen found spare m → groups ≡ may_have_groups m → (groups ≡ false → HasSlotsAlone m) → ((h : ℕ) → IsMixedPair table m h → ⊥)
+    → IsTabled table (slot_at m) (slot_count m) → length table ≡ sector_count (length m) → IsSoundMap m
+look-sound found spare groups table m h room e alone apart t size = record {
+  slots = subst (λ n. SoundSlots (slot_at m) (slot_count m) n) size (sound-tabled table (slot_at m) (slot_count m) t);
+  blocks = fits-sound found spare m h room;
+  groups = record { sectors = tabled-apart table m t apart; layout = λ two. alone (layout-two m groups e two) };
 }
-
-fitting-same : (found found' : Found) (spare : Bool) → fitting found spare ≡ Some found' → found ≡ found'
-fitting-same AtRest found' true e = cc
-fitting-same AtRest found' false e = absurd (let q : None ≡ Some found' = e in cc)
-fitting-same (Void t) found' spare e = cc
-fitting-same (Committed s t) found' spare e = cc
-
-pub fitting-found : (found found' : Found) (spare : Bool) (m : List ℕ) → fitting found spare ≡ Some found' → FoundIn found m → FoundIn found' m
-fitting-found found found' spare m e h = subst (λ z. FoundIn z m) (fitting-same found found' spare e) h
 
 -- the same live slots, the same table
 says-same : (e : Entry) (f f' : ℕ → Slot) (n g : ℕ) → SameLive f f' n → EntryHolds e f n g → EntryHolds e f' n g
@@ -95,45 +121,12 @@ says-same (entries.Two a b) f f' n g same o = record {
   only = λ s k x l. o.only s k x (same-back f f' n same s g k x l);
 }
 
-pub ends-tabled : (table : List Entry) (m m' : List ℕ) → EndsCopy m m' → IsTabled table (slot_at m) (slot_count m) → IsTabled table (slot_at m') (slot_count m')
-ends-tabled table m m' e t = subst (λ n. IsTabled table (slot_at m') (7 * (block_count n - 4))) (sym e.whole.chip.same_length) (record {
-  each = λ g low. says-same (slice_index_or table g entries.Absent) (slot_at m) (slot_at m') (slot_count m) g e.live (t.each g low);
-  within = λ s g k x l. t.within s g k x (same-back (slot_at m) (slot_at m') (slot_count m) e.live s g k x l);
-  whole = same-whole (slot_at m) (slot_at m') (slot_count m) e.live t.whole;
+pub live-tabled : (table : List Entry) (m m' : List ℕ) → length m' ≡ length m → SameLive (slot_at m) (slot_at m') (slot_count m) → IsTabled table (slot_at m) (slot_count m) → IsTabled table (slot_at m') (slot_count m')
+live-tabled table m m' size live t = subst (λ n. IsTabled table (slot_at m') (7 * (block_count n - 4))) (sym size) (record {
+  each = λ g low. says-same (slice_index_or table g entries.Absent) (slot_at m) (slot_at m') (slot_count m) g live (t.each g low);
+  within = λ s g k x l. t.within s g k x (same-back (slot_at m) (slot_at m') (slot_count m) live s g k x l);
+  whole = same-whole (slot_at m) (slot_at m') (slot_count m) live t.whole;
 })
-
-rests-settled : (m : List ℕ) → FoundIn AtRest m → HasSlotsAlone m → SoundBlocks (kind_at m) (raw_slot m) (data_blocks m) → AreSettled m
-rests-settled m h alone (settled s) = s
-rests-settled m h alone (crowded rest room) = absurd (no-room m alone room)
-rests-settled m h alone (copying t s) = absurd (rest-busy (kind_at m t) t (data_blocks m) (h.rest t s.number) s.copying)
-
--- where nothing went on, nothing was ended
-pub rests-end : (m m' : List ℕ) → m' ≡ m → FoundIn AtRest m → IsSlotMap m → EndsCopy m m'
-rests-end m m' same h sound = subst (λ z. EndsCopy m z) (sym same) (record {
-  whole = record {
-    chip = record { same_length = refl; superblock = λ k low. refl };
-    sectors = λ sectors holds. holds;
-    single = λ one. one;
-    blocks = rests-settled m h sound.alone sound.sound.blocks;
-    alone = λ a. a;
-    clean = λ c. c;
-  };
-  live = λ s low. inl refl;
-})
-
--- what a mount leaves where it is cut
-pub cut-same : (m m' : List ℕ) → m' ≡ m → MountCut m m'
-cut-same m m' same = subst (λ z. MountCut m z) (sym same) (record { chip = record { same_length = refl; superblock = λ k low. refl }; sectors = λ sound. sound-holds m sound; clean = λ c. c })
-
-pub cut-ending : (m m' : List ℕ) → KeepsSectors m m' → MountCut m m'
-cut-ending m m' k = record { chip = k.chip; sectors = λ sound. kept-holds m m' (sector_at m) k (sound-holds m sound); clean = k.clean }
-
-pub cut-retiring : (m m1 m2 : List ℕ) → EndsCopy m m1 → SameChip m1 m2 → ((sectors : ℕ → List ℕ) → SlotsHold sectors m1 → SlotsHold sectors m2) → (IsClean m1 → IsClean m2) → MountCut m m2
-cut-retiring m m1 m2 e chip sectors clean = record {
-  chip = chip-after m m1 m2 e.whole.chip chip;
-  sectors = λ sound. sectors (sector_at m) (ends-holds m m1 (sector_at m) e (sound-holds m sound));
-  clean = λ c. clean (e.whole.clean c);
-}
 
 pub perhaps-healthy : (a b : NorState) → (b ≡ a) ⊎ SucceedsSettled a b → IsHealthy a.memory → IsHealthy b.memory
 perhaps-healthy a b (inl e) h = subst (λ z. IsHealthy z.memory) (sym e) h
@@ -148,20 +141,19 @@ table-room table m t blocks layout = record {
   layout = layout;
 }
 
-pub mounted : (table : List Entry) (m m1 m2 m3 : List ℕ) → IsSlotMap m → EndsCopy m m1 → SameChip m1 m2 → ((sectors : ℕ → List ℕ) → SlotsHold sectors m1 → SlotsHold sectors m2) → (IsClean m1 → IsClean m2)
-    → IsTableOf table m2 → AreSettled m2 → m3 ≡ m2 → Mounts m table m3
-mounted table m m1 m2 m3 sound e chip sectors clean t blocks same = subst (λ z. Mounts m table z) (sym same) (record {
-  sound = sound;
-  chip = chip-after m m1 m2 e.whole.chip chip;
-  sectors = sectors (sector_at m) (ends-holds m m1 (sector_at m) e (sound-holds m sound));
-  tabled = t;
-  single = single-tabled table m2 t;
-  blocks = blocks;
-  clean = λ c. clean (e.whole.clean c);
-})
+pub perhaps-done : (a b c : NorState) → (b ≡ a) ⊎ SucceedsSettled a b → (c ≡ b) ⊎ SucceedsSettled b c → (c ≡ a) ⊎ SucceedsSettled a c
+perhaps-done a b c (inl e) q = subst (λ z. (c ≡ z) ⊎ SucceedsSettled z c) e q
+perhaps-done a b c (inr s) (inl e) = inr (subst (λ z. SucceedsSettled a z) (sym e) s)
+perhaps-done a b c (inr s) (inr t) = inr (settled-after a b c s t)
 
-pub cut-filling : (m m1 m2 m3 : List ℕ) → EndsCopy m m1 → SameChip m1 m2 → ((sectors : ℕ → List ℕ) → SlotsHold sectors m1 → SlotsHold sectors m2) → (IsClean m1 → IsClean m2) → m3 ≡ m2 → MountCut m m3
-cut-filling m m1 m2 m3 e chip sectors clean same = subst (λ z. MountCut m z) (sym same) (cut-retiring m m1 m2 e chip sectors clean)
+-- what an answer that isn't Some is
+pub found-none : (o : Option Found) → ((x : Found) → o ≡ Some x → ⊥) → o ≡ None
+found-none None h = refl
+found-none (Some x) h = absurd (h x refl)
 
-pub fill-healthy : (a b c d : NorState) → (b ≡ a) ⊎ SucceedsSettled a b → (c ≡ b) ⊎ SucceedsSettled b c → d.memory ≡ c.memory → IsHealthy a.memory → IsHealthy d.memory
-fill-healthy a b c d p q same h = subst (λ z. IsHealthy z) (sym same) (perhaps-healthy b c q (perhaps-healthy a b p h))
+pub bool-none : (o : Option Bool) → ((x : Bool) → o ≡ Some x → ⊥) → o ≡ None
+bool-none None h = refl
+bool-none (Some x) h = absurd (h x refl)
+
+pub same-seen : (a b : Seen) → Some a ≡ Some b → b ≡ a
+same-seen a b e = cc

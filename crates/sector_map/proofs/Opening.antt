@@ -6,21 +6,21 @@ use Rattle.nor_driver.specs.State.{NorState, IsNorReady, OnlyMemoryChanges, NorF
 use Rattle.nor_driver.specs.declared.error.NorError.{NorError}
 use Rattle.nor_driver.specs.declared.error.NorError.TheVariants as errors
 use Rattle.nor_layout.specs.Layouts.{layout_of}
-use Rattle.nor_layout.specs.declared.layout.Layout.TheVariants.{Sectors}
 use Rattle.nor_layout.specs.declared.superblock.SuperError.TheVariants as refusals
 use Rattle.erase_journal.specs.Blocks.{SameBlocks}
 use Rattle.erase_journal.specs.Journals.{IsHealthy}
 use Rattle.erase_journal.specs.Recovery.{Recovers, RecoveryCut, IsBehind}
-use Rattle.erase_journal.specs.Steps.{SucceedsSettled}
+use Rattle.erase_journal.specs.Steps.{SucceedsSettled, KeepsBlocks}
 use Rattle.sector_slots.specs.Slots.{Slot, slot_at, slot_count, SameSlots}
-use Rattle.sector_slots.specs.Sectors.{sector_at, winner, newer, content_in}
+use Rattle.sector_slots.specs.Sectors.{IsSoundMap, sector_at, winner, newer, content_in}
+use Rattle.nor_layout.specs.Superblock.{mixed_in}
 use Rattle.sector_slots.proofs.BlankLaws.{same-blocks_slots}
 use Rattle.nor_driver.proofs.CallLaws.{kept-after}
 use Rattle.erase_journal.proofs.SettledLaws.{settled-healthy}
-use Rattle.sector_map.proofs.Alone.{blocks-holds, holds-sound, sound-holds}
-use Rattle.sector_map.specs.Alone.{IsSlotMap}
+use Rattle.sector_slots.proofs.BlankLaws.{blocks-holds, holds-sound, sound-holds}
+use Rattle.sector_map.specs.Marking.{IsUnmarked, mixed_mark}
 use Rattle.sector_map.specs.Table.{Mounts, MountCut}
-use Rattle.sector_map.specs.Maps.{IsMountable, geometry_of, KeepsEach, Mounted, MountWasCut, MountFails, shown_with, is_slow_in}
+use Rattle.sector_map.specs.Maps.{IsMountable, IsLaidOut, geometry_of, KeepsEach, Mounted, MountWasCut, MountFails, shown_with, is_slow_in}
 use Rattle.sector_map.specs.Filling.{Filled, FillCut, FillFails}
 use Rattle.sector_map.specs.declared.entry.Entry.{Entry}
 use Rattle.sector_map.specs.declared.error.MountError.{MountError}
@@ -32,6 +32,7 @@ pub filled : (t : List Entry) (a c : NorState) → Mounts a.memory t c.memory �
 filled t a c h done = record {
   slots = h.sound;
   keeps = mounts-keeps a.memory c.memory t h done.settled;
+  marked = h.marked;
   kept = record { cuts = done.kept.cuts; slows = done.kept.slows; powered = done.kept.powered; is_slow = sym done.ready.1; has_large = done.kept.has_large };
 }
 
@@ -41,8 +42,9 @@ fill-cut a c d cut healthy f ready behind = record {
   slows = behind.slows ∙ f.fails.1;
   powered = behind.powered ∙ f.fails.2;
   quick = λ q. behind.quick (f.fails.3 ∙ q);
-  size = ap length behind.memory ∙ cut.chip.same_length;
+  size = ap length behind.memory ∙ cut.disk.same_length;
   keeps = λ sound. subst (λ z. KeepsEach a.memory z) (sym behind.memory) (mount-cut-keeps a.memory c.memory cut healthy sound);
+  first = λ u. subst (λ z. (z ≡ a.memory) ⊎ (mixed_in z ≡ mixed_mark)) (sym behind.memory) (cut.first u);
 }
 
 -- the same blocks, seen from the other side
@@ -54,7 +56,7 @@ blocks-back m m' s =
       each = λ b high low. sym (s.each b high (subst (λ k. b < block_count k) n low));
     }
 
-same-back : (m m' : List ℕ) → SameBlocks m m' → IsSlotMap m' → IsSlotMap m
+same-back : (m m' : List ℕ) → SameBlocks m m' → IsSoundMap m' → IsSoundMap m
 same-back m m' s sound = holds-sound m (sector_at m') (blocks-holds m' m (sector_at m') (blocks-back m m' s) (sound-holds m' sound))
 
 -- the same slots make the same sectors, corrupt or not
@@ -68,20 +70,25 @@ same-slots-sectors : (m m' : List ℕ) → SameSlots m m' → (g : ℕ) → sect
 same-slots-sectors m m' s g =
     ap content_in (ap (λ n. winner (slot_at m') (7 * (block_count n - 4)) g) s.chip.same_length ∙ winner-same (slot_at m) (slot_at m') (slot_count m) g s.each)
 
-recovered-keeps : (a b : NorState) → Recovers a b → IsSlotMap a.memory → KeepsEach a.memory b.memory
+recovered-keeps : (a b : NorState) → Recovers a b → IsSoundMap a.memory → KeepsEach a.memory b.memory
 recovered-keeps a b r sound = blocks-keep a.memory b.memory r.blocks (settled-healthy b.memory r.settled) sound
 
-pub recovered-mounted : (a b c : NorState) → layout_of a.memory (geometry_of (length a.memory)) ≡ Ok Sectors → Recovers a b → Filled b c → Mounted a c
+-- the superblock of recovered journals is as it was
+unmarked-still : (m m' : List ℕ) → SameBlocks m m' → IsUnmarked m → IsUnmarked m'
+unmarked-still m m' s u = record { layout = s.chip.superblock 8 (omega arith) ∙ u.layout; mixed = s.chip.superblock 15 (omega arith) ∙ u.mixed }
+
+pub recovered-mounted : (a b c : NorState) → IsLaidOut a.memory → Recovers a b → Filled b c → Mounted a c
 recovered-mounted a b c super r f =
     let sound = same-back a.memory b.memory r.blocks f.slots in
     record {
       mountable = record { superblock = super; store = record { journals = r.healthy; slots = sound } };
       keeps = each-after a.memory b.memory c.memory (recovered-keeps a b r sound) f.keeps;
+      marked = λ u. f.marked (unmarked-still a.memory b.memory r.blocks u);
       ready = r.ready;
       kept = kept-after a b c r.kept f.kept;
     }
 
-pub recovered-fails : (e : MountError) (a b c : NorState) → layout_of a.memory (geometry_of (length a.memory)) ≡ Ok Sectors → Recovers a b → FillFails e b c → MountFails e a c
+pub recovered-fails : (e : MountError) (a b c : NorState) → IsLaidOut a.memory → Recovers a b → FillFails e b c → MountFails e a c
 recovered-fails mounts.Cut a b c super r f = record {
   came = (let g = f.came in let k = r.kept.cuts in inl (omega (arith, g, k)));
   slows = f.slows ∙ r.kept.slows;
@@ -89,6 +96,7 @@ recovered-fails mounts.Cut a b c super r f = record {
   quick = λ q. f.quick (r.kept.is_slow ∙ q);
   size = f.size ∙ r.blocks.chip.same_length;
   keeps = λ m. let k = recovered-keeps a b r m.store.slots in each-after a.memory b.memory c.memory k (f.keeps k.store.slots);
+  first = λ m u. elim (f.first (unmarked-still a.memory b.memory r.blocks u)) as (λ _. SameBlocks a.memory c.memory ⊎ (mixed_in c.memory ≡ mixed_mark)) [ inl e ↦ inl (subst (λ z. SameBlocks a.memory z) (sym e) r.blocks) | inr now ↦ inr now ];
 }
 recovered-fails mounts.Slow a b c super r f = record {
   came = (let g = f.came in let k = r.kept.slows in inl (omega (arith, g, k)));
@@ -99,7 +107,7 @@ recovered-fails mounts.Corrupt a b c super r f =
     let blocks : SameBlocks a.memory c.memory = subst (λ z. SameBlocks a.memory z) (sym f.same) r.blocks in
     record {
       corrupt = λ m. f.corrupt (recovered-keeps a b r m.store.slots).store.slots;
-      formatted = λ bare. cc (super, bare);
+      formatted = λ bare. cc (super.1, bare);
       cuts = f.cuts ∙ r.kept.cuts;
       slows = f.slows ∙ r.kept.slows;
       quick = λ q. f.quick (r.kept.is_slow ∙ q);
@@ -110,6 +118,12 @@ recovered-fails mounts.Corrupt a b c super r f =
 recovered-fails mounts.OutOfMemory a b c super r f = absurd f
 recovered-fails mounts.NotFormatted a b c super r f = absurd f
 
+left-blocks : (m m' : List ℕ) → (m' ≡ m) ⊎ KeepsBlocks m m' → SameBlocks m m'
+left-blocks m m' h = elim h as (λ _. SameBlocks m m') [
+  | inl e ↦ subst (λ z. SameBlocks m z) (sym e) (record { chip = record { same_length = refl; superblock = λ k low. refl }; each = λ b low high. refl })
+  | inr s ↦ s.blocks
+]
+
 pub recovery-cut : (a b : NorState) → RecoveryCut a b → MountWasCut a b
 recovery-cut a b r = record {
   came = elim r.fails.0 as (λ _. (a.cuts < b.cuts) ⊎ (a.powered ≡ false)) [ inl came ↦ inl came | inr off ↦ inr off.0 ];
@@ -118,6 +132,7 @@ recovery-cut a b r = record {
   quick = λ q. r.fails.3 ∙ q;
   size = elim r.leaves as (λ _. length b.memory ≡ length a.memory) [ inl e ↦ ap length e | inr s ↦ s.blocks.chip.same_length ];
   keeps = λ m. left-keeps a.memory b.memory r.leaves m.store;
+  first = λ m u. inl (left-blocks a.memory b.memory r.leaves);
 }
 
 -- the superblock wasn't read, for a loss of power
@@ -129,6 +144,7 @@ look-was-cut a b f same = record {
   quick = λ q. f.3 ∙ q;
   size = ap length same;
   keeps = λ m. left-keeps a.memory b.memory (inl same) m.store;
+  first = λ m u. inl (left-blocks a.memory b.memory (inl same));
 }
 
 -- after the superblock was read
@@ -143,6 +159,7 @@ mount-fails-after mounts.Cut a b c same k f = record {
   quick = λ q. f.quick (k.is_slow ∙ q);
   size = f.size ∙ ap length same;
   keeps = λ m. subst (λ z. KeepsEach z c.memory) same (f.keeps (at-memory a b same (λ z. IsMountable z) m));
+  first = λ m u. subst (λ z. SameBlocks z c.memory ⊎ (mixed_in c.memory ≡ mixed_mark)) same (f.first (at-memory a b same (λ z. IsMountable z) m) (at-memory a b same (λ z. IsUnmarked z) u));
 }
 mount-fails-after mounts.Slow a b c same k f = record {
   came = elim f.came as (λ _. (a.slows < c.slows) ⊎ (a.is_slow ≡ true)) [ inl came ↦ (let g = k.slows in inl (omega (arith, came, g))) | inr slow ↦ inr (sym k.is_slow ∙ slow) ];
@@ -169,11 +186,11 @@ pub looked-fails : {T N : Type 0} (st : N → NorState) (r : Result T (N × Moun
 looked-fails st (Ok v) a b same k f = tt
 looked-fails st (Err e) a b same k f = mount-fails-after e.1 a b (st e.0) same k f
 
-pub filled-mounted : {T E : Type 0} (st : T → NorState) (r : Result T E) (a b : NorState) → layout_of a.memory (geometry_of (length a.memory)) ≡ Ok Sectors → Recovers a b → IfOk r (λ map. Filled b (st map)) → IfOk r (λ map. Mounted a (st map))
+pub filled-mounted : {T E : Type 0} (st : T → NorState) (r : Result T E) (a b : NorState) → IsLaidOut a.memory → Recovers a b → IfOk r (λ map. Filled b (st map)) → IfOk r (λ map. Mounted a (st map))
 filled-mounted st (Ok v) a b super r f = recovered-mounted a b (st v) super r f
 filled-mounted st (Err e) a b super r f = tt
 
-pub filled-fails : {T N : Type 0} (st : N → NorState) (r : Result T (N × MountError)) (a b : NorState) → layout_of a.memory (geometry_of (length a.memory)) ≡ Ok Sectors → Recovers a b → IfErr r (λ e. FillFails e.1 b (st e.0)) → IfErr r (λ e. MountFails e.1 a (st e.0))
+pub filled-fails : {T N : Type 0} (st : N → NorState) (r : Result T (N × MountError)) (a b : NorState) → IsLaidOut a.memory → Recovers a b → IfErr r (λ e. FillFails e.1 b (st e.0)) → IfErr r (λ e. MountFails e.1 a (st e.0))
 filled-fails st (Ok v) a b super r f = tt
 filled-fails st (Err e) a b super r f = recovered-fails e.1 a b (st e.0) super r f
 

@@ -10,13 +10,11 @@ use Rattle.sector_slots.specs.Slots.{Slot, Free, Live, Dead, data_blocks, kind_a
 use Rattle.sector_slots.specs.Blocks.{AreAtRest, AreSettled, IsSettledBlocks}
 use Rattle.sector_slots.proofs.CopyLaws.{counted-in, at-rest-counts, at-rest-copies, copies-none}
 use Rattle.sector_slots.specs.Sectors.{LiveAt, NextGeneration, OthersKept, with_sector, IsSingle, GroupsFit, HoldsSectors}
-use Rattle.sector_slots.proofs.AloneLaws.{place-alone}
 use Rattle.sector_slots.proofs.SectorLaws.{kind_in, put-done}
 use Rattle.sector_slots.proofs.WinnerLaws.{stands-computed}
 use Rattle.sector_slots.proofs.PlaceLaws.{later, later-is, place-others, place-settled, place-holds, put-leaves, retire-holds}
 use Rattle.sector_slots.specs.Steps.{PutLeaves, written, OnlyPlace}
 use Rattle.sector_slots.specs.Sectors.{sector_at}
-use Rattle.sector_map.specs.Alone.{SlotsHold}
 use Rattle.sector_map.specs.Replace.{IsPlaced, IsInSlots}
 
 pub live-not-free : (s : Slot) (tag : Tag) (x : List ℕ) → s ≡ Live tag x → s ≢ Free
@@ -71,11 +69,6 @@ pub retire-left : (w b g : ℕ) (j k : Generation) (x y m m' : List ℕ) (sector
 retire-left w b g j k x y m m' sectors only old new other generation left s h =
     let p = live-placed b (record { number = g; generation = j }) y m s old.number old.is in
     retire-holds w b p.reserve g j k x y m m' sectors only old new other generation left p.number p.spare p.apart s.rest h
-
-pub retire-held : (w b g : ℕ) (j k : Generation) (x y m m' : List ℕ) (sectors : ℕ → List ℕ) → OnlyPlace b m m' → LiveAt (slot_at m) (slot_count m) b g j y → LiveAt (slot_at m) (slot_count m) w g k x → w ≢ b
-    → k ≡ next_generation j → (slot_at m' b ≡ slot_at m b) ⊎ (slot_at m' b ≡ Dead) → AreSettled m → SlotsHold sectors m → SlotsHold sectors m'
-retire-held w b g j k x y m m' sectors only old new other generation left s h =
-    record { holds = retire-left w b g j k x y m m' sectors only old new other generation left s h.holds; alone = place-alone b m m' only h.alone }
 
 -- the sectors of a memory are those that are computed
 pub holds-computed : (m : List ℕ) (sectors : ℕ → List ℕ) (g : ℕ) → HoldsSectors sectors m → g < sector_count (length m) → sector_at m g ≡ sectors g

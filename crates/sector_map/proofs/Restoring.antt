@@ -13,45 +13,45 @@ use Rattle.erase_journal.specs.Recovery.{Restored, RestoreCut, RestoreCorrupt}
 use Rattle.erase_journal.specs.Steps as steps
 use Rattle.erase_journal.specs.Steps.{SucceedsSettled}
 use Rattle.sector_slots.specs.Slots.{slot_in, data_blocks, data_block, kind_at, raw_slot, IsClean}
-use Rattle.sector_slots.specs.Sectors.{sector_at, HasSlotsAlone}
+use Rattle.sector_slots.specs.Sectors.{IsSoundMap, sector_at}
 use Rattle.sector_slots.proofs.BlankLaws.{counted-same}
 use Rattle.sector_slots.proofs.CleanLaws.{clean-blocks}
 use Rattle.erase_journal.proofs.SettledLaws.{settled-healthy}
-use Rattle.sector_map.proofs.Alone.{blocks-holds, sound-holds}
-use Rattle.sector_map.specs.Alone.{IsSlotMap}
+use Rattle.sector_slots.proofs.BlankLaws.{blocks-holds, sound-holds}
+use Rattle.sector_map.proofs.Marking.{chip-disk}
 use Rattle.sector_map.specs.Replace.{HeldBy}
 use Rattle.sector_map.specs.Table.{IsTableOf, Mounts, MountCut, holder}
-use Rattle.sector_map.specs.Maps.{IsStore, KeepsEach, KeepsMap, KeepsMixed, Sets, SetLeaves, SetMixedLeaves, Wrote, IsServing, KnownWhile, is_slow_in}
+use Rattle.sector_map.specs.Maps.{IsStore, KeepsEach, KeepsMap, Sets, SetLeaves, Wrote, IsServing, KnownWhile, is_slow_in}
 use Rattle.sector_map.specs.Filling.{Renewed, RenewCorrupt, RenewCut, RenewFails}
 use Rattle.sector_map.specs.declared.held.Held.{Held}
 use Rattle.sector_map.specs.declared.entry.Entry.{Entry}
 use Rattle.sector_map.specs.declared.entry.Entry.TheVariants.{Absent}
 use Rattle.sector_map.proofs.Retiring.{table-holder}
-use Rattle.sector_map.proofs.MapCalls.{keeps-each, each-after, keeps-none, keeps-alone, sets-alone, leaves-alone}
+use Rattle.sector_map.proofs.MapCalls.{keeps-each, each-after, keeps-none}
 
 -- the same blocks
-blocks-clean : (m m' : List ℕ) → SameBlocks m m' → IsClean m → IsClean m'
+pub blocks-clean : (m m' : List ℕ) → SameBlocks m m' → IsClean m → IsClean m'
 blocks-clean m m' same clean =
     let each : (d : ℕ) → d < data_blocks m → data_block m' d ≡ data_block m d = λ d low. same.each (d + 4) (omega arith) (omega (arith, low)) in
     clean-blocks m m' same.chip each (λ w low. counted-same (kind_at m) (kind_at m') (raw_slot m) (raw_slot m') (data_blocks m) w (λ d h. ap kind_of (each d h)) (λ d i h small. ap (λ b. slot_in b i) (each d h)) low) clean
 
-pub blocks-keep : (m m' : List ℕ) → SameBlocks m m' → IsHealthy m' → IsSlotMap m → KeepsEach m m'
+pub blocks-keep : (m m' : List ℕ) → SameBlocks m m' → IsHealthy m' → IsSoundMap m → KeepsEach m m'
 blocks-keep m m' same healthy sound =
     let holds = blocks-holds m m' (sector_at m) same (sound-holds m sound) in
-    keeps-each m m' same.chip healthy holds (blocks-clean m m' same)
+    keeps-each m m' (chip-disk m m' same.chip) healthy holds (blocks-clean m m' same)
 
 -- a table was made
 pub mounts-keeps : (m m' : List ℕ) (table : List Entry) → Mounts m table m' → IsSettled m' → KeepsEach m m'
-mounts-keeps m m' table h settled = keeps-each m m' h.chip (settled-healthy m' settled) h.sectors h.clean
+mounts-keeps m m' table h settled = keeps-each m m' h.disk (settled-healthy m' settled) h.sectors h.clean
 
-pub mount-cut-keeps : (m m' : List ℕ) → MountCut m m' → IsHealthy m' → IsSlotMap m → KeepsEach m m'
-mount-cut-keeps m m' h healthy sound = keeps-each m m' h.chip healthy (h.sectors sound) h.clean
+pub mount-cut-keeps : (m m' : List ℕ) → MountCut m m' → IsHealthy m' → IsSoundMap m → KeepsEach m m'
+mount-cut-keeps m m' h healthy sound = keeps-each m m' h.disk healthy (h.sectors sound) h.clean
 
 pub served-after : (t : List Entry) (b c : NorState) (indexed : Bool) → Mounts b.memory t c.memory → SucceedsSettled b c → IsNorReady b → indexed ≡ true → IsServing t c indexed
 served-after t b c indexed h done ready is = record {
   ready = (done.kept.powered ∙ ready.0, done.kept.is_slow ∙ ready.1);
   settled = done.settled;
-  store = (let k = mounts-keeps b.memory c.memory t h done.settled in record { journals = k.store.journals; slots = k.store.slots.sound });
+  store = (mounts-keeps b.memory c.memory t h done.settled).store;
   blocks = h.blocks;
   tabled = h.tabled;
   index = is;
@@ -66,13 +66,12 @@ renew-ok (Ok s) t a b c indexed r made index done = λ is.
       cuts = done.kept.cuts ∙ r.cuts;
       slows = done.kept.slows ∙ r.slows;
       served = served-after t b c indexed h done r.ready (index is);
-      alone = h.sectors.alone;
-      size = h.chip.same_length ∙ r.size;
+      size = h.disk.same_length ∙ r.size;
       keeps = λ quick store. each-after a.memory b.memory c.memory (blocks-keep a.memory b.memory (r.blocks quick) (settled-healthy b.memory r.settled) store.slots) k;
     }
 renew-ok (Err e) t a b c indexed r made index done = tt
 
-pub renew-corrupt : (r : Result Bool NorError) (a b c : NorState) → Restored a b → IfOk r (λ s. IsFalse s → (IsSlotMap b.memory → ⊥) × (c.memory ≡ b.memory)) → OnOk r (SucceedsSettled b c) → IfOk r (λ s. IsFalse s → RenewCorrupt a c)
+pub renew-corrupt : (r : Result Bool NorError) (a b c : NorState) → Restored a b → IfOk r (λ s. IsFalse s → (IsSoundMap b.memory → ⊥) × (c.memory ≡ b.memory)) → OnOk r (SucceedsSettled b c) → IfOk r (λ s. IsFalse s → RenewCorrupt a c)
 renew-corrupt (Ok s) a b c r made done = λ is.
     let h = made is in
     record {
@@ -80,7 +79,7 @@ renew-corrupt (Ok s) a b c r made done = λ is.
       slows = done.kept.slows ∙ r.slows;
       powered = done.kept.powered ∙ r.ready.0;
       size = ap length h.1 ∙ r.size;
-      still = λ store. h.0 (subst (λ z. IsSlotMap z) h.1 store.slots);
+      still = λ store. h.0 (subst (λ z. IsSoundMap z) h.1 store.slots);
       corrupt = λ quick store. h.0 (blocks-keep a.memory b.memory (r.blocks quick) (settled-healthy b.memory r.settled) store.slots).store.slots;
     }
 renew-corrupt (Err e) a b c r made done = tt
@@ -134,30 +133,13 @@ restore-corrupt a b r = record {
 
 -- What stands.
 pub served-none : (o : Option NorError) (table : List Entry) (s : NorState) (indexed : Bool) → o ≡ None → KnownWhile o table s indexed → IsServing table s indexed
-served-none None table s indexed e h = h.0
+served-none None table s indexed e h = h
 served-none (Some errors.Cut) table s indexed e h = absurd (cc e)
 served-none (Some errors.Slow) table s indexed e h = absurd (cc e)
 
-pub alone-none : (o : Option NorError) (table : List Entry) (s : NorState) (indexed : Bool) → o ≡ None → KnownWhile o table s indexed → HasSlotsAlone s.memory
-alone-none None table s indexed e h = h.1
-alone-none (Some errors.Cut) table s indexed e h = absurd (cc e)
-alone-none (Some errors.Slow) table s indexed e h = absurd (cc e)
-
--- and after a call
-pub sets-known : (g : ℕ) (x : List ℕ) (o : Option NorError) (table now : List Entry) (a b : NorState) (i j : Bool) → o ≡ None → KnownWhile o table a i → Wrote g x now a b j → Sets g x a.memory b.memory
-sets-known g x o table now a b i j e h w = sets-alone g x a.memory b.memory (alone-none o table a i e h) w.sets
-
-pub leaves-known : (g : ℕ) (x : List ℕ) (o : Option NorError) (table : List Entry) (a : NorState) (i : Bool) (m' : List ℕ) → o ≡ None → KnownWhile o table a i → SetMixedLeaves g x a.memory m' → SetLeaves g x a.memory m'
-leaves-known g x o table a i m' e h l = leaves-alone g x a.memory m' (alone-none o table a i e h) l
-
-pub keeps-known : (o : Option NorError) (table : List Entry) (a : NorState) (i : Bool) (m' : List ℕ) → o ≡ None → KnownWhile o table a i → KeepsMixed a.memory m' → KeepsMap a.memory m'
-keeps-known o table a i m' e h k = keeps-alone a.memory m' (alone-none o table a i e h) k
-
 -- the store of a map that nothing is latched in
 pub known-store : (o : Option NorError) (table : List Entry) (a : NorState) (i : Bool) → o ≡ None → KnownWhile o table a i → IsStore a.memory
-known-store o table a i e h =
-    let s = served-none o table a i e h in
-    record { journals = s.store.journals; slots = record { sound = s.store.slots; alone = alone-none o table a i e h } }
+known-store o table a i e h = (served-none o table a i e h).store
 
 pub known-same : (o : Option NorError) (table : List Entry) (a : NorState) (i : Bool) (m' : List ℕ) → o ≡ None → KnownWhile o table a i → m' ≡ a.memory → IsStore m'
 known-same o table a i m' e h same = subst (λ z. IsStore z) (sym same) (known-store o table a i e h)
@@ -171,12 +153,12 @@ behind-store (Some errors.Cut) table a b i h quick same = subst (λ z. IsStore z
 behind-store (Some errors.Slow) table a b i h quick same = absurd (let q : true ≡ false = quick in cc)
 
 -- What is known after a call: its table is that of what it left;
-pub known-served : (o : Option NorError) (table : List Entry) (a : NorState) (i : Bool) → o ≡ None → IsServing table a i → HasSlotsAlone a.memory → KnownWhile o table a i
-known-served None table a i e h alone = (h, alone)
-known-served (Some error) table a i e h alone = absurd (cc e)
+pub known-served : (o : Option NorError) (table : List Entry) (a : NorState) (i : Bool) → o ≡ None → IsServing table a i → KnownWhile o table a i
+known-served None table a i e h = h
+known-served (Some error) table a i e h = absurd (cc e)
 
-pub known-after : (o : Option NorError) (table now : List Entry) (a b : NorState) (i j : Bool) (items : List Entry) → items ≡ now → o ≡ None → KnownWhile o table a i → IsServing now b j → (HasSlotsAlone a.memory → HasSlotsAlone b.memory) → KnownWhile o items b j
-known-after o table now a b i j items same e h served alone = subst (λ z. KnownWhile o z b j) (sym same) (known-served o now b j e served (alone (alone-none o table a i e h)))
+pub known-after : (o : Option NorError) (table now : List Entry) (a b : NorState) (i j : Bool) (items : List Entry) → items ≡ now → o ≡ None → IsServing now b j → KnownWhile o items b j
+known-after o table now a b i j items same e served = subst (λ z. KnownWhile o z b j) (sym same) (known-served o now b j e served)
 
 -- or it is latched
 pub known-latched : (o : Option NorError) (error : NorError) (table items : List Entry) (a b : NorState) (i j : Bool) → o ≡ None → KnownWhile o table a i → Refuses error a b → (error ≡ errors.Cut → IsStore b.memory) → KnownWhile (Some error) items b j

@@ -1,5 +1,5 @@
 -- The older of two slots is retired, sector by sector.
-use Rattle.std.proofs.Common.{◌≡◌, ◌≢◌, ℕ, suc, ◌-◌, ◌*◌, ◌/◌, ◌<◌, ◌⊎◌, List, length, refl, sym, ap, ◌∙◌, subst, arith, inl, inr}
+use Rattle.std.proofs.Common.{◌≡◌, ◌≢◌, ℕ, suc, Bool, true, false, ◌-◌, ◌*◌, ◌/◌, ◌<◌, ◌⊎◌, List, length, refl, sym, ap, ◌∙◌, subst, arith, inl, inr}
 use Rattle.std.specs.Prelude.{slice_index_or}
 use Rattle.std.proofs.lemmas.Bool.{cases_eq}
 use Rattle.chip_model.specs.Geometry.{sector_count, block_count}
@@ -11,14 +11,14 @@ use Rattle.nor_driver.specs.declared.error.NorError.{NorError}
 use Rattle.erase_journal.specs.Blocks.{SameChip}
 use Rattle.erase_journal.specs.Journals.{IsHealthy}
 use Rattle.erase_journal.specs.Steps.{SucceedsSettled}
-use Rattle.sector_slots.specs.Slots.{Slot, Dead, slot_at, slot_count, IsClean}
+use Rattle.sector_slots.specs.Slots.{Slot, Dead, is_group, kind_at, slot_at, slot_count, IsClean}
 use Rattle.sector_slots.specs.Blocks.{AreSettled}
 use Rattle.sector_slots.specs.Steps.{IsRetirable, OnlyPlace}
-use Rattle.sector_slots.proofs.AloneLaws.{place-alone}
-use Rattle.sector_slots.specs.Sectors.{LiveAt, SoundSlots, OthersKept, IsSingle, HasSlotsAlone, generation_in}
+use Rattle.sector_slots.proofs.PlaceLaws.{place-kinds}
+use Rattle.sector_slots.specs.Sectors.{LiveAt, SoundSlots, OthersKept, IsSingle, HoldsSectors, generation_in}
 use Rattle.sector_slots.proofs.SectorLaws.{Without, moved, moved-back, dead-without, other-without, kind_in, never-round}
-use Rattle.sector_map.specs.Alone.{SlotsHold}
-use Rattle.sector_map.proofs.Places.{others-kept, slot-only, placed-settled, live-placed, retire-held}
+use Rattle.sector_map.specs.Mending.{PairsAreSlots}
+use Rattle.sector_map.proofs.Places.{others-kept, slot-only, placed-settled, live-placed, retire-left}
 use Rattle.sector_map.specs.Table.{OneHolds, TwoHold, EntryHolds, IsTabled, KeptOne, IsOneAtMost, IsTableOf, holder}
 use Rattle.sector_map.specs.Replace.{HeldBy}
 use Rattle.sector_map.specs.declared.held.Held.{Held}
@@ -80,14 +80,14 @@ pub record Retired (table0 table : List Entry) (n : ℕ) (a b : NorState) : Type
   pub since : (b ≡ a) ⊎ SucceedsSettled a b
   pub size : length table ≡ length table0
   pub tabled : IsTabled table (slot_at b.memory) (slot_count a.memory)
-  pub sectors : (sectors : ℕ → List ℕ) → SlotsHold sectors a.memory → SlotsHold sectors b.memory
+  pub sectors : (sectors : ℕ → List ℕ) → HoldsSectors sectors a.memory → HoldsSectors sectors b.memory
   pub clean : IsClean a.memory → IsClean b.memory
   pub blocks : AreSettled b.memory
-  pub alone : HasSlotsAlone b.memory
+  pub pairs : PairsAreSlots table b.memory
   pub single : (g : ℕ) → g < n → IsOneAtMost (slice_index_or table g Absent)
 
-pub retired-none : (table : List Entry) (a : NorState) → IsTabled table (slot_at a.memory) (slot_count a.memory) → AreSettled a.memory → HasSlotsAlone a.memory → Retired table table 0 a a
-retired-none table a t blocks alone = record {
+pub retired-none : (table : List Entry) (a : NorState) → IsTabled table (slot_at a.memory) (slot_count a.memory) → AreSettled a.memory → PairsAreSlots table a.memory → Retired table table 0 a a
+retired-none table a t blocks pairs = record {
   chip = record { same_length = refl; superblock = λ k low. refl };
   since = inl refl;
   size = refl;
@@ -95,7 +95,7 @@ retired-none table a t blocks alone = record {
   sectors = λ g s. s;
   clean = λ c. c;
   blocks = blocks;
-  alone = alone;
+  pairs = pairs;
   single = λ g low. absurd (omega (arith, low));
 }
 
@@ -112,7 +112,7 @@ retired-quiet table0 table now n next a b c e t q here r = subst (λ z. Retired 
   sectors = r.sectors;
   clean = r.clean;
   blocks = r.blocks;
-  alone = r.alone;
+  pairs = r.pairs;
   single = one-more table n here r.single;
 })))
 
@@ -139,20 +139,26 @@ older-number table0 table n a b x y low is r =
     let o = retired-two table0 table n a b x y low is r in
     subst (λ k. y.slot < 7 * (block_count k - 4)) (sym r.chip.same_length) o.older_live.1.number
 
+one-two : (e : Entry) (x p q : Held) → e ≡ One x → e ≡ Two p q → ⊥
+one-two e x p q a b = let h : One x ≡ Two p q = sym a ∙ b in cc
+
+group-not : (b : Bool) → (b ≡ true → ⊥) → b ≡ false
+group-not true h = absurd (h refl)
+group-not false h = refl
+
 -- a retirement that was cut
 pub older-retirable : (table0 table : List Entry) (n : ℕ) (a b : NorState) (x y : Held) → n < length table → slice_index_or table n Absent ≡ Two x y → Retired table0 table n a b → IsRetirable y.slot b.memory
-older-retirable table0 table n a b x y low is r =
-    let o = retired-two table0 table n a b x y low is r in
+older-retirable table0 table n a b x y low0 is r =
+    let o = retired-two table0 table n a b x y low0 is r in
     let tag : Tag = record { number = n; generation = y.generation } in
-    let low = older-number table0 table n a b x y low is r in
-    ((tag, o.older_live.0, o.older_live.1.is), r.alone (y.slot / 7) (omega (arith, low)))
+    ((tag, o.older_live.0, o.older_live.1.is), group-not (is_group (kind_at b.memory (y.slot / 7))) (λ e. r.pairs n (record { number = low0; newer = x; older = y; entry = is; group = e })))
 
 -- the sectors, once the older slot of sector n was retired or its retirement cut
 pub retired-sectors : (table0 table : List Entry) (n : ℕ) (a b c : NorState) (x y : Held) → n < length table → slice_index_or table n Absent ≡ Two x y → OnlyPlace y.slot b.memory c.memory
-    → (slot_at c.memory y.slot ≡ slot_at b.memory y.slot) ⊎ (slot_at c.memory y.slot ≡ Dead) → Retired table0 table n a b → (sectors : ℕ → List ℕ) → SlotsHold sectors a.memory → SlotsHold sectors c.memory
+    → (slot_at c.memory y.slot ≡ slot_at b.memory y.slot) ⊎ (slot_at c.memory y.slot ≡ Dead) → Retired table0 table n a b → (sectors : ℕ → List ℕ) → HoldsSectors sectors a.memory → HoldsSectors sectors c.memory
 retired-sectors table0 table n a b c x y low is only left r sectors s =
     let o : TwoHold x y (slot_at b.memory) (slot_count b.memory) n = subst (λ k. TwoHold x y (slot_at b.memory) (7 * (block_count k - 4)) n) (sym r.chip.same_length) (retired-two table0 table n a b x y low is r) in
-    retire-held x.slot y.slot n y.generation x.generation o.newer_live.0 o.older_live.0 b.memory c.memory sectors only o.older_live.1 o.newer_live.1 (two-apart x y (slot_at b.memory) (slot_count b.memory) n o) o.next left r.blocks (r.sectors sectors s)
+    retire-left x.slot y.slot n y.generation x.generation o.newer_live.0 o.older_live.0 b.memory c.memory sectors only o.older_live.1 o.newer_live.1 (two-apart x y (slot_at b.memory) (slot_count b.memory) n o) o.next left r.blocks (r.sectors sectors s)
 
 pub retired-more : (table0 table new now : List Entry) (n next : ℕ) (a b c d : NorState) (x y : Held) → next ≡ suc n → now ≡ new → d ≡ c → n < length table → slice_index_or table n Absent ≡ Two x y → OnlyPlace y.slot b.memory c.memory
     → (IsRetirable y.slot b.memory → slot_at c.memory y.slot ≡ Dead) → (IsRetirable y.slot b.memory → IsClean b.memory → IsClean c.memory) → SucceedsSettled b c → KeptOne table n x new → Retired table0 table n a b → Retired table0 now next a d
@@ -164,7 +170,14 @@ retired-more table0 table new now n next a b c d x y e t q low is only dead' cle
       (subst (λ k. OthersKept (7 * (block_count k - 4)) y.slot (slot_at b.memory) (slot_at c.memory)) r.chip.same_length (others-kept y.slot b.memory c.memory (slot-only y.slot b.memory c.memory only))) dead settled r.tabled;
   sectors = retired-sectors table0 table n a b c x y low is only (inr dead) r;
   clean = λ h. clean (r.clean h);
-  alone = place-alone y.slot b.memory c.memory only r.alone;
+  pairs = λ g p. elim (cases_eq g n) [
+    | inl e ↦ one-two (slice_index_or new g Absent) x p.newer p.older (ap (λ z. slice_index_or new z Absent) e ∙ settled.entry) p.entry
+    | inr ne ↦
+        let was : slice_index_or table g Absent ≡ Two p.newer p.older = sym (settled.others g (let l = p.number in omega (arith, l, settled.size)) ne) ∙ p.entry in
+        let within : g < length table = (let l = p.number in omega (arith, l, settled.size)) in
+        let h : TwoHold p.newer p.older (slot_at b.memory) (slot_count a.memory) g = subst (λ e. EntryHolds e (slot_at b.memory) (slot_count a.memory) g) was (r.tabled.each g within) in
+        r.pairs g (record { number = within; newer = p.newer; older = p.older; entry = was; group = sym (ap is_group (place-kinds y.slot b.memory c.memory only (p.older.slot / 7) (let l = h.older_live.1.number in let z = r.chip.same_length in omega (arith, l, z)))) ∙ p.group })
+  ];
   blocks =
       let o = retired-two table0 table n a b x y low is r in
       placed-settled y.slot b.memory c.memory r.blocks (live-placed y.slot (record { number = n; generation = y.generation }) o.older_live.0 b.memory r.blocks (older-number table0 table n a b x y low is r) o.older_live.1.is) only;
@@ -176,7 +189,7 @@ retired-more table0 table new now n next a b c d x y e t q low is only dead' cle
 
 pub retired-cut : (table0 table : List Entry) (n : ℕ) (a b c : NorState) (x y : Held) → n < length table → slice_index_or table n Absent ≡ Two x y → OnlyPlace y.slot b.memory c.memory
     → (IsRetirable y.slot b.memory → (slot_at c.memory y.slot ≡ slot_at b.memory y.slot) ⊎ (slot_at c.memory y.slot ≡ Dead))
-    → Retired table0 table n a b → (sectors : ℕ → List ℕ) → SlotsHold sectors a.memory → SlotsHold sectors c.memory
+    → Retired table0 table n a b → (sectors : ℕ → List ℕ) → HoldsSectors sectors a.memory → HoldsSectors sectors c.memory
 retired-cut table0 table n a b c x y low is only left r =
     let either = left (older-retirable table0 table n a b x y low is r) in
     retired-sectors table0 table n a b c x y low is only either r

@@ -1,10 +1,11 @@
 -- What the steps of a mount and of a restore leave. Words of private functions: no claim rests on
 -- them. Source: own.
-use Rattle.std.specs.Prelude.{◌≡◌, ◌<◌, Bool, true, false, List, length, Option, Some, None}
+use Rattle.std.specs.Prelude.{◌≡◌, ◌⊎◌, ◌<◌, Bool, true, false, List, length, Option, Some, None}
 use Rattle.nor_driver.specs.State.{NorState, OnlyMemoryChanges}
 use Rattle.nor_driver.specs.declared.error.NorError.{NorError}
-use Rattle.sector_slots.specs.Sectors.{HasSlotsAlone}
-use Rattle.sector_map.specs.Alone.{IsSlotMap}
+use Rattle.nor_layout.specs.Superblock.{mixed_in}
+use Rattle.sector_slots.specs.Sectors.{IsSoundMap}
+use Rattle.sector_map.specs.Marking.{IsUnmarked, mixed_mark}
 use Rattle.sector_map.specs.declared.entry.Entry.{Entry}
 use Rattle.sector_map.specs.declared.error.MountError.{MountError}
 use Rattle.nor_driver.specs.declared.error.NorError.TheVariants as errors
@@ -13,8 +14,9 @@ use Rattle.sector_map.specs.Maps.{IsStore, KeepsEach, IsServing}
 
 -- the table of slots that were recovered was made: what comes between them and what comes of it
 pub record Filled (old new : NorState) : Type 0 where
-  pub slots : IsSlotMap old.memory
+  pub slots : IsSoundMap old.memory
   pub keeps : KeepsEach old.memory new.memory
+  pub marked : IsUnmarked old.memory → mixed_in new.memory ≡ mixed_mark
   pub kept : OnlyMemoryChanges old new
 
 pub record FillCut (old new : NorState) : Type 0 where
@@ -23,7 +25,8 @@ pub record FillCut (old new : NorState) : Type 0 where
   pub powered : new.powered ≡ false
   pub quick : old.is_slow ≡ false → new.is_slow ≡ false
   pub size : length new.memory ≡ length old.memory
-  pub keeps : IsSlotMap old.memory → KeepsEach old.memory new.memory
+  pub keeps : IsSoundMap old.memory → KeepsEach old.memory new.memory
+  pub first : IsUnmarked old.memory → (new.memory ≡ old.memory) ⊎ (mixed_in new.memory ≡ mixed_mark)
 
 pub record FillSlow (old new : NorState) : Type 0 where
   pub came : old.slows < new.slows
@@ -31,7 +34,7 @@ pub record FillSlow (old new : NorState) : Type 0 where
   pub size : length new.memory ≡ length old.memory
 
 pub record FillCorrupt (old new : NorState) : Type 0 where
-  pub corrupt : IsSlotMap old.memory → ⊥
+  pub corrupt : IsSoundMap old.memory → ⊥
   pub cuts : new.cuts ≡ old.cuts
   pub slows : new.slows ≡ old.slows
   pub quick : old.is_slow ≡ false → new.is_slow ≡ false
@@ -49,7 +52,6 @@ pub record Renewed (table : List Entry) (old new : NorState) (indexed : Bool) : 
   pub cuts : new.cuts ≡ old.cuts
   pub slows : new.slows ≡ old.slows
   pub served : IsServing table new indexed
-  pub alone : HasSlotsAlone new.memory
   pub size : length new.memory ≡ length old.memory
   pub keeps : old.is_slow ≡ false → IsStore old.memory → KeepsEach old.memory new.memory
 

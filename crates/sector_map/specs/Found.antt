@@ -1,11 +1,10 @@
--- What the kinds of the blocks say of a copying, as they are read one by one. Source: own, layout
--- 2.
+-- What the kinds of the blocks say of a copying, as they are read one by one. Source: own.
 use Rattle.std.specs.Prelude.{◌≡◌, ◌≢◌, ℕ, ◌+◌, ◌-◌, ◌<◌, ◌==◌, ◌&&◌, Bool, true, false, not, List}
 use Rattle.std.specs.Prelude.{Option, Some, None, if◌then◌else◌, nat_le}
 use Rattle.nor_layout.specs.declared.kind.Kind.{Kind}
 use Rattle.nor_layout.specs.declared.kind.Kind.TheVariants as kinds
-use Rattle.sector_slots.specs.Slots.{data_blocks, kind_at}
-use Rattle.sector_slots.specs.Blocks.{IsAtRest}
+use Rattle.sector_slots.specs.Slots.{is_group, data_blocks, kind_at}
+use Rattle.sector_slots.specs.Blocks.{IsAtRest, AreSettled, HasGroupRoom}
 use Rattle.sector_map.specs.declared.found.Found.{Found}
 use Rattle.sector_map.specs.declared.found.Found.TheVariants.{AtRest, Void, Committed}
 
@@ -30,17 +29,17 @@ FoundBelow AtRest kind k n = RestBelow kind k
 FoundBelow (Void t) kind k n = VoidBelow t kind k
 FoundBelow (Committed s t) kind k n = CommittedBelow s t kind k n
 
--- What is found once one more block is read; None where the blocks are corrupt, or one is of a
--- group: on a chip of layout 2 none is.
+-- What is found once one more block is read; None where the blocks are corrupt. A block of a group is
+-- at rest.
 abbrev pub noted_first : ℕ → Kind → ℕ → Option Found
 noted_first block kinds.Plain n = Some AtRest
 noted_first block kinds.Void n = Some (Void block)
 noted_first block (kinds.Committed b) n = if nat_le 4 b && nat_le b (n + 3) && not (b == block + 4)
     then Some (Committed (b - 4) block) else None
 noted_first block kinds.Settled n = Some AtRest
-noted_first block (kinds.Group group) n = None
-noted_first block kinds.DeadGroup n = None
-noted_first block kinds.SpoiltGroup n = None
+noted_first block (kinds.Group group) n = Some AtRest
+noted_first block kinds.DeadGroup n = Some AtRest
+noted_first block kinds.SpoiltGroup n = Some AtRest
 noted_first block kinds.Unknown n = None
 
 abbrev pub noted_next : Found → Kind → Option Found
@@ -48,15 +47,20 @@ noted_next found kinds.Plain = Some found
 noted_next found kinds.Void = None
 noted_next found (kinds.Committed b) = None
 noted_next found kinds.Settled = Some found
-noted_next found (kinds.Group group) = None
-noted_next found kinds.DeadGroup = None
-noted_next found kinds.SpoiltGroup = None
+noted_next found (kinds.Group group) = Some found
+noted_next found kinds.DeadGroup = Some found
+noted_next found kinds.SpoiltGroup = Some found
 noted_next found kinds.Unknown = None
 
 abbrev pub noted_kind : Found → ℕ → Kind → ℕ → Option Found
 noted_kind AtRest block kind n = noted_first block kind n
 noted_kind (Void t) block kind n = noted_next (Void t) kind
 noted_kind (Committed s t) block kind n = noted_next (Committed s t) kind
+
+-- the same where blocks of groups may be, or may not
+abbrev pub noted_where : Bool → Found → ℕ → Kind → ℕ → Option Found
+noted_where groups found block kind n =
+    if is_group kind && not groups then None else noted_kind found block kind n
 
 -- the blocks of a memory
 abbrev pub FoundIn : Found → List ℕ → Type 0
@@ -68,9 +72,15 @@ block_counts AtRest block = true
 block_counts (Void t) block = not (block == t)
 block_counts (Committed s t) block = not (block == s)
 
--- what was found, where one goes on or a block is wholly free
-abbrev pub fitting : Found → Bool → Option Found
-fitting AtRest true = Some AtRest
-fitting AtRest false = None
-fitting (Void t) spare = Some (Void t)
-fitting (Committed s t) spare = Some (Committed s t)
+-- whether a block is wholly free once a copying that was found is ended
+abbrev pub leaves_room : Found → Bool → Bool
+leaves_room AtRest spare = spare
+leaves_room (Void t) spare = true
+leaves_room (Committed s t) spare = true
+
+-- What is known of room: where none goes on, a block is wholly free, or can be made so.
+abbrev pub RoomSeen : Found → Bool → List ℕ → Type 0
+RoomSeen AtRest true m = AreSettled m
+RoomSeen AtRest false m = HasGroupRoom (kind_at m) (data_blocks m)
+RoomSeen (Void t) spare m = Unit {0}
+RoomSeen (Committed s t) spare m = Unit {0}

@@ -5,7 +5,8 @@ use Rattle.chip_model.specs.Parts.{part}
 use Rattle.chip_model.specs.Geometry.{block_count, group_count, sector_count}
 use Rattle.chip_model.specs.declared.geometry.Geometry.{Geometry}
 use Rattle.nor_layout.specs.Layouts.{layout_of}
-use Rattle.nor_layout.specs.declared.layout.Layout.TheVariants.{Sectors}
+use Rattle.nor_layout.specs.declared.layout.Layout.{Layout}
+use Rattle.nor_layout.specs.Superblock.{mixed_in}
 use Rattle.nor_driver.specs.State.{NorState, IsNorReady, OnlyMemoryChanges}
 use Rattle.nor_driver.specs.declared.error.NorError.{NorError}
 use Rattle.erase_journal.specs.Blocks.{SameChip, SameBlocks}
@@ -13,7 +14,7 @@ use Rattle.erase_journal.specs.Journals.{IsHealthy, IsSettled}
 use Rattle.sector_slots.specs.Slots.{IsClean}
 use Rattle.sector_slots.specs.Blocks.{AreSettled}
 use Rattle.sector_slots.specs.Sectors.{IsSoundMap, HasSlotsAlone, sector_at}
-use Rattle.sector_map.specs.Alone.{IsSlotMap}
+use Rattle.sector_map.specs.Marking.{SameDisk, IsUnmarked, mixed_mark}
 use Rattle.sector_map.specs.Table.{IsTableOf}
 use Rattle.sector_map.specs.declared.entry.Entry.{Entry}
 use Rattle.sector_map.specs.declared.error.MountError.{MountError}
@@ -29,34 +30,35 @@ geometry_of bytes = record {
   sectors = sector_count bytes;
 }
 
--- Behind the superblock: the journals are healthy, slots and blocks sound, and no block of a group.
+-- Behind the superblock: the journals are healthy, slots and blocks sound. A block is of slots, or of
+-- a group.
 pub record IsStore (m : List ℕ) : Type 0 where
-  pub journals : IsHealthy m
-  pub slots : IsSlotMap m
-
--- The same of a store with blocks of slots, of groups, or of both.
-pub record IsMixedStore (m : List ℕ) : Type 0 where
   pub journals : IsHealthy m
   pub slots : IsSoundMap m
 
--- A healthy chip: its superblock is that of a chip of its size in layout 2, the journals are
--- healthy, and slots and blocks sound.
+-- the superblock is that of a chip of its size, of layout 1 or 2 or mixed
+abbrev pub IsLaidOut : List ℕ → Type 0
+IsLaidOut m = (layout : Layout) × (layout_of m (geometry_of (length m)) ≡ Ok layout)
+
+-- A healthy chip: besides, the journals are healthy, and slots and blocks sound.
 pub record IsMountable (m : List ℕ) : Type 0 where
-  pub superblock : layout_of m (geometry_of (length m)) ≡ Ok Sectors
+  pub superblock : IsLaidOut m
   pub store : IsStore m
 
--- What a call leaves that writes no sector: a memory that is still one of a map; and where what
--- read as free was erased it still is, and each sector is as it was.
+-- What a call leaves that writes no sector: a memory that is still one of a map, and where no block
+-- was of a group none is; and where what read as free was erased it still is, and each sector is as
+-- it was.
 pub record KeepsMap (m m' : List ℕ) : Type 0 where
   pub chip : SameChip m m'
   pub store : IsStore m'
+  pub alone : HasSlotsAlone m → HasSlotsAlone m'
   pub sectors : IsClean m → (g : ℕ) → g < sector_count (length m) → sector_at m' g ≡ sector_at m g
   pub clean : IsClean m → IsClean m'
 
--- The same of any memory, also where what read as free wasn't erased: what a mount and a restore
--- leave.
+-- What a mount and a restore leave, of any memory, also where what read as free wasn't erased. The
+-- superblock is as it was, but that of a chip of layout 1 may say that it is mixed.
 pub record KeepsEach (m m' : List ℕ) : Type 0 where
-  pub chip : SameChip m m'
+  pub disk : SameDisk m m'
   pub store : IsStore m'
   pub sectors : (g : ℕ) → g < sector_count (length m) → sector_at m' g ≡ sector_at m g
   pub clean : IsClean m → IsClean m'
@@ -65,6 +67,7 @@ pub record KeepsEach (m m' : List ℕ) : Type 0 where
 pub record Sets (g : ℕ) (x m m' : List ℕ) : Type 0 where
   pub chip : SameChip m m'
   pub store : IsStore m'
+  pub alone : HasSlotsAlone m → HasSlotsAlone m'
   pub there : IsClean m → sector_at m' g ≡ x
   pub others : IsClean m → (h : ℕ) → h < sector_count (length m) → h ≢ g
       → sector_at m' h ≡ sector_at m h
@@ -74,30 +77,9 @@ pub record Sets (g : ℕ) (x m m' : List ℕ) : Type 0 where
 abbrev pub SetLeaves : ℕ → List ℕ → List ℕ → List ℕ → Type 0
 SetLeaves g x m m' = KeepsMap m m' ⊎ Sets g x m m'
 
--- The same on a store with blocks of slots, of groups, or of both; where no block was of a group,
--- none is.
-pub record KeepsMixed (m m' : List ℕ) : Type 0 where
-  pub chip : SameChip m m'
-  pub store : IsMixedStore m'
-  pub alone : HasSlotsAlone m → HasSlotsAlone m'
-  pub sectors : IsClean m → (g : ℕ) → g < sector_count (length m) → sector_at m' g ≡ sector_at m g
-  pub clean : IsClean m → IsClean m'
-
-pub record SetsMixed (g : ℕ) (x m m' : List ℕ) : Type 0 where
-  pub chip : SameChip m m'
-  pub store : IsMixedStore m'
-  pub alone : HasSlotsAlone m → HasSlotsAlone m'
-  pub there : IsClean m → sector_at m' g ≡ x
-  pub others : IsClean m → (h : ℕ) → h < sector_count (length m) → h ≢ g
-      → sector_at m' h ≡ sector_at m h
-  pub clean : IsClean m → IsClean m'
-
-abbrev pub SetMixedLeaves : ℕ → List ℕ → List ℕ → List ℕ → Type 0
-SetMixedLeaves g x m m' = KeepsMixed m m' ⊎ SetsMixed g x m m'
-
 -- Whether the latched error is a Slow, and what is known while it does: where nothing is latched,
--- the power is on, table and index are those of the memory, no copying goes on, and no block is of
--- a group; while a Cut is latched, the memory is that of a map.
+-- the power is on, table and index are those of the memory, and no copying goes on; while a Cut is
+-- latched, the memory is that of a map.
 abbrev pub is_slow_in : Option NorError → Bool
 is_slow_in None = false
 is_slow_in (Some errors.Cut) = false
@@ -106,7 +88,7 @@ is_slow_in (Some errors.Slow) = true
 pub record IsServing (table : List Entry) (state : NorState) (indexed : Bool) : Type 0 where
   pub ready : IsNorReady state
   pub settled : IsSettled state.memory
-  pub store : IsMixedStore state.memory
+  pub store : IsStore state.memory
   pub blocks : AreSettled state.memory
   pub tabled : IsTableOf table state.memory
   pub index : indexed ≡ true
@@ -117,7 +99,7 @@ pub record IsCutOff (state : NorState) : Type 0 where
   pub store : IsStore state.memory
 
 abbrev pub KnownWhile : Option NorError → List Entry → NorState → Bool → Type 0
-KnownWhile None table state indexed = IsServing table state indexed × HasSlotsAlone state.memory
+KnownWhile None table state indexed = IsServing table state indexed
 KnownWhile (Some errors.Cut) table state indexed = IsCutOff state
 KnownWhile (Some errors.Slow) table state indexed = Unit {0}
 
@@ -129,22 +111,24 @@ shown_with latched state = record state { is_slow = is_slow_in latched }
 -- what a write that answered Ok leaves beside the sectors: the table is again that of the memory
 pub record Wrote (g : ℕ) (x : List ℕ) (table : List Entry) (old new : NorState)
     (indexed : Bool) : Type 0 where
-  pub sets : SetsMixed g x old.memory new.memory
+  pub sets : Sets g x old.memory new.memory
   pub served : IsServing table new indexed
 
 -- and a call that writes none
 pub record KeptServing (table : List Entry) (old new : NorState) (indexed : Bool) : Type 0 where
-  pub keeps : KeepsMixed old.memory new.memory
+  pub keeps : KeepsMap old.memory new.memory
   pub served : IsServing table new indexed
 
--- A mount that answered Ok.
+-- A mount that answered Ok: a chip of layout 1 is mixed now.
 pub record Mounted (old new : NorState) : Type 0 where
   pub mountable : IsMountable old.memory
   pub keeps : KeepsEach old.memory new.memory
+  pub marked : IsUnmarked old.memory → mixed_in new.memory ≡ mixed_mark
   pub ready : IsNorReady old
   pub kept : OnlyMemoryChanges old new
 
--- One that was cut: a mountable memory stays one, with the same sectors.
+-- One that was cut: a mountable memory stays one, with the same sectors. No block of a chip of layout
+-- 1 has changed until it is mixed.
 pub record MountWasCut (old new : NorState) : Type 0 where
   pub came : (old.cuts < new.cuts) ⊎ (old.powered ≡ false)
   pub slows : new.slows ≡ old.slows
@@ -152,6 +136,8 @@ pub record MountWasCut (old new : NorState) : Type 0 where
   pub quick : old.is_slow ≡ false → new.is_slow ≡ false
   pub size : length new.memory ≡ length old.memory
   pub keeps : IsMountable old.memory → KeepsEach old.memory new.memory
+  pub first : IsMountable old.memory → IsUnmarked old.memory
+      → SameBlocks old.memory new.memory ⊎ (mixed_in new.memory ≡ mixed_mark)
 
 -- One that met a slow operation.
 pub record MountWasSlow (old new : NorState) : Type 0 where

@@ -10,8 +10,9 @@ use Rattle.erase_journal.specs.Blocks.{SameChip}
 use Rattle.sector_slots.specs.Slots.{Slot, NoGeneration, slot_at, slot_count, IsClean}
 use Rattle.sector_slots.specs.Blocks.{AreSettled}
 use Rattle.sector_slots.specs.Sectors.{LiveAt, IsAbsent, is_next, IsSingle}
-use Rattle.sector_slots.specs.Sectors.{sector_at}
-use Rattle.sector_map.specs.Alone.{IsSlotMap, SlotsHold}
+use Rattle.sector_slots.specs.Sectors.{IsSoundMap, HoldsSectors, sector_at}
+use Rattle.nor_layout.specs.Superblock.{mixed_in}
+use Rattle.sector_map.specs.Marking.{SameDisk, IsUnmarked, mixed_mark}
 use Rattle.sector_map.specs.declared.held.Held.{Held}
 use Rattle.sector_map.specs.declared.entry.Entry.{Entry}
 use Rattle.sector_map.specs.declared.entry.Entry.TheVariants.{Absent, One, Two}
@@ -118,19 +119,35 @@ pub record IsTableOf (table : List Entry) (m : List ℕ) : Type 0 where
   pub tabled : IsTabled table (slot_at m) (slot_count m)
   pub single : (g : ℕ) → g < length table → IsOneAtMost (slice_index_or table g Absent)
 
--- A table that was made, a copying ended, and the older of two slots of a sector retired: slots and
--- blocks were sound, and the sectors are what they were.
-pub record Mounts (m : List ℕ) (table : List Entry) (m' : List ℕ) : Type 0 where
-  pub sound : IsSlotMap m
+-- What a step of a mount leaves that mends the blocks: the same sectors, and what read as free and
+-- was erased still is.
+pub record Mends (m m' : List ℕ) : Type 0 where
   pub chip : SameChip m m'
-  pub sectors : SlotsHold (sector_at m) m'
+  pub sectors : (sectors : ℕ → List ℕ) → HoldsSectors sectors m → HoldsSectors sectors m'
+  pub clean : IsClean m → IsClean m'
+
+-- The blocks were mended, the older of two slots retired, and the table is that of the memory.
+pub record Repairs (m : List ℕ) (table : List Entry) (m' : List ℕ) : Type 0 where
+  pub mends : Mends m m'
+  pub tabled : IsTableOf table m'
+  pub blocks : AreSettled m'
+
+-- A table that was made, a copying ended, room made, and the older of two slots or groups of a
+-- sector retired: slots and blocks were sound, and the sectors are what they were.
+pub record Mounts (m : List ℕ) (table : List Entry) (m' : List ℕ) : Type 0 where
+  pub sound : IsSoundMap m
+  pub disk : SameDisk m m'
+  pub marked : IsUnmarked m → mixed_in m' ≡ mixed_mark
+  pub sectors : HoldsSectors (sector_at m) m'
   pub tabled : IsTableOf table m'
   pub single : IsSingle m'
   pub blocks : AreSettled m'
   pub clean : IsClean m → IsClean m'
 
--- One that was cut: where the slots were sound they are, and the sectors are what they were.
+-- One that was cut: where the slots were sound they are, and the sectors are what they were; a chip
+-- of layout 1 is mixed, or nothing has changed.
 pub record MountCut (m m' : List ℕ) : Type 0 where
-  pub chip : SameChip m m'
-  pub sectors : IsSlotMap m → SlotsHold (sector_at m) m'
+  pub disk : SameDisk m m'
+  pub first : IsUnmarked m → (m' ≡ m) ⊎ (mixed_in m' ≡ mixed_mark)
+  pub sectors : IsSoundMap m → HoldsSectors (sector_at m) m'
   pub clean : IsClean m → IsClean m'

@@ -1,7 +1,7 @@
 //! What the kinds of the blocks say of a copying.
 
 ghost use Rattle.std.specs.Prelude.{◌≡◌, ◌+◌, ◌≤◌};
-ghost use Rattle.sector_map.specs.Found.{noted_kind, block_counts};
+ghost use Rattle.sector_map.specs.Found.{noted_kind, block_counts, leaves_room};
 
 use nor_layout::Kind;
 
@@ -20,7 +20,7 @@ pub enum Found {
 const FIRST_DATA_BLOCK: u16 = 4;
 
 /// What is found once a block of this kind is read, of `count` blocks; None where the blocks are
-/// corrupt, or this one is of a group.
+/// corrupt. A block of a group is at rest.
 pub fn note_kind(found: Found, block: u16, kind: Kind, count: u16) -> Option<Found>
     requires few { count ≤ 4092 }
     requires number { block ≤ 4092 }
@@ -29,9 +29,9 @@ pub fn note_kind(found: Found, block: u16, kind: Kind, count: u16) -> Option<Fou
     match kind {
         Kind::Plain => Some(found),
         Kind::Settled => Some(found),
-        Kind::Group(_) => None,
-        Kind::DeadGroup => None,
-        Kind::SpoiltGroup => None,
+        Kind::Group(_) => Some(found),
+        Kind::DeadGroup => Some(found),
+        Kind::SpoiltGroup => Some(found),
         Kind::Unknown => None,
         Kind::Void => match found {
             Found::AtRest => Some(Found::Void(block)),
@@ -63,5 +63,24 @@ pub fn is_counted(found: Found, block: u16) -> bool
         Found::AtRest => true,
         Found::Void(target) => block != target,
         Found::Committed(source, _) => block != source,
+    }
+}
+
+/// What the blocks of a memory say to a mount: the copying that goes on, and whether a block is
+/// wholly free. Source: own.
+#[derive(Clone, Copy, Drop)]
+pub struct Seen {
+    pub found: Found,
+    pub spare: bool,
+}
+
+/// Whether a block is wholly free once the copying that was seen is ended.
+pub fn has_room(seen: Seen) -> bool
+    ensures { result ≡ leaves_room seen.found seen.spare }
+{
+    match seen.found {
+        Found::AtRest => seen.spare,
+        Found::Void(_) => true,
+        Found::Committed(_, _) => true,
     }
 }

@@ -5,7 +5,6 @@ ghost use Rattle.std.specs.Prelude.{vec_len, slice_index_or, OnOk, IfOk, IfErr, 
 ghost use Rattle.std.specs.Result.{IsErrOf};
 ghost use Rattle.chip_model.specs.Geometry.{IsChipSize, sector_count};
 ghost use Rattle.nor_driver.specs.State.{IsNorReady, Refuses};
-ghost use Rattle.nor_layout.specs.Layouts.{layout_of};
 ghost use Rattle.erase_journal.specs.Journals.{IsHealthy};
 ghost use Rattle.erase_journal.specs.Recovery.{IsBehind};
 ghost use Rattle.erase_journal.specs.Steps.{SucceedsSettled};
@@ -14,7 +13,7 @@ ghost use Rattle.sector_slots.specs.Sectors.{sector_at, zeros};
 ghost use Rattle.sector_stock.specs.Takes.{work_of};
 ghost use Rattle.sector_map.specs.Table.{holder};
 ghost use Rattle.sector_map.specs.Maps.{IsStore, KeepsMap, Sets, SetLeaves, Mounted, MountFails};
-ghost use Rattle.sector_map.specs.Maps.{MapRestored, MapRestoreFails, geometry_of};
+ghost use Rattle.sector_map.specs.Maps.{MapRestored, MapRestoreFails, IsLaidOut};
 ghost use Rattle.sector_map.specs.Filling.{Filled, FillFails, Renewed, RenewCorrupt, RenewFails};
 ghost use Rattle.sector_map.specs.Filling.{latched_after_cut};
 
@@ -29,7 +28,7 @@ use chip_model::Geometry;
 use erase_journal::{Journal, RecoverError};
 use journal_slots::SectorSlots;
 use nor_driver::{Nor, NorError};
-use nor_layout::{Layout, SuperError};
+use nor_layout::SuperError;
 use sector_slots::SlotCalls;
 use sector_stock::{BlockState, Reclaim, SlotState, Stock};
 use std::alloc::{AllocError, Global};
@@ -67,17 +66,16 @@ impl<N: Nor> Model for SectorMap<N> {
 
 impl<N: Nor> SectorMap<N> {
     /// Mounts a memory: reads the superblock, takes the memory of the table and of the index,
-    /// recovers the journals, reads what the blocks say, ends a copying that was cut, and retires
-    /// the older of two slots of a sector. A refusal hands the memory back.
+    /// recovers the journals, reads what the blocks say, marks a chip of layout 1 as mixed, ends a
+    /// copying that was cut, and retires the older of two blocks of a group and of two slots of a
+    /// sector. A refusal hands the memory back.
     pub fn mount(alloc: Global, nor: N) -> Result<SectorMap<N>, (N, MountError)>
         ensures ok { IfOk result (λ map. Mounted (N.state nor) map) }
         ensures fails { IfErr result (λ e. MountFails e.1 (N.state nor) (N.state e.0)) }
     {
         let mut nor = nor;
         match look(&mut nor) {
-            Ok(Ok(Layout::Sectors)) => recover(alloc, nor),
-            Ok(Ok(Layout::Groups)) => Err((nor, MountError::Corrupt)),
-            Ok(Ok(Layout::Mixed)) => Err((nor, MountError::Corrupt)),
+            Ok(Ok(_layout)) => recover(alloc, nor),
             Ok(Err(SuperError::NotFormatted)) => Err((nor, MountError::NotFormatted)),
             Ok(Err(SuperError::Layout)) => Err((nor, MountError::Corrupt)),
             Ok(Err(SuperError::Geometry)) => Err((nor, MountError::Corrupt)),
@@ -130,8 +128,9 @@ impl<N: Nor> SectorMap<N> {
         }
     }
 
-    /// Writes a sector, 512 bytes, into a free slot, and retires the slot that held it. Cut, it
-    /// leaves every sector as it was, or this one new.
+    /// Writes a sector, 512 bytes, into a free slot, and retires the slot that held it. A block that
+    /// holds the sector with its group is converted first. Cut, it leaves every sector as it was, or
+    /// this one new.
     pub fn replace(&mut self, sector: u16, content: &[u8]) -> Result<(), NorError>
         requires number { sector < sector_count (length self.old.memory) }
         requires size { length content.now ≡ 512 }
@@ -178,7 +177,8 @@ impl<N: Nor> SectorMap<N> {
         }
     }
 
-    /// Copies the block with the most dead slots: true. Where none is dead nothing changes: false.
+    /// Copies the block with the most dead slots, and where none is dead converts the lowest-numbered
+    /// block that is live with a group: true. Where there is neither nothing changes: false.
     pub fn tidy(&mut self) -> Result<bool, NorError>
         ensures ok { OnOk result (KeepsMap self.old.memory self.new.memory) }
         ensures fewer { IfOk result (λ more. IsTrue more
@@ -310,8 +310,7 @@ fn take_tables(alloc: Global, chip: Geometry) -> Result<Tables, AllocError>
 
 /// Mounts a memory whose superblock was looked at.
 fn recover<N: Nor>(alloc: Global, nor: N) -> Result<SectorMap<N>, (N, MountError)>
-    requires superblock { layout_of (N.state nor).memory (geometry_of (length (N.state nor).memory))
-        ≡ Ok Layout.Sectors }
+    requires superblock { IsLaidOut (N.state nor).memory }
     ensures ok { IfOk result (λ map. Mounted (N.state nor) map) }
     ensures fails { IfErr result (λ e. MountFails e.1 (N.state nor) (N.state e.0)) }
 {

@@ -1,41 +1,46 @@
-//! A map is mounted: the blocks are read into the table, a copying that was cut is ended, and the
-//! older of two slots is retired.
+//! A map is mounted: the blocks are read into the table, a chip of layout 1 is marked as mixed, a
+//! copying that was cut is ended, and the older of two blocks of a group and of two slots retired.
 
-ghost use Rattle.std.specs.Prelude.{◌≡◌, ◌⊎◌, ◌<◌, ℕ, List, true, Some, None, length, OnOk, IfOk};
-ghost use Rattle.std.specs.Prelude.{IfErr, IsTrue, IsFalse};
+ghost use Rattle.std.specs.Prelude.{◌≡◌, ◌⊎◌, ◌<◌, ℕ, List, true, false, Some, None, length, OnOk};
+ghost use Rattle.std.specs.Prelude.{IfOk, IfErr, IsTrue, IsFalse};
 ghost use Rattle.std.specs.Result.{IsErrOf};
 ghost use Rattle.chip_model.specs.Geometry.{sector_count};
 ghost use Rattle.nor_driver.specs.State.{IsNorReady, Refuses};
 ghost use Rattle.erase_journal.specs.Blocks.{SameChip};
 ghost use Rattle.erase_journal.specs.Journals.{IsHealthy};
 ghost use Rattle.erase_journal.specs.Steps.{SucceedsSettled};
-ghost use Rattle.sector_slots.specs.Slots.{slot_at, slot_count, IsClean};
-ghost use Rattle.sector_slots.specs.Blocks.{AreSettled};
-ghost use Rattle.sector_slots.specs.Sectors.{HasSlotsAlone};
+ghost use Rattle.sector_slots.specs.Slots.{slot_at, slot_count, data_blocks, kind_at, IsClean};
+ghost use Rattle.sector_slots.specs.Blocks.{AreSettled, HasGroupRoom};
+ghost use Rattle.sector_slots.specs.Sectors.{IsSoundMap, HoldsSectors};
 ghost use Rattle.sector_stock.specs.Copy.{KeepsSectors, EndsCopy};
-ghost use Rattle.sector_map.specs.Alone.{IsSlotMap, SlotsHold};
-ghost use Rattle.sector_map.specs.Found.{FoundIn, fitting};
-ghost use Rattle.sector_map.specs.Table.{IsTabled, IsTableOf, IsBlankTable, Mounts, MountCut};
-ghost use Rattle.sector_map.specs.declared.found.Found.{Found as FoundOf};
+ghost use Rattle.sector_map.specs.Found.{FoundIn, RoomSeen, leaves_room};
+ghost use Rattle.sector_map.specs.Marking.{may_have_groups};
+ghost use Rattle.sector_map.specs.Mending.{EndsFound, MendsBlocks, PairsAreSlots, HasDeadGroup};
+ghost use Rattle.sector_map.specs.Table.{IsTabled, IsTableOf, IsBlankTable, Mends, Repairs, Mounts};
+ghost use Rattle.sector_map.specs.Table.{MountCut};
+ghost use Rattle.sector_map.specs.declared.found.Seen.{Seen as SeenOf};
 
 use crate::entry::Entry;
-use crate::found::Found;
+use crate::found::{Found, Seen, has_room};
+use crate::groups::{has_pair, lowest_dead_group, make_room, retire_groups};
 use crate::scan::{is_spare, read_table, survey};
+use crate::superblock::{mark_first, read_marks};
 use crate::table::keep_one;
 use nor_driver::NorError;
 use sector_slots::SlotCalls;
 use sector_stock::{Reclaim, end_committed, end_erased, end_void};
 
-/// Makes the table of a store of slots: it reads the blocks, ends a copying that was cut, retires
-/// the older of two slots of a sector, and makes the index. False, and nothing is changed, where
-/// the slots or blocks are corrupt. After an error the table holds any entries.
+/// Makes the table of a store of slots: it reads the blocks, marks a chip of layout 1 as mixed, ends
+/// a copying that was cut, makes room, retires the older of two blocks of a group and of two slots of
+/// a sector, and makes the index. False, and nothing is changed, where the slots or blocks are
+/// corrupt. After an error the table holds any entries.
 pub fn mount_in<S: Reclaim>(stock: &mut S, table: &mut [Entry]) -> Result<bool, NorError>
     requires size { length table.old ≡ sector_count (length (S.state stock.old).memory) }
     ensures sound { IfOk result (λ sound. IsTrue sound
         → Mounts (S.state stock.old).memory table.new (S.state stock.new).memory) }
     ensures indexed { IfOk result (λ sound. IsTrue sound → S.indexed stock.new ≡ true) }
     ensures corrupt { IfOk result (λ sound. IsFalse sound
-        → (IsSlotMap (S.state stock.old).memory → ⊥)
+        → (IsSoundMap (S.state stock.old).memory → ⊥)
         × ((S.state stock.new).memory ≡ (S.state stock.old).memory)) }
     ensures cut { IsErrOf result NorError.Cut → IsHealthy (S.state stock.old).memory
         → MountCut (S.state stock.old).memory (S.state stock.new).memory }
@@ -47,66 +52,93 @@ pub fn mount_in<S: Reclaim>(stock: &mut S, table: &mut [Entry]) -> Result<bool, 
     ensures fails { IfErr result (λ e. Refuses e (S.state stock.old) (S.state stock.new)) }
 {
     table.fill(Entry::Absent);
-    match look(stock, table)? {
-        Some(found) => {
-            repair(stock, table, found)?;
+    let marks = read_marks(stock)?;
+    match look(stock, table, marks.groups)? {
+        Some(seen) => {
+            mark_first(stock, marks.unmarked)?;
+            repair(stock, table, seen)?;
             Ok(true)
         }
         None => Ok(false),
     }
 }
 
-/// Reads the blocks into a table in which every sector is absent: the copying that goes on; None
-/// where slots or blocks are corrupt.
-fn look<S: Reclaim>(stock: &mut S, table: &mut [Entry]) -> Result<Option<Found>, NorError>
+/// Reads the blocks into a table in which every sector is absent: what they say; None where slots or
+/// blocks are corrupt.
+fn look<S: Reclaim>(
+    stock: &mut S,
+    table: &mut [Entry],
+    groups: bool,
+) -> Result<Option<Seen>, NorError>
+    requires groups { groups ≡ may_have_groups (S.state stock.old).memory }
     requires blank { IsBlankTable table.old }
     requires size { length table.old ≡ sector_count (length (S.state stock.old).memory) }
-    ensures found { IfOk result (λ answer. (found : FoundOf) → answer ≡ Some found
-        → FoundIn found (S.state stock.old).memory) }
-    ensures tabled { IfOk result (λ answer. (found : FoundOf) → answer ≡ Some found
+    ensures found { IfOk result (λ answer. (seen : SeenOf) → answer ≡ Some seen
+        → FoundIn seen.found (S.state stock.old).memory) }
+    ensures room { IfOk result (λ answer. (seen : SeenOf) → answer ≡ Some seen
+        → RoomSeen seen.found seen.spare (S.state stock.old).memory) }
+    ensures tabled { IfOk result (λ answer. (seen : SeenOf) → answer ≡ Some seen
         → IsTabled table.new (slot_at (S.state stock.old).memory)
         (slot_count (S.state stock.old).memory)) }
-    ensures sound { IfOk result (λ answer. (found : FoundOf) → answer ≡ Some found
-        → IsSlotMap (S.state stock.old).memory) }
-    ensures corrupt { IfOk result (λ answer. answer ≡ None → IsSlotMap (S.state stock.old).memory
+    ensures sound { IfOk result (λ answer. (seen : SeenOf) → answer ≡ Some seen
+        → IsSoundMap (S.state stock.old).memory) }
+    ensures corrupt { IfOk result (λ answer. answer ≡ None → IsSoundMap (S.state stock.old).memory
         → ⊥) }
     ensures size { length table.new ≡ length table.old }
     ensures same { (S.state stock.new).memory ≡ (S.state stock.old).memory }
     ensures done { OnOk result (SucceedsSettled (S.state stock.old) (S.state stock.new)) }
     ensures fails { IfErr result (λ e. Refuses e (S.state stock.old) (S.state stock.new)) }
 {
-    match survey(stock)? {
-        Some(found) => match read_table(stock, table, found)? {
-            Some(spare) => Ok(fit(found, spare)),
-            None => Ok(None),
-        },
+    let Some(found) = survey(stock, groups)? else {
+        return Ok(None);
+    };
+    let Some(spare) = read_table(stock, table, found)? else {
+        return Ok(None);
+    };
+    let Some(pair) = has_pair(stock, table)? else {
+        return Ok(None);
+    };
+    fit(stock, Seen { found, spare }, pair)
+}
+
+/// What was seen of the blocks, where a block is wholly free once a copying is ended, or can be made
+/// so.
+fn fit<S: SlotCalls>(slots: &mut S, seen: Seen, pair: bool) -> Result<Option<Seen>, NorError>
+    requires pair { pair ≡ true → HasGroupRoom (kind_at (S.state slots.old).memory)
+        (data_blocks (S.state slots.old).memory) }
+    requires spare { leaves_room seen.found seen.spare ≡ true
+        → RoomSeen seen.found seen.spare (S.state slots.old).memory }
+    ensures some { IfOk result (λ answer. (fits : SeenOf) → answer ≡ Some fits → (fits ≡ seen)
+        × RoomSeen seen.found seen.spare (S.state slots.old).memory) }
+    ensures none { IfOk result (λ answer. answer ≡ None → (leaves_room seen.found seen.spare ≡ false)
+        × (pair ≡ false) × (HasDeadGroup (S.state slots.old).memory → ⊥)) }
+    ensures same { (S.state slots.new).memory ≡ (S.state slots.old).memory }
+    ensures done { OnOk result ((S.state slots.new ≡ S.state slots.old)
+        ⊎ SucceedsSettled (S.state slots.old) (S.state slots.new)) }
+    ensures fails { IfErr result (λ e. Refuses e (S.state slots.old) (S.state slots.new)) }
+{
+    if has_room(seen) || pair {
+        return Ok(Some(seen));
+    }
+    match lowest_dead_group(slots)? {
+        Some(_) => Ok(Some(seen)),
         None => Ok(None),
     }
 }
 
-/// A copying that was found, where one goes on or a block is wholly free.
-fn fit(found: Found, spare: bool) -> Option<Found>
-    ensures { result ≡ fitting found spare }
-{
-    match found {
-        Found::AtRest => { if spare { Some(found) } else { None } }
-        Found::Void(_) => Some(found),
-        Found::Committed(_, _) => Some(found),
-    }
-}
-
-/// Ends a copying that was found, retires the older of two slots, and makes the index.
-fn repair<S: Reclaim>(stock: &mut S, table: &mut [Entry], found: Found) -> Result<(), NorError>
+/// Mends the blocks, retires the older of two slots, and makes the index.
+fn repair<S: Reclaim>(stock: &mut S, table: &mut [Entry], seen: Seen) -> Result<(), NorError>
     requires size { length table.old ≡ sector_count (length (S.state stock.old).memory) }
     requires tabled { IsTabled table.old (slot_at (S.state stock.old).memory)
         (slot_count (S.state stock.old).memory) }
-    requires found { FoundIn found (S.state stock.old).memory }
-    requires sound { IsSlotMap (S.state stock.old).memory }
-    ensures ok { OnOk result (Mounts (S.state stock.old).memory table.new
+    requires found { FoundIn seen.found (S.state stock.old).memory }
+    requires room { RoomSeen seen.found seen.spare (S.state stock.old).memory }
+    requires sound { IsSoundMap (S.state stock.old).memory }
+    ensures ok { OnOk result (Repairs (S.state stock.old).memory table.new
         (S.state stock.new).memory) }
     ensures indexed { OnOk result (S.indexed stock.new ≡ true) }
     ensures cut { IsErrOf result NorError.Cut → IsHealthy (S.state stock.old).memory
-        → MountCut (S.state stock.old).memory (S.state stock.new).memory }
+        → Mends (S.state stock.old).memory (S.state stock.new).memory }
     ensures healthy { IsErrOf result NorError.Cut → IsHealthy (S.state stock.old).memory
         → IsHealthy (S.state stock.new).memory }
     ensures size { length table.new ≡ length table.old }
@@ -114,17 +146,44 @@ fn repair<S: Reclaim>(stock: &mut S, table: &mut [Entry], found: Found) -> Resul
     ensures done { OnOk result (SucceedsSettled (S.state stock.old) (S.state stock.new)) }
     ensures fails { IfErr result (λ e. Refuses e (S.state stock.old) (S.state stock.new)) }
 {
-    end_copying(stock, found)?;
+    mend_blocks(stock, table, seen)?;
     retire_older(stock, table)?;
     stock.fill()?;
     Ok(())
 }
 
+/// Ends a copying that was found, retires the older of two blocks of a group, and makes a block
+/// wholly free.
+fn mend_blocks<S: SlotCalls>(slots: &mut S, table: &mut [Entry], seen: Seen) -> Result<(), NorError>
+    requires size { length table.old ≡ sector_count (length (S.state slots.old).memory) }
+    requires tabled { IsTabled table.old (slot_at (S.state slots.old).memory)
+        (slot_count (S.state slots.old).memory) }
+    requires found { FoundIn seen.found (S.state slots.old).memory }
+    requires room { RoomSeen seen.found seen.spare (S.state slots.old).memory }
+    requires sound { IsSoundMap (S.state slots.old).memory }
+    ensures ok { OnOk result (MendsBlocks (S.state slots.old).memory table.new
+        (S.state slots.new).memory) }
+    ensures cut { IsErrOf result NorError.Cut → IsHealthy (S.state slots.old).memory
+        → Mends (S.state slots.old).memory (S.state slots.new).memory }
+    ensures healthy { IsErrOf result NorError.Cut → IsHealthy (S.state slots.old).memory
+        → IsHealthy (S.state slots.new).memory }
+    ensures table { length table.new ≡ length table.old }
+    ensures size { length (S.state slots.new).memory ≡ length (S.state slots.old).memory }
+    ensures done { OnOk result ((S.state slots.new ≡ S.state slots.old)
+        ⊎ SucceedsSettled (S.state slots.old) (S.state slots.new)) }
+    ensures fails { IfErr result (λ e. Refuses e (S.state slots.old) (S.state slots.new)) }
+{
+    end_copying(slots, seen.found)?;
+    retire_groups(slots, table)?;
+    make_room(slots, has_room(seen))
+}
+
 /// Ends a copying that was found.
 fn end_copying<S: SlotCalls>(slots: &mut S, found: Found) -> Result<(), NorError>
     requires found { FoundIn found (S.state slots.old).memory }
-    requires sound { IsSlotMap (S.state slots.old).memory }
-    ensures ok { OnOk result (EndsCopy (S.state slots.old).memory (S.state slots.new).memory) }
+    requires sound { IsSoundMap (S.state slots.old).memory }
+    ensures ok { OnOk result (EndsFound found (S.state slots.old).memory
+        (S.state slots.new).memory) }
     ensures cut { IsErrOf result NorError.Cut → IsHealthy (S.state slots.old).memory
         → KeepsSectors (S.state slots.old).memory (S.state slots.new).memory }
     ensures healthy { IsErrOf result NorError.Cut → IsHealthy (S.state slots.old).memory
@@ -144,7 +203,7 @@ fn end_copying<S: SlotCalls>(slots: &mut S, found: Found) -> Result<(), NorError
 /// Ends a copying that is committed.
 fn end_copy<S: SlotCalls>(slots: &mut S, source: u16, target: u16) -> Result<(), NorError>
     requires found { FoundIn (Found.Committed source target) (S.state slots.old).memory }
-    requires sound { IsSlotMap (S.state slots.old).memory }
+    requires sound { IsSoundMap (S.state slots.old).memory }
     ensures ok { OnOk result (EndsCopy (S.state slots.old).memory (S.state slots.new).memory) }
     ensures cut { IsErrOf result NorError.Cut → IsHealthy (S.state slots.old).memory
         → KeepsSectors (S.state slots.old).memory (S.state slots.new).memory }
@@ -168,15 +227,15 @@ fn retire_older<S: SlotCalls>(slots: &mut S, table: &mut [Entry]) -> Result<(), 
     requires tabled { IsTabled table.old (slot_at (S.state slots.old).memory)
         (slot_count (S.state slots.old).memory) }
     requires blocks { AreSettled (S.state slots.old).memory }
-    requires alone { HasSlotsAlone (S.state slots.old).memory }
+    requires pairs { PairsAreSlots table.old (S.state slots.old).memory }
     ensures ok { OnOk result (IsTableOf table.new (S.state slots.new).memory) }
     ensures sectors { OnOk result ((sectors : ℕ → List ℕ)
-        → SlotsHold sectors (S.state slots.old).memory
-        → SlotsHold sectors (S.state slots.new).memory) }
+        → HoldsSectors sectors (S.state slots.old).memory
+        → HoldsSectors sectors (S.state slots.new).memory) }
     ensures blocks { OnOk result (AreSettled (S.state slots.new).memory) }
     ensures cut { IsErrOf result NorError.Cut → (sectors : ℕ → List ℕ)
-        → SlotsHold sectors (S.state slots.old).memory
-        → SlotsHold sectors (S.state slots.new).memory }
+        → HoldsSectors sectors (S.state slots.old).memory
+        → HoldsSectors sectors (S.state slots.new).memory }
     ensures clean { OnOk result (IsClean (S.state slots.old).memory
         → IsClean (S.state slots.new).memory) }
     ensures cut_clean { IsErrOf result NorError.Cut → IsClean (S.state slots.old).memory

@@ -6,10 +6,10 @@ ghost use Rattle.nor_driver.specs.State.{Refuses};
 ghost use Rattle.nor_layout.specs.declared.header.Header.TheVariants as headers;
 ghost use Rattle.erase_journal.specs.Steps.{SucceedsSettled};
 ghost use Rattle.sector_slots.specs.Slots.{slot_at, slot_count, data_blocks, read_header};
-ghost use Rattle.sector_slots.specs.Slots.{IsSpareIn};
+ghost use Rattle.sector_slots.specs.Slots.{IsSpareIn, is_group};
 ghost use Rattle.sector_slots.specs.Blocks.{AreSound};
 ghost use Rattle.sector_slots.specs.Sectors.{SoundSlots, HasSlotsAlone};
-ghost use Rattle.sector_map.specs.Found.{FoundIn, block_counts};
+ghost use Rattle.sector_map.specs.Found.{FoundIn, block_counts, noted_where};
 ghost use Rattle.sector_map.specs.declared.found.Found.{Found as FoundOf};
 ghost use Rattle.sector_map.specs.Scan.{EntersBlock, RefusesBlock};
 ghost use Rattle.sector_map.specs.Table.{IsTabled, IsBlankTable};
@@ -22,15 +22,15 @@ use nor_layout::{Header, Kind};
 use sector_slots::SlotCalls;
 
 /// Reads the kinds of all blocks: the copying that goes on; None where the blocks are corrupt, or
-/// one is of a group.
+/// one is of a group where none may be.
 #[tactic(auto, using(crate::proofs::Calls::repeated_calls))]
-pub fn survey<S: SlotCalls>(slots: &mut S) -> Result<Option<Found>, NorError>
+pub fn survey<S: SlotCalls>(slots: &mut S, groups: bool) -> Result<Option<Found>, NorError>
     ensures found { IfOk result (λ answer. (found : FoundOf) → answer ≡ Some found
         → FoundIn found (S.state slots.old).memory) }
     ensures alone { IfOk result (λ answer. (found : FoundOf) → answer ≡ Some found
-        → HasSlotsAlone (S.state slots.old).memory) }
+        → groups ≡ false → HasSlotsAlone (S.state slots.old).memory) }
     ensures corrupt { IfOk result (λ answer. answer ≡ None → AreSound (S.state slots.old).memory
-        → HasSlotsAlone (S.state slots.old).memory → ⊥) }
+        → (groups ≡ false → HasSlotsAlone (S.state slots.old).memory) → ⊥) }
     ensures same { (S.state slots.new).memory ≡ (S.state slots.old).memory }
     ensures done { OnOk result (SucceedsSettled (S.state slots.old) (S.state slots.new)) }
     ensures fails { IfErr result (λ e. Refuses e (S.state slots.old) (S.state slots.new)) }
@@ -39,12 +39,42 @@ pub fn survey<S: SlotCalls>(slots: &mut S) -> Result<Option<Found>, NorError>
     let mut found = Found::AtRest;
     for block in 0..count {
         let kind = slots.kind(block)?;
-        match note_kind(found, block, kind, count) {
+        match note_allowed(found, block, kind, count, groups) {
             Some(now) => found = now,
             None => return Ok(None),
         }
     }
     Ok(Some(found))
+}
+
+/// What is found once a block of this kind is read; None also where it is of a group and none may
+/// be.
+fn note_allowed(found: Found, block: u16, kind: Kind, count: u16, groups: bool) -> Option<Found>
+    requires few { count ≤ 4092 }
+    requires number { block ≤ 4092 }
+    ensures { result ≡ noted_where groups found block kind count }
+{
+    if is_of_group(kind) && !groups {
+        None
+    } else {
+        note_kind(found, block, kind, count)
+    }
+}
+
+/// Whether a block of this kind is of a group, live or dead.
+pub fn is_of_group(kind: Kind) -> bool
+    ensures { result ≡ is_group kind }
+{
+    match kind {
+        Kind::Plain => false,
+        Kind::Void => false,
+        Kind::Committed(_) => false,
+        Kind::Settled => false,
+        Kind::Group(_) => true,
+        Kind::DeadGroup => true,
+        Kind::SpoiltGroup => true,
+        Kind::Unknown => false,
+    }
 }
 
 /// Enters the seven slots of a block that counts into the table of those before it; false where the
@@ -189,7 +219,8 @@ pub fn is_spare<S: SlotCalls>(slots: &mut S, block: u16) -> Result<bool, NorErro
     Ok(is_wholly_free(kind, &heads))
 }
 
-fn either(a: bool, b: bool) -> bool
+/// Whether one of two is so.
+pub(crate) fn either(a: bool, b: bool) -> bool
     ensures { result ≡ (a || b) }
 {
     a || b

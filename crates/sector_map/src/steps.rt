@@ -9,7 +9,7 @@ ghost use Rattle.erase_journal.specs.Steps.{SucceedsSettled};
 ghost use Rattle.sector_slots.specs.Sectors.{sector_at, zeros};
 ghost use Rattle.sector_stock.specs.Takes.{work_of};
 ghost use Rattle.sector_map.specs.Replace.{IsInSlots};
-ghost use Rattle.sector_map.specs.Maps.{IsServing, KeepsMixed, SetMixedLeaves, Wrote, KeptServing};
+ghost use Rattle.sector_map.specs.Maps.{IsServing, KeepsMap, SetLeaves, Wrote, KeptServing};
 
 use crate::entry::Entry;
 use crate::follow::follow_copied;
@@ -32,7 +32,7 @@ pub fn write_in<S: Reclaim>(
     ensures ok { OnOk result (Wrote sector content.now table.new (S.state stock.old)
         (S.state stock.new) (S.indexed stock.new)) }
     ensures cut { IsErrOf result NorError.Cut
-        → SetMixedLeaves sector content.now (S.state stock.old).memory (S.state stock.new).memory }
+        → SetLeaves sector content.now (S.state stock.old).memory (S.state stock.new).memory }
     ensures table { length table.new ≡ length table.old }
     ensures size { length (S.state stock.new).memory ≡ length (S.state stock.old).memory }
     ensures done { OnOk result (SucceedsSettled (S.state stock.old) (S.state stock.new)) }
@@ -51,7 +51,7 @@ fn leave_group<S: Reclaim>(stock: &mut S, table: &mut [Entry], sector: u16) -> R
         (S.indexed stock.new)) }
     ensures own { OnOk result (IsInSlots sector (S.state stock.new).memory) }
     ensures cut { IsErrOf result NorError.Cut
-        → KeepsMixed (S.state stock.old).memory (S.state stock.new).memory }
+        → KeepsMap (S.state stock.old).memory (S.state stock.new).memory }
     ensures table { length table.new ≡ length table.old }
     ensures size { length (S.state stock.new).memory ≡ length (S.state stock.old).memory }
     ensures done { OnOk result ((S.state stock.new ≡ S.state stock.old)
@@ -83,7 +83,7 @@ fn write_own<S: Reclaim>(
     ensures ok { OnOk result (Wrote sector content.now table.new (S.state stock.old)
         (S.state stock.new) (S.indexed stock.new)) }
     ensures cut { IsErrOf result NorError.Cut
-        → SetMixedLeaves sector content.now (S.state stock.old).memory (S.state stock.new).memory }
+        → SetLeaves sector content.now (S.state stock.old).memory (S.state stock.new).memory }
     ensures table { length table.new ≡ length table.old }
     ensures size { length (S.state stock.new).memory ≡ length (S.state stock.old).memory }
     ensures done { OnOk result (SucceedsSettled (S.state stock.old) (S.state stock.new)) }
@@ -109,7 +109,7 @@ pub fn tidy_in<S: Reclaim>(stock: &mut S, table: &mut [Entry]) -> Result<bool, N
     ensures unchanged { IfOk result (λ more. IsFalse more
         → (S.state stock.new).memory ≡ (S.state stock.old).memory) }
     ensures cut { IsErrOf result NorError.Cut
-        → KeepsMixed (S.state stock.old).memory (S.state stock.new).memory }
+        → KeepsMap (S.state stock.old).memory (S.state stock.new).memory }
     ensures table { length table.new ≡ length table.old }
     ensures size { length (S.state stock.new).memory ≡ length (S.state stock.old).memory }
     ensures done { OnOk result (SucceedsSettled (S.state stock.old) (S.state stock.new)) }
@@ -132,7 +132,7 @@ pub fn clear_in<S: Reclaim>(stock: &mut S, table: &mut [Entry], sector: u16) -> 
     ensures ok { OnOk result (Wrote sector zeros table.new (S.state stock.old) (S.state stock.new)
         (S.indexed stock.new)) }
     ensures cut { IsErrOf result NorError.Cut
-        → SetMixedLeaves sector zeros (S.state stock.old).memory (S.state stock.new).memory }
+        → SetLeaves sector zeros (S.state stock.old).memory (S.state stock.new).memory }
     ensures table { length table.new ≡ length table.old }
     ensures size { length (S.state stock.new).memory ≡ length (S.state stock.old).memory }
     ensures done { OnOk result (SucceedsSettled (S.state stock.old) (S.state stock.new)) }
@@ -150,7 +150,7 @@ fn clear_own<S: Reclaim>(stock: &mut S, table: &mut [Entry], sector: u16) -> Res
     ensures ok { OnOk result (Wrote sector zeros table.new (S.state stock.old) (S.state stock.new)
         (S.indexed stock.new)) }
     ensures cut { IsErrOf result NorError.Cut
-        → SetMixedLeaves sector zeros (S.state stock.old).memory (S.state stock.new).memory }
+        → SetLeaves sector zeros (S.state stock.old).memory (S.state stock.new).memory }
     ensures table { length table.new ≡ length table.old }
     ensures size { length (S.state stock.new).memory ≡ length (S.state stock.old).memory }
     ensures done { OnOk result (SucceedsSettled (S.state stock.old) (S.state stock.new)) }

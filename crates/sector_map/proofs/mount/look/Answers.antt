@@ -1,17 +1,61 @@
-use Rattle.std.proofs.Common.{ℕ, ◌<◌, sym, subst, ap, ◌∙◌}
-use Rattle.std.specs.Prelude.{Some}
-use Rattle.sector_slots.specs.Slots.{slot_at, slot_count, data_blocks, IsSpareIn}
+use Rattle.std.proofs.Common.{◌≡◌, ℕ, ◌<◌, true, false, sym, subst, ap, ◌∙◌, length}
+use Rattle.std.specs.Prelude.{Some, None}
+use Rattle.std.proofs.lemmas.Result.{IfOk-weaker}
+use Rattle.chip_model.specs.Geometry.{sector_count}
+use Rattle.sector_slots.specs.Slots.{slot_at, slot_count, data_blocks, kind_at, IsSpareIn}
+use Rattle.sector_slots.specs.Blocks.{HasGroupRoom}
+use Rattle.sector_map.specs.Found.{FoundIn, RoomSeen}
 use Rattle.sector_map.specs.Table.{IsTabled}
-use Rattle.sector_map.proofs.Mounting.{look-sound, fits-none}
+use Rattle.sector_map.specs.Mending.{IsMixedPair, PairsSeen, HasDeadGroup}
+use Rattle.sector_map.proofs.Grouping.{mixed-corrupt, pair-room}
+use Rattle.sector_map.proofs.Mounting.{slots-alone, look-sound, spare-room, fits-none, found-none, bool-none}
 use Rattle.sector_map.proofs.mount.look.Goals as goal
 
-pub returns-in-Some-2-clause-sound : goal.returns-in-Some-2-clause-sound
-returns-in-Some-2-clause-sound g c found e =
-    look-sound c.in-Some.found found c.in-Some-2.spare c.read_table.new.table c.args.table.now (g.S.SlotCalls.state c.args.stock.now).memory (c.in_ok-found.ensures.found c.in-Some.found c.in-Some.is) (sym c.fit.ensures ∙ e)
-    (λ q. subst (λ z. (b : ℕ) × ((b < data_blocks z) × IsSpareIn z b)) c.survey.ensures.same (c.in_ok-spare-in-Some.ensures.spare (c.in-Some-2.is ∙ ap (λ z. Some z) q)))
-    (subst (λ z. IsTabled c.read_table.new.table (slot_at z) (slot_count z)) c.survey.ensures.same (c.in_ok-spare-in-Some.ensures.tabled c.in-Some-2.spare c.in-Some-2.is)) c.read_table.ensures.size c.requires.size (c.in_ok-found.ensures.alone c.in-Some.found c.in-Some.is)
+pub returns-in_default-clause-corrupt : goal.returns-in_default-clause-corrupt
+returns-in_default-clause-corrupt g c e sound =
+    c.in_ok-found.ensures.corrupt (found-none c.in_ok-found.field-0 c.in_default.not-Some) sound.blocks (slots-alone (g.S.SlotCalls.state c.args.stock.now).memory c.args.groups c.requires.groups sound)
 
-pub returns-in-Some-2-clause-corrupt : goal.returns-in-Some-2-clause-corrupt
-returns-in-Some-2-clause-corrupt g c e sound =
-    fits-none c.in-Some.found c.in-Some-2.spare (g.S.SlotCalls.state c.args.stock.now).memory (c.in_ok-found.ensures.found c.in-Some.found c.in-Some.is) (sym c.fit.ensures ∙ e)
-    (λ q. subst (λ z. (b : ℕ) → b < data_blocks z → IsSpareIn z b → ⊥) c.survey.ensures.same (c.in_ok-spare-in-Some.ensures.not_spare (c.in-Some-2.is ∙ ap (λ z. Some z) q))) sound
+pub returns-in_default-3-clause-corrupt : goal.returns-in_default-3-clause-corrupt
+returns-in_default-3-clause-corrupt g c e sound =
+    let m = (g.S.SlotCalls.state c.args.stock.now).memory in
+    let t : IsTabled c.read_table.new.table (slot_at m) (slot_count m) = subst (λ z. IsTabled c.read_table.new.table (slot_at z) (slot_count z)) c.survey.ensures.same (c.in_ok-spare.ensures.tabled c.in-Some-2.spare c.in-Some-2.is) in
+    let p = c.in_ok-pair.ensures.corrupt (bool-none c.in_ok-pair.field-0 c.in_default-3.not-Some) in
+    let mixed : IsMixedPair c.read_table.new.table m p.0 = subst (λ z. IsMixedPair c.read_table.new.table z p.0) (c.read_table.ensures.same ∙ c.survey.ensures.same) p.1 in
+    mixed-corrupt c.read_table.new.table m p.0 t mixed sound.groups.sectors
+
+pub fit-requires-clause-pair : goal.fit-requires-clause-pair
+fit-requires-clause-pair g c e =
+    let m = (g.S.SlotCalls.state c.args.stock.now).memory in
+    let same = c.read_table.ensures.same ∙ c.survey.ensures.same in
+    let t : IsTabled c.read_table.new.table (slot_at m) (slot_count m) = subst (λ z. IsTabled c.read_table.new.table (slot_at z) (slot_count z)) c.survey.ensures.same (c.in_ok-spare.ensures.tabled c.in-Some-2.spare c.in-Some-2.is) in
+    let apart : (h : ℕ) → IsMixedPair c.read_table.new.table m h → ⊥ = subst (λ z. (h : ℕ) → IsMixedPair c.read_table.new.table z h → ⊥) same (c.in_ok-pair.ensures.apart c.in-Some-3.pair c.in-Some-3.is) in
+    let p : PairsSeen true c.read_table.new.table m = subst (λ z. PairsSeen z c.read_table.new.table m) e (subst (λ z. PairsSeen c.in-Some-3.pair c.read_table.new.table z) same (c.in_ok-pair.ensures.pair c.in-Some-3.pair c.in-Some-3.is)) in
+    subst (λ z. HasGroupRoom (kind_at z) (data_blocks z)) (sym (c.has_pair.ensures.same ∙ same)) (pair-room c.read_table.new.table m p.0 t apart p.1)
+
+pub fit-requires-clause-spare : goal.fit-requires-clause-spare
+fit-requires-clause-spare g c e =
+    let m = (g.S.SlotCalls.state c.args.stock.now).memory in
+    subst (λ z. RoomSeen c.in-Some.found c.in-Some-2.spare z) (sym (c.has_pair.ensures.same ∙ (c.read_table.ensures.same ∙ c.survey.ensures.same)))
+    (spare-room c.in-Some.found c.in-Some-2.spare m (c.in_ok-found.ensures.found c.in-Some.found c.in-Some.is) (λ q. subst (λ z. (b : ℕ) × ((b < data_blocks z) × IsSpareIn z b)) c.survey.ensures.same (c.in_ok-spare.ensures.spare (c.in-Some-2.is ∙ ap (λ z. Some z) q))) e)
+
+pub returns-clause-sound : goal.returns-clause-sound
+returns-clause-sound g c =
+    let m = (g.S.SlotCalls.state c.args.stock.now).memory in
+    let same = c.has_pair.ensures.same ∙ (c.read_table.ensures.same ∙ c.survey.ensures.same) in
+    let t : IsTabled c.read_table.new.table (slot_at m) (slot_count m) = subst (λ z. IsTabled c.read_table.new.table (slot_at z) (slot_count z)) c.survey.ensures.same (c.in_ok-spare.ensures.tabled c.in-Some-2.spare c.in-Some-2.is) in
+    let apart : (h : ℕ) → IsMixedPair c.read_table.new.table m h → ⊥ = subst (λ z. (h : ℕ) → IsMixedPair c.read_table.new.table z h → ⊥) (c.read_table.ensures.same ∙ c.survey.ensures.same) (c.in_ok-pair.ensures.apart c.in-Some-3.pair c.in-Some-3.is) in
+    let size : length c.read_table.new.table ≡ sector_count (length m) = c.read_table.ensures.size ∙ c.requires.size in
+    IfOk-weaker c.fit.result _ _ (λ answer h seen e. look-sound c.in-Some.found c.in-Some-2.spare c.args.groups c.read_table.new.table m (c.in_ok-found.ensures.found c.in-Some.found c.in-Some.is)
+    (subst (λ z. RoomSeen c.in-Some.found c.in-Some-2.spare z) same (h seen e).1) c.requires.groups (c.in_ok-found.ensures.alone c.in-Some.found c.in-Some.is) apart t size) c.fit.ensures.some
+
+pub returns-clause-corrupt : goal.returns-clause-corrupt
+returns-clause-corrupt g c =
+    let m = (g.S.SlotCalls.state c.args.stock.now).memory in
+    let same = c.read_table.ensures.same ∙ c.survey.ensures.same in
+    let t : IsTabled c.read_table.new.table (slot_at m) (slot_count m) = subst (λ z. IsTabled c.read_table.new.table (slot_at z) (slot_count z)) c.survey.ensures.same (c.in_ok-spare.ensures.tabled c.in-Some-2.spare c.in-Some-2.is) in
+    let pairs : PairsSeen c.in-Some-3.pair c.read_table.new.table m = subst (λ z. PairsSeen c.in-Some-3.pair c.read_table.new.table z) same (c.in_ok-pair.ensures.pair c.in-Some-3.pair c.in-Some-3.is) in
+    IfOk-weaker c.fit.result _ _ (λ answer h e sound.
+        let n = h e in
+        fits-none c.in-Some.found c.in-Some-2.spare c.read_table.new.table m (c.in_ok-found.ensures.found c.in-Some.found c.in-Some.is) n.0
+        (λ q. subst (λ z. (b : ℕ) → b < data_blocks z → IsSpareIn z b → ⊥) c.survey.ensures.same (c.in_ok-spare.ensures.not_spare (c.in-Some-2.is ∙ ap (λ z. Some z) q))) t (subst (λ z. PairsSeen z c.read_table.new.table m) n.1 pairs)
+        (λ d. n.2 (subst (λ z. HasDeadGroup z) (sym (c.has_pair.ensures.same ∙ same)) d)) sound) c.fit.ensures.none

@@ -9,5 +9,5 @@ invariant-loop-block g l = record {
   same : (g.S.SlotCalls.state l.slots).memory ≡ (g.S.SlotCalls.state l.fn.slots).memory;
   since : Repeated l.block (g.S.SlotCalls.state l.fn.slots) (g.S.SlotCalls.state l.slots);
   found : FoundBelow l.found (kind_at (g.S.SlotCalls.state l.fn.slots).memory) l.block (data_blocks (g.S.SlotCalls.state l.fn.slots).memory);
-  alone : (d : ℕ) → d < l.block → is_group (kind_at (g.S.SlotCalls.state l.fn.slots).memory d) ≡ false;
+  alone : l.fn.groups ≡ false → (d : ℕ) → d < l.block → is_group (kind_at (g.S.SlotCalls.state l.fn.slots).memory d) ≡ false;
 }

@@ -3,9 +3,9 @@ use Rattle.nor_driver.specs.State.{NorFails}
 use Rattle.sector_map.proofs.Opening.{looked-fails, look-was-cut}
 use Rattle.sector_map.proofs.map.SectorMap.mount.Goals as goal
 
-pub returns-in-Ok-Ok-Sectors-clause-fails : goal.returns-in-Ok-Ok-Sectors-clause-fails
-returns-in-Ok-Ok-Sectors-clause-fails g c =
-    looked-fails g.N.Nor.state c.recover.result (g.N.Nor.state c.args.nor) (g.N.Nor.state c.look.new.nor) c.in-Ok-Ok-Sectors.ensures.same c.in-Ok-Ok-Sectors.ensures.kept c.recover.ensures.fails
+pub returns-in-Ok-Ok-clause-fails : goal.returns-in-Ok-Ok-clause-fails
+returns-in-Ok-Ok-clause-fails g c =
+    looked-fails g.N.Nor.state c.recover.result (g.N.Nor.state c.args.nor) (g.N.Nor.state c.look.new.nor) c.in-Ok-Ok.ensures.same c.in-Ok-Ok.ensures.kept c.recover.ensures.fails
 
 pub returns-in-Ok-Err-Layout-clause-fails : goal.returns-in-Ok-Err-Layout-clause-fails
 returns-in-Ok-Err-Layout-clause-fails g c = search rules

@@ -11,5 +11,5 @@ invariant_of-self g c =
     let items = with_items_is c.self.inside.table c.renew.new.table (c.renew.ensures.size ∙ c.as_mut_slice.ensures.len) in
     record {
       counted = c.self.invariant.counted ∙ ap (λ n. sector_count n) (sym r.size);
-      standing = (subst (λ z. IsServing z now.slots now.indexed) (sym items) r.served, r.alone);
+      standing = subst (λ z. IsServing z now.slots now.indexed) (sym items) r.served;
     }

@@ -1,0 +1,12 @@
+use Rattle.std.proofs.Common.{◌≡◌, ◌≢◌, ◌<◌, ℕ}
+use Rattle.nor_layout.specs.declared.kind.Kind.TheVariants as kinds
+use Rattle.sector_slots.specs.Slots.{kind_at}
+use Rattle.sector_map.proofs.Calls.{Repeated}
+use Rattle.sector_map.proofs.groups.lowest_dead_group.Given as goal
+
+abbrev pub invariant-loop-block : goal.invariant-loop-block
+invariant-loop-block g l = record {
+  same : (g.S.SlotCalls.state l.slots).memory ≡ (g.S.SlotCalls.state l.fn.slots).memory;
+  since : Repeated l.block (g.S.SlotCalls.state l.fn.slots) (g.S.SlotCalls.state l.slots);
+  none : (d : ℕ) → d < l.block → kind_at (g.S.SlotCalls.state l.fn.slots).memory d ≢ kinds.DeadGroup;
+}

@@ -1,0 +1,26 @@
+use Rattle.std.proofs.Common.{◌<◌, sym, subst, inl, inr}
+use Rattle.std.specs.Prelude.{OnOk}
+use Rattle.sector_slots.specs.Slots.{data_blocks}
+use Rattle.sector_slots.specs.Steps.{IsErasable}
+use Rattle.erase_journal.specs.Journals.{IsHealthy}
+use Rattle.sector_map.proofs.Mending.{dead-erasable, room-made, room-cut, room-there}
+use Rattle.sector_map.proofs.MapCalls.{after-ok}
+use Rattle.sector_map.proofs.groups.make_room.Goals as goal
+
+pub erase-requires-clause-number : goal.erase-requires-clause-number
+erase-requires-clause-number g c = subst (λ z. c.in-Some.block < data_blocks z) (sym c.lowest_dead_group.ensures.same) (c.in_ok-block.ensures.some c.in-Some.block c.in-Some.is).0
+
+pub erase-requires-clause-dead : goal.erase-requires-clause-dead
+erase-requires-clause-dead g c ready =
+    subst (λ z. IsErasable c.in-Some.block z) (sym c.lowest_dead_group.ensures.same) (dead-erasable (g.S.SlotCalls.state c.args.slots.now).memory c.in-Some.block (c.in_ok-block.ensures.some c.in-Some.block c.in-Some.is).1)
+
+pub returns-clause-ok : goal.returns-clause-ok
+returns-clause-ok g c =
+    let m0 = (g.S.SlotCalls.state c.args.slots.now).memory in
+    after-ok c.erase.result _ _ (λ w. room-made m0 (g.S.SlotCalls.state c.lowest_dead_group.new.slots).memory (g.S.SlotCalls.state c.erase.new.self).memory c.in-Some.block c.lowest_dead_group.ensures.same c.requires.rest (c.in_ok-block.ensures.some c.in-Some.block c.in-Some.is) w) c.erase.ensures.ok
+
+pub returns-clause-cut : goal.returns-clause-cut
+returns-clause-cut g c is healthy =
+    let m0 = (g.S.SlotCalls.state c.args.slots.now).memory in
+    room-cut m0 (g.S.SlotCalls.state c.lowest_dead_group.new.slots).memory (g.S.SlotCalls.state c.erase.new.self).memory c.in-Some.block c.lowest_dead_group.ensures.same c.requires.rest (c.in_ok-block.ensures.some c.in-Some.block c.in-Some.is)
+    (c.erase.ensures.cut is (subst (λ z. IsHealthy z) (sym c.lowest_dead_group.ensures.same) healthy))
