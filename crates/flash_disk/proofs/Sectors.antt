@@ -79,7 +79,7 @@ pub contents-same : (m m' : List ℕ) → length m' ≡ length m → ((g : ℕ) 
 contents-same m m' e same = contents-by m m' (contents_of m) e refl (λ g low. part-contents m g low ∙ sym (same g low))
 
 pub contents-kept : (m m' : List ℕ) → KeepsEach m m' → contents_of m' ≡ contents_of m
-contents-kept m m' k = contents-same m m' k.chip.same_length k.sectors
+contents-kept m m' k = contents-same m m' k.disk.same_length k.sectors
 
 pub contents-keeps : (m m' : List ℕ) → KeepsMap m m' → IsClean m → contents_of m' ≡ contents_of m
 contents-keeps m m' k clean = contents-same m m' k.chip.same_length (k.sectors clean)

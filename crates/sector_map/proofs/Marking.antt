@@ -7,9 +7,7 @@ use Rattle.chip_model.specs.Geometry.{block_count, sector_count}
 use Rattle.chip_model.specs.declared.geometry.Geometry.{Geometry}
 use Rattle.nor_layout.specs.Layouts.{layout_of}
 use Rattle.nor_layout.specs.Superblock.{has_name, is_sealed, blocks_in, groups_in, layout_in, mixed_in}
-use Rattle.nor_layout.specs.declared.layout.Layout.{Layout}
-use Rattle.nor_layout.specs.declared.layout.Layout.TheVariants.{Groups, Sectors, Mixed}
-use Rattle.nor_layout.specs.declared.superblock.SuperError.{SuperError}
+use Rattle.nor_layout.specs.declared.layout.Layout.TheVariants.{Groups, Mixed}
 use Rattle.nor_layout.specs.declared.superblock.SuperError.TheVariants as refusals
 use Rattle.nor_layout.specs.Kinds.{kind_of}
 use Rattle.nor_driver.specs.State.{NorState}
@@ -34,7 +32,7 @@ use Rattle.sector_map.specs.declared.entry.Entry.{Entry}
 use Rattle.sector_map.proofs.Mounting.{live-tabled}
 use Rattle.sector_map.proofs.Retiring.{single-tabled}
 use Rattle.sector_slots.proofs.BlankLaws.{sound-holds, holds-sound, counted-same}
-use Rattle.sector_map.specs.Maps.{IsLaidOut, geometry_of}
+use Rattle.sector_map.specs.Maps.{IsLaidOut, is_layout, geometry_of}
 use Rattle.sector_map.specs.Marking.{SameDisk, IsUnmarked, is_unmarked, mixed_mark, Marks}
 
 -- one after another
@@ -58,16 +56,16 @@ pub same-disk : (a b : List ℕ) → b ≡ a → SameDisk a b
 same-disk a b e = subst (λ z. SameDisk a z) (sym e) (record { same_length = refl; superblock = λ k low ne. refl; mark = inl refl })
 
 -- A chip that is laid out still is.
-laid-cases : (p q : Bool) (l : Layout) → (if p then Err refusals.NotFormatted else if q then Err refusals.Geometry else Ok Groups) ≡ Ok l → (k : Layout) × ((if p then Err refusals.NotFormatted else if q then Err refusals.Geometry else Ok Mixed) ≡ Ok k)
-laid-cases true q l e = (let h : Err refusals.NotFormatted ≡ Ok l = e in absurd cc)
-laid-cases false true l e = (let h : Err refusals.Geometry ≡ Ok l = e in absurd cc)
-laid-cases false false l e = (Mixed, refl)
+laid-cases : (p q : Bool) → is_layout (if p then Err refusals.NotFormatted else if q then Err refusals.Geometry else Ok Groups) ≡ true → is_layout (if p then Err refusals.NotFormatted else if q then Err refusals.Geometry else Ok Mixed) ≡ true
+laid-cases true q e = e
+laid-cases false true e = e
+laid-cases false false e = refl
 
-marked-laid : (m m' : List ℕ) (chip : Geometry) (l : Layout) → ((k : ℕ) → k < 15 → byte m' k ≡ byte m k) → IsUnmarked m → mixed_in m' ≡ mixed_mark → layout_of m chip ≡ Ok l → (k : Layout) × (layout_of m' chip ≡ Ok k)
-marked-laid m m' chip l same un now e =
-    let was : (if not (has_name m) || not (is_sealed m) then Err refusals.NotFormatted else if not (blocks_in m == chip.blocks) || not (groups_in m == chip.groups) then Err refusals.Geometry else Ok Groups) ≡ Ok l = rw (un.layout, un.mixed) at e in
-    let h = laid-cases (not (has_name m) || not (is_sealed m)) (not (blocks_in m == chip.blocks) || not (groups_in m == chip.groups)) l was in
-    (h.0, rw (same 0 (omega arith), same 1 (omega arith), same 2 (omega arith), same 3 (omega arith), same 4 (omega arith), same 5 (omega arith), same 6 (omega arith), same 7 (omega arith), same 8 (omega arith), same 9 (omega arith), same 10 (omega arith), same 11 (omega arith), same 12 (omega arith), same 14 (omega arith), now, un.layout) h.1)
+marked-laid : (m m' : List ℕ) (chip : Geometry) → ((k : ℕ) → k < 15 → byte m' k ≡ byte m k) → IsUnmarked m → mixed_in m' ≡ mixed_mark → is_layout (layout_of m chip) ≡ true → is_layout (layout_of m' chip) ≡ true
+marked-laid m m' chip same un now e =
+    let was : is_layout (if not (has_name m) || not (is_sealed m) then Err refusals.NotFormatted else if not (blocks_in m == chip.blocks) || not (groups_in m == chip.groups) then Err refusals.Geometry else Ok Groups) ≡ true = rw (un.layout, un.mixed) at e in
+    let h = laid-cases (not (has_name m) || not (is_sealed m)) (not (blocks_in m == chip.blocks) || not (groups_in m == chip.groups)) was in
+    rw (same 0 (omega arith), same 1 (omega arith), same 2 (omega arith), same 3 (omega arith), same 4 (omega arith), same 5 (omega arith), same 6 (omega arith), same 7 (omega arith), same 8 (omega arith), same 9 (omega arith), same 10 (omega arith), same 11 (omega arith), same 12 (omega arith), same 14 (omega arith), now, un.layout) h
 
 kept-laid : (m m' : List ℕ) (chip : Geometry) → ((k : ℕ) → k < 16 → byte m' k ≡ byte m k) → layout_of m' chip ≡ layout_of m chip
 kept-laid m m' chip same = rw (same 0 (omega arith), same 1 (omega arith), same 2 (omega arith), same 3 (omega arith), same 4 (omega arith), same 5 (omega arith), same 6 (omega arith), same 7 (omega arith), same 8 (omega arith), same 9 (omega arith), same 10 (omega arith), same 11 (omega arith), same 12 (omega arith), same 14 (omega arith), same 15 (omega arith)) refl
@@ -79,10 +77,14 @@ disk-bytes m m' d e k low = elim (cases_eq k 15) as (λ _. byte m' k ≡ byte m 
 ]
 
 pub disk-laid : (m m' : List ℕ) → SameDisk m m' → IsLaidOut m → IsLaidOut m'
-disk-laid m m' d laid = subst (λ n. (k : Layout) × (layout_of m' (geometry_of n) ≡ Ok k)) (sym d.same_length) (elim d.mark as (λ _. (k : Layout) × (layout_of m' (geometry_of (length m)) ≡ Ok k)) [
-  | inl e ↦ (laid.0, kept-laid m m' (geometry_of (length m)) (disk-bytes m m' d e) ∙ laid.1)
-  | inr p ↦ marked-laid m m' (geometry_of (length m)) laid.0 (λ k low. d.superblock k (omega (arith, low)) (λ q. omega (arith, q, low))) p.0 p.1 laid.1
+disk-laid m m' d laid = subst (λ n. is_layout (layout_of m' (geometry_of n)) ≡ true) (sym d.same_length) (elim d.mark as (λ _. is_layout (layout_of m' (geometry_of (length m))) ≡ true) [
+  | inl e ↦ ap is_layout (kept-laid m m' (geometry_of (length m)) (disk-bytes m m' d e)) ∙ laid
+  | inr p ↦ marked-laid m m' (geometry_of (length m)) (λ k low. d.superblock k (omega (arith, low)) (λ q. omega (arith, q, low))) p.0 p.1 laid
 ])
+
+-- a superblock that is laid out is formatted
+pub laid-formatted : (m : List ℕ) → IsLaidOut m → layout_of m (geometry_of (length m)) ≢ Err refusals.NotFormatted
+laid-formatted m laid bare = let q : false ≡ true = sym (ap is_layout bare) ∙ laid in cc
 
 -- The mark is programmed.
 unmarked-cases : (a b : Bool) → (a && b) ≡ true → (a ≡ true) × (b ≡ true)

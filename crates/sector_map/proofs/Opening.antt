@@ -26,6 +26,7 @@ use Rattle.sector_map.specs.declared.entry.Entry.{Entry}
 use Rattle.sector_map.specs.declared.error.MountError.{MountError}
 use Rattle.sector_map.specs.declared.error.MountError.TheVariants as mounts
 use Rattle.sector_map.proofs.MapCalls.{each-after}
+use Rattle.sector_map.proofs.Marking.{laid-formatted}
 use Rattle.sector_map.proofs.Restoring.{blocks-keep, left-keeps, mounts-keeps, mount-cut-keeps}
 
 pub filled : (t : List Entry) (a c : NorState) → Mounts a.memory t c.memory → SucceedsSettled a c → Filled a (shown_with None c)
@@ -107,7 +108,7 @@ recovered-fails mounts.Corrupt a b c super r f =
     let blocks : SameBlocks a.memory c.memory = subst (λ z. SameBlocks a.memory z) (sym f.same) r.blocks in
     record {
       corrupt = λ m. f.corrupt (recovered-keeps a b r m.store.slots).store.slots;
-      formatted = λ bare. cc (super.1, bare);
+      formatted = laid-formatted a.memory super;
       cuts = f.cuts ∙ r.kept.cuts;
       slows = f.slows ∙ r.kept.slows;
       quick = λ q. f.quick (r.kept.is_slow ∙ q);

@@ -1,6 +1,6 @@
 -- What the calls of a map leave of a chip, by their answer. Source: own, layout 2.
 use Rattle.std.specs.Prelude.{◌≡◌, ◌≢◌, ◌⊎◌, ℕ, ◌+◌, ◌<◌, ◌≤◌, Bool, true, false, List, length}
-use Rattle.std.specs.Prelude.{Option, Some, None, Ok, Err}
+use Rattle.std.specs.Prelude.{Option, Some, None, Result, Ok, Err}
 use Rattle.chip_model.specs.Parts.{part}
 use Rattle.chip_model.specs.Geometry.{block_count, group_count, sector_count}
 use Rattle.chip_model.specs.declared.geometry.Geometry.{Geometry}
@@ -18,6 +18,7 @@ use Rattle.sector_map.specs.Marking.{SameDisk, IsUnmarked, mixed_mark}
 use Rattle.sector_map.specs.Table.{IsTableOf}
 use Rattle.sector_map.specs.declared.entry.Entry.{Entry}
 use Rattle.sector_map.specs.declared.error.MountError.{MountError}
+use Rattle.nor_layout.specs.declared.superblock.SuperError.{SuperError}
 use Rattle.nor_layout.specs.declared.superblock.SuperError.TheVariants as refusals
 use Rattle.nor_driver.specs.declared.error.NorError.TheVariants as errors
 use Rattle.sector_map.specs.declared.error.MountError.TheVariants as mounts
@@ -37,8 +38,12 @@ pub record IsStore (m : List ℕ) : Type 0 where
   pub slots : IsSoundMap m
 
 -- the superblock is that of a chip of its size, of layout 1 or 2 or mixed
+abbrev pub is_layout : Result Layout SuperError → Bool
+is_layout (Ok layout) = true
+is_layout (Err error) = false
+
 abbrev pub IsLaidOut : List ℕ → Type 0
-IsLaidOut m = (layout : Layout) × (layout_of m (geometry_of (length m)) ≡ Ok layout)
+IsLaidOut m = is_layout (layout_of m (geometry_of (length m))) ≡ true
 
 -- A healthy chip: besides, the journals are healthy, and slots and blocks sound.
 pub record IsMountable (m : List ℕ) : Type 0 where
