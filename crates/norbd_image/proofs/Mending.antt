@@ -5,6 +5,7 @@ use Rattle.chip_model.specs.Chip.{Chip}
 use Rattle.chip_model.specs.Geometry.{IsChipSize, sector_count}
 use Rattle.nor_driver.specs.Probe.{probe_answer, told, unless_protected}
 use Rattle.nor_driver.specs.declared.error.ProbeError.TheVariants as probes
+use Rattle.sector_map.proofs.Marking.{laid-formatted}
 use Rattle.sector_map.specs.Maps.{IsMountable}
 use Rattle.fault_model.specs.Sim.{fresh_chip}
 use Rattle.fault_model.proofs.Accepted.{table_accepted}
@@ -40,7 +41,7 @@ fails-on e c m m' cuts cuts' same size counts left answers =
 pub comes-of-memory : (e : MountError) (m : List ℕ) → IsMountable m → MendFails m e → ComesOfMemory e
 comes-of-memory (Probe e) m healthy failed = failed
 comes-of-memory OutOfMemory m healthy failed = tt
-comes-of-memory NotFormatted m healthy failed = (let s = healthy.superblock in absurd (cc (s, failed)))
+comes-of-memory NotFormatted m healthy failed = laid-formatted m healthy.superblock failed
 comes-of-memory Corrupt m healthy failed = failed healthy
 
 -- a chip's number of sectors says its size

@@ -21,6 +21,7 @@ use Rattle.nor_layout.specs.declared.superblock.SuperError.{SuperError}
 use Rattle.nor_layout.specs.declared.superblock.SuperError.TheVariants as supers
 use Rattle.sector_slots.specs.Slots.{IsClean}
 use Rattle.sector_stock.specs.Takes.{work_of}
+use Rattle.sector_map.proofs.Marking.{laid-formatted}
 use Rattle.sector_map.specs.Maps.{IsMountable, geometry_of}
 use Rattle.chip_model.specs.Chip.{Chip, is_idle}
 use Rattle.chip_model.specs.Geometry.{sector_count}
@@ -190,13 +191,6 @@ new_stay n d k s f p stay new same cuts slows zeros past runs =
     (subst (λ (x : List ℕ). AnswersScript (record { sectors = n; contents = x; cuts = f.cuts; slows = f.slows }) (as_seen new) stay.input stay.was stay.answer stay.left stay.is) same
     (from_zeros n f (as_seen new) stay.input stay.was stay.left stay.is stay.answer (same ∙ zeros) past (runs.says n sized))))
 
-abbrev IsDone : Result Layout SuperError → Type 0
-IsDone (Ok _) = Unit {0}
-IsDone (Err _) = ⊥
-
-superblock_is_one : (r : Result Layout SuperError) (e : SuperError) → r ≡ Ok Sectors → r ≡ Err e → ⊥
-superblock_is_one r e good bad = subst IsDone (sym good ∙ bad) tt
-
 -- a healthy chip that passes the checks of a probe is refused neither for these nor as not formatted
 -- or corrupt
 accepts-none : (c : Chip) (e : ProbeError) → IsAcceptedChip c → probe_answer (told c) ≡ Err e → ⊥
@@ -209,7 +203,7 @@ of_formatted (mounts.Probe probes.WrongId) c m' healthy accepted left refused = 
 of_formatted (mounts.Probe (probes.Sfdp e)) c m' healthy accepted left refused = accepts-none c (probes.Sfdp e) accepted refused
 of_formatted (mounts.Probe probes.Protected) c m' healthy accepted left refused = accepts-none c probes.Protected accepted refused
 of_formatted mounts.OutOfMemory c m' healthy accepted left refused = tt
-of_formatted mounts.NotFormatted c m' healthy accepted left refused = superblock_is_one (layout_of c.memory (geometry_of (length c.memory))) supers.NotFormatted healthy.superblock left.0
+of_formatted mounts.NotFormatted c m' healthy accepted left refused = laid-formatted c.memory healthy.superblock left.0
 of_formatted mounts.Corrupt c m' healthy accepted left refused = left.corrupt healthy
 
 -- behind the format

@@ -9,6 +9,7 @@ use Rattle.chip_model.specs.Geometry.{sector_count}
 use Rattle.nor_driver.specs.Probe.{IsAcceptedChip}
 use Rattle.nor_driver.specs.declared.error.ProbeError.TheVariants as probes
 use Rattle.sector_slots.specs.Slots.{IsClean}
+use Rattle.sector_map.proofs.Marking.{disk-laid}
 use Rattle.sector_map.specs.Maps.{IsMountable, KeepsEach}
 use Rattle.flash_disk.specs.Contents.{contents_of}
 use Rattle.flash_disk.specs.Mounting.{CheckCounts, IsIdleAfter, Opened, OpenedFrom, RefusedAt, RefusedAs, RefusedFor}
@@ -56,9 +57,9 @@ unharmed-same m m' healthy same = subst (λ z. Unharmed m z) (sym same) (record 
 
 pub unharmed-kept : (m m' : List ℕ) → IsMountable m → KeepsEach m m' → contents_of m' ≡ contents_of m → Unharmed m m'
 unharmed-kept m m' healthy k same = record {
-  mountable = record { superblock = superblock-kept m m' k.chip healthy.superblock; store = k.store };
+  mountable = record { superblock = disk-laid m m' k.disk healthy.superblock; store = k.store };
   contents = same;
-  sectors = ap (λ n. sector_count n) k.chip.same_length;
+  sectors = ap (λ n. sector_count n) k.disk.same_length;
   clean = k.clean;
 }
 

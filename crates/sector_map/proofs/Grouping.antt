@@ -1,5 +1,5 @@
 -- Blocks that are live with a group: two of one group are two slots of each of its sectors, and the older is retired.
-use Rattle.std.proofs.Common.{◌≡◌, ◌≢◌, ℕ, suc, ◌+◌, ◌-◌, ◌*◌, ◌<◌, ◌≤◌, ◌⊎◌, Bool, true, false, List, length, refl, sym, ap, ◌∙◌, subst, arith, inl, inr}
+use Rattle.std.proofs.Common.{◌≡◌, ◌≢◌, ℕ, suc, ◌+◌, ◌*◌, ◌<◌, ◌⊎◌, Bool, true, false, List, length, refl, sym, ap, ◌∙◌, subst, arith, inl, inr}
 use Rattle.std.specs.Prelude.{◌/◌, ◌%◌, ◌||◌, slice_index_or}
 use Rattle.std.proofs.lemmas.Bool.{cases_eq}
 use Rattle.nor_layout.specs.declared.header.Generation.{Generation}
@@ -7,8 +7,8 @@ use Rattle.nor_layout.specs.declared.header.Tag.{Tag}
 use Rattle.nor_layout.specs.declared.kind.Kind.{Kind}
 use Rattle.nor_layout.specs.declared.kind.Kind.TheVariants as kinds
 use Rattle.nor_layout.specs.Headers.{next_generation}
-use Rattle.sector_slots.specs.Slots.{Slot, Live, NoGeneration, Dead, Outside, group_tag, is_group, content_bytes, data_blocks, data_block, kind_at, raw_slot, slot_at, slot_count, IsSpareIn}
-use Rattle.sector_slots.specs.Blocks.{AreAtRest, HasGroupRoom, dead_group, two_blocks, settled, crowded, copying, SoundBlocks}
+use Rattle.sector_slots.specs.Slots.{Slot, Live, Outside, is_group, content_bytes, data_blocks, data_block, kind_at, raw_slot, slot_at, slot_count}
+use Rattle.sector_slots.specs.Blocks.{AreAtRest, HasGroupRoom, dead_group, two_blocks}
 use Rattle.sector_slots.specs.Sectors.{LiveAt, GroupsAreApart, generation_in}
 use Rattle.sector_slots.proofs.SlotLaws.{counted-raw}
 use Rattle.sector_slots.proofs.SectorLaws.{kind_in, number_in}

@@ -16,3 +16,4 @@ pub mod Mending
 pub mod Opening
 pub mod Clearing
 pub mod Leaving
+pub mod Grouped

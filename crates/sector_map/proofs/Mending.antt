@@ -1,23 +1,21 @@
 -- The steps by which a mount mends the blocks.
 use Rattle.std.proofs.Common.{◌≡◌, ◌≢◌, ℕ, suc, ◌+◌, ◌-◌, ◌*◌, ◌<◌, ◌≤◌, ◌⊎◌, Bool, true, false, List, length, refl, sym, ap, ◌∙◌, subst, arith, inl, inr}
-use Rattle.std.specs.Prelude.{Option, Some, None, ◌/◌, ◌%◌, slice_index_or}
+use Rattle.std.specs.Prelude.{◌/◌, ◌%◌}
 use Rattle.std.proofs.lemmas.Bool.{cases_eq}
-use Rattle.chip_model.specs.Geometry.{block_count, sector_count}
+use Rattle.chip_model.specs.Geometry.{block_count}
 use Rattle.nor_driver.specs.State.{NorState, Refuses}
 use Rattle.nor_driver.specs.declared.error.NorError.{NorError}
-use Rattle.nor_layout.specs.declared.header.Generation.{Generation}
 use Rattle.nor_layout.specs.declared.header.Tag.{Tag}
 use Rattle.nor_layout.specs.declared.kind.Kind.{Kind}
 use Rattle.nor_layout.specs.declared.kind.Kind.TheVariants as kinds
 use Rattle.nor_layout.specs.Headers.{next_generation}
-use Rattle.nor_layout.specs.Kinds.{kind_of}
 use Rattle.erase_journal.specs.Blocks.{SameChip, SameBlocks, OnlyBlock, WithErased}
 use Rattle.erase_journal.specs.Journals.{IsHealthy}
 use Rattle.erase_journal.specs.Steps.{SucceedsSettled, EraseInterrupted, as_it_was, block_erased}
 use Rattle.erase_journal.proofs.SettledLaws.{settled-healthy, settled-after, refuses-settled}
-use Rattle.sector_slots.specs.Slots.{Slot, Live, counted, is_group, data_blocks, data_block, kind_at, raw_slot, slot_at, slot_count, IsClean, IsSpareIn}
-use Rattle.sector_slots.specs.Blocks.{IsAtRest, AreAtRest, AreSettled, IsSettledBlocks, HasGroupRoom, dead_group, two_blocks, settled, crowded, copying, SoundBlocks}
-use Rattle.sector_slots.specs.Sectors.{LiveAt, SoundSlots, HoldsSectors, IsSoundMap, sector_at}
+use Rattle.sector_slots.specs.Slots.{Slot, counted, is_group, data_blocks, data_block, kind_at, raw_slot, slot_at, slot_count, IsClean}
+use Rattle.sector_slots.specs.Blocks.{IsAtRest, AreAtRest, AreSettled, HasGroupRoom, dead_group, two_blocks}
+use Rattle.sector_slots.specs.Sectors.{HoldsSectors, IsSoundMap, sector_at}
 use Rattle.sector_slots.specs.Copying.{SameLive, RetiresGroup, ErasesGroup}
 use Rattle.sector_slots.specs.Machine.{retires_group, erases_group}
 use Rattle.sector_slots.specs.Laws.{IsMarked}
@@ -31,17 +29,15 @@ use Rattle.sector_slots.proofs.GroupLaws.{dead-slot}
 use Rattle.sector_slots.proofs.SectorLaws.{kind_in}
 use Rattle.sector_slots.proofs.SlotLaws.{counted-raw}
 use Rattle.sector_slots.proofs.MixLaws.{marks-keep}
-use Rattle.sector_slots.proofs.MoveLaws.{same-back, same-on, same-whole}
 use Rattle.sector_stock.specs.Copy.{EndsCopy, KeepsSectors}
 use Rattle.sector_map.specs.Found.{FoundIn, RoomSeen, leaves_room}
-use Rattle.sector_map.specs.Table.{TwoHold, EntryHolds, IsTabled, Mends}
+use Rattle.sector_map.specs.Table.{IsTabled, Mends}
 use Rattle.sector_map.specs.Mending.{IsGroupPair, PairsSeen, PairsAreSlots, HasDeadGroup, IsOlderGroup, EndsFound, RetiresOlder, RetiresEach, MakesRoom, MendsBlocks}
 use Rattle.sector_map.specs.declared.found.Found.{Found}
 use Rattle.sector_map.specs.declared.found.Found.TheVariants.{AtRest, Void, Committed}
 use Rattle.sector_map.specs.declared.entry.Entry.{Entry}
-use Rattle.sector_map.specs.declared.entry.Entry.TheVariants.{Absent, One, Two}
-use Rattle.sector_map.proofs.Grouping.{OfGroup, of-group, older-of, has-newer, none-room, pair-held, older-pair, group-number}
-use Rattle.sector_map.proofs.Mounting.{live-tabled, rest-busy}
+use Rattle.sector_map.proofs.Grouping.{of-group, older-of, has-newer, none-room, pair-held, group-number}
+use Rattle.sector_map.proofs.Mounting.{live-tabled}
 use Rattle.sector_map.proofs.Restoring.{blocks-clean}
 use Rattle.sector_map.proofs.Retiring.{two-apart}
 use Rattle.sector_map.proofs.Places.{settled-at}
@@ -419,7 +415,6 @@ retiring-number table k a b kind tag t rest low is e r = group-number table a.me
 
 pub retiring-refuses : (table : List Entry) (k : ℕ) (e : NorError) (a b c : NorState) → Retiring table k a b → Refuses e b c → Refuses e a c
 retiring-refuses table k e a b c r f = elim r.since as (λ _. Refuses e a c) [ inl q ↦ subst (λ z. Refuses e z c) q f | inr s ↦ refuses-settled e a b c s f ]
-
 
 pub rest-found : (m : List ℕ) → AreAtRest (kind_at m) (data_blocks m) → FoundIn AtRest m
 rest-found m rest = record { rest = rest }

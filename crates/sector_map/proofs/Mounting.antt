@@ -7,10 +7,9 @@ use Rattle.chip_model.specs.Geometry.{sector_count, block_count}
 use Rattle.nor_layout.specs.declared.kind.Kind.{Kind}
 use Rattle.nor_layout.specs.declared.kind.Kind.TheVariants as kinds
 use Rattle.nor_driver.specs.State.{NorState}
-use Rattle.erase_journal.specs.Blocks.{SameChip}
 use Rattle.erase_journal.specs.Journals.{IsHealthy}
 use Rattle.erase_journal.specs.Steps.{SucceedsSettled}
-use Rattle.sector_slots.specs.Slots.{Slot, slot_at, slot_count, data_blocks, kind_at, raw_slot, IsClean, IsSpareIn}
+use Rattle.sector_slots.specs.Slots.{Slot, slot_at, slot_count, data_blocks, kind_at, raw_slot, IsSpareIn}
 use Rattle.sector_slots.specs.Blocks.{IsAtRest, IsCopying, AreSettled, HasGroupRoom, dead_group, settled, crowded, copying, SoundBlocks}
 use Rattle.sector_slots.specs.Copying.{SameLive}
 use Rattle.sector_slots.proofs.MoveLaws.{same-back, same-on, same-whole}

@@ -21,7 +21,7 @@ use Rattle.sector_slots.proofs.BlankLaws.{blocks-holds, sound-holds}
 use Rattle.sector_map.proofs.Marking.{chip-disk}
 use Rattle.sector_map.specs.Replace.{HeldBy}
 use Rattle.sector_map.specs.Table.{IsTableOf, Mounts, MountCut, holder}
-use Rattle.sector_map.specs.Maps.{IsStore, KeepsEach, KeepsMap, Sets, SetLeaves, Wrote, IsServing, KnownWhile, is_slow_in}
+use Rattle.sector_map.specs.Maps.{IsStore, KeepsEach, KeepsMap, SetLeaves, IsServing, KnownWhile, is_slow_in}
 use Rattle.sector_map.specs.Filling.{Renewed, RenewCorrupt, RenewCut, RenewFails}
 use Rattle.sector_map.specs.declared.held.Held.{Held}
 use Rattle.sector_map.specs.declared.entry.Entry.{Entry}

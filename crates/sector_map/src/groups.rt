@@ -46,7 +46,11 @@ pub fn has_pair<S: SlotCalls>(slots: &mut S, table: &[Entry]) -> Result<Option<b
         match table[sector] {
             Entry::Absent => {}
             Entry::One(_) => {}
-            Entry::Two(newer, older) => match are_of_groups(slots, newer.slot / 7, older.slot / 7)? {
+            Entry::Two(newer, older) => match are_of_groups(
+                slots,
+                newer.slot / 7,
+                older.slot / 7,
+            )? {
                 Some(here) => pair = either(pair, here),
                 None => return Ok(None),
             },

@@ -5,7 +5,6 @@ ghost use Rattle.std.specs.Result.{IsErrOf};
 ghost use Rattle.nor_driver.specs.State.{IsNorReady, OnlyMemoryChanges, NorFails};
 ghost use Rattle.nor_layout.specs.Layouts.{layout_of};
 ghost use Rattle.sector_map.specs.Maps.{geometry_of};
-
 ghost use Rattle.nor_driver.specs.State.{Refuses};
 ghost use Rattle.erase_journal.specs.Journals.{IsHealthy};
 ghost use Rattle.erase_journal.specs.Steps.{SucceedsSettled};

@@ -1,10 +1,7 @@
-use Rattle.std.proofs.Common.{◌≡◌, ◌<◌, ◌+◌, suc, sym, ap, subst, arith, inl, inr, ◌∙◌, refl, length}
-use Rattle.std.specs.Prelude.{Some}
-use Rattle.sector_slots.specs.Slots.{is_group, kind_at}
+use Rattle.std.proofs.Common.{◌≡◌, ◌+◌, suc, ap, subst, arith, ◌∙◌}
 use Rattle.sector_map.specs.Mending.{PairsSeen}
 use Rattle.sector_map.proofs.Founds.{some-bool}
 use Rattle.sector_map.proofs.Grouping.{Paired, paired-quiet, paired-two, pairs-all, absent-two, one-two}
-use Rattle.sector_map.proofs.Retiring.{succeeds-perhaps}
 use Rattle.sector_map.proofs.groups.has_pair.Goals as goal
 use Rattle.sector_map.proofs.groups.has_pair.Goals.{in-Absent, in-One, in-Two+in_ok-here-in-Two+in-Some}
 

@@ -1,9 +1,8 @@
-use Rattle.std.proofs.Common.{◌<◌, sym, subst, inl, inr}
-use Rattle.std.specs.Prelude.{OnOk}
+use Rattle.std.proofs.Common.{◌<◌, sym, subst}
 use Rattle.sector_slots.specs.Slots.{data_blocks}
 use Rattle.sector_slots.specs.Steps.{IsErasable}
 use Rattle.erase_journal.specs.Journals.{IsHealthy}
-use Rattle.sector_map.proofs.Mending.{dead-erasable, room-made, room-cut, room-there}
+use Rattle.sector_map.proofs.Mending.{dead-erasable, room-made, room-cut}
 use Rattle.sector_map.proofs.MapCalls.{after-ok}
 use Rattle.sector_map.proofs.groups.make_room.Goals as goal
 

@@ -1,11 +1,9 @@
-use Rattle.std.proofs.Common.{◌≡◌, ◌+◌, ◌<◌, suc, ap, sym, subst, arith, ◌∙◌}
-use Rattle.std.specs.Prelude.{IfErr}
+use Rattle.std.proofs.Common.{◌≡◌, ◌+◌, ◌<◌, suc, ap, sym, subst, arith}
 use Rattle.std.proofs.lemmas.Result.{err_from_is_err_and}
-use Rattle.nor_driver.specs.State.{Refuses}
 use Rattle.erase_journal.specs.Journals.{IsHealthy}
 use Rattle.sector_slots.specs.Slots.{data_blocks}
 use Rattle.sector_map.specs.Mending.{IsOlderGroup}
-use Rattle.sector_map.proofs.Mending.{Retiring, retiring-healthy, retiring-number, retiring-refuses, retiring-quiet, retiring-more, retiring-cut, retired-each}
+use Rattle.sector_map.proofs.Mending.{Retiring, retiring-healthy, retiring-number, retiring-quiet, retiring-more, retiring-cut, retired-each}
 use Rattle.sector_map.proofs.groups.retire_each.Goals as goal
 use Rattle.sector_map.proofs.groups.retire_each.Goals.{then-is_older+in_ok-retire_group, else-is_older}
 

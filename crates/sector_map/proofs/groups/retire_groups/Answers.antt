@@ -1,14 +1,10 @@
 use Rattle.std.proofs.Common.{◌≡◌, sym, subst, ap, ◌∙◌, length}
-use Rattle.std.specs.Prelude.{Some}
 use Rattle.chip_model.specs.Geometry.{sector_count}
 use Rattle.erase_journal.specs.Journals.{IsHealthy}
-use Rattle.sector_slots.specs.Slots.{slot_at, slot_count}
-use Rattle.sector_slots.specs.Sectors.{SoundSlots}
 use Rattle.sector_map.specs.Mending.{PairsSeen, RetiresEach}
-use Rattle.sector_map.specs.Table.{IsTabled}
 use Rattle.sector_map.proofs.Grouping.{mixed-corrupt}
 use Rattle.sector_map.proofs.Mounting.{perhaps-healthy, bool-none}
-use Rattle.sector_map.proofs.Mending.{retires-none, retires-older, each-rest, each-sound, rest-found}
+use Rattle.sector_map.proofs.Mending.{retires-none, retires-older, each-sound}
 use Rattle.sector_map.proofs.groups.retire_groups.Goals as goal
 
 pub unreachable-requires : goal.unreachable-requires

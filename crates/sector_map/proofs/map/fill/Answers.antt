@@ -16,8 +16,8 @@ invariant_of-result g c =
     record {
       counted = c.requires.table ∙ ap (λ n. sector_count n) (sym (c.mount_in.ensures.same_size ∙ ap (λ s. length s.memory) c.new-stock.ensures.same));
       standing = subst (λ z. IsServing z now.slots now.indexed) (sym items)
-            (served-after c.mount_in.new.table c.new-stock.result.slots now.slots now.indexed (c.in-Ok-true.ensures.sound (cc c.in-Ok-true.is)) c.in-Ok-true.ensures.done
-            (subst (λ s. IsNorReady s) (sym c.new-stock.ensures.same) c.requires.ready) (c.in-Ok-true.ensures.indexed (cc c.in-Ok-true.is)));
+          (served-after c.mount_in.new.table c.new-stock.result.slots now.slots now.indexed (c.in-Ok-true.ensures.sound (cc c.in-Ok-true.is)) c.in-Ok-true.ensures.done
+          (subst (λ s. IsNorReady s) (sym c.new-stock.ensures.same) c.requires.ready) (c.in-Ok-true.ensures.indexed (cc c.in-Ok-true.is)));
     }
 
 pub returns-in-Ok-true-clause-ok : goal.returns-in-Ok-true-clause-ok

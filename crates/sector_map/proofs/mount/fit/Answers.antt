@@ -1,5 +1,4 @@
-use Rattle.std.proofs.Common.{◌≡◌, ◌⊎◌, true, sym, subst, ◌∙◌, inl, inr}
-use Rattle.std.specs.Prelude.{Some}
+use Rattle.std.proofs.Common.{◌≡◌, ◌⊎◌, true, sym, ◌∙◌, inl, inr}
 use Rattle.sector_map.specs.Found.{leaves_room}
 use Rattle.sector_map.proofs.Mounting.{pair-seen, dead-seen, same-seen}
 use Rattle.sector_map.proofs.mount.fit.Goals as goal

@@ -1,10 +1,10 @@
-use Rattle.std.proofs.Common.{◌≡◌, ℕ, ◌<◌, true, false, sym, subst, ap, ◌∙◌, length}
-use Rattle.std.specs.Prelude.{Some, None}
+use Rattle.std.proofs.Common.{◌≡◌, ℕ, ◌<◌, true, sym, subst, ap, ◌∙◌, length}
+use Rattle.std.specs.Prelude.{Some}
 use Rattle.std.proofs.lemmas.Result.{IfOk-weaker}
 use Rattle.chip_model.specs.Geometry.{sector_count}
 use Rattle.sector_slots.specs.Slots.{slot_at, slot_count, data_blocks, kind_at, IsSpareIn}
 use Rattle.sector_slots.specs.Blocks.{HasGroupRoom}
-use Rattle.sector_map.specs.Found.{FoundIn, RoomSeen}
+use Rattle.sector_map.specs.Found.{RoomSeen}
 use Rattle.sector_map.specs.Table.{IsTabled}
 use Rattle.sector_map.specs.Mending.{IsMixedPair, PairsSeen, HasDeadGroup}
 use Rattle.sector_map.proofs.Grouping.{mixed-corrupt, pair-room}
@@ -55,7 +55,7 @@ returns-clause-corrupt g c =
     let t : IsTabled c.read_table.new.table (slot_at m) (slot_count m) = subst (λ z. IsTabled c.read_table.new.table (slot_at z) (slot_count z)) c.survey.ensures.same (c.in_ok-spare.ensures.tabled c.in-Some-2.spare c.in-Some-2.is) in
     let pairs : PairsSeen c.in-Some-3.pair c.read_table.new.table m = subst (λ z. PairsSeen c.in-Some-3.pair c.read_table.new.table z) same (c.in_ok-pair.ensures.pair c.in-Some-3.pair c.in-Some-3.is) in
     IfOk-weaker c.fit.result _ _ (λ answer h e sound.
-        let n = h e in
-        fits-none c.in-Some.found c.in-Some-2.spare c.read_table.new.table m (c.in_ok-found.ensures.found c.in-Some.found c.in-Some.is) n.0
-        (λ q. subst (λ z. (b : ℕ) → b < data_blocks z → IsSpareIn z b → ⊥) c.survey.ensures.same (c.in_ok-spare.ensures.not_spare (c.in-Some-2.is ∙ ap (λ z. Some z) q))) t (subst (λ z. PairsSeen z c.read_table.new.table m) n.1 pairs)
-        (λ d. n.2 (subst (λ z. HasDeadGroup z) (sym (c.has_pair.ensures.same ∙ same)) d)) sound) c.fit.ensures.none
+    let n = h e in
+    fits-none c.in-Some.found c.in-Some-2.spare c.read_table.new.table m (c.in_ok-found.ensures.found c.in-Some.found c.in-Some.is) n.0
+    (λ q. subst (λ z. (b : ℕ) → b < data_blocks z → IsSpareIn z b → ⊥) c.survey.ensures.same (c.in_ok-spare.ensures.not_spare (c.in-Some-2.is ∙ ap (λ z. Some z) q))) t (subst (λ z. PairsSeen z c.read_table.new.table m) n.1 pairs)
+    (λ d. n.2 (subst (λ z. HasDeadGroup z) (sym (c.has_pair.ensures.same ∙ same)) d)) sound) c.fit.ensures.none

@@ -1,8 +1,8 @@
-use Rattle.std.proofs.Common.{◌≡◌, sym, subst, ◌∙◌, false}
+use Rattle.std.proofs.Common.{sym, ◌∙◌}
 use Rattle.std.proofs.lemmas.Result.{err_from_is_err_and}
 use Rattle.sector_map.proofs.Mounting.{perhaps-healthy}
 use Rattle.sector_map.proofs.MapCalls.{after-ok}
-use Rattle.sector_map.proofs.Mending.{Ended, ended, ended-dead, mends-after, mends-blocks, kept-mends}
+use Rattle.sector_map.proofs.Mending.{ended, ended-dead, mends-after, mends-blocks, kept-mends}
 use Rattle.sector_map.proofs.mount.mend_blocks.Goals as goal
 
 pub retire_groups-requires-clause-tabled : goal.retire_groups-requires-clause-tabled

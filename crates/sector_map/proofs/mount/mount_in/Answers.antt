@@ -1,9 +1,8 @@
-use Rattle.std.proofs.Common.{◌≡◌, ◌⊎◌, sym, subst, ◌∙◌, inl, inr}
+use Rattle.std.proofs.Common.{sym, subst, ◌∙◌}
 use Rattle.std.proofs.lemmas.Result.{err_from_is_err_and}
 use Rattle.erase_journal.specs.Journals.{IsHealthy}
 use Rattle.sector_slots.specs.Slots.{slot_at, slot_count}
 use Rattle.sector_map.specs.Found.{FoundIn, RoomSeen}
-use Rattle.sector_map.specs.Marking.{Marks}
 use Rattle.sector_map.specs.Table.{IsTabled, Mounts, MountCut}
 use Rattle.sector_slots.specs.Sectors.{IsSoundMap}
 use Rattle.sector_map.proofs.Mounting.{perhaps-healthy}

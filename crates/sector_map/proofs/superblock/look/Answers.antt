@@ -1,4 +1,4 @@
-use Rattle.std.proofs.Common.{◌≡◌, length, ap, ◌∙◌}
+use Rattle.std.proofs.Common.{length, ap, ◌∙◌}
 use Rattle.chip_model.specs.declared.geometry.Geometry.{Geometry}
 use Rattle.nor_layout.specs.Layouts.{layout_of}
 use Rattle.sector_map.proofs.Looking.{says-same, geometry-is}
