@@ -1,5 +1,5 @@
 -- A superblock that is kept, and what is known of a disk while no operation was slow.
-use Rattle.std.proofs.Common.{◌≡◌, ℕ, ◌+◌, ◌<◌, ◌≤◌, false, List, refl, sym, ap, ◌∙◌, subst, arith, inl, inr}
+use Rattle.std.proofs.Common.{◌≡◌, ℕ, ◌≤◌, false, List, refl, sym, ◌∙◌, arith, inl, inr}
 use Rattle.nor_driver.specs.State.{NorState, OnlyMemoryChanges, Refuses}
 use Rattle.nor_driver.specs.declared.error.NorError.{NorError}
 use Rattle.nor_driver.specs.declared.error.NorError.TheVariants as errors
