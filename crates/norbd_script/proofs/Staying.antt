@@ -195,7 +195,7 @@ module _ (old new : OnBus) (m : List ℕ) (f : Facts) (p : ℕ) (r was : Option 
   slow_in_check cuts slow = record {
     cuts = more_cuts;
     slows = more_slows;
-    mounts = λ i. ((kept i).chip.same_length, tt);
+    mounts = λ i. ((kept i).disk.same_length, tt);
     says = λ h. ((refl, refl), (λ quiet. array h.idle), tt, (back.cuts ∙ cuts, (let y = back.slow_count in omega (arith, slow, y))));
     stays = λ h quiet. (let y = back.slow_count in absurd (omega (arith, slow, y, quiet)));
   }
