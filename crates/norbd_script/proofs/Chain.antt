@@ -14,15 +14,10 @@ use Rattle.station.specs.Script.{ScriptSays, events_of}
 use Rattle.station.specs.Transcript.{Transcript}
 use Rattle.norbd_script.specs.declared.error.RunFault.{RunFault}
 use Rattle.norbd_script.specs.declared.error.RunFault.TheVariants.{Format, Mount, NotClean, OutOfMemory, Script}
-use Rattle.nor_layout.specs.Layouts.{layout_of}
-use Rattle.nor_layout.specs.declared.layout.Layout.{Layout}
-use Rattle.nor_layout.specs.declared.layout.Layout.TheVariants.{Sectors}
-use Rattle.nor_layout.specs.declared.superblock.SuperError.{SuperError}
-use Rattle.nor_layout.specs.declared.superblock.SuperError.TheVariants as supers
 use Rattle.sector_slots.specs.Slots.{IsClean}
 use Rattle.sector_stock.specs.Takes.{work_of}
 use Rattle.sector_map.proofs.Marking.{laid-formatted}
-use Rattle.sector_map.specs.Maps.{IsMountable, geometry_of}
+use Rattle.sector_map.specs.Maps.{IsMountable}
 use Rattle.chip_model.specs.Chip.{Chip, is_idle}
 use Rattle.chip_model.specs.Geometry.{sector_count}
 use Rattle.nor_driver.specs.State.{NorState}

@@ -15,7 +15,6 @@ use Rattle.flash_disk.specs.Contents.{contents_of}
 use Rattle.flash_disk.specs.Mounting.{CheckCounts, IsIdleAfter, Opened, OpenedFrom, RefusedAt, RefusedAs, RefusedFor}
 use Rattle.flash_disk.specs.declared.error.MountError.{MountError}
 use Rattle.flash_disk.specs.declared.error.MountError.TheVariants as mounts
-use Rattle.flash_disk.proofs.Naming.{superblock-kept}
 use Rattle.flash_disk.proofs.Sectors.{length-contents}
 use Rattle.norbd_script.specs.declared.error.RunFault.{RunFault}
 use Rattle.norbd_script.specs.declared.error.RunFault.TheVariants.{Format, Mount, NotClean, OutOfMemory, Script}
