@@ -3,7 +3,7 @@ use Rattle.std.proofs.Common.{ℕ, length, arith, subst, ◌≡◌, List, [], �
 use Rattle.std.proofs.lemmas.Bool.{and_from, and_parts}
 use Rattle.programmer.specs.Exchanges.{Exchange, Exchanged}
 use Rattle.programmer.proofs.ExchangeLaws.{exchanged_none, exchanged_twice}
-use Rattle.watched.specs.Settling.{Rests, are_waits, told}
+use Rattle.watched.specs.Settling.{Rests, are_waits, sent_alone}
 
 both_wait : (some more : List Exchange) → are_waits some ≡ true → are_waits more ≡ true → are_waits (some ++ more) ≡ true
 both_wait [] more one two = two
@@ -24,7 +24,7 @@ empty (x ∷ xs) e = absurd (omega (arith, e))
 
 -- a frame that asks for no byte
 pub silent : (old new : Option (List Exchange)) (sent heard : List ℕ) → length heard ≡ 0 → Exchanged old new (record { sent = sent; received = heard } ∷ [])
-    → Exchanged old new (told sent ∷ [])
+    → Exchanged old new (sent_alone sent ∷ [])
 silent old new sent heard none one = subst (λ (r : List ℕ). Exchanged old new (record { sent = sent; received = r } ∷ [])) (empty heard none) one
 
 pub rests_from : (old mid new : Option (List Exchange)) → mid ≡ old → Rests mid new → Rests old new

@@ -22,8 +22,8 @@ is_changing (makes.Unit at size) i = is_within at size i
 is_changing (makes.Status value) i = false
 
 -- a code and an address of three bytes
-abbrev pub addressed : ℕ → ℕ → List ℕ
-addressed code at = code ∷ at / 65536 % 256 ∷ at / 256 % 256 ∷ at % 256 ∷ []
+abbrev pub with_place : ℕ → ℕ → List ℕ
+with_place code at = code ∷ at / 65536 % 256 ∷ at / 256 % 256 ∷ at % 256 ∷ []
 
 -- the change that a command makes on a chip of so many bytes, where it starts an operation
 abbrev pub change_by : Command → ℕ → Change

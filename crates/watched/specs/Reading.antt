@@ -4,13 +4,13 @@ use Rattle.std.specs.Prelude.{◌≡◌, ℕ, zero, suc, ◌+◌, ◌*◌, ◌/�
 use Rattle.std.specs.Prelude.{length, take, drop, Option}
 use Rattle.chip_model.specs.Memory.{byte}
 use Rattle.programmer.specs.Exchanges.{Exchange, Exchanged}
-use Rattle.watched.specs.Changes.{addressed, is_changing}
+use Rattle.watched.specs.Changes.{with_place, is_changing}
 use Rattle.watched.specs.declared.change.Change.{Change}
 use Rattle.watched.specs.declared.change.Change.TheVariants as makes
 
 -- a READ of so many bytes from a place on, answered by this memory
 abbrev pub read_of : List ℕ → ℕ → ℕ → Exchange
-read_of m at size = record { sent = addressed 3 at; received = take size (drop at m) }
+read_of m at size = record { sent = with_place 3 at; received = take size (drop at m) }
 
 -- READs of n pieces of 4 KiB that follow one another, answered by this memory
 abbrev pub piece_reads : List ℕ → ℕ → ℕ → List Exchange
@@ -35,5 +35,5 @@ abbrev pub Compared : List ℕ → Change → ℕ → Option (List Exchange) →
 Compared m change zero old new = new ≡ old
 Compared m change (suc n) old new = (mid : Option (List Exchange)) × (received : List ℕ)
     × Compared m change n old mid
-    × Exchanged mid new (record { sent = addressed 3 (4096 * n); received = received } ∷ [])
+    × Exchanged mid new (record { sent = with_place 3 (4096 * n); received = received } ∷ [])
     × (length received ≡ 4096) × Agrees m change (4096 * n) received

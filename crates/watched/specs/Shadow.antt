@@ -1,5 +1,6 @@
 -- The chip in memory beside a watched one. Source: own.
-use Rattle.std.specs.Prelude.{◌≡◌, ℕ, false, true, List, if◌then◌else◌}
+use Rattle.std.specs.Prelude.{◌≡◌, ℕ, false, true, List, IfOk, if◌then◌else◌}
+use Rattle.sfdp.specs.Params.{params_of}
 use Rattle.chip_model.specs.Chip.{Chip, is_idle}
 use Rattle.chip_model.specs.Frames.{with_polls}
 use Rattle.fault_model.specs.declared.sim_chip.SimChip.{SimChip}
@@ -25,3 +26,7 @@ pub record IsCalm (s : SimChip) : Type 0 where
 -- the chip after the first status read of an operation, or after one where nothing is in progress
 abbrev pub looked_at : Chip → Chip
 looked_at c = if is_idle c.operation then c else with_polls c 1
+
+-- the SFDP bytes are no table, or that of a chip of so many bytes
+abbrev pub FitsSize : List ℕ → ℕ → Type 0
+FitsSize sfdp size = IfOk (params_of sfdp) (λ p. p.bytes ≡ size)

@@ -23,8 +23,8 @@ abbrev pub read_back : Chip → Chip → List Exchange
 read_back c left = if is_idle left.operation
     then change_reads (change_of c.operation) left.memory else []
 
--- A frame that was answered: the chip was sent it and answered what the caller was told, and what it
--- changed was then read from the chip; unless the model ignores the frame.
+-- A frame that was answered: the chip was sent it and answered what the caller was told, and what
+-- it changed was then read from the chip; unless the model ignores the frame.
 abbrev pub Heard : Chip → List ℕ → List ℕ → Chip → Option (List Exchange)
     → Option (List Exchange) → Type 0
 Heard c sent received left old new = Exchanged old new

@@ -147,7 +147,7 @@ impl<P: Programmer + Drop> SpiBus for WatchedBus<P> {
     ghost use Rattle.chip_model.specs.Cut.{Loses, PowersOn};
     ghost use Rattle.chip_model.specs.Frames.{Frame, newly_slow};
     ghost use Rattle.watched.specs.Changes.{change_of};
-    ghost use Rattle.watched.specs.Settling.{Recovers, Steadies};
+    ghost use Rattle.watched.specs.Settling.{Resumes, Steadies};
     ghost use Rattle.watched.specs.Watched.{Heard, interrupted, still_pending, watched_chip};
     ghost use Rattle.watched.specs.Watched.{watched_cuts, watched_pending, watched_slows};
     ghost use Rattle.watched.specs.Lawful.{lawful_shadow};
@@ -193,8 +193,9 @@ impl<P: Programmer + Drop> SpiBus for WatchedBus<P> {
         }
         let before = self.shadow.change;
         let slows = self.shadow.slows;
-        let Err(departure) = self.exchange(send, &instruction, recv) else {
-            return Ok(());
+        let departure = match self.exchange(send, &instruction, recv) {
+            Ok(()) => return Ok(()),
+            Err(departure) => departure,
         };
         if self.cuts == u64::MAX {
             return Ok(());
@@ -215,7 +216,7 @@ impl<P: Programmer + Drop> SpiBus for WatchedBus<P> {
         // The power is on only where the chip was read and found to be the one in memory.
         ensures recovers { (watched_chip self.old).powered ≡ false
             → (watched_chip self.new).powered ≡ true → watched_cuts self.old + 1 < 2 ^ 64
-            → Recovers (watched_chip self.new) (watched_pending self.old)
+            → Resumes (watched_chip self.new) (watched_pending self.old)
             (P.exchanged self.old.wire.programmer) (P.exchanged self.new.wire.programmer) }
         ensures steadies { (watched_chip self.old).powered ≡ true
             → (watched_chip self.new).powered ≡ true → watched_cuts self.old + 1 < 2 ^ 64

@@ -1,7 +1,7 @@
 //! A change of a chip that is in progress, or was when the power was lost.
 
 ghost use Rattle.std.specs.Prelude.{◌≡◌, ◌<◌};
-ghost use Rattle.watched.specs.Changes.{addressed, change_by, is_changing};
+ghost use Rattle.watched.specs.Changes.{with_place, change_by, is_changing};
 ghost use Rattle.watched.specs.Instruction.{instructed};
 
 use crate::instruction::Instruction;
@@ -48,8 +48,8 @@ pub(crate) fn change_by(instruction: &Instruction, size: u32) -> Change
 }
 
 /// A code, and an address of three bytes, the most significant first.
-pub(crate) fn addressed(code: u8, at: usize) -> [u8; 4]
-    ensures { result ≡ addressed code at }
+pub(crate) fn with_place(code: u8, at: usize) -> [u8; 4]
+    ensures { result ≡ with_place code at }
 {
     [
         code,

@@ -1,19 +1,20 @@
 //! Everything that a chip holds, read once.
 
-ghost use Rattle.std.specs.Prelude.{◌≡◌, ◌*◌, ◌/◌, ◌%◌, ◌<◌, ◌≤◌, [], ◌∷◌, ℕ, List, IfOk, length, true};
+ghost use Rattle.std.specs.Prelude.{◌≡◌, ◌*◌, ◌/◌, ◌%◌, ◌<◌, ◌≤◌};
+ghost use Rattle.std.specs.Prelude.{[], ◌∷◌, ℕ, List, IfOk, length, true};
 ghost use Rattle.chip_model.specs.Chip.{Idle, is_idle, completed};
 ghost use Rattle.chip_model.specs.Frames.{status_1};
 ghost use Rattle.chip_model.specs.Geometry.{IsChipSize};
 ghost use Rattle.fault_model.specs.Sim.{chip_of};
 ghost use Rattle.sfdp.specs.Params.{params_of};
 ghost use Rattle.programmer.specs.Exchanges.{Exchange, Exchanged};
-ghost use Rattle.watched.specs.Changes.{addressed};
+ghost use Rattle.watched.specs.Changes.{with_place};
 ghost use Rattle.watched.specs.Opening.{Opens};
 ghost use Rattle.watched.specs.Reading.{piece_reads};
 ghost use Rattle.watched.specs.Shadow.{IsCalm};
 ghost use Rattle.watched.specs.Watched.{shadow_chip};
 
-use crate::change::{Change, addressed};
+use crate::change::{Change, with_place};
 use crate::departure::{Departure, OpenError};
 use crate::led::set_protection;
 use crate::shadow::Shadow;
@@ -111,7 +112,7 @@ fn read_memory<P: Programmer>(
         return Err(OpenError::OutOfMemory);
     };
     for piece in 0..pieces {
-        if !wire.hear(&addressed(0x03, 4_096 * piece as usize), 4_096) {
+        if !wire.hear(&with_place(0x03, 4_096 * piece as usize), 4_096) {
             return Err(OpenError::NoAnswer(0x03));
         }
         let Ok(()) = memory.extend_from_slice(&wire.heard) else {

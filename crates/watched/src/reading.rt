@@ -3,10 +3,10 @@
 ghost use Rattle.std.specs.Prelude.{◌≡◌, ◌*◌, ◌/◌, ◌<◌, ◌≤◌, ◌^◌, [], ◌∷◌, ℕ, List, None, OnOk};
 ghost use Rattle.std.specs.Prelude.{length, true};
 ghost use Rattle.programmer.specs.Exchanges.{Exchange, Exchanged};
-ghost use Rattle.watched.specs.Changes.{addressed};
+ghost use Rattle.watched.specs.Changes.{with_place};
 ghost use Rattle.watched.specs.Reading.{Agrees, Compared, change_reads, piece_reads, read_of};
 
-use crate::change::{Change, addressed};
+use crate::change::{Change, with_place};
 use crate::departure::{Departure, Mismatch};
 use crate::wire::Wire;
 use programmer::Programmer;
@@ -67,7 +67,7 @@ impl<P: Programmer> Wire<P> {
         let Some(part) = memory.get(at..at + size) else {
             return Err(Departure::NoAnswer(0x03));
         };
-        if !self.hear(&addressed(0x03, at), size) {
+        if !self.hear(&with_place(0x03, at), size) {
             return Err(Departure::NoAnswer(0x03));
         }
         if same(&self.heard, part) {
@@ -108,10 +108,10 @@ impl<P: Programmer> Wire<P> {
         requires place { at < 2 ^ 60 }
         ensures { OnOk result ((received : List ℕ)
             × Exchanged (P.exchanged self.old.programmer) (P.exchanged self.new.programmer)
-            (record { sent = addressed 3 at; received = received } ∷ [])
+            (record { sent = with_place 3 at; received = received } ∷ [])
             × (length received ≡ 4096) × Agrees memory.now change at received) }
     {
-        if !self.hear(&addressed(0x03, at), 4_096) {
+        if !self.hear(&with_place(0x03, at), 4_096) {
             return Err(Departure::NoAnswer(0x03));
         }
         match difference(memory, change, at, &self.heard) {

@@ -1,15 +1,16 @@
 //! What is exchanged before the power counts as on.
 
-ghost use Rattle.std.specs.Prelude.{◌≡◌, ◌++◌, ◌/◌, ◌%◌, ◌<◌, [], ◌∷◌, ℕ, List, length, false, true};
+ghost use Rattle.std.specs.Prelude.{◌≡◌, ◌++◌, ◌/◌, ◌%◌, ◌<◌, []};
+ghost use Rattle.std.specs.Prelude.{◌∷◌, ℕ, List, length, false, true};
 ghost use Rattle.std.specs.Prelude.{OnOk, Option, drop, take};
 ghost use Rattle.chip_model.specs.Frames.{status_1};
 ghost use Rattle.programmer.specs.Exchanges.{Exchange, Exchanged};
-ghost use Rattle.watched.specs.Changes.{addressed};
-ghost use Rattle.watched.specs.Settling.{Makes, Recovers, Rests, Steadies, register_reads};
-ghost use Rattle.watched.specs.Settling.{table_read, told};
+ghost use Rattle.watched.specs.Changes.{with_place};
+ghost use Rattle.watched.specs.Settling.{Makes, Resumes, Rests, Steadies, register_reads};
+ghost use Rattle.watched.specs.Settling.{table_read, sent_alone};
 ghost use Rattle.watched.specs.Watched.{shadow_chip};
 
-use crate::change::{Change, addressed};
+use crate::change::{Change, with_place};
 use crate::departure::Departure;
 use crate::reading::{first_difference, same};
 use crate::shadow::Shadow;
@@ -19,10 +20,10 @@ use programmer::Programmer;
 /// The frame that programs a whole page.
 fn page_frame(at: usize, page: &[u8]) -> [u8; 260]
     requires { length page.now ≡ 256 }
-    ensures { result ≡ addressed 2 at ++ page.now }
+    ensures { result ≡ with_place 2 at ++ page.now }
 {
     let mut frame = [0u8; 260];
-    frame[..4].copy_from_slice(&addressed(0x02, at));
+    frame[..4].copy_from_slice(&with_place(0x02, at));
     frame[4..].copy_from_slice(page);
     frame
 }
@@ -40,7 +41,7 @@ impl<P: Programmer> Wire<P> {
     fn finishes(&mut self, frame: &[u8]) -> Result<(), Departure>
         ensures { OnOk result ((mid : Option (List Exchange))
             × Exchanged (P.exchanged self.old.programmer) mid
-            (told (6 ∷ []) ∷ told frame.now ∷ [])
+            (sent_alone (6 ∷ []) ∷ sent_alone frame.now ∷ [])
             × Rests mid (P.exchanged self.new.programmer)) }
     {
         if !self.hear(&[0x06], 0) {
@@ -68,7 +69,7 @@ impl<P: Programmer> Wire<P> {
             }
             Change::Unit(at, size) => {
                 let code = if size == 4_096 { 0x20 } else { 0xD8 };
-                self.finishes(&addressed(code, at as usize))
+                self.finishes(&with_place(code, at as usize))
             }
             Change::Status(value) => self.finishes(&[0x01, value]),
         }
@@ -122,7 +123,7 @@ impl<P: Programmer> Wire<P> {
     /// that was interrupted, that is made again, and its places are read.
     fn recover(&mut self, shadow: &Shadow, status1: u8, change: Change) -> Result<(), Departure>
         requires { status1 ≡ status_1 (shadow_chip shadow.now) }
-        ensures { OnOk result (Recovers (shadow_chip shadow.now) change
+        ensures { OnOk result (Resumes (shadow_chip shadow.now) change
             (P.exchanged self.old.programmer) (P.exchanged self.new.programmer)) }
     {
         if !self.programmer.reopen() {
@@ -158,7 +159,7 @@ impl<P: Programmer> Wire<P> {
         lost: bool,
     ) -> Result<(), Departure>
         requires { status1 ≡ status_1 (shadow_chip shadow.now) }
-        ensures recovers { lost ≡ true → OnOk result (Recovers (shadow_chip shadow.now) change
+        ensures recovers { lost ≡ true → OnOk result (Resumes (shadow_chip shadow.now) change
             (P.exchanged self.old.programmer) (P.exchanged self.new.programmer)) }
         ensures steadies { lost ≡ false → OnOk result (Steadies (shadow_chip shadow.now) change
             (P.exchanged self.old.programmer) (P.exchanged self.new.programmer)) }

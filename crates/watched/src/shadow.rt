@@ -1,16 +1,15 @@
 //! The chip in memory beside a watched one.
 
-ghost use Rattle.std.specs.Prelude.{◌≡◌, ◌+◌, ◌/◌, ◌%◌, ◌<◌, ◌≤◌, ℕ, length, false, true, IfOk};
+ghost use Rattle.std.specs.Prelude.{◌≡◌, ◌+◌, ◌/◌, ◌%◌, ◌<◌, ◌≤◌, ℕ, length, false, true};
 ghost use Rattle.std.specs.Prelude.{◌^◌, EachIndex, slice_index, [], List, if◌then◌else◌};
 ghost use Rattle.std.proofs.Props.{props};
-ghost use Rattle.sfdp.specs.Params.{params_of};
 ghost use Rattle.chip_model.specs.Chip.{is_idle};
 ghost use Rattle.chip_model.specs.Frames.{status_1};
 ghost use Rattle.chip_model.specs.Geometry.{IsChipSize};
 ghost use Rattle.chip_model.specs.Memory.{byte};
 ghost use Rattle.fault_model.specs.Sim.{chip_of};
 ghost use Rattle.watched.specs.Changes.{change_of};
-ghost use Rattle.watched.specs.Shadow.{IsCalm};
+ghost use Rattle.watched.specs.Shadow.{IsCalm, FitsSize};
 
 use crate::change::{Change, change_by};
 use crate::instruction::Instruction;
@@ -40,7 +39,7 @@ pub struct Shadow {
     ghost bytes: { length (chip_of chip).memory ≡ size },
     ghost sized: { IsChipSize size },
     ghost full: { length table ≡ 256 },
-    ghost fits: { IfOk (params_of table) (λ p. p.bytes ≡ length (chip_of chip).memory) } by { Prim.hlevel props },
+    ghost fits: { FitsSize table (length (chip_of chip).memory) } by { Prim.hlevel props },
     ghost no_cmp: { status2 / 64 % 2 ≡ 0 },
     ghost no_wps: { status3 / 4 % 2 ≡ 0 },
     ghost goes: { change ≡ change_of (chip_of chip).operation },

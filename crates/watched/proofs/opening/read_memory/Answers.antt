@@ -15,5 +15,5 @@ loop-piece-preserved g c =
     record {
       long = longer_by_piece m heard c.deref.result.now whole c.loop-piece.piece i.long (h.room refl) same joined;
       read = grown_by_piece (log c.args.wire.now.programmer) (log c.loop-piece.wire.programmer) (log c.hear.new.self.programmer) m heard c.deref.result.now whole
-          c.addressed.result c.loop-piece.piece i.long (h.room refl) same joined c.addressed.ensures i.read (h.grows refl);
+          c.with_place.result c.loop-piece.piece i.long (h.room refl) same joined c.with_place.ensures i.read (h.grows refl);
     }
