@@ -1,0 +1,33 @@
+//! The two streams of a programmer.
+
+ghost use Rattle.std.specs.Prelude.{◌≡◌, OnOk};
+ghost use Rattle.std.specs.Io.KnownBytes.{Consumes};
+
+use block_device::{Sink, Source};
+
+/// What begins streams to a programmer.
+pub trait Dialer<I, O> {
+    /// Two new streams, from the programmer and to it; `None` where there are none.
+    fn dial(&mut self) -> Option<(I, O)>;
+}
+
+/// The bytes weren't all received: a call failed, or the stream ended.
+#[derive(Clone, Copy, Debug, PartialEq, Eq, Drop)]
+pub struct Short;
+
+/// Fills `into` with the next bytes of a source.
+pub fn receive<I: Source>(source: &mut I, into: &mut [u8]) -> Result<(), Short>
+    ensures { OnOk result (Consumes (I.remaining source.old) (I.remaining source.new) into.new) }
+{
+    let mut done = 0;
+    while done < into.len() {
+        let Ok(n) = source.read(&mut into[done..]) else {
+            return Err(Short);
+        };
+        if n == 0 {
+            return Err(Short);
+        }
+        done += n;
+    }
+    Ok(())
+}

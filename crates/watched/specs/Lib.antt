@@ -1,0 +1,11 @@
+pub use Rattle.programmer.specs.Exchanges
+pub use Rattle.fault_model.specs.Sim
+pub mod Instruction
+pub mod Asking
+pub mod Changes
+pub mod Reading
+pub mod Settling
+pub mod Shadow
+pub mod Opening
+pub mod Watched
+pub mod Lawful
