@@ -1,5 +1,5 @@
 -- A chip in memory is accepted, and what its mount refuses.
-use Rattle.std.proofs.Common.{◌≡◌, ℕ, ◌*◌, ◌<◌, List, length, true, arith, sym, ap, subst, refl, Ok, Err}
+use Rattle.std.proofs.Common.{◌≡◌, ℕ, ◌*◌, List, length, true, arith, ap, subst, refl, Ok}
 use Rattle.sfdp.specs.declared.params.Params.{Params}
 use Rattle.chip_model.specs.Chip.{Chip}
 use Rattle.chip_model.specs.Geometry.{IsChipSize, sector_count}

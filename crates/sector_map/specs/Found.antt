@@ -29,8 +29,8 @@ FoundBelow AtRest kind k n = RestBelow kind k
 FoundBelow (Void t) kind k n = VoidBelow t kind k
 FoundBelow (Committed s t) kind k n = CommittedBelow s t kind k n
 
--- What is found once one more block is read; None where the blocks are corrupt. A block of a group is
--- at rest.
+-- What is found once one more block is read; None where the blocks are corrupt. A block of a group
+-- is at rest.
 abbrev pub noted_first : ℕ → Kind → ℕ → Option Found
 noted_first block kinds.Plain n = Some AtRest
 noted_first block kinds.Void n = Some (Void block)

@@ -31,8 +31,8 @@ geometry_of bytes = record {
   sectors = sector_count bytes;
 }
 
--- Behind the superblock: the journals are healthy, slots and blocks sound. A block is of slots, or of
--- a group.
+-- Behind the superblock: the journals are healthy, slots and blocks sound. A block is of slots, or
+-- of a group.
 pub record IsStore (m : List ℕ) : Type 0 where
   pub journals : IsHealthy m
   pub slots : IsSoundMap m
@@ -132,8 +132,8 @@ pub record Mounted (old new : NorState) : Type 0 where
   pub ready : IsNorReady old
   pub kept : OnlyMemoryChanges old new
 
--- One that was cut: a mountable memory stays one, with the same sectors. No block of a chip of layout
--- 1 has changed until it is mixed.
+-- One that was cut: a mountable memory stays one, with the same sectors. No block of a chip of
+-- layout 1 has changed until it is mixed.
 pub record MountWasCut (old new : NorState) : Type 0 where
   pub came : (old.cuts < new.cuts) ⊎ (old.powered ≡ false)
   pub slows : new.slows ≡ old.slows

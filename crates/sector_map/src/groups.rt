@@ -24,8 +24,8 @@ use nor_driver::NorError;
 use nor_layout::Kind;
 use sector_slots::SlotCalls;
 
-/// Whether two live blocks of one group hold some sector, by the table; None where of two slots of a
-/// sector the one lies in a block of a group and the other doesn't: no write leaves these slots.
+/// Whether two live blocks of one group hold some sector, by the table; None where of two slots of
+/// a sector the one lies in a block of a group and the other doesn't: no write leaves these slots.
 #[tactic(auto, using(crate::proofs::Calls::repeated_calls))]
 pub fn has_pair<S: SlotCalls>(slots: &mut S, table: &[Entry]) -> Result<Option<bool>, NorError>
     requires tabled { IsTabled table.now (slot_at (S.state slots.old).memory)

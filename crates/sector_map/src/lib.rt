@@ -7,11 +7,11 @@
 //! where they are corrupt, which is decided before anything changes. Then it marks a chip of layout
 //! 1 as mixed, ends a copying that was cut, retires the older of two blocks of a group, makes a
 //! block wholly free, retires the older of two slots, and makes the index; no sector changes in it,
-//! cut or not. `find` is one read. `replace` writes one sector and no other: cut, every sector is as
-//! it was or this one new; so is `clear`, which makes it zeros. `tidy` and `restore` change none.
-//! Slots and blocks stay sound through all calls on any memory; what is said of contents after a
-//! copy or a write is said of memories in which what reads as free is erased (`specs/Maps.antt`). An
-//! error is latched until a `restore`.
+//! cut or not. `find` is one read. `replace` writes one sector and no other: cut, every sector is
+//! as it was or this one new; so is `clear`, which makes it zeros. `tidy` and `restore` change
+//! none. Slots and blocks stay sound through all calls on any memory; what is said of contents
+//! after a copy or a write is said of memories in which what reads as free is erased
+//! (`specs/Maps.antt`). An error is latched until a `restore`.
 //!
 //! Left to the crate above: when to tidy and when to restore. Source: own. See docs/SECTORS.md,
 //! docs/LAYOUT.md and docs/INDEX.md.

@@ -128,9 +128,9 @@ impl<N: Nor> SectorMap<N> {
         }
     }
 
-    /// Writes a sector, 512 bytes, into a free slot, and retires the slot that held it. A block that
-    /// holds the sector with its group is converted first. Cut, it leaves every sector as it was, or
-    /// this one new.
+    /// Writes a sector, 512 bytes, into a free slot, and retires the slot that held it. A block
+    /// that holds the sector with its group is converted first. Cut, it leaves every sector as it
+    /// was, or this one new.
     pub fn replace(&mut self, sector: u16, content: &[u8]) -> Result<(), NorError>
         requires number { sector < sector_count (length self.old.memory) }
         requires size { length content.now ≡ 512 }
@@ -177,8 +177,9 @@ impl<N: Nor> SectorMap<N> {
         }
     }
 
-    /// Copies the block with the most dead slots, and where none is dead converts the lowest-numbered
-    /// block that is live with a group: true. Where there is neither nothing changes: false.
+    /// Copies the block with the most dead slots, and where none is dead converts the lowest-
+    /// numbered block that is live with a group: true. Where there is neither nothing changes:
+    /// false.
     pub fn tidy(&mut self) -> Result<bool, NorError>
         ensures ok { OnOk result (KeepsMap self.old.memory self.new.memory) }
         ensures fewer { IfOk result (λ more. IsTrue more

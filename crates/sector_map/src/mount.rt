@@ -30,10 +30,10 @@ use nor_driver::NorError;
 use sector_slots::SlotCalls;
 use sector_stock::{Reclaim, end_committed, end_erased, end_void};
 
-/// Makes the table of a store of slots: it reads the blocks, marks a chip of layout 1 as mixed, ends
-/// a copying that was cut, makes room, retires the older of two blocks of a group and of two slots of
-/// a sector, and makes the index. False, and nothing is changed, where the slots or blocks are
-/// corrupt. After an error the table holds any entries.
+/// Makes the table of a store of slots: it reads the blocks, marks a chip of layout 1 as mixed,
+/// ends a copying that was cut, makes room, retires the older of two blocks of a group and of two
+/// slots of a sector, and makes the index. False, and nothing is changed, where the slots or blocks
+/// are corrupt. After an error the table holds any entries.
 pub fn mount_in<S: Reclaim>(stock: &mut S, table: &mut [Entry]) -> Result<bool, NorError>
     requires size { length table.old ≡ sector_count (length (S.state stock.old).memory) }
     ensures sound { IfOk result (λ sound. IsTrue sound
@@ -63,8 +63,8 @@ pub fn mount_in<S: Reclaim>(stock: &mut S, table: &mut [Entry]) -> Result<bool, 
     }
 }
 
-/// Reads the blocks into a table in which every sector is absent: what they say; None where slots or
-/// blocks are corrupt.
+/// Reads the blocks into a table in which every sector is absent: what they say; None where slots
+/// or blocks are corrupt.
 fn look<S: Reclaim>(
     stock: &mut S,
     table: &mut [Entry],
@@ -101,8 +101,8 @@ fn look<S: Reclaim>(
     fit(stock, Seen { found, spare }, pair)
 }
 
-/// What was seen of the blocks, where a block is wholly free once a copying is ended, or can be made
-/// so.
+/// What was seen of the blocks, where a block is wholly free once a copying is ended, or can be
+/// made so.
 fn fit<S: SlotCalls>(slots: &mut S, seen: Seen, pair: bool) -> Result<Option<Seen>, NorError>
     requires pair { pair ≡ true → HasGroupRoom (kind_at (S.state slots.old).memory)
         (data_blocks (S.state slots.old).memory) }
@@ -110,8 +110,9 @@ fn fit<S: SlotCalls>(slots: &mut S, seen: Seen, pair: bool) -> Result<Option<See
         → RoomSeen seen.found seen.spare (S.state slots.old).memory }
     ensures some { IfOk result (λ answer. (fits : SeenOf) → answer ≡ Some fits → (fits ≡ seen)
         × RoomSeen seen.found seen.spare (S.state slots.old).memory) }
-    ensures none { IfOk result (λ answer. answer ≡ None → (leaves_room seen.found seen.spare ≡ false)
-        × (pair ≡ false) × (HasDeadGroup (S.state slots.old).memory → ⊥)) }
+    ensures none { IfOk result (λ answer. answer ≡ None
+        → (leaves_room seen.found seen.spare ≡ false) × (pair ≡ false)
+        × (HasDeadGroup (S.state slots.old).memory → ⊥)) }
     ensures same { (S.state slots.new).memory ≡ (S.state slots.old).memory }
     ensures done { OnOk result ((S.state slots.new ≡ S.state slots.old)
         ⊎ SucceedsSettled (S.state slots.old) (S.state slots.new)) }

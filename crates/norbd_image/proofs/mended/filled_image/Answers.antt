@@ -1,6 +1,6 @@
-use Rattle.std.proofs.Common.{◌≡◌, ◌∙◌, ℕ, List, ◌*◌, length, true, ap, sym, subst, refl}
+use Rattle.std.proofs.Common.{◌≡◌, ◌∙◌, ℕ, List, length, true, ap, sym, subst}
 use Rattle.chip_model.specs.Chip.{Chip, is_idle}
-use Rattle.chip_model.specs.Geometry.{IsChipSize, sector_count}
+use Rattle.chip_model.specs.Geometry.{IsChipSize}
 use Rattle.sector_slots.specs.Slots.{IsClean}
 use Rattle.sector_map.specs.Maps.{IsMountable}
 use Rattle.fault_model.specs.Sim.{chip_of}

@@ -1,4 +1,4 @@
-use Rattle.std.proofs.Common.{◌≡◌, ◌∙◌, ℕ, List, length, ◌*◌, arith, ap, sym}
+use Rattle.std.proofs.Common.{◌≡◌, ◌∙◌, ℕ, length, ◌*◌, arith, ap, sym}
 use Rattle.chip_model.specs.Geometry.{sector_count}
 use Rattle.flash_disk.proofs.Sectors.{length-contents}
 use Rattle.norbd_image.proofs.mended.mended_image.Goals as goal
