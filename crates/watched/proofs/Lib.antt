@@ -1,7 +1,7 @@
 pub mod SimLaws
 pub mod SettlingLaws
 pub mod OverlayLaws
-pub mod LedLaws
+pub mod SimulatorLaws
 pub mod ReadingLaws
 pub mod BusLaws
 pub mod OpeningLaws

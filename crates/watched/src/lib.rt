@@ -20,11 +20,11 @@ mod bus;
 mod change;
 mod departure;
 mod instruction;
-mod led;
 mod opening;
 mod reading;
 mod settling;
 mod shadow;
+mod simulator;
 mod wire;
 
 pub use bus::WatchedBus;

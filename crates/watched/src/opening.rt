@@ -16,8 +16,8 @@ ghost use Rattle.watched.specs.Watched.{shadow_chip};
 
 use crate::change::{Change, with_place};
 use crate::departure::{Departure, OpenError};
-use crate::led::set_protection;
 use crate::shadow::Shadow;
+use crate::simulator::set_protection;
 use crate::wire::Wire;
 use fault_model::SimChip;
 use programmer::Programmer;

@@ -13,7 +13,7 @@ ghost use Rattle.watched.specs.Shadow.{IsCalm, FitsSize};
 
 use crate::change::{Change, change_by};
 use crate::instruction::Instruction;
-use crate::led::{end, lead, look};
+use crate::simulator::{end, exchange, look};
 use fault_model::SimChip;
 
 /// A chip in memory that is led through the frames of another one.
@@ -101,7 +101,7 @@ impl Shadow {
             ≡ after_command (shadow_chip self.old) (command_of send.now) }
         ensures slows { self.new.slows ≡ self.old.slows }
     {
-        lead(&mut self.chip, send, recv);
+        exchange(&mut self.chip, send, recv);
         let change = change_by(instruction, self.size);
         let status = look(&mut self.chip);
         if status % 2 == 1 {
@@ -173,7 +173,7 @@ impl Shadow {
         ensures slows { self.new.slows ≡ self.old.slows }
     {
         if self.is_idle() {
-            lead(&mut self.chip, &[0x04], &mut []);
+            exchange(&mut self.chip, &[0x04], &mut []);
         } else {
             self.complete();
         }

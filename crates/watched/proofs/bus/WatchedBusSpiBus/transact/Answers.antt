@@ -5,7 +5,7 @@ use Rattle.programmer.specs.Exchanges.{Exchange, Exchanged}
 use Rattle.watched.specs.Asking.{asked_of, heeds}
 use Rattle.chip_model.specs.Cut.{falls, after_it}
 use Rattle.watched.specs.Watched.{read_back, watched_chip}
-use Rattle.watched.proofs.LedLaws.{interrupted_by}
+use Rattle.watched.proofs.SimulatorLaws.{interrupted_by}
 use Rattle.watched.proofs.bus.WatchedBusSpiBus.transact.Goals as goal
 
 pub returns-clause-lost : goal.returns-clause-lost

@@ -3,7 +3,7 @@ use Rattle.std.proofs.lemmas.Bool.{true≢false}
 use Rattle.chip_model.specs.Chip.{Chip, is_idle}
 use Rattle.fault_model.specs.Sim.{chip_of}
 use Rattle.watched.specs.Changes.{change_of}
-use Rattle.watched.proofs.LedLaws.{ended_long, longer}
+use Rattle.watched.proofs.SimulatorLaws.{ended_long, longer}
 use Rattle.watched.proofs.shadow.Shadow.complete.Goals as goal
 
 pub invariant_of-self : goal.invariant_of-self

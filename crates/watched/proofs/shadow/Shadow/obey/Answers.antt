@@ -5,13 +5,13 @@ use Rattle.chip_model.specs.Frames.{Command, after_command, command_of}
 use Rattle.fault_model.specs.Sim.{chip_of}
 use Rattle.watched.specs.Changes.{change_by}
 use Rattle.watched.proofs.OverlayLaws.{begins}
-use Rattle.watched.proofs.LedLaws.{longer, none_before, obeyed, obeyed_long, rested, started}
+use Rattle.watched.proofs.SimulatorLaws.{longer, none_before, obeyed, obeyed_long, rested, started}
 use Rattle.watched.proofs.shadow.Shadow.obey.Goals as goal
 
 pub look-status-requires-clause-fresh : goal.look-status-requires-clause-fresh
 look-status-requires-clause-fresh c = λ go.
     let c0 = chip_of c.args.self.now.chip in
-    let one = c.lead.ensures.exact ∙ cond-true _ _ _ c.requires.idle in
+    let one = c.exchange.ensures.exact ∙ cond-true _ _ _ c.requires.idle in
     let b = begins c0 (command_of c.args.send.now) c.requires.idle in
     ap (λ (d : Chip). d.polls) one ∙ b.fresh (ap (λ (d : Chip). is_idle d.operation) (sym one) ∙ go)
 
@@ -20,12 +20,12 @@ invariant_of-self c =
     let s = c.args.self.now in
     let c0 = chip_of s.chip in
     let command = command_of c.args.send.now in
-    let one : chip_of c.lead.new.chip ≡ after_command c0 command = c.lead.ensures.exact ∙ cond-true _ _ _ c.requires.idle in
+    let one : chip_of c.exchange.new.chip ≡ after_command c0 command = c.exchange.ensures.exact ∙ cond-true _ _ _ c.requires.idle in
     let l = c.look-status.ensures in
-    let f = started c0 (chip_of c.lead.new.chip) (chip_of c.look-status.new.chip) command c.look-status.result c.requires.idle one l.status l.chip c.if-status-eq1.true in
+    let f = started c0 (chip_of c.exchange.new.chip) (chip_of c.look-status.new.chip) command c.look-status.result c.requires.idle one l.status l.chip c.if-status-eq1.true in
     let made : c.change_by-change.result ≡ change_by command (length c0.memory) =
     c.change_by-change.ensures ∙ (ap (λ (k : Command). change_by k s.size) c.requires.decoded ∙ ap (λ (n : ℕ). change_by command n) (sym s.bytes)) in
-    let long = obeyed_long c0 (chip_of c.lead.new.chip) (chip_of c.look-status.new.chip) command one l.chip in
+    let long = obeyed_long c0 (chip_of c.exchange.new.chip) (chip_of c.look-status.new.chip) command one l.chip in
     record {
       calm = l.calm;
       bytes = long ∙ s.bytes;
@@ -46,10 +46,10 @@ invariant_of-self-else-status-eq1 c =
     let s = c.args.self.now in
     let c0 = chip_of s.chip in
     let command = command_of c.args.send.now in
-    let one : chip_of c.lead.new.chip ≡ after_command c0 command = c.lead.ensures.exact ∙ cond-true _ _ _ c.requires.idle in
+    let one : chip_of c.exchange.new.chip ≡ after_command c0 command = c.exchange.ensures.exact ∙ cond-true _ _ _ c.requires.idle in
     let l = c.look-status.ensures in
-    let f = rested c0 (chip_of c.lead.new.chip) (chip_of c.look-status.new.chip) command c.look-status.result s.status c.requires.idle one l.status l.chip c.if-status-eq1.false in
-    let long = obeyed_long c0 (chip_of c.lead.new.chip) (chip_of c.look-status.new.chip) command one l.chip in
+    let f = rested c0 (chip_of c.exchange.new.chip) (chip_of c.look-status.new.chip) command c.look-status.result s.status c.requires.idle one l.status l.chip c.if-status-eq1.false in
+    let long = obeyed_long c0 (chip_of c.exchange.new.chip) (chip_of c.look-status.new.chip) command one l.chip in
     record {
       calm = l.calm;
       bytes = long ∙ s.bytes;
@@ -68,13 +68,13 @@ invariant_of-self-else-status-eq1 c =
 pub returns-then-status-eq1-clause-left : goal.returns-then-status-eq1-clause-left
 returns-then-status-eq1-clause-left c =
     let s = c.args.self.now in
-    let one = c.lead.ensures.exact ∙ cond-true _ _ _ c.requires.idle in
-    obeyed (chip_of s.chip) (chip_of c.lead.new.chip) (chip_of c.look-status.new.chip) s.table s.status2 s.status3 s.polls s.powered (command_of c.args.send.now)
+    let one = c.exchange.ensures.exact ∙ cond-true _ _ _ c.requires.idle in
+    obeyed (chip_of s.chip) (chip_of c.exchange.new.chip) (chip_of c.look-status.new.chip) s.table s.status2 s.status3 s.polls s.powered (command_of c.args.send.now)
     one c.look-status.ensures.chip (s.resting c.requires.idle) s.no_cmp s.no_wps refl refl
 
 pub returns-else-status-eq1-clause-left : goal.returns-else-status-eq1-clause-left
 returns-else-status-eq1-clause-left c =
     let s = c.args.self.now in
-    let one = c.lead.ensures.exact ∙ cond-true _ _ _ c.requires.idle in
-    obeyed (chip_of s.chip) (chip_of c.lead.new.chip) (chip_of c.look-status.new.chip) s.table s.status2 s.status3 s.polls s.powered (command_of c.args.send.now)
+    let one = c.exchange.ensures.exact ∙ cond-true _ _ _ c.requires.idle in
+    obeyed (chip_of s.chip) (chip_of c.exchange.new.chip) (chip_of c.look-status.new.chip) s.table s.status2 s.status3 s.polls s.powered (command_of c.args.send.now)
     one c.look-status.ensures.chip (s.resting c.requires.idle) s.no_cmp s.no_wps refl refl

@@ -11,7 +11,7 @@ use chip_model::SpiBus;
 use fault_model::SimChip;
 
 /// A frame, which is always answered.
-pub fn lead(chip: &mut SimChip, send: &[u8], recv: &mut [u8])
+pub fn exchange(chip: &mut SimChip, send: &[u8], recv: &mut [u8])
     requires calm { IsCalm chip.old }
     ensures calm { IsCalm chip.new }
     ensures frame { Frame (chip_of chip.old) send.now recv.new (chip_of chip.new) }
@@ -32,7 +32,7 @@ pub fn look(chip: &mut SimChip) -> u8
     ensures chip { chip_of chip.new ≡ looked_at (chip_of chip.old) }
 {
     let mut status = [0u8; 1];
-    lead(chip, &[0x05], &mut status);
+    exchange(chip, &[0x05], &mut status);
     status[0]
 }
 
@@ -45,7 +45,7 @@ pub fn end(chip: &mut SimChip)
     ensures chip { chip_of chip.new ≡ completed (chip_of chip.old) }
 {
     let mut status = [0u8; 1];
-    lead(chip, &[0x05], &mut status);
+    exchange(chip, &[0x05], &mut status);
 }
 
 /// Bits 2 to 7 of status register 1 become those of a byte.
@@ -56,8 +56,8 @@ pub fn set_protection(chip: &mut SimChip, value: u8)
     ensures chip { chip_of chip.new
         ≡ completed (starts (with_enabled (chip_of chip.old) true) (Setting value)) }
 {
-    lead(chip, &[0x06], &mut []);
-    lead(chip, &[0x01, value], &mut []);
+    exchange(chip, &[0x06], &mut []);
+    exchange(chip, &[0x01, value], &mut []);
     let _status = look(chip);
     end(chip);
 }

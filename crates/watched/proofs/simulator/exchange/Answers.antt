@@ -5,7 +5,7 @@ use Rattle.fault_model.specs.Plan.{Armed}
 use Rattle.fault_model.specs.Simulated.{Pace, after_frame, is_accepted}
 use Rattle.fault_model.specs.Sim.{armed_of, chip_of, pace_of}
 use Rattle.watched.proofs.SimLaws.{never_strikes, stays_unarmed, stays_prompt, like_frame}
-use Rattle.watched.proofs.led.lead.Goals as goal
+use Rattle.watched.proofs.simulator.exchange.Goals as goal
 
 pub unreachable-requires : goal.unreachable-requires
 unreachable-requires c = false≢true (c.in-Err.ensures.spared c.requires.calm.powered (never_strikes (armed_of c.args.chip.now) (is_accepted (chip_of c.args.chip.now) c.args.send.now) c.requires.calm.unarmed))
