@@ -162,6 +162,7 @@ fn time_of_tables(
         dead: 0,
         plain: false,
         group: false,
+        erases: 0,
     };
     let Ok(states) = vec![in alloc; SlotState::Free; 28_644] else {
         return Err(Failure::NoMemory);

@@ -8,7 +8,7 @@
 //! It keeps no index. No call takes memory.
 //!
 //! Left to the crate above: which slot is used for what, which block is copied, and when to
-//! restore. Source: own, layout 2. See docs/LAYOUT.md and docs/SLOTS.md.
+//! restore. Source: own, layout 2. See docs/LAYOUT.md and docs/SECTORS.md.
 
 #![tactic(auto)]
 

@@ -1,8 +1,10 @@
 //! The program `norbd`, a disk on a flash chip behind the Network Block Device protocol (NBD), in
-//! five lines: `plain` serves a disk in memory over standard input and output, in the transmission
+//! nine lines: `plain` serves a disk in memory over standard input and output, in the transmission
 //! phase; `format` makes an image of a formatted chip; `script` runs events, losses of power too,
 //! on a chip in memory; `serve` serves the chip in an image to connections on a port or a Unix
-//! socket; `check` says whether an image would be served, and mends one.
+//! socket; `check` says whether an image would be served, and if not, why, and mends one; `show`
+//! draws it; `read` and `write` take its disk out and put it in; `chip` answers the serprog
+//! protocol for the chip in an image.
 //!
 //! Here are the words of the command line, the standard streams, what is printed of a fault, and
 //! the exit status: 0 where the line is done, 2 for a bad line, 1 for each other fault. `norbd_run`
@@ -15,7 +17,7 @@ ghost use Rattle.std.specs.Prelude.{◌≡◌, ◌<◌};
 ghost use Rattle.std.specs.Process.{exit_status};
 ghost use Rattle.norbd_run.specs.Outcomes.{EndsWith};
 ghost use Rattle.norbd_line.specs.Line.{IfFormat, IfScript, IfServe, IsLineInRange};
-ghost use Rattle.norbd_line.specs.Line.{IsServeInRange, IsSize};
+ghost use Rattle.norbd_line.specs.Line.{IfChip, IsChipInRange, IsServeInRange, IsSize};
 
 use block_device::Io;
 use norbd_image::ImageFile;
@@ -23,7 +25,7 @@ use norbd_line::{Fault, Line, read_line};
 use norbd_run::{Null, Telling, hold_standard, run_line};
 use norbd_serve::Log;
 use std::alloc::Global;
-use std::io::{ErrorKind, Read, Write};
+use std::io::{ErrorKind, IsTerminal, Read, Write};
 use std::marker::Brand;
 use std::net::{Net, TcpListener, TcpStream};
 use std::process::ExitCode;
@@ -48,6 +50,7 @@ fn words_of(rt: &HostRuntime, alloc: Global) -> Result<Vec<String>, Fault> {
 fn run_streams<R, A, B, I, O>(
     rt: &R,
     line: Line<'_>,
+    colours: bool,
     stdin: A,
     stdout: B,
     input: Blank,
@@ -63,6 +66,7 @@ where
         + Log
         + Net<Listener = TcpListener, Stream = TcpStream>,
     R::File: ImageFile + Send + Sync,
+    R: 'static,
     A: Read + Drop,
     B: Write + Drop,
     I: Ledger,
@@ -72,10 +76,11 @@ where
     requires size { IfFormat line (λ _ kib. IsSize kib) }
     requires script_size { IfScript line (λ kib. IsSize kib) }
     requires serve_numbers { IfServe line (λ s. IsServeInRange s) }
+    requires chip_numbers { IfChip line (λ s. IsChipInRange s) }
 {
     let mut reader = Io::<_, I>::new(stdin, input);
     let mut writer = Io::<_, O>::new(stdout, output);
-    run_line(rt, line, &mut reader, &mut writer)
+    run_line(rt, line, colours, &mut reader, &mut writer)
 }
 
 /// Prints a fault: `clap`'s own text for one of the words, else a line on standard error. A failure
@@ -100,8 +105,14 @@ fn exit_code(done: &Result<(), Fault>) -> ExitCode
 }
 
 /// Does the line of the program's words.
-#[tactic(auto, using(crate::proofs::Sizes::size_of_line, crate::proofs::Sizes::size_of_script, crate::proofs::Sizes::numbers_of_serve))]
-fn do_line<R, A, B>(rt: &R, line: Line<'_>, stdin: A, stdout: B) -> Result<(), Fault>
+#[tactic(auto, using(crate::proofs::Sizes::size_of_line, crate::proofs::Sizes::size_of_script, crate::proofs::Sizes::numbers_of_serve, crate::proofs::Sizes::numbers_of_chip))]
+fn do_line<R, A, B>(
+    rt: &R,
+    line: Line<'_>,
+    colours: bool,
+    stdin: A,
+    stdout: B,
+) -> Result<(), Fault>
 where
     R: Files
         + AllocGlobal
@@ -112,11 +123,19 @@ where
         + Log
         + Net<Listener = TcpListener, Stream = TcpStream>,
     R::File: ImageFile + Send + Sync,
+    R: 'static,
     A: Read + Drop,
     B: Write + Drop,
     requires { IsLineInRange line }
 {
-    run_streams::<_, _, _, Brand, Brand>(rt, line, stdin, stdout, Blank::new(1), Blank::new(1))
+    let (input, output) = (Blank::new(1), Blank::new(1));
+    run_streams::<_, _, _, Brand, Brand>(rt, line, colours, stdin, stdout, input, output)
+}
+
+/// Whether pictures have colours: standard output is a terminal, and the environment has no
+/// `NO_COLOR`.
+fn has_colours(rt: &HostRuntime) -> bool {
+    rt.stdout().is_terminal() && std::env::var(rt, "NO_COLOR").is_err()
 }
 
 /// Prints a fault of the words, and tells its exit status.
@@ -137,7 +156,7 @@ fn main(rt: HostRuntime) -> ExitCode {
         Ok(line) => line,
         Err(fault) => return refuse(&rt, fault),
     };
-    let done = do_line(&rt, line, rt.stdin(), rt.stdout());
+    let done = do_line(&rt, line, has_colours(&rt), rt.stdin(), rt.stdout());
     if let Err(fault) = &done {
         tell(&rt, fault, Some(line));
     }

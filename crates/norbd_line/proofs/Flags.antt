@@ -1,13 +1,16 @@
--- Whether a flag is among the words, whether an option is, and what the word after `--sync` says.
+-- Whether a flag is among the words, whether an option is, and what the words after `--sync` and
+-- `--tidy` say.
 use Rattle.std.proofs.Common.{◌≡◌, Bool, true, false, List, [], ℕ, Option, Some, None, ap, refl, codes}
 use Rattle.std.specs.Prelude.{not, option_and_then, option_map, slice_get, unwrap_or, find, if◌then◌else◌}
 use Rattle.std.specs.Str.{bytes_eq}
 use Rattle.clap.specs.Values.{read_as}
 use Rattle.clap.specs.Walk.{row_text}
 use Rattle.clap.specs.Words.{Row, Text, first_of, one_of}
-use Rattle.norbd_line.specs.Line.{sync_of}
+use Rattle.norbd_line.specs.Line.{sync_of, tidy_of}
 use Rattle.norbd_line.specs.declared.line.SyncPolicy.{SyncPolicy}
 use Rattle.norbd_line.specs.declared.line.SyncPolicy.TheVariants.{AtFlush, Never, Always}
+use Rattle.norbd_line.specs.declared.line.TidyPolicy.{TidyPolicy}
+use Rattle.norbd_line.specs.declared.line.TidyPolicy.TheVariants.{Lazily, Eagerly}
 
 pub not-twice : (b : Bool) → not (not b) ≡ b
 not-twice true = refl
@@ -63,3 +66,29 @@ says_always w = picks_always (bytes_eq w (codes "flush")) (bytes_eq w (codes "ne
 
 pub says_nothing : (w : Text) → bytes_eq w (codes "flush") ≡ false → bytes_eq w (codes "never") ≡ false → bytes_eq w (codes "always") ≡ false → sync_of (Some w) ≡ None
 says_nothing w = picks_nothing (bytes_eq w (codes "flush")) (bytes_eq w (codes "never")) (bytes_eq w (codes "always"))
+
+abbrev pick_tidy : Bool → Bool → Option TidyPolicy
+pick_tidy a b = if a then Some Lazily else if b then Some Eagerly else None
+
+picks_lazy : (a b : Bool) → a ≡ true → pick_tidy a b ≡ Some Lazily
+picks_lazy true b e = refl
+picks_lazy false b e = absurd cc
+
+picks_eager : (a b : Bool) → a ≡ false → b ≡ true → pick_tidy a b ≡ Some Eagerly
+picks_eager false true d e = refl
+picks_eager true b d e = absurd cc
+picks_eager false false d e = absurd cc
+
+picks_no_tidy : (a b : Bool) → a ≡ false → b ≡ false → pick_tidy a b ≡ None
+picks_no_tidy false false d e = refl
+picks_no_tidy true b d e = absurd cc
+picks_no_tidy false true d e = absurd cc
+
+pub says_lazy : (w : Text) → bytes_eq w (codes "lazy") ≡ true → tidy_of (Some w) ≡ Some Lazily
+says_lazy w = picks_lazy (bytes_eq w (codes "lazy")) (bytes_eq w (codes "eager"))
+
+pub says_eager : (w : Text) → bytes_eq w (codes "lazy") ≡ false → bytes_eq w (codes "eager") ≡ true → tidy_of (Some w) ≡ Some Eagerly
+says_eager w = picks_eager (bytes_eq w (codes "lazy")) (bytes_eq w (codes "eager"))
+
+pub says_no_tidy : (w : Text) → bytes_eq w (codes "lazy") ≡ false → bytes_eq w (codes "eager") ≡ false → tidy_of (Some w) ≡ None
+says_no_tidy w = picks_no_tidy (bytes_eq w (codes "lazy")) (bytes_eq w (codes "eager"))

@@ -5,9 +5,9 @@ use Rattle.clap.specs.Words.{IsAmong, Row, Text, kind_of}
 use Rattle.norbd_line.specs.Fault.{ComesFromWords}
 use Rattle.norbd_line.specs.Line.{HasOddSize, IsLineInRange, IsLineOf, IsOddSize, IsSize, Names, TakesSize, number_in}
 use Rattle.norbd_line.specs.declared.fault.Fault.{Fault}
-use Rattle.norbd_line.specs.declared.fault.Fault.TheVariants.{Words, NoMemory, BadSize, InputFailed, OutputFailed, ImageFailed, WrongId, BadSfdp, Protected, Slow, BadRecord, NotFormatted, Corrupt, NotClean, BadImageSize, NoSocket, NoThread, BadSync, NotText, InUse, Formatted, BadAddress}
+use Rattle.norbd_line.specs.declared.fault.Fault.TheVariants.{Words, NoMemory, BadSize, InputFailed, OutputFailed, ImageFailed, WrongId, BadSfdp, Protected, Slow, BadRecord, NotFormatted, Corrupt, NotClean, BadImageSize, NoSocket, NoThread, BadSync, NotText, InUse, Formatted, BadAddress, BadTidy, BadRange, BadInput}
 use Rattle.norbd_line.specs.declared.line.Line.{Line}
-use Rattle.norbd_line.specs.declared.line.Line.TheVariants.{Plain, Format, Script, Serve, Check}
+use Rattle.norbd_line.specs.declared.line.Line.TheVariants.{Plain, Format, Script, Serve, Check, Show, Read, Write, Chip}
 
 -- the words name one command
 same_name : (words : List Text) (n m : Text) (rows others : List Row) → Names words n rows → Names words m others → n ≡ m
@@ -25,6 +25,11 @@ first_of_name name = unwrap_or (slice_get name 0) 0
 second_of_name : Text → ℕ
 second_of_name name = unwrap_or (slice_get name 1) 0
 
+chip_takes_no_size : TakesSize (codes "chip") → ⊥
+unfolding first_of_name
+chip_takes_no_size (inl e) = let first : 99 ≡ 102 = ap first_of_name e in omega (arith, first)
+chip_takes_no_size (inr e) = let first : 99 ≡ 115 = ap first_of_name e in omega (arith, first)
+
 plain_takes_no_size : TakesSize (codes "plain") → ⊥
 unfolding first_of_name
 plain_takes_no_size (inl e) = let first : 112 ≡ 102 = ap first_of_name e in omega (arith, first)
@@ -40,6 +45,21 @@ unfolding first_of_name
 check_takes_no_size (inl e) = let first : 99 ≡ 102 = ap first_of_name e in omega (arith, first)
 check_takes_no_size (inr e) = let first : 99 ≡ 115 = ap first_of_name e in omega (arith, first)
 
+show_takes_no_size : TakesSize (codes "show") → ⊥
+unfolding first_of_name second_of_name
+show_takes_no_size (inl e) = let first : 115 ≡ 102 = ap first_of_name e in omega (arith, first)
+show_takes_no_size (inr e) = let second : 104 ≡ 99 = ap second_of_name e in omega (arith, second)
+
+read_takes_no_size : TakesSize (codes "read") → ⊥
+unfolding first_of_name
+read_takes_no_size (inl e) = let first : 114 ≡ 102 = ap first_of_name e in omega (arith, first)
+read_takes_no_size (inr e) = let first : 114 ≡ 115 = ap first_of_name e in omega (arith, first)
+
+write_takes_no_size : TakesSize (codes "write") → ⊥
+unfolding first_of_name
+write_takes_no_size (inl e) = let first : 119 ≡ 102 = ap first_of_name e in omega (arith, first)
+write_takes_no_size (inr e) = let first : 119 ≡ 115 = ap first_of_name e in omega (arith, first)
+
 size≢odd : (k m : ℕ) → Some k ≡ Some m → IsSize k → IsOddSize m → ⊥
 size≢odd k m e size odd =
     let same : k ≡ m = ap (λ (o : Option ℕ). unwrap_or o 0) e in
@@ -47,10 +67,13 @@ size≢odd k m e size odd =
 
 pub odd_is_refused : (words : List Text) (r : Result Line Fault) → IfOk r IsLineInRange → IfOk r (IsLineOf words) → IfErr r (ComesFromWords words)
     → HasOddSize words → IsErrAnd r (λ e. (e ≡ BadSize) ⊎ (e ≡ NoMemory))
+odd_is_refused words (Ok (Chip asked)) range line fault odd =
+    let name = same_name words line.0 odd.0 line.1 odd.1 line.2 odd.2 in
+    absurd (chip_takes_no_size (subst TakesSize (sym name ∙ line.3.0) odd.3.0))
 odd_is_refused words (Ok (Plain sectors keeps_rows)) range line fault odd =
     let name = same_name words line.0 odd.0 line.1 odd.1 line.2 odd.2 in
     absurd (plain_takes_no_size (subst TakesSize (sym name ∙ line.3.0) odd.3.0))
-odd_is_refused words (Ok (Format image kib forced)) range line fault odd =
+odd_is_refused words (Ok (Format image kib forced sure)) range line fault odd =
     let rows = same_rows words line.0 odd.0 line.1 odd.1 line.2 odd.2 in
     let number = sym line.3.2 ∙ ap (number_in (codes "kib")) rows ∙ odd.3.1.1 in
     absurd (size≢odd kib odd.3.1.0 number range odd.3.1.2)
@@ -61,12 +84,24 @@ odd_is_refused words (Ok (Script kib)) range line fault odd =
 odd_is_refused words (Ok (Serve asked)) range line fault odd =
     let name = same_name words line.0 odd.0 line.1 odd.1 line.2 odd.2 in
     absurd (serve_takes_no_size (subst TakesSize (sym name ∙ line.3.0) odd.3.0))
-odd_is_refused words (Ok (Check image mends)) range line fault odd =
+odd_is_refused words (Ok (Check image mends tells_json)) range line fault odd =
     let name = same_name words line.0 odd.0 line.1 odd.1 line.2 odd.2 in
     absurd (check_takes_no_size (subst TakesSize (sym name ∙ line.3.0) odd.3.0))
+odd_is_refused words (Ok (Show image)) range line fault odd =
+    let name = same_name words line.0 odd.0 line.1 odd.1 line.2 odd.2 in
+    absurd (show_takes_no_size (subst TakesSize (sym name ∙ line.3.0) odd.3.0))
+odd_is_refused words (Ok (Read image asked)) range line fault odd =
+    let name = same_name words line.0 odd.0 line.1 odd.1 line.2 odd.2 in
+    absurd (read_takes_no_size (subst TakesSize (sym name ∙ line.3.0) odd.3.0))
+odd_is_refused words (Ok (Write image asked)) range line fault odd =
+    let name = same_name words line.0 odd.0 line.1 odd.1 line.2 odd.2 in
+    absurd (write_takes_no_size (subst TakesSize (sym name ∙ line.3.0) odd.3.0))
 odd_is_refused words (Err (Words error)) range line fault odd = absurd (subst (IsAmong (kind_of error)) odd.2.faultless fault.1)
 odd_is_refused words (Err BadSize) range line fault odd = inl refl
 odd_is_refused words (Err BadSync) range line fault odd =
+    let name = same_name words fault.0 odd.0 fault.1 odd.1 fault.2 odd.2 in
+    absurd (serve_takes_no_size (subst TakesSize (sym name ∙ fault.3.0) odd.3.0))
+odd_is_refused words (Err BadTidy) range line fault odd =
     let name = same_name words fault.0 odd.0 fault.1 odd.1 fault.2 odd.2 in
     absurd (serve_takes_no_size (subst TakesSize (sym name ∙ fault.3.0) odd.3.0))
 odd_is_refused words (Err BadAddress) range line fault odd =
@@ -90,3 +125,5 @@ odd_is_refused words (Err NotClean) range line fault odd = absurd fault
 odd_is_refused words (Err (BadImageSize length)) range line fault odd = absurd fault
 odd_is_refused words (Err (NoSocket cause)) range line fault odd = absurd fault
 odd_is_refused words (Err NoThread) range line fault odd = absurd fault
+odd_is_refused words (Err BadRange) range line fault odd = absurd fault
+odd_is_refused words (Err (BadInput length)) range line fault odd = absurd fault

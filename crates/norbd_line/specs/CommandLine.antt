@@ -28,6 +28,10 @@ kib_rule = number_rule (codes "kib") 64 16384
 abbrev pub port_rule : Rule
 port_rule = record (number_rule (codes "port") 1 65535) { required = false }
 
+-- `--port P` of `chip`: required
+abbrev pub chip_port_rule : Rule
+chip_port_rule = number_rule (codes "port") 1 65535
+
 -- `--conns C`: one number from 1 to 64
 abbrev pub conns_rule : Rule
 conns_rule = record (number_rule (codes "conns") 1 64) { required = false }
@@ -61,10 +65,15 @@ abbrev pub plain_app : App
 plain_app = with_rule (with_rule (new_app (codes "plain")) sectors_rule)
     (flag_rule (codes "no-record"))
 
--- `format IMAGE --kib K [--force]`
+-- `chip IMAGE --port P [--conns C]`
+abbrev pub chip_app : App
+chip_app = with_rule (with_rule (with_rule (new_app (codes "chip")) image_rule) chip_port_rule)
+    conns_rule
+
+-- `format IMAGE --kib K [--force] [--yes]`
 abbrev pub format_app : App
-format_app = with_rule (with_rule (with_rule (new_app (codes "format")) image_rule) kib_rule)
-    (flag_rule (codes "force"))
+format_app = with_rule (with_rule (with_rule (with_rule (new_app (codes "format")) image_rule)
+    kib_rule) (flag_rule (codes "force"))) (flag_rule (codes "yes"))
 
 -- `script --kib K`
 abbrev pub script_app : App
@@ -75,15 +84,32 @@ abbrev pub placed_app : App
 placed_app = with_rule (with_rule (with_rule (with_rule (new_app (codes "serve")) image_rule)
     port_rule) (text_rule (codes "bind"))) (text_rule (codes "unix"))
 
--- and how: `[--conns C] [--record] [--sync WHEN] [--max-request KIB] [--read-only] [-v]`
-abbrev pub serve_app : App
-serve_app = with_rule (with_rule (with_rule (with_rule (with_rule (with_rule placed_app conns_rule)
-    (flag_rule (codes "record"))) (text_rule (codes "sync"))) max_request_rule)
-    (flag_rule (codes "read-only"))) verbose_rule
+-- and how: `[--conns C] [--record] [--sync WHEN] [--tidy WHEN] [--max-request KIB] [--read-only]
+-- [-v]`, and `[--trust]`
+abbrev pub served_app : App
+served_app = with_rule (with_rule (with_rule (with_rule (with_rule (with_rule (with_rule placed_app
+    conns_rule) (flag_rule (codes "record"))) (text_rule (codes "sync")))
+    (text_rule (codes "tidy"))) max_request_rule) (flag_rule (codes "read-only"))) verbose_rule
 
--- `check IMAGE [--mend]`
+abbrev pub serve_app : App
+serve_app = with_rule served_app (flag_rule (codes "trust"))
+
+-- `check IMAGE [--mend] [--json]`
 abbrev pub check_app : App
-check_app = with_rule (with_rule (new_app (codes "check")) image_rule) (flag_rule (codes "mend"))
+check_app = with_rule (with_rule (with_rule (new_app (codes "check")) image_rule)
+    (flag_rule (codes "mend"))) (flag_rule (codes "json"))
+
+-- `show IMAGE`
+abbrev pub show_app : App
+show_app = with_rule (new_app (codes "show")) image_rule
+
+-- `read IMAGE [--sectors A:B]`, and `write` likewise
+abbrev pub read_app : App
+read_app = with_rule (with_rule (new_app (codes "read")) image_rule) (text_rule (codes "sectors"))
+
+abbrev pub write_app : App
+write_app = with_rule (with_rule (new_app (codes "write")) image_rule)
+    (text_rule (codes "sectors"))
 
 -- `norbd` has a version and requires a command
 abbrev pub norbd_alone : App
@@ -91,11 +117,19 @@ norbd_alone = record (new_app (codes "norbd")) {
   top = record (new_app (codes "norbd")).top { has_version = true; subcommand_required = true };
 }
 
+-- `norbd` with its first command
+abbrev pub begun_app : App
+begun_app = with_subcommand norbd_alone chip_app.top
+
+-- a command line with the commands about an image without a server
+abbrev pub with_image_apps : App → App
+with_image_apps app = with_subcommand (with_subcommand (with_subcommand
+    (with_subcommand app check_app.top) show_app.top) read_app.top) write_app.top
+
 -- the whole command line
 abbrev pub norbd_app : App
-norbd_app = with_subcommand (with_subcommand (with_subcommand
-    (with_subcommand (with_subcommand norbd_alone plain_app.top) format_app.top) script_app.top)
-    serve_app.top) check_app.top
+norbd_app = with_image_apps (with_subcommand (with_subcommand (with_subcommand
+    (with_subcommand begun_app plain_app.top) format_app.top) script_app.top) serve_app.top)
 
 -- the words as texts
 abbrev pub texts_of : {Z : Type 0} → List (String Z) → List Text

@@ -2,6 +2,7 @@ use Rattle.std.specs.Prelude.{ℕ, List, ◌≡◌, ◌≢◌, ◌⊎◌}
 use Rattle.clap.specs.Words.{IsAmong, Row, Text, fault_of, kind_of}
 use Rattle.norbd_line.specs.CommandLine.{norbd_app}
 use Rattle.norbd_line.specs.Line.{HasOddSize, HasOddSizeIn, HasBadSync, HasBadSyncIn}
+use Rattle.norbd_line.specs.Line.{HasBadTidy, HasBadTidyIn}
 use Rattle.norbd_line.specs.Line.{HasBadPlace, HasBadPlaceIn}
 use Rattle.clap.specs.declared.error.kind.ErrorKind.{ErrorKind}
 use Rattle.clap.specs.declared.error.kind.ErrorKind.TheVariants.{DisplayHelp, DisplayVersion}
@@ -13,7 +14,8 @@ use Rattle.norbd_line.specs.declared.fault.Fault.TheVariants.{BadSfdp, Protected
 use Rattle.norbd_line.specs.declared.fault.Fault.TheVariants.{NotFormatted, Corrupt, NotClean}
 use Rattle.norbd_line.specs.declared.fault.Fault.TheVariants.{BadImageSize}
 use Rattle.norbd_line.specs.declared.fault.Fault.TheVariants.{NoSocket, NoThread, BadSync, NotText}
-use Rattle.norbd_line.specs.declared.fault.Fault.TheVariants.{InUse, Formatted, BadAddress}
+use Rattle.norbd_line.specs.declared.fault.Fault.TheVariants.{InUse, Formatted, BadAddress, BadTidy}
+use Rattle.norbd_line.specs.declared.fault.Fault.TheVariants.{BadRange, BadInput}
 
 -- the words asked for help or for the version, so they are no mistake
 abbrev pub AsksForText : ErrorKind → Type 0
@@ -25,6 +27,7 @@ HasStatus (Words error) status =
     (AsksForText (kind_of error) → status ≡ 0) × ((AsksForText (kind_of error) → ⊥) → status ≡ 2)
 HasStatus BadSize status = status ≡ 2
 HasStatus BadSync status = status ≡ 2
+HasStatus BadTidy status = status ≡ 2
 HasStatus BadAddress status = status ≡ 2
 HasStatus NotText status = status ≡ 2
 HasStatus NoMemory status = status ≡ 1
@@ -44,13 +47,16 @@ HasStatus NotClean status = status ≡ 1
 HasStatus (BadImageSize length) status = status ≡ 1
 HasStatus (NoSocket cause) status = status ≡ 1
 HasStatus NoThread status = status ≡ 1
+HasStatus BadRange status = status ≡ 2
+HasStatus (BadInput length) status = status ≡ 1
 
 -- a fault that comes of what was matched of the words of a command: a number that is no size, a
--- word that says no syncing, no place to listen at, or want of memory
+-- word that says no syncing or no tidying, no place to listen at, or want of memory
 abbrev pub ComesFromMatches : Text → List Row → Fault → Type 0
 ComesFromMatches name rows (Words error) = ⊥
 ComesFromMatches name rows BadSize = HasOddSizeIn name rows
 ComesFromMatches name rows BadSync = HasBadSyncIn name rows
+ComesFromMatches name rows BadTidy = HasBadTidyIn name rows
 ComesFromMatches name rows BadAddress = HasBadPlaceIn name rows
 ComesFromMatches name rows NotText = ⊥
 ComesFromMatches name rows NoMemory = Unit {0}
@@ -70,14 +76,18 @@ ComesFromMatches name rows NotClean = ⊥
 ComesFromMatches name rows (BadImageSize length) = ⊥
 ComesFromMatches name rows (NoSocket cause) = ⊥
 ComesFromMatches name rows NoThread = ⊥
+ComesFromMatches name rows BadRange = ⊥
+ComesFromMatches name rows (BadInput length) = ⊥
 
 -- a fault that reading these words may answer: one of those that they have, which isn't want of
--- memory, a number that is no size, a word that says no syncing, no place, or want of memory
+-- memory, a number that is no size, a word that says no syncing or no tidying, no place, or want of
+-- memory
 abbrev pub ComesFromWords : List Text → Fault → Type 0
 ComesFromWords words (Words error) =
     (kind_of error ≢ OutOfMemory) × IsAmong (kind_of error) (fault_of norbd_app words)
 ComesFromWords words BadSize = HasOddSize words
 ComesFromWords words BadSync = HasBadSync words
+ComesFromWords words BadTidy = HasBadTidy words
 ComesFromWords words BadAddress = HasBadPlace words
 ComesFromWords words NotText = ⊥
 ComesFromWords words NoMemory = Unit {0}
@@ -97,3 +107,5 @@ ComesFromWords words NotClean = ⊥
 ComesFromWords words (BadImageSize length) = ⊥
 ComesFromWords words (NoSocket cause) = ⊥
 ComesFromWords words NoThread = ⊥
+ComesFromWords words BadRange = ⊥
+ComesFromWords words (BadInput length) = ⊥

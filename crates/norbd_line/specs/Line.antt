@@ -5,13 +5,17 @@ use Rattle.std.specs.Str.{bytes_eq}
 use Rattle.std.specs.Str.Parse.{digits_value, without_leading_plus}
 use Rattle.clap.specs.Words.{Row, Text, fault_of, first_of, one_of, subcommand_of}
 use Rattle.norbd_line.specs.CommandLine.{norbd_app}
+use Rattle.norbd_line.specs.declared.chip.ChipLine.{ChipLine}
 use Rattle.norbd_line.specs.declared.line.Line.{Line}
-use Rattle.norbd_line.specs.declared.line.Line.TheVariants.{Plain, Format, Script, Serve, Check}
+use Rattle.norbd_line.specs.declared.line.Line.TheVariants.{Chip, Plain, Format, Script, Serve}
+use Rattle.norbd_line.specs.declared.line.Line.TheVariants.{Check, Show, Read, Write}
 use Rattle.norbd_line.specs.declared.line.Place.{Place}
 use Rattle.norbd_line.specs.declared.line.Place.TheVariants as places
 use Rattle.norbd_line.specs.declared.line.ServeLine.{ServeLine}
 use Rattle.norbd_line.specs.declared.line.SyncPolicy.{SyncPolicy}
 use Rattle.norbd_line.specs.declared.line.SyncPolicy.TheVariants.{AtFlush, Never, Always}
+use Rattle.norbd_line.specs.declared.line.TidyPolicy.{TidyPolicy}
+use Rattle.norbd_line.specs.declared.line.TidyPolicy.TheVariants.{Lazily, Eagerly}
 
 -- a chip's size in KiB: a multiple of 64 from 64 to 16,384
 abbrev pub IsSize : ℕ → Type 0
@@ -42,54 +46,130 @@ abbrev pub IsServeInRange : ServeLine → Type 0
 IsServeInRange asked = IsPlace asked.place × IfSome asked.conns IsConns
     × IfSome asked.max_request IsMaxRequest
 
+-- the numbers of a line `chip` are in their ranges
+abbrev pub IsChipInRange : ChipLine → Type 0
+IsChipInRange asked = IsPort asked.port × IfSome asked.conns IsConns
+
 -- the numbers of a line are in their ranges: a plain disk has from 1 to 65,536 sectors, and a chip,
 -- in a file or in memory, a size of chips
 abbrev pub IsLineInRange : Line → Type 0
+IsLineInRange (Chip asked) = IsChipInRange asked
 IsLineInRange (Plain sectors keeps_rows) = (1 ≤ sectors) × (sectors ≤ 65536)
-IsLineInRange (Format image kib forced) = IsSize kib
+IsLineInRange (Format image kib forced sure) = IsSize kib
 IsLineInRange (Script kib) = IsSize kib
 IsLineInRange (Serve asked) = IsServeInRange asked
-IsLineInRange (Check image mends) = Unit {0}
+IsLineInRange (Check image mends tells_json) = Unit {0}
+IsLineInRange (Show image) = Unit {0}
+IsLineInRange (Read image range) = Unit {0}
+IsLineInRange (Write image range) = Unit {0}
 
 -- a fact of the number of a line `plain`, and of whether it keeps rows
 abbrev pub IfPlain : Line → (ℕ → Bool → Type 0) → Type 0
+IfPlain (Chip asked) p = Unit {0}
 IfPlain (Plain sectors keeps_rows) p = p sectors keeps_rows
-IfPlain (Format image kib forced) p = Unit {0}
+IfPlain (Format image kib forced sure) p = Unit {0}
 IfPlain (Script kib) p = Unit {0}
 IfPlain (Serve asked) p = Unit {0}
-IfPlain (Check image mends) p = Unit {0}
+IfPlain (Check image mends tells_json) p = Unit {0}
+IfPlain (Show image) p = Unit {0}
+IfPlain (Read image range) p = Unit {0}
+IfPlain (Write image range) p = Unit {0}
 
 -- a fact of the path and the number of a line `format`
 abbrev pub IfFormat : Line → (Text → ℕ → Type 0) → Type 0
+IfFormat (Chip asked) p = Unit {0}
 IfFormat (Plain sectors keeps_rows) p = Unit {0}
-IfFormat (Format image kib forced) p = p image.now kib
+IfFormat (Format image kib forced sure) p = p image.now kib
 IfFormat (Script kib) p = Unit {0}
 IfFormat (Serve asked) p = Unit {0}
-IfFormat (Check image mends) p = Unit {0}
+IfFormat (Check image mends tells_json) p = Unit {0}
+IfFormat (Show image) p = Unit {0}
+IfFormat (Read image range) p = Unit {0}
+IfFormat (Write image range) p = Unit {0}
 
 -- a fact of the number of a line `script`
 abbrev pub IfScript : Line → (ℕ → Type 0) → Type 0
+IfScript (Chip asked) p = Unit {0}
 IfScript (Plain sectors keeps_rows) p = Unit {0}
-IfScript (Format image kib forced) p = Unit {0}
+IfScript (Format image kib forced sure) p = Unit {0}
 IfScript (Script kib) p = p kib
 IfScript (Serve asked) p = Unit {0}
-IfScript (Check image mends) p = Unit {0}
+IfScript (Check image mends tells_json) p = Unit {0}
+IfScript (Show image) p = Unit {0}
+IfScript (Read image range) p = Unit {0}
+IfScript (Write image range) p = Unit {0}
+
+-- a fact of what a line `chip` asks
+abbrev pub IfChip : Line → (ChipLine → Type 0) → Type 0
+IfChip (Chip asked) p = p asked
+IfChip (Plain sectors keeps_rows) p = Unit {0}
+IfChip (Format image kib forced sure) p = Unit {0}
+IfChip (Script kib) p = Unit {0}
+IfChip (Serve asked) p = Unit {0}
+IfChip (Check image mends tells_json) p = Unit {0}
+IfChip (Show image) p = Unit {0}
+IfChip (Read image range) p = Unit {0}
+IfChip (Write image range) p = Unit {0}
 
 -- a fact of what a line `serve` asks
 abbrev pub IfServe : Line → (ServeLine → Type 0) → Type 0
+IfServe (Chip asked) p = Unit {0}
 IfServe (Plain sectors keeps_rows) p = Unit {0}
-IfServe (Format image kib forced) p = Unit {0}
+IfServe (Format image kib forced sure) p = Unit {0}
 IfServe (Script kib) p = Unit {0}
 IfServe (Serve asked) p = p asked
-IfServe (Check image mends) p = Unit {0}
+IfServe (Check image mends tells_json) p = Unit {0}
+IfServe (Show image) p = Unit {0}
+IfServe (Read image range) p = Unit {0}
+IfServe (Write image range) p = Unit {0}
 
--- a fact of whether a line `check` mends
-abbrev pub IfCheck : Line → (Bool → Type 0) → Type 0
+-- a fact of whether a line `check` mends, and whether it tells in JSON
+abbrev pub IfCheck : Line → (Bool → Bool → Type 0) → Type 0
+IfCheck (Chip asked) p = Unit {0}
 IfCheck (Plain sectors keeps_rows) p = Unit {0}
-IfCheck (Format image kib forced) p = Unit {0}
+IfCheck (Format image kib forced sure) p = Unit {0}
 IfCheck (Script kib) p = Unit {0}
 IfCheck (Serve asked) p = Unit {0}
-IfCheck (Check image mends) p = p mends
+IfCheck (Check image mends tells_json) p = p mends tells_json
+IfCheck (Show image) p = Unit {0}
+IfCheck (Read image range) p = Unit {0}
+IfCheck (Write image range) p = Unit {0}
+
+-- a fact of a line `show`
+abbrev pub IfShow : Line → Type 0 → Type 0
+IfShow (Chip asked) p = Unit {0}
+IfShow (Plain sectors keeps_rows) p = Unit {0}
+IfShow (Format image kib forced sure) p = Unit {0}
+IfShow (Script kib) p = Unit {0}
+IfShow (Serve asked) p = Unit {0}
+IfShow (Check image mends tells_json) p = Unit {0}
+IfShow (Show image) p = p
+IfShow (Read image range) p = Unit {0}
+IfShow (Write image range) p = Unit {0}
+
+-- a fact of a line `read`
+abbrev pub IfRead : Line → Type 0 → Type 0
+IfRead (Chip asked) p = Unit {0}
+IfRead (Plain sectors keeps_rows) p = Unit {0}
+IfRead (Format image kib forced sure) p = Unit {0}
+IfRead (Script kib) p = Unit {0}
+IfRead (Serve asked) p = Unit {0}
+IfRead (Check image mends tells_json) p = Unit {0}
+IfRead (Show image) p = Unit {0}
+IfRead (Read image range) p = p
+IfRead (Write image range) p = Unit {0}
+
+-- a fact of a line `write`
+abbrev pub IfWrite : Line → Type 0 → Type 0
+IfWrite (Chip asked) p = Unit {0}
+IfWrite (Plain sectors keeps_rows) p = Unit {0}
+IfWrite (Format image kib forced sure) p = Unit {0}
+IfWrite (Script kib) p = Unit {0}
+IfWrite (Serve asked) p = Unit {0}
+IfWrite (Check image mends tells_json) p = Unit {0}
+IfWrite (Show image) p = Unit {0}
+IfWrite (Read image range) p = Unit {0}
+IfWrite (Write image range) p = p
 
 -- the number that a text writes in decimal digits
 abbrev pub number_of : Text → ℕ
@@ -109,6 +189,16 @@ sync_of (Some word) =
 
 abbrev pub sync_in : List Row → Option SyncPolicy
 sync_in rows = sync_of (first_of (codes "sync") rows)
+
+-- when it tidies, by the word after `--tidy`: lazily where there is none
+abbrev pub tidy_of : Option Text → Option TidyPolicy
+tidy_of None = Some Lazily
+tidy_of (Some word) =
+    if bytes_eq word (codes "lazy") then Some Lazily else
+    if bytes_eq word (codes "eager") then Some Eagerly else None
+
+abbrev pub tidy_in : List Row → Option TidyPolicy
+tidy_in rows = tidy_of (first_of (codes "tidy") rows)
 
 -- Where a server listens, by what follows `--port`, `--bind` and `--unix`: a port of an address, or
 -- a Unix socket, and never both.
@@ -132,12 +222,17 @@ IsSet name rows false = first_of name rows ≢ Some (codes "true")
 
 -- the line is that of the command of this name, with the numbers and the text of these matches
 abbrev pub IsLineIn : Text → List Row → Line → Type 0
+IsLineIn name rows (Chip asked) =
+    (name ≡ codes "chip") × (first_of (codes "IMAGE") rows ≡ Some asked.image.now)
+    × (number_in (codes "port") rows ≡ Some asked.port)
+    × (number_in (codes "conns") rows ≡ asked.conns)
 IsLineIn name rows (Plain sectors keeps_rows) =
     (name ≡ codes "plain") × (number_in (codes "sectors") rows ≡ Some sectors)
     × IsSet (codes "no-record") rows (not keeps_rows)
-IsLineIn name rows (Format image kib forced) =
+IsLineIn name rows (Format image kib forced sure) =
     (name ≡ codes "format") × (first_of (codes "IMAGE") rows ≡ Some image.now)
     × (number_in (codes "kib") rows ≡ Some kib) × IsSet (codes "force") rows forced
+    × IsSet (codes "yes") rows sure
 IsLineIn name rows (Script kib) =
     (name ≡ codes "script") × (number_in (codes "kib") rows ≡ Some kib)
 IsLineIn name rows (Serve asked) =
@@ -145,12 +240,22 @@ IsLineIn name rows (Serve asked) =
     × IsPlaceIn rows asked.place
     × (number_in (codes "conns") rows ≡ asked.conns) × IsSet (codes "record") rows asked.record
     × (sync_in rows ≡ Some asked.sync)
+    × (tidy_in rows ≡ Some asked.tidy)
     × (number_in (codes "max-request") rows ≡ asked.max_request)
     × IsSet (codes "read-only") rows asked.read_only
     × IsSet (codes "verbose") rows asked.verbose
-IsLineIn name rows (Check image mends) =
+    × IsSet (codes "trust") rows asked.trust
+IsLineIn name rows (Check image mends tells_json) =
     (name ≡ codes "check") × (first_of (codes "IMAGE") rows ≡ Some image.now)
-    × IsSet (codes "mend") rows mends
+    × IsSet (codes "mend") rows mends × IsSet (codes "json") rows tells_json
+IsLineIn name rows (Show image) =
+    (name ≡ codes "show") × (first_of (codes "IMAGE") rows ≡ Some image.now)
+IsLineIn name rows (Read image range) =
+    (name ≡ codes "read") × (first_of (codes "IMAGE") rows ≡ Some image.now)
+    × (first_of (codes "sectors") rows ≡ option_map (λ text. text.now) range)
+IsLineIn name rows (Write image range) =
+    (name ≡ codes "write") × (first_of (codes "IMAGE") rows ≡ Some image.now)
+    × (first_of (codes "sectors") rows ≡ option_map (λ text. text.now) range)
 
 -- the commands that take the size of a chip: `format` and `script`
 abbrev pub TakesSize : Text → Type 0
@@ -185,6 +290,15 @@ HasBadSyncIn name rows = (name ≡ codes "serve") × (sync_in rows ≡ None)
 abbrev pub HasBadSync : List Text → Type 0
 HasBadSync words = (name : Text) × (rows : List Row) × Names words name rows
     × HasBadSyncIn name rows
+
+-- the matches are those of `serve`, with a word after `--tidy` that says no tidying
+abbrev pub HasBadTidyIn : Text → List Row → Type 0
+HasBadTidyIn name rows = (name ≡ codes "serve") × (tidy_in rows ≡ None)
+
+-- the words say `serve`, with such a word
+abbrev pub HasBadTidy : List Text → Type 0
+HasBadTidy words = (name : Text) × (rows : List Row) × Names words name rows
+    × HasBadTidyIn name rows
 
 -- the matches are those of `serve`, and say no place to listen at
 abbrev pub HasBadPlaceIn : Text → List Row → Type 0

@@ -1,6 +1,7 @@
 //! The faults of the program.
 ghost use Rattle.norbd_line.specs.Fault.{HasStatus};
 
+use crate::cause::ChipCause;
 use std::io::ErrorKind;
 use thiserror::Error;
 
@@ -25,6 +26,9 @@ pub enum Cause {
     /// Handing the image to its disk failed.
     #[error("a sync failed")]
     Sync,
+    /// The chip is behind a programmer, and this is why it failed.
+    #[error("{0}")]
+    Chip(ChipCause),
 }
 
 /// Why the program ends without having done its line. The text is the `Display`; of the variants
@@ -40,6 +44,9 @@ pub enum Fault {
     /// The word after `--sync` is none of `flush`, `never` and `always`.
     #[error("bad sync")]
     BadSync,
+    /// The word after `--tidy` is neither `lazy` nor `eager`.
+    #[error("bad tidy")]
+    BadTidy,
     /// The words say no place to listen at, or two, or the word after `--bind` is no IP address.
     #[error("bad address")]
     BadAddress,
@@ -98,6 +105,13 @@ pub enum Fault {
     /// A thread could not be started.
     #[error("no thread")]
     NoThread,
+    /// The text after `--sectors` is no range of sectors of the disk: `A:B`, from sector A on and
+    /// before sector B, with A below B.
+    #[error("bad range of sectors")]
+    BadRange,
+    /// Standard input hasn't this number of bytes, which the sectors have that it would replace.
+    #[error("standard input isn't {0} bytes")]
+    BadInput(u64),
 }
 
 impl Fault {
@@ -110,6 +124,7 @@ impl Fault {
             Fault::Words(error) => if error.use_stderr() { 2 } else { 0 },
             Fault::BadSize => 2,
             Fault::BadSync => 2,
+            Fault::BadTidy => 2,
             Fault::BadAddress => 2,
             Fault::NotText => 2,
             Fault::NoMemory => 1,
@@ -129,6 +144,8 @@ impl Fault {
             Fault::BadImageSize(_) => 1,
             Fault::NoSocket(_) => 1,
             Fault::NoThread => 1,
+            Fault::BadRange => 2,
+            Fault::BadInput(_) => 1,
         }
     }
 }

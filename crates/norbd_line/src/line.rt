@@ -7,14 +7,18 @@ ghost use Rattle.clap.specs.Words.{subcommand_of, subcommand_rows_of, with_subco
 ghost use Rattle.norbd_line.specs.CommandLine.{conns_rule, flag_rule, image_rule, kib_rule};
 ghost use Rattle.norbd_line.specs.CommandLine.{norbd_app, port_rule, sectors_rule};
 ghost use Rattle.norbd_line.specs.CommandLine.{check_app, format_app, plain_app, script_app};
+ghost use Rattle.norbd_line.specs.CommandLine.{read_app, show_app, with_image_apps, write_app};
+ghost use Rattle.norbd_line.specs.CommandLine.{begun_app};
 ghost use Rattle.norbd_line.specs.CommandLine.{max_request_rule, serve_app};
 ghost use Rattle.norbd_line.specs.CommandLine.{text_rule, texts_of, verbose_rule};
 ghost use Rattle.norbd_line.specs.Fault.{ComesFromMatches, ComesFromWords};
 ghost use Rattle.norbd_line.specs.Line.{HasOddSize, IsLineInRange, IsLineIn, IsLineOf};
 ghost use Rattle.norbd_line.specs.Line.{HasNoPlace, IsPlace, IsPlaceIn, IsPort};
 ghost use Rattle.norbd_line.specs.Line.{IsSet, IsSize, TakesSize, number_in, number_of, sync_in};
+ghost use Rattle.norbd_line.specs.Line.{tidy_in};
 
 use crate::Fault;
+use crate::chip::{ChipLine, chip_line, trust_arg, with_chip, yes_arg};
 use clap::error::ErrorKind;
 use clap::{Arg, ArgAction, ArgMatches, Command, value_parser};
 use std::alloc::Global;
@@ -22,6 +26,8 @@ use std::alloc::Global;
 /// What the program is asked to do. The text of a path is borrowed from the words.
 #[derive(Debug, Clone, Copy, PartialEq, Eq)]
 pub enum Line<'a> {
+    /// `chip IMAGE --port P [--conns C]`: answer serprog for the chip in an image.
+    Chip(ChipLine<'a>),
     /// `plain --sectors S [--no-record]`: serve one client, from standard input to standard output,
     /// a disk of `sectors` sectors of 512 bytes in memory, from 1 to 65,536 of them, all zeros at
     /// first; `record` unless `--no-record` is set.
@@ -29,12 +35,14 @@ pub enum Line<'a> {
         sectors: u32,
         record: bool,
     },
-    /// `format IMAGE --kib K [--force]`: make the file at the path `image` a formatted chip of
-    /// `kib` KiB, a multiple of 64 from 64 to 16,384, one that is formatted only if `force` is set.
+    /// `format IMAGE --kib K [--force] [--yes]`: make the file at the path `image` a formatted chip
+    /// of `kib` KiB, a multiple of 64 from 64 to 16,384, one that is formatted only if `force` is
+    /// set; or format the chip of `kib` KiB behind a programmer, if `sure` is set.
     Format {
         image: &'a str,
         kib: u32,
         force: bool,
+        sure: bool,
     },
     /// `script --kib K`: run a script of events, from standard input, on a formatted chip in memory
     /// of `kib` KiB, a multiple of 64 from 64 to 16,384, and tell what came of them on standard
@@ -43,22 +51,39 @@ pub enum Line<'a> {
         kib: u32,
     },
     /// `serve IMAGE --port P [--bind ADDR]`, or with `--unix PATH` in their place, and `[--conns C]
-    /// [--record] [--sync WHEN] [--max-request KIB] [--read-only] [-v]`: serve the chip in an
-    /// image.
+    /// [--record] [--sync WHEN] [--tidy WHEN] [--max-request KIB] [--read-only] [-v]`: serve the
+    /// chip in an image.
     Serve(ServeLine<'a>),
-    /// `check IMAGE [--mend]`: say whether the image in the file at the path `image` would be
-    /// served, and mend it where `mend` is set.
+    /// `check IMAGE [--mend] [--json]`: say whether the image in the file at the path `image` would
+    /// be served, and if not, why; mend it where `mend` is set; tell in JSON where `json` is.
     Check {
         image: &'a str,
         mend: bool,
+        json: bool,
+    },
+    /// `show IMAGE`: draw the blocks of the image in the file at the path `image`.
+    Show {
+        image: &'a str,
+    },
+    /// `read IMAGE [--sectors A:B]`: write the sectors of the image in the file at the path `image`
+    /// to standard output, of all its disk or of the part that the text `sectors` writes.
+    Read {
+        image: &'a str,
+        sectors: Option<&'a str>,
+    },
+    /// `write IMAGE [--sectors A:B]`: replace these sectors by standard input.
+    Write {
+        image: &'a str,
+        sectors: Option<&'a str>,
     },
 }
 
 /// What a line `serve` asks: to serve the chip in the file at the path `image` at a place, to
 /// `conns` clients in all, from 1 to 64, or without end where it is `None`; to keep a row of each
-/// command where `record` is set; when the file is synced; with READs and WRITEs of `max_request`
-/// KiB at most, from 64 to 32,768, or of 64 where it is `None`; without changing anything where
-/// `read_only` is set; and to tell of each connection and each refused request where `verbose` is.
+/// command where `record` is set; when the file is synced, and when the disk is tidied; with READs
+/// and WRITEs of `max_request` KiB at most, from 64 to 32,768, or of 64 where it is `None`; without
+/// changing anything where `read_only` is set; to tell of each connection and each refused request
+/// where `verbose` is; and to believe a chip behind a programmer its changes where `trust` is.
 #[derive(Debug, Clone, Copy, PartialEq, Eq)]
 pub struct ServeLine<'a> {
     pub image: &'a str,
@@ -66,9 +91,11 @@ pub struct ServeLine<'a> {
     pub conns: Option<u32>,
     pub record: bool,
     pub sync: SyncPolicy,
+    pub tidy: TidyPolicy,
     pub max_request: Option<u32>,
     pub read_only: bool,
     pub verbose: bool,
+    pub trust: bool,
 }
 
 /// Where clients connect to.
@@ -91,6 +118,15 @@ pub enum SyncPolicy {
     Always,
 }
 
+/// When a server tidies its disk, which copies and erases a block.
+#[derive(Debug, Clone, Copy, PartialEq, Eq, Drop)]
+pub enum TidyPolicy {
+    /// `--tidy lazy`, and without `--tidy`: while few slots are free.
+    Lazily,
+    /// `--tidy eager`: while a slot is dead.
+    Eagerly,
+}
+
 /// The least number of sectors of a plain disk.
 const LEAST_SECTORS: u32 = 1;
 
@@ -98,10 +134,10 @@ const LEAST_SECTORS: u32 = 1;
 const MOST_SECTORS: u32 = 65_536;
 
 /// The largest number of a port; the least is 1.
-const MOST_PORT: u32 = 65_535;
+pub(crate) const MOST_PORT: u32 = 65_535;
 
 /// The largest number of connections; the least is 1.
-const MOST_CONNS: u32 = 64;
+pub(crate) const MOST_CONNS: u32 = 64;
 
 /// The least length in KiB that may be the largest of a READ or WRITE.
 const LEAST_REQUEST: u32 = 64;
@@ -160,7 +196,7 @@ fn port_arg<'a>(alloc: Global) -> Arg<'a>
 }
 
 /// `--conns C`.
-fn conns_arg<'a>(alloc: Global) -> Arg<'a>
+pub(crate) fn conns_arg<'a>(alloc: Global) -> Arg<'a>
     ensures rule { rule_of result ≡ conns_rule }
     ensures local { result.global ≡ false }
 {
@@ -236,6 +272,20 @@ fn sync_arg<'a>(alloc: Global) -> Arg<'a>
         .action(ArgAction::Set)
 }
 
+/// `--tidy WHEN`.
+fn tidy_arg<'a>(alloc: Global) -> Arg<'a>
+    ensures rule { rule_of result ≡ text_rule (codes "tidy") }
+    ensures local { result.global ≡ false }
+{
+    Arg::new(alloc, "tidy")
+        .long("tidy")
+        .value_name("WHEN")
+        .help(
+            "When blocks are tidied: lazy (as without it), while few slots are free, or eager, while any is dead",
+        )
+        .action(ArgAction::Set)
+}
+
 /// `--force`.
 fn force_arg<'a>(alloc: Global) -> Arg<'a>
     ensures rule { rule_of result ≡ flag_rule (codes "force") }
@@ -296,8 +346,31 @@ fn mend_arg<'a>(alloc: Global) -> Arg<'a>
         .action(ArgAction::SetTrue)
 }
 
+/// `--json`.
+fn json_arg<'a>(alloc: Global) -> Arg<'a>
+    ensures rule { rule_of result ≡ flag_rule (codes "json") }
+    ensures local { result.global ≡ false }
+{
+    Arg::new(alloc, "json")
+        .long("json")
+        .help("Tells it in JSON, for programs")
+        .action(ArgAction::SetTrue)
+}
+
+/// `--sectors A:B`.
+fn range_arg<'a>(alloc: Global) -> Arg<'a>
+    ensures rule { rule_of result ≡ text_rule (codes "sectors") }
+    ensures local { result.global ≡ false }
+{
+    Arg::new(alloc, "sectors")
+        .long("sectors")
+        .value_name("A:B")
+        .help("From sector A on and before sector B, counted from 0; without it, the whole disk")
+        .action(ArgAction::Set)
+}
+
 /// `IMAGE`.
-fn image_arg<'a>(alloc: Global, help: &'a str) -> Arg<'a>
+pub(crate) fn image_arg<'a>(alloc: Global, help: &'a str) -> Arg<'a>
     ensures rule { rule_of result ≡ image_rule }
     ensures local { result.global ≡ false }
 {
@@ -308,7 +381,7 @@ fn image_arg<'a>(alloc: Global, help: &'a str) -> Arg<'a>
 }
 
 /// What an image is, and what the exit statuses mean.
-const AFTER_HELP: &str =
+pub(crate) const AFTER_HELP: &str =
     "An image is a file of a flash chip's bytes, 64 KiB to 16 MiB. Exit status: 0 done, 1 a fault, which is printed, 2 a bad line.";
 
 /// A command line with `plain` and its arguments.
@@ -340,7 +413,8 @@ fn with_format<'a>(alloc: Global, norbd: Command<'a>) -> Result<Command<'a>, cla
             "The file of the chip's bytes; one that is there is replaced",
         ))?
         .arg(kib_arg(alloc))?
-        .arg(force_arg(alloc))?;
+        .arg(force_arg(alloc))?
+        .arg(yes_arg(alloc))?;
     Ok(norbd.subcommand(format)?)
 }
 
@@ -376,9 +450,11 @@ fn with_serve<'a>(alloc: Global, norbd: Command<'a>) -> Result<Command<'a>, clap
         .arg(conns_arg(alloc))?
         .arg(record_arg(alloc))?
         .arg(sync_arg(alloc))?
+        .arg(tidy_arg(alloc))?
         .arg(max_request_arg(alloc))?
         .arg(read_only_arg(alloc))?
-        .arg(verbose_arg(alloc))?;
+        .arg(verbose_arg(alloc))?
+        .arg(trust_arg(alloc))?;
     Ok(norbd.subcommand(serve)?)
 }
 
@@ -389,31 +465,95 @@ fn with_check<'a>(alloc: Global, norbd: Command<'a>) -> Result<Command<'a>, clap
 {
     let check = Command::new(alloc, "check")
         .about(
-            "Says whether an image would be served, and mends one that isn't clean.\nExample: norbd check chip.img --mend",
+            "Says whether an image would be served, and if not, why; mends one that isn't clean.\nExample: norbd check chip.img --mend",
         )
         .after_help(AFTER_HELP)
         .arg(image_arg(alloc, "The file of the chip's bytes"))?
-        .arg(mend_arg(alloc))?;
+        .arg(mend_arg(alloc))?
+        .arg(json_arg(alloc))?;
     Ok(norbd.subcommand(check)?)
+}
+
+/// A command line with `show` and its argument.
+fn with_show<'a>(alloc: Global, norbd: Command<'a>) -> Result<Command<'a>, clap::Error>
+    ensures app { IfOk result (λ c. app_of c ≡ with_subcommand (app_of norbd.entry) show_app.top) }
+    ensures memory { IfErr result (λ e. kind_of e ≡ ErrorKind.OutOfMemory) }
+{
+    let show = Command::new(alloc, "show")
+        .about("Draws the blocks of an image, a character for each.\nExample: norbd show chip.img")
+        .after_help(AFTER_HELP)
+        .arg(image_arg(alloc, "The file of the chip's bytes"))?;
+    Ok(norbd.subcommand(show)?)
+}
+
+/// A command line with `read` and its arguments.
+fn with_read<'a>(alloc: Global, norbd: Command<'a>) -> Result<Command<'a>, clap::Error>
+    ensures app { IfOk result (λ c. app_of c ≡ with_subcommand (app_of norbd.entry) read_app.top) }
+    ensures memory { IfErr result (λ e. kind_of e ≡ ErrorKind.OutOfMemory) }
+{
+    let read = Command::new(alloc, "read")
+        .about(
+            "Writes the disk in an image to standard output, without a server.\nExample: norbd read chip.img > disk.img",
+        )
+        .after_help(AFTER_HELP)
+        .arg(image_arg(alloc, "The file of the chip's bytes"))?
+        .arg(range_arg(alloc))?;
+    Ok(norbd.subcommand(read)?)
+}
+
+/// A command line with `write` and its arguments.
+fn with_write<'a>(alloc: Global, norbd: Command<'a>) -> Result<Command<'a>, clap::Error>
+    ensures app { IfOk result (λ c. app_of c ≡ with_subcommand (app_of norbd.entry) write_app.top) }
+    ensures memory { IfErr result (λ e. kind_of e ≡ ErrorKind.OutOfMemory) }
+{
+    let write = Command::new(alloc, "write")
+        .about(
+            "Replaces the disk in an image by standard input, which has to be as long.\nExample: norbd write chip.img < disk.img",
+        )
+        .after_help(AFTER_HELP)
+        .arg(image_arg(alloc, "The file of the chip's bytes"))?
+        .arg(range_arg(alloc))?;
+    Ok(norbd.subcommand(write)?)
+}
+
+/// A command line with the commands about an image without a server: `check`, `show`, `read` and
+/// `write`.
+fn with_image_lines<'a>(alloc: Global, norbd: Command<'a>) -> Result<Command<'a>, clap::Error>
+    ensures app { IfOk result (λ c. app_of c ≡ with_image_apps (app_of norbd.entry)) }
+    ensures memory { IfErr result (λ e. kind_of e ≡ ErrorKind.OutOfMemory) }
+{
+    let norbd = with_check(alloc, norbd)?;
+    let norbd = with_show(alloc, norbd)?;
+    let norbd = with_read(alloc, norbd)?;
+    with_write(alloc, norbd)
 }
 
 /// What `--version` says after the name: the version, and the toolchain that proved and built it.
 const VERSION: &str = "0.1.0, proved by rattle-kit-13f logic dac8208d650f15bf";
 
-/// The program's whole command line.
-fn whole_command<'a>(alloc: Global) -> Result<Command<'a>, clap::Error>
-    ensures app { IfOk result (λ c. app_of c ≡ norbd_app) }
+/// The program's command line with its first command.
+fn begun_command<'a>(alloc: Global) -> Result<Command<'a>, clap::Error>
+    ensures app { IfOk result (λ c. app_of c ≡ begun_app) }
     ensures memory { IfErr result (λ e. kind_of e ≡ ErrorKind.OutOfMemory) }
 {
     let norbd = Command::new(alloc, "norbd")
         .bin_name("norbd")?
         .version(VERSION)
         .subcommand_required(true);
+    with_chip(alloc, norbd)
+}
+
+/// The program's whole command line.
+fn whole_command<'a>(alloc: Global) -> Result<Command<'a>, clap::Error>
+    ensures app { IfOk result (λ c. app_of c ≡ norbd_app) }
+    ensures memory { IfErr result (λ e. kind_of e ≡ ErrorKind.OutOfMemory) }
+{
+    let norbd = begun_command(alloc)?;
     let norbd = with_plain(alloc, norbd)?;
     let norbd = with_format(alloc, norbd)?;
     let norbd = with_script(alloc, norbd)?;
     let norbd = with_serve(alloc, norbd)?;
-    with_check(alloc, norbd)
+    with_image_lines(alloc, norbd)
 }
 
 /// What the command line makes of the words.
@@ -438,7 +578,7 @@ fn fault_from(error: clap::Error) -> Fault
 }
 
 /// A number of the line, if it is there and from `least` to `most`.
-fn number(matches: &ArgMatches<'_>, id: &str, least: u32, most: u32) -> Option<u32>
+pub(crate) fn number(matches: &ArgMatches<'_>, id: &str, least: u32, most: u32) -> Option<u32>
     ensures range { IfSome result (λ n. (least ≤ n) × (n ≤ most)) }
     ensures text { IfSome result (λ n. option_map number_of (one_text (found_of matches.now) id.now)
         ≡ Some n) }
@@ -515,6 +655,7 @@ fn format_line<'a>(matches: &ArgMatches<'a>) -> Result<Line<'a>, Fault>
             image,
             kib,
             force: flag(matches, "force"),
+            sure: flag(matches, "yes"),
         }),
         None => Err(Fault::NoMemory),
     }
@@ -534,7 +675,7 @@ fn script_line<'a>(matches: &ArgMatches<'a>) -> Result<Line<'a>, Fault>
 
 /// The number after an option that may be left out, or `None` where it is. The parse refuses one
 /// that isn't from `least` to `most`, so the arm for it answers `NoMemory`.
-fn number_if_there(
+pub(crate) fn number_if_there(
     matches: &ArgMatches<'_>,
     id: &str,
     least: u32,
@@ -566,6 +707,22 @@ fn sync_of(matches: &ArgMatches<'_>) -> Option<SyncPolicy>
         Some(SyncPolicy::Never)
     } else if word == "always" {
         Some(SyncPolicy::Always)
+    } else {
+        None
+    }
+}
+
+/// What the word after `--tidy` says, if it says something.
+fn tidy_of(matches: &ArgMatches<'_>) -> Option<TidyPolicy>
+    ensures { tidy_in (rows_of (found_of matches.now)) ≡ result }
+{
+    let Some(word) = matches.get_str("tidy") else {
+        return Some(TidyPolicy::Lazily);
+    };
+    if word == "lazy" {
+        Some(TidyPolicy::Lazily)
+    } else if word == "eager" {
+        Some(TidyPolicy::Eagerly)
     } else {
         None
     }
@@ -623,8 +780,8 @@ fn place_of<'a>(matches: &ArgMatches<'a>) -> Result<Place<'a>, Fault>
 }
 
 /// The line of `serve`; `BadAddress` where the words say no place or two, `BadSync` where the word
-/// after `--sync` says nothing. The parse refuses words without a path or with a number out of its
-/// range, so the arms for them answer `NoMemory`.
+/// after `--sync` says nothing, and `BadTidy` where that after `--tidy` does. The parse refuses
+/// words without a path or with a number out of its range, so the arms for them answer `NoMemory`.
 fn serve_line<'a>(matches: &ArgMatches<'a>) -> Result<Line<'a>, Fault>
     ensures range { IfOk result IsLineInRange }
     ensures line { IfOk result (IsLineIn (codes "serve") (rows_of (found_of matches.now))) }
@@ -642,6 +799,9 @@ fn serve_line<'a>(matches: &ArgMatches<'a>) -> Result<Line<'a>, Fault>
     let Some(sync) = sync_of(matches) else {
         return Err(Fault::BadSync);
     };
+    let Some(tidy) = tidy_of(matches) else {
+        return Err(Fault::BadTidy);
+    };
     let Some(image) = matches.get_str("IMAGE") else {
         return Err(Fault::NoMemory);
     };
@@ -651,9 +811,11 @@ fn serve_line<'a>(matches: &ArgMatches<'a>) -> Result<Line<'a>, Fault>
         conns,
         record: flag(matches, "record"),
         sync,
+        tidy,
         max_request,
         read_only: flag(matches, "read-only"),
         verbose: flag(matches, "verbose"),
+        trust: flag(matches, "trust"),
     }))
 }
 
@@ -668,6 +830,50 @@ fn check_line<'a>(matches: &ArgMatches<'a>) -> Result<Line<'a>, Fault>
         Some(image) => Ok(Line::Check {
             image,
             mend: flag(matches, "mend"),
+            json: flag(matches, "json"),
+        }),
+        None => Err(Fault::NoMemory),
+    }
+}
+
+/// The line of `show`. The parse refuses words without a path, so the arm for them answers
+/// `NoMemory`.
+fn show_line<'a>(matches: &ArgMatches<'a>) -> Result<Line<'a>, Fault>
+    ensures range { IfOk result IsLineInRange }
+    ensures line { IfOk result (IsLineIn (codes "show") (rows_of (found_of matches.now))) }
+    ensures fault { IfErr result (λ e. e ≡ Fault.NoMemory) }
+{
+    match matches.get_str("IMAGE") {
+        Some(image) => Ok(Line::Show { image }),
+        None => Err(Fault::NoMemory),
+    }
+}
+
+/// The line of `read`; likewise.
+fn read_disk_line<'a>(matches: &ArgMatches<'a>) -> Result<Line<'a>, Fault>
+    ensures range { IfOk result IsLineInRange }
+    ensures line { IfOk result (IsLineIn (codes "read") (rows_of (found_of matches.now))) }
+    ensures fault { IfErr result (λ e. e ≡ Fault.NoMemory) }
+{
+    match matches.get_str("IMAGE") {
+        Some(image) => Ok(Line::Read {
+            image,
+            sectors: text_of(matches, "sectors"),
+        }),
+        None => Err(Fault::NoMemory),
+    }
+}
+
+/// The line of `write`; likewise.
+fn write_disk_line<'a>(matches: &ArgMatches<'a>) -> Result<Line<'a>, Fault>
+    ensures range { IfOk result IsLineInRange }
+    ensures line { IfOk result (IsLineIn (codes "write") (rows_of (found_of matches.now))) }
+    ensures fault { IfErr result (λ e. e ≡ Fault.NoMemory) }
+{
+    match matches.get_str("IMAGE") {
+        Some(image) => Ok(Line::Write {
+            image,
+            sectors: text_of(matches, "sectors"),
         }),
         None => Err(Fault::NoMemory),
     }
@@ -680,7 +886,9 @@ fn line_of<'a>(name: &str, matches: &ArgMatches<'a>) -> Result<Line<'a>, Fault>
     ensures line { IfOk result (IsLineIn name.now (rows_of (found_of matches.now))) }
     ensures fault { IfErr result (ComesFromMatches name.now (rows_of (found_of matches.now))) }
 {
-    if name == "plain" {
+    if name == "chip" {
+        chip_line(matches)
+    } else if name == "plain" {
         plain_line(matches)
     } else if name == "format" {
         format_line(matches)
@@ -690,6 +898,24 @@ fn line_of<'a>(name: &str, matches: &ArgMatches<'a>) -> Result<Line<'a>, Fault>
         serve_line(matches)
     } else if name == "check" {
         check_line(matches)
+    } else {
+        image_line(name, matches)
+    }
+}
+
+/// The line of a command of this name about an image alone: `show`, `read` or `write`. The parse
+/// refuses every other name.
+fn image_line<'a>(name: &str, matches: &ArgMatches<'a>) -> Result<Line<'a>, Fault>
+    ensures range { IfOk result IsLineInRange }
+    ensures line { IfOk result (IsLineIn name.now (rows_of (found_of matches.now))) }
+    ensures fault { IfErr result (λ e. e ≡ Fault.NoMemory) }
+{
+    if name == "show" {
+        show_line(matches)
+    } else if name == "read" {
+        read_disk_line(matches)
+    } else if name == "write" {
+        write_disk_line(matches)
     } else {
         Err(Fault::NoMemory)
     }
@@ -716,9 +942,9 @@ fn line_or_fault<'a>(alloc: Global, words: &'a [String]) -> Result<Line<'a>, Fau
 /// `Words` where they are no line of the program or ask for help or the version, `BadSize` where
 /// the number after `--kib` is from 64 to 16,384 and no multiple of 64, `BadAddress` where `serve`
 /// has neither a port nor a Unix socket, or both, `BadSync` where the word after `--sync` is none
-/// that says when, `NoMemory` where memory ran out. The parse refuses words
-/// without a command, a path or a number in its range, so what comes then isn't reached; it needs
-/// some fault, and answers `NoMemory`.
+/// that says when, `BadTidy` likewise after `--tidy`, `NoMemory` where memory ran out. The parse
+/// refuses words without a command, a path or a number in its range, so what comes then isn't
+/// reached; it needs some fault, and answers `NoMemory`.
 pub fn read_line<'a>(alloc: Global, words: &'a [String]) -> Result<Line<'a>, Fault>
     ensures range { IfOk result IsLineInRange }
     ensures line { IfOk result (IsLineOf (texts_of words.now)) }

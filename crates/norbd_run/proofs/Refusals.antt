@@ -5,6 +5,9 @@ use Rattle.fault_model.specs.declared.error.SimError.TheVariants as files
 use Rattle.norbd_image.specs.Image.{ComesOfHolding}
 use Rattle.norbd_image.specs.declared.error.ImageError.{ImageError}
 use Rattle.norbd_image.specs.declared.error.ImageError.TheVariants as images
+use Rattle.norbd_chip.specs.declared.fault.ChipFault.{ChipFault}
+use Rattle.norbd_chip.specs.declared.fault.ChipFault.TheVariants as chips
+use Rattle.norbd_run.specs.Chips.{told_of_chip}
 use Rattle.norbd_run.specs.Formatting.{told_as}
 use Rattle.norbd_run.specs.Listening.{IsRefusal, told_of_file}
 
@@ -20,3 +23,11 @@ pub file_is_refusal : (length : ℕ) (e : SimError) → IsRefusal (told_of_file 
 file_is_refusal length files.BadSize = tt
 file_is_refusal length files.OutOfMemory = tt
 file_is_refusal length files.File = tt
+
+pub chip_is_refusal : (e : ChipFault) → IsRefusal (told_of_chip e)
+chip_is_refusal chips.NoMemory = tt
+chip_is_refusal (chips.Failed cause) = tt
+chip_is_refusal chips.BadTable = tt
+chip_is_refusal chips.WrongId = tt
+chip_is_refusal chips.Protected = tt
+chip_is_refusal chips.Slow = tt

@@ -1,6 +1,6 @@
 -- What `check` says of an image, and how it ends. Source: own.
-use Rattle.std.specs.Prelude.{◌≡◌, ◌⊎◌, ℕ, List, ◌++◌, codes, Bool, true, false, Option, Result, Ok}
-use Rattle.std.specs.Prelude.{Err}
+use Rattle.std.specs.Prelude.{◌≡◌, ◌⊎◌, ℕ, List, [], ◌++◌, codes, Bool, true, false, Option}
+use Rattle.std.specs.Prelude.{Result, Ok, Err}
 use Rattle.std.specs.Fmt.{decimal}
 use Rattle.std.specs.Io.KnownBytes.{Appends}
 use Rattle.block_device.specs.Streams.{FailsToSend}
@@ -14,19 +14,25 @@ abbrev pub checked_text : Bool → ℕ → List ℕ
 checked_text false sectors = codes "clean " ++ (decimal sectors ++ codes " sectors\n")
 checked_text true sectors = codes "mended " ++ (decimal sectors ++ codes " sectors\n")
 
+-- for programs the report alone says it
+abbrev pub last_text : Bool → Bool → ℕ → List ℕ
+last_text true mended sectors = []
+last_text false mended sectors = checked_text mended sectors
+
 -- an image is mended only where that is asked
 pub record Says (mends : Bool) : Type 0 where
   pub mended : Bool
   pub sectors : ℕ
   pub asked : mended ≡ true → mends ≡ true
 
--- What `check` writes: done, exactly the line about the image; a fault of the output, a beginning
--- of it; and nothing with a refusal of the image.
-abbrev pub CheckTells : {T : Type 0} → Bool → Option (List ℕ) → ℕ → Result T Fault
+-- What `check` writes: a report, of whose text nothing is said here; done, the line about the
+-- image after it, but for programs; and with a refusal of the image the report, or nothing. With a
+-- fault of the output a beginning of this.
+abbrev pub CheckTells : {T : Type 0} → Bool → Bool → Option (List ℕ) → ℕ → Result T Fault
     → Option (List ℕ) → ℕ → Type 0
-CheckTells mends old faults (Ok _) new faults' =
-    (s : Says mends) × Appends old new (checked_text s.mended s.sectors) × (faults' ≡ faults)
-CheckTells mends old faults (Err e) new faults' =
-    (IsRefusal e × NothingWritten old faults new faults')
-    ⊎ ((e ≡ OutputFailed)
-    × ((s : Says mends) × FailsToSend old faults (checked_text s.mended s.sectors) new faults'))
+CheckTells mends tells_json old faults (Ok _) new faults' = (report : List ℕ) × (s : Says mends)
+    × Appends old new (report ++ last_text tells_json s.mended s.sectors) × (faults' ≡ faults)
+CheckTells mends tells_json old faults (Err e) new faults' =
+    (IsRefusal e × (NothingWritten old faults new faults'
+    ⊎ ((report : List ℕ) × Appends old new report × (faults' ≡ faults))))
+    ⊎ ((e ≡ OutputFailed) × ((text : List ℕ) × FailsToSend old faults text new faults'))

@@ -15,6 +15,7 @@ use Rattle.norbd_line.specs.declared.fault.Fault.TheVariants.{BadSfdp, Protected
 use Rattle.norbd_line.specs.declared.fault.Fault.TheVariants.{NotFormatted, Corrupt, NotClean}
 use Rattle.norbd_line.specs.declared.fault.Fault.TheVariants.{BadImageSize}
 use Rattle.norbd_line.specs.declared.fault.Fault.TheVariants.{NoSocket, NoThread, BadSync, NotText}
+use Rattle.norbd_line.specs.declared.fault.Fault.TheVariants.{BadTidy, BadRange, BadInput}
 use Rattle.norbd_line.specs.declared.fault.Fault.TheVariants.{InUse, Formatted, BadAddress}
 
 -- the line about a formatted chip of so many KiB
@@ -48,6 +49,7 @@ FormatTells kib old faults (Ok _) new faults' =
 FormatTells kib old faults (Err (Words error)) new faults' = ⊥
 FormatTells kib old faults (Err BadSize) new faults' = ⊥
 FormatTells kib old faults (Err BadSync) new faults' = ⊥
+FormatTells kib old faults (Err BadTidy) new faults' = ⊥
 FormatTells kib old faults (Err BadAddress) new faults' = ⊥
 FormatTells kib old faults (Err NotText) new faults' = ⊥
 FormatTells kib old faults (Err NoMemory) new faults' = NothingWritten old faults new faults'
@@ -69,3 +71,5 @@ FormatTells kib old faults (Err NotClean) new faults' = ⊥
 FormatTells kib old faults (Err (BadImageSize length)) new faults' = ⊥
 FormatTells kib old faults (Err (NoSocket cause)) new faults' = ⊥
 FormatTells kib old faults (Err NoThread) new faults' = ⊥
+FormatTells kib old faults (Err BadRange) new faults' = ⊥
+FormatTells kib old faults (Err (BadInput length)) new faults' = ⊥

@@ -4,3 +4,6 @@ pub mod Scripting
 pub mod Listening
 pub mod Serving
 pub mod Checking
+pub mod Moving
+pub mod Showing
+pub mod Chips

@@ -30,6 +30,7 @@ use Rattle.norbd_line.specs.declared.fault.Fault.TheVariants.{BadSfdp, Protected
 use Rattle.norbd_line.specs.declared.fault.Fault.TheVariants.{NotFormatted, Corrupt, NotClean}
 use Rattle.norbd_line.specs.declared.fault.Fault.TheVariants.{BadImageSize}
 use Rattle.norbd_line.specs.declared.fault.Fault.TheVariants.{NoSocket, NoThread, BadSync, NotText}
+use Rattle.norbd_line.specs.declared.fault.Fault.TheVariants.{BadTidy, BadRange, BadInput}
 use Rattle.norbd_line.specs.declared.fault.Fault.TheVariants.{InUse, Formatted, BadAddress}
 
 -- the line before the first connection is accepted
@@ -106,6 +107,7 @@ IsRefusal Slow = Unit {0}
 IsRefusal (Words error) = ⊥
 IsRefusal BadSize = ⊥
 IsRefusal BadSync = ⊥
+IsRefusal BadTidy = ⊥
 IsRefusal BadAddress = ⊥
 IsRefusal NotText = ⊥
 IsRefusal InputFailed = ⊥
@@ -113,6 +115,8 @@ IsRefusal OutputFailed = ⊥
 IsRefusal BadRecord = ⊥
 IsRefusal (NoSocket cause) = ⊥
 IsRefusal NoThread = ⊥
+IsRefusal BadRange = ⊥
+IsRefusal (BadInput length) = ⊥
 
 -- a refusal of the place to listen at, which comes before the image is looked for
 abbrev pub IsPlaceRefusal : Fault → Type 0
@@ -122,6 +126,7 @@ IsPlaceRefusal (Words error) = ⊥
 IsPlaceRefusal NoMemory = ⊥
 IsPlaceRefusal BadSize = ⊥
 IsPlaceRefusal BadSync = ⊥
+IsPlaceRefusal BadTidy = ⊥
 IsPlaceRefusal NotText = ⊥
 IsPlaceRefusal InputFailed = ⊥
 IsPlaceRefusal OutputFailed = ⊥
@@ -138,6 +143,8 @@ IsPlaceRefusal Corrupt = ⊥
 IsPlaceRefusal NotClean = ⊥
 IsPlaceRefusal (BadImageSize length) = ⊥
 IsPlaceRefusal NoThread = ⊥
+IsPlaceRefusal BadRange = ⊥
+IsPlaceRefusal (BadInput length) = ⊥
 
 -- What writing a text says: all of it is written, there was no memory for it, or a beginning of it
 -- is written.
@@ -199,8 +206,11 @@ TellsServing place conns keeps old faults (Err Slow) new faults' = IsSilent old 
 TellsServing place conns keeps old faults (Err (Words error)) new faults' = ⊥
 TellsServing place conns keeps old faults (Err BadSize) new faults' = ⊥
 TellsServing place conns keeps old faults (Err BadSync) new faults' = ⊥
+TellsServing place conns keeps old faults (Err BadTidy) new faults' = ⊥
 TellsServing place conns keeps old faults (Err BadAddress) new faults' =
     IsSilent old faults new faults'
 TellsServing place conns keeps old faults (Err NotText) new faults' = ⊥
+TellsServing place conns keeps old faults (Err BadRange) new faults' = ⊥
+TellsServing place conns keeps old faults (Err (BadInput length)) new faults' = ⊥
 TellsServing place conns keeps old faults (Err InputFailed) new faults' = ⊥
 TellsServing place conns keeps old faults (Err BadRecord) new faults' = ⊥

@@ -10,6 +10,7 @@ use Rattle.norbd_line.specs.declared.fault.Fault.TheVariants.{BadSfdp, Protected
 use Rattle.norbd_line.specs.declared.fault.Fault.TheVariants.{NotFormatted, Corrupt, NotClean}
 use Rattle.norbd_line.specs.declared.fault.Fault.TheVariants.{BadImageSize}
 use Rattle.norbd_line.specs.declared.fault.Fault.TheVariants.{NoSocket, NoThread, BadSync, NotText}
+use Rattle.norbd_line.specs.declared.fault.Fault.TheVariants.{BadTidy, BadRange, BadInput}
 use Rattle.norbd_line.specs.declared.fault.Fault.TheVariants.{InUse, Formatted, BadAddress}
 use Rattle.share.specs.declared.connection.End.{End}
 use Rattle.share.specs.declared.connection.End.TheVariants.{Closed, EndOfInput, Input, Output, Lost}
@@ -51,6 +52,7 @@ HasCause InputFailed had left reads reads' writes writes' =
 HasCause OutputFailed had left reads reads' writes writes' = (reads' ≡ reads) × (writes < writes')
 HasCause BadSize had left reads reads' writes writes' = ⊥
 HasCause BadSync had left reads reads' writes writes' = ⊥
+HasCause BadTidy had left reads reads' writes writes' = ⊥
 HasCause BadAddress had left reads reads' writes writes' = ⊥
 HasCause NotText had left reads reads' writes writes' = ⊥
 HasCause (ImageFailed cause) had left reads reads' writes writes' = ⊥
@@ -67,6 +69,8 @@ HasCause NotClean had left reads reads' writes writes' = ⊥
 HasCause (BadImageSize length) had left reads reads' writes writes' = ⊥
 HasCause (NoSocket cause) had left reads reads' writes writes' = ⊥
 HasCause NoThread had left reads reads' writes writes' = ⊥
+HasCause BadRange had left reads reads' writes writes' = ⊥
+HasCause (BadInput length) had left reads reads' writes writes' = ⊥
 
 -- How serving ended: done, and no call of a stream failed, or with a fault that has its cause.
 abbrev pub Ended : {T : Type 0} → Result T Fault → Option (List ℕ) → Option (List ℕ) → ℕ → ℕ → ℕ → ℕ

@@ -11,6 +11,7 @@ use Rattle.norbd_line.specs.declared.fault.Fault.TheVariants.{BadSfdp, Protected
 use Rattle.norbd_line.specs.declared.fault.Fault.TheVariants.{NotFormatted, Corrupt, NotClean}
 use Rattle.norbd_line.specs.declared.fault.Fault.TheVariants.{BadImageSize}
 use Rattle.norbd_line.specs.declared.fault.Fault.TheVariants.{NoSocket, NoThread, BadSync, NotText}
+use Rattle.norbd_line.specs.declared.fault.Fault.TheVariants.{BadTidy, BadRange, BadInput}
 use Rattle.norbd_line.specs.declared.fault.Fault.TheVariants.{InUse, Formatted, BadAddress}
 use Rattle.share.specs.Places.{setting}
 use Rattle.share.specs.Plain.{AnswersAll, AnswersSome}
@@ -37,6 +38,7 @@ PlainServes keeps sectors input old new (Err OutputFailed) = (contents : List �
     contents input old new
 PlainServes keeps sectors input old new (Err BadSize) = ⊥
 PlainServes keeps sectors input old new (Err BadSync) = ⊥
+PlainServes keeps sectors input old new (Err BadTidy) = ⊥
 PlainServes keeps sectors input old new (Err BadAddress) = ⊥
 PlainServes keeps sectors input old new (Err NotText) = ⊥
 PlainServes keeps sectors input old new (Err (ImageFailed cause)) = ⊥
@@ -53,3 +55,5 @@ PlainServes keeps sectors input old new (Err NotClean) = ⊥
 PlainServes keeps sectors input old new (Err (BadImageSize length)) = ⊥
 PlainServes keeps sectors input old new (Err (NoSocket cause)) = ⊥
 PlainServes keeps sectors input old new (Err NoThread) = ⊥
+PlainServes keeps sectors input old new (Err BadRange) = ⊥
+PlainServes keeps sectors input old new (Err (BadInput length)) = ⊥

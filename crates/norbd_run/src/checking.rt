@@ -1,51 +1,82 @@
-//! `check`: whether the image in a file would be served, and the mending of one that isn't clean.
-ghost use Rattle.std.specs.Prelude.{◌≡◌, IfErr, IfOk, length, string_bytes, true};
+//! `check`: whether the image in a file would be served, and if not, why; and the mending of one
+//! that isn't clean.
+ghost use Rattle.std.specs.Prelude.{◌≡◌, IfErr, IfOk, length, string_bytes, true, false};
 ghost use Rattle.chip_model.specs.Geometry.{IsChipSize};
-ghost use Rattle.norbd_run.specs.Checking.{CheckTells, checked_text};
+ghost use Rattle.sector_map.specs.Maps.{IsMountable};
+ghost use Rattle.survey.specs.Reports.{IsReportOf};
+ghost use Rattle.norbd_run.specs.Checking.{CheckTells, last_text};
 ghost use Rattle.norbd_run.specs.Listening.{IsRefusal};
 
 use crate::copying::{bytes_of, copied_disk};
 use crate::formatting::told_as;
+use crate::moving::send_bytes;
 use crate::serving::{tell, told_of_mount};
 use block_device::{Disk, Sink};
 use norbd_image::{Held, ImageFile, hold, mended_image, rewrite_image};
-use norbd_line::Fault;
+use norbd_line::{Cause, Fault};
 use std::alloc::{AllocError, Global};
 use std::rt::Files;
+use survey::{Report, Unexamined, Verdict, survey_image};
+use survey_text::{Json, Page, Reason, first_dirty};
 
 /// An image that would be served: its sectors, and whether it was mended for that.
 #[derive(Clone, Copy)]
-struct Checked {
-    sectors: u32,
-    mended: bool,
+pub(crate) struct Checked {
+    pub(crate) sectors: u32,
+    pub(crate) mended: bool,
 }
 
-/// Says on `writer` whether the image in the file at a path would be served: a line with its
-/// sectors. The file stays as it is, but that with `mend` an image that isn't clean is replaced as
-/// a whole by a clean one of the same sectors.
+/// What was found of an image: the report as a text, and its end.
+#[derive(Drop)]
+struct Looked {
+    text: String,
+    end: Result<Checked, Fault>,
+}
+
+/// Says on `writer` whether the image in the file at a path would be served: a report, in JSON
+/// where `json` is set, and where it would be a line with its sectors. The file stays as it is, but
+/// that with `mend` an image that isn't clean is replaced as a whole by a clean one of the same
+/// sectors.
 ///
 /// `InUse` where another process has the image, `ImageFailed` where it can't be opened, read or
-/// replaced, `BadImageSize`, the refusals of a mount, `NotClean` where `mend` isn't set, `NoMemory`
-/// where there is none for two chips and a disk. `OutputFailed` where the line could not be
-/// written.
-pub fn run_check<R, K>(rt: &R, path: &str, mend: bool, writer: &mut K) -> Result<(), Fault>
+/// replaced, `BadImageSize`; `NotFormatted` and `Corrupt` where a mount answers so; `NotClean`
+/// where `mend` isn't set; `NoMemory` where there is none for three chips and a disk.
+/// `OutputFailed` where the report or the line could not be written.
+pub fn run_check<R, K>(
+    rt: &R,
+    path: &str,
+    mend: bool,
+    json: bool,
+    writer: &mut K,
+) -> Result<(), Fault>
 where
     R: Files + AllocGlobal,
     R::File: ImageFile,
     K: Sink,
-    ensures { CheckTells mend (K.written writer.old) (K.faults writer.old) result
+    ensures { CheckTells mend json (K.written writer.old) (K.faults writer.old) result
         (K.written writer.new) (K.faults writer.new) }
 {
-    let checked = check_file(rt, path, mend)?;
-    let text = text_about(rt.alloc(), checked);
-    tell(writer, text)
+    let Looked { text, end } = check_file(rt, path, mend, json)?;
+    if let Err(fault) = send_bytes(writer, text.as_bytes()) {
+        return Err(fault);
+    }
+    match end {
+        Ok(checked) => {
+            let line = text_about(rt.alloc(), checked, json);
+            tell(writer, line)
+        }
+        Err(fault) => Err(fault),
+    }
 }
 
-/// The line about an image.
-fn text_about(alloc: Global, checked: Checked) -> Result<String, AllocError>
+/// The line about an image; none for programs.
+pub(crate) fn text_about(alloc: Global, checked: Checked, json: bool) -> Result<String, AllocError>
     ensures { IfOk result (λ text.
-        string_bytes text ≡ checked_text checked.mended checked.sectors) }
+        string_bytes text ≡ last_text json checked.mended checked.sectors) }
 {
+    if json {
+        return Ok(String::new(alloc));
+    }
     let sectors = checked.sectors;
     if checked.mended {
         format!(in alloc; "mended {sectors} sectors\n")
@@ -55,27 +86,79 @@ fn text_about(alloc: Global, checked: Checked) -> Result<String, AllocError>
 }
 
 /// Checks the image in a file, which no other process has meanwhile.
-fn check_file<R>(rt: &R, path: &str, mend: bool) -> Result<Checked, Fault>
+fn check_file<R>(rt: &R, path: &str, mend: bool, json: bool) -> Result<Looked, Fault>
 where
     R: Files + AllocGlobal,
     R::File: ImageFile,
-    ensures mends { IfOk result (λ checked. checked.mended ≡ true → mend ≡ true) }
+    ensures mends { IfOk result (λ looked. IfOk looked.end (λ checked. checked.mended ≡ true
+        → mend ≡ true)) }
+    ensures end { IfOk result (λ looked. IfErr looked.end IsRefusal) }
     ensures refused { IfErr result IsRefusal }
 {
     let held = match hold(rt, path) {
         Ok(held) => held,
         Err(error) => return Err(told_as(error)),
     };
-    match sectors_of(rt.alloc(), bytes_of(rt, &held)?) {
-        Ok(sectors) => Ok(Checked {
-            sectors,
-            mended: false,
+    let bytes = bytes_of(rt, &held)?;
+    let report = match report_about(rt.alloc(), bytes.as_slice()) {
+        Ok(report) => report,
+        Err(error) => return Err(told_of_unexamined(error)),
+    };
+    let end = end_of(rt.alloc(), &report, bytes.as_slice());
+    let text = report_text(rt.alloc(), &report, bytes.as_slice(), &end, json)?;
+    match end {
+        Err(Fault::NotClean) if mend => Ok(Looked {
+            text,
+            end: Ok(Checked {
+                sectors: mend_file(rt, path, &held)?,
+                mended: true,
+            }),
         }),
-        Err(Fault::NotClean) if mend => Ok(Checked {
-            sectors: mend_file(rt, path, &held)?,
-            mended: true,
-        }),
-        Err(fault) => Err(fault),
+        end => Ok(Looked { text, end }),
+    }
+}
+
+/// What the bytes of an image say: its verdict is a mount's.
+pub(crate) fn report_about(alloc: Global, image: &[u8]) -> Result<Report, Unexamined>
+    requires { IsChipSize (length image.now) }
+    ensures { IfOk result (λ report. IsReportOf report image.now) }
+{
+    survey_image(alloc, image)
+}
+
+/// What want of a report is for the program.
+pub(crate) fn told_of_unexamined(error: Unexamined) -> Fault
+    ensures { IsRefusal result }
+{
+    match error {
+        Unexamined::OutOfMemory => Fault::NoMemory,
+        Unexamined::Cut => Fault::ImageFailed(Cause::Write),
+        Unexamined::Slow => Fault::Slow,
+        Unexamined::Probe(_) => Fault::WrongId,
+    }
+}
+
+/// How a check of an image ends of which this was reported: a mount's refusal by the report, or
+/// what its cleanness says.
+fn end_of(alloc: Global, report: &Report, image: &[u8]) -> Result<Checked, Fault>
+    requires size { IsChipSize (length image.now) }
+    requires report { IsReportOf report.now image.now }
+    ensures healthy { IfOk result (λ _. IsMountable image.now) }
+    ensures unmended { IfOk result (λ checked. checked.mended ≡ false) }
+    ensures refused { IfErr result IsRefusal }
+{
+    match report.verdict {
+        Verdict::NotFormatted => Err(Fault::NotFormatted),
+        Verdict::Corrupt(_) => Err(Fault::Corrupt),
+        Verdict::Mountable(_) => {
+            let Ok(copy) = image.to_vec(alloc) else {
+                return Err(Fault::NoMemory);
+            };
+            Ok(Checked {
+                sectors: sectors_of(alloc, copy)?,
+                mended: false,
+            })
+        }
     }
 }
 
@@ -86,6 +169,81 @@ fn sectors_of(alloc: Global, image: Vec<u8>) -> Result<u32, Fault>
 {
     let disk = copied_disk(alloc, image)?;
     Ok(disk.sectors())
+}
+
+/// The report on an image as a text.
+fn report_text(
+    alloc: Global,
+    report: &Report,
+    image: &[u8],
+    end: &Result<Checked, Fault>,
+    json: bool,
+) -> Result<String, Fault>
+    ensures { IfErr result IsRefusal }
+{
+    let dirty = match end {
+        Err(Fault::NotClean) => place_of_dirt(report, image),
+        _ => None,
+    };
+    let text = if json {
+        let json = Json {
+            report,
+            image,
+            clean: end.is_ok(),
+            dirty,
+        };
+        format!(in alloc; "{json}")
+    } else {
+        plain_text(alloc, report, image, dirty)
+    };
+    match text {
+        Ok(text) => Ok(text),
+        Err(_) => Err(Fault::NoMemory),
+    }
+}
+
+/// The first place at which what reads as free isn't erased.
+fn place_of_dirt(report: &Report, image: &[u8]) -> Option<u32> {
+    match &report.blocks {
+        Some(blocks) => first_dirty(image, blocks.as_slice()),
+        None => None,
+    }
+}
+
+/// The report for a person.
+fn plain_text(
+    alloc: Global,
+    report: &Report,
+    image: &[u8],
+    dirty: Option<u32>,
+) -> Result<String, AllocError> {
+    match report.verdict {
+        Verdict::NotFormatted => String::from_str(
+            alloc,
+            "not formatted: no name NORBLK01 at 0h with the seal 00 at Eh\n",
+        ),
+        Verdict::Corrupt(finding) => {
+            let reason = Reason { finding, image };
+            format!(in alloc; "corrupt: {reason}\n")
+        }
+        Verdict::Mountable(layout) => {
+            let Some(blocks) = &report.blocks else {
+                return Ok(String::new(alloc));
+            };
+            let page = Page {
+                layout,
+                bytes: image.len(),
+                counts: &report.counts,
+                blocks: blocks.as_slice(),
+            };
+            match dirty {
+                Some(at) => format!(in alloc;
+                    "{page}not clean: {at:X}h reads as free and isn't FF\n"
+                ),
+                None => format!(in alloc; "{page}"),
+            }
+        }
+    }
 }
 
 /// Mends the image in a file that is held, and tells its sectors.

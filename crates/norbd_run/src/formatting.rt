@@ -46,7 +46,7 @@ where
 }
 
 /// The line about a formatted chip of so many KiB.
-fn text_about(alloc: Global, kib: u32) -> Result<String, AllocError>
+pub(crate) fn text_about(alloc: Global, kib: u32) -> Result<String, AllocError>
     requires { IsChipSize (1024 * kib) }
     ensures { IfOk result (λ text. string_bytes text ≡ text_about kib) }
 {

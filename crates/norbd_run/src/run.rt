@@ -2,21 +2,31 @@
 ghost use Rattle.std.specs.Prelude.{◌≡◌, ◌≢◌, ℕ, List, Some, false};
 ghost use Rattle.std.specs.Prelude.{IfSome, IsErr, IsFalse, None, option_map, unwrap_or, ◌*◌};
 ghost use Rattle.norbd_run.specs.Checking.{CheckTells};
+ghost use Rattle.norbd_run.specs.Moving.{ReadTells, WriteTells};
+ghost use Rattle.norbd_run.specs.Showing.{ShowTells};
 ghost use Rattle.norbd_run.specs.Outcomes.{Ended, Means};
 ghost use Rattle.norbd_run.specs.Formatting.{FormatTells};
 ghost use Rattle.norbd_run.specs.Scripting.{Scripts};
 ghost use Rattle.norbd_run.specs.Listening.{TellsServing};
 ghost use Rattle.norbd_run.specs.Serving.{PlainServes, zero_sectors};
 ghost use Rattle.norbd_line.specs.Line.{IfCheck, IfFormat, IfPlain, IfScript, IfServe};
+ghost use Rattle.norbd_line.specs.Line.{IfRead, IfShow, IfWrite};
 ghost use Rattle.norbd_line.specs.Line.{IsMaxRequest, IsServeInRange, IsSize};
+ghost use Rattle.norbd_line.specs.Line.{IfChip, IsChipInRange};
+ghost use Rattle.norbd_run.specs.Chips.{ChipTells};
 ghost use Rattle.nbd_wire.specs.Commands.{default_export};
 
+use crate::answering::run_chip;
 use crate::checking::run_check;
+use crate::chips::{run_check_chip, run_format_chip, run_serve_chip};
 use crate::formatting::run_format;
+use crate::moving::{run_read, run_write};
 use crate::scripting::run_script;
 use crate::serving::{Asked, run_serve};
+use crate::showing::run_show;
 use block_device::{PlainDisk, Sink, Source};
 use nbd_wire::{Export, MAX_LEN};
+use norbd_chip::programmer_of;
 use norbd_image::ImageFile;
 use norbd_line::{Fault, Line};
 use norbd_serve::{Log, OpenGate};
@@ -55,12 +65,20 @@ const MOST_CONNS: u32 = 64;
 /// `serve`: serves the chip in the file at the path to clients at a place, with lines about it to
 /// `writer`; its faults are those of `run_serve`. Nothing is read.
 ///
+/// `chip`: answers the serprog protocol for the chip in the file at the path, with a line about it
+/// to `writer`; its faults are those of `run_chip`. Nothing is read.
+///
 /// `check`: says on `writer` whether the image in the file at the path would be served, and mends
-/// it where that is asked; its faults are those of `run_check`. Nothing is read. Source: own.
+/// it where that is asked; its faults are those of `run_check`. Nothing is read.
+///
+/// `show` draws the blocks of the image in the file at the path, with `colours` in those of a
+/// terminal, `read` writes its sectors, and `write` replaces them by the bytes of `reader`; their
+/// faults are those of `run_show`, `run_read` and `run_write`. Source: own.
 #[tactic(auto, using(crate::proofs::Sizes::size_of_chip, crate::proofs::Sizes::conns_or_most))]
 pub fn run_line<R, S, K>(
     rt: &R,
     line: Line<'_>,
+    colours: bool,
     reader: &mut S,
     writer: &mut K,
 ) -> Result<(), Fault>
@@ -74,11 +92,17 @@ where
         + Log
         + Net<Listener = TcpListener, Stream = TcpStream>,
     R::File: ImageFile + Send + Sync,
+    R: 'static,
     S: Source,
     K: Sink,
     requires size { IfFormat line (λ _ kib. IsSize kib) }
     requires script_size { IfScript line (λ kib. IsSize kib) }
     requires serve_numbers { IfServe line (λ s. IsServeInRange s) }
+    requires chip_numbers { IfChip line (λ s. IsChipInRange s) }
+    ensures chip_unread { IfChip line.entry (λ _. reader.new ≡ reader.old) }
+    ensures tells_chip { IfChip line.entry
+        (λ s. ChipTells s.port (K.written writer.old) (K.faults writer.old) result
+        (K.written writer.new) (K.faults writer.new)) }
     ensures ends { IfPlain line.entry
         (λ _ _. Ended result (S.remaining reader.old) (S.remaining reader.new) (S.faults reader.old)
         (S.faults reader.new) (K.faults writer.old) (K.faults writer.new)) }
@@ -87,10 +111,18 @@ where
         → PlainServes keeps sectors input (K.written writer.old) (K.written writer.new) result) }
     ensures unread { IfFormat line.entry (λ _ _. reader.new ≡ reader.old) }
     ensures serve_unread { IfServe line.entry (λ _. reader.new ≡ reader.old) }
-    ensures check_unread { IfCheck line.entry (λ _. reader.new ≡ reader.old) }
+    ensures check_unread { IfCheck line.entry (λ _ _. reader.new ≡ reader.old) }
+    ensures show_unread { IfShow line.entry (reader.new ≡ reader.old) }
+    ensures read_unread { IfRead line.entry (reader.new ≡ reader.old) }
     ensures tells_check { IfCheck line.entry
-        (λ mends. CheckTells mends (K.written writer.old) (K.faults writer.old) result
+        (λ mends json. CheckTells mends json (K.written writer.old) (K.faults writer.old) result
         (K.written writer.new) (K.faults writer.new)) }
+    ensures tells_show { IfShow line.entry (ShowTells (K.written writer.old) (K.faults writer.old)
+        result (K.written writer.new) (K.faults writer.new)) }
+    ensures tells_read { IfRead line.entry (ReadTells (K.written writer.old) (K.faults writer.old)
+        result (K.written writer.new) (K.faults writer.new)) }
+    ensures tells_write { IfWrite line.entry (WriteTells (K.written writer.old)
+        (K.faults writer.old) result (K.written writer.new) (K.faults writer.new)) }
     ensures tells_serving { IfServe line.entry
         (λ s. TellsServing s.place (unwrap_or s.conns 64) s.record (K.written writer.old)
         (K.faults writer.old) result (K.written writer.new) (K.faults writer.new)) }
@@ -125,7 +157,16 @@ where
                 writer,
             )
         }
-        Line::Format { image, kib, force } => run_format(rt, image, kib, force, writer),
+        Line::Chip(asked) => run_chip(rt, asked, writer),
+        Line::Format {
+            image,
+            kib,
+            force,
+            sure,
+        } => match programmer_of(image) {
+            Some(place) => run_format_chip(rt, place, kib, sure, writer),
+            None => run_format(rt, image, kib, force, writer),
+        },
         Line::Script { kib } => run_script(rt.alloc(), kib, reader, writer),
         Line::Serve(line) => {
             let asked = Asked {
@@ -134,13 +175,23 @@ where
                 ends: line.conns.is_some(),
                 record: line.record,
                 sync: line.sync,
+                tidy: line.tidy,
                 max_len: bytes_at_most(line.max_request),
                 read_only: line.read_only,
                 verbose: line.verbose,
             };
-            run_serve(rt, line.image, asked, writer)
+            match programmer_of(line.image) {
+                Some(place) => run_serve_chip(rt, place, line.trust, asked, writer),
+                None => run_serve(rt, line.image, asked, writer),
+            }
         }
-        Line::Check { image, mend } => run_check(rt, image, mend, writer),
+        Line::Check { image, mend, json } => match programmer_of(image) {
+            Some(place) => run_check_chip(rt, place, mend, json, writer),
+            None => run_check(rt, image, mend, json, writer),
+        },
+        Line::Show { image } => run_show(rt, image, colours, writer),
+        Line::Read { image, sectors } => run_read(rt, image, sectors, writer),
+        Line::Write { image, sectors } => run_write(rt, image, sectors, reader, writer),
     }
 }
 

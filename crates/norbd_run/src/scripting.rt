@@ -8,6 +8,7 @@ use flash_disk::MountError;
 use nor_driver::ProbeError;
 use norbd_line::{Cause, Fault};
 use norbd_script::{RunFault, run_simulated};
+use sector_stock::Policy;
 use station::ScriptError;
 use std::alloc::Global;
 
@@ -40,7 +41,7 @@ pub fn run_script<S: Source, K: Sink>(
           writes = K.faults writer.new;
         }) }
 {
-    match run_simulated(alloc, kib, reader, writer) {
+    match run_simulated(alloc, kib, Policy::Lowest, reader, writer) {
         Ok(()) => Ok(()),
         Err(fault) => Err(told_of(fault)),
     }

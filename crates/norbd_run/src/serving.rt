@@ -23,7 +23,7 @@ use flash_disk::{FlashDisk, MountError};
 use history::{Hands, Opened};
 use nbd_wire::Export;
 use norbd_image::{Barrier, Held, ImageFile, Ordered, WriteOrder, hold};
-use norbd_line::{Cause, Fault, Place, SyncPolicy};
+use norbd_line::{Cause, Fault, Place, SyncPolicy, TidyPolicy};
 use norbd_serve::{Connections, Listener, Log, OpenGate, ServeFault, Sleeper, serve};
 use share::{
     Chronicle, FullRecord, NoRecord, OneServer, RecordError, Recorder, Row, Server, Shared,
@@ -50,9 +50,9 @@ const NEGOTIATION_SECONDS: u64 = 10;
 
 /// What a line `serve` asks besides its image: where it listens; how many connections, from 1 to
 /// 64, and whether serving ends once so many were served in all: else so many are served at once,
-/// without end; whether a row of each command is kept; when the file is synced; the largest length
-/// of a READ or WRITE in bytes, and whether the disk can't be changed; and whether it is told what
-/// becomes of connections and of refused requests.
+/// without end; whether a row of each command is kept; when the file is synced, and when the disk
+/// is tidied; the largest length of a READ or WRITE in bytes, and whether the disk can't be
+/// changed; and whether it is told what becomes of connections and of refused requests.
 #[derive(Clone, Copy)]
 pub struct Asked<'a> {
     pub place: Place<'a>,
@@ -60,6 +60,7 @@ pub struct Asked<'a> {
     pub ends: bool,
     pub record: bool,
     pub sync: SyncPolicy,
+    pub tidy: TidyPolicy,
     pub max_len: u32,
     pub read_only: bool,
     pub verbose: bool,
@@ -145,7 +146,7 @@ where
     let Ok(barrier) = Barrier::new(rt.alloc(), order, length) else {
         return Err(Fault::NoMemory);
     };
-    let disk = open_disk(rt, &held, &barrier)?;
+    let disk = open_disk(rt, &held, &barrier, asked.tidy)?;
     let durable = match held.handle(&barrier) {
         Ok(file) => Durable::new(file, policy_of(asked.sync)),
         Err(error) => return Err(Fault::ImageFailed(Cause::System(error.kind()))),
@@ -225,7 +226,7 @@ fn policy_of(sync: SyncPolicy) -> Policy
 }
 
 /// Serves a sound disk.
-fn serve_opened<R, D, F, K>(
+pub(crate) fn serve_opened<R, D, F, K>(
     rt: &R,
     listener: Listener,
     disk: D,
@@ -291,6 +292,7 @@ fn open_disk<'b, R>(
     rt: &R,
     held: &Held<R::File>,
     barrier: &'b Barrier,
+    tidy: TidyPolicy,
 ) -> Result<FlashDisk<ImageBus<Ordered<'b, R::File>>, Brand>, Fault>
 where
     R: Files + AllocGlobal,
@@ -305,7 +307,26 @@ where
         Ok(bus) => bus,
         Err(error) => return Err(told_of_file(held.length().unwrap_or(0), error)),
     };
-    look_at(rt.alloc(), bus)
+    let mut disk = look_at(rt.alloc(), bus)?;
+    spare(&mut disk, tidy);
+    Ok(disk)
+}
+
+/// From now on blocks are chosen so that all wear alike, and tidied as is asked. The disk is sound
+/// and ready as it was, with the same contents.
+pub(crate) fn spare<B: SpiBus>(disk: &mut FlashDisk<B, Brand>, tidy: TidyPolicy)
+    ensures sound { (⟦<FlashDisk<B, Brand> as Disk>⟧.facts disk.new).sound
+        ≡ (⟦<FlashDisk<B, Brand> as Disk>⟧.facts disk.old).sound }
+    ensures contents { (⟦<FlashDisk<B, Brand> as Disk>⟧.facts disk.new).contents
+        ≡ (⟦<FlashDisk<B, Brand> as Disk>⟧.facts disk.old).contents }
+    ensures ready { IsDiskReady (⟦<FlashDisk<B, Brand> as Disk>⟧.facts disk.old)
+        → IsDiskReady (⟦<FlashDisk<B, Brand> as Disk>⟧.facts disk.new) }
+{
+    disk.level_wear();
+    match tidy {
+        TidyPolicy::Lazily => disk.tidy_lazily(),
+        TidyPolicy::Eagerly => {}
+    }
 }
 
 /// The disk on the chip behind a bus, on which nothing is in progress. Its data blocks are read

@@ -15,7 +15,6 @@ use Rattle.station.specs.Transcript.{Transcript}
 use Rattle.norbd_script.specs.declared.error.RunFault.{RunFault}
 use Rattle.norbd_script.specs.declared.error.RunFault.TheVariants.{Format, Mount, NotClean, OutOfMemory, Script}
 use Rattle.sector_slots.specs.Slots.{IsClean}
-use Rattle.sector_stock.specs.Takes.{work_of}
 use Rattle.sector_map.proofs.Marking.{laid-formatted}
 use Rattle.sector_map.specs.Maps.{IsMountable}
 use Rattle.chip_model.specs.Chip.{Chip, is_idle}
@@ -24,7 +23,7 @@ use Rattle.nor_driver.specs.State.{NorState}
 use Rattle.nor_driver.specs.Probe.{IsAcceptedChip, Readings, probe_answer, told}
 use Rattle.nor_driver.specs.declared.error.ProbeError.{ProbeError}
 use Rattle.nor_driver.specs.declared.error.ProbeError.TheVariants as probes
-use Rattle.flash_disk.specs.Contents.{contents_of}
+use Rattle.flash_disk.specs.Contents.{contents_of, wanted_work}
 use Rattle.flash_disk.specs.Formatted.{AnswersAsTold}
 use Rattle.flash_disk.specs.Mounting.{RefusedAt, RefusedAs}
 use Rattle.flash_disk.specs.declared.error.MountError.{MountError}
@@ -32,20 +31,20 @@ use Rattle.flash_disk.specs.declared.error.MountError.TheVariants as mounts
 use Rattle.flash_disk.proofs.Sectors.{length-contents}
 use Rattle.nbd_wire.specs.declared.export.Export.{Export}
 use Rattle.nbd_wire.specs.Commands.{default_export}
-use Rattle.norbd_script.specs.Answered.{Seen, AnswersEvents, BreaksEvents, AnswersLines, AnswersScript, FormatsAsTold, IsOfFormatted, IsPastFormat, mounted}
+use Rattle.norbd_script.specs.Answered.{Seen, AnswersEvents, BreaksEvents, AnswersLines, AnswersScript, FormatLeft, FormatsAsTold, IsOfFormatted, IsPastFormat, mounted}
 use Rattle.norbd_script.specs.Lives.{Answers, OnBus, Stay, as_seen}
 use Rattle.norbd_script.specs.Running.{IsLeftWell, IsPastMount, RunsOn, seen_of}
 
 -- the facts of a disk, by its fields
-abbrev pub disk_facts : Bool → Bool → Bool → NorState → Bool → Facts
-disk_facts known checked doubtful map cut = record {
+abbrev pub disk_facts : Bool → Bool → Bool → Bool → NorState → Bool → Facts
+disk_facts known checked doubtful lazy map cut = record {
   sound = (known || checked) && not doubtful;
   contents = contents_of map.memory;
   cuts = map.cuts;
   slows = map.slows;
   cut = cut;
   slow = map.is_slow;
-  work = work_of map.memory;
+  work = wanted_work lazy map.memory;
 }
 
 -- a chip that was handed back by a disk with these facts, which was mounted at so many slow
@@ -217,3 +216,11 @@ formats_past (Err (Mount e)) t past ok = ok
 formats_past (Err NotClean) t past ok = ok
 formats_past (Err OutOfMemory) t past ok = ok
 formats_past (Err (Script e)) t past ok = ok
+
+pub left_past : (r : Result (Unit {0}) RunFault) (m m' : List ℕ) → IsPastFormat r → FormatLeft r m m'
+left_past (Ok v) m m' past = tt
+left_past (Err (Format e)) m m' past = absurd past
+left_past (Err (Mount e)) m m' past = tt
+left_past (Err NotClean) m m' past = tt
+left_past (Err OutOfMemory) m m' past = tt
+left_past (Err (Script e)) m m' past = tt

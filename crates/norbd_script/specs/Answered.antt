@@ -4,7 +4,7 @@ use Rattle.std.specs.Prelude.{Ok, Err}
 use Rattle.std.specs.Io.KnownBytes.{Appends, Consumes, IsAtEnd}
 use Rattle.nor_driver.specs.Probe.{Readings}
 use Rattle.nor_driver.specs.declared.error.ProbeError.TheVariants as probes
-use Rattle.flash_disk.specs.Formatted.{AnswersAsTold, FormatFails}
+use Rattle.flash_disk.specs.Formatted.{AnswersAsTold, FormatFails, FormatLeaves}
 use Rattle.flash_disk.specs.Mounting.{RefusedFor}
 use Rattle.flash_disk.specs.declared.error.MountError.{MountError}
 use Rattle.flash_disk.specs.declared.error.MountError.TheVariants as refusals
@@ -127,6 +127,15 @@ FormatsAsTold (Err (Mount e)) t = AnswersAsTold (Ok tt) t
 FormatsAsTold (Err NotClean) t = AnswersAsTold (Ok tt) t
 FormatsAsTold (Err OutOfMemory) t = AnswersAsTold (Ok tt) t
 FormatsAsTold (Err (Script e)) t = AnswersAsTold (Ok tt) t
+
+-- A format that was refused for what the chip told left its memory as it was.
+abbrev pub FormatLeft : Result (Unit {0}) RunFault → List ℕ → List ℕ → Type 0
+FormatLeft (Ok _) m m' = Unit {0}
+FormatLeft (Err (Format e)) m m' = FormatLeaves e m m'
+FormatLeft (Err (Mount e)) m m' = Unit {0}
+FormatLeft (Err NotClean) m m' = Unit {0}
+FormatLeft (Err OutOfMemory) m m' = Unit {0}
+FormatLeft (Err (Script e)) m m' = Unit {0}
 
 -- the part of an answer that a script alone gives: a refusal before it counts as none
 abbrev pub script_part : Result (Unit {0}) RunFault → Result (Unit {0}) ScriptError

@@ -2,13 +2,14 @@
 
 ghost use Rattle.std.specs.Prelude.{◌≡◌, ◌*◌, ◌≤◌, ℕ, true, false, length};
 ghost use Rattle.block_device.specs.Facts.{IsDiskReady};
+ghost use Rattle.chip_model.specs.Chip.{is_idle};
 ghost use Rattle.chip_model.specs.Geometry.{sector_count};
 ghost use Rattle.flash_disk.specs.Contents.{contents_of};
 ghost use Rattle.flash_disk.specs.Formatted.{Formatted};
 ghost use Rattle.nor_driver.specs.Probe.{told};
 ghost use Rattle.sector_slots.specs.Slots.{IsClean};
-ghost use Rattle.norbd_script.specs.Answered.{AnswersScript, FormatsAsTold, IsPastFormat};
-ghost use Rattle.norbd_script.specs.Answered.{script_part};
+ghost use Rattle.norbd_script.specs.Answered.{AnswersScript, FormatLeft, FormatsAsTold};
+ghost use Rattle.norbd_script.specs.Answered.{IsPastFormat, script_part};
 ghost use Rattle.norbd_script.specs.Lives.{IsHealthyChip, RunsMounted};
 ghost use Rattle.norbd_script.specs.Running.{IsPastMount, RunsOn};
 ghost use Rattle.station.specs.Script.{FailsToReadAll, FailsToWrite};
@@ -18,6 +19,7 @@ use block_device::{Disk, DiskError, Sink, Source};
 use chip_model::SpiBus;
 use flash_disk::{FlashDisk, MountError, Provenance, format};
 use nor_driver::ProbeError;
+use sector_stock::Policy;
 use station::Station;
 use std::alloc::Global;
 use std::marker::Brand;
@@ -27,10 +29,12 @@ use std::marker::Brand;
 /// script.
 ///
 /// Power may be lost inside any frame, also inside those of the format and of the mount, which are
-/// then refused. The records are those of `Station::run_script`.
+/// then refused. The records are those of `Station::run_script`. What is said is the same for each
+/// policy.
 pub fn run_formatted<B: SpiBus, S: Source, W: Sink>(
     alloc: Global,
     bus: B,
+    policy: Policy,
     reader: &mut S,
     writer: &mut W,
 ) -> (B, Result<(), RunFault>)
@@ -60,6 +64,9 @@ pub fn run_formatted<B: SpiBus, S: Source, W: Sink>(
     // it refuses the format exactly as the chip's id, table and registers say, but for what
     // interrupts it
     ensures told { FormatsAsTold result.1 (told (B.chip bus)) }
+    // and one so refused leaves the memory of an idle chip as it was
+    ensures left { is_idle (B.chip bus).operation ≡ true
+        → FormatLeft result.1 (B.chip bus).memory (B.chip result.0).memory }
     // past the format it leaves a healthy and clean chip, with which a life can begin, where no
     // operation was slow
     ensures healthy { IsPastFormat result.1 → B.slows result.0 ≡ B.slows bus
@@ -69,7 +76,7 @@ pub fn run_formatted<B: SpiBus, S: Source, W: Sink>(
 {
     let (bus, answer) = format(bus);
     match answer {
-        Ok(()) => run_new::<B, Brand, S, W>(alloc, bus, reader, writer),
+        Ok(()) => run_new::<B, Brand, S, W>(alloc, bus, policy, reader, writer),
         Err(error) => (bus, Err(RunFault::Format(error))),
     }
 }
@@ -87,6 +94,7 @@ pub fn run_formatted<B: SpiBus, S: Source, W: Sink>(
 pub fn run_mounted<B: SpiBus, S: Source, W: Sink>(
     alloc: Global,
     bus: B,
+    policy: Policy,
     reader: &mut S,
     writer: &mut W,
 ) -> (B, Result<(), RunFault>)
@@ -111,13 +119,14 @@ pub fn run_mounted<B: SpiBus, S: Source, W: Sink>(
     ensures writes { FailsToWrite (W.faults writer.old) (script_part result.1)
         (W.faults writer.new) }
 {
-    run_checked::<B, Brand, S, W>(alloc, bus, reader, writer)
+    run_checked::<B, Brand, S, W>(alloc, bus, policy, reader, writer)
 }
 
 /// The same, where `P` has the count of slow operations.
 fn run_checked<B: SpiBus, P: Provenance, S: Source, W: Sink>(
     alloc: Global,
     bus: B,
+    policy: Policy,
     reader: &mut S,
     writer: &mut W,
 ) -> (B, Result<(), RunFault>)
@@ -146,7 +155,7 @@ fn run_checked<B: SpiBus, P: Provenance, S: Source, W: Sink>(
         Ok(disk) => {
             let mut disk = disk;
             match disk.check() {
-                Ok(true) => run_on(alloc, disk, reader, writer),
+                Ok(true) => run_on(alloc, disk, policy, reader, writer),
                 Ok(false) => (disk.into_inner(), Err(RunFault::NotClean)),
                 Err(DiskError::Cut) => (
                     disk.into_inner(),
@@ -166,6 +175,7 @@ fn run_checked<B: SpiBus, P: Provenance, S: Source, W: Sink>(
 fn run_new<B: SpiBus, P: Provenance, S: Source, W: Sink>(
     alloc: Global,
     bus: B,
+    policy: Policy,
     reader: &mut S,
     writer: &mut W,
 ) -> (B, Result<(), RunFault>)
@@ -198,13 +208,58 @@ fn run_new<B: SpiBus, P: Provenance, S: Source, W: Sink>(
     ensures clean { B.slows result.0 ≡ B.slows bus → IsClean (B.chip result.0).memory }
 {
     match FlashDisk::<B, P>::mount(alloc, bus) {
-        Ok(disk) => run_on(alloc, disk, reader, writer),
+        Ok(disk) => run_on(alloc, disk, policy, reader, writer),
         Err((bus, error)) => (bus, Err(RunFault::Mount(error))),
     }
 }
 
-/// Runs a script on a sound disk.
+/// A disk whose slots and blocks are chosen so.
+fn with_policy<B: SpiBus, P: Provenance>(disk: FlashDisk<B, P>, policy: Policy) -> FlashDisk<B, P>
+    ensures { ⟦<FlashDisk<B, P> as Disk>⟧.facts result
+        ≡ ⟦<FlashDisk<B, P> as Disk>⟧.facts disk }
+{
+    let mut disk = disk;
+    match policy {
+        Policy::Lowest => {}
+        Policy::Level => disk.level_wear(),
+    }
+    disk
+}
+
+/// Runs a script on a sound disk whose slots and blocks are chosen so.
 fn run_on<B: SpiBus, P: Provenance, S: Source, W: Sink>(
+    alloc: Global,
+    disk: FlashDisk<B, P>,
+    policy: Policy,
+    reader: &mut S,
+    writer: &mut W,
+) -> (B, Result<(), RunFault>)
+    requires sound { (⟦<FlashDisk<B, P> as Disk>⟧.facts disk).sound ≡ true }
+    requires ready { IsDiskReady (⟦<FlashDisk<B, P> as Disk>⟧.facts disk) }
+    ensures says { RunsOn (⟦<FlashDisk<B, P> as Disk>⟧.facts disk) P.slows
+        (record {
+          input = S.remaining reader.old;
+          was = W.written writer.old;
+          answer = result.1;
+          left = S.remaining reader.new;
+          is = W.written writer.new;
+        })
+        (record {
+          chip = B.chip result.0;
+          cuts = B.cuts result.0;
+          slows = B.slows result.0;
+        }) }
+    ensures reads { FailsToReadAll (S.remaining reader.old) (S.faults reader.old)
+        (script_part result.1) (S.faults reader.new) }
+    ensures writes { FailsToWrite (W.faults writer.old) (script_part result.1)
+        (W.faults writer.new) }
+    ensures past { IsPastMount result.1 }
+{
+    run_as_is(alloc, with_policy(disk, policy), reader, writer)
+}
+
+/// Runs a script on a sound disk.
+fn run_as_is<B: SpiBus, P: Provenance, S: Source, W: Sink>(
     alloc: Global,
     disk: FlashDisk<B, P>,
     reader: &mut S,

@@ -10,18 +10,20 @@ use crate::error::RunFault;
 use crate::running::run_formatted;
 use block_device::{Sink, Source};
 use fault_model::PromptChip;
+use sector_stock::Policy;
 use std::alloc::Global;
 
 /// Runs a script on a chip of so many KiB in memory, which is formatted first: its records come
 /// from `reader`, the transcript goes to `writer`.
 ///
-/// Records may arm a loss of power inside a frame of the chip. No operation of the chip is slow, so
-/// that the transcript is that of a plain array of sectors without a premise. `OutOfMemory` where
-/// there is no memory for the chip, the disk's table or the station; nothing is read or written
-/// then.
+/// Slots and blocks are chosen by this policy. Records may arm a loss of power inside a frame of
+/// the chip. No operation of the chip is slow, so that the transcript is that of a plain array of
+/// sectors without a premise. `OutOfMemory` where there is no memory for the chip, the disk's table
+/// or the station; nothing is read or written then.
 pub fn run_simulated<S: Source, W: Sink>(
     alloc: Global,
     kib: u32,
+    policy: Policy,
     reader: &mut S,
     writer: &mut W,
 ) -> Result<(), RunFault>
@@ -40,6 +42,6 @@ pub fn run_simulated<S: Source, W: Sink>(
     let Ok(chip) = PromptChip::new(erased) else {
         unreachable!()
     };
-    let (_chip, answer) = run_formatted(alloc, chip, reader, writer);
+    let (_chip, answer) = run_formatted(alloc, chip, policy, reader, writer);
     answer
 }

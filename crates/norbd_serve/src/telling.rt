@@ -36,12 +36,20 @@ pub struct Notice {
 pub trait Log {
     /// Tells one thing. A failure to do so is passed over.
     fn tell(&self, notice: &Notice);
+
+    /// Tells that so many KiB of a chip were read. A failure to do so is passed over.
+    fn tell_read(&self, _kib: u32) {}
 }
 
 impl Log for HostRuntime {
     /// A line on standard error.
     fn tell(&self, notice: &Notice) {
         let _ = eprintln!(self; "norbd: {notice}");
+    }
+
+    /// A line on standard error.
+    fn tell_read(&self, kib: u32) {
+        let _ = eprintln!(self; "norbd: {kib} KiB of the chip are read");
     }
 }
 

@@ -1,6 +1,6 @@
 -- What the calls of a map leave, from what those of its store leave.
 use Rattle.std.proofs.Common.{◌≡◌, ◌≢◌, ℕ, zero, suc, ◌-◌, ◌<◌, ◌⊎◌, Bool, true, false, List, length, refl, sym, ap, ◌∙◌, subst, arith, inl, inr, eq-eqb}
-use Rattle.std.specs.Prelude.{Option, Some, None, IfSome, Result, Ok, Err, OnOk, IfErr, slice_index_or}
+use Rattle.std.specs.Prelude.{Option, Some, None, IfSome, Result, Ok, Err, OnOk, IfOk, IsFalse, IfErr, slice_index_or}
 use Rattle.std.proofs.lemmas.Bool.{ne_eqb}
 use Rattle.chip_model.specs.Geometry.{sector_count, block_count}
 use Rattle.nor_driver.specs.State.{NorState, IsNorReady, Refuses}
@@ -20,7 +20,7 @@ use Rattle.sector_stock.specs.declared.given.Copied.{Copied}
 use Rattle.sector_stock.specs.Copy.{Stays, SameSectors}
 use Rattle.sector_stock.specs.Room.{HasRoom, HasNoneDead, IsSpareBlock}
 use Rattle.sector_stock.specs.Index.{is_dead, is_live_group}
-use Rattle.sector_stock.specs.Takes.{TidiesStock, copies, converts, Converts, Takes, IsGivable, CopiesInto, was_free, was_copied, HasNoGroups, work_of}
+use Rattle.sector_stock.specs.Takes.{TidiesStock, copies, converts, Converts, Takes, IsGivable, CopiesInto, MovesInto, was_free, was_copied, HasNoGroups, work_of}
 use Rattle.sector_slots.proofs.BlankLaws.{holds-sound, sound-holds}
 use Rattle.sector_map.specs.Marking.{SameDisk}
 use Rattle.sector_map.proofs.Marking.{disk-after}
@@ -73,6 +73,22 @@ leaves-after g x a b c p (inr q) = inr (sets-after g x a b c p q)
 
 pub wrote-after : (g : ℕ) (x : List ℕ) (table between : List Entry) (a b c : NorState) (i j : Bool) → KeptServing between a b i → Wrote g x table b c j → Wrote g x table a c j
 wrote-after g x table between a b c i j p q = record { sets = sets-after g x a.memory b.memory c.memory p.keeps q.sets; served = q.served }
+
+pub kept-after : (table between : List Entry) (a b c : NorState) (i j : Bool) → KeptServing between a b i → KeptServing table b c j → KeptServing table a c j
+kept-after table between a b c i j p q = record { keeps = keeps-after a.memory b.memory c.memory p.keeps q.keeps; served = q.served }
+
+-- a block was moved for its wear, or nothing changed; and then nothing was left to be tidied
+not-moved : (a b : List ℕ) → (b ≡ a) ⊎ (HasNoneDead b → ⊥) → HasNoneDead b → b ≡ a
+not-moved a b (inl e) none = e
+not-moved a b (inr n) none = absurd (n none)
+
+pub both-ok : (result : Result Bool NorError) (a b d : List ℕ) → (b ≡ a) ⊎ (HasNoneDead b → ⊥) → IfOk result (λ more. IsFalse more → HasNoneDead b) → IfOk result (λ more. IsFalse more → d ≡ b) → IfOk result (λ more. IsFalse more → d ≡ a)
+both-ok (Ok more) a b d left empty same = λ f. same f ∙ not-moved a b left (empty f)
+both-ok (Err e) a b d left empty same = tt
+
+pub none-moved-work : (result : Result Bool NorError) (a b : List ℕ) → (b ≡ a) ⊎ (HasNoneDead b → ⊥) → IfOk result (λ more. IsFalse more → HasNoneDead b) → IfOk result (λ more. IsFalse more → work_of b ≡ 0) → IfOk result (λ more. IsFalse more → work_of a ≡ 0)
+none-moved-work (Ok more) a b left empty none = λ f. ap work_of (sym (not-moved a b left (empty f))) ∙ none f
+none-moved-work (Err e) a b left empty none = tt
 
 pub keeps-holds : (m m' : List ℕ) → SameChip m m' → IsHealthy m' → IsSoundMap m' → (HasSlotsAlone m → HasSlotsAlone m') → (IsClean m → HoldsSectors (sector_at m) m') → (IsClean m → IsClean m') → KeepsMap m m'
 keeps-holds m m' chip healthy sound alone holds clean = record {
@@ -146,6 +162,9 @@ none-moved m b e sound single blocks = subst (λ z. Moved m z) (sym e) (record {
 
 pub copies-steps : (c : Copied) (m b : List ℕ) → CopiesInto c.source c.target m b → Steps c m b
 copies-steps c m b h = record { relocates = shifts-relocate c.source c.target m b h.shifts; reserve = h.target; sectors = h.shifts.sectors; clean = h.shifts.clean }
+
+pub moves-steps : (c : Copied) (m b : List ℕ) → MovesInto c.source c.target m b → Steps c m b
+moves-steps c m b h = record { relocates = shifts-relocate c.source c.target m b h.shifts; reserve = h.target; sectors = h.shifts.sectors; clean = h.shifts.clean }
 
 pub converts-steps : (c : Copied) (m b : List ℕ) → Converts c.source c.target m b → AreSettled m → IsSoundMap m → Steps c m b
 converts-steps c m b h blocks sound = record { relocates = converts-relocate c.source c.target m b h blocks sound.slots.whole; reserve = h.target; sectors = h.sectors; clean = h.clean }
@@ -301,6 +320,9 @@ served-steps c a indexed b table s h = steps-moved c a.memory b h s.store.slots 
 
 pub served-tidies : (c : Copied) (a : NorState) (indexed : Bool) (b : List ℕ) (table : List Entry) → IsServing table a indexed → TidiesStock c.source c.target a.memory b → Steps c a.memory b
 served-tidies c a indexed b table s h = tidies-steps c a.memory b h s.blocks s.store.slots
+
+pub served-moves : (c : Copied) (a : NorState) (indexed : Bool) (b : List ℕ) (table : List Entry) → IsServing table a indexed → MovesInto c.source c.target a.memory b → Steps c a.memory b
+served-moves c a indexed b table s h = moves-steps c a.memory b h
 
 pub served-converts : (c : Copied) (a : NorState) (indexed : Bool) (b : List ℕ) (table : List Entry) → IsServing table a indexed → Converts c.source c.target a.memory b → Steps c a.memory b
 served-converts c a indexed b table s h = converts-steps c a.memory b h s.blocks s.store.slots

@@ -13,8 +13,8 @@
 //! after a copy or a write is said of memories in which what reads as free is erased
 //! (`specs/Maps.antt`). An error is latched until a `restore`.
 //!
-//! Left to the crate above: when to tidy and when to restore. Source: own. See docs/SECTORS.md,
-//! docs/LAYOUT.md and docs/INDEX.md.
+//! Left to the crate above: when to tidy and when to restore. Source: own. See docs/SECTORS.md
+//! and docs/LAYOUT.md.
 
 #![tactic(auto)]
 

@@ -10,7 +10,7 @@ ghost use Rattle.erase_journal.specs.Recovery.{IsBehind};
 ghost use Rattle.erase_journal.specs.Steps.{SucceedsSettled};
 ghost use Rattle.sector_slots.specs.Slots.{slot_count, data_blocks, IsClean};
 ghost use Rattle.sector_slots.specs.Sectors.{sector_at, zeros};
-ghost use Rattle.sector_stock.specs.Takes.{work_of};
+ghost use Rattle.sector_stock.specs.Takes.{urgent_work, work_of};
 ghost use Rattle.sector_map.specs.Table.{holder};
 ghost use Rattle.sector_map.specs.Maps.{IsStore, KeepsMap, Sets, SetLeaves, Mounted, MountFails};
 ghost use Rattle.sector_map.specs.Maps.{MapRestored, MapRestoreFails, IsLaidOut};
@@ -22,7 +22,7 @@ use crate::entry::Entry;
 use crate::error::MountError;
 use crate::mount::mount_in;
 use crate::replace::find_in;
-use crate::steps::{clear_in, tidy_in, write_in};
+use crate::steps::{clear_in, tidy_in, tidy_urgent_in, write_in};
 use crate::superblock::look;
 use chip_model::Geometry;
 use erase_journal::{Journal, RecoverError};
@@ -203,6 +203,31 @@ impl<N: Nor> SectorMap<N> {
         }
     }
 
+    /// Does what `tidy` does while fewer than an eighth of the slots beyond those that the sectors
+    /// need are free. Else nothing changes: false.
+    pub fn tidy_urgent(&mut self) -> Result<bool, NorError>
+        ensures ok { OnOk result (KeepsMap self.old.memory self.new.memory) }
+        ensures fewer { IfOk result (λ more. IsTrue more
+            → urgent_work self.new.memory < urgent_work self.old.memory) }
+        ensures tidied { IfOk result (λ more. IsFalse more → urgent_work self.old.memory ≡ 0) }
+        ensures unchanged { IfOk result (λ more. IsFalse more → self.new.memory ≡ self.old.memory) }
+        ensures cut { IsErrOf result NorError.Cut → KeepsMap self.old.memory self.new.memory }
+        ensures size { length self.new.memory ≡ length self.old.memory }
+        ensures done { OnOk result (SucceedsSettled self.old self.new) }
+        ensures fails { IfErr result (λ e. Refuses e self.old self.new) }
+    {
+        if let Some(error) = self.latched {
+            return Err(error);
+        }
+        match tidy_urgent_in(&mut self.stock, self.table.as_mut_slice()) {
+            Ok(more) => Ok(more),
+            Err(error) => {
+                self.latched = Some(error);
+                Err(error)
+            }
+        }
+    }
+
     /// Whether what reads as free is erased: reads each data block, until one is met that isn't so.
     /// Nothing changes.
     pub fn is_clean(&mut self) -> Result<bool, NorError>
@@ -262,6 +287,15 @@ impl<N: Nor> SectorMap<N> {
         self.stock.arm(count, kind, mask)
     }
 
+    /// From now on slots and blocks are chosen so that all blocks wear alike, and now and then a
+    /// write moves a block whose sectors rest. Before, the lowest-numbered are chosen. No clause
+    /// tells the two apart: a memory's sectors are the same. What was chosen outlasts a `restore`.
+    pub fn level_wear(&mut self)
+        ensures { self.new ≡ self.old }
+    {
+        self.stock.level_wear()
+    }
+
     /// Gives the memory back. Where no Slow is latched it is healthy behind its superblock.
     pub fn into_inner(self) -> N
         ensures behind { IsBehind self (N.state result) }
@@ -300,6 +334,7 @@ fn take_tables(alloc: Global, chip: Geometry) -> Result<Tables, AllocError>
         dead: 0,
         plain: false,
         group: false,
+        erases: 0,
     };
     let blocks = vec![in alloc; blank; count]?;
     Ok(Tables {

@@ -1,13 +1,14 @@
 //! The calls of a map, over a store and the table of its sectors.
 
-ghost use Rattle.std.specs.Prelude.{◌≡◌, ◌⊎◌, ◌<◌, Bool, length, OnOk, IfOk, IfErr, IsTrue};
+ghost use Rattle.std.specs.Prelude.{◌≡◌, ◌⊎◌, ◌<◌, ◌≤◌, Bool, length, OnOk, IfOk, IfErr, IsTrue};
 ghost use Rattle.std.specs.Prelude.{IsFalse};
 ghost use Rattle.std.specs.Result.{IsErrOf};
 ghost use Rattle.chip_model.specs.Geometry.{sector_count};
 ghost use Rattle.nor_driver.specs.State.{IsNorReady, Refuses};
 ghost use Rattle.erase_journal.specs.Steps.{SucceedsSettled};
 ghost use Rattle.sector_slots.specs.Sectors.{sector_at, zeros};
-ghost use Rattle.sector_stock.specs.Takes.{work_of};
+ghost use Rattle.sector_stock.specs.Takes.{urgent_work, work_of};
+ghost use Rattle.sector_stock.specs.Room.{HasNoneDead};
 ghost use Rattle.sector_map.specs.Replace.{IsInSlots};
 ghost use Rattle.sector_map.specs.Maps.{IsServing, KeepsMap, SetLeaves, Wrote, KeptServing};
 
@@ -16,10 +17,11 @@ use crate::follow::follow_copied;
 use crate::replace::replace_in;
 use crate::table::{keep_one, unset};
 use nor_driver::NorError;
-use sector_stock::Reclaim;
+use sector_stock::{Next, Reclaim};
 
 /// Writes a sector into a slot that it takes, and retires the slot that held it, if one did. Where
-/// a block with its group holds it, converts that block first.
+/// it is time for it, moves a block for its wear first; and where a block with its group holds the
+/// sector, converts that block.
 pub fn write_in<S: Reclaim>(
     stock: &mut S,
     table: &mut [Entry],
@@ -38,8 +40,53 @@ pub fn write_in<S: Reclaim>(
     ensures done { OnOk result (SucceedsSettled (S.state stock.old) (S.state stock.new)) }
     ensures fails { IfErr result (λ e. Refuses e (S.state stock.old) (S.state stock.new)) }
 {
-    leave_group(stock, table, sector)?;
+    make_way(stock, table, sector)?;
     write_own(stock, table, sector, content)
+}
+
+/// Moves a block for its wear, where it is time for it, and converts the block that holds a sector
+/// with its group, if one does. The table follows, and no sector changes.
+fn make_way<S: Reclaim>(stock: &mut S, table: &mut [Entry], sector: u16) -> Result<(), NorError>
+    requires served { IsServing table.old (S.state stock.old) (S.indexed stock.old) }
+    requires number { sector < length table.old }
+    ensures ok { OnOk result (KeptServing table.new (S.state stock.old) (S.state stock.new)
+        (S.indexed stock.new)) }
+    ensures own { OnOk result (IsInSlots sector (S.state stock.new).memory) }
+    ensures cut { IsErrOf result NorError.Cut
+        → KeepsMap (S.state stock.old).memory (S.state stock.new).memory }
+    ensures table { length table.new ≡ length table.old }
+    ensures size { length (S.state stock.new).memory ≡ length (S.state stock.old).memory }
+    ensures done { OnOk result (SucceedsSettled (S.state stock.old) (S.state stock.new)) }
+    ensures fails { IfErr result (λ e. Refuses e (S.state stock.old) (S.state stock.new)) }
+{
+    level_in(stock, table, Next::Give)?;
+    leave_group(stock, table, sector)
+}
+
+/// Moves a block whose sectors rest, where it is time for it. The table follows, and no sector
+/// changes.
+fn level_in<S: Reclaim>(stock: &mut S, table: &mut [Entry], next: Next) -> Result<(), NorError>
+    requires served { IsServing table.old (S.state stock.old) (S.indexed stock.old) }
+    ensures ok { OnOk result (KeptServing table.new (S.state stock.old) (S.state stock.new)
+        (S.indexed stock.new)) }
+    ensures work { OnOk result (work_of (S.state stock.new).memory
+        ≤ work_of (S.state stock.old).memory) }
+    ensures left { OnOk result (((S.state stock.new).memory ≡ (S.state stock.old).memory)
+        ⊎ (HasNoneDead (S.state stock.new).memory → ⊥)) }
+    ensures cut { IsErrOf result NorError.Cut
+        → KeepsMap (S.state stock.old).memory (S.state stock.new).memory }
+    ensures table { length table.new ≡ length table.old }
+    ensures size { length (S.state stock.new).memory ≡ length (S.state stock.old).memory }
+    ensures done { OnOk result (SucceedsSettled (S.state stock.old) (S.state stock.new)) }
+    ensures fails { IfErr result (λ e. Refuses e (S.state stock.old) (S.state stock.new)) }
+{
+    match stock.level(next)? {
+        Some(moved) => {
+            follow_copied(stock, table, Some(moved))?;
+            Ok(())
+        }
+        None => Ok(()),
+    }
 }
 
 /// Converts the block that holds a sector with its group, if one does: no such block does then. The
@@ -97,8 +144,9 @@ fn write_own<S: Reclaim>(
     Ok(())
 }
 
-/// Copies the block with the most dead slots; where none is dead, converts the lowest-numbered
-/// block that is live with a group; false, and nothing changes, where there is neither.
+/// Copies a block with the most dead slots; where none is dead, converts the lowest-numbered block
+/// that is live with a group; false, and nothing changes, where there is neither. Where it is time
+/// for it, moves a block for its wear first.
 pub fn tidy_in<S: Reclaim>(stock: &mut S, table: &mut [Entry]) -> Result<bool, NorError>
     requires served { IsServing table.old (S.state stock.old) (S.indexed stock.old) }
     ensures ok { OnOk result (KeptServing table.new (S.state stock.old) (S.state stock.new)
@@ -115,6 +163,28 @@ pub fn tidy_in<S: Reclaim>(stock: &mut S, table: &mut [Entry]) -> Result<bool, N
     ensures done { OnOk result (SucceedsSettled (S.state stock.old) (S.state stock.new)) }
     ensures fails { IfErr result (λ e. Refuses e (S.state stock.old) (S.state stock.new)) }
 {
+    level_in(stock, table, Next::Tidy)?;
+    tidy_own(stock, table)
+}
+
+/// Tidies, and moves no block for its wear.
+fn tidy_own<S: Reclaim>(stock: &mut S, table: &mut [Entry]) -> Result<bool, NorError>
+    requires served { IsServing table.old (S.state stock.old) (S.indexed stock.old) }
+    ensures ok { OnOk result (KeptServing table.new (S.state stock.old) (S.state stock.new)
+        (S.indexed stock.new)) }
+    ensures fewer { IfOk result (λ more. IsTrue more
+        → work_of (S.state stock.new).memory < work_of (S.state stock.old).memory) }
+    ensures none { IfOk result (λ more. IsFalse more → work_of (S.state stock.old).memory ≡ 0) }
+    ensures empty { IfOk result (λ more. IsFalse more → HasNoneDead (S.state stock.old).memory) }
+    ensures unchanged { IfOk result (λ more. IsFalse more
+        → (S.state stock.new).memory ≡ (S.state stock.old).memory) }
+    ensures cut { IsErrOf result NorError.Cut
+        → KeepsMap (S.state stock.old).memory (S.state stock.new).memory }
+    ensures table { length table.new ≡ length table.old }
+    ensures size { length (S.state stock.new).memory ≡ length (S.state stock.old).memory }
+    ensures done { OnOk result (SucceedsSettled (S.state stock.old) (S.state stock.new)) }
+    ensures fails { IfErr result (λ e. Refuses e (S.state stock.old) (S.state stock.new)) }
+{
     match stock.tidy()? {
         Some(copied) => {
             follow_copied(stock, table, Some(copied))?;
@@ -122,6 +192,30 @@ pub fn tidy_in<S: Reclaim>(stock: &mut S, table: &mut [Entry]) -> Result<bool, N
         }
         None => Ok(false),
     }
+}
+
+/// Does what `tidy_in` does while few slots are free; else nothing: false.
+pub fn tidy_urgent_in<S: Reclaim>(stock: &mut S, table: &mut [Entry]) -> Result<bool, NorError>
+    requires served { IsServing table.old (S.state stock.old) (S.indexed stock.old) }
+    ensures ok { OnOk result (KeptServing table.new (S.state stock.old) (S.state stock.new)
+        (S.indexed stock.new)) }
+    ensures fewer { IfOk result (λ more. IsTrue more
+        → urgent_work (S.state stock.new).memory < urgent_work (S.state stock.old).memory) }
+    ensures none { IfOk result (λ more. IsFalse more
+        → urgent_work (S.state stock.old).memory ≡ 0) }
+    ensures unchanged { IfOk result (λ more. IsFalse more
+        → (S.state stock.new).memory ≡ (S.state stock.old).memory) }
+    ensures cut { IsErrOf result NorError.Cut
+        → KeepsMap (S.state stock.old).memory (S.state stock.new).memory }
+    ensures table { length table.new ≡ length table.old }
+    ensures size { length (S.state stock.new).memory ≡ length (S.state stock.old).memory }
+    ensures done { OnOk result (SucceedsSettled (S.state stock.old) (S.state stock.new)) }
+    ensures fails { IfErr result (λ e. Refuses e (S.state stock.old) (S.state stock.new)) }
+{
+    if !stock.is_short() {
+        return Ok(false);
+    }
+    tidy_in(stock, table)
 }
 
 /// Retires the slot that holds a sector, if one does; the sector is absent then, and holds zeros.

@@ -1,4 +1,4 @@
--- A memory as a machine (docs/COPYING.md): the steps of a copying on its data blocks, and that each
+-- A memory as a machine (docs/SECTORS.md): the steps of a copying on its data blocks, and that each
 -- keeps the map of sectors. Source: own, layout 2.
 use Rattle.std.specs.Prelude.{◌⊎◌, ℕ, List}
 use Rattle.erase_journal.specs.Blocks.{SameChip}

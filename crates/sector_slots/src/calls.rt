@@ -11,7 +11,8 @@ ghost use Rattle.nor_driver.specs.State.{NorState, IsNorReady, Refuses};
 ghost use Rattle.nor_layout.specs.declared.header.Tag.{Tag as TagOf};
 ghost use Rattle.erase_journal.specs.Blocks.{SameChip, OnlyBlock, OnlySuper};
 ghost use Rattle.erase_journal.specs.Blocks.{WithErased};
-ghost use Rattle.erase_journal.specs.Journals.{IsHealthy};
+ghost use Rattle.erase_journal.specs.Journals.{IsHealthy, unused};
+ghost use Rattle.erase_journal.specs.Spending.{Spends};
 ghost use Rattle.erase_journal.specs.Steps.{EraseInterrupted, SucceedsSettled};
 ghost use Rattle.erase_journal.specs.Recovery.{Restored, RestoreFails};
 ghost use Rattle.sector_slots.specs.Slots.{Free, Live, Dead, slot_at, stored_at, slot_count};
@@ -274,6 +275,8 @@ pub trait SlotCalls {
             → EraseInterrupted (block + 4) (state self.old).memory (state self.new).memory }
         ensures healthy { IsErrOf result NorError.Cut → IsHealthy (state self.old).memory
             → IsHealthy (state self.new).memory }
+        ensures spends { OnOk result (Spends (unused (state self.old).memory)
+            (unused (state self.new).memory)) }
         ensures size { length (state self.new).memory ≡ length (state self.old).memory }
         ensures done { OnOk result (SucceedsSettled (state self.old) (state self.new)) }
         ensures fails { IfErr result (λ e. Refuses e (state self.old) (state self.new)) };

@@ -4,7 +4,7 @@
 //! Promised of any memory: which slots count (`specs/Slots.antt`), which sectors they represent
 //! (`specs/Sectors.antt`), when blocks are corrupt (`specs/Blocks.antt`), and that no step of a
 //! copying changes a sector, whole or cut (`specs/Copying.antt`, `steps_keep_sectors`;
-//! docs/COPYING.md). A block of a group of layout 1 is seen as seven slots. Of a store `SlotCalls`
+//! docs/SECTORS.md). A block of a group of layout 1 is seen as seven slots. Of a store `SlotCalls`
 //! says: `put` writes a sector into a free slot and `retire` makes a live one dead; `begin`,
 //! `copy`, `commit`, `erase` and `settle` move the live slots of a block into another;
 //! `retire_group` makes a block of a group dead, and `mark` programs byte 15 of the superblock;

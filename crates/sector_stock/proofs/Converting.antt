@@ -1,5 +1,5 @@
 -- A block that is live with a group, once it was converted into slots.
-use Rattle.std.proofs.Common.{◌≡◌, ◌≢◌, ℕ, zero, suc, ◌+◌, ◌-◌, ◌*◌, ◌<◌, ◌≤◌, Bool, true, false, List, [], length, refl, sym, ap, ◌∙◌, subst, arith, inl, inr, if◌then◌else◌}
+use Rattle.std.proofs.Common.{◌≡◌, ℕ, zero, suc, ◌+◌, ◌-◌, ◌*◌, ◌<◌, ◌≤◌, Bool, true, false, List, [], refl, sym, ap, ◌∙◌, subst, arith, inl, inr, if◌then◌else◌}
 use Rattle.std.specs.Prelude.{◌/◌, ◌%◌}
 use Rattle.std.proofs.lemmas.Bool.{cases_eq}
 use Rattle.chip_model.specs.Geometry.{block_count}
@@ -8,9 +8,9 @@ use Rattle.nor_layout.specs.declared.header.Generation.TheVariants as generation
 use Rattle.nor_layout.specs.declared.header.Tag.{Tag}
 use Rattle.nor_layout.specs.declared.kind.Kind.{Kind}
 use Rattle.nor_layout.specs.declared.kind.Kind.TheVariants as kinds
-use Rattle.sector_slots.specs.Slots.{Slot, Live, group_tag, content_bytes, slot_at, slot_count, data_blocks, data_block, kind_at}
+use Rattle.sector_slots.specs.Slots.{Live, group_tag, content_bytes, slot_at, slot_count, data_blocks, data_block, kind_at}
 use Rattle.sector_slots.specs.Blocks.{AreSettled}
-use Rattle.sector_slots.specs.Copying.{copy_slot, copied_tag, to_copy}
+use Rattle.sector_slots.specs.Copying.{copy_slot, to_copy}
 use Rattle.sector_slots.proofs.CopyLaws.{how_many-zero, how_many-suc}
 use Rattle.sector_slots.proofs.GroupLaws.{group-slot}
 use Rattle.sector_stock.specs.declared.index.SlotState.{SlotState}
@@ -91,6 +91,14 @@ pub work-falls : (s t : ℕ) (m m' : List ℕ) → HasRoom m → AreSettled m' �
 work-falls s t m m' room settled-now most reserve exact =
     let dead = dead-falls s t m m' room settled-now most reserve exact in
     let groups = groups-most s t m m' (ap (λ k. block_count k - 4) exact.same_length) exact in
+    omega (arith, dead, groups)
+
+-- and where any block was, no more
+pub work-most : (s t : ℕ) (m m' : List ℕ) → HasRoom m → IsCopyable s t m → Copies s t m m' → work_of m' ≤ work_of m
+work-most s t m m' room h c =
+    let n : data_blocks m' ≡ data_blocks m = ap (λ k. block_count k - 4) c.chip.same_length in
+    let dead = dead-most s t m m' h n (moved-slots s t m m' room.blocks.rest c.blocks.rest h.source h.target c.slots) in
+    let groups = groups-most s t m m' n c.slots in
     omega (arith, dead, groups)
 
 -- a block that is live with a group

@@ -1,6 +1,6 @@
 -- The slot that the index finds is the lowest-numbered free one of the memory.
 use Rattle.std.specs.Prelude.{IfSome}
-use Rattle.std.proofs.Common.{◌≡◌, ◌≢◌, ℕ, ◌+◌, ◌*◌, ◌<◌, List, refl, sym, ap, ◌∙◌, subst, arith, inl, inr, MatchOption, Option, Some, None}
+use Rattle.std.proofs.Common.{◌≡◌, ◌≢◌, ℕ, ◌+◌, ◌*◌, ◌<◌, List, refl, sym, ap, ◌∙◌, arith, inl, inr, MatchOption, Option, Some, None}
 use Rattle.std.specs.Prelude.{◌/◌, ◌%◌}
 use Rattle.std.proofs.lemmas.Bool.{cases_lt}
 use Rattle.sector_slots.specs.Slots.{Slot, Free, Live, NoGeneration, Dead, Outside, slot_at, slot_count, data_blocks, kind_at}
@@ -8,12 +8,12 @@ use Rattle.sector_stock.specs.declared.index.SlotState.{SlotState}
 use Rattle.sector_stock.specs.declared.index.SlotState.TheVariants as states
 use Rattle.sector_stock.specs.declared.index.BlockState.{BlockState}
 use Rattle.sector_stock.specs.declared.index.Cursors.{Cursors}
-use Rattle.sector_stock.specs.Index.{state_of, is_free_slot, in_block, in_slots, IsListed, IsIndexOf, IsLowestWithFree, HasNoFreeBut}
+use Rattle.sector_stock.specs.declared.policy.Policy.TheVariants as policies
+use Rattle.sector_stock.specs.Index.{HasFreeBut, state_of, is_free_slot, in_block, in_slots, IsListed, IsIndexOf, IsLowestWithFree, HasNoFreeBut}
 use Rattle.sector_stock.specs.IndexSteps.{HasNoFreeState, IsFirstFreeState}
-use Rattle.sector_stock.specs.Room.{HasNoneFree, IsSpareBlock}
+use Rattle.sector_stock.specs.Room.{HasNoneFree}
 use Rattle.sector_slots.specs.Blocks.{IsReserveOf}
 use Rattle.sector_stock.specs.Takes.{IsLowestFree, IsGivable}
-use Rattle.sector_stock.proofs.RoomLaws.{spare-block}
 use Rattle.sector_stock.proofs.Tallies.{tally-some, tally-none, free-is, not-both}
 
 state-free : (x : Slot) → state_of x ≡ states.Free → x ≡ Free
@@ -40,9 +40,9 @@ none-free-in m slots blocks at index h w low other =
     let n = index.listed.block_size in
     none-in m slots blocks w index.listed low (h (w / 7) (omega (arith, low, n)) other)
 
-pub found-free : (o : Option ℕ) (b : ℕ) (m : List ℕ) (slots : List SlotState) (blocks : List BlockState) (at : Cursors) → IsIndexOf slots blocks at m → IsLowestWithFree blocks at.reserve b
+pub found-free : (o : Option ℕ) (b : ℕ) (m : List ℕ) (slots : List SlotState) (blocks : List BlockState) (at : Cursors) → at.policy ≡ policies.Lowest → IsIndexOf slots blocks at m → IsLowestWithFree blocks at.reserve b
     → MatchOption o (HasNoFreeState slots b) (λ w. IsFirstFreeState slots b w) → MatchOption o (HasNoneFree at.reserve m) (λ w. IsLowestFree w m)
-found-free None b m slots blocks at index low h =
+found-free None b m slots blocks at by index low h =
     let n = index.listed.block_size in
     let inside = low.0 in
     let here : b < data_blocks m = omega (arith, inside, n) in
@@ -51,7 +51,7 @@ found-free None b m slots blocks at index low h =
     let d = tally-some is_free_slot (slot_at m) b (omega (arith, some, count)) in
     let small = d.1.0 in
     absurd (h d.0 small (index.listed.each_slot (7 * b + d.0) (omega (arith, here, small)) ∙ ap state_of (free-is (slot_at m (7 * b + d.0)) d.1.1)))
-found-free (Some w) b m slots blocks at index low h =
+found-free (Some w) b m slots blocks at by index low h =
     let n = index.listed.block_size in
     let inside = low.0 in
     let block = h.block in
@@ -61,7 +61,7 @@ found-free (Some w) b m slots blocks at index low h =
       number = number;
       free = state-free (slot_at m w) (sym (index.listed.each_slot w number) ∙ h.free);
       reserve = at.reserve;
-      is_reserve = index.highest;
+      is_reserve = index.highest by;
       outside = λ e. low.1 (sym block ∙ sym e);
       lowest = λ s below other. elim (cases_lt (s / 7) b) as (λ _. slot_at m s ≢ Free) [
         | inl under ↦ none-in m slots blocks s index.listed (omega (arith, below, number)) (low.3 (s / 7) under other)
@@ -72,13 +72,31 @@ found-free (Some w) b m slots blocks at index low h =
       ];
     }
 
--- the lowest-numbered one is one, whatever the policy
-pub givable : (w : ℕ) (m : List ℕ) → IsLowestFree w m → IsGivable w m
-givable w m h = record { number = h.number; free = h.free; reserve = h.reserve; is_spare = spare-block h.reserve m h.is_reserve; apart = h.outside }
-
-pub any-free : (o : Option ℕ) (r : ℕ) (m : List ℕ) → MatchOption o (HasNoneFree r m) (λ w. IsLowestFree w m) → MatchOption o (HasNoneFree r m) (λ w. IsGivable w m)
-any-free None r m h = h
-any-free (Some w) r m h = givable w m h
+-- a free slot of a block that has one, whatever the policy
+pub given-free : (o : Option ℕ) (b : ℕ) (m : List ℕ) (slots : List SlotState) (blocks : List BlockState) (at : Cursors) → IsIndexOf slots blocks at m → HasFreeBut blocks at.reserve b
+    → MatchOption o (HasNoFreeState slots b) (λ w. IsFirstFreeState slots b w) → MatchOption o (HasNoneFree at.reserve m) (λ w. IsGivable w m)
+given-free None b m slots blocks at index low h =
+    let n = index.listed.block_size in
+    let inside = low.0 in
+    let here : b < data_blocks m = omega (arith, inside, n) in
+    let count = (index.listed.each_block b here).free in
+    let some = low.2 in
+    let d = tally-some is_free_slot (slot_at m) b (omega (arith, some, count)) in
+    let small = d.1.0 in
+    absurd (h d.0 small (index.listed.each_slot (7 * b + d.0) (omega (arith, here, small)) ∙ ap state_of (free-is (slot_at m (7 * b + d.0)) d.1.1)))
+given-free (Some w) b m slots blocks at index low h =
+    let n = index.listed.block_size in
+    let inside = low.0 in
+    let block = h.block in
+    let here : b < data_blocks m = omega (arith, inside, n) in
+    let number : w < slot_count m = omega (arith, here, block) in
+    record {
+      number = number;
+      free = state-free (slot_at m w) (sym (index.listed.each_slot w number) ∙ h.free);
+      reserve = at.reserve;
+      is_spare = index.reserve;
+      apart = λ e. low.1 (sym block ∙ sym e);
+    }
 
 pub only-some : (o : Option ℕ) (r : ℕ) (m : List ℕ) → MatchOption o (HasNoneFree r m) (λ w. IsLowestFree w m) → IfSome o (λ w. IsLowestFree w m)
 only-some None r m h = tt

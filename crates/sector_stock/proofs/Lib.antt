@@ -6,6 +6,7 @@ pub mod Shifting
 pub mod Moving
 pub mod Tallies
 pub mod Moved
+pub mod Counting
 pub mod Finding
 pub mod Writing
 pub mod Filling

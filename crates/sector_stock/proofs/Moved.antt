@@ -1,7 +1,7 @@
 -- The slots, and the index, once a block was copied into the reserve.
 use Rattle.std.proofs.Common.{◌≡◌, ◌≢◌, ℕ, ◌+◌, ◌-◌, ◌*◌, ◌<◌, ◌≤◌, true, false, List, [], length, refl, sym, ap, ◌∙◌, subst, arith, inl, inr, if◌then◌else◌}
 use Rattle.std.specs.Prelude.{◌/◌, ◌%◌}
-use Rattle.std.proofs.lemmas.Bool.{cases_eq}
+use Rattle.std.proofs.lemmas.Bool.{cases_eq, false≢true}
 use Rattle.chip_model.specs.Geometry.{block_count}
 use Rattle.erase_journal.specs.Places.{how_many}
 use Rattle.nor_layout.specs.declared.header.Generation.{Generation}
@@ -18,12 +18,15 @@ use Rattle.sector_slots.specs.Sectors.{LiveAt, IsSoundMap}
 use Rattle.sector_stock.specs.declared.index.SlotState.{SlotState}
 use Rattle.sector_stock.specs.declared.index.BlockState.{BlockState}
 use Rattle.sector_stock.specs.declared.index.Cursors.{Cursors}
-use Rattle.sector_stock.specs.Index.{state_of, is_free_slot, is_dead, is_plain, is_live_group, tally, Tallies, in_block, in_slots, IsListed, IsIndexOf, copied_state, Shifted, BlocksMoved, IsHighestWhole, IsWholeBlock, IsAhead, IsMostDead, HasNoDead}
+use Rattle.sector_stock.specs.Index.{state_of, is_free_slot, is_dead, is_plain, is_live_group, tally, Tallies, in_block, in_slots, IsListed, IsIndexOf, copied_state, Shifted, BlocksMoved, IsHighestWhole, IsNextReserve, IsWholeBlock, IsAhead, IsMostDead, IsLowestDead, HasNoDead}
+use Rattle.sector_stock.specs.declared.policy.Policy.{Policy}
+use Rattle.sector_stock.specs.declared.policy.Policy.TheVariants as policies
+use Rattle.sector_stock.specs.Policies.{IsInUse}
 use Rattle.sector_stock.specs.Room.{HasRoom, HasNoneDead, HasNoneFree, IsSpareBlock}
-use Rattle.sector_stock.proofs.RoomLaws.{settled-inside, spare-block}
+use Rattle.sector_stock.proofs.RoomLaws.{settled-inside}
 use Rattle.sector_stock.specs.Copy.{bare, IsCopiedWhole, IsCopyable, Copies}
 use Rattle.sector_stock.proofs.Tags.{bare-live, same-tag, to_copy-same}
-use Rattle.sector_stock.specs.Takes.{HasDead, HasMostDead, MakesNoGroup, CopiesInto, dead_slots}
+use Rattle.sector_stock.specs.Takes.{HasDead, HasMostDead, HasFewerBelow, MovesInto, MakesNoGroup, CopiesInto, dead_slots}
 use Rattle.sector_stock.proofs.Tallies.{free-is, dead-is, tally-some, tally-none, tally-fails, tally-all, tally-full, tally-same, tally-both, how_many-sum, how_many-less, not-both}
 
 -- where no copying goes on each slot counts
@@ -216,10 +219,16 @@ reserve-is m slots blocks r rest listed h =
       highest = λ c inside spare. h.highest c (omega (arith, inside, n)) (spare-whole m slots blocks c rest listed inside spare);
     }
 
+pub next-spare : (p : Policy) (m : List ℕ) (slots : List SlotState) (blocks : List BlockState) (r : ℕ) → AreAtRest (kind_at m) (data_blocks m) → IsListed slots blocks (slot_at m) (kind_at m) (data_blocks m) → IsNextReserve p blocks r → IsSpareBlock r m
+next-spare p m slots blocks r rest listed h =
+    let n = listed.block_size in
+    let low = h.number in
+    record { number = omega (arith, low, n); spare = whole-spare m slots blocks r rest listed (omega (arith, low, n)) h.whole }
+
 -- the index of the memory after the copy
 pub index-moved : (s : ℕ) (m m' : List ℕ) (slots slots' : List SlotState) (blocks blocks' : List BlockState) (at new : Cursors) → HasRoom m → s < data_blocks m → IsCopiedWhole s at.reserve m m' → AreSettled m'
-    → IsIndexOf slots blocks at m → Shifted 7 s at.reserve slots slots' → BlocksMoved s at.reserve blocks blocks' → IsAhead blocks' new → IsHighestWhole blocks' new.reserve → IsIndexOf slots' blocks' new m'
-index-moved s m m' slots slots' blocks blocks' at new room low exact settled-now index shift moved ahead highest =
+    → IsIndexOf slots blocks at m → Shifted 7 s at.reserve slots slots' → BlocksMoved s at.reserve blocks blocks' → IsAhead blocks' new → IsNextReserve at.policy blocks' new.reserve → new.policy ≡ at.policy → IsIndexOf slots' blocks' new m'
+index-moved s m m' slots slots' blocks blocks' at new room low exact settled-now index shift moved ahead next same =
     let t = at.reserve in
     let lt = index.reserve.number in
     let n : data_blocks m' ≡ data_blocks m = ap (λ k. block_count k - 4) exact.same_length in
@@ -227,8 +236,7 @@ index-moved s m m' slots slots' blocks blocks' at new room low exact settled-now
     let listed = listed-moved (kind_at m s) s t (data_blocks m) (slot_at m) (slot_at m') (kind_at m) (kind_at m') slots slots' blocks blocks' low lt f (λ w h. room.whole w h) (λ w h. settled-inside m room w h) exact.same_kind exact.erased.plain
     exact.settled shift moved index.listed in
     let here : IsListed slots' blocks' (slot_at m') (kind_at m') (data_blocks m') = subst (λ k. IsListed slots' blocks' (slot_at m') (kind_at m') k) (sym n) listed in
-    let reserve = reserve-is m' slots' blocks' new.reserve settled-now.rest here highest in
-    record { listed = here; ahead = ahead; reserve = spare-block new.reserve m' reserve; highest = reserve }
+    record { listed = here; ahead = ahead; reserve = next-spare at.policy m' slots' blocks' new.reserve settled-now.rest here next; highest = λ by. reserve-is m' slots' blocks' new.reserve settled-now.rest here (next.highest (sym same ∙ by)) }
 
 -- What the copying needs, where the index says which block has dead slots.
 pub sound-of : (m : List ℕ) → HasRoom m → IsSoundMap m
@@ -260,8 +268,16 @@ most-dead-in s m slots blocks at index h =
       number = here;
       some = omega (arith, some, own);
       most = λ c inside. let e = (index.listed.each_block c inside).dead in let q = h.2 c (omega (arith, inside, n)) in omega (arith, q, e, own);
-      lowest = λ c below. let e = (index.listed.each_block c (omega (arith, below, here))).dead in let q = h.3 c below in omega (arith, q, e, own);
     }
+
+pub fewer-below-in : (s : ℕ) (m : List ℕ) (slots : List SlotState) (blocks : List BlockState) (at : Cursors) → IsIndexOf slots blocks at m → s < length blocks → IsLowestDead blocks s → HasFewerBelow s m
+fewer-below-in s m slots blocks at index low h c below =
+    let n = index.listed.block_size in
+    let here : s < data_blocks m = omega (arith, low, n) in
+    let own = (index.listed.each_block s here).dead in
+    let e = (index.listed.each_block c (omega (arith, below, here))).dead in
+    let q = h c below in
+    omega (arith, q, e, own)
 
 pub dead-in : (s : ℕ) (m : List ℕ) (slots : List SlotState) (blocks : List BlockState) (at : Cursors) → IsIndexOf slots blocks at m → IsMostDead blocks s → HasDead s m
 dead-in s m slots blocks at index h = let most = most-dead-in s m slots blocks at index h in record { number = most.number; some = most.some }
@@ -435,6 +451,131 @@ copies-into s t m m' room most reserve other h =
       erased = h.slots.erased;
     }
 
+-- the same of a block that is used, whether a slot of it is dead or not
+live-group-of : (k : Kind) (g : Tag) → k ≡ kinds.Group g → is_live_group k ≡ true
+live-group-of k g e = ap is_live_group e
+
+pub used-no_group : (s : ℕ) (m : List ℕ) (slots : List SlotState) (blocks : List BlockState) (at : Cursors) → IsIndexOf slots blocks at m → s < length blocks → IsInUse (in_block blocks s) → (g : Tag) → kind_at m s ≢ kinds.Group g
+used-no_group s m slots blocks at index low used g e =
+    let n = index.listed.block_size in
+    let t = index.listed.each_block s (omega (arith, low, n)) in
+    false≢true (sym used.0 ∙ (t.group ∙ live-group-of (kind_at m s) g e))
+
+pub copyable-used : (s : ℕ) (m : List ℕ) (slots : List SlotState) (blocks : List BlockState) (at : Cursors) → HasRoom m → IsIndexOf slots blocks at m → s < length blocks → IsInUse (in_block blocks s) → IsCopyable s at.reserve m
+copyable-used s m slots blocks at room index low used =
+    let n = index.listed.block_size in
+    let reserve = index.reserve in
+    record {
+      source = omega (arith, low, n);
+      target = reserve.number;
+      other = λ e. used.1 (subst (λ c. IsWholeBlock (in_block blocks c)) (sym e) (spare-whole m slots blocks at.reserve room.blocks.rest index.listed reserve.number reserve.spare));
+      rest = room.blocks.rest;
+      spare = reserve.spare;
+      sound = sound-of m room;
+      single = room.single;
+    }
+
+pub moves-into : (s t : ℕ) (m m' : List ℕ) → HasRoom m → s < data_blocks m → IsSpareBlock t m → s ≢ t → ((g : Tag) → kind_at m s ≢ kinds.Group g) → Copies s t m m' → MovesInto s t m m'
+moves-into s t m m' room ls reserve other no-group h =
+    let lt = reserve.number in
+    let rest = room.blocks.rest in
+    let slots = moved-slots s t m m' rest h.blocks.rest ls lt h.slots in
+    let moves = moves-of (kind_at m s) s t (data_blocks m) (slot_at m) (slot_at m') ls lt other (same-tag (kind_at m s) no-group) slots (λ i small. rest-slot m t i rest lt small ∙ reserve.spare.free i small) room.whole in
+    record {
+      source = ls;
+      target = reserve;
+      shifts = record {
+        chip = h.chip;
+        on = moves.on;
+        back = moves.back;
+        round = moves.round;
+        whole = moves.whole;
+        blocks = h.blocks;
+        groups = whole-groups s t m m' h.slots;
+        sectors = h.sectors;
+        clean = h.clean;
+      };
+      erased = h.slots.erased;
+    }
+
+-- another wholly free block is the reserve, where it isn't chosen by number
+pub index-chosen : (r : ℕ) (m : List ℕ) (slots : List SlotState) (blocks : List BlockState) (at new : Cursors) → HasRoom m → IsIndexOf slots blocks at m → r < length blocks → IsWholeBlock (in_block blocks r) → new.reserve ≡ r → IsAhead blocks new → (new.policy ≡ policies.Lowest → ⊥) → IsIndexOf slots blocks new m
+index-chosen r m slots blocks at new room index low whole e ahead by =
+    let n = index.listed.block_size in
+    let here : r < data_blocks m = omega (arith, low, n) in
+    record {
+      listed = index.listed;
+      ahead = ahead;
+      reserve = subst (λ k. IsSpareBlock k m) (sym e) (record { number = here; spare = whole-spare m slots blocks r room.blocks.rest index.listed here whole });
+      highest = λ p. absurd (by p);
+    }
+
+-- a block's numbers
+pub numbers-in : (c : ℕ) (m : List ℕ) (slots : List SlotState) (blocks : List BlockState) (at : Cursors) → IsIndexOf slots blocks at m → c < length blocks → (in_block blocks c).free + (in_block blocks c).dead ≤ 7
+numbers-in c m slots blocks at index low =
+    let n = index.listed.block_size in
+    let t = index.listed.each_block c (omega (arith, low, n)) in
+    let e = t.free in
+    let f = t.dead in
+    let both = tally-both (slot_at m) c in
+    omega (arith, e, f, both)
+
+dead-only : (x : Slot) → is_dead x ≡ true → x ≡ Dead
+dead-only Free e = absurd (false≢true e)
+dead-only (Live tag y) e = absurd (false≢true e)
+dead-only NoGeneration e = absurd (false≢true e)
+dead-only Dead e = refl
+dead-only Outside e = absurd (false≢true e)
+
+-- or the same one, where it is chosen by number
+pub index-target : (m : List ℕ) (slots : List SlotState) (blocks : List BlockState) (at new : Cursors) → HasRoom m → IsIndexOf slots blocks at m → IsAhead blocks new → new.reserve < length blocks → IsWholeBlock (in_block blocks new.reserve) → (at.policy ≡ policies.Lowest → new ≡ at) → new.policy ≡ at.policy → IsIndexOf slots blocks new m
+index-target m slots blocks at new room index ahead low whole by same =
+    let n = index.listed.block_size in
+    let here : new.reserve < data_blocks m = omega (arith, low, n) in
+    record {
+      listed = index.listed;
+      ahead = ahead;
+      reserve = record { number = here; spare = whole-spare m slots blocks new.reserve room.blocks.rest index.listed here whole };
+      highest = λ p. (let q = sym same ∙ p in subst (λ a. IsReserveOf a.reserve m) (sym (by q)) (index.highest q));
+    }
+
+-- a block has a dead slot still, whichever other one was moved
+pub dead-left : (s t w : ℕ) (m m' : List ℕ) (slots slots' : List SlotState) (blocks blocks' : List BlockState) (at new : Cursors) → IsIndexOf slots blocks at m → IsIndexOf slots' blocks' new m' → w < length blocks → BlocksMoved s t blocks blocks' → IsWholeBlock (in_block blocks t) → (in_block blocks s).dead < (in_block blocks w).dead → HasNoneDead m' → ⊥
+dead-left s t w m m' slots slots' blocks blocks' at new index after low moved whole more none =
+    let ns : w ≢ s = λ e. (let q = ap (λ c. (in_block blocks c).dead) e in omega (arith, q, more)) in
+    let nt : w ≢ t = λ e.
+    (let q = ap (λ c. (in_block blocks c).dead) e in
+    let p = ap (λ c. (in_block blocks c).free) e in
+    let f = whole.1 in
+    let seven = numbers-in w m slots blocks at index low in
+    omega (arith, q, p, f, seven, more)) in
+    let same = ap (λ b. b.dead) (moved.others w low ns nt) in
+    let n = after.listed.block_size in
+    let k = moved.size in
+    let here : w < data_blocks m' = omega (arith, low, n, k) in
+    let t = (after.listed.each_block w here).dead in
+    let d = tally-some is_dead (slot_at m') w (omega (arith, t, same, more)) in
+    let small = d.1.0 in
+    none (7 * w + d.0) (omega (arith, here, small)) (dead-only (slot_at m' (7 * w + d.0)) d.1.1)
+
+-- where a block with dead slots was looked for it stays
+pub index-dead : (m : List ℕ) (slots : List SlotState) (blocks : List BlockState) (at new : Cursors) → IsAhead blocks new → new.reserve ≡ at.reserve → new.policy ≡ at.policy → IsIndexOf slots blocks at m → IsIndexOf slots blocks new m
+index-dead m slots blocks at new ahead er ep h = record {
+  listed = h.listed;
+  ahead = ahead;
+  reserve = subst (λ r. IsSpareBlock r m) (sym er) h.reserve;
+  highest = λ p. subst (λ r. IsReserveOf r m) (sym er) (h.highest (sym ep ∙ p));
+}
+
+-- where a turn begins anew the index stays what it was
+pub turned : (turn clock : ℕ) (m : List ℕ) (slots : List SlotState) (blocks : List BlockState) (at at' : Cursors) → at' ≡ record at { turn = turn; clock = clock } → IsIndexOf slots blocks at m → IsIndexOf slots blocks at' m
+turned turn clock m slots blocks at at' e h = subst (λ a. IsIndexOf slots blocks a m) (sym e) (record {
+  listed = h.listed;
+  ahead = record { cursor = h.ahead.cursor; beyond = h.ahead.beyond; spares = h.ahead.spares; within = h.ahead.within; most = h.ahead.most; from = h.ahead.from };
+  reserve = h.reserve;
+  highest = h.highest;
+})
+
 -- after a copy of a block with a dead slot one of the copy's is free
 pub free-after : (s t r : ℕ) (m m' : List ℕ) → HasRoom m → HasDead s m → IsSpareBlock t m → t ≢ r → Copies s t m m' → HasNoneFree r m' → ⊥
 free-after s t r m m' room most reserve other h none =
@@ -476,12 +617,3 @@ dead-falls s t m m' room settled-now most reserve exact =
 -- where the index is that of the memory
 pub copyable-now : (s : ℕ) (m : List ℕ) (slots : List SlotState) (blocks : List BlockState) (at : Cursors) → HasRoom m → IsIndexOf slots blocks at m → IsMostDead blocks s → IsCopyable s at.reserve m
 copyable-now s m slots blocks at room index most = copyable s at.reserve m room index.reserve (dead-in s m slots blocks at index most)
-
-pub numbers-in : (c : ℕ) (m : List ℕ) (slots : List SlotState) (blocks : List BlockState) (at : Cursors) → IsIndexOf slots blocks at m → c < length blocks → (in_block blocks c).free + (in_block blocks c).dead ≤ 7
-numbers-in c m slots blocks at index low =
-    let n = index.listed.block_size in
-    let t = index.listed.each_block c (omega (arith, low, n)) in
-    let e = t.free in
-    let f = t.dead in
-    let both = tally-both (slot_at m) c in
-    omega (arith, e, f, both)

@@ -3,7 +3,8 @@ use Rattle.std.proofs.Common.{◌≡◌, ◌≢◌, ℕ, ◌<◌, ◌≤◌, ◌
 use Rattle.std.proofs.lemmas.Bool.{cases_eq, false≢true}
 use Rattle.sector_stock.specs.declared.index.BlockState.{BlockState}
 use Rattle.sector_stock.specs.declared.index.Cursors.{Cursors}
-use Rattle.sector_stock.specs.Index.{in_block, IsAhead, BlocksMoved, IsHighestWhole}
+use Rattle.sector_stock.specs.Index.{in_block, IsAhead, BlocksMoved, IsNextReserve}
+use Rattle.sector_stock.specs.declared.policy.Policy.{Policy}
 use Rattle.sector_stock.specs.IndexSteps.{NextReserve, IsPassed, Widened}
 
 -- what isn't looked at any more wasn't before, and is neither block that changed, but that s may be the new reserve
@@ -75,5 +76,22 @@ ahead-moved s blocks blocks' at mid new ahead moved next look er es em ef =
     }
 
 -- the block into which one was copied isn't the reserve
-pub other-reserve : (s t r : ℕ) (blocks blocks' : List BlockState) → BlocksMoved s t blocks blocks' → IsHighestWhole blocks' r → t ≢ r
-other-reserve s t r blocks blocks' moved highest e = false≢true (sym (ap (λ b. b.plain) moved.target) ∙ (ap (λ a. (in_block blocks' a).plain) e ∙ highest.whole.0))
+pub other-reserve : (p : Policy) (s t r : ℕ) (blocks blocks' : List BlockState) → BlocksMoved s t blocks blocks' → IsNextReserve p blocks' r → t ≢ r
+other-reserve p s t r blocks blocks' moved highest e = false≢true (sym (ap (λ b. b.plain) moved.target) ∙ (ap (λ a. (in_block blocks' a).plain) e ∙ highest.whole.0))
+
+-- another block is the reserve
+pub reserve-chosen : (r : ℕ) (blocks : List BlockState) (at mid new : Cursors) → at.reserve < length blocks → IsAhead blocks at → Widened at.reserve at mid → new.reserve ≡ r → new.spares ≡ length blocks → new.cursor ≡ mid.cursor → new.beyond ≡ mid.beyond → new.most ≡ mid.most → new.from ≡ mid.from → IsAhead blocks new
+reserve-chosen r blocks at mid new lr ahead wide er es ec eb em ef =
+    let wm = wide.most in
+    let wf = wide.from in
+    let free : (c : ℕ) → c < length blocks → IsPassed new c → (in_block blocks c).free ≡ 0 = λ c l p.
+    let q = wide.passed c (passed-from mid new c ec eb p) in
+    elim q.0 as (λ _. (in_block blocks c).free ≡ 0) [ inl h ↦ ahead.cursor c l h q.1 | inr h ↦ ahead.beyond c l h q.1 ] in
+    record {
+      cursor = λ c l h other. free c l (inl h);
+      beyond = λ c l h other. free c l (inr h);
+      spares = λ c l whole other. omega (arith, l, es);
+      within = (let low = ahead.within.0 in elim wide.within as (λ _. new.beyond ≤ length blocks) [ inl h ↦ omega (arith, h, low, eb) | inr h ↦ omega (arith, h, lr, eb) ], omega (arith, es));
+      most = λ c l. let p = ahead.most c l in omega (arith, p, em, wm);
+      from = λ c l h e. ahead.from c l (omega (arith, h, ef, wf)) (e ∙ (em ∙ wm));
+    }

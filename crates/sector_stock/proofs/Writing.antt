@@ -16,7 +16,7 @@ use Rattle.sector_stock.specs.declared.index.Cursors.{Cursors}
 use Rattle.sector_stock.specs.Index.{is_free_slot, is_dead, in_block, IsListed, IsIndexOf, IsAhead, IsHighestWhole, IsWholeBlock, IsStocked, Marked, one_dead_more, one_free_fewer}
 use Rattle.sector_stock.proofs.IndexLaws.{listed-dead, listed-live}
 use Rattle.sector_slots.specs.Blocks.{IsReserveOf, IsAtRest}
-use Rattle.sector_stock.specs.Room.{IsOutside}
+use Rattle.sector_stock.specs.Room.{IsOutside, IsSpareBlock}
 use Rattle.sector_stock.proofs.Moved.{numbers-in, reserve-is}
 use Rattle.sector_stock.proofs.RoomLaws.{spare-block}
 use Rattle.sector_stock.proofs.Tallies.{tally-none, tally-full, tally-most, not-both}
@@ -65,6 +65,17 @@ spare-bare m c w spare e =
 spare-not : (m : List ℕ) (c w : ℕ) (x : Slot) → IsSpareIn m c → slot_at m w ≡ x → (IsBare x → ⊥) → c ≢ w / 7
 spare-not m c w x spare is not-bare e = not-bare (subst (λ a. IsBare a) is (spare-bare m c w spare (sym e)))
 
+-- a wholly free block stays one, where the slot lies outside it
+spare-kept : (w r : ℕ) (m m' : List ℕ) → OnlyPlace w m m' → r ≢ w / 7 → IsSpareBlock r m → IsSpareBlock r m'
+spare-kept w r m m' only other reserve =
+    let n : data_blocks m' ≡ data_blocks m = ap (λ k. block_count k - 4) only.only.chip.same_length in
+    let low = reserve.number in
+    let datas = block-data (w / 7) m m' only.only in
+    record {
+      number = omega (arith, n, low);
+      spare = record { plain = place-kinds w m m' only r low ∙ reserve.spare.plain; free = λ i small. datas.same_slots r i low other ∙ reserve.spare.free i small };
+    }
+
 -- the reserve stays, where the slot lies outside it and isn't free any more
 reserve-kept : (w r : ℕ) (m m' : List ℕ) → OnlyPlace w m m' → (IsBare (slot_at m' w) → ⊥) → r ≢ w / 7 → IsReserveOf r m → IsReserveOf r m'
 reserve-kept w r m m' only now other reserve =
@@ -98,23 +109,22 @@ index-put w tag x m m' slots slots' blocks blocks' at index low free now only ou
       listed = listed-after m m' slots' blocks' e
           (listed-live w (data_blocks m) (slot_at m) (later m m') (kind_at m) (kind_at m') slots slots' blocks blocks' low (place-others w m m' only) (place-kinds w m m' only) free (live-after w m m' tag x e now) marked index.listed);
       ahead = ahead;
-      reserve = spare-block at.reserve m' (reserve-kept w at.reserve m m' only (live-bare (slot_at m' w) (tag, x, now)) outside index.highest);
-      highest = reserve-kept w at.reserve m m' only (live-bare (slot_at m' w) (tag, x, now)) outside index.highest;
+      reserve = spare-kept w at.reserve m m' only outside index.reserve;
+      highest = λ by. reserve-kept w at.reserve m m' only (live-bare (slot_at m' w) (tag, x, now)) outside (index.highest by);
     }
 
 -- a slot was retired
 pub index-retired : (w : ℕ) (m m' : List ℕ) (slots slots' : List SlotState) (blocks blocks' : List BlockState) (at at' : Cursors) → IsIndexOf slots blocks at m → w < slot_count m → IsLive (slot_at m w) → slot_at m' w ≡ Dead
-    → OnlyPlace w m m' → Marked w states.Dead (one_dead_more (in_block blocks (w / 7))) slots slots' blocks blocks' → IsAhead blocks' at' → at'.reserve ≡ at.reserve → IsIndexOf slots' blocks' at' m'
-index-retired w m m' slots slots' blocks blocks' at at' index low live now only marked ahead same =
+    → OnlyPlace w m m' → Marked w states.Dead (one_dead_more (in_block blocks (w / 7))) slots slots' blocks blocks' → IsAhead blocks' at' → at'.reserve ≡ at.reserve → at'.policy ≡ at.policy → IsIndexOf slots' blocks' at' m'
+index-retired w m m' slots slots' blocks blocks' at at' index low live now only marked ahead same policy =
     let e = only.only.chip.same_length in
-    let reserve = subst (λ r. IsReserveOf r m') (sym same)
-    (reserve-kept w at.reserve m m' only (λ bare. subst (λ a. IsBare a) now bare) (spare-not m at.reserve w (slot_at m w) index.reserve.spare refl (live-bare (slot_at m w) live)) index.highest) in
+    let apart = spare-not m at.reserve w (slot_at m w) index.reserve.spare refl (live-bare (slot_at m w) live) in
     record {
       listed = listed-after m m' slots' blocks' e
           (listed-dead w (data_blocks m) (slot_at m) (later m m') (kind_at m) (kind_at m') slots slots' blocks blocks' low (place-others w m m' only) (place-kinds w m m' only) live (sym (later-is m m' w e) ∙ now) marked index.listed);
       ahead = ahead;
-      reserve = spare-block at'.reserve m' reserve;
-      highest = reserve;
+      reserve = subst (λ r. IsSpareBlock r m') (sym same) (spare-kept w at.reserve m m' only apart index.reserve);
+      highest = λ by. subst (λ r. IsReserveOf r m') (sym same) (reserve-kept w at.reserve m m' only (λ bare. subst (λ a. IsBare a) now bare) apart (index.highest (sym policy ∙ by)));
     }
 
 -- where the index looks next stays where a free slot becomes live
@@ -163,14 +173,14 @@ put-indexed w tag m m' slots slots' blocks blocks' at at' index low free now onl
       let listed = listed-after m m' slots' blocks' e
       (listed-live w (data_blocks m) (slot_at m) (later m m') (kind_at m) (kind_at m') slots slots' blocks blocks' low (place-others w m m' only) (place-kinds w m m' only) free (live-after w m m' tag now.0 e now.1) marked index.listed) in
       let reserve = reserve-is m' slots' blocks' at'.reserve (λ d inside. let here : d < data_blocks m = omega (arith, n, inside) in subst (λ k. IsAtRest k) (sym (place-kinds w m m' only d here)) (outside.rest d here)) listed next.1 in
-      record { listed = listed; ahead = next.0; reserve = spare-block at'.reserve m' reserve; highest = reserve }
+      record { listed = listed; ahead = next.0; reserve = spare-block at'.reserve m' reserve; highest = λ by. reserve }
 ]
 
 pub retire-indexed : (w : ℕ) (m m' : List ℕ) (slots slots' : List SlotState) (blocks blocks' : List BlockState) (at at' : Cursors) → IsIndexOf slots blocks at m → w < slot_count m
     → IsLive (slot_at m w) → slot_at m' w ≡ Dead → OnlyPlace w m m' → Marked w states.Dead (one_dead_more (in_block blocks (w / 7))) slots slots' blocks blocks'
-    → (IsAhead blocks at → IsAhead blocks' at') → at'.reserve ≡ at.reserve → IsIndexOf slots' blocks' at' m'
-retire-indexed w m m' slots slots' blocks blocks' at at' index low live now only marked ahead same =
-    index-retired w m m' slots slots' blocks blocks' at at' index low live now only marked (ahead index.ahead) same
+    → (IsAhead blocks at → IsAhead blocks' at') → at'.reserve ≡ at.reserve → at'.policy ≡ at.policy → IsIndexOf slots' blocks' at' m'
+retire-indexed w m m' slots slots' blocks blocks' at at' index low live now only marked ahead same policy =
+    index-retired w m m' slots slots' blocks blocks' at at' index low live now only marked (ahead index.ahead) same policy
 
 -- a store whose memory is the same, or of which nothing is known any more but its size
 pub stocked-same : (slots : List SlotState) (blocks : List BlockState) (at : Cursors) (indexed : Bool) (m m' : List ℕ) → m' ≡ m → IsStocked slots blocks at indexed m → IsStocked slots blocks at indexed m'

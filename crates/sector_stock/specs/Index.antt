@@ -1,7 +1,7 @@
 -- The index of a store's slots in memory: what it says of each slot and block, and where it looks
 -- next. Source: own, layout 2.
 use Rattle.std.specs.Prelude.{◌≡◌, ◌≢◌, ℕ, ◌+◌, ◌-◌, ◌*◌, ◌/◌, ◌<◌, ◌≤◌, Bool, true, false, List}
-use Rattle.std.specs.Prelude.{length, slice_index_or}
+use Rattle.std.specs.Prelude.{length, slice_index_or, min}
 use Rattle.chip_model.specs.Geometry.{IsChipSize}
 use Rattle.erase_journal.specs.Places.{how_many}
 use Rattle.nor_layout.specs.declared.header.Header.{Header}
@@ -11,6 +11,8 @@ use Rattle.sector_slots.specs.Slots.{slot_count, kind_at, raw_slot, data_blocks}
 use Rattle.sector_stock.specs.declared.index.SlotState.{SlotState}
 use Rattle.sector_stock.specs.declared.index.BlockState.{BlockState}
 use Rattle.sector_stock.specs.declared.index.Cursors.{Cursors}
+use Rattle.sector_stock.specs.declared.policy.Policy.{Policy}
+use Rattle.sector_stock.specs.declared.policy.Policy.TheVariants as policies
 use Rattle.sector_slots.specs.Blocks.{IsReserveOf}
 use Rattle.sector_stock.specs.Room.{IsSpareBlock}
 use Rattle.nor_layout.specs.declared.header.Header.TheVariants as headers
@@ -73,7 +75,7 @@ pub record Tallies (b : BlockState) (f : ℕ → Slot) (kind : ℕ → Kind) (c 
 
 -- past the end of the list, for reading it
 abbrev pub no_block : BlockState
-no_block = record { free = 0; dead = 0; plain = false; group = false }
+no_block = record { free = 0; dead = 0; plain = false; group = false; erases = 0 }
 
 abbrev pub in_block : List BlockState → ℕ → BlockState
 in_block blocks c = slice_index_or blocks c no_block
@@ -104,13 +106,14 @@ pub record IsAhead (blocks : List BlockState) (at : Cursors) : Type 0 where
   pub most : (c : ℕ) → c < length blocks → (in_block blocks c).dead ≤ at.most
   pub from : (c : ℕ) → c < length blocks → c < at.from → (in_block blocks c).dead ≢ at.most
 
--- the index of a memory: its reserve is wholly free, the highest-numbered such block
+-- The index of a memory: its reserve is wholly free, and where it chooses by number the highest-
+-- numbered such block.
 pub record IsIndexOf (slots : List SlotState) (blocks : List BlockState) (at : Cursors)
     (m : List ℕ) : Type 0 where
   pub listed : IsListed slots blocks (slot_at m) (kind_at m) (data_blocks m)
   pub ahead : IsAhead blocks at
   pub reserve : IsSpareBlock at.reserve m
-  pub highest : IsReserveOf at.reserve m
+  pub highest : at.policy ≡ policies.Lowest → IsReserveOf at.reserve m
 
 -- What the lists and cursors of a store with this memory are: of its size, and where they are said
 -- to be right, its index.
@@ -140,11 +143,13 @@ one_dead_more b = record b { dead = b.dead + 1 }
 abbrev pub one_free_fewer : BlockState → BlockState
 one_free_fewer b = record b { free = b.free - 1 }
 
--- the block with the most dead slots, the lowest-numbered of equals; or none is dead
+-- a block with the most dead slots; the lowest-numbered of them; or none is dead
 abbrev pub IsMostDead : List BlockState → ℕ → Type 0
 IsMostDead blocks b = (b < length blocks) × (0 < (in_block blocks b).dead)
     × ((c : ℕ) → c < length blocks → (in_block blocks c).dead ≤ (in_block blocks b).dead)
-    × ((c : ℕ) → c < b → (in_block blocks c).dead < (in_block blocks b).dead)
+
+abbrev pub IsLowestDead : List BlockState → ℕ → Type 0
+IsLowestDead blocks b = (c : ℕ) → c < b → (in_block blocks c).dead < (in_block blocks b).dead
 
 abbrev pub HasNoDead : List BlockState → Type 0
 HasNoDead blocks = (c : ℕ) → c < length blocks → (in_block blocks c).dead ≡ 0
@@ -161,6 +166,10 @@ HasNoGroup blocks = (c : ℕ) → c < length blocks → (in_block blocks c).grou
 abbrev pub IsLowestWithFree : List BlockState → ℕ → ℕ → Type 0
 IsLowestWithFree blocks r b = (b < length blocks) × (b ≢ r) × (0 < (in_block blocks b).free)
     × ((c : ℕ) → c < b → c ≢ r → (in_block blocks c).free ≡ 0)
+
+-- a block but the reserve that has one
+abbrev pub HasFreeBut : List BlockState → ℕ → ℕ → Type 0
+HasFreeBut blocks r b = (b < length blocks) × (b ≢ r) × (0 < (in_block blocks b).free)
 
 abbrev pub HasNoFreeBut : List BlockState → ℕ → Type 0
 HasNoFreeBut blocks r = (c : ℕ) → c < length blocks → c ≢ r → (in_block blocks c).free ≡ 0
@@ -184,17 +193,29 @@ pub record Shifted (k s t : ℕ) (slots slots' : List SlotState) : Type 0 where
   pub others : (w : ℕ) → w < length slots → ((i : ℕ) → i < k → (w ≢ 7 * t + i) × (w ≢ 7 * s + i))
       → in_slots slots' w ≡ in_slots slots w
 
+-- a count of erases and one more, at most 65,535
+abbrev pub one_erase_more : ℕ → ℕ
+one_erase_more n = min (n + 1) 65535
+
 -- Block s was copied into block t: t has as many free slots as s had free and dead ones, and none
--- dead; s is wholly free.
+-- dead; s is wholly free, and was erased once more.
 pub record BlocksMoved (s t : ℕ) (blocks blocks' : List BlockState) : Type 0 where
   pub size : length blocks' ≡ length blocks
-  pub source : in_block blocks' s ≡ record { free = 7; dead = 0; plain = true; group = false }
+  pub source : in_block blocks' s ≡
+      record {
+        free = 7;
+        dead = 0;
+        plain = true;
+        group = false;
+        erases = one_erase_more (in_block blocks s).erases;
+      }
   pub target : in_block blocks' t ≡
       record {
         free = (in_block blocks s).free + (in_block blocks s).dead;
         dead = 0;
         plain = false;
         group = false;
+        erases = (in_block blocks t).erases;
       }
   pub others : (c : ℕ) → c < length blocks → c ≢ s → c ≢ t → in_block blocks' c ≡ in_block blocks c
 
@@ -203,6 +224,12 @@ pub record IsHighestWhole (blocks : List BlockState) (r : ℕ) : Type 0 where
   pub number : r < length blocks
   pub whole : IsWholeBlock (in_block blocks r)
   pub highest : (c : ℕ) → c < length blocks → IsWholeBlock (in_block blocks c) → c ≤ r
+
+-- block r is wholly free, and where blocks are chosen by number the highest-numbered such block
+pub record IsNextReserve (policy : Policy) (blocks : List BlockState) (r : ℕ) : Type 0 where
+  pub number : r < length blocks
+  pub whole : IsWholeBlock (in_block blocks r)
+  pub highest : policy ≡ policies.Lowest → IsHighestWhole blocks r
 
 -- what the index keeps of a slot with this descriptor
 abbrev pub header_state : Header → SlotState
@@ -250,6 +277,7 @@ pub record BlockNoted (c : ℕ) (kind : Kind) (heads : List Header) (slots slots
             c;
         plain = is_plain kind;
         group = is_live_group kind;
+        erases = 0;
       }
   pub other_blocks : (d : ℕ) → d < length blocks → d ≢ c → in_block blocks' d ≡ in_block blocks d
 
@@ -262,4 +290,5 @@ pub record IsNoted (c : ℕ) (slots : List SlotState) (blocks : List BlockState)
     dead = states_tally is_dead_state slots c;
     plain = is_plain (kind_at m c);
     group = is_live_group (kind_at m c);
+    erases = 0;
   }

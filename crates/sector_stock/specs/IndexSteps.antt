@@ -1,12 +1,11 @@
 -- How far a search of the index has come. Words of private functions: no claim rests on them.
 -- Source: own.
-use Rattle.std.specs.Prelude.{◌≡◌, ◌≢◌, ◌⊎◌, ℕ, ◌+◌, ◌*◌, ◌/◌, ◌<◌, ◌≤◌, List, length}
-use Rattle.sector_slots.specs.Slots.{Free}
+use Rattle.std.specs.Prelude.{◌≡◌, ◌≢◌, ◌⊎◌, ℕ, zero, suc, ◌+◌, ◌*◌, ◌/◌, ◌<◌, ◌≤◌, List, length}
 use Rattle.sector_stock.specs.declared.index.SlotState.{SlotState}
 use Rattle.sector_stock.specs.declared.index.BlockState.{BlockState}
 use Rattle.sector_stock.specs.declared.index.Cursors.{Cursors}
 use Rattle.sector_stock.specs.declared.index.SlotState.TheVariants as states
-use Rattle.sector_stock.specs.Index.{in_block, IsWholeBlock, in_slots, IsHighestWhole}
+use Rattle.sector_stock.specs.Index.{in_block, IsWholeBlock, in_slots, IsNextReserve}
 
 -- each wholly free block but r lies below this one
 abbrev pub AreSparesBelow : List BlockState → ℕ → ℕ → Type 0
@@ -21,6 +20,7 @@ IsPassed at c = (c < at.cursor) ⊎ (at.beyond ≤ c)
 pub record Widened (b : ℕ) (old new : Cursors) : Type 0 where
   pub passed : (c : ℕ) → IsPassed new c → IsPassed old c × (c ≢ b)
   pub within : (new.beyond ≤ old.beyond) ⊎ (new.beyond ≡ b + 1)
+  pub policy : new.policy ≡ old.policy
   pub reserve : new.reserve ≡ old.reserve
   pub spares : new.spares ≡ old.spares
   pub most : new.most ≡ old.most
@@ -28,13 +28,19 @@ pub record Widened (b : ℕ) (old new : Cursors) : Type 0 where
 
 -- the reserve is another one, and where its search ends; all else stays
 pub record NextReserve (blocks : List BlockState) (old new : Cursors) : Type 0 where
-  pub highest : IsHighestWhole blocks new.reserve
+  pub policy : new.policy ≡ old.policy
+  pub reserve : IsNextReserve new.policy blocks new.reserve
   pub spares : AreSparesBelow blocks new.reserve new.spares
   pub within : new.spares ≤ length blocks
   pub cursor : new.cursor ≡ old.cursor
   pub beyond : new.beyond ≡ old.beyond
   pub most : new.most ≡ old.most
   pub from : new.from ≡ old.from
+
+-- how many slots the first n blocks have free
+unfoldable pub free_below : List BlockState → ℕ → ℕ
+free_below blocks zero = 0
+free_below blocks (suc n) = (in_block blocks n).free + free_below blocks n
 
 -- no slot of block b is free; or slot w is the first free one of it
 abbrev pub HasNoFreeState : List SlotState → ℕ → Type 0

@@ -1,11 +1,10 @@
 -- What giving a slot leaves: nothing changed, or a block was copied into a wholly free one first.
 -- Source: own, layout 2.
-use Rattle.std.specs.Prelude.{◌≡◌, ◌≢◌, ℕ, ◌+◌, ◌*◌, Bool, true, false, ◌/◌, ◌<◌, ◌≤◌, List}
-use Rattle.std.specs.Prelude.{Option, Some, None}
+use Rattle.std.specs.Prelude.{◌≡◌, ◌≢◌, ℕ, ◌+◌, ◌-◌, ◌*◌, Bool, false, ◌/◌, ◌<◌, ◌≤◌, List}
+use Rattle.std.specs.Prelude.{Option, Some, None, if◌then◌else◌, nat_lt}
 use Rattle.nor_layout.specs.declared.header.Generation.{Generation}
 use Rattle.nor_layout.specs.declared.header.Generation.TheVariants as generations
 use Rattle.nor_layout.specs.declared.header.Tag.{Tag}
-use Rattle.nor_layout.specs.declared.kind.Kind.{Kind}
 use Rattle.nor_layout.specs.declared.kind.Kind.TheVariants as kinds
 use Rattle.erase_journal.specs.Blocks.{SameChip}
 use Rattle.erase_journal.specs.Places.{how_many}
@@ -16,7 +15,7 @@ use Rattle.sector_slots.specs.Blocks.{AreSettled, IsReserveOf}
 use Rattle.sector_slots.specs.Copying.{shifted}
 use Rattle.sector_stock.specs.declared.given.Copied.{Copied}
 use Rattle.sector_stock.specs.Room.{HasNoneDead, IsSpareBlock, IsFull}
-use Rattle.sector_stock.specs.Index.{tally, is_dead, is_live_group}
+use Rattle.sector_stock.specs.Index.{tally, is_dead, is_free_slot, is_live_group}
 use Rattle.sector_stock.specs.Copy.{SameSectors}
 
 -- how many slots of data block c are dead, and of all
@@ -31,12 +30,15 @@ pub record HasDead (s : ℕ) (m : List ℕ) : Type 0 where
   pub number : s < data_blocks m
   pub some : 0 < dead_in m s
 
--- the block with the most dead slots, the lowest-numbered of equals
+-- a block with the most dead slots
 pub record HasMostDead (s : ℕ) (m : List ℕ) : Type 0 where
   pub number : s < data_blocks m
   pub some : 0 < dead_in m s
   pub most : (c : ℕ) → c < data_blocks m → dead_in m c ≤ dead_in m s
-  pub lowest : (c : ℕ) → c < s → dead_in m c < dead_in m s
+
+-- where no block of a lower number has so many
+abbrev pub HasFewerBelow : ℕ → List ℕ → Type 0
+HasFewerBelow s m = (c : ℕ) → c < s → dead_in m c < dead_in m s
 
 -- no block is of a group that wasn't one of it
 abbrev pub MakesNoGroup : List ℕ → List ℕ → Type 0
@@ -60,12 +62,28 @@ pub record Shifts (s t : ℕ) (m m' : List ℕ) : Type 0 where
   pub sectors : IsClean m → SameSectors m m'
   pub clean : IsClean m → IsClean m'
 
+-- block s was copied into block t, which was wholly free; now s is
+pub record MovesInto (s t : ℕ) (m m' : List ℕ) : Type 0 where
+  pub source : s < data_blocks m
+  pub target : IsSpareBlock t m
+  pub shifts : Shifts s t m m'
+  pub erased : IsSpareIn m' s
+
 -- block s, of which a slot was dead, was copied into block t, which was wholly free; now s is
 pub record CopiesInto (s t : ℕ) (m m' : List ℕ) : Type 0 where
   pub source : HasDead s m
   pub target : IsSpareBlock t m
   pub shifts : Shifts s t m m'
   pub erased : IsSpareIn m' s
+
+-- how many slots are free; and whether fewer than an eighth of those beyond what the sectors need
+-- are, the reserve's not counted
+abbrev pub free_slots : List ℕ → ℕ
+free_slots m = how_many (λ s. is_free_slot (slot_at m s)) (slot_count m)
+
+unfoldable pub is_short : List ℕ → Bool
+is_short m = nat_lt (8 * (free_slots m - 7))
+    (7 * data_blocks m - 7 - 7 * (7 * data_blocks m / 8))
 
 -- how many blocks are live with a group, and what is left to be tidied: dead slots, and those
 -- blocks
@@ -74,6 +92,10 @@ live_groups m = how_many (λ c. is_live_group (kind_at m c)) (data_blocks m)
 
 abbrev pub work_of : List ℕ → ℕ
 work_of m = dead_slots m + live_groups m
+
+-- what of it is to be done at once: nothing, while enough slots are free
+abbrev pub urgent_work : List ℕ → ℕ
+urgent_work m = if is_short m then work_of m else 0
 
 abbrev pub IsLiveGroup : ℕ → List ℕ → Type 0
 IsLiveGroup s m = (group : Tag) × (kind_at m s ≡ kinds.Group group)

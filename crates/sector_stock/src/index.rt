@@ -5,13 +5,20 @@ ghost use Rattle.std.specs.Prelude.{◌≡◌, ◌≢◌, ◌⊎◌, ◌+◌, �
 ghost use Rattle.std.specs.Prelude.{MatchOption, IfSome};
 ghost use Rattle.sector_stock.specs.Index.{IsAhead, Marked, one_dead_more, one_free_fewer};
 ghost use Rattle.sector_stock.specs.Index.{in_block, IsMostDead, HasNoDead, IsLowestWithFree};
+ghost use Rattle.sector_stock.specs.Index.{HasFreeBut};
 ghost use Rattle.sector_stock.specs.Index.{HasNoFreeBut, copied_state, Shifted, IsIndexOf};
-ghost use Rattle.sector_stock.specs.Index.{IsWholeBlock, BlocksMoved, IsHighestWhole};
+ghost use Rattle.sector_stock.specs.Index.{IsWholeBlock, BlocksMoved, IsNextReserve};
+ghost use Rattle.sector_stock.specs.Index.{one_erase_more, IsLowestDead};
+ghost use Rattle.sector_stock.specs.Policies.{IsLeastWorn, HasNoneWanted};
+ghost use Rattle.sector_stock.specs.declared.policy.Policy.TheVariants as policies;
+ghost use Rattle.sector_stock.specs.declared.policy.Wanted.TheVariants as wanteds;
 ghost use Rattle.sector_stock.specs.IndexSteps.{AreSparesBelow, NextReserve, Widened};
 ghost use Rattle.sector_stock.specs.IndexSteps.{HasNoFreeState, IsFirstFreeState};
 ghost use Rattle.sector_stock.specs.Room.{HasNoneFree};
 ghost use Rattle.sector_stock.specs.Index.{IsLowestGroup, HasNoGroup};
 ghost use Rattle.sector_stock.specs.Takes.{IsGivable, IsLowestFree};
+
+use crate::policy::{Policy, Wanted, is_whole, least_worn, most_worn};
 
 /// What the index keeps of a slot. Source: own.
 #[derive(Clone, Copy, Debug, PartialEq, Eq, Drop)]
@@ -22,19 +29,23 @@ pub enum SlotState {
 }
 
 /// What it keeps of a block: how many of its slots are free and dead, whether no copy was ever
-/// begun in it, and whether it is live with a group.
+/// begun in it, and whether it is live with a group; and how often it was erased since the index
+/// was made, at most 65,535.
 #[derive(Clone, Copy, Debug, PartialEq, Eq, Drop)]
 pub struct BlockState {
     pub free: u8,
     pub dead: u8,
     pub plain: bool,
     pub group: bool,
+    pub erases: u16,
 }
 
 /// Where it looks next.
 #[derive(Clone, Copy, Debug, PartialEq, Eq, Drop)]
 pub struct Cursors {
-    /// The highest-numbered wholly free block.
+    /// How it chooses.
+    pub policy: Policy,
+    /// A wholly free block; where it chooses by number, the highest-numbered one.
     pub reserve: u16,
     /// Each other wholly free block lies below this one.
     pub spares: u16,
@@ -46,6 +57,12 @@ pub struct Cursors {
     pub most: u8,
     /// and below this one none has so many.
     pub from: u16,
+    /// Erases that no block was moved for yet, at most 65,535.
+    pub turn: u16,
+    /// Of blocks that were erased equally often the first one behind this one is taken.
+    pub clock: u16,
+    /// The block of the slot that was given last.
+    pub newest: u16,
 }
 
 /// A live slot became dead.
@@ -57,6 +74,7 @@ pub fn mark_dead(slots: &mut [SlotState], blocks: &mut [BlockState], at: &mut Cu
         slots.old slots.new blocks.old blocks.new }
     ensures ahead { IsAhead blocks.old at.old → IsAhead blocks.new at.new }
     ensures reserve { at.new.reserve ≡ at.old.reserve }
+    ensures policy { at.new.policy ≡ at.old.policy }
 {
     slots[slot as usize] = SlotState::Dead;
     let block = slot / 7;
@@ -83,13 +101,56 @@ pub fn mark_live(slots: &mut [SlotState], blocks: &mut [BlockState], slot: u16)
     blocks[block as usize].free -= 1;
 }
 
-/// The block with the most dead slots, the lowest-numbered of equals.
+/// A block with the most dead slots: the lowest-numbered, or the least worn, as is chosen.
 pub fn most_dead(blocks: &[BlockState], at: &mut Cursors) -> Option<u16>
     requires size { length blocks.now < 65536 }
     requires ahead { IsAhead blocks.now at.old }
     ensures found { MatchOption result (HasNoDead blocks.now) (λ b. IsMostDead blocks.now b) }
+    ensures lowest { at.old.policy ≡ policies.Lowest
+        → IfSome result (λ b. IsLowestDead blocks.now b) }
+    ensures level { at.old.policy ≡ policies.Level → IfSome result (λ b. (c : ℕ)
+        → c < length blocks.now → (in_block blocks.now c).dead ≡ (in_block blocks.now b).dead
+        → (in_block blocks.now b).erases ≤ (in_block blocks.now c).erases) }
     ensures ahead { IsAhead blocks.now at.new }
     ensures reserve { at.new.reserve ≡ at.old.reserve }
+    ensures policy { at.new.policy ≡ at.old.policy }
+{
+    let Some(lowest) = lowest_dead(blocks, at) else {
+        return None;
+    };
+    match at.policy {
+        Policy::Lowest => Some(lowest),
+        Policy::Level => Some(least_worn_dead(blocks, lowest, behind(at.clock))),
+    }
+}
+
+/// Of the blocks with as many dead slots as this one, the one that was erased least.
+fn least_worn_dead(blocks: &[BlockState], like: u16, from: u16) -> u16
+    requires size { length blocks.now < 65536 }
+    requires like { like < length blocks.now }
+    ensures number { result < length blocks.now }
+    ensures dead { (in_block blocks.now result).dead ≡ (in_block blocks.now like).dead }
+    ensures least { (c : ℕ) → c < length blocks.now
+        → (in_block blocks.now c).dead ≡ (in_block blocks.now like).dead
+        → (in_block blocks.now result).erases ≤ (in_block blocks.now c).erases }
+{
+    let wanted = Wanted::Dead(blocks[like as usize].dead);
+    let past_all = blocks.len() as u16;
+    let Some(block) = least_worn(blocks, wanted, past_all, from) else {
+        unreachable!()
+    };
+    block
+}
+
+/// The block with the most dead slots, the lowest-numbered of equals.
+fn lowest_dead(blocks: &[BlockState], at: &mut Cursors) -> Option<u16>
+    requires size { length blocks.now < 65536 }
+    requires ahead { IsAhead blocks.now at.old }
+    ensures found { MatchOption result (HasNoDead blocks.now)
+        (λ b. IsMostDead blocks.now b × IsLowestDead blocks.now b) }
+    ensures ahead { IsAhead blocks.now at.new }
+    ensures reserve { at.new.reserve ≡ at.old.reserve }
+    ensures policy { at.new.policy ≡ at.old.policy }
 {
     while at.most > 0 {
         match first_with(blocks, at.from, at.most) {
@@ -137,14 +198,77 @@ pub fn lowest_group(blocks: &[BlockState]) -> Option<u16>
     None
 }
 
+/// A block but the reserve that has a free slot: the lowest-numbered, or as `level_with_free`
+/// gives it, as is chosen.
+pub fn block_with_free(blocks: &[BlockState], at: &mut Cursors) -> Option<u16>
+    requires size { length blocks.now < 65536 }
+    requires ahead { IsAhead blocks.now at.old }
+    ensures found { MatchOption result (HasNoFreeBut blocks.now at.old.reserve)
+        (λ b. HasFreeBut blocks.now at.old.reserve b) }
+    ensures lowest { at.old.policy ≡ policies.Lowest
+        → IfSome result (λ b. IsLowestWithFree blocks.now at.old.reserve b) }
+    ensures ahead { IsAhead blocks.now at.new }
+    ensures reserve { at.new.reserve ≡ at.old.reserve }
+    ensures policy { at.new.policy ≡ at.old.policy }
+{
+    match at.policy {
+        Policy::Lowest => lowest_with_free(blocks, at),
+        Policy::Level => {
+            let Some(block) = level_with_free(blocks, at.reserve, behind(at.clock)) else {
+                return None;
+            };
+            at.newest = block;
+            Some(block)
+        }
+    }
+}
+
+/// Where the order of blocks that were erased equally often begins.
+pub fn behind(clock: u16) -> u16 {
+    clock.saturating_add(1)
+}
+
+/// Another wholly free block is the reserve.
+pub fn choose_reserve(blocks: &[BlockState], at: &mut Cursors, reserve: u16)
+    requires size { length blocks.now < 65536 }
+    requires number { reserve < length blocks.now }
+    requires old { at.old.reserve < length blocks.now }
+    requires ahead { IsAhead blocks.now at.old }
+    ensures ahead { IsAhead blocks.now at.new }
+    ensures reserve { at.new.reserve ≡ reserve }
+    ensures policy { at.new.policy ≡ at.old.policy }
+{
+    widen(at, at.reserve);
+    at.reserve = reserve;
+    at.spares = blocks.len() as u16;
+}
+
+/// The least worn block that was begun, but the reserve; where none was, the least worn wholly free
+/// one.
+fn level_with_free(blocks: &[BlockState], reserve: u16, from: u16) -> Option<u16>
+    requires size { length blocks.now < 65536 }
+    ensures found { MatchOption result (HasNoFreeBut blocks.now reserve)
+        (λ b. HasFreeBut blocks.now reserve b) }
+    ensures level { IfSome result (λ b. IsLeastWorn wanteds.Begun reserve blocks.now
+        (length blocks.now) b ⊎ (HasNoneWanted wanteds.Begun reserve blocks.now
+        (length blocks.now) × IsLeastWorn wanteds.Whole reserve blocks.now
+        (length blocks.now) b)) }
+{
+    match least_worn(blocks, Wanted::Begun, reserve, from) {
+        Some(block) => Some(block),
+        None => least_worn(blocks, Wanted::Whole, reserve, from),
+    }
+}
+
 /// The lowest-numbered block but the reserve that has a free slot.
-pub fn lowest_with_free(blocks: &[BlockState], at: &mut Cursors) -> Option<u16>
+fn lowest_with_free(blocks: &[BlockState], at: &mut Cursors) -> Option<u16>
     requires size { length blocks.now < 65536 }
     requires ahead { IsAhead blocks.now at.old }
     ensures found { MatchOption result (HasNoFreeBut blocks.now at.old.reserve)
         (λ b. IsLowestWithFree blocks.now at.old.reserve b) }
     ensures ahead { IsAhead blocks.now at.new }
     ensures reserve { at.new.reserve ≡ at.old.reserve }
+    ensures policy { at.new.policy ≡ at.old.policy }
 {
     match first_free(blocks, at.cursor, at.beyond, at.reserve) {
         Some(block) => {
@@ -211,17 +335,20 @@ fn move_counts(blocks: &mut [BlockState], source: u16, target: u16)
     ensures { BlocksMoved source target blocks.old blocks.new }
 {
     let old = blocks[source as usize];
+    let worn = blocks[target as usize].erases;
     blocks[target as usize] = BlockState {
         free: old.free + old.dead,
         dead: 0,
         plain: false,
         group: false,
+        erases: worn,
     };
     blocks[source as usize] = BlockState {
         free: 7,
         dead: 0,
         plain: true,
         group: false,
+        erases: old.erases.saturating_add(1),
     };
 }
 
@@ -236,8 +363,7 @@ pub fn highest_whole(blocks: &[BlockState], least: u16, below: u16) -> u16
 {
     let mut block = below - 1;
     while block > least {
-        let state = blocks[block as usize];
-        if state.plain && state.free == 7 {
+        if is_whole(blocks[block as usize]) {
             return block;
         }
         block -= 1;
@@ -245,9 +371,28 @@ pub fn highest_whole(blocks: &[BlockState], least: u16, below: u16) -> u16
     least
 }
 
-/// The reserve once block `source` is wholly free, and the old one isn't. The search goes on from
-/// where it ended: no block becomes wholly free but such a source.
+/// The reserve once block `source` is wholly free, and the old one isn't. By number the search goes
+/// on from where it ended: no block becomes wholly free but such a source.
 fn next_reserve(blocks: &[BlockState], at: &mut Cursors, source: u16)
+    requires size { length blocks.now < 65536 }
+    requires source { source < length blocks.now }
+    requires whole { IsWholeBlock (in_block blocks.now source) }
+    requires spares { AreSparesBelow blocks.now source at.old.spares }
+    requires within { at.old.spares ≤ length blocks.now }
+    ensures { NextReserve blocks.now at.old at.new }
+{
+    match at.policy {
+        Policy::Lowest => next_highest(blocks, at, source),
+        Policy::Level => {
+            at.reserve = most_worn(blocks, source);
+            at.spares = blocks.len() as u16;
+            at.turn = at.turn.saturating_add(1);
+        }
+    }
+}
+
+/// The highest-numbered wholly free block is the reserve.
+fn next_highest(blocks: &[BlockState], at: &mut Cursors, source: u16)
     requires source { source < length blocks.now }
     requires whole { IsWholeBlock (in_block blocks.now source) }
     requires spares { AreSparesBelow blocks.now source at.old.spares }
@@ -289,7 +434,8 @@ pub fn move_block(blocks: &mut [BlockState], at: &mut Cursors, source: u16)
     requires ahead { IsAhead blocks.old at.old }
     ensures moved { BlocksMoved source at.old.reserve blocks.old blocks.new }
     ensures ahead { IsAhead blocks.new at.new }
-    ensures reserve { IsHighestWhole blocks.new at.new.reserve }
+    ensures reserve { IsNextReserve at.old.policy blocks.new at.new.reserve }
+    ensures policy { at.new.policy ≡ at.old.policy }
 {
     let target = at.reserve;
     move_counts(blocks, source, target);
@@ -300,19 +446,20 @@ pub fn move_block(blocks: &mut [BlockState], at: &mut Cursors, source: u16)
     }
 }
 
-/// The lowest-numbered free slot outside the reserve.
-pub fn lowest_free(states: &[SlotState], blocks: &[BlockState], at: &mut Cursors) -> Option<u16>
+/// A free slot outside the reserve: the lowest-numbered where it chooses by number.
+pub fn free_slot(states: &[SlotState], blocks: &[BlockState], at: &mut Cursors) -> Option<u16>
     requires size { length states.now < 65536 }
     requires states { length states.now ≡ 7 * length blocks.now }
     requires ahead { IsAhead blocks.now at.old }
     ensures found { (m : List ℕ) → IsIndexOf states.now blocks.now at.old m
         → MatchOption result (HasNoneFree at.old.reserve m) (λ w. IsGivable w m) }
-    ensures lowest { (m : List ℕ) → IsIndexOf states.now blocks.now at.old m
-        → IfSome result (λ w. IsLowestFree w m) }
+    ensures lowest { at.old.policy ≡ policies.Lowest → (m : List ℕ)
+        → IsIndexOf states.now blocks.now at.old m → IfSome result (λ w. IsLowestFree w m) }
     ensures ahead { IsAhead blocks.now at.new }
     ensures reserve { at.new.reserve ≡ at.old.reserve }
+    ensures policy { at.new.policy ≡ at.old.policy }
 {
-    match lowest_with_free(blocks, at) {
+    match block_with_free(blocks, at) {
         Some(block) => first_place(states, block),
         None => None,
     }

@@ -2,11 +2,12 @@
 //! copying into a reserve.
 //!
 //! Promised: `Stock` is a store of slots with an index that is that of the memory while its flag
-//! says so (docs/INDEX.md); `fill` makes it from one read of each block. `take_free` always gives a
-//! slot, the lowest-numbered free one outside the reserve; where none is free, the block with the
-//! most dead slots is copied into the reserve first (docs/COPYING.md). `tidy` copies that block, or
-//! where no slot is dead makes the lowest-numbered block of a group of layout 1 slots of the
-//! reserve, as `convert` does; it answers None exactly where there is neither. Each also tells
+//! says so (docs/SECTORS.md); `fill` makes it from one read of each block. `take_free` always gives
+//! a free slot outside the reserve, by `Policy::Lowest` the lowest-numbered one, by `Policy::Level`
+//! one that wears the blocks alike (docs/WEAR.md); where none is free, a block with the most dead
+//! slots is copied into the reserve first. `tidy` copies such a block, or where no slot is dead
+//! makes the lowest-numbered block of a group of layout 1 slots of the reserve, as `convert` does;
+//! it answers None exactly where there is neither. Each also tells
 //! which block was copied where: its live slots keep their places and tags, of a group with the
 //! first generation. Cut anywhere, they leave slots and blocks that a mount accepts, and where what
 //! read as free was erased each sector as it was. `end_void`, `end_committed` and `end_erased` end
@@ -21,7 +22,10 @@ mod copy;
 mod given;
 mod index;
 mod laws;
+mod level;
+mod policy;
 mod reclaim;
+mod room;
 mod scan;
 mod stock;
 mod take;
@@ -29,11 +33,14 @@ mod take;
 pub use copy::{end_committed, end_erased, end_void, reclaim_into};
 pub use given::{Copied, Given};
 pub use index::{
-    BlockState, Cursors, SlotState, lowest_free, lowest_with_free, mark_dead, mark_live, most_dead,
-    move_block, shift_states,
+    BlockState, Cursors, SlotState, free_slot, mark_dead, mark_live, most_dead, move_block,
+    shift_states,
 };
 pub use laws::{never_full, slots_outnumber_sectors, sound_maps_have_room};
+pub use level::level_in;
+pub use policy::{Next, Policy, Wanted, is_wanted, is_whole, least_worn, most_worn};
 pub use reclaim::Reclaim;
+pub use room::is_short_in;
 pub use scan::{fill_index, first_cursors, mark_written, note_block};
 pub use stock::Stock;
 pub use take::{take_in, tidy_in};

@@ -1,6 +1,7 @@
 //! Where a store of slots gets its free slots from: the contract of `Stock`.
 
-ghost use Rattle.std.specs.Prelude.{◌≡◌, ◌≢◌, ◌⊎◌, ◌/◌, ◌<◌, ℕ, true, Some, None, length, OnOk};
+ghost use Rattle.std.specs.Prelude.{◌≡◌, ◌≢◌, ◌⊎◌, ◌/◌, ◌<◌, ◌≤◌, ℕ, true, Some, None};
+ghost use Rattle.std.specs.Prelude.{length, OnOk};
 ghost use Rattle.std.specs.Prelude.{IfOk, IfErr};
 ghost use Rattle.std.specs.Result.{IsErrOf};
 ghost use Rattle.nor_driver.specs.State.{IsNorReady, Refuses};
@@ -13,14 +14,17 @@ ghost use Rattle.sector_slots.specs.Steps.{IsWritable, PutLeaves, HoldsTag, MayH
 ghost use Rattle.sector_stock.specs.Room.{HasRoom, HasNoneDead, IsOutside};
 ghost use Rattle.sector_stock.specs.Copy.{Stays};
 ghost use Rattle.sector_slots.specs.Blocks.{IsReserveOf};
-ghost use Rattle.sector_stock.specs.Takes.{Takes, TidiesStock, HasNoGroups, work_of};
-ghost use Rattle.sector_stock.specs.Takes.{IsLowestFree, HasMostDead};
+ghost use Rattle.sector_stock.specs.Takes.{Takes, TidiesStock, HasNoGroups, is_short, work_of};
+ghost use Rattle.sector_stock.specs.Takes.{IsLowestFree, HasMostDead, HasFewerBelow, MovesInto};
+ghost use Rattle.sector_stock.specs.declared.policy.Policy.{Policy};
+ghost use Rattle.sector_stock.specs.declared.policy.Policy.TheVariants as policies;
 ghost use Rattle.sector_stock.specs.Takes.{Converts, IsLiveGroup};
 ghost use Rattle.sector_slots.specs.Slots.{data_blocks, kind_at};
 ghost use Rattle.sector_stock.specs.Index.{is_live_group};
 ghost use Rattle.sector_stock.specs.declared.given.Copied.{Copied as CopiedOf};
 
 use crate::given::{Copied, Given};
+use crate::policy::{Next, Policy};
 use nor_driver::NorError;
 use nor_layout::Tag;
 use sector_slots::SlotCalls;
@@ -29,19 +33,23 @@ use sector_slots::SlotCalls;
 /// keep; the calls of `SlotCalls` that change the memory don't. No call takes memory. Source: own,
 /// layout 2.
 pub trait Reclaim: SlotCalls {
+    /// How it chooses slots and blocks.
+    ghost policy: { Self → Policy };
+
     /// Reads the kinds and descriptors of all blocks into the index.
     fn fill(&mut self) -> Result<(), NorError>
         requires room { IsNorReady (Self.state self.old) → HasRoom (Self.state self.old).memory }
         ensures indexed { OnOk result (Self.indexed self.new ≡ true) }
+        ensures policy { OnOk result (policy self.new ≡ policy self.old) }
         ensures same { (Self.state self.new).memory ≡ (Self.state self.old).memory }
         ensures done { OnOk result (SucceedsSettled (Self.state self.old) (Self.state self.new)) }
         ensures fails { IfErr result (λ e. Refuses e (Self.state self.old) (Self.state self.new)) };
 
     /// A free slot; another block than its own is wholly free. Where no slot outside the reserve is
-    /// free, a block with dead slots is copied into the reserve first. There always is one: the
-    /// lowest-numbered free slot outside the highest-numbered wholly free block. Copied is the
-    /// block with the most dead slots. Cut, it leaves slots and blocks that a mount accepts, and
-    /// the sectors as they were where what read as free was erased.
+    /// free, a block with the most dead slots is copied into the reserve first. There always is
+    /// one. By number it is the lowest-numbered free slot outside the highest-numbered wholly free
+    /// block. Cut, it leaves slots and blocks that a mount accepts, and the sectors as they were
+    /// where what read as free was erased.
     fn take_free(&mut self) -> Result<Given, NorError>
         requires ready { IsNorReady (Self.state self.old) }
         requires settled { IsSettled (Self.state self.old).memory }
@@ -50,11 +58,15 @@ pub trait Reclaim: SlotCalls {
         ensures ok { IfOk result (λ given.
             Takes given.slot given.copied (Self.state self.old).memory
             (Self.state self.new).memory) }
-        ensures lowest { IfOk result (λ given. IsLowestFree given.slot
-            (Self.state self.new).memory) }
+        ensures lowest { policy self.old ≡ policies.Lowest → IfOk result (λ given.
+            IsLowestFree given.slot (Self.state self.new).memory) }
         ensures most { IfOk result (λ given. (c : CopiedOf) → given.copied ≡ Some c
-            → HasMostDead c.source (Self.state self.old).memory
+            → HasMostDead c.source (Self.state self.old).memory) }
+        ensures numbers { policy self.old ≡ policies.Lowest → IfOk result (λ given.
+            (c : CopiedOf) → given.copied ≡ Some c
+            → HasFewerBelow c.source (Self.state self.old).memory
             × IsReserveOf c.target (Self.state self.old).memory) }
+        ensures policy { OnOk result (policy self.new ≡ policy self.old) }
         ensures cut { IsErrOf result NorError.Cut
             → Stays (Self.state self.old).memory (Self.state self.new).memory }
         ensures indexed { OnOk result (Self.indexed self.new ≡ true) }
@@ -63,9 +75,9 @@ pub trait Reclaim: SlotCalls {
         ensures done { OnOk result (SucceedsSettled (Self.state self.old) (Self.state self.new)) }
         ensures fails { IfErr result (λ e. Refuses e (Self.state self.old) (Self.state self.new)) };
 
-    /// Copies a block with dead slots, that with the most, the lowest-numbered of equals, into the
-    /// reserve; where no slot is dead, converts the lowest-numbered block that is live with a
-    /// group: the blocks. Where none is either, nothing changes: None. Cut, it leaves what
+    /// Copies a block with dead slots, one with the most, by number the lowest-numbered of equals,
+    /// into the reserve; where no slot is dead, converts the lowest-numbered block that is live
+    /// with a group: the blocks. Where none is either, nothing changes: None. Cut, it leaves what
     /// `take_free` does.
     fn tidy(&mut self) -> Result<Option<Copied>, NorError>
         requires ready { IsNorReady (Self.state self.old) }
@@ -80,8 +92,13 @@ pub trait Reclaim: SlotCalls {
         ensures most { IfOk result (λ copied. (c : CopiedOf) → copied ≡ Some c
             → HasNoneDead (Self.state self.old).memory
             ⊎ HasMostDead c.source (Self.state self.old).memory) }
-        ensures target { IfOk result (λ copied. (c : CopiedOf) → copied ≡ Some c
+        ensures lowest { policy self.old ≡ policies.Lowest → IfOk result (λ copied.
+            (c : CopiedOf) → copied ≡ Some c → HasNoneDead (Self.state self.old).memory
+            ⊎ HasFewerBelow c.source (Self.state self.old).memory) }
+        ensures target { policy self.old ≡ policies.Lowest → IfOk result (λ copied.
+            (c : CopiedOf) → copied ≡ Some c
             → IsReserveOf c.target (Self.state self.old).memory) }
+        ensures policy { OnOk result (policy self.new ≡ policy self.old) }
         ensures none { IfOk result (λ copied. copied ≡ None
             → HasNoneDead (Self.state self.old).memory × HasNoGroups (Self.state self.old).memory
             × ((Self.state self.new).memory ≡ (Self.state self.old).memory)) }
@@ -92,6 +109,41 @@ pub trait Reclaim: SlotCalls {
         ensures size { length (Self.state self.new).memory ≡ length (Self.state self.old).memory }
         ensures done { OnOk result (SucceedsSettled (Self.state self.old) (Self.state self.new)) }
         ensures fails { IfErr result (λ e. Refuses e (Self.state self.old) (Self.state self.new)) };
+
+    /// Moves a block whose sectors rest into a wholly free one, where it is time for it, so that
+    /// the block is written to again: the blocks. Where it isn't, nothing changes: None. By number
+    /// it never is. It comes before a `take_free` or a `tidy`, as `next` says, and a block with
+    /// dead slots is still left to be copied. Cut, it leaves what `take_free` does.
+    fn level(&mut self, next: Next) -> Result<Option<Copied>, NorError>
+        requires ready { IsNorReady (Self.state self.old) }
+        requires settled { IsSettled (Self.state self.old).memory }
+        requires room { HasRoom (Self.state self.old).memory }
+        requires indexed { Self.indexed self.old ≡ true }
+        ensures moved { IfOk result (λ copied. (c : CopiedOf) → copied ≡ Some c
+            → MovesInto c.source c.target (Self.state self.old).memory
+            (Self.state self.new).memory) }
+        ensures left { IfOk result (λ copied. (c : CopiedOf) → copied ≡ Some c
+            → HasNoneDead (Self.state self.new).memory → ⊥) }
+        ensures work { IfOk result (λ copied. (c : CopiedOf) → copied ≡ Some c
+            → work_of (Self.state self.new).memory ≤ work_of (Self.state self.old).memory) }
+        ensures none { IfOk result (λ copied. copied ≡ None
+            → (Self.state self.new).memory ≡ (Self.state self.old).memory) }
+        ensures lowest { policy self.old ≡ policies.Lowest → IfOk result (λ copied.
+            copied ≡ None) }
+        ensures policy { OnOk result (policy self.new ≡ policy self.old) }
+        ensures cut { IsErrOf result NorError.Cut
+            → Stays (Self.state self.old).memory (Self.state self.new).memory }
+        ensures indexed { OnOk result (Self.indexed self.new ≡ true) }
+        ensures healthy { IsErrOf result NorError.Cut → IsHealthy (Self.state self.new).memory }
+        ensures size { length (Self.state self.new).memory ≡ length (Self.state self.old).memory }
+        ensures done { OnOk result (SucceedsSettled (Self.state self.old) (Self.state self.new)) }
+        ensures fails { IfErr result (λ e. Refuses e (Self.state self.old) (Self.state self.new)) };
+
+    /// Whether fewer than an eighth of the slots beyond those that the sectors need are free.
+    /// Nothing is read.
+    fn is_short(&self) -> bool
+        requires indexed { Self.indexed self.now ≡ true }
+        ensures { result ≡ is_short (Self.state self.now).memory };
 
     /// Whether the block of a slot is live with a group. Nothing is read.
     fn is_group(&self, slot: u16) -> bool
@@ -111,8 +163,9 @@ pub trait Reclaim: SlotCalls {
         ensures ok { IfOk result (λ copied. Converts copied.source copied.target
             (Self.state self.old).memory (Self.state self.new).memory) }
         ensures source { IfOk result (λ copied. copied.source ≡ block) }
-        ensures target { IfOk result (λ copied.
+        ensures target { policy self.old ≡ policies.Lowest → IfOk result (λ copied.
             IsReserveOf copied.target (Self.state self.old).memory) }
+        ensures policy { OnOk result (policy self.new ≡ policy self.old) }
         ensures cut { IsErrOf result NorError.Cut
             → Stays (Self.state self.old).memory (Self.state self.new).memory }
         ensures indexed { OnOk result (Self.indexed self.new ≡ true) }
@@ -152,6 +205,7 @@ pub trait Reclaim: SlotCalls {
         ensures healthy { IsErrOf result NorError.Cut → IsHealthy (Self.state self.old).memory
             → IsHealthy (Self.state self.new).memory }
         ensures indexed { OnOk result (Self.indexed self.new ≡ true) }
+        ensures policy { OnOk result (policy self.new ≡ policy self.old) }
         ensures done { OnOk result (SucceedsSettled (Self.state self.old) (Self.state self.new)) }
         ensures fails { IfErr result (λ e. Refuses e (Self.state self.old) (Self.state self.new)) };
 
@@ -180,6 +234,7 @@ pub trait Reclaim: SlotCalls {
         ensures healthy { IsErrOf result NorError.Cut → IsHealthy (Self.state self.old).memory
             → IsHealthy (Self.state self.new).memory }
         ensures indexed { OnOk result (Self.indexed self.new ≡ true) }
+        ensures policy { OnOk result (policy self.new ≡ policy self.old) }
         ensures done { OnOk result (SucceedsSettled (Self.state self.old) (Self.state self.new)) }
         ensures fails { IfErr result (λ e. Refuses e (Self.state self.old) (Self.state self.new)) };
 }

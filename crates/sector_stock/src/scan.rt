@@ -13,6 +13,7 @@ ghost use Rattle.sector_stock.specs.Index.{is_plain as is_plain_kind, is_free_st
 ghost use Rattle.sector_stock.specs.Index.{states_tally, is_live_group, Marked, one_free_fewer};
 
 use crate::index::{BlockState, Cursors, SlotState, highest_whole, mark_live};
+use crate::policy::{Policy, TURN, Wanted, least_worn};
 use nor_driver::NorError;
 use nor_layout::{Header, Kind};
 use sector_slots::SlotCalls;
@@ -26,11 +27,13 @@ pub fn fill_index<S: SlotCalls>(
     slots: &mut S,
     states: &mut [SlotState],
     blocks: &mut [BlockState],
+    policy: Policy,
 ) -> Result<Cursors, NorError>
     requires states_size { length states.old ≡ slot_count (S.state slots.old).memory }
     requires blocks_size { length blocks.old ≡ data_blocks (S.state slots.old).memory }
     requires settled { IsNorReady (S.state slots.old) → AreSettled (S.state slots.old).memory }
     ensures ok { IfOk result (λ at. IsIndexOf states.new blocks.new at (S.state slots.new).memory) }
+    ensures policy { IfOk result (λ at. at.policy ≡ policy) }
     ensures states_size { length states.new ≡ length states.old }
     ensures blocks_size { length blocks.new ≡ length blocks.old }
     ensures same { (S.state slots.new).memory ≡ (S.state slots.old).memory }
@@ -44,7 +47,7 @@ pub fn fill_index<S: SlotCalls>(
         let kind = slots.head(block, &mut heads)?;
         note_block(states, blocks, block, kind, &heads);
     }
-    Ok(first_cursors(blocks))
+    Ok(first_cursors(blocks, policy))
 }
 
 /// Enters a block's kind and descriptors into the lists.
@@ -68,6 +71,7 @@ pub fn note_block(
         dead,
         plain: is_plain(kind),
         group: is_group(kind),
+        erases: 0,
     };
 }
 
@@ -176,29 +180,47 @@ pub fn mark_written(slots: &mut [SlotState], blocks: &mut [BlockState], at: &mut
         slots.old slots.new blocks.old blocks.new }
     ensures at { ((at.new ≡ at.old) × (at.old.reserve ≢ slot / 7))
         ⊎ (IsAhead blocks.new at.new × IsHighestWhole blocks.new at.new.reserve) }
+    ensures policy { at.new.policy ≡ at.old.policy }
 {
     mark_live(slots, blocks, slot);
     if at.reserve == slot / 7 {
-        *at = first_cursors(blocks);
+        *at = first_cursors(blocks, at.policy);
     }
 }
 
 /// Where the index looks first.
-pub fn first_cursors(blocks: &[BlockState]) -> Cursors
+pub fn first_cursors(blocks: &[BlockState], policy: Policy) -> Cursors
     requires size { length blocks.now < 65536 }
     requires numbers { (c : ℕ) → c < length blocks.now → (in_block blocks.now c).dead ≤ 7 }
     requires spare { (c : ℕ) × (c < length blocks.now) × IsWholeBlock (in_block blocks.now c) }
     ensures ahead { IsAhead blocks.now result }
     ensures reserve { IsHighestWhole blocks.now result.reserve }
+    ensures policy { result.policy ≡ policy }
 {
     let count = blocks.len() as u16;
     let reserve = highest_whole(blocks, 0, count);
     Cursors {
+        policy,
         reserve,
         spares: reserve,
         cursor: 0,
         beyond: count,
         most: 7,
         from: 0,
+        turn: TURN,
+        clock: first_clock(blocks, reserve),
+        newest: reserve,
     }
+}
+
+/// Where the order of equally worn blocks begins after a mount: at the reserve where no other block
+/// is wholly free, else at the lowest-numbered block that was begun. So it goes on about where it
+/// stood, since blocks are taken in turn.
+fn first_clock(blocks: &[BlockState], reserve: u16) -> u16
+    requires size { length blocks.now < 65536 }
+{
+    if least_worn(blocks, Wanted::Whole, reserve, 0).is_none() {
+        return reserve;
+    }
+    least_worn(blocks, Wanted::Begun, reserve, 0).unwrap_or(reserve)
 }

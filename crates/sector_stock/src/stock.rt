@@ -8,10 +8,14 @@ ghost use Rattle.erase_journal.specs.Steps.{SucceedsSettled};
 ghost use Rattle.sector_slots.specs.Blocks.{AreAtRest};
 ghost use Rattle.sector_slots.specs.Slots.{slot_count, data_blocks, kind_at, IsClean};
 ghost use Rattle.sector_stock.specs.Index.{IsStocked};
+ghost use Rattle.sector_stock.specs.declared.policy.Policy.TheVariants as policies;
 
 use crate::Reclaim;
 use crate::given::{Copied, Given};
 use crate::index::{BlockState, Cursors, SlotState, mark_dead};
+use crate::level::level_in;
+use crate::policy::{Next, Policy};
+use crate::room::is_short_in;
 use crate::scan::{fill_index, mark_written};
 use crate::take::{convert_in, take_in, tidy_in};
 use erase_journal::RecoverError;
@@ -47,15 +51,31 @@ impl<N: Nor> Stock<N> {
             states,
             blocks,
             at: Cursors {
+                policy: Policy::Lowest,
                 reserve: 0,
                 spares: 0,
                 cursor: 0,
                 beyond: 0,
                 most: 0,
                 from: 0,
+                turn: 0,
+                clock: 0,
+                newest: 0,
             },
             indexed: false,
         }
+    }
+
+    /// From now on slots and blocks are chosen by erases, so that all blocks wear alike; counts
+    /// begin at each `fill`.
+    pub fn level_wear(&mut self)
+        ensures same { ⟦<Stock<N> as SlotCalls>⟧.state self.new
+            ≡ ⟦<Stock<N> as SlotCalls>⟧.state self.old }
+        ensures index { ⟦<Stock<N> as SlotCalls>⟧.indexed self.new
+            ≡ ⟦<Stock<N> as SlotCalls>⟧.indexed self.old }
+        ensures policy { ⟦<Stock<N> as Reclaim>⟧.policy self.new ≡ policies.Level }
+    {
+        self.at.policy = Policy::Level;
     }
 
     /// Gives the slots back.
@@ -183,12 +203,15 @@ impl<N: Nor> SlotCalls for Stock<N> {
 }
 
 impl<N: Nor> Reclaim for Stock<N> {
+    ghost policy = { λ stock. stock.at.policy };
+
     fn fill(&mut self) -> Result<(), NorError> {
         self.indexed = false;
         self.at = fill_index(
             &mut self.slots,
             self.states.as_mut_slice(),
             self.blocks.as_mut_slice(),
+            self.at.policy,
         )?;
         self.indexed = true;
         Ok(())
@@ -216,6 +239,23 @@ impl<N: Nor> Reclaim for Stock<N> {
         )?;
         self.indexed = true;
         Ok(copied)
+    }
+
+    fn level(&mut self, next: Next) -> Result<Option<Copied>, NorError> {
+        self.indexed = false;
+        let moved = level_in(
+            &mut self.slots,
+            self.states.as_mut_slice(),
+            self.blocks.as_mut_slice(),
+            &mut self.at,
+            next,
+        )?;
+        self.indexed = true;
+        Ok(moved)
+    }
+
+    fn is_short(&self) -> bool {
+        is_short_in(self.blocks.as_slice())
     }
 
     fn is_group(&self, slot: u16) -> bool {

@@ -9,9 +9,14 @@ ghost use Rattle.erase_journal.specs.Journals.{IsHealthy, IsSettled};
 ghost use Rattle.erase_journal.specs.Steps.{SucceedsSettled};
 ghost use Rattle.sector_stock.specs.Room.{HasRoom, HasNoneDead, HasNoneFree};
 ghost use Rattle.sector_stock.specs.Copy.{Stays};
-ghost use Rattle.sector_stock.specs.Index.{IsIndexOf, IsMostDead};
+ghost use Rattle.std.specs.Prelude.{IfSome};
+ghost use Rattle.sector_stock.specs.Index.{IsIndexOf, IsMostDead, IsLowestDead, IsAhead};
+ghost use Rattle.sector_stock.specs.Index.{IsWholeBlock};
+ghost use Rattle.sector_stock.specs.Index.{in_block};
+ghost use Rattle.sector_stock.specs.declared.policy.Policy.TheVariants as policies;
 ghost use Rattle.sector_slots.specs.Blocks.{IsReserveOf};
 ghost use Rattle.sector_stock.specs.Takes.{Takes, CopiesInto, IsLowestFree, HasMostDead, work_of};
+ghost use Rattle.sector_stock.specs.Takes.{HasFewerBelow, MovesInto};
 ghost use Rattle.sector_stock.specs.Takes.{Converts, IsLiveGroup, HasNoGroups, TidiesStock};
 ghost use Rattle.sector_slots.specs.Slots.{data_blocks};
 ghost use Rattle.sector_stock.specs.declared.given.Copied.{Copied as CopiedOf};
@@ -19,12 +24,14 @@ ghost use Rattle.sector_stock.specs.declared.given.Copied.{Copied as CopiedOf};
 use crate::copy::reclaim_into;
 use crate::given::{Copied, Given};
 use crate::index::{
-    BlockState, Cursors, SlotState, lowest_free, lowest_group, most_dead, move_block, shift_states,
+    BlockState, Cursors, SlotState, behind, choose_reserve, free_slot, lowest_group, most_dead,
+    move_block, shift_states,
 };
+use crate::policy::{Policy, Wanted, least_worn};
 use nor_driver::NorError;
 use sector_slots::SlotCalls;
 
-/// Copies the block with the most dead slots into the reserve, and brings the index up to date. A
+/// Copies a block with the most dead slots into the reserve, and brings the index up to date. A
 /// slot is free afterwards.
 fn copy_most<S: SlotCalls>(
     slots: &mut S,
@@ -39,8 +46,11 @@ fn copy_most<S: SlotCalls>(
     requires most { IsMostDead blocks.old source }
     ensures ok { IfOk result (λ c. CopiesInto c.source c.target (S.state slots.old).memory
         (S.state slots.new).memory) }
-    ensures most { IfOk result (λ c. HasMostDead c.source (S.state slots.old).memory
+    ensures most { IfOk result (λ c. HasMostDead c.source (S.state slots.old).memory) }
+    ensures numbers { at.old.policy ≡ policies.Lowest → IsLowestDead blocks.old source
+        → IfOk result (λ c. HasFewerBelow c.source (S.state slots.old).memory
         × IsReserveOf c.target (S.state slots.old).memory) }
+    ensures policy { OnOk result (at.new.policy ≡ at.old.policy) }
     ensures tidies { IfOk result (λ c. TidiesStock c.source c.target (S.state slots.old).memory
         (S.state slots.new).memory) }
     ensures fewer { OnOk result (work_of (S.state slots.new).memory
@@ -62,7 +72,37 @@ fn copy_most<S: SlotCalls>(
     reclaim_into(slots, source, target)?;
     shift_states(states, source, target);
     move_block(blocks, at, source);
+    go_on_behind(at, source);
     Ok(Copied { source, target })
+}
+
+/// The order of equally worn blocks goes on behind this one.
+fn go_on_behind(at: &mut Cursors, block: u16)
+    ensures { at.new ≡ record at.old { clock = block } }
+{
+    at.clock = block;
+}
+
+/// Where it chooses by erases: the least worn wholly free block is the reserve, into which a block
+/// is tidied.
+fn choose_target(blocks: &[BlockState], at: &mut Cursors)
+    requires size { length blocks.now < 65536 }
+    requires old { at.old.reserve < length blocks.now }
+    requires whole { IsWholeBlock (in_block blocks.now at.old.reserve) }
+    requires ahead { IsAhead blocks.now at.old }
+    ensures ahead { IsAhead blocks.now at.new }
+    ensures number { at.new.reserve < length blocks.now }
+    ensures whole { IsWholeBlock (in_block blocks.now at.new.reserve) }
+    ensures lowest { at.old.policy ≡ policies.Lowest → at.new ≡ at.old }
+    ensures policy { at.new.policy ≡ at.old.policy }
+{
+    if at.policy == Policy::Lowest {
+        return;
+    }
+    let past_all = blocks.len() as u16;
+    if let Some(target) = least_worn(blocks, Wanted::Whole, past_all, behind(at.clock)) {
+        choose_reserve(blocks, at, target);
+    }
 }
 
 /// Converts a block that is live with a group into slots of the reserve, and brings the index up to
@@ -82,7 +122,9 @@ pub fn convert_in<S: SlotCalls>(
     ensures ok { IfOk result (λ c. Converts c.source c.target (S.state slots.old).memory
         (S.state slots.new).memory) }
     ensures source { IfOk result (λ c. c.source ≡ source) }
-    ensures target { IfOk result (λ c. IsReserveOf c.target (S.state slots.old).memory) }
+    ensures target { at.old.policy ≡ policies.Lowest
+        → IfOk result (λ c. IsReserveOf c.target (S.state slots.old).memory) }
+    ensures policy { OnOk result (at.new.policy ≡ at.old.policy) }
     ensures index { OnOk result (IsIndexOf states.new blocks.new at.new
         (S.state slots.new).memory) }
     ensures cut { IsErrOf result NorError.Cut → IsHealthy (S.state slots.old).memory
@@ -105,7 +147,8 @@ pub fn convert_in<S: SlotCalls>(
     })
 }
 
-/// The lowest-numbered free slot outside the reserve. Where none is free, a block is copied first.
+/// A free slot outside the reserve, the lowest-numbered where it chooses by number. Where none is
+/// free, a block is copied first.
 pub fn take_in<S: SlotCalls>(
     slots: &mut S,
     states: &mut [SlotState],
@@ -119,10 +162,15 @@ pub fn take_in<S: SlotCalls>(
     requires room { HasRoom (S.state slots.old).memory }
     ensures ok { IfOk result (λ given.
         Takes given.slot given.copied (S.state slots.old).memory (S.state slots.new).memory) }
-    ensures lowest { IfOk result (λ given. IsLowestFree given.slot (S.state slots.new).memory) }
+    ensures lowest { at.old.policy ≡ policies.Lowest
+        → IfOk result (λ given. IsLowestFree given.slot (S.state slots.new).memory) }
     ensures most { IfOk result (λ given. (c : CopiedOf) → given.copied ≡ Some c
-        → HasMostDead c.source (S.state slots.old).memory
+        → HasMostDead c.source (S.state slots.old).memory) }
+    ensures numbers { at.old.policy ≡ policies.Lowest
+        → IfOk result (λ given. (c : CopiedOf) → given.copied ≡ Some c
+        → HasFewerBelow c.source (S.state slots.old).memory
         × IsReserveOf c.target (S.state slots.old).memory) }
+    ensures policy { OnOk result (at.new.policy ≡ at.old.policy) }
     ensures index { OnOk result (IsIndexOf states.new blocks.new at.new
         (S.state slots.new).memory) }
     ensures cut { IsErrOf result NorError.Cut
@@ -134,14 +182,14 @@ pub fn take_in<S: SlotCalls>(
     ensures done { OnOk result (SucceedsSettled (S.state slots.old) (S.state slots.new)) }
     ensures fails { IfErr result (λ e. Refuses e (S.state slots.old) (S.state slots.new)) }
 {
-    if let Some(slot) = lowest_free(states, blocks, at) {
+    if let Some(slot) = free_slot(states, blocks, at) {
         return Ok(Given { slot, copied: None });
     }
     let Some(source) = most_dead(blocks, at) else {
         unreachable!()
     };
     let copied = copy_most(slots, states, blocks, at, source)?;
-    let Some(slot) = lowest_free(states, blocks, at) else {
+    let Some(slot) = free_slot(states, blocks, at) else {
         unreachable!()
     };
     Ok(Given {
@@ -167,8 +215,10 @@ fn convert_lowest<S: SlotCalls>(
         → TidiesStock c.source c.target (S.state slots.old).memory (S.state slots.new).memory) }
     ensures fewer { IfOk result (λ copied. (c : CopiedOf) → copied ≡ Some c
         → work_of (S.state slots.new).memory < work_of (S.state slots.old).memory) }
-    ensures target { IfOk result (λ copied. (c : CopiedOf) → copied ≡ Some c
+    ensures target { at.old.policy ≡ policies.Lowest
+        → IfOk result (λ copied. (c : CopiedOf) → copied ≡ Some c
         → IsReserveOf c.target (S.state slots.old).memory) }
+    ensures policy { OnOk result (at.new.policy ≡ at.old.policy) }
     ensures none { IfOk result (λ copied. copied ≡ None → HasNoGroups (S.state slots.old).memory
         × ((S.state slots.new).memory ≡ (S.state slots.old).memory)) }
     ensures index { OnOk result (IsIndexOf states.new blocks.new at.new
@@ -191,7 +241,7 @@ fn convert_lowest<S: SlotCalls>(
     }
 }
 
-/// Copies the block with the most dead slots, where one is dead; else converts the lowest-numbered
+/// Copies a block with the most dead slots, where one is dead; else converts the lowest-numbered
 /// block that is live with a group, where one is.
 pub fn tidy_in<S: SlotCalls>(
     slots: &mut S,
@@ -211,8 +261,14 @@ pub fn tidy_in<S: SlotCalls>(
     ensures most { IfOk result (λ copied. (c : CopiedOf) → copied ≡ Some c
         → HasNoneDead (S.state slots.old).memory
         ⊎ HasMostDead c.source (S.state slots.old).memory) }
-    ensures target { IfOk result (λ copied. (c : CopiedOf) → copied ≡ Some c
+    ensures lowest { at.old.policy ≡ policies.Lowest
+        → IfOk result (λ copied. (c : CopiedOf) → copied ≡ Some c
+        → HasNoneDead (S.state slots.old).memory
+        ⊎ HasFewerBelow c.source (S.state slots.old).memory) }
+    ensures target { at.old.policy ≡ policies.Lowest
+        → IfOk result (λ copied. (c : CopiedOf) → copied ≡ Some c
         → IsReserveOf c.target (S.state slots.old).memory) }
+    ensures policy { OnOk result (at.new.policy ≡ at.old.policy) }
     ensures none { IfOk result (λ copied. copied ≡ None
         → HasNoneDead (S.state slots.old).memory × HasNoGroups (S.state slots.old).memory
         × ((S.state slots.new).memory ≡ (S.state slots.old).memory)) }
@@ -227,6 +283,7 @@ pub fn tidy_in<S: SlotCalls>(
     ensures done { OnOk result (SucceedsSettled (S.state slots.old) (S.state slots.new)) }
     ensures fails { IfErr result (λ e. Refuses e (S.state slots.old) (S.state slots.new)) }
 {
+    choose_target(blocks, at);
     match most_dead(blocks, at) {
         Some(source) => {
             let copied = copy_most(slots, states, blocks, at, source)?;

@@ -38,14 +38,13 @@ fn head_of(sent: u32, received: u32) -> [u8; 7]
 
 impl<I: Source + Drop, O: Sink + Drop, D: Dialer<I, O> + Drop> Serprog<I, O, D> {
     /// The programmer behind two streams that a dialer begins, with SPI as its bus: the first error
-    /// that its greeting meets, and `Lost` where no streams are begun.
+    /// that its greeting meets, and `Unreached` where no streams are begun.
     pub fn open(dialer: D) -> Result<Serprog<I, O, D>, SerprogError> {
         let mut dialer = dialer;
-        let Some((source, sink)) = dialer.dial() else {
-            return Err(SerprogError::Lost);
+        let (mut source, mut sink) = match dialer.dial() {
+            Ok(streams) => streams,
+            Err(kind) => return Err(SerprogError::Unreached(kind)),
         };
-        let mut source = source;
-        let mut sink = sink;
         let identity = greet(&mut source, &mut sink)?;
         Ok(Serprog {
             source,
@@ -102,7 +101,7 @@ impl<I: Source + Drop, O: Sink + Drop, D: Dialer<I, O> + Drop> Programmer for Se
     /// and end it at once while its power comes.
     fn reopen(&mut self) -> bool {
         for _ in 0..10u32 {
-            if let Some((source, sink)) = self.dialer.dial() {
+            if let Ok((source, sink)) = self.dialer.dial() {
                 self.source = source;
                 self.sink = sink;
                 if let Ok(identity) = greet(&mut self.source, &mut self.sink) {

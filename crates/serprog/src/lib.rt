@@ -20,4 +20,4 @@ mod streams;
 pub use error::SerprogError;
 pub use frames::Serprog;
 pub use identity::Identity;
-pub use streams::Dialer;
+pub use streams::{Dialer, Short, receive};

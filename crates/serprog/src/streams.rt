@@ -4,11 +4,13 @@ ghost use Rattle.std.specs.Prelude.{◌≡◌, OnOk};
 ghost use Rattle.std.specs.Io.KnownBytes.{Consumes};
 
 use block_device::{Sink, Source};
+use std::io::ErrorKind;
 
 /// What begins streams to a programmer.
 pub trait Dialer<I, O> {
-    /// Two new streams, from the programmer and to it; `None` where there are none.
-    fn dial(&mut self) -> Option<(I, O)>;
+    /// Two new streams, from the programmer and to it, or the kind of error that says why there are
+    /// none.
+    fn dial(&mut self) -> Result<(I, O), ErrorKind>;
 }
 
 /// The bytes weren't all received: a call failed, or the stream ended.

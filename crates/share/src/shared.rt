@@ -175,6 +175,7 @@ impl<D: Disk, L: OneServer> Shared<D, FullRecord, L> {
         ensures disk { IfOk result (λ s. (s.disk.sound ≡ (D.facts disk).sound)
             × (s.disk.cut ≡ false) × (s.disk.slow ≡ false)
             × CountsNeverFall (D.facts disk) s.disk) }
+        ensures work { IfOk result (λ s. s.disk.work ≡ (D.facts disk).work) }
         ensures rows { IfOk result (λ s. (s.rows ≡ []) × (s.interrupted ≡ None)) }
         ensures given { IfOk result (λ s. (s.given ≡ 0) × (s.closed ≡ false)) }
         ensures returned { IfOk result (λ s. (s.returned ≡ 0) × (s.counted ≡ 0)) }

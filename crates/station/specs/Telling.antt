@@ -1,5 +1,6 @@
 -- What is told of losses and of slow operations, whatever disk it is. Source: own.
-use Rattle.std.specs.Prelude.{◌≡◌, ◌⊎◌, ◌<◌, ℕ, true, List, [], ◌∷◌, ◌++◌, Option, if◌then◌else◌}
+use Rattle.std.specs.Prelude.{◌≡◌, ◌⊎◌, ◌<◌, ℕ, true, false, List, [], ◌∷◌, ◌++◌, Option}
+use Rattle.std.specs.Prelude.{if◌then◌else◌}
 use Rattle.std.specs.Io.KnownBytes.{Appends}
 use Rattle.block_device.specs.Facts.{Facts}
 use Rattle.station.specs.declared.event.Event.{Event}
@@ -16,12 +17,18 @@ ending_of disk = if disk.cut then LOST else if disk.slow then STUCK else DONE
 abbrev pub SlowComes : Facts → Facts → Type 0
 SlowComes old new = new.slow ≡ true → (old.slow ≡ true) ⊎ (old.slows < new.slows)
 
+-- a Tidy that ends as done made the work less, or found none
+abbrev pub WorkFalls : Board → Board → Type 0
+WorkFalls old new = old.power ≡ true → new.disk.cut ≡ false → new.disk.slow ≡ false
+    → (new.disk.work < old.disk.work) ⊎ (old.disk.work ≡ 0)
+
 -- what an event writes of them; the records of a connection are another matter (`Step`, `Loss`)
 abbrev pub EventTells : Board → Event → List ℕ → Board → Type 0
 EventTells old (Open who) out new = Unit {0}
 EventTells old (Piece who bytes) out new = Unit {0}
 EventTells old (Gone who) out new = Unit {0}
-EventTells old Tidy out new = out ≡ entry NO_ONE (if old.power then ending_of new.disk else LOST) []
+EventTells old Tidy out new =
+    (out ≡ entry NO_ONE (if old.power then ending_of new.disk else LOST) []) × WorkFalls old new
 EventTells old Restore out new = out ≡ entry NO_ONE (ending_of new.disk) []
 
 -- an event, by the bytes that it added

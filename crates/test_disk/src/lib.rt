@@ -1,11 +1,12 @@
 //! Tests of the chip side that are no cases of `cases`: chips whose memory is a file, a run of
-//! erases cut in each change, a long run of the map of sectors with losses, the disk's wear, a
-//! mount without memory, the files of images, what a loss of the host's power leaves of them, and a
-//! connection's text cut at each place.
+//! erases cut in each change, a long run of the map of sectors with losses, the disk's wear and how
+//! it is levelled, a mount without memory, the files of images, what a loss of the host's power
+//! leaves of them, and a connection's text cut at each place.
 //!
 //! There is no product code here. `first_of_new` formats a chip, mounts it as a sound disk and
 //! reads its first sector, so that the contracts of `format`, `mount` and `read` meet: it is proved
-//! to give zeros. The chips are `fault_model::SimChip`, of 64 KiB.
+//! to give zeros. The chips are `fault_model::SimChip`, of 64 KiB, one of
+//! them of 1 MiB.
 
 #![tactic(auto)]
 
@@ -26,6 +27,8 @@ mod image_files;
 mod journal_chips;
 #[cfg(test)]
 mod journal_sweep;
+#[cfg(test)]
+mod level;
 #[cfg(test)]
 mod long_run;
 #[cfg(test)]

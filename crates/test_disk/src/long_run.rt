@@ -4,6 +4,7 @@
 use crate::maps::{COUNT, End, Sectors, formatted, memory_behind, mounted, stamp_of, write};
 use nor_driver::NorError;
 use std::alloc::Global;
+use std::process::Abort;
 use std::test::*;
 use test_kit::chips::armed;
 use test_kit::{Dice, MASKS};
@@ -146,20 +147,26 @@ fn first_wrong_of(alloc: Global, bytes: &[u8], plain: &[u8; 70]) -> Result<Optio
     first_wrong(&mut mounted(alloc, armed(alloc, bytes, 0, 0)?)?, plain)
 }
 
+/// A run on a new chip, whose wear is levelled or not.
+fn check_run(rt: &impl Abort, alloc: Global, level: bool) -> Result<(), Fail> {
+    let mut map = mounted(alloc, armed(alloc, &formatted(alloc)?, 0, 0)?)?;
+    if level {
+        map.level_wear();
+    }
+    let mut plain = [0u8; 70];
+    let tally = run(&mut map, &mut plain, 0x5EC7_0255)?;
+    assert!(rt; is_enough(&tally), "{level}: {tally:?}");
+    map.arm(0, 1, 0);
+    let wrong = first_wrong(&mut map, &plain)?;
+    let again = first_wrong_of(alloc, &memory_behind(map), &plain)?;
+    assert_eq!(rt; [wrong, again], [None, None], "{level}");
+    Ok(())
+}
+
 #[test]
 fn ten_thousand_calls_with_losses_leave_what_a_plain_map_holds(
     rt: HostRuntime,
 ) -> Result<(), Fail> {
-    let mut map = mounted(
-        rt.alloc(),
-        armed(rt.alloc(), &formatted(rt.alloc())?, 0, 0)?,
-    )?;
-    let mut plain = [0u8; 70];
-    let tally = run(&mut map, &mut plain, 0x5EC7_0255)?;
-    assert!(rt; is_enough(&tally), "{tally:?}");
-    map.arm(0, 1, 0);
-    let wrong = first_wrong(&mut map, &plain)?;
-    let again = first_wrong_of(rt.alloc(), &memory_behind(map), &plain)?;
-    assert_eq!(rt; [wrong, again], [None, None]);
-    Ok(())
+    check_run(&rt, rt.alloc(), false)?;
+    check_run(&rt, rt.alloc(), true)
 }

@@ -7,6 +7,8 @@ use flash_disk::{FlashDisk, MountError};
 use std::alloc::Global;
 use std::process::Abort;
 use std::test::*;
+use survey::{Verdict, survey_image};
+use survey_text::Reason;
 use test_kit::Dice;
 use test_kit::chips::{OnSim, formatted};
 
@@ -189,8 +191,34 @@ impl Seen {
     }
 }
 
+/// Whether a survey of an image says what a mount answered, and of a corrupt one the place.
+fn is_told(alloc: Global, image: &[u8], answer: Result<bool, MountError>) -> Result<bool, Fail> {
+    if image.len() != 65_536 {
+        return Err(Fail::new("another size"));
+    }
+    let Ok(report) = survey_image(alloc, image) else {
+        return Err(Fail::new("no report"));
+    };
+    match report.verdict {
+        Verdict::NotFormatted => Ok(answer == Err(MountError::NotFormatted)),
+        Verdict::Mountable(_) => Ok(answer.is_ok()),
+        Verdict::Corrupt(finding) => {
+            let reason = Reason { finding, image };
+            let text = format!(in alloc; "{reason}")?;
+            let has_place = text.as_str().contains("h;")
+                || text.as_str().contains("h, ")
+                || text.as_str().contains("h on")
+                || text.as_str().contains("h: ")
+                || text.as_str().contains("erase of J")
+                || text.as_str().contains("votes name J");
+            Ok(has_place && answer == Err(MountError::Corrupt))
+        }
+    }
+}
+
 /// A refusal changes nothing: none of these images has an erase that goes on beside what is
-/// corrupt. A mount answers the same again, then changes nothing, and finds the same sectors.
+/// corrupt. A mount answers the same again, then changes nothing, and finds the same sectors. A
+/// survey says the same, and where the image is corrupt.
 #[test]
 fn random_damage_is_mounted_or_refused_by_name(rt: HostRuntime) -> Result<(), Fail> {
     let alloc = rt.alloc();
@@ -211,6 +239,10 @@ fn random_damage_is_mounted_or_refused_by_name(rt: HostRuntime) -> Result<(), Fa
         spoiled.extend_from_slice(memory.as_slice())?;
         let (answer, left) = mounted(alloc, memory, first.as_mut_slice())?;
         assert!(rt; seen.note(answer), "image {number}: {answer:?}");
+        assert!(rt;
+            is_told(alloc, spoiled.as_slice(), answer)?,
+            "image {number}"
+        );
         let is_left = left.as_slice() == spoiled.as_slice();
         assert!(rt; answer.is_ok() || is_left, "image {number}");
         let mut kept = Vec::new(alloc);

@@ -66,12 +66,24 @@ pub fn mounted(alloc: Global, chip: SimChip) -> Result<OnSim, Fail> {
     }
 }
 
-/// A station over the disk on a chip.
-pub fn started(alloc: Global, chip: SimChip) -> Result<Station<OnSim>, Fail> {
-    let Ok(station) = Station::new(alloc, mounted(alloc, chip)?) else {
+/// A station over a disk.
+fn station_over(alloc: Global, disk: OnSim) -> Result<Station<OnSim>, Fail> {
+    let Ok(station) = Station::new(alloc, disk) else {
         return Err(Fail::new("no memory"));
     };
     Ok(station)
+}
+
+/// A station over the disk on a chip.
+pub fn started(alloc: Global, chip: SimChip) -> Result<Station<OnSim>, Fail> {
+    station_over(alloc, mounted(alloc, chip)?)
+}
+
+/// A station over the disk on a chip whose blocks wear alike.
+pub fn started_level(alloc: Global, chip: SimChip) -> Result<Station<OnSim>, Fail> {
+    let mut disk = mounted(alloc, chip)?;
+    disk.level_wear();
+    station_over(alloc, disk)
 }
 
 /// Runs a script on a station: how it ends, and how many bytes of the room the transcript takes.

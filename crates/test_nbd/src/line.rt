@@ -1,6 +1,8 @@
 //! The program's words, and the texts of its faults.
 
-use norbd_line::{Cause, Fault, Line, Place, ServeLine, SyncPolicy, read_line};
+use norbd_line::{
+    Cause, ChipLine, Fault, Line, Place, ServeLine, SyncPolicy, TidyPolicy, read_line,
+};
 use std::alloc::Global;
 use std::io::ErrorKind;
 use std::test::Fail;
@@ -36,6 +38,7 @@ fn format<'a>(image: &'a str, kib: u32) -> Result<Line<'a>, u8> {
         image,
         kib,
         force: false,
+        sure: false,
     })
 }
 
@@ -57,9 +60,11 @@ fn serve<'a>(
         conns,
         record,
         sync,
+        tidy: TidyPolicy::Lazily,
         max_request: None,
         read_only: false,
         verbose: false,
+        trust: false,
     }))
 }
 
@@ -84,6 +89,7 @@ fn reads_lines(rt: HostRuntime) -> Result<(), Fail> {
                 image: "a.img",
                 kib: 64,
                 force: true,
+                sure: false,
             }),
         ),
         ("norbd script --kib 64", script(64)),
@@ -125,6 +131,55 @@ fn reads_lines_of_serve(rt: HostRuntime) -> Result<(), Fail> {
     Ok(())
 }
 
+#[test]
+fn reads_lines_about_an_image(rt: HostRuntime) -> Result<(), Fail> {
+    let image = "a.img";
+    for (text, line) in [
+        (
+            "norbd check a.img",
+            Line::Check {
+                image,
+                mend: false,
+                json: false,
+            },
+        ),
+        (
+            "norbd check --json a.img --mend",
+            Line::Check {
+                image,
+                mend: true,
+                json: true,
+            },
+        ),
+        ("norbd show a.img", Line::Show { image }),
+        (
+            "norbd read a.img",
+            Line::Read {
+                image,
+                sectors: None,
+            },
+        ),
+        (
+            "norbd read --sectors 2:5 a.img",
+            Line::Read {
+                image,
+                sectors: Some("2:5"),
+            },
+        ),
+        (
+            "norbd write a.img --sectors 0:70",
+            Line::Write {
+                image,
+                sectors: Some("0:70"),
+            },
+        ),
+    ] {
+        let words = words_of(rt.alloc(), text)?;
+        assert_eq!(rt; line_of(words.as_slice(), rt.alloc()), Ok(line), "{text}");
+    }
+    Ok(())
+}
+
 /// A line `serve` with this limit in KiB.
 fn limited<'a>(max_request: Option<u32>, read_only: bool) -> Result<Line<'a>, u8> {
     Ok(Line::Serve(ServeLine {
@@ -136,9 +191,11 @@ fn limited<'a>(max_request: Option<u32>, read_only: bool) -> Result<Line<'a>, u8
         conns: None,
         record: false,
         sync: SyncPolicy::AtFlush,
+        tidy: TidyPolicy::Lazily,
         max_request,
         read_only,
         verbose: false,
+        trust: false,
     }))
 }
 
@@ -165,6 +222,28 @@ fn reads_the_limit_of_a_line(rt: HostRuntime) -> Result<(), Fail> {
 }
 
 #[test]
+fn reads_when_a_line_tidies(rt: HostRuntime) -> Result<(), Fail> {
+    for (more, answer) in [
+        ("-v", Ok(TidyPolicy::Lazily)),
+        ("--tidy lazy", Ok(TidyPolicy::Lazily)),
+        ("--tidy eager", Ok(TidyPolicy::Eagerly)),
+        ("--tidy", Err(2)),
+        ("--tidy Lazy", Err(2)),
+        ("--tidy never", Err(2)),
+    ] {
+        let text = format!(in rt.alloc(); "norbd serve a.img --port 10809 {more}")?;
+        let words = words_of(rt.alloc(), text.as_str())?;
+        let read = match line_of(words.as_slice(), rt.alloc()) {
+            Ok(Line::Serve(asked)) => Ok(asked.tidy),
+            Ok(_) => Err(0),
+            Err(status) => Err(status),
+        };
+        assert_eq!(rt; read, answer, "{more}");
+    }
+    Ok(())
+}
+
+#[test]
 fn reads_where_serve_listens(rt: HostRuntime) -> Result<(), Fail> {
     let asked = ServeLine {
         image: "a.img",
@@ -172,9 +251,11 @@ fn reads_where_serve_listens(rt: HostRuntime) -> Result<(), Fail> {
         conns: None,
         record: false,
         sync: SyncPolicy::AtFlush,
+        tidy: TidyPolicy::Lazily,
         max_request: None,
         read_only: false,
         verbose: false,
+        trust: false,
     };
     let port = 10809;
     for (text, place, verbose) in [
@@ -217,6 +298,58 @@ fn reads_where_serve_listens(rt: HostRuntime) -> Result<(), Fail> {
 }
 
 #[test]
+fn reads_lines_of_chips(rt: HostRuntime) -> Result<(), Fail> {
+    let chip = ChipLine {
+        image: "a.img",
+        port: 5000,
+        conns: None,
+    };
+    let sure = Line::Format {
+        image: "tcp:127.0.0.1:5000",
+        kib: 64,
+        force: false,
+        sure: true,
+    };
+    let trusting = ServeLine {
+        image: "tcp:pico:5000",
+        place: Place::Unix("a.sock"),
+        conns: None,
+        record: false,
+        sync: SyncPolicy::AtFlush,
+        tidy: TidyPolicy::Lazily,
+        max_request: None,
+        read_only: false,
+        verbose: false,
+        trust: true,
+    };
+    for (text, answer) in [
+        ("norbd chip a.img --port 5000", Ok(Line::Chip(chip))),
+        (
+            "norbd chip --conns 64 --port 5000 a.img",
+            Ok(Line::Chip(ChipLine {
+                conns: Some(64),
+                ..chip
+            })),
+        ),
+        ("norbd chip a.img", Err(2)),
+        ("norbd chip --port 5000", Err(2)),
+        ("norbd chip a.img --port 0", Err(2)),
+        ("norbd chip a.img --port 65536", Err(2)),
+        ("norbd chip a.img --port 5000 --conns 65", Err(2)),
+        ("norbd format tcp:127.0.0.1:5000 --kib 64 --yes", Ok(sure)),
+        (
+            "norbd serve tcp:pico:5000 --unix a.sock --trust",
+            Ok(Line::Serve(trusting)),
+        ),
+        ("norbd check a.img --yes", Err(2)),
+    ] {
+        let words = words_of(rt.alloc(), text)?;
+        assert_eq!(rt; line_of(words.as_slice(), rt.alloc()), answer, "{text}");
+    }
+    Ok(())
+}
+
+#[test]
 fn faulty_lines_have_the_status_2(rt: HostRuntime) -> Result<(), Fail> {
     for text in [
         "norbd plain --sectors 0",
@@ -253,6 +386,12 @@ fn faulty_lines_have_the_status_2(rt: HostRuntime) -> Result<(), Fail> {
         "norbd serve a.img --bind ::1 --unix a.sock",
         "norbd serve a.img --port 10809 --bind",
         "norbd serve --port 10809 --conns 2",
+        "norbd check",
+        "norbd show",
+        "norbd show a.img --json",
+        "norbd read --sectors 0:1",
+        "norbd read a.img --sectors",
+        "norbd write a.img b.img",
         "norbd other",
         "norbd",
     ] {
@@ -271,6 +410,9 @@ fn what_is_asked_for_has_the_status_0(rt: HostRuntime) -> Result<(), Fail> {
         "norbd script --help",
         "norbd serve --help",
         "norbd check --help",
+        "norbd show --help",
+        "norbd read --help",
+        "norbd write --help",
         "norbd --version",
     ] {
         let words = words_of(rt.alloc(), text)?;
@@ -321,6 +463,7 @@ fn faults_show_their_texts(rt: HostRuntime) -> Result<(), Fail> {
         (Fault::InputFailed, "input failed"),
         (Fault::OutputFailed, "output failed"),
         (Fault::BadSync, "bad sync"),
+        (Fault::BadTidy, "bad tidy"),
         (Fault::BadAddress, "bad address"),
         (Fault::NotText, "a word is not UTF-8"),
         (Fault::ImageFailed(Cause::NotAFile), "image failed"),
@@ -336,6 +479,8 @@ fn faults_show_their_texts(rt: HostRuntime) -> Result<(), Fail> {
         (Fault::BadImageSize(1), "bad image size"),
         (Fault::NoSocket(Cause::Accept), "no socket"),
         (Fault::NoThread, "no thread"),
+        (Fault::BadRange, "bad range of sectors"),
+        (Fault::BadInput(512), "standard input isn't 512 bytes"),
     ] {
         assert_eq!(rt; format!(in rt.alloc(); "{fault}")?.as_str(), text);
     }

@@ -25,7 +25,10 @@ fn error_in(stream: &mut TcpStream) -> io::Result<u8> {
 
 /// A whole connection: the low byte of the flags and the second one of the limit that it is told,
 /// and the errors of a WRITE of 66,048 bytes, of one of a sector, and of a FLUSH.
-fn meet<H: Net<Stream = TcpStream> + Clock>(rt: &H, addr: SocketAddr) -> io::Result<[u8; 5]> {
+pub(crate) fn meet<H: Net<Stream = TcpStream> + Clock>(
+    rt: &H,
+    addr: SocketAddr,
+) -> io::Result<[u8; 5]> {
     let mut stream = connect(rt, addr)?;
     let mut greeting = [0u8; 18];
     stream.read_exact(&mut greeting)?;

@@ -8,11 +8,15 @@
 #[cfg(test)]
 mod checking;
 #[cfg(test)]
+mod chips;
+#[cfg(test)]
 mod exports;
 #[cfg(test)]
 mod lines;
 #[cfg(test)]
 mod memory;
+#[cfg(test)]
+mod moving;
 #[cfg(test)]
 mod printing;
 #[cfg(test)]

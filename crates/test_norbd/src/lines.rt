@@ -3,7 +3,8 @@
 //! `script` over records written out by hand from docs/SCRIPT.md; which change of a chip a loss
 //! falls on is counted by docs/DISK.md. Runs of `format`.
 ghost use Rattle.std.specs.Prelude.{◌≡◌, ◌<◌, IfSome};
-ghost use Rattle.norbd_line.specs.Line.{IfFormat, IfScript, IfServe, IsServeInRange, IsSize};
+ghost use Rattle.norbd_line.specs.Line.{IfChip, IfFormat, IfScript, IfServe, IsChipInRange};
+ghost use Rattle.norbd_line.specs.Line.{IsServeInRange, IsSize};
 
 use block_device::{FixedOut, Io};
 use norbd_image::ImageFile;
@@ -95,9 +96,11 @@ where
         + Log
         + Net<Listener = TcpListener, Stream = TcpStream>,
     R::File: ImageFile + Send + Sync,
+    R: 'static,
     requires size { IfFormat line (λ _ kib. IsSize kib) }
     requires script_size { IfScript line (λ kib. IsSize kib) }
     requires serve_numbers { IfServe line (λ s. IsServeInRange s) }
+    requires chip_numbers { IfChip line (λ s. IsChipInRange s) }
 {
     check_counted::<Brand, Brand, R>(
         rt,
@@ -134,9 +137,11 @@ where
         + Log
         + Net<Listener = TcpListener, Stream = TcpStream>,
     R::File: ImageFile + Send + Sync,
+    R: 'static,
     requires size { IfFormat line (λ _ kib. IsSize kib) }
     requires script_size { IfScript line (λ kib. IsSize kib) }
     requires serve_numbers { IfServe line (λ s. IsServeInRange s) }
+    requires chip_numbers { IfChip line (λ s. IsChipInRange s) }
     requires reads { (reads.name ≡ I.name) × (reads.parts ≡ I.parts) × (0 < I.parts) }
     requires writes { (writes.name ≡ O.name) × (writes.parts ≡ O.parts) × (0 < O.parts) }
 {
@@ -149,7 +154,7 @@ where
     let mut room = vec![in alloc; 0u8; streams.room]?;
     let mut reader = Io::<_, I>::new(pieces, reads);
     let mut writer = FixedOut::<O>::new(room.as_mut_slice(), writes);
-    let result = run_line(rt, line, &mut reader, &mut writer);
+    let result = run_line(rt, line, false, &mut reader, &mut writer);
     assert_eq!(rt; writer.bytes(), expected.output, "{streams:?}");
     let fault = match result {
         Ok(()) => String::new(alloc),
@@ -375,6 +380,7 @@ where
         + Log
         + Net<Listener = TcpListener, Stream = TcpStream>,
     R::File: ImageFile + Send + Sync,
+    R: 'static,
     requires { IsSize kib }
 {
     let alloc = rt.alloc();
@@ -383,6 +389,7 @@ where
         image: "formatted.img",
         kib,
         force: false,
+        sure: false,
     };
     check(rt, alloc, line, &[], streams, expected)?;
     let image = fs::read(rt, "formatted.img")?;

@@ -1,11 +1,12 @@
 //! Lines that find no memory: each says so, and has written nothing, or does all of its work.
 ghost use Rattle.std.specs.Prelude.{IfSome};
-ghost use Rattle.norbd_line.specs.Line.{IfFormat, IfScript, IfServe, IsServeInRange, IsSize};
+ghost use Rattle.norbd_line.specs.Line.{IfChip, IfFormat, IfScript, IfServe, IsChipInRange};
+ghost use Rattle.norbd_line.specs.Line.{IsServeInRange, IsSize};
 
 use crate::serving::{Told, free_port, make, text_of};
 use block_device::FixedIn;
 use norbd_image::ImageFile;
-use norbd_line::{Fault, Line, Place, ServeLine, SyncPolicy, read_line};
+use norbd_line::{Fault, Line, Place, ServeLine, SyncPolicy, TidyPolicy, read_line};
 use norbd_run::run_line;
 use norbd_serve::Log;
 use std::alloc::Global;
@@ -61,9 +62,11 @@ where
         + Log
         + Net<Listener = TcpListener, Stream = TcpStream>,
     R::File: ImageFile + Send + Sync,
+    R: 'static,
     requires size { IfFormat line (λ _ kib. IsSize kib) }
     requires script_size { IfScript line (λ kib. IsSize kib) }
     requires serve_numbers { IfServe line (λ s. IsServeInRange s) }
+    requires chip_numbers { IfChip line (λ s. IsChipInRange s) }
 {
     let sizes = sizes_of(rt.alloc(), windows)?;
     let mut refused = 0usize;
@@ -73,7 +76,7 @@ where
             text: Vec::with_capacity(rt.alloc(), 4_096)?,
         };
         let held = spend(rt.alloc(), *size)?;
-        let done = run_line(rt, line, &mut FixedIn::new(input), &mut told);
+        let done = run_line(rt, line, false, &mut FixedIn::new(input), &mut told);
         drop(held);
         let text = text_of(rt, done)?;
         if text.as_str() == "no memory" {
@@ -152,6 +155,7 @@ fn a_format_without_memory_says_so(rt: HostRuntime) -> Result<(), Fail> {
         image: "short.img",
         kib: 64,
         force: true,
+        sure: false,
     };
     // the chip; the line and the names
     let windows = [(0, 32_768, 3), (65_536, 16, 32), (81_920, 16, 1)];
@@ -182,9 +186,11 @@ fn serving_without_memory_says_so(rt: HostRuntime) -> Result<(), Fail> {
         conns: Some(2),
         record: true,
         sync: SyncPolicy::AtFlush,
+        tidy: TidyPolicy::Lazily,
         max_request: None,
         read_only: false,
         verbose: true,
+        trust: false,
     });
     // the barrier, 512 bytes and 16 of its own, and the chip; what a mount takes; the record; the
     // lists and the line
@@ -227,7 +233,7 @@ fn words_without_memory_say_so(rt: HostRuntime) -> Result<(), Fail> {
         let mut refused = 0usize;
         let mut whole = 0usize;
         for step in 0..64usize {
-            let held = spend(alloc, 2_048 * step)?;
+            let held = spend(alloc, 4_096 * step)?;
             let read = reading(alloc, words.as_slice());
             drop(held);
             if read == "no memory" {

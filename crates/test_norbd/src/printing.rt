@@ -1,6 +1,6 @@
 //! What is printed of faults, and which descriptors are held.
 
-use norbd_line::{Cause, Fault, Line, Place, ServeLine, SyncPolicy};
+use norbd_line::{Cause, Fault, Line, Place, ServeLine, SyncPolicy, TidyPolicy};
 use norbd_run::{Opens, Telling, hold_standard};
 use std::io;
 use std::io::ErrorKind;
@@ -18,9 +18,11 @@ fn faults_tell_which_file_and_why(rt: HostRuntime) -> Result<(), Fail> {
         conns: None,
         record: false,
         sync: SyncPolicy::AtFlush,
+        tidy: TidyPolicy::Lazily,
         max_request: None,
         read_only: false,
         verbose: false,
+        trust: false,
     };
     let serve = Line::Serve(asked);
     let serve_unix = Line::Serve(ServeLine {
@@ -31,6 +33,7 @@ fn faults_tell_which_file_and_why(rt: HostRuntime) -> Result<(), Fail> {
         image: "b.img",
         kib: 64,
         force: false,
+        sure: false,
     };
     for (fault, line, text) in [
         (
@@ -69,6 +72,7 @@ fn faults_tell_which_file_and_why(rt: HostRuntime) -> Result<(), Fail> {
         (Fault::Slow, Some(Line::Script { kib: 64 }), "slow"),
         (Fault::NotText, None, "a word is not UTF-8"),
         (Fault::BadSync, None, "bad sync: flush, never or always"),
+        (Fault::BadTidy, None, "bad tidy: lazy or eager"),
     ] {
         let telling = Telling {
             fault: &fault,

@@ -6,7 +6,7 @@ ghost use Rattle.norbd_line.specs.Line.{IsConns, IsPlace};
 use block_device::{Failed, Sink};
 use nbd_wire::MAX_LEN;
 use norbd_image::{ImageFile, formatted_image, hold};
-use norbd_line::{Cause, Fault, Place, SyncPolicy};
+use norbd_line::{Cause, Fault, Place, SyncPolicy, TidyPolicy};
 use norbd_run::{Asked, listen_at, run_format, run_serve};
 use norbd_serve::{Log, Notice};
 use std::alloc::{Allocator, Global};
@@ -466,6 +466,7 @@ where
         ends: manner.ends,
         record: manner.record,
         sync: manner.sync,
+        tidy: TidyPolicy::Eagerly,
         max_len: MAX_LEN,
         read_only: false,
         verbose: true,
@@ -739,6 +740,7 @@ where
         ends: true,
         record: false,
         sync: SyncPolicy::AtFlush,
+        tidy: TidyPolicy::Lazily,
         max_len: MAX_LEN,
         read_only: false,
         verbose: false,

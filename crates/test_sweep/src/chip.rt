@@ -22,6 +22,8 @@ pub enum Chip {
     /// All entries of J0 are used, and all but three votes of J1 for J0: the next erase renews
     /// both.
     Prepared,
+    /// As the format leaves it, and its wear is levelled.
+    Level,
 }
 
 impl Chip {
@@ -30,6 +32,7 @@ impl Chip {
         match name {
             "plain" => Some(Chip::Plain),
             "prepared" => Some(Chip::Prepared),
+            "level" => Some(Chip::Level),
             _ => None,
         }
     }
@@ -39,6 +42,7 @@ impl Chip {
         match self {
             Chip::Plain => "plain",
             Chip::Prepared => "prepared",
+            Chip::Level => "level",
         }
     }
 
@@ -80,15 +84,19 @@ fn set(memory: &mut [u8], at: usize, bytes: &[u8]) {
     }
 }
 
-/// A station over the disk on a chip with this memory.
-pub fn started(alloc: Global, memory: &[u8]) -> Result<Station<OnSim>, Failure> {
+/// A station over the disk on such a chip with this memory.
+pub fn started(alloc: Global, chip: Chip, memory: &[u8]) -> Result<Station<OnSim>, Failure> {
+    let is_level = matches!(chip, Chip::Level);
     let Ok(chip) = SimChip::new(memory.to_vec(alloc)?) else {
         return Err(Failure::Refused);
     };
     let mount: Result<OnSim, _> = FlashDisk::mount(alloc, chip);
-    let Ok(disk) = mount else {
+    let Ok(mut disk) = mount else {
         return Err(Failure::Refused);
     };
+    if is_level {
+        disk.level_wear();
+    }
     let Ok(station) = Station::new(alloc, disk) else {
         return Err(Failure::NoMemory);
     };

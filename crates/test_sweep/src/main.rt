@@ -52,7 +52,7 @@ const SCRIPTS: u32 = 1_000;
 enum Wanted {
     Nothing,
     /// A sweep of these chips.
-    Sweep([Option<Chip>; 2]),
+    Sweep([Option<Chip>; 3]),
     /// Random scripts: from which seed on, and how many.
     Random(u32, u32),
 }
@@ -62,7 +62,7 @@ fn number_of(word: Option<String>) -> Option<u32> {
     word?.as_str().parse::<u32>().ok()
 }
 
-/// What the words ask for: `run` for both chips, `run` and a name for one, `random`, `random SEED
+/// What the words ask for: `run` for all chips, `run` and a name for one, `random`, `random SEED
 /// COUNT`.
 fn words_of(rt: &HostRuntime) -> Wanted {
     let Ok(mut words) = std::env::args(rt) else {
@@ -78,16 +78,16 @@ fn words_of(rt: &HostRuntime) -> Wanted {
         _ => return Wanted::Nothing,
     }
     match words.next() {
-        None => Wanted::Sweep([Some(Chip::Plain), Some(Chip::Prepared)]),
+        None => Wanted::Sweep([Some(Chip::Plain), Some(Chip::Prepared), Some(Chip::Level)]),
         Some(name) => match Chip::named(name.as_str()) {
-            Some(chip) => Wanted::Sweep([Some(chip), None]),
+            Some(chip) => Wanted::Sweep([Some(chip), None, None]),
             None => Wanted::Nothing,
         },
     }
 }
 
 /// The work of the whole sweep.
-fn survey(alloc: Global, chips: [Option<Chip>; 2]) -> Result<u64, Failure> {
+fn survey(alloc: Global, chips: [Option<Chip>; 3]) -> Result<u64, Failure> {
     let mut total = 0u64;
     for chip in chips {
         let Some(chip) = chip else {
@@ -145,7 +145,7 @@ fn sweep_chip<R: Clock + Print + Eprint>(
     for kind in KINDS {
         let mut totals = Totals::new(chip, kind);
         if let Err(failure) = sweep(rt, &mut sweeper, &mut totals, progress) {
-            let _ = sweeper.print(rt, chip);
+            let _ = sweeper.print(rt);
             return Err(failure);
         }
         if rows.push(totals).is_err() {
@@ -159,7 +159,7 @@ fn sweep_chip<R: Clock + Print + Eprint>(
 fn sweep_all<R: Clock + Print + Eprint>(
     rt: &R,
     alloc: Global,
-    chips: [Option<Chip>; 2],
+    chips: [Option<Chip>; 3],
 ) -> Result<(), Failure> {
     let mut progress = Progress::new(rt, survey(alloc, chips)?)?;
     let mut rows = Vec::new(alloc);
@@ -193,7 +193,7 @@ fn random_on(
                 let _ = sweeper.run_all(events.as_slice());
                 let left = events.len();
                 let _ = println!(rt; "# seed {seed}: {failure}; {left} events are left");
-                let _ = sweeper.print(rt, chip);
+                let _ = sweeper.print(rt);
                 return Err(failure);
             }
         }
@@ -201,9 +201,9 @@ fn random_on(
     Ok(seen)
 }
 
-/// Runs random scripts on both chips.
+/// Runs random scripts on all chips.
 fn random_all(rt: &impl Print, alloc: Global, first: u32, count: u32) -> Result<(), Failure> {
-    for chip in [Chip::Plain, Chip::Prepared] {
+    for chip in [Chip::Plain, Chip::Prepared, Chip::Level] {
         let seeds = first..first.saturating_add(count);
         let Seen {
             replies,

@@ -64,6 +64,7 @@ pub enum Return {
 #[derive(Drop)]
 pub struct Sweeper {
     alloc: Global,
+    chip: Chip,
     pub memory: Vec<u8>,
     room: Vec<u8>,
     judge: Judge,
@@ -76,6 +77,7 @@ impl Sweeper {
     pub fn new(alloc: Global, chip: Chip) -> Result<Sweeper, Failure> {
         Ok(Sweeper {
             alloc,
+            chip,
             memory: chip.memory(alloc)?,
             room: vec![in alloc; 0u8; ROOM_BYTES]?,
             judge: Judge::new(alloc)?,
@@ -90,8 +92,8 @@ impl Sweeper {
     }
 
     /// Prints them as lines of bash.
-    pub fn print(&self, rt: &impl Print, chip: Chip) -> io::Result<()> {
-        let name = chip.name();
+    pub fn print(&self, rt: &impl Print) -> io::Result<()> {
+        let name = self.chip.name();
         println!(rt; "# on the {name} chip")?;
         print_script(rt, self.events.as_slice(), self.script.as_slice())
     }
@@ -101,7 +103,7 @@ impl Sweeper {
         self.events.clear();
         self.script.clear();
         self.judge = Judge::new(self.alloc)?;
-        started(self.alloc, self.memory.as_slice())
+        started(self.alloc, self.chip, self.memory.as_slice())
     }
 
     /// Runs the fixed script on a new station, with a loss armed before its first event. Where that

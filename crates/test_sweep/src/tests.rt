@@ -32,10 +32,15 @@ fn swept(rt: &impl Abort, alloc: Global, chip: Chip, kind: u8) -> Result<Totals,
 
 /// Of the 359 changes on a formatted chip the first write of each sector makes 4, each later one 5,
 /// the one that copies a block 10 more, the TRIM of three sectors 3, and the tidying of a block of
-/// three live slots 16; on the prepared one two journals are renewed, by 5 changes each.
+/// three live slots 16; on the prepared one two journals are renewed, by 5 changes each; and where
+/// wear is levelled, the tidying first moves a block of six live slots whose sectors rest, by 25.
 #[test]
 fn every_change_is_lost(rt: HostRuntime) -> Result<(), Fail> {
-    for (chip, first) in [(Chip::Plain, 360u32), (Chip::Prepared, 370)] {
+    for (chip, first) in [
+        (Chip::Plain, 360u32),
+        (Chip::Prepared, 370),
+        (Chip::Level, 385),
+    ] {
         let totals = swept(&rt, rt.alloc(), chip, 1)?;
         assert_eq!(rt; totals.first, first);
         assert!(rt; totals.seen.lost_restores > 1_000);
@@ -46,7 +51,11 @@ fn every_change_is_lost(rt: HostRuntime) -> Result<(), Fail> {
 /// A change is three frames and a status read at the least, and the last READ one for each sector.
 #[test]
 fn every_frame_is_lost(rt: HostRuntime) -> Result<(), Fail> {
-    for (chip, changes) in [(Chip::Plain, 359u32), (Chip::Prepared, 369)] {
+    for (chip, changes) in [
+        (Chip::Plain, 359u32),
+        (Chip::Prepared, 369),
+        (Chip::Level, 384),
+    ] {
         let totals = swept(&rt, rt.alloc(), chip, 0)?;
         assert!(rt; totals.first > 4 * changes + 70);
     }
@@ -56,7 +65,7 @@ fn every_frame_is_lost(rt: HostRuntime) -> Result<(), Fail> {
 #[test]
 fn random_scripts_are_answered_as_by_the_array(rt: HostRuntime) -> Result<(), Fail> {
     let alloc = rt.alloc();
-    for chip in [Chip::Plain, Chip::Prepared] {
+    for chip in [Chip::Plain, Chip::Prepared, Chip::Level] {
         let mut sweeper = Sweeper::new(alloc, chip)?;
         let mut seen = Seen::nothing();
         for seed in 0..500u32 {
@@ -77,7 +86,7 @@ fn random_scripts_are_answered_as_by_the_array(rt: HostRuntime) -> Result<(), Fa
 fn a_wrong_answer_is_shortened(rt: HostRuntime) -> Result<(), Fail> {
     let alloc = rt.alloc();
     let mut sweeper = Sweeper::new(alloc, Chip::Plain)?;
-    let mut station = started(alloc, sweeper.memory.as_slice())?;
+    let mut station = started(alloc, Chip::Plain, sweeper.memory.as_slice())?;
     let mut records = Vec::new(alloc);
     let mut judge = Judge::new(alloc)?;
     judge.record(Event::Open(0), &mut records)?;

@@ -1,6 +1,6 @@
 -- The chip of a watched bus, and what is known of the frames that were exchanged with it.
 -- Source: own.
-use Rattle.std.specs.Prelude.{ℕ, if◌then◌else◌, List, [], ◌∷◌, length, take, Option}
+use Rattle.std.specs.Prelude.{ℕ, Bool, if◌then◌else◌, List, [], ◌∷◌, length, take, Option}
 use Rattle.chip_model.specs.Chip.{Chip, is_idle}
 use Rattle.chip_model.specs.Frames.{after_command, command_of}
 use Rattle.fault_model.specs.Sim.{chip_of}
@@ -11,6 +11,7 @@ use Rattle.watched.specs.Reading.{change_reads}
 use Rattle.watched.specs.Shadow.{overlaid}
 use Rattle.watched.specs.declared.bus.WatchedBus.{WatchedBus}
 use Rattle.watched.specs.declared.change.Change.{Change}
+use Rattle.watched.specs.declared.change.Change.TheVariants as makes
 use Rattle.watched.specs.declared.shadow.Shadow.{Shadow}
 
 abbrev pub shadow_chip : Shadow → Chip
@@ -18,21 +19,26 @@ shadow_chip s = record (overlaid (chip_of s.chip) s.table s.status2 s.status3 s.
   powered = s.powered;
 }
 
+-- the change that is read back once it has ended: none of a chip that is trusted
+abbrev pub read_change : Bool → Change → Change
+read_change trusts change = if trusts then makes.None else change
+
 -- where the frame ended a program or an erase: READs of what it wrote
-abbrev pub read_back : Chip → Chip → List Exchange
-read_back c left = if is_idle left.operation
-    then change_reads (change_of c.operation) left.memory else []
+abbrev pub read_back : Bool → Chip → Chip → List Exchange
+read_back trusts c left = if is_idle left.operation
+    then change_reads (read_change trusts (change_of c.operation)) left.memory else []
 
 -- A frame that was answered: the chip was sent it and answered what the caller was told, and what
--- it changed was then read from the chip; unless the model ignores the frame.
-abbrev pub Heard : Chip → List ℕ → List ℕ → Chip → Option (List Exchange)
+-- it changed was then read from the chip, unless that is trusted. Nothing is exchanged where the
+-- model ignores the frame.
+abbrev pub Heard : Bool → Chip → List ℕ → List ℕ → Chip → Option (List Exchange)
     → Option (List Exchange) → Type 0
-Heard c sent received left old new = Exchanged old new
+Heard trusts c sent received left old new = Exchanged old new
     (if heeds c (command_of sent)
     then record {
       sent = sent;
       received = take (asked_of (command_of sent) (length received)) received;
-    } ∷ read_back c left
+    } ∷ read_back trusts c left
     else [])
 
 abbrev pub watched_chip : {P : Type 0} → WatchedBus P → Chip
@@ -43,6 +49,10 @@ watched_cuts b = b.cuts
 
 abbrev pub watched_slows : {P : Type 0} → WatchedBus P → ℕ
 watched_slows b = b.shadow.slows
+
+-- the chip is believed its changes
+abbrev pub watched_trusts : {P : Type 0} → WatchedBus P → Bool
+watched_trusts b = b.trusts
 
 -- the change that the last loss interrupted, until the power came again
 abbrev pub watched_pending : {P : Type 0} → WatchedBus P → Change

@@ -32,6 +32,8 @@ pub struct WatchedBus<P> {
     pending: Change,
     departure: Option<Departure>,
     cuts: u64,
+    /// Whether the chip is believed its changes.
+    trusts: bool,
 }
 
 impl<P: Programmer + Drop> WatchedBus<P> {
@@ -40,8 +42,10 @@ impl<P: Programmer + Drop> WatchedBus<P> {
     ghost use Rattle.chip_model.specs.Frames.{Frame, command_of, newly_slow};
     ghost use Rattle.watched.specs.Asking.{asked_of};
     ghost use Rattle.watched.specs.Instruction.{instructed};
-    ghost use Rattle.watched.specs.Watched.{read_back, still_pending, watched_chip, watched_cuts};
-    ghost use Rattle.watched.specs.Watched.{watched_pending, watched_slows};
+    ghost use Rattle.watched.specs.Changes.{change_of};
+    ghost use Rattle.watched.specs.Watched.{read_back, read_change, still_pending, watched_chip};
+    ghost use Rattle.watched.specs.Watched.{watched_cuts, watched_pending, watched_slows};
+    ghost use Rattle.watched.specs.Watched.{watched_trusts};
 
     /// The chip behind a programmer, of which everything is read: with the power on and nothing in
     /// progress.
@@ -51,6 +55,7 @@ impl<P: Programmer + Drop> WatchedBus<P> {
         ensures powered { IfOk result (λ b. (watched_chip b).powered ≡ true) }
         ensures cuts { IfOk result (λ b. watched_cuts b ≡ 0) }
         ensures slows { IfOk result (λ b. watched_slows b ≡ 0) }
+        ensures trusts { IfOk result (λ b. watched_trusts b ≡ false) }
         ensures read { IfOk result (λ b. Opens (watched_chip b) (P.exchanged programmer)
             (P.exchanged b.wire.programmer)) }
     {
@@ -65,7 +70,49 @@ impl<P: Programmer + Drop> WatchedBus<P> {
             pending: Change::None,
             departure: None,
             cuts: 0,
+            trusts: false,
         })
+    }
+
+    /// The same bus, where the chip is believed its changes: what it wrote isn't read back.
+    pub fn trusting(self) -> WatchedBus<P>
+        ensures chip { watched_chip result ≡ watched_chip self }
+        ensures cuts { watched_cuts result ≡ watched_cuts self }
+        ensures slows { watched_slows result ≡ watched_slows self }
+        ensures pending { watched_pending result ≡ watched_pending self }
+        ensures exchanged { P.exchanged result.wire.programmer ≡ P.exchanged self.wire.programmer }
+        ensures trusts { watched_trusts result ≡ true }
+    {
+        WatchedBus {
+            trusts: true,
+            ..self
+        }
+    }
+
+    /// The bytes of the chip's memory.
+    pub fn size(&self) -> u32
+        ensures { result ≡ length (watched_chip self.now).memory }
+    {
+        self.shadow.size
+    }
+
+    /// The chip's memory, as the model has it.
+    pub fn memory(&self) -> &[u8]
+        ensures { result.now ≡ (watched_chip self.now).memory }
+    {
+        self.shadow.memory()
+    }
+
+    /// What is in progress and would be read back once it has ended.
+    fn read_back(&self) -> Change
+        ensures { result
+            ≡ read_change self.now.trusts (change_of (watched_chip self.now).operation) }
+    {
+        if self.trusts {
+            Change::None
+        } else {
+            self.shadow.change
+        }
     }
 
     /// A frame that the chip doesn't ignore, on both sides.
@@ -85,9 +132,10 @@ impl<P: Programmer + Drop> WatchedBus<P> {
             (record {
               sent = send.now;
               received = take (asked_of (command_of send.now) (length recv.new)) recv.new;
-            } ∷ read_back (watched_chip self.old) (watched_chip self.new))) }
+            } ∷ read_back self.old.trusts (watched_chip self.old) (watched_chip self.new))) }
+        ensures trusts { self.new.trusts ≡ self.old.trusts }
     {
-        let before = self.shadow.change;
+        let before = self.read_back();
         let count = instruction.asked(recv.len());
         let answered = self.wire.hear(send, count);
         let ready = self.wire.shows_rest(answered, count);
@@ -150,6 +198,7 @@ impl<P: Programmer + Drop> SpiBus for WatchedBus<P> {
     ghost use Rattle.watched.specs.Settling.{Resumes, Steadies};
     ghost use Rattle.watched.specs.Watched.{Heard, interrupted, still_pending, watched_chip};
     ghost use Rattle.watched.specs.Watched.{watched_cuts, watched_pending, watched_slows};
+    ghost use Rattle.watched.specs.Watched.{watched_trusts};
     ghost use Rattle.watched.specs.Lawful.{lawful_shadow};
 
     ghost chip = { watched_chip };
@@ -174,8 +223,11 @@ impl<P: Programmer + Drop> SpiBus for WatchedBus<P> {
 
         // What is answered is what the chip answered, and what the frame ended is on the chip.
         ensures heard { OnOk result (watched_cuts self.old + 1 < 2 ^ 64
-            → Heard (watched_chip self.old) send.now recv.new (watched_chip self.new)
+            → Heard (watched_trusts self.old) (watched_chip self.old) send.now recv.new
+            (watched_chip self.new)
             (P.exchanged self.old.wire.programmer) (P.exchanged self.new.wire.programmer)) }
+
+        ensures trusts { watched_trusts self.new ≡ watched_trusts self.old }
 
         // What a loss interrupted is still to be done.
         ensures pending { OnErr result ((watched_chip self.old).powered ≡ true
@@ -212,6 +264,7 @@ impl<P: Programmer + Drop> SpiBus for WatchedBus<P> {
         ensures powers_on { PowersOn (watched_chip self.old) (watched_cuts self.old)
             (watched_chip self.new) (watched_cuts self.new) }
         ensures slows { watched_slows self.new ≡ watched_slows self.old }
+        ensures trusts { watched_trusts self.new ≡ watched_trusts self.old }
 
         // The power is on only where the chip was read and found to be the one in memory.
         ensures recovers { (watched_chip self.old).powered ≡ false

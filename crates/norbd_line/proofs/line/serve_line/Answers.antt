@@ -12,7 +12,9 @@ returns-clause-line c =
       c.in-Ok.ensures.number,
       c.flag.ensures,
       c.sync_of.ensures ∙ c.in-Some.is,
+      c.tidy_of.ensures ∙ c.in-Some-tidy_of.is,
       c.in-Ok-number_if_there.ensures.number,
       c.flag-2.ensures,
       c.flag-3.ensures,
+      c.flag-4.ensures,
     )

@@ -1,9 +1,13 @@
-use Rattle.norbd_run.proofs.Lines.{checked}
+use Rattle.norbd_run.proofs.Lines.{checked, report-failed}
 use Rattle.norbd_run.proofs.checking.run_check.Goals as goal
 
-pub returns : goal.returns
-returns g c =
-    let s = c.in_ok-checked.checked in
-    checked c.args.mend (record { mended = s.mended; sectors = s.sectors; asked = c.in_ok-checked.ensures.mends }) c.text_about-text.result
-    (g.K.Sink.written c.args.writer.now) (g.K.Sink.written c.tell.new.writer) (g.K.Sink.faults c.args.writer.now) (g.K.Sink.faults c.tell.new.writer) c.tell.result
-    c.text_about-text.ensures c.tell.ensures
+pub returns-in-Err : goal.returns-in-Err
+returns-in-Err g c =
+    report-failed (Unit {0}) (Unit {0}) c.args.mend c.args.json _ (g.K.Sink.written c.args.writer.now) (g.K.Sink.written c.send_bytes.new.writer) (g.K.Sink.faults c.args.writer.now) (g.K.Sink.faults c.send_bytes.new.writer) c.in-Err.fault c.in-Err.ensures
+
+pub returns-in-Ok : goal.returns-in-Ok
+returns-in-Ok g c =
+    let s = c.in-Ok.checked in
+    let asked = rw c.in-Ok.is at c.in_ok-text.ensures.mends in
+    checked c.args.mend c.args.json (record { mended = s.mended; sectors = s.sectors; asked = asked }) _ c.text_about-line.result (g.K.Sink.written c.args.writer.now) (g.K.Sink.written c.send_bytes.new.writer) (g.K.Sink.written c.tell.new.writer)
+    (g.K.Sink.faults c.args.writer.now) (g.K.Sink.faults c.send_bytes.new.writer) (g.K.Sink.faults c.tell.new.writer) c.in_default.field-0 c.tell.result c.in_default.ensures c.text_about-line.ensures c.tell.ensures

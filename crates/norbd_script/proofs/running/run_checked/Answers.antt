@@ -11,8 +11,8 @@ returns-in-Ok-true-clause-says g c =
     let new : OnBus = record { chip = g.B.SpiBus.chip bus; cuts = g.B.SpiBus.cuts bus; slows = g.B.SpiBus.slows bus } in
     let d = c.in-Ok.disk in
     let d' = c.check.new.self in
-    let f0 = disk_facts g.P.Provenance.sound d.checked d.doubtful d.map d.cut in
-    let f = disk_facts g.P.Provenance.sound d'.checked d'.doubtful d'.map d'.cut in
+    let f0 = disk_facts g.P.Provenance.sound d.checked d.doubtful d.lazy d.map d.cut in
+    let f = disk_facts g.P.Provenance.sound d'.checked d'.doubtful d'.lazy d'.map d'.cut in
     let m = d.map.memory in
     let o = c.in-Ok.ensures.opened in
     let k = checked-by old m g.P.Provenance.sound f0 f o c.in-Ok.ensures.from c.in-Ok.ensures.accepted c.in-Ok.ensures.keeps c.check.ensures.goes.cuts c.check.ensures.goes.slows c.check.ensures.contents in
@@ -26,8 +26,8 @@ returns-in-Ok-false-clause-says g c =
     let new : OnBus = record { chip = g.B.SpiBus.chip bus; cuts = g.B.SpiBus.cuts bus; slows = g.B.SpiBus.slows bus } in
     let d = c.in-Ok.disk in
     let d' = c.check.new.self in
-    let f0 = disk_facts g.P.Provenance.sound d.checked d.doubtful d.map d.cut in
-    let f = disk_facts g.P.Provenance.sound d'.checked d'.doubtful d'.map d'.cut in
+    let f0 = disk_facts g.P.Provenance.sound d.checked d.doubtful d.lazy d.map d.cut in
+    let f = disk_facts g.P.Provenance.sound d'.checked d'.doubtful d'.lazy d'.map d'.cut in
     let m = d.map.memory in
     let o = c.in-Ok.ensures.opened in
     let e = c.into_inner.ensures in
@@ -42,8 +42,8 @@ returns-in-Err-Cut-clause-says g c =
     let new : OnBus = record { chip = g.B.SpiBus.chip bus; cuts = g.B.SpiBus.cuts bus; slows = g.B.SpiBus.slows bus } in
     let d = c.in-Ok.disk in
     let d' = c.check.new.self in
-    let f0 = disk_facts g.P.Provenance.sound d.checked d.doubtful d.map d.cut in
-    let f = disk_facts g.P.Provenance.sound d'.checked d'.doubtful d'.map d'.cut in
+    let f0 = disk_facts g.P.Provenance.sound d.checked d.doubtful d.lazy d.map d.cut in
+    let f = disk_facts g.P.Provenance.sound d'.checked d'.doubtful d'.lazy d'.map d'.cut in
     let m = d.map.memory in
     let o = c.in-Ok.ensures.opened in
     let e = c.into_inner-in-Err-Cut.ensures in

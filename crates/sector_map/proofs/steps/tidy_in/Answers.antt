@@ -1,40 +1,47 @@
-use Rattle.std.proofs.Common.{◌∙◌}
-use Rattle.std.proofs.lemmas.Result.{err_from_is_err_and}
-use Rattle.sector_map.proofs.MapCalls.{served-room, stays-keeps, served-steps, served-tidies, same-moved-keeps, steps-target, stepped, perhaps-after, no-work}
+use Rattle.std.proofs.Common.{◌<◌, arith}
+use Rattle.std.specs.Prelude.{IsTrue}
+use Rattle.std.proofs.lemmas.Result.{err_from_is_err_and, IfOk-weaker}
+use Rattle.sector_stock.specs.Takes.{work_of}
+use Rattle.sector_map.specs.Maps.{KeptServing}
+use Rattle.sector_map.proofs.MapCalls.{kept-after, keeps-after, after-ok, both-ok, none-moved-work}
 use Rattle.sector_map.proofs.steps.tidy_in.Goals as goal
 
-pub tidy-requires-clause-room : goal.tidy-requires-clause-room
-tidy-requires-clause-room g c = served-room c.args.table.now (g.S.SlotCalls.state c.args.stock.now) (g.S.SlotCalls.indexed c.args.stock.now) c.requires.served
-
-pub returns-in_err-copied-clause-cut : goal.returns-in_err-copied-clause-cut
-returns-in_err-copied-clause-cut g c is =
+pub returns-in_err-level_in-clause-cut : goal.returns-in_err-level_in-clause-cut
+returns-in_err-level_in-clause-cut g c is =
     let p = err_from_is_err_and c.from_residual.result c.from_residual.ensures.1 in
-    let s = c.requires.served in
-    stays-keeps (g.S.SlotCalls.state c.args.stock.now).memory (g.S.SlotCalls.state c.tidy.new.self).memory (c.in_err-copied.ensures.cut (cc (p.1, p.2))) (c.in_err-copied.ensures.healthy (cc (p.1, p.2))) s.store.slots
+    c.in_err-level_in.ensures.cut (cc (p.1, p.2))
 
-pub follow_copied-requires-clause-number : goal.follow_copied-requires-clause-number
-follow_copied-requires-clause-number g c = steps-target c.in-Some.copied (g.S.SlotCalls.state c.args.stock.now).memory (g.S.SlotCalls.state c.tidy.new.self).memory (served-tidies c.in-Some.copied (g.S.SlotCalls.state c.args.stock.now) (g.S.SlotCalls.indexed c.args.stock.now) (g.S.SlotCalls.state c.tidy.new.self).memory c.args.table.now c.requires.served (c.in_ok-copied.ensures.copied c.in-Some.copied c.in-Some.is))
+pub returns-clause-ok : goal.returns-clause-ok
+returns-clause-ok g c =
+    let a = g.S.SlotCalls.state c.args.stock.now in
+    let b = g.S.SlotCalls.state c.level_in.new.stock in
+    let d = g.S.SlotCalls.state c.tidy_own.new.stock in
+    let i = g.S.SlotCalls.indexed c.level_in.new.stock in
+    let j = g.S.SlotCalls.indexed c.tidy_own.new.stock in
+    after-ok c.tidy_own.result (KeptServing c.tidy_own.new.table b d j) (KeptServing c.tidy_own.new.table a d j)
+    (λ w. kept-after c.tidy_own.new.table c.level_in.new.table a b d i j c.in_ok-level_in.ensures.ok w) c.tidy_own.ensures.ok
 
-pub follow_copied-requires-clause-sound : goal.follow_copied-requires-clause-sound
-follow_copied-requires-clause-sound g c = (served-steps c.in-Some.copied (g.S.SlotCalls.state c.args.stock.now) (g.S.SlotCalls.indexed c.args.stock.now) (g.S.SlotCalls.state c.tidy.new.self).memory c.args.table.now c.requires.served (served-tidies c.in-Some.copied (g.S.SlotCalls.state c.args.stock.now) (g.S.SlotCalls.indexed c.args.stock.now) (g.S.SlotCalls.state c.tidy.new.self).memory c.args.table.now c.requires.served (c.in_ok-copied.ensures.copied c.in-Some.copied c.in-Some.is))).sound
+pub returns-clause-fewer : goal.returns-clause-fewer
+returns-clause-fewer g c =
+    let a = (g.S.SlotCalls.state c.args.stock.now).memory in
+    let b = (g.S.SlotCalls.state c.level_in.new.stock).memory in
+    let d = (g.S.SlotCalls.state c.tidy_own.new.stock).memory in
+    let low = c.in_ok-level_in.ensures.work in
+    IfOk-weaker c.tidy_own.result (λ more. IsTrue more → work_of d < work_of b) (λ more. IsTrue more → work_of d < work_of a) (λ more h t. (let less = h t in omega (arith, less, low))) c.tidy_own.ensures.fewer
 
-pub follow_copied-requires-clause-single : goal.follow_copied-requires-clause-single
-follow_copied-requires-clause-single g c = (served-steps c.in-Some.copied (g.S.SlotCalls.state c.args.stock.now) (g.S.SlotCalls.indexed c.args.stock.now) (g.S.SlotCalls.state c.tidy.new.self).memory c.args.table.now c.requires.served (served-tidies c.in-Some.copied (g.S.SlotCalls.state c.args.stock.now) (g.S.SlotCalls.indexed c.args.stock.now) (g.S.SlotCalls.state c.tidy.new.self).memory c.args.table.now c.requires.served (c.in_ok-copied.ensures.copied c.in-Some.copied c.in-Some.is))).single
+pub returns-clause-unchanged : goal.returns-clause-unchanged
+returns-clause-unchanged g c =
+    let a = (g.S.SlotCalls.state c.args.stock.now).memory in
+    let b = (g.S.SlotCalls.state c.level_in.new.stock).memory in
+    let d = (g.S.SlotCalls.state c.tidy_own.new.stock).memory in
+    both-ok c.tidy_own.result a b d c.in_ok-level_in.ensures.left c.tidy_own.ensures.empty c.tidy_own.ensures.unchanged
 
-pub follow_copied-requires-clause-blocks : goal.follow_copied-requires-clause-blocks
-follow_copied-requires-clause-blocks g c = (served-steps c.in-Some.copied (g.S.SlotCalls.state c.args.stock.now) (g.S.SlotCalls.indexed c.args.stock.now) (g.S.SlotCalls.state c.tidy.new.self).memory c.args.table.now c.requires.served (served-tidies c.in-Some.copied (g.S.SlotCalls.state c.args.stock.now) (g.S.SlotCalls.indexed c.args.stock.now) (g.S.SlotCalls.state c.tidy.new.self).memory c.args.table.now c.requires.served (c.in_ok-copied.ensures.copied c.in-Some.copied c.in-Some.is))).blocks
+pub returns-clause-none : goal.returns-clause-none
+returns-clause-none g c =
+    let a = (g.S.SlotCalls.state c.args.stock.now).memory in
+    let b = (g.S.SlotCalls.state c.level_in.new.stock).memory in
+    none-moved-work c.tidy_own.result a b c.in_ok-level_in.ensures.left c.tidy_own.ensures.empty c.tidy_own.ensures.none
 
-pub returns-in_err-follow_copied-in-Some-clause-cut : goal.returns-in_err-follow_copied-in-Some-clause-cut
-returns-in_err-follow_copied-in-Some-clause-cut g c is =
-    same-moved-keeps (g.S.SlotCalls.state c.args.stock.now) (g.S.SlotCalls.state c.tidy.new.self).memory (g.S.SlotCalls.state c.follow_copied.new.slots).memory (served-steps c.in-Some.copied (g.S.SlotCalls.state c.args.stock.now) (g.S.SlotCalls.indexed c.args.stock.now) (g.S.SlotCalls.state c.tidy.new.self).memory c.args.table.now c.requires.served (served-tidies c.in-Some.copied (g.S.SlotCalls.state c.args.stock.now) (g.S.SlotCalls.indexed c.args.stock.now) (g.S.SlotCalls.state c.tidy.new.self).memory c.args.table.now c.requires.served (c.in_ok-copied.ensures.copied c.in-Some.copied c.in-Some.is))) c.follow_copied.ensures.same c.in_ok-copied.ensures.done.settled c.requires.served.store.slots
-
-pub returns-in_ok-follow_copied-in-Some-clause-ok : goal.returns-in_ok-follow_copied-in-Some-clause-ok
-returns-in_ok-follow_copied-in-Some-clause-ok g c =
-    stepped c.in-Some.copied (g.S.SlotCalls.state c.args.stock.now) (g.S.SlotCalls.state c.tidy.new.self) (g.S.SlotCalls.state c.follow_copied.new.slots) c.args.table.now c.follow_copied.new.table (g.S.SlotCalls.indexed c.args.stock.now) c.requires.served (served-tidies c.in-Some.copied (g.S.SlotCalls.state c.args.stock.now) (g.S.SlotCalls.indexed c.args.stock.now) (g.S.SlotCalls.state c.tidy.new.self).memory c.args.table.now c.requires.served (c.in_ok-copied.ensures.copied c.in-Some.copied c.in-Some.is)) c.follow_copied.ensures.same c.in_ok-follow_copied-in-Some.ensures.ok
-    (perhaps-after (g.S.SlotCalls.state c.args.stock.now) (g.S.SlotCalls.state c.tidy.new.self) (g.S.SlotCalls.state c.follow_copied.new.slots) c.in_ok-copied.ensures.done c.in_ok-follow_copied-in-Some.ensures.done) (g.S.SlotCalls.indexed c.follow_copied.new.slots) (c.follow_copied.ensures.index ∙ c.in_ok-copied.ensures.indexed)
-
-pub returns-in-None-clause-none : goal.returns-in-None-clause-none
-returns-in-None-clause-none g c is = no-work (g.S.SlotCalls.state c.args.stock.now).memory (c.in_ok-copied.ensures.none c.in-None.is).0 (c.in_ok-copied.ensures.none c.in-None.is).1
-
-pub returns-in-None-clause-unchanged : goal.returns-in-None-clause-unchanged
-returns-in-None-clause-unchanged g c is = (c.in_ok-copied.ensures.none c.in-None.is).2
+pub returns-clause-cut : goal.returns-clause-cut
+returns-clause-cut g c is =
+    keeps-after (g.S.SlotCalls.state c.args.stock.now).memory (g.S.SlotCalls.state c.level_in.new.stock).memory (g.S.SlotCalls.state c.tidy_own.new.stock).memory c.in_ok-level_in.ensures.ok.keeps (c.tidy_own.ensures.cut is)

@@ -1,5 +1,7 @@
+use Rattle.std.proofs.Common.{subst}
 use Rattle.std.proofs.lemmas.Result.{err_from_is_err_and}
-use Rattle.sector_stock.proofs.Moved.{copyable-now, numbers-in, dead-in, most-dead-in, copies-into, free-after, index-moved}
+use Rattle.sector_stock.specs.Room.{HasNoneFree}
+use Rattle.sector_stock.proofs.Moved.{copyable-now, numbers-in, dead-in, most-dead-in, fewer-below-in, copies-into, free-after, index-moved, turned}
 use Rattle.sector_stock.specs.Takes.{copies}
 use Rattle.sector_stock.proofs.Converting.{work-falls}
 use Rattle.sector_stock.proofs.Moving.{other-reserve}
@@ -42,7 +44,11 @@ returns-clause-tidies g c =
 
 pub returns-clause-most : goal.returns-clause-most
 returns-clause-most g c =
-    (most-dead-in c.args.source (g.S.SlotCalls.state c.args.slots.now).memory c.args.states.now c.args.blocks.now c.args.at.now c.requires.index c.requires.most, c.requires.index.highest)
+    most-dead-in c.args.source (g.S.SlotCalls.state c.args.slots.now).memory c.args.states.now c.args.blocks.now c.args.at.now c.requires.index c.requires.most
+
+pub returns-clause-numbers : goal.returns-clause-numbers
+returns-clause-numbers g c by low =
+    (fewer-below-in c.args.source (g.S.SlotCalls.state c.args.slots.now).memory c.args.states.now c.args.blocks.now c.args.at.now c.requires.index c.requires.most.0 low, c.requires.index.highest by)
 
 pub returns-clause-fewer : goal.returns-clause-fewer
 returns-clause-fewer g c =
@@ -57,8 +63,9 @@ returns-clause-index g c =
     let m = (g.S.SlotCalls.state c.args.slots.now).memory in
     let h = copyable-now c.args.source m c.args.states.now c.args.blocks.now c.args.at.now c.requires.room c.requires.index c.requires.most in
     let done = c.in_ok-reclaim_into.ensures.ok h in
-    index-moved c.args.source m (g.S.SlotCalls.state c.reclaim_into.new.slots).memory c.args.states.now c.shift_states.new.slots c.args.blocks.now c.move_block.new.blocks c.args.at.now c.move_block.new.at
-    c.requires.room h.source done.slots done.blocks c.requires.index c.shift_states.ensures c.move_block.ensures.moved c.move_block.ensures.ahead c.move_block.ensures.reserve
+    turned c.move_block.new.at.turn c.args.source (g.S.SlotCalls.state c.reclaim_into.new.slots).memory c.shift_states.new.slots c.move_block.new.blocks c.move_block.new.at c.go_on_behind.new.at c.go_on_behind.ensures
+    (index-moved c.args.source m (g.S.SlotCalls.state c.reclaim_into.new.slots).memory c.args.states.now c.shift_states.new.slots c.args.blocks.now c.move_block.new.blocks c.args.at.now c.move_block.new.at
+    c.requires.room h.source done.slots done.blocks c.requires.index c.shift_states.ensures c.move_block.ensures.moved c.move_block.ensures.ahead c.move_block.ensures.reserve c.move_block.ensures.policy)
 
 pub returns-clause-free : goal.returns-clause-free
 returns-clause-free g c none =
@@ -67,4 +74,4 @@ returns-clause-free g c none =
     let done = c.in_ok-reclaim_into.ensures.ok h in
     let most = dead-in c.args.source m c.args.states.now c.args.blocks.now c.args.at.now c.requires.index c.requires.most in
     free-after c.args.source c.args.at.now.reserve c.move_block.new.at.reserve m (g.S.SlotCalls.state c.reclaim_into.new.slots).memory c.requires.room most c.requires.index.reserve
-    (other-reserve c.args.source c.args.at.now.reserve c.move_block.new.at.reserve c.args.blocks.now c.move_block.new.blocks c.move_block.ensures.moved c.move_block.ensures.reserve) done none
+    (other-reserve c.args.at.now.policy c.args.source c.args.at.now.reserve c.move_block.new.at.reserve c.args.blocks.now c.move_block.new.blocks c.move_block.ensures.moved c.move_block.ensures.reserve) done (subst (λ a. HasNoneFree a.reserve (g.S.SlotCalls.state c.reclaim_into.new.slots).memory) c.go_on_behind.ensures none)

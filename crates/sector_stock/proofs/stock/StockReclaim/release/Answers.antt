@@ -22,7 +22,7 @@ invariant_of-self-2 g c =
     let marked = rw (c.as_mut_slice.ensures.value, c.as_mut_slice-2.ensures.value) at c.mark_dead.ensures.marked in
     let ahead = subst (λ b. IsAhead b s.at → IsAhead c.mark_dead.new.blocks c.mark_dead.new.at) c.as_mut_slice-2.ensures.value c.mark_dead.ensures.ahead in
     let index = retire-indexed c.args.slot m m1 s.states.items c.mark_dead.new.slots s.blocks.items c.mark_dead.new.blocks s.at c.mark_dead.new.at (s.stocked.index (c.requires.indexed ready)) c.requires.number live.0
-    (c.in_ok-retire.ensures.ok live) c.in_ok-retire.ensures.only marked ahead c.mark_dead.ensures.reserve in
+    (c.in_ok-retire.ensures.ok live) c.in_ok-retire.ensures.only marked ahead c.mark_dead.ensures.reserve c.mark_dead.ensures.policy in
     let states = with_items_is s.states c.mark_dead.new.slots (marked.slot_size ∙ sym s.states.ok.0) in
     let blocks = with_items_is s.blocks c.mark_dead.new.blocks (marked.block_size ∙ sym s.blocks.ok.0) in
     record {

@@ -28,4 +28,4 @@ returns-in-Ok-clause-heard g c = λ few.
     let heeded : heeds old (command_of sent) ≡ true =
     ap (λ (k : Command). heeds old k) (sym c.decode-instruction.ensures) ∙ (sym c.heeds.ensures ∙ c.if-not-heeds.false) in
     subst (λ (b : Bool). Exchanged (log c.args.self.now.wire.programmer) (log c.exchange.new.self.wire.programmer)
-    (if b then frame ∷ read_back old (watched_chip c.exchange.new.self) else [])) (sym heeded) c.in-Ok.ensures.heard
+    (if b then frame ∷ read_back c.args.self.now.trusts old (watched_chip c.exchange.new.self) else [])) (sym heeded) c.in-Ok.ensures.heard

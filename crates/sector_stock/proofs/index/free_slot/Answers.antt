@@ -1,0 +1,13 @@
+use Rattle.sector_stock.proofs.Finding.{found-free, given-free, none-free-in, only-some}
+use Rattle.sector_stock.proofs.index.free_slot.Goals as goal
+
+pub returns-in-Some-clause-found : goal.returns-in-Some-clause-found
+returns-in-Some-clause-found c m index =
+    given-free c.first_place.result c.in-Some.block m c.args.states.now c.args.blocks.now c.args.at.now index c.in-Some.ensures.found c.first_place.ensures.found
+
+pub returns-in-Some-clause-lowest : goal.returns-in-Some-clause-lowest
+returns-in-Some-clause-lowest c by m index =
+    only-some c.first_place.result c.args.at.now.reserve m (found-free c.first_place.result c.in-Some.block m c.args.states.now c.args.blocks.now c.args.at.now by index (c.in-Some.ensures.lowest by) c.first_place.ensures.found)
+
+pub returns-in-None-clause-found : goal.returns-in-None-clause-found
+returns-in-None-clause-found c m index = none-free-in m c.args.states.now c.args.blocks.now c.args.at.now index c.in-None.ensures.found

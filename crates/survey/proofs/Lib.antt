@@ -1,0 +1,4 @@
+pub mod Voting
+pub mod Faults
+pub mod Verdicts
+pub mod Counting

@@ -1,0 +1,60 @@
+-- Why journals are corrupt: the cases of `erase_journal`'s `SurveyHasNoFault`, one by one. Source:
+-- own.
+use Rattle.std.specs.Prelude.{◌≡◌, ◌≤◌, true, false}
+use Rattle.nor_layout.specs.Journals.{next}
+use Rattle.nor_layout.specs.declared.journal.JournalId.{JournalId}
+use Rattle.nor_layout.specs.declared.journal.JournalId.TheVariants.{J0}
+use Rattle.erase_journal.specs.declared.phase.Phase.{Phase}
+use Rattle.erase_journal.specs.declared.scan.VoteCounts as read
+use Rattle.erase_journal.specs.declared.survey.Survey.{Survey}
+use Rattle.erase_journal.specs.Faults.{HasVote, IsBelieved, IsDoomed, after_next}
+use Rattle.erase_journal.specs.Journals.{IsInPhase, first, second, settled, unused_of}
+use Rattle.erase_journal.specs.Votes.{Last}
+use Rattle.survey.specs.declared.counts.JournalCounts.{JournalCounts}
+use Rattle.survey.specs.declared.counts.VoteCounts.{VoteCounts}
+use Rattle.survey.specs.declared.journals.JournalFault.{JournalFault}
+use Rattle.survey.specs.declared.journals.JournalFault.TheVariants.{TwoDoomed, WrongVotes}
+use Rattle.survey.specs.declared.journals.JournalFault.TheVariants.{ManyVotes, TwoNamed}
+use Rattle.survey.specs.declared.journals.JournalFault.TheVariants.{ManyEntries, EntryBesideVote}
+use Rattle.survey.specs.declared.journals.JournalFault.TheVariants.{NoVotesLeft}
+
+-- the same counts in the words of `erase_journal`
+abbrev pub as_votes : VoteCounts → read.VoteCounts
+as_votes v = record { unused = v.unused; opened = v.opened; wrong = v.wrong }
+
+abbrev pub as_survey : JournalCounts → Survey
+as_survey c = record {
+  j0_for_1 = as_votes c.j0_for_1;
+  j0_for_2 = as_votes c.j0_for_2;
+  j1_for_0 = as_votes c.j1_for_0;
+  j1_for_2 = as_votes c.j1_for_2;
+  j2_for_0 = as_votes c.j2_for_0;
+  j2_for_1 = as_votes c.j2_for_1;
+  free = c.free;
+  opened = c.opened;
+}
+
+-- what a fault says of the counts
+abbrev pub IsJournalFault : JournalFault → Survey → Type 0
+IsJournalFault (TwoDoomed x) s = IsDoomed s x × IsDoomed s (next x)
+IsJournalFault (WrongVotes x true) s = IsBelieved s (next x) × (1 ≤ (first s x).wrong)
+IsJournalFault (WrongVotes x false) s = IsBelieved s (after_next x) × (1 ≤ (second s x).wrong)
+IsJournalFault (ManyVotes x true) s = IsBelieved s (next x) × (2 ≤ (first s x).opened)
+IsJournalFault (ManyVotes x false) s = IsBelieved s (after_next x) × (2 ≤ (second s x).opened)
+IsJournalFault (TwoNamed x) s = HasVote s x × HasVote s (next x)
+IsJournalFault ManyEntries s = IsBelieved s J0 × (2 ≤ s.opened)
+IsJournalFault (EntryBesideVote x) s = IsBelieved s J0 × (1 ≤ s.opened) × HasVote s x
+IsJournalFault NoVotesLeft s = ((p : Phase) → IsInPhase p s → Last (settled p (unused_of s))) → ⊥
+
+-- the votes for the erase of one journal have none of these faults
+pub record HasNoRegionFault (s : Survey) (x : JournalId) : Type 0 where
+  pub first_votes : IsBelieved s (next x) → ((first s x).wrong ≡ 0) × ((first s x).opened ≤ 1)
+  pub second_votes : IsBelieved s (after_next x)
+      → ((second s x).wrong ≡ 0) × ((second s x).opened ≤ 1)
+
+pub record HasNoVoteFault (s : Survey) (x : JournalId) : Type 0 where
+  pub one_doomed : IsDoomed s x → IsDoomed s (next x) → ⊥
+  pub regions : HasNoRegionFault s x
+  pub one_named : HasVote s x → HasVote s (next x) → ⊥
+  pub one_entry : IsBelieved s J0 → s.opened ≤ 1
+  pub entry_alone : IsBelieved s J0 → 1 ≤ s.opened → HasVote s x → ⊥

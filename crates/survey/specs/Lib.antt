@@ -1,0 +1,6 @@
+pub mod Journals
+pub mod Findings
+pub mod Steps
+pub mod Verdicts
+pub mod Summaries
+pub mod Reports

@@ -1,0 +1,195 @@
+//! `chip`, and `format`, `check` and `serve` of the chip that it answers for, over connections of
+//! this machine.
+ghost use Rattle.norbd_line.specs.Line.{IsConns, IsPlace};
+
+use crate::exports::meet;
+use crate::serving::{Told, free_port, make, one_client, text_of};
+use norbd_image::ImageFile;
+use norbd_line::{Cause, ChipCause, ChipLine, Fault, Place};
+use norbd_run::{Asked, run_check, run_check_chip, run_chip, run_format_chip, run_serve_chip};
+use norbd_serve::Log;
+use serprog::SerprogError;
+use std::net::{Ipv4Addr, Net, SocketAddr, TcpListener, TcpStream};
+use std::rt::Files;
+use std::sync::Wait;
+use std::test::*;
+use std::thread::Threads;
+use std::time::{Clock, Duration};
+use std::{fs, thread};
+
+/// What came of the lines that ask for the chip.
+#[derive(Drop)]
+struct Came {
+    unsure: Result<(), Fault>,
+    other: Result<(), Fault>,
+    formatted: Result<(), Fault>,
+    checked: Result<(), Fault>,
+    served: Result<(), Fault>,
+    met: [u8; 5],
+    told: Vec<u8>,
+}
+
+/// Whether nobody listens yet.
+fn is_early(done: &Result<(), Fault>) -> bool {
+    matches!(
+        done,
+        Err(Fault::ImageFailed(Cause::Chip(ChipCause::Programmer(SerprogError::Unreached(_)))))
+    )
+}
+
+/// A format of a chip of 128 KiB, once somebody listens.
+fn format_other<R>(rt: &R, place: &str, told: &mut Told) -> Result<(), Fault>
+where
+    R: AllocGlobal + Clock + Log + Net<Stream = TcpStream>,
+{
+    for _ in 0..200u32 {
+        let done = run_format_chip(rt, place, 128, true, told);
+        if !is_early(&done) {
+            return done;
+        }
+        thread::sleep(rt, Duration::from_millis(20));
+    }
+    Err(Fault::NoThread)
+}
+
+/// Serves the chip to one client, and answers what it was told.
+fn serve_one<R>(
+    rt: &R,
+    place: &str,
+    asked: Asked<'_>,
+    told: &mut Told,
+) -> ([u8; 5], Result<(), Fault>)
+where
+    R: Files
+        + AllocGlobal
+        + Threads
+        + Wait
+        + Sync
+        + Clock
+        + Log
+        + Net<Listener = TcpListener, Stream = TcpStream>,
+    R: 'static,
+    requires { IsPlace asked.place × IsConns asked.conns }
+{
+    let Place::Port { port, .. } = asked.place else {
+        return ([0; 5], Err(Fault::NoThread));
+    };
+    let addr = SocketAddr::from((Ipv4Addr::LOCALHOST, port as u16));
+    let (met, done) = thread::join(
+        rt,
+        move || meet(rt, addr),
+        move || -> Result<(), Fault>
+            requires { IsPlace asked.place × IsConns asked.conns }
+        { run_serve_chip(rt, place, false, asked, told) },
+    );
+    (met.unwrap_or([0; 5]), done)
+}
+
+/// The lines, one after another.
+fn ask<R>(rt: &R, place: &str, asked: Asked<'_>) -> Came
+where
+    R: Files
+        + AllocGlobal
+        + Threads
+        + Wait
+        + Sync
+        + Clock
+        + Log
+        + Net<Listener = TcpListener, Stream = TcpStream>,
+    R: 'static,
+    requires { IsPlace asked.place × IsConns asked.conns }
+{
+    let mut told = Told {
+        text: Vec::new(rt.alloc()),
+    };
+    let unsure = run_format_chip(rt, place, 64, false, &mut told);
+    let other = format_other(rt, place, &mut told);
+    let formatted = run_format_chip(rt, place, 64, true, &mut told);
+    let checked = run_check_chip(rt, place, false, false, &mut told);
+    let (met, served) = serve_one(rt, place, asked, &mut told);
+    Came {
+        unsure,
+        other,
+        formatted,
+        checked,
+        served,
+        met,
+        told: told.text,
+    }
+}
+
+/// Answers for the chip in `served.img` on a port, to four clients.
+fn answer<R>(rt: &R, port: u16, told: &mut Told) -> Result<(), Fault>
+where
+    R: Files + AllocGlobal + Net<Listener = TcpListener, Stream = TcpStream>,
+    R::File: ImageFile + Send + Sync,
+{
+    if port == 0 {
+        return Err(Fault::NoThread);
+    }
+    let asked = ChipLine {
+        image: "served.img",
+        port: u32::from(port),
+        conns: Some(4),
+    };
+    run_chip(rt, asked, told)
+}
+
+/// EINVAL is 22 (NBD proto.md). The disk has 70 sectors.
+#[test]
+fn a_chip_is_answered_for_formatted_and_served(rt: HostRuntime) -> Result<(), Fail> {
+    make(&rt, 0, 0x4E)?;
+    let before = fs::read(&rt, "served.img")?;
+    let alloc = rt.alloc();
+    let port = free_port(&rt)?;
+    let asked = one_client(&rt)?;
+    let place = format!(in alloc; "127.0.0.1:{port}")?;
+    let mut said = Told {
+        text: Vec::new(alloc),
+    };
+    let (shared, place, says) = (&rt, place.as_str(), &mut said);
+    let (came, answered) = thread::join(
+        shared,
+        move || -> Came
+            requires { IsPlace asked.place × IsConns asked.conns }
+        { ask(shared, place, asked) },
+        move || answer(shared, port, says),
+    );
+    let text = format!(in alloc; "chip of 64 KiB on port {port}\n")?;
+    assert_eq!(rt; said.text.as_slice(), text.as_bytes());
+    assert_eq!(rt; text_of(&rt, answered)?.as_str(), "");
+    assert_eq!(rt; text_of(&rt, came.formatted)?.as_str(), "");
+    assert_eq!(rt; text_of(&rt, came.checked)?.as_str(), "");
+    assert_eq!(rt; text_of(&rt, came.served)?.as_str(), "");
+    assert_eq!(rt; came.met, [0x6D, 1, 22, 0, 0]);
+    assert!(rt;
+        matches!(
+            came.unsure,
+            Err(Fault::ImageFailed(Cause::Chip(ChipCause::Unsure)))
+        )
+    );
+    assert!(rt;
+        matches!(
+            came.other,
+            Err(Fault::ImageFailed(Cause::Chip(ChipCause::Size(64))))
+        )
+    );
+    let told = String::from_utf8(came.told)?;
+    assert!(rt;
+        told.as_str().starts_with(
+            "formatted 70 sectors\nclean 70 sectors\nserving 70 sectors on port "
+        )
+    );
+    let after = fs::read(&rt, "served.img")?;
+    assert!(rt; after.as_slice() != before.as_slice());
+    let mut clean = Told {
+        text: Vec::new(alloc),
+    };
+    assert_eq!(rt;
+        text_of(&rt, run_check(&rt, "served.img", false, false, &mut clean))?.as_str(),
+        ""
+    );
+    let page = String::from_utf8(clean.text)?;
+    assert!(rt; page.as_str().ends_with("\nclean 70 sectors\n"));
+    Ok(fs::remove_file(&rt, "served.img")?)
+}
