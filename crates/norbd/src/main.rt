@@ -106,13 +106,7 @@ fn exit_code(done: &Result<(), Fault>) -> ExitCode
 
 /// Does the line of the program's words.
 #[tactic(auto, using(crate::proofs::Sizes::size_of_line, crate::proofs::Sizes::size_of_script, crate::proofs::Sizes::numbers_of_serve, crate::proofs::Sizes::numbers_of_chip))]
-fn do_line<R, A, B>(
-    rt: &R,
-    line: Line<'_>,
-    colours: bool,
-    stdin: A,
-    stdout: B,
-) -> Result<(), Fault>
+fn do_line<R, A, B>(rt: &R, line: Line<'_>, colours: bool, stdin: A, stdout: B) -> Result<(), Fault>
 where
     R: Files
         + AllocGlobal
