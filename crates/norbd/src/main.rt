@@ -22,7 +22,7 @@ ghost use Rattle.norbd_line.specs.Line.{IfChip, IsChipInRange, IsServeInRange, I
 use block_device::Io;
 use norbd_image::ImageFile;
 use norbd_line::{Fault, Line, read_line};
-use norbd_run::{Null, Telling, hold_standard, run_line};
+use norbd_run::{Null, Screen, Telling, hold_standard, run_line};
 use norbd_serve::Log;
 use std::alloc::Global;
 use std::io::{ErrorKind, IsTerminal, Read, Write};
@@ -64,6 +64,7 @@ where
         + Sync
         + Clock
         + Log
+        + Screen
         + Net<Listener = TcpListener, Stream = TcpStream>,
     R::File: ImageFile + Send + Sync,
     R: 'static,
@@ -115,6 +116,7 @@ where
         + Sync
         + Clock
         + Log
+        + Screen
         + Net<Listener = TcpListener, Stream = TcpStream>,
     R::File: ImageFile + Send + Sync,
     R: 'static,

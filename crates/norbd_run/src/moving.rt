@@ -13,6 +13,7 @@ ghost use Rattle.norbd_run.specs.Moving.{written_text};
 
 use crate::copying::{bytes_of, copied_disk, open_copy};
 use crate::formatting::told_as;
+use crate::progress::{Meter, Screen};
 use crate::serving::tell;
 use block_device::{Disk, DiskError, Sink, Source, send};
 use fault_model::PromptChip;
@@ -22,8 +23,9 @@ use norbd_line::{Cause, Fault};
 use std::alloc::{AllocError, Global};
 use std::marker::Brand;
 use std::rt::Files;
+use std::time::Clock;
 use transfer::{
-    InputError, Part, TransferError, put_sectors, range_in, receive_exactly, take_sectors,
+    InputError, Observer, Part, TransferError, put_sectors, range_in, receive_exactly, take_sectors,
 };
 
 /// Writes the sectors of the image in the file at a path to `writer`: the whole disk, or the part
@@ -120,7 +122,8 @@ fn told_of_disk(error: DiskError) -> Fault
 /// Replaces sectors of the image in the file at a path by the bytes of `reader`, of which there
 /// have to be exactly as many: the whole disk, or the part that `sectors` writes. A line on
 /// `writer` says before anything is read which sectors are replaced, and another one that they
-/// were. The file is replaced as a whole: after a fault it is as it was.
+/// were; how far it is is shown on a `Screen`. The file is replaced as a whole: after a fault it is
+/// as it was.
 ///
 /// The faults are those of `run_read`; besides `BadInput` where `reader` has fewer bytes or more,
 /// and `InputFailed` where it failed.
@@ -132,7 +135,7 @@ pub fn run_write<R, S, K>(
     writer: &mut K,
 ) -> Result<(), Fault>
 where
-    R: Files + AllocGlobal,
+    R: Files + AllocGlobal + Clock + Screen,
     R::File: ImageFile,
     S: Source,
     K: Sink,
@@ -208,7 +211,7 @@ fn write_file<R, S>(
     reader: &mut S,
 ) -> Result<(), Fault>
 where
-    R: Files + AllocGlobal,
+    R: Files + AllocGlobal + Clock + Screen,
     R::File: ImageFile,
     S: Source,
     requires some { part.first < part.end }
@@ -228,7 +231,7 @@ where
         Err(InputError::Failed) => return Err(Fault::InputFailed),
         Err(InputError::OtherLength) => return Err(Fault::BadInput(512 * sectors as u64)),
     };
-    let image = image_with(disk, part.first, bytes.as_slice())?;
+    let image = image_with(disk, part.first, bytes.as_slice(), &mut Meter::new(rt))?;
     match rewrite_image(rt, path, held, image.as_slice()) {
         Ok(()) => Ok(()),
         Err(error) => Err(told_as(error)),
@@ -237,10 +240,11 @@ where
 
 /// The bytes of the chip of a disk once these sectors are replaced from the sector `first` on: a
 /// healthy and clean chip that holds them, and every other sector as it was.
-fn image_with(
+fn image_with<O: Observer>(
     disk: FlashDisk<PromptChip, Brand>,
     first: u32,
     bytes: &[u8],
+    observer: &mut O,
 ) -> Result<Vec<u8>, Fault>
     requires whole { length bytes.now % 512 ≡ 0 }
     requires range { 512 * first + length bytes.now
@@ -254,7 +258,7 @@ fn image_with(
     ensures refused { IfErr result MoveFails }
 {
     let mut disk = disk;
-    let written = put_sectors(&mut disk, first, bytes);
+    let written = put_sectors(&mut disk, first, bytes, observer);
     let chip = disk.into_inner();
     match written {
         Ok(()) => Ok(chip.into_inner()),

@@ -21,6 +21,7 @@ use crate::checking::run_check;
 use crate::chips::{run_check_chip, run_format_chip, run_serve_chip};
 use crate::formatting::run_format;
 use crate::moving::{run_read, run_write};
+use crate::progress::Screen;
 use crate::scripting::run_script;
 use crate::serving::{Asked, run_serve};
 use crate::showing::run_show;
@@ -90,6 +91,7 @@ where
         + Sync
         + Clock
         + Log
+        + Screen
         + Net<Listener = TcpListener, Stream = TcpStream>,
     R::File: ImageFile + Send + Sync,
     R: 'static,

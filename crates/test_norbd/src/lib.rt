@@ -20,4 +20,6 @@ mod moving;
 #[cfg(test)]
 mod printing;
 #[cfg(test)]
+mod progress;
+#[cfg(test)]
 mod serving;

@@ -9,7 +9,7 @@ ghost use Rattle.norbd_line.specs.Line.{IsServeInRange, IsSize};
 use block_device::{FixedOut, Io};
 use norbd_image::ImageFile;
 use norbd_line::Line;
-use norbd_run::run_line;
+use norbd_run::{Screen, run_line};
 use norbd_serve::Log;
 use std::alloc::Global;
 use std::io::Read;
@@ -94,6 +94,7 @@ where
         + Sync
         + Clock
         + Log
+        + Screen
         + Net<Listener = TcpListener, Stream = TcpStream>,
     R::File: ImageFile + Send + Sync,
     R: 'static,
@@ -135,6 +136,7 @@ where
         + Sync
         + Clock
         + Log
+        + Screen
         + Net<Listener = TcpListener, Stream = TcpStream>,
     R::File: ImageFile + Send + Sync,
     R: 'static,
@@ -378,6 +380,7 @@ where
         + Sync
         + Clock
         + Log
+        + Screen
         + Net<Listener = TcpListener, Stream = TcpStream>,
     R::File: ImageFile + Send + Sync,
     R: 'static,

@@ -7,7 +7,7 @@ use crate::serving::{Told, free_port, make, text_of};
 use block_device::FixedIn;
 use norbd_image::ImageFile;
 use norbd_line::{Fault, Line, Place, ServeLine, SyncPolicy, TidyPolicy, read_line};
-use norbd_run::run_line;
+use norbd_run::{Screen, run_line};
 use norbd_serve::Log;
 use std::alloc::Global;
 use std::fs;
@@ -60,6 +60,7 @@ where
         + Sync
         + Clock
         + Log
+        + Screen
         + Net<Listener = TcpListener, Stream = TcpStream>,
     R::File: ImageFile + Send + Sync,
     R: 'static,

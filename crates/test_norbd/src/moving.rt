@@ -4,11 +4,12 @@ use crate::serving::{Told, make};
 use block_device::FixedIn;
 use norbd_image::ImageFile;
 use norbd_line::Fault;
-use norbd_run::{run_read, run_show, run_write};
+use norbd_run::{Screen, run_read, run_show, run_write};
 use std::fs;
 use std::process::Abort;
 use std::rt::Files;
 use std::test::*;
+use std::time::Clock;
 
 /// What a run told, and the text of its fault.
 #[derive(Drop)]
@@ -47,7 +48,7 @@ where
 /// Writes a part of it.
 fn write<H>(rt: &H, sectors: Option<&str>, input: &[u8]) -> Result<Moved, Fail>
 where
-    H: Abort + Files + AllocGlobal,
+    H: Abort + Files + AllocGlobal + Clock + Screen,
     H::File: ImageFile,
 {
     let mut told = Told {
@@ -84,7 +85,7 @@ fn sectors_are_written_and_read(rt: HostRuntime) -> Result<(), Fail> {
 /// A write that is refused: what it tells, and that the file is left.
 fn refuses<H>(rt: &H, sectors: &str, input: &[u8], told: &str, fault: &str) -> Result<(), Fail>
 where
-    H: Abort + Files + AllocGlobal,
+    H: Abort + Files + AllocGlobal + Clock + Screen,
     H::File: ImageFile,
 {
     let wanted = fs::read(rt, "served.img")?;

@@ -10,9 +10,11 @@
 #![tactic(auto)]
 
 mod input;
+mod observer;
 mod part;
 mod sectors;
 
 pub use input::{InputError, receive_exactly};
+pub use observer::Observer;
 pub use part::{Part, range_in};
 pub use sectors::{TransferError, put_sectors, take_sectors};

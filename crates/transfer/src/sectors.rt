@@ -6,6 +6,7 @@ ghost use Rattle.std.specs.Result.{IsErrOf};
 ghost use Rattle.block_device.specs.Contents.{bytes_at, replaced};
 ghost use Rattle.block_device.specs.Facts.{CountsNeverFall, IsDiskReady};
 
+use crate::observer::Observer;
 use block_device::{Disk, DiskError};
 use std::alloc::Global;
 
@@ -46,8 +47,14 @@ pub fn take_sectors<D: Disk>(
     }
 }
 
-/// Replaces sectors of a disk from the sector `first` on, upwards, by these bytes.
-pub fn put_sectors<D: Disk>(disk: &mut D, first: u32, bytes: &[u8]) -> Result<(), DiskError>
+/// Replaces sectors of a disk from the sector `first` on, upwards, by these bytes; after each
+/// `observer` is told how many of how many are replaced.
+pub fn put_sectors<D: Disk, O: Observer>(
+    disk: &mut D,
+    first: u32,
+    bytes: &[u8],
+    observer: &mut O,
+) -> Result<(), DiskError>
     requires whole { length bytes.now % 512 ≡ 0 }
     requires few { 512 * first + length bytes.now ≤ 33554432 }
     requires range { 512 * first + length bytes.now ≤ length (D.facts disk.old).contents }
@@ -69,6 +76,10 @@ pub fn put_sectors<D: Disk>(disk: &mut D, first: u32, bytes: &[u8]) -> Result<()
             &bytes[done..done + SECTOR_LEN],
         )?;
         done += SECTOR_LEN;
+        observer.note(
+            (done / SECTOR_LEN) as u32,
+            (bytes.len() / SECTOR_LEN) as u32,
+        );
     }
     Ok(())
 }
