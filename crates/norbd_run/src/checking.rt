@@ -28,9 +28,16 @@ pub(crate) struct Checked {
 
 /// What was found of an image: the report as a text, and its end.
 #[derive(Drop)]
-struct Looked {
+pub(crate) struct Looked {
     text: String,
     end: Result<Checked, Fault>,
+}
+
+/// What a check is to do: to mend the image, and to tell it to programs.
+#[derive(Clone, Copy)]
+pub(crate) struct How {
+    pub(crate) mend: bool,
+    pub(crate) json: bool,
 }
 
 /// Says on `writer` whether the image in the file at a path would be served: a report, in JSON
@@ -56,13 +63,30 @@ where
     ensures { CheckTells mend json (K.written writer.old) (K.faults writer.old) result
         (K.written writer.new) (K.faults writer.new) }
 {
-    let Looked { text, end } = check_file(rt, path, mend, json)?;
+    let how = How { mend, json };
+    let looked = check_file(rt, path, how)?;
+    tell_looked(rt.alloc(), looked, how, writer)
+}
+
+/// Writes what was found of an image, and the line about it.
+pub(crate) fn tell_looked<K: Sink>(
+    alloc: Global,
+    looked: Looked,
+    how: How,
+    writer: &mut K,
+) -> Result<(), Fault>
+    requires mends { IfOk looked.end (λ checked. checked.mended ≡ true → how.mend ≡ true) }
+    requires end { IfErr looked.end IsRefusal }
+    ensures { CheckTells how.mend how.json (K.written writer.old) (K.faults writer.old) result
+        (K.written writer.new) (K.faults writer.new) }
+{
+    let Looked { text, end } = looked;
     if let Err(fault) = send_bytes(writer, text.as_bytes()) {
         return Err(fault);
     }
     match end {
         Ok(checked) => {
-            let line = text_about(rt.alloc(), checked, json);
+            let line = text_about(alloc, checked, how.json);
             tell(writer, line)
         }
         Err(fault) => Err(fault),
@@ -70,7 +94,7 @@ where
 }
 
 /// The line about an image; none for programs.
-pub(crate) fn text_about(alloc: Global, checked: Checked, json: bool) -> Result<String, AllocError>
+fn text_about(alloc: Global, checked: Checked, json: bool) -> Result<String, AllocError>
     ensures { IfOk result (λ text.
         string_bytes text ≡ last_text json checked.mended checked.sectors) }
 {
@@ -86,12 +110,12 @@ pub(crate) fn text_about(alloc: Global, checked: Checked, json: bool) -> Result<
 }
 
 /// Checks the image in a file, which no other process has meanwhile.
-fn check_file<R>(rt: &R, path: &str, mend: bool, json: bool) -> Result<Looked, Fault>
+fn check_file<R>(rt: &R, path: &str, how: How) -> Result<Looked, Fault>
 where
     R: Files + AllocGlobal,
     R::File: ImageFile,
     ensures mends { IfOk result (λ looked. IfOk looked.end (λ checked. checked.mended ≡ true
-        → mend ≡ true)) }
+        → how.mend ≡ true)) }
     ensures end { IfOk result (λ looked. IfErr looked.end IsRefusal) }
     ensures refused { IfErr result IsRefusal }
 {
@@ -100,14 +124,9 @@ where
         Err(error) => return Err(told_as(error)),
     };
     let bytes = bytes_of(rt, &held)?;
-    let report = match report_about(rt.alloc(), bytes.as_slice()) {
-        Ok(report) => report,
-        Err(error) => return Err(told_of_unexamined(error)),
-    };
-    let end = end_of(rt.alloc(), &report, bytes.as_slice());
-    let text = report_text(rt.alloc(), &report, bytes.as_slice(), &end, json)?;
+    let Looked { text, end } = look_over(rt.alloc(), bytes.as_slice(), how.json)?;
     match end {
-        Err(Fault::NotClean) if mend => Ok(Looked {
+        Err(Fault::NotClean) if how.mend => Ok(Looked {
             text,
             end: Ok(Checked {
                 sectors: mend_file(rt, path, &held)?,
@@ -116,6 +135,24 @@ where
         }),
         end => Ok(Looked { text, end }),
     }
+}
+
+/// What is found of the bytes of an image.
+pub(crate) fn look_over(alloc: Global, image: &[u8], json: bool) -> Result<Looked, Fault>
+    requires size { IsChipSize (length image.now) }
+    ensures healthy { IfOk result (λ looked. IfOk looked.end (λ _. IsMountable image.now)) }
+    ensures unmended { IfOk result (λ looked. IfOk looked.end (λ checked.
+        checked.mended ≡ false)) }
+    ensures end { IfOk result (λ looked. IfErr looked.end IsRefusal) }
+    ensures refused { IfErr result IsRefusal }
+{
+    let report = match report_about(alloc, image) {
+        Ok(report) => report,
+        Err(error) => return Err(told_of_unexamined(error)),
+    };
+    let end = end_of(alloc, &report, image);
+    let text = report_text(alloc, &report, image, &end, json)?;
+    Ok(Looked { text, end })
 }
 
 /// What the bytes of an image say: its verdict is a mount's.

@@ -3,7 +3,7 @@
 //! losses of power too, on a chip in memory; `serve` serves the chip in an image to connections on
 //! a port or a Unix socket; `check` says whether an image would be served, and if not, why, and
 //! mends one; `show` draws it; `read` and `write` take its disk out and put it in; `chip` answers
-//! the serprog protocol for one. A chip behind a programmer is formatted, checked and served too.
+//! the serprog protocol for one. But for the last each takes a chip behind a programmer, too.
 //!
 //! Promised to the program: `run_line` has each line's own promise (`PlainServes`, `FormatTells`,
 //! `Scripts`, `TellsServing`, `CheckTells`, `ShowTells`, `ReadTells`, `WriteTells`): what is
@@ -20,6 +20,7 @@
 
 mod answering;
 mod checking;
+mod chip_disks;
 mod chips;
 mod copying;
 mod formatting;
@@ -35,7 +36,8 @@ mod standard;
 
 pub use answering::run_chip;
 pub use checking::run_check;
-pub use chips::{run_check_chip, run_format_chip, run_serve_chip};
+pub use chip_disks::{run_check_chip, run_read_chip, run_show_chip, run_write_chip};
+pub use chips::{run_format_chip, run_serve_chip};
 pub use formatting::run_format;
 pub use listening::listen_at;
 pub use moving::{run_read, run_write};

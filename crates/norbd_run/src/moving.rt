@@ -2,7 +2,7 @@
 ghost use Rattle.std.specs.Prelude.{◌≡◌, ◌*◌, ◌+◌, ◌<◌, ◌-◌, ◌%◌, ◌≤◌, IfErr, IfOk, OnOk};
 ghost use Rattle.std.specs.Prelude.{length, true};
 ghost use Rattle.std.specs.Prelude.{string_bytes};
-ghost use Rattle.std.specs.Io.KnownBytes.{IsAtEnd};
+ghost use Rattle.std.specs.Io.KnownBytes.{Consumes, IsAtEnd};
 ghost use Rattle.block_device.specs.Contents.{bytes_at, replaced};
 ghost use Rattle.block_device.specs.Facts.{IsDiskReady};
 ghost use Rattle.norbd_run.specs.Listening.{IsRefusal};
@@ -77,10 +77,10 @@ where
 }
 
 /// The part of a disk that a text writes.
-fn part_of(disk: &FlashDisk<PromptChip, Brand>, sectors: Option<&str>) -> Result<Part, Fault>
+pub(crate) fn part_of<D: Disk>(disk: &D, sectors: Option<&str>) -> Result<Part, Fault>
     ensures part { IfOk result (λ part.
         (part.first < part.end) × (part.end ≤ 65536) × (512 * part.end
-        ≤ length (⟦<FlashDisk<PromptChip, Brand> as Disk>⟧.facts disk.now).contents)) }
+        ≤ length (D.facts disk.now).contents)) }
     ensures refused { IfErr result MoveFails }
 {
     let count = disk.sectors();
@@ -94,7 +94,7 @@ fn part_of(disk: &FlashDisk<PromptChip, Brand>, sectors: Option<&str>) -> Result
 }
 
 /// The bytes of a part of a disk.
-fn sectors_of_disk<D: Disk>(alloc: Global, disk: &mut D, part: Part) -> Result<Vec<u8>, Fault>
+pub(crate) fn sectors_of_disk<D: Disk>(alloc: Global, disk: &mut D, part: Part) -> Result<Vec<u8>, Fault>
     requires some { part.first < part.end }
     requires range { 512 * part.end ≤ length (D.facts disk.old).contents }
     requires sound { (D.facts disk.old).sound ≡ true }
@@ -109,8 +109,8 @@ fn sectors_of_disk<D: Disk>(alloc: Global, disk: &mut D, part: Part) -> Result<V
     }
 }
 
-/// What an error of a disk on a copy in memory is for the program.
-fn told_of_disk(error: DiskError) -> Fault
+/// What an error of a disk is for the program.
+pub(crate) fn told_of_disk(error: DiskError) -> Fault
     ensures { MoveFails result }
 {
     match error {
@@ -186,7 +186,7 @@ where
 }
 
 /// The line about the sectors that are replaced.
-fn replacing_text(alloc: Global, part: Part) -> Result<String, AllocError>
+pub(crate) fn replacing_text(alloc: Global, part: Part) -> Result<String, AllocError>
     ensures { IfOk result (λ text. string_bytes text ≡ replacing_text part.first part.end) }
 {
     let Part { first, end } = part;
@@ -194,7 +194,7 @@ fn replacing_text(alloc: Global, part: Part) -> Result<String, AllocError>
 }
 
 /// The line about those that were.
-fn written_text(alloc: Global, part: Part) -> Result<String, AllocError>
+pub(crate) fn written_text(alloc: Global, part: Part) -> Result<String, AllocError>
     ensures { IfOk result (λ text. string_bytes text ≡ written_text part.first part.end) }
 {
     let Part { first, end } = part;
@@ -223,18 +223,34 @@ where
     ensures end { OnOk result (IsAtEnd (S.remaining reader.new)) }
     ensures refused { IfErr result MoveFails }
 {
-    let sectors = part.end - part.first;
-    let count = 512 * sectors as usize;
-    let bytes = match receive_exactly(rt.alloc(), reader, count) {
-        Ok(bytes) => bytes,
-        Err(InputError::OutOfMemory) => return Err(Fault::NoMemory),
-        Err(InputError::Failed) => return Err(Fault::InputFailed),
-        Err(InputError::OtherLength) => return Err(Fault::BadInput(512 * sectors as u64)),
-    };
+    let bytes = receive_part(rt.alloc(), reader, part)?;
     let image = image_with(disk, part.first, bytes.as_slice(), &mut Meter::new(rt))?;
     match rewrite_image(rt, path, held, image.as_slice()) {
         Ok(()) => Ok(()),
         Err(error) => Err(told_as(error)),
+    }
+}
+
+/// The bytes of a part of a disk that come from a stream, to its end.
+pub(crate) fn receive_part<S: Source>(
+    alloc: Global,
+    reader: &mut S,
+    part: Part,
+) -> Result<Vec<u8>, Fault>
+    requires some { part.first < part.end }
+    requires few { part.end ≤ 65536 }
+    ensures size { IfOk result (λ bytes. length bytes.items ≡ 512 * (part.end - part.first)) }
+    ensures all { IfOk result (λ bytes. Consumes (S.remaining reader.old) (S.remaining reader.new)
+        bytes.items) }
+    ensures end { OnOk result (IsAtEnd (S.remaining reader.new)) }
+    ensures refused { IfErr result MoveFails }
+{
+    let sectors = part.end - part.first;
+    match receive_exactly(alloc, reader, 512 * sectors as usize) {
+        Ok(bytes) => Ok(bytes),
+        Err(InputError::OutOfMemory) => Err(Fault::NoMemory),
+        Err(InputError::Failed) => Err(Fault::InputFailed),
+        Err(InputError::OtherLength) => Err(Fault::BadInput(512 * sectors as u64)),
     }
 }
 

@@ -18,7 +18,8 @@ ghost use Rattle.nbd_wire.specs.Commands.{default_export};
 
 use crate::answering::run_chip;
 use crate::checking::run_check;
-use crate::chips::{run_check_chip, run_format_chip, run_serve_chip};
+use crate::chip_disks::{run_check_chip, run_read_chip, run_show_chip, run_write_chip};
+use crate::chips::{run_format_chip, run_serve_chip};
 use crate::formatting::run_format;
 use crate::moving::{run_read, run_write};
 use crate::progress::Screen;
@@ -191,9 +192,18 @@ where
             Some(place) => run_check_chip(rt, place, mend, json, writer),
             None => run_check(rt, image, mend, json, writer),
         },
-        Line::Show { image } => run_show(rt, image, colours, writer),
-        Line::Read { image, sectors } => run_read(rt, image, sectors, writer),
-        Line::Write { image, sectors } => run_write(rt, image, sectors, reader, writer),
+        Line::Show { image } => match programmer_of(image) {
+            Some(place) => run_show_chip(rt, place, colours, writer),
+            None => run_show(rt, image, colours, writer),
+        },
+        Line::Read { image, sectors } => match programmer_of(image) {
+            Some(place) => run_read_chip(rt, place, sectors, writer),
+            None => run_read(rt, image, sectors, writer),
+        },
+        Line::Write { image, sectors } => match programmer_of(image) {
+            Some(place) => run_write_chip(rt, place, sectors, reader, writer),
+            None => run_write(rt, image, sectors, reader, writer),
+        },
     }
 }
 

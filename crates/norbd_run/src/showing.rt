@@ -1,5 +1,6 @@
 //! `show`: a picture of the blocks of an image.
-ghost use Rattle.std.specs.Prelude.{IfErr};
+ghost use Rattle.std.specs.Prelude.{IfErr, length};
+ghost use Rattle.chip_model.specs.Geometry.{IsChipSize};
 ghost use Rattle.norbd_run.specs.Listening.{IsRefusal};
 ghost use Rattle.norbd_run.specs.Showing.{ShowTells};
 
@@ -49,14 +50,22 @@ where
         Ok(bytes) => bytes,
         Err(fault) => return Err(fault),
     };
-    match report_about(rt.alloc(), bytes.as_slice()) {
-        Ok(report) => picture_of(rt.alloc(), &report, colours),
+    picture_of(rt.alloc(), bytes.as_slice(), colours)
+}
+
+/// The picture of the bytes of an image.
+pub(crate) fn picture_of(alloc: Global, image: &[u8], colours: bool) -> Result<String, Fault>
+    requires { IsChipSize (length image.now) }
+    ensures { IfErr result IsRefusal }
+{
+    match report_about(alloc, image) {
+        Ok(report) => drawn(alloc, &report, colours),
         Err(error) => Err(told_of_unexamined(error)),
     }
 }
 
 /// The picture of an image of which this was reported.
-fn picture_of(alloc: Global, report: &Report, colours: bool) -> Result<String, Fault>
+fn drawn(alloc: Global, report: &Report, colours: bool) -> Result<String, Fault>
     ensures { IfErr result IsRefusal }
 {
     match report.verdict {
