@@ -19,7 +19,8 @@ use durable::{Durable, Policy};
 use fault_model::PromptChip;
 use flash_disk::FlashDisk;
 use norbd_chip::{
-    ChipFault, NoFile, Noted, Noting, Reached, Report, format_chip, watch, watch_noting,
+    ChipFault, NoFile, Noted, Noting, ProgrammerPlace, Reached, Report, format_chip, watch,
+    watch_noting,
 };
 use norbd_line::{Cause, ChipCause, Fault, Place, TidyPolicy};
 use norbd_serve::{Listener, Log};
@@ -39,13 +40,13 @@ use std::time::Clock;
 /// `Slow` come; `NoMemory`. `OutputFailed` where a write failed; the chip is formatted then.
 pub fn run_format_chip<R, K>(
     rt: &R,
-    place: &str,
+    place: ProgrammerPlace<'_>,
     kib: u32,
     sure: bool,
     writer: &mut K,
 ) -> Result<(), Fault>
 where
-    R: AllocGlobal + Clock + Log + Net<Stream = TcpStream>,
+    R: Files + AllocGlobal + Clock + Log + Net<Stream = TcpStream>,
     K: Sink,
     requires { IsChipSize (1024 * kib) }
     ensures { FormatTells kib (K.written writer.old) (K.faults writer.old) result
@@ -68,13 +69,13 @@ where
 /// `run_serve_chip`, `NotClean`, and `OutputFailed` where the line could not be written.
 pub fn run_check_chip<R, K>(
     rt: &R,
-    place: &str,
+    place: ProgrammerPlace<'_>,
     mend: bool,
     json: bool,
     writer: &mut K,
 ) -> Result<(), Fault>
 where
-    R: AllocGlobal + Clock + Log + Net<Stream = TcpStream>,
+    R: Files + AllocGlobal + Clock + Log + Net<Stream = TcpStream>,
     K: Sink,
     ensures { CheckTells mend json (K.written writer.old) (K.faults writer.old) result
         (K.written writer.new) (K.faults writer.new) }
@@ -88,9 +89,9 @@ where
 }
 
 /// Checks the chip behind the programmer at a place, as a copy in memory shows it.
-fn check_chip<R>(rt: &R, place: &str, mend: bool) -> Result<Checked, Fault>
+fn check_chip<R>(rt: &R, place: ProgrammerPlace<'_>, mend: bool) -> Result<Checked, Fault>
 where
-    R: AllocGlobal + Clock + Log + Net<Stream = TcpStream>,
+    R: Files + AllocGlobal + Clock + Log + Net<Stream = TcpStream>,
     ensures mends { IfOk result (λ checked. checked.mended ≡ true → mend ≡ true) }
     ensures refused { IfErr result IsRefusal }
 {
@@ -112,7 +113,7 @@ where
 /// no command gets a reply then, and all connections are closed.
 pub fn run_serve_chip<R, K>(
     rt: &R,
-    place: &str,
+    place: ProgrammerPlace<'_>,
     trusts: bool,
     asked: Asked<'_>,
     writer: &mut K,
@@ -126,6 +127,7 @@ where
         + Clock
         + Log
         + Net<Listener = TcpListener, Stream = TcpStream>,
+    R::File: Send,
     R: 'static,
     K: Sink,
     requires { IsPlace asked.place × IsConns asked.conns }
@@ -154,20 +156,22 @@ where
 fn serve_chip<'r, 'p, 'n, R, K>(
     rt: &'r R,
     listener: Listener,
-    place: &'p str,
+    place: ProgrammerPlace<'p>,
     trusts: bool,
     noted: &'n Noted,
     asked: Asked<'_>,
     writer: &mut K,
 ) -> Result<(), Fault>
 where
-    R: AllocGlobal
+    R: Files
+        + AllocGlobal
         + Threads
         + Wait
         + Sync
         + Clock
         + Log
         + Net<Listener = TcpListener, Stream = TcpStream>,
+    R::File: Send,
     R: 'static,
     K: Sink,
     requires { IsPlace asked.place × IsConns asked.conns }
@@ -192,12 +196,13 @@ where
 fn serve_chip_copy<R, K>(
     rt: &R,
     listener: Listener,
-    place: &str,
+    place: ProgrammerPlace<'_>,
     asked: Asked<'_>,
     writer: &mut K,
 ) -> Result<(), Fault>
 where
-    R: AllocGlobal
+    R: Files
+        + AllocGlobal
         + Threads
         + Wait
         + Sync
@@ -223,13 +228,13 @@ where
 #[tactic(auto, using(crate::proofs::Refusals::chip_is_refusal))]
 fn disk_behind<'r, 'p, 'n, R>(
     rt: &'r R,
-    place: &'p str,
+    place: ProgrammerPlace<'p>,
     trusts: bool,
     noted: &'n Noted,
     tidy: TidyPolicy,
 ) -> Result<FlashDisk<Noting<'n, Reached<'r, 'p, R, Reporter<'r, R>>>, Brand>, Fault>
 where
-    R: AllocGlobal + Clock + Log + Net<Stream = TcpStream>,
+    R: Files + AllocGlobal + Clock + Log + Net<Stream = TcpStream>,
     ensures refused { IfErr result IsRefusal }
     ensures sound { IfOk result (λ disk.
         (⟦<FlashDisk<Noting<'n, Reached<'r, 'p, R, Reporter<'r, R>>>, Brand> as Disk>⟧.facts
@@ -256,9 +261,9 @@ where
 /// The disk on a copy in memory of the chip behind the programmer at a place, of which nothing is
 /// changed.
 #[tactic(auto, using(crate::proofs::Refusals::chip_is_refusal))]
-fn disk_copied<R>(rt: &R, place: &str) -> Result<FlashDisk<PromptChip, Brand>, Fault>
+fn disk_copied<R>(rt: &R, place: ProgrammerPlace<'_>) -> Result<FlashDisk<PromptChip, Brand>, Fault>
 where
-    R: AllocGlobal + Clock + Log + Net<Stream = TcpStream>,
+    R: Files + AllocGlobal + Clock + Log + Net<Stream = TcpStream>,
     ensures refused { IfErr result IsRefusal }
     ensures sound { IfOk result (λ disk.
         (⟦<FlashDisk<PromptChip, Brand> as Disk>⟧.facts disk).sound ≡ true) }

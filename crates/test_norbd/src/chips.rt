@@ -1,14 +1,16 @@
 //! `chip`, and `format`, `check` and `serve` of the chip that it answers for, over connections of
-//! this machine.
+//! this machine; and the words that name programmers.
 ghost use Rattle.norbd_line.specs.Line.{IsConns, IsPlace};
 
 use crate::exports::meet;
 use crate::serving::{Told, free_port, make, one_client, text_of};
+use norbd_chip::{ProgrammerPlace, programmer_of};
 use norbd_image::ImageFile;
 use norbd_line::{Cause, ChipCause, ChipLine, Fault, Place};
 use norbd_run::{Asked, run_check, run_check_chip, run_chip, run_format_chip, run_serve_chip};
 use norbd_serve::Log;
 use serprog::SerprogError;
+use std::io::ErrorKind;
 use std::net::{Ipv4Addr, Net, SocketAddr, TcpListener, TcpStream};
 use std::rt::Files;
 use std::sync::Wait;
@@ -38,9 +40,9 @@ fn is_early(done: &Result<(), Fault>) -> bool {
 }
 
 /// A format of a chip of 128 KiB, once somebody listens.
-fn format_other<R>(rt: &R, place: &str, told: &mut Told) -> Result<(), Fault>
+fn format_other<R>(rt: &R, place: ProgrammerPlace<'_>, told: &mut Told) -> Result<(), Fault>
 where
-    R: AllocGlobal + Clock + Log + Net<Stream = TcpStream>,
+    R: Files + AllocGlobal + Clock + Log + Net<Stream = TcpStream>,
 {
     for _ in 0..200u32 {
         let done = run_format_chip(rt, place, 128, true, told);
@@ -55,7 +57,7 @@ where
 /// Serves the chip to one client, and answers what it was told.
 fn serve_one<R>(
     rt: &R,
-    place: &str,
+    place: ProgrammerPlace<'_>,
     asked: Asked<'_>,
     told: &mut Told,
 ) -> ([u8; 5], Result<(), Fault>)
@@ -68,6 +70,7 @@ where
         + Clock
         + Log
         + Net<Listener = TcpListener, Stream = TcpStream>,
+    R::File: Send,
     R: 'static,
     requires { IsPlace asked.place × IsConns asked.conns }
 {
@@ -86,7 +89,7 @@ where
 }
 
 /// The lines, one after another.
-fn ask<R>(rt: &R, place: &str, asked: Asked<'_>) -> Came
+fn ask<R>(rt: &R, place: ProgrammerPlace<'_>, asked: Asked<'_>) -> Came
 where
     R: Files
         + AllocGlobal
@@ -96,6 +99,7 @@ where
         + Clock
         + Log
         + Net<Listener = TcpListener, Stream = TcpStream>,
+    R::File: Send,
     R: 'static,
     requires { IsPlace asked.place × IsConns asked.conns }
 {
@@ -147,7 +151,7 @@ fn a_chip_is_answered_for_formatted_and_served(rt: HostRuntime) -> Result<(), Fa
     let mut said = Told {
         text: Vec::new(alloc),
     };
-    let (shared, place, says) = (&rt, place.as_str(), &mut said);
+    let (shared, place, says) = (&rt, ProgrammerPlace::Tcp(place.as_str()), &mut said);
     let (came, answered) = thread::join(
         shared,
         move || -> Came
@@ -192,4 +196,59 @@ fn a_chip_is_answered_for_formatted_and_served(rt: HostRuntime) -> Result<(), Fa
     let page = String::from_utf8(clean.text)?;
     assert!(rt; page.as_str().ends_with("\nclean 70 sectors\n"));
     Ok(fs::remove_file(&rt, "served.img")?)
+}
+
+#[test]
+fn words_that_name_programmers(rt: HostRuntime) -> Result<(), Fail> {
+    for (word, place) in [
+        (
+            "tcp:127.0.0.1:5000",
+            Some(ProgrammerPlace::Tcp("127.0.0.1:5000")),
+        ),
+        ("tcp:", Some(ProgrammerPlace::Tcp(""))),
+        ("tcp:serial:a", Some(ProgrammerPlace::Tcp("serial:a"))),
+        (
+            "serial:/dev/ttyACM0",
+            Some(ProgrammerPlace::Serial("/dev/ttyACM0")),
+        ),
+        ("serial:", Some(ProgrammerPlace::Serial(""))),
+        ("serial:tcp:a", Some(ProgrammerPlace::Serial("tcp:a"))),
+        ("/dev/ttyACM0", None),
+        ("serial", None),
+        ("tcp", None),
+        ("Serial:/dev/ttyACM0", None),
+        (" serial:/dev/ttyACM0", None),
+        ("./serial:/dev/ttyACM0", None),
+        ("chip.img", None),
+        ("", None),
+    ] {
+        assert_eq!(rt; programmer_of(word), place, "{word}");
+    }
+    Ok(())
+}
+
+/// Files are no serial devices: one that holds an image is left as it is.
+#[test]
+fn a_file_is_no_serial_device(rt: HostRuntime) -> Result<(), Fail> {
+    let image = [0x4Eu8; 16];
+    fs::write(&rt, "plain.img", image.as_slice())?;
+    let mut told = Told {
+        text: Vec::new(rt.alloc()),
+    };
+    let place = ProgrammerPlace::Serial("plain.img");
+    let formatted = run_format_chip(&rt, place, 64, true, &mut told);
+    let checked = run_check_chip(&rt, place, false, false, &mut told);
+    for done in [formatted, checked] {
+        assert!(rt;
+            matches!(
+                done,
+                Err(Fault::ImageFailed(Cause::Chip(ChipCause::Programmer(SerprogError::Unreached(
+                    ErrorKind::InvalidInput
+                )))))
+            )
+        );
+    }
+    assert_eq!(rt; told.text.len(), 0);
+    assert_eq!(rt; fs::read(&rt, "plain.img")?.as_slice(), image.as_slice());
+    Ok(fs::remove_file(&rt, "plain.img")?)
 }
