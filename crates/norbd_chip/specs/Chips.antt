@@ -1,7 +1,12 @@
 -- Chips behind programmers. Source: own.
 use Rattle.std.specs.Prelude.{◌≡◌, List, ℕ, Option, Some, None, ◌++◌, codes}
+use Rattle.norbd_chip.specs.declared.place.ProgrammerPlace.{ProgrammerPlace}
+use Rattle.norbd_chip.specs.declared.place.ProgrammerPlace.TheVariants.{Tcp, Serial}
 
--- a word names a programmer where it begins with "tcp:", and then its place is what follows
-abbrev pub NamesProgrammer : List ℕ → Option (List ℕ) → Type 0
-NamesProgrammer word (Some place) = word ≡ codes "tcp:" ++ place
-NamesProgrammer word None = (place : List ℕ) → word ≡ codes "tcp:" ++ place → ⊥
+-- A word names a programmer over TCP where it begins with "tcp:", and one that is a serial device
+-- where it begins with "serial:"; its place is what follows.
+abbrev pub NamesProgrammer : List ℕ → Option ProgrammerPlace → Type 0
+NamesProgrammer word (Some (Tcp place)) = word ≡ codes "tcp:" ++ place.now
+NamesProgrammer word (Some (Serial path)) = word ≡ codes "serial:" ++ path.now
+NamesProgrammer word None = ((place : List ℕ) → word ≡ codes "tcp:" ++ place → ⊥)
+    × ((path : List ℕ) → word ≡ codes "serial:" ++ path → ⊥)

@@ -5,6 +5,7 @@ ghost use Rattle.flash_disk.specs.Formatted.{Formatted};
 ghost use Rattle.watched.specs.Watched.{watched_chip};
 
 use crate::fault::{ChipFault, told_of_refusal};
+use crate::place::ProgrammerPlace;
 use crate::progress::Report;
 use crate::reaching::watch;
 use flash_disk::format;
@@ -12,6 +13,7 @@ use norbd_line::ChipCause;
 use programmer::Programmer;
 use std::alloc::Global;
 use std::net::{Net, TcpStream};
+use std::rt::Files;
 use std::time::Clock;
 use watched::WatchedBus;
 
@@ -23,12 +25,12 @@ pub fn format_chip<R, T>(
     rt: &R,
     report: T,
     alloc: Global,
-    place: &str,
+    place: ProgrammerPlace<'_>,
     kib: u32,
     sure: bool,
 ) -> Result<(), ChipFault>
 where
-    R: Net<Stream = TcpStream> + Clock,
+    R: Files + Net<Stream = TcpStream> + Clock,
     T: Report + Drop,
     ensures { OnOk result (sure ≡ true) }
 {

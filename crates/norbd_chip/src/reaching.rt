@@ -1,35 +1,39 @@
 //! Chips behind programmers, reached by their place.
 
-ghost use Rattle.std.specs.Prelude.{◌≡◌, IfOk, length, option_map, true};
+ghost use Rattle.std.specs.Prelude.{◌≡◌, IfOk, length, true};
 ghost use Rattle.chip_model.specs.Chip.{is_idle};
 ghost use Rattle.chip_model.specs.Geometry.{IsChipSize};
 ghost use Rattle.watched.specs.Watched.{watched_chip, watched_trusts};
-ghost use Rattle.norbd_chip.specs.Chips.{NamesProgrammer};
 
+use crate::dialing::ProgrammerDialer;
 use crate::fault::{ChipFault, told_of_opening, told_of_programmer};
+use crate::halves::{ProgrammerIn, ProgrammerOut};
 use crate::noting::{Noted, Noting};
+use crate::place::ProgrammerPlace;
 use crate::progress::{Progress, Report};
 use chip_model::SpiBus;
 use serprog::Serprog;
-use serprog_tcp::{TcpDialer, TcpIn, TcpOut};
 use std::alloc::Global;
 use std::net::{Net, TcpStream};
+use std::rt::Files;
 use std::time::{Clock, Duration};
 use watched::WatchedBus;
 
-/// How many seconds a programmer may take for an answer, and to be reached.
+/// How many seconds a programmer over TCP may take for an answer, and to be reached. A serial
+/// device's own setting says how many it may take.
 const PATIENCE: u64 = 10;
 
 /// A programmer at a place, of which it is told how far a chip has been read.
-pub type Reached<'r, 'p, R, T> = Progress<'r, R, T, Serprog<TcpIn, TcpOut, TcpDialer<'r, 'p, R>>>;
-
-/// The place `HOST:PORT` of the programmer that a word `tcp:HOST:PORT` names; `None` of another
-/// word.
-pub fn programmer_of(word: &str) -> Option<&str>
-    ensures { NamesProgrammer word.now (option_map (λ place. place.now) result) }
-{
-    word.strip_prefix("tcp:")
-}
+pub type Reached<'r, 'p, R, T> = Progress<
+    'r,
+    R,
+    T,
+    Serprog<
+        ProgrammerIn<<R as Files>::File>,
+        ProgrammerOut<<R as Files>::File>,
+        ProgrammerDialer<'r, 'p, R>,
+    >,
+>;
 
 /// The chip behind the programmer at a place, of which everything was read; believed its changes
 /// where `trusts` is set.
@@ -37,17 +41,17 @@ pub fn watch<'r, 'p, R, T>(
     rt: &'r R,
     report: T,
     alloc: Global,
-    place: &'p str,
+    place: ProgrammerPlace<'p>,
     trusts: bool,
 ) -> Result<WatchedBus<Reached<'r, 'p, R, T>>, ChipFault>
 where
-    R: Net<Stream = TcpStream> + Clock,
+    R: Files + Net<Stream = TcpStream> + Clock,
     T: Report + Drop,
     ensures idle { IfOk result (λ bus. is_idle (watched_chip bus).operation ≡ true) }
     ensures size { IfOk result (λ bus. IsChipSize (length (watched_chip bus).memory)) }
     ensures trusts { IfOk result (λ bus. watched_trusts bus ≡ trusts) }
 {
-    let dialer = TcpDialer::new(rt, place, Duration::from_secs(PATIENCE));
+    let dialer = ProgrammerDialer::new(rt, place, Duration::from_secs(PATIENCE));
     let client = match Serprog::open(dialer) {
         Ok(client) => client,
         Err(error) => return Err(told_of_programmer(error)),
@@ -63,12 +67,12 @@ pub fn watch_noting<'r, 'p, 'n, R, T>(
     rt: &'r R,
     report: T,
     alloc: Global,
-    place: &'p str,
+    place: ProgrammerPlace<'p>,
     trusts: bool,
     noted: &'n Noted,
 ) -> Result<Noting<'n, Reached<'r, 'p, R, T>>, ChipFault>
 where
-    R: Net<Stream = TcpStream> + Clock,
+    R: Files + Net<Stream = TcpStream> + Clock,
     T: Report + Drop,
     ensures { IfOk result (λ bus. is_idle (⟦<Noting<'n, Reached<'r, 'p, R, T>> as SpiBus>⟧.chip
         bus).operation ≡ true) }

@@ -380,6 +380,10 @@ pub(crate) fn image_arg<'a>(alloc: Global, help: &'a str) -> Arg<'a>
         .action(ArgAction::Set)
 }
 
+/// What `IMAGE` is where it may name a programmer too.
+const IMAGE_OR_PROGRAMMER: &str =
+    "The file of the chip's bytes, or the chip behind a programmer: tcp:HOST:PORT or serial:PATH";
+
 /// What an image is, and what the exit statuses mean.
 pub(crate) const AFTER_HELP: &str =
     "An image is a file of a flash chip's bytes, 64 KiB to 16 MiB. Exit status: 0 done, 1 a fault, which is printed, 2 a bad line.";
@@ -410,7 +414,7 @@ fn with_format<'a>(alloc: Global, norbd: Command<'a>) -> Result<Command<'a>, cla
         .after_help(AFTER_HELP)
         .arg(image_arg(
             alloc,
-            "The file of the chip's bytes; one that is there is replaced",
+            "The file of the chip's bytes, where one that is there is replaced; or the chip behind a programmer: tcp:HOST:PORT or serial:PATH",
         ))?
         .arg(kib_arg(alloc))?
         .arg(force_arg(alloc))?
@@ -443,7 +447,7 @@ fn with_serve<'a>(alloc: Global, norbd: Command<'a>) -> Result<Command<'a>, clap
             "Serves the chip in an image file to NBD clients, on a port or a Unix socket.\nExample: norbd serve chip.img --port 10809",
         )
         .after_help(AFTER_HELP)
-        .arg(image_arg(alloc, "The file of the chip's bytes"))?
+        .arg(image_arg(alloc, IMAGE_OR_PROGRAMMER))?
         .arg(port_arg(alloc))?
         .arg(bind_arg(alloc))?
         .arg(unix_arg(alloc))?
@@ -468,7 +472,7 @@ fn with_check<'a>(alloc: Global, norbd: Command<'a>) -> Result<Command<'a>, clap
             "Says whether an image would be served, and if not, why; mends one that isn't clean.\nExample: norbd check chip.img --mend",
         )
         .after_help(AFTER_HELP)
-        .arg(image_arg(alloc, "The file of the chip's bytes"))?
+        .arg(image_arg(alloc, IMAGE_OR_PROGRAMMER))?
         .arg(mend_arg(alloc))?
         .arg(json_arg(alloc))?;
     Ok(norbd.subcommand(check)?)
@@ -482,7 +486,7 @@ fn with_show<'a>(alloc: Global, norbd: Command<'a>) -> Result<Command<'a>, clap:
     let show = Command::new(alloc, "show")
         .about("Draws the blocks of an image, a character for each.\nExample: norbd show chip.img")
         .after_help(AFTER_HELP)
-        .arg(image_arg(alloc, "The file of the chip's bytes"))?;
+        .arg(image_arg(alloc, IMAGE_OR_PROGRAMMER))?;
     Ok(norbd.subcommand(show)?)
 }
 
@@ -496,7 +500,7 @@ fn with_read<'a>(alloc: Global, norbd: Command<'a>) -> Result<Command<'a>, clap:
             "Writes the disk in an image to standard output, without a server.\nExample: norbd read chip.img > disk.img",
         )
         .after_help(AFTER_HELP)
-        .arg(image_arg(alloc, "The file of the chip's bytes"))?
+        .arg(image_arg(alloc, IMAGE_OR_PROGRAMMER))?
         .arg(range_arg(alloc))?;
     Ok(norbd.subcommand(read)?)
 }
@@ -511,7 +515,7 @@ fn with_write<'a>(alloc: Global, norbd: Command<'a>) -> Result<Command<'a>, clap
             "Replaces the disk in an image by standard input, which has to be as long.\nExample: norbd write chip.img < disk.img",
         )
         .after_help(AFTER_HELP)
-        .arg(image_arg(alloc, "The file of the chip's bytes"))?
+        .arg(image_arg(alloc, IMAGE_OR_PROGRAMMER))?
         .arg(range_arg(alloc))?;
     Ok(norbd.subcommand(write)?)
 }

@@ -1,25 +1,21 @@
-//! `format`, `check` and `serve` of a chip behind a programmer.
+//! `format` and `serve` of a chip behind a programmer.
 ghost use Rattle.std.specs.Prelude.{◌≡◌, ◌*◌, IfErr, IfOk, IsErr, IsFalse, true};
 ghost use Rattle.block_device.specs.Facts.{IsDiskReady};
 ghost use Rattle.chip_model.specs.Geometry.{IsChipSize};
 ghost use Rattle.norbd_line.specs.Line.{IsConns, IsPlace};
-ghost use Rattle.norbd_run.specs.Checking.{CheckTells};
 ghost use Rattle.norbd_run.specs.Chips.{told_of_chip};
 ghost use Rattle.norbd_run.specs.Formatting.{FormatTells};
 ghost use Rattle.norbd_run.specs.Listening.{IsRefusal, TellsServing};
 
-use crate::checking;
-use crate::checking::Checked;
-use crate::copying::copied_disk;
+use crate::chip_disks::disk_copied;
 use crate::formatting::text_about;
 use crate::listening::listen_at;
 use crate::serving::{Asked, look_at, serve_opened, spare, tell};
 use block_device::{Disk, Sink, send};
 use durable::{Durable, Policy};
-use fault_model::PromptChip;
 use flash_disk::FlashDisk;
 use norbd_chip::{
-    ChipFault, NoFile, Noted, Noting, Reached, Report, format_chip, watch, watch_noting,
+    ChipFault, NoFile, Noted, Noting, ProgrammerPlace, Reached, Report, format_chip, watch_noting,
 };
 use norbd_line::{Cause, ChipCause, Fault, Place, TidyPolicy};
 use norbd_serve::{Listener, Log};
@@ -39,13 +35,13 @@ use std::time::Clock;
 /// `Slow` come; `NoMemory`. `OutputFailed` where a write failed; the chip is formatted then.
 pub fn run_format_chip<R, K>(
     rt: &R,
-    place: &str,
+    place: ProgrammerPlace<'_>,
     kib: u32,
     sure: bool,
     writer: &mut K,
 ) -> Result<(), Fault>
 where
-    R: AllocGlobal + Clock + Log + Net<Stream = TcpStream>,
+    R: Files + AllocGlobal + Clock + Log + Net<Stream = TcpStream>,
     K: Sink,
     requires { IsChipSize (1024 * kib) }
     ensures { FormatTells kib (K.written writer.old) (K.faults writer.old) result
@@ -63,47 +59,6 @@ where
     }
 }
 
-/// Says on `writer` whether the chip behind the programmer at a place would be served: nothing of
-/// it is changed. `ImageFailed` with `Unable` where `mend` or `json` is set; else the refusals of
-/// `run_serve_chip`, `NotClean`, and `OutputFailed` where the line could not be written.
-pub fn run_check_chip<R, K>(
-    rt: &R,
-    place: &str,
-    mend: bool,
-    json: bool,
-    writer: &mut K,
-) -> Result<(), Fault>
-where
-    R: AllocGlobal + Clock + Log + Net<Stream = TcpStream>,
-    K: Sink,
-    ensures { CheckTells mend json (K.written writer.old) (K.faults writer.old) result
-        (K.written writer.new) (K.faults writer.new) }
-{
-    if json {
-        return Err(Fault::ImageFailed(Cause::Chip(ChipCause::Unable)));
-    }
-    let checked = check_chip(rt, place, mend)?;
-    let text = checking::text_about(rt.alloc(), checked, json);
-    tell(writer, text)
-}
-
-/// Checks the chip behind the programmer at a place, as a copy in memory shows it.
-fn check_chip<R>(rt: &R, place: &str, mend: bool) -> Result<Checked, Fault>
-where
-    R: AllocGlobal + Clock + Log + Net<Stream = TcpStream>,
-    ensures mends { IfOk result (λ checked. checked.mended ≡ true → mend ≡ true) }
-    ensures refused { IfErr result IsRefusal }
-{
-    if mend {
-        return Err(Fault::ImageFailed(Cause::Chip(ChipCause::Unable)));
-    }
-    let disk = disk_copied(rt, place)?;
-    Ok(Checked {
-        sectors: disk.sectors(),
-        mended: false,
-    })
-}
-
 /// As `run_serve`, of the chip behind the programmer at a place, of which everything is read first;
 /// it is believed its changes where `trusts` is set. What is acknowledged is on the chip, so that
 /// nothing is ever synced. One that can't be changed is a copy of the chip in memory.
@@ -112,7 +67,7 @@ where
 /// no command gets a reply then, and all connections are closed.
 pub fn run_serve_chip<R, K>(
     rt: &R,
-    place: &str,
+    place: ProgrammerPlace<'_>,
     trusts: bool,
     asked: Asked<'_>,
     writer: &mut K,
@@ -126,6 +81,7 @@ where
         + Clock
         + Log
         + Net<Listener = TcpListener, Stream = TcpStream>,
+    R::File: Send,
     R: 'static,
     K: Sink,
     requires { IsPlace asked.place × IsConns asked.conns }
@@ -154,20 +110,22 @@ where
 fn serve_chip<'r, 'p, 'n, R, K>(
     rt: &'r R,
     listener: Listener,
-    place: &'p str,
+    place: ProgrammerPlace<'p>,
     trusts: bool,
     noted: &'n Noted,
     asked: Asked<'_>,
     writer: &mut K,
 ) -> Result<(), Fault>
 where
-    R: AllocGlobal
+    R: Files
+        + AllocGlobal
         + Threads
         + Wait
         + Sync
         + Clock
         + Log
         + Net<Listener = TcpListener, Stream = TcpStream>,
+    R::File: Send,
     R: 'static,
     K: Sink,
     requires { IsPlace asked.place × IsConns asked.conns }
@@ -192,12 +150,13 @@ where
 fn serve_chip_copy<R, K>(
     rt: &R,
     listener: Listener,
-    place: &str,
+    place: ProgrammerPlace<'_>,
     asked: Asked<'_>,
     writer: &mut K,
 ) -> Result<(), Fault>
 where
-    R: AllocGlobal
+    R: Files
+        + AllocGlobal
         + Threads
         + Wait
         + Sync
@@ -221,15 +180,15 @@ where
 
 /// The disk on the chip behind the programmer at a place, whose departures are noted.
 #[tactic(auto, using(crate::proofs::Refusals::chip_is_refusal))]
-fn disk_behind<'r, 'p, 'n, R>(
+pub(crate) fn disk_behind<'r, 'p, 'n, R>(
     rt: &'r R,
-    place: &'p str,
+    place: ProgrammerPlace<'p>,
     trusts: bool,
     noted: &'n Noted,
     tidy: TidyPolicy,
 ) -> Result<FlashDisk<Noting<'n, Reached<'r, 'p, R, Reporter<'r, R>>>, Brand>, Fault>
 where
-    R: AllocGlobal + Clock + Log + Net<Stream = TcpStream>,
+    R: Files + AllocGlobal + Clock + Log + Net<Stream = TcpStream>,
     ensures refused { IfErr result IsRefusal }
     ensures sound { IfOk result (λ disk.
         (⟦<FlashDisk<Noting<'n, Reached<'r, 'p, R, Reporter<'r, R>>>, Brand> as Disk>⟧.facts
@@ -253,33 +212,10 @@ where
     }
 }
 
-/// The disk on a copy in memory of the chip behind the programmer at a place, of which nothing is
-/// changed.
-#[tactic(auto, using(crate::proofs::Refusals::chip_is_refusal))]
-fn disk_copied<R>(rt: &R, place: &str) -> Result<FlashDisk<PromptChip, Brand>, Fault>
-where
-    R: AllocGlobal + Clock + Log + Net<Stream = TcpStream>,
-    ensures refused { IfErr result IsRefusal }
-    ensures sound { IfOk result (λ disk.
-        (⟦<FlashDisk<PromptChip, Brand> as Disk>⟧.facts disk).sound ≡ true) }
-    ensures ready { IfOk result (λ disk.
-        IsDiskReady (⟦<FlashDisk<PromptChip, Brand> as Disk>⟧.facts disk)) }
-{
-    let bus = match watch(rt, Reporter { rt }, rt.alloc(), place, false) {
-        Ok(bus) => bus,
-        Err(fault) => return Err(told_of_chip(fault)),
-    };
-    let mut bytes = Vec::new(rt.alloc());
-    if bytes.extend_from_slice(bus.memory()).is_err() {
-        return Err(Fault::NoMemory);
-    }
-    copied_disk(rt.alloc(), bytes)
-}
-
 /// Tells how far a chip has been read where connections are told of too.
 #[derive(Drop)]
 pub struct Reporter<'r, R> {
-    rt: &'r R,
+    pub(crate) rt: &'r R,
 }
 
 impl<R: Log> Report for Reporter<'_, R> {
@@ -289,7 +225,7 @@ impl<R: Log> Report for Reporter<'_, R> {
 }
 
 /// What a fault of a chip behind a programmer is.
-fn told_of_chip(fault: ChipFault) -> Fault
+pub(crate) fn told_of_chip(fault: ChipFault) -> Fault
     ensures { result ≡ told_of_chip fault }
 {
     match fault {

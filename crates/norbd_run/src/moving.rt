@@ -94,7 +94,11 @@ pub(crate) fn part_of<D: Disk>(disk: &D, sectors: Option<&str>) -> Result<Part, 
 }
 
 /// The bytes of a part of a disk.
-pub(crate) fn sectors_of_disk<D: Disk>(alloc: Global, disk: &mut D, part: Part) -> Result<Vec<u8>, Fault>
+pub(crate) fn sectors_of_disk<D: Disk>(
+    alloc: Global,
+    disk: &mut D,
+    part: Part,
+) -> Result<Vec<u8>, Fault>
     requires some { part.first < part.end }
     requires range { 512 * part.end ≤ length (D.facts disk.old).contents }
     requires sound { (D.facts disk.old).sound ≡ true }

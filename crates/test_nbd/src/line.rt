@@ -341,6 +341,14 @@ fn reads_lines_of_chips(rt: HostRuntime) -> Result<(), Fail> {
             "norbd serve tcp:pico:5000 --unix a.sock --trust",
             Ok(Line::Serve(trusting)),
         ),
+        (
+            "norbd check serial:/dev/ttyACM0",
+            Ok(Line::Check {
+                image: "serial:/dev/ttyACM0",
+                mend: false,
+                json: false,
+            }),
+        ),
         ("norbd check a.img --yes", Err(2)),
     ] {
         let words = words_of(rt.alloc(), text)?;

@@ -19,7 +19,7 @@ use watched::WatchedBus;
 type Client<'r, 'p> = Serprog<TcpIn, TcpOut, TcpDialer<'r, 'p, HostRuntime>>;
 
 /// An erased chip of 64 KiB.
-fn erased(alloc: Global) -> Result<SimChip, Fail> {
+pub fn erased(alloc: Global) -> Result<SimChip, Fail> {
     let mut bytes = Vec::new(alloc);
     bytes.resize(65_536, 0xFF)?;
     Ok(SimChip::new(bytes)?)
@@ -91,7 +91,7 @@ fn is_sector<D: Disk>(disk: &mut D, sector: u32, byte: u8) -> bool {
 }
 
 /// A program of 70h at 12FFh, until it ends or is lost.
-fn program(bus: &mut impl SpiBus) -> bool {
+pub fn program(bus: &mut impl SpiBus) -> bool {
     if bus.transact(&[0x06], &mut []).is_err() {
         return false;
     }
