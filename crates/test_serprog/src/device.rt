@@ -164,8 +164,7 @@ impl<R: Clock> Clock for Devices<'_, R> {
 
     /// Notes it and returns at once.
     fn sleep(&self, duration: Duration) {
-        let _ = self
-            .slept
-            .fetch_add(duration.as_millis() as u64, Ordering::SeqCst);
+        let millis = u64::try_from(duration.as_millis()).unwrap_or(u64::MAX);
+        let _ = self.slept.fetch_add(millis, Ordering::SeqCst);
     }
 }
