@@ -128,6 +128,7 @@ where
         + Log
         + Net<Listener = TcpListener, Stream = TcpStream>,
     R::File: Send,
+    R::Dir: Send,
     R: 'static,
     K: Sink,
     requires { IsPlace asked.place × IsConns asked.conns }
@@ -172,6 +173,7 @@ where
         + Log
         + Net<Listener = TcpListener, Stream = TcpStream>,
     R::File: Send,
+    R::Dir: Send,
     R: 'static,
     K: Sink,
     requires { IsPlace asked.place × IsConns asked.conns }

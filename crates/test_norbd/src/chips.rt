@@ -71,6 +71,7 @@ where
         + Log
         + Net<Listener = TcpListener, Stream = TcpStream>,
     R::File: Send,
+    R::Dir: Send,
     R: 'static,
     requires { IsPlace asked.place × IsConns asked.conns }
 {
@@ -100,6 +101,7 @@ where
         + Log
         + Net<Listener = TcpListener, Stream = TcpStream>,
     R::File: Send,
+    R::Dir: Send,
     R: 'static,
     requires { IsPlace asked.place × IsConns asked.conns }
 {

@@ -96,6 +96,7 @@ where
         + Log
         + Net<Listener = TcpListener, Stream = TcpStream>,
     R::File: ImageFile + Send + Sync,
+    R::Dir: Send,
     R: 'static,
     requires size { IfFormat line (λ _ kib. IsSize kib) }
     requires script_size { IfScript line (λ kib. IsSize kib) }
@@ -137,6 +138,7 @@ where
         + Log
         + Net<Listener = TcpListener, Stream = TcpStream>,
     R::File: ImageFile + Send + Sync,
+    R::Dir: Send,
     R: 'static,
     requires size { IfFormat line (λ _ kib. IsSize kib) }
     requires script_size { IfScript line (λ kib. IsSize kib) }
@@ -380,6 +382,7 @@ where
         + Log
         + Net<Listener = TcpListener, Stream = TcpStream>,
     R::File: ImageFile + Send + Sync,
+    R::Dir: Send,
     R: 'static,
     requires { IsSize kib }
 {

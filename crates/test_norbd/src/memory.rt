@@ -62,6 +62,7 @@ where
         + Log
         + Net<Listener = TcpListener, Stream = TcpStream>,
     R::File: ImageFile + Send + Sync,
+    R::Dir: Send,
     R: 'static,
     requires size { IfFormat line (λ _ kib. IsSize kib) }
     requires script_size { IfScript line (λ kib. IsSize kib) }
