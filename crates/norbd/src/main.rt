@@ -67,6 +67,7 @@ where
         + Screen
         + Net<Listener = TcpListener, Stream = TcpStream>,
     R::File: ImageFile + Send + Sync,
+    R::Dir: Send,
     R: 'static,
     A: Read + Drop,
     B: Write + Drop,
@@ -119,6 +120,7 @@ where
         + Screen
         + Net<Listener = TcpListener, Stream = TcpStream>,
     R::File: ImageFile + Send + Sync,
+    R::Dir: Send,
     R: 'static,
     A: Read + Drop,
     B: Write + Drop,

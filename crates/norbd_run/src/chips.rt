@@ -82,6 +82,7 @@ where
         + Log
         + Net<Listener = TcpListener, Stream = TcpStream>,
     R::File: Send,
+    R::Dir: Send,
     R: 'static,
     K: Sink,
     requires { IsPlace asked.place × IsConns asked.conns }
@@ -126,6 +127,7 @@ where
         + Log
         + Net<Listener = TcpListener, Stream = TcpStream>,
     R::File: Send,
+    R::Dir: Send,
     R: 'static,
     K: Sink,
     requires { IsPlace asked.place × IsConns asked.conns }

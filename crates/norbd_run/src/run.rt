@@ -95,6 +95,7 @@ where
         + Screen
         + Net<Listener = TcpListener, Stream = TcpStream>,
     R::File: ImageFile + Send + Sync,
+    R::Dir: Send,
     R: 'static,
     S: Source,
     K: Sink,

@@ -87,6 +87,7 @@ where
         + Log
         + Net<Listener = TcpListener, Stream = TcpStream>,
     R::File: Send,
+    R::Dir: Send,
     R: 'static,
     requires { IsPlace asked.place × IsConns asked.conns }
 {
@@ -141,6 +142,7 @@ where
         + Screen
         + Net<Listener = TcpListener, Stream = TcpStream>,
     R::File: Send,
+    R::Dir: Send,
     R: 'static,
     requires { IsPlace asked.place × IsConns asked.conns }
 {

@@ -97,6 +97,7 @@ where
         + Screen
         + Net<Listener = TcpListener, Stream = TcpStream>,
     R::File: ImageFile + Send + Sync,
+    R::Dir: Send,
     R: 'static,
     requires size { IfFormat line (λ _ kib. IsSize kib) }
     requires script_size { IfScript line (λ kib. IsSize kib) }
@@ -139,6 +140,7 @@ where
         + Screen
         + Net<Listener = TcpListener, Stream = TcpStream>,
     R::File: ImageFile + Send + Sync,
+    R::Dir: Send,
     R: 'static,
     requires size { IfFormat line (λ _ kib. IsSize kib) }
     requires script_size { IfScript line (λ kib. IsSize kib) }
@@ -383,6 +385,7 @@ where
         + Screen
         + Net<Listener = TcpListener, Stream = TcpStream>,
     R::File: ImageFile + Send + Sync,
+    R::Dir: Send,
     R: 'static,
     requires { IsSize kib }
 {
