@@ -7,9 +7,9 @@ use Rattle.session.specs.Sessions.{SessionState, SessionRepresents, is_closed}
 use Rattle.session.specs.Parts.{Part, Gains, closes, closed}
 use Rattle.session.proofs.PartLaws.{gains_both, gains_still}
 use Rattle.connection.specs.declared.peer.Fate.{Fate}
-use Rattle.connection.specs.declared.piece.Ending.TheVariants.{Stays, Closed, OutputFailed, Lost}
+use Rattle.connection.specs.declared.piece.Progress.TheVariants.{Open, Closed, OutputFailed, Lost}
 use Rattle.connection.specs.declared.turn.Turn.TheVariants.{Waits, Answered, Closes, OutputFails, Loses}
-use Rattle.connection.specs.Turning.{PartBy, PartsBy, GrowsBy, Turned, PieceUnderway, Pieced}
+use Rattle.connection.specs.Turning.{PartBy, PartsBy, GrowsBy, TurnTaken, PieceUnderway, PieceTaken}
 
 pub closed_more : (more : List Part) (p : Part) → closed more ≡ false → closed (more ++ p ∷ []) ≡ closes p
 closed_more [] p e = elim (closes p) as (λ b. (b || false) ≡ b) [ true ↦ refl | false ↦ refl ]
@@ -55,7 +55,7 @@ module _ {P : Type 0} (answers : P → P → Command → List ℕ → Fate → T
     grows_by : (added : List Part) → GrowsBy mid new (take k rest) added → GrowsBy old new (u.used ++ take k rest) (u.added ++ added)
     grows_by added g = grows_more old mid new u.used (take k rest) u.added added same stays u.grows g
 
-    pub underway_waits : Turned answers tells m b mid new (take k rest) Waits → PieceUnderway answers tells a b old new bytes (drop k rest)
+    pub underway_waits : TurnTaken answers tells m b mid new (take k rest) Waits → PieceUnderway answers tells a b old new bytes (drop k rest)
     underway_waits t = record {
       used = u.used ++ take k rest;
       bytes_are = split_on bytes u.used rest k u.bytes_are;
@@ -65,7 +65,7 @@ module _ {P : Type 0} (answers : P → P → Command → List ℕ → Fate → T
       runs = subst (λ p. PartsBy answers tells a p u.added) (sym t.does.1) u.runs;
     }
 
-    pub underway_answered : Turned answers tells m b mid new (take k rest) Answered → PieceUnderway answers tells a b old new bytes (drop k rest)
+    pub underway_answered : TurnTaken answers tells m b mid new (take k rest) Answered → PieceUnderway answers tells a b old new bytes (drop k rest)
     underway_answered t = record {
       used = u.used ++ take k rest;
       bytes_are = split_on bytes u.used rest k u.bytes_are;
@@ -75,7 +75,7 @@ module _ {P : Type 0} (answers : P → P → Command → List ℕ → Fate → T
       runs = parts_more a m b u.added t.does.0 u.runs t.does.3;
     }
 
-    pub piece_closes : Turned answers tells m b mid new (take k rest) Closes → Pieced answers tells a b old new bytes Closed
+    pub piece_closes : TurnTaken answers tells m b mid new (take k rest) Closes → PieceTaken answers tells a b old new bytes Closed
     piece_closes t = record {
       used = u.used ++ take k rest;
       rest = drop k rest;
@@ -85,7 +85,7 @@ module _ {P : Type 0} (answers : P → P → Command → List ℕ → Fate → T
       does = (closed_more u.added t.does.0 u.still ∙ t.does.2, parts_more a m b u.added t.does.0 u.runs t.does.3);
     }
 
-    pub piece_fails : Turned answers tells m b mid new (take k rest) OutputFails → Pieced answers tells a b old new bytes OutputFailed
+    pub piece_fails : TurnTaken answers tells m b mid new (take k rest) OutputFails → PieceTaken answers tells a b old new bytes OutputFailed
     piece_fails t = record {
       used = u.used ++ take k rest;
       rest = drop k rest;
@@ -95,7 +95,7 @@ module _ {P : Type 0} (answers : P → P → Command → List ℕ → Fate → T
       does = record { before = u.added; part = t.does.0; mid = m; added_is = refl; still = u.still; runs = u.runs; ends = t.does.2 };
     }
 
-    pub piece_loses : Turned answers tells m b mid new (take k rest) Loses → Pieced answers tells a b old new bytes Lost
+    pub piece_loses : TurnTaken answers tells m b mid new (take k rest) Loses → PieceTaken answers tells a b old new bytes Lost
     piece_loses t = record {
       used = u.used ++ take k rest;
       rest = drop k rest;
@@ -106,7 +106,7 @@ module _ {P : Type 0} (answers : P → P → Command → List ℕ → Fate → T
     }
 
   -- the end of a piece that is taken whole
-  pub piece_stays : (a b : P) (old new : SessionState) (bytes rest : List ℕ) → PieceUnderway answers tells a b old new bytes rest → rest ≡ [] → Pieced answers tells a b old new bytes Stays
+  pub piece_stays : (a b : P) (old new : SessionState) (bytes rest : List ℕ) → PieceUnderway answers tells a b old new bytes rest → rest ≡ [] → PieceTaken answers tells a b old new bytes Open
   piece_stays a b old new bytes rest u all = record {
     used = u.used;
     rest = rest;

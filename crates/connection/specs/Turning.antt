@@ -7,9 +7,9 @@ use Rattle.session.specs.Sessions.{SessionState, SessionRepresents, is_closed}
 use Rattle.session.specs.Parts.{Part, Told, ForDisk, Last, Gains, closed, closes}
 use Rattle.connection.specs.declared.peer.Fate.{Fate}
 use Rattle.connection.specs.declared.peer.Fate.TheVariants.{Replied, Untaken, Lost}
-use Rattle.connection.specs.declared.piece.Ending.{Ending}
-use Rattle.connection.specs.declared.piece.Ending.TheVariants.{Stays, Closed, OutputFailed}
-use Rattle.connection.specs.declared.piece.Ending.TheVariants.{Lost as LostEnding}
+use Rattle.connection.specs.declared.piece.Progress.{Progress}
+use Rattle.connection.specs.declared.piece.Progress.TheVariants.{Open, Closed, OutputFailed}
+use Rattle.connection.specs.declared.piece.Progress.TheVariants.{Lost as LostPiece}
 use Rattle.connection.specs.declared.turn.Turn.{Turn}
 use Rattle.connection.specs.declared.turn.Turn.TheVariants.{Waits, Answered, Closes, OutputFails}
 use Rattle.connection.specs.declared.turn.Turn.TheVariants.{Loses}
@@ -42,16 +42,16 @@ LosesPart answers a b (ForDisk command payload) = CommandBy answers a b command 
 LosesPart answers a b (Last reply) = ⊥
 
 -- what became of the parts that a turn added
-abbrev pub TurnedBy : {P : Type 0} → (P → P → Command → List ℕ → Fate → Type 0)
+abbrev pub TurnBy : {P : Type 0} → (P → P → Command → List ℕ → Fate → Type 0)
     → (P → P → List ℕ → Bool → Type 0) → P → P → List Part → Turn → Type 0
-TurnedBy answers tells a b added Waits = (added ≡ []) × (b ≡ a)
-TurnedBy answers tells a b added Answered = (part : Part) × (added ≡ part ∷ [])
+TurnBy answers tells a b added Waits = (added ≡ []) × (b ≡ a)
+TurnBy answers tells a b added Answered = (part : Part) × (added ≡ part ∷ [])
     × (closes part ≡ false) × PartBy answers tells a b part true
-TurnedBy answers tells a b added Closes = (part : Part) × (added ≡ part ∷ [])
+TurnBy answers tells a b added Closes = (part : Part) × (added ≡ part ∷ [])
     × (closes part ≡ true) × PartBy answers tells a b part true
-TurnedBy answers tells a b added OutputFails = (part : Part) × (added ≡ part ∷ [])
+TurnBy answers tells a b added OutputFails = (part : Part) × (added ≡ part ∷ [])
     × PartBy answers tells a b part false
-TurnedBy answers tells a b added Loses = (part : Part) × (added ≡ part ∷ [])
+TurnBy answers tells a b added Loses = (part : Part) × (added ≡ part ∷ [])
     × LosesPart answers a b part
 
 -- a session's text grows by these bytes and gains these parts
@@ -70,12 +70,12 @@ goes_on OutputFails = false
 goes_on Loses = false
 
 -- what one turn does that took these bytes
-pub record Turned {P : Type 0} (answers : P → P → Command → List ℕ → Fate → Type 0)
+pub record TurnTaken {P : Type 0} (answers : P → P → Command → List ℕ → Fate → Type 0)
     (tells : P → P → List ℕ → Bool → Type 0) (a b : P) (old new : SessionState) (bytes : List ℕ)
     (turn : Turn) : Type 0 where
   pub added : List Part
   pub grows : GrowsBy old new bytes added
-  pub does : TurnedBy answers tells a b added turn
+  pub does : TurnBy answers tells a b added turn
 
 -- Parts are answered one after another, each whole.
 abbrev pub PartsBy : {P : Type 0} → (P → P → Command → List ℕ → Fate → Type 0)
@@ -98,27 +98,27 @@ pub record EndsIn {P : Type 0} (answers : P → P → Command → List ℕ → F
 
 -- what became of the parts that a piece added, and of the rest of its bytes: where the connection
 -- stays open all bytes are used
-abbrev pub PieceBy : {P : Type 0} → (P → P → Command → List ℕ → Fate → Type 0)
-    → (P → P → List ℕ → Bool → Type 0) → P → P → List Part → List ℕ → Ending → Type 0
-PieceBy answers tells a b added rest Stays =
+abbrev pub ProgressBy : {P : Type 0} → (P → P → Command → List ℕ → Fate → Type 0)
+    → (P → P → List ℕ → Bool → Type 0) → P → P → List Part → List ℕ → Progress → Type 0
+ProgressBy answers tells a b added rest Open =
     (rest ≡ []) × (closed added ≡ false) × PartsBy answers tells a b added
-PieceBy answers tells a b added rest Closed =
+ProgressBy answers tells a b added rest Closed =
     (closed added ≡ true) × PartsBy answers tells a b added
-PieceBy answers tells a b added rest OutputFailed =
+ProgressBy answers tells a b added rest OutputFailed =
     EndsIn answers tells a added (λ mid part. PartBy answers tells mid b part false)
-PieceBy answers tells a b added rest LostEnding =
+ProgressBy answers tells a b added rest LostPiece =
     EndsIn answers tells a added (λ mid part. LosesPart answers mid b part)
 
 -- what a piece does: some of its bytes are used, and the rest isn't looked at
-pub record Pieced {P : Type 0} (answers : P → P → Command → List ℕ → Fate → Type 0)
+pub record PieceTaken {P : Type 0} (answers : P → P → Command → List ℕ → Fate → Type 0)
     (tells : P → P → List ℕ → Bool → Type 0) (a b : P) (old new : SessionState) (bytes : List ℕ)
-    (ending : Ending) : Type 0 where
+    (progress : Progress) : Type 0 where
   pub used : List ℕ
   pub rest : List ℕ
   pub bytes_are : bytes ≡ used ++ rest
   pub added : List Part
   pub grows : GrowsBy old new used added
-  pub does : PieceBy answers tells a b added rest ending
+  pub does : ProgressBy answers tells a b added rest progress
 
 -- a piece in its midst, where the rest of its bytes isn't taken yet
 pub record PieceUnderway {P : Type 0} (answers : P → P → Command → List ℕ → Fate → Type 0)

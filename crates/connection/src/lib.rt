@@ -16,4 +16,4 @@ mod piece;
 mod turn;
 
 pub use peer::{Fate, Peer};
-pub use piece::{Ending, answer_piece};
+pub use piece::{Progress, answer_piece};

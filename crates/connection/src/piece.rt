@@ -2,17 +2,17 @@
 
 ghost use Rattle.std.specs.Prelude.{◌≡◌, false};
 ghost use Rattle.session.specs.Sessions.{is_closed};
-ghost use Rattle.connection.specs.Turning.{Pieced};
+ghost use Rattle.connection.specs.Turning.{PieceTaken};
 
 use crate::peer::Peer;
 use crate::turn::{Turn, take_turn};
 use session::Session;
 
-/// What became of a connection with a piece.
+/// How far a connection came with a piece.
 #[derive(Clone, Copy, Debug, PartialEq, Eq, Drop)]
-pub enum Ending {
+pub enum Progress {
     /// It stays open: all bytes are used, and each unit that they complete is answered.
-    Stays,
+    Open,
     /// Its last unit was answered.
     Closed,
     /// A reply wasn't taken whole.
@@ -23,17 +23,17 @@ pub enum Ending {
 
 /// Takes all bytes of a piece, and has the peer answer each unit that they complete, up to one that
 /// closes the connection, a reply that isn't taken whole, or a lost command.
-pub fn answer_piece<P: Peer>(peer: &mut P, session: &mut Session, bytes: &[u8]) -> Ending
+pub fn answer_piece<P: Peer>(peer: &mut P, session: &mut Session, bytes: &[u8]) -> Progress
     requires fits { P.fits peer.old }
     requires export { P.export peer.old ≡ session.old.export }
-    ensures open { result ≡ Ending.Stays → is_closed session.old ≡ false
+    ensures open { result ≡ Progress.Open → is_closed session.old ≡ false
         → is_closed session.new ≡ false }
     ensures session { session.new.export ≡ session.old.export }
     ensures memory { session.new.memory ≡ session.old.memory }
     ensures fits { P.fits peer.new }
     ensures export { P.export peer.new ≡ P.export peer.old }
-    ensures pieced { Pieced P.answers P.tells peer.old peer.new session.old session.new bytes.now
-        result }
+    ensures pieced { PieceTaken P.answers P.tells peer.old peer.new session.old session.new
+        bytes.now result }
 {
     let mut rest = bytes;
     while !rest.is_empty() {
@@ -42,10 +42,10 @@ pub fn answer_piece<P: Peer>(peer: &mut P, session: &mut Session, bytes: &[u8]) 
         match turn {
             Turn::Waits => {}
             Turn::Answered => {}
-            Turn::Closes => return Ending::Closed,
-            Turn::OutputFails => return Ending::OutputFailed,
-            Turn::Loses => return Ending::Lost,
+            Turn::Closes => return Progress::Closed,
+            Turn::OutputFails => return Progress::OutputFailed,
+            Turn::Loses => return Progress::Lost,
         }
     }
-    Ending::Stays
+    Progress::Open
 }

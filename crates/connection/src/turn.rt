@@ -4,7 +4,7 @@ ghost use Rattle.std.specs.Prelude.{◌≡◌, ◌<◌, ◌≤◌, ℕ, List, tr
 ghost use Rattle.nbd_wire.specs.declared.phase.Phase.{Phase};
 ghost use Rattle.nbd_wire.specs.Lent.{payload_in};
 ghost use Rattle.session.specs.Sessions.{IsRunning, SessionRepresents, is_closed, room_of};
-ghost use Rattle.connection.specs.Turning.{CommandBy, Turned, goes_on};
+ghost use Rattle.connection.specs.Turning.{CommandBy, TurnTaken, goes_on};
 
 use crate::peer::{Fate, Peer};
 use nbd_wire::Command;
@@ -57,7 +57,7 @@ pub(crate) fn take_turn<P: Peer>(peer: &mut P, session: &mut Session, bytes: &[u
     ensures memory { session.new.memory ≡ session.old.memory }
     ensures fits { P.fits peer.new }
     ensures export { P.export peer.new ≡ P.export peer.old }
-    ensures turned { Turned P.answers P.tells peer.old peer.new session.old session.new
+    ensures turned { TurnTaken P.answers P.tells peer.old peer.new session.old session.new
         (take result.0 bytes.now) result.1 }
 {
     let taken = session.take(bytes);
