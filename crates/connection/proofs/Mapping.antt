@@ -6,7 +6,7 @@ use Rattle.session.specs.Parts.{Part, Told, ForDisk, Last}
 use Rattle.connection.specs.declared.peer.Fate.{Fate}
 use Rattle.connection.specs.declared.piece.Progress.{Progress}
 use Rattle.connection.specs.declared.piece.Progress.TheVariants.{Open, Closed, OutputFailed, Lost}
-use Rattle.connection.specs.Turning.{CommandBy, PartBy, PartsBy, LosesPart, EndsIn, ProgressBy, PieceTaken}
+use Rattle.connection.specs.Turning.{CommandBy, PartBy, PartsBy, LosesPart, Reached, EndsIn, ProgressBy, PieceTaken}
 
 module _ {P Q : Type 0} (answers : P → P → Command → List ℕ → Fate → Type 0) (tells : P → P → List ℕ → Bool → Type 0)
     (answers' : Q → Q → Command → List ℕ → Fate → Type 0) (tells' : Q → Q → List ℕ → Bool → Type 0) (see : P → Q)
@@ -29,34 +29,37 @@ module _ {P Q : Type 0} (answers : P → P → Command → List ℕ → Fate →
   parts_seen a b [] x = ap see x
   parts_seen a b (part ∷ more) x = (see x.0, part_seen a x.0 part true x.1, parts_seen x.0 b more x.2)
 
-  ends_seen : (a : P) (added : List Part) (last : P → Part → Type 0) (last' : Q → Part → Type 0) → ((mid : P) (part : Part) → last mid part → last' (see mid) part)
-      → EndsIn answers tells a added last → EndsIn answers' tells' (see a) added last'
-  ends_seen a added last last' seen x = record {
-    before = x.before;
+  reached_seen : Reached P → Reached Q
+  reached_seen r = record { done = r.done; parts = r.parts; peer = see r.peer; ahead = r.ahead }
+
+  ends_seen : (old : SessionState) (r : Reached P) (last last' : Part → Type 0) → ((part : Part) → last part → last' part) → EndsIn old r last → EndsIn old (reached_seen r) last'
+  unfolding reached_seen
+  ends_seen old r last last' seen x = record {
+    unit = x.unit;
+    others = x.others;
     part = x.part;
-    mid = see x.mid;
-    added_is = x.added_is;
-    still = x.still;
-    runs = parts_seen a x.mid x.before x.runs;
-    ends = seen x.mid x.part x.ends;
+    ahead_is = x.ahead_is;
+    gains = x.gains;
+    ends = seen x.part x.ends;
   }
 
-  progress_seen : (a b : P) (added : List Part) (rest : List ℕ) (progress : Progress) → ProgressBy answers tells a b added rest progress
-      → ProgressBy answers' tells' (see a) (see b) added rest progress
-  progress_seen a b added rest Open x = (x.0, x.1, parts_seen a b added x.2)
-  progress_seen a b added rest Closed x = (x.0, parts_seen a b added x.1)
-  progress_seen a b added rest OutputFailed x = ends_seen a added _ _ (λ mid part y. part_seen mid b part false y) x
-  progress_seen a b added rest Lost x = ends_seen a added _ _ (λ mid part y. loses_seen mid b part y) x
+  progress_seen : (r : Reached P) (b : P) (old new : SessionState) (progress : Progress) → ProgressBy answers tells r b old new progress
+      → ProgressBy answers' tells' (reached_seen r) (see b) old new progress
+  unfolding reached_seen
+  progress_seen r b old new Open x = (x.0, ap see x.1, x.2, x.3)
+  progress_seen r b old new Closed x = (x.0, ap see x.1)
+  progress_seen r b old new OutputFailed x = (x.0, ends_seen old r _ _ (λ part y. part_seen r.peer b part false y) x.1)
+  progress_seen r b old new Lost x = (x.0, ends_seen old r _ _ (λ part y. loses_seen r.peer b part y) x.1)
 
   pub piece_seen : (a b : P) (old new : SessionState) (bytes : List ℕ) (progress : Progress) → PieceTaken answers tells a b old new bytes progress
       → PieceTaken answers' tells' (see a) (see b) old new bytes progress
+  unfolding reached_seen
   piece_seen a b old new bytes progress x = record {
-    used = x.used;
-    rest = x.rest;
+    reached = reached_seen x.reached;
     bytes_are = x.bytes_are;
-    added = x.added;
-    grows = x.grows;
-    does = progress_seen a b x.added x.rest progress x.does;
+    gains = x.gains;
+    runs = parts_seen a x.reached.peer x.reached.parts x.runs;
+    ends = progress_seen x.reached b old new progress x.ends;
   }
 
 -- what each call keeps of a peer, a piece keeps
@@ -77,11 +80,12 @@ module _ {P X : Type 0} (answers : P → P → Command → List ℕ → Fate →
   parts_keep a b [] x = ap of x
   parts_keep a b (part ∷ more) x = parts_keep x.0 b more x.2 ∙ part_keeps a x.0 part true x.1
 
-  progress_keeps : (a b : P) (added : List Part) (rest : List ℕ) (progress : Progress) → ProgressBy answers tells a b added rest progress → of b ≡ of a
-  progress_keeps a b added rest Open x = parts_keep a b added x.2
-  progress_keeps a b added rest Closed x = parts_keep a b added x.1
-  progress_keeps a b added rest OutputFailed x = part_keeps x.mid b x.part false x.ends ∙ parts_keep a x.mid x.before x.runs
-  progress_keeps a b added rest Lost x = loses_keeps x.mid b x.part x.ends ∙ parts_keep a x.mid x.before x.runs
+  progress_keeps : (r : Reached P) (b : P) (old new : SessionState) (progress : Progress) → ProgressBy answers tells r b old new progress → of b ≡ of r.peer
+  progress_keeps r b old new Open x = ap of x.1
+  progress_keeps r b old new Closed x = ap of x.1
+  progress_keeps r b old new OutputFailed x = part_keeps r.peer b x.1.part false x.1.ends
+  progress_keeps r b old new Lost x = loses_keeps r.peer b x.1.part x.1.ends
 
   pub piece_keeps : (a b : P) (old new : SessionState) (bytes : List ℕ) (progress : Progress) → PieceTaken answers tells a b old new bytes progress → of b ≡ of a
-  piece_keeps a b old new bytes progress x = progress_keeps a b x.added x.rest progress x.does
+  piece_keeps a b old new bytes progress x =
+      progress_keeps x.reached b old new progress x.ends ∙ parts_keep a x.reached.peer x.reached.parts x.runs

@@ -84,41 +84,56 @@ PartsBy answers tells a b [] = b ≡ a
 PartsBy {P = P} answers tells a b (part ∷ more) =
     (mid : P) × PartBy answers tells a mid part true × PartsBy answers tells mid b more
 
--- what becomes of the part behind these, in which the connection ends
-pub record EndsIn {P : Type 0} (answers : P → P → Command → List ℕ → Fate → Type 0)
-    (tells : P → P → List ℕ → Bool → Type 0) (a : P) (added : List Part)
-    (last : P → Part → Type 0) : Type 0 where
-  pub before : List Part
+-- how far a piece came: the bytes of the parts that were answered whole, these parts, the peer behind
+-- them, and the other bytes
+pub record Reached (P : Type 0) : Type 0 where
+  pub done : List ℕ
+  pub parts : List Part
+  pub peer : P
+  pub ahead : List ℕ
+
+-- what a session's text gains by these bytes
+abbrev pub GainsBy : SessionState → List ℕ → List Part → Type 0
+GainsBy old bytes added = (start : Phase) (text : List ℕ) → is_closed old ≡ false
+    → SessionRepresents start old text → Gains start old.export text (text ++ bytes) added
+
+-- the part behind those that were answered whole, in which the connection ends
+pub record EndsIn {P : Type 0} (old : SessionState) (reached : Reached P)
+    (last : Part → Type 0) : Type 0 where
+  pub unit : List ℕ
+  pub others : List ℕ
   pub part : Part
-  pub mid : P
-  pub added_is : added ≡ before ++ part ∷ []
-  pub still : closed before ≡ false
-  pub runs : PartsBy answers tells a mid before
-  pub ends : last mid part
+  pub ahead_is : reached.ahead ≡ unit ++ others
+  pub gains : (start : Phase) (text : List ℕ) → is_closed old ≡ false
+      → SessionRepresents start old text
+      → Gains start old.export (text ++ reached.done) ((text ++ reached.done) ++ unit) (part ∷ [])
+  pub ends : last part
 
--- what became of the parts that a piece added, and of the rest of its bytes: where the connection
--- stays open all bytes are used
+-- What each progress says of where a piece stops: where the connection stays open all bytes are used,
+-- and the session represents the longer text.
 abbrev pub ProgressBy : {P : Type 0} → (P → P → Command → List ℕ → Fate → Type 0)
-    → (P → P → List ℕ → Bool → Type 0) → P → P → List Part → List ℕ → Progress → Type 0
-ProgressBy answers tells a b added rest Open =
-    (rest ≡ []) × (closed added ≡ false) × PartsBy answers tells a b added
-ProgressBy answers tells a b added rest Closed =
-    (closed added ≡ true) × PartsBy answers tells a b added
-ProgressBy answers tells a b added rest OutputFailed =
-    EndsIn answers tells a added (λ mid part. PartBy answers tells mid b part false)
-ProgressBy answers tells a b added rest LostPiece =
-    EndsIn answers tells a added (λ mid part. LosesPart answers mid b part)
+    → (P → P → List ℕ → Bool → Type 0) → Reached P → P → SessionState → SessionState → Progress
+    → Type 0
+ProgressBy answers tells reached b old new Open =
+    (closed reached.parts ≡ false) × (b ≡ reached.peer) × (reached.ahead ≡ [])
+    × ((start : Phase) (text : List ℕ) → is_closed old ≡ false → SessionRepresents start old text
+    → SessionRepresents start new (text ++ reached.done))
+ProgressBy answers tells reached b old new Closed =
+    (closed reached.parts ≡ true) × (b ≡ reached.peer)
+ProgressBy answers tells reached b old new OutputFailed = (closed reached.parts ≡ false)
+    × EndsIn old reached (λ part. PartBy answers tells reached.peer b part false)
+ProgressBy answers tells reached b old new LostPiece = (closed reached.parts ≡ false)
+    × EndsIn old reached (λ part. LosesPart answers reached.peer b part)
 
--- what a piece does: some of its bytes are used, and the rest isn't looked at
+-- What a piece does: the parts of its first bytes are answered whole, one after another.
 pub record PieceTaken {P : Type 0} (answers : P → P → Command → List ℕ → Fate → Type 0)
     (tells : P → P → List ℕ → Bool → Type 0) (a b : P) (old new : SessionState) (bytes : List ℕ)
     (progress : Progress) : Type 0 where
-  pub used : List ℕ
-  pub rest : List ℕ
-  pub bytes_are : bytes ≡ used ++ rest
-  pub added : List Part
-  pub grows : GrowsBy old new used added
-  pub does : ProgressBy answers tells a b added rest progress
+  pub reached : Reached P
+  pub bytes_are : bytes ≡ reached.done ++ reached.ahead
+  pub gains : GainsBy old reached.done reached.parts
+  pub runs : PartsBy answers tells a reached.peer reached.parts
+  pub ends : ProgressBy answers tells reached b old new progress
 
 -- a piece in its midst, where the rest of its bytes isn't taken yet
 pub record PieceUnderway {P : Type 0} (answers : P → P → Command → List ℕ → Fate → Type 0)

@@ -85,11 +85,16 @@ keeps_parts : (a b : Post) (parts : List Part) → PartsBy PostAnswers PostTells
 keeps_parts a b [] x = subst (λ p. PostKeeps a p) (sym x) (keeps_still a)
 keeps_parts a b (part ∷ more) x = keeps_twice a x.0 b (keeps_part a x.0 part true x.1) (keeps_parts x.0 b more x.2)
 
+-- parts that lead to a peer lead to an equal one
+whole : (a b mid : Post) (parts : List Part) → PartsBy PostAnswers PostTells a mid parts → b ≡ mid → PartsBy PostAnswers PostTells a b parts
+whole a b mid parts runs same = subst (λ p. PartsBy PostAnswers PostTells a p parts) (sym same) runs
+
 keeps_piece : (a b : Post) (line line' : SessionState) (bytes : List ℕ) (progress : Progress) → PieceTaken PostAnswers PostTells a b line line' bytes progress → PostKeeps a b
-keeps_piece a b line line' bytes Open x = keeps_parts a b x.added x.does.2
-keeps_piece a b line line' bytes Closed x = keeps_parts a b x.added x.does.1
-keeps_piece a b line line' bytes OutputFailed x = keeps_twice a x.does.mid b (keeps_parts a x.does.mid x.does.before x.does.runs) (keeps_part x.does.mid b x.does.part false x.does.ends)
-keeps_piece a b line line' bytes LostPiece x = keeps_twice a x.does.mid b (keeps_parts a x.does.mid x.does.before x.does.runs) (keeps_lost x.does.mid b x.does.part x.does.ends)
+keeps_piece a b line line' bytes Open x = keeps_parts a b x.reached.parts (whole a b x.reached.peer x.reached.parts x.runs x.ends.1)
+keeps_piece a b line line' bytes Closed x = keeps_parts a b x.reached.parts (whole a b x.reached.peer x.reached.parts x.runs x.ends.1)
+keeps_piece a b line line' bytes OutputFailed x =
+    keeps_twice a x.reached.peer b (keeps_parts a x.reached.peer x.reached.parts x.runs) (keeps_part x.reached.peer b x.ends.1.part false x.ends.1.ends)
+keeps_piece a b line line' bytes LostPiece x = keeps_twice a x.reached.peer b (keeps_parts a x.reached.peer x.reached.parts x.runs) (keeps_lost x.reached.peer b x.ends.1.part x.ends.1.ends)
 
 -- ---- what is written, and whether a write failed
 
@@ -120,7 +125,7 @@ part_failed a b (Last reply) x = x.3.1
 
 piece_failed : (a b : Post) (line line' : SessionState) (bytes : List ℕ) → PieceTaken PostAnswers PostTells a b line line' bytes OutputFailed → a.faults < b.faults
 piece_failed a b line line' bytes x =
-    subst (λ (n : ℕ). n < b.faults) (parts_sent a x.does.mid x.does.before x.does.runs).1 (part_failed x.does.mid b x.does.part x.does.ends)
+    subst (λ (n : ℕ). n < b.faults) (parts_sent a x.reached.peer x.reached.parts x.runs).1 (part_failed x.reached.peer b x.ends.1.part x.ends.1.ends)
 
 -- ---- a quiet run
 
@@ -201,14 +206,16 @@ parts_plain a b (part ∷ more) x quiet =
 whole_text : (text used rest bytes : List ℕ) → bytes ≡ used ++ rest → (text ++ used) ++ rest ≡ text ++ bytes
 whole_text text used rest bytes same = append_assoc text used rest ∙ ap (λ (l : List ℕ). text ++ l) (sym same)
 
-gains_rest : (n : Export) (text used rest bytes : List ℕ) (added : List Part) → bytes ≡ used ++ rest → Gains AwaitingFlags n text (text ++ used) added
-    → (later : List Part) × Gains AwaitingFlags n text (text ++ bytes) (added ++ later)
-gains_rest n text used rest bytes added same one =
-    let later = parts_begin AwaitingFlags n (text ++ used) rest in
-    (later.0, subst (λ l. Gains AwaitingFlags n text l (added ++ later.0)) (whole_text text used rest bytes same) (gains_both AwaitingFlags n text (text ++ used) ((text ++ used) ++ rest) added later.0 one later.1))
-
-append_one : (before : List Part) (part : Part) (later : List Part) → (before ++ part ∷ []) ++ later ≡ before ++ part ∷ later
-append_one before part later = append_assoc before (part ∷ []) later
+gains_rest : (n : Export) (text done unit others ahead bytes : List ℕ) (before : List Part) (part : Part) → bytes ≡ done ++ ahead → ahead ≡ unit ++ others
+    → Gains AwaitingFlags n text (text ++ done) before → Gains AwaitingFlags n (text ++ done) ((text ++ done) ++ unit) (part ∷ [])
+    → (later : List Part) × Gains AwaitingFlags n text (text ++ bytes) (before ++ part ∷ later)
+gains_rest n text done unit others ahead bytes before part same is one two =
+    let mid = text ++ done in
+    let here = mid ++ unit in
+    let later = parts_begin AwaitingFlags n here others in
+    let end : here ++ others ≡ text ++ bytes = append_assoc mid unit others ∙ (ap (λ (l : List ℕ). mid ++ l) (sym is) ∙ whole_text text done ahead bytes same) in
+    let more = gains_both AwaitingFlags n mid here (here ++ others) (part ∷ []) later.0 two later.1 in
+    (later.0, subst (λ l. Gains AwaitingFlags n text l (before ++ part ∷ later.0)) end (gains_both AwaitingFlags n text mid (here ++ others) before (part ∷ later.0) one more))
 
 abbrev desk : Post → SessionState → Desk
 desk a line = record { disk = a.disk; line = line; written = a.written }
@@ -224,51 +231,51 @@ module _ (a b : Post) (line line' : SessionState) (bytes : List ℕ) (same : a.e
 
   piece_stays : (is_closed line ≡ false → is_closed line' ≡ false) → PieceTaken PostAnswers PostTells a b line line' bytes Open → Pieced a.who (desk a line) (desk b line') Stays bytes
   piece_stays stays x =
-      let plain = parts_plain a b x.added x.does.2 quiet in
-      let all : x.used ≡ bytes = sym (x.bytes_are ∙ (ap (λ (l : List ℕ). x.used ++ l) x.does.0 ∙ append-nil x.used)) in
+      let r = x.reached in
+      let plain = parts_plain a b r.parts (whole a b r.peer r.parts x.runs x.ends.1) quiet in
+      let all : r.done ≡ bytes = sym (x.bytes_are ∙ (ap (λ (l : List ℕ). r.done ++ l) x.ends.2 ∙ append-nil r.done)) in
       record {
         power = plain.power;
         slow = plain.slow;
-        says = λ text serves.
-            let grows = x.grows AwaitingFlags text serves.0 serves.1 in (
-              plain.out,
-              plain.appends,
-              (
-                (
-                  x.added,
-                  x.does.1,
-                  record {
-                    lacked = subst (λ l. Gains AwaitingFlags line.export text (text ++ l) x.added) all grows.0;
-                    out_is = plain.out_is ∙ replies_here x.added;
-                    disk_is = plain.contents ∙ after_here x.added;
-                  },
-                ),
-                subst (λ l. ServesText line' (text ++ l)) all (stays serves.0, grows.1),
-              ),
-            );
+        says = λ text serves. (
+          plain.out,
+          plain.appends,
+          (
+            (
+              r.parts,
+              x.ends.0,
+              record {
+                lacked = subst (λ l. Gains AwaitingFlags line.export text (text ++ l) r.parts) all (x.gains AwaitingFlags text serves.0 serves.1);
+                out_is = plain.out_is ∙ replies_here r.parts;
+                disk_is = plain.contents ∙ after_here r.parts;
+              },
+            ),
+            subst (λ l. ServesText line' (text ++ l)) all (stays serves.0, x.ends.3 AwaitingFlags text serves.0 serves.1),
+          ),
+        );
       }
 
   piece_shut : PieceTaken PostAnswers PostTells a b line line' bytes Closed → Pieced a.who (desk a line) (desk b line') Shut bytes
   piece_shut x =
-      let plain = parts_plain a b x.added x.does.1 quiet in
+      let r = x.reached in
+      let plain = parts_plain a b r.parts (whole a b r.peer r.parts x.runs x.ends.1) quiet in
       record {
         power = plain.power;
         slow = plain.slow;
-        says = λ text serves.
-            let grows = x.grows AwaitingFlags text serves.0 serves.1 in (
-              plain.out,
-              plain.appends,
-              (
-                x.added,
-                x.does.0,
-                record {
-                  lacked = subst (λ l. Gains AwaitingFlags line.export text l x.added) (whole_text text x.used x.rest bytes x.bytes_are)
-                      (gains_end AwaitingFlags line.export text (text ++ x.used) x.rest x.added grows.0 x.does.0);
-                  out_is = plain.out_is ∙ replies_here x.added;
-                  disk_is = plain.contents ∙ after_here x.added;
-                },
-              ),
-            );
+        says = λ text serves. (
+          plain.out,
+          plain.appends,
+          (
+            r.parts,
+            x.ends.0,
+            record {
+              lacked = subst (λ l. Gains AwaitingFlags line.export text l r.parts) (whole_text text r.done r.ahead bytes x.bytes_are)
+                  (gains_end AwaitingFlags line.export text (text ++ r.done) r.ahead r.parts (x.gains AwaitingFlags text serves.0 serves.1) x.ends.0);
+              out_is = plain.out_is ∙ replies_here r.parts;
+              disk_is = plain.contents ∙ after_here r.parts;
+            },
+          ),
+        );
       }
 
   -- the posts before and after the part in which a piece ends
@@ -302,35 +309,34 @@ module _ (a b : Post) (line line' : SessionState) (bytes : List ℕ) (same : a.e
 
   piece_lost : PieceTaken PostAnswers PostTells a b line line' bytes LostPiece → Pieced a.who (desk a line) (desk b line') Lost bytes
   piece_lost x =
-      let d = x.does in
-      let lost = lost_plain d.mid d.before d.part d.runs d.ends in
-      let first = keeps_parts a d.mid d.before d.runs in
-      let plain = (ends_quiet d.mid d.before d.runs (keeps_lost d.mid b d.part d.ends)).0 in
+      let r = x.reached in
+      let d = x.ends.1 in
+      let lost = lost_plain r.peer r.parts d.part x.runs d.ends in
+      let first = keeps_parts a r.peer r.parts x.runs in
+      let plain = (ends_quiet r.peer r.parts x.runs (keeps_lost r.peer b d.part d.ends)).0 in
       let cuts = first.goes.cuts in
       let c = lost.0 in
       let payload = lost.1 in
-      let here = after_parts line.export a.disk.contents d.before in
-      let had : d.mid.disk.contents ≡ here = plain.contents ∙ after_here d.before in
+      let here = after_parts line.export a.disk.contents r.parts in
+      let had : r.peer.disk.contents ≡ here = plain.contents ∙ after_here r.parts in
       let outcome = subst (λ (l : List ℕ). Outcome l (applied line.export l c payload) b.disk.contents) had
-      (subst (λ (n : Export). Outcome d.mid.disk.contents (applied n d.mid.disk.contents c payload) b.disk.contents) (first.export ∙ same) lost.8) in
+      (subst (λ (n : Export). Outcome r.peer.disk.contents (applied n r.peer.disk.contents c payload) b.disk.contents) (first.export ∙ same) lost.8) in
       record {
         power = (lost.4, let rose = lost.5 in omega (arith, cuts, rose));
         slow = lost.6;
         says = λ text serves.
-            let grows = x.grows AwaitingFlags text serves.0 serves.1 in
-            let all = gains_rest line.export text x.used x.rest bytes x.added x.bytes_are grows.0 in (
+            let all = gains_rest line.export text r.done d.unit d.others r.ahead bytes r.parts d.part x.bytes_are d.ahead_is
+            (x.gains AwaitingFlags text serves.0 serves.1) (d.gains AwaitingFlags text serves.0 serves.1) in (
               plain.out,
               subst (λ w. Appends a.written w plain.out) (sym lost.7) plain.appends,
               record {
-                before = d.before;
+                before = r.parts;
                 command = c;
                 payload = payload;
                 rest = all.0;
-                lacked = subst (λ ps. Gains AwaitingFlags line.export text (text ++ bytes) ps) (append_one d.before (ForDisk c payload) all.0)
-                    (subst (λ p. Gains AwaitingFlags line.export text (text ++ bytes) ((d.before ++ p ∷ []) ++ all.0)) lost.2
-                    (subst (λ ps. Gains AwaitingFlags line.export text (text ++ bytes) (ps ++ all.0)) d.added_is all.1));
+                lacked = subst (λ p. Gains AwaitingFlags line.export text (text ++ bytes) (r.parts ++ p ∷ all.0)) lost.2 all.1;
                 touches = lost.3;
-                out_is = plain.out_is ∙ replies_here d.before;
+                out_is = plain.out_is ∙ replies_here r.parts;
                 outcome = outcome;
               },
             );
@@ -338,42 +344,42 @@ module _ (a b : Post) (line line' : SessionState) (bytes : List ℕ) (same : a.e
 
   piece_halts : PieceTaken PostAnswers PostTells a b line line' bytes OutputFailed → PieceHalts a.who (desk a line) (desk b line') bytes
   piece_halts x =
-      let d = x.does in
-      let first = keeps_parts a d.mid d.before d.runs in
-      let q = ends_quiet d.mid d.before d.runs (keeps_part d.mid b d.part false d.ends) in
+      let r = x.reached in
+      let d = x.ends.1 in
+      let first = keeps_parts a r.peer r.parts x.runs in
+      let q = ends_quiet r.peer r.parts x.runs (keeps_part r.peer b d.part false d.ends) in
       let plain = q.0 in
-      let one = part_plain d.mid b d.part false d.ends q.1 in
-      let here = after_parts line.export a.disk.contents d.before in
-      let had : d.mid.disk.contents ≡ here = plain.contents ∙ after_here d.before in
+      let one = part_plain r.peer b d.part false d.ends q.1 in
+      let here = after_parts line.export a.disk.contents r.parts in
+      let had : r.peer.disk.contents ≡ here = plain.contents ∙ after_here r.parts in
       let lacks = one.wrote.0 in
-      let said : replied d.mid.who (reply_of_part d.mid.export d.mid.disk.contents d.part) ≡ replied a.who (reply_of_part line.export here d.part) =
-      ap (λ (w : ℕ). replied w (reply_of_part d.mid.export d.mid.disk.contents d.part)) first.who
-      ∙ (ap (λ (n : Export). replied a.who (reply_of_part n d.mid.disk.contents d.part)) (first.export ∙ same) ∙ ap (λ (l : List ℕ). replied a.who (reply_of_part line.export l d.part)) had) in
+      let said : replied r.peer.who (reply_of_part r.peer.export r.peer.disk.contents d.part) ≡ replied a.who (reply_of_part line.export here d.part) =
+      ap (λ (w : ℕ). replied w (reply_of_part r.peer.export r.peer.disk.contents d.part)) first.who
+      ∙ (ap (λ (n : Export). replied a.who (reply_of_part n r.peer.disk.contents d.part)) (first.export ∙ same) ∙ ap (λ (l : List ℕ). replied a.who (reply_of_part line.export l d.part)) had) in
       let told : replied a.who (reply_of_part line.export here d.part) ≡ lacks.0 ++ lacks.1 = sym said ∙ lacks.2 in
-      let before : plain.out ≡ replies line.export a.who a.disk.contents d.before = plain.out_is ∙ replies_here d.before in
+      let before : plain.out ≡ replies line.export a.who a.disk.contents r.parts = plain.out_is ∙ replies_here r.parts in
       record {
         power = one.power;
         slow = one.slow;
         says = λ text serves.
-            let grows = x.grows AwaitingFlags text serves.0 serves.1 in
-            let all = gains_rest line.export text x.used x.rest bytes x.added x.bytes_are grows.0 in
+            let all = gains_rest line.export text r.done d.unit d.others r.ahead bytes r.parts d.part x.bytes_are d.ahead_is
+            (x.gains AwaitingFlags text serves.0 serves.1) (d.gains AwaitingFlags text serves.0 serves.1) in
             record {
-              before = d.before;
+              before = r.parts;
               part = d.part;
               rest = all.0;
               out = plain.out ++ lacks.0;
               first = lacks.0;
               unsent = lacks.1;
               missing = lacks.4;
-              lacked = subst (λ ps. Gains AwaitingFlags line.export text (text ++ bytes) ps) (append_one d.before d.part all.0)
-                  (subst (λ ps. Gains AwaitingFlags line.export text (text ++ bytes) (ps ++ all.0)) d.added_is all.1);
-              appends = Appends-trans a.written d.mid.written b.written plain.out lacks.0 plain.appends lacks.3;
-              out_is = replies_more line.export a.who a.disk.contents d.before d.part
+              lacked = all.1;
+              appends = Appends-trans a.written r.peer.written b.written plain.out lacks.0 plain.appends lacks.3;
+              out_is = replies_more line.export a.who a.disk.contents r.parts d.part
                   ∙ (ap (λ (l : List ℕ). l ++ replied a.who (reply_of_part line.export here d.part)) (sym before) ∙ (ap (λ (l : List ℕ). plain.out ++ l) told ∙ sym (append_assoc plain.out lacks.0 lacks.1)));
               split = ap (λ (l : List ℕ). l ++ lacks.0) before;
               reply_is = told;
-              disk_is = one.contents ∙ (ap (λ (n : Export). after_part n d.mid.disk.contents d.part) (first.export ∙ same)
-                  ∙ (ap (λ (l : List ℕ). after_part line.export l d.part) had ∙ sym (after_more line.export a.disk.contents d.before d.part)));
+              disk_is = one.contents ∙ (ap (λ (n : Export). after_part n r.peer.disk.contents d.part) (first.export ∙ same)
+                  ∙ (ap (λ (l : List ℕ). after_part line.export l d.part) had ∙ sym (after_more line.export a.disk.contents r.parts d.part)));
             };
       }
 
@@ -383,7 +389,7 @@ module _ (a b : Post) (line line' : SessionState) (bytes : List ℕ) (same : a.e
   pub takes_open : (is_closed line ≡ false → is_closed line' ≡ false) → PieceTaken PostAnswers PostTells a b line line' bytes Open → PostTakes a b line line' bytes (Ok Stays)
   takes_open stays x =
       let keeps = keeps_piece a b line line' bytes Open x in
-      let sent = parts_sent a b x.added x.does.2 in
+      let sent = parts_sent a b x.reached.parts (whole a b x.reached.peer x.reached.parts x.runs x.ends.1) in
       record {
         sound = keeps.sound;
         goes = keeps.goes;
@@ -397,7 +403,7 @@ module _ (a b : Post) (line line' : SessionState) (bytes : List ℕ) (same : a.e
   pub takes_closed : PieceTaken PostAnswers PostTells a b line line' bytes Closed → PostTakes a b line line' bytes (Ok Shut)
   takes_closed x =
       let keeps = keeps_piece a b line line' bytes Closed x in
-      let sent = parts_sent a b x.added x.does.1 in
+      let sent = parts_sent a b x.reached.parts (whole a b x.reached.peer x.reached.parts x.runs x.ends.1) in
       record {
         sound = keeps.sound;
         goes = keeps.goes;
@@ -411,7 +417,7 @@ module _ (a b : Post) (line line' : SessionState) (bytes : List ℕ) (same : a.e
   pub takes_lost : PieceTaken PostAnswers PostTells a b line line' bytes LostPiece → PostTakes a b line line' bytes (Ok Lost)
   takes_lost x =
       let keeps = keeps_piece a b line line' bytes LostPiece x in
-      let sent = sent_twice a x.does.mid b (parts_sent a x.does.mid x.does.before x.does.runs) (lost_sent x.does.mid b x.does.part x.does.ends) in
+      let sent = sent_twice a x.reached.peer b (parts_sent a x.reached.peer x.reached.parts x.runs) (lost_sent x.reached.peer b x.ends.1.part x.ends.1.ends) in
       record {
         sound = keeps.sound;
         goes = keeps.goes;

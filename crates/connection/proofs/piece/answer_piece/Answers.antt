@@ -1,6 +1,6 @@
 use Rattle.std.proofs.Common.{refl, ◌∙◌, rules}
 use Rattle.std.proofs.lemmas.List.{take_rest}
-use Rattle.connection.proofs.Piecing.{start, underway_waits, underway_answered, piece_closes, piece_fails, piece_loses}
+use Rattle.connection.proofs.Piecing.{start, none_left, piece_stays, underway_waits, underway_answered, piece_closes, piece_fails, piece_loses}
 use Rattle.connection.proofs.piece.answer_piece.Goals as goal
 
 pub loop-rest-init : goal.loop-rest-init
@@ -44,3 +44,7 @@ pub returns-in-Loses-clause-pieced : goal.returns-in-Loses-clause-pieced
 returns-in-Loses-clause-pieced g c =
     let i = c.loop-rest.invariant in
     piece_loses _ _ _ _ _ _ _ _ _ _ c.take_turn-used.result.0 i.0 i.4 i.5 (rw c.in-Loses.is at c.take_turn-used.ensures.turned)
+
+pub returns-clause-pieced : goal.returns-clause-pieced
+returns-clause-pieced g c =
+    piece_stays _ _ _ _ _ _ _ _ c.loop-rest.invariant.5 (none_left c.loop-rest.rest.now c.loop-rest-test.ensures)
