@@ -12,9 +12,9 @@ use Rattle.norbd_line.specs.declared.fault.Fault.TheVariants.{BadImageSize}
 use Rattle.norbd_line.specs.declared.fault.Fault.TheVariants.{NoSocket, NoThread, BadSync, NotText}
 use Rattle.norbd_line.specs.declared.fault.Fault.TheVariants.{BadTidy, BadRange, BadInput}
 use Rattle.norbd_line.specs.declared.fault.Fault.TheVariants.{InUse, Formatted, BadAddress}
-use Rattle.share.specs.declared.connection.End.{End}
-use Rattle.share.specs.declared.connection.End.TheVariants.{Closed, EndOfInput, Input, Output, Lost}
-use Rattle.share.specs.declared.connection.End.TheVariants.{OutOfMemory}
+use Rattle.share.specs.declared.attending.End.{End}
+use Rattle.share.specs.declared.attending.End.TheVariants.{Closed, EndOfInput, Input, Output, Lost}
+use Rattle.share.specs.declared.attending.End.TheVariants.{OutOfMemory}
 
 -- a result that is Ok
 abbrev pub IsDone : {T : Type 0} → Result T Fault → Type 0

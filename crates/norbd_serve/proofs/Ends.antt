@@ -1,7 +1,7 @@
 -- Of connections that end one after another, one ended by a lost command.
 use Rattle.std.proofs.Common.{◌≡◌, ℕ, List, [], ◌∷◌, ◌++◌, Bool, true, false, refl, sym, ◌∙◌, subst, if◌then◌else◌}
-use Rattle.share.specs.declared.connection.End.{End}
-use Rattle.share.specs.declared.connection.End.TheVariants.{Closed, EndOfInput, Input, Output, Lost, OutOfMemory}
+use Rattle.share.specs.declared.attending.End.{End}
+use Rattle.share.specs.declared.attending.End.TheVariants.{Closed, EndOfInput, Input, Output, Lost, OutOfMemory}
 use Rattle.history.specs.Notes.{Sight}
 use Rattle.nbd_wire.specs.declared.export.Export.{Export}
 use Rattle.share.specs.declared.recorder.Row.{Row}

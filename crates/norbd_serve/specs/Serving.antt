@@ -6,9 +6,9 @@ use Rattle.nbd_wire.specs.declared.export.Export.{Export}
 use Rattle.share.specs.declared.recorder.Row.{Row}
 use Rattle.share.specs.History.{IsLegal}
 use Rattle.share.specs.Seat.{Seat}
-use Rattle.share.specs.declared.connection.End.{End}
-use Rattle.share.specs.declared.connection.End.TheVariants.{Closed, EndOfInput, Input, Output, Lost}
-use Rattle.share.specs.declared.connection.End.TheVariants.{OutOfMemory}
+use Rattle.share.specs.declared.attending.End.{End}
+use Rattle.share.specs.declared.attending.End.TheVariants.{Closed, EndOfInput, Input, Output, Lost}
+use Rattle.share.specs.declared.attending.End.TheVariants.{OutOfMemory}
 use Rattle.norbd_serve.specs.declared.kept.Served.{Served}
 
 -- the connection ended since a command was lost

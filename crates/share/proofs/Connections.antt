@@ -5,8 +5,8 @@ use Rattle.std.proofs.KnownBytes.{Appends-nil, Consumes-nil, Consumes-trans, Con
 use Rattle.nbd_wire.specs.declared.command.Command.{Command}
 use Rattle.session.specs.Sessions.{BeginsSession, SessionState, opening}
 use Rattle.session.proofs.PartLaws.{parts_none}
-use Rattle.share.specs.declared.connection.End.{End}
-use Rattle.share.specs.declared.connection.End.TheVariants.{Closed, EndOfInput, Input, Output, Lost, OutOfMemory}
+use Rattle.share.specs.declared.attending.End.{End}
+use Rattle.share.specs.declared.attending.End.TheVariants.{Closed, EndOfInput, Input, Output, Lost, OutOfMemory}
 use Rattle.share.specs.declared.door.Point.{Point}
 use Rattle.share.specs.declared.door.Point.TheVariants.{Read}
 use Rattle.share.specs.declared.shared.Done.{Done}

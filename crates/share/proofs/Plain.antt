@@ -8,8 +8,8 @@ use Rattle.nbd_transmission.specs.Apply.{changed_kind, head_of}
 use Rattle.session.specs.Sessions.{opening}
 use Rattle.session.specs.Parts.{Part, Told, ForDisk, Last, IsPartsOf, closed}
 use Rattle.session.proofs.PartLaws.{one_list, parts_end, parts_none}
-use Rattle.share.specs.declared.connection.End.{End}
-use Rattle.share.specs.declared.connection.End.TheVariants.{Closed as ClosedEnd, EndOfInput, Input, Output, Lost as LostEnd, OutOfMemory}
+use Rattle.share.specs.declared.attending.End.{End}
+use Rattle.share.specs.declared.attending.End.TheVariants.{Closed as ClosedEnd, EndOfInput, Input, Output, Lost as LostEnd, OutOfMemory}
 use Rattle.share.specs.declared.door.Point.{Point}
 use Rattle.share.specs.Connection.{AnsweredBy, Connection, Executed, PartsAnsweredBy, ExecutedAndLost, answer_bytes}
 use Rattle.nbd_wire.specs.Lent.{payload_in_of, reply_in}

@@ -1,26 +1,23 @@
--- A connection goes on by one turn, or ends.
-use Rattle.std.proofs.Common.{◌≡◌, ℕ, ◌+◌, ◌*◌, ◌-◌, ◌<◌, ◌≤◌, List, [], ◌∷◌, ◌++◌, length, length-append, take, drop, Bool, true, false, ◌==◌, refl, arith, sym, ap, ◌∙◌, subst, append_assoc, append-nil}
-use Rattle.std.specs.Prelude.{◌||◌}
-use Rattle.std.proofs.lemmas.List.{take_rest, take-append-drop}
-use Rattle.std.proofs.lemmas.Bool.{eqb-true}
+-- A connection goes on by a piece, or ends.
+use Rattle.std.proofs.Common.{◌≡◌, ℕ, ◌+◌, ◌*◌, ◌<◌, ◌≤◌, List, [], ◌∷◌, ◌++◌, length, length-append, Bool, true, false, refl, arith, sym, ap, ◌∙◌, subst, append_assoc, append-nil}
+use Rattle.std.specs.Prelude.{◌||◌, Some, None}
 use Rattle.std.specs.Io.KnownBytes.{Appends}
-use Rattle.std.proofs.KnownBytes.{Appends-trans}
+use Rattle.std.proofs.KnownBytes.{Appends-nil, Appends-trans}
 use Rattle.nbd_wire.specs.declared.export.Export.{Export}
 use Rattle.nbd_wire.specs.declared.command.Command.{Command}
-use Rattle.nbd_wire.specs.declared.phase.Phase.{Phase}
-use Rattle.session.specs.Sessions.{SessionState, SessionSays, SessionRepresents, opening, reply_of, room_of}
-use Rattle.session.specs.Parts.{Part, Told, ForDisk, Last, Gains, closes, closed, is_silent, ends_silently}
-use Rattle.session.proofs.PartLaws.{gains_behind}
-use Rattle.session.specs.declared.next.Next.{Next}
-use Rattle.session.specs.declared.next.Next.TheVariants.{More, Reply, Run, Close}
-use Rattle.share.specs.declared.connection.End.TheVariants.{Closed as ClosedEnd, Output, Lost as LostEnd}
-use Rattle.share.specs.declared.connection.Turn.{Turn}
-use Rattle.share.specs.declared.connection.Turn.TheVariants.{Waits, Answered, Closes, OutputFails, Loses}
-use Rattle.share.specs.declared.door.Point.{Point}
-use Rattle.share.specs.declared.shared.Done.{Done}
-use Rattle.share.specs.Connection.{AnsweredBy, FailsBy, ConnectionEnded, PartsAnsweredBy}
-use Rattle.share.specs.Turning.{CommandTurn, Grows, TurnedBy, ConnectionUnderway}
 use Rattle.nbd_wire.specs.Lent.{payload_in}
+use Rattle.session.specs.Sessions.{SessionState, SessionRepresents, is_closed, opening}
+use Rattle.session.specs.Parts.{Part, Told, ForDisk, Last, Gains, closes, closed, is_silent, ends_silently}
+use Rattle.session.proofs.PartLaws.{gains_behind, gains_both}
+use Rattle.connection.specs.declared.peer.Fate.{Fate}
+use Rattle.connection.specs.declared.piece.Progress.TheVariants.{Open, Closed, OutputFailed, Lost as LostPiece}
+use Rattle.connection.specs.Turning.{PartBy, PartsBy, LosesPart, PieceTaken}
+use Rattle.share.specs.declared.attending.End.TheVariants.{Closed as ClosedEnd, Output, Lost as LostEnd}
+use Rattle.share.specs.declared.door.Point.{Point}
+use Rattle.share.specs.declared.door.Point.TheVariants.{Execute}
+use Rattle.share.specs.declared.shared.Done.{Done}
+use Rattle.share.specs.Connection.{AnsweredBy, ExecutedAndLost, FailsBy, ConnectionEnded, PartsAnsweredBy}
+use Rattle.share.specs.Turning.{CommandTurn, StandTells, ConnectionUnderway, PieceSays}
 use Rattle.share.specs.Places.{PassesMore, Place, Setting, Stand, asks, executions, points_of, reads, setting}
 
 -- ---- lists of points and of parts
@@ -85,15 +82,20 @@ silent-behind (p ∷ ps) qs e =
     let both = or_open (is_silent p) (ends_silently ps) e in
     ap (λ (x : Bool). is_silent p || x) (silent-behind ps qs both.1) ∙ or_false (is_silent p) both.0 (ends_silently qs)
 
--- a reply that isn't empty
-has-reply : (reply : List ℕ) → 0 < length reply → ends_silently (Last reply ∷ []) ≡ false
-has-reply [] some = absurd (omega (arith, some))
-has-reply (x ∷ xs) some = refl
+-- the same of one part more
+silent-end : (ps : List Part) (p : Part) → closed ps ≡ false → is_silent p ≡ false → ends_silently (ps ++ p ∷ []) ≡ false
+silent-end ps p e s = silent-behind ps (p ∷ []) (open-silent ps e) ∙ ap (λ (b : Bool). b || false) s
 
-some-reply : (reply bytes sent unsent : List ℕ) → bytes ≡ reply → bytes ≡ sent ++ unsent → 0 < length unsent → 0 < length reply
-some-reply reply bytes sent unsent e is some =
-    let n = ap (λ (x : List ℕ). length x) (sym e ∙ is) in
-    omega (arith, n, some, length-append sent unsent)
+-- a reply that isn't empty
+has-reply : (reply sent unsent : List ℕ) → reply ≡ sent ++ unsent → 0 < length unsent → is_silent (Last reply) ≡ false
+has-reply [] sent unsent is some = let n = ap (λ (x : List ℕ). length x) is in absurd (omega (arith, n, some, length-append sent unsent))
+has-reply (x ∷ xs) sent unsent is some = refl
+
+points-append : (ps qs : List Part) → points_of (ps ++ qs) ≡ points_of ps ++ points_of qs
+points-append [] qs = refl
+points-append (Told reply ∷ ps) qs = points-append ps qs
+points-append (ForDisk c payload ∷ ps) qs = ap (λ (x : List Point). Execute ∷ x) (points-append ps qs)
+points-append (Last reply ∷ ps) qs = points-append ps qs
 
 -- ---- runs
 
@@ -114,216 +116,272 @@ runs-append step a m b (p ∷ ps) qs out more r s =
 pub runs-one : {S : Type 0} (step : Place S → Place S → Command → List ℕ → Done → Type 0) (a b : Place S) (p : Part) (out : List ℕ) → AnsweredBy step a p out b → PartsAnsweredBy step a (p ∷ []) out b
 runs-one step a b p out h = (out, [], b, sym (append-nil out), h, (refl, refl))
 
--- ---- what one call of the session says
+-- ---- points
 
-pub says-more : (start : Phase) (n m : Export) (old new : List ℕ) (next : Next) (line : SessionState) → n ≡ m → next ≡ More → SessionSays start n old new next line → Grows (setting start m) old new [] line
-says-more start n m old new next line e f h =
-    let P : Export → Type 0 = λ x. SessionSays start x old new next line in
-    let Q : Next → Type 0 = λ x. SessionSays start m old new x line in
-    subst Q f (subst P e h)
-
-pub says-reply : (start : Phase) (n m : Export) (old new : List ℕ) (next : Next) (line : SessionState) → n ≡ m → next ≡ Reply → SessionSays start n old new next line → Grows (setting start m) old new (Told (reply_of line) ∷ []) line
-says-reply start n m old new next line e f h =
-    let P : Export → Type 0 = λ x. SessionSays start x old new next line in
-    let Q : Next → Type 0 = λ x. SessionSays start m old new x line in
-    subst Q f (subst P e h)
-
-pub says-run : (start : Phase) (n m : Export) (old new : List ℕ) (next : Next) (c : Command) (line line' : SessionState) → n ≡ m → next ≡ Run c → SessionSays start n old new next line → (SessionRepresents start line new → SessionRepresents start line' new)
-    → Grows (setting start m) old new (ForDisk c (payload_in c (room_of line)) ∷ []) line'
-says-run start n m old new next c line line' e f h represents =
-    let P : Export → Type 0 = λ x. SessionSays start x old new next line in
-    let Q : Next → Type 0 = λ x. SessionSays start m old new x line in
-    let s = subst Q f (subst P e h) in
-    (s.0, represents s.1)
-
-pub says-close : (start : Phase) (n m : Export) (old new : List ℕ) (next : Next) (line : SessionState) → n ≡ m → next ≡ Close → SessionSays start n old new next line → Grows (setting start m) old new (Last (reply_of line) ∷ []) line
-says-close start n m old new next line e f h =
-    let P : Export → Type 0 = λ x. SessionSays start x old new next line in
-    let Q : Next → Type 0 = λ x. SessionSays start m old new x line in
-    subst Q f (subst P e h)
-
--- ---- turns
-
--- no point was passed
-pub passes-none : {G : Type 0} (passes : G → G → List Point → Type 0) (gate : G) → PassesMore passes gate gate []
+passes-none : {G : Type 0} (passes : G → G → List Point → Type 0) (gate : G) → PassesMore passes gate gate []
 passes-none passes gate first points p = subst (λ (x : List Point). passes first gate x) (sym (append-nil points)) p
 
-pub turned-command : {S G : Type 0} (step : Place S → Place S → Command → List ℕ → Done → Type 0) (a b : Stand S G) (c : Command) (payload : List ℕ) (turn : Turn)
-    → CommandTurn step a b c payload turn → TurnedBy step a b (ForDisk c payload ∷ []) turn
-turned-command step a b c payload Waits h = absurd h
-turned-command step a b c payload Answered h = (h.0, runs-one step a.place b.place (ForDisk c payload) h.0 h.1, h.2, h.3, refl)
-turned-command step a b c payload Closes h = absurd h
-turned-command step a b c payload OutputFails h = (h.0, h.1, runs-one step a.place b.place (ForDisk c payload) (h.0 ++ h.1) h.2, h.3, h.4, refl, h.5)
-turned-command step a b c payload Loses h = (c, payload, refl, h.0, h.1, h.2)
+passes-both : {G : Type 0} (passes : G → G → List Point → Type 0) (a m b : G) (xs ys : List Point) → PassesMore passes a m xs → PassesMore passes m b ys → PassesMore passes a b (xs ++ ys)
+passes-both passes a m b xs ys one two first points p = subst (λ (x : List Point). passes first b x) (append_assoc points xs ys) (two first (points ++ xs) (one first points p))
 
-pub told-answered : {S G : Type 0} (step : Place S → Place S → Command → List ℕ → Done → Type 0) (a b : Stand S G) (reply bytes : List ℕ) → b.place ≡ a.place → bytes ≡ reply
-    → Appends a.written b.written bytes → b.failures ≡ a.failures → TurnedBy step a b (Told reply ∷ []) Answered
-told-answered step a b reply bytes same e wrote quiet = (bytes, runs-one step a.place b.place (Told reply) bytes (e, same), wrote, quiet, refl)
+-- ---- what became of parts
 
-pub told-fails : {S G : Type 0} (step : Place S → Place S → Command → List ℕ → Done → Type 0) (a b : Stand S G) (reply bytes sent unsent : List ℕ) → b.place ≡ a.place → bytes ≡ reply → bytes ≡ sent ++ unsent
-    → Appends a.written b.written sent → 0 < length unsent → a.failures < b.failures → TurnedBy step a b (Told reply ∷ []) OutputFails
-told-fails step a b reply bytes sent unsent same e is wrote some failed = (sent, unsent, runs-one step a.place b.place (Told reply) (sent ++ unsent) (sym is ∙ e, same), wrote, some, refl, failed)
+module _ {S G : Type 0} (step : Place S → Place S → Command → List ℕ → Done → Type 0) (passes : G → G → List Point → Type 0) where
+  abbrev commands : Stand S G → Stand S G → Command → List ℕ → Fate → Type 0
+  commands a b c bytes fate = CommandTurn step passes a b c (payload_in c bytes) fate
 
-pub last-closes : {S G : Type 0} (step : Place S → Place S → Command → List ℕ → Done → Type 0) (a b : Stand S G) (reply bytes : List ℕ) → b.place ≡ a.place → bytes ≡ reply
-    → Appends a.written b.written bytes → b.failures ≡ a.failures → TurnedBy step a b (Last reply ∷ []) Closes
-last-closes step a b reply bytes same e wrote quiet = (bytes, runs-one step a.place b.place (Last reply) bytes (e, same), wrote, quiet, refl)
+  -- the gate was passed for these parts
+  abbrev passed-for : Stand S G → Stand S G → List Part → Type 0
+  passed-for a b parts = PassesMore passes a.gate b.gate (points_of parts)
 
-pub last-fails : {S G : Type 0} (step : Place S → Place S → Command → List ℕ → Done → Type 0) (a b : Stand S G) (reply bytes sent unsent : List ℕ) → b.place ≡ a.place → bytes ≡ reply → bytes ≡ sent ++ unsent
-    → Appends a.written b.written sent → 0 < length unsent → a.failures < b.failures → TurnedBy step a b (Last reply ∷ []) OutputFails
-last-fails step a b reply bytes sent unsent same e is wrote some failed =
-    (sent, unsent, runs-one step a.place b.place (Last reply) (sent ++ unsent) (sym is ∙ e, same), wrote, some, has-reply reply (some-reply reply bytes sent unsent e is some), failed)
+  told-passes : (a b : Stand S G) → b.gate ≡ a.gate → PassesMore passes a.gate b.gate []
+  told-passes a b same = subst (λ g. PassesMore passes a.gate g []) (sym same) (passes-none passes a.gate)
 
--- ---- a connection that is underway
+  abbrev Answers : Stand S G → Stand S G → Part → List ℕ → Type 0
+  Answers a b part out = AnsweredBy step a.place part out b.place
 
--- more parts are answered
-underway-more : {S G : Type 0} (step : Place S → Place S → Command → List ℕ → Done → Type 0) (passes : G → G → List Point → Type 0) (st : Setting) (first a b : Stand S G) (old new : List ℕ) (line next : SessionState) (added : List Part) (out : List ℕ)
-    → (w : ConnectionUnderway step passes st first a old line) → Grows st old new added next → PassesMore passes a.gate b.gate (points_of added)
-    → PartsAnsweredBy step a.place added out b.place → closed added ≡ false → Appends a.written b.written out → b.failures ≡ a.failures
-    → (u : ConnectionUnderway step passes st first b new next) × (reads u.points ≡ reads w.points)
-underway-more step passes st first a b old new line next added out w grows gate runs shut wrote quiet =
-    let had = w.parts in
-    let has = gains_behind st.start st.export old new had added w.parts_are grows.0 in (
+  part-done : (a b : Stand S G) (part : Part) → PartBy commands StandTells a b part true
+      → (out : List ℕ) × Answers a b part out × Appends a.written b.written out × (b.failures ≡ a.failures) × passed-for a b (part ∷ [])
+  part-done a b (Told reply) x = (reply, (refl, x.0), x.2, x.3, told-passes a b x.1)
+  part-done a b (ForDisk c payload) x =
+      let r = x.run.0 in
+      (r.0, subst (λ l. AnsweredBy step a.place (ForDisk c l) r.0 b.place) x.payload_is r.1, r.2, r.3, x.run.1)
+  part-done a b (Last reply) x = (reply, (refl, x.0), x.2, x.3, told-passes a b x.1)
+
+  part-fails : (a b : Stand S G) (part : Part) → PartBy commands StandTells a b part false
+      → (sent : List ℕ) × (unsent : List ℕ) × Answers a b part (sent ++ unsent) × Appends a.written b.written sent × (0 < length unsent) × (a.failures < b.failures) × (is_silent part ≡ false)
+      × passed-for a b (part ∷ [])
+  part-fails a b (Told reply) x = let f = x.2.0 in (f.0, f.1, (sym f.2, x.0), f.3, f.4, x.2.1, refl, told-passes a b x.1)
+  part-fails a b (ForDisk c payload) x =
+      let r = x.run.0 in
+      let f = r.2.0 in
+      (f.0, f.1, subst (λ o. AnsweredBy step a.place (ForDisk c payload) o b.place) f.2 (subst (λ l. AnsweredBy step a.place (ForDisk c l) r.0 b.place) x.payload_is r.1), f.3, f.4, r.2.1, refl, x.run.1)
+  part-fails a b (Last reply) x = let f = x.2.0 in (f.0, f.1, (sym f.2, x.0), f.3, f.4, x.2.1, has-reply reply f.0 f.1 f.2 f.4, told-passes a b x.1)
+
+  part-lost : (a b : Stand S G) (part : Part) → LosesPart commands a b part
+      → (c : Command) × (payload : List ℕ) × (part ≡ ForDisk c payload) × ExecutedAndLost step a.place b.place c payload × (b.written ≡ a.written) × (b.failures ≡ a.failures)
+      × passed-for a b (part ∷ [])
+  part-lost a b (Told reply) x = absurd x
+  part-lost a b (ForDisk c payload) x =
+      let r = x.run.0 in
+      (c, payload, refl, subst (λ l. ExecutedAndLost step a.place b.place c l) x.payload_is r.0, r.1, r.2, x.run.1)
+  part-lost a b (Last reply) x = absurd x
+
+  -- parts are answered whole
+  record PartsDone (a b : Stand S G) (parts : List Part) : Type 0 where
+    out : List ℕ
+    runs : PartsAnsweredBy step a.place parts out b.place
+    wrote : Appends a.written b.written out
+    quiet : b.failures ≡ a.failures
+    gate : passed-for a b parts
+
+  parts-done : (a b : Stand S G) (parts : List Part) → PartsBy commands StandTells a b parts → PartsDone a b parts
+  parts-done a b [] x = subst (λ y. PartsDone a y []) (sym x) (record { out = []; runs = (refl, refl); wrote = Appends-nil a.written; quiet = refl; gate = passes-none passes a.gate })
+  parts-done a b (part ∷ more) x =
+      let m = x.0 in
+      let one = part-done a m part x.1 in
+      let rest = parts-done m b more x.2 in
       record {
-        parts = had ++ added;
-        out = w.out ++ out;
+        out = one.0 ++ rest.out;
+        runs = (one.0, rest.out, m.place, refl, one.1, rest.runs);
+        wrote = Appends-trans a.written m.written b.written one.0 rest.out one.2 rest.wrote;
+        quiet = rest.quiet ∙ one.3;
+        gate = subst (λ ps. PassesMore passes a.gate b.gate ps) (sym (points-append (part ∷ []) more)) (passes-both passes a.gate m.gate b.gate (points_of (part ∷ [])) (points_of more) one.4 rest.gate);
+      }
+
+  -- ---- a connection that is underway
+
+  module _ (st : Setting) (first a : Stand S G) (old : List ℕ) (line : SessionState) (w : ConnectionUnderway step passes st first a old line) where
+    executed-more : (added : List Part) → executions (w.points ++ points_of added) ≡ asks (w.parts ++ added)
+    executed-more added = executions-append w.points (points_of added) ∙ omega (arith, w.executed, executions-of added, asks-append w.parts added)
+
+    reads-more : (added : List Part) → reads (w.points ++ points_of added) ≡ reads w.points
+    reads-more added = reads-append w.points (points_of added) ∙ omega (arith, reads-of added)
+
+    wrote-more : (b : Stand S G) (out : List ℕ) → Appends a.written b.written out → Appends first.written b.written (opening st.start ++ (w.out ++ out))
+    wrote-more b out wrote = subst (λ (x : List ℕ). Appends first.written b.written x) (append_assoc (opening st.start) w.out out) (Appends-trans first.written a.written b.written (opening st.start ++ w.out) out w.wrote wrote)
+
+    -- more parts are answered
+    underway-more : (b : Stand S G) (new : List ℕ) (next : SessionState) (added : List Part) → Gains st.start st.export old new added → SessionRepresents st.start next new → closed added ≡ false → PartsDone a b added
+        → (u : ConnectionUnderway step passes st first b new next) × (reads u.points ≡ reads w.points)
+    underway-more b new next added gains represents shut d = (
+      record {
+        parts = w.parts ++ added;
+        out = w.out ++ d.out;
         points = w.points ++ points_of added;
-        parts_are = has;
-        runs = runs-append step first.place a.place b.place had added w.out out w.runs runs;
-        is_open = closed-behind had added w.is_open ∙ shut;
-        represents = grows.1;
-        wrote = subst (λ (x : List ℕ). Appends first.written b.written x) (append_assoc (opening st.start) w.out out) (Appends-trans first.written a.written b.written (opening st.start ++ w.out) out w.wrote wrote);
-        passed = gate first.gate w.points w.passed;
-        executed = executions-append w.points (points_of added) ∙ omega (arith, w.executed, executions-of added, asks-append had added);
-        quiet = quiet ∙ w.quiet;
+        parts_are = gains_behind st.start st.export old new w.parts added w.parts_are gains;
+        runs = runs-append step first.place a.place b.place w.parts added w.out d.out w.runs d.runs;
+        is_open = closed-behind w.parts added w.is_open ∙ shut;
+        represents = represents;
+        wrote = wrote-more b d.out d.wrote;
+        passed = d.gate first.gate w.points w.passed;
+        executed = executed-more added;
+        quiet = d.quiet ∙ w.quiet;
       },
-      reads-append w.points (points_of added) ∙ omega (arith, reads-of added),
+      reads-more added,
     )
 
-pub underway-waits : {S G : Type 0} (step : Place S → Place S → Command → List ℕ → Done → Type 0) (passes : G → G → List Point → Type 0) (st : Setting) (first a b : Stand S G) (old new : List ℕ) (line next : SessionState) (added : List Part) (turn : Turn)
-    → turn ≡ Waits → (w : ConnectionUnderway step passes st first a old line) → Grows st old new added next → PassesMore passes a.gate b.gate (points_of added) → TurnedBy step a b added turn
-    → (u : ConnectionUnderway step passes st first b new next) × (reads u.points ≡ reads w.points)
-underway-waits step passes st first a b old new line next added turn e w grows gate does =
-    let T : Turn → Type 0 = λ x. TurnedBy step a b added x in
-    let d = subst T e does in
-    underway-more step passes st first a b old new line next added [] w grows gate
-    (subst (λ (x : List Part). PartsAnsweredBy step a.place x [] b.place) (sym d.0) (refl, d.1)) (ap closed d.0) d.2 d.3
-
-pub underway-answered : {S G : Type 0} (step : Place S → Place S → Command → List ℕ → Done → Type 0) (passes : G → G → List Point → Type 0) (st : Setting) (first a b : Stand S G) (old new : List ℕ) (line next : SessionState) (added : List Part) (turn : Turn)
-    → turn ≡ Answered → (w : ConnectionUnderway step passes st first a old line) → Grows st old new added next → PassesMore passes a.gate b.gate (points_of added) → TurnedBy step a b added turn
-    → (u : ConnectionUnderway step passes st first b new next) × (reads u.points ≡ reads w.points)
-underway-answered step passes st first a b old new line next added turn e w grows gate does =
-    let T : Turn → Type 0 = λ x. TurnedBy step a b added x in
-    let d = subst T e does in
-    underway-more step passes st first a b old new line next added d.0 w grows gate d.1 d.4 d.2 d.3
-
--- ---- its end
-
-pub over-closes : {S G : Type 0} (step : Place S → Place S → Command → List ℕ → Done → Type 0) (passes : G → G → List Point → Type 0) (st : Setting) (first a b : Stand S G) (old new rest all : List ℕ) (line next : SessionState) (added : List Part) (turn : Turn)
-    → turn ≡ Closes → (w : ConnectionUnderway step passes st first a old line) → Grows st old new added next → PassesMore passes a.gate b.gate (points_of added) → TurnedBy step a b added turn
-    → all ≡ new ++ rest → length all ≤ 65536 * reads w.points → ConnectionEnded step passes st first b all ClosedEnd × FailsBy ClosedEnd first.failures b.failures
-over-closes step passes st first a b old new rest all line next added turn e w grows gate does is pieces =
-    let T : Turn → Type 0 = λ x. TurnedBy step a b added x in
-    let d = subst T e does in
-    let had = w.parts in
-    let has = gains_behind st.start st.export old new had added w.parts_are grows.0 in (
+    -- the last of them closes it
+    over-closes : (b : Stand S G) (new rest all : List ℕ) (added : List Part) → Gains st.start st.export old new added → closed added ≡ true → PartsDone a b added
+        → all ≡ new ++ rest → length all ≤ 65536 * reads w.points → ConnectionEnded step passes st first b all ClosedEnd × FailsBy ClosedEnd first.failures b.failures
+    over-closes b new rest all added gains shut d is pieces = (
       record {
         cut = new;
-        parts = had ++ added;
+        parts = w.parts ++ added;
         dropped = rest;
-        out = w.out ++ d.0;
-        sent = opening st.start ++ (w.out ++ d.0);
+        out = w.out ++ d.out;
+        sent = opening st.start ++ (w.out ++ d.out);
         unsent = [];
         points = w.points ++ points_of added;
         last = b.place;
         text_is = is;
-        parts_are = has;
-        runs = runs-append step first.place a.place b.place had added w.out d.0 w.runs d.1;
+        parts_are = gains_behind st.start st.export old new w.parts added w.parts_are gains;
+        runs = runs-append step first.place a.place b.place w.parts added w.out d.out w.runs d.runs;
         out_is = sym (append-nil _);
-        wrote = subst (λ (x : List ℕ). Appends first.written b.written x) (append_assoc (opening st.start) w.out d.0) (Appends-trans first.written a.written b.written (opening st.start ++ w.out) d.0 w.wrote d.2);
-        ends = (closed-behind had added w.is_open ∙ d.4, refl, refl);
-        passed = gate first.gate w.points w.passed;
-        pieces = omega (arith, pieces, reads-append w.points (points_of added));
-        executed = executions-append w.points (points_of added) ∙ omega (arith, w.executed, executions-of added, asks-append had added);
+        wrote = wrote-more b d.out d.wrote;
+        ends = (closed-behind w.parts added w.is_open ∙ shut, refl, refl);
+        passed = d.gate first.gate w.points w.passed;
+        pieces = omega (arith, pieces, reads-more added);
+        executed = executed-more added;
       },
-      d.3 ∙ w.quiet,
+      d.quiet ∙ w.quiet,
     )
 
-pub over-output : {S G : Type 0} (step : Place S → Place S → Command → List ℕ → Done → Type 0) (passes : G → G → List Point → Type 0) (st : Setting) (first a b : Stand S G) (old new rest all : List ℕ) (line next : SessionState) (added : List Part) (turn : Turn)
-    → turn ≡ OutputFails → (w : ConnectionUnderway step passes st first a old line) → Grows st old new added next → PassesMore passes a.gate b.gate (points_of added) → TurnedBy step a b added turn
-    → all ≡ new ++ rest → length all ≤ 65536 * reads w.points → ConnectionEnded step passes st first b all Output × FailsBy Output first.failures b.failures
-over-output step passes st first a b old new rest all line next added turn e w grows gate does is pieces =
-    let T : Turn → Type 0 = λ x. TurnedBy step a b added x in
-    let d = subst T e does in
-    let had = w.parts in
-    let has = gains_behind st.start st.export old new had added w.parts_are grows.0 in (
-      record {
-        cut = new;
-        parts = had ++ added;
-        dropped = rest;
-        out = w.out ++ (d.0 ++ d.1);
-        sent = (opening st.start ++ w.out) ++ d.0;
-        unsent = d.1;
-        points = w.points ++ points_of added;
-        last = b.place;
-        text_is = is;
-        parts_are = has;
-        runs = runs-append step first.place a.place b.place had added w.out (d.0 ++ d.1) w.runs d.2;
-        out_is = sym (append_assoc (opening st.start) w.out (d.0 ++ d.1)) ∙ sym (append_assoc (opening st.start ++ w.out) d.0 d.1);
-        wrote = Appends-trans first.written a.written b.written (opening st.start ++ w.out) d.0 w.wrote d.3;
-        ends = (d.4, silent-behind had added (open-silent had w.is_open) ∙ d.5, refl);
-        passed = gate first.gate w.points w.passed;
-        pieces = omega (arith, pieces, reads-append w.points (points_of added));
-        executed = executions-append w.points (points_of added) ∙ omega (arith, w.executed, executions-of added, asks-append had added);
-      },
-      omega (arith, d.6, w.quiet),
-    )
+    -- of the last of them not all of the reply is written
+    over-output : (m b : Stand S G) (new rest all : List ℕ) (before : List Part) (part : Part) → Gains st.start st.export old new (before ++ part ∷ []) → closed before ≡ false → PartsDone a m before
+        → PartBy commands StandTells m b part false
+        → all ≡ new ++ rest → length all ≤ 65536 * reads w.points → ConnectionEnded step passes st first b all Output × FailsBy Output first.failures b.failures
+    over-output m b new rest all before part gains shut d last is pieces =
+        let f = part-fails m b part last in
+        let added = before ++ part ∷ [] in
+        let out = d.out ++ (f.0 ++ f.1) in
+        let gate = subst (λ ps. PassesMore passes a.gate b.gate ps) (sym (points-append before (part ∷ []))) (passes-both passes a.gate m.gate b.gate (points_of before) (points_of (part ∷ [])) d.gate f.7) in
+        let runs = runs-append step a.place m.place b.place before (part ∷ []) d.out (f.0 ++ f.1) d.runs (runs-one step m.place b.place part (f.0 ++ f.1) f.2) in
+        let some = f.5 in
+        let quiet = d.quiet in
+        let still = w.quiet in (
+          record {
+            cut = new;
+            parts = w.parts ++ added;
+            dropped = rest;
+            out = w.out ++ out;
+            sent = (opening st.start ++ (w.out ++ d.out)) ++ f.0;
+            unsent = f.1;
+            points = w.points ++ points_of added;
+            last = b.place;
+            text_is = is;
+            parts_are = gains_behind st.start st.export old new w.parts added w.parts_are gains;
+            runs = runs-append step first.place a.place b.place w.parts added w.out out w.runs runs;
+            out_is = ap (λ (x : List ℕ). opening st.start ++ x) (sym (append_assoc w.out d.out (f.0 ++ f.1)))
+                ∙ (sym (append_assoc (opening st.start) (w.out ++ d.out) (f.0 ++ f.1)) ∙ sym (append_assoc (opening st.start ++ (w.out ++ d.out)) f.0 f.1));
+            wrote = Appends-trans first.written m.written b.written (opening st.start ++ (w.out ++ d.out)) f.0 (wrote-more m d.out d.wrote) f.3;
+            ends = (f.4, silent-behind w.parts added (open-silent w.parts w.is_open) ∙ silent-end before part shut f.6, refl);
+            passed = gate first.gate w.points w.passed;
+            pieces = omega (arith, pieces, reads-more added);
+            executed = executed-more added;
+          },
+          omega (arith, some, quiet, still),
+        )
 
-pub over-lost : {S G : Type 0} (step : Place S → Place S → Command → List ℕ → Done → Type 0) (passes : G → G → List Point → Type 0) (st : Setting) (first a b : Stand S G) (old x rest all : List ℕ) (line next : SessionState) (added : List Part) (turn : Turn)
-    → turn ≡ Loses → (w : ConnectionUnderway step passes st first a old line) → Grows st old (old ++ x) added next → PassesMore passes a.gate b.gate (points_of added) → TurnedBy step a b added turn
-    → all ≡ (old ++ x) ++ rest → length all ≤ 65536 * reads w.points → ConnectionEnded step passes st first b all LostEnd × FailsBy LostEnd first.failures b.failures
-over-lost step passes st first a b old x rest all line next added turn e w grows gate does is pieces =
-    let T : Turn → Type 0 = λ x. TurnedBy step a b added x in
-    let d = subst T e does in (
-      record {
-        cut = old;
-        parts = w.parts;
-        dropped = x ++ rest;
-        out = w.out;
-        sent = opening st.start ++ w.out;
-        unsent = [];
-        points = w.points ++ points_of added;
-        last = a.place;
-        text_is = is ∙ append_assoc old x rest;
-        parts_are = w.parts_are;
-        runs = w.runs;
-        out_is = sym (append-nil _);
-        wrote = subst (λ (y : List ℕ). Appends first.written b.written y) (append-nil _) (Appends-trans first.written a.written b.written (opening st.start ++ w.out) [] w.wrote d.4);
-        ends = (refl, record { unit = x; others = rest; command = d.0; payload = d.1; ahead_is = refl; next = subst (λ (ps : List Part). Gains st.start st.export old (old ++ x) ps) d.2 grows.0; taken = d.3 });
-        passed = gate first.gate w.points w.passed;
-        pieces = omega (arith, pieces, reads-append w.points (points_of added));
-        executed = executions-append w.points (points_of added) ∙ omega (arith, w.executed, executions-of added, ap asks d.2);
-      },
-      d.5 ∙ w.quiet,
-    )
+    -- the command behind them is lost
+    over-lost : (m b : Stand S G) (done unit others all : List ℕ) (before : List Part) (part : Part) → Gains st.start st.export old (old ++ done) before
+        → Gains st.start st.export (old ++ done) ((old ++ done) ++ unit) (part ∷ []) → closed before ≡ false → PartsDone a m before → LosesPart commands m b part
+        → all ≡ (old ++ done) ++ (unit ++ others) → length all ≤ 65536 * reads w.points → ConnectionEnded step passes st first b all LostEnd × FailsBy LostEnd first.failures b.failures
+    over-lost m b done unit others all before part gains one shut d last is pieces =
+        let f = part-lost m b part last in
+        let added = before ++ part ∷ [] in
+        let gate = subst (λ ps. PassesMore passes a.gate b.gate ps) (sym (points-append before (part ∷ []))) (passes-both passes a.gate m.gate b.gate (points_of before) (points_of (part ∷ [])) d.gate f.6) in
+        let count : asks (part ∷ []) ≡ 1 = ap (λ (p : Part). asks (p ∷ [])) f.2 in (
+          record {
+            cut = old ++ done;
+            parts = w.parts ++ before;
+            dropped = unit ++ others;
+            out = w.out ++ d.out;
+            sent = opening st.start ++ (w.out ++ d.out);
+            unsent = [];
+            points = w.points ++ points_of added;
+            last = m.place;
+            text_is = is;
+            parts_are = gains_behind st.start st.export old (old ++ done) w.parts before w.parts_are gains;
+            runs = runs-append step first.place a.place m.place w.parts before w.out d.out w.runs d.runs;
+            out_is = sym (append-nil _);
+            wrote = subst (λ x. Appends first.written x (opening st.start ++ (w.out ++ d.out))) (sym f.4) (wrote-more m d.out d.wrote);
+            ends = (
+              refl,
+              record {
+                unit = unit;
+                others = others;
+                command = f.0;
+                payload = f.1;
+                ahead_is = refl;
+                next = subst (λ (p : Part). Gains st.start st.export (old ++ done) ((old ++ done) ++ unit) (p ∷ [])) f.2 one;
+                taken = f.3;
+              },
+            );
+            passed = gate first.gate w.points w.passed;
+            pieces = omega (arith, pieces, reads-more added);
+            executed = executed-more added ∙ omega (arith, asks-append w.parts added, asks-append w.parts before, asks-append before (part ∷ []), count);
+          },
+          f.5 ∙ (d.quiet ∙ w.quiet),
+        )
 
--- what is left of a piece
-pub left-after : (piece taken rest : List ℕ) (used : ℕ) → piece ≡ taken ++ rest → piece ≡ (taken ++ take used rest) ++ take (length rest - used) (drop used rest)
-left-after piece taken rest used is =
-    is ∙ ap (λ (y : List ℕ). taken ++ y) (sym (take-append-drop used rest)) ∙ sym (append_assoc taken (take used rest) (drop used rest)) ∙ ap (λ (y : List ℕ). (taken ++ take used rest) ++ y) (sym (take_rest rest used))
+  -- ---- a piece
 
--- all of a piece is taken where nothing is left of it
-pub whole-piece : (piece taken rest : List ℕ) → piece ≡ taken ++ rest → true ≡ (length rest == 0) → taken ≡ piece
-whole-piece piece taken [] is none = sym (is ∙ append-nil taken)
-whole-piece piece taken (x ∷ xs) is none = let h = eqb-true _ _ (sym none) in absurd (omega arith)
+  -- the same connection, of an equal text
+  underway-at : (st : Setting) (first a : Stand S G) (text same : List ℕ) (line : SessionState) (n : ℕ) → text ≡ same
+      → (w : ConnectionUnderway step passes st first a text line) → n ≤ 65536 * reads w.points → (u : ConnectionUnderway step passes st first a same line) × (n ≤ 65536 * reads u.points)
+  underway-at st first a text same line n e w pieces =
+      let P : List ℕ → Type 0 = λ x. (u : ConnectionUnderway step passes st first a x line) × (n ≤ 65536 * reads u.points) in
+      subst P e (w, pieces)
 
--- a text and a piece behind it, by what is taken of the piece
-pub text-after : (text piece taken rest : List ℕ) (used : ℕ) → piece ≡ taken ++ rest → text ++ piece ≡ ((text ++ taken) ++ take used rest) ++ drop used rest
-text-after text piece taken rest used is =
-    ap (λ (y : List ℕ). text ++ y) (is ∙ ap (λ (y : List ℕ). taken ++ y) (sym (take-append-drop used rest))) ∙ sym (append_assoc text taken (take used rest ++ drop used rest)) ∙ sym (append_assoc (text ++ taken) (take used rest) (drop used rest))
+  module _ (export : Export) (a b : Stand S G) (old new : SessionState) (piece : List ℕ) (open-still : is_closed old ≡ false) (same : old.export ≡ export) where
+    whole-text : (text done ahead : List ℕ) → piece ≡ done ++ ahead → text ++ piece ≡ (text ++ done) ++ ahead
+    whole-text text done ahead is = ap (λ (x : List ℕ). text ++ x) is ∙ sym (append_assoc text done ahead)
 
--- the same connection, of an equal text
-pub underway-at : {S G : Type 0} (step : Place S → Place S → Command → List ℕ → Done → Type 0) (passes : G → G → List Point → Type 0) (st : Setting) (first a : Stand S G) (text same : List ℕ) (line : SessionState) (n : ℕ) → text ≡ same
-    → (w : ConnectionUnderway step passes st first a text line) → n ≤ 65536 * reads w.points → (u : ConnectionUnderway step passes st first a same line) × (n ≤ 65536 * reads u.points)
-underway-at step passes st first a text same line n e w pieces =
-    let P : List ℕ → Type 0 = λ x. (u : ConnectionUnderway step passes st first a x line) × (n ≤ 65536 * reads u.points) in
-    subst P e (w, pieces)
+    pub says-open : PieceTaken commands StandTells a b old new piece Open → PieceSays step passes export a b old new piece None
+    says-open x = record {
+      says = λ start text first w pieces.
+          let r = x.reached in
+          let st = setting start export in
+          let d = parts-done a b r.parts (subst (λ p. PartsBy commands StandTells a p r.parts) (sym x.ends.1) x.runs) in
+          let gains = subst (λ n. Gains start n text (text ++ r.done) r.parts) same (x.gains start text open-still w.represents) in
+          let u = underway-more st first a text old w b (text ++ r.done) new r.parts gains (x.ends.3 start text open-still w.represents) x.ends.0 d in
+          let all : text ++ r.done ≡ text ++ piece = sym (whole-text text r.done r.ahead x.bytes_are ∙ (ap (λ (l : List ℕ). (text ++ r.done) ++ l) x.ends.2 ∙ append-nil (text ++ r.done))) in
+          let count = u.1 in
+          underway-at st first b (text ++ r.done) (text ++ piece) new (length (text ++ piece)) all u.0 (omega (arith, pieces, count));
+    }
+
+    pub says-closed : PieceTaken commands StandTells a b old new piece Closed → PieceSays step passes export a b old new piece (Some ClosedEnd)
+    says-closed x = record {
+      says = λ start text first w pieces.
+          let r = x.reached in
+          let d = parts-done a b r.parts (subst (λ p. PartsBy commands StandTells a p r.parts) (sym x.ends.1) x.runs) in
+          let gains = subst (λ n. Gains start n text (text ++ r.done) r.parts) same (x.gains start text open-still w.represents) in
+          over-closes (setting start export) first a text old w b (text ++ r.done) r.ahead (text ++ piece) r.parts gains x.ends.0 d (whole-text text r.done r.ahead x.bytes_are) pieces;
+    }
+
+    pub says-output : PieceTaken commands StandTells a b old new piece OutputFailed → PieceSays step passes export a b old new piece (Some Output)
+    says-output x = record {
+      says = λ start text first w pieces.
+          let r = x.reached in
+          let e = x.ends.1 in
+          let mid = text ++ r.done in
+          let d = parts-done a r.peer r.parts x.runs in
+          let gains = subst (λ n. Gains start n text (mid ++ e.unit) (r.parts ++ e.part ∷ [])) same
+          (gains_both start old.export text mid (mid ++ e.unit) r.parts (e.part ∷ []) (x.gains start text open-still w.represents) (e.gains start text open-still w.represents)) in
+          let is = whole-text text r.done r.ahead x.bytes_are ∙ (ap (λ (l : List ℕ). mid ++ l) e.ahead_is ∙ sym (append_assoc mid e.unit e.others)) in
+          over-output (setting start export) first a text old w r.peer b (mid ++ e.unit) e.others (text ++ piece) r.parts e.part gains x.ends.0 d e.ends is pieces;
+    }
+
+    pub says-lost : PieceTaken commands StandTells a b old new piece LostPiece → PieceSays step passes export a b old new piece (Some LostEnd)
+    says-lost x = record {
+      says = λ start text first w pieces.
+          let r = x.reached in
+          let e = x.ends.1 in
+          let mid = text ++ r.done in
+          let d = parts-done a r.peer r.parts x.runs in
+          let gains = subst (λ n. Gains start n text mid r.parts) same (x.gains start text open-still w.represents) in
+          let one = subst (λ n. Gains start n mid (mid ++ e.unit) (e.part ∷ [])) same (e.gains start text open-still w.represents) in
+          let is = whole-text text r.done r.ahead x.bytes_are ∙ ap (λ (l : List ℕ). mid ++ l) e.ahead_is in
+          over-lost (setting start export) first a text old w r.peer b r.done e.unit e.others (text ++ piece) r.parts e.part gains one x.ends.0 d e.ends is pieces;
+    }

@@ -8,9 +8,9 @@ use Rattle.nbd_wire.specs.declared.command.Command.{Command}
 use Rattle.nbd_transmission.specs.Apply.{reply_with}
 use Rattle.session.specs.Sessions.{opening}
 use Rattle.session.specs.Parts.{Part, Told, ForDisk, Last, Gains, IsPartsOf, closed, ends_silently}
-use Rattle.share.specs.declared.connection.End.{End}
-use Rattle.share.specs.declared.connection.End.TheVariants.{Closed as ClosedEnd, EndOfInput, Input}
-use Rattle.share.specs.declared.connection.End.TheVariants.{Output, Lost as LostEnd, OutOfMemory}
+use Rattle.share.specs.declared.attending.End.{End}
+use Rattle.share.specs.declared.attending.End.TheVariants.{Closed as ClosedEnd, EndOfInput, Input}
+use Rattle.share.specs.declared.attending.End.TheVariants.{Output, Lost as LostEnd, OutOfMemory}
 use Rattle.share.specs.declared.door.Point.{Point}
 use Rattle.share.specs.declared.shared.Done.{Done}
 use Rattle.share.specs.declared.shared.Done.TheVariants.{Replied, Lost}

@@ -1,68 +1,47 @@
--- What a turn, and a piece, of a connection does. Words of private functions: no claim rests on
+-- What a command, and a piece, of a connection does. Words of private functions: no claim rests on
 -- them. Source: own.
-use Rattle.std.specs.Prelude.{◌≡◌, ℕ, ◌*◌, ◌<◌, ◌≤◌, List, [], ◌∷◌, ◌++◌, length, Bool, true, false}
+use Rattle.std.specs.Prelude.{◌≡◌, ℕ, ◌*◌, ◌≤◌, List, [], ◌∷◌, ◌++◌, length, Bool, true, false}
 use Rattle.std.specs.Prelude.{Option, Some, None}
 use Rattle.std.specs.Io.KnownBytes.{Appends}
+use Rattle.block_device.specs.Streams.{FailsToSend}
 use Rattle.nbd_wire.specs.declared.command.Command.{Command}
+use Rattle.nbd_wire.specs.declared.export.Export.{Export}
+use Rattle.nbd_wire.specs.declared.phase.Phase.{Phase}
 use Rattle.session.specs.Sessions.{SessionState, SessionRepresents, opening}
-use Rattle.session.specs.Parts.{Part, ForDisk, Gains, IsPartsOf, closed, ends_silently}
-use Rattle.share.specs.declared.connection.End.{End}
-use Rattle.share.specs.declared.connection.Turn.{Turn}
-use Rattle.share.specs.declared.connection.Turn.TheVariants.{Waits, Answered, Closes, OutputFails}
-use Rattle.share.specs.declared.connection.Turn.TheVariants.{Loses}
+use Rattle.session.specs.Parts.{Part, IsPartsOf, closed}
+use Rattle.connection.specs.declared.peer.Fate.{Fate}
+use Rattle.connection.specs.declared.peer.Fate.TheVariants.{Replied, Untaken, Lost}
+use Rattle.share.specs.declared.attending.End.{End}
 use Rattle.share.specs.declared.door.Point.{Point}
+use Rattle.share.specs.declared.door.Point.TheVariants.{Execute}
 use Rattle.share.specs.declared.shared.Done.{Done}
-use Rattle.share.specs.Places.{Place, Stand, Setting, asks, executions, reads}
+use Rattle.share.specs.Places.{PassesMore, Place, Stand, Setting, asks, executions, reads, setting}
 use Rattle.share.specs.Connection.{Executed, ExecutedAndLost, PartsAnsweredBy, ConnectionEnded}
 use Rattle.share.specs.Connection.{FailsBy}
 
--- what became of a command
-abbrev pub CommandTurn : {S G : Type 0} → (Place S → Place S → Command → List ℕ → Done → Type 0)
-    → Stand S G → Stand S G → Command → List ℕ → Turn → Type 0
-CommandTurn step a b command payload Waits = ⊥
-CommandTurn step a b command payload Answered =
+-- what became of a command, before which the gate was passed
+abbrev pub FateBy : {S G : Type 0} → (Place S → Place S → Command → List ℕ → Done → Type 0)
+    → Stand S G → Stand S G → Command → List ℕ → Fate → Type 0
+FateBy step a b command payload Replied =
     (out : List ℕ) × Executed step a.place b.place command payload out
     × Appends a.written b.written out × (b.failures ≡ a.failures)
-CommandTurn step a b command payload Closes = ⊥
-CommandTurn step a b command payload OutputFails =
-    (sent : List ℕ) × (unsent : List ℕ)
-    × Executed step a.place b.place command payload (sent ++ unsent)
-    × Appends a.written b.written sent × (0 < length unsent) × (a.failures < b.failures)
-CommandTurn step a b command payload Loses = ExecutedAndLost step a.place b.place command payload
-    × Appends a.written b.written [] × (b.failures ≡ a.failures)
+FateBy step a b command payload Untaken =
+    (out : List ℕ) × Executed step a.place b.place command payload out
+    × FailsToSend a.written a.failures out b.written b.failures
+FateBy step a b command payload Lost = ExecutedAndLost step a.place b.place command payload
+    × (b.written ≡ a.written) × (b.failures ≡ a.failures)
 
--- what became of the parts that a turn added
-abbrev pub TurnedBy : {S G : Type 0} → (Place S → Place S → Command → List ℕ → Done → Type 0)
-    → Stand S G → Stand S G → List Part → Turn → Type 0
-TurnedBy step a b added Waits = (added ≡ []) × (b.place ≡ a.place) × Appends a.written b.written []
-    × (b.failures ≡ a.failures)
-TurnedBy step a b added Answered =
-    (out : List ℕ) × PartsAnsweredBy step a.place added out b.place
-    × Appends a.written b.written out × (b.failures ≡ a.failures) × (closed added ≡ false)
-TurnedBy step a b added Closes =
-    (out : List ℕ) × PartsAnsweredBy step a.place added out b.place
-    × Appends a.written b.written out × (b.failures ≡ a.failures) × (closed added ≡ true)
-TurnedBy step a b added OutputFails =
-    (sent : List ℕ) × (unsent : List ℕ)
-    × PartsAnsweredBy step a.place added (sent ++ unsent) b.place × Appends a.written b.written sent
-    × (0 < length unsent) × (ends_silently added ≡ false) × (a.failures < b.failures)
-TurnedBy step a b added Loses =
-    (command : Command) × (payload : List ℕ) × (added ≡ ForDisk command payload ∷ [])
-    × ExecutedAndLost step a.place b.place command payload
-    × Appends a.written b.written [] × (b.failures ≡ a.failures)
+abbrev pub CommandTurn : {S G : Type 0} → (Place S → Place S → Command → List ℕ → Done → Type 0)
+    → (G → G → List Point → Type 0) → Stand S G → Stand S G → Command → List ℕ → Fate → Type 0
+CommandTurn step passes a b command payload fate =
+    FateBy step a b command payload fate × PassesMore passes a.gate b.gate (Execute ∷ [])
 
--- a text that grows from old to new gains these parts, and the session represents the longer text
-abbrev pub Grows : Setting → List ℕ → List ℕ → List Part → SessionState → Type 0
-Grows setting old new added line =
-    Gains setting.start setting.export old new added × SessionRepresents setting.start line new
-
--- a turn after which the connection goes on
-abbrev pub goes_on : Turn → Bool
-goes_on Waits = true
-goes_on Answered = true
-goes_on Closes = false
-goes_on OutputFails = false
-goes_on Loses = false
+-- a reply is written, or a beginning of it, and the place and the gate are as they were
+abbrev pub StandTells : {S G : Type 0} → Stand S G → Stand S G → List ℕ → Bool → Type 0
+StandTells a b reply true = (b.place ≡ a.place) × (b.gate ≡ a.gate)
+    × Appends a.written b.written reply × (b.failures ≡ a.failures)
+StandTells a b reply false = (b.place ≡ a.place) × (b.gate ≡ a.gate)
+    × FailsToSend a.written a.failures reply b.written b.failures
 
 -- What stands after these bytes of a connection: all that is complete is answered, and the session
 -- represents them.
@@ -91,3 +70,12 @@ PieceBy step passes setting a b text line None =
     × (length text ≤ 65536 * reads w.points)
 PieceBy step passes setting a b text line (Some end) =
     ConnectionEnded step passes setting a b text end × FailsBy end a.failures b.failures
+
+-- the same of every connection that was underway, of pieces of at most 65,536 bytes
+pub record PieceSays {S G : Type 0} (step : Place S → Place S → Command → List ℕ → Done → Type 0)
+    (passes : G → G → List Point → Type 0) (export : Export) (a b : Stand S G)
+    (old new : SessionState) (piece : List ℕ) (result : Option End) : Type 0 where
+  pub says : (start : Phase) (text : List ℕ) (first : Stand S G)
+      → (w : ConnectionUnderway step passes (setting start export) first a text old)
+      → length (text ++ piece) ≤ 65536 * reads w.points
+      → PieceBy step passes (setting start export) first b (text ++ piece) new result

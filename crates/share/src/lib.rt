@@ -17,8 +17,9 @@
 #![tactic(auto)]
 
 mod alone;
+mod attendant;
+mod attending;
 mod chronicle;
-mod connection;
 mod door;
 mod keeping;
 mod locked;
@@ -27,8 +28,8 @@ mod recorder;
 mod shared;
 
 pub use alone::{exchange_alone, exchange_plain, plain_replies, worker_alone};
+pub use attending::{End, exchange, worker};
 pub use chronicle::{Chronicle, RowParts, RowSaid, told_rows};
-pub use connection::{End, exchange, worker};
 pub use door::{Door, Gate, Point};
 pub use keeping::keeper;
 pub use locked::{Locked, Server, Tidier};

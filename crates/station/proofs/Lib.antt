@@ -1,10 +1,10 @@
-mod Turns
 mod Pieces
 mod Lines
 mod Moving
 mod Piecing
 mod Ending
 mod Telling
+mod Responding
 mod Plainly
 mod Filling
 mod Refusing

@@ -1,6 +1,6 @@
--- What one unit, and one piece, of a connection does: the layer below an event. Words of private
+-- What one piece of a connection does: the layer below an event. Words of private
 -- functions: no claim rests on them. Source: own.
-use Rattle.std.specs.Prelude.{◌≡◌, ℕ, ◌<◌, ◌≤◌, Bool, true, false, List, [], ◌∷◌, ◌++◌, length}
+use Rattle.std.specs.Prelude.{◌≡◌, ℕ, ◌<◌, true, false, List, [], ◌∷◌, ◌++◌, length}
 use Rattle.std.specs.Prelude.{Option}
 use Rattle.std.specs.Io.KnownBytes.{Appends}
 use Rattle.block_device.specs.Facts.{Facts}
@@ -8,14 +8,11 @@ use Rattle.block_device.specs.Contents.{Outcome}
 use Rattle.nbd_wire.specs.declared.command.Command.{Command}
 use Rattle.nbd_wire.specs.Commands.{touches_chip}
 use Rattle.nbd_transmission.specs.Apply.{applied}
-use Rattle.nbd_wire.specs.declared.phase.Phase.TheVariants.{AwaitingFlags}
 use Rattle.session.specs.Sessions.{SessionState}
-use Rattle.session.specs.Parts.{Part, ForDisk, Gains, closes, closed}
-use Rattle.station.specs.declared.piece.Turn.{Turn}
-use Rattle.station.specs.declared.piece.Turn.TheVariants.{Waits, Answered, Closes, Loses}
+use Rattle.session.specs.Parts.{Part, ForDisk, closed}
 use Rattle.station.specs.declared.piece.Ending.{Ending}
 use Rattle.station.specs.declared.piece.Ending.TheVariants.{Stays, Shut, Lost}
-use Rattle.station.specs.Answers.{reply_of_part, after_part, after_parts, replies}
+use Rattle.station.specs.Answers.{reply_of_part, after_parts, replies}
 use Rattle.station.specs.Records.{replied}
 use Rattle.station.specs.World.{Lacked}
 use Rattle.station.specs.Board.{ServesText}
@@ -33,67 +30,6 @@ pub record IsRunQuiet (old new : Facts) : Type 0 where
   pub cut : old.cut ≡ false
   pub slow : old.slow ≡ false
   pub slows : new.slows ≡ old.slows
-
--- the power is still there, or it went just now
-abbrev pub PowerAfter : Turn → Facts → Facts → Type 0
-PowerAfter Waits old new = new.cut ≡ false
-PowerAfter Answered old new = new.cut ≡ false
-PowerAfter Closes old new = new.cut ≡ false
-PowerAfter Loses old new = (new.cut ≡ true) × (old.cuts < new.cuts)
-
--- one part more of a text is answered
-pub record OnePart (who : ℕ) (old : Desk) (text longer out disk : List ℕ)
-    (closing : Bool) : Type 0 where
-  pub part : Part
-  pub gains : Gains AwaitingFlags old.line.export text longer (part ∷ [])
-  pub is_closing : closes part ≡ closing
-  pub out_is : out ≡ replied who (reply_of_part old.line.export old.disk.contents part)
-  pub disk_is : disk ≡ after_part old.line.export old.disk.contents part
-
--- an accepted command with a range is interrupted
-pub record LostPart (old : Desk) (text longer out disk : List ℕ) : Type 0 where
-  pub command : Command
-  pub payload : List ℕ
-  pub gains : Gains AwaitingFlags old.line.export text longer (ForDisk command payload ∷ [])
-  pub touches : touches_chip command.kind ≡ true
-  pub out_is : out ≡ []
-  pub outcome : Outcome old.disk.contents
-      (applied old.line.export old.disk.contents command payload) disk
-
--- what a turn says of a text that grew
-abbrev pub TurnSays : ℕ → Desk → Desk → List ℕ → List ℕ → List ℕ → Turn → Type 0
-TurnSays who old new text longer out Waits =
-    Gains AwaitingFlags old.line.export text longer [] × (out ≡ [])
-    × (new.disk.contents ≡ old.disk.contents) × ServesText new.line longer
-TurnSays who old new text longer out Answered =
-    OnePart who old text longer out new.disk.contents false × ServesText new.line longer
-TurnSays who old new text longer out Closes = OnePart who old text longer out new.disk.contents true
-TurnSays who old new text longer out Loses = LostPart old text longer out new.disk.contents
-
--- what a turn that took these bytes does
-pub record Turned (who : ℕ) (old new : Desk) (turn : Turn) (bytes : List ℕ) : Type 0 where
-  pub power : PowerAfter turn old.disk new.disk
-  pub slow : new.disk.slow ≡ false
-  pub says : (text : List ℕ) → ServesText old.line text →
-      (out : List ℕ) × Appends old.written new.written out
-      × TurnSays who old new text (text ++ bytes) out turn
-
--- The output fails in a turn: a part was answered, and a beginning of its reply's record was taken.
-pub record PartHalts (who : ℕ) (old new : Desk) (text bytes : List ℕ) : Type 0 where
-  pub part : Part
-  pub rest : List Part
-  pub out : List ℕ
-  pub unsent : List ℕ
-  pub missing : 0 < length unsent
-  pub lacked : Lacked old.line.export text bytes (part ∷ rest)
-  pub appends : Appends old.written new.written out
-  pub out_is : replied who (reply_of_part old.line.export old.disk.contents part) ≡ out ++ unsent
-  pub disk_is : new.disk.contents ≡ after_part old.line.export old.disk.contents part
-
-pub record TurnHalts (who : ℕ) (old new : Desk) (bytes : List ℕ) : Type 0 where
-  pub power : new.disk.cut ≡ false
-  pub slow : new.disk.slow ≡ false
-  pub says : (text : List ℕ) → ServesText old.line text → PartHalts who old new text bytes
 
 -- these parts more are answered
 pub record SomeParts (who : ℕ) (old : Desk) (text bytes out disk : List ℕ)
@@ -161,20 +97,3 @@ pub record PieceHalts (who : ℕ) (old new : Desk) (bytes : List ℕ) : Type 0 w
   pub power : new.disk.cut ≡ false
   pub slow : new.disk.slow ≡ false
   pub says : (text : List ℕ) → ServesText old.line text → PartsHalt who old new text bytes
-
--- a piece in its midst, where the rest of its bytes isn't taken yet
-pub record SoFar (who : ℕ) (old now : Desk) (text bytes rest : List ℕ) : Type 0 where
-  pub used : List ℕ
-  pub more : List Part
-  pub out : List ℕ
-  pub split : bytes ≡ used ++ rest
-  pub appends : Appends old.written now.written out
-  pub still : closed more ≡ false
-  pub answered : SomeParts who old text used out now.disk.contents more
-  pub serves : ServesText now.line (text ++ used)
-
-pub record PieceUnderway (who : ℕ) (old now : Desk) (bytes rest : List ℕ) : Type 0 where
-  pub cut : now.disk.cut ≡ false
-  pub slow : now.disk.slow ≡ false
-  pub cuts : old.disk.cuts ≤ now.disk.cuts
-  pub text : (text : List ℕ) → ServesText old.line text → SoFar who old now text bytes rest

@@ -15,12 +15,12 @@
 //! Source: own; the replies are those of NBD proto.md, by the sessions.
 #![tactic(auto)]
 
-mod command;
 mod entries;
 mod event;
 mod hub;
 mod laws;
 mod piece;
+mod responder;
 mod script;
 mod station;
 

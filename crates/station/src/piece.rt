@@ -1,31 +1,17 @@
 //! Pieces of one connection's bytes.
 
 ghost use Rattle.std.specs.Io.KnownBytes.{Appends};
-ghost use Rattle.std.specs.Prelude.{◌≡◌, ◌<◌, ◌≤◌, ◌*◌, ℕ, List, false, length, take, IfOk, OnErr};
-ghost use Rattle.std.specs.Prelude.{OnOk};
+ghost use Rattle.std.specs.Prelude.{◌≡◌, ◌*◌, ℕ, List, length, IfOk, OnErr, OnOk};
 ghost use Rattle.block_device.specs.Facts.{CountsNeverFall};
-ghost use Rattle.session.specs.Sessions.{is_closed};
+ghost use Rattle.station.specs.Responding.{PostTakes};
 ghost use Rattle.station.specs.Running.{FailsOnly};
 ghost use Rattle.station.specs.Telling.{SlowComes};
-ghost use Rattle.station.specs.Turning.{IsRunQuiet, Turned, TurnHalts, Pieced, PieceHalts};
+ghost use Rattle.station.specs.Turning.{IsRunQuiet, Pieced, PieceHalts};
 
-use crate::command::run_command;
-use crate::entries::tell;
-use block_device::{Disk, DiskError, Failed, Sink};
-use session::{Next, Session};
-
-/// How far a connection came with some bytes.
-#[derive(Clone, Copy, Debug, PartialEq, Eq, Drop)]
-pub(crate) enum Turn {
-    /// All bytes are used, and the unit begun is not complete.
-    Waits,
-    /// A unit was answered.
-    Answered,
-    /// The last unit was answered.
-    Closes,
-    /// The power went.
-    Loses,
-}
+use crate::responder::Responder;
+use block_device::{Disk, Failed, Sink};
+use connection::{Progress, answer_piece};
+use session::Session;
 
 /// What became of a connection with a piece.
 #[derive(Clone, Copy, Debug, PartialEq, Eq, Drop)]
@@ -36,61 +22,6 @@ pub(crate) enum Ending {
     Shut,
     /// The power went.
     Lost,
-}
-
-/// Takes bytes of at most one unit, and answers it where it is complete. Answers how many bytes
-/// were used.
-pub(crate) fn take_turn<D: Disk, W: Sink>(
-    disk: &mut D,
-    session: &mut Session,
-    who: u8,
-    bytes: &[u8],
-    out: &mut W,
-) -> Result<(usize, Turn), Failed>
-    requires size { length (D.facts disk.old).contents ≡ 512 * session.old.export.sectors }
-    ensures used { IfOk result (λ r. r.0 ≤ length bytes.now) }
-    ensures waits { IfOk result (λ r. r.1 ≡ Turn.Waits → r.0 ≡ length bytes.now) }
-    ensures progress { IfOk result (λ r. r.1 ≡ Turn.Answered → 0 < length bytes.now → 0 < r.0) }
-    ensures export { session.new.export ≡ session.old.export }
-    ensures memory { session.new.memory ≡ session.old.memory }
-    ensures sound { (D.facts disk.new).sound ≡ (D.facts disk.old).sound }
-    ensures goes { CountsNeverFall (D.facts disk.old) (D.facts disk.new) }
-    ensures slow { SlowComes (D.facts disk.old) (D.facts disk.new) }
-    ensures wrote { OnOk result ((wrote : List ℕ)
-        × Appends (W.written out.old) (W.written out.new) wrote) }
-    ensures faults { FailsOnly (W.faults out.old) result (W.faults out.new) }
-    ensures says { IsRunQuiet (D.facts disk.old) (D.facts disk.new) → IfOk result (λ r. Turned who
-        (record { disk = D.facts disk.old; line = session.old; written = W.written out.old })
-        (record { disk = D.facts disk.new; line = session.new; written = W.written out.new }) r.1
-        (take r.0 bytes.now)) }
-    ensures halts { IsRunQuiet (D.facts disk.old) (D.facts disk.new) → OnErr result (TurnHalts who
-        (record { disk = D.facts disk.old; line = session.old; written = W.written out.old })
-        (record { disk = D.facts disk.new; line = session.new; written = W.written out.new })
-        bytes.now) }
-{
-    let taken = session.take(bytes);
-    match taken.next {
-        Next::More => Ok((taken.used, Turn::Waits)),
-        Next::Reply => {
-            tell(out, who, session.reply())?;
-            Ok((taken.used, Turn::Answered))
-        }
-        Next::Close => {
-            tell(out, who, session.reply())?;
-            Ok((taken.used, Turn::Closes))
-        }
-        Next::Run(command) => match run_command(disk, session, &command) {
-            Ok(()) => {
-                tell(out, who, session.reply())?;
-                Ok((taken.used, Turn::Answered))
-            }
-            Err(DiskError::Slow) => {
-                tell(out, who, session.reply())?;
-                Ok((taken.used, Turn::Answered))
-            }
-            Err(DiskError::Cut) => Ok((taken.used, Turn::Loses)),
-        },
-    }
 }
 
 /// Takes a whole piece, and answers each unit that it completes, up to one that closes the
@@ -121,16 +52,49 @@ pub(crate) fn take_piece<D: Disk, W: Sink>(
         (record { disk = D.facts disk.new; line = session.new; written = W.written out.new })
         bytes.now) }
 {
-    let mut rest = bytes;
-    while !rest.is_empty() {
-        let (used, turn) = take_turn(disk, session, who, rest, out)?;
-        rest = &rest[used..];
-        match turn {
-            Turn::Waits => {}
-            Turn::Answered => {}
-            Turn::Closes => return Ok(Ending::Shut),
-            Turn::Loses => return Ok(Ending::Lost),
-        }
+    let export = session.export();
+    let mut responder = Responder {
+        disk,
+        out,
+        who,
+        export,
+    };
+    respond(&mut responder, session, bytes)
+}
+
+/// Has a responder answer a piece.
+fn respond<D: Disk, W: Sink>(
+    responder: &mut Responder<'_, '_, D, W>,
+    session: &mut Session,
+    bytes: &[u8],
+) -> Result<Ending, Failed>
+    requires size { length (D.facts responder.old.disk.now).contents
+        ≡ 512 * responder.old.export.sectors }
+    requires export { responder.old.export ≡ session.old.export }
+    ensures disk { responder.new.disk.ghost_name ≡ responder.old.disk.ghost_name }
+    ensures out { responder.new.out.ghost_name ≡ responder.old.out.ghost_name }
+    ensures export { session.new.export ≡ session.old.export }
+    ensures memory { session.new.memory ≡ session.old.memory }
+    ensures takes { PostTakes
+        (record {
+          who = responder.old.who;
+          export = responder.old.export;
+          disk = D.facts responder.old.disk.now;
+          written = W.written responder.old.out.now;
+          faults = W.faults responder.old.out.now;
+        })
+        (record {
+          who = responder.new.who;
+          export = responder.new.export;
+          disk = D.facts responder.new.disk.now;
+          written = W.written responder.new.out.now;
+          faults = W.faults responder.new.out.now;
+        }) session.old session.new bytes.now result }
+{
+    match answer_piece(responder, session, bytes) {
+        Progress::Open => Ok(Ending::Stays),
+        Progress::Closed => Ok(Ending::Shut),
+        Progress::OutputFailed => Err(Failed),
+        Progress::Lost => Ok(Ending::Lost),
     }
-    Ok(Ending::Stays)
 }

@@ -1,4 +1,4 @@
-use Rattle.std.proofs.Common.{arith, rules}
+use Rattle.std.proofs.Common.{◌≡◌, ◌+◌, ◌<◌, length, arith, rules}
 use Rattle.session.proofs.Lends.{lent_fits}
 use Rattle.session.proofs.session.Session.buffer.Goals as goal
 
@@ -10,4 +10,11 @@ slice_mut-requires-clause-in_bounds c =
     omega (arith, fits, len, size)
 
 pub returns : goal.returns
-returns c = search rules
+returns c =
+    let room = lent_fits c.self.inside.export c.self.inside.running c.self.invariant.runs in
+    let len = c.lent_len-len.ensures in
+    let size = c.self.invariant.size in
+    let most = c.self.invariant.most in
+    let lent : length c.slice_mut.result.now ≡ c.lent_len-len.result = search rules in
+    let fits : 16 + length c.slice_mut.result.now < 4294967296 = omega (arith, room, len, size, most, lent) in
+    search rules

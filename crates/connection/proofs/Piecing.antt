@@ -1,0 +1,133 @@
+-- a piece goes on by one turn
+use Rattle.std.proofs.Common.{◌==◌, length, arith, ◌≡◌, ℕ, Bool, true, false, List, [], ◌∷◌, ◌++◌, take, drop, refl, sym, ◌∙◌, ap, append_assoc, subst}
+use Rattle.std.specs.Prelude.{◌||◌}
+use Rattle.std.proofs.lemmas.Bool.{eqb-true}
+use Rattle.std.proofs.lemmas.List.{take-append-drop, append-nil}
+use Rattle.nbd_wire.specs.declared.command.Command.{Command}
+use Rattle.session.specs.Sessions.{SessionState, SessionRepresents, is_closed}
+use Rattle.session.specs.Parts.{Part, Gains, closes, closed}
+use Rattle.session.proofs.PartLaws.{gains_both, gains_still}
+use Rattle.connection.specs.declared.peer.Fate.{Fate}
+use Rattle.connection.specs.declared.piece.Progress.TheVariants.{Open, Closed, OutputFailed, Lost}
+use Rattle.connection.specs.declared.turn.Turn.TheVariants.{Waits, Answered, Closes, OutputFails, Loses}
+use Rattle.connection.specs.Turning.{PartBy, PartsBy, LosesPart, GrowsBy, EndsIn, TurnTaken, PieceUnderway, PieceTaken}
+
+pub closed_more : (more : List Part) (p : Part) → closed more ≡ false → closed (more ++ p ∷ []) ≡ closes p
+closed_more [] p e = elim (closes p) as (λ b. (b || false) ≡ b) [ true ↦ refl | false ↦ refl ]
+closed_more (q ∷ more) p e =
+    let ih = λ (h : closed more ≡ false). closed_more more p h in
+    (elim (closes q) as (λ b. (b || closed more) ≡ false → (b || closed (more ++ p ∷ [])) ≡ closes p) [ true ↦ (λ h. absurd (cc)) | false ↦ ih ]) e
+
+grows_more : (old mid new : SessionState) (u v : List ℕ) (xs ys : List Part) → mid.export ≡ old.export → (is_closed old ≡ false → is_closed mid ≡ false)
+    → GrowsBy old mid u xs → GrowsBy mid new v ys → GrowsBy old new (u ++ v) (xs ++ ys)
+grows_more old mid new u v xs ys same stays one two = λ start text is_open h.
+    let first = one start text is_open h in
+    let next = two start (text ++ u) (stays is_open) first.1 in
+    let more = subst (λ n. Gains start n (text ++ u) ((text ++ u) ++ v) ys) same next.0 in (
+      subst (λ l. Gains start old.export text l (xs ++ ys)) (append_assoc text u v) (gains_both start old.export text (text ++ u) ((text ++ u) ++ v) xs ys first.0 more),
+      subst (λ l. SessionRepresents start new l) (append_assoc text u v) next.1,
+    )
+
+-- the bytes so far, and those that a turn takes
+split_on : (bytes used rest : List ℕ) (k : ℕ) → bytes ≡ used ++ rest → bytes ≡ (used ++ take k rest) ++ drop k rest
+split_on bytes used rest k e =
+    e ∙ (ap (λ l. used ++ l) (sym (take-append-drop k rest)) ∙ sym (append_assoc used (take k rest) (drop k rest)))
+
+pub none_left : (rest : List ℕ) → true ≡ (length rest == 0) → rest ≡ []
+none_left [] is = refl
+none_left (x ∷ xs) is = let h = eqb-true _ _ (sym is) in absurd (omega arith)
+
+module _ {P : Type 0} (answers : P → P → Command → List ℕ → Fate → Type 0) (tells : P → P → List ℕ → Bool → Type 0) where
+  parts_more : (a m b : P) (xs : List Part) (part : Part) → PartsBy answers tells a m xs → PartBy answers tells m b part true → PartsBy answers tells a b (xs ++ part ∷ [])
+  parts_more a m b [] part same one = (b, subst (λ p. PartBy answers tells p b part true) same one, refl)
+  parts_more a m b (x ∷ xs) part runs one = (runs.0, runs.1, parts_more runs.0 m b xs part runs.2 one)
+
+  pub start : (a : P) (old : SessionState) (bytes : List ℕ) → PieceUnderway answers tells a a old old bytes bytes
+  start a old bytes = record {
+    used = [];
+    bytes_are = refl;
+    added = [];
+    grows = λ start text is_open h. (
+      subst (λ l. Gains start old.export text l []) (sym (append-nil text)) (gains_still start old.export text),
+      subst (λ l. SessionRepresents start old l) (sym (append-nil text)) h,
+    );
+    still = refl;
+    runs = refl;
+  }
+
+  module _ (a m b : P) (old mid new : SessionState) (bytes rest : List ℕ) (k : ℕ) (same : mid.export ≡ old.export) (stays : is_closed old ≡ false → is_closed mid ≡ false)
+      (u : PieceUnderway answers tells a m old mid bytes rest) where
+    grows_by : (added : List Part) → GrowsBy mid new (take k rest) added → GrowsBy old new (u.used ++ take k rest) (u.added ++ added)
+    grows_by added g = grows_more old mid new u.used (take k rest) u.added added same stays u.grows g
+
+    pub underway_waits : TurnTaken answers tells m b mid new (take k rest) Waits → PieceUnderway answers tells a b old new bytes (drop k rest)
+    underway_waits t = record {
+      used = u.used ++ take k rest;
+      bytes_are = split_on bytes u.used rest k u.bytes_are;
+      added = u.added;
+      grows = subst (λ ps. GrowsBy old new (u.used ++ take k rest) ps) (ap (λ l. u.added ++ l) t.does.0 ∙ append-nil u.added) (grows_by t.added t.grows);
+      still = u.still;
+      runs = subst (λ p. PartsBy answers tells a p u.added) (sym t.does.1) u.runs;
+    }
+
+    pub underway_answered : TurnTaken answers tells m b mid new (take k rest) Answered → PieceUnderway answers tells a b old new bytes (drop k rest)
+    underway_answered t = record {
+      used = u.used ++ take k rest;
+      bytes_are = split_on bytes u.used rest k u.bytes_are;
+      added = u.added ++ t.does.0 ∷ [];
+      grows = subst (λ ps. GrowsBy old new (u.used ++ take k rest) (u.added ++ ps)) t.does.1 (grows_by t.added t.grows);
+      still = closed_more u.added t.does.0 u.still ∙ t.does.2;
+      runs = parts_more a m b u.added t.does.0 u.runs t.does.3;
+    }
+
+    pub piece_closes : TurnTaken answers tells m b mid new (take k rest) Closes → PieceTaken answers tells a b old new bytes Closed
+    piece_closes t = record {
+      reached = record { done = u.used ++ take k rest; parts = u.added ++ t.does.0 ∷ []; peer = b; ahead = drop k rest };
+      bytes_are = split_on bytes u.used rest k u.bytes_are;
+      gains = λ start text is_open h. (subst (λ ps. GrowsBy old new (u.used ++ take k rest) (u.added ++ ps)) t.does.1 (grows_by t.added t.grows) start text is_open h).0;
+      runs = parts_more a m b u.added t.does.0 u.runs t.does.3;
+      ends = (closed_more u.added t.does.0 u.still ∙ t.does.2, refl);
+    }
+
+    -- where the connection ends in a part that isn't answered whole
+    ends_in : (added : List Part) (part : Part) → added ≡ part ∷ [] → GrowsBy mid new (take k rest) added → (last : Part → Type 0) → last part
+        → EndsIn old (record { done = u.used; parts = u.added; peer = m; ahead = rest }) last
+    ends_in added part is grows last ends = record {
+      unit = take k rest;
+      others = drop k rest;
+      part = part;
+      ahead_is = sym (take-append-drop k rest);
+      gains = λ start text is_open h.
+          let here = text ++ u.used in
+          let one = (grows start here (stays is_open) (u.grows start text is_open h).1).0 in
+          subst (λ ps. Gains start old.export here (here ++ take k rest) ps) is (subst (λ n. Gains start n here (here ++ take k rest) added) same one);
+      ends = ends;
+    }
+
+    pub piece_fails : TurnTaken answers tells m b mid new (take k rest) OutputFails → PieceTaken answers tells a b old new bytes OutputFailed
+    piece_fails t = record {
+      reached = record { done = u.used; parts = u.added; peer = m; ahead = rest };
+      bytes_are = u.bytes_are;
+      gains = λ start text is_open h. (u.grows start text is_open h).0;
+      runs = u.runs;
+      ends = (u.still, ends_in t.added t.does.0 t.does.1 t.grows (λ part. PartBy answers tells m b part false) t.does.2);
+    }
+
+    pub piece_loses : TurnTaken answers tells m b mid new (take k rest) Loses → PieceTaken answers tells a b old new bytes Lost
+    piece_loses t = record {
+      reached = record { done = u.used; parts = u.added; peer = m; ahead = rest };
+      bytes_are = u.bytes_are;
+      gains = λ start text is_open h. (u.grows start text is_open h).0;
+      runs = u.runs;
+      ends = (u.still, ends_in t.added t.does.0 t.does.1 t.grows (λ part. LosesPart answers m b part) t.does.2);
+    }
+
+  -- the end of a piece that is taken whole
+  pub piece_stays : (a b : P) (old new : SessionState) (bytes rest : List ℕ) → PieceUnderway answers tells a b old new bytes rest → rest ≡ [] → PieceTaken answers tells a b old new bytes Open
+  piece_stays a b old new bytes rest u all = record {
+    reached = record { done = u.used; parts = u.added; peer = b; ahead = rest };
+    bytes_are = u.bytes_are;
+    gains = λ start text is_open h. (u.grows start text is_open h).0;
+    runs = u.runs;
+    ends = (u.still, refl, all, λ start text is_open h. (u.grows start text is_open h).1);
+  }

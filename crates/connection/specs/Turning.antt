@@ -1,0 +1,147 @@
+-- What one turn of a connection does, over a peer by what its two calls do. Source: own.
+use Rattle.std.specs.Prelude.{◌≡◌, ℕ, Bool, true, false, List, [], ◌∷◌, ◌++◌}
+use Rattle.nbd_wire.specs.declared.command.Command.{Command}
+use Rattle.nbd_wire.specs.declared.phase.Phase.{Phase}
+use Rattle.nbd_wire.specs.Lent.{payload_in}
+use Rattle.session.specs.Sessions.{SessionState, SessionRepresents, is_closed}
+use Rattle.session.specs.Parts.{Part, Told, ForDisk, Last, Gains, closed, closes}
+use Rattle.connection.specs.declared.peer.Fate.{Fate}
+use Rattle.connection.specs.declared.peer.Fate.TheVariants.{Replied, Untaken, Lost}
+use Rattle.connection.specs.declared.piece.Progress.{Progress}
+use Rattle.connection.specs.declared.piece.Progress.TheVariants.{Open, Closed, OutputFailed}
+use Rattle.connection.specs.declared.piece.Progress.TheVariants.{Lost as LostPiece}
+use Rattle.connection.specs.declared.turn.Turn.{Turn}
+use Rattle.connection.specs.declared.turn.Turn.TheVariants.{Waits, Answered, Closes, OutputFails}
+use Rattle.connection.specs.declared.turn.Turn.TheVariants.{Loses}
+
+-- A command was answered over lent bytes with this payload.
+pub record CommandBy {P : Type 0} (answers : P → P → Command → List ℕ → Fate → Type 0) (a b : P)
+    (command : Command) (payload : List ℕ) (fate : Fate) : Type 0 where
+  pub bytes : List ℕ
+  pub payload_is : payload_in command bytes ≡ payload
+  pub run : answers a b command bytes fate
+
+-- how a command's reply was taken
+abbrev pub fate_of : Bool → Fate
+fate_of true = Replied
+fate_of false = Untaken
+
+-- One part is answered: a command by `answers`, all else by `tells`.
+abbrev pub PartBy : {P : Type 0} → (P → P → Command → List ℕ → Fate → Type 0)
+    → (P → P → List ℕ → Bool → Type 0) → P → P → Part → Bool → Type 0
+PartBy answers tells a b (Told reply) taken = tells a b reply taken
+PartBy answers tells a b (ForDisk command payload) taken =
+    CommandBy answers a b command payload (fate_of taken)
+PartBy answers tells a b (Last reply) taken = tells a b reply taken
+
+-- a command is lost
+abbrev pub LosesPart : {P : Type 0} → (P → P → Command → List ℕ → Fate → Type 0) → P → P → Part
+    → Type 0
+LosesPart answers a b (Told reply) = ⊥
+LosesPart answers a b (ForDisk command payload) = CommandBy answers a b command payload Lost
+LosesPart answers a b (Last reply) = ⊥
+
+-- what became of the parts that a turn added
+abbrev pub TurnBy : {P : Type 0} → (P → P → Command → List ℕ → Fate → Type 0)
+    → (P → P → List ℕ → Bool → Type 0) → P → P → List Part → Turn → Type 0
+TurnBy answers tells a b added Waits = (added ≡ []) × (b ≡ a)
+TurnBy answers tells a b added Answered = (part : Part) × (added ≡ part ∷ [])
+    × (closes part ≡ false) × PartBy answers tells a b part true
+TurnBy answers tells a b added Closes = (part : Part) × (added ≡ part ∷ [])
+    × (closes part ≡ true) × PartBy answers tells a b part true
+TurnBy answers tells a b added OutputFails = (part : Part) × (added ≡ part ∷ [])
+    × PartBy answers tells a b part false
+TurnBy answers tells a b added Loses = (part : Part) × (added ≡ part ∷ [])
+    × LosesPart answers a b part
+
+-- a session's text grows by these bytes and gains these parts
+abbrev pub GrowsBy : SessionState → SessionState → List ℕ → List Part → Type 0
+GrowsBy old new bytes added =
+    (start : Phase) (text : List ℕ) → is_closed old ≡ false → SessionRepresents start old text
+    → Gains start old.export text (text ++ bytes) added
+    × SessionRepresents start new (text ++ bytes)
+
+-- a turn after which the connection goes on
+abbrev pub goes_on : Turn → Bool
+goes_on Waits = true
+goes_on Answered = true
+goes_on Closes = false
+goes_on OutputFails = false
+goes_on Loses = false
+
+-- what one turn does that took these bytes
+pub record TurnTaken {P : Type 0} (answers : P → P → Command → List ℕ → Fate → Type 0)
+    (tells : P → P → List ℕ → Bool → Type 0) (a b : P) (old new : SessionState) (bytes : List ℕ)
+    (turn : Turn) : Type 0 where
+  pub added : List Part
+  pub grows : GrowsBy old new bytes added
+  pub does : TurnBy answers tells a b added turn
+
+-- Parts are answered one after another, each whole.
+abbrev pub PartsBy : {P : Type 0} → (P → P → Command → List ℕ → Fate → Type 0)
+    → (P → P → List ℕ → Bool → Type 0) → P → P → List Part → Type 0
+PartsBy answers tells a b [] = b ≡ a
+PartsBy {P = P} answers tells a b (part ∷ more) =
+    (mid : P) × PartBy answers tells a mid part true × PartsBy answers tells mid b more
+
+-- how far a piece came: the bytes of the parts that were answered whole, these parts, the peer behind
+-- them, and the other bytes
+pub record Reached (P : Type 0) : Type 0 where
+  pub done : List ℕ
+  pub parts : List Part
+  pub peer : P
+  pub ahead : List ℕ
+
+-- what a session's text gains by these bytes
+abbrev pub GainsBy : SessionState → List ℕ → List Part → Type 0
+GainsBy old bytes added = (start : Phase) (text : List ℕ) → is_closed old ≡ false
+    → SessionRepresents start old text → Gains start old.export text (text ++ bytes) added
+
+-- the part behind those that were answered whole, in which the connection ends
+pub record EndsIn {P : Type 0} (old : SessionState) (reached : Reached P)
+    (last : Part → Type 0) : Type 0 where
+  pub unit : List ℕ
+  pub others : List ℕ
+  pub part : Part
+  pub ahead_is : reached.ahead ≡ unit ++ others
+  pub gains : (start : Phase) (text : List ℕ) → is_closed old ≡ false
+      → SessionRepresents start old text
+      → Gains start old.export (text ++ reached.done) ((text ++ reached.done) ++ unit) (part ∷ [])
+  pub ends : last part
+
+-- What each progress says of where a piece stops: where the connection stays open all bytes are used,
+-- and the session represents the longer text.
+abbrev pub ProgressBy : {P : Type 0} → (P → P → Command → List ℕ → Fate → Type 0)
+    → (P → P → List ℕ → Bool → Type 0) → Reached P → P → SessionState → SessionState → Progress
+    → Type 0
+ProgressBy answers tells reached b old new Open =
+    (closed reached.parts ≡ false) × (b ≡ reached.peer) × (reached.ahead ≡ [])
+    × ((start : Phase) (text : List ℕ) → is_closed old ≡ false → SessionRepresents start old text
+    → SessionRepresents start new (text ++ reached.done))
+ProgressBy answers tells reached b old new Closed =
+    (closed reached.parts ≡ true) × (b ≡ reached.peer)
+ProgressBy answers tells reached b old new OutputFailed = (closed reached.parts ≡ false)
+    × EndsIn old reached (λ part. PartBy answers tells reached.peer b part false)
+ProgressBy answers tells reached b old new LostPiece = (closed reached.parts ≡ false)
+    × EndsIn old reached (λ part. LosesPart answers reached.peer b part)
+
+-- What a piece does: the parts of its first bytes are answered whole, one after another.
+pub record PieceTaken {P : Type 0} (answers : P → P → Command → List ℕ → Fate → Type 0)
+    (tells : P → P → List ℕ → Bool → Type 0) (a b : P) (old new : SessionState) (bytes : List ℕ)
+    (progress : Progress) : Type 0 where
+  pub reached : Reached P
+  pub bytes_are : bytes ≡ reached.done ++ reached.ahead
+  pub gains : GainsBy old reached.done reached.parts
+  pub runs : PartsBy answers tells a reached.peer reached.parts
+  pub ends : ProgressBy answers tells reached b old new progress
+
+-- a piece in its midst, where the rest of its bytes isn't taken yet
+pub record PieceUnderway {P : Type 0} (answers : P → P → Command → List ℕ → Fate → Type 0)
+    (tells : P → P → List ℕ → Bool → Type 0) (a b : P) (old new : SessionState)
+    (bytes rest : List ℕ) : Type 0 where
+  pub used : List ℕ
+  pub bytes_are : bytes ≡ used ++ rest
+  pub added : List Part
+  pub grows : GrowsBy old new used added
+  pub still : closed added ≡ false
+  pub runs : PartsBy answers tells a b added

@@ -1,0 +1,218 @@
+//! A connection: pieces are read, commands go through the door, replies are written.
+
+ghost use Rattle.std.specs.Prelude.{◌≡◌, ◌⊎◌, None, IfOk, IfSome, false, vec_len};
+ghost use Rattle.nbd_wire.specs.declared.phase.Phase.{Phase};
+ghost use Rattle.nbd_wire.specs.declared.phase.Phase.TheVariants.{AwaitingFlags, Transmitting};
+ghost use Rattle.session.specs.Sessions.{BeginsSession, is_closed};
+ghost use Rattle.share.specs.Connection.{Connection};
+ghost use Rattle.share.specs.Turning.{PieceSays};
+ghost use Rattle.share.specs.Places.{reading, setting, stand, through};
+
+use crate::attendant::Attendant;
+use crate::door::{Door, Gate, Point};
+use crate::pass::{OneServer, Pass};
+use block_device::{Sink, Source, send};
+use connection::Progress;
+use session::Session;
+use std::alloc::{AllocError, Global};
+
+/// How many bytes of a connection are read at once, at the most.
+const PIECE_LEN: usize = 65_536;
+
+/// How a connection ended.
+#[derive(Clone, Copy, Debug, PartialEq, Eq, Drop)]
+pub enum End {
+    /// A unit closed it: flags that aren't known, a wrong magic, ABORT, an unknown name, or DISC.
+    Closed,
+    /// No byte was left to read.
+    EndOfInput,
+    /// A read failed, or 2^64 - 1 pieces were read.
+    Input,
+    /// A write failed.
+    Output,
+    /// A power loss took a command.
+    Lost,
+    /// There was no memory for its buffers.
+    OutOfMemory,
+}
+
+/// Takes all bytes of a piece, and answers the units that they complete.
+fn answer_piece<L: OneServer, T: Door<L>, K: Sink, G: Gate>(
+    door: &mut T,
+    pass: &mut Pass<L>,
+    writer: &mut K,
+    gate: &mut G,
+    session: &mut Session,
+    piece: &[u8],
+) -> Option<End>
+    requires open { is_closed session.old ≡ false }
+    requires export { session.old.export ≡ L.export }
+    ensures open { result ≡ None → is_closed session.new ≡ false }
+    ensures export { session.new.export ≡ L.export }
+    ensures connection { pass.new.connection ≡ pass.old.connection }
+    ensures ends { IfSome result (λ end. (end ≡ End.Closed)
+        ⊎ ((end ≡ End.Output) ⊎ (end ≡ End.Lost))) }
+    ensures says { PieceSays (through T.executes T.keeps) G.passes L.export
+        (stand door.old pass.old gate.old (K.written writer.old) (K.faults writer.old))
+        (stand door.new pass.new gate.new (K.written writer.new) (K.faults writer.new))
+        session.old session.new piece.now result }
+{
+    let mut attendant = Attendant {
+        door,
+        pass,
+        writer,
+        gate,
+    };
+    respond(&mut attendant, session, piece)
+}
+
+/// Has an attendant answer a piece, and says how the connection ended, where it did.
+fn respond<L: OneServer, T: Door<L>, K: Sink, G: Gate>(
+    attendant: &mut Attendant<'_, '_, '_, '_, L, T, K, G>,
+    session: &mut Session,
+    piece: &[u8],
+) -> Option<End>
+    requires open { is_closed session.old ≡ false }
+    requires export { session.old.export ≡ L.export }
+    ensures door { attendant.new.door.ghost_name ≡ attendant.old.door.ghost_name }
+    ensures pass { attendant.new.pass.ghost_name ≡ attendant.old.pass.ghost_name }
+    ensures writer { attendant.new.writer.ghost_name ≡ attendant.old.writer.ghost_name }
+    ensures gate { attendant.new.gate.ghost_name ≡ attendant.old.gate.ghost_name }
+    ensures open { result ≡ None → is_closed session.new ≡ false }
+    ensures export { session.new.export ≡ L.export }
+    ensures connection { attendant.new.pass.now.connection ≡ attendant.old.pass.now.connection }
+    ensures ends { IfSome result (λ end. (end ≡ End.Closed)
+        ⊎ ((end ≡ End.Output) ⊎ (end ≡ End.Lost))) }
+    ensures says { PieceSays (through T.executes T.keeps) G.passes L.export
+        (stand attendant.old.door.now attendant.old.pass.now attendant.old.gate.now
+        (K.written attendant.old.writer.now) (K.faults attendant.old.writer.now))
+        (stand attendant.new.door.now attendant.new.pass.now attendant.new.gate.now
+        (K.written attendant.new.writer.now) (K.faults attendant.new.writer.now))
+        session.old session.new piece.now result }
+{
+    match connection::answer_piece(attendant, session, piece) {
+        Progress::Open => None,
+        Progress::Closed => Some(End::Closed),
+        Progress::OutputFailed => Some(End::Output),
+        Progress::Lost => Some(End::Lost),
+    }
+}
+
+/// A connection that begins: its session, and the buffer that its pieces are read into.
+#[derive(Drop)]
+struct Begun {
+    session: Session,
+    buffer: Vec<u8>,
+    ghost room: { vec_len buffer ≡ 65536 },
+}
+
+/// A session with its buffer.
+fn with_buffer(alloc: Global, session: Session) -> Result<Begun, AllocError>
+    ensures { IfOk result (λ begun. begun.session ≡ session) }
+{
+    let buffer = vec![in alloc; 0u8; PIECE_LEN]?;
+    Ok(Begun { session, buffer })
+}
+
+/// A connection from its first byte to its end: the session's first reply is written, and then each
+/// piece is read and answered.
+fn attend<L: OneServer, T: Door<L>, S: Source, K: Sink, G: Gate>(
+    begun: Begun,
+    door: &mut T,
+    pass: &mut Pass<L>,
+    reader: &mut S,
+    writer: &mut K,
+    gate: &mut G,
+) -> End
+    requires open { is_closed begun.session ≡ false }
+    requires export { begun.session.export ≡ L.export }
+    ensures connection { pass.new.connection ≡ pass.old.connection }
+    ensures says { (start : Phase) → BeginsSession start L.export begun.session
+        → Connection (through T.executes T.keeps) G.passes (setting start L.export)
+        (stand door.old pass.old gate.old (K.written writer.old) (K.faults writer.old))
+        (stand door.new pass.new gate.new (K.written writer.new) (K.faults writer.new))
+        (reading (S.remaining reader.old) (S.remaining reader.new) (S.faults reader.old)
+        (S.faults reader.new)) result }
+{
+    let Begun {
+        mut session,
+        mut buffer,
+    } = begun;
+    if let Err(_) = send(writer, session.reply()) {
+        return End::Output;
+    }
+    for _piece in 0..u64::MAX {
+        let Ok(n) = reader.read(buffer.as_mut_slice()) else {
+            return End::Input;
+        };
+        if n == 0 {
+            return End::EndOfInput;
+        }
+        gate.pass(Point::Read);
+        match answer_piece(door, pass, writer, gate, &mut session, &buffer[..n]) {
+            None => {}
+            Some(end) => return end,
+        }
+    }
+    End::Input
+}
+
+/// Answers the requests of a connection whose negotiation is over, until one closes it or its input
+/// ends: each piece is read and cut into requests, each accepted command is executed through the
+/// door, and each reply is written as soon as its request's last byte has come. The gate is passed
+/// after each piece was read and before each command. The pass comes back with its count, and the
+/// end says why no more was answered.
+pub fn exchange<L: OneServer, T: Door<L>, S: Source, K: Sink, G: Gate>(
+    alloc: Global,
+    door: &mut T,
+    pass: Pass<L>,
+    reader: &mut S,
+    writer: &mut K,
+    gate: &mut G,
+) -> (Pass<L>, End)
+    ensures connection { result.0.connection ≡ pass.connection }
+    ensures says { Connection (through T.executes T.keeps) G.passes (setting Transmitting L.export)
+        (stand door.old pass gate.old (K.written writer.old) (K.faults writer.old))
+        (stand door.new result.0 gate.new (K.written writer.new) (K.faults writer.new))
+        (reading (S.remaining reader.old) (S.remaining reader.new) (S.faults reader.old)
+        (S.faults reader.new)) result.1 }
+{
+    let mut pass = pass;
+    let Ok(session) = Session::requesting(alloc, pass.export()) else {
+        return (pass, End::OutOfMemory);
+    };
+    let Ok(begun) = with_buffer(alloc, session) else {
+        return (pass, End::OutOfMemory);
+    };
+    let end = attend(begun, door, &mut pass, reader, writer, gate);
+    (pass, end)
+}
+
+/// Answers a whole connection: the greeting is written, and then its flags, its options and its
+/// requests are answered as by `exchange`.
+pub fn worker<L: OneServer, T: Door<L>, S: Source, K: Sink, G: Gate>(
+    alloc: Global,
+    door: &mut T,
+    pass: Pass<L>,
+    reader: &mut S,
+    writer: &mut K,
+    gate: &mut G,
+) -> (Pass<L>, End)
+    ensures connection { result.0.connection ≡ pass.connection }
+    ensures says { Connection (through T.executes T.keeps) G.passes
+        (setting AwaitingFlags L.export)
+        (stand door.old pass gate.old (K.written writer.old) (K.faults writer.old))
+        (stand door.new result.0 gate.new (K.written writer.new) (K.faults writer.new))
+        (reading (S.remaining reader.old) (S.remaining reader.new) (S.faults reader.old)
+        (S.faults reader.new)) result.1 }
+{
+    let mut pass = pass;
+    let Ok(session) = Session::open(alloc, pass.export()) else {
+        return (pass, End::OutOfMemory);
+    };
+    let Ok(begun) = with_buffer(alloc, session) else {
+        return (pass, End::OutOfMemory);
+    };
+    let end = attend(begun, door, &mut pass, reader, writer, gate);
+    (pass, end)
+}
