@@ -1,4 +1,4 @@
--- What one turn of a connection does, over a peer by what its two calls do. Source: own.
+-- What a turn and a piece of a connection do, over a peer, by what its two calls do. Source: own.
 use Rattle.std.specs.Prelude.{◌≡◌, ℕ, Bool, true, false, List, [], ◌∷◌, ◌++◌}
 use Rattle.nbd_wire.specs.declared.command.Command.{Command}
 use Rattle.nbd_wire.specs.declared.phase.Phase.{Phase}
@@ -84,8 +84,8 @@ PartsBy answers tells a b [] = b ≡ a
 PartsBy {P = P} answers tells a b (part ∷ more) =
     (mid : P) × PartBy answers tells a mid part true × PartsBy answers tells mid b more
 
--- how far a piece came: the bytes of the parts that were answered whole, these parts, the peer behind
--- them, and the other bytes
+-- how far a piece came: the bytes of the parts that were answered whole, these parts, the peer
+-- behind them, and the other bytes
 pub record Reached (P : Type 0) : Type 0 where
   pub done : List ℕ
   pub parts : List Part
@@ -109,8 +109,8 @@ pub record EndsIn {P : Type 0} (old : SessionState) (reached : Reached P)
       → Gains start old.export (text ++ reached.done) ((text ++ reached.done) ++ unit) (part ∷ [])
   pub ends : last part
 
--- What each progress says of where a piece stops: where the connection stays open all bytes are used,
--- and the session represents the longer text.
+-- What each progress says of where a piece stops: where the connection stays open all bytes are
+-- used, and the session represents the longer text.
 abbrev pub ProgressBy : {P : Type 0} → (P → P → Command → List ℕ → Fate → Type 0)
     → (P → P → List ℕ → Bool → Type 0) → Reached P → P → SessionState → SessionState → Progress
     → Type 0

@@ -1,10 +1,11 @@
 -- A connection goes on by a piece, or ends.
 use Rattle.std.proofs.Common.{◌≡◌, ℕ, ◌+◌, ◌*◌, ◌<◌, ◌≤◌, List, [], ◌∷◌, ◌++◌, length, length-append, Bool, true, false, refl, arith, sym, ap, ◌∙◌, subst, append_assoc, append-nil}
-use Rattle.std.specs.Prelude.{◌||◌, Some, None}
+use Rattle.std.specs.Prelude.{◌||◌, Option, Some, None}
 use Rattle.std.specs.Io.KnownBytes.{Appends}
 use Rattle.std.proofs.KnownBytes.{Appends-nil, Appends-trans}
 use Rattle.nbd_wire.specs.declared.export.Export.{Export}
 use Rattle.nbd_wire.specs.declared.command.Command.{Command}
+use Rattle.nbd_wire.specs.declared.phase.Phase.{Phase}
 use Rattle.nbd_wire.specs.Lent.{payload_in}
 use Rattle.session.specs.Sessions.{SessionState, SessionRepresents, is_closed, opening}
 use Rattle.session.specs.Parts.{Part, Told, ForDisk, Last, Gains, closes, closed, is_silent, ends_silently}
@@ -12,12 +13,13 @@ use Rattle.session.proofs.PartLaws.{gains_behind, gains_both}
 use Rattle.connection.specs.declared.peer.Fate.{Fate}
 use Rattle.connection.specs.declared.piece.Progress.TheVariants.{Open, Closed, OutputFailed, Lost as LostPiece}
 use Rattle.connection.specs.Turning.{PartBy, PartsBy, LosesPart, PieceTaken}
+use Rattle.share.specs.declared.attending.End.{End}
 use Rattle.share.specs.declared.attending.End.TheVariants.{Closed as ClosedEnd, Output, Lost as LostEnd}
 use Rattle.share.specs.declared.door.Point.{Point}
 use Rattle.share.specs.declared.door.Point.TheVariants.{Execute}
 use Rattle.share.specs.declared.shared.Done.{Done}
 use Rattle.share.specs.Connection.{AnsweredBy, ExecutedAndLost, FailsBy, ConnectionEnded, PartsAnsweredBy}
-use Rattle.share.specs.Turning.{CommandTurn, StandTells, ConnectionUnderway, PieceSays}
+use Rattle.share.specs.Turning.{CommandTurn, StandTells, ConnectionUnderway, PieceBy, PieceServes}
 use Rattle.share.specs.Places.{PassesMore, Place, Setting, Stand, asks, executions, points_of, reads, setting}
 
 -- ---- lists of points and of parts
@@ -334,54 +336,61 @@ module _ {S G : Type 0} (step : Place S → Place S → Command → List ℕ →
       let P : List ℕ → Type 0 = λ x. (u : ConnectionUnderway step passes st first a x line) × (n ≤ 65536 * reads u.points) in
       subst P e (w, pieces)
 
-  module _ (export : Export) (a b : Stand S G) (old new : SessionState) (piece : List ℕ) (open-still : is_closed old ≡ false) (same : old.export ≡ export) where
+  module _ (a b : Stand S G) (old new : SessionState) (piece : List ℕ) (open-still : is_closed old ≡ false) where
     whole-text : (text done ahead : List ℕ) → piece ≡ done ++ ahead → text ++ piece ≡ (text ++ done) ++ ahead
     whole-text text done ahead is = ap (λ (x : List ℕ). text ++ x) is ∙ sym (append_assoc text done ahead)
 
-    pub says-open : PieceTaken commands StandTells a b old new piece Open → PieceSays step passes export a b old new piece None
+    pub says-open : PieceTaken commands StandTells a b old new piece Open → PieceServes step passes a b old new piece None
     says-open x = record {
       says = λ start text first w pieces.
           let r = x.reached in
-          let st = setting start export in
+          let st = setting start old.export in
           let d = parts-done a b r.parts (subst (λ p. PartsBy commands StandTells a p r.parts) (sym x.ends.1) x.runs) in
-          let gains = subst (λ n. Gains start n text (text ++ r.done) r.parts) same (x.gains start text open-still w.represents) in
+          let gains = x.gains start text open-still w.represents in
           let u = underway-more st first a text old w b (text ++ r.done) new r.parts gains (x.ends.3 start text open-still w.represents) x.ends.0 d in
           let all : text ++ r.done ≡ text ++ piece = sym (whole-text text r.done r.ahead x.bytes_are ∙ (ap (λ (l : List ℕ). (text ++ r.done) ++ l) x.ends.2 ∙ append-nil (text ++ r.done))) in
           let count = u.1 in
           underway-at st first b (text ++ r.done) (text ++ piece) new (length (text ++ piece)) all u.0 (omega (arith, pieces, count));
     }
 
-    pub says-closed : PieceTaken commands StandTells a b old new piece Closed → PieceSays step passes export a b old new piece (Some ClosedEnd)
+    pub says-closed : PieceTaken commands StandTells a b old new piece Closed → PieceServes step passes a b old new piece (Some ClosedEnd)
     says-closed x = record {
       says = λ start text first w pieces.
           let r = x.reached in
           let d = parts-done a b r.parts (subst (λ p. PartsBy commands StandTells a p r.parts) (sym x.ends.1) x.runs) in
-          let gains = subst (λ n. Gains start n text (text ++ r.done) r.parts) same (x.gains start text open-still w.represents) in
-          over-closes (setting start export) first a text old w b (text ++ r.done) r.ahead (text ++ piece) r.parts gains x.ends.0 d (whole-text text r.done r.ahead x.bytes_are) pieces;
+          let gains = x.gains start text open-still w.represents in
+          over-closes (setting start old.export) first a text old w b (text ++ r.done) r.ahead (text ++ piece) r.parts gains x.ends.0 d (whole-text text r.done r.ahead x.bytes_are) pieces;
     }
 
-    pub says-output : PieceTaken commands StandTells a b old new piece OutputFailed → PieceSays step passes export a b old new piece (Some Output)
+    pub says-output : PieceTaken commands StandTells a b old new piece OutputFailed → PieceServes step passes a b old new piece (Some Output)
     says-output x = record {
       says = λ start text first w pieces.
           let r = x.reached in
           let e = x.ends.1 in
           let mid = text ++ r.done in
           let d = parts-done a r.peer r.parts x.runs in
-          let gains = subst (λ n. Gains start n text (mid ++ e.unit) (r.parts ++ e.part ∷ [])) same
-          (gains_both start old.export text mid (mid ++ e.unit) r.parts (e.part ∷ []) (x.gains start text open-still w.represents) (e.gains start text open-still w.represents)) in
+          let gains = gains_both start old.export text mid (mid ++ e.unit) r.parts (e.part ∷ []) (x.gains start text open-still w.represents) (e.gains start text open-still w.represents) in
           let is = whole-text text r.done r.ahead x.bytes_are ∙ (ap (λ (l : List ℕ). mid ++ l) e.ahead_is ∙ sym (append_assoc mid e.unit e.others)) in
-          over-output (setting start export) first a text old w r.peer b (mid ++ e.unit) e.others (text ++ piece) r.parts e.part gains x.ends.0 d e.ends is pieces;
+          over-output (setting start old.export) first a text old w r.peer b (mid ++ e.unit) e.others (text ++ piece) r.parts e.part gains x.ends.0 d e.ends is pieces;
     }
 
-    pub says-lost : PieceTaken commands StandTells a b old new piece LostPiece → PieceSays step passes export a b old new piece (Some LostEnd)
+    pub says-lost : PieceTaken commands StandTells a b old new piece LostPiece → PieceServes step passes a b old new piece (Some LostEnd)
     says-lost x = record {
       says = λ start text first w pieces.
           let r = x.reached in
           let e = x.ends.1 in
           let mid = text ++ r.done in
           let d = parts-done a r.peer r.parts x.runs in
-          let gains = subst (λ n. Gains start n text mid r.parts) same (x.gains start text open-still w.represents) in
-          let one = subst (λ n. Gains start n mid (mid ++ e.unit) (e.part ∷ [])) same (e.gains start text open-still w.represents) in
+          let gains = x.gains start text open-still w.represents in
+          let one = e.gains start text open-still w.represents in
           let is = whole-text text r.done r.ahead x.bytes_are ∙ ap (λ (l : List ℕ). mid ++ l) e.ahead_is in
-          over-lost (setting start export) first a text old w r.peer b r.done e.unit e.others (text ++ piece) r.parts e.part gains one x.ends.0 d e.ends is pieces;
+          over-lost (setting start old.export) first a text old w r.peer b r.done e.unit e.others (text ++ piece) r.parts e.part gains one x.ends.0 d e.ends is pieces;
     }
+
+  -- of an export that is the session's
+  pub says-of : (export : Export) (a b : Stand S G) (old new : SessionState) (piece : List ℕ) (result : Option End) → old.export ≡ export → PieceServes step passes a b old new piece result
+      → (start : Phase) (text : List ℕ) (first : Stand S G) (w : ConnectionUnderway step passes (setting start export) first a text old) → length (text ++ piece) ≤ 65536 * reads w.points
+      → PieceBy step passes (setting start export) first b (text ++ piece) new result
+  says-of export a b old new piece result same x start text first =
+      subst (λ n. (w : ConnectionUnderway step passes (setting start n) first a text old) → length (text ++ piece) ≤ 65536 * reads w.points → PieceBy step passes (setting start n) first b (text ++ piece) new result)
+      same (x.says start text first)

@@ -5,7 +5,6 @@ use Rattle.std.specs.Prelude.{Option, Some, None}
 use Rattle.std.specs.Io.KnownBytes.{Appends}
 use Rattle.block_device.specs.Streams.{FailsToSend}
 use Rattle.nbd_wire.specs.declared.command.Command.{Command}
-use Rattle.nbd_wire.specs.declared.export.Export.{Export}
 use Rattle.nbd_wire.specs.declared.phase.Phase.{Phase}
 use Rattle.session.specs.Sessions.{SessionState, SessionRepresents, opening}
 use Rattle.session.specs.Parts.{Part, IsPartsOf, closed}
@@ -72,10 +71,10 @@ PieceBy step passes setting a b text line (Some end) =
     ConnectionEnded step passes setting a b text end × FailsBy end a.failures b.failures
 
 -- the same of every connection that was underway, of pieces of at most 65,536 bytes
-pub record PieceSays {S G : Type 0} (step : Place S → Place S → Command → List ℕ → Done → Type 0)
-    (passes : G → G → List Point → Type 0) (export : Export) (a b : Stand S G)
-    (old new : SessionState) (piece : List ℕ) (result : Option End) : Type 0 where
+pub record PieceServes {S G : Type 0} (step : Place S → Place S → Command → List ℕ → Done → Type 0)
+    (passes : G → G → List Point → Type 0) (a b : Stand S G) (old new : SessionState)
+    (piece : List ℕ) (result : Option End) : Type 0 where
   pub says : (start : Phase) (text : List ℕ) (first : Stand S G)
-      → (w : ConnectionUnderway step passes (setting start export) first a text old)
+      → (w : ConnectionUnderway step passes (setting start old.export) first a text old)
       → length (text ++ piece) ≤ 65536 * reads w.points
-      → PieceBy step passes (setting start export) first b (text ++ piece) new result
+      → PieceBy step passes (setting start old.export) first b (text ++ piece) new result

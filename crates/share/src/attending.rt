@@ -5,7 +5,7 @@ ghost use Rattle.nbd_wire.specs.declared.phase.Phase.{Phase};
 ghost use Rattle.nbd_wire.specs.declared.phase.Phase.TheVariants.{AwaitingFlags, Transmitting};
 ghost use Rattle.session.specs.Sessions.{BeginsSession, is_closed};
 ghost use Rattle.share.specs.Connection.{Connection};
-ghost use Rattle.share.specs.Turning.{PieceSays};
+ghost use Rattle.share.specs.Turning.{PieceServes};
 ghost use Rattle.share.specs.Places.{reading, setting, stand, through};
 
 use crate::attendant::Attendant;
@@ -52,7 +52,7 @@ fn answer_piece<L: OneServer, T: Door<L>, K: Sink, G: Gate>(
     ensures connection { pass.new.connection ≡ pass.old.connection }
     ensures ends { IfSome result (λ end. (end ≡ End.Closed)
         ⊎ ((end ≡ End.Output) ⊎ (end ≡ End.Lost))) }
-    ensures says { PieceSays (through T.executes T.keeps) G.passes L.export
+    ensures says { PieceServes (through T.executes T.keeps) G.passes
         (stand door.old pass.old gate.old (K.written writer.old) (K.faults writer.old))
         (stand door.new pass.new gate.new (K.written writer.new) (K.faults writer.new))
         session.old session.new piece.now result }
@@ -83,7 +83,7 @@ fn respond<L: OneServer, T: Door<L>, K: Sink, G: Gate>(
     ensures connection { attendant.new.pass.now.connection ≡ attendant.old.pass.now.connection }
     ensures ends { IfSome result (λ end. (end ≡ End.Closed)
         ⊎ ((end ≡ End.Output) ⊎ (end ≡ End.Lost))) }
-    ensures says { PieceSays (through T.executes T.keeps) G.passes L.export
+    ensures says { PieceServes (through T.executes T.keeps) G.passes
         (stand attendant.old.door.now attendant.old.pass.now attendant.old.gate.now
         (K.written attendant.old.writer.now) (K.faults attendant.old.writer.now))
         (stand attendant.new.door.now attendant.new.pass.now attendant.new.gate.now

@@ -4,6 +4,7 @@ use Rattle.std.proofs.KnownBytes.{Consumes-nil, Consumes-trans}
 use Rattle.share.specs.Turning.{PieceBy}
 use Rattle.share.specs.Places.{setting, stand, through}
 use Rattle.share.proofs.Connections.{connection-end, connection-input, connection-long, connection-piece, connection-unopened, underway-read, underway-start}
+use Rattle.share.proofs.Turns.{says-of}
 use Rattle.share.proofs.attending.attend.Goals as goal
 
 pub returns-in-Err-clause-says : goal.returns-in-Err-clause-says
@@ -83,7 +84,7 @@ returns-in-Some-clause-says g c start begins =
     let b = stand new.door new.pass new.gate (g.K.Sink.written new.writer) (g.K.Sink.faults new.writer) in
     let short : length (take n c.deref.result.now) ≤ 65536 = omega (arith, ap (λ (xs : List ℕ). length xs) piece, bound.0, bound.1, size, i.room) in
     let r = underway-read step g.G.Gate.passes st first mid c.pass.new.self u.0 (take n c.deref.result.now) c.loop-piece.session c.pass.ensures u.3 u.4 short in
-    let by = c.in-Some.ensures.says.says start u.0 first r.0 r.1 in
+    let by = says-of step g.G.Gate.passes g.L.OneServer.export (record mid { gate = c.pass.new.self }) b c.loop-piece.session new.session (take n c.deref.result.now) _ i.export c.in-Some.ensures.says start u.0 first r.0 r.1 in
     let B : List ℕ → Type 0 = λ x. PieceBy step g.G.Gate.passes st first b (u.0 ++ x) new.session (Some c.in-Some.end) in
     connection-piece step g.G.Gate.passes st first b (g.S.Source.remaining c.args.reader.now) (g.S.Source.remaining c.loop-piece.reader) (g.S.Source.remaining c.read.new.self)
     (g.S.Source.faults c.args.reader.now) (g.S.Source.faults c.read.new.self) u.0 (take n into) c.in-Some.end
@@ -117,7 +118,7 @@ loop-piece-preserved g c =
           let b = stand new.door new.pass new.gate (g.K.Sink.written new.writer) (g.K.Sink.faults new.writer) in
           let short : length (take n c.deref.result.now) ≤ 65536 = omega (arith, ap (λ (xs : List ℕ). length xs) piece, bound.0, bound.1, size, i.room) in
           let r = underway-read step g.G.Gate.passes st first mid c.pass.new.self u.0 (take n c.deref.result.now) c.loop-piece.session c.pass.ensures u.3 u.4 short in
-          let by = e.says.says start u.0 first r.0 r.1 in
+          let by = says-of step g.G.Gate.passes g.L.OneServer.export (record mid { gate = c.pass.new.self }) b c.loop-piece.session new.session (take n c.deref.result.now) _ i.export e.says start u.0 first r.0 r.1 in
           let B : List ℕ → Type 0 = λ x. PieceBy step g.G.Gate.passes st first b (u.0 ++ x) new.session None in
           let w = subst B piece by in
           (u.0 ++ take n into, omega (arith, u.1, bound.1, c.if-n-eq0.false, length-append u.0 (take n into)), Consumes-trans (g.S.Source.remaining c.args.reader.now) (g.S.Source.remaining c.loop-piece.reader) (g.S.Source.remaining c.read.new.self) u.0 (take n into) u.2 bytes.0, w.0, w.1);

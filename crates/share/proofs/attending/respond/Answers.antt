@@ -27,7 +27,7 @@ returns-in-Open-clause-connection g c =
 
 pub returns-in-Open-clause-says : goal.returns-in-Open-clause-says
 returns-in-Open-clause-says g c =
-    says-open (through g.T.Door.executes g.T.Door.keeps) g.G.Gate.passes g.L.OneServer.export _ _ _ _ _ c.requires.open c.requires.export
+    says-open (through g.T.Door.executes g.T.Door.keeps) g.G.Gate.passes _ _ _ _ _ c.requires.open
     (piece_seen _ _ (λ a b command bytes fate. CommandTurn (through g.T.Door.executes g.T.Door.keeps) g.G.Gate.passes a b command (payload_in command bytes) fate) StandTells
     (λ p. stand p.door.now p.pass.now p.gate.now (g.K.Sink.written p.writer.now) (g.K.Sink.faults p.writer.now))
     (λ a b command bytes fate x. x.5) (λ a b reply taken x. x.5) _ _ _ _ _ _ (rw c.in-Open.is at c.answer_piece.ensures.pieced))
@@ -54,7 +54,7 @@ returns-in-Closed-clause-connection g c =
 
 pub returns-in-Closed-clause-says : goal.returns-in-Closed-clause-says
 returns-in-Closed-clause-says g c =
-    says-closed (through g.T.Door.executes g.T.Door.keeps) g.G.Gate.passes g.L.OneServer.export _ _ _ _ _ c.requires.open c.requires.export
+    says-closed (through g.T.Door.executes g.T.Door.keeps) g.G.Gate.passes _ _ _ _ _ c.requires.open
     (piece_seen _ _ (λ a b command bytes fate. CommandTurn (through g.T.Door.executes g.T.Door.keeps) g.G.Gate.passes a b command (payload_in command bytes) fate) StandTells
     (λ p. stand p.door.now p.pass.now p.gate.now (g.K.Sink.written p.writer.now) (g.K.Sink.faults p.writer.now))
     (λ a b command bytes fate x. x.5) (λ a b reply taken x. x.5) _ _ _ _ _ _ (rw c.in-Closed.is at c.answer_piece.ensures.pieced))
@@ -81,7 +81,7 @@ returns-in-OutputFailed-clause-connection g c =
 
 pub returns-in-OutputFailed-clause-says : goal.returns-in-OutputFailed-clause-says
 returns-in-OutputFailed-clause-says g c =
-    says-output (through g.T.Door.executes g.T.Door.keeps) g.G.Gate.passes g.L.OneServer.export _ _ _ _ _ c.requires.open c.requires.export
+    says-output (through g.T.Door.executes g.T.Door.keeps) g.G.Gate.passes _ _ _ _ _ c.requires.open
     (piece_seen _ _ (λ a b command bytes fate. CommandTurn (through g.T.Door.executes g.T.Door.keeps) g.G.Gate.passes a b command (payload_in command bytes) fate) StandTells
     (λ p. stand p.door.now p.pass.now p.gate.now (g.K.Sink.written p.writer.now) (g.K.Sink.faults p.writer.now))
     (λ a b command bytes fate x. x.5) (λ a b reply taken x. x.5) _ _ _ _ _ _ (rw c.in-OutputFailed.is at c.answer_piece.ensures.pieced))
@@ -108,7 +108,7 @@ returns-in-Lost-clause-connection g c =
 
 pub returns-in-Lost-clause-says : goal.returns-in-Lost-clause-says
 returns-in-Lost-clause-says g c =
-    says-lost (through g.T.Door.executes g.T.Door.keeps) g.G.Gate.passes g.L.OneServer.export _ _ _ _ _ c.requires.open c.requires.export
+    says-lost (through g.T.Door.executes g.T.Door.keeps) g.G.Gate.passes _ _ _ _ _ c.requires.open
     (piece_seen _ _ (λ a b command bytes fate. CommandTurn (through g.T.Door.executes g.T.Door.keeps) g.G.Gate.passes a b command (payload_in command bytes) fate) StandTells
     (λ p. stand p.door.now p.pass.now p.gate.now (g.K.Sink.written p.writer.now) (g.K.Sink.faults p.writer.now))
     (λ a b command bytes fate x. x.5) (λ a b reply taken x. x.5) _ _ _ _ _ _ (rw c.in-Lost.is at c.answer_piece.ensures.pieced))
