@@ -8,7 +8,7 @@ ghost use Rattle.share.specs.Connection.{Connection};
 ghost use Rattle.share.specs.Turning.{PieceServes};
 ghost use Rattle.share.specs.Places.{reading, setting, stand, through};
 
-use crate::attendant::Attendant;
+use crate::clerk::Clerk;
 use crate::door::{Door, Gate, Point};
 use crate::pass::{OneServer, Pass};
 use block_device::{Sink, Source, send};
@@ -57,40 +57,40 @@ fn answer_piece<L: OneServer, T: Door<L>, K: Sink, G: Gate>(
         (stand door.new pass.new gate.new (K.written writer.new) (K.faults writer.new))
         session.old session.new piece.now result }
 {
-    let mut attendant = Attendant {
+    let mut clerk = Clerk {
         door,
         pass,
         writer,
         gate,
     };
-    respond(&mut attendant, session, piece)
+    respond(&mut clerk, session, piece)
 }
 
-/// Has an attendant answer a piece, and says how the connection ended, where it did.
+/// Has a clerk answer a piece, and says how the connection ended, where it did.
 fn respond<L: OneServer, T: Door<L>, K: Sink, G: Gate>(
-    attendant: &mut Attendant<'_, '_, '_, '_, L, T, K, G>,
+    clerk: &mut Clerk<'_, '_, '_, '_, L, T, K, G>,
     session: &mut Session,
     piece: &[u8],
 ) -> Option<End>
     requires open { is_closed session.old ≡ false }
     requires export { session.old.export ≡ L.export }
-    ensures door { attendant.new.door.ghost_name ≡ attendant.old.door.ghost_name }
-    ensures pass { attendant.new.pass.ghost_name ≡ attendant.old.pass.ghost_name }
-    ensures writer { attendant.new.writer.ghost_name ≡ attendant.old.writer.ghost_name }
-    ensures gate { attendant.new.gate.ghost_name ≡ attendant.old.gate.ghost_name }
+    ensures door { clerk.new.door.ghost_name ≡ clerk.old.door.ghost_name }
+    ensures pass { clerk.new.pass.ghost_name ≡ clerk.old.pass.ghost_name }
+    ensures writer { clerk.new.writer.ghost_name ≡ clerk.old.writer.ghost_name }
+    ensures gate { clerk.new.gate.ghost_name ≡ clerk.old.gate.ghost_name }
     ensures open { result ≡ None → is_closed session.new ≡ false }
     ensures export { session.new.export ≡ L.export }
-    ensures connection { attendant.new.pass.now.connection ≡ attendant.old.pass.now.connection }
+    ensures connection { clerk.new.pass.now.connection ≡ clerk.old.pass.now.connection }
     ensures ends { IfSome result (λ end. (end ≡ End.Closed)
         ⊎ ((end ≡ End.Output) ⊎ (end ≡ End.Lost))) }
     ensures says { PieceServes (through T.executes T.keeps) G.passes
-        (stand attendant.old.door.now attendant.old.pass.now attendant.old.gate.now
-        (K.written attendant.old.writer.now) (K.faults attendant.old.writer.now))
-        (stand attendant.new.door.now attendant.new.pass.now attendant.new.gate.now
-        (K.written attendant.new.writer.now) (K.faults attendant.new.writer.now))
+        (stand clerk.old.door.now clerk.old.pass.now clerk.old.gate.now
+        (K.written clerk.old.writer.now) (K.faults clerk.old.writer.now))
+        (stand clerk.new.door.now clerk.new.pass.now clerk.new.gate.now
+        (K.written clerk.new.writer.now) (K.faults clerk.new.writer.now))
         session.old session.new piece.now result }
 {
-    match connection::answer_piece(attendant, session, piece) {
+    match connection::answer_piece(clerk, session, piece) {
         Progress::Open => None,
         Progress::Closed => Some(End::Closed),
         Progress::OutputFailed => Some(End::Output),

@@ -17,9 +17,9 @@
 #![tactic(auto)]
 
 mod alone;
-mod attendant;
 mod attending;
 mod chronicle;
+mod clerk;
 mod door;
 mod keeping;
 mod locked;

@@ -32,6 +32,15 @@ pub record Post : Type 0 where
   pub written : Option (List ℕ)
   pub faults : ℕ
 
+abbrev pub post : ℕ → Export → Facts → Option (List ℕ) → ℕ → Post
+post who export disk written faults = record {
+  who = who;
+  export = export;
+  disk = disk;
+  written = written;
+  faults = faults;
+}
+
 -- these bytes are written, or a beginning of them and a write failed
 abbrev pub WritesBy : Post → List ℕ → Bool → Post → Type 0
 WritesBy a bytes true b = Appends a.written b.written bytes × (b.faults ≡ a.faults)

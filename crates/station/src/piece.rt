@@ -3,7 +3,7 @@
 ghost use Rattle.std.specs.Io.KnownBytes.{Appends};
 ghost use Rattle.std.specs.Prelude.{◌≡◌, ◌*◌, ℕ, List, length, IfOk, OnErr, OnOk};
 ghost use Rattle.block_device.specs.Facts.{CountsNeverFall};
-ghost use Rattle.station.specs.Responding.{PostTakes};
+ghost use Rattle.station.specs.Responding.{PostTakes, post};
 ghost use Rattle.station.specs.Running.{FailsOnly};
 ghost use Rattle.station.specs.Telling.{SlowComes};
 ghost use Rattle.station.specs.Turning.{IsRunQuiet, Pieced, PieceHalts};
@@ -76,20 +76,11 @@ fn respond<D: Disk, W: Sink>(
     ensures export { session.new.export ≡ session.old.export }
     ensures memory { session.new.memory ≡ session.old.memory }
     ensures takes { PostTakes
-        (record {
-          who = responder.old.who;
-          export = responder.old.export;
-          disk = D.facts responder.old.disk.now;
-          written = W.written responder.old.out.now;
-          faults = W.faults responder.old.out.now;
-        })
-        (record {
-          who = responder.new.who;
-          export = responder.new.export;
-          disk = D.facts responder.new.disk.now;
-          written = W.written responder.new.out.now;
-          faults = W.faults responder.new.out.now;
-        }) session.old session.new bytes.now result }
+        (post responder.old.who responder.old.export (D.facts responder.old.disk.now)
+        (W.written responder.old.out.now) (W.faults responder.old.out.now))
+        (post responder.new.who responder.new.export (D.facts responder.new.disk.now)
+        (W.written responder.new.out.now) (W.faults responder.new.out.now)) session.old session.new
+        bytes.now result }
 {
     match answer_piece(responder, session, bytes) {
         Progress::Open => Ok(Ending::Stays),

@@ -18,7 +18,7 @@ pub(crate) struct Responder<'d, 'w, D: Disk, W: Sink> {
 
 impl<'d, 'w, D: Disk, W: Sink> Peer for Responder<'d, 'w, D, W> {
     ghost use Rattle.std.specs.Prelude.{◌≡◌, ◌*◌, length};
-    ghost use Rattle.station.specs.Responding.{PostAnswers, PostTells};
+    ghost use Rattle.station.specs.Responding.{PostAnswers, PostTells, post};
 
     ghost export = { λ p. p.export };
 
@@ -27,38 +27,16 @@ impl<'d, 'w, D: Disk, W: Sink> Peer for Responder<'d, 'w, D, W> {
     ghost answers = { λ a b command bytes fate. (b.disk.ghost_name ≡ a.disk.ghost_name)
         × (b.out.ghost_name ≡ a.out.ghost_name)
         × PostAnswers
-        (record {
-          who = a.who;
-          export = a.export;
-          disk = D.facts a.disk.now;
-          written = W.written a.out.now;
-          faults = W.faults a.out.now;
-        })
-        (record {
-          who = b.who;
-          export = b.export;
-          disk = D.facts b.disk.now;
-          written = W.written b.out.now;
-          faults = W.faults b.out.now;
-        }) command bytes fate };
+        (post a.who a.export (D.facts a.disk.now) (W.written a.out.now) (W.faults a.out.now))
+        (post b.who b.export (D.facts b.disk.now) (W.written b.out.now) (W.faults b.out.now))
+        command bytes fate };
 
     ghost tells = { λ a b reply taken. (b.disk.ghost_name ≡ a.disk.ghost_name)
         × (b.out.ghost_name ≡ a.out.ghost_name)
         × PostTells
-        (record {
-          who = a.who;
-          export = a.export;
-          disk = D.facts a.disk.now;
-          written = W.written a.out.now;
-          faults = W.faults a.out.now;
-        })
-        (record {
-          who = b.who;
-          export = b.export;
-          disk = D.facts b.disk.now;
-          written = W.written b.out.now;
-          faults = W.faults b.out.now;
-        }) reply taken };
+        (post a.who a.export (D.facts a.disk.now) (W.written a.out.now) (W.faults a.out.now))
+        (post b.who b.export (D.facts b.disk.now) (W.written b.out.now) (W.faults b.out.now))
+        reply taken };
 
     fn answer(&mut self, command: &Command, lent: &mut [u8]) -> Fate {
         match run(self.disk, command, self.export, lent) {

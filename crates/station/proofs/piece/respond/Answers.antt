@@ -1,6 +1,6 @@
 use Rattle.std.proofs.Common.{refl}
 use Rattle.connection.proofs.Mapping.{piece_seen, piece_keeps}
-use Rattle.station.specs.Responding.{PostAnswers, PostTells}
+use Rattle.station.specs.Responding.{PostAnswers, PostTells, post}
 use Rattle.station.proofs.Responding.{takes_open, takes_closed, takes_failed, takes_lost}
 use Rattle.station.proofs.piece.respond.Goals as goal
 
@@ -16,7 +16,7 @@ pub returns-in-Open-clause-takes : goal.returns-in-Open-clause-takes
 returns-in-Open-clause-takes g c =
     takes_open _ _ _ _ _ c.requires.export (c.in-Open.ensures.open refl)
     (piece_seen _ _ PostAnswers PostTells
-    (λ p. record { who = p.who; export = p.export; disk = g.D.Disk.facts p.disk.now; written = g.W.Sink.written p.out.now; faults = g.W.Sink.faults p.out.now })
+    (λ p. post p.who p.export (g.D.Disk.facts p.disk.now) (g.W.Sink.written p.out.now) (g.W.Sink.faults p.out.now))
     (λ a b command bytes fate x. x.2) (λ a b reply taken x. x.2) _ _ _ _ _ _ (rw c.in-Open.is at c.answer_piece.ensures.pieced))
 
 pub returns-in-Closed-clause-disk : goal.returns-in-Closed-clause-disk
@@ -31,7 +31,7 @@ pub returns-in-Closed-clause-takes : goal.returns-in-Closed-clause-takes
 returns-in-Closed-clause-takes g c =
     takes_closed _ _ _ _ _ c.requires.export
     (piece_seen _ _ PostAnswers PostTells
-    (λ p. record { who = p.who; export = p.export; disk = g.D.Disk.facts p.disk.now; written = g.W.Sink.written p.out.now; faults = g.W.Sink.faults p.out.now })
+    (λ p. post p.who p.export (g.D.Disk.facts p.disk.now) (g.W.Sink.written p.out.now) (g.W.Sink.faults p.out.now))
     (λ a b command bytes fate x. x.2) (λ a b reply taken x. x.2) _ _ _ _ _ _ (rw c.in-Closed.is at c.answer_piece.ensures.pieced))
 
 pub returns-in-OutputFailed-clause-disk : goal.returns-in-OutputFailed-clause-disk
@@ -46,7 +46,7 @@ pub returns-in-OutputFailed-clause-takes : goal.returns-in-OutputFailed-clause-t
 returns-in-OutputFailed-clause-takes g c =
     takes_failed _ _ _ _ _ c.requires.export _
     (piece_seen _ _ PostAnswers PostTells
-    (λ p. record { who = p.who; export = p.export; disk = g.D.Disk.facts p.disk.now; written = g.W.Sink.written p.out.now; faults = g.W.Sink.faults p.out.now })
+    (λ p. post p.who p.export (g.D.Disk.facts p.disk.now) (g.W.Sink.written p.out.now) (g.W.Sink.faults p.out.now))
     (λ a b command bytes fate x. x.2) (λ a b reply taken x. x.2) _ _ _ _ _ _ (rw c.in-OutputFailed.is at c.answer_piece.ensures.pieced))
 
 pub returns-in-Lost-clause-disk : goal.returns-in-Lost-clause-disk
@@ -61,5 +61,5 @@ pub returns-in-Lost-clause-takes : goal.returns-in-Lost-clause-takes
 returns-in-Lost-clause-takes g c =
     takes_lost _ _ _ _ _ c.requires.export
     (piece_seen _ _ PostAnswers PostTells
-    (λ p. record { who = p.who; export = p.export; disk = g.D.Disk.facts p.disk.now; written = g.W.Sink.written p.out.now; faults = g.W.Sink.faults p.out.now })
+    (λ p. post p.who p.export (g.D.Disk.facts p.disk.now) (g.W.Sink.written p.out.now) (g.W.Sink.faults p.out.now))
     (λ a b command bytes fate x. x.2) (λ a b reply taken x. x.2) _ _ _ _ _ _ (rw c.in-Lost.is at c.answer_piece.ensures.pieced))

@@ -41,7 +41,7 @@ fn write_answer<K: Sink>(writer: &mut K, answer: &Answer<'_>) -> Result<(), Fail
 
 /// A connection's door with its pass, the gate before it, and the writer of its replies.
 #[derive(Drop)]
-pub(crate) struct Attendant<'t, 'p, 'w, 'g, L: OneServer, T: Door<L>, K: Sink, G: Gate> {
+pub(crate) struct Clerk<'t, 'p, 'w, 'g, L: OneServer, T: Door<L>, K: Sink, G: Gate> {
     pub(crate) door: &'t mut T,
     pub(crate) pass: &'p mut Pass<L>,
     pub(crate) writer: &'w mut K,
@@ -49,7 +49,7 @@ pub(crate) struct Attendant<'t, 'p, 'w, 'g, L: OneServer, T: Door<L>, K: Sink, G
 }
 
 impl<'t, 'p, 'w, 'g, L: OneServer, T: Door<L>, K: Sink, G: Gate> Peer
-    for Attendant<'t, 'p, 'w, 'g, L, T, K, G> {
+    for Clerk<'t, 'p, 'w, 'g, L, T, K, G> {
     ghost use Rattle.std.specs.Prelude.{◌≡◌, [], ◌∷◌};
     ghost use Rattle.nbd_wire.specs.Lent.{payload_in};
     ghost use Rattle.share.specs.declared.door.Point.TheVariants.{Execute};
