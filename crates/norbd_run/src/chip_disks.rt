@@ -124,6 +124,7 @@ pub fn run_write_chip<R, S, K>(
 ) -> Result<(), Fault>
 where
     R: Files + AllocGlobal + Clock + Log + Screen + Net<Stream = TcpStream>,
+    R: 'static,
     S: Source,
     K: Sink,
     ensures told { WriteTells (K.written writer.old) (K.faults writer.old) result
@@ -131,13 +132,60 @@ where
     ensures end { OnOk result (IsAtEnd (S.remaining reader.new)) }
 {
     let noted = Noted::new();
-    let mut disk = disk_behind(rt, place, false, &noted, TidyPolicy::Lazily)?;
+    write_chip(rt, place, &noted, sectors, reader, writer)
+}
+
+/// Replaces sectors of the chip behind the programmer at a place, whose departures are noted.
+fn write_chip<'r, 'p, 'n, R, S, K>(
+    rt: &'r R,
+    place: ProgrammerPlace<'p>,
+    noted: &'n Noted,
+    sectors: Option<&str>,
+    reader: &mut S,
+    writer: &mut K,
+) -> Result<(), Fault>
+where
+    R: Files + AllocGlobal + Clock + Log + Screen + Net<Stream = TcpStream>,
+    R: 'static,
+    S: Source,
+    K: Sink,
+    ensures told { WriteTells (K.written writer.old) (K.faults writer.old) result
+        (K.written writer.new) (K.faults writer.new) }
+    ensures end { OnOk result (IsAtEnd (S.remaining reader.new)) }
+{
+    match disk_behind(rt, place, false, noted, TidyPolicy::Lazily) {
+        Ok(disk) => write_disk(rt, disk, noted, sectors, reader, writer),
+        Err(fault) => Err(fault),
+    }
+}
+
+/// Replaces sectors of a disk on a chip whose departures are noted.
+fn write_disk<R, D, S, K>(
+    rt: &R,
+    disk: D,
+    noted: &Noted,
+    sectors: Option<&str>,
+    reader: &mut S,
+    writer: &mut K,
+) -> Result<(), Fault>
+where
+    R: AllocGlobal + Clock + Screen,
+    D: Disk + Drop,
+    S: Source,
+    K: Sink,
+    requires ready { IsDiskReady (D.facts disk) }
+    requires sound { (D.facts disk).sound ≡ true }
+    ensures told { WriteTells (K.written writer.old) (K.faults writer.old) result
+        (K.written writer.new) (K.faults writer.new) }
+    ensures end { OnOk result (IsAtEnd (S.remaining reader.new)) }
+{
+    let mut disk = disk;
     let part = part_of(&disk, sectors)?;
     let before = replacing_text(rt.alloc(), part);
     if let Err(fault) = tell(writer, before) {
         return Err(fault);
     }
-    if let Err(fault) = put_part(rt, &mut disk, &noted, part, reader) {
+    if let Err(fault) = put_part(rt, &mut disk, noted, part, reader) {
         return Err(fault);
     }
     let after = written_text(rt.alloc(), part);

@@ -109,6 +109,7 @@ where
 fn move_sectors<R>(rt: &R, place: ProgrammerPlace<'_>, told: &mut Told) -> Moved
 where
     R: Files + AllocGlobal + Clock + Log + Screen + Net<Stream = TcpStream>,
+    R: 'static,
 {
     let mut input = FixedIn::new(&[0x5A; 1_024]);
     let wrote = run_write_chip(rt, place, Some("2:4"), &mut input, told);

@@ -1,5 +1,5 @@
 use Rattle.norbd_run.proofs.Lines.{before-failed, then-refused, replaced-told}
-use Rattle.norbd_run.proofs.chip_disks.run_write_chip.Goals as goal
+use Rattle.norbd_run.proofs.chip_disks.write_disk.Goals as goal
 
 pub returns-in-Err-clause-told : goal.returns-in-Err-clause-told
 returns-in-Err-clause-told g c =
