@@ -31,7 +31,7 @@ impl Entry {
 
 /// The entry once one more live slot of the sector was found; None where no write leaves these
 /// slots.
-pub fn note(entry: Entry, held: Held) -> Option<Entry>
+pub(crate) fn note(entry: Entry, held: Held) -> Option<Entry>
     ensures { result ≡ noted entry held }
 {
     match entry {

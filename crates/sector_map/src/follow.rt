@@ -21,7 +21,7 @@ use sector_stock::Copied;
 
 /// Names the slots of the block into which one was copied, if one was, in the entries of their
 /// sectors: one read.
-pub fn follow_copied<S: SlotCalls>(
+pub(crate) fn follow_copied<S: SlotCalls>(
     slots: &mut S,
     table: &mut [Entry],
     copied: Option<Copied>,

@@ -21,7 +21,7 @@ const FIRST_DATA_BLOCK: u16 = 4;
 
 /// What is found once a block of this kind is read, of `count` blocks; None where the blocks are
 /// corrupt. A block of a group is at rest.
-pub fn note_kind(found: Found, block: u16, kind: Kind, count: u16) -> Option<Found>
+pub(crate) fn note_kind(found: Found, block: u16, kind: Kind, count: u16) -> Option<Found>
     requires few { count ≤ 4092 }
     requires number { block ≤ 4092 }
     ensures { result ≡ noted_kind found block kind count }
@@ -75,7 +75,7 @@ pub struct Seen {
 }
 
 /// Whether a block is wholly free once the copying that was seen is ended.
-pub fn has_room(seen: Seen) -> bool
+pub(crate) fn has_room(seen: Seen) -> bool
     ensures { result ≡ leaves_room seen.found seen.spare }
 {
     match seen.found {

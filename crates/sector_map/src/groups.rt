@@ -131,7 +131,7 @@ fn is_dead_group(kind: Kind) -> bool
 }
 
 /// Whether a block of this kind is the older of two that are live with one group, by the table.
-pub fn is_older(table: &[Entry], block: u16, kind: Kind) -> bool
+pub(crate) fn is_older(table: &[Entry], block: u16, kind: Kind) -> bool
     requires number { (tag : TagOf) → kind ≡ Kind.Group tag → 7 * tag.number < length table.now }
     ensures older { IsTrue result → IsOlderGroup table.now block kind }
     ensures not_older { IsFalse result → IsOlderGroup table.now block kind → ⊥ }
@@ -181,7 +181,7 @@ fn retire_each<S: SlotCalls>(slots: &mut S, table: &[Entry]) -> Result<(), NorEr
 }
 
 /// Retires the older of two blocks of each group, and reads the table anew where there were two.
-pub fn retire_groups<S: SlotCalls>(slots: &mut S, table: &mut [Entry]) -> Result<(), NorError>
+pub(crate) fn retire_groups<S: SlotCalls>(slots: &mut S, table: &mut [Entry]) -> Result<(), NorError>
     requires size { length table.old ≡ sector_count (length (S.state slots.old).memory) }
     requires tabled { IsTabled table.old (slot_at (S.state slots.old).memory)
         (slot_count (S.state slots.old).memory) }
@@ -215,7 +215,7 @@ pub fn retire_groups<S: SlotCalls>(slots: &mut S, table: &mut [Entry]) -> Result
 }
 
 /// Erases the lowest-numbered dead block of a group, where no block is wholly free.
-pub fn make_room<S: SlotCalls>(slots: &mut S, has_room: bool) -> Result<(), NorError>
+pub(crate) fn make_room<S: SlotCalls>(slots: &mut S, has_room: bool) -> Result<(), NorError>
     requires rest { AreAtRest (kind_at (S.state slots.old).memory)
         (data_blocks (S.state slots.old).memory) }
     requires settled { has_room ≡ true → AreSettled (S.state slots.old).memory }

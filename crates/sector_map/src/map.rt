@@ -30,7 +30,7 @@ use journal_slots::SectorSlots;
 use nor_driver::{Nor, NorError};
 use nor_layout::SuperError;
 use sector_slots::SlotCalls;
-use sector_stock::{BlockState, Reclaim, SlotState, Stock};
+use sector_stock::{BlockState, Reclaim, SlotState};
 use std::alloc::{AllocError, Global};
 use std::marker::Model;
 

@@ -20,7 +20,7 @@ use sector_stock::Reclaim;
 /// Writes a sector's content, 512 bytes, into the free slot `to`, and then retires the slot that
 /// held the sector, if one did. Gives the sector's new holder, whose generation is the one after
 /// the old holder's, or the first. Cut, it leaves every sector as it was, or this one new.
-pub fn replace_in<S: Reclaim>(
+pub(crate) fn rewrite<S: Reclaim>(
     stock: &mut S,
     to: u16,
     holder: Option<Held>,
@@ -129,7 +129,7 @@ fn replace_held<S: Reclaim>(
 
 /// The content of a sector into `into`, 512 bytes, from the slot that holds it; zeros where none
 /// does. After an error `into` holds any bytes.
-pub fn find_in<S: Reclaim>(
+pub(crate) fn find_in<S: Reclaim>(
     stock: &mut S,
     holder: Option<Held>,
     into: &mut [u8],

@@ -62,7 +62,7 @@ fn note_allowed(found: Found, block: u16, kind: Kind, count: u16, groups: bool) 
 }
 
 /// Whether a block of this kind is of a group, live or dead.
-pub fn is_of_group(kind: Kind) -> bool
+pub(crate) fn is_of_group(kind: Kind) -> bool
     ensures { result ≡ is_group kind }
 {
     match kind {
@@ -79,7 +79,7 @@ pub fn is_of_group(kind: Kind) -> bool
 
 /// Enters the seven slots of a block that counts into the table of those before it; false where the
 /// slots are corrupt.
-pub fn enter_heads(table: &mut [Entry], block: u16, heads: &[Header]) -> bool
+pub(crate) fn enter_heads(table: &mut [Entry], block: u16, heads: &[Header]) -> bool
     requires number { block ≤ 4092 }
     requires room { length heads.now ≡ 7 }
     ensures sound { IsTrue result → EntersBlock heads.now block table.old table.new }
@@ -96,7 +96,7 @@ pub fn enter_heads(table: &mut [Entry], block: u16, heads: &[Header]) -> bool
 }
 
 /// Whether all of a block's slots are free.
-pub fn all_free(heads: &[Header]) -> bool
+pub(crate) fn all_free(heads: &[Header]) -> bool
     requires room { length heads.now ≡ 7 }
     ensures free { IsTrue result → (i : ℕ) → i < 7 → read_header heads.now i ≡ headers.Free }
     ensures not_free { IsFalse result → ((i : ℕ) → i < 7 → read_header heads.now i ≡ headers.Free)
@@ -169,7 +169,7 @@ fn enter_counted(table: &mut [Entry], found: Found, block: u16, heads: &[Header]
 /// Reads the descriptors of all blocks into a table in which every sector is absent, and says
 /// whether a block is wholly free; None where the slots are corrupt.
 #[tactic(auto, using(crate::proofs::Calls::repeated_calls))]
-pub fn read_table<S: SlotCalls>(
+pub(crate) fn read_table<S: SlotCalls>(
     slots: &mut S,
     table: &mut [Entry],
     found: Found,

@@ -14,7 +14,7 @@ ghost use Rattle.sector_map.specs.Maps.{IsServing, KeepsMap, SetLeaves, Wrote, K
 
 use crate::entry::Entry;
 use crate::follow::follow_copied;
-use crate::replace::replace_in;
+use crate::replace::rewrite;
 use crate::table::{keep_one, unset};
 use nor_driver::NorError;
 use sector_stock::{Next, Reclaim};
@@ -22,7 +22,7 @@ use sector_stock::{Next, Reclaim};
 /// Writes a sector into a slot that it takes, and retires the slot that held it, if one did. Where
 /// it is time for it, moves a block for its wear first; and where a block with its group holds the
 /// sector, converts that block.
-pub fn write_in<S: Reclaim>(
+pub(crate) fn write_in<S: Reclaim>(
     stock: &mut S,
     table: &mut [Entry],
     sector: u16,
@@ -139,7 +139,7 @@ fn write_own<S: Reclaim>(
     let given = stock.take_free()?;
     follow_copied(stock, table, given.copied)?;
     let holder = table[sector as usize].holder();
-    let held = replace_in(stock, given.slot, holder, sector, content)?;
+    let held = rewrite(stock, given.slot, holder, sector, content)?;
     keep_one(table, sector as usize, held);
     Ok(())
 }
@@ -147,7 +147,7 @@ fn write_own<S: Reclaim>(
 /// Copies a block with the most dead slots; where none is dead, converts the lowest-numbered block
 /// that is live with a group; false, and nothing changes, where there is neither. Where it is time
 /// for it, moves a block for its wear first.
-pub fn tidy_in<S: Reclaim>(stock: &mut S, table: &mut [Entry]) -> Result<bool, NorError>
+pub(crate) fn tidy_in<S: Reclaim>(stock: &mut S, table: &mut [Entry]) -> Result<bool, NorError>
     requires served { IsServing table.old (S.state stock.old) (S.indexed stock.old) }
     ensures ok { OnOk result (KeptServing table.new (S.state stock.old) (S.state stock.new)
         (S.indexed stock.new)) }
@@ -195,7 +195,7 @@ fn tidy_own<S: Reclaim>(stock: &mut S, table: &mut [Entry]) -> Result<bool, NorE
 }
 
 /// Does what `tidy_in` does while few slots are free; else nothing: false.
-pub fn tidy_urgent_in<S: Reclaim>(stock: &mut S, table: &mut [Entry]) -> Result<bool, NorError>
+pub(crate) fn tidy_urgent_in<S: Reclaim>(stock: &mut S, table: &mut [Entry]) -> Result<bool, NorError>
     requires served { IsServing table.old (S.state stock.old) (S.indexed stock.old) }
     ensures ok { OnOk result (KeptServing table.new (S.state stock.old) (S.state stock.new)
         (S.indexed stock.new)) }
@@ -220,7 +220,7 @@ pub fn tidy_urgent_in<S: Reclaim>(stock: &mut S, table: &mut [Entry]) -> Result<
 
 /// Retires the slot that holds a sector, if one does; the sector is absent then, and holds zeros.
 /// Where a block with its group holds it, converts that block first.
-pub fn clear_in<S: Reclaim>(stock: &mut S, table: &mut [Entry], sector: u16) -> Result<(), NorError>
+pub(crate) fn clear_in<S: Reclaim>(stock: &mut S, table: &mut [Entry], sector: u16) -> Result<(), NorError>
     requires served { IsServing table.old (S.state stock.old) (S.indexed stock.old) }
     requires number { sector < length table.old }
     ensures ok { OnOk result (Wrote sector zeros table.new (S.state stock.old) (S.state stock.new)

@@ -16,7 +16,7 @@ use nor_layout::{Layout, SUPER_LEN, SuperError, read_layout};
 use sector_slots::SlotCalls;
 
 /// Which layout the superblock of a memory says. Nothing is changed.
-pub fn look<N: Nor>(nor: &mut N) -> Result<Result<Layout, SuperError>, NorError>
+pub(crate) fn look<N: Nor>(nor: &mut N) -> Result<Result<Layout, SuperError>, NorError>
     ensures ok { IfOk result (λ says. says
         ≡ layout_of (N.state nor.old).memory (geometry_of (length (N.state nor.old).memory))) }
     ensures same { (N.state nor.new).memory ≡ (N.state nor.old).memory }
@@ -42,7 +42,7 @@ pub struct Marks {
 }
 
 /// The first bytes of the superblock, read behind the journals. Nothing is changed.
-pub fn read_marks<S: SlotCalls>(slots: &mut S) -> Result<Marks, NorError>
+pub(crate) fn read_marks<S: SlotCalls>(slots: &mut S) -> Result<Marks, NorError>
     ensures groups { IfOk result (λ marks. marks.groups
         ≡ may_have_groups (S.state slots.old).memory) }
     ensures unmarked { IfOk result (λ marks. marks.unmarked
@@ -69,7 +69,7 @@ fn marks_of(head: &[u8]) -> Marks
 }
 
 /// Programs the mark of a mixed chip into the superblock of one of layout 1 that isn't mixed yet.
-pub fn mark_first<S: SlotCalls>(slots: &mut S, unmarked: bool) -> Result<(), NorError>
+pub(crate) fn mark_first<S: SlotCalls>(slots: &mut S, unmarked: bool) -> Result<(), NorError>
     requires unmarked { unmarked ≡ is_unmarked (S.state slots.old).memory }
     ensures ok { OnOk result (MarksOf (S.state slots.old).memory (S.state slots.new).memory) }
     ensures cut { IsErrOf result NorError.Cut

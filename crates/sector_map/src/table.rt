@@ -9,7 +9,7 @@ use nor_layout::{Header, Tag};
 
 /// Enters a live slot into the table; false, and nothing changes, where its sector is none of the
 /// table's or the slots are corrupt.
-pub fn enter(table: &mut [Entry], tag: Tag, slot: u16) -> bool
+pub(crate) fn enter(table: &mut [Entry], tag: Tag, slot: u16) -> bool
     ensures { Enters table.old tag.number (record { slot = slot; generation = tag.generation })
         result table.new }
 {
@@ -44,7 +44,7 @@ pub fn enter_head(table: &mut [Entry], slot: u16, header: Header) -> bool
 }
 
 /// Leaves one slot in the entry of a sector.
-pub fn keep_one(table: &mut [Entry], sector: usize, held: Held)
+pub(crate) fn keep_one(table: &mut [Entry], sector: usize, held: Held)
     requires number { sector < length table.old }
     ensures { KeptOne table.old sector held table.new }
 {
@@ -52,7 +52,7 @@ pub fn keep_one(table: &mut [Entry], sector: usize, held: Held)
 }
 
 /// Leaves no slot in the entry of a sector.
-pub fn unset(table: &mut [Entry], sector: usize)
+pub(crate) fn unset(table: &mut [Entry], sector: usize)
     requires number { sector < length table.old }
     ensures { Unset table.old sector table.new }
 {

@@ -17,7 +17,7 @@ use sector_slots::SlotCalls;
 /// Copies the live slots of a block into a wholly free one, erases the block, and settles the copy.
 /// Cut, it leaves slots and blocks that a mount accepts; and where what read as free was erased,
 /// the map of sectors as it was.
-pub fn reclaim_into<S: SlotCalls>(slots: &mut S, source: u16, target: u16) -> Result<(), NorError>
+pub(crate) fn reclaim_into<S: SlotCalls>(slots: &mut S, source: u16, target: u16) -> Result<(), NorError>
     requires source { source < data_blocks (S.state slots.old).memory }
     requires target { target < data_blocks (S.state slots.old).memory }
     requires copyable { IsNorReady (S.state slots.old)

@@ -89,7 +89,7 @@ pub fn mark_dead(slots: &mut [SlotState], blocks: &mut [BlockState], at: &mut Cu
 }
 
 /// A free slot became live.
-pub fn mark_live(slots: &mut [SlotState], blocks: &mut [BlockState], slot: u16)
+pub(crate) fn mark_live(slots: &mut [SlotState], blocks: &mut [BlockState], slot: u16)
     requires slot { slot < length slots.old }
     requires block { slot / 7 < length blocks.old }
     requires some { 0 < (in_block blocks.old (slot / 7)).free }
@@ -102,7 +102,7 @@ pub fn mark_live(slots: &mut [SlotState], blocks: &mut [BlockState], slot: u16)
 }
 
 /// A block with the most dead slots: the lowest-numbered, or the least worn, as is chosen.
-pub fn most_dead(blocks: &[BlockState], at: &mut Cursors) -> Option<u16>
+pub(crate) fn most_dead(blocks: &[BlockState], at: &mut Cursors) -> Option<u16>
     requires size { length blocks.now < 65536 }
     requires ahead { IsAhead blocks.now at.old }
     ensures found { MatchOption result (HasNoDead blocks.now) (λ b. IsMostDead blocks.now b) }
@@ -185,7 +185,7 @@ fn first_with(blocks: &[BlockState], from: u16, dead: u8) -> Option<u16>
 }
 
 /// The lowest-numbered block that is live with a group.
-pub fn lowest_group(blocks: &[BlockState]) -> Option<u16>
+pub(crate) fn lowest_group(blocks: &[BlockState]) -> Option<u16>
     requires size { length blocks.now < 65536 }
     ensures { MatchOption result (HasNoGroup blocks.now) (λ b. IsLowestGroup blocks.now b) }
 {
@@ -200,7 +200,7 @@ pub fn lowest_group(blocks: &[BlockState]) -> Option<u16>
 
 /// A block but the reserve that has a free slot: the lowest-numbered, or as `level_with_free`
 /// gives it, as is chosen.
-pub fn block_with_free(blocks: &[BlockState], at: &mut Cursors) -> Option<u16>
+pub(crate) fn block_with_free(blocks: &[BlockState], at: &mut Cursors) -> Option<u16>
     requires size { length blocks.now < 65536 }
     requires ahead { IsAhead blocks.now at.old }
     ensures found { MatchOption result (HasNoFreeBut blocks.now at.old.reserve)
@@ -224,12 +224,12 @@ pub fn block_with_free(blocks: &[BlockState], at: &mut Cursors) -> Option<u16>
 }
 
 /// Where the order of blocks that were erased equally often begins.
-pub fn behind(clock: u16) -> u16 {
+pub(crate) fn behind(clock: u16) -> u16 {
     clock.saturating_add(1)
 }
 
 /// Another wholly free block is the reserve.
-pub fn choose_reserve(blocks: &[BlockState], at: &mut Cursors, reserve: u16)
+pub(crate) fn choose_reserve(blocks: &[BlockState], at: &mut Cursors, reserve: u16)
     requires size { length blocks.now < 65536 }
     requires number { reserve < length blocks.now }
     requires old { at.old.reserve < length blocks.now }
@@ -312,7 +312,7 @@ fn copy_of(state: SlotState) -> SlotState
 }
 
 /// The states of a block go to the block into which it was copied, and its own slots are free.
-pub fn shift_states(slots: &mut [SlotState], source: u16, target: u16)
+pub(crate) fn shift_states(slots: &mut [SlotState], source: u16, target: u16)
     requires other { source ≢ target }
     requires source { 7 * source + 7 ≤ length slots.old }
     requires target { 7 * target + 7 ≤ length slots.old }
@@ -354,7 +354,7 @@ fn move_counts(blocks: &mut [BlockState], source: u16, target: u16)
 
 /// The highest-numbered wholly free block from `least` on and below `below`; `least` where there is
 /// none.
-pub fn highest_whole(blocks: &[BlockState], least: u16, below: u16) -> u16
+pub(crate) fn highest_whole(blocks: &[BlockState], least: u16, below: u16) -> u16
     requires least { least < below }
     requires below { below ≤ length blocks.now }
     ensures found { (least ≤ result) × (result < below) }
@@ -425,7 +425,7 @@ fn widen(at: &mut Cursors, block: u16)
 
 /// The blocks once one of them was copied into the reserve: their counts, and where the index looks
 /// next.
-pub fn move_block(blocks: &mut [BlockState], at: &mut Cursors, source: u16)
+pub(crate) fn move_block(blocks: &mut [BlockState], at: &mut Cursors, source: u16)
     requires size { length blocks.old < 65536 }
     requires source { source < length blocks.old }
     requires reserve { at.old.reserve < length blocks.old }
@@ -447,7 +447,7 @@ pub fn move_block(blocks: &mut [BlockState], at: &mut Cursors, source: u16)
 }
 
 /// A free slot outside the reserve: the lowest-numbered where it chooses by number.
-pub fn free_slot(states: &[SlotState], blocks: &[BlockState], at: &mut Cursors) -> Option<u16>
+pub(crate) fn free_slot(states: &[SlotState], blocks: &[BlockState], at: &mut Cursors) -> Option<u16>
     requires size { length states.now < 65536 }
     requires states { length states.now ≡ 7 * length blocks.now }
     requires ahead { IsAhead blocks.now at.old }

@@ -175,7 +175,7 @@ fn end_turn(at: &mut Cursors, turn: u16, clock: u16)
 }
 
 /// Moves a block whose sectors rest into a wholly free one, where it is time for it.
-pub fn level_in<S: SlotCalls>(
+pub fn level_block<S: SlotCalls>(
     slots: &mut S,
     states: &mut [SlotState],
     blocks: &mut [BlockState],

@@ -27,20 +27,15 @@ mod policy;
 mod reclaim;
 mod room;
 mod scan;
-mod stock;
 mod take;
 
-pub use copy::{end_committed, end_erased, end_void, reclaim_into};
+pub use copy::{end_committed, end_erased, end_void};
 pub use given::{Copied, Given};
-pub use index::{
-    BlockState, Cursors, SlotState, free_slot, mark_dead, mark_live, most_dead, move_block,
-    shift_states,
-};
+pub use index::{BlockState, Cursors, SlotState, mark_dead};
 pub use laws::{never_full, slots_outnumber_sectors, sound_maps_have_room};
-pub use level::level_in;
-pub use policy::{Next, Policy, Wanted, is_wanted, is_whole, least_worn, most_worn};
+pub use level::level_block;
+pub use policy::{Next, Policy};
 pub use reclaim::Reclaim;
-pub use room::is_short_in;
-pub use scan::{fill_index, first_cursors, mark_written, note_block};
-pub use stock::Stock;
-pub use take::{take_in, tidy_in};
+pub use room::is_short;
+pub use scan::{fill_index, mark_written};
+pub use take::{convert_block, take_slot, tidy_block};

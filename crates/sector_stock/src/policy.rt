@@ -33,7 +33,7 @@ pub enum Next {
 
 /// What a block is wanted for. Source: own.
 #[derive(Clone, Copy, Debug, PartialEq, Eq, Drop)]
-pub enum Wanted {
+pub(crate) enum Wanted {
     /// It has free slots, and isn't wholly free.
     Begun,
     /// It is wholly free.
@@ -46,7 +46,7 @@ pub enum Wanted {
 }
 
 /// Whether a block is wholly free.
-pub fn is_whole(state: BlockState) -> bool
+pub(crate) fn is_whole(state: BlockState) -> bool
     ensures yes { IsTrue result → IsWholeBlock state }
     ensures no { IsFalse result → IsWholeBlock state → ⊥ }
 {
@@ -54,7 +54,7 @@ pub fn is_whole(state: BlockState) -> bool
 }
 
 /// Whether a block is one that is wanted.
-pub fn is_wanted(state: BlockState, wanted: Wanted) -> bool
+pub(crate) fn is_wanted(state: BlockState, wanted: Wanted) -> bool
     ensures yes { IsTrue result → Wants wanted state }
     ensures no { IsFalse result → Wants wanted state → ⊥ }
 {
@@ -90,7 +90,7 @@ fn less_worn(blocks: &[BlockState], old: u16, new: u16, from: u16) -> u16
 
 /// Of the blocks that are wanted, but the block `but`, the one that was erased least; of equals the
 /// one that is met first from `from` on, counted round.
-pub fn least_worn(blocks: &[BlockState], wanted: Wanted, but: u16, from: u16) -> Option<u16>
+pub(crate) fn least_worn(blocks: &[BlockState], wanted: Wanted, but: u16, from: u16) -> Option<u16>
     requires size { length blocks.now < 65536 }
     ensures { MatchOption result (HasNoneWanted wanted but blocks.now (length blocks.now))
         (λ b. IsLeastWorn wanted but blocks.now (length blocks.now) b) }
@@ -109,7 +109,7 @@ pub fn least_worn(blocks: &[BlockState], wanted: Wanted, but: u16, from: u16) ->
 }
 
 /// The wholly free block that was erased most. `first` is one.
-pub fn most_worn(blocks: &[BlockState], first: u16) -> u16
+pub(crate) fn most_worn(blocks: &[BlockState], first: u16) -> u16
     requires size { length blocks.now < 65536 }
     requires first { first < length blocks.now }
     requires whole { IsWholeBlock (in_block blocks.now first) }

@@ -27,7 +27,7 @@ fn count_free_slots(blocks: &[BlockState]) -> u32
 
 /// Whether fewer than an eighth of the slots beyond those that the sectors need are free, the
 /// reserve's not counted. Source: own.
-pub fn is_short_in(blocks: &[BlockState]) -> bool
+pub fn is_short(blocks: &[BlockState]) -> bool
     requires size { length blocks.now < 65536 }
     requires least { 8 ≤ length blocks.now }
     ensures { (slots : List SlotStateOf) (m : List ℕ)

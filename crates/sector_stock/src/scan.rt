@@ -51,7 +51,7 @@ pub fn fill_index<S: SlotCalls>(
 }
 
 /// Enters a block's kind and descriptors into the lists.
-pub fn note_block(
+pub(crate) fn note_block(
     states: &mut [SlotState],
     blocks: &mut [BlockState],
     block: u16,
@@ -189,7 +189,7 @@ pub fn mark_written(slots: &mut [SlotState], blocks: &mut [BlockState], at: &mut
 }
 
 /// Where the index looks first.
-pub fn first_cursors(blocks: &[BlockState], policy: Policy) -> Cursors
+pub(crate) fn first_cursors(blocks: &[BlockState], policy: Policy) -> Cursors
     requires size { length blocks.now < 65536 }
     requires numbers { (c : ℕ) → c < length blocks.now → (in_block blocks.now c).dead ≤ 7 }
     requires spare { (c : ℕ) × (c < length blocks.now) × IsWholeBlock (in_block blocks.now c) }

@@ -107,7 +107,7 @@ fn choose_target(blocks: &[BlockState], at: &mut Cursors)
 
 /// Converts a block that is live with a group into slots of the reserve, and brings the index up to
 /// date.
-pub fn convert_in<S: SlotCalls>(
+pub fn convert_block<S: SlotCalls>(
     slots: &mut S,
     states: &mut [SlotState],
     blocks: &mut [BlockState],
@@ -149,7 +149,7 @@ pub fn convert_in<S: SlotCalls>(
 
 /// A free slot outside the reserve, the lowest-numbered where it chooses by number. Where none is
 /// free, a block is copied first.
-pub fn take_in<S: SlotCalls>(
+pub fn take_slot<S: SlotCalls>(
     slots: &mut S,
     states: &mut [SlotState],
     blocks: &mut [BlockState],
@@ -234,7 +234,7 @@ fn convert_lowest<S: SlotCalls>(
 {
     match lowest_group(blocks) {
         Some(source) => {
-            let converted = convert_in(slots, states, blocks, at, source)?;
+            let converted = convert_block(slots, states, blocks, at, source)?;
             Ok(Some(converted))
         }
         None => Ok(None),
@@ -243,7 +243,7 @@ fn convert_lowest<S: SlotCalls>(
 
 /// Copies a block with the most dead slots, where one is dead; else converts the lowest-numbered
 /// block that is live with a group, where one is.
-pub fn tidy_in<S: SlotCalls>(
+pub fn tidy_block<S: SlotCalls>(
     slots: &mut S,
     states: &mut [SlotState],
     blocks: &mut [BlockState],

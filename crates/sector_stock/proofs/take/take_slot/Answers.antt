@@ -4,7 +4,7 @@ use Rattle.sector_slots.specs.Blocks.{IsReserveOf}
 use Rattle.sector_stock.proofs.RoomLaws.{never-full}
 use Rattle.sector_stock.specs.Takes.{was_copied, HasFewerBelow}
 use Rattle.sector_stock.proofs.Moved.{none-dead-in}
-use Rattle.sector_stock.proofs.take.take_in.Goals as goal
+use Rattle.sector_stock.proofs.take.take_slot.Goals as goal
 
 pub unreachable-requires : goal.unreachable-requires
 unreachable-requires g c =

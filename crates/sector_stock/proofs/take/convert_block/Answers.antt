@@ -1,7 +1,7 @@
 use Rattle.std.proofs.lemmas.Result.{err_from_is_err_and}
 use Rattle.sector_stock.proofs.Moved.{numbers-in, index-moved}
 use Rattle.sector_stock.proofs.Converting.{convertible, converts-into}
-use Rattle.sector_stock.proofs.take.convert_in.Goals as goal
+use Rattle.sector_stock.proofs.take.convert_block.Goals as goal
 
 pub reclaim_into-requires-clause-copyable : goal.reclaim_into-requires-clause-copyable
 reclaim_into-requires-clause-copyable g c ready = (convertible c.args.source c.args.at.now.reserve (g.S.SlotCalls.state c.args.slots.now).memory c.requires.room c.requires.index.reserve c.requires.source c.requires.group)

@@ -5,7 +5,7 @@ use Rattle.sector_stock.proofs.Moved.{none-dead-in, spare-whole, index-target, i
 use Rattle.sector_stock.specs.Room.{HasNoneDead}
 use Rattle.sector_stock.specs.Takes.{HasNoGroups, HasMostDead, HasFewerBelow, TidiesStock}
 use Rattle.sector_stock.specs.declared.given.Copied.{Copied}
-use Rattle.sector_stock.proofs.take.tidy_in.Goals as goal
+use Rattle.sector_stock.proofs.take.tidy_block.Goals as goal
 
 pub convert_lowest-requires-clause-none : goal.convert_lowest-requires-clause-none
 convert_lowest-requires-clause-none g c = none-dead-in (g.S.SlotCalls.state c.args.slots.now).memory c.args.states.now c.args.blocks.now c.args.at.now c.requires.index c.in-None.ensures.found

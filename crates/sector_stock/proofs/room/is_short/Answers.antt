@@ -4,7 +4,7 @@ use Rattle.sector_slots.specs.Slots.{slot_at, kind_at, data_blocks}
 use Rattle.sector_stock.specs.Takes.{is_short, free_slots}
 use Rattle.sector_stock.specs.IndexSteps.{free_below}
 use Rattle.sector_stock.proofs.Counting.{below-counts}
-use Rattle.sector_stock.proofs.room.is_short_in.Goals as goal
+use Rattle.sector_stock.proofs.room.is_short.Goals as goal
 
 pub overflow_mul-result : goal.overflow_mul-result
 overflow_mul-result c =

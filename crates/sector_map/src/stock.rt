@@ -10,19 +10,15 @@ ghost use Rattle.sector_slots.specs.Slots.{slot_count, data_blocks, kind_at, IsC
 ghost use Rattle.sector_stock.specs.Index.{IsStocked};
 ghost use Rattle.sector_stock.specs.declared.policy.Policy.TheVariants as policies;
 
-use crate::Reclaim;
-use crate::given::{Copied, Given};
-use crate::index::{BlockState, Cursors, SlotState, mark_dead};
-use crate::level::level_in;
-use crate::policy::{Next, Policy};
-use crate::room::is_short_in;
-use crate::scan::{fill_index, mark_written};
-use crate::take::{convert_in, take_in, tidy_in};
 use erase_journal::RecoverError;
 use journal_slots::SectorSlots;
 use nor_driver::{Nor, NorError};
 use nor_layout::{Header, Kind, Tag};
 use sector_slots::SlotCalls;
+use sector_stock::{
+    BlockState, Copied, Cursors, Given, Next, Policy, Reclaim, SlotState, convert_block, fill_index,
+    is_short, level_block, mark_dead, mark_written, take_slot, tidy_block,
+};
 
 /// A store of slots, and an index of them in memory: the state of each slot, the counts of each
 /// block, and where to look next. While the flag `indexed` is set the index is that of the memory.
@@ -219,7 +215,7 @@ impl<N: Nor> Reclaim for Stock<N> {
 
     fn take_free(&mut self) -> Result<Given, NorError> {
         self.indexed = false;
-        let given = take_in(
+        let given = take_slot(
             &mut self.slots,
             self.states.as_mut_slice(),
             self.blocks.as_mut_slice(),
@@ -231,7 +227,7 @@ impl<N: Nor> Reclaim for Stock<N> {
 
     fn tidy(&mut self) -> Result<Option<Copied>, NorError> {
         self.indexed = false;
-        let copied = tidy_in(
+        let copied = tidy_block(
             &mut self.slots,
             self.states.as_mut_slice(),
             self.blocks.as_mut_slice(),
@@ -243,7 +239,7 @@ impl<N: Nor> Reclaim for Stock<N> {
 
     fn level(&mut self, next: Next) -> Result<Option<Copied>, NorError> {
         self.indexed = false;
-        let moved = level_in(
+        let moved = level_block(
             &mut self.slots,
             self.states.as_mut_slice(),
             self.blocks.as_mut_slice(),
@@ -255,7 +251,7 @@ impl<N: Nor> Reclaim for Stock<N> {
     }
 
     fn is_short(&self) -> bool {
-        is_short_in(self.blocks.as_slice())
+        is_short(self.blocks.as_slice())
     }
 
     fn is_group(&self, slot: u16) -> bool {
@@ -264,7 +260,7 @@ impl<N: Nor> Reclaim for Stock<N> {
 
     fn convert(&mut self, block: u16) -> Result<Copied, NorError> {
         self.indexed = false;
-        let converted = convert_in(
+        let converted = convert_block(
             &mut self.slots,
             self.states.as_mut_slice(),
             self.blocks.as_mut_slice(),

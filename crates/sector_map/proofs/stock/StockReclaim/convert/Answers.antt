@@ -1,0 +1,21 @@
+use Rattle.std.proofs.Common.{◌∙◌, sym, subst, true}
+use Rattle.std.proofs.lemmas.List.{with_items_is}
+use Rattle.std.specs.Vec.{with_items}
+use Rattle.sector_stock.specs.Index.{IsStocked}
+use Rattle.sector_stock.proofs.Writing.{stocked-indexed}
+use Rattle.sector_stock.proofs.stock.StockReclaim.convert.Goals as goal
+
+pub invariant_of-self-2 : goal.invariant_of-self-2
+invariant_of-self-2 g c =
+    let s = c.args.self.now in
+    let m = s.slots.memory in
+    let m1 = c.convert_block.new.slots.memory in
+    let ss = rw c.as_mut_slice.ensures.value at c.in_ok-converted.ensures.states_size in
+    let bs = rw c.as_mut_slice-2.ensures.value at c.in_ok-converted.ensures.blocks_size in
+    let states = with_items_is s.states c.convert_block.new.states (ss ∙ sym s.states.ok.0) in
+    let blocks = with_items_is s.blocks c.convert_block.new.blocks (bs ∙ sym s.blocks.ok.0) in
+    record {
+      stocked = subst (λ xs. IsStocked xs (with_items s.blocks c.convert_block.new.blocks).items c.convert_block.new.at true m1) (sym states)
+          (subst (λ ys. IsStocked c.convert_block.new.states ys c.convert_block.new.at true m1) (sym blocks)
+          (stocked-indexed s.states.items c.convert_block.new.states s.blocks.items c.convert_block.new.blocks s.at c.convert_block.new.at s.indexed m m1 c.in_ok-converted.ensures.size ss bs s.stocked c.in_ok-converted.ensures.index));
+    }

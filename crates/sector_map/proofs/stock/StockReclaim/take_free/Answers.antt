@@ -1,0 +1,21 @@
+use Rattle.std.proofs.Common.{◌∙◌, sym, subst, true}
+use Rattle.std.proofs.lemmas.List.{with_items_is}
+use Rattle.std.specs.Vec.{with_items}
+use Rattle.sector_stock.specs.Index.{IsStocked}
+use Rattle.sector_stock.proofs.Writing.{stocked-indexed}
+use Rattle.sector_stock.proofs.stock.StockReclaim.take_free.Goals as goal
+
+pub invariant_of-self-2 : goal.invariant_of-self-2
+invariant_of-self-2 g c =
+    let s = c.args.self.now in
+    let m = s.slots.memory in
+    let m1 = c.take_slot.new.slots.memory in
+    let size1 = rw c.as_mut_slice.ensures.value at c.take_slot.ensures.states_size in
+    let size2 = rw c.as_mut_slice-2.ensures.value at c.take_slot.ensures.blocks_size in
+    let states = with_items_is s.states c.take_slot.new.states (size1 ∙ sym s.states.ok.0) in
+    let blocks = with_items_is s.blocks c.take_slot.new.blocks (size2 ∙ sym s.blocks.ok.0) in
+    record {
+      stocked = subst (λ xs. IsStocked xs (with_items s.blocks c.take_slot.new.blocks).items c.take_slot.new.at true m1) (sym states)
+          (subst (λ ys. IsStocked c.take_slot.new.states ys c.take_slot.new.at true m1) (sym blocks)
+          (stocked-indexed s.states.items c.take_slot.new.states s.blocks.items c.take_slot.new.blocks s.at c.take_slot.new.at s.indexed m m1 c.take_slot.ensures.size size1 size2 s.stocked c.in_ok-given.ensures.index));
+    }
