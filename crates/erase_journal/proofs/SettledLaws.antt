@@ -1,12 +1,12 @@
 -- One call after another where no erase goes on after them.
 use Rattle.std.proofs.Common.{List, ℕ}
-use Rattle.std.specs.Prelude.{Result, Ok, Err, OnOk}
+use Rattle.std.specs.Prelude.{Result, Ok, Err, OnOk, IfErr}
 use Rattle.nor_driver.specs.State.{NorState, IsNorReady, OnlyMemoryChanges, Succeeds, Refuses}
 use Rattle.nor_driver.specs.declared.error.NorError.{NorError}
 use Rattle.nor_driver.proofs.CallLaws.{kept-after, refuses-since}
 use Rattle.erase_journal.specs.declared.phase.Phase.TheVariants.{Idle}
 use Rattle.erase_journal.specs.Journals.{IsHealthy, IsSettled}
-use Rattle.erase_journal.specs.Steps.{SucceedsSettled}
+use Rattle.erase_journal.specs.Steps.{SucceedsSettled, EndsSettled}
 
 pub settled-healthy : (m : List ℕ) → IsSettled m → IsHealthy m
 settled-healthy m h = (Idle, h.sound)
@@ -26,3 +26,8 @@ settled-of old new (Err e) ready kept settled = settled
 pub settled-then : (a b c : NorState) (r : Result (Unit {0}) NorError) → Succeeds a b → OnOk r (SucceedsSettled b c) → OnOk r (SucceedsSettled a c)
 settled-then a b c (Ok x) s t = record { ready = s.ready; kept = kept-after a b c s.kept t.kept; settled = t.settled }
 settled-then a b c (Err e) s t = t
+
+-- how a call ends, by its two answers
+pub ends-settled : {T : Type 0} (r : Result T NorError) (a b : NorState) → OnOk r (SucceedsSettled a b) → IfErr r (λ e. Refuses e a b) → EndsSettled r a b
+ends-settled (Ok x) a b d f = d
+ends-settled (Err e) a b d f = f

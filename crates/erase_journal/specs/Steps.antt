@@ -1,11 +1,12 @@
 -- What the functions of the journal leave. Source: own.
-use Rattle.std.specs.Prelude.{◌≡◌, ◌≢◌, ℕ, ◌+◌, ◌<◌, true, List}
+use Rattle.std.specs.Prelude.{◌≡◌, ◌≢◌, ℕ, ◌+◌, ◌<◌, true, List, Result, MatchResult}
 use Rattle.chip_model.specs.Memory.{byte}
 use Rattle.nor_layout.specs.declared.journal.JournalId.{JournalId}
 use Rattle.nor_layout.specs.declared.journal.JournalId.TheVariants.{J0, J1, J2}
 use Rattle.nor_layout.specs.Journals.{region_len}
 use Rattle.nor_layout.specs.Entries.{entry_count, entry_at}
-use Rattle.nor_driver.specs.State.{NorState, IsNorReady, OnlyMemoryChanges}
+use Rattle.nor_driver.specs.State.{NorState, IsNorReady, OnlyMemoryChanges, Refuses}
+use Rattle.nor_driver.specs.declared.error.NorError.{NorError}
 use Rattle.erase_journal.specs.declared.phase.Phase.{Phase}
 use Rattle.erase_journal.specs.declared.phase.Phase.TheVariants.{Idle}
 use Rattle.erase_journal.specs.declared.unused.Unused.{Unused}
@@ -32,6 +33,10 @@ pub record SucceedsSettled (old new : NorState) : Type 0 where
   pub ready : IsNorReady old
   pub kept : OnlyMemoryChanges old new
   pub settled : IsSettled new.memory
+
+-- how a call ends: Ok, as `SucceedsSettled` says it, or with an error, as `Refuses` says it
+abbrev pub EndsSettled : {A : Type 0} → Result A NorError → NorState → NorState → Type 0
+EndsSettled result old new = MatchResult result (λ _. SucceedsSettled old new) (λ e. Refuses e old new)
 
 -- the lowest byte with the old value has changed in a region
 pub record OneChanged (place old new : ℕ) (m m' : List ℕ) : Type 0 where

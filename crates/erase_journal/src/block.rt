@@ -1,16 +1,16 @@
 //! Reads and programs of a data block.
 
-ghost use Rattle.std.specs.Prelude.{◌≡◌, ◌+◌, ◌%◌, ◌<◌, ◌≤◌, length, slice_range, OnOk, IfErr};
+ghost use Rattle.std.specs.Prelude.{◌≡◌, ◌+◌, ◌%◌, ◌<◌, ◌≤◌, length, slice_range, OnOk};
 ghost use Rattle.std.specs.Result.{IsErrOf};
 ghost use Rattle.chip_model.specs.Geometry.{block_count};
 ghost use Rattle.chip_model.specs.Memory.{and_at, TornAnd};
-ghost use Rattle.nor_driver.specs.State.{IsNorReady, Succeeds, Refuses, Leaves};
+ghost use Rattle.nor_driver.specs.State.{IsNorReady, Leaves, Ends};
 ghost use Rattle.erase_journal.specs.Journals.{IsSettled, IsHealthy, unused};
 ghost use Rattle.erase_journal.specs.declared.known.Known.{Known};
 ghost use Rattle.erase_journal.specs.Known.{IsKnown};
 ghost use Rattle.erase_journal.specs.Spending.{Spends};
 ghost use Rattle.erase_journal.specs.Blocks.{block as block_of, OnlyBlock, WithErased};
-ghost use Rattle.erase_journal.specs.Steps.{SucceedsSettled, EraseInterrupted};
+ghost use Rattle.erase_journal.specs.Steps.{EraseInterrupted, EndsSettled};
 
 use crate::block_erase::erase_with_entry;
 use crate::known::Known;
@@ -27,8 +27,7 @@ pub fn read_block<N: Nor>(nor: &mut N, block: u16, at: u32, into: &mut [u8]) -> 
     ensures ok { OnOk result (into.new
         ≡ slice_range (block_of (N.state nor.old).memory block) at (at + length into.old)) }
     ensures same { (N.state nor.new).memory ≡ (N.state nor.old).memory }
-    ensures done { OnOk result (Succeeds (N.state nor.old) (N.state nor.new)) }
-    ensures fails { IfErr result (λ e. Refuses e (N.state nor.old) (N.state nor.new)) }
+    ensures ends { Ends result (N.state nor.old) (N.state nor.new) }
 {
     nor.read(BLOCK_LEN * block as u32 + at, into)?;
     Ok(())
@@ -53,8 +52,7 @@ pub fn program_block<N: Nor>(nor: &mut N, block: u16, at: u32, bytes: &[u8]) -> 
         (block_of (N.state nor.new).memory block) }
     ensures healthy { IsErrOf result NorError.Cut → IsHealthy (N.state nor.old).memory
         → IsHealthy (N.state nor.new).memory }
-    ensures done { OnOk result (SucceedsSettled (N.state nor.old) (N.state nor.new)) }
-    ensures fails { IfErr result (λ e. Refuses e (N.state nor.old) (N.state nor.new)) }
+    ensures ends { EndsSettled result (N.state nor.old) (N.state nor.new) }
 {
     nor.program(BLOCK_LEN * block as u32 + at, bytes)
 }
@@ -73,8 +71,7 @@ pub fn erase_block<N: Nor>(nor: &mut N, known: &mut Known, block: u16) -> Result
     ensures cut { IsErrOf result NorError.Cut → IsHealthy (N.state nor.old).memory
         → EraseInterrupted block (N.state nor.old).memory (N.state nor.new).memory }
     ensures size { length (N.state nor.new).memory ≡ length (N.state nor.old).memory }
-    ensures done { OnOk result (SucceedsSettled (N.state nor.old) (N.state nor.new)) }
-    ensures fails { IfErr result (λ e. Refuses e (N.state nor.old) (N.state nor.new)) }
+    ensures ends { EndsSettled result (N.state nor.old) (N.state nor.new) }
 {
     rest(nor, known)?;
     erase_with_entry(nor, known, block)?;

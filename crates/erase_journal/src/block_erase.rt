@@ -3,11 +3,11 @@
 ghost use Rattle.std.specs.Prelude.{◌⊎◌, ◌≡◌, ◌+◌, ◌*◌, ◌/◌, ◌<◌, ◌≤◌, ◌^◌, ℕ, true, false, length};
 ghost use Rattle.std.specs.Prelude.{OnOk, IfOk, IfErr};
 ghost use Rattle.std.specs.Result.{IsErrOf};
-ghost use Rattle.nor_driver.specs.State.{IsNorReady, OnlyMemoryChanges, Succeeds, Refuses};
+ghost use Rattle.nor_driver.specs.State.{IsNorReady, OnlyMemoryChanges, Refuses, Ends};
 ghost use Rattle.erase_journal.specs.Journals.{IsHealthy, is_free_entry, unused};
 ghost use Rattle.erase_journal.specs.Blocks.{SameBlocks, WithErased};
 ghost use Rattle.erase_journal.specs.Scans.{IsFreeAnswer, IsOpenAnswer};
-ghost use Rattle.erase_journal.specs.Steps.{SucceedsSettled, IsRestful, IsTaken, IsOpened};
+ghost use Rattle.erase_journal.specs.Steps.{IsRestful, IsTaken, IsOpened, EndsSettled};
 ghost use Rattle.erase_journal.specs.Steps.{SameNumbers, KeepsBlocks, EraseInterrupted};
 ghost use Rattle.erase_journal.specs.Spending.{IsUsed, KeepsUse, once_used};
 ghost use Rattle.erase_journal.specs.Known.{IsKnown};
@@ -25,8 +25,7 @@ fn find_free<N: Nor>(nor: &mut N) -> Result<Option<u16>, NorError>
     requires { JOURNALS_END ≤ length (N.state nor.old).memory }
     ensures found { IfOk result (λ found. IsFreeAnswer (N.state nor.old).memory found) }
     ensures same { (N.state nor.new).memory ≡ (N.state nor.old).memory }
-    ensures done { OnOk result (Succeeds (N.state nor.old) (N.state nor.new)) }
-    ensures fails { IfErr result (λ e. Refuses e (N.state nor.old) (N.state nor.new)) }
+    ensures ends { Ends result (N.state nor.old) (N.state nor.new) }
 {
     let mut entries = [0; ENTRIES_LEN];
     nor.read(entry_place(0), &mut entries)?;
@@ -63,8 +62,7 @@ pub fn find_open<N: Nor>(nor: &mut N) -> Result<Option<OpenEntry>, NorError>
     requires { JOURNALS_END ≤ length (N.state nor.old).memory }
     ensures found { IfOk result (λ found. IsOpenAnswer (N.state nor.old).memory found) }
     ensures same { (N.state nor.new).memory ≡ (N.state nor.old).memory }
-    ensures done { OnOk result (Succeeds (N.state nor.old) (N.state nor.new)) }
-    ensures fails { IfErr result (λ e. Refuses e (N.state nor.old) (N.state nor.new)) }
+    ensures ends { Ends result (N.state nor.old) (N.state nor.new) }
 {
     let blocks = (nor.bytes() / BLOCK_LEN) as u16;
     let mut entries = [0; ENTRIES_LEN];
@@ -84,8 +82,7 @@ fn take_entry<N: Nor>(nor: &mut N, entry: u16, block: u16) -> Result<(), NorErro
     ensures cut { IsErrOf result NorError.Cut → IsHealthy (N.state nor.old).memory
         → KeepsBlocks (N.state nor.old).memory (N.state nor.new).memory }
     ensures size { length (N.state nor.new).memory ≡ length (N.state nor.old).memory }
-    ensures done { OnOk result (Succeeds (N.state nor.old) (N.state nor.new)) }
-    ensures fails { IfErr result (λ e. Refuses e (N.state nor.old) (N.state nor.new)) }
+    ensures ends { Ends result (N.state nor.old) (N.state nor.new) }
 {
     nor.program(entry_place(entry), &taken_entry(block))
 }
@@ -108,8 +105,7 @@ fn open_entry<N: Nor>(nor: &mut N, known: Known, block: u16) -> Result<u16, NorE
     ensures cut { IsErrOf result NorError.Cut → IsHealthy (N.state nor.old).memory
         → EraseInterrupted block (N.state nor.old).memory (N.state nor.new).memory }
     ensures size { length (N.state nor.new).memory ≡ length (N.state nor.old).memory }
-    ensures done { OnOk result (Succeeds (N.state nor.old) (N.state nor.new)) }
-    ensures fails { IfErr result (λ e. Refuses e (N.state nor.old) (N.state nor.new)) }
+    ensures ends { Ends result (N.state nor.old) (N.state nor.new) }
 {
     let entry = lowest_entry(nor, known)?;
     take_entry(nor, entry, block)?;
@@ -128,8 +124,7 @@ pub fn finish_entry<N: Nor>(nor: &mut N, entry: u16, block: u16) -> Result<(), N
     ensures cut { IsErrOf result NorError.Cut
         → KeepsBlocks (N.state nor.old).memory (N.state nor.new).memory }
     ensures size { length (N.state nor.new).memory ≡ length (N.state nor.old).memory }
-    ensures done { OnOk result (SucceedsSettled (N.state nor.old) (N.state nor.new)) }
-    ensures fails { IfErr result (λ e. Refuses e (N.state nor.old) (N.state nor.new)) }
+    ensures ends { EndsSettled result (N.state nor.old) (N.state nor.new) }
 {
     nor.erase_small(BLOCK_LEN * block as u32)?;
     nor.program(entry_place(entry), &[CLOSED_ENTRY])?;
@@ -152,8 +147,7 @@ pub fn erase_with_entry<N: Nor>(nor: &mut N, known: &mut Known, block: u16) -> R
     ensures cut { IsErrOf result NorError.Cut → IsHealthy (N.state nor.old).memory
         → EraseInterrupted block (N.state nor.old).memory (N.state nor.new).memory }
     ensures size { length (N.state nor.new).memory ≡ length (N.state nor.old).memory }
-    ensures done { OnOk result (SucceedsSettled (N.state nor.old) (N.state nor.new)) }
-    ensures fails { IfErr result (λ e. Refuses e (N.state nor.old) (N.state nor.new)) }
+    ensures ends { EndsSettled result (N.state nor.old) (N.state nor.new) }
 {
     let entry = open_entry(nor, *known, block)?;
     finish_entry(nor, entry, block)?;

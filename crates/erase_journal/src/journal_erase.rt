@@ -1,12 +1,12 @@
 //! The erase of a journal by the votes of both others.
 
-ghost use Rattle.std.specs.Prelude.{◌≡◌, ◌≤◌, length, OnOk, IfErr};
+ghost use Rattle.std.specs.Prelude.{◌≡◌, ◌≤◌, length, OnOk};
 ghost use Rattle.std.specs.Result.{IsErrOf};
-ghost use Rattle.nor_driver.specs.State.{Succeeds, Refuses};
 ghost use Rattle.erase_journal.specs.Votes.{once_erased};
 ghost use Rattle.erase_journal.specs.Journals.{unused, open_entries, AreJournalsSound};
 ghost use Rattle.erase_journal.specs.Blocks.{SameBlocks};
 ghost use Rattle.erase_journal.specs.Steps.{MayErase, IsStep, IsNext, KeepsBlocks};
+ghost use Rattle.nor_driver.specs.State.{Ends};
 
 use crate::phase::Phase;
 use crate::votes::{close_vote, open_vote};
@@ -23,8 +23,7 @@ pub fn doom<N: Nor>(nor: &mut N, journal: JournalId) -> Result<(), NorError>
     ensures cut { IsErrOf result NorError.Cut
         → KeepsBlocks (N.state nor.old).memory (N.state nor.new).memory }
     ensures size { length (N.state nor.new).memory ≡ length (N.state nor.old).memory }
-    ensures done { OnOk result (Succeeds (N.state nor.old) (N.state nor.new)) }
-    ensures fails { IfErr result (λ e. Refuses e (N.state nor.old) (N.state nor.new)) }
+    ensures ends { Ends result (N.state nor.old) (N.state nor.new) }
 {
     let first = journal.first_votes();
     let second = journal.second_votes();
@@ -44,8 +43,7 @@ pub fn renew<N: Nor>(nor: &mut N, journal: JournalId) -> Result<(), NorError>
     ensures cut { IsErrOf result NorError.Cut
         → KeepsBlocks (N.state nor.old).memory (N.state nor.new).memory }
     ensures size { length (N.state nor.new).memory ≡ length (N.state nor.old).memory }
-    ensures done { OnOk result (Succeeds (N.state nor.old) (N.state nor.new)) }
-    ensures fails { IfErr result (λ e. Refuses e (N.state nor.old) (N.state nor.new)) }
+    ensures ends { Ends result (N.state nor.old) (N.state nor.new) }
 {
     let first = journal.first_votes();
     let second = journal.second_votes();

@@ -1,16 +1,16 @@
 //! The end of what a loss of power interrupted.
 
 ghost use Rattle.std.specs.Prelude.{◌↔◌, ◌⊎◌, None, false, IsSome, IfOk, IfSome, ◌≡◌, ◌≤◌, length};
-ghost use Rattle.std.specs.Prelude.{OnOk, IfErr};
+ghost use Rattle.std.specs.Prelude.{OnOk};
 ghost use Rattle.std.specs.Result.{IsErrOf};
-ghost use Rattle.nor_driver.specs.State.{Succeeds, Refuses};
 ghost use Rattle.erase_journal.specs.Journals.{AreJournalsSound, IsSettled, IsHealthy, settled};
 ghost use Rattle.erase_journal.specs.Journals.{unused};
 ghost use Rattle.erase_journal.specs.Blocks.{SameBlocks};
-ghost use Rattle.erase_journal.specs.Steps.{SucceedsSettled, SameNumbers, KeepsBlocks};
+ghost use Rattle.erase_journal.specs.Steps.{SameNumbers, KeepsBlocks, EndsSettled};
 ghost use Rattle.erase_journal.specs.Spending.{Continues};
 ghost use Rattle.erase_journal.specs.Recovery.{seen, Restored, RestoreCut, RestoreSlow};
 ghost use Rattle.erase_journal.specs.Recovery.{RestoreCorrupt};
+ghost use Rattle.nor_driver.specs.State.{Ends};
 
 use crate::block_erase::{find_open, finish_entry};
 use crate::journal_erase::renew;
@@ -33,8 +33,7 @@ fn resume_asked<N: Nor>(nor: &mut N, journal: JournalId) -> Result<(), NorError>
     ensures cut { IsErrOf result NorError.Cut
         → KeepsBlocks (N.state nor.old).memory (N.state nor.new).memory }
     ensures size { length (N.state nor.new).memory ≡ length (N.state nor.old).memory }
-    ensures done { OnOk result (SucceedsSettled (N.state nor.old) (N.state nor.new)) }
-    ensures fails { IfErr result (λ e. Refuses e (N.state nor.old) (N.state nor.new)) }
+    ensures ends { EndsSettled result (N.state nor.old) (N.state nor.new) }
 {
     open_vote(nor, journal.second_votes())?;
     renew(nor, journal)?;
@@ -52,8 +51,7 @@ fn resume_doomed<N: Nor>(nor: &mut N, journal: JournalId) -> Result<(), NorError
     ensures cut { IsErrOf result NorError.Cut
         → KeepsBlocks (N.state nor.old).memory (N.state nor.new).memory }
     ensures size { length (N.state nor.new).memory ≡ length (N.state nor.old).memory }
-    ensures done { OnOk result (SucceedsSettled (N.state nor.old) (N.state nor.new)) }
-    ensures fails { IfErr result (λ e. Refuses e (N.state nor.old) (N.state nor.new)) }
+    ensures ends { EndsSettled result (N.state nor.old) (N.state nor.new) }
 {
     renew(nor, journal)?;
     Ok(())
@@ -70,8 +68,7 @@ fn resume_closing<N: Nor>(nor: &mut N, journal: JournalId) -> Result<(), NorErro
     ensures cut { IsErrOf result NorError.Cut
         → KeepsBlocks (N.state nor.old).memory (N.state nor.new).memory }
     ensures size { length (N.state nor.new).memory ≡ length (N.state nor.old).memory }
-    ensures done { OnOk result (SucceedsSettled (N.state nor.old) (N.state nor.new)) }
-    ensures fails { IfErr result (λ e. Refuses e (N.state nor.old) (N.state nor.new)) }
+    ensures ends { EndsSettled result (N.state nor.old) (N.state nor.new) }
 {
     close_vote(nor, journal.second_votes())?;
     Ok(())
@@ -87,8 +84,7 @@ fn resume_idle<N: Nor>(nor: &mut N) -> Result<(), NorError>
     ensures cut { IsErrOf result NorError.Cut
         → KeepsBlocks (N.state nor.old).memory (N.state nor.new).memory }
     ensures size { length (N.state nor.new).memory ≡ length (N.state nor.old).memory }
-    ensures done { OnOk result (SucceedsSettled (N.state nor.old) (N.state nor.new)) }
-    ensures fails { IfErr result (λ e. Refuses e (N.state nor.old) (N.state nor.new)) }
+    ensures ends { EndsSettled result (N.state nor.old) (N.state nor.new) }
 {
     let found = find_open(nor)?;
     match found {
@@ -107,8 +103,7 @@ fn resume<N: Nor>(nor: &mut N, phase: Phase) -> Result<(), NorError>
     ensures cut { IsErrOf result NorError.Cut
         → KeepsBlocks (N.state nor.old).memory (N.state nor.new).memory }
     ensures size { length (N.state nor.new).memory ≡ length (N.state nor.old).memory }
-    ensures done { OnOk result (SucceedsSettled (N.state nor.old) (N.state nor.new)) }
-    ensures fails { IfErr result (λ e. Refuses e (N.state nor.old) (N.state nor.new)) }
+    ensures ends { EndsSettled result (N.state nor.old) (N.state nor.new) }
 {
     match phase {
         Phase::Idle => resume_idle(nor),
@@ -137,8 +132,7 @@ pub fn settle<N: Nor>(nor: &mut N) -> Result<Option<Unused>, NorError>
         → ((N.state nor.new).memory ≡ (N.state nor.old).memory)
         ⊎ KeepsBlocks (N.state nor.old).memory (N.state nor.new).memory }
     ensures size { length (N.state nor.new).memory ≡ length (N.state nor.old).memory }
-    ensures done { OnOk result (Succeeds (N.state nor.old) (N.state nor.new)) }
-    ensures fails { IfErr result (λ e. Refuses e (N.state nor.old) (N.state nor.new)) }
+    ensures ends { Ends result (N.state nor.old) (N.state nor.new) }
 {
     let survey = read_survey(nor)?;
     let Some(phase) = decide(survey) else {

@@ -1,14 +1,14 @@
 //! The superblock's first bytes are read, and byte 15 is programmed.
 
-ghost use Rattle.std.specs.Prelude.{◌≡◌, ◌⊎◌, length, slice_range, OnOk, IfErr};
+ghost use Rattle.std.specs.Prelude.{◌≡◌, ◌⊎◌, length, slice_range, OnOk};
 ghost use Rattle.std.specs.Result.{IsErrOf};
 ghost use Rattle.chip_model.specs.Memory.{byte};
-ghost use Rattle.nor_driver.specs.State.{IsNorReady, Refuses};
+ghost use Rattle.nor_driver.specs.State.{IsNorReady};
 ghost use Rattle.erase_journal.specs.Journals.{IsSettled, IsHealthy};
 ghost use Rattle.erase_journal.specs.declared.known.Known.{Known};
 ghost use Rattle.erase_journal.specs.Known.{IsKnown};
 ghost use Rattle.erase_journal.specs.Blocks.{OnlySuper};
-ghost use Rattle.erase_journal.specs.Steps.{SucceedsSettled};
+ghost use Rattle.erase_journal.specs.Steps.{EndsSettled};
 
 use nor_driver::{Nor, NorError};
 use nor_layout::{MIXED, MIXED_PLACE, SUPER_LEN};
@@ -20,8 +20,7 @@ pub fn read_superblock<N: Nor>(nor: &mut N, into: &mut [u8]) -> Result<(), NorEr
     ensures ok { OnOk result (into.new ≡ slice_range (N.state nor.old).memory 0 SUPER_LEN) }
     ensures size { length into.new ≡ length into.old }
     ensures same { (N.state nor.new).memory ≡ (N.state nor.old).memory }
-    ensures done { OnOk result (SucceedsSettled (N.state nor.old) (N.state nor.new)) }
-    ensures fails { IfErr result (λ e. Refuses e (N.state nor.old) (N.state nor.new)) }
+    ensures ends { EndsSettled result (N.state nor.old) (N.state nor.new) }
 {
     nor.read(0, into)?;
     Ok(())
@@ -40,8 +39,7 @@ pub fn mark_superblock<N: Nor>(nor: &mut N) -> Result<(), NorError>
         (IsKnown known (N.state nor.old).memory → IsKnown known (N.state nor.new).memory) }
     ensures healthy { IsErrOf result NorError.Cut → IsHealthy (N.state nor.old).memory
         → IsHealthy (N.state nor.new).memory }
-    ensures done { OnOk result (SucceedsSettled (N.state nor.old) (N.state nor.new)) }
-    ensures fails { IfErr result (λ e. Refuses e (N.state nor.old) (N.state nor.new)) }
+    ensures ends { EndsSettled result (N.state nor.old) (N.state nor.new) }
 {
     nor.program(MIXED_PLACE, &[MIXED])
 }

@@ -1,12 +1,12 @@
 //! The lowest vote of a region, opened and closed.
 
-ghost use Rattle.std.specs.Prelude.{◌≡◌, ◌+◌, ◌<◌, ◌≤◌, ◌^◌, length, OnOk, IfOk, IfErr};
+ghost use Rattle.std.specs.Prelude.{◌≡◌, ◌+◌, ◌<◌, ◌≤◌, ◌^◌, length, OnOk, IfOk};
 ghost use Rattle.std.specs.Result.{IsErrOf};
-ghost use Rattle.nor_driver.specs.State.{Succeeds, Refuses};
 ghost use Rattle.nor_layout.specs.Votes.{byte_of};
 ghost use Rattle.erase_journal.specs.Journals.{votes_at};
 ghost use Rattle.erase_journal.specs.Scans.{IsFound};
 ghost use Rattle.erase_journal.specs.Steps.{OneChanged, PerhapsChanged};
+ghost use Rattle.nor_driver.specs.State.{Ends};
 
 use crate::scan::lowest;
 use nor_driver::{Nor, NorError};
@@ -18,8 +18,7 @@ fn find_vote<N: Nor>(nor: &mut N, region: u32, vote: Vote) -> Result<Option<u32>
     ensures found { IfOk result (λ found.
         IsFound (N.state nor.old).memory region (byte_of vote) found) }
     ensures same { (N.state nor.new).memory ≡ (N.state nor.old).memory }
-    ensures done { OnOk result (Succeeds (N.state nor.old) (N.state nor.new)) }
-    ensures fails { IfErr result (λ e. Refuses e (N.state nor.old) (N.state nor.new)) }
+    ensures ends { Ends result (N.state nor.old) (N.state nor.new) }
 {
     let mut votes = [0; REGION_LEN];
     nor.read(region, &mut votes)?;
@@ -36,8 +35,7 @@ pub fn open_vote<N: Nor>(nor: &mut N, region: u32) -> Result<(), NorError>
     ensures cut { IsErrOf result NorError.Cut
         → PerhapsChanged region 255 254 (N.state nor.old).memory (N.state nor.new).memory }
     ensures size { length (N.state nor.new).memory ≡ length (N.state nor.old).memory }
-    ensures done { OnOk result (Succeeds (N.state nor.old) (N.state nor.new)) }
-    ensures fails { IfErr result (λ e. Refuses e (N.state nor.old) (N.state nor.new)) }
+    ensures ends { Ends result (N.state nor.old) (N.state nor.new) }
 {
     let found = find_vote(nor, region, Vote::Unused)?;
     let Some(place) = found else { unreachable!() };
@@ -54,8 +52,7 @@ pub fn close_vote<N: Nor>(nor: &mut N, region: u32) -> Result<(), NorError>
     ensures cut { IsErrOf result NorError.Cut
         → PerhapsChanged region 254 252 (N.state nor.old).memory (N.state nor.new).memory }
     ensures size { length (N.state nor.new).memory ≡ length (N.state nor.old).memory }
-    ensures done { OnOk result (Succeeds (N.state nor.old) (N.state nor.new)) }
-    ensures fails { IfErr result (λ e. Refuses e (N.state nor.old) (N.state nor.new)) }
+    ensures ends { Ends result (N.state nor.old) (N.state nor.new) }
 {
     let found = find_vote(nor, region, Vote::Open)?;
     let Some(place) = found else { unreachable!() };

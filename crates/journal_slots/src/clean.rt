@@ -1,16 +1,15 @@
 //! Whether what reads as free is erased: one read of each data block.
 
-ghost use Rattle.std.specs.Prelude.{◌≡◌, ◌+◌, ◌*◌, ◌<◌, ℕ, drop, length, slice_index_or, OnOk};
-ghost use Rattle.std.specs.Prelude.{IfOk, IfErr, IsTrue, IsFalse};
+ghost use Rattle.std.specs.Prelude.{◌≡◌, ◌+◌, ◌*◌, ◌<◌, ℕ, drop, length, slice_index_or};
+ghost use Rattle.std.specs.Prelude.{IfOk, IsTrue, IsFalse};
 ghost use Rattle.chip_model.specs.Geometry.{IsChipSize};
 ghost use Rattle.chip_model.specs.Memory.{byte};
-ghost use Rattle.nor_driver.specs.State.{Refuses};
 ghost use Rattle.nor_layout.specs.Kinds.{kind_of};
 ghost use Rattle.nor_layout.specs.declared.header.Header.TheVariants as headers;
-ghost use Rattle.erase_journal.specs.Steps.{SucceedsSettled};
 ghost use Rattle.sector_slots.specs.Slots.{data_blocks, data_block, descriptor_in, read_header};
 ghost use Rattle.sector_slots.specs.Slots.{content_bytes, blank_sector};
 ghost use Rattle.journal_slots.specs.Clean.{IsCleanBlock, AreCleanBlocks};
+ghost use Rattle.erase_journal.specs.Steps.{EndsSettled};
 
 use crate::head::{BlockHead, HEAD_LEN, head_of};
 use crate::slot::SECTOR_LEN;
@@ -31,8 +30,7 @@ pub(crate) fn read_clean<N: Nor>(journal: &mut Journal<N>, blocks: u16) -> Resul
     ensures not_clean { IfOk result (λ clean. IsFalse clean → AreCleanBlocks journal.old.memory
         → ⊥) }
     ensures same { journal.new.memory ≡ journal.old.memory }
-    ensures done { OnOk result (SucceedsSettled journal.old journal.new) }
-    ensures fails { IfErr result (λ e. Refuses e journal.old journal.new) }
+    ensures ends { EndsSettled result journal.old journal.new }
 {
     for block in 0..blocks {
         if !read_clean_block(journal, block)? {
@@ -51,8 +49,7 @@ fn read_clean_block<N: Nor>(journal: &mut Journal<N>, block: u16) -> Result<bool
     ensures not_clean { IfOk result (λ clean. IsFalse clean
         → IsCleanBlock (data_block journal.old.memory block) → ⊥) }
     ensures same { journal.new.memory ≡ journal.old.memory }
-    ensures done { OnOk result (SucceedsSettled journal.old journal.new) }
-    ensures fails { IfErr result (λ e. Refuses e journal.old journal.new) }
+    ensures ends { EndsSettled result journal.old journal.new }
 {
     let mut bytes = [0; BLOCK_LEN];
     journal.read(block + FIRST_DATA_BLOCK, 0, &mut bytes)?;

@@ -1,15 +1,14 @@
 //! The head of a block: what one read says of its kind and of its seven slots.
 
 ghost use Rattle.std.specs.Prelude.{◌≡◌, ◌+◌, ◌*◌, ◌<◌, ℕ, drop, length, slice_index_or, OnOk};
-ghost use Rattle.std.specs.Prelude.{IfOk, IfErr};
+ghost use Rattle.std.specs.Prelude.{IfOk};
 ghost use Rattle.chip_model.specs.Geometry.{IsChipSize};
-ghost use Rattle.nor_driver.specs.State.{Refuses};
 ghost use Rattle.nor_layout.specs.Headers.{header_of};
 ghost use Rattle.nor_layout.specs.Kinds.{kind_of};
-ghost use Rattle.erase_journal.specs.Steps.{SucceedsSettled};
 ghost use Rattle.sector_slots.specs.Slots.{data_blocks, data_block, descriptor_in, kind_at};
 ghost use Rattle.sector_slots.specs.Slots.{read_header, header_in};
 ghost use Rattle.nor_layout.specs.declared.header.Tag.{Tag as TagOf};
+ghost use Rattle.erase_journal.specs.Steps.{EndsSettled};
 
 use crate::store::FIRST_DATA_BLOCK;
 use erase_journal::Journal;
@@ -94,8 +93,7 @@ pub(crate) fn read_head<N: Nor>(
         → read_header into.new i ≡ descriptor_in (data_block journal.old.memory block) i) }
     ensures size { length into.new ≡ length into.old }
     ensures same { journal.new.memory ≡ journal.old.memory }
-    ensures done { OnOk result (SucceedsSettled journal.old journal.new) }
-    ensures fails { IfErr result (λ e. Refuses e journal.old journal.new) }
+    ensures ends { EndsSettled result journal.old journal.new }
 {
     let mut bytes = [0; HEAD_LEN];
     journal.read(block + FIRST_DATA_BLOCK, 0, &mut bytes)?;

@@ -18,6 +18,5 @@ mod mark;
 mod read;
 mod slot;
 mod store;
-mod write;
 
 pub use store::SectorSlots;

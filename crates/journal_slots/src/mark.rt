@@ -1,16 +1,15 @@
 //! The kind of a block over a journal: read, and programmed step by step; and a block's erase.
 
-ghost use Rattle.std.specs.Prelude.{◌≡◌, ◌⊎◌, ◌+◌, ◌<◌, ◌∷◌, [], ℕ, length, OnOk, IfOk, IfErr};
+ghost use Rattle.std.specs.Prelude.{◌≡◌, ◌⊎◌, ◌+◌, ◌<◌, ◌∷◌, [], ℕ, length, OnOk, IfOk};
 ghost use Rattle.std.specs.Result.{IsErrOf};
 ghost use Rattle.chip_model.specs.Geometry.{IsChipSize};
 ghost use Rattle.chip_model.specs.Memory.{byte};
-ghost use Rattle.nor_driver.specs.State.{Refuses};
 ghost use Rattle.nor_layout.specs.Kinds.{kind_of};
 ghost use Rattle.nor_layout.specs.declared.header.Tag.{Tag as TagOf};
 ghost use Rattle.erase_journal.specs.Blocks.{SameChip, OnlyBlock, WithErased};
 ghost use Rattle.erase_journal.specs.Journals.{IsHealthy, unused};
 ghost use Rattle.erase_journal.specs.Spending.{Spends};
-ghost use Rattle.erase_journal.specs.Steps.{EraseInterrupted, SucceedsSettled};
+ghost use Rattle.erase_journal.specs.Steps.{EraseInterrupted, EndsSettled};
 ghost use Rattle.sector_slots.specs.Slots.{data_blocks, data_block, kind_at};
 ghost use Rattle.sector_slots.specs.Steps.{OnlyMark, IsBegun};
 
@@ -25,8 +24,7 @@ pub(crate) fn read_kind<N: Nor>(journal: &mut Journal<N>, block: u16) -> Result<
     requires sized { IsChipSize (length journal.old.memory) }
     ensures ok { IfOk result (λ kind. kind ≡ kind_at journal.old.memory block) }
     ensures same { journal.new.memory ≡ journal.old.memory }
-    ensures done { OnOk result (SucceedsSettled journal.old journal.new) }
-    ensures fails { IfErr result (λ e. Refuses e journal.old journal.new) }
+    ensures ends { EndsSettled result journal.old journal.new }
 {
     let mut mark = [0; MARK_LEN];
     journal.read(block + FIRST_DATA_BLOCK, 0, &mut mark)?;
@@ -57,8 +55,7 @@ pub(crate) fn program_mark<N: Nor>(
     ensures chip { SameChip journal.old.memory journal.new.memory }
     ensures healthy { IsErrOf result NorError.Cut → IsHealthy journal.old.memory
         → IsHealthy journal.new.memory }
-    ensures done { OnOk result (SucceedsSettled journal.old journal.new) }
-    ensures fails { IfErr result (λ e. Refuses e journal.old journal.new) }
+    ensures ends { EndsSettled result journal.old journal.new }
 {
     journal.program(target + FIRST_DATA_BLOCK, 4, mark)?;
     Ok(())
@@ -80,8 +77,7 @@ pub(crate) fn commit_mark<N: Nor>(journal: &mut Journal<N>, target: u16) -> Resu
     ensures chip { SameChip journal.old.memory journal.new.memory }
     ensures healthy { IsErrOf result NorError.Cut → IsHealthy journal.old.memory
         → IsHealthy journal.new.memory }
-    ensures done { OnOk result (SucceedsSettled journal.old journal.new) }
-    ensures fails { IfErr result (λ e. Refuses e journal.old journal.new) }
+    ensures ends { EndsSettled result journal.old journal.new }
 {
     journal.program(target + FIRST_DATA_BLOCK, 4, &[COMMITTED])?;
     Ok(())
@@ -104,8 +100,7 @@ pub(crate) fn settle_mark<N: Nor>(journal: &mut Journal<N>, target: u16) -> Resu
     ensures chip { SameChip journal.old.memory journal.new.memory }
     ensures healthy { IsErrOf result NorError.Cut → IsHealthy journal.old.memory
         → IsHealthy journal.new.memory }
-    ensures done { OnOk result (SucceedsSettled journal.old journal.new) }
-    ensures fails { IfErr result (λ e. Refuses e journal.old journal.new) }
+    ensures ends { EndsSettled result journal.old journal.new }
 {
     journal.program(target + FIRST_DATA_BLOCK, 4, &[SETTLED])?;
     Ok(())
@@ -125,8 +120,7 @@ pub(crate) fn retire_header<N: Nor>(journal: &mut Journal<N>, block: u16) -> Res
     ensures only { OnlyBlock (block + 4) journal.old.memory journal.new.memory }
     ensures healthy { IsErrOf result NorError.Cut → IsHealthy journal.old.memory
         → IsHealthy journal.new.memory }
-    ensures done { OnOk result (SucceedsSettled journal.old journal.new) }
-    ensures fails { IfErr result (λ e. Refuses e journal.old journal.new) }
+    ensures ends { EndsSettled result journal.old journal.new }
 {
     journal.program(block + FIRST_DATA_BLOCK, 0, &[RETIRED])?;
     Ok(())
@@ -143,8 +137,7 @@ pub(crate) fn erase_data<N: Nor>(journal: &mut Journal<N>, block: u16) -> Result
         → IsHealthy journal.new.memory }
     ensures spends { OnOk result (Spends (unused journal.old.memory) (unused journal.new.memory)) }
     ensures size { length journal.new.memory ≡ length journal.old.memory }
-    ensures done { OnOk result (SucceedsSettled journal.old journal.new) }
-    ensures fails { IfErr result (λ e. Refuses e journal.old journal.new) }
+    ensures ends { EndsSettled result journal.old journal.new }
 {
     journal.erase(block + FIRST_DATA_BLOCK)?;
     Ok(())

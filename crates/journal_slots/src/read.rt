@@ -1,19 +1,18 @@
 //! What is read of one slot, and of the mark of a copy, over a journal. No read changes the memory.
 
 ghost use Rattle.std.specs.Prelude.{◌≡◌, ◌≢◌, ◌↔◌, ◌+◌, ◌<◌, ◌∷◌, [], ℕ, List, Some, length};
-ghost use Rattle.std.specs.Prelude.{slice_set, OnOk, IfOk, IfErr, MatchOption, IsTrue};
+ghost use Rattle.std.specs.Prelude.{slice_set, OnOk, IfOk, MatchOption, IsTrue};
 ghost use Rattle.chip_model.specs.Geometry.{IsChipSize};
-ghost use Rattle.nor_driver.specs.State.{Refuses};
 ghost use Rattle.nor_layout.specs.Kinds.{kind_of};
 ghost use Rattle.nor_layout.specs.declared.header.Tag.{Tag as TagOf};
-ghost use Rattle.erase_journal.specs.Steps.{SucceedsSettled};
 ghost use Rattle.sector_slots.specs.Slots.{Free, Live, data_blocks, data_block, descriptor_in};
 ghost use Rattle.sector_slots.specs.Slots.{content_bytes, raw_slot, stored_at, slot_count};
 ghost use Rattle.sector_slots.specs.Steps.{IsBegun};
+ghost use Rattle.erase_journal.specs.Steps.{EndsSettled};
 
 use crate::head::read_head;
+use crate::slot::{PLACES, content_place};
 use crate::store::FIRST_DATA_BLOCK;
-use crate::write::{PLACES, content_place};
 use erase_journal::Journal;
 use nor_driver::{Nor, NorError};
 use nor_layout::{COMMITTED, Header, Kind, MARK_LEN, Tag, block_kind};
@@ -30,8 +29,7 @@ pub(crate) fn read_header<N: Nor>(
     ensures ok { IfOk result (λ header. header
         ≡ descriptor_in (data_block journal.old.memory block) place) }
     ensures same { journal.new.memory ≡ journal.old.memory }
-    ensures done { OnOk result (SucceedsSettled journal.old journal.new) }
-    ensures fails { IfErr result (λ e. Refuses e journal.old journal.new) }
+    ensures ends { EndsSettled result journal.old journal.new }
 {
     let mut heads = [Header::Free; 7];
     read_head(journal, block, &mut heads)?;
@@ -52,8 +50,7 @@ pub(crate) fn read_content<N: Nor>(
     ensures ok { OnOk result (into.new
         ≡ content_bytes (data_block journal.old.memory block) place) }
     ensures same { journal.new.memory ≡ journal.old.memory }
-    ensures done { OnOk result (SucceedsSettled journal.old journal.new) }
-    ensures fails { IfErr result (λ e. Refuses e journal.old journal.new) }
+    ensures ends { EndsSettled result journal.old journal.new }
 {
     journal.read(block + FIRST_DATA_BLOCK, content_place(place), into)?;
     Ok(())
@@ -75,8 +72,7 @@ pub(crate) fn read_slot<N: Nor>(
         → raw_slot journal.old.memory block place ≢ Live tag content) × (into.new ≡ into.old))
         (λ tag. raw_slot journal.old.memory block place ≡ Live tag into.new)) }
     ensures same { journal.new.memory ≡ journal.old.memory }
-    ensures done { OnOk result (SucceedsSettled journal.old journal.new) }
-    ensures fails { IfErr result (λ e. Refuses e journal.old journal.new) }
+    ensures ends { EndsSettled result journal.old journal.new }
 {
     match read_header(journal, block, place)? {
         Header::Live(tag) => {
@@ -96,8 +92,7 @@ pub(crate) fn free_at<N: Nor>(journal: &mut Journal<N>, slot: u16) -> Result<boo
     ensures ok { IfOk result (λ is_free. IsTrue is_free
         ↔ (stored_at journal.old.memory slot ≡ Free)) }
     ensures same { journal.new.memory ≡ journal.old.memory }
-    ensures done { OnOk result (SucceedsSettled journal.old journal.new) }
-    ensures fails { IfErr result (λ e. Refuses e journal.old journal.new) }
+    ensures ends { EndsSettled result journal.old journal.new }
 {
     match read_header(journal, slot / PLACES, slot % PLACES)? {
         Header::Free => Ok(true),
@@ -119,8 +114,7 @@ pub(crate) fn content_at<N: Nor>(
     ensures ok { OnOk result ((tag : TagOf) (content : List ℕ)
         → stored_at journal.old.memory slot ≡ Live tag content → into.new ≡ content) }
     ensures same { journal.new.memory ≡ journal.old.memory }
-    ensures done { OnOk result (SucceedsSettled journal.old journal.new) }
-    ensures fails { IfErr result (λ e. Refuses e journal.old journal.new) }
+    ensures ends { EndsSettled result journal.old journal.new }
 {
     read_content(journal, slot / PLACES, slot % PLACES, into)?;
     Ok(())
@@ -155,8 +149,7 @@ pub(crate) fn read_source<N: Nor>(
     ensures named { IfOk result (λ found. (source : ℕ) → source < data_blocks journal.old.memory
         → IsBegun target source journal.old.memory → found ≡ Some source) }
     ensures same { journal.new.memory ≡ journal.old.memory }
-    ensures done { OnOk result (SucceedsSettled journal.old journal.new) }
-    ensures fails { IfErr result (λ e. Refuses e journal.old journal.new) }
+    ensures ends { EndsSettled result journal.old journal.new }
 {
     let blocks = journal.blocks() - FIRST_DATA_BLOCK;
     let mut mark = [0; MARK_LEN];

@@ -1,86 +1,235 @@
-//! The calls on one slot, by its number, over a journal.
+//! The programs and the copy of one slot, over a journal: each leaves all other slots, and all other
+//! blocks, as they were.
 
-ghost use Rattle.std.specs.Prelude.{◌≡◌, ◌≢◌, ◌⊎◌, ◌+◌, ◌*◌, ◌<◌, ℕ, length, OnOk, IfErr};
+ghost use Rattle.std.specs.Prelude.{◌≡◌, ◌≢◌, ◌⊎◌, ◌+◌, ◌*◌, ◌<◌, ℕ, length, OnOk, false, ◌%◌, ◌≤◌};
 ghost use Rattle.std.specs.Result.{IsErrOf};
 ghost use Rattle.chip_model.specs.Geometry.{IsChipSize};
-ghost use Rattle.nor_driver.specs.State.{Refuses};
 ghost use Rattle.erase_journal.specs.Blocks.{SameChip, OnlyBlock};
 ghost use Rattle.erase_journal.specs.Journals.{IsHealthy};
-ghost use Rattle.erase_journal.specs.Steps.{SucceedsSettled};
 ghost use Rattle.sector_slots.specs.Slots.{Free, Live, Dead, data_blocks, data_block, kind_at};
-ghost use Rattle.sector_slots.specs.Slots.{raw_slot, slot_at, slot_count, IsClean, IsLive};
-ghost use Rattle.journal_slots.specs.Programs.{InPlace};
-ghost use Rattle.sector_slots.specs.Steps.{IsWritable, PutLeaves, HoldsTag, MayHoldTag, OnlyPlace};
-ghost use Rattle.sector_slots.specs.Steps.{IsRetirable, IsBegun, IsErasedSlot, CopyLeaves};
+ghost use Rattle.sector_slots.specs.Slots.{raw_slot, IsLive, is_group};
+ghost use Rattle.journal_slots.specs.Programs.{InPlace, OnlyBytes, WriteLeaves};
+ghost use Rattle.sector_slots.specs.Steps.{HoldsTag, OnlyPlace, IsBegun, IsErasedSlot, CopyLeaves};
 ghost use Rattle.sector_slots.specs.Copying.{copied_tag, source_slot};
+ghost use Rattle.erase_journal.specs.Steps.{EndsSettled};
+ghost use Rattle.chip_model.specs.Memory.{byte, and_at, TornAnd};
+ghost use Rattle.nor_driver.specs.State.{Leaves};
 
 use crate::mark::read_kind;
 use crate::read::{read_slot, read_source};
-use crate::write::{PLACES, copy_in, put_in, retire_in};
+use crate::store::FIRST_DATA_BLOCK;
 use erase_journal::Journal;
 use nor_driver::{Nor, NorError};
-use nor_layout::{Generation, Kind, Tag};
+use nor_layout::{COMMITTED, Generation, Header, Kind, RETIRED, Tag, begun_header, live_header};
 
 /// The bytes of a sector.
 pub const SECTOR_LEN: usize = 512;
 
-/// Writes a sector into a free slot.
-pub(crate) fn put_at<N: Nor>(
+/// The bytes of a page, which are programmed at once.
+pub(crate) const PAGE_LEN: usize = 256;
+
+/// The slots of a data block.
+pub(crate) const PLACES: u16 = 7;
+
+/// Where the descriptor of the slot at this place lies in its block, in bytes.
+pub(crate) fn descriptor_place(place: u16) -> u32
+    requires { place < 7 }
+    ensures { result ≡ 16 + 4 * place }
+{
+    16 + 4 * place as u32
+}
+
+/// Where its sector begins.
+pub(crate) fn content_place(place: u16) -> u32
+    requires { place < 7 }
+    ensures { result ≡ 512 * (place + 1) }
+{
+    512 * (place as u32 + 1)
+}
+
+/// Programs bytes of one page of a data block.
+pub(crate) fn program_bytes<N: Nor>(
     journal: &mut Journal<N>,
-    slot: u16,
+    block: u16,
+    at: u32,
+    bytes: &[u8],
+) -> Result<(), NorError>
+    requires number { block < data_blocks journal.old.memory }
+    requires sized { IsChipSize (length journal.old.memory) }
+    requires some { 0 < length bytes.now }
+    requires page { at % 256 + length bytes.now ≤ 256 }
+    requires range { at + length bytes.now ≤ 4096 }
+    ensures ok { OnOk result (data_block journal.new.memory block
+        ≡ and_at (data_block journal.old.memory block) at bytes.now) }
+    ensures cut { IsErrOf result NorError.Cut → Leaves (data_block journal.old.memory block)
+        (TornAnd (data_block journal.old.memory block) at bytes.now)
+        (and_at (data_block journal.old.memory block) at bytes.now)
+        (data_block journal.new.memory block) }
+    ensures bytes { (i : ℕ) → byte bytes.now i < 256 }
+    ensures only { OnlyBlock (block + 4) journal.old.memory journal.new.memory }
+    ensures healthy { IsErrOf result NorError.Cut → IsHealthy journal.old.memory
+        → IsHealthy journal.new.memory }
+    ensures ends { EndsSettled result journal.old journal.new }
+{
+    journal.program(block + FIRST_DATA_BLOCK, at, bytes)?;
+    Ok(())
+}
+
+/// Programs the two pages of the sector at this place.
+fn write_content<N: Nor>(
+    journal: &mut Journal<N>,
+    block: u16,
+    place: u16,
+    content: &[u8],
+) -> Result<(), NorError>
+    requires number { block < data_blocks journal.old.memory }
+    requires place { place < 7 }
+    requires sized { IsChipSize (length journal.old.memory) }
+    requires size { length content.now ≡ 512 }
+    ensures ok { OnOk result (data_block journal.new.memory block
+        ≡ and_at (data_block journal.old.memory block) (512 * (place + 1)) content.now) }
+    ensures cut { IsErrOf result NorError.Cut
+        → OnlyBytes (512 * (place + 1)) 512 (data_block journal.old.memory block)
+        (data_block journal.new.memory block) }
+    ensures only { OnlyBlock (block + 4) journal.old.memory journal.new.memory }
+    ensures healthy { IsErrOf result NorError.Cut → IsHealthy journal.old.memory
+        → IsHealthy journal.new.memory }
+    ensures ends { EndsSettled result journal.old journal.new }
+{
+    let at = content_place(place);
+    program_bytes(journal, block, at, &content[..PAGE_LEN])?;
+    program_bytes(journal, block, at + 256, &content[PAGE_LEN..])?;
+    Ok(())
+}
+
+/// Programs a descriptor that is begun, and the sector, 512 bytes, into a place that is free. Cut,
+/// it leaves the block as it was, or the slot dead.
+fn fill<N: Nor>(
+    journal: &mut Journal<N>,
+    block: u16,
+    place: u16,
+    header: &[u8],
+    content: &[u8],
+) -> Result<(), NorError>
+    requires number { block < data_blocks journal.old.memory }
+    requires place { place < 7 }
+    requires sized { IsChipSize (length journal.old.memory) }
+    requires header { length header.now ≡ 4 }
+    requires begun { byte header.now 0 ≡ 254 }
+    requires size { length content.now ≡ 512 }
+    ensures ok { OnOk result (data_block journal.new.memory block
+        ≡ and_at (and_at (data_block journal.old.memory block) (16 + 4 * place) header.now)
+        (512 * (place + 1)) content.now) }
+    ensures cut { IsErrOf result NorError.Cut → raw_slot journal.old.memory block place ≡ Free
+        → (data_block journal.new.memory block ≡ data_block journal.old.memory block)
+        ⊎ (raw_slot journal.new.memory block place ≡ Dead) }
+    ensures within { IsErrOf result NorError.Cut
+        → InPlace place (data_block journal.old.memory block)
+        (data_block journal.new.memory block) }
+    ensures bytes { (i : ℕ) → byte header.now i < 256 }
+    ensures only { OnlyBlock (block + 4) journal.old.memory journal.new.memory }
+    ensures healthy { IsErrOf result NorError.Cut → IsHealthy journal.old.memory
+        → IsHealthy journal.new.memory }
+    ensures ends { EndsSettled result journal.old journal.new }
+{
+    program_bytes(journal, block, descriptor_place(place), header)?;
+    write_content(journal, block, place, content)?;
+    Ok(())
+}
+
+/// Writes a sector into a place that is free: its descriptor, two pages, and last the commit.
+pub(crate) fn put_in<N: Nor>(
+    journal: &mut Journal<N>,
+    block: u16,
+    place: u16,
     tag: Tag,
     content: &[u8],
 ) -> Result<(), NorError>
-    requires number { slot < slot_count journal.old.memory }
+    requires number { block < data_blocks journal.old.memory }
+    requires place { place < 7 }
     requires sized { IsChipSize (length journal.old.memory) }
     requires size { length content.now ≡ 512 }
-    ensures ok { OnOk result (IsWritable slot journal.old.memory
-        → slot_at journal.new.memory slot ≡ Live tag content.now) }
-    ensures cut { IsErrOf result NorError.Cut → IsWritable slot journal.old.memory
-        → PutLeaves tag content.now (slot_at journal.new.memory slot) }
-    ensures live { OnOk result (slot_at journal.old.memory slot ≡ Free
-        → HoldsTag tag (slot_at journal.new.memory slot)) }
-    ensures cut_live { IsErrOf result NorError.Cut → slot_at journal.old.memory slot ≡ Free
-        → MayHoldTag tag (slot_at journal.new.memory slot) }
-    ensures clean { OnOk result (IsWritable slot journal.old.memory → IsClean journal.new.memory) }
-    ensures cut_clean { IsErrOf result NorError.Cut → IsWritable slot journal.old.memory
-        → IsClean journal.new.memory }
-    ensures only { OnOk result (OnlyPlace slot journal.old.memory journal.new.memory) }
-    ensures cut_only { IsErrOf result NorError.Cut
-        → OnlyPlace slot journal.old.memory journal.new.memory }
-    ensures chip { SameChip journal.old.memory journal.new.memory }
+    ensures ok { OnOk result (IsErasedSlot block place journal.old.memory
+        → raw_slot journal.new.memory block place ≡ Live tag content.now) }
+    ensures live { OnOk result (raw_slot journal.old.memory block place ≡ Free
+        → HoldsTag tag (raw_slot journal.new.memory block place)) }
+    ensures cut { IsErrOf result NorError.Cut → raw_slot journal.old.memory block place ≡ Free
+        → WriteLeaves place tag content.now (data_block journal.old.memory block)
+        (data_block journal.new.memory block) }
+    ensures within { OnOk result (InPlace place (data_block journal.old.memory block)
+        (data_block journal.new.memory block)) }
+    ensures cut_within { IsErrOf result NorError.Cut
+        → InPlace place (data_block journal.old.memory block)
+        (data_block journal.new.memory block) }
+    ensures only { OnlyBlock (block + 4) journal.old.memory journal.new.memory }
     ensures healthy { IsErrOf result NorError.Cut → IsHealthy journal.old.memory
         → IsHealthy journal.new.memory }
-    ensures done { OnOk result (SucceedsSettled journal.old journal.new) }
-    ensures fails { IfErr result (λ e. Refuses e journal.old journal.new) }
+    ensures ends { EndsSettled result journal.old journal.new }
 {
-    put_in(journal, slot / PLACES, slot % PLACES, tag, content)?;
+    let header = begun_header(tag);
+    fill(journal, block, place, &header, content)?;
+    program_bytes(journal, block, descriptor_place(place), &[COMMITTED])?;
+    Ok(())
+}
+
+/// Writes a live slot into a place that is free: two pages, and then its whole descriptor.
+pub(crate) fn copy_in<N: Nor>(
+    journal: &mut Journal<N>,
+    block: u16,
+    place: u16,
+    tag: Tag,
+    content: &[u8],
+) -> Result<(), NorError>
+    requires number { block < data_blocks journal.old.memory }
+    requires place { place < 7 }
+    requires sized { IsChipSize (length journal.old.memory) }
+    requires size { length content.now ≡ 512 }
+    ensures ok { OnOk result (IsErasedSlot block place journal.old.memory
+        → raw_slot journal.new.memory block place ≡ Live tag content.now) }
+    ensures live { OnOk result (raw_slot journal.old.memory block place ≡ Free
+        → HoldsTag tag (raw_slot journal.new.memory block place)) }
+    ensures within { OnOk result (InPlace place (data_block journal.old.memory block)
+        (data_block journal.new.memory block)) }
+    ensures cut_within { IsErrOf result NorError.Cut
+        → InPlace place (data_block journal.old.memory block)
+        (data_block journal.new.memory block) }
+    ensures only { OnlyBlock (block + 4) journal.old.memory journal.new.memory }
+    ensures healthy { IsErrOf result NorError.Cut → IsHealthy journal.old.memory
+        → IsHealthy journal.new.memory }
+    ensures ends { EndsSettled result journal.old journal.new }
+{
+    let header = live_header(tag);
+    write_content(journal, block, place, content)?;
+    program_bytes(journal, block, descriptor_place(place), &header)?;
     Ok(())
 }
 
 /// Makes a live slot dead, in a block of slots.
-pub(crate) fn retire_at<N: Nor>(journal: &mut Journal<N>, slot: u16) -> Result<(), NorError>
-    requires number { slot < slot_count journal.old.memory }
+pub(crate) fn retire_in<N: Nor>(
+    journal: &mut Journal<N>,
+    block: u16,
+    place: u16,
+) -> Result<(), NorError>
+    requires number { block < data_blocks journal.old.memory }
+    requires place { place < 7 }
     requires sized { IsChipSize (length journal.old.memory) }
-    ensures ok { OnOk result (IsRetirable slot journal.old.memory
-        → slot_at journal.new.memory slot ≡ Dead) }
-    ensures cut { IsErrOf result NorError.Cut → IsRetirable slot journal.old.memory
-        → (slot_at journal.new.memory slot ≡ slot_at journal.old.memory slot)
-        ⊎ (slot_at journal.new.memory slot ≡ Dead) }
-    ensures clean { OnOk result (IsRetirable slot journal.old.memory
-        → IsClean journal.old.memory → IsClean journal.new.memory) }
-    ensures cut_clean { IsErrOf result NorError.Cut → IsRetirable slot journal.old.memory
-        → IsClean journal.old.memory → IsClean journal.new.memory }
-    ensures only { OnOk result (OnlyPlace slot journal.old.memory journal.new.memory) }
-    ensures cut_only { IsErrOf result NorError.Cut
-        → OnlyPlace slot journal.old.memory journal.new.memory }
-    ensures chip { SameChip journal.old.memory journal.new.memory }
+    ensures ok { OnOk result (is_group (kind_at journal.old.memory block) ≡ false
+        → raw_slot journal.new.memory block place ≡ Dead) }
+    ensures cut { IsErrOf result NorError.Cut → IsLive (raw_slot journal.old.memory block place)
+        → is_group (kind_at journal.old.memory block) ≡ false
+        → (data_block journal.new.memory block ≡ data_block journal.old.memory block)
+        ⊎ (raw_slot journal.new.memory block place ≡ Dead) }
+    ensures within { OnOk result (InPlace place (data_block journal.old.memory block)
+        (data_block journal.new.memory block)) }
+    ensures cut_within { IsErrOf result NorError.Cut
+        → InPlace place (data_block journal.old.memory block)
+        (data_block journal.new.memory block) }
+    ensures only { OnlyBlock (block + 4) journal.old.memory journal.new.memory }
     ensures healthy { IsErrOf result NorError.Cut → IsHealthy journal.old.memory
         → IsHealthy journal.new.memory }
-    ensures done { OnOk result (SucceedsSettled journal.old journal.new) }
-    ensures fails { IfErr result (λ e. Refuses e journal.old journal.new) }
+    ensures ends { EndsSettled result journal.old journal.new }
 {
-    retire_in(journal, slot / PLACES, slot % PLACES)?;
+    program_bytes(journal, block, descriptor_place(place), &[RETIRED])?;
     Ok(())
 }
 
@@ -126,8 +275,7 @@ fn copy_from<N: Nor>(
     ensures only { OnlyBlock (target + 4) journal.old.memory journal.new.memory }
     ensures healthy { IsErrOf result NorError.Cut → IsHealthy journal.old.memory
         → IsHealthy journal.new.memory }
-    ensures done { OnOk result (SucceedsSettled journal.old journal.new) }
-    ensures fails { IfErr result (λ e. Refuses e journal.old journal.new) }
+    ensures ends { EndsSettled result journal.old journal.new }
 {
     let mut content = [0; SECTOR_LEN];
     let kind = read_kind(journal, source)?;
@@ -165,8 +313,7 @@ pub(crate) fn copy_at<N: Nor>(
         → IsErasedSlot target i journal.old.memory → IsErasedSlot target i journal.new.memory) }
     ensures healthy { IsErrOf result NorError.Cut → IsHealthy journal.old.memory
         → IsHealthy journal.new.memory }
-    ensures done { OnOk result (SucceedsSettled journal.old journal.new) }
-    ensures fails { IfErr result (λ e. Refuses e journal.old journal.new) }
+    ensures ends { EndsSettled result journal.old journal.new }
 {
     match read_source(journal, target)? {
         Some(source) => {

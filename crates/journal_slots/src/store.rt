@@ -1,21 +1,20 @@
 //! `SectorSlots`: the data blocks of a journal as slots. What each call does stands in `SlotCalls`.
 
-ghost use Rattle.std.specs.Prelude.{◌≡◌, ◌<◌, true, length, OnOk, IfOk, IfErr, IsTrue, IsFalse};
+ghost use Rattle.std.specs.Prelude.{◌≡◌, ◌<◌, true, length, IfOk, IsTrue, IsFalse};
 ghost use Rattle.std.specs.Result.{IsErrOf};
 ghost use Rattle.chip_model.specs.Geometry.{IsChipSize};
-ghost use Rattle.nor_driver.specs.State.{NorState, Refuses};
+ghost use Rattle.nor_driver.specs.State.{NorState};
 ghost use Rattle.erase_journal.specs.Recovery.{Restored, RestoreFails};
-ghost use Rattle.erase_journal.specs.Steps.{SucceedsSettled};
 ghost use Rattle.sector_slots.specs.Blocks.{AreAtRest};
 ghost use Rattle.sector_slots.specs.Slots.{slot_count, descriptor_at, SameSlots, IsClean};
 ghost use Rattle.sector_slots.specs.Slots.{data_blocks, kind_at};
+ghost use Rattle.erase_journal.specs.Steps.{EndsSettled};
 
 use crate::clean::read_clean;
 use crate::head::read_head;
 use crate::mark::{commit_mark, erase_data, program_mark, read_kind, retire_header, settle_mark};
 use crate::read::{content_at, free_at, read_header, read_slot};
-use crate::slot::{copy_at, put_at, retire_at};
-use crate::write::PLACES;
+use crate::slot::{PLACES, copy_at, put_in, retire_in};
 use erase_journal::{Journal, RecoverError};
 use nor_driver::{Nor, NorError};
 use nor_layout::{Header, Kind, Tag, begun_mark};
@@ -81,8 +80,7 @@ impl<N: Nor> SectorSlots<N> {
         requires number { slot < slot_count self.old.memory }
         ensures ok { IfOk result (λ header. header ≡ descriptor_at self.old.memory slot) }
         ensures same { self.new.memory ≡ self.old.memory }
-        ensures done { OnOk result (SucceedsSettled self.old self.new) }
-        ensures fails { IfErr result (λ e. Refuses e self.old self.new) }
+        ensures ends { EndsSettled result self.old self.new }
     {
         read_header(&mut self.journal, slot / PLACES, slot % PLACES)
     }
@@ -95,8 +93,7 @@ impl<N: Nor> SectorSlots<N> {
             → AreAtRest (kind_at self.old.memory) (data_blocks self.old.memory)
             → IsClean self.old.memory → ⊥) }
         ensures same { self.new.memory ≡ self.old.memory }
-        ensures done { OnOk result (SucceedsSettled self.old self.new) }
-        ensures fails { IfErr result (λ e. Refuses e self.old self.new) }
+        ensures ends { EndsSettled result self.old self.new }
     {
         read_clean(&mut self.journal, self.blocks)
     }
@@ -124,11 +121,19 @@ impl<N: Nor> SlotCalls for SectorSlots<N> {
     }
 
     fn put(&mut self, slot: u16, tag: Tag, content: &[u8]) -> Result<(), NorError> {
-        put_at(&mut self.journal, slot, tag, content)
+        put_in(
+            &mut self.journal,
+            slot / PLACES,
+            slot % PLACES,
+            tag,
+            content,
+        )?;
+        Ok(())
     }
 
     fn retire(&mut self, slot: u16) -> Result<(), NorError> {
-        retire_at(&mut self.journal, slot)
+        retire_in(&mut self.journal, slot / PLACES, slot % PLACES)?;
+        Ok(())
     }
 
     fn retire_group(&mut self, block: u16) -> Result<(), NorError> {

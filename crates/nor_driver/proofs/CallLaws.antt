@@ -1,7 +1,7 @@
 -- One call of a memory after another: what two that answered Ok leave together, and what one leaves that failed after others.
 use Rattle.std.proofs.Common.{◌≡◌, ◌⊎◌, ◌≤◌, Bool, true, false, refl, sym, ◌∙◌, arith, inl, inr}
-use Rattle.std.specs.Prelude.{Result, Ok, Err, OnOk, IfErr}
-use Rattle.nor_driver.specs.State.{NorState, IsNorReady, OnlyMemoryChanges, NorFails, IsFirst, Succeeds, Refuses, AnswersWhatIsLatched}
+use Rattle.std.specs.Prelude.{Result, Ok, Err, OnOk, IfErr, MatchResult}
+use Rattle.nor_driver.specs.State.{NorState, IsNorReady, OnlyMemoryChanges, NorFails, IsFirst, Succeeds, Refuses, Ends, AnswersWhatIsLatched}
 use Rattle.nor_driver.specs.declared.error.NorError.{NorError}
 use Rattle.nor_driver.specs.declared.error.NorError.TheVariants as errors
 
@@ -104,3 +104,16 @@ refuses-then a b c (Err e) s f = record { fails = fails-after e a b c s.kept f; 
 pub refuses-on : (a b c : NorState) (r : Result (Unit {0}) NorError) → Succeeds a b → IfErr r (λ e. Refuses e b c) → IfErr r (λ e. Refuses e a c)
 refuses-on a b c (Ok x) s f = f
 refuses-on a b c (Err e) s f = refuses-after e a b c s f
+
+-- how a call ends, by its two answers; and each of these
+pub ends-of : {T : Type 0} (r : Result T NorError) (a b : NorState) → OnOk r (Succeeds a b) → IfErr r (λ e. Refuses e a b) → Ends r a b
+ends-of (Ok x) a b d f = d
+ends-of (Err e) a b d f = f
+
+pub done-of : {T : Type 0} (r : Result T NorError) (P : Type 0) (Q : NorError → Type 0) → MatchResult r (λ _. P) Q → OnOk r P
+done-of (Ok x) P Q h = h
+done-of (Err e) P Q h = tt
+
+pub fails-of : {T : Type 0} (r : Result T NorError) (P : Type 0) (Q : NorError → Type 0) → MatchResult r (λ _. P) Q → IfErr r Q
+fails-of (Ok x) P Q h = tt
+fails-of (Err e) P Q h = h

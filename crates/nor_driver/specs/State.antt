@@ -2,7 +2,7 @@
 -- Source: own. A Cut is a loss of power, a Slow an operation of the chip that didn't end.
 use Rattle.std.specs.declared.result.Result.{Result}
 use Rattle.std.specs.declared.result.Result.TheVariants.{Ok, Err}
-use Rattle.std.specs.Prelude.{◌≡◌, ℕ, ◌<◌, ◌⊎◌, Bool, true, false, List}
+use Rattle.std.specs.Prelude.{◌≡◌, ℕ, ◌<◌, ◌⊎◌, Bool, true, false, List, MatchResult}
 use Rattle.nor_driver.specs.declared.error.NorError.{NorError}
 use Rattle.nor_driver.specs.declared.error.NorError.TheVariants.{Cut, Slow}
 
@@ -59,6 +59,10 @@ pub record Succeeds (old new : NorState) : Type 0 where
 pub record Refuses (e : NorError) (old new : NorState) : Type 0 where
   pub fails : NorFails e old new
   pub first : IsFirst e old new
+
+-- how a call ends: Ok, as `Succeeds` says it, or with an error, as `Refuses` says it
+abbrev pub Ends : {A : Type 0} → Result A NorError → NorState → NorState → Type 0
+Ends result old new = MatchResult result (λ _. Succeeds old new) (λ e. Refuses e old new)
 
 -- a latched Slow is answered again, and a power that is off is a Cut, and neither changes anything
 pub record AnswersWhatIsLatched (old : NorState) (result : Result (Unit {0}) NorError)

@@ -8,7 +8,7 @@ use Rattle.nor_driver.specs.declared.error.NorError.{NorError}
 use Rattle.nor_driver.proofs.CallLaws.{ready-after}
 use Rattle.erase_journal.specs.Blocks.{SameChip}
 use Rattle.erase_journal.specs.Places.{how_many}
-use Rattle.erase_journal.specs.Steps.{SucceedsSettled}
+use Rattle.erase_journal.specs.Steps.{SucceedsSettled, EndsSettled}
 use Rattle.sector_slots.proofs.CopyLaws.{how_many-zero, how_many-suc}
 use Rattle.erase_journal.specs.Journals.{IsHealthy, IsSettled}
 use Rattle.sector_slots.specs.Slots.{Slot, Free, Live, NoGeneration, Dead, Outside, slot_at, slot_count, data_blocks, kind_at, is_group, IsClean}
@@ -366,3 +366,7 @@ after-ok (Err e) P Q f h = tt
 pub after-fails : {T : Type 0} (r : Result T NorError) (a b c : NorState) → (b ≡ a) ⊎ SucceedsSettled a b → IfErr r (λ e. Refuses e b c) → IfErr r (λ e. Refuses e a c)
 after-fails (Ok v) a b c p h = tt
 after-fails (Err e) a b c p h = refuses-perhaps e a b c p h
+
+pub after-ends : {T : Type 0} (r : Result T NorError) (a b c : NorState) → (b ≡ a) ⊎ SucceedsSettled a b → EndsSettled r b c → EndsSettled r a c
+after-ends (Ok v) a b c p h = succeeds-perhaps a b c p h
+after-ends (Err e) a b c p h = refuses-perhaps e a b c p h

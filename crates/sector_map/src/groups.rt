@@ -8,7 +8,7 @@ ghost use Rattle.chip_model.specs.Geometry.{sector_count};
 ghost use Rattle.nor_driver.specs.State.{Refuses};
 ghost use Rattle.nor_layout.specs.declared.header.Tag.{Tag as TagOf};
 ghost use Rattle.erase_journal.specs.Journals.{IsHealthy};
-ghost use Rattle.erase_journal.specs.Steps.{SucceedsSettled};
+ghost use Rattle.erase_journal.specs.Steps.{SucceedsSettled, EndsSettled};
 ghost use Rattle.sector_slots.specs.Slots.{slot_at, slot_count, data_blocks, kind_at, is_group};
 ghost use Rattle.sector_slots.specs.Blocks.{AreAtRest, AreSettled};
 ghost use Rattle.sector_slots.specs.Sectors.{IsSoundMap};
@@ -76,8 +76,7 @@ fn are_of_groups<S: SlotCalls>(
         → is_group (kind_at (S.state slots.old).memory first)
         ≢ is_group (kind_at (S.state slots.old).memory second)) }
     ensures same { (S.state slots.new).memory ≡ (S.state slots.old).memory }
-    ensures done { OnOk result (SucceedsSettled (S.state slots.old) (S.state slots.new)) }
-    ensures fails { IfErr result (λ e. Refuses e (S.state slots.old) (S.state slots.new)) }
+    ensures ends { EndsSettled result (S.state slots.old) (S.state slots.new) }
 {
     let one = is_of_group(slots.kind(first)?);
     let other = is_of_group(slots.kind(second)?);
@@ -100,8 +99,7 @@ pub fn lowest_dead_group<S: SlotCalls>(slots: &mut S) -> Result<Option<u16>, Nor
         → d < data_blocks (S.state slots.old).memory
         → kind_at (S.state slots.old).memory d ≢ Kind.DeadGroup) }
     ensures same { (S.state slots.new).memory ≡ (S.state slots.old).memory }
-    ensures done { OnOk result (SucceedsSettled (S.state slots.old) (S.state slots.new)) }
-    ensures fails { IfErr result (λ e. Refuses e (S.state slots.old) (S.state slots.new)) }
+    ensures ends { EndsSettled result (S.state slots.old) (S.state slots.new) }
 {
     let count = slots.blocks();
     for block in 0..count {

@@ -4,10 +4,9 @@ ghost use Rattle.std.specs.Prelude.{◌≡◌, ◌<◌, ◌≤◌, ◌*◌, ◌-
 ghost use Rattle.std.specs.Prelude.{vec_len, slice_index_or, OnOk, IfOk, IfErr, IsTrue, IsFalse};
 ghost use Rattle.std.specs.Result.{IsErrOf};
 ghost use Rattle.chip_model.specs.Geometry.{IsChipSize, sector_count};
-ghost use Rattle.nor_driver.specs.State.{IsNorReady, Refuses};
+ghost use Rattle.nor_driver.specs.State.{IsNorReady};
 ghost use Rattle.erase_journal.specs.Journals.{IsHealthy};
 ghost use Rattle.erase_journal.specs.Recovery.{IsBehind};
-ghost use Rattle.erase_journal.specs.Steps.{SucceedsSettled};
 ghost use Rattle.sector_slots.specs.Slots.{slot_count, data_blocks, IsClean};
 ghost use Rattle.sector_slots.specs.Sectors.{sector_at, zeros};
 ghost use Rattle.sector_stock.specs.Takes.{urgent_work, work_of};
@@ -16,6 +15,7 @@ ghost use Rattle.sector_map.specs.Maps.{IsStore, KeepsMap, Sets, SetLeaves, Moun
 ghost use Rattle.sector_map.specs.Maps.{MapRestored, MapRestoreFails, IsLaidOut};
 ghost use Rattle.sector_map.specs.Filling.{Filled, FillFails, Renewed, RenewCorrupt, RenewFails};
 ghost use Rattle.sector_map.specs.Filling.{latched_after_cut};
+ghost use Rattle.erase_journal.specs.Steps.{EndsSettled};
 
 use crate::Held;
 use crate::entry::Entry;
@@ -112,8 +112,7 @@ impl<N: Nor> SectorMap<N> {
         ensures ok { OnOk result (into.new ≡ sector_at self.old.memory sector) }
         ensures same { self.new.memory ≡ self.old.memory }
         ensures cut { IsErrOf result NorError.Cut → KeepsMap self.old.memory self.new.memory }
-        ensures done { OnOk result (SucceedsSettled self.old self.new) }
-        ensures fails { IfErr result (λ e. Refuses e self.old self.new) }
+        ensures ends { EndsSettled result self.old self.new }
     {
         if let Some(error) = self.latched {
             return Err(error);
@@ -138,8 +137,7 @@ impl<N: Nor> SectorMap<N> {
         ensures cut { IsErrOf result NorError.Cut
             → SetLeaves sector content.now self.old.memory self.new.memory }
         ensures size { length self.new.memory ≡ length self.old.memory }
-        ensures done { OnOk result (SucceedsSettled self.old self.new) }
-        ensures fails { IfErr result (λ e. Refuses e self.old self.new) }
+        ensures ends { EndsSettled result self.old self.new }
     {
         if let Some(error) = self.latched {
             return Err(error);
@@ -162,8 +160,7 @@ impl<N: Nor> SectorMap<N> {
         ensures cut { IsErrOf result NorError.Cut
             → SetLeaves sector zeros self.old.memory self.new.memory }
         ensures size { length self.new.memory ≡ length self.old.memory }
-        ensures done { OnOk result (SucceedsSettled self.old self.new) }
-        ensures fails { IfErr result (λ e. Refuses e self.old self.new) }
+        ensures ends { EndsSettled result self.old self.new }
     {
         if let Some(error) = self.latched {
             return Err(error);
@@ -188,8 +185,7 @@ impl<N: Nor> SectorMap<N> {
         ensures unchanged { IfOk result (λ more. IsFalse more → self.new.memory ≡ self.old.memory) }
         ensures cut { IsErrOf result NorError.Cut → KeepsMap self.old.memory self.new.memory }
         ensures size { length self.new.memory ≡ length self.old.memory }
-        ensures done { OnOk result (SucceedsSettled self.old self.new) }
-        ensures fails { IfErr result (λ e. Refuses e self.old self.new) }
+        ensures ends { EndsSettled result self.old self.new }
     {
         if let Some(error) = self.latched {
             return Err(error);
@@ -213,8 +209,7 @@ impl<N: Nor> SectorMap<N> {
         ensures unchanged { IfOk result (λ more. IsFalse more → self.new.memory ≡ self.old.memory) }
         ensures cut { IsErrOf result NorError.Cut → KeepsMap self.old.memory self.new.memory }
         ensures size { length self.new.memory ≡ length self.old.memory }
-        ensures done { OnOk result (SucceedsSettled self.old self.new) }
-        ensures fails { IfErr result (λ e. Refuses e self.old self.new) }
+        ensures ends { EndsSettled result self.old self.new }
     {
         if let Some(error) = self.latched {
             return Err(error);
@@ -234,8 +229,7 @@ impl<N: Nor> SectorMap<N> {
         ensures clean { IfOk result (λ clean. IsTrue clean → IsClean self.old.memory) }
         ensures not_clean { IfOk result (λ clean. IsFalse clean → IsClean self.old.memory → ⊥) }
         ensures same { self.new.memory ≡ self.old.memory }
-        ensures done { OnOk result (SucceedsSettled self.old self.new) }
-        ensures fails { IfErr result (λ e. Refuses e self.old self.new) }
+        ensures ends { EndsSettled result self.old self.new }
     {
         if let Some(error) = self.latched {
             return Err(error);

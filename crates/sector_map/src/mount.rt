@@ -8,7 +8,7 @@ ghost use Rattle.chip_model.specs.Geometry.{sector_count};
 ghost use Rattle.nor_driver.specs.State.{IsNorReady, Refuses};
 ghost use Rattle.erase_journal.specs.Blocks.{SameChip};
 ghost use Rattle.erase_journal.specs.Journals.{IsHealthy};
-ghost use Rattle.erase_journal.specs.Steps.{SucceedsSettled};
+ghost use Rattle.erase_journal.specs.Steps.{SucceedsSettled, EndsSettled};
 ghost use Rattle.sector_slots.specs.Slots.{slot_at, slot_count, data_blocks, kind_at, IsClean};
 ghost use Rattle.sector_slots.specs.Blocks.{AreSettled, HasGroupRoom};
 ghost use Rattle.sector_slots.specs.Sectors.{IsSoundMap, HoldsSectors};
@@ -48,8 +48,7 @@ pub fn mount_in<S: Reclaim>(stock: &mut S, table: &mut [Entry]) -> Result<bool, 
         → IsHealthy (S.state stock.new).memory }
     ensures size { length table.new ≡ length table.old }
     ensures same_size { length (S.state stock.new).memory ≡ length (S.state stock.old).memory }
-    ensures done { OnOk result (SucceedsSettled (S.state stock.old) (S.state stock.new)) }
-    ensures fails { IfErr result (λ e. Refuses e (S.state stock.old) (S.state stock.new)) }
+    ensures ends { EndsSettled result (S.state stock.old) (S.state stock.new) }
 {
     table.fill(Entry::Absent);
     let marks = read_marks(stock)?;
@@ -86,8 +85,7 @@ fn look<S: Reclaim>(
         → ⊥) }
     ensures size { length table.new ≡ length table.old }
     ensures same { (S.state stock.new).memory ≡ (S.state stock.old).memory }
-    ensures done { OnOk result (SucceedsSettled (S.state stock.old) (S.state stock.new)) }
-    ensures fails { IfErr result (λ e. Refuses e (S.state stock.old) (S.state stock.new)) }
+    ensures ends { EndsSettled result (S.state stock.old) (S.state stock.new) }
 {
     let Some(found) = survey(stock, groups)? else {
         return Ok(None);
@@ -144,8 +142,7 @@ fn repair<S: Reclaim>(stock: &mut S, table: &mut [Entry], seen: Seen) -> Result<
         → IsHealthy (S.state stock.new).memory }
     ensures size { length table.new ≡ length table.old }
     ensures same_size { length (S.state stock.new).memory ≡ length (S.state stock.old).memory }
-    ensures done { OnOk result (SucceedsSettled (S.state stock.old) (S.state stock.new)) }
-    ensures fails { IfErr result (λ e. Refuses e (S.state stock.old) (S.state stock.new)) }
+    ensures ends { EndsSettled result (S.state stock.old) (S.state stock.new) }
 {
     mend_blocks(stock, table, seen)?;
     retire_older(stock, table)?;
@@ -211,8 +208,7 @@ fn end_copy<S: SlotCalls>(slots: &mut S, source: u16, target: u16) -> Result<(),
     ensures healthy { IsErrOf result NorError.Cut → IsHealthy (S.state slots.old).memory
         → IsHealthy (S.state slots.new).memory }
     ensures size { length (S.state slots.new).memory ≡ length (S.state slots.old).memory }
-    ensures done { OnOk result (SucceedsSettled (S.state slots.old) (S.state slots.new)) }
-    ensures fails { IfErr result (λ e. Refuses e (S.state slots.old) (S.state slots.new)) }
+    ensures ends { EndsSettled result (S.state slots.old) (S.state slots.new) }
 {
     if is_spare(slots, source)? {
         end_erased(slots, source, target)?;

@@ -1,16 +1,16 @@
 //! A sector written anew: the new slot first, then the old one is retired.
 
-ghost use Rattle.std.specs.Prelude.{◌≡◌, ◌<◌, ℕ, List, true, length, Some, None, OnOk, IfOk, IfErr};
+ghost use Rattle.std.specs.Prelude.{◌≡◌, ◌<◌, ℕ, List, true, length, Some, None, OnOk, IfOk};
 ghost use Rattle.std.specs.Prelude.{IfSome};
 ghost use Rattle.std.specs.Result.{IsErrOf};
-ghost use Rattle.nor_driver.specs.State.{IsNorReady, Refuses};
+ghost use Rattle.nor_driver.specs.State.{IsNorReady};
 ghost use Rattle.erase_journal.specs.Blocks.{SameChip};
 ghost use Rattle.erase_journal.specs.Journals.{IsHealthy, IsSettled};
-ghost use Rattle.erase_journal.specs.Steps.{SucceedsSettled};
 ghost use Rattle.sector_slots.specs.Slots.{slot_count};
 ghost use Rattle.sector_slots.specs.Sectors.{IsSingle, IsSoundMap, sector_at};
 ghost use Rattle.sector_map.specs.Replace.{HeldBy, generation_after, IsReplaceable, Rewrites};
 ghost use Rattle.sector_map.specs.Replace.{RewriteLeaves};
+ghost use Rattle.erase_journal.specs.Steps.{EndsSettled};
 
 use crate::Held;
 use nor_driver::NorError;
@@ -44,8 +44,7 @@ pub(crate) fn rewrite<S: Reclaim>(
     ensures healthy { IsErrOf result NorError.Cut → IsHealthy (S.state stock.old).memory
         → IsHealthy (S.state stock.new).memory }
     ensures chip { SameChip (S.state stock.old).memory (S.state stock.new).memory }
-    ensures done { OnOk result (SucceedsSettled (S.state stock.old) (S.state stock.new)) }
-    ensures fails { IfErr result (λ e. Refuses e (S.state stock.old) (S.state stock.new)) }
+    ensures ends { EndsSettled result (S.state stock.old) (S.state stock.new) }
 {
     match holder {
         Some(held) => replace_held(stock, to, held, sector, content),
@@ -71,8 +70,7 @@ fn add<S: Reclaim>(stock: &mut S, to: u16, sector: u16, content: &[u8]) -> Resul
     ensures healthy { IsErrOf result NorError.Cut → IsHealthy (S.state stock.old).memory
         → IsHealthy (S.state stock.new).memory }
     ensures chip { SameChip (S.state stock.old).memory (S.state stock.new).memory }
-    ensures done { OnOk result (SucceedsSettled (S.state stock.old) (S.state stock.new)) }
-    ensures fails { IfErr result (λ e. Refuses e (S.state stock.old) (S.state stock.new)) }
+    ensures ends { EndsSettled result (S.state stock.old) (S.state stock.new) }
 {
     let generation = Generation::Zero;
     let first = Tag {
@@ -111,8 +109,7 @@ fn replace_held<S: Reclaim>(
     ensures healthy { IsErrOf result NorError.Cut → IsHealthy (S.state stock.old).memory
         → IsHealthy (S.state stock.new).memory }
     ensures chip { SameChip (S.state stock.old).memory (S.state stock.new).memory }
-    ensures done { OnOk result (SucceedsSettled (S.state stock.old) (S.state stock.new)) }
-    ensures fails { IfErr result (λ e. Refuses e (S.state stock.old) (S.state stock.new)) }
+    ensures ends { EndsSettled result (S.state stock.old) (S.state stock.new) }
 {
     let generation = held.generation.next();
     let next = Tag {
@@ -144,8 +141,7 @@ pub(crate) fn find_in<S: Reclaim>(
         → into.new ≡ sector_at (S.state stock.old).memory sector) }
     ensures same { (S.state stock.new).memory ≡ (S.state stock.old).memory }
     ensures index { S.indexed stock.new ≡ S.indexed stock.old }
-    ensures done { OnOk result (SucceedsSettled (S.state stock.old) (S.state stock.new)) }
-    ensures fails { IfErr result (λ e. Refuses e (S.state stock.old) (S.state stock.new)) }
+    ensures ends { EndsSettled result (S.state stock.old) (S.state stock.new) }
 {
     match holder {
         Some(held) => {

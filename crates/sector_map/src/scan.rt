@@ -1,10 +1,8 @@
 //! The blocks are read: what copying goes on, and which slots hold each sector.
 
 ghost use Rattle.std.specs.Prelude.{◌≡◌, ◌≢◌, ◌+◌, ◌*◌, ◌<◌, ◌≤◌, ℕ, Bool, true, false, Some, None};
-ghost use Rattle.std.specs.Prelude.{◌||◌, length, OnOk, IfOk, IfErr, IsTrue, IsFalse};
-ghost use Rattle.nor_driver.specs.State.{Refuses};
+ghost use Rattle.std.specs.Prelude.{◌||◌, length, IfOk, IsTrue, IsFalse};
 ghost use Rattle.nor_layout.specs.declared.header.Header.TheVariants as headers;
-ghost use Rattle.erase_journal.specs.Steps.{SucceedsSettled};
 ghost use Rattle.sector_slots.specs.Slots.{slot_at, slot_count, data_blocks, read_header};
 ghost use Rattle.sector_slots.specs.Slots.{IsSpareIn, is_group};
 ghost use Rattle.sector_slots.specs.Blocks.{AreSound};
@@ -13,6 +11,7 @@ ghost use Rattle.sector_map.specs.Found.{FoundIn, block_counts, noted_where};
 ghost use Rattle.sector_map.specs.declared.found.Found.{Found as FoundOf};
 ghost use Rattle.sector_map.specs.Scan.{EntersBlock, RefusesBlock};
 ghost use Rattle.sector_map.specs.Table.{IsTabled, IsBlankTable};
+ghost use Rattle.erase_journal.specs.Steps.{EndsSettled};
 
 use crate::entry::Entry;
 use crate::found::{Found, is_counted, note_kind};
@@ -32,8 +31,7 @@ pub fn survey<S: SlotCalls>(slots: &mut S, groups: bool) -> Result<Option<Found>
     ensures corrupt { IfOk result (λ answer. answer ≡ None → AreSound (S.state slots.old).memory
         → (groups ≡ false → HasSlotsAlone (S.state slots.old).memory) → ⊥) }
     ensures same { (S.state slots.new).memory ≡ (S.state slots.old).memory }
-    ensures done { OnOk result (SucceedsSettled (S.state slots.old) (S.state slots.new)) }
-    ensures fails { IfErr result (λ e. Refuses e (S.state slots.old) (S.state slots.new)) }
+    ensures ends { EndsSettled result (S.state slots.old) (S.state slots.new) }
 {
     let count = slots.blocks();
     let mut found = Found::AtRest;
@@ -137,8 +135,7 @@ fn read_block<S: SlotCalls>(
         count → ⊥) }
     ensures size { length table.new ≡ length table.old }
     ensures same { (S.state slots.new).memory ≡ (S.state slots.old).memory }
-    ensures done { OnOk result (SucceedsSettled (S.state slots.old) (S.state slots.new)) }
-    ensures fails { IfErr result (λ e. Refuses e (S.state slots.old) (S.state slots.new)) }
+    ensures ends { EndsSettled result (S.state slots.old) (S.state slots.new) }
 {
     let mut heads = [Header::Free; 7];
     let kind = slots.head(block, &mut heads)?;
@@ -189,8 +186,7 @@ pub(crate) fn read_table<S: SlotCalls>(
         count → ⊥) }
     ensures size { length table.new ≡ length table.old }
     ensures same { (S.state slots.new).memory ≡ (S.state slots.old).memory }
-    ensures done { OnOk result (SucceedsSettled (S.state slots.old) (S.state slots.new)) }
-    ensures fails { IfErr result (λ e. Refuses e (S.state slots.old) (S.state slots.new)) }
+    ensures ends { EndsSettled result (S.state slots.old) (S.state slots.new) }
 {
     let count = slots.blocks();
     let mut spare = false;
@@ -211,8 +207,7 @@ pub fn is_spare<S: SlotCalls>(slots: &mut S, block: u16) -> Result<bool, NorErro
     ensures not_spare { IfOk result (λ spare. IsFalse spare
         → IsSpareIn (S.state slots.old).memory block → ⊥) }
     ensures same { (S.state slots.new).memory ≡ (S.state slots.old).memory }
-    ensures done { OnOk result (SucceedsSettled (S.state slots.old) (S.state slots.new)) }
-    ensures fails { IfErr result (λ e. Refuses e (S.state slots.old) (S.state slots.new)) }
+    ensures ends { EndsSettled result (S.state slots.old) (S.state slots.new) }
 {
     let mut heads = [Header::Free; 7];
     let kind = slots.head(block, &mut heads)?;

@@ -5,7 +5,7 @@ ghost use Rattle.std.specs.Prelude.{IsFalse};
 ghost use Rattle.std.specs.Result.{IsErrOf};
 ghost use Rattle.chip_model.specs.Geometry.{sector_count};
 ghost use Rattle.nor_driver.specs.State.{IsNorReady, Refuses};
-ghost use Rattle.erase_journal.specs.Steps.{SucceedsSettled};
+ghost use Rattle.erase_journal.specs.Steps.{SucceedsSettled, EndsSettled};
 ghost use Rattle.sector_slots.specs.Sectors.{sector_at, zeros};
 ghost use Rattle.sector_stock.specs.Takes.{urgent_work, work_of};
 ghost use Rattle.sector_stock.specs.Room.{HasNoneDead};
@@ -37,8 +37,7 @@ pub(crate) fn write_in<S: Reclaim>(
         → SetLeaves sector content.now (S.state stock.old).memory (S.state stock.new).memory }
     ensures table { length table.new ≡ length table.old }
     ensures size { length (S.state stock.new).memory ≡ length (S.state stock.old).memory }
-    ensures done { OnOk result (SucceedsSettled (S.state stock.old) (S.state stock.new)) }
-    ensures fails { IfErr result (λ e. Refuses e (S.state stock.old) (S.state stock.new)) }
+    ensures ends { EndsSettled result (S.state stock.old) (S.state stock.new) }
 {
     make_way(stock, table, sector)?;
     write_own(stock, table, sector, content)
@@ -56,8 +55,7 @@ fn make_way<S: Reclaim>(stock: &mut S, table: &mut [Entry], sector: u16) -> Resu
         → KeepsMap (S.state stock.old).memory (S.state stock.new).memory }
     ensures table { length table.new ≡ length table.old }
     ensures size { length (S.state stock.new).memory ≡ length (S.state stock.old).memory }
-    ensures done { OnOk result (SucceedsSettled (S.state stock.old) (S.state stock.new)) }
-    ensures fails { IfErr result (λ e. Refuses e (S.state stock.old) (S.state stock.new)) }
+    ensures ends { EndsSettled result (S.state stock.old) (S.state stock.new) }
 {
     level_in(stock, table, Next::Give)?;
     leave_group(stock, table, sector)
@@ -77,8 +75,7 @@ fn level_in<S: Reclaim>(stock: &mut S, table: &mut [Entry], next: Next) -> Resul
         → KeepsMap (S.state stock.old).memory (S.state stock.new).memory }
     ensures table { length table.new ≡ length table.old }
     ensures size { length (S.state stock.new).memory ≡ length (S.state stock.old).memory }
-    ensures done { OnOk result (SucceedsSettled (S.state stock.old) (S.state stock.new)) }
-    ensures fails { IfErr result (λ e. Refuses e (S.state stock.old) (S.state stock.new)) }
+    ensures ends { EndsSettled result (S.state stock.old) (S.state stock.new) }
 {
     match stock.level(next)? {
         Some(moved) => {
@@ -133,8 +130,7 @@ fn write_own<S: Reclaim>(
         → SetLeaves sector content.now (S.state stock.old).memory (S.state stock.new).memory }
     ensures table { length table.new ≡ length table.old }
     ensures size { length (S.state stock.new).memory ≡ length (S.state stock.old).memory }
-    ensures done { OnOk result (SucceedsSettled (S.state stock.old) (S.state stock.new)) }
-    ensures fails { IfErr result (λ e. Refuses e (S.state stock.old) (S.state stock.new)) }
+    ensures ends { EndsSettled result (S.state stock.old) (S.state stock.new) }
 {
     let given = stock.take_free()?;
     follow_copied(stock, table, given.copied)?;
@@ -160,8 +156,7 @@ pub(crate) fn tidy_in<S: Reclaim>(stock: &mut S, table: &mut [Entry]) -> Result<
         → KeepsMap (S.state stock.old).memory (S.state stock.new).memory }
     ensures table { length table.new ≡ length table.old }
     ensures size { length (S.state stock.new).memory ≡ length (S.state stock.old).memory }
-    ensures done { OnOk result (SucceedsSettled (S.state stock.old) (S.state stock.new)) }
-    ensures fails { IfErr result (λ e. Refuses e (S.state stock.old) (S.state stock.new)) }
+    ensures ends { EndsSettled result (S.state stock.old) (S.state stock.new) }
 {
     level_in(stock, table, Next::Tidy)?;
     tidy_own(stock, table)
@@ -182,8 +177,7 @@ fn tidy_own<S: Reclaim>(stock: &mut S, table: &mut [Entry]) -> Result<bool, NorE
         → KeepsMap (S.state stock.old).memory (S.state stock.new).memory }
     ensures table { length table.new ≡ length table.old }
     ensures size { length (S.state stock.new).memory ≡ length (S.state stock.old).memory }
-    ensures done { OnOk result (SucceedsSettled (S.state stock.old) (S.state stock.new)) }
-    ensures fails { IfErr result (λ e. Refuses e (S.state stock.old) (S.state stock.new)) }
+    ensures ends { EndsSettled result (S.state stock.old) (S.state stock.new) }
 {
     match stock.tidy()? {
         Some(copied) => {
@@ -209,8 +203,7 @@ pub(crate) fn tidy_urgent_in<S: Reclaim>(stock: &mut S, table: &mut [Entry]) -> 
         → KeepsMap (S.state stock.old).memory (S.state stock.new).memory }
     ensures table { length table.new ≡ length table.old }
     ensures size { length (S.state stock.new).memory ≡ length (S.state stock.old).memory }
-    ensures done { OnOk result (SucceedsSettled (S.state stock.old) (S.state stock.new)) }
-    ensures fails { IfErr result (λ e. Refuses e (S.state stock.old) (S.state stock.new)) }
+    ensures ends { EndsSettled result (S.state stock.old) (S.state stock.new) }
 {
     if !stock.is_short() {
         return Ok(false);
@@ -229,8 +222,7 @@ pub(crate) fn clear_in<S: Reclaim>(stock: &mut S, table: &mut [Entry], sector: u
         → SetLeaves sector zeros (S.state stock.old).memory (S.state stock.new).memory }
     ensures table { length table.new ≡ length table.old }
     ensures size { length (S.state stock.new).memory ≡ length (S.state stock.old).memory }
-    ensures done { OnOk result (SucceedsSettled (S.state stock.old) (S.state stock.new)) }
-    ensures fails { IfErr result (λ e. Refuses e (S.state stock.old) (S.state stock.new)) }
+    ensures ends { EndsSettled result (S.state stock.old) (S.state stock.new) }
 {
     leave_group(stock, table, sector)?;
     clear_own(stock, table, sector)
@@ -247,8 +239,7 @@ fn clear_own<S: Reclaim>(stock: &mut S, table: &mut [Entry], sector: u16) -> Res
         → SetLeaves sector zeros (S.state stock.old).memory (S.state stock.new).memory }
     ensures table { length table.new ≡ length table.old }
     ensures size { length (S.state stock.new).memory ≡ length (S.state stock.old).memory }
-    ensures done { OnOk result (SucceedsSettled (S.state stock.old) (S.state stock.new)) }
-    ensures fails { IfErr result (λ e. Refuses e (S.state stock.old) (S.state stock.new)) }
+    ensures ends { EndsSettled result (S.state stock.old) (S.state stock.new) }
 {
     match table[sector as usize].holder() {
         Some(held) => {

@@ -1,14 +1,14 @@
 //! Slots with their index.
 
-ghost use Rattle.std.specs.Prelude.{◌≡◌, ◌≢◌, ◌<◌, ℕ, List, false, true, Some, None, length, OnOk};
-ghost use Rattle.std.specs.Prelude.{IfOk, IfErr, IsTrue, IsFalse};
-ghost use Rattle.nor_driver.specs.State.{IsNorReady, Refuses};
+ghost use Rattle.std.specs.Prelude.{◌≡◌, ◌≢◌, ◌<◌, ℕ, List, false, true, Some, None, length};
+ghost use Rattle.std.specs.Prelude.{IfOk, IsTrue, IsFalse};
+ghost use Rattle.nor_driver.specs.State.{IsNorReady};
 ghost use Rattle.erase_journal.specs.Journals.{IsSettled};
-ghost use Rattle.erase_journal.specs.Steps.{SucceedsSettled};
 ghost use Rattle.sector_slots.specs.Blocks.{AreAtRest};
 ghost use Rattle.sector_slots.specs.Slots.{slot_count, data_blocks, kind_at, IsClean};
 ghost use Rattle.sector_stock.specs.Index.{IsStocked};
 ghost use Rattle.sector_stock.specs.declared.policy.Policy.TheVariants as policies;
+ghost use Rattle.erase_journal.specs.Steps.{EndsSettled};
 
 use erase_journal::RecoverError;
 use journal_slots::SectorSlots;
@@ -101,10 +101,8 @@ impl<N: Nor> Stock<N> {
             ≡ (⟦<Stock<N> as SlotCalls>⟧.state self.old).memory }
         ensures index { ⟦<Stock<N> as SlotCalls>⟧.indexed self.new
             ≡ ⟦<Stock<N> as SlotCalls>⟧.indexed self.old }
-        ensures done { OnOk result (SucceedsSettled (⟦<Stock<N> as SlotCalls>⟧.state self.old)
-            (⟦<Stock<N> as SlotCalls>⟧.state self.new)) }
-        ensures fails { IfErr result (λ e. Refuses e (⟦<Stock<N> as SlotCalls>⟧.state self.old)
-            (⟦<Stock<N> as SlotCalls>⟧.state self.new)) }
+        ensures ends { EndsSettled result (⟦<Stock<N> as SlotCalls>⟧.state self.old)
+            (⟦<Stock<N> as SlotCalls>⟧.state self.new) }
     {
         self.slots.is_clean()
     }

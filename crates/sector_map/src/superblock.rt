@@ -7,7 +7,7 @@ ghost use Rattle.nor_layout.specs.Layouts.{layout_of};
 ghost use Rattle.sector_map.specs.Maps.{geometry_of};
 ghost use Rattle.nor_driver.specs.State.{Refuses};
 ghost use Rattle.erase_journal.specs.Journals.{IsHealthy};
-ghost use Rattle.erase_journal.specs.Steps.{SucceedsSettled};
+ghost use Rattle.erase_journal.specs.Steps.{SucceedsSettled, EndsSettled};
 ghost use Rattle.sector_map.specs.Marking.{is_unmarked, may_have_groups, Marks as MarksOf};
 
 use chip_model::Geometry;
@@ -48,8 +48,7 @@ pub(crate) fn read_marks<S: SlotCalls>(slots: &mut S) -> Result<Marks, NorError>
     ensures unmarked { IfOk result (λ marks. marks.unmarked
         ≡ is_unmarked (S.state slots.old).memory) }
     ensures same { (S.state slots.new).memory ≡ (S.state slots.old).memory }
-    ensures done { OnOk result (SucceedsSettled (S.state slots.old) (S.state slots.new)) }
-    ensures fails { IfErr result (λ e. Refuses e (S.state slots.old) (S.state slots.new)) }
+    ensures ends { EndsSettled result (S.state slots.old) (S.state slots.new) }
 {
     let mut head = [0; SUPER_LEN];
     slots.superblock(&mut head)?;

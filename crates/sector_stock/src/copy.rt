@@ -1,15 +1,15 @@
 //! A block is copied into the reserve, and then erased.
 
-ghost use Rattle.std.specs.Prelude.{◌≡◌, ◌≢◌, ◌+◌, ◌<◌, ℕ, List, length, OnOk, IfErr};
+ghost use Rattle.std.specs.Prelude.{◌≡◌, ◌≢◌, ◌+◌, ◌<◌, ℕ, List, length, OnOk};
 ghost use Rattle.std.specs.Result.{IsErrOf};
-ghost use Rattle.nor_driver.specs.State.{IsNorReady, Refuses};
+ghost use Rattle.nor_driver.specs.State.{IsNorReady};
 ghost use Rattle.erase_journal.specs.Journals.{IsHealthy};
-ghost use Rattle.erase_journal.specs.Steps.{SucceedsSettled};
 ghost use Rattle.sector_slots.specs.Slots.{data_blocks, IsSpareIn};
 ghost use Rattle.sector_slots.specs.Sectors.{IsSoundMap};
 ghost use Rattle.sector_stock.specs.Copy.{KeepsSectors, Stays, IsCopyable, IsFinished, Copies};
 ghost use Rattle.sector_stock.specs.Copy.{EndsCopy, IsVoidIn, IsCommittedIn};
 ghost use Rattle.sector_stock.specs.CopySteps.{IsCopiedTo, CopyProgress, Finishes, FinishLeaves};
+ghost use Rattle.erase_journal.specs.Steps.{EndsSettled};
 
 use nor_driver::NorError;
 use sector_slots::SlotCalls;
@@ -30,8 +30,7 @@ pub(crate) fn reclaim_into<S: SlotCalls>(slots: &mut S, source: u16, target: u16
     ensures healthy { IsErrOf result NorError.Cut → IsHealthy (S.state slots.old).memory
         → IsHealthy (S.state slots.new).memory }
     ensures size { length (S.state slots.new).memory ≡ length (S.state slots.old).memory }
-    ensures done { OnOk result (SucceedsSettled (S.state slots.old) (S.state slots.new)) }
-    ensures fails { IfErr result (λ e. Refuses e (S.state slots.old) (S.state slots.new)) }
+    ensures ends { EndsSettled result (S.state slots.old) (S.state slots.new) }
 {
     copy_all(slots, source, target)?;
     finish(slots, source, target)?;
@@ -49,8 +48,7 @@ fn copy_all<S: SlotCalls>(slots: &mut S, source: u16, target: u16) -> Result<(),
     ensures healthy { IsErrOf result NorError.Cut → IsHealthy (S.state slots.old).memory
         → IsHealthy (S.state slots.new).memory }
     ensures size { length (S.state slots.new).memory ≡ length (S.state slots.old).memory }
-    ensures done { OnOk result (SucceedsSettled (S.state slots.old) (S.state slots.new)) }
-    ensures fails { IfErr result (λ e. Refuses e (S.state slots.old) (S.state slots.new)) }
+    ensures ends { EndsSettled result (S.state slots.old) (S.state slots.new) }
 {
     slots.begin(target, source)?;
     for place in 0..7u16 {
@@ -73,8 +71,7 @@ fn finish<S: SlotCalls>(slots: &mut S, source: u16, target: u16) -> Result<(), N
     ensures healthy { IsErrOf result NorError.Cut → IsHealthy (S.state slots.old).memory
         → IsHealthy (S.state slots.new).memory }
     ensures size { length (S.state slots.new).memory ≡ length (S.state slots.old).memory }
-    ensures done { OnOk result (SucceedsSettled (S.state slots.old) (S.state slots.new)) }
-    ensures fails { IfErr result (λ e. Refuses e (S.state slots.old) (S.state slots.new)) }
+    ensures ends { EndsSettled result (S.state slots.old) (S.state slots.new) }
 {
     slots.commit(target)?;
     end_committed(slots, source, target)?;
@@ -94,8 +91,7 @@ pub fn end_void<S: SlotCalls>(slots: &mut S, target: u16) -> Result<(), NorError
     ensures healthy { IsErrOf result NorError.Cut → IsHealthy (S.state slots.old).memory
         → IsHealthy (S.state slots.new).memory }
     ensures size { length (S.state slots.new).memory ≡ length (S.state slots.old).memory }
-    ensures done { OnOk result (SucceedsSettled (S.state slots.old) (S.state slots.new)) }
-    ensures fails { IfErr result (λ e. Refuses e (S.state slots.old) (S.state slots.new)) }
+    ensures ends { EndsSettled result (S.state slots.old) (S.state slots.new) }
 {
     slots.erase(target)?;
     Ok(())
@@ -118,8 +114,7 @@ pub fn end_committed<S: SlotCalls>(slots: &mut S, source: u16, target: u16) -> R
     ensures healthy { IsErrOf result NorError.Cut → IsHealthy (S.state slots.old).memory
         → IsHealthy (S.state slots.new).memory }
     ensures size { length (S.state slots.new).memory ≡ length (S.state slots.old).memory }
-    ensures done { OnOk result (SucceedsSettled (S.state slots.old) (S.state slots.new)) }
-    ensures fails { IfErr result (λ e. Refuses e (S.state slots.old) (S.state slots.new)) }
+    ensures ends { EndsSettled result (S.state slots.old) (S.state slots.new) }
 {
     slots.erase(source)?;
     slots.settle(target)?;
@@ -140,8 +135,7 @@ pub fn end_erased<S: SlotCalls>(slots: &mut S, source: u16, target: u16) -> Resu
     ensures healthy { IsErrOf result NorError.Cut → IsHealthy (S.state slots.old).memory
         → IsHealthy (S.state slots.new).memory }
     ensures size { length (S.state slots.new).memory ≡ length (S.state slots.old).memory }
-    ensures done { OnOk result (SucceedsSettled (S.state slots.old) (S.state slots.new)) }
-    ensures fails { IfErr result (λ e. Refuses e (S.state slots.old) (S.state slots.new)) }
+    ensures ends { EndsSettled result (S.state slots.old) (S.state slots.new) }
 {
     slots.settle(target)?;
     Ok(())

@@ -2,12 +2,11 @@
 
 ghost use Rattle.std.specs.Prelude.{◌≡◌, ◌≢◌, ◌⊎◌, ◌-◌, ◌<◌, ◌≤◌, ℕ, List, Some, None};
 ghost use Rattle.std.specs.Prelude.{length, OnOk};
-ghost use Rattle.std.specs.Prelude.{IfOk, IfErr, IfSome, IsTrue};
+ghost use Rattle.std.specs.Prelude.{IfOk, IfSome, IsTrue};
 ghost use Rattle.std.specs.Result.{IsErrOf};
 ghost use Rattle.chip_model.specs.Geometry.{IsChipSize};
-ghost use Rattle.nor_driver.specs.State.{IsNorReady, Refuses};
+ghost use Rattle.nor_driver.specs.State.{IsNorReady};
 ghost use Rattle.erase_journal.specs.Journals.{IsHealthy, IsSettled};
-ghost use Rattle.erase_journal.specs.Steps.{SucceedsSettled};
 ghost use Rattle.sector_stock.specs.Room.{HasRoom, HasNoneDead};
 ghost use Rattle.sector_stock.specs.Copy.{Stays};
 ghost use Rattle.sector_stock.specs.Index.{IsIndexOf, IsAhead, BlocksMoved, in_block};
@@ -15,6 +14,7 @@ ghost use Rattle.sector_stock.specs.Policies.{IsTail, IsDue, IsInUse, block_befo
 ghost use Rattle.sector_stock.specs.Takes.{MovesInto, work_of};
 ghost use Rattle.sector_stock.specs.declared.given.Copied.{Copied as CopiedOf};
 ghost use Rattle.sector_stock.specs.declared.policy.Policy.TheVariants as policies;
+ghost use Rattle.erase_journal.specs.Steps.{EndsSettled};
 
 use crate::copy::reclaim_into;
 use crate::given::Copied;
@@ -156,8 +156,7 @@ fn move_used<S: SlotCalls>(
     ensures size { length (S.state slots.new).memory ≡ length (S.state slots.old).memory }
     ensures states_size { length states.new ≡ length states.old }
     ensures blocks_size { length blocks.new ≡ length blocks.old }
-    ensures done { OnOk result (SucceedsSettled (S.state slots.old) (S.state slots.new)) }
-    ensures fails { IfErr result (λ e. Refuses e (S.state slots.old) (S.state slots.new)) }
+    ensures ends { EndsSettled result (S.state slots.old) (S.state slots.new) }
 {
     let target = at.reserve;
     reclaim_into(slots, source, target)?;
@@ -205,8 +204,7 @@ pub fn level_block<S: SlotCalls>(
     ensures size { length (S.state slots.new).memory ≡ length (S.state slots.old).memory }
     ensures states_size { length states.new ≡ length states.old }
     ensures blocks_size { length blocks.new ≡ length blocks.old }
-    ensures done { OnOk result (SucceedsSettled (S.state slots.old) (S.state slots.new)) }
-    ensures fails { IfErr result (λ e. Refuses e (S.state slots.old) (S.state slots.new)) }
+    ensures ends { EndsSettled result (S.state slots.old) (S.state slots.new) }
 {
     let Some(due) = move_due(blocks, at, next) else {
         return Ok(None);

@@ -2,12 +2,11 @@
 
 ghost use Rattle.std.specs.Prelude.{◌≡◌, ◌≢◌, ◌⊎◌, ◌/◌, ◌<◌, ◌≤◌, ℕ, true, Some, None};
 ghost use Rattle.std.specs.Prelude.{length, OnOk};
-ghost use Rattle.std.specs.Prelude.{IfOk, IfErr};
+ghost use Rattle.std.specs.Prelude.{IfOk};
 ghost use Rattle.std.specs.Result.{IsErrOf};
-ghost use Rattle.nor_driver.specs.State.{IsNorReady, Refuses};
+ghost use Rattle.nor_driver.specs.State.{IsNorReady};
 ghost use Rattle.erase_journal.specs.Blocks.{SameChip};
 ghost use Rattle.erase_journal.specs.Journals.{IsHealthy, IsSettled};
-ghost use Rattle.erase_journal.specs.Steps.{SucceedsSettled};
 ghost use Rattle.sector_slots.specs.Slots.{Free, Live, Dead, slot_at, slot_count, IsClean};
 ghost use Rattle.sector_slots.specs.Steps.{IsRetirable};
 ghost use Rattle.sector_slots.specs.Steps.{IsWritable, PutLeaves, HoldsTag, MayHoldTag, OnlyPlace};
@@ -22,6 +21,7 @@ ghost use Rattle.sector_stock.specs.Takes.{Converts, IsLiveGroup};
 ghost use Rattle.sector_slots.specs.Slots.{data_blocks, kind_at};
 ghost use Rattle.sector_stock.specs.Index.{is_live_group};
 ghost use Rattle.sector_stock.specs.declared.given.Copied.{Copied as CopiedOf};
+ghost use Rattle.erase_journal.specs.Steps.{EndsSettled};
 
 use crate::given::{Copied, Given};
 use crate::policy::{Next, Policy};
@@ -42,8 +42,7 @@ pub trait Reclaim: SlotCalls {
         ensures indexed { OnOk result (Self.indexed self.new ≡ true) }
         ensures policy { OnOk result (policy self.new ≡ policy self.old) }
         ensures same { (Self.state self.new).memory ≡ (Self.state self.old).memory }
-        ensures done { OnOk result (SucceedsSettled (Self.state self.old) (Self.state self.new)) }
-        ensures fails { IfErr result (λ e. Refuses e (Self.state self.old) (Self.state self.new)) };
+        ensures ends { EndsSettled result (Self.state self.old) (Self.state self.new) };
 
     /// A free slot; another block than its own is wholly free. Where no slot outside the reserve is
     /// free, a block with the most dead slots is copied into the reserve first. There always is
@@ -72,8 +71,7 @@ pub trait Reclaim: SlotCalls {
         ensures indexed { OnOk result (Self.indexed self.new ≡ true) }
         ensures healthy { IsErrOf result NorError.Cut → IsHealthy (Self.state self.new).memory }
         ensures size { length (Self.state self.new).memory ≡ length (Self.state self.old).memory }
-        ensures done { OnOk result (SucceedsSettled (Self.state self.old) (Self.state self.new)) }
-        ensures fails { IfErr result (λ e. Refuses e (Self.state self.old) (Self.state self.new)) };
+        ensures ends { EndsSettled result (Self.state self.old) (Self.state self.new) };
 
     /// Copies a block with dead slots, one with the most, by number the lowest-numbered of equals,
     /// into the reserve; where no slot is dead, converts the lowest-numbered block that is live
@@ -107,8 +105,7 @@ pub trait Reclaim: SlotCalls {
         ensures indexed { OnOk result (Self.indexed self.new ≡ true) }
         ensures healthy { IsErrOf result NorError.Cut → IsHealthy (Self.state self.new).memory }
         ensures size { length (Self.state self.new).memory ≡ length (Self.state self.old).memory }
-        ensures done { OnOk result (SucceedsSettled (Self.state self.old) (Self.state self.new)) }
-        ensures fails { IfErr result (λ e. Refuses e (Self.state self.old) (Self.state self.new)) };
+        ensures ends { EndsSettled result (Self.state self.old) (Self.state self.new) };
 
     /// Moves a block whose sectors rest into a wholly free one, where it is time for it, so that
     /// the block is written to again: the blocks. Where it isn't, nothing changes: None. By number
@@ -136,8 +133,7 @@ pub trait Reclaim: SlotCalls {
         ensures indexed { OnOk result (Self.indexed self.new ≡ true) }
         ensures healthy { IsErrOf result NorError.Cut → IsHealthy (Self.state self.new).memory }
         ensures size { length (Self.state self.new).memory ≡ length (Self.state self.old).memory }
-        ensures done { OnOk result (SucceedsSettled (Self.state self.old) (Self.state self.new)) }
-        ensures fails { IfErr result (λ e. Refuses e (Self.state self.old) (Self.state self.new)) };
+        ensures ends { EndsSettled result (Self.state self.old) (Self.state self.new) };
 
     /// Whether fewer than an eighth of the slots beyond those that the sectors need are free.
     /// Nothing is read.
@@ -171,8 +167,7 @@ pub trait Reclaim: SlotCalls {
         ensures indexed { OnOk result (Self.indexed self.new ≡ true) }
         ensures healthy { IsErrOf result NorError.Cut → IsHealthy (Self.state self.new).memory }
         ensures size { length (Self.state self.new).memory ≡ length (Self.state self.old).memory }
-        ensures done { OnOk result (SucceedsSettled (Self.state self.old) (Self.state self.new)) }
-        ensures fails { IfErr result (λ e. Refuses e (Self.state self.old) (Self.state self.new)) };
+        ensures ends { EndsSettled result (Self.state self.old) (Self.state self.new) };
 
     /// Writes a sector, 512 bytes, into a free slot, as `put` does. Another block than the slot's
     /// is wholly free.
@@ -206,8 +201,7 @@ pub trait Reclaim: SlotCalls {
             → IsHealthy (Self.state self.new).memory }
         ensures indexed { OnOk result (Self.indexed self.new ≡ true) }
         ensures policy { OnOk result (policy self.new ≡ policy self.old) }
-        ensures done { OnOk result (SucceedsSettled (Self.state self.old) (Self.state self.new)) }
-        ensures fails { IfErr result (λ e. Refuses e (Self.state self.old) (Self.state self.new)) };
+        ensures ends { EndsSettled result (Self.state self.old) (Self.state self.new) };
 
     /// Makes a live slot of a block of slots dead, as `retire` does.
     fn release(&mut self, slot: u16) -> Result<(), NorError>
@@ -235,6 +229,5 @@ pub trait Reclaim: SlotCalls {
             → IsHealthy (Self.state self.new).memory }
         ensures indexed { OnOk result (Self.indexed self.new ≡ true) }
         ensures policy { OnOk result (policy self.new ≡ policy self.old) }
-        ensures done { OnOk result (SucceedsSettled (Self.state self.old) (Self.state self.new)) }
-        ensures fails { IfErr result (λ e. Refuses e (Self.state self.old) (Self.state self.new)) };
+        ensures ends { EndsSettled result (Self.state self.old) (Self.state self.new) };
 }

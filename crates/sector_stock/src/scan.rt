@@ -1,16 +1,16 @@
 //! The index of a memory, from the kinds and descriptors of its blocks.
 
 ghost use Rattle.std.specs.Prelude.{◌≡◌, ◌≢◌, ◌⊎◌, ◌/◌, ◌+◌, ◌*◌, ◌<◌, ◌≤◌, length, ℕ};
-ghost use Rattle.std.specs.Prelude.{OnOk, IfOk, IfErr};
+ghost use Rattle.std.specs.Prelude.{IfOk};
 ghost use Rattle.std.specs.Prelude.{if◌then◌else◌};
-ghost use Rattle.nor_driver.specs.State.{IsNorReady, Refuses};
-ghost use Rattle.erase_journal.specs.Steps.{SucceedsSettled};
+ghost use Rattle.nor_driver.specs.State.{IsNorReady};
 ghost use Rattle.sector_slots.specs.Slots.{slot_count, data_blocks};
 ghost use Rattle.sector_slots.specs.Blocks.{AreSettled};
 ghost use Rattle.sector_stock.specs.Index.{IsAhead, IsHighestWhole, IsWholeBlock, IsIndexOf};
 ghost use Rattle.sector_stock.specs.Index.{BlockNoted, StatesNoted, in_block, header_state};
 ghost use Rattle.sector_stock.specs.Index.{is_plain as is_plain_kind, is_free_state, is_dead_state};
 ghost use Rattle.sector_stock.specs.Index.{states_tally, is_live_group, Marked, one_free_fewer};
+ghost use Rattle.erase_journal.specs.Steps.{EndsSettled};
 
 use crate::index::{BlockState, Cursors, SlotState, highest_whole, mark_live};
 use crate::policy::{Policy, TURN, Wanted, least_worn};
@@ -37,8 +37,7 @@ pub fn fill_index<S: SlotCalls>(
     ensures states_size { length states.new ≡ length states.old }
     ensures blocks_size { length blocks.new ≡ length blocks.old }
     ensures same { (S.state slots.new).memory ≡ (S.state slots.old).memory }
-    ensures done { OnOk result (SucceedsSettled (S.state slots.old) (S.state slots.new)) }
-    ensures fails { IfErr result (λ e. Refuses e (S.state slots.old) (S.state slots.new)) }
+    ensures ends { EndsSettled result (S.state slots.old) (S.state slots.new) }
 {
     let count = slots.blocks();
     slots.kind(0)?;

@@ -1,12 +1,11 @@
 //! A free slot is taken from a store and its index; a block is copied where none is free.
 
 ghost use Rattle.std.specs.Prelude.{◌≡◌, ◌≢◌, ◌⊎◌, ◌<◌, ℕ, List, Some, None, length, OnOk};
-ghost use Rattle.std.specs.Prelude.{IfOk, IfErr};
+ghost use Rattle.std.specs.Prelude.{IfOk};
 ghost use Rattle.std.specs.Result.{IsErrOf};
 ghost use Rattle.chip_model.specs.Geometry.{IsChipSize};
-ghost use Rattle.nor_driver.specs.State.{IsNorReady, Refuses};
+ghost use Rattle.nor_driver.specs.State.{IsNorReady};
 ghost use Rattle.erase_journal.specs.Journals.{IsHealthy, IsSettled};
-ghost use Rattle.erase_journal.specs.Steps.{SucceedsSettled};
 ghost use Rattle.sector_stock.specs.Room.{HasRoom, HasNoneDead, HasNoneFree};
 ghost use Rattle.sector_stock.specs.Copy.{Stays};
 ghost use Rattle.std.specs.Prelude.{IfSome};
@@ -20,6 +19,7 @@ ghost use Rattle.sector_stock.specs.Takes.{HasFewerBelow, MovesInto};
 ghost use Rattle.sector_stock.specs.Takes.{Converts, IsLiveGroup, HasNoGroups, TidiesStock};
 ghost use Rattle.sector_slots.specs.Slots.{data_blocks};
 ghost use Rattle.sector_stock.specs.declared.given.Copied.{Copied as CopiedOf};
+ghost use Rattle.erase_journal.specs.Steps.{EndsSettled};
 
 use crate::copy::reclaim_into;
 use crate::given::{Copied, Given};
@@ -65,8 +65,7 @@ fn copy_most<S: SlotCalls>(
     ensures size { length (S.state slots.new).memory ≡ length (S.state slots.old).memory }
     ensures states_size { length states.new ≡ length states.old }
     ensures blocks_size { length blocks.new ≡ length blocks.old }
-    ensures done { OnOk result (SucceedsSettled (S.state slots.old) (S.state slots.new)) }
-    ensures fails { IfErr result (λ e. Refuses e (S.state slots.old) (S.state slots.new)) }
+    ensures ends { EndsSettled result (S.state slots.old) (S.state slots.new) }
 {
     let target = at.reserve;
     reclaim_into(slots, source, target)?;
@@ -134,8 +133,7 @@ pub fn convert_block<S: SlotCalls>(
     ensures size { length (S.state slots.new).memory ≡ length (S.state slots.old).memory }
     ensures states_size { length states.new ≡ length states.old }
     ensures blocks_size { length blocks.new ≡ length blocks.old }
-    ensures done { OnOk result (SucceedsSettled (S.state slots.old) (S.state slots.new)) }
-    ensures fails { IfErr result (λ e. Refuses e (S.state slots.old) (S.state slots.new)) }
+    ensures ends { EndsSettled result (S.state slots.old) (S.state slots.new) }
 {
     let reserve = at.reserve;
     reclaim_into(slots, source, reserve)?;
@@ -179,8 +177,7 @@ pub fn take_slot<S: SlotCalls>(
     ensures size { length (S.state slots.new).memory ≡ length (S.state slots.old).memory }
     ensures states_size { length states.new ≡ length states.old }
     ensures blocks_size { length blocks.new ≡ length blocks.old }
-    ensures done { OnOk result (SucceedsSettled (S.state slots.old) (S.state slots.new)) }
-    ensures fails { IfErr result (λ e. Refuses e (S.state slots.old) (S.state slots.new)) }
+    ensures ends { EndsSettled result (S.state slots.old) (S.state slots.new) }
 {
     if let Some(slot) = free_slot(states, blocks, at) {
         return Ok(Given { slot, copied: None });
@@ -229,8 +226,7 @@ fn convert_lowest<S: SlotCalls>(
     ensures size { length (S.state slots.new).memory ≡ length (S.state slots.old).memory }
     ensures states_size { length states.new ≡ length states.old }
     ensures blocks_size { length blocks.new ≡ length blocks.old }
-    ensures done { OnOk result (SucceedsSettled (S.state slots.old) (S.state slots.new)) }
-    ensures fails { IfErr result (λ e. Refuses e (S.state slots.old) (S.state slots.new)) }
+    ensures ends { EndsSettled result (S.state slots.old) (S.state slots.new) }
 {
     match lowest_group(blocks) {
         Some(source) => {
@@ -280,8 +276,7 @@ pub fn tidy_block<S: SlotCalls>(
     ensures size { length (S.state slots.new).memory ≡ length (S.state slots.old).memory }
     ensures states_size { length states.new ≡ length states.old }
     ensures blocks_size { length blocks.new ≡ length blocks.old }
-    ensures done { OnOk result (SucceedsSettled (S.state slots.old) (S.state slots.new)) }
-    ensures fails { IfErr result (λ e. Refuses e (S.state slots.old) (S.state slots.new)) }
+    ensures ends { EndsSettled result (S.state slots.old) (S.state slots.new) }
 {
     choose_target(blocks, at);
     match most_dead(blocks, at) {

@@ -1,13 +1,12 @@
 //! The kinds of the blocks: what copying goes on, or the first block for which they are corrupt.
 
-ghost use Rattle.std.specs.Prelude.{◌≡◌, ◌<◌, ◌≤◌, ◌+◌, Some, true, false, IfOk, IfErr, OnOk};
-ghost use Rattle.nor_driver.specs.State.{Refuses};
-ghost use Rattle.erase_journal.specs.Steps.{SucceedsSettled};
+ghost use Rattle.std.specs.Prelude.{◌≡◌, ◌<◌, ◌≤◌, ◌+◌, Some, true, false, IfOk, IfErr};
 ghost use Rattle.sector_slots.specs.Sectors.{HasSlotsAlone};
 ghost use Rattle.sector_map.specs.Found.{FoundIn, noted_where};
 ghost use Rattle.sector_map.specs.Marking.{may_have_groups};
 ghost use Rattle.survey.specs.Findings.{Explains};
 ghost use Rattle.survey.specs.Steps.{IsKindFault};
+ghost use Rattle.erase_journal.specs.Steps.{EndsSettled};
 
 use crate::Finding;
 use nor_driver::NorError;
@@ -33,8 +32,7 @@ pub fn read_kinds<S: SlotCalls>(
     ensures fault { IfOk result (λ says. IfErr says (λ fault.
         Explains fault (S.state slots.old).memory)) }
     ensures same { (S.state slots.new).memory ≡ (S.state slots.old).memory }
-    ensures done { OnOk result (SucceedsSettled (S.state slots.old) (S.state slots.new)) }
-    ensures fails { IfErr result (λ e. Refuses e (S.state slots.old) (S.state slots.new)) }
+    ensures ends { EndsSettled result (S.state slots.old) (S.state slots.new) }
 {
     let count = slots.blocks();
     let mut found = Found::AtRest;

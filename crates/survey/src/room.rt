@@ -3,7 +3,7 @@
 ghost use Rattle.std.specs.Prelude.{◌≡◌, ◌⊎◌, ◌<◌, ℕ, Bool, true, false, IfOk, IfErr};
 ghost use Rattle.std.specs.Prelude.{OnOk, IsTrue, IsFalse};
 ghost use Rattle.nor_driver.specs.State.{Refuses};
-ghost use Rattle.erase_journal.specs.Steps.{SucceedsSettled};
+ghost use Rattle.erase_journal.specs.Steps.{SucceedsSettled, EndsSettled};
 ghost use Rattle.sector_slots.specs.Slots.{slot_at, slot_count, data_blocks, IsSpareIn};
 ghost use Rattle.sector_map.specs.Found.{FoundIn, RoomSeen};
 ghost use Rattle.sector_map.specs.Mending.{IsMixedPair};
@@ -24,8 +24,7 @@ pub fn has_spare<S: SlotCalls>(slots: &mut S) -> Result<bool, NorError>
         → (c : ℕ) → c < data_blocks (S.state slots.old).memory
         → IsSpareIn (S.state slots.old).memory c → ⊥) }
     ensures same { (S.state slots.new).memory ≡ (S.state slots.old).memory }
-    ensures done { OnOk result (SucceedsSettled (S.state slots.old) (S.state slots.new)) }
-    ensures fails { IfErr result (λ e. Refuses e (S.state slots.old) (S.state slots.new)) }
+    ensures ends { EndsSettled result (S.state slots.old) (S.state slots.new) }
 {
     let count = slots.blocks();
     for block in 0..count {
@@ -71,8 +70,7 @@ fn is_full<S: SlotCalls>(slots: &mut S, table: &[Entry]) -> Result<bool, NorErro
         → (spare : Bool) × RoomSeen Found.AtRest spare (S.state slots.old).memory) }
     ensures none { IfOk result (λ lacks. IsTrue lacks → HasNoRoom (S.state slots.old).memory) }
     ensures same { (S.state slots.new).memory ≡ (S.state slots.old).memory }
-    ensures done { OnOk result (SucceedsSettled (S.state slots.old) (S.state slots.new)) }
-    ensures fails { IfErr result (λ e. Refuses e (S.state slots.old) (S.state slots.new)) }
+    ensures ends { EndsSettled result (S.state slots.old) (S.state slots.new) }
 {
     if has_spare(slots)? {
         return Ok(false);

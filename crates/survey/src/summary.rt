@@ -1,13 +1,13 @@
 //! What each data block says: its kind, and how many of its slots are free and live.
 
-ghost use Rattle.std.specs.Prelude.{◌≡◌, ◌<◌, ◌≤◌, ◌+◌, IfOk, IfErr, MatchOption, OnOk, length};
+ghost use Rattle.std.specs.Prelude.{◌≡◌, ◌<◌, ◌≤◌, ◌+◌, IfOk, IfErr, MatchOption, length};
 ghost use Rattle.nor_driver.specs.State.{IsNorReady, Refuses};
 ghost use Rattle.erase_journal.specs.Journals.{IsHealthy};
-ghost use Rattle.erase_journal.specs.Steps.{SucceedsSettled};
 ghost use Rattle.sector_slots.specs.Slots.{data_blocks};
 ghost use Rattle.survey.specs.Summaries.{AreSummaries, IsSummaryOf, free_heads, is_free_head};
 ghost use Rattle.survey.specs.Summaries.{is_live_head, live_heads};
 ghost use Rattle.survey.specs.Verdicts.{ExaminationFails};
+ghost use Rattle.erase_journal.specs.Steps.{EndsSettled};
 
 use crate::verdict::Unexamined;
 use erase_journal::{Journal, RecoverError};
@@ -96,8 +96,7 @@ fn summarize_block<S: SlotCalls>(slots: &mut S, block: u16) -> Result<BlockSumma
     ensures summary { IfOk result (λ summary. IsSummaryOf summary (S.state slots.old).memory
         block) }
     ensures same { (S.state slots.new).memory ≡ (S.state slots.old).memory }
-    ensures done { OnOk result (SucceedsSettled (S.state slots.old) (S.state slots.new)) }
-    ensures fails { IfErr result (λ e. Refuses e (S.state slots.old) (S.state slots.new)) }
+    ensures ends { EndsSettled result (S.state slots.old) (S.state slots.new) }
 {
     let mut heads = [Header::Free; 7];
     let kind = slots.head(block, &mut heads)?;

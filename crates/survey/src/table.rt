@@ -1,17 +1,16 @@
 //! The descriptors of all blocks, entered into a table slot by slot, or the first that can't be.
 
 ghost use Rattle.std.specs.Prelude.{◌≡◌, ◌+◌, ◌*◌, ◌<◌, ◌≤◌, Some, None, false, length};
-ghost use Rattle.std.specs.Prelude.{IfOk, IfErr, IfSome, OnOk};
+ghost use Rattle.std.specs.Prelude.{IfOk, IfSome};
 ghost use Rattle.chip_model.specs.Geometry.{sector_count};
-ghost use Rattle.nor_driver.specs.State.{Refuses};
 ghost use Rattle.nor_layout.specs.declared.header.Header.TheVariants as headers;
-ghost use Rattle.erase_journal.specs.Steps.{SucceedsSettled};
 ghost use Rattle.sector_slots.specs.Slots.{slot_at, slot_count, data_blocks};
 ghost use Rattle.sector_map.specs.Found.{FoundIn};
 ghost use Rattle.sector_map.specs.Scan.{EntersBlock};
 ghost use Rattle.sector_map.specs.Table.{IsTabled, IsBlankTable, Heads};
 ghost use Rattle.survey.specs.Findings.{IsSlotFaultIn};
 ghost use Rattle.survey.specs.Steps.{FaultsBlock, IsHeadFault, IsTagFault};
+ghost use Rattle.erase_journal.specs.Steps.{EndsSettled};
 
 use crate::Finding;
 use nor_driver::NorError;
@@ -37,8 +36,7 @@ pub fn read_slots<S: SlotCalls>(
         IsSlotFaultIn fault (S.state slots.old).memory)) }
     ensures size { length table.new ≡ length table.old }
     ensures same { (S.state slots.new).memory ≡ (S.state slots.old).memory }
-    ensures done { OnOk result (SucceedsSettled (S.state slots.old) (S.state slots.new)) }
-    ensures fails { IfErr result (λ e. Refuses e (S.state slots.old) (S.state slots.new)) }
+    ensures ends { EndsSettled result (S.state slots.old) (S.state slots.new) }
 {
     let count = slots.blocks();
     for block in 0..count {
@@ -67,8 +65,7 @@ fn read_block<S: SlotCalls>(
         IsSlotFaultIn fault (S.state slots.old).memory)) }
     ensures size { length table.new ≡ length table.old }
     ensures same { (S.state slots.new).memory ≡ (S.state slots.old).memory }
-    ensures done { OnOk result (SucceedsSettled (S.state slots.old) (S.state slots.new)) }
-    ensures fails { IfErr result (λ e. Refuses e (S.state slots.old) (S.state slots.new)) }
+    ensures ends { EndsSettled result (S.state slots.old) (S.state slots.new) }
 {
     let mut heads = [Header::Free; 7];
     let _kind = slots.head(block, &mut heads)?;

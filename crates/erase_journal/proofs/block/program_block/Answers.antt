@@ -3,7 +3,7 @@ use Rattle.std.proofs.Common.{◌+◌, ◌*◌, length, arith}
 use Rattle.std.proofs.lemmas.Result.{on_ok_weaker}
 use Rattle.nor_driver.proofs.CallLaws.{refuses-of}
 use Rattle.erase_journal.proofs.Effects.{and-spoiled}
-use Rattle.erase_journal.proofs.SettledLaws.{settled-of}
+use Rattle.erase_journal.proofs.SettledLaws.{settled-of, ends-settled}
 use Rattle.erase_journal.proofs.Uses.{data-keeps}
 use Rattle.erase_journal.proofs.Knowing.{kept-known}
 use Rattle.erase_journal.proofs.block.program_block.Goals as goal
@@ -16,14 +16,13 @@ pub returns-clause-only : goal.returns-clause-only
 returns-clause-only g c = program-only (g.N.Nor.state c.args.nor.now) (g.N.Nor.state c.program.new.self) c.args.block c.args.at c.args.bytes.now c.requires.settled c.requires.data c.requires.number c.requires.range c.program.result
     c.program.ensures.ok c.program.ensures.ready c.program.ensures.cut c.program.ensures.slow c.program.ensures.latches
 
-pub returns-clause-done : goal.returns-clause-done
-returns-clause-done g c =
-    settled-of (g.N.Nor.state c.args.nor.now) (g.N.Nor.state c.program.new.self) c.program.result c.program.ensures.ready c.program.ensures.kept
+pub returns-clause-ends : goal.returns-clause-ends
+returns-clause-ends g c =
+    ends-settled c.program.result (g.N.Nor.state c.args.nor.now) (g.N.Nor.state c.program.new.self)
+    (settled-of (g.N.Nor.state c.args.nor.now) (g.N.Nor.state c.program.new.self) c.program.result c.program.ensures.ready c.program.ensures.kept
     (program-settled (g.N.Nor.state c.args.nor.now) (g.N.Nor.state c.program.new.self) c.args.block c.args.at c.args.bytes.now c.requires.settled c.requires.data c.requires.number c.requires.range c.program.result
-    c.program.ensures.ok c.program.ensures.ready)
-
-pub returns-clause-fails : goal.returns-clause-fails
-returns-clause-fails g c = refuses-of (g.N.Nor.state c.args.nor.now) (g.N.Nor.state c.program.new.self) c.program.result c.program.ensures.fails c.program.ensures.latches
+    c.program.ensures.ok c.program.ensures.ready))
+    (refuses-of (g.N.Nor.state c.args.nor.now) (g.N.Nor.state c.program.new.self) c.program.result c.program.ensures.fails c.program.ensures.latches)
 
 pub returns-clause-cut : goal.returns-clause-cut
 returns-clause-cut g c is = program-leaves (g.N.Nor.state c.args.nor.now) (g.N.Nor.state c.program.new.self) c.args.block c.args.at c.args.bytes.now c.requires.settled c.requires.data c.requires.number c.requires.range c.program.result

@@ -23,6 +23,6 @@ returns-clause-numbers g c =
 pub returns-clause-known : goal.returns-clause-known
 returns-clause-known g c =
     let known = c.args.known.now in
-    used-known known c.once_used.result c.in_ok-entry.entry (g.N.Nor.state c.args.nor.now).memory (g.N.Nor.state c.finish_entry.new.nor).memory (c.requires.known c.in_ok-entry.ensures.done.ready) c.in_ok-entry.ensures.opened.within c.in_ok-entry.ensures.lowest
+    used-known known c.once_used.result c.in_ok-entry.entry (g.N.Nor.state c.args.nor.now).memory (g.N.Nor.state c.finish_entry.new.nor).memory (c.requires.known c.in_ok-entry.ensures.ends.ready) c.in_ok-entry.ensures.opened.within c.in_ok-entry.ensures.lowest
     (used-then c.in_ok-entry.entry (g.N.Nor.state c.args.nor.now).memory (g.N.Nor.state c.open_entry.new.nor).memory (g.N.Nor.state c.finish_entry.new.nor).memory c.in_ok-entry.ensures.opened.within c.in_ok-entry.ensures.used c.in_ok-finish_entry.ensures.uses)
     c.once_used.ensures.unused c.once_used.ensures.packed.0

@@ -17,8 +17,8 @@ returns-in_err-program-clause-cut g c is =
     let b = block-ok c.args.entry c.args.block (g.N.Nor.state c.args.nor.now).memory (g.N.Nor.state c.erase_small.new.self).memory c.requires.opened c.requires.data (omega arith) c.in_ok-erase_small.ensures.ok in
     stands-on (g.N.Nor.state c.args.nor.now).memory (g.N.Nor.state c.erase_small.new.self).memory (g.N.Nor.state c.program.new.self).memory b.blocks (done-cut c.args.entry c.args.block (g.N.Nor.state c.erase_small.new.self).memory (g.N.Nor.state c.program.new.self).memory (rw b.blocks.chip.same_length c.requires.size) b.still b.bytes (rw c.entry_place.ensures at (c.in_err-program.ensures.cut (cc (p.1, p.2)))))
 
-pub returns-clause-done : goal.returns-clause-done
-returns-clause-done g c =
+pub returns-clause-ends : goal.returns-clause-ends
+returns-clause-ends g c =
     let b = block-ok c.args.entry c.args.block (g.N.Nor.state c.args.nor.now).memory (g.N.Nor.state c.erase_small.new.self).memory c.requires.opened c.requires.data (omega arith) c.in_ok-erase_small.ensures.ok in
     record {
       ready = c.in_ok-erase_small.ensures.ready;

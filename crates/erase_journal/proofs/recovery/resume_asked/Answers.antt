@@ -25,9 +25,9 @@ returns-in_err-renew-clause-cut g c is =
     let s = second-opened c.args.journal (g.N.Nor.state c.args.nor.now).memory (g.N.Nor.state c.open_vote.new.nor).memory c.requires.asked (rw c.second_votes.ensures at c.in_ok-open_vote.ensures.ok) in
     stands-on (g.N.Nor.state c.args.nor.now).memory (g.N.Nor.state c.open_vote.new.nor).memory (g.N.Nor.state c.renew.new.nor).memory s.1 (c.in_err-renew.ensures.cut (cc (p.1, p.2)))
 
-pub returns-clause-done : goal.returns-clause-done
-returns-clause-done g c =
-    let done = succeeds-after (g.N.Nor.state c.args.nor.now) (g.N.Nor.state c.open_vote.new.nor) (g.N.Nor.state c.renew.new.nor) c.in_ok-open_vote.ensures.done c.in_ok-renew.ensures.done in
+pub returns-clause-ends : goal.returns-clause-ends
+returns-clause-ends g c =
+    let done = succeeds-after (g.N.Nor.state c.args.nor.now) (g.N.Nor.state c.open_vote.new.nor) (g.N.Nor.state c.renew.new.nor) c.in_ok-open_vote.ensures.ends c.in_ok-renew.ensures.ends in
     record { ready = done.ready; kept = done.kept; settled = record { sound = c.in_ok-renew.ensures.ok.sound; none = c.in_ok-renew.ensures.none } }
 
 pub returns-clause-blocks : goal.returns-clause-blocks

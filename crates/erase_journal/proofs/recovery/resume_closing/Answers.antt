@@ -10,10 +10,10 @@ returns-in_err-close_vote-clause-cut g c is =
     let p = err_from_is_err_and c.from_residual.result c.from_residual.ensures.1 in
     second-close-cut c.args.journal (g.N.Nor.state c.args.nor.now).memory (g.N.Nor.state c.close_vote.new.nor).memory c.requires.closing (rw c.second_votes.ensures at (c.in_err-close_vote.ensures.cut (cc (p.1, p.2))))
 
-pub returns-clause-done : goal.returns-clause-done
-returns-clause-done g c =
+pub returns-clause-ends : goal.returns-clause-ends
+returns-clause-ends g c =
     let s = second-closed c.args.journal (g.N.Nor.state c.args.nor.now).memory (g.N.Nor.state c.close_vote.new.nor).memory c.requires.closing (rw c.second_votes.ensures at c.in_ok-close_vote.ensures.ok) in
-    record { ready = c.in_ok-close_vote.ensures.done.ready; kept = c.in_ok-close_vote.ensures.done.kept; settled = record { sound = s.0.sound; none = s.2 } }
+    record { ready = c.in_ok-close_vote.ensures.ends.ready; kept = c.in_ok-close_vote.ensures.ends.kept; settled = record { sound = s.0.sound; none = s.2 } }
 
 pub returns-clause-blocks : goal.returns-clause-blocks
 returns-clause-blocks g c =

@@ -2,7 +2,7 @@ use Rattle.std.proofs.lemmas.Result.{on_ok_weaker}
 use Rattle.std.proofs.Common.{◌∷◌, [], arith}
 use Rattle.nor_driver.proofs.CallLaws.{refuses-of}
 use Rattle.erase_journal.proofs.Effects.{and-spoiled}
-use Rattle.erase_journal.proofs.SettledLaws.{settled-of}
+use Rattle.erase_journal.proofs.SettledLaws.{settled-of, ends-settled}
 use Rattle.erase_journal.proofs.Uses.{super-keeps}
 use Rattle.erase_journal.proofs.Knowing.{kept-known}
 use Rattle.erase_journal.proofs.Marking.{mark-settled, mark-only, mark-healthy, mark-ok, mark-cut}
@@ -21,13 +21,12 @@ returns-clause-only g c = mark-only (g.N.Nor.state c.args.nor.now) (g.N.Nor.stat
 pub returns-clause-healthy : goal.returns-clause-healthy
 returns-clause-healthy g c is = mark-healthy (g.N.Nor.state c.args.nor.now) (g.N.Nor.state c.program.new.self) c.requires.settled c.program.result c.program.ensures.cut c.program.ensures.latches is
 
-pub returns-clause-done : goal.returns-clause-done
-returns-clause-done g c =
-    settled-of (g.N.Nor.state c.args.nor.now) (g.N.Nor.state c.program.new.self) c.program.result c.program.ensures.ready c.program.ensures.kept
-    (mark-settled (g.N.Nor.state c.args.nor.now) (g.N.Nor.state c.program.new.self) c.requires.settled c.program.result c.program.ensures.ok c.program.ensures.ready)
-
-pub returns-clause-fails : goal.returns-clause-fails
-returns-clause-fails g c = refuses-of (g.N.Nor.state c.args.nor.now) (g.N.Nor.state c.program.new.self) c.program.result c.program.ensures.fails c.program.ensures.latches
+pub returns-clause-ends : goal.returns-clause-ends
+returns-clause-ends g c =
+    ends-settled c.program.result (g.N.Nor.state c.args.nor.now) (g.N.Nor.state c.program.new.self)
+    (settled-of (g.N.Nor.state c.args.nor.now) (g.N.Nor.state c.program.new.self) c.program.result c.program.ensures.ready c.program.ensures.kept
+    (mark-settled (g.N.Nor.state c.args.nor.now) (g.N.Nor.state c.program.new.self) c.requires.settled c.program.result c.program.ensures.ok c.program.ensures.ready))
+    (refuses-of (g.N.Nor.state c.args.nor.now) (g.N.Nor.state c.program.new.self) c.program.result c.program.ensures.fails c.program.ensures.latches)
 
 pub returns-clause-known : goal.returns-clause-known
 returns-clause-known g c known =

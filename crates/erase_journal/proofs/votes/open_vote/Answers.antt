@@ -1,7 +1,7 @@
 use Rattle.std.proofs.Common.{arith}
 use Rattle.erase_journal.proofs.Scans.{unused-count}
 use Rattle.std.proofs.lemmas.Result.{on_ok_weaker}
-use Rattle.nor_driver.proofs.CallLaws.{succeeds-then, refuses-then}
+use Rattle.nor_driver.proofs.CallLaws.{succeeds-then, refuses-then, ends-of}
 use Rattle.erase_journal.proofs.Effects.{bit-open}
 use Rattle.erase_journal.proofs.VoteCalls.{set-ok, set-cut}
 use Rattle.erase_journal.proofs.votes.open_vote.Goals as goal
@@ -25,12 +25,9 @@ returns-clause-cut g c is_cut =
     set-cut (state c.args.nor.now).memory (state c.find_vote.new.nor).memory (state c.program.new.self).memory c.args.region c.in-Some.place 255 254
     c.in_ok-found.ensures.same c.requires.range h.0 h.1 h.2 0 bit-open (rw c.vote_byte.ensures.exact at (c.program.ensures.cut is_cut))
 
-pub returns-clause-done : goal.returns-clause-done
-returns-clause-done g c =
+pub returns-clause-ends : goal.returns-clause-ends
+returns-clause-ends g c =
     let state = g.N.Nor.state in
-    succeeds-then (state c.args.nor.now) (state c.find_vote.new.nor) (state c.program.new.self) c.program.result c.in_ok-found.ensures.done c.program.ensures.kept
-
-pub returns-clause-fails : goal.returns-clause-fails
-returns-clause-fails g c =
-    let state = g.N.Nor.state in
-    refuses-then (state c.args.nor.now) (state c.find_vote.new.nor) (state c.program.new.self) c.program.result c.in_ok-found.ensures.done c.program.ensures.fails
+    ends-of c.program.result (state c.args.nor.now) (state c.program.new.self)
+    (succeeds-then (state c.args.nor.now) (state c.find_vote.new.nor) (state c.program.new.self) c.program.result c.in_ok-found.ensures.ends c.program.ensures.kept)
+    (refuses-then (state c.args.nor.now) (state c.find_vote.new.nor) (state c.program.new.self) c.program.result c.in_ok-found.ensures.ends c.program.ensures.fails)

@@ -44,5 +44,5 @@ loop-done-preserved g c =
       same = c.in_ok-find.ensures.same ∙ c.loop-done.invariant.same;
       within = omega (arith, fits, c.loop-done.invariant.long);
       whole = omega (arith, c.loop-done.invariant.whole);
-      kept = kept-after c.args.map.now c.loop-done.map c.find.new.self c.loop-done.invariant.kept c.in_ok-find.ensures.done.kept;
+      kept = kept-after c.args.map.now c.loop-done.map c.find.new.self c.loop-done.invariant.kept c.in_ok-find.ensures.ends.kept;
     }

@@ -76,5 +76,5 @@ loop-done-preserved g c =
       chip = same-chip-on c.args.map.now.memory m m' c.loop-done.invariant.chip c.in_ok-replace.ensures.ok.chip;
       within = fits;
       whole = omega (arith, c.loop-done.invariant.whole);
-      kept = kept-after c.args.map.now c.loop-done.map c.replace.new.self c.loop-done.invariant.kept c.in_ok-replace.ensures.done.kept;
+      kept = kept-after c.args.map.now c.loop-done.map c.replace.new.self c.loop-done.invariant.kept c.in_ok-replace.ensures.ends.kept;
     }

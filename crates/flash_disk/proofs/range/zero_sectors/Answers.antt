@@ -90,5 +90,5 @@ loop-done-preserved g c =
       size = c.clear.ensures.size ∙ c.loop-done.invariant.size;
       chip = same-chip-on c.args.map.now.memory m m' c.loop-done.invariant.chip c.in_ok-clear.ensures.ok.chip;
       within = omega (arith, c.loop-done-test.true);
-      kept = kept-after c.args.map.now c.loop-done.map c.clear.new.self c.loop-done.invariant.kept c.in_ok-clear.ensures.done.kept;
+      kept = kept-after c.args.map.now c.loop-done.map c.clear.new.self c.loop-done.invariant.kept c.in_ok-clear.ensures.ends.kept;
     }

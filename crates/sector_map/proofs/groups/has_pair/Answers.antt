@@ -15,7 +15,7 @@ loop-sector-preserved g c =
     elim c.match-table-sector.branch as (λ _. Paired c.match-table-sector.pair c.args.table.now (c.loop-sector.sector + 1) (g.S.SlotCalls.state c.args.slots.now) (g.S.SlotCalls.state c.match-table-sector.slots)) [
       | in-Absent w ↦ paired-quiet c.loop-sector.pair c.match-table-sector.pair c.args.table.now c.loop-sector.sector (c.loop-sector.sector + 1) (g.S.SlotCalls.state c.args.slots.now) (g.S.SlotCalls.state c.loop-sector.slots) (g.S.SlotCalls.state c.match-table-sector.slots) next w.pair-is (ap (λ z. g.S.SlotCalls.state z) w.slots-is) (absent-two _ w.in-Absent.is) before
       | in-One w ↦ paired-quiet c.loop-sector.pair c.match-table-sector.pair c.args.table.now c.loop-sector.sector (c.loop-sector.sector + 1) (g.S.SlotCalls.state c.args.slots.now) (g.S.SlotCalls.state c.loop-sector.slots) (g.S.SlotCalls.state c.match-table-sector.slots) next w.pair-is (ap (λ z. g.S.SlotCalls.state z) w.slots-is) (one-two _ _ w.in-One.is) before
-      | in-Two+in_ok-here-in-Two+in-Some w ↦ paired-two c.loop-sector.pair w.in-Some.here c.match-table-sector.pair c.args.table.now c.loop-sector.sector (c.loop-sector.sector + 1) w.in-Two.newer w.in-Two.older (g.S.SlotCalls.state c.args.slots.now) (g.S.SlotCalls.state c.loop-sector.slots) (g.S.SlotCalls.state w.are_of_groups.new.slots) (g.S.SlotCalls.state c.match-table-sector.slots) next (w.pair-is ∙ w.either-pair.ensures) (ap (λ z. g.S.SlotCalls.state z) w.slots-is) (omega (arith, c.loop-sector-test.true)) w.in-Two.is w.are_of_groups.ensures.same w.in_ok-here-in-Two.ensures.done
+      | in-Two+in_ok-here-in-Two+in-Some w ↦ paired-two c.loop-sector.pair w.in-Some.here c.match-table-sector.pair c.args.table.now c.loop-sector.sector (c.loop-sector.sector + 1) w.in-Two.newer w.in-Two.older (g.S.SlotCalls.state c.args.slots.now) (g.S.SlotCalls.state c.loop-sector.slots) (g.S.SlotCalls.state w.are_of_groups.new.slots) (g.S.SlotCalls.state c.match-table-sector.slots) next (w.pair-is ∙ w.either-pair.ensures) (ap (λ z. g.S.SlotCalls.state z) w.slots-is) (omega (arith, c.loop-sector-test.true)) w.in-Two.is w.are_of_groups.ensures.same w.in_ok-here-in-Two.ensures.ends
           (w.in_ok-here-in-Two.ensures.alike w.in-Some.here w.in-Some.is) (w.in_ok-here-in-Two.ensures.both w.in-Some.here w.in-Some.is) before
     ] in
     record { same = after.same; since = after.since; pairs = after.pairs; apart = after.apart }

@@ -22,7 +22,7 @@ pub returns-in_err-retire_group-clause-cut : goal.returns-in_err-retire_group-cl
 returns-in_err-retire_group-clause-cut g c is =
     let p = err_from_is_err_and c.from_residual-in_err-retire_group.result c.from_residual-in_err-retire_group.ensures.1 in
     let low : c.loop-block.block < data_blocks (g.S.SlotCalls.state c.args.slots.now).memory = omega (arith, c.loop-block-test.true, c.blocks-count.ensures.count) in
-    retiring-cut c.args.table.now c.loop-block.block (g.S.SlotCalls.state c.args.slots.now) (g.S.SlotCalls.state c.loop-block.slots) (g.S.SlotCalls.state c.kind.new.self) (g.S.SlotCalls.state c.retire_group.new.self) c.kind.ensures.same c.in_ok-kind.ensures.done c.requires.tabled c.requires.rest c.requires.sound low
+    retiring-cut c.args.table.now c.loop-block.block (g.S.SlotCalls.state c.args.slots.now) (g.S.SlotCalls.state c.loop-block.slots) (g.S.SlotCalls.state c.kind.new.self) (g.S.SlotCalls.state c.retire_group.new.self) c.kind.ensures.same c.in_ok-kind.ensures.ends c.requires.tabled c.requires.rest c.requires.sound low
     (subst (λ z. IsOlderGroup c.args.table.now c.loop-block.block z) c.in_ok-kind.ensures.ok (c.is_older.ensures.older c.if-is_older.true)) (c.in_err-retire_group.ensures.cut (cc (p.1, p.2))) c.retire_group.ensures.only c.loop-block.invariant.retiring
 
 pub loop-block-preserved : goal.loop-block-preserved
@@ -32,10 +32,10 @@ loop-block-preserved g c =
     record {
       retiring = elim c.if-is_older.branch as (λ _. Retiring c.args.table.now (c.loop-block.block + 1) (g.S.SlotCalls.state c.args.slots.now) (g.S.SlotCalls.state c.if-is_older.slots)) [
         | then-is_older+in_ok-retire_group w ↦ subst (λ z. Retiring c.args.table.now (c.loop-block.block + 1) (g.S.SlotCalls.state c.args.slots.now) z) (sym (ap (λ z. g.S.SlotCalls.state z) w.slots-is))
-            (retiring-more c.args.table.now c.loop-block.block (c.loop-block.block + 1) (g.S.SlotCalls.state c.args.slots.now) (g.S.SlotCalls.state c.loop-block.slots) (g.S.SlotCalls.state c.kind.new.self) (g.S.SlotCalls.state w.retire_group.new.self) next c.kind.ensures.same c.in_ok-kind.ensures.done c.requires.tabled c.requires.rest c.requires.sound low
-            (subst (λ z. IsOlderGroup c.args.table.now c.loop-block.block z) c.in_ok-kind.ensures.ok (c.is_older.ensures.older w.if-is_older.true)) w.in_ok-retire_group.ensures.ok w.retire_group.ensures.only w.in_ok-retire_group.ensures.done c.loop-block.invariant.retiring)
+            (retiring-more c.args.table.now c.loop-block.block (c.loop-block.block + 1) (g.S.SlotCalls.state c.args.slots.now) (g.S.SlotCalls.state c.loop-block.slots) (g.S.SlotCalls.state c.kind.new.self) (g.S.SlotCalls.state w.retire_group.new.self) next c.kind.ensures.same c.in_ok-kind.ensures.ends c.requires.tabled c.requires.rest c.requires.sound low
+            (subst (λ z. IsOlderGroup c.args.table.now c.loop-block.block z) c.in_ok-kind.ensures.ok (c.is_older.ensures.older w.if-is_older.true)) w.in_ok-retire_group.ensures.ok w.retire_group.ensures.only w.in_ok-retire_group.ensures.ends c.loop-block.invariant.retiring)
         | else-is_older w ↦ subst (λ z. Retiring c.args.table.now (c.loop-block.block + 1) (g.S.SlotCalls.state c.args.slots.now) z) (sym (ap (λ z. g.S.SlotCalls.state z) w.slots-is))
-            (retiring-quiet c.args.table.now c.loop-block.block (c.loop-block.block + 1) (g.S.SlotCalls.state c.args.slots.now) (g.S.SlotCalls.state c.loop-block.slots) (g.S.SlotCalls.state c.kind.new.self) next c.kind.ensures.same c.in_ok-kind.ensures.done low
+            (retiring-quiet c.args.table.now c.loop-block.block (c.loop-block.block + 1) (g.S.SlotCalls.state c.args.slots.now) (g.S.SlotCalls.state c.loop-block.slots) (g.S.SlotCalls.state c.kind.new.self) next c.kind.ensures.same c.in_ok-kind.ensures.ends low
             (λ o. c.is_older.ensures.not_older w.if-is_older.false (subst (λ z. IsOlderGroup c.args.table.now c.loop-block.block z) (sym c.in_ok-kind.ensures.ok) o)) c.loop-block.invariant.retiring)
       ];
     }

@@ -16,14 +16,14 @@ invariant_of-result g c =
     record {
       counted = c.requires.table ∙ ap (λ n. sector_count n) (sym (c.mount_in.ensures.same_size ∙ ap (λ s. length s.memory) c.new-stock.ensures.same));
       standing = subst (λ z. IsServing z now.slots now.indexed) (sym items)
-          (served-after c.mount_in.new.table c.new-stock.result.slots now.slots now.indexed (c.in-Ok-true.ensures.sound (cc c.in-Ok-true.is)) c.in-Ok-true.ensures.done
+          (served-after c.mount_in.new.table c.new-stock.result.slots now.slots now.indexed (c.in-Ok-true.ensures.sound (cc c.in-Ok-true.is)) c.in-Ok-true.ensures.ends
           (subst (λ s. IsNorReady s) (sym c.new-stock.ensures.same) c.requires.ready) (c.in-Ok-true.ensures.indexed (cc c.in-Ok-true.is)));
     }
 
 pub returns-in-Ok-true-clause-ok : goal.returns-in-Ok-true-clause-ok
 returns-in-Ok-true-clause-ok g c =
     subst (λ z. Filled z (shown_with None c.mount_in.new.stock.slots)) c.new-stock.ensures.same
-    (filled c.mount_in.new.table c.new-stock.result.slots c.mount_in.new.stock.slots (c.in-Ok-true.ensures.sound (cc c.in-Ok-true.is)) c.in-Ok-true.ensures.done)
+    (filled c.mount_in.new.table c.new-stock.result.slots c.mount_in.new.stock.slots (c.in-Ok-true.ensures.sound (cc c.in-Ok-true.is)) c.in-Ok-true.ensures.ends)
 
 pub returns-in-Err-Cut-clause-fails : goal.returns-in-Err-Cut-clause-fails
 returns-in-Err-Cut-clause-fails g c =
@@ -31,4 +31,4 @@ returns-in-Err-Cut-clause-fails g c =
     let is = c.in-Err-Cut.is ∙ ap Err c.in-Err-Cut.field-0-is in
     subst (λ z. FillCut z (g.N.Nor.state c.uncover-in-Err-Cut.result)) c.new-stock.ensures.same
     (fill-cut c.new-stock.result.slots c.mount_in.new.stock.slots (g.N.Nor.state c.uncover-in-Err-Cut.result) (c.mount_in.ensures.cut is healthy) (c.mount_in.ensures.healthy is healthy)
-    (subst (λ e. Refuses e c.new-stock.result.slots c.mount_in.new.stock.slots) c.in-Err-Cut.field-0-is c.in-Err-Cut.ensures.fails) (subst (λ s. IsNorReady s) (sym c.new-stock.ensures.same) c.requires.ready) c.uncover-in-Err-Cut.ensures)
+    (subst (λ e. Refuses e c.new-stock.result.slots c.mount_in.new.stock.slots) c.in-Err-Cut.field-0-is c.in-Err-Cut.ensures.ends) (subst (λ s. IsNorReady s) (sym c.new-stock.ensures.same) c.requires.ready) c.uncover-in-Err-Cut.ensures)

@@ -33,5 +33,5 @@ pub end_committed-requires-clause-committed : goal.end_committed-requires-clause
 end_committed-requires-clause-committed g c ready =
     subst (λ z. IsCommittedIn c.args.source c.args.target z) (sym c.is_spare.ensures.same) (found-committed c.args.source c.args.target (g.S.SlotCalls.state c.args.slots.now).memory c.requires.found c.requires.sound)
 
-pub returns-in_ok-end_erased-clause-done : goal.returns-in_ok-end_erased-clause-done
-returns-in_ok-end_erased-clause-done g c = settled-after (g.S.SlotCalls.state c.args.slots.now) (g.S.SlotCalls.state c.is_spare.new.slots) (g.S.SlotCalls.state c.end_erased.new.slots) c.in_ok-is_spare.ensures.done c.in_ok-end_erased.ensures.done
+pub returns-in_ok-end_erased-clause-ends : goal.returns-in_ok-end_erased-clause-ends
+returns-in_ok-end_erased-clause-ends g c = settled-after (g.S.SlotCalls.state c.args.slots.now) (g.S.SlotCalls.state c.is_spare.new.slots) (g.S.SlotCalls.state c.end_erased.new.slots) c.in_ok-is_spare.ensures.ends c.in_ok-end_erased.ensures.ends

@@ -28,7 +28,7 @@ loop-sector-preserved g c =
             w.table-is (ap (λ z. g.S.SlotCalls.state z) w.slots-is) (one-held _ _ w.in-One.is) c.loop-sector.invariant.retired
         | in-Two+in_ok-retire-in-Two w ↦ retired-more c.args.table.now c.loop-sector.table w.keep_one.new.table c.match-table-sector.table c.loop-sector.sector (c.loop-sector.sector + 1) (g.S.SlotCalls.state c.args.slots.now) (g.S.SlotCalls.state c.loop-sector.slots)
             (g.S.SlotCalls.state w.retire.new.self) (g.S.SlotCalls.state c.match-table-sector.slots) w.in-Two.newer w.in-Two.older next w.table-is (ap (λ z. g.S.SlotCalls.state z) w.slots-is) (omega (arith, c.loop-sector-test.true, c.loop-sector.invariant.retired.size)) w.in-Two.is w.in_ok-retire-in-Two.ensures.only
-            w.in_ok-retire-in-Two.ensures.ok w.in_ok-retire-in-Two.ensures.clean w.in_ok-retire-in-Two.ensures.done w.keep_one.ensures c.loop-sector.invariant.retired
+            w.in_ok-retire-in-Two.ensures.ok w.in_ok-retire-in-Two.ensures.clean w.in_ok-retire-in-Two.ensures.ends w.keep_one.ensures c.loop-sector.invariant.retired
       ];
     }
 
@@ -42,5 +42,5 @@ returns-in_err-retire-in-Two-clause-cut_clean g c is clean =
 pub returns-in_err-retire-in-Two-clause-fails : goal.returns-in_err-retire-in-Two-clause-fails
 returns-in_err-retire-in-Two-clause-fails g c =
     let p = err_from_is_err_and c.from_residual.result c.from_residual.ensures.1 in
-    subst (λ z. IfErr z (λ e. Refuses e (g.S.SlotCalls.state c.args.slots.now) (g.S.SlotCalls.state c.retire.new.self))) (sym p.1)
-    (refuses-perhaps p.0 (g.S.SlotCalls.state c.args.slots.now) (g.S.SlotCalls.state c.loop-sector.slots) (g.S.SlotCalls.state c.retire.new.self) c.loop-sector.invariant.retired.since (subst (λ e. Refuses e (g.S.SlotCalls.state c.loop-sector.slots) (g.S.SlotCalls.state c.retire.new.self)) (sym p.2) c.in_err-retire-in-Two.ensures.fails))
+    subst (λ z. EndsSettled z (g.S.SlotCalls.state c.args.slots.now) (g.S.SlotCalls.state c.retire.new.self)) (sym p.1)
+    (refuses-perhaps p.0 (g.S.SlotCalls.state c.args.slots.now) (g.S.SlotCalls.state c.loop-sector.slots) (g.S.SlotCalls.state c.retire.new.self) c.loop-sector.invariant.retired.since (subst (λ e. Refuses e (g.S.SlotCalls.state c.loop-sector.slots) (g.S.SlotCalls.state c.retire.new.self)) (sym p.2) c.in_err-retire-in-Two.ensures.ends))

@@ -27,16 +27,16 @@ returns-clause-ok g c = replace-done c.args.to c.args.sector c.args.held c.next-
 pub returns-in_err-release-clause-healthy : goal.returns-in_err-release-clause-healthy
 returns-in_err-release-clause-healthy g c is h =
     let p = err_from_is_err_and c.from_residual-in_err-release.result c.from_residual-in_err-release.ensures.1 in
-    c.in_err-release.ensures.healthy (cc (p.1, p.2)) (settled-healthy (g.S.SlotCalls.state c.write.new.self).memory c.in_ok-write.ensures.done.settled)
+    c.in_err-release.ensures.healthy (cc (p.1, p.2)) (settled-healthy (g.S.SlotCalls.state c.write.new.self).memory c.in_ok-write.ensures.ends.settled)
 
-pub returns-in_err-release-clause-fails : goal.returns-in_err-release-clause-fails
-returns-in_err-release-clause-fails g c =
+pub returns-in_err-release-clause-ends : goal.returns-in_err-release-clause-ends
+returns-in_err-release-clause-ends g c =
     let p = err_from_is_err_and c.from_residual-in_err-release.result c.from_residual-in_err-release.ensures.1 in
-    subst (λ z. IfErr z (λ e. Refuses e (g.S.SlotCalls.state c.args.stock.now) (g.S.SlotCalls.state c.release.new.self))) (sym p.1)
-    (refuses-settled p.0 (g.S.SlotCalls.state c.args.stock.now) (g.S.SlotCalls.state c.write.new.self) (g.S.SlotCalls.state c.release.new.self) c.in_ok-write.ensures.done (subst (λ e. Refuses e (g.S.SlotCalls.state c.write.new.self) (g.S.SlotCalls.state c.release.new.self)) (sym p.2) c.in_err-release.ensures.fails))
+    subst (λ z. EndsSettled z (g.S.SlotCalls.state c.args.stock.now) (g.S.SlotCalls.state c.release.new.self)) (sym p.1)
+    (refuses-settled p.0 (g.S.SlotCalls.state c.args.stock.now) (g.S.SlotCalls.state c.write.new.self) (g.S.SlotCalls.state c.release.new.self) c.in_ok-write.ensures.ends (subst (λ e. Refuses e (g.S.SlotCalls.state c.write.new.self) (g.S.SlotCalls.state c.release.new.self)) (sym p.2) c.in_err-release.ensures.ends))
 
-pub returns-clause-done : goal.returns-clause-done
-returns-clause-done g c = settled-after (g.S.SlotCalls.state c.args.stock.now) (g.S.SlotCalls.state c.write.new.self) (g.S.SlotCalls.state c.release.new.self) c.in_ok-write.ensures.done c.in_ok-release.ensures.done
+pub returns-clause-ends : goal.returns-clause-ends
+returns-clause-ends g c = settled-after (g.S.SlotCalls.state c.args.stock.now) (g.S.SlotCalls.state c.write.new.self) (g.S.SlotCalls.state c.release.new.self) c.in_ok-write.ensures.ends c.in_ok-release.ensures.ends
 
 pub write-requires-clause-free : goal.write-requires-clause-free
 write-requires-clause-free g c ready = (c.requires.replaceable ready).free
@@ -46,4 +46,4 @@ write-requires-clause-outside g c ready = (c.requires.replaceable ready).outside
 
 pub release-requires-clause-live : goal.release-requires-clause-live
 release-requires-clause-live g c now =
-    old-retirable c.args.to c.args.sector c.args.held (g.S.SlotCalls.state c.args.stock.now).memory (g.S.SlotCalls.state c.write.new.self).memory c.in_ok-write.ensures.only (c.requires.replaceable c.in_ok-write.ensures.done.ready)
+    old-retirable c.args.to c.args.sector c.args.held (g.S.SlotCalls.state c.args.stock.now).memory (g.S.SlotCalls.state c.write.new.self).memory c.in_ok-write.ensures.only (c.requires.replaceable c.in_ok-write.ensures.ends.ready)

@@ -15,7 +15,7 @@ loop-block-preserved g c =
     let one : suc b ≡ b + 1 = omega arith in
     record {
       same = c.read_block.ensures.same ∙ same;
-      since = repeated-more b (b + 1) (g.S.SlotCalls.state c.args.slots.now) (g.S.SlotCalls.state c.loop-block.slots) (g.S.SlotCalls.state c.read_block.new.slots) c.loop-block.invariant.since c.in_ok-here.ensures.done;
+      since = repeated-more b (b + 1) (g.S.SlotCalls.state c.args.slots.now) (g.S.SlotCalls.state c.loop-block.slots) (g.S.SlotCalls.state c.read_block.new.slots) c.loop-block.invariant.since c.in_ok-here.ensures.ends;
       size = c.read_block.ensures.size ∙ c.loop-block.invariant.size;
       tabled = subst (λ k. IsTabled c.read_block.new.table (slot_at m) k) next
           (subst (λ z. IsTabled c.read_block.new.table (slot_at z) (7 * b + 7)) same (c.in_ok-here.ensures.entered c.in-Some.here c.in-Some.is (subst (λ z. IsTabled c.loop-block.table (slot_at z) (7 * b)) (sym same) c.loop-block.invariant.tabled)));

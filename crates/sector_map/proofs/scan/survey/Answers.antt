@@ -24,7 +24,7 @@ loop-block-preserved g c =
     let next : suc c.loop-block.block ≡ c.loop-block.block + 1 = omega arith in
     record {
       same = c.kind.ensures.same ∙ c.loop-block.invariant.same;
-      since = repeated-more c.loop-block.block (c.loop-block.block + 1) (g.S.SlotCalls.state c.args.slots.now) (g.S.SlotCalls.state c.loop-block.slots) (g.S.SlotCalls.state c.kind.new.self) c.loop-block.invariant.since c.in_ok-kind.ensures.done;
+      since = repeated-more c.loop-block.block (c.loop-block.block + 1) (g.S.SlotCalls.state c.args.slots.now) (g.S.SlotCalls.state c.loop-block.slots) (g.S.SlotCalls.state c.kind.new.self) c.loop-block.invariant.since c.in_ok-kind.ensures.ends;
       found = subst (λ k. FoundBelow c.in-Some.now (kind_at m) k (data_blocks m)) next (found-step c.loop-block.found c.in-Some.now (kind_at m) c.loop-block.block (data_blocks m) (allowed-noted c.args.groups c.loop-block.found c.in-Some.now c.loop-block.block (kind_at m c.loop-block.block) (data_blocks m) some) c.loop-block.invariant.found);
       alone = λ none d low. alone-more c.args.groups c.loop-block.found c.in-Some.now (kind_at m) c.loop-block.block (data_blocks m) some c.loop-block.invariant.alone none d (omega (arith, low));
     }

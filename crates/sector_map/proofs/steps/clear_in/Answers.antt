@@ -2,9 +2,7 @@ use Rattle.std.proofs.Common.{inl}
 use Rattle.std.proofs.lemmas.Result.{err_from_is_err_and}
 use Rattle.sector_slots.specs.Sectors.{zeros}
 use Rattle.sector_map.specs.Maps.{Wrote}
-use Rattle.sector_map.proofs.Retiring.{succeeds-perhaps}
-use Rattle.erase_journal.specs.Steps.{SucceedsSettled}
-use Rattle.sector_map.proofs.MapCalls.{wrote-after, leaves-after, after-ok, after-fails}
+use Rattle.sector_map.proofs.MapCalls.{wrote-after, leaves-after, after-ok, after-ends}
 use Rattle.sector_map.proofs.steps.clear_in.Goals as goal
 
 pub returns-in_err-leave_group-clause-cut : goal.returns-in_err-leave_group-clause-cut
@@ -25,12 +23,5 @@ returns-clause-ok g c =
 pub returns-clause-cut : goal.returns-clause-cut
 returns-clause-cut g c is = leaves-after c.args.sector zeros (g.S.SlotCalls.state c.args.stock.now).memory (g.S.SlotCalls.state c.leave_group.new.stock).memory (g.S.SlotCalls.state c.clear_own.new.stock).memory c.in_ok-leave_group.ensures.ok.keeps (c.clear_own.ensures.cut is)
 
-pub returns-clause-done : goal.returns-clause-done
-returns-clause-done g c =
-    let a = g.S.SlotCalls.state c.args.stock.now in
-    let b = g.S.SlotCalls.state c.leave_group.new.stock in
-    let d = g.S.SlotCalls.state c.clear_own.new.stock in
-    after-ok c.clear_own.result (SucceedsSettled b d) (SucceedsSettled a d) (λ s. succeeds-perhaps a b d c.in_ok-leave_group.ensures.done s) c.clear_own.ensures.done
-
-pub returns-clause-fails : goal.returns-clause-fails
-returns-clause-fails g c = after-fails c.clear_own.result (g.S.SlotCalls.state c.args.stock.now) (g.S.SlotCalls.state c.leave_group.new.stock) (g.S.SlotCalls.state c.clear_own.new.stock) c.in_ok-leave_group.ensures.done c.clear_own.ensures.fails
+pub returns-clause-ends : goal.returns-clause-ends
+returns-clause-ends g c = after-ends c.clear_own.result (g.S.SlotCalls.state c.args.stock.now) (g.S.SlotCalls.state c.leave_group.new.stock) (g.S.SlotCalls.state c.clear_own.new.stock) c.in_ok-leave_group.ensures.done c.clear_own.ensures.ends

@@ -33,7 +33,7 @@ returns-in_ok-release-in-Some-clause-ok g c =
     let s = c.requires.served in
     let hold = subst (λ o. HeldBy o c.args.sector a.memory) (sym c.in-Some.ensures) (table-holder c.args.table.now a.memory c.args.sector s.tabled c.requires.number) in
     clear-done c.args.sector c.in-Some.held a (g.S.SlotCalls.state c.release.new.self) c.args.table.now c.unset.new.table (g.S.SlotCalls.indexed c.args.stock.now) (g.S.SlotCalls.indexed c.release.new.self) s hold
-    c.in_ok-release-in-Some.ensures.only c.in_ok-release-in-Some.ensures.ok c.in_ok-release-in-Some.ensures.clean c.in_ok-release-in-Some.ensures.done (omega (arith, c.requires.number, s.tabled.size)) c.unset.ensures c.in_ok-release-in-Some.ensures.indexed
+    c.in_ok-release-in-Some.ensures.only c.in_ok-release-in-Some.ensures.ok c.in_ok-release-in-Some.ensures.clean c.in_ok-release-in-Some.ensures.ends (omega (arith, c.requires.number, s.tabled.size)) c.unset.ensures c.in_ok-release-in-Some.ensures.indexed
 
 pub returns-in-None-clause-ok : goal.returns-in-None-clause-ok
 returns-in-None-clause-ok g c =

@@ -49,12 +49,12 @@ follow_copied-requires-clause-single g c = (served-steps c.in_ok-copied.copied (
 
 pub returns-in_err-follow_copied-clause-cut : goal.returns-in_err-follow_copied-clause-cut
 returns-in_err-follow_copied-clause-cut g c is =
-    same-moved-keeps (g.S.SlotCalls.state c.args.stock.now) (g.S.SlotCalls.state c.convert.new.self).memory (g.S.SlotCalls.state c.follow_copied.new.slots).memory (served-steps c.in_ok-copied.copied (g.S.SlotCalls.state c.args.stock.now) (g.S.SlotCalls.indexed c.args.stock.now) (g.S.SlotCalls.state c.convert.new.self).memory c.args.table.now c.requires.served (served-converts c.in_ok-copied.copied (g.S.SlotCalls.state c.args.stock.now) (g.S.SlotCalls.indexed c.args.stock.now) (g.S.SlotCalls.state c.convert.new.self).memory c.args.table.now c.requires.served c.in_ok-copied.ensures.ok)) c.follow_copied.ensures.same c.in_ok-copied.ensures.done.settled c.requires.served.store.slots
+    same-moved-keeps (g.S.SlotCalls.state c.args.stock.now) (g.S.SlotCalls.state c.convert.new.self).memory (g.S.SlotCalls.state c.follow_copied.new.slots).memory (served-steps c.in_ok-copied.copied (g.S.SlotCalls.state c.args.stock.now) (g.S.SlotCalls.indexed c.args.stock.now) (g.S.SlotCalls.state c.convert.new.self).memory c.args.table.now c.requires.served (served-converts c.in_ok-copied.copied (g.S.SlotCalls.state c.args.stock.now) (g.S.SlotCalls.indexed c.args.stock.now) (g.S.SlotCalls.state c.convert.new.self).memory c.args.table.now c.requires.served c.in_ok-copied.ensures.ok)) c.follow_copied.ensures.same c.in_ok-copied.ensures.ends.settled c.requires.served.store.slots
 
 pub returns-clause-ok : goal.returns-clause-ok
 returns-clause-ok g c =
     stepped c.in_ok-copied.copied (g.S.SlotCalls.state c.args.stock.now) (g.S.SlotCalls.state c.convert.new.self) (g.S.SlotCalls.state c.follow_copied.new.slots) c.args.table.now c.follow_copied.new.table (g.S.SlotCalls.indexed c.args.stock.now) c.requires.served (served-converts c.in_ok-copied.copied (g.S.SlotCalls.state c.args.stock.now) (g.S.SlotCalls.indexed c.args.stock.now) (g.S.SlotCalls.state c.convert.new.self).memory c.args.table.now c.requires.served c.in_ok-copied.ensures.ok) c.follow_copied.ensures.same c.in_ok-follow_copied.ensures.ok
-    (perhaps-after (g.S.SlotCalls.state c.args.stock.now) (g.S.SlotCalls.state c.convert.new.self) (g.S.SlotCalls.state c.follow_copied.new.slots) c.in_ok-copied.ensures.done c.in_ok-follow_copied.ensures.done) (g.S.SlotCalls.indexed c.follow_copied.new.slots) (c.follow_copied.ensures.index ∙ c.in_ok-copied.ensures.indexed)
+    (perhaps-after (g.S.SlotCalls.state c.args.stock.now) (g.S.SlotCalls.state c.convert.new.self) (g.S.SlotCalls.state c.follow_copied.new.slots) c.in_ok-copied.ensures.ends c.in_ok-follow_copied.ensures.done) (g.S.SlotCalls.indexed c.follow_copied.new.slots) (c.follow_copied.ensures.index ∙ c.in_ok-copied.ensures.indexed)
 
 pub returns-clause-own : goal.returns-clause-own
 returns-clause-own g c =

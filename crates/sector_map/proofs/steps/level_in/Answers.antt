@@ -26,9 +26,9 @@ follow_copied-requires-clause-blocks g c = (served-steps c.in-Some.moved (g.S.Sl
 
 pub returns-in_err-follow_copied-in-Some-clause-cut : goal.returns-in_err-follow_copied-in-Some-clause-cut
 returns-in_err-follow_copied-in-Some-clause-cut g c is =
-    same-moved-keeps (g.S.SlotCalls.state c.args.stock.now) (g.S.SlotCalls.state c.level.new.self).memory (g.S.SlotCalls.state c.follow_copied.new.slots).memory (served-steps c.in-Some.moved (g.S.SlotCalls.state c.args.stock.now) (g.S.SlotCalls.indexed c.args.stock.now) (g.S.SlotCalls.state c.level.new.self).memory c.args.table.now c.requires.served (served-moves c.in-Some.moved (g.S.SlotCalls.state c.args.stock.now) (g.S.SlotCalls.indexed c.args.stock.now) (g.S.SlotCalls.state c.level.new.self).memory c.args.table.now c.requires.served (c.in_ok-moved.ensures.moved c.in-Some.moved c.in-Some.is))) c.follow_copied.ensures.same c.in_ok-moved.ensures.done.settled c.requires.served.store.slots
+    same-moved-keeps (g.S.SlotCalls.state c.args.stock.now) (g.S.SlotCalls.state c.level.new.self).memory (g.S.SlotCalls.state c.follow_copied.new.slots).memory (served-steps c.in-Some.moved (g.S.SlotCalls.state c.args.stock.now) (g.S.SlotCalls.indexed c.args.stock.now) (g.S.SlotCalls.state c.level.new.self).memory c.args.table.now c.requires.served (served-moves c.in-Some.moved (g.S.SlotCalls.state c.args.stock.now) (g.S.SlotCalls.indexed c.args.stock.now) (g.S.SlotCalls.state c.level.new.self).memory c.args.table.now c.requires.served (c.in_ok-moved.ensures.moved c.in-Some.moved c.in-Some.is))) c.follow_copied.ensures.same c.in_ok-moved.ensures.ends.settled c.requires.served.store.slots
 
 pub returns-in_ok-follow_copied-in-Some-clause-ok : goal.returns-in_ok-follow_copied-in-Some-clause-ok
 returns-in_ok-follow_copied-in-Some-clause-ok g c =
     stepped c.in-Some.moved (g.S.SlotCalls.state c.args.stock.now) (g.S.SlotCalls.state c.level.new.self) (g.S.SlotCalls.state c.follow_copied.new.slots) c.args.table.now c.follow_copied.new.table (g.S.SlotCalls.indexed c.args.stock.now) c.requires.served (served-moves c.in-Some.moved (g.S.SlotCalls.state c.args.stock.now) (g.S.SlotCalls.indexed c.args.stock.now) (g.S.SlotCalls.state c.level.new.self).memory c.args.table.now c.requires.served (c.in_ok-moved.ensures.moved c.in-Some.moved c.in-Some.is)) c.follow_copied.ensures.same c.in_ok-follow_copied-in-Some.ensures.ok
-    (perhaps-after (g.S.SlotCalls.state c.args.stock.now) (g.S.SlotCalls.state c.level.new.self) (g.S.SlotCalls.state c.follow_copied.new.slots) c.in_ok-moved.ensures.done c.in_ok-follow_copied-in-Some.ensures.done) (g.S.SlotCalls.indexed c.follow_copied.new.slots) (c.follow_copied.ensures.index ∙ c.in_ok-moved.ensures.indexed)
+    (perhaps-after (g.S.SlotCalls.state c.args.stock.now) (g.S.SlotCalls.state c.level.new.self) (g.S.SlotCalls.state c.follow_copied.new.slots) c.in_ok-moved.ensures.ends c.in_ok-follow_copied-in-Some.ensures.done) (g.S.SlotCalls.indexed c.follow_copied.new.slots) (c.follow_copied.ensures.index ∙ c.in_ok-moved.ensures.indexed)

@@ -26,12 +26,12 @@ follow_copied-requires-clause-blocks g c = (served-steps c.in-Some.copied (g.S.S
 
 pub returns-in_err-follow_copied-in-Some-clause-cut : goal.returns-in_err-follow_copied-in-Some-clause-cut
 returns-in_err-follow_copied-in-Some-clause-cut g c is =
-    same-moved-keeps (g.S.SlotCalls.state c.args.stock.now) (g.S.SlotCalls.state c.tidy.new.self).memory (g.S.SlotCalls.state c.follow_copied.new.slots).memory (served-steps c.in-Some.copied (g.S.SlotCalls.state c.args.stock.now) (g.S.SlotCalls.indexed c.args.stock.now) (g.S.SlotCalls.state c.tidy.new.self).memory c.args.table.now c.requires.served (served-tidies c.in-Some.copied (g.S.SlotCalls.state c.args.stock.now) (g.S.SlotCalls.indexed c.args.stock.now) (g.S.SlotCalls.state c.tidy.new.self).memory c.args.table.now c.requires.served (c.in_ok-copied.ensures.copied c.in-Some.copied c.in-Some.is))) c.follow_copied.ensures.same c.in_ok-copied.ensures.done.settled c.requires.served.store.slots
+    same-moved-keeps (g.S.SlotCalls.state c.args.stock.now) (g.S.SlotCalls.state c.tidy.new.self).memory (g.S.SlotCalls.state c.follow_copied.new.slots).memory (served-steps c.in-Some.copied (g.S.SlotCalls.state c.args.stock.now) (g.S.SlotCalls.indexed c.args.stock.now) (g.S.SlotCalls.state c.tidy.new.self).memory c.args.table.now c.requires.served (served-tidies c.in-Some.copied (g.S.SlotCalls.state c.args.stock.now) (g.S.SlotCalls.indexed c.args.stock.now) (g.S.SlotCalls.state c.tidy.new.self).memory c.args.table.now c.requires.served (c.in_ok-copied.ensures.copied c.in-Some.copied c.in-Some.is))) c.follow_copied.ensures.same c.in_ok-copied.ensures.ends.settled c.requires.served.store.slots
 
 pub returns-in_ok-follow_copied-in-Some-clause-ok : goal.returns-in_ok-follow_copied-in-Some-clause-ok
 returns-in_ok-follow_copied-in-Some-clause-ok g c =
     stepped c.in-Some.copied (g.S.SlotCalls.state c.args.stock.now) (g.S.SlotCalls.state c.tidy.new.self) (g.S.SlotCalls.state c.follow_copied.new.slots) c.args.table.now c.follow_copied.new.table (g.S.SlotCalls.indexed c.args.stock.now) c.requires.served (served-tidies c.in-Some.copied (g.S.SlotCalls.state c.args.stock.now) (g.S.SlotCalls.indexed c.args.stock.now) (g.S.SlotCalls.state c.tidy.new.self).memory c.args.table.now c.requires.served (c.in_ok-copied.ensures.copied c.in-Some.copied c.in-Some.is)) c.follow_copied.ensures.same c.in_ok-follow_copied-in-Some.ensures.ok
-    (perhaps-after (g.S.SlotCalls.state c.args.stock.now) (g.S.SlotCalls.state c.tidy.new.self) (g.S.SlotCalls.state c.follow_copied.new.slots) c.in_ok-copied.ensures.done c.in_ok-follow_copied-in-Some.ensures.done) (g.S.SlotCalls.indexed c.follow_copied.new.slots) (c.follow_copied.ensures.index ∙ c.in_ok-copied.ensures.indexed)
+    (perhaps-after (g.S.SlotCalls.state c.args.stock.now) (g.S.SlotCalls.state c.tidy.new.self) (g.S.SlotCalls.state c.follow_copied.new.slots) c.in_ok-copied.ensures.ends c.in_ok-follow_copied-in-Some.ensures.done) (g.S.SlotCalls.indexed c.follow_copied.new.slots) (c.follow_copied.ensures.index ∙ c.in_ok-copied.ensures.indexed)
 
 pub returns-in-None-clause-none : goal.returns-in-None-clause-none
 returns-in-None-clause-none g c is = no-work (g.S.SlotCalls.state c.args.stock.now).memory (c.in_ok-copied.ensures.none c.in-None.is).0 (c.in_ok-copied.ensures.none c.in-None.is).1

@@ -1,9 +1,7 @@
 use Rattle.std.proofs.Common.{inl, inr}
 use Rattle.std.proofs.lemmas.Result.{err_from_is_err_and}
 use Rattle.sector_map.specs.Maps.{Wrote}
-use Rattle.sector_map.proofs.Retiring.{succeeds-perhaps}
-use Rattle.erase_journal.specs.Steps.{SucceedsSettled}
-use Rattle.sector_map.proofs.MapCalls.{wrote-after, leaves-after, after-ok, after-fails}
+use Rattle.sector_map.proofs.MapCalls.{wrote-after, leaves-after, after-ok, after-ends}
 use Rattle.sector_map.proofs.steps.write_in.Goals as goal
 
 pub returns-in_err-make_way-clause-cut : goal.returns-in_err-make_way-clause-cut
@@ -24,12 +22,5 @@ returns-clause-ok g c =
 pub returns-clause-cut : goal.returns-clause-cut
 returns-clause-cut g c is = leaves-after c.args.sector c.args.content.now (g.S.SlotCalls.state c.args.stock.now).memory (g.S.SlotCalls.state c.make_way.new.stock).memory (g.S.SlotCalls.state c.write_own.new.stock).memory c.in_ok-make_way.ensures.ok.keeps (c.write_own.ensures.cut is)
 
-pub returns-clause-done : goal.returns-clause-done
-returns-clause-done g c =
-    let a = g.S.SlotCalls.state c.args.stock.now in
-    let b = g.S.SlotCalls.state c.make_way.new.stock in
-    let d = g.S.SlotCalls.state c.write_own.new.stock in
-    after-ok c.write_own.result (SucceedsSettled b d) (SucceedsSettled a d) (λ s. succeeds-perhaps a b d (inr c.in_ok-make_way.ensures.done) s) c.write_own.ensures.done
-
-pub returns-clause-fails : goal.returns-clause-fails
-returns-clause-fails g c = after-fails c.write_own.result (g.S.SlotCalls.state c.args.stock.now) (g.S.SlotCalls.state c.make_way.new.stock) (g.S.SlotCalls.state c.write_own.new.stock) (inr c.in_ok-make_way.ensures.done) c.write_own.ensures.fails
+pub returns-clause-ends : goal.returns-clause-ends
+returns-clause-ends g c = after-ends c.write_own.result (g.S.SlotCalls.state c.args.stock.now) (g.S.SlotCalls.state c.make_way.new.stock) (g.S.SlotCalls.state c.write_own.new.stock) (inr c.in_ok-make_way.ensures.ends) c.write_own.ensures.ends

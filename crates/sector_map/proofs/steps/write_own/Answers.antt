@@ -40,7 +40,7 @@ follow_copied-requires-clause-blocks g c = (served-moved c.in_ok-given.given.slo
 
 pub returns-in_err-follow_copied-clause-cut : goal.returns-in_err-follow_copied-clause-cut
 returns-in_err-follow_copied-clause-cut g c is =
-    inl (same-moved-keeps (g.S.SlotCalls.state c.args.stock.now) (g.S.SlotCalls.state c.take_free.new.self).memory (g.S.SlotCalls.state c.follow_copied.new.slots).memory (served-moved c.in_ok-given.given.slot c.in_ok-given.given.copied (g.S.SlotCalls.state c.args.stock.now) (g.S.SlotCalls.indexed c.args.stock.now) (g.S.SlotCalls.state c.take_free.new.self).memory c.args.table.now c.requires.served c.in_ok-given.ensures.ok) c.follow_copied.ensures.same c.in_ok-given.ensures.done.settled c.requires.served.store.slots)
+    inl (same-moved-keeps (g.S.SlotCalls.state c.args.stock.now) (g.S.SlotCalls.state c.take_free.new.self).memory (g.S.SlotCalls.state c.follow_copied.new.slots).memory (served-moved c.in_ok-given.given.slot c.in_ok-given.given.copied (g.S.SlotCalls.state c.args.stock.now) (g.S.SlotCalls.indexed c.args.stock.now) (g.S.SlotCalls.state c.take_free.new.self).memory c.args.table.now c.requires.served c.in_ok-given.ensures.ok) c.follow_copied.ensures.same c.in_ok-given.ensures.ends.settled c.requires.served.store.slots)
 
 pub rewrite-requires-clause-holder : goal.rewrite-requires-clause-holder
 rewrite-requires-clause-holder g c =
@@ -57,30 +57,30 @@ returns-in_err-held-clause-cut g c is =
     let p = err_from_is_err_and c.from_residual-in_err-held.result c.from_residual-in_err-held.ensures.1 in
     let at = at-slot c.in_ok-given.given.slot c.in_ok-given.given.copied (g.S.SlotCalls.state c.args.stock.now) (g.S.SlotCalls.indexed c.args.stock.now) (g.S.SlotCalls.state c.take_free.new.self).memory (g.S.SlotCalls.state c.follow_copied.new.slots).memory c.args.table.now c.follow_copied.new.table c.requires.served c.in_ok-given.ensures.ok c.follow_copied.ensures.same c.in_ok-follow_copied.ensures.ok in
     let replaceable = slot-replaceable c.in_ok-given.given.slot c.args.sector c.follow_copied.new.table (g.S.SlotCalls.state c.args.stock.now).memory (g.S.SlotCalls.state c.follow_copied.new.slots).memory c.holder-holder.result at c.requires.own (omega (arith, c.requires.number, c.follow_copied.ensures.size)) c.holder-holder.ensures in
-    let healthy = perhaps-healthy (g.S.SlotCalls.state c.take_free.new.self) (g.S.SlotCalls.state c.follow_copied.new.slots) c.in_ok-follow_copied.ensures.done (settled-healthy (g.S.SlotCalls.state c.take_free.new.self).memory c.in_ok-given.ensures.done.settled) in
+    let healthy = perhaps-healthy (g.S.SlotCalls.state c.take_free.new.self) (g.S.SlotCalls.state c.follow_copied.new.slots) c.in_ok-follow_copied.ensures.done (settled-healthy (g.S.SlotCalls.state c.take_free.new.self).memory c.in_ok-given.ensures.ends.settled) in
     write-cut c.args.sector c.args.content.now (g.S.SlotCalls.state c.args.stock.now).memory (g.S.SlotCalls.state c.follow_copied.new.slots).memory (g.S.SlotCalls.state c.rewrite.new.stock).memory at.moved (c.in_err-held.ensures.cut (cc (p.1, p.2)) replaceable) (c.in_err-held.ensures.healthy (cc (p.1, p.2)) healthy) c.requires.served.store.slots
     (omega (arith, c.requires.number, c.requires.served.tabled.size))
 
-pub returns-in_err-held-clause-fails : goal.returns-in_err-held-clause-fails
-returns-in_err-held-clause-fails g c =
+pub returns-in_err-held-clause-ends : goal.returns-in_err-held-clause-ends
+returns-in_err-held-clause-ends g c =
     let p = err_from_is_err_and c.from_residual-in_err-held.result c.from_residual-in_err-held.ensures.1 in
-    subst (λ z. IfErr z (λ e. Refuses e (g.S.SlotCalls.state c.args.stock.now) (g.S.SlotCalls.state c.rewrite.new.stock))) (sym p.1)
-    (refuses-settled p.0 (g.S.SlotCalls.state c.args.stock.now) (g.S.SlotCalls.state c.take_free.new.self) (g.S.SlotCalls.state c.rewrite.new.stock) c.in_ok-given.ensures.done (refuses-perhaps p.0 (g.S.SlotCalls.state c.take_free.new.self) (g.S.SlotCalls.state c.follow_copied.new.slots) (g.S.SlotCalls.state c.rewrite.new.stock) c.in_ok-follow_copied.ensures.done (subst (λ e. Refuses e (g.S.SlotCalls.state c.follow_copied.new.slots) (g.S.SlotCalls.state c.rewrite.new.stock)) (sym p.2) c.in_err-held.ensures.fails)))
+    subst (λ z. EndsSettled z (g.S.SlotCalls.state c.args.stock.now) (g.S.SlotCalls.state c.rewrite.new.stock)) (sym p.1)
+    (refuses-settled p.0 (g.S.SlotCalls.state c.args.stock.now) (g.S.SlotCalls.state c.take_free.new.self) (g.S.SlotCalls.state c.rewrite.new.stock) c.in_ok-given.ensures.ends (refuses-perhaps p.0 (g.S.SlotCalls.state c.take_free.new.self) (g.S.SlotCalls.state c.follow_copied.new.slots) (g.S.SlotCalls.state c.rewrite.new.stock) c.in_ok-follow_copied.ensures.done (subst (λ e. Refuses e (g.S.SlotCalls.state c.follow_copied.new.slots) (g.S.SlotCalls.state c.rewrite.new.stock)) (sym p.2) c.in_err-held.ensures.ends)))
 
-pub returns-clause-done : goal.returns-clause-done
-returns-clause-done g c = settled-after (g.S.SlotCalls.state c.args.stock.now) (g.S.SlotCalls.state c.take_free.new.self) (g.S.SlotCalls.state c.rewrite.new.stock) c.in_ok-given.ensures.done (succeeds-perhaps (g.S.SlotCalls.state c.take_free.new.self) (g.S.SlotCalls.state c.follow_copied.new.slots) (g.S.SlotCalls.state c.rewrite.new.stock) c.in_ok-follow_copied.ensures.done c.in_ok-held.ensures.done)
+pub returns-clause-ends : goal.returns-clause-ends
+returns-clause-ends g c = settled-after (g.S.SlotCalls.state c.args.stock.now) (g.S.SlotCalls.state c.take_free.new.self) (g.S.SlotCalls.state c.rewrite.new.stock) c.in_ok-given.ensures.ends (succeeds-perhaps (g.S.SlotCalls.state c.take_free.new.self) (g.S.SlotCalls.state c.follow_copied.new.slots) (g.S.SlotCalls.state c.rewrite.new.stock) c.in_ok-follow_copied.ensures.done c.in_ok-held.ensures.ends)
 
 pub returns-clause-ok : goal.returns-clause-ok
 returns-clause-ok g c =
     let at = at-slot c.in_ok-given.given.slot c.in_ok-given.given.copied (g.S.SlotCalls.state c.args.stock.now) (g.S.SlotCalls.indexed c.args.stock.now) (g.S.SlotCalls.state c.take_free.new.self).memory (g.S.SlotCalls.state c.follow_copied.new.slots).memory c.args.table.now c.follow_copied.new.table c.requires.served c.in_ok-given.ensures.ok c.follow_copied.ensures.same c.in_ok-follow_copied.ensures.ok in
     let replaceable = slot-replaceable c.in_ok-given.given.slot c.args.sector c.follow_copied.new.table (g.S.SlotCalls.state c.args.stock.now).memory (g.S.SlotCalls.state c.follow_copied.new.slots).memory c.holder-holder.result at c.requires.own (omega (arith, c.requires.number, c.follow_copied.ensures.size)) c.holder-holder.ensures in
-    let done = settled-after (g.S.SlotCalls.state c.args.stock.now) (g.S.SlotCalls.state c.take_free.new.self) (g.S.SlotCalls.state c.rewrite.new.stock) c.in_ok-given.ensures.done (succeeds-perhaps (g.S.SlotCalls.state c.take_free.new.self) (g.S.SlotCalls.state c.follow_copied.new.slots) (g.S.SlotCalls.state c.rewrite.new.stock) c.in_ok-follow_copied.ensures.done c.in_ok-held.ensures.done) in
+    let done = settled-after (g.S.SlotCalls.state c.args.stock.now) (g.S.SlotCalls.state c.take_free.new.self) (g.S.SlotCalls.state c.rewrite.new.stock) c.in_ok-given.ensures.ends (succeeds-perhaps (g.S.SlotCalls.state c.take_free.new.self) (g.S.SlotCalls.state c.follow_copied.new.slots) (g.S.SlotCalls.state c.rewrite.new.stock) c.in_ok-follow_copied.ensures.done c.in_ok-held.ensures.ends) in
     wrote c.args.sector c.args.content.now c.in_ok-held.held (g.S.SlotCalls.state c.args.stock.now) (g.S.SlotCalls.state c.follow_copied.new.slots) (g.S.SlotCalls.state c.rewrite.new.stock) c.follow_copied.new.table c.keep_one.new.table (g.S.SlotCalls.indexed c.rewrite.new.stock) at.moved (c.in_ok-held.ensures.ok replaceable) done c.requires.served.store.slots
     (omega (arith, c.requires.number, c.requires.served.tabled.size)) at.tabled c.keep_one.ensures c.requires.served.ready c.in_ok-held.ensures.indexed
 
-pub returns-in_err-follow_copied-clause-fails : goal.returns-in_err-follow_copied-clause-fails
-returns-in_err-follow_copied-clause-fails g c =
+pub returns-in_err-follow_copied-clause-ends : goal.returns-in_err-follow_copied-clause-ends
+returns-in_err-follow_copied-clause-ends g c =
     let p = err_from_is_err_and c.from_residual-in_err-follow_copied.result c.from_residual-in_err-follow_copied.ensures.1 in
-    subst (λ z. IfErr z (λ e. Refuses e (g.S.SlotCalls.state c.args.stock.now) (g.S.SlotCalls.state c.follow_copied.new.slots))) (sym p.1)
-    (refuses-settled p.0 (g.S.SlotCalls.state c.args.stock.now) (g.S.SlotCalls.state c.take_free.new.self) (g.S.SlotCalls.state c.follow_copied.new.slots) c.in_ok-given.ensures.done
+    subst (λ z. EndsSettled z (g.S.SlotCalls.state c.args.stock.now) (g.S.SlotCalls.state c.follow_copied.new.slots)) (sym p.1)
+    (refuses-settled p.0 (g.S.SlotCalls.state c.args.stock.now) (g.S.SlotCalls.state c.take_free.new.self) (g.S.SlotCalls.state c.follow_copied.new.slots) c.in_ok-given.ensures.ends
     (subst (λ e. Refuses e (g.S.SlotCalls.state c.take_free.new.self) (g.S.SlotCalls.state c.follow_copied.new.slots)) (sym p.2) c.in_err-follow_copied.ensures.fails))

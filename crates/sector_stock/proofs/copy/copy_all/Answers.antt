@@ -14,7 +14,7 @@ pub loop-place-init : goal.loop-place-init
 loop-place-init g c = record {
   progress = λ h. begin-progress c.args.source c.args.target (g.S.SlotCalls.state c.args.slots.now).memory (g.S.SlotCalls.state c.begin.new.self).memory h c.in_ok-begin.ensures.only (c.in_ok-begin.ensures.ok h.spare.plain);
   size = c.in_ok-begin.ensures.only.only.chip.same_length;
-  since = c.in_ok-begin.ensures.done;
+  since = c.in_ok-begin.ensures.ends;
 }
 
 pub returns-in_err-copy-clause-cut : goal.returns-in_err-copy-clause-cut
@@ -32,7 +32,7 @@ loop-place-preserved g c = record {
       (c.in_ok-copy.ensures.ok c.args.source p.copied.number p.copied.begun (p.copied.free c.loop-place.place c.loop-place-test.true (omega arith)))
       (λ i. c.in_ok-copy.ensures.fresh i);
   size = c.in_ok-copy.ensures.only.only.chip.same_length ∙ c.loop-place.invariant.size;
-  since = settled-after (g.S.SlotCalls.state c.args.slots.now) (g.S.SlotCalls.state c.loop-place.slots) (g.S.SlotCalls.state c.copy.new.self) c.loop-place.invariant.since c.in_ok-copy.ensures.done;
+  since = settled-after (g.S.SlotCalls.state c.args.slots.now) (g.S.SlotCalls.state c.loop-place.slots) (g.S.SlotCalls.state c.copy.new.self) c.loop-place.invariant.since c.in_ok-copy.ensures.ends;
 }
 
 pub returns-clause-ok : goal.returns-clause-ok

@@ -10,7 +10,7 @@ returns-in_err-commit-clause-cut g c is h =
 
 pub end_committed-requires-clause-committed : goal.end_committed-requires-clause-committed
 end_committed-requires-clause-committed g c ready =
-    let h = c.requires.copied c.in_ok-commit.ensures.done.ready in
+    let h = c.requires.copied c.in_ok-commit.ensures.ends.ready in
     commit-done c.args.source c.args.target (g.S.SlotCalls.state c.args.slots.now).memory (g.S.SlotCalls.state c.commit.new.self).memory h c.in_ok-commit.ensures.only (c.in_ok-commit.ensures.ok c.args.source h.begun)
 
 pub returns-in_err-end_committed-clause-cut : goal.returns-in_err-end_committed-clause-cut
@@ -20,7 +20,7 @@ returns-in_err-end_committed-clause-cut g c is h =
     let m1 = (g.S.SlotCalls.state c.commit.new.self).memory in
     let now = c.in_ok-commit.ensures.ok c.args.source h.begun in
     finish-cut c.args.source c.args.target m m1 (g.S.SlotCalls.state c.end_committed.new.slots).memory h c.in_ok-commit.ensures.only now
-    (c.in_err-end_committed.ensures.cut (cc (p.1, p.2)) (settled-healthy m1 c.in_ok-commit.ensures.done.settled) (commit-done c.args.source c.args.target m m1 h c.in_ok-commit.ensures.only now))
+    (c.in_err-end_committed.ensures.cut (cc (p.1, p.2)) (settled-healthy m1 c.in_ok-commit.ensures.ends.settled) (commit-done c.args.source c.args.target m m1 h c.in_ok-commit.ensures.only now))
 
 pub returns-clause-ok : goal.returns-clause-ok
 returns-clause-ok g c h =

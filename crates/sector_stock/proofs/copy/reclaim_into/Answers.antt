@@ -18,4 +18,4 @@ returns-in_err-finish-clause-cut g c is healthy h =
 pub returns-in_err-finish-clause-healthy : goal.returns-in_err-finish-clause-healthy
 returns-in_err-finish-clause-healthy g c is healthy =
     let q = err_from_is_err_and c.from_residual-in_err-finish.result c.from_residual-in_err-finish.ensures.1 in
-    c.in_err-finish.ensures.healthy (cc (q.1, q.2)) (settled-healthy (g.S.SlotCalls.state c.copy_all.new.slots).memory c.in_ok-copy_all.ensures.done.settled)
+    c.in_err-finish.ensures.healthy (cc (q.1, q.2)) (settled-healthy (g.S.SlotCalls.state c.copy_all.new.slots).memory c.in_ok-copy_all.ensures.ends.settled)

@@ -13,7 +13,7 @@ loop-block-preserved g c =
     let below = c.loop-block-test.true in
     record {
       same = c.in_ok-kind-2.ensures.same ∙ same;
-      since = settled-after (g.S.SlotCalls.state c.args.slots.now) (g.S.SlotCalls.state c.loop-block.slots) (g.S.SlotCalls.state c.head.new.self) c.loop-block.invariant.since c.in_ok-kind-2.ensures.done;
+      since = settled-after (g.S.SlotCalls.state c.args.slots.now) (g.S.SlotCalls.state c.loop-block.slots) (g.S.SlotCalls.state c.head.new.self) c.loop-block.invariant.since c.in_ok-kind-2.ensures.ends;
       states_size = c.note_block.ensures.states.size ∙ c.loop-block.invariant.states_size;
       blocks_size = c.note_block.ensures.block_size ∙ c.loop-block.invariant.blocks_size;
       noted = noted-next c.loop-block.block (data_blocks m) c.in_ok-kind-2.kind c.head.new.into c.loop-block.states c.note_block.new.states c.loop-block.blocks c.note_block.new.blocks m (omega (arith, below, count))
@@ -28,7 +28,7 @@ first_cursors-requires-clause-numbers g c =
     let m = (g.S.SlotCalls.state c.args.slots.now).memory in
     let count = c.blocks-count.ensures.count in
     let all = c.loop-block-test.false in
-    let settled = c.requires.settled c.in_ok-kind.ensures.done.ready in
+    let settled = c.requires.settled c.in_ok-kind.ensures.ends.ready in
     numbers-listed m c.loop-block.states c.loop-block.blocks
     (listed-noted m c.loop-block.states c.loop-block.blocks settled (c.loop-block.invariant.states_size ∙ c.requires.states_size) (c.loop-block.invariant.blocks_size ∙ c.requires.blocks_size)
     (λ d low. c.loop-block.invariant.noted d (omega (arith, low, count, all))))
@@ -38,7 +38,7 @@ first_cursors-requires-clause-spare g c =
     let m = (g.S.SlotCalls.state c.args.slots.now).memory in
     let count = c.blocks-count.ensures.count in
     let all = c.loop-block-test.false in
-    let settled = c.requires.settled c.in_ok-kind.ensures.done.ready in
+    let settled = c.requires.settled c.in_ok-kind.ensures.ends.ready in
     spare-listed m c.loop-block.states c.loop-block.blocks settled
     (listed-noted m c.loop-block.states c.loop-block.blocks settled (c.loop-block.invariant.states_size ∙ c.requires.states_size) (c.loop-block.invariant.blocks_size ∙ c.requires.blocks_size)
     (λ d low. c.loop-block.invariant.noted d (omega (arith, low, count, all))))
@@ -48,7 +48,7 @@ returns-clause-ok g c =
     let m = (g.S.SlotCalls.state c.args.slots.now).memory in
     let count = c.blocks-count.ensures.count in
     let all = c.loop-block-test.false in
-    let settled = c.requires.settled c.in_ok-kind.ensures.done.ready in
+    let settled = c.requires.settled c.in_ok-kind.ensures.ends.ready in
     let listed = listed-noted m c.loop-block.states c.loop-block.blocks settled (c.loop-block.invariant.states_size ∙ c.requires.states_size) (c.loop-block.invariant.blocks_size ∙ c.requires.blocks_size)
     (λ d low. c.loop-block.invariant.noted d (omega (arith, low, count, all))) in
     subst (λ a. IsIndexOf c.loop-block.states c.loop-block.blocks c.first_cursors.result a) (sym c.loop-block.invariant.same)

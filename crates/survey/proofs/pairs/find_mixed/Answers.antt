@@ -14,7 +14,7 @@ loop-sector-preserved g c =
     elim c.match-table-sector.branch as (λ _. Unmixed c.args.table.now (c.loop-sector.sector + 1) a (g.S.SlotCalls.state c.match-table-sector.slots)) [
       | in-Absent w ↦ unmixed-quiet c.args.table.now c.loop-sector.sector (c.loop-sector.sector + 1) a b (g.S.SlotCalls.state c.match-table-sector.slots) next (ap (λ z. g.S.SlotCalls.state z) w.slots-is) (absent-two _ w.in-Absent.is) before
       | in-One w ↦ unmixed-quiet c.args.table.now c.loop-sector.sector (c.loop-sector.sector + 1) a b (g.S.SlotCalls.state c.match-table-sector.slots) next (ap (λ z. g.S.SlotCalls.state z) w.slots-is) (one-two _ _ w.in-One.is) before
-      | in-Two+in_ok-are_unlike-in-Two+else-branch w ↦ unmixed-two c.args.table.now c.loop-sector.sector (c.loop-sector.sector + 1) w.in-Two.newer w.in-Two.older a b (g.S.SlotCalls.state w.are_unlike.new.slots) (g.S.SlotCalls.state c.match-table-sector.slots) next (ap (λ z. g.S.SlotCalls.state z) w.slots-is) w.in-Two.is w.are_unlike.ensures.same w.in_ok-are_unlike-in-Two.ensures.done
+      | in-Two+in_ok-are_unlike-in-Two+else-branch w ↦ unmixed-two c.args.table.now c.loop-sector.sector (c.loop-sector.sector + 1) w.in-Two.newer w.in-Two.older a b (g.S.SlotCalls.state w.are_unlike.new.slots) (g.S.SlotCalls.state c.match-table-sector.slots) next (ap (λ z. g.S.SlotCalls.state z) w.slots-is) w.in-Two.is w.are_unlike.ensures.same w.in_ok-are_unlike-in-Two.ensures.ends
           (w.in_ok-are_unlike-in-Two.ensures.alike (cc w.if-branch.false)) before
     ] in
     record { same = after.same; since = after.since; apart = after.apart }

@@ -15,7 +15,7 @@ loop-block-preserved g c =
     let items : c.push.new.self.items ≡ c.loop-block.all.items ++ (c.in_ok-summary.summary ∷ []) = rw ok at c.push.ensures.items in
     record {
       same = c.summarize_block.ensures.same ∙ same;
-      since = repeated-more b (b + 1) (g.S.SlotCalls.state c.args.slots.now) (g.S.SlotCalls.state c.loop-block.slots) (g.S.SlotCalls.state c.summarize_block.new.slots) c.loop-block.invariant.since c.in_ok-summary.ensures.done;
+      since = repeated-more b (b + 1) (g.S.SlotCalls.state c.args.slots.now) (g.S.SlotCalls.state c.loop-block.slots) (g.S.SlotCalls.state c.summarize_block.new.slots) c.loop-block.invariant.since c.in_ok-summary.ensures.ends;
       size = ap length items ∙ (length-append c.loop-block.all.items (c.in_ok-summary.summary ∷ []) ∙ ap (λ n. n + 1) c.loop-block.invariant.size);
       each = summary-more c.loop-block.all.items c.push.new.self.items c.in_ok-summary.summary m b items c.loop-block.invariant.size here c.loop-block.invariant.each;
     }

@@ -18,6 +18,6 @@ returns-in-Err-clause-cut g c is = rw (← c.self.view_is) (known-keeps c.self.i
 pub invariant_of-self-in-Err : goal.invariant_of-self-in-Err
 invariant_of-self-in-Err g c = record {
   counted = c.self.invariant.counted ∙ ap (λ m. sector_count (length m)) (sym c.find_in.ensures.same);
-  standing = known-latched c.self.inside.latched c.in-Err.error c.self.inside.table.items _ c.self.inside.stock.slots c.find_in.new.stock.slots c.self.inside.stock.indexed c.find_in.new.stock.indexed c.in_default.is c.self.invariant.standing c.in-Err.ensures.fails
+  standing = known-latched c.self.inside.latched c.in-Err.error c.self.inside.table.items _ c.self.inside.stock.slots c.find_in.new.stock.slots c.self.inside.stock.indexed c.find_in.new.stock.indexed c.in_default.is c.self.invariant.standing c.in-Err.ensures.ends
       (λ e. known-same c.self.inside.latched c.self.inside.table.items c.self.inside.stock.slots c.self.inside.stock.indexed c.find_in.new.stock.slots.memory c.in_default.is c.self.invariant.standing c.find_in.ensures.same);
 }

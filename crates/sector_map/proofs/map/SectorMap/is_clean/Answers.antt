@@ -6,6 +6,6 @@ use Rattle.sector_map.proofs.map.SectorMap.is_clean.Goals as goal
 pub invariant_of-self-in-Err : goal.invariant_of-self-in-Err
 invariant_of-self-in-Err g c = record {
   counted = c.self.invariant.counted ∙ ap (λ m. sector_count (length m)) (sym c.is_clean.ensures.same);
-  standing = known-latched c.self.inside.latched c.in-Err.error c.self.inside.table.items _ c.self.inside.stock.slots c.is_clean.new.self.slots c.self.inside.stock.indexed c.is_clean.new.self.indexed c.in_default.is c.self.invariant.standing c.in-Err.ensures.fails
+  standing = known-latched c.self.inside.latched c.in-Err.error c.self.inside.table.items _ c.self.inside.stock.slots c.is_clean.new.self.slots c.self.inside.stock.indexed c.is_clean.new.self.indexed c.in_default.is c.self.invariant.standing c.in-Err.ensures.ends
       (λ e. known-same c.self.inside.latched c.self.inside.table.items c.self.inside.stock.slots c.self.inside.stock.indexed c.is_clean.new.self.slots.memory c.in_default.is c.self.invariant.standing c.is_clean.ensures.same);
 }

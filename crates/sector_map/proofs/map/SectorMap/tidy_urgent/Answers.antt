@@ -5,8 +5,8 @@ use Rattle.sector_map.proofs.Restoring.{known-after, known-latched}
 use Rattle.sector_map.proofs.Opening.{shown-succeeds}
 use Rattle.sector_map.proofs.map.SectorMap.tidy_urgent.Goals as goal
 
-pub returns-in-Ok-clause-done : goal.returns-in-Ok-clause-done
-returns-in-Ok-clause-done g c = rw (← c.self.view_is) (shown-succeeds c.self.inside.latched c.self.inside.stock.slots c.tidy_urgent_in.new.stock.slots c.in_default.is c.in-Ok.ensures.done)
+pub returns-in-Ok-clause-ends : goal.returns-in-Ok-clause-ends
+returns-in-Ok-clause-ends g c = rw (← c.self.view_is) (shown-succeeds c.self.inside.latched c.self.inside.stock.slots c.tidy_urgent_in.new.stock.slots c.in_default.is c.in-Ok.ensures.ends)
 
 pub returns-in-Ok-clause-ok : goal.returns-in-Ok-clause-ok
 returns-in-Ok-clause-ok g c = rw (← c.self.view_is) (c.in-Ok.ensures.ok.keeps)
@@ -23,6 +23,6 @@ invariant_of-self g c = record {
 pub invariant_of-self-in-Err : goal.invariant_of-self-in-Err
 invariant_of-self-in-Err g c = record {
   counted = c.self.invariant.counted ∙ ap (λ n. sector_count n) (sym c.tidy_urgent_in.ensures.size);
-  standing = known-latched c.self.inside.latched c.in-Err.error c.self.inside.table.items _ c.self.inside.stock.slots c.tidy_urgent_in.new.stock.slots c.self.inside.stock.indexed c.tidy_urgent_in.new.stock.indexed c.in_default.is c.self.invariant.standing c.in-Err.ensures.fails
+  standing = known-latched c.self.inside.latched c.in-Err.error c.self.inside.table.items _ c.self.inside.stock.slots c.tidy_urgent_in.new.stock.slots c.self.inside.stock.indexed c.tidy_urgent_in.new.stock.indexed c.in_default.is c.self.invariant.standing c.in-Err.ensures.ends
       (λ e. (c.tidy_urgent_in.ensures.cut (c.in-Err.is ∙ ap Err e)).store);
 }

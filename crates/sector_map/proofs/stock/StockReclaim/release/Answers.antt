@@ -8,14 +8,14 @@ use Rattle.sector_stock.proofs.stock.StockReclaim.release.Goals as goal
 pub mark_dead-requires-clause-room : goal.mark_dead-requires-clause-room
 mark_dead-requires-clause-room g c =
     let s = c.args.self.now in
-    let ready = c.in_ok-retire.ensures.done.ready in
+    let ready = c.in_ok-retire.ensures.ends.ready in
     subst (λ b. (in_block b (c.args.slot / 7)).dead < 7) (sym c.as_mut_slice-2.ensures.value)
     (dead-room c.args.slot s.slots.memory s.states.items s.blocks.items s.at (s.stocked.index (c.requires.indexed ready)) c.requires.number (c.requires.live ready).0)
 
 pub invariant_of-self-2 : goal.invariant_of-self-2
 invariant_of-self-2 g c =
     let s = c.args.self.now in
-    let ready = c.in_ok-retire.ensures.done.ready in
+    let ready = c.in_ok-retire.ensures.ends.ready in
     let live = c.requires.live ready in
     let m = s.slots.memory in
     let m1 = c.retire.new.self.memory in

@@ -15,21 +15,21 @@ returns-in_err-put-clause-cut_live g c is free =
 pub mark_written-requires-clause-some : goal.mark_written-requires-clause-some
 mark_written-requires-clause-some g c =
     let s = c.args.self.now in
-    let ready = c.in_ok-put.ensures.done.ready in
+    let ready = c.in_ok-put.ensures.ends.ready in
     subst (λ b. 0 < (in_block b (c.args.slot / 7)).free) (sym c.as_mut_slice-2.ensures.value)
     (free-some c.args.slot s.slots.memory s.states.items s.blocks.items s.at (s.stocked.index (c.requires.indexed ready)) c.requires.number (c.requires.free ready))
 
 pub mark_written-requires-clause-numbers : goal.mark_written-requires-clause-numbers
 mark_written-requires-clause-numbers g c =
     let s = c.args.self.now in
-    let ready = c.in_ok-put.ensures.done.ready in
+    let ready = c.in_ok-put.ensures.ends.ready in
     subst (λ b. (d : ℕ) → d < length b → (in_block b d).dead ≤ 7) (sym c.as_mut_slice-2.ensures.value)
     (λ d low. (let h = numbers-in d s.slots.memory s.states.items s.blocks.items s.at (s.stocked.index (c.requires.indexed ready)) low in omega (arith, h)))
 
 pub mark_written-requires-clause-spare : goal.mark_written-requires-clause-spare
 mark_written-requires-clause-spare g c =
     let s = c.args.self.now in
-    let ready = c.in_ok-put.ensures.done.ready in
+    let ready = c.in_ok-put.ensures.ends.ready in
     let index = s.stocked.index (c.requires.indexed ready) in
     let n = index.listed.block_size in
     let o = c.requires.outside ready in
@@ -40,7 +40,7 @@ mark_written-requires-clause-spare g c =
 pub invariant_of-self-2 : goal.invariant_of-self-2
 invariant_of-self-2 g c =
     let s = c.args.self.now in
-    let ready = c.in_ok-put.ensures.done.ready in
+    let ready = c.in_ok-put.ensures.ends.ready in
     let free = c.requires.free ready in
     let m = s.slots.memory in
     let m1 = c.put.new.self.memory in

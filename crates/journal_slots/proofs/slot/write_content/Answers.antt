@@ -6,7 +6,7 @@ use Rattle.erase_journal.proofs.BlockLaws.{length-block}
 use Rattle.chip_model.specs.Memory.{and_at}
 use Rattle.sector_slots.specs.Slots.{data_block}
 use Rattle.journal_slots.proofs.Bytes.{leaves-only, and-only, only-wider, bytes-after, last-page, two-pages}
-use Rattle.journal_slots.proofs.write.write_content.Goals as goal
+use Rattle.journal_slots.proofs.slot.write_content.Goals as goal
 
 pub slice_bounds-program_bytes-end : goal.slice_bounds-program_bytes-end
 slice_bounds-program_bytes-end g c = sym (length-take-le 256 c.args.content.now (omega (arith, c.requires.size)))

@@ -7,7 +7,7 @@ use Rattle.sector_slots.specs.Slots.{data_block}
 use Rattle.journal_slots.specs.Programs.{OnlyBytes}
 use Rattle.journal_slots.proofs.Bytes.{leaves-only, and-only, descriptor-place}
 use Rattle.journal_slots.proofs.Places.{retired, retire-cut}
-use Rattle.journal_slots.proofs.write.retire_in.Goals as goal
+use Rattle.journal_slots.proofs.slot.retire_in.Goals as goal
 
 pub returns-in_err-program_bytes-clause-cut : goal.returns-in_err-program_bytes-clause-cut
 returns-in_err-program_bytes-clause-cut g c is live slots =

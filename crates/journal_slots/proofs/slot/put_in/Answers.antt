@@ -8,7 +8,7 @@ use Rattle.journal_slots.specs.Programs.{OnlyBytes}
 use Rattle.journal_slots.proofs.Bytes.{leaves-only, and-only, descriptor-place, place-after}
 use Rattle.journal_slots.proofs.Places.{fresh-descriptor, fill-leaves, filled-within, commit-leaves, committed, committed-tag}
 use Rattle.sector_slots.proofs.GroupLaws.{free-no_group}
-use Rattle.journal_slots.proofs.write.put_in.Goals as goal
+use Rattle.journal_slots.proofs.slot.put_in.Goals as goal
 
 pub returns-in_err-fill-clause-cut : goal.returns-in_err-fill-clause-cut
 returns-in_err-fill-clause-cut g c is free =

@@ -8,7 +8,7 @@ use Rattle.journal_slots.specs.Programs.{OnlyBytes}
 use Rattle.journal_slots.proofs.Bytes.{leaves-only, and-only, placed-at, descriptor-place, content-place, place-after, place-group}
 use Rattle.sector_slots.proofs.GroupLaws.{free-no_group}
 use Rattle.journal_slots.proofs.Places.{fresh-descriptor, begun-cut, begun-state, content-cut}
-use Rattle.journal_slots.proofs.write.fill.Goals as goal
+use Rattle.journal_slots.proofs.slot.fill.Goals as goal
 
 pub returns-in_err-program_bytes-clause-cut : goal.returns-in_err-program_bytes-clause-cut
 returns-in_err-program_bytes-clause-cut g c is free =

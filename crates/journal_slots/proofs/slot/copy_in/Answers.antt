@@ -7,7 +7,7 @@ use Rattle.journal_slots.specs.Programs.{OnlyBytes}
 use Rattle.journal_slots.proofs.Bytes.{leaves-only, and-only, descriptor-place, content-place, place-after}
 use Rattle.journal_slots.proofs.Places.{fresh-descriptor, copied-within, copied, copied-tag}
 use Rattle.sector_slots.proofs.GroupLaws.{free-no_group}
-use Rattle.journal_slots.proofs.write.copy_in.Goals as goal
+use Rattle.journal_slots.proofs.slot.copy_in.Goals as goal
 
 pub returns-in_err-write_content-clause-cut_within : goal.returns-in_err-write_content-clause-cut_within
 returns-in_err-write_content-clause-cut_within g c is =
