@@ -33,7 +33,7 @@ use Rattle.sector_map.specs.declared.entry.Entry.{Entry}
 use Rattle.sector_map.specs.declared.entry.Entry.TheVariants.{Absent}
 use Rattle.sector_map.proofs.Places.{holds-computed}
 use Rattle.sector_map.proofs.MapSteps.{table-follows}
-use Rattle.sector_map.proofs.Retiring.{single-tabled, table-holder, refuses-perhaps}
+use Rattle.sector_map.proofs.Retiring.{single-tabled, table-holder, refuses-perhaps, succeeds-perhaps}
 use Rattle.sector_map.proofs.Mounting.{table-room}
 use Rattle.sector_map.proofs.Following.{Relocates, shifts-relocate, converts-relocate, alone-kept, relocates-sound, relocates-single-at, relocates-own, relocates-table}
 

@@ -179,7 +179,10 @@ fn retire_each<S: SlotCalls>(slots: &mut S, table: &[Entry]) -> Result<(), NorEr
 }
 
 /// Retires the older of two blocks of each group, and reads the table anew where there were two.
-pub(crate) fn retire_groups<S: SlotCalls>(slots: &mut S, table: &mut [Entry]) -> Result<(), NorError>
+pub(crate) fn retire_groups<S: SlotCalls>(
+    slots: &mut S,
+    table: &mut [Entry],
+) -> Result<(), NorError>
     requires size { length table.old ≡ sector_count (length (S.state slots.old).memory) }
     requires tabled { IsTabled table.old (slot_at (S.state slots.old).memory)
         (slot_count (S.state slots.old).memory) }

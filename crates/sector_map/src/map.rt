@@ -23,6 +23,7 @@ use crate::error::MountError;
 use crate::mount::mount_in;
 use crate::replace::find_in;
 use crate::steps::{clear_in, tidy_in, tidy_urgent_in, write_in};
+use crate::stock::Stock;
 use crate::superblock::look;
 use chip_model::Geometry;
 use erase_journal::{Journal, RecoverError};

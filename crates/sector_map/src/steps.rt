@@ -189,7 +189,10 @@ fn tidy_own<S: Reclaim>(stock: &mut S, table: &mut [Entry]) -> Result<bool, NorE
 }
 
 /// Does what `tidy_in` does while few slots are free; else nothing: false.
-pub(crate) fn tidy_urgent_in<S: Reclaim>(stock: &mut S, table: &mut [Entry]) -> Result<bool, NorError>
+pub(crate) fn tidy_urgent_in<S: Reclaim>(
+    stock: &mut S,
+    table: &mut [Entry],
+) -> Result<bool, NorError>
     requires served { IsServing table.old (S.state stock.old) (S.indexed stock.old) }
     ensures ok { OnOk result (KeptServing table.new (S.state stock.old) (S.state stock.new)
         (S.indexed stock.new)) }
@@ -213,7 +216,11 @@ pub(crate) fn tidy_urgent_in<S: Reclaim>(stock: &mut S, table: &mut [Entry]) -> 
 
 /// Retires the slot that holds a sector, if one does; the sector is absent then, and holds zeros.
 /// Where a block with its group holds it, converts that block first.
-pub(crate) fn clear_in<S: Reclaim>(stock: &mut S, table: &mut [Entry], sector: u16) -> Result<(), NorError>
+pub(crate) fn clear_in<S: Reclaim>(
+    stock: &mut S,
+    table: &mut [Entry],
+    sector: u16,
+) -> Result<(), NorError>
     requires served { IsServing table.old (S.state stock.old) (S.indexed stock.old) }
     requires number { sector < length table.old }
     ensures ok { OnOk result (Wrote sector zeros table.new (S.state stock.old) (S.state stock.new)

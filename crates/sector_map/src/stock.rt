@@ -16,8 +16,8 @@ use nor_driver::{Nor, NorError};
 use nor_layout::{Header, Kind, Tag};
 use sector_slots::SlotCalls;
 use sector_stock::{
-    BlockState, Copied, Cursors, Given, Next, Policy, Reclaim, SlotState, convert_block, fill_index,
-    is_short, level_block, mark_dead, mark_written, take_slot, tidy_block,
+    BlockState, Copied, Cursors, Given, Next, Policy, Reclaim, SlotState, convert_block,
+    fill_index, is_short, level_block, mark_dead, mark_written, take_slot, tidy_block,
 };
 
 /// A store of slots, and an index of them in memory: the state of each slot, the counts of each

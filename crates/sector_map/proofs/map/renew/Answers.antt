@@ -1,16 +1,22 @@
 use Rattle.std.proofs.Common.{subst}
+use Rattle.nor_driver.specs.State.{Refuses}
+use Rattle.nor_driver.proofs.CallLaws.{done-of, fails-of}
 use Rattle.erase_journal.specs.Recovery.{RestoreFails}
+use Rattle.erase_journal.specs.Steps.{SucceedsSettled}
 use Rattle.sector_map.proofs.Restoring.{renew-ok, renew-corrupt, renew-fails, restore-cut, restore-corrupt}
 use Rattle.sector_map.proofs.map.renew.Goals as goal
 
 pub returns-in-Ok-clause-ok : goal.returns-in-Ok-clause-ok
-returns-in-Ok-clause-ok g c = renew-ok c.mount_in.result c.mount_in.new.table (g.S.SlotCalls.state c.args.stock.now) (g.S.SlotCalls.state c.restore.new.self) (g.S.SlotCalls.state c.mount_in.new.stock) (g.S.SlotCalls.indexed c.mount_in.new.stock) c.in-Ok.ensures.ok c.mount_in.ensures.sound c.mount_in.ensures.indexed c.mount_in.ensures.ends
+returns-in-Ok-clause-ok g c = renew-ok c.mount_in.result c.mount_in.new.table (g.S.SlotCalls.state c.args.stock.now) (g.S.SlotCalls.state c.restore.new.self) (g.S.SlotCalls.state c.mount_in.new.stock) (g.S.SlotCalls.indexed c.mount_in.new.stock) c.in-Ok.ensures.ok c.mount_in.ensures.sound c.mount_in.ensures.indexed
+    (done-of c.mount_in.result (SucceedsSettled (g.S.SlotCalls.state c.restore.new.self) (g.S.SlotCalls.state c.mount_in.new.stock)) (λ e. Refuses e (g.S.SlotCalls.state c.restore.new.self) (g.S.SlotCalls.state c.mount_in.new.stock)) c.mount_in.ensures.ends)
 
 pub returns-in-Ok-clause-corrupt : goal.returns-in-Ok-clause-corrupt
-returns-in-Ok-clause-corrupt g c = renew-corrupt c.mount_in.result (g.S.SlotCalls.state c.args.stock.now) (g.S.SlotCalls.state c.restore.new.self) (g.S.SlotCalls.state c.mount_in.new.stock) c.in-Ok.ensures.ok c.mount_in.ensures.corrupt c.mount_in.ensures.ends
+returns-in-Ok-clause-corrupt g c = renew-corrupt c.mount_in.result (g.S.SlotCalls.state c.args.stock.now) (g.S.SlotCalls.state c.restore.new.self) (g.S.SlotCalls.state c.mount_in.new.stock) c.in-Ok.ensures.ok c.mount_in.ensures.corrupt
+    (done-of c.mount_in.result (SucceedsSettled (g.S.SlotCalls.state c.restore.new.self) (g.S.SlotCalls.state c.mount_in.new.stock)) (λ e. Refuses e (g.S.SlotCalls.state c.restore.new.self) (g.S.SlotCalls.state c.mount_in.new.stock)) c.mount_in.ensures.ends)
 
 pub returns-in-Ok-clause-fails : goal.returns-in-Ok-clause-fails
-returns-in-Ok-clause-fails g c = renew-fails c.mount_in.result (g.S.SlotCalls.state c.args.stock.now) (g.S.SlotCalls.state c.restore.new.self) (g.S.SlotCalls.state c.mount_in.new.stock) c.in-Ok.ensures.ok c.mount_in.ensures.cut c.mount_in.ensures.healthy c.mount_in.ensures.same_size c.mount_in.ensures.ends
+returns-in-Ok-clause-fails g c = renew-fails c.mount_in.result (g.S.SlotCalls.state c.args.stock.now) (g.S.SlotCalls.state c.restore.new.self) (g.S.SlotCalls.state c.mount_in.new.stock) c.in-Ok.ensures.ok c.mount_in.ensures.cut c.mount_in.ensures.healthy c.mount_in.ensures.same_size
+    (fails-of c.mount_in.result (SucceedsSettled (g.S.SlotCalls.state c.restore.new.self) (g.S.SlotCalls.state c.mount_in.new.stock)) (λ e. Refuses e (g.S.SlotCalls.state c.restore.new.self) (g.S.SlotCalls.state c.mount_in.new.stock)) c.mount_in.ensures.ends)
 
 pub returns-in-Err-Cut-clause-fails : goal.returns-in-Err-Cut-clause-fails
 returns-in-Err-Cut-clause-fails g c = restore-cut (g.S.SlotCalls.state c.args.stock.now) (g.S.SlotCalls.state c.restore.new.self) (subst (λ e. RestoreFails e (g.S.SlotCalls.state c.args.stock.now) (g.S.SlotCalls.state c.restore.new.self)) c.in-Err-Cut.field-0-is c.in-Err-Cut.ensures.fails)

@@ -42,5 +42,5 @@ returns-in_err-retire-in-Two-clause-cut_clean g c is clean =
 pub returns-in_err-retire-in-Two-clause-fails : goal.returns-in_err-retire-in-Two-clause-fails
 returns-in_err-retire-in-Two-clause-fails g c =
     let p = err_from_is_err_and c.from_residual.result c.from_residual.ensures.1 in
-    subst (λ z. EndsSettled z (g.S.SlotCalls.state c.args.slots.now) (g.S.SlotCalls.state c.retire.new.self)) (sym p.1)
+    subst (λ z. IfErr z (λ e. Refuses e (g.S.SlotCalls.state c.args.slots.now) (g.S.SlotCalls.state c.retire.new.self))) (sym p.1)
     (refuses-perhaps p.0 (g.S.SlotCalls.state c.args.slots.now) (g.S.SlotCalls.state c.loop-sector.slots) (g.S.SlotCalls.state c.retire.new.self) c.loop-sector.invariant.retired.since (subst (λ e. Refuses e (g.S.SlotCalls.state c.loop-sector.slots) (g.S.SlotCalls.state c.retire.new.self)) (sym p.2) c.in_err-retire-in-Two.ensures.ends))

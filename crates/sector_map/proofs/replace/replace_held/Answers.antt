@@ -4,6 +4,7 @@ use Rattle.nor_driver.specs.State.{Refuses}
 use Rattle.erase_journal.proofs.SettledLaws.{settled-healthy, settled-after, refuses-settled}
 use Rattle.std.proofs.lemmas.Result.{err_from_is_err_and}
 use Rattle.sector_map.proofs.Replacing.{put-was-cut, replace-done, retire-was-cut, old-retirable}
+use Rattle.erase_journal.specs.Steps.{EndsSettled}
 use Rattle.sector_map.proofs.replace.replace_held.Goals as goal
 
 pub returns-in_err-write-clause-cut : goal.returns-in_err-write-clause-cut

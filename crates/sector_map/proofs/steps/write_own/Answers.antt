@@ -10,6 +10,7 @@ use Rattle.erase_journal.proofs.SettledLaws.{settled-healthy, settled-after, ref
 use Rattle.sector_map.proofs.Retiring.{succeeds-perhaps, refuses-perhaps}
 use Rattle.sector_map.proofs.Mounting.{perhaps-healthy}
 use Rattle.sector_map.proofs.MapCalls.{served-room, stays-keeps, served-moved, same-moved-keeps, at-slot, slot-held, slot-replaceable, held-number, write-cut, wrote}
+use Rattle.erase_journal.specs.Steps.{EndsSettled}
 use Rattle.sector_map.proofs.steps.write_own.Goals as goal
 
 -- the block into which one was copied is one of the data blocks

@@ -3,7 +3,7 @@ use Rattle.std.proofs.lemmas.List.{with_items_is}
 use Rattle.std.specs.Vec.{with_items}
 use Rattle.sector_stock.specs.Index.{IsStocked}
 use Rattle.sector_stock.proofs.Writing.{stocked-indexed}
-use Rattle.sector_stock.proofs.stock.StockReclaim.convert.Goals as goal
+use Rattle.sector_map.proofs.stock.StockReclaim.convert.Goals as goal
 
 pub invariant_of-self-2 : goal.invariant_of-self-2
 invariant_of-self-2 g c =

@@ -3,7 +3,7 @@ use Rattle.std.proofs.lemmas.List.{with_items_is}
 use Rattle.std.specs.Vec.{with_items}
 use Rattle.sector_stock.specs.Index.{IsStocked, IsAhead, in_block}
 use Rattle.sector_stock.proofs.Writing.{dead-room, retire-indexed, stocked-indexed}
-use Rattle.sector_stock.proofs.stock.StockReclaim.release.Goals as goal
+use Rattle.sector_map.proofs.stock.StockReclaim.release.Goals as goal
 
 pub mark_dead-requires-clause-room : goal.mark_dead-requires-clause-room
 mark_dead-requires-clause-room g c =

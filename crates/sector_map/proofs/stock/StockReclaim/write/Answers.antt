@@ -5,7 +5,7 @@ use Rattle.std.specs.Vec.{with_items}
 use Rattle.sector_stock.specs.Index.{IsStocked, IsWholeBlock, in_block}
 use Rattle.sector_stock.proofs.Moved.{numbers-in, spare-whole}
 use Rattle.sector_stock.proofs.Writing.{free-some, put-indexed, stocked-indexed}
-use Rattle.sector_stock.proofs.stock.StockReclaim.write.Goals as goal
+use Rattle.sector_map.proofs.stock.StockReclaim.write.Goals as goal
 
 pub returns-in_err-put-clause-cut_live : goal.returns-in_err-put-clause-cut_live
 returns-in_err-put-clause-cut_live g c is free =
