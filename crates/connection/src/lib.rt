@@ -1,4 +1,5 @@
-//! One connection's bytes: cut into units, run and answered through a peer.
+//! The loop around a `Session`: one connection's bytes, cut into units by it, each of which is run
+//! and answered by a peer.
 //!
 //! Promised: `answer_piece` takes a piece of a connection's bytes and has a [`Peer`] answer the
 //! units that it completes, one after another and each exactly once: an accepted command by

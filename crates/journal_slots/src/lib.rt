@@ -1,4 +1,4 @@
-//! `SectorSlots`: the data blocks behind the journals, as slots of sectors.
+//! `SectorSlots`, the code that meets `SlotCalls`: the data blocks of a chip over its journals.
 //!
 //! Promised: it meets `sector_slots::SlotCalls`, which says of each call what it leaves, whole and
 //! cut; `new` and `into_inner` put it on a journal and take it off, `count` and `header` read. A

@@ -1,4 +1,5 @@
-//! Chips behind programmers for the program, and a chip that is served as one.
+//! Chips behind programmers, by their place, for the program; and `norbd chip`, which answers
+//! serprog commands for a chip by the crate `serprog_chip`.
 //!
 //! `programmer_of` tells whether a word names a programmer, over TCP or by a serial device. `watch`
 //! reaches it, reads the whole chip with a line of progress each second, and gives a bus that notes

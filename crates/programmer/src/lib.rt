@@ -1,4 +1,4 @@
-//! What exchanges frames with a flash chip that is outside of the program.
+//! The trait of a device that exchanges frames with a flash chip outside of the program.
 //!
 //! `Programmer` is the contract of such a device: on Ok one frame more was exchanged with the chip,
 //! whose bytes it names. Which frames were exchanged so far is a list that exists in proofs alone,

@@ -29,8 +29,9 @@ impl Entry {
     }
 }
 
-/// The entry once one more live slot of the sector was found; None where no write leaves these
-/// slots.
+/// The entry once one more live slot of the sector was found; None if no write leaves these slots.
+/// There are four generations, round and round: of two neighbours exactly one is the other's next,
+/// and that is the newer.
 pub(crate) fn note(entry: Entry, held: Held) -> Option<Entry>
     ensures { result ≡ noted entry held }
 {

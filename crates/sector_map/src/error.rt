@@ -7,8 +7,8 @@ pub enum MountError {
     Cut,
     /// An operation didn't end, in the mount or before it.
     Slow,
-    /// The superblock is of another layout or size, or the journals, the slots or the blocks hold
-    /// what no write leaves.
+    /// The superblock is of another layout or size (a newer format and a damaged byte look alike),
+    /// or the journals, the slots or the blocks hold what no write leaves.
     Corrupt,
     /// The allocator refused the table or the index.
     OutOfMemory,

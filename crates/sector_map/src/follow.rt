@@ -19,8 +19,8 @@ use nor_layout::Header;
 use sector_slots::SlotCalls;
 use sector_stock::Copied;
 
-/// Names the slots of the block into which one was copied, if one was, in the entries of their
-/// sectors: one read.
+/// After a block copy, points the entries of the sectors at the target's slots, by one read. If
+/// none was copied, does nothing.
 pub(crate) fn follow_copied<S: SlotCalls>(
     slots: &mut S,
     table: &mut [Entry],
@@ -62,6 +62,7 @@ fn follow_block<S: SlotCalls>(
     ensures index { S.indexed slots.new ≡ S.indexed slots.old }
     ensures ends { EndsSettled result (S.state slots.old) (S.state slots.new) }
 {
+    // Gives the bound of `block`.
     let _count = slots.blocks();
     let mut heads = [Header::Free; 7];
     slots.head(block, &mut heads)?;

@@ -1,26 +1,28 @@
-//! What the kinds of the blocks say of a copying.
+//! Detects a block copy that was interrupted, from the kinds of the blocks.
 
 ghost use Rattle.std.specs.Prelude.{◌≡◌, ◌+◌, ◌≤◌};
 ghost use Rattle.sector_map.specs.Found.{noted_kind, block_counts, leaves_room};
 
 use nor_layout::Kind;
 
-/// The copying that goes on. Blocks are counted from 0. Source: own, layout 2.
+/// The copying that goes on. It names data blocks, counted from 0; a `Kind` names blocks of the
+/// chip, whose numbers are four higher. Source: own, layout 2.
 #[derive(Clone, Copy, Debug, PartialEq, Eq, Drop)]
 pub enum Found {
     /// None does.
     AtRest,
     /// One into this block, not committed.
     Void(u16),
-    /// One of the first block into the second, which is committed.
+    /// One of the first data block into the second, which is committed.
     Committed(u16, u16),
 }
 
 /// The chip's number of data block 0.
 const FIRST_DATA_BLOCK: u16 = 4;
 
-/// What is found once a block of this kind is read, of `count` blocks; None where the blocks are
-/// corrupt. A block of a group is at rest.
+/// What is found once data block `block`, of `count`, turns out to be of this kind; None if the
+/// blocks are corrupt. A block of a group takes no part in a copying. The source of a committed
+/// copy has to be another data block: the kind names it as a block of the chip.
 pub(crate) fn note_kind(found: Found, block: u16, kind: Kind, count: u16) -> Option<Found>
     requires few { count ≤ 4092 }
     requires number { block ≤ 4092 }

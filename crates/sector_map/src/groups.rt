@@ -1,5 +1,5 @@
-//! Blocks that are live with a group, on a mixed chip: two of one group are found by the table, the
-//! older one is retired, and a dead one erased where no block is wholly free.
+//! Blocks of layout 1 on a mixed chip. If two live blocks hold the same group, the table shows it,
+//! and the older one is retired. If no block is wholly free, a dead group's block is erased.
 
 ghost use Rattle.std.specs.Prelude.{◌≡◌, ◌≢◌, ◌⊎◌, ◌*◌, ◌<◌, ℕ, Bool, Some, None, true, length};
 ghost use Rattle.std.specs.Prelude.{OnOk, IfOk, IfErr, IsTrue, IsFalse};
@@ -24,8 +24,8 @@ use nor_driver::NorError;
 use nor_layout::Kind;
 use sector_slots::SlotCalls;
 
-/// Whether two live blocks of one group hold some sector, by the table; None where of two slots of
-/// a sector the one lies in a block of a group and the other doesn't: no write leaves these slots.
+/// Whether two live blocks hold one group, by the table. None if a sector has one slot in a group's
+/// block and one elsewhere: no write leaves these slots.
 #[tactic(auto, using(crate::proofs::Calls::repeated_calls))]
 pub fn has_pair<S: SlotCalls>(slots: &mut S, table: &[Entry]) -> Result<Option<bool>, NorError>
     requires tabled { IsTabled table.now (slot_at (S.state slots.old).memory)
@@ -59,7 +59,7 @@ pub fn has_pair<S: SlotCalls>(slots: &mut S, table: &[Entry]) -> Result<Option<b
     Ok(Some(pair))
 }
 
-/// Whether both blocks are of groups; None where one is and the other isn't.
+/// Whether both blocks are of groups; None if one is and the other isn't.
 fn are_of_groups<S: SlotCalls>(
     slots: &mut S,
     first: u16,
@@ -128,7 +128,9 @@ fn is_dead_group(kind: Kind) -> bool
     }
 }
 
-/// Whether a block of this kind is the older of two that are live with one group, by the table.
+/// Whether a block of this kind is the older of two that are live with one group, by the table. The
+/// number of a block's tag is its group's, and the entry of the group's first sector tells: all
+/// seven sectors of a group lie in the same blocks.
 pub(crate) fn is_older(table: &[Entry], block: u16, kind: Kind) -> bool
     requires number { (tag : TagOf) → kind ≡ Kind.Group tag → 7 * tag.number < length table.now }
     ensures older { IsTrue result → IsOlderGroup table.now block kind }
@@ -178,7 +180,8 @@ fn retire_each<S: SlotCalls>(slots: &mut S, table: &[Entry]) -> Result<(), NorEr
     Ok(())
 }
 
-/// Retires the older of two blocks of each group, and reads the table anew where there were two.
+/// Step 7: retires the older of two blocks of each group, and reads the table anew if there were
+/// two.
 pub(crate) fn retire_groups<S: SlotCalls>(
     slots: &mut S,
     table: &mut [Entry],
@@ -215,7 +218,7 @@ pub(crate) fn retire_groups<S: SlotCalls>(
     }
 }
 
-/// Erases the lowest-numbered dead block of a group, where no block is wholly free.
+/// Step 8: erases the lowest-numbered block of a dead group, if no block is wholly free.
 pub(crate) fn make_room<S: SlotCalls>(slots: &mut S, has_room: bool) -> Result<(), NorError>
     requires rest { AreAtRest (kind_at (S.state slots.old).memory)
         (data_blocks (S.state slots.old).memory) }

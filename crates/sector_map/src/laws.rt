@@ -1,4 +1,5 @@
-//! What follows of a chip of layout 1.
+//! A law of chips of layout 1. A law is a function with an empty body, whose contract is the
+//! theorem. No code calls it; docs/CLAIMS.md cites it.
 
 ghost use Rattle.sector_map.specs.Laws.{GroupChipsAreMountable};
 

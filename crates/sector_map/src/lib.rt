@@ -1,20 +1,21 @@
-//! The sectors of a chip, 512 bytes each, as a finite map over its slots.
+//! A map from a sector's number to its 512 bytes, over a NOR memory.
 //!
-//! Promised: a sector holds the content of its live slot that counts, of two the newer one's, and
-//! zeros where it has none; a block that is live with a group is seven such slots. `SectorMap` is
-//! all of it over a NOR memory of layout 1 or 2, or mixed. `mount` looks at the superblock, takes
-//! all memory that it will need, recovers the journals and reads the blocks; it is refused exactly
-//! where they are corrupt, which is decided before anything changes. Then it marks a chip of layout
-//! 1 as mixed, ends a copying that was cut, retires the older of two blocks of a group, makes a
-//! block wholly free, retires the older of two slots, and makes the index; no sector changes in it,
-//! cut or not. `find` is one read. `replace` writes one sector and no other: cut, every sector is
-//! as it was or this one new; so is `clear`, which makes it zeros. `tidy` and `restore` change
-//! none. Slots and blocks stay sound through all calls on any memory; what is said of contents
-//! after a copy or a write is said of memories in which what reads as free is erased
-//! (`specs/Maps.antt`). An error is latched until a `restore`.
+//! Promised, of `SectorMap`: a sector's content is that of its live slot that counts, of two the
+//! newer one's, and zeros if it has none. `mount` accepts a healthy memory and no other, in the
+//! steps of docs/SECTORS.md, "A mount"; apart from the journals' recovery nothing is written before
+//! it decides. `find` reads a sector. `replace` and `clear` change one sector: cut, all sectors are
+//! as they were, or this one is new. `mount`, `tidy`, `tidy_urgent` and, unless a Slow was latched,
+//! `restore` change none. An error is latched until a `restore` that answers Ok.
 //!
-//! Left to the crate above: when to tidy and when to restore. Source: own. See docs/SECTORS.md
-//! and docs/LAYOUT.md.
+//! **Contents are promised of a clean memory alone** (`IsClean`): one in which every byte that
+//! reads as free is erased. A mount doesn't look, `is_clean` does. On any other memory slots and
+//! blocks stay sound, but a sector that is written, or whose block is copied, gets some content.
+//!
+//! Needed from below: the memory (`Nor`), the recovery of the journals (`Journal`), slots and the
+//! calls on them (`SlotCalls`), and a free slot for each write (`Reclaim`). Left to the crate
+//! above: `is_clean` after a mount, when to tidy, when to restore. The crate `survey` reads blocks
+//! by the same functions as a mount, so some of them are public. In a block of layout 1 lies a
+//! *group* of seven sectors; it counts as seven slots (docs/GLOSSARY.md). Source: own.
 
 #![tactic(auto)]
 

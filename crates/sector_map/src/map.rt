@@ -1,4 +1,4 @@
-//! The map of sectors, and its calls.
+//! The type of the map: its latched error, its invariant, and its calls.
 
 ghost use Rattle.std.specs.Prelude.{◌≡◌, ◌<◌, ◌≤◌, ◌*◌, ◌-◌, Bool, Ok, true, false, length};
 ghost use Rattle.std.specs.Prelude.{vec_len, slice_index_or, OnOk, IfOk, IfErr, IsTrue, IsFalse};
@@ -45,7 +45,7 @@ pub struct SectorMap<N: Nor> {
     stock: Stock<N>,
     /// The entries of the sectors, in their order.
     table: Vec<Entry>,
-    /// The latched error; where a Cut and a Slow do, it is the Slow.
+    /// The latched error. If both occurred, Slow is latched.
     latched: Option<NorError>,
 }
 
@@ -59,6 +59,9 @@ impl<N: Nor> Model for SectorMap<N> {
 
     ghost view = { λ map. shown_with map.latched map.stock.slots };
 
+    // While no error is latched, table and index are those of the memory (`indexed`), which is
+    // healthy, and no copying goes on. While a Cut is latched, the memory is healthy. `shown_with`
+    // shows a latched Slow to contracts.
     ghost invariant = { λ map. record {
       counted : vec_len map.table ≡ sector_count (length map.stock.slots.memory);
       standing : KnownWhile map.latched map.table.items map.stock.slots map.stock.indexed;
@@ -66,10 +69,9 @@ impl<N: Nor> Model for SectorMap<N> {
 }
 
 impl<N: Nor> SectorMap<N> {
-    /// Mounts a memory: reads the superblock, takes the memory of the table and of the index,
-    /// recovers the journals, reads what the blocks say, marks a chip of layout 1 as mixed, ends a
-    /// copying that was cut, and retires the older of two blocks of a group and of two slots of a
-    /// sector. A refusal hands the memory back.
+    /// Mounts a memory, in the steps of docs/SECTORS.md, "A mount". A refusal hands the memory
+    /// back. `Corrupt` is also the answer to a superblock of another layout or size, and then
+    /// nothing was changed: a newer format and a damaged byte look alike.
     pub fn mount(alloc: Global, nor: N) -> Result<SectorMap<N>, (N, MountError)>
         ensures ok { IfOk result (λ map. Mounted (N.state nor) map) }
         ensures fails { IfErr result (λ e. MountFails e.1 (N.state nor) (N.state e.0)) }
@@ -90,6 +92,7 @@ impl<N: Nor> SectorMap<N> {
         ensures count { result ≡ sector_count (length self.now.memory) }
         ensures sized { IsChipSize (length self.now.memory) }
     {
+        // For its contract: a chip's size, so that the count fits.
         let _blocks = self.stock.blocks();
         self.table.len() as u16
     }
@@ -128,9 +131,10 @@ impl<N: Nor> SectorMap<N> {
         }
     }
 
-    /// Writes a sector, 512 bytes, into a free slot, and retires the slot that held it. A block
-    /// that holds the sector with its group is converted first. Cut, it leaves every sector as it
-    /// was, or this one new.
+    /// Writes a sector, 512 bytes, into a free slot, and retires the slot that held it. Before that
+    /// a block may be moved for its wear, and a block that holds the sector with its group is
+    /// converted. Cut, every sector is as it was, or this one is new. Contents are promised of a
+    /// clean memory (`is_clean`).
     pub fn replace(&mut self, sector: u16, content: &[u8]) -> Result<(), NorError>
         requires number { sector < sector_count (length self.old.memory) }
         requires size { length content.now ≡ 512 }
@@ -152,9 +156,10 @@ impl<N: Nor> SectorMap<N> {
         }
     }
 
-    /// Makes a sector absent: it holds zeros, and its next content begins with the first
-    /// generation. One change, none where it is absent already. Cut, it leaves every sector as it
-    /// was, or this one zeros.
+    /// Makes a sector absent: it reads as zeros, and its next content begins with the first
+    /// generation. One change of the chip, none if it is absent already. A block that holds the
+    /// sector with its group is converted first, which copies seven sectors. Cut, every sector is
+    /// as it was, or this one is zeros. Contents are promised of a clean memory (`is_clean`).
     pub fn clear(&mut self, sector: u16) -> Result<(), NorError>
         requires number { sector < sector_count (length self.old.memory) }
         ensures ok { OnOk result (Sets sector zeros self.old.memory self.new.memory) }
@@ -175,9 +180,10 @@ impl<N: Nor> SectorMap<N> {
         }
     }
 
-    /// Copies the block with the most dead slots, and where none is dead converts the lowest-
-    /// numbered block that is live with a group: true. Where there is neither nothing changes:
-    /// false.
+    /// Does one step of tidying: true. It copies a block with the most dead slots; if no slot is
+    /// dead it converts the lowest-numbered block that is live with a group. Before that a block
+    /// may be moved for its wear. If there is neither, nothing changes: false. No sector of a clean
+    /// memory changes.
     pub fn tidy(&mut self) -> Result<bool, NorError>
         ensures ok { OnOk result (KeepsMap self.old.memory self.new.memory) }
         ensures fewer { IfOk result (λ more. IsTrue more
@@ -200,8 +206,8 @@ impl<N: Nor> SectorMap<N> {
         }
     }
 
-    /// Does what `tidy` does while fewer than an eighth of the slots beyond those that the sectors
-    /// need are free. Else nothing changes: false.
+    /// Runs `tidy` once if less than an eighth of the spare slots are free: of those beyond one for
+    /// each sector, the reserve's not counted. Otherwise nothing changes: false.
     pub fn tidy_urgent(&mut self) -> Result<bool, NorError>
         ensures ok { OnOk result (KeepsMap self.old.memory self.new.memory) }
         ensures fewer { IfOk result (λ more. IsTrue more
@@ -224,8 +230,9 @@ impl<N: Nor> SectorMap<N> {
         }
     }
 
-    /// Whether what reads as free is erased: reads each data block, until one is met that isn't so.
-    /// Nothing changes.
+    /// Whether the memory is clean: every byte that reads as free is erased. Reads the data blocks
+    /// up to the first that isn't so. Nothing changes. The promises about contents hold for a clean
+    /// memory, and calls keep it clean unless a Slow is latched: so ask once, after the mount.
     pub fn is_clean(&mut self) -> Result<bool, NorError>
         ensures clean { IfOk result (λ clean. IsTrue clean → IsClean self.old.memory) }
         ensures not_clean { IfOk result (λ clean. IsFalse clean → IsClean self.old.memory → ⊥) }
@@ -244,11 +251,11 @@ impl<N: Nor> SectorMap<N> {
         }
     }
 
-    /// Turns the power off and on again, and mounts the memory anew into the same table. Where no
-    /// Slow was latched, no sector changes.
+    /// Turns the power off and on again, and mounts the memory anew into the same table (steps 3 to
+    /// 10 of docs/SECTORS.md, "A mount"). If no Slow was latched, no sector changes.
     ///
-    /// Answers Ok, Cut or Slow; Slow also where an operation that didn't end left a memory that
-    /// can't be mounted.
+    /// Answers Ok, Cut or Slow. A memory that can't be mounted any more is answered as Slow: only
+    /// an operation that didn't end can have left one.
     pub fn restore(&mut self) -> Result<(), NorError>
         ensures ok { OnOk result (MapRestored self.old self.new) }
         ensures fails { IfErr result (λ e. MapRestoreFails e self.old self.new) }
@@ -339,7 +346,7 @@ fn take_tables(alloc: Global, chip: Geometry) -> Result<Tables, AllocError>
     })
 }
 
-/// Mounts a memory whose superblock was looked at.
+/// Steps 2 to 10 of a mount: of a memory whose superblock was looked at.
 fn recover<N: Nor>(alloc: Global, nor: N) -> Result<SectorMap<N>, (N, MountError)>
     requires superblock { IsLaidOut (N.state nor).memory }
     ensures ok { IfOk result (λ map. Mounted (N.state nor) map) }
@@ -359,7 +366,7 @@ fn recover<N: Nor>(alloc: Global, nor: N) -> Result<SectorMap<N>, (N, MountError
     }
 }
 
-/// Makes the map of recovered journals' slots.
+/// Steps 4 to 10 of a mount: of slots whose journals were recovered.
 fn fill<N: Nor>(slots: SectorSlots<N>, tables: Tables) -> Result<SectorMap<N>, (N, MountError)>
     requires ready { IsNorReady slots }
     requires table { vec_len tables.table ≡ sector_count (length slots.memory) }
@@ -409,8 +416,8 @@ fn after_cut(latched: Option<NorError>) -> Option<NorError>
     }
 }
 
-/// Turns the power on anew, recovers the journals, and makes the table again; false where the
-/// memory is corrupt.
+/// Turns the power on anew, recovers the journals, and makes the table again; false if the memory
+/// is corrupt, which comes after a Slow alone.
 fn renew<S: Reclaim>(stock: &mut S, table: &mut [Entry]) -> Result<bool, NorError>
     requires size { length table.old ≡ sector_count (length (S.state stock.old).memory) }
     ensures ok { IfOk result (λ sound. IsTrue sound

@@ -1,5 +1,5 @@
-//! A map is mounted: the blocks are read into the table, a chip of layout 1 is marked as mixed, a
-//! copying that was cut is ended, and the older of two blocks of a group and of two slots retired.
+//! Steps 4 to 10 of a mount (docs/SECTORS.md, "A mount"): all blocks are read, and found corrupt or
+//! not, before any is mended.
 
 ghost use Rattle.std.specs.Prelude.{◌≡◌, ◌⊎◌, ◌<◌, ℕ, List, true, false, Some, None, length, OnOk};
 ghost use Rattle.std.specs.Prelude.{IfOk, IfErr, IsTrue, IsFalse};
@@ -30,10 +30,8 @@ use nor_driver::NorError;
 use sector_slots::SlotCalls;
 use sector_stock::{Reclaim, end_committed, end_erased, end_void};
 
-/// Makes the table of a store of slots: it reads the blocks, marks a chip of layout 1 as mixed,
-/// ends a copying that was cut, makes room, retires the older of two blocks of a group and of two
-/// slots of a sector, and makes the index. False, and nothing is changed, where the slots or blocks
-/// are corrupt. After an error the table holds any entries.
+/// Steps 4 to 10. False, and nothing is changed, if slots or blocks are corrupt. After an error the
+/// table holds any entries.
 pub fn mount_in<S: Reclaim>(stock: &mut S, table: &mut [Entry]) -> Result<bool, NorError>
     requires size { length table.old ≡ sector_count (length (S.state stock.old).memory) }
     ensures sound { IfOk result (λ sound. IsTrue sound
@@ -62,8 +60,8 @@ pub fn mount_in<S: Reclaim>(stock: &mut S, table: &mut [Entry]) -> Result<bool, 
     }
 }
 
-/// Reads the blocks into a table in which every sector is absent: what they say; None where slots
-/// or blocks are corrupt.
+/// Step 4: reads the blocks into a table in which every sector is absent, and answers what they
+/// say. None if slots or blocks are corrupt.
 fn look<S: Reclaim>(
     stock: &mut S,
     table: &mut [Entry],
@@ -99,8 +97,9 @@ fn look<S: Reclaim>(
     fit(stock, Seen { found, spare }, pair)
 }
 
-/// What was seen of the blocks, where a block is wholly free once a copying is ended, or can be
-/// made so.
+/// What was seen of the blocks, if a block is wholly free once a copying is ended, or can be made
+/// so; else None. A pair, two live blocks of one group, can: `retire_groups` makes the older one
+/// dead, and `make_room` erases a dead one.
 fn fit<S: SlotCalls>(slots: &mut S, seen: Seen, pair: bool) -> Result<Option<Seen>, NorError>
     requires pair { pair ≡ true → HasGroupRoom (kind_at (S.state slots.old).memory)
         (data_blocks (S.state slots.old).memory) }
@@ -125,7 +124,7 @@ fn fit<S: SlotCalls>(slots: &mut S, seen: Seen, pair: bool) -> Result<Option<See
     }
 }
 
-/// Mends the blocks, retires the older of two slots, and makes the index.
+/// Steps 6 to 10: mends the blocks, retires the older of two slots, and makes the index.
 fn repair<S: Reclaim>(stock: &mut S, table: &mut [Entry], seen: Seen) -> Result<(), NorError>
     requires size { length table.old ≡ sector_count (length (S.state stock.old).memory) }
     requires tabled { IsTabled table.old (slot_at (S.state stock.old).memory)
@@ -150,8 +149,8 @@ fn repair<S: Reclaim>(stock: &mut S, table: &mut [Entry], seen: Seen) -> Result<
     Ok(())
 }
 
-/// Ends a copying that was found, retires the older of two blocks of a group, and makes a block
-/// wholly free.
+/// Steps 6 to 8: ends a copying that was found, retires the older of two blocks of a group, and
+/// erases a dead one if no block is wholly free.
 fn mend_blocks<S: SlotCalls>(slots: &mut S, table: &mut [Entry], seen: Seen) -> Result<(), NorError>
     requires size { length table.old ≡ sector_count (length (S.state slots.old).memory) }
     requires tabled { IsTabled table.old (slot_at (S.state slots.old).memory)
@@ -176,7 +175,7 @@ fn mend_blocks<S: SlotCalls>(slots: &mut S, table: &mut [Entry], seen: Seen) -> 
     make_room(slots, has_room(seen))
 }
 
-/// Ends a copying that was found.
+/// Step 6: ends a copying that was found.
 fn end_copying<S: SlotCalls>(slots: &mut S, found: Found) -> Result<(), NorError>
     requires found { FoundIn found (S.state slots.old).memory }
     requires sound { IsSoundMap (S.state slots.old).memory }
@@ -198,7 +197,8 @@ fn end_copying<S: SlotCalls>(slots: &mut S, found: Found) -> Result<(), NorError
     }
 }
 
-/// Ends a copying that is committed.
+/// Ends a copying that is committed. A source whose slots all read as free isn't erased again: on a
+/// clean memory it is erased, and on any other nothing is said of its bytes.
 fn end_copy<S: SlotCalls>(slots: &mut S, source: u16, target: u16) -> Result<(), NorError>
     requires found { FoundIn (Found.Committed source target) (S.state slots.old).memory }
     requires sound { IsSoundMap (S.state slots.old).memory }
@@ -218,7 +218,7 @@ fn end_copy<S: SlotCalls>(slots: &mut S, source: u16, target: u16) -> Result<(),
     Ok(())
 }
 
-/// Retires the older of two slots of each sector.
+/// Step 9: retires the older of two slots of each sector.
 fn retire_older<S: SlotCalls>(slots: &mut S, table: &mut [Entry]) -> Result<(), NorError>
     requires size { length table.old ≡ sector_count (length (S.state slots.old).memory) }
     requires tabled { IsTabled table.old (slot_at (S.state slots.old).memory)

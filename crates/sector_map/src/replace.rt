@@ -1,4 +1,4 @@
-//! A sector written anew: the new slot first, then the old one is retired.
+//! A sector written anew (the new slot first, then the old one is retired), and a sector read.
 
 ghost use Rattle.std.specs.Prelude.{◌≡◌, ◌<◌, ℕ, List, true, length, Some, None, OnOk, IfOk};
 ghost use Rattle.std.specs.Prelude.{IfSome};

@@ -1,4 +1,4 @@
-//! The calls of a map, over a store and the table of its sectors.
+//! What a mounted map does in a call, over a stock and the table: a write, a clearing, a tidying.
 
 ghost use Rattle.std.specs.Prelude.{◌≡◌, ◌⊎◌, ◌<◌, ◌≤◌, Bool, length, OnOk, IfOk, IfErr, IsTrue};
 ghost use Rattle.std.specs.Prelude.{IsFalse};
@@ -19,9 +19,9 @@ use crate::table::{keep_one, unset};
 use nor_driver::NorError;
 use sector_stock::{Next, Reclaim};
 
-/// Writes a sector into a slot that it takes, and retires the slot that held it, if one did. Where
-/// it is time for it, moves a block for its wear first; and where a block with its group holds the
-/// sector, converts that block.
+/// Writes a sector into a slot that it takes, and retires the slot that held it, if one did. Before
+/// that it moves a block for its wear, if it is time for it, and converts a block that holds the
+/// sector with its group.
 pub(crate) fn write_in<S: Reclaim>(
     stock: &mut S,
     table: &mut [Entry],
@@ -43,7 +43,7 @@ pub(crate) fn write_in<S: Reclaim>(
     write_own(stock, table, sector, content)
 }
 
-/// Moves a block for its wear, where it is time for it, and converts the block that holds a sector
+/// Moves a block for its wear, if it is time for it, and converts the block that holds a sector
 /// with its group, if one does. The table follows, and no sector changes.
 fn make_way<S: Reclaim>(stock: &mut S, table: &mut [Entry], sector: u16) -> Result<(), NorError>
     requires served { IsServing table.old (S.state stock.old) (S.indexed stock.old) }
@@ -61,7 +61,7 @@ fn make_way<S: Reclaim>(stock: &mut S, table: &mut [Entry], sector: u16) -> Resu
     leave_group(stock, table, sector)
 }
 
-/// Moves a block whose sectors rest, where it is time for it. The table follows, and no sector
+/// Moves a block whose sectors rest, if it is time for it. The table follows, and no sector
 /// changes.
 fn level_in<S: Reclaim>(stock: &mut S, table: &mut [Entry], next: Next) -> Result<(), NorError>
     requires served { IsServing table.old (S.state stock.old) (S.indexed stock.old) }
@@ -140,9 +140,9 @@ fn write_own<S: Reclaim>(
     Ok(())
 }
 
-/// Copies a block with the most dead slots; where none is dead, converts the lowest-numbered block
-/// that is live with a group; false, and nothing changes, where there is neither. Where it is time
-/// for it, moves a block for its wear first.
+/// Copies a block with the most dead slots; if no slot is dead, converts the lowest-numbered block
+/// that is live with a group. If there is neither, nothing changes: false. If it is time for it, a
+/// block is moved for its wear first.
 pub(crate) fn tidy_in<S: Reclaim>(stock: &mut S, table: &mut [Entry]) -> Result<bool, NorError>
     requires served { IsServing table.old (S.state stock.old) (S.indexed stock.old) }
     ensures ok { OnOk result (KeptServing table.new (S.state stock.old) (S.state stock.new)
@@ -214,8 +214,8 @@ pub(crate) fn tidy_urgent_in<S: Reclaim>(
     tidy_in(stock, table)
 }
 
-/// Retires the slot that holds a sector, if one does; the sector is absent then, and holds zeros.
-/// Where a block with its group holds it, converts that block first.
+/// Retires the slot that holds a sector, if one does; the sector is absent then, and reads as
+/// zeros. A block that holds it with its group is converted first.
 pub(crate) fn clear_in<S: Reclaim>(
     stock: &mut S,
     table: &mut [Entry],

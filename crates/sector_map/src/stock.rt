@@ -1,4 +1,5 @@
-//! Slots with their index.
+//! `Stock`, which implements `Reclaim`: slots with their index in memory. The choices and the steps
+//! are functions of `sector_stock`; here each keeps the index and its flag.
 
 ghost use Rattle.std.specs.Prelude.{◌≡◌, ◌≢◌, ◌<◌, ℕ, List, false, true, Some, None, length};
 ghost use Rattle.std.specs.Prelude.{IfOk, IsTrue, IsFalse};

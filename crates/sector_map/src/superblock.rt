@@ -1,4 +1,5 @@
-//! The superblock of a memory: which layout it says, and that a chip of layout 1 is mixed.
+//! The superblock of a memory: its layout (step 1 of a mount), and the mark that a chip of layout 1
+//! is mixed (step 5).
 
 ghost use Rattle.std.specs.Prelude.{◌≡◌, ◌⊎◌, length, Ok, Err, OnOk, IfOk, IfErr, MatchResult};
 ghost use Rattle.std.specs.Result.{IsErrOf};
@@ -15,7 +16,7 @@ use nor_driver::{Nor, NorError};
 use nor_layout::{Layout, SUPER_LEN, SuperError, read_layout};
 use sector_slots::SlotCalls;
 
-/// Which layout the superblock of a memory says. Nothing is changed.
+/// Step 1: which layout the superblock of a memory says. Nothing is changed.
 pub(crate) fn look<N: Nor>(nor: &mut N) -> Result<Result<Layout, SuperError>, NorError>
     ensures ok { IfOk result (λ says. says
         ≡ layout_of (N.state nor.old).memory (geometry_of (length (N.state nor.old).memory))) }
@@ -41,7 +42,9 @@ pub struct Marks {
     pub unmarked: bool,
 }
 
-/// The first bytes of the superblock, read behind the journals. Nothing is changed.
+/// What the superblock says of the blocks, read through the slots, once the journals are recovered.
+/// A mount has read it before, from the bare memory (`look`); a `restore` reads it here alone.
+/// Nothing is changed.
 pub(crate) fn read_marks<S: SlotCalls>(slots: &mut S) -> Result<Marks, NorError>
     ensures groups { IfOk result (λ marks. marks.groups
         ≡ may_have_groups (S.state slots.old).memory) }
@@ -55,7 +58,8 @@ pub(crate) fn read_marks<S: SlotCalls>(slots: &mut S) -> Result<Marks, NorError>
     Ok(marks_of(&head))
 }
 
-/// What these first bytes of a superblock say.
+/// What these first bytes of a superblock say. Byte 8 is the layout, 1 or 2; byte 15 is FFh, and
+/// FEh once a chip of layout 1 is mixed (docs/LAYOUT.md).
 fn marks_of(head: &[u8]) -> Marks
     requires size { length head.now ≡ SUPER_LEN }
     ensures groups { result.groups ≡ may_have_groups head.now }
@@ -67,7 +71,8 @@ fn marks_of(head: &[u8]) -> Marks
     }
 }
 
-/// Programs the mark of a mixed chip into the superblock of one of layout 1 that isn't mixed yet.
+/// Step 5: programs the mark of a mixed chip into the superblock of one of layout 1 that isn't
+/// mixed yet. It comes before any change of a block.
 pub(crate) fn mark_first<S: SlotCalls>(slots: &mut S, unmarked: bool) -> Result<(), NorError>
     requires unmarked { unmarked ≡ is_unmarked (S.state slots.old).memory }
     ensures ok { OnOk result (MarksOf (S.state slots.old).memory (S.state slots.new).memory) }

@@ -1,5 +1,5 @@
-//! What slots of sectors are, and the calls of a store of them: seven in a data block, each free,
-//! dead, or holding a sector of 512 bytes with its generation.
+//! The definitions of slots, the trait `SlotCalls` of a store of them, and laws about both. A data
+//! block has seven slots, each free, dead, or holding a sector of 512 bytes with its generation.
 //!
 //! Promised of any memory: which slots count (`specs/Slots.antt`), which sectors they represent
 //! (`specs/Sectors.antt`), when blocks are corrupt (`specs/Blocks.antt`), and that no step of a

@@ -1,17 +1,18 @@
 //! Where a store of sector slots gets its free slots from: an index of the slots in memory, and
 //! copying into a reserve.
 //!
-//! Promised: `Stock` is a store of slots with an index that is that of the memory while its flag
-//! says so (docs/SECTORS.md); `fill` makes it from one read of each block. `take_free` always gives
-//! a free slot outside the reserve, by `Policy::Lowest` the lowest-numbered one, by `Policy::Level`
-//! one that wears the blocks alike (docs/WEAR.md); where none is free, a block with the most dead
-//! slots is copied into the reserve first. `tidy` copies such a block, or where no slot is dead
-//! makes the lowest-numbered block of a group of layout 1 slots of the reserve, as `convert` does;
-//! it answers None exactly where there is neither. Each also tells
-//! which block was copied where: its live slots keep their places and tags, of a group with the
-//! first generation. Cut anywhere, they leave slots and blocks that a mount accepts, and where what
-//! read as free was erased each sector as it was. `end_void`, `end_committed` and `end_erased` end
-//! a copying that a mount finds, and change no sector. No call takes memory.
+//! Promised, by the trait `Reclaim`, which `Stock` of `sector_map` implements: a store of slots
+//! with an index in memory, which `fill` makes from one read of each block, and which is right
+//! while `indexed` says so (docs/SECTORS.md). `take_free` always gives a free slot outside the
+//! reserve; if none is free, a block with the most dead slots is copied into the reserve first.
+//! `tidy` copies such a block; if no slot is dead it converts the lowest-numbered block that is
+//! live with a group of layout 1 into slots of the reserve, as `convert` does. It answers None
+//! exactly if there is neither. `Policy::Lowest` chooses slots and blocks by number,
+//! `Policy::Level` so that blocks wear alike (docs/WEAR.md). Each call tells which block was copied
+//! where: its live slots keep their places and tags, and those of a group get the first generation.
+//! Cut anywhere, they leave slots and blocks that a mount accepts, and on a clean memory each
+//! sector as it was. `end_void`, `end_committed` and `end_erased` end a copying that a mount finds,
+//! and change no sector. No call takes memory.
 //!
 //! Left to the crate above: which slot holds which sector, and that no two live slots are of one
 //! sector. Source: own, layout 2.

@@ -1,4 +1,4 @@
-//! One connection's bytes, made into replies and commands.
+//! The protocol state of one connection: its bytes, made into replies and commands.
 //!
 //! Promised: `Session::take` answers the units of a connection's text one by one, in order, however
 //! its bytes are cut into pieces: a flag word, an option or a refused request by the reply that

@@ -1,4 +1,4 @@
-//! A flash chip outside of the program as a bus that is checked while it is used.
+//! A bus to a flash chip outside of the program, which compares each answer with the model.
 //!
 //! `WatchedBus` is a `SpiBus` over any `Programmer`, with no premise on the chip behind it: beside
 //! the chip it leads one in memory through the same frames, and answers a frame only where the two
