@@ -5,8 +5,11 @@ ghost use Rattle.chip_model.specs.Chip.{Chip, IsChip};
 ghost use Rattle.chip_model.specs.Cut.{Loses, PowersOn};
 ghost use Rattle.chip_model.specs.Frames.{Frame, newly_slow};
 
+use thiserror::Error;
+
 /// The power fell during the frame, or is off.
-#[derive(Clone, Copy, Debug, PartialEq, Eq)]
+#[derive(Clone, Copy, Debug, PartialEq, Eq, Error)]
+#[error("power was lost during the frame, or was off")]
 pub struct PowerLost;
 
 /// A serial bus with one chip behind it.

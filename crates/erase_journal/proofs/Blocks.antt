@@ -8,7 +8,7 @@ use Rattle.chip_model.proofs.PartLaws.{part-same}
 use Rattle.erase_journal.specs.Places.{Spoiled, Changed}
 use Rattle.nor_layout.specs.declared.journal.JournalId.{JournalId}
 use Rattle.nor_layout.specs.declared.journal.JournalId.TheVariants.{J0, J1, J2}
-use Rattle.erase_journal.specs.declared.phase.Phase.TheVariants.{Idle, Asked, Doomed, Closing}
+use Rattle.erase_journal.specs.declared.phase.ErasePhase.TheVariants.{Idle, Asked, Doomed, Closing}
 use Rattle.erase_journal.specs.Journals.{survey_of, first, second, open_entries, entries_for, is_open_entry, entry_block, AreJournalsSound}
 use Rattle.erase_journal.specs.Blocks.{blank, block, blocks_of, listed, SameChip, SameBlocks, WithErased}
 use Rattle.erase_journal.proofs.Counts.{how_many-below}

@@ -12,7 +12,7 @@ use Rattle.nor_driver.specs.State.{NorState, IsNorReady, IsFirst, AnswersWhatIsL
 use Rattle.nor_driver.proofs.CallLaws.{first-or-ready, first-cut}
 use Rattle.nor_driver.specs.declared.error.NorError.{NorError}
 use Rattle.nor_driver.specs.declared.error.NorError.TheVariants as errors
-use Rattle.erase_journal.specs.declared.phase.Phase.TheVariants.{Idle}
+use Rattle.erase_journal.specs.declared.phase.ErasePhase.TheVariants.{Idle}
 use Rattle.erase_journal.specs.Places.{Spoiled}
 use Rattle.erase_journal.specs.Journals.{IsSettled, IsHealthy}
 use Rattle.erase_journal.specs.Blocks.{block, OnlyBlock}

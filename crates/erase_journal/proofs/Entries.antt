@@ -5,7 +5,7 @@ use Rattle.std.proofs.lemmas.Bool.Decides.{nat_tests}
 use Rattle.std.specs.Prelude.{◌==◌}
 use Rattle.erase_journal.specs.Places.{Spoiled, Changed}
 use Rattle.nor_layout.specs.declared.journal.JournalId.TheVariants.{J0, J1, J2}
-use Rattle.erase_journal.specs.declared.phase.Phase.TheVariants.{Idle}
+use Rattle.erase_journal.specs.declared.phase.ErasePhase.TheVariants.{Idle}
 use Rattle.erase_journal.specs.Votes.{IsRested, Last}
 use Rattle.erase_journal.specs.Journals.{votes_at, unused, free_entries, open_entries, entries_for, entry_byte, entry_block, is_free_entry, is_open_entry, AreJournalsSound}
 use Rattle.erase_journal.proofs.Counts.{how_many-change}

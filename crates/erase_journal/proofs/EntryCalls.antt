@@ -11,7 +11,7 @@ use Rattle.chip_model.proofs.BitLaws.{mixed_one}
 use Rattle.chip_model.specs.Parts.{part}
 use Rattle.chip_model.proofs.PartLaws.{part-erased}
 use Rattle.nor_driver.specs.State.{Leaves, as_before, torn_in_it, changed_whole}
-use Rattle.erase_journal.specs.declared.phase.Phase.TheVariants.{Idle}
+use Rattle.erase_journal.specs.declared.phase.ErasePhase.TheVariants.{Idle}
 use Rattle.erase_journal.specs.Places.{how_many, Spoiled, Changed}
 use Rattle.erase_journal.specs.Journals.{entry_byte, entry_block, is_free_entry, is_open_entry, IsSettled, entries_for}
 use Rattle.erase_journal.specs.Blocks.{blank, SameBlocks, WithErased}

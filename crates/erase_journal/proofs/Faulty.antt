@@ -6,8 +6,8 @@ use Rattle.std.proofs.lemmas.Bool.Decides.{nat_tests}
 use Rattle.nor_layout.specs.declared.journal.JournalId.{JournalId}
 use Rattle.nor_layout.specs.declared.journal.JournalId.TheVariants.{J0, J1, J2}
 use Rattle.nor_layout.specs.Journals.{next}
-use Rattle.erase_journal.specs.declared.phase.Phase.{Phase}
-use Rattle.erase_journal.specs.declared.phase.Phase.TheVariants.{Idle, Asked, Doomed, Closing}
+use Rattle.erase_journal.specs.declared.phase.ErasePhase.{ErasePhase}
+use Rattle.erase_journal.specs.declared.phase.ErasePhase.TheVariants.{Idle, Asked, Doomed, Closing}
 use Rattle.erase_journal.specs.declared.survey.Survey.{Survey}
 use Rattle.erase_journal.specs.Journals.{first, second, IsInPhase, IsSoundSurvey}
 use Rattle.erase_journal.specs.Faults.{IsDoomed, IsBelieved, after_next, HasVote, SurveyHasNoFault, SoundSurveyHasNoFault}
@@ -187,7 +187,7 @@ doomed2-ordered s p = record {
   entry_alone = λ x b o v. omega arith;
 }
 
-phase-ordered : (p : Phase) (s : Survey) → IsInPhase p s → IsOrdered s
+phase-ordered : (p : ErasePhase) (s : Survey) → IsInPhase p s → IsOrdered s
 phase-ordered Idle s h = calm-ordered s (idle-calm s h)
 phase-ordered (Asked x) s h = calm-ordered s (asked-calm x s h)
 phase-ordered (Doomed J0) s h = doomed0-ordered s h
@@ -199,7 +199,7 @@ phase-ordered (Closing x) s h = calm-ordered s (closing-calm x s h)
 abbrev is_open : ℕ → Bool
 is_open n = nat_lt 0 n
 
-abbrev named : Survey → Phase
+abbrev named : Survey → ErasePhase
 named s =
     if is_open s.j1_for_0.opened && is_open s.j2_for_0.opened then Doomed J0 else
     if is_open s.j2_for_1.opened && is_open s.j0_for_1.opened then Doomed J1 else
@@ -212,7 +212,7 @@ named s =
     if is_open s.j1_for_2.opened then Closing J2 else
     Idle
 
-named-is : (p : Phase) (s : Survey) → IsInPhase p s → named s ≡ p
+named-is : (p : ErasePhase) (s : Survey) → IsInPhase p s → named s ≡ p
 named-is Idle s h = grind (arith, nat_tests)
 named-is (Asked J0) s h = grind (arith, nat_tests)
 named-is (Asked J1) s h = grind (arith, nat_tests)
@@ -224,7 +224,7 @@ named-is (Closing J0) s h = grind (arith, nat_tests)
 named-is (Closing J1) s h = grind (arith, nat_tests)
 named-is (Closing J2) s h = grind (arith, nat_tests)
 
-sound-faultless : (s : Survey) → (p : Phase) → IsSoundSurvey p s → SurveyHasNoFault s
+sound-faultless : (s : Survey) → (p : ErasePhase) → IsSoundSurvey p s → SurveyHasNoFault s
 sound-faultless s p h =
     let o = phase-ordered p s h.phase in
     record {
@@ -349,7 +349,7 @@ module _ (s : Survey) (h : IsOrdered s) (all : (x : JournalId) → IsBelieved s 
         ];
       }
 
-calm-phase : (s : Survey) → IsCalm s → (p : Phase) × IsInPhase p s
+calm-phase : (s : Survey) → IsCalm s → (p : ErasePhase) × IsInPhase p s
 calm-phase s c = let o = c.one in elim (cases_lt 0 s.j1_for_0.opened) [
   | inl a ↦ (Asked J0, ((omega arith, c.w10), (omega arith, c.w20), ((omega arith, c.w21), (omega arith, c.w01)), ((omega arith, c.w02), (omega arith, c.w12)), omega arith))
   | inr a ↦ elim (cases_lt 0 s.j2_for_1.opened) [
@@ -375,7 +375,7 @@ each-believed s b0 b1 b2 J0 = b0
 each-believed s b0 b1 b2 J1 = b1
 each-believed s b0 b1 b2 J2 = b2
 
-ordered-phase : (s : Survey) → IsOrdered s → (p : Phase) × IsInPhase p s
+ordered-phase : (s : Survey) → IsOrdered s → (p : ErasePhase) × IsInPhase p s
 ordered-phase s h = elim (doomed-or-not s J0) [
   | inl d ↦ (Doomed J0, doomed0-phase s h d)
   | inr b0 ↦ elim (doomed-or-not s J1) [
@@ -387,7 +387,7 @@ ordered-phase s h = elim (doomed-or-not s J0) [
   ]
 ]
 
-faultless-sound : (s : Survey) → SurveyHasNoFault s → (p : Phase) × IsSoundSurvey p s
+faultless-sound : (s : Survey) → SurveyHasNoFault s → (p : ErasePhase) × IsSoundSurvey p s
 faultless-sound s h =
     let o : IsOrdered s = record { one_doomed = h.one_doomed; first_votes = h.first_votes; second_votes = h.second_votes; one_named = h.one_named; one_entry = h.one_entry; entry_alone = h.entry_alone } in
     let (p, k) = ordered-phase s o in

@@ -4,11 +4,11 @@ use Rattle.std.specs.Prelude.{Result, Ok, Err, OnOk}
 use Rattle.std.specs.Result.{IsErrOf}
 use Rattle.std.proofs.lemmas.Bool.{cases_lt}
 use Rattle.chip_model.specs.Memory.{byte, and_at, TornAnd}
-use Rattle.nor_driver.specs.State.{NorState, IsNorReady, IsFirst, AnswersWhatIsLatched, Leaves}
+use Rattle.nor_driver.specs.State.{NorState, IsNorReady, AnswersWhatIsLatched, Leaves}
 use Rattle.nor_driver.proofs.CallLaws.{first-or-ready, first-cut}
 use Rattle.nor_driver.specs.declared.error.NorError.{NorError}
 use Rattle.nor_driver.specs.declared.error.NorError.TheVariants as errors
-use Rattle.erase_journal.specs.declared.phase.Phase.TheVariants.{Idle}
+use Rattle.erase_journal.specs.declared.phase.ErasePhase.TheVariants.{Idle}
 use Rattle.erase_journal.specs.Places.{Spoiled}
 use Rattle.erase_journal.specs.Journals.{IsSettled, IsHealthy}
 use Rattle.erase_journal.specs.Blocks.{OnlySuper}

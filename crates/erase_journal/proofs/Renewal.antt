@@ -6,8 +6,8 @@ use Rattle.nor_driver.specs.State.{Leaves}
 use Rattle.nor_layout.specs.declared.journal.JournalId.{JournalId}
 use Rattle.nor_layout.specs.declared.journal.JournalId.TheVariants.{J0, J1, J2}
 use Rattle.nor_layout.specs.Journals.{journal_at, first_at, second_at}
-use Rattle.erase_journal.specs.declared.phase.Phase.{Phase}
-use Rattle.erase_journal.specs.declared.phase.Phase.TheVariants.{Idle, Asked, Doomed, Closing}
+use Rattle.erase_journal.specs.declared.phase.ErasePhase.{ErasePhase}
+use Rattle.erase_journal.specs.declared.phase.ErasePhase.TheVariants.{Idle, Asked, Doomed, Closing}
 use Rattle.erase_journal.specs.Places.{Spoiled, Changed}
 use Rattle.erase_journal.specs.Votes.{once_erased}
 use Rattle.erase_journal.specs.Journals.{votes_at, unused, free_entries, open_entries, is_free_entry, is_open_entry, entry_byte, AreJournalsSound, IsHealthy}
@@ -31,7 +31,7 @@ same-blocks-on m m1 m2 a b = record {
   each = λ n from to. b.each n from (rw a.chip.same_length to) ∙ a.each n from to;
 }
 
-pub stands-as : (p : Phase) (m m' : List ℕ) → AreJournalsSound p m' → SameBlocks m m' → KeepsBlocks m m'
+pub stands-as : (p : ErasePhase) (m m' : List ℕ) → AreJournalsSound p m' → SameBlocks m m' → KeepsBlocks m m'
 stands-as p m m' h s = record { healthy = (p, h); blocks = s }
 
 pub stands-refl : (m : List ℕ) → IsHealthy m → KeepsBlocks m m

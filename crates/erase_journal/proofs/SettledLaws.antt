@@ -4,7 +4,7 @@ use Rattle.std.specs.Prelude.{Result, Ok, Err, OnOk, IfErr}
 use Rattle.nor_driver.specs.State.{NorState, IsNorReady, OnlyMemoryChanges, Succeeds, Refuses}
 use Rattle.nor_driver.specs.declared.error.NorError.{NorError}
 use Rattle.nor_driver.proofs.CallLaws.{kept-after, refuses-since}
-use Rattle.erase_journal.specs.declared.phase.Phase.TheVariants.{Idle}
+use Rattle.erase_journal.specs.declared.phase.ErasePhase.TheVariants.{Idle}
 use Rattle.erase_journal.specs.Journals.{IsHealthy, IsSettled}
 use Rattle.erase_journal.specs.Steps.{SucceedsSettled, EndsSettled}
 

@@ -6,8 +6,8 @@ use Rattle.nor_layout.specs.declared.journal.JournalId.TheVariants.{J0, J1, J2}
 use Rattle.nor_layout.specs.Journals.{next, journal_at, first_at, second_at}
 use Rattle.erase_journal.specs.declared.scan.VoteCounts.{VoteCounts}
 use Rattle.erase_journal.specs.declared.unused.Unused.{Unused}
-use Rattle.erase_journal.specs.declared.phase.Phase.{Phase}
-use Rattle.erase_journal.specs.declared.phase.Phase.TheVariants.{Idle, Asked, Doomed, Closing}
+use Rattle.erase_journal.specs.declared.phase.ErasePhase.{ErasePhase}
+use Rattle.erase_journal.specs.declared.phase.ErasePhase.TheVariants.{Idle, Asked, Doomed, Closing}
 use Rattle.erase_journal.specs.Votes.{once_erased}
 use Rattle.erase_journal.specs.Journals.{survey_of, first, second, unused, free_entries, open_entries, HoldsVotes, settled, AreJournalsSound}
 use Rattle.erase_journal.specs.Steps.{SameNumbers, IsStep, IsNext, MayErase}
@@ -22,7 +22,7 @@ pub record IsBlank (x : JournalId) (m : List ℕ) : Type 0 where
   pub free : x ≡ J0 → free_entries m ≡ 512
   pub none : x ≡ J0 → open_entries m ≡ 0
 
-pub steps-on : (u : Unused) (p p' : Phase) (m m' : List ℕ) → IsStep u p m → IsNext p m p' m' → IsStep u p' m'
+pub steps-on : (u : Unused) (p p' : ErasePhase) (m m' : List ℕ) → IsStep u p m → IsNext p m p' m' → IsStep u p' m'
 steps-on u p p' m m' a b = record {
   sound = b.sound;
   numbers = record {

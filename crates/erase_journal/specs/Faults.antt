@@ -4,7 +4,7 @@ use Rattle.std.specs.Prelude.{◌≡◌, ◌⊎◌, ◌↔◌, ◌≤◌}
 use Rattle.nor_layout.specs.declared.journal.JournalId.{JournalId}
 use Rattle.nor_layout.specs.declared.journal.JournalId.TheVariants.{J0}
 use Rattle.nor_layout.specs.Journals.{next}
-use Rattle.erase_journal.specs.declared.phase.Phase.{Phase}
+use Rattle.erase_journal.specs.declared.phase.ErasePhase.{ErasePhase}
 use Rattle.erase_journal.specs.declared.survey.Survey.{Survey}
 use Rattle.erase_journal.specs.Votes.{Last}
 use Rattle.erase_journal.specs.Journals.{first, second, unused_of, settled, IsInPhase}
@@ -41,8 +41,8 @@ pub record SurveyHasNoFault (s : Survey) : Type 0 where
   pub one_entry : IsBelieved s J0 → s.opened ≤ 1
   pub entry_alone : (x : JournalId) → IsBelieved s J0 → 1 ≤ s.opened → HasVote s x → ⊥
   -- the votes last, once the erase that goes on is done
-  pub lasts : (p : Phase) → IsInPhase p s → Last (settled p (unused_of s))
+  pub lasts : (p : ErasePhase) → IsInPhase p s → Last (settled p (unused_of s))
 
 -- the journals are sound in one of the phases exactly where they have no fault
 abbrev pub SoundSurveyHasNoFault : Type 0
-SoundSurveyHasNoFault = (s : Survey) → ((p : Phase) × IsSoundSurvey p s) ↔ SurveyHasNoFault s
+SoundSurveyHasNoFault = (s : Survey) → ((p : ErasePhase) × IsSoundSurvey p s) ↔ SurveyHasNoFault s

@@ -9,8 +9,8 @@ use Rattle.nor_layout.specs.Journals.{region_len, next, first_at, second_at}
 use Rattle.nor_layout.specs.declared.vote.Vote.TheVariants.{Unused, Open, Closed}
 use Rattle.nor_layout.specs.Votes.{byte_of}
 use Rattle.nor_layout.specs.Entries.{entry_count, entry_at, block_in, is_open}
-use Rattle.erase_journal.specs.declared.phase.Phase.{Phase}
-use Rattle.erase_journal.specs.declared.phase.Phase.TheVariants.{Idle, Asked, Doomed, Closing}
+use Rattle.erase_journal.specs.declared.phase.ErasePhase.{ErasePhase}
+use Rattle.erase_journal.specs.declared.phase.ErasePhase.TheVariants.{Idle, Asked, Doomed, Closing}
 use Rattle.erase_journal.specs.declared.scan.VoteCounts.{VoteCounts}
 use Rattle.erase_journal.specs.declared.survey.Survey.{Survey}
 use Rattle.erase_journal.specs.declared.unused.Unused as numbers
@@ -106,7 +106,7 @@ HasNoOpenVote s x = HoldsVotes (first s x) 0 × HoldsVotes (second s x) 0
 -- The journals that are believed hold nothing but what the phase says. A journal is believed unless
 -- both others hold an open vote for its erase; of the votes and entries of a doomed one nothing is
 -- said.
-abbrev pub IsInPhase : Phase → Survey → Type 0
+abbrev pub IsInPhase : ErasePhase → Survey → Type 0
 IsInPhase Idle s = HasNoOpenVote s J0 × HasNoOpenVote s J1 × HasNoOpenVote s J2 × (s.opened ≤ 1)
 IsInPhase (Asked x) s = HoldsVotes (first s x) 1 × HoldsVotes (second s x) 0
     × HasNoOpenVote s (next x) × HasNoOpenVote s (next (next x)) × (s.opened ≡ 0)
@@ -121,23 +121,23 @@ IsInPhase (Closing x) s = HoldsVotes (first s x) 0 × HoldsVotes (second s x) 1
 
 -- The numbers as they stand once the erase that goes on is done: a journal that is asked for has
 -- one vote still to be spent.
-abbrev pub settled : Phase → numbers.Unused → numbers.Unused
+abbrev pub settled : ErasePhase → numbers.Unused → numbers.Unused
 settled Idle u = u
 settled (Asked x) u = renewed x (second_spent x u)
 settled (Doomed x) u = renewed x u
 settled (Closing x) u = u
 
 -- The journals are in this phase, and their votes last.
-pub record IsSoundSurvey (p : Phase) (s : Survey) : Type 0 where
+pub record IsSoundSurvey (p : ErasePhase) (s : Survey) : Type 0 where
   pub phase : IsInPhase p s
   pub lasts : Last (settled p (unused_of s))
 
-abbrev pub AreJournalsSound : Phase → List ℕ → Type 0
+abbrev pub AreJournalsSound : ErasePhase → List ℕ → Type 0
 AreJournalsSound p m = IsSoundSurvey p (survey_of m)
 
 -- A healthy memory: the journals are sound in one of the phases. Else they are corrupt.
 abbrev pub IsHealthy : List ℕ → Type 0
-IsHealthy m = (p : Phase) × AreJournalsSound p m
+IsHealthy m = (p : ErasePhase) × AreJournalsSound p m
 
 -- No erase goes on, neither of a journal nor of a data block.
 pub record IsSettled (m : List ℕ) : Type 0 where

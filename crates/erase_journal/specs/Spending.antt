@@ -4,7 +4,7 @@ use Rattle.std.specs.Prelude.{◌≡◌, ◌≢◌, ℕ, ◌-◌, ◌<◌, false
 use Rattle.nor_layout.specs.declared.journal.JournalId.{JournalId}
 use Rattle.nor_layout.specs.declared.journal.JournalId.TheVariants.{J0, J1, J2}
 use Rattle.nor_layout.specs.Entries.{entry_count}
-use Rattle.erase_journal.specs.declared.phase.Phase.{Phase}
+use Rattle.erase_journal.specs.declared.phase.ErasePhase.{ErasePhase}
 use Rattle.erase_journal.specs.declared.unused.Unused.{Unused}
 use Rattle.erase_journal.specs.Votes.{IsLowestTired, IsRested, once_erased}
 use Rattle.erase_journal.specs.Journals.{AreJournalsSound, settled, unused, is_free_entry}
@@ -30,7 +30,7 @@ pub record Spends (u v : Unused) : Type 0 where
 
 -- A recovery: the erase of a journal that went on in m is ended in m', and nothing else is spent.
 pub record Continues (m m' : List ℕ) : Type 0 where
-  pub phase : Phase
+  pub phase : ErasePhase
   pub sound : AreJournalsSound phase m
   pub numbers : SameNumbers (settled phase (unused m)) (unused m')
 

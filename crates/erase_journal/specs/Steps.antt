@@ -7,8 +7,8 @@ use Rattle.nor_layout.specs.Journals.{region_len}
 use Rattle.nor_layout.specs.Entries.{entry_count, entry_at}
 use Rattle.nor_driver.specs.State.{NorState, IsNorReady, OnlyMemoryChanges, Refuses}
 use Rattle.nor_driver.specs.declared.error.NorError.{NorError}
-use Rattle.erase_journal.specs.declared.phase.Phase.{Phase}
-use Rattle.erase_journal.specs.declared.phase.Phase.TheVariants.{Idle}
+use Rattle.erase_journal.specs.declared.phase.ErasePhase.{ErasePhase}
+use Rattle.erase_journal.specs.declared.phase.ErasePhase.TheVariants.{Idle}
 use Rattle.erase_journal.specs.declared.unused.Unused.{Unused}
 use Rattle.erase_journal.specs.Places.{Changed, Spoiled}
 use Rattle.erase_journal.specs.Votes.{IsLowestTired, IsRested}
@@ -66,12 +66,12 @@ pub record SameNumbers (u v : Unused) : Type 0 where
   pub free : v.free ≡ u.free
 
 -- a memory that is sound in this phase and whose numbers, once settled, are these
-pub record IsStep (u : Unused) (p : Phase) (m : List ℕ) : Type 0 where
+pub record IsStep (u : Unused) (p : ErasePhase) (m : List ℕ) : Type 0 where
   pub sound : AreJournalsSound p m
   pub numbers : SameNumbers u (settled p (unused m))
 
 -- the next step of an erase of a journal: the settled numbers stay
-abbrev pub IsNext : Phase → List ℕ → Phase → List ℕ → Type 0
+abbrev pub IsNext : ErasePhase → List ℕ → ErasePhase → List ℕ → Type 0
 IsNext p m p' m' = IsStep (settled p (unused m)) p' m'
 
 -- no erase goes on, and no journal is tired

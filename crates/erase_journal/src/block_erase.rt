@@ -3,16 +3,18 @@
 ghost use Rattle.std.specs.Prelude.{◌⊎◌, ◌≡◌, ◌+◌, ◌*◌, ◌/◌, ◌<◌, ◌≤◌, ◌^◌, ℕ, true, false, length};
 ghost use Rattle.std.specs.Prelude.{OnOk, IfOk, IfErr};
 ghost use Rattle.std.specs.Result.{IsErrOf};
+ghost use Rattle.chip_model.specs.Geometry.{block_count};
 ghost use Rattle.nor_driver.specs.State.{IsNorReady, OnlyMemoryChanges, Refuses, Ends};
-ghost use Rattle.erase_journal.specs.Journals.{IsHealthy, is_free_entry, unused};
+ghost use Rattle.erase_journal.specs.Journals.{IsHealthy, IsSettled, is_free_entry, unused};
 ghost use Rattle.erase_journal.specs.Blocks.{SameBlocks, WithErased};
 ghost use Rattle.erase_journal.specs.Scans.{IsFreeAnswer, IsOpenAnswer};
 ghost use Rattle.erase_journal.specs.Steps.{IsRestful, IsTaken, IsOpened, EndsSettled};
 ghost use Rattle.erase_journal.specs.Steps.{SameNumbers, KeepsBlocks, EraseInterrupted};
-ghost use Rattle.erase_journal.specs.Spending.{IsUsed, KeepsUse, once_used};
+ghost use Rattle.erase_journal.specs.Spending.{IsUsed, KeepsUse, Spends, once_used};
 ghost use Rattle.erase_journal.specs.Known.{IsKnown};
 
 use crate::known::{Known, once_used};
+use crate::maintain::rest;
 use crate::scan::{OpenEntry, lowest_free, lowest_open};
 use nor_driver::{Nor, NorError};
 use nor_layout::{
@@ -58,7 +60,7 @@ fn lowest_entry<N: Nor>(nor: &mut N, known: Known) -> Result<u16, NorError>
 }
 
 /// The lowest open entry.
-pub fn find_open<N: Nor>(nor: &mut N) -> Result<Option<OpenEntry>, NorError>
+pub(crate) fn find_open<N: Nor>(nor: &mut N) -> Result<Option<OpenEntry>, NorError>
     requires { JOURNALS_END ≤ length (N.state nor.old).memory }
     ensures found { IfOk result (λ found. IsOpenAnswer (N.state nor.old).memory found) }
     ensures same { (N.state nor.new).memory ≡ (N.state nor.old).memory }
@@ -114,7 +116,7 @@ fn open_entry<N: Nor>(nor: &mut N, known: Known, block: u16) -> Result<u16, NorE
 }
 
 /// Erases the block of an open entry, and closes the entry.
-pub fn finish_entry<N: Nor>(nor: &mut N, entry: u16, block: u16) -> Result<(), NorError>
+pub(crate) fn finish_entry<N: Nor>(nor: &mut N, entry: u16, block: u16) -> Result<(), NorError>
     requires size { JOURNALS_END ≤ length (N.state nor.old).memory }
     requires opened { IsOpened entry block (N.state nor.old).memory }
     requires data { 4 ≤ block }
@@ -132,7 +134,7 @@ pub fn finish_entry<N: Nor>(nor: &mut N, entry: u16, block: u16) -> Result<(), N
 }
 
 /// Erases a dead block where no journal is tired.
-pub fn erase_with_entry<N: Nor>(nor: &mut N, known: &mut Known, block: u16) -> Result<(), NorError>
+fn erase_with_entry<N: Nor>(nor: &mut N, known: &mut Known, block: u16) -> Result<(), NorError>
     requires size { JOURNALS_END ≤ length (N.state nor.old).memory }
     requires restful { IsNorReady (N.state nor.old) → IsRestful (N.state nor.old).memory }
     requires known { IsNorReady (N.state nor.old) → IsKnown known.old (N.state nor.old).memory }
@@ -152,5 +154,30 @@ pub fn erase_with_entry<N: Nor>(nor: &mut N, known: &mut Known, block: u16) -> R
     let entry = open_entry(nor, *known, block)?;
     finish_entry(nor, entry, block)?;
     *known = once_used(*known, entry);
+    Ok(())
+}
+
+/// Erases a data block in one step: where it is cut, the block is as before or erased.
+pub(crate) fn erase_block<N: Nor>(
+    nor: &mut N,
+    known: &mut Known,
+    block: u16,
+) -> Result<(), NorError>
+    requires settled { IsNorReady (N.state nor.old) → IsSettled (N.state nor.old).memory }
+    requires known { IsNorReady (N.state nor.old) → IsKnown known.old (N.state nor.old).memory }
+    requires data { 4 ≤ block }
+    requires number { block < block_count (length (N.state nor.old).memory) }
+    ensures erased { OnOk result (WithErased block (N.state nor.old).memory
+        (N.state nor.new).memory) }
+    ensures known { OnOk result (IsKnown known.new (N.state nor.new).memory) }
+    ensures spends { OnOk result (Spends (unused (N.state nor.old).memory)
+        (unused (N.state nor.new).memory)) }
+    ensures cut { IsErrOf result NorError.Cut → IsHealthy (N.state nor.old).memory
+        → EraseInterrupted block (N.state nor.old).memory (N.state nor.new).memory }
+    ensures size { length (N.state nor.new).memory ≡ length (N.state nor.old).memory }
+    ensures ends { EndsSettled result (N.state nor.old) (N.state nor.new) }
+{
+    rest(nor, known)?;
+    erase_with_entry(nor, known, block)?;
     Ok(())
 }

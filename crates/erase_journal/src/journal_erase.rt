@@ -8,17 +8,17 @@ ghost use Rattle.erase_journal.specs.Blocks.{SameBlocks};
 ghost use Rattle.erase_journal.specs.Steps.{MayErase, IsStep, IsNext, KeepsBlocks};
 ghost use Rattle.nor_driver.specs.State.{Ends};
 
-use crate::phase::Phase;
+use crate::phase::ErasePhase;
 use crate::votes::{close_vote, open_vote};
 use nor_driver::{Nor, NorError};
 use nor_layout::{JOURNALS_END, JournalId};
 
 /// Opens both votes for the erase of a journal.
-pub fn doom<N: Nor>(nor: &mut N, journal: JournalId) -> Result<(), NorError>
+pub(crate) fn doom<N: Nor>(nor: &mut N, journal: JournalId) -> Result<(), NorError>
     requires size { JOURNALS_END ≤ length (N.state nor.old).memory }
     requires may { MayErase journal (N.state nor.old).memory }
     ensures ok { OnOk result (IsStep (once_erased journal (unused (N.state nor.old).memory))
-        (Phase.Doomed journal) (N.state nor.new).memory) }
+        (ErasePhase.Doomed journal) (N.state nor.new).memory) }
     ensures blocks { OnOk result (SameBlocks (N.state nor.old).memory (N.state nor.new).memory) }
     ensures cut { IsErrOf result NorError.Cut
         → KeepsBlocks (N.state nor.old).memory (N.state nor.new).memory }
@@ -33,11 +33,11 @@ pub fn doom<N: Nor>(nor: &mut N, journal: JournalId) -> Result<(), NorError>
 }
 
 /// Erases a journal for which both others vote, and closes the votes.
-pub fn renew<N: Nor>(nor: &mut N, journal: JournalId) -> Result<(), NorError>
+pub(crate) fn renew<N: Nor>(nor: &mut N, journal: JournalId) -> Result<(), NorError>
     requires size { JOURNALS_END ≤ length (N.state nor.old).memory }
-    requires doomed { AreJournalsSound (Phase.Doomed journal) (N.state nor.old).memory }
-    ensures ok { OnOk result (IsNext (Phase.Doomed journal) (N.state nor.old).memory Phase.Idle
-        (N.state nor.new).memory) }
+    requires doomed { AreJournalsSound (ErasePhase.Doomed journal) (N.state nor.old).memory }
+    ensures ok { OnOk result (IsNext (ErasePhase.Doomed journal) (N.state nor.old).memory
+        ErasePhase.Idle (N.state nor.new).memory) }
     ensures none { OnOk result (open_entries (N.state nor.new).memory ≡ 0) }
     ensures blocks { OnOk result (SameBlocks (N.state nor.old).memory (N.state nor.new).memory) }
     ensures cut { IsErrOf result NorError.Cut

@@ -16,7 +16,7 @@ pub struct Known {
 }
 
 /// What is known once the lowest free entry, from 0 to 511, is used.
-pub fn once_used(known: Known, entry: u16) -> Known
+pub(crate) fn once_used(known: Known, entry: u16) -> Known
     ensures unused { result.unused ≡ once_used known.unused }
     ensures packed { IsTrue result.packed ↔ (entry + known.unused.free ≡ ENTRIES) }
 {

@@ -17,7 +17,6 @@
 
 #![tactic(auto)]
 
-mod block;
 mod block_erase;
 mod error;
 mod journal;

@@ -41,7 +41,7 @@ fn maintain<N: Nor>(nor: &mut N) -> Result<Unused, NorError>
 
 /// Maintenance where the numbers say that a journal is tired. Where none is, nothing is asked of
 /// the memory.
-pub fn rest<N: Nor>(nor: &mut N, known: &mut Known) -> Result<(), NorError>
+pub(crate) fn rest<N: Nor>(nor: &mut N, known: &mut Known) -> Result<(), NorError>
     requires size { JOURNALS_END ≤ length (N.state nor.old).memory }
     requires settled { IsNorReady (N.state nor.old) → IsSettled (N.state nor.old).memory }
     requires known { IsNorReady (N.state nor.old) → IsKnown known.old (N.state nor.old).memory }

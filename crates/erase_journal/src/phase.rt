@@ -6,7 +6,7 @@ use nor_layout::JournalId;
 ///
 /// Its steps are: one vote, two votes, the erase, no vote of the next journal, no vote at all.
 #[derive(Clone, Copy, Debug, PartialEq, Eq, Drop)]
-pub enum Phase {
+pub enum ErasePhase {
     /// No erase of a journal goes on. An entry may be open.
     Idle,
     /// Only the next journal votes for the erase of this one.

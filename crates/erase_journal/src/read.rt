@@ -47,7 +47,7 @@ fn read_entries<N: Nor>(nor: &mut N) -> Result<EntryCounts, NorError>
 }
 
 /// All numbers of the journals.
-pub fn read_survey<N: Nor>(nor: &mut N) -> Result<Survey, NorError>
+pub(crate) fn read_survey<N: Nor>(nor: &mut N) -> Result<Survey, NorError>
     requires { JOURNALS_END ≤ length (N.state nor.old).memory }
     ensures survey { IfOk result (λ survey. survey ≡ survey_of (N.state nor.old).memory) }
     ensures same { (N.state nor.new).memory ≡ (N.state nor.old).memory }

@@ -14,7 +14,7 @@ ghost use Rattle.nor_driver.specs.State.{Ends};
 
 use crate::block_erase::{find_open, finish_entry};
 use crate::journal_erase::renew;
-use crate::phase::Phase;
+use crate::phase::ErasePhase;
 use crate::read::read_survey;
 use crate::survey::{decide, once_settled};
 use crate::unused::Unused;
@@ -25,9 +25,9 @@ use nor_layout::{JOURNALS_END, JournalId};
 /// Goes on with an erase for which only the next journal votes.
 fn resume_asked<N: Nor>(nor: &mut N, journal: JournalId) -> Result<(), NorError>
     requires size { JOURNALS_END ≤ length (N.state nor.old).memory }
-    requires asked { AreJournalsSound (Phase.Asked journal) (N.state nor.old).memory }
+    requires asked { AreJournalsSound (ErasePhase.Asked journal) (N.state nor.old).memory }
     ensures numbers { OnOk result (SameNumbers
-        (settled (Phase.Asked journal) (unused (N.state nor.old).memory))
+        (settled (ErasePhase.Asked journal) (unused (N.state nor.old).memory))
         (unused (N.state nor.new).memory)) }
     ensures blocks { OnOk result (SameBlocks (N.state nor.old).memory (N.state nor.new).memory) }
     ensures cut { IsErrOf result NorError.Cut
@@ -43,9 +43,9 @@ fn resume_asked<N: Nor>(nor: &mut N, journal: JournalId) -> Result<(), NorError>
 /// Erases a journal for which both others vote again, and closes the votes.
 fn resume_doomed<N: Nor>(nor: &mut N, journal: JournalId) -> Result<(), NorError>
     requires size { JOURNALS_END ≤ length (N.state nor.old).memory }
-    requires doomed { AreJournalsSound (Phase.Doomed journal) (N.state nor.old).memory }
+    requires doomed { AreJournalsSound (ErasePhase.Doomed journal) (N.state nor.old).memory }
     ensures numbers { OnOk result (SameNumbers
-        (settled (Phase.Doomed journal) (unused (N.state nor.old).memory))
+        (settled (ErasePhase.Doomed journal) (unused (N.state nor.old).memory))
         (unused (N.state nor.new).memory)) }
     ensures blocks { OnOk result (SameBlocks (N.state nor.old).memory (N.state nor.new).memory) }
     ensures cut { IsErrOf result NorError.Cut
@@ -60,9 +60,9 @@ fn resume_doomed<N: Nor>(nor: &mut N, journal: JournalId) -> Result<(), NorError
 /// Closes the last vote of an erase that is done.
 fn resume_closing<N: Nor>(nor: &mut N, journal: JournalId) -> Result<(), NorError>
     requires size { JOURNALS_END ≤ length (N.state nor.old).memory }
-    requires closing { AreJournalsSound (Phase.Closing journal) (N.state nor.old).memory }
+    requires closing { AreJournalsSound (ErasePhase.Closing journal) (N.state nor.old).memory }
     ensures numbers { OnOk result (SameNumbers
-        (settled (Phase.Closing journal) (unused (N.state nor.old).memory))
+        (settled (ErasePhase.Closing journal) (unused (N.state nor.old).memory))
         (unused (N.state nor.new).memory)) }
     ensures blocks { OnOk result (SameBlocks (N.state nor.old).memory (N.state nor.new).memory) }
     ensures cut { IsErrOf result NorError.Cut
@@ -77,9 +77,10 @@ fn resume_closing<N: Nor>(nor: &mut N, journal: JournalId) -> Result<(), NorErro
 /// Erases the block of the open entry again, if there is one, and closes the entry.
 fn resume_idle<N: Nor>(nor: &mut N) -> Result<(), NorError>
     requires size { JOURNALS_END ≤ length (N.state nor.old).memory }
-    requires idle { AreJournalsSound Phase.Idle (N.state nor.old).memory }
+    requires idle { AreJournalsSound ErasePhase.Idle (N.state nor.old).memory }
     ensures numbers { OnOk result (SameNumbers
-        (settled Phase.Idle (unused (N.state nor.old).memory)) (unused (N.state nor.new).memory)) }
+        (settled ErasePhase.Idle (unused (N.state nor.old).memory))
+        (unused (N.state nor.new).memory)) }
     ensures blocks { OnOk result (SameBlocks (N.state nor.old).memory (N.state nor.new).memory) }
     ensures cut { IsErrOf result NorError.Cut
         → KeepsBlocks (N.state nor.old).memory (N.state nor.new).memory }
@@ -94,7 +95,7 @@ fn resume_idle<N: Nor>(nor: &mut N) -> Result<(), NorError>
 }
 
 /// Goes on with what a loss of power interrupted in this phase.
-fn resume<N: Nor>(nor: &mut N, phase: Phase) -> Result<(), NorError>
+fn resume<N: Nor>(nor: &mut N, phase: ErasePhase) -> Result<(), NorError>
     requires size { JOURNALS_END ≤ length (N.state nor.old).memory }
     requires sound { AreJournalsSound phase (N.state nor.old).memory }
     ensures numbers { OnOk result (SameNumbers (settled phase (unused (N.state nor.old).memory))
@@ -106,16 +107,16 @@ fn resume<N: Nor>(nor: &mut N, phase: Phase) -> Result<(), NorError>
     ensures ends { EndsSettled result (N.state nor.old) (N.state nor.new) }
 {
     match phase {
-        Phase::Idle => resume_idle(nor),
-        Phase::Asked(journal) => resume_asked(nor, journal),
-        Phase::Doomed(journal) => resume_doomed(nor, journal),
-        Phase::Closing(journal) => resume_closing(nor, journal),
+        ErasePhase::Idle => resume_idle(nor),
+        ErasePhase::Asked(journal) => resume_asked(nor, journal),
+        ErasePhase::Doomed(journal) => resume_doomed(nor, journal),
+        ErasePhase::Closing(journal) => resume_closing(nor, journal),
     }
 }
 
 /// Reads the journals and settles them, and answers their numbers then. `None` where they are
 /// corrupt, and then nothing has changed.
-pub fn settle<N: Nor>(nor: &mut N) -> Result<Option<Unused>, NorError>
+pub(crate) fn settle<N: Nor>(nor: &mut N) -> Result<Option<Unused>, NorError>
     requires size { JOURNALS_END ≤ length (N.state nor.old).memory }
     ensures healthy { IfOk result (λ found. IsSome found ↔ IsHealthy (N.state nor.old).memory) }
     ensures settled { IfOk result (λ found.
@@ -144,7 +145,7 @@ pub fn settle<N: Nor>(nor: &mut N) -> Result<Option<Unused>, NorError>
 
 /// Turns the power off and on again, reads the journals and settles them, and answers their numbers
 /// then. `None` where they are corrupt.
-pub fn restart<N: Nor>(nor: &mut N) -> Result<Option<Unused>, NorError>
+pub(crate) fn restart<N: Nor>(nor: &mut N) -> Result<Option<Unused>, NorError>
     requires size { JOURNALS_END ≤ length (N.state nor.old).memory }
     ensures sound { IfOk result (λ found.
         IfSome found (λ u. Restored (N.state nor.old) (N.state nor.new))) }

@@ -25,7 +25,7 @@ pub struct OpenEntry {
 
 /// Counts the votes of a region.
 #[tactic(auto, using(crate::proofs::Scans::scan_steps))]
-pub fn count_votes(bytes: &[u8]) -> VoteCounts
+pub(crate) fn count_votes(bytes: &[u8]) -> VoteCounts
     requires { length bytes.now ≤ REGION_LEN }
     ensures unused { result.unused ≡ count_equal bytes.now 255 (length bytes.now) }
     ensures opened { result.opened ≡ count_equal bytes.now 254 (length bytes.now) }
@@ -51,7 +51,7 @@ pub fn count_votes(bytes: &[u8]) -> VoteCounts
 
 /// The lowest place of a byte.
 #[tactic(auto, using(crate::proofs::Scans::scan_steps))]
-pub fn lowest(bytes: &[u8], value: u8) -> Option<u32>
+pub(crate) fn lowest(bytes: &[u8], value: u8) -> Option<u32>
     requires { length bytes.now ≤ REGION_LEN }
     ensures found { MatchOption result (count_equal bytes.now value (length bytes.now) ≡ 0)
         (λ at. (at < length bytes.now) × (slice_index bytes.now at ≡ value)) }
@@ -69,7 +69,7 @@ pub fn lowest(bytes: &[u8], value: u8) -> Option<u32>
 
 /// The lowest free entry of a buffer.
 #[tactic(auto, using(crate::proofs::Scans::scan_steps))]
-pub fn lowest_free(bytes: &[u8]) -> Option<u16>
+pub(crate) fn lowest_free(bytes: &[u8]) -> Option<u16>
     requires { length bytes.now ≡ ENTRIES_LEN }
     ensures found { MatchOption result (free_in bytes.now ENTRIES ≡ 0)
         (λ i. (i < ENTRIES) × (is_free_in bytes.now i ≡ true)) }
@@ -90,7 +90,7 @@ pub fn lowest_free(bytes: &[u8]) -> Option<u16>
 
 /// How many entries of a buffer are free.
 #[tactic(auto, using(crate::proofs::Scans::scan_steps))]
-pub fn count_free(bytes: &[u8]) -> u16
+pub(crate) fn count_free(bytes: &[u8]) -> u16
     requires { length bytes.now ≡ ENTRIES_LEN }
     ensures { result ≡ free_in bytes.now ENTRIES }
 {
@@ -132,7 +132,7 @@ fn open_block(bytes: &[u8], blocks: u16, i: u16) -> Option<u16>
 
 /// The lowest open entry of a buffer, on a chip of so many blocks.
 #[tactic(auto, using(crate::proofs::Scans::scan_steps))]
-pub fn lowest_open(bytes: &[u8], blocks: u16) -> Option<OpenEntry>
+pub(crate) fn lowest_open(bytes: &[u8], blocks: u16) -> Option<OpenEntry>
     requires { length bytes.now ≡ ENTRIES_LEN }
     ensures found { MatchOption result (open_in bytes.now blocks ENTRIES ≡ 0)
         (λ o. (o.entry < ENTRIES) × (is_open_in bytes.now blocks o.entry ≡ true)
@@ -149,7 +149,7 @@ pub fn lowest_open(bytes: &[u8], blocks: u16) -> Option<OpenEntry>
 
 /// How many entries of a buffer are open, on a chip of so many blocks.
 #[tactic(auto, using(crate::proofs::Scans::scan_steps))]
-pub fn count_open(bytes: &[u8], blocks: u16) -> u16
+pub(crate) fn count_open(bytes: &[u8], blocks: u16) -> u16
     requires { length bytes.now ≡ ENTRIES_LEN }
     ensures { result ≡ open_in bytes.now blocks ENTRIES }
 {

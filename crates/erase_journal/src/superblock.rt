@@ -14,7 +14,7 @@ use nor_driver::{Nor, NorError};
 use nor_layout::{MIXED, MIXED_PLACE, SUPER_LEN};
 
 /// Reads the first bytes of the superblock.
-pub fn read_superblock<N: Nor>(nor: &mut N, into: &mut [u8]) -> Result<(), NorError>
+pub(crate) fn read_superblock<N: Nor>(nor: &mut N, into: &mut [u8]) -> Result<(), NorError>
     requires settled { IsNorReady (N.state nor.old) → IsSettled (N.state nor.old).memory }
     requires room { length into.old ≡ SUPER_LEN }
     ensures ok { OnOk result (into.new ≡ slice_range (N.state nor.old).memory 0 SUPER_LEN) }
@@ -27,7 +27,7 @@ pub fn read_superblock<N: Nor>(nor: &mut N, into: &mut [u8]) -> Result<(), NorEr
 }
 
 /// Programs byte 15 of the superblock: one bit changes, so it is old or new where it is cut.
-pub fn mark_superblock<N: Nor>(nor: &mut N) -> Result<(), NorError>
+pub(crate) fn mark_superblock<N: Nor>(nor: &mut N) -> Result<(), NorError>
     requires settled { IsNorReady (N.state nor.old) → IsSettled (N.state nor.old).memory }
     ensures ok { OnOk result (byte (N.state nor.old).memory MIXED_PLACE ≡ 255
         → byte (N.state nor.new).memory MIXED_PLACE ≡ MIXED) }

@@ -2,11 +2,11 @@
 
 ghost use Rattle.std.specs.Prelude.{◌≡◌, ◌↔◌, ◌≤◌, IsTrue, MatchOption};
 ghost use Rattle.nor_layout.specs.Journals.{next};
-ghost use Rattle.erase_journal.specs.declared.phase.Phase.{Phase};
+ghost use Rattle.erase_journal.specs.declared.phase.ErasePhase.{ErasePhase};
 ghost use Rattle.erase_journal.specs.Journals.{HoldsVotes, HasNoOpenVote, IsInPhase, IsSoundSurvey};
 ghost use Rattle.erase_journal.specs.Journals.{unused_of, settled, first, second};
 
-use crate::phase::Phase;
+use crate::phase::ErasePhase;
 use crate::scan::VoteCounts;
 use crate::unused::{Unused, lasts, once_renewed, once_second_spent};
 use nor_layout::JournalId;
@@ -27,7 +27,7 @@ pub struct Survey {
 
 impl Survey {
     /// The unused votes, and the free entries.
-    pub fn unused(&self) -> Unused
+    pub(crate) fn unused(&self) -> Unused
         ensures { result ≡ unused_of self.now }
     {
         Unused {
@@ -79,7 +79,7 @@ fn is_quiet(survey: Survey, journal: JournalId) -> bool
 }
 
 fn is_idle(survey: Survey) -> bool
-    ensures { IsTrue result ↔ IsInPhase Phase.Idle survey }
+    ensures { IsTrue result ↔ IsInPhase ErasePhase.Idle survey }
 {
     is_quiet(survey, JournalId::J0)
         && is_quiet(survey, JournalId::J1)
@@ -101,7 +101,7 @@ fn are_others_quiet(survey: Survey, journal: JournalId) -> bool
 }
 
 fn is_asked(survey: Survey, journal: JournalId) -> bool
-    ensures { IsTrue result ↔ IsInPhase (Phase.Asked journal) survey }
+    ensures { IsTrue result ↔ IsInPhase (ErasePhase.Asked journal) survey }
 {
     holds(survey.first(journal), 1)
         && holds(survey.second(journal), 0)
@@ -109,7 +109,7 @@ fn is_asked(survey: Survey, journal: JournalId) -> bool
 }
 
 fn is_doomed(survey: Survey, journal: JournalId) -> bool
-    ensures { IsTrue result ↔ IsInPhase (Phase.Doomed journal) survey }
+    ensures { IsTrue result ↔ IsInPhase (ErasePhase.Doomed journal) survey }
 {
     let both = holds(survey.first(journal), 1) && holds(survey.second(journal), 1);
     match journal {
@@ -126,7 +126,7 @@ fn is_doomed(survey: Survey, journal: JournalId) -> bool
 }
 
 fn is_closing(survey: Survey, journal: JournalId) -> bool
-    ensures { IsTrue result ↔ IsInPhase (Phase.Closing journal) survey }
+    ensures { IsTrue result ↔ IsInPhase (ErasePhase.Closing journal) survey }
 {
     holds(survey.first(journal), 0)
         && holds(survey.second(journal), 1)
@@ -134,58 +134,58 @@ fn is_closing(survey: Survey, journal: JournalId) -> bool
 }
 
 /// Whether the journals are sound in this phase.
-fn fits(survey: Survey, phase: Phase) -> bool
+fn fits(survey: Survey, phase: ErasePhase) -> bool
     ensures { IsTrue result ↔ IsSoundSurvey phase survey }
 {
     let unused = survey.unused();
     match phase {
-        Phase::Idle => is_idle(survey) && lasts(unused),
-        Phase::Asked(journal) => is_asked(survey, journal)
+        ErasePhase::Idle => is_idle(survey) && lasts(unused),
+        ErasePhase::Asked(journal) => is_asked(survey, journal)
             && lasts(once_renewed(once_second_spent(unused, journal), journal)),
-        Phase::Doomed(journal) => is_doomed(survey, journal)
+        ErasePhase::Doomed(journal) => is_doomed(survey, journal)
             && lasts(once_renewed(unused, journal)),
-        Phase::Closing(journal) => is_closing(survey, journal) && lasts(unused),
+        ErasePhase::Closing(journal) => is_closing(survey, journal) && lasts(unused),
     }
 }
 
 /// The numbers once what goes on in a phase is done.
-pub fn once_settled(u: Unused, phase: Phase) -> Unused
+pub(crate) fn once_settled(u: Unused, phase: ErasePhase) -> Unused
     ensures { result ≡ settled phase u }
 {
     match phase {
-        Phase::Idle => u,
-        Phase::Asked(journal) => once_renewed(once_second_spent(u, journal), journal),
-        Phase::Doomed(journal) => once_renewed(u, journal),
-        Phase::Closing(_) => u,
+        ErasePhase::Idle => u,
+        ErasePhase::Asked(journal) => once_renewed(once_second_spent(u, journal), journal),
+        ErasePhase::Doomed(journal) => once_renewed(u, journal),
+        ErasePhase::Closing(_) => u,
     }
 }
 
 /// The phase of a journal's erase in which the journals are sound.
-fn fitting(survey: Survey, journal: JournalId) -> Option<Phase>
+fn fitting(survey: Survey, journal: JournalId) -> Option<ErasePhase>
     ensures { MatchOption result
-        ((IsSoundSurvey (Phase.Asked journal) survey → ⊥)
-        × (IsSoundSurvey (Phase.Doomed journal) survey → ⊥)
-        × (IsSoundSurvey (Phase.Closing journal) survey → ⊥))
+        ((IsSoundSurvey (ErasePhase.Asked journal) survey → ⊥)
+        × (IsSoundSurvey (ErasePhase.Doomed journal) survey → ⊥)
+        × (IsSoundSurvey (ErasePhase.Closing journal) survey → ⊥))
         (λ phase. IsSoundSurvey phase survey) }
 {
-    if fits(survey, Phase::Asked(journal)) {
-        Some(Phase::Asked(journal))
-    } else if fits(survey, Phase::Doomed(journal)) {
-        Some(Phase::Doomed(journal))
-    } else if fits(survey, Phase::Closing(journal)) {
-        Some(Phase::Closing(journal))
+    if fits(survey, ErasePhase::Asked(journal)) {
+        Some(ErasePhase::Asked(journal))
+    } else if fits(survey, ErasePhase::Doomed(journal)) {
+        Some(ErasePhase::Doomed(journal))
+    } else if fits(survey, ErasePhase::Closing(journal)) {
+        Some(ErasePhase::Closing(journal))
     } else {
         None
     }
 }
 
 /// The phase in which the journals are sound; `None` where they are corrupt.
-pub fn decide(survey: Survey) -> Option<Phase>
-    ensures { MatchOption result ((phase : Phase) → IsSoundSurvey phase survey → ⊥)
+pub(crate) fn decide(survey: Survey) -> Option<ErasePhase>
+    ensures { MatchOption result ((phase : ErasePhase) → IsSoundSurvey phase survey → ⊥)
         (λ phase. IsSoundSurvey phase survey) }
 {
-    if fits(survey, Phase::Idle) {
-        return Some(Phase::Idle);
+    if fits(survey, ErasePhase::Idle) {
+        return Some(ErasePhase::Idle);
     }
     if let Some(phase) = fitting(survey, JournalId::J0) {
         return Some(phase);

@@ -1,6 +1,6 @@
 //! Numbers and bytes worked out by hand from the layout and the rules of maintenance and recovery.
 
-use crate::phase::Phase;
+use crate::phase::ErasePhase;
 use crate::scan::{
     OpenEntry, VoteCounts, count_free, count_open, count_votes, lowest, lowest_free, lowest_open,
 };
@@ -76,7 +76,7 @@ fn each_step_of_an_erase_of_j0(rt: HostRuntime) {
             j1_for_0: OPENED,
             ..ERASED
         }),
-        Some(Phase::Asked(J0))
+        Some(ErasePhase::Asked(J0))
     );
     assert_eq!(rt;
         decide(Survey {
@@ -84,7 +84,7 @@ fn each_step_of_an_erase_of_j0(rt: HostRuntime) {
             j2_for_0: OPENED,
             ..ERASED
         }),
-        Some(Phase::Doomed(J0))
+        Some(ErasePhase::Doomed(J0))
     );
     assert_eq!(rt;
         decide(Survey {
@@ -92,7 +92,7 @@ fn each_step_of_an_erase_of_j0(rt: HostRuntime) {
             j2_for_0: OPENED,
             ..ERASED
         }),
-        Some(Phase::Closing(J0))
+        Some(ErasePhase::Closing(J0))
     );
     assert_eq!(rt;
         decide(Survey {
@@ -100,7 +100,7 @@ fn each_step_of_an_erase_of_j0(rt: HostRuntime) {
             j2_for_0: CLOSED,
             ..ERASED
         }),
-        Some(Phase::Idle)
+        Some(ErasePhase::Idle)
     );
 }
 
@@ -112,7 +112,7 @@ fn each_step_of_an_erase_of_j1(rt: HostRuntime) {
             j2_for_1: OPENED,
             ..ERASED
         }),
-        Some(Phase::Asked(J1))
+        Some(ErasePhase::Asked(J1))
     );
     assert_eq!(rt;
         decide(Survey {
@@ -120,7 +120,7 @@ fn each_step_of_an_erase_of_j1(rt: HostRuntime) {
             j0_for_1: OPENED,
             ..ERASED
         }),
-        Some(Phase::Doomed(J1))
+        Some(ErasePhase::Doomed(J1))
     );
     assert_eq!(rt;
         decide(Survey {
@@ -128,7 +128,7 @@ fn each_step_of_an_erase_of_j1(rt: HostRuntime) {
             j0_for_1: OPENED,
             ..ERASED
         }),
-        Some(Phase::Closing(J1))
+        Some(ErasePhase::Closing(J1))
     );
     assert_eq!(rt;
         decide(Survey {
@@ -136,7 +136,7 @@ fn each_step_of_an_erase_of_j1(rt: HostRuntime) {
             j0_for_1: CLOSED,
             ..ERASED
         }),
-        Some(Phase::Idle)
+        Some(ErasePhase::Idle)
     );
 }
 
@@ -148,7 +148,7 @@ fn each_step_of_an_erase_of_j2(rt: HostRuntime) {
             j0_for_2: OPENED,
             ..ERASED
         }),
-        Some(Phase::Asked(J2))
+        Some(ErasePhase::Asked(J2))
     );
     assert_eq!(rt;
         decide(Survey {
@@ -156,7 +156,7 @@ fn each_step_of_an_erase_of_j2(rt: HostRuntime) {
             j1_for_2: OPENED,
             ..ERASED
         }),
-        Some(Phase::Doomed(J2))
+        Some(ErasePhase::Doomed(J2))
     );
     assert_eq!(rt;
         decide(Survey {
@@ -164,7 +164,7 @@ fn each_step_of_an_erase_of_j2(rt: HostRuntime) {
             j1_for_2: OPENED,
             ..ERASED
         }),
-        Some(Phase::Closing(J2))
+        Some(ErasePhase::Closing(J2))
     );
     assert_eq!(rt;
         decide(Survey {
@@ -172,20 +172,20 @@ fn each_step_of_an_erase_of_j2(rt: HostRuntime) {
             j1_for_2: CLOSED,
             ..ERASED
         }),
-        Some(Phase::Idle)
+        Some(ErasePhase::Idle)
     );
 }
 
 #[test]
 fn no_erase_of_a_journal(rt: HostRuntime) {
-    assert_eq!(rt; decide(ERASED), Some(Phase::Idle));
+    assert_eq!(rt; decide(ERASED), Some(ErasePhase::Idle));
     assert_eq!(rt;
         decide(Survey {
             free: 511,
             opened: 1,
             ..ERASED
         }),
-        Some(Phase::Idle)
+        Some(ErasePhase::Idle)
     );
 }
 
@@ -200,7 +200,7 @@ fn what_a_doomed_journal_holds_is_ignored(rt: HostRuntime) {
         opened: 7,
         ..ERASED
     };
-    assert_eq!(rt; decide(doomed0), Some(Phase::Doomed(J0)));
+    assert_eq!(rt; decide(doomed0), Some(ErasePhase::Doomed(J0)));
     let doomed1 = Survey {
         j2_for_1: OPENED,
         j0_for_1: OPENED,
@@ -208,7 +208,7 @@ fn what_a_doomed_journal_holds_is_ignored(rt: HostRuntime) {
         j1_for_2: WRONG,
         ..ERASED
     };
-    assert_eq!(rt; decide(doomed1), Some(Phase::Doomed(J1)));
+    assert_eq!(rt; decide(doomed1), Some(ErasePhase::Doomed(J1)));
     // Its entries are J0's, which is believed.
     assert_eq!(rt;
         decide(Survey {
@@ -302,7 +302,7 @@ fn one_vote_is_enough_where_its_journal_is_not_tired(rt: HostRuntime) {
         j1_for_0: with_unused(1),
         ..ERASED
     };
-    assert_eq!(rt; decide(one_left), Some(Phase::Idle));
+    assert_eq!(rt; decide(one_left), Some(ErasePhase::Idle));
     // And J0's 512 entries are F8 04 00 FF.
     assert_eq!(rt;
         decide(Survey {
@@ -317,7 +317,7 @@ fn one_vote_is_enough_where_its_journal_is_not_tired(rt: HostRuntime) {
         j2_for_0: with_unused(2),
         ..ERASED
     };
-    assert_eq!(rt; decide(asked), Some(Phase::Asked(J0)));
+    assert_eq!(rt; decide(asked), Some(ErasePhase::Asked(J0)));
     assert_eq!(rt;
         decide(Survey {
             j2_for_0: with_unused(1),

@@ -54,7 +54,7 @@ fn needs1(u: Unused) -> bool
 }
 
 /// Whether no run of maintenance uses up a region.
-pub fn lasts(u: Unused) -> bool
+pub(crate) fn lasts(u: Unused) -> bool
     ensures yes { IsTrue result → Last u }
     ensures no { Last u → IsTrue result }
 {
@@ -65,7 +65,7 @@ pub fn lasts(u: Unused) -> bool
 }
 
 /// The lowest-numbered tired journal.
-pub fn lowest_tired(u: Unused) -> Option<JournalId>
+pub(crate) fn lowest_tired(u: Unused) -> Option<JournalId>
     ensures { IsTiredAnswer u result }
 {
     if u.j0_for_1 < 4 || u.j0_for_2 < 4 || u.free == 0 {
@@ -80,7 +80,7 @@ pub fn lowest_tired(u: Unused) -> Option<JournalId>
 }
 
 /// The numbers once a journal is blank.
-pub fn once_renewed(u: Unused, journal: JournalId) -> Unused
+pub(crate) fn once_renewed(u: Unused, journal: JournalId) -> Unused
     ensures { result ≡ renewed journal u }
 {
     match journal {
@@ -104,7 +104,7 @@ pub fn once_renewed(u: Unused, journal: JournalId) -> Unused
 }
 
 /// The numbers once the journal after the next spent a vote for the erase of this one.
-pub fn once_second_spent(u: Unused, journal: JournalId) -> Unused
+pub(crate) fn once_second_spent(u: Unused, journal: JournalId) -> Unused
     ensures { result ≡ second_spent journal u }
 {
     match journal {

@@ -26,7 +26,7 @@ fn find_vote<N: Nor>(nor: &mut N, region: u32, vote: Vote) -> Result<Option<u32>
 }
 
 /// Opens the lowest unused vote of a region.
-pub fn open_vote<N: Nor>(nor: &mut N, region: u32) -> Result<(), NorError>
+pub(crate) fn open_vote<N: Nor>(nor: &mut N, region: u32) -> Result<(), NorError>
     requires range { region + REGION_LEN ≤ length (N.state nor.old).memory }
     requires fits { region < 2 ^ 24 }
     requires some { 0 < (votes_at (N.state nor.old).memory region).unused }
@@ -43,7 +43,7 @@ pub fn open_vote<N: Nor>(nor: &mut N, region: u32) -> Result<(), NorError>
 }
 
 /// Closes the open vote of a region.
-pub fn close_vote<N: Nor>(nor: &mut N, region: u32) -> Result<(), NorError>
+pub(crate) fn close_vote<N: Nor>(nor: &mut N, region: u32) -> Result<(), NorError>
     requires range { region + REGION_LEN ≤ length (N.state nor.old).memory }
     requires fits { region < 2 ^ 24 }
     requires some { 0 < (votes_at (N.state nor.old).memory region).opened }

@@ -1,6 +1,5 @@
 -- The simulator's table is accepted: it is that of a chip of its size.
-use Rattle.std.proofs.Common.{◌≡◌, ℕ, ◌+◌, ◌-◌, ◌*◌, ◌/◌, ◌%◌, ◌^◌, ◌<◌, ◌≤◌, Bool, true, false, not, cond, ◌&&◌, ◌||◌, List, length, sym, ap, ◌∙◌, arith, Some, Result, Ok, Err}
-use Rattle.std.specs.Prelude.{nat_lt, ◌==◌}
+use Rattle.std.proofs.Common.{◌≡◌, ℕ, ◌+◌, ◌-◌, ◌*◌, ◌/◌, ◌%◌, ◌^◌, ◌<◌, ◌≤◌, true, false, not, List, length, ap, ◌∙◌, arith, Some, Ok}
 use Rattle.std.proofs.lemmas.Bool.{cond-true, cond-false, and_from, or_left, eq-eqb, lt-ltb, le-ltb}
 use Rattle.sfdp.specs.declared.params.Params.{Params}
 use Rattle.sfdp.specs.Params.{params_of, params_at, table_params, basic_params, first_basic, has_signature, headers, header_at, pointer_of, words_of, density, is_size, page_exponent, is_pair, has_pair, has_small_erase, address_bits}

@@ -1,8 +1,8 @@
 use Rattle.std.specs.Prelude.{◌<◌, length}
 use Rattle.chip_model.specs.Frames.{Command, Enable, Disable, Status1, Status2, Status3, Set, Read}
 use Rattle.chip_model.specs.Frames.{Program, Erase, Id, Sfdp, Unknown}
-use Rattle.fault_model.specs.declared.decode.Decoded.{Decoded}
-use Rattle.fault_model.specs.declared.decode.Decoded.TheVariants as asks
+use Rattle.fault_model.specs.declared.frame.Decoded.{Decoded}
+use Rattle.fault_model.specs.declared.frame.Decoded.TheVariants as asks
 
 -- the command that a decoded frame represents
 abbrev pub asked : Decoded → Command

@@ -1,7 +1,7 @@
 use Rattle.std.specs.Prelude.{true, ◌&&◌, nat_le, ℕ, ◌+◌, ◌*◌, ◌/◌, Bool, List, take}
 use Rattle.chip_model.specs.Chip as c
-use Rattle.fault_model.specs.declared.operation.Operation.{Operation}
-use Rattle.fault_model.specs.declared.operation.Operation.TheVariants as o
+use Rattle.fault_model.specs.declared.cells.Operation.{Operation}
+use Rattle.fault_model.specs.declared.cells.Operation.TheVariants as o
 
 -- the operation in progress, where these bytes are latched
 abbrev pub operation_of : List ℕ → Operation → c.Operation

@@ -8,7 +8,7 @@ ghost use Rattle.fault_model.specs.Table.{sfdp_byte, sfdp_table};
 use crate::table::sfdp_byte;
 
 /// The same byte everywhere.
-pub fn fill_with(recv: &mut [u8], byte: u8)
+pub(crate) fn fill_with(recv: &mut [u8], byte: u8)
     ensures { EachIndex recv.new (λ k. slice_index recv.new k ≡ byte) }
 {
     if recv.len() == 1 {
@@ -48,7 +48,7 @@ fn third_byte(size: u32) -> u8
 }
 
 /// The id bytes.
-pub fn fill_id(recv: &mut [u8], size: u32)
+pub(crate) fn fill_id(recv: &mut [u8], size: u32)
     ensures { EachIndex recv.new (λ k. slice_index recv.new k ≡ id_byte size k) }
 {
     for k in 0..recv.len() {
@@ -62,7 +62,7 @@ pub fn fill_id(recv: &mut [u8], size: u32)
 }
 
 /// The bytes of the SFDP table from a place on, past its end from the first on.
-pub fn fill_sfdp(recv: &mut [u8], size: u32, spoiled: bool, at: u32)
+pub(crate) fn fill_sfdp(recv: &mut [u8], size: u32, spoiled: bool, at: u32)
     requires some { 0 < size }
     requires most { size ≤ 16777216 }
     ensures { EachIndex recv.new (λ k. byte recv.new k

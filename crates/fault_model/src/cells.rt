@@ -1,14 +1,53 @@
-//! The cells and registers of a chip in memory, and what it answers while idle.
+//! The cells and registers of a chip in memory, and the operation in progress.
 
 ghost use Rattle.std.specs.Prelude.{◌≡◌, ◌+◌, ◌%◌, ◌<◌, ◌≤◌, ◌||◌, nat_le, true, false, length};
+ghost use Rattle.std.specs.Prelude.{IfSome, take};
 ghost use Rattle.chip_model.specs.Geometry.{IsChipSize};
 ghost use Rattle.fault_model.specs.Fits.{fits_in};
 
-use crate::answers::{fill_id, fill_sfdp, fill_with};
-use crate::copy::fill_from;
-use crate::decode::Decoded;
-use crate::latch::Latch;
-use crate::operation::Operation;
+use crate::memory::{fill_unit, program_page};
+
+/// What is in progress.
+#[derive(Clone, Copy)]
+pub enum Operation {
+    Idle,
+    /// A program: its first place, and how many bytes are latched for it.
+    Programming(u32, u16),
+    /// An erase: its unit's first place and its size in bytes.
+    Erasing(u32, u32),
+    /// A write of status register 1.
+    Setting(u8),
+}
+
+/// Room for the bytes of a page program, which a chip keeps until it completes.
+#[derive(Drop)]
+pub struct Latch {
+    bytes: [u8; 256],
+}
+
+impl Latch {
+    /// Room in which nothing is held yet.
+    fn new() -> Latch {
+        Latch { bytes: [0; 256] }
+    }
+
+    /// Holds these bytes from now on.
+    pub(crate) fn hold(&mut self, bytes: &[u8])
+        requires { length bytes.now ≤ 256 }
+        ensures { take (length bytes.now) self.new.bytes ≡ bytes.now }
+    {
+        self.bytes[..bytes.len()].copy_from_slice(bytes);
+    }
+
+    /// The first bytes that are held.
+    pub(crate) fn first(&self, count: u16) -> &[u8]
+        requires { count ≤ 256 }
+        ensures bytes { result.now ≡ take count self.now.bytes }
+        ensures few { length result.now ≤ 256 }
+    {
+        &self.bytes[..count as usize]
+    }
+}
 
 /// The cells and registers of a chip in memory.
 #[derive(Drop)]
@@ -47,13 +86,13 @@ pub struct Cells {
 }
 
 impl Cells {
-    ghost use Rattle.chip_model.specs.Chip.{is_idle};
-    ghost use Rattle.chip_model.specs.Frames.{is_protected, Receives, status_1};
-    ghost use Rattle.fault_model.specs.Decoded.{asked};
+    ghost use Rattle.chip_model.specs.Chip.{completed, is_idle};
+    ghost use Rattle.chip_model.specs.Frames.{is_protected, status_1};
     ghost use Rattle.fault_model.specs.Sim.{chip_in, fresh_chip, operation_in, pace_in};
+    ghost use Rattle.fault_model.specs.Span.{span_of};
 
     /// Cells with this memory, with the power on and nothing in progress.
-    pub fn new(bytes: Vec<u8>) -> Cells
+    pub(crate) fn new(bytes: Vec<u8>) -> Cells
         requires size { IsChipSize (length bytes.items) }
         ensures chip { chip_in result ≡ fresh_chip bytes.items }
         ensures pace { pace_in result ≡ record { next = false; stuck = false } }
@@ -79,21 +118,21 @@ impl Cells {
     }
 
     /// Whether nothing is in progress.
-    pub fn is_idle(&self) -> bool
+    pub(crate) fn is_idle(&self) -> bool
         ensures { result ≡ is_idle (operation_in self.now) }
     {
         matches!(self.operation, Operation::Idle)
     }
 
     /// Status register 1.
-    pub fn status(&self) -> u8
+    pub(crate) fn status(&self) -> u8
         ensures { result ≡ status_1 (chip_in self.now) }
     {
         4 * self.protection + if self.enabled { 2 } else { 0 } + if self.is_idle() { 0 } else { 1 }
     }
 
     /// Whether one of the `size` bytes from `at` on is protected.
-    pub fn is_protected(&self, at: u32, size: u32) -> bool
+    pub(crate) fn is_protected(&self, at: u32, size: u32) -> bool
         requires { at + size ≤ length self.now.memory.items }
         ensures { result ≡ is_protected (chip_in self.now) at size }
     {
@@ -111,17 +150,37 @@ impl Cells {
         }
     }
 
-    /// The answer of an idle chip.
-    pub fn answer(&self, frame: &Decoded, recv: &mut [u8])
-        ensures { Receives (chip_in self.now) (asked frame.now) recv.new }
+    /// The operation in progress completes.
+    pub(crate) fn complete(&mut self)
+        ensures chip { chip_in self.new ≡ completed (chip_in self.old) }
+        ensures pace { pace_in self.new ≡ pace_in self.old }
+        ensures cuts { self.new.cuts ≡ self.old.cuts }
+        ensures slows { self.new.slows ≡ self.old.slows }
     {
-        match frame {
-            Decoded::Status1 => fill_with(recv, self.status()),
-            Decoded::Status2 | Decoded::Status3 => fill_with(recv, 0),
-            Decoded::Read(at) => fill_from(recv, &self.memory, *at),
-            Decoded::Id => fill_id(recv, self.memory.len() as u32),
-            Decoded::Sfdp(at) => fill_sfdp(recv, self.size, self.spoiled, *at),
-            _ => fill_with(recv, 0xFF),
+        match self.operation {
+            Operation::Idle => {}
+            Operation::Programming(at, count) => {
+                program_page(&mut self.memory, at, self.latched.first(count))
+            }
+            Operation::Erasing(at, size) => fill_unit(&mut self.memory, at, size, 0xFF),
+            Operation::Setting(value) => self.protection = value / 4,
+        }
+        self.enabled = false;
+        self.operation = Operation::Idle;
+        self.polls = 0;
+    }
+
+    /// The places that the operation in progress writes when it completes: the first of them, and
+    /// how many.
+    pub(crate) fn span(&self) -> Option<(u32, u32)>
+        ensures exact { result ≡ span_of (operation_in self.now) }
+        ensures within { IfSome result (λ s. s.0 + s.1 ≤ length self.now.memory.items) }
+    {
+        match self.operation {
+            Operation::Idle => None,
+            Operation::Programming(at, _) => Some((at / 256 * 256, 256)),
+            Operation::Erasing(at, size) => Some((at, size)),
+            Operation::Setting(_) => None,
         }
     }
 }

@@ -74,9 +74,9 @@ impl<F: FileExt + Drop> ImageBus<F> {
     ghost use Rattle.chip_model.specs.Chip.{is_idle};
     ghost use Rattle.fault_model.specs.Sim.{operation_in};
 
-    /// Writes the places of a completed operation to the file, where there are any, and whether
-    /// that went well.
-    fn saves(&self, span: Option<(u32, u32)>) -> bool
+    /// Writes the places of a completed operation to the file, where there are any, and answers
+    /// whether that went well.
+    fn save(&self, span: Option<(u32, u32)>) -> bool
         ensures none { span ≡ None → result ≡ true }
         ensures running { is_idle (operation_in self.now.cells) ≡ false → result ≡ true }
     {
@@ -144,7 +144,7 @@ impl<F: FileExt + Drop> SpiBus for ImageBus<F> {
         }
         let span = self.cells.span();
         let _accepted = self.cells.take(send, recv);
-        if self.saves(span) {
+        if self.save(span) {
             return Ok(());
         }
         if self.cells.cuts == u64::MAX {
@@ -176,7 +176,7 @@ impl<F: FileExt + Drop> SpiBus for ImageBus<F> {
     {
         let span = self.cells.span();
         self.cells.turn_off(0xFF);
-        if !self.saves(span) {
+        if !self.save(span) {
             self.broken = true;
         }
         if self.broken && self.cells.cuts < u64::MAX {

@@ -19,16 +19,11 @@
 
 mod answers;
 mod cells;
-mod commands;
-mod complete;
 mod copy;
-mod decode;
 mod error;
 mod frame;
 mod image;
-mod latch;
 mod memory;
-mod operation;
 mod plan;
 mod power;
 mod prompt;

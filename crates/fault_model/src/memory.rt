@@ -35,7 +35,7 @@ fn before_end(at: u32, count: usize) -> usize
 
 /// Programs up to 256 bytes into the page of the address; after the page's last byte comes its
 /// first.
-pub fn program_page(memory: &mut [u8], at: u32, bytes: &[u8])
+pub(crate) fn program_page(memory: &mut [u8], at: u32, bytes: &[u8])
     requires page { at / 256 * 256 + 256 ≤ length memory.old }
     requires few { length bytes.now ≤ 256 }
     ensures { memory.new ≡ programmed memory.old at bytes.now }
@@ -46,7 +46,7 @@ pub fn program_page(memory: &mut [u8], at: u32, bytes: &[u8])
 }
 
 /// The same, where each bit takes its new value only where the mask has 1.
-pub fn tear_page(memory: &mut [u8], at: u32, bytes: &[u8], mask: u8)
+pub(crate) fn tear_page(memory: &mut [u8], at: u32, bytes: &[u8], mask: u8)
     requires page { at / 256 * 256 + 256 ≤ length memory.old }
     requires few { length bytes.now ≤ 256 }
     ensures torn { Torn memory.old (programmed memory.old at bytes.now) memory.new }
@@ -58,7 +58,7 @@ pub fn tear_page(memory: &mut [u8], at: u32, bytes: &[u8], mask: u8)
 }
 
 /// Fills a unit with one byte.
-pub fn fill_unit(memory: &mut [u8], at: u32, size: u32, byte: u8)
+pub(crate) fn fill_unit(memory: &mut [u8], at: u32, size: u32, byte: u8)
     requires { at + size ≤ length memory.old }
     ensures exact { memory.new ≡ filled byte memory.old at size }
     ensures torn { TornErase memory.old at size memory.new }

@@ -17,7 +17,7 @@ impl Plan {
     ghost use Rattle.fault_model.specs.Sim.{armed_in};
 
     /// Counts a frame, and whether it is the one that was armed.
-    pub fn strikes(&mut self, accepted: bool) -> bool
+    pub(crate) fn strikes(&mut self, accepted: bool) -> bool
         ensures strikes { result ≡ strikes (armed_in self.old) accepted }
         ensures one_frame_less { armed_in self.new ≡ one_frame_less (armed_in self.old) accepted }
     {

@@ -4,9 +4,8 @@ ghost use Rattle.std.specs.Prelude.{◌≡◌, ◌<◌, false};
 ghost use Rattle.chip_model.specs.Memory.{IsMixed};
 ghost use Rattle.fault_model.specs.Mask.{by_mask};
 
-use crate::cells::Cells;
+use crate::cells::{Cells, Operation};
 use crate::memory::{fill_unit, tear_page};
-use crate::operation::Operation;
 
 impl Cells {
     ghost use Rattle.chip_model.specs.Cut.{Cut};
@@ -14,7 +13,7 @@ impl Cells {
     ghost use Rattle.fault_model.specs.Sim.{chip_in};
 
     /// The power goes; of an operation in progress the mask says what remains.
-    pub fn turn_off(&mut self, mask: u8)
+    pub(crate) fn turn_off(&mut self, mask: u8)
         ensures cut { Cut (chip_in self.old) (chip_in self.new) }
         ensures exact { chip_in self.new ≡ torn_by mask (chip_in self.old) }
         ensures next { self.new.slow_next ≡ self.old.slow_next }

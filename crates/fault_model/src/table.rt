@@ -43,7 +43,7 @@ fn table_byte(size: u32, k: usize) -> u8
 }
 
 /// The byte at a place of the table, which may be spoiled.
-pub fn sfdp_byte(size: u32, spoiled: bool, k: usize) -> u8
+pub(crate) fn sfdp_byte(size: u32, spoiled: bool, k: usize) -> u8
     requires some { 0 < size }
     requires most { size ≤ 16777216 }
     ensures { result ≡ sfdp_byte size spoiled k }

@@ -7,14 +7,17 @@ ghost use Rattle.nor_driver.specs.Unprotect.{probe_error};
 
 use chip_model::PowerLost;
 use sfdp::SfdpError;
+use thiserror::Error;
 
 /// Why a call on a NOR memory didn't do its work. Source: own.
-#[derive(Clone, Copy, Debug, PartialEq, Eq)]
+#[derive(Clone, Copy, Debug, PartialEq, Eq, Error)]
 pub enum NorError {
     /// The power went in this call, or was off.
+    #[error("power was lost during the call, or was off")]
     Cut,
     /// An operation didn't end: in this call, or in an earlier one with no `restart` that answered
     /// Ok since.
+    #[error("an operation did not end")]
     Slow,
 }
 
@@ -27,18 +30,23 @@ impl From<PowerLost> for NorError {
 }
 
 /// Why a chip is not served. The refusals are numbered from 1 in this order. Source: own.
-#[derive(Clone, Copy, Debug, PartialEq, Eq)]
+#[derive(Clone, Copy, Debug, PartialEq, Eq, Error)]
 pub enum ProbeError {
     /// 1: the power went in this call, or couldn't be turned on.
+    #[error("power was lost during the probe, or could not be turned on")]
     Cut,
     /// 2: an operation didn't end in this call.
+    #[error("an operation did not end")]
     Slow,
     /// 3: the id isn't EFh 40h and a third byte from 10h to 18h, or that byte isn't the one of the
     /// table's size.
+    #[error("the id is not that of a chip that is served, or not of its table's size")]
     WrongId,
     /// 4: the chip's SFDP table is refused.
+    #[error("the SFDP table is refused: {0}")]
     Sfdp(SfdpError),
     /// 5: BP, SEC, CMP or WPS isn't 0.
+    #[error("the memory is protected: BP, SEC, CMP or WPS is not 0")]
     Protected,
 }
 

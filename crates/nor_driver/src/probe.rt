@@ -63,7 +63,7 @@ fn identify<B: SpiBus>(bus: &mut B) -> Result<Params, ProbeError>
 }
 
 /// The power comes anew, and id, table and protection are checked.
-pub fn survey<B: SpiBus>(bus: &mut B) -> Result<Params, ProbeError>
+pub(crate) fn survey<B: SpiBus>(bus: &mut B) -> Result<Params, ProbeError>
     ensures { Probes result (B.chip bus.old) (B.cuts bus.old) (B.slows bus.old) (B.chip bus.new)
         (B.cuts bus.new) (B.slows bus.new) }
 {

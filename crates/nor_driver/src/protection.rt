@@ -30,7 +30,7 @@ fn read_status<B: SpiBus>(bus: &mut B, register: Register) -> Result<u8, PowerLo
 }
 
 /// Whether BP, SEC, CMP or WPS of an idle chip isn't 0.
-pub fn is_protected<B: SpiBus>(bus: &mut B) -> Result<bool, PowerLost>
+pub(crate) fn is_protected<B: SpiBus>(bus: &mut B) -> Result<bool, PowerLost>
     requires { is_idle (B.chip bus.old).operation ≡ true }
     ensures value { IfOk result (λ b. b ≡ not (is_unprotected (B.chip bus.old))) }
     ensures chip { OnOk result (B.chip bus.new ≡ B.chip bus.old) }

@@ -29,7 +29,7 @@ fn send<B: SpiBus>(bus: &mut B, frame: &[u8]) -> Result<(), PowerLost>
 }
 
 /// One frame that changes nothing, to an idle chip, and its answer.
-pub fn ask<B: SpiBus>(bus: &mut B, frame: &[u8], into: &mut [u8]) -> Result<(), PowerLost>
+pub(crate) fn ask<B: SpiBus>(bus: &mut B, frame: &[u8], into: &mut [u8]) -> Result<(), PowerLost>
     requires idle { is_idle (B.chip bus.old).operation ≡ true }
     requires reads { only_reads (command_of frame.now) ≡ true }
     ensures answers { OnOk result (Receives (B.chip bus.old) (command_of frame.now) into.new) }
@@ -66,7 +66,7 @@ fn wait_until_idle<B: SpiBus>(bus: &mut B) -> Result<(), NorError>
 }
 
 /// A write enable, the frame of a change, and the wait for its end.
-pub fn change<B: SpiBus>(bus: &mut B, frame: &[u8]) -> Result<(), NorError>
+pub(crate) fn change<B: SpiBus>(bus: &mut B, frame: &[u8]) -> Result<(), NorError>
     requires idle { is_idle (B.chip bus.old).operation ≡ true }
     requires running { is_idle (started (B.chip bus.old) frame.now).operation ≡ false }
     requires fresh { (started (B.chip bus.old) frame.now).polls ≡ 0 }
@@ -85,7 +85,7 @@ pub fn change<B: SpiBus>(bus: &mut B, frame: &[u8]) -> Result<(), NorError>
 }
 
 /// Turns the power off and on again; then one frame that changes nothing, and its answer.
-pub fn wake<B: SpiBus>(bus: &mut B, frame: &[u8], into: &mut [u8]) -> Result<(), PowerLost>
+pub(crate) fn wake<B: SpiBus>(bus: &mut B, frame: &[u8], into: &mut [u8]) -> Result<(), PowerLost>
     requires { only_reads (command_of frame.now) ≡ true }
     ensures woken { OnOk result (Woken (B.chip bus.old) (B.chip bus.new)) }
     ensures answers { OnOk result (Receives (B.chip bus.new) (command_of frame.now) into.new) }

@@ -52,7 +52,7 @@ fn has_small_erase(bytes: &[u8], at: usize) -> bool
 }
 
 /// The parameters of the table of `words` words at `at`.
-pub fn table_params(bytes: &[u8], at: usize, words: usize) -> Result<Params, SfdpError>
+pub(crate) fn table_params(bytes: &[u8], at: usize, words: usize) -> Result<Params, SfdpError>
     requires at { at < 2 ^ 24 }
     requires words { words < 256 }
     ensures { result ≡ table_params bytes.now at words }

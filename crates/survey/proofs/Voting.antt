@@ -3,7 +3,7 @@ use Rattle.std.proofs.Common.{◌≡◌, true, false, refl, arith}
 use Rattle.std.specs.Prelude.{Option, Some, None}
 use Rattle.nor_layout.specs.declared.journal.JournalId.{JournalId}
 use Rattle.nor_layout.specs.declared.journal.JournalId.TheVariants.{J0, J1, J2}
-use Rattle.erase_journal.specs.declared.phase.Phase.{Phase}
+use Rattle.erase_journal.specs.declared.phase.ErasePhase.{ErasePhase}
 use Rattle.erase_journal.specs.declared.survey.Survey.{Survey}
 use Rattle.erase_journal.specs.Faults.{SurveyHasNoFault}
 use Rattle.erase_journal.specs.Journals.{IsInPhase, IsSoundSurvey, settled, unused_of}
@@ -30,7 +30,7 @@ each s a b c J0 = a
 each s a b c J1 = b
 each s a b c J2 = c
 
-faultless : (s : Survey) → ((x : JournalId) → HasNoVoteFault s x) → ((p : Phase) → IsInPhase p s → Last (settled p (unused_of s))) → SurveyHasNoFault s
+faultless : (s : Survey) → ((x : JournalId) → HasNoVoteFault s x) → ((p : ErasePhase) → IsInPhase p s → Last (settled p (unused_of s))) → SurveyHasNoFault s
 faultless s h lasts = record {
   one_doomed = λ x. (h x).one_doomed;
   first_votes = λ x. (h x).regions.first_votes;
@@ -42,7 +42,7 @@ faultless s h lasts = record {
 }
 
 -- so where journals are corrupt without any, the votes don't last
-pub none-last : (s : Survey) → ((p : Phase) → IsSoundSurvey p s → ⊥) → HasNoVoteFault s J0 → HasNoVoteFault s J1 → HasNoVoteFault s J2 → IsJournalFault faults.NoVotesLeft s
+pub none-last : (s : Survey) → ((p : ErasePhase) → IsSoundSurvey p s → ⊥) → HasNoVoteFault s J0 → HasNoVoteFault s J1 → HasNoVoteFault s J2 → IsJournalFault faults.NoVotesLeft s
 none-last s corrupt a b c lasts =
     let sound = (sound_has_no_fault s).1 (faultless s (each s a b c) lasts) in
     corrupt sound.0 sound.1

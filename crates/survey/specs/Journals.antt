@@ -4,7 +4,7 @@ use Rattle.std.specs.Prelude.{◌≡◌, ◌≤◌, true, false}
 use Rattle.nor_layout.specs.Journals.{next}
 use Rattle.nor_layout.specs.declared.journal.JournalId.{JournalId}
 use Rattle.nor_layout.specs.declared.journal.JournalId.TheVariants.{J0}
-use Rattle.erase_journal.specs.declared.phase.Phase.{Phase}
+use Rattle.erase_journal.specs.declared.phase.ErasePhase.{ErasePhase}
 use Rattle.erase_journal.specs.declared.scan.VoteCounts as read
 use Rattle.erase_journal.specs.declared.survey.Survey.{Survey}
 use Rattle.erase_journal.specs.Faults.{HasVote, IsBelieved, IsDoomed, after_next}
@@ -44,7 +44,8 @@ IsJournalFault (ManyVotes x false) s = IsBelieved s (after_next x) × (2 ≤ (se
 IsJournalFault (TwoNamed x) s = HasVote s x × HasVote s (next x)
 IsJournalFault ManyEntries s = IsBelieved s J0 × (2 ≤ s.opened)
 IsJournalFault (EntryBesideVote x) s = IsBelieved s J0 × (1 ≤ s.opened) × HasVote s x
-IsJournalFault NoVotesLeft s = ((p : Phase) → IsInPhase p s → Last (settled p (unused_of s))) → ⊥
+IsJournalFault NoVotesLeft s =
+    ((p : ErasePhase) → IsInPhase p s → Last (settled p (unused_of s))) → ⊥
 
 -- the votes for the erase of one journal have none of these faults
 pub record HasNoRegionFault (s : Survey) (x : JournalId) : Type 0 where

@@ -2,7 +2,7 @@
 
 ghost use Rattle.std.specs.Prelude.{◌≡◌, ◌↔◌, IsTrue, IfSome, None};
 ghost use Rattle.nor_layout.specs.Journals.{next};
-ghost use Rattle.erase_journal.specs.declared.phase.Phase.{Phase as PhaseOf};
+ghost use Rattle.erase_journal.specs.declared.phase.ErasePhase.{ErasePhase};
 ghost use Rattle.erase_journal.specs.Faults.{HasVote, IsDoomed};
 ghost use Rattle.erase_journal.specs.Journals.{IsSoundSurvey};
 ghost use Rattle.survey.specs.Journals.{HasNoRegionFault, HasNoVoteFault, IsJournalFault};
@@ -35,7 +35,7 @@ pub enum JournalFault {
 
 /// Why journals that are sound in no phase are corrupt.
 pub fn journal_fault(counts: &JournalCounts) -> JournalFault
-    requires corrupt { (phase : PhaseOf) → IsSoundSurvey phase (as_survey counts.now) → ⊥ }
+    requires corrupt { (phase : ErasePhase) → IsSoundSurvey phase (as_survey counts.now) → ⊥ }
     ensures { IsJournalFault result (as_survey counts.now) }
 {
     if let Some(fault) = vote_fault(counts, JournalId::J0) {

@@ -1,5 +1,5 @@
 use Rattle.std.proofs.lemmas.Result.{err_from_is_err_and}
-use Rattle.erase_journal.specs.declared.phase.Phase.TheVariants.{Asked, Doomed}
+use Rattle.erase_journal.specs.declared.phase.ErasePhase.TheVariants.{Asked, Doomed}
 use Rattle.erase_journal.specs.Journals.{unused}
 use Rattle.erase_journal.specs.Votes.{once_erased}
 use Rattle.erase_journal.proofs.Steps.{steps-on}

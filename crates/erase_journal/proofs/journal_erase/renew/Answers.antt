@@ -1,6 +1,6 @@
 use Rattle.std.proofs.Common.{ap, ◌∙◌}
 use Rattle.std.proofs.lemmas.Result.{err_from_is_err_and}
-use Rattle.erase_journal.specs.declared.phase.Phase.TheVariants.{Idle, Doomed, Closing}
+use Rattle.erase_journal.specs.declared.phase.ErasePhase.TheVariants.{Idle, Doomed, Closing}
 use Rattle.erase_journal.specs.Journals.{unused, settled}
 use Rattle.chip_model.specs.Memory.{erased}
 use Rattle.erase_journal.proofs.Steps.{steps-on}

@@ -1,5 +1,5 @@
 use Rattle.std.proofs.Common.{ap, ◌∙◌, subst, rules}
-use Rattle.erase_journal.specs.declared.phase.Phase.TheVariants.{Doomed}
+use Rattle.erase_journal.specs.declared.phase.ErasePhase.TheVariants.{Doomed}
 use Rattle.erase_journal.specs.Votes.{once_erased}
 use Rattle.erase_journal.specs.Journals.{settled, unused, unused_of}
 use Rattle.erase_journal.specs.Spending.{Maintains, at_rest}

@@ -2,7 +2,7 @@ use Rattle.std.proofs.lemmas.Result.{err_from_is_err_and}
 use Rattle.nor_driver.proofs.CallLaws.{succeeds-after}
 use Rattle.erase_journal.proofs.Renewal.{second-cut, second-opened, some-second, stands-on, same-blocks-on}
 use Rattle.erase_journal.specs.Journals.{settled, unused}
-use Rattle.erase_journal.specs.declared.phase.Phase.TheVariants.{Asked, Doomed}
+use Rattle.erase_journal.specs.declared.phase.ErasePhase.TheVariants.{Asked, Doomed}
 use Rattle.erase_journal.proofs.Uses.{same-on}
 use Rattle.erase_journal.proofs.recovery.resume_asked.Goals as goal
 

@@ -2,8 +2,8 @@ use Rattle.std.proofs.Common.{Option, Some, None}
 use Rattle.std.specs.Prelude.{MatchOption}
 use Rattle.nor_layout.specs.declared.journal.JournalId.{JournalId}
 use Rattle.nor_layout.specs.declared.journal.JournalId.TheVariants.{J0, J1, J2}
-use Rattle.erase_journal.specs.declared.phase.Phase.{Phase}
-use Rattle.erase_journal.specs.declared.phase.Phase.TheVariants.{Idle, Asked, Doomed, Closing}
+use Rattle.erase_journal.specs.declared.phase.ErasePhase.{ErasePhase}
+use Rattle.erase_journal.specs.declared.phase.ErasePhase.TheVariants.{Idle, Asked, Doomed, Closing}
 use Rattle.erase_journal.specs.declared.survey.Survey.{Survey}
 use Rattle.erase_journal.specs.Journals.{IsSoundSurvey}
 use Rattle.erase_journal.proofs.survey.decide.Goals as goal
@@ -16,14 +16,14 @@ none-for s n0 n1 n2 J0 = n0
 none-for s n0 n1 n2 J1 = n1
 none-for s n0 n1 n2 J2 = n2
 
-no-phase : (s : Survey) → (IsSoundSurvey Idle s → ⊥) → ((x : JournalId) → NoneFor s x) → (phase : Phase) → IsSoundSurvey phase s → ⊥
+no-phase : (s : Survey) → (IsSoundSurvey Idle s → ⊥) → ((x : JournalId) → NoneFor s x) → (phase : ErasePhase) → IsSoundSurvey phase s → ⊥
 no-phase s i n Idle h = i h
 no-phase s i n (Asked x) h = (n x).0 h
 no-phase s i n (Doomed x) h = (n x).1 h
 no-phase s i n (Closing x) h = (n x).2 h
 
-decided : (s : Survey) (r : Option Phase) → (IsSoundSurvey Idle s → ⊥) → NoneFor s J0 → NoneFor s J1
-    → MatchOption r (NoneFor s J2) (λ phase. IsSoundSurvey phase s) → MatchOption r ((phase : Phase) → IsSoundSurvey phase s → ⊥) (λ phase. IsSoundSurvey phase s)
+decided : (s : Survey) (r : Option ErasePhase) → (IsSoundSurvey Idle s → ⊥) → NoneFor s J0 → NoneFor s J1
+    → MatchOption r (NoneFor s J2) (λ phase. IsSoundSurvey phase s) → MatchOption r ((phase : ErasePhase) → IsSoundSurvey phase s → ⊥) (λ phase. IsSoundSurvey phase s)
 decided s None i n0 n1 n2 = no-phase s i (none-for s n0 n1 n2)
 decided s (Some phase) i n0 n1 h = h
 

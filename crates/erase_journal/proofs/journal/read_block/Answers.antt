@@ -1,6 +1,6 @@
 use Rattle.std.proofs.Common.{length}
 use Rattle.erase_journal.proofs.Data.{read-ok}
-use Rattle.erase_journal.proofs.block.read_block.Goals as goal
+use Rattle.erase_journal.proofs.journal.read_block.Goals as goal
 
 pub returns-clause-ok : goal.returns-clause-ok
 returns-clause-ok g c = read-ok (g.N.Nor.state c.args.nor.now).memory c.read.new.into c.args.block c.args.at (length c.args.into.now)

@@ -6,7 +6,7 @@ use Rattle.erase_journal.proofs.Effects.{and-spoiled}
 use Rattle.erase_journal.proofs.SettledLaws.{settled-of, ends-settled}
 use Rattle.erase_journal.proofs.Uses.{data-keeps}
 use Rattle.erase_journal.proofs.Knowing.{kept-known}
-use Rattle.erase_journal.proofs.block.program_block.Goals as goal
+use Rattle.erase_journal.proofs.journal.program_block.Goals as goal
 
 pub returns-clause-ok : goal.returns-clause-ok
 returns-clause-ok g c = program-bytes (g.N.Nor.state c.args.nor.now) (g.N.Nor.state c.program.new.self) c.args.block c.args.at c.args.bytes.now c.requires.settled c.requires.data c.requires.number c.requires.range c.program.result
