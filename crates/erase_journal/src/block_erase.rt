@@ -1,15 +1,15 @@
 //! The erase of a data block by an entry of J0.
 
-ghost use Rattle.std.specs.Prelude.{◌⊎◌, ◌≡◌, ◌+◌, ◌*◌, ◌/◌, ◌<◌, ◌≤◌, ◌^◌, ℕ, true, false, length};
-ghost use Rattle.std.specs.Prelude.{OnOk, IfOk, IfErr};
+ghost use Rattle.std.specs.Prelude.{◌⊎◌, ◌≡◌, ◌*◌, ◌/◌, ◌<◌, ◌≤◌, ℕ, true, false, length, OnOk};
+ghost use Rattle.std.specs.Prelude.{IfOk, IfErr};
 ghost use Rattle.std.specs.Result.{IsErrOf};
 ghost use Rattle.chip_model.specs.Geometry.{block_count};
 ghost use Rattle.nor_driver.specs.State.{IsNorReady, OnlyMemoryChanges, Refuses, Ends};
 ghost use Rattle.erase_journal.specs.Journals.{IsHealthy, IsSettled, is_free_entry, unused};
 ghost use Rattle.erase_journal.specs.Blocks.{SameBlocks, WithErased};
 ghost use Rattle.erase_journal.specs.Scans.{IsFreeAnswer, IsOpenAnswer};
-ghost use Rattle.erase_journal.specs.Steps.{IsRestful, IsTaken, IsOpened, EndsSettled};
-ghost use Rattle.erase_journal.specs.Steps.{SameNumbers, KeepsBlocks, EraseInterrupted};
+ghost use Rattle.erase_journal.specs.Steps.{IsRestful, IsTaken, IsOpened, EndsSettled, SameNumbers};
+ghost use Rattle.erase_journal.specs.Steps.{KeepsBlocks, EraseInterrupted};
 ghost use Rattle.erase_journal.specs.Spending.{IsUsed, KeepsUse, Spends, once_used};
 ghost use Rattle.erase_journal.specs.Known.{IsKnown};
 

@@ -2,11 +2,11 @@
 
 ghost use Rattle.std.specs.Prelude.{◌≡◌, ◌≤◌, length, OnOk};
 ghost use Rattle.std.specs.Result.{IsErrOf};
+ghost use Rattle.nor_driver.specs.State.{Ends};
 ghost use Rattle.erase_journal.specs.Votes.{once_erased};
 ghost use Rattle.erase_journal.specs.Journals.{unused, open_entries, AreJournalsSound};
 ghost use Rattle.erase_journal.specs.Blocks.{SameBlocks};
 ghost use Rattle.erase_journal.specs.Steps.{MayErase, IsStep, IsNext, KeepsBlocks};
-ghost use Rattle.nor_driver.specs.State.{Ends};
 
 use crate::phase::ErasePhase;
 use crate::votes::{close_vote, open_vote};

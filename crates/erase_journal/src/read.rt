@@ -1,8 +1,8 @@
 //! What is read of votes and entries.
 
 ghost use Rattle.std.specs.Prelude.{◌≡◌, ◌+◌, ◌≤◌, length, IfOk};
-ghost use Rattle.erase_journal.specs.Journals.{votes_at, survey_of, free_entries, open_entries};
 ghost use Rattle.nor_driver.specs.State.{Ends};
+ghost use Rattle.erase_journal.specs.Journals.{votes_at, survey_of, free_entries, open_entries};
 
 use crate::scan::{VoteCounts, count_free, count_open, count_votes};
 use crate::survey::Survey;

@@ -3,6 +3,7 @@
 ghost use Rattle.std.specs.Prelude.{◌↔◌, ◌⊎◌, None, false, IsSome, IfOk, IfSome, ◌≡◌, ◌≤◌, length};
 ghost use Rattle.std.specs.Prelude.{OnOk};
 ghost use Rattle.std.specs.Result.{IsErrOf};
+ghost use Rattle.nor_driver.specs.State.{Ends};
 ghost use Rattle.erase_journal.specs.Journals.{AreJournalsSound, IsSettled, IsHealthy, settled};
 ghost use Rattle.erase_journal.specs.Journals.{unused};
 ghost use Rattle.erase_journal.specs.Blocks.{SameBlocks};
@@ -10,7 +11,6 @@ ghost use Rattle.erase_journal.specs.Steps.{SameNumbers, KeepsBlocks, EndsSettle
 ghost use Rattle.erase_journal.specs.Spending.{Continues};
 ghost use Rattle.erase_journal.specs.Recovery.{seen, Restored, RestoreCut, RestoreSlow};
 ghost use Rattle.erase_journal.specs.Recovery.{RestoreCorrupt};
-ghost use Rattle.nor_driver.specs.State.{Ends};
 
 use crate::block_erase::{find_open, finish_entry};
 use crate::journal_erase::renew;

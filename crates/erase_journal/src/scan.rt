@@ -1,10 +1,10 @@
 //! The votes and entries in bytes that were read.
 
-ghost use Rattle.std.specs.Prelude.{◌≡◌, ◌+◌, ◌<◌, ◌≤◌, ◌==◌, ◌||◌, not, true, false, ℕ, List};
-ghost use Rattle.std.specs.Prelude.{length, slice_index, MatchOption};
+ghost use Rattle.std.specs.Prelude.{◌≡◌, ◌+◌, ◌<◌, ◌≤◌, ◌==◌, true, false, ℕ, length, slice_index};
+ghost use Rattle.std.specs.Prelude.{MatchOption};
+ghost use Rattle.nor_layout.specs.Entries.{block_in};
 ghost use Rattle.erase_journal.specs.Scans.{count_equal, count_wrong, free_in, is_free_in, open_in};
 ghost use Rattle.erase_journal.specs.Scans.{is_open_in, entry_in};
-ghost use Rattle.nor_layout.specs.Entries.{block_in};
 
 use nor_layout::{ENTRIES, ENTRIES_LEN, Entry, REGION_LEN, Vote, entry_state, vote_state};
 

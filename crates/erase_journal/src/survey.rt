@@ -1,6 +1,6 @@
 //! All numbers of the journals, and what they say of the phase.
 
-ghost use Rattle.std.specs.Prelude.{◌≡◌, ◌↔◌, ◌≤◌, IsTrue, MatchOption};
+ghost use Rattle.std.specs.Prelude.{◌≡◌, ◌↔◌, IsTrue, MatchOption};
 ghost use Rattle.nor_layout.specs.Journals.{next};
 ghost use Rattle.erase_journal.specs.declared.phase.ErasePhase.{ErasePhase};
 ghost use Rattle.erase_journal.specs.Journals.{HoldsVotes, HasNoOpenVote, IsInPhase, IsSoundSurvey};

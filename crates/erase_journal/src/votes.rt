@@ -2,11 +2,11 @@
 
 ghost use Rattle.std.specs.Prelude.{◌≡◌, ◌+◌, ◌<◌, ◌≤◌, ◌^◌, length, OnOk, IfOk};
 ghost use Rattle.std.specs.Result.{IsErrOf};
+ghost use Rattle.nor_driver.specs.State.{Ends};
 ghost use Rattle.nor_layout.specs.Votes.{byte_of};
 ghost use Rattle.erase_journal.specs.Journals.{votes_at};
 ghost use Rattle.erase_journal.specs.Scans.{IsFound};
 ghost use Rattle.erase_journal.specs.Steps.{OneChanged, PerhapsChanged};
-ghost use Rattle.nor_driver.specs.State.{Ends};
 
 use crate::scan::lowest;
 use nor_driver::{Nor, NorError};

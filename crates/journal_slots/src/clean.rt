@@ -1,15 +1,14 @@
 //! Whether what reads as free is erased: one read of each data block.
 
-ghost use Rattle.std.specs.Prelude.{◌≡◌, ◌+◌, ◌*◌, ◌<◌, ℕ, drop, length, slice_index_or};
-ghost use Rattle.std.specs.Prelude.{IfOk, IsTrue, IsFalse};
+ghost use Rattle.std.specs.Prelude.{◌≡◌, ◌+◌, ◌*◌, ◌<◌, ℕ, length, IfOk, IsTrue, IsFalse};
 ghost use Rattle.chip_model.specs.Geometry.{IsChipSize};
 ghost use Rattle.chip_model.specs.Memory.{byte};
 ghost use Rattle.nor_layout.specs.Kinds.{kind_of};
 ghost use Rattle.nor_layout.specs.declared.header.Header.TheVariants as headers;
+ghost use Rattle.erase_journal.specs.Steps.{EndsSettled};
 ghost use Rattle.sector_slots.specs.Slots.{data_blocks, data_block, descriptor_in, read_header};
 ghost use Rattle.sector_slots.specs.Slots.{content_bytes, blank_sector};
 ghost use Rattle.journal_slots.specs.Clean.{IsCleanBlock, AreCleanBlocks};
-ghost use Rattle.erase_journal.specs.Steps.{EndsSettled};
 
 use crate::head::{BlockHead, HEAD_LEN, head_of};
 use crate::slot::SECTOR_LEN;

@@ -5,10 +5,10 @@ ghost use Rattle.std.specs.Prelude.{IfOk};
 ghost use Rattle.chip_model.specs.Geometry.{IsChipSize};
 ghost use Rattle.nor_layout.specs.Headers.{header_of};
 ghost use Rattle.nor_layout.specs.Kinds.{kind_of};
-ghost use Rattle.sector_slots.specs.Slots.{data_blocks, data_block, descriptor_in, kind_at};
-ghost use Rattle.sector_slots.specs.Slots.{read_header, header_in};
 ghost use Rattle.nor_layout.specs.declared.header.Tag.{Tag as TagOf};
 ghost use Rattle.erase_journal.specs.Steps.{EndsSettled};
+ghost use Rattle.sector_slots.specs.Slots.{data_blocks, data_block, descriptor_in, kind_at};
+ghost use Rattle.sector_slots.specs.Slots.{read_header, header_in};
 
 use crate::store::FIRST_DATA_BLOCK;
 use erase_journal::Journal;

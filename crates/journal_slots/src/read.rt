@@ -1,14 +1,14 @@
 //! What is read of one slot, and of the mark of a copy, over a journal. No read changes the memory.
 
-ghost use Rattle.std.specs.Prelude.{◌≡◌, ◌≢◌, ◌↔◌, ◌+◌, ◌<◌, ◌∷◌, [], ℕ, List, Some, length};
-ghost use Rattle.std.specs.Prelude.{slice_set, OnOk, IfOk, MatchOption, IsTrue};
+ghost use Rattle.std.specs.Prelude.{◌≡◌, ◌≢◌, ◌↔◌, ◌+◌, ◌<◌, [], ℕ, List, Some, length, slice_set};
+ghost use Rattle.std.specs.Prelude.{OnOk, IfOk, MatchOption, IsTrue};
 ghost use Rattle.chip_model.specs.Geometry.{IsChipSize};
 ghost use Rattle.nor_layout.specs.Kinds.{kind_of};
 ghost use Rattle.nor_layout.specs.declared.header.Tag.{Tag as TagOf};
+ghost use Rattle.erase_journal.specs.Steps.{EndsSettled};
 ghost use Rattle.sector_slots.specs.Slots.{Free, Live, data_blocks, data_block, descriptor_in};
 ghost use Rattle.sector_slots.specs.Slots.{content_bytes, raw_slot, stored_at, slot_count};
 ghost use Rattle.sector_slots.specs.Steps.{IsBegun};
-ghost use Rattle.erase_journal.specs.Steps.{EndsSettled};
 
 use crate::head::read_head;
 use crate::slot::{PLACES, content_place};

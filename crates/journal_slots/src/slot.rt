@@ -4,16 +4,16 @@
 ghost use Rattle.std.specs.Prelude.{◌≡◌, ◌≢◌, ◌⊎◌, ◌+◌, ◌*◌, ◌<◌, ℕ, length, OnOk, false, ◌%◌, ◌≤◌};
 ghost use Rattle.std.specs.Result.{IsErrOf};
 ghost use Rattle.chip_model.specs.Geometry.{IsChipSize};
-ghost use Rattle.erase_journal.specs.Blocks.{SameChip, OnlyBlock};
-ghost use Rattle.erase_journal.specs.Journals.{IsHealthy};
-ghost use Rattle.sector_slots.specs.Slots.{Free, Live, Dead, data_blocks, data_block, kind_at};
-ghost use Rattle.sector_slots.specs.Slots.{raw_slot, IsLive, is_group};
-ghost use Rattle.journal_slots.specs.Programs.{InPlace, OnlyBytes, WriteLeaves};
-ghost use Rattle.sector_slots.specs.Steps.{HoldsTag, OnlyPlace, IsBegun, IsErasedSlot, CopyLeaves};
-ghost use Rattle.sector_slots.specs.Copying.{copied_tag, source_slot};
-ghost use Rattle.erase_journal.specs.Steps.{EndsSettled};
 ghost use Rattle.chip_model.specs.Memory.{byte, and_at, TornAnd};
 ghost use Rattle.nor_driver.specs.State.{Leaves};
+ghost use Rattle.erase_journal.specs.Blocks.{SameChip, OnlyBlock};
+ghost use Rattle.erase_journal.specs.Journals.{IsHealthy};
+ghost use Rattle.erase_journal.specs.Steps.{EndsSettled};
+ghost use Rattle.sector_slots.specs.Slots.{Free, Live, Dead, data_blocks, data_block, kind_at};
+ghost use Rattle.sector_slots.specs.Slots.{raw_slot, IsLive, is_group};
+ghost use Rattle.sector_slots.specs.Steps.{HoldsTag, OnlyPlace, IsBegun, IsErasedSlot, CopyLeaves};
+ghost use Rattle.sector_slots.specs.Copying.{copied_tag, source_slot};
+ghost use Rattle.journal_slots.specs.Programs.{InPlace, OnlyBytes, WriteLeaves};
 
 use crate::mark::read_kind;
 use crate::read::{read_slot, read_source};

@@ -1,14 +1,12 @@
 //! `SectorSlots`: the data blocks of a journal as slots. What each call does stands in `SlotCalls`.
 
 ghost use Rattle.std.specs.Prelude.{◌≡◌, ◌<◌, true, length, IfOk, IsTrue, IsFalse};
-ghost use Rattle.std.specs.Result.{IsErrOf};
 ghost use Rattle.chip_model.specs.Geometry.{IsChipSize};
 ghost use Rattle.nor_driver.specs.State.{NorState};
-ghost use Rattle.erase_journal.specs.Recovery.{Restored, RestoreFails};
-ghost use Rattle.sector_slots.specs.Blocks.{AreAtRest};
-ghost use Rattle.sector_slots.specs.Slots.{slot_count, descriptor_at, SameSlots, IsClean};
-ghost use Rattle.sector_slots.specs.Slots.{data_blocks, kind_at};
 ghost use Rattle.erase_journal.specs.Steps.{EndsSettled};
+ghost use Rattle.sector_slots.specs.Blocks.{AreAtRest};
+ghost use Rattle.sector_slots.specs.Slots.{slot_count, descriptor_at, IsClean, data_blocks};
+ghost use Rattle.sector_slots.specs.Slots.{kind_at};
 
 use crate::clean::read_clean;
 use crate::head::read_head;

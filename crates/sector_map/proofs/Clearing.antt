@@ -25,9 +25,9 @@ use Rattle.sector_slots.proofs.WinnerLaws.{sector-one, sector-content-is}
 use Rattle.sector_map.specs.Maps.{Sets, SetLeaves, IsServing, Wrote}
 use Rattle.sector_map.specs.Replace.{HeldBy, IsInSlots}
 use Rattle.sector_map.specs.Table.{IsTableOf, IsOneAtMost, Unset, holder}
-use Rattle.sector_map.specs.declared.held.Held.{Held}
-use Rattle.sector_map.specs.declared.entry.Entry.{Entry}
-use Rattle.sector_map.specs.declared.entry.Entry.TheVariants.{Absent}
+use Rattle.sector_map.specs.declared.table.Held.{Held}
+use Rattle.sector_map.specs.declared.table.Entry.{Entry}
+use Rattle.sector_map.specs.declared.table.Entry.TheVariants.{Absent}
 use Rattle.sector_map.proofs.Places.{others-kept, slot-only, placed-settled, live-placed, holds-computed}
 use Rattle.sector_map.proofs.Replacing.{held-step, single-at, not-dead}
 use Rattle.sector_map.proofs.MapSteps.{named-table}

@@ -20,9 +20,9 @@ use Rattle.sector_slots.specs.Copying.{shifted}
 use Rattle.sector_map.specs.Scan.{HeadsOf, Follows, FollowsBlock, AreApart}
 use Rattle.sector_map.specs.Table.{IsTableOf, IsOneAtMost, holder}
 use Rattle.sector_map.specs.Replace.{HeldBy, IsInSlots}
-use Rattle.sector_map.specs.declared.held.Held.{Held}
-use Rattle.sector_map.specs.declared.entry.Entry.{Entry}
-use Rattle.sector_map.specs.declared.entry.Entry.TheVariants.{Absent}
+use Rattle.sector_map.specs.declared.table.Held.{Held}
+use Rattle.sector_map.specs.declared.table.Entry.{Entry}
+use Rattle.sector_map.specs.declared.table.Entry.TheVariants.{Absent}
 use Rattle.sector_map.specs.declared.found.Found.TheVariants.{AtRest}
 use Rattle.sector_map.proofs.Founds.{heads-of}
 use Rattle.sector_stock.specs.Takes.{Shifts, Converts, MakesNoGroup}

@@ -16,9 +16,9 @@ use Rattle.sector_slots.proofs.CopyLaws.{rest-counted}
 use Rattle.sector_slots.proofs.GroupLaws.{group-slot, dead-slot, spoilt-slot}
 use Rattle.sector_map.specs.Table.{TwoHold, EntryHolds, IsTabled}
 use Rattle.sector_map.specs.Mending.{IsGroupPair, IsMixedPair, PairsSeen, IsOlderGroup, HasDeadGroup}
-use Rattle.sector_map.specs.declared.held.Held.{Held}
-use Rattle.sector_map.specs.declared.entry.Entry.{Entry}
-use Rattle.sector_map.specs.declared.entry.Entry.TheVariants.{Absent, One, Two}
+use Rattle.sector_map.specs.declared.table.Held.{Held}
+use Rattle.sector_map.specs.declared.table.Entry.{Entry}
+use Rattle.sector_map.specs.declared.table.Entry.TheVariants.{Absent, One, Two}
 use Rattle.nor_driver.specs.State.{NorState}
 use Rattle.erase_journal.specs.Steps.{SucceedsSettled}
 use Rattle.sector_map.proofs.Retiring.{two-apart, succeeds-perhaps}

@@ -15,7 +15,7 @@ use Rattle.sector_stock.specs.Index.{is_live_group}
 use Rattle.sector_stock.specs.Takes.{IsLiveGroup}
 use Rattle.sector_stock.proofs.Converting.{group-of}
 use Rattle.sector_map.specs.Replace.{HeldBy, IsInSlots}
-use Rattle.sector_map.specs.declared.held.Held.{Held}
+use Rattle.sector_map.specs.declared.table.Held.{Held}
 use Rattle.sector_map.proofs.Places.{at-rest-slot}
 use Rattle.sector_map.proofs.MapSteps.{there}
 use Rattle.sector_map.proofs.Following.{relocates-single}

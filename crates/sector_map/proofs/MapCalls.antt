@@ -28,9 +28,9 @@ use Rattle.sector_map.specs.Scan.{TableFollows, FollowsBlock}
 use Rattle.sector_map.specs.Replace.{HeldBy, IsInSlots, IsReplaceable, Rewrites, RewriteLeaves}
 use Rattle.sector_map.specs.Table.{IsTableOf, KeptOne, holder}
 use Rattle.sector_map.specs.Maps.{IsStore, KeepsMap, KeepsEach, Sets, SetLeaves, IsServing, Wrote, KeptServing}
-use Rattle.sector_map.specs.declared.held.Held.{Held}
-use Rattle.sector_map.specs.declared.entry.Entry.{Entry}
-use Rattle.sector_map.specs.declared.entry.Entry.TheVariants.{Absent}
+use Rattle.sector_map.specs.declared.table.Held.{Held}
+use Rattle.sector_map.specs.declared.table.Entry.{Entry}
+use Rattle.sector_map.specs.declared.table.Entry.TheVariants.{Absent}
 use Rattle.sector_map.proofs.Places.{holds-computed}
 use Rattle.sector_map.proofs.MapSteps.{table-follows}
 use Rattle.sector_map.proofs.Retiring.{single-tabled, table-holder, refuses-perhaps, succeeds-perhaps}

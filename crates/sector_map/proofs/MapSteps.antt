@@ -10,9 +10,9 @@ use Rattle.sector_slots.specs.Sectors.{LiveAt, IsSingle, IsSoundMap, sector_at, 
 use Rattle.sector_slots.proofs.BlankLaws.{holds-sound}
 use Rattle.sector_map.specs.Replace.{HeldBy, Replaces}
 use Rattle.sector_map.specs.Table.{EntryHolds, IsOneAtMost, IsTableOf, KeptOne, holder}
-use Rattle.sector_map.specs.declared.held.Held.{Held}
-use Rattle.sector_map.specs.declared.entry.Entry.{Entry}
-use Rattle.sector_map.specs.declared.entry.Entry.TheVariants.{Absent, One, Two}
+use Rattle.sector_map.specs.declared.table.Held.{Held}
+use Rattle.sector_map.specs.declared.table.Entry.{Entry}
+use Rattle.sector_map.specs.declared.table.Entry.TheVariants.{Absent, One, Two}
 use Rattle.sector_map.proofs.Retiring.{table-holder}
 
 -- live slots, with the number of slots of the memory after

@@ -25,7 +25,7 @@ use Rattle.sector_map.specs.Found.{FoundIn, FoundBelow, RoomSeen}
 use Rattle.sector_map.specs.Table.{IsTabled, Mends, Repairs, Mounts, MountCut}
 use Rattle.sector_map.specs.declared.found.Found.{Found}
 use Rattle.sector_map.specs.declared.found.Found.TheVariants.{AtRest, Void, Committed}
-use Rattle.sector_map.specs.declared.entry.Entry.{Entry}
+use Rattle.sector_map.specs.declared.table.Entry.{Entry}
 use Rattle.sector_map.proofs.Mounting.{live-tabled}
 use Rattle.sector_map.proofs.Retiring.{single-tabled}
 use Rattle.sector_slots.proofs.BlankLaws.{sound-holds, holds-sound, counted-same}

@@ -35,7 +35,7 @@ use Rattle.sector_map.specs.Table.{IsTabled, Mends}
 use Rattle.sector_map.specs.Mending.{IsGroupPair, PairsSeen, PairsAreSlots, HasDeadGroup, IsOlderGroup, EndsFound, RetiresOlder, RetiresEach, MakesRoom, MendsBlocks}
 use Rattle.sector_map.specs.declared.found.Found.{Found}
 use Rattle.sector_map.specs.declared.found.Found.TheVariants.{AtRest, Void, Committed}
-use Rattle.sector_map.specs.declared.entry.Entry.{Entry}
+use Rattle.sector_map.specs.declared.table.Entry.{Entry}
 use Rattle.sector_map.proofs.Grouping.{of-group, older-of, has-newer, none-room, pair-held, group-number}
 use Rattle.sector_map.proofs.Mounting.{live-tabled}
 use Rattle.sector_map.proofs.Restoring.{blocks-clean}

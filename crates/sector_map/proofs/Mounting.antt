@@ -25,8 +25,8 @@ use Rattle.sector_map.proofs.Grouping.{none-room, tabled-apart}
 use Rattle.sector_map.specs.Table.{EntryHolds, IsTabled, IsTableOf}
 use Rattle.sector_map.specs.declared.found.Found.{Found}
 use Rattle.sector_map.specs.declared.found.Found.TheVariants.{AtRest, Void, Committed}
-use Rattle.sector_map.specs.declared.entry.Entry.{Entry}
-use Rattle.sector_map.specs.declared.entry.Entry.TheVariants as entries
+use Rattle.sector_map.specs.declared.table.Entry.{Entry}
+use Rattle.sector_map.specs.declared.table.Entry.TheVariants as entries
 use Rattle.sector_map.proofs.Founds.{void-target, committed-target}
 use Rattle.sector_map.proofs.Retiring.{sound-tabled, single-tabled}
 

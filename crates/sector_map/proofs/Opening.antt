@@ -22,7 +22,7 @@ use Rattle.sector_map.specs.Marking.{IsUnmarked, mixed_mark}
 use Rattle.sector_map.specs.Table.{Mounts, MountCut}
 use Rattle.sector_map.specs.Maps.{IsMountable, IsLaidOut, geometry_of, KeepsEach, Mounted, MountWasCut, MountFails, shown_with, is_slow_in}
 use Rattle.sector_map.specs.Filling.{Filled, FillCut, FillFails}
-use Rattle.sector_map.specs.declared.entry.Entry.{Entry}
+use Rattle.sector_map.specs.declared.table.Entry.{Entry}
 use Rattle.sector_map.specs.declared.error.MountError.{MountError}
 use Rattle.sector_map.specs.declared.error.MountError.TheVariants as mounts
 use Rattle.sector_map.proofs.MapCalls.{each-after}

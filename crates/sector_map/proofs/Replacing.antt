@@ -21,7 +21,7 @@ use Rattle.sector_slots.proofs.SlotLaws.{counted-raw}
 use Rattle.sector_slots.proofs.WinnerLaws.{sector-one, sector-content-is}
 use Rattle.sector_map.proofs.Places.{live-not-free, dead-not-live, slot-only, others-kept, placed-settled, live-placed, put-holds, put-left, retire-left}
 use Rattle.sector_map.specs.Replace.{HeldBy, generation_after, IsReplaceable, Replaces, ReplaceLeaves, Rewrites, RewriteLeaves}
-use Rattle.sector_map.specs.declared.held.Held.{Held}
+use Rattle.sector_map.specs.declared.table.Held.{Held}
 
 pub chip-after : (a b c : List ℕ) → SameChip a b → SameChip b c → SameChip a c
 chip-after a b c p q = record { same_length = q.same_length ∙ p.same_length; superblock = λ k low. q.superblock k low ∙ p.superblock k low }

@@ -23,9 +23,9 @@ use Rattle.sector_map.specs.Replace.{HeldBy}
 use Rattle.sector_map.specs.Table.{IsTableOf, Mounts, MountCut, holder}
 use Rattle.sector_map.specs.Maps.{IsStore, KeepsEach, KeepsMap, SetLeaves, IsServing, KnownWhile, is_slow_in}
 use Rattle.sector_map.specs.Filling.{Renewed, RenewCorrupt, RenewCut, RenewFails}
-use Rattle.sector_map.specs.declared.held.Held.{Held}
-use Rattle.sector_map.specs.declared.entry.Entry.{Entry}
-use Rattle.sector_map.specs.declared.entry.Entry.TheVariants.{Absent}
+use Rattle.sector_map.specs.declared.table.Held.{Held}
+use Rattle.sector_map.specs.declared.table.Entry.{Entry}
+use Rattle.sector_map.specs.declared.table.Entry.TheVariants.{Absent}
 use Rattle.sector_map.proofs.Retiring.{table-holder}
 use Rattle.sector_map.proofs.MapCalls.{keeps-each, each-after, keeps-none}
 

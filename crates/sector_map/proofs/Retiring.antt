@@ -21,9 +21,9 @@ use Rattle.sector_map.specs.Mending.{PairsAreSlots}
 use Rattle.sector_map.proofs.Places.{others-kept, slot-only, placed-settled, live-placed, retire-left}
 use Rattle.sector_map.specs.Table.{OneHolds, TwoHold, EntryHolds, IsTabled, KeptOne, IsOneAtMost, IsTableOf, holder}
 use Rattle.sector_map.specs.Replace.{HeldBy}
-use Rattle.sector_map.specs.declared.held.Held.{Held}
-use Rattle.sector_map.specs.declared.entry.Entry.{Entry}
-use Rattle.sector_map.specs.declared.entry.Entry.TheVariants.{Absent, One, Two}
+use Rattle.sector_map.specs.declared.table.Held.{Held}
+use Rattle.sector_map.specs.declared.table.Entry.{Entry}
+use Rattle.sector_map.specs.declared.table.Entry.TheVariants.{Absent, One, Two}
 use Rattle.erase_journal.proofs.SettledLaws.{settled-healthy, settled-after, refuses-settled}
 use Rattle.sector_map.proofs.Replacing.{chip-after, back-through, on-through}
 

@@ -12,9 +12,9 @@ use Rattle.sector_slots.specs.Sectors.{LiveAt, SoundSlots, generation_in, is_nex
 use Rattle.sector_slots.proofs.SectorLaws.{number_in, kind_in, never-round}
 use Rattle.sector_slots.proofs.WinnerLaws.{byte-one}
 use Rattle.sector_map.specs.Table.{EntryHolds, IsTabled, noted, IsBlankTable, Entered, Enters, Heads}
-use Rattle.sector_map.specs.declared.held.Held.{Held}
-use Rattle.sector_map.specs.declared.entry.Entry.{Entry}
-use Rattle.sector_map.specs.declared.entry.Entry.TheVariants.{Absent, One, Two}
+use Rattle.sector_map.specs.declared.table.Held.{Held}
+use Rattle.sector_map.specs.declared.table.Entry.{Entry}
+use Rattle.sector_map.specs.declared.table.Entry.TheVariants.{Absent, One, Two}
 
 more : (f : ℕ → Slot) (n b g : ℕ) (k : Generation) (x : List ℕ) → LiveAt f n b g k x → LiveAt f (suc n) b g k x
 more f n b g k x l = record { number = omega (arith, l.number); is = l.is }

@@ -6,7 +6,7 @@ use Rattle.nor_driver.specs.declared.error.NorError.{NorError}
 use Rattle.nor_layout.specs.Superblock.{mixed_in}
 use Rattle.sector_slots.specs.Sectors.{IsSoundMap}
 use Rattle.sector_map.specs.Marking.{IsUnmarked, mixed_mark}
-use Rattle.sector_map.specs.declared.entry.Entry.{Entry}
+use Rattle.sector_map.specs.declared.table.Entry.{Entry}
 use Rattle.sector_map.specs.declared.error.MountError.{MountError}
 use Rattle.nor_driver.specs.declared.error.NorError.TheVariants as errors
 use Rattle.sector_map.specs.declared.error.MountError.TheVariants as mounts

@@ -16,7 +16,7 @@ use Rattle.sector_slots.specs.Blocks.{AreSettled}
 use Rattle.sector_slots.specs.Sectors.{IsSoundMap, HasSlotsAlone, sector_at}
 use Rattle.sector_map.specs.Marking.{SameDisk, IsUnmarked, mixed_mark}
 use Rattle.sector_map.specs.Table.{IsTableOf}
-use Rattle.sector_map.specs.declared.entry.Entry.{Entry}
+use Rattle.sector_map.specs.declared.table.Entry.{Entry}
 use Rattle.sector_map.specs.declared.error.MountError.{MountError}
 use Rattle.nor_layout.specs.declared.superblock.SuperError.{SuperError}
 use Rattle.nor_layout.specs.declared.superblock.SuperError.TheVariants as refusals

@@ -10,11 +10,11 @@ use Rattle.sector_slots.specs.Copying.{SameLive}
 use Rattle.sector_slots.specs.Blocks.{AreAtRest, AreSettled, HasGroupRoom}
 use Rattle.sector_stock.specs.Copy.{EndsCopy}
 use Rattle.sector_map.specs.Table.{IsTabled, Mends}
-use Rattle.sector_map.specs.declared.held.Held.{Held}
+use Rattle.sector_map.specs.declared.table.Held.{Held}
 use Rattle.sector_map.specs.declared.found.Found.{Found}
 use Rattle.sector_map.specs.declared.found.Found.TheVariants.{AtRest, Void, Committed}
-use Rattle.sector_map.specs.declared.entry.Entry.{Entry}
-use Rattle.sector_map.specs.declared.entry.Entry.TheVariants.{Absent, Two}
+use Rattle.sector_map.specs.declared.table.Entry.{Entry}
+use Rattle.sector_map.specs.declared.table.Entry.TheVariants.{Absent, Two}
 
 -- Two slots hold sector g, by the table; the older one lies in a block of a group.
 pub record IsGroupPair (table : List Entry) (m : List ℕ) (g : ℕ) : Type 0 where

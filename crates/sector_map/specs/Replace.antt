@@ -11,7 +11,7 @@ use Rattle.sector_slots.specs.Blocks.{AreSettled}
 use Rattle.sector_slots.specs.Sectors.{LiveAt, IsAbsent, IsSingle, IsSoundMap, HoldsSectors}
 use Rattle.sector_slots.specs.Sectors.{HasSlotsAlone, sector_at, with_sector}
 use Rattle.sector_stock.specs.Room.{IsOutside}
-use Rattle.sector_map.specs.declared.held.Held.{Held}
+use Rattle.sector_map.specs.declared.table.Held.{Held}
 
 -- which slot holds sector g; None where the sector is absent
 abbrev pub HeldBy : Option Held → ℕ → List ℕ → Type 0

@@ -10,8 +10,8 @@ use Rattle.sector_slots.specs.Slots.{Slot, Live, slot_with, read_header, slot_at
 use Rattle.sector_slots.specs.Sectors.{SoundSlots}
 use Rattle.sector_map.specs.Table.{IsTabled, KeptOne}
 use Rattle.sector_stock.specs.declared.given.Copied.{Copied}
-use Rattle.sector_map.specs.declared.entry.Entry.{Entry}
-use Rattle.sector_map.specs.declared.entry.Entry.TheVariants.{Absent, One}
+use Rattle.sector_map.specs.declared.table.Entry.{Entry}
+use Rattle.sector_map.specs.declared.table.Entry.TheVariants.{Absent, One}
 
 -- the slots of data block b have these seven descriptors
 abbrev pub HeadsOf : List Header → (ℕ → Slot) → ℕ → Type 0

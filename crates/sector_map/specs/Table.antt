@@ -13,9 +13,9 @@ use Rattle.sector_slots.specs.Sectors.{LiveAt, IsAbsent, is_next, IsSingle}
 use Rattle.sector_slots.specs.Sectors.{IsSoundMap, HoldsSectors, sector_at}
 use Rattle.nor_layout.specs.Superblock.{mixed_in}
 use Rattle.sector_map.specs.Marking.{SameDisk, IsUnmarked, mixed_mark}
-use Rattle.sector_map.specs.declared.held.Held.{Held}
-use Rattle.sector_map.specs.declared.entry.Entry.{Entry}
-use Rattle.sector_map.specs.declared.entry.Entry.TheVariants.{Absent, One, Two}
+use Rattle.sector_map.specs.declared.table.Held.{Held}
+use Rattle.sector_map.specs.declared.table.Entry.{Entry}
+use Rattle.sector_map.specs.declared.table.Entry.TheVariants.{Absent, One, Two}
 
 -- the slot of this holder is live with sector g
 abbrev pub IsHeldIn : Held → (ℕ → Slot) → ℕ → ℕ → Type 0

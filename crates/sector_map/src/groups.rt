@@ -17,9 +17,9 @@ ghost use Rattle.sector_map.specs.Mending.{RetiresEach, RetiresOlder, MakesRoom}
 ghost use Rattle.sector_map.specs.Table.{IsTabled, Mends};
 
 use crate::Held;
-use crate::entry::Entry;
 use crate::found::Found;
 use crate::scan::{either, is_of_group, read_table};
+use crate::table::Entry;
 use nor_driver::NorError;
 use nor_layout::Kind;
 use sector_slots::SlotCalls;

@@ -19,30 +19,24 @@
 
 #![tactic(auto)]
 
-mod entry;
 mod error;
-mod follow;
 mod found;
 mod groups;
-mod held;
 mod laws;
 mod map;
 mod mount;
-mod replace;
 mod scan;
 mod steps;
 mod stock;
 mod superblock;
 mod table;
 
-pub use entry::Entry;
 pub use error::MountError;
 pub use found::{Found, Seen, is_counted};
 pub use groups::{has_pair, lowest_dead_group};
-pub use held::Held;
 pub use laws::group_chips_are_mountable;
 pub use map::SectorMap;
 pub use mount::mount_in;
 pub use scan::{is_spare, survey};
 pub use stock::Stock;
-pub use table::enter_head;
+pub use table::{Entry, Held, enter_head};

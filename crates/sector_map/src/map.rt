@@ -1,12 +1,13 @@
 //! The type of the map: its latched error, its invariant, and its calls.
 
-ghost use Rattle.std.specs.Prelude.{◌≡◌, ◌<◌, ◌≤◌, ◌*◌, ◌-◌, Bool, Ok, true, false, length};
-ghost use Rattle.std.specs.Prelude.{vec_len, slice_index_or, OnOk, IfOk, IfErr, IsTrue, IsFalse};
+ghost use Rattle.std.specs.Prelude.{◌≡◌, ◌<◌, ◌≤◌, ◌*◌, ◌-◌, Ok, true, false, length, vec_len};
+ghost use Rattle.std.specs.Prelude.{slice_index_or, OnOk, IfOk, IfErr, IsTrue, IsFalse};
 ghost use Rattle.std.specs.Result.{IsErrOf};
 ghost use Rattle.chip_model.specs.Geometry.{IsChipSize, sector_count};
 ghost use Rattle.nor_driver.specs.State.{IsNorReady};
 ghost use Rattle.erase_journal.specs.Journals.{IsHealthy};
 ghost use Rattle.erase_journal.specs.Recovery.{IsBehind};
+ghost use Rattle.erase_journal.specs.Steps.{EndsSettled};
 ghost use Rattle.sector_slots.specs.Slots.{slot_count, data_blocks, IsClean};
 ghost use Rattle.sector_slots.specs.Sectors.{sector_at, zeros};
 ghost use Rattle.sector_stock.specs.Takes.{urgent_work, work_of};
@@ -15,16 +16,14 @@ ghost use Rattle.sector_map.specs.Maps.{IsStore, KeepsMap, Sets, SetLeaves, Moun
 ghost use Rattle.sector_map.specs.Maps.{MapRestored, MapRestoreFails, IsLaidOut};
 ghost use Rattle.sector_map.specs.Filling.{Filled, FillFails, Renewed, RenewCorrupt, RenewFails};
 ghost use Rattle.sector_map.specs.Filling.{latched_after_cut};
-ghost use Rattle.erase_journal.specs.Steps.{EndsSettled};
 
 use crate::Held;
-use crate::entry::Entry;
 use crate::error::MountError;
 use crate::mount::mount_in;
-use crate::replace::find_in;
-use crate::steps::{clear_in, tidy_in, tidy_urgent_in, write_in};
+use crate::steps::{clear_in, find_in, tidy_in, tidy_urgent_in, write_in};
 use crate::stock::Stock;
 use crate::superblock::look;
+use crate::table::Entry;
 use chip_model::Geometry;
 use erase_journal::{Journal, RecoverError};
 use journal_slots::SectorSlots;

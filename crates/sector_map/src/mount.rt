@@ -5,7 +5,7 @@ ghost use Rattle.std.specs.Prelude.{◌≡◌, ◌⊎◌, ◌<◌, ℕ, List, tr
 ghost use Rattle.std.specs.Prelude.{IfOk, IfErr, IsTrue, IsFalse};
 ghost use Rattle.std.specs.Result.{IsErrOf};
 ghost use Rattle.chip_model.specs.Geometry.{sector_count};
-ghost use Rattle.nor_driver.specs.State.{IsNorReady, Refuses};
+ghost use Rattle.nor_driver.specs.State.{Refuses};
 ghost use Rattle.erase_journal.specs.Blocks.{SameChip};
 ghost use Rattle.erase_journal.specs.Journals.{IsHealthy};
 ghost use Rattle.erase_journal.specs.Steps.{SucceedsSettled, EndsSettled};
@@ -20,12 +20,11 @@ ghost use Rattle.sector_map.specs.Table.{IsTabled, IsTableOf, IsBlankTable, Mend
 ghost use Rattle.sector_map.specs.Table.{MountCut};
 ghost use Rattle.sector_map.specs.declared.found.Seen.{Seen as SeenOf};
 
-use crate::entry::Entry;
 use crate::found::{Found, Seen, has_room};
 use crate::groups::{has_pair, lowest_dead_group, make_room, retire_groups};
 use crate::scan::{is_spare, read_table, survey};
 use crate::superblock::{mark_first, read_marks};
-use crate::table::keep_one;
+use crate::table::{Entry, keep_one};
 use nor_driver::NorError;
 use sector_slots::SlotCalls;
 use sector_stock::{Reclaim, end_committed, end_erased, end_void};

@@ -3,6 +3,7 @@
 ghost use Rattle.std.specs.Prelude.{◌≡◌, ◌≢◌, ◌+◌, ◌*◌, ◌<◌, ◌≤◌, ℕ, Bool, true, false, Some, None};
 ghost use Rattle.std.specs.Prelude.{◌||◌, length, IfOk, IsTrue, IsFalse};
 ghost use Rattle.nor_layout.specs.declared.header.Header.TheVariants as headers;
+ghost use Rattle.erase_journal.specs.Steps.{EndsSettled};
 ghost use Rattle.sector_slots.specs.Slots.{slot_at, slot_count, data_blocks, read_header};
 ghost use Rattle.sector_slots.specs.Slots.{IsSpareIn, is_group};
 ghost use Rattle.sector_slots.specs.Blocks.{AreSound};
@@ -11,11 +12,9 @@ ghost use Rattle.sector_map.specs.Found.{FoundIn, block_counts, noted_where};
 ghost use Rattle.sector_map.specs.declared.found.Found.{Found as FoundOf};
 ghost use Rattle.sector_map.specs.Scan.{EntersBlock, RefusesBlock};
 ghost use Rattle.sector_map.specs.Table.{IsTabled, IsBlankTable};
-ghost use Rattle.erase_journal.specs.Steps.{EndsSettled};
 
-use crate::entry::Entry;
 use crate::found::{Found, is_counted, note_kind};
-use crate::table::enter_head;
+use crate::table::{Entry, enter_head};
 use nor_driver::NorError;
 use nor_layout::{Header, Kind};
 use sector_slots::SlotCalls;

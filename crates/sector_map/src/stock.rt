@@ -1,15 +1,12 @@
 //! `Stock`, which implements `Reclaim`: slots with their index in memory. The choices and the steps
 //! are functions of `sector_stock`; here each keeps the index and its flag.
 
-ghost use Rattle.std.specs.Prelude.{◌≡◌, ◌≢◌, ◌<◌, ℕ, List, false, true, Some, None, length};
-ghost use Rattle.std.specs.Prelude.{IfOk, IsTrue, IsFalse};
-ghost use Rattle.nor_driver.specs.State.{IsNorReady};
-ghost use Rattle.erase_journal.specs.Journals.{IsSettled};
+ghost use Rattle.std.specs.Prelude.{◌≡◌, ◌<◌, ℕ, false, true, length, IfOk, IsTrue, IsFalse};
+ghost use Rattle.erase_journal.specs.Steps.{EndsSettled};
 ghost use Rattle.sector_slots.specs.Blocks.{AreAtRest};
 ghost use Rattle.sector_slots.specs.Slots.{slot_count, data_blocks, kind_at, IsClean};
 ghost use Rattle.sector_stock.specs.Index.{IsStocked};
 ghost use Rattle.sector_stock.specs.declared.policy.Policy.TheVariants as policies;
-ghost use Rattle.erase_journal.specs.Steps.{EndsSettled};
 
 use erase_journal::RecoverError;
 use journal_slots::SectorSlots;

@@ -1,14 +1,13 @@
 //! The superblock of a memory: its layout (step 1 of a mount), and the mark that a chip of layout 1
 //! is mixed (step 5).
 
-ghost use Rattle.std.specs.Prelude.{◌≡◌, ◌⊎◌, length, Ok, Err, OnOk, IfOk, IfErr, MatchResult};
+ghost use Rattle.std.specs.Prelude.{◌≡◌, ◌⊎◌, length, Ok, OnOk, IfOk, IfErr};
 ghost use Rattle.std.specs.Result.{IsErrOf};
-ghost use Rattle.nor_driver.specs.State.{IsNorReady, OnlyMemoryChanges, NorFails};
+ghost use Rattle.nor_driver.specs.State.{IsNorReady, OnlyMemoryChanges, NorFails, Refuses};
 ghost use Rattle.nor_layout.specs.Layouts.{layout_of};
-ghost use Rattle.sector_map.specs.Maps.{geometry_of};
-ghost use Rattle.nor_driver.specs.State.{Refuses};
 ghost use Rattle.erase_journal.specs.Journals.{IsHealthy};
 ghost use Rattle.erase_journal.specs.Steps.{SucceedsSettled, EndsSettled};
+ghost use Rattle.sector_map.specs.Maps.{geometry_of};
 ghost use Rattle.sector_map.specs.Marking.{is_unmarked, may_have_groups, Marks as MarksOf};
 
 use chip_model::Geometry;

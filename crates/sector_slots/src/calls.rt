@@ -2,26 +2,24 @@
 //! has a store that keeps an index beside its slots.
 
 ghost use Rattle.std.specs.Prelude.{◌≡◌, ◌≢◌, ◌⊎◌, ◌↔◌, ◌+◌, ◌*◌, ◌<◌, ℕ, Bool, false, List};
-ghost use Rattle.std.specs.Prelude.{slice_range};
-ghost use Rattle.chip_model.specs.Memory.{byte};
-ghost use Rattle.std.specs.Prelude.{length, OnOk, IfOk, IfErr, MatchOption, IsTrue};
+ghost use Rattle.std.specs.Prelude.{slice_range, length, OnOk, IfOk, IfErr, MatchOption, IsTrue};
 ghost use Rattle.std.specs.Result.{IsErrOf};
+ghost use Rattle.chip_model.specs.Memory.{byte};
 ghost use Rattle.chip_model.specs.Geometry.{IsChipSize};
 ghost use Rattle.nor_driver.specs.State.{NorState, IsNorReady};
 ghost use Rattle.nor_layout.specs.declared.header.Tag.{Tag as TagOf};
-ghost use Rattle.erase_journal.specs.Blocks.{SameChip, OnlyBlock, OnlySuper};
-ghost use Rattle.erase_journal.specs.Blocks.{WithErased};
+ghost use Rattle.erase_journal.specs.Blocks.{SameChip, OnlyBlock, OnlySuper, WithErased};
 ghost use Rattle.erase_journal.specs.Journals.{IsHealthy, unused};
 ghost use Rattle.erase_journal.specs.Spending.{Spends};
 ghost use Rattle.erase_journal.specs.Steps.{EraseInterrupted, EndsSettled};
 ghost use Rattle.erase_journal.specs.Recovery.{Restored, RestoreFails};
 ghost use Rattle.sector_slots.specs.Slots.{Free, Live, Dead, slot_at, stored_at, slot_count};
 ghost use Rattle.sector_slots.specs.Slots.{data_blocks, data_block, kind_at, raw_slot};
-ghost use Rattle.sector_slots.specs.Slots.{descriptor_in, read_header, IsClean, IsLive, SameSlots};
+ghost use Rattle.sector_slots.specs.Slots.{descriptor_in, read_header, IsClean, SameSlots};
 ghost use Rattle.sector_slots.specs.Copying.{source_slot};
-ghost use Rattle.sector_slots.specs.Steps.{IsRetirable};
-ghost use Rattle.sector_slots.specs.Steps.{IsWritable, PutLeaves, HoldsTag, MayHoldTag, OnlyPlace};
-ghost use Rattle.sector_slots.specs.Steps.{OnlyMark, IsBegun, IsErasedSlot, CopyLeaves, IsErasable};
+ghost use Rattle.sector_slots.specs.Steps.{IsRetirable, IsWritable, PutLeaves, HoldsTag};
+ghost use Rattle.sector_slots.specs.Steps.{MayHoldTag, OnlyPlace, OnlyMark, IsBegun, IsErasedSlot};
+ghost use Rattle.sector_slots.specs.Steps.{CopyLeaves, IsErasable};
 
 use erase_journal::RecoverError;
 use nor_driver::NorError;

@@ -1,15 +1,15 @@
 //! A block is copied into the reserve, and then erased.
 
-ghost use Rattle.std.specs.Prelude.{◌≡◌, ◌≢◌, ◌+◌, ◌<◌, ℕ, List, length, OnOk};
+ghost use Rattle.std.specs.Prelude.{◌≡◌, ◌<◌, ℕ, length, OnOk};
 ghost use Rattle.std.specs.Result.{IsErrOf};
 ghost use Rattle.nor_driver.specs.State.{IsNorReady};
 ghost use Rattle.erase_journal.specs.Journals.{IsHealthy};
+ghost use Rattle.erase_journal.specs.Steps.{EndsSettled};
 ghost use Rattle.sector_slots.specs.Slots.{data_blocks, IsSpareIn};
 ghost use Rattle.sector_slots.specs.Sectors.{IsSoundMap};
 ghost use Rattle.sector_stock.specs.Copy.{KeepsSectors, Stays, IsCopyable, IsFinished, Copies};
 ghost use Rattle.sector_stock.specs.Copy.{EndsCopy, IsVoidIn, IsCommittedIn};
 ghost use Rattle.sector_stock.specs.CopySteps.{IsCopiedTo, CopyProgress, Finishes, FinishLeaves};
-ghost use Rattle.erase_journal.specs.Steps.{EndsSettled};
 
 use nor_driver::NorError;
 use sector_slots::SlotCalls;
@@ -17,7 +17,11 @@ use sector_slots::SlotCalls;
 /// Copies the live slots of a block into a wholly free one, erases the block, and settles the copy.
 /// Cut, it leaves slots and blocks that a mount accepts; and where what read as free was erased,
 /// the map of sectors as it was.
-pub(crate) fn reclaim_into<S: SlotCalls>(slots: &mut S, source: u16, target: u16) -> Result<(), NorError>
+pub(crate) fn reclaim_into<S: SlotCalls>(
+    slots: &mut S,
+    source: u16,
+    target: u16,
+) -> Result<(), NorError>
     requires source { source < data_blocks (S.state slots.old).memory }
     requires target { target < data_blocks (S.state slots.old).memory }
     requires copyable { IsNorReady (S.state slots.old)

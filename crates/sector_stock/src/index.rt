@@ -5,17 +5,15 @@ ghost use Rattle.std.specs.Prelude.{◌≡◌, ◌≢◌, ◌⊎◌, ◌+◌, �
 ghost use Rattle.std.specs.Prelude.{MatchOption, IfSome};
 ghost use Rattle.sector_stock.specs.Index.{IsAhead, Marked, one_dead_more, one_free_fewer};
 ghost use Rattle.sector_stock.specs.Index.{in_block, IsMostDead, HasNoDead, IsLowestWithFree};
-ghost use Rattle.sector_stock.specs.Index.{HasFreeBut};
-ghost use Rattle.sector_stock.specs.Index.{HasNoFreeBut, copied_state, Shifted, IsIndexOf};
-ghost use Rattle.sector_stock.specs.Index.{IsWholeBlock, BlocksMoved, IsNextReserve};
-ghost use Rattle.sector_stock.specs.Index.{one_erase_more, IsLowestDead};
+ghost use Rattle.sector_stock.specs.Index.{HasFreeBut, HasNoFreeBut, copied_state, Shifted};
+ghost use Rattle.sector_stock.specs.Index.{IsIndexOf, IsWholeBlock, BlocksMoved, IsNextReserve};
+ghost use Rattle.sector_stock.specs.Index.{IsLowestDead, IsLowestGroup, HasNoGroup};
 ghost use Rattle.sector_stock.specs.Policies.{IsLeastWorn, HasNoneWanted};
 ghost use Rattle.sector_stock.specs.declared.policy.Policy.TheVariants as policies;
 ghost use Rattle.sector_stock.specs.declared.policy.Wanted.TheVariants as wanteds;
 ghost use Rattle.sector_stock.specs.IndexSteps.{AreSparesBelow, NextReserve, Widened};
 ghost use Rattle.sector_stock.specs.IndexSteps.{HasNoFreeState, IsFirstFreeState};
 ghost use Rattle.sector_stock.specs.Room.{HasNoneFree};
-ghost use Rattle.sector_stock.specs.Index.{IsLowestGroup, HasNoGroup};
 ghost use Rattle.sector_stock.specs.Takes.{IsGivable, IsLowestFree};
 
 use crate::policy::{Policy, Wanted, is_whole, least_worn, most_worn};
@@ -447,7 +445,11 @@ pub(crate) fn move_block(blocks: &mut [BlockState], at: &mut Cursors, source: u1
 }
 
 /// A free slot outside the reserve: the lowest-numbered where it chooses by number.
-pub(crate) fn free_slot(states: &[SlotState], blocks: &[BlockState], at: &mut Cursors) -> Option<u16>
+pub(crate) fn free_slot(
+    states: &[SlotState],
+    blocks: &[BlockState],
+    at: &mut Cursors,
+) -> Option<u16>
     requires size { length states.now < 65536 }
     requires states { length states.now ≡ 7 * length blocks.now }
     requires ahead { IsAhead blocks.now at.old }

@@ -1,11 +1,30 @@
-//! Which block is chosen: by its number, or by how often it was erased.
+//! Which block is chosen, by its number or by how often it was erased; and the move of a block whose
+//! sectors rest, so that all blocks wear alike.
 
-ghost use Rattle.std.specs.Prelude.{◌≡◌, ◌≢◌, ◌⊎◌, ◌<◌, ◌≤◌, ℕ, length, MatchOption};
-ghost use Rattle.std.specs.Prelude.{IsTrue, IsFalse};
-ghost use Rattle.sector_stock.specs.Index.{in_block, IsWholeBlock};
-ghost use Rattle.sector_stock.specs.Policies.{Wants, IsLeastWorn, HasNoneWanted};
+ghost use Rattle.std.specs.Prelude.{◌≡◌, ◌⊎◌, ◌<◌, ◌≤◌, ℕ, length, MatchOption, IsTrue, IsFalse};
+ghost use Rattle.std.specs.Prelude.{◌-◌, Some, None, OnOk, IfOk, IfSome};
+ghost use Rattle.std.specs.Result.{IsErrOf};
+ghost use Rattle.chip_model.specs.Geometry.{IsChipSize};
+ghost use Rattle.nor_driver.specs.State.{IsNorReady};
+ghost use Rattle.erase_journal.specs.Journals.{IsHealthy, IsSettled};
+ghost use Rattle.erase_journal.specs.Steps.{EndsSettled};
+ghost use Rattle.sector_stock.specs.Index.{in_block, IsWholeBlock, IsIndexOf, IsAhead, BlocksMoved};
+ghost use Rattle.sector_stock.specs.Policies.{Wants, IsLeastWorn, HasNoneWanted, IsTail, IsDue};
+ghost use Rattle.sector_stock.specs.Policies.{IsInUse, block_before};
+ghost use Rattle.sector_stock.specs.Room.{HasRoom, HasNoneDead};
+ghost use Rattle.sector_stock.specs.Copy.{Stays};
+ghost use Rattle.sector_stock.specs.Takes.{MovesInto, work_of};
+ghost use Rattle.sector_stock.specs.declared.given.Copied.{Copied as CopiedOf};
+ghost use Rattle.sector_stock.specs.declared.policy.Policy.TheVariants as policies;
 
-use crate::index::BlockState;
+use crate::copy::reclaim_into;
+use crate::given::Copied;
+use crate::index::{
+    BlockState, Cursors, SlotState, block_with_free, choose_reserve, most_dead, move_block,
+    shift_states,
+};
+use nor_driver::NorError;
+use sector_slots::SlotCalls;
 
 /// So many blocks are erased for each that is moved for its wear. Source: own.
 pub const TURN: u16 = 8;
@@ -127,4 +146,195 @@ pub(crate) fn most_worn(blocks: &[BlockState], first: u16) -> u16
         }
     }
     best
+}
+
+/// The block before another one, counted round.
+fn before(blocks: &[BlockState], block: u16) -> u16
+    requires size { length blocks.now < 65536 }
+    requires number { block < length blocks.now }
+    ensures { result ≡ block_before blocks.now block }
+{
+    if block == 0 {
+        blocks.len() as u16 - 1
+    } else {
+        block - 1
+    }
+}
+
+/// Whether a block is wholly free, and the sectors of the block before it rest.
+fn is_tail(blocks: &[BlockState], block: u16, most: u8, but: u16) -> bool
+    requires size { length blocks.now < 65536 }
+    requires number { block < length blocks.now }
+    ensures { IsTrue result → IsTail most but blocks.now block }
+{
+    let last = before(blocks, block);
+    last != but
+        && is_whole(blocks[block as usize])
+        && is_wanted(blocks[last as usize], Wanted::Cold(most))
+}
+
+/// Of the wholly free blocks behind one whose sectors rest the most worn. Blocks that are written
+/// often lie side by side; this is the one among them that has been for longest.
+fn tail(blocks: &[BlockState], most: u8, but: u16) -> Option<u16>
+    requires size { length blocks.now < 65536 }
+    ensures { IfSome result (λ b. IsTail most but blocks.now b) }
+{
+    let count = blocks.len() as u16;
+    let mut best = None;
+    for block in 0..count {
+        if is_tail(blocks, block, most, but) {
+            best = match best {
+                Some(old) => Some(more_worn(blocks, old, block)),
+                None => Some(block),
+            };
+        }
+    }
+    best
+}
+
+/// The one of two blocks that was erased more; of equals the first.
+fn more_worn(blocks: &[BlockState], old: u16, new: u16) -> u16
+    requires old { old < length blocks.now }
+    requires new { new < length blocks.now }
+    ensures either { (result ≡ old) ⊎ (result ≡ new) }
+    ensures old { (in_block blocks.now old).erases ≤ (in_block blocks.now result).erases }
+    ensures new { (in_block blocks.now new).erases ≤ (in_block blocks.now result).erases }
+{
+    if blocks[new as usize].erases > blocks[old as usize].erases {
+        new
+    } else {
+        old
+    }
+}
+
+/// The block that is moved for its wear now, and where to; None where it isn't time for it, or
+/// there is none.
+fn move_due(blocks: &[BlockState], at: &mut Cursors, next: Next) -> Option<Copied>
+    requires size { length blocks.now < 65536 }
+    requires ahead { IsAhead blocks.now at.old }
+    ensures due { IfSome result (λ c. IsDue blocks.now c.source c.target) }
+    ensures lowest { at.old.policy ≡ policies.Lowest → result ≡ None }
+    ensures early { at.old.turn < 8 → result ≡ None }
+    ensures ahead { IsAhead blocks.now at.new }
+    ensures reserve { at.new.reserve ≡ at.old.reserve }
+    ensures policy { at.new.policy ≡ at.old.policy }
+{
+    if at.policy == Policy::Lowest || at.turn < TURN {
+        return None;
+    }
+    if next == Next::Give && block_with_free(blocks, at).is_some() {
+        return None;
+    }
+    let Some(worst) = most_dead(blocks, at) else {
+        return None;
+    };
+    coldest(blocks, at.newest, worst)
+}
+
+/// The least worn block whose sectors rest, and the tail into which it is moved. `worst` has the
+/// most dead slots.
+fn coldest(blocks: &[BlockState], newest: u16, worst: u16) -> Option<Copied>
+    requires size { length blocks.now < 65536 }
+    requires worst { worst < length blocks.now }
+    requires dead { 0 < (in_block blocks.now worst).dead }
+    ensures { IfSome result (λ c. IsDue blocks.now c.source c.target) }
+{
+    let most = blocks[worst as usize].dead;
+    let Some(target) = tail(blocks, most, newest) else {
+        return None;
+    };
+    match least_worn(blocks, Wanted::Cold(most), newest, target) {
+        Some(source) => Some(Copied { source, target }),
+        None => None,
+    }
+}
+
+/// Copies a block that isn't wholly free into the reserve, whether slots of it are dead or not, and
+/// brings the index up to date.
+fn move_used<S: SlotCalls>(
+    slots: &mut S,
+    states: &mut [SlotState],
+    blocks: &mut [BlockState],
+    at: &mut Cursors,
+    source: u16,
+) -> Result<Copied, NorError>
+    requires size { length blocks.old < 65536 }
+    requires index { IsIndexOf states.old blocks.old at.old (S.state slots.old).memory }
+    requires room { HasRoom (S.state slots.old).memory }
+    requires source { source < length blocks.old }
+    requires used { IsInUse (in_block blocks.old source) }
+    ensures ok { IfOk result (λ c. MovesInto c.source c.target (S.state slots.old).memory
+        (S.state slots.new).memory) }
+    ensures work { OnOk result (work_of (S.state slots.new).memory
+        ≤ work_of (S.state slots.old).memory) }
+    ensures blocks { OnOk result (BlocksMoved source at.old.reserve blocks.old blocks.new) }
+    ensures policy { OnOk result (at.new.policy ≡ at.old.policy) }
+    ensures index { OnOk result (IsIndexOf states.new blocks.new at.new
+        (S.state slots.new).memory) }
+    ensures cut { IsErrOf result NorError.Cut → IsHealthy (S.state slots.old).memory
+        → Stays (S.state slots.old).memory (S.state slots.new).memory }
+    ensures healthy { IsErrOf result NorError.Cut → IsHealthy (S.state slots.old).memory
+        → IsHealthy (S.state slots.new).memory }
+    ensures size { length (S.state slots.new).memory ≡ length (S.state slots.old).memory }
+    ensures states_size { length states.new ≡ length states.old }
+    ensures blocks_size { length blocks.new ≡ length blocks.old }
+    ensures ends { EndsSettled result (S.state slots.old) (S.state slots.new) }
+{
+    let target = at.reserve;
+    reclaim_into(slots, source, target)?;
+    shift_states(states, source, target);
+    move_block(blocks, at, source);
+    Ok(Copied { source, target })
+}
+
+/// A block was moved for `TURN` erases; the order of blocks stays.
+fn end_turn(at: &mut Cursors, turn: u16, clock: u16)
+    ensures { at.new ≡ record at.old { turn = turn - 8; clock = clock } }
+{
+    at.turn = turn.saturating_sub(TURN);
+    at.clock = clock;
+}
+
+/// Moves a block whose sectors rest into a wholly free one, where it is time for it.
+pub fn level_block<S: SlotCalls>(
+    slots: &mut S,
+    states: &mut [SlotState],
+    blocks: &mut [BlockState],
+    at: &mut Cursors,
+    next: Next,
+) -> Result<Option<Copied>, NorError>
+    requires sized { IsChipSize (length (S.state slots.old).memory) }
+    requires ready { IsNorReady (S.state slots.old) }
+    requires settled { IsSettled (S.state slots.old).memory }
+    requires index { IsIndexOf states.old blocks.old at.old (S.state slots.old).memory }
+    requires room { HasRoom (S.state slots.old).memory }
+    ensures moved { IfOk result (λ copied. (c : CopiedOf) → copied ≡ Some c
+        → MovesInto c.source c.target (S.state slots.old).memory (S.state slots.new).memory) }
+    ensures left { IfOk result (λ copied. (c : CopiedOf) → copied ≡ Some c
+        → HasNoneDead (S.state slots.new).memory → ⊥) }
+    ensures work { IfOk result (λ copied. (c : CopiedOf) → copied ≡ Some c
+        → work_of (S.state slots.new).memory ≤ work_of (S.state slots.old).memory) }
+    ensures none { IfOk result (λ copied. copied ≡ None
+        → (S.state slots.new).memory ≡ (S.state slots.old).memory) }
+    ensures lowest { at.old.policy ≡ policies.Lowest → IfOk result (λ copied. copied ≡ None) }
+    ensures policy { OnOk result (at.new.policy ≡ at.old.policy) }
+    ensures index { OnOk result (IsIndexOf states.new blocks.new at.new
+        (S.state slots.new).memory) }
+    ensures cut { IsErrOf result NorError.Cut
+        → Stays (S.state slots.old).memory (S.state slots.new).memory }
+    ensures healthy { IsErrOf result NorError.Cut → IsHealthy (S.state slots.new).memory }
+    ensures size { length (S.state slots.new).memory ≡ length (S.state slots.old).memory }
+    ensures states_size { length states.new ≡ length states.old }
+    ensures blocks_size { length blocks.new ≡ length blocks.old }
+    ensures ends { EndsSettled result (S.state slots.old) (S.state slots.new) }
+{
+    let Some(due) = move_due(blocks, at, next) else {
+        return Ok(None);
+    };
+    let turn = at.turn;
+    let clock = at.clock;
+    choose_reserve(blocks, at, due.target);
+    let moved = move_used(slots, states, blocks, at, due.source)?;
+    end_turn(at, turn, clock);
+    Ok(Some(moved))
 }

@@ -1,27 +1,26 @@
 //! Where a store of slots gets its free slots from: the contract of `Stock`.
 
-ghost use Rattle.std.specs.Prelude.{◌≡◌, ◌≢◌, ◌⊎◌, ◌/◌, ◌<◌, ◌≤◌, ℕ, true, Some, None};
-ghost use Rattle.std.specs.Prelude.{length, OnOk};
+ghost use Rattle.std.specs.Prelude.{◌≡◌, ◌⊎◌, ◌/◌, ◌<◌, ◌≤◌, ℕ, true, Some, None, length, OnOk};
 ghost use Rattle.std.specs.Prelude.{IfOk};
 ghost use Rattle.std.specs.Result.{IsErrOf};
 ghost use Rattle.nor_driver.specs.State.{IsNorReady};
 ghost use Rattle.erase_journal.specs.Blocks.{SameChip};
 ghost use Rattle.erase_journal.specs.Journals.{IsHealthy, IsSettled};
+ghost use Rattle.erase_journal.specs.Steps.{EndsSettled};
 ghost use Rattle.sector_slots.specs.Slots.{Free, Live, Dead, slot_at, slot_count, IsClean};
-ghost use Rattle.sector_slots.specs.Steps.{IsRetirable};
-ghost use Rattle.sector_slots.specs.Steps.{IsWritable, PutLeaves, HoldsTag, MayHoldTag, OnlyPlace};
+ghost use Rattle.sector_slots.specs.Slots.{data_blocks, kind_at};
+ghost use Rattle.sector_slots.specs.Steps.{IsRetirable, IsWritable, PutLeaves, HoldsTag};
+ghost use Rattle.sector_slots.specs.Steps.{MayHoldTag, OnlyPlace};
+ghost use Rattle.sector_slots.specs.Blocks.{IsReserveOf};
 ghost use Rattle.sector_stock.specs.Room.{HasRoom, HasNoneDead, IsOutside};
 ghost use Rattle.sector_stock.specs.Copy.{Stays};
-ghost use Rattle.sector_slots.specs.Blocks.{IsReserveOf};
 ghost use Rattle.sector_stock.specs.Takes.{Takes, TidiesStock, HasNoGroups, is_short, work_of};
 ghost use Rattle.sector_stock.specs.Takes.{IsLowestFree, HasMostDead, HasFewerBelow, MovesInto};
+ghost use Rattle.sector_stock.specs.Takes.{Converts, IsLiveGroup};
 ghost use Rattle.sector_stock.specs.declared.policy.Policy.{Policy};
 ghost use Rattle.sector_stock.specs.declared.policy.Policy.TheVariants as policies;
-ghost use Rattle.sector_stock.specs.Takes.{Converts, IsLiveGroup};
-ghost use Rattle.sector_slots.specs.Slots.{data_blocks, kind_at};
 ghost use Rattle.sector_stock.specs.Index.{is_live_group};
 ghost use Rattle.sector_stock.specs.declared.given.Copied.{Copied as CopiedOf};
-ghost use Rattle.erase_journal.specs.Steps.{EndsSettled};
 
 use crate::given::{Copied, Given};
 use crate::policy::{Next, Policy};

@@ -1,18 +1,16 @@
 //! The index of a memory, from the kinds and descriptors of its blocks.
 
-ghost use Rattle.std.specs.Prelude.{◌≡◌, ◌≢◌, ◌⊎◌, ◌/◌, ◌+◌, ◌*◌, ◌<◌, ◌≤◌, length, ℕ};
-ghost use Rattle.std.specs.Prelude.{IfOk};
-ghost use Rattle.std.specs.Prelude.{if◌then◌else◌};
+ghost use Rattle.std.specs.Prelude.{◌≡◌, ◌+◌, ◌*◌, ◌<◌, ◌≤◌, length, ℕ, IfOk, if◌then◌else◌};
 ghost use Rattle.nor_driver.specs.State.{IsNorReady};
+ghost use Rattle.erase_journal.specs.Steps.{EndsSettled};
 ghost use Rattle.sector_slots.specs.Slots.{slot_count, data_blocks};
 ghost use Rattle.sector_slots.specs.Blocks.{AreSettled};
 ghost use Rattle.sector_stock.specs.Index.{IsAhead, IsHighestWhole, IsWholeBlock, IsIndexOf};
 ghost use Rattle.sector_stock.specs.Index.{BlockNoted, StatesNoted, in_block, header_state};
 ghost use Rattle.sector_stock.specs.Index.{is_plain as is_plain_kind, is_free_state, is_dead_state};
-ghost use Rattle.sector_stock.specs.Index.{states_tally, is_live_group, Marked, one_free_fewer};
-ghost use Rattle.erase_journal.specs.Steps.{EndsSettled};
+ghost use Rattle.sector_stock.specs.Index.{states_tally, is_live_group};
 
-use crate::index::{BlockState, Cursors, SlotState, highest_whole, mark_live};
+use crate::index::{BlockState, Cursors, SlotState, highest_whole};
 use crate::policy::{Policy, TURN, Wanted, least_worn};
 use nor_driver::NorError;
 use nor_layout::{Header, Kind};
@@ -164,27 +162,6 @@ fn count_dead(states: &[SlotState], block: u16) -> u8
         count += one_dead(states[PLACES * block as usize + place]);
     }
     count
-}
-
-/// A free slot became live. Where its block was the reserve, another one is.
-pub fn mark_written(slots: &mut [SlotState], blocks: &mut [BlockState], at: &mut Cursors, slot: u16)
-    requires slot { slot < length slots.old }
-    requires block { slot / 7 < length blocks.old }
-    requires some { 0 < (in_block blocks.old (slot / 7)).free }
-    requires size { length blocks.old < 65536 }
-    requires numbers { (c : ℕ) → c < length blocks.old → (in_block blocks.old c).dead ≤ 7 }
-    requires spare { (c : ℕ) × (c < length blocks.old) × IsWholeBlock (in_block blocks.old c)
-        × (c ≢ slot / 7) }
-    ensures marked { Marked slot SlotState.Live (one_free_fewer (in_block blocks.old (slot / 7)))
-        slots.old slots.new blocks.old blocks.new }
-    ensures at { ((at.new ≡ at.old) × (at.old.reserve ≢ slot / 7))
-        ⊎ (IsAhead blocks.new at.new × IsHighestWhole blocks.new at.new.reserve) }
-    ensures policy { at.new.policy ≡ at.old.policy }
-{
-    mark_live(slots, blocks, slot);
-    if at.reserve == slot / 7 {
-        *at = first_cursors(blocks, at.policy);
-    }
 }
 
 /// Where the index looks first.

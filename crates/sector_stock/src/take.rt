@@ -1,33 +1,32 @@
 //! A free slot is taken from a store and its index; a block is copied where none is free.
 
-ghost use Rattle.std.specs.Prelude.{◌≡◌, ◌≢◌, ◌⊎◌, ◌<◌, ℕ, List, Some, None, length, OnOk};
-ghost use Rattle.std.specs.Prelude.{IfOk};
+ghost use Rattle.std.specs.Prelude.{◌≡◌, ◌≢◌, ◌⊎◌, ◌<◌, ℕ, Some, None, length, OnOk, IfOk};
 ghost use Rattle.std.specs.Result.{IsErrOf};
 ghost use Rattle.chip_model.specs.Geometry.{IsChipSize};
 ghost use Rattle.nor_driver.specs.State.{IsNorReady};
 ghost use Rattle.erase_journal.specs.Journals.{IsHealthy, IsSettled};
+ghost use Rattle.erase_journal.specs.Steps.{EndsSettled};
+ghost use Rattle.sector_slots.specs.Blocks.{IsReserveOf};
+ghost use Rattle.sector_slots.specs.Slots.{data_blocks};
 ghost use Rattle.sector_stock.specs.Room.{HasRoom, HasNoneDead, HasNoneFree};
 ghost use Rattle.sector_stock.specs.Copy.{Stays};
-ghost use Rattle.std.specs.Prelude.{IfSome};
 ghost use Rattle.sector_stock.specs.Index.{IsIndexOf, IsMostDead, IsLowestDead, IsAhead};
-ghost use Rattle.sector_stock.specs.Index.{IsWholeBlock};
+ghost use Rattle.sector_stock.specs.Index.{IsWholeBlock, IsHighestWhole, Marked, one_free_fewer};
 ghost use Rattle.sector_stock.specs.Index.{in_block};
 ghost use Rattle.sector_stock.specs.declared.policy.Policy.TheVariants as policies;
-ghost use Rattle.sector_slots.specs.Blocks.{IsReserveOf};
 ghost use Rattle.sector_stock.specs.Takes.{Takes, CopiesInto, IsLowestFree, HasMostDead, work_of};
-ghost use Rattle.sector_stock.specs.Takes.{HasFewerBelow, MovesInto};
-ghost use Rattle.sector_stock.specs.Takes.{Converts, IsLiveGroup, HasNoGroups, TidiesStock};
-ghost use Rattle.sector_slots.specs.Slots.{data_blocks};
+ghost use Rattle.sector_stock.specs.Takes.{HasFewerBelow, Converts, IsLiveGroup, HasNoGroups};
+ghost use Rattle.sector_stock.specs.Takes.{TidiesStock};
 ghost use Rattle.sector_stock.specs.declared.given.Copied.{Copied as CopiedOf};
-ghost use Rattle.erase_journal.specs.Steps.{EndsSettled};
 
 use crate::copy::reclaim_into;
 use crate::given::{Copied, Given};
 use crate::index::{
-    BlockState, Cursors, SlotState, behind, choose_reserve, free_slot, lowest_group, most_dead,
-    move_block, shift_states,
+    BlockState, Cursors, SlotState, behind, choose_reserve, free_slot, lowest_group, mark_live,
+    most_dead, move_block, shift_states,
 };
 use crate::policy::{Policy, Wanted, least_worn};
+use crate::scan::first_cursors;
 use nor_driver::NorError;
 use sector_slots::SlotCalls;
 
@@ -285,5 +284,26 @@ pub fn tidy_block<S: SlotCalls>(
             Ok(Some(copied))
         }
         None => convert_lowest(slots, states, blocks, at),
+    }
+}
+
+/// A free slot became live. Where its block was the reserve, another one is.
+pub fn mark_written(slots: &mut [SlotState], blocks: &mut [BlockState], at: &mut Cursors, slot: u16)
+    requires slot { slot < length slots.old }
+    requires block { slot / 7 < length blocks.old }
+    requires some { 0 < (in_block blocks.old (slot / 7)).free }
+    requires size { length blocks.old < 65536 }
+    requires numbers { (c : ℕ) → c < length blocks.old → (in_block blocks.old c).dead ≤ 7 }
+    requires spare { (c : ℕ) × (c < length blocks.old) × IsWholeBlock (in_block blocks.old c)
+        × (c ≢ slot / 7) }
+    ensures marked { Marked slot SlotState.Live (one_free_fewer (in_block blocks.old (slot / 7)))
+        slots.old slots.new blocks.old blocks.new }
+    ensures at { ((at.new ≡ at.old) × (at.old.reserve ≢ slot / 7))
+        ⊎ (IsAhead blocks.new at.new × IsHighestWhole blocks.new at.new.reserve) }
+    ensures policy { at.new.policy ≡ at.old.policy }
+{
+    mark_live(slots, blocks, slot);
+    if at.reserve == slot / 7 {
+        *at = first_cursors(blocks, at.policy);
     }
 }

@@ -27,11 +27,11 @@ use Rattle.sector_map.specs.Found.{FoundBelow}
 use Rattle.sector_map.specs.Marking.{may_have_groups}
 use Rattle.sector_map.specs.Maps.{IsMountable, is_layout, geometry_of}
 use Rattle.sector_map.specs.Table.{IsTabled, EntryHolds, Heads, noted, OneHolds, TwoHold}
-use Rattle.sector_map.specs.declared.entry.Entry.{Entry}
-use Rattle.sector_map.specs.declared.entry.Entry.TheVariants as entries
+use Rattle.sector_map.specs.declared.table.Entry.{Entry}
+use Rattle.sector_map.specs.declared.table.Entry.TheVariants as entries
 use Rattle.sector_map.specs.declared.found.Found.{Found}
 use Rattle.sector_map.specs.declared.found.Found.TheVariants.{AtRest, Void, Committed}
-use Rattle.sector_map.specs.declared.held.Held.{Held}
+use Rattle.sector_map.specs.declared.table.Held.{Held}
 use Rattle.sector_map.proofs.Mounting.{rest-busy}
 use Rattle.nor_driver.specs.State.{NorState}
 use Rattle.erase_journal.specs.Steps.{SucceedsSettled}

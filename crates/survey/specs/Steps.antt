@@ -10,11 +10,11 @@ use Rattle.nor_layout.specs.declared.kind.Kind.TheVariants as kinds
 use Rattle.sector_slots.specs.Slots.{Slot, is_group}
 use Rattle.sector_map.specs.Scan.{HeadsOf}
 use Rattle.sector_map.specs.Table.{IsTabled, noted}
-use Rattle.sector_map.specs.declared.entry.Entry.{Entry}
-use Rattle.sector_map.specs.declared.entry.Entry.TheVariants.{Absent, One, Two}
+use Rattle.sector_map.specs.declared.table.Entry.{Entry}
+use Rattle.sector_map.specs.declared.table.Entry.TheVariants.{Absent, One, Two}
 use Rattle.sector_map.specs.declared.found.Found.{Found}
 use Rattle.sector_map.specs.declared.found.Found.TheVariants.{AtRest, Void, Committed}
-use Rattle.sector_map.specs.declared.held.Held.{Held}
+use Rattle.sector_map.specs.declared.table.Held.{Held}
 use Rattle.survey.specs.Findings.{IsBusy, IsNoSource, IsSlotFault}
 use Rattle.survey.specs.declared.finding.Finding.{Finding}
 use Rattle.survey.specs.declared.finding.Finding.TheVariants as findings

@@ -1,12 +1,12 @@
 //! The kinds of the blocks: what copying goes on, or the first block for which they are corrupt.
 
 ghost use Rattle.std.specs.Prelude.{◌≡◌, ◌<◌, ◌≤◌, ◌+◌, Some, true, false, IfOk, IfErr};
+ghost use Rattle.erase_journal.specs.Steps.{EndsSettled};
 ghost use Rattle.sector_slots.specs.Sectors.{HasSlotsAlone};
 ghost use Rattle.sector_map.specs.Found.{FoundIn, noted_where};
 ghost use Rattle.sector_map.specs.Marking.{may_have_groups};
 ghost use Rattle.survey.specs.Findings.{Explains};
 ghost use Rattle.survey.specs.Steps.{IsKindFault};
-ghost use Rattle.erase_journal.specs.Steps.{EndsSettled};
 
 use crate::Finding;
 use nor_driver::NorError;

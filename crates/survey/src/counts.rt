@@ -4,8 +4,7 @@ ghost use Rattle.std.specs.Prelude.{◌≡◌, ◌+◌, ◌<◌, ◌≤◌, leng
 ghost use Rattle.nor_driver.specs.State.{NorFails, OnlyMemoryChanges};
 ghost use Rattle.erase_journal.specs.Journals.{first, free_entries, open_entries, second};
 ghost use Rattle.erase_journal.specs.Journals.{survey_of, votes_at};
-ghost use Rattle.erase_journal.specs.Scans.{count_equal, count_wrong, free_in, open_in};
-ghost use Rattle.erase_journal.specs.Scans.{is_open_in};
+ghost use Rattle.erase_journal.specs.Scans.{count_equal, count_wrong, free_in, open_in, is_open_in};
 ghost use Rattle.survey.specs.Journals.{as_survey, as_votes};
 
 use nor_driver::{Nor, NorError};

@@ -2,10 +2,10 @@
 
 ghost use Rattle.std.specs.Prelude.{◌≡◌, ◌<◌, None, length, IfOk, IfSome};
 ghost use Rattle.chip_model.specs.Geometry.{sector_count};
+ghost use Rattle.erase_journal.specs.Steps.{EndsSettled};
 ghost use Rattle.sector_slots.specs.Sectors.{IsSoundMap};
 ghost use Rattle.sector_map.specs.Marking.{may_have_groups};
 ghost use Rattle.survey.specs.Findings.{Explains};
-ghost use Rattle.erase_journal.specs.Steps.{EndsSettled};
 
 use crate::Finding;
 use crate::blocks::read_kinds;

@@ -1,13 +1,13 @@
 //! What each data block says: its kind, and how many of its slots are free and live.
 
-ghost use Rattle.std.specs.Prelude.{◌≡◌, ◌<◌, ◌≤◌, ◌+◌, IfOk, IfErr, MatchOption, length};
+ghost use Rattle.std.specs.Prelude.{◌≡◌, ◌<◌, ◌+◌, IfOk, IfErr, MatchOption, length};
 ghost use Rattle.nor_driver.specs.State.{IsNorReady, Refuses};
 ghost use Rattle.erase_journal.specs.Journals.{IsHealthy};
+ghost use Rattle.erase_journal.specs.Steps.{EndsSettled};
 ghost use Rattle.sector_slots.specs.Slots.{data_blocks};
 ghost use Rattle.survey.specs.Summaries.{AreSummaries, IsSummaryOf, free_heads, is_free_head};
 ghost use Rattle.survey.specs.Summaries.{is_live_head, live_heads};
 ghost use Rattle.survey.specs.Verdicts.{ExaminationFails};
-ghost use Rattle.erase_journal.specs.Steps.{EndsSettled};
 
 use crate::verdict::Unexamined;
 use erase_journal::{Journal, RecoverError};

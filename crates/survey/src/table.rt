@@ -1,16 +1,16 @@
 //! The descriptors of all blocks, entered into a table slot by slot, or the first that can't be.
 
-ghost use Rattle.std.specs.Prelude.{◌≡◌, ◌+◌, ◌*◌, ◌<◌, ◌≤◌, Some, None, false, length};
-ghost use Rattle.std.specs.Prelude.{IfOk, IfSome};
+ghost use Rattle.std.specs.Prelude.{◌≡◌, ◌+◌, ◌*◌, ◌<◌, ◌≤◌, Some, None, false, length, IfOk};
+ghost use Rattle.std.specs.Prelude.{IfSome};
 ghost use Rattle.chip_model.specs.Geometry.{sector_count};
 ghost use Rattle.nor_layout.specs.declared.header.Header.TheVariants as headers;
+ghost use Rattle.erase_journal.specs.Steps.{EndsSettled};
 ghost use Rattle.sector_slots.specs.Slots.{slot_at, slot_count, data_blocks};
 ghost use Rattle.sector_map.specs.Found.{FoundIn};
 ghost use Rattle.sector_map.specs.Scan.{EntersBlock};
 ghost use Rattle.sector_map.specs.Table.{IsTabled, IsBlankTable, Heads};
 ghost use Rattle.survey.specs.Findings.{IsSlotFaultIn};
 ghost use Rattle.survey.specs.Steps.{FaultsBlock, IsHeadFault, IsTagFault};
-ghost use Rattle.erase_journal.specs.Steps.{EndsSettled};
 
 use crate::Finding;
 use nor_driver::NorError;

@@ -1,7 +1,7 @@
 use Rattle.std.proofs.lemmas.Result.{err_from_is_err_and}
 use Rattle.sector_stock.proofs.Moved.{copyable-used, used-no_group, numbers-in, moves-into, index-moved}
 use Rattle.sector_stock.proofs.Converting.{work-most}
-use Rattle.sector_stock.proofs.level.move_used.Goals as goal
+use Rattle.sector_stock.proofs.policy.move_used.Goals as goal
 
 pub reclaim_into-requires-clause-copyable : goal.reclaim_into-requires-clause-copyable
 reclaim_into-requires-clause-copyable g c ready = copyable-used c.args.source (g.S.SlotCalls.state c.args.slots.now).memory c.args.states.now c.args.blocks.now c.args.at.now c.requires.room c.requires.index c.requires.source c.requires.used

@@ -3,7 +3,7 @@ use Rattle.std.specs.Prelude.{None}
 use Rattle.std.proofs.lemmas.Result.{err_from_is_err_and}
 use Rattle.nor_layout.specs.declared.header.Generation.TheVariants.{Zero}
 use Rattle.sector_map.proofs.Replacing.{add-done, put-was-cut}
-use Rattle.sector_map.proofs.replace.add.Goals as goal
+use Rattle.sector_map.proofs.steps.add.Goals as goal
 
 pub returns-in_err-write-clause-cut : goal.returns-in_err-write-clause-cut
 returns-in_err-write-clause-cut g c is =

@@ -1,5 +1,5 @@
 use Rattle.sector_map.specs.Scan.{Follows}
-use Rattle.sector_map.proofs.follow.follow_heads.Given as goal
+use Rattle.sector_map.proofs.table.follow_heads.Given as goal
 
 abbrev pub invariant-loop-place : goal.invariant-loop-place
 invariant-loop-place l = record {

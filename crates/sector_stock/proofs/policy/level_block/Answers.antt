@@ -1,7 +1,7 @@
 use Rattle.std.proofs.Common.{◌∙◌, sym, subst}
 use Rattle.sector_stock.specs.Index.{in_block, IsWholeBlock, IsIndexOf}
 use Rattle.sector_stock.proofs.Moved.{index-chosen, dead-left, turned}
-use Rattle.sector_stock.proofs.level.level_block.Goals as goal
+use Rattle.sector_stock.proofs.policy.level_block.Goals as goal
 
 pub move_used-requires-clause-index : goal.move_used-requires-clause-index
 move_used-requires-clause-index g c =

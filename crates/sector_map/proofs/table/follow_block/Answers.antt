@@ -1,6 +1,6 @@
 use Rattle.std.proofs.Common.{length}
 use Rattle.sector_map.proofs.Following.{rest-heads, heads-apart, block-followed}
-use Rattle.sector_map.proofs.follow.follow_block.Goals as goal
+use Rattle.sector_map.proofs.table.follow_block.Goals as goal
 
 pub follow_heads-requires-clause-apart : goal.follow_heads-requires-clause-apart
 follow_heads-requires-clause-apart g c =

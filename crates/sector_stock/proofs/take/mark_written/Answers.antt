@@ -1,7 +1,7 @@
 use Rattle.std.proofs.Common.{◌≤◌, ◌/◌, sym, ap, subst, arith, inl, inr}
 use Rattle.std.proofs.lemmas.Bool.{cases_eq}
 use Rattle.sector_stock.specs.Index.{in_block, IsWholeBlock}
-use Rattle.sector_stock.proofs.scan.mark_written.Goals as goal
+use Rattle.sector_stock.proofs.take.mark_written.Goals as goal
 
 pub first_cursors-requires-clause-numbers : goal.first_cursors-requires-clause-numbers
 first_cursors-requires-clause-numbers c d low =

@@ -5,7 +5,7 @@ use Rattle.erase_journal.proofs.SettledLaws.{settled-healthy, settled-after, ref
 use Rattle.std.proofs.lemmas.Result.{err_from_is_err_and}
 use Rattle.sector_map.proofs.Replacing.{put-was-cut, replace-done, retire-was-cut, old-retirable}
 use Rattle.erase_journal.specs.Steps.{EndsSettled}
-use Rattle.sector_map.proofs.replace.replace_held.Goals as goal
+use Rattle.sector_map.proofs.steps.replace_held.Goals as goal
 
 pub returns-in_err-write-clause-cut : goal.returns-in_err-write-clause-cut
 returns-in_err-write-clause-cut g c is =

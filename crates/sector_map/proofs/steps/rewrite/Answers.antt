@@ -2,7 +2,7 @@ use Rattle.std.proofs.Common.{subst}
 use Rattle.std.specs.Prelude.{Some, None}
 use Rattle.sector_map.specs.Replace.{IsReplaceable}
 use Rattle.sector_map.proofs.Replacing.{ok-holder}
-use Rattle.sector_map.proofs.replace.rewrite.Goals as goal
+use Rattle.sector_map.proofs.steps.rewrite.Goals as goal
 
 pub returns-in-Some-clause-ok : goal.returns-in-Some-clause-ok
 returns-in-Some-clause-ok g c = ok-holder c.replace_held.result c.args.holder (Some c.in-Some.held) c.args.to c.args.sector c.args.content.now (g.S.SlotCalls.state c.args.stock.now).memory (g.S.SlotCalls.state c.replace_held.new.stock).memory c.in-Some.is c.replace_held.ensures.ok

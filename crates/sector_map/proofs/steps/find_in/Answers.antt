@@ -1,6 +1,6 @@
 use Rattle.std.proofs.Common.{length}
 use Rattle.sector_map.proofs.Replacing.{content-found, absent-found}
-use Rattle.sector_map.proofs.replace.find_in.Goals as goal
+use Rattle.sector_map.proofs.steps.find_in.Goals as goal
 
 pub returns-in_ok-content-in-Some-clause-ok : goal.returns-in_ok-content-in-Some-clause-ok
 returns-in_ok-content-in-Some-clause-ok g c sound single sector hold = content-found sector c.args.holder c.in-Some.held c.content.new.into (g.S.SlotCalls.state c.args.stock.now).memory
