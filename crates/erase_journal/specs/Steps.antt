@@ -36,7 +36,8 @@ pub record SucceedsSettled (old new : NorState) : Type 0 where
 
 -- how a call ends: Ok, as `SucceedsSettled` says it, or with an error, as `Refuses` says it
 abbrev pub EndsSettled : {A : Type 0} → Result A NorError → NorState → NorState → Type 0
-EndsSettled result old new = MatchResult result (λ _. SucceedsSettled old new) (λ e. Refuses e old new)
+EndsSettled result old new =
+    MatchResult result (λ _. SucceedsSettled old new) (λ e. Refuses e old new)
 
 -- the lowest byte with the old value has changed in a region
 pub record OneChanged (place old new : ℕ) (m m' : List ℕ) : Type 0 where

@@ -4,7 +4,7 @@ ghost use Rattle.std.specs.Prelude.{◌⊎◌, ◌≡◌, ◌*◌, ◌/◌, ◌<
 ghost use Rattle.std.specs.Prelude.{IfOk, IfErr};
 ghost use Rattle.std.specs.Result.{IsErrOf};
 ghost use Rattle.chip_model.specs.Geometry.{block_count};
-ghost use Rattle.nor_driver.specs.State.{IsNorReady, OnlyMemoryChanges, Refuses, Ends};
+ghost use Rattle.nor_driver.specs.State.{IsNorReady, OnlyMemoryChanges, Refuses, EndsReady};
 ghost use Rattle.erase_journal.specs.Journals.{IsHealthy, IsSettled, is_free_entry, unused};
 ghost use Rattle.erase_journal.specs.Blocks.{SameBlocks, WithErased};
 ghost use Rattle.erase_journal.specs.Scans.{IsFreeAnswer, IsOpenAnswer};
@@ -27,7 +27,7 @@ fn find_free<N: Nor>(nor: &mut N) -> Result<Option<u16>, NorError>
     requires { JOURNALS_END ≤ length (N.state nor.old).memory }
     ensures found { IfOk result (λ found. IsFreeAnswer (N.state nor.old).memory found) }
     ensures same { (N.state nor.new).memory ≡ (N.state nor.old).memory }
-    ensures ends { Ends result (N.state nor.old) (N.state nor.new) }
+    ensures ends { EndsReady result (N.state nor.old) (N.state nor.new) }
 {
     let mut entries = [0; ENTRIES_LEN];
     nor.read(entry_place(0), &mut entries)?;
@@ -64,7 +64,7 @@ pub(crate) fn find_open<N: Nor>(nor: &mut N) -> Result<Option<OpenEntry>, NorErr
     requires { JOURNALS_END ≤ length (N.state nor.old).memory }
     ensures found { IfOk result (λ found. IsOpenAnswer (N.state nor.old).memory found) }
     ensures same { (N.state nor.new).memory ≡ (N.state nor.old).memory }
-    ensures ends { Ends result (N.state nor.old) (N.state nor.new) }
+    ensures ends { EndsReady result (N.state nor.old) (N.state nor.new) }
 {
     let blocks = (nor.bytes() / BLOCK_LEN) as u16;
     let mut entries = [0; ENTRIES_LEN];
@@ -84,7 +84,7 @@ fn take_entry<N: Nor>(nor: &mut N, entry: u16, block: u16) -> Result<(), NorErro
     ensures cut { IsErrOf result NorError.Cut → IsHealthy (N.state nor.old).memory
         → KeepsBlocks (N.state nor.old).memory (N.state nor.new).memory }
     ensures size { length (N.state nor.new).memory ≡ length (N.state nor.old).memory }
-    ensures ends { Ends result (N.state nor.old) (N.state nor.new) }
+    ensures ends { EndsReady result (N.state nor.old) (N.state nor.new) }
 {
     nor.program(entry_place(entry), &taken_entry(block))
 }
@@ -107,7 +107,7 @@ fn open_entry<N: Nor>(nor: &mut N, known: Known, block: u16) -> Result<u16, NorE
     ensures cut { IsErrOf result NorError.Cut → IsHealthy (N.state nor.old).memory
         → EraseInterrupted block (N.state nor.old).memory (N.state nor.new).memory }
     ensures size { length (N.state nor.new).memory ≡ length (N.state nor.old).memory }
-    ensures ends { Ends result (N.state nor.old) (N.state nor.new) }
+    ensures ends { EndsReady result (N.state nor.old) (N.state nor.new) }
 {
     let entry = lowest_entry(nor, known)?;
     take_entry(nor, entry, block)?;

@@ -2,7 +2,7 @@
 
 ghost use Rattle.std.specs.Prelude.{◌≡◌, ◌≤◌, length, OnOk};
 ghost use Rattle.std.specs.Result.{IsErrOf};
-ghost use Rattle.nor_driver.specs.State.{Ends};
+ghost use Rattle.nor_driver.specs.State.{EndsReady};
 ghost use Rattle.erase_journal.specs.Votes.{once_erased};
 ghost use Rattle.erase_journal.specs.Journals.{unused, open_entries, AreJournalsSound};
 ghost use Rattle.erase_journal.specs.Blocks.{SameBlocks};
@@ -23,7 +23,7 @@ pub(crate) fn doom<N: Nor>(nor: &mut N, journal: JournalId) -> Result<(), NorErr
     ensures cut { IsErrOf result NorError.Cut
         → KeepsBlocks (N.state nor.old).memory (N.state nor.new).memory }
     ensures size { length (N.state nor.new).memory ≡ length (N.state nor.old).memory }
-    ensures ends { Ends result (N.state nor.old) (N.state nor.new) }
+    ensures ends { EndsReady result (N.state nor.old) (N.state nor.new) }
 {
     let first = journal.first_votes();
     let second = journal.second_votes();
@@ -43,7 +43,7 @@ pub(crate) fn renew<N: Nor>(nor: &mut N, journal: JournalId) -> Result<(), NorEr
     ensures cut { IsErrOf result NorError.Cut
         → KeepsBlocks (N.state nor.old).memory (N.state nor.new).memory }
     ensures size { length (N.state nor.new).memory ≡ length (N.state nor.old).memory }
-    ensures ends { Ends result (N.state nor.old) (N.state nor.new) }
+    ensures ends { EndsReady result (N.state nor.old) (N.state nor.new) }
 {
     let first = journal.first_votes();
     let second = journal.second_votes();

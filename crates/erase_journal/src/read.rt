@@ -1,7 +1,7 @@
 //! What is read of votes and entries.
 
 ghost use Rattle.std.specs.Prelude.{◌≡◌, ◌+◌, ◌≤◌, length, IfOk};
-ghost use Rattle.nor_driver.specs.State.{Ends};
+ghost use Rattle.nor_driver.specs.State.{EndsReady};
 ghost use Rattle.erase_journal.specs.Journals.{votes_at, survey_of, free_entries, open_entries};
 
 use crate::scan::{VoteCounts, count_free, count_open, count_votes};
@@ -21,7 +21,7 @@ fn read_votes<N: Nor>(nor: &mut N, region: u32) -> Result<VoteCounts, NorError>
     requires { region + REGION_LEN ≤ length (N.state nor.old).memory }
     ensures counts { IfOk result (λ votes. votes ≡ votes_at (N.state nor.old).memory region) }
     ensures same { (N.state nor.new).memory ≡ (N.state nor.old).memory }
-    ensures ends { Ends result (N.state nor.old) (N.state nor.new) }
+    ensures ends { EndsReady result (N.state nor.old) (N.state nor.new) }
 {
     let mut votes = [0; REGION_LEN];
     nor.read(region, &mut votes)?;
@@ -35,7 +35,7 @@ fn read_entries<N: Nor>(nor: &mut N) -> Result<EntryCounts, NorError>
     ensures opened { IfOk result (λ entries. entries.opened
         ≡ open_entries (N.state nor.old).memory) }
     ensures same { (N.state nor.new).memory ≡ (N.state nor.old).memory }
-    ensures ends { Ends result (N.state nor.old) (N.state nor.new) }
+    ensures ends { EndsReady result (N.state nor.old) (N.state nor.new) }
 {
     let blocks = (nor.bytes() / BLOCK_LEN) as u16;
     let mut entries = [0; ENTRIES_LEN];
@@ -51,7 +51,7 @@ pub(crate) fn read_survey<N: Nor>(nor: &mut N) -> Result<Survey, NorError>
     requires { JOURNALS_END ≤ length (N.state nor.old).memory }
     ensures survey { IfOk result (λ survey. survey ≡ survey_of (N.state nor.old).memory) }
     ensures same { (N.state nor.new).memory ≡ (N.state nor.old).memory }
-    ensures ends { Ends result (N.state nor.old) (N.state nor.new) }
+    ensures ends { EndsReady result (N.state nor.old) (N.state nor.new) }
 {
     let j0_for_1 = read_votes(nor, JournalId::J1.second_votes())?;
     let j0_for_2 = read_votes(nor, JournalId::J2.first_votes())?;

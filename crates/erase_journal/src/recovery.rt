@@ -3,7 +3,7 @@
 ghost use Rattle.std.specs.Prelude.{◌↔◌, ◌⊎◌, None, false, IsSome, IfOk, IfSome, ◌≡◌, ◌≤◌, length};
 ghost use Rattle.std.specs.Prelude.{OnOk};
 ghost use Rattle.std.specs.Result.{IsErrOf};
-ghost use Rattle.nor_driver.specs.State.{Ends};
+ghost use Rattle.nor_driver.specs.State.{EndsReady};
 ghost use Rattle.erase_journal.specs.Journals.{AreJournalsSound, IsSettled, IsHealthy, settled};
 ghost use Rattle.erase_journal.specs.Journals.{unused};
 ghost use Rattle.erase_journal.specs.Blocks.{SameBlocks};
@@ -133,7 +133,7 @@ pub(crate) fn settle<N: Nor>(nor: &mut N) -> Result<Option<Unused>, NorError>
         → ((N.state nor.new).memory ≡ (N.state nor.old).memory)
         ⊎ KeepsBlocks (N.state nor.old).memory (N.state nor.new).memory }
     ensures size { length (N.state nor.new).memory ≡ length (N.state nor.old).memory }
-    ensures ends { Ends result (N.state nor.old) (N.state nor.new) }
+    ensures ends { EndsReady result (N.state nor.old) (N.state nor.new) }
 {
     let survey = read_survey(nor)?;
     let Some(phase) = decide(survey) else {

@@ -2,7 +2,7 @@
 
 ghost use Rattle.std.specs.Prelude.{◌≡◌, ◌+◌, ◌<◌, ◌≤◌, ◌^◌, length, OnOk, IfOk};
 ghost use Rattle.std.specs.Result.{IsErrOf};
-ghost use Rattle.nor_driver.specs.State.{Ends};
+ghost use Rattle.nor_driver.specs.State.{EndsReady};
 ghost use Rattle.nor_layout.specs.Votes.{byte_of};
 ghost use Rattle.erase_journal.specs.Journals.{votes_at};
 ghost use Rattle.erase_journal.specs.Scans.{IsFound};
@@ -18,7 +18,7 @@ fn find_vote<N: Nor>(nor: &mut N, region: u32, vote: Vote) -> Result<Option<u32>
     ensures found { IfOk result (λ found.
         IsFound (N.state nor.old).memory region (byte_of vote) found) }
     ensures same { (N.state nor.new).memory ≡ (N.state nor.old).memory }
-    ensures ends { Ends result (N.state nor.old) (N.state nor.new) }
+    ensures ends { EndsReady result (N.state nor.old) (N.state nor.new) }
 {
     let mut votes = [0; REGION_LEN];
     nor.read(region, &mut votes)?;
@@ -35,7 +35,7 @@ pub(crate) fn open_vote<N: Nor>(nor: &mut N, region: u32) -> Result<(), NorError
     ensures cut { IsErrOf result NorError.Cut
         → PerhapsChanged region 255 254 (N.state nor.old).memory (N.state nor.new).memory }
     ensures size { length (N.state nor.new).memory ≡ length (N.state nor.old).memory }
-    ensures ends { Ends result (N.state nor.old) (N.state nor.new) }
+    ensures ends { EndsReady result (N.state nor.old) (N.state nor.new) }
 {
     let found = find_vote(nor, region, Vote::Unused)?;
     let Some(place) = found else { unreachable!() };
@@ -52,7 +52,7 @@ pub(crate) fn close_vote<N: Nor>(nor: &mut N, region: u32) -> Result<(), NorErro
     ensures cut { IsErrOf result NorError.Cut
         → PerhapsChanged region 254 252 (N.state nor.old).memory (N.state nor.new).memory }
     ensures size { length (N.state nor.new).memory ≡ length (N.state nor.old).memory }
-    ensures ends { Ends result (N.state nor.old) (N.state nor.new) }
+    ensures ends { EndsReady result (N.state nor.old) (N.state nor.new) }
 {
     let found = find_vote(nor, region, Vote::Open)?;
     let Some(place) = found else { unreachable!() };

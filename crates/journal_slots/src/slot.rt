@@ -1,5 +1,5 @@
-//! The programs and the copy of one slot, over a journal: each leaves all other slots, and all other
-//! blocks, as they were.
+//! The programs and the copy of one slot, over a journal: each leaves all other slots, and all
+//! other blocks, as they were.
 
 ghost use Rattle.std.specs.Prelude.{◌≡◌, ◌≢◌, ◌⊎◌, ◌+◌, ◌*◌, ◌<◌, ℕ, length, OnOk, false, ◌%◌, ◌≤◌};
 ghost use Rattle.std.specs.Result.{IsErrOf};

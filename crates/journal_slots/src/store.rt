@@ -147,6 +147,7 @@ impl<N: Nor> SlotCalls for SectorSlots<N> {
     }
 
     fn begin(&mut self, target: u16, source: u16) -> Result<(), NorError> {
+        // For the proof alone: a chip has at most 4,092 data blocks.
         let _count = self.blocks;
         let mark = begun_mark(source + FIRST_DATA_BLOCK);
         program_mark(&mut self.journal, target, source, &mark)

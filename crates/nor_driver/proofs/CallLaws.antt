@@ -1,7 +1,7 @@
 -- One call of a memory after another: what two that answered Ok leave together, and what one leaves that failed after others.
 use Rattle.std.proofs.Common.{◌≡◌, ◌⊎◌, ◌≤◌, Bool, true, false, refl, sym, ◌∙◌, arith, inl, inr}
 use Rattle.std.specs.Prelude.{Result, Ok, Err, OnOk, IfErr, MatchResult}
-use Rattle.nor_driver.specs.State.{NorState, IsNorReady, OnlyMemoryChanges, NorFails, IsFirst, Succeeds, Refuses, Ends, AnswersWhatIsLatched}
+use Rattle.nor_driver.specs.State.{NorState, IsNorReady, OnlyMemoryChanges, NorFails, IsFirst, Succeeds, Refuses, EndsReady, AnswersWhatIsLatched}
 use Rattle.nor_driver.specs.declared.error.NorError.{NorError}
 use Rattle.nor_driver.specs.declared.error.NorError.TheVariants as errors
 
@@ -106,7 +106,7 @@ refuses-on a b c (Ok x) s f = f
 refuses-on a b c (Err e) s f = refuses-after e a b c s f
 
 -- how a call ends, by its two answers; and each of these
-pub ends-of : {T : Type 0} (r : Result T NorError) (a b : NorState) → OnOk r (Succeeds a b) → IfErr r (λ e. Refuses e a b) → Ends r a b
+pub ends-of : {T : Type 0} (r : Result T NorError) (a b : NorState) → OnOk r (Succeeds a b) → IfErr r (λ e. Refuses e a b) → EndsReady r a b
 ends-of (Ok x) a b d f = d
 ends-of (Err e) a b d f = f
 

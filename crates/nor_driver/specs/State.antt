@@ -61,8 +61,8 @@ pub record Refuses (e : NorError) (old new : NorState) : Type 0 where
   pub first : IsFirst e old new
 
 -- how a call ends: Ok, as `Succeeds` says it, or with an error, as `Refuses` says it
-abbrev pub Ends : {A : Type 0} → Result A NorError → NorState → NorState → Type 0
-Ends result old new = MatchResult result (λ _. Succeeds old new) (λ e. Refuses e old new)
+abbrev pub EndsReady : {A : Type 0} → Result A NorError → NorState → NorState → Type 0
+EndsReady result old new = MatchResult result (λ _. Succeeds old new) (λ e. Refuses e old new)
 
 -- a latched Slow is answered again, and a power that is off is a Cut, and neither changes anything
 pub record AnswersWhatIsLatched (old : NorState) (result : Result (Unit {0}) NorError)

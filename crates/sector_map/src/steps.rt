@@ -1,4 +1,5 @@
-//! What a mounted map does in a call, over a stock and the table: a write, a clearing, a read, a tidying.
+//! What a mounted map does in a call, over a stock and the table: a write, a clearing, a read, a
+//! tidying.
 
 ghost use Rattle.std.specs.Prelude.{◌≡◌, ◌⊎◌, ◌<◌, ◌≤◌, length, OnOk, IfOk, IfErr, IsTrue, IsFalse};
 ghost use Rattle.std.specs.Prelude.{ℕ, true, Some, None, IfSome};

@@ -39,6 +39,7 @@ impl<N: Nor> Stock<N> {
         requires blocks_size { length blocks.items ≡ data_blocks slots.memory }
         ensures same { ⟦<Stock<N> as SlotCalls>⟧.state result ≡ slots }
     {
+        // For the proof alone: a chip has at most 4,092 data blocks.
         let _count = slots.blocks();
         Stock {
             slots,

@@ -1,5 +1,5 @@
-//! Which block is chosen, by its number or by how often it was erased; and the move of a block whose
-//! sectors rest, so that all blocks wear alike.
+//! Which block is chosen: by its number, or by how often it was erased. A block whose sectors rest
+//! is moved, so that all blocks wear alike.
 
 ghost use Rattle.std.specs.Prelude.{◌≡◌, ◌⊎◌, ◌<◌, ◌≤◌, ℕ, length, MatchOption, IsTrue, IsFalse};
 ghost use Rattle.std.specs.Prelude.{◌-◌, Some, None, OnOk, IfOk, IfSome};
