@@ -1,6 +1,6 @@
 //! Bytes of the memory, in as few copies as there are.
 
-ghost use Rattle.std.specs.Prelude.{◌≡◌, ◌+◌, ◌%◌, ◌<◌, ◌≤◌, length, EachIndex};
+ghost use Rattle.std.specs.Prelude.{◌≡◌, ◌+◌, ◌%◌, ◌<◌, length, EachIndex};
 ghost use Rattle.chip_model.specs.Memory.{byte};
 
 /// Bytes from a place on, past the end from the first on, run by run.

@@ -1,7 +1,6 @@
 //! What a frame of bytes does to a chip, and what it answers.
 
-ghost use Rattle.std.specs.Prelude.{◌^◌, ◌≡◌, ◌+◌, ◌*◌, ◌%◌, ◌<◌, ◌≤◌, ◌⊎◌, ℕ};
-ghost use Rattle.std.specs.Prelude.{false, length, not, true};
+ghost use Rattle.std.specs.Prelude.{◌^◌, ◌≡◌, ◌+◌, ◌*◌, ◌%◌, ◌<◌, ◌⊎◌, ℕ, false, length, not, true};
 ghost use Rattle.chip_model.specs.Frames.{command_of};
 ghost use Rattle.fault_model.specs.Decoded.{asked, HasBytes};
 ghost use Rattle.fault_model.specs.Fits.{operation_of, fits_in};

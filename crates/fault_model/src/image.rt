@@ -1,7 +1,7 @@
 //! A chip whose memory is kept in a file.
 
-ghost use Rattle.std.specs.Prelude.{◌^◌, ◌≡◌, ◌+◌, ◌<◌, IfOk, IsErr, IsOk, None, OnErr, OnOk};
-ghost use Rattle.std.specs.Prelude.{false, length, true};
+ghost use Rattle.std.specs.Prelude.{◌^◌, ◌≡◌, ◌+◌, ◌<◌, IfOk, IsOk, None, OnErr, OnOk, false};
+ghost use Rattle.std.specs.Prelude.{length, true};
 ghost use Rattle.chip_model.specs.Geometry.{IsChipSize};
 ghost use Rattle.fault_model.specs.Sim.{pace_in};
 

@@ -23,7 +23,6 @@ mod copy;
 mod error;
 mod frame;
 mod image;
-mod memory;
 mod plan;
 mod power;
 mod prompt;

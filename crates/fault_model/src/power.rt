@@ -4,8 +4,7 @@ ghost use Rattle.std.specs.Prelude.{◌≡◌, ◌<◌, false};
 ghost use Rattle.chip_model.specs.Memory.{IsMixed};
 ghost use Rattle.fault_model.specs.Mask.{by_mask};
 
-use crate::cells::{Cells, Operation};
-use crate::memory::{fill_unit, tear_page};
+use crate::cells::{Cells, Operation, fill_unit, tear_page};
 
 impl Cells {
     ghost use Rattle.chip_model.specs.Cut.{Cut};

@@ -1,6 +1,6 @@
 //! The simulator's own SFDP table, byte by byte.
 
-ghost use Rattle.std.specs.Prelude.{◌≡◌, ◌<◌, ◌≤◌, length};
+ghost use Rattle.std.specs.Prelude.{◌≡◌, ◌<◌, ◌≤◌};
 ghost use Rattle.fault_model.specs.Table.{four_bytes, row, sfdp_byte, table_byte};
 
 /// At the places of these bytes, which lie from `at` on, these bytes, elsewhere another.

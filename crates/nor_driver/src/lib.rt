@@ -23,7 +23,6 @@ mod laws;
 mod nor;
 mod probe;
 mod protection;
-mod steps;
 
 pub use driver::Driver;
 pub use error::{NorError, ProbeError};

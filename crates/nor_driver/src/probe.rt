@@ -6,8 +6,8 @@ ghost use Rattle.chip_model.specs.Frames.{id_from};
 ghost use Rattle.nor_driver.specs.Probe.{Identifies, Probes, is_served_id, sized};
 
 use crate::ProbeError;
+use crate::driver::{ask, wake};
 use crate::protection::is_protected;
-use crate::steps::{ask, wake};
 use chip_model::SpiBus;
 use sfdp::{Params, read_params};
 use spi_frames::{jedec_id, sfdp as sfdp_frame};

@@ -9,7 +9,7 @@ ghost use Rattle.nor_driver.specs.Steps.{Lost};
 ghost use Rattle.nor_driver.specs.Unprotect.{Unprotects};
 
 use crate::ProbeError;
-use crate::steps::{ask, change, wake};
+use crate::driver::{ask, change, wake};
 use chip_model::{PowerLost, SpiBus};
 use spi_frames::{Register, Status1, Status2, Status3, status, write_status};
 

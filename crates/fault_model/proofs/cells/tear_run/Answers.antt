@@ -5,7 +5,7 @@ use Rattle.chip_model.specs.Memory.{placed}
 use Rattle.chip_model.proofs.MemoryLaws.{placed-nothing}
 use Rattle.fault_model.specs.Mask.{torn_byte}
 use Rattle.fault_model.proofs.RunLaws.{placed_more}
-use Rattle.fault_model.proofs.memory.tear_run.Goals as goal
+use Rattle.fault_model.proofs.cells.tear_run.Goals as goal
 
 pub loop-k-init : goal.loop-k-init
 loop-k-init c = sym (placed-nothing (torn_byte c.args.mask) c.args.memory.now c.args.from)

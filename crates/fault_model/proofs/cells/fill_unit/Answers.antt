@@ -4,7 +4,7 @@ use Rattle.chip_model.specs.Memory.{changed, fill_place, TornErase}
 use Rattle.chip_model.proofs.MemoryLaws.{filled_none, filled_more}
 use Rattle.fault_model.specs.Mask.{filled}
 use Rattle.fault_model.proofs.MaskLaws.{filled_unit, fill_torn, fill_erased}
-use Rattle.fault_model.proofs.memory.fill_unit.Goals as goal
+use Rattle.fault_model.proofs.cells.fill_unit.Goals as goal
 
 pub loop-place-init : goal.loop-place-init
 loop-place-init c = let z : c.args.at - c.args.at ≡ 0 = omega arith in rw z (filled_none c.args.byte c.args.memory.now c.args.at)

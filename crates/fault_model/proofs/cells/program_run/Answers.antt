@@ -4,7 +4,7 @@ use Rattle.std.proofs.lemmas.List.{take_all}
 use Rattle.chip_model.specs.Memory.{placed}
 use Rattle.chip_model.proofs.MemoryLaws.{placed-nothing}
 use Rattle.fault_model.proofs.RunLaws.{placed_more}
-use Rattle.fault_model.proofs.memory.program_run.Goals as goal
+use Rattle.fault_model.proofs.cells.program_run.Goals as goal
 
 pub loop-k-init : goal.loop-k-init
 loop-k-init c = sym (placed-nothing bit_and c.args.memory.now c.args.from)

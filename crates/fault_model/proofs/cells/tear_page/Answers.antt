@@ -4,7 +4,7 @@ use Rattle.chip_model.specs.Chip.{programmed}
 use Rattle.fault_model.specs.Mask.{torn_byte, half_programmed}
 use Rattle.fault_model.proofs.MaskLaws.{half_page, half_torn}
 use Rattle.fault_model.proofs.RunLaws.{sliced_runs}
-use Rattle.fault_model.proofs.memory.tear_page.Goals as goal
+use Rattle.fault_model.proofs.cells.tear_page.Goals as goal
 
 pub returns-clause-exact : goal.returns-clause-exact
 returns-clause-exact c =

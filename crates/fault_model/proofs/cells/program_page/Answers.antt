@@ -2,7 +2,7 @@ use Rattle.std.proofs.Common.{◌∙◌, sym}
 use Rattle.std.specs.Prelude.{bit_and}
 use Rattle.chip_model.proofs.MemoryLaws.{programmed_page}
 use Rattle.fault_model.proofs.RunLaws.{sliced_runs}
-use Rattle.fault_model.proofs.memory.program_page.Goals as goal
+use Rattle.fault_model.proofs.cells.program_page.Goals as goal
 
 pub returns : goal.returns
 returns c =
