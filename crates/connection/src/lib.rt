@@ -13,7 +13,6 @@
 
 mod peer;
 mod piece;
-mod turn;
 
 pub use peer::{Fate, Peer};
 pub use piece::{Progress, answer_piece};
