@@ -8,8 +8,8 @@ use crate::figures::nanos;
 use crate::measure::{Failure, filled, now};
 use crate::stream::Stream;
 use crate::stream_row::StreamRow;
-use nbd_wire::Export;
-use session::{Next, Session};
+use nbd_wire::{Export, Next};
+use session::Session;
 use std::alloc::Global;
 use std::rt::Clock;
 
@@ -54,7 +54,7 @@ pub fn feed(session: &mut Session, text: &[u8]) -> Fed
                 commands += 1;
             }
             Next::More => {}
-            Next::Reply => commands += 1,
+            Next::Reply(()) => commands += 1,
             Next::Close => {}
         }
     }

@@ -5,8 +5,11 @@ ghost use Rattle.std.specs.Io.{ReadsAtMost, WritesAtMost};
 ghost use Rattle.std.specs.Io.KnownBytes.{ReadConsumes, WriteAppends};
 ghost use Rattle.block_device.specs.Streams.{CountsFailure, Sends};
 
+use thiserror::Error;
+
 /// A call of a stream failed. It moved no byte.
-#[derive(Clone, Copy, Debug, PartialEq, Eq, Drop)]
+#[derive(Clone, Copy, Debug, PartialEq, Eq, Drop, Error)]
+#[error("a call of the stream failed")]
 pub struct Failed;
 
 /// Where bytes come from: std's `read`, with a count of the calls that failed.

@@ -7,8 +7,8 @@ use crate::names::{Names, push_record};
 use crate::words::Words;
 use block_device::{Disk, PlainDisk};
 use disk_command::run;
-use nbd_wire::{EIO, Export};
-use session::{Next, OpenError, Session};
+use nbd_wire::{EIO, Export, Next};
+use session::{OpenError, Session};
 use std::alloc::Global;
 
 /// A session, and the disk that its commands are run on.

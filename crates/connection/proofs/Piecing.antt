@@ -1,5 +1,5 @@
 -- a piece goes on by one turn
-use Rattle.std.proofs.Common.{◌==◌, length, arith, ◌≡◌, ℕ, Bool, true, false, List, [], ◌∷◌, ◌++◌, take, drop, refl, sym, ◌∙◌, ap, append_assoc, subst}
+use Rattle.std.proofs.Common.{◌==◌, length, arith, ◌≡◌, ℕ, Bool, true, false, List, [], ◌∷◌, ◌++◌, take, drop, refl, sym, ◌∙◌, ap, append_assoc, subst, inl, inr}
 use Rattle.std.specs.Prelude.{◌||◌}
 use Rattle.std.proofs.lemmas.Bool.{eqb-true}
 use Rattle.std.proofs.lemmas.List.{take-append-drop, append-nil}
@@ -8,9 +8,9 @@ use Rattle.session.specs.Sessions.{SessionState, SessionRepresents, is_closed}
 use Rattle.session.specs.Parts.{Part, Gains, closes, closed}
 use Rattle.session.proofs.PartLaws.{gains_both, gains_still}
 use Rattle.connection.specs.declared.peer.Fate.{Fate}
+use Rattle.connection.specs.declared.piece.Progress.{Progress}
 use Rattle.connection.specs.declared.piece.Progress.TheVariants.{Open, Closed, OutputFailed, Lost}
-use Rattle.connection.specs.declared.turn.Turn.TheVariants.{Waits, Answered, Closes, OutputFails, Loses}
-use Rattle.connection.specs.Turning.{PartBy, PartsBy, LosesPart, GrowsBy, EndsIn, TurnTaken, PieceUnderway, PieceTaken}
+use Rattle.connection.specs.Turning.{PartBy, PartsBy, LosesPart, OnePart, GrowsBy, EndsIn, TurnBy, TurnTaken, PieceUnderway, PieceTaken}
 
 pub closed_more : (more : List Part) (p : Part) → closed more ≡ false → closed (more ++ p ∷ []) ≡ closes p
 closed_more [] p e = elim (closes p) as (λ b. (b || false) ≡ b) [ true ↦ refl | false ↦ refl ]
@@ -55,72 +55,84 @@ module _ {P : Type 0} (answers : P → P → Command → List ℕ → Fate → T
     runs = refl;
   }
 
-  module _ (a m b : P) (old mid new : SessionState) (bytes rest : List ℕ) (k : ℕ) (same : mid.export ≡ old.export) (stays : is_closed old ≡ false → is_closed mid ≡ false)
+  module _ (a m b : P) (old mid new : SessionState) (bytes rest : List ℕ) (r : ℕ × Progress) (same : mid.export ≡ old.export) (stays : is_closed old ≡ false → is_closed mid ≡ false)
       (u : PieceUnderway answers tells a m old mid bytes rest) where
-    grows_by : (added : List Part) → GrowsBy mid new (take k rest) added → GrowsBy old new (u.used ++ take k rest) (u.added ++ added)
-    grows_by added g = grows_more old mid new u.used (take k rest) u.added added same stays u.grows g
+    grows_by : (added : List Part) → GrowsBy mid new (take r.0 rest) added → GrowsBy old new (u.used ++ take r.0 rest) (u.added ++ added)
+    grows_by added g = grows_more old mid new u.used (take r.0 rest) u.added added same stays u.grows g
 
-    pub underway_waits : TurnTaken answers tells m b mid new (take k rest) Waits → PieceUnderway answers tells a b old new bytes (drop k rest)
-    underway_waits t = record {
-      used = u.used ++ take k rest;
-      bytes_are = split_on bytes u.used rest k u.bytes_are;
+    does_by : (t : TurnTaken answers tells m b mid new rest r) (progress : Progress) → r.1 ≡ progress → TurnBy answers tells m b t.added (drop r.0 rest) progress
+    does_by t progress is = subst (λ p. TurnBy answers tells m b t.added (drop r.0 rest) p) is t.does
+
+    waits : (added : List Part) → GrowsBy mid new (take r.0 rest) added → (added ≡ []) × (b ≡ m) × (drop r.0 rest ≡ []) → PieceUnderway answers tells a b old new bytes (drop r.0 rest)
+    waits added grows does = record {
+      used = u.used ++ take r.0 rest;
+      bytes_are = split_on bytes u.used rest r.0 u.bytes_are;
       added = u.added;
-      grows = subst (λ ps. GrowsBy old new (u.used ++ take k rest) ps) (ap (λ l. u.added ++ l) t.does.0 ∙ append-nil u.added) (grows_by t.added t.grows);
+      grows = subst (λ ps. GrowsBy old new (u.used ++ take r.0 rest) ps) (ap (λ l. u.added ++ l) does.0 ∙ append-nil u.added) (grows_by added grows);
       still = u.still;
-      runs = subst (λ p. PartsBy answers tells a p u.added) (sym t.does.1) u.runs;
+      runs = subst (λ p. PartsBy answers tells a p u.added) (sym does.1) u.runs;
     }
 
-    pub underway_answered : TurnTaken answers tells m b mid new (take k rest) Answered → PieceUnderway answers tells a b old new bytes (drop k rest)
-    underway_answered t = record {
-      used = u.used ++ take k rest;
-      bytes_are = split_on bytes u.used rest k u.bytes_are;
-      added = u.added ++ t.does.0 ∷ [];
-      grows = subst (λ ps. GrowsBy old new (u.used ++ take k rest) (u.added ++ ps)) t.does.1 (grows_by t.added t.grows);
-      still = closed_more u.added t.does.0 u.still ∙ t.does.2;
-      runs = parts_more a m b u.added t.does.0 u.runs t.does.3;
+    answered : (added : List Part) → GrowsBy mid new (take r.0 rest) added → OnePart answers tells m b added false → PieceUnderway answers tells a b old new bytes (drop r.0 rest)
+    answered added grows does = record {
+      used = u.used ++ take r.0 rest;
+      bytes_are = split_on bytes u.used rest r.0 u.bytes_are;
+      added = u.added ++ does.0 ∷ [];
+      grows = subst (λ ps. GrowsBy old new (u.used ++ take r.0 rest) (u.added ++ ps)) does.1 (grows_by added grows);
+      still = closed_more u.added does.0 u.still ∙ does.2;
+      runs = parts_more a m b u.added does.0 u.runs does.3;
     }
 
-    pub piece_closes : TurnTaken answers tells m b mid new (take k rest) Closes → PieceTaken answers tells a b old new bytes Closed
-    piece_closes t = record {
-      reached = record { done = u.used ++ take k rest; parts = u.added ++ t.does.0 ∷ []; peer = b; ahead = drop k rest };
-      bytes_are = split_on bytes u.used rest k u.bytes_are;
-      gains = λ start text is_open h. (subst (λ ps. GrowsBy old new (u.used ++ take k rest) (u.added ++ ps)) t.does.1 (grows_by t.added t.grows) start text is_open h).0;
-      runs = parts_more a m b u.added t.does.0 u.runs t.does.3;
-      ends = (closed_more u.added t.does.0 u.still ∙ t.does.2, refl);
-    }
+    pub underway_more : TurnTaken answers tells m b mid new rest r → r.1 ≡ Open → PieceUnderway answers tells a b old new bytes (drop r.0 rest)
+    underway_more t is = elim (does_by t Open is) [
+      | inl none ↦ waits t.added t.grows none
+      | inr one ↦ answered t.added t.grows one
+    ]
+
+    pub piece_closes : TurnTaken answers tells m b mid new rest r → r.1 ≡ Closed → PieceTaken answers tells a b old new bytes Closed
+    piece_closes t is =
+        let does = does_by t Closed is in record {
+          reached = record { done = u.used ++ take r.0 rest; parts = u.added ++ does.0 ∷ []; peer = b; ahead = drop r.0 rest };
+          bytes_are = split_on bytes u.used rest r.0 u.bytes_are;
+          gains = λ start text is_open h. (subst (λ ps. GrowsBy old new (u.used ++ take r.0 rest) (u.added ++ ps)) does.1 (grows_by t.added t.grows) start text is_open h).0;
+          runs = parts_more a m b u.added does.0 u.runs does.3;
+          ends = (closed_more u.added does.0 u.still ∙ does.2, refl);
+        }
 
     -- where the connection ends in a part that isn't answered whole
-    ends_in : (added : List Part) (part : Part) → added ≡ part ∷ [] → GrowsBy mid new (take k rest) added → (last : Part → Type 0) → last part
+    ends_in : (added : List Part) (part : Part) → added ≡ part ∷ [] → GrowsBy mid new (take r.0 rest) added → (last : Part → Type 0) → last part
         → EndsIn old (record { done = u.used; parts = u.added; peer = m; ahead = rest }) last
     ends_in added part is grows last ends = record {
-      unit = take k rest;
-      others = drop k rest;
+      unit = take r.0 rest;
+      others = drop r.0 rest;
       part = part;
-      ahead_is = sym (take-append-drop k rest);
+      ahead_is = sym (take-append-drop r.0 rest);
       gains = λ start text is_open h.
           let here = text ++ u.used in
           let one = (grows start here (stays is_open) (u.grows start text is_open h).1).0 in
-          subst (λ ps. Gains start old.export here (here ++ take k rest) ps) is (subst (λ n. Gains start n here (here ++ take k rest) added) same one);
+          subst (λ ps. Gains start old.export here (here ++ take r.0 rest) ps) is (subst (λ n. Gains start n here (here ++ take r.0 rest) added) same one);
       ends = ends;
     }
 
-    pub piece_fails : TurnTaken answers tells m b mid new (take k rest) OutputFails → PieceTaken answers tells a b old new bytes OutputFailed
-    piece_fails t = record {
-      reached = record { done = u.used; parts = u.added; peer = m; ahead = rest };
-      bytes_are = u.bytes_are;
-      gains = λ start text is_open h. (u.grows start text is_open h).0;
-      runs = u.runs;
-      ends = (u.still, ends_in t.added t.does.0 t.does.1 t.grows (λ part. PartBy answers tells m b part false) t.does.2);
-    }
+    pub piece_fails : TurnTaken answers tells m b mid new rest r → r.1 ≡ OutputFailed → PieceTaken answers tells a b old new bytes OutputFailed
+    piece_fails t is =
+        let does = does_by t OutputFailed is in record {
+          reached = record { done = u.used; parts = u.added; peer = m; ahead = rest };
+          bytes_are = u.bytes_are;
+          gains = λ start text is_open h. (u.grows start text is_open h).0;
+          runs = u.runs;
+          ends = (u.still, ends_in t.added does.0 does.1 t.grows (λ part. PartBy answers tells m b part false) does.2);
+        }
 
-    pub piece_loses : TurnTaken answers tells m b mid new (take k rest) Loses → PieceTaken answers tells a b old new bytes Lost
-    piece_loses t = record {
-      reached = record { done = u.used; parts = u.added; peer = m; ahead = rest };
-      bytes_are = u.bytes_are;
-      gains = λ start text is_open h. (u.grows start text is_open h).0;
-      runs = u.runs;
-      ends = (u.still, ends_in t.added t.does.0 t.does.1 t.grows (λ part. LosesPart answers m b part) t.does.2);
-    }
+    pub piece_loses : TurnTaken answers tells m b mid new rest r → r.1 ≡ Lost → PieceTaken answers tells a b old new bytes Lost
+    piece_loses t is =
+        let does = does_by t Lost is in record {
+          reached = record { done = u.used; parts = u.added; peer = m; ahead = rest };
+          bytes_are = u.bytes_are;
+          gains = λ start text is_open h. (u.grows start text is_open h).0;
+          runs = u.runs;
+          ends = (u.still, ends_in t.added does.0 does.1 t.grows (λ part. LosesPart answers m b part) does.2);
+        }
 
   -- the end of a piece that is taken whole
   pub piece_stays : (a b : P) (old new : SessionState) (bytes rest : List ℕ) → PieceUnderway answers tells a b old new bytes rest → rest ≡ [] → PieceTaken answers tells a b old new bytes Open

@@ -1,5 +1,6 @@
 -- What a turn and a piece of a connection do, over a peer, by what its two calls do. Source: own.
-use Rattle.std.specs.Prelude.{◌≡◌, ℕ, Bool, true, false, List, [], ◌∷◌, ◌++◌}
+use Rattle.std.specs.Prelude.{◌≡◌, ◌⊎◌, ℕ, Bool, true, false, List, [], ◌∷◌, ◌++◌}
+use Rattle.std.specs.Prelude.{take, drop}
 use Rattle.nbd_wire.specs.declared.command.Command.{Command}
 use Rattle.nbd_wire.specs.declared.phase.Phase.{Phase}
 use Rattle.nbd_wire.specs.Lent.{payload_in}
@@ -10,9 +11,6 @@ use Rattle.connection.specs.declared.peer.Fate.TheVariants.{Replied, Untaken, Lo
 use Rattle.connection.specs.declared.piece.Progress.{Progress}
 use Rattle.connection.specs.declared.piece.Progress.TheVariants.{Open, Closed, OutputFailed}
 use Rattle.connection.specs.declared.piece.Progress.TheVariants.{Lost as LostPiece}
-use Rattle.connection.specs.declared.turn.Turn.{Turn}
-use Rattle.connection.specs.declared.turn.Turn.TheVariants.{Waits, Answered, Closes, OutputFails}
-use Rattle.connection.specs.declared.turn.Turn.TheVariants.{Loses}
 
 -- A command was answered over lent bytes with this payload.
 pub record CommandBy {P : Type 0} (answers : P → P → Command → List ℕ → Fate → Type 0) (a b : P)
@@ -41,17 +39,22 @@ LosesPart answers a b (Told reply) = ⊥
 LosesPart answers a b (ForDisk command payload) = CommandBy answers a b command payload Lost
 LosesPart answers a b (Last reply) = ⊥
 
--- what became of the parts that a turn added
+-- one part is answered whole, and it closes the connection or doesn't
+abbrev pub OnePart : {P : Type 0} → (P → P → Command → List ℕ → Fate → Type 0)
+    → (P → P → List ℕ → Bool → Type 0) → P → P → List Part → Bool → Type 0
+OnePart answers tells a b added last = (part : Part) × (added ≡ part ∷ [])
+    × (closes part ≡ last) × PartBy answers tells a b part true
+
+-- What became of the parts that a turn added, which left these bytes. Where the connection stays
+-- open all bytes are used and no unit is complete, or one unit is answered.
 abbrev pub TurnBy : {P : Type 0} → (P → P → Command → List ℕ → Fate → Type 0)
-    → (P → P → List ℕ → Bool → Type 0) → P → P → List Part → Turn → Type 0
-TurnBy answers tells a b added Waits = (added ≡ []) × (b ≡ a)
-TurnBy answers tells a b added Answered = (part : Part) × (added ≡ part ∷ [])
-    × (closes part ≡ false) × PartBy answers tells a b part true
-TurnBy answers tells a b added Closes = (part : Part) × (added ≡ part ∷ [])
-    × (closes part ≡ true) × PartBy answers tells a b part true
-TurnBy answers tells a b added OutputFails = (part : Part) × (added ≡ part ∷ [])
+    → (P → P → List ℕ → Bool → Type 0) → P → P → List Part → List ℕ → Progress → Type 0
+TurnBy answers tells a b added left Open =
+    ((added ≡ []) × (b ≡ a) × (left ≡ [])) ⊎ OnePart answers tells a b added false
+TurnBy answers tells a b added left Closed = OnePart answers tells a b added true
+TurnBy answers tells a b added left OutputFailed = (part : Part) × (added ≡ part ∷ [])
     × PartBy answers tells a b part false
-TurnBy answers tells a b added Loses = (part : Part) × (added ≡ part ∷ [])
+TurnBy answers tells a b added left LostPiece = (part : Part) × (added ≡ part ∷ [])
     × LosesPart answers a b part
 
 -- a session's text grows by these bytes and gains these parts
@@ -62,20 +65,19 @@ GrowsBy old new bytes added =
     × SessionRepresents start new (text ++ bytes)
 
 -- a turn after which the connection goes on
-abbrev pub goes_on : Turn → Bool
-goes_on Waits = true
-goes_on Answered = true
-goes_on Closes = false
-goes_on OutputFails = false
-goes_on Loses = false
+abbrev pub goes_on : Progress → Bool
+goes_on Open = true
+goes_on Closed = false
+goes_on OutputFailed = false
+goes_on LostPiece = false
 
--- what one turn does that took these bytes
+-- what one turn does with these bytes, by how many it took and how far the connection came
 pub record TurnTaken {P : Type 0} (answers : P → P → Command → List ℕ → Fate → Type 0)
     (tells : P → P → List ℕ → Bool → Type 0) (a b : P) (old new : SessionState) (bytes : List ℕ)
-    (turn : Turn) : Type 0 where
+    (result : ℕ × Progress) : Type 0 where
   pub added : List Part
-  pub grows : GrowsBy old new bytes added
-  pub does : TurnBy answers tells a b added turn
+  pub grows : GrowsBy old new (take result.0 bytes) added
+  pub does : TurnBy answers tells a b added (drop result.0 bytes) result.1
 
 -- Parts are answered one after another, each whole.
 abbrev pub PartsBy : {P : Type 0} → (P → P → Command → List ℕ → Fate → Type 0)

@@ -14,7 +14,6 @@
 
 mod peer;
 mod piece;
-mod turn;
 
 pub use peer::{Fate, Peer};
 pub use piece::{Progress, answer_piece};

@@ -6,7 +6,7 @@ ghost use Rattle.nbd_wire.specs.Lent.{lent_len};
 
 use nbd_wire::{Command, REPLY_LEN};
 
-/// What became of a command.
+/// What became of a command, as the peer that ran it says: the piece goes on or ends there.
 #[derive(Clone, Copy, Debug, PartialEq, Eq, Drop)]
 pub enum Fate {
     /// It ran, or met an error, and its reply was taken.

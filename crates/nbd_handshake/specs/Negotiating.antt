@@ -8,8 +8,6 @@ use Rattle.nbd_wire.specs.declared.phase.Phase.{Phase}
 use Rattle.nbd_wire.specs.declared.phase.Phase.TheVariants.{AwaitingFlags, Negotiating}
 use Rattle.nbd_wire.specs.declared.phase.Phase.TheVariants.{Transmitting, Closed}
 use Rattle.nbd_wire.specs.Options.{option_at, case_of, reply_in_case}
-use Rattle.nbd_handshake.specs.declared.handshake.Next.{Next}
-use Rattle.nbd_handshake.specs.declared.handshake.Next.TheVariants.{Stay, Transmit, Close}
 
 -- the client's flags or an option come next
 abbrev pub IsNegotiation : Phase → Type 0
@@ -34,10 +32,3 @@ negotiation_reply export (Negotiating no_zeroes) unit =
     option_reply_of export no_zeroes (option_at unit) (drop OPTION_LEN unit)
 negotiation_reply export Transmitting unit = []
 negotiation_reply export Closed unit = []
-
--- what comes next where a unit led to this phase
-abbrev pub next_of : Phase → Next
-next_of AwaitingFlags = Stay
-next_of (Negotiating no_zeroes) = Stay
-next_of Transmitting = Transmit
-next_of Closed = Close

@@ -1,11 +1,11 @@
 //! Flags and options, cut out of the bytes of a connection.
 
 ghost use Rattle.std.specs.Prelude.{◌≡◌, ◌+◌, ◌≤◌, ◌<◌, ◌++◌, ◌^◌, min, length, take, drop, List};
-ghost use Rattle.std.specs.Prelude.{ℕ, []};
+ghost use Rattle.std.specs.Prelude.{ℕ, [], Some, None};
 ghost use Rattle.nbd_wire.specs.Units.{head_len, tail_len};
 ghost use Rattle.nbd_wire.specs.Parser.{HoldsRest, ParserRepresents};
 ghost use Rattle.nbd_wire.specs.declared.phase.Phase.{Phase};
-ghost use Rattle.nbd_handshake.specs.Negotiating.{IsNegotiation, IsNegotiationOver, next_of};
+ghost use Rattle.nbd_handshake.specs.Negotiating.{IsNegotiation, IsNegotiationOver};
 ghost use Rattle.nbd_handshake.specs.Parser.{HandshakeAdvances, HandshakeAnswers, Leads};
 
 use crate::front::absorb;
@@ -17,27 +17,15 @@ use std::marker::Model;
 /// How many bytes of an option are kept at most: its head, and as much data as is looked at.
 pub const KEPT_LEN: usize = OPTION_LEN + MAX_OPTION_LEN as usize;
 
-/// What comes next on a connection.
-#[derive(Clone, Copy, PartialEq, Eq, Debug)]
-pub enum Next {
-    /// The unit begun is not complete.
-    More,
-    /// The negotiation goes on.
-    Stay,
-    /// The transmission begins.
-    Transmit,
-    /// The connection is over.
-    Close,
-}
-
 /// What a call took of the bytes that it was given, and what it wrote.
 #[derive(Clone, Copy, PartialEq, Eq, Debug)]
-pub struct Taken {
+pub struct HandshakeTaken {
     /// How many bytes were used.
     pub used: usize,
     /// How many bytes of the reply were written; 0 where there is none.
     pub reply: usize,
-    pub next: Next,
+    /// The phase behind the unit that the bytes completed; None where it isn't complete.
+    pub next: Option<Phase>,
 }
 
 /// Cuts the bytes of a negotiation into flags and options, and answers them.
@@ -90,18 +78,18 @@ impl Handshake {
     }
 
     /// Takes bytes of at most one unit, and writes its reply at the front of `reply`. A negotiation
-    /// that is over uses no bytes and answers Transmit or Close.
-    pub fn take(&mut self, bytes: &[u8], reply: &mut [u8]) -> Taken
+    /// that is over uses no bytes and answers its phase.
+    pub fn take(&mut self, bytes: &[u8], reply: &mut [u8]) -> HandshakeTaken
         requires { MAX_REPLY_LEN ≤ length reply.old }
         ensures used { result.used ≤ length bytes.now }
         ensures reply { result.reply ≤ MAX_REPLY_LEN }
         ensures rest { drop result.reply reply.new ≡ drop result.reply reply.old }
-        ensures more { result.next ≡ Next.More
+        ensures more { result.next ≡ None
             → (result.used ≡ length bytes.now) × (result.reply ≡ 0) }
         ensures progress { IsNegotiation self.old.phase → 0 < length bytes.now → 0 < result.used }
         ensures over { IsNegotiationOver self.old.phase
             → (self.new ≡ self.old) × (result
-            ≡ record { used = 0; reply = 0; next = next_of self.old.phase }) }
+            ≡ record { used = 0; reply = 0; next = Some self.old.phase }) }
         ensures export { self.new.export ≡ self.old.export }
         ensures phase { Leads self.old.phase result.next self.new.phase }
         // Of the unit begun: what the bytes used make of it.
@@ -122,24 +110,24 @@ impl Handshake {
             → ParserRepresents KEPT_LEN start self.new (text ++ take result.used bytes.now) }
     {
         let Some(head) = head_len(self.phase) else {
-            return Taken {
+            return HandshakeTaken {
                 used: 0,
                 reply: 0,
-                next: next_of(self.phase),
+                next: Some(self.phase),
             };
         };
         self.advance(head, bytes, reply)
     }
 
     /// Takes bytes of the unit begun, whose head has so many bytes.
-    fn advance(&mut self, head: u64, bytes: &[u8], reply: &mut [u8]) -> Taken
+    fn advance(&mut self, head: u64, bytes: &[u8], reply: &mut [u8]) -> HandshakeTaken
         requires phase { IsNegotiation self.old.phase }
         requires head { head ≡ head_len self.old.phase }
         requires room { MAX_REPLY_LEN ≤ length reply.old }
         ensures used { result.used ≤ length bytes.now }
         ensures reply { result.reply ≤ MAX_REPLY_LEN }
         ensures rest { drop result.reply reply.new ≡ drop result.reply reply.old }
-        ensures more { result.next ≡ Next.More
+        ensures more { result.next ≡ None
             → (result.used ≡ length bytes.now) × (result.reply ≡ 0) }
         ensures progress { 0 < length bytes.now → 0 < result.used }
         ensures export { self.new.export ≡ self.old.export }
@@ -153,10 +141,10 @@ impl Handshake {
         let count = self.count + first as u64;
         if count < head {
             self.count = count;
-            return Taken {
+            return HandshakeTaken {
                 used: first,
                 reply: 0,
-                next: Next::More,
+                next: None,
             };
         }
         let total = head + tail_len(self.phase, &self.kept);
@@ -168,32 +156,20 @@ impl Handshake {
         let used = first + second;
         if count < total {
             self.count = count;
-            return Taken {
+            return HandshakeTaken {
                 used,
                 reply: 0,
-                next: Next::More,
+                next: None,
             };
         }
         let unit = total.min(KEPT_LEN as u64) as usize;
         let answer = complete(self.phase, &self.kept[..unit], self.export, reply);
         self.phase = answer.phase;
         self.count = 0;
-        Taken {
+        HandshakeTaken {
             used,
             reply: answer.reply,
-            next: next_of(answer.phase),
+            next: Some(answer.phase),
         }
-    }
-}
-
-/// What comes next where this phase has come.
-fn next_of(phase: Phase) -> Next
-    ensures { result ≡ next_of phase }
-{
-    match phase {
-        Phase::AwaitingFlags => Next::Stay,
-        Phase::Negotiating(_) => Next::Stay,
-        Phase::Transmitting => Next::Transmit,
-        Phase::Closed => Next::Close,
     }
 }

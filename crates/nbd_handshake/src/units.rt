@@ -49,13 +49,13 @@ pub(crate) fn tail_len(phase: Phase, kept: &[u8]) -> u64
 
 /// What stands after a complete unit, and the length of its reply.
 #[derive(Clone, Copy)]
-pub(crate) struct Answer {
+pub(crate) struct Completed {
     pub(crate) reply: usize,
     pub(crate) phase: Phase,
 }
 
 /// Answers a complete unit by what is kept of it, and writes the reply at the front of `reply`.
-pub(crate) fn complete(phase: Phase, unit: &[u8], export: Export, reply: &mut [u8]) -> Answer
+pub(crate) fn complete(phase: Phase, unit: &[u8], export: Export, reply: &mut [u8]) -> Completed
     requires phase { IsNegotiation phase }
     requires whole { head_len phase ≤ length unit.now }
     requires short { length unit.now ≤ KEPT_LEN }
@@ -66,29 +66,29 @@ pub(crate) fn complete(phase: Phase, unit: &[u8], export: Export, reply: &mut [u
     ensures rest { drop result.reply reply.new ≡ drop result.reply reply.old }
 {
     match phase {
-        Phase::AwaitingFlags => Answer {
+        Phase::AwaitingFlags => Completed {
             reply: 0,
             phase: after_flags(BigEndian::read_u32(unit)),
         },
         Phase::Negotiating(no_zeroes) => match OptionHead::read(unit) {
-            None => Answer {
+            None => Completed {
                 reply: 0,
                 phase: Phase::Closed,
             },
             Some(head) => {
                 let case = case_of(head, &unit[OPTION_LEN..]);
                 let written = write_case(case, head.option, no_zeroes, export, reply);
-                Answer {
+                Completed {
                     reply: written,
                     phase: phase_after(case, head.option, no_zeroes),
                 }
             }
         },
-        Phase::Transmitting => Answer {
+        Phase::Transmitting => Completed {
             reply: 0,
             phase: Phase::Closed,
         },
-        Phase::Closed => Answer {
+        Phase::Closed => Completed {
             reply: 0,
             phase: Phase::Closed,
         },

@@ -8,8 +8,9 @@ use Rattle.nbd_wire.specs.declared.phase.Phase.TheVariants.{Transmitting, Closed
 use Rattle.nbd_wire.specs.Commands.{command_kind, command_in, is_write, is_disconnect, judge_of}
 use Rattle.nbd_wire.proofs.CommandLaws.{accepted_short, write_lends_data}
 use Rattle.nbd_wire.specs.Units.{payload_len, after_request}
-use Rattle.nbd_transmission.specs.declared.transmission.Next.{Next}
-use Rattle.nbd_transmission.specs.declared.transmission.Next.TheVariants.{More, Close}
+use Rattle.nbd_wire.specs.declared.next.Next.{Next}
+use Rattle.nbd_wire.specs.declared.next.Next.TheVariants.{More, Close}
+use Rattle.nbd_wire.specs.declared.reply.Reply.{Reply as ReplyHead}
 use Rattle.nbd_transmission.specs.Taking.{verdict, answer_of, phase_of, IsAcceptedRequest, is_accepted_write}
 
 -- the answer closes exactly where the unit does
@@ -38,7 +39,7 @@ accepted_by export c true v kind judged = tt
 accepted_by export c false None kind judged = (judged, kind)
 accepted_by export c false (Some e) kind judged = tt
 
-pub answer_is_accepted : (export : Export) (r : Option Request) (next : Next) → next ≡ answer_of export r → IsAcceptedRequest export next
+pub answer_is_accepted : (export : Export) (r : Option Request) (next : Next ReplyHead) → next ≡ answer_of export r → IsAcceptedRequest export next
 answer_is_accepted export r next e = rw e (of r) where
   of : (r : Option Request) → IsAcceptedRequest export (answer_of export r)
   of None = tt

@@ -4,9 +4,9 @@ use Rattle.nbd_wire.specs.declared.export.Export.{Export}
 use Rattle.nbd_wire.specs.declared.request.Request.{Request}
 use Rattle.nbd_wire.specs.declared.command.Command.{Command}
 use Rattle.nbd_wire.specs.Heads.{request_at}
-use Rattle.nbd_wire.specs.Commands.{command_kind, command_in, changes_disk, is_write, is_zeroing, is_disconnect, judge_of}
+use Rattle.nbd_wire.specs.Commands.{command_kind, command_in, is_write, is_zeroing, is_disconnect, judge_of}
 use Rattle.nbd_wire.proofs.CommandLaws.{accepted_keeps}
-use Rattle.nbd_transmission.specs.Apply.{with_bytes, changed_kind, changed_by, applied_unless, request_applied, unit_applied, after_units}
+use Rattle.nbd_transmission.specs.Apply.{with_bytes, applied_unless, request_applied, after_units}
 
 neither : (w z : Bool) (written zeroed contents : List ℕ) → (w || z) ≡ false → cond w written (cond z zeroed contents) ≡ contents
 neither true z written zeroed contents h = cc

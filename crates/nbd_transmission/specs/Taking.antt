@@ -10,36 +10,37 @@ use Rattle.nbd_wire.specs.declared.phase.Phase.{Phase}
 use Rattle.nbd_wire.specs.declared.phase.Phase.TheVariants.{Transmitting, Closed}
 use Rattle.nbd_wire.specs.Heads.{request_at}
 use Rattle.nbd_wire.specs.Commands.{command_kind, command_in, is_write, is_disconnect, judge_of}
-use Rattle.nbd_transmission.specs.declared.transmission.Next.{Next}
-use Rattle.nbd_transmission.specs.declared.transmission.Next.TheVariants.{More, Run, Refused, Close}
+use Rattle.nbd_wire.specs.declared.next.Next.{Next}
+use Rattle.nbd_wire.specs.declared.next.Next.TheVariants.{More, Reply, Run, Close}
+use Rattle.nbd_wire.specs.declared.reply.Reply.{Reply as ReplyHead}
 
 -- an accepted command runs, another is refused with its error
-abbrev pub verdict : Command → Option ℕ → Next
+abbrev pub verdict : Command → Option ℕ → Next ReplyHead
 verdict c None = Run c
-verdict c (Some error) = Refused c.cookie error
+verdict c (Some error) = Reply record { error = error; cookie = c.cookie }
 
 -- the answer to a request, or to a head whose magic is wrong: that and DISC close
-abbrev pub answer_of : Export → Option Request → Next
+abbrev pub answer_of : Export → Option Request → Next ReplyHead
 answer_of export None = Close
 answer_of export (Some r) = if is_disconnect (command_kind r.kind) then Close
     else verdict (command_in r) (judge_of (command_in r) export)
 
 -- the answer to a unit
-abbrev pub answer_to : Export → List ℕ → Next
+abbrev pub answer_to : Export → List ℕ → Next ReplyHead
 answer_to export unit = answer_of export (request_at unit)
 
 -- the phase of a parser that has given this answer
-abbrev pub phase_of : Next → Phase
+abbrev pub phase_of : Next ReplyHead → Phase
 phase_of More = Transmitting
 phase_of (Run c) = Transmitting
-phase_of (Refused cookie error) = Transmitting
+phase_of (Reply head) = Transmitting
 phase_of Close = Closed
 
 -- a command that is to be run passes each check of the request table, and is none that closes
-abbrev pub IsAcceptedRequest : Export → Next → Type 0
+abbrev pub IsAcceptedRequest : Export → Next ReplyHead → Type 0
 IsAcceptedRequest export More = Unit {0}
 IsAcceptedRequest export (Run c) = (judge_of c export ≡ None) × (is_disconnect c.kind ≡ false)
-IsAcceptedRequest export (Refused cookie error) = Unit {0}
+IsAcceptedRequest export (Reply head) = Unit {0}
 IsAcceptedRequest export Close = Unit {0}
 
 abbrev pub is_accepted_write : Export → Option Request → Bool

@@ -21,4 +21,4 @@ mod transmission;
 
 pub use laws::read_only_law;
 pub use table::{first_sector, judge};
-pub use transmission::{Next, Taken, Transmission};
+pub use transmission::{Transmission, TransmissionTaken};

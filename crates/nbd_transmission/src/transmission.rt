@@ -5,6 +5,7 @@ ghost use Rattle.std.specs.Prelude.{take, drop, false, if◌then◌else◌};
 ghost use Rattle.nbd_wire.specs.Heads.{request_at};
 ghost use Rattle.nbd_wire.specs.Units.{payload_len, Splits};
 ghost use Rattle.nbd_wire.specs.Parser.{HoldsRest, ParserRepresents};
+ghost use Rattle.nbd_wire.specs.declared.next.Next.{Next};
 ghost use Rattle.nbd_wire.specs.declared.phase.Phase.{Phase};
 ghost use Rattle.nbd_wire.specs.declared.phase.Phase.TheVariants.{Transmitting, Closed};
 ghost use Rattle.nbd_transmission.specs.Taking.{answer_to, verdict, is_accepted_write, payload_of};
@@ -12,31 +13,19 @@ ghost use Rattle.nbd_transmission.specs.Taking.{phase_of, IsAcceptedRequest};
 ghost use Rattle.nbd_transmission.specs.Parser.{TransmissionAnswers, TransmissionAdvances};
 
 use crate::table::judge;
-use nbd_wire::{Command, CommandKind, Export, REQUEST_LEN, Request, fill};
+use nbd_wire::{Command, CommandKind, Export, Next, REQUEST_LEN, Reply, Request, fill};
 use std::marker::Model;
-
-/// What comes next on a connection.
-#[derive(Clone, Copy, PartialEq, Eq, Debug)]
-pub enum Next {
-    /// The unit begun is not complete.
-    More,
-    /// An accepted command is to be run. The payload of a WRITE is complete.
-    Run(Command),
-    /// A refused command: its cookie and its error. The payload of a WRITE was taken and is to be
-    /// dropped.
-    Refused(u64, u32),
-    /// The connection is over, without a reply.
-    Close,
-}
 
 /// What a call took of the bytes that it was given.
 #[derive(Clone, Copy, PartialEq, Eq, Debug)]
-pub struct Taken {
+pub struct TransmissionTaken {
     /// How many bytes were used.
     pub used: usize,
     /// How many of the last of these are payload of an accepted WRITE.
     pub payload: usize,
-    pub next: Next,
+    /// What comes next; to a refused command a reply without data, once the payload of a WRITE was
+    /// taken, which is to be dropped.
+    pub next: Next<Reply>,
 }
 
 /// Cuts the bytes of a transmission into commands.
@@ -90,7 +79,7 @@ impl Transmission {
     }
 
     /// Takes bytes of at most one unit. A closed parser uses no bytes and answers Close.
-    pub fn take(&mut self, bytes: &[u8]) -> Taken
+    pub fn take(&mut self, bytes: &[u8]) -> TransmissionTaken
         ensures used { result.used ≤ length bytes.now }
         ensures payload { result.payload ≤ result.used }
         ensures more { result.next ≡ Next.More → result.used ≡ length bytes.now }
@@ -133,7 +122,7 @@ impl Transmission {
             → ParserRepresents REQUEST_LEN start self.new (text ++ take result.used bytes.now) }
     {
         if self.is_closed {
-            return Taken {
+            return TransmissionTaken {
                 used: 0,
                 payload: 0,
                 next: Next::Close,
@@ -143,7 +132,7 @@ impl Transmission {
     }
 
     /// Takes bytes of the unit begun.
-    fn advance(&mut self, bytes: &[u8]) -> Taken
+    fn advance(&mut self, bytes: &[u8]) -> TransmissionTaken
         requires { self.old.phase ≡ Phase.Transmitting }
         ensures used { result.used ≤ length bytes.now }
         ensures payload { result.payload ≤ result.used }
@@ -165,7 +154,7 @@ impl Transmission {
         let count = self.count + head as u64;
         if count < REQUEST_LEN as u64 {
             self.count = count;
-            return Taken {
+            return TransmissionTaken {
                 used: head,
                 payload: 0,
                 next: Next::More,
@@ -176,7 +165,7 @@ impl Transmission {
         let left = bytes.len() - head;
         if (left as u64) < missing {
             self.count = count + left as u64;
-            return Taken {
+            return TransmissionTaken {
                 used: bytes.len(),
                 payload: if tail.accepted { left } else { 0 },
                 next: Next::More,
@@ -184,7 +173,7 @@ impl Transmission {
         }
         self.count = 0;
         self.is_closed = closes(tail.next);
-        Taken {
+        TransmissionTaken {
             used: head + missing as usize,
             payload: if tail.accepted { missing as usize } else { 0 },
             next: tail.next,
@@ -200,7 +189,7 @@ struct Tail {
     /// Whether they are payload of an accepted WRITE.
     accepted: bool,
     /// The answer to the unit.
-    next: Next,
+    next: Next<Reply>,
 }
 
 /// Reads a whole head.
@@ -238,23 +227,24 @@ fn tail_of(head: &[u8; REQUEST_LEN], export: Export) -> Tail
 }
 
 /// The answer to a complete command.
-fn answer(command: Command, refusal: Option<u32>) -> Next
+fn answer(command: Command, refusal: Option<u32>) -> Next<Reply>
     ensures { result ≡ verdict command refusal }
 {
+    let cookie = command.cookie;
     match refusal {
         None => Next::Run(command),
-        Some(error) => Next::Refused(command.cookie, error),
+        Some(error) => Next::Reply(Reply { error, cookie }),
     }
 }
 
 /// Whether an answer ends the connection.
-fn closes(next: Next) -> bool
+fn closes(next: Next<Reply>) -> bool
     ensures { (if result then Closed else Transmitting) ≡ phase_of next }
 {
     match next {
         Next::More => false,
         Next::Run(_) => false,
-        Next::Refused(..) => false,
+        Next::Reply(_) => false,
         Next::Close => true,
     }
 }

@@ -22,6 +22,7 @@ mod command;
 mod constants;
 mod export;
 mod flags;
+mod next;
 mod option;
 mod option_reply;
 mod phase;
@@ -43,6 +44,7 @@ pub use constants::{
 };
 pub use export::Export;
 pub use flags::{CommandFlags, HandshakeFlags, TransmissionFlags};
+pub use next::Next;
 pub use option::{OptionCase, OptionHead};
 pub use option_reply::write_option_reply;
 pub use phase::{Phase, one_cutting};

@@ -3,8 +3,8 @@
 
 use crate::requests::Requests;
 use crate::telling::{Log, Teller};
-use nbd_handshake::{Handshake, MAX_REPLY_LEN, Next};
-use nbd_wire::Export;
+use nbd_handshake::{Handshake, MAX_REPLY_LEN};
+use nbd_wire::{Export, Phase};
 use std::io;
 use std::io::Read;
 use std::net::TcpStream;
@@ -62,9 +62,9 @@ impl<'s, 't, W: Clock + Wait + Log> Limited<'s, 't, W> {
             let taken = self.handshake.take(rest, &mut reply);
             rest = &rest[taken.used..];
             match taken.next {
-                Next::More => return,
-                Next::Stay => {}
-                Next::Transmit | Next::Close => {
+                None => return,
+                Some(Phase::AwaitingFlags | Phase::Negotiating(_)) => {}
+                Some(Phase::Transmitting | Phase::Closed) => {
                     self.start = None;
                     self.negotiates = false;
                     let _ = self.stream.set_read_timeout(None);

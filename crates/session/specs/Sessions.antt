@@ -16,15 +16,11 @@ use Rattle.nbd_handshake.specs.Parser.{KEPT_LEN}
 use Rattle.nbd_handshake.specs.Greeting.{greeting_bytes}
 use Rattle.nbd_handshake.specs.Negotiating.{IsNegotiation}
 use Rattle.nbd_transmission.specs.Taking.{payload_of}
-use Rattle.nbd_transmission.specs.declared.transmission.Next.{Next as Answer}
-use Rattle.nbd_transmission.specs.declared.transmission.Next.TheVariants.{More as MoreBytes}
-use Rattle.nbd_transmission.specs.declared.transmission.Next.TheVariants.{Run as RunCommand}
-use Rattle.nbd_transmission.specs.declared.transmission.Next.TheVariants.{Refused}
-use Rattle.nbd_transmission.specs.declared.transmission.Next.TheVariants.{Close as CloseNow}
+use Rattle.nbd_wire.specs.declared.next.Next.{Next}
+use Rattle.nbd_wire.specs.declared.next.Next.TheVariants.{More, Reply, Run, Close}
+use Rattle.nbd_wire.specs.declared.reply.Reply.{Reply as ReplyHead}
 use Rattle.session.specs.declared.stage.Stage.{Stage}
 use Rattle.session.specs.declared.stage.Stage.TheVariants.{Negotiating, Requesting, Ended}
-use Rattle.session.specs.declared.next.Next.{Next}
-use Rattle.session.specs.declared.next.Next.TheVariants.{More, Reply, Run, Close}
 use Rattle.nbd_wire.specs.Lent.{payload_in}
 use Rattle.session.specs.Lent.{IsRunnable, lent_now}
 use Rattle.session.specs.Parts.{Told, ForDisk, Last, Gains}
@@ -96,10 +92,11 @@ SessionRepresents start line text = StageRepresents start line.stage line text
 -- What an answer says of a text that grows from old to new: it gains no part, a reply that is told,
 -- a command that is asked with the payload that is lent, or the last; and the session represents
 -- the longer text.
-abbrev pub SessionSays : Phase → Export → List ℕ → List ℕ → Next → SessionState → Type 0
+abbrev pub SessionSays : Phase → Export → List ℕ → List ℕ → Next (Unit {0}) → SessionState
+    → Type 0
 SessionSays start export old new More line =
     Gains start export old new [] × SessionRepresents start line new
-SessionSays start export old new Reply line =
+SessionSays start export old new (Reply _) line =
     Gains start export old new (Told (reply_of line) ∷ []) × SessionRepresents start line new
 SessionSays start export old new (Run c) line =
     Gains start export old new (ForDisk c (payload_in c (room_of line)) ∷ [])
@@ -117,16 +114,16 @@ pub record IsRunning (export : Export) (c : Command) (line : SessionState) : Typ
   pub replied : line.replied ≡ 0
 
 -- what runs after an answer; without a Reply or Close there is no reply
-abbrev pub RunsAfter : Export → Next → SessionState → Type 0
+abbrev pub RunsAfter : Export → Next (Unit {0}) → SessionState → Type 0
 RunsAfter export More line = (line.running ≡ None) × (line.replied ≡ 0)
-RunsAfter export Reply line = line.running ≡ None
+RunsAfter export (Reply _) line = line.running ≡ None
 RunsAfter export (Run c) line = IsRunning export c line
 RunsAfter export Close line = line.running ≡ None
 
 -- only a Close closes
-abbrev pub is_close : Next → Bool
+abbrev pub is_close : Next (Unit {0}) → Bool
 is_close More = false
-is_close Reply = false
+is_close (Reply _) = false
 is_close (Run c) = false
 is_close Close = true
 
@@ -153,11 +150,11 @@ pub record IsHolding (transmission : ParserState) (filled : ℕ) : Type 0 where
   pub filled_is : filled ≡ length (payload_of transmission.export rest)
 
 -- the same after an answer of the transmission: behind a complete request nothing is held
-abbrev pub HoldsAfter : Answer → ParserState → ℕ → Type 0
-HoldsAfter MoreBytes transmission filled = IsHolding transmission filled
-HoldsAfter (RunCommand c) transmission filled = IsHolding transmission 0
-HoldsAfter (Refused cookie error) transmission filled = IsHolding transmission 0
-HoldsAfter CloseNow transmission filled = Unit {0}
+abbrev pub HoldsAfter : Next ReplyHead → ParserState → ℕ → Type 0
+HoldsAfter More transmission filled = IsHolding transmission filled
+HoldsAfter (Reply head) transmission filled = IsHolding transmission 0
+HoldsAfter (Run c) transmission filled = IsHolding transmission 0
+HoldsAfter Close transmission filled = Unit {0}
 
 -- what holds of the parser that is at work
 abbrev pub InStage : Stage → ParserState → ParserState → ℕ → Type 0

@@ -16,12 +16,11 @@
 //! how it grows, `buffer_laws` what a write to the buffer leaves.
 #![tactic(auto)]
 
+mod error;
 mod laws;
-mod next;
-mod receive;
 mod session;
 mod stage;
 
+pub use error::OpenError;
 pub use laws::{buffer_laws, parts_laws};
-pub use next::{Next, OpenError, Taken};
-pub use session::{STORE_LEN, Session};
+pub use session::{STORE_LEN, Session, Taken};

@@ -1,5 +1,5 @@
 -- The rows of a connection's commands are in the history.
-use Rattle.std.proofs.Common.{◌≡◌, ◌⊎◌, ◌==◌, ℕ, List, [], ◌∷◌, ◌++◌, Bool, true, false, refl, sym, ap, ◌∙◌, subst, inl, inr, append_assoc}
+use Rattle.std.proofs.Common.{◌≡◌, ◌==◌, ℕ, List, [], ◌∷◌, ◌++◌, true, false, refl, sym, ap, ◌∙◌, subst, inl, inr, append_assoc}
 use Rattle.std.proofs.lemmas.List.{append-nil}
 use Rattle.std.proofs.lemmas.List.Elements.{filter-append}
 use Rattle.history.proofs.Beginnings.{prefix_self, prefix_trans}
@@ -9,7 +9,6 @@ use Rattle.history.specs.Notes.{Sight, entries_by}
 use Rattle.nbd_wire.specs.declared.command.Command.{Command}
 use Rattle.session.specs.Parts.{Part, Told, ForDisk, Last}
 use Rattle.share.specs.declared.recorder.Row.{Row}
-use Rattle.share.specs.declared.shared.Done.TheVariants.{Replied}
 use Rattle.share.specs.Connection.{PartsAnsweredBy, Executed}
 use Rattle.share.specs.History.{row_of, IsLegal}
 use Rattle.share.specs.Places.{Place, through}

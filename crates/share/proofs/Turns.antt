@@ -11,6 +11,7 @@ use Rattle.session.specs.Sessions.{SessionState, SessionRepresents, is_closed, o
 use Rattle.session.specs.Parts.{Part, Told, ForDisk, Last, Gains, closes, closed, is_silent, ends_silently}
 use Rattle.session.proofs.PartLaws.{gains_behind, gains_both}
 use Rattle.connection.specs.declared.peer.Fate.{Fate}
+use Rattle.connection.specs.declared.piece.Progress.{Progress}
 use Rattle.connection.specs.declared.piece.Progress.TheVariants.{Open, Closed, OutputFailed, Lost as LostPiece}
 use Rattle.connection.specs.Turning.{PartBy, PartsBy, LosesPart, PieceTaken}
 use Rattle.share.specs.declared.attending.End.{End}
@@ -19,7 +20,7 @@ use Rattle.share.specs.declared.door.Point.{Point}
 use Rattle.share.specs.declared.door.Point.TheVariants.{Execute}
 use Rattle.share.specs.declared.shared.Done.{Done}
 use Rattle.share.specs.Connection.{AnsweredBy, ExecutedAndLost, FailsBy, ConnectionEnded, PartsAnsweredBy}
-use Rattle.share.specs.Turning.{CommandTurn, StandTells, ConnectionUnderway, PieceBy, PieceServes}
+use Rattle.share.specs.Turning.{CommandTurn, StandTells, ConnectionUnderway, PieceBy, PieceServes, end_of}
 use Rattle.share.specs.Places.{PassesMore, Place, Setting, Stand, asks, executions, points_of, reads, setting}
 
 -- ---- lists of points and of parts
@@ -340,7 +341,7 @@ module _ {S G : Type 0} (step : Place S → Place S → Command → List ℕ →
     whole-text : (text done ahead : List ℕ) → piece ≡ done ++ ahead → text ++ piece ≡ (text ++ done) ++ ahead
     whole-text text done ahead is = ap (λ (x : List ℕ). text ++ x) is ∙ sym (append_assoc text done ahead)
 
-    pub says-open : PieceTaken commands StandTells a b old new piece Open → PieceServes step passes a b old new piece None
+    says-open : PieceTaken commands StandTells a b old new piece Open → PieceServes step passes a b old new piece None
     says-open x = record {
       says = λ start text first w pieces.
           let r = x.reached in
@@ -353,7 +354,7 @@ module _ {S G : Type 0} (step : Place S → Place S → Command → List ℕ →
           underway-at st first b (text ++ r.done) (text ++ piece) new (length (text ++ piece)) all u.0 (omega (arith, pieces, count));
     }
 
-    pub says-closed : PieceTaken commands StandTells a b old new piece Closed → PieceServes step passes a b old new piece (Some ClosedEnd)
+    says-closed : PieceTaken commands StandTells a b old new piece Closed → PieceServes step passes a b old new piece (Some ClosedEnd)
     says-closed x = record {
       says = λ start text first w pieces.
           let r = x.reached in
@@ -362,7 +363,7 @@ module _ {S G : Type 0} (step : Place S → Place S → Command → List ℕ →
           over-closes (setting start old.export) first a text old w b (text ++ r.done) r.ahead (text ++ piece) r.parts gains x.ends.0 d (whole-text text r.done r.ahead x.bytes_are) pieces;
     }
 
-    pub says-output : PieceTaken commands StandTells a b old new piece OutputFailed → PieceServes step passes a b old new piece (Some Output)
+    says-output : PieceTaken commands StandTells a b old new piece OutputFailed → PieceServes step passes a b old new piece (Some Output)
     says-output x = record {
       says = λ start text first w pieces.
           let r = x.reached in
@@ -374,7 +375,7 @@ module _ {S G : Type 0} (step : Place S → Place S → Command → List ℕ →
           over-output (setting start old.export) first a text old w r.peer b (mid ++ e.unit) e.others (text ++ piece) r.parts e.part gains x.ends.0 d e.ends is pieces;
     }
 
-    pub says-lost : PieceTaken commands StandTells a b old new piece LostPiece → PieceServes step passes a b old new piece (Some LostEnd)
+    says-lost : PieceTaken commands StandTells a b old new piece LostPiece → PieceServes step passes a b old new piece (Some LostEnd)
     says-lost x = record {
       says = λ start text first w pieces.
           let r = x.reached in
@@ -386,6 +387,12 @@ module _ {S G : Type 0} (step : Place S → Place S → Command → List ℕ →
           let is = whole-text text r.done r.ahead x.bytes_are ∙ ap (λ (l : List ℕ). mid ++ l) e.ahead_is in
           over-lost (setting start old.export) first a text old w r.peer b r.done e.unit e.others (text ++ piece) r.parts e.part gains one x.ends.0 d e.ends is pieces;
     }
+
+    pub says-piece : (progress : Progress) → PieceTaken commands StandTells a b old new piece progress → PieceServes step passes a b old new piece (end_of progress)
+    says-piece Open x = says-open x
+    says-piece Closed x = says-closed x
+    says-piece OutputFailed x = says-output x
+    says-piece LostPiece x = says-lost x
 
   -- of an export that is the session's
   pub says-of : (export : Export) (a b : Stand S G) (old new : SessionState) (piece : List ℕ) (result : Option End) → old.export ≡ export → PieceServes step passes a b old new piece result

@@ -10,7 +10,12 @@ use Rattle.session.specs.Sessions.{SessionState, SessionRepresents, opening}
 use Rattle.session.specs.Parts.{Part, IsPartsOf, closed}
 use Rattle.connection.specs.declared.peer.Fate.{Fate}
 use Rattle.connection.specs.declared.peer.Fate.TheVariants.{Replied, Untaken, Lost}
+use Rattle.connection.specs.declared.piece.Progress.{Progress}
+use Rattle.connection.specs.declared.piece.Progress.TheVariants.{Open, Closed, OutputFailed}
+use Rattle.connection.specs.declared.piece.Progress.TheVariants.{Lost as LostPiece}
 use Rattle.share.specs.declared.attending.End.{End}
+use Rattle.share.specs.declared.attending.End.TheVariants.{Closed as ClosedEnd, Output}
+use Rattle.share.specs.declared.attending.End.TheVariants.{Lost as LostEnd}
 use Rattle.share.specs.declared.door.Point.{Point}
 use Rattle.share.specs.declared.door.Point.TheVariants.{Execute}
 use Rattle.share.specs.declared.shared.Done.{Done}
@@ -69,6 +74,13 @@ PieceBy step passes setting a b text line None =
     × (length text ≤ 65536 * reads w.points)
 PieceBy step passes setting a b text line (Some end) =
     ConnectionEnded step passes setting a b text end × FailsBy end a.failures b.failures
+
+-- how a connection ended with a piece, where it did
+abbrev pub end_of : Progress → Option End
+end_of Open = None
+end_of Closed = Some ClosedEnd
+end_of OutputFailed = Some Output
+end_of LostPiece = Some LostEnd
 
 -- the same of every connection that was underway, of pieces of at most 65,536 bytes
 pub record PieceServes {S G : Type 0} (step : Place S → Place S → Command → List ℕ → Done → Type 0)

@@ -5,7 +5,7 @@ ghost use Rattle.nbd_wire.specs.declared.phase.Phase.{Phase};
 ghost use Rattle.nbd_wire.specs.declared.phase.Phase.TheVariants.{AwaitingFlags, Transmitting};
 ghost use Rattle.session.specs.Sessions.{BeginsSession, is_closed};
 ghost use Rattle.share.specs.Connection.{Connection};
-ghost use Rattle.share.specs.Turning.{PieceServes};
+ghost use Rattle.share.specs.Turning.{PieceServes, end_of};
 ghost use Rattle.share.specs.Places.{reading, setting, stand, through};
 
 use crate::clerk::Clerk;
@@ -19,7 +19,7 @@ use std::alloc::{AllocError, Global};
 /// How many bytes of a connection are read at once, at the most.
 const PIECE_LEN: usize = 65_536;
 
-/// How a connection ended.
+/// How a connection ended, as whoever had it served is told.
 #[derive(Clone, Copy, Debug, PartialEq, Eq, Drop)]
 pub enum End {
     /// A unit closed it: flags that aren't known, a wrong magic, ABORT, an unknown name, or DISC.
@@ -90,7 +90,14 @@ fn respond<L: OneServer, T: Door<L>, K: Sink, G: Gate>(
         (K.written clerk.new.writer.now) (K.faults clerk.new.writer.now))
         session.old session.new piece.now result }
 {
-    match connection::answer_piece(clerk, session, piece) {
+    end_of(connection::answer_piece(clerk, session, piece))
+}
+
+/// How the connection ended with a piece, where it did.
+fn end_of(progress: Progress) -> Option<End>
+    ensures { result ≡ end_of progress }
+{
+    match progress {
         Progress::Open => None,
         Progress::Closed => Some(End::Closed),
         Progress::OutputFailed => Some(End::Output),

@@ -18,6 +18,7 @@ use nbd_wire::{Command, EIO, ENOMEM, Export, SECTOR_LEN};
 use std::alloc::Global;
 use std::marker::Model;
 use std::sync::ledger::Blank;
+use thiserror::Error;
 
 /// A command, the error that answers it (0, EIO or ENOMEM), and the borrow of the bytes that were
 /// lent to it: a READ's data where the error is 0. Only this module makes one.
@@ -71,7 +72,7 @@ impl<'a> Answer<'a> {
     }
 }
 
-/// What became of a command.
+/// What became of a command, as the door says: its connection sends the reply, or ends.
 #[derive(Drop)]
 pub enum Done<'a> {
     /// It is answered.
@@ -82,10 +83,16 @@ pub enum Done<'a> {
 }
 
 /// Why a recording server could not be made.
-#[derive(Clone, Copy, Debug, PartialEq, Eq, Drop)]
+#[derive(Clone, Copy, Debug, PartialEq, Eq, Drop, Error)]
 pub enum RecordError {
+    /// A Cut is latched in the disk, or came while its contents were read.
+    #[error("the disk lost its power")]
     Cut,
+    /// A Slow is latched in the disk, or came while its contents were read.
+    #[error("an operation of the chip didn't end")]
     Slow,
+    /// There was no memory for the contents.
+    #[error("no memory for the disk's contents")]
     OutOfMemory,
 }
 

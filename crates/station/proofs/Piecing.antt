@@ -10,13 +10,12 @@ use Rattle.session.specs.Sessions.{SessionState}
 use Rattle.session.specs.Parts.{Part, ForDisk, closed}
 use Rattle.station.specs.Records.{DONE, SHUT, LOST, entry, replied}
 use Rattle.station.specs.declared.event.Event.TheVariants.{Piece}
-use Rattle.station.specs.declared.piece.Ending.{Ending}
-use Rattle.station.specs.declared.piece.Ending.TheVariants.{Stays, Shut, Lost}
+use Rattle.connection.specs.declared.piece.Progress.TheVariants.{Open, Closed, OutputFailed, Lost}
 use Rattle.station.specs.Answers.{after_parts, replies, after_part, reply_of_part}
 use Rattle.station.specs.World.{World, Powered, Unpowered, AnswersPiece, PieceInterrupted, Lacked, dark, hung_up, text_at}
 use Rattle.station.specs.Board.{StationRepresents, ServesText}
 use Rattle.station.specs.Moving.{Halts}
-use Rattle.station.specs.Turning.{Desk, IsRunQuiet, LostParts, Pieced, PieceHalts}
+use Rattle.station.specs.Turning.{Desk, IsRunQuiet, LostParts, Pieced}
 use Rattle.station.proofs.Pieces.{longer}
 use Rattle.station.proofs.Lines.{lines_put, lines_set, lines_dark, text_of}
 use Rattle.station.proofs.Moving.{board, Leads, step_on, by_some}
@@ -75,7 +74,7 @@ module _ (f f' : Facts) (n : Export) (on : Bool) (ss : List SessionState) (bs : 
   text_here : (w : World) → StationRepresents (board f n on ss bs) w → (u : List ℕ) × (text_at w c ≡ Some u) × ServesText s u
   text_here w st = let inside : c < length ss = omega arith in text_of ss bs w.texts c d s st.texts inside at here
 
-  pub piece_shut : (IsRunQuiet f f' → Pieced c (desk f s was) (desk f' s' is) Shut bytes.now)
+  pub piece_shut : (IsRunQuiet f f' → Pieced c (desk f s was) (desk f' s' is) Closed bytes.now)
       → Leads (board f n on ss bs) (board f' n on (set ss c s') (set bs c false)) (Piece c bytes) was is (entry c SHUT [])
   piece_shut goes = λ same w st.
       let k = st.disk in
@@ -101,7 +100,7 @@ module _ (f f' : Facts) (n : Export) (on : Bool) (ss : List SessionState) (bs : 
         },
       )
 
-  pub piece_stays : (IsRunQuiet f f' → Pieced c (desk f s was) (desk f' s' is) Stays bytes.now)
+  pub piece_stays : (IsRunQuiet f f' → Pieced c (desk f s was) (desk f' s' is) Open bytes.now)
       → Leads (board f n on ss bs) (board f' n on (set ss c s') bs) (Piece c bytes) was is (entry c DONE [])
   piece_stays goes = λ same w st.
       let k = st.disk in
@@ -147,35 +146,36 @@ module _ (f f' : Facts) (n : Export) (on : Bool) (ss : List SessionState) (bs : 
       )
 
   -- the output fails in a reply of the piece
-  pub piece_stops : (IsRunQuiet f f' → PieceHalts c (desk f s was) (desk f' s' is) bytes.now)
+  pub piece_stops : (IsRunQuiet f f' → Pieced c (desk f s was) (desk f' s' is) OutputFailed bytes.now)
       → Halts (board f n on ss bs) (board f' n on (set ss c s') bs) (Piece c bytes) was is
   piece_stops goes = λ same w st.
       let k = st.disk in
       let lit : w.power ≡ true = k.power ∙ power in
       let l = text_here w st in
       let g = goes (is_quiet same w st) in
-      let h = g.says l.0 l.2 in
+      let x = g.says l.0 l.2 in
+      let h = x.2 in
       let front = h.before ++ h.part ∷ [] in
       let all = front ++ h.rest in
       let mid = after_parts n f.contents front in
       let tail = replies n c mid h.rest in
       let whole : h.before ++ h.part ∷ h.rest ≡ all = sym (append_assoc h.before (h.part ∷ []) h.rest) in
       let lacked : Lacked n l.0 bytes.now all = subst (λ m. Lacked m l.0 bytes.now all) export (subst (λ v. Lacked s.export l.0 bytes.now v) whole h.lacked) in
-      let out_is : replies n c f.contents front ≡ h.out ++ h.unsent = subst (λ m. replies m c f.contents front ≡ h.out ++ h.unsent) export h.out_is in
+      let out_is : replies n c f.contents front ≡ x.0 ++ h.unsent = subst (λ m. replies m c f.contents front ≡ x.0 ++ h.unsent) export h.out_is in
       let disk_is : f'.contents ≡ mid = subst (λ m. f'.contents ≡ after_parts m f.contents front) export h.disk_is in
       let b = closed all in
       let last = entry c (if b then SHUT else DONE) [] in
       let end : World = record { export = w.export; disk = after_parts n f.contents all; power = true; texts = set w.texts c (if b then None else Some (l.0 ++ bytes.now)) } in
       let unsent = h.unsent ++ (tail ++ last) in
-      let told : replies n c f.contents all ++ last ≡ h.out ++ unsent =
+      let told : replies n c f.contents all ++ last ≡ x.0 ++ unsent =
       ap (λ v. v ++ last) (replies_append n c f.contents front h.rest ∙ ap (λ v. v ++ tail) out_is)
-      ∙ (append_assoc (h.out ++ h.unsent) tail last ∙ append_assoc h.out h.unsent (tail ++ last)) in
+      ∙ (append_assoc (x.0 ++ h.unsent) tail last ∙ append_assoc x.0 h.unsent (tail ++ last)) in
       let step = step_on w.power (Powered w (Piece c bytes) (replies n c f.contents all ++ last) end) (Unpowered w (Piece c bytes) (replies n c f.contents all ++ last) end) lit
       (by_some (text_at w c) l.0 _ _ l.1 (answers_in w c n f.contents l.0 bytes.now (replies n c f.contents all) (after_parts n f.contents all) all b k.export k.contents lacked refl refl refl)) in
       let left : World = hung_up (record w { disk = after_parts w.export w.disk front }) in (
         left,
-        h.out,
-        h.appends,
+        x.0,
+        x.1,
         record {
           unsent = unsent;
           missing = longer h.unsent (tail ++ last) h.missing;
@@ -206,6 +206,3 @@ module _ (f f' : Facts) (n : Export) (on : Bool) (ss : List SessionState) (bs : 
           power = k.power;
         },
       )
-
-pub pieced_at : (who : ℕ) (old new : Desk) (e e' : Ending) (bytes : List ℕ) → e ≡ e' → Pieced who old new e bytes → Pieced who old new e' bytes
-pieced_at who old new e e' bytes which g = subst (λ r. Pieced who old new r bytes) which g

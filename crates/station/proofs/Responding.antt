@@ -5,7 +5,6 @@ use Rattle.std.proofs.lemmas.Bool.{false≢true}
 use Rattle.std.proofs.lemmas.List.{append-nil}
 use Rattle.std.specs.Io.KnownBytes.{Appends}
 use Rattle.std.proofs.KnownBytes.{Appends-trans}
-use Rattle.block_device.specs.declared.stream.Failed.{Failed}
 use Rattle.block_device.specs.declared.disk.DiskError.{DiskError}
 use Rattle.block_device.specs.declared.disk.DiskError.TheVariants.{Cut, Slow}
 use Rattle.block_device.specs.Contents.{Outcome}
@@ -22,13 +21,12 @@ use Rattle.session.proofs.PartLaws.{gains_both, gains_end, parts_begin}
 use Rattle.connection.specs.declared.piece.Progress.{Progress}
 use Rattle.connection.specs.declared.piece.Progress.TheVariants.{Open, Closed, OutputFailed, Lost as LostPiece}
 use Rattle.connection.specs.Turning.{PartBy, PartsBy, LosesPart, PieceTaken}
-use Rattle.station.specs.declared.piece.Ending.TheVariants.{Stays, Shut, Lost}
 use Rattle.station.specs.Answers.{reply_of_part, after_part, after_parts, replies}
 use Rattle.station.specs.Records.{replied}
 use Rattle.station.specs.Responding.{Post, WritesBy, CommandRuns, CommandReplied, PostAnswers, PostTells, PostTakes}
 use Rattle.station.specs.Telling.{SlowComes}
 use Rattle.station.specs.Board.{ServesText}
-use Rattle.station.specs.Turning.{Desk, IsRunQuiet, Pieced, PieceHalts}
+use Rattle.station.specs.Turning.{Desk, IsRunQuiet, Pieced}
 use Rattle.station.proofs.Pieces.{appends_none, goes_still, goes_twice, quiet_first, quiet_then, replies_more, after_more}
 use Rattle.station.proofs.Telling.{Grows, slow_still, slow_twice, grows_still, grows_twice}
 
@@ -229,7 +227,7 @@ module _ (a b : Post) (line line' : SessionState) (bytes : List ℕ) (same : a.e
   after_here : (parts : List Part) → after_parts a.export a.disk.contents parts ≡ after_parts line.export a.disk.contents parts
   after_here parts = ap (λ (n : Export). after_parts n a.disk.contents parts) same
 
-  piece_stays : (is_closed line ≡ false → is_closed line' ≡ false) → PieceTaken PostAnswers PostTells a b line line' bytes Open → Pieced a.who (desk a line) (desk b line') Stays bytes
+  piece_stays : (is_closed line ≡ false → is_closed line' ≡ false) → PieceTaken PostAnswers PostTells a b line line' bytes Open → Pieced a.who (desk a line) (desk b line') Open bytes
   piece_stays stays x =
       let r = x.reached in
       let plain = parts_plain a b r.parts (whole a b r.peer r.parts x.runs x.ends.1) quiet in
@@ -255,7 +253,7 @@ module _ (a b : Post) (line line' : SessionState) (bytes : List ℕ) (same : a.e
         );
       }
 
-  piece_shut : PieceTaken PostAnswers PostTells a b line line' bytes Closed → Pieced a.who (desk a line) (desk b line') Shut bytes
+  piece_shut : PieceTaken PostAnswers PostTells a b line line' bytes Closed → Pieced a.who (desk a line) (desk b line') Closed bytes
   piece_shut x =
       let r = x.reached in
       let plain = parts_plain a b r.parts (whole a b r.peer r.parts x.runs x.ends.1) quiet in
@@ -307,7 +305,7 @@ module _ (a b : Post) (line line' : SessionState) (bytes : List ℕ) (same : a.e
         subst (λ (l : List ℕ). Outcome mid.disk.contents (applied mid.export mid.disk.contents c l) b.disk.contents) x.payload_is left,
       )
 
-  piece_lost : PieceTaken PostAnswers PostTells a b line line' bytes LostPiece → Pieced a.who (desk a line) (desk b line') Lost bytes
+  piece_lost : PieceTaken PostAnswers PostTells a b line line' bytes LostPiece → Pieced a.who (desk a line) (desk b line') LostPiece bytes
   piece_lost x =
       let r = x.reached in
       let d = x.ends.1 in
@@ -342,7 +340,7 @@ module _ (a b : Post) (line line' : SessionState) (bytes : List ℕ) (same : a.e
             );
       }
 
-  piece_halts : PieceTaken PostAnswers PostTells a b line line' bytes OutputFailed → PieceHalts a.who (desk a line) (desk b line') bytes
+  piece_halts : PieceTaken PostAnswers PostTells a b line line' bytes OutputFailed → Pieced a.who (desk a line) (desk b line') OutputFailed bytes
   piece_halts x =
       let r = x.reached in
       let d = x.ends.1 in
@@ -363,30 +361,31 @@ module _ (a b : Post) (line line' : SessionState) (bytes : List ℕ) (same : a.e
         slow = one.slow;
         says = λ text serves.
             let all = gains_rest line.export text r.done d.unit d.others r.ahead bytes r.parts d.part x.bytes_are d.ahead_is
-            (x.gains AwaitingFlags text serves.0 serves.1) (d.gains AwaitingFlags text serves.0 serves.1) in
-            record {
-              before = r.parts;
-              part = d.part;
-              rest = all.0;
-              out = plain.out ++ lacks.0;
-              first = lacks.0;
-              unsent = lacks.1;
-              missing = lacks.4;
-              lacked = all.1;
-              appends = Appends-trans a.written r.peer.written b.written plain.out lacks.0 plain.appends lacks.3;
-              out_is = replies_more line.export a.who a.disk.contents r.parts d.part
-                  ∙ (ap (λ (l : List ℕ). l ++ replied a.who (reply_of_part line.export here d.part)) (sym before) ∙ (ap (λ (l : List ℕ). plain.out ++ l) told ∙ sym (append_assoc plain.out lacks.0 lacks.1)));
-              split = ap (λ (l : List ℕ). l ++ lacks.0) before;
-              reply_is = told;
-              disk_is = one.contents ∙ (ap (λ (n : Export). after_part n r.peer.disk.contents d.part) (first.export ∙ same)
-                  ∙ (ap (λ (l : List ℕ). after_part line.export l d.part) had ∙ sym (after_more line.export a.disk.contents r.parts d.part)));
-            };
+            (x.gains AwaitingFlags text serves.0 serves.1) (d.gains AwaitingFlags text serves.0 serves.1) in (
+              plain.out ++ lacks.0,
+              Appends-trans a.written r.peer.written b.written plain.out lacks.0 plain.appends lacks.3,
+              record {
+                before = r.parts;
+                part = d.part;
+                rest = all.0;
+                first = lacks.0;
+                unsent = lacks.1;
+                missing = lacks.4;
+                lacked = all.1;
+                out_is = replies_more line.export a.who a.disk.contents r.parts d.part
+                    ∙ (ap (λ (l : List ℕ). l ++ replied a.who (reply_of_part line.export here d.part)) (sym before) ∙ (ap (λ (l : List ℕ). plain.out ++ l) told ∙ sym (append_assoc plain.out lacks.0 lacks.1)));
+                split = ap (λ (l : List ℕ). l ++ lacks.0) before;
+                reply_is = told;
+                disk_is = one.contents ∙ (ap (λ (n : Export). after_part n r.peer.disk.contents d.part) (first.export ∙ same)
+                    ∙ (ap (λ (l : List ℕ). after_part line.export l d.part) had ∙ sym (after_more line.export a.disk.contents r.parts d.part)));
+              },
+            );
       }
 
 -- ---- by its end
 
 module _ (a b : Post) (line line' : SessionState) (bytes : List ℕ) (same : a.export ≡ line.export) where
-  pub takes_open : (is_closed line ≡ false → is_closed line' ≡ false) → PieceTaken PostAnswers PostTells a b line line' bytes Open → PostTakes a b line line' bytes (Ok Stays)
+  takes_open : (is_closed line ≡ false → is_closed line' ≡ false) → PieceTaken PostAnswers PostTells a b line line' bytes Open → PostTakes a b line line' bytes Open
   takes_open stays x =
       let keeps = keeps_piece a b line line' bytes Open x in
       let sent = parts_sent a b x.reached.parts (whole a b x.reached.peer x.reached.parts x.runs x.ends.1) in
@@ -397,10 +396,9 @@ module _ (a b : Post) (line line' : SessionState) (bytes : List ℕ) (same : a.e
         wrote = sent.0;
         faults = sent.1;
         says = λ quiet. piece_stays a b line line' bytes same quiet stays x;
-        halts = λ quiet. tt;
       }
 
-  pub takes_closed : PieceTaken PostAnswers PostTells a b line line' bytes Closed → PostTakes a b line line' bytes (Ok Shut)
+  takes_closed : PieceTaken PostAnswers PostTells a b line line' bytes Closed → PostTakes a b line line' bytes Closed
   takes_closed x =
       let keeps = keeps_piece a b line line' bytes Closed x in
       let sent = parts_sent a b x.reached.parts (whole a b x.reached.peer x.reached.parts x.runs x.ends.1) in
@@ -411,10 +409,9 @@ module _ (a b : Post) (line line' : SessionState) (bytes : List ℕ) (same : a.e
         wrote = sent.0;
         faults = sent.1;
         says = λ quiet. piece_shut a b line line' bytes same quiet x;
-        halts = λ quiet. tt;
       }
 
-  pub takes_lost : PieceTaken PostAnswers PostTells a b line line' bytes LostPiece → PostTakes a b line line' bytes (Ok Lost)
+  takes_lost : PieceTaken PostAnswers PostTells a b line line' bytes LostPiece → PostTakes a b line line' bytes LostPiece
   takes_lost x =
       let keeps = keeps_piece a b line line' bytes LostPiece x in
       let sent = sent_twice a x.reached.peer b (parts_sent a x.reached.peer x.reached.parts x.runs) (lost_sent x.reached.peer b x.ends.1.part x.ends.1.ends) in
@@ -425,11 +422,10 @@ module _ (a b : Post) (line line' : SessionState) (bytes : List ℕ) (same : a.e
         wrote = sent.0;
         faults = sent.1;
         says = λ quiet. piece_lost a b line line' bytes same quiet x;
-        halts = λ quiet. tt;
       }
 
-  pub takes_failed : (e : Failed) → PieceTaken PostAnswers PostTells a b line line' bytes OutputFailed → PostTakes a b line line' bytes (Err e)
-  takes_failed e x =
+  takes_failed : PieceTaken PostAnswers PostTells a b line line' bytes OutputFailed → PostTakes a b line line' bytes OutputFailed
+  takes_failed x =
       let keeps = keeps_piece a b line line' bytes OutputFailed x in
       record {
         sound = keeps.sound;
@@ -437,6 +433,11 @@ module _ (a b : Post) (line line' : SessionState) (bytes : List ℕ) (same : a.e
         slow = keeps.slow;
         wrote = tt;
         faults = piece_failed a b line line' bytes x;
-        says = λ quiet. tt;
-        halts = λ quiet. piece_halts a b line line' bytes same quiet x;
+        says = λ quiet. piece_halts a b line line' bytes same quiet x;
       }
+
+  pub takes : (progress : Progress) → (progress ≡ Open → is_closed line ≡ false → is_closed line' ≡ false) → PieceTaken PostAnswers PostTells a b line line' bytes progress → PostTakes a b line line' bytes progress
+  takes Open stays x = takes_open (stays refl) x
+  takes Closed stays x = takes_closed x
+  takes OutputFailed stays x = takes_failed x
+  takes LostPiece stays x = takes_lost x

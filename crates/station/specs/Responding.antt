@@ -1,11 +1,10 @@
 -- What the peer of a connection at a station does: it runs a command on the disk, and writes the
 -- records of replies. Words of private functions: no claim rests on them. Source: own.
 use Rattle.std.specs.Prelude.{◌≡◌, ℕ, Bool, true, false, List, Option, None, Result, Err}
-use Rattle.std.specs.Prelude.{OnOk, OnErr, IfOk, IsErrOf}
+use Rattle.std.specs.Prelude.{OnOk, IsErrOf}
 use Rattle.std.specs.Io.KnownBytes.{Appends}
 use Rattle.block_device.specs.declared.disk.DiskError.{DiskError}
 use Rattle.block_device.specs.declared.disk.DiskError.TheVariants.{Cut, Slow}
-use Rattle.block_device.specs.declared.stream.Failed.{Failed}
 use Rattle.block_device.specs.Facts.{Facts, CountsNeverFall}
 use Rattle.block_device.specs.Streams.{FailsToSend}
 use Rattle.nbd_wire.specs.declared.command.Command.{Command}
@@ -17,12 +16,12 @@ use Rattle.nbd_transmission.specs.Apply.{head_of, reply_to}
 use Rattle.disk_command.specs.Effects.{CommandLeaves, CommandLatches}
 use Rattle.connection.specs.declared.peer.Fate.{Fate}
 use Rattle.connection.specs.declared.peer.Fate.TheVariants.{Replied, Untaken, Lost}
+use Rattle.connection.specs.declared.piece.Progress.{Progress}
 use Rattle.session.specs.Sessions.{SessionState}
-use Rattle.station.specs.declared.piece.Ending.{Ending}
 use Rattle.station.specs.Records.{replied}
 use Rattle.station.specs.Running.{FailsOnly}
 use Rattle.station.specs.Telling.{SlowComes}
-use Rattle.station.specs.Turning.{IsRunQuiet, Pieced, PieceHalts}
+use Rattle.station.specs.Turning.{IsRunQuiet, Pieced, output_of}
 
 -- a connection's number and export, the disk, what was written so far, and how many writes failed
 pub record Post : Type 0 where
@@ -85,15 +84,12 @@ PostTells a b reply taken = (b.who ≡ a.who) × (b.export ≡ a.export) × (b.d
 
 -- what a piece of a session says of the disk and of what was written
 pub record PostTakes (a b : Post) (line line' : SessionState) (bytes : List ℕ)
-    (result : Result Ending Failed) : Type 0 where
+    (progress : Progress) : Type 0 where
   pub sound : b.disk.sound ≡ a.disk.sound
   pub goes : CountsNeverFall a.disk b.disk
   pub slow : SlowComes a.disk b.disk
-  pub wrote : OnOk result ((wrote : List ℕ) × Appends a.written b.written wrote)
-  pub faults : FailsOnly a.faults result b.faults
-  pub says : IsRunQuiet a.disk b.disk → IfOk result (λ ending. Pieced a.who
+  pub wrote : OnOk (output_of progress) ((wrote : List ℕ) × Appends a.written b.written wrote)
+  pub faults : FailsOnly a.faults (output_of progress) b.faults
+  pub says : IsRunQuiet a.disk b.disk → Pieced a.who
       (record { disk = a.disk; line = line; written = a.written })
-      (record { disk = b.disk; line = line'; written = b.written }) ending bytes)
-  pub halts : IsRunQuiet a.disk b.disk → OnErr result (PieceHalts a.who
-      (record { disk = a.disk; line = line; written = a.written })
-      (record { disk = b.disk; line = line'; written = b.written }) bytes)
+      (record { disk = b.disk; line = line'; written = b.written }) progress bytes

@@ -1,7 +1,7 @@
 -- What one piece of a connection does: the layer below an event. Words of private
 -- functions: no claim rests on them. Source: own.
 use Rattle.std.specs.Prelude.{◌≡◌, ℕ, ◌<◌, true, false, List, [], ◌∷◌, ◌++◌, length}
-use Rattle.std.specs.Prelude.{Option}
+use Rattle.std.specs.Prelude.{Option, Result, Ok, Err}
 use Rattle.std.specs.Io.KnownBytes.{Appends}
 use Rattle.block_device.specs.Facts.{Facts}
 use Rattle.block_device.specs.Contents.{Outcome}
@@ -10,8 +10,8 @@ use Rattle.nbd_wire.specs.Commands.{touches_chip}
 use Rattle.nbd_transmission.specs.Apply.{applied}
 use Rattle.session.specs.Sessions.{SessionState}
 use Rattle.session.specs.Parts.{Part, ForDisk, closed}
-use Rattle.station.specs.declared.piece.Ending.{Ending}
-use Rattle.station.specs.declared.piece.Ending.TheVariants.{Stays, Shut, Lost}
+use Rattle.connection.specs.declared.piece.Progress.{Progress}
+use Rattle.connection.specs.declared.piece.Progress.TheVariants.{Open, Closed, OutputFailed, Lost}
 use Rattle.station.specs.Answers.{reply_of_part, after_parts, replies}
 use Rattle.station.specs.Records.{replied}
 use Rattle.station.specs.World.{Lacked}
@@ -51,41 +51,16 @@ pub record LostParts (who : ℕ) (old : Desk) (text bytes out disk : List ℕ) :
       (applied old.line.export (after_parts old.line.export old.disk.contents before) command
       payload) disk
 
--- the power is still there, or it went just now
-abbrev pub PowerAtEnd : Ending → Facts → Facts → Type 0
-PowerAtEnd Stays old new = new.cut ≡ false
-PowerAtEnd Shut old new = new.cut ≡ false
-PowerAtEnd Lost old new = (new.cut ≡ true) × (old.cuts < new.cuts)
-
--- what a piece says of a text that got longer by its bytes
-abbrev pub PieceSays : ℕ → Desk → Desk → List ℕ → List ℕ → List ℕ → Ending → Type 0
-PieceSays who old new text bytes out Stays =
-    ((more : List Part) × (closed more ≡ false)
-    × SomeParts who old text bytes out new.disk.contents more) × ServesText new.line (text ++ bytes)
-PieceSays who old new text bytes out Shut = (more : List Part) × (closed more ≡ true)
-    × SomeParts who old text bytes out new.disk.contents more
-PieceSays who old new text bytes out Lost = LostParts who old text bytes out new.disk.contents
-
--- what a whole piece does
-pub record Pieced (who : ℕ) (old new : Desk) (ending : Ending) (bytes : List ℕ) : Type 0 where
-  pub power : PowerAtEnd ending old.disk new.disk
-  pub slow : new.disk.slow ≡ false
-  pub says : (text : List ℕ) → ServesText old.line text →
-      (out : List ℕ) × Appends old.written new.written out
-      × PieceSays who old new text bytes out ending
-
 -- The output fails in a piece: some parts were answered, and of the last of them a beginning of the
 -- reply's record was taken.
-pub record PartsHalt (who : ℕ) (old new : Desk) (text bytes : List ℕ) : Type 0 where
+pub record PartsHalt (who : ℕ) (old new : Desk) (text bytes out : List ℕ) : Type 0 where
   pub before : List Part
   pub part : Part
   pub rest : List Part
-  pub out : List ℕ
   pub first : List ℕ
   pub unsent : List ℕ
   pub missing : 0 < length unsent
   pub lacked : Lacked old.line.export text bytes (before ++ part ∷ rest)
-  pub appends : Appends old.written new.written out
   pub out_is : replies old.line.export who old.disk.contents (before ++ part ∷ []) ≡ out ++ unsent
   pub split : out ≡ replies old.line.export who old.disk.contents before ++ first
   pub reply_is : replied who (reply_of_part old.line.export
@@ -93,7 +68,34 @@ pub record PartsHalt (who : ℕ) (old new : Desk) (text bytes : List ℕ) : Type
   pub disk_is : new.disk.contents ≡ after_parts old.line.export old.disk.contents
       (before ++ part ∷ [])
 
-pub record PieceHalts (who : ℕ) (old new : Desk) (bytes : List ℕ) : Type 0 where
-  pub power : new.disk.cut ≡ false
+-- whether the output took all that was written
+abbrev pub output_of : Progress → Result (Unit {0}) (Unit {0})
+output_of Open = Ok tt
+output_of Closed = Ok tt
+output_of OutputFailed = Err tt
+output_of Lost = Ok tt
+
+-- the power is still there, or it went just now
+abbrev pub PowerAtEnd : Progress → Facts → Facts → Type 0
+PowerAtEnd Open old new = new.cut ≡ false
+PowerAtEnd Closed old new = new.cut ≡ false
+PowerAtEnd OutputFailed old new = new.cut ≡ false
+PowerAtEnd Lost old new = (new.cut ≡ true) × (old.cuts < new.cuts)
+
+-- what a piece says of a text that got longer by its bytes
+abbrev pub PieceSays : ℕ → Desk → Desk → List ℕ → List ℕ → List ℕ → Progress → Type 0
+PieceSays who old new text bytes out Open =
+    ((more : List Part) × (closed more ≡ false)
+    × SomeParts who old text bytes out new.disk.contents more) × ServesText new.line (text ++ bytes)
+PieceSays who old new text bytes out Closed = (more : List Part) × (closed more ≡ true)
+    × SomeParts who old text bytes out new.disk.contents more
+PieceSays who old new text bytes out OutputFailed = PartsHalt who old new text bytes out
+PieceSays who old new text bytes out Lost = LostParts who old text bytes out new.disk.contents
+
+-- what a whole piece does
+pub record Pieced (who : ℕ) (old new : Desk) (progress : Progress) (bytes : List ℕ) : Type 0 where
+  pub power : PowerAtEnd progress old.disk new.disk
   pub slow : new.disk.slow ≡ false
-  pub says : (text : List ℕ) → ServesText old.line text → PartsHalt who old new text bytes
+  pub says : (text : List ℕ) → ServesText old.line text →
+      (out : List ℕ) × Appends old.written new.written out
+      × PieceSays who old new text bytes out progress

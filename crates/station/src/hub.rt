@@ -4,8 +4,9 @@ ghost use Rattle.std.specs.Prelude.{◌≡◌, not, All, IfOk, vec_len};
 
 use crate::entries::{ABSENT, DONE, LOST, NO_ONE, SHUT, STUCK, put, tell};
 use crate::event::{Event, NewError};
-use crate::piece::{Ending, take_piece};
+use crate::piece::take_piece;
 use block_device::{Disk, DiskError, Failed, Sink};
+use connection::Progress;
 use nbd_wire::Export;
 use session::Session;
 use std::alloc::Global;
@@ -179,16 +180,16 @@ impl<D: Disk> Hub<D> {
             return put(out, who, ABSENT, &[]);
         }
         match take_piece(&mut self.disk, &mut self.sessions[at], who, bytes, out) {
-            Ok(Ending::Stays) => put(out, who, DONE, &[]),
-            Ok(Ending::Shut) => {
+            Progress::Open => put(out, who, DONE, &[]),
+            Progress::Closed => {
                 self.is_open[at] = false;
                 put(out, who, SHUT, &[])
             }
-            Ok(Ending::Lost) => {
+            Progress::Lost => {
                 self.go_dark();
                 put(out, who, LOST, &[])
             }
-            Err(e) => Err(e),
+            Progress::OutputFailed => Err(Failed),
         }
     }
 

@@ -1,56 +1,40 @@
 //! Pieces of one connection's bytes.
 
 ghost use Rattle.std.specs.Io.KnownBytes.{Appends};
-ghost use Rattle.std.specs.Prelude.{◌≡◌, ◌*◌, ℕ, List, length, IfOk, OnErr, OnOk};
+ghost use Rattle.std.specs.Prelude.{◌≡◌, ◌*◌, ℕ, List, length, OnOk};
 ghost use Rattle.block_device.specs.Facts.{CountsNeverFall};
 ghost use Rattle.station.specs.Responding.{PostTakes, post};
 ghost use Rattle.station.specs.Running.{FailsOnly};
 ghost use Rattle.station.specs.Telling.{SlowComes};
-ghost use Rattle.station.specs.Turning.{IsRunQuiet, Pieced, PieceHalts};
+ghost use Rattle.station.specs.Turning.{IsRunQuiet, Pieced, output_of};
 
 use crate::responder::Responder;
-use block_device::{Disk, Failed, Sink};
+use block_device::{Disk, Sink};
 use connection::{Progress, answer_piece};
 use session::Session;
 
-/// What became of a connection with a piece.
-#[derive(Clone, Copy, Debug, PartialEq, Eq, Drop)]
-pub(crate) enum Ending {
-    /// It stays open.
-    Stays,
-    /// Its last unit was answered.
-    Shut,
-    /// The power went.
-    Lost,
-}
-
 /// Takes a whole piece, and answers each unit that it completes, up to one that closes the
-/// connection or a loss of power.
+/// connection, a failure of the output or a loss of power.
 pub(crate) fn take_piece<D: Disk, W: Sink>(
     disk: &mut D,
     session: &mut Session,
     who: u8,
     bytes: &[u8],
     out: &mut W,
-) -> Result<Ending, Failed>
+) -> Progress
     requires size { length (D.facts disk.old).contents ≡ 512 * session.old.export.sectors }
     ensures export { session.new.export ≡ session.old.export }
     ensures memory { session.new.memory ≡ session.old.memory }
     ensures sound { (D.facts disk.new).sound ≡ (D.facts disk.old).sound }
     ensures goes { CountsNeverFall (D.facts disk.old) (D.facts disk.new) }
     ensures slow { SlowComes (D.facts disk.old) (D.facts disk.new) }
-    ensures wrote { OnOk result ((wrote : List ℕ)
+    ensures wrote { OnOk (output_of result) ((wrote : List ℕ)
         × Appends (W.written out.old) (W.written out.new) wrote) }
-    ensures faults { FailsOnly (W.faults out.old) result (W.faults out.new) }
-    ensures says { IsRunQuiet (D.facts disk.old) (D.facts disk.new)
-        → IfOk result (λ ending. Pieced who
+    ensures faults { FailsOnly (W.faults out.old) (output_of result) (W.faults out.new) }
+    ensures says { IsRunQuiet (D.facts disk.old) (D.facts disk.new) → Pieced who
         (record { disk = D.facts disk.old; line = session.old; written = W.written out.old })
-        (record { disk = D.facts disk.new; line = session.new; written = W.written out.new }) ending
-        bytes.now) }
-    ensures halts { IsRunQuiet (D.facts disk.old) (D.facts disk.new) → OnErr result (PieceHalts who
-        (record { disk = D.facts disk.old; line = session.old; written = W.written out.old })
-        (record { disk = D.facts disk.new; line = session.new; written = W.written out.new })
-        bytes.now) }
+        (record { disk = D.facts disk.new; line = session.new; written = W.written out.new }) result
+        bytes.now }
 {
     let export = session.export();
     let mut responder = Responder {
@@ -67,7 +51,7 @@ fn respond<D: Disk, W: Sink>(
     responder: &mut Responder<'_, '_, D, W>,
     session: &mut Session,
     bytes: &[u8],
-) -> Result<Ending, Failed>
+) -> Progress
     requires size { length (D.facts responder.old.disk.now).contents
         ≡ 512 * responder.old.export.sectors }
     requires export { responder.old.export ≡ session.old.export }
@@ -82,10 +66,5 @@ fn respond<D: Disk, W: Sink>(
         (W.written responder.new.out.now) (W.faults responder.new.out.now)) session.old session.new
         bytes.now result }
 {
-    match answer_piece(responder, session, bytes) {
-        Progress::Open => Ok(Ending::Stays),
-        Progress::Closed => Ok(Ending::Shut),
-        Progress::OutputFailed => Err(Failed),
-        Progress::Lost => Ok(Ending::Lost),
-    }
+    answer_piece(responder, session, bytes)
 }

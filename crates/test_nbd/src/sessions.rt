@@ -5,8 +5,8 @@ ghost use Rattle.std.specs.Prelude.{◌≡◌, ◌+◌, ◌≤◌, Some, length}
 ghost use Rattle.nbd_transmission.specs.Apply.{reply_to};
 ghost use Rattle.session.specs.Sessions.{IsRunning, reply_of};
 
-use nbd_wire::{Command, CommandKind, Export};
-use session::{Next, Session, buffer_laws};
+use nbd_wire::{Command, CommandKind, Export, Next};
+use session::{Session, buffer_laws};
 use std::alloc::Global;
 use std::test::Fail;
 use test_kit::bytes_of;
@@ -35,10 +35,10 @@ fn answer_read(session: &mut Session, command: &Command, contents: &[u8])
 }
 
 /// The name of an answer.
-fn name(next: Next) -> &'static str {
+fn name(next: Next<()>) -> &'static str {
     match next {
         Next::More => "More",
-        Next::Reply => "Reply",
+        Next::Reply(()) => "Reply",
         Next::Run(_) => "Run",
         Next::Close => "Close",
     }

@@ -148,4 +148,4 @@ returns-clause-step c rest keeps =
     let reply = take c.complete-answer.result.reply c.complete-answer.new.reply in
     let reply-is : reply ≡ negotiation_reply export p text = c.complete-answer.ensures.reply ∙ ap (negotiation_reply export p) kept-is ∙ same.reply in
     let phase-is : c.complete-answer.result.phase ≡ after p text = c.complete-answer.ensures.phase ∙ ap (after p) kept-is ∙ same.phase in
-    rw (← c.self.view_is) (completes _ _ text c.next_of.result reply c.next_of.ensures is_unit reply-is phase-is record { kept = refl; count = refl })
+    rw (← c.self.view_is) (completes _ _ text c.complete-answer.result.phase reply refl is_unit reply-is phase-is record { kept = refl; count = refl })

@@ -1,8 +1,17 @@
-use Rattle.std.proofs.Common.{ℕ, List, [], ◌∷◌, true, false, refl, subst}
+use Rattle.std.proofs.Common.{ℕ, List, [], ◌∷◌, true, false, refl, subst, inl, inr, arith}
+use Rattle.std.proofs.lemmas.List.{drop_all}
 use Rattle.nbd_wire.specs.Lent.{payload_in}
 use Rattle.session.specs.Sessions.{reply_of, room_of}
 use Rattle.session.specs.Parts.{Told, ForDisk, Last}
-use Rattle.connection.proofs.turn.take_turn.Goals as goal
+use Rattle.connection.proofs.piece.take_turn.Goals as goal
+
+pub returns-in-More-clause-turned : goal.returns-in-More-clause-turned
+returns-in-More-clause-turned g c =
+    let all = c.take-taken.ensures.more c.in-More.is in record {
+      added = [];
+      grows = λ start text is_open h. rw c.in-More.is at (c.take-taken.ensures.says start text is_open h);
+      does = inl (refl, refl, drop_all c.take-taken.result.used c.args.bytes.now (omega (arith, all)));
+    }
 
 pub returns-in-true-clause-turned : goal.returns-in-true-clause-turned
 returns-in-true-clause-turned g c =
@@ -10,7 +19,7 @@ returns-in-true-clause-turned g c =
     record {
       added = part ∷ [];
       grows = λ start text is_open h. rw c.in-Reply.is at (c.take-taken.ensures.says start text is_open h);
-      does = (part, refl, refl, subst (λ (l : List ℕ). g.P.Peer.tells c.args.peer.now c.tell.new.self l true) c.reply.ensures.value c.in-true.ensures.tells);
+      does = inr (part, refl, refl, subst (λ (l : List ℕ). g.P.Peer.tells c.args.peer.now c.tell.new.self l true) c.reply.ensures.value c.in-true.ensures.tells);
     }
 
 pub returns-in-false-clause-turned : goal.returns-in-false-clause-turned
@@ -31,7 +40,7 @@ returns-in-Replied-clause-turned g c =
       grows = λ start text is_open h.
           let x = rw c.in-Run.is at (c.take-taken.ensures.says start text is_open h) in
           (x.0, c.in-Replied.ensures.represents start _ x.1);
-      does = (ForDisk command payload, refl, refl, c.in-Replied.ensures.by);
+      does = inr (ForDisk command payload, refl, refl, c.in-Replied.ensures.by);
     }
 
 pub returns-in-Untaken-clause-turned : goal.returns-in-Untaken-clause-turned

@@ -1,4 +1,4 @@
-use Rattle.connection.proofs.turn.answer_command.Goals as goal
+use Rattle.connection.proofs.piece.answer_command.Goals as goal
 
 pub returns-clause-represents : goal.returns-clause-represents
 returns-clause-represents g c start text h =

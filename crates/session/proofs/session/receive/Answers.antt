@@ -1,6 +1,6 @@
 use Rattle.std.proofs.Common.{◌+◌, ◌-◌, ◌≤◌, ◌++◌, ℕ, List, length, take, drop, length-append, ap, ◌∙◌, arith}
 use Rattle.session.proofs.Lines.{part_used, part_len, payload_put}
-use Rattle.session.proofs.receive.receive.Goals as goal
+use Rattle.session.proofs.session.receive.Goals as goal
 
 pub returns-clause-stored : goal.returns-clause-stored
 returns-clause-stored c =
