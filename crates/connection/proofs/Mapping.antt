@@ -3,7 +3,7 @@ use Rattle.std.proofs.Common.{◌≡◌, ℕ, Bool, true, false, List, [], ◌�
 use Rattle.nbd_wire.specs.declared.command.Command.{Command}
 use Rattle.session.specs.Sessions.{SessionState}
 use Rattle.session.specs.Parts.{Part, Told, ForDisk, Last}
-use Rattle.connection.specs.declared.peer.Fate.{Fate}
+use Rattle.connection.specs.declared.piece.Fate.{Fate}
 use Rattle.connection.specs.declared.piece.Progress.{Progress}
 use Rattle.connection.specs.declared.piece.Progress.TheVariants.{Open, Closed, OutputFailed, Lost}
 use Rattle.connection.specs.Turning.{CommandBy, PartBy, PartsBy, LosesPart, Reached, EndsIn, ProgressBy, PieceTaken}

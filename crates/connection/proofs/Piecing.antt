@@ -7,7 +7,7 @@ use Rattle.nbd_wire.specs.declared.command.Command.{Command}
 use Rattle.session.specs.Sessions.{SessionState, SessionRepresents, is_closed}
 use Rattle.session.specs.Parts.{Part, Gains, closes, closed}
 use Rattle.session.proofs.PartLaws.{gains_both, gains_still}
-use Rattle.connection.specs.declared.peer.Fate.{Fate}
+use Rattle.connection.specs.declared.piece.Fate.{Fate}
 use Rattle.connection.specs.declared.piece.Progress.{Progress}
 use Rattle.connection.specs.declared.piece.Progress.TheVariants.{Open, Closed, OutputFailed, Lost}
 use Rattle.connection.specs.Turning.{PartBy, PartsBy, LosesPart, OnePart, GrowsBy, EndsIn, TurnBy, TurnTaken, PieceUnderway, PieceTaken}

@@ -12,8 +12,6 @@
 //! first reply, and where the pieces come from. Source: NBD proto.md, by the sessions.
 #![tactic(auto)]
 
-mod peer;
 mod piece;
 
-pub use peer::{Fate, Peer};
-pub use piece::{Progress, answer_piece};
+pub use piece::{Fate, Peer, Progress, answer_piece};

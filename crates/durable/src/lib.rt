@@ -14,8 +14,6 @@
 //! Source: NBD proto.md (FLUSH, FUA); the policies are own.
 #![tactic(auto)]
 
-mod door;
 mod durable;
 
-pub use door::Owing;
-pub use durable::{Durable, Owed, Policy};
+pub use durable::{Durable, Owed, Owing, Policy};

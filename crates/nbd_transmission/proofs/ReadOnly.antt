@@ -1,7 +1,7 @@
 -- No command changes a read-only export.
 use Rattle.std.proofs.Common.{◌≡◌, ℕ, ◌||◌, Bool, true, false, cond, List, [], ◌∷◌, Option, Some, None, refl, ap, ◌∙◌, drop, replicate}
 use Rattle.nbd_wire.specs.declared.export.Export.{Export}
-use Rattle.nbd_wire.specs.declared.request.Request.{Request}
+use Rattle.nbd_wire.specs.declared.command.Request.{Request}
 use Rattle.nbd_wire.specs.declared.command.Command.{Command}
 use Rattle.nbd_wire.specs.Heads.{request_at}
 use Rattle.nbd_wire.specs.Commands.{command_kind, command_in, is_write, is_zeroing, is_disconnect, judge_of}

@@ -6,7 +6,7 @@ use Rattle.nbd_wire.specs.declared.export.Export.{Export}
 use Rattle.nbd_wire.specs.Numbers.{REQUEST_LEN}
 use Rattle.nbd_wire.specs.declared.command.Command.{Command}
 use Rattle.nbd_wire.specs.declared.command.CommandKind.{CommandKind}
-use Rattle.nbd_wire.specs.declared.request.Request.{Request}
+use Rattle.nbd_wire.specs.declared.command.Request.{Request}
 use Rattle.nbd_wire.specs.Heads.{reply_bytes, request_at}
 use Rattle.nbd_wire.specs.Commands.{command_in, is_disconnect, is_read, is_write, judge_of}
 use Rattle.nbd_wire.specs.Commands.{command_kind, is_zeroing}

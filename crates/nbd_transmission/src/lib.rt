@@ -16,9 +16,7 @@
 #![tactic(auto)]
 
 mod laws;
-mod table;
 mod transmission;
 
 pub use laws::read_only_law;
-pub use table::{first_sector, judge};
-pub use transmission::{Transmission, TransmissionTaken};
+pub use transmission::{Transmission, TransmissionTaken, first_sector, judge};

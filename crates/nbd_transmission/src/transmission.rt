@@ -1,19 +1,25 @@
-//! Commands and refusals, cut out of the bytes of a connection.
+//! Commands and refusals, cut out of the bytes of a connection; and the request table, by which a
+//! command is refused.
 
 ghost use Rattle.std.specs.Prelude.{◌≡◌, ◌<◌, ◌≤◌, ◌+◌, ◌-◌, ◌++◌, ◌⊎◌, ℕ, List, min, [], length};
-ghost use Rattle.std.specs.Prelude.{take, drop, false, if◌then◌else◌};
+ghost use Rattle.std.specs.Prelude.{take, drop, false, if◌then◌else◌, ◌*◌, ◌||◌, ◌==◌, None, true};
+ghost use Rattle.std.specs.Prelude.{not, nat_lt, ◌∷◌, ◌/◌};
 ghost use Rattle.nbd_wire.specs.Heads.{request_at};
 ghost use Rattle.nbd_wire.specs.Units.{payload_len, Splits};
 ghost use Rattle.nbd_wire.specs.Parser.{HoldsRest, ParserRepresents};
 ghost use Rattle.nbd_wire.specs.declared.next.Next.{Next};
 ghost use Rattle.nbd_wire.specs.declared.phase.Phase.{Phase};
 ghost use Rattle.nbd_wire.specs.declared.phase.Phase.TheVariants.{Transmitting, Closed};
+ghost use Rattle.nbd_wire.specs.Commands.{judge_of, first_failing, is_multiple, has_range};
 ghost use Rattle.nbd_transmission.specs.Taking.{answer_to, verdict, is_accepted_write, payload_of};
 ghost use Rattle.nbd_transmission.specs.Taking.{phase_of, IsAcceptedRequest};
 ghost use Rattle.nbd_transmission.specs.Parser.{TransmissionAnswers, TransmissionAdvances};
 
-use crate::table::judge;
-use nbd_wire::{Command, CommandKind, Export, Next, REQUEST_LEN, Reply, Request, fill};
+use bitflags::Flags;
+use nbd_wire::{
+    Command, CommandKind, EINVAL, ENOSPC, EPERM, Export, Next, REQUEST_LEN, Reply, Request,
+    SECTOR_LEN, fill,
+};
 use std::marker::Model;
 
 /// What a call took of the bytes that it was given.
@@ -247,4 +253,84 @@ fn closes(next: Next<Reply>) -> bool
         Next::Reply(_) => false,
         Next::Close => true,
     }
+}
+
+/// The error that refuses a command of this export, or none: that of the first check of the
+/// request table that fails.
+///
+/// 1 (EPERM): a WRITE, TRIM or WRITE_ZEROES of a read-only export. 22 (EINVAL): a command other
+/// than READ, WRITE, FLUSH, TRIM and WRITE_ZEROES; a flag other than FUA, or of WRITE_ZEROES than
+/// FUA and NO_HOLE; a FLUSH with an offset or a length; a range of length 0, or with an offset or a
+/// length that is no multiple of 512 bytes; a READ or WRITE longer than the export says; a READ or
+/// TRIM past the end. 28 (ENOSPC): a WRITE or WRITE_ZEROES past the end. Source: NBD proto.md for
+/// the errors; their order is own.
+#[tactic(auto, unfolding(nbd_wire::specs::Commands::judge_of))]
+pub fn judge(command: &Command, export: Export) -> Option<u32>
+    ensures { result ≡ judge_of command.now export }
+{
+    if export.read_only && command.kind.changes_disk() {
+        return Some(EPERM);
+    }
+    if !command.kind.allowed_flags().contains(command.flags) {
+        return Some(EINVAL);
+    }
+    if command.kind.has_limit() && command.length > export.max_len {
+        return Some(EINVAL);
+    }
+    match command.kind {
+        CommandKind::Read => judge_range(command.offset, command.length, export.sectors, EINVAL),
+        CommandKind::Write => judge_range(command.offset, command.length, export.sectors, ENOSPC),
+        CommandKind::Trim => judge_range(command.offset, command.length, export.sectors, EINVAL),
+        CommandKind::WriteZeroes => judge_range(
+            command.offset,
+            command.length,
+            export.sectors,
+            ENOSPC,
+        ),
+        CommandKind::Flush if command.offset == 0 && command.length == 0 => None,
+        CommandKind::Flush => Some(EINVAL),
+        CommandKind::Disconnect => Some(EINVAL),
+        CommandKind::Unknown(_) => Some(EINVAL),
+    }
+}
+
+/// The error that a range of any length meets, which is `past_end` where it ends past the end of
+/// the disk.
+fn judge_range(offset: u64, length: u32, sectors: u32, past_end: u32) -> Option<u32>
+    ensures { result ≡ first_failing (
+        (length == 0 || not (is_multiple offset) || not (is_multiple length), EINVAL)
+        ∷ (nat_lt (SECTOR_LEN * sectors) (offset + length), past_end)
+        ∷ []) }
+{
+    if length == 0
+        || !offset.is_multiple_of(u64::from(SECTOR_LEN))
+        || !length.is_multiple_of(SECTOR_LEN)
+    {
+        return Some(EINVAL);
+    }
+    let size = u64::from(sectors) * u64::from(SECTOR_LEN);
+    let length = u64::from(length);
+    if length > size || offset > size - length {
+        return Some(past_end);
+    }
+    None
+}
+
+/// The first sector of an accepted command's range.
+pub fn first_sector(command: &Command, export: Export) -> u32
+    requires accepted { judge_of command.now export ≡ None }
+    requires kind { has_range command.now.kind ≡ true }
+    ensures first { 512 * result ≡ command.now.offset }
+    ensures range { command.now.offset + command.now.length ≤ 512 * export.sectors }
+    ensures whole { (k : ℕ) × (command.now.length ≡ 512 * k) }
+{
+    sector_at(command.offset, export.sectors)
+}
+
+/// The sector that begins at an offset on a disk.
+fn sector_at(offset: u64, sectors: u32) -> u32
+    requires { offset ≤ 512 * sectors }
+    ensures { result ≡ offset / 512 }
+{
+    (offset / u64::from(SECTOR_LEN)) as u32
 }

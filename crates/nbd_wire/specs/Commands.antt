@@ -5,7 +5,7 @@ use Rattle.std.specs.Int.RustNames.{bit_and}
 use Rattle.nbd_wire.specs.Numbers.{CMD_READ, CMD_WRITE, CMD_DISC, CMD_FLUSH, CMD_TRIM}
 use Rattle.nbd_wire.specs.Numbers.{CMD_WRITE_ZEROES, EPERM, EINVAL, ENOSPC, SECTOR_LEN}
 use Rattle.nbd_wire.specs.Numbers.{MAX_LEN}
-use Rattle.nbd_wire.specs.declared.request.Request.{Request}
+use Rattle.nbd_wire.specs.declared.command.Request.{Request}
 use Rattle.nbd_wire.specs.declared.export.Export.{Export}
 use Rattle.nbd_wire.specs.declared.command.Command.{Command}
 use Rattle.nbd_wire.specs.declared.command.CommandKind.{CommandKind}

@@ -7,7 +7,7 @@ use Rattle.byteorder.specs.Endian.{big_number}
 use Rattle.nbd_wire.specs.Numbers.{CLIENT_FLAGS_LEN, OPTION_LEN, REQUEST_LEN, OPT_EXPORT_NAME}
 use Rattle.nbd_wire.specs.Numbers.{MAX_OPTION_LEN}
 use Rattle.nbd_wire.specs.declared.option.OptionHead.{OptionHead}
-use Rattle.nbd_wire.specs.declared.request.Request.{Request}
+use Rattle.nbd_wire.specs.declared.command.Request.{Request}
 use Rattle.nbd_wire.specs.declared.phase.Phase.{Phase}
 use Rattle.nbd_wire.specs.declared.phase.Phase.TheVariants.{AwaitingFlags, Negotiating}
 use Rattle.nbd_wire.specs.declared.phase.Phase.TheVariants.{Transmitting, Closed}

@@ -1,13 +1,19 @@
-//! What a request asks for.
+//! The head of a request, and what it asks for.
 
-ghost use Rattle.std.specs.Prelude.{◌≡◌};
-ghost use Rattle.nbd_wire.specs.Commands.{command_kind, command_in, lends_data};
-ghost use Rattle.nbd_wire.specs.Commands.{has_limit, changes_disk, allowed_flags};
+ghost use Rattle.std.specs.Prelude.{◌≡◌, ◌≤◌, ◌++◌, length, drop, IfSome, ℕ, List};
+ghost use Rattle.byteorder.specs.Endian.{big_bytes};
+ghost use Rattle.nbd_wire.specs.Commands.{command_kind, command_in, lends_data, has_limit};
+ghost use Rattle.nbd_wire.specs.Commands.{changes_disk, allowed_flags};
+ghost use Rattle.nbd_wire.specs.Heads.{request_bytes, request_at, FitsRequest};
+ghost use Rattle.nbd_wire.specs.declared.command.Request.{Request};
 
-use crate::constants::{CMD_DISC, CMD_FLUSH, CMD_READ, CMD_TRIM, CMD_WRITE, CMD_WRITE_ZEROES};
+use crate::constants::{
+    CMD_DISC, CMD_FLUSH, CMD_READ, CMD_TRIM, CMD_WRITE, CMD_WRITE_ZEROES, REQUEST_LEN,
+    REQUEST_MAGIC,
+};
 use crate::flags::CommandFlags;
-use crate::request::Request;
 use bitflags::Flags;
+use byteorder::{BigEndian, ByteOrder};
 
 /// What a command does. Source: NBD proto.md; the numbers of commands that this server doesn't
 /// serve are unknown ones.
@@ -99,5 +105,84 @@ impl Command {
             offset: request.offset,
             length: request.length,
         }
+    }
+}
+
+/// A request as its head says it. Source: NBD proto.md.
+#[derive(Clone, Copy, PartialEq, Eq, Debug)]
+pub struct Request {
+    pub flags: CommandFlags,
+    /// The number of the command.
+    pub kind: u16,
+    /// What the reply is to carry, so that the client knows which request it answers.
+    pub cookie: u64,
+    /// Where the command begins, in bytes.
+    pub offset: u64,
+    /// How long the range of the command is, in bytes.
+    pub length: u32,
+}
+
+impl Request {
+    /// Reads a head, where its magic is right.
+    pub fn read(bytes: &[u8]) -> Option<Request>
+        requires { REQUEST_LEN ≤ length bytes.now }
+        // The fields at their places, where the magic is right.
+        ensures exact { result ≡ request_at bytes.now }
+        // What is read is spelled so.
+        ensures spelled { IfSome result
+            (λ r. request_bytes r ++ drop REQUEST_LEN bytes.now ≡ bytes.now) }
+        // What is spelled so is read, whatever follows it.
+        ensures again { (r : Request) (rest : List ℕ) → FitsRequest r
+            → bytes.now ≡ request_bytes r ++ rest → result ≡ Some r }
+    {
+        Request::at_start(bytes)
+    }
+
+    #[tactic(auto, unfolding(crate::specs::Heads::request_at))]
+    fn at_start(bytes: &[u8]) -> Option<Request>
+        requires { REQUEST_LEN ≤ length bytes.now }
+        ensures { result ≡ request_at bytes.now }
+    {
+        if BigEndian::read_u32(bytes) != REQUEST_MAGIC {
+            return None;
+        }
+        Some(Request {
+            flags: CommandFlags::from_bits_retain(BigEndian::read_u16(&bytes[4..])),
+            kind: BigEndian::read_u16(&bytes[6..]),
+            cookie: BigEndian::read_u64(&bytes[8..]),
+            offset: BigEndian::read_u64(&bytes[16..]),
+            length: BigEndian::read_u32(&bytes[24..]),
+        })
+    }
+
+    /// Writes the head at the front of `out`, and leaves the rest of `out` as it is.
+    pub fn write(&self, out: &mut [u8])
+        requires { REQUEST_LEN ≤ length out.old }
+        ensures { out.new ≡ request_bytes self.now ++ drop REQUEST_LEN out.old }
+    {
+        self.write_to_kind(out);
+        self.write_from_cookie(&mut out[8..]);
+    }
+
+    /// Writes the first three fields of the head, 8 bytes.
+    fn write_to_kind(&self, out: &mut [u8])
+        requires { 8 ≤ length out.old }
+        ensures { out.new ≡ big_bytes 4 REQUEST_MAGIC ++ big_bytes 2 self.now.flags.0
+            ++ big_bytes 2 self.now.kind ++ drop 8 out.old }
+    {
+        BigEndian::write_u32(out, REQUEST_MAGIC);
+        BigEndian::write_u16(&mut out[4..], self.flags.bits());
+        BigEndian::write_u16(&mut out[6..], self.kind);
+    }
+
+    /// Writes the last three fields of the head, 20 bytes.
+    fn write_from_cookie(&self, out: &mut [u8])
+        requires { 20 ≤ length out.old }
+        ensures { out.new ≡ big_bytes 8 self.now.cookie ++ big_bytes 8 self.now.offset
+            ++ big_bytes 4 self.now.length ++ drop 20 out.old }
+    {
+        BigEndian::write_u64(out, self.cookie);
+        BigEndian::write_u64(&mut out[8..], self.offset);
+        BigEndian::write_u32(&mut out[16..], self.length);
     }
 }

@@ -27,10 +27,9 @@ mod option;
 mod option_reply;
 mod phase;
 mod reply;
-mod request;
 
 pub use buffer::{fill, put};
-pub use command::{Command, CommandKind};
+pub use command::{Command, CommandKind, Request};
 pub use constants::{
     CLIENT_FLAGS_LEN, CMD_DISC, CMD_FLUSH, CMD_READ, CMD_TRIM, CMD_WRITE, CMD_WRITE_ZEROES, EINVAL,
     EIO, ENOMEM, ENOSPC, EPERM, ESHUTDOWN, EXPORT_NAME, EXPORT_NAME_ANSWER_LEN,
@@ -49,4 +48,3 @@ pub use option::{OptionCase, OptionHead};
 pub use option_reply::write_option_reply;
 pub use phase::{Phase, one_cutting};
 pub use reply::Reply;
-pub use request::Request;

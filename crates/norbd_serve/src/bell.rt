@@ -1,15 +1,12 @@
-//! What wakes the keeper: a change of the disk.
-
-ghost use Rattle.std.specs.Prelude.{◌≡◌, length, None};
-ghost use Rattle.nbd_wire.specs.Commands.{judge_of};
-ghost use Rattle.nbd_wire.specs.Lent.{lent_len};
-ghost use Rattle.share.specs.Promise.{Promise};
+//! What wakes the keeper, a change of the disk, and the gates that are passed on the way.
 
 use block_device::DiskError;
 use nbd_wire::{Command, CommandKind};
 use share::{Done, Door, Gate, OneServer, Pass, Point};
 use std::sync::atomic::{AtomicBool, Ordering};
 use std::sync::{Condvar, Mutex, Wait};
+use std::thread;
+use std::time::{Clock, Duration};
 
 /// Is rung after each command that may have changed the disk. The keeper sleeps until then where it
 /// found nothing to tidy.
@@ -114,6 +111,41 @@ impl<'s, K: Gate, W: Wait> Gate for Resting<'s, K, W> {
             self.bell.wait(self.wait);
         }
         self.gate.pass(point);
+    }
+
+    ghost none = { λ gate. tt };
+}
+
+/// A gate that stands open: passing it does nothing.
+#[derive(Clone, Copy, Drop)]
+pub struct OpenGate;
+
+impl Gate for OpenGate {
+    ghost passes = { λ gate after points. Unit {0} };
+
+    fn pass(&mut self, _point: Point) {}
+
+    ghost none = { λ gate. tt };
+}
+
+/// A gate at which each passing takes 10 ms.
+#[derive(Clone, Copy, Drop)]
+pub struct Sleeper<'r, R: Clock> {
+    clock: &'r R,
+}
+
+impl<'r, R: Clock> Sleeper<'r, R> {
+    /// A gate that sleeps by this clock.
+    pub fn new(clock: &'r R) -> Sleeper<'r, R> {
+        Sleeper { clock }
+    }
+}
+
+impl<'r, R: Clock> Gate for Sleeper<'r, R> {
+    ghost passes = { λ gate after points. Unit {0} };
+
+    fn pass(&mut self, _point: Point) {
+        thread::sleep(self.clock, Duration::from_millis(10));
     }
 
     ghost none = { λ gate. tt };

@@ -1,7 +1,7 @@
 //! What is kept of connections that ended.
 
-ghost use Rattle.std.specs.Prelude.{◌≡◌, ◌+◌, ◌*◌, ◌<◌, ◌∷◌, ◌++◌, [], true, false, IfOk};
-ghost use Rattle.std.specs.Prelude.{OnOk, vec_len, None, Some, Option};
+ghost use Rattle.std.specs.Prelude.{◌≡◌, ◌+◌, ◌<◌, ◌∷◌, ◌++◌, [], true, false, IfOk, OnOk, vec_len};
+ghost use Rattle.std.specs.Prelude.{Some, Option};
 ghost use Rattle.share.specs.History.{IsLegal};
 ghost use Rattle.norbd_serve.specs.Serving.{AreLegal, ReturnsAsked, has_lost, is_lost};
 

@@ -18,18 +18,15 @@
 mod accepting;
 mod bell;
 mod fault;
-mod gates;
 mod hall;
 mod kept;
-mod limit;
-mod requests;
 mod serving;
 mod socket;
 mod telling;
 
 pub use accepting::{Listener, listen};
+pub use bell::{OpenGate, Sleeper};
 pub use fault::ServeFault;
-pub use gates::{OpenGate, Sleeper};
 pub use kept::Served;
 pub use serving::{Connections, serve};
 pub use socket::SocketOut;

@@ -1,9 +1,6 @@
 //! What is told of connections while they are served.
 
-ghost use Rattle.std.specs.Prelude.{◌≡◌, length, None};
-ghost use Rattle.nbd_wire.specs.Commands.{judge_of};
-ghost use Rattle.nbd_wire.specs.Lent.{lent_len};
-ghost use Rattle.share.specs.Promise.{Promise};
+ghost use Rattle.std.specs.Prelude.{length};
 
 use block_device::DiskError;
 use nbd_wire::{Command, CommandKind, EINVAL, EIO, ENOMEM, ENOSPC, EPERM, ESHUTDOWN};

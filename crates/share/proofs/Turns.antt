@@ -10,7 +10,7 @@ use Rattle.nbd_wire.specs.Lent.{payload_in}
 use Rattle.session.specs.Sessions.{SessionState, SessionRepresents, is_closed, opening}
 use Rattle.session.specs.Parts.{Part, Told, ForDisk, Last, Gains, closes, closed, is_silent, ends_silently}
 use Rattle.session.proofs.PartLaws.{gains_behind, gains_both}
-use Rattle.connection.specs.declared.peer.Fate.{Fate}
+use Rattle.connection.specs.declared.piece.Fate.{Fate}
 use Rattle.connection.specs.declared.piece.Progress.{Progress}
 use Rattle.connection.specs.declared.piece.Progress.TheVariants.{Open, Closed, OutputFailed, Lost as LostPiece}
 use Rattle.connection.specs.Turning.{PartBy, PartsBy, LosesPart, PieceTaken}

@@ -8,8 +8,8 @@ use Rattle.nbd_wire.specs.declared.command.Command.{Command}
 use Rattle.nbd_wire.specs.declared.phase.Phase.{Phase}
 use Rattle.session.specs.Sessions.{SessionState, SessionRepresents, opening}
 use Rattle.session.specs.Parts.{Part, IsPartsOf, closed}
-use Rattle.connection.specs.declared.peer.Fate.{Fate}
-use Rattle.connection.specs.declared.peer.Fate.TheVariants.{Replied, Untaken, Lost}
+use Rattle.connection.specs.declared.piece.Fate.{Fate}
+use Rattle.connection.specs.declared.piece.Fate.TheVariants.{Replied, Untaken, Lost}
 use Rattle.connection.specs.declared.piece.Progress.{Progress}
 use Rattle.connection.specs.declared.piece.Progress.TheVariants.{Open, Closed, OutputFailed}
 use Rattle.connection.specs.declared.piece.Progress.TheVariants.{Lost as LostPiece}

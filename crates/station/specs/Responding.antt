@@ -14,8 +14,8 @@ use Rattle.nbd_wire.specs.Lent.{payload_in}
 use Rattle.nbd_wire.specs.Numbers.{EIO}
 use Rattle.nbd_transmission.specs.Apply.{head_of, reply_to}
 use Rattle.disk_command.specs.Effects.{CommandLeaves, CommandLatches}
-use Rattle.connection.specs.declared.peer.Fate.{Fate}
-use Rattle.connection.specs.declared.peer.Fate.TheVariants.{Replied, Untaken, Lost}
+use Rattle.connection.specs.declared.piece.Fate.{Fate}
+use Rattle.connection.specs.declared.piece.Fate.TheVariants.{Replied, Untaken, Lost}
 use Rattle.connection.specs.declared.piece.Progress.{Progress}
 use Rattle.session.specs.Sessions.{SessionState}
 use Rattle.station.specs.Records.{replied}

@@ -1,5 +1,5 @@
 use Rattle.nbd_wire.proofs.Spelled.{request_of_halves}
-use Rattle.nbd_wire.proofs.request.Request.write.Goals as goal
+use Rattle.nbd_wire.proofs.command.Request.write.Goals as goal
 
 pub returns : goal.returns
 returns c =

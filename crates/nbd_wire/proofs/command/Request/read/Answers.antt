@@ -1,6 +1,6 @@
 use Rattle.std.proofs.Common.{arith}
 use Rattle.nbd_wire.proofs.Spelled.{found_is_spelled, read_again}
-use Rattle.nbd_wire.proofs.request.Request.read.Goals as goal
+use Rattle.nbd_wire.proofs.command.Request.read.Goals as goal
 
 pub returns-clause-spelled : goal.returns-clause-spelled
 returns-clause-spelled c = rw c.at_start.ensures (found_is_spelled c.args.bytes.now c.requires (λ i. omega (arith, c.type_inv.bytes i)))
