@@ -14,7 +14,7 @@ use erase_journal::Journal;
 use fault_model::SimChip;
 use journal_slots::SectorSlots;
 use nor_driver::{Driver, Nor};
-use sector_map::{Entry, SectorMap, mount_in};
+use sector_map::{LiveSlots, SectorMap, mount_in};
 use sector_slots::SlotCalls;
 use sector_stock::{BlockState, SlotState, Stock};
 use std::alloc::Global;
@@ -170,7 +170,7 @@ fn time_of_tables(
     let Ok(blocks) = vec![in alloc; blank; 4_092] else {
         return Err(Failure::NoMemory);
     };
-    let Ok(mut table) = vec![in alloc; Entry::Absent; 25_060] else {
+    let Ok(mut table) = vec![in alloc; LiveSlots::Absent; 25_060] else {
         return Err(Failure::NoMemory);
     };
     let mut stock = Stock::new(slots, states, blocks);

@@ -69,13 +69,13 @@ pub(crate) fn of_mount(error: MountError) -> &'static str {
 }
 
 /// Of a mount of a map of sectors.
-pub(crate) fn of_map(error: sector_map::MountError) -> &'static str {
+pub(crate) fn of_map(error: sector_map::MapError) -> &'static str {
     match error {
-        sector_map::MountError::Cut => "cut",
-        sector_map::MountError::Slow => "slow",
-        sector_map::MountError::Corrupt => "corrupt",
-        sector_map::MountError::OutOfMemory => "no memory",
-        sector_map::MountError::NotFormatted => "not formatted",
+        sector_map::MapError::Cut => "cut",
+        sector_map::MapError::Slow => "slow",
+        sector_map::MapError::Corrupt => "corrupt",
+        sector_map::MapError::OutOfMemory => "no memory",
+        sector_map::MapError::NotFormatted => "not formatted",
     }
 }
 

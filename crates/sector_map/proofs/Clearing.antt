@@ -26,8 +26,8 @@ use Rattle.sector_map.specs.Maps.{Sets, SetLeaves, IsServing, Wrote}
 use Rattle.sector_map.specs.Replace.{HeldBy, IsInSlots}
 use Rattle.sector_map.specs.Table.{IsTableOf, IsOneAtMost, Unset, holder}
 use Rattle.sector_map.specs.declared.table.Held.{Held}
-use Rattle.sector_map.specs.declared.table.Entry.{Entry}
-use Rattle.sector_map.specs.declared.table.Entry.TheVariants.{Absent}
+use Rattle.sector_map.specs.declared.table.LiveSlots.{LiveSlots}
+use Rattle.sector_map.specs.declared.table.LiveSlots.TheVariants.{Absent}
 use Rattle.sector_map.proofs.Places.{others-kept, slot-only, placed-settled, live-placed, holds-computed}
 use Rattle.sector_map.proofs.Replacing.{held-step, single-at, not-dead}
 use Rattle.sector_map.proofs.MapSteps.{named-table}
@@ -66,7 +66,7 @@ cleared g o m m' only dead sound single blocks (y, l) =
     }
 
 -- the table without the sector
-table-without : (table table' : List Entry) (m m' : List ℕ) (g : ℕ) → Cleared g m m' → IsTableOf table m → Unset table g table' → IsTableOf table' m'
+table-without : (table table' : List LiveSlots) (m m' : List ℕ) (g : ℕ) → Cleared g m m' → IsTableOf table m → Unset table g table' → IsTableOf table' m'
 table-without table table' m m' g r t s =
     named-table table' m' (s.size ∙ (t.size ∙ ap (λ n. sector_count n) (sym r.chip.same_length))) (holds-sound m' (with_sector (sector_at m) g zeros) r.sectors) r.single
     (λ h low. elim (cases_eq h g) [
@@ -94,7 +94,7 @@ pub held-retirable : (g : ℕ) (o : Held) (m : List ℕ) → IsInSlots g m → H
 held-retirable g o m own (y, l) = ((record { number = g; generation = o.generation }, y, l.is), own o.slot o.generation y l)
 
 -- a clearing that answered Ok
-pub clear-done : (g : ℕ) (o : Held) (a c : NorState) (table table' : List Entry) (indexed is : Bool) → IsServing table a indexed → HeldBy (Some o) g a.memory → OnlyPlace o.slot a.memory c.memory → slot_at c.memory o.slot ≡ Dead
+pub clear-done : (g : ℕ) (o : Held) (a c : NorState) (table table' : List LiveSlots) (indexed is : Bool) → IsServing table a indexed → HeldBy (Some o) g a.memory → OnlyPlace o.slot a.memory c.memory → slot_at c.memory o.slot ≡ Dead
     → (IsClean a.memory → IsClean c.memory) → SucceedsSettled a c → g < sector_count (length a.memory) → Unset table g table' → is ≡ true → Wrote g zeros table' a c is
 clear-done g o a c table table' indexed is s hold only dead clean done low unset e =
     let h = cleared g o a.memory c.memory only dead s.store.slots (single-tabled table a.memory s.tabled) s.blocks hold in
@@ -112,7 +112,7 @@ clear-done g o a c table table' indexed is s hold only dead clean done low unset
     }
 
 -- one that was cut
-pub clear-cut : (g : ℕ) (o : Held) (a : NorState) (m' : List ℕ) (table : List Entry) (indexed : Bool) → IsServing table a indexed → HeldBy (Some o) g a.memory → OnlyPlace o.slot a.memory m'
+pub clear-cut : (g : ℕ) (o : Held) (a : NorState) (m' : List ℕ) (table : List LiveSlots) (indexed : Bool) → IsServing table a indexed → HeldBy (Some o) g a.memory → OnlyPlace o.slot a.memory m'
     → (slot_at m' o.slot ≡ slot_at a.memory o.slot) ⊎ (slot_at m' o.slot ≡ Dead) → (IsClean a.memory → IsClean m') → IsHealthy m' → g < sector_count (length a.memory) → SetLeaves g zeros a.memory m'
 clear-cut g o a m' table indexed s hold only (inr dead) clean healthy low =
     let h = cleared g o a.memory m' only dead s.store.slots (single-tabled table a.memory s.tabled) s.blocks hold in
@@ -133,7 +133,7 @@ clear-cut g o a m' table indexed s (y, l) only (inl same) clean healthy low =
     inl (keeps-holds m m' only.only.chip healthy (holds-sound m' (sector_at m) holds) (place-alone w m m' only) (λ c. holds) clean)
 
 -- one of a sector that is absent already
-pub clear-none : (g : ℕ) (a : NorState) (table : List Entry) (indexed : Bool) → IsServing table a indexed → HeldBy None g a.memory → Wrote g zeros table a a indexed
+pub clear-none : (g : ℕ) (a : NorState) (table : List LiveSlots) (indexed : Bool) → IsServing table a indexed → HeldBy None g a.memory → Wrote g zeros table a a indexed
 clear-none g a table indexed s none =
     let m = a.memory in
     let k = keeps-none m s.store in

@@ -21,8 +21,8 @@ use Rattle.sector_map.specs.Scan.{HeadsOf, Follows, FollowsBlock, AreApart}
 use Rattle.sector_map.specs.Table.{IsTableOf, IsOneAtMost, holder}
 use Rattle.sector_map.specs.Replace.{HeldBy, IsInSlots}
 use Rattle.sector_map.specs.declared.table.Held.{Held}
-use Rattle.sector_map.specs.declared.table.Entry.{Entry}
-use Rattle.sector_map.specs.declared.table.Entry.TheVariants.{Absent}
+use Rattle.sector_map.specs.declared.table.LiveSlots.{LiveSlots}
+use Rattle.sector_map.specs.declared.table.LiveSlots.TheVariants.{Absent}
 use Rattle.sector_map.specs.declared.found.Found.TheVariants.{AtRest}
 use Rattle.sector_map.proofs.Founds.{heads-of}
 use Rattle.sector_stock.specs.Takes.{Shifts, Converts, MakesNoGroup}
@@ -66,7 +66,7 @@ with-header headers.Dead x = refl
 head-live : (m : List ℕ) (b i : ℕ) (tag : Tag) (x : List ℕ) (heads : List Header) → HeadsOf heads (slot_at m) b → i < 7 → slot_at m (7 * b + i) ≡ Live tag x → read_header heads i ≡ headers.Live tag
 head-live m b i tag x heads h low is = let at = h i low in sym (with-header (read_header heads i) at.0) ∙ (ap header_of_slot (sym at.1) ∙ ap header_of_slot is)
 
-pub block-followed : (m : List ℕ) (b : ℕ) (heads : List Header) (old new : List Entry) → HeadsOf heads (slot_at m) b → Follows 7 b heads old new → FollowsBlock b old new m
+pub block-followed : (m : List ℕ) (b : ℕ) (heads : List Header) (old new : List LiveSlots) → HeadsOf heads (slot_at m) b → Follows 7 b heads old new → FollowsBlock b old new m
 block-followed m b heads old new h f = record {
   size = f.size;
   here = λ i tag x low is. f.here i tag low (head-live m b i tag x heads h low is);
@@ -268,7 +268,7 @@ held-moves s t m m' g (Some o) h out (x, l) = elim (cases_eq (o.slot / 7) s) as 
   | inr ne ↦ (let p = h.elsewhere o.slot g o.generation x l ne in (p.0, back-there m m' o.slot g o.generation p.0 h.chip p.1))
 ]
 
-pub relocates-table : (s t : ℕ) (m m' : List ℕ) (old new : List Entry) → Relocates s t m m' → t < data_blocks m → IsSoundMap m → IsSingle m → IsTableOf old m → FollowsBlock t old new m' → IsTableOf new m'
+pub relocates-table : (s t : ℕ) (m m' : List ℕ) (old new : List LiveSlots) → Relocates s t m m' → t < data_blocks m → IsSoundMap m → IsSingle m → IsTableOf old m → FollowsBlock t old new m' → IsTableOf new m'
 relocates-table s t m m' old new h low sound single tabled f =
     let sound' = relocates-sound s t m m' h sound single in
     let single' = relocates-single-at s t m m' h single in

@@ -17,8 +17,8 @@ use Rattle.sector_slots.proofs.GroupLaws.{group-slot, dead-slot, spoilt-slot}
 use Rattle.sector_map.specs.Table.{TwoHold, EntryHolds, IsTabled}
 use Rattle.sector_map.specs.Mending.{IsGroupPair, IsMixedPair, PairsSeen, IsOlderGroup, HasDeadGroup}
 use Rattle.sector_map.specs.declared.table.Held.{Held}
-use Rattle.sector_map.specs.declared.table.Entry.{Entry}
-use Rattle.sector_map.specs.declared.table.Entry.TheVariants.{Absent, One, Two}
+use Rattle.sector_map.specs.declared.table.LiveSlots.{LiveSlots}
+use Rattle.sector_map.specs.declared.table.LiveSlots.TheVariants.{Absent, One, Two}
 use Rattle.nor_driver.specs.State.{NorState}
 use Rattle.erase_journal.specs.Steps.{SucceedsSettled}
 use Rattle.sector_map.proofs.Retiring.{two-apart, succeeds-perhaps}
@@ -71,7 +71,7 @@ group-live m c tag rest low e =
     }
 
 -- of two blocks that are live with one group the table names one as the older
-entry-older : (e : Entry) (table : List Entry) (m : List ℕ) (c d : ℕ) (a b : Tag) → slice_index_or table (7 * a.number) Absent ≡ e → EntryHolds e (slot_at m) (slot_count m) (7 * a.number)
+entry-older : (e : LiveSlots) (table : List LiveSlots) (m : List ℕ) (c d : ℕ) (a b : Tag) → slice_index_or table (7 * a.number) Absent ≡ e → EntryHolds e (slot_at m) (slot_count m) (7 * a.number)
     → LiveAt (slot_at m) (slot_count m) (7 * c) (7 * a.number) a.generation (content_bytes (data_block m c) 0) → LiveAt (slot_at m) (slot_count m) (7 * d) (7 * a.number) b.generation (content_bytes (data_block m d) 0)
     → c ≢ d → kind_at m c ≡ kinds.Group a → kind_at m d ≡ kinds.Group b → a.number ≡ b.number → IsOlderGroup table c (kind_at m c) ⊎ IsOlderGroup table d (kind_at m d)
 entry-older Absent table m c d a b is none l r ne ea eb same = absurd (none (7 * c) a.generation (content_bytes (data_block m c) 0) l)
@@ -87,7 +87,7 @@ entry-older (Two x y) table m c d a b is o l r ne ea eb same = elim (o.only (7 *
   | inr p ↦ inl (record { tag = a; newer = x; older = y; live = ea; entry = is; block = omega (arith, p) })
 ]
 
-pub older-of : (table : List Entry) (m : List ℕ) (c d : ℕ) (a b : Tag) → IsTabled table (slot_at m) (slot_count m) → AreAtRest (kind_at m) (data_blocks m) → c < data_blocks m → d < data_blocks m → c ≢ d → kind_at m c ≡ kinds.Group a → kind_at m d ≡ kinds.Group b → a.number ≡ b.number
+pub older-of : (table : List LiveSlots) (m : List ℕ) (c d : ℕ) (a b : Tag) → IsTabled table (slot_at m) (slot_count m) → AreAtRest (kind_at m) (data_blocks m) → c < data_blocks m → d < data_blocks m → c ≢ d → kind_at m c ≡ kinds.Group a → kind_at m d ≡ kinds.Group b → a.number ≡ b.number
     → IsOlderGroup table c (kind_at m c) ⊎ IsOlderGroup table d (kind_at m d)
 older-of table m c d a b t rest lc ld ne ea eb same =
     let l = group-live m c a rest lc ea in
@@ -97,11 +97,11 @@ older-of table m c d a b t rest lc ld ne ea eb same =
     entry-older (slice_index_or table (7 * a.number) Absent) table m c d a b refl (t.each (7 * a.number) within) l r ne ea eb same
 
 -- the two slots of an entry
-pub pair-held : (table : List Entry) (m : List ℕ) (g : ℕ) (x y : Held) → IsTabled table (slot_at m) (slot_count m) → g < length table → slice_index_or table g Absent ≡ Two x y → TwoHold x y (slot_at m) (slot_count m) g
+pub pair-held : (table : List LiveSlots) (m : List ℕ) (g : ℕ) (x y : Held) → IsTabled table (slot_at m) (slot_count m) → g < length table → slice_index_or table g Absent ≡ Two x y → TwoHold x y (slot_at m) (slot_count m) g
 pair-held table m g x y t low is = subst (λ e. EntryHolds e (slot_at m) (slot_count m) g) is (t.each g low)
 
 -- An older block is retired by a newer one of its group.
-pub record HasNewer (table : List Entry) (m : List ℕ) (c : ℕ) (tag : Tag) : Type 0 where
+pub record HasNewer (table : List LiveSlots) (m : List ℕ) (c : ℕ) (tag : Tag) : Type 0 where
   pub block : ℕ
   pub number : block < data_blocks m
   pub other : c ≢ block
@@ -117,10 +117,10 @@ two-first a b c d e = cc
 pub two-second : (a b c d : Held) → Two a b ≡ Two c d → b ≡ d
 two-second a b c d e = cc
 
-pub group-number : (table : List Entry) (m : List ℕ) (c : ℕ) (tag : Tag) → IsTabled table (slot_at m) (slot_count m) → AreAtRest (kind_at m) (data_blocks m) → c < data_blocks m → kind_at m c ≡ kinds.Group tag → 7 * tag.number < length table
+pub group-number : (table : List LiveSlots) (m : List ℕ) (c : ℕ) (tag : Tag) → IsTabled table (slot_at m) (slot_count m) → AreAtRest (kind_at m) (data_blocks m) → c < data_blocks m → kind_at m c ≡ kinds.Group tag → 7 * tag.number < length table
 group-number table m c tag t rest low e = t.within (7 * c) (7 * tag.number) tag.generation (content_bytes (data_block m c) 0) (group-live m c tag rest low e)
 
-pub has-newer : (table : List Entry) (m : List ℕ) (c : ℕ) → IsTabled table (slot_at m) (slot_count m) → AreAtRest (kind_at m) (data_blocks m) → GroupsAreApart (kind_at m) (slot_at m) (slot_count m) → c < data_blocks m
+pub has-newer : (table : List LiveSlots) (m : List ℕ) (c : ℕ) → IsTabled table (slot_at m) (slot_count m) → AreAtRest (kind_at m) (data_blocks m) → GroupsAreApart (kind_at m) (slot_at m) (slot_count m) → c < data_blocks m
     → (o : IsOlderGroup table c (kind_at m c)) → HasNewer table m c o.tag
 has-newer table m c t rest apart low o =
     let g = 7 * o.tag.number in
@@ -155,7 +155,7 @@ not-mixed false true h = absurd (h (λ e. cc))
 not-mixed false false h = refl
 
 -- What the pairs of the table say of blocks with groups.
-pub pair-room : (table : List Entry) (m : List ℕ) (g : ℕ) → IsTabled table (slot_at m) (slot_count m) → ((h : ℕ) → IsMixedPair table m h → ⊥) → IsGroupPair table m g → HasGroupRoom (kind_at m) (data_blocks m)
+pub pair-room : (table : List LiveSlots) (m : List ℕ) (g : ℕ) → IsTabled table (slot_at m) (slot_count m) → ((h : ℕ) → IsMixedPair table m h → ⊥) → IsGroupPair table m g → HasGroupRoom (kind_at m) (data_blocks m)
 pair-room table m g t apart p =
     let h = pair-held table m g p.newer p.older t p.number p.entry in
     let there : is_group (kind_at m (p.newer.slot / 7)) ≡ true = not-mixed (is_group (kind_at m (p.newer.slot / 7))) (is_group (kind_at m (p.older.slot / 7))) (λ d. apart g (record { number = p.number; newer = p.newer; older = p.older; entry = p.entry; differ = d })) ∙ p.group in
@@ -168,7 +168,7 @@ pair-room table m g t apart p =
     let ly = h.older_live.1.number in
     two_blocks (p.newer.slot / 7) (p.older.slot / 7) x.tag y.tag (omega (arith, lx)) (omega (arith, ly)) (λ e. two-apart p.newer p.older (slot_at m) (slot_count m) g h (omega (arith, e, nx, ny, number))) x.kind y.kind number
 
-pub older-pair : (table : List Entry) (m : List ℕ) (c : ℕ) → IsTabled table (slot_at m) (slot_count m) → AreAtRest (kind_at m) (data_blocks m) → c < data_blocks m → (o : IsOlderGroup table c (kind_at m c)) → IsGroupPair table m (7 * o.tag.number)
+pub older-pair : (table : List LiveSlots) (m : List ℕ) (c : ℕ) → IsTabled table (slot_at m) (slot_count m) → AreAtRest (kind_at m) (data_blocks m) → c < data_blocks m → (o : IsOlderGroup table c (kind_at m c)) → IsGroupPair table m (7 * o.tag.number)
 older-pair table m c t rest low o = record {
   number = group-number table m c o.tag t rest low o.live;
   newer = o.newer;
@@ -178,7 +178,7 @@ older-pair table m c t rest low o = record {
 }
 
 -- where the table has no such pair, no two blocks are live with one group
-pub none-room : (table : List Entry) (m : List ℕ) → IsTabled table (slot_at m) (slot_count m) → AreAtRest (kind_at m) (data_blocks m) → PairsSeen false table m → HasGroupRoom (kind_at m) (data_blocks m) → HasDeadGroup m
+pub none-room : (table : List LiveSlots) (m : List ℕ) → IsTabled table (slot_at m) (slot_count m) → AreAtRest (kind_at m) (data_blocks m) → PairsSeen false table m → HasGroupRoom (kind_at m) (data_blocks m) → HasDeadGroup m
 none-room table m t rest none (dead_group c low e) = (c, (low, e))
 none-room table m t rest none (two_blocks c d a b lc ld ne ea eb same) = elim (older-of table m c d a b t rest lc ld ne ea eb same) [
   | inl o ↦ absurd (none (7 * o.tag.number) (older-pair table m c t rest lc o))
@@ -186,7 +186,7 @@ none-room table m t rest none (two_blocks c d a b lc ld ne ea eb same) = elim (o
 ]
 
 -- where the table has no mixed pair, no sector is live both in a block of slots and in one of a group
-entry-apart : (e : Entry) (table : List Entry) (m : List ℕ) (g s r : ℕ) (j k : Generation) (x y : List ℕ) → slice_index_or table g Absent ≡ e → EntryHolds e (slot_at m) (slot_count m) g → g < length table → ((h : ℕ) → IsMixedPair table m h → ⊥)
+entry-apart : (e : LiveSlots) (table : List LiveSlots) (m : List ℕ) (g s r : ℕ) (j k : Generation) (x y : List ℕ) → slice_index_or table g Absent ≡ e → EntryHolds e (slot_at m) (slot_count m) g → g < length table → ((h : ℕ) → IsMixedPair table m h → ⊥)
     → LiveAt (slot_at m) (slot_count m) s g j x → LiveAt (slot_at m) (slot_count m) r g k y → is_group (kind_at m (s / 7)) ≡ is_group (kind_at m (r / 7))
 entry-apart Absent table m g s r j k x y is none low apart l o = absurd (none s j x l)
 entry-apart (One h) table m g s r j k x y is o low apart l q = ap (λ a. is_group (kind_at m (a / 7))) (o.only s j x l ∙ sym (o.only r k y q))
@@ -203,50 +203,50 @@ entry-apart (Two a b) table m g s r j k x y is o low apart l q =
       ]
     ]
 
-pub tabled-apart : (table : List Entry) (m : List ℕ) → IsTabled table (slot_at m) (slot_count m) → ((h : ℕ) → IsMixedPair table m h → ⊥) → GroupsAreApart (kind_at m) (slot_at m) (slot_count m)
+pub tabled-apart : (table : List LiveSlots) (m : List ℕ) → IsTabled table (slot_at m) (slot_count m) → ((h : ℕ) → IsMixedPair table m h → ⊥) → GroupsAreApart (kind_at m) (slot_at m) (slot_count m)
 tabled-apart table m t apart = record {
   apart = λ s r g j k x y l q. let low = t.within s g j x l in entry-apart (slice_index_or table g Absent) table m g s r j k x y refl (t.each g low) low apart l q;
 }
 
-pub mixed-corrupt : (table : List Entry) (m : List ℕ) (g : ℕ) → IsTabled table (slot_at m) (slot_count m) → IsMixedPair table m g → GroupsAreApart (kind_at m) (slot_at m) (slot_count m) → ⊥
+pub mixed-corrupt : (table : List LiveSlots) (m : List ℕ) (g : ℕ) → IsTabled table (slot_at m) (slot_count m) → IsMixedPair table m g → GroupsAreApart (kind_at m) (slot_at m) (slot_count m) → ⊥
 mixed-corrupt table m g t p apart =
     let h = pair-held table m g p.newer p.older t p.number p.entry in
     p.differ (apart.apart p.newer.slot p.older.slot g p.newer.generation p.older.generation h.newer_live.0 h.older_live.0 h.newer_live.1 h.older_live.1)
 
 -- What the loop over the table knows: of the sectors below k none has a mixed pair, and whether one has a pair of groups.
-abbrev pub PairsBelow : Bool → List Entry → List ℕ → ℕ → Type 0
+abbrev pub PairsBelow : Bool → List LiveSlots → List ℕ → ℕ → Type 0
 PairsBelow true table m k = (g : ℕ) × IsGroupPair table m g
 PairsBelow false table m k = (g : ℕ) → g < k → IsGroupPair table m g → ⊥
 
-abbrev pub ApartBelow : List Entry → List ℕ → ℕ → Type 0
+abbrev pub ApartBelow : List LiveSlots → List ℕ → ℕ → Type 0
 ApartBelow table m k = (g : ℕ) → g < k → IsMixedPair table m g → ⊥
 
-pub pairs-none : (table : List Entry) (m : List ℕ) → PairsBelow false table m 0
+pub pairs-none : (table : List LiveSlots) (m : List ℕ) → PairsBelow false table m 0
 pairs-none table m g low p = omega (arith, low)
 
-pub apart-none : (table : List Entry) (m : List ℕ) → ApartBelow table m 0
+pub apart-none : (table : List LiveSlots) (m : List ℕ) → ApartBelow table m 0
 apart-none table m g low p = omega (arith, low)
 
-pub pairs-all : (pair : Bool) (table : List Entry) (m : List ℕ) (k : ℕ) → k ≡ length table → PairsBelow pair table m k → PairsSeen pair table m
+pub pairs-all : (pair : Bool) (table : List LiveSlots) (m : List ℕ) (k : ℕ) → k ≡ length table → PairsBelow pair table m k → PairsSeen pair table m
 pairs-all true table m k e h = h
 pairs-all false table m k e h = λ g p. h g (let l = p.number in omega (arith, l, e)) p
 
 -- an entry without two slots
-pub absent-two : (e : Entry) → e ≡ Absent → (a b : Held) → e ≢ Two a b
+pub absent-two : (e : LiveSlots) → e ≡ Absent → (a b : Held) → e ≢ Two a b
 absent-two e q a b r = let h : Absent ≡ Two a b = sym q ∙ r in cc
 
-pub one-two : (e : Entry) (h : Held) → e ≡ One h → (a b : Held) → e ≢ Two a b
+pub one-two : (e : LiveSlots) (h : Held) → e ≡ One h → (a b : Held) → e ≢ Two a b
 one-two e x q a b r = let h : One x ≡ Two a b = sym q ∙ r in cc
 
-pub pairs-quiet : (pair : Bool) (table : List Entry) (m : List ℕ) (k : ℕ) → ((a b : Held) → slice_index_or table k Absent ≢ Two a b) → PairsBelow pair table m k → PairsBelow pair table m (suc k)
+pub pairs-quiet : (pair : Bool) (table : List LiveSlots) (m : List ℕ) (k : ℕ) → ((a b : Held) → slice_index_or table k Absent ≢ Two a b) → PairsBelow pair table m k → PairsBelow pair table m (suc k)
 pairs-quiet true table m k none h = h
 pairs-quiet false table m k none h = λ g low p. elim (cases_eq g k) [ inl e ↦ none p.newer p.older (ap (λ z. slice_index_or table z Absent) (sym e) ∙ p.entry) | inr ne ↦ h g (omega (arith, low, ne)) p ]
 
-pub apart-quiet : (table : List Entry) (m : List ℕ) (k : ℕ) → ((a b : Held) → slice_index_or table k Absent ≢ Two a b) → ApartBelow table m k → ApartBelow table m (suc k)
+pub apart-quiet : (table : List LiveSlots) (m : List ℕ) (k : ℕ) → ((a b : Held) → slice_index_or table k Absent ≢ Two a b) → ApartBelow table m k → ApartBelow table m (suc k)
 apart-quiet table m k none h g low p = elim (cases_eq g k) [ inl e ↦ none p.newer p.older (ap (λ z. slice_index_or table z Absent) (sym e) ∙ p.entry) | inr ne ↦ h g (omega (arith, low, ne)) p ]
 
 -- an entry with two
-pub apart-two : (table : List Entry) (m : List ℕ) (k : ℕ) (x y : Held) → slice_index_or table k Absent ≡ Two x y → is_group (kind_at m (x.slot / 7)) ≡ is_group (kind_at m (y.slot / 7)) → ApartBelow table m k → ApartBelow table m (suc k)
+pub apart-two : (table : List LiveSlots) (m : List ℕ) (k : ℕ) (x y : Held) → slice_index_or table k Absent ≡ Two x y → is_group (kind_at m (x.slot / 7)) ≡ is_group (kind_at m (y.slot / 7)) → ApartBelow table m k → ApartBelow table m (suc k)
 apart-two table m k x y is same h g low p = elim (cases_eq g k) [
   | inl e ↦
       let entry : Two p.newer p.older ≡ Two x y = sym p.entry ∙ (ap (λ z. slice_index_or table z Absent) e ∙ is) in
@@ -254,7 +254,7 @@ apart-two table m k x y is same h g low p = elim (cases_eq g k) [
   | inr ne ↦ h g (omega (arith, low, ne)) p
 ]
 
-pairs-here : (here : Bool) (table : List Entry) (m : List ℕ) (k : ℕ) (x y : Held) → k < length table → slice_index_or table k Absent ≡ Two x y → is_group (kind_at m (y.slot / 7)) ≡ here → PairsBelow false table m k → PairsBelow here table m (suc k)
+pairs-here : (here : Bool) (table : List LiveSlots) (m : List ℕ) (k : ℕ) (x y : Held) → k < length table → slice_index_or table k Absent ≡ Two x y → is_group (kind_at m (y.slot / 7)) ≡ here → PairsBelow false table m k → PairsBelow here table m (suc k)
 pairs-here true table m k x y low is e h = (k, record { number = low; newer = x; older = y; entry = is; group = e })
 pairs-here false table m k x y low is e h = λ g below p. elim (cases_eq g k) [
   | inl q ↦
@@ -264,18 +264,18 @@ pairs-here false table m k x y low is e h = λ g below p. elim (cases_eq g k) [
   | inr ne ↦ h g (omega (arith, below, ne)) p
 ]
 
-pub pairs-two : (pair here : Bool) (table : List Entry) (m : List ℕ) (k : ℕ) (x y : Held) → k < length table → slice_index_or table k Absent ≡ Two x y → is_group (kind_at m (y.slot / 7)) ≡ here → PairsBelow pair table m k → PairsBelow (pair || here) table m (suc k)
+pub pairs-two : (pair here : Bool) (table : List LiveSlots) (m : List ℕ) (k : ℕ) (x y : Held) → k < length table → slice_index_or table k Absent ≡ Two x y → is_group (kind_at m (y.slot / 7)) ≡ here → PairsBelow pair table m k → PairsBelow (pair || here) table m (suc k)
 pairs-two true here table m k x y low is e h = h
 pairs-two false here table m k x y low is e h = pairs-here here table m k x y low is e h
 
 -- all that the loop keeps
-pub record Paired (pair : Bool) (table : List Entry) (k : ℕ) (a b : NorState) : Type 0 where
+pub record Paired (pair : Bool) (table : List LiveSlots) (k : ℕ) (a b : NorState) : Type 0 where
   pub same : b.memory ≡ a.memory
   pub since : (b ≡ a) ⊎ SucceedsSettled a b
   pub pairs : PairsBelow pair table a.memory k
   pub apart : ApartBelow table a.memory k
 
-pub paired-quiet : (pair now : Bool) (table : List Entry) (k next : ℕ) (a b c : NorState) → suc k ≡ next → now ≡ pair → c ≡ b → ((x y : Held) → slice_index_or table k Absent ≢ Two x y) → Paired pair table k a b → Paired now table next a c
+pub paired-quiet : (pair now : Bool) (table : List LiveSlots) (k next : ℕ) (a b c : NorState) → suc k ≡ next → now ≡ pair → c ≡ b → ((x y : Held) → slice_index_or table k Absent ≢ Two x y) → Paired pair table k a b → Paired now table next a c
 paired-quiet pair now table k next a b c e p s none h = subst (λ z. Paired z table next a c) (sym p) (subst (λ z. Paired pair table next a z) (sym s) (subst (λ z. Paired pair table z a b) e (record {
   same = h.same;
   since = h.since;
@@ -283,7 +283,7 @@ paired-quiet pair now table k next a b c e p s none h = subst (λ z. Paired z ta
   apart = apart-quiet table a.memory k none h.apart;
 })))
 
-pub paired-two : (pair here now : Bool) (table : List Entry) (k next : ℕ) (x y : Held) (a b c d : NorState) → suc k ≡ next → now ≡ (pair || here) → d ≡ c → k < length table → slice_index_or table k Absent ≡ Two x y → c.memory ≡ b.memory → SucceedsSettled b c
+pub paired-two : (pair here now : Bool) (table : List LiveSlots) (k next : ℕ) (x y : Held) (a b c d : NorState) → suc k ≡ next → now ≡ (pair || here) → d ≡ c → k < length table → slice_index_or table k Absent ≡ Two x y → c.memory ≡ b.memory → SucceedsSettled b c
     → is_group (kind_at b.memory (x.slot / 7)) ≡ is_group (kind_at b.memory (y.slot / 7)) → is_group (kind_at b.memory (y.slot / 7)) ≡ here → Paired pair table k a b → Paired now table next a d
 paired-two pair here now table k next x y a b c d e p s low is same done alike both h = subst (λ z. Paired z table next a d) (sym p) (subst (λ z. Paired (pair || here) table next a z) (sym s) (subst (λ z. Paired (pair || here) table z a c) e (record {
   same = same ∙ h.same;

@@ -29,8 +29,8 @@ use Rattle.sector_map.specs.Replace.{HeldBy, IsInSlots, IsReplaceable, Rewrites,
 use Rattle.sector_map.specs.Table.{IsTableOf, KeptOne, holder}
 use Rattle.sector_map.specs.Maps.{IsStore, KeepsMap, KeepsEach, Sets, SetLeaves, IsServing, Wrote, KeptServing}
 use Rattle.sector_map.specs.declared.table.Held.{Held}
-use Rattle.sector_map.specs.declared.table.Entry.{Entry}
-use Rattle.sector_map.specs.declared.table.Entry.TheVariants.{Absent}
+use Rattle.sector_map.specs.declared.table.LiveSlots.{LiveSlots}
+use Rattle.sector_map.specs.declared.table.LiveSlots.TheVariants.{Absent}
 use Rattle.sector_map.proofs.Places.{holds-computed}
 use Rattle.sector_map.proofs.MapSteps.{table-follows}
 use Rattle.sector_map.proofs.Retiring.{single-tabled, table-holder, refuses-perhaps, succeeds-perhaps}
@@ -40,7 +40,7 @@ use Rattle.sector_map.proofs.Following.{Relocates, shifts-relocate, converts-rel
 pub on-chip : (m m' : List ℕ) (g : ℕ) → SameChip m m' → g < sector_count (length m) → g < sector_count (length m')
 on-chip m m' g chip low = subst (λ n. g < sector_count n) (sym chip.same_length) low
 
-pub served-room : (table : List Entry) (state : NorState) (indexed : Bool) → IsServing table state indexed → HasRoom state.memory
+pub served-room : (table : List LiveSlots) (state : NorState) (indexed : Bool) → IsServing table state indexed → HasRoom state.memory
 served-room table state indexed s = table-room table state.memory s.tabled s.blocks s.store.slots.groups.layout
 
 -- nothing changed
@@ -71,10 +71,10 @@ pub leaves-after : (g : ℕ) (x a b c : List ℕ) → KeepsMap a b → SetLeaves
 leaves-after g x a b c p (inl q) = inl (keeps-after a b c p q)
 leaves-after g x a b c p (inr q) = inr (sets-after g x a b c p q)
 
-pub wrote-after : (g : ℕ) (x : List ℕ) (table between : List Entry) (a b c : NorState) (i j : Bool) → KeptServing between a b i → Wrote g x table b c j → Wrote g x table a c j
+pub wrote-after : (g : ℕ) (x : List ℕ) (table between : List LiveSlots) (a b c : NorState) (i j : Bool) → KeptServing between a b i → Wrote g x table b c j → Wrote g x table a c j
 wrote-after g x table between a b c i j p q = record { sets = sets-after g x a.memory b.memory c.memory p.keeps q.sets; served = q.served }
 
-pub kept-after : (table between : List Entry) (a b c : NorState) (i j : Bool) → KeptServing between a b i → KeptServing table b c j → KeptServing table a c j
+pub kept-after : (table between : List LiveSlots) (a b c : NorState) (i j : Bool) → KeptServing between a b i → KeptServing table b c j → KeptServing table a c j
 kept-after table between a b c i j p q = record { keeps = keeps-after a.memory b.memory c.memory p.keeps q.keeps; served = q.served }
 
 -- a block was moved for its wear, or nothing changed; and then nothing was left to be tidied
@@ -181,10 +181,10 @@ pub takes-low : (w : ℕ) (o : Option Copied) (m b : List ℕ) → Takes w o m b
 takes-low w o m b (was_free n e low) = low
 takes-low w o m b (was_copied c is none h low) = low
 
-pub steps-table : (c : Copied) (m b : List ℕ) (old new : List Entry) → Steps c m b → IsSoundMap m → IsSingle m → IsTableOf old m → FollowsBlock c.target old new b → IsTableOf new b
+pub steps-table : (c : Copied) (m b : List ℕ) (old new : List LiveSlots) → Steps c m b → IsSoundMap m → IsSingle m → IsTableOf old m → FollowsBlock c.target old new b → IsTableOf new b
 steps-table c m b old new h sound single t f = relocates-table c.source c.target m b old new h.relocates h.reserve.number sound single t f
 
-pub takes-table : (w : ℕ) (o : Option Copied) (m b : List ℕ) (old new : List Entry) → Takes w o m b → TableFollows o old new b → IsSoundMap m → IsSingle m → IsTableOf old m → IsTableOf new b
+pub takes-table : (w : ℕ) (o : Option Copied) (m b : List ℕ) (old new : List LiveSlots) → Takes w o m b → TableFollows o old new b → IsSoundMap m → IsSingle m → IsTableOf old m → IsTableOf new b
 takes-table w o m b old new (was_free n e low) f sound single t =
     let same : new ≡ old = subst (λ z. TableFollows z old new b) n f in
     subst (λ z. IsTableOf z b) (sym same) (subst (λ z. IsTableOf old z) (sym e) t)
@@ -232,7 +232,7 @@ holds-still m b m' moved chip holds alone healthy clean sound =
     }
 
 -- a sector was written into the slot that was taken
-pub wrote : (g : ℕ) (x : List ℕ) (o : Held) (a b c : NorState) (table table' : List Entry) (indexed : Bool) → Moved a.memory b.memory → Rewrites g x o b.memory c.memory → SucceedsSettled a c → IsSoundMap a.memory → g < sector_count (length a.memory)
+pub wrote : (g : ℕ) (x : List ℕ) (o : Held) (a b c : NorState) (table table' : List LiveSlots) (indexed : Bool) → Moved a.memory b.memory → Rewrites g x o b.memory c.memory → SucceedsSettled a c → IsSoundMap a.memory → g < sector_count (length a.memory)
     → IsTableOf table b.memory → KeptOne table g o table' → IsNorReady a → indexed ≡ true → Wrote g x table' a c indexed
 wrote g x o a b c table table' indexed moved r done sound low t s ready index =
     let healthy = settled-healthy c.memory done.settled in
@@ -275,7 +275,7 @@ held-number None g m none = tt
 held-number (Some h) g m (x, l) = l.number
 
 -- a step of tidying, or a conversion
-pub stepped : (c : Copied) (a b d : NorState) (old new : List Entry) (indexed : Bool) → IsServing old a indexed → Steps c a.memory b.memory → d.memory ≡ b.memory → FollowsBlock c.target old new b.memory → SucceedsSettled a d
+pub stepped : (c : Copied) (a b d : NorState) (old new : List LiveSlots) (indexed : Bool) → IsServing old a indexed → Steps c a.memory b.memory → d.memory ≡ b.memory → FollowsBlock c.target old new b.memory → SucceedsSettled a d
     → (index : Bool) → index ≡ true → KeptServing new a d index
 stepped c a b d old new indexed s step same f done index is =
     let single = single-tabled old a.memory s.tabled in
@@ -294,16 +294,16 @@ stepped c a b d old new indexed s step same f done index is =
     }
 
 -- nothing was to be done
-pub kept-none : (table : List Entry) (a : NorState) (indexed : Bool) → IsServing table a indexed → KeptServing table a a indexed
+pub kept-none : (table : List LiveSlots) (a : NorState) (indexed : Bool) → IsServing table a indexed → KeptServing table a a indexed
 kept-none table a indexed s = record { keeps = keeps-none a.memory s.store; served = s }
 
 -- a slot was taken, and the table follows
-pub record AtSlot (w : ℕ) (table : List Entry) (m b : List ℕ) : Type 0 where
+pub record AtSlot (w : ℕ) (table : List LiveSlots) (m b : List ℕ) : Type 0 where
   pub moved : Moved m b
   pub tabled : IsTableOf table b
   pub low : IsGivable w b
 
-pub at-slot : (w : ℕ) (o : Option Copied) (a : NorState) (indexed : Bool) (b b' : List ℕ) (table table' : List Entry) → IsServing table a indexed → Takes w o a.memory b → b' ≡ b → TableFollows o table table' b → AtSlot w table' a.memory b'
+pub at-slot : (w : ℕ) (o : Option Copied) (a : NorState) (indexed : Bool) (b b' : List ℕ) (table table' : List LiveSlots) → IsServing table a indexed → Takes w o a.memory b → b' ≡ b → TableFollows o table table' b → AtSlot w table' a.memory b'
 at-slot w o a indexed b b' table table' s taken same f =
     let single = single-tabled table a.memory s.tabled in
     subst (λ z. AtSlot w table' a.memory z) (sym same) (record {
@@ -312,25 +312,25 @@ at-slot w o a indexed b b' table table' s taken same f =
       low = takes-low w o a.memory b taken;
     })
 
-pub served-moved : (w : ℕ) (o : Option Copied) (a : NorState) (indexed : Bool) (b : List ℕ) (table : List Entry) → IsServing table a indexed → Takes w o a.memory b → Moved a.memory b
+pub served-moved : (w : ℕ) (o : Option Copied) (a : NorState) (indexed : Bool) (b : List ℕ) (table : List LiveSlots) → IsServing table a indexed → Takes w o a.memory b → Moved a.memory b
 served-moved w o a indexed b table s taken = takes-moved w o a.memory b taken s.store.slots (single-tabled table a.memory s.tabled) s.blocks
 
-pub served-steps : (c : Copied) (a : NorState) (indexed : Bool) (b : List ℕ) (table : List Entry) → IsServing table a indexed → Steps c a.memory b → Moved a.memory b
+pub served-steps : (c : Copied) (a : NorState) (indexed : Bool) (b : List ℕ) (table : List LiveSlots) → IsServing table a indexed → Steps c a.memory b → Moved a.memory b
 served-steps c a indexed b table s h = steps-moved c a.memory b h s.store.slots (single-tabled table a.memory s.tabled)
 
-pub served-tidies : (c : Copied) (a : NorState) (indexed : Bool) (b : List ℕ) (table : List Entry) → IsServing table a indexed → TidiesStock c.source c.target a.memory b → Steps c a.memory b
+pub served-tidies : (c : Copied) (a : NorState) (indexed : Bool) (b : List ℕ) (table : List LiveSlots) → IsServing table a indexed → TidiesStock c.source c.target a.memory b → Steps c a.memory b
 served-tidies c a indexed b table s h = tidies-steps c a.memory b h s.blocks s.store.slots
 
-pub served-moves : (c : Copied) (a : NorState) (indexed : Bool) (b : List ℕ) (table : List Entry) → IsServing table a indexed → MovesInto c.source c.target a.memory b → Steps c a.memory b
+pub served-moves : (c : Copied) (a : NorState) (indexed : Bool) (b : List ℕ) (table : List LiveSlots) → IsServing table a indexed → MovesInto c.source c.target a.memory b → Steps c a.memory b
 served-moves c a indexed b table s h = moves-steps c a.memory b h
 
-pub served-converts : (c : Copied) (a : NorState) (indexed : Bool) (b : List ℕ) (table : List Entry) → IsServing table a indexed → Converts c.source c.target a.memory b → Steps c a.memory b
+pub served-converts : (c : Copied) (a : NorState) (indexed : Bool) (b : List ℕ) (table : List LiveSlots) → IsServing table a indexed → Converts c.source c.target a.memory b → Steps c a.memory b
 served-converts c a indexed b table s h = converts-steps c a.memory b h s.blocks s.store.slots
 
-pub slot-held : (w g : ℕ) (table : List Entry) (m b : List ℕ) (o : Option Held) → AtSlot w table m b → g < length table → o ≡ holder (slice_index_or table g Absent) → HeldBy o g b
+pub slot-held : (w g : ℕ) (table : List LiveSlots) (m b : List ℕ) (o : Option Held) → AtSlot w table m b → g < length table → o ≡ holder (slice_index_or table g Absent) → HeldBy o g b
 slot-held w g table m b o h low e = subst (λ z. HeldBy z g b) (sym e) (table-holder table b g h.tabled low)
 
-pub slot-replaceable : (w g : ℕ) (table : List Entry) (m b : List ℕ) (o : Option Held) → AtSlot w table m b → IsInSlots g m → g < length table → o ≡ holder (slice_index_or table g Absent) → IsReplaceable w g o b
+pub slot-replaceable : (w g : ℕ) (table : List LiveSlots) (m b : List ℕ) (o : Option Held) → AtSlot w table m b → IsInSlots g m → g < length table → o ≡ holder (slice_index_or table g Absent) → IsReplaceable w g o b
 slot-replaceable w g table m b o h own low e = taken-replaceable w g o b h.low h.moved.sound h.moved.single h.moved.blocks (subst (λ n. g < n) h.tabled.size low) (slot-held w g table m b o h low e) (h.moved.own g own)
 
 pub same-moved-keeps : (a : NorState) (b b' : List ℕ) → Moved a.memory b → b' ≡ b → IsSettled b → IsSoundMap a.memory → KeepsMap a.memory b'

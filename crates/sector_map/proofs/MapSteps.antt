@@ -11,8 +11,8 @@ use Rattle.sector_slots.proofs.BlankLaws.{holds-sound}
 use Rattle.sector_map.specs.Replace.{HeldBy, Replaces}
 use Rattle.sector_map.specs.Table.{EntryHolds, IsOneAtMost, IsTableOf, KeptOne, holder}
 use Rattle.sector_map.specs.declared.table.Held.{Held}
-use Rattle.sector_map.specs.declared.table.Entry.{Entry}
-use Rattle.sector_map.specs.declared.table.Entry.TheVariants.{Absent, One, Two}
+use Rattle.sector_map.specs.declared.table.LiveSlots.{LiveSlots}
+use Rattle.sector_map.specs.declared.table.LiveSlots.TheVariants.{Absent, One, Two}
 use Rattle.sector_map.proofs.Retiring.{table-holder}
 
 -- live slots, with the number of slots of the memory after
@@ -23,12 +23,12 @@ pub back-there : (m m' : List ℕ) (s g : ℕ) (k : Generation) (x : List ℕ) �
 back-there m m' s g k x chip l = subst (λ n. LiveAt (slot_at m') (7 * (block_count n - 4)) s g k x) (sym chip.same_length) l
 
 -- a table whose entries name the holders
-named-says : (e : Entry) (m : List ℕ) (g : ℕ) → IsSingle m → IsOneAtMost e → HeldBy (holder e) g m → EntryHolds e (slot_at m) (slot_count m) g
+named-says : (e : LiveSlots) (m : List ℕ) (g : ℕ) → IsSingle m → IsOneAtMost e → HeldBy (holder e) g m → EntryHolds e (slot_at m) (slot_count m) g
 named-says Absent m g single one none = none
 named-says (One h) m g single one live = record { live = live; only = λ s k x l. single.one s h.slot g k h.generation x live.0 l live.1 }
 named-says (Two a b) m g single one live = absurd one
 
-pub named-table : (table : List Entry) (m : List ℕ) → length table ≡ sector_count (length m) → IsSoundMap m → IsSingle m → ((g : ℕ) → g < length table → IsOneAtMost (slice_index_or table g Absent))
+pub named-table : (table : List LiveSlots) (m : List ℕ) → length table ≡ sector_count (length m) → IsSoundMap m → IsSingle m → ((g : ℕ) → g < length table → IsOneAtMost (slice_index_or table g Absent))
     → ((g : ℕ) → g < length table → HeldBy (holder (slice_index_or table g Absent)) g m) → IsTableOf table m
 named-table table m size sound single one held = record {
   size = size;
@@ -41,7 +41,7 @@ named-table table m size sound single one held = record {
 }
 
 -- the table after a sector was written anew
-pub table-follows : (table table' : List Entry) (m m' : List ℕ) (g : ℕ) (x : List ℕ) (now : Held) → Replaces g x now m m' → IsTableOf table m → KeptOne table g now table' → IsTableOf table' m'
+pub table-follows : (table table' : List LiveSlots) (m m' : List ℕ) (g : ℕ) (x : List ℕ) (now : Held) → Replaces g x now m m' → IsTableOf table m → KeptOne table g now table' → IsTableOf table' m'
 table-follows table table' m m' g x o r t s =
     named-table table' m' (s.size ∙ (t.size ∙ ap (λ n. sector_count n) (sym r.chip.same_length))) (holds-sound m' (with_sector (sector_at m) g x) r.sectors) r.single
     (λ h low. elim (cases_eq h g) [

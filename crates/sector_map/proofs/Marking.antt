@@ -25,7 +25,7 @@ use Rattle.sector_map.specs.Found.{FoundIn, FoundBelow, RoomSeen}
 use Rattle.sector_map.specs.Table.{IsTabled, Mends, Repairs, Mounts, MountCut}
 use Rattle.sector_map.specs.declared.found.Found.{Found}
 use Rattle.sector_map.specs.declared.found.Found.TheVariants.{AtRest, Void, Committed}
-use Rattle.sector_map.specs.declared.table.Entry.{Entry}
+use Rattle.sector_map.specs.declared.table.LiveSlots.{LiveSlots}
 use Rattle.sector_map.proofs.Mounting.{live-tabled}
 use Rattle.sector_map.proofs.Retiring.{single-tabled}
 use Rattle.sector_slots.proofs.BlankLaws.{sound-holds, holds-sound, counted-same}
@@ -130,7 +130,7 @@ marked_slots m' n = counted (kind_at m') (raw_slot m') (block_count n - 4)
 marked-slot : (m m' : List ℕ) → IsMarked m m' → (s : ℕ) → s < slot_count m → slot_at m' s ≡ slot_at m s
 marked-slot m m' h s low = ap (λ n. marked_slots m' n s) h.same_length ∙ counted-same (kind_at m) (kind_at m') (raw_slot m) (raw_slot m') (data_blocks m) s (kinds-are m m' h) (slots-are m m' h) low
 
-pub marked-tabled : (table : List Entry) (m m' : List ℕ) → IsMarked m m' → IsTabled table (slot_at m) (slot_count m) → IsTabled table (slot_at m') (slot_count m')
+pub marked-tabled : (table : List LiveSlots) (m m' : List ℕ) → IsMarked m m' → IsTabled table (slot_at m) (slot_count m) → IsTabled table (slot_at m') (slot_count m')
 marked-tabled table m m' h t = live-tabled table m m' h.same_length (λ s low. inl (marked-slot m m' h s low)) t
 
 found-same : (found : Found) (kind kind' : ℕ → Kind) (n : ℕ) → ((d : ℕ) → d < n → kind' d ≡ kind d) → FoundBelow found kind n n → FoundBelow found kind' n n
@@ -175,7 +175,7 @@ marked-sound m m' h sound = holds-sound m' (sector_at m) (marked-holds m m' h so
 after-mark : (b c : List ℕ) → Mends b c → mixed_in b ≡ mixed_mark → mixed_in c ≡ mixed_mark
 after-mark b c h e = h.chip.superblock 15 (omega arith) ∙ e
 
-pub mounted : (table : List Entry) (m b c : List ℕ) → IsSoundMap m → Marks m b → Repairs b table c → Mounts m table c
+pub mounted : (table : List LiveSlots) (m b c : List ℕ) → IsSoundMap m → Marks m b → Repairs b table c → Mounts m table c
 mounted table m b c sound h r = record {
   sound = sound;
   disk = disk-after m b c h.disk (chip-disk b c r.mends.chip);

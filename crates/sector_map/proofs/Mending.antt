@@ -35,7 +35,7 @@ use Rattle.sector_map.specs.Table.{IsTabled, Mends}
 use Rattle.sector_map.specs.Mending.{IsGroupPair, PairsSeen, PairsAreSlots, HasDeadGroup, IsOlderGroup, EndsFound, RetiresOlder, RetiresEach, MakesRoom, MendsBlocks}
 use Rattle.sector_map.specs.declared.found.Found.{Found}
 use Rattle.sector_map.specs.declared.found.Found.TheVariants.{AtRest, Void, Committed}
-use Rattle.sector_map.specs.declared.table.Entry.{Entry}
+use Rattle.sector_map.specs.declared.table.LiveSlots.{LiveSlots}
 use Rattle.sector_map.proofs.Grouping.{of-group, older-of, has-newer, none-room, pair-held, group-number}
 use Rattle.sector_map.proofs.Mounting.{live-tabled}
 use Rattle.sector_map.proofs.Restoring.{blocks-clean}
@@ -80,7 +80,7 @@ perhaps-settled a b c (inl e) s = subst (λ z. SucceedsSettled z c) e s
 perhaps-settled a b c (inr t) s = settled-after a b c t s
 
 -- The retirement of an older block of a group.
-step-of : (table : List Entry) (a b c : List ℕ) (k d : ℕ) (tag : Tag) → k < data_blocks b → d < data_blocks b → k ≢ d → AreAtRest (kind_at b) (data_blocks b) → kind_at b k ≡ kinds.Group tag → kind_at b d ≡ kinds.Group (record { number = tag.number; generation = next_generation tag.generation })
+step-of : (table : List LiveSlots) (a b c : List ℕ) (k d : ℕ) (tag : Tag) → k < data_blocks b → d < data_blocks b → k ≢ d → AreAtRest (kind_at b) (data_blocks b) → kind_at b k ≡ kinds.Group tag → kind_at b d ≡ kinds.Group (record { number = tag.number; generation = next_generation tag.generation })
     → OnlyBlock (k + 4) b c → kind_at c k ≡ kinds.DeadGroup → RetiresGroup k d (data_blocks b) (kind_at b) (kind_at c) (raw_slot b) (raw_slot c)
 step-of table a b c k d tag low number other rest was by only now = record {
   rest = rest;
@@ -103,7 +103,7 @@ retired-mends b c k d tag was only h = record {
 }
 
 -- What the loop keeps.
-pub record Retiring (table : List Entry) (k : ℕ) (a b : NorState) : Type 0 where
+pub record Retiring (table : List LiveSlots) (k : ℕ) (a b : NorState) : Type 0 where
   pub since : (b ≡ a) ⊎ SucceedsSettled a b
   pub mends : Mends a.memory b.memory
   pub each : (d : ℕ) → d < data_blocks a.memory → (kind_at b.memory d ≡ kind_at a.memory d) ⊎ ((kind_at b.memory d ≡ kinds.DeadGroup) × IsOlderGroup table d (kind_at a.memory d))
@@ -111,20 +111,20 @@ pub record Retiring (table : List Entry) (k : ℕ) (a b : NorState) : Type 0 whe
   pub later : (d : ℕ) → d < data_blocks a.memory → k ≤ d → kind_at b.memory d ≡ kind_at a.memory d
   pub settled : AreSettled a.memory → AreSettled b.memory
 
-pub retiring-none : (table : List Entry) (a : NorState) → Retiring table 0 a a
+pub retiring-none : (table : List LiveSlots) (a : NorState) → Retiring table 0 a a
 retiring-none table a = record { since = inl refl; mends = mends-none a.memory; each = λ d low. inl refl; done = λ d low none. absurd (omega (arith, none)); later = λ d low high. refl; settled = λ s. s }
 
 dead-rest : (k : Kind) → k ≡ kinds.DeadGroup → IsAtRest k
 dead-rest k e = subst (λ z. IsAtRest z) (sym e) tt
 
-pub retiring-rest : (table : List Entry) (k : ℕ) (a b : NorState) → Retiring table k a b → AreAtRest (kind_at a.memory) (data_blocks a.memory) → AreAtRest (kind_at b.memory) (data_blocks b.memory)
+pub retiring-rest : (table : List LiveSlots) (k : ℕ) (a b : NorState) → Retiring table k a b → AreAtRest (kind_at a.memory) (data_blocks a.memory) → AreAtRest (kind_at b.memory) (data_blocks b.memory)
 retiring-rest table k a b r rest d high =
     let n = r.mends.chip.same_length in
     let low : d < data_blocks a.memory = omega (arith, high, n) in
     elim (r.each d low) as (λ _. IsAtRest (kind_at b.memory d)) [ inl e ↦ subst (λ z. IsAtRest z) (sym e) (rest d low) | inr p ↦ dead-rest (kind_at b.memory d) p.0 ]
 
 -- one more block, which isn't an older one
-pub retiring-quiet : (table : List Entry) (k next : ℕ) (a b c : NorState) → next ≡ suc k → c.memory ≡ b.memory → SucceedsSettled b c → k < data_blocks a.memory → (IsOlderGroup table k (kind_at b.memory k) → ⊥) → Retiring table k a b → Retiring table next a c
+pub retiring-quiet : (table : List LiveSlots) (k next : ℕ) (a b c : NorState) → next ≡ suc k → c.memory ≡ b.memory → SucceedsSettled b c → k < data_blocks a.memory → (IsOlderGroup table k (kind_at b.memory k) → ⊥) → Retiring table k a b → Retiring table next a c
 retiring-quiet table k next a b c e same s low none r = subst (λ z. Retiring table z a c) (sym e) (record {
   since = inr (perhaps-settled a b c r.since s);
   mends = mends-after a.memory b.memory c.memory r.mends (mends-same b.memory c.memory same);
@@ -138,7 +138,7 @@ retiring-quiet table k next a b c e same s low none r = subst (λ z. Retiring ta
 })
 
 -- what is known of an older block before it is retired
-record Older (table : List Entry) (k : ℕ) (a b : NorState) : Type 0 where
+record Older (table : List LiveSlots) (k : ℕ) (a b : NorState) : Type 0 where
   tag : Tag
   block : ℕ
   low : k < data_blocks b.memory
@@ -149,7 +149,7 @@ record Older (table : List Entry) (k : ℕ) (a b : NorState) : Type 0 where
   rest : AreAtRest (kind_at b.memory) (data_blocks b.memory)
   old : IsOlderGroup table k (kind_at a.memory k)
 
-older-at : (table : List Entry) (k : ℕ) (a b : NorState) → IsTabled table (slot_at a.memory) (slot_count a.memory) → AreAtRest (kind_at a.memory) (data_blocks a.memory) → IsSoundMap a.memory → k < data_blocks a.memory → IsOlderGroup table k (kind_at b.memory k) → Retiring table k a b
+older-at : (table : List LiveSlots) (k : ℕ) (a b : NorState) → IsTabled table (slot_at a.memory) (slot_count a.memory) → AreAtRest (kind_at a.memory) (data_blocks a.memory) → IsSoundMap a.memory → k < data_blocks a.memory → IsOlderGroup table k (kind_at b.memory k) → Retiring table k a b
     → Older table k a b
 older-at table k a b t rest sound low o r =
     let here = r.later k low (omega arith) in
@@ -170,7 +170,7 @@ older-at table k a b t rest sound low o r =
     }
 
 -- after the kind was read
-pub retiring-still : (table : List Entry) (k : ℕ) (a b c : NorState) → c.memory ≡ b.memory → SucceedsSettled b c → Retiring table k a b → Retiring table k a c
+pub retiring-still : (table : List LiveSlots) (k : ℕ) (a b c : NorState) → c.memory ≡ b.memory → SucceedsSettled b c → Retiring table k a b → Retiring table k a c
 retiring-still table k a b c same s r = record {
   since = inr (perhaps-settled a b c r.since s);
   mends = mends-after a.memory b.memory c.memory r.mends (mends-same b.memory c.memory same);
@@ -180,7 +180,7 @@ retiring-still table k a b c same s r = record {
   settled = λ h. subst (λ z. AreSettled z) (sym same) (r.settled h);
 }
 
-pub retiring-more : (table : List Entry) (k next : ℕ) (a b0 b c : NorState) → next ≡ suc k → b.memory ≡ b0.memory → SucceedsSettled b0 b → IsTabled table (slot_at a.memory) (slot_count a.memory) → AreAtRest (kind_at a.memory) (data_blocks a.memory) → IsSoundMap a.memory
+pub retiring-more : (table : List LiveSlots) (k next : ℕ) (a b0 b c : NorState) → next ≡ suc k → b.memory ≡ b0.memory → SucceedsSettled b0 b → IsTabled table (slot_at a.memory) (slot_count a.memory) → AreAtRest (kind_at a.memory) (data_blocks a.memory) → IsSoundMap a.memory
     → k < data_blocks a.memory → IsOlderGroup table k (kind_at b0.memory k) → ((group : Tag) → kind_at b.memory k ≡ kinds.Group group → kind_at c.memory k ≡ kinds.DeadGroup) → OnlyBlock (k + 4) b.memory c.memory → SucceedsSettled b c → Retiring table k a b0 → Retiring table next a c
 retiring-more table k next a b0 b c e same s0 t rest sound low o now' only s r0 =
     let r = retiring-still table k a b0 b same s0 r0 in
@@ -205,7 +205,7 @@ retiring-more table k next a b0 b c e same s0 t rest sound low o now' only s r0 
     })
 
 -- a retirement that was cut
-pub retiring-cut : (table : List Entry) (k : ℕ) (a b0 b c : NorState) → b.memory ≡ b0.memory → SucceedsSettled b0 b → IsTabled table (slot_at a.memory) (slot_count a.memory) → AreAtRest (kind_at a.memory) (data_blocks a.memory) → IsSoundMap a.memory → k < data_blocks a.memory
+pub retiring-cut : (table : List LiveSlots) (k : ℕ) (a b0 b c : NorState) → b.memory ≡ b0.memory → SucceedsSettled b0 b → IsTabled table (slot_at a.memory) (slot_count a.memory) → AreAtRest (kind_at a.memory) (data_blocks a.memory) → IsSoundMap a.memory → k < data_blocks a.memory
     → IsOlderGroup table k (kind_at b0.memory k) → ((group : Tag) → kind_at b.memory k ≡ kinds.Group group → (data_block c.memory k ≡ data_block b.memory k) ⊎ (kind_at c.memory k ≡ kinds.DeadGroup)) → OnlyBlock (k + 4) b.memory c.memory → Retiring table k a b0 → Mends a.memory c.memory
 retiring-cut table k a b0 b c same s0 t rest sound low o left only r0 =
     let r = retiring-still table k a b0 b same s0 r0 in
@@ -221,7 +221,7 @@ each-dead : (x y : Kind) (P : Type 0) → (x ≡ y) ⊎ ((x ≡ kinds.DeadGroup)
 each-dead x y P (inl e) = inl e
 each-dead x y P (inr p) = inr p.0
 
-pub retired-each : (table : List Entry) (k : ℕ) (a b : NorState) → k ≡ data_blocks a.memory → Retiring table k a b → RetiresEach table a.memory b.memory
+pub retired-each : (table : List LiveSlots) (k : ℕ) (a b : NorState) → k ≡ data_blocks a.memory → Retiring table k a b → RetiresEach table a.memory b.memory
 retired-each table k a b e r = record {
   mends = r.mends;
   each = λ d low. each-dead (kind_at b.memory d) (kind_at a.memory d) (IsOlderGroup table d (kind_at a.memory d)) (r.each d low);
@@ -229,7 +229,7 @@ retired-each table k a b e r = record {
   settled = r.settled;
 }
 
-pub each-rest : (table : List Entry) (a b : List ℕ) → RetiresEach table a b → AreAtRest (kind_at a) (data_blocks a) → AreAtRest (kind_at b) (data_blocks b)
+pub each-rest : (table : List LiveSlots) (a b : List ℕ) → RetiresEach table a b → AreAtRest (kind_at a) (data_blocks a) → AreAtRest (kind_at b) (data_blocks b)
 each-rest table a b r rest d high =
     let n = r.mends.chip.same_length in
     let low : d < data_blocks a = omega (arith, high, n) in
@@ -238,11 +238,11 @@ each-rest table a b r rest d high =
 dead-live : (k : Kind) (tag : Tag) → k ≡ kinds.DeadGroup → k ≡ kinds.Group tag → ⊥
 dead-live k tag d l = let e : kinds.DeadGroup ≡ kinds.Group tag = sym d ∙ l in cc
 
-each-was : (table : List Entry) (a b : List ℕ) (d : ℕ) (tag : Tag) → RetiresEach table a b → d < data_blocks a → kind_at b d ≡ kinds.Group tag → kind_at a d ≡ kinds.Group tag
+each-was : (table : List LiveSlots) (a b : List ℕ) (d : ℕ) (tag : Tag) → RetiresEach table a b → d < data_blocks a → kind_at b d ≡ kinds.Group tag → kind_at a d ≡ kinds.Group tag
 each-was table a b d tag r low l = elim (r.each d low) as (λ _. kind_at a d ≡ kinds.Group tag) [ inl e ↦ sym e ∙ l | inr p ↦ absurd (dead-live (kind_at b d) tag p l) ]
 
 -- no two blocks are live with one group then
-pub each-pairs : (table new : List Entry) (a b : List ℕ) → RetiresEach table a b → IsTabled table (slot_at a) (slot_count a) → AreAtRest (kind_at a) (data_blocks a) → IsSoundMap b → IsTabled new (slot_at b) (slot_count b) → PairsAreSlots new b
+pub each-pairs : (table new : List LiveSlots) (a b : List ℕ) → RetiresEach table a b → IsTabled table (slot_at a) (slot_count a) → AreAtRest (kind_at a) (data_blocks a) → IsSoundMap b → IsTabled new (slot_at b) (slot_count b) → PairsAreSlots new b
 each-pairs table new a b r t rest sound now g p =
     let h = pair-held new b g p.newer p.older now p.number p.entry in
     let there : is_group (kind_at b (p.newer.slot / 7)) ≡ true = sound.groups.sectors.apart p.newer.slot p.older.slot g p.newer.generation p.older.generation h.newer_live.0 h.older_live.0 h.newer_live.1 h.older_live.1 ∙ p.group in
@@ -264,20 +264,20 @@ each-pairs table new a b r t rest sound now g p =
       | inr o ↦ dead-live (kind_at b d) y.tag (r.older d ld o) y.kind
     ]
 
-each-stays : (table : List Entry) (a b : List ℕ) (d : ℕ) → RetiresEach table a b → d < data_blocks a → kind_at a d ≡ kinds.DeadGroup → kind_at b d ≡ kinds.DeadGroup
+each-stays : (table : List LiveSlots) (a b : List ℕ) (d : ℕ) → RetiresEach table a b → d < data_blocks a → kind_at a d ≡ kinds.DeadGroup → kind_at b d ≡ kinds.DeadGroup
 each-stays table a b d r low e = elim (r.each d low) as (λ _. kind_at b d ≡ kinds.DeadGroup) [ inl q ↦ q ∙ e | inr p ↦ p ]
 
 each-dead_group : (a b : List ℕ) (d : ℕ) → SameChip a b → d < data_blocks a → kind_at b d ≡ kinds.DeadGroup → HasDeadGroup b
 each-dead_group a b d chip low e = let n = chip.same_length in (d, (omega (arith, low, n), e))
 
-pub each-room : (table : List Entry) (a b : List ℕ) → RetiresEach table a b → IsTabled table (slot_at a) (slot_count a) → AreAtRest (kind_at a) (data_blocks a) → HasGroupRoom (kind_at a) (data_blocks a) → HasDeadGroup b
+pub each-room : (table : List LiveSlots) (a b : List ℕ) → RetiresEach table a b → IsTabled table (slot_at a) (slot_count a) → AreAtRest (kind_at a) (data_blocks a) → HasGroupRoom (kind_at a) (data_blocks a) → HasDeadGroup b
 each-room table a b r t rest (dead_group c low e) = each-dead_group a b c r.mends.chip low (each-stays table a b c r low e)
 each-room table a b r t rest (two_blocks c d x y lc ld ne ex ey same) = elim (older-of table a c d x y t rest lc ld ne ex ey same) as (λ _. HasDeadGroup b) [
   | inl o ↦ each-dead_group a b c r.mends.chip lc (r.older c lc o)
   | inr o ↦ each-dead_group a b d r.mends.chip ld (r.older d ld o)
 ]
 
-pub retires-older : (table new : List Entry) (a b c : List ℕ) → RetiresEach table a b → IsTabled table (slot_at a) (slot_count a) → AreAtRest (kind_at a) (data_blocks a) → IsSoundMap a → c ≡ b → IsTabled new (slot_at b) (slot_count b) → RetiresOlder a new c
+pub retires-older : (table new : List LiveSlots) (a b c : List ℕ) → RetiresEach table a b → IsTabled table (slot_at a) (slot_count a) → AreAtRest (kind_at a) (data_blocks a) → IsSoundMap a → c ≡ b → IsTabled new (slot_at b) (slot_count b) → RetiresOlder a new c
 retires-older table new a b c r t rest sound same now = subst (λ z. RetiresOlder a new z) (sym same) (record {
   mends = r.mends;
   rest = each-rest table a b r rest;
@@ -288,7 +288,7 @@ retires-older table new a b c r t rest sound same now = subst (λ z. RetiresOlde
 })
 
 -- where there are none
-pub retires-none : (table : List Entry) (a b : List ℕ) → b ≡ a → IsTabled table (slot_at a) (slot_count a) → AreAtRest (kind_at a) (data_blocks a) → PairsSeen false table a → RetiresOlder a table b
+pub retires-none : (table : List LiveSlots) (a b : List ℕ) → b ≡ a → IsTabled table (slot_at a) (slot_count a) → AreAtRest (kind_at a) (data_blocks a) → PairsSeen false table a → RetiresOlder a table b
 retires-none table a b same t rest none = subst (λ z. RetiresOlder a table z) (sym same) (record {
   mends = mends-none a;
   rest = rest;
@@ -351,7 +351,7 @@ pub room-there : (m m' : List ℕ) → m' ≡ m → AreSettled m → MakesRoom m
 room-there m m' same s = subst (λ z. MakesRoom m z) (sym same) (record { mends = mends-none m; blocks = s; live = λ s low. inl refl; slots = λ d low q. q })
 
 -- A copying that was found was ended.
-pub record Ended (found : Found) (spare : Bool) (table : List Entry) (m m' : List ℕ) : Type 0 where
+pub record Ended (found : Found) (spare : Bool) (table : List LiveSlots) (m m' : List ℕ) : Type 0 where
   pub mends : Mends m m'
   pub rest : AreAtRest (kind_at m') (data_blocks m')
   pub sound : IsSoundMap m'
@@ -359,7 +359,7 @@ pub record Ended (found : Found) (spare : Bool) (table : List Entry) (m m' : Lis
   pub settled : leaves_room found spare ≡ true → AreSettled m'
   pub room : leaves_room found spare ≡ false → HasGroupRoom (kind_at m') (data_blocks m')
 
-copy-ended : (found : Found) (spare : Bool) (table : List Entry) (m m' : List ℕ) → EndsCopy m m' → IsSoundMap m → IsTabled table (slot_at m) (slot_count m) → leaves_room found spare ≡ true → Ended found spare table m m'
+copy-ended : (found : Found) (spare : Bool) (table : List LiveSlots) (m m' : List ℕ) → EndsCopy m m' → IsSoundMap m → IsTabled table (slot_at m) (slot_count m) → leaves_room found spare ≡ true → Ended found spare table m m'
 copy-ended found spare table m m' e sound t roomy = record {
   mends = ends-mends m m' e;
   rest = e.whole.blocks.rest;
@@ -369,16 +369,16 @@ copy-ended found spare table m m' e sound t roomy = record {
   room = λ q. absurd (let h : true ≡ false = sym roomy ∙ q in cc);
 }
 
-room-rest : (spare : Bool) (table : List Entry) (m : List ℕ) → FoundIn AtRest m → RoomSeen AtRest spare m → IsSoundMap m → IsTabled table (slot_at m) (slot_count m) → Ended AtRest spare table m m
+room-rest : (spare : Bool) (table : List LiveSlots) (m : List ℕ) → FoundIn AtRest m → RoomSeen AtRest spare m → IsSoundMap m → IsTabled table (slot_at m) (slot_count m) → Ended AtRest spare table m m
 room-rest true table m f room sound t = record { mends = mends-none m; rest = f.rest; sound = sound; tabled = t; settled = λ q. room; room = λ q. absurd (let h : true ≡ false = q in cc) }
 room-rest false table m f room sound t = record { mends = mends-none m; rest = f.rest; sound = sound; tabled = t; settled = λ q. absurd (let h : false ≡ true = q in cc); room = λ q. room }
 
-pub ended : (found : Found) (spare : Bool) (table : List Entry) (m m' : List ℕ) → EndsFound found m m' → FoundIn found m → RoomSeen found spare m → IsSoundMap m → IsTabled table (slot_at m) (slot_count m) → Ended found spare table m m'
+pub ended : (found : Found) (spare : Bool) (table : List LiveSlots) (m m' : List ℕ) → EndsFound found m m' → FoundIn found m → RoomSeen found spare m → IsSoundMap m → IsTabled table (slot_at m) (slot_count m) → Ended found spare table m m'
 ended AtRest spare table m m' e f room sound t = subst (λ z. Ended AtRest spare table m z) (sym e) (room-rest spare table m f room sound t)
 ended (Void k) spare table m m' e f room sound t = copy-ended (Void k) spare table m m' e sound t refl
 ended (Committed s k) spare table m m' e f room sound t = copy-ended (Committed s k) spare table m m' e sound t refl
 
-pub ended-dead : (b : Bool) (found : Found) (spare : Bool) (table : List Entry) (m m' : List ℕ) → b ≡ leaves_room found spare → b ≢ true → Ended found spare table m m' → HasGroupRoom (kind_at m') (data_blocks m')
+pub ended-dead : (b : Bool) (found : Found) (spare : Bool) (table : List LiveSlots) (m m' : List ℕ) → b ≡ leaves_room found spare → b ≢ true → Ended found spare table m m' → HasGroupRoom (kind_at m') (data_blocks m')
 ended-dead true found spare table m m' e ne h = absurd (ne refl)
 ended-dead false found spare table m m' e ne h = h.room (sym e)
 
@@ -386,7 +386,7 @@ bool-either : (b : Bool) → (b ≡ true) ⊎ (b ≡ false)
 bool-either true = inl refl
 bool-either false = inr refl
 
-pairs-kept : (new : List Entry) (b c d : List ℕ) (g : ℕ) → RetiresOlder b new c → MakesRoom c d → IsGroupPair new d g → ⊥
+pairs-kept : (new : List LiveSlots) (b c d : List ℕ) (g : ℕ) → RetiresOlder b new c → MakesRoom c d → IsGroupPair new d g → ⊥
 pairs-kept new b c d g q r x =
     let h = pair-held new c g x.newer x.older q.tabled x.number x.entry in
     let low = h.older_live.1.number in
@@ -396,7 +396,7 @@ pairs-kept new b c d g q r x =
     ]
 
 -- all of it
-pub mends-blocks : (found : Found) (spare : Bool) (table new : List Entry) (a b c d : List ℕ) → Ended found spare table a b → RetiresOlder b new c → MakesRoom c d → MendsBlocks a new d
+pub mends-blocks : (found : Found) (spare : Bool) (table new : List LiveSlots) (a b c d : List ℕ) → Ended found spare table a b → RetiresOlder b new c → MakesRoom c d → MendsBlocks a new d
 mends-blocks found spare table new a b c d p q r =
     let n = r.mends.chip.same_length in
     record {
@@ -407,19 +407,19 @@ mends-blocks found spare table new a b c d p q r =
     }
 
 -- what the loop's calls ask, and what stands after one that failed
-pub retiring-healthy : (table : List Entry) (k : ℕ) (a b : NorState) → Retiring table k a b → IsHealthy a.memory → IsHealthy b.memory
+pub retiring-healthy : (table : List LiveSlots) (k : ℕ) (a b : NorState) → Retiring table k a b → IsHealthy a.memory → IsHealthy b.memory
 retiring-healthy table k a b r h = elim r.since as (λ _. IsHealthy b.memory) [ inl e ↦ subst (λ z. IsHealthy z.memory) (sym e) h | inr s ↦ settled-healthy b.memory s.settled ]
 
-pub retiring-number : (table : List Entry) (k : ℕ) (a b : NorState) (kind : Kind) (tag : Tag) → IsTabled table (slot_at a.memory) (slot_count a.memory) → AreAtRest (kind_at a.memory) (data_blocks a.memory) → k < data_blocks a.memory → kind ≡ kind_at b.memory k → kind ≡ kinds.Group tag → Retiring table k a b → 7 * tag.number < length table
+pub retiring-number : (table : List LiveSlots) (k : ℕ) (a b : NorState) (kind : Kind) (tag : Tag) → IsTabled table (slot_at a.memory) (slot_count a.memory) → AreAtRest (kind_at a.memory) (data_blocks a.memory) → k < data_blocks a.memory → kind ≡ kind_at b.memory k → kind ≡ kinds.Group tag → Retiring table k a b → 7 * tag.number < length table
 retiring-number table k a b kind tag t rest low is e r = group-number table a.memory k tag t rest low (sym (r.later k low (omega arith)) ∙ (sym is ∙ e))
 
-pub retiring-refuses : (table : List Entry) (k : ℕ) (e : NorError) (a b c : NorState) → Retiring table k a b → Refuses e b c → Refuses e a c
+pub retiring-refuses : (table : List LiveSlots) (k : ℕ) (e : NorError) (a b c : NorState) → Retiring table k a b → Refuses e b c → Refuses e a c
 retiring-refuses table k e a b c r f = elim r.since as (λ _. Refuses e a c) [ inl q ↦ subst (λ z. Refuses e z c) q f | inr s ↦ refuses-settled e a b c s f ]
 
 pub rest-found : (m : List ℕ) → AreAtRest (kind_at m) (data_blocks m) → FoundIn AtRest m
 rest-found m rest = record { rest = rest }
 
-pub each-sound : (table : List Entry) (a b : List ℕ) → RetiresEach table a b → IsSoundMap a → IsSoundMap b
+pub each-sound : (table : List LiveSlots) (a b : List ℕ) → RetiresEach table a b → IsSoundMap a → IsSoundMap b
 each-sound table a b r sound = mends-sound a b r.mends sound
 
 pub mends-of : (a b : List ℕ) → SameChip a b → ((sectors : ℕ → List ℕ) → HoldsSectors sectors a → HoldsSectors sectors b) → (IsClean a → IsClean b) → Mends a b

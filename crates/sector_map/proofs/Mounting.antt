@@ -25,8 +25,8 @@ use Rattle.sector_map.proofs.Grouping.{none-room, tabled-apart}
 use Rattle.sector_map.specs.Table.{EntryHolds, IsTabled, IsTableOf}
 use Rattle.sector_map.specs.declared.found.Found.{Found}
 use Rattle.sector_map.specs.declared.found.Found.TheVariants.{AtRest, Void, Committed}
-use Rattle.sector_map.specs.declared.table.Entry.{Entry}
-use Rattle.sector_map.specs.declared.table.Entry.TheVariants as entries
+use Rattle.sector_map.specs.declared.table.LiveSlots.{LiveSlots}
+use Rattle.sector_map.specs.declared.table.LiveSlots.TheVariants as entries
 use Rattle.sector_map.proofs.Founds.{void-target, committed-target}
 use Rattle.sector_map.proofs.Retiring.{sound-tabled, single-tabled}
 
@@ -73,13 +73,13 @@ dead-seen AtRest false m c room dead = dead_group c dead.0 dead.1
 dead-seen (Void t) spare m c room dead = tt
 dead-seen (Committed s t) spare m c room dead = tt
 
-no-room : (table : List Entry) (m : List ℕ) → FoundIn AtRest m → ((c : ℕ) → c < data_blocks m → IsSpareIn m c → ⊥) → IsTabled table (slot_at m) (slot_count m) → PairsSeen false table m → (HasDeadGroup m → ⊥)
+no-room : (table : List LiveSlots) (m : List ℕ) → FoundIn AtRest m → ((c : ℕ) → c < data_blocks m → IsSpareIn m c → ⊥) → IsTabled table (slot_at m) (slot_count m) → PairsSeen false table m → (HasDeadGroup m → ⊥)
     → SoundBlocks (kind_at m) (raw_slot m) (data_blocks m) → ⊥
 no-room table m h none t pairs dead (settled s) = none s.reserve s.number s.spare
 no-room table m h none t pairs dead (crowded rest room) = dead (none-room table m t rest pairs room)
 no-room table m h none t pairs dead (copying t0 s) = rest-busy (kind_at m t0) t0 (data_blocks m) (h.rest t0 s.number) s.copying
 
-pub fits-none : (found : Found) (spare : Bool) (table : List Entry) (m : List ℕ) → FoundIn found m → leaves_room found spare ≡ false → (spare ≡ false → (c : ℕ) → c < data_blocks m → IsSpareIn m c → ⊥) → IsTabled table (slot_at m) (slot_count m) → PairsSeen false table m
+pub fits-none : (found : Found) (spare : Bool) (table : List LiveSlots) (m : List ℕ) → FoundIn found m → leaves_room found spare ≡ false → (spare ≡ false → (c : ℕ) → c < data_blocks m → IsSpareIn m c → ⊥) → IsTabled table (slot_at m) (slot_count m) → PairsSeen false table m
     → (HasDeadGroup m → ⊥) → IsSoundMap m → ⊥
 fits-none AtRest spare table m h e none t pairs dead sound = no-room table m h (none e) t pairs dead sound.blocks
 fits-none (Void k) spare table m h e none t pairs dead sound = (let q : true ≡ false = e in absurd cc)
@@ -101,7 +101,7 @@ layout-two m groups e two = e ∙ ap not (eq-eqb (layout_in m) 2 two)
 pub slots-alone : (m : List ℕ) (groups : Bool) → groups ≡ may_have_groups m → IsSoundMap m → groups ≡ false → HasSlotsAlone m
 slots-alone m groups e sound none = sound.groups.layout (two-layout m groups e none)
 
-pub look-sound : (found : Found) (spare groups : Bool) (table : List Entry) (m : List ℕ) → FoundIn found m → RoomSeen found spare m → groups ≡ may_have_groups m → (groups ≡ false → HasSlotsAlone m) → ((h : ℕ) → IsMixedPair table m h → ⊥)
+pub look-sound : (found : Found) (spare groups : Bool) (table : List LiveSlots) (m : List ℕ) → FoundIn found m → RoomSeen found spare m → groups ≡ may_have_groups m → (groups ≡ false → HasSlotsAlone m) → ((h : ℕ) → IsMixedPair table m h → ⊥)
     → IsTabled table (slot_at m) (slot_count m) → length table ≡ sector_count (length m) → IsSoundMap m
 look-sound found spare groups table m h room e alone apart t size = record {
   slots = subst (λ n. SoundSlots (slot_at m) (slot_count m) n) size (sound-tabled table (slot_at m) (slot_count m) t);
@@ -110,7 +110,7 @@ look-sound found spare groups table m h room e alone apart t size = record {
 }
 
 -- the same live slots, the same table
-says-same : (e : Entry) (f f' : ℕ → Slot) (n g : ℕ) → SameLive f f' n → EntryHolds e f n g → EntryHolds e f' n g
+says-same : (e : LiveSlots) (f f' : ℕ → Slot) (n g : ℕ) → SameLive f f' n → EntryHolds e f n g → EntryHolds e f' n g
 says-same entries.Absent f f' n g same none = λ s k x l. none s k x (same-back f f' n same s g k x l)
 says-same (entries.One h) f f' n g same o = record { live = (o.live.0, same-on f f' n same h.slot g h.generation o.live.0 o.live.1); only = λ s k x l. o.only s k x (same-back f f' n same s g k x l) }
 says-same (entries.Two a b) f f' n g same o = record {
@@ -120,7 +120,7 @@ says-same (entries.Two a b) f f' n g same o = record {
   only = λ s k x l. o.only s k x (same-back f f' n same s g k x l);
 }
 
-pub live-tabled : (table : List Entry) (m m' : List ℕ) → length m' ≡ length m → SameLive (slot_at m) (slot_at m') (slot_count m) → IsTabled table (slot_at m) (slot_count m) → IsTabled table (slot_at m') (slot_count m')
+pub live-tabled : (table : List LiveSlots) (m m' : List ℕ) → length m' ≡ length m → SameLive (slot_at m) (slot_at m') (slot_count m) → IsTabled table (slot_at m) (slot_count m) → IsTabled table (slot_at m') (slot_count m')
 live-tabled table m m' size live t = subst (λ n. IsTabled table (slot_at m') (7 * (block_count n - 4))) (sym size) (record {
   each = λ g low. says-same (slice_index_or table g entries.Absent) (slot_at m) (slot_at m') (slot_count m) g live (t.each g low);
   within = λ s g k x l. t.within s g k x (same-back (slot_at m) (slot_at m') (slot_count m) live s g k x l);
@@ -131,7 +131,7 @@ pub perhaps-healthy : (a b : NorState) → (b ≡ a) ⊎ SucceedsSettled a b →
 perhaps-healthy a b (inl e) h = subst (λ z. IsHealthy z.memory) (sym e) h
 perhaps-healthy a b (inr s) h = settled-healthy b.memory s.settled
 
-pub table-room : (table : List Entry) (m : List ℕ) → IsTableOf table m → AreSettled m → HasOnlySlots m → HasRoom m
+pub table-room : (table : List LiveSlots) (m : List ℕ) → IsTableOf table m → AreSettled m → HasOnlySlots m → HasRoom m
 table-room table m t blocks layout = record {
   sector = λ s g k x l. subst (λ n. g < n) t.size (t.tabled.within s g k x l);
   single = single-tabled table m t;

@@ -22,14 +22,14 @@ use Rattle.sector_map.specs.Marking.{IsUnmarked, mixed_mark}
 use Rattle.sector_map.specs.Table.{Mounts, MountCut}
 use Rattle.sector_map.specs.Maps.{IsMountable, IsLaidOut, geometry_of, KeepsEach, Mounted, MountWasCut, MountFails, shown_with, is_slow_in}
 use Rattle.sector_map.specs.Filling.{Filled, FillCut, FillFails}
-use Rattle.sector_map.specs.declared.table.Entry.{Entry}
-use Rattle.sector_map.specs.declared.error.MountError.{MountError}
-use Rattle.sector_map.specs.declared.error.MountError.TheVariants as mounts
+use Rattle.sector_map.specs.declared.table.LiveSlots.{LiveSlots}
+use Rattle.sector_map.specs.declared.error.MapError.{MapError}
+use Rattle.sector_map.specs.declared.error.MapError.TheVariants as mounts
 use Rattle.sector_map.proofs.MapCalls.{each-after}
 use Rattle.sector_map.proofs.Marking.{laid-formatted}
 use Rattle.sector_map.proofs.Restoring.{blocks-keep, left-keeps, mounts-keeps, mount-cut-keeps}
 
-pub filled : (t : List Entry) (a c : NorState) → Mounts a.memory t c.memory → SucceedsSettled a c → Filled a (shown_with None c)
+pub filled : (t : List LiveSlots) (a c : NorState) → Mounts a.memory t c.memory → SucceedsSettled a c → Filled a (shown_with None c)
 filled t a c h done = record {
   slots = h.sound;
   keeps = mounts-keeps a.memory c.memory t h done.settled;
@@ -89,7 +89,7 @@ recovered-mounted a b c super r f =
       kept = kept-after a b c r.kept f.kept;
     }
 
-pub recovered-fails : (e : MountError) (a b c : NorState) → IsLaidOut a.memory → Recovers a b → FillFails e b c → MountFails e a c
+pub recovered-fails : (e : MapError) (a b c : NorState) → IsLaidOut a.memory → Recovers a b → FillFails e b c → MountFails e a c
 recovered-fails mounts.Cut a b c super r f = record {
   came = (let g = f.came in let k = r.kept.cuts in inl (omega (arith, g, k)));
   slows = f.slows ∙ r.kept.slows;
@@ -152,7 +152,7 @@ look-was-cut a b f same = record {
 at-memory : (a b : NorState) → b.memory ≡ a.memory → (P : List ℕ → Type 0) → P a.memory → P b.memory
 at-memory a b e P h = subst P (sym e) h
 
-mount-fails-after : (e : MountError) (a b c : NorState) → b.memory ≡ a.memory → OnlyMemoryChanges a b → MountFails e b c → MountFails e a c
+mount-fails-after : (e : MapError) (a b c : NorState) → b.memory ≡ a.memory → OnlyMemoryChanges a b → MountFails e b c → MountFails e a c
 mount-fails-after mounts.Cut a b c same k f = record {
   came = elim f.came as (λ _. (a.cuts < c.cuts) ⊎ (a.powered ≡ false)) [ inl came ↦ (let g = k.cuts in inl (omega (arith, came, g))) | inr off ↦ inr (sym k.powered ∙ off) ];
   slows = f.slows ∙ k.slows;
@@ -183,7 +183,7 @@ mount-fails-after mounts.NotFormatted a b c same k f = (
   record { same = f.1.same ∙ same; kept = kept-after a b c k f.1.kept },
 )
 
-pub looked-fails : {T N : Type 0} (st : N → NorState) (r : Result T (N × MountError)) (a b : NorState) → b.memory ≡ a.memory → OnlyMemoryChanges a b → IfErr r (λ e. MountFails e.1 b (st e.0)) → IfErr r (λ e. MountFails e.1 a (st e.0))
+pub looked-fails : {T N : Type 0} (st : N → NorState) (r : Result T (N × MapError)) (a b : NorState) → b.memory ≡ a.memory → OnlyMemoryChanges a b → IfErr r (λ e. MountFails e.1 b (st e.0)) → IfErr r (λ e. MountFails e.1 a (st e.0))
 looked-fails st (Ok v) a b same k f = tt
 looked-fails st (Err e) a b same k f = mount-fails-after e.1 a b (st e.0) same k f
 
@@ -191,7 +191,7 @@ pub filled-mounted : {T E : Type 0} (st : T → NorState) (r : Result T E) (a b 
 filled-mounted st (Ok v) a b super r f = recovered-mounted a b (st v) super r f
 filled-mounted st (Err e) a b super r f = tt
 
-pub filled-fails : {T N : Type 0} (st : N → NorState) (r : Result T (N × MountError)) (a b : NorState) → IsLaidOut a.memory → Recovers a b → IfErr r (λ e. FillFails e.1 b (st e.0)) → IfErr r (λ e. MountFails e.1 a (st e.0))
+pub filled-fails : {T N : Type 0} (st : N → NorState) (r : Result T (N × MapError)) (a b : NorState) → IsLaidOut a.memory → Recovers a b → IfErr r (λ e. FillFails e.1 b (st e.0)) → IfErr r (λ e. MountFails e.1 a (st e.0))
 filled-fails st (Ok v) a b super r f = tt
 filled-fails st (Err e) a b super r f = recovered-fails e.1 a b (st e.0) super r f
 

@@ -24,8 +24,8 @@ use Rattle.sector_map.specs.Table.{IsTableOf, Mounts, MountCut, holder}
 use Rattle.sector_map.specs.Maps.{IsStore, KeepsEach, KeepsMap, SetLeaves, IsServing, KnownWhile, is_slow_in}
 use Rattle.sector_map.specs.Filling.{Renewed, RenewCorrupt, RenewCut, RenewFails}
 use Rattle.sector_map.specs.declared.table.Held.{Held}
-use Rattle.sector_map.specs.declared.table.Entry.{Entry}
-use Rattle.sector_map.specs.declared.table.Entry.TheVariants.{Absent}
+use Rattle.sector_map.specs.declared.table.LiveSlots.{LiveSlots}
+use Rattle.sector_map.specs.declared.table.LiveSlots.TheVariants.{Absent}
 use Rattle.sector_map.proofs.Retiring.{table-holder}
 use Rattle.sector_map.proofs.MapCalls.{keeps-each, each-after, keeps-none}
 
@@ -41,13 +41,13 @@ blocks-keep m m' same healthy sound =
     keeps-each m m' (chip-disk m m' same.chip) healthy holds (blocks-clean m m' same)
 
 -- a table was made
-pub mounts-keeps : (m m' : List ℕ) (table : List Entry) → Mounts m table m' → IsSettled m' → KeepsEach m m'
+pub mounts-keeps : (m m' : List ℕ) (table : List LiveSlots) → Mounts m table m' → IsSettled m' → KeepsEach m m'
 mounts-keeps m m' table h settled = keeps-each m m' h.disk (settled-healthy m' settled) h.sectors h.clean
 
 pub mount-cut-keeps : (m m' : List ℕ) → MountCut m m' → IsHealthy m' → IsSoundMap m → KeepsEach m m'
 mount-cut-keeps m m' h healthy sound = keeps-each m m' h.disk healthy (h.sectors sound) h.clean
 
-pub served-after : (t : List Entry) (b c : NorState) (indexed : Bool) → Mounts b.memory t c.memory → SucceedsSettled b c → IsNorReady b → indexed ≡ true → IsServing t c indexed
+pub served-after : (t : List LiveSlots) (b c : NorState) (indexed : Bool) → Mounts b.memory t c.memory → SucceedsSettled b c → IsNorReady b → indexed ≡ true → IsServing t c indexed
 served-after t b c indexed h done ready is = record {
   ready = (done.kept.powered ∙ ready.0, done.kept.is_slow ∙ ready.1);
   settled = done.settled;
@@ -57,7 +57,7 @@ served-after t b c indexed h done ready is = record {
   index = is;
 }
 
-pub renew-ok : (r : Result Bool NorError) (t : List Entry) (a b c : NorState) (indexed : Bool) → Restored a b → IfOk r (λ s. IsTrue s → Mounts b.memory t c.memory) → IfOk r (λ s. IsTrue s → indexed ≡ true) → OnOk r (SucceedsSettled b c)
+pub renew-ok : (r : Result Bool NorError) (t : List LiveSlots) (a b c : NorState) (indexed : Bool) → Restored a b → IfOk r (λ s. IsTrue s → Mounts b.memory t c.memory) → IfOk r (λ s. IsTrue s → indexed ≡ true) → OnOk r (SucceedsSettled b c)
     → IfOk r (λ s. IsTrue s → Renewed t a c indexed)
 renew-ok (Ok s) t a b c indexed r made index done = λ is.
     let h = made is in
@@ -132,36 +132,36 @@ restore-corrupt a b r = record {
 }
 
 -- What stands.
-pub served-none : (o : Option NorError) (table : List Entry) (s : NorState) (indexed : Bool) → o ≡ None → KnownWhile o table s indexed → IsServing table s indexed
+pub served-none : (o : Option NorError) (table : List LiveSlots) (s : NorState) (indexed : Bool) → o ≡ None → KnownWhile o table s indexed → IsServing table s indexed
 served-none None table s indexed e h = h
 served-none (Some errors.Cut) table s indexed e h = absurd (cc e)
 served-none (Some errors.Slow) table s indexed e h = absurd (cc e)
 
 -- the store of a map that nothing is latched in
-pub known-store : (o : Option NorError) (table : List Entry) (a : NorState) (i : Bool) → o ≡ None → KnownWhile o table a i → IsStore a.memory
+pub known-store : (o : Option NorError) (table : List LiveSlots) (a : NorState) (i : Bool) → o ≡ None → KnownWhile o table a i → IsStore a.memory
 known-store o table a i e h = (served-none o table a i e h).store
 
-pub known-same : (o : Option NorError) (table : List Entry) (a : NorState) (i : Bool) (m' : List ℕ) → o ≡ None → KnownWhile o table a i → m' ≡ a.memory → IsStore m'
+pub known-same : (o : Option NorError) (table : List LiveSlots) (a : NorState) (i : Bool) (m' : List ℕ) → o ≡ None → KnownWhile o table a i → m' ≡ a.memory → IsStore m'
 known-same o table a i m' e h same = subst (λ z. IsStore z) (sym same) (known-store o table a i e h)
 
-pub known-keeps : (o : Option NorError) (table : List Entry) (a : NorState) (i : Bool) (m' : List ℕ) → o ≡ None → KnownWhile o table a i → m' ≡ a.memory → KeepsMap a.memory m'
+pub known-keeps : (o : Option NorError) (table : List LiveSlots) (a : NorState) (i : Bool) (m' : List ℕ) → o ≡ None → KnownWhile o table a i → m' ≡ a.memory → KeepsMap a.memory m'
 known-keeps o table a i m' e h same = subst (λ z. KeepsMap a.memory z) (sym same) (keeps-none a.memory (known-store o table a i e h))
 
-pub behind-store : (o : Option NorError) (table : List Entry) (a b : NorState) (i : Bool) → KnownWhile o table a i → is_slow_in o ≡ false → b.memory ≡ a.memory → IsStore b.memory
+pub behind-store : (o : Option NorError) (table : List LiveSlots) (a b : NorState) (i : Bool) → KnownWhile o table a i → is_slow_in o ≡ false → b.memory ≡ a.memory → IsStore b.memory
 behind-store None table a b i h quick same = known-same None table a i b.memory refl h same
 behind-store (Some errors.Cut) table a b i h quick same = subst (λ z. IsStore z) (sym same) h.store
 behind-store (Some errors.Slow) table a b i h quick same = absurd (let q : true ≡ false = quick in cc)
 
 -- What is known after a call: its table is that of what it left;
-pub known-served : (o : Option NorError) (table : List Entry) (a : NorState) (i : Bool) → o ≡ None → IsServing table a i → KnownWhile o table a i
+pub known-served : (o : Option NorError) (table : List LiveSlots) (a : NorState) (i : Bool) → o ≡ None → IsServing table a i → KnownWhile o table a i
 known-served None table a i e h = h
 known-served (Some error) table a i e h = absurd (cc e)
 
-pub known-after : (o : Option NorError) (table now : List Entry) (a b : NorState) (i j : Bool) (items : List Entry) → items ≡ now → o ≡ None → IsServing now b j → KnownWhile o items b j
+pub known-after : (o : Option NorError) (table now : List LiveSlots) (a b : NorState) (i j : Bool) (items : List LiveSlots) → items ≡ now → o ≡ None → IsServing now b j → KnownWhile o items b j
 known-after o table now a b i j items same e served = subst (λ z. KnownWhile o z b j) (sym same) (known-served o now b j e served)
 
 -- or it is latched
-pub known-latched : (o : Option NorError) (error : NorError) (table items : List Entry) (a b : NorState) (i j : Bool) → o ≡ None → KnownWhile o table a i → Refuses error a b → (error ≡ errors.Cut → IsStore b.memory) → KnownWhile (Some error) items b j
+pub known-latched : (o : Option NorError) (error : NorError) (table items : List LiveSlots) (a b : NorState) (i j : Bool) → o ≡ None → KnownWhile o table a i → Refuses error a b → (error ≡ errors.Cut → IsStore b.memory) → KnownWhile (Some error) items b j
 known-latched o errors.Cut table items a b i j e h f store = record { off = f.fails.2; quick = f.fails.3 ∙ (served-none o table a i e h).ready.1; store = store refl }
 known-latched o errors.Slow table items a b i j e h f store = tt
 
@@ -169,13 +169,13 @@ pub leaves-store : (g : ℕ) (x m m' : List ℕ) → SetLeaves g x m m' → IsSt
 leaves-store g x m m' (inl k) = k.store
 leaves-store g x m m' (inr s) = s.store
 
-pub cut-store : (o : Option NorError) (error : NorError) (table : List Entry) (s : NorState) (indexed : Bool) → o ≡ Some error → error ≡ errors.Cut → KnownWhile o table s indexed → IsStore s.memory
+pub cut-store : (o : Option NorError) (error : NorError) (table : List LiveSlots) (s : NorState) (indexed : Bool) → o ≡ Some error → error ≡ errors.Cut → KnownWhile o table s indexed → IsStore s.memory
 cut-store None error table s indexed e c h = absurd (cc e)
 cut-store (Some errors.Cut) error table s indexed e c h = h.store
 cut-store (Some errors.Slow) error table s indexed e c h = absurd (cc (e, c))
 
 -- the slot that the table names
-pub held-in : (table read : List Entry) (m : List ℕ) (g : ℕ) (o : Option Held) → read ≡ table → o ≡ holder (slice_index_or read g Absent) → IsTableOf table m → g < sector_count (length m) → HeldBy o g m
+pub held-in : (table read : List LiveSlots) (m : List ℕ) (g : ℕ) (o : Option Held) → read ≡ table → o ≡ holder (slice_index_or read g Absent) → IsTableOf table m → g < sector_count (length m) → HeldBy o g m
 held-in table read m g o same e t low =
     let within : g < length table = subst (λ n. g < n) (sym t.size) low in
     subst (λ q. HeldBy q g m) (sym (e ∙ ap (λ z. holder (slice_index_or z g Absent)) same)) (table-holder table m g t within)

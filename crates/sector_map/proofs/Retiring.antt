@@ -22,13 +22,13 @@ use Rattle.sector_map.proofs.Places.{others-kept, slot-only, placed-settled, liv
 use Rattle.sector_map.specs.Table.{OneHolds, TwoHold, EntryHolds, IsTabled, KeptOne, IsOneAtMost, IsTableOf, holder}
 use Rattle.sector_map.specs.Replace.{HeldBy}
 use Rattle.sector_map.specs.declared.table.Held.{Held}
-use Rattle.sector_map.specs.declared.table.Entry.{Entry}
-use Rattle.sector_map.specs.declared.table.Entry.TheVariants.{Absent, One, Two}
+use Rattle.sector_map.specs.declared.table.LiveSlots.{LiveSlots}
+use Rattle.sector_map.specs.declared.table.LiveSlots.TheVariants.{Absent, One, Two}
 use Rattle.erase_journal.proofs.SettledLaws.{settled-healthy, settled-after, refuses-settled}
 use Rattle.sector_map.proofs.Replacing.{chip-after, back-through, on-through}
 
 -- an entry of a sector that slot w neither held nor holds
-says-kept : (e : Entry) (f f' : ℕ → Slot) (n w g : ℕ) → OthersKept n w f f' → Without f w g → Without f' w g → EntryHolds e f n g → EntryHolds e f' n g
+says-kept : (e : LiveSlots) (f f' : ℕ → Slot) (n w g : ℕ) → OthersKept n w f f' → Without f w g → Without f' w g → EntryHolds e f n g → EntryHolds e f' n g
 says-kept Absent f f' n w g only out out' none = λ s k x l. none s k x (back-through f f' n w g s k x only out' l)
 says-kept (One h) f f' n w g only out out' o = record {
   live = (o.live.0, on-through f f' n w g h.slot h.generation o.live.0 only out o.live.1);
@@ -54,7 +54,7 @@ says-settled a b f f' n g only dead o = record {
       elim (o.only s k x (moved-back f f' n b.slot s g k x only other l)) [ inl e ↦ e | inr e ↦ absurd (other e) ];
 }
 
-tabled-settled : (a b : Held) (old new : List Entry) (f f' : ℕ → Slot) (n g : ℕ) → g < length old → slice_index_or old g Absent ≡ Two a b → OthersKept n b.slot f f' → f' b.slot ≡ Dead → KeptOne old g a new
+tabled-settled : (a b : Held) (old new : List LiveSlots) (f f' : ℕ → Slot) (n g : ℕ) → g < length old → slice_index_or old g Absent ≡ Two a b → OthersKept n b.slot f f' → f' b.slot ≡ Dead → KeptOne old g a new
     → IsTabled old f n → IsTabled new f' n
 tabled-settled a b old new f f' n g low is only dead s t =
     let o : TwoHold a b f n g = subst (λ e. EntryHolds e f n g) is (t.each g low) in
@@ -75,7 +75,7 @@ tabled-settled a b old new f f' n g low is only dead s t =
     }
 
 -- what the loop keeps
-pub record Retired (table0 table : List Entry) (n : ℕ) (a b : NorState) : Type 0 where
+pub record Retired (table0 table : List LiveSlots) (n : ℕ) (a b : NorState) : Type 0 where
   pub chip : SameChip a.memory b.memory
   pub since : (b ≡ a) ⊎ SucceedsSettled a b
   pub size : length table ≡ length table0
@@ -86,7 +86,7 @@ pub record Retired (table0 table : List Entry) (n : ℕ) (a b : NorState) : Type
   pub pairs : PairsAreSlots table b.memory
   pub single : (g : ℕ) → g < n → IsOneAtMost (slice_index_or table g Absent)
 
-pub retired-none : (table : List Entry) (a : NorState) → IsTabled table (slot_at a.memory) (slot_count a.memory) → AreSettled a.memory → PairsAreSlots table a.memory → Retired table table 0 a a
+pub retired-none : (table : List LiveSlots) (a : NorState) → IsTabled table (slot_at a.memory) (slot_count a.memory) → AreSettled a.memory → PairsAreSlots table a.memory → Retired table table 0 a a
 retired-none table a t blocks pairs = record {
   chip = record { same_length = refl; superblock = λ k low. refl };
   since = inl refl;
@@ -99,11 +99,11 @@ retired-none table a t blocks pairs = record {
   single = λ g low. absurd (omega (arith, low));
 }
 
-one-more : (table : List Entry) (n : ℕ) → IsOneAtMost (slice_index_or table n Absent) → ((g : ℕ) → g < n → IsOneAtMost (slice_index_or table g Absent)) → (g : ℕ) → g < suc n → IsOneAtMost (slice_index_or table g Absent)
+one-more : (table : List LiveSlots) (n : ℕ) → IsOneAtMost (slice_index_or table n Absent) → ((g : ℕ) → g < n → IsOneAtMost (slice_index_or table g Absent)) → (g : ℕ) → g < suc n → IsOneAtMost (slice_index_or table g Absent)
 one-more table n here below g low = elim (cases_eq g n) [ inl same ↦ subst (λ z. IsOneAtMost (slice_index_or table z Absent)) (sym same) here | inr other ↦ below g (omega (arith, low, other)) ]
 
 -- a sector with no two slots
-pub retired-quiet : (table0 table now : List Entry) (n next : ℕ) (a b c : NorState) → next ≡ suc n → now ≡ table → c ≡ b → IsOneAtMost (slice_index_or table n Absent) → Retired table0 table n a b → Retired table0 now next a c
+pub retired-quiet : (table0 table now : List LiveSlots) (n next : ℕ) (a b c : NorState) → next ≡ suc n → now ≡ table → c ≡ b → IsOneAtMost (slice_index_or table n Absent) → Retired table0 table n a b → Retired table0 now next a c
 retired-quiet table0 table now n next a b c e t q here r = subst (λ z. Retired table0 now next a z) (sym q) (subst (λ k. Retired table0 now k a b) (sym e) (subst (λ z. Retired table0 z (suc n) a b) (sym t) (record {
   chip = r.chip;
   since = r.since;
@@ -116,14 +116,14 @@ retired-quiet table0 table now n next a b c e t q here r = subst (λ z. Retired 
   single = one-more table n here r.single;
 })))
 
-pub one-absent : (e : Entry) → e ≡ Absent → IsOneAtMost e
+pub one-absent : (e : LiveSlots) → e ≡ Absent → IsOneAtMost e
 one-absent e q = subst (λ z. IsOneAtMost z) (sym q) tt
 
-pub one-held : (e : Entry) (h : Held) → e ≡ One h → IsOneAtMost e
+pub one-held : (e : LiveSlots) (h : Held) → e ≡ One h → IsOneAtMost e
 one-held e h q = subst (λ z. IsOneAtMost z) (sym q) tt
 
 -- the two slots of sector g, before it
-pub retired-two : (table0 table : List Entry) (n : ℕ) (a b : NorState) (x y : Held) → n < length table → slice_index_or table n Absent ≡ Two x y → Retired table0 table n a b → TwoHold x y (slot_at b.memory) (slot_count a.memory) n
+pub retired-two : (table0 table : List LiveSlots) (n : ℕ) (a b : NorState) (x y : Held) → n < length table → slice_index_or table n Absent ≡ Two x y → Retired table0 table n a b → TwoHold x y (slot_at b.memory) (slot_count a.memory) n
 retired-two table0 table n a b x y low is r = subst (λ e. EntryHolds e (slot_at b.memory) (slot_count a.memory) n) is (r.tabled.each n low)
 
 pub succeeds-perhaps : (a b c : NorState) → (b ≡ a) ⊎ SucceedsSettled a b → SucceedsSettled b c → SucceedsSettled a c
@@ -134,12 +134,12 @@ pub refuses-perhaps : (e : NorError) (a b c : NorState) → (b ≡ a) ⊎ Succee
 refuses-perhaps e a b c (inl q) r = subst (λ z. Refuses e z c) q r
 refuses-perhaps e a b c (inr t) r = refuses-settled e a b c t r
 
-pub older-number : (table0 table : List Entry) (n : ℕ) (a b : NorState) (x y : Held) → n < length table → slice_index_or table n Absent ≡ Two x y → Retired table0 table n a b → y.slot < slot_count b.memory
+pub older-number : (table0 table : List LiveSlots) (n : ℕ) (a b : NorState) (x y : Held) → n < length table → slice_index_or table n Absent ≡ Two x y → Retired table0 table n a b → y.slot < slot_count b.memory
 older-number table0 table n a b x y low is r =
     let o = retired-two table0 table n a b x y low is r in
     subst (λ k. y.slot < 7 * (block_count k - 4)) (sym r.chip.same_length) o.older_live.1.number
 
-one-two : (e : Entry) (x p q : Held) → e ≡ One x → e ≡ Two p q → ⊥
+one-two : (e : LiveSlots) (x p q : Held) → e ≡ One x → e ≡ Two p q → ⊥
 one-two e x p q a b = let h : One x ≡ Two p q = sym a ∙ b in cc
 
 group-not : (b : Bool) → (b ≡ true → ⊥) → b ≡ false
@@ -147,20 +147,20 @@ group-not true h = absurd (h refl)
 group-not false h = refl
 
 -- a retirement that was cut
-pub older-retirable : (table0 table : List Entry) (n : ℕ) (a b : NorState) (x y : Held) → n < length table → slice_index_or table n Absent ≡ Two x y → Retired table0 table n a b → IsRetirable y.slot b.memory
+pub older-retirable : (table0 table : List LiveSlots) (n : ℕ) (a b : NorState) (x y : Held) → n < length table → slice_index_or table n Absent ≡ Two x y → Retired table0 table n a b → IsRetirable y.slot b.memory
 older-retirable table0 table n a b x y low0 is r =
     let o = retired-two table0 table n a b x y low0 is r in
     let tag : Tag = record { number = n; generation = y.generation } in
     ((tag, o.older_live.0, o.older_live.1.is), group-not (is_group (kind_at b.memory (y.slot / 7))) (λ e. r.pairs n (record { number = low0; newer = x; older = y; entry = is; group = e })))
 
 -- the sectors, once the older slot of sector n was retired or its retirement cut
-pub retired-sectors : (table0 table : List Entry) (n : ℕ) (a b c : NorState) (x y : Held) → n < length table → slice_index_or table n Absent ≡ Two x y → OnlyPlace y.slot b.memory c.memory
+pub retired-sectors : (table0 table : List LiveSlots) (n : ℕ) (a b c : NorState) (x y : Held) → n < length table → slice_index_or table n Absent ≡ Two x y → OnlyPlace y.slot b.memory c.memory
     → (slot_at c.memory y.slot ≡ slot_at b.memory y.slot) ⊎ (slot_at c.memory y.slot ≡ Dead) → Retired table0 table n a b → (sectors : ℕ → List ℕ) → HoldsSectors sectors a.memory → HoldsSectors sectors c.memory
 retired-sectors table0 table n a b c x y low is only left r sectors s =
     let o : TwoHold x y (slot_at b.memory) (slot_count b.memory) n = subst (λ k. TwoHold x y (slot_at b.memory) (7 * (block_count k - 4)) n) (sym r.chip.same_length) (retired-two table0 table n a b x y low is r) in
     retire-left x.slot y.slot n y.generation x.generation o.newer_live.0 o.older_live.0 b.memory c.memory sectors only o.older_live.1 o.newer_live.1 (two-apart x y (slot_at b.memory) (slot_count b.memory) n o) o.next left r.blocks (r.sectors sectors s)
 
-pub retired-more : (table0 table new now : List Entry) (n next : ℕ) (a b c d : NorState) (x y : Held) → next ≡ suc n → now ≡ new → d ≡ c → n < length table → slice_index_or table n Absent ≡ Two x y → OnlyPlace y.slot b.memory c.memory
+pub retired-more : (table0 table new now : List LiveSlots) (n next : ℕ) (a b c d : NorState) (x y : Held) → next ≡ suc n → now ≡ new → d ≡ c → n < length table → slice_index_or table n Absent ≡ Two x y → OnlyPlace y.slot b.memory c.memory
     → (IsRetirable y.slot b.memory → slot_at c.memory y.slot ≡ Dead) → (IsRetirable y.slot b.memory → IsClean b.memory → IsClean c.memory) → SucceedsSettled b c → KeptOne table n x new → Retired table0 table n a b → Retired table0 now next a d
 retired-more table0 table new now n next a b c d x y e t q low is only dead' clean' s settled r = let was = older-retirable table0 table n a b x y low is r in let dead = dead' was in let clean = clean' was in subst (λ z. Retired table0 now next a z) (sym q) (subst (λ k. Retired table0 now k a c) (sym e) (subst (λ z. Retired table0 z (suc n) a c) (sym t) (record {
   chip = chip-after a.memory b.memory c.memory r.chip only.only.chip;
@@ -187,17 +187,17 @@ retired-more table0 table new now n next a b c d x y e t q low is only dead' cle
   ];
 })))
 
-pub retired-cut : (table0 table : List Entry) (n : ℕ) (a b c : NorState) (x y : Held) → n < length table → slice_index_or table n Absent ≡ Two x y → OnlyPlace y.slot b.memory c.memory
+pub retired-cut : (table0 table : List LiveSlots) (n : ℕ) (a b c : NorState) (x y : Held) → n < length table → slice_index_or table n Absent ≡ Two x y → OnlyPlace y.slot b.memory c.memory
     → (IsRetirable y.slot b.memory → (slot_at c.memory y.slot ≡ slot_at b.memory y.slot) ⊎ (slot_at c.memory y.slot ≡ Dead))
     → Retired table0 table n a b → (sectors : ℕ → List ℕ) → HoldsSectors sectors a.memory → HoldsSectors sectors c.memory
 retired-cut table0 table n a b c x y low is only left r =
     let either = left (older-retirable table0 table n a b x y low is r) in
     retired-sectors table0 table n a b c x y low is only either r
 
-pub retired-healthy : (table0 table : List Entry) (n : ℕ) (a b : NorState) → Retired table0 table n a b → IsHealthy a.memory → IsHealthy b.memory
+pub retired-healthy : (table0 table : List LiveSlots) (n : ℕ) (a b : NorState) → Retired table0 table n a b → IsHealthy a.memory → IsHealthy b.memory
 retired-healthy table0 table n a b r h = elim r.since [ inl e ↦ subst (λ z. IsHealthy z.memory) (sym e) h | inr s ↦ settled-healthy b.memory s.settled ]
 
-pub retired-all : (table0 table : List Entry) (n : ℕ) (a b : NorState) → length table0 ≡ sector_count (length a.memory) → n ≡ length table0 → Retired table0 table n a b → IsTableOf table b.memory
+pub retired-all : (table0 table : List LiveSlots) (n : ℕ) (a b : NorState) → length table0 ≡ sector_count (length a.memory) → n ≡ length table0 → Retired table0 table n a b → IsTableOf table b.memory
 retired-all table0 table n a b size e r = record {
   size = r.size ∙ (size ∙ ap (λ k. sector_count k) (sym r.chip.same_length));
   tabled = subst (λ k. IsTabled table (slot_at b.memory) (7 * (block_count k - 4))) (sym r.chip.same_length) r.tabled;
@@ -208,7 +208,7 @@ retired-all table0 table n a b size e r = record {
 one-generation : (f : ℕ → Slot) (n s t g : ℕ) (j k : Generation) (x y : List ℕ) → LiveAt f n s g j x → LiveAt f n t g k y → s ≡ t → j ≡ k
 one-generation f n s t g j k x y l m e = ap generation_in (sym l.is ∙ (ap f e ∙ m.is))
 
-entry-neighbours : (e : Entry) (f : ℕ → Slot) (n g s t : ℕ) (j k : Generation) (x y : List ℕ) → EntryHolds e f n g → LiveAt f n s g j x → LiveAt f n t g k y → s ≢ t → (j ≡ next_generation k) ⊎ (k ≡ next_generation j)
+entry-neighbours : (e : LiveSlots) (f : ℕ → Slot) (n g s t : ℕ) (j k : Generation) (x y : List ℕ) → EntryHolds e f n g → LiveAt f n s g j x → LiveAt f n t g k y → s ≢ t → (j ≡ next_generation k) ⊎ (k ≡ next_generation j)
 entry-neighbours Absent f n g s t j k x y none l m differ = absurd (none s j x l)
 entry-neighbours (One h) f n g s t j k x y o l m differ = absurd (differ (o.only s j x l ∙ sym (o.only t k y m)))
 entry-neighbours (Two a b) f n g s t j k x y o l m differ =
@@ -225,7 +225,7 @@ entry-neighbours (Two a b) f n g s t j k x y o l m differ =
       ]
     ]
 
-entry-two : (e : Entry) (f : ℕ → Slot) (n g r s t : ℕ) (i j k : Generation) (x y z : List ℕ) → EntryHolds e f n g → LiveAt f n r g i x → LiveAt f n s g j y → LiveAt f n t g k z → (r ≡ s) ⊎ ((s ≡ t) ⊎ (r ≡ t))
+entry-two : (e : LiveSlots) (f : ℕ → Slot) (n g r s t : ℕ) (i j k : Generation) (x y z : List ℕ) → EntryHolds e f n g → LiveAt f n r g i x → LiveAt f n s g j y → LiveAt f n t g k z → (r ≡ s) ⊎ ((s ≡ t) ⊎ (r ≡ t))
 entry-two Absent f n g r s t i j k x y z none l m o = absurd (none r i x l)
 entry-two (One h) f n g r s t i j k x y z q l m o = inl (q.only r i x l ∙ sym (q.only s j y m))
 entry-two (Two a b) f n g r s t i j k x y z q l m o = elim (q.only r i x l) [
@@ -239,7 +239,7 @@ entry-two (Two a b) f n g r s t i j k x y z q l m o = elim (q.only r i x l) [
   ]
 ]
 
-pub sound-tabled : (table : List Entry) (f : ℕ → Slot) (n : ℕ) → IsTabled table f n → SoundSlots f n (length table)
+pub sound-tabled : (table : List LiveSlots) (f : ℕ → Slot) (n : ℕ) → IsTabled table f n → SoundSlots f n (length table)
 sound-tabled table f n t = record {
   sector = t.within;
   neighbours = λ s r g j k x y l m differ. entry-neighbours (slice_index_or table g Absent) f n g s r j k x y (t.each g (t.within s g j x l)) l m differ;
@@ -247,12 +247,12 @@ sound-tabled table f n t = record {
   whole = t.whole;
 }
 
-entry-one : (e : Entry) (f : ℕ → Slot) (n g s t : ℕ) (j k : Generation) (x y : List ℕ) → IsOneAtMost e → EntryHolds e f n g → LiveAt f n s g j x → LiveAt f n t g k y → s ≡ t
+entry-one : (e : LiveSlots) (f : ℕ → Slot) (n g s t : ℕ) (j k : Generation) (x y : List ℕ) → IsOneAtMost e → EntryHolds e f n g → LiveAt f n s g j x → LiveAt f n t g k y → s ≡ t
 entry-one Absent f n g s t j k x y one none l m = absurd (none s j x l)
 entry-one (One h) f n g s t j k x y one o l m = o.only s j x l ∙ sym (o.only t k y m)
 entry-one (Two a b) f n g s t j k x y one o l m = absurd one
 
-pub single-tabled : (table : List Entry) (m : List ℕ) → IsTableOf table m → IsSingle m
+pub single-tabled : (table : List LiveSlots) (m : List ℕ) → IsTableOf table m → IsSingle m
 single-tabled table m t = record {
   one = λ s r g j k x y l o.
       let low = t.tabled.within s g j x l in
@@ -260,10 +260,10 @@ single-tabled table m t = record {
 }
 
 -- the slot that an entry names
-entry-holder : (e : Entry) (m : List ℕ) (g : ℕ) → IsOneAtMost e → EntryHolds e (slot_at m) (slot_count m) g → HeldBy (holder e) g m
+entry-holder : (e : LiveSlots) (m : List ℕ) (g : ℕ) → IsOneAtMost e → EntryHolds e (slot_at m) (slot_count m) g → HeldBy (holder e) g m
 entry-holder Absent m g one none = none
 entry-holder (One h) m g one o = o.live
 entry-holder (Two a b) m g one o = absurd one
 
-pub table-holder : (table : List Entry) (m : List ℕ) (g : ℕ) → IsTableOf table m → g < length table → HeldBy (holder (slice_index_or table g Absent)) g m
+pub table-holder : (table : List LiveSlots) (m : List ℕ) (g : ℕ) → IsTableOf table m → g < length table → HeldBy (holder (slice_index_or table g Absent)) g m
 table-holder table m g t low = entry-holder (slice_index_or table g Absent) m g (t.single g low) (t.tabled.each g low)

@@ -13,8 +13,8 @@ use Rattle.sector_slots.proofs.SectorLaws.{number_in, kind_in, never-round}
 use Rattle.sector_slots.proofs.WinnerLaws.{byte-one}
 use Rattle.sector_map.specs.Table.{EntryHolds, IsTabled, noted, IsBlankTable, Entered, Enters, Heads}
 use Rattle.sector_map.specs.declared.table.Held.{Held}
-use Rattle.sector_map.specs.declared.table.Entry.{Entry}
-use Rattle.sector_map.specs.declared.table.Entry.TheVariants.{Absent, One, Two}
+use Rattle.sector_map.specs.declared.table.LiveSlots.{LiveSlots}
+use Rattle.sector_map.specs.declared.table.LiveSlots.TheVariants.{Absent, One, Two}
 
 more : (f : ℕ → Slot) (n b g : ℕ) (k : Generation) (x : List ℕ) → LiveAt f n b g k x → LiveAt f (suc n) b g k x
 more f n b g k x l = record { number = omega (arith, l.number); is = l.is }
@@ -30,7 +30,7 @@ back : (f : ℕ → Slot) (n b g : ℕ) (k : Generation) (x : List ℕ) → IsOt
 back f n b g k x out l = elim (cases_eq b n) [ inl same ↦ absurd (out k x (ap f (sym same) ∙ l.is)) | inr other ↦ less f n b g k x other l ]
 
 -- it changes nothing of the sector
-pub says-on : (e : Entry) (f : ℕ → Slot) (n g : ℕ) → IsOther f n g → EntryHolds e f n g → EntryHolds e f (suc n) g
+pub says-on : (e : LiveSlots) (f : ℕ → Slot) (n g : ℕ) → IsOther f n g → EntryHolds e f n g → EntryHolds e f (suc n) g
 says-on Absent f n g out none = λ s k x l. none s k x (back f n s g k x out l)
 says-on (One h) f n g out o = record {
   live = (o.live.0, more f n h.slot g h.generation o.live.0 o.live.1);
@@ -53,10 +53,10 @@ bool-cases : (t : Bool) → IsOneOf t
 bool-cases true = inl refl
 bool-cases false = inr refl
 
-some-one : (a b : Entry) → (Some a ≡ Some b) → a ≡ b
+some-one : (a b : LiveSlots) → (Some a ≡ Some b) → a ≡ b
 some-one a b e = cc
 
-none-some : (b : Entry) → (None ≡ Some b) → ⊥
+none-some : (b : LiveSlots) → (None ≡ Some b) → ⊥
 none-some b e = cc
 
 is-next : (j k : Generation) → is_next j k ≡ true → j ≡ next_generation k
@@ -66,7 +66,7 @@ is-next j k e = elim (cases_eq (generation_byte j) (generation_byte (next_genera
 ]
 
 -- one more slot of the sector
-pub says-noted : (e e' : Entry) (f : ℕ → Slot) (n g : ℕ) (k : Generation) (x : List ℕ) → f n ≡ Live (record { number = g; generation = k }) x → EntryHolds e f n g
+pub says-noted : (e e' : LiveSlots) (f : ℕ → Slot) (n g : ℕ) (k : Generation) (x : List ℕ) → f n ≡ Live (record { number = g; generation = k }) x → EntryHolds e f n g
     → noted e (record { slot = n; generation = k }) ≡ Some e' → EntryHolds e' f (suc n) g
 says-noted Absent e' f n g k x here none e = subst (λ z. EntryHolds z f (suc n) g) (some-one (One (record { slot = n; generation = k })) e' e) (record {
   live = (x, record { number = omega arith; is = here });
@@ -100,7 +100,7 @@ next-is : (j k : Generation) → j ≡ next_generation k → is_next j k ≡ tru
 next-is j k e = eq-eqb (generation_byte j) (generation_byte (next_generation k)) (ap generation_byte e)
 
 -- where it is refused the slots are corrupt
-pub noted-none : (e : Entry) (f : ℕ → Slot) (n total g count : ℕ) (k : Generation) (x : List ℕ) → n < total → f n ≡ Live (record { number = g; generation = k }) x → EntryHolds e f n g
+pub noted-none : (e : LiveSlots) (f : ℕ → Slot) (n total g count : ℕ) (k : Generation) (x : List ℕ) → n < total → f n ≡ Live (record { number = g; generation = k }) x → EntryHolds e f n g
     → noted e (record { slot = n; generation = k }) ≡ None → SoundSlots f total count → ⊥
 noted-none Absent f n total g count k x low here none e sound = absurd (none-some (One (record { slot = n; generation = k })) (sym e))
 noted-none (One h) f n total g count k x low here o e sound =
@@ -130,7 +130,7 @@ noted-none (Two a b) f n total g count k x low here o e sound =
     ]
 
 -- Step by step: before any slot is read;
-pub tabled-none : (table : List Entry) (f : ℕ → Slot) → IsBlankTable table → IsTabled table f 0
+pub tabled-none : (table : List LiveSlots) (f : ℕ → Slot) → IsBlankTable table → IsTabled table f 0
 tabled-none table f blank = record {
   each = λ g low. subst (λ e. EntryHolds e f 0 g) (sym (blank g low)) (λ s k x l. omega (arith, l.number));
   within = λ s g k x l. omega (arith, l.number);
@@ -138,32 +138,32 @@ tabled-none table f blank = record {
 }
 
 -- after one that isn't live;
-quiet-within : (table : List Entry) (f : ℕ → Slot) (n : ℕ) → ((g : ℕ) → IsOther f n g) → f n ≢ NoGeneration → IsTabled table f n → IsTabled table f (suc n)
+quiet-within : (table : List LiveSlots) (f : ℕ → Slot) (n : ℕ) → ((g : ℕ) → IsOther f n g) → f n ≢ NoGeneration → IsTabled table f n → IsTabled table f (suc n)
 quiet-within table f n out whole t = record {
   each = λ g low. says-on (slice_index_or table g Absent) f n g (out g) (t.each g low);
   within = λ s g k x l. t.within s g k x (back f n s g k x (out g) l);
   whole = λ s low e. elim (cases_eq s n) [ inl same ↦ whole (ap f (sym same) ∙ e) | inr other ↦ t.whole s (omega (arith, low, other)) e ];
 }
 
-pub tabled-free : (table : List Entry) (f : ℕ → Slot) (n : ℕ) → f n ≡ Free → IsTabled table f n → IsTabled table f (suc n)
+pub tabled-free : (table : List LiveSlots) (f : ℕ → Slot) (n : ℕ) → f n ≡ Free → IsTabled table f n → IsTabled table f (suc n)
 tabled-free table f n e t = quiet-within table f n (λ g k x l. (let h : 0 ≡ 1 = ap kind_in (sym e ∙ l) in omega (arith, h)))
     (λ l. (let h : 0 ≡ 2 = ap kind_in (sym e ∙ l) in omega (arith, h))) t
 
-pub tabled-dead : (table : List Entry) (f : ℕ → Slot) (n : ℕ) → f n ≡ Dead → IsTabled table f n → IsTabled table f (suc n)
+pub tabled-dead : (table : List LiveSlots) (f : ℕ → Slot) (n : ℕ) → f n ≡ Dead → IsTabled table f n → IsTabled table f (suc n)
 tabled-dead table f n e t = quiet-within table f n (λ g k x l. (let h : 3 ≡ 1 = ap kind_in (sym e ∙ l) in omega (arith, h)))
     (λ l. (let h : 3 ≡ 2 = ap kind_in (sym e ∙ l) in omega (arith, h))) t
 
-tabled-outside : (table : List Entry) (f : ℕ → Slot) (n : ℕ) → f n ≡ Outside → IsTabled table f n → IsTabled table f (suc n)
+tabled-outside : (table : List LiveSlots) (f : ℕ → Slot) (n : ℕ) → f n ≡ Outside → IsTabled table f n → IsTabled table f (suc n)
 tabled-outside table f n e t = quiet-within table f n (λ g k x l. (let h : 4 ≡ 1 = ap kind_in (sym e ∙ l) in omega (arith, h)))
     (λ l. (let h : 4 ≡ 2 = ap kind_in (sym e ∙ l) in omega (arith, h))) t
 
 -- after some that don't count;
-pub tabled-skipped : (table : List Entry) (f : ℕ → Slot) (n j : ℕ) → ((i : ℕ) → i < j → f (n + i) ≡ Outside) → IsTabled table f n → IsTabled table f (n + j)
+pub tabled-skipped : (table : List LiveSlots) (f : ℕ → Slot) (n j : ℕ) → ((i : ℕ) → i < j → f (n + i) ≡ Outside) → IsTabled table f n → IsTabled table f (n + j)
 tabled-skipped table f n zero out t = subst (λ k. IsTabled table f k) (let e : n ≡ n + 0 = omega arith in e) t
 tabled-skipped table f n (suc j) out t = subst (λ k. IsTabled table f k) (let e : suc (n + j) ≡ n + suc j = omega arith in e) (tabled-outside table f (n + j) (out j (omega arith)) (tabled-skipped table f n j (λ i low. out i (omega (arith, low))) t))
 
 -- after one that is live and was entered;
-pub tabled-live : (old new : List Entry) (f : ℕ → Slot) (n : ℕ) (tag : Tag) (y : List ℕ) → f n ≡ Live tag y → Entered old tag.number (record { slot = n; generation = tag.generation }) new
+pub tabled-live : (old new : List LiveSlots) (f : ℕ → Slot) (n : ℕ) (tag : Tag) (y : List ℕ) → f n ≡ Live tag y → Entered old tag.number (record { slot = n; generation = tag.generation }) new
     → IsTabled old f n → IsTabled new f (suc n)
 tabled-live old new f n tag y here d t =
     let out : (h : ℕ) → h ≢ tag.number → IsOther f n h = λ h other k x l. other (ap number_in (sym l ∙ here)) in
@@ -188,7 +188,7 @@ tabled-live old new f n tag y here d t =
     }
 
 -- and where a slot is refused the slots are corrupt.
-pub corrupt-live : (table new : List Entry) (f : ℕ → Slot) (n total count : ℕ) (tag : Tag) (y : List ℕ) → n < total → f n ≡ Live tag y → Enters table tag.number (record { slot = n; generation = tag.generation }) false new
+pub corrupt-live : (table new : List LiveSlots) (f : ℕ → Slot) (n total count : ℕ) (tag : Tag) (y : List ℕ) → n < total → f n ≡ Live tag y → Enters table tag.number (record { slot = n; generation = tag.generation }) false new
     → IsTabled table f n → length table ≡ count → SoundSlots f total count → ⊥
 corrupt-live table new f n total count tag y low here (same, why) t size sound =
     elim why [
@@ -200,19 +200,19 @@ corrupt-live table new f n total count tag y low here (same, why) t size sound =
     ]
 
 -- One descriptor of a slot that counts.
-pub head-entered : (old new : List Entry) (n : ℕ) (header : Header) → Heads old n header true new → (f : ℕ → Slot) (x : List ℕ) → f n ≡ slot_with header x → IsTabled old f n → IsTabled new f (suc n)
+pub head-entered : (old new : List LiveSlots) (n : ℕ) (header : Header) → Heads old n header true new → (f : ℕ → Slot) (x : List ℕ) → f n ≡ slot_with header x → IsTabled old f n → IsTabled new f (suc n)
 head-entered old new n headers.Free h f x e t = subst (λ z. IsTabled z f (suc n)) (sym h) (tabled-free old f n e t)
 head-entered old new n (headers.Live tag) h f x e t = tabled-live old new f n tag x e h t
 head-entered old new n headers.NoGeneration h f x e t = absurd h
 head-entered old new n headers.Dead h f x e t = subst (λ z. IsTabled z f (suc n)) (sym h) (tabled-dead old f n e t)
 
-pub head-corrupt : (old new : List Entry) (n : ℕ) (header : Header) → Heads old n header false new → (f : ℕ → Slot) (x : List ℕ) (total count : ℕ) → n < total → f n ≡ slot_with header x → IsTabled old f n → length old ≡ count → SoundSlots f total count → ⊥
+pub head-corrupt : (old new : List LiveSlots) (n : ℕ) (header : Header) → Heads old n header false new → (f : ℕ → Slot) (x : List ℕ) (total count : ℕ) → n < total → f n ≡ slot_with header x → IsTabled old f n → length old ≡ count → SoundSlots f total count → ⊥
 head-corrupt old new n headers.Free h f x total count low e t size sound = h
 head-corrupt old new n (headers.Live tag) h f x total count low e t size sound = corrupt-live old new f n total count tag x low e h t size sound
 head-corrupt old new n headers.NoGeneration h f x total count low e t size sound = sound.whole n low e
 head-corrupt old new n headers.Dead h f x total count low e t size sound = h
 
-pub head-size : (old new : List Entry) (n : ℕ) (header : Header) (t : Bool) → Heads old n header t new → length new ≡ length old
+pub head-size : (old new : List LiveSlots) (n : ℕ) (header : Header) (t : Bool) → Heads old n header t new → length new ≡ length old
 head-size old new n headers.Free true h = ap length h
 head-size old new n headers.Free false h = absurd h
 head-size old new n (headers.Live tag) true h = h.size

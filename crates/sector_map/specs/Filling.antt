@@ -6,10 +6,10 @@ use Rattle.nor_driver.specs.declared.error.NorError.{NorError}
 use Rattle.nor_layout.specs.Superblock.{mixed_in}
 use Rattle.sector_slots.specs.Sectors.{IsSoundMap}
 use Rattle.sector_map.specs.Marking.{IsUnmarked, mixed_mark}
-use Rattle.sector_map.specs.declared.table.Entry.{Entry}
-use Rattle.sector_map.specs.declared.error.MountError.{MountError}
+use Rattle.sector_map.specs.declared.table.LiveSlots.{LiveSlots}
+use Rattle.sector_map.specs.declared.error.MapError.{MapError}
 use Rattle.nor_driver.specs.declared.error.NorError.TheVariants as errors
-use Rattle.sector_map.specs.declared.error.MountError.TheVariants as mounts
+use Rattle.sector_map.specs.declared.error.MapError.TheVariants as mounts
 use Rattle.sector_map.specs.Maps.{IsStore, KeepsEach, IsServing}
 
 -- the table of slots that were recovered was made: what comes between them and what comes of it
@@ -40,7 +40,7 @@ pub record FillCorrupt (old new : NorState) : Type 0 where
   pub quick : old.is_slow ≡ false → new.is_slow ≡ false
   pub same : new.memory ≡ old.memory
 
-abbrev pub FillFails : MountError → NorState → NorState → Type 0
+abbrev pub FillFails : MapError → NorState → NorState → Type 0
 FillFails mounts.Cut old new = FillCut old new
 FillFails mounts.Slow old new = FillSlow old new
 FillFails mounts.Corrupt old new = FillCorrupt old new
@@ -48,7 +48,7 @@ FillFails mounts.OutOfMemory old new = ⊥
 FillFails mounts.NotFormatted old new = ⊥
 
 -- the store was restarted, and the table made again
-pub record Renewed (table : List Entry) (old new : NorState) (indexed : Bool) : Type 0 where
+pub record Renewed (table : List LiveSlots) (old new : NorState) (indexed : Bool) : Type 0 where
   pub cuts : new.cuts ≡ old.cuts
   pub slows : new.slows ≡ old.slows
   pub served : IsServing table new indexed

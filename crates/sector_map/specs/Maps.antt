@@ -16,12 +16,12 @@ use Rattle.sector_slots.specs.Blocks.{AreSettled}
 use Rattle.sector_slots.specs.Sectors.{IsSoundMap, HasSlotsAlone, sector_at}
 use Rattle.sector_map.specs.Marking.{SameDisk, IsUnmarked, mixed_mark}
 use Rattle.sector_map.specs.Table.{IsTableOf}
-use Rattle.sector_map.specs.declared.table.Entry.{Entry}
-use Rattle.sector_map.specs.declared.error.MountError.{MountError}
+use Rattle.sector_map.specs.declared.table.LiveSlots.{LiveSlots}
+use Rattle.sector_map.specs.declared.error.MapError.{MapError}
 use Rattle.nor_layout.specs.declared.superblock.SuperError.{SuperError}
 use Rattle.nor_layout.specs.declared.superblock.SuperError.TheVariants as refusals
 use Rattle.nor_driver.specs.declared.error.NorError.TheVariants as errors
-use Rattle.sector_map.specs.declared.error.MountError.TheVariants as mounts
+use Rattle.sector_map.specs.declared.error.MapError.TheVariants as mounts
 
 -- the counts of a chip of so many bytes
 abbrev pub geometry_of : ℕ → Geometry
@@ -90,7 +90,7 @@ is_slow_in None = false
 is_slow_in (Some errors.Cut) = false
 is_slow_in (Some errors.Slow) = true
 
-pub record IsServing (table : List Entry) (state : NorState) (indexed : Bool) : Type 0 where
+pub record IsServing (table : List LiveSlots) (state : NorState) (indexed : Bool) : Type 0 where
   pub ready : IsNorReady state
   pub settled : IsSettled state.memory
   pub store : IsStore state.memory
@@ -103,7 +103,7 @@ pub record IsCutOff (state : NorState) : Type 0 where
   pub quick : state.is_slow ≡ false
   pub store : IsStore state.memory
 
-abbrev pub KnownWhile : Option NorError → List Entry → NorState → Bool → Type 0
+abbrev pub KnownWhile : Option NorError → List LiveSlots → NorState → Bool → Type 0
 KnownWhile None table state indexed = IsServing table state indexed
 KnownWhile (Some errors.Cut) table state indexed = IsCutOff state
 KnownWhile (Some errors.Slow) table state indexed = Unit {0}
@@ -114,13 +114,13 @@ abbrev pub shown_with : Option NorError → NorState → NorState
 shown_with latched state = record state { is_slow = is_slow_in latched }
 
 -- what a write that answered Ok leaves beside the sectors: the table is again that of the memory
-pub record Wrote (g : ℕ) (x : List ℕ) (table : List Entry) (old new : NorState)
+pub record Wrote (g : ℕ) (x : List ℕ) (table : List LiveSlots) (old new : NorState)
     (indexed : Bool) : Type 0 where
   pub sets : Sets g x old.memory new.memory
   pub served : IsServing table new indexed
 
 -- and a call that writes none
-pub record KeptServing (table : List Entry) (old new : NorState) (indexed : Bool) : Type 0 where
+pub record KeptServing (table : List LiveSlots) (old new : NorState) (indexed : Bool) : Type 0 where
   pub keeps : KeepsMap old.memory new.memory
   pub served : IsServing table new indexed
 
@@ -168,7 +168,7 @@ pub record MountChangedNothing (old new : NorState) : Type 0 where
   pub same : new.memory ≡ old.memory
   pub kept : OnlyMemoryChanges old new
 
-abbrev pub MountFails : MountError → NorState → NorState → Type 0
+abbrev pub MountFails : MapError → NorState → NorState → Type 0
 MountFails mounts.Cut old new = MountWasCut old new
 MountFails mounts.Slow old new = MountWasSlow old new
 MountFails mounts.Corrupt old new = MountWasCorrupt old new

@@ -13,11 +13,11 @@ use Rattle.sector_map.specs.Table.{IsTabled, Mends}
 use Rattle.sector_map.specs.declared.table.Held.{Held}
 use Rattle.sector_map.specs.declared.found.Found.{Found}
 use Rattle.sector_map.specs.declared.found.Found.TheVariants.{AtRest, Void, Committed}
-use Rattle.sector_map.specs.declared.table.Entry.{Entry}
-use Rattle.sector_map.specs.declared.table.Entry.TheVariants.{Absent, Two}
+use Rattle.sector_map.specs.declared.table.LiveSlots.{LiveSlots}
+use Rattle.sector_map.specs.declared.table.LiveSlots.TheVariants.{Absent, Two}
 
 -- Two slots hold sector g, by the table; the older one lies in a block of a group.
-pub record IsGroupPair (table : List Entry) (m : List ℕ) (g : ℕ) : Type 0 where
+pub record IsGroupPair (table : List LiveSlots) (m : List ℕ) (g : ℕ) : Type 0 where
   pub number : g < length table
   pub newer : Held
   pub older : Held
@@ -25,16 +25,16 @@ pub record IsGroupPair (table : List Entry) (m : List ℕ) (g : ℕ) : Type 0 wh
   pub group : is_group (kind_at m (older.slot / 7)) ≡ true
 
 -- whether some sector is so
-abbrev pub PairsSeen : Bool → List Entry → List ℕ → Type 0
+abbrev pub PairsSeen : Bool → List LiveSlots → List ℕ → Type 0
 PairsSeen true table m = (g : ℕ) × IsGroupPair table m g
 PairsSeen false table m = (g : ℕ) → IsGroupPair table m g → ⊥
 
 -- the older of two slots lies in a block of slots, of each sector of which there are two
-abbrev pub PairsAreSlots : List Entry → List ℕ → Type 0
+abbrev pub PairsAreSlots : List LiveSlots → List ℕ → Type 0
 PairsAreSlots table m = PairsSeen false table m
 
 -- Two slots hold sector g, by the table; one of them lies in a block of a group, the other doesn't.
-pub record IsMixedPair (table : List Entry) (m : List ℕ) (g : ℕ) : Type 0 where
+pub record IsMixedPair (table : List LiveSlots) (m : List ℕ) (g : ℕ) : Type 0 where
   pub number : g < length table
   pub newer : Held
   pub older : Held
@@ -46,7 +46,7 @@ abbrev pub HasDeadGroup : List ℕ → Type 0
 HasDeadGroup m = (c : ℕ) × ((c < data_blocks m) × (kind_at m c ≡ kinds.DeadGroup))
 
 -- A block of this kind, block c, is the older of two that are live with one group, by the table.
-pub record IsOlderGroup (table : List Entry) (c : ℕ) (kind : Kind) : Type 0 where
+pub record IsOlderGroup (table : List LiveSlots) (c : ℕ) (kind : Kind) : Type 0 where
   pub tag : Tag
   pub newer : Held
   pub older : Held
@@ -62,7 +62,7 @@ EndsFound (Committed s t) m m' = EndsCopy m m'
 
 -- The older of two blocks of a group was retired: of no group there are two live ones, by the new
 -- table.
-pub record RetiresOlder (m : List ℕ) (table : List Entry) (m' : List ℕ) : Type 0 where
+pub record RetiresOlder (m : List ℕ) (table : List LiveSlots) (m' : List ℕ) : Type 0 where
   pub mends : Mends m m'
   pub rest : AreAtRest (kind_at m') (data_blocks m')
   pub tabled : IsTabled table (slot_at m') (slot_count m')
@@ -71,7 +71,7 @@ pub record RetiresOlder (m : List ℕ) (table : List Entry) (m' : List ℕ) : Ty
   pub room : HasGroupRoom (kind_at m) (data_blocks m) → HasDeadGroup m'
 
 -- the same before the table is read anew
-pub record RetiresEach (table : List Entry) (m m' : List ℕ) : Type 0 where
+pub record RetiresEach (table : List LiveSlots) (m m' : List ℕ) : Type 0 where
   pub mends : Mends m m'
   pub each : (d : ℕ) → d < data_blocks m → (kind_at m' d ≡ kind_at m d)
       ⊎ (kind_at m' d ≡ kinds.DeadGroup)
@@ -89,7 +89,7 @@ pub record MakesRoom (m m' : List ℕ) : Type 0 where
       → is_group (kind_at m' d) ≡ false
 
 -- All of this was done.
-pub record MendsBlocks (m : List ℕ) (table : List Entry) (m' : List ℕ) : Type 0 where
+pub record MendsBlocks (m : List ℕ) (table : List LiveSlots) (m' : List ℕ) : Type 0 where
   pub mends : Mends m m'
   pub blocks : AreSettled m'
   pub tabled : IsTabled table (slot_at m') (slot_count m')

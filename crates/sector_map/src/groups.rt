@@ -19,7 +19,7 @@ ghost use Rattle.sector_map.specs.Table.{IsTabled, Mends};
 use crate::Held;
 use crate::found::Found;
 use crate::scan::{either, is_of_group, read_table};
-use crate::table::Entry;
+use crate::table::LiveSlots;
 use nor_driver::NorError;
 use nor_layout::Kind;
 use sector_slots::SlotCalls;
@@ -27,7 +27,7 @@ use sector_slots::SlotCalls;
 /// Whether two live blocks hold one group, by the table. None if a sector has one slot in a group's
 /// block and one elsewhere: no write leaves these slots.
 #[tactic(auto, using(crate::proofs::Calls::repeated_calls))]
-pub fn has_pair<S: SlotCalls>(slots: &mut S, table: &[Entry]) -> Result<Option<bool>, NorError>
+pub fn has_pair<S: SlotCalls>(slots: &mut S, table: &[LiveSlots]) -> Result<Option<bool>, NorError>
     requires tabled { IsTabled table.now (slot_at (S.state slots.old).memory)
         (slot_count (S.state slots.old).memory) }
     ensures pair { IfOk result (λ answer. (pair : Bool) → answer ≡ Some pair
@@ -44,9 +44,9 @@ pub fn has_pair<S: SlotCalls>(slots: &mut S, table: &[Entry]) -> Result<Option<b
     let mut pair = false;
     for sector in 0..table.len() {
         match table[sector] {
-            Entry::Absent => {}
-            Entry::One(_) => {}
-            Entry::Two(newer, older) => match are_of_groups(
+            LiveSlots::Absent => {}
+            LiveSlots::One(_) => {}
+            LiveSlots::Two(newer, older) => match are_of_groups(
                 slots,
                 newer.slot / 7,
                 older.slot / 7,
@@ -131,16 +131,16 @@ fn is_dead_group(kind: Kind) -> bool
 /// Whether a block of this kind is the older of two that are live with one group, by the table. The
 /// number of a block's tag is its group's, and the entry of the group's first sector tells: all
 /// seven sectors of a group lie in the same blocks.
-pub(crate) fn is_older(table: &[Entry], block: u16, kind: Kind) -> bool
+pub(crate) fn is_older(table: &[LiveSlots], block: u16, kind: Kind) -> bool
     requires number { (tag : TagOf) → kind ≡ Kind.Group tag → 7 * tag.number < length table.now }
     ensures older { IsTrue result → IsOlderGroup table.now block kind }
     ensures not_older { IsFalse result → IsOlderGroup table.now block kind → ⊥ }
 {
     match kind {
         Kind::Group(tag) => match table[7 * tag.number as usize] {
-            Entry::Absent => false,
-            Entry::One(_) => false,
-            Entry::Two(_, older) => older.slot / 7 == block,
+            LiveSlots::Absent => false,
+            LiveSlots::One(_) => false,
+            LiveSlots::Two(_, older) => older.slot / 7 == block,
         },
         Kind::Plain => false,
         Kind::Void => false,
@@ -153,7 +153,7 @@ pub(crate) fn is_older(table: &[Entry], block: u16, kind: Kind) -> bool
 }
 
 /// Retires each block that is the older of two of its group, by the table.
-fn retire_each<S: SlotCalls>(slots: &mut S, table: &[Entry]) -> Result<(), NorError>
+fn retire_each<S: SlotCalls>(slots: &mut S, table: &[LiveSlots]) -> Result<(), NorError>
     requires tabled { IsTabled table.now (slot_at (S.state slots.old).memory)
         (slot_count (S.state slots.old).memory) }
     requires rest { AreAtRest (kind_at (S.state slots.old).memory)
@@ -184,7 +184,7 @@ fn retire_each<S: SlotCalls>(slots: &mut S, table: &[Entry]) -> Result<(), NorEr
 /// two.
 pub(crate) fn retire_groups<S: SlotCalls>(
     slots: &mut S,
-    table: &mut [Entry],
+    table: &mut [LiveSlots],
 ) -> Result<(), NorError>
     requires size { length table.old ≡ sector_count (length (S.state slots.old).memory) }
     requires tabled { IsTabled table.old (slot_at (S.state slots.old).memory)
@@ -211,7 +211,7 @@ pub(crate) fn retire_groups<S: SlotCalls>(
         return Ok(());
     }
     retire_each(slots, table)?;
-    table.fill(Entry::Absent);
+    table.fill(LiveSlots::Absent);
     match read_table(slots, table, Found::AtRest)? {
         Some(_) => Ok(()),
         None => unreachable!(),

@@ -31,7 +31,7 @@ mod stock;
 mod superblock;
 mod table;
 
-pub use error::MountError;
+pub use error::MapError;
 pub use found::{Found, Seen, is_counted};
 pub use groups::{has_pair, lowest_dead_group};
 pub use laws::group_chips_are_mountable;
@@ -39,4 +39,4 @@ pub use map::SectorMap;
 pub use mount::mount_in;
 pub use scan::{is_spare, survey};
 pub use stock::Stock;
-pub use table::{Entry, Held, enter_head};
+pub use table::{Held, LiveSlots, enter_head};

@@ -18,12 +18,12 @@ ghost use Rattle.sector_map.specs.Filling.{Filled, FillFails, Renewed, RenewCorr
 ghost use Rattle.sector_map.specs.Filling.{latched_after_cut};
 
 use crate::Held;
-use crate::error::MountError;
+use crate::error::MapError;
 use crate::mount::mount_in;
 use crate::steps::{clear_in, find_in, tidy_in, tidy_urgent_in, write_in};
 use crate::stock::Stock;
 use crate::superblock::look;
-use crate::table::Entry;
+use crate::table::LiveSlots;
 use chip_model::Geometry;
 use erase_journal::{Journal, RecoverError};
 use journal_slots::SectorSlots;
@@ -43,7 +43,7 @@ use std::marker::Model;
 pub struct SectorMap<N: Nor> {
     stock: Stock<N>,
     /// The entries of the sectors, in their order.
-    table: Vec<Entry>,
+    table: Vec<LiveSlots>,
     /// The latched error. If both occurred, Slow is latched.
     latched: Option<NorError>,
 }
@@ -71,18 +71,18 @@ impl<N: Nor> SectorMap<N> {
     /// Mounts a memory, in the steps of docs/SECTORS.md, "A mount". A refusal hands the memory
     /// back. `Corrupt` is also the answer to a superblock of another layout or size, and then
     /// nothing was changed: a newer format and a damaged byte look alike.
-    pub fn mount(alloc: Global, nor: N) -> Result<SectorMap<N>, (N, MountError)>
+    pub fn mount(alloc: Global, nor: N) -> Result<SectorMap<N>, (N, MapError)>
         ensures ok { IfOk result (λ map. Mounted (N.state nor) map) }
         ensures fails { IfErr result (λ e. MountFails e.1 (N.state nor) (N.state e.0)) }
     {
         let mut nor = nor;
         match look(&mut nor) {
             Ok(Ok(_layout)) => recover(alloc, nor),
-            Ok(Err(SuperError::NotFormatted)) => Err((nor, MountError::NotFormatted)),
-            Ok(Err(SuperError::Layout)) => Err((nor, MountError::Corrupt)),
-            Ok(Err(SuperError::Geometry)) => Err((nor, MountError::Corrupt)),
-            Err(NorError::Cut) => Err((nor, MountError::Cut)),
-            Err(NorError::Slow) => Err((nor, MountError::Slow)),
+            Ok(Err(SuperError::NotFormatted)) => Err((nor, MapError::NotFormatted)),
+            Ok(Err(SuperError::Layout)) => Err((nor, MapError::Corrupt)),
+            Ok(Err(SuperError::Geometry)) => Err((nor, MapError::Corrupt)),
+            Err(NorError::Cut) => Err((nor, MapError::Cut)),
+            Err(NorError::Slow) => Err((nor, MapError::Slow)),
         }
     }
 
@@ -314,7 +314,7 @@ impl<N: Nor> SectorMap<N> {
 /// The memory that a map takes, once: a table of the sectors, and the index of slots and blocks.
 #[derive(Drop)]
 struct Tables {
-    table: Vec<Entry>,
+    table: Vec<LiveSlots>,
     states: Vec<SlotState>,
     blocks: Vec<BlockState>,
 }
@@ -328,7 +328,7 @@ fn take_tables(alloc: Global, chip: Geometry) -> Result<Tables, AllocError>
     ensures blocks { IfOk result (λ t. vec_len t.blocks ≡ chip.blocks - 4) }
 {
     let count = chip.blocks as usize - 4;
-    let table = vec![in alloc; Entry::Absent; chip.sectors as usize]?;
+    let table = vec![in alloc; LiveSlots::Absent; chip.sectors as usize]?;
     let states = vec![in alloc; SlotState::Free; 7 * count]?;
     let blank = BlockState {
         free: 0,
@@ -346,7 +346,7 @@ fn take_tables(alloc: Global, chip: Geometry) -> Result<Tables, AllocError>
 }
 
 /// Steps 2 to 10 of a mount: of a memory whose superblock was looked at.
-fn recover<N: Nor>(alloc: Global, nor: N) -> Result<SectorMap<N>, (N, MountError)>
+fn recover<N: Nor>(alloc: Global, nor: N) -> Result<SectorMap<N>, (N, MapError)>
     requires superblock { IsLaidOut (N.state nor).memory }
     ensures ok { IfOk result (λ map. Mounted (N.state nor) map) }
     ensures fails { IfErr result (λ e. MountFails e.1 (N.state nor) (N.state e.0)) }
@@ -355,18 +355,18 @@ fn recover<N: Nor>(alloc: Global, nor: N) -> Result<SectorMap<N>, (N, MountError
         unreachable!()
     };
     let Ok(tables) = take_tables(alloc, chip) else {
-        return Err((nor, MountError::OutOfMemory));
+        return Err((nor, MapError::OutOfMemory));
     };
     match Journal::recover(nor) {
         Ok(journal) => fill(SectorSlots::new(journal), tables),
-        Err((nor, RecoverError::Cut)) => Err((nor, MountError::Cut)),
-        Err((nor, RecoverError::Slow)) => Err((nor, MountError::Slow)),
-        Err((nor, RecoverError::Corrupt)) => Err((nor, MountError::Corrupt)),
+        Err((nor, RecoverError::Cut)) => Err((nor, MapError::Cut)),
+        Err((nor, RecoverError::Slow)) => Err((nor, MapError::Slow)),
+        Err((nor, RecoverError::Corrupt)) => Err((nor, MapError::Corrupt)),
     }
 }
 
 /// Steps 4 to 10 of a mount: of slots whose journals were recovered.
-fn fill<N: Nor>(slots: SectorSlots<N>, tables: Tables) -> Result<SectorMap<N>, (N, MountError)>
+fn fill<N: Nor>(slots: SectorSlots<N>, tables: Tables) -> Result<SectorMap<N>, (N, MapError)>
     requires ready { IsNorReady slots }
     requires table { vec_len tables.table ≡ sector_count (length slots.memory) }
     requires states { vec_len tables.states ≡ slot_count slots.memory }
@@ -383,9 +383,9 @@ fn fill<N: Nor>(slots: SectorSlots<N>, tables: Tables) -> Result<SectorMap<N>, (
             table,
             latched: None,
         }),
-        Ok(false) => Err((uncover(stock), MountError::Corrupt)),
-        Err(NorError::Cut) => Err((uncover(stock), MountError::Cut)),
-        Err(NorError::Slow) => Err((uncover(stock), MountError::Slow)),
+        Ok(false) => Err((uncover(stock), MapError::Corrupt)),
+        Err(NorError::Cut) => Err((uncover(stock), MapError::Cut)),
+        Err(NorError::Slow) => Err((uncover(stock), MapError::Slow)),
     }
 }
 
@@ -397,9 +397,9 @@ fn uncover<N: Nor>(stock: Stock<N>) -> N
 }
 
 /// The slot that holds a sector.
-fn holder_of(table: &[Entry], sector: u16) -> Option<Held>
+fn holder_of(table: &[LiveSlots], sector: u16) -> Option<Held>
     requires number { sector < length table.now }
-    ensures { result ≡ holder (slice_index_or table.now sector Entry.Absent) }
+    ensures { result ≡ holder (slice_index_or table.now sector LiveSlots.Absent) }
 {
     table[sector as usize].holder()
 }
@@ -417,7 +417,7 @@ fn after_cut(latched: Option<NorError>) -> Option<NorError>
 
 /// Turns the power on anew, recovers the journals, and makes the table again; false if the memory
 /// is corrupt, which comes after a Slow alone.
-fn renew<S: Reclaim>(stock: &mut S, table: &mut [Entry]) -> Result<bool, NorError>
+fn renew<S: Reclaim>(stock: &mut S, table: &mut [LiveSlots]) -> Result<bool, NorError>
     requires size { length table.old ≡ sector_count (length (S.state stock.old).memory) }
     ensures ok { IfOk result (λ sound. IsTrue sound
         → Renewed table.new (S.state stock.old) (S.state stock.new) (S.indexed stock.new)) }

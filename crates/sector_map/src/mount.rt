@@ -24,14 +24,14 @@ use crate::found::{Found, Seen, has_room};
 use crate::groups::{has_pair, lowest_dead_group, make_room, retire_groups};
 use crate::scan::{is_spare, read_table, survey};
 use crate::superblock::{mark_first, read_marks};
-use crate::table::{Entry, keep_one};
+use crate::table::{LiveSlots, keep_one};
 use nor_driver::NorError;
 use sector_slots::SlotCalls;
 use sector_stock::{Reclaim, end_committed, end_erased, end_void};
 
 /// Steps 4 to 10. False, and nothing is changed, if slots or blocks are corrupt. After an error the
 /// table holds any entries.
-pub fn mount_in<S: Reclaim>(stock: &mut S, table: &mut [Entry]) -> Result<bool, NorError>
+pub fn mount_in<S: Reclaim>(stock: &mut S, table: &mut [LiveSlots]) -> Result<bool, NorError>
     requires size { length table.old ≡ sector_count (length (S.state stock.old).memory) }
     ensures sound { IfOk result (λ sound. IsTrue sound
         → Mounts (S.state stock.old).memory table.new (S.state stock.new).memory) }
@@ -47,7 +47,7 @@ pub fn mount_in<S: Reclaim>(stock: &mut S, table: &mut [Entry]) -> Result<bool, 
     ensures same_size { length (S.state stock.new).memory ≡ length (S.state stock.old).memory }
     ensures ends { EndsSettled result (S.state stock.old) (S.state stock.new) }
 {
-    table.fill(Entry::Absent);
+    table.fill(LiveSlots::Absent);
     let marks = read_marks(stock)?;
     match look(stock, table, marks.groups)? {
         Some(seen) => {
@@ -63,7 +63,7 @@ pub fn mount_in<S: Reclaim>(stock: &mut S, table: &mut [Entry]) -> Result<bool, 
 /// say. None if slots or blocks are corrupt.
 fn look<S: Reclaim>(
     stock: &mut S,
-    table: &mut [Entry],
+    table: &mut [LiveSlots],
     groups: bool,
 ) -> Result<Option<Seen>, NorError>
     requires groups { groups ≡ may_have_groups (S.state stock.old).memory }
@@ -124,7 +124,7 @@ fn fit<S: SlotCalls>(slots: &mut S, seen: Seen, pair: bool) -> Result<Option<See
 }
 
 /// Steps 6 to 10: mends the blocks, retires the older of two slots, and makes the index.
-fn repair<S: Reclaim>(stock: &mut S, table: &mut [Entry], seen: Seen) -> Result<(), NorError>
+fn repair<S: Reclaim>(stock: &mut S, table: &mut [LiveSlots], seen: Seen) -> Result<(), NorError>
     requires size { length table.old ≡ sector_count (length (S.state stock.old).memory) }
     requires tabled { IsTabled table.old (slot_at (S.state stock.old).memory)
         (slot_count (S.state stock.old).memory) }
@@ -150,7 +150,11 @@ fn repair<S: Reclaim>(stock: &mut S, table: &mut [Entry], seen: Seen) -> Result<
 
 /// Steps 6 to 8: ends a copying that was found, retires the older of two blocks of a group, and
 /// erases a dead one if no block is wholly free.
-fn mend_blocks<S: SlotCalls>(slots: &mut S, table: &mut [Entry], seen: Seen) -> Result<(), NorError>
+fn mend_blocks<S: SlotCalls>(
+    slots: &mut S,
+    table: &mut [LiveSlots],
+    seen: Seen,
+) -> Result<(), NorError>
     requires size { length table.old ≡ sector_count (length (S.state slots.old).memory) }
     requires tabled { IsTabled table.old (slot_at (S.state slots.old).memory)
         (slot_count (S.state slots.old).memory) }
@@ -218,7 +222,7 @@ fn end_copy<S: SlotCalls>(slots: &mut S, source: u16, target: u16) -> Result<(),
 }
 
 /// Step 9: retires the older of two slots of each sector.
-fn retire_older<S: SlotCalls>(slots: &mut S, table: &mut [Entry]) -> Result<(), NorError>
+fn retire_older<S: SlotCalls>(slots: &mut S, table: &mut [LiveSlots]) -> Result<(), NorError>
     requires size { length table.old ≡ sector_count (length (S.state slots.old).memory) }
     requires tabled { IsTabled table.old (slot_at (S.state slots.old).memory)
         (slot_count (S.state slots.old).memory) }
@@ -246,9 +250,9 @@ fn retire_older<S: SlotCalls>(slots: &mut S, table: &mut [Entry]) -> Result<(), 
 {
     for sector in 0..table.len() {
         match table[sector] {
-            Entry::Absent => {}
-            Entry::One(_) => {}
-            Entry::Two(newer, older) => {
+            LiveSlots::Absent => {}
+            LiveSlots::One(_) => {}
+            LiveSlots::Two(newer, older) => {
                 slots.retire(older.slot)?;
                 keep_one(table, sector, newer);
             }

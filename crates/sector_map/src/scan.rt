@@ -14,7 +14,7 @@ ghost use Rattle.sector_map.specs.Scan.{EntersBlock, RefusesBlock};
 ghost use Rattle.sector_map.specs.Table.{IsTabled, IsBlankTable};
 
 use crate::found::{Found, is_counted, note_kind};
-use crate::table::{Entry, enter_head};
+use crate::table::{LiveSlots, enter_head};
 use nor_driver::NorError;
 use nor_layout::{Header, Kind};
 use sector_slots::SlotCalls;
@@ -76,7 +76,7 @@ pub(crate) fn is_of_group(kind: Kind) -> bool
 
 /// Enters the seven slots of a block that counts into the table of those before it; false where the
 /// slots are corrupt.
-pub(crate) fn enter_heads(table: &mut [Entry], block: u16, heads: &[Header]) -> bool
+pub(crate) fn enter_heads(table: &mut [LiveSlots], block: u16, heads: &[Header]) -> bool
     requires number { block ≤ 4092 }
     requires room { length heads.now ≡ 7 }
     ensures sound { IsTrue result → EntersBlock heads.now block table.old table.new }
@@ -114,7 +114,7 @@ pub(crate) fn all_free(heads: &[Header]) -> bool
 /// free; None where the slots are corrupt.
 fn read_block<S: SlotCalls>(
     slots: &mut S,
-    table: &mut [Entry],
+    table: &mut [LiveSlots],
     found: Found,
     block: u16,
 ) -> Result<Option<bool>, NorError>
@@ -145,7 +145,7 @@ fn read_block<S: SlotCalls>(
 }
 
 /// Enters the slots of a block, where they count; false where the slots are corrupt.
-fn enter_counted(table: &mut [Entry], found: Found, block: u16, heads: &[Header]) -> bool
+fn enter_counted(table: &mut [LiveSlots], found: Found, block: u16, heads: &[Header]) -> bool
     requires number { block ≤ 4092 }
     requires room { length heads.now ≡ 7 }
     ensures sound { IsTrue result → block_counts found block ≡ true
@@ -167,7 +167,7 @@ fn enter_counted(table: &mut [Entry], found: Found, block: u16, heads: &[Header]
 #[tactic(auto, using(crate::proofs::Calls::repeated_calls))]
 pub(crate) fn read_table<S: SlotCalls>(
     slots: &mut S,
-    table: &mut [Entry],
+    table: &mut [LiveSlots],
     found: Found,
 ) -> Result<Option<bool>, NorError>
     requires blank { IsBlankTable table.old }

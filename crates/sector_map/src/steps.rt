@@ -17,7 +17,7 @@ ghost use Rattle.sector_map.specs.Replace.{Rewrites, RewriteLeaves};
 ghost use Rattle.sector_map.specs.Maps.{IsServing, KeepsMap, SetLeaves, Wrote, KeptServing};
 
 use crate::Held;
-use crate::table::{Entry, follow_copied, keep_one, unset};
+use crate::table::{LiveSlots, follow_copied, keep_one, unset};
 use nor_driver::NorError;
 use nor_layout::{Generation, Tag};
 use sector_stock::{Next, Reclaim};
@@ -27,7 +27,7 @@ use sector_stock::{Next, Reclaim};
 /// sector with its group.
 pub(crate) fn write_in<S: Reclaim>(
     stock: &mut S,
-    table: &mut [Entry],
+    table: &mut [LiveSlots],
     sector: u16,
     content: &[u8],
 ) -> Result<(), NorError>
@@ -48,7 +48,7 @@ pub(crate) fn write_in<S: Reclaim>(
 
 /// Moves a block for its wear, if it is time for it, and converts the block that holds a sector
 /// with its group, if one does. The table follows, and no sector changes.
-fn make_way<S: Reclaim>(stock: &mut S, table: &mut [Entry], sector: u16) -> Result<(), NorError>
+fn make_way<S: Reclaim>(stock: &mut S, table: &mut [LiveSlots], sector: u16) -> Result<(), NorError>
     requires served { IsServing table.old (S.state stock.old) (S.indexed stock.old) }
     requires number { sector < length table.old }
     ensures ok { OnOk result (KeptServing table.new (S.state stock.old) (S.state stock.new)
@@ -66,7 +66,7 @@ fn make_way<S: Reclaim>(stock: &mut S, table: &mut [Entry], sector: u16) -> Resu
 
 /// Moves a block whose sectors rest, if it is time for it. The table follows, and no sector
 /// changes.
-fn level_in<S: Reclaim>(stock: &mut S, table: &mut [Entry], next: Next) -> Result<(), NorError>
+fn level_in<S: Reclaim>(stock: &mut S, table: &mut [LiveSlots], next: Next) -> Result<(), NorError>
     requires served { IsServing table.old (S.state stock.old) (S.indexed stock.old) }
     ensures ok { OnOk result (KeptServing table.new (S.state stock.old) (S.state stock.new)
         (S.indexed stock.new)) }
@@ -91,7 +91,11 @@ fn level_in<S: Reclaim>(stock: &mut S, table: &mut [Entry], next: Next) -> Resul
 
 /// Converts the block that holds a sector with its group, if one does: no such block does then. The
 /// table follows, and no sector changes.
-fn leave_group<S: Reclaim>(stock: &mut S, table: &mut [Entry], sector: u16) -> Result<(), NorError>
+fn leave_group<S: Reclaim>(
+    stock: &mut S,
+    table: &mut [LiveSlots],
+    sector: u16,
+) -> Result<(), NorError>
     requires served { IsServing table.old (S.state stock.old) (S.indexed stock.old) }
     requires number { sector < length table.old }
     ensures ok { OnOk result (KeptServing table.new (S.state stock.old) (S.state stock.new)
@@ -119,7 +123,7 @@ fn leave_group<S: Reclaim>(stock: &mut S, table: &mut [Entry], sector: u16) -> R
 /// Writes a sector that no block with its group holds.
 fn write_own<S: Reclaim>(
     stock: &mut S,
-    table: &mut [Entry],
+    table: &mut [LiveSlots],
     sector: u16,
     content: &[u8],
 ) -> Result<(), NorError>
@@ -146,7 +150,7 @@ fn write_own<S: Reclaim>(
 /// Copies a block with the most dead slots; if no slot is dead, converts the lowest-numbered block
 /// that is live with a group. If there is neither, nothing changes: false. If it is time for it, a
 /// block is moved for its wear first.
-pub(crate) fn tidy_in<S: Reclaim>(stock: &mut S, table: &mut [Entry]) -> Result<bool, NorError>
+pub(crate) fn tidy_in<S: Reclaim>(stock: &mut S, table: &mut [LiveSlots]) -> Result<bool, NorError>
     requires served { IsServing table.old (S.state stock.old) (S.indexed stock.old) }
     ensures ok { OnOk result (KeptServing table.new (S.state stock.old) (S.state stock.new)
         (S.indexed stock.new)) }
@@ -166,7 +170,7 @@ pub(crate) fn tidy_in<S: Reclaim>(stock: &mut S, table: &mut [Entry]) -> Result<
 }
 
 /// Tidies, and moves no block for its wear.
-fn tidy_own<S: Reclaim>(stock: &mut S, table: &mut [Entry]) -> Result<bool, NorError>
+fn tidy_own<S: Reclaim>(stock: &mut S, table: &mut [LiveSlots]) -> Result<bool, NorError>
     requires served { IsServing table.old (S.state stock.old) (S.indexed stock.old) }
     ensures ok { OnOk result (KeptServing table.new (S.state stock.old) (S.state stock.new)
         (S.indexed stock.new)) }
@@ -194,7 +198,7 @@ fn tidy_own<S: Reclaim>(stock: &mut S, table: &mut [Entry]) -> Result<bool, NorE
 /// Does what `tidy_in` does while few slots are free; else nothing: false.
 pub(crate) fn tidy_urgent_in<S: Reclaim>(
     stock: &mut S,
-    table: &mut [Entry],
+    table: &mut [LiveSlots],
 ) -> Result<bool, NorError>
     requires served { IsServing table.old (S.state stock.old) (S.indexed stock.old) }
     ensures ok { OnOk result (KeptServing table.new (S.state stock.old) (S.state stock.new)
@@ -221,7 +225,7 @@ pub(crate) fn tidy_urgent_in<S: Reclaim>(
 /// zeros. A block that holds it with its group is converted first.
 pub(crate) fn clear_in<S: Reclaim>(
     stock: &mut S,
-    table: &mut [Entry],
+    table: &mut [LiveSlots],
     sector: u16,
 ) -> Result<(), NorError>
     requires served { IsServing table.old (S.state stock.old) (S.indexed stock.old) }
@@ -239,7 +243,11 @@ pub(crate) fn clear_in<S: Reclaim>(
 }
 
 /// Clears a sector that no block with its group holds.
-fn clear_own<S: Reclaim>(stock: &mut S, table: &mut [Entry], sector: u16) -> Result<(), NorError>
+fn clear_own<S: Reclaim>(
+    stock: &mut S,
+    table: &mut [LiveSlots],
+    sector: u16,
+) -> Result<(), NorError>
     requires served { IsServing table.old (S.state stock.old) (S.indexed stock.old) }
     requires own { IsInSlots sector (S.state stock.old).memory }
     requires number { sector < length table.old }

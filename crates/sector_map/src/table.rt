@@ -28,7 +28,7 @@ pub struct Held {
 
 /// The live slots of one sector. Source: own.
 #[derive(Clone, Copy, Debug, PartialEq, Eq, Drop)]
-pub enum Entry {
+pub enum LiveSlots {
     /// No slot holds the sector.
     Absent,
     /// One does.
@@ -37,15 +37,15 @@ pub enum Entry {
     Two(Held, Held),
 }
 
-impl Entry {
+impl LiveSlots {
     /// The slot that holds the sector: of two the newer one.
     pub fn holder(self) -> Option<Held>
         ensures { result ≡ holder self }
     {
         match self {
-            Entry::Absent => None,
-            Entry::One(held) => Some(held),
-            Entry::Two(newer, _) => Some(newer),
+            LiveSlots::Absent => None,
+            LiveSlots::One(held) => Some(held),
+            LiveSlots::Two(newer, _) => Some(newer),
         }
     }
 }
@@ -53,27 +53,27 @@ impl Entry {
 /// The entry once one more live slot of the sector was found; None if no write leaves these slots.
 /// There are four generations, round and round: of two neighbours exactly one is the other's next,
 /// and that is the newer.
-pub(crate) fn note(entry: Entry, held: Held) -> Option<Entry>
+pub(crate) fn note(entry: LiveSlots, held: Held) -> Option<LiveSlots>
     ensures { result ≡ noted entry held }
 {
     match entry {
-        Entry::Absent => Some(Entry::One(held)),
-        Entry::One(first) => {
+        LiveSlots::Absent => Some(LiveSlots::One(held)),
+        LiveSlots::One(first) => {
             if held.generation == first.generation.next() {
-                Some(Entry::Two(held, first))
+                Some(LiveSlots::Two(held, first))
             } else if first.generation == held.generation.next() {
-                Some(Entry::Two(first, held))
+                Some(LiveSlots::Two(first, held))
             } else {
                 None
             }
         }
-        Entry::Two(_, _) => None,
+        LiveSlots::Two(_, _) => None,
     }
 }
 
 /// Enters a live slot into the table; false, and nothing changes, where its sector is none of the
 /// table's or the slots are corrupt.
-pub(crate) fn enter(table: &mut [Entry], tag: Tag, slot: u16) -> bool
+pub(crate) fn enter(table: &mut [LiveSlots], tag: Tag, slot: u16) -> bool
     ensures { Enters table.old tag.number (record { slot = slot; generation = tag.generation })
         result table.new }
 {
@@ -96,7 +96,7 @@ pub(crate) fn enter(table: &mut [Entry], tag: Tag, slot: u16) -> bool
 
 /// Enters a slot that counts, by its descriptor; false, and nothing changes, where the slots are
 /// corrupt.
-pub fn enter_head(table: &mut [Entry], slot: u16, header: Header) -> bool
+pub fn enter_head(table: &mut [LiveSlots], slot: u16, header: Header) -> bool
     ensures { Heads table.old slot header result table.new }
 {
     match header {
@@ -108,26 +108,26 @@ pub fn enter_head(table: &mut [Entry], slot: u16, header: Header) -> bool
 }
 
 /// Leaves one slot in the entry of a sector.
-pub(crate) fn keep_one(table: &mut [Entry], sector: usize, held: Held)
+pub(crate) fn keep_one(table: &mut [LiveSlots], sector: usize, held: Held)
     requires number { sector < length table.old }
     ensures { KeptOne table.old sector held table.new }
 {
-    table[sector] = Entry::One(held);
+    table[sector] = LiveSlots::One(held);
 }
 
 /// Leaves no slot in the entry of a sector.
-pub(crate) fn unset(table: &mut [Entry], sector: usize)
+pub(crate) fn unset(table: &mut [LiveSlots], sector: usize)
     requires number { sector < length table.old }
     ensures { Unset table.old sector table.new }
 {
-    table[sector] = Entry::Absent;
+    table[sector] = LiveSlots::Absent;
 }
 
 /// After a block copy, points the entries of the sectors at the target's slots, by one read. If
 /// none was copied, does nothing.
 pub(crate) fn follow_copied<S: SlotCalls>(
     slots: &mut S,
-    table: &mut [Entry],
+    table: &mut [LiveSlots],
     copied: Option<Copied>,
 ) -> Result<(), NorError>
     requires number { IfSome copied (λ c. c.target < data_blocks (S.state slots.old).memory) }
@@ -152,7 +152,7 @@ pub(crate) fn follow_copied<S: SlotCalls>(
 /// Names the slots of a block in the entries of their sectors.
 fn follow_block<S: SlotCalls>(
     slots: &mut S,
-    table: &mut [Entry],
+    table: &mut [LiveSlots],
     block: u16,
 ) -> Result<(), NorError>
     requires number { block < data_blocks (S.state slots.old).memory }
@@ -175,7 +175,7 @@ fn follow_block<S: SlotCalls>(
 }
 
 /// Names the slots with these descriptors in the entries of their sectors.
-fn follow_heads(table: &mut [Entry], block: u16, heads: &[Header])
+fn follow_heads(table: &mut [LiveSlots], block: u16, heads: &[Header])
     requires number { block ≤ 4092 }
     requires room { length heads.now ≡ 7 }
     requires apart { AreApart heads.now (length table.old) }
@@ -188,7 +188,7 @@ fn follow_heads(table: &mut [Entry], block: u16, heads: &[Header])
 }
 
 /// Names a slot in its sector's entry, where it is live.
-fn follow_head(table: &mut [Entry], slot: u16, header: Header)
+fn follow_head(table: &mut [LiveSlots], slot: u16, header: Header)
     requires within { (tag : TagOf) → header ≡ headers.Live tag → tag.number < length table.old }
     ensures { FollowsHead slot header table.old table.new }
 {

@@ -27,8 +27,8 @@ use Rattle.sector_map.specs.Found.{FoundBelow}
 use Rattle.sector_map.specs.Marking.{may_have_groups}
 use Rattle.sector_map.specs.Maps.{IsMountable, is_layout, geometry_of}
 use Rattle.sector_map.specs.Table.{IsTabled, EntryHolds, Heads, noted, OneHolds, TwoHold}
-use Rattle.sector_map.specs.declared.table.Entry.{Entry}
-use Rattle.sector_map.specs.declared.table.Entry.TheVariants as entries
+use Rattle.sector_map.specs.declared.table.LiveSlots.{LiveSlots}
+use Rattle.sector_map.specs.declared.table.LiveSlots.TheVariants as entries
 use Rattle.sector_map.specs.declared.found.Found.{Found}
 use Rattle.sector_map.specs.declared.found.Found.TheVariants.{AtRest, Void, Committed}
 use Rattle.sector_map.specs.declared.table.Held.{Held}
@@ -160,7 +160,7 @@ bool-cases : (t : Bool) → (t ≡ true) ⊎ (t ≡ false)
 bool-cases true = inl refl
 bool-cases false = inr refl
 
-none-some : (b : Entry) → (None ≡ Some b) → ⊥
+none-some : (b : LiveSlots) → (None ≡ Some b) → ⊥
 none-some b e = cc
 
 next-is : (j k : Generation) → j ≡ next_generation k → is_next j k ≡ true
@@ -189,7 +189,7 @@ live-here f n total tag x low e = record { generation = tag.generation; content 
 held-here : (f : ℕ → Slot) (n total s g : ℕ) (k : Generation) (x : List ℕ) → n < total → LiveAt f n s g k x → LiveAt f total s g k x
 held-here f n total s g k x low l = (let b = l.number in record { number = omega (arith, b, low); is = l.is })
 
-one-apart : (table : List Entry) (f : ℕ → Slot) (n total g : ℕ) (held : Held) (tag : Tag) (x : List ℕ) → g ≡ tag.number → n < total → f n ≡ Live tag x → OneHolds held f n g → noted (entries.One held) (record { slot = n; generation = tag.generation }) ≡ None → AreNoNeighbours f total held.slot n g
+one-apart : (table : List LiveSlots) (f : ℕ → Slot) (n total g : ℕ) (held : Held) (tag : Tag) (x : List ℕ) → g ≡ tag.number → n < total → f n ≡ Live tag x → OneHolds held f n g → noted (entries.One held) (record { slot = n; generation = tag.generation }) ≡ None → AreNoNeighbours f total held.slot n g
 one-apart table f n total g held tag x same low here o none =
     let l = o.live.1 in
     let b = l.number in
@@ -214,10 +214,10 @@ two-three f n total g newer older tag x same low here o =
       one_three = λ e. omega (arith, e, a);
     }
 
-entry-at : (table : List Entry) (f : ℕ → Slot) (n g : ℕ) (e : Entry) → IsTabled table f n → g < length table → slice_index_or table g entries.Absent ≡ e → EntryHolds e f n g
+entry-at : (table : List LiveSlots) (f : ℕ → Slot) (n g : ℕ) (e : LiveSlots) → IsTabled table f n → g < length table → slice_index_or table g entries.Absent ≡ e → EntryHolds e f n g
 entry-at table f n g e t low is = subst (λ z. EntryHolds z f n g) is (t.each g low)
 
-tag-fault : (finding : Finding) (table : List Entry) (f : ℕ → Slot) (n total count : ℕ) (tag : Tag) (x : List ℕ) → IsTagFault finding table n tag → n < total → f n ≡ Live tag x → IsTabled table f n → length table ≡ count → IsSlotFault finding f total count
+tag-fault : (finding : Finding) (table : List LiveSlots) (f : ℕ → Slot) (n total count : ℕ) (tag : Tag) (x : List ℕ) → IsTagFault finding table n tag → n < total → f n ≡ Live tag x → IsTabled table f n → length table ≡ count → IsSlotFault finding f total count
 tag-fault findings.OtherLayout table f n total count tag x h low here t size = absurd h
 tag-fault findings.OtherSize table f n total count tag x h low here t size = absurd h
 tag-fault (findings.Journals fault) table f n total count tag x h low here t size = absurd h
@@ -238,7 +238,7 @@ tag-fault (findings.ThreeSlots r s w g) table f n total count tag x h low here t
     subst (λ z. AreThree f total z s w g) (sym h.5) (subst (λ z. AreThree f total h.3.slot z w g) (sym h.6) (subst (λ z. AreThree f total h.3.slot h.4.slot z g) (sym h.0) (two-three f n total g h.3 h.4 tag x h.1 low here o)))
 tag-fault (findings.TwoLayouts s w g) table f n total count tag x h low here t size = absurd h
 
-pub head-fault : (finding : Finding) (table : List Entry) (f : ℕ → Slot) (n total count : ℕ) (header : Header) (x : List ℕ) → IsHeadFault finding table n header → n < total → f n ≡ slot_with header x → IsTabled table f n → length table ≡ count → IsSlotFault finding f total count
+pub head-fault : (finding : Finding) (table : List LiveSlots) (f : ℕ → Slot) (n total count : ℕ) (header : Header) (x : List ℕ) → IsHeadFault finding table n header → n < total → f n ≡ slot_with header x → IsTabled table f n → length table ≡ count → IsSlotFault finding f total count
 head-fault finding table f n total count headers.Free x h low here t size = absurd h
 head-fault finding table f n total count (headers.Live tag) x h low here t size = tag-fault finding table f n total count tag x h low here t size
 head-fault finding table f n total count headers.NoGeneration x h low here t size = subst (λ z. IsSlotFault z f total count) (sym h) (low, here)
@@ -261,7 +261,7 @@ slot-explains (findings.ThreeSlots r s t g) m h = h
 slot-explains (findings.TwoLayouts s t g) m h = absurd h
 
 -- a sector of which one of two slots lies in a block of a group
-pub mixed-explains : (table : List Entry) (m : List ℕ) (g : ℕ) (newer older : Held) → IsTabled table (slot_at m) (slot_count m) → g < length table → slice_index_or table g entries.Absent ≡ entries.Two newer older → is_group (kind_at m (newer.slot / 7)) ≢ is_group (kind_at m (older.slot / 7)) → Explains (findings.TwoLayouts newer.slot older.slot g) m
+pub mixed-explains : (table : List LiveSlots) (m : List ℕ) (g : ℕ) (newer older : Held) → IsTabled table (slot_at m) (slot_count m) → g < length table → slice_index_or table g entries.Absent ≡ entries.Two newer older → is_group (kind_at m (newer.slot / 7)) ≢ is_group (kind_at m (older.slot / 7)) → Explains (findings.TwoLayouts newer.slot older.slot g) m
 mixed-explains table m g newer older t low is differ =
     let h = pair-held table m g newer older t low is in
     record {
@@ -271,13 +271,13 @@ mixed-explains table m g newer older t low is differ =
     }
 
 -- a slot that can't be entered leaves the table as it was, and can't be entered again
-pub heads-same : (old new : List Entry) (n : ℕ) (header : Header) → Heads old n header false new → new ≡ old
+pub heads-same : (old new : List LiveSlots) (n : ℕ) (header : Header) → Heads old n header false new → new ≡ old
 heads-same old new n headers.Free h = absurd h
 heads-same old new n (headers.Live tag) h = h.0
 heads-same old new n headers.NoGeneration h = h
 heads-same old new n headers.Dead h = absurd h
 
-pub heads-again : (old new : List Entry) (n : ℕ) (header : Header) → Heads old n header false new → Heads new n header false new
+pub heads-again : (old new : List LiveSlots) (n : ℕ) (header : Header) → Heads old n header false new → Heads new n header false new
 heads-again old new n header h = subst (λ z. Heads z n header false new) (sym (heads-same old new n header h)) h
 
 pub some-weaker : {T : Type 0} (o : Option T) (P Q : T → Type 0) → ((x : T) → P x → Q x) → IfSome o P → IfSome o Q
@@ -285,15 +285,15 @@ some-weaker None P Q w h = tt
 some-weaker (Some x) P Q w h = w x h
 
 -- What the loop over the table keeps: of the sectors below k none has a mixed pair.
-pub record Unmixed (table : List Entry) (k : ℕ) (a b : NorState) : Type 0 where
+pub record Unmixed (table : List LiveSlots) (k : ℕ) (a b : NorState) : Type 0 where
   pub same : b.memory ≡ a.memory
   pub since : (b ≡ a) ⊎ SucceedsSettled a b
   pub apart : ApartBelow table a.memory k
 
-pub unmixed-quiet : (table : List Entry) (k next : ℕ) (a b c : NorState) → suc k ≡ next → c ≡ b → ((x y : Held) → slice_index_or table k entries.Absent ≢ entries.Two x y) → Unmixed table k a b → Unmixed table next a c
+pub unmixed-quiet : (table : List LiveSlots) (k next : ℕ) (a b c : NorState) → suc k ≡ next → c ≡ b → ((x y : Held) → slice_index_or table k entries.Absent ≢ entries.Two x y) → Unmixed table k a b → Unmixed table next a c
 unmixed-quiet table k next a b c e s none h = subst (λ z. Unmixed table next a z) (sym s) (subst (λ z. Unmixed table z a b) e (record { same = h.same; since = h.since; apart = apart-quiet table a.memory k none h.apart }))
 
-pub unmixed-two : (table : List Entry) (k next : ℕ) (x y : Held) (a b c d : NorState) → suc k ≡ next → d ≡ c → slice_index_or table k entries.Absent ≡ entries.Two x y → c.memory ≡ b.memory → SucceedsSettled b c
+pub unmixed-two : (table : List LiveSlots) (k next : ℕ) (x y : Held) (a b c d : NorState) → suc k ≡ next → d ≡ c → slice_index_or table k entries.Absent ≡ entries.Two x y → c.memory ≡ b.memory → SucceedsSettled b c
     → is_group (kind_at b.memory (x.slot / 7)) ≡ is_group (kind_at b.memory (y.slot / 7)) → Unmixed table k a b → Unmixed table next a d
 unmixed-two table k next x y a b c d e s is same done alike h = subst (λ z. Unmixed table next a z) (sym s) (subst (λ z. Unmixed table z a c) e (record {
   same = same ∙ h.same;

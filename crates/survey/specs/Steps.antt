@@ -10,8 +10,8 @@ use Rattle.nor_layout.specs.declared.kind.Kind.TheVariants as kinds
 use Rattle.sector_slots.specs.Slots.{Slot, is_group}
 use Rattle.sector_map.specs.Scan.{HeadsOf}
 use Rattle.sector_map.specs.Table.{IsTabled, noted}
-use Rattle.sector_map.specs.declared.table.Entry.{Entry}
-use Rattle.sector_map.specs.declared.table.Entry.TheVariants.{Absent, One, Two}
+use Rattle.sector_map.specs.declared.table.LiveSlots.{LiveSlots}
+use Rattle.sector_map.specs.declared.table.LiveSlots.TheVariants.{Absent, One, Two}
 use Rattle.sector_map.specs.declared.found.Found.{Found}
 use Rattle.sector_map.specs.declared.found.Found.TheVariants.{AtRest, Void, Committed}
 use Rattle.sector_map.specs.declared.table.Held.{Held}
@@ -46,7 +46,7 @@ IsKindFault (findings.ThreeSlots r s t g) groups found block kind n = ⊥
 IsKindFault (findings.TwoLayouts s t g) groups found block kind n = ⊥
 
 -- why one more live slot n, with this tag, is not entered into a table
-abbrev pub IsTagFault : Finding → List Entry → ℕ → Tag → Type 0
+abbrev pub IsTagFault : Finding → List LiveSlots → ℕ → Tag → Type 0
 IsTagFault findings.OtherLayout table n tag = ⊥
 IsTagFault findings.OtherSize table n tag = ⊥
 IsTagFault (findings.Journals fault) table n tag = ⊥
@@ -68,14 +68,14 @@ IsTagFault (findings.ThreeSlots r s t g) table n tag =
 IsTagFault (findings.TwoLayouts s t g) table n tag = ⊥
 
 -- why one more slot n, with this descriptor, isn't
-abbrev pub IsHeadFault : Finding → List Entry → ℕ → Header → Type 0
+abbrev pub IsHeadFault : Finding → List LiveSlots → ℕ → Header → Type 0
 IsHeadFault finding table n headers.Free = ⊥
 IsHeadFault finding table n (headers.Live tag) = IsTagFault finding table n tag
 IsHeadFault finding table n headers.NoGeneration = finding ≡ findings.NoGeneration n
 IsHeadFault finding table n headers.Dead = ⊥
 
 -- so the slots of data block b, which has these descriptors, are corrupt
-abbrev pub FaultsBlock : List Header → ℕ → List Entry → Finding → Type 0
+abbrev pub FaultsBlock : List Header → ℕ → List LiveSlots → Finding → Type 0
 FaultsBlock heads b old finding = (f : ℕ → Slot) (total count : ℕ) → HeadsOf heads f b
     → 7 * b + 7 ≤ total → IsTabled old f (7 * b) → length old ≡ count
     → IsSlotFault finding f total count

@@ -14,7 +14,7 @@ use crate::room::lacks_room;
 use crate::table::read_slots;
 use nor_driver::NorError;
 use nor_layout::SUPER_LEN;
-use sector_map::Entry;
+use sector_map::LiveSlots;
 use sector_slots::SlotCalls;
 
 /// Why the blocks and slots behind recovered journals are corrupt; None exactly where they are
@@ -22,7 +22,7 @@ use sector_slots::SlotCalls;
 /// memory is changed.
 pub fn diagnose<S: SlotCalls>(
     slots: &mut S,
-    table: &mut [Entry],
+    table: &mut [LiveSlots],
 ) -> Result<Option<Finding>, NorError>
     requires size { length table.old ≡ sector_count (length (S.state slots.old).memory) }
     ensures fault { IfOk result (λ says. IfSome says (λ fault.
@@ -33,7 +33,7 @@ pub fn diagnose<S: SlotCalls>(
     ensures ends { EndsSettled result (S.state slots.old) (S.state slots.new) }
 {
     let _blocks = slots.blocks();
-    table.fill(Entry::Absent);
+    table.fill(LiveSlots::Absent);
     let groups = has_groups(slots)?;
     let found = match read_kinds(slots, groups)? {
         Ok(found) => found,

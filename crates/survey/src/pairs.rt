@@ -12,13 +12,16 @@ ghost use Rattle.survey.specs.Findings.{Explains};
 use crate::Finding;
 use nor_driver::NorError;
 use nor_layout::Kind;
-use sector_map::Entry;
+use sector_map::LiveSlots;
 use sector_slots::SlotCalls;
 
 /// The first sector, by the table, of which one of two slots lies in a block of a group and the
 /// other doesn't.
 #[tactic(auto, using(sector_map::proofs::Calls::repeated_calls))]
-pub fn find_mixed<S: SlotCalls>(slots: &mut S, table: &[Entry]) -> Result<Option<Finding>, NorError>
+pub fn find_mixed<S: SlotCalls>(
+    slots: &mut S,
+    table: &[LiveSlots],
+) -> Result<Option<Finding>, NorError>
     requires tabled { IsTabled table.now (slot_at (S.state slots.old).memory)
         (slot_count (S.state slots.old).memory) }
     requires few { length table.now < 65536 }
@@ -33,9 +36,9 @@ pub fn find_mixed<S: SlotCalls>(slots: &mut S, table: &[Entry]) -> Result<Option
 {
     for sector in 0..table.len() {
         match table[sector] {
-            Entry::Absent => {}
-            Entry::One(_) => {}
-            Entry::Two(newer, older) => {
+            LiveSlots::Absent => {}
+            LiveSlots::One(_) => {}
+            LiveSlots::Two(newer, older) => {
                 if are_unlike(slots, newer.slot / 7, older.slot / 7)? {
                     return Ok(Some(Finding::TwoLayouts {
                         first: newer.slot,

@@ -11,7 +11,7 @@ ghost use Rattle.sector_map.specs.Table.{IsTabled};
 ghost use Rattle.survey.specs.Findings.{HasNoRoom};
 
 use nor_driver::NorError;
-use sector_map::{Entry, Found, has_pair, is_spare, lowest_dead_group};
+use sector_map::{Found, LiveSlots, has_pair, is_spare, lowest_dead_group};
 use sector_slots::SlotCalls;
 
 /// Whether one of the blocks is wholly free.
@@ -38,7 +38,7 @@ pub fn has_spare<S: SlotCalls>(slots: &mut S) -> Result<bool, NorError>
 /// Whether no block is wholly free nor can be made so, where no copying goes on.
 pub fn lacks_room<S: SlotCalls>(
     slots: &mut S,
-    table: &[Entry],
+    table: &[LiveSlots],
     found: Found,
 ) -> Result<bool, NorError>
     requires found { FoundIn found (S.state slots.old).memory }
@@ -61,7 +61,7 @@ pub fn lacks_room<S: SlotCalls>(
 }
 
 /// Whether no block is wholly free nor can be made so, of blocks in which no copying goes on.
-fn is_full<S: SlotCalls>(slots: &mut S, table: &[Entry]) -> Result<bool, NorError>
+fn is_full<S: SlotCalls>(slots: &mut S, table: &[LiveSlots]) -> Result<bool, NorError>
     requires found { FoundIn Found.AtRest (S.state slots.old).memory }
     requires tabled { IsTabled table.now (slot_at (S.state slots.old).memory)
         (slot_count (S.state slots.old).memory) }

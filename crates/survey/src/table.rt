@@ -15,7 +15,7 @@ ghost use Rattle.survey.specs.Steps.{FaultsBlock, IsHeadFault, IsTagFault};
 use crate::Finding;
 use nor_driver::NorError;
 use nor_layout::{Header, Tag};
-use sector_map::{Entry, Found, enter_head, is_counted};
+use sector_map::{Found, LiveSlots, enter_head, is_counted};
 use sector_slots::SlotCalls;
 
 /// Reads the descriptors of all blocks that count into a table in which every sector is absent; or
@@ -23,7 +23,7 @@ use sector_slots::SlotCalls;
 #[tactic(auto, using(sector_map::proofs::Calls::repeated_calls))]
 pub fn read_slots<S: SlotCalls>(
     slots: &mut S,
-    table: &mut [Entry],
+    table: &mut [LiveSlots],
     found: Found,
 ) -> Result<Option<Finding>, NorError>
     requires blank { IsBlankTable table.old }
@@ -50,7 +50,7 @@ pub fn read_slots<S: SlotCalls>(
 /// Enters the slots of a block into the table, where they count; or why they are corrupt.
 fn read_block<S: SlotCalls>(
     slots: &mut S,
-    table: &mut [Entry],
+    table: &mut [LiveSlots],
     found: Found,
     block: u16,
 ) -> Result<Option<Finding>, NorError>
@@ -78,7 +78,7 @@ fn read_block<S: SlotCalls>(
 
 /// Enters the seven slots of a block that counts into the table of those before it; or why they are
 /// corrupt.
-fn enter_seven(table: &mut [Entry], block: u16, heads: &[Header]) -> Option<Finding>
+fn enter_seven(table: &mut [LiveSlots], block: u16, heads: &[Header]) -> Option<Finding>
     requires number { block ≤ 4092 }
     requires room { length heads.now ≡ 7 }
     ensures entered { result ≡ None → EntersBlock heads.now block table.old table.new }
@@ -95,7 +95,7 @@ fn enter_seven(table: &mut [Entry], block: u16, heads: &[Header]) -> Option<Find
 }
 
 /// Why a slot with this descriptor can't be entered into a table.
-fn head_fault(table: &[Entry], slot: u16, header: Header) -> Finding
+fn head_fault(table: &[LiveSlots], slot: u16, header: Header) -> Finding
     requires { Heads table.now slot header false table.now }
     ensures { IsHeadFault result table.now slot header }
 {
@@ -108,7 +108,7 @@ fn head_fault(table: &[Entry], slot: u16, header: Header) -> Finding
 }
 
 /// Why a live slot with this tag can't be entered into a table.
-fn tag_fault(table: &[Entry], slot: u16, tag: Tag) -> Finding
+fn tag_fault(table: &[LiveSlots], slot: u16, tag: Tag) -> Finding
     requires { Heads table.now slot (headers.Live tag) false table.now }
     ensures { IsTagFault result table.now slot tag }
 {
@@ -117,13 +117,13 @@ fn tag_fault(table: &[Entry], slot: u16, tag: Tag) -> Finding
         return Finding::NoSuchSector { slot, sector };
     }
     match table[sector as usize] {
-        Entry::Absent => unreachable!(),
-        Entry::One(held) => Finding::NotNeighbours {
+        LiveSlots::Absent => unreachable!(),
+        LiveSlots::One(held) => Finding::NotNeighbours {
             first: held.slot,
             second: slot,
             sector,
         },
-        Entry::Two(newer, older) => Finding::ThreeSlots {
+        LiveSlots::Two(newer, older) => Finding::ThreeSlots {
             first: newer.slot,
             second: older.slot,
             third: slot,

@@ -17,7 +17,7 @@ use erase_journal::{Journal, RecoverError};
 use journal_slots::SectorSlots;
 use nor_driver::{Nor, NorError, ProbeError};
 use nor_layout::{Layout, SUPER_LEN, SuperError, read_layout};
-use sector_map::Entry;
+use sector_map::LiveSlots;
 use std::alloc::Global;
 
 /// What a mount of a memory would answer.
@@ -87,7 +87,7 @@ fn examine_store<N: Nor>(alloc: Global, nor: N, layout: Layout) -> (N, Result<Ve
     let Some(chip) = Geometry::of(nor.bytes()) else {
         unreachable!()
     };
-    let Ok(mut table) = vec![in alloc; Entry::Absent; chip.sectors as usize] else {
+    let Ok(mut table) = vec![in alloc; LiveSlots::Absent; chip.sectors as usize] else {
         return (nor, Err(Unexamined::OutOfMemory));
     };
     match Journal::recover(nor) {
@@ -120,7 +120,7 @@ fn examine_journals<N: Nor>(nor: N) -> (N, Result<Verdict, Unexamined>)
 /// What the blocks and slots behind recovered journals say.
 fn examine_slots<N: Nor>(
     slots: SectorSlots<N>,
-    table: &mut [Entry],
+    table: &mut [LiveSlots],
     layout: Layout,
 ) -> (N, Result<Verdict, Unexamined>)
     requires ready { IsNorReady slots }

@@ -2,7 +2,7 @@
 
 use fault_model::SimChip;
 use nor_driver::{Driver, NorError};
-use sector_map::{MountError, SectorMap};
+use sector_map::{MapError, SectorMap};
 use std::alloc::Global;
 use std::test::*;
 use test_kit::chips::{filled, set};
@@ -47,7 +47,7 @@ pub(crate) fn formatted(alloc: Global) -> Result<Vec<u8>, Fail> {
 /// What a mount gave: a map, or why it was refused and the memory that it left.
 pub(crate) enum Outcome {
     Whole(Sectors),
-    Refused(MountError, Vec<u8>),
+    Refused(MapError, Vec<u8>),
 }
 
 /// Mounts a chip.

@@ -5,15 +5,19 @@ ghost use Rattle.std.specs.Io.KnownBytes.{Consumes, IsAtEnd};
 
 use block_device::Source;
 use std::alloc::Global;
+use thiserror::Error;
 
 /// Why the bytes weren't taken. Source: own.
-#[derive(Clone, Copy, Debug, PartialEq, Eq, Drop)]
+#[derive(Clone, Copy, Debug, PartialEq, Eq, Drop, Error)]
 pub enum InputError {
     /// There is no memory for them.
+    #[error("no memory for the bytes")]
     OutOfMemory,
     /// A read failed.
+    #[error("a read failed")]
     Failed,
     /// The stream has fewer bytes, or more.
+    #[error("the stream has fewer bytes, or more")]
     OtherLength,
 }
 

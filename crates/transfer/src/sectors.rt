@@ -9,16 +9,19 @@ ghost use Rattle.block_device.specs.Facts.{CountsNeverFall, IsDiskReady};
 use crate::observer::Observer;
 use block_device::{Disk, DiskError};
 use std::alloc::Global;
+use thiserror::Error;
 
 /// The bytes of a sector.
 const SECTOR_LEN: usize = 512;
 
 /// Why sectors weren't taken. Source: own.
-#[derive(Clone, Copy, Debug, PartialEq, Eq, Drop)]
+#[derive(Clone, Copy, Debug, PartialEq, Eq, Drop, Error)]
 pub enum TransferError {
     /// There is no memory for their bytes.
+    #[error("no memory for the bytes")]
     OutOfMemory,
     /// The disk didn't give them.
+    #[error("the disk refused: {0}")]
     Disk(DiskError),
 }
 

@@ -3,7 +3,7 @@ use Rattle.std.specs.Prelude.{None, Some, ◌/◌, slice_index_or}
 use Rattle.std.proofs.lemmas.Result.{err_from_is_err_and}
 use Rattle.sector_map.specs.Replace.{HeldBy, IsInSlots}
 use Rattle.sector_map.specs.Table.{holder}
-use Rattle.sector_map.specs.declared.table.Entry.TheVariants.{Absent}
+use Rattle.sector_map.specs.declared.table.LiveSlots.TheVariants.{Absent}
 use Rattle.sector_map.proofs.Retiring.{table-holder, single-tabled}
 use Rattle.sector_map.proofs.MapCalls.{served-room, served-converts, served-steps, stays-keeps, same-moved-keeps, stepped, perhaps-after}
 use Rattle.sector_map.proofs.Leaving.{own-absent, own-held, own-converted, group-is_live}
