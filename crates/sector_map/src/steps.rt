@@ -20,7 +20,7 @@ use crate::Held;
 use crate::table::{LiveSlots, follow_copied, keep_one, unset};
 use nor_driver::NorError;
 use nor_layout::{Generation, Tag};
-use sector_stock::{Next, Reclaim};
+use sector_stock::{Purpose, Reclaim};
 
 /// Writes a sector into a slot that it takes, and retires the slot that held it, if one did. Before
 /// that it moves a block for its wear, if it is time for it, and converts a block that holds the
@@ -60,13 +60,17 @@ fn make_way<S: Reclaim>(stock: &mut S, table: &mut [LiveSlots], sector: u16) -> 
     ensures size { length (S.state stock.new).memory ≡ length (S.state stock.old).memory }
     ensures ends { EndsSettled result (S.state stock.old) (S.state stock.new) }
 {
-    level_in(stock, table, Next::Give)?;
+    level_in(stock, table, Purpose::Give)?;
     leave_group(stock, table, sector)
 }
 
 /// Moves a block whose sectors rest, if it is time for it. The table follows, and no sector
 /// changes.
-fn level_in<S: Reclaim>(stock: &mut S, table: &mut [LiveSlots], next: Next) -> Result<(), NorError>
+fn level_in<S: Reclaim>(
+    stock: &mut S,
+    table: &mut [LiveSlots],
+    purpose: Purpose,
+) -> Result<(), NorError>
     requires served { IsServing table.old (S.state stock.old) (S.indexed stock.old) }
     ensures ok { OnOk result (KeptServing table.new (S.state stock.old) (S.state stock.new)
         (S.indexed stock.new)) }
@@ -80,7 +84,7 @@ fn level_in<S: Reclaim>(stock: &mut S, table: &mut [LiveSlots], next: Next) -> R
     ensures size { length (S.state stock.new).memory ≡ length (S.state stock.old).memory }
     ensures ends { EndsSettled result (S.state stock.old) (S.state stock.new) }
 {
-    match stock.level(next)? {
+    match stock.level(purpose)? {
         Some(moved) => {
             follow_copied(stock, table, Some(moved))?;
             Ok(())
@@ -165,7 +169,7 @@ pub(crate) fn tidy_in<S: Reclaim>(stock: &mut S, table: &mut [LiveSlots]) -> Res
     ensures size { length (S.state stock.new).memory ≡ length (S.state stock.old).memory }
     ensures ends { EndsSettled result (S.state stock.old) (S.state stock.new) }
 {
-    level_in(stock, table, Next::Tidy)?;
+    level_in(stock, table, Purpose::Tidy)?;
     tidy_own(stock, table)
 }
 

@@ -14,7 +14,7 @@ use nor_driver::{Nor, NorError};
 use nor_layout::{Header, Kind, Tag};
 use sector_slots::SlotCalls;
 use sector_stock::{
-    BlockState, Copied, Cursors, Given, Next, Policy, Reclaim, SlotState, convert_block,
+    BlockState, Copied, Cursors, Given, Policy, Purpose, Reclaim, SlotState, convert_block,
     fill_index, is_short, level_block, mark_dead, mark_written, take_slot, tidy_block,
 };
 
@@ -234,14 +234,14 @@ impl<N: Nor> Reclaim for Stock<N> {
         Ok(copied)
     }
 
-    fn level(&mut self, next: Next) -> Result<Option<Copied>, NorError> {
+    fn level(&mut self, purpose: Purpose) -> Result<Option<Copied>, NorError> {
         self.indexed = false;
         let moved = level_block(
             &mut self.slots,
             self.states.as_mut_slice(),
             self.blocks.as_mut_slice(),
             &mut self.at,
-            next,
+            purpose,
         )?;
         self.indexed = true;
         Ok(moved)

@@ -33,7 +33,7 @@ pub use copy::{end_committed, end_erased, end_void};
 pub use given::{Copied, Given};
 pub use index::{BlockState, Cursors, SlotState, mark_dead};
 pub use laws::{never_full, slots_outnumber_sectors, sound_maps_have_room};
-pub use policy::{Next, Policy, level_block};
+pub use policy::{Policy, Purpose, level_block};
 pub use reclaim::Reclaim;
 pub use room::is_short;
 pub use scan::fill_index;

@@ -41,9 +41,9 @@ pub enum Policy {
     Level,
 }
 
-/// What is done next, where a block is moved for its wear first.
+/// What a block is moved for its wear before.
 #[derive(Clone, Copy, Debug, PartialEq, Eq, Drop)]
-pub enum Next {
+pub enum Purpose {
     /// A slot is given: a block is moved only where one has to be copied anyway.
     Give,
     /// A block is tidied.
@@ -209,7 +209,7 @@ fn more_worn(blocks: &[BlockState], old: u16, new: u16) -> u16
 
 /// The block that is moved for its wear now, and where to; None where it isn't time for it, or
 /// there is none.
-fn move_due(blocks: &[BlockState], at: &mut Cursors, next: Next) -> Option<Copied>
+fn move_due(blocks: &[BlockState], at: &mut Cursors, purpose: Purpose) -> Option<Copied>
     requires size { length blocks.now < 65536 }
     requires ahead { IsAhead blocks.now at.old }
     ensures due { IfSome result (λ c. IsDue blocks.now c.source c.target) }
@@ -222,7 +222,7 @@ fn move_due(blocks: &[BlockState], at: &mut Cursors, next: Next) -> Option<Copie
     if at.policy == Policy::Lowest || at.turn < TURN {
         return None;
     }
-    if next == Next::Give && block_with_free(blocks, at).is_some() {
+    if purpose == Purpose::Give && block_with_free(blocks, at).is_some() {
         return None;
     }
     let Some(worst) = most_dead(blocks, at) else {
@@ -301,7 +301,7 @@ pub fn level_block<S: SlotCalls>(
     states: &mut [SlotState],
     blocks: &mut [BlockState],
     at: &mut Cursors,
-    next: Next,
+    purpose: Purpose,
 ) -> Result<Option<Copied>, NorError>
     requires sized { IsChipSize (length (S.state slots.old).memory) }
     requires ready { IsNorReady (S.state slots.old) }
@@ -328,7 +328,7 @@ pub fn level_block<S: SlotCalls>(
     ensures blocks_size { length blocks.new ≡ length blocks.old }
     ensures ends { EndsSettled result (S.state slots.old) (S.state slots.new) }
 {
-    let Some(due) = move_due(blocks, at, next) else {
+    let Some(due) = move_due(blocks, at, purpose) else {
         return Ok(None);
     };
     let turn = at.turn;

@@ -23,7 +23,7 @@ ghost use Rattle.sector_stock.specs.Index.{is_live_group};
 ghost use Rattle.sector_stock.specs.declared.given.Copied.{Copied as CopiedOf};
 
 use crate::given::{Copied, Given};
-use crate::policy::{Next, Policy};
+use crate::policy::{Policy, Purpose};
 use nor_driver::NorError;
 use nor_layout::Tag;
 use sector_slots::SlotCalls;
@@ -108,9 +108,9 @@ pub trait Reclaim: SlotCalls {
 
     /// Moves a block whose sectors rest into a wholly free one, where it is time for it, so that
     /// the block is written to again: the blocks. Where it isn't, nothing changes: None. By number
-    /// it never is. It comes before a `take_free` or a `tidy`, as `next` says, and a block with
+    /// it never is. It comes before a `take_free` or a `tidy`, as `purpose` says, and a block with
     /// dead slots is still left to be copied. Cut, it leaves what `take_free` does.
-    fn level(&mut self, next: Next) -> Result<Option<Copied>, NorError>
+    fn level(&mut self, purpose: Purpose) -> Result<Option<Copied>, NorError>
         requires ready { IsNorReady (Self.state self.old) }
         requires settled { IsSettled (Self.state self.old).memory }
         requires room { HasRoom (Self.state self.old).memory }
