@@ -1,11 +1,11 @@
 //! A server with its history, which exists in proofs alone, so that a server that keeps no rows has
 //! one too.
 
-ghost use Rattle.std.specs.Prelude.{◌≡◌, ◌+◌, ◌<◌, ℕ, List, [], length, None, true, false, IfSome};
+ghost use Rattle.std.specs.Prelude.{◌≡◌, ◌+◌, ◌<◌, ℕ, [], length, None, true, false, IfSome};
 ghost use mathlib.Core.List.{IsPrefix};
-ghost use Rattle.history.specs.Notes.{entries_by};
 ghost use Rattle.nbd_wire.specs.Commands.{judge_of};
 ghost use Rattle.nbd_wire.specs.Lent.{lent_len};
+ghost use Rattle.history.specs.Notes.{entries_by};
 ghost use Rattle.share.specs.Doing.{Executes, Tidied};
 ghost use Rattle.share.specs.History.{IsLegal};
 ghost use Rattle.share.specs.Locking.{AddsRow, IsChronicled, IsHistoryOf, connection_of, start_of};

@@ -1,8 +1,7 @@
 //! What keeps the rows, or nothing.
 
-ghost use Rattle.std.specs.Prelude.{◌≡◌, ℕ, ◌+◌, ◌<◌, ◌≤◌, ◌^◌, ◌∷◌, ◌++◌, List, [], length, Bool};
-ghost use Rattle.std.specs.Prelude.{true, false, Option, Some, None, OnOk, IsOk, vec_len};
-ghost use Rattle.std.specs.Prelude.{vec_capacity};
+ghost use Rattle.std.specs.Prelude.{◌≡◌, ℕ, ◌<◌, ◌≤◌, ◌^◌, List, [], length, Bool, true, false};
+ghost use Rattle.std.specs.Prelude.{Option, Some, None, OnOk, IsOk, vec_len, vec_capacity};
 ghost use Rattle.nbd_wire.specs.Lent.{payload_in, reply_in};
 
 use history::OfHand;

@@ -1,10 +1,9 @@
 //! One disk with its recorder: a command is run, and its row kept.
 
-ghost use Rattle.std.specs.Prelude.{◌≡◌, ◌⊎◌, ℕ, ◌+◌, ◌*◌, ◌/◌, ◌%◌, ◌<◌, ◌≤◌, ◌^◌, ◌↔◌, List, []};
-ghost use Rattle.std.specs.Prelude.{◌∷◌, ◌++◌, length, Bool, true, false, Option, Some, None};
-ghost use Rattle.std.specs.Prelude.{IfSome, IfNone, IsSome, OnSome, IfOk, IfErr, OnErr};
-ghost use Rattle.std.specs.Prelude.{MatchResult, vec_len, sum_by};
-ghost use Rattle.block_device.specs.Facts.{Facts, CountsNeverFall, Tidies};
+ghost use Rattle.std.specs.Prelude.{◌≡◌, ◌⊎◌, ℕ, ◌+◌, ◌*◌, ◌<◌, ◌^◌, ◌↔◌, [], length, true, false};
+ghost use Rattle.std.specs.Prelude.{Option, None, IfSome, IfNone, IsSome, OnSome, IfOk, IfErr};
+ghost use Rattle.std.specs.Prelude.{vec_len, sum_by};
+ghost use Rattle.block_device.specs.Facts.{CountsNeverFall};
 ghost use Rattle.nbd_wire.specs.Commands.{judge_of};
 ghost use Rattle.nbd_wire.specs.Lent.{lent_len};
 ghost use Rattle.share.specs.History.{row_of, rows_with};

@@ -1,6 +1,6 @@
 use Rattle.std.proofs.Common.{refl}
 use Rattle.share.specs.Connection.{answer_bytes}
-use Rattle.share.proofs.clerk.ClerkPeer.answer.Goals as goal
+use Rattle.share.proofs.attending.ClerkPeer.answer.Goals as goal
 
 pub returns-in-Err-clause-answers : goal.returns-in-Err-clause-answers
 returns-in-Err-clause-answers g c =
