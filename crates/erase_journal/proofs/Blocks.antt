@@ -9,7 +9,7 @@ use Rattle.erase_journal.specs.Places.{Spoiled, Changed}
 use Rattle.nor_layout.specs.declared.journal.JournalId.{JournalId}
 use Rattle.nor_layout.specs.declared.journal.JournalId.TheVariants.{J0, J1, J2}
 use Rattle.erase_journal.specs.declared.phase.ErasePhase.TheVariants.{Idle, Asked, Doomed, Closing}
-use Rattle.erase_journal.specs.Journals.{survey_of, first, second, open_entries, entries_for, is_open_entry, entry_block, AreJournalsSound}
+use Rattle.erase_journal.specs.Journals.{tally_of, first, second, open_entries, entries_for, is_open_entry, entry_block, AreJournalsSound}
 use Rattle.erase_journal.specs.Blocks.{blank, block, blocks_of, listed, SameChip, SameBlocks, WithErased}
 use Rattle.erase_journal.proofs.Counts.{how_many-below}
 use Rattle.erase_journal.proofs.Entries.{named-change, state-changed, state-is, not-open}
@@ -44,7 +44,7 @@ pub plain-none : (m : List ℕ) → open_entries m ≡ 0 → IsPlain m
 unfolding block
 plain-none m none = record { own = λ b. let low = named-below m b in grind (arith, nat_tests) }
 
-pub plain-doomed : (m : List ℕ) → (first (survey_of m) J0).opened ≡ 1 → (second (survey_of m) J0).opened ≡ 1 → IsPlain m
+pub plain-doomed : (m : List ℕ) → (first (tally_of m) J0).opened ≡ 1 → (second (tally_of m) J0).opened ≡ 1 → IsPlain m
 unfolding block
 plain-doomed m one two = record { own = λ b. grind (arith, nat_tests) }
 

@@ -8,12 +8,12 @@ use Rattle.nor_layout.specs.declared.journal.JournalId.TheVariants.{J0, J1, J2}
 use Rattle.nor_layout.specs.Journals.{next}
 use Rattle.erase_journal.specs.declared.phase.ErasePhase.{ErasePhase}
 use Rattle.erase_journal.specs.declared.phase.ErasePhase.TheVariants.{Idle, Asked, Doomed, Closing}
-use Rattle.erase_journal.specs.declared.survey.Survey.{Survey}
-use Rattle.erase_journal.specs.Journals.{first, second, IsInPhase, IsSoundSurvey}
-use Rattle.erase_journal.specs.Faults.{IsDoomed, IsBelieved, after_next, HasVote, SurveyHasNoFault, SoundSurveyHasNoFault}
+use Rattle.erase_journal.specs.declared.tally.JournalTally.{JournalTally}
+use Rattle.erase_journal.specs.Journals.{first, second, IsInPhase, IsSoundTally}
+use Rattle.erase_journal.specs.Faults.{IsDoomed, IsBelieved, after_next, HasVote, TallyHasNoFault, SoundTallyHasNoFault}
 
 -- no byte is wrong, and of the open votes and entries there is one at most
-record IsCalm (s : Survey) : Type 0 where
+record IsCalm (s : JournalTally) : Type 0 where
   w10 : s.j1_for_0.wrong ≡ 0
   w20 : s.j2_for_0.wrong ≡ 0
   w21 : s.j2_for_1.wrong ≡ 0
@@ -23,7 +23,7 @@ record IsCalm (s : Survey) : Type 0 where
   one : s.j1_for_0.opened + s.j2_for_0.opened + s.j2_for_1.opened + s.j0_for_1.opened + s.j0_for_2.opened + s.j1_for_2.opened + s.opened ≤ 1
 
 -- the faults but for votes that don't last
-record IsOrdered (s : Survey) : Type 0 where
+record IsOrdered (s : JournalTally) : Type 0 where
   one_doomed : (x : JournalId) → IsDoomed s x → IsDoomed s (next x) → ⊥
   first_votes : (x : JournalId) → IsBelieved s (next x) → ((first s x).wrong ≡ 0) × ((first s x).opened ≤ 1)
   second_votes : (x : JournalId) → IsBelieved s (after_next x) → ((second s x).wrong ≡ 0) × ((second s x).opened ≤ 1)
@@ -32,36 +32,36 @@ record IsOrdered (s : Survey) : Type 0 where
   entry_alone : (x : JournalId) → IsBelieved s J0 → 1 ≤ s.opened → HasVote s x → ⊥
 
 -- an open vote, believed or not
-some-vote : (s : Survey) (x : JournalId) → HasVote s x → 1 ≤ (first s x).opened + (second s x).opened
+some-vote : (s : JournalTally) (x : JournalId) → HasVote s x → 1 ≤ (first s x).opened + (second s x).opened
 some-vote s x (inl v) = let o = v.1 in omega arith
 some-vote s x (inr v) = let o = v.1 in omega arith
 
-calm-doomed : (s : Survey) → IsCalm s → (x : JournalId) → IsDoomed s x → IsDoomed s (next x) → ⊥
+calm-doomed : (s : JournalTally) → IsCalm s → (x : JournalId) → IsDoomed s x → IsDoomed s (next x) → ⊥
 calm-doomed s c J0 d e = let o = c.one in omega arith
 calm-doomed s c J1 d e = let o = c.one in omega arith
 calm-doomed s c J2 d e = let o = c.one in omega arith
 
-calm-first : (s : Survey) → IsCalm s → (x : JournalId) → ((first s x).wrong ≡ 0) × ((first s x).opened ≤ 1)
+calm-first : (s : JournalTally) → IsCalm s → (x : JournalId) → ((first s x).wrong ≡ 0) × ((first s x).opened ≤ 1)
 calm-first s c J0 = (c.w10, omega arith)
 calm-first s c J1 = (c.w21, omega arith)
 calm-first s c J2 = (c.w02, omega arith)
 
-calm-second : (s : Survey) → IsCalm s → (x : JournalId) → ((second s x).wrong ≡ 0) × ((second s x).opened ≤ 1)
+calm-second : (s : JournalTally) → IsCalm s → (x : JournalId) → ((second s x).wrong ≡ 0) × ((second s x).opened ≤ 1)
 calm-second s c J0 = (c.w20, omega arith)
 calm-second s c J1 = (c.w01, omega arith)
 calm-second s c J2 = (c.w12, omega arith)
 
-calm-named : (s : Survey) → IsCalm s → (x : JournalId) → HasVote s x → HasVote s (next x) → ⊥
+calm-named : (s : JournalTally) → IsCalm s → (x : JournalId) → HasVote s x → HasVote s (next x) → ⊥
 calm-named s c J0 v w = let o = c.one in let a = some-vote s J0 v in let b = some-vote s J1 w in omega arith
 calm-named s c J1 v w = let o = c.one in let a = some-vote s J1 v in let b = some-vote s J2 w in omega arith
 calm-named s c J2 v w = let o = c.one in let a = some-vote s J2 v in let b = some-vote s J0 w in omega arith
 
-calm-alone : (s : Survey) → IsCalm s → (x : JournalId) → 1 ≤ s.opened → HasVote s x → ⊥
+calm-alone : (s : JournalTally) → IsCalm s → (x : JournalId) → 1 ≤ s.opened → HasVote s x → ⊥
 calm-alone s c J0 e v = let o = c.one in let a = some-vote s J0 v in omega arith
 calm-alone s c J1 e v = let o = c.one in let a = some-vote s J1 v in omega arith
 calm-alone s c J2 e v = let o = c.one in let a = some-vote s J2 v in omega arith
 
-calm-ordered : (s : Survey) → IsCalm s → IsOrdered s
+calm-ordered : (s : JournalTally) → IsCalm s → IsOrdered s
 calm-ordered s c = record {
   one_doomed = calm-doomed s c;
   first_votes = λ x b. calm-first s c x;
@@ -71,35 +71,35 @@ calm-ordered s c = record {
   entry_alone = λ x b. calm-alone s c x;
 }
 
-idle-calm : (s : Survey) → IsInPhase Idle s → IsCalm s
+idle-calm : (s : JournalTally) → IsInPhase Idle s → IsCalm s
 idle-calm s p = record { w10 = p.0.0.1; w20 = p.0.1.1; w21 = p.1.0.1; w01 = p.1.1.1; w02 = p.2.0.1; w12 = p.2.1.1; one = omega arith }
 
-asked-calm : (x : JournalId) (s : Survey) → IsInPhase (Asked x) s → IsCalm s
+asked-calm : (x : JournalId) (s : JournalTally) → IsInPhase (Asked x) s → IsCalm s
 asked-calm J0 s p = record { w10 = omega arith; w20 = omega arith; w21 = omega arith; w01 = omega arith; w02 = omega arith; w12 = omega arith; one = omega arith }
 asked-calm J1 s p = record { w10 = omega arith; w20 = omega arith; w21 = omega arith; w01 = omega arith; w02 = omega arith; w12 = omega arith; one = omega arith }
 asked-calm J2 s p = record { w10 = omega arith; w20 = omega arith; w21 = omega arith; w01 = omega arith; w02 = omega arith; w12 = omega arith; one = omega arith }
 
-closing-calm : (x : JournalId) (s : Survey) → IsInPhase (Closing x) s → IsCalm s
+closing-calm : (x : JournalId) (s : JournalTally) → IsInPhase (Closing x) s → IsCalm s
 closing-calm J0 s p = record { w10 = omega arith; w20 = omega arith; w21 = omega arith; w01 = omega arith; w02 = omega arith; w12 = omega arith; one = omega arith }
 closing-calm J1 s p = record { w10 = omega arith; w20 = omega arith; w21 = omega arith; w01 = omega arith; w02 = omega arith; w12 = omega arith; one = omega arith }
 closing-calm J2 s p = record { w10 = omega arith; w20 = omega arith; w21 = omega arith; w01 = omega arith; w02 = omega arith; w12 = omega arith; one = omega arith }
 
 -- where J0 is doomed: the votes of the others name J0
-doomed0-named : (s : Survey) → IsInPhase (Doomed J0) s → (x : JournalId) → HasVote s x → x ≡ J0
+doomed0-named : (s : JournalTally) → IsInPhase (Doomed J0) s → (x : JournalId) → HasVote s x → x ≡ J0
 doomed0-named s p J0 v = refl
 doomed0-named s p J1 (inl v) = let o = v.1 in absurd (omega arith)
 doomed0-named s p J1 (inr v) = absurd (v.0 (omega arith, omega arith))
 doomed0-named s p J2 (inl v) = absurd (v.0 (omega arith, omega arith))
 doomed0-named s p J2 (inr v) = let o = v.1 in absurd (omega arith)
 
-doomed1-named : (s : Survey) → IsInPhase (Doomed J1) s → (x : JournalId) → HasVote s x → x ≡ J1
+doomed1-named : (s : JournalTally) → IsInPhase (Doomed J1) s → (x : JournalId) → HasVote s x → x ≡ J1
 doomed1-named s p J1 v = refl
 doomed1-named s p J2 (inl v) = let o = v.1 in absurd (omega arith)
 doomed1-named s p J2 (inr v) = absurd (v.0 (omega arith, omega arith))
 doomed1-named s p J0 (inl v) = absurd (v.0 (omega arith, omega arith))
 doomed1-named s p J0 (inr v) = let o = v.1 in absurd (omega arith)
 
-doomed2-named : (s : Survey) → IsInPhase (Doomed J2) s → (x : JournalId) → HasVote s x → x ≡ J2
+doomed2-named : (s : JournalTally) → IsInPhase (Doomed J2) s → (x : JournalId) → HasVote s x → x ≡ J2
 doomed2-named s p J2 v = refl
 doomed2-named s p J0 (inl v) = let o = v.1 in absurd (omega arith)
 doomed2-named s p J0 (inr v) = absurd (v.0 (omega arith, omega arith))
@@ -112,22 +112,22 @@ not-next J0 y e f = cc
 not-next J1 y e f = cc
 not-next J2 y e f = cc
 
-doomed0-one : (s : Survey) → IsInPhase (Doomed J0) s → (x : JournalId) → IsDoomed s x → IsDoomed s (next x) → ⊥
+doomed0-one : (s : JournalTally) → IsInPhase (Doomed J0) s → (x : JournalId) → IsDoomed s x → IsDoomed s (next x) → ⊥
 doomed0-one s p J0 d e = let o = e.0 in omega arith
 doomed0-one s p J1 d e = let o = d.0 in omega arith
 doomed0-one s p J2 d e = let o = d.1 in omega arith
 
-doomed0-first : (s : Survey) → IsInPhase (Doomed J0) s → (x : JournalId) → IsBelieved s (next x) → ((first s x).wrong ≡ 0) × ((first s x).opened ≤ 1)
+doomed0-first : (s : JournalTally) → IsInPhase (Doomed J0) s → (x : JournalId) → IsBelieved s (next x) → ((first s x).wrong ≡ 0) × ((first s x).opened ≤ 1)
 doomed0-first s p J0 b = (p.0.1, omega arith)
 doomed0-first s p J1 b = (p.2.1, omega arith)
 doomed0-first s p J2 b = absurd (b (omega arith, omega arith))
 
-doomed0-second : (s : Survey) → IsInPhase (Doomed J0) s → (x : JournalId) → IsBelieved s (after_next x) → ((second s x).wrong ≡ 0) × ((second s x).opened ≤ 1)
+doomed0-second : (s : JournalTally) → IsInPhase (Doomed J0) s → (x : JournalId) → IsBelieved s (after_next x) → ((second s x).wrong ≡ 0) × ((second s x).opened ≤ 1)
 doomed0-second s p J0 b = (p.1.1, omega arith)
 doomed0-second s p J1 b = absurd (b (omega arith, omega arith))
 doomed0-second s p J2 b = (p.3.1, omega arith)
 
-doomed0-ordered : (s : Survey) → IsInPhase (Doomed J0) s → IsOrdered s
+doomed0-ordered : (s : JournalTally) → IsInPhase (Doomed J0) s → IsOrdered s
 doomed0-ordered s p = record {
   one_doomed = doomed0-one s p;
   first_votes = doomed0-first s p;
@@ -137,22 +137,22 @@ doomed0-ordered s p = record {
   entry_alone = λ x b. absurd (b (omega arith, omega arith));
 }
 
-doomed1-one : (s : Survey) → IsInPhase (Doomed J1) s → (x : JournalId) → IsDoomed s x → IsDoomed s (next x) → ⊥
+doomed1-one : (s : JournalTally) → IsInPhase (Doomed J1) s → (x : JournalId) → IsDoomed s x → IsDoomed s (next x) → ⊥
 doomed1-one s p J1 d e = let o = e.0 in omega arith
 doomed1-one s p J2 d e = let o = d.0 in omega arith
 doomed1-one s p J0 d e = let o = d.1 in omega arith
 
-doomed1-first : (s : Survey) → IsInPhase (Doomed J1) s → (x : JournalId) → IsBelieved s (next x) → ((first s x).wrong ≡ 0) × ((first s x).opened ≤ 1)
+doomed1-first : (s : JournalTally) → IsInPhase (Doomed J1) s → (x : JournalId) → IsBelieved s (next x) → ((first s x).wrong ≡ 0) × ((first s x).opened ≤ 1)
 doomed1-first s p J1 b = (p.0.1, omega arith)
 doomed1-first s p J2 b = (p.2.1, omega arith)
 doomed1-first s p J0 b = absurd (b (omega arith, omega arith))
 
-doomed1-second : (s : Survey) → IsInPhase (Doomed J1) s → (x : JournalId) → IsBelieved s (after_next x) → ((second s x).wrong ≡ 0) × ((second s x).opened ≤ 1)
+doomed1-second : (s : JournalTally) → IsInPhase (Doomed J1) s → (x : JournalId) → IsBelieved s (after_next x) → ((second s x).wrong ≡ 0) × ((second s x).opened ≤ 1)
 doomed1-second s p J1 b = (p.1.1, omega arith)
 doomed1-second s p J2 b = absurd (b (omega arith, omega arith))
 doomed1-second s p J0 b = (p.3.1, omega arith)
 
-doomed1-ordered : (s : Survey) → IsInPhase (Doomed J1) s → IsOrdered s
+doomed1-ordered : (s : JournalTally) → IsInPhase (Doomed J1) s → IsOrdered s
 doomed1-ordered s p = record {
   one_doomed = doomed1-one s p;
   first_votes = doomed1-first s p;
@@ -162,22 +162,22 @@ doomed1-ordered s p = record {
   entry_alone = λ x b o v. omega arith;
 }
 
-doomed2-one : (s : Survey) → IsInPhase (Doomed J2) s → (x : JournalId) → IsDoomed s x → IsDoomed s (next x) → ⊥
+doomed2-one : (s : JournalTally) → IsInPhase (Doomed J2) s → (x : JournalId) → IsDoomed s x → IsDoomed s (next x) → ⊥
 doomed2-one s p J2 d e = let o = e.0 in omega arith
 doomed2-one s p J0 d e = let o = d.0 in omega arith
 doomed2-one s p J1 d e = let o = d.1 in omega arith
 
-doomed2-first : (s : Survey) → IsInPhase (Doomed J2) s → (x : JournalId) → IsBelieved s (next x) → ((first s x).wrong ≡ 0) × ((first s x).opened ≤ 1)
+doomed2-first : (s : JournalTally) → IsInPhase (Doomed J2) s → (x : JournalId) → IsBelieved s (next x) → ((first s x).wrong ≡ 0) × ((first s x).opened ≤ 1)
 doomed2-first s p J2 b = (p.0.1, omega arith)
 doomed2-first s p J0 b = (p.2.1, omega arith)
 doomed2-first s p J1 b = absurd (b (omega arith, omega arith))
 
-doomed2-second : (s : Survey) → IsInPhase (Doomed J2) s → (x : JournalId) → IsBelieved s (after_next x) → ((second s x).wrong ≡ 0) × ((second s x).opened ≤ 1)
+doomed2-second : (s : JournalTally) → IsInPhase (Doomed J2) s → (x : JournalId) → IsBelieved s (after_next x) → ((second s x).wrong ≡ 0) × ((second s x).opened ≤ 1)
 doomed2-second s p J2 b = (p.1.1, omega arith)
 doomed2-second s p J0 b = absurd (b (omega arith, omega arith))
 doomed2-second s p J1 b = (p.3.1, omega arith)
 
-doomed2-ordered : (s : Survey) → IsInPhase (Doomed J2) s → IsOrdered s
+doomed2-ordered : (s : JournalTally) → IsInPhase (Doomed J2) s → IsOrdered s
 doomed2-ordered s p = record {
   one_doomed = doomed2-one s p;
   first_votes = doomed2-first s p;
@@ -187,7 +187,7 @@ doomed2-ordered s p = record {
   entry_alone = λ x b o v. omega arith;
 }
 
-phase-ordered : (p : ErasePhase) (s : Survey) → IsInPhase p s → IsOrdered s
+phase-ordered : (p : ErasePhase) (s : JournalTally) → IsInPhase p s → IsOrdered s
 phase-ordered Idle s h = calm-ordered s (idle-calm s h)
 phase-ordered (Asked x) s h = calm-ordered s (asked-calm x s h)
 phase-ordered (Doomed J0) s h = doomed0-ordered s h
@@ -199,7 +199,7 @@ phase-ordered (Closing x) s h = calm-ordered s (closing-calm x s h)
 abbrev is_open : ℕ → Bool
 is_open n = nat_lt 0 n
 
-abbrev named : Survey → ErasePhase
+abbrev named : JournalTally → ErasePhase
 named s =
     if is_open s.j1_for_0.opened && is_open s.j2_for_0.opened then Doomed J0 else
     if is_open s.j2_for_1.opened && is_open s.j0_for_1.opened then Doomed J1 else
@@ -212,7 +212,7 @@ named s =
     if is_open s.j1_for_2.opened then Closing J2 else
     Idle
 
-named-is : (p : ErasePhase) (s : Survey) → IsInPhase p s → named s ≡ p
+named-is : (p : ErasePhase) (s : JournalTally) → IsInPhase p s → named s ≡ p
 named-is Idle s h = grind (arith, nat_tests)
 named-is (Asked J0) s h = grind (arith, nat_tests)
 named-is (Asked J1) s h = grind (arith, nat_tests)
@@ -224,7 +224,7 @@ named-is (Closing J0) s h = grind (arith, nat_tests)
 named-is (Closing J1) s h = grind (arith, nat_tests)
 named-is (Closing J2) s h = grind (arith, nat_tests)
 
-sound-faultless : (s : Survey) → (p : ErasePhase) → IsSoundSurvey p s → SurveyHasNoFault s
+sound-faultless : (s : JournalTally) → (p : ErasePhase) → IsSoundTally p s → TallyHasNoFault s
 sound-faultless s p h =
     let o = phase-ordered p s h.phase in
     record {
@@ -238,7 +238,7 @@ sound-faultless s p h =
     }
 
 -- Without a fault: either a journal is doomed, or all are calm.
-doomed-or-not : (s : Survey) (x : JournalId) → IsDoomed s x ⊎ IsBelieved s x
+doomed-or-not : (s : JournalTally) (x : JournalId) → IsDoomed s x ⊎ IsBelieved s x
 doomed-or-not s x = elim (cases_lt 0 (first s x).opened) [
   | inl a ↦ elim (cases_lt 0 (second s x).opened) [
     | inl b ↦ inl (omega arith, omega arith)
@@ -247,7 +247,7 @@ doomed-or-not s x = elim (cases_lt 0 (first s x).opened) [
   | inr a ↦ inr (λ d. let o = d.0 in omega arith)
 ]
 
-doomed0-phase : (s : Survey) → IsOrdered s → IsDoomed s J0 → IsInPhase (Doomed J0) s
+doomed0-phase : (s : JournalTally) → IsOrdered s → IsDoomed s J0 → IsInPhase (Doomed J0) s
 doomed0-phase s h d =
     let b1 : IsBelieved s J1 = λ e. h.one_doomed J0 d e in
     let b2 : IsBelieved s J2 = λ e. h.one_doomed J2 e d in
@@ -261,7 +261,7 @@ doomed0-phase s h d =
     let d0 = d.0 in let d1 = d.1 in
     ((omega arith, f.0), (omega arith, g.0), (other, fn.0), (last, gn.0))
 
-doomed1-phase : (s : Survey) → IsOrdered s → IsDoomed s J1 → IsInPhase (Doomed J1) s
+doomed1-phase : (s : JournalTally) → IsOrdered s → IsDoomed s J1 → IsInPhase (Doomed J1) s
 doomed1-phase s h d =
     let b2 : IsBelieved s J2 = λ e. h.one_doomed J1 d e in
     let b0 : IsBelieved s J0 = λ e. h.one_doomed J0 e d in
@@ -276,7 +276,7 @@ doomed1-phase s h d =
     let none : s.opened ≡ 0 = elim (cases_lt 0 s.opened) [ inl o ↦ absurd (h.entry_alone J1 b0 (omega arith) mine) | inr o ↦ omega arith ] in
     ((omega arith, f.0), (omega arith, g.0), (other, fn.0), (last, gn.0), none)
 
-doomed2-phase : (s : Survey) → IsOrdered s → IsDoomed s J2 → IsInPhase (Doomed J2) s
+doomed2-phase : (s : JournalTally) → IsOrdered s → IsDoomed s J2 → IsInPhase (Doomed J2) s
 doomed2-phase s h d =
     let b0 : IsBelieved s J0 = λ e. h.one_doomed J2 d e in
     let b1 : IsBelieved s J1 = λ e. h.one_doomed J1 e d in
@@ -292,10 +292,10 @@ doomed2-phase s h d =
     ((omega arith, f.0), (omega arith, g.0), (other, fn.0), (last, gn.0), none)
 
 -- the open votes for x
-abbrev votes_for : Survey → JournalId → ℕ
+abbrev votes_for : JournalTally → JournalId → ℕ
 votes_for s x = (first s x).opened + (second s x).opened
 
-module _ (s : Survey) (h : IsOrdered s) (all : (x : JournalId) → IsBelieved s x) where
+module _ (s : JournalTally) (h : IsOrdered s) (all : (x : JournalId) → IsBelieved s x) where
   one-vote : (x : JournalId) → votes_for s x ≤ 1
   one-vote x =
       let f = h.first_votes x (all (next x)) in
@@ -349,7 +349,7 @@ module _ (s : Survey) (h : IsOrdered s) (all : (x : JournalId) → IsBelieved s 
         ];
       }
 
-calm-phase : (s : Survey) → IsCalm s → (p : ErasePhase) × IsInPhase p s
+calm-phase : (s : JournalTally) → IsCalm s → (p : ErasePhase) × IsInPhase p s
 calm-phase s c = let o = c.one in elim (cases_lt 0 s.j1_for_0.opened) [
   | inl a ↦ (Asked J0, ((omega arith, c.w10), (omega arith, c.w20), ((omega arith, c.w21), (omega arith, c.w01)), ((omega arith, c.w02), (omega arith, c.w12)), omega arith))
   | inr a ↦ elim (cases_lt 0 s.j2_for_1.opened) [
@@ -370,12 +370,12 @@ calm-phase s c = let o = c.one in elim (cases_lt 0 s.j1_for_0.opened) [
   ]
 ]
 
-each-believed : (s : Survey) → IsBelieved s J0 → IsBelieved s J1 → IsBelieved s J2 → (x : JournalId) → IsBelieved s x
+each-believed : (s : JournalTally) → IsBelieved s J0 → IsBelieved s J1 → IsBelieved s J2 → (x : JournalId) → IsBelieved s x
 each-believed s b0 b1 b2 J0 = b0
 each-believed s b0 b1 b2 J1 = b1
 each-believed s b0 b1 b2 J2 = b2
 
-ordered-phase : (s : Survey) → IsOrdered s → (p : ErasePhase) × IsInPhase p s
+ordered-phase : (s : JournalTally) → IsOrdered s → (p : ErasePhase) × IsInPhase p s
 ordered-phase s h = elim (doomed-or-not s J0) [
   | inl d ↦ (Doomed J0, doomed0-phase s h d)
   | inr b0 ↦ elim (doomed-or-not s J1) [
@@ -387,11 +387,11 @@ ordered-phase s h = elim (doomed-or-not s J0) [
   ]
 ]
 
-faultless-sound : (s : Survey) → SurveyHasNoFault s → (p : ErasePhase) × IsSoundSurvey p s
+faultless-sound : (s : JournalTally) → TallyHasNoFault s → (p : ErasePhase) × IsSoundTally p s
 faultless-sound s h =
     let o : IsOrdered s = record { one_doomed = h.one_doomed; first_votes = h.first_votes; second_votes = h.second_votes; one_named = h.one_named; one_entry = h.one_entry; entry_alone = h.entry_alone } in
     let (p, k) = ordered-phase s o in
     (p, record { phase = k; lasts = h.lasts p k })
 
-pub sound_has_no_fault : SoundSurveyHasNoFault
+pub sound_has_no_fault : SoundTallyHasNoFault
 sound_has_no_fault s = (λ h. sound-faultless s h.0 h.1, faultless-sound s)

@@ -9,7 +9,7 @@ use Rattle.erase_journal.specs.declared.unused.Unused.{Unused}
 use Rattle.erase_journal.specs.declared.phase.ErasePhase.{ErasePhase}
 use Rattle.erase_journal.specs.declared.phase.ErasePhase.TheVariants.{Idle, Asked, Doomed, Closing}
 use Rattle.erase_journal.specs.Votes.{once_erased}
-use Rattle.erase_journal.specs.Journals.{survey_of, first, second, unused, free_entries, open_entries, HoldsVotes, settled, AreJournalsSound}
+use Rattle.erase_journal.specs.Journals.{tally_of, first, second, unused, free_entries, open_entries, HoldsVotes, settled, AreJournalsSound}
 use Rattle.erase_journal.specs.Steps.{SameNumbers, IsStep, IsNext, MayErase}
 use Rattle.erase_journal.proofs.Regions.{vote-opened, vote-closed, changed-spoiled, votes-below, votes-above, entries-below, entries-above}
 use Rattle.erase_journal.proofs.Lasting.{Last-erased, Last-moved}
@@ -17,8 +17,8 @@ use Rattle.erase_journal.proofs.Lasting.{Last-erased, Last-moved}
 -- journal x holds no vote, and J0 no entry
 pub record IsBlank (x : JournalId) (m : List ℕ) : Type 0 where
   -- x's votes for x + 1, and for x + 2
-  pub second : ((second (survey_of m) (next x)).unused ≡ 1024) × HoldsVotes (second (survey_of m) (next x)) 0
-  pub first : ((first (survey_of m) (next (next x))).unused ≡ 1024) × HoldsVotes (first (survey_of m) (next (next x))) 0
+  pub second : ((second (tally_of m) (next x)).unused ≡ 1024) × HoldsVotes (second (tally_of m) (next x)) 0
+  pub first : ((first (tally_of m) (next (next x))).unused ≡ 1024) × HoldsVotes (first (tally_of m) (next (next x))) 0
   pub free : x ≡ J0 → free_entries m ≡ 512
   pub none : x ≡ J0 → open_entries m ≡ 0
 

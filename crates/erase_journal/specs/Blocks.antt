@@ -6,12 +6,12 @@ use Rattle.chip_model.specs.Parts.{part}
 use Rattle.chip_model.specs.Geometry.{block_count}
 use Rattle.nor_layout.specs.declared.journal.JournalId.TheVariants.{J0}
 use Rattle.nor_layout.specs.Journals.{block_len}
-use Rattle.erase_journal.specs.Journals.{survey_of, first, second, entries_for}
+use Rattle.erase_journal.specs.Journals.{tally_of, first, second, entries_for}
 
 -- J0 is believed unless both others hold an open vote for its erase
 abbrev pub is_believed0 : List ℕ → Bool
-is_believed0 m = not (nat_lt 0 (first (survey_of m) J0).opened
-    && nat_lt 0 (second (survey_of m) J0).opened)
+is_believed0 m = not (nat_lt 0 (first (tally_of m) J0).opened
+    && nat_lt 0 (second (tally_of m) J0).opened)
 
 -- an erased block
 unfoldable pub blank : List ℕ

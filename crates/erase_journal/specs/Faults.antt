@@ -5,17 +5,17 @@ use Rattle.nor_layout.specs.declared.journal.JournalId.{JournalId}
 use Rattle.nor_layout.specs.declared.journal.JournalId.TheVariants.{J0}
 use Rattle.nor_layout.specs.Journals.{next}
 use Rattle.erase_journal.specs.declared.phase.ErasePhase.{ErasePhase}
-use Rattle.erase_journal.specs.declared.survey.Survey.{Survey}
+use Rattle.erase_journal.specs.declared.tally.JournalTally.{JournalTally}
 use Rattle.erase_journal.specs.Votes.{Last}
 use Rattle.erase_journal.specs.Journals.{first, second, unused_of, settled, IsInPhase}
-use Rattle.erase_journal.specs.Journals.{IsSoundSurvey}
+use Rattle.erase_journal.specs.Journals.{IsSoundTally}
 
 -- both other journals hold an open vote for the erase of x
-abbrev pub IsDoomed : Survey → JournalId → Type 0
+abbrev pub IsDoomed : JournalTally → JournalId → Type 0
 IsDoomed s x = (1 ≤ (first s x).opened) × (1 ≤ (second s x).opened)
 
 -- a journal is believed unless it is doomed
-abbrev pub IsBelieved : Survey → JournalId → Type 0
+abbrev pub IsBelieved : JournalTally → JournalId → Type 0
 IsBelieved s x = IsDoomed s x → ⊥
 
 -- the journal after the next
@@ -23,11 +23,11 @@ abbrev pub after_next : JournalId → JournalId
 after_next x = next (next x)
 
 -- a believed journal holds an open vote for the erase of x
-abbrev pub HasVote : Survey → JournalId → Type 0
+abbrev pub HasVote : JournalTally → JournalId → Type 0
 HasVote s x = (IsBelieved s (next x) × (1 ≤ (first s x).opened))
     ⊎ (IsBelieved s (after_next x) × (1 ≤ (second s x).opened))
 
-pub record SurveyHasNoFault (s : Survey) : Type 0 where
+pub record TallyHasNoFault (s : JournalTally) : Type 0 where
   -- no two journals are doomed
   pub one_doomed : (x : JournalId) → IsDoomed s x → IsDoomed s (next x) → ⊥
   -- in the regions of believed journals each byte is a vote, and one at most is open
@@ -44,5 +44,6 @@ pub record SurveyHasNoFault (s : Survey) : Type 0 where
   pub lasts : (p : ErasePhase) → IsInPhase p s → Last (settled p (unused_of s))
 
 -- the journals are sound in one of the phases exactly where they have no fault
-abbrev pub SoundSurveyHasNoFault : Type 0
-SoundSurveyHasNoFault = (s : Survey) → ((p : ErasePhase) × IsSoundSurvey p s) ↔ SurveyHasNoFault s
+abbrev pub SoundTallyHasNoFault : Type 0
+SoundTallyHasNoFault =
+    (s : JournalTally) → ((p : ErasePhase) × IsSoundTally p s) ↔ TallyHasNoFault s

@@ -12,7 +12,7 @@ use Rattle.nor_layout.specs.Entries.{entry_count, entry_at, block_in, is_open}
 use Rattle.erase_journal.specs.declared.phase.ErasePhase.{ErasePhase}
 use Rattle.erase_journal.specs.declared.phase.ErasePhase.TheVariants.{Idle, Asked, Doomed, Closing}
 use Rattle.erase_journal.specs.declared.scan.VoteCounts.{VoteCounts}
-use Rattle.erase_journal.specs.declared.survey.Survey.{Survey}
+use Rattle.erase_journal.specs.declared.tally.JournalTally.{JournalTally}
 use Rattle.erase_journal.specs.declared.unused.Unused as numbers
 use Rattle.erase_journal.specs.Places.{how_many}
 use Rattle.erase_journal.specs.Votes.{Last, renewed, second_spent}
@@ -57,8 +57,8 @@ unfoldable pub entries_for : List ℕ → ℕ → ℕ
 entries_for m b = how_many (λ i. is_open_entry m i && entry_block m i == b) entry_count
 
 -- all numbers of the journals of a memory
-abbrev pub survey_of : List ℕ → Survey
-survey_of m = record {
+abbrev pub tally_of : List ℕ → JournalTally
+tally_of m = record {
   j0_for_1 = votes_at m (second_at J1);
   j0_for_2 = votes_at m (first_at J2);
   j1_for_2 = votes_at m (second_at J2);
@@ -70,18 +70,18 @@ survey_of m = record {
 }
 
 -- the votes for the erase of x: those of the next journal, and those of the one after it
-abbrev pub first : Survey → JournalId → VoteCounts
+abbrev pub first : JournalTally → JournalId → VoteCounts
 first s J0 = s.j1_for_0
 first s J1 = s.j2_for_1
 first s J2 = s.j0_for_2
 
-abbrev pub second : Survey → JournalId → VoteCounts
+abbrev pub second : JournalTally → JournalId → VoteCounts
 second s J0 = s.j2_for_0
 second s J1 = s.j0_for_1
 second s J2 = s.j1_for_2
 
 -- the unused votes, and the free entries
-abbrev pub unused_of : Survey → numbers.Unused
+abbrev pub unused_of : JournalTally → numbers.Unused
 unused_of s = record {
   j0_for_1 = s.j0_for_1.unused;
   j0_for_2 = s.j0_for_2.unused;
@@ -93,20 +93,20 @@ unused_of s = record {
 }
 
 abbrev pub unused : List ℕ → numbers.Unused
-unused m = unused_of (survey_of m)
+unused m = unused_of (tally_of m)
 
 -- so many open votes in a region, and none that is wrong
 abbrev pub HoldsVotes : VoteCounts → ℕ → Type 0
 HoldsVotes v n = (v.opened ≡ n) × (v.wrong ≡ 0)
 
 -- no open vote for x
-abbrev pub HasNoOpenVote : Survey → JournalId → Type 0
+abbrev pub HasNoOpenVote : JournalTally → JournalId → Type 0
 HasNoOpenVote s x = HoldsVotes (first s x) 0 × HoldsVotes (second s x) 0
 
 -- The journals that are believed hold nothing but what the phase says. A journal is believed unless
 -- both others hold an open vote for its erase; of the votes and entries of a doomed one nothing is
 -- said.
-abbrev pub IsInPhase : ErasePhase → Survey → Type 0
+abbrev pub IsInPhase : ErasePhase → JournalTally → Type 0
 IsInPhase Idle s = HasNoOpenVote s J0 × HasNoOpenVote s J1 × HasNoOpenVote s J2 × (s.opened ≤ 1)
 IsInPhase (Asked x) s = HoldsVotes (first s x) 1 × HoldsVotes (second s x) 0
     × HasNoOpenVote s (next x) × HasNoOpenVote s (next (next x)) × (s.opened ≡ 0)
@@ -128,12 +128,12 @@ settled (Doomed x) u = renewed x u
 settled (Closing x) u = u
 
 -- The journals are in this phase, and their votes last.
-pub record IsSoundSurvey (p : ErasePhase) (s : Survey) : Type 0 where
+pub record IsSoundTally (p : ErasePhase) (s : JournalTally) : Type 0 where
   pub phase : IsInPhase p s
   pub lasts : Last (settled p (unused_of s))
 
 abbrev pub AreJournalsSound : ErasePhase → List ℕ → Type 0
-AreJournalsSound p m = IsSoundSurvey p (survey_of m)
+AreJournalsSound p m = IsSoundTally p (tally_of m)
 
 -- A healthy memory: the journals are sound in one of the phases. Else they are corrupt.
 abbrev pub IsHealthy : List ℕ → Type 0

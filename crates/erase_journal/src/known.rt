@@ -1,4 +1,4 @@
-//! What is known of the votes and entries without reading them.
+//! Cached counts of the unused votes and free entries, so that an erase need not read them.
 
 ghost use Rattle.std.specs.Prelude.{◌≡◌, ◌+◌, ◌↔◌, IsTrue};
 ghost use Rattle.erase_journal.specs.Spending.{once_used};

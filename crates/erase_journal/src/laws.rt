@@ -1,13 +1,13 @@
 //! What follows from the definitions, with no work at run time. Source: own.
 
-ghost use Rattle.erase_journal.specs.Faults.{SoundSurveyHasNoFault};
+ghost use Rattle.erase_journal.specs.Faults.{SoundTallyHasNoFault};
 ghost use Rattle.erase_journal.specs.Laws.{BlocksHaveOneSize, SameBlocksMakeOneList};
 ghost use Rattle.erase_journal.specs.Laws.{MaintenanceKeepsVotes, ErasedChipsAreSettled};
 
 /// The journals are sound in one of the phases of an erase exactly where none of the cases of
 /// corrupt journals holds of them.
 pub fn sound_journals_have_no_fault()
-    ensures { SoundSurveyHasNoFault }
+    ensures { SoundTallyHasNoFault }
 {}
 
 /// Each block that a memory represents has 4,096 bytes.

@@ -1,19 +1,21 @@
-//! An erase of a data block that a loss of power can't break: it is one step, before or after.
+//! Makes the erase of a data block atomic: after a loss of power the block is as before, or erased.
 //!
 //! Promised: a `Journal` reads, programs and erases the data blocks that a healthy memory
 //! represents (`specs/Blocks.antt`). An erase that is cut leaves the block as it was or erased, and
-//! every other block, the superblock and the size as they were. `Journal::recover` takes a memory
-//! exactly where its journals are healthy (`specs/Journals.antt`), and then neither it nor a loss
-//! of power in it changes a block, however often it is cut. Corrupt journals are refused, and
-//! nothing is changed. Three journals are used: an entry in J0 says which block is being erased,
-//! and two journals vote for the erase of the third. After a call that was cut every other call
-//! answers Cut until `restore`, which turns the power on and recovers anew; nothing is said of the
-//! data blocks after a Slow. `superblock` reads the superblock's first bytes, and `mark` programs
-//! byte 15 of it and no other. No call takes memory.
+//! every other block, the superblock and the size as they were. `Journal::recover` accepts a memory
+//! if and only if its journals are healthy (`specs/Journals.antt`). The blocks that the memory
+//! represents stay the same, however often the recovery itself is cut. It refuses corrupt journals,
+//! and changes nothing then. There are three journals. An entry in J0 names the block that is being
+//! erased. A journal itself is erased only once both others hold an open vote for it. A Cut is
+//! latched: every call answers it until `restore`, which cycles the power and recovers again. After
+//! a Slow nothing is promised of the data blocks. If `restore` finds corrupt journals, a Slow is
+//! latched. `superblock` reads the superblock's first bytes, and `mark` programs byte 15 of it and
+//! no other. No call allocates.
 //!
-//! Left to the crate above: what the data blocks hold, the superblock, and when to restore.
-//!
-//! Source: own. See docs/JOURNAL.md.
+//! Depends on `Nor` of `nor_driver` (read, program, erase, restart) and on the places of
+//! `nor_layout`. Left to the crate above: what the data blocks and the superblock hold, and when to
+//! restore. To read the crate: phase, scan, read, unused, tally, votes, journal_erase, maintain,
+//! known, block_erase, recovery, journal. Source: own. See docs/JOURNAL.md.
 
 #![tactic(auto)]
 
@@ -29,7 +31,7 @@ mod read;
 mod recovery;
 mod scan;
 mod superblock;
-mod survey;
+mod tally;
 #[cfg(test)]
 mod tests;
 mod unused;

@@ -11,7 +11,7 @@ ghost use Rattle.erase_journal.specs.Steps.{IsRestful, KeepsBlocks};
 
 use crate::journal_erase::{doom, renew};
 use crate::known::Known;
-use crate::read::read_survey;
+use crate::read::read_tally;
 use crate::unused::{Unused, lowest_tired};
 use nor_driver::{Nor, NorError};
 use nor_layout::JOURNALS_END;
@@ -30,13 +30,13 @@ fn maintain<N: Nor>(nor: &mut N) -> Result<Unused, NorError>
     ensures size { length (N.state nor.new).memory ≡ length (N.state nor.old).memory }
     ensures ends { EndsReady result (N.state nor.old) (N.state nor.new) }
 {
-    let mut survey = read_survey(nor)?;
-    while let Some(journal) = lowest_tired(survey.unused()) {
+    let mut tally = read_tally(nor)?;
+    while let Some(journal) = lowest_tired(tally.unused()) {
         doom(nor, journal)?;
         renew(nor, journal)?;
-        survey = read_survey(nor)?;
+        tally = read_tally(nor)?;
     }
-    Ok(survey.unused())
+    Ok(tally.unused())
 }
 
 /// Maintenance where the numbers say that a journal is tired. Where none is, nothing is asked of

@@ -1,11 +1,11 @@
-//! What is read of votes and entries.
+//! Reads the journals from the chip, and counts their votes and entries.
 
 ghost use Rattle.std.specs.Prelude.{◌≡◌, ◌+◌, ◌≤◌, length, IfOk};
 ghost use Rattle.nor_driver.specs.State.{EndsReady};
-ghost use Rattle.erase_journal.specs.Journals.{votes_at, survey_of, free_entries, open_entries};
+ghost use Rattle.erase_journal.specs.Journals.{votes_at, tally_of, free_entries, open_entries};
 
 use crate::scan::{VoteCounts, count_free, count_open, count_votes};
-use crate::survey::Survey;
+use crate::tally::JournalTally;
 use nor_driver::{Nor, NorError};
 use nor_layout::{BLOCK_LEN, ENTRIES_LEN, JOURNALS_END, JournalId, REGION_LEN, entry_place};
 
@@ -47,9 +47,9 @@ fn read_entries<N: Nor>(nor: &mut N) -> Result<EntryCounts, NorError>
 }
 
 /// All numbers of the journals.
-pub(crate) fn read_survey<N: Nor>(nor: &mut N) -> Result<Survey, NorError>
+pub(crate) fn read_tally<N: Nor>(nor: &mut N) -> Result<JournalTally, NorError>
     requires { JOURNALS_END ≤ length (N.state nor.old).memory }
-    ensures survey { IfOk result (λ survey. survey ≡ survey_of (N.state nor.old).memory) }
+    ensures tally { IfOk result (λ tally. tally ≡ tally_of (N.state nor.old).memory) }
     ensures same { (N.state nor.new).memory ≡ (N.state nor.old).memory }
     ensures ends { EndsReady result (N.state nor.old) (N.state nor.new) }
 {
@@ -60,7 +60,7 @@ pub(crate) fn read_survey<N: Nor>(nor: &mut N) -> Result<Survey, NorError>
     let j2_for_0 = read_votes(nor, JournalId::J0.second_votes())?;
     let j2_for_1 = read_votes(nor, JournalId::J1.first_votes())?;
     let entries = read_entries(nor)?;
-    Ok(Survey {
+    Ok(JournalTally {
         j0_for_1,
         j0_for_2,
         j1_for_0,

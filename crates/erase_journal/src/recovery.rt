@@ -1,4 +1,4 @@
-//! The end of what a loss of power interrupted.
+//! Recovery: finishes the erase that a loss of power interrupted.
 
 ghost use Rattle.std.specs.Prelude.{◌↔◌, ◌⊎◌, None, false, IsSome, IfOk, IfSome, ◌≡◌, ◌≤◌, length};
 ghost use Rattle.std.specs.Prelude.{OnOk};
@@ -15,8 +15,8 @@ ghost use Rattle.erase_journal.specs.Recovery.{RestoreCorrupt};
 use crate::block_erase::{find_open, finish_entry};
 use crate::journal_erase::renew;
 use crate::phase::ErasePhase;
-use crate::read::read_survey;
-use crate::survey::{decide, once_settled};
+use crate::read::read_tally;
+use crate::tally::{decide, once_settled};
 use crate::unused::Unused;
 use crate::votes::{close_vote, open_vote};
 use nor_driver::{Nor, NorError};
@@ -135,12 +135,12 @@ pub(crate) fn settle<N: Nor>(nor: &mut N) -> Result<Option<Unused>, NorError>
     ensures size { length (N.state nor.new).memory ≡ length (N.state nor.old).memory }
     ensures ends { EndsReady result (N.state nor.old) (N.state nor.new) }
 {
-    let survey = read_survey(nor)?;
-    let Some(phase) = decide(survey) else {
+    let tally = read_tally(nor)?;
+    let Some(phase) = decide(tally) else {
         return Ok(None);
     };
     resume(nor, phase)?;
-    Ok(Some(once_settled(survey.unused(), phase)))
+    Ok(Some(once_settled(tally.unused(), phase)))
 }
 
 /// Turns the power off and on again, reads the journals and settles them, and answers their numbers

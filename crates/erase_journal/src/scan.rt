@@ -1,4 +1,4 @@
-//! The votes and entries in bytes that were read.
+//! Counts and finds votes and entries in a buffer. Nothing here touches the chip.
 
 ghost use Rattle.std.specs.Prelude.{◌≡◌, ◌+◌, ◌<◌, ◌≤◌, ◌==◌, true, false, ℕ, length, slice_index};
 ghost use Rattle.std.specs.Prelude.{MatchOption};

@@ -4,7 +4,7 @@ use crate::phase::ErasePhase;
 use crate::scan::{
     OpenEntry, VoteCounts, count_free, count_open, count_votes, lowest, lowest_free, lowest_open,
 };
-use crate::survey::{Survey, decide};
+use crate::tally::{JournalTally, decide};
 use crate::unused::{Unused, lasts, lowest_tired};
 use nor_layout::JournalId::{J0, J1, J2};
 
@@ -37,7 +37,7 @@ const WRONG: VoteCounts = VoteCounts {
 };
 
 /// The journals of an erased chip.
-const ERASED: Survey = Survey {
+const ERASED: JournalTally = JournalTally {
     j0_for_1: BLANK,
     j0_for_2: BLANK,
     j1_for_0: BLANK,
@@ -72,14 +72,14 @@ fn with_unused(unused: u16) -> VoteCounts {
 fn each_step_of_an_erase_of_j0(rt: HostRuntime) {
     // The bytes at 2400h and 3000h.
     assert_eq!(rt;
-        decide(Survey {
+        decide(JournalTally {
             j1_for_0: OPENED,
             ..ERASED
         }),
         Some(ErasePhase::Asked(J0))
     );
     assert_eq!(rt;
-        decide(Survey {
+        decide(JournalTally {
             j1_for_0: OPENED,
             j2_for_0: OPENED,
             ..ERASED
@@ -87,7 +87,7 @@ fn each_step_of_an_erase_of_j0(rt: HostRuntime) {
         Some(ErasePhase::Doomed(J0))
     );
     assert_eq!(rt;
-        decide(Survey {
+        decide(JournalTally {
             j1_for_0: CLOSED,
             j2_for_0: OPENED,
             ..ERASED
@@ -95,7 +95,7 @@ fn each_step_of_an_erase_of_j0(rt: HostRuntime) {
         Some(ErasePhase::Closing(J0))
     );
     assert_eq!(rt;
-        decide(Survey {
+        decide(JournalTally {
             j1_for_0: CLOSED,
             j2_for_0: CLOSED,
             ..ERASED
@@ -108,14 +108,14 @@ fn each_step_of_an_erase_of_j0(rt: HostRuntime) {
 fn each_step_of_an_erase_of_j1(rt: HostRuntime) {
     // The bytes at 3400h and 1000h.
     assert_eq!(rt;
-        decide(Survey {
+        decide(JournalTally {
             j2_for_1: OPENED,
             ..ERASED
         }),
         Some(ErasePhase::Asked(J1))
     );
     assert_eq!(rt;
-        decide(Survey {
+        decide(JournalTally {
             j2_for_1: OPENED,
             j0_for_1: OPENED,
             ..ERASED
@@ -123,7 +123,7 @@ fn each_step_of_an_erase_of_j1(rt: HostRuntime) {
         Some(ErasePhase::Doomed(J1))
     );
     assert_eq!(rt;
-        decide(Survey {
+        decide(JournalTally {
             j2_for_1: CLOSED,
             j0_for_1: OPENED,
             ..ERASED
@@ -131,7 +131,7 @@ fn each_step_of_an_erase_of_j1(rt: HostRuntime) {
         Some(ErasePhase::Closing(J1))
     );
     assert_eq!(rt;
-        decide(Survey {
+        decide(JournalTally {
             j2_for_1: CLOSED,
             j0_for_1: CLOSED,
             ..ERASED
@@ -144,14 +144,14 @@ fn each_step_of_an_erase_of_j1(rt: HostRuntime) {
 fn each_step_of_an_erase_of_j2(rt: HostRuntime) {
     // The bytes at 1400h and 2000h.
     assert_eq!(rt;
-        decide(Survey {
+        decide(JournalTally {
             j0_for_2: OPENED,
             ..ERASED
         }),
         Some(ErasePhase::Asked(J2))
     );
     assert_eq!(rt;
-        decide(Survey {
+        decide(JournalTally {
             j0_for_2: OPENED,
             j1_for_2: OPENED,
             ..ERASED
@@ -159,7 +159,7 @@ fn each_step_of_an_erase_of_j2(rt: HostRuntime) {
         Some(ErasePhase::Doomed(J2))
     );
     assert_eq!(rt;
-        decide(Survey {
+        decide(JournalTally {
             j0_for_2: CLOSED,
             j1_for_2: OPENED,
             ..ERASED
@@ -167,7 +167,7 @@ fn each_step_of_an_erase_of_j2(rt: HostRuntime) {
         Some(ErasePhase::Closing(J2))
     );
     assert_eq!(rt;
-        decide(Survey {
+        decide(JournalTally {
             j0_for_2: CLOSED,
             j1_for_2: CLOSED,
             ..ERASED
@@ -180,7 +180,7 @@ fn each_step_of_an_erase_of_j2(rt: HostRuntime) {
 fn no_erase_of_a_journal(rt: HostRuntime) {
     assert_eq!(rt; decide(ERASED), Some(ErasePhase::Idle));
     assert_eq!(rt;
-        decide(Survey {
+        decide(JournalTally {
             free: 511,
             opened: 1,
             ..ERASED
@@ -191,7 +191,7 @@ fn no_erase_of_a_journal(rt: HostRuntime) {
 
 #[test]
 fn what_a_doomed_journal_holds_is_ignored(rt: HostRuntime) {
-    let doomed0 = Survey {
+    let doomed0 = JournalTally {
         j1_for_0: OPENED,
         j2_for_0: OPENED,
         j0_for_1: WRONG,
@@ -201,7 +201,7 @@ fn what_a_doomed_journal_holds_is_ignored(rt: HostRuntime) {
         ..ERASED
     };
     assert_eq!(rt; decide(doomed0), Some(ErasePhase::Doomed(J0)));
-    let doomed1 = Survey {
+    let doomed1 = JournalTally {
         j2_for_1: OPENED,
         j0_for_1: OPENED,
         j1_for_0: WRONG,
@@ -211,7 +211,7 @@ fn what_a_doomed_journal_holds_is_ignored(rt: HostRuntime) {
     assert_eq!(rt; decide(doomed1), Some(ErasePhase::Doomed(J1)));
     // Its entries are J0's, which is believed.
     assert_eq!(rt;
-        decide(Survey {
+        decide(JournalTally {
             opened: 1,
             ..doomed1
         }),
@@ -220,8 +220,8 @@ fn what_a_doomed_journal_holds_is_ignored(rt: HostRuntime) {
 }
 
 /// Whether recovery would refuse these journals.
-fn is_corrupt(survey: Survey) -> bool {
-    decide(survey).is_none()
+fn is_corrupt(tally: JournalTally) -> bool {
+    decide(tally).is_none()
 }
 
 #[test]
@@ -233,27 +233,27 @@ fn votes_that_no_erase_leaves(rt: HostRuntime) {
     };
     // 2400h and 2401h are FEh; 2400h is 55h.
     assert!(rt;
-        is_corrupt(Survey {
+        is_corrupt(JournalTally {
             j1_for_0: two_in_a_region,
             ..ERASED
         })
     );
     assert!(rt;
-        is_corrupt(Survey {
+        is_corrupt(JournalTally {
             j1_for_0: WRONG,
             ..ERASED
         })
     );
     // Open votes for two journals.
     assert!(rt;
-        is_corrupt(Survey {
+        is_corrupt(JournalTally {
             j1_for_0: OPENED,
             j1_for_2: OPENED,
             ..ERASED
         })
     );
     assert!(rt;
-        is_corrupt(Survey {
+        is_corrupt(JournalTally {
             j1_for_0: OPENED,
             j0_for_1: OPENED,
             ..ERASED
@@ -263,7 +263,7 @@ fn votes_that_no_erase_leaves(rt: HostRuntime) {
 
 #[test]
 fn two_doomed_journals(rt: HostRuntime) {
-    let both = Survey {
+    let both = JournalTally {
         j1_for_0: OPENED,
         j2_for_0: OPENED,
         j2_for_1: OPENED,
@@ -275,51 +275,51 @@ fn two_doomed_journals(rt: HostRuntime) {
 
 #[test]
 fn open_entries_that_no_erase_leaves(rt: HostRuntime) {
-    let open = Survey {
+    let open = JournalTally {
         free: 511,
         opened: 1,
         ..ERASED
     };
     assert!(rt;
-        is_corrupt(Survey {
+        is_corrupt(JournalTally {
             j1_for_0: OPENED,
             ..open
         })
     );
     assert!(rt;
-        is_corrupt(Survey {
+        is_corrupt(JournalTally {
             j2_for_0: OPENED,
             ..open
         })
     );
-    assert!(rt; is_corrupt(Survey { opened: 2, ..open }));
+    assert!(rt; is_corrupt(JournalTally { opened: 2, ..open }));
 }
 
 #[test]
 fn one_vote_is_enough_where_its_journal_is_not_tired(rt: HostRuntime) {
     // 2400h to 27FEh are FCh.
-    let one_left = Survey {
+    let one_left = JournalTally {
         j1_for_0: with_unused(1),
         ..ERASED
     };
     assert_eq!(rt; decide(one_left), Some(ErasePhase::Idle));
     // And J0's 512 entries are F8 04 00 FF.
     assert_eq!(rt;
-        decide(Survey {
+        decide(JournalTally {
             free: 0,
             ..one_left
         }),
         None
     );
     // The vote that is asked for next is counted as spent: one of 3000h on must stay.
-    let asked = Survey {
+    let asked = JournalTally {
         j1_for_0: OPENED,
         j2_for_0: with_unused(2),
         ..ERASED
     };
     assert_eq!(rt; decide(asked), Some(ErasePhase::Asked(J0)));
     assert_eq!(rt;
-        decide(Survey {
+        decide(JournalTally {
             j2_for_0: with_unused(1),
             ..asked
         }),

@@ -18,6 +18,7 @@ pub struct Unused {
     pub free: u16,
 }
 
+/// Whether each region has an unused vote.
 fn has_some(u: Unused) -> bool
     ensures { IsTrue result ↔ HasSome u }
 {
@@ -29,24 +30,28 @@ fn has_some(u: Unused) -> bool
         && u.j2_for_1 >= 1
 }
 
+/// Whether J0 isn't tired: each of its regions has four unused votes, and an entry is free.
 fn is_rested0(u: Unused) -> bool
     ensures { IsTrue result ↔ IsRested JournalId.J0 u }
 {
     u.j0_for_1 >= 4 && u.j0_for_2 >= 4 && u.free >= 1
 }
 
+/// Whether J1 isn't tired: each of its regions has four unused votes.
 fn is_rested1(u: Unused) -> bool
     ensures { IsTrue result ↔ IsRested JournalId.J1 u }
 {
     u.j1_for_2 >= 4 && u.j1_for_0 >= 4
 }
 
+/// Whether a region is used up unless J0 is rested (docs/JOURNAL.md, on votes that last).
 fn needs0(u: Unused) -> bool
     ensures { IsTrue result ↔ Needs0 u }
 {
     u.j1_for_0 == 1 || u.j2_for_0 == 1 || (u.j2_for_1 == 1 && u.j1_for_0 == 4)
 }
 
+/// The same of J1.
 fn needs1(u: Unused) -> bool
     ensures { IsTrue result ↔ Needs1 u }
 {

@@ -1,4 +1,4 @@
-//! The lowest vote of a region, opened and closed.
+//! Opens the lowest unused vote of a region, and closes the lowest open one.
 
 ghost use Rattle.std.specs.Prelude.{◌≡◌, ◌+◌, ◌<◌, ◌≤◌, ◌^◌, length, OnOk, IfOk};
 ghost use Rattle.std.specs.Result.{IsErrOf};

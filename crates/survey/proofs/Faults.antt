@@ -15,7 +15,7 @@ use Rattle.nor_layout.specs.declared.superblock.SuperError.TheVariants as refusa
 use Rattle.nor_layout.specs.Headers.{next_generation, generation_byte}
 use Rattle.nor_layout.specs.Layouts.{layout_of}
 use Rattle.nor_layout.specs.Superblock.{layout_in}
-use Rattle.erase_journal.specs.Journals.{survey_of}
+use Rattle.erase_journal.specs.Journals.{tally_of}
 use Rattle.erase_journal.proofs.Faulty.{sound_has_no_fault}
 use Rattle.sector_slots.specs.Slots.{Slot, Live, is_group, slot_with, slot_at, slot_count, kind_at, raw_slot, data_blocks}
 use Rattle.sector_slots.specs.Blocks.{IsAtRest, SoundBlocks, settled, crowded, copying}
@@ -96,7 +96,7 @@ slot-finding finding m h is = slot-refused finding (slot_at m) (slot_count m) (s
 pub finding-refused : (finding : Finding) (m : List ℕ) → Explains finding m → IsMountable m → ⊥
 finding-refused findings.OtherLayout m h is = refused-layout (layout_of m (geometry_of (length m))) refusals.Layout h is.superblock
 finding-refused findings.OtherSize m h is = refused-layout (layout_of m (geometry_of (length m))) refusals.Geometry h is.superblock
-finding-refused (findings.Journals fault) m h is = journal-refused fault (survey_of m) h ((sound_has_no_fault (survey_of m)).0 is.store.journals)
+finding-refused (findings.Journals fault) m h is = journal-refused fault (tally_of m) h ((sound_has_no_fault (tally_of m)).0 is.store.journals)
 finding-refused (findings.UnknownBlock c) m h is =
     let n = (sound-no_fault (kind_at m) (raw_slot m) (data_blocks m)).0 is.store.slots.blocks in
     n.known c h.0 h.1

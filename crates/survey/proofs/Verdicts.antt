@@ -10,7 +10,7 @@ use Rattle.nor_layout.specs.declared.superblock.SuperError.TheVariants as refusa
 use Rattle.nor_layout.specs.Kinds.{kind_of}
 use Rattle.nor_layout.specs.Layouts.{layout_of}
 use Rattle.erase_journal.specs.Blocks.{SameBlocks}
-use Rattle.erase_journal.specs.Journals.{IsHealthy, survey_of}
+use Rattle.erase_journal.specs.Journals.{IsHealthy, tally_of}
 use Rattle.erase_journal.proofs.Faulty.{sound_has_no_fault}
 use Rattle.erase_journal.specs.Recovery.{Recovers}
 use Rattle.erase_journal.proofs.SettledLaws.{settled-healthy}
@@ -75,7 +75,7 @@ pub explains-back : (finding : Finding) (m m' : List ℕ) → SameBlocks m m' �
 unfolding live-back
 explains-back findings.OtherLayout m m' s healthy h = sym (says-same m m' s) ∙ h
 explains-back findings.OtherSize m m' s healthy h = sym (says-same m m' s) ∙ h
-explains-back (findings.Journals fault) m m' s healthy h = absurd (journal-refused fault (survey_of m') h ((sound_has_no_fault (survey_of m')).0 healthy))
+explains-back (findings.Journals fault) m m' s healthy h = absurd (journal-refused fault (tally_of m') h ((sound_has_no_fault (tally_of m')).0 healthy))
 explains-back (findings.UnknownBlock c) m m' s healthy h =
     let low = below m m' c s h.0 in
     (low, sym (kind-same m m' c s low) ∙ h.1)

@@ -4,16 +4,16 @@ use Rattle.std.specs.Prelude.{Option, Some, None}
 use Rattle.nor_layout.specs.declared.journal.JournalId.{JournalId}
 use Rattle.nor_layout.specs.declared.journal.JournalId.TheVariants.{J0, J1, J2}
 use Rattle.erase_journal.specs.declared.phase.ErasePhase.{ErasePhase}
-use Rattle.erase_journal.specs.declared.survey.Survey.{Survey}
-use Rattle.erase_journal.specs.Faults.{SurveyHasNoFault}
-use Rattle.erase_journal.specs.Journals.{IsInPhase, IsSoundSurvey, settled, unused_of}
+use Rattle.erase_journal.specs.declared.tally.JournalTally.{JournalTally}
+use Rattle.erase_journal.specs.Faults.{TallyHasNoFault}
+use Rattle.erase_journal.specs.Journals.{IsInPhase, IsSoundTally, settled, unused_of}
 use Rattle.erase_journal.specs.Votes.{Last}
 use Rattle.erase_journal.proofs.Faulty.{sound_has_no_fault}
 use Rattle.survey.specs.Journals.{IsJournalFault, HasNoVoteFault}
 use Rattle.survey.specs.declared.journals.JournalFault.{JournalFault}
 use Rattle.survey.specs.declared.journals.JournalFault.TheVariants as faults
 
-pub journal-refused : (fault : JournalFault) (s : Survey) → IsJournalFault fault s → SurveyHasNoFault s → ⊥
+pub journal-refused : (fault : JournalFault) (s : JournalTally) → IsJournalFault fault s → TallyHasNoFault s → ⊥
 journal-refused (faults.TwoDoomed x) s h n = n.one_doomed x h.0 h.1
 journal-refused (faults.WrongVotes x true) s h n = (let a = (n.first_votes x h.0).0 in let b = h.1 in omega (arith, a, b))
 journal-refused (faults.WrongVotes x false) s h n = (let a = (n.second_votes x h.0).0 in let b = h.1 in omega (arith, a, b))
@@ -25,12 +25,12 @@ journal-refused (faults.EntryBesideVote x) s h n = n.entry_alone x h.0 h.1 h.2
 journal-refused faults.NoVotesLeft s h n = h n.lasts
 
 -- no fault of the votes for each journal
-each : (s : Survey) → HasNoVoteFault s J0 → HasNoVoteFault s J1 → HasNoVoteFault s J2 → (x : JournalId) → HasNoVoteFault s x
+each : (s : JournalTally) → HasNoVoteFault s J0 → HasNoVoteFault s J1 → HasNoVoteFault s J2 → (x : JournalId) → HasNoVoteFault s x
 each s a b c J0 = a
 each s a b c J1 = b
 each s a b c J2 = c
 
-faultless : (s : Survey) → ((x : JournalId) → HasNoVoteFault s x) → ((p : ErasePhase) → IsInPhase p s → Last (settled p (unused_of s))) → SurveyHasNoFault s
+faultless : (s : JournalTally) → ((x : JournalId) → HasNoVoteFault s x) → ((p : ErasePhase) → IsInPhase p s → Last (settled p (unused_of s))) → TallyHasNoFault s
 faultless s h lasts = record {
   one_doomed = λ x. (h x).one_doomed;
   first_votes = λ x. (h x).regions.first_votes;
@@ -42,7 +42,7 @@ faultless s h lasts = record {
 }
 
 -- so where journals are corrupt without any, the votes don't last
-pub none-last : (s : Survey) → ((p : ErasePhase) → IsSoundSurvey p s → ⊥) → HasNoVoteFault s J0 → HasNoVoteFault s J1 → HasNoVoteFault s J2 → IsJournalFault faults.NoVotesLeft s
+pub none-last : (s : JournalTally) → ((p : ErasePhase) → IsSoundTally p s → ⊥) → HasNoVoteFault s J0 → HasNoVoteFault s J1 → HasNoVoteFault s J2 → IsJournalFault faults.NoVotesLeft s
 none-last s corrupt a b c lasts =
     let sound = (sound_has_no_fault s).1 (faultless s (each s a b c) lasts) in
     corrupt sound.0 sound.1

@@ -9,7 +9,7 @@ use Rattle.nor_layout.specs.declared.header.Generation.{Generation}
 use Rattle.nor_layout.specs.declared.kind.Kind.{Kind}
 use Rattle.nor_layout.specs.declared.kind.Kind.TheVariants as kinds
 use Rattle.nor_layout.specs.declared.superblock.SuperError.TheVariants as refusals
-use Rattle.erase_journal.specs.Journals.{survey_of}
+use Rattle.erase_journal.specs.Journals.{tally_of}
 use Rattle.sector_slots.specs.Slots.{Slot, is_group, NoGeneration, slot_at, slot_count, kind_at}
 use Rattle.sector_slots.specs.Slots.{data_blocks, IsSpareIn}
 use Rattle.sector_slots.specs.Blocks.{AreAtRest, HasGroupRoom}
@@ -93,7 +93,7 @@ IsSlotFaultIn finding m = IsSlotFault finding (slot_at m) (slot_count m) (sector
 abbrev pub Explains : Finding → List ℕ → Type 0
 Explains findings.OtherLayout m = layout_of m (geometry_of (length m)) ≡ Err refusals.Layout
 Explains findings.OtherSize m = layout_of m (geometry_of (length m)) ≡ Err refusals.Geometry
-Explains (findings.Journals fault) m = IsJournalFault fault (survey_of m)
+Explains (findings.Journals fault) m = IsJournalFault fault (tally_of m)
 Explains (findings.UnknownBlock c) m = (c < data_blocks m) × (kind_at m c ≡ kinds.Unknown)
 Explains (findings.GroupOnSlots c) m =
     (layout_in m ≡ 2) × (c < data_blocks m) × (is_group (kind_at m c) ≡ true)

@@ -1,4 +1,4 @@
--- Why journals are corrupt: the cases of `erase_journal`'s `SurveyHasNoFault`, one by one. Source:
+-- Why journals are corrupt: the cases of `erase_journal`'s `TallyHasNoFault`, one by one. Source:
 -- own.
 use Rattle.std.specs.Prelude.{◌≡◌, ◌≤◌, true, false}
 use Rattle.nor_layout.specs.Journals.{next}
@@ -6,7 +6,7 @@ use Rattle.nor_layout.specs.declared.journal.JournalId.{JournalId}
 use Rattle.nor_layout.specs.declared.journal.JournalId.TheVariants.{J0}
 use Rattle.erase_journal.specs.declared.phase.ErasePhase.{ErasePhase}
 use Rattle.erase_journal.specs.declared.scan.VoteCounts as read
-use Rattle.erase_journal.specs.declared.survey.Survey.{Survey}
+use Rattle.erase_journal.specs.declared.tally.JournalTally.{JournalTally}
 use Rattle.erase_journal.specs.Faults.{HasVote, IsBelieved, IsDoomed, after_next}
 use Rattle.erase_journal.specs.Journals.{IsInPhase, first, second, settled, unused_of}
 use Rattle.erase_journal.specs.Votes.{Last}
@@ -22,8 +22,8 @@ use Rattle.survey.specs.declared.journals.JournalFault.TheVariants.{NoVotesLeft}
 abbrev pub as_votes : VoteCounts → read.VoteCounts
 as_votes v = record { unused = v.unused; opened = v.opened; wrong = v.wrong }
 
-abbrev pub as_survey : JournalCounts → Survey
-as_survey c = record {
+abbrev pub as_tally : JournalCounts → JournalTally
+as_tally c = record {
   j0_for_1 = as_votes c.j0_for_1;
   j0_for_2 = as_votes c.j0_for_2;
   j1_for_0 = as_votes c.j1_for_0;
@@ -35,7 +35,7 @@ as_survey c = record {
 }
 
 -- what a fault says of the counts
-abbrev pub IsJournalFault : JournalFault → Survey → Type 0
+abbrev pub IsJournalFault : JournalFault → JournalTally → Type 0
 IsJournalFault (TwoDoomed x) s = IsDoomed s x × IsDoomed s (next x)
 IsJournalFault (WrongVotes x true) s = IsBelieved s (next x) × (1 ≤ (first s x).wrong)
 IsJournalFault (WrongVotes x false) s = IsBelieved s (after_next x) × (1 ≤ (second s x).wrong)
@@ -48,12 +48,12 @@ IsJournalFault NoVotesLeft s =
     ((p : ErasePhase) → IsInPhase p s → Last (settled p (unused_of s))) → ⊥
 
 -- the votes for the erase of one journal have none of these faults
-pub record HasNoRegionFault (s : Survey) (x : JournalId) : Type 0 where
+pub record HasNoRegionFault (s : JournalTally) (x : JournalId) : Type 0 where
   pub first_votes : IsBelieved s (next x) → ((first s x).wrong ≡ 0) × ((first s x).opened ≤ 1)
   pub second_votes : IsBelieved s (after_next x)
       → ((second s x).wrong ≡ 0) × ((second s x).opened ≤ 1)
 
-pub record HasNoVoteFault (s : Survey) (x : JournalId) : Type 0 where
+pub record HasNoVoteFault (s : JournalTally) (x : JournalId) : Type 0 where
   pub one_doomed : IsDoomed s x → IsDoomed s (next x) → ⊥
   pub regions : HasNoRegionFault s x
   pub one_named : HasVote s x → HasVote s (next x) → ⊥

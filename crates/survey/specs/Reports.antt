@@ -1,7 +1,7 @@
 -- What a report says of an image. Source: own.
 use Rattle.std.specs.Prelude.{◌≡◌, ℕ, List, MatchOption}
-use Rattle.erase_journal.specs.Journals.{IsHealthy, survey_of}
-use Rattle.survey.specs.Journals.{as_survey}
+use Rattle.erase_journal.specs.Journals.{IsHealthy, tally_of}
+use Rattle.survey.specs.Journals.{as_tally}
 use Rattle.survey.specs.Summaries.{AreSummaries}
 use Rattle.survey.specs.Verdicts.{Tells}
 use Rattle.survey.specs.declared.image.Report.{Report}
@@ -10,5 +10,5 @@ use Rattle.survey.specs.declared.image.Report.{Report}
 -- data blocks, and there are none exactly where the journals are corrupt.
 pub record IsReportOf (report : Report) (m : List ℕ) : Type 0 where
   pub verdict : Tells report.verdict m
-  pub counts : as_survey report.counts ≡ survey_of m
+  pub counts : as_tally report.counts ≡ tally_of m
   pub blocks : MatchOption report.blocks (IsHealthy m → ⊥) (λ all. AreSummaries all.items m)

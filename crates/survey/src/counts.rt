@@ -3,9 +3,9 @@
 ghost use Rattle.std.specs.Prelude.{◌≡◌, ◌+◌, ◌<◌, ◌≤◌, length, IfOk, IfErr, OnOk};
 ghost use Rattle.nor_driver.specs.State.{NorFails, OnlyMemoryChanges};
 ghost use Rattle.erase_journal.specs.Journals.{first, free_entries, open_entries, second};
-ghost use Rattle.erase_journal.specs.Journals.{survey_of, votes_at};
+ghost use Rattle.erase_journal.specs.Journals.{tally_of, votes_at};
 ghost use Rattle.erase_journal.specs.Scans.{count_equal, count_wrong, free_in, open_in, is_open_in};
-ghost use Rattle.survey.specs.Journals.{as_survey, as_votes};
+ghost use Rattle.survey.specs.Journals.{as_tally, as_votes};
 
 use nor_driver::{Nor, NorError};
 use nor_layout::{
@@ -38,7 +38,7 @@ pub struct JournalCounts {
 impl JournalCounts {
     /// The votes of the next journal for the erase of this one.
     pub fn first(&self, journal: JournalId) -> VoteCounts
-        ensures { as_votes result ≡ first (as_survey self.now) journal }
+        ensures { as_votes result ≡ first (as_tally self.now) journal }
     {
         match journal {
             JournalId::J0 => self.j1_for_0,
@@ -49,7 +49,7 @@ impl JournalCounts {
 
     /// The votes of the journal after the next for the erase of this one.
     pub fn second(&self, journal: JournalId) -> VoteCounts
-        ensures { as_votes result ≡ second (as_survey self.now) journal }
+        ensures { as_votes result ≡ second (as_tally self.now) journal }
     {
         match journal {
             JournalId::J0 => self.j2_for_0,
@@ -69,8 +69,8 @@ struct EntryCounts {
 /// Counts the votes and entries of the journals. Nothing is changed.
 pub fn count_journals<N: Nor>(nor: &mut N) -> Result<JournalCounts, NorError>
     requires { JOURNALS_END ≤ length (N.state nor.old).memory }
-    ensures counts { IfOk result (λ counts. as_survey counts
-        ≡ survey_of (N.state nor.old).memory) }
+    ensures counts { IfOk result (λ counts. as_tally counts
+        ≡ tally_of (N.state nor.old).memory) }
     ensures same { (N.state nor.new).memory ≡ (N.state nor.old).memory }
     ensures kept { OnOk result (OnlyMemoryChanges (N.state nor.old) (N.state nor.new)) }
     ensures fails { IfErr result (λ e. NorFails e (N.state nor.old) (N.state nor.new)) }

@@ -4,9 +4,9 @@ ghost use Rattle.std.specs.Prelude.{◌≡◌, ◌↔◌, IsTrue, IfSome, None};
 ghost use Rattle.nor_layout.specs.Journals.{next};
 ghost use Rattle.erase_journal.specs.declared.phase.ErasePhase.{ErasePhase};
 ghost use Rattle.erase_journal.specs.Faults.{HasVote, IsDoomed};
-ghost use Rattle.erase_journal.specs.Journals.{IsSoundSurvey};
+ghost use Rattle.erase_journal.specs.Journals.{IsSoundTally};
 ghost use Rattle.survey.specs.Journals.{HasNoRegionFault, HasNoVoteFault, IsJournalFault};
-ghost use Rattle.survey.specs.Journals.{as_survey};
+ghost use Rattle.survey.specs.Journals.{as_tally};
 
 use crate::counts::JournalCounts;
 use nor_layout::JournalId;
@@ -35,8 +35,8 @@ pub enum JournalFault {
 
 /// Why journals that are sound in no phase are corrupt.
 pub fn journal_fault(counts: &JournalCounts) -> JournalFault
-    requires corrupt { (phase : ErasePhase) → IsSoundSurvey phase (as_survey counts.now) → ⊥ }
-    ensures { IsJournalFault result (as_survey counts.now) }
+    requires corrupt { (phase : ErasePhase) → IsSoundTally phase (as_tally counts.now) → ⊥ }
+    ensures { IsJournalFault result (as_tally counts.now) }
 {
     if let Some(fault) = vote_fault(counts, JournalId::J0) {
         return fault;
@@ -53,8 +53,8 @@ pub fn journal_fault(counts: &JournalCounts) -> JournalFault
 /// Why the votes for the erase of a journal are corrupt, beside those of the next one and beside
 /// J0's entries.
 fn vote_fault(counts: &JournalCounts, journal: JournalId) -> Option<JournalFault>
-    ensures fault { IfSome result (λ fault. IsJournalFault fault (as_survey counts.now)) }
-    ensures none { result ≡ None → HasNoVoteFault (as_survey counts.now) journal }
+    ensures fault { IfSome result (λ fault. IsJournalFault fault (as_tally counts.now)) }
+    ensures none { result ≡ None → HasNoVoteFault (as_tally counts.now) journal }
 {
     let following = next(journal);
     if is_doomed(counts, journal) && is_doomed(counts, following) {
@@ -79,8 +79,8 @@ fn vote_fault(counts: &JournalCounts, journal: JournalId) -> Option<JournalFault
 
 /// Why the first or the second votes for the erase of a journal are corrupt.
 fn region_fault(counts: &JournalCounts, journal: JournalId) -> Option<JournalFault>
-    ensures fault { IfSome result (λ fault. IsJournalFault fault (as_survey counts.now)) }
-    ensures none { result ≡ None → HasNoRegionFault (as_survey counts.now) journal }
+    ensures fault { IfSome result (λ fault. IsJournalFault fault (as_tally counts.now)) }
+    ensures none { result ≡ None → HasNoRegionFault (as_tally counts.now) journal }
 {
     if !is_doomed(counts, next(journal)) {
         let votes = counts.first(journal);
@@ -128,14 +128,14 @@ fn next(journal: JournalId) -> JournalId
 
 /// Whether both other journals hold an open vote for the erase of a journal.
 fn is_doomed(counts: &JournalCounts, journal: JournalId) -> bool
-    ensures { IsTrue result ↔ IsDoomed (as_survey counts.now) journal }
+    ensures { IsTrue result ↔ IsDoomed (as_tally counts.now) journal }
 {
     counts.first(journal).opened >= 1 && counts.second(journal).opened >= 1
 }
 
 /// Whether a believed journal holds an open vote for the erase of a journal.
 fn has_vote(counts: &JournalCounts, journal: JournalId) -> bool
-    ensures { IsTrue result ↔ HasVote (as_survey counts.now) journal }
+    ensures { IsTrue result ↔ HasVote (as_tally counts.now) journal }
 {
     let first = !is_doomed(counts, next(journal)) && counts.first(journal).opened >= 1;
     let second = !is_doomed(counts, next(next(journal))) && counts.second(journal).opened >= 1;

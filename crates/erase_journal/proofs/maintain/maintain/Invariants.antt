@@ -1,6 +1,6 @@
 use Rattle.std.proofs.Common.{◌≡◌, ◌≤◌, length}
 use Rattle.nor_driver.specs.State.{OnlyMemoryChanges}
-use Rattle.erase_journal.specs.Journals.{IsSettled, survey_of, unused, unused_of}
+use Rattle.erase_journal.specs.Journals.{IsSettled, tally_of, unused, unused_of}
 use Rattle.erase_journal.specs.declared.unused.Unused.{Unused}
 use Rattle.erase_journal.specs.Spending.{Maintains}
 use Rattle.erase_journal.specs.Blocks.{SameBlocks}
@@ -14,8 +14,8 @@ invariant-loop-journal g l = record {
   blocks : SameBlocks (g.N.Nor.state l.fn.nor).memory (g.N.Nor.state l.nor).memory;
   maintains : (rest : Unused) → Maintains rest (unused (g.N.Nor.state l.nor).memory) → Maintains rest (unused (g.N.Nor.state l.fn.nor).memory);
   since : OnlyMemoryChanges (g.N.Nor.state l.fn.nor) (g.N.Nor.state l.nor);
-  survey : l.survey ≡ survey_of (g.N.Nor.state l.nor).memory;
+  tally : l.tally ≡ tally_of (g.N.Nor.state l.nor).memory;
 }
 
 abbrev pub decreases-loop-journal : goal.decreases-loop-journal
-decreases-loop-journal g l = wear (unused_of l.survey)
+decreases-loop-journal g l = wear (unused_of l.tally)
