@@ -16,7 +16,7 @@
 #![tactic(auto)]
 
 mod accepting;
-mod bell;
+mod doors;
 mod fault;
 mod hall;
 mod kept;
@@ -25,7 +25,7 @@ mod socket;
 mod telling;
 
 pub use accepting::{Listener, listen};
-pub use bell::{OpenGate, Sleeper};
+pub use doors::{OpenGate, Sleeper};
 pub use fault::ServeFault;
 pub use kept::Served;
 pub use serving::{Connections, serve};

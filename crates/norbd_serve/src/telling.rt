@@ -1,10 +1,7 @@
 //! What is told of connections while they are served.
 
-ghost use Rattle.std.specs.Prelude.{length};
-
-use block_device::DiskError;
 use nbd_wire::{Command, CommandKind, EINVAL, EIO, ENOMEM, ENOSPC, EPERM, ESHUTDOWN};
-use share::{Done, Door, End, OneServer, Pass};
+use share::End;
 use std::fmt;
 use std::sync::{Mutex, Wait};
 
@@ -143,41 +140,5 @@ impl<'s, W: Wait + Log> Teller<'s, W> {
             event,
         });
         drop(turn);
-    }
-}
-
-/// A door that tells of each command whose reply has an error.
-#[derive(Drop)]
-pub(crate) struct Telling<'s, 't, T, W> {
-    pub(crate) door: T,
-    pub(crate) teller: &'t Teller<'s, W>,
-}
-
-impl<'s, 't, L: OneServer, T: Door<L>, W: Wait + Log> Door<L> for Telling<'s, 't, T, W> {
-    ghost keeps = { T.keeps };
-
-    ghost executes = { λ old new pass pass' command bytes done.
-        T.executes old.door new.door pass pass' command bytes done };
-
-    ghost tidies = { λ old new result. T.tidies old.door new.door result };
-
-    fn execute<'a>(
-        &mut self,
-        pass: &mut Pass<L>,
-        command: &Command,
-        data: &'a mut [u8],
-    ) -> Done<'a> {
-        let done = self.door.execute(pass, command, data);
-        if let Done::Replied(answer) = &done {
-            let error = answer.error();
-            if error != 0 {
-                self.teller.tell(Event::Refused(*command, error));
-            }
-        }
-        done
-    }
-
-    fn tidy(&mut self) -> Result<bool, DiskError> {
-        self.door.tidy()
     }
 }

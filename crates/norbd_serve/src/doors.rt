@@ -1,5 +1,7 @@
-//! What wakes the keeper, a change of the disk, and the gates that are passed on the way.
+//! What is done beside a command at a served connection: its doors, of which one rings for the
+//! keeper and one tells of errors, and its gates.
 
+use crate::telling::{Event, Log, Teller};
 use block_device::DiskError;
 use nbd_wire::{Command, CommandKind};
 use share::{Done, Door, Gate, OneServer, Pass, Point};
@@ -149,4 +151,40 @@ impl<'r, R: Clock> Gate for Sleeper<'r, R> {
     }
 
     ghost none = { λ gate. tt };
+}
+
+/// A door that tells of each command whose reply has an error.
+#[derive(Drop)]
+pub(crate) struct Telling<'s, 't, T, W> {
+    pub(crate) door: T,
+    pub(crate) teller: &'t Teller<'s, W>,
+}
+
+impl<'s, 't, L: OneServer, T: Door<L>, W: Wait + Log> Door<L> for Telling<'s, 't, T, W> {
+    ghost keeps = { T.keeps };
+
+    ghost executes = { λ old new pass pass' command bytes done.
+        T.executes old.door new.door pass pass' command bytes done };
+
+    ghost tidies = { λ old new result. T.tidies old.door new.door result };
+
+    fn execute<'a>(
+        &mut self,
+        pass: &mut Pass<L>,
+        command: &Command,
+        data: &'a mut [u8],
+    ) -> Done<'a> {
+        let done = self.door.execute(pass, command, data);
+        if let Done::Replied(answer) = &done {
+            let error = answer.error();
+            if error != 0 {
+                self.teller.tell(Event::Refused(*command, error));
+            }
+        }
+        done
+    }
+
+    fn tidy(&mut self) -> Result<bool, DiskError> {
+        self.door.tidy()
+    }
 }
