@@ -14,9 +14,9 @@ use erase_journal::Journal;
 use fault_model::SimChip;
 use journal_slots::SectorSlots;
 use nor_driver::{Driver, Nor};
-use sector_map::{LiveSlots, SectorMap, mount_in};
+use sector_map::{LiveSlots, SectorMap, Stock, mount_in};
 use sector_slots::SlotCalls;
-use sector_stock::{BlockState, SlotState, Stock};
+use sector_stock::{BlockState, SlotState};
 use std::alloc::Global;
 use std::rt::Clock;
 
