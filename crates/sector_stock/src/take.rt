@@ -1,6 +1,7 @@
 //! A free slot is taken from a store and its index; a block is copied where none is free.
 
-ghost use Rattle.std.specs.Prelude.{◌≡◌, ◌≢◌, ◌⊎◌, ◌<◌, ℕ, Some, None, length, OnOk, IfOk};
+ghost use Rattle.std.specs.Prelude.{◌/◌, ◌≤◌, ◌≡◌, ◌≢◌, ◌⊎◌, ◌<◌, ℕ, Some, None, length, OnOk};
+ghost use Rattle.std.specs.Prelude.{IfOk};
 ghost use Rattle.std.specs.Result.{IsErrOf};
 ghost use Rattle.chip_model.specs.Geometry.{IsChipSize};
 ghost use Rattle.nor_driver.specs.State.{IsNorReady};
