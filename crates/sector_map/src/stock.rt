@@ -14,7 +14,7 @@ use nor_driver::{Nor, NorError};
 use nor_layout::{Header, Kind, Tag};
 use sector_slots::SlotCalls;
 use sector_stock::{
-    BlockState, Copied, Cursors, Given, Policy, Purpose, Reclaim, SlotState, convert_block,
+    BOUNDS, BlockState, Copied, Cursors, Given, Policy, Purpose, Reclaim, SlotState, convert_block,
     fill_index, is_short, level_block, mark_dead, mark_written, take_slot, tidy_block,
 };
 
@@ -56,6 +56,9 @@ impl<N: Nor> Stock<N> {
                 turn: 0,
                 clock: 0,
                 newest: 0,
+                behind: 0,
+                looked: 0,
+                bounds: [0; BOUNDS],
             },
             indexed: false,
         }

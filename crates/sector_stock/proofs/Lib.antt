@@ -11,3 +11,4 @@ pub mod Finding
 pub mod Writing
 pub mod Filling
 pub mod Converting
+pub mod Searching

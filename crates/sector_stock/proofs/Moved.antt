@@ -568,10 +568,10 @@ index-dead m slots blocks at new ahead er ep h = record {
 }
 
 -- where a turn begins anew the index stays what it was
-pub turned : (turn clock : ℕ) (m : List ℕ) (slots : List SlotState) (blocks : List BlockState) (at at' : Cursors) → at' ≡ record at { turn = turn; clock = clock } → IsIndexOf slots blocks at m → IsIndexOf slots blocks at' m
-turned turn clock m slots blocks at at' e h = subst (λ a. IsIndexOf slots blocks a m) (sym e) (record {
+pub turned : (turn clock behind : ℕ) (m : List ℕ) (slots : List SlotState) (blocks : List BlockState) (at at' : Cursors) → at' ≡ record at { turn = turn; clock = clock; behind = behind } → IsIndexOf slots blocks at m → IsIndexOf slots blocks at' m
+turned turn clock behind m slots blocks at at' e h = subst (λ a. IsIndexOf slots blocks a m) (sym e) (record {
   listed = h.listed;
-  ahead = record { cursor = h.ahead.cursor; beyond = h.ahead.beyond; spares = h.ahead.spares; within = h.ahead.within; most = h.ahead.most; from = h.ahead.from };
+  ahead = record { cursor = h.ahead.cursor; beyond = h.ahead.beyond; spares = h.ahead.spares; within = h.ahead.within; most = h.ahead.most; from = h.ahead.from; high = h.ahead.high; bounds = h.ahead.bounds };
   reserve = h.reserve;
   highest = h.highest;
 })

@@ -1,9 +1,13 @@
 -- The blocks of the index once one of them was copied into the reserve, and where it looks next.
-use Rattle.std.proofs.Common.{◌≡◌, ◌≢◌, ℕ, ◌<◌, ◌≤◌, ◌⊎◌, List, length, sym, ap, ◌∙◌, arith, inl, inr}
+use Rattle.std.proofs.Common.{◌≡◌, ◌≢◌, ℕ, ◌+◌, ◌*◌, ◌/◌, ◌<◌, ◌≤◌, ◌⊎◌, List, length, sym, ap, ◌∙◌, subst, arith, inl, inr}
+use Rattle.std.specs.Prelude.{min}
+use Rattle.sector_stock.specs.declared.policy.Wanted.{Wanted}
+use Rattle.sector_stock.specs.declared.policy.Wanted.TheVariants as wanteds
+use Rattle.sector_stock.specs.Policies.{IsLoweredFor}
 use Rattle.std.proofs.lemmas.Bool.{cases_eq, false≢true}
 use Rattle.sector_stock.specs.declared.index.BlockState.{BlockState}
 use Rattle.sector_stock.specs.declared.index.Cursors.{Cursors}
-use Rattle.sector_stock.specs.Index.{in_block, IsAhead, BlocksMoved, IsNextReserve}
+use Rattle.sector_stock.specs.Index.{in_block, IsAhead, BlocksMoved, IsNextReserve, AreBounds, Counts, in_bounds, row_of}
 use Rattle.sector_stock.specs.declared.policy.Policy.{Policy}
 use Rattle.sector_stock.specs.IndexSteps.{NextReserve, IsPassed, Widened}
 
@@ -57,8 +61,8 @@ dead-moved s t blocks blocks' c moved low = elim (cases_eq c s) as (λ _. ((in_b
 ]
 
 pub ahead-moved : (s : ℕ) (blocks blocks' : List BlockState) (at mid new : Cursors) → IsAhead blocks at → BlocksMoved s at.reserve blocks blocks' → NextReserve blocks' at mid
-    → IsLooking s at.reserve (length blocks') at new → new.reserve ≡ mid.reserve → new.spares ≡ mid.spares → new.most ≡ at.most → new.from ≡ at.from → IsAhead blocks' new
-ahead-moved s blocks blocks' at mid new ahead moved next look er es em ef =
+    → IsLooking s at.reserve (length blocks') at new → new.reserve ≡ mid.reserve → new.spares ≡ mid.spares → new.most ≡ at.most → new.from ≡ at.from → AreBounds blocks' new.bounds → IsAhead blocks' new
+ahead-moved s blocks blocks' at mid new ahead moved next look er es em ef bounds =
     let n = moved.size in
     record {
       cursor = λ c l h other. none-passed s blocks blocks' at new c ahead moved look l (inl h) other;
@@ -73,15 +77,60 @@ ahead-moved s blocks blocks' at mid new ahead moved next look er es em ef =
         | inl z ↦ λ e. (let top = ahead.most c (omega (arith, l, n)) in ahead.from c (omega (arith, l, n)) (omega (arith, h, ef)) (omega (arith, e, z, em, top)))
         | inr e ↦ λ q. ahead.from c (omega (arith, l, n)) (omega (arith, h, ef)) (sym e ∙ (q ∙ em))
       ];
+      high = (let p = ahead.high in omega (arith, p, em));
+      bounds = bounds;
     }
+
+-- the bounds of the two blocks
+bound-source : (s : ℕ) (wanted : Wanted) (blocks blocks' : List BlockState) (at new : Cursors) → IsAhead blocks at → (in_block blocks s).erases < 65536 → s < length blocks → BlocksMoved s at.reserve blocks blocks' → IsLoweredFor blocks' s at new → Counts wanted (in_block blocks' s) → in_bounds new.bounds (row_of wanted) s ≤ (in_block blocks' s).erases
+bound-source s wanteds.Free blocks blocks' at new ahead fits ls moved low counts = low.source
+bound-source s (wanteds.Dead count) blocks blocks' at new ahead fits ls moved low counts = let p = counts.0 in let q = counts.2 in let r = ap (λ b. b.dead) moved.source in absurd (omega (arith, p, q, r))
+bound-source s wanteds.Resting blocks blocks' at new ahead fits ls moved low counts =
+    let p = ahead.bounds wanteds.Resting s ls tt in
+    let q = low.below (64 * 8 + s / 64) in
+    let r : (in_block blocks' s).erases ≡ min ((in_block blocks s).erases + 1) 65535 = ap (λ b. b.erases) moved.source in
+    omega (arith, p, q, r, fits)
+
+bound-target : (s : ℕ) (wanted : Wanted) (blocks blocks' : List BlockState) (at new : Cursors) → IsAhead blocks at → at.reserve < length blocks → BlocksMoved s at.reserve blocks blocks' → IsLoweredFor blocks' s at new → Counts wanted (in_block blocks' at.reserve) → in_bounds new.bounds (row_of wanted) at.reserve ≤ (in_block blocks' at.reserve).erases
+bound-target s wanteds.Free blocks blocks' at new ahead lt moved low counts = low.target
+bound-target s (wanteds.Dead count) blocks blocks' at new ahead lt moved low counts = let p = counts.0 in let q = counts.2 in let r = ap (λ b. b.dead) moved.target in absurd (omega (arith, p, q, r))
+bound-target s wanteds.Resting blocks blocks' at new ahead lt moved low counts =
+    let p = ahead.bounds wanteds.Resting at.reserve lt tt in
+    let q = low.below (64 * 8 + at.reserve / 64) in
+    let r = ap (λ b. b.erases) moved.target in
+    omega (arith, p, q, r)
+
+-- where bounds were lowered it looks where it did
+pub ahead-lowered : (s : ℕ) (blocks blocks' : List BlockState) (at new : Cursors) → IsAhead blocks at → IsLoweredFor blocks' s at new → IsAhead blocks new
+ahead-lowered s blocks blocks' at new ahead low =
+    let bounds : AreBounds blocks new.bounds = λ wanted c inside counts. (let p = ahead.bounds wanted c inside counts in let q = low.below (64 * row_of wanted + c / 64) in omega (arith, p, q)) in
+    subst (λ a. IsAhead blocks a) (sym low.rest) (record { cursor = ahead.cursor; beyond = ahead.beyond; spares = ahead.spares; within = ahead.within; most = ahead.most; from = ahead.from; high = ahead.high; bounds = bounds })
+
+-- the bounds once block s was copied into block t
+pub bounds-moved : (s : ℕ) (blocks blocks' : List BlockState) (at new : Cursors) → IsAhead blocks at → (in_block blocks s).erases < 65536 → s < length blocks → at.reserve < length blocks → BlocksMoved s at.reserve blocks blocks' → IsLoweredFor blocks' s at new → AreBounds blocks' new.bounds
+bounds-moved s blocks blocks' at new ahead fits ls lt moved low wanted c inside counts =
+    let n = moved.size in
+    let t = at.reserve in
+    elim (cases_eq c s) as (λ _. in_bounds new.bounds (row_of wanted) c ≤ (in_block blocks' c).erases) [
+      | inl e ↦ subst (λ a. in_bounds new.bounds (row_of wanted) a ≤ (in_block blocks' a).erases) (sym e) (bound-source s wanted blocks blocks' at new ahead fits ls moved low (subst (λ a. Counts wanted (in_block blocks' a)) e counts))
+      | inr ns ↦ elim (cases_eq c t) as (λ _. in_bounds new.bounds (row_of wanted) c ≤ (in_block blocks' c).erases) [
+        | inl e ↦ subst (λ a. in_bounds new.bounds (row_of wanted) a ≤ (in_block blocks' a).erases) (sym e) (bound-target s wanted blocks blocks' at new ahead lt moved low (subst (λ a. Counts wanted (in_block blocks' a)) e counts))
+        | inr nt ↦
+            let same = moved.others c (omega (arith, inside, n)) ns nt in
+            let p = ahead.bounds wanted c (omega (arith, inside, n)) (subst (λ b. Counts wanted b) same counts) in
+            let q = low.below (64 * row_of wanted + c / 64) in
+            let r = ap (λ b. b.erases) same in
+            omega (arith, p, q, r)
+      ]
+    ]
 
 -- the block into which one was copied isn't the reserve
 pub other-reserve : (p : Policy) (s t r : ℕ) (blocks blocks' : List BlockState) → BlocksMoved s t blocks blocks' → IsNextReserve p blocks' r → t ≢ r
 other-reserve p s t r blocks blocks' moved highest e = false≢true (sym (ap (λ b. b.plain) moved.target) ∙ (ap (λ a. (in_block blocks' a).plain) e ∙ highest.whole.0))
 
 -- another block is the reserve
-pub reserve-chosen : (r : ℕ) (blocks : List BlockState) (at mid new : Cursors) → at.reserve < length blocks → IsAhead blocks at → Widened at.reserve at mid → new.reserve ≡ r → new.spares ≡ length blocks → new.cursor ≡ mid.cursor → new.beyond ≡ mid.beyond → new.most ≡ mid.most → new.from ≡ mid.from → IsAhead blocks new
-reserve-chosen r blocks at mid new lr ahead wide er es ec eb em ef =
+pub reserve-chosen : (r : ℕ) (blocks : List BlockState) (at mid new : Cursors) → at.reserve < length blocks → IsAhead blocks at → Widened at.reserve at mid → new.reserve ≡ r → new.spares ≡ length blocks → new.cursor ≡ mid.cursor → new.beyond ≡ mid.beyond → new.most ≡ mid.most → new.from ≡ mid.from → new.bounds ≡ mid.bounds → IsAhead blocks new
+reserve-chosen r blocks at mid new lr ahead wide er es ec eb em ef eg =
     let wm = wide.most in
     let wf = wide.from in
     let free : (c : ℕ) → c < length blocks → IsPassed new c → (in_block blocks c).free ≡ 0 = λ c l p.
@@ -94,4 +143,6 @@ reserve-chosen r blocks at mid new lr ahead wide er es ec eb em ef =
       within = (let low = ahead.within.0 in elim wide.within as (λ _. new.beyond ≤ length blocks) [ inl h ↦ omega (arith, h, low, eb) | inr h ↦ omega (arith, h, lr, eb) ], omega (arith, es));
       most = λ c l. let p = ahead.most c l in omega (arith, p, em, wm);
       from = λ c l h e. ahead.from c l (omega (arith, h, ef, wf)) (e ∙ (em ∙ wm));
+      high = (let p = ahead.high in omega (arith, p, em, wm));
+      bounds = subst (λ k. AreBounds blocks k) (sym (eg ∙ wide.bounds)) ahead.bounds;
     }

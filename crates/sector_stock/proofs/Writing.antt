@@ -14,6 +14,9 @@ use Rattle.sector_stock.specs.declared.index.SlotState.TheVariants as states
 use Rattle.sector_stock.specs.declared.index.BlockState.{BlockState}
 use Rattle.sector_stock.specs.declared.index.Cursors.{Cursors}
 use Rattle.sector_stock.specs.Index.{is_free_slot, is_dead, in_block, IsListed, IsIndexOf, IsAhead, IsHighestWhole, IsWholeBlock, IsStocked, Marked, one_dead_more, one_free_fewer}
+use Rattle.sector_stock.specs.Index.{Counts, in_bounds, row_of}
+use Rattle.sector_stock.specs.declared.policy.Wanted.{Wanted}
+use Rattle.sector_stock.specs.declared.policy.Wanted.TheVariants as wanteds
 use Rattle.sector_stock.proofs.IndexLaws.{listed-dead, listed-live}
 use Rattle.sector_slots.specs.Blocks.{IsReserveOf, IsAtRest}
 use Rattle.sector_stock.specs.Room.{IsOutside, IsSpareBlock}
@@ -127,6 +130,12 @@ index-retired w m m' slots slots' blocks blocks' at at' index low live now only 
       highest = λ by. subst (λ r. IsReserveOf r m') (sym same) (reserve-kept w at.reserve m m' only (λ bare. subst (λ a. IsBare a) now bare) apart (index.highest (sym policy ∙ by)));
     }
 
+-- a row speaks of no more blocks where one has a free slot less
+counts-fewer : (wanted : Wanted) (b : BlockState) → Counts wanted (one_free_fewer b) → Counts wanted b
+counts-fewer wanteds.Free b h = omega (arith, h)
+counts-fewer (wanteds.Dead count) b h = h
+counts-fewer wanteds.Resting b h = tt
+
 -- where the index looks next stays where a free slot becomes live
 pub ahead-live : (w : ℕ) (slots slots' : List SlotState) (blocks blocks' : List BlockState) (at : Cursors) → w / 7 < length blocks → Marked w states.Live (one_free_fewer (in_block blocks (w / 7))) slots slots' blocks blocks'
     → 0 < (in_block blocks (w / 7)).free → (in_block blocks (w / 7)).free ≤ 7 → IsAhead blocks at → IsAhead blocks' at
@@ -153,6 +162,19 @@ ahead-live w slots slots' blocks blocks' at low marked some most ahead =
       within = (let p = ahead.within.0 in omega (arith, p, n), let p = ahead.within.1 in omega (arith, p, n));
       most = λ c l. let e = dead c (omega (arith, l, n)) in let p = ahead.most c (omega (arith, l, n)) in omega (arith, e, p);
       from = λ c l h q. ahead.from c (omega (arith, l, n)) h (sym (dead c (omega (arith, l, n))) ∙ q);
+      high = ahead.high;
+      bounds = λ wanted c l counts. elim (cases_eq c (w / 7)) as (λ _. in_bounds at.bounds (row_of wanted) c ≤ (in_block blocks' c).erases) [
+        | inl e ↦
+            let is : in_block blocks' c ≡ one_free_fewer (in_block blocks c) = ap (λ a. in_block blocks' a) e ∙ (here ∙ ap (λ a. one_free_fewer (in_block blocks a)) (sym e)) in
+            let p = ahead.bounds wanted c (omega (arith, l, n)) (counts-fewer wanted (in_block blocks c) (subst (λ b. Counts wanted b) is counts)) in
+            let q = ap (λ b. b.erases) is in
+            omega (arith, p, q)
+        | inr ne ↦
+            let is = marked.other_blocks c (omega (arith, l, n)) ne in
+            let p = ahead.bounds wanted c (omega (arith, l, n)) (subst (λ b. Counts wanted b) is counts) in
+            let q = ap (λ b. b.erases) is in
+            omega (arith, p, q)
+      ];
     }
 
 -- what a store's lists are after a sector was written: the reserve stays, or is another one

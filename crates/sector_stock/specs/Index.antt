@@ -13,6 +13,8 @@ use Rattle.sector_stock.specs.declared.index.BlockState.{BlockState}
 use Rattle.sector_stock.specs.declared.index.Cursors.{Cursors}
 use Rattle.sector_stock.specs.declared.policy.Policy.{Policy}
 use Rattle.sector_stock.specs.declared.policy.Policy.TheVariants as policies
+use Rattle.sector_stock.specs.declared.policy.Wanted.{Wanted}
+use Rattle.sector_stock.specs.declared.policy.Wanted.TheVariants as wanteds
 use Rattle.sector_slots.specs.Blocks.{IsReserveOf}
 use Rattle.sector_stock.specs.Room.{IsSpareBlock}
 use Rattle.nor_layout.specs.declared.header.Header.TheVariants as headers
@@ -92,9 +94,30 @@ pub record IsListed (slots : List SlotState) (blocks : List BlockState) (f : ℕ
 abbrev pub IsWholeBlock : BlockState → Type 0
 IsWholeBlock b = (b.plain ≡ true) × (b.free ≡ 7)
 
+-- A run is 64 blocks. A row of bounds has for each run a number of erases; these are the rows, and
+-- the blocks of which they speak. Any block may come to rest.
+abbrev pub row_of : Wanted → ℕ
+row_of wanteds.Free = 0
+row_of (wanteds.Dead count) = count
+row_of wanteds.Resting = 8
+
+abbrev pub Counts : Wanted → BlockState → Type 0
+Counts wanteds.Free b = 0 < b.free
+Counts (wanteds.Dead count) b = (0 < count) × (count < 8) × (b.dead ≡ count)
+Counts wanteds.Resting b = Unit {0}
+
+abbrev pub in_bounds : List ℕ → ℕ → ℕ → ℕ
+in_bounds bounds row c = slice_index_or bounds (64 * row + c / 64) 0
+
+-- no block of which a row speaks was erased less often than the bound of its run
+abbrev pub AreBounds : List BlockState → List ℕ → Type 0
+AreBounds blocks bounds = (wanted : Wanted) (c : ℕ) → c < length blocks
+    → Counts wanted (in_block blocks c)
+    → in_bounds bounds (row_of wanted) c ≤ (in_block blocks c).erases
+
 -- Where the index looks next: below `cursor`, and from `beyond` on, no block but the reserve has a
 -- free slot; each other wholly free block lies below `spares`; no block has more dead slots than
--- `most`, and below `from` none has so many.
+-- `most`, and below `from` none has so many; the bounds of erases are right.
 pub record IsAhead (blocks : List BlockState) (at : Cursors) : Type 0 where
   pub cursor : (c : ℕ) → c < length blocks → c < at.cursor → c ≢ at.reserve
       → (in_block blocks c).free ≡ 0
@@ -105,6 +128,8 @@ pub record IsAhead (blocks : List BlockState) (at : Cursors) : Type 0 where
   pub within : (at.beyond ≤ length blocks) × (at.spares ≤ length blocks)
   pub most : (c : ℕ) → c < length blocks → (in_block blocks c).dead ≤ at.most
   pub from : (c : ℕ) → c < length blocks → c < at.from → (in_block blocks c).dead ≢ at.most
+  pub high : at.most ≤ 7
+  pub bounds : AreBounds blocks at.bounds
 
 -- The index of a memory: its reserve is wholly free, and where it chooses by number the highest-
 -- numbered such block.

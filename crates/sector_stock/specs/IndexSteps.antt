@@ -25,6 +25,7 @@ pub record Widened (b : ℕ) (old new : Cursors) : Type 0 where
   pub spares : new.spares ≡ old.spares
   pub most : new.most ≡ old.most
   pub from : new.from ≡ old.from
+  pub bounds : new.bounds ≡ old.bounds
 
 -- the reserve is another one, and where its search ends; all else stays
 pub record NextReserve (blocks : List BlockState) (old new : Cursors) : Type 0 where
@@ -36,6 +37,7 @@ pub record NextReserve (blocks : List BlockState) (old new : Cursors) : Type 0 w
   pub beyond : new.beyond ≡ old.beyond
   pub most : new.most ≡ old.most
   pub from : new.from ≡ old.from
+  pub bounds : new.bounds ≡ old.bounds
 
 -- how many slots the first n blocks have free
 unfoldable pub free_below : List BlockState → ℕ → ℕ

@@ -2,21 +2,21 @@
 //! where it looks for a slot to give, and for a block to be copied, it goes on from where it stood.
 
 ghost use Rattle.std.specs.Prelude.{◌≡◌, ◌≢◌, ◌⊎◌, ◌+◌, ◌*◌, ◌/◌, ◌<◌, ◌≤◌, length, ℕ, List};
-ghost use Rattle.std.specs.Prelude.{MatchOption, IfSome};
+ghost use Rattle.std.specs.Prelude.{MatchOption, IfSome, IsTrue, IsFalse};
 ghost use Rattle.sector_stock.specs.Index.{IsAhead, Marked, one_dead_more, one_free_fewer};
 ghost use Rattle.sector_stock.specs.Index.{in_block, IsMostDead, HasNoDead, IsLowestWithFree};
 ghost use Rattle.sector_stock.specs.Index.{HasFreeBut, HasNoFreeBut, copied_state, Shifted};
 ghost use Rattle.sector_stock.specs.Index.{IsIndexOf, IsWholeBlock, BlocksMoved, IsNextReserve};
 ghost use Rattle.sector_stock.specs.Index.{IsLowestDead, IsLowestGroup, HasNoGroup};
-ghost use Rattle.sector_stock.specs.Policies.{IsLeastWorn, HasNoneWanted};
+ghost use Rattle.sector_stock.specs.Policies.{IsFilledUp, IsLoweredFor};
 ghost use Rattle.sector_stock.specs.declared.policy.Policy.TheVariants as policies;
-ghost use Rattle.sector_stock.specs.declared.policy.Wanted.TheVariants as wanteds;
 ghost use Rattle.sector_stock.specs.IndexSteps.{AreSparesBelow, NextReserve, Widened};
 ghost use Rattle.sector_stock.specs.IndexSteps.{HasNoFreeState, IsFirstFreeState};
 ghost use Rattle.sector_stock.specs.Room.{HasNoneFree};
 ghost use Rattle.sector_stock.specs.Takes.{IsGivable, IsLowestFree};
 
-use crate::policy::{Policy, Wanted, is_whole, least_worn, most_worn};
+use crate::least::{BOUNDS, least_worn, lower_bound};
+use crate::policy::{Policy, Wanted, is_whole};
 
 /// What the index keeps of a slot. Source: own.
 #[derive(Clone, Copy, Debug, PartialEq, Eq, Drop)]
@@ -39,7 +39,7 @@ pub struct BlockState {
 }
 
 /// Where it looks next.
-#[derive(Clone, Copy, Debug, PartialEq, Eq, Drop)]
+#[derive(Clone, Copy, Drop)]
 pub struct Cursors {
     /// How it chooses.
     pub policy: Policy,
@@ -59,8 +59,14 @@ pub struct Cursors {
     pub turn: u16,
     /// Of blocks that were erased equally often the first one behind this one is taken.
     pub clock: u16,
-    /// The block of the slot that was given last.
+    /// The block of the slot that was given last: where it chooses by erases, it is filled up.
     pub newest: u16,
+    /// The block behind the last one into which a block was moved for its wear,
+    pub behind: u16,
+    /// and where the run of blocks begins that was looked at for another one.
+    pub looked: u16,
+    /// Bounds of the erases in runs of blocks, by which the least worn one is found.
+    pub bounds: [u16; BOUNDS],
 }
 
 /// A live slot became dead.
@@ -68,6 +74,7 @@ pub fn mark_dead(slots: &mut [SlotState], blocks: &mut [BlockState], at: &mut Cu
     requires slot { slot < length slots.old }
     requires block { slot / 7 < length blocks.old }
     requires room { (in_block blocks.old (slot / 7)).dead < 7 }
+    requires size { length blocks.old ≤ 4096 }
     ensures marked { Marked slot SlotState.Dead (one_dead_more (in_block blocks.old (slot / 7)))
         slots.old slots.new blocks.old blocks.new }
     ensures ahead { IsAhead blocks.old at.old → IsAhead blocks.new at.new }
@@ -84,6 +91,12 @@ pub fn mark_dead(slots: &mut [SlotState], blocks: &mut [BlockState], at: &mut Cu
     } else if dead == at.most && block < at.from {
         at.from = block;
     }
+    lower_bound(
+        &mut at.bounds,
+        Wanted::Dead(dead),
+        block,
+        blocks[block as usize].erases,
+    );
 }
 
 /// A free slot became live.
@@ -101,7 +114,7 @@ pub(crate) fn mark_live(slots: &mut [SlotState], blocks: &mut [BlockState], slot
 
 /// A block with the most dead slots: the lowest-numbered, or the least worn, as is chosen.
 pub(crate) fn most_dead(blocks: &[BlockState], at: &mut Cursors) -> Option<u16>
-    requires size { length blocks.now < 65536 }
+    requires size { length blocks.now ≤ 4096 }
     requires ahead { IsAhead blocks.now at.old }
     ensures found { MatchOption result (HasNoDead blocks.now) (λ b. IsMostDead blocks.now b) }
     ensures lowest { at.old.policy ≡ policies.Lowest
@@ -118,23 +131,29 @@ pub(crate) fn most_dead(blocks: &[BlockState], at: &mut Cursors) -> Option<u16>
     };
     match at.policy {
         Policy::Lowest => Some(lowest),
-        Policy::Level => Some(least_worn_dead(blocks, lowest, behind(at.clock))),
+        Policy::Level => Some(least_worn_dead(blocks, at, lowest)),
     }
 }
 
 /// Of the blocks with as many dead slots as this one, the one that was erased least.
-fn least_worn_dead(blocks: &[BlockState], like: u16, from: u16) -> u16
-    requires size { length blocks.now < 65536 }
+fn least_worn_dead(blocks: &[BlockState], at: &mut Cursors, like: u16) -> u16
+    requires size { length blocks.now ≤ 4096 }
+    requires ahead { IsAhead blocks.now at.old }
     requires like { like < length blocks.now }
+    requires some { 0 < (in_block blocks.now like).dead }
     ensures number { result < length blocks.now }
     ensures dead { (in_block blocks.now result).dead ≡ (in_block blocks.now like).dead }
     ensures least { (c : ℕ) → c < length blocks.now
         → (in_block blocks.now c).dead ≡ (in_block blocks.now like).dead
         → (in_block blocks.now result).erases ≤ (in_block blocks.now c).erases }
+    ensures ahead { IsAhead blocks.now at.new }
+    ensures reserve { at.new.reserve ≡ at.old.reserve }
+    ensures policy { at.new.policy ≡ at.old.policy }
 {
     let wanted = Wanted::Dead(blocks[like as usize].dead);
     let past_all = blocks.len() as u16;
-    let Some(block) = least_worn(blocks, wanted, past_all, from) else {
+    let from = behind(at.clock);
+    let Some(block) = least_worn(blocks, &mut at.bounds, wanted, past_all, from) else {
         unreachable!()
     };
     block
@@ -199,25 +218,21 @@ pub(crate) fn lowest_group(blocks: &[BlockState]) -> Option<u16>
 /// A block but the reserve that has a free slot: the lowest-numbered, or as `level_with_free`
 /// gives it, as is chosen.
 pub(crate) fn block_with_free(blocks: &[BlockState], at: &mut Cursors) -> Option<u16>
-    requires size { length blocks.now < 65536 }
+    requires size { length blocks.now ≤ 4096 }
     requires ahead { IsAhead blocks.now at.old }
     ensures found { MatchOption result (HasNoFreeBut blocks.now at.old.reserve)
         (λ b. HasFreeBut blocks.now at.old.reserve b) }
     ensures lowest { at.old.policy ≡ policies.Lowest
         → IfSome result (λ b. IsLowestWithFree blocks.now at.old.reserve b) }
+    ensures level { at.old.policy ≡ policies.Level
+        → IfSome result (λ b. IsFilledUp at.old.newest at.old.reserve blocks.now b) }
     ensures ahead { IsAhead blocks.now at.new }
     ensures reserve { at.new.reserve ≡ at.old.reserve }
     ensures policy { at.new.policy ≡ at.old.policy }
 {
     match at.policy {
         Policy::Lowest => lowest_with_free(blocks, at),
-        Policy::Level => {
-            let Some(block) = level_with_free(blocks, at.reserve, behind(at.clock)) else {
-                return None;
-            };
-            at.newest = block;
-            Some(block)
-        }
+        Policy::Level => level_with_free(blocks, at),
     }
 }
 
@@ -241,20 +256,43 @@ pub(crate) fn choose_reserve(blocks: &[BlockState], at: &mut Cursors, reserve: u
     at.spares = blocks.len() as u16;
 }
 
-/// The least worn block that was begun, but the reserve; where none was, the least worn wholly free
-/// one.
-fn level_with_free(blocks: &[BlockState], reserve: u16, from: u16) -> Option<u16>
-    requires size { length blocks.now < 65536 }
-    ensures found { MatchOption result (HasNoFreeBut blocks.now reserve)
-        (λ b. HasFreeBut blocks.now reserve b) }
-    ensures level { IfSome result (λ b. IsLeastWorn wanteds.Begun reserve blocks.now
-        (length blocks.now) b ⊎ (HasNoneWanted wanteds.Begun reserve blocks.now
-        (length blocks.now) × IsLeastWorn wanteds.Whole reserve blocks.now
-        (length blocks.now) b)) }
+/// Whether a block but the reserve has a free slot.
+fn is_open(blocks: &[BlockState], block: u16, reserve: u16) -> bool
+    ensures yes { IsTrue result → HasFreeBut blocks.now reserve block }
+    ensures no { IsFalse result → HasFreeBut blocks.now reserve block → ⊥ }
 {
-    match least_worn(blocks, Wanted::Begun, reserve, from) {
-        Some(block) => Some(block),
-        None => least_worn(blocks, Wanted::Whole, reserve, from),
+    (block as usize) < blocks.len() && block != reserve && blocks[block as usize].free > 0
+}
+
+/// The block from which a slot was given last, while it has a free one and isn't the reserve; else
+/// the least worn block but the reserve that has one.
+fn level_with_free(blocks: &[BlockState], at: &mut Cursors) -> Option<u16>
+    requires size { length blocks.now ≤ 4096 }
+    requires ahead { IsAhead blocks.now at.old }
+    ensures found { MatchOption result (HasNoFreeBut blocks.now at.old.reserve)
+        (λ b. HasFreeBut blocks.now at.old.reserve b) }
+    ensures level { IfSome result (λ b. IsFilledUp at.old.newest at.old.reserve blocks.now b) }
+    ensures ahead { IsAhead blocks.now at.new }
+    ensures reserve { at.new.reserve ≡ at.old.reserve }
+    ensures policy { at.new.policy ≡ at.old.policy }
+{
+    let newest = at.newest;
+    let reserve = at.reserve;
+    if is_open(blocks, newest, reserve) {
+        return Some(newest);
+    }
+    if at.cursor >= at.beyond {
+        return None;
+    }
+    match least_worn(blocks, &mut at.bounds, Wanted::Free, reserve, behind(newest)) {
+        Some(block) => {
+            at.newest = block;
+            Some(block)
+        }
+        None => {
+            at.cursor = at.beyond;
+            None
+        }
     }
 }
 
@@ -330,7 +368,8 @@ fn move_counts(blocks: &mut [BlockState], source: u16, target: u16)
     requires source { source < length blocks.old }
     requires target { target < length blocks.old }
     requires numbers { (in_block blocks.old source).free + (in_block blocks.old source).dead ≤ 7 }
-    ensures { BlocksMoved source target blocks.old blocks.new }
+    ensures moved { BlocksMoved source target blocks.old blocks.new }
+    ensures fits { (in_block blocks.old source).erases < 65536 }
 {
     let old = blocks[source as usize];
     let worn = blocks[target as usize].erases;
@@ -369,20 +408,22 @@ pub(crate) fn highest_whole(blocks: &[BlockState], least: u16, below: u16) -> u1
     least
 }
 
-/// The reserve once block `source` is wholly free, and the old one isn't. By number the search goes
-/// on from where it ended: no block becomes wholly free but such a source.
+/// The reserve once block `source` is wholly free, and the old one isn't: by number the highest-
+/// numbered, and the search goes on from where it ended, since no block becomes wholly free but
+/// such a source; by erases that source.
 fn next_reserve(blocks: &[BlockState], at: &mut Cursors, source: u16)
     requires size { length blocks.now < 65536 }
     requires source { source < length blocks.now }
     requires whole { IsWholeBlock (in_block blocks.now source) }
     requires spares { AreSparesBelow blocks.now source at.old.spares }
     requires within { at.old.spares ≤ length blocks.now }
-    ensures { NextReserve blocks.now at.old at.new }
+    ensures next { NextReserve blocks.now at.old at.new }
+    ensures last { at.old.policy ≡ policies.Level → at.new.reserve ≡ source }
 {
     match at.policy {
         Policy::Lowest => next_highest(blocks, at, source),
         Policy::Level => {
-            at.reserve = most_worn(blocks, source);
+            at.reserve = source;
             at.spares = blocks.len() as u16;
             at.turn = at.turn.saturating_add(1);
         }
@@ -421,10 +462,24 @@ fn widen(at: &mut Cursors, block: u16)
     }
 }
 
+/// A block and the reserve may have free slots now that had none.
+fn lower_moved(blocks: &[BlockState], at: &mut Cursors, source: u16)
+    requires size { length blocks.now ≤ 4096 }
+    requires source { source < length blocks.now }
+    requires reserve { at.old.reserve < length blocks.now }
+    ensures { IsLoweredFor blocks.now source at.old at.new }
+{
+    let target = at.reserve;
+    let erases = blocks[source as usize].erases;
+    lower_bound(&mut at.bounds, Wanted::Free, source, erases);
+    let erases = blocks[target as usize].erases;
+    lower_bound(&mut at.bounds, Wanted::Free, target, erases);
+}
+
 /// The blocks once one of them was copied into the reserve: their counts, and where the index looks
 /// next.
 pub(crate) fn move_block(blocks: &mut [BlockState], at: &mut Cursors, source: u16)
-    requires size { length blocks.old < 65536 }
+    requires size { length blocks.old ≤ 4096 }
     requires source { source < length blocks.old }
     requires reserve { at.old.reserve < length blocks.old }
     requires other { source ≢ at.old.reserve }
@@ -433,10 +488,12 @@ pub(crate) fn move_block(blocks: &mut [BlockState], at: &mut Cursors, source: u1
     ensures moved { BlocksMoved source at.old.reserve blocks.old blocks.new }
     ensures ahead { IsAhead blocks.new at.new }
     ensures reserve { IsNextReserve at.old.policy blocks.new at.new.reserve }
+    ensures last { at.old.policy ≡ policies.Level → at.new.reserve ≡ source }
     ensures policy { at.new.policy ≡ at.old.policy }
 {
     let target = at.reserve;
     move_counts(blocks, source, target);
+    lower_moved(blocks, at, source);
     next_reserve(blocks, at, source);
     widen(at, target);
     if at.reserve != source {
@@ -451,6 +508,7 @@ pub(crate) fn free_slot(
     at: &mut Cursors,
 ) -> Option<u16>
     requires size { length states.now < 65536 }
+    requires blocks { length blocks.now ≤ 4096 }
     requires states { length states.now ≡ 7 * length blocks.now }
     requires ahead { IsAhead blocks.now at.old }
     ensures found { (m : List ℕ) → IsIndexOf states.now blocks.now at.old m

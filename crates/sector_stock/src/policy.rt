@@ -9,20 +9,22 @@ ghost use Rattle.nor_driver.specs.State.{IsNorReady};
 ghost use Rattle.erase_journal.specs.Journals.{IsHealthy, IsSettled};
 ghost use Rattle.erase_journal.specs.Steps.{EndsSettled};
 ghost use Rattle.sector_stock.specs.Index.{in_block, IsWholeBlock, IsIndexOf, IsAhead, BlocksMoved};
-ghost use Rattle.sector_stock.specs.Policies.{Wants, IsLeastWorn, HasNoneWanted, IsTail, IsDue};
-ghost use Rattle.sector_stock.specs.Policies.{IsInUse, block_before};
+ghost use Rattle.sector_stock.specs.Policies.{Wants, IsLeastWorn, IsTail, IsDue, IsInUse};
+ghost use Rattle.sector_stock.specs.Policies.{block_before};
 ghost use Rattle.sector_stock.specs.Room.{HasRoom, HasNoneDead};
 ghost use Rattle.sector_stock.specs.Copy.{Stays};
 ghost use Rattle.sector_stock.specs.Takes.{MovesInto, work_of};
 ghost use Rattle.sector_stock.specs.declared.given.Copied.{Copied as CopiedOf};
 ghost use Rattle.sector_stock.specs.declared.policy.Policy.TheVariants as policies;
+ghost use Rattle.sector_stock.specs.declared.policy.Wanted.TheVariants as wanteds;
 
 use crate::copy::reclaim_into;
 use crate::given::Copied;
 use crate::index::{
-    BlockState, Cursors, SlotState, block_with_free, choose_reserve, most_dead, move_block,
+    BlockState, Cursors, SlotState, behind, block_with_free, choose_reserve, most_dead, move_block,
     shift_states,
 };
+use crate::least::{RUN, least_worn};
 use nor_driver::NorError;
 use sector_slots::SlotCalls;
 
@@ -35,9 +37,9 @@ pub enum Policy {
     /// By number: the lowest-numbered free slot, the highest-numbered reserve, and of the blocks
     /// with the most dead slots the lowest-numbered.
     Lowest,
-    /// By erases: a slot of a block that was begun, else of the least worn; the most worn reserve;
-    /// of the blocks with the most dead slots the least worn. And every so many erases a block is
-    /// moved whose sectors rest.
+    /// By erases: a slot of the block that is being filled, else of the least worn that has one; the
+    /// reserve is the block that was erased last; of the blocks with the most dead slots the least
+    /// worn. And every so many erases a block is moved whose sectors rest.
     Level,
 }
 
@@ -53,15 +55,12 @@ pub enum Purpose {
 /// What a block is wanted for. Source: own.
 #[derive(Clone, Copy, Debug, PartialEq, Eq, Drop)]
 pub(crate) enum Wanted {
-    /// It has free slots, and isn't wholly free.
-    Begun,
-    /// It is wholly free.
-    Whole,
-    /// Its sectors rest: it has at least four live slots and fewer dead ones than this, and isn't
-    /// live with a group.
-    Cold(u8),
+    /// It has free slots.
+    Free,
     /// So many of its slots are dead.
     Dead(u8),
+    /// Its sectors rest: it has at least four live slots, and isn't live with a group.
+    Resting,
 }
 
 /// Whether a block is wholly free.
@@ -78,74 +77,10 @@ pub(crate) fn is_wanted(state: BlockState, wanted: Wanted) -> bool
     ensures no { IsFalse result → Wants wanted state → ⊥ }
 {
     match wanted {
-        Wanted::Begun => state.free > 0 && !is_whole(state),
-        Wanted::Whole => is_whole(state),
-        Wanted::Cold(most) => {
-            !state.group && state.free <= 3 && state.dead <= 3 - state.free && state.dead < most
-        }
+        Wanted::Free => state.free > 0,
         Wanted::Dead(count) => state.dead == count,
+        Wanted::Resting => !state.group && state.free <= 3 && state.dead <= 3 - state.free,
     }
-}
-
-/// The one of two blocks that was erased less; of equals the one that is met first from `from` on,
-/// counted round.
-fn less_worn(blocks: &[BlockState], old: u16, new: u16, from: u16) -> u16
-    requires old { old < length blocks.now }
-    requires new { new < length blocks.now }
-    ensures either { (result ≡ old) ⊎ (result ≡ new) }
-    ensures old { (in_block blocks.now result).erases ≤ (in_block blocks.now old).erases }
-    ensures new { (in_block blocks.now result).erases ≤ (in_block blocks.now new).erases }
-{
-    let old_erases = blocks[old as usize].erases;
-    let new_erases = blocks[new as usize].erases;
-    if new_erases < old_erases {
-        new
-    } else if new_erases == old_erases && old < from && from <= new {
-        new
-    } else {
-        old
-    }
-}
-
-/// Of the blocks that are wanted, but the block `but`, the one that was erased least; of equals the
-/// one that is met first from `from` on, counted round.
-pub(crate) fn least_worn(blocks: &[BlockState], wanted: Wanted, but: u16, from: u16) -> Option<u16>
-    requires size { length blocks.now < 65536 }
-    ensures { MatchOption result (HasNoneWanted wanted but blocks.now (length blocks.now))
-        (λ b. IsLeastWorn wanted but blocks.now (length blocks.now) b) }
-{
-    let count = blocks.len() as u16;
-    let mut best = None;
-    for block in 0..count {
-        if block != but && is_wanted(blocks[block as usize], wanted) {
-            best = match best {
-                Some(old) => Some(less_worn(blocks, old, block, from)),
-                None => Some(block),
-            };
-        }
-    }
-    best
-}
-
-/// The wholly free block that was erased most. `first` is one.
-pub(crate) fn most_worn(blocks: &[BlockState], first: u16) -> u16
-    requires size { length blocks.now < 65536 }
-    requires first { first < length blocks.now }
-    requires whole { IsWholeBlock (in_block blocks.now first) }
-    ensures number { result < length blocks.now }
-    ensures whole { IsWholeBlock (in_block blocks.now result) }
-    ensures most { (c : ℕ) → c < length blocks.now → IsWholeBlock (in_block blocks.now c)
-        → (in_block blocks.now c).erases ≤ (in_block blocks.now result).erases }
-{
-    let count = blocks.len() as u16;
-    let mut best = first;
-    for block in 0..count {
-        let state = blocks[block as usize];
-        if is_whole(state) && state.erases > blocks[best as usize].erases {
-            best = block;
-        }
-    }
-    best
 }
 
 /// The block before another one, counted round.
@@ -162,34 +97,62 @@ fn before(blocks: &[BlockState], block: u16) -> u16
 }
 
 /// Whether a block is wholly free, and the sectors of the block before it rest.
-fn is_tail(blocks: &[BlockState], block: u16, most: u8, but: u16) -> bool
+fn is_tail(blocks: &[BlockState], block: u16, but: u16) -> bool
     requires size { length blocks.now < 65536 }
     requires number { block < length blocks.now }
-    ensures { IsTrue result → IsTail most but blocks.now block }
+    ensures yes { IsTrue result → IsTail but blocks.now block }
+    ensures no { IsFalse result → IsTail but blocks.now block → ⊥ }
 {
     let last = before(blocks, block);
     last != but
         && is_whole(blocks[block as usize])
-        && is_wanted(blocks[last as usize], Wanted::Cold(most))
+        && is_wanted(blocks[last as usize], Wanted::Resting)
 }
 
-/// Of the wholly free blocks behind one whose sectors rest the most worn. Blocks that are written
-/// often lie side by side; this is the one among them that has been for longest.
-fn tail(blocks: &[BlockState], most: u8, but: u16) -> Option<u16>
+/// The more worn of a tail and a block, if the block is a tail; else the old one.
+fn better_tail(blocks: &[BlockState], old: Option<u16>, block: u16, but: u16) -> Option<u16>
     requires size { length blocks.now < 65536 }
-    ensures { IfSome result (λ b. IsTail most but blocks.now b) }
+    requires old { IfSome old (λ b. IsTail but blocks.now b) }
+    ensures tail { IfSome result (λ b. IsTail but blocks.now b) }
+    ensures kept { result ≡ None → old ≡ None }
+    ensures found { result ≡ None → IsTail but blocks.now block → ⊥ }
 {
-    let count = blocks.len() as u16;
-    let mut best = None;
-    for block in 0..count {
-        if is_tail(blocks, block, most, but) {
-            best = match best {
-                Some(old) => Some(more_worn(blocks, old, block)),
-                None => Some(block),
-            };
-        }
+    if block as usize >= blocks.len() || !is_tail(blocks, block, but) {
+        return old;
+    }
+    match old {
+        Some(tail) => Some(more_worn(blocks, tail, block)),
+        None => Some(block),
+    }
+}
+
+/// A wholly free block behind one whose sectors rest. Blocks that are written often lie side by
+/// side, and this is the one among them that has been for longest. It is the most worn one of the
+/// block erased last, the block behind the last one so chosen, and the run that is looked at next.
+fn tail(blocks: &[BlockState], at: &Cursors) -> Option<u16>
+    requires size { length blocks.now ≤ 4096 }
+    ensures tail { IfSome result (λ b. IsTail at.now.newest blocks.now b) }
+    ensures found { result ≡ None → IsTail at.now.newest blocks.now at.now.reserve → ⊥ }
+{
+    let mut best = better_tail(blocks, None, at.reserve, at.newest);
+    best = better_tail(blocks, best, at.behind, at.newest);
+    let first = at.looked.min(blocks.len() as u16);
+    for block in first..first + RUN {
+        best = better_tail(blocks, best, block, at.newest);
     }
     best
+}
+
+/// The run of blocks that is looked at behind this one, counted round.
+fn next_look(blocks: &[BlockState], looked: u16) -> u16
+    requires size { length blocks.now ≤ 4096 }
+{
+    let count = blocks.len() as u16;
+    if looked < count && RUN < count - looked {
+        looked + RUN
+    } else {
+        0
+    }
 }
 
 /// The one of two blocks that was erased more; of equals the first.
@@ -210,9 +173,11 @@ fn more_worn(blocks: &[BlockState], old: u16, new: u16) -> u16
 /// The block that is moved for its wear now, and where to; None where it isn't time for it, or
 /// there is none.
 fn move_due(blocks: &[BlockState], at: &mut Cursors, purpose: Purpose) -> Option<Copied>
-    requires size { length blocks.now < 65536 }
+    requires size { length blocks.now ≤ 4096 }
     requires ahead { IsAhead blocks.now at.old }
     ensures due { IfSome result (λ c. IsDue blocks.now c.source c.target) }
+    ensures least { IfSome result (λ c. IsLeastWorn wanteds.Resting at.new.newest blocks.now
+        (length blocks.now) c.source) }
     ensures lowest { at.old.policy ≡ policies.Lowest → result ≡ None }
     ensures early { at.old.turn < 8 → result ≡ None }
     ensures ahead { IsAhead blocks.now at.new }
@@ -228,24 +193,34 @@ fn move_due(blocks: &[BlockState], at: &mut Cursors, purpose: Purpose) -> Option
     let Some(worst) = most_dead(blocks, at) else {
         return None;
     };
-    coldest(blocks, at.newest, worst)
+    at.looked = next_look(blocks, at.looked);
+    coldest(blocks, at, worst)
 }
 
 /// The least worn block whose sectors rest, and the tail into which it is moved. `worst` has the
 /// most dead slots.
-fn coldest(blocks: &[BlockState], newest: u16, worst: u16) -> Option<Copied>
-    requires size { length blocks.now < 65536 }
+fn coldest(blocks: &[BlockState], at: &mut Cursors, worst: u16) -> Option<Copied>
+    requires size { length blocks.now ≤ 4096 }
+    requires ahead { IsAhead blocks.now at.old }
     requires worst { worst < length blocks.now }
-    requires dead { 0 < (in_block blocks.now worst).dead }
-    ensures { IfSome result (λ c. IsDue blocks.now c.source c.target) }
+    ensures due { IfSome result (λ c. IsDue blocks.now c.source c.target) }
+    ensures least { IfSome result (λ c. IsLeastWorn wanteds.Resting at.new.newest blocks.now
+        (length blocks.now) c.source) }
+    ensures ahead { IsAhead blocks.now at.new }
+    ensures reserve { at.new.reserve ≡ at.old.reserve }
+    ensures policy { at.new.policy ≡ at.old.policy }
 {
-    let most = blocks[worst as usize].dead;
-    let Some(target) = tail(blocks, most, newest) else {
+    let Some(target) = tail(blocks, at) else {
         return None;
     };
-    match least_worn(blocks, Wanted::Cold(most), newest, target) {
-        Some(source) => Some(Copied { source, target }),
-        None => None,
+    let newest = at.newest;
+    let Some(source) = least_worn(blocks, &mut at.bounds, Wanted::Resting, newest, target) else {
+        return None;
+    };
+    if blocks[source as usize].dead < blocks[worst as usize].dead {
+        Some(Copied { source, target })
+    } else {
+        None
     }
 }
 
@@ -258,7 +233,7 @@ fn move_used<S: SlotCalls>(
     at: &mut Cursors,
     source: u16,
 ) -> Result<Copied, NorError>
-    requires size { length blocks.old < 65536 }
+    requires size { length blocks.old ≤ 4096 }
     requires index { IsIndexOf states.old blocks.old at.old (S.state slots.old).memory }
     requires room { HasRoom (S.state slots.old).memory }
     requires source { source < length blocks.old }
@@ -287,12 +262,12 @@ fn move_used<S: SlotCalls>(
     Ok(Copied { source, target })
 }
 
-/// A block was moved for `TURN` erases; the order of blocks stays.
-fn end_turn(at: &mut Cursors, turn: u16, clock: u16)
-    ensures { at.new ≡ record at.old { turn = turn - 8; clock = clock } }
+/// A block was moved into this one for `TURN` erases.
+fn end_turn(at: &mut Cursors, turn: u16, target: u16)
+    ensures { at.new ≡ record at.old { turn = turn - 8; behind = at.new.behind } }
 {
     at.turn = turn.saturating_sub(TURN);
-    at.clock = clock;
+    at.behind = behind(target);
 }
 
 /// Moves a block whose sectors rest into a wholly free one, where it is time for it.
@@ -332,9 +307,8 @@ pub fn level_block<S: SlotCalls>(
         return Ok(None);
     };
     let turn = at.turn;
-    let clock = at.clock;
     choose_reserve(blocks, at, due.target);
     let moved = move_used(slots, states, blocks, at, due.source)?;
-    end_turn(at, turn, clock);
+    end_turn(at, turn, due.target);
     Ok(Some(moved))
 }

@@ -11,7 +11,8 @@ ghost use Rattle.sector_stock.specs.Index.{is_plain as is_plain_kind, is_free_st
 ghost use Rattle.sector_stock.specs.Index.{states_tally, is_live_group};
 
 use crate::index::{BlockState, Cursors, SlotState, highest_whole};
-use crate::policy::{Policy, TURN, Wanted, least_worn};
+use crate::least::no_bounds;
+use crate::policy::{Policy, TURN, is_whole};
 use nor_driver::NorError;
 use nor_layout::{Header, Kind};
 use sector_slots::SlotCalls;
@@ -186,6 +187,9 @@ pub(crate) fn first_cursors(blocks: &[BlockState], policy: Policy) -> Cursors
         turn: TURN,
         clock: first_clock(blocks, reserve),
         newest: reserve,
+        behind: 0,
+        looked: 0,
+        bounds: no_bounds(),
     }
 }
 
@@ -195,8 +199,16 @@ pub(crate) fn first_cursors(blocks: &[BlockState], policy: Policy) -> Cursors
 fn first_clock(blocks: &[BlockState], reserve: u16) -> u16
     requires size { length blocks.now < 65536 }
 {
-    if least_worn(blocks, Wanted::Whole, reserve, 0).is_none() {
-        return reserve;
+    let count = blocks.len() as u16;
+    let mut begun = reserve;
+    let mut spare = false;
+    for block in 0..count {
+        let state = blocks[block as usize];
+        if block != reserve && is_whole(state) {
+            spare = true;
+        } else if begun == reserve && state.free > 0 {
+            begun = block;
+        }
     }
-    least_worn(blocks, Wanted::Begun, reserve, 0).unwrap_or(reserve)
+    if spare { begun } else { reserve }
 }

@@ -23,10 +23,10 @@ ghost use Rattle.sector_stock.specs.declared.given.Copied.{Copied as CopiedOf};
 use crate::copy::reclaim_into;
 use crate::given::{Copied, Given};
 use crate::index::{
-    BlockState, Cursors, SlotState, behind, choose_reserve, free_slot, lowest_group, mark_live,
-    most_dead, move_block, shift_states,
+    BlockState, Cursors, SlotState, free_slot, lowest_group, mark_live, most_dead, move_block,
+    shift_states,
 };
-use crate::policy::{Policy, Wanted, least_worn};
+use crate::policy::Policy;
 use crate::scan::first_cursors;
 use nor_driver::NorError;
 use sector_slots::SlotCalls;
@@ -40,7 +40,7 @@ fn copy_most<S: SlotCalls>(
     at: &mut Cursors,
     source: u16,
 ) -> Result<Copied, NorError>
-    requires size { length blocks.old < 65536 }
+    requires size { length blocks.old ≤ 4096 }
     requires index { IsIndexOf states.old blocks.old at.old (S.state slots.old).memory }
     requires room { HasRoom (S.state slots.old).memory }
     requires most { IsMostDead blocks.old source }
@@ -82,28 +82,6 @@ fn go_on_behind(at: &mut Cursors, block: u16)
     at.clock = block;
 }
 
-/// Where it chooses by erases: the least worn wholly free block is the reserve, into which a block
-/// is tidied.
-fn choose_target(blocks: &[BlockState], at: &mut Cursors)
-    requires size { length blocks.now < 65536 }
-    requires old { at.old.reserve < length blocks.now }
-    requires whole { IsWholeBlock (in_block blocks.now at.old.reserve) }
-    requires ahead { IsAhead blocks.now at.old }
-    ensures ahead { IsAhead blocks.now at.new }
-    ensures number { at.new.reserve < length blocks.now }
-    ensures whole { IsWholeBlock (in_block blocks.now at.new.reserve) }
-    ensures lowest { at.old.policy ≡ policies.Lowest → at.new ≡ at.old }
-    ensures policy { at.new.policy ≡ at.old.policy }
-{
-    if at.policy == Policy::Lowest {
-        return;
-    }
-    let past_all = blocks.len() as u16;
-    if let Some(target) = least_worn(blocks, Wanted::Whole, past_all, behind(at.clock)) {
-        choose_reserve(blocks, at, target);
-    }
-}
-
 /// Converts a block that is live with a group into slots of the reserve, and brings the index up to
 /// date.
 pub fn convert_block<S: SlotCalls>(
@@ -113,7 +91,7 @@ pub fn convert_block<S: SlotCalls>(
     at: &mut Cursors,
     source: u16,
 ) -> Result<Copied, NorError>
-    requires size { length blocks.old < 65536 }
+    requires size { length blocks.old ≤ 4096 }
     requires source { source < data_blocks (S.state slots.old).memory }
     requires group { IsLiveGroup source (S.state slots.old).memory }
     requires index { IsIndexOf states.old blocks.old at.old (S.state slots.old).memory }
@@ -278,7 +256,6 @@ pub fn tidy_block<S: SlotCalls>(
     ensures blocks_size { length blocks.new ≡ length blocks.old }
     ensures ends { EndsSettled result (S.state slots.old) (S.state slots.new) }
 {
-    choose_target(blocks, at);
     match most_dead(blocks, at) {
         Some(source) => {
             let copied = copy_most(slots, states, blocks, at, source)?;
@@ -293,7 +270,7 @@ pub fn mark_written(slots: &mut [SlotState], blocks: &mut [BlockState], at: &mut
     requires slot { slot < length slots.old }
     requires block { slot / 7 < length blocks.old }
     requires some { 0 < (in_block blocks.old (slot / 7)).free }
-    requires size { length blocks.old < 65536 }
+    requires size { length blocks.old ≤ 4096 }
     requires numbers { (c : ℕ) → c < length blocks.old → (in_block blocks.old c).dead ≤ 7 }
     requires spare { (c : ℕ) × (c < length blocks.old) × IsWholeBlock (in_block blocks.old c)
         × (c ≢ slot / 7) }

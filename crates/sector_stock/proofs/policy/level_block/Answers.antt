@@ -21,4 +21,4 @@ returns-clause-left g c d is none =
 
 pub returns-clause-index : goal.returns-clause-index
 returns-clause-index g c =
-    turned _ _ (g.S.SlotCalls.state c.move_used.new.slots).memory c.move_used.new.states c.move_used.new.blocks c.move_used.new.at c.end_turn.new.at c.end_turn.ensures c.in_ok-moved.ensures.index
+    turned _ _ _ (g.S.SlotCalls.state c.move_used.new.slots).memory c.move_used.new.states c.move_used.new.blocks c.move_used.new.at c.end_turn.new.at c.end_turn.ensures c.in_ok-moved.ensures.index

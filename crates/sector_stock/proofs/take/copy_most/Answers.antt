@@ -63,7 +63,7 @@ returns-clause-index g c =
     let m = (g.S.SlotCalls.state c.args.slots.now).memory in
     let h = copyable-now c.args.source m c.args.states.now c.args.blocks.now c.args.at.now c.requires.room c.requires.index c.requires.most in
     let done = c.in_ok-reclaim_into.ensures.ok h in
-    turned c.move_block.new.at.turn c.args.source (g.S.SlotCalls.state c.reclaim_into.new.slots).memory c.shift_states.new.slots c.move_block.new.blocks c.move_block.new.at c.go_on_behind.new.at c.go_on_behind.ensures
+    turned c.move_block.new.at.turn c.args.source c.move_block.new.at.behind (g.S.SlotCalls.state c.reclaim_into.new.slots).memory c.shift_states.new.slots c.move_block.new.blocks c.move_block.new.at c.go_on_behind.new.at c.go_on_behind.ensures
     (index-moved c.args.source m (g.S.SlotCalls.state c.reclaim_into.new.slots).memory c.args.states.now c.shift_states.new.slots c.args.blocks.now c.move_block.new.blocks c.args.at.now c.move_block.new.at
     c.requires.room h.source done.slots done.blocks c.requires.index c.shift_states.ensures c.move_block.ensures.moved c.move_block.ensures.ahead c.move_block.ensures.reserve c.move_block.ensures.policy)
 

@@ -1,7 +1,7 @@
 use Rattle.std.specs.Prelude.{◌⊎◌, IfSome}
 use Rattle.std.proofs.Common.{◌≡◌, ◌∙◌, None, Some, inl, inr, subst}
 use Rattle.std.proofs.lemmas.Result.{IfOk-weaker}
-use Rattle.sector_stock.proofs.Moved.{none-dead-in, spare-whole, index-target, index-dead}
+use Rattle.sector_stock.proofs.Moved.{none-dead-in, index-dead}
 use Rattle.sector_stock.specs.Room.{HasNoneDead}
 use Rattle.sector_stock.specs.Takes.{HasNoGroups, HasMostDead, HasFewerBelow, TidiesStock}
 use Rattle.sector_stock.specs.declared.given.Copied.{Copied}
@@ -30,7 +30,7 @@ pub returns-in_ok-copied-in-Some-clause-lowest : goal.returns-in_ok-copied-in-So
 returns-in_ok-copied-in-Some-clause-lowest g c by d e =
     let m = (g.S.SlotCalls.state c.args.slots.now).memory in
     inr (subst (λ o. IfSome o (λ x. HasFewerBelow x.source m)) e
-    (c.in_ok-copied-in-Some.ensures.numbers (c.most_dead.ensures.policy ∙ (c.choose_target.ensures.policy ∙ by)) (c.in-Some.ensures.lowest (c.choose_target.ensures.policy ∙ by))).0)
+    (c.in_ok-copied-in-Some.ensures.numbers (c.most_dead.ensures.policy ∙ by) (c.in-Some.ensures.lowest by)).0)
 
 pub returns-in-None-clause-lowest : goal.returns-in-None-clause-lowest
 returns-in-None-clause-lowest g c by =
@@ -40,19 +40,12 @@ returns-in-None-clause-lowest g c by =
     IfOk-weaker c.convert_lowest.result (λ copied. (d : Copied) → copied ≡ Some d → TidiesStock d.source d.target m m1) (λ copied. (d : Copied) → copied ≡ Some d → HasNoneDead m ⊎ HasFewerBelow d.source m)
     (λ copied h d e. inl dead) c.convert_lowest.ensures.copied
 
-pub choose_target-requires-clause-whole : goal.choose_target-requires-clause-whole
-choose_target-requires-clause-whole g c =
-    let index = c.requires.index in
-    spare-whole (g.S.SlotCalls.state c.args.slots.now).memory c.args.states.now c.args.blocks.now c.args.at.now.reserve c.requires.room.blocks.rest index.listed index.reserve.number index.reserve.spare
-
 pub copy_most-requires-clause-index : goal.copy_most-requires-clause-index
 copy_most-requires-clause-index g c =
     let m = (g.S.SlotCalls.state c.args.slots.now).memory in
-    index-dead m c.args.states.now c.args.blocks.now c.choose_target.new.at c.most_dead.new.at c.most_dead.ensures.ahead c.most_dead.ensures.reserve c.most_dead.ensures.policy
-    (index-target (g.S.SlotCalls.state c.args.slots.now).memory c.args.states.now c.args.blocks.now c.args.at.now c.choose_target.new.at c.requires.room c.requires.index c.choose_target.ensures.ahead c.choose_target.ensures.number c.choose_target.ensures.whole c.choose_target.ensures.lowest c.choose_target.ensures.policy)
+    index-dead m c.args.states.now c.args.blocks.now c.args.at.now c.most_dead.new.at c.most_dead.ensures.ahead c.most_dead.ensures.reserve c.most_dead.ensures.policy c.requires.index
 
 pub convert_lowest-requires-clause-index : goal.convert_lowest-requires-clause-index
 convert_lowest-requires-clause-index g c =
     let m = (g.S.SlotCalls.state c.args.slots.now).memory in
-    index-dead m c.args.states.now c.args.blocks.now c.choose_target.new.at c.most_dead.new.at c.most_dead.ensures.ahead c.most_dead.ensures.reserve c.most_dead.ensures.policy
-    (index-target (g.S.SlotCalls.state c.args.slots.now).memory c.args.states.now c.args.blocks.now c.args.at.now c.choose_target.new.at c.requires.room c.requires.index c.choose_target.ensures.ahead c.choose_target.ensures.number c.choose_target.ensures.whole c.choose_target.ensures.lowest c.choose_target.ensures.policy)
+    index-dead m c.args.states.now c.args.blocks.now c.args.at.now c.most_dead.new.at c.most_dead.ensures.ahead c.most_dead.ensures.reserve c.most_dead.ensures.policy c.requires.index
