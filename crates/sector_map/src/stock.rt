@@ -201,6 +201,10 @@ impl<N: Nor> SlotCalls for Stock<N> {
 impl<N: Nor> Reclaim for Stock<N> {
     ghost policy = { λ stock. stock.at.policy };
 
+    ghost counts = { λ stock. stock.blocks.items };
+
+    ghost cursors = { λ stock. stock.at };
+
     fn fill(&mut self) -> Result<(), NorError> {
         self.indexed = false;
         self.at = fill_index(

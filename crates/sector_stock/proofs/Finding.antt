@@ -2,7 +2,7 @@
 use Rattle.std.specs.Prelude.{IfSome}
 use Rattle.std.proofs.Common.{◌≡◌, ◌≢◌, ℕ, ◌+◌, ◌*◌, ◌<◌, List, refl, sym, ap, ◌∙◌, arith, inl, inr, MatchOption, Option, Some, None}
 use Rattle.std.specs.Prelude.{◌/◌, ◌%◌}
-use Rattle.std.proofs.lemmas.Bool.{cases_lt}
+use Rattle.std.proofs.lemmas.Bool.{cases_lt, cases_eq}
 use Rattle.sector_slots.specs.Slots.{Slot, Free, Live, NoGeneration, Dead, Outside, slot_at, slot_count, data_blocks, kind_at}
 use Rattle.sector_stock.specs.declared.index.SlotState.{SlotState}
 use Rattle.sector_stock.specs.declared.index.SlotState.TheVariants as states
@@ -13,7 +13,8 @@ use Rattle.sector_stock.specs.Index.{HasFreeBut, state_of, is_free_slot, in_bloc
 use Rattle.sector_stock.specs.IndexSteps.{HasNoFreeState, IsFirstFreeState}
 use Rattle.sector_stock.specs.Room.{HasNoneFree}
 use Rattle.sector_slots.specs.Blocks.{IsReserveOf}
-use Rattle.sector_stock.specs.Takes.{IsLowestFree, IsGivable}
+use Rattle.sector_stock.specs.Takes.{IsLowestFree, IsGivable, HasFreeIn, FillsUp, erases_of}
+use Rattle.sector_stock.specs.Policies.{IsFilledUp}
 use Rattle.sector_stock.proofs.Tallies.{tally-some, tally-none, free-is, not-both}
 
 state-free : (x : Slot) → state_of x ≡ states.Free → x ≡ Free
@@ -101,3 +102,67 @@ given-free (Some w) b m slots blocks at index low h =
 pub only-some : (o : Option ℕ) (r : ℕ) (m : List ℕ) → MatchOption o (HasNoneFree r m) (λ w. IsLowestFree w m) → IfSome o (λ w. IsLowestFree w m)
 only-some None r m h = tt
 only-some (Some w) r m h = h
+
+-- a block but the reserve has a free slot, in the index and in the memory
+pub free-in : (n r : ℕ) (m : List ℕ) (slots : List SlotState) (blocks : List BlockState) → IsListed slots blocks (slot_at m) (kind_at m) (data_blocks m) → HasFreeIn n r m → HasFreeBut blocks r n
+free-in n r m slots blocks listed h =
+    let size = listed.block_size in
+    let low = h.number in
+    let at = h.block in
+    let inside : n < data_blocks m = omega (arith, low, at) in
+    (omega (arith, inside, size), h.other, elim (cases_eq (in_block blocks n).free 0) as (λ _. 0 < (in_block blocks n).free) [
+      | inr ne ↦ omega (arith, ne)
+      | inl e ↦ absurd (none-in m slots blocks h.slot listed low (ap (λ c. (in_block blocks c).free) at ∙ e) h.free)
+    ])
+
+pub in-free : (n r : ℕ) (m : List ℕ) (slots : List SlotState) (blocks : List BlockState) → IsListed slots blocks (slot_at m) (kind_at m) (data_blocks m) → HasFreeBut blocks r n → HasFreeIn n r m
+in-free n r m slots blocks listed h =
+    let size = listed.block_size in
+    let low = h.0 in
+    let here : n < data_blocks m = omega (arith, low, size) in
+    let count = (listed.each_block n here).free in
+    let some = h.2 in
+    let d = tally-some is_free_slot (slot_at m) n (omega (arith, some, count)) in
+    let small = d.1.0 in
+    record {
+      other = h.1;
+      slot = 7 * n + d.0;
+      number = omega (arith, here, small);
+      block = omega (arith, small);
+      free = free-is (slot_at m (7 * n + d.0)) d.1.1;
+    }
+
+-- a block that has a free slot has one in the states
+pub none-there : (b r : ℕ) (m : List ℕ) (slots : List SlotState) (blocks : List BlockState) → IsListed slots blocks (slot_at m) (kind_at m) (data_blocks m) → HasFreeBut blocks r b → HasNoFreeState slots b → ⊥
+none-there b r m slots blocks listed low h =
+    let n = listed.block_size in
+    let inside = low.0 in
+    let here : b < data_blocks m = omega (arith, inside, n) in
+    let count = (listed.each_block b here).free in
+    let some = low.2 in
+    let d = tally-some is_free_slot (slot_at m) b (omega (arith, some, count)) in
+    let small = d.1.0 in
+    h d.0 small (listed.each_slot (7 * b + d.0) (omega (arith, here, small)) ∙ ap state_of (free-is (slot_at m (7 * b + d.0)) d.1.1))
+
+-- the slot of the block that is filled up
+pub found-filled : (o : Option ℕ) (b : ℕ) (m : List ℕ) (slots : List SlotState) (blocks : List BlockState) (at : Cursors) → IsIndexOf slots blocks at m → HasFreeBut blocks at.reserve b → IsFilledUp at.newest at.reserve blocks b
+    → MatchOption o (HasNoFreeState slots b) (λ w. IsFirstFreeState slots b w) → IfSome o (λ w. FillsUp at.newest at.reserve (erases_of blocks) w m)
+found-filled None b m slots blocks at index low up h = tt
+found-filled (Some w) b m slots blocks at index low up h =
+    let n = index.listed.block_size in
+    let inside = low.0 in
+    let block = h.block in
+    let here : b < data_blocks m = omega (arith, inside, n) in
+    let number : w < slot_count m = omega (arith, here, block) in
+    record {
+      number = number;
+      free = state-free (slot_at m w) (sym (index.listed.each_slot w number) ∙ h.free);
+      outside = λ e. low.1 (sym block ∙ sym e);
+      goes_on = λ more. block ∙ up.goes_on (free-in at.newest at.reserve m slots blocks index.listed more);
+      begins = λ none s small other free.
+          let least = up.begins (λ more. none (in-free at.newest at.reserve m slots blocks index.listed more)) in
+          let has = free-in (s / 7) at.reserve m slots blocks index.listed (record { other = other; slot = s; number = small; block = refl; free = free }) in
+          let q = least.least (s / 7) has.0 other has.2 in
+          let e = ap (λ c. (in_block blocks c).erases) block in
+          omega (arith, q, e);
+    }

@@ -12,3 +12,4 @@ pub mod Writing
 pub mod Filling
 pub mod Converting
 pub mod Searching
+pub mod Worn

@@ -1,5 +1,5 @@
 -- What a search of a run, or of several, finds; and what becomes of the bounds.
-use Rattle.std.proofs.Common.{◌≡◌, ◌≢◌, ℕ, ◌+◌, ◌*◌, ◌/◌, ◌<◌, ◌≤◌, List, length, arith, refl, sym, ap, subst, ◌∙◌, inl, inr, MatchOption, Option, Some, None, IfSome, slice_index_or, slice_set, ◌-◌, ◌%◌, ◌⊎◌}
+use Rattle.std.proofs.Common.{◌≡◌, ℕ, ◌+◌, ◌*◌, ◌/◌, ◌<◌, ◌≤◌, List, length, arith, sym, subst, ◌∙◌, inl, inr, MatchOption, Option, Some, None, IfSome, slice_index_or, slice_set, ◌-◌, ◌%◌, ◌⊎◌}
 use Rattle.std.proofs.lemmas.List.{get_or-set_other}
 use Rattle.std.proofs.lemmas.Grind.{get_or-set_at}
 use Rattle.std.proofs.lemmas.Bool.{cases_eq, cases_lt}
@@ -7,7 +7,7 @@ use Rattle.sector_stock.specs.declared.index.BlockState.{BlockState}
 use Rattle.sector_stock.specs.declared.policy.Wanted.{Wanted}
 use Rattle.sector_stock.specs.declared.policy.Wanted.TheVariants as wanteds
 use Rattle.sector_stock.specs.Index.{in_block, AreBounds, Counts, in_bounds, row_of}
-use Rattle.sector_stock.specs.Policies.{Wants, HasRow, IsWantedBut, IsLeastOf, IsNoneOf, IsNotMore, Improves}
+use Rattle.sector_stock.specs.Policies.{Wants, HasRow, IsWantedBut, IsNotMore, Improves}
 
 -- a row speaks of the blocks that are wanted
 wanted-counts : (wanted : Wanted) (b : BlockState) → HasRow wanted → Wants wanted b → Counts wanted b

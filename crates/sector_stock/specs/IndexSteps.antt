@@ -26,6 +26,7 @@ pub record Widened (b : ℕ) (old new : Cursors) : Type 0 where
   pub most : new.most ≡ old.most
   pub from : new.from ≡ old.from
   pub bounds : new.bounds ≡ old.bounds
+  pub newest : new.newest ≡ old.newest
 
 -- the reserve is another one, and where its search ends; all else stays
 pub record NextReserve (blocks : List BlockState) (old new : Cursors) : Type 0 where
@@ -38,6 +39,7 @@ pub record NextReserve (blocks : List BlockState) (old new : Cursors) : Type 0 w
   pub most : new.most ≡ old.most
   pub from : new.from ≡ old.from
   pub bounds : new.bounds ≡ old.bounds
+  pub newest : new.newest ≡ old.newest
 
 -- how many slots the first n blocks have free
 unfoldable pub free_below : List BlockState → ℕ → ℕ

@@ -90,6 +90,11 @@ pub record IsTail (but : ℕ) (blocks : List BlockState) (b : ℕ) : Type 0 wher
   pub other : block_before blocks b ≢ but
   pub rests : Wants wanteds.Resting (in_block blocks (block_before blocks b))
 
+-- each block whose sectors rest has fewer dead slots than block w
+abbrev pub AreRestingFewer : List BlockState → ℕ → Type 0
+AreRestingFewer blocks w = (c : ℕ) → c < length blocks → Wants wanteds.Resting (in_block blocks c)
+    → (in_block blocks c).dead < (in_block blocks w).dead
+
 -- a block that is neither wholly free nor live with a group: it can be copied as slots
 abbrev pub IsInUse : BlockState → Type 0
 IsInUse b = (b.group ≡ false) × (IsWholeBlock b → ⊥)

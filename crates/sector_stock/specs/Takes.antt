@@ -1,7 +1,7 @@
 -- What giving a slot leaves: nothing changed, or a block was copied into a wholly free one first.
 -- Source: own, layout 2.
 use Rattle.std.specs.Prelude.{◌≡◌, ◌≢◌, ℕ, ◌+◌, ◌-◌, ◌*◌, Bool, false, ◌/◌, ◌<◌, ◌≤◌, List}
-use Rattle.std.specs.Prelude.{Option, Some, None, if◌then◌else◌, nat_lt}
+use Rattle.std.specs.Prelude.{Option, Some, None, if◌then◌else◌, nat_lt, MatchOption}
 use Rattle.nor_layout.specs.declared.header.Generation.{Generation}
 use Rattle.nor_layout.specs.declared.header.Generation.TheVariants as generations
 use Rattle.nor_layout.specs.declared.header.Tag.{Tag}
@@ -15,7 +15,9 @@ use Rattle.sector_slots.specs.Blocks.{AreSettled, IsReserveOf}
 use Rattle.sector_slots.specs.Copying.{shifted}
 use Rattle.sector_stock.specs.declared.given.Copied.{Copied}
 use Rattle.sector_stock.specs.Room.{HasNoneDead, IsSpareBlock, IsFull}
-use Rattle.sector_stock.specs.Index.{tally, is_dead, is_free_slot, is_live_group}
+use Rattle.sector_stock.specs.declared.index.BlockState.{BlockState}
+use Rattle.sector_stock.specs.Index.{tally, is_dead, is_free_slot, is_live_group, in_block}
+use Rattle.sector_stock.specs.Index.{one_erase_more}
 use Rattle.sector_stock.specs.Copy.{SameSectors}
 
 -- how many slots of data block c are dead, and of all
@@ -75,6 +77,59 @@ pub record CopiesInto (s t : ℕ) (m m' : List ℕ) : Type 0 where
   pub target : IsSpareBlock t m
   pub shifts : Shifts s t m m'
   pub erased : IsSpareIn m' s
+
+-- How often each block was erased, by the counts of a list.
+abbrev pub erases_of : List BlockState → ℕ → ℕ
+erases_of blocks c = (in_block blocks c).erases
+
+-- of n blocks, block s was erased once more, and no other
+pub record IsErasedOnce (n s : ℕ) (erases erases' : ℕ → ℕ) : Type 0 where
+  pub here : erases' s ≡ one_erase_more (erases s)
+  pub others : (c : ℕ) → c < n → c ≢ s → erases' c ≡ erases c
+
+-- the counts once a block was copied, if one was
+abbrev pub CountsErase : ℕ → Option Copied → (ℕ → ℕ) → (ℕ → ℕ) → Type 0
+CountsErase n copied erases erases' = MatchOption copied
+    ((c : ℕ) → c < n → erases' c ≡ erases c) (λ c. IsErasedOnce n c.source erases erases')
+
+-- By erases: the block that is copied was erased least of those with as many dead slots; it goes
+-- into the reserve, and is the next one.
+pub record CopiesLeastWorn (erases : ℕ → ℕ) (reserve reserve' : ℕ) (c : Copied) (m : List ℕ)
+    : Type 0 where
+  pub least : (d : ℕ) → d < data_blocks m → dead_in m d ≡ dead_in m c.source
+      → erases c.source ≤ erases d
+  pub target : c.target ≡ reserve
+  pub next : reserve' ≡ c.source
+
+-- a slot of block n is free, and n isn't the reserve r
+pub record HasFreeIn (n r : ℕ) (m : List ℕ) : Type 0 where
+  pub other : n ≢ r
+  pub slot : ℕ
+  pub number : slot < slot_count m
+  pub block : slot / 7 ≡ n
+  pub free : slot_at m slot ≡ Free
+
+-- By erases: slot w is a free one of block n, from which one was given last, while that has one and
+-- isn't the reserve r; else of a block but r that was erased least of those that have one.
+pub record FillsUp (n r : ℕ) (erases : ℕ → ℕ) (w : ℕ) (m : List ℕ) : Type 0 where
+  pub number : w < slot_count m
+  pub free : slot_at m w ≡ Free
+  pub outside : r ≢ w / 7
+  pub goes_on : HasFreeIn n r m → w / 7 ≡ n
+  pub begins : (HasFreeIn n r m → ⊥) → (s : ℕ) → s < slot_count m → s / 7 ≢ r
+      → slot_at m s ≡ Free → erases (w / 7) ≤ erases (s / 7)
+
+-- the sectors of block c rest: it has at least four live slots, and isn't live with a group
+abbrev pub Rests : List ℕ → ℕ → Type 0
+Rests m c = (is_live_group (kind_at m c) ≡ false)
+    × (tally is_free_slot (slot_at m) c + dead_in m c ≤ 3)
+
+-- By erases: the block that is moved was erased least of those whose sectors rest, but block n,
+-- from which a slot was given last.
+pub record MovesLeastWorn (erases : ℕ → ℕ) (n s : ℕ) (m : List ℕ) : Type 0 where
+  pub rests : Rests m s
+  pub other : s ≢ n
+  pub least : (c : ℕ) → c < data_blocks m → c ≢ n → Rests m c → erases s ≤ erases c
 
 -- how many slots are free; and whether fewer than an eighth of those beyond what the sectors need
 -- are, the reserve's not counted

@@ -2,7 +2,7 @@
 //! where it looks for a slot to give, and for a block to be copied, it goes on from where it stood.
 
 ghost use Rattle.std.specs.Prelude.{◌≡◌, ◌≢◌, ◌⊎◌, ◌+◌, ◌*◌, ◌/◌, ◌<◌, ◌≤◌, length, ℕ, List};
-ghost use Rattle.std.specs.Prelude.{MatchOption, IfSome, IsTrue, IsFalse};
+ghost use Rattle.std.specs.Prelude.{MatchOption, IfSome, IsTrue, IsFalse, None};
 ghost use Rattle.sector_stock.specs.Index.{IsAhead, Marked, one_dead_more, one_free_fewer};
 ghost use Rattle.sector_stock.specs.Index.{in_block, IsMostDead, HasNoDead, IsLowestWithFree};
 ghost use Rattle.sector_stock.specs.Index.{HasFreeBut, HasNoFreeBut, copied_state, Shifted};
@@ -13,7 +13,7 @@ ghost use Rattle.sector_stock.specs.declared.policy.Policy.TheVariants as polici
 ghost use Rattle.sector_stock.specs.IndexSteps.{AreSparesBelow, NextReserve, Widened};
 ghost use Rattle.sector_stock.specs.IndexSteps.{HasNoFreeState, IsFirstFreeState};
 ghost use Rattle.sector_stock.specs.Room.{HasNoneFree};
-ghost use Rattle.sector_stock.specs.Takes.{IsGivable, IsLowestFree};
+ghost use Rattle.sector_stock.specs.Takes.{IsGivable, IsLowestFree, FillsUp, erases_of};
 
 use crate::least::{BOUNDS, least_worn, lower_bound};
 use crate::policy::{Policy, Wanted, is_whole};
@@ -125,6 +125,7 @@ pub(crate) fn most_dead(blocks: &[BlockState], at: &mut Cursors) -> Option<u16>
     ensures ahead { IsAhead blocks.now at.new }
     ensures reserve { at.new.reserve ≡ at.old.reserve }
     ensures policy { at.new.policy ≡ at.old.policy }
+    ensures newest { at.new.newest ≡ at.old.newest }
 {
     let Some(lowest) = lowest_dead(blocks, at) else {
         return None;
@@ -149,6 +150,7 @@ fn least_worn_dead(blocks: &[BlockState], at: &mut Cursors, like: u16) -> u16
     ensures ahead { IsAhead blocks.now at.new }
     ensures reserve { at.new.reserve ≡ at.old.reserve }
     ensures policy { at.new.policy ≡ at.old.policy }
+    ensures newest { at.new.newest ≡ at.old.newest }
 {
     let wanted = Wanted::Dead(blocks[like as usize].dead);
     let past_all = blocks.len() as u16;
@@ -168,6 +170,7 @@ fn lowest_dead(blocks: &[BlockState], at: &mut Cursors) -> Option<u16>
     ensures ahead { IsAhead blocks.now at.new }
     ensures reserve { at.new.reserve ≡ at.old.reserve }
     ensures policy { at.new.policy ≡ at.old.policy }
+    ensures newest { at.new.newest ≡ at.old.newest }
 {
     while at.most > 0 {
         match first_with(blocks, at.from, at.most) {
@@ -229,6 +232,7 @@ pub(crate) fn block_with_free(blocks: &[BlockState], at: &mut Cursors) -> Option
     ensures ahead { IsAhead blocks.now at.new }
     ensures reserve { at.new.reserve ≡ at.old.reserve }
     ensures policy { at.new.policy ≡ at.old.policy }
+    ensures newest { result ≡ None → at.new.newest ≡ at.old.newest }
 {
     match at.policy {
         Policy::Lowest => lowest_with_free(blocks, at),
@@ -250,6 +254,7 @@ pub(crate) fn choose_reserve(blocks: &[BlockState], at: &mut Cursors, reserve: u
     ensures ahead { IsAhead blocks.now at.new }
     ensures reserve { at.new.reserve ≡ reserve }
     ensures policy { at.new.policy ≡ at.old.policy }
+    ensures newest { at.new.newest ≡ at.old.newest }
 {
     widen(at, at.reserve);
     at.reserve = reserve;
@@ -275,6 +280,7 @@ fn level_with_free(blocks: &[BlockState], at: &mut Cursors) -> Option<u16>
     ensures ahead { IsAhead blocks.now at.new }
     ensures reserve { at.new.reserve ≡ at.old.reserve }
     ensures policy { at.new.policy ≡ at.old.policy }
+    ensures newest { result ≡ None → at.new.newest ≡ at.old.newest }
 {
     let newest = at.newest;
     let reserve = at.reserve;
@@ -305,6 +311,7 @@ fn lowest_with_free(blocks: &[BlockState], at: &mut Cursors) -> Option<u16>
     ensures ahead { IsAhead blocks.now at.new }
     ensures reserve { at.new.reserve ≡ at.old.reserve }
     ensures policy { at.new.policy ≡ at.old.policy }
+    ensures newest { result ≡ None → at.new.newest ≡ at.old.newest }
 {
     match first_free(blocks, at.cursor, at.beyond, at.reserve) {
         Some(block) => {
@@ -490,6 +497,7 @@ pub(crate) fn move_block(blocks: &mut [BlockState], at: &mut Cursors, source: u1
     ensures reserve { IsNextReserve at.old.policy blocks.new at.new.reserve }
     ensures last { at.old.policy ≡ policies.Level → at.new.reserve ≡ source }
     ensures policy { at.new.policy ≡ at.old.policy }
+    ensures newest { at.new.newest ≡ at.old.newest }
 {
     let target = at.reserve;
     move_counts(blocks, source, target);
@@ -518,6 +526,11 @@ pub(crate) fn free_slot(
     ensures ahead { IsAhead blocks.now at.new }
     ensures reserve { at.new.reserve ≡ at.old.reserve }
     ensures policy { at.new.policy ≡ at.old.policy }
+    ensures newest { (m : List ℕ) → IsIndexOf states.now blocks.now at.old m → result ≡ None
+        → at.new.newest ≡ at.old.newest }
+    ensures fills { at.old.policy ≡ policies.Level → (m : List ℕ)
+        → IsIndexOf states.now blocks.now at.old m → IfSome result (λ w.
+        FillsUp at.old.newest at.old.reserve (erases_of blocks.now) w m) }
 {
     match block_with_free(blocks, at) {
         Some(block) => first_place(states, block),

@@ -13,10 +13,15 @@ ghost use Rattle.sector_stock.specs.Policies.{Wants, IsLeastWorn, IsTail, IsDue,
 ghost use Rattle.sector_stock.specs.Policies.{block_before};
 ghost use Rattle.sector_stock.specs.Room.{HasRoom, HasNoneDead};
 ghost use Rattle.sector_stock.specs.Copy.{Stays};
-ghost use Rattle.sector_stock.specs.Takes.{MovesInto, work_of};
+ghost use Rattle.sector_slots.specs.Slots.{data_blocks};
+ghost use Rattle.sector_stock.specs.Takes.{MovesInto, work_of, MovesLeastWorn, CountsErase};
+ghost use Rattle.sector_stock.specs.Takes.{erases_of};
 ghost use Rattle.sector_stock.specs.declared.given.Copied.{Copied as CopiedOf};
 ghost use Rattle.sector_stock.specs.declared.policy.Policy.TheVariants as policies;
 ghost use Rattle.sector_stock.specs.declared.policy.Wanted.TheVariants as wanteds;
+ghost use Rattle.sector_stock.specs.declared.policy.Purpose.TheVariants as purposes;
+ghost use Rattle.sector_stock.specs.Index.{HasNoFreeBut, IsMostDead};
+ghost use Rattle.sector_stock.specs.Policies.{AreRestingFewer};
 
 use crate::copy::reclaim_into;
 use crate::given::Copied;
@@ -183,6 +188,11 @@ fn move_due(blocks: &[BlockState], at: &mut Cursors, purpose: Purpose) -> Option
     ensures ahead { IsAhead blocks.now at.new }
     ensures reserve { at.new.reserve ≡ at.old.reserve }
     ensures policy { at.new.policy ≡ at.old.policy }
+    ensures newest { IfSome result (λ c. at.new.newest ≡ at.old.newest) }
+    ensures must { at.old.policy ≡ policies.Level → 8 ≤ at.old.turn
+        → (purpose ≡ purposes.Give → HasNoFreeBut blocks.now at.old.reserve)
+        → IsTail at.old.newest blocks.now at.old.reserve → (w : ℕ) → IsMostDead blocks.now w
+        → AreRestingFewer blocks.now w → result ≡ None → ⊥ }
 {
     if at.policy == Policy::Lowest || at.turn < TURN {
         return None;
@@ -209,6 +219,9 @@ fn coldest(blocks: &[BlockState], at: &mut Cursors, worst: u16) -> Option<Copied
     ensures ahead { IsAhead blocks.now at.new }
     ensures reserve { at.new.reserve ≡ at.old.reserve }
     ensures policy { at.new.policy ≡ at.old.policy }
+    ensures newest { at.new.newest ≡ at.old.newest }
+    ensures must { IsTail at.old.newest blocks.now at.old.reserve
+        → AreRestingFewer blocks.now worst → result ≡ None → ⊥ }
 {
     let Some(target) = tail(blocks, at) else {
         return None;
@@ -254,6 +267,8 @@ fn move_used<S: SlotCalls>(
     ensures states_size { length states.new ≡ length states.old }
     ensures blocks_size { length blocks.new ≡ length blocks.old }
     ensures ends { EndsSettled result (S.state slots.old) (S.state slots.new) }
+    ensures target { IfOk result (λ c. (c.source ≡ source) × (c.target ≡ at.old.reserve)) }
+    ensures newest { OnOk result (at.new.newest ≡ at.old.newest) }
 {
     let target = at.reserve;
     reclaim_into(slots, source, target)?;
@@ -302,6 +317,15 @@ pub fn level_block<S: SlotCalls>(
     ensures states_size { length states.new ≡ length states.old }
     ensures blocks_size { length blocks.new ≡ length blocks.old }
     ensures ends { EndsSettled result (S.state slots.old) (S.state slots.new) }
+    ensures least { at.old.policy ≡ policies.Level → IfOk result (λ copied. (c : CopiedOf)
+        → copied ≡ Some c → MovesLeastWorn (erases_of blocks.old) at.old.newest c.source
+        (S.state slots.old).memory) }
+    ensures must { at.old.policy ≡ policies.Level → 8 ≤ at.old.turn
+        → (purpose ≡ purposes.Give → HasNoFreeBut blocks.old at.old.reserve)
+        → IsTail at.old.newest blocks.old at.old.reserve → (w : ℕ) → IsMostDead blocks.old w
+        → AreRestingFewer blocks.old w → IfOk result (λ copied. copied ≡ None → ⊥) }
+    ensures counted { IfOk result (λ copied. CountsErase (data_blocks (S.state slots.old).memory)
+        copied (erases_of blocks.old) (erases_of blocks.new)) }
 {
     let Some(due) = move_due(blocks, at, purpose) else {
         return Ok(None);

@@ -1,7 +1,7 @@
 //! Where a store of slots gets its free slots from: the contract of `Stock`.
 
 ghost use Rattle.std.specs.Prelude.{◌≡◌, ◌⊎◌, ◌/◌, ◌<◌, ◌≤◌, ℕ, true, Some, None, length, OnOk};
-ghost use Rattle.std.specs.Prelude.{IfOk};
+ghost use Rattle.std.specs.Prelude.{IfOk, List};
 ghost use Rattle.std.specs.Result.{IsErrOf};
 ghost use Rattle.nor_driver.specs.State.{IsNorReady};
 ghost use Rattle.erase_journal.specs.Blocks.{SameChip};
@@ -16,10 +16,15 @@ ghost use Rattle.sector_stock.specs.Room.{HasRoom, HasNoneDead, IsOutside};
 ghost use Rattle.sector_stock.specs.Copy.{Stays};
 ghost use Rattle.sector_stock.specs.Takes.{Takes, TidiesStock, HasNoGroups, is_short, work_of};
 ghost use Rattle.sector_stock.specs.Takes.{IsLowestFree, HasMostDead, HasFewerBelow, MovesInto};
-ghost use Rattle.sector_stock.specs.Takes.{Converts, IsLiveGroup};
+ghost use Rattle.sector_stock.specs.Takes.{Converts, IsLiveGroup, FillsUp, CopiesLeastWorn};
+ghost use Rattle.sector_stock.specs.Takes.{MovesLeastWorn, CountsErase, IsErasedOnce, erases_of};
+ghost use Rattle.sector_stock.specs.Policies.{IsTail, AreRestingFewer};
 ghost use Rattle.sector_stock.specs.declared.policy.Policy.{Policy};
 ghost use Rattle.sector_stock.specs.declared.policy.Policy.TheVariants as policies;
-ghost use Rattle.sector_stock.specs.Index.{is_live_group};
+ghost use Rattle.sector_stock.specs.Index.{is_live_group, HasNoFreeBut, IsMostDead};
+ghost use Rattle.sector_stock.specs.declared.index.BlockState.{BlockState};
+ghost use Rattle.sector_stock.specs.declared.index.Cursors.{Cursors};
+ghost use Rattle.sector_stock.specs.declared.policy.Purpose.TheVariants as purposes;
 ghost use Rattle.sector_stock.specs.declared.given.Copied.{Copied as CopiedOf};
 
 use crate::given::{Copied, Given};
@@ -35,6 +40,12 @@ pub trait Reclaim: SlotCalls {
     /// How it chooses slots and blocks.
     ghost policy: { Self → Policy };
 
+    /// What it keeps of each block, its erases since the index was made among it.
+    ghost counts: { Self → List BlockState };
+
+    /// Where it looks next.
+    ghost cursors: { Self → Cursors };
+
     /// Reads the kinds and descriptors of all blocks into the index.
     fn fill(&mut self) -> Result<(), NorError>
         requires room { IsNorReady (Self.state self.old) → HasRoom (Self.state self.old).memory }
@@ -46,7 +57,8 @@ pub trait Reclaim: SlotCalls {
     /// A free slot; another block than its own is wholly free. Where no slot outside the reserve is
     /// free, a block with the most dead slots is copied into the reserve first. There always is
     /// one. By number it is the lowest-numbered free slot outside the highest-numbered wholly free
-    /// block. Cut, it leaves slots and blocks that a mount accepts, and the sectors as they were
+    /// block. By erases it is one of the block from which one was given last, else of the least
+    /// worn block that has one, and the block that is copied is the least worn one. Cut, it leaves slots and blocks that a mount accepts, and the sectors as they were
     /// where what read as free was erased.
     fn take_free(&mut self) -> Result<Given, NorError>
         requires ready { IsNorReady (Self.state self.old) }
@@ -70,6 +82,16 @@ pub trait Reclaim: SlotCalls {
         ensures indexed { OnOk result (Self.indexed self.new ≡ true) }
         ensures healthy { IsErrOf result NorError.Cut → IsHealthy (Self.state self.new).memory }
         ensures size { length (Self.state self.new).memory ≡ length (Self.state self.old).memory }
+        ensures fills { policy self.old ≡ policies.Level → IfOk result (λ given.
+            FillsUp (cursors self.old).newest (cursors self.new).reserve
+            (erases_of (counts self.new)) given.slot (Self.state self.new).memory) }
+        ensures worn { policy self.old ≡ policies.Level → IfOk result (λ given. (c : CopiedOf)
+            → given.copied ≡ Some c → CopiesLeastWorn (erases_of (counts self.old))
+            (cursors self.old).reserve (cursors self.new).reserve c
+            (Self.state self.old).memory) }
+        ensures counted { IfOk result (λ given. CountsErase
+            (data_blocks (Self.state self.old).memory) given.copied (erases_of (counts self.old))
+            (erases_of (counts self.new))) }
         ensures ends { EndsSettled result (Self.state self.old) (Self.state self.new) };
 
     /// Copies a block with dead slots, one with the most, by number the lowest-numbered of equals,
@@ -104,11 +126,22 @@ pub trait Reclaim: SlotCalls {
         ensures indexed { OnOk result (Self.indexed self.new ≡ true) }
         ensures healthy { IsErrOf result NorError.Cut → IsHealthy (Self.state self.new).memory }
         ensures size { length (Self.state self.new).memory ≡ length (Self.state self.old).memory }
+        ensures worn { policy self.old ≡ policies.Level → IfOk result (λ copied. (c : CopiedOf)
+            → copied ≡ Some c → CopiesLeastWorn (erases_of (counts self.old))
+            (cursors self.old).reserve (cursors self.new).reserve c (Self.state self.old).memory
+            ⊎ HasNoneDead (Self.state self.old).memory) }
+        ensures reserve { IfOk result (λ copied. (c : CopiedOf) → copied ≡ Some c
+            → c.target ≡ (cursors self.old).reserve) }
+        ensures counted { IfOk result (λ copied. CountsErase
+            (data_blocks (Self.state self.old).memory) copied (erases_of (counts self.old))
+            (erases_of (counts self.new))) }
         ensures ends { EndsSettled result (Self.state self.old) (Self.state self.new) };
 
     /// Moves a block whose sectors rest into a wholly free one, where it is time for it, so that
     /// the block is written to again: the blocks. Where it isn't, nothing changes: None. By number
-    /// it never is. It comes before a `take_free` or a `tidy`, as `purpose` says, and a block with
+    /// it never is. By erases it is the least worn of them, once for eight erases; it is time at the
+    /// latest where the block before the reserve rests, and each that rests has fewer dead slots
+    /// than another block has. It comes before a `take_free` or a `tidy`, as `purpose` says, and a block with
     /// dead slots is still left to be copied. Cut, it leaves what `take_free` does.
     fn level(&mut self, purpose: Purpose) -> Result<Option<Copied>, NorError>
         requires ready { IsNorReady (Self.state self.old) }
@@ -132,6 +165,17 @@ pub trait Reclaim: SlotCalls {
         ensures indexed { OnOk result (Self.indexed self.new ≡ true) }
         ensures healthy { IsErrOf result NorError.Cut → IsHealthy (Self.state self.new).memory }
         ensures size { length (Self.state self.new).memory ≡ length (Self.state self.old).memory }
+        ensures least { policy self.old ≡ policies.Level → IfOk result (λ copied. (c : CopiedOf)
+            → copied ≡ Some c → MovesLeastWorn (erases_of (counts self.old))
+            (cursors self.old).newest c.source (Self.state self.old).memory) }
+        ensures must { policy self.old ≡ policies.Level → 8 ≤ (cursors self.old).turn
+            → (purpose ≡ purposes.Give → HasNoFreeBut (counts self.old) (cursors self.old).reserve)
+            → IsTail (cursors self.old).newest (counts self.old) (cursors self.old).reserve
+            → (w : ℕ) → IsMostDead (counts self.old) w → AreRestingFewer (counts self.old) w
+            → IfOk result (λ copied. copied ≡ None → ⊥) }
+        ensures counted { IfOk result (λ copied. CountsErase
+            (data_blocks (Self.state self.old).memory) copied (erases_of (counts self.old))
+            (erases_of (counts self.new))) }
         ensures ends { EndsSettled result (Self.state self.old) (Self.state self.new) };
 
     /// Whether fewer than an eighth of the slots beyond those that the sectors need are free.
@@ -166,6 +210,12 @@ pub trait Reclaim: SlotCalls {
         ensures indexed { OnOk result (Self.indexed self.new ≡ true) }
         ensures healthy { IsErrOf result NorError.Cut → IsHealthy (Self.state self.new).memory }
         ensures size { length (Self.state self.new).memory ≡ length (Self.state self.old).memory }
+        ensures reserve { IfOk result (λ copied.
+            copied.target ≡ (cursors self.old).reserve) }
+        ensures next { OnOk result (policy self.old ≡ policies.Level
+            → (cursors self.new).reserve ≡ block) }
+        ensures counted { OnOk result (IsErasedOnce (data_blocks (Self.state self.old).memory)
+            block (erases_of (counts self.old)) (erases_of (counts self.new))) }
         ensures ends { EndsSettled result (Self.state self.old) (Self.state self.new) };
 
     /// Writes a sector, 512 bytes, into a free slot, as `put` does. Another block than the slot's

@@ -13,11 +13,12 @@ ghost use Rattle.sector_stock.specs.Room.{HasRoom, HasNoneDead, HasNoneFree};
 ghost use Rattle.sector_stock.specs.Copy.{Stays};
 ghost use Rattle.sector_stock.specs.Index.{IsIndexOf, IsMostDead, IsLowestDead, IsAhead};
 ghost use Rattle.sector_stock.specs.Index.{IsWholeBlock, IsHighestWhole, Marked, one_free_fewer};
-ghost use Rattle.sector_stock.specs.Index.{in_block};
+ghost use Rattle.sector_stock.specs.Index.{in_block, BlocksMoved};
 ghost use Rattle.sector_stock.specs.declared.policy.Policy.TheVariants as policies;
 ghost use Rattle.sector_stock.specs.Takes.{Takes, CopiesInto, IsLowestFree, HasMostDead, work_of};
 ghost use Rattle.sector_stock.specs.Takes.{HasFewerBelow, Converts, IsLiveGroup, HasNoGroups};
-ghost use Rattle.sector_stock.specs.Takes.{TidiesStock};
+ghost use Rattle.sector_stock.specs.Takes.{TidiesStock, FillsUp, CopiesLeastWorn, CountsErase};
+ghost use Rattle.sector_stock.specs.Takes.{IsErasedOnce, erases_of};
 ghost use Rattle.sector_stock.specs.declared.given.Copied.{Copied as CopiedOf};
 
 use crate::copy::reclaim_into;
@@ -66,6 +67,10 @@ fn copy_most<S: SlotCalls>(
     ensures states_size { length states.new ≡ length states.old }
     ensures blocks_size { length blocks.new ≡ length blocks.old }
     ensures ends { EndsSettled result (S.state slots.old) (S.state slots.new) }
+    ensures target { IfOk result (λ c. (c.source ≡ source) × (c.target ≡ at.old.reserve)) }
+    ensures next { OnOk result (at.old.policy ≡ policies.Level → at.new.reserve ≡ source) }
+    ensures newest { OnOk result (at.new.newest ≡ at.old.newest) }
+    ensures blocks { OnOk result (BlocksMoved source at.old.reserve blocks.old blocks.new) }
 {
     let target = at.reserve;
     reclaim_into(slots, source, target)?;
@@ -112,6 +117,10 @@ pub fn convert_block<S: SlotCalls>(
     ensures states_size { length states.new ≡ length states.old }
     ensures blocks_size { length blocks.new ≡ length blocks.old }
     ensures ends { EndsSettled result (S.state slots.old) (S.state slots.new) }
+    ensures reserve { IfOk result (λ c. c.target ≡ at.old.reserve) }
+    ensures next { OnOk result (at.old.policy ≡ policies.Level → at.new.reserve ≡ source) }
+    ensures counted { OnOk result (IsErasedOnce (data_blocks (S.state slots.old).memory) source
+        (erases_of blocks.old) (erases_of blocks.new)) }
 {
     let reserve = at.reserve;
     reclaim_into(slots, source, reserve)?;
@@ -156,6 +165,13 @@ pub fn take_slot<S: SlotCalls>(
     ensures states_size { length states.new ≡ length states.old }
     ensures blocks_size { length blocks.new ≡ length blocks.old }
     ensures ends { EndsSettled result (S.state slots.old) (S.state slots.new) }
+    ensures fills { at.old.policy ≡ policies.Level → IfOk result (λ given. FillsUp at.old.newest
+        at.new.reserve (erases_of blocks.new) given.slot (S.state slots.new).memory) }
+    ensures worn { at.old.policy ≡ policies.Level → IfOk result (λ given. (c : CopiedOf)
+        → given.copied ≡ Some c → CopiesLeastWorn (erases_of blocks.old) at.old.reserve
+        at.new.reserve c (S.state slots.old).memory) }
+    ensures counted { IfOk result (λ given. CountsErase (data_blocks (S.state slots.old).memory)
+        given.copied (erases_of blocks.old) (erases_of blocks.new)) }
 {
     if let Some(slot) = free_slot(states, blocks, at) {
         return Ok(Given { slot, copied: None });
@@ -205,6 +221,12 @@ fn convert_lowest<S: SlotCalls>(
     ensures states_size { length states.new ≡ length states.old }
     ensures blocks_size { length blocks.new ≡ length blocks.old }
     ensures ends { EndsSettled result (S.state slots.old) (S.state slots.new) }
+    ensures reserve { IfOk result (λ copied. (c : CopiedOf) → copied ≡ Some c
+        → c.target ≡ at.old.reserve) }
+    ensures next { at.old.policy ≡ policies.Level → IfOk result (λ copied. (c : CopiedOf)
+        → copied ≡ Some c → at.new.reserve ≡ c.source) }
+    ensures counted { IfOk result (λ copied. CountsErase (data_blocks (S.state slots.old).memory)
+        copied (erases_of blocks.old) (erases_of blocks.new)) }
 {
     match lowest_group(blocks) {
         Some(source) => {
@@ -255,6 +277,13 @@ pub fn tidy_block<S: SlotCalls>(
     ensures states_size { length states.new ≡ length states.old }
     ensures blocks_size { length blocks.new ≡ length blocks.old }
     ensures ends { EndsSettled result (S.state slots.old) (S.state slots.new) }
+    ensures worn { at.old.policy ≡ policies.Level → IfOk result (λ copied. (c : CopiedOf)
+        → copied ≡ Some c → CopiesLeastWorn (erases_of blocks.old) at.old.reserve
+        at.new.reserve c (S.state slots.old).memory ⊎ HasNoneDead (S.state slots.old).memory) }
+    ensures reserve { IfOk result (λ copied. (c : CopiedOf) → copied ≡ Some c
+        → c.target ≡ at.old.reserve) }
+    ensures counted { IfOk result (λ copied. CountsErase (data_blocks (S.state slots.old).memory)
+        copied (erases_of blocks.old) (erases_of blocks.new)) }
 {
     match most_dead(blocks, at) {
         Some(source) => {

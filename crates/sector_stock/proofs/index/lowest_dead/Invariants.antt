@@ -7,6 +7,7 @@ invariant-loop-at l = record {
   ahead : IsAhead l.blocks l.at;
   reserve : l.at.reserve ≡ l.fn.at.reserve;
   policy : l.at.policy ≡ l.fn.at.policy;
+  newest : l.at.newest ≡ l.fn.at.newest;
 }
 
 abbrev pub decreases-loop-at : goal.decreases-loop-at

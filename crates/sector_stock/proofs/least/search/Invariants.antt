@@ -1,6 +1,6 @@
-use Rattle.std.proofs.Common.{◌≡◌, ◌-◌, ◌≤◌, length}
+use Rattle.std.proofs.Common.{◌-◌, ◌≤◌}
 use Rattle.sector_stock.specs.Index.{AreBounds}
-use Rattle.sector_stock.specs.Policies.{IsWantedBut, Improves}
+use Rattle.sector_stock.specs.Policies.{Improves}
 use Rattle.sector_stock.proofs.least.search.Given as goal
 
 abbrev pub invariant-loop-block : goal.invariant-loop-block

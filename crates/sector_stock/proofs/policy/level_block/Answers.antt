@@ -1,6 +1,12 @@
-use Rattle.std.proofs.Common.{◌∙◌, sym, subst}
+use Rattle.std.proofs.Common.{◌∙◌, ◌≡◌, Some, length, sym, ap, subst}
 use Rattle.sector_stock.specs.Index.{in_block, IsWholeBlock, IsIndexOf}
 use Rattle.sector_stock.proofs.Moved.{index-chosen, dead-left, turned}
+use Rattle.sector_stock.specs.declared.given.Copied.{Copied}
+use Rattle.sector_stock.specs.declared.policy.Wanted.TheVariants as wanteds
+use Rattle.sector_stock.specs.Policies.{IsLeastWorn}
+use Rattle.sector_stock.specs.Takes.{MovesLeastWorn, IsErasedOnce, erases_of}
+use Rattle.sector_slots.specs.Slots.{data_blocks}
+use Rattle.sector_stock.proofs.Worn.{counted-moved, moves-least}
 use Rattle.sector_stock.proofs.policy.level_block.Goals as goal
 
 pub move_used-requires-clause-index : goal.move_used-requires-clause-index
@@ -22,3 +28,19 @@ returns-clause-left g c d is none =
 pub returns-clause-index : goal.returns-clause-index
 returns-clause-index g c =
     turned _ _ _ (g.S.SlotCalls.state c.move_used.new.slots).memory c.move_used.new.states c.move_used.new.blocks c.move_used.new.at c.end_turn.new.at c.end_turn.ensures c.in_ok-moved.ensures.index
+
+some-is : (a b : Copied) → ◌≡◌ (Some a) (Some b) → b.source ≡ a.source
+some-is a b e = let q : b ≡ a = cc in ap (λ k. k.source) q
+
+pub returns-clause-least : goal.returns-clause-least
+returns-clause-least g c by d e =
+    let m = (g.S.SlotCalls.state c.args.slots.now).memory in
+    let is = some-is c.in_ok-moved.moved d e ∙ c.in_ok-moved.ensures.target.0 in
+    let h = subst (λ n. IsLeastWorn wanteds.Resting n c.args.blocks.now (length c.args.blocks.now) c.in-Some.due.source) c.in-Some.ensures.newest c.in-Some.ensures.least in
+    subst (λ k. MovesLeastWorn (erases_of c.args.blocks.now) c.args.at.now.newest k m) (sym is) (moves-least c.in-Some.due.source c.args.at.now.newest m c.args.states.now c.args.blocks.now c.requires.index.listed h)
+
+pub returns-clause-counted : goal.returns-clause-counted
+returns-clause-counted g c =
+    let m = (g.S.SlotCalls.state c.args.slots.now).memory in
+    subst (λ k. IsErasedOnce (data_blocks m) k (erases_of c.args.blocks.now) (erases_of c.move_used.new.blocks)) (sym c.in_ok-moved.ensures.target.0)
+    (counted-moved c.in-Some.due.source c.choose_reserve.new.at.reserve m c.args.states.now c.args.blocks.now c.move_used.new.blocks c.requires.index.listed c.in_ok-moved.ensures.blocks)

@@ -1,6 +1,7 @@
 use Rattle.std.proofs.lemmas.Result.{err_from_is_err_and}
 use Rattle.sector_stock.proofs.Moved.{numbers-in, index-moved}
 use Rattle.sector_stock.proofs.Converting.{convertible, converts-into}
+use Rattle.sector_stock.proofs.Worn.{counted-moved}
 use Rattle.sector_stock.proofs.take.convert_block.Goals as goal
 
 pub reclaim_into-requires-clause-copyable : goal.reclaim_into-requires-clause-copyable
@@ -33,3 +34,6 @@ returns-clause-index g c =
 
 pub returns-clause-target : goal.returns-clause-target
 returns-clause-target g c by = c.requires.index.highest by
+
+pub returns-clause-counted : goal.returns-clause-counted
+returns-clause-counted g c = counted-moved c.args.source c.args.at.now.reserve (g.S.SlotCalls.state c.args.slots.now).memory c.args.states.now c.args.blocks.now c.move_block.new.blocks c.requires.index.listed c.move_block.ensures.moved

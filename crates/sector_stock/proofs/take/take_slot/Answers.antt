@@ -1,9 +1,12 @@
-use Rattle.std.proofs.Common.{refl, ◌∙◌, subst}
+use Rattle.std.proofs.Common.{◌≡◌, refl, ◌∙◌, sym, subst, arith}
 use Rattle.std.specs.Prelude.{IfSome}
 use Rattle.sector_slots.specs.Blocks.{IsReserveOf}
 use Rattle.sector_stock.proofs.RoomLaws.{never-full}
 use Rattle.sector_stock.specs.Takes.{was_copied, HasFewerBelow}
 use Rattle.sector_stock.proofs.Moved.{none-dead-in}
+use Rattle.sector_slots.specs.Slots.{data_blocks}
+use Rattle.sector_stock.specs.Takes.{CopiesLeastWorn, IsErasedOnce, FillsUp, erases_of}
+use Rattle.sector_stock.proofs.Worn.{counted-moved, copies-least}
 use Rattle.sector_stock.proofs.take.take_slot.Goals as goal
 
 pub unreachable-requires : goal.unreachable-requires
@@ -31,3 +34,33 @@ returns-clause-numbers g c by d e =
     let first = c.in_default.ensures.policy ∙ by in
     subst (λ o. IfSome o (λ x. HasFewerBelow x.source m × IsReserveOf x.target m)) e
     (c.in_ok-copied.ensures.numbers (c.most_dead.ensures.policy ∙ first) (c.in-Some-most_dead.ensures.lowest first))
+
+pub returns-clause-worn : goal.returns-clause-worn
+returns-clause-worn g c by d e =
+    let m = (g.S.SlotCalls.state c.args.slots.now).memory in
+    let q : d ≡ c.in_ok-copied.copied = cc in
+    let n = c.requires.index.listed.block_size in
+    let low = c.in-Some-most_dead.ensures.found.0 in
+    let done = c.in_ok-copied.ensures in
+    let first = c.in_default.ensures.policy ∙ by in
+    subst (λ k. CopiesLeastWorn (erases_of c.args.blocks.now) c.args.at.now.reserve c.free_slot-2.new.at.reserve k m) (sym q)
+    (copies-least c.in-Some-most_dead.source c.args.at.now.reserve c.free_slot-2.new.at.reserve c.in_ok-copied.copied m c.args.states.now c.args.blocks.now c.requires.index.listed (omega (arith, low, n)) (c.in-Some-most_dead.ensures.level first)
+    done.target.0 (done.target.1 ∙ (c.most_dead.ensures.reserve ∙ c.in_default.ensures.reserve)) (c.in-Some-free_slot.ensures.reserve ∙ done.next (c.most_dead.ensures.policy ∙ first)))
+
+pub returns-clause-counted : goal.returns-clause-counted
+returns-clause-counted g c =
+    let m = (g.S.SlotCalls.state c.args.slots.now).memory in
+    let done = c.in_ok-copied.ensures in
+    subst (λ k. IsErasedOnce (data_blocks m) k (erases_of c.args.blocks.now) (erases_of c.copy_most.new.blocks)) (sym done.target.0)
+    (counted-moved c.in-Some-most_dead.source c.most_dead.new.at.reserve m c.args.states.now c.args.blocks.now c.copy_most.new.blocks c.requires.index.listed done.blocks)
+
+pub returns-clause-fills : goal.returns-clause-fills
+returns-clause-fills g c by =
+    let m = (g.S.SlotCalls.state c.args.slots.now).memory in
+    let m1 = (g.S.SlotCalls.state c.copy_most.new.slots).memory in
+    let done = c.in_ok-copied.ensures in
+    let first = c.in_default.ensures.policy ∙ by in
+    let newest = done.newest ∙ (c.most_dead.ensures.newest ∙ c.in_default.ensures.newest m c.requires.index refl) in
+    subst (λ n. FillsUp n c.free_slot-2.new.at.reserve (erases_of c.copy_most.new.blocks) c.in-Some-free_slot.slot m1) newest
+    (subst (λ r. FillsUp c.copy_most.new.at.newest r (erases_of c.copy_most.new.blocks) c.in-Some-free_slot.slot m1) (sym c.in-Some-free_slot.ensures.reserve)
+    (c.in-Some-free_slot.ensures.fills (done.policy ∙ (c.most_dead.ensures.policy ∙ first)) m1 done.index))
