@@ -3,9 +3,9 @@
 //! over that disk and over an array in memory; each in nanoseconds, beside a plain copy of as many
 //! bytes in the same run.
 //!
-//! With the word `run` it measures all of it and prints a row for each; with `disk`, `station` or
-//! `server` behind that word only this part. Without words it prints one fixed line and measures
-//! nothing.
+//! With the word `run` it measures all of it and prints a row for each; with `disk`, `old`,
+//! `station` or `server` behind that word only this part. Without words it prints one fixed line
+//! and measures nothing.
 //!
 //! Proved are the arithmetic of the figures, the sectors that each call names, that each request
 //! lies on the disk, and that each timed tidying cleared something. That a time is the time of its
@@ -27,6 +27,7 @@ mod disks;
 mod events;
 mod failure;
 mod figures;
+mod levelled;
 mod measure;
 mod measure_below;
 mod measure_case;
@@ -37,6 +38,7 @@ use crate::call::Call;
 use crate::case::Case;
 use crate::disks::Filling;
 use crate::failure::Failure;
+use crate::levelled::{Old, Order, measured_old};
 use crate::measure::{measured_call, measured_check, measured_mount, measured_zero};
 use crate::measure_below::{measured_driver, measured_find, measured_tables};
 use crate::measure_case::{measured_commands, measured_events};
@@ -49,6 +51,8 @@ enum Asked {
     All,
     /// The mounts, checks and calls of the disk, and the driver and the map below it.
     Disk,
+    /// Writes on an old disk, by number and by erases.
+    Old,
     /// Events through a station.
     Station,
     /// Commands through a connection.
@@ -59,6 +63,8 @@ enum Asked {
 fn part_of(word: &str) -> Asked {
     if word == "disk" {
         Asked::Disk
+    } else if word == "old" {
+        Asked::Old
     } else if word == "station" {
         Asked::Station
     } else if word == "server" {
@@ -115,6 +121,19 @@ fn print_disk(rt: &HostRuntime) -> std::io::Result<()> {
     print_row(rt, measured_zero(rt, rt.alloc()))
 }
 
+/// Measures writes on an old disk of a size in KiB, and prints a row for each.
+fn print_old(rt: &HostRuntime, kib: u32) -> std::io::Result<()> {
+    for order in Order::all() {
+        for level in [false, true] {
+            match measured_old(rt, rt.alloc(), Old { kib, order, level }) {
+                Ok(cost) => println!(rt; "{cost}")?,
+                Err(failure) => print_failure(rt, failure)?,
+            }
+        }
+    }
+    Ok(())
+}
+
 /// Measures each case through a station, and prints its row.
 fn print_station(rt: &HostRuntime) -> std::io::Result<()> {
     println!(rt; "through a station")?;
@@ -147,10 +166,16 @@ fn main(rt: HostRuntime) -> std::io::Result<()> {
         Asked::Nothing => println!(rt; "bench_disk: give the word run to measure"),
         Asked::All => {
             print_disk(&rt)?;
+            print_old(&rt, 1_024)?;
+            print_old(&rt, 16_384)?;
             print_station(&rt)?;
             print_server(&rt)
         }
         Asked::Disk => print_disk(&rt),
+        Asked::Old => {
+            print_old(&rt, 1_024)?;
+            print_old(&rt, 16_384)
+        }
         Asked::Station => print_station(&rt),
         Asked::Server => print_server(&rt),
     }

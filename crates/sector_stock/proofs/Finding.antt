@@ -109,11 +109,14 @@ free-in n r m slots blocks listed h =
     let size = listed.block_size in
     let low = h.number in
     let at = h.block in
-    let inside : n < data_blocks m = omega (arith, low, at) in
-    (omega (arith, inside, size), h.other, elim (cases_eq (in_block blocks n).free 0) as (λ _. 0 < (in_block blocks n).free) [
-      | inr ne ↦ omega (arith, ne)
-      | inl e ↦ absurd (none-in m slots blocks h.slot listed low (ap (λ c. (in_block blocks c).free) at ∙ e) h.free)
-    ])
+    let inside : n < data_blocks m = omega (arith, low, at) in (
+      omega (arith, inside, size),
+      h.other,
+      elim (cases_eq (in_block blocks n).free 0) as (λ _. 0 < (in_block blocks n).free) [
+        | inr ne ↦ omega (arith, ne)
+        | inl e ↦ absurd (none-in m slots blocks h.slot listed low (ap (λ c. (in_block blocks c).free) at ∙ e) h.free)
+      ],
+    )
 
 pub in-free : (n r : ℕ) (m : List ℕ) (slots : List SlotState) (blocks : List BlockState) → IsListed slots blocks (slot_at m) (kind_at m) (data_blocks m) → HasFreeBut blocks r n → HasFreeIn n r m
 in-free n r m slots blocks listed h =

@@ -7,7 +7,7 @@ use Rattle.sector_stock.specs.Policies.{IsLoweredFor}
 use Rattle.std.proofs.lemmas.Bool.{cases_eq, false≢true}
 use Rattle.sector_stock.specs.declared.index.BlockState.{BlockState}
 use Rattle.sector_stock.specs.declared.index.Cursors.{Cursors}
-use Rattle.sector_stock.specs.Index.{in_block, IsAhead, BlocksMoved, IsNextReserve, AreBounds, Counts, in_bounds, row_of}
+use Rattle.sector_stock.specs.Index.{in_block, IsAhead, BlocksMoved, IsNextReserve, AreBounds, Counts, in_bounds, bound_row}
 use Rattle.sector_stock.specs.declared.policy.Policy.{Policy}
 use Rattle.sector_stock.specs.IndexSteps.{NextReserve, IsPassed, Widened}
 
@@ -82,7 +82,7 @@ ahead-moved s blocks blocks' at mid new ahead moved next look er es em ef bounds
     }
 
 -- the bounds of the two blocks
-bound-source : (s : ℕ) (wanted : Wanted) (blocks blocks' : List BlockState) (at new : Cursors) → IsAhead blocks at → (in_block blocks s).erases < 65536 → s < length blocks → BlocksMoved s at.reserve blocks blocks' → IsLoweredFor blocks' s at new → Counts wanted (in_block blocks' s) → in_bounds new.bounds (row_of wanted) s ≤ (in_block blocks' s).erases
+bound-source : (s : ℕ) (wanted : Wanted) (blocks blocks' : List BlockState) (at new : Cursors) → IsAhead blocks at → (in_block blocks s).erases < 65536 → s < length blocks → BlocksMoved s at.reserve blocks blocks' → IsLoweredFor blocks' s at new → Counts wanted (in_block blocks' s) → in_bounds new.bounds (bound_row wanted) s ≤ (in_block blocks' s).erases
 bound-source s wanteds.Free blocks blocks' at new ahead fits ls moved low counts = low.source
 bound-source s (wanteds.Dead count) blocks blocks' at new ahead fits ls moved low counts = let p = counts.0 in let q = counts.2 in let r = ap (λ b. b.dead) moved.source in absurd (omega (arith, p, q, r))
 bound-source s wanteds.Resting blocks blocks' at new ahead fits ls moved low counts =
@@ -91,7 +91,7 @@ bound-source s wanteds.Resting blocks blocks' at new ahead fits ls moved low cou
     let r : (in_block blocks' s).erases ≡ min ((in_block blocks s).erases + 1) 65535 = ap (λ b. b.erases) moved.source in
     omega (arith, p, q, r, fits)
 
-bound-target : (s : ℕ) (wanted : Wanted) (blocks blocks' : List BlockState) (at new : Cursors) → IsAhead blocks at → at.reserve < length blocks → BlocksMoved s at.reserve blocks blocks' → IsLoweredFor blocks' s at new → Counts wanted (in_block blocks' at.reserve) → in_bounds new.bounds (row_of wanted) at.reserve ≤ (in_block blocks' at.reserve).erases
+bound-target : (s : ℕ) (wanted : Wanted) (blocks blocks' : List BlockState) (at new : Cursors) → IsAhead blocks at → at.reserve < length blocks → BlocksMoved s at.reserve blocks blocks' → IsLoweredFor blocks' s at new → Counts wanted (in_block blocks' at.reserve) → in_bounds new.bounds (bound_row wanted) at.reserve ≤ (in_block blocks' at.reserve).erases
 bound-target s wanteds.Free blocks blocks' at new ahead lt moved low counts = low.target
 bound-target s (wanteds.Dead count) blocks blocks' at new ahead lt moved low counts = let p = counts.0 in let q = counts.2 in let r = ap (λ b. b.dead) moved.target in absurd (omega (arith, p, q, r))
 bound-target s wanteds.Resting blocks blocks' at new ahead lt moved low counts =
@@ -103,7 +103,7 @@ bound-target s wanteds.Resting blocks blocks' at new ahead lt moved low counts =
 -- where bounds were lowered it looks where it did
 pub ahead-lowered : (s : ℕ) (blocks blocks' : List BlockState) (at new : Cursors) → IsAhead blocks at → IsLoweredFor blocks' s at new → IsAhead blocks new
 ahead-lowered s blocks blocks' at new ahead low =
-    let bounds : AreBounds blocks new.bounds = λ wanted c inside counts. (let p = ahead.bounds wanted c inside counts in let q = low.below (64 * row_of wanted + c / 64) in omega (arith, p, q)) in
+    let bounds : AreBounds blocks new.bounds = λ wanted c inside counts. (let p = ahead.bounds wanted c inside counts in let q = low.below (64 * bound_row wanted + c / 64) in omega (arith, p, q)) in
     subst (λ a. IsAhead blocks a) (sym low.rest) (record { cursor = ahead.cursor; beyond = ahead.beyond; spares = ahead.spares; within = ahead.within; most = ahead.most; from = ahead.from; high = ahead.high; bounds = bounds })
 
 -- the bounds once block s was copied into block t
@@ -111,14 +111,14 @@ pub bounds-moved : (s : ℕ) (blocks blocks' : List BlockState) (at new : Cursor
 bounds-moved s blocks blocks' at new ahead fits ls lt moved low wanted c inside counts =
     let n = moved.size in
     let t = at.reserve in
-    elim (cases_eq c s) as (λ _. in_bounds new.bounds (row_of wanted) c ≤ (in_block blocks' c).erases) [
-      | inl e ↦ subst (λ a. in_bounds new.bounds (row_of wanted) a ≤ (in_block blocks' a).erases) (sym e) (bound-source s wanted blocks blocks' at new ahead fits ls moved low (subst (λ a. Counts wanted (in_block blocks' a)) e counts))
-      | inr ns ↦ elim (cases_eq c t) as (λ _. in_bounds new.bounds (row_of wanted) c ≤ (in_block blocks' c).erases) [
-        | inl e ↦ subst (λ a. in_bounds new.bounds (row_of wanted) a ≤ (in_block blocks' a).erases) (sym e) (bound-target s wanted blocks blocks' at new ahead lt moved low (subst (λ a. Counts wanted (in_block blocks' a)) e counts))
+    elim (cases_eq c s) as (λ _. in_bounds new.bounds (bound_row wanted) c ≤ (in_block blocks' c).erases) [
+      | inl e ↦ subst (λ a. in_bounds new.bounds (bound_row wanted) a ≤ (in_block blocks' a).erases) (sym e) (bound-source s wanted blocks blocks' at new ahead fits ls moved low (subst (λ a. Counts wanted (in_block blocks' a)) e counts))
+      | inr ns ↦ elim (cases_eq c t) as (λ _. in_bounds new.bounds (bound_row wanted) c ≤ (in_block blocks' c).erases) [
+        | inl e ↦ subst (λ a. in_bounds new.bounds (bound_row wanted) a ≤ (in_block blocks' a).erases) (sym e) (bound-target s wanted blocks blocks' at new ahead lt moved low (subst (λ a. Counts wanted (in_block blocks' a)) e counts))
         | inr nt ↦
             let same = moved.others c (omega (arith, inside, n)) ns nt in
             let p = ahead.bounds wanted c (omega (arith, inside, n)) (subst (λ b. Counts wanted b) same counts) in
-            let q = low.below (64 * row_of wanted + c / 64) in
+            let q = low.below (64 * bound_row wanted + c / 64) in
             let r = ap (λ b. b.erases) same in
             omega (arith, p, q, r)
       ]

@@ -6,7 +6,7 @@ use Rattle.std.proofs.lemmas.Bool.{cases_eq, cases_lt}
 use Rattle.sector_stock.specs.declared.index.BlockState.{BlockState}
 use Rattle.sector_stock.specs.declared.policy.Wanted.{Wanted}
 use Rattle.sector_stock.specs.declared.policy.Wanted.TheVariants as wanteds
-use Rattle.sector_stock.specs.Index.{in_block, AreBounds, Counts, in_bounds, row_of}
+use Rattle.sector_stock.specs.Index.{in_block, AreBounds, Counts, in_bounds, bound_row}
 use Rattle.sector_stock.specs.Policies.{Wants, HasRow, IsWantedBut, IsNotMore, Improves}
 
 -- a row speaks of the blocks that are wanted
@@ -17,14 +17,14 @@ wanted-counts wanteds.Resting b row h = tt
 
 -- a run that isn't looked at
 pub improves-bounded : (wanted : Wanted) (r : ℕ) (blocks : List BlockState) (bounds : List ℕ) (from end : ℕ) (best : Option ℕ) → HasRow wanted → AreBounds blocks bounds → from < end → end ≤ length blocks → end ≤ 64 * (from / 64) + 64
-    → IfSome best (λ b. IsWantedBut wanted r blocks b) → MatchOption best ⊥ (λ b. (in_block blocks b).erases ≤ in_bounds bounds (row_of wanted) from) → Improves wanted r blocks from end best best
+    → IfSome best (λ b. IsWantedBut wanted r blocks b) → MatchOption best ⊥ (λ b. (in_block blocks b).erases ≤ in_bounds bounds (bound_row wanted) from) → Improves wanted r blocks from end best best
 improves-bounded wanted r blocks bounds from end None row h some low run is bound = absurd bound
 improves-bounded wanted r blocks bounds from end (Some b) row h some low run is bound = record {
   is_wanted = is;
   least = λ c over under other wants.
       let p = h wanted c (omega arith) (wanted-counts wanted (in_block blocks c) row wants) in
       let same : c / 64 ≡ from / 64 = omega arith in
-      let q : (in_block blocks b).erases ≤ in_bounds bounds (row_of wanted) c = subst (λ k. (in_block blocks b).erases ≤ slice_index_or bounds (64 * row_of wanted + k) 0) (sym same) bound in
+      let q : (in_block blocks b).erases ≤ in_bounds bounds (bound_row wanted) c = subst (λ k. (in_block blocks b).erases ≤ slice_index_or bounds (64 * bound_row wanted + k) 0) (sym same) bound in
       omega (arith, p, q);
   older = omega arith;
 }
@@ -51,9 +51,8 @@ improves-on wanted r blocks from mid end old (Some a) (Some b) one two = record 
   older = not-more blocks a b old two.older one.older;
 }
 
-
 -- the blocks of which a row speaks are told by its number
-same-row : (wanted other : Wanted) (b : BlockState) → HasRow wanted → row_of other ≡ row_of wanted → Counts other b → Counts wanted b
+same-row : (wanted other : Wanted) (b : BlockState) → HasRow wanted → bound_row other ≡ bound_row wanted → Counts other b → Counts wanted b
 same-row wanteds.Free wanteds.Free b row e h = h
 same-row wanteds.Free (wanteds.Dead k) b row e h = let p = h.0 in absurd (omega (arith, p, e))
 same-row wanteds.Free wanteds.Resting b row e h = absurd (omega (arith, e))
@@ -62,22 +61,22 @@ same-row (wanteds.Dead j) (wanteds.Dead k) b row e h = (row.0, row.1, h.2 ∙ e)
 same-row (wanteds.Dead j) wanteds.Resting b row e h = let p = row.1 in absurd (omega (arith, p, e))
 same-row wanteds.Resting other b row e h = tt
 
-row-inside : (wanted : Wanted) (from : ℕ) (bounds : List ℕ) → HasRow wanted → length bounds ≡ 576 → from / 64 < 64 → 64 * row_of wanted + from / 64 < length bounds
+row-inside : (wanted : Wanted) (from : ℕ) (bounds : List ℕ) → HasRow wanted → length bounds ≡ 576 → from / 64 < 64 → 64 * bound_row wanted + from / 64 < length bounds
 row-inside wanteds.Free from bounds row e l = omega (arith, e, l)
 row-inside (wanteds.Dead j) from bounds row e l = let p = row.1 in omega (arith, e, l, p)
 row-inside wanteds.Resting from bounds row e l = omega (arith, e, l)
 
 -- the bound of a run that was looked at whole
 pub bounds-set : (wanted : Wanted) (blocks : List BlockState) (bounds : List ℕ) (from end least : ℕ) → HasRow wanted → length blocks ≤ 4096 → length bounds ≡ 576 → AreBounds blocks bounds → from < end → end ≤ length blocks → end ≤ 64 * (from / 64) + 64
-    → from % 64 ≡ 0 → (end - from ≡ 64) ⊎ (end ≡ length blocks) → ((c : ℕ) → from ≤ c → c < end → Counts wanted (in_block blocks c) → least ≤ (in_block blocks c).erases) → AreBounds blocks (slice_set bounds (64 * row_of wanted + from / 64) least)
+    → from % 64 ≡ 0 → (end - from ≡ 64) ⊎ (end ≡ length blocks) → ((c : ℕ) → from ≤ c → c < end → Counts wanted (in_block blocks c) → least ≤ (in_block blocks c).erases) → AreBounds blocks (slice_set bounds (64 * bound_row wanted + from / 64) least)
 bounds-set wanted blocks bounds from end least row size length-is h some low run whole all below other c inside counts =
-    let p = 64 * row_of other + c / 64 in
-    let q = 64 * row_of wanted + from / 64 in
+    let p = 64 * bound_row other + c / 64 in
+    let q = 64 * bound_row wanted + from / 64 in
     elim (cases_eq p q) as (λ _. slice_index_or (slice_set bounds q least) p 0 ≤ (in_block blocks c).erases) [
       | inl e ↦
           let lc : c / 64 < 64 = omega arith in
           let lf : from / 64 < 64 = omega arith in
-          let rows : row_of other ≡ row_of wanted = omega (arith, e, lc, lf) in
+          let rows : bound_row other ≡ bound_row wanted = omega (arith, e, lc, lf) in
           let runs : c / 64 ≡ from / 64 = omega (arith, e, lc, lf) in
           let over : from ≤ c = omega (arith, runs, whole) in
           let under : c < end = elim all as (λ _. c < end) [ inl a ↦ omega (arith, runs, whole, a) | inr a ↦ omega (arith, a) ] in
@@ -90,4 +89,3 @@ bounds-set wanted blocks bounds from end least row size length-is h some low run
           let ok = h other c inside counts in
           omega (arith, is, ok)
     ]
-

@@ -6,9 +6,10 @@ use Rattle.sector_stock.specs.declared.index.SlotState.{SlotState}
 use Rattle.sector_stock.specs.declared.index.BlockState.{BlockState}
 use Rattle.sector_stock.specs.declared.given.Copied.{Copied}
 use Rattle.sector_stock.specs.declared.policy.Wanted.TheVariants as wanteds
-use Rattle.sector_stock.specs.Index.{in_block, IsListed, BlocksMoved}
+use Rattle.std.specs.Prelude.{◌/◌}
+use Rattle.sector_stock.specs.Index.{in_block, IsListed, BlocksMoved, Marked, one_dead_more, one_free_fewer}
 use Rattle.sector_stock.specs.Policies.{IsLeastWorn}
-use Rattle.sector_stock.specs.Takes.{erases_of, IsErasedOnce, CopiesLeastWorn, MovesLeastWorn, dead_in}
+use Rattle.sector_stock.specs.Takes.{erases_of, IsErasedOnce, KeepsErases, CopiesLeastWorn, MovesLeastWorn, dead_in}
 
 -- a block was copied
 pub counted-moved : (s t : ℕ) (m : List ℕ) (slots : List SlotState) (blocks blocks' : List BlockState) → IsListed slots blocks (slot_at m) (kind_at m) (data_blocks m) → BlocksMoved s t blocks blocks' → IsErasedOnce (data_blocks m) s (erases_of blocks) (erases_of blocks')
@@ -57,3 +58,16 @@ moves-least s n m slots blocks listed h =
           let few2 = rests.1 in
           h.least c (omega (arith, inside, size)) other (its.group ∙ rests.0, omega (arith, f, d, few2));
     }
+
+-- a slot became dead, or live
+pub counted-dead : (w n : ℕ) (state : SlotState) (slots slots' : List SlotState) (blocks blocks' : List BlockState) → length blocks ≡ n → Marked w state (one_dead_more (in_block blocks (w / 7))) slots slots' blocks blocks' → KeepsErases n (erases_of blocks) (erases_of blocks')
+counted-dead w n state slots slots' blocks blocks' size marked c low = elim (cases_eq c (w / 7)) as (λ _. erases_of blocks' c ≡ erases_of blocks c) [
+  | inl e ↦ subst (λ a. erases_of blocks' a ≡ erases_of blocks a) (sym e) (ap (λ b. b.erases) marked.its_block)
+  | inr ne ↦ ap (λ b. b.erases) (marked.other_blocks c (omega (arith, low, size)) ne)
+]
+
+pub counted-live : (w n : ℕ) (state : SlotState) (slots slots' : List SlotState) (blocks blocks' : List BlockState) → length blocks ≡ n → Marked w state (one_free_fewer (in_block blocks (w / 7))) slots slots' blocks blocks' → KeepsErases n (erases_of blocks) (erases_of blocks')
+counted-live w n state slots slots' blocks blocks' size marked c low = elim (cases_eq c (w / 7)) as (λ _. erases_of blocks' c ≡ erases_of blocks c) [
+  | inl e ↦ subst (λ a. erases_of blocks' a ≡ erases_of blocks a) (sym e) (ap (λ b. b.erases) marked.its_block)
+  | inr ne ↦ ap (λ b. b.erases) (marked.other_blocks c (omega (arith, low, size)) ne)
+]

@@ -14,7 +14,7 @@ use Rattle.sector_stock.specs.declared.index.SlotState.TheVariants as states
 use Rattle.sector_stock.specs.declared.index.BlockState.{BlockState}
 use Rattle.sector_stock.specs.declared.index.Cursors.{Cursors}
 use Rattle.sector_stock.specs.Index.{is_free_slot, is_dead, in_block, IsListed, IsIndexOf, IsAhead, IsHighestWhole, IsWholeBlock, IsStocked, Marked, one_dead_more, one_free_fewer}
-use Rattle.sector_stock.specs.Index.{Counts, in_bounds, row_of}
+use Rattle.sector_stock.specs.Index.{Counts, in_bounds, bound_row}
 use Rattle.sector_stock.specs.declared.policy.Wanted.{Wanted}
 use Rattle.sector_stock.specs.declared.policy.Wanted.TheVariants as wanteds
 use Rattle.sector_stock.proofs.IndexLaws.{listed-dead, listed-live}
@@ -163,7 +163,7 @@ ahead-live w slots slots' blocks blocks' at low marked some most ahead =
       most = λ c l. let e = dead c (omega (arith, l, n)) in let p = ahead.most c (omega (arith, l, n)) in omega (arith, e, p);
       from = λ c l h q. ahead.from c (omega (arith, l, n)) h (sym (dead c (omega (arith, l, n))) ∙ q);
       high = ahead.high;
-      bounds = λ wanted c l counts. elim (cases_eq c (w / 7)) as (λ _. in_bounds at.bounds (row_of wanted) c ≤ (in_block blocks' c).erases) [
+      bounds = λ wanted c l counts. elim (cases_eq c (w / 7)) as (λ _. in_bounds at.bounds (bound_row wanted) c ≤ (in_block blocks' c).erases) [
         | inl e ↦
             let is : in_block blocks' c ≡ one_free_fewer (in_block blocks c) = ap (λ a. in_block blocks' a) e ∙ (here ∙ ap (λ a. one_free_fewer (in_block blocks a)) (sym e)) in
             let p = ahead.bounds wanted c (omega (arith, l, n)) (counts-fewer wanted (in_block blocks c) (subst (λ b. Counts wanted b) is counts)) in

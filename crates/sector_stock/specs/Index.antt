@@ -96,10 +96,10 @@ IsWholeBlock b = (b.plain ≡ true) × (b.free ≡ 7)
 
 -- A run is 64 blocks. A row of bounds has for each run a number of erases; these are the rows, and
 -- the blocks of which they speak. Any block may come to rest.
-abbrev pub row_of : Wanted → ℕ
-row_of wanteds.Free = 0
-row_of (wanteds.Dead count) = count
-row_of wanteds.Resting = 8
+abbrev pub bound_row : Wanted → ℕ
+bound_row wanteds.Free = 0
+bound_row (wanteds.Dead count) = count
+bound_row wanteds.Resting = 8
 
 abbrev pub Counts : Wanted → BlockState → Type 0
 Counts wanteds.Free b = 0 < b.free
@@ -113,7 +113,7 @@ in_bounds bounds row c = slice_index_or bounds (64 * row + c / 64) 0
 abbrev pub AreBounds : List BlockState → List ℕ → Type 0
 AreBounds blocks bounds = (wanted : Wanted) (c : ℕ) → c < length blocks
     → Counts wanted (in_block blocks c)
-    → in_bounds bounds (row_of wanted) c ≤ (in_block blocks c).erases
+    → in_bounds bounds (bound_row wanted) c ≤ (in_block blocks c).erases
 
 -- Where the index looks next: below `cursor`, and from `beyond` on, no block but the reserve has a
 -- free slot; each other wholly free block lies below `spares`; no block has more dead slots than

@@ -87,10 +87,13 @@ pub record IsErasedOnce (n s : ℕ) (erases erases' : ℕ → ℕ) : Type 0 wher
   pub here : erases' s ≡ one_erase_more (erases s)
   pub others : (c : ℕ) → c < n → c ≢ s → erases' c ≡ erases c
 
+abbrev pub KeepsErases : ℕ → (ℕ → ℕ) → (ℕ → ℕ) → Type 0
+KeepsErases n erases erases' = (c : ℕ) → c < n → erases' c ≡ erases c
+
 -- the counts once a block was copied, if one was
 abbrev pub CountsErase : ℕ → Option Copied → (ℕ → ℕ) → (ℕ → ℕ) → Type 0
-CountsErase n copied erases erases' = MatchOption copied
-    ((c : ℕ) → c < n → erases' c ≡ erases c) (λ c. IsErasedOnce n c.source erases erases')
+CountsErase n copied erases erases' = MatchOption copied (KeepsErases n erases erases')
+    (λ c. IsErasedOnce n c.source erases erases')
 
 -- By erases: the block that is copied was erased least of those with as many dead slots; it goes
 -- into the reserve, and is the next one.
@@ -120,16 +123,16 @@ pub record FillsUp (n r : ℕ) (erases : ℕ → ℕ) (w : ℕ) (m : List ℕ) :
       → slot_at m s ≡ Free → erases (w / 7) ≤ erases (s / 7)
 
 -- the sectors of block c rest: it has at least four live slots, and isn't live with a group
-abbrev pub Rests : List ℕ → ℕ → Type 0
-Rests m c = (is_live_group (kind_at m c) ≡ false)
+abbrev pub SectorsRest : List ℕ → ℕ → Type 0
+SectorsRest m c = (is_live_group (kind_at m c) ≡ false)
     × (tally is_free_slot (slot_at m) c + dead_in m c ≤ 3)
 
 -- By erases: the block that is moved was erased least of those whose sectors rest, but block n,
 -- from which a slot was given last.
 pub record MovesLeastWorn (erases : ℕ → ℕ) (n s : ℕ) (m : List ℕ) : Type 0 where
-  pub rests : Rests m s
+  pub rests : SectorsRest m s
   pub other : s ≢ n
-  pub least : (c : ℕ) → c < data_blocks m → c ≢ n → Rests m c → erases s ≤ erases c
+  pub least : (c : ℕ) → c < data_blocks m → c ≢ n → SectorsRest m c → erases s ≤ erases c
 
 -- how many slots are free; and whether fewer than an eighth of those beyond what the sectors need
 -- are, the reserve's not counted

@@ -290,7 +290,13 @@ fn level_with_free(blocks: &[BlockState], at: &mut Cursors) -> Option<u16>
     if at.cursor >= at.beyond {
         return None;
     }
-    match least_worn(blocks, &mut at.bounds, Wanted::Free, reserve, behind(newest)) {
+    match least_worn(
+        blocks,
+        &mut at.bounds,
+        Wanted::Free,
+        reserve,
+        behind(newest),
+    ) {
         Some(block) => {
             at.newest = block;
             Some(block)

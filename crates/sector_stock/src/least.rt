@@ -4,7 +4,7 @@
 ghost use Rattle.std.specs.Prelude.{◌≡◌, ◌⊎◌, ◌+◌, ◌*◌, ◌/◌, ◌<◌, ◌≤◌, ℕ, length, MatchOption};
 ghost use Rattle.std.specs.Prelude.{◌-◌, ◌%◌, IsTrue, IsFalse, None, IfSome};
 ghost use Rattle.std.specs.Prelude.{slice_index_or};
-ghost use Rattle.sector_stock.specs.Index.{in_block, AreBounds, Counts, in_bounds, row_of};
+ghost use Rattle.sector_stock.specs.Index.{in_block, AreBounds, Counts, in_bounds, bound_row};
 ghost use Rattle.sector_stock.specs.Policies.{IsLeastWorn, HasNoneWanted, HasRow, IsWantedBut};
 ghost use Rattle.sector_stock.specs.Policies.{Improves, Lowered};
 
@@ -48,7 +48,7 @@ fn is_counted(state: BlockState, wanted: Wanted) -> bool
 fn place_of(wanted: Wanted, block: u16) -> usize
     requires row { HasRow wanted }
     requires block { block < 4096 }
-    ensures place { result ≡ 64 * row_of wanted + block / 64 }
+    ensures place { result ≡ 64 * bound_row wanted + block / 64 }
     ensures within { result < 576 }
 {
     let row = match wanted {
@@ -64,7 +64,7 @@ pub(crate) fn lower_bound(bounds: &mut [u16], wanted: Wanted, block: u16, erases
     requires row { HasRow wanted }
     requires block { block < 4096 }
     requires size { length bounds.old ≡ 576 }
-    ensures { Lowered (64 * row_of wanted + block / 64) erases bounds.old bounds.new }
+    ensures { Lowered (64 * bound_row wanted + block / 64) erases bounds.old bounds.new }
 {
     let place = place_of(wanted, block);
     if erases < bounds[place] {
@@ -141,8 +141,8 @@ fn is_run(blocks: &[BlockState], from: u16, end: u16) -> bool
 }
 
 /// The least worn of the blocks from `from` on and below `end`, which lie in one run, and of an
-/// older find. They aren't looked at if the bound of the run says that none was erased less. If they
-/// are the whole run its bound is exact then.
+/// older find. They aren't looked at if the bound of the run says that none was erased less. If
+/// they are the whole run its bound is exact then.
 fn look_in_run(
     blocks: &[BlockState],
     bounds: &mut [u16],

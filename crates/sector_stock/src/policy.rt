@@ -42,9 +42,9 @@ pub enum Policy {
     /// By number: the lowest-numbered free slot, the highest-numbered reserve, and of the blocks
     /// with the most dead slots the lowest-numbered.
     Lowest,
-    /// By erases: a slot of the block that is being filled, else of the least worn that has one; the
-    /// reserve is the block that was erased last; of the blocks with the most dead slots the least
-    /// worn. And every so many erases a block is moved whose sectors rest.
+    /// By erases: a slot of the block that is being filled, else of the least worn that has one;
+    /// the reserve is the block that was erased last; of the blocks with the most dead slots the
+    /// least worn. And every so many erases a block is moved whose sectors rest.
     Level,
 }
 

@@ -18,6 +18,7 @@ ghost use Rattle.sector_stock.specs.Takes.{Takes, TidiesStock, HasNoGroups, is_s
 ghost use Rattle.sector_stock.specs.Takes.{IsLowestFree, HasMostDead, HasFewerBelow, MovesInto};
 ghost use Rattle.sector_stock.specs.Takes.{Converts, IsLiveGroup, FillsUp, CopiesLeastWorn};
 ghost use Rattle.sector_stock.specs.Takes.{MovesLeastWorn, CountsErase, IsErasedOnce, erases_of};
+ghost use Rattle.sector_stock.specs.Takes.{KeepsErases};
 ghost use Rattle.sector_stock.specs.Policies.{IsTail, AreRestingFewer};
 ghost use Rattle.sector_stock.specs.declared.policy.Policy.{Policy};
 ghost use Rattle.sector_stock.specs.declared.policy.Policy.TheVariants as policies;
@@ -58,8 +59,9 @@ pub trait Reclaim: SlotCalls {
     /// free, a block with the most dead slots is copied into the reserve first. There always is
     /// one. By number it is the lowest-numbered free slot outside the highest-numbered wholly free
     /// block. By erases it is one of the block from which one was given last, else of the least
-    /// worn block that has one, and the block that is copied is the least worn one. Cut, it leaves slots and blocks that a mount accepts, and the sectors as they were
-    /// where what read as free was erased.
+    /// worn block that has one, and the block that is copied is the least worn one. Cut, it leaves
+    /// slots and blocks that a mount accepts, and the sectors as they were where what read as free
+    /// was erased.
     fn take_free(&mut self) -> Result<Given, NorError>
         requires ready { IsNorReady (Self.state self.old) }
         requires settled { IsSettled (Self.state self.old).memory }
@@ -94,8 +96,8 @@ pub trait Reclaim: SlotCalls {
             (erases_of (counts self.new))) }
         ensures ends { EndsSettled result (Self.state self.old) (Self.state self.new) };
 
-    /// Copies a block with dead slots, one with the most, by number the lowest-numbered of equals,
-    /// into the reserve; where no slot is dead, converts the lowest-numbered block that is live
+    /// Copies a block with dead slots, one with the most, of equals the lowest-numbered or the least
+    /// worn, into the reserve; where no slot is dead, converts the lowest-numbered block that is live
     /// with a group: the blocks. Where none is either, nothing changes: None. Cut, it leaves what
     /// `take_free` does.
     fn tidy(&mut self) -> Result<Option<Copied>, NorError>
@@ -139,10 +141,10 @@ pub trait Reclaim: SlotCalls {
 
     /// Moves a block whose sectors rest into a wholly free one, where it is time for it, so that
     /// the block is written to again: the blocks. Where it isn't, nothing changes: None. By number
-    /// it never is. By erases it is the least worn of them, once for eight erases; it is time at the
-    /// latest where the block before the reserve rests, and each that rests has fewer dead slots
-    /// than another block has. It comes before a `take_free` or a `tidy`, as `purpose` says, and a block with
-    /// dead slots is still left to be copied. Cut, it leaves what `take_free` does.
+    /// it never is. By erases it is the least worn of them, once for eight erases; it is time at
+    /// the latest where the block before the reserve rests, and each that rests has fewer dead
+    /// slots than another block has. It comes before a `take_free` or a `tidy`, as `purpose` says,
+    /// and a block with dead slots is still left to be copied. Cut, it leaves what `take_free` does.
     fn level(&mut self, purpose: Purpose) -> Result<Option<Copied>, NorError>
         requires ready { IsNorReady (Self.state self.old) }
         requires settled { IsSettled (Self.state self.old).memory }
@@ -250,6 +252,8 @@ pub trait Reclaim: SlotCalls {
             → IsHealthy (Self.state self.new).memory }
         ensures indexed { OnOk result (Self.indexed self.new ≡ true) }
         ensures policy { OnOk result (policy self.new ≡ policy self.old) }
+        ensures counted { OnOk result (KeepsErases (data_blocks (Self.state self.old).memory)
+            (erases_of (counts self.old)) (erases_of (counts self.new))) }
         ensures ends { EndsSettled result (Self.state self.old) (Self.state self.new) };
 
     /// Makes a live slot of a block of slots dead, as `retire` does.
@@ -278,5 +282,7 @@ pub trait Reclaim: SlotCalls {
             → IsHealthy (Self.state self.new).memory }
         ensures indexed { OnOk result (Self.indexed self.new ≡ true) }
         ensures policy { OnOk result (policy self.new ≡ policy self.old) }
+        ensures counted { OnOk result (KeepsErases (data_blocks (Self.state self.old).memory)
+            (erases_of (counts self.old)) (erases_of (counts self.new))) }
         ensures ends { EndsSettled result (Self.state self.old) (Self.state self.new) };
 }

@@ -1,5 +1,5 @@
 use Rattle.std.proofs.Common.{sym, subst}
-use Rattle.std.specs.Prelude.{Some, IfErr}
+use Rattle.std.specs.Prelude.{Some}
 use Rattle.nor_driver.specs.State.{Refuses}
 use Rattle.erase_journal.proofs.SettledLaws.{settled-healthy, settled-after, refuses-settled}
 use Rattle.std.proofs.lemmas.Result.{err_from_is_err_and}

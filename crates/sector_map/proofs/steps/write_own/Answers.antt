@@ -1,5 +1,5 @@
 use Rattle.std.proofs.Common.{◌<◌, ◌-◌, ℕ, List, Option, sym, subst, inl, arith}
-use Rattle.std.specs.Prelude.{IfErr, IfSome}
+use Rattle.std.specs.Prelude.{IfSome}
 use Rattle.chip_model.specs.Geometry.{block_count}
 use Rattle.sector_slots.specs.Slots.{data_blocks}
 use Rattle.sector_stock.specs.declared.given.Copied.{Copied}

@@ -1,6 +1,6 @@
 use Rattle.std.proofs.Common.{◌<◌, ◌+◌, ◌*◌, ◌/◌, arith, inl, inr}
 use Rattle.std.proofs.lemmas.Bool.{cases_lt}
-use Rattle.sector_stock.specs.Index.{row_of}
+use Rattle.sector_stock.specs.Index.{bound_row}
 use Rattle.sector_stock.proofs.scan.first_cursors.Goals as goal
 
 pub returns-clause-ahead : goal.returns-clause-ahead
@@ -15,5 +15,5 @@ returns-clause-ahead c = record {
   most = λ d low. c.requires.numbers d low;
   from = λ d low h. absurd (omega arith);
   high = omega arith;
-  bounds = λ wanted d low counts. (let p = c.no_bounds.ensures (64 * row_of wanted + d / 64) in omega (arith, p));
+  bounds = λ wanted d low counts. (let p = c.no_bounds.ensures (64 * bound_row wanted + d / 64) in omega (arith, p));
 }

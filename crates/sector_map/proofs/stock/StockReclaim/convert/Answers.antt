@@ -3,6 +3,8 @@ use Rattle.std.proofs.lemmas.List.{with_items_is}
 use Rattle.std.specs.Vec.{with_items}
 use Rattle.sector_stock.specs.Index.{IsStocked}
 use Rattle.sector_stock.proofs.Writing.{stocked-indexed}
+use Rattle.sector_slots.specs.Slots.{data_blocks}
+use Rattle.sector_stock.specs.Takes.{IsErasedOnce, erases_of}
 use Rattle.sector_map.proofs.stock.StockReclaim.convert.Goals as goal
 
 pub invariant_of-self-2 : goal.invariant_of-self-2
@@ -19,3 +21,11 @@ invariant_of-self-2 g c =
           (subst (λ ys. IsStocked c.convert_block.new.states ys c.convert_block.new.at true m1) (sym blocks)
           (stocked-indexed s.states.items c.convert_block.new.states s.blocks.items c.convert_block.new.blocks s.at c.convert_block.new.at s.indexed m m1 c.in_ok-converted.ensures.size ss bs s.stocked c.in_ok-converted.ensures.index));
     }
+
+pub returns-clause-counted : goal.returns-clause-counted
+returns-clause-counted g c =
+    let s = c.args.self.now in
+    let size = rw c.as_mut_slice-2.ensures.value at c.in_ok-converted.ensures.blocks_size in
+    let blocks = with_items_is s.blocks c.convert_block.new.blocks (size ∙ sym s.blocks.ok.0) in
+    let counted = rw c.as_mut_slice-2.ensures.value at c.in_ok-converted.ensures.counted in
+    subst (λ ys. IsErasedOnce (data_blocks s.slots.memory) c.args.block (erases_of s.blocks.items) (erases_of ys)) (sym blocks) counted

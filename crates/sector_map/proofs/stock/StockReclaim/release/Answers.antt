@@ -3,6 +3,9 @@ use Rattle.std.proofs.lemmas.List.{with_items_is}
 use Rattle.std.specs.Vec.{with_items}
 use Rattle.sector_stock.specs.Index.{IsStocked, IsAhead, in_block}
 use Rattle.sector_stock.proofs.Writing.{dead-room, retire-indexed, stocked-indexed}
+use Rattle.sector_slots.specs.Slots.{data_blocks}
+use Rattle.sector_stock.specs.Takes.{KeepsErases, erases_of}
+use Rattle.sector_stock.proofs.Worn.{counted-dead}
 use Rattle.sector_map.proofs.stock.StockReclaim.release.Goals as goal
 
 pub mark_dead-requires-clause-room : goal.mark_dead-requires-clause-room
@@ -30,3 +33,11 @@ invariant_of-self-2 g c =
           (subst (λ ys. IsStocked c.mark_dead.new.slots ys c.mark_dead.new.at true m1) (sym blocks)
           (stocked-indexed s.states.items c.mark_dead.new.slots s.blocks.items c.mark_dead.new.blocks s.at c.mark_dead.new.at s.indexed m m1 c.in_ok-retire.ensures.chip.same_length marked.slot_size marked.block_size s.stocked index));
     }
+
+pub returns-clause-counted : goal.returns-clause-counted
+returns-clause-counted g c =
+    let s = c.args.self.now in
+    let marked = rw (c.as_mut_slice.ensures.value, c.as_mut_slice-2.ensures.value) at c.mark_dead.ensures.marked in
+    let blocks = with_items_is s.blocks c.mark_dead.new.blocks (marked.block_size ∙ sym s.blocks.ok.0) in
+    subst (λ ys. KeepsErases (data_blocks s.slots.memory) (erases_of s.blocks.items) (erases_of ys)) (sym blocks)
+    (counted-dead c.args.slot (data_blocks s.slots.memory) _ s.states.items c.mark_dead.new.slots s.blocks.items c.mark_dead.new.blocks s.stocked.blocks_size marked)

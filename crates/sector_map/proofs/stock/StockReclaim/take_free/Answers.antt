@@ -3,6 +3,8 @@ use Rattle.std.proofs.lemmas.List.{with_items_is}
 use Rattle.std.specs.Vec.{with_items}
 use Rattle.sector_stock.specs.Index.{IsStocked}
 use Rattle.sector_stock.proofs.Writing.{stocked-indexed}
+use Rattle.sector_slots.specs.Slots.{data_blocks}
+use Rattle.sector_stock.specs.Takes.{CountsErase, erases_of}
 use Rattle.sector_map.proofs.stock.StockReclaim.take_free.Goals as goal
 
 pub invariant_of-self-2 : goal.invariant_of-self-2
@@ -19,3 +21,11 @@ invariant_of-self-2 g c =
           (subst (λ ys. IsStocked c.take_slot.new.states ys c.take_slot.new.at true m1) (sym blocks)
           (stocked-indexed s.states.items c.take_slot.new.states s.blocks.items c.take_slot.new.blocks s.at c.take_slot.new.at s.indexed m m1 c.take_slot.ensures.size size1 size2 s.stocked c.in_ok-given.ensures.index));
     }
+
+pub returns-clause-counted : goal.returns-clause-counted
+returns-clause-counted g c =
+    let s = c.args.self.now in
+    let size = rw c.as_mut_slice-2.ensures.value at c.take_slot.ensures.blocks_size in
+    let blocks = with_items_is s.blocks c.take_slot.new.blocks (size ∙ sym s.blocks.ok.0) in
+    let counted = rw c.as_mut_slice-2.ensures.value at c.in_ok-given.ensures.counted in
+    subst (λ ys. CountsErase (data_blocks s.slots.memory) c.in_ok-given.given.copied (erases_of s.blocks.items) (erases_of ys)) (sym blocks) counted

@@ -5,6 +5,9 @@ use Rattle.std.specs.Vec.{with_items}
 use Rattle.sector_stock.specs.Index.{IsStocked, IsWholeBlock, in_block}
 use Rattle.sector_stock.proofs.Moved.{numbers-in, spare-whole}
 use Rattle.sector_stock.proofs.Writing.{free-some, put-indexed, stocked-indexed}
+use Rattle.sector_slots.specs.Slots.{data_blocks}
+use Rattle.sector_stock.specs.Takes.{KeepsErases, erases_of}
+use Rattle.sector_stock.proofs.Worn.{counted-live}
 use Rattle.sector_map.proofs.stock.StockReclaim.write.Goals as goal
 
 pub returns-in_err-put-clause-cut_live : goal.returns-in_err-put-clause-cut_live
@@ -55,3 +58,11 @@ invariant_of-self-2 g c =
           (subst (λ ys. IsStocked c.mark_written.new.slots ys c.mark_written.new.at true m1) (sym blocks)
           (stocked-indexed s.states.items c.mark_written.new.slots s.blocks.items c.mark_written.new.blocks s.at c.mark_written.new.at s.indexed m m1 c.in_ok-put.ensures.chip.same_length marked.slot_size marked.block_size s.stocked index));
     }
+
+pub returns-clause-counted : goal.returns-clause-counted
+returns-clause-counted g c =
+    let s = c.args.self.now in
+    let marked = rw (c.as_mut_slice.ensures.value, c.as_mut_slice-2.ensures.value) at c.mark_written.ensures.marked in
+    let blocks = with_items_is s.blocks c.mark_written.new.blocks (marked.block_size ∙ sym s.blocks.ok.0) in
+    subst (λ ys. KeepsErases (data_blocks s.slots.memory) (erases_of s.blocks.items) (erases_of ys)) (sym blocks)
+    (counted-live c.args.slot (data_blocks s.slots.memory) _ s.states.items c.mark_written.new.slots s.blocks.items c.mark_written.new.blocks s.stocked.blocks_size marked)
