@@ -2,7 +2,6 @@
 import os
 import re
 import shutil
-import signal
 import subprocess
 import unittest
 
@@ -61,18 +60,18 @@ class Examples(kit.Case):
         self.assertGreater(found, 0)
 
     def test_the_example_of_the_script_page(self):
-        """The functions and lines of docs/SCRIPT.md print what stands below them."""
+        """The functions and lines of docs/SCRIPT.md, as they stand there, print the transcripts of
+        examples/script."""
         with open(os.path.join(kit.ROOT, "docs/SCRIPT.md"), encoding="utf-8") as file:
             text = file.read()
-        blocks = [re.sub(r"^    ", "", it, flags=re.M)
-                  for it in re.findall(r"(?:^    .*\n|^\n(?=    ))+", text, re.M)]
-        start = next(at for at, it in enumerate(blocks) if "start() {" in it)
-        line, printed = blocks[start + 1], blocks[start + 2]
-        out = self.shell(blocks[start] + line).decode()
-        self.assertEqual(out.strip(), printed.strip())
-        line, printed = blocks[start + 3], blocks[start + 4]
-        out = self.shell(blocks[start] + line).decode()
-        self.assertTrue(out.strip().endswith(printed.strip()))
+        blocks = ["".join(line[4:] + "\n" for line in it.splitlines())
+                  for it in re.findall(r"(?:^    .*\n)+", text, re.M)]
+        [functions] = [it for it in blocks if it.startswith("start() {")]
+        lines = [it for it in blocks if it.startswith("{ start;")]
+        self.assertEqual(len(lines), 2)
+        for line, name in zip(lines, ("write_and_read", "cut_commit_old")):
+            with open(os.path.join(kit.ROOT, f"examples/script/{name}.out"), "rb") as file:
+                self.assertEqual(self.shell(functions + line), file.read())
 
     def test_the_example_of_the_protocol_page(self):
         """The line of docs/NBD.md prints the reply that the page tells."""
@@ -82,30 +81,47 @@ class Examples(kit.Case):
             "0000000 67 44 66 98 00 00 00 00 01 02 03 04 05 06 07 08\n"
             "0000016 00 00 00 00 00 00 00 00 00 00 00 00 00 00 00 00\n*\n0000528\n"), out)
 
+    def readme(self):
+        """README.md's commands from `format` on, and what they print where that stands below."""
+        with open(os.path.join(kit.ROOT, "README.md"), encoding="utf-8") as file:
+            text = file.read()
+        block = re.search(r"^```sh\n(.*?)^```\n[^\n]*\n```\n(.*?)^```$", text, re.M | re.S)
+        if block:
+            return block.group(1).splitlines(), block.group(2)
+        lines = [line[4:] for line in text.splitlines() if line.startswith("    ")]
+        lines = [it + " &" * it.startswith("./norbd serve") for it in lines if re.match(
+            r"\./norbd (format|serve) chip\.img|head -c|nbdcopy|cmp ", it)]
+        return lines + ["kill %1; wait"], None
+
     @kit.needs("nbdcopy")
     def test_the_lines_of_the_readme(self):
-        """README.md's lines from `format` to `cmp`, as they stand there but for the port, give back
-        what they wrote."""
+        """README.md's lines from `format` on, as they stand there but for the port, give back what
+        they wrote, and print what stands below them."""
         port = str(kit.free_port())
-        ran = []
-        for page in ("README.md", "docs/SERVE.md"):
-            for block in lines_of(page, ""):
-                for line in block:
-                    if re.match(r"\./norbd (format|serve) chip\.img|head -c \d+ /dev/urandom|"
-                                r"(nbdcopy|nbdinfo) .*127\.0\.0\.1|cmp ", line) and (
-                                    line not in ran and page == "README.md"):
-                        ran.append(line)
-        self.assertIn("cmp data.bin back.bin", ran)
-        for line in ran:
+        lines, wanted = self.readme()
+        self.assertTrue(any(it.startswith("cmp data.bin back.bin") for it in lines), lines)
+        with open(self.path("out"), "wb") as out:
+            shell = subprocess.Popen(["bash"], cwd=self.room, stdin=subprocess.PIPE, stdout=out,
+                                     stderr=subprocess.STDOUT, start_new_session=True)
+        self.running.append(shell)
+
+        def said():
+            return self.bytes_of("out").decode().replace(port, "10809")
+        for number, line in enumerate(lines):
             line = line.replace("10809", port).replace("127.0.0.1/", f"127.0.0.1:{port}/")
-            if line.startswith("./norbd serve"):
-                process = self.start(*line.split()[1:])
-                self.assertTrue(process.stdout.readline().startswith(b"serving 1540 sectors"))
-            else:
-                self.shell(line)
+            # each line has ended, or begun its server, before the next is typed
+            shell.stdin.write(f"{line}\n: > typed{number}\n".encode())
+            shell.stdin.flush()
+            self.assertTrue(kit.wait_for(lambda: os.path.exists(self.path(f"typed{number}"))), line)
+            if line.endswith("&"):
+                self.assertTrue(kit.wait_for(lambda: "serving 1540 sectors" in said()), said())
+        shell.stdin.close()
+        self.assertEqual(shell.wait(kit.PATIENCE), 0)
+        kept = [it for it in said().splitlines() if not it.startswith(("[1]", "bash: line"))]
+        self.assertEqual(kept, wanted.splitlines() if wanted else [
+            "formatted 1540 sectors", "serving 1540 sectors on port 10809"])
         self.assertEqual(len(self.bytes_of("back.bin")), 788480)
-        process.send_signal(signal.SIGINT)
-        self.assertEqual(self.end_of(process).status, -signal.SIGINT)
+        self.assertEqual(self.bytes_of("back.bin"), self.bytes_of("data.bin"))
         self.assertTrue(self.norbd("check", "chip.img").endswith(b"clean 1540 sectors\n"))
         self.assertEqual(self.norbd("read", "chip.img"), self.bytes_of("data.bin"))
 
