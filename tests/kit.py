@@ -175,6 +175,11 @@ class Case(unittest.TestCase):
         done = self.run_norbd("check", name, "--json")
         return json.loads(done.text)
 
+    def check_copy(self, name="a.img"):
+        """What `check --json` says of a copy of an image that is served."""
+        self.put("copy.img", self.bytes_of(name))
+        return self.check("copy.img")
+
     def serve(self, name="a.img", *words, **how):
         """A server of an image at a Unix socket, or at what the words say."""
         return Server(self, name, words, **how)

@@ -392,7 +392,7 @@ class Failing(ChipCase):
                                  (12, "no answer to a frame 0x")):
                 status, after, told = came[kind, where]
                 self.assertEqual((status, told[:len(words)]), (1, words), (kind, where))
-                self.assertTrue(9.5 < after < 14, (kind, where, after))
+                self.assertTrue(9.5 < after < 20, (kind, where, after))
 
 
 class Greeting(ChipCase):

@@ -317,7 +317,8 @@ class Layout1(kit.Case):
             self.assertEqual(client.write(8, b"\x88" * 512), nbd.OK)
             held = self.held()
             held[512 * 8:512 * 9] = b"\x88" * 512
-            time.sleep(1)
+            kit.wait_for(lambda: self.check_copy()["blocks"]["groups"] == 0, 20)
+            kit.wait_for(lambda: self.check_copy()["blocks"]["dead_groups"] == 0, 20)
             self.assertEqual(client.read(0, 70), held)
             server.kill()
             told = self.check()

@@ -56,7 +56,8 @@ class Serving(kit.Case):
             return kit.status_of(server.pid, "voluntary_ctxt_switches")
         for number in (0, 1, 0, 1):
             client.write(number, nbd.sector(number))
-        time.sleep(1)
+        self.assertTrue(kit.wait_for(lambda: self.check_copy()["slots"]["dead"] == 0, 20))
+        time.sleep(0.5)
         before = switches()
         time.sleep(1)
         self.assertLessEqual(switches() - before, 2)
@@ -78,14 +79,19 @@ class Serving(kit.Case):
             client.write(1, nbd.sector(1))
             for turn in range(3 if change is None else 1):
                 client.write(0, nbd.sector(0, turn))
-            time.sleep(0.7)
+            self.tidied(dead if change is None or not dead else 1)
             if change:
                 self.assertEqual(getattr(client, change)(1), OK)
-                time.sleep(0.7)
+                self.tidied(dead)
             server.kill()
             self.assertEqual(self.check()["slots"]["dead"], dead, (words, change))
             self.assertEqual(self.norbd("read", "a.img", "--sectors", "0:1"),
                              nbd.sector(0, 2 if change is None else 0))
+
+    def tidied(self, dead):
+        """Waits until so many slots are dead, and then a while for more to be tidied."""
+        kit.wait_for(lambda: self.check_copy()["slots"]["dead"] == dead, 10)
+        time.sleep(0.5)
 
     def test_tidying_when_slots_run_out(self):
         """A full disk that is written again and again goes on, and keeps every sector."""
