@@ -278,20 +278,21 @@ class Told(kit.Case):
         nothing; the next ones are answered."""
         server = self.serve("a.img", "--record", "-v", "--sync", "never")
         client = server.client()
-        with open(f"/proc/{server.pid}/statm", encoding="ascii") as file:
-            size = int(file.read().split()[0]) * 4096
-        most = size + (2 << 20)
-        resource.prlimit(server.pid, resource.RLIMIT_AS, (most, resource.RLIM_INFINITY))
-        for turn in range(300):
+        # what the C library has set aside counts for the second once it is written to
+        for key, limit in (("VmSize", resource.RLIMIT_AS), ("VmData", resource.RLIMIT_DATA)):
+            with open(f"/proc/{server.pid}/status", encoding="ascii") as file:
+                now = [int(it.split()[1]) << 10 for it in file if it.startswith(key)][0]
+            resource.prlimit(server.pid, limit, (now + (2 << 20), resource.RLIM_INFINITY))
+        for turn in range(200):
             error = client.do(WRITE, 0, 32768, nbd.sector(turn) * 64)
             if error:
                 break
             last = turn
         else:
-            self.skipTest("the server found memory that its limit forbids")
+            self.skipTest("this program's allocator can't be used up")
         self.assertEqual(error, ENOMEM)
-        resource.prlimit(server.pid, resource.RLIMIT_AS,
-                         (resource.RLIM_INFINITY, resource.RLIM_INFINITY))
+        for limit in (resource.RLIMIT_AS, resource.RLIMIT_DATA):
+            resource.prlimit(server.pid, limit, (resource.RLIM_INFINITY, resource.RLIM_INFINITY))
         self.assertEqual(client.read(0, 64), nbd.sector(last) * 64)
         self.assertEqual(client.write(0, nbd.sector(1)), OK)
         self.assertIn(f"WRITE of 32768 bytes at 0: ENOMEM\n", server.kill().fault)
