@@ -65,6 +65,11 @@ def status_of(pid, key):
     return total
 
 
+def keeps_what_it_freed(pid):
+    """Whether a program was built with checks that keep freed memory: then it holds terabytes."""
+    return status_of(pid, "VmSize") > 1 << 30  # KiB
+
+
 RUNNING, ROOMS = [], []  # of all tests, for an end by a signal
 
 

@@ -495,6 +495,7 @@ class ShortWrites(ChipCase):
         serial device."""
         for kind, call, when in ((TcpPeer, "sendmsg", 1), (SerialPeer, "write", 9)):
             peer = self.peer(kind=kind)  # the 9th command is the first frame: a status read
+            self.put("strace.log", b"")
             process = self.start("check", peer.place, under=kit.traced(
                 "sendto,sendmsg,write,writev", "-e", f"inject={call}:retval=1:when={when}"))
             command, sent = b"\x13\1\0\0\1\0\0\x05", []

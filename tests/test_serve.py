@@ -362,7 +362,8 @@ class Refusals(kit.Case):
             client.send(piece)
         self.assertEqual(client.answer(), (EINVAL, 1, b""))
         self.assertEqual(client.write(0, b"\x11" * 512), OK)
-        self.assertLess(kit.status_of(server.pid, "VmRSS"), memory + (32 << 10))  # in KiB
+        if not kit.keeps_what_it_freed(server.pid):
+            self.assertLess(kit.status_of(server.pid, "VmRSS"), memory + (16 << 10))  # in KiB
 
 
 if __name__ == "__main__":
