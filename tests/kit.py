@@ -1,6 +1,7 @@
 """What the tests share: the program, its runs and servers, scratch folders, images by
 docs/LAYOUT.md, and chance."""
 import contextlib
+import itertools
 import json
 import os
 import random
@@ -193,13 +194,12 @@ class Case(unittest.TestCase):
 class Server:
     """A server that has said its line."""
 
-    numbers = 0
+    numbers = itertools.count()
 
     def __init__(self, case, name, words, under=(), **how):
         self.case, self.name = case, name
         if not {"--port", "--unix"} & set(words):
-            Server.numbers += 1
-            words = (*words, "--unix", f"{Server.numbers}.sock")
+            words = (*words, "--unix", f"{next(self.numbers)}.sock")
         self.words = words
         self.process = case.start("serve", name, *words, under=under, **how)
         self.line = self.process.stdout.readline().decode()

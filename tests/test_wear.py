@@ -12,18 +12,19 @@ from serprog import Chip, Programmer, TcpPeer
 class Wear(kit.Case):
     def worn(self, hot, writes, words=(), starts=1):
         """The erases of the data blocks of a chip of 64 KiB on which each sector was written once,
-        and then these in turn, over so many starts."""
+        and then these by chance, over so many starts."""
         chip = Chip(64, kit.formatted())
-        peer = TcpPeer(self, Programmer(chip))
+        peer, chance = TcpPeer(self, Programmer(chip)), kit.dice(f"wear {hot}")
         for start in range(starts):
-            client = self.serve(peer.place, "--trust", "--conns", "1", *words).client()
+            server = self.serve(peer.place, "--trust", "--conns", "1", *words)
+            client = server.client()
             if not start:
                 client.write(0, b"".join(nbd.sector(it) for it in range(70)))
             for turn in range(writes // starts):
-                number = hot[turn % len(hot)]
+                number = chance.choice(hot)
                 self.assertEqual(client.write(number, nbd.sector(number, turn + 1)), nbd.OK)
             client.disc()
-            self.assertTrue(kit.wait_for(lambda: self.running[-1].poll() is not None))
+            self.assertEqual(server.end().status, 0)
         return chip.erased[4:]
 
     def test_one_hot_sector(self):
@@ -34,21 +35,21 @@ class Wear(kit.Case):
 
         def wear(name, *how):
             came[name] = self.worn(*how)
-        # 0.19 erases a write (docs/WEAR.md): 35 of each of the 12 blocks
+        # 0.19 and 0.31 erases a write (docs/WEAR.md): 35 and 100 of each of the 12 blocks
         threads = [threading.Thread(target=wear, args=it) for it in (
-            ("one", [0], 2200), ("over starts", [0], 2200, (), 4), ("ten", list(range(10)), 1400))]
+            ("one", [0], 2200), ("over starts", [0], 2200, (), 4), ("ten", list(range(10)), 3800))]
         for thread in threads:
             thread.start()
         for thread in threads:
             thread.join()
         self.assertEqual(set(came), {"one", "over starts", "ten"})
-        for name, most in (("one", 1.5), ("over starts", 2.0), ("ten", 2.2)):
+        for name, most in (("one", 1.25), ("over starts", 2.0), ("ten", 1.25)):
             erased = came[name]
             mean = sum(erased) / len(erased)
             self.assertGreater(mean, 20, (name, erased))
             self.assertLess(max(erased), most * mean, (name, erased))
         self.assertLess(sum(came["one"]), 0.21 * 2200)
-        self.assertLess(sum(came["ten"]), 0.36 * 1400)
+        self.assertLess(sum(came["ten"]), 0.36 * 3800)
 
     def test_what_a_tidying_costs(self):
         """The tidying of a block with n live slots makes 7 and 3 n changes of the chip
