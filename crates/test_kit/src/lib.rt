@@ -1,19 +1,18 @@
-//! What tests share: bytes written out by hand, heads of requests and of a script's records,
-//! numbers that look random, a process without memory, chips of 64 KiB with stations on them, and a
-//! chip whose erases are counted.
+//! What tests share: bytes written out by hand, heads of a script's records, numbers that look
+//! random, a process without memory, chips of 64 KiB with stations on them, and a chip whose erases
+//! are counted.
 //!
 //! Promised to the tests above: `bytes_of` answers the bytes that a text spells (`spelled`);
-//! `request_head`, `record_head` and `push_record` have the bytes of proto.md and of a script;
-//! `Dice` draws below its bound; `spend` uses up the memory of the process. `chips` has the memory
-//! of erased and of formatted chips, and runs scripts on them; no clause says what is in these.
-//! `WornChip` counts the frames that erase and program; what cells hold, no clause can say. No
-//! product crate depends on this one.
+//! `record_head` and `push_record` have the bytes of a script's records; `Dice` draws below its
+//! bound; `spend` uses up the memory of the process. `chips` has the memory of erased and of
+//! formatted chips, and runs scripts on them; no clause says what is in these. `WornChip` counts
+//! the frames that erase and program; what cells hold, no clause can say. No product crate depends
+//! on this one.
 #![tactic(auto)]
 
 pub mod chips;
 mod dice;
 mod records;
-mod requests;
 mod scarcity;
 mod spelling;
 mod talk;
@@ -21,7 +20,6 @@ mod worn;
 
 pub use dice::Dice;
 pub use records::{push_record, record_head};
-pub use requests::request_head;
 pub use scarcity::spend;
 pub use spelling::{SpellingError, bytes_of};
 pub use talk::{FLAGS, GO, GO_REPLY, GREETING, MASKS};

@@ -1,16 +1,13 @@
-//! Tests of the crates of the NBD side: what no clause of theirs says, and bytes written out by
-//! hand from NBD proto.md.
+//! Tests of the crates of the NBD side that only a test inside can make: what a caller does with a
+//! session's buffer, streams that fail at a call, the order in which a connection calls its gate
+//! and its disk, and a disk whose chip never ends a write.
 //!
-//! There is no product code here. The tests stand by subject: heads, what a caller does with a
-//! session's buffer, streams and a disk in memory, the server of one disk, and the program's line.
-//! What comes of a connection's bytes is a case (docs/CASES.md).
+//! There is no product code here. What comes of a connection's bytes is a case (crate `cases`);
+//! what a client sees, and the program's line, is tested on the built program, by the files of
+//! tests/.
 
 #![tactic(auto)]
 
-#[cfg(test)]
-mod heads;
-#[cfg(test)]
-mod line;
 #[cfg(test)]
 mod order;
 #[cfg(test)]

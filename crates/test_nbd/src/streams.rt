@@ -1,8 +1,8 @@
-//! Streams that fail or are full, and a disk in memory.
+//! Streams that fail or are full.
 
 ghost use Rattle.std.specs.Prelude.{◌≡◌, ◌<◌, ◌≤◌, IfOk};
 
-use block_device::{Disk, Failed, FixedOut, Io, PlainDisk, Sink, Source, send};
+use block_device::{Failed, FixedOut, Io, Sink, Source, send};
 use std::alloc::Global;
 use std::io;
 use std::io::{Read, Write};
@@ -105,19 +105,4 @@ fn fill<L: Ledger, R: Abort>(rt: &R, writes: Blank)
     let first = full.write(&[5]);
     assert_eq!(rt; [first, full.write(&[])], [Err(Failed), Ok(0)]);
     assert_eq!(rt; full.bytes(), [1, 2, 3].as_slice());
-}
-
-#[test]
-fn one_of_three_sectors_is_written(rt: HostRuntime) -> Result<(), Fail> {
-    let mut disk = PlainDisk::new(rt.alloc(), 3)?;
-    assert_eq!(rt; disk.sectors(), 3);
-    let mut all = [9u8; 1536];
-    assert_eq!(rt; disk.write(1, &[17u8; 512]), Ok(()));
-    assert_eq!(rt; disk.read(0, &mut all), Ok(()));
-    let (first, rest) = all.split_at(512);
-    let (second, third) = rest.split_at(512);
-    assert_eq!(rt; first, [0u8; 512].as_slice());
-    assert_eq!(rt; second, [17u8; 512].as_slice());
-    assert_eq!(rt; third, [0u8; 512].as_slice());
-    Ok(())
 }

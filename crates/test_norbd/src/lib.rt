@@ -1,22 +1,13 @@
-//! Tests of the program's lines: what each prints and answers, what is left of an image, the
-//! served disk over sockets, lines that find no memory, and the texts of faults.
+//! Tests of the program's lines that only a test inside can make: lines that find no memory, files
+//! whose n-th write or sync fails, a clock that is a fake, and the texts of faults that don't come.
 //!
-//! There is no product code here: it is `norbd_run`, which does the lines.
+//! There is no product code here: it is `norbd_run`, which does the lines. All that is seen from
+//! outside is tested on the built program, by the files of tests/.
 
 #![tactic(auto)]
 
 #[cfg(test)]
-mod checking;
-#[cfg(test)]
-mod chips;
-#[cfg(test)]
-mod exports;
-#[cfg(test)]
-mod lines;
-#[cfg(test)]
 mod memory;
-#[cfg(test)]
-mod moving;
 #[cfg(test)]
 mod printing;
 #[cfg(test)]

@@ -168,7 +168,7 @@ fn a_format_without_memory_says_so(rt: HostRuntime) -> Result<(), Fail> {
 /// With its lists made and its line told, serving finds no room for a thread's stack.
 #[test]
 fn serving_without_memory_says_so(rt: HostRuntime) -> Result<(), Fail> {
-    make(&rt, 0, 0x4E)?;
+    make(&rt)?;
     let port = free_port(&rt)?;
     if port == 0 {
         return Err(Fail::from("no port"));

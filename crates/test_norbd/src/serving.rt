@@ -1,32 +1,29 @@
-//! Runs of `serve` on image files, with clients in another thread that send bytes written out by
-//! hand from NBD proto.md.
-ghost use Rattle.std.specs.Prelude.{IfOk};
+//! Runs of `serve` on image files whose n-th write or sync fails, and which count their syncs, with
+//! clients in another thread that send bytes written out by hand from NBD proto.md.
 ghost use Rattle.norbd_line.specs.Line.{IsConns, IsPlace};
 
 use block_device::{Failed, Sink};
 use nbd_wire::MAX_LEN;
-use norbd_image::{ImageFile, formatted_image, hold};
+use norbd_image::{ImageFile, formatted_image};
 use norbd_line::{Cause, Fault, Place, SyncPolicy, TidyPolicy};
-use norbd_run::{Asked, listen_at, run_format, run_serve};
+use norbd_run::{Asked, run_serve};
 use norbd_serve::{Log, Notice};
 use std::alloc::{Allocator, Global};
 use std::fs::{Metadata, OpenFile, OpenOptions};
 use std::io::{Read, Seek, SeekFrom, Write};
 use std::net::{Ipv4Addr, Net, SocketAddr, TcpListener, TcpStream};
-use std::os::fd::OwnedFd;
 use std::os::unix::fs::FileExt;
-use std::os::unix::net::{UnixListener, UnixStream};
 use std::process::Abort;
 use std::rt::Files;
+use std::sync::Wait;
 use std::sync::atomic::{AtomicU32, Ordering};
-use std::sync::{Mutex, Wait};
 use std::test::*;
 use std::thread::Threads;
 use std::time::{Clock, Duration};
 use std::{fs, io, thread};
 
 /// The client flags, and GO `flash`.
-pub(crate) const NEGOTIATION: [u8; 31] = [
+const NEGOTIATION: [u8; 31] = [
     0, 0, 0, 3, 0x49, 0x48, 0x41, 0x56, 0x45, 0x4f, 0x50, 0x54, 0, 0, 0, 7, 0, 0, 0, 11, 0, 0, 0,
     5, 0x66, 0x6c, 0x61, 0x73, 0x68, 0, 0,
 ];
@@ -138,31 +135,26 @@ impl<F: FileExt> FileExt for Worn<'_, F> {
     }
 }
 
-/// A system whose files are worn, and which keeps what is told of connections.
+/// A system whose files are worn.
 #[derive(Drop)]
 struct Wearing<'r, R> {
     rt: &'r R,
     good_writes: &'r AtomicU32,
     good_syncs: &'r AtomicU32,
-    notices: Mutex<Vec<Notice>>,
 }
 
-impl<'r, R: Wait + AllocGlobal> Wearing<'r, R> {
+impl<'r, R> Wearing<'r, R> {
     fn new(rt: &'r R, good_writes: &'r AtomicU32, good_syncs: &'r AtomicU32) -> Wearing<'r, R> {
         Wearing {
             rt,
             good_writes,
             good_syncs,
-            notices: Mutex::new(Vec::new(rt.alloc())),
         }
     }
 }
 
-impl<R: Wait> Log for Wearing<'_, R> {
-    fn tell(&self, notice: &Notice) {
-        let mut notices = self.notices.lock(self.rt);
-        let _ = notices.push(*notice);
-    }
+impl<R> Log for Wearing<'_, R> {
+    fn tell(&self, _notice: &Notice) {}
 }
 
 impl<'r, R: Files> Files for Wearing<'r, R> {
@@ -256,14 +248,13 @@ impl<R: Net<Listener = TcpListener, Stream = TcpStream>> Net for Wearing<'_, R> 
     }
 }
 
-/// What a client asks for: of a sector, a FLUSH, or a READ of the sector past the last one.
+/// What a client asks for: of a sector, or a FLUSH.
 #[derive(Clone, Copy)]
-pub(crate) enum Asks {
+enum Asks {
     Read(u8),
     Write(u8),
     WriteWithFua(u8),
     Flush,
-    ReadPastEnd,
 }
 
 /// What a client asks for, and how many of these are answered. At one that isn't the connection
@@ -275,7 +266,7 @@ struct Client<'a> {
 }
 
 /// The head of a request of so many times 256 bytes at a sector; its cookie is 7.
-pub(crate) fn request(flags: u8, kind: u8, sector: u8, pages: u8) -> [u8; 28] {
+fn request(flags: u8, kind: u8, sector: u8, pages: u8) -> [u8; 28] {
     let mut head = [0; 28];
     head[..4].copy_from_slice(&[0x25, 0x60, 0x95, 0x13]);
     head[5] = flags;
@@ -289,14 +280,8 @@ pub(crate) fn request(flags: u8, kind: u8, sector: u8, pages: u8) -> [u8; 28] {
 /// The head of its reply without an error.
 const REPLY: [u8; 16] = [0x67, 0x44, 0x66, 0x98, 0, 0, 0, 0, 0, 0, 0, 0, 0, 0, 0, 7];
 
-/// The one with EINVAL, which is 22.
-const REFUSED: [u8; 16] = [0x67, 0x44, 0x66, 0x98, 0, 0, 0, 22, 0, 0, 0, 0, 0, 0, 0, 7];
-
 /// Connects once the server listens: 500 tries, 10 ms apart.
-pub(crate) fn connect<H: Net<Stream = TcpStream> + Clock>(
-    rt: &H,
-    addr: SocketAddr,
-) -> io::Result<TcpStream> {
+fn connect<H: Net<Stream = TcpStream> + Clock>(rt: &H, addr: SocketAddr) -> io::Result<TcpStream> {
     for _try in 0..500u32 {
         if let Ok(stream) = TcpStream::connect(rt, addr) {
             return Ok(stream);
@@ -312,7 +297,7 @@ fn sector_bytes(sector: u8) -> [u8; 512] {
 }
 
 /// Sends a request.
-pub(crate) fn send_request(stream: &mut TcpStream, asks: Asks) -> io::Result<()> {
+fn send_request(stream: &mut TcpStream, asks: Asks) -> io::Result<()> {
     match asks {
         Asks::Read(sector) => stream.write_all(&request(0, 0, sector, 2)),
         Asks::Write(sector) => {
@@ -324,7 +309,6 @@ pub(crate) fn send_request(stream: &mut TcpStream, asks: Asks) -> io::Result<()>
             stream.write_all(&sector_bytes(sector))
         }
         Asks::Flush => stream.write_all(&request(0, 3, 0, 0)),
-        Asks::ReadPastEnd => stream.write_all(&request(0, 0, 70, 2)),
     }
 }
 
@@ -342,9 +326,6 @@ fn ask(stream: &mut TcpStream, asks: Asks, is_answered: bool) -> io::Result<bool
         stream.read_exact(&mut data)?;
         return Ok(reply == REPLY && data == sector_bytes(sector));
     }
-    if let Asks::ReadPastEnd = asks {
-        return Ok(reply == REFUSED);
-    }
     Ok(reply == REPLY)
 }
 
@@ -354,12 +335,7 @@ fn work<H: Net<Stream = TcpStream> + Clock>(
     addr: SocketAddr,
     client: Client<'_>,
 ) -> io::Result<bool> {
-    work_over(connect(rt, addr)?, client)
-}
-
-/// A whole connection over a stream.
-fn work_over(stream: TcpStream, client: Client<'_>) -> io::Result<bool> {
-    let mut stream = stream;
+    let mut stream = connect(rt, addr)?;
     let mut greeting = [0u8; 18];
     stream.read_exact(&mut greeting)?;
     stream.write_all(&NEGOTIATION)?;
@@ -423,19 +399,16 @@ struct Outcome {
     done: Result<(), Fault>,
 }
 
-/// How two clients are served: whether no more are, whether rows are kept, and when the file is
-/// synced.
+/// How two clients are served: whether no more are, and when the file is synced.
 #[derive(Clone, Copy)]
 struct Manner {
     ends: bool,
-    record: bool,
     sync: SyncPolicy,
 }
 
-/// Two clients, without rows, with a sync at each FLUSH.
+/// Two clients, with a sync at each FLUSH.
 const PLAINLY: Manner = Manner {
     ends: true,
-    record: false,
     sync: SyncPolicy::AtFlush,
 };
 
@@ -464,12 +437,12 @@ where
         },
         conns: 2,
         ends: manner.ends,
-        record: manner.record,
+        record: false,
         sync: manner.sync,
         tidy: TidyPolicy::Eagerly,
         max_len: MAX_LEN,
         read_only: false,
-        verbose: true,
+        verbose: false,
     };
     let mut told = Told {
         text: Vec::new(rt.alloc()),
@@ -521,39 +494,12 @@ pub(crate) fn text_of<H: Abort + AllocGlobal>(
     }
 }
 
-/// Makes the file the image of a formatted chip of 64 KiB, with a byte of it set.
-pub(crate) fn make<H: Files + AllocGlobal>(rt: &H, at: usize, byte: u8) -> Result<(), Fail> {
-    let Ok(mut image) = formatted_image(rt.alloc(), 64) else {
+/// Makes the file the image of a formatted chip of 64 KiB.
+pub(crate) fn make<H: Files + AllocGlobal>(rt: &H) -> Result<(), Fail> {
+    let Ok(image) = formatted_image(rt.alloc(), 64) else {
         return Err(Fail::from("no image"));
     };
-    if let Some(place) = image.get_mut(at) {
-        *place = byte;
-    }
     Ok(fs::write(rt, "served.img", image.as_slice())?)
-}
-
-#[test]
-fn serves_two_clients_and_counts_their_rows(rt: HostRuntime) -> Result<(), Fail> {
-    make(&rt, 0, 0x4E)?;
-    let clients = [
-        Client {
-            requests: &[Asks::Write(1), Asks::Read(1)],
-            answered: 2,
-        },
-        Client {
-            requests: &[Asks::Write(2), Asks::Read(2)],
-            answered: 2,
-        },
-    ];
-    for (record, last) in [
-        (true, "served 2 connections\nrecorded 4 rows\n"),
-        (false, "served 2 connections\n"),
-    ] {
-        let manner = Manner { record, ..PLAINLY };
-        let outcome = serve_two(&rt, manner, clients)?;
-        compare(&rt, outcome, last, "")?;
-    }
-    Ok(fs::remove_file(&rt, "served.img")?)
 }
 
 /// The first WRITE of a sector makes four writes of the file: its descriptor, two pages, the
@@ -561,7 +507,7 @@ fn serves_two_clients_and_counts_their_rows(rt: HostRuntime) -> Result<(), Fail>
 #[test]
 fn a_failed_write_of_the_image_ends_the_server(rt: HostRuntime) -> Result<(), Fail> {
     for good in 0..8u32 {
-        make(&rt, 0, 0x4E)?;
+        make(&rt)?;
         let good_writes = AtomicU32::new(good);
         let good_syncs = AtomicU32::new(1);
         let wearing = Wearing::new(&rt, &good_writes, &good_syncs);
@@ -578,34 +524,6 @@ fn a_failed_write_of_the_image_ends_the_server(rt: HostRuntime) -> Result<(), Fa
         let outcome = serve_two(&wearing, PLAINLY, clients)?;
         compare(&rt, outcome, "", "image failed")?;
         assert_eq!(rt; good_writes.load(Ordering::SeqCst), 0);
-    }
-    Ok(fs::remove_file(&rt, "served.img")?)
-}
-
-#[test]
-fn files_that_hold_no_disk_are_refused_and_left(rt: HostRuntime) -> Result<(), Fail> {
-    let asked = one_client(&rt)?;
-    for (length, at, byte, fault) in [
-        (65_536, 0, 0x00, "not formatted"),
-        (70_000, 0, 0x00, "bad image size"),
-        (0, 0x2400, 0x55, "corrupt"),
-        (0, 0x4300, 0x55, "not clean"),
-    ] {
-        let mut wanted = vec![in rt.alloc(); 0u8; length]?;
-        if length == 0 {
-            make(&rt, at, byte)?;
-            wanted = fs::read(&rt, "served.img")?;
-        } else {
-            fs::write(&rt, "served.img", wanted.as_slice())?;
-        }
-        let mut told = Told {
-            text: Vec::new(rt.alloc()),
-        };
-        let text = text_of(&rt, run_serve(&rt, "served.img", asked, &mut told))?;
-        assert_eq!(rt; text.as_str(), fault);
-        assert!(rt; told.text.is_empty(), "{fault}");
-        let left = fs::read(&rt, "served.img")?;
-        assert!(rt; left.as_slice() == wanted.as_slice(), "{fault}");
     }
     Ok(fs::remove_file(&rt, "served.img")?)
 }
@@ -630,7 +548,7 @@ fn replies_that_owe_it_wait_for_a_sync(rt: HostRuntime) -> Result<(), Fail> {
         (SyncPolicy::AtFlush, 4),
         (SyncPolicy::Always, 11),
     ] {
-        make(&rt, 0, 0x4E)?;
+        make(&rt)?;
         let good_writes = AtomicU32::new(100);
         let good_syncs = AtomicU32::new(100);
         let wearing = Wearing::new(&rt, &good_writes, &good_syncs);
@@ -648,7 +566,7 @@ fn replies_that_owe_it_wait_for_a_sync(rt: HostRuntime) -> Result<(), Fail> {
 #[test]
 fn a_sync_that_fails_ends_the_server(rt: HostRuntime) -> Result<(), Fail> {
     for (ends, good) in [(true, 1), (false, 1), (false, 0)] {
-        make(&rt, 0, 0x4E)?;
+        make(&rt)?;
         let good_writes = AtomicU32::new(100);
         let good_syncs = AtomicU32::new(good);
         let wearing = Wearing::new(&rt, &good_writes, &good_syncs);
@@ -669,231 +587,4 @@ fn a_sync_that_fails_ends_the_server(rt: HostRuntime) -> Result<(), Fail> {
         compare(&rt, outcome, "", "image failed")?;
     }
     Ok(fs::remove_file(&rt, "served.img")?)
-}
-
-/// Of each connection its beginning and its end are told, and each request that got an error.
-#[test]
-fn it_is_told_what_becomes_of_connections(rt: HostRuntime) -> Result<(), Fail> {
-    make(&rt, 0, 0x4E)?;
-    let good_writes = AtomicU32::new(100);
-    let good_syncs = AtomicU32::new(100);
-    let wearing = Wearing::new(&rt, &good_writes, &good_syncs);
-    let clients = [
-        Client {
-            requests: &[Asks::ReadPastEnd, Asks::Write(1), Asks::ReadPastEnd],
-            answered: 3,
-        },
-        Client {
-            requests: &[Asks::Read(1)],
-            answered: 1,
-        },
-    ];
-    let outcome = serve_two(&wearing, PLAINLY, clients)?;
-    compare(&rt, outcome, "served 2 connections\n", "")?;
-    let notices = wearing.notices.lock(&rt);
-    let first = told_of_connection(rt.alloc(), notices.as_slice(), 1)?;
-    let second = told_of_connection(rt.alloc(), notices.as_slice(), 2)?;
-    assert_eq!(rt; first.as_str(), FIRST_TOLD);
-    assert_eq!(rt; second.as_str(), SECOND_TOLD);
-    Ok(fs::remove_file(&rt, "served.img")?)
-}
-
-/// The lines about one connection.
-fn told_of_connection(alloc: Global, notices: &[Notice], connection: u64) -> Result<String, Fail> {
-    let mut lines = String::new(alloc);
-    for notice in notices {
-        if notice.connection == connection {
-            lines.push_str(format!(in alloc; "{notice}\n")?.as_str())?;
-        }
-    }
-    Ok(lines)
-}
-
-/// What is told of the first of these connections: sector 70 begins at byte 35,840.
-const FIRST_TOLD: &str = "connection 1 begins
-connection 1: READ of 512 bytes at 35840: EINVAL
-connection 1: READ of 512 bytes at 35840: EINVAL
-connection 1 ends: closed by a request
-";
-
-/// And of the second.
-const SECOND_TOLD: &str = "connection 2 begins
-connection 2 ends: closed by a request
-";
-
-/// What is asked of a port that is free, for one client.
-pub(crate) fn one_client<'a, H>(rt: &H) -> Result<Asked<'a>, Fail>
-where
-    H: Net<Listener = TcpListener, Stream = TcpStream>,
-    ensures { IfOk result (λ asked. IsPlace asked.place × IsConns asked.conns) }
-{
-    let port = free_port(rt)?;
-    if port == 0 {
-        return Err(Fail::from("no port"));
-    }
-    Ok(Asked {
-        place: Place::Port {
-            port: u32::from(port),
-            bind: None,
-        },
-        conns: 1,
-        ends: true,
-        record: false,
-        sync: SyncPolicy::AtFlush,
-        tidy: TidyPolicy::Lazily,
-        max_len: MAX_LEN,
-        read_only: false,
-        verbose: false,
-    })
-}
-
-/// While one process has an image, no other serves or formats it, nor changes a byte of it.
-#[test]
-fn an_image_has_one_owner(rt: HostRuntime) -> Result<(), Fail> {
-    make(&rt, 0x2400, 0x55)?;
-    let wanted = fs::read(&rt, "served.img")?;
-    let asked = one_client(&rt)?;
-    let mut told = Told {
-        text: Vec::new(rt.alloc()),
-    };
-    let Ok(held) = hold(&rt, "served.img") else {
-        return Err(Fail::from("not held"));
-    };
-    let text = text_of(&rt, run_serve(&rt, "served.img", asked, &mut told))?;
-    assert_eq!(rt; text.as_str(), "image in use");
-    let text = text_of(&rt, run_format(&rt, "served.img", 64, true, &mut told))?;
-    assert_eq!(rt; text.as_str(), "image in use");
-    drop(held);
-    // nobody has it, and each says what is in it
-    let text = text_of(&rt, run_serve(&rt, "served.img", asked, &mut told))?;
-    assert_eq!(rt; text.as_str(), "corrupt");
-    let text = text_of(&rt, run_format(&rt, "served.img", 64, false, &mut told))?;
-    assert_eq!(rt; text.as_str(), "image is formatted");
-    assert!(rt; told.text.is_empty());
-    let left = fs::read(&rt, "served.img")?;
-    assert!(rt; left.as_slice() == wanted.as_slice());
-    assert!(rt; !fs::exists(&rt, "served.img.0.new")?);
-    let text = text_of(&rt, run_format(&rt, "served.img", 64, true, &mut told))?;
-    assert_eq!(rt; text.as_str(), "");
-    Ok(fs::remove_file(&rt, "served.img")?)
-}
-
-/// The port is taken before the image is looked for.
-#[test]
-fn a_port_in_use_is_told_before_the_image_is_opened(rt: HostRuntime) -> Result<(), Fail> {
-    let listener = TcpListener::bind(&rt, SocketAddr::from((Ipv4Addr::LOCALHOST, 0)))?;
-    let port = listener.local_addr()?.port();
-    if port == 0 {
-        return Err(Fail::from("no port"));
-    }
-    let asked = Asked {
-        place: Place::Port {
-            port: u32::from(port),
-            bind: None,
-        },
-        ..one_client(&rt)?
-    };
-    let mut told = Told {
-        text: Vec::new(rt.alloc()),
-    };
-    let text = text_of(&rt, run_serve(&rt, "missing.img", asked, &mut told))?;
-    assert_eq!(rt; text.as_str(), "no socket");
-    let asked = one_client(&rt)?;
-    let text = text_of(&rt, run_serve(&rt, "missing.img", asked, &mut told))?;
-    assert_eq!(rt; text.as_str(), "image failed");
-    assert!(rt; told.text.is_empty());
-    Ok(())
-}
-
-/// A Unix socket that a killed server left is replaced, one at which somebody listens and a file
-/// that is none are not; the socket is taken away at the end.
-#[test]
-fn a_unix_socket_is_served_and_taken_away(rt: HostRuntime) -> Result<(), Fail> {
-    make(&rt, 0, 0x4E)?;
-    let asked = Asked {
-        place: Place::Unix("served.sock"),
-        ..one_client(&rt)?
-    };
-    drop(UnixListener::bind(&rt, "served.sock")?);
-    let mut told = Told {
-        text: Vec::new(rt.alloc()),
-    };
-    let hears = &mut told;
-    let (met, done) = thread::join(
-        &rt,
-        || work_at_path(&rt, "served.sock"),
-        || -> Result<(), Fault>
-            requires { IsPlace asked.place × IsConns asked.conns }
-        { run_serve(&rt, "served.img", asked, hears) },
-    );
-    assert!(rt; met?);
-    assert_eq!(rt; text_of(&rt, done)?.as_str(), "");
-    let lines = b"serving 70 sectors on served.sock\nserved 1 connections\n".as_slice();
-    assert_eq!(rt; told.text.as_slice(), lines);
-    assert!(rt; !fs::exists(&rt, "served.sock")?);
-    let listener = UnixListener::bind(&rt, "served.sock")?;
-    let text = text_of(&rt, run_serve(&rt, "served.img", asked, &mut told))?;
-    assert_eq!(rt; text.as_str(), "no socket");
-    drop(listener);
-    fs::remove_file(&rt, "served.sock")?;
-    fs::write(&rt, "served.sock", b"a file".as_slice())?;
-    let text = text_of(&rt, run_serve(&rt, "served.img", asked, &mut told))?;
-    assert_eq!(rt; text.as_str(), "no socket");
-    assert_eq!(rt;
-        fs::read(&rt, "served.sock")?.as_slice(),
-        b"a file".as_slice()
-    );
-    fs::remove_file(&rt, "served.sock")?;
-    Ok(fs::remove_file(&rt, "served.img")?)
-}
-
-/// A client at a Unix socket: a WRITE and a READ.
-fn work_at_path<H: Net + Clock>(rt: &H, path: &str) -> io::Result<bool> {
-    for _try in 0..500u32 {
-        if let Ok(stream) = UnixStream::connect(rt, path) {
-            let client = Client {
-                requests: &[Asks::Write(1), Asks::Read(1)],
-                answered: 2,
-            };
-            return work_over(TcpStream::from(OwnedFd::from(stream)), client);
-        }
-        thread::sleep(rt, Duration::from_millis(10));
-    }
-    Ok(false)
-}
-
-/// An address is an IP address: one that the machine has not can't be had, a name is none.
-#[test]
-fn an_address_is_an_ip_address(rt: HostRuntime) -> Result<(), Fail> {
-    let asked = one_client(&rt)?;
-    let Place::Port { port, .. } = asked.place else {
-        return Err(Fail::from("no port"));
-    };
-    for (text, fault) in [
-        ("127.0.0.1", "image failed"),
-        ("0.0.0.0", "image failed"),
-        ("192.0.2.1", "no socket"),
-    ] {
-        let asked = Asked {
-            place: Place::Port {
-                port,
-                bind: Some(text),
-            },
-            ..asked
-        };
-        let mut told = Told {
-            text: Vec::new(rt.alloc()),
-        };
-        let said = text_of(&rt, run_serve(&rt, "missing.img", asked, &mut told))?;
-        assert_eq!(rt; said.as_str(), fault, "{text}");
-    }
-    for text in ["localhost", "127.0.0.1:80", ""] {
-        let bind = Some(text);
-        let place = Place::Port { port, bind };
-        assert!(rt;
-            matches!(listen_at(&rt, place), Err(Fault::BadAddress)),
-            "{text}"
-        );
-    }
-    Ok(())
 }

@@ -1,15 +1,11 @@
-//! Our client and our server, over a connection of the loopback address.
+//! Our client and our server, over a connection of the loopback address that ends.
 
 use crate::peer::serve_twice;
-use block_device::Disk;
 use chip_model::SpiBus;
 use fault_model::SimChip;
-use flash_disk::{FlashDisk, format};
-use serprog::{Serprog, SerprogError};
+use serprog::Serprog;
 use serprog_tcp::{TcpDialer, TcpIn, TcpOut};
 use std::alloc::Global;
-use std::io::ErrorKind;
-use std::marker::Brand;
 use std::net::{Ipv4Addr, Net, SocketAddr, TcpListener, TcpStream};
 use std::test::*;
 use std::thread;
@@ -31,63 +27,6 @@ fn listen(rt: &HostRuntime) -> Result<(TcpListener, String), Fail> {
     let port = listener.local_addr()?.port();
     let place = format!(in rt.alloc(); "127.0.0.1:{port}")?;
     Ok((listener, place))
-}
-
-#[test]
-fn a_disk_through_a_connection(rt: HostRuntime) -> Result<(), Fail> {
-    let (listener, place) = listen(&rt)?;
-    let chip = erased(rt.alloc())?;
-    let alloc = rt.alloc();
-    let peer = thread::spawn(
-        &rt,
-        move || serve_twice(alloc, listener, chip, [u32::MAX, 0]),
-    );
-    let Ok(peer) = peer else {
-        return Err(Fail::new("no thread"));
-    };
-    let dialer = TcpDialer::new(&rt, place.as_str(), Duration::from_secs(5));
-    let client = Client::open(dialer)?;
-    assert_eq!(rt; client.identity().name, *b"norbd chip\0\0\0\0\0\0");
-    assert_eq!(rt; client.identity().receives, 65_536);
-    let bus = WatchedBus::open(alloc, client)?;
-    let (bus, answer) = format(bus);
-    answer?;
-    let Ok(mut disk) = FlashDisk::<_, Brand>::mount(alloc, bus) else {
-        return Err(Fail::new("no mount"));
-    };
-    let sectors = disk.sectors();
-    for sector in 0..sectors {
-        assert!(rt; write_sector(&mut disk, sector, byte_of(sector)));
-    }
-    assert!(rt; write_sector(&mut disk, 1, 0x5A));
-    let bus = disk.into_inner();
-    assert_eq!(rt; bus.departure(), None);
-    drop(bus);
-    let chip = peer.join(&rt);
-    let Ok(mut disk) = FlashDisk::<_, Brand>::mount(alloc, chip) else {
-        return Err(Fail::new("no mount of the chip itself"));
-    };
-    for sector in 0..sectors {
-        let byte = if sector == 1 { 0x5A } else { byte_of(sector) };
-        assert!(rt; is_sector(&mut disk, sector, byte));
-    }
-    Ok(())
-}
-
-/// The byte of a sector.
-fn byte_of(sector: u32) -> u8 {
-    (sector % 251) as u8
-}
-
-/// Writes a sector of one byte; false past the end and after an error.
-fn write_sector<D: Disk>(disk: &mut D, sector: u32, byte: u8) -> bool {
-    sector < disk.sectors() && disk.write(sector, &[byte; 512]).is_ok()
-}
-
-/// Whether a sector has this byte everywhere.
-fn is_sector<D: Disk>(disk: &mut D, sector: u32, byte: u8) -> bool {
-    let mut bytes = [0u8; 512];
-    sector < disk.sectors() && disk.read(sector, &mut bytes).is_ok() && bytes == [byte; 512]
 }
 
 /// A program of 70h at 12FFh, until it ends or is lost.
@@ -143,26 +82,5 @@ fn a_connection_that_ends_is_begun_anew(rt: HostRuntime) -> Result<(), Fail> {
         let chip = peer.join(&rt);
         assert_eq!(&rt; chip.bytes()[0x12FF], 0x70);
     }
-    Ok(())
-}
-
-#[test]
-fn places_where_nobody_answers(rt: HostRuntime) -> Result<(), Fail> {
-    let (listener, place) = listen(&rt)?;
-    // Connections to it are taken by the system, and nobody answers.
-    let patience = Duration::from_millis(100);
-    let silent = Client::open(TcpDialer::new(&rt, place.as_str(), patience));
-    assert_eq!(rt; silent.err(), Some(SerprogError::Lost));
-    drop(listener);
-    let closed = Client::open(TcpDialer::new(&rt, place.as_str(), patience));
-    assert_eq!(rt;
-        closed.err(),
-        Some(SerprogError::Unreached(ErrorKind::ConnectionRefused))
-    );
-    let nowhere = Client::open(TcpDialer::new(&rt, "127.0.0.1", patience));
-    assert_eq!(rt;
-        nowhere.err(),
-        Some(SerprogError::Unreached(ErrorKind::InvalidInput))
-    );
     Ok(())
 }

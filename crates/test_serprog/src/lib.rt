@@ -1,12 +1,10 @@
-//! The serprog protocol from both sides: what is answered to each command, by the protocol's
-//! document; a disk that is formatted, written and read by our client over a connection to our
-//! server, and by a serial device; connections that end between two frames; and places where nobody
-//! answers.
+//! A programmer that is reached anew once its connection ended, over a port and by a serial device:
+//! our client and our server, with connections that end between two frames. No line of the program
+//! goes on after that. All that is seen from outside is tested on the built program, by
+//! tests/test_chips.py and tests/test_serprog.py.
 
 #![tactic(auto)]
 
-#[cfg(test)]
-mod commands;
 #[cfg(test)]
 mod connection;
 #[cfg(test)]

@@ -4,18 +4,22 @@ use fault_model::SimChip;
 use serprog_chip::{Room, serve_command};
 use serprog_tcp::split;
 use std::alloc::Global;
+use std::io::Write;
 use std::net::{TcpListener, TcpStream};
 
 /// Serves two connections of a listener, one after another: of each so many commands at most, and
-/// then it ends the connection. The chip stays on.
+/// then it ends the connection. The second begins with the rest of an old answer, which only a
+/// greeting passes over. The chip stays on.
 pub fn serve_twice(alloc: Global, listener: TcpListener, chip: SimChip, most: [u32; 2]) -> SimChip {
     let mut chip = chip;
-    for commands in most {
-        if commands > 0 {
-            if let Ok((stream, _)) = listener.accept() {
-                serve_some(alloc, stream, &mut chip, commands);
-            }
-        }
+    let [first, second] = most;
+    if let Ok((stream, _)) = listener.accept() {
+        serve_some(alloc, stream, &mut chip, first);
+    }
+    if let Ok((stream, _)) = listener.accept() {
+        let mut stream = stream;
+        let _ = stream.write_all(&[0x06, 0xFF, 0x15]);
+        serve_some(alloc, stream, &mut chip, second);
     }
     chip
 }

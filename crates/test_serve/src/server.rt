@@ -25,7 +25,6 @@ use std::sync::Wait;
 use std::sync::atomic::{AtomicBool, Ordering};
 use std::sync::ledger::{Blank, Ledger};
 use std::test::*;
-use test_kit::request_head;
 
 /// The client flags, GO `flash`, and a READ of sector 1 with the cookie 0102030405060708h.
 const WHOLE_CONNECTION: [u8; 59] = [
@@ -253,10 +252,10 @@ impl<'s> Gate for StopGate<'s> {
     ghost none = { λ gate. tt };
 }
 
-pub(crate) type OnSim = FlashDisk<SimChip, Brand>;
+type OnSim = FlashDisk<SimChip, Brand>;
 
 /// The disk on a formatted chip of 64 KiB.
-pub(crate) fn formatted(alloc: Global) -> Result<OnSim, Fail> {
+fn formatted(alloc: Global) -> Result<OnSim, Fail> {
     let chip = SimChip::new(vec![in alloc; 0xffu8; 65_536]?)?;
     let (chip, done) = format(chip);
     done?;

@@ -1,0 +1,249 @@
+"""A chip in memory, by docs/CHIP.md, and a programmer that speaks serprog for it, by flashrom's
+serprog-protocol.txt, version 1. Both fail where they are told to."""
+import contextlib
+import os
+import socket
+import termios
+import threading
+import time
+import tty
+
+ACK, NAK = b"\x06", b"\x15"
+PARAMETERS = {0x09: 4, 0x0A: 3, 0x0C: 6, 0x0D: None, 0x0E: 4, 0x12: 1, 0x14: 4, 0x15: 1}
+
+
+def table(size):
+    """The 256 SFDP bytes of the modelled chip."""
+    made = bytearray(b"\xFF" * 256)
+    made[0:16] = bytes.fromhex("53464450060100FF 00060110800000FF")
+    made[0x80:0x84] = bytes.fromhex("01200000")
+    made[0x84:0x88] = (8 * size - 1).to_bytes(4, "little")
+    made[0x9C:0xA0] = bytes.fromhex("0C2010D8")
+    made[0xA0:0xA4] = bytes.fromhex("00FF00FF")
+    made[0xA8:0xAC] = bytes.fromhex("80000000")
+    return made
+
+
+class Chip:
+    """A W25Q128JV or a smaller chip of its kind.
+
+    `spoil` may hold a function of an operation ("program" or "erase"), its address and the bytes
+    that it would leave; what it answers is what the chip has then."""
+
+    def __init__(self, kib=64, memory=None):
+        self.memory = bytearray(memory if memory is not None else b"\xFF" * (1024 * kib))
+        self.id = bytes([0xEF, 0x40, (len(self.memory) - 1).bit_length()])
+        self.sfdp = table(len(self.memory))
+        self.status = [0, 0, 0]
+        self.polls = 1           # status reads that show BUSY
+        self.left = 0            # of the operation in progress
+        self.pending = None
+        self.erased = [0] * (len(self.memory) // 4096)
+        self.programs = self.erases = self.status_writes = 0
+        self.frames = []         # the code of each frame
+        self.reads = []          # the address of each read
+        self.spoil = None
+        self.stays = 0           # bits of status register 1 that stay set
+
+    def begin(self, change):
+        self.pending, self.left = change, self.polls
+        self.status[0] |= 1
+
+    def finish(self):
+        pending, self.pending = self.pending, None
+        self.status[0] &= 0xFC
+        self.status[0] |= self.stays
+        pending()
+
+    def program(self, at, data):
+        page = at & ~0xFF
+        new = bytearray(self.memory[page:page + 256])
+        for k, byte in enumerate(data):
+            new[(at + k) & 0xFF] &= byte
+        self.programs += 1
+        self.leave("program", page, new)
+
+    def erase(self, at, length):
+        for block in range(at // 4096, (at + length) // 4096):
+            self.erased[block] += 1
+        self.erases += 1
+        self.leave("erase", at, bytearray(b"\xFF" * length))
+
+    def leave(self, kind, at, new):
+        if self.spoil:
+            new = self.spoil(kind, at, new, self.memory[at:at + len(new)])
+        self.memory[at:at + len(new)] = new
+
+    def write_status(self, byte):
+        self.status_writes += 1
+        self.status[0] = byte & 0xFC
+
+    def frame(self, sent, count):
+        """Takes the bytes of a frame, and answers so many."""
+        code, size = sent[0], len(self.memory)
+        self.frames.append(code)
+        if code in (0x05, 0x35, 0x15):
+            if code == 0x05 and self.pending:
+                if self.left == 0:
+                    self.finish()
+                else:
+                    self.left -= 1
+            return bytes([self.status[{0x05: 0, 0x35: 1, 0x15: 2}[code]]]) * count
+        if self.status[0] & 1:
+            return b"\xFF" * count
+        at = int.from_bytes(sent[1:4], "big") % size if len(sent) >= 4 else 0
+        if code == 0x06:
+            self.status[0] |= 2
+        elif code == 0x04:
+            self.status[0] &= ~2
+        elif code == 0x9F:
+            return (self.id + b"\xFF" * count)[:count]
+        elif code == 0x03:
+            self.reads.append(at)
+            return bytes((self.memory[at:] + self.memory)[:count])
+        elif code == 0x5A:
+            return bytes((self.sfdp[at % 256:] + self.sfdp * (count // 256 + 1))[:count])
+        elif self.status[0] & 2:
+            if self.status[0] & 0x1C and code in (0x02, 0x20, 0xD8):  # all is protected here
+                self.status[0] &= ~2
+            elif code == 0x01:
+                self.begin(lambda: self.write_status(sent[1]))
+            elif code == 0x02:
+                self.begin(lambda: self.program(at, sent[4:]))
+            elif code == 0x20:
+                self.begin(lambda: self.erase(at & ~0xFFF, 4096))
+            elif code == 0xD8:
+                self.begin(lambda: self.erase(at & ~0xFFFF, 65536))
+        return b"\xFF" * count
+
+
+class Programmer:
+    """What a programmer answers to serprog's commands. Its fields are how it fails."""
+
+    def __init__(self, chip):
+        self.chip = chip
+        self.version, self.buses, self.name = 1, 0x08, b"a test".ljust(16, b"\0")
+        self.sends = self.receives = 0      # 0: 2^24
+        self.lacks = ()                     # commands that it doesn't offer
+        self.refuses = ()                   # commands that it answers by NAK
+        self.sync = NAK + ACK               # its answer to SYNCNOP
+        self.commands = []                  # all that came, by their codes
+        self.end_after = None               # so many commands, and then the connection ends
+        self.silent_after = None            # so many commands, and then it answers nothing
+        self.frames_to_end = None           # so many O_SPIOP, likewise
+
+    def offered(self):
+        made = bytearray(32)
+        for code in (0x00, 0x01, 0x02, 0x03, 0x04, 0x05, 0x08, 0x10, 0x11, 0x12, 0x13, 0x14):
+            if code not in self.lacks:
+                made[code // 8] |= 1 << code % 8
+        return bytes(made)
+
+    def answer(self, code, take):
+        """The answer to a command; `take` gives the bytes that follow its code."""
+        data = take(7) if code == 0x13 else take(PARAMETERS.get(code) or 0) if code != 0x13 else b""
+        if code in self.refuses:
+            return NAK
+        if code == 0x13:
+            sent, count = int.from_bytes(data[:3], "little"), int.from_bytes(data[3:6], "little")
+            return ACK + self.chip.frame(data[6:7] + take(sent - 1), count)
+        return {0x00: ACK, 0x01: ACK + self.version.to_bytes(2, "little"),
+                0x02: ACK + self.offered(), 0x03: ACK + self.name, 0x04: ACK + b"\xFF\xFF",
+                0x05: ACK + bytes([self.buses]), 0x08: ACK + self.sends.to_bytes(3, "little"),
+                0x10: self.sync, 0x11: ACK + self.receives.to_bytes(3, "little"), 0x12: ACK,
+                0x14: ACK + data}.get(code, NAK)
+
+    def serve(self, read, write):
+        """Answers commands until their stream ends or this programmer fails."""
+        def take(count):
+            data = b""
+            while len(data) < count:
+                piece = read(count - len(data))
+                if not piece:
+                    raise EOFError
+                data += piece
+            return data
+        with contextlib.suppress(EOFError, OSError):
+            while True:
+                code = take(1)[0]
+                self.commands.append(code)
+                if self.end_after is not None and len(self.commands) > self.end_after:
+                    return
+                if code == 0x13 and self.frames_to_end is not None:
+                    self.frames_to_end -= 1
+                    if self.frames_to_end < 0:
+                        return
+                if self.silent_after is not None and len(self.commands) > self.silent_after:
+                    continue
+                write(self.answer(code, take))
+
+
+class TcpPeer:
+    """The programmer at a port of 127.0.0.1, to one client after another."""
+
+    def __init__(self, case, programmer):
+        self.listener = socket.create_server(("127.0.0.1", 0))
+        self.place = f"tcp:127.0.0.1:{self.listener.getsockname()[1]}"
+        self.programmer = programmer
+        self.open = None
+        self.thread = threading.Thread(target=self.run, daemon=True)
+        self.thread.start()
+        case.addCleanup(self.close)
+
+    def run(self):
+        with contextlib.suppress(OSError):
+            while True:
+                connection, _ = self.listener.accept()
+                self.open = connection
+                connection.setsockopt(socket.IPPROTO_TCP, socket.TCP_NODELAY, 1)
+                with connection:
+                    self.programmer.serve(connection.recv, connection.sendall)
+
+    def pull(self):
+        """Ends the connection that is open, as a cable that is pulled."""
+        with contextlib.suppress(OSError):
+            self.open.shutdown(socket.SHUT_RDWR)
+
+    def close(self):
+        """Ends the thread, and then closes the port."""
+        self.listener.shutdown(socket.SHUT_RDWR)
+        if self.open:
+            self.pull()
+        self.thread.join(5)
+        self.listener.close()
+
+
+class SerialPeer:
+    """The programmer at a pseudo terminal, whose settings are those of docs/REAL-CHIP.md."""
+
+    def __init__(self, case, programmer, patience=100):
+        self.ours, self.theirs = os.openpty()
+        self.path = os.ttyname(self.theirs)
+        tty.setraw(self.theirs)
+        settings = termios.tcgetattr(self.theirs)
+        settings[6][termios.VMIN], settings[6][termios.VTIME] = 0, patience
+        termios.tcsetattr(self.theirs, termios.TCSANOW, settings)
+        self.programmer = programmer
+        self.closed = False
+        self.thread = threading.Thread(target=self.run, daemon=True)
+        self.thread.start()
+        case.addCleanup(self.close)
+
+    @property
+    def place(self):
+        return f"serial:{self.path}"
+
+    def run(self):
+        def write(data):
+            while data:
+                data = data[os.write(self.ours, data):]
+        while not self.closed:
+            self.programmer.serve(lambda count: os.read(self.ours, count), write)
+            time.sleep(0.01)
+
+    def close(self):
+        """Ends the thread, at whose read our end fails, and then closes our end."""
+        self.closed = True
+        os.close(self.theirs)
+        self.thread.join(5)
+        os.close(self.ours)

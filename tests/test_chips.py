@@ -1,0 +1,522 @@
+"""Chips behind a programmer that speaks serprog, by docs/REAL-CHIP.md: the programmer and its chip
+are Python's, and fail in each way. In each test what is on the chip is looked at."""
+import os
+import pty
+import socket
+import subprocess
+import threading
+import time
+import unittest
+
+import kit
+import nbd
+import serprog
+from nbd import EPERM, OK
+from serprog import Chip, Programmer, SerialPeer, TcpPeer
+
+
+class ChipCase(kit.Case):
+    def peer(self, memory=None, kib=64, kind=TcpPeer, **how):
+        """A peer with a chip, which is a formatted one if nothing else is said."""
+        chip = Chip(kib, kit.formatted(kib) if memory is None else memory)
+        peer = kind(self, Programmer(chip), **how)
+        peer.chip = chip
+        return peer
+
+    def chip_fails(self, peer, cause, *words, out="", **how):
+        """A line about the chip has to fail with this cause."""
+        words = [peer.place if it == "CHIP" else it for it in words]
+        self.refused(f"chip failed: {peer.place}: {cause}", *words, out=out, **how)
+
+
+class Lines(ChipCase):
+    def test_formatted(self):
+        """`format` of a chip erases it and writes its superblock, whatever was on it; it wants the
+        chip's size and --yes, else nothing is asked of it, or nothing changed."""
+        for kind in (TcpPeer, SerialPeer):
+            for memory in (b"\x5A" * 65536, b"\0" * 65536, b"\xFF" * 65536):
+                peer = self.peer(memory, kind=kind)
+                self.chip_fails(peer, "--yes erases it", "format", "CHIP", "--kib", "64")
+                self.assertEqual(peer.programmer.commands, [])
+                self.chip_fails(peer, "a chip of 64 KiB", "format", "CHIP", "--kib", "128", "--yes")
+                self.assertEqual((peer.chip.memory, peer.chip.erases), (memory, 0))
+                self.assertEqual(self.norbd("format", peer.place, "--kib", "64", "--yes"),
+                                 b"formatted 70 sectors\n")
+                self.assertEqual(peer.chip.memory, kit.formatted())
+                self.assertGreater(peer.chip.erases, 0)
+
+    def test_looked_at(self):
+        """`check`, `show` and `read` of a chip tell what they tell of its bytes as a file, and
+        write nothing to it."""
+        image = kit.formatted(128)
+        for at in range(20):
+            kit.set_slot(image, 4 + at // 7, at % 7, at, nbd.sector(at))
+        corrupt, dirty = kit.formatted(), kit.formatted()
+        corrupt[0x2400], dirty[0x4300] = 0x55, 0x55
+        for memory in (image, corrupt, dirty, bytes(65536)):
+            self.put("a.img", memory)
+            peer = self.peer(memory, len(memory) // 1024)
+            for line in ("check", "check --json", "show", "read", "read --sectors 3:5"):
+                command, *more = line.split()
+                by_file = self.run_norbd(command, "a.img", *more)
+                by_chip = self.run_norbd(command, peer.place, *more)
+                self.assertEqual((by_chip.status, by_chip.out), (by_file.status, by_file.out), line)
+                self.assertEqual(by_chip.fault, by_file.fault.replace("a.img", peer.place))
+            self.assertEqual((peer.chip.memory, peer.chip.programs, peer.chip.erases),
+                             (memory, 0, 0))
+        self.chip_fails(peer, "--mend takes a file", "check", "CHIP", "--mend")
+
+    def test_written(self):
+        """`write` replaces sectors on the chip itself, and leaves the others."""
+        peer = self.peer()
+        self.norbd("write", peer.place, "--sectors", "2:4", data=b"\x5A" * 1024)
+        self.put("a.img", peer.chip.memory)
+        self.assertEqual(self.norbd("read", "a.img"),
+                         bytes(1024) + b"\x5A" * 1024 + bytes(66 * 512))
+        data = b"".join(nbd.sector(it) for it in range(70))
+        self.assertEqual(self.norbd("write", peer.place, data=data),
+                         b"replacing sectors 0 to 70\nreplaced sectors 0 to 70\n")
+        self.assertEqual(self.norbd("read", peer.place), data)
+        self.norbd("write", peer.place, data=bytes(35840))
+        self.put("a.img", peer.chip.memory)
+        self.assertEqual(self.check()["slots"]["live"], 0)
+        before = bytes(peer.chip.memory)
+        self.refused("standard input isn't 512 bytes", "write", peer.place, "--sectors", "3:4",
+                     data=b"\1" * 511, out="replacing sectors 3 to 4\n")
+        self.assertEqual(peer.chip.memory, before)
+
+    def test_progress_of_the_reading(self):
+        """Of a chip that is read slowly a line a second says how far that is."""
+        peer = self.peer(kib=128, memory=kit.formatted(128))
+        frame = peer.chip.frame
+
+        def slowly(sent, count):
+            time.sleep(0.08 if count == 4096 else 0)
+            return frame(sent, count)
+        peer.chip.frame = slowly
+        done = self.run_norbd("check", peer.place)
+        self.assertEqual(done.status, 0)
+        lines = done.err.decode().splitlines()
+        self.assertIn(len(lines), range(1, 6), lines)
+        for line in lines:
+            self.assertRegex(line, r"^norbd: \d+ KiB of the chip are read$")
+
+    def test_progress(self):
+        """Where standard error is a terminal `write` shows there how far it is, about once a
+        second, and elsewhere nothing."""
+        peer = self.peer()
+        answer = peer.programmer.answer
+
+        def slowly(code, take):
+            time.sleep(0.0015)
+            return answer(code, take)
+        peer.programmer.answer = slowly
+        ours, theirs = pty.openpty()
+        data = b"\x11" * 35840
+        process = self.start("write", peer.place, stdin=subprocess.PIPE, stderr=theirs)
+        os.close(theirs)
+        done = self.end_of(process, data)
+        shown = os.read(ours, 65536).decode() if done.status == 0 else ""
+        os.close(ours)
+        self.assertEqual(done.status, 0)
+        self.assertRegex(shown, r"norbd: \d{1,2} %, \d+ KiB/s")
+
+
+class Served(ChipCase):
+    def test_what_is_written_is_on_the_chip(self):
+        """What a client writes is on the chip when it is acknowledged, and the next start serves
+        it; over TCP and by a serial device."""
+        for kind in (TcpPeer, SerialPeer):
+            peer = self.peer(kind=kind)
+            server = self.serve(peer.place, "--conns", "1")
+            client = server.client()
+            for number in range(0, 70, 3):
+                self.assertEqual(client.write(number, nbd.sector(number)), OK)
+                if number % 9 == 0:
+                    self.put("a.img", peer.chip.memory)
+                    self.assertEqual(self.norbd("read", "a.img", "--sectors",
+                                                f"{number}:{number + 1}"), nbd.sector(number))
+            self.assertEqual(client.trim(0), OK)
+            client.disc()
+            self.assertEqual(server.end().status, 0)
+            client = self.serve(peer.place, "--conns", "1").client()
+            for number in range(70):
+                self.assertEqual(client.read(number), bytes(512) if number % 3 or not number
+                                 else nbd.sector(number))
+            client.disc()
+
+    def test_read_only(self):
+        """With --read-only a copy of the chip is served, and nothing of the chip is written, not
+        even where it needs a recovery."""
+        image = kit.formatted()
+        kit.set_slot(image, 4, 0, 3, nbd.sector(3))
+        kit.set_bytes(image, kit.ENTRIES, bytes([0xFC, 9, 0, 0xFF]))
+        peer = self.peer(image)
+        client = self.serve(peer.place, "--read-only").client()
+        self.assertEqual((client.flags, client.read(3)), (0x010F, nbd.sector(3)))
+        self.assertEqual([client.write(3, bytes(512)), client.trim(3), client.zero(3)], [EPERM] * 3)
+        self.assertEqual((peer.chip.memory, peer.chip.programs, peer.chip.erases), (image, 0, 0))
+
+    def frames_of_a_write(self, *words):
+        """The frames of a sector's first write, after the mount."""
+        peer = self.peer()
+        client = self.serve(peer.place, *words).client()
+        before = len(peer.chip.frames)
+        self.assertEqual(client.write(5, nbd.sector(5)), OK)
+        return peer.chip.frames[before:]
+
+    def test_frames(self):
+        """Opening a chip of 64 KiB takes 22 frames, and a sector's write into a free slot 20: each
+        of its four programs is read back, but with --trust, where 16 are enough."""
+        peer = self.peer()
+        self.chip_fails(peer, "a chip of 64 KiB", "format", "CHIP", "--kib", "128", "--yes")
+        self.assertEqual(len(peer.chip.frames), 22)
+        frames = self.frames_of_a_write()
+        self.assertEqual((len(frames), frames.count(0x02), frames.count(0x03)), (20, 4, 4))
+        frames = self.frames_of_a_write("--trust")
+        self.assertEqual((len(frames), frames.count(0x02), frames.count(0x03)), (16, 4, 0))
+
+    def test_a_write_reads_back_too(self):
+        """`write` and `format` of a chip read back what they wrote."""
+        peer = self.peer()
+        self.norbd("write", peer.place, "--sectors", "0:1", data=b"\1" * 512)
+        frames = peer.chip.frames
+        last = len(frames) - frames[::-1].index(0x02)
+        self.assertIn(0x03, frames[last:])
+
+    @kit.needs("strace")
+    def test_pauses(self):
+        """After a status read that shows BUSY 50 microseconds are waited, and after no other
+        one."""
+        peer = self.peer()
+        peer.chip.polls = 3
+        server = self.serve(peer.place, under=kit.traced("nanosleep,clock_nanosleep"))
+        client, sleeps = server.client(), []
+
+        def short():
+            log = self.bytes_of("strace.log").decode()
+            return [text for name, text, _ in kit.calls_in(log) if "tv_nsec=50000}" in text]
+        before = len(short())
+        self.assertEqual(client.write(5, nbd.sector(5)), OK)
+        sleeps = len(short()) - before
+        self.assertEqual(sleeps, 4 * 3)
+
+    def test_protected(self):
+        """A chip whose protection bits are set is formatted, and served: they are cleared first."""
+        peer = self.peer(b"\x5A" * 65536)
+        peer.chip.status[0] = 0x9C
+        self.norbd("format", peer.place, "--kib", "64", "--yes")
+        self.assertEqual((peer.chip.memory, peer.chip.status[0] & 0x1C), (kit.formatted(), 0))
+
+
+class Failing(ChipCase):
+    def lost(self, peer, cause, *words, ask=None, within=kit.PATIENCE):
+        """Serves the chip; a client's command meets its fault: no reply, and the server ends with
+        the cause, status 1."""
+        server = self.serve(peer.place, *words)
+        idle, client = server.client(), server.client()
+        self.assertEqual(client.write(1, nbd.sector(1)), OK)
+        peer.begin()
+        with self.assertRaises(nbd.Closed):
+            ask(client) if ask else client.write(2, nbd.sector(2))
+        self.assertTrue(idle.is_closed())
+        done = server.end(within)
+        self.assertEqual((done.status, done.text), (1, ""))
+        self.assertRegex(done.fault, rf"^norbd: chip failed: {peer.place}: {cause}\n$")
+        return done
+
+    def spoiled(self, spoil):
+        """A peer whose chip spoils its changes, once it is told to begin."""
+        peer = self.peer()
+        peer.begin = lambda: setattr(peer.chip, "spoil", spoil)
+        return peer
+
+    def test_a_program_that_is_forgotten(self):
+        """A program that the chip forgot is found before it is acknowledged, and told by its place
+        and its bytes."""
+        peer = self.spoiled(lambda kind, at, new, old: old)
+        done = self.lost(peer, r"the chip left the model at address 0x40\d\d, read 0xff, the model "
+                               r"allows 0x[0-9a-f]{2}")
+        self.assertNotIn("no thread", done.fault)
+
+    def test_a_bit_that_is_stuck(self):
+        """A bit that doesn't get its value is found before its write is acknowledged."""
+        def spoil(kind, at, new, old):
+            changed = bytearray(new)
+            if at % 4096 >= 512:
+                changed[7] |= 0x10
+            return changed
+        self.lost(self.spoiled(spoil), r"the chip left the model at address 0x[0-9a-f]+, "
+                                       r"read 0x[0-9a-f]{2}, the model allows 0x[0-9a-f]{2}",
+                  ask=lambda client: client.write(2, bytes(511) + b"\1"))
+
+    def test_another_page_that_changes(self):
+        """A chip that changes by itself is found when that place is read, at the latest by the next
+        command that reads it."""
+        peer = self.peer()
+
+        def begin():
+            at = peer.chip.memory.index(nbd.sector(1)[:64])
+            peer.chip.memory[at] ^= 1
+        peer.begin = begin
+        self.lost(peer, r"the chip left the model in a frame 0x03, byte 0 of its answer, "
+                        r"read 0x01, the model allows 0x00", ask=lambda client: client.read(1))
+
+    def test_status_registers(self):
+        """WEL that stays set and BUSY that never ends are found."""
+        peer = self.peer()
+        peer.begin = lambda: setattr(peer.chip, "stays", 2)
+        self.lost(peer, r"the chip left the model in a frame 0x05, byte 0 of its answer, "
+                        r"read 0x02, the model allows 0x00")
+        for bits, text in ((1, "0x03"), (2, "0x02")):
+            peer = self.peer()
+            peer.chip.status[0] = bits
+            if bits == 2:
+                peer.chip.frame = self.ignoring_04(peer.chip, peer.chip.frame)
+                self.chip_fails(peer, f"status register 1 is {text} though nothing is in progress",
+                                "check", "CHIP")
+
+    def ignoring_04(self, chip, frame):
+        """The frames of a chip that doesn't end its write enable."""
+        return lambda sent, count: b"" if sent[0] == 0x04 else frame(sent, count)
+
+    def test_chips_that_are_refused(self):
+        """Another id, another table, a scheme of protection: each is told, and nothing is
+        written."""
+        at_once = "chip failed: {}: "
+        scheme = at_once + "CMP or WPS is set in the status registers 2 and 3, "
+        for change, fault in (
+                (lambda chip: setattr(chip, "id", b"\xC2\x40\x10"), at_once + "the chip left the "
+                 "model in a frame 0x9f, byte 0 of its answer, read 0xc2, the model allows 0xef"),
+                (lambda chip: setattr(chip, "sfdp", b"\xFF" * 256), "bad sfdp: {}"),
+                (lambda chip: setattr(chip, "sfdp", serprog.table(32 << 20)), "bad sfdp: {}"),
+                (lambda chip: chip.status.__setitem__(1, 0x40), scheme + "0x40 and 0x00"),
+                (lambda chip: chip.status.__setitem__(2, 0x04), scheme + "0x00 and 0x04")):
+            peer = self.peer()
+            change(peer.chip)
+            for line in ("format {} --kib 64 --yes", "serve {} --unix a.sock",
+                         "serve {} --unix a.sock --read-only"):
+                if "read-only" not in line or "9f" not in fault:
+                    self.refused(fault.format(peer.place), *line.format(peer.place).split())
+            self.assertEqual((peer.chip.memory, peer.chip.programs, peer.chip.erases),
+                             (kit.formatted(), 0, 0))
+
+    def test_a_cable_that_is_pulled(self):
+        """A programmer that is gone ends the server at its next frame; started again it reads the
+        chip, which has all that was acknowledged."""
+        peer = self.peer()
+        peer.begin = peer.pull
+        self.lost(peer, r"no answer to a frame 0x[0-9a-f]{2}")
+        client = self.serve(peer.place).client()
+        self.assertEqual(client.read(1), nbd.sector(1))
+        self.assertIn(client.read(2), (bytes(512), nbd.sector(2)))
+
+    def test_ends_between_each_two_frames(self):
+        """Wherever the connection ends within a write, the write has no reply, the next start finds
+        every other sector, and this one old or new."""
+        for frames in range(0, 25):
+            peer = self.peer()
+            server = self.serve(peer.place)
+            client = server.client()
+            self.assertEqual(client.write(2, nbd.sector(2)), OK)
+            peer.programmer.frames_to_end = frames
+            with self.assertRaises(nbd.Closed):
+                client.write(2, nbd.sector(2, 1))
+                client.read(2)
+                client.write(2, nbd.sector(2, 1))
+            self.assertEqual(server.end().status, 1)
+            peer.programmer.frames_to_end = None
+            client = self.serve(peer.place, "--conns", "1").client()
+            self.assertIn(client.read(2), (nbd.sector(2), nbd.sector(2, 1)))
+            self.assertEqual(client.read(0) + client.read(3), bytes(1024))
+            self.assertEqual(client.write(2, nbd.sector(2, 2)), OK)
+            client.disc()
+
+    def test_a_loss_of_the_chips_power(self):
+        """A program or an erase that a loss tore, at any bytes, leaves a chip that is served again
+        with every acknowledged sector."""
+        chance, memory, held = kit.dice("torn"), kit.formatted(), {}
+        for turn in range(14):
+            peer = self.peer(memory)
+            server = self.serve(peer.place, *(["--tidy", "eager"] if turn % 2 else []))
+            client = server.client()
+            for number in range(70):
+                self.assertIn(client.read(number), held.get(number, [bytes(512)]))
+            left = chance.randrange(1, 400)
+
+            def spoil(kind, at, new, old):
+                nonlocal left
+                left -= 1
+                if left > 0:
+                    return new
+                torn = (bytes(a & (b | chance.getrandbits(8)) for a, b in zip(old, new))
+                        if kind == "program" else
+                        bytes(chance.getrandbits(8) for _ in range(16)) * (len(new) // 16))
+                if left == 0:
+                    peer.pull()
+                    return torn
+                return old
+            peer.chip.spoil = spoil
+            try:
+                for step in range(400):
+                    number = chance.randrange(70) if turn else step % 70
+                    data = nbd.sector(number, 1000 * turn + step)
+                    held[number] = held.get(number, [bytes(512)]) + [data]
+                    self.assertEqual(client.write(number, data), OK)
+                    held[number] = [data]
+            except nbd.Closed:
+                pass
+            server.kill()
+            memory = peer.chip.memory
+
+    def test_a_programmer_that_says_nothing(self):
+        """A programmer that answers nothing for 10 seconds counts as lost, in the greeting and in a
+        frame, over TCP and by a serial device."""
+        came = {}
+
+        def silent(kind, where):
+            peer = self.peer(kind=kind)
+            peer.programmer.silent_after = where
+            began = time.monotonic()
+            done = self.run_norbd("check", peer.place)
+            came[kind.__name__, where] = (done.status, time.monotonic() - began,
+                                          done.fault.split(": ")[-1])
+        threads = [threading.Thread(target=silent, args=[kind, where])
+                   for kind in (TcpPeer, SerialPeer) for where in (0, 5, 12)]
+        for thread in threads:
+            thread.start()
+        for thread in threads:
+            thread.join()
+        for kind in ("TcpPeer", "SerialPeer"):
+            for where, words in ((0, "the connection ended\n"), (5, "the connection ended\n"),
+                                 (12, "no answer to a frame 0x")):
+                status, after, told = came[kind, where]
+                self.assertEqual((status, told[:len(words)]), (1, words), (kind, where))
+                self.assertTrue(9.5 < after < 20, (kind, where, after))
+
+
+class Greeting(ChipCase):
+    def greeted(self, cause, **fields):
+        peer = self.peer()
+        for field, value in fields.items():
+            setattr(peer.programmer, field, value)
+        self.chip_fails(peer, cause, "check", "CHIP")
+        return peer
+
+    def test_programmers_that_are_refused(self):
+        """A programmer of another version, without SPI, without a command that is needed or with
+        frames that are too short is refused by name."""
+        for version in (0, 2, 256, 257, 513):
+            self.greeted(f"version {version} of serprog", version=version)
+        self.greeted("no SPI among its buses 0x07", buses=7)
+        for code in (0x12, 0x13):
+            self.greeted(f"command {code:#04x} is not offered", lacks=(code,))
+        for code in (0x01, 0x02, 0x05, 0x08, 0x11, 0x12):
+            self.greeted(f"command {code:#04x} is refused", refuses=(code,))
+        self.greeted("sends 259 bytes in a frame, 260 are needed", sends=259)
+        self.greeted("receives 4095 bytes in a frame, 4096 are needed", receives=4095)
+
+    def test_programmers_that_are_taken(self):
+        """One that just fits, tells no name, no limits and no buses, or sends the rest of an old
+        answer first, is used."""
+        for fields in (dict(sends=260, receives=4096), dict(lacks=(0x03, 0x05, 0x08, 0x11)),
+                       dict(buses=0x0F), dict(sync=b"\x15" + b"\x15\x06"),
+                       dict(sync=b"\x06" * 254 + b"\x15\x06"),
+                       dict(sync=b"\xFF" * 100 + b"\x15\x06")):
+            peer = self.peer()
+            for field, value in fields.items():
+                setattr(peer.programmer, field, value)
+            self.assertIn(b"clean 70 sectors", self.norbd("check", peer.place))
+            self.assertEqual(peer.programmer.commands[0], 0x10)
+
+    def test_programmers_out_of_step(self):
+        """One that doesn't answer SYNCNOP by NAK and ACK, as by ACK alone, is none."""
+        for sync in (b"\x06" * 300, b"\x15" * 300, b"\0" * 300, b"\x06\x15" + b"\0" * 300):
+            self.greeted("no serprog programmer answers", sync=sync)
+
+    def test_its_order(self):
+        """First comes SYNCNOP, then the version, the commands, the bus, and no frame before
+        these."""
+        peer = self.peer()
+        self.norbd("check", peer.place)
+        commands = peer.programmer.commands
+        self.assertEqual(commands[:6], [0x10, 0x01, 0x02, 0x05, 0x12, 0x03])
+        self.assertEqual(set(commands[6:8]), {0x08, 0x11})
+        self.assertEqual(set(commands[8:]), {0x13})
+
+
+class Places(ChipCase):
+    def test_words(self):
+        """`tcp:` and `serial:` at the beginning of a word name a programmer; any other is a
+        file."""
+        for word, cause in (("tcp:", "invalid input parameter"), ("tcp:127.0.0.1", "invalid input "
+                            "parameter"), ("serial:", "entity not found"),
+                            ("serial:tcp:a", "entity not found"),
+                            ("serial:/dev/no-such-device", "entity not found")):
+            self.refused(f"chip failed: {word}: {cause}", "check", word)
+        for word in ("serial", "tcp", "Serial:/dev/ttyACM0", " serial:/dev/ttyACM0", "TCP:a:1",
+                     "./serial:/dev/ttyACM0"):
+            self.refused(f"image failed: {word}: entity not found", "check", word)
+
+    def test_nobody_listens(self):
+        """A port at which nobody listens is told, by each command."""
+        place = f"tcp:127.0.0.1:{kit.free_port()}"
+        for line in ("check {}", "show {}", "read {}", "write {}", "format {} --kib 64 --yes",
+                     "serve {} --unix a.sock"):
+            self.refused(f"chip failed: {place}: connection refused", *line.format(place).split())
+
+    def test_what_is_no_serial_device(self):
+        """Files, folders and devices that are no programmer are refused, and left as they are."""
+        self.put("a.img", kit.formatted())
+        os.mkdir(self.path("d"))
+        for path, cause in (("a.img", "invalid input parameter"), ("d", "is a directory"),
+                            ("/dev/null", "the connection ended"),
+                            ("/dev/full", "the connection ended"),
+                            ("/dev/zero", "no serprog programmer answers")):
+            self.refused(f"chip failed: serial:{path}: {cause}", "check", f"serial:{path}")
+            self.refused(f"chip failed: serial:{path}: {cause}", "format", f"serial:{path}",
+                         "--kib", "64", "--yes")
+        self.assertEqual(self.bytes_of("a.img"), kit.formatted())
+
+    def test_a_host_name(self):
+        """A name is looked up."""
+        peer = self.peer()
+        try:
+            socket.getaddrinfo("localhost", None, socket.AF_INET)
+        except OSError:
+            self.skipTest("localhost has no address here")
+        self.norbd("check", peer.place.replace("127.0.0.1", "localhost"))
+
+
+@kit.needs("strace")
+class ShortWrites(ChipCase):
+    def test_the_rest_of_a_short_write_is_sent(self):
+        """Where the system takes one byte of a command alone the rest is sent, over TCP and by a
+        serial device."""
+        for kind, call, when in ((TcpPeer, "sendmsg", 1), (SerialPeer, "write", 9)):
+            peer = self.peer(kind=kind)  # the 9th command is the first frame: a status read
+            self.put("strace.log", b"")
+            process = self.start("check", peer.place, under=kit.traced(
+                "sendto,sendmsg,write,writev", "-e", f"inject={call}:retval=1:when={when}"))
+            command, sent = b"\x13\1\0\0\1\0\0\x05", []
+
+            def rest():
+                sent[:] = self.sent()
+                short = [at for at, (data, taken) in enumerate(sent)
+                         if data and taken == 1 and command.startswith(data) and len(data) > 1]
+                return b"".join(it for it, _ in sent[short[0] + 1:]) if short else b""
+            kit.wait_for(lambda: len(rest()) >= 7, 5)
+            self.assertEqual(rest()[:7], command[1:], sent)
+            process.kill()
+
+    def sent(self):
+        """What was to be sent by each call, and how much of it the system took."""
+        if not os.path.exists(self.path("strace.log")):
+            return []
+        text = self.bytes_of("strace.log").decode()
+        return [(b"".join(bytes.fromhex(it.replace("\\x", "")) for it in kit.STRING.findall(text)),
+                 result) for _, text, result in kit.calls_in(text.replace(" (INJECTED)", ""))]
+
+
+if __name__ == "__main__":
+    unittest.main()

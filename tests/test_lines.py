@@ -1,0 +1,304 @@
+"""The words of the command line, and its faults, by docs/SERVE.md ("Faults"), docs/REAL-CHIP.md and
+docs/SCRIPT.md. Those of a chip are in test_chips.py."""
+import os
+import resource
+import shutil
+import socket
+import subprocess
+import unittest
+
+import kit
+
+BAD_LINES = """
+plain --sectors 0
+plain --sectors 65537
+plain --sectors
+plain
+plain --sectors 70 more
+plain --sectors 70 --record
+plain --sectors -1
+plain --sectors 070x
+format a.img --kib 0
+format a.img --kib 63
+format a.img --kib 16448
+format a.img --kib x
+format a.img --kib
+format a.img
+format --kib 64
+script --kib 63
+script --kib 16385
+script --kib
+script
+script --kib 64 more
+serve a.img --port 0 --conns 1
+serve a.img --port 65536 --conns 1
+serve a.img --port 10809 --conns 0
+serve a.img --port 10809 --conns 65
+serve a.img --port 10809 --sync
+serve a.img --port 10809 --tidy
+serve a.img --port 10809 --force
+serve a.img --port 10809 --max-request 63
+serve a.img --port 10809 --max-request 32769
+serve a.img --port 10809 --max-request
+serve a.img --port 10809 --read-only 1
+serve a.img --port 10809 --bind
+serve --port 10809 --conns 2
+chip a.img
+chip --port 5000
+chip a.img --port 0
+chip a.img --port 65536
+chip a.img --port 5000 --conns 65
+check
+check a.img --yes
+show
+show a.img --json
+read --sectors 0:1
+read a.img --sectors
+write a.img b.img
+other
+-x
+""".strip().splitlines()
+GOOD_LINES = """
+serve m.img --unix m.sock --conns 2
+serve --record m.img --conns 64 --unix m.sock
+serve m.img --conns 1 --sync never --unix m.sock
+serve m.img --sync always --unix m.sock
+serve --sync flush --unix m.sock m.img
+serve m.img --unix m.sock --tidy lazy
+serve --tidy eager --unix m.sock -v m.img
+serve m.img --unix m.sock --max-request 64
+serve m.img --unix m.sock --max-request 32768 --read-only
+serve --unix=m.sock --verbose m.img --max-request=1024 --trust
+check m.img
+check --json m.img --mend
+show m.img
+read m.img
+read --sectors 2:5 m.img
+write m.img --sectors 0:70
+""".strip().splitlines()
+ADDRESS = "bad address: --port P [--bind IP], or --unix PATH"
+BAD_WORDS = [
+    ("format a.img --kib 65", "bad size"), ("format a.img --kib 16380", "bad size"),
+    ("script --kib 65", "bad size"), ("script --kib 100", "bad size"),
+    ("serve a.img --port 10809 --sync often", "bad sync: flush, never or always"),
+    ("serve a.img --port 10809 --sync Flush", "bad sync: flush, never or always"),
+    ("serve a.img --port 10809 --tidy never", "bad tidy: lazy or eager"),
+    ("serve a.img --port 10809 --tidy Lazy", "bad tidy: lazy or eager"),
+    ("serve a.img", ADDRESS), ("serve a.img --conns 2", ADDRESS),
+    ("serve a.img --bind ::1", ADDRESS), ("serve a.img --port 10809 --unix a.sock", ADDRESS),
+    ("serve a.img --bind ::1 --unix a.sock", ADDRESS),
+    ("serve a.img --port 10809 --bind localhost", ADDRESS),
+    ("serve a.img --port 10809 --bind 127.0.0.1:80", ADDRESS),
+    ("serve a.img --port 10809 --bind 1.2.3", ADDRESS),
+]
+
+
+class Lines(kit.Case):
+    def test_bad_lines(self):
+        """A line that is none ends with status 2, says so on standard error, and does nothing."""
+        for line in BAD_LINES:
+            with self.subTest(line):
+                done = self.run_norbd(*line.split())
+                self.assertEqual((done.status, done.out), (2, b""))
+                self.assertRegex(done.fault, "error: |Usage: norbd")
+                self.assertEqual(os.listdir(self.room), [])
+
+    def test_good_lines(self):
+        """Options come in any order, before and behind the image: each of these lines is one, and
+        finds no image."""
+        for line in GOOD_LINES:
+            self.refused("image failed: m.img: entity not found", *line.split())
+        port = str(kit.free_port())
+        for line in ("serve m.img --port {} --bind ::1 --verbose",
+                     "serve m.img --bind 0.0.0.0 --port {}", "chip m.img --port {}",
+                     "chip --conns 64 --port {} m.img"):
+            self.refused("image failed: m.img: entity not found", *line.format(port).split())
+        for line in ("plain --no-record --sectors 70", "plain --sectors 4096", "script --kib 1024"):
+            self.assertEqual(self.norbd(*line.split()), b"")
+        os.mkdir(self.path("d"))
+        self.norbd("format", "--kib", "64", "d/a.img")
+        self.norbd("format", "d/a.img", "--force", "--kib", "64")
+
+    def test_no_words(self):
+        """Without a command the usage is shown, with status 2, whatever the program's name."""
+        shutil.copy(kit.PROGRAM, self.path("another"))
+        for program in (kit.PROGRAM, self.path("another")):
+            done = subprocess.run([program], capture_output=True, timeout=kit.PATIENCE, check=False)
+            self.assertEqual((done.returncode, done.stdout), (2, b""))
+            self.assertIn(b"Usage: norbd <COMMAND>", done.stderr)
+
+    def test_bad_words(self):
+        """A word that is none of an option's ends with status 2, and is told with those that
+        are."""
+        for line, fault in BAD_WORDS:
+            self.refused(fault, *line.split(), status=2)
+        self.refused(ADDRESS, "serve", "a.img", "--port", "10809", "--bind", "", status=2)
+        self.assertEqual(os.listdir(self.room), [])
+
+    def test_words_that_are_not_text(self):
+        """A name that isn't UTF-8 is refused with status 2."""
+        for line in (["serve", b"\xFF.img", "--port", "10809"], ["check", b"a\xFF"],
+                     ["format", b"\xFF", "--kib", "64"]):
+            done = self.run_norbd(*line)
+            self.assertEqual((done.status, done.fault), (2, "norbd: a word is not UTF-8\n"))
+        self.assertEqual(os.listdir(self.room), [])
+
+    def test_missing_images(self):
+        """Each command names the image that isn't there, and why."""
+        for line in ("serve m.img --unix m.sock", "check m.img", "check m.img --mend",
+                     "check m.img --json", "show m.img", "read m.img", "write m.img",
+                     "chip m.img --port %d" % kit.free_port()):
+            self.refused("image failed: m.img: entity not found", *line.split())
+        self.refused("image failed: no/m.img: entity not found", "format", "no/m.img", "--kib",
+                     "64")
+        self.assertEqual([it for it in os.listdir(self.room) if it != "m.sock"], [])
+
+    def test_what_is_no_file(self):
+        """A folder is named as what it is, by each command that wants an image."""
+        os.mkdir(self.path("d"))
+        for line in ("serve d --unix m.sock", "check d --mend", "write d"):
+            self.refused("image failed: d: is a directory", *line.split())
+        for line in ("show d", "read d", "serve d --unix m.sock --read-only"):
+            done = self.run_norbd(*line.split())
+            self.assertEqual(done.status, 1)
+            self.assertRegex(done.fault, r"^norbd: (image failed|bad image size): d: ")
+        self.refused("image failed: d: not a regular file", "format", "d", "--kib", "64")
+
+    def test_files_without_leave(self):
+        """A file that one may not open is told as `permission denied`."""
+        os.chmod(self.room, 0o755)
+        self.format()
+        os.chmod(self.path("a.img"), 0)
+        for line in ("serve a.img --port %d" % kit.free_port(), "check a.img", "show a.img",
+                     "read a.img", "write a.img", "format a.img --kib 64 --force"):
+            self.refused("image failed: a.img: permission denied", *line.split(),
+                         preexec_fn=kit.as_nobody())
+
+    def test_lengths_that_no_chip_has(self):
+        """A file of another length than a chip's is refused, with its length."""
+        for length in (1, 65535, 65537, 70_000, 100 * 1024, 17 << 20):
+            self.put("a.img", b"")
+            os.truncate(self.path("a.img"), length)
+            for line in ("serve a.img --unix a.sock", "check a.img", "read a.img", "show a.img",
+                         "chip a.img --port %d" % kit.free_port()):
+                self.refused(f"bad image size: a.img: {length} bytes", *line.split())
+
+    def test_faults_name_the_image(self):
+        """Of an image that holds no disk each command says so with its name, and leaves it."""
+        unformatted, corrupt, dirty = bytes(65536), kit.formatted(), kit.formatted()
+        corrupt[0x2400], dirty[0x4300] = 0x55, 0x55
+        for name, image, fault in (("u.img", unformatted, "not formatted: u.img"),
+                                   ("c.img", corrupt, "corrupt: c.img"),
+                                   ("d.img", dirty,
+                                    "not clean: d.img: norbd check --mend mends it")):
+            self.put(name, image)
+            for line in ("serve {} --unix a.sock", "serve {} --unix a.sock --read-only",
+                         "read {}", "write {}"):
+                self.refused(fault, *line.format(name).split())
+            self.assertEqual(self.bytes_of(name), image)
+        self.refused("corrupt: c.img", "show", "c.img")
+        self.refused("not formatted: u.img", "show", "u.img")
+        self.assertFalse(os.path.exists(self.path("a.sock")))
+
+    def test_where_nothing_can_be_listened_on(self):
+        """A port or an address that can't be had is named, before the image is opened."""
+        with socket.create_server(("127.0.0.1", 0)) as taken:
+            port = taken.getsockname()[1]
+            for line in ("serve", "chip"):
+                self.refused(f"no socket: port {port}: address in use", line, "missing.img",
+                             "--port", str(port))
+        port = kit.free_port()
+        self.refused(f"no socket: port {port}: address not available", "serve", "missing.img",
+                     "--port", str(port), "--bind", "192.0.2.1")
+        for bind in ("127.0.0.1", "0.0.0.0", "::"):
+            self.refused("image failed: missing.img: entity not found", "serve", "missing.img",
+                         "--port", str(port), "--bind", bind)
+
+    def test_ports_without_leave(self):
+        """A port that one may not have is told as `permission denied`."""
+        with open("/proc/sys/net/ipv4/ip_unprivileged_port_start", encoding="ascii") as file:
+            if int(file.read()) <= 80:
+                self.skipTest("everybody may have port 80 here")
+        self.refused("no socket: port 80: permission denied", "serve", "missing.img", "--port",
+                     "80", preexec_fn=kit.as_nobody())
+
+    def test_outputs_that_fail(self):
+        """A line that can't be printed is `output failed`, status 1."""
+        self.format()
+        for line in ("format b.img --kib 64", "check a.img", "check a.img --json", "show a.img",
+                     "read a.img", "serve a.img --unix a.sock", "write a.img",
+                     "chip a.img --port %d" % kit.free_port()):
+            with open("/dev/full", "wb") as full:
+                done = self.run_norbd(*line.split(), data=bytes(35840), stdout=full)
+            self.assertEqual((done.status, done.fault), (1, "norbd: output failed\n"), line)
+
+    def test_closed_descriptors(self):
+        """Descriptors 0 to 2 that are closed are /dev/null, and no line gets into an image."""
+        self.format()
+        before = self.bytes_of("a.img")
+        for closed in ((0,), (1,), (2,), (0, 1), (1, 2), (0, 2), (0, 1, 2)):
+            address = self.path(f"{len(closed)}{closed[0]}.sock")
+            process = self.start("serve", "a.img", "--unix", address, "-v",
+                                 stdout=subprocess.DEVNULL, stderr=subprocess.DEVNULL,
+                                 preexec_fn=lambda: [os.close(it) for it in closed])
+            self.assertTrue(kit.wait_for(lambda: os.path.exists(address)))
+            self.assertTrue(kit.wait_for(lambda: self.served(address)))
+            folder = f"/proc/{process.pid}/fd"
+            held = {int(it): os.readlink(f"{folder}/{it}") for it in os.listdir(folder)}
+            self.assertEqual({held[it] for it in closed}, {"/dev/null"})
+            image = [it for it, name in held.items() if name == self.path("a.img")]
+            self.assertTrue(image and min(image) > 2, held)
+            process.kill()
+            process.wait()
+            self.assertEqual(self.bytes_of("a.img"), before)
+
+    def served(self, address):
+        """Whether somebody greets at a Unix socket."""
+        try:
+            return bool(kit.nbd.Client(address).receive(18))
+        except (OSError, kit.nbd.Closed):
+            return False
+
+    def test_no_thread(self):
+        """Where no thread can be started, `serve` says so and ends with status 1."""
+        os.chmod(self.room, 0o777)
+        self.format()
+        os.chmod(self.path("a.img"), 0o666)
+
+        def alone():
+            become = kit.as_nobody()
+            if become:
+                become()
+            resource.setrlimit(resource.RLIMIT_NPROC, (1, 1))
+        process = self.start("serve", "a.img", "--unix", "a.sock", preexec_fn=alone)
+        kit.wait_for(lambda: os.path.exists(self.path("a.sock")), 5)
+        try:
+            kit.nbd.Client(self.path("a.sock")).is_closed(5)
+        except OSError:
+            pass  # it has ended
+        done = self.end_of(process)
+        self.assertEqual((done.status, done.fault), (1, "norbd: no thread\n"))
+
+    def test_inputs_of_write(self):
+        """`write` says what its input failed at: another length, or a read that fails."""
+        self.format()
+        self.refused("standard input isn't 35840 bytes", "write", "a.img", data=bytes(512),
+                     out="replacing sectors 0 to 70\n")
+        with open("/proc/self/mem", "rb") as unreadable:
+            self.refused("input failed", "write", "a.img", stdin=unreadable,
+                         out="replacing sectors 0 to 70\n")
+
+    def test_ranges(self):
+        """A range that is none of this disk's is refused with status 2."""
+        self.format()
+        before = self.bytes_of("a.img")
+        for text in ("3:3", "4:3", "69:71", "3", "a:4", "0:-1", ":", "0:", ":3", "", "0:1:2",
+                     "0:70x", " 0:1", "-1:3", "4294967296:4294967297", "99999:100000"):
+            for command in ("read", "write"):
+                self.refused("bad range of sectors: a.img: A:B, with A below B, of the disk's "
+                             "sectors", command, "a.img", f"--sectors={text}", status=2)
+        self.assertEqual(self.bytes_of("a.img"), before)
+
+
+if __name__ == "__main__":
+    unittest.main()

@@ -1,0 +1,288 @@
+"""`norbd chip`: the answers to serprog's commands, by flashrom's serprog-protocol.txt, version 1,
+and to frames, by docs/CHIP.md and the W25Q128JV's datasheet; and `norbd` as its own programmer."""
+import os
+import random
+import signal
+import socket
+import unittest
+
+import kit
+import nbd
+import serprog
+
+ACK, NAK = b"\x06", b"\x15"
+OFFERED = (0x00, 0x01, 0x02, 0x03, 0x04, 0x05, 0x08, 0x10, 0x11, 0x12, 0x13, 0x14, 0x15)
+
+
+class Client:
+    """A client of the protocol."""
+
+    def __init__(self, port):
+        self.socket = socket.create_connection(("127.0.0.1", port), kit.PATIENCE)
+        self.socket.setsockopt(socket.IPPROTO_TCP, socket.TCP_NODELAY, 1)
+
+    def __enter__(self):
+        return self
+
+    def __exit__(self, *_):
+        self.socket.close()
+
+    def ask(self, command, length):
+        """Sends a command, and takes so many bytes."""
+        self.socket.sendall(command)
+        got = b""
+        while len(got) < length:
+            piece = self.socket.recv(length - len(got))
+            if not piece:
+                raise nbd.Closed
+            got += piece
+        return got
+
+    def frame(self, sent, count=0):
+        """A frame of the chip, by O_SPIOP."""
+        command = b"\x13" + len(sent).to_bytes(3, "little") + count.to_bytes(3, "little") + sent
+        answer = self.ask(command, 1 + count)
+        assert answer[:1] == ACK, answer
+        return answer[1:]
+
+    def change(self, sent):
+        """Write enable, a frame that begins a change, and status reads until it has ended."""
+        self.frame(b"\x06")
+        self.frame(sent)
+        for _ in range(100):
+            if not self.frame(b"\x05", 1)[0] & 1:
+                return
+        raise AssertionError("busy without end")
+
+
+def at(code, address):
+    return bytes([code]) + address.to_bytes(3, "big")
+
+
+class ChipCase(kit.Case):
+    def chip(self, name="a.img", *words, **how):
+        """Answers for the chip in an image, on a port."""
+        self.port = kit.free_port()
+        process = self.start("chip", name, "--port", str(self.port), *words, **how)
+        size = os.path.getsize(self.path(name)) // 1024
+        self.assertEqual(process.stdout.readline().decode(),
+                         f"chip of {size} KiB on port {self.port}\n")
+        return process
+
+    def client(self):
+        return Client(self.port)
+
+
+class Chips(ChipCase):
+    def test_commands(self):
+        """Each command has the answer of the document."""
+        image = bytearray(it % 256 for it in range(65536))
+        self.put("a.img", image)
+        self.chip()
+        for command, answer in (
+                ("00", "06"), ("01", "06 0100"), ("04", "06 FFFF"), ("05", "06 08"), ("06", "15"),
+                ("07", "15"), ("0B", "15"), ("16", "15"), ("FF", "15"), ("10", "1506"),
+                ("1208", "06"), ("1202", "15"), ("120A", "06"), ("1440420F00", "06 40420F00"),
+                ("1400000000", "15"), ("1501", "06"), ("1500", "06"), ("08", "06 000001"),
+                ("11", "06 000001"), ("13 010000 030000 9F", "06 EF4010"),
+                ("13 040000 020000 03 0012FF", "06 FF00"), ("13 000000 000000", "06"),
+                ("13 000000 020000", "06 FFFF")):
+            answer = bytes.fromhex(answer)
+            with self.client() as client:
+                self.assertEqual(client.ask(bytes.fromhex(command), len(answer)), answer, command)
+                self.assertEqual(client.ask(b"\x00", 1), ACK)
+        with self.client() as client:
+            self.assertEqual(client.ask(b"\x03", 17), ACK + b"norbd chip".ljust(16, b"\0"))
+
+    def test_the_map_of_commands(self):
+        """Q_CMDMAP offers the commands that are answered, and each other one gets NAK."""
+        self.format()
+        self.chip()
+        with self.client() as client:
+            answer = client.ask(b"\x02", 33)
+            self.assertEqual(answer[:1], ACK)
+            offered = [it for it in range(256) if answer[1 + it // 8] >> it % 8 & 1]
+            self.assertEqual(offered, list(OFFERED))
+            for code in set(range(256)) - set(offered):
+                self.assertEqual(client.ask(bytes([code]), 1), NAK, code)
+
+    def test_commands_that_are_cut_off(self):
+        """A command that its connection cuts off isn't done; what came before it was answered, and
+        the next client begins anew."""
+        self.format()
+        self.chip()
+        with self.client() as client:
+            self.assertEqual(client.ask(b"\x10\0\x13\1\0\0\3\0\0", 3), NAK + ACK + ACK)
+        with self.client() as client:
+            client.frame(b"\x06")
+            client.socket.sendall(b"\x13\x05\0\0\0\0\0" + at(0x02, 0x5000))
+        with self.client() as client:
+            self.assertEqual(client.ask(b"\x10", 2), NAK + ACK)
+            self.assertEqual(client.frame(at(0x03, 0x5000), 1), b"\xFF")
+
+    def test_frames(self):
+        """The chip's frames: ids, table, reads that wrap, programs that only clear bits and stay in
+        their page, erases of 4 and 64 KiB, WEL and BUSY, and what is ignored."""
+        for kib, third in ((64, 0x10), (128, 0x11), (1024, 0x14), (16384, 0x18)):
+            self.norbd("format", f"{kib}.img", "--kib", str(kib))
+            self.chip(f"{kib}.img")
+            with self.client() as client:
+                self.assertEqual(client.frame(b"\x9F", 4), bytes([0xEF, 0x40, third, 0xFF]))
+                self.assertEqual(client.frame(b"\x5A\0\0\0\0", 256), serprog.table(1024 * kib))
+                self.assertEqual(client.frame(at(0x03, 1024 * kib - 1), 3), b"\xFFNO")
+        self.format()
+        self.chip()
+        with self.client() as client:
+            client.frame(at(0x02, 0x5000) + b"\0")             # without write enable: ignored
+            self.assertEqual(client.frame(b"\x05", 1), b"\0")
+            client.frame(b"\x06")
+            self.assertEqual(client.frame(b"\x05", 2), b"\2\2")
+            client.frame(b"\x04")
+            self.assertEqual(client.frame(b"\x05", 1), b"\0")
+            client.frame(b"\x06")
+            client.frame(at(0x02, 0x50FE) + b"\x0F\x3C\xA5")
+            self.assertEqual(client.frame(b"\x05", 1)[0] & 3, 3)  # busy, and WEL as long
+            while client.frame(b"\x05", 1)[0] & 1:
+                pass
+            self.assertEqual(client.frame(b"\x05", 1), b"\0")
+            self.assertEqual(client.frame(at(0x03, 0x5000), 1) + client.frame(at(0x03, 0x50FE), 3),
+                             b"\xA5\x0F\x3C\xFF")
+            client.change(at(0x02, 0x50FE) + b"\xF1")
+            self.assertEqual(client.frame(at(0x03, 0x50FE), 1), b"\x01")
+            client.change(at(0x02, 0x6000) + bytes(range(256)) + b"\xEE\xDD")
+            self.assertEqual(client.frame(at(0x03, 0x6000), 4), b"\xEE\xDD\2\3")
+            client.change(at(0x20, 0x5678))
+            self.assertEqual(client.frame(at(0x03, 0x5000), 256), b"\xFF" * 256)
+            self.assertEqual(client.frame(at(0x03, 0x6002), 1), b"\2")
+            client.frame(b"\x06")
+            client.frame(b"\xC7")                              # a chip erase: not in the model
+            self.assertEqual(client.frame(b"\x05", 1), b"\2")
+            client.change(at(0xD8, 0x1234))
+            self.assertEqual(client.frame(at(0x03, 0), 65536), b"\xFF" * 65536)
+        self.assertEqual(self.bytes_of("a.img"), b"\xFF" * 65536)
+
+    def test_protection(self):
+        """Status writes set the protection bits, under which nothing is changed until they are
+        cleared again."""
+        self.format()
+        self.chip()
+        with self.client() as client:
+            client.change(b"\x01\x1C")
+            self.assertEqual(client.frame(b"\x05", 1), b"\x1C")
+            client.frame(b"\x06")
+            client.frame(at(0x02, 0x5000) + b"\0")
+            self.assertEqual(client.frame(b"\x05", 1), b"\x1C")
+            self.assertEqual(client.frame(at(0x03, 0x5000), 1), b"\xFF")
+            client.change(b"\x01\x00")
+            client.change(at(0x02, 0x5000) + b"\0")
+            self.assertEqual(client.frame(at(0x03, 0x5000), 1), b"\0")
+            self.assertEqual(client.frame(b"\x35", 1) + client.frame(b"\x15", 1), b"\0\0")
+
+    def test_random_frames(self):
+        """Random reads, programs and erases leave what they leave on a plain array, in the file
+        too."""
+        chance = kit.dice("frames")
+        self.format()
+        held = kit.formatted()
+        self.chip()
+        with self.client() as client:
+            for _ in range(400):
+                place, what = chance.randrange(65536), chance.choice("rrpppe")
+                if what == "r":
+                    count = chance.randrange(1, 600)
+                    self.assertEqual(client.frame(at(0x03, place), count),
+                                     bytes((held + held)[place:place + count]))
+                elif what == "p":
+                    data = bytes(chance.randrange(256) for _ in range(chance.randrange(1, 257)))
+                    client.change(at(0x02, place) + data)
+                    for k, byte in enumerate(data):
+                        held[place & ~0xFF | place + k & 0xFF] &= byte
+                else:
+                    client.change(at(0x20, place))
+                    held[place & ~0xFFF:(place & ~0xFFF) + 4096] = b"\xFF" * 4096
+            self.assertEqual(self.bytes_of("a.img"), held)
+
+    def test_this_machine_alone(self):
+        """`chip` listens on 127.0.0.1 and nowhere else; the protocol has no password."""
+        self.format()
+        self.chip()
+        with self.assertRaises(ConnectionRefusedError):
+            socket.create_connection(("127.0.0.2", self.port), 5)
+
+    def test_so_many_clients(self):
+        """With --conns it ends after so many clients, without a fault."""
+        self.format()
+        process = self.chip("a.img", "--conns", "3")
+        for _ in range(3):
+            with self.client() as client:
+                self.assertEqual(client.ask(b"\x10", 2), NAK + ACK)
+        done = self.end_of(process)
+        self.assertEqual((done.status, done.out, done.fault), (0, b"", ""))
+
+    def test_a_write_of_the_file_that_fails(self):
+        """A write of the file that fails ends `chip` with a fault: what would be answered from then
+        on isn't."""
+        self.format()
+        process = self.chip(preexec_fn=kit.limit_files(36_000))
+        with self.client() as client:
+            client.change(at(0x02, 0x5000) + b"\0")
+            client.frame(b"\x06")
+            client.frame(at(0x02, 0xA000) + b"\0")
+            with self.assertRaises((nbd.Closed, OSError)):
+                for _ in range(10):
+                    client.frame(b"\x05", 1)
+        done = self.end_of(process, within=10)
+        self.assertEqual((done.status, done.fault),
+                         (1, "norbd: image failed: a.img: a write failed\n"))
+        self.assertEqual([self.bytes_of("a.img")[it] for it in (0x5000, 0xA000)], [0, 0xFF])
+
+
+class OwnProgrammer(ChipCase):
+    """`norbd` against `norbd chip`."""
+
+    def test_a_disk_behind_itself(self):
+        """`format`, `check`, `write`, `read`, `show` and `serve` of a chip that `chip` answers for,
+        and what is left in its file."""
+        self.put("a.img", b"\x5A" * 131072)
+        self.chip()
+        place = f"tcp:127.0.0.1:{self.port}"
+        self.assertEqual(self.norbd("format", place, "--kib", "128", "--yes"),
+                         b"formatted 168 sectors\n")
+        self.assertEqual(self.bytes_of("a.img"), kit.formatted(128))
+        self.assertTrue(self.norbd("check", place).endswith(b"clean 168 sectors\n"))
+        self.norbd("write", place, "--sectors", "2:4", data=b"\x5A" * 1024)
+        self.assertEqual(self.norbd("read", place, "--sectors", "1:4"), bytes(512) + b"\x5A" * 1024)
+        self.assertIn(b"\nslots: 194 free, 2 live, 0 dead\n", self.norbd("show", place))
+        chance, held = random.Random(1), {2: b"\x5A" * 512, 3: b"\x5A" * 512}
+        server = self.serve(place, "--conns", "1")
+        client = server.client()
+        for turn in range(250):
+            number = turn if turn < 168 else chance.randrange(168)
+            held[number] = nbd.sector(number, turn)
+            self.assertEqual(client.write(number, held[number]), nbd.OK)
+        client.disc()
+        self.assertEqual(server.end().status, 0)
+        self.end_all()
+        self.assertEqual(self.norbd("read", "a.img"), b"".join(held[it] for it in range(168)))
+        self.assertEqual(self.check()["verdict"], "clean")
+
+    def test_a_chip_that_is_killed(self):
+        """Where `chip` is killed while its chip is served, the server ends, and what was
+        acknowledged is in the file."""
+        self.format()
+        process = self.chip()
+        server = self.serve(f"tcp:127.0.0.1:{self.port}")
+        client, written = server.client(), []
+        for number in range(20):
+            self.assertEqual(client.write(number, nbd.sector(number)), nbd.OK)
+            written.append(nbd.sector(number))
+        os.killpg(process.pid, signal.SIGKILL)
+        with self.assertRaises(nbd.Closed):
+            client.write(30, nbd.sector(30))
+        self.assertEqual(server.end().status, 1)
+        process.wait()
+        self.assertEqual(self.norbd("read", "a.img", "--sectors", "0:20"), b"".join(written))
+
+
+if __name__ == "__main__":
+    unittest.main()
