@@ -96,10 +96,10 @@ pub trait Reclaim: SlotCalls {
             (erases_of (counts self.new))) }
         ensures ends { EndsSettled result (Self.state self.old) (Self.state self.new) };
 
-    /// Copies a block with dead slots, one with the most, of equals the lowest-numbered or the least
-    /// worn, into the reserve; where no slot is dead, converts the lowest-numbered block that is live
-    /// with a group: the blocks. Where none is either, nothing changes: None. Cut, it leaves what
-    /// `take_free` does.
+    /// Copies a block with dead slots, one with the most, of equals the lowest-numbered or the
+    /// least worn, into the reserve; where no slot is dead, converts the lowest-numbered block that
+    /// is live with a group: the blocks. Where none is either, nothing changes: None. Cut, it
+    /// leaves what `take_free` does.
     fn tidy(&mut self) -> Result<Option<Copied>, NorError>
         requires ready { IsNorReady (Self.state self.old) }
         requires settled { IsSettled (Self.state self.old).memory }
@@ -144,7 +144,8 @@ pub trait Reclaim: SlotCalls {
     /// it never is. By erases it is the least worn of them, once for eight erases; it is time at
     /// the latest where the block before the reserve rests, and each that rests has fewer dead
     /// slots than another block has. It comes before a `take_free` or a `tidy`, as `purpose` says,
-    /// and a block with dead slots is still left to be copied. Cut, it leaves what `take_free` does.
+    /// and a block with dead slots is still left to be copied. Cut, it leaves what `take_free`
+    /// does.
     fn level(&mut self, purpose: Purpose) -> Result<Option<Copied>, NorError>
         requires ready { IsNorReady (Self.state self.old) }
         requires settled { IsSettled (Self.state self.old).memory }
