@@ -37,7 +37,7 @@ class Crowds(kit.Case):
         """Eight clients at once find what they wrote, with WRITEs in pieces that cross; so does the
         next start."""
         self.format("c.img", 1024)
-        server = self.serve("c.img", "--conns", "8", "--record")
+        server = self.serve("c.img", "--conns", "8", "--record", "--sync", "never")
         clients = [server.client() for _ in range(8)]
         chance, held = kit.dice("a crowd"), bytearray(8 * 65536)
         for turn in range(40):
@@ -139,7 +139,7 @@ class Crowds(kit.Case):
         server.kill()
         thread.join(20)
         begun = [int(it) for it in re.findall(rb"connection (\d+) begins", b"".join(lines))]
-        self.assertEqual(begun, list(range(1, 2002)))
+        self.assertEqual(sorted(begun), list(range(1, 2002)))  # lines of two threads may cross
 
     def test_broken_clients(self):
         """What one client sends, cut off anywhere or random bytes, ends that client alone."""

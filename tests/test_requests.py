@@ -136,7 +136,7 @@ class Requests(kit.Case):
         """A disk has exactly as many sectors as the line says, from 1 to 65,536."""
         chance = kit.dice("sizes of plain")
         for sectors in [1, 2, 3, 127, 128, 129, 65535, 65536] + [
-                chance.randrange(1, 1 << chance.randrange(1, 17)) for _ in range(40)]:
+                chance.randrange(1, 1 << chance.randrange(1, 17)) for _ in range(25)]:
             last = 512 * sectors - 512
             asked = request(READ, last, 512) + request(READ, last + 512, 512, cookie=2)
             words = ["--no-record"] if 4096 < sectors < 65536 else []
