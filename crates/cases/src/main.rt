@@ -6,7 +6,7 @@
 //! A line is a word, its arguments, and behind ` : ` what has to come of it, `ok` where nothing is
 //! said. `run` and `file` have the words of a file: `case`, `let`, `for`; `bench` those that take a
 //! chip from layer to layer; `chip`, `memory`, `driver`, `journal`, `slots`, `map`, `disk`,
-//! `connections`, `sessions`, `layout` and `table` those of one layer each. The README of this crate
+//! `connections`, `sessions`, `layout` and `table` those of one layer each. The crate's README
 //! lists them. No contract says more than that the program is safe and ends; the cases are in
 //! `data/`.
 //!
