@@ -27,7 +27,6 @@ use std::test::*;
 use std::thread::Threads;
 use std::time::{Clock, Duration};
 use std::{io, thread};
-use test_kit::request_head;
 use watched::WatchedBus;
 
 /// The losses of a run that end a server.
@@ -134,10 +133,25 @@ fn begin<H: Net<Stream = TcpStream>>(rt: &H, addr: SocketAddr) -> io::Result<Tcp
     Ok(stream)
 }
 
+/// The head of a WRITE of 512 bytes without flags. Source: NBD proto.md.
+fn write_head(cookie: u64, offset: u64) -> [u8; 28] {
+    let mut head = [
+        0x25, 0x60, 0x95, 0x13, 0, 0, 0, 1, 0, 0, 0, 0, 0, 0, 0, 0, 0, 0, 0, 0, 0, 0, 0, 0, 0, 0,
+        2, 0,
+    ];
+    let cookie = cookie.to_be_bytes();
+    let offset = offset.to_be_bytes();
+    for k in 0..8usize {
+        head[8 + k] = cookie[k];
+        head[16 + k] = offset[k];
+    }
+    head
+}
+
 /// Sends a WRITE of one sector.
 fn send(stream: &mut TcpStream, cookie: u64, asked: Asked) -> io::Result<()> {
     let offset = 512 * asked.sector as u64;
-    stream.write_all(&request_head(1, cookie, offset, 512))?;
+    stream.write_all(&write_head(cookie, offset))?;
     stream.write_all(&[asked.byte; 512])
 }
 
