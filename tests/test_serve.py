@@ -224,8 +224,8 @@ class Told(kit.Case):
         """A client that is gone before its reply ends with `a write failed`."""
         def go_early(server):
             client = server.client()
-            for _ in range(100):
-                client.send(nbd.request(READ, 0, 35840))
+            # At once: a hundred parcels don't fit in each machine's queue of one that isn't read.
+            client.send(nbd.request(READ, 0, 35840) * 100)
             client.close()
         lines = self.told("-v", then=go_early)
         self.assertEqual(lines, ["1 begins", "1 ends: a write failed, or a sync before it"])
