@@ -224,7 +224,7 @@ class Told(kit.Case):
         """A client that is gone before its reply ends with `a write failed`."""
         def go_early(server):
             client = server.client()
-            # At once: a hundred parcels don't fit in each machine's queue of one that isn't read.
+            # In one send: the queue of a socket that isn't read doesn't always take a hundred.
             client.send(nbd.request(READ, 0, 35840) * 100)
             client.close()
         lines = self.told("-v", then=go_early)
