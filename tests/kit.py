@@ -10,6 +10,7 @@ import resource
 import shutil
 import signal
 import socket
+import struct
 import subprocess
 import tempfile
 import time
@@ -33,6 +34,10 @@ def dice(name):
 def needs(tool):
     """Leaves a test out, by name, where a tool isn't installed."""
     return unittest.skipUnless(shutil.which(tool), f"{tool} is not installed")
+
+
+# Leaves a test out that looks at the program's process, where an emulator runs it.
+not_emulated = unittest.skipIf("NORBD_EMULATED" in os.environ, "the process is an emulator's")
 
 
 def free_port():
@@ -64,6 +69,18 @@ def status_of(pid, key):
         with open(f"/proc/{pid}/task/{thread}/status", encoding="ascii") as file:
             total += int(re.search(rf"^{key}:\s+(\d+)", file.read(), re.M).group(1))
     return total
+
+
+def descriptors_of(pid):
+    """What each open descriptor of a process names; one that is closed meanwhile is left out."""
+    folder = f"/proc/{pid}/fd"
+    held = {}
+    for number in os.listdir(folder):
+        try:
+            held[int(number)] = os.readlink(f"{folder}/{number}")
+        except FileNotFoundError:
+            continue
+    return held
 
 
 def keeps_what_it_freed(pid):
@@ -171,6 +188,67 @@ class Case(unittest.TestCase):
         done = self.run_norbd(*words, **how)
         self.assertEqual((done.status, done.fault, done.text), (status, f"norbd: {fault}\n", out),
                          words)
+
+    def flashrom(self, place):
+        """What runs flashrom with the serprog at a place, and returns what it printed."""
+        tool = shutil.which("flashrom") or shutil.which("flashrom", path="/usr/sbin:/sbin")
+        if not tool:
+            self.skipTest("flashrom is not installed")
+
+        def flash(*words):
+            done = subprocess.run(
+                [tool, "-p", f"serprog:ip={place}", "-c", "W25Q128.V", *words], cwd=self.room,
+                timeout=120, stdout=subprocess.PIPE, stderr=subprocess.STDOUT, check=False)
+            self.assertEqual(done.returncode, 0, done.stdout)
+            return done.stdout.decode(errors="replace")
+        return flash
+
+    def rewritten(self, flash):
+        """flashrom reads a formatted chip of 16 MiB, writes 100 sectors and verifies them: the
+        chip's bytes then."""
+        flash("-r", "out.bin")
+        self.assertEqual(self.bytes_of("out.bin"), formatted(16384))
+        image = formatted(16384)
+        for number in range(100):
+            set_slot(image, 4 + number // 7, number % 7, number, nbd.sector(number))
+        self.put("new.bin", image)
+        self.assertIn("VERIFIED", flash("-w", "new.bin"))
+        return image
+
+    def in_pieces(self, pieces, *words, closes=None):
+        """Runs a line each of whose reads gets one of the pieces: what it prints. Before the last
+        of them it may end only after so many bytes."""
+        ours, theirs = socket.socketpair(socket.AF_UNIX, socket.SOCK_SEQPACKET)
+        with ours, theirs:
+            ours.settimeout(PATIENCE)
+            process = self.start(*words, stdin=theirs)
+            theirs.close()
+            sent = 0
+            for piece in filter(None, pieces):
+                try:
+                    sent += ours.send(piece)
+                except (BrokenPipeError, ConnectionResetError):
+                    if closes is None or sent < closes:
+                        self.fail(f"{process.args} has ended after {sent} bytes")
+                    break
+            ours.close()
+            done = self.end_of(process)
+        self.assertEqual((done.status, done.fault), (0, ""), words)
+        return done.out
+
+    def input_fails(self, data, answered, *words):
+        """Runs a line that reads these bytes, answers them, and finds that its next read fails."""
+        with socket.create_server(("127.0.0.1", 0)) as listener:
+            ours = socket.create_connection(listener.getsockname())
+            theirs, _ = listener.accept()
+        with theirs:
+            process = self.start(*words, stdin=theirs)
+        with ours:
+            ours.sendall(data)
+            self.assertEqual(process.stdout.read(len(answered)), answered)
+            ours.setsockopt(socket.SOL_SOCKET, socket.SO_LINGER, struct.pack("ii", 1, 0))
+        done = self.end_of(process)  # by the reset that this close sent
+        self.assertEqual((done.status, done.fault, done.out), (1, "norbd: input failed\n", b""))
 
     def format(self, name="a.img", kib=64):
         self.norbd("format", name, "--kib", str(kib))

@@ -1,5 +1,5 @@
 """A chip in memory, by docs/CHIP.md, and a programmer that speaks serprog for it, by flashrom's
-serprog-protocol.txt, version 1. Both fail where they are told to."""
+serprog-protocol.txt, version 1. Both fail where they are told to. And a client of that protocol."""
 import contextlib
 import os
 import socket
@@ -7,6 +7,9 @@ import termios
 import threading
 import time
 import tty
+
+import kit
+import nbd
 
 ACK, NAK = b"\x06", b"\x15"
 PARAMETERS = {0x09: 4, 0x0A: 3, 0x0C: 6, 0x0D: None, 0x0E: 4, 0x12: 1, 0x14: 4, 0x15: 1}
@@ -247,3 +250,73 @@ class SerialPeer:
         os.close(self.theirs)
         self.thread.join(5)
         os.close(self.ours)
+
+
+class Client:
+    """A client of the protocol."""
+
+    def __init__(self, port=None, path=None):
+        if path:
+            self.socket = socket.socket(socket.AF_UNIX)
+            self.socket.settimeout(kit.PATIENCE)
+            self.socket.connect(path)
+        else:
+            self.socket = socket.create_connection(("127.0.0.1", port), kit.PATIENCE)
+            self.socket.setsockopt(socket.IPPROTO_TCP, socket.TCP_NODELAY, 1)
+
+    def __enter__(self):
+        return self
+
+    def __exit__(self, *_):
+        self.socket.close()
+
+    def ask(self, command, length):
+        """Sends a command, and takes so many bytes."""
+        self.socket.sendall(command)
+        got = b""
+        while len(got) < length:
+            piece = self.socket.recv(length - len(got))
+            if not piece:
+                raise nbd.Closed
+            got += piece
+        return got
+
+    def frame(self, sent, count=0):
+        """A frame of the chip, by O_SPIOP."""
+        command = b"\x13" + len(sent).to_bytes(3, "little") + count.to_bytes(3, "little") + sent
+        answer = self.ask(command, 1 + count)
+        assert answer[:1] == ACK, answer
+        return answer[1:]
+
+    def change(self, sent):
+        """Write enable, a frame that begins a change, and status reads until it has ended."""
+        self.frame(b"\x06")
+        self.frame(sent)
+        for _ in range(100):
+            if not self.frame(b"\x05", 1)[0] & 1:
+                return
+        raise AssertionError("busy without end")
+
+
+def at(code, address):
+    return bytes([code]) + address.to_bytes(3, "big")
+
+
+# Commands that any programmer answers alike, and what the document says they are answered.
+ANSWERS = (
+    ("00", "06"), ("01", "06 0100"), ("04", "06 FFFF"), ("05", "06 08"), ("06", "15"), ("07", "15"),
+    ("0B", "15"), ("16", "15"), ("FF", "15"), ("10", "1506"), ("1208", "06"), ("1202", "15"),
+    ("120A", "06"), ("1440420F00", "06 40420F00"), ("1400000000", "15"), ("13 000000 000000", "06"),
+    ("13 000000 020000", "06 FFFF"))
+
+
+def check_answers(case, name, *rows):
+    """Each command of these rows and of the common ones has its answer, each of a client of its
+    own, whose next command is answered too; Q_PGMNAME tells this name."""
+    for command, answer in (*ANSWERS, *rows):
+        answer = bytes.fromhex(answer)
+        with case.client() as client:
+            case.assertEqual(client.ask(bytes.fromhex(command), len(answer)), answer, command)
+            case.assertEqual(client.ask(b"\x00", 1), ACK, command)
+    with case.client() as client:
+        case.assertEqual(client.ask(b"\x03", 17), ACK + name.ljust(16, b"\0"))

@@ -1,4 +1,4 @@
-"""What `check` and `show` tell of an image, by docs/CHECK.md, and `check --json` against a schema.
+"""What `check` and `show` tell of an image, by docs/CHECK.md, and `check --json` by its table of keys.
 The images are made by docs/LAYOUT.md and docs/JOURNAL.md."""
 import json
 import os
@@ -9,19 +9,24 @@ import kit
 import nbd
 
 COUNT = {"type": int, "least": 0}
-SCHEMA = {  # of each verdict the keys of its object, and what they hold
-    "clean": {"layout": {"of": ("1", "2", "mixed")}, "bytes": COUNT, "sectors": COUNT,
-              "free_entries": {"type": int, "least": 0, "most": 512},
-              "least_votes": {"type": int, "least": 0, "most": 1024}, "erasing": {"type": bool},
-              "blocks": {"keys": {it: COUNT for it in (
-                  "plain", "wholly_free", "void", "committed", "settled", "groups", "dead_groups",
-                  "wrong")}},
-              "slots": {"keys": {it: COUNT for it in ("free", "live", "dead")}}},
-    "not formatted": {"bytes": COUNT, "sectors": COUNT},
+NULL = {"of": (None,)}
+KNOWN = {  # of each key what it holds where that is known
+    "version": {"of": (1,)}, "verdict": {"of": ("clean", "not clean", "corrupt", "not formatted")},
+    "mended": {"type": bool}, "reason": {"type": str}, "not_erased_at": COUNT,
+    "layout": {"of": ("1", "2", "mixed")}, "bytes": COUNT, "sectors": COUNT,
+    "free_entries": {"type": int, "least": 0, "most": 512},
+    "least_votes": {"type": int, "least": 0, "most": 1024}, "erasing": {"type": bool},
+    "blocks": {"keys": {it: COUNT for it in (
+        "plain", "wholly_free", "void", "committed", "settled", "groups", "dead_groups",
+        "wrong")}},
+    "slots": {"keys": {it: COUNT for it in ("free", "live", "dead")}},
 }
-SCHEMA["not clean"] = dict(SCHEMA["clean"], not_erased_at=COUNT)
-SCHEMA["corrupt"] = {"reason": {"type": str}, "bytes": COUNT, "sectors": COUNT}
-OPTIONAL = {"corrupt": ("free_entries", "least_votes", "erasing", "blocks", "slots")}
+UNKNOWN = {  # of each verdict the keys that are null
+    "clean": {"reason", "not_erased_at"}, "not clean": {"reason"},
+    "corrupt": {"not_erased_at", "layout"},
+    "not formatted": {"reason", "not_erased_at", "layout", "free_entries", "least_votes",
+                      "erasing", "blocks", "slots"},
+}
 
 
 def faults_of(value, rule, name="it"):
@@ -40,12 +45,12 @@ def faults_of(value, rule, name="it"):
 
 
 def faults_of_report(report):
-    """Where what `check --json` said isn't as the schema says."""
-    rules = dict(SCHEMA[report["verdict"]])
-    for key in OPTIONAL.get(report["verdict"], ()):
-        if key in report:
-            rules[key] = SCHEMA["clean"][key]
-    return faults_of({k: v for k, v in report.items() if k != "verdict"}, {"keys": rules})
+    """Where what `check --json` said isn't as the page says."""
+    unknown = set(UNKNOWN[report["verdict"]])
+    if report["verdict"] == "corrupt" and report["blocks"] is None:
+        unknown |= {"blocks", "slots"}
+    rules = {key: NULL if key in unknown else rule for key, rule in KNOWN.items()}
+    return faults_of(report, {"keys": rules})
 
 
 LEGEND = ("S superblock, J journal, . wholly free, R the reserve, V void, C committed,\n"
@@ -171,7 +176,7 @@ class Checks(kit.Case):
                 self.serve("a.img", "--read-only").kill()
 
     def test_pages_for_programs(self):
-        """`check --json` tells the same numbers, in one line that keeps the schema."""
+        """`check --json` tells the same numbers, in one line that has the page's keys."""
         for name, image, wanted in PAGES:
             with self.subTest(name):
                 self.put("a.img", image)
@@ -196,7 +201,7 @@ class Checks(kit.Case):
 
     def test_corrupt(self):
         """Of an image that no write leaves the first broken rule is told, in text and in JSON, and
-        it isn't changed."""
+        by each other command with its fault; it isn't changed."""
         for image, reason in CORRUPT:
             with self.subTest(reason):
                 self.put("a.img", image)
@@ -207,8 +212,14 @@ class Checks(kit.Case):
                 report = self.check()
                 self.assertEqual(faults_of_report(report), [])
                 self.assertEqual(f"corrupt: {report['reason']}\n", done.text)
-                for line in ("read a.img", "write a.img", "serve a.img --unix a.sock"):
-                    self.refused("corrupt: a.img", *line.split())
+                fault = f"corrupt: a.img: {report['reason']}"
+                for line in ("read a.img", "write a.img", "serve a.img --unix a.sock",
+                             "serve a.img --unix a.sock --read-only"):
+                    self.refused(fault, *line.split())
+                shown = self.run_norbd("show", "a.img")
+                self.assertEqual((shown.status, shown.fault), (1, f"norbd: {fault}\n"))
+                is_drawn = not reason.startswith("Journals: ")
+                self.assertEqual(shown.text.startswith("    0 SJJJ"), is_drawn, shown.text)
                 self.assertEqual(self.bytes_of("a.img"), image)
 
     def test_not_formatted_and_not_clean(self):
@@ -225,11 +236,78 @@ class Checks(kit.Case):
             self.assertEqual((done.status, done.text), (
                 1, page() + f"not clean: {at:X}h reads as free and isn't FF\n"))
             report = self.check()
-            self.assertEqual((faults_of_report(report), report["verdict"], report["not_erased_at"]),
-                             ([], "not clean", at))
+            self.assertEqual((faults_of_report(report), report["verdict"], report["not_erased_at"],
+                              report["mended"]), ([], "not clean", at, False))
+            mended = json.loads(self.norbd("check", "a.img", "--json", "--mend"))
+            self.assertEqual(mended, dict(report, mended=True))
+            clean = json.loads(self.norbd("check", "a.img", "--json", "--mend"))
+            self.assertEqual((faults_of_report(clean), clean["verdict"], clean["mended"]),
+                             ([], "clean", False))
+
+    def test_places_that_count(self):
+        """With a copying or an erase under way the place that is told is one that counts: in the
+        whole copy and not in its source, and not in a block that is being erased."""
+        copied_from_4 = (0xF004, b"\xFC\xFF\x04\x00")
+        copied_from_5 = (0xF004, b"\xFC\xFF\x05\x00")
+        dead_in_5 = (0x5010, b"\xF8\xFC\x00\x00")
+        erasing_5 = (0x1800, b"\xFC\x05\x00\xFF")
+        in_5, in_9, in_copy = (0x5400, b"\x00"), (0x9200, b"\x00"), (0xF800, b"\x00")
+        for changes, place in (
+                ((copied_from_4, in_copy), "F800h"),
+                ((copied_from_5, dead_in_5, in_5), None),
+                ((copied_from_5, dead_in_5, in_5, in_9), "9200h"),
+                ((erasing_5, in_5), None),
+                ((erasing_5, in_5, in_9), "9200h")):
+            with self.subTest(changes):
+                self.put("a.img", with_bytes(*changes))
+                report = self.check()
+                text = self.run_norbd("check", "a.img").text
+                self.assertEqual(faults_of_report(report), [])
+                if place is None:
+                    self.assertEqual(report["verdict"], "clean")
+                    self.assertTrue(text.endswith("clean 70 sectors\n"), text)
+                else:
+                    self.assertEqual(report["not_erased_at"], int(place[:-1], 16))
+                    self.assertTrue(text.endswith(
+                        f"not clean: {place} reads as free and isn't FF\n"), text)
+
+    def test_layout_1_that_is_not_clean(self):
+        """A free block of layout 1 with bytes that would be slots on a mixed chip is not clean: no
+        command reads or serves such an image or changes it, and what is mended has its group."""
+        for at, changes in (
+                (0xA004, [(0xA004, b"\xFC\xFF\x05\x00")]),
+                (0xA010, [(0xA010, b"\xFC\xFC\x08\x00"), (0xA200, b"ZZ")]),
+                (0xA200, [(0xA200, b"\x00")])):
+            with self.subTest(hex(at)):
+                image = groups()
+                for place, data in changes:
+                    kit.set_bytes(image, place, data)
+                self.put("a.img", image)
+                done = self.run_norbd("check", "a.img")
+                self.assertEqual((done.status, done.text.splitlines()[-1]), (
+                    1, f"not clean: {at:X}h reads as free and isn't FF"))
+                report = self.check()
+                self.assertEqual((faults_of_report(report), report["verdict"],
+                                  report["not_erased_at"]), ([], "not clean", at))
+                for line in ("read a.img", "write a.img", "serve a.img --unix a.sock",
+                             "serve a.img --unix a.sock --read-only"):
+                    self.refused("not clean: a.img: norbd check --mend mends it", *line.split())
+                self.assertEqual(self.bytes_of("a.img"), image)
+                self.assertTrue(self.norbd("check", "a.img", "--mend").endswith(
+                    b"mended 70 sectors\n"))
+                self.assertEqual(self.norbd("read", "a.img", "--sectors", "0:7"), b"\1" * 3584)
+
+    def test_served_only_if_clean(self):
+        """`serve` changes nothing of an image that it refuses, not even what a mount would."""
+        image = groups()
+        kit.set_bytes(image, 0xF800, b"\x55")
+        self.put("a.img", image)
+        self.refused("not clean: a.img: norbd check --mend mends it",
+                     *"serve a.img --unix a.sock".split())
+        self.assertEqual(self.bytes_of("a.img"), image)
 
     def test_random_reports(self):
-        """Whatever the bytes are, `check --json` keeps the schema, and its verdict is the
+        """Whatever the bytes are, `check --json` has the page's keys, and its verdict is the
         text's."""
         chance = kit.dice("reports")
         for _ in range(60):
@@ -277,6 +355,16 @@ class Pictures(kit.Case):
                            (live((9, 0, 60, 2), image=groups(mixed=True)), "SJJJ.GDG.1.....R"),
                            (with_bytes((0xF010, b"\xFC\xFC\3\0")), "SJJJ..........R1")):
             self.assertEqual(self.drawn(image).splitlines()[0], f"    0 {row}")
+
+    def test_corrupt(self):
+        """An image whose slots are corrupt is drawn, with a fault on standard error and status
+        1."""
+        self.put("a.img", with_bytes((0x8018, b"\xFC\xFF\xFF\xFF")))
+        done = self.run_norbd("show", "a.img")
+        self.assertEqual((done.status, done.fault), (
+            1, "norbd: corrupt: a.img: Data blocks: slot 2 of block 8, FC FF FF FF at 8018h; the "
+            "chip has no sector 65535\n"))
+        self.assertTrue(done.text.startswith("    0 SJJJ...."), done.text)
 
     def test_histograms(self):
         """A count that is too small for a `#` has a `|`."""

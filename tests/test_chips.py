@@ -61,7 +61,10 @@ class Lines(ChipCase):
                 by_file = self.run_norbd(command, "a.img", *more)
                 by_chip = self.run_norbd(command, peer.place, *more)
                 self.assertEqual((by_chip.status, by_chip.out), (by_file.status, by_file.out), line)
-                self.assertEqual(by_chip.fault, by_file.fault.replace("a.img", peer.place))
+                told = by_file.fault.replace("a.img", peer.place)
+                if memory is corrupt and command != "check":
+                    told = f"norbd: corrupt: {peer.place}: norbd check says why\n"
+                self.assertEqual(by_chip.fault, told)
             self.assertEqual((peer.chip.memory, peer.chip.programs, peer.chip.erases),
                              (memory, 0, 0))
         self.chip_fails(peer, "--mend takes a file", "check", "CHIP", "--mend")
@@ -75,14 +78,14 @@ class Lines(ChipCase):
                          bytes(1024) + b"\x5A" * 1024 + bytes(66 * 512))
         data = b"".join(nbd.sector(it) for it in range(70))
         self.assertEqual(self.norbd("write", peer.place, data=data),
-                         b"replacing sectors 0 to 70\nreplaced sectors 0 to 70\n")
+                         b"replacing sectors 0 to 69\nreplaced sectors 0 to 69\n")
         self.assertEqual(self.norbd("read", peer.place), data)
         self.norbd("write", peer.place, data=bytes(35840))
         self.put("a.img", peer.chip.memory)
         self.assertEqual(self.check()["slots"]["live"], 0)
         before = bytes(peer.chip.memory)
-        self.refused("standard input isn't 512 bytes", "write", peer.place, "--sectors", "3:4",
-                     data=b"\1" * 511, out="replacing sectors 3 to 4\n")
+        self.refused("standard input has 511 bytes, sectors 3 to 3 take 512", "write", peer.place,
+                     "--sectors", "3:4", data=b"\1" * 511, out="replacing sectors 3 to 3\n")
         self.assertEqual(peer.chip.memory, before)
 
     def test_progress_of_the_reading(self):
@@ -449,14 +452,16 @@ class Places(ChipCase):
     def test_words(self):
         """`tcp:` and `serial:` at the beginning of a word name a programmer; any other is a
         file."""
-        for word, cause in (("tcp:", "invalid input parameter"), ("tcp:127.0.0.1", "invalid input "
-                            "parameter"), ("serial:", "entity not found"),
-                            ("serial:tcp:a", "entity not found"),
-                            ("serial:/dev/no-such-device", "entity not found")):
+        for word, cause in (("tcp:", "tcp:HOST:PORT is wanted"),
+                            ("tcp:127.0.0.1", "tcp:HOST:PORT is wanted"),
+                            ("tcp:nohost.invalid:5000", "unknown host"),
+                            ("serial:", "no such file or directory"),
+                            ("serial:tcp:a", "no such file or directory"),
+                            ("serial:/dev/no-such-device", "no such file or directory")):
             self.refused(f"chip failed: {word}: {cause}", "check", word)
         for word in ("serial", "tcp", "Serial:/dev/ttyACM0", " serial:/dev/ttyACM0", "TCP:a:1",
                      "./serial:/dev/ttyACM0"):
-            self.refused(f"image failed: {word}: entity not found", "check", word)
+            self.refused(f"image failed: {word}: no such file or directory", "check", word)
 
     def test_nobody_listens(self):
         """A port at which nobody listens is told, by each command."""
@@ -469,7 +474,7 @@ class Places(ChipCase):
         """Files, folders and devices that are no programmer are refused, and left as they are."""
         self.put("a.img", kit.formatted())
         os.mkdir(self.path("d"))
-        for path, cause in (("a.img", "invalid input parameter"), ("d", "is a directory"),
+        for path, cause in (("a.img", "not a character device"), ("d", "is a directory"),
                             ("/dev/null", "the connection ended"),
                             ("/dev/full", "the connection ended"),
                             ("/dev/zero", "no serprog programmer answers")):

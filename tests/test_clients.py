@@ -60,10 +60,10 @@ class Clients(kit.Case):
 
     @kit.needs("nbdcopy")
     def test_nbdcopy(self):
-        """`nbdcopy` copies a file onto the disk and back: with --request-size of 64 KiB, or
-        whatever its own with --max-request 1024."""
-        for words, more in (([], ["--connections=1", "--request-size=65536"]),
-                            (["--max-request", "1024"], [])):
+        """`nbdcopy` copies a file onto the disk and back, as it comes and with the largest requests
+        that it is told."""
+        for words, more in (([], []), ([], ["--connections=1", "--request-size=65536"]),
+                            (["--max-request", "1024"], ["--request-size=1048576"])):
             address = self.at(*words)
             data = self.data("data.bin", self.size)
             self.tool("nbdcopy", *more, "data.bin", address)
@@ -71,14 +71,15 @@ class Clients(kit.Case):
             self.assertEqual(self.bytes_of("back.bin"), data)
             self.server.kill()
             self.assertEqual(self.norbd("read", "a.img"), data)
-        self.assertIn("Invalid argument", self.tool("nbdcopy", "data.bin", self.at(), status=1))
+        self.assertIn("Invalid argument", self.tool(
+            "nbdcopy", "data.bin", self.at("--max-request", "64"), status=1))
         self.assertIn("262144 bytes at once are refused, 65536 are the most: serve with "
                       "--max-request 256\n", self.server.kill().fault)
 
     @kit.needs("nbdcopy")
     def test_a_sparse_file(self):
         """`nbdcopy` of a sparse file gives its holes as zeros, over what was there."""
-        address = self.at("--max-request", "1024")
+        address = self.at()
         self.data("full.bin", self.size)
         self.tool("nbdcopy", "full.bin", address)
         with open(self.path("sparse.bin"), "wb") as file:
@@ -144,7 +145,8 @@ h.flush()
 want = b'x' * 512 + bytes(1024) + b'x' * 512 + bytes(512) + b'x' * (65536 - 2560)
 assert h.pread(65536, 0) == want
 h.set_strict_mode(0)
-for code, call in ((errno.EINVAL, lambda: h.pread(131072, 0)),
+assert h.pread(131072, 0)[:65536] == want
+for code, call in ((errno.EINVAL, lambda: h.pread(1049088, 0)),
                    (errno.EINVAL, lambda: h.trim(512, 0, nbd.CMD_FLAG_NO_HOLE)),
                    (errno.EINVAL, lambda: h.trim(512, h.get_size())),
                    (errno.EINVAL, lambda: h.trim(100, 0)),
@@ -161,9 +163,9 @@ assert h.pread(65536, 0) == want
 
     @kit.needs("fio")
     def test_fio(self):
-        """`fio` verifies random writes of 4 and 64 KiB, and trims."""
+        """`fio` verifies random writes of 4, 64 and 256 KiB, and trims."""
         address = self.at()
-        for size in ("4k", "64k"):
+        for size in ("4k", "64k", "256k"):
             text = self.tool("fio", "--name=t", "--ioengine=nbd", f"--uri={address}",
                              "--rw=randwrite", f"--bs={size}", "--size=768k", "--verify=crc32c",
                              "--iodepth=8")
@@ -185,27 +187,12 @@ assert h.pread(65536, 0) == want
 class Flashrom(kit.Case):
     def test_flashrom(self):
         """`flashrom` finds the chip of `norbd chip`, reads it, writes and verifies another."""
-        tool = shutil.which("flashrom") or shutil.which("flashrom", path="/usr/sbin:/sbin")
-        if not tool:
-            self.skipTest("flashrom is not installed")
         self.format("a.img", 16384)
         port = kit.free_port()
         self.start("chip", "a.img", "--port", str(port)).stdout.readline()
-        programmer = ["-p", f"serprog:ip=127.0.0.1:{port}", "-c", "W25Q128.V"]
-
-        def flash(*words):
-            done = subprocess.run([tool, *programmer, *words], cwd=self.room, timeout=120,
-                                  stdout=subprocess.PIPE, stderr=subprocess.STDOUT, check=False)
-            self.assertEqual(done.returncode, 0, done.stdout)
-            return done.stdout.decode(errors="replace")
+        flash = self.flashrom(f"127.0.0.1:{port}")
         self.assertIn("W25Q128", flash())
-        flash("-r", "out.bin")
-        self.assertEqual(self.bytes_of("out.bin"), kit.formatted(16384))
-        image = kit.formatted(16384)
-        for number in range(100):
-            kit.set_slot(image, 4 + number // 7, number % 7, number, nbd.sector(number))
-        self.put("new.bin", image)
-        self.assertIn("VERIFIED", flash("-w", "new.bin"))
+        image = self.rewritten(flash)
         self.end_all()
         self.assertEqual(self.bytes_of("a.img"), image)
         self.assertEqual(self.norbd("read", "a.img", "--sectors", "0:100"),

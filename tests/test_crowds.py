@@ -107,6 +107,7 @@ class Crowds(kit.Case):
         for number in range(64):
             self.assertEqual(late.read(number), nbd.sector(number))
 
+    @kit.not_emulated
     def test_many_one_after_another(self):
         """2,000 connections one after another, half of them cut off anywhere, leave the server as
         it was: threads, descriptors and memory, and each has the next number."""

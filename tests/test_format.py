@@ -31,6 +31,31 @@ class Format(kit.Case):
             self.norbd("format", "a.img", "--force", "--kib", "64")
             self.assertEqual(self.bytes_of("a.img"), kit.formatted())
 
+    def test_other_files_are_kept(self):
+        """A file that holds anything else is replaced with --force alone, and what it is that was
+        found is said; one that is empty or all FFh is replaced as nothing was there."""
+        nameless, unsealed, last = kit.formatted(), kit.formatted(), bytearray(b"\xFF" * 70_000)
+        nameless[0], unsealed[14], last[-1] = 0, 0xFF, 0xFE
+        for data in (b"\n", bytes(64), bytes(65536), b"%PDF-1.7 a thesis", nameless, unsealed,
+                     last, kit.formatted()[:14]):
+            self.put("thesis.odt", data)
+            self.refused("file isn't empty: thesis.odt: --force replaces it", "format",
+                         "thesis.odt", "--kib", "64")
+            self.assertEqual(self.bytes_of("thesis.odt"), data)
+            self.norbd("format", "thesis.odt", "--force", "--kib", "64")
+            self.assertEqual(self.bytes_of("thesis.odt"), kit.formatted())
+        for length in (0, 1, 15, 4096, 65536, 70_001, 1 << 24):
+            self.put("a.img", b"\xFF" * length)
+            self.format()
+            self.assertEqual(self.bytes_of("a.img"), kit.formatted())
+
+    def test_a_long_file_is_not_held_in_memory(self):
+        """A file of another kind is refused by its first bytes, however long it is."""
+        self.put("disk.img", b"")
+        os.truncate(self.path("disk.img"), 1 << 40)
+        self.refused("file isn't empty: disk.img: --force replaces it", "format", "disk.img",
+                     "--kib", "64", within=20)
+
     def test_nothing_is_left_beside(self):
         """A format leaves the image and nothing else in its folder, also where it fails."""
         self.format()
@@ -61,7 +86,8 @@ class Format(kit.Case):
         """A format whose line can't be printed fails, and has made the image."""
         with open("/dev/full", "wb") as full:
             done = self.run_norbd("format", "a.img", "--kib", "64", stdout=full)
-        self.assertEqual((done.status, done.fault), (1, "norbd: output failed\n"))
+        self.assertEqual((done.status, done.fault), (
+            1, "norbd: output failed: no space left on device\n"))
         self.assertEqual(self.bytes_of("a.img"), kit.formatted())
 
 

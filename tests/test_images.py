@@ -102,6 +102,17 @@ class Replaced(kit.Case):
             self.assertIn("norbd: image failed: a.img: ", done.fault)
             self.assertEqual((os.listdir(self.room), self.bytes_of("a.img")), (["a.img"], before))
 
+    def test_what_a_killed_process_left(self):
+        """What a killed `format`, `write` or `check --mend` left beside the image stops no later
+        one, which removes it."""
+        dirty = kit.formatted()
+        dirty[0x4300] = 0x55
+        for line in ("format a.img --kib 64 --force", "write a.img", "check a.img --mend"):
+            self.put("a.img", dirty if "mend" in line else kit.formatted())
+            self.put("a.img.norbd-new", b"half of it")
+            self.norbd(*line.split(), data=b"\1" * 35840)
+            self.assertEqual(os.listdir(self.room), ["a.img"], line)
+
     def test_a_clean_image_is_not_replaced(self):
         """`check --mend` of an image that is clean leaves the file, as `check` does."""
         self.put("a.img", slots_of(kit.formatted()))
@@ -177,7 +188,7 @@ class Mended(kit.Case):
 
 class ReadOnly(kit.Case):
     def test_an_image_that_may_only_be_read(self):
-        """`serve --read-only`, `show` and `read` want no permission to write."""
+        """`serve --read-only`, `check`, `show` and `read` want no permission to write."""
         os.chmod(self.room, 0o777)
         self.put("a.img", slots_of(kit.formatted(), range(9)))
         os.chmod(self.path("a.img"), 0o444)
@@ -185,14 +196,20 @@ class ReadOnly(kit.Case):
         self.assertEqual(self.norbd("read", "a.img", "--sectors", "8:9", preexec_fn=become),
                          nbd.sector(8))
         self.assertTrue(self.norbd("show", "a.img", preexec_fn=become).startswith(b"    0 SJJJ72"))
+        self.assertTrue(self.norbd("check", "a.img", preexec_fn=become).endswith(
+            b"clean 70 sectors\n"))
+        self.assertIn(b'"verdict":"clean"', self.norbd("check", "a.img", "--json",
+                                                       preexec_fn=become))
+        self.refused("image failed: a.img: permission denied", "check", "a.img", "--mend",
+                     preexec_fn=become)
         before = os.stat(self.path("a.img"))
         server = self.serve("a.img", "--read-only", preexec_fn=become)
         client = server.client()
         self.assertEqual((client.flags, client.read(8)), (0x010F, nbd.sector(8)))
         self.assertEqual((client.write(8, bytes(512)), client.flush()), (nbd.EPERM, nbd.OK))
-        with open(f"/proc/{server.pid}/maps", encoding="ascii"):
-            held = [it for it in os.listdir(f"/proc/{server.pid}/fd")
-                    if os.readlink(f"/proc/{server.pid}/fd/{it}") == self.path("a.img")]
+        held = [it for it, name in kit.descriptors_of(server.pid).items()
+                if name == self.path("a.img")]
+        self.assertTrue(held)
         for number in held:
             with open(f"/proc/{server.pid}/fdinfo/{number}", encoding="ascii") as file:
                 flags = int([it for it in file if it.startswith("flags:")][0].split()[1], 8)
@@ -223,11 +240,11 @@ class Moved(kit.Case):
         self.format()
         self.assertEqual(self.norbd("read", "a.img"), bytes(35840))
         self.assertEqual(self.norbd("write", "a.img", "--sectors", "2:4", data=b"\x5A" * 1024),
-                         b"replacing sectors 2 to 4\nreplaced sectors 2 to 4\n")
+                         b"replacing sectors 2 to 3\nreplaced sectors 2 to 3\n")
         self.assertEqual(self.norbd("read", "a.img", "--sectors", "1:4"),
                          bytes(512) + b"\x5A" * 1024)
         self.assertEqual(self.norbd("write", "a.img", data=b"\xA5" * 35840),
-                         b"replacing sectors 0 to 70\nreplaced sectors 0 to 70\n")
+                         b"replacing sectors 0 to 69\nreplaced sectors 0 to 69\n")
         for words in ([], ["--sectors", "0:70"]):
             self.assertEqual(self.norbd("read", "a.img", *words), b"\xA5" * 35840)
 
@@ -267,12 +284,14 @@ class Moved(kit.Case):
         self.put("a.img", slots_of(kit.formatted()))
         before = self.bytes_of("a.img")
         for words, told, length, wrong in (
-                (["--sectors", "0:70"], "0 to 70", 35840, (512, 0, 35839, 35841, 71680)),
-                (["--sectors", "3:4"], "3 to 4", 512, (511, 513, 0, 1024)),
-                ([], "0 to 70", 35840, (35839,))):
+                (["--sectors", "0:70"], "0 to 69", 35840, (512, 0, 35839, 35841, 71680)),
+                (["--sectors", "3:4"], "3 to 3", 512, (511, 513, 0, 1024)),
+                ([], "0 to 69", 35840, (35839,))):
             for count in wrong:
-                self.refused(f"standard input isn't {length} bytes", "write", "a.img", *words,
-                             data=b"\x5A" * count, out=f"replacing sectors {told}\n")
+                had = f"{count}" if count < length else f"more than {length}"
+                self.refused(f"standard input has {had} bytes, sectors {told} take {length}",
+                             "write", "a.img", *words, data=b"\x5A" * count,
+                             out=f"replacing sectors {told}\n")
         self.assertEqual(self.bytes_of("a.img"), before)
 
     def test_the_line_comes_before_the_input(self):
@@ -281,7 +300,7 @@ class Moved(kit.Case):
         self.put("a.img", slots_of(kit.formatted()))
         before = self.bytes_of("a.img")
         process = self.start("write", "a.img", stdin=subprocess.PIPE)
-        self.assertEqual(process.stdout.readline(), b"replacing sectors 0 to 70\n")
+        self.assertEqual(process.stdout.readline(), b"replacing sectors 0 to 69\n")
         process.stdin.write(b"\x5A" * 20000)
         process.stdin.flush()
         process.kill()

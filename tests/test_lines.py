@@ -78,8 +78,10 @@ write m.img --sectors 0:70
 """.strip().splitlines()
 ADDRESS = "bad address: --port P [--bind IP], or --unix PATH"
 BAD_WORDS = [
-    ("format a.img --kib 65", "bad size"), ("format a.img --kib 16380", "bad size"),
-    ("script --kib 65", "bad size"), ("script --kib 100", "bad size"),
+    ("format a.img --kib 65", "bad size: 65 is no multiple of 64"),
+    ("format a.img --kib 16380", "bad size: 16380 is no multiple of 64"),
+    ("script --kib 65", "bad size: 65 is no multiple of 64"),
+    ("script --kib 100", "bad size: 100 is no multiple of 64"),
     ("serve a.img --port 10809 --sync often", "bad sync: flush, never or always"),
     ("serve a.img --port 10809 --sync Flush", "bad sync: flush, never or always"),
     ("serve a.img --port 10809 --tidy never", "bad tidy: lazy or eager"),
@@ -87,9 +89,10 @@ BAD_WORDS = [
     ("serve a.img", ADDRESS), ("serve a.img --conns 2", ADDRESS),
     ("serve a.img --bind ::1", ADDRESS), ("serve a.img --port 10809 --unix a.sock", ADDRESS),
     ("serve a.img --bind ::1 --unix a.sock", ADDRESS),
-    ("serve a.img --port 10809 --bind localhost", ADDRESS),
-    ("serve a.img --port 10809 --bind 127.0.0.1:80", ADDRESS),
-    ("serve a.img --port 10809 --bind 1.2.3", ADDRESS),
+    ("serve a.img --unix=", ADDRESS), ("serve a.img --unix= --conns 2", ADDRESS),
+    ("serve a.img --port 10809 --bind localhost", "bad address: localhost is no IP address"),
+    ("serve a.img --port 10809 --bind 127.0.0.1:80", "bad address: 127.0.0.1:80 is no IP address"),
+    ("serve a.img --port 10809 --bind 1.2.3", "bad address: 1.2.3 is no IP address"),
 ]
 
 
@@ -107,12 +110,12 @@ class Lines(kit.Case):
         """Options come in any order, before and behind the image: each of these lines is one, and
         finds no image."""
         for line in GOOD_LINES:
-            self.refused("image failed: m.img: entity not found", *line.split())
+            self.refused("image failed: m.img: no such file or directory", *line.split())
         port = str(kit.free_port())
         for line in ("serve m.img --port {} --bind ::1 --verbose",
                      "serve m.img --bind 0.0.0.0 --port {}", "chip m.img --port {}",
                      "chip --conns 64 --port {} m.img"):
-            self.refused("image failed: m.img: entity not found", *line.format(port).split())
+            self.refused("image failed: m.img: no such file or directory", *line.format(port).split())
         for line in ("plain --no-record --sectors 70", "plain --sectors 4096", "script --kib 1024"):
             self.assertEqual(self.norbd(*line.split()), b"")
         os.mkdir(self.path("d"))
@@ -132,7 +135,21 @@ class Lines(kit.Case):
         are."""
         for line, fault in BAD_WORDS:
             self.refused(fault, *line.split(), status=2)
-        self.refused(ADDRESS, "serve", "a.img", "--port", "10809", "--bind", "", status=2)
+        self.refused("bad address:  is no IP address", "serve", "a.img", "--port", "10809",
+                     "--bind", "", status=2)
+        self.assertEqual(os.listdir(self.room), [])
+
+    def test_empty_names(self):
+        """An image without a name is refused with status 2 by each command, and an empty path of a
+        socket, at which nobody would find the server."""
+        for line in (["serve", "", "--unix", "a.sock"], ["serve", "", "--port", "10809"],
+                     ["chip", "", "--port", "10809"], ["format", "", "--kib", "64"], ["check", ""],
+                     ["check", "", "--mend", "--json"], ["show", ""], ["read", ""],
+                     ["write", "", "--sectors", "0:1"]):
+            self.refused("the image's name is empty", *line, status=2)
+        self.refused("bad size: 65 is no multiple of 64", "format", "", "--kib", "65", status=2)
+        for line in (["serve", "a.img", "--unix", ""], ["serve", "", "--unix", ""]):
+            self.refused(ADDRESS, *line, status=2)
         self.assertEqual(os.listdir(self.room), [])
 
     def test_words_that_are_not_text(self):
@@ -148,28 +165,38 @@ class Lines(kit.Case):
         for line in ("serve m.img --unix m.sock", "check m.img", "check m.img --mend",
                      "check m.img --json", "show m.img", "read m.img", "write m.img",
                      "chip m.img --port %d" % kit.free_port()):
-            self.refused("image failed: m.img: entity not found", *line.split())
-        self.refused("image failed: no/m.img: entity not found", "format", "no/m.img", "--kib",
+            self.refused("image failed: m.img: no such file or directory", *line.split())
+        self.refused("image failed: no/m.img: no such file or directory", "format", "no/m.img", "--kib",
                      "64")
         self.assertEqual([it for it in os.listdir(self.room) if it != "m.sock"], [])
 
     def test_what_is_no_file(self):
-        """A folder is named as what it is, by each command that wants an image."""
+        """A folder, a pipe and a device are named as what they are, by each command that wants an
+        image, and none waits for a pipe's other side."""
         os.mkdir(self.path("d"))
-        for line in ("serve d --unix m.sock", "check d --mend", "write d"):
-            self.refused("image failed: d: is a directory", *line.split())
-        for line in ("show d", "read d", "serve d --unix m.sock --read-only"):
-            done = self.run_norbd(*line.split())
-            self.assertEqual(done.status, 1)
-            self.assertRegex(done.fault, r"^norbd: (image failed|bad image size): d: ")
-        self.refused("image failed: d: not a regular file", "format", "d", "--kib", "64")
+        os.mkfifo(self.path("f"))
+        port = kit.free_port()
+        for name in ("d", "f", "/dev/null", "/dev/zero"):
+            for line in ("serve {} --unix m.sock", "serve {} --unix m.sock --read-only",
+                         "check {}", "check {} --mend", "show {}", "read {}", "write {}",
+                         "format {} --kib 64", "format {} --kib 64 --force",
+                         f"chip {{}} --port {port}"):
+                self.refused(f"image failed: {name}: not a regular file",
+                             *line.format(name).split(), within=20)
+
+    def test_names_that_are_too_long(self):
+        """A name of more than 255 bytes is too long for the system, and told so."""
+        for line in ("check {}", "read {}", "format {} --kib 64"):
+            self.refused(f"image failed: {'n' * 256}: file name too long",
+                         *line.format("n" * 256).split())
 
     def test_files_without_leave(self):
         """A file that one may not open is told as `permission denied`."""
         os.chmod(self.room, 0o755)
         self.format()
         os.chmod(self.path("a.img"), 0)
-        for line in ("serve a.img --port %d" % kit.free_port(), "check a.img", "show a.img",
+        for line in ("serve a.img --port %d" % kit.free_port(), "check a.img", "check a.img --mend",
+                     "show a.img",
                      "read a.img", "write a.img", "format a.img --kib 64 --force"):
             self.refused("image failed: a.img: permission denied", *line.split(),
                          preexec_fn=kit.as_nobody())
@@ -187,8 +214,10 @@ class Lines(kit.Case):
         """Of an image that holds no disk each command says so with its name, and leaves it."""
         unformatted, corrupt, dirty = bytes(65536), kit.formatted(), kit.formatted()
         corrupt[0x2400], dirty[0x4300] = 0x55, 0x55
+        told = ("corrupt: c.img: Journals: the votes of J1 for the erase of J0 at 2400h: 55 at "
+                "2400h; a vote is FF, FE or FC")
         for name, image, fault in (("u.img", unformatted, "not formatted: u.img"),
-                                   ("c.img", corrupt, "corrupt: c.img"),
+                                   ("c.img", corrupt, told),
                                    ("d.img", dirty,
                                     "not clean: d.img: norbd check --mend mends it")):
             self.put(name, image)
@@ -196,7 +225,7 @@ class Lines(kit.Case):
                          "read {}", "write {}"):
                 self.refused(fault, *line.format(name).split())
             self.assertEqual(self.bytes_of(name), image)
-        self.refused("corrupt: c.img", "show", "c.img")
+        self.refused(told, "show", "c.img")
         self.refused("not formatted: u.img", "show", "u.img")
         self.assertFalse(os.path.exists(self.path("a.sock")))
 
@@ -208,10 +237,10 @@ class Lines(kit.Case):
                 self.refused(f"no socket: port {port}: address in use", line, "missing.img",
                              "--port", str(port))
         port = kit.free_port()
-        self.refused(f"no socket: port {port}: address not available", "serve", "missing.img",
-                     "--port", str(port), "--bind", "192.0.2.1")
+        self.refused(f"no socket: 192.0.2.1 port {port}: address not available", "serve",
+                     "missing.img", "--port", str(port), "--bind", "192.0.2.1")
         for bind in ("127.0.0.1", "0.0.0.0", "::"):
-            self.refused("image failed: missing.img: entity not found", "serve", "missing.img",
+            self.refused("image failed: missing.img: no such file or directory", "serve", "missing.img",
                          "--port", str(port), "--bind", bind)
 
     def test_ports_without_leave(self):
@@ -223,14 +252,39 @@ class Lines(kit.Case):
                      "80", preexec_fn=kit.as_nobody())
 
     def test_outputs_that_fail(self):
-        """A line that can't be printed is `output failed`, status 1."""
+        """A line that can't be printed is `output failed`, with the cause, status 1."""
         self.format()
         for line in ("format b.img --kib 64", "check a.img", "check a.img --json", "show a.img",
                      "read a.img", "serve a.img --unix a.sock", "write a.img",
                      "chip a.img --port %d" % kit.free_port()):
             with open("/dev/full", "wb") as full:
                 done = self.run_norbd(*line.split(), data=bytes(35840), stdout=full)
-            self.assertEqual((done.status, done.fault), (1, "norbd: output failed\n"), line)
+            self.assertEqual((done.status, done.fault),
+                             (1, "norbd: output failed: no space left on device\n"), line)
+        for line in ("read a.img", "check a.img", "show a.img", "plain --sectors 70"):
+            ours, theirs = os.pipe()
+            os.close(ours)
+            with open(theirs, "wb") as pipe:
+                done = self.run_norbd(*line.split(), data=b"\x25\x60\x95\x13" + bytes(20) +
+                                      b"\0\0\2\0", stdout=pipe)
+            self.assertEqual((done.status, done.fault), (1, "norbd: output failed: broken pipe\n"),
+                             line)
+
+    def test_a_closed_output(self):
+        """Where standard output is closed, a line that is for what it prints fails; `format` and
+        `write` do their work, and `/dev/null` has their lines."""
+        self.format()
+        request = b"\x25\x60\x95\x13" + bytes(20) + b"\0\0\2\0"
+        for line in ("read a.img", "check a.img", "check a.img --json", "show a.img",
+                     "plain --sectors 70"):
+            done = self.run_norbd(*line.split(), data=request, preexec_fn=lambda: os.close(1))
+            self.assertEqual((done.status, done.fault),
+                             (1, "norbd: output failed: standard output is closed\n"), line)
+        for line in ("write a.img", "format b.img --kib 64"):
+            done = self.run_norbd(*line.split(), data=b"\x5A" * 35840,
+                                  preexec_fn=lambda: os.close(1))
+            self.assertEqual((done.status, done.fault), (0, ""), line)
+        self.assertEqual(self.norbd("read", "a.img"), b"\x5A" * 35840)
 
     def test_closed_descriptors(self):
         """Descriptors 0 to 2 that are closed are /dev/null, and no line gets into an image."""
@@ -243,8 +297,7 @@ class Lines(kit.Case):
                                  preexec_fn=lambda: [os.close(it) for it in closed])
             self.assertTrue(kit.wait_for(lambda: os.path.exists(address)))
             self.assertTrue(kit.wait_for(lambda: self.served(address)))
-            folder = f"/proc/{process.pid}/fd"
-            held = {int(it): os.readlink(f"{folder}/{it}") for it in os.listdir(folder)}
+            held = kit.descriptors_of(process.pid)
             self.assertEqual({held[it] for it in closed}, {"/dev/null"})
             image = [it for it, name in held.items() if name == self.path("a.img")]
             self.assertTrue(image and min(image) > 2, held)
@@ -259,6 +312,7 @@ class Lines(kit.Case):
         except (OSError, kit.nbd.Closed):
             return False
 
+    @kit.not_emulated
     def test_no_thread(self):
         """Where no thread can be started, `serve` says so and ends with status 1."""
         os.chmod(self.room, 0o777)
@@ -282,21 +336,26 @@ class Lines(kit.Case):
     def test_inputs_of_write(self):
         """`write` says what its input failed at: another length, or a read that fails."""
         self.format()
-        self.refused("standard input isn't 35840 bytes", "write", "a.img", data=bytes(512),
-                     out="replacing sectors 0 to 70\n")
+        self.refused("standard input has 512 bytes, sectors 0 to 69 take 35840", "write", "a.img",
+                     data=bytes(512), out="replacing sectors 0 to 69\n")
         with open("/proc/self/mem", "rb") as unreadable:
             self.refused("input failed", "write", "a.img", stdin=unreadable,
-                         out="replacing sectors 0 to 70\n")
+                         out="replacing sectors 0 to 69\n")
 
     def test_ranges(self):
         """A range that is none of this disk's is refused with status 2."""
         self.format()
         before = self.bytes_of("a.img")
-        for text in ("3:3", "4:3", "69:71", "3", "a:4", "0:-1", ":", "0:", ":3", "", "0:1:2",
-                     "0:70x", " 0:1", "-1:3", "4294967296:4294967297", "99999:100000"):
+        rule = "A:B, with A below B, of the disk's sectors"
+        for text, why in (("3:3", rule), ("4:3", rule), ("3", rule), ("a:4", rule), ("0:-1", rule),
+                          (":", rule), ("0:", rule), (":3", rule), ("", rule), ("0:1:2", rule),
+                          ("0:70x", rule), (" 0:1", rule), ("-1:3", rule),
+                          ("69:71", "71 is above 70"), ("0:99999", "99999 is above 70"),
+                          ("4294967296:4294967297", "4294967297 is above 70"),
+                          ("99999:100000", "100000 is above 70")):
             for command in ("read", "write"):
-                self.refused("bad range of sectors: a.img: A:B, with A below B, of the disk's "
-                             "sectors", command, "a.img", f"--sectors={text}", status=2)
+                self.refused(f"bad range of sectors: a.img: {why}", command, "a.img",
+                             f"--sectors={text}", status=2)
         self.assertEqual(self.bytes_of("a.img"), before)
 
 

@@ -1,7 +1,5 @@
 """Requests and replies, by docs/NBD.md and proto.md, over `norbd plain`."""
 import os
-import socket
-import struct
 import subprocess
 import unittest
 
@@ -9,6 +7,7 @@ import kit
 from nbd import EINVAL, ENOSPC, OK, READ, WRITE, DISC, FLUSH, TRIM, WRITE_ZEROES, request, reply
 
 END = int("FFFFFFFFFFFFFE00", 16)  # where the last sector of all offsets would begin
+BEHIND = request(FLUSH, cookie=12)  # what comes behind a close
 ROWS = [  # what a disk of so many sectors is asked, and what it has to answer
     ("nothing", 1, b"", b""),
     ("the bytes of the page's example", 70,
@@ -16,7 +15,7 @@ ROWS = [  # what a disk of so many sectors is asked, and what it has to answer
      bytes.fromhex("67446698 00000000 0102030405060708") + bytes(512)),
     ("READ past the end, FLUSH, DISC, and a FLUSH that isn't answered", 1,
      request(READ, 512, 512, cookie=2) + request(FLUSH, cookie=3) + request(DISC, cookie=4)
-     + request(FLUSH, cookie=5), reply(EINVAL, 2) + reply(OK, 3)),
+     + BEHIND, reply(EINVAL, 2) + reply(OK, 3)),
     ("WRITE past the end, and READ there", 70,
      request(WRITE, 35840, 512, b"\x11" * 512, cookie=6) + request(READ, 35840, 512, cookie=7),
      reply(ENOSPC, 6) + reply(EINVAL, 7)),
@@ -25,7 +24,7 @@ ROWS = [  # what a disk of so many sectors is asked, and what it has to answer
      + request(FLUSH, cookie=10), reply(EINVAL, 8) + reply(OK, 10)),
     ("READ whose end is past 2^64", 70, request(READ, END, 1024, cookie=11), reply(EINVAL, 11)),
     ("a wrong magic, and a FLUSH that isn't answered", 70,
-     bytes(28) + request(FLUSH, cookie=12), b""),
+     bytes(28) + BEHIND, b""),
     ("WRITE of the first sector, and READ of the first two", 70,
      request(WRITE, 0, 512, b"\x11" * 512, cookie=13) + request(READ, 0, 1024, cookie=14),
      reply(OK, 13) + reply(OK, 14, b"\x11" * 512 + bytes(512))),
@@ -65,25 +64,12 @@ class Requests(kit.Case):
                 with self.subTest(name, words=words):
                     self.assertEqual(self.plain(sectors, asked, *words), answered)
 
-    def in_pieces(self, sectors, pieces):
-        """Runs `plain` where each read gets exactly one of the pieces."""
-        ours, theirs = socket.socketpair(socket.AF_UNIX, socket.SOCK_SEQPACKET)
-        with ours, theirs:
-            ours.settimeout(kit.PATIENCE)
-            process = self.start("plain", "--sectors", str(sectors), stdin=theirs)
-            theirs.close()
-            for piece in pieces:
-                if piece:
-                    ours.send(piece)
-            ours.close()
-            done = self.end_of(process)
-        self.assertEqual((done.status, done.fault), (0, ""))
-        return done.out
-
     def test_pieces(self):
-        """How requests are cut into pieces makes no difference: all cut in two, some in bytes."""
+        """How requests are cut into pieces makes no difference: all cut in two, some in bytes. A
+        piece behind a close may find that the program has ended."""
         chance = kit.dice("pieces")
         for name, sectors, asked, answered in ROWS[1:]:
+            closes = len(asked) - len(BEHIND) if asked.endswith(BEHIND) else None
             cuts = {1, 3, 4, 16, 27, 28, 29, 539, 540, 541}
             cuts |= {chance.randrange(600) for _ in range(8)}
             ways = [[asked[:cut], asked[cut:]] for cut in sorted(cuts)]
@@ -93,7 +79,8 @@ class Requests(kit.Case):
                 # a piece is at most as long as what the program reads at once
                 way = [piece[at:at + 4096] for piece in way for at in range(0, len(piece), 4096)]
                 with self.subTest(name, first=len(way[0])):
-                    self.assertEqual(self.in_pieces(sectors, way), answered)
+                    self.assertEqual(self.in_pieces(
+                        way, "plain", "--sectors", str(sectors), closes=closes), answered)
 
     def test_checks(self):
         """Each check of a request comes in its place, and has its error."""
@@ -184,26 +171,18 @@ class Requests(kit.Case):
                                       preexec_fn=kit.limit_files(room))
                 full = room < 544
                 self.assertEqual((done.status, done.fault),
-                                 (1, "norbd: output failed\n") if full else (0, ""))
+                                 (1, "norbd: output failed: file too large\n") if full
+                                 else (0, ""))
                 self.assertEqual(self.bytes_of("out"), answered[:room])
         with open("/dev/full", "wb") as out:
             done = self.run_norbd("plain", "--sectors", "70", data=asked, stdout=out)
-            self.assertEqual((done.status, done.fault), (1, "norbd: output failed\n"))
+            self.assertEqual((done.status, done.fault),
+                             (1, "norbd: output failed: no space left on device\n"))
 
     def test_an_input_that_fails(self):
         """Where a read fails, what came before it is answered, and status 1 follows."""
         for asked, answered in ((b"", b""), (request(READ, 0, 512), reply(OK, 1, bytes(512)))):
-            listener = socket.create_server(("127.0.0.1", 0))
-            ours = socket.create_connection(listener.getsockname())
-            theirs, _ = listener.accept()
-            process = self.start("plain", "--sectors", "70", stdin=theirs)
-            ours.sendall(asked)
-            self.assertEqual(process.stdout.read(len(answered)), answered)
-            ours.setsockopt(socket.SOL_SOCKET, socket.SO_LINGER, struct.pack("ii", 1, 0))
-            for it in (theirs, ours, listener):
-                it.close()  # ours sends a reset, at which the read fails
-            done = self.end_of(process)
-            self.assertEqual((done.status, done.fault, done.out), (1, "norbd: input failed\n", b""))
+            self.input_fails(asked, answered, "plain", "--sectors", "70")
 
 
 if __name__ == "__main__":

@@ -107,14 +107,9 @@ class Scripts(kit.Case):
     def test_bytes_one_by_one(self):
         """The same where each read of the program gets one byte."""
         for name, script, transcript in ROWS[1:]:
-            ours, theirs = socket.socketpair(socket.AF_UNIX, socket.SOCK_SEQPACKET)
-            process = self.start("script", "--kib", "64", stdin=theirs)
-            theirs.close()
-            for byte in script:
-                ours.send(bytes([byte]))
-            ours.close()
-            done = self.end_of(process)
-            self.assertEqual((done.status, done.out, done.fault), (0, transcript, ""), name)
+            with self.subTest(name):
+                pieces = (script[at:at + 1] for at in range(len(script)))
+                self.assertEqual(self.in_pieces(pieces, "script", "--kib", "64"), transcript)
 
     def test_records_come_at_once(self):
         """The end of an event is told before the next event is sent."""
@@ -185,23 +180,13 @@ class Scripts(kit.Case):
                 done = self.run_norbd("script", "--kib", "64", data=OPEN + OPEN, stdout=out,
                                       preexec_fn=kit.limit_files(room))
             self.assertEqual((done.status, done.fault), (0, "") if room == 36 else (
-                1, "norbd: output failed\n"))
+                1, "norbd: output failed: file too large\n"))
             self.assertEqual(self.bytes_of("out"), whole[:room])
 
     def test_inputs_that_fail(self):
         """Where a read fails, what came before it is told, and status 1 follows."""
         for script, transcript in ((b"", b""), (OPEN, GREETED + DONE)):
-            listener = socket.create_server(("127.0.0.1", 0))
-            ours = socket.create_connection(listener.getsockname())
-            theirs, _ = listener.accept()
-            process = self.start("script", "--kib", "64", stdin=theirs)
-            ours.sendall(script)
-            self.assertEqual(process.stdout.read(len(transcript)), transcript)
-            ours.setsockopt(socket.SOL_SOCKET, socket.SO_LINGER, struct.pack("ii", 1, 0))
-            for it in (theirs, ours, listener):
-                it.close()
-            done = self.end_of(process)
-            self.assertEqual((done.status, done.fault), (1, "norbd: input failed\n"))
+            self.input_fails(script, transcript, "script", "--kib", "64")
 
 
 if __name__ == "__main__":

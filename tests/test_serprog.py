@@ -9,54 +9,9 @@ import unittest
 import kit
 import nbd
 import serprog
+from serprog import ACK, NAK, Client, at
 
-ACK, NAK = b"\x06", b"\x15"
 OFFERED = (0x00, 0x01, 0x02, 0x03, 0x04, 0x05, 0x08, 0x10, 0x11, 0x12, 0x13, 0x14, 0x15)
-
-
-class Client:
-    """A client of the protocol."""
-
-    def __init__(self, port):
-        self.socket = socket.create_connection(("127.0.0.1", port), kit.PATIENCE)
-        self.socket.setsockopt(socket.IPPROTO_TCP, socket.TCP_NODELAY, 1)
-
-    def __enter__(self):
-        return self
-
-    def __exit__(self, *_):
-        self.socket.close()
-
-    def ask(self, command, length):
-        """Sends a command, and takes so many bytes."""
-        self.socket.sendall(command)
-        got = b""
-        while len(got) < length:
-            piece = self.socket.recv(length - len(got))
-            if not piece:
-                raise nbd.Closed
-            got += piece
-        return got
-
-    def frame(self, sent, count=0):
-        """A frame of the chip, by O_SPIOP."""
-        command = b"\x13" + len(sent).to_bytes(3, "little") + count.to_bytes(3, "little") + sent
-        answer = self.ask(command, 1 + count)
-        assert answer[:1] == ACK, answer
-        return answer[1:]
-
-    def change(self, sent):
-        """Write enable, a frame that begins a change, and status reads until it has ended."""
-        self.frame(b"\x06")
-        self.frame(sent)
-        for _ in range(100):
-            if not self.frame(b"\x05", 1)[0] & 1:
-                return
-        raise AssertionError("busy without end")
-
-
-def at(code, address):
-    return bytes([code]) + address.to_bytes(3, "big")
 
 
 class ChipCase(kit.Case):
@@ -79,20 +34,10 @@ class Chips(ChipCase):
         image = bytearray(it % 256 for it in range(65536))
         self.put("a.img", image)
         self.chip()
-        for command, answer in (
-                ("00", "06"), ("01", "06 0100"), ("04", "06 FFFF"), ("05", "06 08"), ("06", "15"),
-                ("07", "15"), ("0B", "15"), ("16", "15"), ("FF", "15"), ("10", "1506"),
-                ("1208", "06"), ("1202", "15"), ("120A", "06"), ("1440420F00", "06 40420F00"),
-                ("1400000000", "15"), ("1501", "06"), ("1500", "06"), ("08", "06 000001"),
-                ("11", "06 000001"), ("13 010000 030000 9F", "06 EF4010"),
-                ("13 040000 020000 03 0012FF", "06 FF00"), ("13 000000 000000", "06"),
-                ("13 000000 020000", "06 FFFF")):
-            answer = bytes.fromhex(answer)
-            with self.client() as client:
-                self.assertEqual(client.ask(bytes.fromhex(command), len(answer)), answer, command)
-                self.assertEqual(client.ask(b"\x00", 1), ACK)
-        with self.client() as client:
-            self.assertEqual(client.ask(b"\x03", 17), ACK + b"norbd chip".ljust(16, b"\0"))
+        serprog.check_answers(
+            self, b"norbd chip", ("1501", "06"), ("1500", "06"), ("08", "06 000001"),
+            ("11", "06 000001"), ("13 010000 030000 9F", "06 EF4010"),
+            ("13 040000 020000 03 0012FF", "06 FF00"))
 
     def test_the_map_of_commands(self):
         """Q_CMDMAP offers the commands that are answered, and each other one gets NAK."""

@@ -165,13 +165,17 @@ class Places(kit.Case):
         os.mkdir(self.path("folder"))
         os.symlink("nothing", self.path("link"))
         for name in ("file", "folder", "link"):
-            self.refused(f"no socket: {name}: address in use", "serve", "b.img", "--unix", name)
+            self.refused(f"no socket: {name}: what is there is no socket", "serve", "b.img",
+                         "--unix", name)
         self.assertEqual(self.bytes_of("file"), b"a file")
         self.assertTrue(os.path.isdir(self.path("folder")) and os.path.islink(self.path("link")))
-        self.refused("no socket: no/a.sock: entity not found", "serve", "b.img", "--unix",
+        self.refused("no socket: no/a.sock: no such file or directory", "serve", "b.img", "--unix",
                      "no/a.sock")
-        self.refused(f"no socket: {'x' * 125}: invalid input parameter", "serve", "b.img",
-                     "--unix", "x" * 125)
+        for length in (108, 125):
+            self.refused(f"no socket: {'x' * length}: a socket's path has at most 107 bytes",
+                         "serve", "b.img", "--unix", "x" * length)
+        self.refused("image failed: m.img: no such file or directory", "serve", "m.img", "--unix",
+                     "x" * 107)
 
 
 class Told(kit.Case):
@@ -254,12 +258,12 @@ class Told(kit.Case):
         def ask(server):
             client = server.client()
             for _ in range(2):
-                self.assertEqual(client.do(READ, 0, 131072), EINVAL)
-            self.assertEqual(client.do(WRITE, 0, 70000, bytes(70000)), EINVAL)
+                self.assertEqual(client.do(READ, 0, 2 << 20), EINVAL)
+            self.assertEqual(client.do(WRITE, 0, (1 << 20) + 512, bytes((1 << 20) + 512)), EINVAL)
             client.disc()
         self.assertEqual(self.told(then=ask), [
-            "1: 131072 bytes at once are refused, 65536 are the most: "
-            "serve with --max-request 128"])
+            "1: 2097152 bytes at once are refused, 1048576 are the most: "
+            "serve with --max-request 2048"])
 
     def test_two_connections(self):
         """Connections are counted from 1, and each line names its own."""
@@ -302,15 +306,16 @@ class Refusals(kit.Case):
     def test_every_refusal(self):
         """Each command has its error and leaves the disk, at each limit, read-only or not."""
         end = 35840
-        for words, most, read_only in (([], 65536, False),
-                                       (["--max-request", "128"], 131072, False),
-                                       (["--read-only"], 65536, True)):
+        for words, told, most, read_only in (([], 65536, 1 << 20, False),
+                                             (["--max-request", "64"], 65536, 65536, False),
+                                             (["--max-request", "128"], 131072, 131072, False),
+                                             (["--read-only"], 65536, 1 << 20, True)):
             self.norbd("format", "a.img", "--kib", "64", "--force") if os.path.exists(
                 self.path("a.img")) else self.format()
             before = self.bytes_of("a.img")
             server = self.serve("a.img", *words)
             client = server.client()
-            self.assertEqual(client.blocks, (512, 4096, most))
+            self.assertEqual(client.blocks, (512, 4096, told))
             changes = EPERM if read_only else None
             for kind, at, length, flags, error in (
                     (READ, 0, most + 512, 0, EINVAL), (READ, end, 512, 0, EINVAL),
@@ -327,8 +332,7 @@ class Refusals(kit.Case):
                 with self.subTest(words=words, kind=kind, at=at, length=length, flags=flags):
                     data = bytes(length) if kind == WRITE else b""
                     self.assertEqual(client.do(kind, at, length, data, flags), error)
-            if most > end:
-                self.assertEqual(client.do(WRITE, 0, most, bytes(most)), changes or ENOSPC)
+            self.assertEqual(client.do(WRITE, 0, most, bytes(most)), changes or ENOSPC)
             self.assertEqual(client.read(0, 70), bytes(end))
             self.assertEqual(client.flush(), OK)
             self.assertEqual(self.bytes_of("a.img"), before)
@@ -340,15 +344,19 @@ class Refusals(kit.Case):
             server.kill()
 
     def test_longer_requests(self):
-        """With --max-request a READ and a WRITE of that length are done, on a larger disk."""
-        self.format("b.img", 1024)
-        server = self.serve("b.img", "--max-request", "512", "--sync", "never")
-        client, data = server.client(), kit.dice("long").getrandbits(8 * 524288).to_bytes(
-            524288, "big")
-        self.assertEqual(client.do(WRITE, 1024, 524288, data), OK)
-        self.assertEqual(client.do(READ, 1024, 524288), data)
-        self.assertEqual(client.do(READ, 0, 524288 + 512), EINVAL)
-        self.assertEqual(client.do(READ, 1024, 524288), data)
+        """A READ and a WRITE are done that are longer than what clients are told, up to 1 MiB, and
+        with --max-request up to that length; nothing longer is."""
+        self.format("b.img", 2048)
+        for words, most in (([], 1 << 20), (["--max-request", "512"], 1 << 19)):
+            server = self.serve("b.img", "--sync", "never", *words)
+            client, data = server.client(), kit.dice(f"{most}").getrandbits(8 * most).to_bytes(
+                most, "big")
+            self.assertEqual(client.do(WRITE, 1024, most, data), OK)
+            self.assertEqual(client.do(READ, 1024, most), data)
+            self.assertEqual(client.do(READ, 0, most + 512), EINVAL)
+            self.assertEqual(client.do(WRITE, 0, most + 512, bytes(most + 512)), EINVAL)
+            self.assertEqual(client.do(READ, 1024, most), data)
+            server.kill()
 
     def test_endless_payloads(self):
         """The payload of a refused WRITE of 256 MiB is dropped, and takes no memory."""

@@ -6,8 +6,9 @@ use crate::disks::filled;
 use crate::failure::Failure;
 use crate::requests::{NEGOTIATED, NEGOTIATION, PAYLOAD, REPLY_HEAD, add};
 use block_device::{Disk, FixedIn, Sink};
+use nbd_share::{NoRecord, OneServer, Shared};
+use nbd_worker::{End, worker};
 use norbd_serve::OpenGate;
-use share::{End, NoRecord, OneServer, Shared, worker};
 use std::alloc::Global;
 
 /// What a client sends: the negotiation, and so many commands, end to end on the disk.

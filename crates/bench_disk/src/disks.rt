@@ -4,7 +4,7 @@ ghost use Rattle.std.specs.Prelude.{◌≡◌, length, IfOk, OnErr, [], ◌∷�
 
 use crate::failure::Failure;
 use block_device::{Disk, PlainDisk};
-use fault_model::SimChip;
+use chip_simulator::SimChip;
 use flash_disk::{FlashDisk, format};
 use std::alloc::Global;
 use std::marker::Brand;

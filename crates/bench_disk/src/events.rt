@@ -6,7 +6,7 @@ use crate::disks::filled;
 use crate::failure::Failure;
 use crate::requests::{NEGOTIATION, PAYLOAD, add};
 use block_device::Disk;
-use station::{Event, Station};
+use nbd_station::{Event, Station};
 use std::alloc::Global;
 
 /// A station over a disk, on whose connection 0 requests are awaited.

@@ -7,7 +7,7 @@ use crate::failure::Failure;
 use crate::figures::{nanos, per_call};
 use crate::row::InThousands;
 use block_device::Disk;
-use fault_model::SimChip;
+use chip_simulator::SimChip;
 use flash_disk::{FlashDisk, format};
 use std::alloc::Global;
 use std::fmt;

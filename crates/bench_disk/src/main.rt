@@ -1,19 +1,19 @@
 //! The program `bench_disk`: what the disk on a simulated chip of 16 MiB costs, and the driver and
-//! the map below it; and what READs and WRITEs cost through a station and through `share::worker`,
-//! over that disk and over an array in memory; each in nanoseconds, beside a plain copy of as many
-//! bytes in the same run.
+//! the map below it; and what READs and WRITEs cost through a station and through
+//! `nbd_worker::worker`, over that disk and over an array in memory; each in nanoseconds, beside a
+//! plain copy of as many bytes in the same run.
 //!
 //! With the word `run` it measures all of it and prints a row for each; with `disk`, `old`,
-//! `station` or `server` behind that word only this part. Without words it prints one fixed line
-//! and measures nothing.
+//! `nbd_station` or `server` behind that word only this part. Without words it prints one fixed
+//! line and measures nothing.
 //!
 //! Proved are the arithmetic of the figures, the sectors that each call names, that each request
 //! lies on the disk, and that each timed tidying cleared something. That a time is the time of its
 //! calls is not proved, since no contract says what a clock tells: the figures are measured. Left
-//! to the crates below: the chip (`fault_model`), its driver, the slots and the map of sectors, the
-//! disk and its format (`flash_disk`, `block_device`), the station (`station`) and the connection
-//! (`share`). The disk is mounted as one that isn't sound, so nothing is said of its contents but
-//! their size; what is told is counted and dropped. Source: own.
+//! to the crates below: the chip (`chip_simulator`), its driver, the slots and the map of sectors,
+//! the disk and its format (`flash_disk`, `block_device`), the station (`nbd_station`) and the
+//! connection (`nbd_worker`). The disk is mounted as one that isn't sound, so nothing is said of
+//! its contents but their size; what is told is counted and dropped. Source: own.
 #![tactic(auto)]
 
 mod below;

@@ -10,11 +10,11 @@ use crate::failure::Failure;
 use crate::figures::{nanos, per_call};
 use crate::measure::HEADERS;
 use crate::row::Row;
+use chip_simulator::SimChip;
 use erase_journal::Journal;
-use fault_model::SimChip;
 use journal_slots::SectorSlots;
 use nor_driver::{Driver, Nor};
-use sector_map::{LiveSlots, SectorMap, Stock, mount_in};
+use sector_map::{LiveSlots, SectorMap, Stock, mount_slots};
 use sector_slots::SlotCalls;
 use sector_stock::{BlockState, SlotState};
 use std::alloc::Global;
@@ -175,7 +175,7 @@ fn time_of_tables(
     };
     let mut stock = Stock::new(slots, states, blocks);
     let start = now(clock)?;
-    let made = mount_in(&mut stock, table.as_mut_slice());
+    let made = mount_slots(&mut stock, table.as_mut_slice());
     let end = now(clock)?;
     if made? {
         let driver = stock.into_inner().into_inner().into_inner();

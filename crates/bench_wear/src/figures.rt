@@ -18,11 +18,12 @@ const ERASE: u64 = 45_000;
 #[derive(Clone, Copy)]
 pub struct Figures {
     pub plan: Plan,
-    /// The writes of a sector, those that filled the disk not counted.
+    /// The writes of a sector, those before the run not counted.
     pub writes: u32,
-    /// The erases of all blocks that have slots, and of the most worn of them.
+    /// The erases of all blocks that have slots, of the most worn of them, and of the least worn.
     pub erases: u32,
     pub most: u32,
+    pub least: u32,
     /// The erases of the three journals, and of the most worn of them.
     pub of_journals: u32,
     pub most_of_journals: u32,
@@ -66,22 +67,26 @@ impl fmt::Display for InWhole {
 
 /// What stands above the columns of the table.
 pub const HEADING: &str =
-    "workload  disk   policy  keeper  erases a write  most    mean  most/mean  journal  writes until 100,000 erases  ms a write";
+    "workload  disk    policy  keeper  erases a write  most  least    mean  most/mean  journal  writes until 100,000 erases  ms a write";
 
 impl fmt::Display for Figures {
     fn fmt<W: fmt::Write>(&self, f: &mut fmt::Formatter<W>) -> fmt::Result {
         let workload = workload_name(self.plan.workload);
-        let disk = if self.plan.full { "full" } else { "empty" };
+        let disk = self.plan.start.name();
         let (policy, keeper) = (self.plan.policy.name(), self.plan.keeper.name());
         let blocks = u64::from(self.plan.table.worn_blocks());
         let (writes, erases) = (u64::from(self.writes), u64::from(self.erases));
         let each = InWhole(thousandths(erases, writes));
         let mean = InWhole(thousandths(erases, blocks));
         let ratio = InWhole(thousandths(u64::from(self.most).saturating_mul(blocks), erases));
-        let (most, journal, life) = (self.most, self.most_of_journals, self.life());
+        let (most, least) = (self.most, self.least);
+        let (journal, life) = (self.most_of_journals, self.life());
         let time = InWhole(self.time());
-        write!(f, "{workload:<8}  {disk:<5}  {policy:<6}  {keeper:<6}")?;
-        write!(f, "  {each:>14}  {most:>4}  {mean}   {ratio}  {journal:>7}")?;
+        write!(f, "{workload:<8}  {disk:<6}  {policy:<6}  {keeper:<6}")?;
+        write!(
+            f,
+            "  {each:>14}  {most:>4}  {least:>5}  {mean}   {ratio}  {journal:>7}"
+        )?;
         write!(f, "  {life:>27}    {time}")
     }
 }

@@ -2,13 +2,13 @@
 //! were sent to it.
 //!
 //! With the words `run KIB` it writes sectors of a chip of so many KiB until each block was erased
-//! a hundred times on average, and prints a row for each workload, on an empty and on a full disk,
-//! by each policy, with each keeper. A number behind them is another one than a hundred; `mount M`
-//! behind these mounts the disk anew after each M writes. Without words it prints one fixed line
-//! and measures nothing.
+//! a hundred times on average, and prints a row for each workload, on a disk as it is at each start
+//! (empty, full, ..), by each policy, with each keeper. A number behind them is another one than a
+//! hundred; `mount M` behind these mounts the disk anew after each M writes. Without words it
+//! prints one fixed line and measures nothing.
 //!
 //! Nothing is proved of the figures: they are counted by `test_kit`'s `WornChip`. The chip's time
-//! is a sum of the datasheet's typical times. Left to the crates below: the chip (`fault_model`)
+//! is a sum of the datasheet's typical times. Left to the crates below: the chip (`chip_simulator`)
 //! and the disk (`flash_disk`). The disk is mounted as one that isn't sound, so nothing is said of
 //! its contents. Source: own.
 #![tactic(auto)]
@@ -20,7 +20,7 @@ mod run;
 
 use crate::failure::Failure;
 use crate::figures::HEADING;
-use crate::plan::{Keeper, Plan, Policy, Table};
+use crate::plan::{Keeper, Plan, Policy, Start, Table};
 use crate::run::measured;
 use std::alloc::Global;
 use test_kit::Workload;
@@ -89,14 +89,14 @@ fn print_workload(
     rt: &HostRuntime,
     table: Table,
     workload: Workload,
-    full: bool,
+    start: Start,
 ) -> std::io::Result<()> {
     for policy in Policy::all() {
         for keeper in Keeper::all() {
             let plan = Plan {
                 table,
                 workload,
-                full,
+                start,
                 policy,
                 keeper,
             };
@@ -109,9 +109,9 @@ fn print_workload(
 /// The whole table.
 fn print_table(rt: &HostRuntime, table: Table) -> std::io::Result<()> {
     println!(rt; "{HEADING}")?;
-    for full in [false, true] {
+    for start in Start::all() {
         for workload in Workload::all() {
-            print_workload(rt, table, workload, full)?;
+            print_workload(rt, table, workload, start)?;
         }
     }
     Ok(())

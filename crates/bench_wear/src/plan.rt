@@ -53,6 +53,37 @@ impl Keeper {
     }
 }
 
+/// What the disk holds when the writes begin; what put it there isn't counted as writes.
+#[derive(Clone, Copy, PartialEq, Eq)]
+pub enum Start {
+    /// Nothing.
+    Empty,
+    /// Each sector was written once.
+    Full,
+    /// And four of seven once more, as far as no block had to be copied: blocks with three live and
+    /// four dead slots, which rest.
+    Mixed,
+    /// Each sector is in a live block of its group, as layout 1 left it.
+    Groups,
+}
+
+impl Start {
+    /// Each start, in the order of the table.
+    pub fn all() -> [Start; 4] {
+        [Start::Empty, Start::Full, Start::Mixed, Start::Groups]
+    }
+
+    /// Its name in the table.
+    pub fn name(self) -> &'static str {
+        match self {
+            Start::Empty => "empty",
+            Start::Full => "full",
+            Start::Mixed => "mixed",
+            Start::Groups => "groups",
+        }
+    }
+}
+
 /// The text of a workload in the table.
 pub fn workload_name(workload: Workload) -> &'static str {
     match workload {
@@ -91,8 +122,7 @@ impl Table {
 pub struct Plan {
     pub table: Table,
     pub workload: Workload,
-    /// Whether each sector is written once first, which isn't counted.
-    pub full: bool,
+    pub start: Start,
     pub policy: Policy,
     pub keeper: Keeper,
 }

@@ -2,13 +2,13 @@
 
 use crate::failure::Failure;
 use crate::figures::Figures;
-use crate::plan::{Keeper, Plan, Policy, Table};
+use crate::plan::{Keeper, Plan, Policy, Start, Table};
 use block_device::Disk;
-use fault_model::SimChip;
+use chip_simulator::SimChip;
 use flash_disk::{FlashDisk, format};
 use std::alloc::Global;
 use std::marker::Brand;
-use test_kit::{Dice, Wear, WornChip};
+use test_kit::{Dice, Wear, WornChip, full_of_groups};
 
 /// The disk on a chip whose erases are counted.
 type OnWorn<'w> = FlashDisk<WornChip<'w>, Brand>;
@@ -16,10 +16,17 @@ type OnWorn<'w> = FlashDisk<WornChip<'w>, Brand>;
 /// The most tidyings after a write.
 const TIDYINGS: u32 = 100_000;
 
-/// A formatted chip.
-fn formatted(alloc: Global, table: Table) -> Result<SimChip, Failure> {
+/// The chip at the start of a run.
+fn new_chip(alloc: Global, plan: Plan) -> Result<SimChip, Failure> {
+    let blocks = plan.table.blocks();
+    if plan.start == Start::Groups {
+        let Ok(chip) = SimChip::new(full_of_groups(alloc, blocks.min(4_096) as u16)?) else {
+            return Err(Failure::Refused);
+        };
+        return Ok(chip);
+    }
     let mut bytes = Vec::new(alloc);
-    bytes.resize(4_096 * table.blocks() as usize, 0xFF)?;
+    bytes.resize(4_096 * blocks as usize, 0xFF)?;
     let Ok(chip) = SimChip::new(bytes) else {
         return Err(Failure::Refused);
     };
@@ -54,10 +61,25 @@ fn write_sector<D: Disk>(disk: &mut D, sector: u32) -> Result<(), Failure> {
     Ok(())
 }
 
-/// Writes each sector once.
-fn fill<D: Disk>(disk: &mut D) -> Result<(), Failure> {
-    for sector in 0..disk.sectors() {
-        write_sector(disk, sector)?;
+/// Writes what the disk holds when a run begins.
+fn begin<D: Disk>(disk: &mut D, plan: Plan) -> Result<(), Failure> {
+    let sectors = disk.sectors();
+    if plan.start == Start::Full || plan.start == Start::Mixed {
+        for sector in 0..sectors {
+            write_sector(disk, sector)?;
+        }
+    }
+    if plan.start == Start::Mixed {
+        let spare = plan
+            .table
+            .worn_blocks()
+            .saturating_mul(7)
+            .saturating_sub(sectors);
+        for sector in 0..(spare / 5).saturating_mul(7) {
+            if sector % 7 < 4 {
+                write_sector(disk, sector)?;
+            }
+        }
     }
     Ok(())
 }
@@ -117,11 +139,9 @@ fn wear_out<'w>(
 pub fn measured(alloc: Global, plan: Plan) -> Result<Figures, Failure> {
     let blocks = plan.table.blocks() as usize;
     let wear = Wear::new(alloc, blocks)?;
-    let chip = formatted(alloc, plan.table)?;
+    let chip = new_chip(alloc, plan)?;
     let mut disk = mounted(alloc, WornChip { chip, wear: &wear }, plan)?;
-    if plan.full {
-        fill(&mut disk)?;
-    }
+    begin(&mut disk, plan)?;
     let programs = wear.programs();
     let writes = wear_out(alloc, disk, &wear, plan)?;
     Ok(Figures {
@@ -129,6 +149,7 @@ pub fn measured(alloc: Global, plan: Plan) -> Result<Figures, Failure> {
         writes,
         erases: wear.total(),
         most: wear.most(4, blocks),
+        least: wear.least(4, blocks),
         of_journals: wear.of_journals(),
         most_of_journals: wear.most(1, 4),
         programs: wear.programs().saturating_sub(programs),

@@ -2,3 +2,4 @@ mod Sectors
 mod Sending
 pub mod Streams
 mod Standing
+pub mod Receiving

@@ -2,3 +2,4 @@ pub mod BitLaws
 pub mod MemoryLaws
 pub mod PartLaws
 pub mod FrameLaws
+pub mod ExchangeLaws

@@ -5,3 +5,4 @@ pub mod Chip
 pub mod Frames
 pub mod Cut
 pub mod Geometry
+pub mod Exchanges

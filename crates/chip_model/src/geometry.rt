@@ -1,6 +1,6 @@
 //! The counts of blocks, groups and sectors of a chip.
 
-ghost use Rattle.std.specs.Prelude.{◌≡◌, ◌+◌, ◌≤◌, ◌↔◌, IsSome, IfSome};
+ghost use Rattle.std.specs.Prelude.{◌≡◌, ◌+◌, ◌≤◌, ◌↔◌, IsSome, IfSome, true};
 ghost use Rattle.chip_model.specs.Geometry.{IsChipSize, block_count, group_count, sector_count};
 
 /// The counts of a chip that is laid out as a disk.
@@ -14,9 +14,15 @@ pub struct Geometry {
     pub sectors: u32,
 }
 
+/// Whether a chip has so many bytes: a multiple of 64 KiB from 64 KiB to 16 MiB.
+pub fn is_chip_size(bytes: u64) -> bool
+    ensures { (result ≡ true) ↔ IsChipSize bytes }
+{
+    bytes % 65_536 == 0 && bytes >= 65_536 && bytes <= 16_777_216
+}
+
 impl Geometry {
-    /// The counts for a chip of so many bytes; `None` where that isn't a multiple of 64 KiB from 64
-    /// KiB to 16 MiB.
+    /// The counts for a chip of so many bytes; `None` where no chip has so many (`is_chip_size`).
     ///
     /// Two data blocks at least stay free of groups.
     pub fn of(bytes: u32) -> Option<Geometry>
@@ -26,7 +32,7 @@ impl Geometry {
         ensures sectors { IfSome result (λ g. g.sectors ≡ sector_count bytes) }
         ensures spare { IfSome result (λ g. g.groups + 2 + 4 ≤ g.blocks) }
     {
-        if bytes % 65_536 != 0 || bytes < 65_536 || bytes > 16_777_216 {
+        if !is_chip_size(bytes as u64) {
             return None;
         }
         let blocks = bytes / 4_096;

@@ -4,9 +4,13 @@
 //! instruction table says (`specs/Frames.antt`), one that isn't left what a loss of power inside it
 //! may leave (`specs/Cut.antt`), and three facts are known of a bus: its chip, how often the power
 //! was lost, and how many operations were slow. A bus is quiet where the last doesn't rise.
-//! `Geometry` is the disk that a chip of a size makes. `specs/Memory.antt` and `specs/Parts.antt`
-//! say what writes and erases make of a list of bytes and of its parts of one size; their laws are
-//! in `proofs/`, for every crate above.
+//! `is_chip_size` tells how many bytes a chip may have, and `Geometry` is the disk that one makes.
+//! `specs/Memory.antt` and `specs/Parts.antt` say what writes and erases make of a list of bytes
+//! and of its parts of one size; their laws are in `proofs/`, for every crate above.
+//!
+//! `Programmer` is the contract of a device that exchanges frames with a chip outside of the
+//! program: on Ok one frame more was exchanged, whose bytes it names. Which were exchanged so far
+//! is a list that exists in proofs alone, and that an implementation may leave unknown.
 //!
 //! Left to the crate above: the bytes of the frames, waiting for operations, and which addresses
 //! are used for what.
@@ -19,7 +23,9 @@
 mod bus;
 mod geometry;
 mod laws;
+mod programmer;
 
 pub use bus::{PowerLost, SpiBus};
-pub use geometry::Geometry;
+pub use geometry::{Geometry, is_chip_size};
 pub use laws::quiet_bus_completes_operations;
+pub use programmer::{NoAnswer, Programmer};

@@ -18,3 +18,4 @@ pub mod Ready
 pub mod SettledLaws
 pub mod Knowing
 pub mod Marking
+pub mod Calls

@@ -10,7 +10,7 @@
 //! latched: every call answers it until `restore`, which cycles the power and recovers again. After
 //! a Slow nothing is promised of the data blocks. If `restore` finds corrupt journals, a Slow is
 //! latched. `superblock` reads the superblock's first bytes, and `mark` programs byte 15 of it and
-//! no other. No call allocates.
+//! no other. `read_tally` counts the journals' votes and entries. No call allocates.
 //!
 //! Depends on `Nor` of `nor_driver` (read, program, erase, restart) and on the places of
 //! `nor_layout`. Left to the crate above: what the data blocks and the superblock hold, and when to
@@ -32,8 +32,6 @@ mod recovery;
 mod scan;
 mod superblock;
 mod tally;
-#[cfg(test)]
-mod tests;
 mod unused;
 mod votes;
 
@@ -43,3 +41,6 @@ pub use laws::{
     blocks_have_one_size, erased_chips_are_settled, maintenance_keeps_votes_that_last,
     same_blocks_make_one_list, sound_journals_have_no_fault,
 };
+pub use read::read_tally;
+pub use scan::VoteCounts;
+pub use tally::JournalTally;

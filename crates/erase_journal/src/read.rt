@@ -46,8 +46,10 @@ fn read_entries<N: Nor>(nor: &mut N) -> Result<EntryCounts, NorError>
     })
 }
 
-/// All numbers of the journals.
-pub(crate) fn read_tally<N: Nor>(nor: &mut N) -> Result<JournalTally, NorError>
+/// Counts the votes and entries of the journals. Nothing is changed.
+///
+/// Cut and Slow are those of `Nor::read`.
+pub fn read_tally<N: Nor>(nor: &mut N) -> Result<JournalTally, NorError>
     requires { JOURNALS_END ≤ length (N.state nor.old).memory }
     ensures tally { IfOk result (λ tally. tally ≡ tally_of (N.state nor.old).memory) }
     ensures same { (N.state nor.new).memory ≡ (N.state nor.old).memory }

@@ -8,7 +8,8 @@ ghost use Rattle.erase_journal.specs.Scans.{is_open_in, entry_in};
 
 use nor_layout::{ENTRIES, ENTRIES_LEN, Entry, REGION_LEN, Vote, entry_state, vote_state};
 
-/// How many votes of a region are unused, open, and no vote at all.
+/// How many votes of a region of 1,024 are unused, open, and no vote at all; the others are closed.
+/// Source: own.
 #[derive(Clone, Copy, Debug, PartialEq, Eq, Drop)]
 pub struct VoteCounts {
     pub unused: u16,

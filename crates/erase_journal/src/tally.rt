@@ -11,8 +11,8 @@ use crate::scan::VoteCounts;
 use crate::unused::{Unused, lasts, once_renewed, once_second_spent};
 use nor_layout::JournalId;
 
-/// What is read of the journals: the votes of each for the erase of each other, and the free and
-/// open entries of J0.
+/// What is counted in the journals: the votes of each for the erase of each other, and J0's free
+/// and open entries of 512; the others are used up. Source: own.
 #[derive(Clone, Copy, Debug, PartialEq, Eq, Drop)]
 pub struct JournalTally {
     pub j0_for_1: VoteCounts,
@@ -42,7 +42,7 @@ impl JournalTally {
     }
 
     /// The votes of the next journal for the erase of this one.
-    fn first(&self, journal: JournalId) -> VoteCounts
+    pub fn first(&self, journal: JournalId) -> VoteCounts
         ensures { result ≡ first self.now journal }
     {
         match journal {
@@ -53,7 +53,7 @@ impl JournalTally {
     }
 
     /// The votes of the journal after the next for the erase of this one.
-    fn second(&self, journal: JournalId) -> VoteCounts
+    pub fn second(&self, journal: JournalId) -> VoteCounts
         ensures { result ≡ second self.now journal }
     {
         match journal {

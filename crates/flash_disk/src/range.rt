@@ -9,11 +9,9 @@ ghost use Rattle.sector_slots.specs.Slots.{IsClean};
 ghost use Rattle.block_device.specs.Contents.{bytes_at, replaced, Outcome};
 ghost use Rattle.flash_disk.specs.Contents.{contents_of};
 
+use block_device::SECTOR_LEN;
 use nor_driver::{Nor, NorError};
 use sector_map::SectorMap;
-
-/// The bytes of a sector.
-const SECTOR_LEN: usize = 512;
 
 /// Writes whole sectors from the sector `first` on, upwards.
 #[tactic(auto, using(crate::proofs::Calls::calls_since))]

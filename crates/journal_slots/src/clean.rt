@@ -10,18 +10,13 @@ ghost use Rattle.sector_slots.specs.Slots.{data_blocks, data_block, descriptor_i
 ghost use Rattle.sector_slots.specs.Slots.{content_bytes, blank_sector};
 ghost use Rattle.journal_slots.specs.Clean.{IsCleanBlock, AreCleanBlocks};
 
-use crate::head::{BlockHead, HEAD_LEN, head_of};
-use crate::slot::SECTOR_LEN;
-use crate::store::FIRST_DATA_BLOCK;
+use crate::head::{BlockHead, head_of};
 use erase_journal::Journal;
 use nor_driver::{Nor, NorError};
-use nor_layout::{Header, Kind};
-
-/// The bytes of a block.
-const BLOCK_LEN: usize = 4096;
+use nor_layout::{BLOCK_LEN, FIRST_DATA_BLOCK, HEAD_LEN, Header, SLOT_LEN};
 
 /// Whether what reads as free in each data block is erased. One that isn't ends the reading.
-#[tactic(auto, using(crate::proofs::Calls::repeated_calls))]
+#[tactic(auto, using(erase_journal::proofs::Calls::repeated_calls))]
 pub(crate) fn read_clean<N: Nor>(journal: &mut Journal<N>, blocks: u16) -> Result<bool, NorError>
     requires count { blocks ≡ data_blocks journal.old.memory }
     requires sized { IsChipSize (length journal.old.memory) }
@@ -50,7 +45,7 @@ fn read_clean_block<N: Nor>(journal: &mut Journal<N>, block: u16) -> Result<bool
     ensures same { journal.new.memory ≡ journal.old.memory }
     ensures ends { EndsSettled result journal.old journal.new }
 {
-    let mut bytes = [0; BLOCK_LEN];
+    let mut bytes = [0; BLOCK_LEN as usize];
     journal.read(block + FIRST_DATA_BLOCK, 0, &mut bytes)?;
     Ok(is_clean_block(&bytes))
 }
@@ -65,7 +60,7 @@ fn is_clean_block(bytes: &[u8]) -> bool
     if !are_places_clean(bytes, &head.places) {
         return false;
     }
-    if is_plain(head.kind) && all_free(&head.places) {
+    if head.kind.is_plain() && all_free(&head.places) {
         is_erased(bytes)
     } else {
         true
@@ -125,8 +120,8 @@ fn is_sector_erased(bytes: &[u8], place: usize) -> bool
     ensures erased { IsTrue result → content_bytes bytes.now place ≡ blank_sector }
     ensures not_erased { IsFalse result → content_bytes bytes.now place ≡ blank_sector → ⊥ }
 {
-    let at = SECTOR_LEN * (place + 1);
-    is_erased(&bytes[at..at + SECTOR_LEN])
+    let at = SLOT_LEN * (place + 1);
+    is_erased(&bytes[at..at + SLOT_LEN])
 }
 
 /// Whether all of a block's slots are free.
@@ -145,22 +140,6 @@ fn all_free(places: &[Header]) -> bool
         }
     }
     true
-}
-
-fn is_plain(kind: Kind) -> bool
-    ensures plain { IsTrue result → kind ≡ Kind.Plain }
-    ensures not_plain { IsFalse result → kind ≡ Kind.Plain → ⊥ }
-{
-    match kind {
-        Kind::Plain => true,
-        Kind::Void => false,
-        Kind::Committed(_) => false,
-        Kind::Settled => false,
-        Kind::Group(_) => false,
-        Kind::DeadGroup => false,
-        Kind::SpoiltGroup => false,
-        Kind::Unknown => false,
-    }
 }
 
 /// Whether each of these bytes is FFh.

@@ -10,13 +10,11 @@ ghost use Rattle.erase_journal.specs.Steps.{EndsSettled};
 ghost use Rattle.sector_slots.specs.Slots.{data_blocks, data_block, descriptor_in, kind_at};
 ghost use Rattle.sector_slots.specs.Slots.{read_header, header_in};
 
-use crate::store::FIRST_DATA_BLOCK;
 use erase_journal::Journal;
 use nor_driver::{Nor, NorError};
-use nor_layout::{Header, Kind, Tag, block_kind, block_state};
-
-/// The bytes of a head: eight of the mark, and seven descriptors from byte 16 on.
-pub(crate) const HEAD_LEN: usize = 44;
+use nor_layout::{
+    DESCRIPTORS_PLACE, FIRST_DATA_BLOCK, HEAD_LEN, Header, Kind, Tag, block_kind, block_state,
+};
 
 /// What a block says of itself.
 #[derive(Drop)]
@@ -31,7 +29,7 @@ fn place_state(head: &[u8; HEAD_LEN], place: usize) -> Header
     requires { place < 7 }
     ensures { result ≡ header_of (drop (16 + 4 * place) head.now) }
 {
-    let from = 16 + 4 * place;
+    let from = DESCRIPTORS_PLACE + 4 * place;
     block_state([head[from], head[from + 1], head[from + 2], head[from + 3]])
 }
 

@@ -13,10 +13,9 @@ ghost use Rattle.erase_journal.specs.Steps.{EraseInterrupted, EndsSettled};
 ghost use Rattle.sector_slots.specs.Slots.{data_blocks, data_block, kind_at};
 ghost use Rattle.sector_slots.specs.Steps.{OnlyMark, IsBegun};
 
-use crate::store::FIRST_DATA_BLOCK;
 use erase_journal::Journal;
 use nor_driver::{Nor, NorError};
-use nor_layout::{COMMITTED, Kind, MARK_LEN, RETIRED, SETTLED, block_kind};
+use nor_layout::{COMMITTED, FIRST_DATA_BLOCK, Kind, MARK_LEN, RETIRED, SETTLED, block_kind};
 
 /// What the first eight bytes of a block say of it.
 pub(crate) fn read_kind<N: Nor>(journal: &mut Journal<N>, block: u16) -> Result<Kind, NorError>

@@ -11,11 +11,10 @@ ghost use Rattle.sector_slots.specs.Slots.{content_bytes, raw_slot, stored_at, s
 ghost use Rattle.sector_slots.specs.Steps.{IsBegun};
 
 use crate::head::read_head;
-use crate::slot::{PLACES, content_place};
-use crate::store::FIRST_DATA_BLOCK;
+use crate::slot::content_place;
 use erase_journal::Journal;
 use nor_driver::{Nor, NorError};
-use nor_layout::{COMMITTED, Header, Kind, MARK_LEN, Tag, block_kind};
+use nor_layout::{COMMITTED, FIRST_DATA_BLOCK, Header, Kind, MARK_LEN, SLOTS, Tag, block_kind};
 
 /// What is said of a place: by its descriptor, or in a block of a group by its header.
 pub(crate) fn read_header<N: Nor>(
@@ -94,7 +93,7 @@ pub(crate) fn free_at<N: Nor>(journal: &mut Journal<N>, slot: u16) -> Result<boo
     ensures same { journal.new.memory ≡ journal.old.memory }
     ensures ends { EndsSettled result journal.old journal.new }
 {
-    match read_header(journal, slot / PLACES, slot % PLACES)? {
+    match read_header(journal, slot / SLOTS, slot % SLOTS)? {
         Header::Free => Ok(true),
         Header::Live(_) => Ok(false),
         Header::NoGeneration => Ok(false),
@@ -116,7 +115,7 @@ pub(crate) fn content_at<N: Nor>(
     ensures same { journal.new.memory ≡ journal.old.memory }
     ensures ends { EndsSettled result journal.old journal.new }
 {
-    read_content(journal, slot / PLACES, slot % PLACES, into)?;
+    read_content(journal, slot / SLOTS, slot % SLOTS, into)?;
     Ok(())
 }
 

@@ -17,26 +17,19 @@ ghost use Rattle.journal_slots.specs.Programs.{InPlace, OnlyBytes, WriteLeaves};
 
 use crate::mark::read_kind;
 use crate::read::{read_slot, read_source};
-use crate::store::FIRST_DATA_BLOCK;
 use erase_journal::Journal;
 use nor_driver::{Nor, NorError};
-use nor_layout::{COMMITTED, Generation, Header, Kind, RETIRED, Tag, begun_header, live_header};
-
-/// The bytes of a sector.
-pub const SECTOR_LEN: usize = 512;
-
-/// The bytes of a page, which are programmed at once.
-pub(crate) const PAGE_LEN: usize = 256;
-
-/// The slots of a data block.
-pub(crate) const PLACES: u16 = 7;
+use nor_layout::{
+    COMMITTED, DESCRIPTORS_PLACE, FIRST_DATA_BLOCK, Generation, Kind, PAGE_LEN, RETIRED, SLOT_LEN,
+    Tag, begun_header, live_header,
+};
 
 /// Where the descriptor of the slot at this place lies in its block, in bytes.
 pub(crate) fn descriptor_place(place: u16) -> u32
     requires { place < 7 }
     ensures { result ≡ 16 + 4 * place }
 {
-    16 + 4 * place as u32
+    DESCRIPTORS_PLACE as u32 + 4 * place as u32
 }
 
 /// Where its sector begins.
@@ -44,7 +37,7 @@ pub(crate) fn content_place(place: u16) -> u32
     requires { place < 7 }
     ensures { result ≡ 512 * (place + 1) }
 {
-    512 * (place as u32 + 1)
+    SLOT_LEN as u32 * (place as u32 + 1)
 }
 
 /// Programs bytes of one page of a data block.
@@ -98,7 +91,7 @@ fn write_content<N: Nor>(
 {
     let at = content_place(place);
     program_bytes(journal, block, at, &content[..PAGE_LEN])?;
-    program_bytes(journal, block, at + 256, &content[PAGE_LEN..])?;
+    program_bytes(journal, block, at + PAGE_LEN as u32, &content[PAGE_LEN..])?;
     Ok(())
 }
 
@@ -138,7 +131,7 @@ fn fill<N: Nor>(
 }
 
 /// Writes a sector into a place that is free: its descriptor, two pages, and last the commit.
-pub(crate) fn put_in<N: Nor>(
+pub(crate) fn write_slot<N: Nor>(
     journal: &mut Journal<N>,
     block: u16,
     place: u16,
@@ -173,7 +166,7 @@ pub(crate) fn put_in<N: Nor>(
 }
 
 /// Writes a live slot into a place that is free: two pages, and then its whole descriptor.
-pub(crate) fn copy_in<N: Nor>(
+pub(crate) fn write_live_slot<N: Nor>(
     journal: &mut Journal<N>,
     block: u16,
     place: u16,
@@ -205,7 +198,7 @@ pub(crate) fn copy_in<N: Nor>(
 }
 
 /// Makes a live slot dead, in a block of slots.
-pub(crate) fn retire_in<N: Nor>(
+pub(crate) fn retire_slot<N: Nor>(
     journal: &mut Journal<N>,
     block: u16,
     place: u16,
@@ -239,17 +232,11 @@ fn copied_tag(kind: Kind, tag: Tag) -> Tag
     ensures { result ≡ copied_tag kind tag }
 {
     match kind {
-        Kind::Plain => tag,
-        Kind::Void => tag,
-        Kind::Committed(_) => tag,
-        Kind::Settled => tag,
         Kind::Group(_) => Tag {
             number: tag.number,
             generation: Generation::Zero,
         },
-        Kind::DeadGroup => tag,
-        Kind::SpoiltGroup => tag,
-        Kind::Unknown => tag,
+        _ => tag,
     }
 }
 
@@ -277,11 +264,11 @@ fn copy_from<N: Nor>(
         → IsHealthy journal.new.memory }
     ensures ends { EndsSettled result journal.old journal.new }
 {
-    let mut content = [0; SECTOR_LEN];
+    let mut content = [0; SLOT_LEN];
     let kind = read_kind(journal, source)?;
     match read_slot(journal, source, place, &mut content)? {
         Some(tag) => {
-            copy_in(journal, target, place, copied_tag(kind, tag), &content)?;
+            write_live_slot(journal, target, place, copied_tag(kind, tag), &content)?;
             Ok(())
         }
         None => Ok(()),
@@ -289,7 +276,7 @@ fn copy_from<N: Nor>(
 }
 
 /// Copies the slot at this place of the block that a void block names.
-pub(crate) fn copy_at<N: Nor>(
+pub(crate) fn copy_slot<N: Nor>(
     journal: &mut Journal<N>,
     target: u16,
     place: u16,

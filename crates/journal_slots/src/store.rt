@@ -12,15 +12,12 @@ use crate::clean::read_clean;
 use crate::head::read_head;
 use crate::mark::{commit_mark, erase_data, program_mark, read_kind, retire_header, settle_mark};
 use crate::read::{content_at, free_at, read_header, read_slot};
-use crate::slot::{PLACES, copy_at, put_in, retire_in};
+use crate::slot::{copy_slot, retire_slot, write_slot};
 use erase_journal::{Journal, RecoverError};
 use nor_driver::{Nor, NorError};
-use nor_layout::{Header, Kind, Tag, begun_mark};
+use nor_layout::{FIRST_DATA_BLOCK, Header, Kind, SLOTS, Tag, begun_mark};
 use sector_slots::SlotCalls;
 use std::marker::Model;
-
-/// The chip's number of data block 0.
-pub(crate) const FIRST_DATA_BLOCK: u16 = 4;
 
 /// The data blocks behind the journals, as seven slots each.
 ///
@@ -70,7 +67,7 @@ impl<N: Nor> SectorSlots<N> {
         ensures count { result ≡ slot_count self.now.memory }
         ensures sized { IsChipSize (length self.now.memory) }
     {
-        PLACES * self.blocks
+        SLOTS * self.blocks
     }
 
     /// What the descriptor of a slot says, whether its block counts or not.
@@ -80,7 +77,7 @@ impl<N: Nor> SectorSlots<N> {
         ensures same { self.new.memory ≡ self.old.memory }
         ensures ends { EndsSettled result self.old self.new }
     {
-        read_header(&mut self.journal, slot / PLACES, slot % PLACES)
+        read_header(&mut self.journal, slot / SLOTS, slot % SLOTS)
     }
 
     /// Whether what reads as free is erased: it reads each data block whole, until one isn't. It is
@@ -111,7 +108,7 @@ impl<N: Nor> SlotCalls for SectorSlots<N> {
     }
 
     fn get(&mut self, slot: u16, into: &mut [u8]) -> Result<Option<Tag>, NorError> {
-        read_slot(&mut self.journal, slot / PLACES, slot % PLACES, into)
+        read_slot(&mut self.journal, slot / SLOTS, slot % SLOTS, into)
     }
 
     fn content(&mut self, slot: u16, into: &mut [u8]) -> Result<(), NorError> {
@@ -119,18 +116,12 @@ impl<N: Nor> SlotCalls for SectorSlots<N> {
     }
 
     fn put(&mut self, slot: u16, tag: Tag, content: &[u8]) -> Result<(), NorError> {
-        put_in(
-            &mut self.journal,
-            slot / PLACES,
-            slot % PLACES,
-            tag,
-            content,
-        )?;
+        write_slot(&mut self.journal, slot / SLOTS, slot % SLOTS, tag, content)?;
         Ok(())
     }
 
     fn retire(&mut self, slot: u16) -> Result<(), NorError> {
-        retire_in(&mut self.journal, slot / PLACES, slot % PLACES)?;
+        retire_slot(&mut self.journal, slot / SLOTS, slot % SLOTS)?;
         Ok(())
     }
 
@@ -154,7 +145,7 @@ impl<N: Nor> SlotCalls for SectorSlots<N> {
     }
 
     fn copy(&mut self, target: u16, place: u16) -> Result<(), NorError> {
-        copy_at(&mut self.journal, target, place)
+        copy_slot(&mut self.journal, target, place)
     }
 
     fn commit(&mut self, target: u16) -> Result<(), NorError> {

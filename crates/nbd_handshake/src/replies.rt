@@ -9,7 +9,7 @@ use nbd_wire::{
     EXPORT_NAME, EXPORT_NAME_ANSWER_LEN, EXPORT_NAME_ZEROES_LEN, Export, INFO_BLOCK_SIZE,
     INFO_BLOCK_SIZE_LEN, INFO_EXPORT, INFO_EXPORT_LEN, MINIMUM_BLOCK_LEN, OptionCase,
     PREFERRED_BLOCK_LEN, REP_ACK, REP_ERR_INVALID, REP_ERR_TOO_BIG, REP_ERR_UNKNOWN, REP_ERR_UNSUP,
-    REP_INFO, REP_SERVER, SECTOR_LEN, TransmissionFlags, put, write_option_reply,
+    REP_INFO, REP_SERVER, TransmissionFlags, put, write_option_reply,
 };
 
 /// The length of the longest reply in bytes: that to EXPORT_NAME, with its zeroes.
@@ -47,7 +47,7 @@ pub(crate) fn write_case(
         }
         OptionCase::Described => {
             let end = write_option_reply(reply, 0, option, REP_INFO, &export_content(export));
-            let sizes = block_size_content(export.max_len);
+            let sizes = block_size_content(export.told_len);
             let end = write_option_reply(reply, end, option, REP_INFO, &sizes);
             write_option_reply(reply, end, option, REP_ACK, &[])
         }
@@ -65,7 +65,7 @@ fn size_bytes(export: Export) -> [u8; EXPORT_NAME_ANSWER_LEN]
     let mut bytes = [0; EXPORT_NAME_ANSWER_LEN];
     BigEndian::write_u64(
         &mut bytes,
-        u64::from(SECTOR_LEN) * u64::from(export.sectors),
+        u64::from(MINIMUM_BLOCK_LEN) * u64::from(export.sectors),
     );
     BigEndian::write_u16(
         &mut bytes[8..],
@@ -96,13 +96,13 @@ fn export_content(export: Export) -> [u8; INFO_EXPORT_LEN]
 
 /// The content of INFO_BLOCK_SIZE: its type, the smallest, the preferred and the largest length of
 /// a command in bytes.
-fn block_size_content(max_len: u32) -> [u8; INFO_BLOCK_SIZE_LEN]
-    ensures { result ≡ block_size_content max_len }
+fn block_size_content(told_len: u32) -> [u8; INFO_BLOCK_SIZE_LEN]
+    ensures { result ≡ block_size_content told_len }
 {
     let mut content = [0; INFO_BLOCK_SIZE_LEN];
     BigEndian::write_u16(&mut content, INFO_BLOCK_SIZE);
     BigEndian::write_u32(&mut content[2..], MINIMUM_BLOCK_LEN);
     BigEndian::write_u32(&mut content[6..], PREFERRED_BLOCK_LEN);
-    BigEndian::write_u32(&mut content[10..], max_len);
+    BigEndian::write_u32(&mut content[10..], told_len);
     content
 }

@@ -10,8 +10,8 @@ use Rattle.nbd_wire.proofs.CommandLaws.{accepted_short, write_lends_data}
 use Rattle.nbd_wire.specs.Units.{payload_len, after_request}
 use Rattle.nbd_wire.specs.declared.next.Next.{Next}
 use Rattle.nbd_wire.specs.declared.next.Next.TheVariants.{More, Close}
-use Rattle.nbd_wire.specs.declared.reply.Reply.{Reply as ReplyHead}
-use Rattle.nbd_transmission.specs.Taking.{verdict, answer_of, phase_of, IsAcceptedRequest, is_accepted_write}
+use Rattle.nbd_transmission.specs.declared.transmission.Refusal.{Refusal}
+use Rattle.nbd_transmission.specs.Taking.{verdict, answer_of, phase_of, IsJudged, is_accepted_write}
 
 -- the answer closes exactly where the unit does
 after_by : (c : Command) (b : Bool) (v : Option ℕ) → cond b Closed Transmitting ≡ phase_of (cond b Close (verdict c v))
@@ -34,14 +34,14 @@ answer_is_no_more export None e = cc
 answer_is_no_more export (Some r) e = not_more_by (command_in r) (is_disconnect (command_kind r.kind)) (judge_of (command_in r) export) e
 
 -- a command that runs is an accepted one
-accepted_by : (export : Export) (c : Command) (b : Bool) (v : Option ℕ) → is_disconnect c.kind ≡ b → judge_of c export ≡ v → IsAcceptedRequest export (cond b Close (verdict c v))
+accepted_by : (export : Export) (c : Command) (b : Bool) (v : Option ℕ) → is_disconnect c.kind ≡ b → judge_of c export ≡ v → IsJudged export (cond b Close (verdict c v))
 accepted_by export c true v kind judged = tt
 accepted_by export c false None kind judged = (judged, kind)
-accepted_by export c false (Some e) kind judged = tt
+accepted_by export c false (Some e) kind judged = judged
 
-pub answer_is_accepted : (export : Export) (r : Option Request) (next : Next ReplyHead) → next ≡ answer_of export r → IsAcceptedRequest export next
+pub answer_is_accepted : (export : Export) (r : Option Request) (next : Next Refusal) → next ≡ answer_of export r → IsJudged export next
 answer_is_accepted export r next e = rw e (of r) where
-  of : (r : Option Request) → IsAcceptedRequest export (answer_of export r)
+  of : (r : Option Request) → IsJudged export (answer_of export r)
   of None = tt
   of (Some r) = accepted_by export (command_in r) (is_disconnect (command_kind r.kind)) (judge_of (command_in r) export) refl refl
 

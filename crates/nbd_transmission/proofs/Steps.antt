@@ -14,7 +14,7 @@ use Rattle.nbd_wire.proofs.UnitLaws.{partial_is_short, Splits_more, Splits_unit}
 use Rattle.nbd_wire.proofs.StandingLaws.{holds_the_rest, stands_waiting, stands_completed}
 use Rattle.nbd_wire.specs.declared.next.Next.{Next}
 use Rattle.nbd_wire.specs.declared.next.Next.TheVariants.{More, Reply, Run, Close}
-use Rattle.nbd_wire.specs.declared.reply.Reply.{Reply as ReplyHead}
+use Rattle.nbd_transmission.specs.declared.transmission.Refusal.{Refusal}
 use Rattle.nbd_transmission.specs.Taking.{answer_to, is_accepted_write, payload_of, phase_of}
 use Rattle.nbd_transmission.specs.Parser.{TransmissionAnswersUnit, TransmissionAdvances, TransmissionOneMore, TransmissionNextOrMore, TransmissionAnswers}
 use Rattle.nbd_transmission.proofs.Answered.{after_is_phase_of, answer_is_no_more, accepted_is_short}
@@ -102,7 +102,7 @@ pub waits : (old new : ParserState) (rest : List ℕ) → old.phase ≡ Transmit
 waits old new rest is_open same short keeps =
     record { partial = rw is_open (short_is_partial Transmitting rest short); phase = same; keeps = keeps }
 
-pub completes : (old new : ParserState) (rest : List ℕ) (next : Next ReplyHead) → old.phase ≡ Transmitting → next ≡ answer_to old.export rest → IsUnit Transmitting rest → new.phase ≡ phase_of next → HoldsRest 28 new [] → TransmissionAdvances old rest next new
+pub completes : (old new : ParserState) (rest : List ℕ) (next : Next Refusal) → old.phase ≡ Transmitting → next ≡ answer_to old.export rest → IsUnit Transmitting rest → new.phase ≡ phase_of next → HoldsRest 28 new [] → TransmissionAdvances old rest next new
 completes old new rest next is_open answer is_unit phase keeps =
     by_next next (λ e. answer_is_no_more old.export (request_at rest) (sym answer ∙ e)) (whole, answer)
   where
@@ -113,31 +113,31 @@ completes old new rest next is_open answer is_unit phase keeps =
       keeps = keeps;
     }
 
-    by_next : (next : Next ReplyHead) → (next ≡ More → ⊥) → TransmissionAnswersUnit old rest next new → TransmissionAdvances old rest next new
+    by_next : (next : Next Refusal) → (next ≡ More → ⊥) → TransmissionAnswersUnit old rest next new → TransmissionAdvances old rest next new
     by_next More h done = absurd (h refl)
     by_next (Run c) h done = done
-    by_next (Reply head) h done = done
+    by_next (Reply refusal) h done = done
     by_next Close h done = done
 
 -- no more bytes have come than the head asks for
-comes_short : (old new : ParserState) (rest : List ℕ) (next : Next ReplyHead) → old.phase ≡ Transmitting → TransmissionAdvances old rest next new → 28 ≤ length rest → length rest ≤ 28 + payload_len (request_at rest)
+comes_short : (old new : ParserState) (rest : List ℕ) (next : Next Refusal) → old.phase ≡ Transmitting → TransmissionAdvances old rest next new → 28 ≤ length rest → length rest ≤ 28 + payload_len (request_at rest)
 comes_short old new rest next is_open a long = by_next next a where
-  unit : (next : Next ReplyHead) → TransmissionAnswersUnit old rest next new → length rest ≤ 28 + payload_len (request_at rest)
+  unit : (next : Next Refusal) → TransmissionAnswersUnit old rest next new → length rest ≤ 28 + payload_len (request_at rest)
   unit next done =
       let u : IsUnit Transmitting rest = rw is_open at done.0.is_unit in
       omega (arith, u.whole)
 
-  by_next : (next : Next ReplyHead) → TransmissionAdvances old rest next new → length rest ≤ 28 + payload_len (request_at rest)
+  by_next : (next : Next Refusal) → TransmissionAdvances old rest next new → length rest ≤ 28 + payload_len (request_at rest)
   by_next More w =
       let partial : IsPartial Transmitting rest = rw is_open at w.partial in
       let short = partial_is_short Transmitting rest tt partial long in
       omega (arith, short)
   by_next (Run c) done = unit (Run c) done
-  by_next (Reply head) done = unit (Reply head) done
+  by_next (Reply refusal) done = unit (Reply refusal) done
   by_next Close done = unit Close done
 
 -- so an accepted payload fits
-pub payload_fits : (old new : ParserState) (rest : List ℕ) (next : Next ReplyHead) → old.phase ≡ Transmitting → TransmissionAdvances old rest next new → length (payload_of old.export rest) ≤ old.export.max_len
+pub payload_fits : (old new : ParserState) (rest : List ℕ) (next : Next Refusal) → old.phase ≡ Transmitting → TransmissionAdvances old rest next new → length (payload_of old.export rest) ≤ old.export.max_len
 payload_fits old new rest next is_open a =
     elim (cases_lt (length rest) 28) [
       | inl lt ↦
@@ -154,7 +154,7 @@ payload_fits old new rest next is_open a =
 
 -- ---- from the unit begun to the whole text
 
-abbrev Stepping : ParserState → ParserState → List ℕ → Next ReplyHead → Type 0
+abbrev Stepping : ParserState → ParserState → List ℕ → Next Refusal → Type 0
 Stepping old new used next = (rest : List ℕ) → HoldsRest 28 old rest → TransmissionAdvances old (rest ++ used) next new
 
 not_closed : (p : Phase) → p ≡ Transmitting → p ≡ Closed → ⊥
@@ -162,30 +162,30 @@ not_closed p e shut = absurd_of (sym e ∙ shut) where
   absurd_of : Transmitting ≡ Closed → ⊥
   absurd_of e = cc
 
-pub answers_from_step : (start : Phase) (old new : ParserState) (text used : List ℕ) (next : Next ReplyHead) → old.phase ≡ Transmitting → ParserRepresents 28 start old text → Stepping old new used next → TransmissionAnswers start old.export text (text ++ used) next
+pub answers_from_step : (start : Phase) (old new : ParserState) (text used : List ℕ) (next : Next Refusal) → old.phase ≡ Transmitting → ParserRepresents 28 start old text → Stepping old new used next → TransmissionAnswers start old.export text (text ++ used) next
 answers_from_step start old new text used next is_open s step units rest split =
     let mine : Splits start text units rest old.phase = rw is_open split in
     by_next next (step rest (holds_the_rest 28 start old text units rest (not_closed old.phase is_open) s mine))
   where
-    one_more : (next : Next ReplyHead) → TransmissionAnswersUnit old (rest ++ used) next new → TransmissionOneMore start old.export (text ++ used) next units
+    one_more : (next : Next Refusal) → TransmissionAnswersUnit old (rest ++ used) next new → TransmissionOneMore start old.export (text ++ used) next units
     one_more next done = record {
       unit = rest ++ used;
       split = Splits_unit start text used units rest Transmitting split (rw is_open at done.0.is_unit);
       answer = done.1;
     }
 
-    by_next : (next : Next ReplyHead) → TransmissionAdvances old (rest ++ used) next new → TransmissionNextOrMore start old.export (text ++ used) next units
+    by_next : (next : Next Refusal) → TransmissionAdvances old (rest ++ used) next new → TransmissionNextOrMore start old.export (text ++ used) next units
     by_next More w = (rest ++ used, Splits_more start text used units rest Transmitting split (rw is_open at w.partial))
     by_next (Run c) done = one_more (Run c) done
-    by_next (Reply head) done = one_more (Reply head) done
+    by_next (Reply refusal) done = one_more (Reply refusal) done
     by_next Close done = one_more Close done
 
-pub stands_from_step : (start : Phase) (old new : ParserState) (text used : List ℕ) (next : Next ReplyHead) → old.phase ≡ Transmitting → ParserRepresents 28 start old text → Stepping old new used next → ParserRepresents 28 start new (text ++ used)
+pub stands_from_step : (start : Phase) (old new : ParserState) (text used : List ℕ) (next : Next Refusal) → old.phase ≡ Transmitting → ParserRepresents 28 start old text → Stepping old new used next → ParserRepresents 28 start new (text ++ used)
 stands_from_step start old new text used next is_open s step =
     by_next next (step s.rest (s.keeps (not_closed old.phase is_open)))
   where
-    by_next : (next : Next ReplyHead) → TransmissionAdvances old (s.rest ++ used) next new → ParserRepresents 28 start new (text ++ used)
+    by_next : (next : Next Refusal) → TransmissionAdvances old (s.rest ++ used) next new → ParserRepresents 28 start new (text ++ used)
     by_next More w = stands_waiting 28 start old new text used s w
     by_next (Run c) done = stands_completed 28 start old new text used s done.0
-    by_next (Reply head) done = stands_completed 28 start old new text used s done.0
+    by_next (Reply refusal) done = stands_completed 28 start old new text used s done.0
     by_next Close done = stands_completed 28 start old new text used s done.0

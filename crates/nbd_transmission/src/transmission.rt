@@ -12,15 +12,22 @@ ghost use Rattle.nbd_wire.specs.declared.phase.Phase.{Phase};
 ghost use Rattle.nbd_wire.specs.declared.phase.Phase.TheVariants.{Transmitting, Closed};
 ghost use Rattle.nbd_wire.specs.Commands.{judge_of, first_failing, is_multiple, has_range};
 ghost use Rattle.nbd_transmission.specs.Taking.{answer_to, verdict, is_accepted_write, payload_of};
-ghost use Rattle.nbd_transmission.specs.Taking.{phase_of, IsAcceptedRequest};
+ghost use Rattle.nbd_transmission.specs.Taking.{phase_of, IsJudged};
 ghost use Rattle.nbd_transmission.specs.Parser.{TransmissionAnswers, TransmissionAdvances};
 
 use bitflags::Flags;
 use nbd_wire::{
-    Command, CommandKind, EINVAL, ENOSPC, EPERM, Export, Next, REQUEST_LEN, Reply, Request,
-    SECTOR_LEN, fill,
+    Command, CommandKind, EINVAL, ENOSPC, EPERM, Export, MINIMUM_BLOCK_LEN, Next, REQUEST_LEN,
+    Request, fill,
 };
 use std::marker::Model;
+
+/// A command that the request table refuses, and the error that it is answered.
+#[derive(Clone, Copy, PartialEq, Eq, Debug)]
+pub struct Refusal {
+    pub command: Command,
+    pub error: u32,
+}
 
 /// What a call took of the bytes that it was given.
 #[derive(Clone, Copy, PartialEq, Eq, Debug)]
@@ -31,7 +38,7 @@ pub struct TransmissionTaken {
     pub payload: usize,
     /// What comes next; to a refused command a reply without data, once the payload of a WRITE was
     /// taken, which is to be dropped.
-    pub next: Next<Reply>,
+    pub next: Next<Refusal>,
 }
 
 /// Cuts the bytes of a transmission into commands.
@@ -97,7 +104,7 @@ impl Transmission {
         ensures export { self.new.export ≡ self.old.export }
         ensures phase { self.new.phase ≡ phase_of result.next }
         ensures phases { (self.old.phase ≡ Phase.Transmitting) ⊎ (self.old.phase ≡ Phase.Closed) }
-        ensures accepted { IsAcceptedRequest self.old.export result.next }
+        ensures accepted { IsJudged self.old.export result.next }
 
         // Of the unit begun: what the bytes used make of it,
         ensures step { (rest : List ℕ) → self.old.phase ≡ Phase.Transmitting
@@ -146,7 +153,7 @@ impl Transmission {
         ensures progress { 0 < length bytes.now → 0 < result.used }
         ensures export { self.new.export ≡ self.old.export }
         ensures phase { self.new.phase ≡ phase_of result.next }
-        ensures accepted { IsAcceptedRequest self.old.export result.next }
+        ensures accepted { IsJudged self.old.export result.next }
         ensures step { (rest : List ℕ) → HoldsRest REQUEST_LEN self.old rest
             → TransmissionAdvances self.old (rest ++ take result.used bytes.now) result.next
             self.new }
@@ -195,7 +202,7 @@ struct Tail {
     /// Whether they are payload of an accepted WRITE.
     accepted: bool,
     /// The answer to the unit.
-    next: Next<Reply>,
+    next: Next<Refusal>,
 }
 
 /// Reads a whole head.
@@ -233,18 +240,17 @@ fn tail_of(head: &[u8; REQUEST_LEN], export: Export) -> Tail
 }
 
 /// The answer to a complete command.
-fn answer(command: Command, refusal: Option<u32>) -> Next<Reply>
+fn answer(command: Command, refusal: Option<u32>) -> Next<Refusal>
     ensures { result ≡ verdict command refusal }
 {
-    let cookie = command.cookie;
     match refusal {
         None => Next::Run(command),
-        Some(error) => Next::Reply(Reply { error, cookie }),
+        Some(error) => Next::Reply(Refusal { command, error }),
     }
 }
 
 /// Whether an answer ends the connection.
-fn closes(next: Next<Reply>) -> bool
+fn closes(next: Next<Refusal>) -> bool
     ensures { (if result then Closed else Transmitting) ≡ phase_of next }
 {
     match next {
@@ -299,16 +305,16 @@ pub fn judge(command: &Command, export: Export) -> Option<u32>
 fn judge_range(offset: u64, length: u32, sectors: u32, past_end: u32) -> Option<u32>
     ensures { result ≡ first_failing (
         (length == 0 || not (is_multiple offset) || not (is_multiple length), EINVAL)
-        ∷ (nat_lt (SECTOR_LEN * sectors) (offset + length), past_end)
+        ∷ (nat_lt (MINIMUM_BLOCK_LEN * sectors) (offset + length), past_end)
         ∷ []) }
 {
     if length == 0
-        || !offset.is_multiple_of(u64::from(SECTOR_LEN))
-        || !length.is_multiple_of(SECTOR_LEN)
+        || !offset.is_multiple_of(u64::from(MINIMUM_BLOCK_LEN))
+        || !length.is_multiple_of(MINIMUM_BLOCK_LEN)
     {
         return Some(EINVAL);
     }
-    let size = u64::from(sectors) * u64::from(SECTOR_LEN);
+    let size = u64::from(sectors) * u64::from(MINIMUM_BLOCK_LEN);
     let length = u64::from(length);
     if length > size || offset > size - length {
         return Some(past_end);
@@ -332,5 +338,5 @@ fn sector_at(offset: u64, sectors: u32) -> u32
     requires { offset ≤ 512 * sectors }
     ensures { result ≡ offset / 512 }
 {
-    (offset / u64::from(SECTOR_LEN)) as u32
+    (offset / u64::from(MINIMUM_BLOCK_LEN)) as u32
 }

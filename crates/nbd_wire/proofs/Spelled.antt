@@ -8,7 +8,7 @@ use Rattle.byteorder.specs.Endian.{big_bytes, big_number}
 use Rattle.byteorder.specs.Numbers.{big_number-reads_back}
 use Rattle.nbd_wire.specs.declared.command.Request.{Request}
 use Rattle.nbd_wire.specs.Numbers.{REQUEST_MAGIC, REPLY_MAGIC}
-use Rattle.nbd_wire.specs.declared.reply.Reply.{Reply}
+use Rattle.nbd_wire.specs.declared.command.Reply.{Reply}
 use Rattle.nbd_wire.specs.Heads.{request_bytes, request_fields, request_at, FitsRequest, reply_bytes, reply_fields, reply_at, FitsReply}
 use Rattle.nbd_wire.proofs.Numbers.{IsBytes, IsBytes-drop, bytes-number}
 

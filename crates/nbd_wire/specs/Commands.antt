@@ -3,7 +3,7 @@ use Rattle.std.specs.Prelude.{ℕ, ◌+◌, ◌*◌, ◌%◌, ◌==◌, ◌&&◌
 use Rattle.std.specs.Prelude.{List, [], ◌∷◌, Option, Some, None, if◌then◌else◌}
 use Rattle.std.specs.Int.RustNames.{bit_and}
 use Rattle.nbd_wire.specs.Numbers.{CMD_READ, CMD_WRITE, CMD_DISC, CMD_FLUSH, CMD_TRIM}
-use Rattle.nbd_wire.specs.Numbers.{CMD_WRITE_ZEROES, EPERM, EINVAL, ENOSPC, SECTOR_LEN}
+use Rattle.nbd_wire.specs.Numbers.{CMD_WRITE_ZEROES, EPERM, EINVAL, ENOSPC, MINIMUM_BLOCK_LEN}
 use Rattle.nbd_wire.specs.Numbers.{MAX_LEN}
 use Rattle.nbd_wire.specs.declared.command.Request.{Request}
 use Rattle.nbd_wire.specs.declared.export.Export.{Export}
@@ -15,7 +15,8 @@ use Rattle.nbd_wire.specs.declared.command.CommandKind.TheVariants.{Unknown}
 
 -- what a disk of so many sectors is served as where nothing else is asked for (own)
 abbrev pub default_export : ℕ → Export
-default_export sectors = record { sectors = sectors; max_len = MAX_LEN; read_only = false }
+default_export sectors =
+    record { sectors = sectors; told_len = MAX_LEN; max_len = MAX_LEN; read_only = false }
 
 -- what the numbers on the wire mean (NBD proto.md; all others are not served)
 abbrev pub command_kind : ℕ → CommandKind
@@ -97,7 +98,7 @@ past_end_error WriteZeroes = ENOSPC
 past_end_error _ = EINVAL
 
 abbrev pub is_multiple : ℕ → Bool
-is_multiple n = n % SECTOR_LEN == 0
+is_multiple n = n % MINIMUM_BLOCK_LEN == 0
 
 -- The request table, row by row: whether the check fails for this export, and the error then. The
 -- sum is unbounded. The errors are those of NBD proto.md, the order is own.
@@ -114,7 +115,7 @@ checks c export =
     )
     ∷ (has_limit c.kind && nat_lt export.max_len c.length, EINVAL)
     ∷ (
-      has_range c.kind && nat_lt (SECTOR_LEN * export.sectors) (c.offset + c.length),
+      has_range c.kind && nat_lt (MINIMUM_BLOCK_LEN * export.sectors) (c.offset + c.length),
       past_end_error c.kind,
     )
     ∷ []

@@ -5,7 +5,7 @@ use Rattle.std.specs.Prelude.{if◌then◌else◌}
 use Rattle.byteorder.specs.Endian.{big_bytes, big_number}
 use Rattle.nbd_wire.specs.Numbers.{REQUEST_MAGIC, REPLY_MAGIC}
 use Rattle.nbd_wire.specs.declared.command.Request.{Request}
-use Rattle.nbd_wire.specs.declared.reply.Reply.{Reply}
+use Rattle.nbd_wire.specs.declared.command.Reply.{Reply}
 
 -- the 28 bytes of a request's head
 unfoldable pub request_bytes : Request → List ℕ

@@ -158,11 +158,8 @@ ENOSPC = 28
 
 -- ---- sizes in bytes, which are own
 
--- a sector; offsets and lengths of commands are multiples of it
-abbrev pub SECTOR_LEN : ℕ
-SECTOR_LEN = 512
-
--- the smallest length of a command, as it is told to the client
+-- the minimum block size, as it is told to the client: a sector; offsets and lengths of commands
+-- are multiples of it
 abbrev pub MINIMUM_BLOCK_LEN : ℕ
 MINIMUM_BLOCK_LEN = 512
 

@@ -8,7 +8,7 @@ use Rattle.byteorder.specs.Endian.{big_bytes, big_number}
 use Rattle.nbd_wire.specs.Numbers.{OPTION_MAGIC, OPTION_REPLY_MAGIC, OPT_EXPORT_NAME, OPT_ABORT}
 use Rattle.nbd_wire.specs.Numbers.{OPT_LIST, OPT_INFO, OPT_GO, REP_ACK, REP_SERVER, REP_INFO}
 use Rattle.nbd_wire.specs.Numbers.{REP_ERR_UNSUP, REP_ERR_INVALID, REP_ERR_UNKNOWN, REP_ERR_TOO_BIG}
-use Rattle.nbd_wire.specs.Numbers.{INFO_EXPORT, INFO_BLOCK_SIZE, SECTOR_LEN, MINIMUM_BLOCK_LEN}
+use Rattle.nbd_wire.specs.Numbers.{INFO_EXPORT, INFO_BLOCK_SIZE, MINIMUM_BLOCK_LEN}
 use Rattle.nbd_wire.specs.Numbers.{PREFERRED_BLOCK_LEN, MAX_OPTION_LEN}
 use Rattle.nbd_wire.specs.Numbers.{EXPORT_NAME_ZEROES_LEN, TRANSMISSION_FLAGS}
 use Rattle.nbd_wire.specs.Numbers.{READ_ONLY_TRANSMISSION_FLAGS}
@@ -87,7 +87,8 @@ transmission_flags read_only =
 -- the size of the disk in bytes, and the transmission flags
 abbrev pub size_bytes : Exported → List ℕ
 size_bytes export =
-    big_bytes 8 (SECTOR_LEN * export.sectors) ++ big_bytes 2 (transmission_flags export.read_only)
+    big_bytes 8 (MINIMUM_BLOCK_LEN * export.sectors)
+    ++ big_bytes 2 (transmission_flags export.read_only)
 
 -- the contents of replies
 abbrev pub server_content : List ℕ
@@ -97,8 +98,8 @@ abbrev pub export_content : Exported → List ℕ
 export_content export = big_bytes 2 INFO_EXPORT ++ size_bytes export
 
 abbrev pub block_size_content : ℕ → List ℕ
-block_size_content max_len = big_bytes 2 INFO_BLOCK_SIZE ++ big_bytes 4 MINIMUM_BLOCK_LEN
-    ++ big_bytes 4 PREFERRED_BLOCK_LEN ++ big_bytes 4 max_len
+block_size_content told_len = big_bytes 2 INFO_BLOCK_SIZE ++ big_bytes 4 MINIMUM_BLOCK_LEN
+    ++ big_bytes 4 PREFERRED_BLOCK_LEN ++ big_bytes 4 told_len
 
 -- the bytes that answer an option, by its case
 unfoldable pub reply_in_case : OptionCase → ℕ → Bool → Exported → List ℕ
@@ -110,7 +111,7 @@ reply_in_case Listed option no_zeroes export =
     option_reply_bytes option REP_SERVER server_content ++ option_reply_bytes option REP_ACK []
 reply_in_case Described option no_zeroes export =
     option_reply_bytes option REP_INFO (export_content export)
-    ++ option_reply_bytes option REP_INFO (block_size_content export.max_len)
+    ++ option_reply_bytes option REP_INFO (block_size_content export.told_len)
     ++ option_reply_bytes option REP_ACK []
 reply_in_case TooBig option no_zeroes export = option_reply_bytes option REP_ERR_TOO_BIG []
 reply_in_case Invalid option no_zeroes export = option_reply_bytes option REP_ERR_INVALID []

@@ -97,9 +97,8 @@ pub const ENOSPC: u32 = 28;
 /// The error of a server that shuts down; never sent.
 pub const ESHUTDOWN: u32 = 108;
 
-/// The length of a sector in bytes; offsets and lengths of commands are multiples of it.
-pub const SECTOR_LEN: u32 = 512;
-/// The smallest length that a command may have, in bytes, as it is told to the client.
+/// The minimum block size in bytes, as it is told to the client: a sector. Offsets and lengths of
+/// commands are multiples of it.
 pub const MINIMUM_BLOCK_LEN: u32 = 512;
 /// The length that serves best for a command, in bytes, as it is told to the client: an erase block
 /// of the chip.
@@ -150,8 +149,7 @@ pub fn constants_are_the_protocols()
         × (CMD_WRITE_ZEROES ≡ protocol.CMD_WRITE_ZEROES) }
     ensures errors { (EPERM ≡ protocol.EPERM) × (EIO ≡ protocol.EIO) × (ENOMEM ≡ protocol.ENOMEM)
         × (EINVAL ≡ protocol.EINVAL) × (ENOSPC ≡ protocol.ENOSPC) }
-    ensures sizes { (SECTOR_LEN ≡ protocol.SECTOR_LEN)
-        × (MINIMUM_BLOCK_LEN ≡ protocol.MINIMUM_BLOCK_LEN)
+    ensures sizes { (MINIMUM_BLOCK_LEN ≡ protocol.MINIMUM_BLOCK_LEN)
         × (PREFERRED_BLOCK_LEN ≡ protocol.PREFERRED_BLOCK_LEN) × (MAX_LEN ≡ protocol.MAX_LEN)
         × (MAX_OPTION_LEN ≡ protocol.MAX_OPTION_LEN) }
 {}

@@ -10,8 +10,10 @@ use crate::constants::MAX_LEN;
 pub struct Export {
     /// The sectors of the disk.
     pub sectors: u32,
-    /// The largest length of a READ or WRITE in bytes, as it is told to the client (the maximum
-    /// block size).
+    /// The largest length of a READ or WRITE in bytes that is told to the client (the maximum block
+    /// size).
+    pub told_len: u32,
+    /// The largest length of a READ or WRITE in bytes that is taken.
     pub max_len: u32,
     /// Whether commands that change the disk are refused (READ_ONLY).
     pub read_only: bool,
@@ -25,6 +27,7 @@ impl Export {
     {
         Export {
             sectors,
+            told_len: MAX_LEN,
             max_len: MAX_LEN,
             read_only: false,
         }

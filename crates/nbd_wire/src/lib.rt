@@ -26,10 +26,9 @@ mod next;
 mod option;
 mod option_reply;
 mod phase;
-mod reply;
 
 pub use buffer::{fill, put};
-pub use command::{Command, CommandKind, Request};
+pub use command::{Command, CommandKind, Reply, Request};
 pub use constants::{
     CLIENT_FLAGS_LEN, CMD_DISC, CMD_FLUSH, CMD_READ, CMD_TRIM, CMD_WRITE, CMD_WRITE_ZEROES, EINVAL,
     EIO, ENOMEM, ENOSPC, EPERM, ESHUTDOWN, EXPORT_NAME, EXPORT_NAME_ANSWER_LEN,
@@ -38,7 +37,7 @@ pub use constants::{
     OPT_ABORT, OPT_EXPORT_NAME, OPT_GO, OPT_INFO, OPT_LIST, OPTION_LEN, OPTION_MAGIC,
     OPTION_REPLY_LEN, OPTION_REPLY_MAGIC, PREFERRED_BLOCK_LEN, READ_ONLY_TRANSMISSION_FLAGS,
     REP_ACK, REP_ERR_INVALID, REP_ERR_TOO_BIG, REP_ERR_UNKNOWN, REP_ERR_UNSUP, REP_INFO,
-    REP_SERVER, REPLY_LEN, REPLY_MAGIC, REQUEST_LEN, REQUEST_MAGIC, SECTOR_LEN, TRANSMISSION_FLAGS,
+    REP_SERVER, REPLY_LEN, REPLY_MAGIC, REQUEST_LEN, REQUEST_MAGIC, TRANSMISSION_FLAGS,
     constants_are_the_protocols,
 };
 pub use export::Export;
@@ -47,4 +46,3 @@ pub use next::Next;
 pub use option::{OptionCase, OptionHead};
 pub use option_reply::write_option_reply;
 pub use phase::{Phase, one_cutting};
-pub use reply::Reply;

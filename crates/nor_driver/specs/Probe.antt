@@ -9,8 +9,8 @@ use Rattle.sfdp.specs.declared.error.SfdpError.{SfdpError}
 use Rattle.chip_model.specs.Chip.{Chip}
 use Rattle.chip_model.specs.Frames.{Id, answer_byte, id_from, is_unprotected, status_1}
 use Rattle.chip_model.specs.Cut as losses
-use Rattle.spi_frames.specs.declared.register.Register.{Register}
-use Rattle.spi_frames.specs.declared.register.Register.TheVariants as registers
+use Rattle.spi_frames.specs.declared.frames.Register.{Register}
+use Rattle.spi_frames.specs.declared.frames.Register.TheVariants as registers
 use Rattle.nor_driver.specs.Steps.{Woken}
 use Rattle.nor_driver.specs.declared.error.ProbeError.{ProbeError}
 use Rattle.nor_driver.specs.declared.error.ProbeError.TheVariants as refusals

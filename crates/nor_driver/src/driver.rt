@@ -178,7 +178,7 @@ impl<B: SpiBus> Nor for Driver<B> {
 }
 
 /// How often the status of one operation is read at most.
-const READS: u32 = 65_535;
+const MOST_POLLS: u32 = 65_535;
 
 /// One frame with no answer, to an idle chip.
 fn send<B: SpiBus>(bus: &mut B, frame: &[u8]) -> Result<(), PowerLost>
@@ -222,7 +222,7 @@ fn wait_until_idle<B: SpiBus>(bus: &mut B) -> Result<(), NorError>
         WaitFails e (B.chip bus.old) (B.cuts bus.old) (B.slows bus.old) (B.chip bus.new)
         (B.cuts bus.new) (B.slows bus.new)) }
 {
-    for _read in 0..READS {
+    for _read in 0..MOST_POLLS {
         let mut answer = [0u8; 1];
         bus.transact(&status(Register::First), &mut answer)?;
         if !Status1::is_busy(answer[0]) {

@@ -1,6 +1,6 @@
 -- What the first eight bytes of a data block say of it: a block of seven slots (layout 2), or a
 -- block with a group of seven sectors (layout 1). Source: own.
-use Rattle.std.specs.Prelude.{ℕ, ◌&&◌, if◌then◌else◌, ◌==◌, nat_lt, List}
+use Rattle.std.specs.Prelude.{ℕ, Bool, true, false, ◌&&◌, if◌then◌else◌, ◌==◌, nat_lt, List}
 use Rattle.byteorder.specs.Endian.{little_from}
 use Rattle.chip_model.specs.Memory.{byte}
 use Rattle.nor_layout.specs.declared.header.Header.{Header}
@@ -39,3 +39,25 @@ group_kind headers.Dead = DeadGroup
 abbrev pub kind_of : List ℕ → Kind
 kind_of b = if (byte b 0 == 255) && (byte b 1 == 255) && (byte b 2 == 255) && (byte b 3 == 255)
     then mark_of b else group_kind (header_of b)
+
+-- whether its slots were written one by one
+abbrev pub is_plain : Kind → Bool
+is_plain Plain = true
+is_plain Void = false
+is_plain (Committed source) = false
+is_plain Settled = false
+is_plain (Group tag) = false
+is_plain DeadGroup = false
+is_plain SpoiltGroup = false
+is_plain Unknown = false
+
+-- whether a block is of a group, live or dead
+abbrev pub is_group : Kind → Bool
+is_group Plain = false
+is_group Void = false
+is_group (Committed source) = false
+is_group Settled = false
+is_group (Group tag) = true
+is_group DeadGroup = true
+is_group SpoiltGroup = true
+is_group Unknown = false

@@ -1,10 +1,10 @@
 //! What a data block is: slots, and how they came into it (layout 2), or a group (layout 1).
 
-ghost use Rattle.std.specs.Prelude.{◌≡◌, ◌<◌, ◌∷◌, [], ◌+◌, ◌*◌};
+ghost use Rattle.std.specs.Prelude.{◌≡◌, ◌≢◌, ◌<◌, ◌∷◌, [], ◌+◌, ◌*◌, IsTrue, IsFalse};
 ghost use Rattle.chip_model.specs.Memory.{byte};
 ghost use Rattle.nor_layout.specs.Headers.{header_of};
 ghost use Rattle.nor_layout.specs.declared.header.Tag.{Tag as TagOf};
-ghost use Rattle.nor_layout.specs.Kinds.{kind_of, group_kind};
+ghost use Rattle.nor_layout.specs.Kinds.{kind_of, group_kind, is_plain, is_group};
 
 use crate::header::{Header, Tag, block_state};
 use byteorder::{ByteOrder, LittleEndian};
@@ -40,6 +40,24 @@ pub enum Kind {
     SpoiltGroup,
     /// No write leaves this.
     Unknown,
+}
+
+impl Kind {
+    /// Whether no copy was ever begun in a block of this kind, and it is of no group.
+    pub fn is_plain(self) -> bool
+        ensures exact { result ≡ is_plain self }
+        ensures plain { IsTrue result → self ≡ Kind.Plain }
+        ensures not_plain { IsFalse result → self ≢ Kind.Plain }
+    {
+        matches!(self, Kind::Plain)
+    }
+
+    /// Whether a block of this kind is of a group, live or dead.
+    pub fn is_of_group(self) -> bool
+        ensures { result ≡ is_group self }
+    {
+        matches!(self, Kind::Group(_) | Kind::DeadGroup | Kind::SpoiltGroup)
+    }
 }
 
 fn group_kind(header: Header) -> Kind

@@ -15,6 +15,7 @@
 
 #![tactic(auto)]
 
+mod block;
 mod entry;
 mod header;
 mod journal;
@@ -23,6 +24,9 @@ mod layout;
 mod superblock;
 mod vote;
 
+pub use block::{
+    BLOCK_LEN, DESCRIPTORS_PLACE, FIRST_DATA_BLOCK, HEAD_LEN, PAGE_LEN, SLOT_LEN, SLOTS,
+};
 pub use entry::{
     CLOSED_ENTRY, ENTRIES, ENTRIES_LEN, ENTRY_LEN, Entry, OPEN_ENTRY, entry_place, entry_state,
     taken_entry,
@@ -30,7 +34,7 @@ pub use entry::{
 pub use header::{
     COMMITTED, Generation, HEADER_LEN, Header, RETIRED, Tag, begun_header, block_state, live_header,
 };
-pub use journal::{BLOCK_LEN, JOURNALS_END, JournalId};
+pub use journal::{JOURNALS_END, JournalId};
 pub use kind::{Kind, MARK_LEN, SETTLED, begun_mark, block_kind};
 pub use layout::{Layout, read_layout, sector_super_bytes};
 pub use superblock::{

@@ -16,13 +16,13 @@
 ghost use Rattle.std.specs.Prelude.{◌≡◌, ◌<◌};
 ghost use Rattle.std.specs.Process.{exit_status};
 ghost use Rattle.norbd_run.specs.Outcomes.{EndsWith};
-ghost use Rattle.norbd_line.specs.Line.{IfFormat, IfScript, IfServe, IsLineInRange};
-ghost use Rattle.norbd_line.specs.Line.{IfChip, IsChipInRange, IsServeInRange, IsSize};
+ghost use Rattle.norbd_run.specs.Lines.{HasNumbers};
+ghost use Rattle.norbd_line.specs.Line.{IsLineInRange};
 
 use block_device::Io;
 use norbd_image::ImageFile;
 use norbd_line::{Fault, Line, read_line};
-use norbd_run::{Null, Screen, Telling, hold_standard, run_line};
+use norbd_run::{Failure, Null, Output, Screen, Telling, hold_standard, reason_of, run_line};
 use norbd_serve::Log;
 use std::alloc::Global;
 use std::io::{ErrorKind, IsTerminal, Read, Write};
@@ -47,6 +47,9 @@ fn words_of(rt: &HostRuntime, alloc: Global) -> Result<Vec<String>, Fault> {
 }
 
 /// Does a line over a reader and a writer of bytes, whose failures the ledgers `I` and `O` count.
+///
+/// What a `Host` is stands written out here and below: the prover can't follow a call for the
+/// system itself where the types of its sockets are named by that trait alone.
 fn run_streams<R, A, B, I, O>(
     rt: &R,
     line: Line<'_>,
@@ -75,23 +78,29 @@ where
     O: Ledger,
     requires input { (input.name ≡ I.name) × (input.parts ≡ I.parts) × (0 < I.parts) }
     requires output { (output.name ≡ O.name) × (output.parts ≡ O.parts) × (0 < O.parts) }
-    requires size { IfFormat line (λ _ kib. IsSize kib) }
-    requires script_size { IfScript line (λ kib. IsSize kib) }
-    requires serve_numbers { IfServe line (λ s. IsServeInRange s) }
-    requires chip_numbers { IfChip line (λ s. IsChipInRange s) }
+    requires numbers { HasNumbers line }
 {
     let mut reader = Io::<_, I>::new(stdin, input);
     let mut writer = Io::<_, O>::new(stdout, output);
     run_line(rt, line, colours, &mut reader, &mut writer)
 }
 
-/// Prints a fault: `clap`'s own text for one of the words, else a line on standard error. A failure
-/// to print it is passed over.
-fn tell(rt: &HostRuntime, fault: &Fault, line: Option<Line<'_>>) {
+/// Prints a fault: `clap`'s own text for one of the words, else a line on standard error, with why
+/// standard output failed. A failure to print it is passed over.
+fn tell(rt: &HostRuntime, fault: &Fault, line: Option<Line<'_>>, output: Option<Failure>) {
     if let Fault::Words(error) = fault {
         let _ = error.print(rt);
     } else {
-        let telling = Telling { fault, line };
+        let reason = match line {
+            Some(line) => reason_of(rt, fault, line),
+            None => None,
+        };
+        let telling = Telling {
+            fault,
+            line,
+            reason,
+            output,
+        };
         let _ = eprintln!(rt; "norbd: {telling}");
     }
 }
@@ -107,7 +116,7 @@ fn exit_code(done: &Result<(), Fault>) -> ExitCode
 }
 
 /// Does the line of the program's words.
-#[tactic(auto, using(crate::proofs::Sizes::size_of_line, crate::proofs::Sizes::size_of_script, crate::proofs::Sizes::numbers_of_serve, crate::proofs::Sizes::numbers_of_chip))]
+#[tactic(auto, using(crate::proofs::Sizes::numbers_of_line))]
 fn do_line<R, A, B>(rt: &R, line: Line<'_>, colours: bool, stdin: A, stdout: B) -> Result<(), Fault>
 where
     R: Files
@@ -136,14 +145,26 @@ fn has_colours(rt: &HostRuntime) -> bool {
     rt.stdout().is_terminal() && std::env::var(rt, "NO_COLOR").is_err()
 }
 
+/// Whether a line is done for what it writes to standard output, and for nothing else.
+fn is_for_output(line: Line<'_>) -> bool {
+    match line {
+        Line::Plain { .. } => true,
+        Line::Script { .. } => true,
+        Line::Check { .. } => true,
+        Line::Show { .. } => true,
+        Line::Read { .. } => true,
+        _ => false,
+    }
+}
+
 /// Prints a fault of the words, and tells its exit status.
 fn refuse(rt: &HostRuntime, fault: Fault) -> ExitCode {
-    tell(rt, &fault, None);
+    tell(rt, &fault, None, None);
     exit_code(&Err(fault))
 }
 
 fn main(rt: HostRuntime) -> ExitCode {
-    let Ok(_standard) = hold_standard(&mut Null { rt: &rt }) else {
+    let Ok(standard) = hold_standard(&mut Null { rt: &rt }) else {
         return refuse(&rt, Fault::OutputFailed);
     };
     let words = match words_of(&rt, rt.alloc()) {
@@ -154,9 +175,11 @@ fn main(rt: HostRuntime) -> ExitCode {
         Ok(line) => line,
         Err(fault) => return refuse(&rt, fault),
     };
-    let done = do_line(&rt, line, has_colours(&rt), rt.stdin(), rt.stdout());
+    let closed = standard.lacks_output() && is_for_output(line);
+    let mut output = Output::new(rt.stdout(), closed);
+    let done = do_line(&rt, line, has_colours(&rt), rt.stdin(), &mut output);
     if let Err(fault) = &done {
-        tell(&rt, fault, Some(line));
+        tell(&rt, fault, Some(line), output.failure());
     }
     exit_code(&done)
 }

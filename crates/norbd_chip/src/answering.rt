@@ -2,7 +2,7 @@
 
 use chip_model::SpiBus;
 use serprog_chip::{Room, Trouble, attend};
-use serprog_tcp::split;
+use serprog_link::split_stream;
 use std::alloc::Global;
 use std::net::TcpStream;
 
@@ -11,7 +11,7 @@ use std::net::TcpStream;
 pub fn answer_client<B: SpiBus>(alloc: Global, stream: TcpStream, bus: &mut B) -> Trouble {
     // Each answer is to go out at once; where that can't be had, answers are slower.
     let _ = stream.set_nodelay(true);
-    match split(stream) {
+    match split_stream(stream) {
         Ok((mut source, mut sink)) => attend(&mut source, &mut sink, bus, &mut Room::new(alloc)),
         Err(_) => Trouble::Ended,
     }

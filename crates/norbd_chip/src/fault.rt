@@ -1,9 +1,9 @@
 //! Why nothing was done with a chip behind a programmer.
 
+use chip_watch::{Departure, OpenError};
 use nor_driver::ProbeError;
 use norbd_line::ChipCause;
 use serprog::SerprogError;
-use watched::{Departure, OpenError};
 
 /// Why nothing was done with a chip behind a programmer, or not all.
 #[derive(Clone, Copy, Debug, PartialEq, Eq, Drop)]

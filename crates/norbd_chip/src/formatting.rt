@@ -2,20 +2,20 @@
 
 ghost use Rattle.std.specs.Prelude.{◌≡◌, ◌≢◌, ◌*◌, OnOk, length, true};
 ghost use Rattle.flash_disk.specs.Formatted.{Formatted};
-ghost use Rattle.watched.specs.Watched.{watched_chip};
+ghost use Rattle.chip_watch.specs.Watched.{watched_chip};
 
 use crate::fault::{ChipFault, told_of_refusal};
-use crate::place::ProgrammerPlace;
 use crate::progress::Report;
 use crate::reaching::watch;
+use chip_model::Programmer;
+use chip_watch::WatchedBus;
 use flash_disk::format;
 use norbd_line::ChipCause;
-use programmer::Programmer;
+use serprog_link::ProgrammerPlace;
 use std::alloc::Global;
 use std::net::{Net, TcpStream};
 use std::rt::Files;
 use std::time::Clock;
-use watched::WatchedBus;
 
 /// Formats the chip of so many KiB behind the programmer at a place, which erases it.
 ///

@@ -1,10 +1,9 @@
 //! Chips behind programmers, by their place, for the program; and `norbd chip`, which answers
 //! serprog commands for a chip by the crate `serprog_chip`.
 //!
-//! `programmer_of` tells whether a word names a programmer, over TCP or by a serial device. `watch`
-//! reaches it, reads the whole chip with a line of progress each second, and gives a bus that notes
-//! where the chip leaves the model; `format_chip` formats such a chip. `answer_client` answers the
-//! serprog protocol to a client, for the chip on any bus.
+//! `watch` reaches a programmer, reads the whole chip with a line of progress each second, and
+//! gives a bus that notes where the chip leaves the model; `format_chip` formats such a chip.
+//! `answer_client` answers the serprog protocol to a client, for the chip on any bus.
 //!
 //! Left to the crate above: which chip, and the texts of faults.
 //!
@@ -13,23 +12,17 @@
 #![tactic(auto)]
 
 mod answering;
-mod dialing;
 mod fault;
 mod formatting;
-mod halves;
 mod no_file;
 mod noting;
-mod place;
 mod progress;
 mod reaching;
 
 pub use answering::answer_client;
-pub use dialing::ProgrammerDialer;
 pub use fault::ChipFault;
 pub use formatting::{format_chip, format_watched};
-pub use halves::{ProgrammerIn, ProgrammerOut};
 pub use no_file::NoFile;
 pub use noting::{Noted, Noting};
-pub use place::{ProgrammerPlace, programmer_of};
-pub use progress::{Progress, Report};
+pub use progress::{PacedProgrammer, Report};
 pub use reaching::{Reached, watch, watch_noting};

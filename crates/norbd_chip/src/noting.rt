@@ -1,14 +1,13 @@
 //! Where a watched chip left the model, for who has no hold of its bus.
 
-ghost use Rattle.watched.specs.Watched.{watched_chip, watched_cuts, watched_slows};
-ghost use Rattle.watched.specs.Lawful.{lawful_shadow};
+ghost use Rattle.chip_watch.specs.Watched.{watched_chip, watched_cuts, watched_slows};
+ghost use Rattle.chip_watch.specs.Lawful.{lawful_shadow};
 
 use crate::fault::told_of_departure;
-use chip_model::{PowerLost, SpiBus};
+use chip_model::{PowerLost, Programmer, SpiBus};
+use chip_watch::{Departure, WatchedBus};
 use norbd_line::ChipCause;
-use programmer::Programmer;
 use std::sync::Mutex;
-use watched::{Departure, WatchedBus};
 
 /// The last departure of a chip, as its bus noted it.
 #[derive(Drop)]

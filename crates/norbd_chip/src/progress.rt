@@ -2,7 +2,8 @@
 
 ghost use Rattle.std.specs.Prelude.{◌≡◌};
 
-use programmer::{NoAnswer, Programmer};
+use chip_model::{NoAnswer, Programmer};
+use spi_frames::{Instruction, decode};
 use std::thread;
 use std::time::{Clock, Duration};
 
@@ -50,11 +51,8 @@ impl<R: Clock, T: Report> Pace<'_, R, T> {
 
 /// Where a frame reads a piece: its address.
 fn piece_of(send: &[u8], count: usize) -> Option<u32> {
-    if count != PIECE as usize {
-        return None;
-    }
-    match send {
-        [0x03, a, b, c] => Some(*a as u32 * 65_536 + *b as u32 * 256 + *c as u32),
+    match decode(send) {
+        Instruction::Read(place) if count == PIECE as usize => Some(place),
         _ => None,
     }
 }
@@ -70,15 +68,15 @@ fn is_busy(send: &[u8], recv: &[u8]) -> bool {
 /// A programmer that spaces the status reads of what is in progress, and of which it is told each
 /// second how far a chip has been read where all of it is.
 #[derive(Drop)]
-pub struct Progress<'r, R, T, P> {
+pub struct PacedProgrammer<'r, R, T, P> {
     programmer: P,
     pace: Pace<'r, R, T>,
 }
 
-impl<'r, R, T, P> Progress<'r, R, T, P> {
+impl<'r, R, T, P> PacedProgrammer<'r, R, T, P> {
     /// The programmer, with nothing read.
-    pub fn new(clock: &'r R, report: T, programmer: P) -> Progress<'r, R, T, P> {
-        Progress {
+    pub fn new(clock: &'r R, report: T, programmer: P) -> PacedProgrammer<'r, R, T, P> {
+        PacedProgrammer {
             programmer,
             pace: Pace {
                 clock,
@@ -90,7 +88,7 @@ impl<'r, R, T, P> Progress<'r, R, T, P> {
     }
 }
 
-impl<R: Clock, T: Report, P: Programmer> Programmer for Progress<'_, R, T, P> {
+impl<R: Clock, T: Report, P: Programmer> Programmer for PacedProgrammer<'_, R, T, P> {
     ghost exchanged = { λ p. P.exchanged p.programmer };
 
     fn exchange(&mut self, send: &[u8], recv: &mut [u8]) -> Result<(), NoAnswer> {

@@ -3,28 +3,26 @@
 ghost use Rattle.std.specs.Prelude.{◌≡◌, IfOk, length, true};
 ghost use Rattle.chip_model.specs.Chip.{is_idle};
 ghost use Rattle.chip_model.specs.Geometry.{IsChipSize};
-ghost use Rattle.watched.specs.Watched.{watched_chip, watched_trusts};
+ghost use Rattle.chip_watch.specs.Watched.{watched_chip, watched_trusts};
 
-use crate::dialing::ProgrammerDialer;
 use crate::fault::{ChipFault, told_of_opening, told_of_programmer};
-use crate::halves::{ProgrammerIn, ProgrammerOut};
 use crate::noting::{Noted, Noting};
-use crate::place::ProgrammerPlace;
-use crate::progress::{Progress, Report};
+use crate::progress::{PacedProgrammer, Report};
 use chip_model::SpiBus;
+use chip_watch::WatchedBus;
 use serprog::Serprog;
+use serprog_link::{ProgrammerDialer, ProgrammerIn, ProgrammerOut, ProgrammerPlace};
 use std::alloc::Global;
 use std::net::{Net, TcpStream};
 use std::rt::Files;
 use std::time::{Clock, Duration};
-use watched::WatchedBus;
 
 /// How many seconds a programmer over TCP may take for an answer, and to be reached. A serial
 /// device's own setting says how many it may take.
 const PATIENCE: u64 = 10;
 
 /// A programmer at a place, of which it is told how far a chip has been read.
-pub type Reached<'r, 'p, R, T> = Progress<
+pub type Reached<'r, 'p, R, T> = PacedProgrammer<
     'r,
     R,
     T,
@@ -56,7 +54,7 @@ where
         Ok(client) => client,
         Err(error) => return Err(told_of_programmer(error)),
     };
-    match WatchedBus::open(alloc, Progress::new(rt, report, client)) {
+    match WatchedBus::open(alloc, PacedProgrammer::new(rt, report, client)) {
         Ok(bus) => if trusts { Ok(bus.trusting()) } else { Ok(bus) },
         Err(error) => Err(told_of_opening(error)),
     }

@@ -6,8 +6,8 @@ use Rattle.chip_model.specs.Geometry.{IsChipSize}
 use Rattle.nor_driver.specs.Probe.{told}
 use Rattle.nor_driver.specs.declared.error.ProbeError.{ProbeError}
 use Rattle.nor_driver.specs.declared.error.ProbeError.TheVariants as probes
-use Rattle.fault_model.specs.Sim.{fresh_chip}
-use Rattle.fault_model.proofs.Accepted.{table_accepted}
+use Rattle.chip_simulator.specs.Sim.{fresh_chip}
+use Rattle.chip_simulator.proofs.Accepted.{table_accepted}
 use Rattle.flash_disk.specs.Formatted.{AnswersAsTold, FormatFails}
 use Rattle.flash_disk.proofs.Accepting.{told-accepted}
 use Rattle.norbd_image.specs.declared.error.ImageError.TheVariants.{Refused}

@@ -10,14 +10,15 @@ use Rattle.nor_layout.specs.declared.superblock.SuperError.{SuperError}
 use Rattle.nor_layout.specs.declared.superblock.SuperError.TheVariants as refusals
 use Rattle.norbd_image.specs.Image.{ComesOfFile, ComesOfHolding, is_formatted}
 use Rattle.norbd_image.specs.declared.error.ImageError.{ImageError}
-use Rattle.norbd_image.specs.declared.error.ImageError.TheVariants.{OutOfMemory, File, NotAFile, InUse, Formatted, Refused}
+use Rattle.norbd_image.specs.declared.error.ImageError.TheVariants.{OutOfMemory, File, NotAFile, InUse, Formatted, NotEmpty, Refused}
 
 pub holding_is_file : (e : ImageError) → ComesOfHolding e → ComesOfFile e
 holding_is_file OutOfMemory h = tt
 holding_is_file (File kind) h = tt
-holding_is_file NotAFile h = absurd h
+holding_is_file NotAFile h = tt
 holding_is_file InUse h = tt
 holding_is_file Formatted h = absurd h
+holding_is_file NotEmpty h = absurd h
 holding_is_file (Refused e) h = absurd h
 
 -- whether this is another answer than that the chip isn't formatted

@@ -7,8 +7,8 @@ use Rattle.nor_driver.specs.Probe.{probe_answer, told, unless_protected}
 use Rattle.nor_driver.specs.declared.error.ProbeError.TheVariants as probes
 use Rattle.sector_map.proofs.Marking.{laid-formatted}
 use Rattle.sector_map.specs.Maps.{IsMountable}
-use Rattle.fault_model.specs.Sim.{fresh_chip}
-use Rattle.fault_model.proofs.Accepted.{table_accepted}
+use Rattle.chip_simulator.specs.Sim.{fresh_chip}
+use Rattle.chip_simulator.proofs.Accepted.{table_accepted}
 use Rattle.flash_disk.specs.Formatted.{format_answer}
 use Rattle.flash_disk.specs.Mounting.{RefusedAs, RefusedAt, RefusedFor}
 use Rattle.flash_disk.specs.declared.error.MountError.{MountError}

@@ -1,5 +1,5 @@
 -- The bytes of a chip that was just formatted. Source: own, layout 2.
-use Rattle.std.specs.Prelude.{◌≡◌, ℕ, ◌*◌, List, length, replicate, Bool, ◌&&◌, not}
+use Rattle.std.specs.Prelude.{◌≡◌, ℕ, ◌*◌, List, length, replicate, Bool, ◌&&◌, ◌||◌}
 use Rattle.std.specs.Prelude.{if◌then◌else◌, Result, Ok, Err}
 use Rattle.chip_model.specs.Geometry.{sector_count}
 use Rattle.nor_driver.specs.declared.error.ProbeError.TheVariants as probes
@@ -9,7 +9,7 @@ use Rattle.flash_disk.specs.Contents.{contents_of}
 use Rattle.norbd_image.specs.declared.error.ImageError.{ImageError}
 use Rattle.norbd_image.specs.declared.error.ImageError.TheVariants.{OutOfMemory, File, NotAFile}
 use Rattle.norbd_image.specs.declared.error.ImageError.TheVariants.{InUse}
-use Rattle.norbd_image.specs.declared.error.ImageError.TheVariants.{Formatted, Refused}
+use Rattle.norbd_image.specs.declared.error.ImageError.TheVariants.{Formatted, NotEmpty, Refused}
 use Rattle.nor_layout.specs.Superblock.{has_name, is_sealed}
 
 -- so many bytes, which are a healthy and clean memory whose disk is one of zeros
@@ -27,6 +27,7 @@ ComesOfFormat (File kind) = ⊥
 ComesOfFormat NotAFile = ⊥
 ComesOfFormat InUse = ⊥
 ComesOfFormat Formatted = ⊥
+ComesOfFormat NotEmpty = ⊥
 ComesOfFormat (Refused probes.Cut) = Unit {0}
 ComesOfFormat (Refused probes.Slow) = ⊥
 ComesOfFormat (Refused probes.WrongId) = ⊥
@@ -37,9 +38,10 @@ ComesOfFormat (Refused probes.Protected) = ⊥
 abbrev pub ComesOfHolding : ImageError → Type 0
 ComesOfHolding OutOfMemory = Unit {0}
 ComesOfHolding (File kind) = Unit {0}
-ComesOfHolding NotAFile = ⊥
+ComesOfHolding NotAFile = Unit {0}
 ComesOfHolding InUse = Unit {0}
 ComesOfHolding Formatted = ⊥
+ComesOfHolding NotEmpty = ⊥
 ComesOfHolding (Refused e) = ⊥
 
 -- a fault of the file that is to be replaced or made
@@ -49,6 +51,7 @@ ComesOfFile (File kind) = Unit {0}
 ComesOfFile NotAFile = Unit {0}
 ComesOfFile InUse = Unit {0}
 ComesOfFile Formatted = Unit {0}
+ComesOfFile NotEmpty = Unit {0}
 ComesOfFile (Refused e) = ⊥
 
 -- A file whose first 15 bytes are these holds a formatted chip, of whatever size and layout: its
@@ -56,8 +59,9 @@ ComesOfFile (Refused e) = ⊥
 abbrev pub is_formatted : List ℕ → Bool
 is_formatted head = has_name head && is_sealed head
 
--- Whether a file that begins with these bytes may be replaced: one that holds a formatted chip only
--- by force.
-abbrev pub leave_to_replace : Bool → List ℕ → Result (Unit {0}) ImageError
-leave_to_replace force head =
-    if not force && is_formatted head then Err Formatted else Ok tt
+-- Whether a file may be replaced that is blank or not, and begins with these bytes where it has so
+-- many: one that isn't blank, whether it holds a formatted chip or anything else, only by force.
+abbrev pub leave_to_replace : Bool → Bool → Bool → List ℕ → Result (Unit {0}) ImageError
+leave_to_replace force is_blank is_whole head =
+    if force || is_blank then Ok tt else
+    if is_whole && is_formatted head then Err Formatted else Err NotEmpty

@@ -26,6 +26,9 @@ pub enum ImageError {
     /// The file holds a formatted chip, which is not to be replaced.
     #[error("the file holds a formatted chip")]
     Formatted,
+    /// The file holds something else, which is not to be replaced.
+    #[error("the file holds something")]
+    NotEmpty,
     /// The chip in memory refused the format: only as one whose power went.
     #[error("the chip in memory is refused: {0}")]
     Refused(ProbeError),

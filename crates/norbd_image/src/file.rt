@@ -10,38 +10,37 @@ use chip_model::Geometry;
 use nor_layout::{SUPER_LEN, SuperError, read_layout};
 use std::fs::{File, OpenFile, OpenOptions, Permissions};
 use std::io::{ErrorKind, Write};
+use std::os::unix::fs::FileExt;
 use std::rt::Files;
 use std::{fs, io};
 
-/// How many names beside an image are tried for the new file.
-const NAMES: u32 = 100;
-
 /// How many bytes are written at once. Some file systems keep what is written at once in one piece
 /// in memory, and then go through all of it for each page that a server writes there later.
-const PIECE_LEN: usize = 4_096;
+const WRITE_LEN: usize = 4_096;
 
 /// Makes these bytes the file at a path; one that is there is replaced as a whole, and a link to it
 /// stays, also one that leads to nothing yet.
 ///
-/// They are written to a new file in the same folder, PATH.0.new or the first such name that isn't
-/// taken, which gets the permissions of the one that it replaces and takes its name once the bytes
-/// are on the medium. What is there is locked meanwhile, and has to be a regular file that this
-/// process may write. What is at the path is as it was after each fault: `InUse` where another
-/// process has it, `NotAFile`, `Formatted` where it holds a formatted chip and `force` isn't set,
-/// `File` where it can't be opened or the new one can't be had, `OutOfMemory` where there is no
-/// memory for the names. The new file is removed then, where it can be.
+/// They are written to a new file in the same folder, PATH.norbd-new, which gets the permissions of
+/// the one that it replaces and takes its name once the bytes are on the medium. One of that name
+/// that a killed process left is removed first. What is there is locked meanwhile, and has to be a
+/// regular file that this process may write. What is at the path is as it was after each fault:
+/// `InUse` where another process has it or makes it anew, `NotAFile`, and where `force` isn't set
+/// `Formatted` where it holds a formatted chip and `NotEmpty` where it holds anything else than
+/// FFh; `File` where it can't be opened or the new one can't be had, `OutOfMemory` where there is
+/// no memory for the name. The new file is removed then, where it can be.
 pub fn write_image<R>(rt: &R, path: &str, bytes: &[u8], force: bool) -> Result<(), ImageError>
 where
     R: Files + AllocGlobal,
     R::File: ImageFile,
     ensures { IfErr result ComesOfFile }
 {
-    let Place {
+    let Target {
         path,
         permissions,
         held: _held,
         is_new,
-    } = place_of(rt, path, force)?;
+    } = target_of(rt, path, force)?;
     match replace(rt, path.as_str(), permissions, bytes) {
         Ok(()) => Ok(()),
         Err(error) => {
@@ -82,17 +81,21 @@ where
 
 /// Writes the bytes beside a path, and gives them its name.
 #[tactic(auto, using(crate::proofs::Faults::holding_is_file))]
-fn replace<R: Files + AllocGlobal>(
+fn replace<R>(
     rt: &R,
     path: &str,
     permissions: Option<Permissions>,
     bytes: &[u8],
 ) -> Result<(), ImageError>
+where
+    R: Files + AllocGlobal,
+    R::File: ImageFile,
     ensures file { IfErr result ComesOfFile }
     ensures holding { IfErr result ComesOfHolding }
 {
     let (file, name) = new_beside(rt, path)?;
-    let put = match fill(file, bytes, permissions) {
+    let mut file = file;
+    let put = match fill(&mut file, bytes, permissions) {
         Ok(()) => fs::rename(rt, name.as_str(), path),
         Err(error) => Err(error),
     };
@@ -108,7 +111,7 @@ fn replace<R: Files + AllocGlobal>(
 /// Where a file is to be, the permissions of the one that is there, its lock, and whether it was
 /// made for a link that led to nothing.
 #[derive(Drop)]
-struct Place<F> {
+struct Target<F> {
     path: String,
     permissions: Option<Permissions>,
     held: Option<Held<F>>,
@@ -118,7 +121,7 @@ struct Place<F> {
 /// The place of a path: the path itself where nothing is there, and else that of the regular file
 /// that it leads to.
 #[tactic(auto, using(crate::proofs::Faults::holding_is_file))]
-fn place_of<R>(rt: &R, path: &str, force: bool) -> Result<Place<R::File>, ImageError>
+fn target_of<R>(rt: &R, path: &str, force: bool) -> Result<Target<R::File>, ImageError>
 where
     R: Files + AllocGlobal,
     R::File: ImageFile,
@@ -138,7 +141,7 @@ where
             if makes_target(rt, path)? {
                 return place_of_file(rt, path, force, None, true);
             }
-            Ok(Place {
+            Ok(Target {
                 path: String::from_str(rt.alloc(), path)?,
                 permissions: None,
                 held: None,
@@ -156,21 +159,16 @@ fn place_of_file<R>(
     force: bool,
     permissions: Option<Permissions>,
     is_new: bool,
-) -> Result<Place<R::File>, ImageError>
+) -> Result<Target<R::File>, ImageError>
 where
     R: Files + AllocGlobal,
     R::File: ImageFile,
     ensures { IfErr result ComesOfFile }
 {
     let held = hold(rt, path)?;
-    let mut head = [0u8; SUPER_LEN];
-    match held.has_head(&mut head) {
-        Ok(true) => leave_to_replace(force, &head)?,
-        Ok(false) => {}
-        Err(error) => return Err(fault_from(error)),
-    }
+    leave_to_replace_held(force, &held)?;
     match fs::canonicalize(rt, path) {
-        Ok(path) => Ok(Place {
+        Ok(path) => Ok(Target {
             path: path.into_string(),
             permissions,
             held: Some(held),
@@ -180,14 +178,38 @@ where
     }
 }
 
-/// Whether a file that begins with these bytes may be replaced.
-fn leave_to_replace(force: bool, head: &[u8; SUPER_LEN]) -> Result<(), ImageError>
-    ensures { result ≡ leave_to_replace force head.now }
+/// Whether a file that is held may be replaced, by what it holds; `File` where it can't be read.
+#[tactic(auto, using(crate::proofs::Faults::holding_is_file))]
+fn leave_to_replace_held<F>(force: bool, held: &Held<F>) -> Result<(), ImageError>
+where
+    F: OpenFile + FileExt + Drop,
+    ensures { IfErr result ComesOfFile }
 {
-    if !force && is_formatted(head) {
+    let mut head = [0u8; SUPER_LEN];
+    match (held.has_head(&mut head), held.is_blank()) {
+        (Ok(whole), Ok(blank)) => leave_to_replace(force, blank, whole, &head),
+        (Err(error), _) => Err(fault_from(error)),
+        (_, Err(error)) => Err(fault_from(error)),
+    }
+}
+
+/// Whether a file may be replaced that is blank or not, and begins with these bytes where it has so
+/// many.
+fn leave_to_replace(
+    force: bool,
+    blank: bool,
+    whole: bool,
+    head: &[u8; SUPER_LEN],
+) -> Result<(), ImageError>
+    ensures { result ≡ leave_to_replace force blank whole head.now }
+{
+    if force || blank {
+        return Ok(());
+    }
+    if whole && is_formatted(head) {
         return Err(ImageError::Formatted);
     }
-    Ok(())
+    Err(ImageError::NotEmpty)
 }
 
 /// Whether a file that begins with these bytes holds a formatted chip, of any size and layout.
@@ -220,41 +242,64 @@ fn makes_target<R: Files>(rt: &R, path: &str) -> Result<bool, ImageError>
     }
 }
 
-/// A new file in the folder of a place, and its path.
+/// A new file in the folder of a place, whose lock is taken, and its path.
 #[tactic(auto, using(crate::proofs::Faults::holding_is_file))]
-fn new_beside<R: Files + AllocGlobal>(rt: &R, place: &str) -> Result<(R::File, String), ImageError>
+fn new_beside<R>(rt: &R, place: &str) -> Result<(R::File, String), ImageError>
+where
+    R: Files + AllocGlobal,
+    R::File: ImageFile,
     ensures file { IfErr result ComesOfFile }
     ensures holding { IfErr result ComesOfHolding }
 {
-    for number in 0..NAMES {
-        let name = format!(in rt.alloc(); "{place}.{number}.new")?;
-        match File::create_new(rt, name.as_str()) {
-            Ok(file) => return Ok((file, name)),
-            Err(error) => if error.kind() != ErrorKind::AlreadyExists {
-                return Err(fault_from(error));
-            }
+    let name = format!(in rt.alloc(); "{place}.norbd-new")?;
+    remove_left(rt, name.as_str())?;
+    let file = match File::create_new(rt, name.as_str()) {
+        Ok(file) => file,
+        Err(error) => return Err(fault_from(error)),
+    };
+    match file.claim() {
+        Ok(true) => Ok((file, name)),
+        Ok(false) => Err(ImageError::InUse),
+        Err(error) => {
+            let _ = fs::remove_file(rt, name.as_str());
+            Err(fault_from(error))
         }
     }
-    Err(ImageError::File(ErrorKind::AlreadyExists))
+}
+
+/// Removes a new file that no process has any more, if there is one.
+fn remove_left<R>(rt: &R, name: &str) -> Result<(), ImageError>
+where
+    R: Files,
+    R::File: ImageFile,
+    ensures { IfErr result ComesOfHolding }
+{
+    match hold(rt, name) {
+        Ok(_left) => match fs::remove_file(rt, name) {
+            Ok(()) => Ok(()),
+            Err(error) => Err(fault_from(error)),
+        },
+        Err(ImageError::File(ErrorKind::NotFound)) => Ok(()),
+        Err(error) => Err(error),
+    }
 }
 
 /// Gives a new file its permissions and its bytes, and has them written to the medium.
-fn fill<F: Write + OpenFile + Drop>(
-    file: F,
+fn fill<F: Write + OpenFile>(
+    file: &mut F,
     bytes: &[u8],
     permissions: Option<Permissions>,
 ) -> io::Result<()> {
-    let mut file = file;
     if let Some(permissions) = permissions {
         file.set_permissions(permissions)?;
     }
-    write_pieces(&mut file, bytes)?;
+    write_pieces(file, bytes)?;
     file.sync_all()
 }
 
 /// Writes the bytes in pieces.
 fn write_pieces<F: Write>(file: &mut F, bytes: &[u8]) -> io::Result<()> {
-    for piece in bytes.chunks(PIECE_LEN) {
+    for piece in bytes.chunks(WRITE_LEN) {
         file.write_all(piece)?;
     }
     Ok(())

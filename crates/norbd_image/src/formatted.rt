@@ -5,7 +5,7 @@ ghost use Rattle.chip_model.specs.Geometry.{IsChipSize};
 ghost use Rattle.norbd_image.specs.Image.{ComesOfFormat, IsFormattedImage};
 
 use crate::error::ImageError;
-use fault_model::PromptChip;
+use chip_simulator::PromptChip;
 use flash_disk::format;
 use std::alloc::Global;
 

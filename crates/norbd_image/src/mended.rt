@@ -1,10 +1,6 @@
 //! A clean image of the sectors that another holds.
 
-ghost use Rattle.std.specs.Prelude.{◌≡◌, ◌*◌, ◌%◌, ◌+◌, ◌≤◌, ◌<◌, length, replicate, true, IfErr};
-ghost use Rattle.std.specs.Prelude.{IfOk, OnOk, IsTrue};
-ghost use Rattle.std.specs.Result.{IsErrOf};
-ghost use Rattle.block_device.specs.Contents.{replaced};
-ghost use Rattle.block_device.specs.Facts.{CountsNeverFall, IsDiskReady};
+ghost use Rattle.std.specs.Prelude.{◌≡◌, ◌*◌, length, IfErr, IfOk};
 ghost use Rattle.chip_model.specs.Geometry.{IsChipSize, sector_count};
 ghost use Rattle.flash_disk.specs.Contents.{contents_of};
 ghost use Rattle.sector_map.specs.Maps.{IsMountable};
@@ -13,15 +9,13 @@ ghost use Rattle.norbd_image.specs.Mended.{ComesOfMemory, IsImageOf, IsMended, M
 
 use crate::error::ImageError;
 use crate::formatted::formatted_image;
-use block_device::{Disk, DiskError};
-use fault_model::PromptChip;
+use block_device::{Disk, DiskError, SECTOR_LEN};
+use chip_simulator::PromptChip;
 use flash_disk::{FlashDisk, MountError, Provenance};
 use nor_driver::ProbeError;
+use norbd_transfer::put_sectors;
 use std::alloc::Global;
 use std::marker::Brand;
-
-/// The bytes of a sector.
-const SECTOR_LEN: usize = 512;
 
 /// What is known of a chip that was just formatted.
 struct JustFormatted;
@@ -98,62 +92,11 @@ fn filled_image(alloc: Global, fresh: Vec<u8>, sectors: &[u8]) -> Result<Vec<u8>
         Ok(disk) => disk,
         Err((_, error)) => return Err(error),
     };
-    let filled = fill(&mut disk, sectors);
+    let filled = put_sectors(&mut disk, 0, sectors, &mut ());
     let chip = disk.into_inner();
     match filled {
         Ok(()) => Ok(chip.into_inner()),
         Err(DiskError::Cut) => Err(MountError::Probe(ProbeError::Cut)),
         Err(DiskError::Slow) => unreachable!(),
     }
-}
-
-/// Writes a disk's sectors, upwards.
-fn fill<D: Disk>(disk: &mut D, sectors: &[u8]) -> Result<(), DiskError>
-    requires whole { length sectors.now % 512 ≡ 0 }
-    requires few { length sectors.now ≤ 33554432 }
-    requires size { length sectors.now ≡ length (D.facts disk.old).contents }
-    requires ready { IsDiskReady (D.facts disk.old) }
-    requires sound { (D.facts disk.old).sound ≡ true }
-    ensures filled { OnOk result ((D.facts disk.new).contents ≡ sectors.now) }
-    ensures ready { OnOk result (IsDiskReady (D.facts disk.new)) }
-    ensures sound { (D.facts disk.new).sound ≡ true }
-    ensures goes { CountsNeverFall (D.facts disk.old) (D.facts disk.new) }
-    ensures slow { IsErrOf result DiskError.Slow
-        → (D.facts disk.old).slows < (D.facts disk.new).slows }
-{
-    let mut done = 0usize;
-    while done < sectors.len() {
-        put(disk, done / SECTOR_LEN, &sectors[done..done + SECTOR_LEN])?;
-        done += SECTOR_LEN;
-    }
-    Ok(())
-}
-
-/// Writes one sector; zeros take no slot of the chip.
-fn put<D: Disk>(disk: &mut D, sector: usize, bytes: &[u8]) -> Result<(), DiskError>
-    requires whole { length bytes.now ≡ 512 }
-    requires range { 512 * sector + 512 ≤ length (D.facts disk.old).contents }
-    requires number { sector < 65536 }
-    requires ready { IsDiskReady (D.facts disk.old) }
-    requires sound { (D.facts disk.old).sound ≡ true }
-    ensures written { OnOk result ((D.facts disk.new).contents
-        ≡ replaced (D.facts disk.old).contents (512 * sector) bytes.now) }
-    ensures ready { OnOk result (IsDiskReady (D.facts disk.new)) }
-    ensures sound { (D.facts disk.new).sound ≡ true }
-    ensures goes { CountsNeverFall (D.facts disk.old) (D.facts disk.new) }
-    ensures slow { IsErrOf result DiskError.Slow
-        → (D.facts disk.old).slows < (D.facts disk.new).slows }
-{
-    if is_blank(bytes) {
-        return disk.zero(sector as u32, 1);
-    }
-    disk.write(sector as u32, bytes)
-}
-
-/// Whether the bytes of a sector are all zeros.
-fn is_blank(bytes: &[u8]) -> bool
-    requires { length bytes.now ≡ 512 }
-    ensures { IsTrue result → bytes.now ≡ replicate 512 0 }
-{
-    bytes == [0u8; SECTOR_LEN].as_slice()
 }

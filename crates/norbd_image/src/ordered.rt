@@ -3,31 +3,17 @@
 ghost use Rattle.std.specs.Io.{ReadsAtMost, WritesAtMost};
 
 use crate::order::{Step, Unsynced, WriteOrder, unsynced_after, waits};
+use nor_layout::{BLOCK_LEN, DESCRIPTORS_PLACE, FIRST_DATA_BLOCK, HEAD_LEN, PAGE_LEN};
 use std::alloc::{AllocError, Global};
 use std::cell::Cell;
 use std::fs::{Metadata, OpenFile};
 use std::io;
-use std::io::{ErrorKind, Read, Seek, SeekFrom, Write};
+use std::io::ErrorKind;
 use std::os::unix::fs::FileExt;
 use std::sync::atomic::{AtomicBool, AtomicU32, Ordering};
 
-/// The bytes of a block, the least that an erase takes.
-const BLOCK_LEN: u64 = 4_096;
-
-/// The bytes of a page, the most that a program writes.
-const PAGE_LEN: u64 = 256;
-
-/// The blocks of the superblock and of the journals.
-const FIRST_DATA_BLOCK: u64 = 4;
-
-/// The bytes at the head of a data block: its mark, and the descriptors of its slots.
-const HEAD_LEN: usize = 44;
-
-/// Where the descriptors begin.
-const DESCRIPTORS: usize = 16;
-
 /// The most sectors that a chip could have, by its bytes.
-const MOST_SECTORS: u64 = 32_768;
+const MOST_CHIP_SECTORS: u64 = 32_768;
 
 /// The syncs of a file and the order that they keep. A failed one is the last: the system may have
 /// dropped what it could not write, and a later one would not tell.
@@ -47,7 +33,7 @@ impl Barrier {
     pub fn new(alloc: Global, order: WriteOrder, length: u64) -> Result<Barrier, AllocError> {
         let room = match order {
             WriteOrder::Any => 0,
-            _ => (length / 512).min(MOST_SECTORS) as usize,
+            _ => (length / 512).min(MOST_CHIP_SECTORS) as usize,
         };
         let mut begun = Vec::with_capacity(alloc, room)?;
         for _sector in 0..room {
@@ -140,11 +126,11 @@ fn head_step(head: &[u8; HEAD_LEN], page: &[u8]) -> Step {
     let Some(new) = page.get(..HEAD_LEN) else {
         return Step::Content;
     };
-    if head[..DESCRIPTORS] != new[..DESCRIPTORS] {
+    if head[..DESCRIPTORS_PLACE] != new[..DESCRIPTORS_PLACE] {
         return Step::Mark;
     }
     for slot in 0..7usize {
-        let at = DESCRIPTORS + 4 * slot;
+        let at = DESCRIPTORS_PLACE + 4 * slot;
         if head[at..at + 4] != new[at..at + 4] {
             let sector = u16::from_le_bytes([new[at + 2], new[at + 3]]);
             if head[at] == 0xFF {
@@ -185,14 +171,14 @@ impl<'b, F: OpenFile + FileExt> Ordered<'b, F> {
 
     /// What a write is.
     fn step(&self, bytes: &[u8], offset: u64) -> io::Result<Step> {
-        if bytes.len() as u64 > PAGE_LEN {
+        if bytes.len() > PAGE_LEN {
             return Ok(Step::Erase);
         }
-        let block = offset / BLOCK_LEN;
-        if block < FIRST_DATA_BLOCK {
+        let block = offset / BLOCK_LEN as u64;
+        if block < FIRST_DATA_BLOCK as u64 {
             return Ok(Step::Journal(block as u32));
         }
-        if offset % BLOCK_LEN != 0 {
+        if offset % BLOCK_LEN as u64 != 0 {
             return Ok(Step::Content);
         }
         let mut head = [0; HEAD_LEN];
@@ -230,46 +216,6 @@ impl<'b, F: OpenFile + FileExt> Ordered<'b, F> {
             self.sync()?;
         }
         Ok(n)
-    }
-}
-
-impl<F: Read> Read for Ordered<'_, F> {
-    fn read(&mut self, into: &mut [u8]) -> io::Result<usize> {
-        self.file.read(into)
-    }
-}
-
-impl<F: Write> Write for Ordered<'_, F> {
-    fn write(&mut self, bytes: &[u8]) -> io::Result<usize> {
-        self.file.write(bytes)
-    }
-
-    fn flush(&mut self) -> io::Result<()> {
-        self.file.flush()
-    }
-}
-
-impl<F: Seek> Seek for Ordered<'_, F> {
-    fn seek(&mut self, to: SeekFrom) -> io::Result<u64> {
-        self.file.seek(to)
-    }
-}
-
-impl<F: OpenFile> OpenFile for Ordered<'_, F> {
-    fn metadata(&self) -> io::Result<Metadata> {
-        self.file.metadata()
-    }
-
-    fn set_len(&self, size: u64) -> io::Result<()> {
-        self.file.set_len(size)
-    }
-
-    fn sync_all(&self) -> io::Result<()> {
-        self.barrier.sync(&self.file)
-    }
-
-    fn sync_data(&self) -> io::Result<()> {
-        self.barrier.sync(&self.file)
     }
 }
 

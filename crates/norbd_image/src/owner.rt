@@ -1,17 +1,28 @@
 //! The file of an image, which one process at a time serves or formats.
 
-ghost use Rattle.std.specs.Prelude.{◌≡◌, IfErr};
+ghost use Rattle.std.specs.Prelude.{◌≡◌, ◌↔◌, All, IfErr, IsTrue};
 ghost use Rattle.norbd_image.specs.Image.{ComesOfHolding};
 
 use crate::error::ImageError;
 use crate::ordered::{Barrier, Ordered, SyncHandle};
-use fault_model::{ImageBus, SimError};
-use std::alloc::{Allocator, Global};
-use std::fs::{File, Metadata, OpenFile, OpenOptions, TryLockError};
-use std::io::{Empty, ErrorKind, Read, Seek, Write};
+use chip_model::is_chip_size;
+use chip_simulator::{ImageBus, SimError};
+use std::alloc::Global;
+use std::fs::{File, OpenFile, OpenOptions, TryLockError};
+use std::io::ErrorKind;
 use std::os::unix::fs::{FileExt, MetadataExt};
 use std::rt::Files;
 use std::{fs, io};
+
+/// How many bytes of a file are looked at at once.
+const LOOK_LEN: usize = 4_096;
+
+/// Whether each of these bytes is FFh.
+fn is_erased(bytes: &[u8]) -> bool
+    ensures { IsTrue result ↔ All (λ byte. byte ≡ 255) bytes.now }
+{
+    bytes.iter().all(|&byte| byte == 0xFF)
+}
 
 /// The fault that a failed call on files is.
 pub(crate) fn fault_from(error: io::Error) -> ImageError
@@ -50,8 +61,9 @@ pub struct Held<F> {
 /// Opens the file at a path and takes its lock, which waits for nobody and reads and writes
 /// nothing.
 ///
-/// `InUse` where another process has it, or where the path leads to another file meanwhile, `File`
-/// where it can't be opened for reading and writing, or not be locked.
+/// `NotAFile` where the path leads to no regular file, `InUse` where another process has it, or
+/// where the path leads to another file meanwhile, `File` where it can't be opened for reading and
+/// writing, or not be locked.
 pub fn hold<R>(rt: &R, path: &str) -> Result<Held<R::File>, ImageError>
 where
     R: Files,
@@ -80,6 +92,12 @@ where
     R::File: ImageFile,
     ensures { IfErr result ComesOfHolding }
 {
+    match fs::metadata(rt, path) {
+        Ok(found) => if !found.is_file() {
+            return Err(ImageError::NotAFile);
+        },
+        Err(error) => return Err(fault_from(error)),
+    }
     let file = match OpenOptions::new().read(true).write(writes).open(rt, path) {
         Ok(file) => file,
         Err(error) => return Err(fault_from(error)),
@@ -100,11 +118,11 @@ where
     }
 }
 
-impl<F: Read + Write + Seek + OpenFile + FileExt + Drop> Held<F> {
+impl<F: OpenFile + FileExt + Drop> Held<F> {
     ghost use Rattle.std.specs.Prelude.{◌≡◌, IfOk, false, length};
     ghost use Rattle.chip_model.specs.Geometry.{IsChipSize};
-    ghost use Rattle.fault_model.specs.Image.{image_broken, image_chip, image_cuts};
-    ghost use Rattle.fault_model.specs.Sim.{fresh_chip};
+    ghost use Rattle.chip_simulator.specs.Image.{image_broken, image_chip, image_cuts};
+    ghost use Rattle.chip_simulator.specs.Sim.{fresh_chip};
 
     /// The length of the file in bytes, where the system tells it.
     pub fn length(&self) -> io::Result<u64> {
@@ -126,6 +144,19 @@ impl<F: Read + Write + Seek + OpenFile + FileExt + Drop> Held<F> {
         }
     }
 
+    /// Whether all bytes of the file are FFh, as those of an empty one are. It is read in pieces up
+    /// to the first that has another byte.
+    pub(crate) fn is_blank(&self) -> io::Result<bool> {
+        let mut piece = [0u8; LOOK_LEN];
+        for number in 0..self.length()?.div_ceil(LOOK_LEN as u64) {
+            let read = self.file.read_at(&mut piece, LOOK_LEN as u64 * number)?;
+            if !is_erased(&piece[..read]) {
+                return Ok(false);
+            }
+        }
+        Ok(true)
+    }
+
     /// All bytes of the file: `BadSize` where no chip has so many, `OutOfMemory` where there is no
     /// memory for them, and `File` where it can't be read.
     pub fn bytes(&self, alloc: Global) -> Result<Vec<u8>, SimError>
@@ -134,7 +165,7 @@ impl<F: Read + Write + Seek + OpenFile + FileExt + Drop> Held<F> {
         let Ok(length) = self.length() else {
             return Err(SimError::File);
         };
-        if length == 0 || length > 16_777_216 || length % 65_536 != 0 {
+        if !is_chip_size(length) {
             return Err(SimError::BadSize);
         }
         let Ok(mut bytes) = vec![in alloc; 0xFFu8; length as usize] else {
@@ -155,7 +186,7 @@ impl<F: Read + Write + Seek + OpenFile + FileExt + Drop> Held<F> {
     }
 
     /// The chip in the file, whose changes get to the disk of this machine in a barrier's order:
-    /// the refusals of `ImageBus::open`.
+    /// the refusals of `bytes`.
     pub fn chip<'b>(
         &self,
         alloc: Global,
@@ -166,78 +197,10 @@ impl<F: Read + Write + Seek + OpenFile + FileExt + Drop> Held<F> {
         ensures cuts { IfOk result (λ b. image_cuts b ≡ 0) }
         ensures sound { IfOk result (λ b. image_broken b ≡ false) }
     {
-        let opened = Opened {
-            file: &self.file,
-            barrier,
-            alloc,
+        let Ok(file) = self.file.try_clone() else {
+            return Err(SimError::File);
         };
-        ImageBus::open(&opened, "")
-    }
-}
-
-/// A system that has one file, which is open: every opening gives another handle of it.
-#[derive(Drop)]
-struct Opened<'f, 'b, F> {
-    file: &'f F,
-    barrier: &'b Barrier,
-    alloc: Global,
-}
-
-impl<F> Alloc for Opened<'_, '_, F> {
-    type A = Global;
-
-    fn alloc(&self) -> Global {
-        self.alloc
-    }
-}
-
-/// A call that such a system has not.
-fn unsupported<T>() -> io::Result<T> {
-    Err(io::Error::from(ErrorKind::Unsupported))
-}
-
-impl<'b, F: Read + Write + Seek + OpenFile + FileExt + Drop> Files for Opened<'_, 'b, F> {
-    type File = Ordered<'b, F>;
-
-    type Dir = Empty;
-
-    fn open_file(&self, _how: &OpenOptions, _path: &str) -> io::Result<Ordered<'b, F>> {
-        Ok(Ordered::new(self.file.try_clone()?, self.barrier))
-    }
-
-    fn open_dir(&self, _path: &str) -> io::Result<Empty> {
-        unsupported()
-    }
-
-    fn metadata(&self, _path: &str) -> io::Result<Metadata> {
-        self.file.metadata()
-    }
-
-    fn symlink_metadata(&self, _path: &str) -> io::Result<Metadata> {
-        self.file.metadata()
-    }
-
-    fn copy(&self, _from: &str, _to: &str) -> io::Result<u64> {
-        unsupported()
-    }
-
-    fn rename(&self, _from: &str, _to: &str) -> io::Result<()> {
-        unsupported()
-    }
-
-    fn remove_file(&self, _path: &str) -> io::Result<()> {
-        unsupported()
-    }
-
-    fn create_dir(&self, _path: &str) -> io::Result<()> {
-        unsupported()
-    }
-
-    fn remove_dir(&self, _path: &str) -> io::Result<()> {
-        unsupported()
-    }
-
-    fn remove_dir_all<B: Allocator>(&self, _alloc: B, _path: &str) -> io::Result<()> {
-        unsupported()
+        let bytes = self.bytes(alloc)?;
+        Ok(ImageBus::over(bytes, Ordered::new(file, barrier)))
     }
 }

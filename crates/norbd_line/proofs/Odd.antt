@@ -5,7 +5,7 @@ use Rattle.clap.specs.Words.{IsAmong, Row, Text, kind_of}
 use Rattle.norbd_line.specs.Fault.{ComesFromWords}
 use Rattle.norbd_line.specs.Line.{HasOddSize, IsLineInRange, IsLineOf, IsOddSize, IsSize, Names, TakesSize, number_in}
 use Rattle.norbd_line.specs.declared.fault.Fault.{Fault}
-use Rattle.norbd_line.specs.declared.fault.Fault.TheVariants.{Words, NoMemory, BadSize, InputFailed, OutputFailed, ImageFailed, WrongId, BadSfdp, Protected, Slow, BadRecord, NotFormatted, Corrupt, NotClean, BadImageSize, NoSocket, NoThread, BadSync, NotText, InUse, Formatted, BadAddress, BadTidy, BadRange, BadInput}
+use Rattle.norbd_line.specs.declared.fault.Fault.TheVariants.{Words, NoMemory, BadSize, InputFailed, OutputFailed, ImageFailed, WrongId, BadSfdp, Protected, Slow, BadRecord, NotFormatted, Corrupt, NotClean, BadImageSize, NoSocket, NoThread, BadSync, NotText, EmptyName, InUse, Formatted, NotEmpty, BadAddress, BadTidy, BadRange, BadInput}
 use Rattle.norbd_line.specs.declared.line.Line.{Line}
 use Rattle.norbd_line.specs.declared.line.Line.TheVariants.{Plain, Format, Script, Serve, Check, Show, Read, Write, Chip}
 
@@ -60,70 +60,78 @@ unfolding first_of_name
 write_takes_no_size (inl e) = let first : 119 ≡ 102 = ap first_of_name e in omega (arith, first)
 write_takes_no_size (inr e) = let first : 119 ≡ 115 = ap first_of_name e in omega (arith, first)
 
+same_number : (k m : ℕ) → Some k ≡ Some m → k ≡ m
+same_number k m e = ap (λ (o : Option ℕ). unwrap_or o 0) e
+
 size≢odd : (k m : ℕ) → Some k ≡ Some m → IsSize k → IsOddSize m → ⊥
-size≢odd k m e size odd =
-    let same : k ≡ m = ap (λ (o : Option ℕ). unwrap_or o 0) e in
-    odd.2 (ap (λ n. n % 64) (sym same) ∙ size.2)
+size≢odd k m e size odd = odd.2 (ap (λ n. n % 64) (sym (same_number k m e)) ∙ size.2)
+
+no_odd_line : (words : List Text) (l : Line) → IsLineInRange l → IsLineOf words l → (odd_kib : ℕ) → HasOddSize words odd_kib → ⊥
+no_odd_line words (Chip asked) range line odd_kib odd =
+    let name = same_name words line.0 odd.0 line.1 odd.1 line.2 odd.2 in
+    chip_takes_no_size (subst TakesSize (sym name ∙ line.3.0) odd.3.0)
+no_odd_line words (Plain sectors keeps_rows) range line odd_kib odd =
+    let name = same_name words line.0 odd.0 line.1 odd.1 line.2 odd.2 in
+    plain_takes_no_size (subst TakesSize (sym name ∙ line.3.0) odd.3.0)
+no_odd_line words (Format image kib forced sure) range line odd_kib odd =
+    let rows = same_rows words line.0 odd.0 line.1 odd.1 line.2 odd.2 in
+    let number = sym line.3.2 ∙ ap (number_in (codes "kib")) rows ∙ odd.3.1 in
+    size≢odd kib odd_kib number range odd.3.2
+no_odd_line words (Script kib) range line odd_kib odd =
+    let rows = same_rows words line.0 odd.0 line.1 odd.1 line.2 odd.2 in
+    let number = sym line.3.1 ∙ ap (number_in (codes "kib")) rows ∙ odd.3.1 in
+    size≢odd kib odd_kib number range odd.3.2
+no_odd_line words (Serve asked) range line odd_kib odd =
+    let name = same_name words line.0 odd.0 line.1 odd.1 line.2 odd.2 in
+    serve_takes_no_size (subst TakesSize (sym name ∙ line.3.0) odd.3.0)
+no_odd_line words (Check image mends tells_json) range line odd_kib odd =
+    let name = same_name words line.0 odd.0 line.1 odd.1 line.2 odd.2 in
+    check_takes_no_size (subst TakesSize (sym name ∙ line.3.0) odd.3.0)
+no_odd_line words (Show image) range line odd_kib odd =
+    let name = same_name words line.0 odd.0 line.1 odd.1 line.2 odd.2 in
+    show_takes_no_size (subst TakesSize (sym name ∙ line.3.0) odd.3.0)
+no_odd_line words (Read image asked) range line odd_kib odd =
+    let name = same_name words line.0 odd.0 line.1 odd.1 line.2 odd.2 in
+    read_takes_no_size (subst TakesSize (sym name ∙ line.3.0) odd.3.0)
+no_odd_line words (Write image asked) range line odd_kib odd =
+    let name = same_name words line.0 odd.0 line.1 odd.1 line.2 odd.2 in
+    write_takes_no_size (subst TakesSize (sym name ∙ line.3.0) odd.3.0)
 
 pub odd_is_refused : (words : List Text) (r : Result Line Fault) → IfOk r IsLineInRange → IfOk r (IsLineOf words) → IfErr r (ComesFromWords words)
-    → HasOddSize words → IsErrAnd r (λ e. (e ≡ BadSize) ⊎ (e ≡ NoMemory))
-odd_is_refused words (Ok (Chip asked)) range line fault odd =
-    let name = same_name words line.0 odd.0 line.1 odd.1 line.2 odd.2 in
-    absurd (chip_takes_no_size (subst TakesSize (sym name ∙ line.3.0) odd.3.0))
-odd_is_refused words (Ok (Plain sectors keeps_rows)) range line fault odd =
-    let name = same_name words line.0 odd.0 line.1 odd.1 line.2 odd.2 in
-    absurd (plain_takes_no_size (subst TakesSize (sym name ∙ line.3.0) odd.3.0))
-odd_is_refused words (Ok (Format image kib forced sure)) range line fault odd =
-    let rows = same_rows words line.0 odd.0 line.1 odd.1 line.2 odd.2 in
-    let number = sym line.3.2 ∙ ap (number_in (codes "kib")) rows ∙ odd.3.1.1 in
-    absurd (size≢odd kib odd.3.1.0 number range odd.3.1.2)
-odd_is_refused words (Ok (Script kib)) range line fault odd =
-    let rows = same_rows words line.0 odd.0 line.1 odd.1 line.2 odd.2 in
-    let number = sym line.3.1 ∙ ap (number_in (codes "kib")) rows ∙ odd.3.1.1 in
-    absurd (size≢odd kib odd.3.1.0 number range odd.3.1.2)
-odd_is_refused words (Ok (Serve asked)) range line fault odd =
-    let name = same_name words line.0 odd.0 line.1 odd.1 line.2 odd.2 in
-    absurd (serve_takes_no_size (subst TakesSize (sym name ∙ line.3.0) odd.3.0))
-odd_is_refused words (Ok (Check image mends tells_json)) range line fault odd =
-    let name = same_name words line.0 odd.0 line.1 odd.1 line.2 odd.2 in
-    absurd (check_takes_no_size (subst TakesSize (sym name ∙ line.3.0) odd.3.0))
-odd_is_refused words (Ok (Show image)) range line fault odd =
-    let name = same_name words line.0 odd.0 line.1 odd.1 line.2 odd.2 in
-    absurd (show_takes_no_size (subst TakesSize (sym name ∙ line.3.0) odd.3.0))
-odd_is_refused words (Ok (Read image asked)) range line fault odd =
-    let name = same_name words line.0 odd.0 line.1 odd.1 line.2 odd.2 in
-    absurd (read_takes_no_size (subst TakesSize (sym name ∙ line.3.0) odd.3.0))
-odd_is_refused words (Ok (Write image asked)) range line fault odd =
-    let name = same_name words line.0 odd.0 line.1 odd.1 line.2 odd.2 in
-    absurd (write_takes_no_size (subst TakesSize (sym name ∙ line.3.0) odd.3.0))
-odd_is_refused words (Err (Words error)) range line fault odd = absurd (subst (IsAmong (kind_of error)) odd.2.faultless fault.1)
-odd_is_refused words (Err BadSize) range line fault odd = inl refl
-odd_is_refused words (Err BadSync) range line fault odd =
+    → (odd_kib : ℕ) → HasOddSize words odd_kib → IsErrAnd r (λ e. (e ≡ BadSize odd_kib) ⊎ (e ≡ NoMemory))
+odd_is_refused words (Ok l) range line fault odd_kib odd = absurd (no_odd_line words l range line odd_kib odd)
+odd_is_refused words (Err (Words error)) range line fault odd_kib odd = absurd (subst (IsAmong (kind_of error)) odd.2.faultless fault.1)
+odd_is_refused words (Err (BadSize kib)) range line fault odd_kib odd =
+    let rows = same_rows words fault.0 odd.0 fault.1 odd.1 fault.2 odd.2 in
+    inl (ap BadSize (same_number kib odd_kib (sym fault.3.1 ∙ ap (number_in (codes "kib")) rows ∙ odd.3.1)))
+odd_is_refused words (Err BadSync) range line fault odd_kib odd =
     let name = same_name words fault.0 odd.0 fault.1 odd.1 fault.2 odd.2 in
     absurd (serve_takes_no_size (subst TakesSize (sym name ∙ fault.3.0) odd.3.0))
-odd_is_refused words (Err BadTidy) range line fault odd =
+odd_is_refused words (Err BadTidy) range line fault odd_kib odd =
     let name = same_name words fault.0 odd.0 fault.1 odd.1 fault.2 odd.2 in
     absurd (serve_takes_no_size (subst TakesSize (sym name ∙ fault.3.0) odd.3.0))
-odd_is_refused words (Err BadAddress) range line fault odd =
+odd_is_refused words (Err BadAddress) range line fault odd_kib odd =
     let name = same_name words fault.0 odd.0 fault.1 odd.1 fault.2 odd.2 in
     absurd (serve_takes_no_size (subst TakesSize (sym name ∙ fault.3.0) odd.3.0))
-odd_is_refused words (Err NotText) range line fault odd = absurd fault
-odd_is_refused words (Err NoMemory) range line fault odd = inr refl
-odd_is_refused words (Err InputFailed) range line fault odd = absurd fault
-odd_is_refused words (Err OutputFailed) range line fault odd = absurd fault
-odd_is_refused words (Err (ImageFailed cause)) range line fault odd = absurd fault
-odd_is_refused words (Err InUse) range line fault odd = absurd fault
-odd_is_refused words (Err Formatted) range line fault odd = absurd fault
-odd_is_refused words (Err WrongId) range line fault odd = absurd fault
-odd_is_refused words (Err BadSfdp) range line fault odd = absurd fault
-odd_is_refused words (Err Protected) range line fault odd = absurd fault
-odd_is_refused words (Err Slow) range line fault odd = absurd fault
-odd_is_refused words (Err BadRecord) range line fault odd = absurd fault
-odd_is_refused words (Err NotFormatted) range line fault odd = absurd fault
-odd_is_refused words (Err Corrupt) range line fault odd = absurd fault
-odd_is_refused words (Err NotClean) range line fault odd = absurd fault
-odd_is_refused words (Err (BadImageSize length)) range line fault odd = absurd fault
-odd_is_refused words (Err (NoSocket cause)) range line fault odd = absurd fault
-odd_is_refused words (Err NoThread) range line fault odd = absurd fault
-odd_is_refused words (Err BadRange) range line fault odd = absurd fault
-odd_is_refused words (Err (BadInput length)) range line fault odd = absurd fault
+odd_is_refused words (Err NotText) range line fault odd_kib odd = absurd fault
+odd_is_refused words (Err EmptyName) range line fault odd_kib odd = absurd (no_odd_line words fault.0 fault.2 fault.1 odd_kib odd)
+odd_is_refused words (Err NoMemory) range line fault odd_kib odd = inr refl
+odd_is_refused words (Err InputFailed) range line fault odd_kib odd = absurd fault
+odd_is_refused words (Err OutputFailed) range line fault odd_kib odd = absurd fault
+odd_is_refused words (Err (ImageFailed cause)) range line fault odd_kib odd = absurd fault
+odd_is_refused words (Err InUse) range line fault odd_kib odd = absurd fault
+odd_is_refused words (Err Formatted) range line fault odd_kib odd = absurd fault
+odd_is_refused words (Err NotEmpty) range line fault odd_kib odd = absurd fault
+odd_is_refused words (Err WrongId) range line fault odd_kib odd = absurd fault
+odd_is_refused words (Err BadSfdp) range line fault odd_kib odd = absurd fault
+odd_is_refused words (Err Protected) range line fault odd_kib odd = absurd fault
+odd_is_refused words (Err Slow) range line fault odd_kib odd = absurd fault
+odd_is_refused words (Err BadRecord) range line fault odd_kib odd = absurd fault
+odd_is_refused words (Err NotFormatted) range line fault odd_kib odd = absurd fault
+odd_is_refused words (Err Corrupt) range line fault odd_kib odd = absurd fault
+odd_is_refused words (Err NotClean) range line fault odd_kib odd = absurd fault
+odd_is_refused words (Err (BadImageSize length)) range line fault odd_kib odd = absurd fault
+odd_is_refused words (Err (NoSocket cause)) range line fault odd_kib odd = absurd fault
+odd_is_refused words (Err NoThread) range line fault odd_kib odd = absurd fault
+odd_is_refused words (Err (BadRange count)) range line fault odd_kib odd = absurd fault
+odd_is_refused words (Err (BadInput length)) range line fault odd_kib odd = absurd fault

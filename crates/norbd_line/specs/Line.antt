@@ -63,114 +63,6 @@ IsLineInRange (Show image) = Unit {0}
 IsLineInRange (Read image range) = Unit {0}
 IsLineInRange (Write image range) = Unit {0}
 
--- a fact of the number of a line `plain`, and of whether it keeps rows
-abbrev pub IfPlain : Line → (ℕ → Bool → Type 0) → Type 0
-IfPlain (Chip asked) p = Unit {0}
-IfPlain (Plain sectors keeps_rows) p = p sectors keeps_rows
-IfPlain (Format image kib forced sure) p = Unit {0}
-IfPlain (Script kib) p = Unit {0}
-IfPlain (Serve asked) p = Unit {0}
-IfPlain (Check image mends tells_json) p = Unit {0}
-IfPlain (Show image) p = Unit {0}
-IfPlain (Read image range) p = Unit {0}
-IfPlain (Write image range) p = Unit {0}
-
--- a fact of the path and the number of a line `format`
-abbrev pub IfFormat : Line → (Text → ℕ → Type 0) → Type 0
-IfFormat (Chip asked) p = Unit {0}
-IfFormat (Plain sectors keeps_rows) p = Unit {0}
-IfFormat (Format image kib forced sure) p = p image.now kib
-IfFormat (Script kib) p = Unit {0}
-IfFormat (Serve asked) p = Unit {0}
-IfFormat (Check image mends tells_json) p = Unit {0}
-IfFormat (Show image) p = Unit {0}
-IfFormat (Read image range) p = Unit {0}
-IfFormat (Write image range) p = Unit {0}
-
--- a fact of the number of a line `script`
-abbrev pub IfScript : Line → (ℕ → Type 0) → Type 0
-IfScript (Chip asked) p = Unit {0}
-IfScript (Plain sectors keeps_rows) p = Unit {0}
-IfScript (Format image kib forced sure) p = Unit {0}
-IfScript (Script kib) p = p kib
-IfScript (Serve asked) p = Unit {0}
-IfScript (Check image mends tells_json) p = Unit {0}
-IfScript (Show image) p = Unit {0}
-IfScript (Read image range) p = Unit {0}
-IfScript (Write image range) p = Unit {0}
-
--- a fact of what a line `chip` asks
-abbrev pub IfChip : Line → (ChipLine → Type 0) → Type 0
-IfChip (Chip asked) p = p asked
-IfChip (Plain sectors keeps_rows) p = Unit {0}
-IfChip (Format image kib forced sure) p = Unit {0}
-IfChip (Script kib) p = Unit {0}
-IfChip (Serve asked) p = Unit {0}
-IfChip (Check image mends tells_json) p = Unit {0}
-IfChip (Show image) p = Unit {0}
-IfChip (Read image range) p = Unit {0}
-IfChip (Write image range) p = Unit {0}
-
--- a fact of what a line `serve` asks
-abbrev pub IfServe : Line → (ServeLine → Type 0) → Type 0
-IfServe (Chip asked) p = Unit {0}
-IfServe (Plain sectors keeps_rows) p = Unit {0}
-IfServe (Format image kib forced sure) p = Unit {0}
-IfServe (Script kib) p = Unit {0}
-IfServe (Serve asked) p = p asked
-IfServe (Check image mends tells_json) p = Unit {0}
-IfServe (Show image) p = Unit {0}
-IfServe (Read image range) p = Unit {0}
-IfServe (Write image range) p = Unit {0}
-
--- a fact of whether a line `check` mends, and whether it tells in JSON
-abbrev pub IfCheck : Line → (Bool → Bool → Type 0) → Type 0
-IfCheck (Chip asked) p = Unit {0}
-IfCheck (Plain sectors keeps_rows) p = Unit {0}
-IfCheck (Format image kib forced sure) p = Unit {0}
-IfCheck (Script kib) p = Unit {0}
-IfCheck (Serve asked) p = Unit {0}
-IfCheck (Check image mends tells_json) p = p mends tells_json
-IfCheck (Show image) p = Unit {0}
-IfCheck (Read image range) p = Unit {0}
-IfCheck (Write image range) p = Unit {0}
-
--- a fact of a line `show`
-abbrev pub IfShow : Line → Type 0 → Type 0
-IfShow (Chip asked) p = Unit {0}
-IfShow (Plain sectors keeps_rows) p = Unit {0}
-IfShow (Format image kib forced sure) p = Unit {0}
-IfShow (Script kib) p = Unit {0}
-IfShow (Serve asked) p = Unit {0}
-IfShow (Check image mends tells_json) p = Unit {0}
-IfShow (Show image) p = p
-IfShow (Read image range) p = Unit {0}
-IfShow (Write image range) p = Unit {0}
-
--- a fact of a line `read`
-abbrev pub IfRead : Line → Type 0 → Type 0
-IfRead (Chip asked) p = Unit {0}
-IfRead (Plain sectors keeps_rows) p = Unit {0}
-IfRead (Format image kib forced sure) p = Unit {0}
-IfRead (Script kib) p = Unit {0}
-IfRead (Serve asked) p = Unit {0}
-IfRead (Check image mends tells_json) p = Unit {0}
-IfRead (Show image) p = Unit {0}
-IfRead (Read image range) p = p
-IfRead (Write image range) p = Unit {0}
-
--- a fact of a line `write`
-abbrev pub IfWrite : Line → Type 0 → Type 0
-IfWrite (Chip asked) p = Unit {0}
-IfWrite (Plain sectors keeps_rows) p = Unit {0}
-IfWrite (Format image kib forced sure) p = Unit {0}
-IfWrite (Script kib) p = Unit {0}
-IfWrite (Serve asked) p = Unit {0}
-IfWrite (Check image mends tells_json) p = Unit {0}
-IfWrite (Show image) p = Unit {0}
-IfWrite (Read image range) p = Unit {0}
-IfWrite (Write image range) p = p
-
 -- the number that a text writes in decimal digits
 abbrev pub number_of : Text → ℕ
 number_of text = digits_value 10 (without_leading_plus text)
@@ -201,7 +93,7 @@ abbrev pub tidy_in : List Row → Option TidyPolicy
 tidy_in rows = tidy_of (first_of (codes "tidy") rows)
 
 -- Where a server listens, by what follows `--port`, `--bind` and `--unix`: a port of an address, or
--- a Unix socket, and never both.
+-- a Unix socket, whose path isn't empty, and never both.
 abbrev pub IsPlaceIn : List Row → Place → Type 0
 IsPlaceIn rows (places.Port port bind) =
     (number_in (codes "port") rows ≡ Some port)
@@ -209,7 +101,7 @@ IsPlaceIn rows (places.Port port bind) =
     × (first_of (codes "unix") rows ≡ None)
 IsPlaceIn rows (places.Unix path) =
     (number_in (codes "port") rows ≡ None) × (first_of (codes "bind") rows ≡ None)
-    × (first_of (codes "unix") rows ≡ Some path.now)
+    × (first_of (codes "unix") rows ≡ Some path.now) × (path.now ≢ [])
 
 -- the words say no such place
 abbrev pub HasNoPlace : List Row → Type 0
@@ -261,11 +153,11 @@ IsLineIn name rows (Write image range) =
 abbrev pub TakesSize : Text → Type 0
 TakesSize name = (name ≡ codes "format") ⊎ (name ≡ codes "script")
 
--- the matches are those of a command that takes a size, whose number is in the range of the sizes,
--- and no size
-abbrev pub HasOddSizeIn : Text → List Row → Type 0
-HasOddSizeIn name rows = TakesSize name
-    × ((kib : ℕ) × (number_in (codes "kib") rows ≡ Some kib) × IsOddSize kib)
+-- the matches are those of a command that takes a size, whose number is this one, in the range of
+-- the sizes, and no size
+abbrev pub HasOddSizeIn : Text → List Row → ℕ → Type 0
+HasOddSizeIn name rows kib = TakesSize name × (number_in (codes "kib") rows ≡ Some kib)
+    × IsOddSize kib
 
 -- the words are without fault, and name this command, of whose words these matches were made
 pub record Names (words : List Text) (name : Text) (rows : List Row) : Type 0 where
@@ -277,10 +169,27 @@ abbrev pub IsLineOf : List Text → Line → Type 0
 IsLineOf words line = (name : Text) × (rows : List Row) × Names words name rows
     × IsLineIn name rows line
 
--- the words say `format` or `script`, with a number that is in the range of the sizes, and no size
-abbrev pub HasOddSize : List Text → Type 0
-HasOddSize words = (name : Text) × (rows : List Row) × Names words name rows
-    × HasOddSizeIn name rows
+-- the image of the line, where it has one, has a name
+abbrev pub IsNamed : Line → Type 0
+IsNamed (Chip asked) = asked.image.now ≢ []
+IsNamed (Plain sectors keeps_rows) = Unit {0}
+IsNamed (Format image kib forced sure) = image.now ≢ []
+IsNamed (Script kib) = Unit {0}
+IsNamed (Serve asked) = asked.image.now ≢ []
+IsNamed (Check image mends tells_json) = image.now ≢ []
+IsNamed (Show image) = image.now ≢ []
+IsNamed (Read image range) = image.now ≢ []
+IsNamed (Write image range) = image.now ≢ []
+
+-- the words say a line, with its numbers in their ranges, whose image has no name
+abbrev pub HasEmptyName : List Text → Type 0
+HasEmptyName words = (line : Line) × IsLineOf words line × IsLineInRange line
+    × (IsNamed line → ⊥)
+
+-- the words say `format` or `script`, with this number, in the range of the sizes, and no size
+abbrev pub HasOddSize : List Text → ℕ → Type 0
+HasOddSize words kib = (name : Text) × (rows : List Row) × Names words name rows
+    × HasOddSizeIn name rows kib
 
 -- the matches are those of `serve`, with a word after `--sync` that says no syncing
 abbrev pub HasBadSyncIn : Text → List Row → Type 0

@@ -1,6 +1,8 @@
 //! Why a chip behind a programmer failed.
 
+use crate::answer::Unused;
 use serprog::SerprogError;
+use std::io::ErrorKind;
 use thiserror::Error;
 
 /// Why a chip behind a programmer failed. Its text stands behind that of the fault.
@@ -16,7 +18,7 @@ pub enum ChipCause {
     #[error("a chip of {0} KiB")]
     Size(u32),
     /// The programmer isn't used.
-    #[error("{0}")]
+    #[error("{}", Unused(*.0))]
     Programmer(SerprogError),
     /// The programmer gave no answer to a frame: its code.
     #[error("no answer to a frame {0:#04x}")]
@@ -41,4 +43,14 @@ pub enum ChipCause {
     /// answer, what was read, and what is allowed.
     #[error("the chip left the model in a frame {0:#04x}, byte {1} of its answer, read {2:#04x}, the model allows {3:#04x}")]
     LeftIn(u8, u32, u8, u8),
+}
+
+impl ChipCause {
+    /// The system's answer where the programmer isn't reached.
+    pub fn unreached(self) -> Option<ErrorKind> {
+        match self {
+            ChipCause::Programmer(SerprogError::Unreached(kind)) => Some(kind),
+            _ => None,
+        }
+    }
 }

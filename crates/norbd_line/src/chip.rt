@@ -5,9 +5,9 @@ ghost use Rattle.norbd_line.specs.CommandLine.{chip_app, chip_port_rule, flag_ru
 ghost use Rattle.norbd_line.specs.Line.{IsLineIn, IsLineInRange};
 
 use crate::Fault;
-use crate::line::{
-    AFTER_HELP, Line, MOST_CONNS, MOST_PORT, conns_arg, image_arg, number, number_if_there,
-};
+use crate::commands::AFTER_HELP;
+use crate::line::Line;
+use crate::options::{MOST_CONNS, MOST_PORT, conns_arg, image_arg, number, number_if_there};
 use clap::error::ErrorKind;
 use clap::{Arg, ArgAction, ArgMatches, Command, value_parser};
 use std::alloc::Global;

@@ -1,7 +1,9 @@
 //! The faults of the program.
 ghost use Rattle.norbd_line.specs.Fault.{HasStatus};
 
+use crate::answer::Answer;
 use crate::cause::ChipCause;
+use std::fmt;
 use std::io::ErrorKind;
 use thiserror::Error;
 
@@ -9,8 +11,14 @@ use thiserror::Error;
 #[derive(Clone, Copy, Debug, PartialEq, Eq, Drop, Error)]
 pub enum Cause {
     /// The system's answer to opening, locking, making or binding it.
-    #[error("{0}")]
+    #[error("{}", Answer(*.0))]
     System(ErrorKind),
+    /// The path of a Unix socket is too long. Source: unix(7), `sun_path`.
+    #[error("a socket's path has at most 107 bytes")]
+    LongPath,
+    /// Something that is no socket is at the path.
+    #[error("what is there is no socket")]
+    NotASocket,
     /// What is at the path is no regular file.
     #[error("not a regular file")]
     NotAFile,
@@ -38,21 +46,25 @@ pub enum Fault {
     /// The words are no line of the program, or ask for help or the version: `clap`'s text.
     #[error(transparent)]
     Words(clap::Error),
-    /// The chip's size is in its range and no multiple of 64 KiB.
-    #[error("bad size")]
-    BadSize,
+    /// The chip's size, which is so many KiB, is in its range and no multiple of 64.
+    #[error("bad size: {0} is no multiple of 64")]
+    BadSize(u32),
     /// The word after `--sync` is none of `flush`, `never` and `always`.
     #[error("bad sync")]
     BadSync,
     /// The word after `--tidy` is neither `lazy` nor `eager`.
     #[error("bad tidy")]
     BadTidy,
-    /// The words say no place to listen at, or two, or the word after `--bind` is no IP address.
+    /// The words say no place to listen at, or two, or an empty one, or the word after `--bind` is
+    /// no IP address.
     #[error("bad address")]
     BadAddress,
     /// A word, as the name of a file, isn't text (UTF-8).
     #[error("a word is not UTF-8")]
     NotText,
+    /// The name of the image is empty.
+    #[error("the image's name is empty")]
+    EmptyName,
     /// Memory ran out.
     #[error("no memory")]
     NoMemory,
@@ -71,6 +83,9 @@ pub enum Fault {
     /// The file holds a formatted chip, and `--force` isn't set.
     #[error("image is formatted")]
     Formatted,
+    /// The file holds something else than a formatted chip, and `--force` isn't set.
+    #[error("file isn't empty")]
+    NotEmpty,
     /// The chip's id is another.
     #[error("wrong id")]
     WrongId,
@@ -105,13 +120,39 @@ pub enum Fault {
     /// A thread could not be started.
     #[error("no thread")]
     NoThread,
-    /// The text after `--sectors` is no range of sectors of the disk: `A:B`, from sector A on and
-    /// before sector B, with A below B.
+    /// The text after `--sectors` is no range of sectors of the disk, which has so many: `A:B`,
+    /// from sector A on and before sector B, with A below B.
     #[error("bad range of sectors")]
-    BadRange,
-    /// Standard input hasn't this number of bytes, which the sectors have that it would replace.
-    #[error("standard input isn't {0} bytes")]
-    BadInput(u64),
+    BadRange(u32),
+    /// Standard input hasn't as many bytes as the sectors that it would replace.
+    #[error("standard input {0}")]
+    BadInput(InputLength),
+}
+
+/// How many bytes standard input has, or None where it has more than are taken; and how many the
+/// sectors take that it would replace, from the first to the last.
+#[derive(Clone, Copy, Debug, PartialEq, Eq, Drop)]
+pub struct InputLength {
+    pub had: Option<u64>,
+    pub taken: u64,
+    pub first: u32,
+    pub last: u32,
+}
+
+impl fmt::Display for InputLength {
+    fn fmt<W: fmt::Write>(&self, f: &mut fmt::Formatter<W>) -> fmt::Result {
+        let InputLength {
+            had,
+            taken,
+            first,
+            last,
+        } = *self;
+        match had {
+            Some(had) => write!(f, "has {had} bytes")?,
+            None => write!(f, "has more than {taken} bytes")?,
+        }
+        write!(f, ", sectors {first} to {last} take {taken}")
+    }
 }
 
 impl Fault {
@@ -122,17 +163,19 @@ impl Fault {
     {
         match self {
             Fault::Words(error) => if error.use_stderr() { 2 } else { 0 },
-            Fault::BadSize => 2,
+            Fault::BadSize(_) => 2,
             Fault::BadSync => 2,
             Fault::BadTidy => 2,
             Fault::BadAddress => 2,
             Fault::NotText => 2,
+            Fault::EmptyName => 2,
             Fault::NoMemory => 1,
             Fault::InputFailed => 1,
             Fault::OutputFailed => 1,
             Fault::ImageFailed(_) => 1,
             Fault::InUse => 1,
             Fault::Formatted => 1,
+            Fault::NotEmpty => 1,
             Fault::WrongId => 1,
             Fault::BadSfdp => 1,
             Fault::Protected => 1,
@@ -144,7 +187,7 @@ impl Fault {
             Fault::BadImageSize(_) => 1,
             Fault::NoSocket(_) => 1,
             Fault::NoThread => 1,
-            Fault::BadRange => 2,
+            Fault::BadRange(_) => 2,
             Fault::BadInput(_) => 1,
         }
     }

@@ -1,26 +1,19 @@
 //! The line: what the program is asked to do.
-ghost use Rattle.std.specs.Prelude.{◌≡◌, ◌≢◌, ◌≤◌, ◌%◌, ◌⊎◌, IfErr, IfOk, IfSome, IsErrAnd, Some};
-ghost use Rattle.std.specs.Prelude.{None, codes, false, option_map};
-ghost use Rattle.clap.specs.Words.{FailsBy, Text, app_of, fault_of, found_of, kind_of, one_text};
-ghost use Rattle.clap.specs.Words.{first_of, rows_of, rule_of};
-ghost use Rattle.clap.specs.Words.{subcommand_of, subcommand_rows_of, with_subcommand};
-ghost use Rattle.norbd_line.specs.CommandLine.{conns_rule, flag_rule, image_rule, kib_rule};
-ghost use Rattle.norbd_line.specs.CommandLine.{norbd_app, port_rule, sectors_rule};
-ghost use Rattle.norbd_line.specs.CommandLine.{check_app, format_app, plain_app, script_app};
-ghost use Rattle.norbd_line.specs.CommandLine.{read_app, show_app, with_image_apps, write_app};
-ghost use Rattle.norbd_line.specs.CommandLine.{begun_app};
-ghost use Rattle.norbd_line.specs.CommandLine.{max_request_rule, serve_app};
-ghost use Rattle.norbd_line.specs.CommandLine.{text_rule, texts_of, verbose_rule};
+ghost use Rattle.std.specs.Prelude.{◌≡◌, ◌⊎◌, IfErr, IfOk, IsErrAnd, MatchBool, codes, ℕ};
+ghost use Rattle.clap.specs.Words.{found_of, rows_of};
+ghost use Rattle.norbd_line.specs.CommandLine.{texts_of};
 ghost use Rattle.norbd_line.specs.Fault.{ComesFromMatches, ComesFromWords};
-ghost use Rattle.norbd_line.specs.Line.{HasOddSize, IsLineInRange, IsLineIn, IsLineOf};
-ghost use Rattle.norbd_line.specs.Line.{HasNoPlace, IsPlace, IsPlaceIn, IsPort};
-ghost use Rattle.norbd_line.specs.Line.{IsSet, IsSize, TakesSize, number_in, number_of, sync_in};
-ghost use Rattle.norbd_line.specs.Line.{tidy_in};
+ghost use Rattle.norbd_line.specs.Line.{HasOddSize, IsLineInRange, IsLineIn, IsLineOf, HasNoPlace};
+ghost use Rattle.norbd_line.specs.Line.{IsNamed, IsPlace, IsPlaceIn};
 
 use crate::Fault;
-use crate::chip::{ChipLine, chip_line, trust_arg, with_chip, yes_arg};
-use clap::error::ErrorKind;
-use clap::{Arg, ArgAction, ArgMatches, Command, value_parser};
+use crate::chip::{ChipLine, chip_line};
+use crate::commands::{fault_from, parse};
+use crate::options::{
+    LEAST_REQUEST, LEAST_SECTORS, MOST_CONNS, MOST_REQUEST, MOST_SECTORS, chip_size, flag, number,
+    number_if_there, port_of, sync_of, text_of, tidy_of,
+};
+use clap::ArgMatches;
 use std::alloc::Global;
 
 /// What the program is asked to do. The text of a path is borrowed from the words.
@@ -36,8 +29,8 @@ pub enum Line<'a> {
         record: bool,
     },
     /// `format IMAGE --kib K [--force] [--yes]`: make the file at the path `image` a formatted chip
-    /// of `kib` KiB, a multiple of 64 from 64 to 16,384, one that is formatted only if `force` is
-    /// set; or format the chip of `kib` KiB behind a programmer, if `sure` is set.
+    /// of `kib` KiB, a multiple of 64 from 64 to 16,384, one that holds something only if `force`
+    /// is set; or format the chip of `kib` KiB behind a programmer, if `sure` is set.
     Format {
         image: &'a str,
         kib: u32,
@@ -81,7 +74,8 @@ pub enum Line<'a> {
 /// What a line `serve` asks: to serve the chip in the file at the path `image` at a place, to
 /// `conns` clients in all, from 1 to 64, or without end where it is `None`; to keep a row of each
 /// command where `record` is set; when the file is synced, and when the disk is tidied; with READs
-/// and WRITEs of `max_request` KiB at most, from 64 to 32,768, or of 64 where it is `None`; without
+/// and WRITEs of `max_request` KiB at most, from 64 to 32,768, or of 1,024 where it is `None`, of
+/// which clients are told 64; without
 /// changing anything where `read_only` is set; to tell of each connection and each refused request
 /// where `verbose` is; and to believe a chip behind a programmer its changes where `trust` is.
 #[derive(Debug, Clone, Copy, PartialEq, Eq)]
@@ -127,489 +121,6 @@ pub enum TidyPolicy {
     Eagerly,
 }
 
-/// The least number of sectors of a plain disk.
-const LEAST_SECTORS: u32 = 1;
-
-/// The largest number of sectors of a plain disk.
-const MOST_SECTORS: u32 = 65_536;
-
-/// The largest number of a port; the least is 1.
-pub(crate) const MOST_PORT: u32 = 65_535;
-
-/// The largest number of connections; the least is 1.
-pub(crate) const MOST_CONNS: u32 = 64;
-
-/// The least length in KiB that may be the largest of a READ or WRITE.
-const LEAST_REQUEST: u32 = 64;
-
-/// The largest one, in KiB: what an NBD client may send at most where no sizes are told.
-const MOST_REQUEST: u32 = 32_768;
-
-/// The least size of a chip, in KiB.
-const LEAST_KIB: u32 = 64;
-
-/// The largest size of a chip, in KiB.
-const MOST_KIB: u32 = 16_384;
-
-/// The size of a chip is a multiple of this, in KiB.
-const UNIT_KIB: u32 = 64;
-
-/// `--sectors S`.
-fn sectors_arg<'a>(alloc: Global) -> Arg<'a>
-    ensures rule { rule_of result ≡ sectors_rule }
-    ensures local { result.global ≡ false }
-{
-    Arg::new(alloc, "sectors")
-        .long("sectors")
-        .value_name("S")
-        .help("Sectors of 512 bytes, from 1 to 65536")
-        .required(true)
-        .action(ArgAction::Set)
-        .value_parser(value_parser!(u32).range(1..=65536))
-}
-
-/// `--kib K`.
-fn kib_arg<'a>(alloc: Global) -> Arg<'a>
-    ensures rule { rule_of result ≡ kib_rule }
-    ensures local { result.global ≡ false }
-{
-    Arg::new(alloc, "kib")
-        .long("kib")
-        .value_name("K")
-        .help("The chip's size in KiB, a multiple of 64 from 64 to 16384")
-        .required(true)
-        .action(ArgAction::Set)
-        .value_parser(value_parser!(u32).range(64..=16384))
-}
-
-/// `--port P`.
-fn port_arg<'a>(alloc: Global) -> Arg<'a>
-    ensures rule { rule_of result ≡ port_rule }
-    ensures local { result.global ≡ false }
-{
-    Arg::new(alloc, "port")
-        .long("port")
-        .value_name("P")
-        .help("The port, from 1 to 65535")
-        .action(ArgAction::Set)
-        .value_parser(value_parser!(u32).range(1..=65535))
-}
-
-/// `--conns C`.
-pub(crate) fn conns_arg<'a>(alloc: Global) -> Arg<'a>
-    ensures rule { rule_of result ≡ conns_rule }
-    ensures local { result.global ≡ false }
-{
-    Arg::new(alloc, "conns")
-        .long("conns")
-        .value_name("C")
-        .help("How many connections are served in all, from 1 to 64; without it, any number")
-        .action(ArgAction::Set)
-        .value_parser(value_parser!(u32).range(1..=64))
-}
-
-/// `--max-request KIB`.
-fn max_request_arg<'a>(alloc: Global) -> Arg<'a>
-    ensures rule { rule_of result ≡ max_request_rule }
-    ensures local { result.global ≡ false }
-{
-    Arg::new(alloc, "max-request")
-        .long("max-request")
-        .value_name("KIB")
-        .help("The longest READ or WRITE in KiB, from 64 to 32768; without it, 64")
-        .action(ArgAction::Set)
-        .value_parser(value_parser!(u32).range(64..=32768))
-}
-
-/// `--read-only`.
-fn read_only_arg<'a>(alloc: Global) -> Arg<'a>
-    ensures rule { rule_of result ≡ flag_rule (codes "read-only") }
-    ensures local { result.global ≡ false }
-{
-    Arg::new(alloc, "read-only")
-        .long("read-only")
-        .help("Refuses whatever would change the disk, and changes nothing of the file")
-        .action(ArgAction::SetTrue)
-}
-
-/// `--bind ADDR`.
-fn bind_arg<'a>(alloc: Global) -> Arg<'a>
-    ensures rule { rule_of result ≡ text_rule (codes "bind") }
-    ensures local { result.global ≡ false }
-{
-    Arg::new(alloc, "bind")
-        .long("bind")
-        .value_name("ADDR")
-        .help(
-            "The IP address of the port, 127.0.0.1 without it; whoever reaches it can read and write",
-        )
-        .action(ArgAction::Set)
-}
-
-/// `--unix PATH`.
-fn unix_arg<'a>(alloc: Global) -> Arg<'a>
-    ensures rule { rule_of result ≡ text_rule (codes "unix") }
-    ensures local { result.global ≡ false }
-{
-    Arg::new(alloc, "unix")
-        .long("unix")
-        .value_name("PATH")
-        .help("The Unix socket that is made for clients, in the place of a port")
-        .action(ArgAction::Set)
-}
-
-/// `--sync WHEN`.
-fn sync_arg<'a>(alloc: Global) -> Arg<'a>
-    ensures rule { rule_of result ≡ text_rule (codes "sync") }
-    ensures local { result.global ≡ false }
-{
-    Arg::new(alloc, "sync")
-        .long("sync")
-        .value_name("WHEN")
-        .help(
-            "When the image is synced to this machine's disk: flush (as without it), never or always",
-        )
-        .action(ArgAction::Set)
-}
-
-/// `--tidy WHEN`.
-fn tidy_arg<'a>(alloc: Global) -> Arg<'a>
-    ensures rule { rule_of result ≡ text_rule (codes "tidy") }
-    ensures local { result.global ≡ false }
-{
-    Arg::new(alloc, "tidy")
-        .long("tidy")
-        .value_name("WHEN")
-        .help(
-            "When blocks are tidied: lazy (as without it), while few slots are free, or eager, while any is dead",
-        )
-        .action(ArgAction::Set)
-}
-
-/// `--force`.
-fn force_arg<'a>(alloc: Global) -> Arg<'a>
-    ensures rule { rule_of result ≡ flag_rule (codes "force") }
-    ensures local { result.global ≡ false }
-{
-    Arg::new(alloc, "force")
-        .long("force")
-        .help("Replaces a file that holds a formatted chip, too")
-        .action(ArgAction::SetTrue)
-}
-
-/// `--record`.
-fn record_arg<'a>(alloc: Global) -> Arg<'a>
-    ensures rule { rule_of result ≡ flag_rule (codes "record") }
-    ensures local { result.global ≡ false }
-{
-    Arg::new(alloc, "record")
-        .long("record")
-        .help(
-            "Keeps a row of each command in memory, its reply's bytes too, and tells how many they are",
-        )
-        .action(ArgAction::SetTrue)
-}
-
-/// `-v`.
-fn verbose_arg<'a>(alloc: Global) -> Arg<'a>
-    ensures rule { rule_of result ≡ verbose_rule }
-    ensures local { result.global ≡ false }
-{
-    Arg::new(alloc, "verbose")
-        .short('v')
-        .long("verbose")
-        .help(
-            "Tells on standard error of each connection's begin and end, and of each refused request",
-        )
-        .action(ArgAction::SetTrue)
-}
-
-/// `--no-record`.
-fn no_record_arg<'a>(alloc: Global) -> Arg<'a>
-    ensures rule { rule_of result ≡ flag_rule (codes "no-record") }
-    ensures local { result.global ≡ false }
-{
-    Arg::new(alloc, "no-record")
-        .long("no-record")
-        .help("Keeps no row of a command, so that the memory stays the same")
-        .action(ArgAction::SetTrue)
-}
-
-/// `--mend`.
-fn mend_arg<'a>(alloc: Global) -> Arg<'a>
-    ensures rule { rule_of result ≡ flag_rule (codes "mend") }
-    ensures local { result.global ≡ false }
-{
-    Arg::new(alloc, "mend")
-        .long("mend")
-        .help("Replaces an image that isn't clean by a clean one of the same sectors")
-        .action(ArgAction::SetTrue)
-}
-
-/// `--json`.
-fn json_arg<'a>(alloc: Global) -> Arg<'a>
-    ensures rule { rule_of result ≡ flag_rule (codes "json") }
-    ensures local { result.global ≡ false }
-{
-    Arg::new(alloc, "json")
-        .long("json")
-        .help("Tells it in JSON, for programs")
-        .action(ArgAction::SetTrue)
-}
-
-/// `--sectors A:B`.
-fn range_arg<'a>(alloc: Global) -> Arg<'a>
-    ensures rule { rule_of result ≡ text_rule (codes "sectors") }
-    ensures local { result.global ≡ false }
-{
-    Arg::new(alloc, "sectors")
-        .long("sectors")
-        .value_name("A:B")
-        .help("From sector A on and before sector B, counted from 0; without it, the whole disk")
-        .action(ArgAction::Set)
-}
-
-/// `IMAGE`.
-pub(crate) fn image_arg<'a>(alloc: Global, help: &'a str) -> Arg<'a>
-    ensures rule { rule_of result ≡ image_rule }
-    ensures local { result.global ≡ false }
-{
-    Arg::new(alloc, "IMAGE")
-        .help(help)
-        .required(true)
-        .action(ArgAction::Set)
-}
-
-/// What `IMAGE` is where it may name a programmer too.
-const IMAGE_OR_PROGRAMMER: &str =
-    "The file of the chip's bytes, or the chip behind a programmer: tcp:HOST:PORT or serial:PATH";
-
-/// What an image is, and what the exit statuses mean.
-pub(crate) const AFTER_HELP: &str =
-    "An image is a file of a flash chip's bytes, 64 KiB to 16 MiB. Exit status: 0 done, 1 a fault, which is printed, 2 a bad line.";
-
-/// A command line with `plain` and its arguments.
-fn with_plain<'a>(alloc: Global, norbd: Command<'a>) -> Result<Command<'a>, clap::Error>
-    ensures app { IfOk result (λ c. app_of c ≡ with_subcommand (app_of norbd.entry) plain_app.top) }
-    ensures memory { IfErr result (λ e. kind_of e ≡ ErrorKind.OutOfMemory) }
-{
-    let plain = Command::new(alloc, "plain")
-        .about(
-            "Serves a disk in memory over standard input and output.\nExample: norbd plain --sectors 70 < requests.bin > replies.bin",
-        )
-        .after_help(AFTER_HELP)
-        .arg(sectors_arg(alloc))?
-        .arg(no_record_arg(alloc))?;
-    Ok(norbd.subcommand(plain)?)
-}
-
-/// A command line with `format` and its arguments.
-fn with_format<'a>(alloc: Global, norbd: Command<'a>) -> Result<Command<'a>, clap::Error>
-    ensures app { IfOk result (λ c. app_of c
-        ≡ with_subcommand (app_of norbd.entry) format_app.top) }
-    ensures memory { IfErr result (λ e. kind_of e ≡ ErrorKind.OutOfMemory) }
-{
-    let format = Command::new(alloc, "format")
-        .about("Makes the file of a formatted chip.\nExample: norbd format chip.img --kib 1024")
-        .after_help(AFTER_HELP)
-        .arg(image_arg(
-            alloc,
-            "The file of the chip's bytes, where one that is there is replaced; or the chip behind a programmer: tcp:HOST:PORT or serial:PATH",
-        ))?
-        .arg(kib_arg(alloc))?
-        .arg(force_arg(alloc))?
-        .arg(yes_arg(alloc))?;
-    Ok(norbd.subcommand(format)?)
-}
-
-/// A command line with `script` and its arguments.
-fn with_script<'a>(alloc: Global, norbd: Command<'a>) -> Result<Command<'a>, clap::Error>
-    ensures app { IfOk result (λ c. app_of c
-        ≡ with_subcommand (app_of norbd.entry) script_app.top) }
-    ensures memory { IfErr result (λ e. kind_of e ≡ ErrorKind.OutOfMemory) }
-{
-    let script = Command::new(alloc, "script")
-        .about(
-            "Runs a script of events on a formatted chip in memory, from standard input to standard output.\nExample: norbd script --kib 64 < events.bin",
-        )
-        .after_help(AFTER_HELP)
-        .arg(kib_arg(alloc))?;
-    Ok(norbd.subcommand(script)?)
-}
-
-/// A command line with `serve` and its arguments.
-fn with_serve<'a>(alloc: Global, norbd: Command<'a>) -> Result<Command<'a>, clap::Error>
-    ensures app { IfOk result (λ c. app_of c ≡ with_subcommand (app_of norbd.entry) serve_app.top) }
-    ensures memory { IfErr result (λ e. kind_of e ≡ ErrorKind.OutOfMemory) }
-{
-    let serve = Command::new(alloc, "serve")
-        .about(
-            "Serves the chip in an image file to NBD clients, on a port or a Unix socket.\nExample: norbd serve chip.img --port 10809",
-        )
-        .after_help(AFTER_HELP)
-        .arg(image_arg(alloc, IMAGE_OR_PROGRAMMER))?
-        .arg(port_arg(alloc))?
-        .arg(bind_arg(alloc))?
-        .arg(unix_arg(alloc))?
-        .arg(conns_arg(alloc))?
-        .arg(record_arg(alloc))?
-        .arg(sync_arg(alloc))?
-        .arg(tidy_arg(alloc))?
-        .arg(max_request_arg(alloc))?
-        .arg(read_only_arg(alloc))?
-        .arg(verbose_arg(alloc))?
-        .arg(trust_arg(alloc))?;
-    Ok(norbd.subcommand(serve)?)
-}
-
-/// A command line with `check` and its arguments.
-fn with_check<'a>(alloc: Global, norbd: Command<'a>) -> Result<Command<'a>, clap::Error>
-    ensures app { IfOk result (λ c. app_of c ≡ with_subcommand (app_of norbd.entry) check_app.top) }
-    ensures memory { IfErr result (λ e. kind_of e ≡ ErrorKind.OutOfMemory) }
-{
-    let check = Command::new(alloc, "check")
-        .about(
-            "Says whether an image would be served, and if not, why; mends one that isn't clean.\nExample: norbd check chip.img --mend",
-        )
-        .after_help(AFTER_HELP)
-        .arg(image_arg(alloc, IMAGE_OR_PROGRAMMER))?
-        .arg(mend_arg(alloc))?
-        .arg(json_arg(alloc))?;
-    Ok(norbd.subcommand(check)?)
-}
-
-/// A command line with `show` and its argument.
-fn with_show<'a>(alloc: Global, norbd: Command<'a>) -> Result<Command<'a>, clap::Error>
-    ensures app { IfOk result (λ c. app_of c ≡ with_subcommand (app_of norbd.entry) show_app.top) }
-    ensures memory { IfErr result (λ e. kind_of e ≡ ErrorKind.OutOfMemory) }
-{
-    let show = Command::new(alloc, "show")
-        .about("Draws the blocks of an image, a character for each.\nExample: norbd show chip.img")
-        .after_help(AFTER_HELP)
-        .arg(image_arg(alloc, IMAGE_OR_PROGRAMMER))?;
-    Ok(norbd.subcommand(show)?)
-}
-
-/// A command line with `read` and its arguments.
-fn with_read<'a>(alloc: Global, norbd: Command<'a>) -> Result<Command<'a>, clap::Error>
-    ensures app { IfOk result (λ c. app_of c ≡ with_subcommand (app_of norbd.entry) read_app.top) }
-    ensures memory { IfErr result (λ e. kind_of e ≡ ErrorKind.OutOfMemory) }
-{
-    let read = Command::new(alloc, "read")
-        .about(
-            "Writes the disk in an image to standard output, without a server.\nExample: norbd read chip.img > disk.img",
-        )
-        .after_help(AFTER_HELP)
-        .arg(image_arg(alloc, IMAGE_OR_PROGRAMMER))?
-        .arg(range_arg(alloc))?;
-    Ok(norbd.subcommand(read)?)
-}
-
-/// A command line with `write` and its arguments.
-fn with_write<'a>(alloc: Global, norbd: Command<'a>) -> Result<Command<'a>, clap::Error>
-    ensures app { IfOk result (λ c. app_of c ≡ with_subcommand (app_of norbd.entry) write_app.top) }
-    ensures memory { IfErr result (λ e. kind_of e ≡ ErrorKind.OutOfMemory) }
-{
-    let write = Command::new(alloc, "write")
-        .about(
-            "Replaces the disk in an image by standard input, which has to be as long.\nExample: norbd write chip.img < disk.img",
-        )
-        .after_help(AFTER_HELP)
-        .arg(image_arg(alloc, IMAGE_OR_PROGRAMMER))?
-        .arg(range_arg(alloc))?;
-    Ok(norbd.subcommand(write)?)
-}
-
-/// A command line with the commands about an image without a server: `check`, `show`, `read` and
-/// `write`.
-fn with_image_lines<'a>(alloc: Global, norbd: Command<'a>) -> Result<Command<'a>, clap::Error>
-    ensures app { IfOk result (λ c. app_of c ≡ with_image_apps (app_of norbd.entry)) }
-    ensures memory { IfErr result (λ e. kind_of e ≡ ErrorKind.OutOfMemory) }
-{
-    let norbd = with_check(alloc, norbd)?;
-    let norbd = with_show(alloc, norbd)?;
-    let norbd = with_read(alloc, norbd)?;
-    with_write(alloc, norbd)
-}
-
-/// What `--version` says after the name: the version, and the toolchain that proved and built it.
-const VERSION: &str = "0.1.0, proved by rattle-kit-13f logic dac8208d650f15bf";
-
-/// The program's command line with its first command.
-fn begun_command<'a>(alloc: Global) -> Result<Command<'a>, clap::Error>
-    ensures app { IfOk result (λ c. app_of c ≡ begun_app) }
-    ensures memory { IfErr result (λ e. kind_of e ≡ ErrorKind.OutOfMemory) }
-{
-    let norbd = Command::new(alloc, "norbd")
-        .bin_name("norbd")?
-        .version(VERSION)
-        .subcommand_required(true);
-    with_chip(alloc, norbd)
-}
-
-/// The program's whole command line.
-fn whole_command<'a>(alloc: Global) -> Result<Command<'a>, clap::Error>
-    ensures app { IfOk result (λ c. app_of c ≡ norbd_app) }
-    ensures memory { IfErr result (λ e. kind_of e ≡ ErrorKind.OutOfMemory) }
-{
-    let norbd = begun_command(alloc)?;
-    let norbd = with_plain(alloc, norbd)?;
-    let norbd = with_format(alloc, norbd)?;
-    let norbd = with_script(alloc, norbd)?;
-    let norbd = with_serve(alloc, norbd)?;
-    with_image_lines(alloc, norbd)
-}
-
-/// What the command line makes of the words.
-fn parse<'a>(alloc: Global, words: &'a [String]) -> Result<ArgMatches<'a>, clap::Error>
-    ensures matches { IfOk result (λ m. subcommand_rows_of m
-        ≡ subcommand_of norbd_app (texts_of words.now)) }
-    ensures kinds { FailsBy (fault_of norbd_app (texts_of words.now)) result }
-{
-    whole_command(alloc)?.try_get_matches_from(words)
-}
-
-/// The fault that a failed parse is.
-fn fault_from(error: clap::Error) -> Fault
-    ensures memory { kind_of error ≡ ErrorKind.OutOfMemory → result ≡ Fault.NoMemory }
-    ensures words { kind_of error ≢ ErrorKind.OutOfMemory → result ≡ Fault.Words error }
-{
-    if error.kind() == ErrorKind::OutOfMemory {
-        Fault::NoMemory
-    } else {
-        Fault::Words(error)
-    }
-}
-
-/// A number of the line, if it is there and from `least` to `most`.
-pub(crate) fn number(matches: &ArgMatches<'_>, id: &str, least: u32, most: u32) -> Option<u32>
-    ensures range { IfSome result (λ n. (least ≤ n) × (n ≤ most)) }
-    ensures text { IfSome result (λ n. option_map number_of (one_text (found_of matches.now) id.now)
-        ≡ Some n) }
-{
-    match matches.get_one::<u32>(id) {
-        Some(n) => if least <= n && n <= most {
-            Some(n)
-        } else {
-            None
-        },
-        None => None,
-    }
-}
-
-/// Whether a flag is among the words.
-fn flag(matches: &ArgMatches<'_>, id: &str) -> bool
-    ensures { IsSet id.now (rows_of (found_of matches.now)) result }
-{
-    let Some(text) = matches.get_str(id) else {
-        return false;
-    };
-    if text == "true" {
-        return true;
-    }
-    false
-}
-
 /// The line of `plain`. The parse refuses words without a number in its range, so the arm `None`
 /// isn't reached; it needs some fault, and answers `NoMemory`.
 fn plain_line<'a>(matches: &ArgMatches<'a>) -> Result<Line<'a>, Fault>
@@ -624,25 +135,6 @@ fn plain_line<'a>(matches: &ArgMatches<'a>) -> Result<Line<'a>, Fault>
         }
         None => Err(Fault::NoMemory),
     }
-}
-
-/// The number after `--kib`: the size of a chip in KiB, a multiple of 64 from 64 to 16,384.
-/// `BadSize` where it is in this range and no multiple of 64. The parse refuses words without a
-/// number in the range, so the arm for them answers `NoMemory`.
-fn chip_size(matches: &ArgMatches<'_>) -> Result<u32, Fault>
-    ensures size { IfOk result IsSize }
-    ensures number { IfOk result (λ kib. number_in (codes "kib") (rows_of (found_of matches.now))
-        ≡ Some kib) }
-    ensures fault { (name : Text) → TakesSize name
-        → IfErr result (ComesFromMatches name (rows_of (found_of matches.now))) }
-{
-    let Some(kib) = number(matches, "kib", LEAST_KIB, MOST_KIB) else {
-        return Err(Fault::NoMemory);
-    };
-    if kib % UNIT_KIB != 0 {
-        return Err(Fault::BadSize);
-    }
-    Ok(kib)
 }
 
 /// The line of `format`; its faults are those of `chip_size`. The parse refuses words without a
@@ -677,88 +169,8 @@ fn script_line<'a>(matches: &ArgMatches<'a>) -> Result<Line<'a>, Fault>
     })
 }
 
-/// The number after an option that may be left out, or `None` where it is. The parse refuses one
-/// that isn't from `least` to `most`, so the arm for it answers `NoMemory`.
-pub(crate) fn number_if_there(
-    matches: &ArgMatches<'_>,
-    id: &str,
-    least: u32,
-    most: u32,
-) -> Result<Option<u32>, Fault>
-    ensures range { IfOk result (λ there. IfSome there (λ n. (least ≤ n) × (n ≤ most))) }
-    ensures number { IfOk result (λ there.
-        number_in id.now (rows_of (found_of matches.now)) ≡ there) }
-{
-    let Some(_) = matches.get_str(id) else {
-        return Ok(None);
-    };
-    match number(matches, id, least, most) {
-        Some(n) => Ok(Some(n)),
-        None => Err(Fault::NoMemory),
-    }
-}
-
-/// What the word after `--sync` says, if it says something.
-fn sync_of(matches: &ArgMatches<'_>) -> Option<SyncPolicy>
-    ensures { sync_in (rows_of (found_of matches.now)) ≡ result }
-{
-    let Some(word) = matches.get_str("sync") else {
-        return Some(SyncPolicy::AtFlush);
-    };
-    if word == "flush" {
-        Some(SyncPolicy::AtFlush)
-    } else if word == "never" {
-        Some(SyncPolicy::Never)
-    } else if word == "always" {
-        Some(SyncPolicy::Always)
-    } else {
-        None
-    }
-}
-
-/// What the word after `--tidy` says, if it says something.
-fn tidy_of(matches: &ArgMatches<'_>) -> Option<TidyPolicy>
-    ensures { tidy_in (rows_of (found_of matches.now)) ≡ result }
-{
-    let Some(word) = matches.get_str("tidy") else {
-        return Some(TidyPolicy::Lazily);
-    };
-    if word == "lazy" {
-        Some(TidyPolicy::Lazily)
-    } else if word == "eager" {
-        Some(TidyPolicy::Eagerly)
-    } else {
-        None
-    }
-}
-
-/// The number after `--port`, or `None` where there is none. The parse refuses one out of its
-/// range, so the arm for it answers `NoMemory`.
-fn port_of(matches: &ArgMatches<'_>) -> Result<Option<u32>, Fault>
-    ensures range { IfOk result (λ port. IfSome port IsPort) }
-    ensures number { IfOk result (λ port.
-        number_in (codes "port") (rows_of (found_of matches.now)) ≡ port) }
-    ensures fault { IfErr result (λ e. e ≡ Fault.NoMemory) }
-{
-    let Some(_) = matches.get_str("port") else {
-        return Ok(None);
-    };
-    match number(matches, "port", 1, MOST_PORT) {
-        Some(port) => Ok(Some(port)),
-        None => Err(Fault::NoMemory),
-    }
-}
-
-/// The text of an option, if it is there.
-fn text_of<'a>(matches: &ArgMatches<'a>, id: &str) -> Option<&'a str>
-    ensures { first_of id.now (rows_of (found_of matches.now))
-        ≡ option_map (λ text. text.now) result }
-{
-    matches.get_str(id)
-}
-
 /// Where a line `serve` listens: a port with or without an address, or a Unix socket. `BadAddress`
-/// where the words say none of the two, or both.
+/// where the words say none of the two, or both, or an empty path.
 fn place_of<'a>(matches: &ArgMatches<'a>) -> Result<Place<'a>, Fault>
     ensures range { IfOk result IsPlace }
     ensures place { IfOk result (IsPlaceIn (rows_of (found_of matches.now))) }
@@ -777,7 +189,11 @@ fn place_of<'a>(matches: &ArgMatches<'a>) -> Result<Place<'a>, Fault>
             Some(_) => Err(Fault::BadAddress),
             None => match bind {
                 Some(_) => Err(Fault::BadAddress),
-                None => Ok(Place::Unix(path)),
+                None => if path.is_empty() {
+                    Err(Fault::BadAddress)
+                } else {
+                    Ok(Place::Unix(path))
+                },
             },
         },
     }
@@ -925,10 +341,39 @@ fn image_line<'a>(name: &str, matches: &ArgMatches<'a>) -> Result<Line<'a>, Faul
     }
 }
 
+/// Whether the image of a line has an empty name.
+fn is_nameless(line: Line<'_>) -> bool
+    ensures { MatchBool result (IsNamed line.entry → ⊥) (IsNamed line.entry) }
+{
+    match line {
+        Line::Chip(asked) => asked.image.is_empty(),
+        Line::Plain { .. } => false,
+        Line::Format { image, .. } => image.is_empty(),
+        Line::Script { .. } => false,
+        Line::Serve(asked) => asked.image.is_empty(),
+        Line::Check { image, .. } => image.is_empty(),
+        Line::Show { image } => image.is_empty(),
+        Line::Read { image, .. } => image.is_empty(),
+        Line::Write { image, .. } => image.is_empty(),
+    }
+}
+
+/// A line whose image has a name, if it has one.
+fn named(line: Line<'_>) -> Result<Line<'_>, Fault>
+    ensures named { IfOk result (λ it. (it ≡ line.entry) × IsNamed line.entry) }
+    ensures fault { IfErr result (λ e. (e ≡ Fault.EmptyName) × (IsNamed line.entry → ⊥)) }
+{
+    if is_nameless(line) {
+        return Err(Fault::EmptyName);
+    }
+    Ok(line)
+}
+
 /// What the words make: a line, or a fault that has its cause.
 fn line_or_fault<'a>(alloc: Global, words: &'a [String]) -> Result<Line<'a>, Fault>
     ensures range { IfOk result IsLineInRange }
     ensures line { IfOk result (IsLineOf (texts_of words.now)) }
+    ensures named { IfOk result IsNamed }
     ensures fault { IfErr result (ComesFromWords (texts_of words.now)) }
 {
     let matches = match parse(alloc, words) {
@@ -936,7 +381,10 @@ fn line_or_fault<'a>(alloc: Global, words: &'a [String]) -> Result<Line<'a>, Fau
         Err(error) => return Err(fault_from(error)),
     };
     match matches.subcommand() {
-        Some((name, of_name)) => line_of(name, of_name),
+        Some((name, of_name)) => match line_of(name, of_name) {
+            Ok(line) => named(line),
+            Err(fault) => Err(fault),
+        },
         None => Err(Fault::NoMemory),
     }
 }
@@ -945,16 +393,18 @@ fn line_or_fault<'a>(alloc: Global, words: &'a [String]) -> Result<Line<'a>, Fau
 ///
 /// `Words` where they are no line of the program or ask for help or the version, `BadSize` where
 /// the number after `--kib` is from 64 to 16,384 and no multiple of 64, `BadAddress` where `serve`
-/// has neither a port nor a Unix socket, or both, `BadSync` where the word after `--sync` is none
-/// that says when, `BadTidy` likewise after `--tidy`, `NoMemory` where memory ran out. The parse
-/// refuses words without a command, a path or a number in its range, so what comes then isn't
-/// reached; it needs some fault, and answers `NoMemory`.
+/// has neither a port nor a Unix socket, or both, or an empty path, `BadSync` where the word after
+/// `--sync` is none that says when, `BadTidy` likewise after `--tidy`, `EmptyName` where the path
+/// of the image is empty, `NoMemory` where memory ran out. The parse refuses words without a
+/// command, a path or a number in its range, so what comes then isn't reached; it needs some
+/// fault, and answers `NoMemory`.
 pub fn read_line<'a>(alloc: Global, words: &'a [String]) -> Result<Line<'a>, Fault>
     ensures range { IfOk result IsLineInRange }
     ensures line { IfOk result (IsLineOf (texts_of words.now)) }
+    ensures named { IfOk result IsNamed }
     ensures fault { IfErr result (ComesFromWords (texts_of words.now)) }
-    ensures odd { HasOddSize (texts_of words.now)
-        → IsErrAnd result (λ e. (e ≡ Fault.BadSize) ⊎ (e ≡ Fault.NoMemory)) }
+    ensures odd { (kib : ℕ) → HasOddSize (texts_of words.now) kib
+        → IsErrAnd result (λ e. (e ≡ Fault.BadSize kib) ⊎ (e ≡ Fault.NoMemory)) }
 {
     line_or_fault(alloc, words)
 }

@@ -37,15 +37,17 @@ place-refused T place conns keeps old f faults.BadAddress h = (Appends-nil old, 
 place-refused T place conns keeps old f (faults.NoSocket cause) h = silent place old f
 place-refused T place conns keeps old f (faults.Words error) h = absurd h
 place-refused T place conns keeps old f faults.NoMemory h = absurd h
-place-refused T place conns keeps old f faults.BadSize h = absurd h
+place-refused T place conns keeps old f (faults.BadSize kib) h = absurd h
 place-refused T place conns keeps old f faults.BadSync h = absurd h
 place-refused T place conns keeps old f faults.BadTidy h = absurd h
 place-refused T place conns keeps old f faults.NotText h = absurd h
+place-refused T place conns keeps old f faults.EmptyName h = absurd h
 place-refused T place conns keeps old f faults.InputFailed h = absurd h
 place-refused T place conns keeps old f faults.OutputFailed h = absurd h
 place-refused T place conns keeps old f (faults.ImageFailed cause) h = absurd h
 place-refused T place conns keeps old f faults.InUse h = absurd h
 place-refused T place conns keeps old f faults.Formatted h = absurd h
+place-refused T place conns keeps old f faults.NotEmpty h = absurd h
 place-refused T place conns keeps old f faults.WrongId h = absurd h
 place-refused T place conns keeps old f faults.BadSfdp h = absurd h
 place-refused T place conns keeps old f faults.Protected h = absurd h
@@ -56,7 +58,7 @@ place-refused T place conns keeps old f faults.Corrupt h = absurd h
 place-refused T place conns keeps old f faults.NotClean h = absurd h
 place-refused T place conns keeps old f (faults.BadImageSize length) h = absurd h
 place-refused T place conns keeps old f faults.NoThread h = absurd h
-place-refused T place conns keeps old f faults.BadRange h = absurd h
+place-refused T place conns keeps old f (faults.BadRange count) h = absurd h
 place-refused T place conns keeps old f (faults.BadInput length) h = absurd h
 
 same-bytes : {Z X : Type 0} (text : Result (String Z) X) (s : List ℕ) (P : List ℕ → Type 0) → IfOk text (λ t. string_bytes t ≡ s) → IsOkAnd text (λ t. P (string_bytes t)) → P s
@@ -130,7 +132,15 @@ checked-alone mends tells_json s text old new f h result is two = checked {U = U
 -- a picture
 pub shown : {T : Type 0} (bytes : List ℕ) (old new : Option (List ℕ)) (f g : ℕ) (result : Result T Fault) → WritesBytes bytes old f result new g → ShowTells old f result new g
 shown bytes old new f g (Ok u) h = (bytes, h.0, h.1)
-shown bytes old new f g (Err e) h = inr (h.0, (bytes, h.1))
+shown bytes old new f g (Err e) h = inr (inr (h.0, (bytes, h.1)))
+
+-- a picture that could not be written
+pub show-failed : (T U : Type 0) (bytes : List ℕ) (old new : Option (List ℕ)) (f g : ℕ) (e : Fault) → WritesBytes {T = U} bytes old f (Err e) new g → ShowTells {T = T} old f (Err e) new g
+show-failed T U bytes old new f g e h = inr (inr (h.0, (bytes, h.1)))
+
+-- the picture of a corrupt image
+pub corrupt_shown : (T : Type 0) (bytes : List ℕ) (old new : Option (List ℕ)) (f g : ℕ) → Appends old new bytes × (g ≡ f) → ShowTells {T = T} old f (Err faults.Corrupt) new g
+corrupt_shown T bytes old new f g h = inr (inl (refl, (bytes, h.0, h.1)))
 
 -- sectors that are read
 pub moved : {T : Type 0} (bytes : List ℕ) (old new : Option (List ℕ)) (f g : ℕ) (result : Result T Fault) → WritesBytes bytes old f result new g → ReadTells old f result new g
@@ -186,6 +196,7 @@ image-refused T place conns keeps old f faults.NoMemory h = silent place old f
 image-refused T place conns keeps old f (faults.ImageFailed cause) h = silent place old f
 image-refused T place conns keeps old f faults.InUse h = (Appends-nil old, refl)
 image-refused T place conns keeps old f faults.Formatted h = absurd h
+image-refused T place conns keeps old f faults.NotEmpty h = absurd h
 image-refused T place conns keeps old f (faults.BadImageSize length) h = (Appends-nil old, refl)
 image-refused T place conns keeps old f faults.NotFormatted h = (Appends-nil old, refl)
 image-refused T place conns keeps old f faults.Corrupt h = (Appends-nil old, refl)
@@ -195,15 +206,16 @@ image-refused T place conns keeps old f faults.BadSfdp h = (Appends-nil old, ref
 image-refused T place conns keeps old f faults.Protected h = (Appends-nil old, refl)
 image-refused T place conns keeps old f faults.Slow h = (Appends-nil old, refl)
 image-refused T place conns keeps old f (faults.Words error) h = absurd h
-image-refused T place conns keeps old f faults.BadSize h = absurd h
+image-refused T place conns keeps old f (faults.BadSize kib) h = absurd h
 image-refused T place conns keeps old f faults.BadSync h = absurd h
 image-refused T place conns keeps old f faults.BadTidy h = absurd h
 image-refused T place conns keeps old f faults.BadAddress h = absurd h
 image-refused T place conns keeps old f faults.NotText h = absurd h
+image-refused T place conns keeps old f faults.EmptyName h = absurd h
 image-refused T place conns keeps old f faults.InputFailed h = absurd h
 image-refused T place conns keeps old f faults.OutputFailed h = absurd h
 image-refused T place conns keeps old f faults.BadRecord h = absurd h
 image-refused T place conns keeps old f (faults.NoSocket cause) h = absurd h
 image-refused T place conns keeps old f faults.NoThread h = absurd h
-image-refused T place conns keeps old f faults.BadRange h = absurd h
+image-refused T place conns keeps old f (faults.BadRange count) h = absurd h
 image-refused T place conns keeps old f (faults.BadInput length) h = absurd h

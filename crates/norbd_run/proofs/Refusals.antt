@@ -1,7 +1,7 @@
 -- What comes of opening an image is one of its refusals.
 use Rattle.std.proofs.Common.{ℕ}
-use Rattle.fault_model.specs.declared.error.SimError.{SimError}
-use Rattle.fault_model.specs.declared.error.SimError.TheVariants as files
+use Rattle.chip_simulator.specs.declared.error.SimError.{SimError}
+use Rattle.chip_simulator.specs.declared.error.SimError.TheVariants as files
 use Rattle.norbd_image.specs.Image.{ComesOfHolding}
 use Rattle.norbd_image.specs.declared.error.ImageError.{ImageError}
 use Rattle.norbd_image.specs.declared.error.ImageError.TheVariants as images
@@ -14,9 +14,10 @@ use Rattle.norbd_run.specs.Listening.{IsRefusal, told_of_file}
 pub held_is_refusal : (e : ImageError) → ComesOfHolding e → IsRefusal (told_as e)
 held_is_refusal images.OutOfMemory h = tt
 held_is_refusal (images.File kind) h = tt
-held_is_refusal images.NotAFile h = absurd h
+held_is_refusal images.NotAFile h = tt
 held_is_refusal images.InUse h = tt
 held_is_refusal images.Formatted h = absurd h
+held_is_refusal images.NotEmpty h = absurd h
 held_is_refusal (images.Refused e) h = absurd h
 
 pub file_is_refusal : (length : ℕ) (e : SimError) → IsRefusal (told_of_file length e)

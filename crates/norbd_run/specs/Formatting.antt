@@ -13,10 +13,10 @@ use Rattle.norbd_line.specs.declared.fault.Fault.TheVariants.{Words, NoMemory, B
 use Rattle.norbd_line.specs.declared.fault.Fault.TheVariants.{OutputFailed, ImageFailed, WrongId}
 use Rattle.norbd_line.specs.declared.fault.Fault.TheVariants.{BadSfdp, Protected, Slow, BadRecord}
 use Rattle.norbd_line.specs.declared.fault.Fault.TheVariants.{NotFormatted, Corrupt, NotClean}
-use Rattle.norbd_line.specs.declared.fault.Fault.TheVariants.{BadImageSize}
+use Rattle.norbd_line.specs.declared.fault.Fault.TheVariants.{BadImageSize, BadAddress, EmptyName}
 use Rattle.norbd_line.specs.declared.fault.Fault.TheVariants.{NoSocket, NoThread, BadSync, NotText}
 use Rattle.norbd_line.specs.declared.fault.Fault.TheVariants.{BadTidy, BadRange, BadInput}
-use Rattle.norbd_line.specs.declared.fault.Fault.TheVariants.{InUse, Formatted, BadAddress}
+use Rattle.norbd_line.specs.declared.fault.Fault.TheVariants.{InUse, Formatted, NotEmpty}
 
 -- the line about a formatted chip of so many KiB
 abbrev pub text_about : ℕ → List ℕ
@@ -29,6 +29,7 @@ told_as (images.File kind) = ImageFailed (System kind)
 told_as images.NotAFile = ImageFailed NotAFile
 told_as images.InUse = InUse
 told_as images.Formatted = Formatted
+told_as images.NotEmpty = NotEmpty
 told_as (images.Refused probes.Cut) = ImageFailed Write
 told_as (images.Refused probes.Slow) = Slow
 told_as (images.Refused probes.WrongId) = WrongId
@@ -47,11 +48,12 @@ abbrev pub FormatTells : {T : Type 0} → ℕ → Option (List ℕ) → ℕ → 
 FormatTells kib old faults (Ok _) new faults' =
     Appends old new (text_about kib) × (faults' ≡ faults)
 FormatTells kib old faults (Err (Words error)) new faults' = ⊥
-FormatTells kib old faults (Err BadSize) new faults' = ⊥
+FormatTells kib old faults (Err (BadSize kib')) new faults' = ⊥
 FormatTells kib old faults (Err BadSync) new faults' = ⊥
 FormatTells kib old faults (Err BadTidy) new faults' = ⊥
 FormatTells kib old faults (Err BadAddress) new faults' = ⊥
 FormatTells kib old faults (Err NotText) new faults' = ⊥
+FormatTells kib old faults (Err EmptyName) new faults' = ⊥
 FormatTells kib old faults (Err NoMemory) new faults' = NothingWritten old faults new faults'
 FormatTells kib old faults (Err InputFailed) new faults' = ⊥
 FormatTells kib old faults (Err OutputFailed) new faults' =
@@ -60,6 +62,7 @@ FormatTells kib old faults (Err (ImageFailed cause)) new faults' =
     NothingWritten old faults new faults'
 FormatTells kib old faults (Err InUse) new faults' = NothingWritten old faults new faults'
 FormatTells kib old faults (Err Formatted) new faults' = NothingWritten old faults new faults'
+FormatTells kib old faults (Err NotEmpty) new faults' = NothingWritten old faults new faults'
 FormatTells kib old faults (Err WrongId) new faults' = NothingWritten old faults new faults'
 FormatTells kib old faults (Err BadSfdp) new faults' = NothingWritten old faults new faults'
 FormatTells kib old faults (Err Protected) new faults' = NothingWritten old faults new faults'
@@ -71,5 +74,5 @@ FormatTells kib old faults (Err NotClean) new faults' = ⊥
 FormatTells kib old faults (Err (BadImageSize length)) new faults' = ⊥
 FormatTells kib old faults (Err (NoSocket cause)) new faults' = ⊥
 FormatTells kib old faults (Err NoThread) new faults' = ⊥
-FormatTells kib old faults (Err BadRange) new faults' = ⊥
+FormatTells kib old faults (Err (BadRange count)) new faults' = ⊥
 FormatTells kib old faults (Err (BadInput length)) new faults' = ⊥

@@ -7,3 +7,4 @@ pub mod Checking
 pub mod Moving
 pub mod Showing
 pub mod Chips
+pub mod Lines

@@ -5,16 +5,16 @@ use Rattle.std.specs.String.{string_bytes}
 use Rattle.std.specs.Fmt.{decimal}
 use Rattle.std.specs.Io.KnownBytes.{Appends}
 use Rattle.block_device.specs.Streams.{FailsToSend}
-use Rattle.fault_model.specs.declared.error.SimError.{SimError}
-use Rattle.fault_model.specs.declared.error.SimError.TheVariants as files
+use Rattle.chip_simulator.specs.declared.error.SimError.{SimError}
+use Rattle.chip_simulator.specs.declared.error.SimError.TheVariants as files
 use Rattle.flash_disk.specs.declared.error.MountError.{MountError}
 use Rattle.flash_disk.specs.declared.error.MountError.TheVariants as mounts
-use Rattle.share.specs.declared.shared.RecordError.{RecordError}
-use Rattle.share.specs.declared.shared.RecordError.TheVariants as records
+use Rattle.nbd_share.specs.declared.shared.RecordError.{RecordError}
+use Rattle.nbd_share.specs.declared.shared.RecordError.TheVariants as records
 use Rattle.norbd_serve.specs.declared.fault.ServeFault.{ServeFault}
 use Rattle.norbd_serve.specs.declared.fault.ServeFault.TheVariants as serves
-use Rattle.durable.specs.declared.durable.Policy.{Policy}
-use Rattle.durable.specs.declared.durable.Policy.TheVariants as policies
+use Rattle.nbd_durable.specs.declared.durable.Policy.{Policy}
+use Rattle.nbd_durable.specs.declared.durable.Policy.TheVariants as policies
 use Rattle.norbd_image.specs.declared.order.WriteOrder.{WriteOrder}
 use Rattle.norbd_image.specs.declared.order.WriteOrder.TheVariants as orders
 use Rattle.norbd_run.specs.Scripting.{told_of_probe}
@@ -28,10 +28,10 @@ use Rattle.norbd_line.specs.declared.fault.Fault.TheVariants.{Words, NoMemory, B
 use Rattle.norbd_line.specs.declared.fault.Fault.TheVariants.{OutputFailed, ImageFailed, WrongId}
 use Rattle.norbd_line.specs.declared.fault.Fault.TheVariants.{BadSfdp, Protected, Slow, BadRecord}
 use Rattle.norbd_line.specs.declared.fault.Fault.TheVariants.{NotFormatted, Corrupt, NotClean}
-use Rattle.norbd_line.specs.declared.fault.Fault.TheVariants.{BadImageSize}
+use Rattle.norbd_line.specs.declared.fault.Fault.TheVariants.{BadImageSize, BadAddress, EmptyName}
 use Rattle.norbd_line.specs.declared.fault.Fault.TheVariants.{NoSocket, NoThread, BadSync, NotText}
 use Rattle.norbd_line.specs.declared.fault.Fault.TheVariants.{BadTidy, BadRange, BadInput}
-use Rattle.norbd_line.specs.declared.fault.Fault.TheVariants.{InUse, Formatted, BadAddress}
+use Rattle.norbd_line.specs.declared.fault.Fault.TheVariants.{InUse, Formatted, NotEmpty}
 
 -- the line before the first connection is accepted
 abbrev pub serving_text : ℕ → Place → List ℕ
@@ -96,6 +96,7 @@ IsRefusal NoMemory = Unit {0}
 IsRefusal (ImageFailed cause) = Unit {0}
 IsRefusal InUse = Unit {0}
 IsRefusal Formatted = ⊥
+IsRefusal NotEmpty = ⊥
 IsRefusal (BadImageSize length) = Unit {0}
 IsRefusal NotFormatted = Unit {0}
 IsRefusal Corrupt = Unit {0}
@@ -105,17 +106,18 @@ IsRefusal BadSfdp = Unit {0}
 IsRefusal Protected = Unit {0}
 IsRefusal Slow = Unit {0}
 IsRefusal (Words error) = ⊥
-IsRefusal BadSize = ⊥
+IsRefusal (BadSize kib) = ⊥
 IsRefusal BadSync = ⊥
 IsRefusal BadTidy = ⊥
 IsRefusal BadAddress = ⊥
 IsRefusal NotText = ⊥
+IsRefusal EmptyName = ⊥
 IsRefusal InputFailed = ⊥
 IsRefusal OutputFailed = ⊥
 IsRefusal BadRecord = ⊥
 IsRefusal (NoSocket cause) = ⊥
 IsRefusal NoThread = ⊥
-IsRefusal BadRange = ⊥
+IsRefusal (BadRange count) = ⊥
 IsRefusal (BadInput length) = ⊥
 
 -- a refusal of the place to listen at, which comes before the image is looked for
@@ -124,15 +126,17 @@ IsPlaceRefusal BadAddress = Unit {0}
 IsPlaceRefusal (NoSocket cause) = Unit {0}
 IsPlaceRefusal (Words error) = ⊥
 IsPlaceRefusal NoMemory = ⊥
-IsPlaceRefusal BadSize = ⊥
+IsPlaceRefusal (BadSize kib) = ⊥
 IsPlaceRefusal BadSync = ⊥
 IsPlaceRefusal BadTidy = ⊥
 IsPlaceRefusal NotText = ⊥
+IsPlaceRefusal EmptyName = ⊥
 IsPlaceRefusal InputFailed = ⊥
 IsPlaceRefusal OutputFailed = ⊥
 IsPlaceRefusal (ImageFailed cause) = ⊥
 IsPlaceRefusal InUse = ⊥
 IsPlaceRefusal Formatted = ⊥
+IsPlaceRefusal NotEmpty = ⊥
 IsPlaceRefusal WrongId = ⊥
 IsPlaceRefusal BadSfdp = ⊥
 IsPlaceRefusal Protected = ⊥
@@ -143,7 +147,7 @@ IsPlaceRefusal Corrupt = ⊥
 IsPlaceRefusal NotClean = ⊥
 IsPlaceRefusal (BadImageSize length) = ⊥
 IsPlaceRefusal NoThread = ⊥
-IsPlaceRefusal BadRange = ⊥
+IsPlaceRefusal (BadRange count) = ⊥
 IsPlaceRefusal (BadInput length) = ⊥
 
 -- What writing a text says: all of it is written, there was no memory for it, or a beginning of it
@@ -184,6 +188,7 @@ TellsServing place conns keeps old faults (Err (ImageFailed cause)) new faults' 
 TellsServing place conns keeps old faults (Err InUse) new faults' =
     IsSilent old faults new faults'
 TellsServing place conns keeps old faults (Err Formatted) new faults' = ⊥
+TellsServing place conns keeps old faults (Err NotEmpty) new faults' = ⊥
 TellsServing place conns keeps old faults (Err (NoSocket cause)) new faults' =
     HasBegun place old faults new faults'
 TellsServing place conns keeps old faults (Err NoThread) new faults' =
@@ -204,13 +209,14 @@ TellsServing place conns keeps old faults (Err Protected) new faults' =
     IsSilent old faults new faults'
 TellsServing place conns keeps old faults (Err Slow) new faults' = IsSilent old faults new faults'
 TellsServing place conns keeps old faults (Err (Words error)) new faults' = ⊥
-TellsServing place conns keeps old faults (Err BadSize) new faults' = ⊥
+TellsServing place conns keeps old faults (Err (BadSize kib)) new faults' = ⊥
 TellsServing place conns keeps old faults (Err BadSync) new faults' = ⊥
 TellsServing place conns keeps old faults (Err BadTidy) new faults' = ⊥
 TellsServing place conns keeps old faults (Err BadAddress) new faults' =
     IsSilent old faults new faults'
 TellsServing place conns keeps old faults (Err NotText) new faults' = ⊥
-TellsServing place conns keeps old faults (Err BadRange) new faults' = ⊥
+TellsServing place conns keeps old faults (Err EmptyName) new faults' = ⊥
+TellsServing place conns keeps old faults (Err (BadRange count)) new faults' = ⊥
 TellsServing place conns keeps old faults (Err (BadInput length)) new faults' = ⊥
 TellsServing place conns keeps old faults (Err InputFailed) new faults' = ⊥
 TellsServing place conns keeps old faults (Err BadRecord) new faults' = ⊥

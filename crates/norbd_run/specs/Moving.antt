@@ -1,5 +1,5 @@
 -- What `read` and `write` tell, and how they end. Source: own.
-use Rattle.std.specs.Prelude.{◌≡◌, ◌⊎◌, ℕ, List, ◌++◌, codes, Option, Result, Ok, Err}
+use Rattle.std.specs.Prelude.{◌≡◌, ◌⊎◌, ◌-◌, ℕ, List, ◌++◌, codes, Option, Result, Ok, Err}
 use Rattle.std.specs.Fmt.{decimal}
 use Rattle.std.specs.Io.KnownBytes.{Appends}
 use Rattle.block_device.specs.Streams.{FailsToSend}
@@ -13,8 +13,9 @@ use Rattle.norbd_line.specs.declared.fault.Fault.TheVariants.{OutputFailed, Imag
 use Rattle.norbd_line.specs.declared.fault.Fault.TheVariants.{BadSfdp, Protected, Slow, BadRecord}
 use Rattle.norbd_line.specs.declared.fault.Fault.TheVariants.{NotFormatted, Corrupt, NotClean}
 use Rattle.norbd_line.specs.declared.fault.Fault.TheVariants.{BadImageSize, BadRange, BadInput}
+use Rattle.norbd_line.specs.declared.fault.Fault.TheVariants.{BadAddress, EmptyName}
 use Rattle.norbd_line.specs.declared.fault.Fault.TheVariants.{NoSocket, NoThread, BadSync, NotText}
-use Rattle.norbd_line.specs.declared.fault.Fault.TheVariants.{InUse, Formatted, BadAddress, BadTidy}
+use Rattle.norbd_line.specs.declared.fault.Fault.TheVariants.{InUse, Formatted, NotEmpty, BadTidy}
 
 -- A refusal of the image, of the part of the disk or of the input.
 abbrev pub MoveFails : Fault → Type 0
@@ -22,6 +23,7 @@ MoveFails NoMemory = Unit {0}
 MoveFails (ImageFailed cause) = Unit {0}
 MoveFails InUse = Unit {0}
 MoveFails Formatted = Unit {0}
+MoveFails NotEmpty = ⊥
 MoveFails (BadImageSize length) = Unit {0}
 MoveFails NotFormatted = Unit {0}
 MoveFails Corrupt = Unit {0}
@@ -30,16 +32,17 @@ MoveFails WrongId = Unit {0}
 MoveFails BadSfdp = Unit {0}
 MoveFails Protected = Unit {0}
 MoveFails Slow = Unit {0}
-MoveFails BadRange = Unit {0}
+MoveFails (BadRange count) = Unit {0}
 MoveFails (BadInput length) = Unit {0}
 MoveFails InputFailed = Unit {0}
 MoveFails OutputFailed = ⊥
 MoveFails (Words error) = ⊥
-MoveFails BadSize = ⊥
+MoveFails (BadSize kib) = ⊥
 MoveFails BadSync = ⊥
 MoveFails BadTidy = ⊥
 MoveFails BadAddress = ⊥
 MoveFails NotText = ⊥
+MoveFails EmptyName = ⊥
 MoveFails BadRecord = ⊥
 MoveFails (NoSocket cause) = ⊥
 MoveFails NoThread = ⊥
@@ -61,14 +64,14 @@ ReadTells old faults (Err e) new faults' =
     (MoveFails e × NothingWritten old faults new faults')
     ⊎ ((e ≡ OutputFailed) × ((bytes : List ℕ) × FailsToSend old faults bytes new faults'))
 
--- the line before `write` reads, and the one after it
+-- the line before `write` reads, and the one after it: they name the first sector and the last
 abbrev pub replacing_text : ℕ → ℕ → List ℕ
 replacing_text first end = codes "replacing sectors "
-    ++ (decimal first ++ (codes " to " ++ (decimal end ++ codes "\n")))
+    ++ (decimal first ++ (codes " to " ++ (decimal (end - 1) ++ codes "\n")))
 
 abbrev pub written_text : ℕ → ℕ → List ℕ
 written_text first end = codes "replaced sectors "
-    ++ (decimal first ++ (codes " to " ++ (decimal end ++ codes "\n")))
+    ++ (decimal first ++ (codes " to " ++ (decimal (end - 1) ++ codes "\n")))
 
 -- What `write` tells: done, both lines about the same sectors; with a refusal nothing, or the first
 -- line; with a fault of the output a beginning of them.

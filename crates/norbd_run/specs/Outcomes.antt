@@ -8,13 +8,14 @@ use Rattle.norbd_line.specs.declared.fault.Fault.TheVariants.{Words, NoMemory, B
 use Rattle.norbd_line.specs.declared.fault.Fault.TheVariants.{OutputFailed, ImageFailed, WrongId}
 use Rattle.norbd_line.specs.declared.fault.Fault.TheVariants.{BadSfdp, Protected, Slow, BadRecord}
 use Rattle.norbd_line.specs.declared.fault.Fault.TheVariants.{NotFormatted, Corrupt, NotClean}
-use Rattle.norbd_line.specs.declared.fault.Fault.TheVariants.{BadImageSize}
+use Rattle.norbd_line.specs.declared.fault.Fault.TheVariants.{BadImageSize, BadAddress, EmptyName}
 use Rattle.norbd_line.specs.declared.fault.Fault.TheVariants.{NoSocket, NoThread, BadSync, NotText}
 use Rattle.norbd_line.specs.declared.fault.Fault.TheVariants.{BadTidy, BadRange, BadInput}
-use Rattle.norbd_line.specs.declared.fault.Fault.TheVariants.{InUse, Formatted, BadAddress}
-use Rattle.share.specs.declared.attending.End.{End}
-use Rattle.share.specs.declared.attending.End.TheVariants.{Closed, EndOfInput, Input, Output, Lost}
-use Rattle.share.specs.declared.attending.End.TheVariants.{OutOfMemory}
+use Rattle.norbd_line.specs.declared.fault.Fault.TheVariants.{InUse, Formatted, NotEmpty}
+use Rattle.nbd_worker.specs.declared.attending.End.{End}
+use Rattle.nbd_worker.specs.declared.attending.End.TheVariants.{Closed, EndOfInput, Input, Output}
+use Rattle.nbd_worker.specs.declared.attending.End.TheVariants.{Lost}
+use Rattle.nbd_worker.specs.declared.attending.End.TheVariants.{OutOfMemory}
 
 -- a result that is Ok
 abbrev pub IsDone : {T : Type 0} → Result T Fault → Type 0
@@ -50,14 +51,16 @@ HasCause NoMemory had left reads reads' writes writes' = (reads' ≡ reads) × (
 HasCause InputFailed had left reads reads' writes writes' =
     InputFails had left reads reads' × (writes' ≡ writes)
 HasCause OutputFailed had left reads reads' writes writes' = (reads' ≡ reads) × (writes < writes')
-HasCause BadSize had left reads reads' writes writes' = ⊥
+HasCause (BadSize kib) had left reads reads' writes writes' = ⊥
 HasCause BadSync had left reads reads' writes writes' = ⊥
 HasCause BadTidy had left reads reads' writes writes' = ⊥
 HasCause BadAddress had left reads reads' writes writes' = ⊥
 HasCause NotText had left reads reads' writes writes' = ⊥
+HasCause EmptyName had left reads reads' writes writes' = ⊥
 HasCause (ImageFailed cause) had left reads reads' writes writes' = ⊥
 HasCause InUse had left reads reads' writes writes' = ⊥
 HasCause Formatted had left reads reads' writes writes' = ⊥
+HasCause NotEmpty had left reads reads' writes writes' = ⊥
 HasCause WrongId had left reads reads' writes writes' = ⊥
 HasCause BadSfdp had left reads reads' writes writes' = ⊥
 HasCause Protected had left reads reads' writes writes' = ⊥
@@ -69,7 +72,7 @@ HasCause NotClean had left reads reads' writes writes' = ⊥
 HasCause (BadImageSize length) had left reads reads' writes writes' = ⊥
 HasCause (NoSocket cause) had left reads reads' writes writes' = ⊥
 HasCause NoThread had left reads reads' writes writes' = ⊥
-HasCause BadRange had left reads reads' writes writes' = ⊥
+HasCause (BadRange count) had left reads reads' writes writes' = ⊥
 HasCause (BadInput length) had left reads reads' writes writes' = ⊥
 
 -- How serving ended: done, and no call of a stream failed, or with a fault that has its cause.

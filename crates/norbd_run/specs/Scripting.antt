@@ -4,8 +4,8 @@ use Rattle.chip_model.specs.Geometry.{sector_count}
 use Rattle.nor_driver.specs.declared.error.ProbeError.{ProbeError}
 use Rattle.nor_driver.specs.declared.error.ProbeError.TheVariants as probes
 use Rattle.flash_disk.specs.declared.error.MountError.TheVariants as mounts
-use Rattle.station.specs.declared.event.ScriptError.TheVariants as scripts
-use Rattle.station.specs.Script.{FailsToReadAll, FailsToWrite}
+use Rattle.nbd_station.specs.declared.event.ScriptError.TheVariants as scripts
+use Rattle.nbd_station.specs.Script.{FailsToReadAll, FailsToWrite}
 use Rattle.norbd_script.specs.Answered.{script_part}
 use Rattle.norbd_script.specs.Simulated.{SimulatesScript}
 use Rattle.norbd_script.specs.declared.error.RunFault.{RunFault}

@@ -9,12 +9,12 @@ use Rattle.norbd_line.specs.declared.fault.Fault.TheVariants.{Words, NoMemory, B
 use Rattle.norbd_line.specs.declared.fault.Fault.TheVariants.{OutputFailed, ImageFailed, WrongId}
 use Rattle.norbd_line.specs.declared.fault.Fault.TheVariants.{BadSfdp, Protected, Slow, BadRecord}
 use Rattle.norbd_line.specs.declared.fault.Fault.TheVariants.{NotFormatted, Corrupt, NotClean}
-use Rattle.norbd_line.specs.declared.fault.Fault.TheVariants.{BadImageSize}
+use Rattle.norbd_line.specs.declared.fault.Fault.TheVariants.{BadImageSize, BadAddress, EmptyName}
 use Rattle.norbd_line.specs.declared.fault.Fault.TheVariants.{NoSocket, NoThread, BadSync, NotText}
 use Rattle.norbd_line.specs.declared.fault.Fault.TheVariants.{BadTidy, BadRange, BadInput}
-use Rattle.norbd_line.specs.declared.fault.Fault.TheVariants.{InUse, Formatted, BadAddress}
-use Rattle.share.specs.Places.{setting}
-use Rattle.share.specs.Plain.{AnswersAll, AnswersSome}
+use Rattle.norbd_line.specs.declared.fault.Fault.TheVariants.{InUse, Formatted, NotEmpty}
+use Rattle.nbd_worker.specs.ConnectionState.{setting}
+use Rattle.nbd_worker.specs.Plain.{AnswersAll, AnswersSome}
 
 -- so many sectors of zeros
 abbrev pub zero_sectors : ℕ → List ℕ
@@ -36,14 +36,16 @@ PlainServes keeps sectors input old new (Err InputFailed) = (contents : List ℕ
 PlainServes keeps sectors input old new (Err OutputFailed) = (contents : List ℕ)
     × AnswersSome keeps (setting Transmitting (default_export sectors)) (zero_sectors sectors)
     contents input old new
-PlainServes keeps sectors input old new (Err BadSize) = ⊥
+PlainServes keeps sectors input old new (Err (BadSize kib)) = ⊥
 PlainServes keeps sectors input old new (Err BadSync) = ⊥
 PlainServes keeps sectors input old new (Err BadTidy) = ⊥
 PlainServes keeps sectors input old new (Err BadAddress) = ⊥
 PlainServes keeps sectors input old new (Err NotText) = ⊥
+PlainServes keeps sectors input old new (Err EmptyName) = ⊥
 PlainServes keeps sectors input old new (Err (ImageFailed cause)) = ⊥
 PlainServes keeps sectors input old new (Err InUse) = ⊥
 PlainServes keeps sectors input old new (Err Formatted) = ⊥
+PlainServes keeps sectors input old new (Err NotEmpty) = ⊥
 PlainServes keeps sectors input old new (Err WrongId) = ⊥
 PlainServes keeps sectors input old new (Err BadSfdp) = ⊥
 PlainServes keeps sectors input old new (Err Protected) = ⊥
@@ -55,5 +57,5 @@ PlainServes keeps sectors input old new (Err NotClean) = ⊥
 PlainServes keeps sectors input old new (Err (BadImageSize length)) = ⊥
 PlainServes keeps sectors input old new (Err (NoSocket cause)) = ⊥
 PlainServes keeps sectors input old new (Err NoThread) = ⊥
-PlainServes keeps sectors input old new (Err BadRange) = ⊥
+PlainServes keeps sectors input old new (Err (BadRange count)) = ⊥
 PlainServes keeps sectors input old new (Err (BadInput length)) = ⊥

@@ -5,46 +5,54 @@
 //! mends one; `show` draws it; `read` and `write` take its disk out and put it in; `chip` answers
 //! the serprog protocol for one. But for the last each takes a chip behind a programmer, too.
 //!
-//! Promised to the program: `run_line` has each line's own promise (`PlainServes`, `FormatTells`,
-//! `Scripts`, `TellsServing`, `CheckTells`, `ShowTells`, `ReadTells`, `WriteTells`): what is
-//! written where it is done, and the fault where it isn't. `check`'s verdict is a mount's
-//! (`end_of`, by `survey`), and `write` makes a healthy and clean image that holds the sectors
-//! (`image_with`). `Telling` is the text of a fault; `hold_standard` opens the three standard
-//! streams that are closed, so that no image gets their numbers. Left to the crates below: the
-//! words (`norbd_line`), requests and replies (`share`), threads and sockets (`norbd_serve`), the
-//! chain from the chip to a transcript (`norbd_script`), the disks (`block_device`, `flash_disk`),
-//! an image's bytes and its file (`norbd_image`), what it says (`survey`). No contract says what is
-//! printed of a fault, nor what a file holds; tests and runs show it. Source: own; NBD proto.md for
-//! requests and replies.
+//! Promised to the program: `run_line` does what `LineDoes` says of each command: what is written
+//! where it is done, and the fault where it isn't. Each has a file; `serve_chip`, `image_disk` and
+//! `chip_disk` have what several take. `Host` is the system that a server runs on. `check`'s
+//! verdict is a mount's (`end_of`, by `sector_survey`), and `write` makes a healthy and clean image
+//! that holds the sectors (`image_with`). `Telling` is the text of a fault, `reason_of` the rule
+//! that a corrupt image breaks, `Output` standard output, whose last failure is noted;
+//! `hold_standard` opens the three standard streams that are closed, so that no image gets their
+//! numbers. Left to the crates below: the words (`norbd_line`), requests and replies
+//! (`nbd_worker`), threads and sockets (`norbd_serve`), the chain from the chip to a transcript
+//! (`norbd_script`), the disks (`block_device`, `flash_disk`), an image's bytes and its file
+//! (`norbd_image`), what it says (`sector_survey`). No contract says what is printed of a fault,
+//! nor what a file holds; tests and runs show it. Source: own; NBD proto.md for requests and
+//! replies.
 #![tactic(auto)]
 
-mod answering;
-mod checking;
-mod chip_disks;
-mod chips;
-mod copying;
-mod formatting;
+mod check;
+mod chip;
+mod chip_disk;
+mod format;
+mod host;
+mod image_disk;
 mod listening;
-mod moving;
+mod output;
+mod plain;
 mod printing;
 mod progress;
+mod read;
 mod run;
-mod scripting;
-mod serving;
-mod showing;
+mod script;
+mod serve;
+mod serve_chip;
+mod show;
 mod standard;
+mod write;
 
-pub use answering::run_chip;
-pub use checking::run_check;
-pub use chip_disks::{run_check_chip, run_read_chip, run_show_chip, run_write_chip};
-pub use chips::{run_format_chip, run_serve_chip};
-pub use formatting::run_format;
+pub use check::{run_check, run_check_chip};
+pub use chip::run_chip;
+pub use format::{run_format, run_format_chip};
+pub use host::Host;
 pub use listening::listen_at;
-pub use moving::{run_read, run_write};
-pub use printing::Telling;
+pub use output::Output;
+pub use printing::{Failure, Telling, reason_of};
 pub use progress::{Meter, Progress, Screen};
+pub use read::{run_read, run_read_chip};
 pub use run::run_line;
-pub use scripting::run_script;
-pub use serving::{Asked, run_serve};
-pub use showing::run_show;
+pub use script::run_script;
+pub use serve::{Asked, run_serve};
+pub use serve_chip::run_serve_chip;
+pub use show::{run_show, run_show_chip};
 pub use standard::{Null, Opens, Standard, hold_standard};
+pub use write::{run_write, run_write_chip};

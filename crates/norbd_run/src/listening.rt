@@ -13,6 +13,9 @@ use std::os::unix::net::{UnixListener, UnixStream};
 use std::rt::Files;
 use std::{fs, io};
 
+/// How many bytes the path of a Unix socket has at most. Source: unix(7), `sun_path`.
+const MOST_PATH: usize = 107;
+
 /// Listens at a place. `BadAddress` where the text of the address is none, `NoSocket` where the
 /// place can't be had.
 pub fn listen_at<R>(rt: &R, place: Place<'_>) -> Result<Listener, Fault>
@@ -26,13 +29,16 @@ where
             let Some(address) = address_of(bind) else {
                 return Err(Fault::BadAddress);
             };
-            listen_on_port(rt, SocketAddr::from((address, port as u16)))
+            match listen_on_port(rt, SocketAddr::from((address, port as u16))) {
+                Ok(listener) => Ok(listener),
+                Err(error) => Err(Cause::System(error.kind())),
+            }
         }
         Place::Unix(path) => listen_on_path(rt, path),
     };
     match listener {
         Ok(listener) => Ok(listener),
-        Err(error) => Err(Fault::NoSocket(Cause::System(error.kind()))),
+        Err(cause) => Err(Fault::NoSocket(cause)),
     }
 }
 
@@ -56,25 +62,37 @@ where
 }
 
 /// Makes the Unix socket at a path. One that is there is replaced where nobody listens at it.
-fn listen_on_path<R: Files + Net>(rt: &R, path: &str) -> io::Result<Listener> {
+fn listen_on_path<R: Files + Net>(rt: &R, path: &str) -> Result<Listener, Cause> {
+    if path.len() > MOST_PATH {
+        return Err(Cause::LongPath);
+    }
     match UnixListener::bind(rt, path) {
-        Err(error) if error.kind() == ErrorKind::AddrInUse && is_left(rt, path) => {
-            fs::remove_file(rt, path)?;
-            Ok(Listener::Path(UnixListener::bind(rt, path)?))
-        }
         Ok(listener) => Ok(Listener::Path(listener)),
-        Err(error) => Err(error),
+        Err(error) if error.kind() == ErrorKind::AddrInUse => listen_in_place(rt, path),
+        Err(error) => Err(Cause::System(error.kind())),
     }
 }
 
-/// Whether a path is that of a socket at which nobody listens, as one that was killed leaves it.
-fn is_left<R: Files + Net>(rt: &R, path: &str) -> bool {
+/// Makes the Unix socket at a path in the place of what is there, where that is a socket at which
+/// nobody listens, as one that was killed leaves it.
+fn listen_in_place<R: Files + Net>(rt: &R, path: &str) -> Result<Listener, Cause> {
     match fs::symlink_metadata(rt, path) {
         Ok(metadata) if metadata.file_type().is_socket() => {}
-        _ => return false,
+        Ok(_) => return Err(Cause::NotASocket),
+        Err(error) => return Err(Cause::System(error.kind())),
     }
     match UnixStream::connect(rt, path) {
-        Ok(_) => false,
-        Err(error) => error.kind() == ErrorKind::ConnectionRefused,
+        Err(error) if error.kind() == ErrorKind::ConnectionRefused => {}
+        _ => return Err(Cause::System(ErrorKind::AddrInUse)),
     }
+    match listen_anew(rt, path) {
+        Ok(listener) => Ok(listener),
+        Err(error) => Err(Cause::System(error.kind())),
+    }
+}
+
+/// Removes a socket, and makes another at its path.
+fn listen_anew<R: Files + Net>(rt: &R, path: &str) -> io::Result<Listener> {
+    fs::remove_file(rt, path)?;
+    Ok(Listener::Path(UnixListener::bind(rt, path)?))
 }

@@ -1,14 +1,74 @@
 //! What is printed of a fault: its text, the file or the place that it is about, and the cause.
 
-use norbd_line::{Cause, Fault, Line, Place};
+use crate::check::report_about;
+use norbd_image::{ImageFile, hold_to_read};
+use norbd_line::{Answer, Cause, Fault, Line, Place};
+use norbd_survey::Reason;
+use sector_survey::Verdict;
+use serprog_link::programmer_of;
 use std::fmt;
+use std::io::ErrorKind;
+use std::rt::Files;
 
-/// A fault, and the line in which it came, where there was one. Its text is the fault's, a colon
-/// and the file or the place, and a colon and the cause where it is known.
+/// Why standard output failed: it was closed before the start, or the system's answer.
+#[derive(Clone, Copy, Debug, PartialEq, Eq, Drop)]
+pub enum Failure {
+    Closed,
+    Answered(ErrorKind),
+}
+
+/// A fault, the line in which it came, where there was one, and where they are known which rule a
+/// corrupt image breaks and why standard output failed. Its text is the fault's, a colon and the
+/// file or the place, and a colon and the cause where it is known.
 #[derive(Drop)]
 pub struct Telling<'f, 'l> {
     pub fault: &'f Fault,
     pub line: Option<Line<'l>>,
+    pub reason: Option<String>,
+    pub output: Option<Failure>,
+}
+
+/// Which rule the corrupt image of a line breaks, and where, as `check` tells it, which has told it
+/// then. The image is looked at once more, and left as it is; a chip behind a programmer is not.
+pub fn reason_of<R>(rt: &R, fault: &Fault, line: Line<'_>) -> Option<String>
+where
+    R: Files + AllocGlobal,
+    R::File: ImageFile,
+{
+    match (fault, line) {
+        (Fault::Corrupt, Line::Check { .. }) => None,
+        (Fault::Corrupt, line) => match image_of(Some(line)) {
+            Subject::Path(path) if programmer_of(path).is_none() => reason_in(rt, path),
+            _ => None,
+        },
+        _ => None,
+    }
+}
+
+/// Which rule the image in a file breaks.
+fn reason_in<R>(rt: &R, path: &str) -> Option<String>
+where
+    R: Files + AllocGlobal,
+    R::File: ImageFile,
+{
+    let Ok(held) = hold_to_read(rt, path) else {
+        return None;
+    };
+    let Ok(bytes) = held.bytes(rt.alloc()) else {
+        return None;
+    };
+    let image = bytes.as_slice();
+    let Ok(report) = report_about(rt.alloc(), image) else {
+        return None;
+    };
+    let Verdict::Corrupt(finding) = report.verdict else {
+        return None;
+    };
+    let reason = Reason { finding, image };
+    match format!(in rt.alloc(); "{reason}") {
+        Ok(text) => Some(text),
+        Err(_) => None,
+    }
 }
 
 /// What a fault is about.
@@ -51,6 +111,7 @@ fn subject_of<'l>(fault: &Fault, line: Option<Line<'l>>) -> Subject<'l> {
         Fault::ImageFailed(_) => image_of(line),
         Fault::InUse => image_of(line),
         Fault::Formatted => image_of(line),
+        Fault::NotEmpty => image_of(line),
         Fault::WrongId => image_of(line),
         Fault::BadSfdp => image_of(line),
         Fault::Protected => image_of(line),
@@ -59,9 +120,114 @@ fn subject_of<'l>(fault: &Fault, line: Option<Line<'l>>) -> Subject<'l> {
         Fault::Corrupt => image_of(line),
         Fault::NotClean => image_of(line),
         Fault::BadImageSize(_) => image_of(line),
-        Fault::BadRange => image_of(line),
+        Fault::BadRange(_) => image_of(line),
         Fault::NoSocket(_) => place_of(line),
         _ => Subject::Nothing,
+    }
+}
+
+/// The address after `--bind` of a line.
+fn bind_of<'l>(line: Option<Line<'l>>) -> Option<&'l str> {
+    match line {
+        Some(Line::Serve(asked)) => match asked.place {
+            Place::Port { bind, .. } => bind,
+            Place::Unix(_) => None,
+        },
+        _ => None,
+    }
+}
+
+/// The text after `--sectors` of a line.
+fn range_of<'l>(line: Option<Line<'l>>) -> Option<&'l str> {
+    match line {
+        Some(Line::Read { sectors, .. }) => sectors,
+        Some(Line::Write { sectors, .. }) => sectors,
+        _ => None,
+    }
+}
+
+/// The number behind the colon of a text, if there is one.
+fn end_in(text: Option<&str>) -> Option<u64> {
+    let Some(text) = text else {
+        return None;
+    };
+    let Some((_, end)) = text.split_once(':') else {
+        return None;
+    };
+    match end.parse::<u64>() {
+        Ok(end) => Some(end),
+        Err(_) => None,
+    }
+}
+
+/// Why a text is no range of sectors of a disk that has so many.
+fn write_range<W: fmt::Write>(
+    f: &mut fmt::Formatter<W>,
+    text: Option<&str>,
+    sectors: u32,
+) -> fmt::Result {
+    match end_in(text) {
+        Some(end) if end > sectors as u64 => write!(f, ": {end} is above {sectors}"),
+        _ => f.write_str(": A:B, with A below B, of the disk's sectors"),
+    }
+}
+
+/// Why a programmer of this name isn't reached, by the system's answer.
+fn write_unreached<W: fmt::Write>(
+    f: &mut fmt::Formatter<W>,
+    name: &str,
+    kind: ErrorKind,
+) -> fmt::Result {
+    let is_host = name.starts_with("tcp:");
+    match kind {
+        ErrorKind::Uncategorized if is_host => f.write_str(": unknown host"),
+        ErrorKind::InvalidInput if is_host => f.write_str(": tcp:HOST:PORT is wanted"),
+        ErrorKind::InvalidInput => f.write_str(": not a character device"),
+        kind => write!(f, ": {}", Answer(kind)),
+    }
+}
+
+impl Telling<'_, '_> {
+    /// The file or the place that the fault is about.
+    fn write_subject<W: fmt::Write>(&self, f: &mut fmt::Formatter<W>) -> fmt::Result {
+        match subject_of(self.fault, self.line) {
+            Subject::Nothing => Ok(()),
+            Subject::Path(path) => write!(f, ": {path}"),
+            Subject::Port(port) => match bind_of(self.line) {
+                Some(bind) => write!(f, ": {bind} port {port}"),
+                None => write!(f, ": port {port}"),
+            },
+        }
+    }
+
+    /// Which rule a corrupt image breaks; `check` has told it before.
+    fn write_reason<W: fmt::Write>(&self, f: &mut fmt::Formatter<W>) -> fmt::Result {
+        match (&self.reason, self.line) {
+            (Some(reason), _) => write!(f, ": {reason}"),
+            (None, Some(Line::Check { .. })) => Ok(()),
+            (None, _) => f.write_str(": norbd check says why"),
+        }
+    }
+
+    /// Why an image, or a chip in its place, failed.
+    fn write_cause<W: fmt::Write>(&self, f: &mut fmt::Formatter<W>, cause: Cause) -> fmt::Result {
+        let unreached = match cause {
+            Cause::Chip(cause) => cause.unreached(),
+            _ => None,
+        };
+        match (unreached, image_of(self.line)) {
+            (Some(kind), Subject::Path(name)) => write_unreached(f, name, kind),
+            _ => write!(f, ": {cause}"),
+        }
+    }
+
+    /// Why standard output failed.
+    fn write_output<W: fmt::Write>(&self, f: &mut fmt::Formatter<W>) -> fmt::Result {
+        match self.output {
+            Some(Failure::Closed) => f.write_str(": standard output is closed"),
+            Some(Failure::Answered(kind)) => write!(f, ": {}", Answer(kind)),
+            None => Ok(()),
+        }
     }
 }
 
@@ -71,21 +237,23 @@ impl fmt::Display for Telling<'_, '_> {
             Fault::ImageFailed(Cause::Chip(_)) => f.write_str("chip failed")?,
             fault => write!(f, "{fault}")?,
         }
-        match subject_of(self.fault, self.line) {
-            Subject::Nothing => {}
-            Subject::Path(path) => write!(f, ": {path}")?,
-            Subject::Port(port) => write!(f, ": port {port}")?,
-        }
+        self.write_subject(f)?;
         match self.fault {
-            Fault::ImageFailed(cause) => write!(f, ": {cause}"),
+            Fault::ImageFailed(cause) => self.write_cause(f, *cause),
             Fault::NoSocket(cause) => write!(f, ": {cause}"),
             Fault::BadImageSize(length) => write!(f, ": {length} bytes"),
             Fault::BadSync => f.write_str(": flush, never or always"),
             Fault::BadTidy => f.write_str(": lazy or eager"),
-            Fault::BadAddress => f.write_str(": --port P [--bind IP], or --unix PATH"),
+            Fault::BadAddress => match bind_of(self.line) {
+                Some(bind) => write!(f, ": {bind} is no IP address"),
+                None => f.write_str(": --port P [--bind IP], or --unix PATH"),
+            },
             Fault::Formatted => f.write_str(": --force replaces it"),
+            Fault::NotEmpty => f.write_str(": --force replaces it"),
             Fault::NotClean => f.write_str(": norbd check --mend mends it"),
-            Fault::BadRange => f.write_str(": A:B, with A below B, of the disk's sectors"),
+            Fault::Corrupt => self.write_reason(f),
+            Fault::BadRange(sectors) => write_range(f, range_of(self.line), *sectors),
+            Fault::OutputFailed => self.write_output(f),
             _ => Ok(()),
         }
     }

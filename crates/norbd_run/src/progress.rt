@@ -2,10 +2,10 @@
 
 ghost use Rattle.std.specs.Prelude.{◌≡◌, ◌*◌, ◌/◌, ◌<◌, ◌≤◌};
 
+use norbd_transfer::Observer;
 use std::fmt;
 use std::io::IsTerminal;
 use std::time::{Clock, Duration};
-use transfer::Observer;
 
 /// How far a transfer of sectors is.
 #[derive(Clone, Copy, Debug, PartialEq, Eq)]

@@ -1,52 +1,28 @@
 //! What a line asks, over any reader and writer.
-ghost use Rattle.std.specs.Prelude.{◌≡◌, ◌≢◌, ℕ, List, Some, false};
-ghost use Rattle.std.specs.Prelude.{IfSome, IsErr, IsFalse, None, option_map, unwrap_or, ◌*◌};
-ghost use Rattle.norbd_run.specs.Checking.{CheckTells};
-ghost use Rattle.norbd_run.specs.Moving.{ReadTells, WriteTells};
-ghost use Rattle.norbd_run.specs.Showing.{ShowTells};
-ghost use Rattle.norbd_run.specs.Outcomes.{Ended, Means};
-ghost use Rattle.norbd_run.specs.Formatting.{FormatTells};
-ghost use Rattle.norbd_run.specs.Scripting.{Scripts};
-ghost use Rattle.norbd_run.specs.Listening.{TellsServing};
-ghost use Rattle.norbd_run.specs.Serving.{PlainServes, zero_sectors};
-ghost use Rattle.norbd_line.specs.Line.{IfCheck, IfFormat, IfPlain, IfScript, IfServe};
-ghost use Rattle.norbd_line.specs.Line.{IfRead, IfShow, IfWrite};
-ghost use Rattle.norbd_line.specs.Line.{IsMaxRequest, IsServeInRange, IsSize};
-ghost use Rattle.norbd_line.specs.Line.{IfChip, IsChipInRange};
-ghost use Rattle.norbd_run.specs.Chips.{ChipTells};
-ghost use Rattle.nbd_wire.specs.Commands.{default_export};
+ghost use Rattle.std.specs.Prelude.{◌≡◌, IfSome, ◌*◌, option_map, unwrap_or};
+ghost use Rattle.norbd_line.specs.Line.{IsMaxRequest};
+ghost use Rattle.norbd_run.specs.Lines.{HasNumbers, LineDoes, ReadsNothing};
 
-use crate::answering::run_chip;
-use crate::checking::run_check;
-use crate::chip_disks::{run_check_chip, run_read_chip, run_show_chip, run_write_chip};
-use crate::chips::{run_format_chip, run_serve_chip};
-use crate::formatting::run_format;
-use crate::moving::{run_read, run_write};
+use crate::check::{run_check, run_check_chip};
+use crate::chip::run_chip;
+use crate::format::{run_format, run_format_chip};
+use crate::host::Host;
+use crate::plain::run_plain;
 use crate::progress::Screen;
-use crate::scripting::run_script;
-use crate::serving::{Asked, run_serve};
-use crate::showing::run_show;
-use block_device::{PlainDisk, Sink, Source};
-use nbd_wire::{Export, MAX_LEN};
-use norbd_chip::programmer_of;
+use crate::read::{run_read, run_read_chip};
+use crate::script::run_script;
+use crate::serve::{Asked, run_serve};
+use crate::serve_chip::run_serve_chip;
+use crate::show::{run_show, run_show_chip};
+use crate::write::{run_write, run_write_chip};
+use block_device::{Sink, Source};
+use nbd_share::LEDGER_PARTS;
+use nbd_wire::MAX_LEN;
 use norbd_image::ImageFile;
-use norbd_line::{Fault, Line};
-use norbd_serve::{Log, OpenGate};
-use share::{End, FullRecord, NoRecord, OneServer, Recorder, Shared, exchange_plain};
-use std::alloc::Global;
+use norbd_line::{Fault, Line, MOST_CONNS};
+use serprog_link::programmer_of;
 use std::marker::Brand;
-use std::net::{Net, TcpListener, TcpStream};
-use std::rt::Files;
-use std::sync::Wait;
 use std::sync::ledger::Blank;
-use std::thread::Threads;
-use std::time::Clock;
-
-/// The parts of a server's ledger: one for each of 65,536 passes, and one that stays.
-const LEDGER_PARTS: u64 = 65_537;
-
-/// How many connections are served at once where the line doesn't say how many in all.
-const MOST_CONNS: u32 = 64;
 
 /// Does what a line asks.
 ///
@@ -85,70 +61,27 @@ pub fn run_line<R, S, K>(
     writer: &mut K,
 ) -> Result<(), Fault>
 where
-    R: Files
-        + AllocGlobal
-        + Threads
-        + Wait
-        + Sync
-        + Clock
-        + Log
-        + Screen
-        + Net<Listener = TcpListener, Stream = TcpStream>,
+    R: Host + Screen,
     R::File: ImageFile + Send + Sync,
     R::Dir: Send,
     R: 'static,
     S: Source,
     K: Sink,
-    requires size { IfFormat line (λ _ kib. IsSize kib) }
-    requires script_size { IfScript line (λ kib. IsSize kib) }
-    requires serve_numbers { IfServe line (λ s. IsServeInRange s) }
-    requires chip_numbers { IfChip line (λ s. IsChipInRange s) }
-    ensures chip_unread { IfChip line.entry (λ _. reader.new ≡ reader.old) }
-    ensures tells_chip { IfChip line.entry
-        (λ s. ChipTells s.port (K.written writer.old) (K.faults writer.old) result
-        (K.written writer.new) (K.faults writer.new)) }
-    ensures ends { IfPlain line.entry
-        (λ _ _. Ended result (S.remaining reader.old) (S.remaining reader.new) (S.faults reader.old)
-        (S.faults reader.new) (K.faults writer.old) (K.faults writer.new)) }
-    ensures serves { IfPlain line.entry
-        (λ sectors keeps. (input : List ℕ) → S.remaining reader.old ≡ Some input
-        → PlainServes keeps sectors input (K.written writer.old) (K.written writer.new) result) }
-    ensures unread { IfFormat line.entry (λ _ _. reader.new ≡ reader.old) }
-    ensures serve_unread { IfServe line.entry (λ _. reader.new ≡ reader.old) }
-    ensures check_unread { IfCheck line.entry (λ _ _. reader.new ≡ reader.old) }
-    ensures show_unread { IfShow line.entry (reader.new ≡ reader.old) }
-    ensures read_unread { IfRead line.entry (reader.new ≡ reader.old) }
-    ensures tells_check { IfCheck line.entry
-        (λ mends json. CheckTells mends json (K.written writer.old) (K.faults writer.old) result
-        (K.written writer.new) (K.faults writer.new)) }
-    ensures tells_show { IfShow line.entry (ShowTells (K.written writer.old) (K.faults writer.old)
-        result (K.written writer.new) (K.faults writer.new)) }
-    ensures tells_read { IfRead line.entry (ReadTells (K.written writer.old) (K.faults writer.old)
-        result (K.written writer.new) (K.faults writer.new)) }
-    ensures tells_write { IfWrite line.entry (WriteTells (K.written writer.old)
-        (K.faults writer.old) result (K.written writer.new) (K.faults writer.new)) }
-    ensures tells_serving { IfServe line.entry
-        (λ s. TellsServing s.place (unwrap_or s.conns 64) s.record (K.written writer.old)
-        (K.faults writer.old) result (K.written writer.new) (K.faults writer.new)) }
-    ensures serves_without_end { IfServe line.entry (λ s. s.conns ≡ None → IsErr result) }
-    ensures tells { IfFormat line.entry
-        (λ _ kib. FormatTells kib (K.written writer.old) (K.faults writer.old) result
-        (K.written writer.new) (K.faults writer.new)) }
-    ensures scripts { IfScript line.entry (λ kib. Scripts kib
+    requires numbers { HasNumbers line }
+    ensures does { LineDoes line.entry
         (record {
           left = S.remaining reader.old;
           reads = S.faults reader.old;
-          written = K.written
-              writer.old;
+          written = K.written writer.old;
           writes = K.faults writer.old;
         }) result
         (record {
           left = S.remaining reader.new;
           reads = S.faults reader.new;
-          written = K.written
-              writer.new;
+          written = K.written writer.new;
           writes = K.faults writer.new;
-        })) }
+        }) }
+    ensures unread { ReadsNothing line.entry → reader.new ≡ reader.old }
 {
     match line {
         Line::Plain { sectors, record } => {
@@ -180,6 +113,7 @@ where
                 record: line.record,
                 sync: line.sync,
                 tidy: line.tidy,
+                told_len: told_at_most(line.max_request),
                 max_len: bytes_at_most(line.max_request),
                 read_only: line.read_only,
                 verbose: line.verbose,
@@ -208,8 +142,9 @@ where
     }
 }
 
-/// The largest length of a READ or WRITE in bytes: 65,536 where the line doesn't say how many KiB.
-fn bytes_at_most(max_request: Option<u32>) -> u32
+/// The largest length of a READ or WRITE in bytes that clients are told: 65,536 where the line
+/// doesn't say how many KiB.
+fn told_at_most(max_request: Option<u32>) -> u32
     requires { IfSome max_request IsMaxRequest }
     ensures { result ≡ unwrap_or (option_map (λ kib. 1024 * kib) max_request) 65536 }
 {
@@ -219,78 +154,14 @@ fn bytes_at_most(max_request: Option<u32>) -> u32
     }
 }
 
-/// Serves one connection a disk of so many sectors of zeros, with a row of each command or without;
-/// `L` names the server.
-fn run_plain<L: OneServer, S: Source, K: Sink>(
-    alloc: Global,
-    blank: Blank,
-    sectors: u32,
-    record: bool,
-    reader: &mut S,
-    writer: &mut K,
-) -> Result<(), Fault>
-    requires name { blank.name ≡ L.name }
-    requires parts { (blank.parts ≡ L.parts) × (blank.parts ≡ 65537) }
-    requires export { default_export sectors ≡ L.export }
-    requires unsaid { IsFalse L.sound }
-    ensures ends { Ended result (S.remaining reader.old) (S.remaining reader.new)
-        (S.faults reader.old) (S.faults reader.new)
-        (K.faults writer.old) (K.faults writer.new) }
-    ensures serves { (input : List ℕ) → S.remaining reader.old ≡ Some input
-        → PlainServes «record» sectors input (K.written writer.old) (K.written writer.new) result }
+/// The largest length of a READ or WRITE in bytes that is taken: what clients are told, and 1 MiB
+/// where the line doesn't say how many KiB, since some of them don't look at what they are told.
+fn bytes_at_most(max_request: Option<u32>) -> u32
+    requires { IfSome max_request IsMaxRequest }
+    ensures { result ≡ unwrap_or (option_map (λ kib. 1024 * kib) max_request) 1048576 }
 {
-    let Ok(disk) = PlainDisk::new(alloc, sectors) else {
-        return Err(Fault::NoMemory);
-    };
-    let export = Export::default_for(sectors);
-    if !record {
-        let server = Shared::<PlainDisk, NoRecord, L>::new(disk, export, blank);
-        return answer_all(alloc, server, sectors, reader, writer);
-    }
-    // Reading a disk in memory never fails, so this error is want of memory.
-    match Shared::<PlainDisk, FullRecord, L>::recording(alloc, disk, export, blank) {
-        Ok(server) => answer_all(alloc, server, sectors, reader, writer),
-        Err(_) => Err(Fault::NoMemory),
-    }
-}
-
-/// Answers all requests over a server of a disk of zeros that gave no pass yet.
-fn answer_all<C: Recorder + Drop, L: OneServer, S: Source, K: Sink>(
-    alloc: Global,
-    server: Shared<PlainDisk, C, L>,
-    sectors: u32,
-    reader: &mut S,
-    writer: &mut K,
-) -> Result<(), Fault>
-    requires zero_sectors { server.disk.contents ≡ zero_sectors sectors }
-    requires export { default_export sectors ≡ L.export }
-    requires fresh { (server.given ≡ 0) × (server.closed ≡ false) }
-    ensures ends { Ended result (S.remaining reader.old) (S.remaining reader.new)
-        (S.faults reader.old) (S.faults reader.new)
-        (K.faults writer.old) (K.faults writer.new) }
-    ensures serves { (input : List ℕ) → S.remaining reader.old ≡ Some input
-        → PlainServes C.KEEPS sectors input (K.written writer.old) (K.written writer.new) result }
-{
-    let mut server = server;
-    let Some(pass) = server.pass() else {
-        unreachable!()
-    };
-    let (_, end) = exchange_plain(alloc, &mut server, pass, reader, writer, &mut OpenGate);
-    outcome(end)
-}
-
-/// What the end of a connection to a disk in memory means for the program: such a disk loses no
-/// command to a power loss.
-fn outcome(end: End) -> Result<(), Fault>
-    requires { end ≢ End.Lost }
-    ensures { Means end result }
-{
-    match end {
-        End::Closed => Ok(()),
-        End::EndOfInput => Ok(()),
-        End::Input => Err(Fault::InputFailed),
-        End::Output => Err(Fault::OutputFailed),
-        End::Lost => unreachable!(),
-        End::OutOfMemory => Err(Fault::NoMemory),
+    match max_request {
+        Some(kib) => 1024 * kib,
+        None => 1_048_576,
     }
 }

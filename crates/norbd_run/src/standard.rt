@@ -49,6 +49,21 @@ pub struct Standard<F: Drop> {
     pub third: Option<F>,
 }
 
+impl<F: AsRawFd + Drop> Standard<F> {
+    /// Whether standard output was closed.
+    pub fn lacks_output(&self) -> bool {
+        is_output(&self.first) || is_output(&self.second) || is_output(&self.third)
+    }
+}
+
+/// Whether a file is there that has the number of standard output.
+fn is_output<F: AsRawFd>(file: &Option<F>) -> bool {
+    match file {
+        Some(file) => file.as_raw_fd() == 1,
+        None => false,
+    }
+}
+
 /// A file, if its number is 0, 1 or 2.
 fn open_low<O: Opens>(opens: &mut O) -> io::Result<Option<O::File>> {
     let file = opens.open()?;

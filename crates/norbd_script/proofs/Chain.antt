@@ -4,14 +4,14 @@ use Rattle.std.specs.Prelude.{Bool, not, ◌&&◌, ◌||◌, is_ok, Result, Ok, 
 use Rattle.std.proofs.lemmas.Bool.{false≢true}
 use Rattle.std.proofs.lemmas.List.{length-replicate}
 use Rattle.block_device.specs.Facts.{Facts, CountsNeverFall, IsDiskReady}
-use Rattle.station.specs.declared.event.Event.{Event}
-use Rattle.station.specs.declared.event.ScriptError.{ScriptError}
-use Rattle.station.specs.declared.event.ScriptError.TheVariants.{Input, BadRecord, Output}
-use Rattle.station.specs.Board.{Board, IsNew, StationRepresents}
-use Rattle.station.specs.Broken.{Stops}
-use Rattle.station.specs.Running.{Runs, Ends}
-use Rattle.station.specs.Script.{ScriptSays, events_of}
-use Rattle.station.specs.Transcript.{Transcript}
+use Rattle.nbd_station.specs.declared.event.Event.{Event}
+use Rattle.nbd_station.specs.declared.event.ScriptError.{ScriptError}
+use Rattle.nbd_station.specs.declared.event.ScriptError.TheVariants.{Input, BadRecord, Output}
+use Rattle.nbd_station.specs.StationState.{StationState, IsNew, StationRepresents}
+use Rattle.nbd_station.specs.Broken.{Stops}
+use Rattle.nbd_station.specs.Running.{Runs, Ends}
+use Rattle.nbd_station.specs.Script.{ScriptSays, events_of}
+use Rattle.nbd_station.specs.Transcript.{Transcript}
 use Rattle.norbd_script.specs.declared.error.RunFault.{RunFault}
 use Rattle.norbd_script.specs.declared.error.RunFault.TheVariants.{Format, Mount, NotClean, OutOfMemory, Script}
 use Rattle.sector_slots.specs.Slots.{IsClean}
@@ -70,7 +70,7 @@ size-of f slows n new back sized =
     let b = length-contents new.chip.memory in
     omega (arith, a, b, sized)
 
-module _ (f : Facts) (p : ℕ) (b b' : Board) (new : OnBus) (sound : f.sound ≡ true) (ready : IsDiskReady f) (made : IsNew f b) (goes : CountsNeverFall b.disk b'.disk) (back : GivenBack b'.disk p new) where
+module _ (f : Facts) (p : ℕ) (b b' : StationState) (new : OnBus) (sound : f.sound ≡ true) (ready : IsDiskReady f) (made : IsNew f b) (goes : CountsNeverFall b.disk b'.disk) (back : GivenBack b'.disk p new) where
   abbrev new' : Seen
   new' = as_seen new
 
@@ -119,7 +119,7 @@ module _ (f : Facts) (p : ℕ) (b b' : Board) (new : OnBus) (sound : f.sound ≡
     said r was r' is (Err Output) s = (s.0, s.1, s.2, broken (events_of s.0) was is s.3)
 
   -- the disk is sound in the end, and nothing slow is latched
-  abbrev ends_well : (w : Board) → Type 0
+  abbrev ends_well : (w : StationState) → Type 0
   ends_well w = (w.disk.sound ≡ true) × (w.disk.slow ≡ false)
 
   at_end : (r was r' is : Option (List ℕ)) (e : Result (Unit {0}) ScriptError) → ScriptSays b b' r was e r' is → new.slows ≡ f.slows → ends_well b'

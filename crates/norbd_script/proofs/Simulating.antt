@@ -7,16 +7,16 @@ use Rattle.chip_model.specs.Geometry.{IsChipSize}
 use Rattle.nor_driver.specs.Probe.{Readings, told}
 use Rattle.nor_driver.specs.declared.error.ProbeError.{ProbeError}
 use Rattle.nor_driver.specs.declared.error.ProbeError.TheVariants as probes
-use Rattle.fault_model.specs.Sim.{fresh_chip}
-use Rattle.fault_model.proofs.Accepted.{table_accepted}
+use Rattle.chip_simulator.specs.Sim.{fresh_chip}
+use Rattle.chip_simulator.proofs.Accepted.{table_accepted}
 use Rattle.flash_disk.specs.Formatted.{AnswersAsTold, FormatFails, format_answer}
 use Rattle.flash_disk.specs.Mounting.{RefusedFor}
 use Rattle.flash_disk.specs.declared.error.MountError.{MountError}
 use Rattle.flash_disk.specs.declared.error.MountError.TheVariants as mounts
 use Rattle.flash_disk.proofs.Accepting.{told-accepted}
-use Rattle.station.specs.declared.event.Event.{Event}
-use Rattle.station.specs.declared.event.ScriptError.TheVariants.{Input, BadRecord, Output}
-use Rattle.station.specs.Script.{events_of}
+use Rattle.nbd_station.specs.declared.event.Event.{Event}
+use Rattle.nbd_station.specs.declared.event.ScriptError.TheVariants.{Input, BadRecord, Output}
+use Rattle.nbd_station.specs.Script.{events_of}
 use Rattle.norbd_script.specs.declared.error.RunFault.{RunFault}
 use Rattle.norbd_script.specs.declared.error.RunFault.TheVariants.{Format, Mount, NotClean, OutOfMemory, Script}
 use Rattle.norbd_script.specs.Answered.{Seen, AnswersEvents, BreaksEvents, AnswersScript, FormatsAsTold, IsOfFormatted, new_world}

@@ -8,14 +8,14 @@ use Rattle.flash_disk.specs.Formatted.{AnswersAsTold, FormatFails, FormatLeaves}
 use Rattle.flash_disk.specs.Mounting.{RefusedFor}
 use Rattle.flash_disk.specs.declared.error.MountError.{MountError}
 use Rattle.flash_disk.specs.declared.error.MountError.TheVariants as refusals
-use Rattle.station.specs.declared.event.Event.{Event}
-use Rattle.station.specs.declared.event.ScriptError.{ScriptError}
-use Rattle.station.specs.declared.event.ScriptError.TheVariants as scripts
+use Rattle.nbd_station.specs.declared.event.Event.{Event}
+use Rattle.nbd_station.specs.declared.event.ScriptError.{ScriptError}
+use Rattle.nbd_station.specs.declared.event.ScriptError.TheVariants as scripts
 use Rattle.nbd_wire.specs.Commands.{default_export}
-use Rattle.station.specs.World.{World}
-use Rattle.station.specs.Transcript.{Transcript}
-use Rattle.station.specs.Broken.{Stops}
-use Rattle.station.specs.Script.{Item, AreAllowed, IsBad, script_of, events_of}
+use Rattle.nbd_station.specs.World.{World}
+use Rattle.nbd_station.specs.Transcript.{Transcript}
+use Rattle.nbd_station.specs.Broken.{Stops}
+use Rattle.nbd_station.specs.Script.{Item, AreAllowed, IsBad, script_of, events_of}
 use Rattle.norbd_script.specs.declared.error.RunFault.{RunFault}
 use Rattle.norbd_script.specs.declared.error.RunFault.TheVariants.{Format, Mount, NotClean}
 use Rattle.norbd_script.specs.declared.error.RunFault.TheVariants.{OutOfMemory, Script}

@@ -6,12 +6,12 @@ use Rattle.flash_disk.specs.declared.error.MountError.{MountError}
 use Rattle.flash_disk.specs.declared.error.MountError.TheVariants as mounts
 use Rattle.nor_driver.specs.declared.error.ProbeError.{ProbeError}
 use Rattle.nor_driver.specs.declared.error.ProbeError.TheVariants as probes
-use Rattle.station.specs.declared.event.Event.{Event}
-use Rattle.station.specs.declared.event.ScriptError.TheVariants as scripts
-use Rattle.station.specs.World.{World}
-use Rattle.station.specs.Transcript.{Transcript}
-use Rattle.station.specs.Broken.{Stops}
-use Rattle.station.specs.Script.{Item, AreAllowed, IsBad, script_of, events_of}
+use Rattle.nbd_station.specs.declared.event.Event.{Event}
+use Rattle.nbd_station.specs.declared.event.ScriptError.TheVariants as scripts
+use Rattle.nbd_station.specs.World.{World}
+use Rattle.nbd_station.specs.Transcript.{Transcript}
+use Rattle.nbd_station.specs.Broken.{Stops}
+use Rattle.nbd_station.specs.Script.{Item, AreAllowed, IsBad, script_of, events_of}
 use Rattle.norbd_script.specs.declared.error.RunFault.{RunFault}
 use Rattle.norbd_script.specs.declared.error.RunFault.TheVariants.{Format, Mount, NotClean}
 use Rattle.norbd_script.specs.declared.error.RunFault.TheVariants.{OutOfMemory, Script}

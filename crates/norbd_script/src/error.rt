@@ -1,8 +1,8 @@
 //! Why a script was not run on a chip.
 
 use flash_disk::MountError;
+use nbd_station::ScriptError;
 use nor_driver::ProbeError;
-use station::ScriptError;
 use thiserror::Error;
 
 /// Why a script was not run on a chip, or not to its end. Source: own.

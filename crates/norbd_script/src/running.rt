@@ -12,15 +12,15 @@ ghost use Rattle.norbd_script.specs.Answered.{AnswersScript, FormatLeft, Formats
 ghost use Rattle.norbd_script.specs.Answered.{IsPastFormat, script_part};
 ghost use Rattle.norbd_script.specs.Lives.{IsHealthyChip, RunsMounted};
 ghost use Rattle.norbd_script.specs.Running.{IsPastMount, RunsOn};
-ghost use Rattle.station.specs.Script.{FailsToReadAll, FailsToWrite};
+ghost use Rattle.nbd_station.specs.Script.{FailsToReadAll, FailsToWrite};
 
 use crate::error::RunFault;
 use block_device::{Disk, DiskError, Sink, Source};
 use chip_model::SpiBus;
 use flash_disk::{FlashDisk, MountError, Provenance, format};
+use nbd_station::Station;
 use nor_driver::ProbeError;
 use sector_stock::Policy;
-use station::Station;
 use std::alloc::Global;
 use std::marker::Brand;
 

@@ -4,12 +4,12 @@ ghost use Rattle.std.specs.Prelude.{◌≡◌, ◌*◌};
 ghost use Rattle.chip_model.specs.Geometry.{IsChipSize, sector_count};
 ghost use Rattle.norbd_script.specs.Answered.{script_part};
 ghost use Rattle.norbd_script.specs.Simulated.{SimulatesScript};
-ghost use Rattle.station.specs.Script.{FailsToReadAll, FailsToWrite};
+ghost use Rattle.nbd_station.specs.Script.{FailsToReadAll, FailsToWrite};
 
 use crate::error::RunFault;
 use crate::running::run_formatted;
 use block_device::{Sink, Source};
-use fault_model::PromptChip;
+use chip_simulator::PromptChip;
 use sector_stock::Policy;
 use std::alloc::Global;
 

@@ -1,11 +1,11 @@
 -- Of connections that end one after another, one ended by a lost command.
 use Rattle.std.proofs.Common.{◌≡◌, ℕ, List, [], ◌∷◌, ◌++◌, Bool, true, false, refl, sym, ◌∙◌, subst, if◌then◌else◌}
-use Rattle.share.specs.declared.attending.End.{End}
-use Rattle.share.specs.declared.attending.End.TheVariants.{Closed, EndOfInput, Input, Output, Lost, OutOfMemory}
-use Rattle.history.specs.Notes.{Sight}
+use Rattle.nbd_worker.specs.declared.attending.End.{End}
+use Rattle.nbd_worker.specs.declared.attending.End.TheVariants.{Closed, EndOfInput, Input, Output, Lost, OutOfMemory}
+use Rattle.nbd_history.specs.Notes.{Sight}
 use Rattle.nbd_wire.specs.declared.export.Export.{Export}
-use Rattle.share.specs.declared.recorder.Row.{Row}
-use Rattle.share.specs.History.{IsLegal}
+use Rattle.nbd_share.specs.declared.recorder.Row.{Row}
+use Rattle.nbd_share.specs.History.{IsLegal}
 use Rattle.norbd_serve.specs.Serving.{AreLegal, has_lost, is_lost}
 
 either-way : (b : Bool) → true ≡ (if b then true else true)

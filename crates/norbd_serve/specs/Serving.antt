@@ -1,14 +1,15 @@
 -- What came of the connections that were served. Source: own.
 use Rattle.std.specs.Prelude.{◌≡◌, ℕ, List, [], ◌∷◌, Bool, true, false, if◌then◌else◌, vec_len}
 use Rattle.std.specs.Prelude.{Option, Some, None}
-use Rattle.history.specs.Notes.{Sight}
+use Rattle.nbd_history.specs.Notes.{Sight}
 use Rattle.nbd_wire.specs.declared.export.Export.{Export}
-use Rattle.share.specs.declared.recorder.Row.{Row}
-use Rattle.share.specs.History.{IsLegal}
-use Rattle.share.specs.Seat.{Seat}
-use Rattle.share.specs.declared.attending.End.{End}
-use Rattle.share.specs.declared.attending.End.TheVariants.{Closed, EndOfInput, Input, Output, Lost}
-use Rattle.share.specs.declared.attending.End.TheVariants.{OutOfMemory}
+use Rattle.nbd_share.specs.declared.recorder.Row.{Row}
+use Rattle.nbd_share.specs.History.{IsLegal}
+use Rattle.nbd_share.specs.PassState.{PassState}
+use Rattle.nbd_worker.specs.declared.attending.End.{End}
+use Rattle.nbd_worker.specs.declared.attending.End.TheVariants.{Closed, EndOfInput, Input, Output}
+use Rattle.nbd_worker.specs.declared.attending.End.TheVariants.{Lost}
+use Rattle.nbd_worker.specs.declared.attending.End.TheVariants.{OutOfMemory}
 use Rattle.norbd_serve.specs.declared.kept.Served.{Served}
 
 -- the connection ended since a command was lost
@@ -27,13 +28,13 @@ has_lost (end ∷ more) = if is_lost end then true else has_lost more
 
 -- a connection that ended: its pass, how it ended, and what its hand knows of the history
 pub record Attended : Type 0 where
-  pub pass : Seat
+  pub pass : PassState
   pub end : End
   pub hand : Sight Row
 
 -- a connection that is to begin: its pass, and its hand
 pub record Entitled : Type 0 where
-  pub pass : Seat
+  pub pass : PassState
   pub hand : Sight Row
 
 -- what each of these hands has seen is a legal history of this export of a disk that held these

@@ -1,73 +1,127 @@
-//! What is done beside a command at a served connection: its doors, of which one rings for the
-//! keeper and one tells of errors, and its gates.
+//! The doors and the gates of what is served, and the signal by which a connection's door wakes
+//! the keeper.
 
-use crate::telling::{Event, Log, Teller};
-use block_device::DiskError;
-use nbd_wire::{Command, CommandKind};
-use share::{Done, Door, Gate, OneServer, Pass, Point};
+use crate::socket::Client;
+use crate::telling::{Event, Log};
+use block_device::{Disk, DiskError};
+use nbd_durable::Owed;
+use nbd_session::ReplyTo;
+use nbd_share::{Done, Door, Gate, Locked, OneServer, Pass, Point, Recorder};
+use nbd_wire::Command;
+use std::fs::OpenFile;
 use std::sync::atomic::{AtomicBool, Ordering};
 use std::sync::{Condvar, Mutex, Wait};
 use std::thread;
 use std::time::{Clock, Duration};
 
-/// Is rung after each command that may have changed the disk. The keeper sleeps until then where it
-/// found nothing to tidy.
+/// Is raised after each command that may have changed the disk. The keeper sleeps until then where
+/// it found nothing to tidy.
 #[derive(Drop)]
-pub(crate) struct Bell {
-    rung: Mutex<bool>,
-    ringing: Condvar,
+pub(crate) struct TidySignal {
+    raised: Mutex<bool>,
+    raising: Condvar,
     idle: AtomicBool,
 }
 
-impl Bell {
-    pub(crate) fn new() -> Bell {
-        Bell {
-            rung: Mutex::new(false),
-            ringing: Condvar::new(),
+impl TidySignal {
+    pub(crate) fn new() -> TidySignal {
+        TidySignal {
+            raised: Mutex::new(false),
+            raising: Condvar::new(),
             idle: AtomicBool::new(false),
         }
     }
 
     /// Wakes the keeper, where it sleeps.
-    pub(crate) fn ring<W: Wait>(&self, wait: &W) {
-        let mut rung = self.rung.lock(wait);
-        if !*rung {
-            *rung = true;
-            self.ringing.notify_all();
+    pub(crate) fn raise<W: Wait>(&self, wait: &W) {
+        let mut raised = self.raised.lock(wait);
+        if !*raised {
+            *raised = true;
+            self.raising.notify_all();
         }
     }
 
-    /// Sleeps until the bell was rung since it was last waited for.
+    /// Sleeps until the signal was raised since it was last waited for.
     fn wait<W: Wait>(&self, wait: &W) {
-        let mut rung = self.rung.lock(wait);
+        let mut raised = self.raised.lock(wait);
         for _ in wait.forever() {
-            if *rung {
-                *rung = false;
+            if *raised {
+                *raised = false;
                 return;
             }
-            rung = self.ringing.wait(wait, rung);
+            raised = self.raising.wait(wait, raised);
         }
     }
 }
 
-/// Whether a command of this kind may change the disk.
-fn may_change(kind: CommandKind) -> bool {
-    match kind {
-        CommandKind::Write | CommandKind::Trim | CommandKind::WriteZeroes => true,
-        _ => false,
+/// The door of a connection, a locked one. Beside each command it notes what the reply owes, raises
+/// the signal where the disk may have changed, and tells of an error; and its client hears what
+/// other replies are to.
+#[derive(Drop)]
+pub(crate) struct Serving<'s, 't, 'c, D: Disk, R: Recorder, L: OneServer, W: Wait, F> {
+    pub(crate) door: Locked<'s, D, R, L, W>,
+    pub(crate) owed: &'t Owed<'s, F>,
+    pub(crate) signal: &'t TidySignal,
+    pub(crate) client: &'t Client<'c, W>,
+}
+
+impl<'s, 't, 'c, D, R, L, W, F> Door<L> for Serving<'s, 't, 'c, D, R, L, W, F>
+where
+    D: Disk,
+    R: Recorder,
+    L: OneServer,
+    W: Wait + Clock + Log,
+    F: OpenFile,
+{
+    ghost use Rattle.nbd_share.specs.Locking.{ExecutesLocked, TidiesLocked, start_of};
+
+    ghost keeps = { R.KEEPS };
+
+    ghost executes = { λ old new pass pass' command bytes done.
+        ExecutesLocked (start_of R.KEEPS L.sound L.export L.base) old.door new.door pass pass'
+        command bytes done };
+
+    ghost tidies = { λ old new result.
+        TidiesLocked (start_of R.KEEPS L.sound L.export L.base) result };
+
+    fn execute<'a>(
+        &mut self,
+        pass: &mut Pass<L>,
+        command: &Command,
+        data: &'a mut [u8],
+    ) -> Done<'a> {
+        self.owed.note(command);
+        let done = self.door.execute(pass, command, data);
+        let teller = &self.client.teller;
+        if command.kind.changes_disk() {
+            self.signal.raise(teller.rt);
+        }
+        if let Done::Replied(answer) = &done {
+            let error = answer.error();
+            if error != 0 {
+                teller.tell(Event::Refused(*command, error));
+            }
+        }
+        done
+    }
+
+    fn hear(&self, to: &ReplyTo) {
+        self.client.hear(to);
+    }
+
+    fn tidy(&mut self) -> Result<bool, DiskError> {
+        self.door.tidy()
     }
 }
 
-/// A door that rings the bell after each command that may have changed the disk, and notes where
-/// nothing was left to tidy.
+/// The keeper's door, which notes where nothing was left to tidy.
 #[derive(Drop)]
-pub(crate) struct Ringing<'s, T, W: Wait> {
+pub(crate) struct Tidying<'s, T> {
     pub(crate) door: T,
-    pub(crate) bell: &'s Bell,
-    pub(crate) wait: &'s W,
+    pub(crate) signal: &'s TidySignal,
 }
 
-impl<'s, L: OneServer, T: Door<L>, W: Wait> Door<L> for Ringing<'s, T, W> {
+impl<'s, L: OneServer, T: Door<L>> Door<L> for Tidying<'s, T> {
     ghost keeps = { T.keeps };
 
     ghost executes = { λ old new pass pass' command bytes done.
@@ -81,27 +135,23 @@ impl<'s, L: OneServer, T: Door<L>, W: Wait> Door<L> for Ringing<'s, T, W> {
         command: &Command,
         data: &'a mut [u8],
     ) -> Done<'a> {
-        let done = self.door.execute(pass, command, data);
-        if may_change(command.kind) {
-            self.bell.ring(self.wait);
-        }
-        done
+        self.door.execute(pass, command, data)
     }
 
     fn tidy(&mut self) -> Result<bool, DiskError> {
         let result = self.door.tidy();
         if let Ok(false) = result {
-            self.bell.idle.store(true, Ordering::SeqCst);
+            self.signal.idle.store(true, Ordering::SeqCst);
         }
         result
     }
 }
 
-/// The keeper's gate: where nothing was left to tidy it waits for the bell first.
+/// The keeper's gate: where nothing was left to tidy it waits for the signal first.
 #[derive(Drop)]
 pub(crate) struct Resting<'s, K, W: Wait> {
     pub(crate) gate: K,
-    pub(crate) bell: &'s Bell,
+    pub(crate) signal: &'s TidySignal,
     pub(crate) wait: &'s W,
 }
 
@@ -109,8 +159,8 @@ impl<'s, K: Gate, W: Wait> Gate for Resting<'s, K, W> {
     ghost passes = { λ gate after points. Unit {0} };
 
     fn pass(&mut self, point: Point) {
-        if self.bell.idle.swap(false, Ordering::SeqCst) {
-            self.bell.wait(self.wait);
+        if self.signal.idle.swap(false, Ordering::SeqCst) {
+            self.signal.wait(self.wait);
         }
         self.gate.pass(point);
     }
@@ -151,40 +201,4 @@ impl<'r, R: Clock> Gate for Sleeper<'r, R> {
     }
 
     ghost none = { λ gate. tt };
-}
-
-/// A door that tells of each command whose reply has an error.
-#[derive(Drop)]
-pub(crate) struct Telling<'s, 't, T, W> {
-    pub(crate) door: T,
-    pub(crate) teller: &'t Teller<'s, W>,
-}
-
-impl<'s, 't, L: OneServer, T: Door<L>, W: Wait + Log> Door<L> for Telling<'s, 't, T, W> {
-    ghost keeps = { T.keeps };
-
-    ghost executes = { λ old new pass pass' command bytes done.
-        T.executes old.door new.door pass pass' command bytes done };
-
-    ghost tidies = { λ old new result. T.tidies old.door new.door result };
-
-    fn execute<'a>(
-        &mut self,
-        pass: &mut Pass<L>,
-        command: &Command,
-        data: &'a mut [u8],
-    ) -> Done<'a> {
-        let done = self.door.execute(pass, command, data);
-        if let Done::Replied(answer) = &done {
-            let error = answer.error();
-            if error != 0 {
-                self.teller.tell(Event::Refused(*command, error));
-            }
-        }
-        done
-    }
-
-    fn tidy(&mut self) -> Result<bool, DiskError> {
-        self.door.tidy()
-    }
 }

@@ -2,12 +2,13 @@
 
 ghost use Rattle.std.specs.Prelude.{◌≡◌, ◌+◌, ◌<◌, ◌∷◌, ◌++◌, [], true, false, IfOk, OnOk, vec_len};
 ghost use Rattle.std.specs.Prelude.{Some, Option};
-ghost use Rattle.share.specs.History.{IsLegal};
+ghost use Rattle.nbd_share.specs.History.{IsLegal};
 ghost use Rattle.norbd_serve.specs.Serving.{AreLegal, ReturnsAsked, has_lost, is_lost};
 
 use crate::fault::ServeFault;
-use history::Hand;
-use share::{End, OneServer, Pass, Row};
+use nbd_history::Hand;
+use nbd_share::{OneServer, Pass, Row};
+use nbd_worker::End;
 use std::alloc::{AllocError, Global};
 use std::marker::Model;
 

@@ -1,12 +1,10 @@
 //! What is told of connections while they are served.
 
+use nbd_session::LONGEST_COMMAND_LEN;
 use nbd_wire::{Command, CommandKind, EINVAL, EIO, ENOMEM, ENOSPC, EPERM, ESHUTDOWN};
-use share::End;
+use nbd_worker::End;
 use std::fmt;
 use std::sync::{Mutex, Wait};
-
-/// The largest length that an export may have as its limit, in bytes.
-const LONGEST: u32 = 33_554_432;
 
 /// What becomes of a connection.
 #[derive(Clone, Copy, Debug, PartialEq, Eq)]
@@ -79,7 +77,7 @@ fn write_advice<W: fmt::Write>(f: &mut fmt::Formatter<W>, length: u32, most: u32
         f,
         ": {length} bytes at once are refused, {most} are the most"
     )?;
-    if length > LONGEST {
+    if length > LONGEST_COMMAND_LEN {
         return Ok(());
     }
     let kib = length.div_ceil(1_024);

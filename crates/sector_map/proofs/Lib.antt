@@ -3,7 +3,6 @@ pub mod Places
 pub mod Founds
 pub mod Replacing
 pub mod Tables
-pub mod Calls
 pub mod Retiring
 pub mod Grouping
 pub mod MapSteps
@@ -17,3 +16,4 @@ pub mod Opening
 pub mod Clearing
 pub mod Leaving
 pub mod Grouped
+pub mod Evening

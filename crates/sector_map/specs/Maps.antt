@@ -22,6 +22,10 @@ use Rattle.nor_layout.specs.declared.superblock.SuperError.{SuperError}
 use Rattle.nor_layout.specs.declared.superblock.SuperError.TheVariants as refusals
 use Rattle.nor_driver.specs.declared.error.NorError.TheVariants as errors
 use Rattle.sector_map.specs.declared.error.MapError.TheVariants as mounts
+use Rattle.sector_stock.specs.Index.{erases_of, AreWithin}
+use Rattle.sector_stock.specs.declared.index.BlockState.{BlockState}
+use Rattle.sector_stock.specs.declared.policy.Policy.{Policy}
+use Rattle.sector_stock.specs.declared.policy.Policy.TheVariants as policies
 
 -- the counts of a chip of so many bytes
 abbrev pub geometry_of : ℕ → Geometry
@@ -234,3 +238,11 @@ pub record RangeLeaves (first n : ℕ) (bytes m m' : List ℕ) : Type 0 where
   pub others : IsClean m → (h : ℕ) → h < sector_count (length m) → (h < first) ⊎ (first + n ≤ h)
       → sector_at m' h ≡ sector_at m h
   pub clean : IsClean m → IsClean m'
+
+-- Where blocks are chosen by erases, none of n was erased over k times more often than another one.
+abbrev pub IsEven : ℕ → Policy → ℕ → List BlockState → Type 0
+IsEven k policy n blocks = policy ≡ policies.Level → AreWithin k n (erases_of blocks)
+
+-- by how much the counts of n blocks lie apart at most, it is one less
+abbrev pub Nearer : ℕ → (ℕ → ℕ) → (ℕ → ℕ) → Type 0
+Nearer n erases erases' = (k : ℕ) → AreWithin (k + 1) n erases → AreWithin k n erases'

@@ -3,7 +3,7 @@
 ghost use Rattle.std.specs.Prelude.{◌≡◌, ◌+◌, ◌≤◌};
 ghost use Rattle.sector_map.specs.Found.{noted_kind, block_counts, leaves_room};
 
-use nor_layout::Kind;
+use nor_layout::{FIRST_DATA_BLOCK, Kind};
 
 /// The copying that goes on. It names data blocks, counted from 0; a `Kind` names blocks of the
 /// chip, whose numbers are four higher. Source: own, layout 2.
@@ -16,9 +16,6 @@ pub enum Found {
     /// One of the first data block into the second, which is committed.
     Committed(u16, u16),
 }
-
-/// The chip's number of data block 0.
-const FIRST_DATA_BLOCK: u16 = 4;
 
 /// What is found once data block `block`, of `count`, turns out to be of this kind; None if the
 /// blocks are corrupt. A block of a group takes no part in a copying. The source of a committed

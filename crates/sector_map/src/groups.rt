@@ -18,7 +18,7 @@ ghost use Rattle.sector_map.specs.Table.{IsTabled, Mends};
 
 use crate::Held;
 use crate::found::Found;
-use crate::scan::{either, is_of_group, read_table};
+use crate::scan::{either, read_table};
 use crate::table::LiveSlots;
 use nor_driver::NorError;
 use nor_layout::Kind;
@@ -26,7 +26,7 @@ use sector_slots::SlotCalls;
 
 /// Whether two live blocks hold one group, by the table. None if a sector has one slot in a group's
 /// block and one elsewhere: no write leaves these slots.
-#[tactic(auto, using(crate::proofs::Calls::repeated_calls))]
+#[tactic(auto, using(erase_journal::proofs::Calls::repeated_calls))]
 pub fn has_pair<S: SlotCalls>(slots: &mut S, table: &[LiveSlots]) -> Result<Option<bool>, NorError>
     requires tabled { IsTabled table.now (slot_at (S.state slots.old).memory)
         (slot_count (S.state slots.old).memory) }
@@ -78,8 +78,8 @@ fn are_of_groups<S: SlotCalls>(
     ensures same { (S.state slots.new).memory ≡ (S.state slots.old).memory }
     ensures ends { EndsSettled result (S.state slots.old) (S.state slots.new) }
 {
-    let one = is_of_group(slots.kind(first)?);
-    let other = is_of_group(slots.kind(second)?);
+    let one = slots.kind(first)?.is_of_group();
+    let other = slots.kind(second)?.is_of_group();
     if one == other {
         Ok(Some(other))
     } else {
@@ -88,7 +88,7 @@ fn are_of_groups<S: SlotCalls>(
 }
 
 /// The lowest-numbered dead block of a group.
-#[tactic(auto, using(crate::proofs::Calls::repeated_calls))]
+#[tactic(auto, using(erase_journal::proofs::Calls::repeated_calls))]
 pub fn lowest_dead_group<S: SlotCalls>(slots: &mut S) -> Result<Option<u16>, NorError>
     ensures some { IfOk result (λ answer. (c : ℕ) → answer ≡ Some c
         → (c < data_blocks (S.state slots.old).memory)

@@ -13,8 +13,9 @@
 //!
 //! Needed from below: the memory (`Nor`), the recovery of the journals (`Journal`), slots and the
 //! calls on them (`SlotCalls`), and a free slot for each write (`Reclaim`). Left to the crate
-//! above: `is_clean` after a mount, when to tidy, when to restore. The crate `survey` reads blocks
-//! by the same functions as a mount, so some of them are public. In a block of layout 1 lies a
+//! above: `is_clean` after a mount, when to tidy, when to restore. The crate `sector_survey` reads
+//! blocks by the same functions as a mount, so some of them are public. In a block of layout 1 lies
+//! a
 //! *group* of seven sectors; it counts as seven slots (docs/GLOSSARY.md). Source: own.
 
 #![tactic(auto)]
@@ -36,7 +37,7 @@ pub use found::{Found, Seen, is_counted};
 pub use groups::{has_pair, lowest_dead_group};
 pub use laws::group_chips_are_mountable;
 pub use map::SectorMap;
-pub use mount::mount_in;
+pub use mount::mount_slots;
 pub use scan::{is_spare, survey};
 pub use stock::Stock;
 pub use table::{Held, LiveSlots, enter_head};

@@ -19,8 +19,8 @@ ghost use Rattle.sector_map.specs.Filling.{latched_after_cut};
 
 use crate::Held;
 use crate::error::MapError;
-use crate::mount::mount_in;
-use crate::steps::{clear_in, find_in, tidy_in, tidy_urgent_in, write_in};
+use crate::mount::mount_slots;
+use crate::steps::{clear_levelled, find_sector, tidy_levelled, tidy_when_short, write_levelled};
 use crate::stock::Stock;
 use crate::superblock::look;
 use crate::table::LiveSlots;
@@ -121,7 +121,7 @@ impl<N: Nor> SectorMap<N> {
             return Err(error);
         }
         let holder = holder_of(self.table.as_slice(), sector);
-        match find_in(&mut self.stock, holder, into) {
+        match find_sector(&mut self.stock, holder, into) {
             Ok(()) => Ok(()),
             Err(error) => {
                 self.latched = Some(error);
@@ -146,7 +146,7 @@ impl<N: Nor> SectorMap<N> {
         if let Some(error) = self.latched {
             return Err(error);
         }
-        match write_in(&mut self.stock, self.table.as_mut_slice(), sector, content) {
+        match write_levelled(&mut self.stock, self.table.as_mut_slice(), sector, content) {
             Ok(()) => Ok(()),
             Err(error) => {
                 self.latched = Some(error);
@@ -156,9 +156,10 @@ impl<N: Nor> SectorMap<N> {
     }
 
     /// Makes a sector absent: it reads as zeros, and its next content begins with the first
-    /// generation. One change of the chip, none if it is absent already. A block that holds the
-    /// sector with its group is converted first, which copies seven sectors. Cut, every sector is
-    /// as it was, or this one is zeros. Contents are promised of a clean memory (`is_clean`).
+    /// generation. One change of the chip, none if it is absent already. Before that a block that
+    /// holds the sector with its group is converted, which copies seven sectors, and where wear is
+    /// levelled blocks may be moved. Cut, every sector is as it was, or this one is zeros. Contents
+    /// are promised of a clean memory (`is_clean`).
     pub fn clear(&mut self, sector: u16) -> Result<(), NorError>
         requires number { sector < sector_count (length self.old.memory) }
         ensures ok { OnOk result (Sets sector zeros self.old.memory self.new.memory) }
@@ -170,7 +171,7 @@ impl<N: Nor> SectorMap<N> {
         if let Some(error) = self.latched {
             return Err(error);
         }
-        match clear_in(&mut self.stock, self.table.as_mut_slice(), sector) {
+        match clear_levelled(&mut self.stock, self.table.as_mut_slice(), sector) {
             Ok(()) => Ok(()),
             Err(error) => {
                 self.latched = Some(error);
@@ -196,7 +197,7 @@ impl<N: Nor> SectorMap<N> {
         if let Some(error) = self.latched {
             return Err(error);
         }
-        match tidy_in(&mut self.stock, self.table.as_mut_slice()) {
+        match tidy_levelled(&mut self.stock, self.table.as_mut_slice()) {
             Ok(more) => Ok(more),
             Err(error) => {
                 self.latched = Some(error);
@@ -220,7 +221,7 @@ impl<N: Nor> SectorMap<N> {
         if let Some(error) = self.latched {
             return Err(error);
         }
-        match tidy_urgent_in(&mut self.stock, self.table.as_mut_slice()) {
+        match tidy_when_short(&mut self.stock, self.table.as_mut_slice()) {
             Ok(more) => Ok(more),
             Err(error) => {
                 self.latched = Some(error);
@@ -288,9 +289,10 @@ impl<N: Nor> SectorMap<N> {
         self.stock.arm(count, kind, mask)
     }
 
-    /// From now on slots and blocks are chosen so that all blocks wear alike, and now and then a
-    /// write moves a block whose sectors rest. Before, the lowest-numbered are chosen. No clause
-    /// tells the two apart: a memory's sectors are the same. What was chosen outlasts a `restore`.
+    /// From now on slots and blocks are chosen so that all blocks wear alike: no two differ by more
+    /// than 32 erases, counted from the mount on. Now and then a call moves a block whose sectors
+    /// rest. Before, the lowest-numbered are chosen. No clause here tells the two apart, as a
+    /// memory's sectors are the same (`Reclaim` has them). What was chosen outlasts a `restore`.
     pub fn level_wear(&mut self)
         ensures { self.new ≡ self.old }
     {
@@ -377,7 +379,7 @@ fn fill<N: Nor>(slots: SectorSlots<N>, tables: Tables) -> Result<SectorMap<N>, (
 {
     let mut stock = Stock::new(slots, tables.states, tables.blocks);
     let mut table = tables.table;
-    match mount_in(&mut stock, table.as_mut_slice()) {
+    match mount_slots(&mut stock, table.as_mut_slice()) {
         Ok(true) => Ok(SectorMap {
             stock,
             table,
@@ -427,7 +429,7 @@ fn renew<S: Reclaim>(stock: &mut S, table: &mut [LiveSlots]) -> Result<bool, Nor
     ensures size { length table.new ≡ length table.old }
 {
     match stock.restore() {
-        Ok(()) => mount_in(stock, table),
+        Ok(()) => mount_slots(stock, table),
         Err(RecoverError::Cut) => Err(NorError::Cut),
         Err(RecoverError::Slow) => Err(NorError::Slow),
         Err(RecoverError::Corrupt) => Ok(false),

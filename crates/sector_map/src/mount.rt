@@ -31,7 +31,7 @@ use sector_stock::{Reclaim, end_committed, end_erased, end_void};
 
 /// Steps 4 to 10. False, and nothing is changed, if slots or blocks are corrupt. After an error the
 /// table holds any entries.
-pub fn mount_in<S: Reclaim>(stock: &mut S, table: &mut [LiveSlots]) -> Result<bool, NorError>
+pub fn mount_slots<S: Reclaim>(stock: &mut S, table: &mut [LiveSlots]) -> Result<bool, NorError>
     requires size { length table.old ≡ sector_count (length (S.state stock.old).memory) }
     ensures sound { IfOk result (λ sound. IsTrue sound
         → Mounts (S.state stock.old).memory table.new (S.state stock.new).memory) }

@@ -5,7 +5,7 @@ ghost use Rattle.std.specs.Prelude.{◌||◌, length, IfOk, IsTrue, IsFalse};
 ghost use Rattle.nor_layout.specs.declared.header.Header.TheVariants as headers;
 ghost use Rattle.erase_journal.specs.Steps.{EndsSettled};
 ghost use Rattle.sector_slots.specs.Slots.{slot_at, slot_count, data_blocks, read_header};
-ghost use Rattle.sector_slots.specs.Slots.{IsSpareIn, is_group};
+ghost use Rattle.sector_slots.specs.Slots.{IsSpareIn};
 ghost use Rattle.sector_slots.specs.Blocks.{AreSound};
 ghost use Rattle.sector_slots.specs.Sectors.{SoundSlots, HasSlotsAlone};
 ghost use Rattle.sector_map.specs.Found.{FoundIn, block_counts, noted_where};
@@ -21,7 +21,7 @@ use sector_slots::SlotCalls;
 
 /// Reads the kinds of all blocks: the copying that goes on; None where the blocks are corrupt, or
 /// one is of a group where none may be.
-#[tactic(auto, using(crate::proofs::Calls::repeated_calls))]
+#[tactic(auto, using(erase_journal::proofs::Calls::repeated_calls))]
 pub fn survey<S: SlotCalls>(slots: &mut S, groups: bool) -> Result<Option<Found>, NorError>
     ensures found { IfOk result (λ answer. (found : FoundOf) → answer ≡ Some found
         → FoundIn found (S.state slots.old).memory) }
@@ -51,26 +51,10 @@ fn note_allowed(found: Found, block: u16, kind: Kind, count: u16, groups: bool) 
     requires number { block ≤ 4092 }
     ensures { result ≡ noted_where groups found block kind count }
 {
-    if is_of_group(kind) && !groups {
+    if kind.is_of_group() && !groups {
         None
     } else {
         note_kind(found, block, kind, count)
-    }
-}
-
-/// Whether a block of this kind is of a group, live or dead.
-pub(crate) fn is_of_group(kind: Kind) -> bool
-    ensures { result ≡ is_group kind }
-{
-    match kind {
-        Kind::Plain => false,
-        Kind::Void => false,
-        Kind::Committed(_) => false,
-        Kind::Settled => false,
-        Kind::Group(_) => true,
-        Kind::DeadGroup => true,
-        Kind::SpoiltGroup => true,
-        Kind::Unknown => false,
     }
 }
 
@@ -164,7 +148,7 @@ fn enter_counted(table: &mut [LiveSlots], found: Found, block: u16, heads: &[Hea
 
 /// Reads the descriptors of all blocks into a table in which every sector is absent, and says
 /// whether a block is wholly free; None where the slots are corrupt.
-#[tactic(auto, using(crate::proofs::Calls::repeated_calls))]
+#[tactic(auto, using(erase_journal::proofs::Calls::repeated_calls))]
 pub(crate) fn read_table<S: SlotCalls>(
     slots: &mut S,
     table: &mut [LiveSlots],
@@ -228,21 +212,5 @@ fn is_wholly_free(kind: Kind, heads: &[Header]) -> bool
     ensures not_free { IsFalse result → kind ≡ Kind.Plain
         → ((i : ℕ) → i < 7 → read_header heads.now i ≡ headers.Free) → ⊥ }
 {
-    is_plain(kind) && all_free(heads)
-}
-
-fn is_plain(kind: Kind) -> bool
-    ensures plain { IsTrue result → kind ≡ Kind.Plain }
-    ensures not_plain { IsFalse result → kind ≢ Kind.Plain }
-{
-    match kind {
-        Kind::Plain => true,
-        Kind::Void => false,
-        Kind::Committed(_) => false,
-        Kind::Settled => false,
-        Kind::Group(_) => false,
-        Kind::DeadGroup => false,
-        Kind::SpoiltGroup => false,
-        Kind::Unknown => false,
-    }
+    kind.is_plain() && all_free(heads)
 }

@@ -9,23 +9,24 @@ ghost use Rattle.erase_journal.specs.Steps.{SucceedsSettled, EndsSettled};
 ghost use Rattle.erase_journal.specs.Blocks.{SameChip};
 ghost use Rattle.erase_journal.specs.Journals.{IsHealthy, IsSettled};
 ghost use Rattle.sector_slots.specs.Sectors.{sector_at, zeros, IsSingle, IsSoundMap};
-ghost use Rattle.sector_slots.specs.Slots.{slot_count};
-ghost use Rattle.sector_stock.specs.Takes.{urgent_work, work_of};
+ghost use Rattle.sector_slots.specs.Slots.{slot_count, data_blocks};
+ghost use Rattle.sector_stock.specs.Takes.{urgent_work, work_of, IsErasedOnce, IsLeastErased};
+ghost use Rattle.sector_stock.specs.Index.{erases_of};
 ghost use Rattle.sector_stock.specs.Room.{HasNoneDead};
 ghost use Rattle.sector_map.specs.Replace.{IsInSlots, HeldBy, generation_after, IsReplaceable};
 ghost use Rattle.sector_map.specs.Replace.{Rewrites, RewriteLeaves};
 ghost use Rattle.sector_map.specs.Maps.{IsServing, KeepsMap, SetLeaves, Wrote, KeptServing};
+ghost use Rattle.sector_map.specs.Maps.{IsEven, Nearer};
 
 use crate::Held;
 use crate::table::{LiveSlots, follow_copied, keep_one, unset};
 use nor_driver::NorError;
 use nor_layout::{Generation, Tag};
-use sector_stock::{Purpose, Reclaim};
+use sector_stock::{Purpose, RENEW_NOW, RENEW_SOON, Reclaim};
 
 /// Writes a sector into a slot that it takes, and retires the slot that held it, if one did. Before
-/// that it moves a block for its wear, if it is time for it, and converts a block that holds the
-/// sector with its group.
-pub(crate) fn write_in<S: Reclaim>(
+/// that it levels wear, and converts a block that holds the sector with its group.
+pub(crate) fn write_levelled<S: Reclaim>(
     stock: &mut S,
     table: &mut [LiveSlots],
     sector: u16,
@@ -43,30 +44,32 @@ pub(crate) fn write_in<S: Reclaim>(
     ensures ends { EndsSettled result (S.state stock.old) (S.state stock.new) }
 {
     make_way(stock, table, sector)?;
-    write_own(stock, table, sector, content)
+    write_ungrouped(stock, table, sector, content)
 }
 
-/// Moves a block for its wear, if it is time for it, and converts the block that holds a sector
-/// with its group, if one does. The table follows, and no sector changes.
+/// Levels wear, and converts the block that holds a sector with its group, if one does. The table
+/// follows, and no sector changes.
 fn make_way<S: Reclaim>(stock: &mut S, table: &mut [LiveSlots], sector: u16) -> Result<(), NorError>
     requires served { IsServing table.old (S.state stock.old) (S.indexed stock.old) }
     requires number { sector < length table.old }
     ensures ok { OnOk result (KeptServing table.new (S.state stock.old) (S.state stock.new)
         (S.indexed stock.new)) }
     ensures own { OnOk result (IsInSlots sector (S.state stock.new).memory) }
+    ensures even { OnOk result (IsEven 31 (S.policy stock.new)
+        (data_blocks (S.state stock.new).memory) (S.counts stock.new)) }
     ensures cut { IsErrOf result NorError.Cut
         → KeepsMap (S.state stock.old).memory (S.state stock.new).memory }
     ensures table { length table.new ≡ length table.old }
     ensures size { length (S.state stock.new).memory ≡ length (S.state stock.old).memory }
     ensures ends { EndsSettled result (S.state stock.old) (S.state stock.new) }
 {
-    level_in(stock, table, Purpose::Give)?;
+    level_all(stock, table, Purpose::Give)?;
     leave_group(stock, table, sector)
 }
 
-/// Moves a block whose sectors rest, if it is time for it. The table follows, and no sector
-/// changes.
-fn level_in<S: Reclaim>(
+/// Renews what lags behind, and moves a block whose sectors rest, if it is time for it. The table
+/// follows, and no sector changes.
+fn level_all<S: Reclaim>(
     stock: &mut S,
     table: &mut [LiveSlots],
     purpose: Purpose,
@@ -76,8 +79,166 @@ fn level_in<S: Reclaim>(
         (S.indexed stock.new)) }
     ensures work { OnOk result (work_of (S.state stock.new).memory
         ≤ work_of (S.state stock.old).memory) }
+    ensures even { OnOk result (IsEven 30 (S.policy stock.new)
+        (data_blocks (S.state stock.new).memory) (S.counts stock.new)) }
+    ensures cut { IsErrOf result NorError.Cut
+        → KeepsMap (S.state stock.old).memory (S.state stock.new).memory }
+    ensures table { length table.new ≡ length table.old }
+    ensures size { length (S.state stock.new).memory ≡ length (S.state stock.old).memory }
+    ensures ends { EndsSettled result (S.state stock.old) (S.state stock.new) }
+{
+    even_out(stock, table)?;
+    move_if_due(stock, table, purpose)
+}
+
+/// Renews one block that lags behind, before so many do that a call would have to wait for them.
+/// The table follows, and no sector changes.
+fn renew_soon<S: Reclaim>(stock: &mut S, table: &mut [LiveSlots]) -> Result<(), NorError>
+    requires served { IsServing table.old (S.state stock.old) (S.indexed stock.old) }
+    requires even { IsEven 29 (S.policy stock.old) (data_blocks (S.state stock.old).memory)
+        (S.counts stock.old) }
+    ensures ok { OnOk result (KeptServing table.new (S.state stock.old) (S.state stock.new)
+        (S.indexed stock.new)) }
+    ensures even { OnOk result (IsEven 29 (S.policy stock.new)
+        (data_blocks (S.state stock.new).memory) (S.counts stock.new)) }
+    ensures work { OnOk result (work_of (S.state stock.new).memory
+        ≤ work_of (S.state stock.old).memory) }
+    ensures cut { IsErrOf result NorError.Cut
+        → KeepsMap (S.state stock.old).memory (S.state stock.new).memory }
+    ensures table { length table.new ≡ length table.old }
+    ensures size { length (S.state stock.new).memory ≡ length (S.state stock.old).memory }
+    ensures ends { EndsSettled result (S.state stock.old) (S.state stock.new) }
+{
+    match stock.lagging(RENEW_SOON) {
+        Some(block) => renew_one(stock, table, block),
+        None => Ok(()),
+    }
+}
+
+/// Renews what lags behind the others by its erases. The table follows, and no sector changes.
+fn even_out<S: Reclaim>(stock: &mut S, table: &mut [LiveSlots]) -> Result<(), NorError>
+    requires served { IsServing table.old (S.state stock.old) (S.indexed stock.old) }
+    ensures ok { OnOk result (KeptServing table.new (S.state stock.old) (S.state stock.new)
+        (S.indexed stock.new)) }
+    ensures even { OnOk result (IsEven 29 (S.policy stock.new)
+        (data_blocks (S.state stock.new).memory) (S.counts stock.new)) }
+    ensures work { OnOk result (work_of (S.state stock.new).memory
+        ≤ work_of (S.state stock.old).memory) }
+    ensures cut { IsErrOf result NorError.Cut
+        → KeepsMap (S.state stock.old).memory (S.state stock.new).memory }
+    ensures table { length table.new ≡ length table.old }
+    ensures size { length (S.state stock.new).memory ≡ length (S.state stock.old).memory }
+    ensures ends { EndsSettled result (S.state stock.old) (S.state stock.new) }
+{
+    // What lags far behind lags behind by fewer, too: where nothing does, one question is enough.
+    let Some(_) = stock.lagging(RENEW_SOON) else {
+        return Ok(());
+    };
+    renew_now(stock, table)?;
+    renew_soon(stock, table)
+}
+
+/// Renews all blocks that lag too far behind the others. The table follows, and no sector changes.
+fn renew_now<S: Reclaim>(stock: &mut S, table: &mut [LiveSlots]) -> Result<(), NorError>
+    requires served { IsServing table.old (S.state stock.old) (S.indexed stock.old) }
+    ensures ok { OnOk result (KeptServing table.new (S.state stock.old) (S.state stock.new)
+        (S.indexed stock.new)) }
+    ensures even { OnOk result (IsEven 29 (S.policy stock.new)
+        (data_blocks (S.state stock.new).memory) (S.counts stock.new)) }
+    ensures work { OnOk result (work_of (S.state stock.new).memory
+        ≤ work_of (S.state stock.old).memory) }
+    ensures cut { IsErrOf result NorError.Cut
+        → KeepsMap (S.state stock.old).memory (S.state stock.new).memory }
+    ensures table { length table.new ≡ length table.old }
+    ensures size { length (S.state stock.new).memory ≡ length (S.state stock.old).memory }
+    ensures ends { EndsSettled result (S.state stock.old) (S.state stock.new) }
+{
+    // No two blocks differ by more than 32, and each round makes that one less.
+    for _round in 0..3u8 {
+        let Some(block) = stock.lagging(RENEW_NOW) else {
+            return Ok(());
+        };
+        renew_all(stock, table, block)?;
+    }
+    Ok(())
+}
+
+/// Renews each block that was erased as often as this one, which none was erased less often than.
+fn renew_all<S: Reclaim>(stock: &mut S, table: &mut [LiveSlots], least: u16) -> Result<(), NorError>
+    requires served { IsServing table.old (S.state stock.old) (S.indexed stock.old) }
+    requires least { IsLeastErased least (data_blocks (S.state stock.old).memory)
+        (erases_of (S.counts stock.old)) }
+    requires fits { erases_of (S.counts stock.old) least < 65535 }
+    ensures ok { OnOk result (KeptServing table.new (S.state stock.old) (S.state stock.new)
+        (S.indexed stock.new)) }
+    ensures nearer { OnOk result (Nearer (data_blocks (S.state stock.old).memory)
+        (erases_of (S.counts stock.old)) (erases_of (S.counts stock.new))) }
+    ensures policy { OnOk result (S.policy stock.new ≡ S.policy stock.old) }
+    ensures work { OnOk result (work_of (S.state stock.new).memory
+        ≤ work_of (S.state stock.old).memory) }
+    ensures cut { IsErrOf result NorError.Cut
+        → KeepsMap (S.state stock.old).memory (S.state stock.new).memory }
+    ensures table { length table.new ≡ length table.old }
+    ensures size { length (S.state stock.new).memory ≡ length (S.state stock.old).memory }
+    ensures ends { EndsSettled result (S.state stock.old) (S.state stock.new) }
+{
+    let count = stock.blocks();
+    let fewest = stock.erases(least);
+    for block in 0..count {
+        if stock.erases(block) == fewest {
+            renew_one(stock, table, block)?;
+        }
+    }
+    Ok(())
+}
+
+/// Erases a block once more, which none was erased less often than. The table follows, and no
+/// sector changes.
+fn renew_one<S: Reclaim>(stock: &mut S, table: &mut [LiveSlots], block: u16) -> Result<(), NorError>
+    requires served { IsServing table.old (S.state stock.old) (S.indexed stock.old) }
+    requires number { block < data_blocks (S.state stock.old).memory }
+    requires least { (c : ℕ) → c < data_blocks (S.state stock.old).memory
+        → erases_of (S.counts stock.old) block ≤ erases_of (S.counts stock.old) c }
+    ensures ok { OnOk result (KeptServing table.new (S.state stock.old) (S.state stock.new)
+        (S.indexed stock.new)) }
+    ensures counted { OnOk result (IsErasedOnce (data_blocks (S.state stock.old).memory) block
+        (erases_of (S.counts stock.old)) (erases_of (S.counts stock.new))) }
+    ensures policy { OnOk result (S.policy stock.new ≡ S.policy stock.old) }
+    ensures work { OnOk result (work_of (S.state stock.new).memory
+        ≤ work_of (S.state stock.old).memory) }
+    ensures cut { IsErrOf result NorError.Cut
+        → KeepsMap (S.state stock.old).memory (S.state stock.new).memory }
+    ensures table { length table.new ≡ length table.old }
+    ensures size { length (S.state stock.new).memory ≡ length (S.state stock.old).memory }
+    ensures ends { EndsSettled result (S.state stock.old) (S.state stock.new) }
+{
+    match stock.renew(block)? {
+        Some(copied) => {
+            follow_copied(stock, table, Some(copied))?;
+            Ok(())
+        }
+        None => Ok(()),
+    }
+}
+
+/// Moves a block whose sectors rest, if it is time for it. The table follows, and no sector
+/// changes.
+fn move_if_due<S: Reclaim>(
+    stock: &mut S,
+    table: &mut [LiveSlots],
+    purpose: Purpose,
+) -> Result<(), NorError>
+    requires served { IsServing table.old (S.state stock.old) (S.indexed stock.old) }
+    requires even { IsEven 29 (S.policy stock.old) (data_blocks (S.state stock.old).memory)
+        (S.counts stock.old) }
+    ensures ok { OnOk result (KeptServing table.new (S.state stock.old) (S.state stock.new)
+        (S.indexed stock.new)) }
+    ensures work { OnOk result (work_of (S.state stock.new).memory
+        ≤ work_of (S.state stock.old).memory) }
     ensures left { OnOk result (((S.state stock.new).memory ≡ (S.state stock.old).memory)
         ⊎ (HasNoneDead (S.state stock.new).memory → ⊥)) }
+    ensures even { OnOk result (IsEven 30 (S.policy stock.new)
+        (data_blocks (S.state stock.new).memory) (S.counts stock.new)) }
     ensures cut { IsErrOf result NorError.Cut
         → KeepsMap (S.state stock.old).memory (S.state stock.new).memory }
     ensures table { length table.new ≡ length table.old }
@@ -101,10 +262,14 @@ fn leave_group<S: Reclaim>(
     sector: u16,
 ) -> Result<(), NorError>
     requires served { IsServing table.old (S.state stock.old) (S.indexed stock.old) }
+    requires even { IsEven 30 (S.policy stock.old) (data_blocks (S.state stock.old).memory)
+        (S.counts stock.old) }
     requires number { sector < length table.old }
     ensures ok { OnOk result (KeptServing table.new (S.state stock.old) (S.state stock.new)
         (S.indexed stock.new)) }
     ensures own { OnOk result (IsInSlots sector (S.state stock.new).memory) }
+    ensures even { OnOk result (IsEven 31 (S.policy stock.new)
+        (data_blocks (S.state stock.new).memory) (S.counts stock.new)) }
     ensures cut { IsErrOf result NorError.Cut
         → KeepsMap (S.state stock.old).memory (S.state stock.new).memory }
     ensures table { length table.new ≡ length table.old }
@@ -125,13 +290,15 @@ fn leave_group<S: Reclaim>(
 }
 
 /// Writes a sector that no block with its group holds.
-fn write_own<S: Reclaim>(
+fn write_ungrouped<S: Reclaim>(
     stock: &mut S,
     table: &mut [LiveSlots],
     sector: u16,
     content: &[u8],
 ) -> Result<(), NorError>
     requires served { IsServing table.old (S.state stock.old) (S.indexed stock.old) }
+    requires even { IsEven 31 (S.policy stock.old) (data_blocks (S.state stock.old).memory)
+        (S.counts stock.old) }
     requires own { IsInSlots sector (S.state stock.old).memory }
     requires number { sector < length table.old }
     requires size { length content.now ≡ 512 }
@@ -152,9 +319,12 @@ fn write_own<S: Reclaim>(
 }
 
 /// Copies a block with the most dead slots; if no slot is dead, converts the lowest-numbered block
-/// that is live with a group. If there is neither, nothing changes: false. If it is time for it, a
-/// block is moved for its wear first.
-pub(crate) fn tidy_in<S: Reclaim>(stock: &mut S, table: &mut [LiveSlots]) -> Result<bool, NorError>
+/// that is live with a group. If there is neither, nothing changes: false. Before that blocks that
+/// lag behind are renewed, and if it is time for it, a block is moved for its wear.
+pub(crate) fn tidy_levelled<S: Reclaim>(
+    stock: &mut S,
+    table: &mut [LiveSlots],
+) -> Result<bool, NorError>
     requires served { IsServing table.old (S.state stock.old) (S.indexed stock.old) }
     ensures ok { OnOk result (KeptServing table.new (S.state stock.old) (S.state stock.new)
         (S.indexed stock.new)) }
@@ -169,13 +339,19 @@ pub(crate) fn tidy_in<S: Reclaim>(stock: &mut S, table: &mut [LiveSlots]) -> Res
     ensures size { length (S.state stock.new).memory ≡ length (S.state stock.old).memory }
     ensures ends { EndsSettled result (S.state stock.old) (S.state stock.new) }
 {
-    level_in(stock, table, Purpose::Tidy)?;
-    tidy_own(stock, table)
+    if !stock.has_work() {
+        return Ok(false);
+    }
+    level_all(stock, table, Purpose::Tidy)?;
+    tidy_once(stock, table)?;
+    Ok(true)
 }
 
 /// Tidies, and moves no block for its wear.
-fn tidy_own<S: Reclaim>(stock: &mut S, table: &mut [LiveSlots]) -> Result<bool, NorError>
+fn tidy_once<S: Reclaim>(stock: &mut S, table: &mut [LiveSlots]) -> Result<bool, NorError>
     requires served { IsServing table.old (S.state stock.old) (S.indexed stock.old) }
+    requires even { IsEven 31 (S.policy stock.old) (data_blocks (S.state stock.old).memory)
+        (S.counts stock.old) }
     ensures ok { OnOk result (KeptServing table.new (S.state stock.old) (S.state stock.new)
         (S.indexed stock.new)) }
     ensures fewer { IfOk result (λ more. IsTrue more
@@ -199,8 +375,8 @@ fn tidy_own<S: Reclaim>(stock: &mut S, table: &mut [LiveSlots]) -> Result<bool, 
     }
 }
 
-/// Does what `tidy_in` does while few slots are free; else nothing: false.
-pub(crate) fn tidy_urgent_in<S: Reclaim>(
+/// Does what `tidy_levelled` does while few slots are free; else nothing: false.
+pub(crate) fn tidy_when_short<S: Reclaim>(
     stock: &mut S,
     table: &mut [LiveSlots],
 ) -> Result<bool, NorError>
@@ -222,12 +398,12 @@ pub(crate) fn tidy_urgent_in<S: Reclaim>(
     if !stock.is_short() {
         return Ok(false);
     }
-    tidy_in(stock, table)
+    tidy_levelled(stock, table)
 }
 
 /// Retires the slot that holds a sector, if one does; the sector is absent then, and reads as
-/// zeros. A block that holds it with its group is converted first.
-pub(crate) fn clear_in<S: Reclaim>(
+/// zeros. Before that it levels wear, and converts a block that holds the sector with its group.
+pub(crate) fn clear_levelled<S: Reclaim>(
     stock: &mut S,
     table: &mut [LiveSlots],
     sector: u16,
@@ -242,12 +418,12 @@ pub(crate) fn clear_in<S: Reclaim>(
     ensures size { length (S.state stock.new).memory ≡ length (S.state stock.old).memory }
     ensures ends { EndsSettled result (S.state stock.old) (S.state stock.new) }
 {
-    leave_group(stock, table, sector)?;
-    clear_own(stock, table, sector)
+    make_way(stock, table, sector)?;
+    clear_ungrouped(stock, table, sector)
 }
 
 /// Clears a sector that no block with its group holds.
-fn clear_own<S: Reclaim>(
+fn clear_ungrouped<S: Reclaim>(
     stock: &mut S,
     table: &mut [LiveSlots],
     sector: u16,
@@ -382,7 +558,7 @@ fn replace_held<S: Reclaim>(
 
 /// The content of a sector into `into`, 512 bytes, from the slot that holds it; zeros where none
 /// does. After an error `into` holds any bytes.
-pub(crate) fn find_in<S: Reclaim>(
+pub(crate) fn find_sector<S: Reclaim>(
     stock: &mut S,
     holder: Option<Held>,
     into: &mut [u8],

@@ -5,7 +5,7 @@ ghost use Rattle.std.specs.Prelude.{◌≡◌, ◌<◌, ℕ, false, true, length
 ghost use Rattle.erase_journal.specs.Steps.{EndsSettled};
 ghost use Rattle.sector_slots.specs.Blocks.{AreAtRest};
 ghost use Rattle.sector_slots.specs.Slots.{slot_count, data_blocks, kind_at, IsClean};
-ghost use Rattle.sector_stock.specs.Index.{IsStocked};
+ghost use Rattle.sector_stock.specs.Index.{IsStocked, erases_of};
 ghost use Rattle.sector_stock.specs.declared.policy.Policy.TheVariants as policies;
 
 use erase_journal::RecoverError;
@@ -14,8 +14,9 @@ use nor_driver::{Nor, NorError};
 use nor_layout::{Header, Kind, Tag};
 use sector_slots::SlotCalls;
 use sector_stock::{
-    BOUNDS, BlockState, Copied, Cursors, Given, Policy, Purpose, Reclaim, SlotState, convert_block,
-    fill_index, is_short, level_block, mark_dead, mark_written, take_slot, tidy_block,
+    BOUNDS, BlockState, Copied, Cursors, Given, Policy, Purpose, Reclaim, SlotState,
+    choose_by_erases, convert_block, fill_index, has_work, is_short, lagging, level_block,
+    mark_dead, mark_written, renew_block, take_slot, tidy_block,
 };
 
 /// A store of slots, and an index of them in memory: the state of each slot, the counts of each
@@ -59,21 +60,26 @@ impl<N: Nor> Stock<N> {
                 behind: 0,
                 looked: 0,
                 bounds: [0; BOUNDS],
+                least_erases: 0,
+                most_erases: 0,
             },
             indexed: false,
         }
     }
 
     /// From now on slots and blocks are chosen by erases, so that all blocks wear alike; counts
-    /// begin at each `fill`.
+    /// begin now, and at each `fill`.
     pub fn level_wear(&mut self)
         ensures same { ⟦<Stock<N> as SlotCalls>⟧.state self.new
             ≡ ⟦<Stock<N> as SlotCalls>⟧.state self.old }
         ensures index { ⟦<Stock<N> as SlotCalls>⟧.indexed self.new
             ≡ ⟦<Stock<N> as SlotCalls>⟧.indexed self.old }
         ensures policy { ⟦<Stock<N> as Reclaim>⟧.policy self.new ≡ policies.Level }
+        ensures counted { (c : ℕ)
+            → c < data_blocks (⟦<Stock<N> as SlotCalls>⟧.state self.new).memory
+            → erases_of (⟦<Stock<N> as Reclaim>⟧.counts self.new) c ≡ 0 }
     {
-        self.at.policy = Policy::Level;
+        choose_by_erases(self.blocks.as_mut_slice(), &mut self.at);
     }
 
     /// Gives the slots back.
@@ -252,6 +258,36 @@ impl<N: Nor> Reclaim for Stock<N> {
         )?;
         self.indexed = true;
         Ok(moved)
+    }
+
+    fn has_work(&mut self) -> bool {
+        has_work(self.blocks.as_slice(), &mut self.at)
+    }
+
+    fn lagging(&mut self, limit: u16) -> Option<u16> {
+        lagging(self.blocks.as_slice(), &mut self.at, limit)
+    }
+
+    fn erases(&self, block: u16) -> u16 {
+        self.blocks[block as usize].erases
+    }
+
+    fn renew(&mut self, block: u16) -> Result<Option<Copied>, NorError> {
+        self.indexed = false;
+        let copied = renew_block(
+            &mut self.slots,
+            self.states.as_mut_slice(),
+            self.blocks.as_mut_slice(),
+            &mut self.at,
+            block,
+        )?;
+        self.indexed = true;
+        Ok(copied)
+    }
+
+    fn descriptors(&mut self, block: u16, into: &mut [Header]) -> Result<(), NorError> {
+        self.slots.head(block, into)?;
+        Ok(())
     }
 
     fn is_short(&self) -> bool {

@@ -14,8 +14,7 @@ ghost use Rattle.sector_map.specs.Scan.{Follows, FollowsHead, FollowsBlock, Tabl
 
 use nor_driver::NorError;
 use nor_layout::{Generation, Header, Tag};
-use sector_slots::SlotCalls;
-use sector_stock::Copied;
+use sector_stock::{Copied, Reclaim};
 
 /// The slot that holds a sector. Source: own.
 #[derive(Clone, Copy, Debug, PartialEq, Eq, Drop)]
@@ -125,7 +124,7 @@ pub(crate) fn unset(table: &mut [LiveSlots], sector: usize)
 
 /// After a block copy, points the entries of the sectors at the target's slots, by one read. If
 /// none was copied, does nothing.
-pub(crate) fn follow_copied<S: SlotCalls>(
+pub(crate) fn follow_copied<S: Reclaim>(
     slots: &mut S,
     table: &mut [LiveSlots],
     copied: Option<Copied>,
@@ -139,6 +138,8 @@ pub(crate) fn follow_copied<S: SlotCalls>(
     ensures size { length table.new ≡ length table.old }
     ensures same { (S.state slots.new).memory ≡ (S.state slots.old).memory }
     ensures index { S.indexed slots.new ≡ S.indexed slots.old }
+    ensures policy { S.policy slots.new ≡ S.policy slots.old }
+    ensures counted { S.counts slots.new ≡ S.counts slots.old }
     ensures done { OnOk result ((S.state slots.new ≡ S.state slots.old)
         ⊎ SucceedsSettled (S.state slots.old) (S.state slots.new)) }
     ensures fails { IfErr result (λ e. Refuses e (S.state slots.old) (S.state slots.new)) }
@@ -150,7 +151,7 @@ pub(crate) fn follow_copied<S: SlotCalls>(
 }
 
 /// Names the slots of a block in the entries of their sectors.
-fn follow_block<S: SlotCalls>(
+fn follow_block<S: Reclaim>(
     slots: &mut S,
     table: &mut [LiveSlots],
     block: u16,
@@ -164,12 +165,14 @@ fn follow_block<S: SlotCalls>(
     ensures size { length table.new ≡ length table.old }
     ensures same { (S.state slots.new).memory ≡ (S.state slots.old).memory }
     ensures index { S.indexed slots.new ≡ S.indexed slots.old }
+    ensures policy { S.policy slots.new ≡ S.policy slots.old }
+    ensures counted { S.counts slots.new ≡ S.counts slots.old }
     ensures ends { EndsSettled result (S.state slots.old) (S.state slots.new) }
 {
     // Gives the bound of `block`.
     let _count = slots.blocks();
     let mut heads = [Header::Free; 7];
-    slots.head(block, &mut heads)?;
+    slots.descriptors(block, &mut heads)?;
     follow_heads(table, block, &heads);
     Ok(())
 }

@@ -13,6 +13,7 @@ use Rattle.nor_layout.specs.declared.kind.Kind.{Kind}
 use Rattle.nor_layout.specs.declared.kind.Kind.TheVariants as kinds
 use Rattle.nor_layout.specs.Headers.{header_of}
 use Rattle.nor_layout.specs.Kinds.{kind_of}
+pub use Rattle.nor_layout.specs.Kinds.{is_group}
 use Rattle.erase_journal.specs.Places.{how_many}
 use Rattle.erase_journal.specs.Blocks.{block, blank, SameChip}
 
@@ -79,17 +80,6 @@ is_void (kinds.Group tag) = false
 is_void kinds.DeadGroup = false
 is_void kinds.SpoiltGroup = false
 is_void kinds.Unknown = false
-
--- whether a block is of a group, live or dead
-abbrev pub is_group : Kind → Bool
-is_group kinds.Plain = false
-is_group kinds.Void = false
-is_group (kinds.Committed source) = false
-is_group kinds.Settled = false
-is_group (kinds.Group tag) = true
-is_group kinds.DeadGroup = true
-is_group kinds.SpoiltGroup = true
-is_group kinds.Unknown = false
 
 -- whether a block of this kind is the committed copy of block b of the chip
 abbrev pub is_copy_of : ℕ → Kind → Bool

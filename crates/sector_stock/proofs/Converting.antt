@@ -20,7 +20,7 @@ use Rattle.sector_stock.specs.Index.{is_dead, is_live_group, in_block, IsListed,
 use Rattle.sector_stock.specs.Copy.{bare, IsCopyable, IsCopiedWhole, Copies}
 use Rattle.sector_stock.specs.Takes.{dead_slots, live_groups, work_of, HasDead, HasNoGroups, IsLiveGroup, Converts}
 use Rattle.sector_stock.proofs.Tags.{bare-live}
-use Rattle.sector_stock.proofs.Tallies.{how_many-less}
+use Rattle.sector_stock.proofs.Tallies.{how_many-less, tally-some}
 use Rattle.sector_stock.proofs.Moved.{rest-slot, moved-slots, sound-of, SlotsMoved, dead-copy, dead-falls, whole-groups}
 
 plain-group : (k : Kind) (g : Tag) → k ≡ kinds.Group g → k ≡ kinds.Plain → ⊥
@@ -165,3 +165,17 @@ converts-into s t m m' room reserve low live h =
       sectors = h.sectors;
       clean = h.clean;
     }
+
+-- a dead slot, or a block that is live with a group, is work
+pub dead-work : (s : ℕ) (m : List ℕ) → HasDead s m → 0 < work_of m
+dead-work s m h =
+    let d = tally-some is_dead (slot_at m) s h.some in
+    let low = h.number in
+    let small = d.1.0 in
+    let some = how_many-less (λ w. is_dead (slot_at m w)) (λ w. false) (slot_count m) (7 * s + d.0) (λ k inside q. absurd (let e : false ≡ true = q in cc)) (omega (arith, low, small)) d.1.1 refl in
+    omega (arith, some)
+
+pub group-work : (c : ℕ) (m : List ℕ) → c < data_blocks m → IsLiveGroup c m → 0 < work_of m
+group-work c m low live =
+    let some = how_many-less (λ d. is_live_group (kind_at m d)) (λ d. false) (data_blocks m) c (λ k inside q. absurd (let e : false ≡ true = q in cc)) low (ap is_live_group live.1) refl in
+    omega (arith, some)

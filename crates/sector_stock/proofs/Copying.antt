@@ -69,7 +69,7 @@ unchanged-clean t m m' only same clean =
     ] in
     clean-blocks m m' only.chip each (λ w low. counted-same (kind_at m) (kind_at m') (raw_slot m) (raw_slot m') (data_blocks m) w (λ d h. ap kind_of (each d h)) (λ d i h small. ap (λ b. slot_in b i) (each d h)) low) clean
 
-same-clean : (m m' : List ℕ) → SameBlocks m m' → IsClean m → IsClean m'
+pub same-clean : (m m' : List ℕ) → SameBlocks m m' → IsClean m → IsClean m'
 same-clean m m' same clean =
     let each : (d : ℕ) → d < data_blocks m → data_block m' d ≡ data_block m d = λ d low. same.each (d + 4) (omega arith) (omega (arith, low)) in
     clean-blocks m m' same.chip each (λ w low. counted-same (kind_at m) (kind_at m') (raw_slot m) (raw_slot m') (data_blocks m) w (λ d h. ap kind_of (each d h)) (λ d i h small. ap (λ b. slot_in b i) (each d h)) low) clean

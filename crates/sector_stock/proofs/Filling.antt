@@ -14,6 +14,7 @@ use Rattle.sector_stock.specs.declared.index.SlotState.TheVariants as states
 use Rattle.sector_stock.specs.declared.index.BlockState.{BlockState}
 use Rattle.sector_stock.specs.declared.index.Cursors.{Cursors}
 use Rattle.sector_stock.specs.Index.{state_of, header_state, is_free_slot, is_dead, is_plain, is_live_group, is_free_state, is_dead_state, tally, in_block, in_slots, in_heads, states_count, states_tally, StatesNoted, BlockNoted, IsNoted, IsListed, IsIndexOf, IsAhead, IsHighestWhole, IsWholeBlock}
+use Rattle.sector_stock.specs.Index.{erases_of, AreWithin}
 use Rattle.sector_stock.proofs.Tallies.{tally-most}
 use Rattle.sector_stock.proofs.Moved.{rest-slot, spare-whole, reserve-is}
 use Rattle.sector_stock.proofs.RoomLaws.{spare-block}
@@ -139,8 +140,15 @@ spare-listed m slots blocks h listed =
     let low = h.number in
     (h.reserve, omega (arith, low, n), spare-whole m slots blocks h.reserve h.rest listed h.number h.spare)
 
+-- no block was erased yet
+pub even-noted : (m : List ℕ) (slots : List SlotState) (blocks : List BlockState) → length blocks ≡ data_blocks m → ((c : ℕ) → c < data_blocks m → IsNoted c slots blocks m) → AreWithin 32 (length blocks) (erases_of blocks)
+even-noted m slots blocks size h c d lc ld =
+    let a = ap (λ b. b.erases) (h c (omega (arith, lc, size))).block in
+    let b = ap (λ b. b.erases) (h d (omega (arith, ld, size))).block in
+    omega (arith, a, b)
+
 pub index-filled : (m : List ℕ) (slots : List SlotState) (blocks : List BlockState) (at : Cursors) → AreSettled m → IsListed slots blocks (slot_at m) (kind_at m) (data_blocks m) → IsAhead blocks at → IsHighestWhole blocks at.reserve
-    → IsIndexOf slots blocks at m
-index-filled m slots blocks at h listed ahead highest =
+    → AreWithin 32 (length blocks) (erases_of blocks) → IsIndexOf slots blocks at m
+index-filled m slots blocks at h listed ahead highest even =
     let reserve = reserve-is m slots blocks at.reserve h.rest listed highest in
-    record { listed = listed; ahead = ahead; reserve = spare-block at.reserve m reserve; highest = λ by. reserve }
+    record { listed = listed; ahead = ahead; reserve = spare-block at.reserve m reserve; highest = λ by. reserve; even = λ by. even }

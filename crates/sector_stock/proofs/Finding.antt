@@ -13,7 +13,8 @@ use Rattle.sector_stock.specs.Index.{HasFreeBut, state_of, is_free_slot, in_bloc
 use Rattle.sector_stock.specs.IndexSteps.{HasNoFreeState, IsFirstFreeState}
 use Rattle.sector_stock.specs.Room.{HasNoneFree}
 use Rattle.sector_slots.specs.Blocks.{IsReserveOf}
-use Rattle.sector_stock.specs.Takes.{IsLowestFree, IsGivable, HasFreeIn, FillsUp, erases_of}
+use Rattle.sector_stock.specs.Takes.{IsLowestFree, IsGivable, HasFreeIn, FillsUp}
+use Rattle.sector_stock.specs.Index.{erases_of}
 use Rattle.sector_stock.specs.Policies.{IsFilledUp}
 use Rattle.sector_stock.proofs.Tallies.{tally-some, tally-none, free-is, not-both}
 

@@ -13,3 +13,5 @@ pub mod Filling
 pub mod Converting
 pub mod Searching
 pub mod Worn
+pub mod Even
+pub mod Renewing

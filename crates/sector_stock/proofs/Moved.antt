@@ -18,10 +18,11 @@ use Rattle.sector_slots.specs.Sectors.{LiveAt, IsSoundMap}
 use Rattle.sector_stock.specs.declared.index.SlotState.{SlotState}
 use Rattle.sector_stock.specs.declared.index.BlockState.{BlockState}
 use Rattle.sector_stock.specs.declared.index.Cursors.{Cursors}
-use Rattle.sector_stock.specs.Index.{state_of, is_free_slot, is_dead, is_plain, is_live_group, tally, Tallies, in_block, in_slots, IsListed, IsIndexOf, copied_state, Shifted, BlocksMoved, IsHighestWhole, IsNextReserve, IsWholeBlock, IsAhead, IsMostDead, IsLowestDead, HasNoDead}
+use Rattle.sector_stock.specs.Index.{state_of, is_free_slot, is_dead, is_plain, is_live_group, tally, Tallies, in_block, in_slots, IsListed, IsIndexOf, copied_state, Shifted, BlocksMoved, IsHighestWhole, IsNextReserve, IsWholeBlock, IsAhead, IsMostDead, IsLowestDead, HasNoDead, erases_of, MayWear}
 use Rattle.sector_stock.specs.declared.policy.Policy.{Policy}
 use Rattle.sector_stock.specs.declared.policy.Policy.TheVariants as policies
 use Rattle.sector_stock.specs.Policies.{IsInUse}
+use Rattle.sector_stock.proofs.Even.{even-moved}
 use Rattle.sector_stock.specs.Room.{HasRoom, HasNoneDead, HasNoneFree, IsSpareBlock}
 use Rattle.sector_stock.proofs.RoomLaws.{settled-inside}
 use Rattle.sector_stock.specs.Copy.{bare, IsCopiedWhole, IsCopyable, Copies}
@@ -227,8 +228,9 @@ next-spare p m slots blocks r rest listed h =
 
 -- the index of the memory after the copy
 pub index-moved : (s : ℕ) (m m' : List ℕ) (slots slots' : List SlotState) (blocks blocks' : List BlockState) (at new : Cursors) → HasRoom m → s < data_blocks m → IsCopiedWhole s at.reserve m m' → AreSettled m'
-    → IsIndexOf slots blocks at m → Shifted 7 s at.reserve slots slots' → BlocksMoved s at.reserve blocks blocks' → IsAhead blocks' new → IsNextReserve at.policy blocks' new.reserve → new.policy ≡ at.policy → IsIndexOf slots' blocks' new m'
-index-moved s m m' slots slots' blocks blocks' at new room low exact settled-now index shift moved ahead next same =
+    → IsIndexOf slots blocks at m → Shifted 7 s at.reserve slots slots' → BlocksMoved s at.reserve blocks blocks' → IsAhead blocks' new → IsNextReserve at.policy blocks' new.reserve → new.policy ≡ at.policy
+    → (in_block blocks s).erases < 65536 → (at.policy ≡ policies.Level → MayWear s (length blocks) (erases_of blocks)) → IsIndexOf slots' blocks' new m'
+index-moved s m m' slots slots' blocks blocks' at new room low exact settled-now index shift moved ahead next same fits may =
     let t = at.reserve in
     let lt = index.reserve.number in
     let n : data_blocks m' ≡ data_blocks m = ap (λ k. block_count k - 4) exact.same_length in
@@ -236,7 +238,7 @@ index-moved s m m' slots slots' blocks blocks' at new room low exact settled-now
     let listed = listed-moved (kind_at m s) s t (data_blocks m) (slot_at m) (slot_at m') (kind_at m) (kind_at m') slots slots' blocks blocks' low lt f (λ w h. room.whole w h) (λ w h. settled-inside m room w h) exact.same_kind exact.erased.plain
     exact.settled shift moved index.listed in
     let here : IsListed slots' blocks' (slot_at m') (kind_at m') (data_blocks m') = subst (λ k. IsListed slots' blocks' (slot_at m') (kind_at m') k) (sym n) listed in
-    record { listed = here; ahead = ahead; reserve = next-spare at.policy m' slots' blocks' new.reserve settled-now.rest here next; highest = λ by. reserve-is m' slots' blocks' new.reserve settled-now.rest here (next.highest (sym same ∙ by)) }
+    record { listed = here; ahead = ahead; reserve = next-spare at.policy m' slots' blocks' new.reserve settled-now.rest here next; highest = λ by. reserve-is m' slots' blocks' new.reserve settled-now.rest here (next.highest (sym same ∙ by)); even = λ by. (let p = sym same ∙ by in even-moved s t blocks blocks' fits moved (may p) (index.even p)) }
 
 -- What the copying needs, where the index says which block has dead slots.
 pub sound-of : (m : List ℕ) → HasRoom m → IsSoundMap m
@@ -499,8 +501,8 @@ moves-into s t m m' room ls reserve other no-group h =
     }
 
 -- another wholly free block is the reserve, where it isn't chosen by number
-pub index-chosen : (r : ℕ) (m : List ℕ) (slots : List SlotState) (blocks : List BlockState) (at new : Cursors) → HasRoom m → IsIndexOf slots blocks at m → r < length blocks → IsWholeBlock (in_block blocks r) → new.reserve ≡ r → IsAhead blocks new → (new.policy ≡ policies.Lowest → ⊥) → IsIndexOf slots blocks new m
-index-chosen r m slots blocks at new room index low whole e ahead by =
+pub index-chosen : (r : ℕ) (m : List ℕ) (slots : List SlotState) (blocks : List BlockState) (at new : Cursors) → HasRoom m → IsIndexOf slots blocks at m → r < length blocks → IsWholeBlock (in_block blocks r) → new.reserve ≡ r → IsAhead blocks new → (new.policy ≡ policies.Lowest → ⊥) → new.policy ≡ at.policy → IsIndexOf slots blocks new m
+index-chosen r m slots blocks at new room index low whole e ahead by same =
     let n = index.listed.block_size in
     let here : r < data_blocks m = omega (arith, low, n) in
     record {
@@ -508,6 +510,7 @@ index-chosen r m slots blocks at new room index low whole e ahead by =
       ahead = ahead;
       reserve = subst (λ k. IsSpareBlock k m) (sym e) (record { number = here; spare = whole-spare m slots blocks r room.blocks.rest index.listed here whole });
       highest = λ p. absurd (by p);
+      even = λ p. index.even (sym same ∙ p);
     }
 
 -- a block's numbers
@@ -537,6 +540,7 @@ index-target m slots blocks at new room index ahead low whole by same =
       ahead = ahead;
       reserve = record { number = here; spare = whole-spare m slots blocks new.reserve room.blocks.rest index.listed here whole };
       highest = λ p. (let q = sym same ∙ p in subst (λ a. IsReserveOf a.reserve m) (sym (by q)) (index.highest q));
+      even = λ p. index.even (sym same ∙ p);
     }
 
 -- a block has a dead slot still, whichever other one was moved
@@ -565,15 +569,27 @@ index-dead m slots blocks at new ahead er ep h = record {
   ahead = ahead;
   reserve = subst (λ r. IsSpareBlock r m) (sym er) h.reserve;
   highest = λ p. subst (λ r. IsReserveOf r m) (sym er) (h.highest (sym ep ∙ p));
+  even = λ p. h.even (sym ep ∙ p);
 }
 
 -- where a turn begins anew the index stays what it was
 pub turned : (turn clock behind : ℕ) (m : List ℕ) (slots : List SlotState) (blocks : List BlockState) (at at' : Cursors) → at' ≡ record at { turn = turn; clock = clock; behind = behind } → IsIndexOf slots blocks at m → IsIndexOf slots blocks at' m
 turned turn clock behind m slots blocks at at' e h = subst (λ a. IsIndexOf slots blocks a m) (sym e) (record {
   listed = h.listed;
-  ahead = record { cursor = h.ahead.cursor; beyond = h.ahead.beyond; spares = h.ahead.spares; within = h.ahead.within; most = h.ahead.most; from = h.ahead.from; high = h.ahead.high; bounds = h.ahead.bounds };
+  ahead = record { cursor = h.ahead.cursor; beyond = h.ahead.beyond; spares = h.ahead.spares; within = h.ahead.within; most = h.ahead.most; from = h.ahead.from; high = h.ahead.high; bounds = h.ahead.bounds; worn = h.ahead.worn };
   reserve = h.reserve;
   highest = h.highest;
+  even = h.even;
+})
+
+-- and where another block is filled up
+pub filled : (newest : ℕ) (m : List ℕ) (slots : List SlotState) (blocks : List BlockState) (at at' : Cursors) → at' ≡ record at { newest = newest } → IsIndexOf slots blocks at m → IsIndexOf slots blocks at' m
+filled newest m slots blocks at at' e h = subst (λ a. IsIndexOf slots blocks a m) (sym e) (record {
+  listed = h.listed;
+  ahead = record { cursor = h.ahead.cursor; beyond = h.ahead.beyond; spares = h.ahead.spares; within = h.ahead.within; most = h.ahead.most; from = h.ahead.from; high = h.ahead.high; bounds = h.ahead.bounds; worn = h.ahead.worn };
+  reserve = h.reserve;
+  highest = h.highest;
+  even = h.even;
 })
 
 -- after a copy of a block with a dead slot one of the copy's is free

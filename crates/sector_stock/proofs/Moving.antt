@@ -3,11 +3,11 @@ use Rattle.std.proofs.Common.{◌≡◌, ◌≢◌, ℕ, ◌+◌, ◌*◌, ◌/�
 use Rattle.std.specs.Prelude.{min}
 use Rattle.sector_stock.specs.declared.policy.Wanted.{Wanted}
 use Rattle.sector_stock.specs.declared.policy.Wanted.TheVariants as wanteds
-use Rattle.sector_stock.specs.Policies.{IsLoweredFor}
+use Rattle.sector_stock.specs.Policies.{IsBoundFor}
 use Rattle.std.proofs.lemmas.Bool.{cases_eq, false≢true}
 use Rattle.sector_stock.specs.declared.index.BlockState.{BlockState}
 use Rattle.sector_stock.specs.declared.index.Cursors.{Cursors}
-use Rattle.sector_stock.specs.Index.{in_block, IsAhead, BlocksMoved, IsNextReserve, AreBounds, Counts, in_bounds, bound_row}
+use Rattle.sector_stock.specs.Index.{in_block, erases_of, IsAhead, BlocksMoved, IsNextReserve, AreBounds, AreWorn, Counts, in_bounds, bound_row}
 use Rattle.sector_stock.specs.declared.policy.Policy.{Policy}
 use Rattle.sector_stock.specs.IndexSteps.{NextReserve, IsPassed, Widened}
 
@@ -61,8 +61,8 @@ dead-moved s t blocks blocks' c moved low = elim (cases_eq c s) as (λ _. ((in_b
 ]
 
 pub ahead-moved : (s : ℕ) (blocks blocks' : List BlockState) (at mid new : Cursors) → IsAhead blocks at → BlocksMoved s at.reserve blocks blocks' → NextReserve blocks' at mid
-    → IsLooking s at.reserve (length blocks') at new → new.reserve ≡ mid.reserve → new.spares ≡ mid.spares → new.most ≡ at.most → new.from ≡ at.from → AreBounds blocks' new.bounds → IsAhead blocks' new
-ahead-moved s blocks blocks' at mid new ahead moved next look er es em ef bounds =
+    → IsLooking s at.reserve (length blocks') at new → new.reserve ≡ mid.reserve → new.spares ≡ mid.spares → new.most ≡ at.most → new.from ≡ at.from → AreBounds blocks' new.bounds → AreWorn new.least_erases new.most_erases blocks' → IsAhead blocks' new
+ahead-moved s blocks blocks' at mid new ahead moved next look er es em ef bounds worn =
     let n = moved.size in
     record {
       cursor = λ c l h other. none-passed s blocks blocks' at new c ahead moved look l (inl h) other;
@@ -79,10 +79,11 @@ ahead-moved s blocks blocks' at mid new ahead moved next look er es em ef bounds
       ];
       high = (let p = ahead.high in omega (arith, p, em));
       bounds = bounds;
+      worn = worn;
     }
 
 -- the bounds of the two blocks
-bound-source : (s : ℕ) (wanted : Wanted) (blocks blocks' : List BlockState) (at new : Cursors) → IsAhead blocks at → (in_block blocks s).erases < 65536 → s < length blocks → BlocksMoved s at.reserve blocks blocks' → IsLoweredFor blocks' s at new → Counts wanted (in_block blocks' s) → in_bounds new.bounds (bound_row wanted) s ≤ (in_block blocks' s).erases
+bound-source : (s : ℕ) (wanted : Wanted) (blocks blocks' : List BlockState) (at new : Cursors) → IsAhead blocks at → (in_block blocks s).erases < 65536 → s < length blocks → BlocksMoved s at.reserve blocks blocks' → IsBoundFor blocks' s at new → Counts wanted (in_block blocks' s) → in_bounds new.bounds (bound_row wanted) s ≤ (in_block blocks' s).erases
 bound-source s wanteds.Free blocks blocks' at new ahead fits ls moved low counts = low.source
 bound-source s (wanteds.Dead count) blocks blocks' at new ahead fits ls moved low counts = let p = counts.0 in let q = counts.2 in let r = ap (λ b. b.dead) moved.source in absurd (omega (arith, p, q, r))
 bound-source s wanteds.Resting blocks blocks' at new ahead fits ls moved low counts =
@@ -91,7 +92,7 @@ bound-source s wanteds.Resting blocks blocks' at new ahead fits ls moved low cou
     let r : (in_block blocks' s).erases ≡ min ((in_block blocks s).erases + 1) 65535 = ap (λ b. b.erases) moved.source in
     omega (arith, p, q, r, fits)
 
-bound-target : (s : ℕ) (wanted : Wanted) (blocks blocks' : List BlockState) (at new : Cursors) → IsAhead blocks at → at.reserve < length blocks → BlocksMoved s at.reserve blocks blocks' → IsLoweredFor blocks' s at new → Counts wanted (in_block blocks' at.reserve) → in_bounds new.bounds (bound_row wanted) at.reserve ≤ (in_block blocks' at.reserve).erases
+bound-target : (s : ℕ) (wanted : Wanted) (blocks blocks' : List BlockState) (at new : Cursors) → IsAhead blocks at → at.reserve < length blocks → BlocksMoved s at.reserve blocks blocks' → IsBoundFor blocks' s at new → Counts wanted (in_block blocks' at.reserve) → in_bounds new.bounds (bound_row wanted) at.reserve ≤ (in_block blocks' at.reserve).erases
 bound-target s wanteds.Free blocks blocks' at new ahead lt moved low counts = low.target
 bound-target s (wanteds.Dead count) blocks blocks' at new ahead lt moved low counts = let p = counts.0 in let q = counts.2 in let r = ap (λ b. b.dead) moved.target in absurd (omega (arith, p, q, r))
 bound-target s wanteds.Resting blocks blocks' at new ahead lt moved low counts =
@@ -101,13 +102,13 @@ bound-target s wanteds.Resting blocks blocks' at new ahead lt moved low counts =
     omega (arith, p, q, r)
 
 -- where bounds were lowered it looks where it did
-pub ahead-lowered : (s : ℕ) (blocks blocks' : List BlockState) (at new : Cursors) → IsAhead blocks at → IsLoweredFor blocks' s at new → IsAhead blocks new
-ahead-lowered s blocks blocks' at new ahead low =
+pub ahead-bound : (s : ℕ) (blocks blocks' : List BlockState) (at new : Cursors) → IsAhead blocks at → IsBoundFor blocks' s at new → IsAhead blocks new
+ahead-bound s blocks blocks' at new ahead low =
     let bounds : AreBounds blocks new.bounds = λ wanted c inside counts. (let p = ahead.bounds wanted c inside counts in let q = low.below (64 * bound_row wanted + c / 64) in omega (arith, p, q)) in
-    subst (λ a. IsAhead blocks a) (sym low.rest) (record { cursor = ahead.cursor; beyond = ahead.beyond; spares = ahead.spares; within = ahead.within; most = ahead.most; from = ahead.from; high = ahead.high; bounds = bounds })
+    subst (λ a. IsAhead blocks a) (sym low.rest) (record { cursor = ahead.cursor; beyond = ahead.beyond; spares = ahead.spares; within = ahead.within; most = ahead.most; from = ahead.from; high = ahead.high; bounds = bounds; worn = λ c inside. (let p = ahead.worn c inside in let q = p.1 in let k = low.kept in (p.0, omega (arith, q, k))) })
 
 -- the bounds once block s was copied into block t
-pub bounds-moved : (s : ℕ) (blocks blocks' : List BlockState) (at new : Cursors) → IsAhead blocks at → (in_block blocks s).erases < 65536 → s < length blocks → at.reserve < length blocks → BlocksMoved s at.reserve blocks blocks' → IsLoweredFor blocks' s at new → AreBounds blocks' new.bounds
+pub bounds-moved : (s : ℕ) (blocks blocks' : List BlockState) (at new : Cursors) → IsAhead blocks at → (in_block blocks s).erases < 65536 → s < length blocks → at.reserve < length blocks → BlocksMoved s at.reserve blocks blocks' → IsBoundFor blocks' s at new → AreBounds blocks' new.bounds
 bounds-moved s blocks blocks' at new ahead fits ls lt moved low wanted c inside counts =
     let n = moved.size in
     let t = at.reserve in
@@ -124,13 +125,41 @@ bounds-moved s blocks blocks' at new ahead fits ls lt moved low wanted c inside 
       ]
     ]
 
+-- and the bounds of all
+pub worn-moved : (s : ℕ) (blocks blocks' : List BlockState) (at new : Cursors) → IsAhead blocks at → (in_block blocks s).erases < 65536 → s < length blocks → at.reserve < length blocks → BlocksMoved s at.reserve blocks blocks' → IsBoundFor blocks' s at new → AreWorn new.least_erases new.most_erases blocks'
+worn-moved s blocks blocks' at new ahead fits ls lt moved low c inside =
+    let n = moved.size in
+    let kept = low.kept in
+    let least : new.least_erases ≡ at.least_erases = ap (λ a. a.least_erases) low.rest in
+    elim (cases_eq c s) as (λ _. (new.least_erases ≤ erases_of blocks' c) × (erases_of blocks' c ≤ new.most_erases)) [
+      | inl e ↦
+          let p = (ahead.worn s ls).0 in
+          let q : erases_of blocks' c ≡ min ((in_block blocks s).erases + 1) 65535 = ap (λ a. erases_of blocks' a) e ∙ ap (λ b. b.erases) moved.source in
+          let m = low.most in
+          (omega (arith, p, q, fits, least), subst (λ a. erases_of blocks' a ≤ new.most_erases) (sym e) m)
+      | inr ns ↦ elim (cases_eq c at.reserve) as (λ _. (new.least_erases ≤ erases_of blocks' c) × (erases_of blocks' c ≤ new.most_erases)) [
+        | inl e ↦
+            let p = ahead.worn at.reserve lt in
+            let a = p.0 in
+            let b = p.1 in
+            let q : erases_of blocks' c ≡ (in_block blocks at.reserve).erases = ap (λ a. erases_of blocks' a) e ∙ ap (λ b. b.erases) moved.target in
+            (omega (arith, a, q, least), omega (arith, b, q, kept))
+        | inr nt ↦
+            let p = ahead.worn c (omega (arith, inside, n)) in
+            let a = p.0 in
+            let b = p.1 in
+            let q : erases_of blocks' c ≡ erases_of blocks c = ap (λ b. b.erases) (moved.others c (omega (arith, inside, n)) ns nt) in
+            (omega (arith, a, q, least), omega (arith, b, q, kept))
+      ]
+    ]
+
 -- the block into which one was copied isn't the reserve
 pub other-reserve : (p : Policy) (s t r : ℕ) (blocks blocks' : List BlockState) → BlocksMoved s t blocks blocks' → IsNextReserve p blocks' r → t ≢ r
 other-reserve p s t r blocks blocks' moved highest e = false≢true (sym (ap (λ b. b.plain) moved.target) ∙ (ap (λ a. (in_block blocks' a).plain) e ∙ highest.whole.0))
 
 -- another block is the reserve
-pub reserve-chosen : (r : ℕ) (blocks : List BlockState) (at mid new : Cursors) → at.reserve < length blocks → IsAhead blocks at → Widened at.reserve at mid → new.reserve ≡ r → new.spares ≡ length blocks → new.cursor ≡ mid.cursor → new.beyond ≡ mid.beyond → new.most ≡ mid.most → new.from ≡ mid.from → new.bounds ≡ mid.bounds → IsAhead blocks new
-reserve-chosen r blocks at mid new lr ahead wide er es ec eb em ef eg =
+pub reserve-chosen : (r : ℕ) (blocks : List BlockState) (at mid new : Cursors) → at.reserve < length blocks → IsAhead blocks at → Widened at.reserve at mid → new.reserve ≡ r → new.spares ≡ length blocks → new.cursor ≡ mid.cursor → new.beyond ≡ mid.beyond → new.most ≡ mid.most → new.from ≡ mid.from → new.bounds ≡ mid.bounds → new.least_erases ≡ mid.least_erases → new.most_erases ≡ mid.most_erases → IsAhead blocks new
+reserve-chosen r blocks at mid new lr ahead wide er es ec eb em ef eg el ew =
     let wm = wide.most in
     let wf = wide.from in
     let free : (c : ℕ) → c < length blocks → IsPassed new c → (in_block blocks c).free ≡ 0 = λ c l p.
@@ -145,4 +174,5 @@ reserve-chosen r blocks at mid new lr ahead wide er es ec eb em ef eg =
       from = λ c l h e. ahead.from c l (omega (arith, h, ef, wf)) (e ∙ (em ∙ wm));
       high = (let p = ahead.high in omega (arith, p, em, wm));
       bounds = subst (λ k. AreBounds blocks k) (sym (eg ∙ wide.bounds)) ahead.bounds;
+      worn = subst (λ k. AreWorn k new.most_erases blocks) (sym (el ∙ wide.least)) (subst (λ k. AreWorn at.least_erases k blocks) (sym (ew ∙ wide.worn)) ahead.worn);
     }

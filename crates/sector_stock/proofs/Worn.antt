@@ -9,17 +9,13 @@ use Rattle.sector_stock.specs.declared.policy.Wanted.TheVariants as wanteds
 use Rattle.std.specs.Prelude.{◌/◌}
 use Rattle.sector_stock.specs.Index.{in_block, IsListed, BlocksMoved, Marked, one_dead_more, one_free_fewer}
 use Rattle.sector_stock.specs.Policies.{IsLeastWorn}
-use Rattle.sector_stock.specs.Takes.{erases_of, IsErasedOnce, KeepsErases, CopiesLeastWorn, MovesLeastWorn, dead_in}
+use Rattle.sector_stock.proofs.Even.{once-moved}
+use Rattle.sector_stock.specs.Takes.{IsErasedOnce, KeepsErases, CopiesLeastWorn, MovesLeastWorn, dead_in}
+use Rattle.sector_stock.specs.Index.{erases_of}
 
 -- a block was copied
-pub counted-moved : (s t : ℕ) (m : List ℕ) (slots : List SlotState) (blocks blocks' : List BlockState) → IsListed slots blocks (slot_at m) (kind_at m) (data_blocks m) → BlocksMoved s t blocks blocks' → IsErasedOnce (data_blocks m) s (erases_of blocks) (erases_of blocks')
-counted-moved s t m slots blocks blocks' listed moved = record {
-  here = ap (λ b. b.erases) moved.source;
-  others = λ c low ns. elim (cases_eq c t) as (λ _. erases_of blocks' c ≡ erases_of blocks c) [
-    | inl e ↦ subst (λ a. erases_of blocks' a ≡ erases_of blocks a) (sym e) (ap (λ b. b.erases) moved.target)
-    | inr nt ↦ ap (λ b. b.erases) (moved.others c (let n = listed.block_size in omega (arith, low, n)) ns nt)
-  ];
-}
+pub counted-moved : (s t : ℕ) (m : List ℕ) (slots : List SlotState) (blocks blocks' : List BlockState) → IsListed slots blocks (slot_at m) (kind_at m) (data_blocks m) → (in_block blocks s).erases < 65536 → BlocksMoved s t blocks blocks' → IsErasedOnce (data_blocks m) s (erases_of blocks) (erases_of blocks')
+counted-moved s t m slots blocks blocks' listed fits moved = once-moved s t (data_blocks m) blocks blocks' listed.block_size fits moved
 
 -- of the blocks with as many dead slots, the one that is copied was erased least
 pub copies-least : (s r r' : ℕ) (c : Copied) (m : List ℕ) (slots : List SlotState) (blocks : List BlockState) → IsListed slots blocks (slot_at m) (kind_at m) (data_blocks m) → s < data_blocks m

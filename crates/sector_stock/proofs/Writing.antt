@@ -23,6 +23,9 @@ use Rattle.sector_stock.specs.Room.{IsOutside, IsSpareBlock}
 use Rattle.sector_stock.proofs.Moved.{numbers-in, reserve-is}
 use Rattle.sector_stock.proofs.RoomLaws.{spare-block}
 use Rattle.sector_stock.proofs.Tallies.{tally-none, tally-full, tally-most, not-both}
+use Rattle.sector_stock.specs.Index.{erases_of, AreWithin}
+use Rattle.sector_stock.proofs.Even.{even-kept}
+use Rattle.sector_stock.proofs.Worn.{counted-live, counted-dead}
 
 -- a free slot of a block, and one that isn't dead, in its numbers
 pub free-some : (w : ℕ) (m : List ℕ) (slots : List SlotState) (blocks : List BlockState) (at : Cursors) → IsIndexOf slots blocks at m → w < slot_count m → slot_at m w ≡ Free → 0 < (in_block blocks (w / 7)).free
@@ -103,6 +106,17 @@ live-after w m m' tag x e h = (tag, x, sym (later-is m m' w e) ∙ h)
 live-bare : (x : Slot) → IsLive x → IsBare x → ⊥
 live-bare x live bare = subst (λ a. IsBare a) live.2 bare
 
+-- the counts of erases stay
+even-live : (w : ℕ) (state : SlotState) (slots slots' : List SlotState) (blocks blocks' : List BlockState) → Marked w state (one_free_fewer (in_block blocks (w / 7))) slots slots' blocks blocks' → AreWithin 32 (length blocks) (erases_of blocks) → AreWithin 32 (length blocks') (erases_of blocks')
+even-live w state slots slots' blocks blocks' marked even =
+    subst (λ n. AreWithin 32 n (erases_of blocks')) (sym marked.block_size)
+    (even-kept 32 (length blocks) (erases_of blocks) (erases_of blocks') (counted-live w (length blocks) state slots slots' blocks blocks' refl marked) even)
+
+even-dead : (w : ℕ) (state : SlotState) (slots slots' : List SlotState) (blocks blocks' : List BlockState) → Marked w state (one_dead_more (in_block blocks (w / 7))) slots slots' blocks blocks' → AreWithin 32 (length blocks) (erases_of blocks) → AreWithin 32 (length blocks') (erases_of blocks')
+even-dead w state slots slots' blocks blocks' marked even =
+    subst (λ n. AreWithin 32 n (erases_of blocks')) (sym marked.block_size)
+    (even-kept 32 (length blocks) (erases_of blocks) (erases_of blocks') (counted-dead w (length blocks) state slots slots' blocks blocks' refl marked) even)
+
 -- a sector was written
 pub index-put : (w : ℕ) (tag : Tag) (x m m' : List ℕ) (slots slots' : List SlotState) (blocks blocks' : List BlockState) (at : Cursors) → IsIndexOf slots blocks at m → w < slot_count m → slot_at m w ≡ Free → slot_at m' w ≡ Live tag x
     → OnlyPlace w m m' → at.reserve ≢ w / 7 → Marked w states.Live (one_free_fewer (in_block blocks (w / 7))) slots slots' blocks blocks' → IsAhead blocks' at → IsIndexOf slots' blocks' at m'
@@ -114,6 +128,7 @@ index-put w tag x m m' slots slots' blocks blocks' at index low free now only ou
       ahead = ahead;
       reserve = spare-kept w at.reserve m m' only outside index.reserve;
       highest = λ by. reserve-kept w at.reserve m m' only (live-bare (slot_at m' w) (tag, x, now)) outside (index.highest by);
+      even = λ by. even-live w states.Live slots slots' blocks blocks' marked (index.even by);
     }
 
 -- a slot was retired
@@ -128,6 +143,7 @@ index-retired w m m' slots slots' blocks blocks' at at' index low live now only 
       ahead = ahead;
       reserve = subst (λ r. IsSpareBlock r m') (sym same) (spare-kept w at.reserve m m' only apart index.reserve);
       highest = λ by. subst (λ r. IsReserveOf r m') (sym same) (reserve-kept w at.reserve m m' only (λ bare. subst (λ a. IsBare a) now bare) apart (index.highest (sym policy ∙ by)));
+      even = λ by. even-dead w states.Dead slots slots' blocks blocks' marked (index.even (sym policy ∙ by));
     }
 
 -- a row speaks of no more blocks where one has a free slot less
@@ -163,6 +179,12 @@ ahead-live w slots slots' blocks blocks' at low marked some most ahead =
       most = λ c l. let e = dead c (omega (arith, l, n)) in let p = ahead.most c (omega (arith, l, n)) in omega (arith, e, p);
       from = λ c l h q. ahead.from c (omega (arith, l, n)) h (sym (dead c (omega (arith, l, n))) ∙ q);
       high = ahead.high;
+      worn = λ c l.
+          let k = counted-live w (length blocks) states.Live slots slots' blocks blocks' refl marked c (omega (arith, l, n)) in
+          let p = ahead.worn c (omega (arith, l, n)) in
+          let a = p.0 in
+          let b = p.1 in
+          (omega (arith, a, k), omega (arith, b, k));
       bounds = λ wanted c l counts. elim (cases_eq c (w / 7)) as (λ _. in_bounds at.bounds (bound_row wanted) c ≤ (in_block blocks' c).erases) [
         | inl e ↦
             let is : in_block blocks' c ≡ one_free_fewer (in_block blocks c) = ap (λ a. in_block blocks' a) e ∙ (here ∙ ap (λ a. one_free_fewer (in_block blocks a)) (sym e)) in
@@ -181,13 +203,13 @@ ahead-live w slots slots' blocks blocks' at low marked some most ahead =
 pub put-indexed : (w : ℕ) (tag : Tag) (m m' : List ℕ) (slots slots' : List SlotState) (blocks blocks' : List BlockState) (at at' : Cursors) → IsIndexOf slots blocks at m → w < slot_count m
     → slot_at m w ≡ Free → HoldsTag tag (slot_at m' w) → OnlyPlace w m m' → IsOutside w m
     → Marked w states.Live (one_free_fewer (in_block blocks (w / 7))) slots slots' blocks blocks'
-    → ((at' ≡ at) × (at.reserve ≢ w / 7)) ⊎ (IsAhead blocks' at' × IsHighestWhole blocks' at'.reserve) → IsIndexOf slots' blocks' at' m'
-put-indexed w tag m m' slots slots' blocks blocks' at at' index low free now only outside marked after = elim after as (λ _. IsIndexOf slots' blocks' at' m') [
-  | inl same ↦
+    → ((at' ≡ at) × (at.reserve ≢ w / 7)) ⊎ (IsAhead blocks' at' × IsHighestWhole blocks' at'.reserve) → at'.policy ≡ at.policy → IsIndexOf slots' blocks' at' m'
+put-indexed w tag m m' slots slots' blocks blocks' at at' index low free now only outside marked after same = elim after as (λ _. IsIndexOf slots' blocks' at' m') [
+  | inl stays ↦
       let n = index.listed.block_size in
       let numbers = numbers-in (w / 7) m slots blocks at index (omega (arith, low, n)) in
-      subst (λ a. IsIndexOf slots' blocks' a m') (sym same.0)
-      (index-put w tag now.0 m m' slots slots' blocks blocks' at index low free now.1 only same.1 marked
+      subst (λ a. IsIndexOf slots' blocks' a m') (sym stays.0)
+      (index-put w tag now.0 m m' slots slots' blocks blocks' at index low free now.1 only stays.1 marked
       (ahead-live w slots slots' blocks blocks' at (omega (arith, low, n)) marked (free-some w m slots blocks at index low free) (omega (arith, numbers)) index.ahead))
   | inr next ↦
       let e = only.only.chip.same_length in
@@ -195,7 +217,7 @@ put-indexed w tag m m' slots slots' blocks blocks' at at' index low free now onl
       let listed = listed-after m m' slots' blocks' e
       (listed-live w (data_blocks m) (slot_at m) (later m m') (kind_at m) (kind_at m') slots slots' blocks blocks' low (place-others w m m' only) (place-kinds w m m' only) free (live-after w m m' tag now.0 e now.1) marked index.listed) in
       let reserve = reserve-is m' slots' blocks' at'.reserve (λ d inside. let here : d < data_blocks m = omega (arith, n, inside) in subst (λ k. IsAtRest k) (sym (place-kinds w m m' only d here)) (outside.rest d here)) listed next.1 in
-      record { listed = listed; ahead = next.0; reserve = spare-block at'.reserve m' reserve; highest = λ by. reserve }
+      record { listed = listed; ahead = next.0; reserve = spare-block at'.reserve m' reserve; highest = λ by. reserve; even = λ by. even-live w states.Live slots slots' blocks blocks' marked (index.even (sym same ∙ by)) }
 ]
 
 pub retire-indexed : (w : ℕ) (m m' : List ℕ) (slots slots' : List SlotState) (blocks blocks' : List BlockState) (at at' : Cursors) → IsIndexOf slots blocks at m → w < slot_count m

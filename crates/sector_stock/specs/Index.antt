@@ -4,6 +4,7 @@ use Rattle.std.specs.Prelude.{◌≡◌, ◌≢◌, ℕ, ◌+◌, ◌-◌, ◌*�
 use Rattle.std.specs.Prelude.{length, slice_index_or, min}
 use Rattle.chip_model.specs.Geometry.{IsChipSize}
 use Rattle.erase_journal.specs.Places.{how_many}
+pub use Rattle.nor_layout.specs.Kinds.{is_plain}
 use Rattle.nor_layout.specs.declared.header.Header.{Header}
 use Rattle.nor_layout.specs.declared.kind.Kind.{Kind}
 use Rattle.sector_slots.specs.Slots.{Slot, Free, Live, NoGeneration, Dead, Outside, slot_at}
@@ -42,16 +43,6 @@ is_dead (Live tag content) = false
 is_dead NoGeneration = false
 is_dead Dead = true
 is_dead Outside = false
-
-abbrev pub is_plain : Kind → Bool
-is_plain kinds.Plain = true
-is_plain kinds.Void = false
-is_plain (kinds.Committed source) = false
-is_plain kinds.Settled = false
-is_plain (kinds.Group tag) = false
-is_plain kinds.DeadGroup = false
-is_plain kinds.SpoiltGroup = false
-is_plain kinds.Unknown = false
 
 -- whether a block is live with a group
 abbrev pub is_live_group : Kind → Bool
@@ -115,9 +106,25 @@ AreBounds blocks bounds = (wanted : Wanted) (c : ℕ) → c < length blocks
     → Counts wanted (in_block blocks c)
     → in_bounds bounds (bound_row wanted) c ≤ (in_block blocks c).erases
 
+-- How often each block was erased, by the counts of a list; and each from `least` to `most` times.
+abbrev pub erases_of : List BlockState → ℕ → ℕ
+erases_of blocks c = (in_block blocks c).erases
+
+abbrev pub AreWorn : ℕ → ℕ → List BlockState → Type 0
+AreWorn least most blocks = (c : ℕ) → c < length blocks
+    → (least ≤ erases_of blocks c) × (erases_of blocks c ≤ most)
+
+-- of n blocks none was erased over k times more often than another one
+abbrev pub AreWithin : ℕ → ℕ → (ℕ → ℕ) → Type 0
+AreWithin k n erases = (c d : ℕ) → c < n → d < n → erases c ≤ erases d + k
+
+-- and none will have been by over 32 times, once block s is erased
+abbrev pub MayWear : ℕ → ℕ → (ℕ → ℕ) → Type 0
+MayWear s n erases = (c : ℕ) → c < n → erases s < erases c + 32
+
 -- Where the index looks next: below `cursor`, and from `beyond` on, no block but the reserve has a
 -- free slot; each other wholly free block lies below `spares`; no block has more dead slots than
--- `most`, and below `from` none has so many; the bounds of erases are right.
+-- `most`, and below `from` none has so many; the bounds of erases are right, of runs and of all.
 pub record IsAhead (blocks : List BlockState) (at : Cursors) : Type 0 where
   pub cursor : (c : ℕ) → c < length blocks → c < at.cursor → c ≢ at.reserve
       → (in_block blocks c).free ≡ 0
@@ -130,15 +137,17 @@ pub record IsAhead (blocks : List BlockState) (at : Cursors) : Type 0 where
   pub from : (c : ℕ) → c < length blocks → c < at.from → (in_block blocks c).dead ≢ at.most
   pub high : at.most ≤ 7
   pub bounds : AreBounds blocks at.bounds
+  pub worn : AreWorn at.least_erases at.most_erases blocks
 
 -- The index of a memory: its reserve is wholly free, and where it chooses by number the highest-
--- numbered such block.
+-- numbered such block; where it chooses by erases, no two blocks differ by more than 32 of them.
 pub record IsIndexOf (slots : List SlotState) (blocks : List BlockState) (at : Cursors)
     (m : List ℕ) : Type 0 where
   pub listed : IsListed slots blocks (slot_at m) (kind_at m) (data_blocks m)
   pub ahead : IsAhead blocks at
   pub reserve : IsSpareBlock at.reserve m
   pub highest : at.policy ≡ policies.Lowest → IsReserveOf at.reserve m
+  pub even : at.policy ≡ policies.Level → AreWithin 32 (length blocks) (erases_of blocks)
 
 -- What the lists and cursors of a store with this memory are: of its size, and where they are said
 -- to be right, its index.

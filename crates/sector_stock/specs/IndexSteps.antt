@@ -6,6 +6,7 @@ use Rattle.sector_stock.specs.declared.index.BlockState.{BlockState}
 use Rattle.sector_stock.specs.declared.index.Cursors.{Cursors}
 use Rattle.sector_stock.specs.declared.index.SlotState.TheVariants as states
 use Rattle.sector_stock.specs.Index.{in_block, IsWholeBlock, in_slots, IsNextReserve}
+use Rattle.sector_stock.specs.Index.{one_erase_more}
 
 -- each wholly free block but r lies below this one
 abbrev pub AreSparesBelow : List BlockState → ℕ → ℕ → Type 0
@@ -26,6 +27,8 @@ pub record Widened (b : ℕ) (old new : Cursors) : Type 0 where
   pub most : new.most ≡ old.most
   pub from : new.from ≡ old.from
   pub bounds : new.bounds ≡ old.bounds
+  pub least : new.least_erases ≡ old.least_erases
+  pub worn : new.most_erases ≡ old.most_erases
   pub newest : new.newest ≡ old.newest
 
 -- the reserve is another one, and where its search ends; all else stays
@@ -39,6 +42,8 @@ pub record NextReserve (blocks : List BlockState) (old new : Cursors) : Type 0 w
   pub most : new.most ≡ old.most
   pub from : new.from ≡ old.from
   pub bounds : new.bounds ≡ old.bounds
+  pub least : new.least_erases ≡ old.least_erases
+  pub worn : new.most_erases ≡ old.most_erases
   pub newest : new.newest ≡ old.newest
 
 -- how many slots the first n blocks have free
@@ -54,3 +59,23 @@ pub record IsFirstFreeState (slots : List SlotState) (b w : ℕ) : Type 0 where
   pub block : w / 7 ≡ b
   pub free : in_slots slots w ≡ states.Free
   pub first : (i : ℕ) → i < 7 → 7 * b + i < w → in_slots slots (7 * b + i) ≢ states.Free
+
+-- block s was erased once more, and nothing else of the index changed but the bound of all erases
+pub record RecountsErase (s : ℕ) (blocks blocks' : List BlockState) (old new : Cursors)
+    : Type 0 where
+  pub size : length blocks' ≡ length blocks
+  pub here : in_block blocks' s ≡ record (in_block blocks s) {
+    erases = one_erase_more (in_block blocks s).erases;
+  }
+  pub others : (c : ℕ) → c < length blocks → c ≢ s → in_block blocks' c ≡ in_block blocks c
+  pub rest : new ≡ record old { most_erases = new.most_erases }
+  pub kept : old.most_erases ≤ new.most_erases
+  pub most : one_erase_more (in_block blocks s).erases ≤ new.most_erases
+  pub fits : (in_block blocks s).erases < 65536
+
+-- of the first k blocks the erases were set to 0, and nothing else changed
+pub record Forgets (k : ℕ) (blocks blocks' : List BlockState) : Type 0 where
+  pub size : length blocks' ≡ length blocks
+  pub each : (c : ℕ) → c < length blocks → c < k
+      → in_block blocks' c ≡ record (in_block blocks c) { erases = 0 }
+  pub others : (c : ℕ) → k ≤ c → in_block blocks' c ≡ in_block blocks c

@@ -2,17 +2,18 @@
 use Rattle.std.specs.Prelude.{◌≡◌, ◌≢◌, ℕ, ◌+◌, ◌-◌, ◌<◌, ◌≤◌, false, List, length, ◌==◌}
 use Rattle.std.specs.Prelude.{if◌then◌else◌, Option, None, IfSome, MatchOption, slice_index_or}
 use Rattle.sector_stock.specs.declared.index.BlockState.{BlockState}
+use Rattle.sector_stock.specs.declared.policy.Policy.TheVariants as policies
 use Rattle.sector_stock.specs.declared.policy.Wanted.{Wanted}
 use Rattle.sector_stock.specs.declared.policy.Wanted.TheVariants as wanteds
 use Rattle.sector_stock.specs.Index.{in_block, IsWholeBlock, HasFreeBut, in_bounds}
 use Rattle.sector_stock.specs.declared.index.Cursors.{Cursors}
 
--- What a block is that is wanted. The sectors of one rest that has at least four live slots, and
+-- What a block is that is wanted. The sectors of one rest that has at least three live slots, and
 -- isn't live with a group.
 abbrev pub Wants : Wanted → BlockState → Type 0
 Wants wanteds.Free b = 0 < b.free
 Wants (wanteds.Dead count) b = b.dead ≡ count
-Wants wanteds.Resting b = (b.group ≡ false) × (b.free + b.dead ≤ 3)
+Wants wanteds.Resting b = (b.group ≡ false) × (b.free + b.dead ≤ 4)
 
 -- of the first n blocks none but block r is wanted
 abbrev pub HasNoneWanted : Wanted → ℕ → List BlockState → ℕ → Type 0
@@ -70,9 +71,12 @@ pub record Lowered (p n : ℕ) (old new : List ℕ) : Type 0 where
   pub below : (q : ℕ) → slice_index_or new q 0 ≤ slice_index_or old q 0
   pub here : p < length old → slice_index_or new p 0 ≤ n
 
--- no bound was raised, those of block s and of the reserve hold, and all else stays
-pub record IsLoweredFor (blocks : List BlockState) (s : ℕ) (old new : Cursors) : Type 0 where
-  pub rest : new ≡ record old { bounds = new.bounds }
+-- No bound of a run was raised, those of block s and of the reserve hold, the bound of all wasn't
+-- lowered and holds for block s, and all else stays.
+pub record IsBoundFor (blocks : List BlockState) (s : ℕ) (old new : Cursors) : Type 0 where
+  pub rest : new ≡ record old { bounds = new.bounds; most_erases = new.most_erases }
+  pub kept : old.most_erases ≤ new.most_erases
+  pub most : (in_block blocks s).erases ≤ new.most_erases
   pub size : length new.bounds ≡ length old.bounds
   pub below : (q : ℕ) → slice_index_or new.bounds q 0 ≤ slice_index_or old.bounds q 0
   pub source : in_bounds new.bounds 0 s ≤ (in_block blocks s).erases
@@ -109,3 +113,10 @@ pub record IsDue (blocks : List BlockState) (s t : ℕ) : Type 0 where
   pub worst : ℕ
   pub is_worst : worst < length blocks
   pub more : (in_block blocks s).dead < (in_block blocks worst).dead
+
+-- by erases another wholly free block, which was erased less often than the reserve
+pub record IsOtherReserve (blocks : List BlockState) (at : Cursors) (r : ℕ) : Type 0 where
+  pub number : r < length blocks
+  pub whole : IsWholeBlock (in_block blocks r)
+  pub less : (in_block blocks r).erases < (in_block blocks at.reserve).erases
+  pub level : at.policy ≡ policies.Lowest → ⊥

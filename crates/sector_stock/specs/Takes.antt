@@ -6,17 +6,17 @@ use Rattle.nor_layout.specs.declared.header.Generation.{Generation}
 use Rattle.nor_layout.specs.declared.header.Generation.TheVariants as generations
 use Rattle.nor_layout.specs.declared.header.Tag.{Tag}
 use Rattle.nor_layout.specs.declared.kind.Kind.TheVariants as kinds
-use Rattle.erase_journal.specs.Blocks.{SameChip}
+use Rattle.erase_journal.specs.Blocks.{SameChip, blank}
 use Rattle.erase_journal.specs.Places.{how_many}
 use Rattle.sector_slots.specs.Slots.{Free, Live, NoGeneration, slot_at, slot_count, data_blocks}
+use Rattle.sector_slots.specs.Slots.{data_block}
 use Rattle.sector_slots.specs.Slots.{IsClean, IsSpareIn, kind_at, is_group}
 use Rattle.sector_slots.specs.Sectors.{LiveAt}
 use Rattle.sector_slots.specs.Blocks.{AreSettled, IsReserveOf}
 use Rattle.sector_slots.specs.Copying.{shifted}
 use Rattle.sector_stock.specs.declared.given.Copied.{Copied}
 use Rattle.sector_stock.specs.Room.{HasNoneDead, IsSpareBlock, IsFull}
-use Rattle.sector_stock.specs.declared.index.BlockState.{BlockState}
-use Rattle.sector_stock.specs.Index.{tally, is_dead, is_free_slot, is_live_group, in_block}
+use Rattle.sector_stock.specs.Index.{tally, is_dead, is_free_slot, is_live_group}
 use Rattle.sector_stock.specs.Index.{one_erase_more}
 use Rattle.sector_stock.specs.Copy.{SameSectors}
 
@@ -71,6 +71,18 @@ pub record MovesInto (s t : ℕ) (m m' : List ℕ) : Type 0 where
   pub shifts : Shifts s t m m'
   pub erased : IsSpareIn m' s
 
+-- block s, which was wholly free, was erased once more: it is wholly free, and each slot is what it
+-- was
+pub record ErasesSpare (s : ℕ) (m m' : List ℕ) : Type 0 where
+  pub spare : IsSpareBlock s m
+  pub chip : SameChip m m'
+  pub erased : data_block m' s ≡ blank
+  pub kinds : (c : ℕ) → c < data_blocks m → kind_at m' c ≡ kind_at m c
+  pub slots : (w : ℕ) → w < slot_count m → slot_at m' w ≡ slot_at m w
+  pub blocks : AreSettled m'
+  pub sectors : SameSectors m m'
+  pub clean : IsClean m → IsClean m'
+
 -- block s, of which a slot was dead, was copied into block t, which was wholly free; now s is
 pub record CopiesInto (s t : ℕ) (m m' : List ℕ) : Type 0 where
   pub source : HasDead s m
@@ -78,13 +90,10 @@ pub record CopiesInto (s t : ℕ) (m m' : List ℕ) : Type 0 where
   pub shifts : Shifts s t m m'
   pub erased : IsSpareIn m' s
 
--- How often each block was erased, by the counts of a list.
-abbrev pub erases_of : List BlockState → ℕ → ℕ
-erases_of blocks c = (in_block blocks c).erases
-
 -- of n blocks, block s was erased once more, and no other
 pub record IsErasedOnce (n s : ℕ) (erases erases' : ℕ → ℕ) : Type 0 where
   pub here : erases' s ≡ one_erase_more (erases s)
+  pub rises : erases s ≤ erases' s
   pub others : (c : ℕ) → c < n → c ≢ s → erases' c ≡ erases c
 
 abbrev pub KeepsErases : ℕ → (ℕ → ℕ) → (ℕ → ℕ) → Type 0
@@ -122,10 +131,10 @@ pub record FillsUp (n r : ℕ) (erases : ℕ → ℕ) (w : ℕ) (m : List ℕ) :
   pub begins : (HasFreeIn n r m → ⊥) → (s : ℕ) → s < slot_count m → s / 7 ≢ r
       → slot_at m s ≡ Free → erases (w / 7) ≤ erases (s / 7)
 
--- the sectors of block c rest: it has at least four live slots, and isn't live with a group
+-- the sectors of block c rest: it has at least three live slots, and isn't live with a group
 abbrev pub SectorsRest : List ℕ → ℕ → Type 0
 SectorsRest m c = (is_live_group (kind_at m c) ≡ false)
-    × (tally is_free_slot (slot_at m) c + dead_in m c ≤ 3)
+    × (tally is_free_slot (slot_at m) c + dead_in m c ≤ 4)
 
 -- By erases: the block that is moved was erased least of those whose sectors rest, but block n,
 -- from which a slot was given last.
@@ -177,6 +186,20 @@ pub record Converts (s t : ℕ) (m m' : List ℕ) : Type 0 where
   pub fewer : work_of m' < work_of m
   pub sectors : IsClean m → SameSectors m m'
   pub clean : IsClean m → IsClean m'
+
+-- Block s was erased once more, whatever it held: a wholly free one as it is; of any other one the
+-- live slots, or the sectors of its group, are in block t.
+pub data Renews (s : ℕ) (copied : Option Copied) (m m' : List ℕ) : Type 0 where
+  erases : copied ≡ None → ErasesSpare s m m' → Renews s copied m m'
+  moves : (c : Copied) → copied ≡ Some c → c.source ≡ s → MovesInto c.source c.target m m'
+      → Renews s copied m m'
+  converts_group : (c : Copied) → copied ≡ Some c → c.source ≡ s
+      → Converts c.source c.target m m' → Renews s copied m m'
+
+-- of n blocks none was erased less often than block b
+pub record IsLeastErased (b n : ℕ) (erases : ℕ → ℕ) : Type 0 where
+  pub number : b < n
+  pub least : (c : ℕ) → c < n → erases b ≤ erases c
 
 -- no block is live with a group
 abbrev pub HasNoGroups : List ℕ → Type 0

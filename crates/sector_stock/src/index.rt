@@ -7,13 +7,13 @@ ghost use Rattle.sector_stock.specs.Index.{IsAhead, Marked, one_dead_more, one_f
 ghost use Rattle.sector_stock.specs.Index.{in_block, IsMostDead, HasNoDead, IsLowestWithFree};
 ghost use Rattle.sector_stock.specs.Index.{HasFreeBut, HasNoFreeBut, copied_state, Shifted};
 ghost use Rattle.sector_stock.specs.Index.{IsIndexOf, IsWholeBlock, BlocksMoved, IsNextReserve};
-ghost use Rattle.sector_stock.specs.Index.{IsLowestDead, IsLowestGroup, HasNoGroup};
-ghost use Rattle.sector_stock.specs.Policies.{IsFilledUp, IsLoweredFor};
+ghost use Rattle.sector_stock.specs.Index.{IsLowestDead, IsLowestGroup, HasNoGroup, erases_of};
+ghost use Rattle.sector_stock.specs.Policies.{IsFilledUp, IsBoundFor};
 ghost use Rattle.sector_stock.specs.declared.policy.Policy.TheVariants as policies;
 ghost use Rattle.sector_stock.specs.IndexSteps.{AreSparesBelow, NextReserve, Widened};
 ghost use Rattle.sector_stock.specs.IndexSteps.{HasNoFreeState, IsFirstFreeState};
 ghost use Rattle.sector_stock.specs.Room.{HasNoneFree};
-ghost use Rattle.sector_stock.specs.Takes.{IsGivable, IsLowestFree, FillsUp, erases_of};
+ghost use Rattle.sector_stock.specs.Takes.{IsGivable, IsLowestFree, FillsUp};
 
 use crate::least::{BOUNDS, least_worn, lower_bound};
 use crate::policy::{Policy, Wanted, is_whole};
@@ -59,7 +59,8 @@ pub struct Cursors {
     pub turn: u16,
     /// Of blocks that were erased equally often the first one behind this one is taken.
     pub clock: u16,
-    /// The block of the slot that was given last: where it chooses by erases, it is filled up.
+    /// The block of the slot that was given last, or its copy by a tidying: where it chooses by
+    /// erases, it is filled up.
     pub newest: u16,
     /// The block behind the last one into which a block was moved for its wear,
     pub behind: u16,
@@ -67,6 +68,10 @@ pub struct Cursors {
     pub looked: u16,
     /// Bounds of the erases in runs of blocks, by which the least worn one is found.
     pub bounds: [u16; BOUNDS],
+    /// No block was erased less often,
+    pub least_erases: u16,
+    /// nor more often.
+    pub most_erases: u16,
 }
 
 /// A live slot became dead.
@@ -475,15 +480,16 @@ fn widen(at: &mut Cursors, block: u16)
     }
 }
 
-/// A block and the reserve may have free slots now that had none.
-fn lower_moved(blocks: &[BlockState], at: &mut Cursors, source: u16)
+/// A block was erased, and it and the reserve may have free slots now: the bounds of erases follow.
+fn bound_moved(blocks: &[BlockState], at: &mut Cursors, source: u16)
     requires size { length blocks.now ≤ 4096 }
     requires source { source < length blocks.now }
     requires reserve { at.old.reserve < length blocks.now }
-    ensures { IsLoweredFor blocks.now source at.old at.new }
+    ensures { IsBoundFor blocks.now source at.old at.new }
 {
     let target = at.reserve;
     let erases = blocks[source as usize].erases;
+    at.most_erases = at.most_erases.max(erases);
     lower_bound(&mut at.bounds, Wanted::Free, source, erases);
     let erases = blocks[target as usize].erases;
     lower_bound(&mut at.bounds, Wanted::Free, target, erases);
@@ -504,10 +510,11 @@ pub(crate) fn move_block(blocks: &mut [BlockState], at: &mut Cursors, source: u1
     ensures last { at.old.policy ≡ policies.Level → at.new.reserve ≡ source }
     ensures policy { at.new.policy ≡ at.old.policy }
     ensures newest { at.new.newest ≡ at.old.newest }
+    ensures fits { (in_block blocks.old source).erases < 65536 }
 {
     let target = at.reserve;
     move_counts(blocks, source, target);
-    lower_moved(blocks, at, source);
+    bound_moved(blocks, at, source);
     next_reserve(blocks, at, source);
     widen(at, target);
     if at.reserve != source {

@@ -8,7 +8,8 @@
 //! `tidy` copies such a block; if no slot is dead it converts the lowest-numbered block that is
 //! live with a group of layout 1 into slots of the reserve, as `convert` does. It answers None
 //! exactly if there is neither. `Policy::Lowest` chooses slots and blocks by number,
-//! `Policy::Level` so that blocks wear alike (docs/WEAR.md). Each call tells which block was copied
+//! `Policy::Level` so that blocks wear alike: no two differ by more than 32 erases, once `renew`
+//! was called for what `lagging` tells (docs/WEAR.md). Each call tells which block was copied
 //! where: its live slots keep their places and tags, and those of a group get the first generation.
 //! Cut anywhere, they leave slots and blocks that a mount accepts, and on a clean memory each
 //! sector as it was. `end_void`, `end_committed` and `end_erased` end a copying that a mount finds,
@@ -35,8 +36,11 @@ pub use given::{Copied, Given};
 pub use index::{BlockState, Cursors, SlotState, mark_dead};
 pub use laws::{never_full, slots_outnumber_sectors, sound_maps_have_room};
 pub use least::BOUNDS;
-pub use policy::{Policy, Purpose, level_block};
+pub use policy::{
+    Policy, Purpose, RENEW_NOW, RENEW_SOON, SPREAD, choose_by_erases, lagging, level_block,
+    renew_block,
+};
 pub use reclaim::Reclaim;
 pub use room::is_short;
 pub use scan::fill_index;
-pub use take::{convert_block, mark_written, take_slot, tidy_block};
+pub use take::{convert_block, has_work, mark_written, take_slot, tidy_block};

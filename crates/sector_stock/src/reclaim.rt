@@ -1,14 +1,15 @@
 //! Where a store of slots gets its free slots from: the contract of `Stock`.
 
 ghost use Rattle.std.specs.Prelude.{◌≡◌, ◌⊎◌, ◌/◌, ◌<◌, ◌≤◌, ℕ, true, Some, None, length, OnOk};
-ghost use Rattle.std.specs.Prelude.{IfOk, List};
+ghost use Rattle.std.specs.Prelude.{◌+◌, ◌-◌, IfOk, IfSome, IsTrue, IsFalse, List};
 ghost use Rattle.std.specs.Result.{IsErrOf};
 ghost use Rattle.nor_driver.specs.State.{IsNorReady};
 ghost use Rattle.erase_journal.specs.Blocks.{SameChip};
 ghost use Rattle.erase_journal.specs.Journals.{IsHealthy, IsSettled};
 ghost use Rattle.erase_journal.specs.Steps.{EndsSettled};
 ghost use Rattle.sector_slots.specs.Slots.{Free, Live, Dead, slot_at, slot_count, IsClean};
-ghost use Rattle.sector_slots.specs.Slots.{data_blocks, kind_at};
+ghost use Rattle.sector_slots.specs.Slots.{data_blocks, kind_at, data_block, read_header};
+ghost use Rattle.sector_slots.specs.Slots.{descriptor_in};
 ghost use Rattle.sector_slots.specs.Steps.{IsRetirable, IsWritable, PutLeaves, HoldsTag};
 ghost use Rattle.sector_slots.specs.Steps.{MayHoldTag, OnlyPlace};
 ghost use Rattle.sector_slots.specs.Blocks.{IsReserveOf};
@@ -17,8 +18,9 @@ ghost use Rattle.sector_stock.specs.Copy.{Stays};
 ghost use Rattle.sector_stock.specs.Takes.{Takes, TidiesStock, HasNoGroups, is_short, work_of};
 ghost use Rattle.sector_stock.specs.Takes.{IsLowestFree, HasMostDead, HasFewerBelow, MovesInto};
 ghost use Rattle.sector_stock.specs.Takes.{Converts, IsLiveGroup, FillsUp, CopiesLeastWorn};
-ghost use Rattle.sector_stock.specs.Takes.{MovesLeastWorn, CountsErase, IsErasedOnce, erases_of};
-ghost use Rattle.sector_stock.specs.Takes.{KeepsErases};
+ghost use Rattle.sector_stock.specs.Takes.{MovesLeastWorn, CountsErase, IsErasedOnce};
+ghost use Rattle.sector_stock.specs.Index.{erases_of, AreWithin};
+ghost use Rattle.sector_stock.specs.Takes.{KeepsErases, Renews, IsLeastErased};
 ghost use Rattle.sector_stock.specs.Policies.{IsTail, AreRestingFewer};
 ghost use Rattle.sector_stock.specs.declared.policy.Policy.{Policy};
 ghost use Rattle.sector_stock.specs.declared.policy.Policy.TheVariants as policies;
@@ -31,7 +33,7 @@ ghost use Rattle.sector_stock.specs.declared.given.Copied.{Copied as CopiedOf};
 use crate::given::{Copied, Given};
 use crate::policy::{Policy, Purpose};
 use nor_driver::NorError;
-use nor_layout::Tag;
+use nor_layout::{Header, Tag};
 use sector_slots::SlotCalls;
 
 /// A store of slots with an index of them in memory, which `fill` makes and the other calls here
@@ -47,12 +49,17 @@ pub trait Reclaim: SlotCalls {
     /// Where it looks next.
     ghost cursors: { Self → Cursors };
 
-    /// Reads the kinds and descriptors of all blocks into the index.
+    /// Reads the kinds and descriptors of all blocks into the index. Erases are counted anew.
     fn fill(&mut self) -> Result<(), NorError>
         requires room { IsNorReady (Self.state self.old) → HasRoom (Self.state self.old).memory }
         ensures indexed { OnOk result (Self.indexed self.new ≡ true) }
         ensures policy { OnOk result (policy self.new ≡ policy self.old) }
         ensures same { (Self.state self.new).memory ≡ (Self.state self.old).memory }
+        ensures counted { OnOk result ((c : ℕ) → c < data_blocks (Self.state self.new).memory
+            → erases_of (counts self.new) c ≡ 0) }
+        ensures even { OnOk result (policy self.old ≡ policies.Level
+            → AreWithin 32 (data_blocks (Self.state self.new).memory)
+            (erases_of (counts self.new))) }
         ensures ends { EndsSettled result (Self.state self.old) (Self.state self.new) };
 
     /// A free slot; another block than its own is wholly free. Where no slot outside the reserve is
@@ -67,6 +74,9 @@ pub trait Reclaim: SlotCalls {
         requires settled { IsSettled (Self.state self.old).memory }
         requires room { HasRoom (Self.state self.old).memory }
         requires indexed { Self.indexed self.old ≡ true }
+        requires even { policy self.old ≡ policies.Level
+            → AreWithin 31 (data_blocks (Self.state self.old).memory)
+            (erases_of (counts self.old)) }
         ensures ok { IfOk result (λ given.
             Takes given.slot given.copied (Self.state self.old).memory
             (Self.state self.new).memory) }
@@ -94,7 +104,22 @@ pub trait Reclaim: SlotCalls {
         ensures counted { IfOk result (λ given. CountsErase
             (data_blocks (Self.state self.old).memory) given.copied (erases_of (counts self.old))
             (erases_of (counts self.new))) }
+        ensures even { OnOk result (policy self.old ≡ policies.Level
+            → AreWithin 32 (data_blocks (Self.state self.new).memory)
+            (erases_of (counts self.new))) }
         ensures ends { EndsSettled result (Self.state self.old) (Self.state self.new) };
+
+    /// Whether `tidy` has something to do: whether slots are dead, or blocks live with groups.
+    /// Nothing is read.
+    fn has_work(&mut self) -> bool
+        requires indexed { Self.indexed self.old ≡ true }
+        ensures yes { IsTrue result → 0 < work_of (Self.state self.old).memory }
+        ensures no { IsFalse result → HasNoneDead (Self.state self.old).memory
+            × HasNoGroups (Self.state self.old).memory }
+        ensures state { Self.state self.new ≡ Self.state self.old }
+        ensures indexed { Self.indexed self.new ≡ true }
+        ensures policy { policy self.new ≡ policy self.old }
+        ensures counted { counts self.new ≡ counts self.old };
 
     /// Copies a block with dead slots, one with the most, of equals the lowest-numbered or the
     /// least worn, into the reserve; where no slot is dead, converts the lowest-numbered block that
@@ -105,6 +130,9 @@ pub trait Reclaim: SlotCalls {
         requires settled { IsSettled (Self.state self.old).memory }
         requires room { HasRoom (Self.state self.old).memory }
         requires indexed { Self.indexed self.old ≡ true }
+        requires even { policy self.old ≡ policies.Level
+            → AreWithin 31 (data_blocks (Self.state self.old).memory)
+            (erases_of (counts self.old)) }
         ensures copied { IfOk result (λ copied. (c : CopiedOf) → copied ≡ Some c
             → TidiesStock c.source c.target (Self.state self.old).memory
             (Self.state self.new).memory) }
@@ -137,10 +165,13 @@ pub trait Reclaim: SlotCalls {
         ensures counted { IfOk result (λ copied. CountsErase
             (data_blocks (Self.state self.old).memory) copied (erases_of (counts self.old))
             (erases_of (counts self.new))) }
+        ensures even { OnOk result (policy self.old ≡ policies.Level
+            → AreWithin 32 (data_blocks (Self.state self.new).memory)
+            (erases_of (counts self.new))) }
         ensures ends { EndsSettled result (Self.state self.old) (Self.state self.new) };
 
     /// Moves a block whose sectors rest into a wholly free one, where it is time for it, so that
-    /// the block is written to again: the blocks. Where it isn't, nothing changes: None. By number
+    /// the block is written to again: the blocks. Where it isn't, no block changes: None. By number
     /// it never is. By erases it is the least worn of them, once for eight erases; it is time at
     /// the latest where the block before the reserve rests, and each that rests has fewer dead
     /// slots than another block has. It comes before a `take_free` or a `tidy`, as `purpose` says,
@@ -151,6 +182,9 @@ pub trait Reclaim: SlotCalls {
         requires settled { IsSettled (Self.state self.old).memory }
         requires room { HasRoom (Self.state self.old).memory }
         requires indexed { Self.indexed self.old ≡ true }
+        requires even { policy self.old ≡ policies.Level
+            → AreWithin 31 (data_blocks (Self.state self.old).memory)
+            (erases_of (counts self.old)) }
         ensures moved { IfOk result (λ copied. (c : CopiedOf) → copied ≡ Some c
             → MovesInto c.source c.target (Self.state self.old).memory
             (Self.state self.new).memory) }
@@ -179,6 +213,77 @@ pub trait Reclaim: SlotCalls {
         ensures counted { IfOk result (λ copied. CountsErase
             (data_blocks (Self.state self.old).memory) copied (erases_of (counts self.old))
             (erases_of (counts self.new))) }
+        ensures even { OnOk result (policy self.old ≡ policies.Level
+            → AreWithin 32 (data_blocks (Self.state self.new).memory)
+            (erases_of (counts self.new))) }
+        ensures ends { EndsSettled result (Self.state self.old) (Self.state self.new) };
+
+    /// The block that was erased least, where another one was erased `limit` times more often: it
+    /// lags behind, and is to be renewed. None where none does, and by number. No two blocks differ
+    /// by more than 32 erases. Nothing is read.
+    fn lagging(&mut self, limit: u16) -> Option<u16>
+        requires indexed { Self.indexed self.old ≡ true }
+        requires limit { 0 < limit }
+        ensures none { policy self.old ≡ policies.Level → result ≡ None
+            → AreWithin (limit - 1) (data_blocks (Self.state self.old).memory)
+            (erases_of (counts self.old)) }
+        ensures even { policy self.old ≡ policies.Level
+            → AreWithin 32 (data_blocks (Self.state self.old).memory)
+            (erases_of (counts self.old)) }
+        ensures least { IfSome result (λ b. IsLeastErased b
+            (data_blocks (Self.state self.old).memory) (erases_of (counts self.old))) }
+        ensures fits { IfSome result (λ b. erases_of (counts self.old) b + limit < 65536) }
+        ensures lags { IfSome result (λ b. AreWithin (limit - 1)
+            (data_blocks (Self.state self.old).memory) (erases_of (counts self.old)) → ⊥) }
+        ensures lowest { policy self.old ≡ policies.Lowest → result ≡ None }
+        ensures state { Self.state self.new ≡ Self.state self.old }
+        ensures indexed { Self.indexed self.new ≡ true }
+        ensures policy { policy self.new ≡ policy self.old }
+        ensures counted { counts self.new ≡ counts self.old };
+
+    /// How often a block was erased since the index was made, at most 65,535. Nothing is read.
+    fn erases(&self, block: u16) -> u16
+        requires number { block < data_blocks (Self.state self.now).memory }
+        ensures { result ≡ erases_of (counts self.now) block };
+
+    /// Erases a block once more, which none was erased less often than. What it holds goes to the
+    /// reserve first: the blocks. A wholly free one is erased as it is: None. Cut, it leaves what
+    /// `take_free` does.
+    fn renew(&mut self, block: u16) -> Result<Option<Copied>, NorError>
+        requires ready { IsNorReady (Self.state self.old) }
+        requires settled { IsSettled (Self.state self.old).memory }
+        requires room { HasRoom (Self.state self.old).memory }
+        requires indexed { Self.indexed self.old ≡ true }
+        requires number { block < data_blocks (Self.state self.old).memory }
+        requires least { (c : ℕ) → c < data_blocks (Self.state self.old).memory
+            → erases_of (counts self.old) block ≤ erases_of (counts self.old) c }
+        ensures ok { IfOk result (λ copied. Renews block copied (Self.state self.old).memory
+            (Self.state self.new).memory) }
+        ensures target { IfOk result (λ copied. (c : CopiedOf) → copied ≡ Some c
+            → c.target ≡ (cursors self.old).reserve) }
+        ensures work { OnOk result (work_of (Self.state self.new).memory
+            ≤ work_of (Self.state self.old).memory) }
+        ensures policy { OnOk result (policy self.new ≡ policy self.old) }
+        ensures cut { IsErrOf result NorError.Cut
+            → Stays (Self.state self.old).memory (Self.state self.new).memory }
+        ensures indexed { OnOk result (Self.indexed self.new ≡ true) }
+        ensures healthy { IsErrOf result NorError.Cut → IsHealthy (Self.state self.new).memory }
+        ensures size { length (Self.state self.new).memory ≡ length (Self.state self.old).memory }
+        ensures counted { OnOk result (IsErasedOnce (data_blocks (Self.state self.old).memory)
+            block (erases_of (counts self.old)) (erases_of (counts self.new))) }
+        ensures ends { EndsSettled result (Self.state self.old) (Self.state self.new) };
+
+    /// What the seven descriptors of a block say, as `head` gives them; the counts stay.
+    fn descriptors(&mut self, block: u16, into: &mut [Header]) -> Result<(), NorError>
+        requires number { block < data_blocks (Self.state self.old).memory }
+        requires room { length into.old ≡ 7 }
+        ensures slots { OnOk result ((i : ℕ) → i < 7 → read_header into.new i
+            ≡ descriptor_in (data_block (Self.state self.old).memory block) i) }
+        ensures size { length into.new ≡ length into.old }
+        ensures same { (Self.state self.new).memory ≡ (Self.state self.old).memory }
+        ensures index { Self.indexed self.new ≡ Self.indexed self.old }
+        ensures policy { policy self.new ≡ policy self.old }
+        ensures counted { counts self.new ≡ counts self.old }
         ensures ends { EndsSettled result (Self.state self.old) (Self.state self.new) };
 
     /// Whether fewer than an eighth of the slots beyond those that the sectors need are free.
@@ -200,6 +305,9 @@ pub trait Reclaim: SlotCalls {
         requires settled { IsSettled (Self.state self.old).memory }
         requires room { HasRoom (Self.state self.old).memory }
         requires indexed { Self.indexed self.old ≡ true }
+        requires even { policy self.old ≡ policies.Level
+            → AreWithin 31 (data_blocks (Self.state self.old).memory)
+            (erases_of (counts self.old)) }
         requires number { block < data_blocks (Self.state self.old).memory }
         requires group { IsLiveGroup block (Self.state self.old).memory }
         ensures ok { IfOk result (λ copied. Converts copied.source copied.target
@@ -219,6 +327,9 @@ pub trait Reclaim: SlotCalls {
             → (cursors self.new).reserve ≡ block) }
         ensures counted { OnOk result (IsErasedOnce (data_blocks (Self.state self.old).memory)
             block (erases_of (counts self.old)) (erases_of (counts self.new))) }
+        ensures even { OnOk result (policy self.old ≡ policies.Level
+            → AreWithin 32 (data_blocks (Self.state self.new).memory)
+            (erases_of (counts self.new))) }
         ensures ends { EndsSettled result (Self.state self.old) (Self.state self.new) };
 
     /// Writes a sector, 512 bytes, into a free slot, as `put` does. Another block than the slot's

@@ -8,9 +8,7 @@ ghost use Rattle.sector_stock.specs.Takes.{is_short};
 ghost use Rattle.sector_stock.specs.declared.index.SlotState.{SlotState as SlotStateOf};
 
 use crate::index::BlockState;
-
-/// The slots of a block.
-const PLACES: u32 = 7;
+use nor_layout::SLOTS;
 
 /// How many slots the blocks have free.
 fn count_free_slots(blocks: &[BlockState]) -> u32
@@ -34,8 +32,9 @@ pub fn is_short(blocks: &[BlockState]) -> bool
         → IsListed slots blocks.now (slot_at m) (kind_at m) (data_blocks m)
         → result ≡ is_short m }
 {
+    let slots = SLOTS as u32;
     let count = blocks.len() as u32;
-    let spare = PLACES * count - PLACES - PLACES * (7 * count / 8);
+    let spare = slots * count - slots - slots * (7 * count / 8);
     let free = count_free_slots(blocks);
-    8 * free.saturating_sub(PLACES) < spare
+    8 * free.saturating_sub(slots) < spare
 }

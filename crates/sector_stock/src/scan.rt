@@ -1,24 +1,24 @@
 //! The index of a memory, from the kinds and descriptors of its blocks.
 
-ghost use Rattle.std.specs.Prelude.{◌≡◌, ◌+◌, ◌*◌, ◌<◌, ◌≤◌, length, ℕ, IfOk, if◌then◌else◌};
+ghost use Rattle.std.specs.Prelude.{◌≡◌, ◌+◌, ◌*◌, ◌<◌, ◌≤◌, length, ℕ, IfOk, OnOk, if◌then◌else◌};
 ghost use Rattle.nor_driver.specs.State.{IsNorReady};
 ghost use Rattle.erase_journal.specs.Steps.{EndsSettled};
 ghost use Rattle.sector_slots.specs.Slots.{slot_count, data_blocks};
 ghost use Rattle.sector_slots.specs.Blocks.{AreSettled};
 ghost use Rattle.sector_stock.specs.Index.{IsAhead, IsHighestWhole, IsWholeBlock, IsIndexOf};
 ghost use Rattle.sector_stock.specs.Index.{BlockNoted, StatesNoted, in_block, header_state};
-ghost use Rattle.sector_stock.specs.Index.{is_plain as is_plain_kind, is_free_state, is_dead_state};
-ghost use Rattle.sector_stock.specs.Index.{states_tally, is_live_group};
+ghost use Rattle.sector_stock.specs.Index.{is_free_state, is_dead_state};
+ghost use Rattle.sector_stock.specs.Index.{states_tally, is_live_group, erases_of};
 
 use crate::index::{BlockState, Cursors, SlotState, highest_whole};
 use crate::least::no_bounds;
-use crate::policy::{Policy, TURN, is_whole};
+use crate::policy::{Policy, TURN, is_whole, most_worn};
 use nor_driver::NorError;
-use nor_layout::{Header, Kind};
+use nor_layout::{Header, Kind, SLOTS};
 use sector_slots::SlotCalls;
 
 /// The slots of a block.
-const PLACES: usize = 7;
+const PLACES: usize = SLOTS as usize;
 
 /// Makes the index of a memory in which no copying goes on: each block is read once. The lists are
 /// those of an index of this chip, whatever they hold. Source: own, layout 2.
@@ -33,6 +33,7 @@ pub fn fill_index<S: SlotCalls>(
     requires settled { IsNorReady (S.state slots.old) → AreSettled (S.state slots.old).memory }
     ensures ok { IfOk result (λ at. IsIndexOf states.new blocks.new at (S.state slots.new).memory) }
     ensures policy { IfOk result (λ at. at.policy ≡ policy) }
+    ensures counted { OnOk result ((c : ℕ) → c < length blocks.new → erases_of blocks.new c ≡ 0) }
     ensures states_size { length states.new ≡ length states.old }
     ensures blocks_size { length blocks.new ≡ length blocks.old }
     ensures same { (S.state slots.new).memory ≡ (S.state slots.old).memory }
@@ -67,7 +68,7 @@ pub(crate) fn note_block(
     blocks[block as usize] = BlockState {
         free,
         dead,
-        plain: is_plain(kind),
+        plain: kind.is_plain(),
         group: is_group(kind),
         erases: 0,
     };
@@ -93,22 +94,6 @@ fn state_in(head: Header) -> SlotState
         Header::Live(_) => SlotState::Live,
         Header::NoGeneration => SlotState::Live,
         Header::Dead => SlotState::Dead,
-    }
-}
-
-/// Whether no copy was ever begun in a block of this kind.
-fn is_plain(kind: Kind) -> bool
-    ensures { result ≡ is_plain_kind kind }
-{
-    match kind {
-        Kind::Plain => true,
-        Kind::Void => false,
-        Kind::Committed(_) => false,
-        Kind::Settled => false,
-        Kind::Group(_) => false,
-        Kind::DeadGroup => false,
-        Kind::SpoiltGroup => false,
-        Kind::Unknown => false,
     }
 }
 
@@ -190,6 +175,8 @@ pub(crate) fn first_cursors(blocks: &[BlockState], policy: Policy) -> Cursors
         behind: 0,
         looked: 0,
         bounds: no_bounds(),
+        least_erases: 0,
+        most_erases: most_worn(blocks),
     }
 }
 

@@ -1,7 +1,8 @@
 //! A free slot is taken from a store and its index; a block is copied where none is free.
 
 ghost use Rattle.std.specs.Prelude.{◌/◌, ◌≤◌, ◌≡◌, ◌≢◌, ◌⊎◌, ◌<◌, ℕ, Some, None, length, OnOk};
-ghost use Rattle.std.specs.Prelude.{IfOk};
+ghost use Rattle.std.specs.Prelude.{IfOk, IsTrue, IsFalse, List};
+ghost use Rattle.sector_stock.specs.declared.index.SlotState.{SlotState as SlotStateOf};
 ghost use Rattle.std.specs.Result.{IsErrOf};
 ghost use Rattle.chip_model.specs.Geometry.{IsChipSize};
 ghost use Rattle.nor_driver.specs.State.{IsNorReady};
@@ -18,7 +19,8 @@ ghost use Rattle.sector_stock.specs.declared.policy.Policy.TheVariants as polici
 ghost use Rattle.sector_stock.specs.Takes.{Takes, CopiesInto, IsLowestFree, HasMostDead, work_of};
 ghost use Rattle.sector_stock.specs.Takes.{HasFewerBelow, Converts, IsLiveGroup, HasNoGroups};
 ghost use Rattle.sector_stock.specs.Takes.{TidiesStock, FillsUp, CopiesLeastWorn, CountsErase};
-ghost use Rattle.sector_stock.specs.Takes.{IsErasedOnce, erases_of};
+ghost use Rattle.sector_stock.specs.Takes.{IsErasedOnce};
+ghost use Rattle.sector_stock.specs.Index.{erases_of, AreWithin, MayWear};
 ghost use Rattle.sector_stock.specs.declared.given.Copied.{Copied as CopiedOf};
 
 use crate::copy::reclaim_into;
@@ -45,6 +47,8 @@ fn copy_most<S: SlotCalls>(
     requires index { IsIndexOf states.old blocks.old at.old (S.state slots.old).memory }
     requires room { HasRoom (S.state slots.old).memory }
     requires most { IsMostDead blocks.old source }
+    requires may { at.old.policy ≡ policies.Level
+        → MayWear source (length blocks.old) (erases_of blocks.old) }
     ensures ok { IfOk result (λ c. CopiesInto c.source c.target (S.state slots.old).memory
         (S.state slots.new).memory) }
     ensures most { IfOk result (λ c. HasMostDead c.source (S.state slots.old).memory) }
@@ -71,6 +75,7 @@ fn copy_most<S: SlotCalls>(
     ensures next { OnOk result (at.old.policy ≡ policies.Level → at.new.reserve ≡ source) }
     ensures newest { OnOk result (at.new.newest ≡ at.old.newest) }
     ensures blocks { OnOk result (BlocksMoved source at.old.reserve blocks.old blocks.new) }
+    ensures fits { OnOk result ((in_block blocks.old source).erases < 65536) }
 {
     let target = at.reserve;
     reclaim_into(slots, source, target)?;
@@ -87,6 +92,15 @@ fn go_on_behind(at: &mut Cursors, block: u16)
     at.clock = block;
 }
 
+/// Where the block that is being filled was copied, its copy is filled up.
+fn fill_copy(at: &mut Cursors, copied: Copied)
+    ensures { at.new ≡ record at.old { newest = at.new.newest } }
+{
+    if at.newest == copied.source {
+        at.newest = copied.target;
+    }
+}
+
 /// Converts a block that is live with a group into slots of the reserve, and brings the index up to
 /// date.
 pub fn convert_block<S: SlotCalls>(
@@ -101,6 +115,8 @@ pub fn convert_block<S: SlotCalls>(
     requires group { IsLiveGroup source (S.state slots.old).memory }
     requires index { IsIndexOf states.old blocks.old at.old (S.state slots.old).memory }
     requires room { HasRoom (S.state slots.old).memory }
+    requires may { at.old.policy ≡ policies.Level
+        → MayWear source (length blocks.old) (erases_of blocks.old) }
     ensures ok { IfOk result (λ c. Converts c.source c.target (S.state slots.old).memory
         (S.state slots.new).memory) }
     ensures source { IfOk result (λ c. c.source ≡ source) }
@@ -145,6 +161,8 @@ pub fn take_slot<S: SlotCalls>(
     requires settled { IsSettled (S.state slots.old).memory }
     requires index { IsIndexOf states.old blocks.old at.old (S.state slots.old).memory }
     requires room { HasRoom (S.state slots.old).memory }
+    requires even { at.old.policy ≡ policies.Level
+        → AreWithin 31 (length blocks.old) (erases_of blocks.old) }
     ensures ok { IfOk result (λ given.
         Takes given.slot given.copied (S.state slots.old).memory (S.state slots.new).memory) }
     ensures lowest { at.old.policy ≡ policies.Lowest
@@ -201,6 +219,8 @@ fn convert_lowest<S: SlotCalls>(
     requires settled { IsSettled (S.state slots.old).memory }
     requires index { IsIndexOf states.old blocks.old at.old (S.state slots.old).memory }
     requires room { HasRoom (S.state slots.old).memory }
+    requires even { at.old.policy ≡ policies.Level
+        → AreWithin 31 (length blocks.old) (erases_of blocks.old) }
     requires none { HasNoneDead (S.state slots.old).memory }
     ensures copied { IfOk result (λ copied. (c : CopiedOf) → copied ≡ Some c
         → TidiesStock c.source c.target (S.state slots.old).memory (S.state slots.new).memory) }
@@ -237,6 +257,27 @@ fn convert_lowest<S: SlotCalls>(
     }
 }
 
+/// Whether `tidy_block` has something to do.
+pub fn has_work(blocks: &[BlockState], at: &mut Cursors) -> bool
+    requires size { length blocks.now ≤ 4096 }
+    requires ahead { IsAhead blocks.now at.old }
+    ensures yes { IsTrue result → (slots : List SlotStateOf) (m : List ℕ)
+        → IsIndexOf slots blocks.now at.old m → 0 < work_of m }
+    ensures no { IsFalse result → (slots : List SlotStateOf) (m : List ℕ)
+        → IsIndexOf slots blocks.now at.old m → HasNoneDead m × HasNoGroups m }
+    ensures ahead { IsAhead blocks.now at.new }
+    ensures reserve { at.new.reserve ≡ at.old.reserve }
+    ensures policy { at.new.policy ≡ at.old.policy }
+{
+    if let Some(_) = most_dead(blocks, at) {
+        return true;
+    }
+    match lowest_group(blocks) {
+        Some(_) => true,
+        None => false,
+    }
+}
+
 /// Copies a block with the most dead slots, where one is dead; else converts the lowest-numbered
 /// block that is live with a group, where one is.
 pub fn tidy_block<S: SlotCalls>(
@@ -250,6 +291,8 @@ pub fn tidy_block<S: SlotCalls>(
     requires settled { IsSettled (S.state slots.old).memory }
     requires index { IsIndexOf states.old blocks.old at.old (S.state slots.old).memory }
     requires room { HasRoom (S.state slots.old).memory }
+    requires even { at.old.policy ≡ policies.Level
+        → AreWithin 31 (length blocks.old) (erases_of blocks.old) }
     ensures copied { IfOk result (λ copied. (c : CopiedOf) → copied ≡ Some c
         → TidiesStock c.source c.target (S.state slots.old).memory (S.state slots.new).memory) }
     ensures fewer { IfOk result (λ copied. (c : CopiedOf) → copied ≡ Some c
@@ -288,6 +331,7 @@ pub fn tidy_block<S: SlotCalls>(
     match most_dead(blocks, at) {
         Some(source) => {
             let copied = copy_most(slots, states, blocks, at, source)?;
+            fill_copy(at, copied);
             Ok(Some(copied))
         }
         None => convert_lowest(slots, states, blocks, at),

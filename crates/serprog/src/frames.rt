@@ -2,7 +2,7 @@
 
 ghost use Rattle.std.specs.Prelude.{◌≡◌, ◌<◌, ◌^◌, ◌++◌, [], ◌∷◌, length, OnOk, None};
 ghost use Rattle.std.specs.Io.KnownBytes.{Appends, Consumes};
-ghost use Rattle.programmer.specs.Exchanges.{Exchange, Exchanged};
+ghost use Rattle.chip_model.specs.Exchanges.{Exchange, Exchanged};
 ghost use Rattle.serprog.specs.Protocol.{acknowledged, spiop, three_bytes};
 
 use crate::error::SerprogError;
@@ -10,7 +10,7 @@ use crate::greeting::greet;
 use crate::identity::Identity;
 use crate::streams::{Dialer, receive};
 use block_device::{Sink, Source, send_both};
-use programmer::{NoAnswer, Programmer};
+use chip_model::{NoAnswer, Programmer};
 
 /// A programmer that speaks serprog.
 #[derive(Drop)]

@@ -1,8 +1,8 @@
 -- The bytes of frames with an address. Source: datasheet of the W25Q128JV, the instruction set
 -- table.
 use Rattle.std.specs.Prelude.{ℕ, ◌/◌, ◌%◌, List, ◌∷◌}
-use Rattle.spi_frames.specs.declared.register.Register.{Register}
-use Rattle.spi_frames.specs.declared.register.Register.TheVariants as registers
+use Rattle.spi_frames.specs.declared.frames.Register.{Register}
+use Rattle.spi_frames.specs.declared.frames.Register.TheVariants as registers
 
 -- a code, an address in three bytes, the most significant first, and what follows
 abbrev pub addressed : ℕ → ℕ → List ℕ → List ℕ

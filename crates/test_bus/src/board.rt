@@ -3,11 +3,11 @@
 ghost use Rattle.std.specs.Prelude.{None};
 
 use block_device::Disk;
+use chip_model::{NoAnswer, Programmer};
+use chip_watch::WatchedBus;
 use flash_disk::{FlashDisk, format};
-use programmer::{NoAnswer, Programmer};
 use std::alloc::Global;
 use std::marker::Brand;
-use watched::WatchedBus;
 
 /// What the board does: these two functions are yours.
 pub trait Board {

@@ -4,7 +4,7 @@ use crate::board::{Board, mount_chip};
 use crate::counted::Counted;
 use block_device::Disk;
 use chip_model::SpiBus;
-use fault_model::SimChip;
+use chip_simulator::SimChip;
 use flash_disk::{FlashDisk, format};
 use std::alloc::Global;
 use std::cell::Cell;

@@ -1,9 +1,10 @@
 //! Chips whose memory is kept in a file: what the file holds, and when.
 
 use chip_model::SpiBus;
-use fault_model::{ImageBus, SimError};
+use chip_simulator::{ImageBus, SimError};
+use norbd_image::{ImageError, hold};
 use std::fs;
-use std::fs::File;
+use std::fs::{File, OpenOptions};
 use std::test::*;
 
 /// A frame whose answer doesn't matter.
@@ -11,12 +12,19 @@ fn send(bus: &mut impl SpiBus, frame: &[u8]) -> bool {
     bus.transact(frame, &mut [0]).is_ok()
 }
 
-/// A bus over a new file of so many bytes 77h.
+/// The chip in a file.
+fn chip_in(rt: HostRuntime, path: &str) -> Result<ImageBus<File>, Fail> {
+    let bytes = hold(&rt, path)?.bytes(rt.alloc())?;
+    let file = OpenOptions::new().read(true).write(true).open(&rt, path)?;
+    Ok(ImageBus::over(bytes, file))
+}
+
+/// The chip in a new file of so many bytes 77h.
 fn image_of(rt: HostRuntime, path: &str, size: usize) -> Result<ImageBus<File>, Fail> {
     let mut bytes = Vec::new(rt.alloc());
     bytes.resize(size, 0x77)?;
     fs::write(&rt, path, bytes.as_slice())?;
-    Ok(ImageBus::open(&rt, path)?)
+    chip_in(rt, path)
 }
 
 #[test]
@@ -103,7 +111,7 @@ fn an_image_is_read(rt: HostRuntime) -> Result<(), Fail> {
     bytes.resize(65_535, 0x77)?;
     bytes.push(0x34)?;
     fs::write(&rt, "read.img", bytes.as_slice())?;
-    let mut bus = ImageBus::open(&rt, "read.img")?;
+    let mut bus = chip_in(rt, "read.img")?;
     let mut ends = [0; 3];
     assert_eq!(rt; bus.transact(&[0x03, 0x00, 0xFF, 0xFE], &mut ends), Ok(()));
     assert_eq!(rt; ends, [0x77, 0x34, 0x12]);
@@ -117,11 +125,12 @@ fn files_that_are_no_image(rt: HostRuntime) -> Result<(), Fail> {
         let mut bytes = Vec::new(rt.alloc());
         bytes.resize(size, 0xFF)?;
         fs::write(&rt, "refused.img", bytes.as_slice())?;
-        let refused = matches!(ImageBus::open(&rt, "refused.img"), Err(SimError::BadSize));
+        let read = hold(&rt, "refused.img")?.bytes(rt.alloc());
+        let refused = matches!(read, Err(SimError::BadSize));
         assert!(rt; refused, "{size} bytes");
     }
     fs::remove_file(&rt, "refused.img")?;
-    let missing = matches!(ImageBus::open(&rt, "missing.img"), Err(SimError::File));
+    let missing = matches!(hold(&rt, "missing.img"), Err(ImageError::File(_)));
     assert!(rt; missing);
     Ok(())
 }

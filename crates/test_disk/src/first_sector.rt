@@ -1,7 +1,7 @@
 //! The first sector of a new disk.
 
 use crate::first_of_new;
-use fault_model::SimChip;
+use chip_simulator::SimChip;
 use std::test::*;
 use test_kit::chips::{count, filled};
 

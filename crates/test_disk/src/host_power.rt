@@ -4,7 +4,7 @@
 use crate::host::{HostDisk, Left, Loss, Watching};
 use crate::writes::put;
 use block_device::Disk;
-use fault_model::SimChip;
+use chip_simulator::SimChip;
 use flash_disk::FlashDisk;
 use norbd_image::{Barrier, ImageFile, WriteOrder, hold};
 use std::alloc::Global;

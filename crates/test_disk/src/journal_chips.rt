@@ -1,7 +1,7 @@
 //! What is called of the journal of a chip, and what is left of its memory.
 
+use chip_simulator::SimChip;
 use erase_journal::{Journal, RecoverError};
-use fault_model::SimChip;
 use nor_driver::{Driver, NorError};
 use std::test::*;
 

@@ -1,11 +1,11 @@
-//! Tests of the chip side that are no cases of `cases`: chips whose memory is a file, a run of
+//! Tests of the chip side that are no cases of `test_cases`: chips whose memory is a file, a run of
 //! erases cut in each change, a long run of the map of sectors with losses, the disk's wear and how
 //! it is levelled, a mount without memory, the files of images, what a loss of the host's power
 //! leaves of them, and a connection's text cut at each place.
 //!
 //! There is no product code here. `first_of_new` formats a chip, mounts it as a sound disk and
 //! reads its first sector, so that the contracts of `format`, `mount` and `read` meet: it is proved
-//! to give zeros. The chips are `fault_model::SimChip`, of 64 KiB, one of
+//! to give zeros. The chips are `chip_simulator::SimChip`, of 64 KiB, one of
 //! them of 1 MiB.
 
 #![tactic(auto)]

@@ -1,6 +1,6 @@
 //! Maps of sectors over simulated chips of 64 KiB, and what they hold.
 
-use fault_model::SimChip;
+use chip_simulator::SimChip;
 use nor_driver::{Driver, NorError};
 use sector_map::{MapError, SectorMap};
 use std::alloc::Global;

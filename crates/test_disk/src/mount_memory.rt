@@ -2,7 +2,7 @@
 
 use crate::writes::put;
 use block_device::Disk;
-use fault_model::SimChip;
+use chip_simulator::SimChip;
 use flash_disk::{FlashDisk, MountError};
 use std::test::*;
 use test_kit::chips::{OnSim, formatted};

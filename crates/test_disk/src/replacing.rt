@@ -220,7 +220,7 @@ where
         fails,
     });
     let noting = Noting { rt, calls: &calls };
-    let done = write_image(&noting, "noted.img", bytes.as_slice(), false);
+    let done = write_image(&noting, "noted.img", bytes.as_slice(), true);
     assert_eq!(rt; calls.lock(rt).made.as_slice(), wanted);
     let left = fs::read(rt, "noted.img")?;
     if fails.is_none() {
@@ -230,6 +230,6 @@ where
         assert_eq!(rt; done, Err(ImageError::File(ErrorKind::StorageFull)));
         assert_eq!(rt; left.as_slice(), b"old".as_slice());
     }
-    assert!(rt; !fs::exists(rt, "noted.img.0.new")?);
+    assert!(rt; !fs::exists(rt, "noted.img.norbd-new")?);
     Ok(fs::remove_file(rt, "noted.img")?)
 }

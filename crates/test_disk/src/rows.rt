@@ -1,7 +1,7 @@
 //! A script, its transcript, and what it leaves of the chip.
 
-use fault_model::SimChip;
-use station::ScriptError;
+use chip_simulator::SimChip;
+use nbd_station::ScriptError;
 use std::alloc::Global;
 use std::process::Abort;
 use std::test::*;

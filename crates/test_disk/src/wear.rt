@@ -3,7 +3,7 @@
 
 use crate::writes::write;
 use block_device::Disk;
-use fault_model::SimChip;
+use chip_simulator::SimChip;
 use std::test::*;
 use test_kit::chips::{OnSim, count, formatted, mounted, set};
 

@@ -2,13 +2,13 @@
 //! refusal changes nothing.
 
 use block_device::Disk;
-use fault_model::SimChip;
+use chip_simulator::SimChip;
 use flash_disk::{FlashDisk, MountError};
+use norbd_survey::Reason;
+use sector_survey::{Verdict, survey_image};
 use std::alloc::Global;
 use std::process::Abort;
 use std::test::*;
-use survey::{Verdict, survey_image};
-use survey_text::Reason;
 use test_kit::Dice;
 use test_kit::chips::{OnSim, formatted};
 

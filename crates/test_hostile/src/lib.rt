@@ -5,7 +5,7 @@
 //! by subject: `tables` is a chip's own table with each byte changed and cut short; `damage` images
 //! with bytes changed, and `looked_at` such images as they are served; `memory` and `rows` calls
 //! that find no memory. A chip whose operation never ends, payloads of up to 4 GiB, and connections
-//! and scripts that end anywhere are cases (crate `cases`).
+//! and scripts that end anywhere are cases (crate `test_cases`).
 //!
 //! Source: own; expected bytes are written out by hand from NBD proto.md, docs/SCRIPT.md,
 //! docs/LAYOUT.md and docs/CHIP.md.

@@ -4,7 +4,7 @@
 
 use crate::damage::{fill, used};
 use block_device::Disk;
-use fault_model::SimChip;
+use chip_simulator::SimChip;
 use flash_disk::{FlashDisk, MountError};
 use norbd_image::mended_image;
 use std::alloc::Global;

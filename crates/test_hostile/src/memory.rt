@@ -1,9 +1,9 @@
 //! Calls that find no memory, and are made again.
 
-use fault_model::SimChip;
+use chip_simulator::SimChip;
 use flash_disk::{FlashDisk, MountError, format};
+use nbd_station::{NewError, Station};
 use norbd_image::{ImageError, formatted_image};
-use station::{NewError, Station};
 use std::test::*;
 use test_kit::chips::{OnSim, formatted, told};
 use test_kit::{bytes_of, spend};

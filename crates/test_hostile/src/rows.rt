@@ -6,9 +6,9 @@ ghost use Rattle.nbd_wire.specs.Commands.{default_export};
 
 use bitflags::Flags;
 use block_device::PlainDisk;
+use nbd_share::{Done, FullRecord, OneServer, Pass, RecordError, Shared};
 use nbd_transmission::judge;
 use nbd_wire::{Command, CommandFlags, CommandKind, Export};
-use share::{Done, FullRecord, OneServer, Pass, RecordError, Shared};
 use std::alloc::Global;
 use std::marker::Brand;
 use std::process::Abort;

@@ -3,9 +3,9 @@
 ghost use Rattle.std.specs.Prelude.{◌≡◌, ◌<◌};
 
 use block_device::{FixedIn, FixedOut};
-use fault_model::SimChip;
+use chip_simulator::SimChip;
 use flash_disk::{FlashDisk, format};
-use station::{ScriptError, Station};
+use nbd_station::{ScriptError, Station};
 use std::alloc::Global;
 use std::marker::Brand;
 use std::sync::ledger::{Blank, Ledger};

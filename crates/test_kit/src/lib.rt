@@ -23,4 +23,4 @@ pub use records::{push_record, record_head};
 pub use scarcity::spend;
 pub use spelling::{SpellingError, bytes_of};
 pub use talk::{FLAGS, GO, GO_REPLY, GREETING, MASKS};
-pub use worn::{Wear, Workload, WornChip};
+pub use worn::{Wear, Workload, WornChip, full_of_groups};

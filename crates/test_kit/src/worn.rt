@@ -2,7 +2,7 @@
 
 use crate::dice::Dice;
 use chip_model::{PowerLost, SpiBus};
-use fault_model::SimChip;
+use chip_simulator::SimChip;
 use std::alloc::{AllocError, Global};
 use std::cell::Cell;
 
@@ -51,6 +51,15 @@ impl Wear {
         most
     }
 
+    /// The erases of the least worn block from one up to another.
+    pub fn least(&self, from: usize, to: usize) -> u32 {
+        let mut least = u32::MAX;
+        for block in from..to {
+            least = least.min(self.erases_of(block));
+        }
+        least
+    }
+
     /// The erases of the three journals together.
     pub fn of_journals(&self) -> u32 {
         let mut sum = 0u32;
@@ -96,8 +105,8 @@ pub struct WornChip<'w> {
 }
 
 impl SpiBus for WornChip<'_> {
-    ghost use Rattle.fault_model.specs.Sim.{chip_of, cuts_of, slows_of};
-    ghost use Rattle.fault_model.specs.Lawful.{lawful_chip};
+    ghost use Rattle.chip_simulator.specs.Sim.{chip_of, cuts_of, slows_of};
+    ghost use Rattle.chip_simulator.specs.Lawful.{lawful_chip};
 
     ghost chip = { λ w. chip_of w.chip };
 
@@ -119,6 +128,38 @@ impl SpiBus for WornChip<'_> {
     fn arm(&mut self, count: u32, kind: u8, mask: u8) {
         self.chip.arm(count, kind, mask);
     }
+}
+
+/// Puts bytes at a place of a memory, as far as it goes.
+fn put(memory: &mut [u8], at: usize, bytes: &[u8]) {
+    for k in 0..bytes.len() {
+        if let Some(byte) = memory.get_mut(at.saturating_add(k)) {
+            *byte = bytes[k];
+        }
+    }
+}
+
+/// A chip of layout 1 of so many blocks of 4 KiB, of which each group is live in a block of its
+/// own; each byte of a sector is FFh.
+pub fn full_of_groups(alloc: Global, blocks: u16) -> Result<Vec<u8>, AllocError> {
+    let groups = (7 * u32::from(blocks.saturating_sub(4)) / 8) as u16;
+    let mut memory = vec![in alloc; 0xFFu8; 4_096 * blocks as usize]?;
+    let (own, all) = (blocks.to_le_bytes(), groups.to_le_bytes());
+    put(memory.as_mut_slice(), 0, b"NORBLK01");
+    put(
+        memory.as_mut_slice(),
+        8,
+        &[1, own[0], own[1], all[0], all[1], 0xFF, 0x00],
+    );
+    for group in 0..groups {
+        let number = group.to_le_bytes();
+        put(
+            memory.as_mut_slice(),
+            4_096 * (FIRST + group as usize),
+            &[0xFC, 0xFC, number[0], number[1]],
+        );
+    }
+    Ok(memory)
 }
 
 /// Which sectors are written.

@@ -5,11 +5,10 @@ ghost use Rattle.std.specs.Prelude.{◌≡◌, ◌*◌, ◌<◌, length, IsFalse
 ghost use Rattle.nbd_wire.specs.Commands.{default_export};
 
 use block_device::{Disk, DiskError, Failed, FixedIn, FixedOut, PlainDisk, Source};
-use history::Opened;
+use nbd_history::Opened;
+use nbd_share::{Chronicle, FullRecord, Gate, Locked, OneServer, Pass, Point, Row, Server, Shared};
 use nbd_wire::Export;
-use share::{
-    Chronicle, End, FullRecord, Gate, Locked, OneServer, Pass, Point, Row, Server, Shared, exchange,
-};
+use nbd_worker::{End, exchange};
 use std::alloc::Global;
 use std::cell::RefCell;
 use std::marker::Brand;

@@ -5,9 +5,9 @@ ghost use Rattle.nbd_wire.specs.Lent.{lent_len};
 ghost use Rattle.nbd_wire.specs.Commands.{default_export};
 
 use block_device::{Disk, DiskError, Tally};
+use nbd_share::{Done, FullRecord, OneServer, Pass, Shared};
 use nbd_transmission::judge;
 use nbd_wire::{Command, CommandFlags, CommandKind, Export};
-use share::{Done, FullRecord, OneServer, Pass, Shared};
 use std::alloc::Global;
 use std::marker::Brand;
 use std::process::Abort;

@@ -1,7 +1,6 @@
 //! Lines that find no memory: each says so, and has written nothing, or does all of its work.
 ghost use Rattle.std.specs.Prelude.{IfSome};
-ghost use Rattle.norbd_line.specs.Line.{IfChip, IfFormat, IfScript, IfServe, IsChipInRange};
-ghost use Rattle.norbd_line.specs.Line.{IsServeInRange, IsSize};
+ghost use Rattle.norbd_run.specs.Lines.{HasNumbers};
 
 use crate::serving::{Told, free_port, make, text_of};
 use block_device::FixedIn;
@@ -65,10 +64,7 @@ where
     R::File: ImageFile + Send + Sync,
     R::Dir: Send,
     R: 'static,
-    requires size { IfFormat line (λ _ kib. IsSize kib) }
-    requires script_size { IfScript line (λ kib. IsSize kib) }
-    requires serve_numbers { IfServe line (λ s. IsServeInRange s) }
-    requires chip_numbers { IfChip line (λ s. IsChipInRange s) }
+    requires numbers { HasNumbers line }
 {
     let sizes = sizes_of(rt.alloc(), windows)?;
     let mut refused = 0usize;

@@ -37,6 +37,8 @@ fn faults_tell_which_file_and_why(rt: HostRuntime) -> Result<(), Fail> {
         let telling = Telling {
             fault: &fault,
             line: Some(line),
+            reason: None,
+            output: None,
         };
         assert_eq!(rt; format!(in rt.alloc(); "{telling}")?.as_str(), text);
     }

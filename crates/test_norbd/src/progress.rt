@@ -1,13 +1,13 @@
 //! What is shown of how far a transfer is.
 
 use norbd_run::{Meter, Progress, Screen};
+use norbd_transfer::Observer;
 use std::alloc::Global;
 use std::io;
 use std::process::Abort;
 use std::sync::Mutex;
 use std::test::*;
 use std::time::{Clock, Duration};
-use transfer::Observer;
 
 /// A system whose clock gains 400 ms whenever it is asked, and which keeps what is shown.
 #[derive(Drop)]

@@ -6,7 +6,7 @@ use block_device::{Failed, Sink};
 use nbd_wire::MAX_LEN;
 use norbd_image::{ImageFile, formatted_image};
 use norbd_line::{Cause, Fault, Place, SyncPolicy, TidyPolicy};
-use norbd_run::{Asked, run_serve};
+use norbd_run::{Asked, Host, run_serve};
 use norbd_serve::{Log, Notice};
 use std::alloc::{Allocator, Global};
 use std::fs::{Metadata, OpenFile, OpenOptions};
@@ -399,6 +399,10 @@ struct Outcome {
     done: Result<(), Fault>,
 }
 
+/// No socket. The prover wants to see the types of a system's sockets where a `Host` is a known
+/// type.
+type NoSocket = Option<(TcpListener, TcpStream)>;
+
 /// How two clients are served: whether no more are, and when the file is synced.
 #[derive(Clone, Copy)]
 struct Manner {
@@ -415,14 +419,7 @@ const PLAINLY: Manner = Manner {
 /// Serves an image of 64 KiB to two clients, whose replies have to be right.
 fn serve_two<R>(rt: &R, manner: Manner, clients: [Client<'_>; 2]) -> Result<Outcome, Fail>
 where
-    R: Files
-        + AllocGlobal
-        + Threads
-        + Wait
-        + Sync
-        + Clock
-        + Log
-        + Net<Listener = TcpListener, Stream = TcpStream>,
+    R: Host,
     R::File: ImageFile + Send + Sync,
 {
     let port = free_port(rt)?;
@@ -440,6 +437,7 @@ where
         record: false,
         sync: manner.sync,
         tidy: TidyPolicy::Eagerly,
+        told_len: MAX_LEN,
         max_len: MAX_LEN,
         read_only: false,
         verbose: false,
@@ -506,6 +504,7 @@ pub(crate) fn make<H: Files + AllocGlobal>(rt: &H) -> Result<(), Fail> {
 /// commit. The write that fails ends the server.
 #[test]
 fn a_failed_write_of_the_image_ends_the_server(rt: HostRuntime) -> Result<(), Fail> {
+    let _socket: NoSocket = None;
     for good in 0..8u32 {
         make(&rt)?;
         let good_writes = AtomicU32::new(good);
@@ -533,6 +532,7 @@ fn a_failed_write_of_the_image_ends_the_server(rt: HostRuntime) -> Result<(), Fa
 /// before the first and the last program of each slot; the last sync is that of the end.
 #[test]
 fn replies_that_owe_it_wait_for_a_sync(rt: HostRuntime) -> Result<(), Fail> {
+    let _socket: NoSocket = None;
     let clients = [
         Client {
             requests: &[Asks::Write(1), Asks::Flush, Asks::WriteWithFua(2)],
@@ -565,6 +565,7 @@ fn replies_that_owe_it_wait_for_a_sync(rt: HostRuntime) -> Result<(), Fail> {
 /// server ends, also one without end: the second client finds none.
 #[test]
 fn a_sync_that_fails_ends_the_server(rt: HostRuntime) -> Result<(), Fail> {
+    let _socket: NoSocket = None;
     for (ends, good) in [(true, 1), (false, 1), (false, 0)] {
         make(&rt)?;
         let good_writes = AtomicU32::new(100);

@@ -3,7 +3,7 @@
 use crate::clients::Clients;
 use crate::lines::{Answer, Line, Stage};
 use crate::sectors::{SECTORS, Sectors};
-use station::Station;
+use nbd_station::Station;
 use std::alloc::Global;
 use std::test::*;
 use test_kit::chips::{OnSim, told};

@@ -1,8 +1,8 @@
 //! Random scripts, by the driver.
 
 use crate::driver::Driver;
-use fault_model::SimChip;
-use station::Station;
+use chip_simulator::SimChip;
+use nbd_station::Station;
 use std::alloc::Global;
 use std::test::*;
 use test_kit::chips::{OnSim, formatted, set, started, started_level};

@@ -2,15 +2,15 @@
 
 use crate::peer::serve_twice;
 use chip_model::SpiBus;
-use fault_model::SimChip;
+use chip_simulator::SimChip;
+use chip_watch::WatchedBus;
 use serprog::Serprog;
-use serprog_tcp::{TcpDialer, TcpIn, TcpOut};
+use serprog_link::{TcpDialer, TcpIn, TcpOut};
 use std::alloc::Global;
 use std::net::{Ipv4Addr, Net, SocketAddr, TcpListener, TcpStream};
 use std::test::*;
 use std::thread;
 use std::time::{Clock, Duration};
-use watched::WatchedBus;
 
 type Client<'r, 'p> = Serprog<TcpIn, TcpOut, TcpDialer<'r, 'p, HostRuntime>>;
 

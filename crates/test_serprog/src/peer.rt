@@ -1,8 +1,8 @@
 //! A programmer in another thread.
 
-use fault_model::SimChip;
+use chip_simulator::SimChip;
 use serprog_chip::{Room, serve_command};
-use serprog_tcp::split;
+use serprog_link::split_stream;
 use std::alloc::Global;
 use std::io::Write;
 use std::net::{TcpListener, TcpStream};
@@ -27,7 +27,7 @@ pub fn serve_twice(alloc: Global, listener: TcpListener, chip: SimChip, most: [u
 /// Serves so many commands of a connection at most.
 fn serve_some(alloc: Global, stream: TcpStream, chip: &mut SimChip, commands: u32) {
     let _ = stream.set_nodelay(true);
-    let Ok((mut source, mut sink)) = split(stream) else {
+    let Ok((mut source, mut sink)) = split_stream(stream) else {
         return;
     };
     let mut room = Room::new(alloc);

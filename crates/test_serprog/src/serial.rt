@@ -4,12 +4,12 @@ use crate::connection::{erased, program};
 use crate::device::{Device, Devices, PATH};
 use crate::peer::serve_twice;
 use chip_model::SpiBus;
+use chip_watch::WatchedBus;
 use serprog::Serprog;
-use serprog_serial::{SerialDialer, SerialIn, SerialOut};
+use serprog_link::{SerialDialer, SerialIn, SerialOut};
 use std::net::{Ipv4Addr, SocketAddr, TcpListener};
 use std::test::*;
 use std::thread;
-use watched::WatchedBus;
 
 type Client<'d, 'r> = Serprog<
     SerialIn<Device<'r, HostRuntime>>,

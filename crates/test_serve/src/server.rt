@@ -6,16 +6,17 @@ ghost use Rattle.nbd_wire.specs.Commands.{default_export};
 
 use bitflags::Flags;
 use block_device::{Disk, DiskError, FixedIn, FixedOut, Io, PlainDisk};
-use fault_model::SimChip;
+use chip_simulator::SimChip;
 use flash_disk::{FlashDisk, format};
-use history::Opened;
+use nbd_history::Opened;
+use nbd_share::{
+    Chronicle, Done, Door, FullRecord, Gate, Locked, NoRecord, OneServer, Pass, Point, Recorder,
+    Row, Server, Shared, Tidier,
+};
 use nbd_transmission::judge;
 use nbd_wire::{Command, CommandFlags, CommandKind, Export};
+use nbd_worker::{End, keeper, worker};
 use norbd_serve::OpenGate;
-use share::{
-    Chronicle, Done, Door, End, FullRecord, Gate, Locked, NoRecord, OneServer, Pass, Point,
-    Recorder, Row, Server, Shared, Tidier, keeper, worker,
-};
 use std::alloc::Global;
 use std::io;
 use std::io::{Read, Write};

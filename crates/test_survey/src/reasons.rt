@@ -2,10 +2,10 @@
 //! and the line that is printed of each: the rule, the address, the bytes and what is allowed.
 
 use norbd_image::formatted_image;
+use norbd_survey::Reason;
+use sector_survey::{Verdict, survey_image};
 use std::process::Abort;
 use std::test::*;
-use survey::{Verdict, survey_image};
-use survey_text::Reason;
 
 /// Bytes that are written over those of a formatted chip, from a place on.
 type Patch = (usize, &'static [u8]);

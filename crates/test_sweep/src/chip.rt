@@ -4,9 +4,9 @@ ghost use Rattle.std.specs.Prelude.{◌≡◌, ◌<◌};
 
 use crate::failure::Failure;
 use block_device::{FixedIn, FixedOut};
-use fault_model::SimChip;
+use chip_simulator::SimChip;
 use flash_disk::{FlashDisk, format};
-use station::Station;
+use nbd_station::Station;
 use std::alloc::Global;
 use std::marker::Brand;
 use std::sync::ledger::{Blank, Ledger};

@@ -9,8 +9,9 @@
 //!
 //! What a station answers is judged by an array of 70 sectors, `test_judge`, which stands apart
 //! from the product: it knows records, requests, and that a sector of an interrupted WRITE is old
-//! or new. `chip` alone calls the product. That each script is answered so is proved in `station`
-//! and `flash_disk`; the sweep tests the definitions that these proofs rest on. Source: own.
+//! or new. `chip` alone calls the product. That each script is answered so is proved in
+//! `nbd_station` and `flash_disk`; the sweep tests the definitions that these proofs rest on.
+//! Source: own.
 #![tactic(auto)]
 
 mod chip;

@@ -2,7 +2,7 @@
 
 use crate::chip::{Chip, OnSim, started, told};
 use crate::failure::Failure;
-use station::Station;
+use nbd_station::Station;
 use std::alloc::Global;
 use std::io;
 use test_judge::{Event, Judge, Request, SECTORS, Seen, print_script};
@@ -31,7 +31,7 @@ const SCRIPT: [Event; 15] = [
     Event::Ask(0, Request::Write(0, 1, 8), 0),
     Event::Ask(0, Request::Write(0, 1, 9), 0),
     Event::Ask(0, Request::Write(6, 2, 10), 0),
-    Event::Ask(0, Request::Trim(0, 3), 0),
+    Event::Ask(0, Request::Trim(0, 4), 0),
     Event::Tidy,
     READ_ALL,
 ];

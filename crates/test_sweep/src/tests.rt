@@ -30,20 +30,20 @@ fn swept(rt: &impl Abort, alloc: Global, chip: Chip, kind: u8) -> Result<Totals,
     Ok(totals)
 }
 
-/// Of the 359 changes on a formatted chip the first write of each sector makes 4, each later one 5,
-/// the one that copies a block 10 more, the TRIM of three sectors 3, and the tidying of a block of
-/// three live slots 16; on the prepared one two journals are renewed, by 5 changes each; and where
+/// Of the 357 changes on a formatted chip the first write of each sector makes 4, each later one 5,
+/// the one that copies a block 10 more, the TRIM of four sectors 4, and the tidying of a block of
+/// two live slots 13; on the prepared one two journals are renewed, by 5 changes each; and where
 /// wear is levelled, the tidying first moves a block of six live slots whose sectors rest, by 25.
 #[test]
 fn every_change_is_lost(rt: HostRuntime) -> Result<(), Fail> {
     for (chip, first) in [
-        (Chip::Plain, 360u32),
-        (Chip::Prepared, 370),
-        (Chip::Level, 385),
+        (Chip::Plain, 358u32),
+        (Chip::Prepared, 368),
+        (Chip::Level, 383),
     ] {
         let totals = swept(&rt, rt.alloc(), chip, 1)?;
         assert_eq!(rt; totals.first, first);
-        assert!(rt; totals.seen.lost_restores > 1_000);
+        assert!(rt; totals.seen.lost_restores > 800);
     }
     Ok(())
 }
@@ -52,9 +52,9 @@ fn every_change_is_lost(rt: HostRuntime) -> Result<(), Fail> {
 #[test]
 fn every_frame_is_lost(rt: HostRuntime) -> Result<(), Fail> {
     for (chip, changes) in [
-        (Chip::Plain, 359u32),
-        (Chip::Prepared, 369),
-        (Chip::Level, 384),
+        (Chip::Plain, 357u32),
+        (Chip::Prepared, 367),
+        (Chip::Level, 382),
     ] {
         let totals = swept(&rt, rt.alloc(), chip, 0)?;
         assert!(rt; totals.first > 4 * changes + 70);

@@ -2,9 +2,8 @@
 
 ghost use Rattle.std.specs.Prelude.{None};
 
-use chip_model::SpiBus;
-use fault_model::SimChip;
-use programmer::{NoAnswer, Programmer};
+use chip_model::{NoAnswer, Programmer, SpiBus};
+use chip_simulator::SimChip;
 
 /// What is wrong with a chip.
 #[derive(Clone, Copy, Debug, PartialEq, Eq, Drop)]

@@ -3,15 +3,14 @@
 ghost use Rattle.std.specs.Prelude.{None};
 
 use block_device::Disk;
-use chip_model::SpiBus;
-use fault_model::SimChip;
+use chip_model::{NoAnswer, Programmer, SpiBus};
+use chip_simulator::SimChip;
+use chip_watch::WatchedBus;
 use flash_disk::{FlashDisk, format};
-use programmer::{NoAnswer, Programmer};
 use std::alloc::Global;
 use std::marker::Brand;
 use std::sync::atomic::{AtomicU32, Ordering};
 use std::test::*;
-use watched::WatchedBus;
 
 /// A simulator as a chip outside of the program, whose frames are counted.
 #[derive(Drop)]

@@ -2,12 +2,12 @@
 
 use crate::bench::{Bench, Dice, Flaw};
 use block_device::{Disk, DiskError};
-use fault_model::SimChip;
+use chip_simulator::SimChip;
+use chip_watch::WatchedBus;
 use flash_disk::{FlashDisk, format};
 use std::alloc::Global;
 use std::marker::Brand;
 use std::test::*;
-use watched::WatchedBus;
 
 /// The losses of a run.
 const LOSSES: u32 = 20_000;

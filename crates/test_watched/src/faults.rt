@@ -2,10 +2,10 @@
 
 use crate::bench::{Bench, Flaw};
 use chip_model::SpiBus;
-use fault_model::SimChip;
+use chip_simulator::SimChip;
+use chip_watch::{Departure, Mismatch, OpenError, WatchedBus};
 use sfdp::SfdpError;
 use std::test::*;
-use watched::{Departure, Mismatch, OpenError, WatchedBus};
 
 /// A chip of 64 KiB, erased but for the byte at 3000h.
 fn chip(rt: &HostRuntime, byte: u8) -> Result<SimChip, Fail> {

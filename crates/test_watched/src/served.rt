@@ -8,13 +8,14 @@ ghost use Rattle.nbd_wire.specs.Commands.{default_export};
 use crate::bench::{Bench, Dice, Flaw};
 use crate::cuts::formatted;
 use block_device::Disk;
-use durable::{Durable, Policy};
+use chip_model::{NoAnswer, Programmer};
+use chip_watch::WatchedBus;
 use flash_disk::FlashDisk;
-use history::Opened;
+use nbd_durable::{Durable, Policy};
+use nbd_history::Opened;
+use nbd_share::{Chronicle, Gate, NoRecord, OneServer, Point, Row, Server, Shared};
 use nbd_wire::Export;
 use norbd_serve::{Connections, Listener, Log, OpenGate, ServeFault, Served, listen, serve};
-use programmer::{NoAnswer, Programmer};
-use share::{Chronicle, Gate, NoRecord, OneServer, Point, Row, Server, Shared};
 use std::alloc::Global;
 use std::fs::{Metadata, OpenFile};
 use std::io::{Read, Write};
@@ -27,7 +28,6 @@ use std::test::*;
 use std::thread::Threads;
 use std::time::{Clock, Duration};
 use std::{io, thread};
-use watched::WatchedBus;
 
 /// The losses of a run that end a server.
 const LOSSES: u32 = 100;

@@ -1,5 +1,5 @@
 use Rattle.std.proofs.Common.{◌≡◌, length}
-use Rattle.fault_model.specs.Sim.{chip_of}
+use Rattle.chip_simulator.specs.Sim.{chip_of}
 use Rattle.bench_disk.proofs.measure_below.measured_driver.Given as goal
 
 -- the sizes stay

@@ -1,7 +1,7 @@
 use Rattle.std.proofs.Common.{◌∙◌, ◌+◌, subst}
 use Rattle.sector_slots.specs.Slots.{data_block}
 use Rattle.journal_slots.specs.Clean.{IsCleanBlock}
-use Rattle.journal_slots.proofs.Calls.{repeated-more}
+use Rattle.erase_journal.proofs.Calls.{repeated-more}
 use Rattle.journal_slots.proofs.Cleaning.{clean-next}
 use Rattle.journal_slots.proofs.clean.read_clean.Goals as goal
 

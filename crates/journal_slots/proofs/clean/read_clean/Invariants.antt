@@ -1,7 +1,7 @@
 use Rattle.std.proofs.Common.{◌≡◌, ℕ, ◌<◌}
 use Rattle.sector_slots.specs.Slots.{data_block}
 use Rattle.journal_slots.specs.Clean.{IsCleanBlock}
-use Rattle.journal_slots.proofs.Calls.{Repeated}
+use Rattle.erase_journal.proofs.Calls.{Repeated}
 use Rattle.journal_slots.proofs.clean.read_clean.Given as goal
 
 abbrev pub invariant-loop-block : goal.invariant-loop-block

@@ -4,8 +4,8 @@ use Rattle.sector_slots.specs.Copying.{copied_tag, to_copy, source_slot}
 use Rattle.sector_slots.specs.Steps.{IsErasedSlot, live_copied}
 use Rattle.journal_slots.proofs.slot.copy_from.Goals as goal
 
-pub returns-in_ok-copy_in-in-Some-clause-ok : goal.returns-in_ok-copy_in-in-Some-clause-ok
-returns-in_ok-copy_in-in-Some-clause-ok g c free =
+pub returns-in_ok-write_live_slot-in-Some-clause-ok : goal.returns-in_ok-write_live_slot-in-Some-clause-ok
+returns-in_ok-write_live_slot-in-Some-clause-ok g c free =
     let m = c.args.journal.now.memory in
     let k = c.read_kind.new.journal.memory in
     let n = c.read_slot.new.journal.memory in
@@ -18,5 +18,5 @@ returns-in_ok-copy_in-in-Some-clause-ok g c free =
     let kind : c.in_ok-kind.kind ≡ kind_at m s = c.in_ok-kind.ensures.ok in
     let tag : c.copied_tag.result ≡ copied_tag (kind_at m s) c.in-Some.tag = c.copied_tag.ensures ∙ ap (λ q. copied_tag q c.in-Some.tag) kind in
     let source : source_slot m s i ≡ Live c.copied_tag.result x = ap (λ q. to_copy (kind_at m s) q) was ∙ ap (λ t. Live t x) (sym tag) in
-    live_copied c.copied_tag.result x source (c.in_ok-copy_in-in-Some.ensures.live (subst (λ a. raw_slot a c.args.target i ≡ Free) (sym same) free))
-    (λ fresh. c.in_ok-copy_in-in-Some.ensures.ok (subst (λ a. IsErasedSlot c.args.target i a) (sym same) fresh))
+    live_copied c.copied_tag.result x source (c.in_ok-write_live_slot-in-Some.ensures.live (subst (λ a. raw_slot a c.args.target i ≡ Free) (sym same) free))
+    (λ fresh. c.in_ok-write_live_slot-in-Some.ensures.ok (subst (λ a. IsErasedSlot c.args.target i a) (sym same) fresh))

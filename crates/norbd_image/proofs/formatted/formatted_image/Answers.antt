@@ -2,7 +2,7 @@ use Rattle.std.proofs.Common.{◌≡◌, ◌*◌, ℕ, length, arith, rules, sym
 use Rattle.chip_model.specs.Geometry.{IsChipSize}
 use Rattle.nor_driver.specs.Probe.{told}
 use Rattle.nor_driver.specs.declared.error.ProbeError.{ProbeError}
-use Rattle.fault_model.specs.Sim.{chip_of, cuts_of}
+use Rattle.chip_simulator.specs.Sim.{chip_of, cuts_of}
 use Rattle.flash_disk.specs.Formatted.{AnswersAsTold, FormatFails}
 use Rattle.norbd_image.proofs.Accepted.{refused-of}
 use Rattle.norbd_image.proofs.formatted.formatted_image.Goals as goal

@@ -1,6 +1,6 @@
 use Rattle.std.proofs.Common.{◌≡◌, true, ap}
 use Rattle.chip_model.specs.Chip.{Chip, is_idle}
-use Rattle.fault_model.specs.Sim.{chip_of}
+use Rattle.chip_simulator.specs.Sim.{chip_of}
 use Rattle.norbd_image.proofs.Mending.{fails-on}
 use Rattle.norbd_image.proofs.mended.sectors_in.Goals as goal
 

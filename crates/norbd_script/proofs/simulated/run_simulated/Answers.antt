@@ -1,7 +1,7 @@
 use Rattle.std.proofs.Common.{◌≡◌, ◌*◌, ◌∙◌, ℕ, arith, length, refl, sym, ap, subst}
 use Rattle.chip_model.specs.Chip.{Chip}
 use Rattle.chip_model.specs.Geometry.{IsChipSize, sector_count}
-use Rattle.fault_model.specs.Sim.{chip_of, cuts_of}
+use Rattle.chip_simulator.specs.Sim.{chip_of, cuts_of}
 use Rattle.flash_disk.specs.Contents.{contents_of}
 use Rattle.norbd_script.proofs.Simulating.{fresh-accepted, simulates}
 use Rattle.norbd_script.proofs.simulated.run_simulated.Goals as goal

@@ -1,7 +1,7 @@
 use Rattle.std.proofs.Common.{◌≡◌, ◌≢◌, ◌<◌, ℕ}
 use Rattle.nor_layout.specs.declared.kind.Kind.TheVariants as kinds
 use Rattle.sector_slots.specs.Slots.{kind_at}
-use Rattle.sector_map.proofs.Calls.{Repeated}
+use Rattle.erase_journal.proofs.Calls.{Repeated}
 use Rattle.sector_map.proofs.groups.lowest_dead_group.Given as goal
 
 abbrev pub invariant-loop-block : goal.invariant-loop-block

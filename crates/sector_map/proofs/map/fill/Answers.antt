@@ -11,24 +11,24 @@ use Rattle.sector_map.proofs.map.fill.Goals as goal
 
 pub invariant_of-result : goal.invariant_of-result
 invariant_of-result g c =
-    let items = with_items_is c.args.tables.table c.mount_in.new.table (c.mount_in.ensures.size ∙ c.as_mut_slice.ensures.len) in
-    let now = c.mount_in.new.stock in
+    let items = with_items_is c.args.tables.table c.mount_slots.new.table (c.mount_slots.ensures.size ∙ c.as_mut_slice.ensures.len) in
+    let now = c.mount_slots.new.stock in
     record {
-      counted = c.requires.table ∙ ap (λ n. sector_count n) (sym (c.mount_in.ensures.same_size ∙ ap (λ s. length s.memory) c.new-stock.ensures.same));
+      counted = c.requires.table ∙ ap (λ n. sector_count n) (sym (c.mount_slots.ensures.same_size ∙ ap (λ s. length s.memory) c.new-stock.ensures.same));
       standing = subst (λ z. IsServing z now.slots now.indexed) (sym items)
-          (served-after c.mount_in.new.table c.new-stock.result.slots now.slots now.indexed (c.in-Ok-true.ensures.sound (cc c.in-Ok-true.is)) c.in-Ok-true.ensures.ends
+          (served-after c.mount_slots.new.table c.new-stock.result.slots now.slots now.indexed (c.in-Ok-true.ensures.sound (cc c.in-Ok-true.is)) c.in-Ok-true.ensures.ends
           (subst (λ s. IsNorReady s) (sym c.new-stock.ensures.same) c.requires.ready) (c.in-Ok-true.ensures.indexed (cc c.in-Ok-true.is)));
     }
 
 pub returns-in-Ok-true-clause-ok : goal.returns-in-Ok-true-clause-ok
 returns-in-Ok-true-clause-ok g c =
-    subst (λ z. Filled z (shown_with None c.mount_in.new.stock.slots)) c.new-stock.ensures.same
-    (filled c.mount_in.new.table c.new-stock.result.slots c.mount_in.new.stock.slots (c.in-Ok-true.ensures.sound (cc c.in-Ok-true.is)) c.in-Ok-true.ensures.ends)
+    subst (λ z. Filled z (shown_with None c.mount_slots.new.stock.slots)) c.new-stock.ensures.same
+    (filled c.mount_slots.new.table c.new-stock.result.slots c.mount_slots.new.stock.slots (c.in-Ok-true.ensures.sound (cc c.in-Ok-true.is)) c.in-Ok-true.ensures.ends)
 
 pub returns-in-Err-Cut-clause-fails : goal.returns-in-Err-Cut-clause-fails
 returns-in-Err-Cut-clause-fails g c =
     let healthy = subst (λ s. IsHealthy s.memory) (sym c.new-stock.ensures.same) c.requires.healthy in
     let is = c.in-Err-Cut.is ∙ ap Err c.in-Err-Cut.field-0-is in
     subst (λ z. FillCut z (g.N.Nor.state c.uncover-in-Err-Cut.result)) c.new-stock.ensures.same
-    (fill-cut c.new-stock.result.slots c.mount_in.new.stock.slots (g.N.Nor.state c.uncover-in-Err-Cut.result) (c.mount_in.ensures.cut is healthy) (c.mount_in.ensures.healthy is healthy)
-    (subst (λ e. Refuses e c.new-stock.result.slots c.mount_in.new.stock.slots) c.in-Err-Cut.field-0-is c.in-Err-Cut.ensures.ends) (subst (λ s. IsNorReady s) (sym c.new-stock.ensures.same) c.requires.ready) c.uncover-in-Err-Cut.ensures)
+    (fill-cut c.new-stock.result.slots c.mount_slots.new.stock.slots (g.N.Nor.state c.uncover-in-Err-Cut.result) (c.mount_slots.ensures.cut is healthy) (c.mount_slots.ensures.healthy is healthy)
+    (subst (λ e. Refuses e c.new-stock.result.slots c.mount_slots.new.stock.slots) c.in-Err-Cut.field-0-is c.in-Err-Cut.ensures.ends) (subst (λ s. IsNorReady s) (sym c.new-stock.ensures.same) c.requires.ready) c.uncover-in-Err-Cut.ensures)

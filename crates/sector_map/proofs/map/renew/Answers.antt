@@ -7,16 +7,16 @@ use Rattle.sector_map.proofs.Restoring.{renew-ok, renew-corrupt, renew-fails, re
 use Rattle.sector_map.proofs.map.renew.Goals as goal
 
 pub returns-in-Ok-clause-ok : goal.returns-in-Ok-clause-ok
-returns-in-Ok-clause-ok g c = renew-ok c.mount_in.result c.mount_in.new.table (g.S.SlotCalls.state c.args.stock.now) (g.S.SlotCalls.state c.restore.new.self) (g.S.SlotCalls.state c.mount_in.new.stock) (g.S.SlotCalls.indexed c.mount_in.new.stock) c.in-Ok.ensures.ok c.mount_in.ensures.sound c.mount_in.ensures.indexed
-    (done-of c.mount_in.result (SucceedsSettled (g.S.SlotCalls.state c.restore.new.self) (g.S.SlotCalls.state c.mount_in.new.stock)) (λ e. Refuses e (g.S.SlotCalls.state c.restore.new.self) (g.S.SlotCalls.state c.mount_in.new.stock)) c.mount_in.ensures.ends)
+returns-in-Ok-clause-ok g c = renew-ok c.mount_slots.result c.mount_slots.new.table (g.S.SlotCalls.state c.args.stock.now) (g.S.SlotCalls.state c.restore.new.self) (g.S.SlotCalls.state c.mount_slots.new.stock) (g.S.SlotCalls.indexed c.mount_slots.new.stock) c.in-Ok.ensures.ok c.mount_slots.ensures.sound c.mount_slots.ensures.indexed
+    (done-of c.mount_slots.result (SucceedsSettled (g.S.SlotCalls.state c.restore.new.self) (g.S.SlotCalls.state c.mount_slots.new.stock)) (λ e. Refuses e (g.S.SlotCalls.state c.restore.new.self) (g.S.SlotCalls.state c.mount_slots.new.stock)) c.mount_slots.ensures.ends)
 
 pub returns-in-Ok-clause-corrupt : goal.returns-in-Ok-clause-corrupt
-returns-in-Ok-clause-corrupt g c = renew-corrupt c.mount_in.result (g.S.SlotCalls.state c.args.stock.now) (g.S.SlotCalls.state c.restore.new.self) (g.S.SlotCalls.state c.mount_in.new.stock) c.in-Ok.ensures.ok c.mount_in.ensures.corrupt
-    (done-of c.mount_in.result (SucceedsSettled (g.S.SlotCalls.state c.restore.new.self) (g.S.SlotCalls.state c.mount_in.new.stock)) (λ e. Refuses e (g.S.SlotCalls.state c.restore.new.self) (g.S.SlotCalls.state c.mount_in.new.stock)) c.mount_in.ensures.ends)
+returns-in-Ok-clause-corrupt g c = renew-corrupt c.mount_slots.result (g.S.SlotCalls.state c.args.stock.now) (g.S.SlotCalls.state c.restore.new.self) (g.S.SlotCalls.state c.mount_slots.new.stock) c.in-Ok.ensures.ok c.mount_slots.ensures.corrupt
+    (done-of c.mount_slots.result (SucceedsSettled (g.S.SlotCalls.state c.restore.new.self) (g.S.SlotCalls.state c.mount_slots.new.stock)) (λ e. Refuses e (g.S.SlotCalls.state c.restore.new.self) (g.S.SlotCalls.state c.mount_slots.new.stock)) c.mount_slots.ensures.ends)
 
 pub returns-in-Ok-clause-fails : goal.returns-in-Ok-clause-fails
-returns-in-Ok-clause-fails g c = renew-fails c.mount_in.result (g.S.SlotCalls.state c.args.stock.now) (g.S.SlotCalls.state c.restore.new.self) (g.S.SlotCalls.state c.mount_in.new.stock) c.in-Ok.ensures.ok c.mount_in.ensures.cut c.mount_in.ensures.healthy c.mount_in.ensures.same_size
-    (fails-of c.mount_in.result (SucceedsSettled (g.S.SlotCalls.state c.restore.new.self) (g.S.SlotCalls.state c.mount_in.new.stock)) (λ e. Refuses e (g.S.SlotCalls.state c.restore.new.self) (g.S.SlotCalls.state c.mount_in.new.stock)) c.mount_in.ensures.ends)
+returns-in-Ok-clause-fails g c = renew-fails c.mount_slots.result (g.S.SlotCalls.state c.args.stock.now) (g.S.SlotCalls.state c.restore.new.self) (g.S.SlotCalls.state c.mount_slots.new.stock) c.in-Ok.ensures.ok c.mount_slots.ensures.cut c.mount_slots.ensures.healthy c.mount_slots.ensures.same_size
+    (fails-of c.mount_slots.result (SucceedsSettled (g.S.SlotCalls.state c.restore.new.self) (g.S.SlotCalls.state c.mount_slots.new.stock)) (λ e. Refuses e (g.S.SlotCalls.state c.restore.new.self) (g.S.SlotCalls.state c.mount_slots.new.stock)) c.mount_slots.ensures.ends)
 
 pub returns-in-Err-Cut-clause-fails : goal.returns-in-Err-Cut-clause-fails
 returns-in-Err-Cut-clause-fails g c = restore-cut (g.S.SlotCalls.state c.args.stock.now) (g.S.SlotCalls.state c.restore.new.self) (subst (λ e. RestoreFails e (g.S.SlotCalls.state c.args.stock.now) (g.S.SlotCalls.state c.restore.new.self)) c.in-Err-Cut.field-0-is c.in-Err-Cut.ensures.fails)

@@ -2,7 +2,7 @@ use Rattle.std.proofs.Common.{◌≡◌, ◌∙◌, ◌+◌, ◌*◌, suc, sym, 
 use Rattle.std.specs.Prelude.{Some, ◌||◌}
 use Rattle.sector_slots.specs.Slots.{slot_at, IsSpareIn}
 use Rattle.sector_map.specs.Table.{IsTabled}
-use Rattle.sector_map.proofs.Calls.{repeated-more}
+use Rattle.erase_journal.proofs.Calls.{repeated-more}
 use Rattle.sector_map.proofs.Founds.{SpareSeen, seen-next}
 use Rattle.sector_map.proofs.scan.read_table.Goals as goal
 

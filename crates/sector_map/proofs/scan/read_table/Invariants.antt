@@ -1,7 +1,7 @@
 use Rattle.std.proofs.Common.{◌≡◌, ◌*◌, length}
 use Rattle.sector_slots.specs.Slots.{slot_at}
 use Rattle.sector_map.specs.Table.{IsTabled}
-use Rattle.sector_map.proofs.Calls.{Repeated}
+use Rattle.erase_journal.proofs.Calls.{Repeated}
 use Rattle.sector_map.proofs.Founds.{SpareSeen}
 use Rattle.sector_map.proofs.scan.read_table.Given as goal
 

@@ -2,7 +2,7 @@ use Rattle.std.proofs.Common.{◌≡◌, ◌∙◌, ◌+◌, ◌<◌, suc, sym, 
 use Rattle.std.specs.Prelude.{Some, None}
 use Rattle.sector_slots.specs.Slots.{data_blocks, kind_at, raw_slot}
 use Rattle.sector_map.specs.Found.{FoundBelow, noted_where}
-use Rattle.sector_map.proofs.Calls.{repeated-more}
+use Rattle.erase_journal.proofs.Calls.{repeated-more}
 use Rattle.sector_map.proofs.Founds.{found-step, where-fault, allowed-noted, alone-more}
 use Rattle.sector_map.proofs.scan.survey.Goals as goal
 

@@ -1,7 +1,7 @@
 use Rattle.std.proofs.Common.{◌≡◌, ◌<◌, ℕ, false}
 use Rattle.sector_slots.specs.Slots.{is_group, data_blocks, kind_at}
 use Rattle.sector_map.specs.Found.{FoundBelow}
-use Rattle.sector_map.proofs.Calls.{Repeated}
+use Rattle.erase_journal.proofs.Calls.{Repeated}
 use Rattle.sector_map.proofs.scan.survey.Given as goal
 
 abbrev pub invariant-loop-block : goal.invariant-loop-block

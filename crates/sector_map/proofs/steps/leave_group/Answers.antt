@@ -1,4 +1,8 @@
-use Rattle.std.proofs.Common.{◌≡◌, sym, subst, ◌∙◌, arith}
+use Rattle.std.proofs.Common.{◌≡◌, ◌-◌, ◌<◌, sym, subst, ap, ◌∙◌, arith}
+use Rattle.chip_model.specs.Geometry.{block_count}
+use Rattle.sector_slots.specs.Slots.{data_blocks}
+use Rattle.sector_stock.specs.Index.{AreWithin, erases_of}
+use Rattle.sector_stock.proofs.Even.{even-more}
 use Rattle.std.specs.Prelude.{None, Some, ◌/◌, slice_index_or}
 use Rattle.std.proofs.lemmas.Result.{err_from_is_err_and}
 use Rattle.sector_map.specs.Replace.{HeldBy, IsInSlots}
@@ -63,3 +67,17 @@ returns-clause-own g c =
     let hold = subst (λ o. HeldBy o c.args.sector m.memory) e (table-holder c.args.table.now m.memory c.args.sector c.requires.served.tabled c.requires.number) in
     subst (λ z. IsInSlots c.args.sector z) (sym c.follow_copied.ensures.same)
     (own-converted c.in_ok-copied.copied c.args.sector c.in-Some.held m.memory (g.S.SlotCalls.state c.convert.new.self).memory (served-converts c.in_ok-copied.copied (g.S.SlotCalls.state c.args.stock.now) (g.S.SlotCalls.indexed c.args.stock.now) (g.S.SlotCalls.state c.convert.new.self).memory c.args.table.now c.requires.served c.in_ok-copied.ensures.ok) (single-tabled c.args.table.now m.memory c.requires.served.tabled) hold c.in_ok-copied.ensures.source)
+
+pub returns-clause-even : goal.returns-clause-even
+returns-clause-even g c by =
+    let m = (g.S.SlotCalls.state c.args.stock.now).memory in
+    let m1 = (g.S.SlotCalls.state c.follow_copied.new.slots).memory in
+    let n : data_blocks m1 ≡ data_blocks m = ap (λ a. data_blocks a) c.follow_copied.ensures.same ∙ ap (λ k. block_count k - 4) c.in_ok-copied.ensures.size in
+    let e : holder (slice_index_or c.args.table.now c.args.sector Absent) ≡ Some c.in-Some.held = cc (c.holder.ensures, c.in-Some.is) in
+    let hold = subst (λ o. HeldBy o c.args.sector m) e (table-holder c.args.table.now m c.args.sector c.requires.served.tabled c.requires.number) in
+    let low = hold.1.number in
+    let inside : c.in-Some.held.slot / 7 < data_blocks m = omega (arith, low) in
+    let old = c.requires.even (sym (c.follow_copied.ensures.policy ∙ c.in_ok-copied.ensures.policy) ∙ by) in
+    subst (λ k. AreWithin 31 k (erases_of (g.S.Reclaim.counts c.follow_copied.new.slots))) (sym n)
+    (subst (λ b. AreWithin 31 (data_blocks m) (erases_of b)) (sym c.follow_copied.ensures.counted)
+    (even-more 30 (c.in-Some.held.slot / 7) (data_blocks m) (erases_of (g.S.Reclaim.counts c.args.stock.now)) (erases_of (g.S.Reclaim.counts c.convert.new.self)) inside old c.in_ok-copied.ensures.counted))

@@ -3,21 +3,21 @@ use Rattle.sector_map.specs.Maps.{KeptServing}
 use Rattle.sector_map.proofs.MapCalls.{kept-after, keeps-after, after-ok}
 use Rattle.sector_map.proofs.steps.make_way.Goals as goal
 
-pub returns-in_err-level_in-clause-cut : goal.returns-in_err-level_in-clause-cut
-returns-in_err-level_in-clause-cut g c is =
+pub returns-in_err-level_all-clause-cut : goal.returns-in_err-level_all-clause-cut
+returns-in_err-level_all-clause-cut g c is =
     let p = err_from_is_err_and c.from_residual.result c.from_residual.ensures.1 in
-    c.in_err-level_in.ensures.cut (cc (p.1, p.2))
+    c.in_err-level_all.ensures.cut (cc (p.1, p.2))
 
 pub returns-clause-ok : goal.returns-clause-ok
 returns-clause-ok g c =
     let a = g.S.SlotCalls.state c.args.stock.now in
-    let b = g.S.SlotCalls.state c.level_in.new.stock in
+    let b = g.S.SlotCalls.state c.level_all.new.stock in
     let d = g.S.SlotCalls.state c.leave_group.new.stock in
-    let i = g.S.SlotCalls.indexed c.level_in.new.stock in
+    let i = g.S.SlotCalls.indexed c.level_all.new.stock in
     let j = g.S.SlotCalls.indexed c.leave_group.new.stock in
     after-ok c.leave_group.result (KeptServing c.leave_group.new.table b d j) (KeptServing c.leave_group.new.table a d j)
-    (λ w. kept-after c.leave_group.new.table c.level_in.new.table a b d i j c.in_ok-level_in.ensures.ok w) c.leave_group.ensures.ok
+    (λ w. kept-after c.leave_group.new.table c.level_all.new.table a b d i j c.in_ok-level_all.ensures.ok w) c.leave_group.ensures.ok
 
 pub returns-clause-cut : goal.returns-clause-cut
 returns-clause-cut g c is =
-    keeps-after (g.S.SlotCalls.state c.args.stock.now).memory (g.S.SlotCalls.state c.level_in.new.stock).memory (g.S.SlotCalls.state c.leave_group.new.stock).memory c.in_ok-level_in.ensures.ok.keeps (c.leave_group.ensures.cut is)
+    keeps-after (g.S.SlotCalls.state c.args.stock.now).memory (g.S.SlotCalls.state c.level_all.new.stock).memory (g.S.SlotCalls.state c.leave_group.new.stock).memory c.in_ok-level_all.ensures.ok.keeps (c.leave_group.ensures.cut is)

@@ -2,7 +2,7 @@ use Rattle.std.proofs.Common.{◌∙◌, ap, sym, subst, arith}
 use Rattle.sector_stock.specs.Index.{IsIndexOf}
 use Rattle.sector_slots.specs.Slots.{data_blocks, descriptor_in, data_block, kind_at}
 use Rattle.erase_journal.proofs.SettledLaws.{settled-after}
-use Rattle.sector_stock.proofs.Filling.{noted-next, listed-noted, numbers-listed, spare-listed, index-filled}
+use Rattle.sector_stock.proofs.Filling.{noted-next, listed-noted, numbers-listed, spare-listed, even-noted, index-filled}
 use Rattle.sector_stock.proofs.scan.fill_index.Goals as goal
 
 pub loop-block-preserved : goal.loop-block-preserved
@@ -52,4 +52,12 @@ returns-clause-ok g c =
     let listed = listed-noted m c.loop-block.states c.loop-block.blocks settled (c.loop-block.invariant.states_size ∙ c.requires.states_size) (c.loop-block.invariant.blocks_size ∙ c.requires.blocks_size)
     (λ d low. c.loop-block.invariant.noted d (omega (arith, low, count, all))) in
     subst (λ a. IsIndexOf c.loop-block.states c.loop-block.blocks c.first_cursors.result a) (sym c.loop-block.invariant.same)
-    (index-filled m c.loop-block.states c.loop-block.blocks c.first_cursors.result settled listed c.first_cursors.ensures.ahead c.first_cursors.ensures.reserve)
+    (index-filled m c.loop-block.states c.loop-block.blocks c.first_cursors.result settled listed c.first_cursors.ensures.ahead c.first_cursors.ensures.reserve
+    (even-noted m c.loop-block.states c.loop-block.blocks (c.loop-block.invariant.blocks_size ∙ c.requires.blocks_size) (λ d low. c.loop-block.invariant.noted d (omega (arith, low, count, all)))))
+
+pub returns-clause-counted : goal.returns-clause-counted
+returns-clause-counted g c d low =
+    let count = c.blocks-count.ensures.count in
+    let all = c.loop-block-test.false in
+    let n = c.loop-block.invariant.blocks_size ∙ c.requires.blocks_size in
+    ap (λ b. b.erases) (c.loop-block.invariant.noted d (omega (arith, low, n, count, all))).block

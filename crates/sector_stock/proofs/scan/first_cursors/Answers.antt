@@ -15,5 +15,6 @@ returns-clause-ahead c = record {
   most = λ d low. c.requires.numbers d low;
   from = λ d low h. absurd (omega arith);
   high = omega arith;
+  worn = λ d low. (omega arith, c.most_worn.ensures.all d low);
   bounds = λ wanted d low counts. (let p = c.no_bounds.ensures (64 * bound_row wanted + d / 64) in omega (arith, p));
 }

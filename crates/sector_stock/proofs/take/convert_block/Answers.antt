@@ -30,10 +30,10 @@ pub returns-clause-index : goal.returns-clause-index
 returns-clause-index g c =
     let done = c.in_ok-reclaim_into.ensures.ok (convertible c.args.source c.args.at.now.reserve (g.S.SlotCalls.state c.args.slots.now).memory c.requires.room c.requires.index.reserve c.requires.source c.requires.group) in
     index-moved c.args.source (g.S.SlotCalls.state c.args.slots.now).memory (g.S.SlotCalls.state c.reclaim_into.new.slots).memory c.args.states.now c.shift_states.new.slots c.args.blocks.now c.move_block.new.blocks c.args.at.now c.move_block.new.at
-    c.requires.room c.requires.source done.slots done.blocks c.requires.index c.shift_states.ensures c.move_block.ensures.moved c.move_block.ensures.ahead c.move_block.ensures.reserve c.move_block.ensures.policy
+    c.requires.room c.requires.source done.slots done.blocks c.requires.index c.shift_states.ensures c.move_block.ensures.moved c.move_block.ensures.ahead c.move_block.ensures.reserve c.move_block.ensures.policy c.move_block.ensures.fits c.requires.may
 
 pub returns-clause-target : goal.returns-clause-target
 returns-clause-target g c by = c.requires.index.highest by
 
 pub returns-clause-counted : goal.returns-clause-counted
-returns-clause-counted g c = counted-moved c.args.source c.args.at.now.reserve (g.S.SlotCalls.state c.args.slots.now).memory c.args.states.now c.args.blocks.now c.move_block.new.blocks c.requires.index.listed c.move_block.ensures.moved
+returns-clause-counted g c = counted-moved c.args.source c.args.at.now.reserve (g.S.SlotCalls.state c.args.slots.now).memory c.args.states.now c.args.blocks.now c.move_block.new.blocks c.requires.index.listed c.move_block.ensures.fits c.move_block.ensures.moved

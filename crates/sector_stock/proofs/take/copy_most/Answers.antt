@@ -65,7 +65,7 @@ returns-clause-index g c =
     let done = c.in_ok-reclaim_into.ensures.ok h in
     turned c.move_block.new.at.turn c.args.source c.move_block.new.at.behind (g.S.SlotCalls.state c.reclaim_into.new.slots).memory c.shift_states.new.slots c.move_block.new.blocks c.move_block.new.at c.go_on_behind.new.at c.go_on_behind.ensures
     (index-moved c.args.source m (g.S.SlotCalls.state c.reclaim_into.new.slots).memory c.args.states.now c.shift_states.new.slots c.args.blocks.now c.move_block.new.blocks c.args.at.now c.move_block.new.at
-    c.requires.room h.source done.slots done.blocks c.requires.index c.shift_states.ensures c.move_block.ensures.moved c.move_block.ensures.ahead c.move_block.ensures.reserve c.move_block.ensures.policy)
+    c.requires.room h.source done.slots done.blocks c.requires.index c.shift_states.ensures c.move_block.ensures.moved c.move_block.ensures.ahead c.move_block.ensures.reserve c.move_block.ensures.policy c.move_block.ensures.fits c.requires.may)
 
 pub returns-clause-free : goal.returns-clause-free
 returns-clause-free g c none =

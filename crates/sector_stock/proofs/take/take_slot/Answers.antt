@@ -1,11 +1,13 @@
-use Rattle.std.proofs.Common.{◌≡◌, refl, ◌∙◌, sym, subst, arith}
+use Rattle.std.proofs.Common.{◌≡◌, refl, ◌∙◌, sym, subst, length, arith}
+use Rattle.sector_stock.proofs.Even.{may-within}
 use Rattle.std.specs.Prelude.{IfSome}
 use Rattle.sector_slots.specs.Blocks.{IsReserveOf}
 use Rattle.sector_stock.proofs.RoomLaws.{never-full}
 use Rattle.sector_stock.specs.Takes.{was_copied, HasFewerBelow}
-use Rattle.sector_stock.proofs.Moved.{none-dead-in}
+use Rattle.sector_stock.proofs.Moved.{none-dead-in, index-dead}
 use Rattle.sector_slots.specs.Slots.{data_blocks}
-use Rattle.sector_stock.specs.Takes.{CopiesLeastWorn, IsErasedOnce, FillsUp, erases_of}
+use Rattle.sector_stock.specs.Takes.{CopiesLeastWorn, IsErasedOnce, FillsUp}
+use Rattle.sector_stock.specs.Index.{erases_of}
 use Rattle.sector_stock.proofs.Worn.{counted-moved, copies-least}
 use Rattle.sector_stock.proofs.take.take_slot.Goals as goal
 
@@ -52,7 +54,7 @@ returns-clause-counted g c =
     let m = (g.S.SlotCalls.state c.args.slots.now).memory in
     let done = c.in_ok-copied.ensures in
     subst (λ k. IsErasedOnce (data_blocks m) k (erases_of c.args.blocks.now) (erases_of c.copy_most.new.blocks)) (sym done.target.0)
-    (counted-moved c.in-Some-most_dead.source c.most_dead.new.at.reserve m c.args.states.now c.args.blocks.now c.copy_most.new.blocks c.requires.index.listed done.blocks)
+    (counted-moved c.in-Some-most_dead.source c.most_dead.new.at.reserve m c.args.states.now c.args.blocks.now c.copy_most.new.blocks c.requires.index.listed done.fits done.blocks)
 
 pub returns-clause-fills : goal.returns-clause-fills
 returns-clause-fills g c by =
@@ -64,3 +66,11 @@ returns-clause-fills g c by =
     subst (λ n. FillsUp n c.free_slot-2.new.at.reserve (erases_of c.copy_most.new.blocks) c.in-Some-free_slot.slot m1) newest
     (subst (λ r. FillsUp c.copy_most.new.at.newest r (erases_of c.copy_most.new.blocks) c.in-Some-free_slot.slot m1) (sym c.in-Some-free_slot.ensures.reserve)
     (c.in-Some-free_slot.ensures.fills (done.policy ∙ (c.most_dead.ensures.policy ∙ first)) m1 done.index))
+
+pub copy_most-requires-clause-may : goal.copy_most-requires-clause-may
+copy_most-requires-clause-may g c by =
+    may-within c.in-Some-most_dead.source (length c.args.blocks.now) (erases_of c.args.blocks.now) c.in-Some-most_dead.ensures.found.0 (c.requires.even (sym (c.most_dead.ensures.policy ∙ c.in_default.ensures.policy) ∙ by))
+
+pub returns-clause-index : goal.returns-clause-index
+returns-clause-index g c =
+    index-dead (g.S.SlotCalls.state c.copy_most.new.slots).memory c.copy_most.new.states c.copy_most.new.blocks c.copy_most.new.at c.free_slot-2.new.at c.in-Some-free_slot.ensures.ahead c.in-Some-free_slot.ensures.reserve c.in-Some-free_slot.ensures.policy c.in_ok-copied.ensures.index

@@ -1,12 +1,14 @@
 use Rattle.std.specs.Prelude.{◌⊎◌, IfSome}
-use Rattle.std.proofs.Common.{◌≡◌, ◌∙◌, None, Some, inl, inr, sym, subst, arith}
+use Rattle.std.proofs.Common.{◌≡◌, ◌∙◌, None, Some, inl, inr, ap, sym, subst, length, arith}
 use Rattle.std.proofs.lemmas.Result.{IfOk-weaker}
-use Rattle.sector_stock.proofs.Moved.{none-dead-in, index-dead}
+use Rattle.sector_stock.proofs.Moved.{none-dead-in, index-dead, filled}
 use Rattle.sector_stock.specs.Room.{HasNoneDead}
 use Rattle.sector_stock.specs.Takes.{HasNoGroups, HasMostDead, HasFewerBelow, TidiesStock}
 use Rattle.sector_stock.specs.declared.given.Copied.{Copied}
 use Rattle.sector_slots.specs.Slots.{data_blocks}
-use Rattle.sector_stock.specs.Takes.{CopiesLeastWorn, IsErasedOnce, erases_of}
+use Rattle.sector_stock.specs.Takes.{CopiesLeastWorn, IsErasedOnce}
+use Rattle.sector_stock.specs.Index.{erases_of}
+use Rattle.sector_stock.proofs.Even.{may-within}
 use Rattle.sector_stock.proofs.Worn.{counted-moved, copies-least}
 use Rattle.sector_stock.proofs.take.tidy_block.Goals as goal
 
@@ -60,16 +62,16 @@ returns-in_ok-copied-in-Some-clause-worn g c by d e =
     let n = c.requires.index.listed.block_size in
     let low = c.in-Some.ensures.found.0 in
     let done = c.in_ok-copied-in-Some.ensures in
-    inl (subst (λ k. CopiesLeastWorn (erases_of c.args.blocks.now) c.args.at.now.reserve c.copy_most.new.at.reserve k m) (sym q)
-    (copies-least c.in-Some.source c.args.at.now.reserve c.copy_most.new.at.reserve c.in_ok-copied-in-Some.copied m c.args.states.now c.args.blocks.now c.requires.index.listed (omega (arith, low, n)) (c.in-Some.ensures.level by)
-    done.target.0 (done.target.1 ∙ c.most_dead.ensures.reserve) (done.next (c.most_dead.ensures.policy ∙ by))))
+    inl (subst (λ k. CopiesLeastWorn (erases_of c.args.blocks.now) c.args.at.now.reserve c.fill_copy.new.at.reserve k m) (sym q)
+    (copies-least c.in-Some.source c.args.at.now.reserve c.fill_copy.new.at.reserve c.in_ok-copied-in-Some.copied m c.args.states.now c.args.blocks.now c.requires.index.listed (omega (arith, low, n)) (c.in-Some.ensures.level by)
+    done.target.0 (done.target.1 ∙ c.most_dead.ensures.reserve) (ap (λ a. a.reserve) c.fill_copy.ensures ∙ done.next (c.most_dead.ensures.policy ∙ by))))
 
 pub returns-in_ok-copied-in-Some-clause-counted : goal.returns-in_ok-copied-in-Some-clause-counted
 returns-in_ok-copied-in-Some-clause-counted g c =
     let m = (g.S.SlotCalls.state c.args.slots.now).memory in
     let done = c.in_ok-copied-in-Some.ensures in
     subst (λ k. IsErasedOnce (data_blocks m) k (erases_of c.args.blocks.now) (erases_of c.copy_most.new.blocks)) (sym done.target.0)
-    (counted-moved c.in-Some.source c.most_dead.new.at.reserve m c.args.states.now c.args.blocks.now c.copy_most.new.blocks c.requires.index.listed done.blocks)
+    (counted-moved c.in-Some.source c.most_dead.new.at.reserve m c.args.states.now c.args.blocks.now c.copy_most.new.blocks c.requires.index.listed done.fits done.blocks)
 
 pub returns-in-None-clause-worn : goal.returns-in-None-clause-worn
 returns-in-None-clause-worn g c by =
@@ -84,3 +86,14 @@ pub returns-in-None-clause-reserve : goal.returns-in-None-clause-reserve
 returns-in-None-clause-reserve g c =
     IfOk-weaker c.convert_lowest.result (λ copied. (d : Copied) → copied ≡ Some d → d.target ≡ c.most_dead.new.at.reserve) (λ copied. (d : Copied) → copied ≡ Some d → d.target ≡ c.args.at.now.reserve)
     (λ copied h d e. h d e ∙ c.most_dead.ensures.reserve) c.convert_lowest.ensures.reserve
+
+pub copy_most-requires-clause-may : goal.copy_most-requires-clause-may
+copy_most-requires-clause-may g c by =
+    may-within c.in-Some.source (length c.args.blocks.now) (erases_of c.args.blocks.now) c.in-Some.ensures.found.0 (c.requires.even (sym c.most_dead.ensures.policy ∙ by))
+
+pub convert_lowest-requires-clause-even : goal.convert_lowest-requires-clause-even
+convert_lowest-requires-clause-even g c by = c.requires.even (sym c.most_dead.ensures.policy ∙ by)
+
+pub returns-in_ok-copied-in-Some-clause-index : goal.returns-in_ok-copied-in-Some-clause-index
+returns-in_ok-copied-in-Some-clause-index g c =
+    filled _ (g.S.SlotCalls.state c.copy_most.new.slots).memory c.copy_most.new.states c.copy_most.new.blocks c.copy_most.new.at c.fill_copy.new.at c.fill_copy.ensures c.in_ok-copied-in-Some.ensures.index

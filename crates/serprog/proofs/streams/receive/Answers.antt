@@ -1,4 +1,4 @@
-use Rattle.serprog.proofs.Receiving.{consumes_more, still_within}
+use Rattle.block_device.proofs.Receiving.{consumes_more, still_within}
 use Rattle.serprog.proofs.streams.receive.Goals as goal
 
 pub loop-done-preserved : goal.loop-done-preserved

@@ -13,11 +13,11 @@ returns-in-Ok-clause-ok g c =
     (held-in c.self.inside.table.items c.as_slice.result.now m c.args.sector c.holder_of-holder.result c.as_slice.ensures.value c.holder_of-holder.ensures s.tabled number))
 
 pub returns-in-Err-clause-cut : goal.returns-in-Err-clause-cut
-returns-in-Err-clause-cut g c is = rw (← c.self.view_is) (known-keeps c.self.inside.latched c.self.inside.table.items c.self.inside.stock.slots c.self.inside.stock.indexed c.find_in.new.stock.slots.memory c.in_default.is c.self.invariant.standing c.find_in.ensures.same)
+returns-in-Err-clause-cut g c is = rw (← c.self.view_is) (known-keeps c.self.inside.latched c.self.inside.table.items c.self.inside.stock.slots c.self.inside.stock.indexed c.find_sector.new.stock.slots.memory c.in_default.is c.self.invariant.standing c.find_sector.ensures.same)
 
 pub invariant_of-self-in-Err : goal.invariant_of-self-in-Err
 invariant_of-self-in-Err g c = record {
-  counted = c.self.invariant.counted ∙ ap (λ m. sector_count (length m)) (sym c.find_in.ensures.same);
-  standing = known-latched c.self.inside.latched c.in-Err.error c.self.inside.table.items _ c.self.inside.stock.slots c.find_in.new.stock.slots c.self.inside.stock.indexed c.find_in.new.stock.indexed c.in_default.is c.self.invariant.standing c.in-Err.ensures.ends
-      (λ e. known-same c.self.inside.latched c.self.inside.table.items c.self.inside.stock.slots c.self.inside.stock.indexed c.find_in.new.stock.slots.memory c.in_default.is c.self.invariant.standing c.find_in.ensures.same);
+  counted = c.self.invariant.counted ∙ ap (λ m. sector_count (length m)) (sym c.find_sector.ensures.same);
+  standing = known-latched c.self.inside.latched c.in-Err.error c.self.inside.table.items _ c.self.inside.stock.slots c.find_sector.new.stock.slots c.self.inside.stock.indexed c.find_sector.new.stock.indexed c.in_default.is c.self.invariant.standing c.in-Err.ensures.ends
+      (λ e. known-same c.self.inside.latched c.self.inside.table.items c.self.inside.stock.slots c.self.inside.stock.indexed c.find_sector.new.stock.slots.memory c.in_default.is c.self.invariant.standing c.find_sector.ensures.same);
 }

@@ -6,23 +6,23 @@ use Rattle.sector_map.proofs.Opening.{shown-succeeds}
 use Rattle.sector_map.proofs.map.SectorMap.tidy.Goals as goal
 
 pub returns-in-Ok-clause-ends : goal.returns-in-Ok-clause-ends
-returns-in-Ok-clause-ends g c = rw (← c.self.view_is) (shown-succeeds c.self.inside.latched c.self.inside.stock.slots c.tidy_in.new.stock.slots c.in_default.is c.in-Ok.ensures.ends)
+returns-in-Ok-clause-ends g c = rw (← c.self.view_is) (shown-succeeds c.self.inside.latched c.self.inside.stock.slots c.tidy_levelled.new.stock.slots c.in_default.is c.in-Ok.ensures.ends)
 
 pub returns-in-Ok-clause-ok : goal.returns-in-Ok-clause-ok
 returns-in-Ok-clause-ok g c = rw (← c.self.view_is) (c.in-Ok.ensures.ok.keeps)
 
 pub returns-in-Err-clause-cut : goal.returns-in-Err-clause-cut
-returns-in-Err-clause-cut g c is = rw (← c.self.view_is) (c.tidy_in.ensures.cut (c.in-Err.is ∙ is))
+returns-in-Err-clause-cut g c is = rw (← c.self.view_is) (c.tidy_levelled.ensures.cut (c.in-Err.is ∙ is))
 
 pub invariant_of-self : goal.invariant_of-self
 invariant_of-self g c = record {
-  counted = c.self.invariant.counted ∙ ap (λ n. sector_count n) (sym c.tidy_in.ensures.size);
-  standing = known-after c.self.inside.latched c.self.inside.table.items c.tidy_in.new.table c.self.inside.stock.slots c.tidy_in.new.stock.slots c.self.inside.stock.indexed c.tidy_in.new.stock.indexed _ (with_items_is c.self.inside.table c.tidy_in.new.table (c.tidy_in.ensures.table ∙ c.as_mut_slice.ensures.len)) c.in_default.is c.in-Ok.ensures.ok.served;
+  counted = c.self.invariant.counted ∙ ap (λ n. sector_count n) (sym c.tidy_levelled.ensures.size);
+  standing = known-after c.self.inside.latched c.self.inside.table.items c.tidy_levelled.new.table c.self.inside.stock.slots c.tidy_levelled.new.stock.slots c.self.inside.stock.indexed c.tidy_levelled.new.stock.indexed _ (with_items_is c.self.inside.table c.tidy_levelled.new.table (c.tidy_levelled.ensures.table ∙ c.as_mut_slice.ensures.len)) c.in_default.is c.in-Ok.ensures.ok.served;
 }
 
 pub invariant_of-self-in-Err : goal.invariant_of-self-in-Err
 invariant_of-self-in-Err g c = record {
-  counted = c.self.invariant.counted ∙ ap (λ n. sector_count n) (sym c.tidy_in.ensures.size);
-  standing = known-latched c.self.inside.latched c.in-Err.error c.self.inside.table.items _ c.self.inside.stock.slots c.tidy_in.new.stock.slots c.self.inside.stock.indexed c.tidy_in.new.stock.indexed c.in_default.is c.self.invariant.standing c.in-Err.ensures.ends
-      (λ e. (c.tidy_in.ensures.cut (c.in-Err.is ∙ ap Err e)).store);
+  counted = c.self.invariant.counted ∙ ap (λ n. sector_count n) (sym c.tidy_levelled.ensures.size);
+  standing = known-latched c.self.inside.latched c.in-Err.error c.self.inside.table.items _ c.self.inside.stock.slots c.tidy_levelled.new.stock.slots c.self.inside.stock.indexed c.tidy_levelled.new.stock.indexed c.in_default.is c.self.invariant.standing c.in-Err.ensures.ends
+      (λ e. (c.tidy_levelled.ensures.cut (c.in-Err.is ∙ ap Err e)).store);
 }

@@ -4,7 +4,8 @@ use Rattle.std.specs.Vec.{with_items}
 use Rattle.sector_stock.specs.Index.{IsStocked, IsAhead, in_block}
 use Rattle.sector_stock.proofs.Writing.{dead-room, retire-indexed, stocked-indexed}
 use Rattle.sector_slots.specs.Slots.{data_blocks}
-use Rattle.sector_stock.specs.Takes.{KeepsErases, erases_of}
+use Rattle.sector_stock.specs.Takes.{KeepsErases}
+use Rattle.sector_stock.specs.Index.{erases_of}
 use Rattle.sector_stock.proofs.Worn.{counted-dead}
 use Rattle.sector_map.proofs.stock.StockReclaim.release.Goals as goal
 

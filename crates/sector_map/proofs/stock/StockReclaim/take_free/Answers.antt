@@ -4,7 +4,10 @@ use Rattle.std.specs.Vec.{with_items}
 use Rattle.sector_stock.specs.Index.{IsStocked}
 use Rattle.sector_stock.proofs.Writing.{stocked-indexed}
 use Rattle.sector_slots.specs.Slots.{data_blocks}
-use Rattle.sector_stock.specs.Takes.{CountsErase, erases_of}
+use Rattle.sector_stock.specs.Takes.{CountsErase}
+use Rattle.sector_stock.specs.Index.{erases_of}
+use Rattle.sector_stock.specs.Index.{AreWithin}
+use Rattle.sector_stock.proofs.Even.{index-even}
 use Rattle.sector_map.proofs.stock.StockReclaim.take_free.Goals as goal
 
 pub invariant_of-self-2 : goal.invariant_of-self-2
@@ -29,3 +32,11 @@ returns-clause-counted g c =
     let blocks = with_items_is s.blocks c.take_slot.new.blocks (size ∙ sym s.blocks.ok.0) in
     let counted = rw c.as_mut_slice-2.ensures.value at c.in_ok-given.ensures.counted in
     subst (λ ys. CountsErase (data_blocks s.slots.memory) c.in_ok-given.given.copied (erases_of s.blocks.items) (erases_of ys)) (sym blocks) counted
+
+pub returns-clause-even : goal.returns-clause-even
+returns-clause-even g c by =
+    let s = c.args.self.now in
+    let m1 = c.take_slot.new.slots.memory in
+    let size = rw c.as_mut_slice-2.ensures.value at c.in_ok-given.ensures.blocks_size in
+    let blocks = with_items_is s.blocks c.take_slot.new.blocks (size ∙ sym s.blocks.ok.0) in
+    subst (λ ys. AreWithin 32 (data_blocks m1) (erases_of ys)) (sym blocks) (index-even s.at.policy m1 c.take_slot.new.states c.take_slot.new.blocks c.take_slot.new.at c.in_ok-given.ensures.policy c.in_ok-given.ensures.index by)

@@ -6,7 +6,8 @@ use Rattle.sector_stock.specs.Index.{IsStocked, IsWholeBlock, in_block}
 use Rattle.sector_stock.proofs.Moved.{numbers-in, spare-whole}
 use Rattle.sector_stock.proofs.Writing.{free-some, put-indexed, stocked-indexed}
 use Rattle.sector_slots.specs.Slots.{data_blocks}
-use Rattle.sector_stock.specs.Takes.{KeepsErases, erases_of}
+use Rattle.sector_stock.specs.Takes.{KeepsErases}
+use Rattle.sector_stock.specs.Index.{erases_of}
 use Rattle.sector_stock.proofs.Worn.{counted-live}
 use Rattle.sector_map.proofs.stock.StockReclaim.write.Goals as goal
 
@@ -50,7 +51,7 @@ invariant_of-self-2 g c =
     let marked = rw (c.as_mut_slice.ensures.value, c.as_mut_slice-2.ensures.value) at c.mark_written.ensures.marked in
     let after = c.mark_written.ensures.at in
     let index = put-indexed c.args.slot c.args.tag m m1 s.states.items c.mark_written.new.slots s.blocks.items c.mark_written.new.blocks s.at c.mark_written.new.at (s.stocked.index (c.requires.indexed ready)) c.requires.number free
-    (c.in_ok-put.ensures.live free) c.in_ok-put.ensures.only (c.requires.outside ready) marked after in
+    (c.in_ok-put.ensures.live free) c.in_ok-put.ensures.only (c.requires.outside ready) marked after c.mark_written.ensures.policy in
     let states = with_items_is s.states c.mark_written.new.slots (marked.slot_size ∙ sym s.states.ok.0) in
     let blocks = with_items_is s.blocks c.mark_written.new.blocks (marked.block_size ∙ sym s.blocks.ok.0) in
     record {

@@ -1,0 +1,15 @@
+pub use Rattle.sfdp.specs.Params
+pub use Rattle.chip_model.specs.Chip
+pub use Rattle.chip_model.specs.Frames
+pub use Rattle.chip_model.specs.Cut
+pub use Rattle.chip_model.specs.Geometry
+pub mod Fits
+pub mod Mask
+pub mod Plan
+pub mod Simulated
+pub mod Table
+pub mod Sim
+pub mod TableLaws
+pub mod Lawful
+pub mod Image
+pub mod Span

@@ -1,0 +1,10 @@
+pub use Rattle.chip_model.specs.Exchanges
+pub use Rattle.chip_simulator.specs.Sim
+pub mod Asking
+pub mod Changes
+pub mod Reading
+pub mod Settling
+pub mod Shadow
+pub mod Opening
+pub mod Watched
+pub mod Lawful

@@ -1,0 +1,12 @@
+pub use Rattle.block_device.specs.Contents
+pub use Rattle.block_device.specs.Facts
+pub use Rattle.nbd_wire.specs.Commands
+pub use Rattle.nbd_wire.specs.Lent
+pub use Rattle.nbd_transmission.specs.Apply
+pub mod PassState
+pub mod Recorded
+pub mod History
+pub mod State
+pub mod Doing
+pub mod Promise
+pub mod Locking

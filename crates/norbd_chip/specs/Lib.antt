@@ -1,2 +1,0 @@
-pub mod Chips
-pub mod Halves

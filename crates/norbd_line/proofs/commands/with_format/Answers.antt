@@ -1,0 +1,18 @@
+use Rattle.std.proofs.Common.{rules, ap, ap₂, codes, ◌≡◌, ◌∙◌}
+use Rattle.clap.specs.Words.{App, app_of, new_app, with_rule, with_subcommand}
+use Rattle.norbd_line.specs.CommandLine.{flag_rule, format_app, image_rule, kib_rule}
+use Rattle.norbd_line.proofs.commands.with_format.Goals as goal
+
+pub returns-clause-app : goal.returns-clause-app
+returns-clause-app c =
+    let new : app_of c.after_help.result ≡ new_app (codes "format") = search (rules, c.new.ensures.app, c.about.ensures, c.after_help.ensures) in
+    let one : app_of c.in_ok-arg.field-0 ≡ with_rule (new_app (codes "format")) image_rule =
+    c.in_ok-arg.ensures.shape c.image_arg.ensures.local ∙ ap₂ with_rule new c.image_arg.ensures.rule in
+    let two : app_of c.in_ok-arg-2.field-0 ≡ with_rule (with_rule (new_app (codes "format")) image_rule) kib_rule =
+    c.in_ok-arg-2.ensures.shape c.kib_arg.ensures.local ∙ ap₂ with_rule one c.kib_arg.ensures.rule in
+    let three : app_of c.in_ok-arg-3.field-0 ≡ with_rule (with_rule (with_rule (new_app (codes "format")) image_rule) kib_rule) (flag_rule (codes "force")) =
+    c.in_ok-arg-3.ensures.shape c.force_arg.ensures.local ∙ ap₂ with_rule two c.force_arg.ensures.rule in
+    let format : app_of c.in_ok-format.format ≡ format_app =
+    c.in_ok-format.ensures.shape c.yes_arg.ensures.local ∙ ap₂ with_rule three c.yes_arg.ensures.rule in
+    c.in_ok-subcommand.ensures.shape (search (rules, c.in_ok-format.ensures.globals, c.yes_arg.ensures.local, c.in_ok-arg-3.ensures.globals, c.force_arg.ensures.local, c.in_ok-arg-2.ensures.globals, c.kib_arg.ensures.local, c.in_ok-arg.ensures.globals, c.image_arg.ensures.local, c.after_help.ensures, c.about.ensures, c.new.ensures.local))
+    ∙ ap (λ (a : App). with_subcommand (app_of c.args.norbd) a.top) format

@@ -1,0 +1,30 @@
+use Rattle.std.proofs.Common.{ap, codes, option_map, sym, ◌∙◌}
+use Rattle.clap.specs.Words.{found_of}
+use Rattle.clap.proofs.WalkLemmas.{first_value-rows}
+use Rattle.norbd_line.specs.Line.{sync_of}
+use Rattle.norbd_line.proofs.Flags.{says_always, says_flush, says_never, says_nothing}
+use Rattle.norbd_line.proofs.options.sync_of.Goals as goal
+
+pub returns-in_default : goal.returns-in_default
+returns-in_default c =
+    ap sync_of (sym (first_value-rows (found_of c.args.matches.now) (codes "sync")) ∙ sym c.get_str.ensures ∙ ap (option_map (λ s. s.now)) c.in_default.is)
+
+pub returns-then-eq : goal.returns-then-eq
+returns-then-eq c =
+    let text = sym (first_value-rows (found_of c.args.matches.now) (codes "sync")) ∙ sym c.get_str.ensures ∙ ap (option_map (λ s. s.now)) c.in-Some.is in
+    ap sync_of text ∙ says_flush c.in-Some.word.now (sym c.eq.ensures ∙ c.if-eq.true)
+
+pub returns-then-eq-2 : goal.returns-then-eq-2
+returns-then-eq-2 c =
+    let text = sym (first_value-rows (found_of c.args.matches.now) (codes "sync")) ∙ sym c.get_str.ensures ∙ ap (option_map (λ s. s.now)) c.in-Some.is in
+    ap sync_of text ∙ says_never c.in-Some.word.now (sym c.eq.ensures ∙ c.if-eq.false) (sym c.eq-else-eq.ensures ∙ c.if-eq-2.true)
+
+pub returns-then-eq-3 : goal.returns-then-eq-3
+returns-then-eq-3 c =
+    let text = sym (first_value-rows (found_of c.args.matches.now) (codes "sync")) ∙ sym c.get_str.ensures ∙ ap (option_map (λ s. s.now)) c.in-Some.is in
+    ap sync_of text ∙ says_always c.in-Some.word.now (sym c.eq.ensures ∙ c.if-eq.false) (sym c.eq-else-eq.ensures ∙ c.if-eq-2.false) (sym c.eq-else-eq-2.ensures ∙ c.if-eq-3.true)
+
+pub returns-else-eq-3 : goal.returns-else-eq-3
+returns-else-eq-3 c =
+    let text = sym (first_value-rows (found_of c.args.matches.now) (codes "sync")) ∙ sym c.get_str.ensures ∙ ap (option_map (λ s. s.now)) c.in-Some.is in
+    ap sync_of text ∙ says_nothing c.in-Some.word.now (sym c.eq.ensures ∙ c.if-eq.false) (sym c.eq-else-eq.ensures ∙ c.if-eq-2.false) (sym c.eq-else-eq-2.ensures ∙ c.if-eq-3.false)

@@ -1,7 +1,0 @@
-use Rattle.norbd_run.proofs.Lines.{place-refused}
-use Rattle.norbd_run.proofs.chips.run_serve_chip.Goals as goal
-
-pub returns-in-Err-clause-tells : goal.returns-in-Err-clause-tells
-returns-in-Err-clause-tells g c =
-    place-refused (Unit {0}) c.args.asked.place c.args.asked.conns c.args.asked.record
-    (g.K.Sink.written c.args.writer.now) (g.K.Sink.faults c.args.writer.now) c.in-Err.fault c.in-Err.ensures

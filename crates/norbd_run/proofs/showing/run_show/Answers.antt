@@ -1,5 +1,0 @@
-use Rattle.norbd_run.proofs.Lines.{shown}
-use Rattle.norbd_run.proofs.showing.run_show.Goals as goal
-
-pub returns : goal.returns
-returns g c = shown _ (g.K.Sink.written c.args.writer.now) (g.K.Sink.written c.send_bytes.new.writer) (g.K.Sink.faults c.args.writer.now) (g.K.Sink.faults c.send_bytes.new.writer) c.send_bytes.result c.send_bytes.ensures

@@ -1,0 +1,337 @@
+//! `check`: whether the chip in an image, or behind a programmer, would be served, and if not, why;
+//! and the mending of an image that isn't clean.
+ghost use Rattle.std.specs.Prelude.{◌≡◌, IfErr, IfOk, false, length, string_bytes, true};
+ghost use Rattle.chip_model.specs.Geometry.{IsChipSize};
+ghost use Rattle.norbd_run.specs.Checking.{CheckTells, last_text};
+ghost use Rattle.norbd_run.specs.Listening.{IsRefusal};
+ghost use Rattle.sector_map.specs.Maps.{IsMountable};
+ghost use Rattle.sector_survey.specs.Reports.{IsReportOf};
+
+use crate::chip_disk::bytes_behind;
+use crate::format::told_as;
+use crate::image_disk::{bytes_of, copied_disk, hold_image};
+use crate::read::send_bytes;
+use crate::serve::{tell, told_of_mount};
+use block_device::{Disk, Sink};
+use norbd_image::{Held, ImageFile, mended_image, rewrite_image};
+use norbd_line::{Cause, ChipCause, Fault};
+use norbd_serve::Log;
+use norbd_survey::{Json, Page, Reason, first_dirty, first_dirty_group, with_free_groups_erased};
+use sector_survey::{Report, Unexamined, Verdict, survey_image};
+use serprog_link::ProgrammerPlace;
+use std::alloc::{AllocError, Global};
+use std::net::{Net, TcpStream};
+use std::rt::Files;
+use std::time::Clock;
+
+/// An image that would be served: its sectors, and whether it was mended for that.
+#[derive(Clone, Copy)]
+pub(crate) struct Checked {
+    pub(crate) sectors: u32,
+    pub(crate) mended: bool,
+}
+
+/// What was found of an image: the report as a text, and its end.
+#[derive(Drop)]
+pub(crate) struct Looked {
+    text: String,
+    end: Result<Checked, Fault>,
+}
+
+/// What a check is to do: to mend the image, and to tell it to programs.
+#[derive(Clone, Copy)]
+pub(crate) struct How {
+    pub(crate) mend: bool,
+    pub(crate) json: bool,
+}
+
+/// Says on `writer` whether the image in the file at a path would be served: a report, in JSON
+/// where `json` is set, and where it would be a line with its sectors. The file stays as it is, and
+/// need not be one that this process may write, but that with `mend` an image that isn't clean is
+/// replaced as a whole by a clean one of the same sectors.
+///
+/// `InUse` where another process has the image, `ImageFailed` where it can't be opened, read or
+/// replaced, `BadImageSize`; `NotFormatted` and `Corrupt` where a mount answers so; `NotClean`
+/// where `mend` isn't set; `NoMemory` where there is none for three chips and a disk.
+/// `OutputFailed` where the report or the line could not be written.
+pub fn run_check<R, K>(
+    rt: &R,
+    path: &str,
+    mend: bool,
+    json: bool,
+    writer: &mut K,
+) -> Result<(), Fault>
+where
+    R: Files + AllocGlobal,
+    R::File: ImageFile,
+    K: Sink,
+    ensures { CheckTells mend json (K.written writer.old) (K.faults writer.old) result
+        (K.written writer.new) (K.faults writer.new) }
+{
+    let how = How { mend, json };
+    let looked = check_file(rt, path, how)?;
+    tell_looked(rt.alloc(), looked, how, writer)
+}
+
+/// Writes what was found of an image, and the line about it.
+pub(crate) fn tell_looked<K: Sink>(
+    alloc: Global,
+    looked: Looked,
+    how: How,
+    writer: &mut K,
+) -> Result<(), Fault>
+    requires mends { IfOk looked.end (λ checked. checked.mended ≡ true → how.mend ≡ true) }
+    requires end { IfErr looked.end IsRefusal }
+    ensures { CheckTells how.mend how.json (K.written writer.old) (K.faults writer.old) result
+        (K.written writer.new) (K.faults writer.new) }
+{
+    let Looked { text, end } = looked;
+    if let Err(fault) = send_bytes(writer, text.as_bytes()) {
+        return Err(fault);
+    }
+    match end {
+        Ok(checked) => {
+            let line = text_about(alloc, checked, how.json);
+            tell(writer, line)
+        }
+        Err(fault) => Err(fault),
+    }
+}
+
+/// The line about an image; none for programs.
+fn text_about(alloc: Global, checked: Checked, json: bool) -> Result<String, AllocError>
+    ensures { IfOk result (λ text.
+        string_bytes text ≡ last_text json checked.mended checked.sectors) }
+{
+    if json {
+        return Ok(String::new(alloc));
+    }
+    let sectors = checked.sectors;
+    if checked.mended {
+        format!(in alloc; "mended {sectors} sectors\n")
+    } else {
+        format!(in alloc; "clean {sectors} sectors\n")
+    }
+}
+
+/// Checks the image in a file, which no other process has meanwhile.
+fn check_file<R>(rt: &R, path: &str, how: How) -> Result<Looked, Fault>
+where
+    R: Files + AllocGlobal,
+    R::File: ImageFile,
+    ensures mends { IfOk result (λ looked. IfOk looked.end (λ checked. checked.mended ≡ true
+        → how.mend ≡ true)) }
+    ensures end { IfOk result (λ looked. IfErr looked.end IsRefusal) }
+    ensures refused { IfErr result IsRefusal }
+{
+    let held = hold_image(rt, path, how.mend)?;
+    let bytes = bytes_of(rt, &held)?;
+    let Looked { text, end } = look_over(rt.alloc(), bytes.as_slice(), how)?;
+    match end {
+        Err(Fault::NotClean) if how.mend => Ok(Looked {
+            text,
+            end: Ok(Checked {
+                sectors: mend_file(rt, path, &held)?,
+                mended: true,
+            }),
+        }),
+        end => Ok(Looked { text, end }),
+    }
+}
+
+/// What is found of the bytes of an image, which is told as of one that is mended where it is to
+/// be.
+pub(crate) fn look_over(alloc: Global, image: &[u8], how: How) -> Result<Looked, Fault>
+    requires size { IsChipSize (length image.now) }
+    ensures healthy { IfOk result (λ looked. IfOk looked.end (λ _. IsMountable image.now)) }
+    ensures unmended { IfOk result (λ looked. IfOk looked.end (λ checked.
+        checked.mended ≡ false)) }
+    ensures end { IfOk result (λ looked. IfErr looked.end IsRefusal) }
+    ensures refused { IfErr result IsRefusal }
+{
+    let report = match report_about(alloc, image) {
+        Ok(report) => report,
+        Err(error) => return Err(told_of_unexamined(error)),
+    };
+    let end = end_of(alloc, &report, image);
+    let text = report_text(alloc, &report, image, &end, how)?;
+    Ok(Looked { text, end })
+}
+
+/// What the bytes of an image say: its verdict is a mount's.
+pub(crate) fn report_about(alloc: Global, image: &[u8]) -> Result<Report, Unexamined>
+    requires { IsChipSize (length image.now) }
+    ensures { IfOk result (λ report. IsReportOf report image.now) }
+{
+    survey_image(alloc, image)
+}
+
+/// What want of a report is for the program.
+pub(crate) fn told_of_unexamined(error: Unexamined) -> Fault
+    ensures { IsRefusal result }
+{
+    match error {
+        Unexamined::OutOfMemory => Fault::NoMemory,
+        Unexamined::Cut => Fault::ImageFailed(Cause::Write),
+        Unexamined::Slow => Fault::Slow,
+        Unexamined::Probe(_) => Fault::WrongId,
+    }
+}
+
+/// How a check of an image ends of which this was reported: a mount's refusal by the report, or
+/// what its cleanness says.
+fn end_of(alloc: Global, report: &Report, image: &[u8]) -> Result<Checked, Fault>
+    requires size { IsChipSize (length image.now) }
+    requires report { IsReportOf report.now image.now }
+    ensures healthy { IfOk result (λ _. IsMountable image.now) }
+    ensures unmended { IfOk result (λ checked. checked.mended ≡ false) }
+    ensures refused { IfErr result IsRefusal }
+{
+    match report.verdict {
+        Verdict::NotFormatted => Err(Fault::NotFormatted),
+        Verdict::Corrupt(_) => Err(Fault::Corrupt),
+        Verdict::Mountable(_) => {
+            let Ok(copy) = image.to_vec(alloc) else {
+                return Err(Fault::NoMemory);
+            };
+            Ok(Checked {
+                sectors: sectors_of(alloc, copy)?,
+                mended: false,
+            })
+        }
+    }
+}
+
+/// The sectors of an image that would be served, as a chip in memory shows it.
+fn sectors_of(alloc: Global, image: Vec<u8>) -> Result<u32, Fault>
+    requires { IsChipSize (length image.items) }
+    ensures { IfErr result IsRefusal }
+{
+    let disk = copied_disk(alloc, image)?;
+    Ok(disk.sectors())
+}
+
+/// The report on an image as a text.
+fn report_text(
+    alloc: Global,
+    report: &Report,
+    image: &[u8],
+    end: &Result<Checked, Fault>,
+    how: How,
+) -> Result<String, Fault>
+    ensures { IfErr result IsRefusal }
+{
+    let dirty = match end {
+        Err(Fault::NotClean) => place_of_dirt(report, image),
+        _ => None,
+    };
+    let text = if how.json {
+        let json = Json {
+            report,
+            image,
+            clean: end.is_ok(),
+            dirty,
+            mended: how.mend && matches!(end, Err(Fault::NotClean)),
+        };
+        format!(in alloc; "{json}")
+    } else {
+        plain_text(alloc, report, image, dirty)
+    };
+    match text {
+        Ok(text) => Ok(text),
+        Err(_) => Err(Fault::NoMemory),
+    }
+}
+
+/// The first place at which what reads as free isn't erased, by the layout that the image says.
+fn place_of_dirt(report: &Report, image: &[u8]) -> Option<u32> {
+    let found = first_dirty_group(image);
+    if found.is_some() {
+        return found;
+    }
+    match &report.blocks {
+        Some(blocks) => first_dirty(image, blocks.as_slice()),
+        None => None,
+    }
+}
+
+/// The report for a person.
+fn plain_text(
+    alloc: Global,
+    report: &Report,
+    image: &[u8],
+    dirty: Option<u32>,
+) -> Result<String, AllocError> {
+    match report.verdict {
+        Verdict::NotFormatted => String::from_str(
+            alloc,
+            "not formatted: no name NORBLK01 at 0h with the seal 00 at Eh\n",
+        ),
+        Verdict::Corrupt(finding) => {
+            let reason = Reason { finding, image };
+            format!(in alloc; "corrupt: {reason}\n")
+        }
+        Verdict::Mountable(layout) => {
+            let Some(blocks) = &report.blocks else {
+                return Ok(String::new(alloc));
+            };
+            let page = Page {
+                layout,
+                bytes: image.len(),
+                counts: &report.counts,
+                blocks: blocks.as_slice(),
+            };
+            match dirty {
+                Some(at) => format!(in alloc;
+                    "{page}not clean: {at:X}h reads as free and isn't FF\n"
+                ),
+                None => format!(in alloc; "{page}"),
+            }
+        }
+    }
+}
+
+/// Mends the image in a file that is held, and tells its sectors.
+fn mend_file<R>(rt: &R, path: &str, held: &Held<R::File>) -> Result<u32, Fault>
+where
+    R: Files + AllocGlobal,
+    R::File: ImageFile,
+    ensures { IfErr result IsRefusal }
+{
+    let bytes = with_free_groups_erased(bytes_of(rt, held)?);
+    let mended = match mended_image(rt.alloc(), bytes) {
+        Ok(mended) => mended,
+        Err(error) => return Err(told_of_mount(error)),
+    };
+    if let Err(error) = rewrite_image(rt, path, held, mended.as_slice()) {
+        return Err(told_as(error));
+    }
+    sectors_of(rt.alloc(), mended)
+}
+
+/// Says on `writer` whether the chip behind the programmer at a place would be served, as
+/// `run_check` does of an image: nothing of it is changed.
+///
+/// `ImageFailed` with `Unable` where `mend` is set, or with another `ChipCause` where the
+/// programmer can't be used or the chip isn't watched; else as `run_check`.
+pub fn run_check_chip<R, K>(
+    rt: &R,
+    place: ProgrammerPlace<'_>,
+    mend: bool,
+    json: bool,
+    writer: &mut K,
+) -> Result<(), Fault>
+where
+    R: Files + AllocGlobal + Clock + Log + Net<Stream = TcpStream>,
+    K: Sink,
+    ensures { CheckTells mend json (K.written writer.old) (K.faults writer.old) result
+        (K.written writer.new) (K.faults writer.new) }
+{
+    if mend {
+        return Err(Fault::ImageFailed(Cause::Chip(ChipCause::Unable)));
+    }
+    let bytes = bytes_behind(rt, place)?;
+    let how = How { mend, json };
+    let looked = look_over(rt.alloc(), bytes.as_slice(), how)?;
+    tell_looked(rt.alloc(), looked, how, writer)
+}

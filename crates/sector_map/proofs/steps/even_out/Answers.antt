@@ -1,0 +1,26 @@
+use Rattle.std.proofs.Common.{subst}
+use Rattle.std.proofs.lemmas.Result.{err_from_is_err_and}
+use Rattle.sector_map.specs.Maps.{KeepsMap, KeptServing}
+use Rattle.sector_map.proofs.MapCalls.{kept-after, keeps-after, after-ok}
+use Rattle.sector_map.proofs.steps.even_out.Goals as goal
+
+pub returns-in_err-renew_now-clause-cut : goal.returns-in_err-renew_now-clause-cut
+returns-in_err-renew_now-clause-cut g c is =
+    let p = err_from_is_err_and c.from_residual.result c.from_residual.ensures.1 in
+    subst (λ z. KeepsMap z.memory (g.S.SlotCalls.state c.renew_now.new.stock).memory) c.lagging.ensures.state (c.in_err-renew_now.ensures.cut (cc (p.1, p.2)))
+
+pub returns-clause-ok : goal.returns-clause-ok
+returns-clause-ok g c =
+    let a = g.S.SlotCalls.state c.args.stock.now in
+    let b = g.S.SlotCalls.state c.renew_now.new.stock in
+    let d = g.S.SlotCalls.state c.renew_soon.new.stock in
+    let i = g.S.SlotCalls.indexed c.renew_now.new.stock in
+    let j = g.S.SlotCalls.indexed c.renew_soon.new.stock in
+    let kept = subst (λ z. KeptServing c.renew_now.new.table z b i) c.lagging.ensures.state c.in_ok-renew_now.ensures.ok in
+    after-ok c.renew_soon.result (KeptServing c.renew_soon.new.table b d j) (KeptServing c.renew_soon.new.table a d j)
+    (λ w. kept-after c.renew_soon.new.table c.renew_now.new.table a b d i j kept w) c.renew_soon.ensures.ok
+
+pub returns-clause-cut : goal.returns-clause-cut
+returns-clause-cut g c is =
+    let first = subst (λ z. KeepsMap z.memory (g.S.SlotCalls.state c.renew_now.new.stock).memory) c.lagging.ensures.state c.in_ok-renew_now.ensures.ok.keeps in
+    keeps-after (g.S.SlotCalls.state c.args.stock.now).memory (g.S.SlotCalls.state c.renew_now.new.stock).memory (g.S.SlotCalls.state c.renew_soon.new.stock).memory first (c.renew_soon.ensures.cut is)

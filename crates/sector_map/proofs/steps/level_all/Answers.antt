@@ -1,0 +1,23 @@
+use Rattle.std.proofs.lemmas.Result.{err_from_is_err_and}
+use Rattle.sector_map.specs.Maps.{KeptServing}
+use Rattle.sector_map.proofs.MapCalls.{kept-after, keeps-after, after-ok}
+use Rattle.sector_map.proofs.steps.level_all.Goals as goal
+
+pub returns-in_err-even_out-clause-cut : goal.returns-in_err-even_out-clause-cut
+returns-in_err-even_out-clause-cut g c is =
+    let p = err_from_is_err_and c.from_residual.result c.from_residual.ensures.1 in
+    c.in_err-even_out.ensures.cut (cc (p.1, p.2))
+
+pub returns-clause-ok : goal.returns-clause-ok
+returns-clause-ok g c =
+    let a = g.S.SlotCalls.state c.args.stock.now in
+    let b = g.S.SlotCalls.state c.even_out.new.stock in
+    let d = g.S.SlotCalls.state c.move_if_due.new.stock in
+    let i = g.S.SlotCalls.indexed c.even_out.new.stock in
+    let j = g.S.SlotCalls.indexed c.move_if_due.new.stock in
+    after-ok c.move_if_due.result (KeptServing c.move_if_due.new.table b d j) (KeptServing c.move_if_due.new.table a d j)
+    (λ w. kept-after c.move_if_due.new.table c.even_out.new.table a b d i j c.in_ok-even_out.ensures.ok w) c.move_if_due.ensures.ok
+
+pub returns-clause-cut : goal.returns-clause-cut
+returns-clause-cut g c is =
+    keeps-after (g.S.SlotCalls.state c.args.stock.now).memory (g.S.SlotCalls.state c.even_out.new.stock).memory (g.S.SlotCalls.state c.move_if_due.new.stock).memory c.in_ok-even_out.ensures.ok.keeps (c.move_if_due.ensures.cut is)

@@ -1,0 +1,34 @@
+use Rattle.std.proofs.Common.{◌∙◌}
+use Rattle.std.proofs.lemmas.Result.{err_from_is_err_and}
+use Rattle.sector_map.proofs.MapCalls.{served-room, stays-keeps, served-steps, served-moves, same-moved-keeps, steps-target, stepped, perhaps-after}
+use Rattle.sector_map.proofs.steps.move_if_due.Goals as goal
+
+pub level-requires-clause-room : goal.level-requires-clause-room
+level-requires-clause-room g c = served-room c.args.table.now (g.S.SlotCalls.state c.args.stock.now) (g.S.SlotCalls.indexed c.args.stock.now) c.requires.served
+
+pub returns-in_err-moved-clause-cut : goal.returns-in_err-moved-clause-cut
+returns-in_err-moved-clause-cut g c is =
+    let p = err_from_is_err_and c.from_residual.result c.from_residual.ensures.1 in
+    let s = c.requires.served in
+    stays-keeps (g.S.SlotCalls.state c.args.stock.now).memory (g.S.SlotCalls.state c.level.new.self).memory (c.in_err-moved.ensures.cut (cc (p.1, p.2))) (c.in_err-moved.ensures.healthy (cc (p.1, p.2))) s.store.slots
+
+pub follow_copied-requires-clause-number : goal.follow_copied-requires-clause-number
+follow_copied-requires-clause-number g c = steps-target c.in-Some.moved (g.S.SlotCalls.state c.args.stock.now).memory (g.S.SlotCalls.state c.level.new.self).memory (served-moves c.in-Some.moved (g.S.SlotCalls.state c.args.stock.now) (g.S.SlotCalls.indexed c.args.stock.now) (g.S.SlotCalls.state c.level.new.self).memory c.args.table.now c.requires.served (c.in_ok-moved.ensures.moved c.in-Some.moved c.in-Some.is))
+
+pub follow_copied-requires-clause-sound : goal.follow_copied-requires-clause-sound
+follow_copied-requires-clause-sound g c = (served-steps c.in-Some.moved (g.S.SlotCalls.state c.args.stock.now) (g.S.SlotCalls.indexed c.args.stock.now) (g.S.SlotCalls.state c.level.new.self).memory c.args.table.now c.requires.served (served-moves c.in-Some.moved (g.S.SlotCalls.state c.args.stock.now) (g.S.SlotCalls.indexed c.args.stock.now) (g.S.SlotCalls.state c.level.new.self).memory c.args.table.now c.requires.served (c.in_ok-moved.ensures.moved c.in-Some.moved c.in-Some.is))).sound
+
+pub follow_copied-requires-clause-single : goal.follow_copied-requires-clause-single
+follow_copied-requires-clause-single g c = (served-steps c.in-Some.moved (g.S.SlotCalls.state c.args.stock.now) (g.S.SlotCalls.indexed c.args.stock.now) (g.S.SlotCalls.state c.level.new.self).memory c.args.table.now c.requires.served (served-moves c.in-Some.moved (g.S.SlotCalls.state c.args.stock.now) (g.S.SlotCalls.indexed c.args.stock.now) (g.S.SlotCalls.state c.level.new.self).memory c.args.table.now c.requires.served (c.in_ok-moved.ensures.moved c.in-Some.moved c.in-Some.is))).single
+
+pub follow_copied-requires-clause-blocks : goal.follow_copied-requires-clause-blocks
+follow_copied-requires-clause-blocks g c = (served-steps c.in-Some.moved (g.S.SlotCalls.state c.args.stock.now) (g.S.SlotCalls.indexed c.args.stock.now) (g.S.SlotCalls.state c.level.new.self).memory c.args.table.now c.requires.served (served-moves c.in-Some.moved (g.S.SlotCalls.state c.args.stock.now) (g.S.SlotCalls.indexed c.args.stock.now) (g.S.SlotCalls.state c.level.new.self).memory c.args.table.now c.requires.served (c.in_ok-moved.ensures.moved c.in-Some.moved c.in-Some.is))).blocks
+
+pub returns-in_err-follow_copied-in-Some-clause-cut : goal.returns-in_err-follow_copied-in-Some-clause-cut
+returns-in_err-follow_copied-in-Some-clause-cut g c is =
+    same-moved-keeps (g.S.SlotCalls.state c.args.stock.now) (g.S.SlotCalls.state c.level.new.self).memory (g.S.SlotCalls.state c.follow_copied.new.slots).memory (served-steps c.in-Some.moved (g.S.SlotCalls.state c.args.stock.now) (g.S.SlotCalls.indexed c.args.stock.now) (g.S.SlotCalls.state c.level.new.self).memory c.args.table.now c.requires.served (served-moves c.in-Some.moved (g.S.SlotCalls.state c.args.stock.now) (g.S.SlotCalls.indexed c.args.stock.now) (g.S.SlotCalls.state c.level.new.self).memory c.args.table.now c.requires.served (c.in_ok-moved.ensures.moved c.in-Some.moved c.in-Some.is))) c.follow_copied.ensures.same c.in_ok-moved.ensures.ends.settled c.requires.served.store.slots
+
+pub returns-in_ok-follow_copied-in-Some-clause-ok : goal.returns-in_ok-follow_copied-in-Some-clause-ok
+returns-in_ok-follow_copied-in-Some-clause-ok g c =
+    stepped c.in-Some.moved (g.S.SlotCalls.state c.args.stock.now) (g.S.SlotCalls.state c.level.new.self) (g.S.SlotCalls.state c.follow_copied.new.slots) c.args.table.now c.follow_copied.new.table (g.S.SlotCalls.indexed c.args.stock.now) c.requires.served (served-moves c.in-Some.moved (g.S.SlotCalls.state c.args.stock.now) (g.S.SlotCalls.indexed c.args.stock.now) (g.S.SlotCalls.state c.level.new.self).memory c.args.table.now c.requires.served (c.in_ok-moved.ensures.moved c.in-Some.moved c.in-Some.is)) c.follow_copied.ensures.same c.in_ok-follow_copied-in-Some.ensures.ok
+    (perhaps-after (g.S.SlotCalls.state c.args.stock.now) (g.S.SlotCalls.state c.level.new.self) (g.S.SlotCalls.state c.follow_copied.new.slots) c.in_ok-moved.ensures.ends c.in_ok-follow_copied-in-Some.ensures.done) (g.S.SlotCalls.indexed c.follow_copied.new.slots) (c.follow_copied.ensures.index ∙ c.in_ok-moved.ensures.indexed)

@@ -1,0 +1,54 @@
+use Rattle.std.proofs.Common.{◌∙◌}
+use Rattle.std.proofs.lemmas.Result.{err_from_is_err_and}
+use Rattle.sector_map.proofs.MapCalls.{served-room, stays-keeps, served-steps, same-moved-keeps, steps-target, stepped, perhaps-after}
+use Rattle.sector_map.proofs.Evening.{renews-steps, renews-spare, spare-kept}
+use Rattle.sector_map.proofs.steps.renew_one.Goals as goal
+
+pub renew-requires-clause-room : goal.renew-requires-clause-room
+renew-requires-clause-room g c = served-room c.args.table.now (g.S.SlotCalls.state c.args.stock.now) (g.S.SlotCalls.indexed c.args.stock.now) c.requires.served
+
+pub returns-in_err-copied-clause-cut : goal.returns-in_err-copied-clause-cut
+returns-in_err-copied-clause-cut g c is =
+    let p = err_from_is_err_and c.from_residual.result c.from_residual.ensures.1 in
+    let s = c.requires.served in
+    stays-keeps (g.S.SlotCalls.state c.args.stock.now).memory (g.S.SlotCalls.state c.renew.new.self).memory (c.in_err-copied.ensures.cut (cc (p.1, p.2))) (c.in_err-copied.ensures.healthy (cc (p.1, p.2))) s.store.slots
+
+pub follow_copied-requires-clause-number : goal.follow_copied-requires-clause-number
+follow_copied-requires-clause-number g c =
+    let s = c.requires.served in
+    steps-target c.in-Some.copied (g.S.SlotCalls.state c.args.stock.now).memory (g.S.SlotCalls.state c.renew.new.self).memory (renews-steps c.args.block c.in-Some.copied _ (g.S.SlotCalls.state c.args.stock.now).memory (g.S.SlotCalls.state c.renew.new.self).memory c.in-Some.is c.in_ok-copied.ensures.ok s.blocks s.store.slots)
+
+pub follow_copied-requires-clause-sound : goal.follow_copied-requires-clause-sound
+follow_copied-requires-clause-sound g c =
+    let s = c.requires.served in
+    (served-steps c.in-Some.copied (g.S.SlotCalls.state c.args.stock.now) (g.S.SlotCalls.indexed c.args.stock.now) (g.S.SlotCalls.state c.renew.new.self).memory c.args.table.now s (renews-steps c.args.block c.in-Some.copied _ (g.S.SlotCalls.state c.args.stock.now).memory (g.S.SlotCalls.state c.renew.new.self).memory c.in-Some.is c.in_ok-copied.ensures.ok s.blocks s.store.slots)).sound
+
+pub follow_copied-requires-clause-single : goal.follow_copied-requires-clause-single
+follow_copied-requires-clause-single g c =
+    let s = c.requires.served in
+    (served-steps c.in-Some.copied (g.S.SlotCalls.state c.args.stock.now) (g.S.SlotCalls.indexed c.args.stock.now) (g.S.SlotCalls.state c.renew.new.self).memory c.args.table.now s (renews-steps c.args.block c.in-Some.copied _ (g.S.SlotCalls.state c.args.stock.now).memory (g.S.SlotCalls.state c.renew.new.self).memory c.in-Some.is c.in_ok-copied.ensures.ok s.blocks s.store.slots)).single
+
+pub follow_copied-requires-clause-blocks : goal.follow_copied-requires-clause-blocks
+follow_copied-requires-clause-blocks g c =
+    let s = c.requires.served in
+    (served-steps c.in-Some.copied (g.S.SlotCalls.state c.args.stock.now) (g.S.SlotCalls.indexed c.args.stock.now) (g.S.SlotCalls.state c.renew.new.self).memory c.args.table.now s (renews-steps c.args.block c.in-Some.copied _ (g.S.SlotCalls.state c.args.stock.now).memory (g.S.SlotCalls.state c.renew.new.self).memory c.in-Some.is c.in_ok-copied.ensures.ok s.blocks s.store.slots)).blocks
+
+pub returns-in_err-follow_copied-in-Some-clause-cut : goal.returns-in_err-follow_copied-in-Some-clause-cut
+returns-in_err-follow_copied-in-Some-clause-cut g c is =
+    let s = c.requires.served in
+    same-moved-keeps (g.S.SlotCalls.state c.args.stock.now) (g.S.SlotCalls.state c.renew.new.self).memory (g.S.SlotCalls.state c.follow_copied.new.slots).memory (served-steps c.in-Some.copied (g.S.SlotCalls.state c.args.stock.now) (g.S.SlotCalls.indexed c.args.stock.now) (g.S.SlotCalls.state c.renew.new.self).memory c.args.table.now s (renews-steps c.args.block c.in-Some.copied _ (g.S.SlotCalls.state c.args.stock.now).memory (g.S.SlotCalls.state c.renew.new.self).memory c.in-Some.is c.in_ok-copied.ensures.ok s.blocks s.store.slots)) c.follow_copied.ensures.same c.in_ok-copied.ensures.ends.settled s.store.slots
+
+pub returns-in_ok-follow_copied-in-Some-clause-ok : goal.returns-in_ok-follow_copied-in-Some-clause-ok
+returns-in_ok-follow_copied-in-Some-clause-ok g c =
+    let s = c.requires.served in
+    stepped c.in-Some.copied (g.S.SlotCalls.state c.args.stock.now) (g.S.SlotCalls.state c.renew.new.self) (g.S.SlotCalls.state c.follow_copied.new.slots) c.args.table.now c.follow_copied.new.table (g.S.SlotCalls.indexed c.args.stock.now) s
+    (renews-steps c.args.block c.in-Some.copied _ (g.S.SlotCalls.state c.args.stock.now).memory (g.S.SlotCalls.state c.renew.new.self).memory c.in-Some.is c.in_ok-copied.ensures.ok s.blocks s.store.slots) c.follow_copied.ensures.same c.in_ok-follow_copied-in-Some.ensures.ok
+    (perhaps-after (g.S.SlotCalls.state c.args.stock.now) (g.S.SlotCalls.state c.renew.new.self) (g.S.SlotCalls.state c.follow_copied.new.slots) c.in_ok-copied.ensures.ends c.in_ok-follow_copied-in-Some.ensures.done) (g.S.SlotCalls.indexed c.follow_copied.new.slots) (c.follow_copied.ensures.index ∙ c.in_ok-copied.ensures.indexed)
+
+pub returns-in_ok-follow_copied-in-Some-clause-ends : goal.returns-in_ok-follow_copied-in-Some-clause-ends
+returns-in_ok-follow_copied-in-Some-clause-ends g c = perhaps-after (g.S.SlotCalls.state c.args.stock.now) (g.S.SlotCalls.state c.renew.new.self) (g.S.SlotCalls.state c.follow_copied.new.slots) c.in_ok-copied.ensures.ends c.in_ok-follow_copied-in-Some.ensures.done
+
+pub returns-in-None-clause-ok : goal.returns-in-None-clause-ok
+returns-in-None-clause-ok g c =
+    spare-kept c.args.block (g.S.SlotCalls.state c.args.stock.now) (g.S.SlotCalls.state c.renew.new.self) c.args.table.now (g.S.SlotCalls.indexed c.args.stock.now) (g.S.SlotCalls.indexed c.renew.new.self) c.requires.served
+    (renews-spare c.args.block _ (g.S.SlotCalls.state c.args.stock.now).memory (g.S.SlotCalls.state c.renew.new.self).memory c.in-None.is c.in_ok-copied.ensures.ok) c.in_ok-copied.ensures.ends c.in_ok-copied.ensures.indexed

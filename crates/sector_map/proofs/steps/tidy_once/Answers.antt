@@ -1,0 +1,40 @@
+use Rattle.std.proofs.Common.{◌∙◌}
+use Rattle.std.proofs.lemmas.Result.{err_from_is_err_and}
+use Rattle.sector_map.proofs.MapCalls.{served-room, stays-keeps, served-steps, served-tidies, same-moved-keeps, steps-target, stepped, perhaps-after, no-work}
+use Rattle.sector_map.proofs.steps.tidy_once.Goals as goal
+
+pub tidy-requires-clause-room : goal.tidy-requires-clause-room
+tidy-requires-clause-room g c = served-room c.args.table.now (g.S.SlotCalls.state c.args.stock.now) (g.S.SlotCalls.indexed c.args.stock.now) c.requires.served
+
+pub returns-in_err-copied-clause-cut : goal.returns-in_err-copied-clause-cut
+returns-in_err-copied-clause-cut g c is =
+    let p = err_from_is_err_and c.from_residual.result c.from_residual.ensures.1 in
+    let s = c.requires.served in
+    stays-keeps (g.S.SlotCalls.state c.args.stock.now).memory (g.S.SlotCalls.state c.tidy.new.self).memory (c.in_err-copied.ensures.cut (cc (p.1, p.2))) (c.in_err-copied.ensures.healthy (cc (p.1, p.2))) s.store.slots
+
+pub follow_copied-requires-clause-number : goal.follow_copied-requires-clause-number
+follow_copied-requires-clause-number g c = steps-target c.in-Some.copied (g.S.SlotCalls.state c.args.stock.now).memory (g.S.SlotCalls.state c.tidy.new.self).memory (served-tidies c.in-Some.copied (g.S.SlotCalls.state c.args.stock.now) (g.S.SlotCalls.indexed c.args.stock.now) (g.S.SlotCalls.state c.tidy.new.self).memory c.args.table.now c.requires.served (c.in_ok-copied.ensures.copied c.in-Some.copied c.in-Some.is))
+
+pub follow_copied-requires-clause-sound : goal.follow_copied-requires-clause-sound
+follow_copied-requires-clause-sound g c = (served-steps c.in-Some.copied (g.S.SlotCalls.state c.args.stock.now) (g.S.SlotCalls.indexed c.args.stock.now) (g.S.SlotCalls.state c.tidy.new.self).memory c.args.table.now c.requires.served (served-tidies c.in-Some.copied (g.S.SlotCalls.state c.args.stock.now) (g.S.SlotCalls.indexed c.args.stock.now) (g.S.SlotCalls.state c.tidy.new.self).memory c.args.table.now c.requires.served (c.in_ok-copied.ensures.copied c.in-Some.copied c.in-Some.is))).sound
+
+pub follow_copied-requires-clause-single : goal.follow_copied-requires-clause-single
+follow_copied-requires-clause-single g c = (served-steps c.in-Some.copied (g.S.SlotCalls.state c.args.stock.now) (g.S.SlotCalls.indexed c.args.stock.now) (g.S.SlotCalls.state c.tidy.new.self).memory c.args.table.now c.requires.served (served-tidies c.in-Some.copied (g.S.SlotCalls.state c.args.stock.now) (g.S.SlotCalls.indexed c.args.stock.now) (g.S.SlotCalls.state c.tidy.new.self).memory c.args.table.now c.requires.served (c.in_ok-copied.ensures.copied c.in-Some.copied c.in-Some.is))).single
+
+pub follow_copied-requires-clause-blocks : goal.follow_copied-requires-clause-blocks
+follow_copied-requires-clause-blocks g c = (served-steps c.in-Some.copied (g.S.SlotCalls.state c.args.stock.now) (g.S.SlotCalls.indexed c.args.stock.now) (g.S.SlotCalls.state c.tidy.new.self).memory c.args.table.now c.requires.served (served-tidies c.in-Some.copied (g.S.SlotCalls.state c.args.stock.now) (g.S.SlotCalls.indexed c.args.stock.now) (g.S.SlotCalls.state c.tidy.new.self).memory c.args.table.now c.requires.served (c.in_ok-copied.ensures.copied c.in-Some.copied c.in-Some.is))).blocks
+
+pub returns-in_err-follow_copied-in-Some-clause-cut : goal.returns-in_err-follow_copied-in-Some-clause-cut
+returns-in_err-follow_copied-in-Some-clause-cut g c is =
+    same-moved-keeps (g.S.SlotCalls.state c.args.stock.now) (g.S.SlotCalls.state c.tidy.new.self).memory (g.S.SlotCalls.state c.follow_copied.new.slots).memory (served-steps c.in-Some.copied (g.S.SlotCalls.state c.args.stock.now) (g.S.SlotCalls.indexed c.args.stock.now) (g.S.SlotCalls.state c.tidy.new.self).memory c.args.table.now c.requires.served (served-tidies c.in-Some.copied (g.S.SlotCalls.state c.args.stock.now) (g.S.SlotCalls.indexed c.args.stock.now) (g.S.SlotCalls.state c.tidy.new.self).memory c.args.table.now c.requires.served (c.in_ok-copied.ensures.copied c.in-Some.copied c.in-Some.is))) c.follow_copied.ensures.same c.in_ok-copied.ensures.ends.settled c.requires.served.store.slots
+
+pub returns-in_ok-follow_copied-in-Some-clause-ok : goal.returns-in_ok-follow_copied-in-Some-clause-ok
+returns-in_ok-follow_copied-in-Some-clause-ok g c =
+    stepped c.in-Some.copied (g.S.SlotCalls.state c.args.stock.now) (g.S.SlotCalls.state c.tidy.new.self) (g.S.SlotCalls.state c.follow_copied.new.slots) c.args.table.now c.follow_copied.new.table (g.S.SlotCalls.indexed c.args.stock.now) c.requires.served (served-tidies c.in-Some.copied (g.S.SlotCalls.state c.args.stock.now) (g.S.SlotCalls.indexed c.args.stock.now) (g.S.SlotCalls.state c.tidy.new.self).memory c.args.table.now c.requires.served (c.in_ok-copied.ensures.copied c.in-Some.copied c.in-Some.is)) c.follow_copied.ensures.same c.in_ok-follow_copied-in-Some.ensures.ok
+    (perhaps-after (g.S.SlotCalls.state c.args.stock.now) (g.S.SlotCalls.state c.tidy.new.self) (g.S.SlotCalls.state c.follow_copied.new.slots) c.in_ok-copied.ensures.ends c.in_ok-follow_copied-in-Some.ensures.done) (g.S.SlotCalls.indexed c.follow_copied.new.slots) (c.follow_copied.ensures.index ∙ c.in_ok-copied.ensures.indexed)
+
+pub returns-in-None-clause-none : goal.returns-in-None-clause-none
+returns-in-None-clause-none g c is = no-work (g.S.SlotCalls.state c.args.stock.now).memory (c.in_ok-copied.ensures.none c.in-None.is).0 (c.in_ok-copied.ensures.none c.in-None.is).1
+
+pub returns-in-None-clause-unchanged : goal.returns-in-None-clause-unchanged
+returns-in-None-clause-unchanged g c is = (c.in_ok-copied.ensures.none c.in-None.is).2

@@ -1,5 +1,0 @@
-use Rattle.share.proofs.Units.{replies_are_of_units}
-use Rattle.share.proofs.alone.plain_replies.Goals as goal
-
-pub returns : goal.returns
-returns c = replies_are_of_units

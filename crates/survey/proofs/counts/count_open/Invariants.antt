@@ -1,6 +1,0 @@
-use Rattle.std.proofs.Common.{◌≡◌, ◌≤◌}
-use Rattle.erase_journal.specs.Scans.{open_in}
-use Rattle.survey.proofs.counts.count_open.Given as goal
-
-abbrev pub invariant-loop-entry : goal.invariant-loop-entry
-invariant-loop-entry l = (l.opened ≡ open_in l.bytes l.blocks l.entry) × (l.opened ≤ l.entry)

@@ -1,6 +1,0 @@
-use Rattle.std.proofs.Common.{◌≡◌, ◌≤◌}
-use Rattle.survey.specs.Summaries.{live_heads}
-use Rattle.survey.proofs.summary.count_live.Given as goal
-
-abbrev pub invariant-loop-place : goal.invariant-loop-place
-invariant-loop-place l = (l.live ≡ live_heads l.heads l.place) × (l.live ≤ l.place)

@@ -1,6 +1,0 @@
-use Rattle.watched.specs.Settling.{Rests}
-use Rattle.watched.proofs.wire.Wire.rest.Given as goal
-
--- only waits so far
-abbrev pub invariant-loop : goal.invariant-loop
-invariant-loop g l = Rests (g.P.Programmer.exchanged l.initial.self.programmer) (g.P.Programmer.exchanged l.self.programmer)

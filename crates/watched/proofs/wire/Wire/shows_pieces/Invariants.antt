@@ -1,7 +1,0 @@
-use Rattle.programmer.specs.Exchanges.{Exchanged}
-use Rattle.watched.specs.Reading.{piece_reads}
-use Rattle.watched.proofs.wire.Wire.shows_pieces.Given as goal
-
--- the pieces so far
-abbrev pub invariant-loop-piece : goal.invariant-loop-piece
-invariant-loop-piece g l = Exchanged (g.P.Programmer.exchanged l.initial.self.programmer) (g.P.Programmer.exchanged l.self.programmer) (piece_reads l.memory l.at l.piece)
