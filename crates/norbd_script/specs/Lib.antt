@@ -2,3 +2,4 @@ pub mod Answered
 pub mod Simulated
 pub mod Lives
 pub mod Running
+pub mod GroupChips

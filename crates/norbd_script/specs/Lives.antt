@@ -1,8 +1,10 @@
 -- What becomes of a chip that is mounted and run again and again. Source: own.
 use Rattle.std.specs.Prelude.{◌≡◌, ℕ, ◌≤◌, true, List, [], ◌∷◌, length, Option, Result, Ok, Err}
 use Rattle.chip_model.specs.Chip.{Chip, is_idle}
+use Rattle.chip_model.specs.Cut.{Cut}
 use Rattle.chip_model.specs.Geometry.{sector_count}
 use Rattle.nor_driver.specs.Probe.{IsAcceptedChip}
+use Rattle.nor_driver.specs.Steps.{Woken}
 use Rattle.sector_slots.specs.Slots.{IsClean}
 use Rattle.sector_map.specs.Maps.{IsMountable}
 use Rattle.flash_disk.specs.Contents.{contents_of}
@@ -25,14 +27,18 @@ pub record OnBus : Type 0 where
   pub cuts : ℕ
   pub slows : ℕ
 
--- what is seen of it from above: the array that its memory represents, and the counts
-abbrev pub as_seen : OnBus → Seen
-as_seen b = record {
-  sectors = sector_count (length b.chip.memory);
-  contents = contents_of b.chip.memory;
+-- what is seen from above of a chip that holds this array of so many sectors: it, and the counts
+abbrev pub seen_with : ℕ → List ℕ → OnBus → Seen
+seen_with sectors array b = record {
+  sectors = sectors;
+  contents = array;
   cuts = b.cuts;
   slows = b.slows;
 }
+
+-- and of one that holds the array that its memory represents
+abbrev pub as_seen : OnBus → Seen
+as_seen b = seen_with (sector_count (length b.chip.memory)) (contents_of b.chip.memory) b
 
 -- One stay of a chip in a station: what was left of the input and what the output had taken when it
 -- began, its answer, and both when it ended.
@@ -69,14 +75,6 @@ Answers old new r was (Err OutOfMemory) r' is =
 abbrev pub StaySays : Seen → Stay → Seen → Type 0
 StaySays old stay new = Answers old new stay.input stay.was stay.answer stay.left stay.is
 
--- A CHIP'S LIFE: stays in a station, one after another, in which no operation was slow. What each
--- wrote is a transcript from the array which the one before it left, and a refused one leaves it.
-abbrev pub Lives : Seen → List Stay → Seen → Type 0
-Lives old [] new = new ≡ old
-Lives old (stay ∷ stays) new =
-    (mid : Seen) × (mid.slows ≡ old.slows) × (mid.sectors ≡ old.sectors) × StaySays old stay mid
-    × Lives mid stays new
-
 -- What a mount says of any chip on which nothing is in progress: why it was refused and what it
 -- left, or that the chip is healthy; and where it is answered that it isn't clean, it isn't.
 abbrev pub MountSays : Result (Unit {0}) RunFault → Chip → Chip → Type 0
@@ -101,15 +99,37 @@ pub record RunsMounted (old : OnBus) (stay : Stay) (new : OnBus) : Type 0 where
   pub says : IsHealthyChip old.chip → StaySays (as_seen old) stay (as_seen new)
   pub stays : IsHealthyChip old.chip → new.slows ≡ old.slows → StaysHealthy old.chip new.chip
 
--- any number of calls of it on one bus
-abbrev pub AllRunMounted : OnBus → List Stay → OnBus → Type 0
-AllRunMounted old [] new = new ≡ old
-AllRunMounted old (stay ∷ stays) new =
-    (mid : OnBus) × RunsMounted old stay mid × AllRunMounted mid stays new
+-- One such call: the chip on its bus before it, the stay, and the chip on its bus after it.
+pub record MountedRun : Type 0 where
+  pub before : OnBus
+  pub stay : Stay
+  pub after : OnBus
 
--- any number of calls on a healthy chip are its life, where no operation was slow, and it is
--- healthy in the end
+-- A chip to which no frame is sent: nothing becomes of it; its power goes; or it goes and comes
+-- back.
+pub data LeftAlone (c c' : Chip) : Type 0 where
+  keeps_power : c' ≡ c → LeftAlone c c'
+  loses_power : Cut c c' → LeftAlone c c'
+  regains_power : Woken c c' → LeftAlone c c'
+
+-- Any number of calls on one chip, in none of which an operation was slow. Before each, and after
+-- the last, it is left alone, and another process may begin, whose bus counts anew.
+abbrev pub AllRunMounted : Chip → List MountedRun → Chip → Type 0
+AllRunMounted c [] c' = LeftAlone c c'
+AllRunMounted c (run ∷ runs) c' =
+    LeftAlone c run.before.chip × RunsMounted run.before run.stay run.after
+    × (run.after.slows ≡ run.before.slows) × AllRunMounted run.after.chip runs c'
+
+-- A CHIP'S LIFE: stays in a station, one after another, by a chip of so many sectors. What each
+-- wrote is a transcript from the array which the one before it left, and a refused one leaves it.
+abbrev pub Lives : ℕ → List ℕ → List MountedRun → List ℕ → Type 0
+Lives sectors array [] array' = array' ≡ array
+Lives sectors array (run ∷ runs) array' =
+    StaySays (seen_with sectors array run.before) run.stay (as_seen run.after)
+    × Lives sectors (contents_of run.after.chip.memory) runs array'
+
+-- any number of calls on a healthy chip are its life, and it is healthy in the end
 abbrev pub CallsAreALife : Type 0
-CallsAreALife = (old new : OnBus) (stays : List Stay) → AllRunMounted old stays new
-    → IsHealthyChip old.chip → new.slows ≡ old.slows
-    → Lives (as_seen old) stays (as_seen new) × StaysHealthy old.chip new.chip
+CallsAreALife = (c c' : Chip) (runs : List MountedRun) → AllRunMounted c runs c' → IsHealthyChip c
+    → Lives (sector_count (length c.memory)) (contents_of c.memory) runs (contents_of c'.memory)
+    × StaysHealthy c c'

@@ -1,9 +1,21 @@
-//! The law of a chip's life.
+//! The laws of a chip's life and of chips of layout 1.
 
+ghost use Rattle.norbd_script.specs.GroupChips.{GroupChipsAreServed};
 ghost use Rattle.norbd_script.specs.Lives.{CallsAreALife};
 
+use block_device::sectors_decide_contents;
+
 /// Any number of calls of `run_mounted` on a healthy chip are its life, where no operation was
-/// slow: what each wrote is a transcript from the array which the one before it left.
+/// slow: what each wrote is a transcript from the array which the one before it left. Between two
+/// calls the power may go, and another process may begin.
 pub fn mounts_make_a_life()
     ensures { CallsAreALife }
 {}
+
+/// A call of `run_mounted` on a healthy and clean chip of layout 1 answers as the array of its
+/// groups' sectors, in the words of that layout alone.
+pub fn group_chips_are_served()
+    ensures { GroupChipsAreServed }
+{
+    sectors_decide_contents();
+}

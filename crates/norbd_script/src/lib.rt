@@ -6,9 +6,10 @@
 //! plain array of sectors, in which after a loss of power every acknowledged write stands and each
 //! sector of the interrupted command is wholly old or new; the chip then holds that array. Each
 //! refusal comes with the bus, and before the script nothing is read or written. `run_mounted` does
-//! the same on a chip as it is, from the array that its memory represents; any number of its calls
-//! on a healthy chip are one life, each beginning where the one before it ended
-//! (`specs/Lives.antt`, `mounts_make_a_life`).
+//! the same on a chip as it is, from the array that its memory represents: on one of layout 1 that
+//! of its groups (`specs/GroupChips.antt`, `group_chips_are_served`). Any number of its calls on a
+//! healthy chip are one life, each beginning where the one before it ended, also if the power went
+//! in between (`specs/Lives.antt`, `mounts_make_a_life`).
 //!
 //! Left to the crate above: the bus, and where the script comes from and the transcript goes.
 //!
@@ -21,6 +22,6 @@ mod running;
 mod simulated;
 
 pub use error::RunFault;
-pub use laws::mounts_make_a_life;
+pub use laws::{group_chips_are_served, mounts_make_a_life};
 pub use running::{run_formatted, run_mounted};
 pub use simulated::run_simulated;

@@ -1,0 +1,63 @@
+-- The headline from a chip of layout 1, in the words of that layout alone: its blocks, each free,
+-- dead, or live with a group of seven sectors. Source: own, layout 1.
+use Rattle.std.specs.Prelude.{◌≡◌, ◌≢◌, ℕ, ◌+◌, ◌*◌, ◌<◌, true, List, length, Ok, Err}
+use Rattle.chip_model.specs.Chip.{Chip, IsChip, is_idle}
+use Rattle.chip_model.specs.Geometry.{group_count}
+use Rattle.nor_driver.specs.Probe.{IsAcceptedChip}
+use Rattle.nor_layout.specs.Layouts.{layout_of}
+use Rattle.nor_layout.specs.Headers.{next_generation}
+use Rattle.nor_layout.specs.declared.header.Tag.{Tag}
+use Rattle.nor_layout.specs.declared.layout.Layout.TheVariants.{Groups}
+use Rattle.erase_journal.specs.Journals.{IsHealthy}
+use Rattle.sector_slots.specs.Slots.{content_bytes, data_block}
+use Rattle.sector_slots.specs.Sectors.{zeros}
+use Rattle.sector_slots.specs.Groups.{IsLiveWith, AreSoundGroups, IsCleanOfGroups}
+use Rattle.sector_map.specs.Maps.{geometry_of}
+use Rattle.block_device.specs.Contents.{sector}
+use Rattle.norbd_script.specs.declared.error.RunFault.TheVariants.{NotClean}
+use Rattle.norbd_script.specs.Lives.{OnBus, Stay, RunsMounted, StaySays, StaysHealthy, as_seen}
+use Rattle.norbd_script.specs.Lives.{seen_with}
+
+-- A healthy and clean chip of layout 1: nothing is in progress, it passes the checks of a probe,
+-- its superblock says layout 1, its journals are healthy, nothing of its groups is corrupt, and
+-- what reads as free is erased.
+pub record IsHealthyGroupChip (c : Chip) : Type 0 where
+  pub idle : is_idle c.operation ≡ true
+  pub accepted : IsAcceptedChip c
+  pub superblock : layout_of c.memory (geometry_of (length c.memory)) ≡ Ok Groups
+  pub journals : IsHealthy c.memory
+  pub groups : AreSoundGroups c.memory
+  pub clean : IsCleanOfGroups c.memory
+
+-- What sector i of group g is: zeros where no block is live with the group, else what its newest
+-- live block has there, the one whose generation is the next of every other one's.
+pub data GroupSectorIs (m : List ℕ) (g i : ℕ) (x : List ℕ) : Type 0 where
+  in_none : ((c : ℕ) (tag : Tag) → IsLiveWith m c tag → tag.number ≢ g) → x ≡ zeros
+      → GroupSectorIs m g i x
+  in_newest : (c : ℕ) (tag : Tag) → IsLiveWith m c tag → tag.number ≡ g
+      → ((d : ℕ) (other : Tag) → IsLiveWith m d other → other.number ≡ g → d ≢ c
+      → tag.generation ≡ next_generation other.generation)
+      → x ≡ content_bytes (data_block m c) i → GroupSectorIs m g i x
+
+-- The array that its groups are: sector 7g + i is sector i of group g.
+pub record IsArrayOfGroups (m array : List ℕ) : Type 0 where
+  pub size : length array ≡ 512 * (7 * group_count (length m))
+  pub each : (g i : ℕ) → g < group_count (length m) → i < 7
+      → GroupSectorIs m g i (sector array (7 * g + i))
+
+-- What a call of `run_mounted` says of such a chip. What it wrote is a transcript from the array
+-- that its groups are. There is one, and no other. It isn't refused as unclean, and where no
+-- operation was slow it leaves a healthy chip, with which a life goes on.
+pub record RunsFromGroups (old : OnBus) (stay : Stay) (new : OnBus) : Type 0 where
+  pub array : List ℕ
+  pub groups : IsArrayOfGroups old.chip.memory array
+  pub only : (other : List ℕ) → IsArrayOfGroups old.chip.memory other → other ≡ array
+  pub says : StaySays (seen_with (7 * group_count (length old.chip.memory)) array old) stay
+      (as_seen new)
+  pub clean : stay.answer ≢ Err NotClean
+  pub stays : new.slows ≡ old.slows → StaysHealthy old.chip new.chip
+
+-- THE HEADLINE, FROM LAYOUT 1.
+abbrev pub GroupChipsAreServed : Type 0
+GroupChipsAreServed = (old new : OnBus) (stay : Stay) → IsChip old.chip
+    → IsHealthyGroupChip old.chip → RunsMounted old stay new → RunsFromGroups old stay new
