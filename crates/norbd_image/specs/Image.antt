@@ -3,8 +3,10 @@ use Rattle.std.specs.Prelude.{◌≡◌, ℕ, ◌*◌, List, length, replicate, 
 use Rattle.std.specs.Prelude.{if◌then◌else◌, Result, Ok, Err}
 use Rattle.chip_model.specs.Geometry.{sector_count}
 use Rattle.nor_driver.specs.declared.error.ProbeError.TheVariants as probes
+use Rattle.nor_layout.specs.Layouts.{layout_of}
+use Rattle.nor_layout.specs.declared.layout.Layout.TheVariants.{Sectors}
 use Rattle.sector_slots.specs.Slots.{IsClean}
-use Rattle.sector_map.specs.Maps.{IsMountable}
+use Rattle.sector_map.specs.Maps.{IsMountable, geometry_of}
 use Rattle.flash_disk.specs.Contents.{contents_of}
 use Rattle.norbd_image.specs.declared.error.ImageError.{ImageError}
 use Rattle.norbd_image.specs.declared.error.ImageError.TheVariants.{OutOfMemory, File, NotAFile}
@@ -12,9 +14,10 @@ use Rattle.norbd_image.specs.declared.error.ImageError.TheVariants.{InUse}
 use Rattle.norbd_image.specs.declared.error.ImageError.TheVariants.{Formatted, NotEmpty, Refused}
 use Rattle.nor_layout.specs.Superblock.{has_name, is_sealed}
 
--- so many bytes, which are a healthy and clean memory whose disk is one of zeros
+-- so many bytes, which are a healthy and clean memory of layout 2 whose disk is one of zeros
 pub record IsFormattedImage (n : ℕ) (bytes : List ℕ) : Type 0 where
   pub size : length bytes ≡ n
+  pub layout : layout_of bytes (geometry_of (length bytes)) ≡ Ok Sectors
   pub mountable : IsMountable bytes
   pub clean : IsClean bytes
   pub contents : contents_of bytes ≡ replicate (512 * sector_count n) 0
