@@ -10,7 +10,18 @@ use Rattle.nbd_session.proofs.PartLaws.{gains_both, gains_still}
 use Rattle.nbd_connection.specs.declared.piece.Fate.{Fate}
 use Rattle.nbd_connection.specs.declared.piece.PieceOutcome.{PieceOutcome}
 use Rattle.nbd_connection.specs.declared.piece.PieceOutcome.TheVariants.{Open, Closed, OutputFailed, Lost}
-use Rattle.nbd_connection.specs.Turning.{PartBy, PartsBy, LosesPart, OnePart, GrowsBy, EndsIn, TurnBy, TurnTaken, PieceUnderway, PieceTaken}
+use Rattle.nbd_connection.specs.Turning.{PartBy, PartsBy, LosesPart, OnePart, GrowsBy, EndsIn, TurnBy, TurnTaken, PieceTaken}
+
+-- a piece in its midst, where the rest of its bytes isn't taken yet
+pub record PieceUnderway {P : Type 0} (answers : P → P → Command → List ℕ → Fate → Type 0)
+    (tells : P → P → List ℕ → Bool → Type 0) (a b : P) (old new : SessionState)
+    (bytes rest : List ℕ) : Type 0 where
+  pub used : List ℕ
+  pub bytes_are : bytes ≡ used ++ rest
+  pub added : List Part
+  pub grows : GrowsBy old new used added
+  pub still : closed added ≡ false
+  pub runs : PartsBy answers tells a b added
 
 pub closed_more : (more : List Part) (p : Part) → closed more ≡ false → closed (more ++ p ∷ []) ≡ closes p
 closed_more [] p e = elim (closes p) as (λ b. (b || false) ≡ b) [ true ↦ refl | false ↦ refl ]

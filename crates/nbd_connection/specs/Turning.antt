@@ -136,14 +136,3 @@ pub record PieceTaken {P : Type 0} (answers : P → P → Command → List ℕ �
   pub gains : GainsBy old reached.done reached.parts
   pub runs : PartsBy answers tells a reached.peer reached.parts
   pub ends : OutcomeBy answers tells reached b old new progress
-
--- a piece in its midst, where the rest of its bytes isn't taken yet
-pub record PieceUnderway {P : Type 0} (answers : P → P → Command → List ℕ → Fate → Type 0)
-    (tells : P → P → List ℕ → Bool → Type 0) (a b : P) (old new : SessionState)
-    (bytes rest : List ℕ) : Type 0 where
-  pub used : List ℕ
-  pub bytes_are : bytes ≡ used ++ rest
-  pub added : List Part
-  pub grows : GrowsBy old new used added
-  pub still : closed added ≡ false
-  pub runs : PartsBy answers tells a b added

@@ -1,6 +1,6 @@
 use Rattle.std.proofs.Common.{◌≡◌, false, length}
 use Rattle.nbd_session.specs.Sessions.{is_closed}
-use Rattle.nbd_connection.specs.Turning.{PieceUnderway}
+use Rattle.nbd_connection.proofs.Piecing.{PieceUnderway}
 use Rattle.nbd_connection.proofs.piece.answer_piece.Given as goal
 
 abbrev pub invariant-loop-rest : goal.invariant-loop-rest
