@@ -3,13 +3,13 @@ use Rattle.std.proofs.Common.{◌≡◌, ℕ, ◌+◌, ◌*◌, ◌<◌, true, L
 use Rattle.std.specs.Prelude.{◌/◌, ◌%◌}
 use Rattle.std.proofs.lemmas.Bool.{cases_eq}
 use Rattle.sfdp.specs.declared.params.Params.{Params}
-use Rattle.chip_model.specs.Chip.{Chip, IsChip}
+use Rattle.chip_model.specs.Chip.{Chip, IsChip, is_idle}
 use Rattle.chip_model.specs.Geometry.{IsChipSize, group_count, sector_count}
 use Rattle.chip_model.specs.Parts.{part}
 use Rattle.nor_driver.specs.Probe.{IsAcceptedChip, told, probe_answer}
 use Rattle.nor_driver.specs.declared.error.ProbeError.{ProbeError}
 use Rattle.nor_driver.proofs.Survey.{accepted}
-use Rattle.sector_slots.specs.Slots.{content_bytes, data_block, slot_at, slot_count}
+use Rattle.sector_slots.specs.Slots.{IsClean, content_bytes, data_block, slot_at, slot_count}
 use Rattle.sector_slots.specs.Sectors.{SectorIs, absent, held, SoundSlots, sector_at}
 use Rattle.sector_slots.specs.Groups.{AreSoundGroups, IsCleanOfGroups}
 use Rattle.sector_slots.proofs.SectorLaws.{never-round}
@@ -18,8 +18,9 @@ use Rattle.sector_map.proofs.Grouped.{group-mountable}
 use Rattle.block_device.specs.Contents.{sector, SectorsDecide}
 use Rattle.flash_disk.specs.Contents.{contents_of}
 use Rattle.flash_disk.proofs.Sectors.{length-contents, part-contents}
-use Rattle.norbd_script.specs.Lives.{IsHealthyChip, MountSays}
+use Rattle.norbd_script.specs.Lives.{IsHealthyChip, MountSays, StaySays, as_seen, seen_with}
 use Rattle.norbd_script.specs.GroupChips.{GroupSectorIs, in_none, in_newest, IsArrayOfGroups, GroupChipsAreServed}
+use Rattle.norbd_script.proofs.Living.{calls-are-a-life}
 use Rattle.norbd_script.proofs.GroupKinds.{has-room, live-place, place-live}
 
 -- what the slots say of a sector, in the words of groups
@@ -76,17 +77,18 @@ sized c law ok =
     subst (λ n. IsChipSize n) (sym a.size) a.of_a_chip
 
 pub from-groups : SectorsDecide → GroupChipsAreServed
-from-groups decide old new stay law h runs =
-    let m = old.chip.memory in
-    let size = sized old.chip law h.accepted in
+from-groups decide c law h =
+    let m = c.memory in
+    let size = sized c law h.accepted in
     let mounts = group-mountable m size (record { superblock = h.superblock; journals = h.journals; groups = h.groups; room = has-room m size h.groups; clean = h.clean }) in
-    let healthy : IsHealthyChip old.chip = record { idle = h.idle; accepted = h.accepted; mountable = mounts.0 } in
-    let array = array-of m size h.groups h.clean mounts.0.store.slots.slots in
-    record {
-      array = contents_of m;
-      groups = array;
-      only = λ other o. array-one m other (contents_of m) decide o array;
-      says = runs.says healthy;
-      clean = λ e. (subst (λ a. MountSays a old.chip new.chip) e (runs.mounts h.idle)).1 mounts.1;
-      stays = runs.stays healthy;
-    }
+    let healthy : IsHealthyChip c = record { idle = h.idle; accepted = h.accepted; mountable = mounts.0 } in
+    let array = array-of m size h.groups h.clean mounts.0.store.slots.slots in (
+      contents_of m,
+      record {
+        groups = array;
+        only = λ other o. array-one m other (contents_of m) decide o array;
+        says = λ old new stay same runs. subst (λ (z : Chip). StaySays (seen_with (sector_count (length z.memory)) (contents_of z.memory) old) stay (as_seen new)) same (runs.says (subst (λ (z : Chip). IsHealthyChip z) (sym same) healthy));
+        clean = λ old new stay same runs e. (subst (λ a. MountSays a old.chip new.chip) e (runs.mounts (ap (λ (z : Chip). is_idle z.operation) same ∙ h.idle))).1 (subst (λ (z : Chip). IsClean z.memory) (sym same) mounts.1);
+        lives = λ c' runs all. calls-are-a-life c c' runs all healthy;
+      },
+    )

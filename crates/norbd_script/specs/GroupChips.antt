@@ -14,9 +14,10 @@ use Rattle.sector_slots.specs.Sectors.{zeros}
 use Rattle.sector_slots.specs.Groups.{IsLiveWith, AreSoundGroups, IsCleanOfGroups}
 use Rattle.sector_map.specs.Maps.{geometry_of}
 use Rattle.block_device.specs.Contents.{sector}
+use Rattle.flash_disk.specs.Contents.{contents_of}
 use Rattle.norbd_script.specs.declared.error.RunFault.TheVariants.{NotClean}
 use Rattle.norbd_script.specs.Lives.{OnBus, Stay, RunsMounted, StaySays, StaysHealthy, as_seen}
-use Rattle.norbd_script.specs.Lives.{seen_with}
+use Rattle.norbd_script.specs.Lives.{seen_with, MountedRun, AllRunMounted, Lives}
 
 -- A healthy and clean chip of layout 1: nothing is in progress, it passes the checks of a probe,
 -- its superblock says layout 1, its journals are healthy, nothing of its groups is corrupt, and
@@ -45,19 +46,21 @@ pub record IsArrayOfGroups (m array : List ℕ) : Type 0 where
   pub each : (g i : ℕ) → g < group_count (length m) → i < 7
       → GroupSectorIs m g i (sector array (7 * g + i))
 
--- What a call of `run_mounted` says of such a chip. What it wrote is a transcript from the array
--- that its groups are. There is one, and no other. It isn't refused as unclean, and where no
--- operation was slow it leaves a healthy chip, with which a life goes on.
-pub record RunsFromGroups (old : OnBus) (stay : Stay) (new : OnBus) : Type 0 where
-  pub array : List ℕ
-  pub groups : IsArrayOfGroups old.chip.memory array
-  pub only : (other : List ℕ) → IsArrayOfGroups old.chip.memory other → other ≡ array
-  pub says : StaySays (seen_with (7 * group_count (length old.chip.memory)) array old) stay
-      (as_seen new)
-  pub clean : stay.answer ≢ Err NotClean
-  pub stays : new.slows ≡ old.slows → StaysHealthy old.chip new.chip
+-- Such a chip holds this array, the one that its groups are, and no other. What a call of
+-- `run_mounted` wrote is a transcript from it, and none is refused as unclean; a life begins from
+-- it.
+pub record IsServedFrom (c : Chip) (array : List ℕ) : Type 0 where
+  pub groups : IsArrayOfGroups c.memory array
+  pub only : (other : List ℕ) → IsArrayOfGroups c.memory other → other ≡ array
+  pub says : (old new : OnBus) (stay : Stay) → old.chip ≡ c → RunsMounted old stay new
+      → StaySays (seen_with (7 * group_count (length c.memory)) array old) stay (as_seen new)
+  pub clean : (old new : OnBus) (stay : Stay) → old.chip ≡ c → RunsMounted old stay new
+      → stay.answer ≢ Err NotClean
+  pub lives : (c' : Chip) (runs : List MountedRun) → AllRunMounted c runs c'
+      → Lives (7 * group_count (length c.memory)) array runs (contents_of c'.memory)
+      × StaysHealthy c c'
 
 -- THE HEADLINE, FROM LAYOUT 1.
 abbrev pub GroupChipsAreServed : Type 0
-GroupChipsAreServed = (old new : OnBus) (stay : Stay) → IsChip old.chip
-    → IsHealthyGroupChip old.chip → RunsMounted old stay new → RunsFromGroups old stay new
+GroupChipsAreServed = (c : Chip) → IsChip c → IsHealthyGroupChip c
+    → (array : List ℕ) × IsServedFrom c array

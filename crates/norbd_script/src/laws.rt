@@ -12,8 +12,8 @@ pub fn mounts_make_a_life()
     ensures { CallsAreALife }
 {}
 
-/// A call of `run_mounted` on a healthy and clean chip of layout 1 answers as the array of its
-/// groups' sectors, in the words of that layout alone.
+/// A healthy and clean chip of layout 1 holds one array, that of its groups' sectors, in the words
+/// of that layout alone: as it a call of `run_mounted` answers, and from it a life begins.
 pub fn group_chips_are_served()
     ensures { GroupChipsAreServed }
 {
