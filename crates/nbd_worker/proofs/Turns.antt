@@ -21,9 +21,16 @@ use Rattle.nbd_share.specs.declared.door.Point.TheVariants.{Execute}
 use Rattle.nbd_share.specs.declared.shared.Done.{Done}
 use Rattle.nbd_worker.specs.Connection.{AnsweredBy, ExecutedAndLost, FailsBy, ConnectionEnded, PartsAnsweredBy}
 use Rattle.nbd_worker.specs.Turning.{CommandTurn, StateTells, ConnectionUnderway, PieceBy, PieceServes, end_of}
-use Rattle.nbd_worker.specs.ConnectionState.{PassesMore, DoorState, Setting, ConnectionState, asks, executions, points_of, reads, setting}
+use Rattle.nbd_worker.specs.ConnectionState.{PassesMore, DoorState, Setting, ConnectionState, asks, executions, reads, setting}
 
 -- ---- lists of points and of parts
+
+-- the points that are passed for these parts
+abbrev points_of : List Part → List Point
+points_of [] = []
+points_of (Told reply ∷ parts) = points_of parts
+points_of (ForDisk command payload ∷ parts) = Execute ∷ points_of parts
+points_of (Last reply ∷ parts) = points_of parts
 
 pub executions-append : (ps qs : List Point) → executions (ps ++ qs) ≡ executions ps + executions qs
 executions-append [] qs = omega arith

@@ -87,13 +87,6 @@ asks (Told reply ∷ parts) = asks parts
 asks (ForDisk command payload ∷ parts) = 1 + asks parts
 asks (Last reply ∷ parts) = asks parts
 
--- the points that are passed for these parts
-abbrev pub points_of : List Part → List Point
-points_of [] = []
-points_of (Told reply ∷ parts) = points_of parts
-points_of (ForDisk command payload ∷ parts) = Execute ∷ points_of parts
-points_of (Last reply ∷ parts) = points_of parts
-
 -- these points more were passed
 abbrev pub PassesMore : {G : Type 0} → (G → G → List Point → Type 0) → G → G → List Point → Type 0
 PassesMore {G = G} passes old new more =
