@@ -7,7 +7,7 @@ use Rattle.std.specs.Io.KnownBytes.{IsAtEnd}
 use Rattle.nbd_station.specs.declared.event.Event.TheVariants.{Open, Piece, Gone, Tidy, Restore}
 use Rattle.nbd_station.specs.declared.script.Form.{Form}
 use Rattle.nbd_station.specs.declared.script.Form.TheVariants.{Open as OpenForm, Piece as PieceForm, Gone as GoneForm, Tidy as TidyForm, Restore as RestoreForm, Arm as ArmForm}
-use Rattle.nbd_station.specs.Script.{Item, Happens, Arms, IsAllowed, IsBad, line_of}
+use Rattle.nbd_station.specs.Script.{Item, Happens, Arms, IsAllowed, NoRecord, IsBad, line_of}
 use Rattle.nbd_station.specs.ScriptSteps.{IsForm, ArmsNothing, record_head}
 
 -- the form of an item's record, and the bytes behind its head
@@ -105,30 +105,35 @@ module _ (six left tail : List ℕ) (item : Item) (long : length six ≡ 6) (e :
 at_end : (r : Option (List ℕ)) (left : List ℕ) → IsAtEnd r → r ≡ Some left → left ≡ []
 at_end r left e h = subst IsAtEnd h e
 
+-- at the end of the input, bytes that hold no record are a bad one
+bad_at_end : (r : Option (List ℕ)) (bytes : List ℕ) → 0 < length bytes → NoRecord bytes → IsAtEnd r → IsBad bytes r
+bad_at_end r bytes some none end = (some, λ left h. subst NoRecord (sym (ap (λ l. bytes ++ l) (at_end r left end h) ∙ append-nil bytes)) none)
+
+-- fewer bytes than a head has
+pub few_bytes : (taken : List ℕ) → length taken < 6 → NoRecord taken
+few_bytes taken short = λ item ok tail e.
+    let n : length taken ≡ length (record_head (form_for item) ++ (body_of item ++ tail)) = ap length (e ∙ parted item tail) in
+    omega (arith, short, n, length-append (record_head (form_for item)) (body_of item ++ tail), head_long (form_for item))
+
 -- the input ends inside a head
 pub short_head : (r : Option (List ℕ)) (taken : List ℕ) → 0 < length taken → length taken < 6 → IsAtEnd r → IsBad taken r
-short_head r taken some short end = (
-  some,
-  λ left h item ok tail e.
-      let all : taken ++ left ≡ taken = ap (λ l. taken ++ l) (at_end r left end h) ∙ append-nil taken in
-      let n : length taken ≡ length (record_head (form_for item) ++ (body_of item ++ tail)) = ap length (sym all ∙ (e ∙ parted item tail)) in
-      omega (arith, short, n, length-append (record_head (form_for item)) (body_of item ++ tail), head_long (form_for item)),
-)
+short_head r taken some short end = bad_at_end r taken some (few_bytes taken short) end
 
 -- it is the head of no form
 pub no_head : (r : Option (List ℕ)) (six : List ℕ) → length six ≡ 6 → ((form : Form) → IsForm form → six ≢ record_head form) → IsBad six r
 no_head r six long none = (omega (arith, long), λ left h item ok tail e. none (form_for item) (is_form item ok) (head_is six left tail item long e))
 
+-- fewer bytes than a head announces
+pub few_behind : (form : Form) (taken : List ℕ) → IsForm form → length taken < body_len form → NoRecord (record_head form ++ taken)
+few_behind form taken ok short = λ item fine tail e.
+    let same = same_len form (form_for item) ok (is_form item fine) (head_is (record_head form) taken tail item (head_long form) e) in
+    let n : length taken ≡ length (body_of item ++ tail) = ap length (left_is (record_head form) taken tail item (head_long form) e) in
+    omega (arith, short, n, same, length-append (body_of item) tail, body_long item)
+
 -- the input ends inside the bytes that a head announces
 pub short_body : (r : Option (List ℕ)) (form : Form) (taken : List ℕ) → IsForm form → length taken < body_len form → IsAtEnd r → IsBad (record_head form ++ taken) r
-short_body r form taken ok short end = (
-  omega (arith, length-append (record_head form) taken, head_long form),
-  λ left h item fine tail e.
-      let e' : record_head form ++ taken ≡ line_of item ++ tail = sym (ap (λ l. (record_head form ++ taken) ++ l) (at_end r left end h) ∙ append-nil (record_head form ++ taken)) ∙ e in
-      let same = same_len form (form_for item) ok (is_form item fine) (head_is (record_head form) taken tail item (head_long form) e') in
-      let n : length taken ≡ length (body_of item ++ tail) = ap length (left_is (record_head form) taken tail item (head_long form) e') in
-      omega (arith, short, n, same, length-append (body_of item) tail, body_long item),
-)
+short_body r form taken ok short end =
+    bad_at_end r (record_head form ++ taken) (omega (arith, length-append (record_head form) taken, head_long form)) (few_behind form taken ok short) end
 
 abbrev kind_byte : List ℕ → ℕ
 kind_byte bytes = get_or bytes 0 0

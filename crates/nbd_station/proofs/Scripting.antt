@@ -12,11 +12,11 @@ use Rattle.nbd_station.specs.declared.event.ScriptError.{ScriptError}
 use Rattle.nbd_station.specs.declared.event.ScriptError.TheVariants.{Input, BadRecord, Output as OutputFailed}
 use Rattle.nbd_station.specs.StationState.{StationState}
 use Rattle.nbd_station.specs.Running.{Runs, Ends}
-use Rattle.nbd_station.specs.Script.{Item, Happens, Arms, IsAllowed, AreAllowed, IsBad, FailsToReadAll, FailsToWrite, ScriptSays, line_of, script_of, events_of, events_in, script_state}
+use Rattle.nbd_station.specs.Script.{Item, Happens, Arms, IsAllowed, AreAllowed, NoRecord, IsBad, FailsToReadAll, FailsToWrite, ScriptSays, line_of, script_of, events_of, events_in, script_state}
 use Rattle.nbd_station.specs.ScriptSteps.{ArmsNothing, IsForm, ItemMoves, ItemHangs, FormDoes, PieceDoes, ArmDoes, ReadsForm, FailsToRead, record_head}
 use Rattle.nbd_station.proofs.Ending.{runs_more}
 use Rattle.nbd_station.proofs.Filling.{consumes_twice}
-use Rattle.nbd_station.proofs.Refusing.{short_body, no_arming, head_long}
+use Rattle.nbd_station.proofs.Refusing.{few_behind, few_bytes, short_body, no_arming, head_long}
 use Rattle.std.specs.Prelude.{Result, Ok, Err}
 use Rattle.std.proofs.lemmas.List.{append-nil}
 use Rattle.std.proofs.KnownBytes.{Appends-trans}
@@ -106,6 +106,11 @@ pub lines_done : (old now : StationState) (r was r' r'' is : Option (List ℕ)) 
 lines_done old now r was r' r'' is i end =
     (i.0, i.1, subst (λ l. Consumes r r'' l) (append-nil (script_of i.0)) (consumes_twice r r' r'' (script_of i.0) [] i.2 end.0), end.1, i.3)
 
+-- the script has no end: all that was read are these records
+pub lines_endless : (old now : StationState) (r was r' is : Option (List ℕ)) → SoMany old now r was r' is → ScriptSays old now r was (Err Input) r' is
+lines_endless old now r was r' is i =
+    (i.0, [], i.1, subst (λ l. Consumes r r' l) (sym (append-nil (script_of i.0))) i.2, i.3, few_bytes [] (omega arith))
+
 -- so many records, and as many bytes at least
 abbrev pub AreRead : ℕ → Option (List ℕ) → Option (List ℕ) → Type 0
 AreRead n r r' = (bytes : List ℕ) × Consumes r r' bytes × (n ≤ length bytes)
@@ -171,22 +176,10 @@ module _ (old mid new : StationState) (r r' r'' r3 was is now : Option (List ℕ
         subst (λ l. Ends old new l was now) (sym (events_more items item)) (ends_item old mid new (events_of items) item was is now a b i.3 d.5),
       )
 
-  -- a record of which the rest does not come: nothing is done
-  pub lines_stop : SoMany old mid r was r' is → (taken : List ℕ) × Consumes r'' r3 taken × (new ≡ mid) × (now ≡ is)
-      → (items : List Item) × (rest : List ℕ) × AreAllowed items × Consumes r r3 (script_of items ++ rest) × Runs old new (events_of items) was now
-  lines_stop i d =
-      let items = i.0 in (
-        items,
-        record_head form ++ d.0,
-        i.1,
-        consumes_twice r r' r3 (script_of items) (record_head form ++ d.0) i.2 (consumes_twice r' r'' r3 (record_head form) d.0 head d.1),
-        subst (λ o. Runs old new (events_of items) was o) (sym d.3) (subst (λ v. Runs old v (events_of items) was is) (sym d.2) i.3),
-      )
-
-  -- a record of which the rest is not there, or not as it should be
-  pub lines_bad : SoMany old mid r was r' is → (taken : List ℕ) × Consumes r'' r3 taken × (new ≡ mid) × (now ≡ is) × IsBad (record_head form ++ taken) r3
-      → (items : List Item) × (rest : List ℕ) × AreAllowed items × Consumes r r3 (script_of items ++ rest) × Runs old new (events_of items) was now × IsBad rest r3
-  lines_bad i d =
+  -- a record of which the rest does not come, or is not as it should be: nothing is done
+  pub lines_stop : (P : List ℕ → Type 0) → SoMany old mid r was r' is → (taken : List ℕ) × Consumes r'' r3 taken × (new ≡ mid) × (now ≡ is) × P (record_head form ++ taken)
+      → (items : List Item) × (rest : List ℕ) × AreAllowed items × Consumes r r3 (script_of items ++ rest) × Runs old new (events_of items) was now × P rest
+  lines_stop P i d =
       let items = i.0 in (
         items,
         record_head form ++ d.0,
@@ -197,8 +190,8 @@ module _ (old mid new : StationState) (r r' r'' r3 was is now : Option (List ℕ
       )
 
   pub lines_err : (e : ScriptError) → SoMany old mid r was r' is → FormDoes form mid new r'' is (Err e) r3 now → ScriptSays old new r was (Err e) r3 now
-  lines_err Input i d = lines_stop i d
-  lines_err BadRecord i d = lines_bad i d
+  lines_err Input i d = lines_stop NoRecord i d
+  lines_err BadRecord i d = lines_stop (λ l. IsBad l r3) i d
   lines_err OutputFailed i d = lines_end i d
 
 -- ---- the records that have bytes
@@ -206,7 +199,9 @@ module _ (old mid new : StationState) (r r' r'' r3 was is now : Option (List ℕ
 pub piece_form : (form : Form) (who len len' : ℕ) (old new : StationState) (r was : Option (List ℕ)) (res : Result (Unit {0}) ScriptError) (r' is : Option (List ℕ))
     → form ≡ PieceForm who len → IsForm form → len' ≡ len → PieceDoes who len' (script_state old r was) res (script_state new r' is) → FormDoes form old new r was res r' is
 piece_form form who len len' old new r was (Ok v) r' is same ok e d = piece_done form who len d.0 r r' (λ i. ItemMoves i old new was is) same ok (d.1 ∙ e) d.2 d.3
-piece_form form who len len' old new r was (Err Input) r' is same ok e d = d
+piece_form form who len len' old new r was (Err Input) r' is same ok e d =
+    let ok' = subst IsForm same ok in
+    (d.0, d.1, d.2, d.3, subst (λ f. NoRecord (record_head f ++ d.0)) (sym same) (few_behind (PieceForm who len) d.0 ok' (subst (λ k. length d.0 < k) e d.4)))
 piece_form form who len len' old new r was (Err BadRecord) r' is same ok e d =
     let ok' = subst IsForm same ok in
     (d.0, d.1, d.2, d.3, subst (λ f. IsBad (record_head f ++ d.0) r') (sym same) (short_body r' (PieceForm who len) d.0 ok' (subst (λ k. length d.0 < k) e d.4) d.5))
@@ -220,7 +215,8 @@ pub arm_form : (form : Form) (old new : StationState) (r was : Option (List ℕ)
     → form ≡ ArmForm → new ≡ old → ArmDoes r res r' → FormDoes form old new r was res r' was
 arm_form form old new r was (Ok v) r' same still d =
     arm_done form d.0 d.1 d.2 (to_be_bytes w32 d.0 ++ d.1 ∷ d.2 ∷ []) r r' (λ i. ItemMoves i old new was was) same d.3 refl refl d.4 (still, refl)
-arm_form form old new r was (Err Input) r' same still d = (d.0, d.1, still, refl)
+arm_form form old new r was (Err Input) r' same still d =
+    (d.0, d.1, still, refl, subst (λ f. NoRecord (record_head f ++ d.0)) (sym same) (few_behind ArmForm d.0 tt d.2))
 arm_form form old new r was (Err BadRecord) r' same still d =
     let bad : IsBad (record_head ArmForm ++ d.0) r' = bad_arming r' d.0 d.2 in
     (d.0, d.1, still, refl, subst (λ f. IsBad (record_head f ++ d.0) r') (sym same) bad)

@@ -99,9 +99,9 @@ script_state station left written = record { station = station; left = left; wri
 
 -- What a run of a script says. Ok: the input is a script of allowed items, and their events were
 -- run. A bad record: the input begins with a script of allowed items, the events of these were run,
--- and behind them stands no record of an allowed item. Where the input fails: the same, but of what
--- stands behind them nothing is said. Where the output fails: it does so in the last event that was
--- read.
+-- and behind them stands no record of an allowed item. Where the input fails: the same, and what
+-- was read behind them holds no whole record. Where the output fails: it does so in the last event
+-- that was read.
 abbrev pub ScriptSays : StationState → StationState → Option (List ℕ) → Option (List ℕ)
     → Result (Unit {0}) ScriptError → Option (List ℕ) → Option (List ℕ) → Type 0
 ScriptSays old new r was (Ok _) r' is =
@@ -110,6 +110,7 @@ ScriptSays old new r was (Ok _) r' is =
 ScriptSays old new r was (Err Input) r' is =
     (items : List Item) × (rest : List ℕ) × AreAllowed items
     × Consumes r r' (script_of items ++ rest) × Runs old new (events_of items) was is
+    × NoRecord rest
 ScriptSays old new r was (Err BadRecord) r' is =
     (items : List Item) × (rest : List ℕ) × AreAllowed items
     × Consumes r r' (script_of items ++ rest) × Runs old new (events_of items) was is

@@ -17,9 +17,8 @@ use Rattle.nbd_station.specs.declared.script.Form.TheVariants.{Arm as ArmForm}
 use Rattle.nbd_station.specs.StationState.{StationState}
 use Rattle.nbd_station.specs.Records.{NO_ONE}
 use Rattle.nbd_station.specs.Moving.{Moves, HangsUp}
-use Rattle.nbd_station.specs.Script.{Item, line_of, PIECE_LEN, IsAllowed, IsBad, ScriptState}
-use Rattle.nbd_station.specs.Script.{Happens}
-use Rattle.nbd_station.specs.Script.{Arms}
+use Rattle.nbd_station.specs.Script.{Item, line_of, PIECE_LEN, IsAllowed, NoRecord, IsBad}
+use Rattle.nbd_station.specs.Script.{ScriptState, Happens, Arms}
 
 -- the counts of failed reads and of failed writes: each rises with its own error, and only there
 abbrev pub FailsToRead : {T : Type 0} → ℕ → Result T ScriptError → ℕ → Type 0
@@ -46,17 +45,18 @@ IsForm RestoreForm = Unit {0}
 IsForm ArmForm = Unit {0}
 
 -- a reader's known bytes lost those that came to the front of the room, which is full but at the
--- end of the input
+-- end of the input; fewer than fill it where a read failed
 abbrev pub Fills : {E : Type 0} → Option (List ℕ) → Result ℕ E → List ℕ → Option (List ℕ) → Type 0
 Fills old (Ok n) bytes new = Consumes old new (take n bytes) × (n ≤ length bytes)
     × (n < length bytes → IsAtEnd new)
 Fills old (Err _) bytes new = (taken : List ℕ) × Consumes old new taken
+    × (length taken < length bytes)
 
 -- what the reading of a head says: a form, or None at the end of the input
 abbrev pub ReadsForm : Option (List ℕ) → Result (Option Form) ScriptError → Option (List ℕ) → Type 0
 ReadsForm old (Ok None) new = Consumes old new [] × IsAtEnd new
 ReadsForm old (Ok (Some form)) new = Consumes old new (record_head form) × IsForm form
-ReadsForm old (Err Input) new = (taken : List ℕ) × Consumes old new taken
+ReadsForm old (Err Input) new = (taken : List ℕ) × Consumes old new taken × NoRecord taken
 ReadsForm old (Err BadRecord) new = (taken : List ℕ) × Consumes old new taken × IsBad taken new
 ReadsForm old (Err OutputFailed) new = ⊥
 
@@ -80,6 +80,7 @@ FormDoes form old new r was (Ok _) r' is =
     × Consumes r r' rest × ItemMoves item old new was is
 FormDoes form old new r was (Err Input) r' is =
     (taken : List ℕ) × Consumes r r' taken × (new ≡ old) × (is ≡ was)
+    × NoRecord (record_head form ++ taken)
 FormDoes form old new r was (Err BadRecord) r' is =
     (taken : List ℕ) × Consumes r r' taken × (new ≡ old) × (is ≡ was)
     × IsBad (record_head form ++ taken) r'
@@ -94,7 +95,7 @@ PieceDoes who len old (Ok _) new =
     × Moves old.station new.station (Piece who bytes) old.written new.written
 PieceDoes who len old (Err Input) new =
     (taken : List ℕ) × Consumes old.left new.left taken × (new.station ≡ old.station)
-    × (new.written ≡ old.written)
+    × (new.written ≡ old.written) × (length taken < len)
 PieceDoes who len old (Err BadRecord) new =
     (taken : List ℕ) × Consumes old.left new.left taken × (new.station ≡ old.station)
     × (new.written ≡ old.written) × (length taken < len) × IsAtEnd new.left
@@ -111,7 +112,7 @@ ArmsNothing bytes = (count kind mask : ℕ) → kind < 2
 abbrev pub ArmDoes : Option (List ℕ) → Result (Unit {0}) ScriptError → Option (List ℕ) → Type 0
 ArmDoes r (Ok _) r' = (count : ℕ) × (kind : ℕ) × (mask : ℕ) × (kind < 2)
     × Consumes r r' (to_be_bytes w32 count ++ kind ∷ mask ∷ [])
-ArmDoes r (Err Input) r' = (taken : List ℕ) × Consumes r r' taken
+ArmDoes r (Err Input) r' = (taken : List ℕ) × Consumes r r' taken × (length taken < 6)
 ArmDoes r (Err BadRecord) r' = (taken : List ℕ) × Consumes r r' taken
     × (((length taken < 6) × IsAtEnd r') ⊎ ((length taken ≡ 6) × ArmsNothing taken))
 ArmDoes r (Err OutputFailed) r' = ⊥

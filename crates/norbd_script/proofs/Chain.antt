@@ -114,7 +114,7 @@ module _ (f : Facts) (p : ℕ) (b b' : StationState) (new : OnBus) (sound : f.so
 
     said : (r was r' is : Option (List ℕ)) (e : Result (Unit {0}) ScriptError) → ScriptSays b b' r was e r' is → AnswersLines (mounted n f.contents) (seen_of n f) new' r was e r' is
     said r was r' is (Ok v) s = (s.0, s.1, s.2, s.3, answered (events_of s.0) was is s.4)
-    said r was r' is (Err Input) s = (s.0, s.1, s.2, s.3, answered (events_of s.0) was is s.4)
+    said r was r' is (Err Input) s = (s.0, s.1, s.2, s.3, answered (events_of s.0) was is s.4, s.5)
     said r was r' is (Err BadRecord) s = (s.0, s.1, s.2, s.3, answered (events_of s.0) was is s.4, s.5)
     said r was r' is (Err Output) s = (s.0, s.1, s.2, broken (events_of s.0) was is s.3)
 

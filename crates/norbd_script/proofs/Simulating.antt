@@ -60,7 +60,7 @@ module _ (n : ℕ) (was_there is_there : List ℕ) (cuts : ℕ) (after : ℕ) (r
 
   simulated : (result : Result (Unit {0}) RunFault) (t : Readings) (p : Params) → format_answer t ≡ Ok p → FormatsAsTold result t → AnswersScript old new r was result r' is → SimulatesScript n r was result r' is
   simulated (Ok v) t p good tells x = (x.0, x.1, x.2, x.3, from-answers (events_of x.0) x.4)
-  simulated (Err (Script Input)) t p good tells x = (x.0, x.1, x.2, x.3, from-answers (events_of x.0) x.4)
+  simulated (Err (Script Input)) t p good tells x = (x.0, x.1, x.2, x.3, from-answers (events_of x.0) x.4, x.5)
   simulated (Err (Script BadRecord)) t p good tells x = (x.0, x.1, x.2, x.3, from-answers (events_of x.0) x.4, x.5)
   simulated (Err (Script Output)) t p good tells x = (x.0, x.1, x.2, from-breaks (events_of x.0) x.3)
   simulated (Err (Format e)) t p good tells x = (x.0, prompt-format e t p 0 cuts good tells x.1)

@@ -15,7 +15,7 @@ use Rattle.nbd_wire.specs.Commands.{default_export}
 use Rattle.nbd_station.specs.World.{World}
 use Rattle.nbd_station.specs.Transcript.{Transcript}
 use Rattle.nbd_station.specs.Broken.{Stops}
-use Rattle.nbd_station.specs.Script.{Item, AreAllowed, IsBad, script_of, events_of}
+use Rattle.nbd_station.specs.Script.{Item, AreAllowed, NoRecord, IsBad, script_of, events_of}
 use Rattle.norbd_script.specs.declared.error.RunFault.{RunFault}
 use Rattle.norbd_script.specs.declared.error.RunFault.TheVariants.{Format, Mount, NotClean}
 use Rattle.norbd_script.specs.declared.error.RunFault.TheVariants.{OutOfMemory, Script}
@@ -75,8 +75,8 @@ abbrev pub IsUntouched : Option (List ℕ) → Option (List ℕ) → Option (Lis
 IsUntouched r was r' is = (r' ≡ r) × (is ≡ was)
 
 -- What a script says from this world. Ok: the input is a script of allowed items to its end. A bad
--- record: it begins with one, and behind it stands no record of an allowed item. In each case the
--- events of these items are answered.
+-- record, or a failed input: it begins with one, and behind it, or in what was read behind it,
+-- stands no record of an allowed item. In each case the events of these items are answered.
 abbrev pub AnswersLines : World → Seen → Seen → Option (List ℕ) → Option (List ℕ)
     → Result (Unit {0}) ScriptError → Option (List ℕ) → Option (List ℕ) → Type 0
 AnswersLines first old new r was (Ok _) r' is =
@@ -85,7 +85,7 @@ AnswersLines first old new r was (Ok _) r' is =
 AnswersLines first old new r was (Err scripts.Input) r' is =
     (items : List Item) × (rest : List ℕ) × AreAllowed items
     × Consumes r r' (script_of items ++ rest)
-    × AnswersEvents first old new (events_of items) was is
+    × AnswersEvents first old new (events_of items) was is × NoRecord rest
 AnswersLines first old new r was (Err scripts.BadRecord) r' is =
     (items : List Item) × (rest : List ℕ) × AreAllowed items
     × Consumes r r' (script_of items ++ rest)

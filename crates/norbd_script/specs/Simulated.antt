@@ -11,7 +11,7 @@ use Rattle.nbd_station.specs.declared.event.ScriptError.TheVariants as scripts
 use Rattle.nbd_station.specs.World.{World}
 use Rattle.nbd_station.specs.Transcript.{Transcript}
 use Rattle.nbd_station.specs.Broken.{Stops}
-use Rattle.nbd_station.specs.Script.{Item, AreAllowed, IsBad, script_of, events_of}
+use Rattle.nbd_station.specs.Script.{Item, AreAllowed, NoRecord, IsBad, script_of, events_of}
 use Rattle.norbd_script.specs.declared.error.RunFault.{RunFault}
 use Rattle.norbd_script.specs.declared.error.RunFault.TheVariants.{Format, Mount, NotClean}
 use Rattle.norbd_script.specs.declared.error.RunFault.TheVariants.{OutOfMemory, Script}
@@ -53,6 +53,7 @@ SimulatesScript sectors r was (Ok _) r' is =
 SimulatesScript sectors r was (Err (Script scripts.Input)) r' is =
     (items : List Item) × (rest : List ℕ) × AreAllowed items
     × Consumes r r' (script_of items ++ rest) × AnswersFrom sectors (events_of items) was is
+    × NoRecord rest
 SimulatesScript sectors r was (Err (Script scripts.BadRecord)) r' is =
     (items : List Item) × (rest : List ℕ) × AreAllowed items
     × Consumes r r' (script_of items ++ rest) × AnswersFrom sectors (events_of items) was is

@@ -1,6 +1,8 @@
-use Rattle.std.proofs.Common.{◌∙◌, sym, subst, length, ◌-◌}
+use Rattle.std.proofs.Common.{◌∙◌, sym, subst, length, take, ◌-◌, arith}
+use Rattle.std.proofs.lemmas.List.{length-take-le}
+use Rattle.std.proofs.lemmas.Result.{err_from_is_err_and}
 use Rattle.std.specs.Io.KnownBytes.{Consumes}
-use Rattle.nbd_station.proofs.Filling.{consumes_twice, filled, long_enough}
+use Rattle.nbd_station.proofs.Filling.{consumes_twice, consumes_kept, filled, long_enough}
 use Rattle.nbd_station.proofs.script.fill.Goals as goal
 
 pub loop-used-preserved : goal.loop-used-preserved
@@ -14,3 +16,10 @@ loop-used-preserved g c =
           (consumes_twice _ _ _ _ _ i.1 (let b = e.bytes in b.0)),
       e.faults ∙ i.2,
     )
+
+pub returns-in_err-n-clause-bytes : goal.returns-in_err-n-clause-bytes
+returns-in_err-n-clause-bytes g c =
+    let i = c.loop-used.invariant in
+    let used = c.loop-used.used in
+    let p = err_from_is_err_and c.from_residual.result c.from_residual.ensures.1 in
+    rw p.1 (take used c.loop-used.into, consumes_kept _ _ _ _ i.1 c.in_err-n.ensures.bytes, omega (arith, length-take-le used c.loop-used.into i.0))

@@ -1,6 +1,6 @@
 use Rattle.std.proofs.Common.{◌∙◌, inr, arith}
 use Rattle.nbd_station.proofs.Pieces.{goes_twice}
-use Rattle.nbd_station.proofs.Scripting.{lines_done, lines_more, lines_err, read_more, read_so_many, reads_all, writes_all, reading_reads, reading_writes}
+use Rattle.nbd_station.proofs.Scripting.{lines_done, lines_endless, lines_more, lines_err, read_more, read_so_many, reads_all, writes_all, reading_reads, reading_writes}
 use Rattle.nbd_station.proofs.script.run_lines.Goals as goal
 
 pub loop-preserved : goal.loop-preserved
@@ -59,3 +59,7 @@ pub returns-in-Ok-None-clause-says : goal.returns-in-Ok-None-clause-says
 returns-in-Ok-None-clause-says g c =
     lines_done c.args.hub.now c.loop.hub (g.S.Source.remaining c.args.reader.now) (g.W.Sink.written c.args.out.now) (g.S.Source.remaining c.loop.reader) (g.S.Source.remaining c.read_form.new.reader) (g.W.Sink.written c.loop.out)
     c.loop.invariant.2 (rw c.in-Ok-None.field-0-is at c.in-Ok-None.ensures.form)
+
+pub returns-clause-says : goal.returns-clause-says
+returns-clause-says g c =
+    lines_endless c.args.hub.now c.loop.hub (g.S.Source.remaining c.args.reader.now) (g.W.Sink.written c.args.out.now) (g.S.Source.remaining c.loop.reader) (g.W.Sink.written c.loop.out) c.loop.invariant.2
