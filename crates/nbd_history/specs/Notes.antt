@@ -8,6 +8,11 @@ pub record Sight (E : Type 0) : Type 0 where
   pub by : ℕ
   pub seen : List E
 
+-- the first of these, if there is one
+abbrev pub first_noted : {A : Type 0} → List A → Option A
+first_noted [] = None
+first_noted (x ∷ xs) = Some x
+
 abbrev pub put : {E : Type 0} → Option E → List E → List E
 put None es = es
 put (Some e) es = e ∷ es

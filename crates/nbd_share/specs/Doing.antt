@@ -1,6 +1,6 @@
 -- What one `execute` does. Source: own.
-use Rattle.std.specs.Prelude.{◌≡◌, ◌⊎◌, ℕ, ◌+◌, ◌<◌, List, [], length, Bool, true, false, Some}
-use Rattle.std.specs.Prelude.{if◌then◌else◌, Result, OnOk, IsErrOf}
+use Rattle.std.specs.Prelude.{◌≡◌, ◌⊎◌, ℕ, ◌+◌, ◌<◌, List, [], length, Bool, true, false}
+use Rattle.std.specs.Prelude.{if◌then◌else◌, Option, Some, Result, OnOk, IsErrOf}
 use Rattle.block_device.specs.declared.disk.DiskError.{DiskError}
 use Rattle.block_device.specs.declared.disk.DiskError.TheVariants.{Cut, Slow}
 use Rattle.block_device.specs.Contents.{Outcome}
@@ -9,6 +9,7 @@ use Rattle.nbd_wire.specs.declared.command.Command.{Command}
 use Rattle.nbd_wire.specs.Commands.{is_read, touches_chip}
 use Rattle.nbd_wire.specs.Numbers.{EIO, ENOMEM}
 use Rattle.nbd_transmission.specs.Apply.{changed_by, data_of}
+use Rattle.nbd_share.specs.declared.recorder.Interrupted.{Interrupted}
 use Rattle.nbd_share.specs.declared.shared.Done.{Done}
 use Rattle.nbd_share.specs.declared.shared.Done.TheVariants.{Replied, Lost}
 use Rattle.nbd_share.specs.History.{interrupted_of, row_of, rows_with}
@@ -102,6 +103,13 @@ pub record Executes (keeps : Bool) (old new : Served) (pass pass' : PassState) (
   -- after Lost every command is lost at once
   pub stays_lost : old.lost ≡ true → (done ≡ Lost) × (new ≡ old)
 
+-- The first command that is lost is noted as the one that the Cut interrupted, and no other is.
+abbrev pub NotesLost : Bool → Option Interrupted → Option Interrupted → Command → List ℕ → Done
+    → Type 0
+NotesLost lost old new command bytes (Replied a) = new ≡ old
+NotesLost lost old new command bytes Lost =
+    new ≡ (if lost then old else Some (interrupted_of command bytes))
+
 -- What `tidy` does: one step of the disk's tidying. It adds no row, and keeps all that was
 -- recorded.
 pub record Tidied (old new : Served) (result : Result Bool DiskError) : Type 0 where
@@ -123,5 +131,5 @@ pub record Tidied (old new : Served) (result : Result Bool DiskError) : Type 0 w
       × (new.disk.cut ≡ true) × (new.lost ≡ true)
   pub slow : IsErrOf result Slow → ((old.disk.slow ≡ true) ⊎ (old.disk.slows < new.disk.slows))
       × (new.disk.slow ≡ true) × (new.lost ≡ old.lost)
-  pub alone : IsErrOf result Slow → new.disk.cut ≡ false
+  pub alone : IsErrOf result Slow → (old.disk.cut ≡ false) × (new.disk.cut ≡ false)
   pub quiet : IsErrOf result Cut → old.disk.cut ≡ false → old.disk.slow ≡ false

@@ -14,7 +14,7 @@ use Rattle.nbd_wire.specs.Numbers.{ENOMEM}
 use Rattle.nbd_share.specs.declared.recorder.Interrupted.{Interrupted}
 use Rattle.nbd_share.specs.declared.recorder.Row.{Row}
 use Rattle.nbd_share.specs.declared.shared.Done.{Done}
-use Rattle.nbd_share.specs.Doing.{Executes, IfReplied, OnLost, Tidied}
+use Rattle.nbd_share.specs.Doing.{Executes, IfReplied, NotesLost, OnLost, Tidied}
 use Rattle.nbd_share.specs.History.{has_failed, replay, row_of, IsLeft, IsLegal}
 use Rattle.nbd_share.specs.PassState.{PassState}
 use Rattle.nbd_share.specs.State.{Served, IsKept}
@@ -39,16 +39,18 @@ pub record IsServed (start : Start) (a : Served) : Type 0 where
   pub kept : start.keeps ≡ true → IsKept start.export a.disk a.base a.rows a.interrupted
   pub based : start.keeps ≡ true → start.sound ≡ true → a.base ≡ start.base
 
--- A server and its history: the rows of all commands that were answered, also where the server
--- keeps none. They exist in proofs alone.
+-- A server and its history: the rows of all commands that were answered, and the command that a Cut
+-- interrupted, also where the server keeps none. They exist in proofs alone.
 pub record Chronicled : Type 0 where
   pub served : Served
   pub rows : List Row
-
--- A Cut took at most one command, which the request table accepts: each sector is wholly as it was,
--- or wholly as that command was to make it. Where it came in tidying they are all as they were.
-pub record IsCutIn (export : Export) (old new : List ℕ) : Type 0 where
   pub interrupted : Option Interrupted
+
+-- What a Cut left. It took at most one command, which the request table accepts: each sector is
+-- wholly as it was, or wholly as that command was to make it. Where it came in tidying they are all
+-- as they were.
+pub record IsCutIn (export : Export) (interrupted : Option Interrupted)
+    (old new : List ℕ) : Type 0 where
   pub accepted : IfSome interrupted (λ lost. judge_of lost.command export ≡ None)
   pub payload : IfSome interrupted (λ lost.
       length lost.payload ≡ payload_len_of lost.command.kind lost.command)
@@ -56,13 +58,16 @@ pub record IsCutIn (export : Export) (old new : List ℕ) : Type 0 where
 
 -- The rows are a legal history of these contents, and while neither a Cut nor a Slow is latched in
 -- a sound disk its contents are their replay; where a Cut is latched they are what it left of that.
-pub record IsHistoryOf (export : Export) (disk : Facts) (base : List ℕ) (rows : List Row) : Type 0
-  where
-    pub legal : disk.sound ≡ true → IsLegal export base false rows
-    pub replayed : disk.sound ≡ true → disk.cut ≡ false → disk.slow ≡ false
-        → disk.contents ≡ replay base rows
-    pub cut : disk.sound ≡ true → disk.cut ≡ true → IsCutIn export (replay base rows) disk.contents
-    pub failed : disk.cut ≡ false → has_failed false rows ≡ true → disk.slow ≡ true
+pub record IsHistoryOf (export : Export) (disk : Facts) (base : List ℕ) (rows : List Row)
+    (interrupted : Option Interrupted) : Type 0 where
+  pub legal : disk.sound ≡ true → IsLegal export base false rows
+  pub replayed : disk.sound ≡ true → disk.cut ≡ false → disk.slow ≡ false
+      → disk.contents ≡ replay base rows
+  pub cut : disk.sound ≡ true → disk.cut ≡ true
+      → IsCutIn export interrupted (replay base rows) disk.contents
+  pub failed : disk.cut ≡ false → has_failed false rows ≡ true → disk.slow ≡ true
+  -- a command was interrupted only where a Cut is latched
+  pub whole : disk.cut ≡ false → interrupted ≡ None
 
 -- so this holds of a server each time its lock is got
 pub record IsChronicled (start : Start) (a : Chronicled) : Type 0 where
@@ -71,7 +76,8 @@ pub record IsChronicled (start : Start) (a : Chronicled) : Type 0 where
   pub latched : start.sound ≡ true → a.served.disk.cut ≡ true → a.served.lost ≡ true
   -- where rows are kept they are the history
   pub recorded : start.keeps ≡ true → a.served.rows ≡ a.rows
-  pub history : start.sound ≡ true → IsHistoryOf start.export a.served.disk start.base a.rows
+  pub history : start.sound ≡ true
+      → IsHistoryOf start.export a.served.disk start.base a.rows a.interrupted
 
 abbrev pub connection_of : Row → ℕ
 connection_of row = row.connection
@@ -102,6 +108,7 @@ pub record ExecutesLocked (start : Start) (v w : Sight Row) (pass pass' : PassSt
   pub known : IsChronicled start before
   pub executes : Executes start.keeps before.served after.served pass pass' command bytes done
   pub adds : AddsRow before.rows after.rows v w command done
+  pub notes : NotesLost before.served.lost before.interrupted after.interrupted command bytes done
   pub by : v.by ≡ pass.connection
   pub then : IsChronicled start after
 
@@ -109,7 +116,21 @@ pub record ExecutesLocked (start : Start) (v w : Sight Row) (pass pass' : PassSt
 abbrev pub TidiesLocked : Start → Result Bool DiskError → Type 0
 TidiesLocked start result =
     (a : Chronicled) × ((b : Chronicled) × (IsChronicled start a × Tidied a.served b.served result
-    × (b.rows ≡ a.rows) × IsChronicled start b))
+    × (b.rows ≡ a.rows) × (b.interrupted ≡ a.interrupted) × IsChronicled start b))
+
+-- what each of these hands has seen is a beginning of this history, which has no other rows of it
+abbrev pub AreMet : List Row → List (Sight Row) → Type 0
+AreMet rows [] = Unit {0}
+AreMet rows (hand ∷ hands) =
+    IsPrefix hand.seen rows
+    × (entries_by connection_of hand.by rows ≡ entries_by connection_of hand.by hand.seen)
+    × AreMet rows hands
+
+-- and one meeting of hands: they are of one history
+pub record MeetsLocked (start : Start) (hands : List (Sight Row)) : Type 0 where
+  pub now : Chronicled
+  pub known : IsChronicled start now
+  pub met : AreMet now.rows hands
 
 -- and one end of a connection: the history at that time begins with all that its hand had seen, and
 -- has no other row of its number
@@ -122,6 +143,7 @@ pub record EndsLocked (start : Start) (hand : Sight Row) (pass : PassState) : Ty
   pub own : entries_by connection_of hand.by before.rows
       ≡ entries_by connection_of hand.by hand.seen
   pub rows : after.rows ≡ before.rows
+  pub interrupted : after.interrupted ≡ before.interrupted
   pub returned : after.served ≡ record before.served {
     returned = before.served.returned + 1;
     counted = before.served.counted + pass.count;

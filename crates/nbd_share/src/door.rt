@@ -5,7 +5,8 @@ ghost use Rattle.nbd_wire.specs.Commands.{judge_of};
 ghost use Rattle.nbd_wire.specs.Lent.{lent_len};
 ghost use Rattle.nbd_history.specs.Notes.{entries_by};
 ghost use Rattle.nbd_share.specs.History.{IsLegal};
-ghost use Rattle.nbd_share.specs.Locking.{EndsLocked, IsChronicled, connection_of, start_of};
+ghost use Rattle.nbd_share.specs.Locking.{EndsLocked, IsChronicled, MeetsLocked, connection_of};
+ghost use Rattle.nbd_share.specs.Locking.{start_of};
 
 use crate::chronicle::Chronicle;
 use crate::pass::{OneServer, Pass};
@@ -148,6 +149,16 @@ impl<D: Disk, R: Recorder, L: OneServer> Server<D, R, L> {
         let mut chronicle = self.chronicle.lock(wait);
         chronicle.known();
         chronicle.end(wait, pass, hand);
+        chronicle.known();
+    }
+
+    /// What each of these hands has seen is a beginning of the server's history at this time, which
+    /// has no other rows of it, by the lock.
+    pub fn meet<W: Wait>(&self, wait: &W, hands: &[Hand<Row, L>])
+        ensures { MeetsLocked (start_of R.KEEPS L.sound L.export L.base) hands.now }
+    {
+        let mut chronicle = self.chronicle.lock(wait);
+        chronicle.meet_all(wait, hands);
         chronicle.known();
     }
 

@@ -276,6 +276,13 @@ impl<D: Disk, R: Recorder, L: OneServer> Shared<D, R, L> {
         result
     }
 
+    /// Whether commands are lost.
+    pub fn is_lost(&self) -> bool
+        ensures { result ≡ self.now.lost }
+    {
+        self.lost
+    }
+
     /// Does nothing: what is known of a server, whenever it is got.
     pub fn known(&self)
         ensures { IsServed (start_of R.KEEPS L.sound L.export L.base) self.now }
