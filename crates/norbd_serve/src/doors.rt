@@ -1,14 +1,19 @@
 //! The doors and the gates of what is served, and the signal by which a connection's door wakes
 //! the keeper.
 
+ghost use Rattle.std.specs.Prelude.{◌≡◌, true, false};
+ghost use Rattle.nbd_share.specs.History.{IsLegal};
+
 use crate::socket::Client;
 use crate::telling::{Event, Log};
 use block_device::{Disk, DiskError};
 use nbd_durable::Owed;
+use nbd_history::Hand;
 use nbd_session::ReplyTo;
-use nbd_share::{Done, Door, Gate, Locked, OneServer, Pass, Point, Recorder};
+use nbd_share::{Done, Door, Gate, Locked, OneServer, Pass, Point, Recorder, Row, Tidier};
 use nbd_wire::Command;
 use std::fs::OpenFile;
+use std::marker::Model;
 use std::sync::atomic::{AtomicBool, Ordering};
 use std::sync::{Condvar, Mutex, Wait};
 use std::thread;
@@ -56,13 +61,43 @@ impl TidySignal {
 
 /// The door of a connection, a locked one. Beside each command it notes what the reply owes, raises
 /// the signal where the disk may have changed, and tells of an error; and its client hears what
-/// other replies are to.
+/// other replies are to. Contracts see it as the locked door.
 #[derive(Drop)]
 pub(crate) struct Serving<'s, 't, 'c, D: Disk, R: Recorder, L: OneServer, W: Wait, F> {
     pub(crate) door: Locked<'s, D, R, L, W>,
     pub(crate) owed: &'t Owed<'s, F>,
     pub(crate) signal: &'t TidySignal,
     pub(crate) client: &'t Client<'c, W>,
+}
+
+impl<'s, 't, 'c, D: Disk, R: Recorder, L: OneServer, W: Wait, F> Model
+    for Serving<'s, 't, 'c, D, R, L, W, F> {
+    ghost use Rattle.nbd_history.specs.Notes.{Sight};
+    ghost use Rattle.nbd_share.specs.declared.recorder.Row.{Row};
+
+    ghost Value = { Sight Row };
+
+    ghost view = { λ s. s.door };
+}
+
+impl<'s, 't, 'c, D: Disk, R: Recorder, L: OneServer, W: Wait, F> Serving<
+    's,
+    't,
+    'c,
+    D,
+    R,
+    L,
+    W,
+    F,
+> {
+    /// The hand again.
+    pub(crate) fn into_hand(self) -> Hand<Row, L>
+        ensures same { result ≡ self.entry }
+        ensures legal { L.sound ≡ true → IsLegal L.export L.base false result.seen }
+    {
+        let Serving { door, .. } = self;
+        door.into_hand()
+    }
 }
 
 impl<'s, 't, 'c, D, R, L, W, F> Door<L> for Serving<'s, 't, 'c, D, R, L, W, F>
@@ -78,8 +113,8 @@ where
     ghost keeps = { R.KEEPS };
 
     ghost executes = { λ old new pass pass' command bytes done.
-        ExecutesLocked (start_of R.KEEPS L.sound L.export L.base) old.door new.door pass pass'
-        command bytes done };
+        ExecutesLocked (start_of R.KEEPS L.sound L.export L.base) old new pass pass' command bytes
+        done };
 
     ghost tidies = { λ old new result.
         TidiesLocked (start_of R.KEEPS L.sound L.export L.base) result };
@@ -114,20 +149,31 @@ where
     }
 }
 
-/// The keeper's door, which notes where nothing was left to tidy.
+/// The keeper's door, a tidier's, which notes where nothing was left to tidy. Contracts see nothing
+/// of it.
 #[derive(Drop)]
-pub(crate) struct Tidying<'s, T> {
-    pub(crate) door: T,
+pub(crate) struct Tidying<'s, D: Disk, R: Recorder, L: OneServer, W: Wait> {
+    pub(crate) door: Tidier<'s, D, R, L, W>,
     pub(crate) signal: &'s TidySignal,
 }
 
-impl<'s, L: OneServer, T: Door<L>> Door<L> for Tidying<'s, T> {
-    ghost keeps = { T.keeps };
+impl<'s, D: Disk, R: Recorder, L: OneServer, W: Wait> Model for Tidying<'s, D, R, L, W> {
+    ghost Value = { Unit {0} };
 
-    ghost executes = { λ old new pass pass' command bytes done.
-        T.executes old.door new.door pass pass' command bytes done };
+    ghost view = { λ t. tt };
+}
 
-    ghost tidies = { λ old new result. T.tidies old.door new.door result };
+impl<'s, D: Disk, R: Recorder, L: OneServer, W: Wait> Door<L> for Tidying<'s, D, R, L, W> {
+    ghost use Rattle.std.specs.Prelude.{◌≡◌};
+    ghost use Rattle.nbd_share.specs.declared.shared.Done.TheVariants.{Lost};
+    ghost use Rattle.nbd_share.specs.Locking.{TidiesLocked, start_of};
+
+    ghost keeps = { R.KEEPS };
+
+    ghost executes = { λ old new pass pass' command bytes done. done ≡ Lost };
+
+    ghost tidies = { λ old new result.
+        TidiesLocked (start_of R.KEEPS L.sound L.export L.base) result };
 
     fn execute<'a>(
         &mut self,
@@ -147,12 +193,19 @@ impl<'s, L: OneServer, T: Door<L>> Door<L> for Tidying<'s, T> {
     }
 }
 
-/// The keeper's gate: where nothing was left to tidy it waits for the signal first.
+/// The keeper's gate: where nothing was left to tidy it waits for the signal first. Contracts see
+/// nothing of it.
 #[derive(Drop)]
 pub(crate) struct Resting<'s, K, W: Wait> {
     pub(crate) gate: K,
     pub(crate) signal: &'s TidySignal,
     pub(crate) wait: &'s W,
+}
+
+impl<'s, K, W: Wait> Model for Resting<'s, K, W> {
+    ghost Value = { Unit {0} };
+
+    ghost view = { λ r. tt };
 }
 
 impl<'s, K: Gate, W: Wait> Gate for Resting<'s, K, W> {

@@ -3,7 +3,7 @@
 ghost use Rattle.std.specs.Prelude.{◌≡◌, ◌+◌, ◌<◌, ◌∷◌, ◌++◌, [], true, false, IfOk, OnOk, vec_len};
 ghost use Rattle.std.specs.Prelude.{Some, Option};
 ghost use Rattle.nbd_share.specs.History.{IsLegal};
-ghost use Rattle.norbd_serve.specs.Serving.{AreLegal, ReturnsAsked, has_lost, is_lost};
+ghost use Rattle.norbd_serve.specs.Serving.{AreLegal, KeepsOne, ReturnsAsked, has_lost, is_lost};
 
 use crate::fault::ServeFault;
 use nbd_history::Hand;
@@ -31,12 +31,18 @@ pub(crate) struct Kept<L: OneServer> {
 }
 
 impl<L: OneServer> Model for Kept<L> {
-    ghost use Rattle.std.specs.Prelude.{◌≡◌, ℕ, true, false, vec_len};
-    ghost use Rattle.norbd_serve.specs.Serving.{AreLegal, has_lost};
+    ghost use Rattle.std.specs.Prelude.{◌≡◌, true, false, vec_len};
+    ghost use Rattle.norbd_serve.specs.Serving.{AreLegal, Keeping, has_lost};
 
-    ghost Value = { ℕ };
+    ghost Value = { Keeping };
 
-    ghost view = { λ k. vec_len k.served.ends };
+    ghost view = { λ k. record {
+      passes = k.served.passes.items;
+      ends = k.served.ends.items;
+      hands = k.served.hands.items;
+      is_whole = k.is_whole;
+      is_lost = k.is_lost;
+    } };
 
     ghost invariant = { λ k. k.is_whole ≡ true → record {
       passes : vec_len k.served.passes ≡ vec_len k.served.ends;
@@ -64,6 +70,7 @@ fn add<L: OneServer>(
     hand: Hand<Row, L>,
 ) -> Result<(), AllocError>
     ensures passes { OnOk result (vec_len served.new.passes ≡ vec_len served.old.passes + 1) }
+    ensures rights { OnOk result (served.new.passes.items ≡ served.old.passes.items ++ pass ∷ []) }
     ensures counts { OnOk result (vec_len served.new.ends ≡ vec_len served.old.ends + 1) }
     ensures ends { OnOk result (served.new.ends.items ≡ served.old.ends.items ++ end ∷ []) }
     ensures known { OnOk result (vec_len served.new.hands ≡ vec_len served.old.hands + 1) }
@@ -93,12 +100,16 @@ impl<L: OneServer> Kept<L> {
     }
 
     /// A command was lost.
-    pub(crate) fn lose(&mut self) {
+    pub(crate) fn lose(&mut self)
+        ensures { self.new ≡ record self.old { is_lost = true } }
+    {
         self.is_lost = true;
     }
 
     /// Whether a command was lost.
-    pub(crate) fn has_lost(&self) -> bool {
+    pub(crate) fn has_lost(&self) -> bool
+        ensures { result ≡ self.now.is_lost }
+    {
         self.is_lost
     }
 
@@ -106,6 +117,7 @@ impl<L: OneServer> Kept<L> {
     pub(crate) fn keep(&mut self, pass: Pass<L>, end: End, hand: Hand<Row, L>)
         requires lives { is_lost end ≡ false }
         requires legal { L.sound ≡ true → IsLegal L.export L.base false hand.seen }
+        ensures { KeepsOne self.old self.new pass end hand }
     {
         let was_whole = self.is_whole;
         self.is_whole = false;
@@ -117,7 +129,9 @@ impl<L: OneServer> Kept<L> {
     /// All connections, where so many were asked for, all were kept, and no command was lost. None
     /// asked for is without end, which only a loss or a fault ends.
     pub(crate) fn into_served(self, asked: Option<u32>) -> Result<Served<L>, ServeFault>
-        ensures { IfOk result (ReturnsAsked L.sound L.export L.base asked) }
+        ensures returns { IfOk result (ReturnsAsked L.sound L.export L.base asked) }
+        ensures kept { IfOk result (λ served. (served.passes.items ≡ self.passes)
+            × (served.ends.items ≡ self.ends) × (served.hands.items ≡ self.hands)) }
     {
         let Kept {
             served,

@@ -1,10 +1,11 @@
 //! A socket: the client at its other end, who reads it, and its writing half.
 
-ghost use Rattle.std.specs.Prelude.{◌≡◌, ◌≤◌, ◌+◌, ◌<◌};
+ghost use Rattle.std.specs.Prelude.{◌≡◌, ◌≤◌, ◌+◌, ◌<◌, ◌++◌, [], take};
 
 use crate::telling::{Event, Log, Teller};
 use block_device::{Failed, Sink, Tally};
 use nbd_durable::Owed;
+use nbd_history::{Noted, SaysAll};
 use nbd_session::ReplyTo;
 use nbd_transmission::Refusal;
 use std::cell::Cell;
@@ -97,12 +98,46 @@ impl<'c, 's, W: Clock + Wait + Log> Read for &'c Client<'s, W> {
 
 /// The writing half of a socket, whose failed calls are counted. A reply's head and its data go out
 /// in one call of the system, without a copy. Where the connection owes a sync it comes first, and
-/// where that fails the call does, and sends nothing. No contract says what a socket has taken.
+/// where that fails the call does, and sends nothing. What it has taken, as the calls of the system
+/// say it, is noted in proofs alone.
 #[derive(Drop)]
 pub struct SocketOut<'s, 'f, L: Ledger, F> {
     stream: &'s TcpStream,
     owed: &'s Owed<'f, F>,
     failures: Tally<L>,
+    taken: Noted<u8>,
+}
+
+/// What was taken before, and how many of the bytes of a call.
+#[derive(Drop)]
+pub struct Taking<'a> {
+    before: &'a Noted<u8>,
+    head: &'a [u8],
+    rest: &'a [u8],
+    count: usize,
+}
+
+/// Names the bytes that were taken with this call.
+pub struct TakenSaid;
+
+impl<'a> SaysAll<Taking<'a>, u8> for TakenSaid {
+    ghost use Rattle.std.specs.Prelude.{◌++◌, take};
+
+    ghost says_all = { λ t. t.before.now ++ take t.count (t.head.now ++ t.rest.now) };
+}
+
+/// Notes that so many of these bytes were taken.
+fn note_taken(taken: &mut Noted<u8>, head: &[u8], rest: &[u8], count: usize)
+    ensures { taken.new ≡ taken.old ++ take count (head.now ++ rest.now) }
+{
+    let taking = Taking {
+        before: taken,
+        head,
+        rest,
+        count,
+    };
+    let now = Noted::of::<Taking<'_>, TakenSaid>(&taking);
+    *taken = now;
 }
 
 impl<'s, 'f, L: Ledger, F> SocketOut<'s, 'f, L, F> {
@@ -115,19 +150,30 @@ impl<'s, 'f, L: Ledger, F> SocketOut<'s, 'f, L, F> {
         requires name { blank.name ≡ L.name }
         requires parts { blank.parts ≡ L.parts }
         requires some { 0 < L.parts }
+        ensures failures { result.failures ≡ 0 }
+        ensures taken { result.taken ≡ [] }
     {
         SocketOut {
             stream,
             owed,
             failures: Tally::new(blank),
+            taken: Noted::none(),
         }
+    }
+
+    /// What it has taken.
+    pub(crate) fn into_taken(self) -> Noted<u8>
+        ensures { result ≡ self.entry.taken }
+    {
+        let SocketOut { taken, .. } = self;
+        taken
     }
 }
 
 impl<'s, 'f, L: Ledger, F: OpenFile> Sink for SocketOut<'s, 'f, L, F> {
-    ghost use Rattle.std.specs.Prelude.{None};
+    ghost use Rattle.std.specs.Prelude.{Some};
 
-    ghost written = { λ out. None };
+    ghost written = { λ out. Some out.taken };
 
     ghost faults = { λ out. out.failures };
 
@@ -138,7 +184,10 @@ impl<'s, 'f, L: Ledger, F: OpenFile> Sink for SocketOut<'s, 'f, L, F> {
         let mut stream = self.stream;
         match stream.write(bytes) {
             Ok(0) if !bytes.is_empty() => Err(failed(&mut self.failures)),
-            Ok(n) => Ok(n),
+            Ok(n) => {
+                note_taken(&mut self.taken, bytes, &[], n);
+                Ok(n)
+            }
             Err(_) => Err(failed(&mut self.failures)),
         }
     }
@@ -150,7 +199,10 @@ impl<'s, 'f, L: Ledger, F: OpenFile> Sink for SocketOut<'s, 'f, L, F> {
         let parts = [IoSlice::new(head), IoSlice::new(rest)];
         match self.stream.write_vectored(&parts) {
             Ok(0) if !(head.is_empty() && rest.is_empty()) => Err(failed(&mut self.failures)),
-            Ok(n) => Ok(n),
+            Ok(n) => {
+                note_taken(&mut self.taken, head, rest, n);
+                Ok(n)
+            }
             Err(_) => Err(failed(&mut self.failures)),
         }
     }
