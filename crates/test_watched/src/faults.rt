@@ -8,7 +8,7 @@ use sfdp::SfdpError;
 use std::test::*;
 
 /// A chip of 64 KiB, erased but for the byte at 3000h.
-fn chip(rt: &HostRuntime, byte: u8) -> Result<SimChip, Fail> {
+pub(crate) fn chip(rt: &HostRuntime, byte: u8) -> Result<SimChip, Fail> {
     let mut bytes = Vec::new(rt.alloc());
     bytes.resize(65_536, 0xFF)?;
     bytes[0x3000] = byte;
