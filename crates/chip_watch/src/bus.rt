@@ -1,7 +1,7 @@
 //! The bus of a watched chip.
 
-ghost use Rattle.std.specs.Prelude.{◌^◌, ◌≡◌, ◌+◌, ◌<◌, [], ◌∷◌, IfOk, OnErr, OnOk, false, length};
-ghost use Rattle.std.specs.Prelude.{take, true};
+ghost use Rattle.std.specs.Prelude.{◌^◌, ◌≡◌, ◌+◌, ◌<◌, [], ◌∷◌, IfErr, IfOk, OnErr, OnOk};
+ghost use Rattle.std.specs.Prelude.{false, length, take, true};
 ghost use Rattle.chip_model.specs.Geometry.{IsChipSize};
 ghost use Rattle.chip_model.specs.Exchanges.{Exchange, Exchanged};
 ghost use Rattle.chip_watch.specs.Reading.{change_reads};
@@ -38,7 +38,7 @@ pub struct WatchedBus<P> {
 
 impl<P: Programmer + Drop> WatchedBus<P> {
     ghost use Rattle.chip_model.specs.Chip.{Idle};
-    ghost use Rattle.chip_watch.specs.Opening.{Opens};
+    ghost use Rattle.chip_watch.specs.Opening.{Opens, RefusesAsRead};
     ghost use Rattle.chip_model.specs.Frames.{Frame, command_of, newly_slow};
     ghost use Rattle.chip_watch.specs.Asking.{asked_of};
     ghost use Rattle.spi_frames.specs.Instruction.{instructed};
@@ -58,6 +58,7 @@ impl<P: Programmer + Drop> WatchedBus<P> {
         ensures trusts { IfOk result (λ b. watched_trusts b ≡ false) }
         ensures read { IfOk result (λ b. Opens (watched_chip b) (P.exchanged programmer)
             (P.exchanged b.wire.programmer)) }
+        ensures refused { IfErr result RefusesAsRead }
     {
         let mut wire = Wire {
             programmer,

@@ -1,7 +1,7 @@
 //! Everything that a chip holds, read once.
 
 ghost use Rattle.std.specs.Prelude.{◌≡◌, ◌*◌, ◌/◌, ◌%◌, ◌<◌, ◌≤◌};
-ghost use Rattle.std.specs.Prelude.{[], ◌∷◌, ℕ, List, IfOk, length, true};
+ghost use Rattle.std.specs.Prelude.{[], ◌∷◌, ℕ, List, IfErr, IfOk, length, true};
 ghost use Rattle.chip_model.specs.Chip.{Idle, is_idle, completed};
 ghost use Rattle.chip_model.specs.Frames.{status_1};
 ghost use Rattle.chip_model.specs.Geometry.{IsChipSize};
@@ -9,7 +9,7 @@ ghost use Rattle.chip_simulator.specs.Sim.{chip_of};
 ghost use Rattle.sfdp.specs.Params.{params_of};
 ghost use Rattle.chip_model.specs.Exchanges.{Exchange, Exchanged};
 ghost use Rattle.chip_watch.specs.Changes.{with_place};
-ghost use Rattle.chip_watch.specs.Opening.{Opens};
+ghost use Rattle.chip_watch.specs.Opening.{Opens, RefusesAsRead};
 ghost use Rattle.chip_watch.specs.Reading.{piece_reads};
 ghost use Rattle.chip_watch.specs.Shadow.{IsCalm};
 ghost use Rattle.chip_watch.specs.Watched.{shadow_chip};
@@ -34,9 +34,10 @@ struct Registers {
 
 /// A status register.
 fn register<P: Programmer>(wire: &mut Wire<P>, code: u8) -> Result<u8, OpenError>
-    ensures { IfOk result (λ b. Exchanged (P.exchanged wire.old.programmer)
+    ensures read { IfOk result (λ b. Exchanged (P.exchanged wire.old.programmer)
         (P.exchanged wire.new.programmer)
         (record { sent = code ∷ []; received = b ∷ [] } ∷ [])) }
+    ensures refused { IfErr result RefusesAsRead }
 {
     match wire.ask(&[code]) {
         Some(byte) => Ok(byte),
@@ -54,6 +55,7 @@ fn read_registers<P: Programmer>(wire: &mut Wire<P>) -> Result<Registers, OpenEr
     ensures rests { IfOk result (λ r. r.first % 4 ≡ 0) }
     ensures no_cmp { IfOk result (λ r. r.second / 64 % 2 ≡ 0) }
     ensures no_wps { IfOk result (λ r. r.third / 4 % 2 ≡ 0) }
+    ensures refused { IfErr result RefusesAsRead }
 {
     let first = register(wire, 0x05)?;
     let second = register(wire, 0x35)?;
@@ -73,9 +75,10 @@ fn read_registers<P: Programmer>(wire: &mut Wire<P>) -> Result<Registers, OpenEr
 
 /// The SFDP bytes.
 fn read_table<P: Programmer>(wire: &mut Wire<P>) -> Result<[u8; 256], OpenError>
-    ensures { IfOk result (λ t. Exchanged (P.exchanged wire.old.programmer)
+    ensures read { IfOk result (λ t. Exchanged (P.exchanged wire.old.programmer)
         (P.exchanged wire.new.programmer)
         (record { sent = 90 ∷ 0 ∷ 0 ∷ 0 ∷ 0 ∷ []; received = t } ∷ [])) }
+    ensures refused { IfErr result RefusesAsRead }
 {
     if !wire.hear(&[0x5A, 0, 0, 0, 0], 256) {
         return Err(OpenError::NoAnswer(0x5A));
@@ -107,6 +110,7 @@ fn read_memory<P: Programmer>(
     ensures long { IfOk result (λ m. length m.items ≡ 4096 * pieces) }
     ensures read { IfOk result (λ m. Exchanged (P.exchanged wire.old.programmer)
         (P.exchanged wire.new.programmer) (piece_reads m.items 0 pieces)) }
+    ensures refused { IfErr result RefusesAsRead }
 {
     let Ok(mut memory) = Vec::with_capacity(alloc, 4_096 * pieces as usize) else {
         return Err(OpenError::OutOfMemory);
@@ -165,6 +169,7 @@ pub fn open_shadow<P: Programmer>(alloc: Global, wire: &mut Wire<P>) -> Result<S
     ensures slows { IfOk result (λ s. s.slows ≡ 0) }
     ensures read { IfOk result (λ s. Opens (shadow_chip s) (P.exchanged wire.old.programmer)
         (P.exchanged wire.new.programmer)) }
+    ensures refused { IfErr result RefusesAsRead }
 {
     match wire.rest() {
         Ok(()) => {}

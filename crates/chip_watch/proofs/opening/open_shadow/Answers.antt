@@ -10,4 +10,4 @@ returns-clause-read g c =
     opened (shadow_chip c.at_rest.result) (log c.args.wire.now.programmer) (log c.rest.new.self.programmer) (log c.read_registers.new.wire.programmer)
     (log c.read_table.new.wire.programmer) (log c.read_memory.new.wire.programmer) r.first r.second r.third c.in_ok-table.table c.in_ok-memory.memory.items c.in-Ok-size_in.size
     e.first e.second e.third e.table e.memory c.in_ok-memory.ensures.long
-    c.in-Ok.ensures c.in_ok-registers.ensures.read c.in_ok-table.ensures c.in_ok-memory.ensures.read
+    c.in-Ok.ensures c.in_ok-registers.ensures.read c.in_ok-table.ensures.read c.in_ok-memory.ensures.read

@@ -13,5 +13,5 @@ returns-clause-read g c =
     let first : Exchange = record { sent = 5 ∷ []; received = c.in_ok-first.first ∷ [] } in
     let second : Exchange = record { sent = 53 ∷ []; received = c.in_ok-second.second ∷ [] } in
     let third : Exchange = record { sent = 21 ∷ []; received = c.in_ok-third.third ∷ [] } in
-    exchanged_twice l0 l1 l3 (first ∷ []) (second ∷ third ∷ []) c.in_ok-first.ensures
-    (exchanged_twice l1 l2 l3 (second ∷ []) (third ∷ []) c.in_ok-second.ensures c.in_ok-third.ensures)
+    exchanged_twice l0 l1 l3 (first ∷ []) (second ∷ third ∷ []) c.in_ok-first.ensures.read
+    (exchanged_twice l1 l2 l3 (second ∷ []) (third ∷ []) c.in_ok-second.ensures.read c.in_ok-third.ensures.read)
