@@ -69,6 +69,20 @@ class Lines(ChipCase):
                              (memory, 0, 0))
         self.chip_fails(peer, "--mend takes a file", "check", "CHIP", "--mend")
 
+    def test_layout_1_that_is_not_clean(self):
+        """A chip of layout 1 is looked at before a mount: where a block that reads as free isn't
+        erased, no line serves it or changes it."""
+        image = kit.formatted(layout=1)
+        kit.set_bytes(image, 0xA010, b"\xFC\xFC\x08\x00")
+        peer = self.peer(bytes(image))
+        for line in ("read CHIP", "write CHIP", "serve CHIP --unix a.sock",
+                     "serve CHIP --unix a.sock --trust",
+                     "serve CHIP --unix a.sock --read-only"):
+            words = [peer.place if it == "CHIP" else it for it in line.split()]
+            self.refused(f"not clean: {peer.place}: norbd check --mend mends it", *words)
+        self.assertEqual((peer.chip.memory, peer.chip.programs, peer.chip.erases),
+                         (bytes(image), 0, 0))
+
     def test_written(self):
         """`write` replaces sectors on the chip itself, and leaves the others."""
         peer = self.peer()

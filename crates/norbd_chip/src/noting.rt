@@ -56,6 +56,13 @@ impl<'n, P: Programmer + Drop> Noting<'n, P> {
     {
         Noting { bus, noted }
     }
+
+    /// The memory of the chip as it is known, of which nothing is asked of the programmer.
+    pub fn memory(&self) -> &[u8]
+        ensures { result.now ≡ (watched_chip self.now.bus).memory }
+    {
+        self.bus.memory()
+    }
 }
 
 impl<P: Programmer + Drop> SpiBus for Noting<'_, P> {

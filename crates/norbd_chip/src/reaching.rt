@@ -72,8 +72,10 @@ pub fn watch_noting<'r, 'p, 'n, R, T>(
 where
     R: Files + Net<Stream = TcpStream> + Clock,
     T: Report + Drop,
-    ensures { IfOk result (λ bus. is_idle (⟦<Noting<'n, Reached<'r, 'p, R, T>> as SpiBus>⟧.chip
-        bus).operation ≡ true) }
+    ensures idle { IfOk result (λ bus. is_idle
+        (⟦<Noting<'n, Reached<'r, 'p, R, T>> as SpiBus>⟧.chip bus).operation ≡ true) }
+    ensures size { IfOk result (λ bus. IsChipSize (length
+        (⟦<Noting<'n, Reached<'r, 'p, R, T>> as SpiBus>⟧.chip bus).memory)) }
 {
     match watch(rt, report, alloc, place, trusts) {
         Ok(bus) => Ok(Noting::new(bus, noted)),

@@ -185,22 +185,19 @@ impl<F: OpenFile + FileExt + Drop> Held<F> {
         })
     }
 
-    /// The chip in the file, whose changes get to the disk of this machine in a barrier's order:
-    /// the refusals of `bytes`.
+    /// The chip in the file, which has these bytes (`bytes`): its changes get to the disk of this
+    /// machine in a barrier's order. An error where no other handle of the file can be had.
     pub fn chip<'b>(
         &self,
-        alloc: Global,
+        bytes: Vec<u8>,
         barrier: &'b Barrier,
-    ) -> Result<ImageBus<Ordered<'b, F>>, SimError>
-        ensures size { IfOk result (λ b. IsChipSize (length (image_chip b).memory)) }
-        ensures chip { IfOk result (λ b. image_chip b ≡ fresh_chip (image_chip b).memory) }
+    ) -> io::Result<ImageBus<Ordered<'b, F>>>
+        requires { IsChipSize (length bytes.items) }
+        ensures chip { IfOk result (λ b. image_chip b ≡ fresh_chip bytes.items) }
         ensures cuts { IfOk result (λ b. image_cuts b ≡ 0) }
         ensures sound { IfOk result (λ b. image_broken b ≡ false) }
     {
-        let Ok(file) = self.file.try_clone() else {
-            return Err(SimError::File);
-        };
-        let bytes = self.bytes(alloc)?;
+        let file = self.file.try_clone()?;
         Ok(ImageBus::over(bytes, Ordered::new(file, barrier)))
     }
 }

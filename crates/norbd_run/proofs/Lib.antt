@@ -1,3 +1,4 @@
+pub mod Opening
 pub mod Refusals
 pub mod Sizes
 pub mod Lines

@@ -4,6 +4,9 @@ use Rattle.std.specs.Prelude.{Result, Ok, Err}
 use Rattle.std.specs.Fmt.{decimal}
 use Rattle.std.specs.Io.KnownBytes.{Appends}
 use Rattle.block_device.specs.Streams.{FailsToSend}
+use Rattle.erase_journal.specs.Journals.{IsHealthy}
+use Rattle.sector_survey.specs.Cleanness.{HasFreeErased, IsOfGroups}
+use Rattle.norbd_image.specs.Mended.{IsMended}
 use Rattle.norbd_run.specs.Formatting.{NothingWritten}
 use Rattle.norbd_run.specs.Listening.{IsRefusal}
 use Rattle.norbd_line.specs.declared.fault.Fault.{Fault}
@@ -36,3 +39,11 @@ CheckTells mends tells_json old faults (Err e) new faults' =
     (IsRefusal e × (NothingWritten old faults new faults'
     ⊎ ((report : List ℕ) × Appends old new report × (faults' ≡ faults))))
     ⊎ ((e ≡ OutputFailed) × ((text : List ℕ) × FailsToSend old faults text new faults'))
+
+-- What a mended image holds: the sectors of the old one, of which, where its superblock says layout
+-- 1, each block that reads as free is erased first.
+pub record IsMendedOf (old new : List ℕ) : Type 0 where
+  pub from : List ℕ
+  pub groups : IsOfGroups old → IsHealthy old → HasFreeErased old from
+  pub other : (IsOfGroups old → ⊥) → from ≡ old
+  pub mended : IsMended from new

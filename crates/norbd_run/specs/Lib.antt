@@ -2,6 +2,7 @@ pub mod Formatting
 pub mod Outcomes
 pub mod Scripting
 pub mod Listening
+pub mod Opening
 pub mod Serving
 pub mod Checking
 pub mod Moving

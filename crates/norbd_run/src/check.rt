@@ -1,10 +1,10 @@
 //! `check`: whether the chip in an image, or behind a programmer, would be served, and if not, why;
 //! and the mending of an image that isn't clean.
-ghost use Rattle.std.specs.Prelude.{◌≡◌, IfErr, IfOk, false, length, string_bytes, true};
-ghost use Rattle.chip_model.specs.Geometry.{IsChipSize};
-ghost use Rattle.norbd_run.specs.Checking.{CheckTells, last_text};
+ghost use Rattle.std.specs.Prelude.{◌≡◌, ℕ, IfErr, IfOk, List, false, length, string_bytes, true};
+ghost use Rattle.chip_model.specs.Geometry.{IsChipSize, sector_count};
+ghost use Rattle.norbd_run.specs.Checking.{CheckTells, IsMendedOf, last_text};
 ghost use Rattle.norbd_run.specs.Listening.{IsRefusal};
-ghost use Rattle.sector_map.specs.Maps.{IsMountable};
+ghost use Rattle.norbd_run.specs.Opening.{IsCheckedClean, IsReason};
 ghost use Rattle.sector_survey.specs.Reports.{IsReportOf};
 
 use crate::chip_disk::bytes_behind;
@@ -12,12 +12,15 @@ use crate::format::told_as;
 use crate::image_disk::{bytes_of, copied_disk, hold_image};
 use crate::read::send_bytes;
 use crate::serve::{tell, told_of_mount};
-use block_device::{Disk, Sink};
+use block_device::Sink;
+use chip_model::Geometry;
 use norbd_image::{Held, ImageFile, mended_image, rewrite_image};
 use norbd_line::{Cause, ChipCause, Fault};
 use norbd_serve::Log;
-use norbd_survey::{Json, Page, Reason, first_dirty, first_dirty_group, with_free_groups_erased};
-use sector_survey::{Report, Unexamined, Verdict, survey_image};
+use norbd_survey::{Json, Page, Reason, first_dirty};
+use sector_survey::{
+    Cleanness, Report, Unexamined, Verdict, survey_image, with_free_groups_erased,
+};
 use serprog_link::ProgrammerPlace;
 use std::alloc::{AllocError, Global};
 use std::net::{Net, TcpStream};
@@ -143,10 +146,12 @@ where
 /// be.
 pub(crate) fn look_over(alloc: Global, image: &[u8], how: How) -> Result<Looked, Fault>
     requires size { IsChipSize (length image.now) }
-    ensures healthy { IfOk result (λ looked. IfOk looked.end (λ _. IsMountable image.now)) }
+    ensures clean { IfOk result (λ looked. IfOk looked.end (λ checked.
+        IsCheckedClean checked.sectors image.now)) }
     ensures unmended { IfOk result (λ looked. IfOk looked.end (λ checked.
         checked.mended ≡ false)) }
     ensures end { IfOk result (λ looked. IfErr looked.end IsRefusal) }
+    ensures reason { IfOk result (λ looked. IfErr looked.end (λ e. IsReason e image.now)) }
     ensures refused { IfErr result IsRefusal }
 {
     let report = match report_about(alloc, image) {
@@ -168,7 +173,8 @@ pub(crate) fn report_about(alloc: Global, image: &[u8]) -> Result<Report, Unexam
 
 /// What want of a report is for the program.
 pub(crate) fn told_of_unexamined(error: Unexamined) -> Fault
-    ensures { IsRefusal result }
+    ensures refused { IsRefusal result }
+    ensures reason { (m : List ℕ) → IsReason result m }
 {
     match error {
         Unexamined::OutOfMemory => Fault::NoMemory,
@@ -179,36 +185,38 @@ pub(crate) fn told_of_unexamined(error: Unexamined) -> Fault
 }
 
 /// How a check of an image ends of which this was reported: a mount's refusal by the report, or
-/// what its cleanness says.
+/// whether what reads as free is erased. Where a copying goes on, which a mount ends, a copy is
+/// mounted to see that.
 fn end_of(alloc: Global, report: &Report, image: &[u8]) -> Result<Checked, Fault>
     requires size { IsChipSize (length image.now) }
     requires report { IsReportOf report.now image.now }
-    ensures healthy { IfOk result (λ _. IsMountable image.now) }
+    ensures clean { IfOk result (λ checked. IsCheckedClean checked.sectors image.now) }
     ensures unmended { IfOk result (λ checked. checked.mended ≡ false) }
     ensures refused { IfErr result IsRefusal }
+    ensures reason { IfErr result (λ e. IsReason e image.now) }
 {
     match report.verdict {
-        Verdict::NotFormatted => Err(Fault::NotFormatted),
-        Verdict::Corrupt(_) => Err(Fault::Corrupt),
-        Verdict::Mountable(_) => {
+        Verdict::NotFormatted => return Err(Fault::NotFormatted),
+        Verdict::Corrupt(_) => return Err(Fault::Corrupt),
+        Verdict::Mountable(_) => {}
+    }
+    let Some(says) = report.cleanness else {
+        unreachable!()
+    };
+    match says.is_clean() {
+        Some(true) => {}
+        Some(false) => return Err(Fault::NotClean),
+        None => {
             let Ok(copy) = image.to_vec(alloc) else {
                 return Err(Fault::NoMemory);
             };
-            Ok(Checked {
-                sectors: sectors_of(alloc, copy)?,
-                mended: false,
-            })
+            copied_disk(alloc, copy)?;
         }
     }
-}
-
-/// The sectors of an image that would be served, as a chip in memory shows it.
-fn sectors_of(alloc: Global, image: Vec<u8>) -> Result<u32, Fault>
-    requires { IsChipSize (length image.items) }
-    ensures { IfErr result IsRefusal }
-{
-    let disk = copied_disk(alloc, image)?;
-    Ok(disk.sectors())
+    Ok(Checked {
+        sectors: sectors_of(image),
+        mended: false,
+    })
 }
 
 /// The report on an image as a text.
@@ -245,9 +253,14 @@ fn report_text(
 
 /// The first place at which what reads as free isn't erased, by the layout that the image says.
 fn place_of_dirt(report: &Report, image: &[u8]) -> Option<u32> {
-    let found = first_dirty_group(image);
-    if found.is_some() {
-        return found;
+    if let Some(
+        Cleanness {
+            dirty_group: Some(at),
+            ..
+        },
+    ) = report.cleanness
+    {
+        return Some(at);
     }
     match &report.blocks {
         Some(blocks) => first_dirty(image, blocks.as_slice()),
@@ -298,15 +311,41 @@ where
     R::File: ImageFile,
     ensures { IfErr result IsRefusal }
 {
-    let bytes = with_free_groups_erased(bytes_of(rt, held)?);
-    let mended = match mended_image(rt.alloc(), bytes) {
-        Ok(mended) => mended,
-        Err(error) => return Err(told_of_mount(error)),
-    };
+    let image = bytes_of(rt, held)?;
+    let mended = mended(rt.alloc(), image)?;
     if let Err(error) = rewrite_image(rt, path, held, mended.as_slice()) {
         return Err(told_as(error));
     }
-    sectors_of(rt.alloc(), mended)
+    Ok(sectors_of(mended.as_slice()))
+}
+
+/// The bytes of a freshly formatted chip that holds the sectors of an image. Of one of layout 1 its
+/// free blocks are erased first, so that no slot is read out of them.
+fn mended(alloc: Global, image: Vec<u8>) -> Result<Vec<u8>, Fault>
+    requires { IsChipSize (length image.items) }
+    ensures mended { IfOk result (λ new. IsMendedOf image.items new.items) }
+    ensures size { IfOk result (λ new. length new.items ≡ length image.items) }
+    ensures refused { IfErr result IsRefusal }
+{
+    let image = match with_free_groups_erased(alloc, image) {
+        Ok(image) => image,
+        Err(error) => return Err(told_of_unexamined(error)),
+    };
+    match mended_image(alloc, image) {
+        Ok(mended) => Ok(mended),
+        Err(error) => Err(told_of_mount(error)),
+    }
+}
+
+/// How many sectors a chip of so many bytes has.
+fn sectors_of(image: &[u8]) -> u32
+    requires { IsChipSize (length image.now) }
+    ensures { result ≡ sector_count (length image.now) }
+{
+    let Some(chip) = Geometry::of(image.len() as u32) else {
+        unreachable!()
+    };
+    chip.sectors
 }
 
 /// Says on `writer` whether the chip behind the programmer at a place would be served, as

@@ -4,7 +4,8 @@ ghost use Rattle.norbd_line.specs.Line.{IsChipInRange};
 ghost use Rattle.norbd_run.specs.Chips.{ChipTells, chip_text};
 
 use crate::format::told_as;
-use crate::serve::{tell, told_of_file};
+use crate::image_disk::bytes_of;
+use crate::serve::tell;
 use block_device::Sink;
 use chip_model::SpiBus;
 use norbd_chip::answer_client;
@@ -43,9 +44,10 @@ where
     let Ok(barrier) = Barrier::new(alloc, WriteOrder::Any, 0) else {
         return Err(Fault::NoMemory);
     };
-    let mut bus = match held.chip(alloc, &barrier) {
+    let bytes = bytes_of(rt, &held)?;
+    let mut bus = match held.chip(bytes, &barrier) {
         Ok(bus) => bus,
-        Err(error) => return Err(told_of_file(length, error)),
+        Err(error) => return Err(Fault::ImageFailed(Cause::System(error.kind()))),
     };
     let file = match held.handle(&barrier) {
         Ok(file) => file,

@@ -5,10 +5,8 @@ ghost use Rattle.chip_model.specs.Geometry.{IsChipSize};
 ghost use Rattle.norbd_run.specs.Chips.{told_of_chip};
 ghost use Rattle.norbd_run.specs.Listening.{IsRefusal};
 
-use crate::image_disk::copied_disk;
-use crate::serve::{look_at, spare};
+use crate::serve::open_bus;
 use block_device::Disk;
-use chip_simulator::PromptChip;
 use flash_disk::FlashDisk;
 use norbd_chip::{ChipFault, Noted, Noting, Reached, Report, watch, watch_noting};
 use norbd_line::{Cause, Fault, TidyPolicy};
@@ -37,24 +35,6 @@ where
     }
 }
 
-/// The disk on a copy in memory of the chip behind the programmer at a place, of which nothing is
-/// changed.
-pub(crate) fn disk_copied<R>(
-    rt: &R,
-    place: ProgrammerPlace<'_>,
-) -> Result<FlashDisk<PromptChip, Brand>, Fault>
-where
-    R: Files + AllocGlobal + Clock + Log + Net<Stream = TcpStream>,
-    ensures refused { IfErr result IsRefusal }
-    ensures sound { IfOk result (λ disk.
-        (⟦<FlashDisk<PromptChip, Brand> as Disk>⟧.facts disk).sound ≡ true) }
-    ensures ready { IfOk result (λ disk.
-        IsDiskReady (⟦<FlashDisk<PromptChip, Brand> as Disk>⟧.facts disk)) }
-{
-    let bytes = bytes_behind(rt, place)?;
-    copied_disk(rt.alloc(), bytes)
-}
-
 /// The disk on the chip behind the programmer at a place, whose departures are noted.
 #[tactic(auto, using(crate::proofs::Refusals::chip_is_refusal))]
 pub(crate) fn disk_behind<'r, 'p, 'n, R>(
@@ -78,12 +58,11 @@ where
         Ok(bus) => bus,
         Err(fault) => return Err(told_of_chip(fault)),
     };
-    match look_at(rt.alloc(), bus) {
-        Ok(disk) => {
-            let mut disk = disk;
-            spare(&mut disk, tidy);
-            Ok(disk)
-        }
+    let Ok(copy) = bus.memory().to_vec(rt.alloc()) else {
+        return Err(Fault::NoMemory);
+    };
+    match open_bus(rt.alloc(), bus, copy, tidy) {
+        Ok(disk) => Ok(disk),
         Err(Fault::ImageFailed(_)) => Err(Fault::ImageFailed(Cause::Chip(noted.cause()))),
         Err(fault) => Err(fault),
     }

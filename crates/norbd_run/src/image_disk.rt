@@ -2,8 +2,12 @@
 ghost use Rattle.std.specs.Prelude.{◌≡◌, IfErr, IfOk, length, true};
 ghost use Rattle.block_device.specs.Facts.{IsDiskReady};
 ghost use Rattle.chip_model.specs.Geometry.{IsChipSize};
+ghost use Rattle.flash_disk.specs.Mounting.{OpenedFrom};
+ghost use Rattle.sector_survey.specs.Cleanness.{HasCleanGroups};
 ghost use Rattle.norbd_run.specs.Listening.{IsRefusal};
+ghost use Rattle.norbd_run.specs.Opening.{IsReason};
 
+use crate::check::told_of_unexamined;
 use crate::format::told_as;
 use crate::serve::{look_at, told_of_file};
 use block_device::Disk;
@@ -11,7 +15,7 @@ use chip_simulator::PromptChip;
 use flash_disk::FlashDisk;
 use norbd_image::{Held, ImageFile, hold, hold_to_read};
 use norbd_line::Fault;
-use norbd_survey::first_dirty_group;
+use sector_survey::dirty_group_of;
 use std::alloc::Global;
 use std::marker::Brand;
 use std::rt::Files;
@@ -36,36 +40,6 @@ where
     }
 }
 
-/// The disk on a copy of the chip in a file, and the file, which is to be written where `writes` is
-/// set. Its lock is taken before anything of it is read.
-pub(crate) fn open_copy<R>(
-    rt: &R,
-    path: &str,
-    writes: bool,
-) -> Result<(FlashDisk<PromptChip, Brand>, Held<R::File>), Fault>
-where
-    R: Files + AllocGlobal,
-    R::File: ImageFile,
-    ensures refused { IfErr result IsRefusal }
-    ensures sound { IfOk result (λ opened.
-        (⟦<FlashDisk<PromptChip, Brand> as Disk>⟧.facts opened.0).sound ≡ true) }
-    ensures ready { IfOk result (λ opened.
-        IsDiskReady (⟦<FlashDisk<PromptChip, Brand> as Disk>⟧.facts opened.0)) }
-{
-    let held = match hold_image(rt, path, writes) {
-        Ok(held) => held,
-        Err(fault) => return Err(fault),
-    };
-    let bytes = match bytes_of(rt, &held) {
-        Ok(bytes) => bytes,
-        Err(fault) => return Err(fault),
-    };
-    match copied_disk(rt.alloc(), bytes) {
-        Ok(disk) => Ok((disk, held)),
-        Err(fault) => Err(fault),
-    }
-}
-
 /// The bytes of an image that is held.
 pub(crate) fn bytes_of<R>(rt: &R, held: &Held<R::File>) -> Result<Vec<u8>, Fault>
 where
@@ -80,25 +54,33 @@ where
     }
 }
 
-/// The disk on a chip in memory of these bytes. One of layout 1 whose free blocks aren't erased is
-/// `NotClean` before the mount takes it on its way to layout 2, where slots would be read out of
-/// them.
+/// The disk on a chip in memory of these bytes. One of layout 1 of which a free block isn't erased is
+/// `NotClean`: on its way to layout 2 slots would be read out of it.
 pub(crate) fn copied_disk(
     alloc: Global,
     image: Vec<u8>,
 ) -> Result<FlashDisk<PromptChip, Brand>, Fault>
     requires { IsChipSize (length image.items) }
     ensures refused { IfErr result IsRefusal }
+    ensures reason { IfErr result (λ e. IsReason e image.items) }
     ensures sound { IfOk result (λ disk.
         (⟦<FlashDisk<PromptChip, Brand> as Disk>⟧.facts disk).sound ≡ true) }
     ensures ready { IfOk result (λ disk.
         IsDiskReady (⟦<FlashDisk<PromptChip, Brand> as Disk>⟧.facts disk)) }
+    ensures from { IfOk result (λ disk. OpenedFrom image.items
+        (⟦<FlashDisk<PromptChip, Brand> as Disk>⟧.facts disk)) }
+    ensures groups { IfOk result (λ _. HasCleanGroups image.items) }
 {
-    if first_dirty_group(image.as_slice()).is_some() {
-        return Err(Fault::NotClean);
-    }
+    let found = match dirty_group_of(alloc, image.as_slice()) {
+        Ok(found) => found,
+        Err(error) => return Err(told_of_unexamined(error)),
+    };
     let Ok(chip) = PromptChip::new(image) else {
         unreachable!()
     };
-    look_at(alloc, chip)
+    let disk = look_at(alloc, chip)?;
+    if found.is_some() {
+        return Err(Fault::NotClean);
+    }
+    Ok(disk)
 }

@@ -7,12 +7,13 @@
 //!
 //! Promised to the program: `run_line` does what `LineDoes` says of each command: what is written
 //! where it is done, and the fault where it isn't. Each has a file; `serve_chip`, `image_disk` and
-//! `chip_disk` have what several take. `Host` is the system that a server runs on. `check`'s
-//! verdict is a mount's (`end_of`, by `sector_survey`), and `write` makes a healthy and clean image
-//! that holds the sectors (`image_with`). `Telling` is the text of a fault, `reason_of` the rule
-//! that a corrupt image breaks, `Output` standard output, whose last failure is noted;
-//! `hold_standard` opens the three standard streams that are closed, so that no image gets their
-//! numbers. Left to the crates below: the words (`norbd_line`), requests and replies
+//! `chip_disk` have what several take. `Host` is the system that a server runs on. What `check`
+//! says is what a mount says, and whether what reads as free is erased (`look_over`); the disk that
+//! `serve` serves is that of the bytes of its image (`open_disk`), `read` gives of it
+//! (`sectors_of_image`), and `write` makes a healthy and clean image that holds the sectors
+//! (`image_with`). `Telling` is the text of a fault, `reason_of` the rule that a corrupt image
+//! breaks, `Output` standard output, whose last failure is noted; `hold_standard` opens the three
+//! standard streams that are closed, so that no image gets their numbers. Left to the crates below: the words (`norbd_line`), requests and replies
 //! (`nbd_worker`), threads and sockets (`norbd_serve`), the chain from the chip to a transcript
 //! (`norbd_script`), the disks (`block_device`, `flash_disk`), an image's bytes and its file
 //! (`norbd_image`), what it says (`sector_survey`). No contract says what is printed of a fault,

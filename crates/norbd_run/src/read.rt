@@ -1,10 +1,13 @@
 //! `read`: the sectors of a disk, without a server.
-ghost use Rattle.std.specs.Prelude.{◌*◌, ◌-◌, ◌<◌, ◌≡◌, ◌≤◌, IfErr, IfOk, length, true};
+ghost use Rattle.std.specs.Prelude.{◌*◌, ◌-◌, ◌<◌, ◌≡◌, ◌≤◌, ℕ, IfErr, IfOk, length, true};
 ghost use Rattle.block_device.specs.Contents.{bytes_at};
+ghost use Rattle.chip_model.specs.Geometry.{IsChipSize};
+ghost use Rattle.sector_map.specs.Maps.{IsMountable};
+ghost use Rattle.flash_disk.specs.Contents.{contents_of};
 ghost use Rattle.norbd_run.specs.Moving.{MoveFails, ReadTells, WritesBytes};
 
-use crate::chip_disk::disk_copied;
-use crate::image_disk::open_copy;
+use crate::chip_disk::bytes_behind;
+use crate::image_disk::{bytes_of, copied_disk, hold_image};
 use block_device::{Disk, DiskError, Sink, send};
 use norbd_image::ImageFile;
 use norbd_line::{Cause, Fault};
@@ -36,21 +39,10 @@ where
     ensures { ReadTells (K.written writer.old) (K.faults writer.old) result
         (K.written writer.new) (K.faults writer.new) }
 {
-    let bytes = sectors_of_file(rt, path, sectors)?;
+    let held = hold_image(rt, path, false)?;
+    let image = bytes_of(rt, &held)?;
+    let bytes = sectors_of_image(rt.alloc(), image, sectors)?;
     send_bytes(writer, bytes.as_slice())
-}
-
-/// The bytes of a part of the disk in a file, which no other process has meanwhile.
-fn sectors_of_file<R>(rt: &R, path: &str, sectors: Option<&str>) -> Result<Vec<u8>, Fault>
-where
-    R: Files + AllocGlobal,
-    R::File: ImageFile,
-    ensures { IfErr result MoveFails }
-{
-    let (disk, _held) = open_copy(rt, path, false)?;
-    let mut disk = disk;
-    let part = part_of(&disk, sectors)?;
-    sectors_of_disk(rt.alloc(), &mut disk, part)
 }
 
 /// Writes the sectors of the chip behind the programmer at a place to `writer`, as `run_read` does
@@ -67,23 +59,22 @@ where
     ensures { ReadTells (K.written writer.old) (K.faults writer.old) result
         (K.written writer.new) (K.faults writer.new) }
 {
-    let bytes = sectors_behind(rt, place, sectors)?;
+    let image = bytes_behind(rt, place)?;
+    let bytes = sectors_of_image(rt.alloc(), image, sectors)?;
     send_bytes(writer, bytes.as_slice())
 }
 
-/// The bytes of a part of the disk on the chip behind the programmer at a place.
-fn sectors_behind<R>(
-    rt: &R,
-    place: ProgrammerPlace<'_>,
-    sectors: Option<&str>,
-) -> Result<Vec<u8>, Fault>
-where
-    R: Files + AllocGlobal + Clock + Log + Net<Stream = TcpStream>,
-    ensures { IfErr result MoveFails }
+/// The bytes of a part of the disk that these bytes of a chip represent.
+fn sectors_of_image(alloc: Global, image: Vec<u8>, sectors: Option<&str>) -> Result<Vec<u8>, Fault>
+    requires size { IsChipSize (length image.items) }
+    ensures mountable { IfOk result (λ _. IsMountable image.items) }
+    ensures bytes { IfOk result (λ bytes. (first : ℕ) × (end : ℕ)
+        × (bytes.items ≡ bytes_at (contents_of image.items) (512 * first) (512 * (end - first)))) }
+    ensures refused { IfErr result MoveFails }
 {
-    let mut disk = disk_copied(rt, place)?;
+    let mut disk = copied_disk(alloc, image)?;
     let part = part_of(&disk, sectors)?;
-    sectors_of_disk(rt.alloc(), &mut disk, part)
+    sectors_of_disk(alloc, &mut disk, part)
 }
 
 /// The part of a disk that a text writes.

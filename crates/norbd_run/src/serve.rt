@@ -3,16 +3,19 @@ ghost use Rattle.std.specs.Prelude.{◌≡◌, ◌*◌, length, string_bytes, If
 ghost use Rattle.std.specs.Prelude.{false, if◌then◌else◌, IsErr, IsFalse, None, Some};
 ghost use Rattle.block_device.specs.Facts.{IsDiskReady};
 ghost use Rattle.chip_model.specs.Chip.{is_idle};
+ghost use Rattle.chip_model.specs.Geometry.{IsChipSize};
 ghost use Rattle.flash_disk.specs.Mounting.{OpenedFrom};
+ghost use Rattle.sector_survey.specs.Cleanness.{HasCleanGroups};
 ghost use Rattle.std.specs.Thread.{IsSend};
 ghost use Rattle.norbd_run.specs.Listening.{IsRefusal, TellsServing, WritesText, ended_text};
 ghost use Rattle.norbd_run.specs.Listening.{serving_text, told_of_file, told_of_mount};
 ghost use Rattle.norbd_run.specs.Listening.{told_of_record};
 ghost use Rattle.norbd_run.specs.Listening.{order_of, policy_of, told_of_serving};
+ghost use Rattle.norbd_run.specs.Opening.{IsReason};
 ghost use Rattle.norbd_line.specs.Line.{IsConns, IsPlace};
 
 use crate::host::Host;
-use crate::image_disk::{bytes_of, copied_disk, hold_image, open_copy};
+use crate::image_disk::{bytes_of, copied_disk, hold_image};
 use crate::listening::listen_at;
 use crate::script::told_of_probe;
 use block_device::{Disk, DiskError, Sink, send};
@@ -127,7 +130,8 @@ where
     let Ok(barrier) = Barrier::new(rt.alloc(), order, length) else {
         return Err(Fault::NoMemory);
     };
-    let disk = open_disk(rt, &held, &barrier, asked.tidy)?;
+    let bytes = bytes_of(rt, &held)?;
+    let disk = open_disk(rt, &held, bytes, &barrier, asked.tidy)?;
     let durable = match held.handle(&barrier) {
         Ok(file) => Durable::new(file, policy_of(asked.sync)),
         Err(error) => return Err(Fault::ImageFailed(Cause::System(error.kind()))),
@@ -178,7 +182,9 @@ where
         (K.written writer.new) (K.faults writer.new) }
     ensures endless { IsFalse asked.entry.ends → IsErr result }
 {
-    let (disk, held) = open_copy(rt, image, false)?;
+    let held = hold_image(rt, image, false)?;
+    let copy = bytes_of(rt, &held)?;
+    let disk = copied_disk(rt.alloc(), copy)?;
     let Ok(barrier) = Barrier::new(rt.alloc(), WriteOrder::Any, 0) else {
         return Err(Fault::NoMemory);
     };
@@ -242,37 +248,69 @@ struct Unnamed {
     opened: Opened<Row>,
 }
 
-/// The disk on the chip in a file, whose lock is taken. A copy is looked at first: of a chip that
-/// isn't served nothing is changed.
-#[tactic(auto, using(crate::proofs::Refusals::file_is_refusal))]
+/// The disk on the chip in a file, whose lock is taken and which has these bytes: it holds what they
+/// represent.
 fn open_disk<'b, R>(
     rt: &R,
     held: &Held<R::File>,
+    image: Vec<u8>,
     barrier: &'b Barrier,
     tidy: TidyPolicy,
 ) -> Result<FlashDisk<ImageBus<Ordered<'b, R::File>>, Brand>, Fault>
 where
     R: Files + AllocGlobal,
     R::File: ImageFile,
+    requires size { IsChipSize (length image.items) }
     ensures refused { IfErr result IsRefusal }
+    ensures reason { IfErr result (λ e. IsReason e image.items) }
     ensures sound { IfOk result (λ disk.
         (⟦<FlashDisk<ImageBus<Ordered<'b, R::File>>, Brand> as Disk>⟧.facts disk).sound ≡ true) }
     ensures ready { IfOk result (λ disk.
         IsDiskReady (⟦<FlashDisk<ImageBus<Ordered<'b, R::File>>, Brand> as Disk>⟧.facts disk)) }
+    ensures from { IfOk result (λ disk. OpenedFrom image.items
+        (⟦<FlashDisk<ImageBus<Ordered<'b, R::File>>, Brand> as Disk>⟧.facts disk)) }
+    ensures groups { IfOk result (λ _. HasCleanGroups image.items) }
 {
-    copied_disk(rt.alloc(), bytes_of(rt, held)?)?;
-    let bus = match held.chip(rt.alloc(), barrier) {
-        Ok(bus) => bus,
-        Err(error) => return Err(told_of_file(held.length().unwrap_or(0), error)),
+    let Ok(copy) = image.as_slice().to_vec(rt.alloc()) else {
+        return Err(Fault::NoMemory);
     };
-    let mut disk = look_at(rt.alloc(), bus)?;
+    match held.chip(image, barrier) {
+        Ok(bus) => open_bus(rt.alloc(), bus, copy, tidy),
+        Err(error) => Err(Fault::ImageFailed(Cause::System(error.kind()))),
+    }
+}
+
+/// The disk on the chip behind a bus, on which nothing is in progress and whose memory is this copy:
+/// from now on its blocks wear alike, and it is tidied as is asked. The copy is looked at first: of
+/// a chip that isn't served nothing is changed.
+pub(crate) fn open_bus<B: SpiBus + Drop>(
+    alloc: Global,
+    bus: B,
+    copy: Vec<u8>,
+    tidy: TidyPolicy,
+) -> Result<FlashDisk<B, Brand>, Fault>
+    requires idle { is_idle (B.chip bus).operation ≡ true }
+    requires copy { copy.items ≡ (B.chip bus).memory }
+    requires size { IsChipSize (length copy.items) }
+    ensures refused { IfErr result IsRefusal }
+    ensures reason { IfErr result (λ e. IsReason e (B.chip bus).memory) }
+    ensures sound { IfOk result (λ disk.
+        (⟦<FlashDisk<B, Brand> as Disk>⟧.facts disk).sound ≡ true) }
+    ensures ready { IfOk result (λ disk.
+        IsDiskReady (⟦<FlashDisk<B, Brand> as Disk>⟧.facts disk)) }
+    ensures from { IfOk result (λ disk. OpenedFrom (B.chip bus).memory
+        (⟦<FlashDisk<B, Brand> as Disk>⟧.facts disk)) }
+    ensures groups { IfOk result (λ _. HasCleanGroups (B.chip bus).memory) }
+{
+    copied_disk(alloc, copy)?;
+    let mut disk = look_at(alloc, bus)?;
     spare(&mut disk, tidy);
     Ok(disk)
 }
 
 /// From now on blocks are chosen so that all wear alike, and tidied as is asked. The disk is sound
 /// and ready as it was, with the same contents.
-pub(crate) fn spare<B: SpiBus>(disk: &mut FlashDisk<B, Brand>, tidy: TidyPolicy)
+fn spare<B: SpiBus>(disk: &mut FlashDisk<B, Brand>, tidy: TidyPolicy)
     ensures sound { (⟦<FlashDisk<B, Brand> as Disk>⟧.facts disk.new).sound
         ≡ (⟦<FlashDisk<B, Brand> as Disk>⟧.facts disk.old).sound }
     ensures contents { (⟦<FlashDisk<B, Brand> as Disk>⟧.facts disk.new).contents
@@ -292,6 +330,7 @@ pub(crate) fn spare<B: SpiBus>(disk: &mut FlashDisk<B, Brand>, tidy: TidyPolicy)
 pub(crate) fn look_at<B: SpiBus + Drop>(alloc: Global, bus: B) -> Result<FlashDisk<B, Brand>, Fault>
     requires idle { is_idle (B.chip bus).operation ≡ true }
     ensures refused { IfErr result IsRefusal }
+    ensures reason { IfErr result (λ e. IsReason e (B.chip bus).memory) }
     ensures sound { IfOk result (λ disk.
         (⟦<FlashDisk<B, Brand> as Disk>⟧.facts disk).sound ≡ true) }
     ensures ready { IfOk result (λ disk.

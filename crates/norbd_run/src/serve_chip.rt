@@ -3,8 +3,9 @@ ghost use Rattle.std.specs.Prelude.{IsErr, IsFalse};
 ghost use Rattle.norbd_line.specs.Line.{IsConns, IsPlace};
 ghost use Rattle.norbd_run.specs.Listening.{TellsServing};
 
-use crate::chip_disk::{disk_behind, disk_copied};
+use crate::chip_disk::{bytes_behind, disk_behind};
 use crate::host::Host;
+use crate::image_disk::copied_disk;
 use crate::listening::listen_at;
 use crate::serve::{Asked, serve_opened};
 use block_device::Sink;
@@ -107,10 +108,8 @@ where
         (K.written writer.new) (K.faults writer.new) }
     ensures endless { IsFalse asked.entry.ends → IsErr result }
 {
-    let disk = match disk_copied(rt, place) {
-        Ok(disk) => disk,
-        Err(fault) => return Err(fault),
-    };
+    let copy = bytes_behind(rt, place)?;
+    let disk = copied_disk(rt.alloc(), copy)?;
     let durable = Durable::new(NoFile, Policy::Never);
     serve_opened(rt, listener, disk, &durable, asked, writer)
 }

@@ -9,7 +9,7 @@ ghost use Rattle.norbd_run.specs.Moving.{written_text};
 
 use crate::chip_disk::disk_behind;
 use crate::format::told_as;
-use crate::image_disk::open_copy;
+use crate::image_disk::{bytes_of, copied_disk, hold_image};
 use crate::progress::{Meter, Screen};
 use crate::read::{part_of, told_of_disk};
 use crate::serve::tell;
@@ -52,7 +52,9 @@ where
         (K.written writer.new) (K.faults writer.new) }
     ensures end { OnOk result (IsAtEnd (S.remaining reader.new)) }
 {
-    let (disk, held) = open_copy(rt, path, true)?;
+    let held = hold_image(rt, path, true)?;
+    let copy = bytes_of(rt, &held)?;
+    let disk = copied_disk(rt.alloc(), copy)?;
     let part = part_of(&disk, sectors)?;
     let before = replacing_text(rt.alloc(), part);
     if let Err(fault) = tell(writer, before) {

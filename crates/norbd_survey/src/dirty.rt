@@ -42,7 +42,7 @@ fn has_copy(blocks: &[BlockSummary], number: u16) -> bool {
 }
 
 /// Whether an open entry says that the block of this number is being erased.
-pub(crate) fn is_being_erased(image: &[u8], number: u16) -> bool {
+fn is_being_erased(image: &[u8], number: u16) -> bool {
     for entry in 0..ENTRIES {
         let at = entry_place(entry);
         let bytes = [0u32, 1, 2, 3].map(|k| byte_at(image, at.saturating_add(k)));
@@ -88,7 +88,7 @@ fn dirty_slot(image: &[u8], place: u32) -> Option<u32>
 }
 
 /// The first of so many bytes from a place on that isn't FFh.
-pub(crate) fn first_written(image: &[u8], place: u32, count: u32) -> Option<u32>
+fn first_written(image: &[u8], place: u32, count: u32) -> Option<u32>
     ensures { IfSome result (λ at. IsWrittenAt image.now at) }
 {
     for k in 0..count {

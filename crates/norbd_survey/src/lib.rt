@@ -4,14 +4,12 @@
 //! bytes that are there and what is allowed. `Page` is what is told of an image that can be
 //! mounted, `Json` the same for programs, `Picture` a character for each block. `first_dirty` is
 //! the first place at which what reads as free isn't erased: what it names isn't erased
-//! (`IsWrittenAt`); that it reads as free, and is the first, tests show. `first_dirty_group` is the
-//! same by layout 1, to be asked before a mount takes the chip on its way to layout 2. No contract
-//! says what is printed. Source: own.
+//! (`IsWrittenAt`); that it reads as free, and is the first, tests show. No contract says what is
+//! printed. Source: own.
 
 #![tactic(auto)]
 
 mod dirty;
-mod groups;
 mod journals;
 mod json;
 mod page;
@@ -20,7 +18,6 @@ mod reason;
 mod totals;
 
 pub use dirty::first_dirty;
-pub use groups::{first_dirty_group, with_free_groups_erased};
 pub use json::Json;
 pub use page::Page;
 pub use picture::Picture;

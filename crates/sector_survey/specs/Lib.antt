@@ -3,4 +3,5 @@ pub mod Findings
 pub mod Steps
 pub mod Verdicts
 pub mod Summaries
+pub mod Cleanness
 pub mod Reports

@@ -1,6 +1,6 @@
 //! Frames as commands of serprog.
 
-ghost use Rattle.std.specs.Prelude.{◌≡◌, ◌<◌, ◌^◌, ◌++◌, [], ◌∷◌, length, OnOk, None};
+ghost use Rattle.std.specs.Prelude.{◌≡◌, ◌*◌, ◌<◌, ◌≤◌, ◌^◌, ◌++◌, [], ◌∷◌, length, OnOk, None};
 ghost use Rattle.std.specs.Io.KnownBytes.{Appends, Consumes};
 ghost use Rattle.chip_model.specs.Exchanges.{Exchange, Exchanged};
 ghost use Rattle.serprog.specs.Protocol.{acknowledged, spiop, three_bytes};
@@ -74,6 +74,8 @@ impl<I: Source + Drop, O: Sink + Drop, D: Dialer<I, O> + Drop> Programmer for Se
             (spiop send.now (length recv.new))) }
         ensures told { OnOk result (Consumes (I.remaining self.old.source)
             (I.remaining self.new.source) (acknowledged recv.new)) }
+        ensures fits { OnOk result ((length send.now ≤ self.old.identity.sends)
+            × (length recv.new ≤ self.old.identity.receives)) }
     {
         if send.len() > self.identity.sends as usize
             || recv.len() > self.identity.receives as usize

@@ -2,7 +2,7 @@
 
 use crate::reasons::patched;
 use norbd_survey::{Json, Page, Picture, first_dirty};
-use sector_survey::{Verdict, survey_image};
+use sector_survey::{Cleanness, Verdict, survey_image};
 use std::process::Abort;
 use std::test::*;
 
@@ -118,6 +118,69 @@ going on: a copying of block 4 into 6, committed, no erase
     );
     assert!(rt; picture.as_str().starts_with("    0 SJJJb2C........R\n"));
     Ok(())
+}
+
+/// One row: patches of a formatted chip, and what is found of its free slots and blocks.
+fn is_found<H>(rt: &H, patches: &[(usize, &'static [u8])], wanted: Cleanness) -> Result<(), Fail>
+where
+    H: Abort + AllocGlobal,
+{
+    let image = patched(rt, patches)?;
+    if image.len() != 65_536 {
+        return Err(Fail::from("another size"));
+    }
+    let Ok(report) = survey_image(rt.alloc(), image.as_slice()) else {
+        return Err(Fail::from("no report"));
+    };
+    assert_eq!(rt; report.cleanness, Some(wanted));
+    Ok(())
+}
+
+/// What the rows of layout 2 find.
+fn slots(slots: Option<bool>) -> Cleanness {
+    Cleanness {
+        slots,
+        dirty_group: None,
+    }
+}
+
+/// By layout 2 a wholly free block, and a free slot beside a live one, have to be erased; while
+/// block 4 is copied into block 5 it isn't asked.
+#[test]
+fn free_slots_are_to_be_erased(rt: HostRuntime) -> Result<(), Fail> {
+    is_found(&rt, &[], slots(Some(true)))?;
+    is_found(&rt, &[(0x7FFF, &[0x7F])], slots(Some(false)))?;
+    is_found(&rt, &[(0x4010, &[0xFC, 0xFC, 1, 0])], slots(Some(true)))?;
+    is_found(
+        &rt,
+        &[(0x4010, &[0xFC, 0xFC, 1, 0]), (0x4400, &[0])],
+        slots(Some(false)),
+    )?;
+    is_found(&rt, &[(0x5004, &[0xFE, 0xFF, 4, 0])], slots(None))
+}
+
+/// By layout 1 a block that reads as free has to be erased, also where a slot of layout 2 could be
+/// read out of it; one that is being erased reads as erased.
+#[test]
+fn free_blocks_of_layout_1_are_to_be_erased(rt: HostRuntime) -> Result<(), Fail> {
+    is_found(&rt, &[(8, &[1])], slots(Some(true)))?;
+    is_found(
+        &rt,
+        &[(8, &[1]), (0x6010, &[0xFC, 0xFC, 1, 0])],
+        Cleanness {
+            slots: Some(true),
+            dirty_group: Some(0x6010),
+        },
+    )?;
+    is_found(
+        &rt,
+        &[
+            (8, &[1]),
+            (0x1800, &[0xFC, 6, 0]),
+            (0x6010, &[0xFC, 0xFC, 1, 0]),
+        ],
+        slots(Some(true)),
+    )
 }
 
 /// The colours of a terminal: cyan for the superblock and the journals, yellow where a slot is
