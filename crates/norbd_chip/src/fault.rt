@@ -1,5 +1,8 @@
 //! Why nothing was done with a chip behind a programmer.
 
+ghost use Rattle.std.specs.Prelude.{◌≡◌, false};
+ghost use Rattle.norbd_chip.specs.Faults.{is_unsure};
+
 use chip_watch::{Departure, OpenError};
 use nor_driver::ProbeError;
 use norbd_line::ChipCause;
@@ -23,12 +26,16 @@ pub enum ChipFault {
 }
 
 /// What a programmer that isn't used is.
-pub(crate) fn told_of_programmer(error: SerprogError) -> ChipFault {
+pub(crate) fn told_of_programmer(error: SerprogError) -> ChipFault
+    ensures { is_unsure result ≡ false }
+{
     ChipFault::Failed(ChipCause::Programmer(error))
 }
 
 /// What a chip that isn't watched is.
-pub(crate) fn told_of_opening(error: OpenError) -> ChipFault {
+pub(crate) fn told_of_opening(error: OpenError) -> ChipFault
+    ensures { is_unsure result ≡ false }
+{
     match error {
         OpenError::NoAnswer(code) => ChipFault::Failed(ChipCause::NoAnswer(code)),
         OpenError::Busy => ChipFault::Failed(ChipCause::Busy),
@@ -40,7 +47,9 @@ pub(crate) fn told_of_opening(error: OpenError) -> ChipFault {
 }
 
 /// What a departure is; without one the programmer is gone.
-pub(crate) fn told_of_departure(departure: Option<Departure>) -> ChipCause {
+pub(crate) fn told_of_departure(departure: Option<Departure>) -> ChipCause
+    ensures { is_unsure (ChipFault.Failed result) ≡ false }
+{
     match departure {
         None => ChipCause::Gone,
         Some(Departure::NoProgrammer) => ChipCause::Gone,
@@ -56,7 +65,9 @@ pub(crate) fn told_of_departure(departure: Option<Departure>) -> ChipCause {
 }
 
 /// What a probe's refusal of a watched chip is, which may have left the model.
-pub(crate) fn told_of_refusal(error: ProbeError, departure: Option<Departure>) -> ChipFault {
+pub(crate) fn told_of_refusal(error: ProbeError, departure: Option<Departure>) -> ChipFault
+    ensures { is_unsure result ≡ false }
+{
     match error {
         ProbeError::Cut => ChipFault::Failed(told_of_departure(departure)),
         ProbeError::Slow => ChipFault::Slow,

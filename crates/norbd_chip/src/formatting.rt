@@ -1,12 +1,13 @@
 //! A chip behind a programmer is formatted.
 
-ghost use Rattle.std.specs.Prelude.{◌≡◌, ◌≢◌, ◌*◌, OnOk, length, true};
+ghost use Rattle.std.specs.Prelude.{◌≡◌, ◌≢◌, ◌*◌, IfErr, IfOk, OnOk, false, length, true};
 ghost use Rattle.flash_disk.specs.Formatted.{Formatted};
 ghost use Rattle.chip_watch.specs.Watched.{watched_chip};
+ghost use Rattle.norbd_chip.specs.Faults.{is_unsure};
 
 use crate::fault::{ChipFault, told_of_refusal};
 use crate::progress::Report;
-use crate::reaching::watch;
+use crate::reaching::{Reached, watch};
 use chip_model::Programmer;
 use chip_watch::WatchedBus;
 use flash_disk::format;
@@ -17,29 +18,58 @@ use std::net::{Net, TcpStream};
 use std::rt::Files;
 use std::time::Clock;
 
-/// Formats the chip of so many KiB behind the programmer at a place, which erases it.
+/// Formats the chip of so many KiB behind the programmer at a place, which erases it, and answers
+/// the bus to it.
 ///
-/// `Unsure` where `sure` isn't set: then nothing is asked of the programmer. `Size` where the chip
-/// has another size; nothing of it is changed then.
-pub fn format_chip<R, T>(
-    rt: &R,
+/// `Unsure` exactly where `sure` isn't set: the programmer is then not reached. `Size` where the
+/// chip has another size; nothing of it is changed then.
+pub fn format_chip<'r, 'p, R, T>(
+    rt: &'r R,
     report: T,
     alloc: Global,
-    place: ProgrammerPlace<'_>,
+    place: ProgrammerPlace<'p>,
     kib: u32,
     sure: bool,
-) -> Result<(), ChipFault>
+) -> Result<WatchedBus<Reached<'r, 'p, R, T>>, ChipFault>
 where
     R: Files + Net<Stream = TcpStream> + Clock,
     T: Report + Drop,
-    ensures { OnOk result (sure ≡ true) }
+    ensures formatted { IfOk result (λ bus. Formatted (watched_chip bus)) }
+    ensures size { IfOk result (λ bus. length (watched_chip bus).memory ≡ 1024 * kib) }
+    ensures sure { OnOk result (sure ≡ true) }
+    ensures unsure { sure ≡ false → result ≡ Err (ChipFault.Failed ChipCause.Unsure) }
+    ensures asked { sure ≡ true → IfErr result (λ fault. is_unsure fault ≡ false) }
 {
     if !sure {
         return Err(ChipFault::Failed(ChipCause::Unsure));
     }
+    format_surely(rt, report, alloc, place, kib, sure)
+}
+
+/// Reaches the programmer at a place and formats the chip behind it. It may be called only where
+/// that was said to be meant.
+fn format_surely<'r, 'p, R, T>(
+    rt: &'r R,
+    report: T,
+    alloc: Global,
+    place: ProgrammerPlace<'p>,
+    kib: u32,
+    sure: bool,
+) -> Result<WatchedBus<Reached<'r, 'p, R, T>>, ChipFault>
+where
+    R: Files + Net<Stream = TcpStream> + Clock,
+    T: Report + Drop,
+    requires sure { sure ≡ true }
+    ensures formatted { IfOk result (λ bus. Formatted (watched_chip bus)) }
+    ensures size { IfOk result (λ bus. length (watched_chip bus).memory ≡ 1024 * kib) }
+    ensures asked { IfErr result (λ fault. is_unsure fault ≡ false) }
+{
+    prove!(sure);
     let bus = watch(rt, report, alloc, place, false)?;
-    let (_, formatted) = format_watched(bus, kib);
-    formatted
+    match format_watched(bus, kib) {
+        (bus, Ok(())) => Ok(bus),
+        (_, Err(fault)) => Err(fault),
+    }
 }
 
 /// Formats a watched chip of so many KiB. `Size` where it has another size; nothing is sent to it
@@ -50,6 +80,7 @@ pub fn format_watched<P: Programmer + Drop>(
 ) -> (WatchedBus<P>, Result<(), ChipFault>)
     ensures formatted { OnOk result.1 (Formatted (watched_chip result.0)) }
     ensures size { OnOk result.1 (length (watched_chip result.0).memory ≡ 1024 * kib) }
+    ensures asked { IfErr result.1 (λ fault. is_unsure fault ≡ false) }
     ensures other { length (watched_chip bus).memory ≢ 1024 * kib → result.0 ≡ bus }
 {
     let size = bus.size();

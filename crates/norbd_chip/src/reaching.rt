@@ -1,9 +1,11 @@
 //! Chips behind programmers, reached by their place.
 
-ghost use Rattle.std.specs.Prelude.{◌≡◌, IfOk, length, true};
+ghost use Rattle.std.specs.Prelude.{◌≡◌, IfErr, IfOk, false, length, true};
 ghost use Rattle.chip_model.specs.Chip.{is_idle};
 ghost use Rattle.chip_model.specs.Geometry.{IsChipSize};
 ghost use Rattle.chip_watch.specs.Watched.{watched_chip, watched_trusts};
+ghost use Rattle.norbd_chip.specs.Faults.{is_unsure};
+ghost use Rattle.norbd_chip.specs.Trust.{noting_trusts};
 
 use crate::fault::{ChipFault, told_of_opening, told_of_programmer};
 use crate::noting::{Noted, Noting};
@@ -48,6 +50,7 @@ where
     ensures idle { IfOk result (λ bus. is_idle (watched_chip bus).operation ≡ true) }
     ensures size { IfOk result (λ bus. IsChipSize (length (watched_chip bus).memory)) }
     ensures trusts { IfOk result (λ bus. watched_trusts bus ≡ trusts) }
+    ensures asked { IfErr result (λ fault. is_unsure fault ≡ false) }
 {
     let dialer = ProgrammerDialer::new(rt, place, Duration::from_secs(PATIENCE));
     let client = match Serprog::open(dialer) {
@@ -76,6 +79,7 @@ where
         (⟦<Noting<'n, Reached<'r, 'p, R, T>> as SpiBus>⟧.chip bus).operation ≡ true) }
     ensures size { IfOk result (λ bus. IsChipSize (length
         (⟦<Noting<'n, Reached<'r, 'p, R, T>> as SpiBus>⟧.chip bus).memory)) }
+    ensures trusts { IfOk result (λ bus. noting_trusts bus ≡ trusts) }
 {
     match watch(rt, report, alloc, place, trusts) {
         Ok(bus) => Ok(Noting::new(bus, noted)),

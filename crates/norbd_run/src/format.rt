@@ -1,5 +1,5 @@
 //! `format`: the file of a formatted chip, and the chip behind a programmer.
-ghost use Rattle.std.specs.Prelude.{◌*◌, ◌≡◌, IfOk, string_bytes};
+ghost use Rattle.std.specs.Prelude.{◌*◌, ◌≡◌, IfOk, OnOk, string_bytes, true};
 ghost use Rattle.chip_model.specs.Geometry.{IsChipSize};
 ghost use Rattle.norbd_run.specs.Formatting.{FormatTells, text_about, told_as};
 
@@ -109,14 +109,16 @@ where
     R: Files + AllocGlobal + Clock + Log + Net<Stream = TcpStream>,
     K: Sink,
     requires { IsChipSize (1024 * kib) }
-    ensures { FormatTells kib (K.written writer.old) (K.faults writer.old) result
+    ensures tells { FormatTells kib (K.written writer.old) (K.faults writer.old) result
         (K.written writer.new) (K.faults writer.new) }
+    ensures sure { OnOk result (sure ≡ true) }
 {
     let Ok(text) = text_about(rt.alloc(), kib) else {
         return Err(Fault::NoMemory);
     };
-    if let Err(fault) = format_chip(rt, Reporter { rt }, rt.alloc(), place, kib, sure) {
-        return Err(told_of_chip(fault));
+    match format_chip(rt, Reporter { rt }, rt.alloc(), place, kib, sure) {
+        Ok(_) => {}
+        Err(fault) => return Err(told_of_chip(fault)),
     }
     send_bytes(writer, text.as_bytes())
 }
