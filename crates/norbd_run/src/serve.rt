@@ -184,7 +184,10 @@ where
 {
     let held = hold_image(rt, image, false)?;
     let copy = bytes_of(rt, &held)?;
-    let disk = copied_disk(rt.alloc(), copy)?;
+    let disk = match copied_disk(rt.alloc(), copy) {
+        Ok(disk) => disk,
+        Err(fault) => return Err(fault),
+    };
     let Ok(barrier) = Barrier::new(rt.alloc(), WriteOrder::Any, 0) else {
         return Err(Fault::NoMemory);
     };

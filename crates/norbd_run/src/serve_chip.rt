@@ -109,7 +109,10 @@ where
     ensures endless { IsFalse asked.entry.ends → IsErr result }
 {
     let copy = bytes_behind(rt, place)?;
-    let disk = copied_disk(rt.alloc(), copy)?;
+    let disk = match copied_disk(rt.alloc(), copy) {
+        Ok(disk) => disk,
+        Err(fault) => return Err(fault),
+    };
     let durable = Durable::new(NoFile, Policy::Never);
     serve_opened(rt, listener, disk, &durable, asked, writer)
 }
