@@ -18,8 +18,8 @@ pub record IsCheckedClean (sectors : ℕ) (m : List ℕ) : Type 0 where
   pub slots : AreAtRest (kind_at m) (data_blocks m) → IsClean m
   pub groups : HasCleanGroups m
 
--- What is known of the bytes of an image that isn't served: the superblock's name isn't there, or its
--- seal; a mount calls it corrupt; or a mount accepts it, and what reads as free isn't erased.
+-- What is known of the bytes of an image that isn't served: the superblock's name isn't there, or
+-- its seal; a mount calls it corrupt; or a mount accepts it, and what reads as free isn't erased.
 abbrev pub IsReason : Fault → List ℕ → Type 0
 IsReason NotFormatted m = layout_of m (geometry_of (length m)) ≡ Err supers.NotFormatted
 IsReason Corrupt m = IsMountable m → ⊥

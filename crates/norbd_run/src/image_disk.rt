@@ -54,8 +54,8 @@ where
     }
 }
 
-/// The disk on a chip in memory of these bytes. One of layout 1 of which a free block isn't erased is
-/// `NotClean`: on its way to layout 2 slots would be read out of it.
+/// The disk on a chip in memory of these bytes. One of layout 1 of which a free block isn't erased
+/// is `NotClean`: on its way to layout 2 slots would be read out of it.
 pub(crate) fn copied_disk(
     alloc: Global,
     image: Vec<u8>,

@@ -13,12 +13,12 @@
 //! (`sectors_of_image`), and `write` makes a healthy and clean image that holds the sectors
 //! (`image_with`). `Telling` is the text of a fault, `reason_of` the rule that a corrupt image
 //! breaks, `Output` standard output, whose last failure is noted; `hold_standard` opens the three
-//! standard streams that are closed, so that no image gets their numbers. Left to the crates below: the words (`norbd_line`), requests and replies
-//! (`nbd_worker`), threads and sockets (`norbd_serve`), the chain from the chip to a transcript
-//! (`norbd_script`), the disks (`block_device`, `flash_disk`), an image's bytes and its file
-//! (`norbd_image`), what it says (`sector_survey`). No contract says what is printed of a fault,
-//! nor what a file holds; tests and runs show it. Source: own; NBD proto.md for requests and
-//! replies.
+//! standard streams that are closed, so that no image gets their numbers. Left to the crates below:
+//! the words (`norbd_line`), requests and replies (`nbd_worker`), threads and sockets
+//! (`norbd_serve`), the chain from the chip to a transcript (`norbd_script`), the disks
+//! (`block_device`, `flash_disk`), an image's bytes and its file (`norbd_image`), what it says
+//! (`sector_survey`). No contract says what is printed of a fault, nor what a file holds; tests and
+//! runs show it. Source: own; NBD proto.md for requests and replies.
 #![tactic(auto)]
 
 mod check;

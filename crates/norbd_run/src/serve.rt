@@ -251,8 +251,8 @@ struct Unnamed {
     opened: Opened<Row>,
 }
 
-/// The disk on the chip in a file, whose lock is taken and which has these bytes: it holds what they
-/// represent.
+/// The disk on the chip in a file, whose lock is taken and which has these bytes: it holds what
+/// they represent.
 fn open_disk<'b, R>(
     rt: &R,
     held: &Held<R::File>,
@@ -283,9 +283,9 @@ where
     }
 }
 
-/// The disk on the chip behind a bus, on which nothing is in progress and whose memory is this copy:
-/// from now on its blocks wear alike, and it is tidied as is asked. The copy is looked at first: of
-/// a chip that isn't served nothing is changed.
+/// The disk on the chip behind a bus, on which nothing is in progress and whose memory is this
+/// copy: from now on its blocks wear alike, and it is tidied as is asked. The copy is looked at
+/// first: of a chip that isn't served nothing is changed.
 pub(crate) fn open_bus<B: SpiBus + Drop>(
     alloc: Global,
     bus: B,

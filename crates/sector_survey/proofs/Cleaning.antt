@@ -17,7 +17,7 @@ use Rattle.sector_slots.specs.Slots.{data_block, data_blocks, kind_at}
 use Rattle.sector_slots.specs.Groups.{IsCleanOfGroups, block_header}
 use Rattle.sector_map.specs.Maps.{geometry_of}
 use Rattle.sector_map.proofs.Restoring.{blocks-clean}
-use Rattle.sector_survey.specs.Cleanness.{FreeBlockTells, FreeBlocksTell, GroupsTell, HasCleanGroups, HasFreeErased, IsCleannessOf, IsDirtyFree, IsFirstDirty, Judges, SlotsTell, is_clean, judged}
+use Rattle.sector_survey.specs.Cleanness.{FreeBlockTells, FreeBlocksTell, GroupsTell, HasCleanGroups, HasFreeErased, IsCleannessOf, IsDirtyFree, IsFirstDirty, Judges, SlotsTell, clean_by, is_clean}
 use Rattle.sector_survey.specs.declared.clean.Cleanness.{Cleanness}
 use Rattle.sector_survey.proofs.Verdicts.{count-same, block-same, kind-same}
 
@@ -108,7 +108,7 @@ groups-dirty Groups at m is h clean = first-is-dirty m at h (clean is)
 groups-dirty Sectors at m is h clean = absurd (none-some at (sym h))
 groups-dirty Mixed at m is h clean = absurd (none-some at (sym h))
 
-judged-by : (slots : Option Bool) (found : Option ℕ) (layout : Layout) (m : List ℕ) → layout_of m (geometry_of (length m)) ≡ Ok layout → SlotsTell slots m → GroupsTell layout found m → Judges (judged slots found) m
+judged-by : (slots : Option Bool) (found : Option ℕ) (layout : Layout) (m : List ℕ) → layout_of m (geometry_of (length m)) ≡ Ok layout → SlotsTell slots m → GroupsTell layout found m → Judges (clean_by slots found) m
 judged-by slots (Some at) layout m is s h = λ clean. groups-dirty layout at m is h clean.1
 judged-by (Some true) None layout m is s h = (s, groups-clean layout m is h)
 judged-by (Some false) None layout m is s h = λ clean. s clean.0

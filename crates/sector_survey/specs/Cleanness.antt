@@ -1,5 +1,5 @@
--- Whether what reads as free on a chip is erased, by the layout that it says. Source: own, layouts 1
--- and 2.
+-- Whether what reads as free on a chip is erased, by the layout that it says. Source: own, layouts
+-- 1 and 2.
 use Rattle.std.specs.Prelude.{◌≡◌, ◌≢◌, ℕ, ◌+◌, ◌*◌, ◌<◌, Bool, true, false, List, length, Ok}
 use Rattle.std.specs.Prelude.{Option, Some, None}
 use Rattle.chip_model.specs.Memory.{byte}
@@ -77,12 +77,12 @@ abbrev pub IsCleanImage : List ℕ → Type 0
 IsCleanImage m = IsClean m × HasCleanGroups m
 
 -- whether it is so; not known while a copying goes on
-abbrev pub judged : Option Bool → Option ℕ → Option Bool
-judged slots (Some at) = Some false
-judged slots None = slots
+abbrev pub clean_by : Option Bool → Option ℕ → Option Bool
+clean_by slots (Some at) = Some false
+clean_by slots None = slots
 
 abbrev pub is_clean : Cleanness → Option Bool
-is_clean says = judged says.slots says.dirty_group
+is_clean says = clean_by says.slots says.dirty_group
 
 abbrev pub Judges : Option Bool → List ℕ → Type 0
 Judges (Some true) m = IsCleanImage m

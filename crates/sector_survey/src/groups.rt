@@ -13,8 +13,8 @@ use erase_journal::Journal;
 use nor_driver::{Nor, NorError};
 use nor_layout::{BLOCK_LEN, FIRST_DATA_BLOCK, Header, block_state};
 
-/// The first place of the chip, in bytes, that isn't erased though its block reads as free by layout
-/// 1.
+/// The first place of the chip, in bytes, that isn't erased though its block reads as free by
+/// layout 1.
 #[tactic(auto, using(erase_journal::proofs::Calls::repeated_calls))]
 pub(crate) fn first_dirty_group<N: Nor>(journal: &mut Journal<N>) -> Result<Option<u32>, NorError>
     ensures told { IfOk result (λ found. FreeBlocksTell found journal.old.memory) }

@@ -7,8 +7,8 @@
 //! corrupt without a finding: `diagnose` answers None only where the blocks and slots behind
 //! recovered journals are sound, and `journal_fault` finds one wherever the journals aren't.
 //! `summarize` says of each data block its kind, and how many of its slots are free and live.
-//! `survey_image` is all of it, with the journals' votes and entries, and whether what reads as free
-//! is erased (`IsCleannessOf`), of the bytes of an image, which it leaves.
+//! `survey_image` is all of it, with the journals' votes and entries, and whether what reads as
+//! free is erased (`IsCleannessOf`), of the bytes of an image, which it leaves.
 //! `with_free_groups_erased` erases what a chip of layout 1 calls free (`HasFreeErased`).
 //!
 //! Left to the crate above: the texts, the image, and when to ask. Source: own, layouts 1 and 2
