@@ -1,8 +1,10 @@
 -- An image of layout 1 of which a free block isn't erased isn't clean.
-use Rattle.std.proofs.Common.{◌≡◌, ℕ, Bool, true, false, List, length, refl, subst}
-use Rattle.std.specs.Prelude.{Option, Some, None, IfSome, is_some}
+use Rattle.std.proofs.Common.{◌≡◌, ◌∙◌, ℕ, ◌*◌, ◌-◌, Bool, true, false, List, length, ap, arith, refl, subst}
+use Rattle.std.specs.Prelude.{Option, Some, None, IfOk, IfSome, Result, Ok, Err, drop, is_some, take}
+use Rattle.std.proofs.Math.Seq.{take-length}
 use Rattle.std.proofs.lemmas.Bool.{true≢false, false≢true}
 use Rattle.erase_journal.specs.Journals.{IsHealthy}
+use Rattle.block_device.specs.Contents.{bytes_at}
 use Rattle.chip_model.specs.Geometry.{sector_count}
 use Rattle.nor_layout.specs.declared.layout.Layout.{Layout}
 use Rattle.sector_slots.specs.Blocks.{AreAtRest}
@@ -48,3 +50,12 @@ judged-copying m mountable clean sectors is = record {
   slots = λ rest. absurd (clean.0 rest);
   groups = clean.1;
 }
+
+-- the whole of a disk, which is its first part
+pub whole-disk : {T E : Type 0} (items : T → List ℕ) (r : Result T E) (d all : List ℕ) (first end : ℕ) → IfOk r (λ b. items b ≡ bytes_at d (512 * first) (512 * (end - first)))
+    → first ≡ 0 → 512 * end ≡ length d → d ≡ all → IfOk r (λ b. items b ≡ all)
+whole-disk items (Ok b) d all first end h zero full is =
+    let n : 512 * (end - first) ≡ length d = omega (arith, zero, full) in
+    let from : 512 * first ≡ 0 = omega (arith, zero) in
+    h ∙ (ap (λ k. take k (drop (512 * first) d)) n ∙ (ap (λ k. take (length d) (drop k d)) from ∙ (take-length d ∙ is)))
+whole-disk items (Err e) d all first end h zero full is = tt

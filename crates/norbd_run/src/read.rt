@@ -1,5 +1,5 @@
 //! `read`: the sectors of a disk, without a server.
-ghost use Rattle.std.specs.Prelude.{◌*◌, ◌-◌, ◌<◌, ◌≡◌, ◌≤◌, ℕ, IfErr, IfOk, length, true};
+ghost use Rattle.std.specs.Prelude.{◌*◌, ◌-◌, ◌<◌, ◌≡◌, ◌≤◌, ℕ, IfErr, IfOk, None, length, true};
 ghost use Rattle.block_device.specs.Contents.{bytes_at};
 ghost use Rattle.chip_model.specs.Geometry.{IsChipSize};
 ghost use Rattle.sector_map.specs.Maps.{IsMountable};
@@ -68,8 +68,11 @@ where
 fn sectors_of_image(alloc: Global, image: Vec<u8>, sectors: Option<&str>) -> Result<Vec<u8>, Fault>
     requires size { IsChipSize (length image.items) }
     ensures mountable { IfOk result (λ _. IsMountable image.items) }
-    ensures bytes { IfOk result (λ bytes. (first : ℕ) × (end : ℕ)
+    ensures bytes { IfOk result (λ bytes. (first : ℕ) × (end : ℕ) × (first < end)
+        × (512 * end ≤ length (contents_of image.items))
         × (bytes.items ≡ bytes_at (contents_of image.items) (512 * first) (512 * (end - first)))) }
+    ensures whole { sectors.entry ≡ None
+        → IfOk result (λ bytes. bytes.items ≡ contents_of image.items) }
     ensures refused { IfErr result MoveFails }
 {
     let mut disk = copied_disk(alloc, image)?;
@@ -82,6 +85,8 @@ pub(crate) fn part_of<D: Disk>(disk: &D, sectors: Option<&str>) -> Result<Part, 
     ensures part { IfOk result (λ part.
         (part.first < part.end) × (part.end ≤ 65536) × (512 * part.end
         ≤ length (D.facts disk.now).contents)) }
+    ensures whole { sectors.entry ≡ None → IfOk result (λ part.
+        (part.first ≡ 0) × (512 * part.end ≡ length (D.facts disk.now).contents)) }
     ensures refused { IfErr result MoveFails }
 {
     let count = disk.sectors();
