@@ -139,7 +139,10 @@ where
     };
     let barrier = Barrier::new(alloc, asked.order, 65_536)?;
     let syncs = held.handle(&barrier)?;
-    let Ok(bus) = held.chip(alloc, &barrier) else {
+    let Ok(bytes) = held.bytes(alloc) else {
+        return Err(Fail::new("not read"));
+    };
+    let Ok(bus) = held.chip(bytes, &barrier) else {
         return Err(Fail::new("no chip"));
     };
     let Ok(served) = FlashDisk::<_, Brand>::mount(alloc, bus) else {
