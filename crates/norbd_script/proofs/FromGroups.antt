@@ -21,7 +21,7 @@ use Rattle.flash_disk.proofs.Sectors.{length-contents, part-contents}
 use Rattle.norbd_script.specs.Lives.{IsHealthyChip, MountSays, StaySays, as_seen, seen_with}
 use Rattle.norbd_script.specs.GroupChips.{GroupSectorIs, in_none, in_newest, IsArrayOfGroups, GroupChipsAreServed}
 use Rattle.norbd_script.proofs.Living.{calls-are-a-life}
-use Rattle.norbd_script.proofs.GroupKinds.{has-room, live-place, place-live}
+use Rattle.norbd_script.proofs.GroupKinds.{live-place, place-live}
 
 -- what the slots say of a sector, in the words of groups
 said : (m : List ℕ) (g i : ℕ) (x : List ℕ) → IsChipSize (length m) → AreSoundGroups m → IsCleanOfGroups m → i < 7 → SectorIs (slot_at m) (slot_count m) (7 * g + i) x → GroupSectorIs m g i x
@@ -80,9 +80,9 @@ pub from-groups : SectorsDecide → GroupChipsAreServed
 from-groups decide c law h =
     let m = c.memory in
     let size = sized c law h.accepted in
-    let mounts = group-mountable m size (record { superblock = h.superblock; journals = h.journals; groups = h.groups; room = has-room m size h.groups; clean = h.clean }) in
+    let mounts = group-mountable m size h.groups in
     let healthy : IsHealthyChip c = record { idle = h.idle; accepted = h.accepted; mountable = mounts.0 } in
-    let array = array-of m size h.groups h.clean mounts.0.store.slots.slots in (
+    let array = array-of m size h.groups.groups h.groups.clean mounts.0.store.slots.slots in (
       contents_of m,
       record {
         groups = array;

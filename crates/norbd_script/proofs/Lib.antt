@@ -2,6 +2,5 @@ mod Chain
 mod Staying
 mod Living
 mod Simulating
-mod Pigeonhole
 mod GroupKinds
 mod FromGroups

@@ -1,18 +1,15 @@
 -- The headline from a chip of layout 1, in the words of that layout alone: its blocks, each free,
 -- dead, or live with a group of seven sectors. Source: own, layout 1.
-use Rattle.std.specs.Prelude.{◌≡◌, ◌≢◌, ℕ, ◌+◌, ◌*◌, ◌<◌, true, List, length, Ok, Err}
+use Rattle.std.specs.Prelude.{◌≡◌, ◌≢◌, ℕ, ◌+◌, ◌*◌, ◌<◌, true, List, length, Err}
 use Rattle.chip_model.specs.Chip.{Chip, IsChip, is_idle}
 use Rattle.chip_model.specs.Geometry.{group_count}
 use Rattle.nor_driver.specs.Probe.{IsAcceptedChip}
-use Rattle.nor_layout.specs.Layouts.{layout_of}
 use Rattle.nor_layout.specs.Headers.{next_generation}
 use Rattle.nor_layout.specs.declared.header.Tag.{Tag}
-use Rattle.nor_layout.specs.declared.layout.Layout.TheVariants.{Groups}
-use Rattle.erase_journal.specs.Journals.{IsHealthy}
 use Rattle.sector_slots.specs.Slots.{content_bytes, data_block}
 use Rattle.sector_slots.specs.Sectors.{zeros}
-use Rattle.sector_slots.specs.Groups.{IsLiveWith, AreSoundGroups, IsCleanOfGroups}
-use Rattle.sector_map.specs.Maps.{geometry_of}
+use Rattle.sector_slots.specs.Groups.{IsLiveWith}
+use Rattle.sector_map.specs.Laws.{IsGroupChip}
 use Rattle.block_device.specs.Contents.{sector}
 use Rattle.flash_disk.specs.Contents.{contents_of}
 use Rattle.norbd_script.specs.declared.error.RunFault.TheVariants.{NotClean}
@@ -20,15 +17,11 @@ use Rattle.norbd_script.specs.Lives.{OnBus, Stay, RunsMounted, StaySays, StaysHe
 use Rattle.norbd_script.specs.Lives.{seen_with, MountedRun, AllRunMounted, Lives}
 
 -- A healthy and clean chip of layout 1: nothing is in progress, it passes the checks of a probe,
--- its superblock says layout 1, its journals are healthy, nothing of its groups is corrupt, and
--- what reads as free is erased.
+-- and its memory is that of a chip of layout 1.
 pub record IsHealthyGroupChip (c : Chip) : Type 0 where
   pub idle : is_idle c.operation ≡ true
   pub accepted : IsAcceptedChip c
-  pub superblock : layout_of c.memory (geometry_of (length c.memory)) ≡ Ok Groups
-  pub journals : IsHealthy c.memory
-  pub groups : AreSoundGroups c.memory
-  pub clean : IsCleanOfGroups c.memory
+  pub groups : IsGroupChip c.memory
 
 -- What sector i of group g is: zeros where no block is live with the group, else what its newest
 -- live block has there, the one whose generation is the next of every other one's.

@@ -8,6 +8,7 @@ use Rattle.nor_layout.specs.declared.layout.Layout.TheVariants.{Groups, Sectors}
 use Rattle.nor_layout.specs.declared.superblock.SuperError.TheVariants as refusals
 use Rattle.sector_slots.proofs.OldLaws.{old-sound}
 use Rattle.sector_map.specs.Laws.{GroupChipsAreMountable}
+use Rattle.sector_map.proofs.GroupRoom.{has-room}
 use Rattle.sector_map.specs.Maps.{is_layout, geometry_of}
 
 two-cases : (p q : Bool) → (if p then Err refusals.NotFormatted else if q then Err refusals.Geometry else Ok Sectors) ≡ Ok Groups → ⊥
@@ -22,5 +23,5 @@ not-two m chip e two =
 
 pub group-mountable : GroupChipsAreMountable
 group-mountable m size g =
-    let s = old-sound m size (λ two. not-two m (geometry_of (length m)) g.superblock two) g.groups g.room g.clean in
+    let s = old-sound m size (λ two. not-two m (geometry_of (length m)) g.superblock two) g.groups (has-room m size g.groups) g.clean in
     (record { superblock = ap is_layout g.superblock; store = record { journals = g.journals; slots = s.0 } }, s.1)

@@ -15,5 +15,7 @@ pub mod Mending
 pub mod Opening
 pub mod Clearing
 pub mod Leaving
+mod Pigeonhole
+mod GroupRoom
 pub mod Grouped
 pub mod Evening

@@ -5,7 +5,7 @@ use Rattle.nor_layout.specs.Layouts.{layout_of}
 use Rattle.nor_layout.specs.declared.layout.Layout.TheVariants.{Groups}
 use Rattle.erase_journal.specs.Journals.{IsHealthy}
 use Rattle.sector_slots.specs.Slots.{IsClean}
-use Rattle.sector_slots.specs.Groups.{AreSoundGroups, HasRoomForGroups, IsCleanOfGroups}
+use Rattle.sector_slots.specs.Groups.{AreSoundGroups, IsCleanOfGroups}
 use Rattle.sector_map.specs.Maps.{IsMountable, geometry_of}
 
 -- A chip of layout 1: its superblock says so, its journals are healthy, and its blocks, each free,
@@ -14,7 +14,6 @@ pub record IsGroupChip (m : List ℕ) : Type 0 where
   pub superblock : layout_of m (geometry_of (length m)) ≡ Ok Groups
   pub journals : IsHealthy m
   pub groups : AreSoundGroups m
-  pub room : HasRoomForGroups m
   pub clean : IsCleanOfGroups m
 
 -- A mount accepts it, and what reads as free is erased.

@@ -1,7 +1,6 @@
 -- What the calls of a map leave of a chip, by their answer. Source: own, layout 2.
 use Rattle.std.specs.Prelude.{◌≡◌, ◌≢◌, ◌⊎◌, ℕ, ◌+◌, ◌<◌, ◌≤◌, Bool, true, false, List, length}
 use Rattle.std.specs.Prelude.{Option, Some, None, Result, Ok, Err}
-use Rattle.chip_model.specs.Parts.{part}
 use Rattle.chip_model.specs.Geometry.{block_count, group_count, sector_count}
 use Rattle.chip_model.specs.declared.geometry.Geometry.{Geometry}
 use Rattle.nor_layout.specs.Layouts.{layout_of}
@@ -213,31 +212,6 @@ pub record MapRestoreSlow (old new : NorState) : Type 0 where
 abbrev pub MapRestoreFails : NorError → NorState → NorState → Type 0
 MapRestoreFails errors.Cut old new = MapRestoreCut old new
 MapRestoreFails errors.Slow old new = MapRestoreSlow old new
-
--- sector i of these bytes
-abbrev pub sector_of : List ℕ → ℕ → List ℕ
-sector_of bytes i = part 512 bytes i
-
--- The first n of the sectors from `first` on were written with these bytes, and every other is as
--- it was.
-pub record WritesRange (first n : ℕ) (bytes m m' : List ℕ) : Type 0 where
-  pub chip : SameChip m m'
-  pub inside : IsClean m → (i : ℕ) → i < n → sector_at m' (first + i) ≡ sector_of bytes i
-  pub others : IsClean m → (h : ℕ) → h < sector_count (length m) → (h < first) ⊎ (first + n ≤ h)
-      → sector_at m' h ≡ sector_at m h
-  pub clean : IsClean m → IsClean m'
-
--- What a write of n sectors leaves where it is cut: each of them is as it was, or written, and
--- every other as it was.
-pub record RangeLeaves (first n : ℕ) (bytes m m' : List ℕ) : Type 0 where
-  pub chip : SameChip m m'
-  pub store : IsStore m'
-  pub inside : IsClean m → (i : ℕ) → i < n
-      → (sector_at m' (first + i) ≡ sector_at m (first + i))
-      ⊎ (sector_at m' (first + i) ≡ sector_of bytes i)
-  pub others : IsClean m → (h : ℕ) → h < sector_count (length m) → (h < first) ⊎ (first + n ≤ h)
-      → sector_at m' h ≡ sector_at m h
-  pub clean : IsClean m → IsClean m'
 
 -- Where blocks are chosen by erases, none of n was erased over k times more often than another one.
 abbrev pub IsEven : ℕ → Policy → ℕ → List BlockState → Type 0

@@ -72,11 +72,6 @@ pub record SlotsRepresent (f : ℕ → Slot) (n count : ℕ) (sectors : ℕ → 
   pub sound : SoundSlots f n count
   pub maps : Maps f n count sectors
 
--- what an interrupted change from sectors to `new` may leave
-pub data OldOrNew (f : ℕ → Slot) (n count : ℕ) (sectors new : ℕ → List ℕ) : Type 0 where
-  still_old : SlotsRepresent f n count sectors → OldOrNew f n count sectors new
-  now_new : SlotsRepresent f n count new → OldOrNew f n count sectors new
-
 -- these sectors, but with this content in sector g
 abbrev pub with_sector : (ℕ → List ℕ) → ℕ → List ℕ → ℕ → List ℕ
 with_sector sectors g x h = if h == g then x else sectors h
