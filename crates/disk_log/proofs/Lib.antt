@@ -1,0 +1,5 @@
+mod Records
+mod Readings
+mod Growing
+mod Holding
+mod Replays
