@@ -11,7 +11,7 @@ use Rattle.norbd_line.specs.declared.fault.Fault.{Fault}
 use Rattle.norbd_line.specs.declared.fault.Fault.TheVariants.{NotFormatted, Corrupt, NotClean}
 
 -- An image that `check` calls clean: a mount accepts it, and what reads as free is erased. Of the
--- slots of one in which a copying goes on this is said of what a mount makes of it.
+-- slots of one in which a copying goes on nothing is said.
 pub record IsCheckedClean (sectors : ℕ) (m : List ℕ) : Type 0 where
   pub mountable : IsMountable m
   pub sectors_are : sectors ≡ sector_count (length m)

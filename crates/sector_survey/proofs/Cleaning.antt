@@ -71,9 +71,6 @@ cleanness-back layout says m m' s h = record {
   groups = groups-back layout says.dirty_group m m' s h.groups;
 }
 
-pub first-back : (o : Option ℕ) (m m' : List ℕ) → SameBlocks m m' → FreeBlocksTell o m' → FreeBlocksTell o m
-first-back o m m' s h = blocks-back o m m' s h
-
 pub erased-back : (m m' new : List ℕ) → SameBlocks m m' → HasFreeErased m' new → HasFreeErased m new
 erased-back m m' new s h = record {
   size = h.size ∙ s.chip.same_length;

@@ -2,7 +2,9 @@
 
 ghost use Rattle.std.specs.Prelude.{◌≡◌, ◌*◌, IfOk, IfSome, None, length};
 ghost use Rattle.chip_model.specs.Geometry.{IsChipSize};
+ghost use Rattle.nor_layout.specs.Layouts.{layout_of};
 ghost use Rattle.erase_journal.specs.Journals.{IsHealthy};
+ghost use Rattle.sector_map.specs.Maps.{geometry_of};
 ghost use Rattle.sector_survey.specs.Cleanness.{HasCleanGroups, HasFreeErased, IsFirstDirty};
 ghost use Rattle.sector_survey.specs.Cleanness.{IsOfGroups};
 ghost use Rattle.sector_survey.specs.Reports.{CleannessTells, IsReportOf};
@@ -11,11 +13,12 @@ ghost use Rattle.sector_survey.specs.Verdicts.{Tells};
 use crate::clean::{Cleanness, examine_clean, told_of_nor};
 use crate::groups::{erase_free_blocks, first_dirty_group};
 use crate::summary::{BlockSummary, summarize};
-use crate::verdict::{Unexamined, Verdict, examine, look};
+use crate::verdict::{Unexamined, Verdict, examine};
+use chip_model::Geometry;
 use chip_simulator::PromptChip;
 use erase_journal::{Journal, JournalTally, RecoverError, read_tally};
 use nor_driver::{Driver, Nor, NorError, ProbeError};
-use nor_layout::Layout;
+use nor_layout::{Layout, SUPER_LEN, SuperError, read_layout};
 use std::alloc::Global;
 
 /// What the bytes of an image say: what a mount would answer, the votes and entries of the
@@ -85,12 +88,10 @@ pub fn dirty_group_of(alloc: Global, image: &[u8]) -> Result<Option<u32>, Unexam
     ensures some { IfOk result (λ found. IfSome found (λ at. IsOfGroups image.now
         × IsFirstDirty image.now at)) }
 {
-    let mut chip = copied_chip(alloc, image)?;
-    match look(&mut chip) {
-        Ok(Ok(Layout::Groups)) => {}
-        Ok(_) => return Ok(None),
-        Err(error) => return Err(told_of_nor(error)),
-    }
+    let Ok(Layout::Groups) = layout_in(image) else {
+        return Ok(None);
+    };
+    let chip = copied_chip(alloc, image)?;
     let mut journal = match Journal::recover(chip) {
         Ok(journal) => journal,
         Err((_, RecoverError::Cut)) => return Err(Unexamined::Cut),
@@ -113,12 +114,10 @@ pub fn with_free_groups_erased(alloc: Global, image: Vec<u8>) -> Result<Vec<u8>,
     ensures other { (IsOfGroups image.items → ⊥)
         → IfOk result (λ new. new.items ≡ image.items) }
 {
-    let mut chip = copied_chip(alloc, image.as_slice())?;
-    match look(&mut chip) {
-        Ok(Ok(Layout::Groups)) => {}
-        Ok(_) => return Ok(image),
-        Err(error) => return Err(told_of_nor(error)),
-    }
+    let Ok(Layout::Groups) = layout_in(image.as_slice()) else {
+        return Ok(image);
+    };
+    let chip = copied_chip(alloc, image.as_slice())?;
     let mut journal = match Journal::recover(chip) {
         Ok(journal) => journal,
         Err((_, RecoverError::Cut)) => return Err(Unexamined::Cut),
@@ -129,6 +128,19 @@ pub fn with_free_groups_erased(alloc: Global, image: Vec<u8>) -> Result<Vec<u8>,
         Ok(()) => Ok(journal.into_inner().into_inner().into_inner()),
         Err(error) => Err(told_of_nor(error)),
     }
+}
+
+/// Which layout the superblock of an image says.
+fn layout_in(image: &[u8]) -> Result<Layout, SuperError>
+    requires { IsChipSize (length image.now) }
+    ensures { result ≡ layout_of image.now (geometry_of (length image.now)) }
+{
+    let Some(chip) = Geometry::of(image.len() as u32) else {
+        unreachable!()
+    };
+    let mut head = [0; SUPER_LEN];
+    head.copy_from_slice(&image[..SUPER_LEN]);
+    read_layout(&head, chip)
 }
 
 /// A chip in memory with these bytes, behind its driver.

@@ -61,7 +61,7 @@ pub fn examine<N: Nor>(alloc: Global, nor: N) -> (N, Result<Verdict, Unexamined>
 }
 
 /// Which layout the superblock of a memory says. Nothing is changed.
-pub(crate) fn look<N: Nor>(nor: &mut N) -> Result<Result<Layout, SuperError>, NorError>
+fn look<N: Nor>(nor: &mut N) -> Result<Result<Layout, SuperError>, NorError>
     ensures ok { IfOk result (λ says. says
         ≡ layout_of (N.state nor.old).memory (geometry_of (length (N.state nor.old).memory))) }
     ensures same { (N.state nor.new).memory ≡ (N.state nor.old).memory }

@@ -190,17 +190,17 @@ fn serving_without_memory_says_so(rt: HostRuntime) -> Result<(), Fail> {
         verbose: true,
         trust: false,
     });
-    // the barrier, 512 bytes and 16 of its own, and the chip; a copy of it that is looked at; and
-    // one for its free blocks. What follows fits where they were
+    // the barrier, 512 bytes and 16 of its own, and the chip; a copy of it that is looked at. What
+    // follows fits where that was
     let windows = [
         (0, 264, 3),
         (32_768, 32_768, 2),
         (66_064, 32, 2),
         (98_304, 32_768, 2),
-        (131_600, 32, 4),
-        (163_840, 32_768, 2),
-        (197_136, 32, 20),
-        (229_376, 32_768, 2),
+        (131_600, 32, 20),
+        (163_840, 32, 20),
+        (167_936, 32, 20),
+        (196_608, 32_768, 2),
     ];
     sweep(&rt, line, &[], &windows, serving)?;
     Ok(fs::remove_file(&rt, "served.img")?)

@@ -7,12 +7,12 @@ pub returns-in-Ok-erase_free_blocks-clause-size : goal.returns-in-Ok-erase_free_
 returns-in-Ok-erase_free_blocks-clause-size c =
     let new = c.into_inner-in-Ok-erase_free_blocks-2.result.items in
     let end : new ≡ c.erase_free_blocks.new.journal.memory = c.into_inner-in-Ok-erase_free_blocks-2.ensures ∙ (c.into_inner-in-Ok-erase_free_blocks.ensures.memory ∙ c.into_inner.ensures.memory) in
-    let h : HasFreeErased c.in-Ok-recover.journal.memory new = subst (λ z. HasFreeErased c.in-Ok-recover.journal.memory z) (sym end) c.in-Ok-erase_free_blocks.ensures.erased in
-    h.size ∙ (c.in-Ok-recover.ensures.ok.blocks.chip.same_length ∙ ap length (c.look.ensures.same ∙ (c.in_ok-chip.ensures ∙ c.as_slice.ensures.value)))
+    let h : HasFreeErased c.in-Ok.journal.memory new = subst (λ z. HasFreeErased c.in-Ok.journal.memory z) (sym end) c.in-Ok-erase_free_blocks.ensures.erased in
+    h.size ∙ (c.in-Ok.ensures.ok.blocks.chip.same_length ∙ ap length (c.in_ok-chip.ensures ∙ c.as_slice-2.ensures.value))
 
 pub returns-in-Ok-erase_free_blocks-clause-erased : goal.returns-in-Ok-erase_free_blocks-clause-erased
 returns-in-Ok-erase_free_blocks-clause-erased c is healthy =
     let new = c.into_inner-in-Ok-erase_free_blocks-2.result.items in
     let end : new ≡ c.erase_free_blocks.new.journal.memory = c.into_inner-in-Ok-erase_free_blocks-2.ensures ∙ (c.into_inner-in-Ok-erase_free_blocks.ensures.memory ∙ c.into_inner.ensures.memory) in
-    let h : HasFreeErased c.in-Ok-recover.journal.memory new = subst (λ z. HasFreeErased c.in-Ok-recover.journal.memory z) (sym end) c.in-Ok-erase_free_blocks.ensures.erased in
-    subst (λ z. HasFreeErased z new) (c.look.ensures.same ∙ (c.in_ok-chip.ensures ∙ c.as_slice.ensures.value)) (erased-back _ c.in-Ok-recover.journal.memory new c.in-Ok-recover.ensures.ok.blocks h)
+    let h : HasFreeErased c.in-Ok.journal.memory new = subst (λ z. HasFreeErased c.in-Ok.journal.memory z) (sym end) c.in-Ok-erase_free_blocks.ensures.erased in
+    subst (λ z. HasFreeErased z new) (c.in_ok-chip.ensures ∙ c.as_slice-2.ensures.value) (erased-back _ c.in-Ok.journal.memory new c.in-Ok.ensures.ok.blocks h)
