@@ -1,0 +1,4 @@
+pub mod Copies
+pub mod Holding
+pub mod Joining
+pub mod Saying

@@ -1,0 +1,3 @@
+pub mod Rescue
+pub mod Doubts
+pub mod Steps
