@@ -10,6 +10,7 @@
 #![tactic(auto)]
 
 mod dirty;
+mod doubtful;
 mod journals;
 mod json;
 mod page;
@@ -18,6 +19,7 @@ mod reason;
 mod totals;
 
 pub use dirty::first_dirty;
+pub use doubtful::Doubtful;
 pub use json::Json;
 pub use page::Page;
 pub use picture::Picture;

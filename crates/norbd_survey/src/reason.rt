@@ -72,7 +72,11 @@ fn write_block<W: fmt::Write>(
 }
 
 /// A slot and the four bytes that say its state.
-fn write_slot<W: fmt::Write>(f: &mut fmt::Formatter<W>, image: &[u8], slot: u16) -> fmt::Result {
+pub(crate) fn write_slot<W: fmt::Write>(
+    f: &mut fmt::Formatter<W>,
+    image: &[u8],
+    slot: u16,
+) -> fmt::Result {
     let number = slot as u32 / 7 + FIRST_DATA_BLOCK as u32;
     let place = slot % 7;
     let at = slot_place(image, slot);
