@@ -6,7 +6,8 @@ import unittest
 
 import kit
 
-COMMANDS = ("plain", "format", "script", "serve", "chip", "check", "show", "read", "write")
+COMMANDS = ("plain", "format", "script", "serve", "chip", "check", "show", "read", "write",
+            "rescue")
 MAN = os.path.join(kit.ROOT, "docs/man/norbd.1")
 
 
@@ -36,7 +37,7 @@ class Help(kit.Case):
             "plain": "sectors no-record", "format": "kib force yes", "script": "kib",
             "serve": "port bind unix conns record sync tidy max-request read-only verbose trust",
             "chip": "port conns", "check": "mend json", "show": "", "read": "sectors",
-            "write": "sectors"}
+            "write": "sectors", "rescue": ""}
         for command, options in wanted.items():
             text = self.help_of(command).split("Options:")[-1]
             rows = set(re.findall(r"(?m)^\s+(?:-\w, |    )?--([a-z-]+)", text))

@@ -27,6 +27,7 @@ class Locked(kit.Case):
             for line in ("serve a.img --unix b.sock", "serve a.img --unix b.sock --read-only",
                          "format a.img --kib 64", "format a.img --kib 64 --force", "check a.img",
                          "check a.img --mend", "check a.img --json", "show a.img", "read a.img",
+                         "rescue a.img",
                          "write a.img", f"chip a.img --port {kit.free_port()}"):
                 self.refused("image in use: a.img", *line.split())
             self.assertEqual(self.bytes_of("a.img"), before)

@@ -255,8 +255,9 @@ class Lines(kit.Case):
         """A line that can't be printed is `output failed`, with the cause, status 1."""
         self.format()
         for line in ("format b.img --kib 64", "check a.img", "check a.img --json", "show a.img",
-                     "read a.img", "serve a.img --unix a.sock", "write a.img",
-                     "chip a.img --port %d" % kit.free_port()):
+                     "read a.img", "rescue a.img", "serve a.img --unix a.sock", "write a.img",
+                     "chip a.img --port %d" % kit.free_port(), "--help", "--version", "help",
+                     "help serve", "serve --help"):
             with open("/dev/full", "wb") as full:
                 done = self.run_norbd(*line.split(), data=bytes(35840), stdout=full)
             self.assertEqual((done.status, done.fault),
@@ -276,7 +277,7 @@ class Lines(kit.Case):
         self.format()
         request = b"\x25\x60\x95\x13" + bytes(20) + b"\0\0\2\0"
         for line in ("read a.img", "check a.img", "check a.img --json", "show a.img",
-                     "plain --sectors 70"):
+                     "rescue a.img", "plain --sectors 70", "--help", "--version"):
             done = self.run_norbd(*line.split(), data=request, preexec_fn=lambda: os.close(1))
             self.assertEqual((done.status, done.fault),
                              (1, "norbd: output failed: standard output is closed\n"), line)

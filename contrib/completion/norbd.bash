@@ -16,7 +16,8 @@ _norbd() {
         --port,* | --bind,* | --conns,* | --kib,* | --max-request,* | --sectors,*) ;;
         --unix,*) kind=-f ;;
         *,,-*) words='--help --version -h -V' ;;
-        *,,* | *,help,*) words='chip plain format script serve check show read write help' ;;
+        *,,* | *,help,*) words='chip plain format script serve check show read write
+            rescue help' ;;
         *,chip,-*) words='--port --conns --help -h' ;;
         *,plain,-*) words='--sectors --no-record --help -h' ;;
         *,format,-*) words='--kib --force --yes --help -h' ;;
@@ -24,7 +25,7 @@ _norbd() {
         *,serve,-*) words='--port --bind --unix --conns --record --sync --tidy --max-request
             --read-only --verbose --trust --help -v -h' ;;
         *,check,-*) words='--mend --json --help -h' ;;
-        *,show,-*) words='--help -h' ;;
+        *,show,-* | *,rescue,-*) words='--help -h' ;;
         *,read,-* | *,write,-*) words='--sectors --help -h' ;;
         *,plain,* | *,script,*) ;;
         *) kind=-f ;;

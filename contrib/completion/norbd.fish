@@ -19,6 +19,7 @@ __norbd_command check 'Say whether an image would be served'
 __norbd_command show 'Draw the blocks of an image'
 __norbd_command read 'Write the disk in an image to standard output'
 __norbd_command write 'Replace the disk in an image by standard input'
+__norbd_command rescue 'Write what can be told of the disk in a damaged image'
 __norbd_command help 'Print the help of a command'
 functions -e __norbd_command
 
@@ -26,8 +27,8 @@ functions -e __norbd_command
 function __norbd_option
     complete -c norbd -n "__fish_seen_subcommand_from $argv[1]" $argv[2..-1]
 end
-__norbd_option 'chip plain format script serve check show read write' -s h -l help -d 'Print help'
-__norbd_option 'chip format serve check show read write' -F
+__norbd_option 'chip plain format script serve check show read write rescue' -s h -l help -d 'Print help'
+__norbd_option 'chip format serve check show read write rescue' -F
 __norbd_option 'chip serve' -l port -x -d 'Port to listen on'
 __norbd_option 'chip serve' -l conns -x -d 'Connections in all, up to 64'
 __norbd_option 'format script' -l kib -x -d 'Size in KiB, a multiple of 64 up to 16384'

@@ -1,7 +1,7 @@
 -- The numbers of a line are those that it may have.
 use Rattle.norbd_line.specs.Line.{IsLineInRange}
 use Rattle.norbd_line.specs.declared.line.Line.{Line}
-use Rattle.norbd_line.specs.declared.line.Line.TheVariants.{Chip, Plain, Format, Script, Serve, Check, Show, Read, Write}
+use Rattle.norbd_line.specs.declared.line.Line.TheVariants.{Chip, Plain, Format, Script, Serve, Check, Show, Read, Write, Rescue}
 use Rattle.norbd_run.specs.Lines.{HasNumbers}
 
 pub numbers_of_line : (line : Line) → IsLineInRange line → HasNumbers line
@@ -14,3 +14,4 @@ numbers_of_line (Check image mends tells_json) range = tt
 numbers_of_line (Show image) range = tt
 numbers_of_line (Read image asked) range = tt
 numbers_of_line (Write image asked) range = tt
+numbers_of_line (Rescue image) range = tt

@@ -1,10 +1,10 @@
 //! The program `norbd`, a disk on a flash chip behind the Network Block Device protocol (NBD), in
-//! nine lines: `plain` serves a disk in memory over standard input and output, in the transmission
+//! ten lines: `plain` serves a disk in memory over standard input and output, in the transmission
 //! phase; `format` makes an image of a formatted chip; `script` runs events, losses of power too,
 //! on a chip in memory; `serve` serves the chip in an image to connections on a port or a Unix
 //! socket; `check` says whether an image would be served, and if not, why, and mends one; `show`
-//! draws it; `read` and `write` take its disk out and put it in; `chip` answers the serprog
-//! protocol for the chip in an image.
+//! draws it; `read` and `write` take its disk out and put it in; `rescue` takes out what can still
+//! be told of it; `chip` answers the serprog protocol for the chip in an image.
 //!
 //! Here are the words of the command line, the standard streams, what is printed of a fault, and
 //! the exit status: 0 where the line is done, 2 for a bad line, 1 for each other fault. `norbd_run`
@@ -85,23 +85,36 @@ where
     run_line(rt, line, colours, &mut reader, &mut writer)
 }
 
-/// Prints a fault: `clap`'s own text for one of the words, else a line on standard error, with why
-/// standard output failed. A failure to print it is passed over.
+/// Prints a line about a fault on standard error, with why standard output failed. A failure to
+/// print it is passed over.
 fn tell(rt: &HostRuntime, fault: &Fault, line: Option<Line<'_>>, output: Option<Failure>) {
-    if let Fault::Words(error) = fault {
-        let _ = error.print(rt);
-    } else {
-        let reason = match line {
-            Some(line) => reason_of(rt, fault, line),
-            None => None,
-        };
-        let telling = Telling {
-            fault,
-            line,
-            reason,
-            output,
-        };
-        let _ = eprintln!(rt; "norbd: {telling}");
+    let reason = match line {
+        Some(line) => reason_of(rt, fault, line),
+        None => None,
+    };
+    let telling = Telling {
+        fault,
+        line,
+        reason,
+        output,
+    };
+    let _ = eprintln!(rt; "norbd: {telling}");
+}
+
+/// Prints `clap`'s own text of a fault of the words, and a line of every other one. Where the text
+/// is help or the version, which standard output has, it tells why that failed.
+fn print_fault(rt: &HostRuntime, fault: &Fault, closed: bool) -> Option<Failure> {
+    let Fault::Words(error) = fault else {
+        tell(rt, fault, None, None);
+        return None;
+    };
+    let asked = !error.use_stderr();
+    if asked && closed {
+        return Some(Failure::Closed);
+    }
+    match error.print(rt) {
+        Err(error) if asked => Some(Failure::Answered(error.kind())),
+        _ => None,
     }
 }
 
@@ -153,27 +166,33 @@ fn is_for_output(line: Line<'_>) -> bool {
         Line::Check { .. } => true,
         Line::Show { .. } => true,
         Line::Read { .. } => true,
+        Line::Rescue { .. } => true,
         _ => false,
     }
 }
 
-/// Prints a fault of the words, and tells its exit status.
-fn refuse(rt: &HostRuntime, fault: Fault) -> ExitCode {
-    tell(rt, &fault, None, None);
+/// Prints a fault of the words, and tells its exit status; help that can't be printed is a fault of
+/// the output.
+fn refuse(rt: &HostRuntime, fault: Fault, closed: bool) -> ExitCode {
+    let failure = print_fault(rt, &fault, closed);
+    if failure.is_some() {
+        tell(rt, &Fault::OutputFailed, None, failure);
+        return exit_code(&Err(Fault::OutputFailed));
+    }
     exit_code(&Err(fault))
 }
 
 fn main(rt: HostRuntime) -> ExitCode {
     let Ok(standard) = hold_standard(&mut Null { rt: &rt }) else {
-        return refuse(&rt, Fault::OutputFailed);
+        return refuse(&rt, Fault::OutputFailed, false);
     };
     let words = match words_of(&rt, rt.alloc()) {
         Ok(words) => words,
-        Err(fault) => return refuse(&rt, fault),
+        Err(fault) => return refuse(&rt, fault, standard.lacks_output()),
     };
     let line = match read_line(rt.alloc(), words.as_slice()) {
         Ok(line) => line,
-        Err(fault) => return refuse(&rt, fault),
+        Err(fault) => return refuse(&rt, fault, standard.lacks_output()),
     };
     let closed = standard.lacks_output() && is_for_output(line);
     let mut output = Output::new(rt.stdout(), closed);

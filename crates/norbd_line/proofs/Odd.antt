@@ -7,7 +7,7 @@ use Rattle.norbd_line.specs.Line.{HasOddSize, IsLineInRange, IsLineOf, IsOddSize
 use Rattle.norbd_line.specs.declared.fault.Fault.{Fault}
 use Rattle.norbd_line.specs.declared.fault.Fault.TheVariants.{Words, NoMemory, BadSize, InputFailed, OutputFailed, ImageFailed, WrongId, BadSfdp, Protected, Slow, BadRecord, NotFormatted, Corrupt, NotClean, BadImageSize, NoSocket, NoThread, BadSync, NotText, EmptyName, InUse, Formatted, NotEmpty, BadAddress, BadTidy, BadRange, BadInput}
 use Rattle.norbd_line.specs.declared.line.Line.{Line}
-use Rattle.norbd_line.specs.declared.line.Line.TheVariants.{Plain, Format, Script, Serve, Check, Show, Read, Write, Chip}
+use Rattle.norbd_line.specs.declared.line.Line.TheVariants.{Plain, Format, Script, Serve, Check, Show, Read, Write, Rescue, Chip}
 
 -- the words name one command
 same_name : (words : List Text) (n m : Text) (rows others : List Row) → Names words n rows → Names words m others → n ≡ m
@@ -55,6 +55,11 @@ unfolding first_of_name
 read_takes_no_size (inl e) = let first : 114 ≡ 102 = ap first_of_name e in omega (arith, first)
 read_takes_no_size (inr e) = let first : 114 ≡ 115 = ap first_of_name e in omega (arith, first)
 
+rescue_takes_no_size : TakesSize (codes "rescue") → ⊥
+unfolding first_of_name
+rescue_takes_no_size (inl e) = let first : 114 ≡ 102 = ap first_of_name e in omega (arith, first)
+rescue_takes_no_size (inr e) = let first : 114 ≡ 115 = ap first_of_name e in omega (arith, first)
+
 write_takes_no_size : TakesSize (codes "write") → ⊥
 unfolding first_of_name
 write_takes_no_size (inl e) = let first : 119 ≡ 102 = ap first_of_name e in omega (arith, first)
@@ -96,6 +101,9 @@ no_odd_line words (Read image asked) range line odd_kib odd =
 no_odd_line words (Write image asked) range line odd_kib odd =
     let name = same_name words line.0 odd.0 line.1 odd.1 line.2 odd.2 in
     write_takes_no_size (subst TakesSize (sym name ∙ line.3.0) odd.3.0)
+no_odd_line words (Rescue image) range line odd_kib odd =
+    let name = same_name words line.0 odd.0 line.1 odd.1 line.2 odd.2 in
+    rescue_takes_no_size (subst TakesSize (sym name ∙ line.3.0) odd.3.0)
 
 pub odd_is_refused : (words : List Text) (r : Result Line Fault) → IfOk r IsLineInRange → IfOk r (IsLineOf words) → IfErr r (ComesFromWords words)
     → (odd_kib : ℕ) → HasOddSize words odd_kib → IsErrAnd r (λ e. (e ≡ BadSize odd_kib) ⊎ (e ≡ NoMemory))

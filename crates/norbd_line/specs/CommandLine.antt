@@ -111,6 +111,10 @@ abbrev pub write_app : App
 write_app = with_rule (with_rule (new_app (codes "write")) image_rule)
     (text_rule (codes "sectors"))
 
+-- `rescue IMAGE`
+abbrev pub rescue_app : App
+rescue_app = with_rule (new_app (codes "rescue")) image_rule
+
 -- `norbd` has a version and requires a command
 abbrev pub norbd_alone : App
 norbd_alone = record (new_app (codes "norbd")) {
@@ -123,8 +127,8 @@ begun_app = with_subcommand norbd_alone chip_app.top
 
 -- a command line with the commands about an image without a server
 abbrev pub with_image_apps : App → App
-with_image_apps app = with_subcommand (with_subcommand (with_subcommand
-    (with_subcommand app check_app.top) show_app.top) read_app.top) write_app.top
+with_image_apps app = with_subcommand (with_subcommand (with_subcommand (with_subcommand
+    (with_subcommand app check_app.top) show_app.top) read_app.top) write_app.top) rescue_app.top
 
 -- the whole command line
 abbrev pub norbd_app : App

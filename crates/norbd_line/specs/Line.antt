@@ -9,6 +9,7 @@ use Rattle.norbd_line.specs.declared.chip.ChipLine.{ChipLine}
 use Rattle.norbd_line.specs.declared.line.Line.{Line}
 use Rattle.norbd_line.specs.declared.line.Line.TheVariants.{Chip, Plain, Format, Script, Serve}
 use Rattle.norbd_line.specs.declared.line.Line.TheVariants.{Check, Show, Read, Write}
+use Rattle.norbd_line.specs.declared.line.Line.TheVariants.{Rescue}
 use Rattle.norbd_line.specs.declared.line.Place.{Place}
 use Rattle.norbd_line.specs.declared.line.Place.TheVariants as places
 use Rattle.norbd_line.specs.declared.line.ServeLine.{ServeLine}
@@ -62,6 +63,7 @@ IsLineInRange (Check image mends tells_json) = Unit {0}
 IsLineInRange (Show image) = Unit {0}
 IsLineInRange (Read image range) = Unit {0}
 IsLineInRange (Write image range) = Unit {0}
+IsLineInRange (Rescue image) = Unit {0}
 
 -- the number that a text writes in decimal digits
 abbrev pub number_of : Text → ℕ
@@ -148,6 +150,8 @@ IsLineIn name rows (Read image range) =
 IsLineIn name rows (Write image range) =
     (name ≡ codes "write") × (first_of (codes "IMAGE") rows ≡ Some image.now)
     × (first_of (codes "sectors") rows ≡ option_map (λ text. text.now) range)
+IsLineIn name rows (Rescue image) =
+    (name ≡ codes "rescue") × (first_of (codes "IMAGE") rows ≡ Some image.now)
 
 -- the commands that take the size of a chip: `format` and `script`
 abbrev pub TakesSize : Text → Type 0
@@ -180,6 +184,7 @@ IsNamed (Check image mends tells_json) = image.now ≢ []
 IsNamed (Show image) = image.now ≢ []
 IsNamed (Read image range) = image.now ≢ []
 IsNamed (Write image range) = image.now ≢ []
+IsNamed (Rescue image) = image.now ≢ []
 
 -- the words say a line, with its numbers in their ranges, whose image has no name
 abbrev pub HasEmptyName : List Text → Type 0

@@ -14,6 +14,9 @@ pub enum ChipCause {
     /// What was asked can't be done with a chip behind a programmer.
     #[error("--mend takes a file")]
     Unable,
+    /// It would be rescued: that is done of a file alone.
+    #[error("rescue takes a file: flashrom reads the chip into one")]
+    FileAlone,
     /// It has this many KiB, and not those of the line.
     #[error("a chip of {0} KiB")]
     Size(u32),

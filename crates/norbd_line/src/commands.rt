@@ -4,7 +4,8 @@ ghost use Rattle.clap.specs.Words.{FailsBy, app_of, fault_of, kind_of, subcomman
 ghost use Rattle.clap.specs.Words.{subcommand_rows_of, with_subcommand};
 ghost use Rattle.norbd_line.specs.CommandLine.{norbd_app, check_app, format_app, plain_app};
 ghost use Rattle.norbd_line.specs.CommandLine.{script_app, read_app, show_app, with_image_apps};
-ghost use Rattle.norbd_line.specs.CommandLine.{write_app, begun_app, serve_app, texts_of};
+ghost use Rattle.norbd_line.specs.CommandLine.{write_app, rescue_app, begun_app, serve_app};
+ghost use Rattle.norbd_line.specs.CommandLine.{texts_of};
 
 use crate::Fault;
 use crate::chip::{trust_arg, with_chip, yes_arg};
@@ -157,8 +158,23 @@ fn with_write<'a>(alloc: Global, norbd: Command<'a>) -> Result<Command<'a>, clap
     Ok(norbd.subcommand(write)?)
 }
 
-/// A command line with the commands about an image without a server: `check`, `show`, `read` and
-/// `write`.
+/// A command line with `rescue` and its argument.
+fn with_rescue<'a>(alloc: Global, norbd: Command<'a>) -> Result<Command<'a>, clap::Error>
+    ensures app { IfOk result (λ c. app_of c
+        ≡ with_subcommand (app_of norbd.entry) rescue_app.top) }
+    ensures memory { IfErr result (λ e. kind_of e ≡ ErrorKind.OutOfMemory) }
+{
+    let rescue = Command::new(alloc, "rescue")
+        .about(
+            "Writes what can be told of the disk in a damaged image to standard output, and the rest to standard error.\nExample: norbd rescue chip.img > disk.img",
+        )
+        .after_help(AFTER_HELP)
+        .arg(image_arg(alloc, "The file of the chip's bytes"))?;
+    Ok(norbd.subcommand(rescue)?)
+}
+
+/// A command line with the commands about an image without a server: `check`, `show`, `read`,
+/// `write` and `rescue`.
 fn with_image_lines<'a>(alloc: Global, norbd: Command<'a>) -> Result<Command<'a>, clap::Error>
     ensures app { IfOk result (λ c. app_of c ≡ with_image_apps (app_of norbd.entry)) }
     ensures memory { IfErr result (λ e. kind_of e ≡ ErrorKind.OutOfMemory) }
@@ -166,7 +182,8 @@ fn with_image_lines<'a>(alloc: Global, norbd: Command<'a>) -> Result<Command<'a>
     let norbd = with_check(alloc, norbd)?;
     let norbd = with_show(alloc, norbd)?;
     let norbd = with_read(alloc, norbd)?;
-    with_write(alloc, norbd)
+    let norbd = with_write(alloc, norbd)?;
+    with_rescue(alloc, norbd)
 }
 
 /// What `--version` says after the name: the version, and the toolchain that proved and built it.

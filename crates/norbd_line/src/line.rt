@@ -69,6 +69,11 @@ pub enum Line<'a> {
         image: &'a str,
         sectors: Option<&'a str>,
     },
+    /// `rescue IMAGE`: write the sectors to standard output that can still be told of the image in
+    /// the file at the path `image`, whatever is wrong with it.
+    Rescue {
+        image: &'a str,
+    },
 }
 
 /// What a line `serve` asks: to serve the chip in the file at the path `image` at a place, to
@@ -299,6 +304,18 @@ fn write_disk_line<'a>(matches: &ArgMatches<'a>) -> Result<Line<'a>, Fault>
     }
 }
 
+/// The line of `rescue`; likewise.
+fn rescue_line<'a>(matches: &ArgMatches<'a>) -> Result<Line<'a>, Fault>
+    ensures range { IfOk result IsLineInRange }
+    ensures line { IfOk result (IsLineIn (codes "rescue") (rows_of (found_of matches.now))) }
+    ensures fault { IfErr result (λ e. e ≡ Fault.NoMemory) }
+{
+    match matches.get_str("IMAGE") {
+        Some(image) => Ok(Line::Rescue { image }),
+        None => Err(Fault::NoMemory),
+    }
+}
+
 /// The line of the command of this name. The parse refuses every other name, so the last arm isn't
 /// reached.
 fn line_of<'a>(name: &str, matches: &ArgMatches<'a>) -> Result<Line<'a>, Fault>
@@ -323,8 +340,8 @@ fn line_of<'a>(name: &str, matches: &ArgMatches<'a>) -> Result<Line<'a>, Fault>
     }
 }
 
-/// The line of a command of this name about an image alone: `show`, `read` or `write`. The parse
-/// refuses every other name.
+/// The line of a command of this name about an image alone: `show`, `read`, `write` or `rescue`.
+/// The parse refuses every other name.
 fn image_line<'a>(name: &str, matches: &ArgMatches<'a>) -> Result<Line<'a>, Fault>
     ensures range { IfOk result IsLineInRange }
     ensures line { IfOk result (IsLineIn name.now (rows_of (found_of matches.now))) }
@@ -336,6 +353,8 @@ fn image_line<'a>(name: &str, matches: &ArgMatches<'a>) -> Result<Line<'a>, Faul
         read_disk_line(matches)
     } else if name == "write" {
         write_disk_line(matches)
+    } else if name == "rescue" {
+        rescue_line(matches)
     } else {
         Err(Fault::NoMemory)
     }
@@ -355,6 +374,7 @@ fn is_nameless(line: Line<'_>) -> bool
         Line::Show { image } => image.is_empty(),
         Line::Read { image, .. } => image.is_empty(),
         Line::Write { image, .. } => image.is_empty(),
+        Line::Rescue { image } => image.is_empty(),
     }
 }
 

@@ -1,5 +1,5 @@
 -- What `serve` tells, step by step.
-use Rattle.std.proofs.Common.{◌≡◌, ℕ, List, [], ◌++◌, Bool, Option, Result, Ok, Err, IfOk, IsOkAnd, String, refl, sym, subst, ◌∙◌, inl, inr}
+use Rattle.std.proofs.Common.{◌≡◌, ℕ, List, [], ◌++◌, Bool, Option, Result, Ok, Err, IfErr, IfOk, IsOkAnd, String, refl, sym, subst, ◌∙◌, inl, inr}
 use Rattle.std.specs.String.{string_bytes}
 use Rattle.std.specs.Io.KnownBytes.{Appends}
 use Rattle.std.proofs.KnownBytes.{Appends-nil, Appends-trans}
@@ -10,6 +10,7 @@ use Rattle.norbd_serve.specs.declared.fault.ServeFault.TheVariants as serves
 use Rattle.norbd_run.specs.Checking.{CheckTells, Says, checked_text, last_text}
 use Rattle.norbd_run.specs.Chips.{ChipTells, chip_text}
 use Rattle.norbd_run.specs.Moving.{ReadTells, WriteTells, WritesBytes, replacing_text, written_text}
+use Rattle.norbd_run.specs.Rescuing.{IsDamage, RescueTells}
 use Rattle.norbd_run.specs.Showing.{ShowTells}
 use Rattle.norbd_run.specs.Listening.{HasBegun, IsPlaceRefusal, IsRefusal, TellsServing, WritesText, ended_text, serving_text, told_of_serving}
 use Rattle.norbd_line.specs.declared.fault.Fault.{Fault}
@@ -219,3 +220,12 @@ image-refused T place conns keeps old f (faults.NoSocket cause) h = absurd h
 image-refused T place conns keeps old f faults.NoThread h = absurd h
 image-refused T place conns keeps old f (faults.BadRange count) h = absurd h
 image-refused T place conns keeps old f (faults.BadInput length) h = absurd h
+
+-- a damaged disk that could not be written
+pub rescue-failed : (T U : Type 0) (bytes : List ℕ) (old new : Option (List ℕ)) (f g : ℕ) (e : Fault) → WritesBytes {T = U} bytes old f (Err e) new g → RescueTells {T = T} old f (Err e) new g
+rescue-failed T U bytes old new f g e h = inr (inr (h.0, (bytes, h.1)))
+
+-- and one that was
+pub rescue_ended : {T : Type 0} (bytes : List ℕ) (old new : Option (List ℕ)) (f g : ℕ) (end : Result T Fault) → IfErr end IsDamage → Appends old new bytes × (g ≡ f) → RescueTells old f end new g
+rescue_ended bytes old new f g (Ok u) damage h = (bytes, h.0, h.1)
+rescue_ended bytes old new f g (Err e) damage h = inr (inl (damage, (bytes, h.0, h.1)))

@@ -1,6 +1,6 @@
 -- An image of layout 1 of which a free block isn't erased isn't clean.
-use Rattle.std.proofs.Common.{◌≡◌, ◌∙◌, ℕ, ◌*◌, ◌-◌, Bool, true, false, List, length, ap, arith, refl, subst}
-use Rattle.std.specs.Prelude.{Option, Some, None, IfOk, IfSome, Result, Ok, Err, drop, is_some, take}
+use Rattle.std.proofs.Common.{◌≡◌, ◌∙◌, ℕ, ◌*◌, ◌-◌, Bool, true, false, List, length, ap, arith, inl, inr, refl, subst}
+use Rattle.std.specs.Prelude.{Option, Some, None, IfErr, IfOk, IfSome, Result, Ok, Err, drop, is_some, take}
 use Rattle.std.proofs.Math.Seq.{take-length}
 use Rattle.std.proofs.lemmas.Bool.{true≢false, false≢true}
 use Rattle.erase_journal.specs.Journals.{IsHealthy}
@@ -9,7 +9,9 @@ use Rattle.chip_model.specs.Geometry.{sector_count}
 use Rattle.nor_layout.specs.declared.layout.Layout.{Layout}
 use Rattle.sector_slots.specs.Blocks.{AreAtRest}
 use Rattle.sector_slots.specs.Slots.{data_blocks, kind_at}
-use Rattle.sector_map.specs.Maps.{IsMountable}
+use Rattle.nor_layout.specs.Layouts.{layout_of}
+use Rattle.nor_layout.specs.declared.superblock.SuperError.TheVariants as supers
+use Rattle.sector_map.specs.Maps.{IsMountable, geometry_of, is_layout}
 use Rattle.sector_survey.specs.Cleanness.{HasCleanGroups, IsCleanImage, IsFirstDirty, IsOfGroups, Judges, is_clean}
 use Rattle.sector_survey.specs.Reports.{CleannessTells}
 use Rattle.sector_survey.specs.Verdicts.{Tells}
@@ -17,7 +19,9 @@ use Rattle.sector_survey.specs.declared.clean.Cleanness.{Cleanness}
 use Rattle.sector_survey.specs.declared.verdict.Verdict.{Verdict}
 use Rattle.sector_survey.specs.declared.verdict.Verdict.TheVariants.{Mountable}
 use Rattle.sector_survey.proofs.Cleaning.{first-is-dirty, judges}
-use Rattle.norbd_run.specs.Opening.{IsCheckedClean}
+use Rattle.norbd_line.specs.declared.fault.Fault.{Fault}
+use Rattle.norbd_run.specs.Opening.{IsCheckedClean, IsReason}
+use Rattle.norbd_run.specs.Rescuing.{IsDamage}
 
 pub dirty-reason : (found : Option ℕ) (m : List ℕ) → is_some found ≡ true → IfSome found (λ at. IsOfGroups m × IsFirstDirty m at) → IsCleanImage m → ⊥
 dirty-reason None m some h clean = absurd (false≢true some)
@@ -59,3 +63,16 @@ whole-disk items (Ok b) d all first end h zero full is =
     let from : 512 * first ≡ 0 = omega (arith, zero) in
     h ∙ (ap (λ k. take k (drop (512 * first) d)) n ∙ (ap (λ k. take (length d) (drop k d)) from ∙ (take-length d ∙ is)))
 whole-disk items (Err e) d all first end h zero full is = tt
+
+-- where no superblock is there is nothing to mount
+pub not-formatted : (m : List ℕ) → layout_of m (geometry_of (length m)) ≡ Err supers.NotFormatted → IsMountable m → ⊥
+not-formatted m bare h = absurd (false≢true (subst (λ r. is_layout r ≡ true) bare h.superblock))
+
+pub damage_refuses : (e : Fault) (m : List ℕ) → IsDamage e → IsReason e m → IsMountable m → ⊥
+damage_refuses e m (inl corrupt) reason h = (subst (λ z. IsReason z m) corrupt reason) h
+damage_refuses e m (inr bare) reason h = not-formatted m (subst (λ z. IsReason z m) bare reason) h
+
+-- a reason that is known of any bytes is one of these
+pub any-reason : {T : Type 0} (r : Result T Fault) (m : List ℕ) → IfErr r (λ e. (x : List ℕ) → IsReason e x) → IfErr r (λ e. IsReason e m)
+any-reason (Ok b) m h = tt
+any-reason (Err e) m h = h m

@@ -6,6 +6,7 @@ pub mod Opening
 pub mod Serving
 pub mod Checking
 pub mod Moving
+pub mod Rescuing
 pub mod Showing
 pub mod Chips
 pub mod Lines

@@ -5,12 +5,14 @@ use Rattle.norbd_line.specs.declared.fault.Fault.{Fault}
 use Rattle.norbd_line.specs.declared.line.Line.{Line}
 use Rattle.norbd_line.specs.declared.line.Line.TheVariants.{Chip, Plain, Format, Script, Serve}
 use Rattle.norbd_line.specs.declared.line.Line.TheVariants.{Check, Show, Read, Write}
+use Rattle.norbd_line.specs.declared.line.Line.TheVariants.{Rescue}
 use Rattle.norbd_run.specs.Checking.{CheckTells}
 use Rattle.norbd_run.specs.Chips.{ChipTells}
 use Rattle.norbd_run.specs.Formatting.{FormatTells}
 use Rattle.norbd_run.specs.Listening.{TellsServing}
 use Rattle.norbd_run.specs.Moving.{ReadTells, WriteTells}
 use Rattle.norbd_run.specs.Outcomes.{Ended}
+use Rattle.norbd_run.specs.Rescuing.{RescueTells}
 use Rattle.norbd_run.specs.Scripting.{Scripts, Streams}
 use Rattle.norbd_run.specs.Serving.{PlainServes}
 use Rattle.norbd_run.specs.Showing.{ShowTells}
@@ -26,6 +28,7 @@ HasNumbers (Check image mends tells_json) = Unit {0}
 HasNumbers (Show image) = Unit {0}
 HasNumbers (Read image range) = Unit {0}
 HasNumbers (Write image range) = Unit {0}
+HasNumbers (Rescue image) = Unit {0}
 
 -- standard input isn't read
 abbrev pub ReadsNothing : Line → Type 0
@@ -38,6 +41,7 @@ ReadsNothing (Check image mends tells_json) = Unit {0}
 ReadsNothing (Show image) = Unit {0}
 ReadsNothing (Read image range) = Unit {0}
 ReadsNothing (Write image range) = ⊥
+ReadsNothing (Rescue image) = Unit {0}
 
 -- what each line makes of the streams, and its end: `serve` without a number of connections ends by
 -- a fault alone
@@ -63,3 +67,5 @@ LineDoes (Read image range) old result new =
     ReadTells old.written old.writes result new.written new.writes
 LineDoes (Write image range) old result new =
     WriteTells old.written old.writes result new.written new.writes
+LineDoes (Rescue image) old result new =
+    RescueTells old.written old.writes result new.written new.writes

@@ -2,23 +2,25 @@
 //! in the transmission phase; `format` makes an image of a formatted chip; `script` runs events,
 //! losses of power too, on a chip in memory; `serve` serves the chip in an image to connections on
 //! a port or a Unix socket; `check` says whether an image would be served, and if not, why, and
-//! mends one; `show` draws it; `read` and `write` take its disk out and put it in; `chip` answers
-//! the serprog protocol for one. But for the last each takes a chip behind a programmer, too.
+//! mends one; `show` draws it; `read` and `write` take its disk out and put it in; `rescue` takes
+//! out what can still be told of one that is damaged; `chip` answers the serprog protocol for one.
+//! But for the last two each takes a chip behind a programmer, too.
 //!
 //! Promised to the program: `run_line` does what `LineDoes` says of each command: what is written
 //! where it is done, and the fault where it isn't. Each has a file; `serve_chip`, `image_disk` and
 //! `chip_disk` have what several take. `Host` is the system that a server runs on. What `check`
 //! says is what a mount says, and whether what reads as free is erased (`look_over`); the disk that
 //! `serve` serves is that of the bytes of its image (`open_disk`), `read` gives of it
-//! (`sectors_of_image`), and `write` makes a healthy and clean image that holds the sectors
-//! (`image_with`). `Telling` is the text of a fault, `reason_of` the rule that a corrupt image
-//! breaks, `Output` standard output, whose last failure is noted; `hold_standard` opens the three
-//! standard streams that are closed, so that no image gets their numbers. Left to the crates below:
-//! the words (`norbd_line`), requests and replies (`nbd_worker`), threads and sockets
-//! (`norbd_serve`), the chain from the chip to a transcript (`norbd_script`), the disks
-//! (`block_device`, `flash_disk`), an image's bytes and its file (`norbd_image`), what it says
-//! (`sector_survey`). No contract says what is printed of a fault, nor what a file holds; tests and
-//! runs show it. Source: own; NBD proto.md for requests and replies.
+//! (`sectors_of_image`), `rescue` too, and of a refused one what its slots tell (`saved_of`), and
+//! `write` makes a healthy and clean image that holds the sectors (`image_with`). `Telling` is the
+//! text of a fault, `reason_of` the rule that a corrupt image breaks, `Output` standard output,
+//! whose last failure is noted; `hold_standard` opens the three standard streams that are closed,
+//! so that no image gets their numbers. Left to the crates below: the words (`norbd_line`),
+//! requests and replies (`nbd_worker`), threads and sockets (`norbd_serve`), the chain from the
+//! chip to a transcript (`norbd_script`), the disks (`block_device`, `flash_disk`), an image's
+//! bytes and its file (`norbd_image`), what it says (`sector_survey`). No contract says what is
+//! printed of a fault, nor what a file holds; tests and runs show it. Source: own; NBD proto.md for
+//! requests and replies.
 #![tactic(auto)]
 
 mod check;
@@ -33,6 +35,7 @@ mod plain;
 mod printing;
 mod progress;
 mod read;
+mod rescue;
 mod run;
 mod script;
 mod serve;
@@ -50,6 +53,7 @@ pub use output::Output;
 pub use printing::{Failure, Telling, reason_of};
 pub use progress::{Meter, Progress, Screen};
 pub use read::{run_read, run_read_chip};
+pub use rescue::run_rescue;
 pub use run::run_line;
 pub use script::run_script;
 pub use serve::{Asked, run_serve};

@@ -89,6 +89,7 @@ fn image_of(line: Option<Line<'_>>) -> Subject<'_> {
         Some(Line::Show { image }) => Subject::Path(image),
         Some(Line::Read { image, .. }) => Subject::Path(image),
         Some(Line::Write { image, .. }) => Subject::Path(image),
+        Some(Line::Rescue { image }) => Subject::Path(image),
         _ => Subject::Nothing,
     }
 }

@@ -2,6 +2,7 @@
 
 ghost use Rattle.std.specs.Prelude.{◌≡◌, ◌*◌, ◌/◌, ◌<◌, ◌≤◌};
 
+use norbd_survey::Doubtful;
 use norbd_transfer::Observer;
 use std::fmt;
 use std::io::IsTerminal;
@@ -31,6 +32,9 @@ pub trait Screen {
 
     /// Shows it. A failure to do so is passed over.
     fn show(&self, _progress: Progress) {}
+
+    /// Tells what is doubtful of an image; nowhere if nothing else is said.
+    fn doubt(&self, _doubt: Doubtful<'_>) {}
 }
 
 impl Screen for HostRuntime {
@@ -42,6 +46,11 @@ impl Screen for HostRuntime {
     /// A line on standard error.
     fn show(&self, progress: Progress) {
         let _ = eprintln!(self; "norbd: {progress}");
+    }
+
+    /// A line on standard error.
+    fn doubt(&self, doubt: Doubtful<'_>) {
+        let _ = eprintln!(self; "norbd: {doubt}");
     }
 }
 

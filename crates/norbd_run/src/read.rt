@@ -1,10 +1,12 @@
 //! `read`: the sectors of a disk, without a server.
-ghost use Rattle.std.specs.Prelude.{◌*◌, ◌-◌, ◌<◌, ◌≡◌, ◌≤◌, ℕ, IfErr, IfOk, None, length, true};
+ghost use Rattle.std.specs.Prelude.{◌*◌, ◌-◌, ◌<◌, ◌≡◌, ◌≤◌, ℕ, IfErr, IfOk, List, None, length};
+ghost use Rattle.std.specs.Prelude.{true};
 ghost use Rattle.block_device.specs.Contents.{bytes_at};
 ghost use Rattle.chip_model.specs.Geometry.{IsChipSize};
 ghost use Rattle.sector_map.specs.Maps.{IsMountable};
 ghost use Rattle.flash_disk.specs.Contents.{contents_of};
 ghost use Rattle.norbd_run.specs.Moving.{MoveFails, ReadTells, WritesBytes};
+ghost use Rattle.norbd_run.specs.Opening.{IsReason};
 
 use crate::chip_disk::bytes_behind;
 use crate::image_disk::{bytes_of, copied_disk, hold_image};
@@ -65,7 +67,11 @@ where
 }
 
 /// The bytes of a part of the disk that these bytes of a chip represent.
-fn sectors_of_image(alloc: Global, image: Vec<u8>, sectors: Option<&str>) -> Result<Vec<u8>, Fault>
+pub(crate) fn sectors_of_image(
+    alloc: Global,
+    image: Vec<u8>,
+    sectors: Option<&str>,
+) -> Result<Vec<u8>, Fault>
     requires size { IsChipSize (length image.items) }
     ensures mountable { IfOk result (λ _. IsMountable image.items) }
     ensures bytes { IfOk result (λ bytes. (first : ℕ) × (end : ℕ) × (first < end)
@@ -74,6 +80,7 @@ fn sectors_of_image(alloc: Global, image: Vec<u8>, sectors: Option<&str>) -> Res
     ensures whole { sectors.entry ≡ None
         → IfOk result (λ bytes. bytes.items ≡ contents_of image.items) }
     ensures refused { IfErr result MoveFails }
+    ensures reason { IfErr result (λ e. IsReason e image.items) }
 {
     let mut disk = copied_disk(alloc, image)?;
     let part = part_of(&disk, sectors)?;
@@ -88,6 +95,7 @@ pub(crate) fn part_of<D: Disk>(disk: &D, sectors: Option<&str>) -> Result<Part, 
     ensures whole { sectors.entry ≡ None → IfOk result (λ part.
         (part.first ≡ 0) × (512 * part.end ≡ length (D.facts disk.now).contents)) }
     ensures refused { IfErr result MoveFails }
+    ensures reason { IfErr result (λ e. (m : List ℕ) → IsReason e m) }
 {
     let count = disk.sectors();
     if count == 0 || count > 65_536 {
@@ -111,6 +119,7 @@ pub(crate) fn sectors_of_disk<D: Disk>(
     ensures bytes { IfOk result (λ bytes. bytes.items ≡ bytes_at (D.facts disk.old).contents
         (512 * part.first) (512 * (part.end - part.first))) }
     ensures refused { IfErr result MoveFails }
+    ensures reason { IfErr result (λ e. (m : List ℕ) → IsReason e m) }
 {
     match take_sectors(alloc, disk, part.first, part.end - part.first) {
         Ok(bytes) => Ok(bytes),
@@ -121,7 +130,8 @@ pub(crate) fn sectors_of_disk<D: Disk>(
 
 /// What an error of a disk is for the program.
 pub(crate) fn told_of_disk(error: DiskError) -> Fault
-    ensures { MoveFails result }
+    ensures refused { MoveFails result }
+    ensures reason { (m : List ℕ) → IsReason result m }
 {
     match error {
         DiskError::Cut => Fault::ImageFailed(Cause::Write),

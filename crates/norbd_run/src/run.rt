@@ -10,6 +10,7 @@ use crate::host::Host;
 use crate::plain::run_plain;
 use crate::progress::Screen;
 use crate::read::{run_read, run_read_chip};
+use crate::rescue::run_rescue;
 use crate::script::run_script;
 use crate::serve::{Asked, run_serve};
 use crate::serve_chip::run_serve_chip;
@@ -19,7 +20,7 @@ use block_device::{Sink, Source};
 use nbd_share::LEDGER_PARTS;
 use nbd_wire::MAX_LEN;
 use norbd_image::ImageFile;
-use norbd_line::{Fault, Line, MOST_CONNS};
+use norbd_line::{Cause, ChipCause, Fault, Line, MOST_CONNS};
 use serprog_link::programmer_of;
 use std::marker::Brand;
 use std::sync::ledger::Blank;
@@ -50,8 +51,10 @@ use std::sync::ledger::Blank;
 /// it where that is asked; its faults are those of `run_check`. Nothing is read.
 ///
 /// `show` draws the blocks of the image in the file at the path, with `colours` in those of a
-/// terminal, `read` writes its sectors, and `write` replaces them by the bytes of `reader`; their
-/// faults are those of `run_show`, `run_read` and `run_write`. Source: own.
+/// terminal, `read` writes its sectors, `write` replaces them by the bytes of `reader`, and
+/// `rescue` writes those that can still be told; their faults are those of `run_show`, `run_read`,
+/// `run_write` and `run_rescue`, or of `rescue` `FileAlone` of a chip behind a programmer. Source:
+/// own.
 #[tactic(auto, using(crate::proofs::Sizes::size_of_chip, crate::proofs::Sizes::conns_or_most))]
 pub fn run_line<R, S, K>(
     rt: &R,
@@ -138,6 +141,10 @@ where
         Line::Write { image, sectors } => match programmer_of(image) {
             Some(place) => run_write_chip(rt, place, sectors, reader, writer),
             None => run_write(rt, image, sectors, reader, writer),
+        },
+        Line::Rescue { image } => match programmer_of(image) {
+            Some(_) => Err(Fault::ImageFailed(Cause::Chip(ChipCause::FileAlone))),
+            None => run_rescue(rt, image, writer),
         },
     }
 }
