@@ -92,7 +92,8 @@ class Crowds(kit.Case):
         self.assertEqual((wrong, server.end().status), ([], 0))
 
     def test_a_full_house(self):
-        """64 clients are served at once; a 65th is greeted once another has ended."""
+        """64 clients are served at once; a 65th is greeted once another has ended. That others
+        wait is told once until a place was free."""
         server = self.serve()
         clients = [server.client() for _ in range(64)]
         for number, client in enumerate(clients):
@@ -103,9 +104,22 @@ class Crowds(kit.Case):
             late.receive(1)
         late.socket.settimeout(20)
         clients[5].disc()
+        later = server.connect()
         late.go()
         for number in range(64):
             self.assertEqual(late.read(number), nbd.sector(number))
+        threads = len(os.listdir(f"/proc/{server.pid}/task"))
+        clients[6].disc()
+        later.go()
+        clients[7].disc()
+        self.assertTrue(kit.wait_for(
+            lambda: len(os.listdir(f"/proc/{server.pid}/task")) < threads))
+        server.client()
+        line = b"norbd: 64 connections, others wait\n"
+        self.assertEqual(server.process.stderr.readline(), line)
+        server.connect()
+        self.assertEqual(server.process.stderr.readline(), line)
+        self.assertEqual(server.kill().fault, "")
 
     @kit.not_emulated
     def test_many_one_after_another(self):

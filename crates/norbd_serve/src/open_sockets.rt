@@ -3,13 +3,26 @@
 use std::alloc::{AllocError, Global};
 use std::net::{Shutdown, TcpStream};
 use std::sync::atomic::{AtomicBool, Ordering};
-use std::sync::{Condvar, Mutex, Wait};
+use std::sync::{Condvar, CondvarTimeouts, Mutex, Wait};
+use std::time::{Clock, Duration, Instant};
+
+/// What the thread of a connection does.
+#[derive(Clone, Copy, Drop)]
+enum Doing {
+    /// It answers its client.
+    Works,
+    /// It has waited for its client since then.
+    Waits(Instant),
+    /// It waited too long: its socket is shut down.
+    Closed,
+}
 
 /// A slot for one connection at a time: its socket while it is open, so that another thread can
-/// shut it down, and whether its thread is about to return.
+/// shut it down, what its thread does, and whether that is about to return.
 #[derive(Drop)]
 struct SocketSlot {
     stream: Mutex<Option<TcpStream>>,
+    doing: Mutex<Doing>,
     has_ended: AtomicBool,
 }
 
@@ -23,6 +36,33 @@ pub(crate) struct OpenSockets {
     leaving: Condvar,
 }
 
+impl SocketSlot {
+    /// How long its thread has waited for its client; None where it doesn't.
+    fn silence<W: Wait + Clock>(&self, rt: &W) -> Option<Duration> {
+        match *self.doing.lock(rt) {
+            Doing::Waits(start) => start.elapsed(rt).ok(),
+            Doing::Works => None,
+            Doing::Closed => None,
+        }
+    }
+
+    /// Shuts its socket down, where its thread has waited for its client for so long. What that
+    /// says meanwhile isn't answered any more.
+    fn close_silent<W: Wait + Clock>(&self, rt: &W, limit: Duration) {
+        let mut doing = self.doing.lock(rt);
+        let Doing::Waits(start) = *doing else {
+            return;
+        };
+        if start.elapsed(rt).unwrap_or(Duration::ZERO) < limit {
+            return;
+        }
+        *doing = Doing::Closed;
+        if let Some(stream) = &*self.stream.lock(rt) {
+            let _ = stream.shutdown(Shutdown::Both);
+        }
+    }
+}
+
 impl OpenSockets {
     /// So many slots, with no socket.
     pub(crate) fn new(alloc: Global, count: usize) -> Result<OpenSockets, AllocError> {
@@ -30,6 +70,7 @@ impl OpenSockets {
         for _slot in 0..count {
             slots.push(SocketSlot {
                 stream: Mutex::new(None),
+                doing: Mutex::new(Doing::Works),
                 has_ended: AtomicBool::new(false),
             })?;
         }
@@ -45,7 +86,33 @@ impl OpenSockets {
     pub(crate) fn enter<W: Wait>(&self, wait: &W, at: usize, stream: TcpStream) {
         if let Some(slot) = self.slots.get(at) {
             *slot.stream.lock(wait) = Some(stream);
+            *slot.doing.lock(wait) = Doing::Works;
         }
+    }
+
+    /// The thread at this slot waits for its client from now on. Where there is no time, it is not
+    /// noted.
+    pub(crate) fn wait_at<W: Wait + Clock>(&self, rt: &W, at: usize) {
+        if let Some(slot) = self.slots.get(at) {
+            let mut doing = slot.doing.lock(rt);
+            if let (Doing::Works, Ok(now)) = (*doing, Instant::now(rt)) {
+                *doing = Doing::Waits(now);
+            }
+        }
+    }
+
+    /// The thread at this slot has heard of its client. Whether it is to answer: it isn't where it
+    /// waited too long.
+    pub(crate) fn hear_at<W: Wait>(&self, wait: &W, at: usize) -> bool {
+        let Some(slot) = self.slots.get(at) else {
+            return true;
+        };
+        let mut doing = slot.doing.lock(wait);
+        if let Doing::Closed = *doing {
+            return false;
+        }
+        *doing = Doing::Works;
+        true
     }
 
     /// The connection at this slot has ended: its socket is closed, and its thread returns.
@@ -89,6 +156,40 @@ impl OpenSockets {
         let mut left = self.left.lock(wait);
         *left = true;
         self.leaving.notify_all();
+    }
+
+    /// The slot whose thread waits for its client longest, and how long.
+    fn most_silent<W: Wait + Clock>(&self, rt: &W) -> Option<(usize, Duration)> {
+        let mut most = None;
+        let mut longest = Duration::ZERO;
+        for (at, slot) in self.slots.iter().enumerate() {
+            if let Some(silence) = slot.silence(rt) {
+                if silence >= longest {
+                    longest = silence;
+                    most = Some((at, silence));
+                }
+            }
+        }
+        most
+    }
+
+    /// Sleeps until a connection left, or a command was lost, since it was last waited for, or so
+    /// long. A connection whose client has said nothing for so long is shut down first, of several
+    /// the one that has longest.
+    pub(crate) fn wait_for_place<W: Wait + Clock>(&self, rt: &W, limit: Duration) {
+        let mut patience = limit;
+        if let Some((at, silence)) = self.most_silent(rt) {
+            if silence < limit {
+                patience = limit.saturating_sub(silence);
+            } else if let Some(slot) = self.slots.get(at) {
+                slot.close_silent(rt, limit);
+            }
+        }
+        let left = self.left.lock(rt);
+        let (mut left, _) = self
+            .leaving
+            .wait_timeout_while(rt, left, patience, |left| !*left);
+        *left = false;
     }
 
     /// Sleeps until a connection left, or a command was lost, since it was last waited for.

@@ -2,6 +2,7 @@
 
 ghost use Rattle.std.specs.Prelude.{◌≡◌, ◌≤◌, ◌+◌, ◌<◌, ◌++◌, [], take};
 
+use crate::open_sockets::OpenSockets;
 use crate::telling::{Event, Log, Teller};
 use block_device::{Failed, Sink, Tally};
 use nbd_durable::Owed;
@@ -17,12 +18,24 @@ use std::sync::Wait;
 use std::sync::ledger::{Blank, Ledger};
 use std::time::{Clock, Duration, Instant};
 
+/// How long a client may say nothing while others wait for its place, in seconds.
+pub(crate) const SILENT_SECONDS: u64 = 600;
+
+/// The slot of a connection among all.
+#[derive(Clone, Copy, Drop)]
+pub(crate) struct Seat<'s> {
+    pub(crate) sockets: &'s OpenSockets,
+    pub(crate) at: usize,
+}
+
 /// The client at a socket. Reads from it fail once the time for the negotiation is over, and take
-/// as long as the client does from then on, when the transmission has begun.
+/// as long as the client does from then on, when the transmission has begun; they end where it says
+/// nothing for too long while others wait.
 #[derive(Drop)]
 pub(crate) struct Client<'s, W> {
     pub(crate) stream: TcpStream,
     pub(crate) teller: Teller<'s, W>,
+    seat: Seat<'s>,
     /// When it began; none once the negotiation is over.
     start: Cell<Option<Instant>>,
     limit: Duration,
@@ -37,6 +50,7 @@ impl<'s, W: Clock + Wait + Log> Client<'s, W> {
     pub(crate) fn new(
         stream: TcpStream,
         teller: Teller<'s, W>,
+        seat: Seat<'s>,
         limit: Duration,
         longest: u32,
     ) -> Client<'s, W> {
@@ -44,6 +58,7 @@ impl<'s, W: Clock + Wait + Log> Client<'s, W> {
         Client {
             stream,
             teller,
+            seat,
             start,
             limit,
             longest,
@@ -92,7 +107,14 @@ impl<'c, 's, W: Clock + Wait + Log> Read for &'c Client<'s, W> {
         if let Some(start) = self.start.get() {
             stream.set_read_timeout(Some(self.left(start)?))?;
         }
-        stream.read(into)
+        let Seat { sockets, at } = self.seat;
+        sockets.wait_at(self.teller.rt, at);
+        let read = stream.read(into);
+        if sockets.hear_at(self.teller.rt, at) {
+            return read;
+        }
+        self.teller.advise(Event::Silent(SILENT_SECONDS));
+        Ok(0)
     }
 }
 

@@ -14,6 +14,8 @@ pub enum Event {
     Refused(Command, u32),
     /// A READ or WRITE of so many bytes was refused, since so many are the most.
     TooLong(u32, u32),
+    /// Its client said nothing for so many seconds while others wait: it is closed.
+    Silent(u64),
     Ends(End),
 }
 
@@ -31,6 +33,10 @@ pub trait Log {
 
     /// Tells that so many KiB of a chip were read. A failure to do so is passed over.
     fn tell_read(&self, _kib: u32) {}
+
+    /// Tells that so many connections are served, which are all that can be, and others wait. A
+    /// failure to do so is passed over.
+    fn tell_full(&self, _places: usize) {}
 }
 
 impl Log for HostRuntime {
@@ -42,6 +48,11 @@ impl Log for HostRuntime {
     /// A line on standard error.
     fn tell_read(&self, kib: u32) {
         let _ = eprintln!(self; "norbd: {kib} KiB of the chip are read");
+    }
+
+    /// A line on standard error.
+    fn tell_full(&self, places: usize) {
+        let _ = eprintln!(self; "norbd: {places} connections, others wait");
     }
 }
 
@@ -108,6 +119,12 @@ impl fmt::Display for Notice {
                 write_error(f, error)
             }
             Event::TooLong(length, most) => write_advice(f, length, most),
+            Event::Silent(seconds) => {
+                write!(
+                    f,
+                    ": closed, silent for {seconds} seconds while others wait"
+                )
+            }
             Event::Ends(end) => write!(f, " ends: {}", end_text(end)),
         }
     }
