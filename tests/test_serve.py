@@ -192,7 +192,8 @@ class Told(kit.Case):
         return done.fault.replace("norbd: connection 1", "1").splitlines()
 
     def test_begins_and_ends(self):
-        """With -v the begin and the end of each connection is told, and why it ended."""
+        """With -v the begin and the end of each connection is told, where it has one its client's
+        address, and why it ended."""
         def disc(server):
             server.client().disc()
 
@@ -220,9 +221,9 @@ class Told(kit.Case):
             for word in ("-v", "--verbose"):
                 self.assertEqual(self.told(word, then=then), ["1 begins", f"1 ends: {why}"])
             self.assertEqual(self.told(then=then), [])
-        port = kit.free_port()
-        self.assertEqual(self.told("-v", "--port", str(port), then=reset),
-                         ["1 begins", "1 ends: a read failed, or the negotiation took too long"])
+        begins, *rest = self.told("-v", "--port", str(kit.free_port()), then=reset)
+        self.assertRegex(begins, r"^1 begins: 127\.0\.0\.1:\d+$")
+        self.assertEqual(rest, ["1 ends: a read failed, or the negotiation took too long"])
 
     def test_a_reply_that_nobody_takes(self):
         """A client that is gone before its reply ends with `a write failed`."""

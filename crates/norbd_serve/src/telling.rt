@@ -4,12 +4,14 @@ use nbd_session::LONGEST_COMMAND_LEN;
 use nbd_wire::{Command, CommandKind, EINVAL, EIO, ENOMEM, ENOSPC, EPERM, ESHUTDOWN};
 use nbd_worker::End;
 use std::fmt;
+use std::net::SocketAddr;
 use std::sync::{Mutex, Wait};
 
 /// What becomes of a connection.
 #[derive(Clone, Copy, Debug, PartialEq, Eq)]
 pub enum Event {
-    Begins,
+    /// Its client is at this address; None where it has none, as at a Unix socket.
+    Begins(Option<SocketAddr>),
     /// A request got this error.
     Refused(Command, u32),
     /// A READ or WRITE of so many bytes was refused, since so many are the most.
@@ -111,7 +113,8 @@ impl fmt::Display for Notice {
     fn fmt<W: fmt::Write>(&self, f: &mut fmt::Formatter<W>) -> fmt::Result {
         write!(f, "connection {}", self.connection)?;
         match self.event {
-            Event::Begins => f.write_str(" begins"),
+            Event::Begins(None) => f.write_str(" begins"),
+            Event::Begins(Some(address)) => write!(f, " begins: {address}"),
             Event::Refused(command, error) => {
                 f.write_str(": ")?;
                 write_kind(f, command.kind)?;
