@@ -119,7 +119,7 @@ class Examples(kit.Case):
         self.assertEqual(shell.wait(kit.PATIENCE), 0)
         kept = [it for it in said().splitlines() if not it.startswith(("[1]", "bash: line"))]
         self.assertEqual(kept, wanted.splitlines() if wanted else [
-            "formatted 1540 sectors", "serving 1540 sectors on port 10809"])
+            "formatted 1540 sectors", "serving 1540 sectors on 127.0.0.1:10809"])
         self.assertEqual(len(self.bytes_of("back.bin")), 788480)
         self.assertEqual(self.bytes_of("back.bin"), self.bytes_of("data.bin"))
         self.assertTrue(self.norbd("check", "chip.img").endswith(b"clean 1540 sectors\n"))

@@ -118,7 +118,7 @@ class Places(kit.Case):
         """Without --bind nothing but 127.0.0.1 is listened on."""
         port = kit.free_port()
         server = self.serve("a.img", "--port", str(port))
-        self.assertEqual(server.line, f"serving 70 sectors on port {port}\n")
+        self.assertEqual(server.line, f"serving 70 sectors on 127.0.0.1:{port}\n")
         self.assertEqual(server.client().read(0), bytes(512))
         with self.assertRaises(ConnectionRefusedError):
             nbd.Client(("127.0.0.2", port))
@@ -126,7 +126,7 @@ class Places(kit.Case):
             nbd.Client(("::1", port))
 
     def test_another_address(self):
-        """--bind listens on that address, IPv4 or IPv6."""
+        """--bind listens on that address, IPv4 or IPv6, and names it."""
         for bind, reached, not_reached in (("127.0.0.2", "127.0.0.2", "127.0.0.1"),
                                            ("0.0.0.0", "127.0.0.3", "::1"),
                                            ("::1", "::1", "127.0.0.1")):
@@ -134,7 +134,8 @@ class Places(kit.Case):
                 continue
             port = kit.free_port()
             server = self.serve("a.img", "--port", str(port), "--bind", bind)
-            self.assertEqual(server.line, f"serving 70 sectors on port {port}\n")
+            host = f"[{bind}]" if ":" in bind else bind
+            self.assertEqual(server.line, f"serving 70 sectors on {host}:{port}\n")
             self.assertEqual(nbd.Client((reached, port)).go().size, 35840)
             with self.assertRaises(OSError):
                 nbd.Client((not_reached, port))

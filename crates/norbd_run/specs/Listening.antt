@@ -1,6 +1,7 @@
 -- What `serve` says, and how it ends. Source: own.
 use Rattle.std.specs.Prelude.{◌≡◌, ◌⊎◌, ℕ, List, [], ◌++◌, codes, Bool, true, false, Option, Result}
-use Rattle.std.specs.Prelude.{Ok, Err, IsOkAnd, String, if◌then◌else◌, nat_lt}
+use Rattle.std.specs.Prelude.{Ok, Err, IsOkAnd, String, if◌then◌else◌, nat_lt, ◌==◌, None, Some}
+use Rattle.std.specs.List.{list_any}
 use Rattle.std.specs.String.{string_bytes}
 use Rattle.std.specs.Fmt.{decimal}
 use Rattle.std.specs.Io.KnownBytes.{Appends}
@@ -33,12 +34,24 @@ use Rattle.norbd_line.specs.declared.fault.Fault.TheVariants.{NoSocket, NoThread
 use Rattle.norbd_line.specs.declared.fault.Fault.TheVariants.{BadTidy, BadRange, BadInput}
 use Rattle.norbd_line.specs.declared.fault.Fault.TheVariants.{InUse, Formatted, NotEmpty}
 
+-- an IP address with a colon is one of IPv6, which stands in brackets before a port. Source: RFC
+-- 3986, 3.2.2
+abbrev pub has_colon : List ℕ → Bool
+has_colon ip = list_any (λ byte. byte == 58) ip
+
+-- the address and the port of a place, or its path, and the end of the line
+abbrev pub place_line : Place → List ℕ
+place_line (places.Port port None) = codes "127.0.0.1:" ++ (decimal port ++ codes "\n")
+place_line (places.Port port (Some ip)) =
+    if has_colon ip.now
+    then codes "[" ++ (ip.now ++ (codes "]:" ++ (decimal port ++ codes "\n")))
+    else ip.now ++ (codes ":" ++ (decimal port ++ codes "\n"))
+place_line (places.Unix path) = path.now ++ codes "\n"
+
 -- the line before the first connection is accepted
 abbrev pub serving_text : ℕ → Place → List ℕ
-serving_text sectors (places.Port port bind) = codes "serving "
-    ++ (decimal sectors ++ (codes " sectors on port " ++ (decimal port ++ codes "\n")))
-serving_text sectors (places.Unix path) = codes "serving "
-    ++ (decimal sectors ++ (codes " sectors on " ++ (path.now ++ codes "\n")))
+serving_text sectors place = codes "serving "
+    ++ (decimal sectors ++ (codes " sectors on " ++ place_line place))
 
 -- the line after the last connection has ended, and where rows are kept the one about them
 abbrev pub ended_text : Bool → ℕ → ℕ → List ℕ

@@ -8,7 +8,7 @@ ghost use Rattle.flash_disk.specs.Mounting.{OpenedFrom};
 ghost use Rattle.sector_survey.specs.Cleanness.{HasCleanGroups};
 ghost use Rattle.std.specs.Thread.{IsSend};
 ghost use Rattle.norbd_run.specs.Listening.{IsRefusal, TellsServing, WritesText, ended_text};
-ghost use Rattle.norbd_run.specs.Listening.{serving_text, told_of_file, told_of_mount};
+ghost use Rattle.norbd_run.specs.Listening.{has_colon, serving_text, told_of_file, told_of_mount};
 ghost use Rattle.norbd_run.specs.Listening.{told_of_record};
 ghost use Rattle.norbd_run.specs.Listening.{order_of, policy_of, told_of_serving};
 ghost use Rattle.norbd_run.specs.Opening.{IsReason};
@@ -506,14 +506,26 @@ pub(crate) fn tell<K: Sink>(writer: &mut K, text: Result<String, AllocError>) ->
     }
 }
 
+/// Whether an IP address is one of IPv6.
+fn has_colon(ip: &str) -> bool
+    ensures { result ≡ has_colon ip.now }
+{
+    ip.as_bytes().contains(&b':')
+}
+
 /// The line before the first connection is accepted.
 fn serving_text(alloc: Global, sectors: u32, place: Place<'_>) -> Result<String, AllocError>
     ensures { IfOk result (λ text. string_bytes text ≡ serving_text sectors place.entry) }
 {
     match place {
-        Place::Port { port, .. } => {
-            format!(in alloc; "serving {sectors} sectors on port {port}\n")
-        }
+        Place::Port { port, bind } => match bind {
+            None => format!(in alloc; "serving {sectors} sectors on 127.0.0.1:{port}\n"),
+            Some(ip) => if has_colon(ip) {
+                format!(in alloc; "serving {sectors} sectors on [{ip}]:{port}\n")
+            } else {
+                format!(in alloc; "serving {sectors} sectors on {ip}:{port}\n")
+            },
+        },
         Place::Unix(path) => format!(in alloc; "serving {sectors} sectors on {path}\n"),
     }
 }

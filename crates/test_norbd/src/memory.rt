@@ -169,7 +169,7 @@ fn serving_without_memory_says_so(rt: HostRuntime) -> Result<(), Fail> {
     if port == 0 {
         return Err(Fail::from("no port"));
     }
-    let text = format!(in rt.alloc(); "serving 70 sectors on port {port}\n")?;
+    let text = format!(in rt.alloc(); "serving 70 sectors on 127.0.0.1:{port}\n")?;
     let serving = Expected {
         output: text.as_bytes(),
         without_rows: text.as_bytes(),

@@ -471,7 +471,7 @@ fn compare<H: Abort + AllocGlobal>(
     fault: &str,
 ) -> Result<(), Fail> {
     let port = outcome.port;
-    let lines = format!(in rt.alloc(); "serving 70 sectors on port {port}\n{last}")?;
+    let lines = format!(in rt.alloc(); "serving 70 sectors on 127.0.0.1:{port}\n{last}")?;
     assert_eq!(rt; outcome.told.as_slice(), lines.as_bytes());
     let text = text_of(rt, outcome.done)?;
     assert_eq!(rt; text.as_str(), fault);
