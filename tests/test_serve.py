@@ -267,6 +267,31 @@ class Told(kit.Case):
             "1: 2097152 bytes at once are refused, 1048576 are the most: "
             "serve with --max-request 2048"])
 
+    def test_a_file_that_is_gone(self):
+        """That the served file was removed or replaced is told once, where it is served to be
+        changed; another name of it, or a new one, is no fault."""
+        def replace():
+            self.format("b.img")
+            os.replace(self.path("b.img"), self.path("a.img"))
+
+        def rename():
+            os.rename(self.path("a.img"), self.path("b.img"))
+        line = b"norbd: a.img was removed or replaced: what is written is lost when this server ends\n"
+        for change, told in ((lambda: os.remove(self.path("a.img")), line), (replace, line),
+                             (rename, b"")):
+            if not os.path.exists(self.path("a.img")):
+                self.format()
+            server = self.serve("a.img", "--sync", "never")
+            client = server.client()
+            self.assertEqual(client.write(0, nbd.sector(0)), OK)
+            change()
+            for turn in range(3):
+                time.sleep(1.2)
+                self.assertEqual(client.write(0, nbd.sector(turn)), OK)
+                if told and turn == 0:
+                    self.assertEqual(server.process.stderr.readline(), told)
+            self.assertEqual(server.kill().fault, "")
+
     def test_two_connections(self):
         """Connections are counted from 1, and each line names its own."""
         server = self.serve("a.img", "--conns", "2", "-v")

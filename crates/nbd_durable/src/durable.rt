@@ -7,6 +7,7 @@ ghost use Rattle.nbd_durable.specs.Owing.{is_asked, owes};
 use bitflags::Flags;
 use nbd_wire::{Command, CommandKind};
 use std::fs::OpenFile;
+use std::os::unix::fs::MetadataExt;
 use std::sync::atomic::{AtomicBool, Ordering};
 
 /// Whose replies wait for a sync. Source: own.
@@ -63,6 +64,15 @@ impl<F: OpenFile> Durable<F> {
     /// Whether a sync has failed.
     pub fn has_failed(&self) -> bool {
         self.failed.load(Ordering::SeqCst)
+    }
+
+    /// Whether the system says that no path leads to the file any more: it is gone once it is
+    /// closed.
+    pub fn is_removed(&self) -> bool {
+        match self.file.metadata() {
+            Ok(found) => found.nlink() == 0,
+            Err(_) => false,
+        }
     }
 
     /// Syncs the file's data, and tells whether that and each sync before it went well.

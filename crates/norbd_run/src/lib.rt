@@ -42,6 +42,7 @@ mod serve;
 mod serve_chip;
 mod show;
 mod standard;
+mod watching;
 mod write;
 
 pub use check::{run_check, run_check_chip};

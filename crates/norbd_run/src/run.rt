@@ -110,6 +110,7 @@ where
         Line::Script { kib } => run_script(rt.alloc(), kib, reader, writer),
         Line::Serve(line) => {
             let asked = Asked {
+                image: line.image,
                 place: line.place,
                 conns: line.conns.unwrap_or(MOST_CONNS),
                 ends: line.conns.is_some(),

@@ -18,6 +18,7 @@ use crate::host::Host;
 use crate::image_disk::{bytes_of, copied_disk, hold_image};
 use crate::listening::listen_at;
 use crate::script::told_of_probe;
+use crate::watching::Watching;
 use block_device::{Disk, DiskError, Sink, send};
 use chip_model::SpiBus;
 use chip_simulator::{ImageBus, SimError};
@@ -32,7 +33,7 @@ use nbd_wire::Export;
 use nor_layout::BLOCK_LEN;
 use norbd_image::{Barrier, Held, ImageFile, Ordered, WriteOrder};
 use norbd_line::{Cause, Fault, Place, SyncPolicy, TidyPolicy};
-use norbd_serve::{Connections, Listener, OpenGate, ServeFault, Sleeper, serve};
+use norbd_serve::{Connections, Listener, OpenGate, ServeFault, serve};
 use std::alloc::{AllocError, Global};
 use std::fs;
 use std::fs::OpenFile;
@@ -44,14 +45,16 @@ use std::time::Duration;
 /// How long a client may negotiate.
 const NEGOTIATION_SECONDS: u64 = 10;
 
-/// What a line `serve` asks besides its image: where it listens; how many connections, from 1 to
-/// 64, and whether serving ends once so many were served in all: else so many are served at once,
-/// without end; whether a row of each command is kept; when the file is synced, and when the disk
-/// is tidied; the largest length of a READ or WRITE in bytes that clients are told, and the largest
-/// that is taken; whether the disk can't be changed; and whether it is told what becomes of
-/// connections and of refused requests.
+/// What a line `serve` asks: the path of the image, of which it is told while it is served that
+/// its file was removed; where it listens; how many connections, from 1 to 64, and whether serving
+/// ends once so many were served in all: else so many are served at once, without end; whether a
+/// row of each command is kept; when the file is synced, and when the disk is tidied; the largest
+/// length of a READ or WRITE in bytes that clients are told, and the largest that is taken; whether
+/// the disk can't be changed; and whether it is told what becomes of connections and of refused
+/// requests.
 #[derive(Clone, Copy)]
 pub struct Asked<'a> {
+    pub image: &'a str,
     pub place: Place<'a>,
     pub conns: u32,
     pub ends: bool,
@@ -456,7 +459,7 @@ where
     if let Err(fault) = tell(writer, first) {
         return Err(fault);
     }
-    let resting = Sleeper::new(rt);
+    let resting = Watching::new(rt, durable, asked.image, !asked.read_only);
     let served = match serve(rt, alloc, &server, durable, listener, connections, resting) {
         Ok(served) => served,
         Err(fault) => {

@@ -39,6 +39,10 @@ pub trait Log {
     /// Tells that so many connections are served, which are all that can be, and others wait. A
     /// failure to do so is passed over.
     fn tell_full(&self, _places: usize) {}
+
+    /// Tells that the file that is served, which was at this path, was removed. A failure to do so
+    /// is passed over.
+    fn tell_removed(&self, _path: &str) {}
 }
 
 impl Log for HostRuntime {
@@ -55,6 +59,13 @@ impl Log for HostRuntime {
     /// A line on standard error.
     fn tell_full(&self, places: usize) {
         let _ = eprintln!(self; "norbd: {places} connections, others wait");
+    }
+
+    /// A line on standard error.
+    fn tell_removed(&self, path: &str) {
+        let _ = eprintln!(self;
+            "norbd: {path} was removed or replaced: what is written is lost when this server ends"
+        );
     }
 }
 

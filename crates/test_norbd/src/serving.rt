@@ -428,6 +428,7 @@ where
         return Err(Fail::from("no port"));
     }
     let asked = Asked {
+        image: "served.img",
         place: Place::Port {
             port: u32::from(port),
             bind: None,
