@@ -151,6 +151,7 @@ class Crowds(kit.Case):
             self.assertLess(kit.status_of(server.pid, "VmRSS") / held()[0],
                             memory / before[0] + 4096)
         self.assertEqual(server.client().read(0), bytes(512))
+        self.assertTrue(kit.wait_for(lambda: b"connection 2001 begins" in b"".join(lines[-9:]), 20))
         server.kill()
         thread.join(20)
         begun = [int(it) for it in re.findall(rb"connection (\d+) begins", b"".join(lines))]

@@ -74,11 +74,12 @@ class Rescued(kit.Case):
 
     def test_the_superblock(self):
         """With its name, its seal, its counts or its layout damaged all sectors are there."""
+        image, sectors = self.written()
         for at, byte, fault in ((0, 0, "not formatted: a.img"), (14, 0xFF, "not formatted: a.img"),
                                 (9, 0x20, "corrupt: a.img: Superblock: ")):
-            image, sectors = self.written()
-            image[at] = byte
-            self.rescued(image, disk_of(sectors), fault)
+            damaged = bytearray(image)
+            damaged[at] = byte
+            self.rescued(damaged, disk_of(sectors), fault)
         image[8] = 0x12
         self.rescued(image, disk_of(sectors), "12 at 8h, FF at Fh; read as layout 2",
                      "corrupt: a.img: Superblock: ")
