@@ -51,6 +51,13 @@ impl PromptChip {
         Ok(PromptChip { chip })
     }
 
+    /// The chip's memory, to be looked at.
+    pub fn bytes(&self) -> &[u8]
+        ensures { result.now ≡ (chip_of self.now).memory }
+    {
+        self.chip.bytes()
+    }
+
     /// The chip's memory.
     pub fn into_inner(self) -> Vec<u8>
         ensures { result.items ≡ (chip_of self).memory }

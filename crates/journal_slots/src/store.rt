@@ -54,6 +54,13 @@ impl<N: Nor> SectorSlots<N> {
         SectorSlots { journal, blocks }
     }
 
+    /// The journal, to be looked at.
+    pub fn get_ref(&self) -> &Journal<N>
+        ensures { result.now ≡ self.now }
+    {
+        &self.journal
+    }
+
     /// Gives the journal back.
     pub fn into_inner(self) -> Journal<N>
         ensures { result ≡ self }

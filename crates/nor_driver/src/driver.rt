@@ -80,6 +80,14 @@ impl<B: SpiBus> Driver<B> {
         self.large
     }
 
+    /// The bus, to be looked at.
+    pub fn get_ref(&self) -> &B
+        ensures { IsBehindDriver (⟦<Driver<B> as Nor>⟧.state self.now) (B.chip result.now)
+            (B.cuts result.now) (B.slows result.now) }
+    {
+        &self.bus
+    }
+
     /// The bus.
     pub fn into_inner(self) -> B
         ensures { IsBehindDriver (⟦<Driver<B> as Nor>⟧.state self) (B.chip result) (B.cuts result)

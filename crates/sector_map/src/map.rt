@@ -299,6 +299,13 @@ impl<N: Nor> SectorMap<N> {
         self.stock.level_wear()
     }
 
+    /// The memory, to be looked at.
+    pub fn get_ref(&self) -> &N
+        ensures { IsBehind self.now (N.state result.now) }
+    {
+        self.stock.get_ref().get_ref().get_ref()
+    }
+
     /// Gives the memory back. Where no Slow is latched it is healthy behind its superblock.
     pub fn into_inner(self) -> N
         ensures behind { IsBehind self (N.state result) }

@@ -82,6 +82,13 @@ impl<N: Nor> Stock<N> {
         choose_by_erases(self.blocks.as_mut_slice(), &mut self.at);
     }
 
+    /// The slots, to be looked at.
+    pub fn get_ref(&self) -> &SectorSlots<N>
+        ensures { result.now ≡ ⟦<Stock<N> as SlotCalls>⟧.state self.now }
+    {
+        &self.slots
+    }
+
     /// Gives the slots back.
     pub fn into_inner(self) -> SectorSlots<N>
         ensures { result ≡ ⟦<Stock<N> as SlotCalls>⟧.state self }
