@@ -226,6 +226,30 @@ class Told(kit.Case):
         self.assertRegex(begins, r"^1 begins: 127\.0\.0\.1:\d+$")
         self.assertEqual(rest, ["1 ends: a read failed, or the negotiation took too long"])
 
+    def test_an_unknown_export(self):
+        """With -v an export that INFO or GO asks for and that isn't there is told by its name, what
+        isn't printable of it escaped and what is beyond 64 bytes cut, and by its client's
+        address."""
+        names = ((b"disk", "'disk'"), (b"\0\x7f\xc3\xb6", r"'\x00\x7f\xc3\xb6'"),
+                 (b"x" * 64, f"'{'x' * 64}'"), (b"y" * 65, f"'{'y' * 64}'.. of 65 bytes"))
+
+        def ask(server):
+            client = server.connect()
+            client.greet()
+            for name, _ in names:
+                for number in (nbd.INFO, nbd.GO):
+                    self.assertEqual(client.ask(number, nbd.export(name)), [(nbd.UNKNOWN, b"")])
+            client.ask(nbd.ABORT)
+        told = [f"asks for the export {shown}, and there is only 'flash'"
+                for _, shown in names for _ in range(2)]
+        self.assertEqual(self.told("-v", then=ask), [
+            "1 begins", *(f"1 {line}" for line in told), "1 ends: closed by a request"])
+        self.assertEqual(self.told(then=ask), [])
+        lines = self.told("-v", "--port", str(kit.free_port()), then=ask)
+        for line, end in zip(lines[1:-1], told):
+            self.assertRegex(line, r"^1 from 127\.0\.0\.1:\d+ asks for the export '")
+            self.assertTrue(line.endswith(end), line)
+
     def test_a_reply_that_nobody_takes(self):
         """A client that is gone before its reply ends with `a write failed`."""
         def go_early(server):

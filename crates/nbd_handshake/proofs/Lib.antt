@@ -1,3 +1,4 @@
 pub mod Fronts
+pub mod Names
 pub mod Cuts
 pub mod Steps

@@ -9,6 +9,8 @@ use Rattle.nbd_wire.proofs.Cutting.{tail_front, short_is_partial}
 use Rattle.nbd_wire.proofs.UnitLaws.{Splits_more, Splits_unit}
 use Rattle.nbd_wire.proofs.StandingLaws.{holds_the_rest, stands_waiting, stands_completed}
 use Rattle.nbd_handshake.specs.Negotiating.{IsNegotiation, negotiation_reply}
+use Rattle.nbd_handshake.specs.declared.asked.AskedName.{AskedName}
+use Rattle.nbd_handshake.specs.Asked.{unknown_name, TellsUnknown}
 use Rattle.nbd_handshake.specs.Parser.{HandshakeAnswersUnit, HandshakeAdvances, HandshakeOneMore, HandshakeNextOrMore, HandshakeAnswers}
 
 pub head_range : (p : Phase) → IsNegotiation p → (0 < head_len p) × (head_len p ≤ 16)
@@ -42,21 +44,22 @@ tail_stays p count buffer grown size sized small whole same = tail_of_front p (m
 pub waits : (old new : ParserState) (rest : List ℕ) → new.phase ≡ old.phase → (head_len old.phase ≤ length rest → length rest < head_len old.phase + tail_len old.phase rest) → HoldsRest 8208 new rest → Waits 8208 old rest new
 waits old new rest same short keeps = record { partial = short_is_partial old.phase rest short; phase = same; keeps = keeps }
 
-pub completes : (old new : ParserState) (unit : List ℕ) (next : Phase) (reply : List ℕ) → next ≡ new.phase → IsUnit old.phase unit → reply ≡ negotiation_reply old.export old.phase unit → new.phase ≡ after old.phase unit → HoldsRest 8208 new [] → HandshakeAdvances old unit (Some next) reply new
-completes old new unit next reply next-is is_unit reply-is phase keeps = record {
+pub completes : (old new : ParserState) (unit : List ℕ) (next : Phase) (reply : List ℕ) (unknown : Option AskedName) → next ≡ new.phase → IsUnit old.phase unit → reply ≡ negotiation_reply old.export old.phase unit → TellsUnknown unknown (unknown_name old.phase unit) → new.phase ≡ after old.phase unit → HoldsRest 8208 new [] → HandshakeAdvances old unit (Some next) reply unknown new
+completes old new unit next reply unknown next-is is_unit reply-is unknown-is phase keeps = record {
   completes = record { is_unit = is_unit; phase = phase; keeps = keeps };
   next_is = next-is ∙ phase;
   reply_is = reply-is;
+  unknown_is = unknown-is;
 }
 
 -- ---- whole texts
 
-pub answers_from_step : (start : Phase) (old new : ParserState) (text used : List ℕ) (next : Option Phase) (reply : List ℕ) → IsNegotiation old.phase → ParserRepresents 8208 start old text
-    → ((rest : List ℕ) → HoldsRest 8208 old rest → HandshakeAdvances old (rest ++ used) next reply new) → HandshakeAnswers start old.export old.phase text (text ++ used) next reply
-answers_from_step start old new text used next reply negotiation represents step units rest split =
+pub answers_from_step : (start : Phase) (old new : ParserState) (text used : List ℕ) (next : Option Phase) (reply : List ℕ) (unknown : Option AskedName) → IsNegotiation old.phase → ParserRepresents 8208 start old text
+    → ((rest : List ℕ) → HoldsRest 8208 old rest → HandshakeAdvances old (rest ++ used) next reply unknown new) → HandshakeAnswers start old.export old.phase text (text ++ used) next reply
+answers_from_step start old new text used next reply unknown negotiation represents step units rest split =
     by_next next (step rest (holds_the_rest 8208 start old text units rest (not_closed old.phase negotiation) represents split))
   where
-    one_more : (n : Phase) → HandshakeAnswersUnit old (rest ++ used) n reply new → HandshakeOneMore start old.export old.phase (text ++ used) n reply units
+    one_more : (n : Phase) → HandshakeAnswersUnit old (rest ++ used) n reply unknown new → HandshakeOneMore start old.export old.phase (text ++ used) n reply units
     one_more n h = record {
       unit = rest ++ used;
       split = Splits_unit start text used units rest old.phase split h.completes.is_unit;
@@ -64,15 +67,15 @@ answers_from_step start old new text used next reply negotiation represents step
       reply_is = h.reply_is;
     }
 
-    by_next : (n : Option Phase) → HandshakeAdvances old (rest ++ used) n reply new → HandshakeNextOrMore start old.export old.phase (text ++ used) n reply units
+    by_next : (n : Option Phase) → HandshakeAdvances old (rest ++ used) n reply unknown new → HandshakeNextOrMore start old.export old.phase (text ++ used) n reply units
     by_next None h = (rest ++ used, Splits_more start text used units rest old.phase split h.0.partial, h.1)
     by_next (Some next) h = one_more next h
 
-pub stands_from_step : (start : Phase) (old new : ParserState) (text used : List ℕ) (next : Option Phase) (reply : List ℕ) → IsNegotiation old.phase → (represents : ParserRepresents 8208 start old text)
-    → ((rest : List ℕ) → HoldsRest 8208 old rest → HandshakeAdvances old (rest ++ used) next reply new) → ParserRepresents 8208 start new (text ++ used)
-stands_from_step start old new text used next reply negotiation represents step =
+pub stands_from_step : (start : Phase) (old new : ParserState) (text used : List ℕ) (next : Option Phase) (reply : List ℕ) (unknown : Option AskedName) → IsNegotiation old.phase → (represents : ParserRepresents 8208 start old text)
+    → ((rest : List ℕ) → HoldsRest 8208 old rest → HandshakeAdvances old (rest ++ used) next reply unknown new) → ParserRepresents 8208 start new (text ++ used)
+stands_from_step start old new text used next reply unknown negotiation represents step =
     by_next next (step represents.rest (represents.keeps (not_closed old.phase negotiation)))
   where
-    by_next : (n : Option Phase) → HandshakeAdvances old (represents.rest ++ used) n reply new → ParserRepresents 8208 start new (text ++ used)
+    by_next : (n : Option Phase) → HandshakeAdvances old (represents.rest ++ used) n reply unknown new → ParserRepresents 8208 start new (text ++ used)
     by_next None h = stands_waiting 8208 start old new text used represents h.0
     by_next (Some next) h = stands_completed 8208 start old new text used represents h.completes

@@ -1,5 +1,6 @@
 pub mod Greeting
 pub mod Negotiating
+pub mod Asked
 pub mod Parser
 pub mod Fronts
 pub use Rattle.nbd_wire.specs.Options

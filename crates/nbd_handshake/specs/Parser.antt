@@ -6,6 +6,8 @@ use Rattle.nbd_wire.specs.declared.phase.Phase.{Phase}
 use Rattle.nbd_wire.specs.Units.{Splits, after}
 use Rattle.nbd_wire.specs.Parser.{ParserState, Waits, Completes}
 use Rattle.nbd_handshake.specs.Negotiating.{IsNegotiation, negotiation_reply}
+use Rattle.nbd_handshake.specs.declared.asked.AskedName.{AskedName}
+use Rattle.nbd_handshake.specs.Asked.{unknown_name, TellsUnknown}
 
 -- how many bytes of an option are kept at most: its head of 16 bytes, and the 8,192 bytes of data
 -- that are looked at
@@ -17,18 +19,23 @@ abbrev pub Leads : Phase → Option Phase → Phase → Type 0
 Leads old None new = IsNegotiation old × (new ≡ old)
 Leads old (Some next) new = new ≡ next
 
--- the bytes are a unit, this is its reply, and this phase comes next
+-- the bytes are a unit, this is its reply, this the name that it asks for and no export has, and
+-- this phase comes next
 pub record HandshakeAnswersUnit (old : ParserState) (unit : List ℕ) (next : Phase) (reply : List ℕ)
-    (new : ParserState) : Type 0 where
+    (unknown : Option AskedName) (new : ParserState) : Type 0 where
   pub completes : Completes KEPT_LEN old unit new
   pub next_is : next ≡ after old.phase unit
   pub reply_is : reply ≡ negotiation_reply old.export old.phase unit
+  pub unknown_is : TellsUnknown unknown (unknown_name old.phase unit)
 
 -- None, without a reply, where all bytes of the unit begun that have come are no unit yet; the
 -- phase that comes next where they are one.
-abbrev pub HandshakeAdvances : ParserState → List ℕ → Option Phase → List ℕ → ParserState → Type 0
-HandshakeAdvances old rest None reply new = Waits KEPT_LEN old rest new × (reply ≡ [])
-HandshakeAdvances old rest (Some next) reply new = HandshakeAnswersUnit old rest next reply new
+abbrev pub HandshakeAdvances : ParserState → List ℕ → Option Phase → List ℕ → Option AskedName
+    → ParserState → Type 0
+HandshakeAdvances old rest None reply unknown new =
+    Waits KEPT_LEN old rest new × (reply ≡ []) × (unknown ≡ None)
+HandshakeAdvances old rest (Some next) reply unknown new =
+    HandshakeAnswersUnit old rest next reply unknown new
 
 -- the new text has one unit more than the old one, ends with it, this is its reply, and this phase
 -- comes next

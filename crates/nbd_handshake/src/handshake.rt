@@ -8,6 +8,7 @@ ghost use Rattle.nbd_wire.specs.declared.phase.Phase.{Phase};
 ghost use Rattle.nbd_handshake.specs.Negotiating.{IsNegotiation, IsNegotiationOver};
 ghost use Rattle.nbd_handshake.specs.Parser.{HandshakeAdvances, HandshakeAnswers, Leads};
 
+use crate::asked::AskedName;
 use crate::front::absorb;
 use crate::replies::MAX_REPLY_LEN;
 use crate::units::{complete, head_len, tail_len};
@@ -26,6 +27,8 @@ pub struct HandshakeTaken {
     pub reply: usize,
     /// The phase behind the unit that the bytes completed; None where it isn't complete.
     pub next: Option<Phase>,
+    /// The name that this unit asks for, where no export has it: of INFO and GO.
+    pub unknown: Option<AskedName>,
 }
 
 /// Cuts the bytes of a negotiation into flags and options, and answers them.
@@ -89,14 +92,14 @@ impl Handshake {
         ensures progress { IsNegotiation self.old.phase → 0 < length bytes.now → 0 < result.used }
         ensures over { IsNegotiationOver self.old.phase
             → (self.new ≡ self.old) × (result
-            ≡ record { used = 0; reply = 0; next = Some self.old.phase }) }
+            ≡ record { used = 0; reply = 0; next = Some self.old.phase; unknown = None }) }
         ensures export { self.new.export ≡ self.old.export }
         ensures phase { Leads self.old.phase result.next self.new.phase }
         // Of the unit begun: what the bytes used make of it.
         ensures step { (rest : List ℕ) → IsNegotiation self.old.phase
             → HoldsRest KEPT_LEN self.old rest
             → HandshakeAdvances self.old (rest ++ take result.used bytes.now) result.next
-            (take result.reply reply.new) self.new }
+            (take result.reply reply.new) result.unknown self.new }
 
         // Of each text that the negotiation represents: the answer is that of the next unit of this
         // text and the bytes used,
@@ -114,6 +117,7 @@ impl Handshake {
                 used: 0,
                 reply: 0,
                 next: Some(self.phase),
+                unknown: None,
             };
         };
         self.advance(head, bytes, reply)
@@ -134,7 +138,7 @@ impl Handshake {
         ensures phase { Leads self.old.phase result.next self.new.phase }
         ensures step { (rest : List ℕ) → HoldsRest KEPT_LEN self.old rest
             → HandshakeAdvances self.old (rest ++ take result.used bytes.now) result.next
-            (take result.reply reply.new) self.new }
+            (take result.reply reply.new) result.unknown self.new }
     {
         let first = head.saturating_sub(self.count).min(bytes.len() as u64) as usize;
         absorb(&mut self.kept, self.count, &bytes[..first]);
@@ -145,6 +149,7 @@ impl Handshake {
                 used: first,
                 reply: 0,
                 next: None,
+                unknown: None,
             };
         }
         let total = head + tail_len(self.phase, &self.kept);
@@ -160,6 +165,7 @@ impl Handshake {
                 used,
                 reply: 0,
                 next: None,
+                unknown: None,
             };
         }
         let unit = total.min(KEPT_LEN as u64) as usize;
@@ -170,6 +176,7 @@ impl Handshake {
             used,
             reply: answer.reply,
             next: Some(answer.phase),
+            unknown: answer.unknown,
         }
     }
 }

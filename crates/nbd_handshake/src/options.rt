@@ -2,7 +2,9 @@
 
 ghost use Rattle.std.specs.Prelude.{◌≡◌, ◌≤◌, length, if◌then◌else◌};
 ghost use Rattle.nbd_wire.specs.Options.{is_known, adds_up, name_of, case_of, phase_after};
+ghost use Rattle.nbd_handshake.specs.Asked.{unknown_in, TellsUnknown};
 
+use crate::asked::AskedName;
 use byteorder::{BigEndian, ByteOrder};
 use nbd_wire::{
     EXPORT_NAME, MAX_OPTION_LEN, OPT_ABORT, OPT_EXPORT_NAME, OPT_GO, OPT_INFO, OPT_LIST,
@@ -75,6 +77,34 @@ fn adds_up(content: &[u8]) -> bool
     }
     let count = usize::from(BigEndian::read_u16(&content[4 + name_len..]));
     content.len() == 4 + name_len + 2 + 2 * count
+}
+
+/// The name in the content of INFO and GO; empty where the content is too short for its length.
+fn name_of(content: &[u8]) -> &[u8]
+    ensures { result.now ≡ name_of content.now }
+{
+    if content.len() < 4 {
+        return &[];
+    }
+    let behind = &content[4..];
+    &behind[..(BigEndian::read_u32(content) as usize).min(behind.len())]
+}
+
+/// The name that an option of this case asks for, where no export has it.
+pub(crate) fn unknown_in(case: OptionCase, content: &[u8]) -> Option<AskedName>
+    ensures { TellsUnknown result (unknown_in case content.now) }
+{
+    match case {
+        OptionCase::Export => None,
+        OptionCase::NoExport => None,
+        OptionCase::Abort => None,
+        OptionCase::Listed => None,
+        OptionCase::Described => None,
+        OptionCase::TooBig => None,
+        OptionCase::Invalid => None,
+        OptionCase::UnknownName => Some(AskedName::of(name_of(content))),
+        OptionCase::Unsupported => None,
+    }
 }
 
 /// Whether a name is one of the export's: `flash` or the empty name.

@@ -4,9 +4,11 @@ ghost use Rattle.std.specs.Prelude.{◌≡◌, ◌≤◌, ◌<◌, ◌^◌, leng
 ghost use Rattle.nbd_wire.specs.Units.{head_len, tail_len, after, after_flags};
 ghost use Rattle.nbd_handshake.specs.Negotiating.{IsNegotiation, IsNegotiationOver};
 ghost use Rattle.nbd_handshake.specs.Negotiating.{negotiation_reply};
+ghost use Rattle.nbd_handshake.specs.Asked.{unknown_name, TellsUnknown};
 
+use crate::asked::AskedName;
 use crate::handshake::KEPT_LEN;
-use crate::options::{case_of, phase_after};
+use crate::options::{case_of, phase_after, unknown_in};
 use crate::replies::{MAX_REPLY_LEN, write_case};
 use byteorder::{BigEndian, ByteOrder};
 use nbd_wire::{
@@ -47,11 +49,13 @@ pub(crate) fn tail_len(phase: Phase, kept: &[u8]) -> u64
     }
 }
 
-/// What stands after a complete unit, and the length of its reply.
+/// What stands after a complete unit, the length of its reply, and the name that it asks for, where
+/// no export has it.
 #[derive(Clone, Copy)]
 pub(crate) struct Completed {
     pub(crate) reply: usize,
     pub(crate) phase: Phase,
+    pub(crate) unknown: Option<AskedName>,
 }
 
 /// Answers a complete unit by what is kept of it, and writes the reply at the front of `reply`.
@@ -63,17 +67,20 @@ pub(crate) fn complete(phase: Phase, unit: &[u8], export: Export, reply: &mut [u
     ensures len { result.reply ≤ MAX_REPLY_LEN }
     ensures phase { result.phase ≡ after phase unit.now }
     ensures reply { take result.reply reply.new ≡ negotiation_reply export phase unit.now }
+    ensures unknown { TellsUnknown result.unknown (unknown_name phase unit.now) }
     ensures rest { drop result.reply reply.new ≡ drop result.reply reply.old }
 {
     match phase {
         Phase::AwaitingFlags => Completed {
             reply: 0,
             phase: after_flags(BigEndian::read_u32(unit)),
+            unknown: None,
         },
         Phase::Negotiating(no_zeroes) => match OptionHead::read(unit) {
             None => Completed {
                 reply: 0,
                 phase: Phase::Closed,
+                unknown: None,
             },
             Some(head) => {
                 let case = case_of(head, &unit[OPTION_LEN..]);
@@ -81,16 +88,19 @@ pub(crate) fn complete(phase: Phase, unit: &[u8], export: Export, reply: &mut [u
                 Completed {
                     reply: written,
                     phase: phase_after(case, head.option, no_zeroes),
+                    unknown: unknown_in(case, &unit[OPTION_LEN..]),
                 }
             }
         },
         Phase::Transmitting => Completed {
             reply: 0,
             phase: Phase::Closed,
+            unknown: None,
         },
         Phase::Closed => Completed {
             reply: 0,
             phase: Phase::Closed,
+            unknown: None,
         },
     }
 }

@@ -22,6 +22,7 @@ use Rattle.nbd_transmission.specs.declared.transmission.Refusal.{Refusal}
 use Rattle.nbd_transmission.specs.Apply.{head_of}
 use Rattle.nbd_session.specs.declared.session.ReplyTo.{ReplyTo}
 use Rattle.nbd_session.specs.declared.session.ReplyTo.TheVariants.{Negotiation, LastOption, Refused}
+use Rattle.nbd_session.specs.declared.session.ReplyTo.TheVariants.{UnknownExport}
 use Rattle.nbd_session.specs.declared.stage.Stage.{Stage}
 use Rattle.nbd_session.specs.declared.stage.Stage.TheVariants.{Negotiating, Requesting, Ended}
 use Rattle.nbd_wire.specs.Lent.{payload_in}
@@ -119,6 +120,7 @@ pub record IsRunning (export : Export) (c : Command) (line : SessionState) : Typ
 -- table's and is what the reply says.
 abbrev pub IsReplyTo : Export → SessionState → ReplyTo → Type 0
 IsReplyTo export line Negotiation = line.stage ≡ Negotiating
+IsReplyTo export line (UnknownExport name) = line.stage ≡ Negotiating
 IsReplyTo export line LastOption = line.stage ≡ Requesting
 IsReplyTo export line (Refused refusal) =
     IsRefused export refusal × (reply_of line ≡ head_of refusal.command refusal.error)

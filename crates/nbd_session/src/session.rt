@@ -9,10 +9,11 @@ ghost use Rattle.nbd_transmission.specs.Parser.{TransmissionAdvances};
 ghost use Rattle.nbd_transmission.specs.Taking.{payload_of, IsJudged};
 ghost use Rattle.nbd_session.specs.Lent.{lent_now};
 ghost use Rattle.nbd_session.specs.Sessions.{IsHolding, HoldsAfter};
+ghost use Rattle.nbd_session.specs.Unknown.{SaysUnknown, option_reply_to};
 
 use crate::error::OpenError;
 use crate::stage::Stage;
-use nbd_handshake::{Handshake, greeting};
+use nbd_handshake::{AskedName, Handshake, greeting};
 use nbd_transmission::{Refusal, Transmission, TransmissionTaken};
 use nbd_wire::{Command, Export, MAX_LEN, Next, Phase, REPLY_LEN, REQUEST_LEN, Reply, put};
 use std::alloc::Global;
@@ -23,6 +24,8 @@ use std::marker::Model;
 pub enum ReplyTo {
     /// The client's flags or an option; the negotiation goes on.
     Negotiation,
+    /// INFO or GO for an export that isn't there; the negotiation goes on.
+    UnknownExport(AskedName),
     /// An option with which the negotiation is over: requests come next.
     LastOption,
     /// A request that is refused.
@@ -88,6 +91,7 @@ impl Session {
     ghost use Rattle.std.specs.Borrow.{sem};
     ghost use Rattle.nbd_wire.specs.declared.phase.Phase.{Phase};
     ghost use Rattle.nbd_wire.specs.declared.phase.Phase.TheVariants.{AwaitingFlags, Transmitting};
+    ghost use Rattle.nbd_handshake.specs.Parser.{KEPT_LEN};
     ghost use Rattle.nbd_session.specs.Lent.{lent_now};
     ghost use Rattle.nbd_session.specs.Sessions.{reply_of, room_of, is_closed, is_close, silent};
     ghost use Rattle.nbd_session.specs.Sessions.{SessionRepresents, SessionSays, RunsAfter};
@@ -204,6 +208,11 @@ impl Session {
             → SessionRepresents start self.old text
             → SessionSays start self.old.export text (text ++ take result.used bytes.now)
             result.next self.new }
+        // Of the unit begun, in the negotiation: it is answered as one that asks for an export
+        // which isn't there where it does, by that name.
+        ensures unknown { (rest : List ℕ) → self.old.stage ≡ Stage.Negotiating
+            → HoldsRest KEPT_LEN self.old.handshake rest → SaysUnknown self.old.handshake.phase
+            (rest ++ take result.used bytes.now) result.next }
     {
         self.running = None;
         self.replied = 0;
@@ -231,13 +240,16 @@ impl Session {
         ensures says { (start : Phase) (text : List ℕ) → SessionRepresents start self.old text
             → SessionSays start self.old.export text (text ++ take result.used bytes.now)
             result.next self.new }
+        ensures unknown { (rest : List ℕ) → HoldsRest KEPT_LEN self.old.handshake rest
+            → SaysUnknown self.old.handshake.phase (rest ++ take result.used bytes.now)
+            result.next }
     {
         let taken = self.handshake.take(bytes, self.bytes.as_mut_slice());
         self.replied = taken.reply;
         let next = match taken.next {
             None => Next::More,
-            Some(Phase::AwaitingFlags) => Next::Reply(ReplyTo::Negotiation),
-            Some(Phase::Negotiating(_)) => Next::Reply(ReplyTo::Negotiation),
+            Some(Phase::AwaitingFlags) => Next::Reply(option_reply_to(taken.unknown)),
+            Some(Phase::Negotiating(_)) => Next::Reply(option_reply_to(taken.unknown)),
             Some(Phase::Transmitting) => {
                 self.transmission = Transmission::new(self.export);
                 self.filled = 0;
@@ -304,6 +316,17 @@ impl Session {
             }
         };
         Taken { used, next }
+    }
+}
+
+/// What a reply is to after which the negotiation goes on, by the name that its option asks for
+/// where no export has it.
+fn option_reply_to(unknown: Option<AskedName>) -> ReplyTo
+    ensures { result ≡ option_reply_to unknown }
+{
+    match unknown {
+        None => ReplyTo::Negotiation,
+        Some(name) => ReplyTo::UnknownExport(name),
     }
 }
 

@@ -6,14 +6,14 @@
 //! end they go back to the server. All of them run commands through the one lock of a
 //! `nbd_share::Server`, one at a time. A [`Listener`] is a port or a Unix socket, [`listen`] opens
 //! a port, and [`Sleeper`] is the gate of a keeper that rests 10 ms before each step. Where that is
-//! asked (`telling`) a [`Log`] is told of each connection's beginning and end and of each request
-//! that is answered with an error; of the first one that is too long, that others wait, and of a
-//! client that is closed for its silence then, it is always told. The door of a connection learns
-//! of the requests, and that the negotiation is over, from `nbd_worker`. Left to the crate above:
-//! the disk, what else is printed, and `Shared::total` of the passes. Ok says that as many
-//! connections ended as were asked for, and none by a lost command; without end it never comes. No
-//! contract says that a thread gets on, how many run at once, nor what a socket gives or takes:
-//! tests show it. Source: own.
+//! asked (`telling`) a [`Log`] is told of each connection's beginning and end, of an export that is
+//! asked for and isn't there, and of each request that is answered with an error; of the first one
+//! that is too long, that others wait, and of a client that is closed for its silence then, it is
+//! always told. The door of a connection learns of the requests, and that the negotiation is over,
+//! from `nbd_worker`. Left to the crate above: the disk, what else is printed, and `Shared::total`
+//! of the passes. Ok says that as many connections ended as were asked for, and none by a lost
+//! command; without end it never comes. No contract says that a thread gets on, how many run at
+//! once, nor what a socket gives or takes: tests show it. Source: own.
 #![tactic(auto)]
 
 mod accepting;

@@ -13,7 +13,7 @@ use std::cell::Cell;
 use std::fs::OpenFile;
 use std::io;
 use std::io::{IoSlice, Read, Write};
-use std::net::TcpStream;
+use std::net::{SocketAddr, TcpStream};
 use std::sync::Wait;
 use std::sync::ledger::{Blank, Ledger};
 use std::time::{Clock, Duration, Instant};
@@ -34,6 +34,8 @@ pub(crate) struct Seat<'s> {
 #[derive(Drop)]
 pub(crate) struct Client<'s, W> {
     pub(crate) stream: TcpStream,
+    /// Where it is; None where it has no address, as at a Unix socket.
+    pub(crate) address: Option<SocketAddr>,
     pub(crate) teller: Teller<'s, W>,
     seat: Seat<'s>,
     /// When it began; none once the negotiation is over.
@@ -55,8 +57,10 @@ impl<'s, W: Clock + Wait + Log> Client<'s, W> {
         longest: u32,
     ) -> Client<'s, W> {
         let start = Cell::new(Instant::now(teller.rt).ok());
+        let address = stream.peer_addr().ok();
         Client {
             stream,
+            address,
             teller,
             seat,
             start,
@@ -75,11 +79,14 @@ impl<'s, W: Clock + Wait + Log> Client<'s, W> {
         Ok(left)
     }
 
-    /// Hears what the next reply is to: there is no limit once the negotiation is over, and a
-    /// request that is refused is told.
+    /// Hears what the next reply is to: there is no limit once the negotiation is over, and an
+    /// export that isn't there and a request that is refused are told.
     pub(crate) fn hear(&self, to: &ReplyTo) {
         match to {
             ReplyTo::Negotiation => {}
+            ReplyTo::UnknownExport(name) => {
+                self.teller.tell(Event::UnknownExport(self.address, *name));
+            }
             ReplyTo::LastOption => {
                 self.start.set(None);
                 let _ = self.stream.set_read_timeout(None);

@@ -1,5 +1,6 @@
 //! What is told of connections while they are served.
 
+use nbd_handshake::AskedName;
 use nbd_session::LONGEST_COMMAND_LEN;
 use nbd_wire::{Command, CommandKind, EINVAL, EIO, ENOMEM, ENOSPC, EPERM, ESHUTDOWN};
 use nbd_worker::End;
@@ -12,6 +13,8 @@ use std::sync::{Mutex, Wait};
 pub enum Event {
     /// Its client is at this address; None where it has none, as at a Unix socket.
     Begins(Option<SocketAddr>),
+    /// The client at this address asks for an export of this name, which isn't there.
+    UnknownExport(Option<SocketAddr>, AskedName),
     /// A request got this error.
     Refused(Command, u32),
     /// A READ or WRITE of so many bytes was refused, since so many are the most.
@@ -95,6 +98,23 @@ fn write_error<W: fmt::Write>(f: &mut fmt::Formatter<W>, error: u32) -> fmt::Res
     }
 }
 
+/// Writes a name in quotes, what isn't printable ASCII of it as `\xNN`; behind a name that isn't
+/// whole its length.
+fn write_name<W: fmt::Write>(f: &mut fmt::Formatter<W>, name: &AskedName) -> fmt::Result {
+    let bytes = name.bytes();
+    f.write_str("'")?;
+    for byte in bytes {
+        match *byte {
+            b' '..=b'~' => write!(f, "{}", char::from(*byte))?,
+            _ => write!(f, "\\x{byte:02x}")?,
+        }
+    }
+    if bytes.len() < name.len {
+        return write!(f, "'.. of {} bytes", name.len);
+    }
+    f.write_str("'")
+}
+
 /// Writes which option would take a request of this length, where one would.
 fn write_advice<W: fmt::Write>(f: &mut fmt::Formatter<W>, length: u32, most: u32) -> fmt::Result {
     write!(
@@ -126,6 +146,14 @@ impl fmt::Display for Notice {
         match self.event {
             Event::Begins(None) => f.write_str(" begins"),
             Event::Begins(Some(address)) => write!(f, " begins: {address}"),
+            Event::UnknownExport(address, name) => {
+                if let Some(address) = address {
+                    write!(f, " from {address}")?;
+                }
+                f.write_str(" asks for the export ")?;
+                write_name(f, &name)?;
+                f.write_str(", and there is only 'flash'")
+            }
             Event::Refused(command, error) => {
                 f.write_str(": ")?;
                 write_kind(f, command.kind)?;

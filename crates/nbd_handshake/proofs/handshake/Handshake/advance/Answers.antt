@@ -1,10 +1,11 @@
-use Rattle.std.proofs.Common.{◌≡◌, ℕ, ◌+◌, ◌-◌, ◌≤◌, min, length, take, drop, ◌++◌, arith, ap, sym, ◌∙◌, refl, inl, inr}
+use Rattle.std.proofs.Common.{◌≡◌, ℕ, ◌+◌, ◌-◌, ◌≤◌, min, length, take, drop, ◌++◌, arith, ap, sym, ◌∙◌, refl, inl, inr, subst, Option, List}
 use Rattle.std.proofs.lemmas.Bool.{cases_lt}
 use Rattle.std.proofs.lemmas.List.{length-take}
 use Rattle.nbd_wire.specs.Units.{head_len, tail_len, IsUnit, after}
 use Rattle.nbd_wire.proofs.Cutting.{tail_front}
 use Rattle.nbd_handshake.specs.Fronts.{HasFront}
 use Rattle.nbd_handshake.specs.Negotiating.{IsNegotiation, negotiation_reply}
+use Rattle.nbd_handshake.specs.Asked.{unknown_name, TellsUnknown}
 use Rattle.nbd_handshake.proofs.Cuts.{same_answer}
 use Rattle.nbd_handshake.proofs.Fronts.{front_of_kept, kept_of_front, joined, joined_text, front_tail}
 use Rattle.nbd_handshake.proofs.Steps.{head_range, is_open, tail_stays, waits, completes}
@@ -25,7 +26,7 @@ returns-then-count-head-clause-step c rest keeps =
     let len : length (rest ++ x) ≡ c.self.inside.count + n = omega (arith, grown.len) in
     let size : length c.absorb.new.buffer ≡ 8208 = c.absorb.auto.buffer ∙ c.self.told in
     let kept = kept_of_front c.absorb.new.buffer (rest ++ x) (c.self.inside.count + length x) size grown in
-    rw (← c.self.view_is) (waits _ _ (rest ++ x) refl (λ long. absurd (omega arith)) record { kept = kept ∙ ap (λ (m : ℕ). take (min (c.self.inside.count + m) 8208) c.absorb.new.buffer) n-is; count = len }, refl)
+    rw (← c.self.view_is) (waits _ _ (rest ++ x) refl (λ long. absurd (omega arith)) record { kept = kept ∙ ap (λ (m : ℕ). take (min (c.self.inside.count + m) 8208) c.absorb.new.buffer) n-is; count = len }, refl, refl)
 
 -- the head is whole, and its unit is not
 pub invariant_of-self-then-count-total : goal.invariant_of-self-then-count-total
@@ -74,7 +75,7 @@ returns-then-count-total-clause-step c rest keeps =
     let tails : tail_len p text ≡ tail_len p c.absorb.new.buffer =
     ap (tail_len p) (sym (joined_text rest bytes n m)) ∙ tail_front p (rest ++ take n bytes) (take (n + m - n) (drop n bytes)) (omega (arith, front.len)) ∙ front_tail p c.absorb.new.buffer (rest ++ take n bytes) (c.self.inside.count + n) front size high (omega arith) in
     let len = again.len in
-    rw (← c.self.view_is) (waits _ _ text refl (λ _. omega arith) record { kept = kept_of_front c.absorb-2.new.buffer text (c.self.inside.count + n + m) size2 again; count = len }, refl)
+    rw (← c.self.view_is) (waits _ _ text refl (λ _. omega arith) record { kept = kept_of_front c.absorb-2.new.buffer text (c.self.inside.count + n + m) size2 again; count = len }, refl, refl)
 
 -- the unit is whole
 pub returns-clause-progress : goal.returns-clause-progress
@@ -148,4 +149,6 @@ returns-clause-step c rest keeps =
     let reply = take c.complete-answer.result.reply c.complete-answer.new.reply in
     let reply-is : reply ≡ negotiation_reply export p text = c.complete-answer.ensures.reply ∙ ap (negotiation_reply export p) kept-is ∙ same.reply in
     let phase-is : c.complete-answer.result.phase ≡ after p text = c.complete-answer.ensures.phase ∙ ap (after p) kept-is ∙ same.phase in
-    rw (← c.self.view_is) (completes _ _ text c.complete-answer.result.phase reply refl is_unit reply-is phase-is record { kept = refl; count = refl })
+    let name = c.complete-answer.result.unknown in
+    let unknown-is : TellsUnknown name (unknown_name p text) = subst (λ (u : Option (List ℕ)). TellsUnknown name u) (ap (unknown_name p) kept-is ∙ same.unknown) c.complete-answer.ensures.unknown in
+    rw (← c.self.view_is) (completes _ _ text c.complete-answer.result.phase reply name refl is_unit reply-is unknown-is phase-is record { kept = refl; count = refl })

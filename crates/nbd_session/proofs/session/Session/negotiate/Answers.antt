@@ -1,14 +1,16 @@
-use Rattle.std.proofs.Common.{◌≡◌, ℕ, List, [], length, take, refl, sym, ap, ◌∙◌, arith, rules, Some}
+use Rattle.std.proofs.Common.{◌≡◌, ℕ, List, [], length, take, refl, sym, ap, ◌∙◌, arith, rules, Some, subst}
 use Rattle.std.specs.Vec.{with_items}
 use Rattle.std.proofs.lemmas.List.{with_items_is}
 use Rattle.nbd_wire.specs.Parser.{ParserState}
 use Rattle.nbd_wire.specs.declared.phase.Phase.TheVariants.{AwaitingFlags, Negotiating as Options, Transmitting, Closed}
 use Rattle.nbd_transmission.proofs.Steps.{payload_short}
 use Rattle.nbd_session.specs.declared.session.ReplyTo.TheVariants.{Negotiation, LastOption}
+use Rattle.nbd_session.specs.declared.stage.Stage.{Stage}
 use Rattle.nbd_session.specs.declared.stage.Stage.TheVariants.{Negotiating, Ended}
-use Rattle.nbd_session.specs.Sessions.{SessionState}
+use Rattle.nbd_session.specs.Sessions.{SessionState, InStage}
 use Rattle.nbd_session.specs.contracts.session.Session.{the_view}
 use Rattle.nbd_session.proofs.Negotiated.{negotiates, says_more, says_stay, says_transmit, says_close}
+use Rattle.nbd_session.proofs.Named.{last_says, stay_says}
 use Rattle.nbd_session.proofs.session.Session.negotiate.Goals as goal
 
 pub returns-in-None-clause-says : goal.returns-in-None-clause-says
@@ -106,3 +108,20 @@ returns-in-Some-Transmitting-clause-progress c = c.take-taken.ensures.progress (
 
 pub returns-in-Some-Closed-clause-progress : goal.returns-in-Some-Closed-clause-progress
 returns-in-Some-Closed-clause-progress c = c.take-taken.ensures.progress (search rules)
+
+pub returns-in-Some-AwaitingFlags-clause-unknown : goal.returns-in-Some-AwaitingFlags-clause-unknown
+returns-in-Some-AwaitingFlags-clause-unknown c rest keeps =
+    let stage : c.self.inside.stage ≡ Negotiating = ap (λ (l : SessionState). l.stage) c.self.view_is ∙ c.requires.stage in
+    let open_phase = subst (λ (g : Stage). InStage g c.self.inside.handshake c.self.inside.transmission c.self.inside.filled) stage c.self.invariant.works in
+    let step = c.take-taken.ensures.step rest open_phase (rw (← c.self.view_is) at keeps) in
+    rw (← c.self.view_is) (stay_says c.self.inside.handshake c.take-taken.new.self _ (take c.take-taken.result.reply c.take-taken.new.reply) c.take-taken.result.unknown c.option_reply_to.result c.take-taken.result.next _ c.in-Some-AwaitingFlags.is c.option_reply_to.ensures step)
+
+pub returns-in-Some-Negotiating-clause-unknown : goal.returns-in-Some-Negotiating-clause-unknown
+returns-in-Some-Negotiating-clause-unknown c rest keeps =
+    let stage : c.self.inside.stage ≡ Negotiating = ap (λ (l : SessionState). l.stage) c.self.view_is ∙ c.requires.stage in
+    let open_phase = subst (λ (g : Stage). InStage g c.self.inside.handshake c.self.inside.transmission c.self.inside.filled) stage c.self.invariant.works in
+    let step = c.take-taken.ensures.step rest open_phase (rw (← c.self.view_is) at keeps) in
+    rw (← c.self.view_is) (stay_says c.self.inside.handshake c.take-taken.new.self _ (take c.take-taken.result.reply c.take-taken.new.reply) c.take-taken.result.unknown c.option_reply_to-in-Some-Negotiating.result c.take-taken.result.next _ c.in-Some-Negotiating.is c.option_reply_to-in-Some-Negotiating.ensures step)
+
+pub returns-in-Some-Transmitting-clause-unknown : goal.returns-in-Some-Transmitting-clause-unknown
+returns-in-Some-Transmitting-clause-unknown c rest keeps = last_says _
