@@ -1,3 +1,4 @@
 pub mod Rescue
+pub mod Given
 pub mod Doubts
 pub mod Steps

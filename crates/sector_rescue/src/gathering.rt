@@ -7,6 +7,7 @@ ghost use Rattle.sector_slots.specs.Sectors.{zeros as absent};
 ghost use Rattle.sector_slots.specs.Slots.{slot_count};
 ghost use Rattle.sector_rescue.specs.Doubts.{doubts_in, doubts_of, layout_doubts};
 ghost use Rattle.flash_disk.specs.Contents.{joined};
+ghost use Rattle.sector_rescue.specs.Given.{AreGiven};
 ghost use Rattle.sector_rescue.specs.Rescue.{layout_told, newest_of, payload, payload_or};
 ghost use Rattle.sector_rescue.specs.Rescue.{rescued, rescued_at};
 ghost use Rattle.sector_rescue.specs.Steps.{AreCopied, IsBelow, IsTableBelow, list_of};
@@ -28,9 +29,12 @@ pub struct Rescued {
 
 /// What the slots of a chip with these bytes tell of its disk, whatever else is wrong with it: its
 /// journals aren't looked at, and of its superblock only which layout it says.
+#[tactic(auto, using(crate::proofs::Giving::are_given))]
 pub fn rescue(alloc: Global, image: &[u8]) -> Result<Rescued, AllocError>
     requires { IsChipSize (length image.now) }
     ensures sectors { IfOk result (λ it. it.sectors.items ≡ rescued image.now) }
+    // In the terms of slots: of each sector bytes that may be the last that were written to it.
+    ensures given { IfOk result (λ it. AreGiven image.now it.sectors.items) }
     ensures doubts { IfOk result (λ it. it.doubts.items ≡ doubts_of image.now) }
 {
     let layout = told_layout(image);
