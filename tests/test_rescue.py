@@ -146,13 +146,14 @@ class Rescued(kit.Case):
             self.rescued(image, disk_of({number: nbd.sector(1) for number in held}),
                          "corrupt: a.img: Journals: ")
 
+    def test_an_image_that_is_not_clean(self):
+        """Its sectors are given too, and it isn't mended."""
+        image, sectors = self.written()
+        image[4096 * 15 + 512 * 7] = 0x55
+        self.rescued(image, disk_of(sectors), "not clean: a.img: norbd check --mend mends it")
+
     def test_what_is_refused(self):
-        """An image that isn't clean is mended first; no image and a chip behind a programmer aren't
-        read."""
-        dirty = kit.formatted()
-        dirty[0x4300] = 0x55
-        self.put("a.img", dirty)
-        self.refused("not clean: a.img: norbd check --mend mends it", "rescue", "a.img")
+        """No image and a chip behind a programmer aren't read."""
         self.put("a.img", b"\xFF" * 1000)
         self.refused("bad image size: a.img: 1000 bytes", "rescue", "a.img")
         self.refused("chip failed: tcp:127.0.0.1:1: rescue takes a file: flashrom reads the chip "

@@ -10,7 +10,10 @@ use Rattle.norbd_serve.specs.declared.fault.ServeFault.TheVariants as serves
 use Rattle.norbd_run.specs.Checking.{CheckTells, Says, checked_text, last_text}
 use Rattle.norbd_run.specs.Chips.{ChipTells, chip_text}
 use Rattle.norbd_run.specs.Moving.{ReadTells, WriteTells, WritesBytes, replacing_text, written_text}
-use Rattle.norbd_run.specs.Rescuing.{IsDamage, RescueTells}
+use Rattle.norbd_run.specs.Rescuing.{EndsWith, RescueTells, SavesFrom, WritesRescued}
+use Rattle.flash_disk.specs.Contents.{contents_of}
+use Rattle.sector_rescue.specs.Rescue.{rescued}
+use Rattle.sector_rescue.specs.declared.doubt.Doubt.{Doubt}
 use Rattle.norbd_run.specs.Showing.{ShowTells}
 use Rattle.norbd_run.specs.Listening.{HasBegun, IsPlaceRefusal, IsRefusal, TellsServing, WritesText, ended_text, serving_text, told_of_serving}
 use Rattle.norbd_line.specs.declared.fault.Fault.{Fault}
@@ -221,11 +224,16 @@ image-refused T place conns keeps old f faults.NoThread h = absurd h
 image-refused T place conns keeps old f (faults.BadRange count) h = absurd h
 image-refused T place conns keeps old f (faults.BadInput length) h = absurd h
 
--- a damaged disk that could not be written
-pub rescue-failed : (T U : Type 0) (bytes : List ℕ) (old new : Option (List ℕ)) (f g : ℕ) (e : Fault) → WritesBytes {T = U} bytes old f (Err e) new g → RescueTells {T = T} old f (Err e) new g
-rescue-failed T U bytes old new f g e h = inr (inr (h.0, (bytes, h.1)))
+-- ---- what a rescue writes
 
--- and one that was
-pub rescue_ended : {T : Type 0} (bytes : List ℕ) (old new : Option (List ℕ)) (f g : ℕ) (end : Result T Fault) → IfErr end IsDamage → Appends old new bytes × (g ≡ f) → RescueTells old f end new g
-rescue_ended bytes old new f g (Ok u) damage h = (bytes, h.0, h.1)
-rescue_ended bytes old new f g (Err e) damage h = inr (inl (damage, (bytes, h.0, h.1)))
+pub rescue_written : {T : Type 0} (m bytes : List ℕ) (doubts : List Doubt) (old new : Option (List ℕ)) (f g : ℕ) (end r : Result T Fault) → SavesFrom m end bytes doubts → EndsWith end bytes old f r new g → WritesRescued m old f r new g
+rescue_written m bytes doubts old new f g (Ok u) r saved (inl h) = rw h.0 (saved.0, subst (λ (x : List ℕ). Appends old new x) saved.1 h.1, h.2)
+rescue_written m bytes doubts old new f g (Ok u) r saved (inr h) = rw h.0 (inr (inr (refl, inl (subst (λ (x : List ℕ). FailsToSend old f x new g) saved.1 h.1))))
+rescue_written m bytes doubts old new f g (Err e) r saved (inl h) = rw h.0 (inr (inl (saved.0, saved.1, subst (λ (x : List ℕ). Appends old new x) saved.2 h.1, h.2)))
+rescue_written m bytes doubts old new f g (Err e) r saved (inr h) = rw h.0 (inr (inr (refl, inr (subst (λ (x : List ℕ). FailsToSend old f x new g) saved.2 h.1))))
+
+pub rescue_told : {T : Type 0} (m : List ℕ) (old new : Option (List ℕ)) (f g : ℕ) (r : Result T Fault) → WritesRescued m old f r new g → RescueTells old f r new g
+rescue_told m old new f g (Ok u) h = (contents_of m, h.1, h.2)
+rescue_told m old new f g (Err e) (inl h) = inl (h.0.0, h.1)
+rescue_told m old new f g (Err e) (inr (inl h)) = inr (inl (h.0, (rescued m, h.2, h.3)))
+rescue_told m old new f g (Err e) (inr (inr h)) = elim h.1 [ inl x ↦ inr (inr (h.0, (contents_of m, x))) | inr x ↦ inr (inr (h.0, (rescued m, x))) ]

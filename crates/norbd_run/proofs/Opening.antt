@@ -21,7 +21,6 @@ use Rattle.sector_survey.specs.declared.verdict.Verdict.TheVariants.{Mountable}
 use Rattle.sector_survey.proofs.Cleaning.{first-is-dirty, judges}
 use Rattle.norbd_line.specs.declared.fault.Fault.{Fault}
 use Rattle.norbd_run.specs.Opening.{IsCheckedClean, IsReason}
-use Rattle.norbd_run.specs.Rescuing.{IsDamage}
 
 pub dirty-reason : (found : Option ℕ) (m : List ℕ) → is_some found ≡ true → IfSome found (λ at. IsOfGroups m × IsFirstDirty m at) → IsCleanImage m → ⊥
 dirty-reason None m some h clean = absurd (false≢true some)
@@ -63,14 +62,6 @@ whole-disk items (Ok b) d all first end h zero full is =
     let from : 512 * first ≡ 0 = omega (arith, zero) in
     h ∙ (ap (λ k. take k (drop (512 * first) d)) n ∙ (ap (λ k. take (length d) (drop k d)) from ∙ (take-length d ∙ is)))
 whole-disk items (Err e) d all first end h zero full is = tt
-
--- where no superblock is there is nothing to mount
-pub not-formatted : (m : List ℕ) → layout_of m (geometry_of (length m)) ≡ Err supers.NotFormatted → IsMountable m → ⊥
-not-formatted m bare h = absurd (false≢true (subst (λ r. is_layout r ≡ true) bare h.superblock))
-
-pub damage_refuses : (e : Fault) (m : List ℕ) → IsDamage e → IsReason e m → IsMountable m → ⊥
-damage_refuses e m (inl corrupt) reason h = (subst (λ z. IsReason z m) corrupt reason) h
-damage_refuses e m (inr bare) reason h = not-formatted m (subst (λ z. IsReason z m) bare reason) h
 
 -- a reason that is known of any bytes is one of these
 pub any-reason : {T : Type 0} (r : Result T Fault) (m : List ℕ) → IfErr r (λ e. (x : List ℕ) → IsReason e x) → IfErr r (λ e. IsReason e m)

@@ -4,7 +4,8 @@ ghost use Rattle.chip_model.specs.Geometry.{IsChipSize};
 ghost use Rattle.flash_disk.specs.Contents.{contents_of};
 ghost use Rattle.norbd_run.specs.Moving.{MoveFails};
 ghost use Rattle.norbd_run.specs.Opening.{IsReason};
-ghost use Rattle.norbd_run.specs.Rescuing.{IsDamage, RescueTells, SavesFrom};
+ghost use Rattle.norbd_run.specs.Rescuing.{EndsWith, IsDamage, RescueFails, RescueTells};
+ghost use Rattle.norbd_run.specs.Rescuing.{SavesFrom, WritesRescued};
 ghost use Rattle.sector_map.specs.Maps.{IsMountable};
 
 use crate::image_disk::{bytes_of, hold_image};
@@ -18,8 +19,8 @@ use sector_rescue::{Doubt, Rescued, rescue};
 use std::alloc::Global;
 use std::rt::Files;
 
-/// What is given of an image: the bytes of its disk, what is doubtful of them, and the end: a
-/// mount's refusal where it refuses the image.
+/// What is given of an image: the bytes of its disk, what is doubtful of them, and the end: the
+/// refusal of what is on its chip where it is refused.
 #[derive(Drop)]
 pub(crate) struct Saved {
     bytes: Vec<u8>,
@@ -27,12 +28,12 @@ pub(crate) struct Saved {
     end: Result<(), Fault>,
 }
 
-/// Writes the sectors of the image in the file at a path to `writer`, the whole disk: where a mount
-/// accepts it, as `run_read` does; else what its slots tell, and what is doubtful of that to
-/// standard error. The file stays as it is.
+/// Writes the sectors of the image in the file at a path to `writer`, the whole disk: where
+/// `run_read` would, as it does; else what its slots tell, and what is doubtful of that to standard
+/// error. The file stays as it is.
 ///
-/// `NotFormatted` and `Corrupt` where a mount answers so, after the sectors are written; the other
-/// faults are those of `run_read`, `NotClean` among them, and come before anything is.
+/// `NotFormatted`, `Corrupt` and `NotClean` where `run_read` answers so, after the sectors are
+/// written; its other faults come before anything is.
 pub fn run_rescue<R, K>(rt: &R, path: &str, writer: &mut K) -> Result<(), Fault>
 where
     R: Files + AllocGlobal + Screen,
@@ -43,8 +44,23 @@ where
 {
     let held = hold_image(rt, path, false)?;
     let image = bytes_of(rt, &held)?;
-    let saved = saved_of(rt.alloc(), image.as_slice())?;
-    tell_doubts(rt, image.as_slice(), saved.doubts.as_slice());
+    write_rescued(rt, image.as_slice(), writer)
+}
+
+/// Writes what is given of the bytes of an image, and tells what is doubtful of that.
+#[tactic(auto, using(crate::proofs::Lines::rescue_written, crate::proofs::Lines::rescue_told))]
+fn write_rescued<R, K>(rt: &R, image: &[u8], writer: &mut K) -> Result<(), Fault>
+where
+    R: AllocGlobal + Screen,
+    K: Sink,
+    requires { IsChipSize (length image.now) }
+    ensures writes { WritesRescued image.now (K.written writer.old) (K.faults writer.old) result
+        (K.written writer.new) (K.faults writer.new) }
+    ensures tells { RescueTells (K.written writer.old) (K.faults writer.old) result
+        (K.written writer.new) (K.faults writer.new) }
+{
+    let saved = saved_of(rt.alloc(), image)?;
+    tell_doubts(rt, image, saved.doubts.as_slice());
     write_saved(saved, writer)
 }
 
@@ -59,11 +75,9 @@ fn tell_doubts<R: Screen>(rt: &R, image: &[u8], doubts: &[Doubt]) {
 }
 
 /// Writes the bytes that are given of an image.
-#[tactic(auto, using(crate::proofs::Lines::rescue_ended))]
 fn write_saved<K: Sink>(saved: Saved, writer: &mut K) -> Result<(), Fault>
-    requires { IfErr saved.end IsDamage }
-    ensures { RescueTells (K.written writer.old) (K.faults writer.old) result
-        (K.written writer.new) (K.faults writer.new) }
+    ensures { EndsWith saved.end saved.bytes.items (K.written writer.old) (K.faults writer.old)
+        result (K.written writer.new) (K.faults writer.new) }
 {
     let Saved { bytes, end, .. } = saved;
     if let Err(fault) = send_bytes(writer, bytes.as_slice()) {
@@ -77,8 +91,7 @@ fn saved_of(alloc: Global, image: &[u8]) -> Result<Saved, Fault>
     requires { IsChipSize (length image.now) }
     ensures saves { IfOk result (λ saved. SavesFrom image.now saved.end saved.bytes.items
         saved.doubts.items) }
-    ensures damage { IfOk result (λ saved. IfErr saved.end IsDamage) }
-    ensures refused { IfErr result MoveFails }
+    ensures refused { IfErr result RescueFails }
 {
     match mounted(alloc, image) {
         Ok(bytes) => Ok(Saved {
@@ -88,6 +101,7 @@ fn saved_of(alloc: Global, image: &[u8]) -> Result<Saved, Fault>
         }),
         Err(Fault::Corrupt) => gathered(alloc, image, Fault::Corrupt),
         Err(Fault::NotFormatted) => gathered(alloc, image, Fault::NotFormatted),
+        Err(Fault::NotClean) => gathered(alloc, image, Fault::NotClean),
         Err(fault) => Err(fault),
     }
 }
@@ -109,16 +123,14 @@ fn mounted(alloc: Global, image: &[u8]) -> Result<Vec<u8>, Fault>
     }
 }
 
-/// What the slots of an image tell that a mount refuses by this fault.
-#[tactic(auto, using(crate::proofs::Opening::damage_refuses))]
+/// What the slots of an image tell whose chip is refused by this fault.
 fn gathered(alloc: Global, image: &[u8], fault: Fault) -> Result<Saved, Fault>
     requires size { IsChipSize (length image.now) }
     requires reason { IsReason fault image.now }
     requires damage { IsDamage fault }
     ensures saves { IfOk result (λ saved. SavesFrom image.now saved.end saved.bytes.items
         saved.doubts.items) }
-    ensures damage { IfOk result (λ saved. IfErr saved.end IsDamage) }
-    ensures refused { IfErr result MoveFails }
+    ensures refused { IfErr result RescueFails }
 {
     match rescue(alloc, image) {
         Ok(Rescued { sectors, doubts }) => Ok(Saved {
