@@ -8,6 +8,7 @@ import subprocess
 import unittest
 
 import kit
+import nbd
 
 BAD_LINES = """
 plain --sectors 0
@@ -90,9 +91,9 @@ BAD_WORDS = [
     ("serve a.img --bind ::1", ADDRESS), ("serve a.img --port 10809 --unix a.sock", ADDRESS),
     ("serve a.img --bind ::1 --unix a.sock", ADDRESS),
     ("serve a.img --unix=", ADDRESS), ("serve a.img --unix= --conns 2", ADDRESS),
-    ("serve a.img --port 10809 --bind localhost", "bad address: localhost is no IP address"),
-    ("serve a.img --port 10809 --bind 127.0.0.1:80", "bad address: 127.0.0.1:80 is no IP address"),
-    ("serve a.img --port 10809 --bind 1.2.3", "bad address: 1.2.3 is no IP address"),
+    ("serve a.img --port 10809 --bind localhost", "bad address: 'localhost' is no IP address"),
+    ("serve a.img --port 10809 --bind 127.0.0.1:80", "bad address: '127.0.0.1:80' is no IP address"),
+    ("serve a.img --port 10809 --bind 1.2.3", "bad address: '1.2.3' is no IP address"),
 ]
 
 
@@ -135,7 +136,7 @@ class Lines(kit.Case):
         are."""
         for line, fault in BAD_WORDS:
             self.refused(fault, *line.split(), status=2)
-        self.refused("bad address:  is no IP address", "serve", "a.img", "--port", "10809",
+        self.refused("bad address: '' is no IP address", "serve", "a.img", "--port", "10809",
                      "--bind", "", status=2)
         self.assertEqual(os.listdir(self.room), [])
 
@@ -172,15 +173,15 @@ class Lines(kit.Case):
 
     def test_what_is_no_file(self):
         """A folder, a pipe and a device are named as what they are, by each command that wants an
-        image, and none waits for a pipe's other side."""
+        image or would write a device, and none waits for a pipe's other side."""
         os.mkdir(self.path("d"))
         os.mkfifo(self.path("f"))
-        port = kit.free_port()
-        for name in ("d", "f", "/dev/null", "/dev/zero"):
-            for line in ("serve {} --unix m.sock", "serve {} --unix m.sock --read-only",
-                         "check {}", "check {} --mend", "show {}", "read {}", "write {}",
-                         "format {} --kib 64", "format {} --kib 64 --force",
-                         f"chip {{}} --port {port}"):
+        readers = ("serve {} --unix m.sock --read-only", "check {}", "show {}", "read {}",
+                   "rescue {}")
+        writers = ("serve {} --unix m.sock", "check {} --mend", "write {}", "format {} --kib 64",
+                   "format {} --kib 64 --force", f"chip {{}} --port {kit.free_port()}")
+        for name in ("d", "f"):
+            for line in (*readers, *writers):
                 self.refused(f"image failed: {name}: not a regular file",
                              *line.format(name).split(), within=20)
 
@@ -190,6 +191,41 @@ class Lines(kit.Case):
             self.refused(f"image failed: {'n' * 256}: file name too long",
                          *line.format("n" * 256).split())
 
+        for line in writers:
+            self.refused("image failed: /dev/null: not a regular file: a device is only read, "
+                         "flashrom or mtd-utils write one, a programmer serves it",
+                         *line.format("/dev/null").split())
+        for line in readers:
+            self.refused("bad image size: /dev/null: 0 bytes", *line.format("/dev/null").split())
+
+    @kit.needs("losetup")
+    def test_a_block_device(self):
+        """An image on a block device is read as its file is, and no command writes it."""
+        self.format()
+        data = b"".join(nbd.sector(number) for number in range(70))
+        self.norbd("write", "a.img", data=data)
+        made = subprocess.run(["losetup", "--find", "--show", self.path("a.img")],
+                              capture_output=True, text=True, check=False)
+        if made.returncode:
+            self.skipTest(f"no loop device can be had: {made.stderr.strip()}")
+        device = made.stdout.strip()
+        self.addCleanup(subprocess.run, ["losetup", "--detach", device], check=True)
+        before = self.bytes_of("a.img")
+        for line in ("check {}", "check {} --json", "show {}", "read {}", "read {} --sectors 3:9",
+                     "rescue {}"):
+            self.assertEqual(self.norbd(*line.format(device).split()),
+                             self.norbd(*line.format("a.img").split()), line)
+        server = self.serve(device, "--conns", "1", "--read-only")
+        with server.client() as client:
+            self.assertEqual(client.read(0, 70), data)
+            client.disc()
+        self.assertEqual(server.end().status, 0)
+        for line in ("serve {} --unix m.sock", "check {} --mend", "write {}",
+                     "format {} --kib 64 --force"):
+            self.refused(f"image failed: {device}: not a regular file: a device is only read, "
+                         "flashrom or mtd-utils write one, a programmer serves it",
+                         *line.format(device).split())
+        self.assertEqual(self.bytes_of("a.img"), before)
     def test_files_without_leave(self):
         """A file that one may not open is told as `permission denied`."""
         os.chmod(self.room, 0o755)
@@ -246,6 +282,10 @@ class Lines(kit.Case):
     def test_ports_without_leave(self):
         """A port that one may not have is told as `permission denied`."""
         with open("/proc/sys/net/ipv4/ip_unprivileged_port_start", encoding="ascii") as file:
+        if os.path.exists("/proc/net/if_inet6"):
+            self.refused(f"no socket: fe80::1 port {port}: a link-local address needs a zone, and "
+                         "none can be given", "serve", "missing.img", "--port", str(port),
+                         "--bind", "fe80::1")
             if int(file.read()) <= 80:
                 self.skipTest("everybody may have port 80 here")
         self.refused("no socket: port 80: permission denied", "serve", "missing.img", "--port",

@@ -8,9 +8,9 @@ use crate::ordered::{Barrier, Ordered, SyncHandle};
 use chip_model::is_chip_size;
 use chip_simulator::{ImageBus, SimError};
 use std::alloc::Global;
-use std::fs::{File, OpenFile, OpenOptions, TryLockError};
+use std::fs::{File, Metadata, OpenFile, OpenOptions, TryLockError};
 use std::io::ErrorKind;
-use std::os::unix::fs::{FileExt, MetadataExt};
+use std::os::unix::fs::{FileExt, FileTypeExt, MetadataExt};
 use std::rt::Files;
 use std::{fs, io};
 
@@ -73,8 +73,8 @@ where
     hold_by(rt, path, true)
 }
 
-/// As `hold`, of a file that this process may not write, or that it is not to write: every write of
-/// it fails.
+/// As `hold`, of a file or a device that this process may not write, or that it is not to write:
+/// every write of it fails.
 pub fn hold_to_read<R>(rt: &R, path: &str) -> Result<Held<R::File>, ImageError>
 where
     R: Files,
@@ -82,6 +82,34 @@ where
     ensures { IfErr result ComesOfHolding }
 {
     hold_by(rt, path, false)
+}
+
+/// Whether what is at a path may be an image: a regular file, or a device that is only to be read.
+/// Writing one takes erasing it, which a file needs not.
+fn admit(found: &Metadata, writes: bool) -> Result<(), ImageError>
+    ensures { IfErr result ComesOfHolding }
+{
+    if found.is_file() {
+        return Ok(());
+    }
+    let kind = found.file_type();
+    if writes || !(kind.is_block_device() || kind.is_char_device()) {
+        return Err(ImageError::NotAFile);
+    }
+    Ok(())
+}
+
+/// How many bytes can be read of a device, which has no length of its own: up to 2^48 - 1, by the
+/// last of them that there is.
+fn device_len<F: FileExt>(device: &F) -> io::Result<u64> {
+    let mut length = 0u64;
+    for power in (0..48u32).rev() {
+        let longer = length.saturating_add(1u64 << power);
+        if device.read_at(&mut [0], longer - 1)? == 1 {
+            length = longer;
+        }
+    }
+    Ok(length)
 }
 
 /// Opens the file at a path to read it, and to write it too where `writes` is set, and takes its
@@ -93,9 +121,7 @@ where
     ensures { IfErr result ComesOfHolding }
 {
     match fs::metadata(rt, path) {
-        Ok(found) => if !found.is_file() {
-            return Err(ImageError::NotAFile);
-        },
+        Ok(found) => admit(&found, writes)?,
         Err(error) => return Err(fault_from(error)),
     }
     let file = match OpenOptions::new().read(true).write(writes).open(rt, path) {
@@ -124,9 +150,14 @@ impl<F: OpenFile + FileExt + Drop> Held<F> {
     ghost use Rattle.chip_simulator.specs.Image.{image_broken, image_chip, image_cuts};
     ghost use Rattle.chip_simulator.specs.Sim.{fresh_chip};
 
-    /// The length of the file in bytes, where the system tells it.
+    /// The length of the file in bytes, where the system tells it; of a device how many bytes of it
+    /// can be read.
     pub fn length(&self) -> io::Result<u64> {
-        Ok(self.file.metadata()?.len())
+        let found = self.file.metadata()?;
+        if found.is_file() {
+            return Ok(found.len());
+        }
+        device_len(&self.file)
     }
 
     /// The block in which the file's system writes it to the disk of this machine, in bytes, where

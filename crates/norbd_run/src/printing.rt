@@ -8,6 +8,7 @@ use sector_survey::Verdict;
 use serprog_link::programmer_of;
 use std::fmt;
 use std::io::ErrorKind;
+use std::net::Ipv6Addr;
 use std::rt::Files;
 
 /// Why standard output failed: it was closed before the start, or the system's answer.
@@ -70,6 +71,10 @@ where
         Err(_) => None,
     }
 }
+
+/// What is done with a device that a command would have written.
+const DEVICE: &str =
+    "a device is only read, flashrom or mtd-utils write one, a programmer serves it";
 
 /// What a fault is about.
 #[derive(Clone, Copy)]
@@ -135,6 +140,17 @@ fn bind_of<'l>(line: Option<Line<'l>>) -> Option<&'l str> {
             Place::Unix(_) => None,
         },
         _ => None,
+    }
+}
+
+/// Whether a text is a link-local address of IPv6, which is one of a zone. Source: RFC 4007, 6.
+fn is_link_local(text: Option<&str>) -> bool {
+    let Some(text) = text else {
+        return false;
+    };
+    match text.parse::<Ipv6Addr>() {
+        Ok(address) => address.is_unicast_link_local(),
+        Err(_) => false,
     }
 }
 
@@ -218,8 +234,18 @@ impl Telling<'_, '_> {
         };
         match (unreached, image_of(self.line)) {
             (Some(kind), Subject::Path(name)) => write_unreached(f, name, kind),
+            (None, Subject::Path(name)) if cause == Cause::NotAFile && name.starts_with("/dev/") =>
+                { write!(f, ": {cause}: {DEVICE}") }
             _ => write!(f, ": {cause}"),
         }
+    }
+
+    /// Why the place can't be had.
+    fn write_refusal<W: fmt::Write>(&self, f: &mut fmt::Formatter<W>, cause: Cause) -> fmt::Result {
+        if cause == Cause::System(ErrorKind::InvalidInput) && is_link_local(bind_of(self.line)) {
+            return f.write_str(": a link-local address needs a zone, and none can be given");
+        }
+        write!(f, ": {cause}")
     }
 
     /// Why standard output failed.
@@ -241,12 +267,12 @@ impl fmt::Display for Telling<'_, '_> {
         self.write_subject(f)?;
         match self.fault {
             Fault::ImageFailed(cause) => self.write_cause(f, *cause),
-            Fault::NoSocket(cause) => write!(f, ": {cause}"),
+            Fault::NoSocket(cause) => self.write_refusal(f, *cause),
             Fault::BadImageSize(length) => write!(f, ": {length} bytes"),
             Fault::BadSync => f.write_str(": flush, never or always"),
             Fault::BadTidy => f.write_str(": lazy or eager"),
             Fault::BadAddress => match bind_of(self.line) {
-                Some(bind) => write!(f, ": {bind} is no IP address"),
+                Some(bind) => write!(f, ": '{bind}' is no IP address"),
                 None => f.write_str(": --port P [--bind IP], or --unix PATH"),
             },
             Fault::Formatted => f.write_str(": --force replaces it"),
