@@ -131,6 +131,13 @@ class Lines(kit.Case):
             self.assertEqual((done.returncode, done.stdout), (2, b""))
             self.assertIn(b"Usage: norbd <COMMAND>", done.stderr)
 
+    def test_a_command_version(self):
+        """Who types `version` is told of the option."""
+        done = self.run_norbd("version")
+        self.assertEqual((done.status, done.out), (2, b""))
+        self.assertIn("unrecognized subcommand", done.fault)
+        self.assertTrue(done.fault.endswith("\nnorbd: --version tells it\n"), done.fault)
+
     def test_bad_words(self):
         """A word that is none of an option's ends with status 2, and is told with those that
         are."""
@@ -184,13 +191,6 @@ class Lines(kit.Case):
             for line in (*readers, *writers):
                 self.refused(f"image failed: {name}: not a regular file",
                              *line.format(name).split(), within=20)
-
-    def test_names_that_are_too_long(self):
-        """A name of more than 255 bytes is too long for the system, and told so."""
-        for line in ("check {}", "read {}", "format {} --kib 64"):
-            self.refused(f"image failed: {'n' * 256}: file name too long",
-                         *line.format("n" * 256).split())
-
         for line in writers:
             self.refused("image failed: /dev/null: not a regular file: a device is only read, "
                          "flashrom or mtd-utils write one, a programmer serves it",
@@ -226,6 +226,13 @@ class Lines(kit.Case):
                          "flashrom or mtd-utils write one, a programmer serves it",
                          *line.format(device).split())
         self.assertEqual(self.bytes_of("a.img"), before)
+
+    def test_names_that_are_too_long(self):
+        """A name of more than 255 bytes is too long for the system, and told so."""
+        for line in ("check {}", "read {}", "format {} --kib 64"):
+            self.refused(f"image failed: {'n' * 256}: file name too long",
+                         *line.format("n" * 256).split())
+
     def test_files_without_leave(self):
         """A file that one may not open is told as `permission denied`."""
         os.chmod(self.room, 0o755)
@@ -275,6 +282,10 @@ class Lines(kit.Case):
         port = kit.free_port()
         self.refused(f"no socket: 192.0.2.1 port {port}: address not available", "serve",
                      "missing.img", "--port", str(port), "--bind", "192.0.2.1")
+        if os.path.exists("/proc/net/if_inet6"):
+            self.refused(f"no socket: fe80::1 port {port}: a link-local address needs a zone, and "
+                         "none can be given", "serve", "missing.img", "--port", str(port),
+                         "--bind", "fe80::1")
         for bind in ("127.0.0.1", "0.0.0.0", "::"):
             self.refused("image failed: missing.img: no such file or directory", "serve", "missing.img",
                          "--port", str(port), "--bind", bind)
@@ -282,10 +293,6 @@ class Lines(kit.Case):
     def test_ports_without_leave(self):
         """A port that one may not have is told as `permission denied`."""
         with open("/proc/sys/net/ipv4/ip_unprivileged_port_start", encoding="ascii") as file:
-        if os.path.exists("/proc/net/if_inet6"):
-            self.refused(f"no socket: fe80::1 port {port}: a link-local address needs a zone, and "
-                         "none can be given", "serve", "missing.img", "--port", str(port),
-                         "--bind", "fe80::1")
             if int(file.read()) <= 80:
                 self.skipTest("everybody may have port 80 here")
         self.refused("no socket: port 80: permission denied", "serve", "missing.img", "--port",

@@ -182,6 +182,15 @@ fn refuse(rt: &HostRuntime, fault: Fault, closed: bool) -> ExitCode {
     exit_code(&Err(fault))
 }
 
+/// Tells what is meant by a command `version`, which other programs have.
+fn advise(rt: &HostRuntime, words: &[String]) {
+    if let Some(word) = words.get(1) {
+        if word.as_str() == "version" {
+            let _ = eprintln!(rt; "norbd: --version tells it");
+        }
+    }
+}
+
 fn main(rt: HostRuntime) -> ExitCode {
     let Ok(standard) = hold_standard(&mut Null { rt: &rt }) else {
         return refuse(&rt, Fault::OutputFailed, false);
@@ -192,7 +201,11 @@ fn main(rt: HostRuntime) -> ExitCode {
     };
     let line = match read_line(rt.alloc(), words.as_slice()) {
         Ok(line) => line,
-        Err(fault) => return refuse(&rt, fault, standard.lacks_output()),
+        Err(fault) => {
+            let code = refuse(&rt, fault, standard.lacks_output());
+            advise(&rt, words.as_slice());
+            return code;
+        }
     };
     let closed = standard.lacks_output() && is_for_output(line);
     let mut output = Output::new(rt.stdout(), closed);
