@@ -1,0 +1,3 @@
+pub mod Taping
+pub mod Playing
+pub mod Handing
