@@ -5,7 +5,7 @@ use Rattle.chip_model.specs.Memory.{byte}
 use Rattle.block_device.specs.Facts.{Facts, CountsNeverFall}
 use Rattle.std.specs.Prelude.{slice_set}
 use Rattle.std.proofs.lemmas.List.{get_or-set_same, get_or-set_other}
-use Rattle.page.specs.Story.{Does, Story, power_after, power_at, step_at}
+use Rattle.page.specs.Story.{StepDoes, Story, power_after, power_at, step_at}
 use Rattle.page.specs.Steps.{PlaysStep, is_unarmed}
 use Rattle.page.specs.declared.step.Step.{Step}
 use Rattle.page.specs.declared.step.Power.{Power}
@@ -24,7 +24,7 @@ not_off false e = absurd (cc e)
 is_lost : (s : Step) (p : Power) → is_unarmed s 76 p ≡ false → (p.armed ≡ true) ⊎ ((p.on ≡ false) × (s.what ≢ 82))
 is_lost s p e = elim (unarmed_not p.armed p.on (s.what == 82) e) [ inl h ↦ inl h | inr h ↦ inr (h.0, λ is. eqb-false s.what 82 h.1 is) ]
 
-pub does_of : (s : Step) (a : ℕ) (p : Power) (f f' : Facts) → a ≢ 69 → is_unarmed s a p ≡ false → p.on ≡ not f.cut → PlaysStep s a f f' → Does s a p f.contents f'.contents
+pub does_of : (s : Step) (a : ℕ) (p : Power) (f f' : Facts) → a ≢ 69 → is_unarmed s a p ≡ false → p.on ≡ not f.cut → PlaysStep s a f f' → StepDoes s a p f.contents f'.contents
 does_of s a p f f' quick asked on plays = record {
   answers = elim plays.answers [ inl h ↦ inl h | inr h ↦ elim h [ inl i ↦ inr (inl i) | inr i ↦ elim i [ inl j ↦ inr (inr j) | inr j ↦ absurd (quick j) ] ] ];
   unknown = plays.unknown;
@@ -54,8 +54,8 @@ story_same first script a b zero c same s = s
 story_same first script a b (suc k) c same s = (
   s.0,
   story_same first script a b k s.0 (λ i low. same i (omega (arith, low))) s.1,
-  subst (λ p. Does (step_at script k) (byte b k) p s.0 c) (sym (power_same script a b k (λ i low. same i (omega (arith, low)))))
-      (subst (λ x. Does (step_at script k) x (power_at script a k) s.0 c) (sym (same k (omega arith))) s.2),
+  subst (λ p. StepDoes (step_at script k) (byte b k) p s.0 c) (sym (power_same script a b k (λ i low. same i (omega (arith, low)))))
+      (subst (λ x. StepDoes (step_at script k) x (power_at script a k) s.0 c) (sym (same k (omega arith))) s.2),
 )
 
 pub story_start : (first script answers : List ℕ) → Story first script answers 0 first
@@ -66,15 +66,15 @@ set_below : (answers : List ℕ) (k x : ℕ) → (i : ℕ) → i < k → byte (s
 set_below answers k x i less = get_or-set_other answers k i x 0 (λ is. absurd (omega (arith, less, is)))
 
 pub story_step : (first script answers : List ℕ) (k x : ℕ) (c c' : List ℕ) → k < length answers → Story first script answers k c
-    → Does (step_at script k) x (power_at script answers k) c c' → Story first script (slice_set answers k x) (k + 1) c'
+    → StepDoes (step_at script k) x (power_at script answers k) c c' → Story first script (slice_set answers k x) (k + 1) c'
 unfolding Story
 story_step first script answers k x c c' low s d =
     let e : suc k ≡ k + 1 = omega arith in
     subst (λ n. Story first script (slice_set answers k x) n c') e (
       c,
       story_same first script answers (slice_set answers k x) k c (set_below answers k x) s,
-      subst (λ p. Does (step_at script k) (byte (slice_set answers k x) k) p c c') (sym (power_same script answers (slice_set answers k x) k (set_below answers k x)))
-          (subst (λ y. Does (step_at script k) y (power_at script answers k) c c') (sym (get_or-set_same answers k x 0 low)) d),
+      subst (λ p. StepDoes (step_at script k) (byte (slice_set answers k x) k) p c c') (sym (power_same script answers (slice_set answers k x) k (set_below answers k x)))
+          (subst (λ y. StepDoes (step_at script k) y (power_at script answers k) c c') (sym (get_or-set_same answers k x 0 low)) d),
     )
 
 pub power_step : (script answers : List ℕ) (k x : ℕ) → k < length answers

@@ -8,7 +8,7 @@ use Rattle.chip_model.specs.Cut.{Loses, falls, was_off, PowersOn}
 use Rattle.chip_simulator.specs.Plan.{one_frame_less, strikes}
 use Rattle.chip_simulator.specs.Simulated.{is_accepted}
 use Rattle.chip_simulator.specs.Sim.{fresh_chip}
-use Rattle.page.specs.Tape.{Bus, Run, Happens, lost, off, row_put, shown}
+use Rattle.page.specs.Tape.{Bus, Run, Happens, lost, off, row_put, row_shown}
 
 is_empty : (xs : List ℕ) → length xs ≡ 0 → xs ≡ []
 is_empty [] e = refl
@@ -89,7 +89,7 @@ true_unless true n = refl
 true_unless false n = n refl
 
 -- a frame that wasn't answered
-pub not_answered : (sent row : List ℕ) (old new : Bus) (cuts cuts' : ℕ) → row ≡ shown sent [] 1 → Loses old.chip cuts sent new.chip cuts'
+pub not_answered : (sent row : List ℕ) (old new : Bus) (cuts cuts' : ℕ) → row ≡ row_shown sent [] 1 → Loses old.chip cuts sent new.chip cuts'
     → (old.chip.powered ≡ true → strikes old.armed (is_accepted old.chip sent) ≡ false → false ≡ true)
     → (old.chip.powered ≡ true → new.armed ≡ one_frame_less old.armed (is_accepted old.chip sent))
     → (old.chip.powered ≡ false → new.armed ≡ old.armed) → Happens row old new

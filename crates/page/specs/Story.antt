@@ -1,6 +1,7 @@
 -- What a script leaves of the sectors of a small chip, by the answers of its steps. Source: own.
 use Rattle.std.specs.Prelude.{◌≡◌, ◌≢◌, ◌⊎◌, ℕ, zero, suc, ◌+◌, ◌*◌, ◌≤◌, ◌==◌, ◌&&◌, ◌||◌}
-use Rattle.std.specs.Prelude.{if◌then◌else◌, not, nat_lt, nat_le, Bool, true, false, List, length, replicate}
+use Rattle.std.specs.Prelude.{if◌then◌else◌, not, nat_lt, nat_le, Bool, true, false, List, length}
+use Rattle.std.specs.Prelude.{replicate}
 use Rattle.chip_model.specs.Memory.{byte}
 use Rattle.block_device.specs.Contents.{replaced, Outcome}
 use Rattle.flash_disk.specs.Contents.{contents_of}
@@ -49,9 +50,9 @@ power_at script answers zero = record { on = true; armed = false }
 power_at script answers (suc k) =
     power_after (step_at script k) (byte answers k) (power_at script answers k)
 
--- What a step does, by its answer. 65 `A`: it is done. 76 `L`: the power was lost in it, or was off:
+-- What a step does, by its answer. 65 `A`: it is done. 76 `L`: the power was lost in it, or off:
 -- each sector is wholly as it was, or wholly as it was meant. 66 `B`: nothing changed.
-pub record Does (s : Step) (answer : ℕ) (p : Power) (c c' : List ℕ) : Type 0 where
+pub record StepDoes (s : Step) (answer : ℕ) (p : Power) (c c' : List ℕ) : Type 0 where
   pub answers : (answer ≡ 65) ⊎ (answer ≡ 76) ⊎ (answer ≡ 66)
   -- `B` exactly where there is no such step or sector
   pub unknown : is_playable s ≡ false → answer ≡ 66
@@ -69,7 +70,7 @@ pub record Does (s : Step) (answer : ℕ) (p : Power) (c c' : List ℕ) : Type 0
 unfoldable pub Story : List ℕ → List ℕ → List ℕ → ℕ → List ℕ → Type 0
 Story first script answers zero c = c ≡ first
 Story first script answers (suc k) c = (before : List ℕ) × Story first script answers k before
-    × Does (step_at script k) (byte answers k) (power_at script answers k) before c
+    × StepDoes (step_at script k) (byte answers k) (power_at script answers k) before c
 
 -- the buffers have the lengths of a script of at most 4,096 steps, of its answers, of a chip of 64
 -- KiB, of its sectors, and of 65,536 rows
@@ -78,10 +79,10 @@ has_lengths script answers image contents frames = (length script == 8 * length 
     && nat_le (length answers) 4096
     && (length image == 65536) && (length contents == 35840) && (length frames == 524288)
 
--- What is handed out of a script that was played on a new chip, whose 70 sectors are zeros: what its
--- memory represents is what the story of all steps leaves; the sectors were read where the power
--- was on in the end, and are those; the rows, where there was room for them, are a run of the chip
--- to this memory.
+-- What is handed out of a script that was played on a new chip, whose 70 sectors are zeros: its
+-- memory represents what the story of all steps leaves; the sectors were read where the power was
+-- on in the end, and are those; the rows, where there was room for them, are a run of the chip to
+-- this memory.
 pub record Plays (script answers image contents frames : List ℕ) (rows read : ℕ) : Type 0 where
   pub story : Story (replicate 35840 0) script answers (length answers) (contents_of image)
   pub is_read : read ≡ (if (power_at script answers (length answers)).on then 1 else 0)

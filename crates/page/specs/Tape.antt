@@ -1,5 +1,5 @@
--- What went over the bus of a simulated chip, a row of eight bytes for each frame. Source: own, over
--- the frames of `chip_model` and the losses of `chip_simulator`.
+-- What went over the bus of a simulated chip, a row of eight bytes for each frame. Source: own,
+-- over the frames of `chip_model` and the losses of `chip_simulator`.
 use Rattle.std.specs.Prelude.{◌≡◌, ℕ, zero, suc, ◌+◌, ◌-◌, ◌*◌, true, false, List, [], ◌∷◌, ◌++◌}
 use Rattle.std.specs.Prelude.{length, take, drop, min, replicate}
 use Rattle.chip_model.specs.Memory.{byte}
@@ -23,8 +23,8 @@ bus_of s = record { chip = chip_of s; armed = armed_of s }
 -- The row of a frame: its instruction and the three bytes behind it (0 where there are none), how
 -- many bytes were sent and how many received (255 where there are more), the last one that was
 -- received, and 1 where the frame wasn't answered.
-abbrev pub shown : List ℕ → List ℕ → ℕ → List ℕ
-shown sent received lost =
+abbrev pub row_shown : List ℕ → List ℕ → ℕ → List ℕ
+row_shown sent received lost =
     byte sent 0 ∷ byte sent 1 ∷ byte sent 2 ∷ byte sent 3 ∷ min (length sent) 255
     ∷ min (length received) 255 ∷ byte received (length received - 1) ∷ lost ∷ []
 
@@ -39,14 +39,14 @@ arming count kind mask = 0 ∷ kind ∷ mask ∷ min count 255 ∷ 0 ∷ 0 ∷ 0
 -- What a row says. A frame that was answered is one of the chip's model. One that wasn't lost its
 -- power inside it, where a loss was armed for it, or found the power off and changed nothing.
 pub data Happens (row : List ℕ) (old new : Bus) : Type 0 where
-  answered : (sent received : List ℕ) → row ≡ shown sent received 0
+  answered : (sent received : List ℕ) → row ≡ row_shown sent received 0
       → Frame old.chip sent received new.chip
       → new.armed ≡ one_frame_less old.armed (is_accepted old.chip sent) → Happens row old new
-  lost : (sent : List ℕ) → row ≡ shown sent [] 1
+  lost : (sent : List ℕ) → row ≡ row_shown sent [] 1
       → strikes old.armed (is_accepted old.chip sent) ≡ true
       → CutInside old.chip sent new.chip
       → new.armed ≡ one_frame_less old.armed (is_accepted old.chip sent) → Happens row old new
-  off : (sent : List ℕ) → row ≡ shown sent [] 1 → old.chip.powered ≡ false
+  off : (sent : List ℕ) → row ≡ row_shown sent [] 1 → old.chip.powered ≡ false
       → new.chip ≡ old.chip → new.armed ≡ old.armed → Happens row old new
   turned_on : row ≡ turning_on → PowersOn old.chip 0 new.chip 0 → new.armed ≡ old.armed
       → Happens row old new

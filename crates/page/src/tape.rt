@@ -3,7 +3,7 @@
 ghost use Rattle.std.specs.Prelude.{◌≡◌, ◌+◌, ◌*◌, ◌-◌, ◌<◌, ◌≤◌, ◌++◌, ℕ, [], length, take, drop};
 ghost use Rattle.std.specs.Prelude.{get_or, min};
 ghost use Rattle.chip_model.specs.Memory.{byte};
-ghost use Rattle.page.specs.Tape.{arming, bus_of, row_put, Run, shown};
+ghost use Rattle.page.specs.Tape.{arming, bus_of, row_put, Run, row_shown};
 
 use chip_model::{PowerLost, SpiBus};
 use chip_simulator::PromptChip;
@@ -54,7 +54,7 @@ fn short(len: usize) -> u8
 
 /// The row of a frame.
 fn row_of(send: &[u8], recv: &[u8], lost: u8) -> [u8; 8]
-    ensures { result ≡ shown send.now recv.now lost }
+    ensures { result ≡ row_shown send.now recv.now lost }
 {
     [
         byte_or_zero(send, 0),

@@ -1,7 +1,7 @@
 use Rattle.std.proofs.Common.{◌≡◌, ◌≢◌, ◌∙◌, ◌<◌, refl, ap, sym, subst, arith, length, not, false}
 use Rattle.std.proofs.lemmas.List.{length-set}
 use Rattle.block_device.specs.Facts.{Facts}
-use Rattle.page.specs.Story.{Does, power_after, step_at}
+use Rattle.page.specs.Story.{StepDoes, power_after, step_at}
 use Rattle.page.specs.Steps.{PlaysStep, is_unarmed}
 use Rattle.page.specs.declared.step.Step.{Step}
 use Rattle.page.specs.declared.step.Power.{Power}
@@ -52,7 +52,7 @@ loop-k-preserved g c =
       sound = plays.sound quick;
       quick = plays.quick quick;
       story = story_step (facts c.args.disk.now).contents script c.loop-k.answers c.loop-k.k answer old.contents new.contents low inv.story
-          (subst (λ p. Does step answer p old.contents new.contents) inv.power does);
+          (subst (λ p. StepDoes step answer p old.contents new.contents) inv.power does);
       power = after ∙ (ap (λ p. power_after step answer p) inv.power ∙ power_step script c.loop-k.answers c.loop-k.k answer low);
       on = ap (λ (p : Power). p.on) after ∙ on_after step answer c.loop-k.power old new quick inv.on plays;
       long = length-set c.loop-k.answers c.loop-k.k answer ∙ inv.long;
