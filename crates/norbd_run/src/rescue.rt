@@ -7,7 +7,8 @@ ghost use Rattle.norbd_run.specs.Opening.{IsReason};
 ghost use Rattle.norbd_run.specs.Rescuing.{IsDamage, RescueTells, SavesFrom};
 ghost use Rattle.sector_map.specs.Maps.{IsMountable};
 
-use crate::image_disk::{bytes_of, hold_image};
+use crate::image_disk::hold_image;
+use crate::image_log::looked_through;
 use crate::progress::Screen;
 use crate::read::{sectors_of_image, send_bytes};
 use block_device::Sink;
@@ -42,7 +43,7 @@ where
         (K.written writer.new) (K.faults writer.new) }
 {
     let held = hold_image(rt, path, false)?;
-    let image = bytes_of(rt, &held)?;
+    let image = looked_through(rt, path, &held)?.bytes;
     let saved = saved_of(rt.alloc(), image.as_slice())?;
     tell_doubts(rt, image.as_slice(), saved.doubts.as_slice());
     write_saved(saved, writer)
