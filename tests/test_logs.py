@@ -244,6 +244,15 @@ class Logs(kit.Case):
         self.put("a.img.log", log)
         self.assertEqual(self.sector(9), nbd.sector(9))
 
+    def test_a_head_without_records_belongs_to_any_image(self):
+        """So an image may be replaced whose server was stopped when all was settled."""
+        other = with_sectors(1)
+        self.put("a.img", other)
+        self.put("a.img.log", log_of(kit.formatted()))
+        self.assertEqual(self.check()["log_bytes"], 0)
+        self.serve().kill()
+        self.assertEqual(self.sector(1), nbd.sector(1))
+
     def test_a_file_that_is_no_log(self):
         """It is refused by name, and never changed; `format` leaves it too."""
         image = bytes(kit.formatted())

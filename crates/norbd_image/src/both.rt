@@ -1,9 +1,14 @@
 //! What an image and the log beside it hold, and the end of the log in the image.
 
-ghost use Rattle.std.specs.Prelude.{length, IfOk};
-ghost use Rattle.chip_model.specs.Geometry.{IsChipSize};
+ghost use Rattle.std.specs.Prelude.{◌≡◌, IfOk, None, length};
+ghost use Rattle.block_device.specs.Facts.{IsDiskReady};
+ghost use Rattle.chip_model.specs.Geometry.{IsChipSize, sector_count};
+ghost use Rattle.disk_log.specs.Logs.{contents_in};
+ghost use Rattle.flash_disk.specs.Contents.{contents_of};
+ghost use Rattle.norbd_image.specs.Both.{IsOwn, with_changes};
 
 use crate::memory::MemoryDisk;
+use block_device::Disk;
 use chip_model::Geometry;
 use chip_simulator::PromptChip;
 use disk_log::{Found, ImageFiles, LoggedDisk, Refusal, Sum, read_log, replay, take_up};
@@ -45,6 +50,7 @@ impl From<AllocError> for LogError {
 /// How many sectors a chip of so many bytes has.
 fn sectors_of(image: &[u8]) -> u32
     requires { IsChipSize (length image.now) }
+    ensures { result ≡ sector_count (length image.now) }
 {
     let Some(chip) = Geometry::of(image.len() as u32) else {
         unreachable!()
@@ -59,6 +65,11 @@ fn replayed(
     log: &[u8],
 ) -> Result<FlashDisk<PromptChip, Brand>, LogError>
     requires { IsChipSize (length image.items) }
+    ensures holds { IfOk result (λ disk. (⟦<FlashDisk<PromptChip, Brand> as Disk>⟧.facts
+        disk).contents ≡ with_changes (sector_count (length image.items)) log.now
+        (contents_of image.items)) }
+    ensures ready { IfOk result (λ disk.
+        IsDiskReady (⟦<FlashDisk<PromptChip, Brand> as Disk>⟧.facts disk)) }
 {
     let Ok(chip) = PromptChip::new(image) else {
         unreachable!()
@@ -81,20 +92,24 @@ fn told_of_refusal(refusal: Refusal) -> LogError {
     }
 }
 
-/// The bytes of the chip that an image and the log beside it hold.
+/// The bytes of the chip that an image and the log beside it hold: the disk that they represent is
+/// that of the image, with the changes of the log. One that has none is nobody's.
 pub fn chip_in(alloc: Global, image: Vec<u8>, log: &[u8]) -> Result<Vec<u8>, LogError>
-    requires { IsChipSize (length image.items) }
+    requires size { IsChipSize (length image.items) }
     ensures size { IfOk result (λ chip. IsChipSize (length chip.items)) }
+    ensures holds { IfOk result (λ chip. contents_of chip.items
+        ≡ contents_in contents_of (sector_count (length image.items)) image.items log.now) }
+    ensures own { IfOk result (λ _.
+        IsOwn (sector_count (length image.items)) image.items log.now) }
 {
+    if log.len() <= LOG_HEAD_LEN {
+        return Ok(image);
+    }
     let mut image = image;
     match read_log(sectors_of(image.as_slice()), image.as_mut_slice(), log) {
         Ok(Found::Nothing) => Ok(image),
         Ok(Found::Checkpoint { .. }) => Ok(image),
-        Ok(Found::Records { len, .. }) => if len <= LOG_HEAD_LEN {
-            Ok(image)
-        } else {
-            Ok(replayed(alloc, image, log)?.into_inner().into_inner())
-        },
+        Ok(Found::Records { .. }) => Ok(replayed(alloc, image, log)?.into_inner().into_inner()),
         Err(refusal) => Err(told_of_refusal(refusal)),
     }
 }
@@ -106,8 +121,12 @@ pub fn settle_log<F: ImageFiles + Drop>(
     image: Vec<u8>,
     log: &[u8],
 ) -> Result<(), LogError>
-    requires { IsChipSize (length image.items) }
+    requires size { IsChipSize (length image.items) }
+    requires files { F.medium files ≡ None }
 {
+    if log.len() <= LOG_HEAD_LEN {
+        return Ok(());
+    }
     let (mut files, mut image) = (files, image);
     let sectors = sectors_of(image.as_slice());
     let found = match read_log(sectors, image.as_mut_slice(), log) {
@@ -132,7 +151,9 @@ pub fn settle_log<F: ImageFiles + Drop>(
 
 /// Begins the empty log of an image with these bytes: the sum on which its first record goes on.
 pub fn begin_log<F: ImageFiles>(files: &mut F, image: &[u8]) -> io::Result<Sum>
-    requires { IsChipSize (length image.now) }
+    requires size { IsChipSize (length image.now) }
+    requires files { F.medium files.old ≡ None }
+    ensures { F.medium files.new ≡ None }
 {
     take_up(files, sectors_of(image), image, &[], Found::Nothing)
 }

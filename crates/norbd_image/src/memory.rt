@@ -32,13 +32,17 @@ pub struct MemoryDisk<B: MemoryBus, P: Provenance> {
 impl<B: MemoryBus, P: Provenance> MemoryDisk<B, P> {
     /// The disk.
     pub fn new(disk: FlashDisk<B, P>) -> MemoryDisk<B, P>
-        ensures { result.disk ≡ disk }
+        ensures { ⟦<MemoryDisk<B, P> as Disk>⟧.facts result ≡ ⟦<FlashDisk<B, P> as Disk>⟧.facts disk }
     {
         MemoryDisk { disk }
     }
 }
 
 impl<B: MemoryBus, P: Provenance> ImageDisk for MemoryDisk<B, P> {
+    ghost use Rattle.flash_disk.specs.Contents.{contents_of};
+
+    ghost represents = { contents_of };
+
     fn image(&self) -> &[u8] {
         self.disk.get_ref().memory()
     }

@@ -124,6 +124,19 @@ impl Host {
         self.fails = Some(failing);
     }
 
+    /// Calls fail after so many more.
+    pub(crate) fn fail_in(&mut self, calls: u32, bytes: usize) {
+        self.fails = Some(Failing {
+            call: self.calls.saturating_add(calls),
+            bytes,
+        });
+    }
+
+    /// Syncs the log, as for a FLUSH.
+    pub(crate) fn flush(&mut self) -> Result<(), AllocError> {
+        self.log.sync(self.alloc)
+    }
+
     /// From now on it may lose its power.
     pub(crate) fn lose(&mut self, seed: u64) {
         self.losses = Some(Dice::new(seed));
