@@ -14,7 +14,7 @@ pub trait MemoryBus: SpiBus {
 
     /// The memory of the chip.
     fn memory(&self) -> &[u8]
-        ensures { result.now ≡ (chip self.now).memory };
+        ensures { result.now ≡ (Self.chip self.now).memory };
 }
 
 impl MemoryBus for PromptChip {
