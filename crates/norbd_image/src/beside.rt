@@ -141,15 +141,24 @@ impl<F: OpenFile + FileExt> ImageFiles for FileImages<F> {
     }
 
     fn sync_log(&mut self) -> io::Result<()> {
-        if self.syncs { self.log.sync_data() } else { Ok(()) }
+        if self.syncs {
+            self.log.sync_data()
+        } else {
+            Ok(())
+        }
     }
 
     fn write_block(&mut self, block: u32, bytes: &[u8]) -> io::Result<()> {
-        self.image.write_all_at(bytes, BLOCK_LEN as u64 * block as u64)
+        self.image
+            .write_all_at(bytes, BLOCK_LEN as u64 * block as u64)
     }
 
     fn sync_image(&mut self) -> io::Result<()> {
-        if self.syncs { self.image.sync_data() } else { Ok(()) }
+        if self.syncs {
+            self.image.sync_data()
+        } else {
+            Ok(())
+        }
     }
 
     fn cut_log(&mut self, len: usize) -> io::Result<()> {

@@ -1,6 +1,6 @@
 //! What an image and the log beside it hold, and the end of the log in the image.
 
-ghost use Rattle.std.specs.Prelude.{◌≡◌, IfOk, None, length};
+ghost use Rattle.std.specs.Prelude.{◌≡◌, ◌<◌, IfOk, None, length};
 ghost use Rattle.block_device.specs.Facts.{IsDiskReady};
 ghost use Rattle.chip_model.specs.Geometry.{IsChipSize, sector_count};
 ghost use Rattle.disk_log.specs.Logs.{contents_in};
@@ -16,7 +16,7 @@ use flash_disk::{FlashDisk, MountError};
 use std::alloc::{AllocError, Global};
 use std::io;
 use std::marker::Brand;
-use std::sync::ledger::Blank;
+use std::sync::ledger::{Blank, Ledger};
 
 /// The length of a log's head in bytes.
 pub const LOG_HEAD_LEN: usize = 16;
@@ -142,7 +142,27 @@ pub fn settle_log<F: ImageFiles + Drop>(
     }
     let copy = image.as_slice().to_vec(alloc)?;
     let disk = MemoryDisk::new(replayed(alloc, copy, log)?);
-    let mut logged = LoggedDisk::<_, _, Brand>::new(alloc, disk, files, image, sum, Blank::new(1));
+    settle_disk::<_, Brand>(alloc, disk, files, image, sum, Blank::new(1))
+}
+
+/// A disk on a chip in memory.
+type InMemory = MemoryDisk<PromptChip, Brand>;
+
+/// Settles the log of a disk whose image has these bytes on its file; `L` names what is lost.
+fn settle_disk<F: ImageFiles + Drop, L: Ledger>(
+    alloc: Global,
+    disk: InMemory,
+    files: F,
+    image: Vec<u8>,
+    sum: Sum,
+    blank: Blank,
+) -> Result<(), LogError>
+    requires name { (blank.name ≡ L.name) × (blank.parts ≡ L.parts) × (0 < L.parts) }
+    requires ready { IsDiskReady (⟦<InMemory as Disk>⟧.facts disk) }
+    requires size { IsChipSize (length image.items) }
+    requires files { F.medium files ≡ None }
+{
+    let mut logged = LoggedDisk::<_, _, L>::new(alloc, disk, files, image, sum, blank);
     match logged.settle() {
         Ok(()) => Ok(()),
         Err(_) => Err(LogError::Failed),

@@ -32,7 +32,8 @@ pub struct MemoryDisk<B: MemoryBus, P: Provenance> {
 impl<B: MemoryBus, P: Provenance> MemoryDisk<B, P> {
     /// The disk.
     pub fn new(disk: FlashDisk<B, P>) -> MemoryDisk<B, P>
-        ensures { ⟦<MemoryDisk<B, P> as Disk>⟧.facts result ≡ ⟦<FlashDisk<B, P> as Disk>⟧.facts disk }
+        ensures { ⟦<MemoryDisk<B, P> as Disk>⟧.facts result
+            ≡ ⟦<FlashDisk<B, P> as Disk>⟧.facts disk }
     {
         MemoryDisk { disk }
     }

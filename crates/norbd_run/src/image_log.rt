@@ -78,7 +78,11 @@ where
 {
     let image = bytes_of(rt, held)?;
     let log = log_of(rt, path)?;
-    let log_len = if log.len() <= LOG_HEAD_LEN { 0 } else { log.len() };
+    let log_len = if log.len() <= LOG_HEAD_LEN {
+        0
+    } else {
+        log.len()
+    };
     match chip_in(rt.alloc(), image, log.as_slice()) {
         Ok(bytes) => Ok(Through { bytes, log_len }),
         Err(error) => Err(told_of_both(error)),
@@ -87,12 +91,7 @@ where
 
 /// Writes what the log beside an image has into the image, which is held, and takes the log away.
 /// Where it has nothing the image stays as it is. Nothing is synced where `syncs` isn't set.
-pub(crate) fn take_up<R>(
-    rt: &R,
-    path: &str,
-    held: &Held<R::File>,
-    syncs: bool,
-) -> Result<(), Fault>
+pub(crate) fn take_up<R>(rt: &R, path: &str, held: &Held<R::File>, syncs: bool) -> Result<(), Fault>
 where
     R: Files + AllocGlobal,
     R::File: ImageFile,

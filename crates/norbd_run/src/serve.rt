@@ -1,5 +1,5 @@
 //! `serve`: the chip in an image file, served to clients on a port or a Unix socket.
-ghost use Rattle.std.specs.Prelude.{◌≡◌, ◌*◌, length, string_bytes, IfOk, IfErr, true};
+ghost use Rattle.std.specs.Prelude.{◌≡◌, ◌*◌, ◌<◌, length, string_bytes, IfOk, IfErr, true};
 ghost use Rattle.std.specs.Prelude.{false, if◌then◌else◌, IsErr, IsFalse, None, Some};
 ghost use Rattle.block_device.specs.Facts.{IsDiskReady};
 ghost use Rattle.chip_model.specs.Chip.{is_idle};
@@ -23,7 +23,7 @@ use crate::watching::Watching;
 use block_device::{Disk, DiskError, Sink, send};
 use chip_model::SpiBus;
 use chip_simulator::{PromptChip, SimError};
-use disk_log::LoggedDisk;
+use disk_log::{ImageDisk, LoggedDisk, Sum};
 use flash_disk::{FlashDisk, MountError};
 use nbd_durable::{Durable, Policy};
 use nbd_history::{Hands, Opened};
@@ -32,7 +32,7 @@ use nbd_share::{
     Shared,
 };
 use nbd_wire::Export;
-use norbd_image::{Held, ImageFile, MemoryDisk, begin_log, log_beside};
+use norbd_image::{FileImages, Held, ImageFile, MemoryDisk, begin_log, log_beside};
 use norbd_line::{Cause, Fault, Place, SyncPolicy, TidyPolicy};
 use norbd_serve::{Connections, Listener, OpenGate, ServeFault, serve};
 use std::alloc::{AllocError, Global};
@@ -40,7 +40,7 @@ use std::fs;
 use std::fs::OpenFile;
 use std::marker::Brand;
 use std::rt::Files;
-use std::sync::ledger::Blank;
+use std::sync::ledger::{Blank, Ledger};
 use std::time::Duration;
 
 /// How long a client may negotiate.
@@ -174,15 +174,46 @@ where
         Ok(sum) => sum,
         Err(error) => return Err(told_of_log(error)),
     };
-    let logged = LoggedDisk::<_, _, Brand>::new(
-        rt.alloc(),
-        MemoryDisk::new(disk),
-        files,
-        copy,
-        sum,
-        Blank::new(1),
-    );
-    serve_opened(rt, listener, logged, &durable, asked, writer)
+    let disk = MemoryDisk::new(disk);
+    let unlost = Blank::new(1);
+    serve_logged::<Brand, _, _, _, _>(
+        rt, listener, disk, files, copy, sum, unlost, &durable, asked, writer,
+    )
+}
+
+/// Serves a disk with the log of its image, which has these bytes on its file; `L` names what is
+/// lost.
+fn serve_logged<L, R, D, F, K>(
+    rt: &R,
+    listener: Listener,
+    disk: D,
+    files: FileImages<R::File>,
+    image: Vec<u8>,
+    sum: Sum,
+    unlost: Blank,
+    durable: &Durable<F>,
+    asked: Asked<'_>,
+    writer: &mut K,
+) -> Result<(), Fault>
+where
+    L: Ledger + Send,
+    R: Host,
+    R::File: ImageFile + Send + Sync,
+    D: ImageDisk + Send + Drop,
+    F: OpenFile + Send + Sync + Drop,
+    K: Sink,
+    requires name { (unlost.name ≡ L.name) × (unlost.parts ≡ L.parts) × (0 < L.parts) }
+    requires sound { (D.facts disk).sound ≡ true }
+    requires ready { IsDiskReady (D.facts disk) }
+    requires size { IsChipSize (length image.items) }
+    requires numbers { IsPlace asked.place × IsConns asked.conns }
+    ensures tells { TellsServing asked.entry.place asked.entry.conns asked.entry.record
+        (K.written writer.old) (K.faults writer.old) result
+        (K.written writer.new) (K.faults writer.new) }
+    ensures endless { IsFalse asked.entry.ends → IsErr result }
+{
+    let logged = LoggedDisk::<_, _, L>::new(rt.alloc(), disk, files, image, sum, unlost);
+    serve_opened(rt, listener, logged, durable, asked, writer)
 }
 
 /// Serves a copy in memory of the chip in the file at a path, of which nothing is ever synced.

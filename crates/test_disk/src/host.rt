@@ -11,10 +11,7 @@ use test_kit::Dice;
 /// A change of a file: bytes at a place, or its end.
 #[derive(Drop)]
 enum Change {
-    Put {
-        at: usize,
-        bytes: Vec<u8>,
-    },
+    Put { at: usize, bytes: Vec<u8> },
     Cut(usize),
 }
 
@@ -237,7 +234,11 @@ impl Host {
             Ok(None) => {}
             _ => return failed(),
         }
-        let file = if is_log { &mut self.log } else { &mut self.image };
+        let file = if is_log {
+            &mut self.log
+        } else {
+            &mut self.image
+        };
         match file.sync(self.alloc) {
             Ok(()) => Ok(()),
             Err(_) => failed(),
