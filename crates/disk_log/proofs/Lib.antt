@@ -1,5 +1,1 @@
-mod Records
-mod Readings
-mod Growing
-mod Holding
-mod Replays
+

@@ -1,4 +1,7 @@
 pub mod Records
+pub mod Checkpoints
 pub mod Logs
 pub mod Files
+pub mod Reading
 pub mod Logged
+pub mod Memory
