@@ -1,1 +1,9 @@
-
+mod Records
+mod Readings
+mod Growing
+mod Places
+mod Held
+mod Entries
+mod Settles
+mod Replays
+mod Disks

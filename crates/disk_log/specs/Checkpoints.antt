@@ -1,5 +1,6 @@
 -- A checkpoint: the blocks of 4,096 bytes in which an image is to change. Source: own.
-use Rattle.std.specs.Prelude.{◌≡◌, ◌⊎◌, ℕ, zero, suc, ◌+◌, ◌*◌, ◌<◌, ◌≤◌, nat_lt, false}
+use Rattle.std.specs.Prelude.{◌≡◌, ◌⊎◌, ℕ, zero, suc, ◌+◌, ◌-◌, ◌*◌, ◌/◌, ◌%◌, ◌^◌, ◌<◌, ◌≤◌}
+use Rattle.std.specs.Prelude.{nat_lt, false, ◌++◌}
 use Rattle.std.specs.Prelude.{if◌then◌else◌, List, length, take, drop, slice_index}
 use Rattle.byteorder.specs.Endian.{little_from}
 use Rattle.sqlite_wal.specs.Format.{checksum}
@@ -47,3 +48,22 @@ pub record KeepsOthers (at n : ℕ) (old new : List ℕ) : Type 0 where
   pub size : length new ≡ length old
   pub before : (i : ℕ) → i < at → slice_index new i ≡ slice_index old i
   pub behind : (i : ℕ) → at + n ≤ i → slice_index new i ≡ slice_index old i
+
+-- An image of so many bytes can be settled: it is whole blocks of 4,096 bytes, and the number of
+-- one has four bytes.
+pub record IsImageLen (n : ℕ) : Type 0 where
+  pub blocks : n % 4096 ≡ 0
+  pub few : n < 2 ^ 32
+
+-- these bytes with one entry more, of a block with this number and these bytes
+abbrev pub HasEntry : ℕ → List ℕ → List ℕ → List ℕ → Type 0
+HasEntry number block old new = (head : List ℕ) × (length head ≡ 8) × (number_in head ≡ number)
+    × (new ≡ old ++ (head ++ block))
+
+-- What follows the head of a checkpoint after which an image has the bytes `is`, where it has
+-- `was`: the sum of these bytes, and blocks.
+pub record IsCheckpointBody (was is body : List ℕ) : Type 0 where
+  pub len : 8 + 4104 * ((length body - 8) / 4104) ≡ length body
+  pub few : (length body - 8) / 4104 < 2 ^ 32
+  pub sum : sum_at 0 body ≡ image_sum is
+  pub blocks : placed ((length body - 8) / 4104) (drop 8 body) was ≡ is

@@ -4,4 +4,5 @@ pub mod Logs
 pub mod Files
 pub mod Reading
 pub mod Logged
+pub mod Settling
 pub mod Memory

@@ -1,8 +1,8 @@
 -- What is known of a disk with a log. Source: own.
-use Rattle.std.specs.Prelude.{◌≡◌, ◌%◌, ◌<◌, ◌^◌, ◌+◌, ℕ, Bool, true, false, List, Option, Result}
+use Rattle.std.specs.Prelude.{◌≡◌, ◌+◌, ℕ, Bool, true, false, List, Option, Result}
 use Rattle.std.specs.Prelude.{Ok, Err, Some, None}
 use Rattle.disk_log.specs.Logs.{Medium, IsBegun, contents_in, held}
-use Rattle.block_device.specs.Facts.{Facts}
+use Rattle.block_device.specs.Facts.{Facts, CountsNeverFall, Latches, Writes}
 use Rattle.block_device.specs.declared.disk.DiskError.{DiskError}
 use Rattle.block_device.specs.declared.disk.DiskError.TheVariants as errors
 use Rattle.disk_log.specs.declared.logged.Standing.{Standing}
@@ -43,12 +43,6 @@ standing_answer Ready = Ok tt
 standing_answer Cut = Err errors.Cut
 standing_answer Slow = Err errors.Slow
 
--- An image of so many bytes can be settled: it is whole blocks of 4,096 bytes, and the number of
--- one has four bytes.
-pub record IsImageLen (n : ℕ) : Type 0 where
-  pub blocks : n % 4096 ≡ 0
-  pub few : n < 2 ^ 32
-
 -- The files are those of a disk of n sectors with these contents, and the log was begun on these
 -- bytes of the image; its last record has this sum.
 pub record IsOfDisk (represents : List ℕ → List ℕ) (n : ℕ) (contents image : List ℕ)
@@ -56,3 +50,19 @@ pub record IsOfDisk (represents : List ℕ → List ℕ) (n : ℕ) (contents ima
   pub sectors : m.sectors ≡ n
   pub begun : IsBegun m image last
   pub same : contents_in represents m.sectors m.image m.log ≡ contents
+
+-- a call that changes no sector, whatever it answers
+pub record Settled {T : Type 0} (old : Facts) (result : Result T DiskError) (new : Facts)
+    : Type 0 where
+  pub contents : old.sound ≡ true → new.contents ≡ old.contents
+  pub sound : new.sound ≡ old.sound
+  pub goes : CountsNeverFall old new
+  pub latches : Latches old result new
+
+-- a write of these bytes from the sector `first` on, in the words of a disk
+pub record WritesTo {T : Type 0} (first : ℕ) (bytes : List ℕ) (old : Facts)
+    (result : Result T DiskError) (new : Facts) : Type 0 where
+  pub contents : old.sound ≡ true → Writes first bytes old.contents result new.contents
+  pub sound : new.sound ≡ old.sound
+  pub goes : CountsNeverFall old new
+  pub latches : Latches old result new

@@ -1,6 +1,6 @@
 -- What a start finds. Source: own.
 use Rattle.std.specs.Prelude.{◌≡◌, ◌⊎◌, ◌≤◌, ℕ, List, length, drop, true, false, Result, Ok, Err}
-use Rattle.std.specs.Prelude.{Option, Some, None}
+use Rattle.std.specs.Prelude.{Option, Some, None, []}
 use Rattle.disk_log.specs.Checkpoints.{image_sum, image_sum_in, placed_in}
 use Rattle.disk_log.specs.Logs.{has_head, head_sum, is_blank, log_changes, has_checkpoint}
 use Rattle.disk_log.specs.Logs.{Medium, IsBegun, HoldsAs}
@@ -47,3 +47,7 @@ TakesUp None image result new = new ≡ None
 TakesUp (Some m) image (Ok sum) new = (m' : Medium) × (new ≡ Some m') × (m'.sectors ≡ m.sectors)
     × IsBegun m' image sum × HoldsAs m m'
 TakesUp (Some m) image (Err _) new = (m' : Medium) × (new ≡ Some m') × HoldsAs m m'
+
+-- an empty log, beside an image with these bytes
+abbrev pub IsEmptyOn : List ℕ → Medium → Type 0
+IsEmptyOn image m = (m.image ≡ image) × (m.log ≡ [])

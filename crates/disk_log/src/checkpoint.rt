@@ -1,9 +1,8 @@
 //! The blocks of a checkpoint.
 
-ghost use Rattle.std.specs.Prelude.{◌≡◌, ◌*◌, ◌+◌, ◌≤◌, ◌<◌, ◌^◌, ◌/◌, ◌-◌, ℕ, length, drop, take};
-ghost use Rattle.std.specs.Prelude.{IfOk};
-ghost use Rattle.disk_log.specs.Checkpoints.{image_sum, placed, with_block, number_in, block_in};
-ghost use Rattle.disk_log.specs.Logged.{IsImageLen};
+ghost use Rattle.std.specs.Prelude.{◌≡◌, ◌*◌, ◌≤◌, [], length, IfOk, OnOk};
+ghost use Rattle.disk_log.specs.Checkpoints.{image_sum, placed, with_block, number_in, HasEntry};
+ghost use Rattle.disk_log.specs.Checkpoints.{IsCheckpointBody, IsImageLen};
 ghost use Rattle.disk_log.specs.Records.{sum_at};
 
 use crate::file::BLOCK_LEN;
@@ -47,30 +46,42 @@ pub(crate) fn put_blocks(image: &mut [u8], count: usize, entries: &[u8])
 pub(crate) fn changed_blocks(alloc: Global, was: &[u8], is: &[u8]) -> Result<Vec<u8>, AllocError>
     requires same { length was.now ≡ length is.now }
     requires len { IsImageLen (length is.now) }
-    ensures len { IfOk result (λ body. (k : ℕ) × (length body.items ≡ 8 + 4104 * k)) }
-    ensures few { IfOk result (λ body. length body.items < 2 ^ 34) }
-    ensures sum { IfOk result (λ body. sum_at 0 body.items ≡ image_sum is.now) }
-    ensures blocks { IfOk result (λ body.
-        placed ((length body.items - 8) / 4104) (drop 8 body.items) was.now ≡ is.now) }
+    ensures { IfOk result (λ body. IsCheckpointBody was.now is.now body.items) }
 {
     let mut body = Vec::new(alloc);
-    let sum = image_sum(is);
-    body.extend_from_slice(&sum.0.to_le_bytes())?;
-    body.extend_from_slice(&sum.1.to_le_bytes())?;
+    push_sum(&mut body, image_sum(is))?;
     for k in 0..is.len() / BLOCK_LEN {
         let block = &is[BLOCK_LEN * k..BLOCK_LEN * k + BLOCK_LEN];
         if block != &was[BLOCK_LEN * k..BLOCK_LEN * k + BLOCK_LEN] {
-            push_block(&mut body, k as u32, block)?;
+            push_entry(&mut body, k as u32, block)?;
         }
     }
     Ok(body)
 }
 
-/// Appends a block to a checkpoint.
-fn push_block(body: &mut Vec<u8>, number: u32, block: &[u8]) -> Result<(), AllocError>
-    requires { length block.now ≡ 4096 }
+/// Begins the body of a checkpoint with a sum.
+fn push_sum(body: &mut Vec<u8>, sum: Sum) -> Result<(), AllocError>
+    requires { body.old.items ≡ [] }
+    ensures len { OnOk result (length body.new.items ≡ 8) }
+    ensures sum { OnOk result (sum_at 0 body.new.items ≡ sum) }
 {
-    body.extend_from_slice(&number.to_le_bytes())?;
-    body.extend_from_slice(&[0; 4])?;
+    let (s, t) = (sum.0.to_le_bytes(), sum.1.to_le_bytes());
+    body.extend_from_slice(&[s[0], s[1], s[2], s[3], t[0], t[1], t[2], t[3]])
+}
+
+/// The first 8 bytes of an entry of a block with this number.
+fn entry_head(number: u32) -> [u8; 8]
+    ensures len { length result ≡ 8 }
+    ensures number { number_in result ≡ number }
+{
+    let n = number.to_le_bytes();
+    [n[0], n[1], n[2], n[3], 0, 0, 0, 0]
+}
+
+/// Appends an entry of a block with this number to others.
+fn push_entry(body: &mut Vec<u8>, number: u32, block: &[u8]) -> Result<(), AllocError>
+    ensures { OnOk result (HasEntry number block.now body.old.items body.new.items) }
+{
+    body.extend_from_slice(&entry_head(number))?;
     body.extend_from_slice(block)
 }

@@ -2,12 +2,14 @@
 
 #![tactic(auto)]
 
+mod adding;
 mod checkpoint;
 mod file;
 mod head;
 mod logged;
 mod memory;
 
+mod placing;
 mod reading;
 mod record;
 mod replaying;

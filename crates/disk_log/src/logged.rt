@@ -1,15 +1,20 @@
 //! A disk over an image and its log.
 
 ghost use Rattle.std.specs.Prelude.{◌≡◌, ◌/◌, ◌<◌, ◌*◌, ◌^◌, ℕ, List, None, Some, length, true};
-ghost use Rattle.block_device.specs.Facts.{CountsNeverFall, IsDiskReady, Latches};
+ghost use Rattle.std.specs.Prelude.{replicate, IfOk, OnOk};
+ghost use Rattle.block_device.specs.Contents.{InRange};
+ghost use Rattle.block_device.specs.Facts.{IsDiskReady};
+ghost use Rattle.disk_log.specs.Checkpoints.{IsImageLen};
 ghost use Rattle.disk_log.specs.Files.{OfFiles};
-ghost use Rattle.disk_log.specs.Logs.{contents_in, held};
+ghost use Rattle.disk_log.specs.Logs.{IsBegun, Medium, contents_in, held};
 ghost use Rattle.disk_log.specs.declared.logged.Standing.TheVariants.{Ready};
-ghost use Rattle.disk_log.specs.Logged.{IsImageLen, IsOfDisk, logged_facts, standing_answer};
+ghost use Rattle.disk_log.specs.Logged.{IsOfDisk, logged_facts, standing_answer};
 
+use crate::adding::append_change;
 use crate::file::ImageFiles;
-use crate::record::Sum;
-use block_device::{Disk, DiskError, Tally};
+use crate::placing::settle_files;
+use crate::record::{RECORD_HEAD_LEN, Sum};
+use block_device::{Disk, DiskError, SECTOR_LEN, Tally};
 use std::alloc::Global;
 use std::sync::ledger::{Blank, Ledger};
 
@@ -36,6 +41,9 @@ pub enum Standing {
     Slow,
 }
 
+/// How many steps of tidying pass between the last that the disk has and the one that settles.
+const WAITS: u32 = 100;
+
 /// A disk over an image and its log. Each `write` and `zero` that answers Ok is in the log. An
 /// error is the last: it is answered again by every later call, `restore` too.
 #[derive(Drop)]
@@ -47,7 +55,7 @@ pub struct LoggedDisk<D: ImageDisk, F: ImageFiles, L: Ledger> {
     // the bytes of the image file
     image: Vec<u8>,
     sum: Sum,
-    // how many bytes of records the log has, or more
+    // how many bytes were appended to the log since it was begun or found
     grown: usize,
     standing: Standing,
     // how many steps to wait; None while the disk may have some of its own
@@ -56,8 +64,26 @@ pub struct LoggedDisk<D: ImageDisk, F: ImageFiles, L: Ledger> {
     ghost few: { sectors < 2 ^ 32 },
     ghost len: { IsImageLen (length image.items) },
     ghost size: { length (D.facts disk).contents ≡ 512 * sectors },
-    ghost held: { length (held D.represents (F.medium files) (D.facts disk).contents) ≡ 512 * sectors },
+    ghost told: { length (held D.represents (F.medium files) (D.facts disk).contents)
+        ≡ 512 * sectors },
     ghost ready: { standing ≡ Ready → IsDiskReady (D.facts disk) },
+    ghost counted: { standing ≡ Ready → (m : Medium) → F.medium files ≡ Some m
+        → m.sectors ≡ sectors },
+    ghost begun: { standing ≡ Ready → (m : Medium) → F.medium files ≡ Some m
+        → IsBegun m image.items sum },
+    ghost same: { standing ≡ Ready → (D.facts disk).sound ≡ true
+        → held D.represents (F.medium files) (D.facts disk).contents ≡ (D.facts disk).contents },
+}
+
+/// What stands after an error.
+fn standing_of(error: DiskError) -> Standing
+    ensures cut { error ≡ DiskError.Cut → result ≡ Standing.Cut }
+    ensures slow { error ≡ DiskError.Slow → result ≡ Standing.Slow }
+{
+    match error {
+        DiskError::Cut => Standing::Cut,
+        DiskError::Slow => Standing::Slow,
+    }
 }
 
 impl<D: ImageDisk, F: ImageFiles, L: Ledger> LoggedDisk<D, F, L> {
@@ -81,27 +107,11 @@ impl<D: ImageDisk, F: ImageFiles, L: Ledger> LoggedDisk<D, F, L> {
             files,
             image,
             sum,
-            grown: usize::MAX,
+            grown: 1,
             standing: Standing::Ready,
             waits: None,
             lost: Tally::new(blank),
         }
-    }
-
-    /// Writes what changed into the image and begins the log anew. The contents stay, also where a
-    /// call fails.
-    pub fn settle(&mut self) -> Result<(), DiskError>
-        ensures contents { (⟦<LoggedDisk<D, F, L> as Disk>⟧.facts self.old).sound ≡ true
-            → (⟦<LoggedDisk<D, F, L> as Disk>⟧.facts self.new).contents
-            ≡ (⟦<LoggedDisk<D, F, L> as Disk>⟧.facts self.old).contents }
-        ensures sound { (⟦<LoggedDisk<D, F, L> as Disk>⟧.facts self.new).sound
-            ≡ (⟦<LoggedDisk<D, F, L> as Disk>⟧.facts self.old).sound }
-        ensures goes { CountsNeverFall (⟦<LoggedDisk<D, F, L> as Disk>⟧.facts self.old)
-            (⟦<LoggedDisk<D, F, L> as Disk>⟧.facts self.new) }
-        ensures latches { Latches (⟦<LoggedDisk<D, F, L> as Disk>⟧.facts self.old) result
-            (⟦<LoggedDisk<D, F, L> as Disk>⟧.facts self.new) }
-    {
-        Ok(())
     }
 
     /// The disk and the files: what the files hold is what this disk held.
@@ -113,6 +123,144 @@ impl<D: ImageDisk, F: ImageFiles, L: Ledger> LoggedDisk<D, F, L> {
     {
         let LoggedDisk { disk, files, .. } = self;
         (disk, files)
+    }
+
+    /// The error that stands.
+    fn standing_error(&self) -> Result<(), DiskError>
+        ensures { result ≡ standing_answer self.now.standing }
+    {
+        match self.standing {
+            Standing::Ready => Ok(()),
+            Standing::Cut => Err(DiskError::Cut),
+            Standing::Slow => Err(DiskError::Slow),
+        }
+    }
+}
+
+impl<D: ImageDisk, F: ImageFiles, L: Ledger> LoggedDisk<D, F, L> {
+    ghost use Rattle.disk_log.specs.Logged.{Settled, WritesTo};
+
+    /// Writes what changed into the image, and begins the log anew. The contents stay, also where
+    /// that fails.
+    pub fn settle(&mut self) -> Result<(), DiskError>
+        ensures { Settled (⟦<LoggedDisk<D, F, L> as Disk>⟧.facts self.old) result
+            (⟦<LoggedDisk<D, F, L> as Disk>⟧.facts self.new) }
+    {
+        self.standing_error()?;
+        let image = self.disk.image();
+        if image.len() != self.image.len() {
+            self.standing = Standing::Cut;
+            self.lost.tick();
+            return Err(DiskError::Cut);
+        }
+        match settle_files(self.alloc, &mut self.files, &mut self.sum, &self.image, image) {
+            Ok(()) => {
+                self.image.copy_from_slice(image);
+                self.grown = 0;
+                Ok(())
+            }
+            Err(_) => {
+                self.standing = Standing::Cut;
+                self.lost.tick();
+                Err(DiskError::Cut)
+            }
+        }
+    }
+
+    /// Settles a log that has four images' lengths.
+    fn make_room(&mut self) -> Result<(), DiskError>
+        ensures { Settled (⟦<LoggedDisk<D, F, L> as Disk>⟧.facts self.old) result
+            (⟦<LoggedDisk<D, F, L> as Disk>⟧.facts self.new) }
+    {
+        self.standing_error()?;
+        if self.grown / 4 < self.image.len() {
+            return Ok(());
+        }
+        self.settle()
+    }
+
+    /// Writes whole sectors, and the record of them.
+    fn put(&mut self, first: u32, from: &[u8]) -> Result<(), DiskError>
+        requires { InRange (⟦<LoggedDisk<D, F, L> as Disk>⟧.facts self.old).contents first
+            (length from.now) }
+        ensures { WritesTo first from.now (⟦<LoggedDisk<D, F, L> as Disk>⟧.facts self.old) result
+            (⟦<LoggedDisk<D, F, L> as Disk>⟧.facts self.new) }
+    {
+        self.standing_error()?;
+        match self.disk.write(first, from) {
+            Ok(()) => {
+                let count = (from.len() / SECTOR_LEN) as u32;
+                match append_change(&mut self.files, &mut self.sum, 0, first, count, from) {
+                    Ok(()) => {
+                        self.grown = self.grown.saturating_add(from.len());
+                        self.waits = None;
+                        Ok(())
+                    }
+                    Err(_) => {
+                        self.standing = Standing::Cut;
+                        self.lost.tick();
+                        Err(DiskError::Cut)
+                    }
+                }
+            }
+            Err(error) => {
+                self.standing = standing_of(error);
+                Err(error)
+            }
+        }
+    }
+
+    /// Writes zeros over whole sectors, and the record of them.
+    fn put_zeros(&mut self, first: u32, count: u32) -> Result<(), DiskError>
+        requires { InRange (⟦<LoggedDisk<D, F, L> as Disk>⟧.facts self.old).contents first
+            (512 * count) }
+        ensures { WritesTo first (replicate (512 * count) 0)
+            (⟦<LoggedDisk<D, F, L> as Disk>⟧.facts self.old) result
+            (⟦<LoggedDisk<D, F, L> as Disk>⟧.facts self.new) }
+    {
+        self.standing_error()?;
+        match self.disk.zero(first, count) {
+            Ok(()) => match append_change(&mut self.files, &mut self.sum, 1, first, count, &[]) {
+                Ok(()) => {
+                    self.grown = self.grown.saturating_add(RECORD_HEAD_LEN);
+                    self.waits = None;
+                    Ok(())
+                }
+                Err(_) => {
+                    self.standing = Standing::Cut;
+                    self.lost.tick();
+                    Err(DiskError::Cut)
+                }
+            },
+            Err(error) => {
+                self.standing = standing_of(error);
+                Err(error)
+            }
+        }
+    }
+
+    /// One of so many steps of waiting; the last settles.
+    fn wait(&mut self, waits: u32) -> Result<bool, DiskError>
+        requires some { 0 < waits }
+        requires was { self.old.waits ≡ Some waits }
+        ensures settled { Settled (⟦<LoggedDisk<D, F, L> as Disk>⟧.facts self.old) result
+            (⟦<LoggedDisk<D, F, L> as Disk>⟧.facts self.new) }
+        ensures step { IfOk result (λ did. did ≡ true) }
+        ensures work { OnOk result ((⟦<LoggedDisk<D, F, L> as Disk>⟧.facts self.new).work
+            < waits) }
+    {
+        self.standing_error()?;
+        if waits > 1 {
+            self.waits = Some(waits - 1);
+            return Ok(true);
+        }
+        match self.settle() {
+            Ok(()) => {
+                self.waits = Some(0);
+                Ok(true)
+            }
+            Err(error) => Err(error),
+        }
     }
 }
 
@@ -127,15 +275,28 @@ impl<D: ImageDisk, F: ImageFiles, L: Ledger> Disk for LoggedDisk<D, F, L> {
     }
 
     fn read(&mut self, first: u32, into: &mut [u8]) -> Result<(), DiskError> {
-        self.disk.read(first, into)
+        self.standing_error()?;
+        match self.disk.read(first, into) {
+            Ok(()) => Ok(()),
+            Err(error) => {
+                self.standing = standing_of(error);
+                Err(error)
+            }
+        }
     }
 
     fn write(&mut self, first: u32, from: &[u8]) -> Result<(), DiskError> {
-        self.disk.write(first, from)
+        match self.make_room() {
+            Ok(()) => self.put(first, from),
+            Err(error) => Err(error),
+        }
     }
 
     fn zero(&mut self, first: u32, count: u32) -> Result<(), DiskError> {
-        self.disk.zero(first, count)
+        match self.make_room() {
+            Ok(()) => self.put_zeros(first, count),
+            Err(error) => Err(error),
+        }
     }
 
     fn flush(&mut self) -> Result<(), DiskError> {
@@ -146,11 +307,39 @@ impl<D: ImageDisk, F: ImageFiles, L: Ledger> Disk for LoggedDisk<D, F, L> {
     }
 
     fn tidy(&mut self) -> Result<bool, DiskError> {
-        self.disk.tidy()
+        self.standing_error()?;
+        match self.waits {
+            Some(waits) if waits == 0 => Ok(false),
+            Some(waits) => self.wait(waits),
+            None => match self.disk.tidy() {
+                Ok(true) => Ok(true),
+                Ok(false) => {
+                    self.waits = Some(if self.grown == 0 { 0 } else { WAITS });
+                    Ok(true)
+                }
+                Err(error) => {
+                    self.standing = standing_of(error);
+                    Err(error)
+                }
+            },
+        }
     }
 
     fn restore(&mut self) -> Result<(), DiskError> {
-        self.disk.restore()
+        match self.standing {
+            Standing::Ready => match self.disk.restore() {
+                Ok(()) => Ok(()),
+                Err(error) => {
+                    self.standing = standing_of(error);
+                    Err(error)
+                }
+            },
+            Standing::Cut => {
+                self.lost.tick();
+                Err(DiskError::Cut)
+            }
+            Standing::Slow => Err(DiskError::Slow),
+        }
     }
 
     fn arm(&mut self, count: u32, kind: u8, mask: u8) {

@@ -2,7 +2,7 @@
 
 ghost use Rattle.std.specs.Prelude.{◌≡◌, ◌/◌, ◌*◌, ◌+◌, ◌≤◌, ◌<◌, length, true, OnOk};
 ghost use Rattle.block_device.specs.Facts.{CountsNeverFall, IsDiskReady, Latches};
-ghost use Rattle.disk_log.specs.Logs.{log_changes};
+ghost use Rattle.disk_log.specs.Logs.{log_changes, log_reading};
 ghost use Rattle.disk_log.specs.Records.{record_change, replayed, with_change, body_len_of};
 
 use crate::head::{HEAD_LEN, read_log_head};
@@ -28,6 +28,13 @@ pub fn replay<D: Disk>(disk: &mut D, log: &[u8]) -> Result<(), DiskError>
 
 /// Makes the changes of the records that these bytes begin with, behind one with the sum `before`.
 fn replay_records<D: Disk>(disk: &mut D, before: Sum, log: &[u8]) -> Result<(), DiskError>
+    ensures contents { OnOk result ((D.facts disk.old).sound ≡ true → (D.facts disk.new).contents
+        ≡ replayed (log_reading (length (D.facts disk.old).contents / 512) before log.now).changes
+        (D.facts disk.old).contents) }
+    ensures sound { (D.facts disk.new).sound ≡ (D.facts disk.old).sound }
+    ensures goes { CountsNeverFall (D.facts disk.old) (D.facts disk.new) }
+    ensures latches { IsDiskReady (D.facts disk.old)
+        → Latches (D.facts disk.old) result (D.facts disk.new) }
 {
     let sectors = disk.sectors();
     let mut at = 0;
@@ -35,7 +42,9 @@ fn replay_records<D: Disk>(disk: &mut D, before: Sum, log: &[u8]) -> Result<(), 
     while let Some(head) = read_record(sectors, sum, &log[at..]) {
         let rest = &log[at..];
         let end = RECORD_HEAD_LEN + body_len(rest);
-        change(disk, &head, &rest[RECORD_HEAD_LEN..end])?;
+        if let Err(error) = change(disk, &head, &rest[RECORD_HEAD_LEN..end]) {
+            return Err(error);
+        }
         sum = head.sum;
         at += end;
     }
