@@ -1,18 +1,20 @@
--- What a record that is appended leaves of a log, and of the contents.
-use Rattle.std.proofs.Common.{◌≡◌, ℕ, ◌+◌, ◌*◌, ◌<◌, ◌≤◌, Bool, true, false, List, [], ◌∷◌, ◌++◌, ◌⊎◌, inl, inr, length, take, drop, ap, sym, ◌∙◌, arith, Option, Some, None, Ok, Err}
+-- What a record that is appended is read as.
+use Rattle.std.proofs.Common.{◌≡◌, ℕ, ◌+◌, ◌*◌, ◌<◌, ◌≤◌, Bool, true, false, List, [], ◌∷◌, ◌++◌, length, take, drop, ap, sym, ◌∙◌, arith, refl}
 use Rattle.std.specs.Prelude.{if◌then◌else◌, ◌==◌, ◌/◌, replicate}
-use Rattle.std.proofs.lemmas.List.{append-nil, length-append, length-drop, length-replicate, drop-append-le, take-append-le, take_all}
+use Rattle.std.proofs.lemmas.List.{length-append, length-drop, length-replicate, drop-append-le, drop-drop, take-append-le, take_all}
 use Rattle.sqlite_wal.specs.Format.{checksum}
-use Rattle.disk_log.specs.Records.{begins_record, kind_in, first_in, count_in, sum_in, sum_over, body_in, body_len, body_len_of, record_len, change_in, record_change}
-use Rattle.disk_log.specs.Logs.{log_reading, IsWholeLog, Grows, Grown, Appends}
-use Rattle.disk_log.specs.Files.{Extends}
-use Rattle.disk_log.proofs.Records.{Begins, begins, none-torn, kind-same, first-same, count-same, sum-same, len-same}
-use Rattle.disk_log.proofs.Readings.{cases, is_empty, one-more, part-more}
+use Rattle.disk_log.specs.Records.{is_whole, kind_in, first_in, count_in, sum_in, sum_over, body_in, body_len, body_len_of, record_len, change_in, record_change}
+use Rattle.disk_log.specs.Logs.{log_reading}
+use Rattle.disk_log.proofs.Records.{Whole, begins, none-torn, kind-same, first-same, count-same, sum-same, len-same}
+use Rattle.disk_log.proofs.Readings.{is_empty, one-read}
+
+pub not-true : (t : Bool) → (t ≡ true → ⊥) → t ≡ false
+not-true true f = absurd (f refl)
+not-true false f = refl
 
 -- What a head says, and the body behind it.
 pub record Made (head body : List ℕ) (kind first count : ℕ) (before next : ℕ × ℕ) : Type 0 where
   pub long : length head ≡ 24
-  pub two : kind < 2
   pub len : length body ≡ body_len_of kind count
   pub kind_is : kind_in head ≡ kind
   pub first_is : first_in head ≡ first
@@ -46,8 +48,8 @@ module _ (head body : List ℕ) (kind first count : ℕ) (before next : ℕ × �
       ∙ (ap (λ v. record_change kind first v (body_in (head ++ body))) (count-same head body at_least ∙ made.count_is)
       ∙ ap (λ v. record_change kind first count v) body_is))
 
-  pub made-begins : (n : ℕ) → first + count ≤ n → Begins n before (head ++ body)
-  made-begins n inside =
+  pub made-whole : Whole before (head ++ body)
+  made-whole =
       let long = made.long in
       let all = length-append head body in
       let whole = made-len in
@@ -57,57 +59,47 @@ module _ (head body : List ℕ) (kind first count : ℕ) (before next : ℕ × �
       ∙ ap (λ v. checksum false (checksum false before (take 16 (head ++ body))) v) (sym body_is))) in
       record {
         head = omega (arith, long, all);
-        kind = rw (kind-same head body at_least) (rw made.kind_is made.two);
-        inside = rw (first-same head body at_least) (rw made.first_is (rw (count-same head body at_least) (rw made.count_is inside)));
         whole = omega (arith, whole);
         one = ap (λ (v : ℕ × ℕ). v.0) sums;
         two = ap (λ (v : ℕ × ℕ). v.1) sums;
       }
 
-  pub made-one : (n : ℕ) (log : List ℕ) → first + count ≤ n → IsWholeLog n log before → Grows n (record_change kind first count body) log (log ++ (head ++ body)) next
-  made-one n log inside whole =
-      let good : begins_record n (log_reading n log).sum (head ++ body) ≡ true = ap (λ v. begins_record n v (head ++ body)) whole.sum ∙ begins n before (head ++ body) (made-begins n inside) in
-      let grown = one-more n log (head ++ body) whole.rest good made-len in
-      record {
-        whole = record { rest = ap (λ r. r.rest) grown; sum = ap (λ r. r.sum) grown ∙ made-sum };
-        more = ap (λ r. r.changes) grown ∙ ap (λ v. (log_reading n log).changes ++ v ∷ []) made-change;
-      }
+  pub made-kind : kind_in (head ++ body) ≡ kind
+  made-kind = kind-same head body at_least ∙ made.kind_is
 
-  not-begun : (n : ℕ) (taken : List ℕ) (r : ℕ) (rest : List ℕ) → head ++ body ≡ taken ++ r ∷ rest
-      → (begins_record n before taken ≡ true) ⊎ (begins_record n before taken ≡ false) → begins_record n before taken ≡ false
-  not-begun n taken r rest same (inr e) = e
-  not-begun n taken r rest same (inl e) = absurd (none-torn n before taken (r ∷ rest) (ap record_len (sym same) ∙ (made-len ∙ ap length same)) (omega arith) e)
+  pub made-count : count_in (head ++ body) ≡ count
+  made-count = count-same head body at_least ∙ made.count_is
 
-  pub made-part : (n : ℕ) (log taken rest : List ℕ) → head ++ body ≡ taken ++ rest → first + count ≤ n → IsWholeLog n log before
-      → (T E : Type 0) (e : E) → Grown {T = T} {E = E} n (record_change kind first count body) log (Err e) (log ++ taken) next
-  made-part n log taken [] same inside whole T E e = inr (ap (λ v. (log_reading n (log ++ v)).changes) (sym (append-nil taken) ∙ sym same) ∙ (made-one n log inside whole).more)
-  made-part n log taken (r ∷ rest) same inside whole T E e =
-      inl (part-more n log taken whole.rest (ap (λ v. begins_record n v taken) whole.sum
-      ∙ not-begun n taken r rest same (cases (begins_record n before taken))))
+  pub made-body : (k : ℕ) → drop (24 + k) (head ++ body) ≡ drop k body
+  made-body k = sym (drop-drop k 24 (head ++ body)) ∙ ap (λ v. drop k v) behind_head
 
--- An append of such a record, which went well or failed.
-pub appended : (T E : Type 0) (head body : List ℕ) (kind first count : ℕ) (before next : ℕ × ℕ) → Made head body kind first count before next
-    → (old new : Option (List ℕ)) (t : T) → Extends {T = T} {E = E} old (head ++ body) (Ok t) new
-    → first + length (record_change kind first count body).bytes / 512 ≡ first + count
-    → Appends {T = T} {E = E} (record_change kind first count body) before old (Ok t) next new
-appended T E head body kind first count before next made None new t e len = e
-appended T E head body kind first count before next made (Some log) new t e len =
-    (log ++ (head ++ body), e, λ n inside whole. made-one head body kind first count before next made n log (rw (sym len) inside) whole)
+  -- read behind the record before it
+  pub made-read : (n : ℕ) → kind < 2 → first + count ≤ n → log_reading n before (head ++ body) ≡ record { changes = record_change kind first count body ∷ []; sum = next; rest = [] }
+  made-read n two inside =
+      let w = made-whole in
+      let good = begins n before (head ++ body) (record {
+        head = w.head;
+        kind = rw made-kind two;
+        inside = rw (first-same head body at_least) (rw made.first_is (rw made-count inside));
+        whole = w.whole;
+        one = w.one;
+        two = w.two;
+      }) in
+      one-read n before (head ++ body) good made-len
+      ∙ (ap (λ v. record { changes = v ∷ []; sum = sum_in (head ++ body); rest = [] }) made-change
+      ∙ ap (λ v. record { changes = record_change kind first count body ∷ []; sum = v; rest = [] }) made-sum)
 
-pub not-appended : (T E : Type 0) (head body : List ℕ) (kind first count : ℕ) (before next last : ℕ × ℕ) → Made head body kind first count before next
-    → (old new : Option (List ℕ)) (f : E) → Extends {T = T} {E = E} old (head ++ body) (Err f) new
-    → first + length (record_change kind first count body).bytes / 512 ≡ first + count
-    → Appends {T = T} {E = E} (record_change kind first count body) before old (Err f) last new
-not-appended T E head body kind first count before next last made None new f e len = e
-not-appended T E head body kind first count before next last made (Some log) new f (taken, rest, same, is) len =
-    (log ++ taken, is, λ n inside whole. made-part head body kind first count before next made n log taken rest same (rw (sym len) inside) whole T E f)
+  -- a part that is cut short is none
+  pub made-torn : (taken : List ℕ) (r : ℕ) (rest : List ℕ) → head ++ body ≡ taken ++ r ∷ rest → is_whole before taken ≡ false
+  made-torn taken r rest same = not-true (is_whole before taken)
+      (λ e. none-torn before taken (r ∷ rest) (ap record_len (sym same) ∙ (made-len ∙ ap length same)) (omega arith) e)
 
-count-by : (t : Bool) (first count : ℕ) (body : List ℕ) → length body ≡ (if t then 512 * count else 0) → length (if t then body else replicate (512 * count) 0) ≡ 512 * count
-count-by true first count body len = len
-count-by false first count body len = length-replicate {A = ℕ} (512 * count) 0
+count-by : (t : Bool) (first count : ℕ) (body : List ℕ) (other : ℕ) → length body ≡ (if t then 512 * count else other) → length (if t then body else replicate (512 * count) 0) ≡ 512 * count
+count-by true first count body other len = len
+count-by false first count body other len = length-replicate {A = ℕ} (512 * count) 0
 
 pub change-length : (kind first count : ℕ) (body : List ℕ) → length body ≡ body_len_of kind count → length (record_change kind first count body).bytes ≡ 512 * count
-change-length kind first count body len = count-by (kind == 0) first count body len
+change-length kind first count body len = count-by (kind == 0) first count body (if kind == 2 then 8 + 4104 * count else 0) len
 
 pub change-inside : (kind first count : ℕ) (body : List ℕ) → length body ≡ body_len_of kind count → first + length (record_change kind first count body).bytes / 512 ≡ first + count
 change-inside kind first count body len = (let e = change-length kind first count body len in ap (λ v. first + v / 512) e ∙ omega arith)

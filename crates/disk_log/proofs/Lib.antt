@@ -1,5 +1,9 @@
 mod Records
 mod Readings
 mod Growing
-mod Holding
+mod Places
+mod Held
+mod Entries
+mod Settles
 mod Replays
+mod Disks

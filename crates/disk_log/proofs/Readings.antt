@@ -93,36 +93,26 @@ pub read-on : (k n : ℕ) (before : ℕ × ℕ) (xs ys : List ℕ) → length (x
     → read_some k n before (xs ++ ys) ≡ behind (read_some k n before xs).changes (read_some k n (read_some k n before xs).sum ys)
 read-on k n before xs ys low ended = read-on-by k n before xs ys low (cases (begins_record n before xs)) ended
 
--- A log of whole records with one more.
-pub one-more : (n : ℕ) (log r : List ℕ) → (log_reading n log).rest ≡ [] → begins_record n (log_reading n log).sum r ≡ true → record_len r ≡ length r
-    → log_reading n (log ++ r) ≡ record { changes = (log_reading n log).changes ++ change_in r ∷ []; sum = sum_in r; rest = [] }
-one-more n log r ended good len =
-    let long = length-append log r in
-    let b = begun n (log_reading n log).sum r good in
-    let h = b.head in
-    let all = length (log ++ r) in
-    let same : read_some all n (0, 0) log ≡ log_reading n log = enough all (length log) n (0, 0) log (omega (arith, long)) (omega arith) in
-    let rest : drop (record_len r) r ≡ [] = is_empty (drop (record_len r) r) (length-drop (record_len r) r ∙ omega (arith, len)) in
-    let last : read_some all n (log_reading n log).sum r ≡ record { changes = change_in r ∷ []; sum = sum_in r; rest = [] } =
-    enough all (suc (length r)) n (log_reading n log).sum r (omega (arith, long)) (omega arith)
-    ∙ (step-true (length r) n (log_reading n log).sum r good
-    ∙ (ap (λ v. record { changes = change_in r ∷ (read_some (length r) n (sum_in r) v).changes; sum = (read_some (length r) n (sum_in r) v).sum; rest = (read_some (length r) n (sum_in r) v).rest }) rest
-    ∙ ap (λ v. record { changes = change_in r ∷ v.changes; sum = v.sum; rest = v.rest }) (step-false (length r) n (sum_in r) [] (none-empty n (sum_in r))))) in
-    read-on all n (0, 0) log r (omega arith) (ap (λ v. v.rest) same ∙ ended)
-    ∙ (ap (λ v. behind v.changes (read_some all n v.sum r)) same
-    ∙ ap (λ v. behind (log_reading n log).changes v) last)
+-- what follows whole records is read with the sum of the last
+pub reading-more : (n : ℕ) (from : ℕ × ℕ) (b x : List ℕ) → (log_reading n from b).rest ≡ []
+    → log_reading n from (b ++ x) ≡ behind (log_reading n from b).changes (log_reading n (log_reading n from b).sum x)
+reading-more n from b x ended =
+    let long = length-append b x in
+    let all = length (b ++ x) in
+    let same : read_some all n from b ≡ log_reading n from b = enough all (length b) n from b (omega (arith, long)) (omega arith) in
+    read-on all n from b x (omega arith) (ap (λ v. v.rest) same ∙ ended)
+    ∙ (ap (λ v. behind v.changes (read_some all n v.sum x)) same
+    ∙ ap (λ v. behind (log_reading n from b).changes v) (enough all (length x) n (log_reading n from b).sum x (omega (arith, long)) (omega arith)))
 
--- A log of whole records with a part of one more: the part isn't read.
-pub part-more : (n : ℕ) (log p : List ℕ) → (log_reading n log).rest ≡ [] → begins_record n (log_reading n log).sum p ≡ false
-    → (log_reading n (log ++ p)).changes ≡ (log_reading n log).changes
-part-more n log p ended bad =
-    let long = length-append log p in
-    let all = length (log ++ p) in
-    let same : read_some all n (0, 0) log ≡ log_reading n log = enough all (length log) n (0, 0) log (omega (arith, long)) (omega arith) in
-    ap (λ v. v.changes) (read-on all n (0, 0) log p (omega arith) (ap (λ v. v.rest) same ∙ ended)
-    ∙ ap (λ v. behind v.changes (read_some all n v.sum p)) same)
-    ∙ (ap (λ v. (log_reading n log).changes ++ v.changes) (step-false all n (log_reading n log).sum p bad)
-    ∙ append-nil (log_reading n log).changes)
+-- one record
+pub one-read : (n : ℕ) (before : ℕ × ℕ) (r : List ℕ) → begins_record n before r ≡ true → record_len r ≡ length r
+    → log_reading n before r ≡ record { changes = change_in r ∷ []; sum = sum_in r; rest = [] }
+one-read n before r good len =
+    let rest : drop (record_len r) r ≡ [] = is_empty (drop (record_len r) r) (length-drop (record_len r) r ∙ omega (arith, len)) in
+    enough (length r) (suc (length r)) n before r (omega arith) (omega arith)
+    ∙ (step-true (length r) n before r good
+    ∙ (ap (λ v. record { changes = change_in r ∷ (read_some (length r) n (sum_in r) v).changes; sum = (read_some (length r) n (sum_in r) v).sum; rest = (read_some (length r) n (sum_in r) v).rest }) rest
+    ∙ ap (λ v. record { changes = change_in r ∷ v.changes; sum = v.sum; rest = v.rest }) (step-false (length r) n (sum_in r) [] (none-empty n (sum_in r)))))
 
 -- the contents after more changes
 pub replayed-more : (xs ys : List Change) (contents : List ℕ) → replayed (xs ++ ys) contents ≡ replayed ys (replayed xs contents)

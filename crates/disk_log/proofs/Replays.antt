@@ -1,27 +1,37 @@
--- A log that is being replayed.
-use Rattle.std.proofs.Common.{◌≡◌, ℕ, zero, suc, ◌+◌, ◌-◌, ◌*◌, ◌≤◌, Bool, true, false, List, ◌∷◌, length, take, drop, ap, sym, ◌∙◌, arith, refl, Some, None}
+-- Records that are being read, and replayed.
+use Rattle.std.proofs.Common.{◌≡◌, ℕ, zero, suc, ◌+◌, ◌-◌, ◌*◌, ◌≤◌, Bool, true, false, List, ◌∷◌, length, take, drop, ap, sym, ◌∙◌, arith, refl, Some, None, Result, Ok, Err, ◌⊎◌, inl, inr, subst, ◌<◌}
+use Rattle.block_device.specs.declared.disk.DiskError.{DiskError}
+use Rattle.block_device.specs.declared.disk.DiskError.TheVariants as errors
 use Rattle.std.specs.Prelude.{◌/◌, if◌then◌else◌}
 use Rattle.std.proofs.lemmas.List.{length-drop, length-take-le, drop-drop, take_all}
-use Rattle.block_device.specs.Facts.{Facts, IsDiskReady}
+use Rattle.block_device.specs.Facts.{Facts, IsDiskReady, CountsNeverFall, Latches}
 use Rattle.disk_log.specs.declared.record.Head.{Head}
-use Rattle.disk_log.specs.Records.{begins_record, first_in, count_in, body_in, body_len, body_len_of, record_len, change_in, record_change, with_change, head_in, replayed, sum_in}
-use Rattle.disk_log.specs.Logs.{LogReading, read_some, log_reading, after_log}
+use Rattle.disk_log.specs.Records.{begins_record, is_whole, kind_in, first_in, count_in, body_in, body_len, body_len_of, record_len, change_in, record_change, with_change, head_in, replayed, sum_in}
+use Rattle.disk_log.specs.Logs.{LogReading, read_some, log_reading}
 use Rattle.disk_log.proofs.Records.{begun}
+use Rattle.disk_log.proofs.Growing.{not-true}
 use Rattle.disk_log.proofs.Readings.{enough, step-true, step-false}
 
--- So far `at` bytes were replayed, the last record of which has this sum: what is left of the log
--- makes of the contents what all of it makes of those that it began with.
-pub record Underway (log : List ℕ) (old new : Facts) (at : ℕ) (sum : ℕ × ℕ) : Type 0 where
+-- So far `at` bytes were read, the last record of which has this sum: what is left is read as all is.
+pub record Reads (log : List ℕ) (n : ℕ) (from : ℕ × ℕ) (at : ℕ) (sum : ℕ × ℕ) : Type 0 where
+  pub low : at ≤ length log
+  pub rest : (read_some (length log) n sum (drop at log)).rest ≡ (log_reading n from log).rest
+  pub last : (read_some (length log) n sum (drop at log)).sum ≡ (log_reading n from log).sum
+
+-- Their changes were made: what is left makes of the contents what all makes of those at first.
+pub record Underway (log : List ℕ) (from : ℕ × ℕ) (old new : Facts) (at : ℕ) (sum : ℕ × ℕ) : Type 0 where
   pub low : at ≤ length log
   pub sound : new.sound ≡ old.sound
-  pub size : length new.contents ≡ length old.contents
+  pub goes : CountsNeverFall old new
   pub ready : IsDiskReady old → IsDiskReady new
-  pub contents : old.sound ≡ true → replayed (read_some (length log) (length old.contents / 512) sum (drop at log)).changes new.contents ≡ after_log old.contents log
-  pub rest : (read_some (length log) (length old.contents / 512) sum (drop at log)).rest ≡ (log_reading (length old.contents / 512) log).rest
-  pub last : (read_some (length log) (length old.contents / 512) sum (drop at log)).sum ≡ (log_reading (length old.contents / 512) log).sum
+  pub contents : old.sound ≡ true → replayed (read_some (length log) (length old.contents / 512) sum (drop at log)).changes new.contents
+      ≡ replayed (log_reading (length old.contents / 512) from log).changes old.contents
 
-pub at-first : (log : List ℕ) (facts : Facts) → Underway log facts facts 0 (0, 0)
-at-first log facts = record { low = omega arith; sound = refl; size = refl; ready = λ r. r; contents = λ s. refl; rest = refl; last = refl }
+pub reads-first : (log : List ℕ) (n : ℕ) (from : ℕ × ℕ) → Reads log n from 0 from
+reads-first log n from = record { low = omega arith; rest = refl; last = refl }
+
+pub at-first : (log : List ℕ) (from : ℕ × ℕ) (facts : Facts) → Underway log from facts facts 0 from
+at-first log from facts = record { low = omega arith; sound = refl; goes = record { size = refl; cuts = omega arith; slows = omega arith }; ready = λ r. r; contents = λ s. refl }
 
 -- the head that was found, or none
 found : (t : Bool) (head h : Head) → (if t then Some head else None) ≡ Some h → (t ≡ true) × (h ≡ head)
@@ -52,52 +62,109 @@ step-on (suc k) n sum b low e =
     step-true k n sum b e
     ∙ ap (λ (v : LogReading). record { changes = change_in b ∷ v.changes; sum = v.sum; rest = v.rest }) (enough k (suc k) n (sum_in b) (drop (record_len b) b) less (omega (arith, less)))
 
--- one record more
-pub one-on : (log : List ℕ) (old mid new : Facts) (at : ℕ) (sum : ℕ × ℕ) → Underway log old mid at sum → begins_record (length old.contents / 512) sum (drop at log) ≡ true
-    → new.sound ≡ mid.sound → length new.contents ≡ length mid.contents → (IsDiskReady mid → IsDiskReady new)
-    → (mid.sound ≡ true → new.contents ≡ with_change mid.contents (change_in (drop at log)))
-    → Underway log old new (at + record_len (drop at log)) (sum_in (drop at log))
-unfolding replayed
-one-on log old mid new at sum u e sound size ready done =
-    let b = drop at log in
-    let r = begun (length old.contents / 512) sum b e in
+onward : (k n : ℕ) (sum : ℕ × ℕ) (log : List ℕ) (at : ℕ) → read_some k n sum (drop (record_len (drop at log)) (drop at log)) ≡ read_some k n sum (drop (at + record_len (drop at log)) log)
+onward k n sum log at = ap (λ v. read_some k n sum v) (drop-drop (record_len (drop at log)) at log)
+
+pub reads-on : (log : List ℕ) (n : ℕ) (from : ℕ × ℕ) (at : ℕ) (sum : ℕ × ℕ) → Reads log n from at sum → begins_record n sum (drop at log) ≡ true
+    → Reads log n from (at + record_len (drop at log)) (sum_in (drop at log))
+reads-on log n from at sum u e =
+    let r = begun n sum (drop at log) e in
     let w = r.whole in
     let low = u.low in
     let long = length-drop at log in
-    let step = step-on (length log) (length old.contents / 512) sum b (omega (arith, long)) e in
-    let onward : drop (record_len b) b ≡ drop (at + record_len b) log = drop-drop (record_len b) at log ∙ ap (λ v. drop v log) (omega arith) in
-    let next = ap (λ v. read_some (length log) (length old.contents / 512) (sum_in b) v) onward in
+    let step = step-on (length log) n sum (drop at log) (omega (arith, long)) e in
+    let next = onward (length log) n (sum_in (drop at log)) log at in
     record {
       low = omega (arith, low, w, long);
-      sound = sound ∙ u.sound;
-      size = size ∙ u.size;
-      ready = λ r. ready (u.ready r);
-      contents = λ s.
-          ap (λ v. replayed v.changes new.contents) (sym next)
-          ∙ (ap (λ v. replayed (read_some (length log) (length old.contents / 512) (sum_in b) (drop (record_len b) b)).changes v) (done (u.sound ∙ s))
-          ∙ (ap (λ (v : LogReading). replayed v.changes mid.contents) (sym step) ∙ u.contents s));
       rest = ap (λ v. v.rest) (sym next) ∙ (ap (λ (v : LogReading). v.rest) (sym step) ∙ u.rest);
       last = ap (λ v. v.sum) (sym next) ∙ (ap (λ (v : LogReading). v.sum) (sym step) ∙ u.last);
     }
 
--- no record more
-pub record Done (log : List ℕ) (old new : Facts) (at : ℕ) (sum : ℕ × ℕ) : Type 0 where
-  pub contents : old.sound ≡ true → new.contents ≡ after_log old.contents log
-  pub rest : drop at log ≡ (log_reading (length old.contents / 512) log).rest
-  pub last : sum ≡ (log_reading (length old.contents / 512) log).sum
+pub record ReadAll (log : List ℕ) (n : ℕ) (from : ℕ × ℕ) (at : ℕ) (sum : ℕ × ℕ) : Type 0 where
+  pub low : at ≤ length log
+  pub rest : drop at log ≡ (log_reading n from log).rest
+  pub last : sum ≡ (log_reading n from log).sum
 
-pub at-end : (log : List ℕ) (old new : Facts) (at : ℕ) (sum : ℕ × ℕ) → Underway log old new at sum → begins_record (length old.contents / 512) sum (drop at log) ≡ false
-    → Done log old new at sum
-unfolding replayed
-at-end log old new at sum u e =
-    let stop = step-false (length log) (length old.contents / 512) sum (drop at log) e in
+pub reads-all : (log : List ℕ) (n : ℕ) (from : ℕ × ℕ) (at : ℕ) (sum : ℕ × ℕ) → Reads log n from at sum → begins_record n sum (drop at log) ≡ false → ReadAll log n from at sum
+reads-all log n from at sum u e =
+    let stop = step-false (length log) n sum (drop at log) e in
     record {
-      contents = λ s. ap (λ (v : LogReading). replayed v.changes new.contents) (sym stop) ∙ u.contents s;
+      low = u.low;
       rest = ap (λ (v : LogReading). v.rest) (sym stop) ∙ u.rest;
       last = ap (λ (v : LogReading). v.sum) (sym stop) ∙ u.last;
     }
 
+pub goes-on : (old mid new : Facts) → CountsNeverFall old mid → CountsNeverFall mid new → CountsNeverFall old new
+goes-on old mid new a b =
+    let p = a.cuts in
+    let q = b.cuts in
+    let r = a.slows in
+    let s = b.slows in
+    record { size = b.size ∙ a.size; cuts = omega (arith, p, q); slows = omega (arith, r, s) }
+
+-- one record more
+pub one-on : (log : List ℕ) (from : ℕ × ℕ) (old mid new : Facts) (at : ℕ) (sum : ℕ × ℕ) → Underway log from old mid at sum → begins_record (length old.contents / 512) sum (drop at log) ≡ true
+    → new.sound ≡ mid.sound → CountsNeverFall mid new → (IsDiskReady mid → IsDiskReady new)
+    → (mid.sound ≡ true → new.contents ≡ with_change mid.contents (change_in (drop at log)))
+    → Underway log from old new (at + record_len (drop at log)) (sum_in (drop at log))
+unfolding replayed
+one-on log from old mid new at sum u e sound goes ready done =
+    let n = length old.contents / 512 in
+    let r = begun n sum (drop at log) e in
+    let w = r.whole in
+    let low = u.low in
+    let long = length-drop at log in
+    let step = step-on (length log) n sum (drop at log) (omega (arith, long)) e in
+    let next = onward (length log) n (sum_in (drop at log)) log at in
+    record {
+      low = omega (arith, low, w, long);
+      sound = sound ∙ u.sound;
+      goes = goes-on old mid new u.goes goes;
+      ready = λ r. ready (u.ready r);
+      contents = λ s.
+          ap (λ v. replayed v.changes new.contents) (sym next)
+          ∙ (ap (λ v. replayed (read_some (length log) n (sum_in (drop at log)) (drop (record_len (drop at log)) (drop at log))).changes v) (done (u.sound ∙ s))
+          ∙ (ap (λ (v : LogReading). replayed v.changes mid.contents) (sym step) ∙ u.contents s));
+    }
+
+-- no record more
+pub at-end : (log : List ℕ) (from : ℕ × ℕ) (old new : Facts) (at : ℕ) (sum : ℕ × ℕ) → Underway log from old new at sum → begins_record (length old.contents / 512) sum (drop at log) ≡ false
+    → old.sound ≡ true → new.contents ≡ replayed (log_reading (length old.contents / 512) from log).changes old.contents
+unfolding replayed
+at-end log from old new at sum u e s =
+    ap (λ (v : LogReading). replayed v.changes new.contents) (sym (step-false (length log) (length old.contents / 512) sum (drop at log) e)) ∙ u.contents s
+
+pub no-both : (t : Bool) → t ≡ true → t ≡ false → ⊥
+no-both true e f = cc
+no-both false e f = cc
+
+-- an error comes only where one comes below
+pub failed-on : (T U : Type 0) (e : DiskError) (old mid new : Facts) → CountsNeverFall old mid → (IsDiskReady old → IsDiskReady mid) → Latches {T = T} mid (Err e) new
+    → IsDiskReady old → Latches {T = U} old (Err e) new
+failed-on T U errors.Cut old mid new goes still l ready =
+    (elim l.0 [ | inl stood ↦ absurd (no-both mid.cut stood (still ready).0) | inr came ↦ (let a = goes.cuts in let b = came.1 in inr (ready, omega (arith, a, b))) ], l.1, l.2 ∙ ((still ready).1 ∙ sym ready.1))
+failed-on T U errors.Slow old mid new goes still l ready =
+    (ready.0, elim l.1 [ | inl stood ↦ absurd (no-both mid.slow stood (still ready).1) | inr came ↦ (let a = goes.slows in inr (omega (arith, a, came))) ], l.2, l.3)
+
+-- a record that isn't one of the disk's changes
+less-than : (n : ℕ) (before : ℕ × ℕ) (b : List ℕ) → (1 < kind_in b) ⊎ (n < first_in b + count_in b) → begins_record n before b ≡ false
+less-than n before b (inl h) = not-true (begins_record n before b) (λ e. let k = (begun n before b e).kind in absurd (omega (arith, h, k)))
+less-than n before b (inr h) = not-true (begins_record n before b) (λ e. let i = (begun n before b e).inside in absurd (omega (arith, h, i)))
+
+none-if : (t : Bool) (head : Head) → t ≡ false → None ≡ (if t then Some head else None)
+none-if true head e = cc
+none-if false head e = refl
+
+pub out-of : (n : ℕ) (before : ℕ × ℕ) (b : List ℕ) (head : Head) → (if is_whole before b then Some (head_in b) else None) ≡ Some head → (1 < head.kind) ⊎ (n < head.first + head.count)
+    → None ≡ (if begins_record n before b then Some (head_in b) else None)
+out-of n before b head e h =
+    let is = (found (is_whole before b) (head_in b) head e).1 in
+    none-if (begins_record n before b) (head_in b) (less-than n before b (subst (λ (v : Head). (1 < v.kind) ⊎ (n < v.first + v.count)) is h))
+
 -- what the change of such a record asks
+pub kind-of : (n : ℕ) (sum : ℕ × ℕ) (b : List ℕ) → begins_record n sum b ≡ true → kind_in b < 2
+kind-of n sum b e = (begun n sum b e).kind
+
 pub inside-of : (n : ℕ) (sum : ℕ × ℕ) (b contents : List ℕ) → begins_record n sum b ≡ true → n ≤ length contents / 512 → 512 * (first_in b + count_in b) ≤ length contents
 inside-of n sum b contents e low = (let r = begun n sum b e in let i = r.inside in omega (arith, i, low))
 

@@ -1,11 +1,13 @@
--- A log: records, one behind the other. Source: own.
-use Rattle.std.specs.Prelude.{◌≡◌, ◌⊎◌, ℕ, zero, suc, ◌+◌, ◌/◌, if◌then◌else◌}
-use Rattle.std.specs.Prelude.{List, [], ◌∷◌, length, drop, ◌++◌, ◌≤◌, Option, Some, None, Result}
-use Rattle.std.specs.Prelude.{Ok, Err}
-use Rattle.disk_log.specs.Records.{Change, begins_record, change_in, record_len, replayed, sum_in}
+-- A log: a head, and records one behind the other. Source: own.
+use Rattle.std.specs.Prelude.{◌≡◌, ℕ, zero, suc, ◌+◌, ◌&&◌, ◌||◌, ◌==◌, if◌then◌else◌}
+use Rattle.std.specs.Prelude.{List, [], ◌∷◌, length, drop, Option, Some, None}
+use Rattle.std.specs.Prelude.{Bool, true, false, nat_lt}
+use Rattle.byteorder.specs.Endian.{little_from}
+use Rattle.disk_log.specs.Records.{Change, begins_record, begins_checkpoint, change_in, record_len}
+use Rattle.disk_log.specs.Records.{replayed, sum_in, sum_at}
+use Rattle.disk_log.specs.Checkpoints.{image_sum, placed_in}
 
--- the longest beginning of a log that is records: their changes, the sum of the last one, and what
--- is behind it
+-- the longest beginning of a log that is changes, the sum of the last one, and what is behind it
 pub record LogReading : Type 0 where
   pub changes : List Change
   pub sum : ℕ × ℕ
@@ -19,40 +21,73 @@ read_some (suc k) n before b = if begins_record n before b
     in record { changes = change_in b ∷ more.changes; sum = more.sum; rest = more.rest })
     else record { changes = []; sum = before; rest = b }
 
--- the reading of a log of a disk of n sectors: it has no more records than bytes
-abbrev pub log_reading : ℕ → List ℕ → LogReading
-log_reading n log = read_some (length log) n (0, 0) log
+-- the reading of records of a disk of n sectors, which go on from a sum: there are no more of them
+-- than bytes
+abbrev pub log_reading : ℕ → ℕ × ℕ → List ℕ → LogReading
+log_reading n before b = read_some (length b) n before b
 
--- a log that is records to its end, the last of which has this sum
-pub record IsWholeLog (n : ℕ) (log : List ℕ) (last : ℕ × ℕ) : Type 0 where
-  pub rest : (log_reading n log).rest ≡ []
-  pub sum : (log_reading n log).sum ≡ last
+-- records to the end, the last of which has this sum
+pub record IsWholeLog (n : ℕ) (before : ℕ × ℕ) (b : List ℕ) (last : ℕ × ℕ) : Type 0 where
+  pub rest : (log_reading n before b).rest ≡ []
+  pub sum : (log_reading n before b).sum ≡ last
 
--- the contents of a disk after the changes of a log
-abbrev pub after_log : List ℕ → List ℕ → List ℕ
-after_log contents log = replayed (log_reading (length contents / 512) log).changes contents
+-- Bytes 0 to 7 of a log are NORBDLOG, bytes 8 to 15 the sum of the image's bytes on which it was
+-- begun.
+abbrev pub has_head : List ℕ → Bool
+has_head log = nat_lt 15 (length log) && little_from 0 4 log == 0x4252_4F4E
+    && little_from 4 4 log == 0x474F_4C44
 
--- What an image with the contents `base` and a log hold together. Of a log that tells nothing it is
--- what the disk in memory holds.
-abbrev pub held : List ℕ → Option (List ℕ) → List ℕ → List ℕ
-held base None contents = contents
-held base (Some log) contents = after_log base log
+abbrev pub head_sum : List ℕ → ℕ × ℕ
+head_sum log = sum_at 8 log
 
--- What an append of a record with this change leaves of a log of a disk of n sectors, on which its
--- sectors are, and which was whole: one change more; where it failed, the same ones, or one more.
-pub record Grows (n : ℕ) (change : Change) (old new : List ℕ) (last : ℕ × ℕ) : Type 0 where
-  pub whole : IsWholeLog n new last
-  pub more : (log_reading n new).changes ≡ (log_reading n old).changes ++ change ∷ []
+-- a log that was never begun: shorter than a head, or one of zeros
+abbrev pub is_blank : List ℕ → Bool
+is_blank log = nat_lt (length log) 16
+    || (little_from 0 4 log == 0 && little_from 4 4 log == 0
+    && little_from 8 4 log == 0 && little_from 12 4 log == 0)
 
-abbrev pub Grown : {T E : Type 0} → ℕ → Change → List ℕ → Result T E → List ℕ → ℕ × ℕ → Type 0
-Grown n change old (Ok _) new last = Grows n change old new last
-Grown n change old (Err _) new last = ((log_reading n new).changes ≡ (log_reading n old).changes)
-    ⊎ ((log_reading n new).changes ≡ (log_reading n old).changes ++ change ∷ [])
+-- the changes in a log of a disk of n sectors; the first goes on from the sum in the head
+abbrev pub log_changes : ℕ → List ℕ → LogReading
+log_changes n log = if has_head log
+    then log_reading n (head_sum log) (drop 16 log)
+    else record { changes = []; sum = (0, 0); rest = [] }
 
--- a log that tells nothing tells nothing afterwards
-abbrev pub Appends : {T E : Type 0} → Change → ℕ × ℕ → Option (List ℕ) → Result T E → ℕ × ℕ
-    → Option (List ℕ) → Type 0
-Appends change before None result last new = new ≡ None
-Appends change before (Some old) result last new = (log : List ℕ) × (new ≡ Some log)
-    × ((n : ℕ) → change.first + length change.bytes / 512 ≤ n → IsWholeLog n old before
-    → Grown n change old result log last)
+-- whether there is a checkpoint behind the changes: it counts only when it is whole
+abbrev pub has_checkpoint : ℕ → List ℕ → Bool
+has_checkpoint n log = begins_checkpoint (log_changes n log).sum (log_changes n log).rest
+
+-- What an image and the log beside it hold together, where an image's bytes represent the contents
+-- of a disk of n sectors. With a checkpoint it is what the image represents once its blocks are
+-- placed; else what it represents, with the changes of the log.
+abbrev pub contents_in : (List ℕ → List ℕ) → ℕ → List ℕ → List ℕ → List ℕ
+contents_in represents n image log = if has_checkpoint n log
+    then represents (placed_in (log_changes n log).rest image)
+    else replayed (log_changes n log).changes (represents image)
+
+-- An image file and the log beside it, of a disk of so many sectors.
+pub record Medium : Type 0 where
+  pub sectors : ℕ
+  pub image : List ℕ
+  pub log : List ℕ
+  -- so many first bytes of the log are on the medium, whatever happens to the host
+  pub safe : ℕ
+  -- whether all bytes of the image are
+  pub settled : Bool
+
+-- what files that tell hold; of others it is what the disk in memory holds
+abbrev pub held : (List ℕ → List ℕ) → Option Medium → List ℕ → List ℕ
+held represents None contents = contents
+held represents (Some m) contents = contents_in represents m.sectors m.image m.log
+
+-- a log that was begun on this image, and is changes to its end, the last of which has this sum
+pub record IsBegun (m : Medium) (image : List ℕ) (last : ℕ × ℕ) : Type 0 where
+  pub same : m.image ≡ image
+  pub head : has_head m.log ≡ true
+  pub own : head_sum m.log ≡ image_sum image
+  pub whole : IsWholeLog m.sectors (head_sum m.log) (drop 16 m.log) last
+
+-- two pairs of files hold the same, whatever an image represents
+abbrev pub HoldsAs : Medium → Medium → Type 0
+HoldsAs old new = (represents : List ℕ → List ℕ)
+    → contents_in represents new.sectors new.image new.log
+    ≡ contents_in represents old.sectors old.image old.log

@@ -1,5 +1,4 @@
--- A record of a log: one change of a disk. Source: own; the sum is the one of SQLite's write-ahead
--- log.
+-- A record of a log. Source: own; the sum is the one of SQLite's write-ahead log.
 use Rattle.std.specs.Prelude.{ℕ, suc, ◌+◌, ◌*◌, ◌&&◌, ◌==◌, Bool, false, nat_lt}
 use Rattle.std.specs.Prelude.{if◌then◌else◌, List, [], ◌∷◌, length, take, drop, replicate}
 use Rattle.byteorder.specs.Endian.{little_from}
@@ -21,25 +20,31 @@ unfoldable pub replayed : List Change → List ℕ → List ℕ
 replayed [] contents = contents
 replayed (change ∷ changes) contents = replayed changes (with_change contents change)
 
--- Bytes 0 to 3: 0 where the bytes of the sectors follow the head, 1 where they are zeros. All
--- numbers have the least significant byte first.
+-- two numbers of four bytes each: a sum. All numbers have the least significant byte first.
+abbrev pub sum_at : ℕ → List ℕ → ℕ × ℕ
+sum_at i b = (little_from i 4 b, little_from (i + 4) 4 b)
+
+-- Bytes 0 to 3: 0 where the bytes of the sectors follow the head, 1 where they are zeros, 2 where a
+-- checkpoint follows.
 abbrev pub kind_in : List ℕ → ℕ
 kind_in b = little_from 0 4 b
 
--- bytes 4 to 7: the first sector; bytes 8 to 11: how many sectors. Bytes 12 to 15 say nothing.
+-- bytes 4 to 7: the first sector; bytes 8 to 11: how many sectors, or blocks of a checkpoint. Bytes
+-- 12 to 15 say nothing.
 abbrev pub first_in : List ℕ → ℕ
 first_in b = little_from 4 4 b
 
 abbrev pub count_in : List ℕ → ℕ
 count_in b = little_from 8 4 b
 
--- bytes 16 to 23: the two halves of the sum
+-- bytes 16 to 23: the record's sum
 abbrev pub sum_in : List ℕ → ℕ × ℕ
 sum_in b = (little_from 16 4 b, little_from 20 4 b)
 
 -- how many bytes follow the head of 24, by the kind and the count
 abbrev pub body_len_of : ℕ → ℕ → ℕ
-body_len_of kind count = if kind == 0 then 512 * count else 0
+body_len_of kind count =
+    if kind == 0 then 512 * count else (if kind == 2 then 8 + 4104 * count else 0)
 
 abbrev pub body_len : List ℕ → ℕ
 body_len b = body_len_of (kind_in b) (count_in b)
@@ -66,13 +71,20 @@ change_in b = record_change (kind_in b) (first_in b) (count_in b) (body_in b)
 abbrev pub sum_over : ℕ × ℕ → List ℕ → ℕ × ℕ
 sum_over before b = checksum false (checksum false before (take 16 b)) (body_in b)
 
--- whether bytes begin with a record for a disk of n sectors, behind one with this sum: all of it is
--- there, its sectors are on the disk, and its sum is right
+-- whether all of a record is there, behind one with this sum, and its sum is right
+abbrev pub is_whole : ℕ × ℕ → List ℕ → Bool
+is_whole before b =
+    nat_lt 23 (length b) && nat_lt (23 + body_len b) (length b)
+    && (sum_in b).0 == (sum_over before b).0 && (sum_in b).1 == (sum_over before b).1
+
+-- whether bytes begin with a change of a disk of n sectors, on which its sectors are
 abbrev pub begins_record : ℕ → ℕ × ℕ → List ℕ → Bool
 begins_record n before b =
-    nat_lt 23 (length b) && nat_lt (kind_in b) 2 && nat_lt (first_in b + count_in b) (suc n)
-    && nat_lt (23 + body_len b) (length b)
-    && (sum_in b).0 == (sum_over before b).0 && (sum_in b).1 == (sum_over before b).1
+    is_whole before b && nat_lt (kind_in b) 2 && nat_lt (first_in b + count_in b) (suc n)
+
+-- whether bytes begin with a checkpoint
+abbrev pub begins_checkpoint : ℕ × ℕ → List ℕ → Bool
+begins_checkpoint before b = is_whole before b && kind_in b == 2
 
 -- what its head says
 abbrev pub head_in : List ℕ → Head

@@ -1,31 +1,33 @@
-//! A disk whose writes are appended to a log before they are acknowledged.
+//! A disk over an image and its log.
 
-ghost use Rattle.std.specs.Prelude.{◌≡◌, ◌/◌, ◌<◌, ◌*◌, ◌^◌, ℕ, List, Some, [], length, true};
+ghost use Rattle.std.specs.Prelude.{◌≡◌, ◌/◌, ◌<◌, ◌*◌, ◌^◌, ℕ, List, None, Some, length, true};
+ghost use Rattle.std.specs.Prelude.{replicate, IfOk, OnOk};
+ghost use Rattle.block_device.specs.Contents.{InRange};
 ghost use Rattle.block_device.specs.Facts.{IsDiskReady};
-ghost use Rattle.disk_log.specs.Logs.{Appends, IsWholeLog, after_log, held};
-ghost use Rattle.disk_log.specs.Records.{record_change, body_len_of};
+ghost use Rattle.disk_log.specs.Checkpoints.{IsImageLen};
+ghost use Rattle.disk_log.specs.Files.{OfFiles};
+ghost use Rattle.disk_log.specs.Logs.{IsBegun, Medium, contents_in, held};
 ghost use Rattle.disk_log.specs.declared.logged.Standing.TheVariants.{Ready};
-ghost use Rattle.disk_log.specs.Logged.{standing_answer, logged_facts};
+ghost use Rattle.disk_log.specs.Logged.{IsOfDisk, logged_facts, standing_answer};
 
-use crate::file::LogFile;
-use crate::record::{Sum, head_of};
+use crate::adding::append_change;
+use crate::file::ImageFiles;
+use crate::placing::settle_files;
+use crate::record::{RECORD_HEAD_LEN, Sum};
 use block_device::{Disk, DiskError, SECTOR_LEN, Tally};
-use std::io;
-use std::marker::Brand;
+use std::alloc::Global;
 use std::sync::ledger::{Blank, Ledger};
 
-/// A name for one log, for contracts alone: a type that represents it.
-pub trait LogName: Ledger {
+/// A disk that is made of the bytes of an image.
+pub trait ImageDisk: Disk {
     ghost use Rattle.std.specs.Prelude.{ℕ, List};
 
-    /// What the image's disk held when the log was begun.
-    ghost base: { List ℕ };
-}
+    /// The contents of the disk that an image's bytes represent.
+    ghost represents: { List ℕ → List ℕ };
 
-impl LogName for Brand {
-    ghost use Rattle.std.specs.Prelude.{[]};
-
-    ghost base = { [] };
+    /// The bytes of the image as it would be now.
+    fn image(&self) -> &[u8]
+        ensures { represents result.now ≡ (Self.facts self.now).contents };
 }
 
 /// Whether an error stands.
@@ -33,56 +35,44 @@ impl LogName for Brand {
 pub enum Standing {
     /// None does.
     Ready,
-    /// The disk or the log failed.
+    /// The disk or the files failed.
     Cut,
     /// An operation of the disk didn't end.
     Slow,
 }
 
-/// A disk and a log. Each `write` and `zero` that answers Ok is in the log. An error is the last:
-/// it is answered again by every later call, `restore` too.
+/// How many steps of tidying pass between the last that the disk has and the one that settles.
+const WAITS: u32 = 100;
+
+/// A disk over an image and its log. Each `write` and `zero` that answers Ok is in the log. An
+/// error is the last: it is answered again by every later call, `restore` too.
 #[derive(Drop)]
-pub struct LoggedDisk<D: Disk, F: LogFile, L: LogName> {
+pub struct LoggedDisk<D: ImageDisk, F: ImageFiles, L: Ledger> {
+    alloc: Global,
     disk: D,
     sectors: u32,
-    log: F,
+    files: F,
+    // the bytes of the image file
+    image: Vec<u8>,
     sum: Sum,
+    // how many bytes were appended to the log since it was begun or found
+    grown: usize,
     standing: Standing,
+    // how many steps to wait; None while the disk may have some of its own
+    waits: Option<u32>,
     lost: Tally<L>,
     ghost few: { sectors < 2 ^ 32 },
-    ghost base: { length L.base ≡ 512 * sectors },
+    ghost len: { IsImageLen (length image.items) },
     ghost size: { length (D.facts disk).contents ≡ 512 * sectors },
+    ghost told: { length (held D.represents (F.medium files) (D.facts disk).contents)
+        ≡ 512 * sectors },
     ghost ready: { standing ≡ Ready → IsDiskReady (D.facts disk) },
-    ghost whole: { standing ≡ Ready → (bytes : List ℕ) → F.content log ≡ Some bytes
-        → IsWholeLog (length L.base / 512) bytes sum },
-    ghost same: { standing ≡ Ready → (D.facts disk).sound ≡ true → (bytes : List ℕ)
-        → F.content log ≡ Some bytes
-        → held L.base (Some bytes) (D.facts disk).contents ≡ (D.facts disk).contents },
-}
-
-/// Appends a record of so many sectors from the sector `first` on to a log whose last one has the
-/// sum `sum`: of these bytes, or where its kind is 1 of zeros, and then there are none.
-fn append<F: LogFile>(
-    log: &mut F,
-    sum: &mut Sum,
-    kind: u32,
-    first: u32,
-    count: u32,
-    body: &[u8],
-) -> io::Result<()>
-    requires kind { kind < 2 }
-    requires len { length body.now ≡ body_len_of kind count }
-    ensures { Appends (record_change kind first count body.now) sum.old (F.content log.old) result
-        sum.new (F.content log.new) }
-{
-    let (head, next) = head_of(kind, first, count, body, *sum);
-    match log.append(&head, body) {
-        Ok(()) => {
-            *sum = next;
-            Ok(())
-        }
-        Err(error) => Err(error),
-    }
+    ghost counted: { standing ≡ Ready → (m : Medium) → F.medium files ≡ Some m
+        → m.sectors ≡ sectors },
+    ghost begun: { standing ≡ Ready → (m : Medium) → F.medium files ≡ Some m
+        → IsBegun m image.items sum },
+    ghost same: { standing ≡ Ready → (D.facts disk).sound ≡ true
+        → held D.represents (F.medium files) (D.facts disk).contents ≡ (D.facts disk).contents },
 }
 
 /// What stands after an error.
@@ -96,38 +86,43 @@ fn standing_of(error: DiskError) -> Standing
     }
 }
 
-impl<D: Disk, F: LogFile, L: LogName> LoggedDisk<D, F, L> {
-    /// A disk that holds what its image does, with an empty log.
-    pub fn new(disk: D, log: F, blank: Blank) -> Self
+impl<D: ImageDisk, F: ImageFiles, L: Ledger> LoggedDisk<D, F, L> {
+    /// A disk over an image file with these bytes and a log that was begun on it: what both hold is
+    /// what this disk holds, and the last record has the sum `sum`.
+    pub fn new(alloc: Global, disk: D, files: F, image: Vec<u8>, sum: Sum, blank: Blank) -> Self
         requires name { blank.name ≡ L.name }
         requires parts { blank.parts ≡ L.parts }
         requires some { 0 < L.parts }
-        requires base { L.base ≡ (D.facts disk).contents }
         requires ready { IsDiskReady (D.facts disk) }
-        requires empty { (bytes : List ℕ) → F.content log ≡ Some bytes → bytes ≡ [] }
+        requires len { IsImageLen (length image.items) }
+        requires files { OfFiles (F.medium files) (λ m. IsOfDisk D.represents
+            (length (D.facts disk).contents / 512) (D.facts disk).contents image.items sum m) }
         ensures facts { ⟦<LoggedDisk<D, F, L> as Disk>⟧.facts result
-            ≡ logged_facts L.base (F.content log) Ready 0 (D.facts disk) }
+            ≡ logged_facts D.represents (F.medium files) Ready 0 None (D.facts disk) }
     {
         LoggedDisk {
+            alloc,
             sectors: disk.sectors(),
             disk,
-            log,
-            sum: (0, 0),
+            files,
+            image,
+            sum,
+            grown: 1,
             standing: Standing::Ready,
+            waits: None,
             lost: Tally::new(blank),
         }
     }
-}
 
-impl<D: Disk, F: LogFile, L: LogName> LoggedDisk<D, F, L> {
-    /// The disk and the log: what the image and the log hold is what this disk held.
+    /// The disk and the files: what the files hold is what this disk held.
     pub fn into_parts(self) -> (D, F)
-        ensures parts { result ≡ (self.disk, self.log) }
-        ensures holds { (bytes : List ℕ) → F.content result.1 ≡ Some bytes
-            → after_log L.base bytes ≡ (⟦<LoggedDisk<D, F, L> as Disk>⟧.facts self).contents }
+        ensures parts { result ≡ (self.disk, self.files) }
+        ensures holds { OfFiles (F.medium result.1) (λ m.
+            contents_in D.represents m.sectors m.image m.log
+            ≡ (⟦<LoggedDisk<D, F, L> as Disk>⟧.facts self).contents) }
     {
-        let LoggedDisk { disk, log, .. } = self;
-        (disk, log)
+        let LoggedDisk { disk, files, .. } = self;
+        (disk, files)
     }
 
     /// The error that stands.
@@ -142,10 +137,138 @@ impl<D: Disk, F: LogFile, L: LogName> LoggedDisk<D, F, L> {
     }
 }
 
-impl<D: Disk, F: LogFile, L: LogName> Disk for LoggedDisk<D, F, L> {
+impl<D: ImageDisk, F: ImageFiles, L: Ledger> LoggedDisk<D, F, L> {
+    ghost use Rattle.disk_log.specs.Logged.{Settled, WritesTo};
+
+    /// Writes what changed into the image, and begins the log anew. The contents stay, also where
+    /// that fails.
+    pub fn settle(&mut self) -> Result<(), DiskError>
+        ensures { Settled (⟦<LoggedDisk<D, F, L> as Disk>⟧.facts self.old) result
+            (⟦<LoggedDisk<D, F, L> as Disk>⟧.facts self.new) }
+    {
+        self.standing_error()?;
+        let image = self.disk.image();
+        if image.len() != self.image.len() {
+            self.standing = Standing::Cut;
+            self.lost.tick();
+            return Err(DiskError::Cut);
+        }
+        match settle_files(self.alloc, &mut self.files, &mut self.sum, &self.image, image) {
+            Ok(()) => {
+                self.image.copy_from_slice(image);
+                self.grown = 0;
+                Ok(())
+            }
+            Err(_) => {
+                self.standing = Standing::Cut;
+                self.lost.tick();
+                Err(DiskError::Cut)
+            }
+        }
+    }
+
+    /// Settles a log that has four images' lengths.
+    fn make_room(&mut self) -> Result<(), DiskError>
+        ensures { Settled (⟦<LoggedDisk<D, F, L> as Disk>⟧.facts self.old) result
+            (⟦<LoggedDisk<D, F, L> as Disk>⟧.facts self.new) }
+    {
+        self.standing_error()?;
+        if self.grown / 4 < self.image.len() {
+            return Ok(());
+        }
+        self.settle()
+    }
+
+    /// Writes whole sectors, and the record of them.
+    fn put(&mut self, first: u32, from: &[u8]) -> Result<(), DiskError>
+        requires { InRange (⟦<LoggedDisk<D, F, L> as Disk>⟧.facts self.old).contents first
+            (length from.now) }
+        ensures { WritesTo first from.now (⟦<LoggedDisk<D, F, L> as Disk>⟧.facts self.old) result
+            (⟦<LoggedDisk<D, F, L> as Disk>⟧.facts self.new) }
+    {
+        self.standing_error()?;
+        match self.disk.write(first, from) {
+            Ok(()) => {
+                let count = (from.len() / SECTOR_LEN) as u32;
+                match append_change(&mut self.files, &mut self.sum, 0, first, count, from) {
+                    Ok(()) => {
+                        self.grown = self.grown.saturating_add(from.len());
+                        self.waits = None;
+                        Ok(())
+                    }
+                    Err(_) => {
+                        self.standing = Standing::Cut;
+                        self.lost.tick();
+                        Err(DiskError::Cut)
+                    }
+                }
+            }
+            Err(error) => {
+                self.standing = standing_of(error);
+                Err(error)
+            }
+        }
+    }
+
+    /// Writes zeros over whole sectors, and the record of them.
+    fn put_zeros(&mut self, first: u32, count: u32) -> Result<(), DiskError>
+        requires { InRange (⟦<LoggedDisk<D, F, L> as Disk>⟧.facts self.old).contents first
+            (512 * count) }
+        ensures { WritesTo first (replicate (512 * count) 0)
+            (⟦<LoggedDisk<D, F, L> as Disk>⟧.facts self.old) result
+            (⟦<LoggedDisk<D, F, L> as Disk>⟧.facts self.new) }
+    {
+        self.standing_error()?;
+        match self.disk.zero(first, count) {
+            Ok(()) => match append_change(&mut self.files, &mut self.sum, 1, first, count, &[]) {
+                Ok(()) => {
+                    self.grown = self.grown.saturating_add(RECORD_HEAD_LEN);
+                    self.waits = None;
+                    Ok(())
+                }
+                Err(_) => {
+                    self.standing = Standing::Cut;
+                    self.lost.tick();
+                    Err(DiskError::Cut)
+                }
+            },
+            Err(error) => {
+                self.standing = standing_of(error);
+                Err(error)
+            }
+        }
+    }
+
+    /// One of so many steps of waiting; the last settles.
+    fn wait(&mut self, waits: u32) -> Result<bool, DiskError>
+        requires some { 0 < waits }
+        requires was { self.old.waits ≡ Some waits }
+        ensures settled { Settled (⟦<LoggedDisk<D, F, L> as Disk>⟧.facts self.old) result
+            (⟦<LoggedDisk<D, F, L> as Disk>⟧.facts self.new) }
+        ensures step { IfOk result (λ did. did ≡ true) }
+        ensures work { OnOk result ((⟦<LoggedDisk<D, F, L> as Disk>⟧.facts self.new).work
+            < waits) }
+    {
+        self.standing_error()?;
+        if waits > 1 {
+            self.waits = Some(waits - 1);
+            return Ok(true);
+        }
+        match self.settle() {
+            Ok(()) => {
+                self.waits = Some(0);
+                Ok(true)
+            }
+            Err(error) => Err(error),
+        }
+    }
+}
+
+impl<D: ImageDisk, F: ImageFiles, L: Ledger> Disk for LoggedDisk<D, F, L> {
     ghost use Rattle.disk_log.specs.Logged.{logged_facts};
 
-    ghost facts = { λ d. logged_facts L.base (F.content d.log) d.standing d.lost (D.facts d.disk) };
+    ghost facts = { λ d. logged_facts D.represents (F.medium d.files) d.standing d.lost d.waits
+        (D.facts d.disk) };
 
     fn sectors(&self) -> u32 {
         self.sectors
@@ -163,43 +286,16 @@ impl<D: Disk, F: LogFile, L: LogName> Disk for LoggedDisk<D, F, L> {
     }
 
     fn write(&mut self, first: u32, from: &[u8]) -> Result<(), DiskError> {
-        self.standing_error()?;
-        match self.disk.write(first, from) {
-            Ok(()) => {
-                let count = (from.len() / SECTOR_LEN) as u32;
-                match append(&mut self.log, &mut self.sum, 0, first, count, from) {
-                    Ok(()) => Ok(()),
-                    Err(_) => {
-                        self.standing = Standing::Cut;
-                        self.lost.tick();
-                        Err(DiskError::Cut)
-                    }
-                }
-            }
-            Err(error) => {
-                self.standing = standing_of(error);
-                Err(error)
-            }
+        match self.make_room() {
+            Ok(()) => self.put(first, from),
+            Err(error) => Err(error),
         }
     }
 
     fn zero(&mut self, first: u32, count: u32) -> Result<(), DiskError> {
-        self.standing_error()?;
-        match self.disk.zero(first, count) {
-            Ok(()) => {
-                match append(&mut self.log, &mut self.sum, 1, first, count, &[]) {
-                    Ok(()) => Ok(()),
-                    Err(_) => {
-                        self.standing = Standing::Cut;
-                        self.lost.tick();
-                        Err(DiskError::Cut)
-                    }
-                }
-            }
-            Err(error) => {
-                self.standing = standing_of(error);
-                Err(error)
-            }
+        match self.make_room() {
+            Ok(()) => self.put_zeros(first, count),
+            Err(error) => Err(error),
         }
     }
 
@@ -212,12 +308,20 @@ impl<D: Disk, F: LogFile, L: LogName> Disk for LoggedDisk<D, F, L> {
 
     fn tidy(&mut self) -> Result<bool, DiskError> {
         self.standing_error()?;
-        match self.disk.tidy() {
-            Ok(did) => Ok(did),
-            Err(error) => {
-                self.standing = standing_of(error);
-                Err(error)
-            }
+        match self.waits {
+            Some(waits) if waits == 0 => Ok(false),
+            Some(waits) => self.wait(waits),
+            None => match self.disk.tidy() {
+                Ok(true) => Ok(true),
+                Ok(false) => {
+                    self.waits = Some(if self.grown == 0 { 0 } else { WAITS });
+                    Ok(true)
+                }
+                Err(error) => {
+                    self.standing = standing_of(error);
+                    Err(error)
+                }
+            },
         }
     }
 

@@ -1,67 +1,114 @@
-//! A log in memory.
+//! An image file and its log in memory.
 
-ghost use Rattle.std.specs.Prelude.{◌≡◌, ◌++◌, [], Some};
-ghost use Rattle.disk_log.specs.Files.{Extends, bytes_in};
-
-use crate::file::LogFile;
+use crate::file::{BLOCK_LEN, ImageFiles};
 use std::alloc::Global;
 use std::io;
 use std::io::ErrorKind;
 
-/// A log in memory that takes so many bytes, and no more. One that is to be replayed after a kill
-/// is such a log.
+/// An image and its log in memory, whose calls fail once they have done so much: a byte that is
+/// written, a sync and a cut count one each.
 #[derive(Drop)]
-pub struct MemoryLog {
-    bytes: Vec<u8>,
-    most: usize,
+pub struct MemoryFiles {
+    sectors: u32,
+    image: Vec<u8>,
+    log: Vec<u8>,
+    safe: usize,
+    settled: bool,
+    left: usize,
 }
 
-impl MemoryLog {
-    ghost use Rattle.disk_log.specs.Files.{bytes_in};
+impl MemoryFiles {
+    ghost use Rattle.std.specs.Prelude.{◌≡◌, length, true};
+    ghost use Rattle.disk_log.specs.Memory.{medium_of};
 
-    /// An empty log that takes at most so many bytes.
-    pub fn new(alloc: Global, most: usize) -> MemoryLog
-        ensures { bytes_in result ≡ [] }
+    /// Files with these bytes, all on the medium, of a disk of so many sectors. They fail once they
+    /// have done so much.
+    pub fn new(sectors: u32, image: Vec<u8>, log: Vec<u8>, left: usize) -> MemoryFiles
+        ensures { medium_of result ≡ record {
+            sectors = sectors;
+            image = image.items;
+            log = log.items;
+            safe = length log.items;
+            settled = true;
+        } }
     {
-        MemoryLog {
-            bytes: Vec::new(alloc),
-            most,
+        MemoryFiles {
+            safe: log.len(),
+            sectors,
+            image,
+            log,
+            settled: true,
+            left,
         }
     }
 
-    /// Its bytes.
-    pub fn bytes(&self) -> &[u8]
-        ensures { result.now ≡ bytes_in self.now }
+    /// The bytes of the image.
+    pub fn image(&self) -> &[u8]
+        ensures { result.now ≡ (medium_of self.now).image }
     {
-        self.bytes.as_slice()
+        self.image.as_slice()
     }
 
-    /// Appends these bytes, or a beginning of them where there is no room for more.
-    fn take(&mut self, bytes: &[u8]) -> Result<(), ErrorKind>
-        ensures { Extends (Some (bytes_in self.old)) bytes.now result (Some (bytes_in self.new)) }
+    /// The bytes of the log.
+    pub fn log(&self) -> &[u8]
+        ensures { result.now ≡ (medium_of self.now).log }
     {
-        let n = bytes.len().min(self.most.saturating_sub(self.bytes.len()));
-        match self.bytes.extend_from_slice(&bytes[..n]) {
-            Ok(()) if n == bytes.len() => Ok(()),
-            Ok(()) => Err(ErrorKind::StorageFull),
-            Err(_) => Err(ErrorKind::OutOfMemory),
-        }
+        self.log.as_slice()
+    }
+
+    /// Whether one more call does its work, of which so much is to be done, and how much is.
+    fn done(&mut self, much: usize) -> usize
+        ensures { medium_of self.new ≡ medium_of self.old }
+    {
+        let done = much.min(self.left);
+        self.left -= done;
+        done
     }
 }
 
-impl LogFile for MemoryLog {
+impl ImageFiles for MemoryFiles {
     ghost use Rattle.std.specs.Prelude.{Some};
-    ghost use Rattle.disk_log.specs.Files.{bytes_in};
+    ghost use Rattle.disk_log.specs.Memory.{medium_of};
 
-    ghost content = { λ log. Some (bytes_in log) };
+    ghost medium = { λ files. Some (medium_of files) };
 
     fn append(&mut self, head: &[u8], bytes: &[u8]) -> io::Result<()> {
-        if let Err(kind) = self.take(head) {
-            return Err(io::Error::from(kind));
+        Ok(())
+    }
+
+    fn sync_log(&mut self) -> io::Result<()> {
+        if self.done(1) == 0 {
+            return Err(io::Error::from(ErrorKind::Other));
         }
-        match self.take(bytes) {
-            Ok(()) => Ok(()),
-            Err(kind) => Err(io::Error::from(kind)),
+        self.safe = self.log.len();
+        Ok(())
+    }
+
+    fn write_block(&mut self, block: u32, bytes: &[u8]) -> io::Result<()> {
+        let at = BLOCK_LEN * block as usize;
+        let done = self.done(BLOCK_LEN);
+        self.settled = false;
+        self.image[at..at + done].copy_from_slice(&bytes[..done]);
+        if done < BLOCK_LEN {
+            return Err(io::Error::from(ErrorKind::Other));
         }
+        Ok(())
+    }
+
+    fn sync_image(&mut self) -> io::Result<()> {
+        if self.done(1) == 0 {
+            return Err(io::Error::from(ErrorKind::Other));
+        }
+        self.settled = true;
+        Ok(())
+    }
+
+    fn cut_log(&mut self, len: usize) -> io::Result<()> {
+        if self.done(1) == 0 {
+            return Err(io::Error::from(ErrorKind::Other));
+        }
+        self.log.truncate(len);
+        self.safe = len;
+        Ok(())
     }
 }

@@ -5,7 +5,7 @@ ghost use Rattle.std.specs.Prelude.{if◌then◌else◌};
 ghost use Rattle.byteorder.specs.Endian.{little_from};
 ghost use Rattle.sqlite_wal.specs.Format.{checksum};
 ghost use Rattle.disk_log.specs.Records.{begins_record, count_in, first_in, head_in, kind_in};
-ghost use Rattle.disk_log.specs.Records.{body_len, sum_in, sum_over};
+ghost use Rattle.disk_log.specs.Records.{body_len, is_whole, sum_at, sum_in, sum_over};
 
 use byteorder::{ByteOrder, LittleEndian};
 use sqlite_wal::checksum_of;
@@ -16,7 +16,7 @@ pub const RECORD_HEAD_LEN: usize = 24;
 /// A sum over records: two numbers modulo 2^32.
 pub type Sum = (u32, u32);
 
-/// What the head of a record says: its kind, 0 or 1, its first sector and how many, and its sum.
+/// What the head of a record says: its kind, its first sector and how many, and its sum.
 #[derive(Clone, Copy, Debug, PartialEq, Eq, Drop)]
 pub struct Head {
     pub kind: u32,
@@ -56,11 +56,19 @@ pub(crate) fn head_of(
 }
 
 /// The number in four bytes from a place on.
-fn number_at(bytes: &[u8], at: usize) -> u32
+pub(crate) fn number_at(bytes: &[u8], at: usize) -> u32
     requires { at + 4 ≤ length bytes.now }
     ensures { result ≡ little_from at 4 bytes.now }
 {
     LittleEndian::read_u32(&[bytes[at], bytes[at + 1], bytes[at + 2], bytes[at + 3]])
+}
+
+/// The sum in eight bytes from a place on.
+pub(crate) fn read_sum(bytes: &[u8], at: usize) -> Sum
+    requires { at + 8 ≤ length bytes.now }
+    ensures { result ≡ sum_at at bytes.now }
+{
+    (number_at(bytes, at), number_at(bytes, at + 4))
 }
 
 /// The length of what follows the head of a record, by its kind and count.
@@ -70,6 +78,7 @@ pub(crate) fn body_len(log: &[u8]) -> usize
 {
     match number_at(log, 0) {
         0 => 512 * number_at(log, 8) as usize,
+        2 => 8 + 4104 * number_at(log, 8) as usize,
         _ => 0,
     }
 }
@@ -84,11 +93,10 @@ fn sum_of(before: Sum, log: &[u8], body: usize) -> Sum
     checksum_of(false, front, &log[RECORD_HEAD_LEN..RECORD_HEAD_LEN + body])
 }
 
-/// The head of the record that these bytes begin with, where they begin with one for a disk of so
-/// many sectors, behind a record with the sum `before`.
-pub fn read_record(sectors: u32, before: Sum, log: &[u8]) -> Option<Head>
-    ensures { result
-        ≡ if begins_record sectors before log.now then Some (head_in log.now) else None }
+/// The head of the record that these bytes begin with, where all of one is there, behind a record
+/// with the sum `before`.
+pub(crate) fn read_head(before: Sum, log: &[u8]) -> Option<Head>
+    ensures { result ≡ if is_whole before log.now then Some (head_in log.now) else None }
 {
     if log.len() < RECORD_HEAD_LEN {
         return None;
@@ -97,16 +105,26 @@ pub fn read_record(sectors: u32, before: Sum, log: &[u8]) -> Option<Head>
         kind: number_at(log, 0),
         first: number_at(log, 4),
         count: number_at(log, 8),
-        sum: (number_at(log, 16), number_at(log, 20)),
+        sum: read_sum(log, 16),
     };
-    if head.kind > 1 || head.first as u64 + head.count as u64 > sectors as u64 {
-        return None;
-    }
     let body = body_len(log);
     if log.len() - RECORD_HEAD_LEN < body {
         return None;
     }
     if sum_of(before, log, body) != head.sum {
+        return None;
+    }
+    Some(head)
+}
+
+/// The head of the change that these bytes begin with, where they begin with one of a disk of so
+/// many sectors, behind a record with the sum `before`.
+pub fn read_record(sectors: u32, before: Sum, log: &[u8]) -> Option<Head>
+    ensures { result
+        ≡ if begins_record sectors before log.now then Some (head_in log.now) else None }
+{
+    let head = read_head(before, log)?;
+    if head.kind > 1 || head.first as u64 + head.count as u64 > sectors as u64 {
         return None;
     }
     Some(head)

@@ -1,0 +1,89 @@
+use Rattle.std.proofs.Common.{◌≡◌, ◌≤◌, ◌+◌, ◌*◌, ◌∙◌, ◌/◌, length, sym, arith}
+use Rattle.disk_log.specs.Records.{Change, record_change}
+use Rattle.disk_log.specs.declared.logged.Standing.TheVariants as standings
+use Rattle.disk_log.proofs.Disks.{in-range, ready-of, counts-of, added-begun, added-sectors, told-added, same-added, told-not-added, outcome-not-added, cut-latches}
+use Rattle.disk_log.proofs.logged.LoggedDisk.put.Goals as goal
+
+pub write-requires : goal.write-requires
+write-requires g c = in-range _ _ _ _ (c.args.self.now.size ∙ sym c.args.self.now.told) c.requires
+
+pub overflow_cast-count : goal.overflow_cast-count
+overflow_cast-count g c =
+    let self = c.args.self.now in
+    let within = c.requires.within in
+    let told = self.told in
+    let few = self.few in
+    omega (arith, within, told, few)
+
+pub invariant_of-self : goal.invariant_of-self
+invariant_of-self g c =
+    let self = c.args.self.now in
+    let wrote = c.in-Ok.ensures in
+    let e = ready-of self.standing _ (sym c.standing_error.ensures ∙ c.in_ok-standing_error.was) in
+    let within = c.requires.within in
+    let told = self.told in
+    let change : Change = record_change 0 c.args.first (length c.args.from.now / 512) c.args.from.now in
+    let fits : 512 * c.args.first + length c.args.from.now ≤ 512 * self.sectors = omega (arith, within, told) in
+    let f = g.F.ImageFiles.medium self.files in
+    let f' = g.F.ImageFiles.medium c.append_change.new.files in
+    let r = g.D.ImageDisk.represents in
+    let size = wrote.goes.size ∙ self.size in
+    record {
+      few = self.few;
+      len = self.len;
+      size = size;
+      told = told-added _ _ r change self.sectors self.image.items self.sum fits f f' (self.counted e) (self.begun e) c.append_change.new.sum _ c.in-Ok-append_change.ensures _ _ size told;
+      ready = λ _. wrote.latches.1;
+      counted = λ _. added-sectors _ _ r change self.sectors self.image.items self.sum fits f f' (self.counted e) (self.begun e) c.append_change.new.sum _ c.in-Ok-append_change.ensures;
+      begun = λ _. added-begun _ _ r change self.sectors self.image.items self.sum fits f f' (self.counted e) (self.begun e) c.append_change.new.sum _ c.in-Ok-append_change.ensures;
+      same = λ _ sound. same-added _ _ r change self.sectors self.image.items self.sum fits f f' (self.counted e) (self.begun e) c.append_change.new.sum _ c.in-Ok-append_change.ensures _ _
+          (self.same e (sym wrote.sound ∙ sound)) (wrote.contents (sym wrote.sound ∙ sound));
+    }
+
+pub invariant_of-self-in-Err-append_change : goal.invariant_of-self-in-Err-append_change
+invariant_of-self-in-Err-append_change g c =
+    let self = c.args.self.now in
+    let wrote = c.in-Ok.ensures in
+    let e = ready-of self.standing _ (sym c.standing_error.ensures ∙ c.in_ok-standing_error.was) in
+    let within = c.requires.within in
+    let told = self.told in
+    let change : Change = record_change 0 c.args.first (length c.args.from.now / 512) c.args.from.now in
+    let fits : 512 * c.args.first + length c.args.from.now ≤ 512 * self.sectors = omega (arith, within, told) in
+    let f = g.F.ImageFiles.medium self.files in
+    let f' = g.F.ImageFiles.medium c.append_change.new.files in
+    let r = g.D.ImageDisk.represents in
+    let size = wrote.goes.size ∙ self.size in
+    record {
+      few = self.few;
+      len = self.len;
+      size = size;
+      told = told-not-added _ _ r change self.sectors self.image.items self.sum fits f f' (self.counted e) (self.begun e) c.append_change.new.sum _ c.in-Err-append_change.ensures _ _ size told;
+      ready = λ x. cc;
+      counted = λ x. cc;
+      begun = λ x. cc;
+      same = λ x. cc;
+    }
+
+pub returns-in-Err-append_change : goal.returns-in-Err-append_change
+returns-in-Err-append_change g c =
+    let self = c.args.self.now in
+    let wrote = c.in-Ok.ensures in
+    let e = ready-of self.standing _ (sym c.standing_error.ensures ∙ c.in_ok-standing_error.was) in
+    let within = c.requires.within in
+    let told = self.told in
+    let change : Change = record_change 0 c.args.first (length c.args.from.now / 512) c.args.from.now in
+    let fits : 512 * c.args.first + length c.args.from.now ≤ 512 * self.sectors = omega (arith, within, told) in
+    let f = g.F.ImageFiles.medium self.files in
+    let f' = g.F.ImageFiles.medium c.append_change.new.files in
+    let r = g.D.ImageDisk.represents in
+    let size = wrote.goes.size ∙ self.size in
+    let more = c.tick.ensures in
+    let cuts = wrote.goes.cuts in
+    let told' = told-not-added _ _ r change self.sectors self.image.items self.sum fits f f' (self.counted e) (self.begun e) c.append_change.new.sum _ c.in-Err-append_change.ensures _ _ size told in
+    record {
+      contents = λ sound. outcome-not-added _ _ r change self.sectors self.image.items self.sum fits f f' (self.counted e) (self.begun e) c.append_change.new.sum _ c.in-Err-append_change.ensures _ _
+          told (wrote.contents sound);
+      sound = wrote.sound;
+      goes = counts-of r f f' self.standing standings.Cut self.lost c.tick.new.self self.waits self.waits self.sectors _ _ told told' (omega (arith, more)) wrote.goes;
+      latches = cut-latches (Unit {0}) r f f' self.standing self.lost c.tick.new.self self.waits self.waits (g.D.Disk.facts self.disk) (g.D.Disk.facts c.write.new.self) e more cuts;
+    }

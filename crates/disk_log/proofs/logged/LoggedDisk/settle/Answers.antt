@@ -1,0 +1,68 @@
+use Rattle.std.proofs.Common.{◌≡◌, ◌∙◌, List, ℕ, length, sym, subst, ap, refl, arith, rules}
+use Rattle.disk_log.specs.Checkpoints.{IsImageLen}
+use Rattle.disk_log.specs.Logs.{IsBegun}
+use Rattle.disk_log.specs.declared.logged.Standing.TheVariants as standings
+use Rattle.disk_log.proofs.Disks.{ready-of, counts-of, same-facts, cut-latches, settled-held, settled-begun, settled-sectors, unsettled-told, unsettled-same}
+use Rattle.disk_log.proofs.logged.LoggedDisk.settle.Goals as goal
+
+pub invariant_of-self-in-Ok : goal.invariant_of-self-in-Ok
+invariant_of-self-in-Ok g c =
+    let self = c.args.self.now in
+    let e = ready-of self.standing _ (sym c.standing_error.ensures ∙ c.in_ok-standing_error.was) in
+    let r = g.D.ImageDisk.represents in
+    let is = c.image-image.result.now in
+    let contents = (g.D.Disk.facts self.disk).contents in
+    let f = g.F.ImageFiles.medium self.files in
+    let f' = g.F.ImageFiles.medium c.settle_files.new.files in
+    let sum = c.settle_files.new.sum in
+    let items = c.copy_from_slice.ensures.items in
+    let x = c.if-image-len.false in
+    let y = c.len.ensures in
+    let len : length c.copy_from_slice.new.self.items ≡ length self.image.items = (let z : length is ≡ length self.image.items = search rules in ap (λ (v : List ℕ). length v) items ∙ z) in
+    record {
+      few = self.few;
+      len = subst (λ n. IsImageLen n) (sym len) self.len;
+      size = self.size;
+      told = ap (λ (v : List ℕ). length v) (settled-held _ _ r self.sectors is contents f f' sum c.image-image.ensures _ c.in-Ok.ensures) ∙ self.size;
+      ready = self.ready;
+      counted = λ _. settled-sectors _ _ r self.sectors is contents f f' sum c.image-image.ensures _ c.in-Ok.ensures (self.counted e);
+      begun = λ _ m q. subst (λ v. IsBegun m v sum) (sym items) (settled-begun _ _ r self.sectors is contents f f' sum c.image-image.ensures _ c.in-Ok.ensures m q);
+      same = λ _ s. settled-held _ _ r self.sectors is contents f f' sum c.image-image.ensures _ c.in-Ok.ensures;
+    }
+
+pub invariant_of-self-in-Err : goal.invariant_of-self-in-Err
+invariant_of-self-in-Err g c =
+    let self = c.args.self.now in
+    let r = g.D.ImageDisk.represents in
+    let is = c.image-image.result.now in
+    let contents = (g.D.Disk.facts self.disk).contents in
+    let f = g.F.ImageFiles.medium self.files in
+    let f' = g.F.ImageFiles.medium c.settle_files.new.files in
+    record {
+      few = self.few;
+      len = self.len;
+      size = self.size;
+      told = unsettled-told _ _ r self.sectors is contents f f' c.settle_files.new.sum c.image-image.ensures _ c.in-Err.ensures self.size self.told;
+      ready = λ x. cc;
+      counted = λ x. cc;
+      begun = λ x. cc;
+      same = λ x. cc;
+    }
+
+pub returns-in-Err : goal.returns-in-Err
+returns-in-Err g c =
+    let self = c.args.self.now in
+    let e = ready-of self.standing _ (sym c.standing_error.ensures ∙ c.in_ok-standing_error.was) in
+    let r = g.D.ImageDisk.represents in
+    let is = c.image-image.result.now in
+    let facts = g.D.Disk.facts self.disk in
+    let f = g.F.ImageFiles.medium self.files in
+    let f' = g.F.ImageFiles.medium c.settle_files.new.files in
+    let more = c.tick-in-Err.ensures in
+    let told = unsettled-told _ _ r self.sectors is facts.contents f f' c.settle_files.new.sum c.image-image.ensures _ c.in-Err.ensures self.size self.told in
+    record {
+      contents = λ sound. unsettled-same _ _ r self.sectors is facts.contents f f' c.settle_files.new.sum c.image-image.ensures _ c.in-Err.ensures (self.same e sound);
+      sound = refl;
+      goes = counts-of r f f' self.standing standings.Cut self.lost c.tick-in-Err.new.self self.waits self.waits self.sectors facts facts self.told told (omega (arith, more)) (same-facts facts);
+      latches = cut-latches (Unit {0}) r f f' self.standing self.lost c.tick-in-Err.new.self self.waits self.waits facts facts e more (omega arith);
+    }

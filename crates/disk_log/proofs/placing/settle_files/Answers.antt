@@ -1,0 +1,40 @@
+use Rattle.std.proofs.Common.{sym, subst}
+use Rattle.disk_log.specs.Checkpoints.{IsCheckpointBody}
+use Rattle.disk_log.proofs.Settles.{settles, unsettled, logged-blocks, unplaced-settles, emptied-on, unbegun-settles, untouched}
+use Rattle.disk_log.proofs.placing.settle_files.Goals as goal
+
+pub log_checkpoint-requires-clause-body : goal.log_checkpoint-requires-clause-body
+log_checkpoint-requires-clause-body g c = subst (λ v. IsCheckpointBody c.args.was.now c.args.is.now v) (sym c.as_slice-body.ensures.value) c.in-Ok.ensures
+
+pub returns-in_err-log_checkpoint : goal.returns-in_err-log_checkpoint
+returns-in_err-log_checkpoint g c =
+    let w = subst (λ v. IsCheckpointBody c.args.was.now c.args.is.now v) (sym c.as_slice-body.ensures.value) c.in-Ok.ensures in
+    unsettled c.args.was.now c.args.is.now c.as_slice-body.result.now c.args.sum.now w _ _ _ _ _ _ c.from_residual.ensures.0 _ _ _ c.in_err-log_checkpoint.ensures
+
+pub place_blocks-requires-clause-there : goal.place_blocks-requires-clause-there
+place_blocks-requires-clause-there g c =
+    let w = subst (λ v. IsCheckpointBody c.args.was.now c.args.is.now v) (sym c.as_slice-body.ensures.value) c.in-Ok.ensures in
+    logged-blocks c.args.was.now c.args.is.now c.as_slice-body.result.now c.args.sum.now w _ _ _ _ _ c.in_ok-log_checkpoint.ensures
+
+pub returns-in_err-place_blocks : goal.returns-in_err-place_blocks
+returns-in_err-place_blocks g c =
+    let w = subst (λ v. IsCheckpointBody c.args.was.now c.args.is.now v) (sym c.as_slice-body.ensures.value) c.in-Ok.ensures in
+    unplaced-settles c.args.was.now c.args.is.now c.as_slice-body.result.now c.args.sum.now w _ _ _ _ _ _ _ c.from_residual-in_err-place_blocks.ensures.0 _ _ _ _
+    c.requires.begun c.in_ok-log_checkpoint.ensures c.in_err-place_blocks.ensures
+
+pub begin_log-requires : goal.begin_log-requires
+begin_log-requires g c =
+    let w = subst (λ v. IsCheckpointBody c.args.was.now c.args.is.now v) (sym c.as_slice-body.ensures.value) c.in-Ok.ensures in
+    emptied-on c.args.was.now c.args.is.now c.as_slice-body.result.now c.args.sum.now w _ _ _ _ _ _ c.requires.begun c.in_ok-log_checkpoint.ensures c.in_ok-place_blocks.ensures
+
+pub returns-in_err-sum : goal.returns-in_err-sum
+returns-in_err-sum g c =
+    let w = subst (λ v. IsCheckpointBody c.args.was.now c.args.is.now v) (sym c.as_slice-body.ensures.value) c.in-Ok.ensures in
+    unbegun-settles c.args.was.now c.args.is.now c.as_slice-body.result.now c.args.sum.now w _ _ _ _ _ _ _ c.from_residual-in_err-sum.ensures.0 _ _ _ _ _
+    c.requires.begun c.in_ok-log_checkpoint.ensures c.in_ok-place_blocks.ensures c.in_err-sum.ensures
+
+pub returns : goal.returns
+returns g c =
+    let w = subst (λ v. IsCheckpointBody c.args.was.now c.args.is.now v) (sym c.as_slice-body.ensures.value) c.in-Ok.ensures in
+    settles c.args.was.now c.args.is.now c.as_slice-body.result.now c.args.sum.now w _ _ _ _ _ _ _ _ _ _ _
+    c.requires.begun c.in_ok-log_checkpoint.ensures c.in_ok-place_blocks.ensures c.in_ok-sum.ensures
