@@ -8,8 +8,9 @@
 //! it, and the new file takes its name; one that holds anything is refused unless it is forced
 //! (`leave_to_replace`). `hold` opens a file and takes its lock, so that one process at a
 //! time has it, and `Held::chip` is the chip in it. Beside it there is a log (`disk_log`), whose
-//! file `log_beside` opens: `chip_in` gives the chip that both hold, and `settle_log` writes it into
-//! the image. What a file holds, and who has its lock, no contract can say; tests and runs show it.
+//! file `log_beside` opens: `chip_in` gives the chip that both hold, and `settle_log` writes it
+//! into the image. What a file of the system holds, and who has its lock, no contract can say; tests
+//! and runs show it.
 //!
 //! Left to the crate above: that the size is a chip's, and which bytes a file is given.
 //!
