@@ -1,14 +1,14 @@
 -- What a disk with a log holds, before a call and after it.
-use Rattle.std.proofs.Common.{◌≡◌, ℕ, ◌+◌, ◌*◌, ◌<◌, ◌≤◌, Bool, true, false, List, [], ◌∷◌, ◌++◌, ◌⊎◌, inl, inr, length, ap, sym, ◌∙◌, arith, refl, subst, Option, Some, None, Result, Ok, Err}
+use Rattle.std.proofs.Common.{◌≡◌, ℕ, ◌+◌, ◌*◌, ◌≤◌, List, ◌⊎◌, inl, inr, length, ap, sym, ◌∙◌, arith, refl, subst, Option, Some, None, Result, Ok, Err}
 use Rattle.std.specs.Prelude.{◌/◌}
 use Rattle.block_device.specs.Contents.{replaced, Outcome, sector, InRange}
-use Rattle.block_device.specs.Facts.{Facts, CountsNeverFall, IsDiskReady, Latches, Writes}
+use Rattle.block_device.specs.Facts.{Facts, CountsNeverFall, Latches, Writes}
 use Rattle.block_device.specs.declared.disk.DiskError.{DiskError}
 use Rattle.block_device.specs.declared.disk.DiskError.TheVariants as errors
 use Rattle.disk_log.specs.Records.{Change, with_change}
-use Rattle.disk_log.specs.Logs.{Medium, IsBegun, contents_in, held}
+use Rattle.disk_log.specs.Logs.{Medium, IsBegunLog, held}
 use Rattle.disk_log.specs.Files.{OfFiles}
-use Rattle.disk_log.specs.Settling.{Adds, Settles}
+use Rattle.disk_log.specs.Settling.{AddsChange, SettlesFiles}
 use Rattle.disk_log.specs.declared.logged.Standing.{Standing}
 use Rattle.disk_log.specs.declared.logged.Standing.TheVariants as standings
 use Rattle.disk_log.specs.Logged.{standing_answer, logged_facts, is_cut, is_slow, Settled, WritesTo, IsOfDisk}
@@ -44,29 +44,29 @@ outcome-of old meant new len (inr e) = record { size = ap (λ v. length v) e ∙
 
 -- What an append leaves.
 module _ (T E : Type 0) (represents : List ℕ → List ℕ) (change : Change) (n : ℕ) (image : List ℕ) (before : ℕ × ℕ) (fits : 512 * change.first + length change.bytes ≤ 512 * n)
-    (old new : Option Medium) (count : (m : Medium) → old ≡ Some m → m.sectors ≡ n) (begun : (m : Medium) → old ≡ Some m → IsBegun m image before) where
+    (old new : Option Medium) (count : (m : Medium) → old ≡ Some m → m.sectors ≡ n) (begun : (m : Medium) → old ≡ Some m → IsBegunLog m image before) where
   inside-of : (m : Medium) → old ≡ Some m → change.first + length change.bytes / 512 ≤ m.sectors
   inside-of m e = (let c = count m e in omega (arith, c, fits))
 
-  module _ (last : ℕ × ℕ) (t : T) (a : Adds {T = T} {E = E} change before old (Ok t) last new) where
-    pub added-begun : (m : Medium) → new ≡ Some m → IsBegun m image last
+  module _ (last : ℕ × ℕ) (t : T) (a : AddsChange {T = T} {E = E} change before old (Ok t) last new) where
+    pub added-begun : (m : Medium) → new ≡ Some m → IsBegunLog m image last
     added-begun m e = go old refl a
       where
-        go : (o : Option Medium) → old ≡ o → Adds {T = T} {E = E} change before o (Ok t) last new → IsBegun m image last
+        go : (o : Option Medium) → old ≡ o → AddsChange {T = T} {E = E} change before o (Ok t) last new → IsBegunLog m image last
         go None is a = absurd (not-some m (sym a ∙ e))
-        go (Some o) is a = subst (λ v. IsBegun v image last) (some-is a.0 m (sym a.1 ∙ e)) (a.3 image (begun o is) (inside-of o is)).0
+        go (Some o) is a = subst (λ v. IsBegunLog v image last) (some-is a.0 m (sym a.1 ∙ e)) (a.3 image (begun o is) (inside-of o is)).0
 
     pub added-sectors : (m : Medium) → new ≡ Some m → m.sectors ≡ n
     added-sectors m e = go old refl a
       where
-        go : (o : Option Medium) → old ≡ o → Adds {T = T} {E = E} change before o (Ok t) last new → m.sectors ≡ n
+        go : (o : Option Medium) → old ≡ o → AddsChange {T = T} {E = E} change before o (Ok t) last new → m.sectors ≡ n
         go None is a = absurd (not-some m (sym a ∙ e))
         go (Some o) is a = ap (λ (v : Medium). v.sectors) (some-is m a.0 (sym e ∙ a.1)) ∙ (a.2 ∙ count o is)
 
     held-added : (contents contents' : List ℕ) → ((old ≡ None) × (new ≡ None)) ⊎ (held represents new contents' ≡ with_change (held represents old contents) change)
     held-added contents contents' = go old refl a
       where
-        go : (o : Option Medium) → old ≡ o → Adds {T = T} {E = E} change before o (Ok t) last new → ((old ≡ None) × (new ≡ None)) ⊎ (held represents new contents' ≡ with_change (held represents old contents) change)
+        go : (o : Option Medium) → old ≡ o → AddsChange {T = T} {E = E} change before o (Ok t) last new → ((old ≡ None) × (new ≡ None)) ⊎ (held represents new contents' ≡ with_change (held represents old contents) change)
         go None is a = inl (is, a)
         go (Some o) is a = inr (ap (λ v. held represents v contents') a.1 ∙ ((a.3 image (begun o is) (inside-of o is)).1 represents ∙ ap (λ v. with_change (held represents v contents) change) (sym is)))
 
@@ -82,12 +82,12 @@ module _ (T E : Type 0) (represents : List ℕ → List ℕ) (change : Change) (
       | inr e ↦ e ∙ (ap (λ v. with_change v change) same ∙ sym done)
     ]
 
-  module _ (last : ℕ × ℕ) (f : E) (a : Adds {T = T} {E = E} change before old (Err f) last new) where
+  module _ (last : ℕ × ℕ) (f : E) (a : AddsChange {T = T} {E = E} change before old (Err f) last new) where
     held-not-added : (contents contents' : List ℕ)
         → ((old ≡ None) × (new ≡ None)) ⊎ ((held represents new contents' ≡ held represents old contents) ⊎ (held represents new contents' ≡ with_change (held represents old contents) change))
     held-not-added contents contents' = go old refl a
       where
-        go : (o : Option Medium) → old ≡ o → Adds {T = T} {E = E} change before o (Err f) last new
+        go : (o : Option Medium) → old ≡ o → AddsChange {T = T} {E = E} change before o (Err f) last new
             → ((old ≡ None) × (new ≡ None)) ⊎ ((held represents new contents' ≡ held represents old contents) ⊎ (held represents new contents' ≡ with_change (held represents old contents) change))
         go None is a = inl (is, a)
         go (Some o) is a = inr (elim (a.3 image (begun o is) (inside-of o is) represents) [
@@ -116,33 +116,33 @@ module _ (T E : Type 0) (represents : List ℕ → List ℕ) (change : Change) (
 
 -- What settling leaves.
 module _ (T E : Type 0) (represents : List ℕ → List ℕ) (n : ℕ) (is contents : List ℕ) (old new : Option Medium) (last : ℕ × ℕ) (made : represents is ≡ contents) where
-  module _ (t : T) (a : Settles {T = T} {E = E} is old (Ok t) last new) where
+  module _ (t : T) (a : SettlesFiles {T = T} {E = E} is old (Ok t) last new) where
     pub settled-held : held represents new contents ≡ contents
     settled-held = go old a
       where
-        go : (o : Option Medium) → Settles {T = T} {E = E} is o (Ok t) last new → held represents new contents ≡ contents
+        go : (o : Option Medium) → SettlesFiles {T = T} {E = E} is o (Ok t) last new → held represents new contents ≡ contents
         go None a = ap (λ v. held represents v contents) a
         go (Some o) a = ap (λ v. held represents v contents) a.1 ∙ (a.4 represents ∙ made)
 
-    pub settled-begun : (m : Medium) → new ≡ Some m → IsBegun m is last
+    pub settled-begun : (m : Medium) → new ≡ Some m → IsBegunLog m is last
     settled-begun m e = go old a
       where
-        go : (o : Option Medium) → Settles {T = T} {E = E} is o (Ok t) last new → IsBegun m is last
+        go : (o : Option Medium) → SettlesFiles {T = T} {E = E} is o (Ok t) last new → IsBegunLog m is last
         go None a = absurd (not-some m (sym a ∙ e))
-        go (Some o) a = subst (λ v. IsBegun v is last) (some-is a.0 m (sym a.1 ∙ e)) a.3
+        go (Some o) a = subst (λ v. IsBegunLog v is last) (some-is a.0 m (sym a.1 ∙ e)) a.3
 
     pub settled-sectors : ((m : Medium) → old ≡ Some m → m.sectors ≡ n) → (m : Medium) → new ≡ Some m → m.sectors ≡ n
     settled-sectors count m e = go old refl a
       where
-        go : (o : Option Medium) → old ≡ o → Settles {T = T} {E = E} is o (Ok t) last new → m.sectors ≡ n
+        go : (o : Option Medium) → old ≡ o → SettlesFiles {T = T} {E = E} is o (Ok t) last new → m.sectors ≡ n
         go None is' a = absurd (not-some m (sym a ∙ e))
         go (Some o) is' a = ap (λ (v : Medium). v.sectors) (some-is m a.0 (sym e ∙ a.1)) ∙ (a.2 ∙ count o is')
 
-  module _ (f : E) (a : Settles {T = T} {E = E} is old (Err f) last new) where
+  module _ (f : E) (a : SettlesFiles {T = T} {E = E} is old (Err f) last new) where
     pub unsettled-held : (held represents new contents ≡ held represents old contents) ⊎ (held represents new contents ≡ contents)
     unsettled-held = go old refl a
       where
-        go : (o : Option Medium) → old ≡ o → Settles {T = T} {E = E} is o (Err f) last new → (held represents new contents ≡ held represents old contents) ⊎ (held represents new contents ≡ contents)
+        go : (o : Option Medium) → old ≡ o → SettlesFiles {T = T} {E = E} is o (Err f) last new → (held represents new contents ≡ held represents old contents) ⊎ (held represents new contents ≡ contents)
         go None e a = inr (ap (λ v. held represents v contents) a)
         go (Some o) e a = elim (a.2 represents) [
           | inl x ↦ inl (ap (λ v. held represents v contents) a.1 ∙ (x ∙ ap (λ v. held represents v contents) (sym e)))
@@ -150,10 +150,10 @@ module _ (T E : Type 0) (represents : List ℕ → List ℕ) (n : ℕ) (is conte
         ]
 
     pub unsettled-told : length contents ≡ 512 * n → length (held represents old contents) ≡ 512 * n → length (held represents new contents) ≡ 512 * n
-    unsettled-told size told = elim unsettled-held [ | inl e ↦ ap (λ v. length v) e ∙ told | inr e ↦ ap (λ v. length v) e ∙ size ]
+    unsettled-told size told = elim unsettled-held [ inl e ↦ ap (λ v. length v) e ∙ told | inr e ↦ ap (λ v. length v) e ∙ size ]
 
     pub unsettled-same : held represents old contents ≡ contents → held represents new contents ≡ held represents old contents
-    unsettled-same same = elim unsettled-held [ | inl e ↦ e | inr e ↦ e ∙ sym same ]
+    unsettled-same same = elim unsettled-held [ inl e ↦ e | inr e ↦ e ∙ sym same ]
 
 -- what is known of files that are those of a disk
 pub held-of : (represents : List ℕ → List ℕ) (n : ℕ) (contents image : List ℕ) (last : ℕ × ℕ) (files : Option Medium) → OfFiles files (λ m. IsOfDisk represents n contents image last m)
@@ -167,9 +167,9 @@ sectors-of represents n contents image last None sectors h size m e = cc
 sectors-of represents n contents image last (Some o) sectors h size m e = (let s = h.sectors in ap (λ v. v.sectors) (some-is m o (sym e)) ∙ omega (arith, s, size))
 
 pub begun-of : (represents : List ℕ → List ℕ) (n : ℕ) (contents image : List ℕ) (last : ℕ × ℕ) (files : Option Medium) → OfFiles files (λ m. IsOfDisk represents n contents image last m)
-    → (m : Medium) → files ≡ Some m → IsBegun m image last
+    → (m : Medium) → files ≡ Some m → IsBegunLog m image last
 begun-of represents n contents image last None h m e = cc
-begun-of represents n contents image last (Some o) h m e = subst (λ v. IsBegun v image last) (some-is o m e) h.begun
+begun-of represents n contents image last (Some o) h m e = subst (λ v. IsBegunLog v image last) (some-is o m e) h.begun
 
 -- The facts of a disk with a log.
 pub counts-of : (represents : List ℕ → List ℕ) (w w' : Option Medium) (s s' : Standing) (lost lost' : ℕ) (i i' : Option ℕ) (sectors : ℕ) (old new : Facts)
@@ -183,9 +183,9 @@ counts-of represents w w' s s' lost lost' i i' sectors old new here there more g
 pub latches-on : (T U : Type 0) (t : T) (r : Result U DiskError) (old mid new : Facts) → Latches {T = T} old (Ok t) mid → CountsNeverFall old mid → Latches {T = U} mid r new → Latches {T = U} old r new
 latches-on T U t (Ok u) old mid new a g b = (a.0, b.1)
 latches-on T U t (Err errors.Cut) old mid new a g b =
-    (elim b.0 [ | inl stood ↦ absurd (no-both mid.cut stood a.1.0) | inr came ↦ (let x = g.cuts in let y = came.1 in inr (a.0, omega (arith, x, y))) ], b.1, b.2 ∙ (a.1.1 ∙ sym a.0.1))
+    (elim b.0 [ inl stood ↦ absurd (no-both mid.cut stood a.1.0) | inr came ↦ (let x = g.cuts in let y = came.1 in inr (a.0, omega (arith, x, y))) ], b.1, b.2 ∙ (a.1.1 ∙ sym a.0.1))
 latches-on T U t (Err errors.Slow) old mid new a g b =
-    (a.0.0, elim b.1 [ | inl stood ↦ absurd (no-both mid.slow stood a.1.1) | inr came ↦ (let x = g.slows in inr (omega (arith, x, came))) ], b.2, b.3)
+    (a.0.0, elim b.1 [ inl stood ↦ absurd (no-both mid.slow stood a.1.1) | inr came ↦ (let x = g.slows in inr (omega (arith, x, came))) ], b.2, b.3)
 
 pub writes-on : (T U : Type 0) (t : T) (r : Result U DiskError) (first : ℕ) (bytes : List ℕ) (old mid new : Facts) → Settled {T = T} old (Ok t) mid → WritesTo {T = U} first bytes mid r new
     → WritesTo {T = U} first bytes old r new

@@ -1,14 +1,14 @@
 -- What an image and a log hold, before a record and after it.
-use Rattle.std.proofs.Common.{◌≡◌, ℕ, ◌+◌, ◌*◌, ◌<◌, ◌≤◌, Bool, true, false, List, [], ◌∷◌, ◌++◌, ◌⊎◌, inl, inr, length, take, drop, ap, sym, ◌∙◌, arith, refl, subst, Option, Some, None, Ok, Err}
-use Rattle.std.specs.Prelude.{◌/◌, ◌==◌, ◌-◌, if◌then◌else◌, nat_lt}
+use Rattle.std.proofs.Common.{◌≡◌, ℕ, ◌+◌, ◌<◌, ◌≤◌, Bool, true, false, List, [], ◌∷◌, ◌++◌, ◌⊎◌, inl, inr, length, drop, ap, sym, ◌∙◌, arith, refl, Option, Some, None, Ok, Err}
+use Rattle.std.specs.Prelude.{◌/◌, ◌==◌, if◌then◌else◌}
 use Rattle.std.proofs.lemmas.Bool.{lt-ltb, ltb-true}
 use Rattle.std.proofs.lemmas.List.{append-nil, length-append, drop-append-le}
 use Rattle.byteorder.specs.Endian.{little_from}
-use Rattle.disk_log.specs.Records.{Change, begins_record, begins_checkpoint, is_whole, kind_in, count_in, body_len_of, record_change, with_change, replayed}
-use Rattle.disk_log.specs.Checkpoints.{placed, placed_in, image_sum, IsCheckpointBody}
-use Rattle.disk_log.specs.Logs.{LogReading, log_reading, log_changes, has_head, head_sum, has_checkpoint, contents_in, Medium, IsWholeLog, IsBegun, HoldsAs}
+use Rattle.disk_log.specs.Records.{begins_checkpoint, is_whole, record_change, with_change, replayed}
+use Rattle.disk_log.specs.Checkpoints.{with_blocks, placed_in}
+use Rattle.disk_log.specs.Logs.{LogReading, log_reading, log_changes, has_head, head_sum, has_checkpoint, contents_in, Medium, IsWholeLog, IsBegunLog}
 use Rattle.disk_log.specs.Files.{Extends}
-use Rattle.disk_log.specs.Settling.{Added, Adds, HoldsEither}
+use Rattle.disk_log.specs.Settling.{AddsChange}
 use Rattle.disk_log.proofs.Records.{both, parts, no-record, no-checkpoint, is-checkpoint, none-two}
 use Rattle.disk_log.proofs.Readings.{behind, step-false, reading-more, replayed-more}
 use Rattle.disk_log.proofs.Growing.{Made, made-whole, made-kind, made-count, made-body, made-read, made-torn}
@@ -81,19 +81,19 @@ pub whole-changes : (n : ℕ) (log : List ℕ) (last : ℕ × ℕ) → has_head 
 whole-changes n log last e whole = ap (λ r. r.rest) (log-is n log e) ∙ whole.rest
 
 -- a log that was begun holds what its changes make of what the image represents
-pub begun-told : (m : Medium) (image : List ℕ) (last : ℕ × ℕ) (represents : List ℕ → List ℕ) → IsBegun m image last
+pub begun-told : (m : Medium) (image : List ℕ) (last : ℕ × ℕ) (represents : List ℕ → List ℕ) → IsBegunLog m image last
     → contents_in represents m.sectors m.image m.log ≡ replayed (log_changes m.sectors m.log).changes (represents m.image)
 begun-told m image last represents b =
     told-changes represents m.image (log_changes m.sectors m.log)
     (nothing-behind (log_changes m.sectors m.log).sum (log_changes m.sectors m.log).rest (whole-changes m.sectors m.log last b.head b.whole))
 
-module _ (m : Medium) (image : List ℕ) (before : ℕ × ℕ) (b : IsBegun m image before) where
+module _ (m : Medium) (image : List ℕ) (before : ℕ × ℕ) (b : IsBegunLog m image before) where
   -- a record that isn't whole says nothing
   pub torn-told : (x : List ℕ) (represents : List ℕ → List ℕ) → is_whole before x ≡ false
       → contents_in represents m.sectors m.image (m.log ++ x) ≡ contents_in represents m.sectors m.image m.log
   torn-told x represents e =
       let more = log-more m.sectors m.log x before b.head b.whole
-          ∙ ap (λ r. behind (log_changes m.sectors m.log).changes r) (step-false (length x) m.sectors before x (no-record m.sectors before x e)) in
+      ∙ ap (λ r. behind (log_changes m.sectors m.log).changes r) (step-false (length x) m.sectors before x (no-record m.sectors before x e)) in
       ap (λ r. told represents m.image r) more
       ∙ (told-changes represents m.image (record { changes = (log_changes m.sectors m.log).changes ++ []; sum = before; rest = x }) (no-checkpoint before x e)
       ∙ (ap (λ v. replayed v (represents m.image)) (append-nil (log_changes m.sectors m.log).changes)
@@ -118,7 +118,7 @@ module _ (m : Medium) (image : List ℕ) (before : ℕ × ℕ) (b : IsBegun m im
         ∙ (replayed-more (log_changes m.sectors m.log).changes (record_change kind first count body ∷ []) (represents m.image)
         ∙ ap (λ v. with_change v (record_change kind first count body)) (sym (begun-told m image before represents b))))
 
-    pub change-begun : kind < 2 → first + count ≤ m.sectors → IsBegun (record m { log = m.log ++ (head ++ body) }) image next
+    pub change-begun : kind < 2 → first + count ≤ m.sectors → IsBegunLog (record m { log = m.log ++ (head ++ body) }) image next
     change-begun two inside =
         let e = head-more m.log (head ++ body) b.head in
         let is = sym (log-is m.sectors (m.log ++ (head ++ body)) e) ∙ change-read two inside in
@@ -142,14 +142,14 @@ module _ (m : Medium) (image : List ℕ) (before : ℕ × ℕ) (b : IsBegun m im
     checkpoint-has two = ap (λ (r : LogReading). begins_checkpoint r.sum r.rest) (checkpoint-read two) ∙ checkpoint-there two
 
     pub checkpoint-told : (represents : List ℕ → List ℕ) → kind ≡ 2
-        → contents_in represents m.sectors m.image (m.log ++ (head ++ body)) ≡ represents (placed count (drop 8 body) m.image)
+        → contents_in represents m.sectors m.image (m.log ++ (head ++ body)) ≡ represents (with_blocks count (drop 8 body) m.image)
     checkpoint-told represents two =
         let r : LogReading = record { changes = (log_changes m.sectors m.log).changes ++ []; sum = before; rest = head ++ body } in
         ap (λ v. told represents m.image v) (checkpoint-read two)
         ∙ (told-checkpoint represents m.image r (checkpoint-there two)
         ∙ ap (λ v. represents v)
-        (ap (λ v. placed v (drop 32 (head ++ body)) m.image) (made-count head body kind first count before next made)
-        ∙ ap (λ v. placed count v m.image) (made-body head body kind first count before next made 8)))
+        (ap (λ v. with_blocks v (drop 32 (head ++ body)) m.image) (made-count head body kind first count before next made)
+        ∙ ap (λ v. with_blocks count v m.image) (made-body head body kind first count before next made 8)))
 
     -- a part of it says nothing, or it is all of it
     pub part-told : (taken rest : List ℕ) (represents : List ℕ → List ℕ) → head ++ body ≡ taken ++ rest
@@ -162,21 +162,30 @@ module _ (m : Medium) (image : List ℕ) (before : ℕ × ℕ) (b : IsBegun m im
 pub added : (T E : Type 0) (head body : List ℕ) (kind first count : ℕ) (before next : ℕ × ℕ) → Made head body kind first count before next → kind < 2
     → first + length (record_change kind first count body).bytes / 512 ≡ first + count
     → (old new : Option Medium) (t : T) → Extends {T = T} {E = E} old (head ++ body) (Ok t) new
-    → Adds {T = T} {E = E} (record_change kind first count body) before old (Ok t) next new
+    → AddsChange {T = T} {E = E} (record_change kind first count body) before old (Ok t) next new
 added T E head body kind first count before next made two len None new t e = e
-added T E head body kind first count before next made two len (Some m) new t e =
-    (record m { log = m.log ++ (head ++ body) }, e, refl, λ image b inside.
-    (change-begun m image before b head body kind first count next made two (rw (sym len) inside),
-    λ represents. change-told m image before b head body kind first count next made represents two (rw (sym len) inside)))
+added T E head body kind first count before next made two len (Some m) new t e = (
+  record m { log = m.log ++ (head ++ body) },
+  e,
+  refl,
+  λ image b inside. (
+    change-begun m image before b head body kind first count next made two (rw (sym len) inside),
+    λ represents. change-told m image before b head body kind first count next made represents two (rw (sym len) inside),
+  ),
+)
 
 pub not-added : (T E : Type 0) (head body : List ℕ) (kind first count : ℕ) (before next last : ℕ × ℕ) → Made head body kind first count before next → kind < 2
     → first + length (record_change kind first count body).bytes / 512 ≡ first + count
     → (old new : Option Medium) (f : E) → Extends {T = T} {E = E} old (head ++ body) (Err f) new
-    → Adds {T = T} {E = E} (record_change kind first count body) before old (Err f) last new
+    → AddsChange {T = T} {E = E} (record_change kind first count body) before old (Err f) last new
 not-added T E head body kind first count before next last made two len None new f e = e
-not-added T E head body kind first count before next last made two len (Some m) new f (taken, rest, same, is) =
-    (record m { log = m.log ++ taken }, is, refl, λ image b inside represents.
-    elim (part-told m image before b head body kind first count next made taken rest represents same) [
-      | inl e ↦ inl e
-      | inr e ↦ inr (e ∙ change-told m image before b head body kind first count next made represents two (rw (sym len) inside))
-    ])
+not-added T E head body kind first count before next last made two len (Some m) new f (taken, rest, same, is) = (
+  record m { log = m.log ++ taken },
+  is,
+  refl,
+  λ image b inside represents.
+      elim (part-told m image before b head body kind first count next made taken rest represents same) [
+        | inl e ↦ inl e
+        | inr e ↦ inr (e ∙ change-told m image before b head body kind first count next made represents two (rw (sym len) inside))
+      ],
+)

@@ -7,3 +7,5 @@ mod Entries
 mod Settles
 mod Replays
 mod Disks
+mod Finding
+mod Starts

@@ -1,5 +1,5 @@
 -- Blocks of an image, byte by byte.
-use Rattle.std.proofs.Common.{◌≡◌, ℕ, zero, suc, ◌+◌, ◌-◌, ◌*◌, ◌<◌, ◌≤◌, Bool, true, false, List, [], ◌∷◌, ◌++◌, ◌⊎◌, inl, inr, length, take, drop, get_or, ap, sym, ◌∙◌, arith, refl, subst}
+use Rattle.std.proofs.Common.{◌≡◌, ℕ, zero, suc, ◌+◌, ◌-◌, ◌*◌, ◌<◌, ◌≤◌, Bool, true, false, List, ◌++◌, ◌⊎◌, inl, inr, length, take, drop, get_or, ap, sym, ◌∙◌, arith, refl, subst}
 use Rattle.std.specs.Prelude.{if◌then◌else◌, nat_lt, ◌/◌}
 use Rattle.std.proofs.lemmas.Bool.{lt-ltb, ltb-true, cases_lt}
 use Rattle.std.proofs.lemmas.List.{ext_get_or, length-append, length-drop, length-take-le, get_or_append_left, get_or-append_right, get_or-take, get_or-drop, drop-drop, drop-take, take-take, take_at, drop_at, take_all, drop_all, take-append-drop, take-append-le, drop-append-le, append_assoc, append-nil}
@@ -9,7 +9,7 @@ use Rattle.disk_log.specs.Records.{sum_at}
 use Rattle.disk_log.proofs.Readings.{is_empty}
 use Rattle.std.proofs.Math.Seq.{take-add}
 use Rattle.block_device.specs.Contents.{replaced}
-use Rattle.disk_log.specs.Checkpoints.{number_in, block_in, with_block, placed, HasBlock, KeepsOthers, image_sum, IsImageLen, IsCheckpointBody}
+use Rattle.disk_log.specs.Checkpoints.{entry_number, bytes_of_entry, with_block, with_blocks, HasBlock, KeepsOthers, image_sum, IsImageLen, IsCheckpointBody}
 use Rattle.disk_log.proofs.Growing.{not-true}
 
 pub number-front : (i : ℕ) (xs ys : List ℕ) → i + 4 ≤ length xs → little_from i 4 (xs ++ ys) ≡ little_from i 4 xs
@@ -47,15 +47,15 @@ module _ (at : ℕ) (xs bytes : List ℕ) (fits : at + length bytes ≤ length x
 
 -- an entry is one of a block that the image has, in which a byte is
 pub record In (len i : ℕ) (b : List ℕ) : Type 0 where
-  pub fits : 4096 * number_in b + 4096 ≤ len
-  pub low : 4096 * number_in b ≤ i
-  pub high : i < 4096 * number_in b + 4096
+  pub fits : 4096 * entry_number b + 4096 ≤ len
+  pub low : 4096 * entry_number b ≤ i
+  pub high : i < 4096 * entry_number b + 4096
 
 unfoldable pub Covers : ℕ → List ℕ → ℕ → ℕ → Type 0
 Covers zero b len i = ⊥
 Covers (suc k) b len i = In len i b ⊎ Covers k (drop 4104 b) len i
 
-pub block-len : (b : List ℕ) → 4104 ≤ length b → length (block_in b) ≡ 4096
+pub block-len : (b : List ℕ) → 4104 ≤ length b → length (bytes_of_entry b) ≡ 4096
 block-len b long = length-take-le 4096 (drop 8 b) (rw (length-drop 8 b) (omega (arith, long)))
 
 chosen : (t : Bool) (x y : List ℕ) → t ≡ true → (if t then x else y) ≡ x
@@ -66,21 +66,21 @@ other : (t : Bool) (x y : List ℕ) → t ≡ false → (if t then x else y) ≡
 other true x y e = cc
 other false x y e = refl
 
-pub with-it : (image b : List ℕ) → 4096 * number_in b + 4096 ≤ length image → with_block image b ≡ replaced image (4096 * number_in b) (block_in b)
-with-it image b fits = chosen (nat_lt (4096 * number_in b + 4095) (length image)) _ image (lt-ltb (4096 * number_in b + 4095) (length image) (omega (arith, fits)))
+pub with-it : (image b : List ℕ) → 4096 * entry_number b + 4096 ≤ length image → with_block image b ≡ replaced image (4096 * entry_number b) (bytes_of_entry b)
+with-it image b fits = chosen (nat_lt (4096 * entry_number b + 4095) (length image)) _ image (lt-ltb (4096 * entry_number b + 4095) (length image) (omega (arith, fits)))
 
-pub without-it : (image b : List ℕ) → length image < 4096 * number_in b + 4096 → with_block image b ≡ image
-without-it image b out = other (nat_lt (4096 * number_in b + 4095) (length image)) (replaced image (4096 * number_in b) (block_in b)) image
-    (not-true (nat_lt (4096 * number_in b + 4095) (length image)) (λ e. let h = ltb-true (4096 * number_in b + 4095) (length image) e in absurd (omega (arith, h, out))))
+pub without-it : (image b : List ℕ) → length image < 4096 * entry_number b + 4096 → with_block image b ≡ image
+without-it image b out = other (nat_lt (4096 * entry_number b + 4095) (length image)) (replaced image (4096 * entry_number b) (bytes_of_entry b)) image
+    (not-true (nat_lt (4096 * entry_number b + 4095) (length image)) (λ e. let h = ltb-true (4096 * entry_number b + 4095) (length image) e in absurd (omega (arith, h, out))))
 
 pub with-len : (image b : List ℕ) → 4104 ≤ length b → length (with_block image b) ≡ length image
-with-len image b long = elim (cases_lt (length image) (4096 * number_in b + 4096)) [
+with-len image b long = elim (cases_lt (length image) (4096 * entry_number b + 4096)) [
   | inl out ↦ ap (λ v. length v) (without-it image b out)
-  | inr fits ↦ ap (λ v. length v) (with-it image b fits) ∙ length-replaced (4096 * number_in b) image (block_in b) (rw (block-len b long) fits)
+  | inr fits ↦ ap (λ v. length v) (with-it image b fits) ∙ length-replaced (4096 * entry_number b) image (bytes_of_entry b) (rw (block-len b long) fits)
 ]
 
-pub placed-len : (k : ℕ) (b image : List ℕ) → 4104 * k ≤ length b → length (placed k b image) ≡ length image
-unfolding placed
+pub placed-len : (k : ℕ) (b image : List ℕ) → 4104 * k ≤ length b → length (with_blocks k b image) ≡ length image
+unfolding with_blocks
 placed-len zero b image long = refl
 placed-len (suc k) b image long =
     placed-len k (drop 4104 b) (with_block image b) (rw (length-drop 4104 b) (omega (arith, long)))
@@ -92,30 +92,30 @@ same-in xs ys b i len long r =
     let size = block-len b long in
     let fits = r.fits in
     let high = r.high in
-    let there : 4096 * number_in b + length (block_in b) ≤ length xs = omega (arith, size, fits) in
-    let here : 4096 * number_in b + length (block_in b) ≤ length ys = omega (arith, size, fits, len) in
-    let below : i < 4096 * number_in b + length (block_in b) = omega (arith, size, high) in
+    let there : 4096 * entry_number b + length (bytes_of_entry b) ≤ length xs = omega (arith, size, fits) in
+    let here : 4096 * entry_number b + length (bytes_of_entry b) ≤ length ys = omega (arith, size, fits, len) in
+    let below : i < 4096 * entry_number b + length (bytes_of_entry b) = omega (arith, size, high) in
     ap (λ v. get_or v i 0) (with-it xs b fits)
-    ∙ (replaced-there (4096 * number_in b) xs (block_in b) there i r.low below
-    ∙ (sym (replaced-there (4096 * number_in b) ys (block_in b) here i r.low below)
+    ∙ (replaced-there (4096 * entry_number b) xs (bytes_of_entry b) there i r.low below
+    ∙ (sym (replaced-there (4096 * entry_number b) ys (bytes_of_entry b) here i r.low below)
     ∙ ap (λ v. get_or v i 0) (sym (with-it ys b (omega (arith, fits, len))))))
 
-pub keeps-block : (xs b : List ℕ) → 4104 ≤ length b → 4096 * number_in b + 4096 ≤ length xs → KeepsOthers (4096 * number_in b) 4096 xs (with_block xs b)
+pub keeps-block : (xs b : List ℕ) → 4104 ≤ length b → 4096 * entry_number b + 4096 ≤ length xs → KeepsOthers (4096 * entry_number b) 4096 xs (with_block xs b)
 keeps-block xs b long fits =
     let size = block-len b long in
-    let there : 4096 * number_in b + length (block_in b) ≤ length xs = omega (arith, size, fits) in
+    let there : 4096 * entry_number b + length (bytes_of_entry b) ≤ length xs = omega (arith, size, fits) in
     record {
       size = with-len xs b long;
-      before = λ i low. ap (λ v. get_or v i 0) (with-it xs b fits) ∙ replaced-before (4096 * number_in b) xs (block_in b) there i low;
-      behind = λ i high. ap (λ v. get_or v i 0) (with-it xs b fits) ∙ replaced-behind (4096 * number_in b) xs (block_in b) there i (omega (arith, size, high));
+      before = λ i low. ap (λ v. get_or v i 0) (with-it xs b fits) ∙ replaced-before (4096 * entry_number b) xs (bytes_of_entry b) there i low;
+      behind = λ i high. ap (λ v. get_or v i 0) (with-it xs b fits) ∙ replaced-behind (4096 * entry_number b) xs (bytes_of_entry b) there i (omega (arith, size, high));
     }
 
 same-put : (xs ys b : List ℕ) (i : ℕ) → length xs ≡ length ys → 4104 ≤ length b → get_or xs i 0 ≡ get_or ys i 0 → get_or (with_block xs b) i 0 ≡ get_or (with_block ys b) i 0
-same-put xs ys b i len long e = elim (cases_lt (length xs) (4096 * number_in b + 4096)) [
+same-put xs ys b i len long e = elim (cases_lt (length xs) (4096 * entry_number b + 4096)) [
   | inl out ↦ ap (λ v. get_or v i 0) (without-it xs b out) ∙ (e ∙ ap (λ v. get_or v i 0) (sym (without-it ys b (omega (arith, out, len)))))
-  | inr fits ↦ elim (cases_lt i (4096 * number_in b)) [
+  | inr fits ↦ elim (cases_lt i (4096 * entry_number b)) [
     | inl low ↦ (keeps-block xs b long fits).before i low ∙ (e ∙ sym ((keeps-block ys b long (omega (arith, fits, len))).before i low))
-    | inr low ↦ elim (cases_lt i (4096 * number_in b + 4096)) [
+    | inr low ↦ elim (cases_lt i (4096 * entry_number b + 4096)) [
       | inl high ↦ same-in xs ys b i len long (record { fits = fits; low = low; high = high })
       | inr high ↦ (keeps-block xs b long fits).behind i high ∙ (e ∙ sym ((keeps-block ys b long (omega (arith, fits, len))).behind i high))
     ]
@@ -124,8 +124,8 @@ same-put xs ys b i len long e = elim (cases_lt (length xs) (4096 * number_in b +
 
 -- What is placed doesn't depend on the bytes where a block comes.
 pub placed-same : (k : ℕ) (b xs ys : List ℕ) → 4104 * k ≤ length b → length xs ≡ length ys
-    → ((i : ℕ) → (get_or xs i 0 ≡ get_or ys i 0) ⊎ Covers k b (length xs) i) → placed k b xs ≡ placed k b ys
-unfolding placed Covers
+    → ((i : ℕ) → (get_or xs i 0 ≡ get_or ys i 0) ⊎ Covers k b (length xs) i) → with_blocks k b xs ≡ with_blocks k b ys
+unfolding with_blocks Covers
 placed-same zero b xs ys long len each = ext_get_or 0 xs ys len (λ i low. elim (each i) [ inl e ↦ e | inr c ↦ absurd c ])
 placed-same (suc k) b xs ys long len each =
     let one : 4104 ≤ length b = omega (arith, long) in
@@ -148,7 +148,7 @@ covered (suc k) b number bytes len i has fits low high = elim has [
 
 -- Any bytes may be in a block that the checkpoint has.
 pub placed-over : (k : ℕ) (b : List ℕ) (number : ℕ) (bytes xs ys : List ℕ) → 4104 * k ≤ length b → HasBlock k b number bytes → 4096 * number + 4096 ≤ length xs
-    → KeepsOthers (4096 * number) 4096 xs ys → placed k b ys ≡ placed k b xs
+    → KeepsOthers (4096 * number) 4096 xs ys → with_blocks k b ys ≡ with_blocks k b xs
 placed-over k b number bytes xs ys long has fits keeps =
     let size = keeps.size in
     placed-same k b ys xs long size (λ i. elim (cases_lt i (4096 * number)) [
@@ -160,7 +160,7 @@ placed-over k b number bytes xs ys long has fits keeps =
     ])
 
 -- an entry has its block, and a later one is one of all
-pub has-first : (k : ℕ) (b : List ℕ) → HasBlock (suc k) b (number_in b) (block_in b)
+pub has-first : (k : ℕ) (b : List ℕ) → HasBlock (suc k) b (entry_number b) (bytes_of_entry b)
 unfolding HasBlock
 has-first k b = inl (refl, refl)
 
@@ -175,47 +175,47 @@ has-later (suc j) k b number bytes has =
     subst (λ n. HasBlock n b number bytes) e all
 
 -- the blocks from the j-th on, of which there is one
-pub placed-next : (j k : ℕ) (b image : List ℕ) → placed (suc k) (drop (4104 * j) b) image ≡ placed k (drop (4104 * (j + 1)) b) (with_block image (drop (4104 * j) b))
-unfolding placed
-placed-next j k b image = ap (λ v. placed k v (with_block image (drop (4104 * j) b))) (drop-drop 4104 (4104 * j) b ∙ ap (λ n. drop n b) (omega arith))
+pub placed-next : (j k : ℕ) (b image : List ℕ) → with_blocks (suc k) (drop (4104 * j) b) image ≡ with_blocks k (drop (4104 * (j + 1)) b) (with_block image (drop (4104 * j) b))
+unfolding with_blocks
+placed-next j k b image = ap (λ v. with_blocks k v (with_block image (drop (4104 * j) b))) (drop-drop 4104 (4104 * j) b ∙ ap (λ n. drop n b) (omega arith))
 
 -- only the first bytes of an entry say something
-pub number-taken : (b : List ℕ) → number_in (take 4104 b) ≡ number_in b
+pub number-taken : (b : List ℕ) → entry_number (take 4104 b) ≡ entry_number b
 number-taken b = little_from-take 0 4 4104 b (omega arith)
 
-pub block-taken : (b : List ℕ) → block_in (take 4104 b) ≡ block_in b
+pub block-taken : (b : List ℕ) → bytes_of_entry (take 4104 b) ≡ bytes_of_entry b
 block-taken b = ap (λ v. take 4096 v) (drop-take 8 4096 b) ∙ take-take 4096 4096 (drop 8 b) (omega arith)
 
 pub with-taken : (image b : List ℕ) → with_block image (take 4104 b) ≡ with_block image b
 with-taken image b =
-    ap (λ n. if nat_lt (4096 * n + 4095) (length image) then replaced image (4096 * n) (block_in (take 4104 b)) else image) (number-taken b)
-    ∙ ap (λ v. if nat_lt (4096 * number_in b + 4095) (length image) then replaced image (4096 * number_in b) v else image) (block-taken b)
+    ap (λ n. if nat_lt (4096 * n + 4095) (length image) then replaced image (4096 * n) (bytes_of_entry (take 4104 b)) else image) (number-taken b)
+    ∙ ap (λ v. if nat_lt (4096 * entry_number b + 4095) (length image) then replaced image (4096 * entry_number b) v else image) (block-taken b)
 
 -- one more block of those in memory
 pub put-next : (j count : ℕ) (entries image image' start : List ℕ) → j < count → image' ≡ with_block image (take 4104 (drop (4104 * j) entries))
-    → placed (count - j) (drop (4104 * j) entries) image ≡ start → placed (count - (j + 1)) (drop (4104 * (j + 1)) entries) image' ≡ start
+    → with_blocks (count - j) (drop (4104 * j) entries) image ≡ start → with_blocks (count - (j + 1)) (drop (4104 * (j + 1)) entries) image' ≡ start
 put-next j count entries image image' start low put so =
     let more : count - j ≡ suc (count - (j + 1)) = omega (arith, low) in
-    ap (λ v. placed (count - (j + 1)) (drop (4104 * (j + 1)) entries) v) (put ∙ with-taken image (drop (4104 * j) entries))
+    ap (λ v. with_blocks (count - (j + 1)) (drop (4104 * (j + 1)) entries) v) (put ∙ with-taken image (drop (4104 * j) entries))
     ∙ (sym (placed-next j (count - (j + 1)) entries image)
-    ∙ (ap (λ n. placed n (drop (4104 * j) entries) image) (sym more) ∙ so))
+    ∙ (ap (λ n. with_blocks n (drop (4104 * j) entries) image) (sym more) ∙ so))
 
-pub put-all : (j count : ℕ) (b image : List ℕ) → count ≤ j → placed (count - j) b image ≡ image
-unfolding placed
-put-all j count b image high = (let none : count - j ≡ 0 = omega (arith, high) in ap (λ n. placed n b image) none)
+pub put-all : (j count : ℕ) (b image : List ℕ) → count ≤ j → with_blocks (count - j) b image ≡ image
+unfolding with_blocks
+put-all j count b image high = (let none : count - j ≡ 0 = omega (arith, high) in ap (λ n. with_blocks n b image) none)
 
 -- an entry behind others
 with-front : (image b e : List ℕ) → 4104 ≤ length b → with_block image (b ++ e) ≡ with_block image b
 with-front image b e long =
     sym (with-taken image (b ++ e)) ∙ (ap (λ v. with_block image v) (take-append-le 4104 b e long) ∙ with-taken image b)
 
-pub placed-more : (c : ℕ) (b e image : List ℕ) → length b ≡ 4104 * c → placed (suc c) (b ++ e) image ≡ with_block (placed c b image) e
-unfolding placed
+pub placed-more : (c : ℕ) (b e image : List ℕ) → length b ≡ 4104 * c → with_blocks (suc c) (b ++ e) image ≡ with_block (with_blocks c b image) e
+unfolding with_blocks
 placed-more zero b e image len = ap (λ v. with_block image (v ++ e)) (is_empty b (omega (arith, len)))
 placed-more (suc c) b e image len =
     let long : 4104 ≤ length b = omega (arith, len) in
-    ap (λ v. placed (suc c) v (with_block image (b ++ e))) (drop-append-le 4104 b e long)
-    ∙ (ap (λ v. placed (suc c) (drop 4104 b ++ e) v) (with-front image b e long)
+    ap (λ v. with_blocks (suc c) v (with_block image (b ++ e))) (drop-append-le 4104 b e long)
+    ∙ (ap (λ v. with_blocks (suc c) (drop 4104 b ++ e) v) (with-front image b e long)
     ∙ placed-more c (drop 4104 b) e (with_block image b) (length-drop 4104 b ∙ omega (arith, len)))
 
 -- the first blocks of one image, and behind them those of another
@@ -248,11 +248,11 @@ mixed-next k was is head same fits long number =
     let front-len : length front ≡ 4096 * k = length-take-le (4096 * k) is (omega (arith, fits)) in
     let back-len = length-drop (4096 * k) was in
     let all-len = length-append front back in
-    let n : number_in (head ++ block) ≡ k =
-        sym (little_from-take 0 4 8 (head ++ block) (omega arith)) ∙ (ap (λ v. little_from 0 4 v) (take_at head block 8 long) ∙ number) in
-    let b : block_in (head ++ block) ≡ block = ap (λ v. take 4096 v) (drop_at head block 8 long) ∙ take_all 4096 block (omega (arith, size)) in
+    let n : entry_number (head ++ block) ≡ k =
+    sym (little_from-take 0 4 8 (head ++ block) (omega arith)) ∙ (ap (λ v. little_from 0 4 v) (take_at head block 8 long) ∙ number) in
+    let b : bytes_of_entry (head ++ block) ≡ block = ap (λ v. take 4096 v) (drop_at head block 8 long) ∙ take_all 4096 block (omega (arith, size)) in
     with-it (mixed k was is) (head ++ block) (omega (arith, n, all-len, front-len, back-len, same, fits))
-    ∙ (ap (λ v. replaced (mixed k was is) (4096 * v) (block_in (head ++ block))) n
+    ∙ (ap (λ v. replaced (mixed k was is) (4096 * v) (bytes_of_entry (head ++ block))) n
     ∙ (ap (λ v. replaced (mixed k was is) (4096 * k) v) b
     ∙ (ap (λ v. v ++ block ++ drop (4096 * k + length block) (front ++ back)) (take_at front back (4096 * k) front-len)
     ∙ (ap (λ v. front ++ block ++ v) (sym (drop-drop (length block) (4096 * k) (front ++ back)) ∙ (ap (λ v. drop (length block) v) (drop_at front back (4096 * k) front-len) ∙ ap (λ v. drop v back) size))
@@ -269,7 +269,7 @@ pub record Collected (was is body : List ℕ) (k : ℕ) : Type 0 where
   pub few : count ≤ k
   pub len : length body ≡ 8 + 4104 * count
   pub sum : sum_at 0 body ≡ image_sum is
-  pub blocks : placed count (drop 8 body) was ≡ mixed k was is
+  pub blocks : with_blocks count (drop 8 body) was ≡ mixed k was is
 
 pub collected-same : (was is body : List ℕ) (k : ℕ) → Collected was is body k → 4096 * (k + 1) ≤ length is → take 4096 (drop (4096 * k) is) ≡ take 4096 (drop (4096 * k) was)
     → Collected was is body (k + 1)
@@ -298,7 +298,7 @@ collected-next was is body head k c same fits long number =
           ap (λ v. (v, little_from 4 4 (body ++ (head ++ block)))) (number-front 0 body (head ++ block) (omega (arith, len)))
           ∙ (ap (λ v. (little_from 0 4 body, v)) (number-front 4 body (head ++ block) (omega (arith, len))) ∙ c.sum);
       blocks =
-          ap (λ v. placed (suc c.count) v was) (drop-append-le 8 body (head ++ block) (omega (arith, len)))
+          ap (λ v. with_blocks (suc c.count) v was) (drop-append-le 8 body (head ++ block) (omega (arith, len)))
           ∙ (placed-more c.count (drop 8 body) (head ++ block) was (length-drop 8 body ∙ omega (arith, len))
           ∙ (ap (λ v. with_block v (head ++ block)) c.blocks ∙ mixed-next k was is head same fits long number));
     }
@@ -315,5 +315,5 @@ collected-all was is body k c same size high low =
       len = omega (arith, count, len);
       few = omega (arith, count, few, low, small);
       sum = c.sum;
-      blocks = ap (λ n. placed n (drop 8 body) was) count ∙ (c.blocks ∙ mixed-all k was is same (omega (arith, whole, high)));
+      blocks = ap (λ n. with_blocks n (drop 8 body) was) count ∙ (c.blocks ∙ mixed-all k was is same (omega (arith, whole, high)));
     }

@@ -1,7 +1,7 @@
 -- What is read of a log that grows.
 use Rattle.std.proofs.Common.{◌≡◌, ℕ, zero, suc, ◌+◌, ◌≤◌, Bool, true, false, List, [], ◌∷◌, ◌++◌, ◌⊎◌, inl, inr, length, drop, ap, sym, ◌∙◌, arith, refl}
 use Rattle.std.specs.Prelude.{if◌then◌else◌}
-use Rattle.std.proofs.lemmas.List.{append-nil, length-append, length-drop, drop-append-le}
+use Rattle.std.proofs.lemmas.List.{length-append, length-drop, drop-append-le}
 use Rattle.disk_log.specs.Records.{Change, begins_record, record_len, change_in, sum_in, with_change, replayed}
 use Rattle.disk_log.specs.Logs.{LogReading, read_some, log_reading}
 use Rattle.disk_log.proofs.Records.{begun, begins, begins-still, change-same, sum-same, len-same}

@@ -1,5 +1,5 @@
 -- Records that are being read, and replayed.
-use Rattle.std.proofs.Common.{◌≡◌, ℕ, zero, suc, ◌+◌, ◌-◌, ◌*◌, ◌≤◌, Bool, true, false, List, ◌∷◌, length, take, drop, ap, sym, ◌∙◌, arith, refl, Some, None, Result, Ok, Err, ◌⊎◌, inl, inr, subst, ◌<◌}
+use Rattle.std.proofs.Common.{◌≡◌, ℕ, zero, suc, ◌+◌, ◌-◌, ◌*◌, ◌≤◌, Bool, true, false, List, ◌∷◌, length, take, drop, ap, sym, ◌∙◌, arith, refl, Some, None, Err, ◌⊎◌, inl, inr, subst, ◌<◌}
 use Rattle.block_device.specs.declared.disk.DiskError.{DiskError}
 use Rattle.block_device.specs.declared.disk.DiskError.TheVariants as errors
 use Rattle.std.specs.Prelude.{◌/◌, if◌then◌else◌}
@@ -142,9 +142,9 @@ no-both false e f = cc
 pub failed-on : (T U : Type 0) (e : DiskError) (old mid new : Facts) → CountsNeverFall old mid → (IsDiskReady old → IsDiskReady mid) → Latches {T = T} mid (Err e) new
     → IsDiskReady old → Latches {T = U} old (Err e) new
 failed-on T U errors.Cut old mid new goes still l ready =
-    (elim l.0 [ | inl stood ↦ absurd (no-both mid.cut stood (still ready).0) | inr came ↦ (let a = goes.cuts in let b = came.1 in inr (ready, omega (arith, a, b))) ], l.1, l.2 ∙ ((still ready).1 ∙ sym ready.1))
+    (elim l.0 [ inl stood ↦ absurd (no-both mid.cut stood (still ready).0) | inr came ↦ (let a = goes.cuts in let b = came.1 in inr (ready, omega (arith, a, b))) ], l.1, l.2 ∙ ((still ready).1 ∙ sym ready.1))
 failed-on T U errors.Slow old mid new goes still l ready =
-    (ready.0, elim l.1 [ | inl stood ↦ absurd (no-both mid.slow stood (still ready).1) | inr came ↦ (let a = goes.slows in inr (omega (arith, a, came))) ], l.2, l.3)
+    (ready.0, elim l.1 [ inl stood ↦ absurd (no-both mid.slow stood (still ready).1) | inr came ↦ (let a = goes.slows in inr (omega (arith, a, came))) ], l.2, l.3)
 
 -- a record that isn't one of the disk's changes
 less-than : (n : ℕ) (before : ℕ × ℕ) (b : List ℕ) → (1 < kind_in b) ⊎ (n < first_in b + count_in b) → begins_record n before b ≡ false

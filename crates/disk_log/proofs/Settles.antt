@@ -1,22 +1,21 @@
 -- A log that is begun, and one that is settled.
-use Rattle.std.proofs.Common.{◌≡◌, ℕ, ◌+◌, ◌-◌, ◌*◌, ◌<◌, ◌≤◌, Bool, true, false, List, [], ◌∷◌, ◌++◌, ◌⊎◌, inl, inr, length, take, drop, ap, sym, ◌∙◌, arith, refl, subst, Option, Some, None, Result, Ok, Err}
-use Rattle.std.specs.Prelude.{◌/◌, ◌%◌, if◌then◌else◌}
+use Rattle.std.proofs.Common.{◌≡◌, ℕ, ◌-◌, ◌<◌, Bool, true, false, List, [], ◌∷◌, ◌++◌, inl, inr, length, drop, ap, sym, ◌∙◌, arith, refl, subst, Option, Some, None, Result, Ok, Err}
+use Rattle.std.specs.Prelude.{◌/◌, if◌then◌else◌}
 use Rattle.std.specs.Result.{IsErr}
-use Rattle.std.proofs.lemmas.Bool.{lt-ltb, ltb-true}
-use Rattle.std.proofs.lemmas.List.{length-append, append-nil, length-drop, drop_all}
-use Rattle.disk_log.specs.Records.{count_in, replayed, body_len_of}
-use Rattle.disk_log.specs.Checkpoints.{placed, image_sum, IsCheckpointBody}
-use Rattle.disk_log.specs.Logs.{LogReading, log_reading, log_changes, has_head, head_sum, has_checkpoint, contents_in, Medium, IsBegun, IsWholeLog, HoldsAs, read_some}
+use Rattle.std.proofs.lemmas.List.{length-append, append-nil, drop_all}
+use Rattle.disk_log.specs.Records.{count_in, replayed}
+use Rattle.disk_log.specs.Checkpoints.{with_blocks, image_sum, IsCheckpointBody}
+use Rattle.disk_log.specs.Logs.{LogReading, log_reading, log_changes, has_head, head_sum, contents_in, Medium, IsBegunLog, IsWholeLog, read_some}
 use Rattle.disk_log.specs.Files.{Extends, SyncsLog, OfFiles}
-use Rattle.disk_log.specs.Settling.{HasBlocks, EmptiesLog, LogsCheckpoint, HoldsEither, Settles}
+use Rattle.disk_log.specs.Settling.{HasBlocks, EmptiesLog, LogsCheckpoint, SettlesFiles}
 use Rattle.disk_log.specs.Reading.{IsEmptyOn, TakesUp}
 use Rattle.disk_log.proofs.Growing.{Made, made-body, made-count, not-true}
-use Rattle.disk_log.proofs.Held.{log-is, head-long, checkpoint-read, checkpoint-has, checkpoint-told, part-told, told, told-changes, begun-told}
+use Rattle.disk_log.proofs.Held.{log-is, head-long, checkpoint-read, checkpoint-has, checkpoint-told, part-told, told, begun-told}
 use Rattle.disk_log.proofs.Entries.{empty-holds, holds-placed}
 
 -- a log with nothing behind its head
 pub fresh-begun : (m : Medium) (image head : List ℕ) → m.image ≡ image → m.log ≡ head → length head ≡ 16 → has_head head ≡ true → head_sum head ≡ image_sum image
-    → IsBegun m image (image_sum image)
+    → IsBegunLog m image (image_sum image)
 unfolding read_some
 fresh-begun m image head same is long has own =
     let none : drop 16 m.log ≡ [] = ap (λ v. drop 16 v) is ∙ drop_all 16 head (omega (arith, long)) in
@@ -31,7 +30,7 @@ fresh-changes : (n : ℕ) (log : List ℕ) → has_head log ≡ true → drop 16
 unfolding read_some
 fresh-changes n log e none = ap (λ r. r.changes) (log-is n log e) ∙ ap (λ v. (log_reading n (head_sum log) v).changes) none
 
-fresh-holds : (m : Medium) (image head : List ℕ) (represents : List ℕ → List ℕ) → IsBegun m image (image_sum image) → m.log ≡ head → length head ≡ 16
+fresh-holds : (m : Medium) (image head : List ℕ) (represents : List ℕ → List ℕ) → IsBegunLog m image (image_sum image) → m.log ≡ head → length head ≡ 16
     → contents_in represents m.sectors m.image m.log ≡ represents m.image
 unfolding replayed
 fresh-holds m image head represents b is long =
@@ -48,6 +47,11 @@ pub headless-holds : (represents : List ℕ → List ℕ) (n : ℕ) (image log :
 unfolding replayed
 headless-holds represents n image log e =
     ap (λ r. told represents image r) (read-false (has_head log) (log_reading n (head_sum log) (drop 16 log)) (record { changes = []; sum = (0, 0); rest = [] }) e)
+
+pub headless-replayed : (n : ℕ) (log contents : List ℕ) → has_head log ≡ false → contents ≡ replayed (log_changes n log).changes contents
+unfolding replayed
+headless-replayed n log contents e =
+    ap (λ (r : LogReading). replayed r.changes contents) (sym (read-false (has_head log) (log_reading n (head_sum log) (drop 16 log)) (record { changes = []; sum = (0, 0); rest = [] }) e))
 
 pub no-head : (log : List ℕ) → length log < 16 → has_head log ≡ false
 no-head log short = not-true (has_head log) (λ e. let h = head-long log e in absurd (omega (arith, h, short)))
@@ -90,50 +94,58 @@ module _ (was is body head : List ℕ) (before next : ℕ × ℕ) (same : length
   count : ℕ
   count = (length body - 8) / 4104
 
-  settled-told : (m : Medium) (represents : List ℕ → List ℕ) → IsBegun m was before
+  settled-told : (m : Medium) (represents : List ℕ → List ℕ) → IsBegunLog m was before
       → contents_in represents m.sectors m.image (m.log ++ (head ++ body)) ≡ represents is
   unfolding count
   settled-told m represents b =
       checkpoint-told m was before b head body 2 0 count next made represents refl
-      ∙ ap (λ v. represents v) (ap (λ v. placed count (drop 8 body) v) b.same ∙ whole.blocks)
+      ∙ ap (λ v. represents v) (ap (λ v. with_blocks count (drop 8 body) v) b.same ∙ whole.blocks)
 
-  pub checkpoint-logged : (T E : Type 0) (t : T) (r : Result T E) (old mid new : Option Medium) → OfFiles old (λ m. IsBegun m was before)
+  pub checkpoint-logged : (T E : Type 0) (t : T) (r : Result T E) (old mid new : Option Medium) → OfFiles old (λ m. IsBegunLog m was before)
       → Extends {T = T} {E = E} old (head ++ body) (Ok t) mid → SyncsLog {T = T} {E = E} mid r new → LogsCheckpoint {T = T} {E = E} is body old r new
   unfolding count
   checkpoint-logged T E t (Ok u) None mid new b e s = subst (λ v. SyncsLog {T = T} {E = E} v (Ok u) new) e s
   checkpoint-logged T E t (Err f) None mid new b e s = subst (λ v. SyncsLog {T = T} {E = E} v (Err f) new) e s
   checkpoint-logged T E t (Ok u) (Some m) mid new b e s =
       let s' = subst (λ v. SyncsLog {T = T} {E = E} v (Ok u) new) e s in
-      let read = checkpoint-read m was before b head body 2 0 count next made refl in
-      (record m { log = m.log ++ (head ++ body); safe = length (m.log ++ (head ++ body)) }, s', refl, refl, record {
-        size = ap (λ v. length v) b.same ∙ same;
-        safe = refl;
-        whole = checkpoint-has m was before b head body 2 0 count next made refl;
-        count_is = ap (λ (r : LogReading). count_in r.rest) read ∙ made-count head body 2 0 count before next made;
-        there = ap (λ (r : LogReading). drop 32 r.rest) read ∙ made-body head body 2 0 count before next made 8;
-      })
+      let read = checkpoint-read m was before b head body 2 0 count next made refl in (
+        record m { log = m.log ++ (head ++ body); safe = length (m.log ++ (head ++ body)) },
+        s',
+        refl,
+        refl,
+        record {
+          size = ap (λ v. length v) b.same ∙ same;
+          safe = refl;
+          whole = checkpoint-has m was before b head body 2 0 count next made refl;
+          count_is = ap (λ (r : LogReading). count_in r.rest) read ∙ made-count head body 2 0 count before next made;
+          there = ap (λ (r : LogReading). drop 32 r.rest) read ∙ made-body head body 2 0 count before next made 8;
+        },
+      )
   checkpoint-logged T E t (Err f) (Some m) mid new b e s =
       let s' = subst (λ v. SyncsLog {T = T} {E = E} v (Err f) new) e s in
       (record m { log = m.log ++ (head ++ body); safe = s'.0 }, s'.1, λ represents. inr (settled-told m represents b))
 
-  pub checkpoint-unlogged : (T U E F : Type 0) (f : E) (g : F) (old new : Option Medium) → OfFiles old (λ m. IsBegun m was before)
+  pub checkpoint-unlogged : (T U E F : Type 0) (f : E) (g : F) (old new : Option Medium) → OfFiles old (λ m. IsBegunLog m was before)
       → Extends {T = T} {E = E} old (head ++ body) (Err f) new → LogsCheckpoint {T = U} {E = F} is body old (Err g) new
   unfolding count
   checkpoint-unlogged T U E F f g None new b e = e
-  checkpoint-unlogged T U E F f g (Some m) new b (taken, rest, part, e) =
-      (record m { log = m.log ++ taken }, e, λ represents. elim (part-told m was before b head body 2 0 count next made taken rest represents part) [
-        | inl h ↦ inl h
-        | inr h ↦ inr (h ∙ settled-told m represents b)
-      ])
+  checkpoint-unlogged T U E F f g (Some m) new b (taken, rest, part, e) = (
+    record m { log = m.log ++ taken },
+    e,
+    λ represents. elim (part-told m was before b head body 2 0 count next made taken rest represents part) [
+      | inl h ↦ inl h
+      | inr h ↦ inr (h ∙ settled-told m represents b)
+    ],
+  )
 
 -- The steps of settling.
 module _ (was is body : List ℕ) (before : ℕ × ℕ) (whole : IsCheckpointBody was is body) where
-  placed-is : (m m1 : Medium) (len : ℕ) (represents : List ℕ → List ℕ) → IsBegun m was before → m1.image ≡ m.image
-      → placed ((length body - 8) / 4104) (drop 8 body) m1.image ≡ is
-  placed-is m m1 len represents b e = ap (λ v. placed ((length body - 8) / 4104) (drop 8 body) v) (e ∙ b.same) ∙ whole.blocks
+  placed-is : (m m1 : Medium) (len : ℕ) (represents : List ℕ → List ℕ) → IsBegunLog m was before → m1.image ≡ m.image
+      → with_blocks ((length body - 8) / 4104) (drop 8 body) m1.image ≡ is
+  placed-is m m1 len represents b e = ap (λ v. with_blocks ((length body - 8) / 4104) (drop 8 body) v) (e ∙ b.same) ∙ whole.blocks
 
   pub unsettled : (T U E F : Type 0) (f : E) (r : Result U F) → IsErr r → (last : ℕ × ℕ) (old new : Option Medium)
-      → LogsCheckpoint {T = T} {E = E} is body old (Err f) new → Settles {T = U} {E = F} is old r last new
+      → LogsCheckpoint {T = T} {E = E} is body old (Err f) new → SettlesFiles {T = U} {E = F} is old r last new
   unsettled T U E F f (Ok u) bad last old new s = absurd (cc bad)
   unsettled T U E F f (Err g) bad last None new s = s
   unsettled T U E F f (Err g) bad last (Some m) new s = s
@@ -143,18 +155,21 @@ module _ (was is body : List ℕ) (before : ℕ × ℕ) (whole : IsCheckpointBod
   logged-blocks T E t None one s = subst (λ v. OfFiles v (λ m. HasBlocks m (length is) ((length body - 8) / 4104) (drop 8 body))) (sym s) tt
   logged-blocks T E t (Some m) one s = subst (λ v. OfFiles v (λ m. HasBlocks m (length is) ((length body - 8) / 4104) (drop 8 body))) (sym s.1) s.4
 
-  pub unplaced-settles : (T U E F : Type 0) (t : T) (f : E) (r : Result U F) → IsErr r → (last : ℕ × ℕ) (old one new : Option Medium) → OfFiles old (λ m. IsBegun m was before)
+  pub unplaced-settles : (T U E F : Type 0) (t : T) (f : E) (r : Result U F) → IsErr r → (last : ℕ × ℕ) (old one new : Option Medium) → OfFiles old (λ m. IsBegunLog m was before)
       → LogsCheckpoint {T = T} {E = E} is body old (Ok t) one → EmptiesLog {T = T} {E = E} ((length body - 8) / 4104) (drop 8 body) one (Err f) new
-      → Settles {T = U} {E = F} is old r last new
+      → SettlesFiles {T = U} {E = F} is old r last new
   unplaced-settles T U E F t f (Ok u) bad last old one new b s p = absurd (cc bad)
   unplaced-settles T U E F t f (Err g) bad last None one new b s p = subst (λ v. EmptiesLog {T = T} {E = E} ((length body - 8) / 4104) (drop 8 body) v (Err f) new) s p
   unplaced-settles T U E F t f (Err g) bad last (Some m) one new b s p =
-      let p' = subst (λ v. EmptiesLog {T = T} {E = E} ((length body - 8) / 4104) (drop 8 body) v (Err f) new) s.1 p in
-      (p'.0, p'.1, λ represents. inr (p'.2 represents
-      ∙ (holds-placed s.0 (length is) ((length body - 8) / 4104) (drop 8 body) s.0.image represents s.4
-      ∙ ap (λ v. represents v) (placed-is m s.0 (length is) represents b s.3))))
+      let p' = subst (λ v. EmptiesLog {T = T} {E = E} ((length body - 8) / 4104) (drop 8 body) v (Err f) new) s.1 p in (
+        p'.0,
+        p'.1,
+        λ represents. inr (p'.2 represents
+            ∙ (holds-placed s.0 (length is) ((length body - 8) / 4104) (drop 8 body) s.0.image represents s.4
+            ∙ ap (λ v. represents v) (placed-is m s.0 (length is) represents b s.3))),
+      )
 
-  pub emptied-on : (T E : Type 0) (t : T) (old one two : Option Medium) → OfFiles old (λ m. IsBegun m was before)
+  pub emptied-on : (T E : Type 0) (t : T) (old one two : Option Medium) → OfFiles old (λ m. IsBegunLog m was before)
       → LogsCheckpoint {T = T} {E = E} is body old (Ok t) one → EmptiesLog {T = T} {E = E} ((length body - 8) / 4104) (drop 8 body) one (Ok t) two
       → OfFiles two (λ m. IsEmptyOn is m)
   emptied-on T E t None one two b s p =
@@ -164,17 +179,17 @@ module _ (was is body : List ℕ) (before : ℕ × ℕ) (whole : IsCheckpointBod
       let p' = subst (λ v. EmptiesLog {T = T} {E = E} ((length body - 8) / 4104) (drop 8 body) v (Ok t) two) s.1 p in
       subst (λ v. OfFiles v (λ m. IsEmptyOn is m)) (sym p') (placed-is m s.0 (length is) (λ v. v) b s.3, refl)
 
-  module _ (T E : Type 0) (t : T) (old one two new : Option Medium) (b : OfFiles old (λ m. IsBegun m was before))
+  module _ (T E : Type 0) (t : T) (old one two new : Option Medium) (b : OfFiles old (λ m. IsBegunLog m was before))
       (s : LogsCheckpoint {T = T} {E = E} is body old (Ok t) one) (p : EmptiesLog {T = T} {E = E} ((length body - 8) / 4104) (drop 8 body) one (Ok t) two) where
-    two-is : (m : Medium) → OfFiles (Some m) (λ m. IsBegun m was before) → LogsCheckpoint {T = T} {E = E} is body (Some m) (Ok t) one
+    two-is : (m : Medium) → OfFiles (Some m) (λ m. IsBegunLog m was before) → LogsCheckpoint {T = T} {E = E} is body (Some m) (Ok t) one
         → (m2 : Medium) × (two ≡ Some m2) × (m2.sectors ≡ m.sectors) × (m2.image ≡ is) × (m2.log ≡ [])
     two-is m b s =
         let p' = subst (λ v. EmptiesLog {T = T} {E = E} ((length body - 8) / 4104) (drop 8 body) v (Ok t) two) s.1 p in
-        (record s.0 { image = placed ((length body - 8) / 4104) (drop 8 body) s.0.image; log = []; safe = 0; settled = true }, p', s.2, placed-is m s.0 (length is) (λ v. v) b s.3, refl)
+        (record s.0 { image = with_blocks ((length body - 8) / 4104) (drop 8 body) s.0.image; log = []; safe = 0; settled = true }, p', s.2, placed-is m s.0 (length is) (λ v. v) b s.3, refl)
 
-  pub settles : (T U E F : Type 0) (t : T) (u : U) (sum : ℕ × ℕ) (old one two new : Option Medium) → OfFiles old (λ m. IsBegun m was before)
+  pub settles : (T U E F : Type 0) (t : T) (u : U) (sum : ℕ × ℕ) (old one two new : Option Medium) → OfFiles old (λ m. IsBegunLog m was before)
       → LogsCheckpoint {T = T} {E = E} is body old (Ok t) one → EmptiesLog {T = T} {E = E} ((length body - 8) / 4104) (drop 8 body) one (Ok t) two
-      → TakesUp {E = E} two is (Ok sum) new → Settles {T = U} {E = F} is old (Ok u) sum new
+      → TakesUp {E = E} two is (Ok sum) new → SettlesFiles {T = U} {E = F} is old (Ok u) sum new
   settles T U E F t u sum None one two new b s p n =
       let p' = subst (λ v. EmptiesLog {T = T} {E = E} ((length body - 8) / 4104) (drop 8 body) v (Ok t) two) s p in
       subst (λ v. TakesUp {E = E} v is (Ok sum) new) p' n
@@ -183,9 +198,9 @@ module _ (was is body : List ℕ) (before : ℕ × ℕ) (whole : IsCheckpointBod
       let n' = subst (λ v. TakesUp {E = E} v is (Ok sum) new) x.1 n in
       (n'.0, n'.1, n'.2 ∙ x.2, n'.3, λ represents. n'.4 represents ∙ (empty-holds represents x.0.sectors x.0.image x.0.log x.4 ∙ ap (λ v. represents v) x.3))
 
-  pub unbegun-settles : (T U E F : Type 0) (t : T) (f : E) (r : Result U F) → IsErr r → (last : ℕ × ℕ) (old one two new : Option Medium) → OfFiles old (λ m. IsBegun m was before)
+  pub unbegun-settles : (T U E F : Type 0) (t : T) (f : E) (r : Result U F) → IsErr r → (last : ℕ × ℕ) (old one two new : Option Medium) → OfFiles old (λ m. IsBegunLog m was before)
       → LogsCheckpoint {T = T} {E = E} is body old (Ok t) one → EmptiesLog {T = T} {E = E} ((length body - 8) / 4104) (drop 8 body) one (Ok t) two
-      → TakesUp {E = E} two is (Err f) new → Settles {T = U} {E = F} is old r last new
+      → TakesUp {E = E} two is (Err f) new → SettlesFiles {T = U} {E = F} is old r last new
   unbegun-settles T U E F t f (Ok u) bad last old one two new b s p n = absurd (cc bad)
   unbegun-settles T U E F t f (Err g) bad last None one two new b s p n =
       let p' = subst (λ v. EmptiesLog {T = T} {E = E} ((length body - 8) / 4104) (drop 8 body) v (Ok t) two) s p in
@@ -196,6 +211,6 @@ module _ (was is body : List ℕ) (before : ℕ × ℕ) (whole : IsCheckpointBod
       (n'.0, n'.1, λ represents. inr (n'.2 represents ∙ (empty-holds represents x.0.sectors x.0.image x.0.log x.4 ∙ ap (λ v. represents v) x.3)))
 
 -- where memory ran out
-pub untouched : (U F : Type 0) (is : List ℕ) (g : F) (last : ℕ × ℕ) (files : Option Medium) → Settles {T = U} {E = F} is files (Err g) last files
+pub untouched : (U F : Type 0) (is : List ℕ) (g : F) (last : ℕ × ℕ) (files : Option Medium) → SettlesFiles {T = U} {E = F} is files (Err g) last files
 untouched U F is g last None = refl
 untouched U F is g last (Some m) = (m, refl, λ represents. inl refl)

@@ -1,7 +1,7 @@
 -- What is known of a disk with a log. Source: own.
 use Rattle.std.specs.Prelude.{◌≡◌, ◌+◌, ℕ, Bool, true, false, List, Option, Result}
 use Rattle.std.specs.Prelude.{Ok, Err, Some, None}
-use Rattle.disk_log.specs.Logs.{Medium, IsBegun, contents_in, held}
+use Rattle.disk_log.specs.Logs.{Medium, IsBegunLog, contents_in, held}
 use Rattle.block_device.specs.Facts.{Facts, CountsNeverFall, Latches, Writes}
 use Rattle.block_device.specs.declared.disk.DiskError.{DiskError}
 use Rattle.block_device.specs.declared.disk.DiskError.TheVariants as errors
@@ -48,7 +48,7 @@ standing_answer Slow = Err errors.Slow
 pub record IsOfDisk (represents : List ℕ → List ℕ) (n : ℕ) (contents image : List ℕ)
     (last : ℕ × ℕ) (m : Medium) : Type 0 where
   pub sectors : m.sectors ≡ n
-  pub begun : IsBegun m image last
+  pub begun : IsBegunLog m image last
   pub same : contents_in represents m.sectors m.image m.log ≡ contents
 
 -- a call that changes no sector, whatever it answers

@@ -1,7 +1,7 @@
 -- A log: a head, and records one behind the other. Source: own.
-use Rattle.std.specs.Prelude.{◌≡◌, ℕ, zero, suc, ◌+◌, ◌&&◌, ◌||◌, ◌==◌, if◌then◌else◌}
+use Rattle.std.specs.Prelude.{◌≡◌, ℕ, zero, suc, ◌&&◌, ◌||◌, ◌==◌, if◌then◌else◌}
 use Rattle.std.specs.Prelude.{List, [], ◌∷◌, length, drop, Option, Some, None}
-use Rattle.std.specs.Prelude.{Bool, true, false, nat_lt}
+use Rattle.std.specs.Prelude.{Bool, true, nat_lt}
 use Rattle.byteorder.specs.Endian.{little_from}
 use Rattle.disk_log.specs.Records.{Change, begins_record, begins_checkpoint, change_in, record_len}
 use Rattle.disk_log.specs.Records.{replayed, sum_in, sum_at}
@@ -80,7 +80,7 @@ held represents None contents = contents
 held represents (Some m) contents = contents_in represents m.sectors m.image m.log
 
 -- a log that was begun on this image, and is changes to its end, the last of which has this sum
-pub record IsBegun (m : Medium) (image : List ℕ) (last : ℕ × ℕ) : Type 0 where
+pub record IsBegunLog (m : Medium) (image : List ℕ) (last : ℕ × ℕ) : Type 0 where
   pub same : m.image ≡ image
   pub head : has_head m.log ≡ true
   pub own : head_sum m.log ≡ image_sum image

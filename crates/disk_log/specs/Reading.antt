@@ -3,7 +3,7 @@ use Rattle.std.specs.Prelude.{◌≡◌, ◌⊎◌, ◌≤◌, ℕ, List, length
 use Rattle.std.specs.Prelude.{Option, Some, None, []}
 use Rattle.disk_log.specs.Checkpoints.{image_sum, image_sum_in, placed_in}
 use Rattle.disk_log.specs.Logs.{has_head, head_sum, is_blank, log_changes, has_checkpoint}
-use Rattle.disk_log.specs.Logs.{Medium, IsBegun, HoldsAs}
+use Rattle.disk_log.specs.Logs.{Medium, IsBegunLog, HoldsAs}
 use Rattle.disk_log.specs.declared.reading.Found.{Found}
 use Rattle.disk_log.specs.declared.reading.Found.TheVariants.{Nothing, Records, Checkpoint}
 use Rattle.disk_log.specs.declared.reading.Refusal.{Refusal}
@@ -31,13 +31,26 @@ ReadsLog n log image (Err Foreign) image' =
 -- the sum is not this image's
 ReadsLog n log image (Err Another) image' = (has_head log ≡ true) × (length image' ≡ length image)
     × (((has_checkpoint n log ≡ false) × (head_sum log ≡ image_sum image → ⊥))
-    ⊎ ((has_checkpoint n log ≡ true)
-    × (image_sum_in (log_changes n log).rest ≡ image_sum (placed_in (log_changes n log).rest image) → ⊥)))
+    ⊎ ((has_checkpoint n log ≡ true) × (image_sum_in (log_changes n log).rest
+    ≡ image_sum (placed_in (log_changes n log).rest image) → ⊥)))
+
+-- a reading of a checkpoint behind so many bytes: its blocks are placed
+abbrev pub ReadsPlaced : ℕ → List ℕ → List ℕ → Result Found Refusal → List ℕ → Type 0
+ReadsPlaced at b image (Ok found) image' = (found ≡ Checkpoint at) × (image' ≡ placed_in b image)
+    × (image_sum_in b ≡ image_sum image')
+ReadsPlaced at b image (Err refusal) image' = (refusal ≡ Another) × (image' ≡ placed_in b image)
+    × (image_sum_in b ≡ image_sum image' → ⊥)
+
+-- how many bytes the log has where only changes were found: what was behind them was cut off
+abbrev pub EndsThere : Found → List ℕ → Type 0
+EndsThere Nothing log = Unit {0}
+EndsThere (Records len sum) log = len ≡ length log
+EndsThere (Checkpoint at) log = Unit {0}
 
 -- two files are those of a reading, of a disk of n sectors, that left these bytes of the image
 abbrev pub IsRead : ℕ → List ℕ → List ℕ → Found → Medium → Type 0
-IsRead n image log found m =
-    (m.sectors ≡ n) × (m.log ≡ log) × ReadsLog n log m.image (Ok found) image
+IsRead n image log found m = (m.sectors ≡ n) × (m.log ≡ log)
+    × ReadsLog n log m.image (Ok found) image × EndsThere found log
 
 -- what a start that takes up a log leaves of the files: one that was begun on the image as it is in
 -- memory, or, where a call failed, what they held
@@ -45,9 +58,19 @@ abbrev pub TakesUp : {E : Type 0} → Option Medium → List ℕ → Result (ℕ
     → Type 0
 TakesUp None image result new = new ≡ None
 TakesUp (Some m) image (Ok sum) new = (m' : Medium) × (new ≡ Some m') × (m'.sectors ≡ m.sectors)
-    × IsBegun m' image sum × HoldsAs m m'
+    × IsBegunLog m' image sum × HoldsAs m m'
 TakesUp (Some m) image (Err _) new = (m' : Medium) × (new ≡ Some m') × HoldsAs m m'
 
 -- an empty log, beside an image with these bytes
 abbrev pub IsEmptyOn : List ℕ → Medium → Type 0
 IsEmptyOn image m = (m.image ≡ image) × (m.log ≡ [])
+
+-- a log with no head, beside an image with these bytes
+abbrev pub IsBlankOn : List ℕ → Medium → Type 0
+IsBlankOn image m = (m.image ≡ image) × (has_head m.log ≡ false)
+
+-- a log with this checkpoint, beside an image that has these bytes once its blocks are placed
+pub record IsPlacedOn (image checkpoint : List ℕ) (m : Medium) : Type 0 where
+  pub whole : has_checkpoint m.sectors m.log ≡ true
+  pub rest : (log_changes m.sectors m.log).rest ≡ checkpoint
+  pub placed : image ≡ placed_in checkpoint m.image

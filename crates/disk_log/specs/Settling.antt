@@ -1,14 +1,16 @@
 -- How a checkpoint is placed, step by step. Source: own.
-use Rattle.std.specs.Prelude.{◌≡◌, ◌⊎◌, ◌+◌, ◌-◌, ◌*◌, ◌/◌, ◌≤◌, ℕ, Bool, true, false, List, [], length}
-use Rattle.std.specs.Prelude.{drop, Option, Some, None, Result, Ok, Err}
+use Rattle.std.specs.Prelude.{◌≡◌, ◌⊎◌, ◌+◌, ◌-◌, ◌*◌, ◌/◌, ◌≤◌, ℕ, Bool, true, false, List, []}
+use Rattle.std.specs.Prelude.{length, drop, Option, Some, None, Result, Ok, Err}
 use Rattle.disk_log.specs.Records.{Change, count_in, with_change}
-use Rattle.disk_log.specs.Checkpoints.{HasBlock, KeepsOthers, number_in, block_in, placed, with_block}
-use Rattle.disk_log.specs.Logs.{Medium, IsBegun, HoldsAs, contents_in, has_checkpoint, log_changes}
+use Rattle.disk_log.specs.Checkpoints.{HasBlock, KeepsOthers, entry_number, bytes_of_entry}
+use Rattle.disk_log.specs.Checkpoints.{with_block, with_blocks}
+use Rattle.disk_log.specs.Logs.{Medium, IsBegunLog, HoldsAs, contents_in, has_checkpoint}
+use Rattle.disk_log.specs.Logs.{log_changes}
 
 -- What an append of a record with this change leaves of files whose log was begun, where the
 -- sectors are on the disk: one change more; where it failed, the same ones, or one more.
 abbrev pub Added : {T E : Type 0} → Change → Medium → Result T E → Medium → List ℕ → ℕ × ℕ → Type 0
-Added change m (Ok _) m' image last = IsBegun m' image last × ((represents : List ℕ → List ℕ)
+Added change m (Ok _) m' image last = IsBegunLog m' image last × ((represents : List ℕ → List ℕ)
     → contents_in represents m'.sectors m'.image m'.log
     ≡ with_change (contents_in represents m.sectors m.image m.log) change)
 Added change m (Err _) m' image last = (represents : List ℕ → List ℕ)
@@ -17,12 +19,12 @@ Added change m (Err _) m' image last = (represents : List ℕ → List ℕ)
     ⊎ (contents_in represents m'.sectors m'.image m'.log
     ≡ with_change (contents_in represents m.sectors m.image m.log) change)
 
-abbrev pub Adds : {T E : Type 0} → Change → ℕ × ℕ → Option Medium → Result T E → ℕ × ℕ
+abbrev pub AddsChange : {T E : Type 0} → Change → ℕ × ℕ → Option Medium → Result T E → ℕ × ℕ
     → Option Medium → Type 0
-Adds change before None result last new = new ≡ None
-Adds change before (Some m) result last new = (m' : Medium) × (new ≡ Some m')
+AddsChange change before None result last new = new ≡ None
+AddsChange change before (Some m) result last new = (m' : Medium) × (new ≡ Some m')
     × (m'.sectors ≡ m.sectors)
-    × ((image : List ℕ) → IsBegun m image before
+    × ((image : List ℕ) → IsBegunLog m image before
     → change.first + length change.bytes / 512 ≤ m.sectors → Added change m result m' image last)
 
 -- The log has so many entries of a checkpoint, and all of it is on the medium.
@@ -39,7 +41,7 @@ pub record HasEntryOf (m : Medium) (len : ℕ) (entry : List ℕ) : Type 0 where
   pub safe : m.safe ≡ length m.log
   pub whole : has_checkpoint m.sectors m.log ≡ true
   pub there : HasBlock (count_in (log_changes m.sectors m.log).rest)
-      (drop 32 (log_changes m.sectors m.log).rest) (number_in entry) (block_in entry)
+      (drop 32 (log_changes m.sectors m.log).rest) (entry_number entry) (bytes_of_entry entry)
 
 abbrev pub PlacesEntry : {T E : Type 0} → List ℕ → Option Medium → Result T E → Option Medium
     → Type 0
@@ -47,8 +49,8 @@ PlacesEntry entry None result new = new ≡ None
 PlacesEntry entry (Some m) (Ok _) new = (settled : Bool)
     × (new ≡ Some (record m { image = with_block m.image entry; settled = settled }))
 PlacesEntry entry (Some m) (Err _) new = (image : List ℕ)
-    × (4096 * number_in entry + 4096 ≤ length m.image)
-    × KeepsOthers (4096 * number_in entry) 4096 m.image image
+    × (4096 * entry_number entry + 4096 ≤ length m.image)
+    × KeepsOthers (4096 * entry_number entry) 4096 m.image image
     × (new ≡ Some (record m { image = image; settled = false }))
 
 -- All blocks are in their places, or any bytes are where blocks come.
@@ -56,10 +58,11 @@ abbrev pub PlacesBlocks : {T E : Type 0} → ℕ → List ℕ → Option Medium 
     → Type 0
 PlacesBlocks count entries None result new = new ≡ None
 PlacesBlocks count entries (Some m) (Ok _) new = (settled : Bool)
-    × (placed count entries (placed count entries m.image) ≡ placed count entries m.image)
-    × (new ≡ Some (record m { image = placed count entries m.image; settled = settled }))
+    × (with_blocks count entries (with_blocks count entries m.image)
+    ≡ with_blocks count entries m.image)
+    × (new ≡ Some (record m { image = with_blocks count entries m.image; settled = settled }))
 PlacesBlocks count entries (Some m) (Err _) new = (image : List ℕ) × (settled : Bool)
-    × (placed count entries image ≡ placed count entries m.image)
+    × (with_blocks count entries image ≡ with_blocks count entries m.image)
     × (new ≡ Some (record m { image = image; settled = settled }))
 
 -- The blocks are in the image on the medium and the log is empty, or the files hold the same.
@@ -67,11 +70,11 @@ abbrev pub EmptiesLog : {T E : Type 0} → ℕ → List ℕ → Option Medium �
     → Type 0
 EmptiesLog count entries None result new = new ≡ None
 EmptiesLog count entries (Some m) (Ok _) new = new ≡ Some (record m {
-    image = placed count entries m.image;
-    log = [];
-    safe = 0;
-    settled = true;
-  })
+  image = with_blocks count entries m.image;
+  log = [];
+  safe = 0;
+  settled = true;
+})
 EmptiesLog count entries (Some m) (Err _) new = (m' : Medium) × (new ≡ Some m') × HoldsAs m m'
 
 -- They hold what they did, or what the image in memory represents.
@@ -91,10 +94,10 @@ LogsCheckpoint is body (Some m) (Ok _) new = (m' : Medium) × (new ≡ Some m')
 LogsCheckpoint is body (Some m) (Err _) new = (m' : Medium) × (new ≡ Some m') × HoldsEither m is m'
 
 -- The image has all changes, and the log was begun on it.
-abbrev pub Settles : {T E : Type 0} → List ℕ → Option Medium → Result T E → ℕ × ℕ → Option Medium
-    → Type 0
-Settles is None result last new = new ≡ None
-Settles is (Some m) (Ok _) last new = (m' : Medium) × (new ≡ Some m') × (m'.sectors ≡ m.sectors)
-    × IsBegun m' is last × ((represents : List ℕ → List ℕ)
+abbrev pub SettlesFiles : {T E : Type 0} → List ℕ → Option Medium → Result T E → ℕ × ℕ
+    → Option Medium → Type 0
+SettlesFiles is None result last new = new ≡ None
+SettlesFiles is (Some m) (Ok _) last new = (m' : Medium) × (new ≡ Some m')
+    × (m'.sectors ≡ m.sectors) × IsBegunLog m' is last × ((represents : List ℕ → List ℕ)
     → contents_in represents m'.sectors m'.image m'.log ≡ represents is)
-Settles is (Some m) (Err _) last new = (m' : Medium) × (new ≡ Some m') × HoldsEither m is m'
+SettlesFiles is (Some m) (Err _) last new = (m' : Medium) × (new ≡ Some m') × HoldsEither m is m'

@@ -1,17 +1,17 @@
 //! The blocks of a checkpoint.
 
 ghost use Rattle.std.specs.Prelude.{◌≡◌, ◌*◌, ◌≤◌, [], length, IfOk, OnOk};
-ghost use Rattle.disk_log.specs.Checkpoints.{image_sum, placed, with_block, number_in, HasEntry};
-ghost use Rattle.disk_log.specs.Checkpoints.{IsCheckpointBody, IsImageLen};
+ghost use Rattle.disk_log.specs.Checkpoints.{HasEntry, IsCheckpointBody, IsImageLen, image_sum};
+ghost use Rattle.disk_log.specs.Checkpoints.{entry_number, with_block, with_blocks};
 ghost use Rattle.disk_log.specs.Records.{sum_at};
 
-use crate::file::BLOCK_LEN;
+use crate::file::IMAGE_BLOCK_LEN;
 use crate::record::{Sum, number_at};
 use sqlite_wal::checksum_of;
 use std::alloc::{AllocError, Global};
 
 /// The bytes of a block in a checkpoint: its number, four bytes that say nothing, its bytes.
-pub(crate) const ENTRY_LEN: usize = 4104;
+pub(crate) const CHECKPOINT_ENTRY_LEN: usize = 4104;
 
 /// The sum of an image's bytes.
 pub(crate) fn image_sum(image: &[u8]) -> Sum
@@ -25,19 +25,22 @@ fn put_block(image: &mut [u8], entry: &[u8])
     requires { 4104 ≤ length entry.now }
     ensures { image.new ≡ with_block image.old entry.now }
 {
-    let at = BLOCK_LEN * number_at(entry, 0) as usize;
-    if at + BLOCK_LEN <= image.len() {
-        image[at..at + BLOCK_LEN].copy_from_slice(&entry[8..ENTRY_LEN]);
+    let at = IMAGE_BLOCK_LEN * number_at(entry, 0) as usize;
+    if at + IMAGE_BLOCK_LEN <= image.len() {
+        image[at..at + IMAGE_BLOCK_LEN].copy_from_slice(&entry[8..CHECKPOINT_ENTRY_LEN]);
     }
 }
 
 /// Puts so many blocks into an image.
 pub(crate) fn put_blocks(image: &mut [u8], count: usize, entries: &[u8])
     requires { 4104 * count ≤ length entries.now }
-    ensures { image.new ≡ placed count entries.now image.old }
+    ensures { image.new ≡ with_blocks count entries.now image.old }
 {
     for k in 0..count {
-        put_block(image, &entries[ENTRY_LEN * k..ENTRY_LEN * k + ENTRY_LEN]);
+        put_block(
+            image,
+            &entries[CHECKPOINT_ENTRY_LEN * k..CHECKPOINT_ENTRY_LEN * k + CHECKPOINT_ENTRY_LEN],
+        );
     }
 }
 
@@ -50,9 +53,9 @@ pub(crate) fn changed_blocks(alloc: Global, was: &[u8], is: &[u8]) -> Result<Vec
 {
     let mut body = Vec::new(alloc);
     push_sum(&mut body, image_sum(is))?;
-    for k in 0..is.len() / BLOCK_LEN {
-        let block = &is[BLOCK_LEN * k..BLOCK_LEN * k + BLOCK_LEN];
-        if block != &was[BLOCK_LEN * k..BLOCK_LEN * k + BLOCK_LEN] {
+    for k in 0..is.len() / IMAGE_BLOCK_LEN {
+        let block = &is[IMAGE_BLOCK_LEN * k..IMAGE_BLOCK_LEN * k + IMAGE_BLOCK_LEN];
+        if block != &was[IMAGE_BLOCK_LEN * k..IMAGE_BLOCK_LEN * k + IMAGE_BLOCK_LEN] {
             push_entry(&mut body, k as u32, block)?;
         }
     }
@@ -72,7 +75,7 @@ fn push_sum(body: &mut Vec<u8>, sum: Sum) -> Result<(), AllocError>
 /// The first 8 bytes of an entry of a block with this number.
 fn entry_head(number: u32) -> [u8; 8]
     ensures len { length result ≡ 8 }
-    ensures number { number_in result ≡ number }
+    ensures number { entry_number result ≡ number }
 {
     let n = number.to_le_bytes();
     [n[0], n[1], n[2], n[3], 0, 0, 0, 0]

@@ -7,7 +7,7 @@ ghost use Rattle.disk_log.specs.Files.{SyncsImage, SyncsLog, WritesBlock};
 use std::io;
 
 /// The bytes of a block of an image, the unit in which it is written.
-pub const BLOCK_LEN: usize = 4096;
+pub const IMAGE_BLOCK_LEN: usize = 4096;
 
 /// An image file and the log beside it. What the calls require is the order in which a host has to
 /// keep what is written: a block is written into the image only where all of the log is on the

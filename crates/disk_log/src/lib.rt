@@ -1,4 +1,22 @@
-//! A log beside an image.
+//! A log beside an image: what is written is in the log before it is acknowledged, and the image is
+//! written once.
+//!
+//! `LoggedDisk` is a `Disk` over another one. Its contents are those that an image file and its log
+//! hold together (`contents_in`), of files that tell a proof what is in them, also after a call
+//! that failed. A `write` or `zero` that answers Ok is in the log; one that fails left each of its
+//! sectors wholly old or new. Settling appends the blocks that changed to the log, as a checkpoint,
+//! and then places them in the image. `ImageFiles` asks for the order in which a host has to keep
+//! that: no block is written before all of its checkpoint is on the medium, and the log isn't cut
+//! before all of the image is. An error is the last: all later calls answer it again.
+//! `read_log` says what a start finds, `replay` makes the changes on a disk, and `take_up` readies
+//! the files. A record's sum goes on from that of the one before, so neither one that was cut short
+//! is taken nor one of an older log. Where bytes of its middle may be lost, as by the host's power,
+//! that it doesn't have its sum by chance is a premise; where a write ends early it is none.
+//!
+//! Left to the crate above: the files, when the log is synced, and that what is behind the changes
+//! of a log is cut off before it is taken up. No command uses it yet.
+//!
+//! Source: own; the sum is that of SQLite's write-ahead log.
 
 #![tactic(auto)]
 
@@ -8,16 +26,14 @@ mod file;
 mod head;
 mod logged;
 mod memory;
-
 mod placing;
 mod reading;
 mod record;
 mod replaying;
 mod taking;
 
-pub use file::{BLOCK_LEN, ImageFiles};
+pub use file::{IMAGE_BLOCK_LEN, ImageFiles};
 pub use logged::{ImageDisk, LoggedDisk, Standing};
-
 pub use memory::MemoryFiles;
 pub use reading::{Found, Refusal, read_log};
 pub use record::{Head, RECORD_HEAD_LEN, Sum, read_record};

@@ -6,7 +6,7 @@ ghost use Rattle.block_device.specs.Contents.{InRange};
 ghost use Rattle.block_device.specs.Facts.{IsDiskReady};
 ghost use Rattle.disk_log.specs.Checkpoints.{IsImageLen};
 ghost use Rattle.disk_log.specs.Files.{OfFiles};
-ghost use Rattle.disk_log.specs.Logs.{IsBegun, Medium, contents_in, held};
+ghost use Rattle.disk_log.specs.Logs.{IsBegunLog, Medium, contents_in, held};
 ghost use Rattle.disk_log.specs.declared.logged.Standing.TheVariants.{Ready};
 ghost use Rattle.disk_log.specs.Logged.{IsOfDisk, logged_facts, standing_answer};
 
@@ -70,7 +70,7 @@ pub struct LoggedDisk<D: ImageDisk, F: ImageFiles, L: Ledger> {
     ghost counted: { standing ≡ Ready → (m : Medium) → F.medium files ≡ Some m
         → m.sectors ≡ sectors },
     ghost begun: { standing ≡ Ready → (m : Medium) → F.medium files ≡ Some m
-        → IsBegun m image.items sum },
+        → IsBegunLog m image.items sum },
     ghost same: { standing ≡ Ready → (D.facts disk).sound ≡ true
         → held D.represents (F.medium files) (D.facts disk).contents ≡ (D.facts disk).contents },
 }
@@ -153,7 +153,13 @@ impl<D: ImageDisk, F: ImageFiles, L: Ledger> LoggedDisk<D, F, L> {
             self.lost.tick();
             return Err(DiskError::Cut);
         }
-        match settle_files(self.alloc, &mut self.files, &mut self.sum, &self.image, image) {
+        match settle_files(
+            self.alloc,
+            &mut self.files,
+            &mut self.sum,
+            &self.image,
+            image,
+        ) {
             Ok(()) => {
                 self.image.copy_from_slice(image);
                 self.grown = 0;
@@ -167,7 +173,7 @@ impl<D: ImageDisk, F: ImageFiles, L: Ledger> LoggedDisk<D, F, L> {
         }
     }
 
-    /// Settles a log that has four images' lengths.
+    /// SettlesFiles a log that has four images' lengths.
     fn make_room(&mut self) -> Result<(), DiskError>
         ensures { Settled (⟦<LoggedDisk<D, F, L> as Disk>⟧.facts self.old) result
             (⟦<LoggedDisk<D, F, L> as Disk>⟧.facts self.new) }

@@ -1,7 +1,11 @@
 //! An image file and its log in memory.
 
-use crate::file::{BLOCK_LEN, ImageFiles};
-use std::alloc::Global;
+ghost use Rattle.std.specs.Prelude.{◌≡◌, ◌+◌, ◌≤◌, Some, length};
+ghost use Rattle.block_device.specs.Contents.{replaced};
+ghost use Rattle.disk_log.specs.Files.{Extends};
+ghost use Rattle.disk_log.specs.Memory.{medium_of};
+
+use crate::file::{IMAGE_BLOCK_LEN, ImageFiles};
 use std::io;
 use std::io::ErrorKind;
 
@@ -17,19 +21,35 @@ pub struct MemoryFiles {
     left: usize,
 }
 
+/// How much of what is to be done still is.
+fn done(left: &mut usize, much: usize) -> usize
+    ensures { result ≤ much }
+{
+    let done = much.min(*left);
+    *left -= done;
+    done
+}
+
+/// Puts these bytes in place of others.
+fn put(image: &mut Vec<u8>, at: usize, bytes: &[u8])
+    requires { at + length bytes.now ≤ length image.old.items }
+    ensures { image.new.items ≡ replaced image.old.items at bytes.now }
+{
+    image[at..at + bytes.len()].copy_from_slice(bytes);
+}
+
 impl MemoryFiles {
-    ghost use Rattle.std.specs.Prelude.{◌≡◌, length, true};
-    ghost use Rattle.disk_log.specs.Memory.{medium_of};
+    ghost use Rattle.std.specs.Prelude.{true};
 
     /// Files with these bytes, all on the medium, of a disk of so many sectors. They fail once they
     /// have done so much.
     pub fn new(sectors: u32, image: Vec<u8>, log: Vec<u8>, left: usize) -> MemoryFiles
         ensures { medium_of result ≡ record {
-            sectors = sectors;
-            image = image.items;
-            log = log.items;
-            safe = length log.items;
-            settled = true;
+          sectors = sectors;
+          image = image.items;
+          log = log.items;
+          safe = length log.items;
+          settled = true;
         } }
     {
         MemoryFiles {
@@ -56,13 +76,17 @@ impl MemoryFiles {
         self.log.as_slice()
     }
 
-    /// Whether one more call does its work, of which so much is to be done, and how much is.
-    fn done(&mut self, much: usize) -> usize
-        ensures { medium_of self.new ≡ medium_of self.old }
+    /// Appends these bytes to the log, or a beginning of them.
+    fn extend(&mut self, bytes: &[u8]) -> Result<(), ErrorKind>
+        ensures { Extends (Some (medium_of self.old)) bytes.now result
+            (Some (medium_of self.new)) }
     {
-        let done = much.min(self.left);
-        self.left -= done;
-        done
+        let n = done(&mut self.left, bytes.len());
+        match self.log.extend_from_slice(&bytes[..n]) {
+            Ok(()) if n == bytes.len() => Ok(()),
+            Ok(()) => Err(ErrorKind::StorageFull),
+            Err(_) => Err(ErrorKind::OutOfMemory),
+        }
     }
 }
 
@@ -73,11 +97,17 @@ impl ImageFiles for MemoryFiles {
     ghost medium = { λ files. Some (medium_of files) };
 
     fn append(&mut self, head: &[u8], bytes: &[u8]) -> io::Result<()> {
-        Ok(())
+        if let Err(kind) = self.extend(head) {
+            return Err(io::Error::from(kind));
+        }
+        match self.extend(bytes) {
+            Ok(()) => Ok(()),
+            Err(kind) => Err(io::Error::from(kind)),
+        }
     }
 
     fn sync_log(&mut self) -> io::Result<()> {
-        if self.done(1) == 0 {
+        if done(&mut self.left, 1) == 0 {
             return Err(io::Error::from(ErrorKind::Other));
         }
         self.safe = self.log.len();
@@ -85,18 +115,19 @@ impl ImageFiles for MemoryFiles {
     }
 
     fn write_block(&mut self, block: u32, bytes: &[u8]) -> io::Result<()> {
-        let at = BLOCK_LEN * block as usize;
-        let done = self.done(BLOCK_LEN);
+        let at = IMAGE_BLOCK_LEN * block as usize;
+        let n = done(&mut self.left, IMAGE_BLOCK_LEN);
         self.settled = false;
-        self.image[at..at + done].copy_from_slice(&bytes[..done]);
-        if done < BLOCK_LEN {
-            return Err(io::Error::from(ErrorKind::Other));
+        put(&mut self.image, at, &bytes[..n]);
+        if n == IMAGE_BLOCK_LEN {
+            Ok(())
+        } else {
+            Err(io::Error::from(ErrorKind::StorageFull))
         }
-        Ok(())
     }
 
     fn sync_image(&mut self) -> io::Result<()> {
-        if self.done(1) == 0 {
+        if done(&mut self.left, 1) == 0 {
             return Err(io::Error::from(ErrorKind::Other));
         }
         self.settled = true;
@@ -104,7 +135,7 @@ impl ImageFiles for MemoryFiles {
     }
 
     fn cut_log(&mut self, len: usize) -> io::Result<()> {
-        if self.done(1) == 0 {
+        if done(&mut self.left, 1) == 0 {
             return Err(io::Error::from(ErrorKind::Other));
         }
         self.log.truncate(len);

@@ -3,13 +3,13 @@
 ghost use Rattle.std.specs.Prelude.{◌≡◌, ◌+◌, ◌*◌, ◌≤◌, length, drop};
 ghost use Rattle.disk_log.specs.Checkpoints.{IsCheckpointBody, IsImageLen};
 ghost use Rattle.disk_log.specs.Files.{OfFiles};
-ghost use Rattle.disk_log.specs.Logs.{IsBegun};
+ghost use Rattle.disk_log.specs.Logs.{IsBegunLog};
 ghost use Rattle.disk_log.specs.Reading.{IsEmptyOn, TakesUp};
 ghost use Rattle.disk_log.specs.Settling.{EmptiesLog, HasBlocks, HasEntryOf, LogsCheckpoint};
-ghost use Rattle.disk_log.specs.Settling.{PlacesBlocks, PlacesEntry, Settles};
+ghost use Rattle.disk_log.specs.Settling.{PlacesBlocks, PlacesEntry, SettlesFiles};
 
-use crate::checkpoint::{ENTRY_LEN, changed_blocks, image_sum};
-use crate::file::{BLOCK_LEN, ImageFiles};
+use crate::checkpoint::{CHECKPOINT_ENTRY_LEN, changed_blocks, image_sum};
+use crate::file::{IMAGE_BLOCK_LEN, ImageFiles};
 use crate::head::log_head;
 use crate::record::{Sum, head_of, number_at};
 use std::alloc::Global;
@@ -23,10 +23,10 @@ fn write_entry<F: ImageFiles>(files: &mut F, len: usize, entry: &[u8]) -> io::Re
     ensures { PlacesEntry entry.now (F.medium files.old) result (F.medium files.new) }
 {
     let number = number_at(entry, 0);
-    if BLOCK_LEN * number as usize + BLOCK_LEN > len {
+    if IMAGE_BLOCK_LEN * number as usize + IMAGE_BLOCK_LEN > len {
         return Ok(());
     }
-    files.write_block(number, &entry[8..ENTRY_LEN])
+    files.write_block(number, &entry[8..CHECKPOINT_ENTRY_LEN])
 }
 
 /// Writes the blocks of a checkpoint with this body into an image of so many bytes.
@@ -38,11 +38,12 @@ fn write_blocks<F: ImageFiles>(
 ) -> io::Result<()>
     requires long { 8 + 4104 * count ≤ length body.now }
     requires there { OfFiles (F.medium files.old) (λ m. HasBlocks m len count (drop 8 body.now)) }
-    ensures { PlacesBlocks count (drop 8 body.now) (F.medium files.old) result (F.medium files.new) }
+    ensures { PlacesBlocks count (drop 8 body.now) (F.medium files.old) result
+        (F.medium files.new) }
 {
     for k in 0..count {
-        let at = 8 + ENTRY_LEN * k;
-        write_entry(files, len, &body[at..at + ENTRY_LEN])?;
+        let at = 8 + CHECKPOINT_ENTRY_LEN * k;
+        write_entry(files, len, &body[at..at + CHECKPOINT_ENTRY_LEN])?;
     }
     Ok(())
 }
@@ -87,10 +88,10 @@ fn log_checkpoint<F: ImageFiles>(
 ) -> io::Result<()>
     requires same { length was.now ≡ length is.now }
     requires body { IsCheckpointBody was.now is.now body.now }
-    requires begun { OfFiles (F.medium files.old) (λ m. IsBegun m was.now before) }
+    requires begun { OfFiles (F.medium files.old) (λ m. IsBegunLog m was.now before) }
     ensures { LogsCheckpoint is.now body.now (F.medium files.old) result (F.medium files.new) }
 {
-    let count = (body.len() - 8) / ENTRY_LEN;
+    let count = (body.len() - 8) / CHECKPOINT_ENTRY_LEN;
     let (head, _) = head_of(2, 0, count as u32, body, before);
     match files.append(&head, body) {
         Ok(()) => files.sync_log(),
@@ -110,15 +111,20 @@ pub(crate) fn settle_files<F: ImageFiles>(
 ) -> io::Result<()>
     requires same { length was.now ≡ length is.now }
     requires len { IsImageLen (length is.now) }
-    requires begun { OfFiles (F.medium files.old) (λ m. IsBegun m was.now sum.old) }
-    ensures { Settles is.now (F.medium files.old) result sum.new (F.medium files.new) }
+    requires begun { OfFiles (F.medium files.old) (λ m. IsBegunLog m was.now sum.old) }
+    ensures { SettlesFiles is.now (F.medium files.old) result sum.new (F.medium files.new) }
 {
     let Ok(checkpoint) = changed_blocks(alloc, was, is) else {
         return Err(io::Error::from(ErrorKind::OutOfMemory));
     };
     let body = checkpoint.as_slice();
     log_checkpoint(files, *sum, was, is, body)?;
-    place_blocks(files, is.len(), (body.len() - 8) / ENTRY_LEN, body)?;
+    place_blocks(
+        files,
+        is.len(),
+        (body.len() - 8) / CHECKPOINT_ENTRY_LEN,
+        body,
+    )?;
     *sum = begin_log(files, is)?;
     Ok(())
 }

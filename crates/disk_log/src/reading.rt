@@ -1,14 +1,13 @@
 //! What a start finds in a log.
 
-ghost use Rattle.std.specs.Prelude.{◌≡◌, ◌+◌, ◌≤◌, length, drop};
-ghost use Rattle.std.specs.Prelude.{if◌then◌else◌, Some, None};
-ghost use Rattle.disk_log.specs.Logs.{log_reading};
-ghost use Rattle.disk_log.specs.Reading.{ReadsLog};
-ghost use Rattle.disk_log.specs.Records.{begins_checkpoint, head_in};
+ghost use Rattle.std.specs.Prelude.{◌≡◌, ◌≤◌, length, drop, true};
+ghost use Rattle.disk_log.specs.Logs.{has_head, head_sum, log_reading};
+ghost use Rattle.disk_log.specs.Reading.{ReadsLog, ReadsPlaced};
+ghost use Rattle.disk_log.specs.Records.{begins_checkpoint, kind_in, record_len};
 
 use crate::checkpoint::{image_sum, put_blocks};
-use crate::head::{HEAD_LEN, is_unbegun, read_log_head};
-use crate::record::{Head, RECORD_HEAD_LEN, Sum, body_len, read_head, read_record, read_sum};
+use crate::head::{LOG_HEAD_LEN, is_unbegun, read_log_head};
+use crate::record::{RECORD_HEAD_LEN, Sum, body_len, number_at, read_head, read_record, read_sum};
 
 /// What a log holds that belongs to its image.
 #[derive(Clone, Copy, Debug, PartialEq, Eq, Drop)]
@@ -16,14 +15,9 @@ pub enum Found {
     /// Nothing: it was never begun, as where a start or the end of a checkpoint was killed.
     Nothing,
     /// A head and changes: so many first bytes, and the sum of the last of them.
-    Records {
-        len: usize,
-        sum: Sum,
-    },
+    Records { len: usize, sum: Sum },
     /// A whole checkpoint, behind so many bytes.
-    Checkpoint {
-        at: usize,
-    },
+    Checkpoint { at: usize },
 }
 
 /// Why a log isn't taken.
@@ -49,29 +43,46 @@ struct End {
 pub fn read_log(sectors: u32, image: &mut [u8], log: &[u8]) -> Result<Found, Refusal>
     ensures { ReadsLog sectors log.now image.old result image.new }
 {
-    let Some(sum) = read_log_head(log) else {
-        return if is_unbegun(log) {
-            Ok(Found::Nothing)
-        } else {
-            Err(Refusal::Foreign)
-        };
-    };
-    let end = read_changes(sectors, sum, &log[HEAD_LEN..]);
-    let at = HEAD_LEN + end.len;
-    match read_checkpoint(end.sum, &log[at..]) {
-        Some(head) => {
-            put_blocks(image, head.count as usize, &log[at + 32..]);
-            if image_sum(image) == read_sum(log, at + 24) {
-                Ok(Found::Checkpoint { at })
-            } else {
-                Err(Refusal::Another)
-            }
-        }
-        None if image_sum(image) == sum => Ok(Found::Records {
-            len: at,
-            sum: end.sum,
-        }),
-        None => Err(Refusal::Another),
+    match read_log_head(log) {
+        Some(sum) => read_begun(sectors, sum, image, log),
+        None if is_unbegun(log) => Ok(Found::Nothing),
+        None => Err(Refusal::Foreign),
+    }
+}
+
+/// The same of a log that was begun on an image with the sum `own`.
+fn read_begun(sectors: u32, own: Sum, image: &mut [u8], log: &[u8]) -> Result<Found, Refusal>
+    requires head { has_head log.now ≡ true }
+    requires own { own ≡ head_sum log.now }
+    ensures { ReadsLog sectors log.now image.old result image.new }
+{
+    let end = read_changes(sectors, own, &log[LOG_HEAD_LEN..]);
+    let at = LOG_HEAD_LEN + end.len;
+    if is_checkpoint(end.sum, &log[at..]) {
+        return read_placed(image, &log[at..], at);
+    }
+    if image_sum(image) != own {
+        return Err(Refusal::Another);
+    }
+    Ok(Found::Records {
+        len: at,
+        sum: end.sum,
+    })
+}
+
+/// Places the blocks of a checkpoint, which is behind so many bytes of the log.
+fn read_placed(image: &mut [u8], checkpoint: &[u8], at: usize) -> Result<Found, Refusal>
+    requires long { 24 ≤ length checkpoint.now }
+    requires whole { record_len checkpoint.now ≤ length checkpoint.now }
+    requires kind { kind_in checkpoint.now ≡ 2 }
+    ensures { ReadsPlaced at checkpoint.now image.old result image.new }
+{
+    let count = number_at(checkpoint, 8) as usize;
+    put_blocks(image, count, &checkpoint[32..]);
+    if read_sum(checkpoint, 24) == image_sum(image) {
+        Ok(Found::Checkpoint { at })
+    } else {
+        Err(Refusal::Another)
     }
 }
 
@@ -92,11 +103,12 @@ fn read_changes(sectors: u32, before: Sum, log: &[u8]) -> End
     End { len, sum }
 }
 
-/// The head of the checkpoint that these bytes begin with, where they begin with one.
-fn read_checkpoint(before: Sum, log: &[u8]) -> Option<Head>
-    ensures { result
-        ≡ if begins_checkpoint before log.now then Some (head_in log.now) else None }
+/// Whether these bytes begin with a checkpoint, behind a record with the sum `before`.
+fn is_checkpoint(before: Sum, log: &[u8]) -> bool
+    ensures { result ≡ begins_checkpoint before log.now }
 {
-    let head = read_head(before, log)?;
-    if head.kind == 2 { Some(head) } else { None }
+    match read_head(before, log) {
+        Some(head) => head.kind == 2,
+        None => false,
+    }
 }

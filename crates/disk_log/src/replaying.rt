@@ -5,7 +5,7 @@ ghost use Rattle.block_device.specs.Facts.{CountsNeverFall, IsDiskReady, Latches
 ghost use Rattle.disk_log.specs.Logs.{log_changes, log_reading};
 ghost use Rattle.disk_log.specs.Records.{record_change, replayed, with_change, body_len_of};
 
-use crate::head::{HEAD_LEN, read_log_head};
+use crate::head::{LOG_HEAD_LEN, read_log_head};
 use crate::record::{Head, RECORD_HEAD_LEN, Sum, body_len, read_record};
 use block_device::{Disk, DiskError};
 
@@ -21,7 +21,7 @@ pub fn replay<D: Disk>(disk: &mut D, log: &[u8]) -> Result<(), DiskError>
         → Latches (D.facts disk.old) result (D.facts disk.new) }
 {
     match read_log_head(log) {
-        Some(sum) => replay_records(disk, sum, &log[HEAD_LEN..]),
+        Some(sum) => replay_records(disk, sum, &log[LOG_HEAD_LEN..]),
         None => Ok(()),
     }
 }

@@ -133,6 +133,12 @@ pub fn settle_log<F: ImageFiles + Drop>(
         Ok(found) => found,
         Err(refusal) => return Err(told_of_refusal(refusal)),
     };
+    if let Found::Records { len, .. } = found {
+        // what is behind the records goes first
+        if len < log.len() && files.cut_log(len).is_err() {
+            return Err(LogError::Failed);
+        }
+    }
     let Ok(sum) = take_up(&mut files, sectors, image.as_slice(), log, found) else {
         return Err(LogError::Failed);
     };

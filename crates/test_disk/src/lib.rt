@@ -30,6 +30,8 @@ mod journal_sweep;
 #[cfg(test)]
 mod level;
 #[cfg(test)]
+mod logs;
+#[cfg(test)]
 mod long_run;
 #[cfg(test)]
 mod maps;

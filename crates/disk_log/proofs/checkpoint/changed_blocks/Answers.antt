@@ -1,13 +1,13 @@
-use Rattle.std.proofs.Common.{◌≡◌, ◌≤◌, ◌+◌, ◌-◌, ◌*◌, ◌++◌, ◌∙◌, take, drop, length, ap, sym, arith, refl, List, ℕ, subst}
+use Rattle.std.proofs.Common.{◌≡◌, ◌≤◌, ◌+◌, ◌-◌, ◌*◌, ◌++◌, ◌∙◌, take, drop, length, ap, sym, arith, refl, subst}
 use Rattle.std.proofs.lemmas.Bool.{not-false}
 use Rattle.std.proofs.lemmas.Slice.Eq.{bytes_eq-Decides}
-use Rattle.disk_log.specs.Checkpoints.{placed}
+use Rattle.disk_log.specs.Checkpoints.{with_blocks}
 use Rattle.disk_log.proofs.Places.{Collected, collected-same, collected-next, collected-all}
 use Rattle.disk_log.proofs.checkpoint.changed_blocks.Goals as goal
 use Rattle.disk_log.proofs.checkpoint.changed_blocks.Goals.{then-ne+in_ok-push_entry, else-ne}
 
 pub loop-k-init : goal.loop-k-init
-unfolding placed
+unfolding with_blocks
 loop-k-init c = record {
   count = 0;
   few = omega arith;
@@ -26,7 +26,7 @@ loop-k-preserved c =
       | then-ne+in_ok-push_entry w ↦
           (let e = w.in_ok-push_entry.ensures in
           let grown : c.loop-k.body.items ++ (e.0 ++ take 4096 (drop (4096 * k) c.args.is.now)) ≡ c.if-ne.body.items =
-              ap (λ v. c.loop-k.body.items ++ (e.0 ++ take v (drop (4096 * k) c.args.is.now))) (sym n) ∙ (sym e.3 ∙ ap (λ v. v.items) (sym w.body-is)) in
+          ap (λ v. c.loop-k.body.items ++ (e.0 ++ take v (drop (4096 * k) c.args.is.now))) (sym n) ∙ (sym e.3 ∙ ap (λ v. v.items) (sym w.body-is)) in
           subst (λ v. Collected c.args.was.now c.args.is.now v (k + 1)) grown
           (collected-next c.args.was.now c.args.is.now c.loop-k.body.items e.0 k c.loop-k.invariant c.requires.same fits e.1 e.2))
       | else-ne w ↦

@@ -1,4 +1,4 @@
-use Rattle.std.proofs.Common.{◌≡◌, ◌∙◌, sym, subst, Ok}
+use Rattle.std.proofs.Common.{◌∙◌, sym, subst, Ok}
 use Rattle.disk_log.specs.Reading.{TakesUp}
 use Rattle.disk_log.proofs.Settles.{log-begun, log-unbegun}
 use Rattle.disk_log.proofs.placing.begin_log.Goals as goal

@@ -1,6 +1,6 @@
 use Rattle.std.proofs.Common.{sym, subst}
 use Rattle.disk_log.specs.Checkpoints.{IsCheckpointBody}
-use Rattle.disk_log.proofs.Settles.{settles, unsettled, logged-blocks, unplaced-settles, emptied-on, unbegun-settles, untouched}
+use Rattle.disk_log.proofs.Settles.{settles, unsettled, logged-blocks, unplaced-settles, emptied-on, unbegun-settles}
 use Rattle.disk_log.proofs.placing.settle_files.Goals as goal
 
 pub log_checkpoint-requires-clause-body : goal.log_checkpoint-requires-clause-body

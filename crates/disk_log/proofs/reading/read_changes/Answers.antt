@@ -1,4 +1,4 @@
-use Rattle.std.proofs.Common.{◌≡◌, ◌+◌, drop, length, sym, ap, ◌∙◌, arith, refl}
+use Rattle.std.proofs.Common.{◌≡◌, ◌+◌, drop, sym, ap, ◌∙◌, arith, refl}
 use Rattle.std.proofs.lemmas.List.{length-drop}
 use Rattle.disk_log.specs.Records.{body_len, record_len, sum_in}
 use Rattle.disk_log.specs.declared.record.Head.{Head}
@@ -35,5 +35,5 @@ loop-head-preserved c =
 pub returns : goal.returns
 returns c =
     let all = reads-all c.args.log.now c.args.sectors c.args.before c.loop-head.len c.loop-head.sum c.loop-head.invariant
-        (none-of c.args.log.now c.args.sectors c.args.sectors c.loop-head.len c.loop-head.sum refl c.loop-head.invariant.low (sym c.read_record.ensures ∙ c.in_default.is)) in
+    (none-of c.args.log.now c.args.sectors c.args.sectors c.loop-head.len c.loop-head.sum refl c.loop-head.invariant.low (sym c.read_record.ensures ∙ c.in_default.is)) in
     record { low = all.low; rest = all.rest; sum = all.last }

@@ -1,4 +1,4 @@
-use Rattle.std.proofs.Common.{◌≡◌, ◌∙◌, ap, sym, length, List, ℕ}
+use Rattle.std.proofs.Common.{◌∙◌, ap, length, List, ℕ}
 use Rattle.std.specs.Prelude.{◌/◌}
 use Rattle.disk_log.proofs.Disks.{held-of, sectors-of, begun-of}
 use Rattle.disk_log.proofs.logged.LoggedDisk.new.Goals as goal

@@ -1,4 +1,4 @@
-use Rattle.std.proofs.Common.{◌≡◌, ◌≤◌, ◌+◌, ◌*◌, ◌∙◌, ◌/◌, length, sym, arith}
+use Rattle.std.proofs.Common.{◌≤◌, ◌+◌, ◌*◌, ◌∙◌, ◌/◌, length, sym, arith}
 use Rattle.disk_log.specs.Records.{Change, record_change}
 use Rattle.disk_log.specs.declared.logged.Standing.TheVariants as standings
 use Rattle.disk_log.proofs.Disks.{in-range, ready-of, counts-of, added-begun, added-sectors, told-added, same-added, told-not-added, outcome-not-added, cut-latches}

@@ -1,6 +1,6 @@
 use Rattle.std.proofs.Common.{◌≡◌, ◌∙◌, List, ℕ, length, sym, subst, ap, refl, arith, rules}
 use Rattle.disk_log.specs.Checkpoints.{IsImageLen}
-use Rattle.disk_log.specs.Logs.{IsBegun}
+use Rattle.disk_log.specs.Logs.{IsBegunLog}
 use Rattle.disk_log.specs.declared.logged.Standing.TheVariants as standings
 use Rattle.disk_log.proofs.Disks.{ready-of, counts-of, same-facts, cut-latches, settled-held, settled-begun, settled-sectors, unsettled-told, unsettled-same}
 use Rattle.disk_log.proofs.logged.LoggedDisk.settle.Goals as goal
@@ -26,7 +26,7 @@ invariant_of-self-in-Ok g c =
       told = ap (λ (v : List ℕ). length v) (settled-held _ _ r self.sectors is contents f f' sum c.image-image.ensures _ c.in-Ok.ensures) ∙ self.size;
       ready = self.ready;
       counted = λ _. settled-sectors _ _ r self.sectors is contents f f' sum c.image-image.ensures _ c.in-Ok.ensures (self.counted e);
-      begun = λ _ m q. subst (λ v. IsBegun m v sum) (sym items) (settled-begun _ _ r self.sectors is contents f f' sum c.image-image.ensures _ c.in-Ok.ensures m q);
+      begun = λ _ m q. subst (λ v. IsBegunLog m v sum) (sym items) (settled-begun _ _ r self.sectors is contents f f' sum c.image-image.ensures _ c.in-Ok.ensures m q);
       same = λ _ s. settled-held _ _ r self.sectors is contents f f' sum c.image-image.ensures _ c.in-Ok.ensures;
     }
 

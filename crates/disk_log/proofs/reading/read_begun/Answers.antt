@@ -1,0 +1,47 @@
+use Rattle.std.proofs.Common.{◌+◌, ◌∙◌, sym, refl, inl}
+use Rattle.std.proofs.lemmas.Bool.{not-true, not-false}
+use Rattle.std.proofs.lemmas.List.{take_rest}
+use Rattle.disk_log.proofs.Held.{head-long}
+use Rattle.disk_log.proofs.Finding.{read-low, read-rest, read-sum, read-test, placed-reads, sums-same, sums-differ}
+use Rattle.disk_log.proofs.reading.read_begun.Goals as goal
+
+pub returns-then-is_checkpoint : goal.returns-then-is_checkpoint
+returns-then-is_checkpoint c =
+    let end = c.read_changes-end.ensures in
+    let log = c.args.log.now in
+    let len = c.read_changes-end.result.len in
+    let sum = c.read_changes-end.result.sum in
+    let long = head-long log c.requires.head in
+    let there = read-test c.args.sectors log c.args.own sum len c.requires.head c.requires.own long end.low end.rest end.sum _ _ (take_rest log (16 + len)) c.is_checkpoint.ensures ∙ c.if-is_checkpoint.true in
+    placed-reads c.args.sectors log c.args.image.now _ _ (16 + len) _ c.requires.head there
+    (read-low c.args.sectors log c.args.own sum len c.requires.head c.requires.own long end.low end.rest end.sum)
+    (take_rest log (16 + len))
+    (read-rest c.args.sectors log c.args.own sum len c.requires.head c.requires.own long end.low end.rest end.sum)
+    c.read_placed.ensures c.read_placed.auto.image
+
+pub returns-then-ne : goal.returns-then-ne
+returns-then-ne c =
+    let end = c.read_changes-end.ensures in
+    let log = c.args.log.now in
+    let len = c.read_changes-end.result.len in
+    let sum = c.read_changes-end.result.sum in
+    let long = head-long log c.requires.head in
+    let none = read-test c.args.sectors log c.args.own sum len c.requires.head c.requires.own long end.low end.rest end.sum _ _ (take_rest log (16 + len)) c.is_checkpoint.ensures ∙ c.if-is_checkpoint.false in
+    (c.requires.head, refl, inl (none, λ q. sums-differ _ _ (sym (not-true _ (sym c.if-ne.ensures))) (c.image_sum.ensures ∙ (sym q ∙ sym c.requires.own))))
+
+pub returns : goal.returns
+returns c =
+    let end = c.read_changes-end.ensures in
+    let log = c.args.log.now in
+    let len = c.read_changes-end.result.len in
+    let sum = c.read_changes-end.result.sum in
+    let long = head-long log c.requires.head in
+    let none = read-test c.args.sectors log c.args.own sum len c.requires.head c.requires.own long end.low end.rest end.sum _ _ (take_rest log (16 + len)) c.is_checkpoint.ensures ∙ c.if-is_checkpoint.false in (
+      c.requires.head,
+      none,
+      sym c.requires.own ∙ (sym (sums-same _ _ (sym (not-false _ (sym c.if-ne.ensures)))) ∙ c.image_sum.ensures),
+      read-low c.args.sectors log c.args.own sum len c.requires.head c.requires.own long end.low end.rest end.sum,
+      read-rest c.args.sectors log c.args.own sum len c.requires.head c.requires.own long end.low end.rest end.sum,
+      read-sum c.args.sectors log c.args.own sum len c.requires.head c.requires.own long end.low end.rest end.sum,
+      refl,
+    )
