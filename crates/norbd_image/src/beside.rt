@@ -1,7 +1,8 @@
 //! The log beside the file of an image.
 
 use crate::owner::Held;
-use disk_log::{BLOCK_LEN, ImageFiles};
+use disk_log::ImageFiles;
+use nor_layout::BLOCK_LEN;
 use std::alloc::Global;
 use std::fs::{Metadata, OpenFile, OpenOptions};
 use std::io::ErrorKind;
