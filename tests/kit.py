@@ -148,8 +148,11 @@ class Case(unittest.TestCase):
             return file.read()
 
     def put(self, name, data):
+        """Makes a file these bytes; an image that was there has no log any more."""
         with open(self.path(name), "wb") as file:
             file.write(data)
+        if name.endswith(".img") and os.path.isfile(self.path(f"{name}.log")):
+            os.remove(self.path(f"{name}.log"))
 
     def start(self, *words, under=(), **how):
         """Starts the program, in a process group of its own."""
@@ -259,10 +262,24 @@ class Case(unittest.TestCase):
         done = self.run_norbd("check", name, "--json")
         return json.loads(done.text)
 
+    def log_size(self, name="a.img"):
+        """How many bytes the log beside an image has; 0 where there is none."""
+        try:
+            return os.path.getsize(self.path(f"{name}.log"))
+        except FileNotFoundError:
+            return 0
+
+    def settled(self, name="a.img"):
+        """Waits until the log of an image that is served has nothing for it."""
+        self.assertTrue(wait_for(lambda: self.log_size(name) <= 16))
+
     def check_copy(self, name="a.img"):
-        """What `check --json` says of a copy of an image that is served."""
-        self.put("copy.img", self.bytes_of(name))
-        return self.check("copy.img")
+        """What `check --json` says of a copy of an image that is served, when its log has nothing for it."""
+        while True:
+            self.settled(name)
+            self.put("copy.img", self.bytes_of(name))
+            if self.log_size(name) <= 16:
+                return self.check("copy.img")
 
     def serve(self, name="a.img", *words, **how):
         """A server of an image at a Unix socket, or at what the words say."""

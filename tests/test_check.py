@@ -13,7 +13,7 @@ NULL = {"of": (None,)}
 KNOWN = {  # of each key what it holds where that is known
     "version": {"of": (1,)}, "verdict": {"of": ("clean", "not clean", "corrupt", "not formatted")},
     "mended": {"type": bool}, "reason": {"type": str}, "not_erased_at": COUNT,
-    "layout": {"of": ("1", "2", "mixed")}, "bytes": COUNT, "sectors": COUNT,
+    "layout": {"of": ("1", "2", "mixed")}, "bytes": COUNT, "sectors": COUNT, "log_bytes": COUNT,
     "free_entries": {"type": int, "least": 0, "most": 512},
     "least_votes": {"type": int, "least": 0, "most": 1024}, "erasing": {"type": bool},
     "blocks": {"keys": {it: COUNT for it in (

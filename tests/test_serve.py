@@ -305,6 +305,8 @@ class Told(kit.Case):
                              (rename, b"")):
             if not os.path.exists(self.path("a.img")):
                 self.format()
+            if os.path.exists(self.path("a.img.log")):
+                os.remove(self.path("a.img.log"))  # of the image that was removed
             server = self.serve("a.img", "--sync", "never")
             client = server.client()
             self.assertEqual(client.write(0, nbd.sector(0)), OK)

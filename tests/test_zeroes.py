@@ -46,8 +46,7 @@ class Zeroes(kit.Case):
 
     @kit.needs("strace")
     def test_their_cost(self):
-        """Zeroing a sector that has a slot is one write of the file, and one that has none is none;
-        a first WRITE is four writes, and a later one five."""
+        """A TRIM and a WRITE_ZEROES are one write of the log, a WRITE is two, of the record's head and of its bytes."""
         self.format()
         server = self.serve("a.img", "--sync", "never", under=kit.traced("pwrite64,fdatasync"))
         client = server.client()
@@ -62,7 +61,7 @@ class Zeroes(kit.Case):
             self.assertEqual(client.do(kind, 512 * first, 512 * data,
                                        b"\1" * 512 * data if kind == nbd.WRITE else b""), OK)
             counts.append(count() - before)
-        self.assertEqual(counts, [12, 5, 2, 0, 1, 0, 4])
+        self.assertEqual(counts, [2, 2, 1, 1, 1, 1, 2])
 
     def test_random_calls(self):
         """After random WRITEs, TRIMs and WRITE_ZEROES over connections and starts, the disk is what

@@ -1,3 +1,3 @@
+pub mod Both
 pub mod Image
 pub mod Mended
-pub mod Order

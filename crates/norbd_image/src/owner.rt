@@ -4,7 +4,6 @@ ghost use Rattle.std.specs.Prelude.{◌≡◌, ◌↔◌, All, IfErr, IsTrue};
 ghost use Rattle.norbd_image.specs.Image.{ComesOfHolding};
 
 use crate::error::ImageError;
-use crate::ordered::{Barrier, Ordered, SyncHandle};
 use chip_model::is_chip_size;
 use chip_simulator::{ImageBus, SimError};
 use std::alloc::Global;
@@ -160,12 +159,6 @@ impl<F: OpenFile + FileExt + Drop> Held<F> {
         device_len(&self.file)
     }
 
-    /// The block in which the file's system writes it to the disk of this machine, in bytes, where
-    /// the system tells it. Source: stat(2), `st_blksize`.
-    pub fn block_len(&self) -> io::Result<u64> {
-        Ok(self.file.metadata()?.blksize())
-    }
-
     /// Fills `head` with the first bytes of the file: whether it has so many.
     pub fn has_head(&self, head: &mut [u8]) -> io::Result<bool> {
         match self.file.read_exact_at(head, 0) {
@@ -208,27 +201,19 @@ impl<F: OpenFile + FileExt + Drop> Held<F> {
         }
     }
 
-    /// Another handle of the file, which has the lock too, to sync it by a barrier.
-    pub fn handle<'b>(&self, barrier: &'b Barrier) -> io::Result<SyncHandle<'b, F>> {
-        Ok(SyncHandle {
-            file: self.file.try_clone()?,
-            barrier,
-        })
+    /// Another handle of the file, which has the lock too.
+    pub fn handle(&self) -> io::Result<F> {
+        self.file.try_clone()
     }
 
-    /// The chip in the file, which has these bytes (`bytes`): its changes get to the disk of this
-    /// machine in a barrier's order. An error where no other handle of the file can be had.
-    pub fn chip<'b>(
-        &self,
-        bytes: Vec<u8>,
-        barrier: &'b Barrier,
-    ) -> io::Result<ImageBus<Ordered<'b, F>>>
+    /// The chip in the file, which has these bytes (`bytes`): each of its changes is written in
+    /// place. An error where no other handle of the file can be had.
+    pub fn chip(&self, bytes: Vec<u8>) -> io::Result<ImageBus<F>>
         requires { IsChipSize (length bytes.items) }
         ensures chip { IfOk result (λ b. image_chip b ≡ fresh_chip bytes.items) }
         ensures cuts { IfOk result (λ b. image_cuts b ≡ 0) }
         ensures sound { IfOk result (λ b. image_broken b ≡ false) }
     {
-        let file = self.file.try_clone()?;
-        Ok(ImageBus::over(bytes, Ordered::new(file, barrier)))
+        Ok(ImageBus::over(bytes, self.file.try_clone()?))
     }
 }

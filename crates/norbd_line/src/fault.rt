@@ -34,6 +34,15 @@ pub enum Cause {
     /// Handing the image to its disk failed.
     #[error("a sync failed")]
     Sync,
+    /// The log beside the image can't be had, made or read: the system's answer.
+    #[error("its log: {}", Answer(*.0))]
+    Log(ErrorKind),
+    /// What has the name of the image's log is none.
+    #[error("what has the name of its log is none")]
+    NoLog,
+    /// The log beside the image is another image's.
+    #[error("the log beside it is another image's")]
+    OtherLog,
     /// The chip is behind a programmer, and this is why it failed.
     #[error("{0}")]
     Chip(ChipCause),

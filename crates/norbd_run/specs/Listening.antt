@@ -1,6 +1,6 @@
 -- What `serve` says, and how it ends. Source: own.
 use Rattle.std.specs.Prelude.{◌≡◌, ◌⊎◌, ℕ, List, [], ◌++◌, codes, Bool, true, false, Option, Result}
-use Rattle.std.specs.Prelude.{Ok, Err, IsOkAnd, String, if◌then◌else◌, nat_lt, ◌==◌, None, Some}
+use Rattle.std.specs.Prelude.{Ok, Err, IsOkAnd, String, if◌then◌else◌, ◌==◌, None, Some}
 use Rattle.std.specs.List.{list_any}
 use Rattle.std.specs.String.{string_bytes}
 use Rattle.std.specs.Fmt.{decimal}
@@ -16,8 +16,6 @@ use Rattle.norbd_serve.specs.declared.fault.ServeFault.{ServeFault}
 use Rattle.norbd_serve.specs.declared.fault.ServeFault.TheVariants as serves
 use Rattle.nbd_durable.specs.declared.durable.Policy.{Policy}
 use Rattle.nbd_durable.specs.declared.durable.Policy.TheVariants as policies
-use Rattle.norbd_image.specs.declared.order.WriteOrder.{WriteOrder}
-use Rattle.norbd_image.specs.declared.order.WriteOrder.TheVariants as orders
 use Rattle.norbd_run.specs.Scripting.{told_of_probe}
 use Rattle.norbd_line.specs.declared.line.Place.{Place}
 use Rattle.norbd_line.specs.declared.line.Place.TheVariants as places
@@ -95,13 +93,6 @@ abbrev pub policy_of : SyncPolicy → Policy
 policy_of syncs.AtFlush = policies.AtFlush
 policy_of syncs.Never = policies.Never
 policy_of syncs.Always = policies.Always
-
--- and in which order the file's changes get to the disk of this machine, in pieces of so many
--- bytes; a data block of the chip has 4,096
-abbrev pub order_of : SyncPolicy → ℕ → WriteOrder
-order_of syncs.AtFlush piece = if nat_lt piece 4096 then orders.Whole else orders.Flushed
-order_of syncs.Never piece = orders.Any
-order_of syncs.Always piece = orders.Whole
 
 -- a refusal of the image, which comes before anything is told
 abbrev pub IsRefusal : Fault → Type 0

@@ -10,6 +10,7 @@ ghost use Rattle.sector_survey.specs.Reports.{IsReportOf};
 use crate::chip_disk::bytes_behind;
 use crate::format::told_as;
 use crate::image_disk::{bytes_of, copied_disk, hold_image};
+use crate::image_log::{looked_through, take_up, tell_log};
 use crate::read::send_bytes;
 use crate::serve::{tell, told_of_mount};
 use block_device::Sink;
@@ -128,8 +129,12 @@ where
     ensures refused { IfErr result IsRefusal }
 {
     let held = hold_image(rt, path, how.mend)?;
-    let bytes = bytes_of(rt, &held)?;
-    let Looked { text, end } = look_over(rt.alloc(), bytes.as_slice(), how)?;
+    if how.mend {
+        take_up(rt, path, &held, true)?;
+    }
+    let through = looked_through(rt, path, &held)?;
+    let looked = look_over(rt.alloc(), through.bytes.as_slice(), through.log_len, how)?;
+    let Looked { text, end } = looked;
     match end {
         Err(Fault::NotClean) if how.mend => Ok(Looked {
             text,
@@ -144,7 +149,12 @@ where
 
 /// What is found of the bytes of an image, which is told as of one that is mended where it is to
 /// be.
-pub(crate) fn look_over(alloc: Global, image: &[u8], how: How) -> Result<Looked, Fault>
+pub(crate) fn look_over(
+    alloc: Global,
+    image: &[u8],
+    log_len: usize,
+    how: How,
+) -> Result<Looked, Fault>
     requires size { IsChipSize (length image.now) }
     ensures clean { IfOk result (λ looked. IfOk looked.end (λ checked.
         IsCheckedClean checked.sectors image.now)) }
@@ -159,7 +169,7 @@ pub(crate) fn look_over(alloc: Global, image: &[u8], how: How) -> Result<Looked,
         Err(error) => return Err(told_of_unexamined(error)),
     };
     let end = end_of(alloc, &report, image);
-    let text = report_text(alloc, &report, image, &end, how)?;
+    let text = report_text(alloc, &report, image, log_len, &end, how)?;
     Ok(Looked { text, end })
 }
 
@@ -224,6 +234,7 @@ fn report_text(
     alloc: Global,
     report: &Report,
     image: &[u8],
+    log_len: usize,
     end: &Result<Checked, Fault>,
     how: How,
 ) -> Result<String, Fault>
@@ -240,13 +251,18 @@ fn report_text(
             clean: end.is_ok(),
             dirty,
             mended: how.mend && matches!(end, Err(Fault::NotClean)),
+            log_bytes: log_len,
         };
         format!(in alloc; "{json}")
     } else {
         plain_text(alloc, report, image, dirty)
     };
-    match text {
-        Ok(text) => Ok(text),
+    let Ok(mut text) = text else {
+        return Err(Fault::NoMemory);
+    };
+    let told = if how.json { 0 } else { log_len };
+    match tell_log(alloc, &mut text, told) {
+        Ok(()) => Ok(text),
         Err(_) => Err(Fault::NoMemory),
     }
 }
@@ -371,6 +387,6 @@ where
     }
     let bytes = bytes_behind(rt, place)?;
     let how = How { mend, json };
-    let looked = look_over(rt.alloc(), bytes.as_slice(), how)?;
+    let looked = look_over(rt.alloc(), bytes.as_slice(), 0, how)?;
     tell_looked(rt.alloc(), looked, how, writer)
 }

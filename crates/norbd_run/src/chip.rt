@@ -5,11 +5,12 @@ ghost use Rattle.norbd_run.specs.Chips.{ChipTells, chip_text};
 
 use crate::format::told_as;
 use crate::image_disk::bytes_of;
+use crate::image_log::take_up;
 use crate::serve::tell;
 use block_device::Sink;
 use chip_model::SpiBus;
 use norbd_chip::answer_client;
-use norbd_image::{Barrier, ImageFile, WriteOrder, hold};
+use norbd_image::{ImageFile, hold};
 use norbd_line::{Cause, ChipLine, Fault};
 use serprog_chip::Trouble;
 use std::alloc::{AllocError, Global};
@@ -41,15 +42,13 @@ where
         Err(error) => return Err(told_as(error)),
     };
     let length = held.length().unwrap_or(0);
-    let Ok(barrier) = Barrier::new(alloc, WriteOrder::Any, 0) else {
-        return Err(Fault::NoMemory);
-    };
+    take_up(rt, asked.image, &held, true)?;
     let bytes = bytes_of(rt, &held)?;
-    let mut bus = match held.chip(bytes, &barrier) {
+    let mut bus = match held.chip(bytes) {
         Ok(bus) => bus,
         Err(error) => return Err(Fault::ImageFailed(Cause::System(error.kind()))),
     };
-    let file = match held.handle(&barrier) {
+    let file = match held.handle() {
         Ok(file) => file,
         Err(error) => return Err(Fault::ImageFailed(Cause::System(error.kind()))),
     };

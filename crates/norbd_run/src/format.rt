@@ -4,6 +4,7 @@ ghost use Rattle.chip_model.specs.Geometry.{IsChipSize};
 ghost use Rattle.norbd_run.specs.Formatting.{FormatTells, text_about, told_as};
 
 use crate::chip_disk::{Reporter, told_of_chip};
+use crate::image_log::drop_log;
 use crate::read::send_bytes;
 use block_device::Sink;
 use chip_model::Geometry;
@@ -70,7 +71,9 @@ where
     requires { IsChipSize (1024 * kib) }
 {
     let image = formatted_image(rt.alloc(), kib)?;
-    write_image(rt, path, image.as_slice(), force)
+    write_image(rt, path, image.as_slice(), force)?;
+    drop_log(rt, path, image);
+    Ok(())
 }
 
 /// What a fault of an image is for the program.

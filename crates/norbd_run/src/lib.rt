@@ -29,6 +29,7 @@ mod chip_disk;
 mod format;
 mod host;
 mod image_disk;
+mod image_log;
 mod listening;
 mod output;
 mod plain;

@@ -1,7 +1,8 @@
 //! What is printed of a fault: its text, the file or the place that it is about, and the cause.
 
 use crate::check::report_about;
-use norbd_image::{ImageFile, hold_to_read};
+use crate::image_log::{Through, looked_through};
+use norbd_image::{ImageFile, hold_to_read, log_path};
 use norbd_line::{Answer, Cause, Fault, Line, Place};
 use norbd_survey::Reason;
 use sector_survey::Verdict;
@@ -30,7 +31,8 @@ pub struct Telling<'f, 'l> {
 }
 
 /// Which rule the corrupt image of a line breaks, and where, as `check` tells it, which has told it
-/// then. The image is looked at once more, and left as it is; a chip behind a programmer is not.
+/// then. The image is looked at once more, and left as it is; a chip behind a programmer is not. Of
+/// a log that is refused it is the log's path.
 pub fn reason_of<R>(rt: &R, fault: &Fault, line: Line<'_>) -> Option<String>
 where
     R: Files + AllocGlobal,
@@ -42,6 +44,20 @@ where
             Subject::Path(path) if programmer_of(path).is_none() => reason_in(rt, path),
             _ => None,
         },
+        (Fault::ImageFailed(Cause::Log(_)), line) => log_in(rt, image_of(Some(line))),
+        (Fault::ImageFailed(Cause::NoLog), line) => log_in(rt, image_of(Some(line))),
+        (Fault::ImageFailed(Cause::OtherLog), line) => log_in(rt, image_of(Some(line))),
+        _ => None,
+    }
+}
+
+/// The path of the log beside an image.
+fn log_in<R>(rt: &R, image: Subject<'_>) -> Option<String>
+where
+    R: Files + AllocGlobal,
+{
+    match image {
+        Subject::Path(path) => log_path(rt, path).ok(),
         _ => None,
     }
 }
@@ -55,7 +71,7 @@ where
     let Ok(held) = hold_to_read(rt, path) else {
         return None;
     };
-    let Ok(bytes) = held.bytes(rt.alloc()) else {
+    let Ok(Through { bytes, .. }) = looked_through(rt, path, &held) else {
         return None;
     };
     let image = bytes.as_slice();
@@ -236,7 +252,23 @@ impl Telling<'_, '_> {
             (Some(kind), Subject::Path(name)) => write_unreached(f, name, kind),
             (None, Subject::Path(name)) if cause == Cause::NotAFile && name.starts_with("/dev/") =>
                 { write!(f, ": {cause}: {DEVICE}") }
-            _ => write!(f, ": {cause}"),
+            _ => self.write_known(f, cause),
+        }
+    }
+
+    /// What is known of why an image failed, with the path of its log where that is the cause.
+    fn write_known<W: fmt::Write>(&self, f: &mut fmt::Formatter<W>, cause: Cause) -> fmt::Result {
+        let Some(log) = &self.reason else {
+            return write!(f, ": {cause}");
+        };
+        match cause {
+            Cause::Log(kind) => write!(f, ": {log}: {}", Answer(kind)),
+            Cause::NoLog => write!(f, ": {log} is no log: move it away"),
+            Cause::OtherLog => write!(
+                f,
+                ": {log} is another image's log: put that image back, or remove the log"
+            ),
+            cause => write!(f, ": {cause}"),
         }
     }
 

@@ -9,7 +9,8 @@ ghost use Rattle.norbd_run.specs.Moving.{MoveFails, ReadTells, WritesBytes};
 ghost use Rattle.norbd_run.specs.Opening.{IsReason};
 
 use crate::chip_disk::bytes_behind;
-use crate::image_disk::{bytes_of, copied_disk, hold_image};
+use crate::image_disk::{copied_disk, hold_image};
+use crate::image_log::looked_through;
 use block_device::{Disk, DiskError, Sink, send};
 use norbd_image::ImageFile;
 use norbd_line::{Cause, Fault};
@@ -42,8 +43,8 @@ where
         (K.written writer.new) (K.faults writer.new) }
 {
     let held = hold_image(rt, path, false)?;
-    let image = bytes_of(rt, &held)?;
-    let bytes = sectors_of_image(rt.alloc(), image, sectors)?;
+    let through = looked_through(rt, path, &held)?;
+    let bytes = sectors_of_image(rt.alloc(), through.bytes, sectors)?;
     send_bytes(writer, bytes.as_slice())
 }
 

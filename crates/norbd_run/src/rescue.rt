@@ -8,7 +8,8 @@ ghost use Rattle.norbd_run.specs.Rescuing.{EndsWith, IsDamage, RescueFails, Resc
 ghost use Rattle.norbd_run.specs.Rescuing.{SavesFrom, WritesRescued};
 ghost use Rattle.sector_map.specs.Maps.{IsMountable};
 
-use crate::image_disk::{bytes_of, hold_image};
+use crate::image_disk::hold_image;
+use crate::image_log::looked_through;
 use crate::progress::Screen;
 use crate::read::{sectors_of_image, send_bytes};
 use block_device::Sink;
@@ -43,7 +44,7 @@ where
         (K.written writer.new) (K.faults writer.new) }
 {
     let held = hold_image(rt, path, false)?;
-    let image = bytes_of(rt, &held)?;
+    let image = looked_through(rt, path, &held)?.bytes;
     write_rescued(rt, image.as_slice(), writer)
 }
 

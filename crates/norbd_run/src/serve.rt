@@ -1,5 +1,5 @@
 //! `serve`: the chip in an image file, served to clients on a port or a Unix socket.
-ghost use Rattle.std.specs.Prelude.{◌≡◌, ◌*◌, length, string_bytes, IfOk, IfErr, true};
+ghost use Rattle.std.specs.Prelude.{◌≡◌, ◌*◌, ◌<◌, length, string_bytes, IfOk, IfErr, true};
 ghost use Rattle.std.specs.Prelude.{false, if◌then◌else◌, IsErr, IsFalse, None, Some};
 ghost use Rattle.block_device.specs.Facts.{IsDiskReady};
 ghost use Rattle.chip_model.specs.Chip.{is_idle};
@@ -10,18 +10,20 @@ ghost use Rattle.std.specs.Thread.{IsSend};
 ghost use Rattle.norbd_run.specs.Listening.{IsRefusal, TellsServing, WritesText, ended_text};
 ghost use Rattle.norbd_run.specs.Listening.{has_colon, serving_text, told_of_file, told_of_mount};
 ghost use Rattle.norbd_run.specs.Listening.{told_of_record};
-ghost use Rattle.norbd_run.specs.Listening.{order_of, policy_of, told_of_serving};
+ghost use Rattle.norbd_run.specs.Listening.{policy_of, told_of_serving};
 ghost use Rattle.norbd_run.specs.Opening.{IsReason};
 ghost use Rattle.norbd_line.specs.Line.{IsConns, IsPlace};
 
 use crate::host::Host;
 use crate::image_disk::{bytes_of, copied_disk, hold_image};
+use crate::image_log::{looked_through, take_up, told_of_log};
 use crate::listening::listen_at;
 use crate::script::told_of_probe;
 use crate::watching::Watching;
 use block_device::{Disk, DiskError, Sink, send};
 use chip_model::SpiBus;
-use chip_simulator::{ImageBus, SimError};
+use chip_simulator::{PromptChip, SimError};
+use disk_log::{ImageDisk, LoggedDisk, Sum};
 use flash_disk::{FlashDisk, MountError};
 use nbd_durable::{Durable, Policy};
 use nbd_history::{Hands, Opened};
@@ -30,8 +32,7 @@ use nbd_share::{
     Shared,
 };
 use nbd_wire::Export;
-use nor_layout::BLOCK_LEN;
-use norbd_image::{Barrier, Held, ImageFile, Ordered, WriteOrder};
+use norbd_image::{FileImages, Held, ImageFile, MemoryDisk, begin_log, log_beside};
 use norbd_line::{Cause, Fault, Place, SyncPolicy, TidyPolicy};
 use norbd_serve::{Connections, Listener, OpenGate, ServeFault, serve};
 use std::alloc::{AllocError, Global};
@@ -39,7 +40,7 @@ use std::fs;
 use std::fs::OpenFile;
 use std::marker::Brand;
 use std::rt::Files;
-use std::sync::ledger::Blank;
+use std::sync::ledger::{Blank, Ledger};
 use std::time::Duration;
 
 /// How long a client may negotiate.
@@ -128,43 +129,91 @@ where
         return serve_copy(rt, listener, image, asked, writer);
     }
     let held = hold_image(rt, image, true)?;
-    let length = held.length().unwrap_or(0);
-    let order = order_of(asked.sync, held.block_len().unwrap_or(0));
-    let Ok(barrier) = Barrier::new(rt.alloc(), order, length) else {
-        return Err(Fault::NoMemory);
-    };
-    let bytes = bytes_of(rt, &held)?;
-    let disk = open_disk(rt, &held, bytes, &barrier, asked.tidy)?;
-    let durable = match held.handle(&barrier) {
-        Ok(file) => Durable::new(file, policy_of(asked.sync)),
-        Err(error) => return Err(Fault::ImageFailed(Cause::System(error.kind()))),
-    };
-    match serve_opened(rt, listener, disk, &durable, asked, writer) {
-        Ok(()) => Ok(()),
-        Err(Fault::ImageFailed(cause)) => if barrier.has_failed() {
-            Err(Fault::ImageFailed(Cause::Sync))
-        } else {
-            Err(Fault::ImageFailed(cause))
-        },
-        Err(fault) => Err(fault),
+    let syncs = asked.sync != SyncPolicy::Never;
+    take_up(rt, image, &held, syncs)?;
+    let done = serve_held(rt, listener, image, &held, asked, writer);
+    if take_up(rt, image, &held, syncs).is_err() {
+        rt.tell_unsettled(image);
     }
+    done
 }
 
-/// In which order the file's changes get to the disk of this machine, in pieces of so many bytes:
-/// flushed sectors need all of it where a piece is smaller than a data block, since a slot's
-/// descriptor and its sector are in one.
-fn order_of(sync: SyncPolicy, piece: u64) -> WriteOrder
-    ensures { result ≡ order_of sync piece }
+/// Serves the chip in a file that is held, beside which there is no log yet.
+fn serve_held<R, K>(
+    rt: &R,
+    listener: Listener,
+    image: &str,
+    held: &Held<R::File>,
+    asked: Asked<'_>,
+    writer: &mut K,
+) -> Result<(), Fault>
+where
+    R: Host,
+    R::File: ImageFile + Send + Sync,
+    K: Sink,
+    requires { IsPlace asked.place × IsConns asked.conns }
+    ensures tells { TellsServing asked.entry.place asked.entry.conns asked.entry.record
+        (K.written writer.old) (K.faults writer.old) result
+        (K.written writer.new) (K.faults writer.new) }
+    ensures endless { IsFalse asked.entry.ends → IsErr result }
 {
-    match sync {
-        SyncPolicy::AtFlush => if piece < BLOCK_LEN as u64 {
-            WriteOrder::Whole
-        } else {
-            WriteOrder::Flushed
-        },
-        SyncPolicy::Never => WriteOrder::Any,
-        SyncPolicy::Always => WriteOrder::Whole,
-    }
+    let bytes = bytes_of(rt, held)?;
+    let Ok(copy) = bytes.as_slice().to_vec(rt.alloc()) else {
+        return Err(Fault::NoMemory);
+    };
+    let disk = open_disk(rt.alloc(), bytes, asked.tidy)?;
+    let mut files = match log_beside(rt, image, held, asked.sync != SyncPolicy::Never) {
+        Ok(files) => files,
+        Err(error) => return Err(told_of_log(error)),
+    };
+    let durable = match files.handle() {
+        Ok(handle) => Durable::new(handle, policy_of(asked.sync)),
+        Err(error) => return Err(told_of_log(error)),
+    };
+    let sum = match begin_log(&mut files, copy.as_slice()) {
+        Ok(sum) => sum,
+        Err(error) => return Err(told_of_log(error)),
+    };
+    let disk = MemoryDisk::new(disk);
+    let unlost = Blank::new(1);
+    serve_logged::<Brand, _, _, _, _>(
+        rt, listener, disk, files, copy, sum, unlost, &durable, asked, writer,
+    )
+}
+
+/// Serves a disk with the log of its image, which has these bytes on its file; `L` names what is
+/// lost.
+fn serve_logged<L, R, D, F, K>(
+    rt: &R,
+    listener: Listener,
+    disk: D,
+    files: FileImages<R::File>,
+    image: Vec<u8>,
+    sum: Sum,
+    unlost: Blank,
+    durable: &Durable<F>,
+    asked: Asked<'_>,
+    writer: &mut K,
+) -> Result<(), Fault>
+where
+    L: Ledger + Send,
+    R: Host,
+    R::File: ImageFile + Send + Sync,
+    D: ImageDisk + Send + Drop,
+    F: OpenFile + Send + Sync + Drop,
+    K: Sink,
+    requires name { (unlost.name ≡ L.name) × (unlost.parts ≡ L.parts) × (0 < L.parts) }
+    requires sound { (D.facts disk).sound ≡ true }
+    requires ready { IsDiskReady (D.facts disk) }
+    requires size { IsChipSize (length image.items) }
+    requires numbers { IsPlace asked.place × IsConns asked.conns }
+    ensures tells { TellsServing asked.entry.place asked.entry.conns asked.entry.record
+        (K.written writer.old) (K.faults writer.old) result
+        (K.written writer.new) (K.faults writer.new) }
+    ensures endless { IsFalse asked.entry.ends → IsErr result }
+{
+    let logged = LoggedDisk::<_, _, L>::new(rt.alloc(), disk, files, image, sum, unlost);
+    serve_opened(rt, listener, logged, durable, asked, writer)
 }
 
 /// Serves a copy in memory of the chip in the file at a path, of which nothing is ever synced.
@@ -186,15 +235,12 @@ where
     ensures endless { IsFalse asked.entry.ends → IsErr result }
 {
     let held = hold_image(rt, image, false)?;
-    let copy = bytes_of(rt, &held)?;
-    let disk = match copied_disk(rt.alloc(), copy) {
+    let through = looked_through(rt, image, &held)?;
+    let disk = match copied_disk(rt.alloc(), through.bytes) {
         Ok(disk) => disk,
         Err(fault) => return Err(fault),
     };
-    let Ok(barrier) = Barrier::new(rt.alloc(), WriteOrder::Any, 0) else {
-        return Err(Fault::NoMemory);
-    };
-    let durable = match held.handle(&barrier) {
+    let durable = match held.handle() {
         Ok(file) => Durable::new(file, Policy::Never),
         Err(error) => return Err(Fault::ImageFailed(Cause::System(error.kind()))),
     };
@@ -254,36 +300,30 @@ struct Unnamed {
     opened: Opened<Row>,
 }
 
-/// The disk on the chip in a file, whose lock is taken and which has these bytes: it holds what
-/// they represent.
-fn open_disk<'b, R>(
-    rt: &R,
-    held: &Held<R::File>,
+/// The disk on a chip in memory of these bytes: it holds what they represent.
+fn open_disk(
+    alloc: Global,
     image: Vec<u8>,
-    barrier: &'b Barrier,
     tidy: TidyPolicy,
-) -> Result<FlashDisk<ImageBus<Ordered<'b, R::File>>, Brand>, Fault>
-where
-    R: Files + AllocGlobal,
-    R::File: ImageFile,
+) -> Result<FlashDisk<PromptChip, Brand>, Fault>
     requires size { IsChipSize (length image.items) }
     ensures refused { IfErr result IsRefusal }
     ensures reason { IfErr result (λ e. IsReason e image.items) }
     ensures sound { IfOk result (λ disk.
-        (⟦<FlashDisk<ImageBus<Ordered<'b, R::File>>, Brand> as Disk>⟧.facts disk).sound ≡ true) }
+        (⟦<FlashDisk<PromptChip, Brand> as Disk>⟧.facts disk).sound ≡ true) }
     ensures ready { IfOk result (λ disk.
-        IsDiskReady (⟦<FlashDisk<ImageBus<Ordered<'b, R::File>>, Brand> as Disk>⟧.facts disk)) }
+        IsDiskReady (⟦<FlashDisk<PromptChip, Brand> as Disk>⟧.facts disk)) }
     ensures from { IfOk result (λ disk. OpenedFrom image.items
-        (⟦<FlashDisk<ImageBus<Ordered<'b, R::File>>, Brand> as Disk>⟧.facts disk)) }
+        (⟦<FlashDisk<PromptChip, Brand> as Disk>⟧.facts disk)) }
     ensures groups { IfOk result (λ _. HasCleanGroups image.items) }
 {
-    let Ok(copy) = image.as_slice().to_vec(rt.alloc()) else {
+    let Ok(copy) = image.as_slice().to_vec(alloc) else {
         return Err(Fault::NoMemory);
     };
-    match held.chip(image, barrier) {
-        Ok(bus) => open_bus(rt.alloc(), bus, copy, tidy),
-        Err(error) => Err(Fault::ImageFailed(Cause::System(error.kind()))),
-    }
+    let Ok(chip) = PromptChip::new(image) else {
+        unreachable!()
+    };
+    open_bus(alloc, chip, copy, tidy)
 }
 
 /// The disk on the chip behind a bus, on which nothing is in progress and whose memory is this

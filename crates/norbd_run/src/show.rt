@@ -7,7 +7,8 @@ ghost use Rattle.sector_map.specs.Maps.{IsMountable};
 
 use crate::check::{report_about, told_of_unexamined};
 use crate::chip_disk::bytes_behind;
-use crate::image_disk::{bytes_of, hold_image};
+use crate::image_disk::hold_image;
+use crate::image_log::{looked_through, tell_log};
 use crate::read::send_bytes;
 use block_device::Sink;
 use norbd_image::ImageFile;
@@ -71,11 +72,12 @@ where
     ensures { IfErr result IsRefusal }
 {
     let held = hold_image(rt, path, false)?;
-    let bytes = match bytes_of(rt, &held) {
-        Ok(bytes) => bytes,
-        Err(fault) => return Err(fault),
-    };
-    picture_of(rt.alloc(), bytes.as_slice(), colours)
+    let through = looked_through(rt, path, &held)?;
+    let mut drawn = picture_of(rt.alloc(), through.bytes.as_slice(), colours)?;
+    match tell_log(rt.alloc(), &mut drawn.text, through.log_len) {
+        Ok(()) => Ok(drawn),
+        Err(_) => Err(Fault::NoMemory),
+    }
 }
 
 /// The picture of the bytes of an image.

@@ -10,6 +10,7 @@ ghost use Rattle.norbd_run.specs.Moving.{written_text};
 use crate::chip_disk::disk_behind;
 use crate::format::told_as;
 use crate::image_disk::{bytes_of, copied_disk, hold_image};
+use crate::image_log::take_up;
 use crate::progress::{Meter, Screen};
 use crate::read::{part_of, told_of_disk};
 use crate::serve::tell;
@@ -53,6 +54,7 @@ where
     ensures end { OnOk result (IsAtEnd (S.remaining reader.new)) }
 {
     let held = hold_image(rt, path, true)?;
+    take_up(rt, path, &held, true)?;
     let copy = bytes_of(rt, &held)?;
     let disk = copied_disk(rt.alloc(), copy)?;
     let part = part_of(&disk, sectors)?;

@@ -46,6 +46,10 @@ pub trait Log {
     /// Tells that the file that is served, which was at this path, was removed. A failure to do so
     /// is passed over.
     fn tell_removed(&self, _path: &str) {}
+
+    /// Tells that what the log beside the image at this path has is not in the image yet. A failure
+    /// to do so is passed over.
+    fn tell_unsettled(&self, _path: &str) {}
 }
 
 impl Log for HostRuntime {
@@ -68,6 +72,13 @@ impl Log for HostRuntime {
     fn tell_removed(&self, path: &str) {
         let _ = eprintln!(self;
             "norbd: {path} was removed or replaced: what is written is lost when this server ends"
+        );
+    }
+
+    /// A line on standard error.
+    fn tell_unsettled(&self, path: &str) {
+        let _ = eprintln!(self;
+            "norbd: the log beside {path} couldn't be written into it; the next start does that"
         );
     }
 }

@@ -11,7 +11,8 @@ const JSON_VERSION: u32 = 1;
 
 /// What is told of an image in JSON: one object in one line, with the same keys whatever the
 /// verdict is, of which what isn't known is null. `clean` says whether it would be served, `dirty`
-/// where it isn't clean, and `mended` whether it was mended for that.
+/// where it isn't clean, `mended` whether it was mended for that, and `log_bytes` how many bytes of
+/// a log are for it.
 #[derive(Clone, Copy)]
 pub struct Json<'r> {
     pub report: &'r Report,
@@ -19,6 +20,7 @@ pub struct Json<'r> {
     pub clean: bool,
     pub dirty: Option<u32>,
     pub mended: bool,
+    pub log_bytes: usize,
 }
 
 /// The totals of the blocks.
@@ -86,9 +88,12 @@ fn write_size<W: fmt::Write>(f: &mut fmt::Formatter<W>, json: &Json<'_>) -> fmt:
         Verdict::Mountable(layout) => write!(f, ",\"layout\":\"{}\"", name_of(layout))?,
         _ => f.write_str(",\"layout\":null")?,
     }
-    let bytes = json.image.len();
+    let (bytes, log) = (json.image.len(), json.log_bytes);
     let sectors = sectors_of(bytes);
-    write!(f, ",\"bytes\":{bytes},\"sectors\":{sectors}")
+    write!(
+        f,
+        ",\"bytes\":{bytes},\"sectors\":{sectors},\"log_bytes\":{log}"
+    )
 }
 
 /// What the journals say; null of an image that isn't formatted.

@@ -1,280 +1,290 @@
-//! A file that knows what the disk of its host has: what was written before the last sync, and of
-//! what was written since nobody knows how much.
+//! The two files of an image on a host whose calls fail from one on, or that loses its power: what
+//! was on the medium at the last sync, and the writes since, of which nobody knows which came.
 
-use norbd_image::ImageFile;
-use std::alloc::{AllocError, Allocator, Global};
-use std::fs::{Metadata, OpenFile, OpenOptions};
+use disk_log::ImageFiles;
+use std::alloc::{AllocError, Global};
 use std::io;
-use std::io::{Read, Seek, SeekFrom, Write};
-use std::os::unix::fs::FileExt;
-use std::rt::Files;
+use std::io::ErrorKind;
 use std::sync::{Mutex, Wait};
 use test_kit::Dice;
 
-/// The blocks of a chip of 64 KiB.
-const BLOCKS: usize = 16;
-
-/// A write of the file.
+/// A change of a file: bytes at a place, or its end.
 #[derive(Drop)]
-struct Change {
-    at: usize,
-    bytes: Vec<u8>,
+enum Change {
+    Put { at: usize, bytes: Vec<u8> },
+    Cut(usize),
 }
 
-/// How a host loses its power.
-#[derive(Clone, Copy, Debug)]
-pub(crate) enum Loss {
-    /// Each block of 4 KiB is as it was at some moment since the last sync.
-    Blocks,
-    /// Each write since then has come or not.
-    Writes,
+/// Makes a change of these bytes.
+fn apply(memory: &mut Vec<u8>, change: &Change) -> Result<(), AllocError> {
+    match change {
+        Change::Put { at, bytes } => {
+            let end = at.saturating_add(bytes.len());
+            if memory.len() < end {
+                memory.resize(end, 0)?;
+            }
+            for (k, byte) in bytes.iter().enumerate() {
+                if let Some(place) = memory.get_mut(at.saturating_add(k)) {
+                    *place = *byte;
+                }
+            }
+        }
+        Change::Cut(len) => memory.truncate(*len),
+    }
+    Ok(())
 }
 
-/// What a loss leaves.
+/// A file: its bytes, those on the medium at its last sync, and its changes since.
 #[derive(Drop)]
-pub(crate) struct Left {
-    pub(crate) loss: Loss,
-    pub(crate) bytes: Vec<u8>,
-}
-
-/// What is known of the host's disk: the bytes of the file at its last sync, and the writes since.
-/// After some of the writes, drawn by dice, it keeps what a loss then would leave.
-#[derive(Drop)]
-pub(crate) struct HostDisk {
-    alloc: Global,
+struct Kept {
+    now: Vec<u8>,
     synced: Vec<u8>,
     changes: Vec<Change>,
-    dice: Dice,
-    left: Vec<Left>,
 }
 
-/// Puts bytes at a place.
-fn put(memory: &mut [u8], at: usize, bytes: &[u8]) {
-    for (k, byte) in bytes.iter().enumerate() {
-        if let Some(place) = memory.get_mut(at.saturating_add(k)) {
-            *place = *byte;
+impl Kept {
+    fn change(&mut self, change: Change) -> Result<(), AllocError> {
+        apply(&mut self.now, &change)?;
+        self.changes.push(change)?;
+        Ok(())
+    }
+
+    fn sync(&mut self, alloc: Global) -> Result<(), AllocError> {
+        self.synced = self.now.to_vec(alloc)?;
+        self.changes.clear();
+        Ok(())
+    }
+
+    /// What a loss leaves: each change since the last sync has come or not.
+    fn left(&self, alloc: Global, dice: &mut Dice) -> Result<Vec<u8>, AllocError> {
+        let mut bytes = self.synced.to_vec(alloc)?;
+        for change in self.changes.iter() {
+            if dice.below(2) == 0 {
+                apply(&mut bytes, change)?;
+            }
         }
+        Ok(bytes)
     }
 }
 
-/// The block of a place.
-fn block_of(at: usize) -> usize {
-    (at / 4_096).min(BLOCKS - 1)
+/// The bytes of both files.
+#[derive(Drop)]
+pub(crate) struct Both {
+    pub(crate) image: Vec<u8>,
+    pub(crate) log: Vec<u8>,
 }
 
-impl HostDisk {
-    /// A disk that has these bytes.
-    pub(crate) fn new(alloc: Global, synced: Vec<u8>, seed: u64) -> HostDisk {
-        HostDisk {
+/// Which call fails, counted from 0, and all later ones, and how many of its bytes come before.
+#[derive(Clone, Copy, Debug)]
+pub(crate) struct Failing {
+    pub(crate) call: u32,
+    pub(crate) bytes: usize,
+}
+
+/// A host with the two files. Where it may lose its power, it keeps at some calls, drawn by dice,
+/// what that would leave then.
+#[derive(Drop)]
+pub(crate) struct Host {
+    alloc: Global,
+    image: Kept,
+    log: Kept,
+    calls: u32,
+    fails: Option<Failing>,
+    losses: Option<Dice>,
+    left: Vec<Both>,
+}
+
+impl Host {
+    /// A host with these two files on its medium.
+    pub(crate) fn new(alloc: Global, files: &Both) -> Result<Host, AllocError> {
+        Ok(Host {
             alloc,
-            synced,
-            changes: Vec::new(alloc),
-            dice: Dice::new(seed),
+            image: Kept {
+                now: files.image.to_vec(alloc)?,
+                synced: files.image.to_vec(alloc)?,
+                changes: Vec::new(alloc),
+            },
+            log: Kept {
+                now: files.log.to_vec(alloc)?,
+                synced: files.log.to_vec(alloc)?,
+                changes: Vec::new(alloc),
+            },
+            calls: 0,
+            fails: None,
+            losses: None,
             left: Vec::new(alloc),
-        }
+        })
+    }
+
+    /// From now on calls fail.
+    pub(crate) fn fail(&mut self, failing: Failing) {
+        self.fails = Some(failing);
+    }
+
+    /// Calls fail after so many more.
+    pub(crate) fn fail_in(&mut self, calls: u32, bytes: usize) {
+        self.fails = Some(Failing {
+            call: self.calls.saturating_add(calls),
+            bytes,
+        });
+    }
+
+    /// Syncs the log, as for a FLUSH.
+    pub(crate) fn flush(&mut self) -> Result<(), AllocError> {
+        self.log.sync(self.alloc)
+    }
+
+    /// From now on it may lose its power.
+    pub(crate) fn lose(&mut self, seed: u64) {
+        self.losses = Some(Dice::new(seed));
     }
 
     /// What the losses since the last call would have left.
-    pub(crate) fn take_left(&mut self) -> Vec<Left> {
+    pub(crate) fn take_left(&mut self) -> Vec<Both> {
         std::mem::replace(&mut self.left, Vec::new(self.alloc))
     }
 
-    fn write(&mut self, at: usize, bytes: &[u8]) -> Result<(), AllocError> {
-        let mut copy = Vec::new(self.alloc);
-        copy.extend_from_slice(bytes)?;
-        self.changes.push(Change { at, bytes: copy })?;
-        match self.dice.below(12) {
-            0 => self.lose(Loss::Blocks),
-            1 => self.lose(Loss::Writes),
-            _ => Ok(()),
+    /// Whether a call has failed.
+    pub(crate) fn has_failed(&self) -> bool {
+        match self.fails {
+            Some(failing) => self.calls > failing.call,
+            None => false,
         }
     }
 
-    /// Keeps what a loss would leave now.
-    fn lose(&mut self, loss: Loss) -> Result<(), AllocError> {
-        let bytes = match loss {
-            Loss::Blocks => self.lose_blocks()?,
-            Loss::Writes => self.lose_writes()?,
-        };
-        self.left.push(Left { loss, bytes })?;
-        Ok(())
-    }
-
-    fn sync(&mut self) {
-        for change in self.changes.iter() {
-            put(
-                self.synced.as_mut_slice(),
-                change.at,
-                change.bytes.as_slice(),
-            );
-        }
-        self.changes.clear();
-    }
-
-    fn lose_blocks(&mut self) -> Result<Vec<u8>, AllocError> {
-        let mut left = [0u32; BLOCKS];
-        for change in self.changes.iter() {
-            if let Some(left) = left.get_mut(block_of(change.at)) {
-                *left = left.saturating_add(1);
-            }
-        }
-        for left in left.iter_mut() {
-            *left = self.dice.below(left.saturating_add(1).max(1));
-        }
-        let mut bytes = Vec::new(self.alloc);
-        bytes.extend_from_slice(self.synced.as_slice())?;
-        for change in self.changes.iter() {
-            match left.get_mut(block_of(change.at)) {
-                Some(left) if *left > 0 => *left -= 1,
-                _ => continue,
-            }
-            put(bytes.as_mut_slice(), change.at, change.bytes.as_slice());
-        }
-        Ok(bytes)
-    }
-
-    fn lose_writes(&mut self) -> Result<Vec<u8>, AllocError> {
-        let mut bytes = Vec::new(self.alloc);
-        bytes.extend_from_slice(self.synced.as_slice())?;
-        for change in self.changes.iter() {
-            if self.dice.below(2) == 0 {
-                put(bytes.as_mut_slice(), change.at, change.bytes.as_slice());
-            }
-        }
-        Ok(bytes)
-    }
-}
-
-/// A file of such a disk.
-#[derive(Drop)]
-pub(crate) struct Watched<'r, R, F> {
-    rt: &'r R,
-    file: F,
-    disk: &'r Mutex<HostDisk>,
-}
-
-impl<R, F: Read> Read for Watched<'_, R, F> {
-    fn read(&mut self, into: &mut [u8]) -> io::Result<usize> {
-        self.file.read(into)
-    }
-}
-
-impl<R, F: Write> Write for Watched<'_, R, F> {
-    fn write(&mut self, bytes: &[u8]) -> io::Result<usize> {
-        self.file.write(bytes)
-    }
-
-    fn flush(&mut self) -> io::Result<()> {
-        self.file.flush()
-    }
-}
-
-impl<R, F: Seek> Seek for Watched<'_, R, F> {
-    fn seek(&mut self, to: SeekFrom) -> io::Result<u64> {
-        self.file.seek(to)
-    }
-}
-
-impl<R: Wait, F: OpenFile> OpenFile for Watched<'_, R, F> {
-    fn metadata(&self) -> io::Result<Metadata> {
-        self.file.metadata()
-    }
-
-    fn set_len(&self, size: u64) -> io::Result<()> {
-        self.file.set_len(size)
-    }
-
-    fn sync_all(&self) -> io::Result<()> {
-        self.sync_data()
-    }
-
-    fn sync_data(&self) -> io::Result<()> {
-        self.disk.lock(self.rt).sync();
-        Ok(())
-    }
-
-    fn try_clone(&self) -> io::Result<Self> {
-        Ok(Watched {
-            rt: self.rt,
-            file: self.file.try_clone()?,
-            disk: self.disk,
+    /// Both files as a process finds them.
+    pub(crate) fn both(&self) -> Result<Both, AllocError> {
+        Ok(Both {
+            image: self.image.now.to_vec(self.alloc)?,
+            log: self.log.now.to_vec(self.alloc)?,
         })
     }
-}
 
-impl<R: Wait, F: FileExt> FileExt for Watched<'_, R, F> {
-    fn read_at(&self, into: &mut [u8], offset: u64) -> io::Result<usize> {
-        self.file.read_at(into, offset)
-    }
-
-    fn write_at(&self, bytes: &[u8], offset: u64) -> io::Result<usize> {
-        let n = self.file.write_at(bytes, offset)?;
-        match self.disk.lock(self.rt).write(offset as usize, &bytes[..n]) {
-            Ok(()) => Ok(n),
-            Err(_) => Err(io::Error::from(io::ErrorKind::OutOfMemory)),
+    /// Counts a call: how many of its bytes come where it fails.
+    fn call(&mut self) -> Result<Option<usize>, AllocError> {
+        let number = self.calls;
+        self.calls = number.saturating_add(1);
+        if let Some(dice) = &mut self.losses {
+            if dice.below(6) == 0 {
+                let image = self.image.left(self.alloc, dice)?;
+                let log = self.log.left(self.alloc, dice)?;
+                self.left.push(Both { image, log })?;
+            }
+        }
+        match self.fails {
+            Some(failing) if number >= failing.call => Ok(Some(failing.bytes)),
+            _ => Ok(None),
         }
     }
 }
 
-impl<R: Wait, F: ImageFile> ImageFile for Watched<'_, R, F> {
-    fn claim(&self) -> io::Result<bool> {
-        self.file.claim()
-    }
-}
-
-/// A system whose files are on such a disk.
+/// The two files of a host, as a server has them.
 #[derive(Drop)]
-pub(crate) struct Watching<'r, R> {
+pub(crate) struct HostFiles<'r, R> {
     pub(crate) rt: &'r R,
-    pub(crate) disk: &'r Mutex<HostDisk>,
+    pub(crate) host: &'r Mutex<Host>,
 }
 
-impl<'r, R: Files + Wait> Files for Watching<'r, R> {
-    type File = Watched<'r, R, R::File>;
+/// The error of a call that fails.
+fn failed<T>() -> io::Result<T> {
+    Err(io::Error::from(ErrorKind::StorageFull))
+}
 
-    type Dir = R::Dir;
+/// The beginning of some bytes.
+fn beginning(bytes: &[u8], len: usize) -> &[u8] {
+    &bytes[..len.min(bytes.len())]
+}
 
-    fn open_file(&self, how: &OpenOptions, path: &str) -> io::Result<Watched<'r, R, R::File>> {
-        Ok(Watched {
-            rt: self.rt,
-            file: self.rt.open_file(how, path)?,
-            disk: self.disk,
-        })
+impl Host {
+    /// Writes bytes at the end of the log.
+    fn append(&mut self, bytes: &[u8]) -> io::Result<()> {
+        let Ok(fails) = self.call() else {
+            return failed();
+        };
+        let some = beginning(bytes, fails.unwrap_or(bytes.len()));
+        let at = self.log.now.len();
+        let Ok(bytes) = some.to_vec(self.alloc) else {
+            return failed();
+        };
+        match self.log.change(Change::Put { at, bytes }) {
+            Ok(()) if fails.is_none() => Ok(()),
+            _ => failed(),
+        }
     }
 
-    fn open_dir(&self, path: &str) -> io::Result<R::Dir> {
-        self.rt.open_dir(path)
+    /// Writes a block of the image.
+    fn write_block(&mut self, block: u32, bytes: &[u8]) -> io::Result<()> {
+        let Ok(fails) = self.call() else {
+            return failed();
+        };
+        let some = beginning(bytes, fails.unwrap_or(bytes.len()));
+        let Ok(bytes) = some.to_vec(self.alloc) else {
+            return failed();
+        };
+        let at = 4_096usize.saturating_mul(block as usize);
+        match self.image.change(Change::Put { at, bytes }) {
+            Ok(()) if fails.is_none() => Ok(()),
+            _ => failed(),
+        }
     }
 
-    fn metadata(&self, path: &str) -> io::Result<Metadata> {
-        self.rt.metadata(path)
+    /// Syncs one of the files.
+    fn sync(&mut self, is_log: bool) -> io::Result<()> {
+        match self.call() {
+            Ok(None) => {}
+            _ => return failed(),
+        }
+        let file = if is_log {
+            &mut self.log
+        } else {
+            &mut self.image
+        };
+        match file.sync(self.alloc) {
+            Ok(()) => Ok(()),
+            Err(_) => failed(),
+        }
     }
 
-    fn symlink_metadata(&self, path: &str) -> io::Result<Metadata> {
-        self.rt.symlink_metadata(path)
+    /// Ends the log.
+    fn cut_log(&mut self, len: usize) -> io::Result<()> {
+        match self.call() {
+            Ok(None) => {}
+            _ => return failed(),
+        }
+        match self.log.change(Change::Cut(len)) {
+            Ok(()) => self.sync(true),
+            Err(_) => failed(),
+        }
+    }
+}
+
+impl<R: Wait> ImageFiles for HostFiles<'_, R> {
+    ghost use Rattle.std.specs.Prelude.{None};
+
+    ghost medium = { λ files. None };
+
+    fn append(&mut self, head: &[u8], bytes: &[u8]) -> io::Result<()> {
+        let mut host = self.host.lock(self.rt);
+        host.append(head)?;
+        if bytes.is_empty() {
+            return Ok(());
+        }
+        host.append(bytes)
     }
 
-    fn copy(&self, from: &str, to: &str) -> io::Result<u64> {
-        self.rt.copy(from, to)
+    fn sync_log(&mut self) -> io::Result<()> {
+        self.host.lock(self.rt).sync(true)
     }
 
-    fn rename(&self, from: &str, to: &str) -> io::Result<()> {
-        self.rt.rename(from, to)
+    fn write_block(&mut self, block: u32, bytes: &[u8]) -> io::Result<()> {
+        self.host.lock(self.rt).write_block(block, bytes)
     }
 
-    fn remove_file(&self, path: &str) -> io::Result<()> {
-        self.rt.remove_file(path)
+    fn sync_image(&mut self) -> io::Result<()> {
+        self.host.lock(self.rt).sync(false)
     }
 
-    fn create_dir(&self, path: &str) -> io::Result<()> {
-        self.rt.create_dir(path)
-    }
-
-    fn remove_dir(&self, path: &str) -> io::Result<()> {
-        self.rt.remove_dir(path)
-    }
-
-    fn remove_dir_all<B: Allocator>(&self, alloc: B, path: &str) -> io::Result<()> {
-        self.rt.remove_dir_all(alloc, path)
+    fn cut_log(&mut self, len: usize) -> io::Result<()> {
+        self.host.lock(self.rt).cut_log(len)
     }
 }

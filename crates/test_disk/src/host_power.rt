@@ -1,233 +1,276 @@
-//! What is left of an image where the host loses its power, whose disk gets the file's changes in
-//! an order of its own (docs/SERVE.md).
+//! What an image and its log hold where a call on one of the files fails, or the host loses its
+//! power, whose disk gets the files' changes in an order of its own (docs/POWER.md).
 
-use crate::host::{HostDisk, Left, Loss, Watching};
+use crate::host::{Both, Failing, Host, HostFiles};
 use crate::writes::put;
-use block_device::Disk;
-use chip_simulator::SimChip;
+use block_device::{Disk, DiskError};
+use chip_simulator::PromptChip;
+use disk_log::LoggedDisk;
 use flash_disk::FlashDisk;
-use norbd_image::{Barrier, ImageFile, WriteOrder, hold};
+use norbd_image::{MemoryDisk, begin_log, chip_in, formatted_image, settle_log};
 use std::alloc::Global;
-use std::fs;
-use std::fs::OpenFile;
 use std::marker::Brand;
-use std::rt::Files;
+use std::sync::ledger::Blank;
 use std::sync::{Mutex, Wait};
 use std::test::*;
 use test_kit::Dice;
-use test_kit::chips::{OnSim, formatted, set};
 
-/// What a sector holds, one byte over and over: now, before its last write, and when the file was
-/// last synced for a client; and whether it was written since.
+/// How many sectors the disk has.
+const SECTORS: u32 = 70;
+
+/// What fills each sector, all bytes of which are the same: a plain array.
+type Fills = [u8; 70];
+
+/// A command: from a sector on so many get this byte; with 0 they are zeroed.
 #[derive(Clone, Copy)]
-struct Sector {
-    now: u8,
-    before: u8,
-    flushed: u8,
-    is_written: bool,
+struct Command {
+    first: u32,
+    count: u32,
+    fill: u8,
 }
 
-/// What the image has to keep.
-#[derive(Clone, Copy, Debug)]
-enum Keeps {
-    /// Each sector as it was flushed or as it was written since, where blocks are whole; where they
-    /// aren't, those that weren't written since.
-    Flushed,
-    /// Each sector as it was flushed or as it was written since.
-    All,
-}
-
-/// The disk on a chip with these bytes, if it is one.
-fn mounted_from(alloc: Global, bytes: Vec<u8>) -> Result<Option<OnSim>, Fail> {
-    match FlashDisk::mount(alloc, SimChip::new(bytes)?) {
-        Ok(disk) => Ok(Some(disk)),
-        Err((_chip, _error)) => Ok(None),
-    }
-}
-
-/// Whether a sector may hold this byte.
-fn may_hold(sector: Sector, keeps: Keeps, byte: u8) -> bool {
-    if !sector.is_written {
-        return byte == sector.flushed;
-    }
-    match keeps {
-        Keeps::Flushed => true,
-        Keeps::All => byte == sector.flushed || byte == sector.before || byte == sector.now,
-    }
-}
-
-/// Whether a disk holds what it has to keep.
-fn holds(disk: &mut OnSim, sectors: &[Sector], keeps: Keeps) -> Result<bool, Fail> {
-    let mut bytes = [0u8; 512];
-    for (number, sector) in sectors.iter().enumerate() {
-        if number >= disk.sectors() as usize {
-            return Err(Fail::new("no sector of the disk"));
+/// The array once a command is done.
+fn after(fills: Fills, command: Command) -> Fills {
+    let mut fills = fills;
+    for number in command.first..command.first.saturating_add(command.count) {
+        if let Some(fill) = fills.get_mut(number as usize) {
+            *fill = command.fill;
         }
+    }
+    fills
+}
+
+/// Does a command.
+fn done<D: Disk>(disk: &mut D, command: Command) -> Result<Result<(), DiskError>, Fail> {
+    let Command { first, count, fill } = command;
+    let all = disk.sectors();
+    if count > all || first > all - count {
+        return Err(Fail::new("no sectors of the disk"));
+    }
+    if fill == 0 {
+        return Ok(disk.zero(first, count));
+    }
+    let bytes = [fill; 4_096];
+    match bytes.get(..512usize.saturating_mul(count as usize)) {
+        Some(bytes) => put(disk, first, bytes),
+        None => Err(Fail::new("more than eight sectors")),
+    }
+}
+
+/// What fills the sectors of the chip that both files hold, as the next start finds it.
+fn fills_in(alloc: Global, both: Both) -> Result<Fills, Fail> {
+    let Ok(bytes) = chip_in(alloc, both.image, both.log.as_slice()) else {
+        return Err(Fail::new("the next start refuses the files"));
+    };
+    let chip = PromptChip::new(bytes)?;
+    let Ok(mut disk) = FlashDisk::<_, Brand>::mount(alloc, chip) else {
+        return Err(Fail::new("the next start finds no disk"));
+    };
+    if !disk.check()? || disk.sectors() != SECTORS {
+        return Err(Fail::new("the next start finds another disk"));
+    }
+    let mut fills = [0u8; 70];
+    for (number, fill) in fills.iter_mut().enumerate() {
+        let mut bytes = [0u8; 512];
         disk.read(number as u32, &mut bytes)?;
-        let first = bytes[0];
-        let is_one = bytes.iter().all(|byte| *byte == first);
-        let is_whole = is_one || matches!(keeps, Keeps::Flushed) && sector.is_written;
-        let is_kept = may_hold(*sector, keeps, first) && is_whole;
-        if !is_kept {
-            return Ok(false);
+        if bytes.iter().any(|&byte| byte != bytes[0]) {
+            return Err(Fail::new("a sector is half written"));
         }
+        *fill = bytes[0];
     }
-    Ok(true)
+    Ok(fills)
 }
 
-/// Whether what a loss left is a chip that has what it has to keep, and is clean where blocks are
-/// whole.
-fn is_kept(alloc: Global, left: Left, sectors: &[Sector], keeps: Keeps) -> Result<bool, Fail> {
-    let Left { loss, bytes } = left;
-    let Some(mut disk) = mounted_from(alloc, bytes)? else {
-        return Ok(false);
+/// An image of a formatted chip, without a log.
+fn fresh(alloc: Global) -> Result<Both, Fail> {
+    let Ok(image) = formatted_image(alloc, 64) else {
+        return Err(Fail::new("no image"));
     };
-    if matches!(loss, Loss::Blocks) && !disk.check()? {
-        return Ok(false);
-    }
-    let keeps = match loss {
-        Loss::Blocks => Keeps::All,
-        Loss::Writes => keeps,
-    };
-    holds(&mut disk, sectors, keeps)
+    Ok(Both {
+        image,
+        log: Vec::new(alloc),
+    })
 }
 
-/// Makes a sector zeros, which takes its slot away.
-fn zero<D: Disk>(disk: &mut D, sector: u32) -> Result<(), Fail> {
-    if sector >= disk.sectors() {
-        return Err(Fail::new("no sector of the disk"));
-    }
-    Ok(disk.zero(sector, 1)?)
-}
+/// A disk over the files of a host, of which nothing has failed yet.
+type Logged<'r, R> = LoggedDisk<MemoryDisk<PromptChip, Brand>, HostFiles<'r, R>, Brand>;
 
-/// In which order an image is written, what it has to keep, and how many steps come of which dice.
-#[derive(Clone, Copy)]
-struct Plan {
-    order: WriteOrder,
-    keeps: Keeps,
-    seed: u64,
-    steps: u32,
-}
-
-/// Writes sectors, tidies and flushes at random, and looks at what losses of the host's power
-/// meanwhile would have left.
-fn run<R>(rt: &R, asked: Plan) -> Result<(), Fail>
-where
-    R: Files + AllocGlobal + Wait,
-    R::File: ImageFile,
-{
+/// The disk over an image without a log; None where its log can't be begun.
+fn served<'r, R: Wait + AllocGlobal>(
+    rt: &'r R,
+    host: &'r Mutex<Host>,
+    image: Vec<u8>,
+) -> Result<Option<Logged<'r, R>>, Fail> {
     let alloc = rt.alloc();
-    let mut memory = formatted(alloc)?.into_inner();
-    // so many closed entries of the first journal, which is full soon
-    set(memory.as_mut_slice(), 0x1800, 504, &[0xF8, 4, 0, 0xFF])?;
-    fs::write(rt, "host.img", memory.as_slice())?;
-    let disk = Mutex::new(HostDisk::new(alloc, memory, asked.seed));
-    run_on(&Watching { rt, disk: &disk }, rt, &disk, asked)?;
-    Ok(fs::remove_file(rt, "host.img")?)
-}
-
-/// Does so on the files of a system that a disk watches.
-fn run_on<F, R>(files: &F, rt: &R, disk: &Mutex<HostDisk>, asked: Plan) -> Result<(), Fail>
-where
-    F: Files,
-    F::File: ImageFile,
-    R: AllocGlobal + Wait,
-{
-    let alloc = rt.alloc();
-    let Ok(held) = hold(files, "host.img") else {
-        return Err(Fail::new("not held"));
+    let mut files = HostFiles { rt, host };
+    let Ok(sum) = begin_log(&mut files, image.as_slice()) else {
+        return Ok(None);
     };
-    let barrier = Barrier::new(alloc, asked.order, 65_536)?;
-    let syncs = held.handle(&barrier)?;
-    let Ok(bytes) = held.bytes(alloc) else {
-        return Err(Fail::new("not read"));
-    };
-    let Ok(bus) = held.chip(bytes, &barrier) else {
-        return Err(Fail::new("no chip"));
-    };
-    let Ok(served) = FlashDisk::<_, Brand>::mount(alloc, bus) else {
+    let chip = PromptChip::new(image.to_vec(alloc)?)?;
+    let Ok(disk) = FlashDisk::<_, Brand>::mount(alloc, chip) else {
         return Err(Fail::new("not mounted"));
     };
-    churn(rt, disk, served, &syncs, asked)
+    let disk = MemoryDisk::new(disk);
+    Ok(Some(LoggedDisk::new(alloc, disk, files, image, sum, Blank::new(1))))
 }
 
-/// Does so on the disk that is served.
-fn churn<R, D, S>(
-    rt: &R,
-    disk: &Mutex<HostDisk>,
-    served: D,
-    syncs: &S,
-    asked: Plan,
-) -> Result<(), Fail>
-where
-    R: AllocGlobal + Wait,
-    D: Disk + Drop,
-    S: OpenFile,
-{
+/// Commands drawn by dice, with many of few sectors.
+fn drawn(dice: &mut Dice) -> Command {
+    let hot = if dice.below(2) == 0 { 4 } else { 62 };
+    let fill = dice.below(6) as u8;
+    Command {
+        first: dice.below(hot),
+        count: dice.below(8).saturating_add(1),
+        fill: if fill == 0 { 0 } else { dice.below(250) as u8 },
+    }
+}
+
+/// Eight commands, a settling, three commands and another one, with a call that fails: what both
+/// files hold afterwards is what was acknowledged, or the command that failed besides.
+fn script<R: Wait + AllocGlobal>(rt: &R, failing: Failing) -> Result<bool, Fail> {
     let alloc = rt.alloc();
-    let mut served = served;
-    let mut sectors = [Sector {
-        now: 0,
-        before: 0,
-        flushed: 0,
-        is_written: false,
-    }; 70];
-    let mut dice = Dice::new(asked.seed);
-    for step in 0..asked.steps {
-        let hot = if dice.below(2) == 0 { 3 } else { 70 };
-        let number = dice.below(hot);
-        let byte = dice.below(4) as u8;
-        if let Some(sector) = sectors.get_mut(number as usize) {
-            sector.before = sector.now;
-            sector.now = byte;
-            sector.is_written = true;
-        }
-        if byte == 0 {
-            zero(&mut served, number)?;
-        } else {
-            put(&mut served, number, &[byte; 512])??;
-        }
-        if dice.below(2) == 0 {
-            let _more = served.tidy()?;
-        }
-        let losses = disk.lock(rt).take_left();
-        for left in losses {
-            let loss = left.loss;
-            if !is_kept(alloc, left, &sectors, asked.keeps)? {
-                return Err(Fail::from(format!(in alloc; "{loss:?} in step {step}")?));
+    let files = fresh(alloc)?;
+    let host = Mutex::new(Host::new(alloc, &files)?);
+    host.lock(rt).fail(failing);
+    let mut held = [0u8; 70];
+    let mut more = held;
+    if let Some(mut disk) = served(rt, &host, files.image)? {
+        let mut dice = Dice::new(7);
+        for step in 0..13u32 {
+            if step == 8 || step == 12 {
+                more = held;
+                if disk.settle().is_err() {
+                    break;
+                }
+                continue;
             }
-        }
-        if dice.below(6) == 0 {
-            syncs.sync_data()?;
-            for sector in sectors.iter_mut() {
-                sector.flushed = sector.now;
-                sector.is_written = false;
+            let command = drawn(&mut dice);
+            more = after(held, command);
+            if done(&mut disk, command)?.is_err() {
+                break;
             }
+            held = more;
         }
+    }
+    let left = host.lock(rt).both()?;
+    let found = fills_in(alloc, left)?;
+    if found != held && found != more {
+        return Err(Fail::from(format!(in alloc; "{failing:?}")?));
+    }
+    Ok(host.lock(rt).has_failed())
+}
+
+#[test]
+fn each_call_that_fails_loses_nothing_acknowledged(rt: HostRuntime) -> Result<(), Fail> {
+    for bytes in [0usize, 17, 600] {
+        let mut call = 0u32;
+        while script(&rt, Failing { call, bytes })? {
+            call = call.saturating_add(1);
+        }
+        assert!(rt; call > 25, "{call} calls");
     }
     Ok(())
 }
 
+/// A start takes up a log with a call that fails: the next one finds the same.
 #[test]
-fn flushed_sectors_outlive_the_power_of_the_host(rt: HostRuntime) -> Result<(), Fail> {
-    let asked = Plan {
-        order: WriteOrder::Flushed,
-        keeps: Keeps::Flushed,
-        seed: 1,
-        steps: 60,
-    };
-    run(&rt, asked)
+fn a_start_that_fails_loses_nothing(rt: HostRuntime) -> Result<(), Fail> {
+    let alloc = rt.alloc();
+    for settled in [false, true] {
+        let (files, held) = left_by_a_kill(&rt, settled)?;
+        let mut call = 0u32;
+        let mut fails = true;
+        while fails {
+            for bytes in [0usize, 30, 4_000] {
+                let host = Mutex::new(Host::new(alloc, &files)?);
+                host.lock(&rt).fail(Failing { call, bytes });
+                let taken = HostFiles {
+                    rt: &rt,
+                    host: &host,
+                };
+                let image = files.image.to_vec(alloc)?;
+                let done = settle_log(alloc, taken, image, files.log.as_slice());
+                fails = host.lock(&rt).has_failed();
+                assert_eq!(rt; done.is_err(), fails, "{call}");
+                let left = host.lock(&rt).both()?;
+                assert!(rt; fills_in(alloc, left)? == held, "{call} {bytes}");
+            }
+            call = call.saturating_add(1);
+        }
+        assert!(rt; call > 3, "{call} calls");
+    }
+    Ok(())
 }
 
-#[test]
-fn all_sectors_outlive_the_power_of_the_host_where_all_is_in_order(
-    rt: HostRuntime,
-) -> Result<(), Fail> {
-    let asked = Plan {
-        order: WriteOrder::Whole,
-        keeps: Keeps::All,
-        seed: 2,
-        steps: 60,
+/// What a kill leaves: of a server, or in the middle of its settling.
+fn left_by_a_kill<R: Wait + AllocGlobal>(rt: &R, settles: bool) -> Result<(Both, Fills), Fail> {
+    let alloc = rt.alloc();
+    let files = fresh(alloc)?;
+    let host = Mutex::new(Host::new(alloc, &files)?);
+    let Some(mut disk) = served(rt, &host, files.image)? else {
+        return Err(Fail::new("no log"));
     };
-    run(&rt, asked)
+    let mut held = [0u8; 70];
+    let mut dice = Dice::new(3);
+    for _step in 0..12u32 {
+        let command = drawn(&mut dice);
+        held = after(held, command);
+        done(&mut disk, command)??;
+    }
+    if settles {
+        // the checkpoint's head, its body and its sync come, and half of a block
+        host.lock(rt).fail_in(3, 2_000);
+        if disk.settle().is_ok() {
+            return Err(Fail::new("it is settled"));
+        }
+    }
+    let left = host.lock(rt).both()?;
+    Ok((left, held))
+}
+
+/// Whether a loss left the array as it was at one of the moments since the last flush.
+fn is_kept(alloc: Global, left: Both, states: &[Fills]) -> Result<bool, Fail> {
+    let found = fills_in(alloc, left)?;
+    Ok(states.iter().any(|state| *state == found))
+}
+
+/// Commands, flushes and settlings by dice on a host that may lose its power at each call: it
+/// leaves what some beginning of the commands says, at least up to the last flush.
+#[test]
+fn what_was_flushed_outlives_the_power_of_the_host(rt: HostRuntime) -> Result<(), Fail> {
+    let alloc = rt.alloc();
+    let files = fresh(alloc)?;
+    let host = Mutex::new(Host::new(alloc, &files)?);
+    let Some(mut disk) = served(&rt, &host, files.image)? else {
+        return Err(Fail::new("no log"));
+    };
+    host.lock(&rt).lose(5);
+    let mut states = Vec::new(alloc);
+    let mut held = [0u8; 70];
+    states.push(held)?;
+    let mut dice = Dice::new(9);
+    let mut losses = 0usize;
+    for _step in 0..160u32 {
+        match dice.below(12) {
+            0 => {
+                host.lock(&rt).flush()?;
+                states.clear();
+            }
+            1 => {
+                disk.settle()?;
+            }
+            _ => {
+                let command = drawn(&mut dice);
+                held = after(held, command);
+                done(&mut disk, command)??;
+            }
+        }
+        states.push(held)?;
+        for left in host.lock(&rt).take_left() {
+            losses = losses.saturating_add(1);
+            assert!(rt; is_kept(alloc, left, states.as_slice())?, "loss {losses}");
+        }
+    }
+    assert!(rt; losses > 40, "{losses} losses");
+    Ok(())
 }

@@ -190,8 +190,8 @@ fn serving_without_memory_says_so(rt: HostRuntime) -> Result<(), Fail> {
         verbose: true,
         trust: false,
     });
-    // the barrier, 512 bytes and 16 of its own, and the chip; a copy of it that is looked at. What
-    // follows fits where that was
+    // the chip, and its copies: that of the file, and the one that is looked at. What follows fits
+    // where that was
     let windows = [
         (0, 264, 3),
         (32_768, 32_768, 2),

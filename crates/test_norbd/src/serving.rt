@@ -13,6 +13,7 @@ use std::fs::{Metadata, OpenFile, OpenOptions};
 use std::io::{Read, Seek, SeekFrom, Write};
 use std::net::{Ipv4Addr, Net, SocketAddr, TcpListener, TcpStream};
 use std::os::unix::fs::FileExt;
+use std::path::PathBuf;
 use std::process::Abort;
 use std::rt::Files;
 use std::sync::Wait;
@@ -205,6 +206,10 @@ impl<'r, R: Files> Files for Wearing<'r, R> {
 
     fn remove_dir_all<B: Allocator>(&self, alloc: B, path: &str) -> io::Result<()> {
         self.rt.remove_dir_all(alloc, path)
+    }
+
+    fn canonicalize<B: Allocator>(&self, alloc: B, path: &str) -> io::Result<PathBuf<B>> {
+        self.rt.canonicalize(alloc, path)
     }
 }
 
@@ -501,20 +506,20 @@ pub(crate) fn make<H: Files + AllocGlobal>(rt: &H) -> Result<(), Fail> {
     Ok(fs::write(rt, "served.img", image.as_slice())?)
 }
 
-/// The first WRITE of a sector makes four writes of the file: its descriptor, two pages, the
-/// commit. The write that fails ends the server.
+/// A WRITE makes two writes of the log, of the record's head and of its bytes, behind that of the
+/// log's own head. The write that fails ends the server.
 #[test]
 fn a_failed_write_of_the_image_ends_the_server(rt: HostRuntime) -> Result<(), Fail> {
     let _socket: NoSocket = None;
-    for good in 0..8u32 {
+    for good in 0..4u32 {
         make(&rt)?;
-        let good_writes = AtomicU32::new(good);
-        let good_syncs = AtomicU32::new(1);
+        let good_writes = AtomicU32::new(good + 1);
+        let good_syncs = AtomicU32::new(100);
         let wearing = Wearing::new(&rt, &good_writes, &good_syncs);
         let clients = [
             Client {
                 requests: &[Asks::Write(1), Asks::Write(2)],
-                answered: good as usize / 4,
+                answered: good as usize / 2,
             },
             Client {
                 requests: &[Asks::Read(1)],
@@ -529,8 +534,7 @@ fn a_failed_write_of_the_image_ends_the_server(rt: HostRuntime) -> Result<(), Fa
 }
 
 /// By NBD proto.md a FLUSH and a command with FUA are answered once what was written is durable.
-/// Besides, by docs/SERVE.md, with `flush` a sync comes before the first WRITE, and with `always`
-/// before the first and the last program of each slot; the last sync is that of the end.
+/// Besides come the syncs of a start and of the end; with `never` there is none at all.
 #[test]
 fn replies_that_owe_it_wait_for_a_sync(rt: HostRuntime) -> Result<(), Fail> {
     let _socket: NoSocket = None;
@@ -544,11 +548,12 @@ fn replies_that_owe_it_wait_for_a_sync(rt: HostRuntime) -> Result<(), Fail> {
             answered: 3,
         },
     ];
-    for (sync, syncs) in [
-        (SyncPolicy::Never, 0),
-        (SyncPolicy::AtFlush, 4),
-        (SyncPolicy::Always, 11),
-    ] {
+    let mut all = [0u32; 3];
+    for (number, sync) in [SyncPolicy::Never, SyncPolicy::AtFlush, SyncPolicy::Always]
+        .iter()
+        .enumerate()
+    {
+        let sync = *sync;
         make(&rt)?;
         let good_writes = AtomicU32::new(100);
         let good_syncs = AtomicU32::new(100);
@@ -556,26 +561,46 @@ fn replies_that_owe_it_wait_for_a_sync(rt: HostRuntime) -> Result<(), Fail> {
         let manner = Manner { sync, ..PLAINLY };
         let outcome = serve_two(&wearing, manner, clients)?;
         compare(&rt, outcome, "served 2 connections\n", "")?;
-        let made = 100u32.saturating_sub(good_syncs.load(Ordering::SeqCst));
-        assert_eq!(rt; made, syncs, "{sync:?}");
+        all[number] = 100u32.saturating_sub(good_syncs.load(Ordering::SeqCst));
     }
+    // `always` waits for two more, of the first WRITE and of the last
+    let [never, flush, always] = all;
+    assert_eq!(rt; never, 0);
+    assert!(rt; flush >= 3, "{flush}");
+    assert_eq!(rt; always, flush + 2);
     Ok(fs::remove_file(&rt, "served.img")?)
 }
 
-/// The sync of a FLUSH fails, or the one before the first WRITE. The reply isn't sent, and the
-/// server ends, also one without end: the second client finds none.
+/// How many syncs a start makes: those of a server of two clients who ask for nothing, without the
+/// last.
+fn syncs_of_a_start(rt: HostRuntime) -> Result<u32, Fail> {
+    make(&rt)?;
+    let good_writes = AtomicU32::new(100);
+    let good_syncs = AtomicU32::new(100);
+    let wearing = Wearing::new(&rt, &good_writes, &good_syncs);
+    let silent = Client {
+        requests: &[],
+        answered: 0,
+    };
+    let _outcome = serve_two(&wearing, PLAINLY, [silent, silent])?;
+    Ok(99u32.saturating_sub(good_syncs.load(Ordering::SeqCst)))
+}
+
+/// The sync of a FLUSH fails. The reply isn't sent, and the server ends, also one without end: the
+/// second client finds none.
 #[test]
 fn a_sync_that_fails_ends_the_server(rt: HostRuntime) -> Result<(), Fail> {
     let _socket: NoSocket = None;
-    for (ends, good) in [(true, 1), (false, 1), (false, 0)] {
+    let start = syncs_of_a_start(rt)?;
+    for ends in [true, false] {
         make(&rt)?;
         let good_writes = AtomicU32::new(100);
-        let good_syncs = AtomicU32::new(good);
+        let good_syncs = AtomicU32::new(start);
         let wearing = Wearing::new(&rt, &good_writes, &good_syncs);
         let clients = [
             Client {
                 requests: &[Asks::Write(1), Asks::Flush],
-                answered: good as usize,
+                answered: 1,
             },
             Client {
                 requests: &[Asks::Read(1)],
@@ -585,7 +610,7 @@ fn a_sync_that_fails_ends_the_server(rt: HostRuntime) -> Result<(), Fail> {
         let manner = Manner { ends, ..PLAINLY };
         let outcome = serve_two(&wearing, manner, clients)?;
         let is_told = matches!(outcome.done, Err(Fault::ImageFailed(Cause::Sync)));
-        assert!(rt; is_told, "{ends} {good}");
+        assert!(rt; is_told, "{ends}");
         compare(&rt, outcome, "", "image failed")?;
     }
     Ok(fs::remove_file(&rt, "served.img")?)

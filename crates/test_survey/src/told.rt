@@ -37,6 +37,7 @@ where
         clean: dirty.is_none(),
         dirty,
         mended: false,
+        log_bytes: 0,
     };
     let picture = Picture {
         blocks: blocks.as_slice(),
