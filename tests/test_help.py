@@ -43,6 +43,12 @@ class Help(kit.Case):
             rows = set(re.findall(r"(?m)^\s+(?:-\w, |    )?--([a-z-]+)", text))
             self.assertEqual(rows - {"help", "version"}, set(options.split()), command)
 
+    def test_no_line_is_cut(self):
+        """No line of the help has more than 80 columns."""
+        for words in ((), *((command,) for command in COMMANDS)):
+            lines = self.help_of(*words).splitlines()
+            self.assertEqual([line for line in lines if len(line) > 80], [], words)
+
     def test_the_version(self):
         """`--version` names the program, and the toolchain that proved it."""
         for word in ("--version", "-V"):

@@ -7,7 +7,7 @@ ghost use Rattle.disk_log.specs.Logs.{has_head, head_sum, is_blank};
 use crate::record::{Sum, number_at, read_sum};
 
 /// The length of a log's head in bytes.
-pub(crate) const LOG_HEAD_LEN: usize = 16;
+pub const LOG_HEAD_LEN: usize = 16;
 
 /// The first eight bytes of a log: NORBDLOG.
 const NORB: u32 = 0x4252_4F4E;

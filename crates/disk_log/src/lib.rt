@@ -33,6 +33,7 @@ mod replaying;
 mod taking;
 
 pub use file::{IMAGE_BLOCK_LEN, ImageFiles};
+pub use head::LOG_HEAD_LEN;
 pub use logged::{ImageDisk, LoggedDisk, Standing};
 pub use memory::MemoryFiles;
 pub use reading::{Found, Refusal, read_log};

@@ -1,8 +1,12 @@
 -- What an image and the log beside it hold. Source: own.
-use Rattle.std.specs.Prelude.{◌≡◌, ◌<◌, ℕ, List, length, true, false}
+use Rattle.std.specs.Prelude.{◌≡◌, ◌<◌, ℕ, List, [], ◌∷◌, length, true, false}
 use Rattle.disk_log.specs.Checkpoints.{image_sum, image_sum_in, placed_in}
 use Rattle.disk_log.specs.Logs.{has_checkpoint, has_head, head_sum, log_changes}
 use Rattle.disk_log.specs.Records.{replayed}
+
+-- NORBDLOG, what a log begins with
+abbrev pub log_name : List ℕ
+log_name = 0x4E ∷ 0x4F ∷ 0x52 ∷ 0x42 ∷ 0x44 ∷ 0x4C ∷ 0x4F ∷ 0x47 ∷ []
 
 -- contents with the changes of the records of a log of a disk of n sectors
 abbrev pub with_changes : ℕ → List ℕ → List ℕ → List ℕ

@@ -1,25 +1,27 @@
 //! What an image and the log beside it hold, and the end of the log in the image.
 
-ghost use Rattle.std.specs.Prelude.{◌≡◌, ◌<◌, IfOk, None, length};
+ghost use Rattle.std.specs.Prelude.{◌≡◌, ◌<◌, ◌⊎◌, ◌↔◌, All, IfOk, IsTrue, None, length, take};
 ghost use Rattle.block_device.specs.Facts.{IsDiskReady};
 ghost use Rattle.chip_model.specs.Geometry.{IsChipSize, sector_count};
 ghost use Rattle.disk_log.specs.Logs.{contents_in};
 ghost use Rattle.flash_disk.specs.Contents.{contents_of};
-ghost use Rattle.norbd_image.specs.Both.{IsOwn, with_changes};
+ghost use Rattle.norbd_image.specs.Both.{IsOwn, log_name, with_changes};
 
 use crate::memory::MemoryDisk;
 use block_device::Disk;
 use chip_model::Geometry;
 use chip_simulator::PromptChip;
-use disk_log::{Found, ImageFiles, LoggedDisk, Refusal, Sum, read_log, replay, take_up};
+use disk_log::{
+    Found, ImageFiles, LOG_HEAD_LEN, LoggedDisk, Refusal, Sum, read_log, replay, take_up,
+};
 use flash_disk::{FlashDisk, MountError};
 use std::alloc::{AllocError, Global};
 use std::io;
 use std::marker::Brand;
 use std::sync::ledger::{Blank, Ledger};
 
-/// The length of a log's head in bytes.
-pub const LOG_HEAD_LEN: usize = 16;
+/// What a log begins with.
+const LOG_NAME: &[u8; 8] = b"NORBDLOG";
 
 /// Why it can't be told what an image and its log hold, or why the log isn't ended.
 #[derive(Clone, Copy, Debug, PartialEq, Eq, Drop)]
@@ -45,6 +47,16 @@ impl From<AllocError> for LogError {
     fn from(_: AllocError) -> Self {
         LogError::OutOfMemory
     }
+}
+
+/// Whether bytes that are no longer than a log's head may be one: of zeros, or a beginning of one
+/// that a kill left.
+fn may_be_head(log: &[u8]) -> bool
+    ensures { IsTrue result ↔ All (λ byte. byte ≡ 0) log.now
+        ⊎ (take 8 log.now ≡ take (length log.now) log_name) }
+{
+    let named = log.len().min(LOG_NAME.len());
+    log.iter().all(|&byte| byte == 0) || log[..named] == LOG_NAME[..named]
 }
 
 /// How many sectors a chip of so many bytes has.
@@ -103,7 +115,11 @@ pub fn chip_in(alloc: Global, image: Vec<u8>, log: &[u8]) -> Result<Vec<u8>, Log
         IsOwn (sector_count (length image.items)) image.items log.now) }
 {
     if log.len() <= LOG_HEAD_LEN {
-        return Ok(image);
+        return if may_be_head(log) {
+            Ok(image)
+        } else {
+            Err(LogError::Foreign)
+        };
     }
     let mut image = image;
     match read_log(sectors_of(image.as_slice()), image.as_mut_slice(), log) {
@@ -125,7 +141,11 @@ pub fn settle_log<F: ImageFiles + Drop>(
     requires files { F.medium files ≡ None }
 {
     if log.len() <= LOG_HEAD_LEN {
-        return Ok(());
+        return if may_be_head(log) {
+            Ok(())
+        } else {
+            Err(LogError::Foreign)
+        };
     }
     let (mut files, mut image) = (files, image);
     let sectors = sectors_of(image.as_slice());

@@ -9,8 +9,8 @@
 //! (`leave_to_replace`). `hold` opens a file and takes its lock, so that one process at a
 //! time has it, and `Held::chip` is the chip in it. Beside it there is a log (`disk_log`), whose
 //! file `log_beside` opens: `chip_in` gives the chip that both hold, and `settle_log` writes it
-//! into the image. What a file of the system holds, and who has its lock, no contract can say; tests
-//! and runs show it.
+//! into the image. What a file of the system holds, and who has its lock, no contract can say;
+//! tests and runs show it.
 //!
 //! Left to the crate above: that the size is a chip's, and which bytes a file is given.
 //!
@@ -28,7 +28,8 @@ mod mended;
 mod owner;
 
 pub use beside::{FileImages, LogHandle, log_beside, log_bytes, log_path, remove_log};
-pub use both::{LOG_HEAD_LEN, LogError, begin_log, chip_in, settle_log};
+pub use both::{LogError, begin_log, chip_in, settle_log};
+pub use disk_log::LOG_HEAD_LEN;
 pub use error::ImageError;
 pub use file::{rewrite_image, write_image};
 pub use formatted::formatted_image;

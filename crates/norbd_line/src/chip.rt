@@ -43,7 +43,7 @@ pub(crate) fn yes_arg<'a>(alloc: Global) -> Arg<'a>
 {
     Arg::new(alloc, "yes")
         .long("yes")
-        .help("Erases the chip behind a programmer, which isn't done without it")
+        .help("Erases the chip behind a programmer, which isn't done\nwithout it")
         .action(ArgAction::SetTrue)
 }
 
@@ -55,7 +55,7 @@ pub(crate) fn trust_arg<'a>(alloc: Global) -> Arg<'a>
     Arg::new(alloc, "trust")
         .long("trust")
         .help(
-            "Doesn't read back what a chip behind a programmer has written: faster, and a program that the chip forgot is found later or never",
+            "Doesn't read back what a chip behind a programmer has\nwritten: faster, and a program that the chip forgot\nis found later or never",
         )
         .action(ArgAction::SetTrue)
 }
@@ -67,7 +67,7 @@ pub(crate) fn with_chip<'a>(alloc: Global, norbd: Command<'a>) -> Result<Command
 {
     let chip = Command::new(alloc, "chip")
         .about(
-            "Answers the serprog protocol for the chip in an image, as a programmer with a chip behind it.\nExample: norbd chip chip.img --port 5000, then flashrom -p serprog:ip=127.0.0.1:5000 -r copy.img",
+            "Answers the serprog protocol for the chip in an image, as a programmer\nwith a chip behind it.\nExample: norbd chip chip.img --port 5000, and then\nflashrom -p serprog:ip=127.0.0.1:5000 -r copy.img",
         )
         .after_help(AFTER_HELP)
         .arg(image_arg(alloc, "The file of the chip's bytes"))?

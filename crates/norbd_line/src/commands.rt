@@ -20,11 +20,11 @@ use std::alloc::Global;
 
 /// What `IMAGE` is where it may name a programmer too.
 const IMAGE_OR_PROGRAMMER: &str =
-    "The file of the chip's bytes, or the chip behind a programmer: tcp:HOST:PORT or serial:PATH";
+    "The file of the chip's bytes, or the chip behind a programmer:\ntcp:HOST:PORT or serial:PATH";
 
 /// What an image is, and what the exit statuses mean.
 pub(crate) const AFTER_HELP: &str =
-    "An image is a file of a flash chip's bytes, 64 KiB to 16 MiB. Exit status: 0 done, 1 a fault, which is printed, 2 a bad line.";
+    "An image is a file of a flash chip's bytes, 64 KiB to 16 MiB.\nExit status: 0 done, 1 a fault, which is printed, 2 a bad line.";
 
 /// A command line with `plain` and its arguments.
 fn with_plain<'a>(alloc: Global, norbd: Command<'a>) -> Result<Command<'a>, clap::Error>
@@ -52,7 +52,7 @@ fn with_format<'a>(alloc: Global, norbd: Command<'a>) -> Result<Command<'a>, cla
         .after_help(AFTER_HELP)
         .arg(image_arg(
             alloc,
-            "The file of the chip's bytes, where one that is there is replaced; or the chip behind a programmer: tcp:HOST:PORT or serial:PATH",
+            "The file of the chip's bytes, where one that is there is replaced; or\nthe chip behind a programmer: tcp:HOST:PORT or serial:PATH",
         ))?
         .arg(kib_arg(alloc))?
         .arg(force_arg(alloc))?
@@ -68,7 +68,7 @@ fn with_script<'a>(alloc: Global, norbd: Command<'a>) -> Result<Command<'a>, cla
 {
     let script = Command::new(alloc, "script")
         .about(
-            "Runs a script of events on a formatted chip in memory, from standard input to standard output.\nExample: norbd script --kib 64 < events.bin",
+            "Runs a script of events on a formatted chip in memory, from standard\ninput to standard output.\nExample: norbd script --kib 64 < events.bin",
         )
         .after_help(AFTER_HELP)
         .arg(kib_arg(alloc))?;
@@ -82,7 +82,7 @@ fn with_serve<'a>(alloc: Global, norbd: Command<'a>) -> Result<Command<'a>, clap
 {
     let serve = Command::new(alloc, "serve")
         .about(
-            "Serves the chip in an image file to NBD clients, on a port or a Unix socket.\nExample: norbd serve chip.img --port 10809",
+            "Serves the chip in an image file to NBD clients, on a port\nor a Unix socket.\nExample: norbd serve chip.img --port 10809",
         )
         .after_help(AFTER_HELP)
         .arg(image_arg(alloc, IMAGE_OR_PROGRAMMER))?
@@ -107,7 +107,7 @@ fn with_check<'a>(alloc: Global, norbd: Command<'a>) -> Result<Command<'a>, clap
 {
     let check = Command::new(alloc, "check")
         .about(
-            "Says whether an image would be served, and if not, why; mends one that isn't clean.\nExample: norbd check chip.img --mend",
+            "Says whether an image would be served, and if not, why; mends one\nthat isn't clean.\nExample: norbd check chip.img --mend",
         )
         .after_help(AFTER_HELP)
         .arg(image_arg(alloc, IMAGE_OR_PROGRAMMER))?
@@ -150,7 +150,7 @@ fn with_write<'a>(alloc: Global, norbd: Command<'a>) -> Result<Command<'a>, clap
 {
     let write = Command::new(alloc, "write")
         .about(
-            "Replaces the disk in an image by standard input, which has to be as long.\nExample: norbd write chip.img < disk.img",
+            "Replaces the disk in an image by standard input, which has\nto be as long.\nExample: norbd write chip.img < disk.img",
         )
         .after_help(AFTER_HELP)
         .arg(image_arg(alloc, IMAGE_OR_PROGRAMMER))?
@@ -166,7 +166,7 @@ fn with_rescue<'a>(alloc: Global, norbd: Command<'a>) -> Result<Command<'a>, cla
 {
     let rescue = Command::new(alloc, "rescue")
         .about(
-            "Writes what can be told of the disk in a damaged image to standard output, and the rest to standard error.\nExample: norbd rescue chip.img > disk.img",
+            "Writes what can be told of the disk in a damaged image to standard\noutput, and the rest to standard error.\nExample: norbd rescue chip.img > disk.img",
         )
         .after_help(AFTER_HELP)
         .arg(image_arg(alloc, "The file of the chip's bytes"))?;

@@ -89,7 +89,7 @@ pub(crate) fn conns_arg<'a>(alloc: Global) -> Arg<'a>
     Arg::new(alloc, "conns")
         .long("conns")
         .value_name("C")
-        .help("How many connections are served in all, from 1 to 64; without it, any number")
+        .help("How many connections are served in all, from 1 to 64;\nwithout it, any number")
         .action(ArgAction::Set)
         .value_parser(value_parser!(u32).range(1..=64))
 }
@@ -103,7 +103,7 @@ pub(crate) fn max_request_arg<'a>(alloc: Global) -> Arg<'a>
         .long("max-request")
         .value_name("KIB")
         .help(
-            "The longest READ or WRITE in KiB, from 64 to 32768; without it, 64 are told, 1024 taken",
+            "The longest READ or WRITE in KiB, from 64 to 32768;\nwithout it, 64 are told, 1024 taken",
         )
         .action(ArgAction::Set)
         .value_parser(value_parser!(u32).range(64..=32768))
@@ -116,7 +116,7 @@ pub(crate) fn read_only_arg<'a>(alloc: Global) -> Arg<'a>
 {
     Arg::new(alloc, "read-only")
         .long("read-only")
-        .help("Refuses whatever would change the disk, and changes nothing of the file")
+        .help("Refuses whatever would change the disk, and changes\nnothing of the file")
         .action(ArgAction::SetTrue)
 }
 
@@ -129,7 +129,7 @@ pub(crate) fn bind_arg<'a>(alloc: Global) -> Arg<'a>
         .long("bind")
         .value_name("ADDR")
         .help(
-            "The IP address of the port, 127.0.0.1 without it; whoever reaches it can read and write",
+            "The IP address of the port, 127.0.0.1 without it;\nwhoever reaches it can read and write",
         )
         .action(ArgAction::Set)
 }
@@ -142,7 +142,7 @@ pub(crate) fn unix_arg<'a>(alloc: Global) -> Arg<'a>
     Arg::new(alloc, "unix")
         .long("unix")
         .value_name("PATH")
-        .help("The Unix socket that is made for clients, in the place of a port")
+        .help("The Unix socket that is made for clients, in the\nplace of a port")
         .action(ArgAction::Set)
 }
 
@@ -155,7 +155,7 @@ pub(crate) fn sync_arg<'a>(alloc: Global) -> Arg<'a>
         .long("sync")
         .value_name("WHEN")
         .help(
-            "When the image is synced to this machine's disk: flush (as without it), never or always",
+            "When the image is synced to this machine's disk:\nflush (as without it), never or always",
         )
         .action(ArgAction::Set)
 }
@@ -169,7 +169,7 @@ pub(crate) fn tidy_arg<'a>(alloc: Global) -> Arg<'a>
         .long("tidy")
         .value_name("WHEN")
         .help(
-            "When blocks are tidied: lazy (as without it), while few slots are free, or eager, while any is dead",
+            "When blocks are tidied: lazy (as without it), while\nfew slots are free, or eager, while any is dead",
         )
         .action(ArgAction::Set)
 }
@@ -193,7 +193,7 @@ pub(crate) fn record_arg<'a>(alloc: Global) -> Arg<'a>
     Arg::new(alloc, "record")
         .long("record")
         .help(
-            "Keeps a row of each command in memory, its reply's bytes too, and tells how many they are",
+            "Keeps a row of each command in memory, its reply's\nbytes too, and tells how many they are",
         )
         .action(ArgAction::SetTrue)
 }
@@ -207,7 +207,7 @@ pub(crate) fn verbose_arg<'a>(alloc: Global) -> Arg<'a>
         .short('v')
         .long("verbose")
         .help(
-            "Tells on standard error of each connection's begin and end, and of each refused request",
+            "Tells on standard error of each connection's begin\nand end, and of each refused request",
         )
         .action(ArgAction::SetTrue)
 }
@@ -219,7 +219,7 @@ pub(crate) fn no_record_arg<'a>(alloc: Global) -> Arg<'a>
 {
     Arg::new(alloc, "no-record")
         .long("no-record")
-        .help("Keeps no row of a command, so that the memory stays the same")
+        .help("Keeps no row of a command, so that the memory\nstays the same")
         .action(ArgAction::SetTrue)
 }
 
@@ -230,7 +230,7 @@ pub(crate) fn mend_arg<'a>(alloc: Global) -> Arg<'a>
 {
     Arg::new(alloc, "mend")
         .long("mend")
-        .help("Replaces an image that isn't clean by a clean one of the same sectors")
+        .help("Replaces an image that isn't clean by a clean one of\nthe same sectors")
         .action(ArgAction::SetTrue)
 }
 
@@ -253,7 +253,7 @@ pub(crate) fn range_arg<'a>(alloc: Global) -> Arg<'a>
     Arg::new(alloc, "sectors")
         .long("sectors")
         .value_name("A:B")
-        .help("From sector A on and before sector B, counted from 0; without it, the whole disk")
+        .help("From sector A on and before sector B, counted from 0;\nwithout it, the whole disk")
         .action(ArgAction::Set)
 }
 
