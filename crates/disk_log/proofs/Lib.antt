@@ -9,3 +9,4 @@ mod Replays
 mod Disks
 mod Finding
 mod Starts
+mod Cutting

@@ -160,24 +160,3 @@ checkpoint-long n at image log (was, h) =
     let w = checkpoint-is _ _ h.0 in
     let c = take_rest log at ∙ h.2 in
     subst (λ v. 32 + 4104 * count_in v ≤ length v) (sym c) (entries-long (log_changes n log).rest w.0.head w.0.whole w.1)
-
-pub records-of : (E : Type 0) (n len : ℕ) (sum : ℕ × ℕ) (image log : List ℕ) (files : Option Medium) → OfFiles files (λ m. IsRead n image log (founds.Records len sum) m)
-    → TakesUp {E = E} files image (Ok sum) files
-records-of E n len sum image log None h = refl
-records-of E n len sum image log (Some m) h =
-    let same : m.log ≡ log = h.1 in
-    let f = h.2 in
-    let none : (log_changes n log).rest ≡ [] = sym f.4 ∙ drop_all len log (let e = h.3 in omega (arith, e)) in
-    let read = log-is n log f.0 in (
-      m,
-      refl,
-      refl,
-      record {
-        same = sym f.6;
-        head = ap (λ v. has_head v) same ∙ f.0;
-        own = ap (λ v. head_sum v) same ∙ (f.2 ∙ ap (λ v. image_sum v) (sym f.6));
-        whole = subst (λ (v : ℕ × List ℕ). IsWholeLog v.0 (head_sum v.1) (drop 16 v.1) sum) (sym (ap (λ k. (k, m.log)) h.0 ∙ ap (λ v. (n, v)) same))
-            (record { rest = ap (λ (v : LogReading). v.rest) (sym read) ∙ none; sum = ap (λ (v : LogReading). v.sum) (sym read) ∙ sym f.5 });
-      },
-      λ represents. refl,
-    )

@@ -41,16 +41,10 @@ ReadsPlaced at b image (Ok found) image' = (found ≡ Checkpoint at) × (image' 
 ReadsPlaced at b image (Err refusal) image' = (refusal ≡ Another) × (image' ≡ placed_in b image)
     × (image_sum_in b ≡ image_sum image' → ⊥)
 
--- how many bytes the log has where only changes were found: what was behind them was cut off
-abbrev pub EndsThere : Found → List ℕ → Type 0
-EndsThere Nothing log = Unit {0}
-EndsThere (Records len sum) log = len ≡ length log
-EndsThere (Checkpoint at) log = Unit {0}
-
 -- two files are those of a reading, of a disk of n sectors, that left these bytes of the image
 abbrev pub IsRead : ℕ → List ℕ → List ℕ → Found → Medium → Type 0
 IsRead n image log found m = (m.sectors ≡ n) × (m.log ≡ log)
-    × ReadsLog n log m.image (Ok found) image × EndsThere found log
+    × ReadsLog n log m.image (Ok found) image
 
 -- what a start that takes up a log leaves of the files: one that was begun on the image as it is in
 -- memory, or, where a call failed, what they held

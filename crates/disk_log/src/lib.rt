@@ -13,8 +13,7 @@
 //! is taken nor one of an older log. Where bytes of its middle may be lost, as by the host's power,
 //! that it doesn't have its sum by chance is a premise; where a write ends early it is none.
 //!
-//! Left to the crate above: the files, when the log is synced, and that what is behind the changes
-//! of a log is cut off before it is taken up. No command uses it yet.
+//! Left to the crate above: the files, and when the log is synced. No command uses it yet.
 //!
 //! Source: own; the sum is that of SQLite's write-ahead log.
 

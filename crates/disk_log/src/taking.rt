@@ -12,8 +12,8 @@ use crate::record::{Sum, number_at};
 use std::io;
 
 /// Makes a log that a start found ready for more: places the blocks of a checkpoint in the image
-/// and begins the log anew, or begins one. What is behind its changes was cut off before. `image`
-/// has the bytes that the reading left. The sum is that on which the next record goes on. Where a
+/// and begins the log anew, cuts off what is behind its changes, or begins one. `image` has the
+/// bytes that the reading left. The sum is that on which the next record goes on. Where a
 /// call fails, the files hold what they did.
 pub fn take_up<F: ImageFiles>(
     files: &mut F,
@@ -29,7 +29,7 @@ pub fn take_up<F: ImageFiles>(
 {
     match found {
         Found::Nothing => take_blank(files, image),
-        Found::Records { sum, .. } => Ok(sum),
+        Found::Records { len, sum } => take_records(files, sectors, image, log, len, sum),
         Found::Checkpoint { at } => take_checkpoint(files, image, &log[at..]),
     }
 }
@@ -42,6 +42,24 @@ fn take_blank<F: ImageFiles>(files: &mut F, image: &[u8]) -> io::Result<Sum>
     files.sync_image()?;
     files.cut_log(0)?;
     begin_log(files, image)
+}
+
+/// Cuts off what is behind the changes of a log.
+fn take_records<F: ImageFiles>(
+    files: &mut F,
+    sectors: u32,
+    image: &[u8],
+    log: &[u8],
+    len: usize,
+    sum: Sum,
+) -> io::Result<Sum>
+    requires { OfFiles (F.medium files.old)
+        (λ m. IsRead sectors image.now log.now (Found.Records len sum) m) }
+    ensures { TakesUp (F.medium files.old) image.now result (F.medium files.new) }
+{
+    files.sync_image()?;
+    files.cut_log(len)?;
+    Ok(sum)
 }
 
 /// Places the blocks of a checkpoint, and begins the log anew.
