@@ -189,6 +189,7 @@ fn serving_without_memory_says_so(rt: HostRuntime) -> Result<(), Fail> {
         read_only: false,
         verbose: true,
         trust: false,
+        status: None,
     });
     // the barrier, 512 bytes and 16 of its own, and the chip; a copy of it that is looked at. What
     // follows fits where that was
