@@ -66,9 +66,11 @@ class Completions(kit.Case):
         for command, text in self.helps.items():
             options, with_values = options_in(text)
             self.wanted[f"norbd {command} -"] = options
-            self.wanted[f"norbd {command} 1"] = {"1.img"} if "<IMAGE>" in text else set()
+            self.wanted[f"norbd {command} 1"] = (
+                {"1.img"} if re.search("<(IMAGE|PATH)>\n", text) else set())
             for option in with_values:
-                values = {"1.img"} if option == "--unix" else self.words_of(command, option)
+                values = ({"1.img"} if option in ("--unix", "--status")
+                          else self.words_of(command, option))
                 self.wanted[f"norbd {command} {option} "] = values
                 self.wanted[f"norbd {command} {option}="] = values
 

@@ -6,7 +6,7 @@ import unittest
 
 import kit
 
-COMMANDS = ("plain", "format", "script", "serve", "chip", "check", "show", "read", "write",
+COMMANDS = ("plain", "format", "script", "serve", "status", "chip", "check", "show", "read", "write",
             "rescue")
 MAN = os.path.join(kit.ROOT, "docs/man/norbd.1")
 
@@ -35,8 +35,9 @@ class Help(kit.Case):
         """Each command's help has these options, and no others."""
         wanted = {
             "plain": "sectors no-record", "format": "kib force yes", "script": "kib",
-            "serve": "port bind unix conns record sync tidy max-request read-only verbose trust",
-            "chip": "port conns", "check": "mend json", "show": "", "read": "sectors",
+            "serve": "port bind unix conns record sync tidy max-request read-only verbose trust "
+                     "status",
+            "status": "json", "chip": "port conns", "check": "mend json", "show": "", "read": "sectors",
             "write": "sectors", "rescue": ""}
         for command, options in wanted.items():
             text = self.help_of(command).split("Options:")[-1]

@@ -15,6 +15,8 @@ def slots_of(image, sectors=range(70)):
         kit.set_slot(image, 4 + at // 7, at % 7, number, nbd.sector(number))
     return image
 
+IN_USE = "image in use: a.img: norbd status looks at one that is served with --status"
+
 
 class Locked(kit.Case):
     def test_one_owner(self):
@@ -29,7 +31,7 @@ class Locked(kit.Case):
                          "check a.img --mend", "check a.img --json", "show a.img", "read a.img",
                          "rescue a.img",
                          "write a.img", f"chip a.img --port {kit.free_port()}"):
-                self.refused("image in use: a.img", *line.split())
+                self.refused(IN_USE, *line.split())
             self.assertEqual(self.bytes_of("a.img"), before)
             self.assertEqual(server.client().read(0), bytes(512))
             server.kill()
@@ -39,7 +41,7 @@ class Locked(kit.Case):
         """`chip` holds the image's lock."""
         self.format()
         self.start("chip", "a.img", "--port", str(kit.free_port())).stdout.readline()
-        self.refused("image in use: a.img", "serve", "a.img", "--unix", "a.sock")
+        self.refused(IN_USE, "serve", "a.img", "--unix", "a.sock")
 
     def test_a_missing_image_is_not_made(self):
         """Nothing but `format` makes an image."""

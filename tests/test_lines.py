@@ -149,12 +149,13 @@ class Lines(kit.Case):
 
     def test_empty_names(self):
         """An image without a name is refused with status 2 by each command, and an empty path of a
-        socket, at which nobody would find the server."""
+        socket, at which nobody would find the server or its status."""
         for line in (["serve", "", "--unix", "a.sock"], ["serve", "", "--port", "10809"],
                      ["chip", "", "--port", "10809"], ["format", "", "--kib", "64"], ["check", ""],
                      ["check", "", "--mend", "--json"], ["show", ""], ["read", ""],
-                     ["write", "", "--sectors", "0:1"]):
-            self.refused("the image's name is empty", *line, status=2)
+                     ["write", "", "--sectors", "0:1"], ["status", ""],
+                     ["serve", "a.img", "--unix", "a.sock", "--status", ""]):
+            self.refused("a file's name is empty", *line, status=2)
         self.refused("bad size: 65 is no multiple of 64", "format", "", "--kib", "65", status=2)
         for line in (["serve", "a.img", "--unix", ""], ["serve", "", "--unix", ""]):
             self.refused(ADDRESS, *line, status=2)

@@ -14,16 +14,17 @@ _norbd() {
         --sync,*) words='flush always never' ;;
         --tidy,*) words='lazy eager' ;;
         --port,* | --bind,* | --conns,* | --kib,* | --max-request,* | --sectors,*) ;;
-        --unix,*) kind=-f ;;
+        --unix,* | --status,*) kind=-f ;;
         *,,-*) words='--help --version -h -V' ;;
-        *,,* | *,help,*) words='chip plain format script serve check show read write
-            rescue help' ;;
+        *,,* | *,help,*) words='chip plain format script serve status check show read
+            write rescue help' ;;
         *,chip,-*) words='--port --conns --help -h' ;;
         *,plain,-*) words='--sectors --no-record --help -h' ;;
         *,format,-*) words='--kib --force --yes --help -h' ;;
         *,script,-*) words='--kib --help -h' ;;
         *,serve,-*) words='--port --bind --unix --conns --record --sync --tidy --max-request
-            --read-only --verbose --trust --help -v -h' ;;
+            --read-only --verbose --trust --status --help -v -h' ;;
+        *,status,-*) words='--json --help -h' ;;
         *,check,-*) words='--mend --json --help -h' ;;
         *,show,-* | *,rescue,-*) words='--help -h' ;;
         *,read,-* | *,write,-*) words='--sectors --help -h' ;;

@@ -15,6 +15,7 @@ __norbd_command plain 'Serve a disk in memory over standard input and output'
 __norbd_command format 'Make the file of a formatted chip'
 __norbd_command script 'Run a script of events on a chip in memory'
 __norbd_command serve 'Serve the chip in an image to NBD clients'
+__norbd_command status 'Say what a server does'
 __norbd_command check 'Say whether an image would be served'
 __norbd_command show 'Draw the blocks of an image'
 __norbd_command read 'Write the disk in an image to standard output'
@@ -27,8 +28,8 @@ functions -e __norbd_command
 function __norbd_option
     complete -c norbd -n "__fish_seen_subcommand_from $argv[1]" $argv[2..-1]
 end
-__norbd_option 'chip plain format script serve check show read write rescue' -s h -l help -d 'Print help'
-__norbd_option 'chip format serve check show read write rescue' -F
+__norbd_option 'chip plain format script serve status check show read write rescue' -s h -l help -d 'Print help'
+__norbd_option 'chip format serve status check show read write rescue' -F
 __norbd_option 'chip serve' -l port -x -d 'Port to listen on'
 __norbd_option 'chip serve' -l conns -x -d 'Connections in all, up to 64'
 __norbd_option 'format script' -l kib -x -d 'Size in KiB, a multiple of 64 up to 16384'
@@ -45,7 +46,8 @@ __norbd_option serve -l max-request -x -d 'Longest READ or WRITE in KiB, 64 to 3
 __norbd_option serve -l read-only -d 'Refuse whatever would change the disk'
 __norbd_option serve -s v -l verbose -d 'Tell of connections and refused requests'
 __norbd_option serve -l trust -d 'Do not read back what was written to a chip behind a programmer'
+__norbd_option serve -l status -r -F -d 'Unix socket at which norbd status asks'
 __norbd_option check -l mend -d 'Replace an image that is not clean'
-__norbd_option check -l json -d 'Tell it in JSON'
+__norbd_option 'status check' -l json -d 'Tell it in JSON'
 __norbd_option 'read write' -l sectors -x -d 'From sector A on and before B, as A:B'
 functions -e __norbd_option

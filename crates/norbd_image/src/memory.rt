@@ -7,6 +7,7 @@ use chip_model::SpiBus;
 use chip_simulator::PromptChip;
 use disk_log::ImageDisk;
 use flash_disk::{FlashDisk, Provenance};
+use norbd_status::CountedBus;
 
 /// A bus whose chip's memory can be looked at.
 pub trait MemoryBus: SpiBus {
@@ -20,6 +21,12 @@ pub trait MemoryBus: SpiBus {
 impl MemoryBus for PromptChip {
     fn memory(&self) -> &[u8] {
         self.bytes()
+    }
+}
+
+impl<B: MemoryBus> MemoryBus for CountedBus<B> {
+    fn memory(&self) -> &[u8] {
+        self.get_ref().memory()
     }
 }
 

@@ -7,7 +7,7 @@ use Rattle.norbd_line.specs.Line.{HasOddSize, IsLineInRange, IsLineOf, IsOddSize
 use Rattle.norbd_line.specs.declared.fault.Fault.{Fault}
 use Rattle.norbd_line.specs.declared.fault.Fault.TheVariants.{Words, NoMemory, BadSize, InputFailed, OutputFailed, ImageFailed, WrongId, BadSfdp, Protected, Slow, BadRecord, NotFormatted, Corrupt, NotClean, BadImageSize, NoSocket, NoThread, BadSync, NotText, EmptyName, InUse, Formatted, NotEmpty, BadAddress, BadTidy, BadRange, BadInput}
 use Rattle.norbd_line.specs.declared.line.Line.{Line}
-use Rattle.norbd_line.specs.declared.line.Line.TheVariants.{Plain, Format, Script, Serve, Check, Show, Read, Write, Rescue, Chip}
+use Rattle.norbd_line.specs.declared.line.Line.TheVariants.{Plain, Format, Script, Serve, Status, Check, Show, Read, Write, Rescue, Chip}
 
 -- the words name one command
 same_name : (words : List Text) (n m : Text) (rows others : List Row) → Names words n rows → Names words m others → n ≡ m
@@ -39,6 +39,11 @@ serve_takes_no_size : TakesSize (codes "serve") → ⊥
 unfolding first_of_name second_of_name
 serve_takes_no_size (inl e) = let first : 115 ≡ 102 = ap first_of_name e in omega (arith, first)
 serve_takes_no_size (inr e) = let second : 101 ≡ 99 = ap second_of_name e in omega (arith, second)
+
+status_takes_no_size : TakesSize (codes "status") → ⊥
+unfolding first_of_name second_of_name
+status_takes_no_size (inl e) = let first : 115 ≡ 102 = ap first_of_name e in omega (arith, first)
+status_takes_no_size (inr e) = let second : 116 ≡ 99 = ap second_of_name e in omega (arith, second)
 
 check_takes_no_size : TakesSize (codes "check") → ⊥
 unfolding first_of_name
@@ -89,6 +94,9 @@ no_odd_line words (Script kib) range line odd_kib odd =
 no_odd_line words (Serve asked) range line odd_kib odd =
     let name = same_name words line.0 odd.0 line.1 odd.1 line.2 odd.2 in
     serve_takes_no_size (subst TakesSize (sym name ∙ line.3.0) odd.3.0)
+no_odd_line words (Status path tells_json) range line odd_kib odd =
+    let name = same_name words line.0 odd.0 line.1 odd.1 line.2 odd.2 in
+    status_takes_no_size (subst TakesSize (sym name ∙ line.3.0) odd.3.0)
 no_odd_line words (Check image mends tells_json) range line odd_kib odd =
     let name = same_name words line.0 odd.0 line.1 odd.1 line.2 odd.2 in
     check_takes_no_size (subst TakesSize (sym name ∙ line.3.0) odd.3.0)

@@ -60,6 +60,10 @@ verbose_rule = record (flag_rule (codes "verbose")) { short = Some 118 }
 abbrev pub image_rule : Rule
 image_rule = record (new_rule (codes "IMAGE")) { action = Some Set; required = true }
 
+-- `PATH` of `status`: required, one text at its place
+abbrev pub status_path_rule : Rule
+status_path_rule = record (new_rule (codes "PATH")) { action = Some Set; required = true }
+
 -- `plain --sectors S [--no-record]`
 abbrev pub plain_app : App
 plain_app = with_rule (with_rule (new_app (codes "plain")) sectors_rule)
@@ -85,14 +89,20 @@ placed_app = with_rule (with_rule (with_rule (with_rule (new_app (codes "serve")
     port_rule) (text_rule (codes "bind"))) (text_rule (codes "unix"))
 
 -- and how: `[--conns C] [--record] [--sync WHEN] [--tidy WHEN] [--max-request KIB] [--read-only]
--- [-v]`, and `[--trust]`
+-- [-v]`, and `[--trust] [--status PATH]`
 abbrev pub served_app : App
 served_app = with_rule (with_rule (with_rule (with_rule (with_rule (with_rule (with_rule placed_app
     conns_rule) (flag_rule (codes "record"))) (text_rule (codes "sync")))
     (text_rule (codes "tidy"))) max_request_rule) (flag_rule (codes "read-only"))) verbose_rule
 
 abbrev pub serve_app : App
-serve_app = with_rule served_app (flag_rule (codes "trust"))
+serve_app = with_rule (with_rule served_app (flag_rule (codes "trust")))
+    (text_rule (codes "status"))
+
+-- `status PATH [--json]`
+abbrev pub status_app : App
+status_app = with_rule (with_rule (new_app (codes "status")) status_path_rule)
+    (flag_rule (codes "json"))
 
 -- `check IMAGE [--mend] [--json]`
 abbrev pub check_app : App
@@ -132,8 +142,9 @@ with_image_apps app = with_subcommand (with_subcommand (with_subcommand (with_su
 
 -- the whole command line
 abbrev pub norbd_app : App
-norbd_app = with_image_apps (with_subcommand (with_subcommand (with_subcommand
+norbd_app = with_image_apps (with_subcommand (with_subcommand (with_subcommand (with_subcommand
     (with_subcommand begun_app plain_app.top) format_app.top) script_app.top) serve_app.top)
+    status_app.top)
 
 -- the words as texts
 abbrev pub texts_of : {Z : Type 0} → List (String Z) → List Text

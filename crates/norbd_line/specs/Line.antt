@@ -9,7 +9,7 @@ use Rattle.norbd_line.specs.declared.chip.ChipLine.{ChipLine}
 use Rattle.norbd_line.specs.declared.line.Line.{Line}
 use Rattle.norbd_line.specs.declared.line.Line.TheVariants.{Chip, Plain, Format, Script, Serve}
 use Rattle.norbd_line.specs.declared.line.Line.TheVariants.{Check, Show, Read, Write}
-use Rattle.norbd_line.specs.declared.line.Line.TheVariants.{Rescue}
+use Rattle.norbd_line.specs.declared.line.Line.TheVariants.{Rescue, Status}
 use Rattle.norbd_line.specs.declared.line.Place.{Place}
 use Rattle.norbd_line.specs.declared.line.Place.TheVariants as places
 use Rattle.norbd_line.specs.declared.line.ServeLine.{ServeLine}
@@ -59,6 +59,7 @@ IsLineInRange (Plain sectors keeps_rows) = (1 ≤ sectors) × (sectors ≤ 65536
 IsLineInRange (Format image kib forced sure) = IsSize kib
 IsLineInRange (Script kib) = IsSize kib
 IsLineInRange (Serve asked) = IsServeInRange asked
+IsLineInRange (Status path tells_json) = Unit {0}
 IsLineInRange (Check image mends tells_json) = Unit {0}
 IsLineInRange (Show image) = Unit {0}
 IsLineInRange (Read image range) = Unit {0}
@@ -139,6 +140,10 @@ IsLineIn name rows (Serve asked) =
     × IsSet (codes "read-only") rows asked.read_only
     × IsSet (codes "verbose") rows asked.verbose
     × IsSet (codes "trust") rows asked.trust
+    × (first_of (codes "status") rows ≡ option_map (λ text. text.now) asked.status)
+IsLineIn name rows (Status path tells_json) =
+    (name ≡ codes "status") × (first_of (codes "PATH") rows ≡ Some path.now)
+    × IsSet (codes "json") rows tells_json
 IsLineIn name rows (Check image mends tells_json) =
     (name ≡ codes "check") × (first_of (codes "IMAGE") rows ≡ Some image.now)
     × IsSet (codes "mend") rows mends × IsSet (codes "json") rows tells_json
@@ -173,20 +178,25 @@ abbrev pub IsLineOf : List Text → Line → Type 0
 IsLineOf words line = (name : Text) × (rows : List Row) × Names words name rows
     × IsLineIn name rows line
 
--- the image of the line, where it has one, has a name
+-- the image of a line `serve` has a name, and so has its socket for a status, where it has one
+abbrev pub IsServeNamed : ServeLine → Type 0
+IsServeNamed asked = (asked.image.now ≢ []) × IfSome asked.status (λ path. path.now ≢ [])
+
+-- the image or the socket of the line, where it has one, has a name
 abbrev pub IsNamed : Line → Type 0
 IsNamed (Chip asked) = asked.image.now ≢ []
 IsNamed (Plain sectors keeps_rows) = Unit {0}
 IsNamed (Format image kib forced sure) = image.now ≢ []
 IsNamed (Script kib) = Unit {0}
-IsNamed (Serve asked) = asked.image.now ≢ []
+IsNamed (Serve asked) = IsServeNamed asked
+IsNamed (Status path tells_json) = path.now ≢ []
 IsNamed (Check image mends tells_json) = image.now ≢ []
 IsNamed (Show image) = image.now ≢ []
 IsNamed (Read image range) = image.now ≢ []
 IsNamed (Write image range) = image.now ≢ []
 IsNamed (Rescue image) = image.now ≢ []
 
--- the words say a line, with its numbers in their ranges, whose image has no name
+-- the words say a line, with its numbers in their ranges, whose image or socket has no name
 abbrev pub HasEmptyName : List Text → Type 0
 HasEmptyName words = (line : Line) × IsLineOf words line × IsLineInRange line
     × (IsNamed line → ⊥)

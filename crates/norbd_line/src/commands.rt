@@ -5,14 +5,14 @@ ghost use Rattle.clap.specs.Words.{subcommand_rows_of, with_subcommand};
 ghost use Rattle.norbd_line.specs.CommandLine.{norbd_app, check_app, format_app, plain_app};
 ghost use Rattle.norbd_line.specs.CommandLine.{script_app, read_app, show_app, with_image_apps};
 ghost use Rattle.norbd_line.specs.CommandLine.{write_app, rescue_app, begun_app, serve_app};
-ghost use Rattle.norbd_line.specs.CommandLine.{texts_of};
+ghost use Rattle.norbd_line.specs.CommandLine.{status_app, texts_of};
 
 use crate::Fault;
 use crate::chip::{trust_arg, with_chip, yes_arg};
 use crate::options::{
     bind_arg, conns_arg, force_arg, image_arg, json_arg, kib_arg, max_request_arg, mend_arg,
-    no_record_arg, port_arg, range_arg, read_only_arg, record_arg, sectors_arg, sync_arg, tidy_arg,
-    unix_arg, verbose_arg,
+    no_record_arg, port_arg, range_arg, read_only_arg, record_arg, sectors_arg, status_arg,
+    status_path_arg, sync_arg, tidy_arg, unix_arg, verbose_arg,
 };
 use clap::error::ErrorKind;
 use clap::{ArgMatches, Command};
@@ -96,8 +96,25 @@ fn with_serve<'a>(alloc: Global, norbd: Command<'a>) -> Result<Command<'a>, clap
         .arg(max_request_arg(alloc))?
         .arg(read_only_arg(alloc))?
         .arg(verbose_arg(alloc))?
-        .arg(trust_arg(alloc))?;
+        .arg(trust_arg(alloc))?
+        .arg(status_arg(alloc))?;
     Ok(norbd.subcommand(serve)?)
+}
+
+/// A command line with `status` and its arguments.
+fn with_status<'a>(alloc: Global, norbd: Command<'a>) -> Result<Command<'a>, clap::Error>
+    ensures app { IfOk result (λ c. app_of c
+        ≡ with_subcommand (app_of norbd.entry) status_app.top) }
+    ensures memory { IfErr result (λ e. kind_of e ≡ ErrorKind.OutOfMemory) }
+{
+    let status = Command::new(alloc, "status")
+        .about(
+            "Says what a server does that was started with --status PATH.\nExample: norbd status chip.status",
+        )
+        .after_help(AFTER_HELP)
+        .arg(status_path_arg(alloc))?
+        .arg(json_arg(alloc))?;
+    Ok(norbd.subcommand(status)?)
 }
 
 /// A command line with `check` and its arguments.
@@ -211,6 +228,7 @@ fn whole_command<'a>(alloc: Global) -> Result<Command<'a>, clap::Error>
     let norbd = with_format(alloc, norbd)?;
     let norbd = with_script(alloc, norbd)?;
     let norbd = with_serve(alloc, norbd)?;
+    let norbd = with_status(alloc, norbd)?;
     with_image_lines(alloc, norbd)
 }
 

@@ -7,18 +7,35 @@ use std::fmt;
 use std::io::ErrorKind;
 use thiserror::Error;
 
+/// Why a Unix socket can't be had, or isn't a server's status.
+#[derive(Clone, Copy, Debug, PartialEq, Eq, Drop, Error)]
+pub enum SocketCause {
+    /// The system's answer to making it or connecting to it.
+    #[error("{}", Answer(*.0))]
+    System(ErrorKind),
+    /// Its path is too long. Source: unix(7), `sun_path`.
+    #[error("a socket's path has at most 107 bytes")]
+    LongPath,
+    /// Something that is no socket is at the path.
+    #[error("what is there is no socket")]
+    NotASocket,
+    /// What answers there doesn't tell what a server of this version does.
+    #[error("what answers there tells no status")]
+    NotAStatus,
+}
+
 /// What is known of why a file or a socket failed. Its text stands behind that of the fault.
 #[derive(Clone, Copy, Debug, PartialEq, Eq, Drop, Error)]
 pub enum Cause {
     /// The system's answer to opening, locking, making or binding it.
     #[error("{}", Answer(*.0))]
     System(ErrorKind),
-    /// The path of a Unix socket is too long. Source: unix(7), `sun_path`.
-    #[error("a socket's path has at most 107 bytes")]
-    LongPath,
-    /// Something that is no socket is at the path.
-    #[error("what is there is no socket")]
-    NotASocket,
+    /// The Unix socket for clients can't be had.
+    #[error("{0}")]
+    Socket(SocketCause),
+    /// The one at which a server says what it does can't be had.
+    #[error("{0}")]
+    Status(SocketCause),
     /// What is at the path is no regular file.
     #[error("not a regular file")]
     NotAFile,
@@ -71,8 +88,8 @@ pub enum Fault {
     /// A word, as the name of a file, isn't text (UTF-8).
     #[error("a word is not UTF-8")]
     NotText,
-    /// The name of the image is empty.
-    #[error("the image's name is empty")]
+    /// The name of the image, or of the socket of a server's status, is empty.
+    #[error("a file's name is empty")]
     EmptyName,
     /// Memory ran out.
     #[error("no memory")]

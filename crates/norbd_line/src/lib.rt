@@ -1,11 +1,11 @@
 //! The words of the program `norbd`, read into a `Line`, and the program's faults.
 //!
-//! Promised to the program above: a line (`chip`, `plain`, `format`, `script`, `serve`, `check`,
-//! `show`, `read` or `write`) that `read_line` answers has its numbers in their ranges
-//! (`IsLineInRange`) and is what the words say (`IsLineOf`); a fault that it answers is one that
-//! the words have, a number in its range that is no size of a chip, a word that says no
-//! syncing or no tidying, no place to listen at, an image without a name, or want of memory
-//! (`ComesFromWords`), and such a number is never taken, for a file nor for a script
+//! Promised to the program above: a line (`chip`, `plain`, `format`, `script`, `serve`, `status`,
+//! `check`, `show`, `read`, `write` or `rescue`) that `read_line` answers has its numbers in their
+//! ranges (`IsLineInRange`) and is what the words say (`IsLineOf`); a fault that it answers is one
+//! that the words have, a number in its range that is no size of a chip, a word that says no
+//! syncing or no tidying, no place to listen at, an image or a socket without a name, or want of
+//! memory (`ComesFromWords`), and such a number is never taken, for a file nor for a script
 //! (`HasOddSize`). What words say, and which faults they have, are `clap`'s definitions at the
 //! command line that `norbd_app` writes out.
 //! `Fault::status` is the exit status by the table `HasStatus`. Tests show the texts of faults.
@@ -26,6 +26,6 @@ mod options;
 pub use answer::Answer;
 pub use cause::ChipCause;
 pub use chip::ChipLine;
-pub use fault::{Cause, Fault, InputLength};
+pub use fault::{Cause, Fault, InputLength, SocketCause};
 pub use line::{Line, Place, ServeLine, SyncPolicy, TidyPolicy, read_line};
 pub use options::MOST_CONNS;

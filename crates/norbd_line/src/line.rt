@@ -4,7 +4,7 @@ ghost use Rattle.clap.specs.Words.{found_of, rows_of};
 ghost use Rattle.norbd_line.specs.CommandLine.{texts_of};
 ghost use Rattle.norbd_line.specs.Fault.{ComesFromMatches, ComesFromWords};
 ghost use Rattle.norbd_line.specs.Line.{HasOddSize, IsLineInRange, IsLineIn, IsLineOf, HasNoPlace};
-ghost use Rattle.norbd_line.specs.Line.{IsNamed, IsPlace, IsPlaceIn};
+ghost use Rattle.norbd_line.specs.Line.{IsNamed, IsPlace, IsPlaceIn, IsServeNamed};
 
 use crate::Fault;
 use crate::chip::{ChipLine, chip_line};
@@ -44,9 +44,15 @@ pub enum Line<'a> {
         kib: u32,
     },
     /// `serve IMAGE --port P [--bind ADDR]`, or with `--unix PATH` in their place, and `[--conns C]
-    /// [--record] [--sync WHEN] [--tidy WHEN] [--max-request KIB] [--read-only] [-v]`: serve the
-    /// chip in an image.
+    /// [--record] [--sync WHEN] [--tidy WHEN] [--max-request KIB] [--read-only] [-v] [--status
+    /// PATH]`: serve the chip in an image.
     Serve(ServeLine<'a>),
+    /// `status PATH [--json]`: say what the server does whose Unix socket for that is at the path
+    /// `path`; tell it in JSON where `json` is set.
+    Status {
+        path: &'a str,
+        json: bool,
+    },
     /// `check IMAGE [--mend] [--json]`: say whether the image in the file at the path `image` would
     /// be served, and if not, why; mend it where `mend` is set; tell in JSON where `json` is.
     Check {
@@ -82,7 +88,8 @@ pub enum Line<'a> {
 /// and WRITEs of `max_request` KiB at most, from 64 to 32,768, or of 1,024 where it is `None`, of
 /// which clients are told 64; without
 /// changing anything where `read_only` is set; to tell of each connection and each refused request
-/// where `verbose` is; and to believe a chip behind a programmer its changes where `trust` is.
+/// where `verbose` is; to believe a chip behind a programmer its changes where `trust` is; and to
+/// say what it does at the Unix socket `status`, where there is one.
 #[derive(Debug, Clone, Copy, PartialEq, Eq)]
 pub struct ServeLine<'a> {
     pub image: &'a str,
@@ -95,6 +102,7 @@ pub struct ServeLine<'a> {
     pub read_only: bool,
     pub verbose: bool,
     pub trust: bool,
+    pub status: Option<&'a str>,
 }
 
 /// Where clients connect to.
@@ -241,7 +249,24 @@ fn serve_line<'a>(matches: &ArgMatches<'a>) -> Result<Line<'a>, Fault>
         read_only: flag(matches, "read-only"),
         verbose: flag(matches, "verbose"),
         trust: flag(matches, "trust"),
+        status: text_of(matches, "status"),
     }))
+}
+
+/// The line of `status`. The parse refuses words without a path, so the arm for them answers
+/// `NoMemory`.
+fn status_line<'a>(matches: &ArgMatches<'a>) -> Result<Line<'a>, Fault>
+    ensures range { IfOk result IsLineInRange }
+    ensures line { IfOk result (IsLineIn (codes "status") (rows_of (found_of matches.now))) }
+    ensures fault { IfErr result (λ e. e ≡ Fault.NoMemory) }
+{
+    match matches.get_str("PATH") {
+        Some(path) => Ok(Line::Status {
+            path,
+            json: flag(matches, "json"),
+        }),
+        None => Err(Fault::NoMemory),
+    }
 }
 
 /// The line of `check`. The parse refuses words without a path, so the arm for them answers
@@ -335,6 +360,8 @@ fn line_of<'a>(name: &str, matches: &ArgMatches<'a>) -> Result<Line<'a>, Fault>
         serve_line(matches)
     } else if name == "check" {
         check_line(matches)
+    } else if name == "status" {
+        status_line(matches)
     } else {
         image_line(name, matches)
     }
@@ -360,7 +387,21 @@ fn image_line<'a>(name: &str, matches: &ArgMatches<'a>) -> Result<Line<'a>, Faul
     }
 }
 
-/// Whether the image of a line has an empty name.
+/// Whether the image of a line `serve`, or the socket at which it says what it does, has an empty
+/// name.
+fn is_serve_nameless(asked: ServeLine<'_>) -> bool
+    ensures { MatchBool result (IsServeNamed asked.entry → ⊥) (IsServeNamed asked.entry) }
+{
+    if asked.image.is_empty() {
+        return true;
+    }
+    match asked.status {
+        Some(path) => path.is_empty(),
+        None => false,
+    }
+}
+
+/// Whether the image or the socket of a line has an empty name.
 fn is_nameless(line: Line<'_>) -> bool
     ensures { MatchBool result (IsNamed line.entry → ⊥) (IsNamed line.entry) }
 {
@@ -369,7 +410,8 @@ fn is_nameless(line: Line<'_>) -> bool
         Line::Plain { .. } => false,
         Line::Format { image, .. } => image.is_empty(),
         Line::Script { .. } => false,
-        Line::Serve(asked) => asked.image.is_empty(),
+        Line::Serve(asked) => is_serve_nameless(asked),
+        Line::Status { path, .. } => path.is_empty(),
         Line::Check { image, .. } => image.is_empty(),
         Line::Show { image } => image.is_empty(),
         Line::Read { image, .. } => image.is_empty(),
@@ -378,7 +420,7 @@ fn is_nameless(line: Line<'_>) -> bool
     }
 }
 
-/// A line whose image has a name, if it has one.
+/// A line whose image and socket have names, where it has them.
 fn named(line: Line<'_>) -> Result<Line<'_>, Fault>
     ensures named { IfOk result (λ it. (it ≡ line.entry) × IsNamed line.entry) }
     ensures fault { IfErr result (λ e. (e ≡ Fault.EmptyName) × (IsNamed line.entry → ⊥)) }
@@ -415,9 +457,9 @@ fn line_or_fault<'a>(alloc: Global, words: &'a [String]) -> Result<Line<'a>, Fau
 /// the number after `--kib` is from 64 to 16,384 and no multiple of 64, `BadAddress` where `serve`
 /// has neither a port nor a Unix socket, or both, or an empty path, `BadSync` where the word after
 /// `--sync` is none that says when, `BadTidy` likewise after `--tidy`, `EmptyName` where the path
-/// of the image is empty, `NoMemory` where memory ran out. The parse refuses words without a
-/// command, a path or a number in its range, so what comes then isn't reached; it needs some
-/// fault, and answers `NoMemory`.
+/// of the image or of a server's status is empty, `NoMemory` where memory ran out. The parse
+/// refuses words without a command, a path or a number in its range, so what comes then isn't
+/// reached; it needs some fault, and answers `NoMemory`.
 pub fn read_line<'a>(alloc: Global, words: &'a [String]) -> Result<Line<'a>, Fault>
     ensures range { IfOk result IsLineInRange }
     ensures line { IfOk result (IsLineOf (texts_of words.now)) }

@@ -3,7 +3,7 @@ ghost use Rattle.std.specs.Prelude.{◌≡◌, ◌≤◌, IfErr, IfOk, IfSome, S
 ghost use Rattle.clap.specs.Words.{Text, found_of, one_text, first_of, rows_of, rule_of};
 ghost use Rattle.norbd_line.specs.CommandLine.{conns_rule, flag_rule, image_rule, kib_rule};
 ghost use Rattle.norbd_line.specs.CommandLine.{port_rule, sectors_rule, max_request_rule};
-ghost use Rattle.norbd_line.specs.CommandLine.{text_rule, verbose_rule};
+ghost use Rattle.norbd_line.specs.CommandLine.{status_path_rule, text_rule, verbose_rule};
 ghost use Rattle.norbd_line.specs.Fault.{ComesFromMatches};
 ghost use Rattle.norbd_line.specs.Line.{IsPort, IsSet, IsSize, TakesSize, number_in, number_of};
 ghost use Rattle.norbd_line.specs.Line.{sync_in, tidy_in};
@@ -210,6 +210,29 @@ pub(crate) fn verbose_arg<'a>(alloc: Global) -> Arg<'a>
             "Tells on standard error of each connection's begin\nand end, and of each refused request",
         )
         .action(ArgAction::SetTrue)
+}
+
+/// `--status PATH`.
+pub(crate) fn status_arg<'a>(alloc: Global) -> Arg<'a>
+    ensures rule { rule_of result ≡ text_rule (codes "status") }
+    ensures local { result.global ≡ false }
+{
+    Arg::new(alloc, "status")
+        .long("status")
+        .value_name("PATH")
+        .help("Makes a Unix socket, at which norbd status asks what the server does")
+        .action(ArgAction::Set)
+}
+
+/// `PATH`, of a server's status.
+pub(crate) fn status_path_arg<'a>(alloc: Global) -> Arg<'a>
+    ensures rule { rule_of result ≡ status_path_rule }
+    ensures local { result.global ≡ false }
+{
+    Arg::new(alloc, "PATH")
+        .help("The path that the server was given after --status")
+        .required(true)
+        .action(ArgAction::Set)
 }
 
 /// `--no-record`.

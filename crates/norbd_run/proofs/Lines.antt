@@ -1,5 +1,5 @@
 -- What `serve` tells, step by step.
-use Rattle.std.proofs.Common.{◌≡◌, ℕ, List, [], ◌++◌, Bool, Option, Result, Ok, Err, IfErr, IfOk, IsOkAnd, String, refl, sym, subst, ◌∙◌, inl, inr}
+use Rattle.std.proofs.Common.{◌≡◌, ℕ, List, [], ◌++◌, Bool, Option, Result, Ok, Err, IfErr, IfOk, IsOkAnd, String, refl, sym, subst, ◌∙◌, ◌⊎◌, inl, inr}
 use Rattle.std.specs.String.{string_bytes}
 use Rattle.std.specs.Io.KnownBytes.{Appends}
 use Rattle.std.proofs.KnownBytes.{Appends-nil, Appends-trans}
@@ -15,7 +15,11 @@ use Rattle.flash_disk.specs.Contents.{contents_of}
 use Rattle.sector_rescue.specs.Rescue.{rescued}
 use Rattle.sector_rescue.specs.declared.doubt.Doubt.{Doubt}
 use Rattle.norbd_run.specs.Showing.{ShowTells}
+use Rattle.norbd_run.specs.Looking.{StatusTells}
+use Rattle.norbd_status.specs.Status.{told_status}
+use Rattle.norbd_status.specs.declared.status.Status.{Status}
 use Rattle.norbd_run.specs.Listening.{HasBegun, IsPlaceRefusal, IsRefusal, TellsServing, WritesText, ended_text, serving_text, told_of_serving}
+use Rattle.norbd_line.specs.declared.fault.Cause.TheVariants.{Accept}
 use Rattle.norbd_line.specs.declared.fault.Fault.{Fault}
 use Rattle.norbd_line.specs.declared.line.Place.{Place}
 use Rattle.norbd_line.specs.declared.fault.Fault.TheVariants as faults
@@ -83,6 +87,12 @@ first-failed T text place conns sectors keeps old new f g e is h = elim h [
   | inr failed ↦ subst (λ x. TellsServing {T = T} place conns keeps old f (Err x) new g) (sym failed.0)
       (sectors, 0, Fails-first old new f g (serving_text sectors place) (ended_text keeps conns 0) (same-bytes text (serving_text sectors place) (λ x. FailsToSend old f x new g) is failed.1))
 ]
+
+-- no other handle of the socket for the status was had
+pub no-status : (T : Type 0) (place : Place) (conns : ℕ) (keeps : Bool) (old new : Option (List ℕ)) (f g : ℕ) (e : Fault) → (e ≡ NoMemory) ⊎ (e ≡ faults.NoSocket Accept) → HasBegun place old f new g
+    → TellsServing {T = T} place conns keeps old f (Err e) new g
+no-status T place conns keeps old new f g e (inl is) h = subst (λ x. TellsServing {T = T} place conns keeps old f (Err x) new g) (sym is) h
+no-status T place conns keeps old new f g e (inr is) h = subst (λ x. TellsServing {T = T} place conns keeps old f (Err x) new g) (sym is) h
 
 abbrev failed-with : (T : Type 0) → Fault → Result T Fault
 failed-with T e = Err e
@@ -237,3 +247,12 @@ rescue_told m old new f g (Ok u) h = (contents_of m, h.1, h.2)
 rescue_told m old new f g (Err e) (inl h) = inl (h.0.0, h.1)
 rescue_told m old new f g (Err e) (inr (inl h)) = inr (inl (h.0, (rescued m, h.2, h.3)))
 rescue_told m old new f g (Err e) (inr (inr h)) = elim h.1 [ inl x ↦ inr (inr (h.0, (contents_of m, x))) | inr x ↦ inr (inr (h.0, (rescued m, x))) ]
+
+-- what is told of a status
+pub status-told : {Z X T : Type 0} (tells_json : Bool) (s : Status) (text : Result (String Z) X) (old new : Option (List ℕ)) (f g : ℕ) (result : Result T Fault)
+    → IfOk text (λ t. string_bytes t ≡ told_status tells_json s) → WritesText text old f result new g → StatusTells tells_json old f result new g
+status-told tells_json s text old new f g (Ok u) is h = (s, same-bytes text (told_status tells_json s) (λ x. Appends old new x) is h.0, h.1)
+status-told tells_json s text old new f g (Err e) is h = elim h [
+  | inl none ↦ inl (inl none.0, (none.1, none.2))
+  | inr failed ↦ inr (failed.0, (s, same-bytes text (told_status tells_json s) (λ x. FailsToSend old f x new g) is failed.1))
+]

@@ -8,5 +8,6 @@ pub mod Checking
 pub mod Moving
 pub mod Rescuing
 pub mod Showing
+pub mod Looking
 pub mod Chips
 pub mod Lines

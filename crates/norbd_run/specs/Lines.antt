@@ -5,11 +5,12 @@ use Rattle.norbd_line.specs.declared.fault.Fault.{Fault}
 use Rattle.norbd_line.specs.declared.line.Line.{Line}
 use Rattle.norbd_line.specs.declared.line.Line.TheVariants.{Chip, Plain, Format, Script, Serve}
 use Rattle.norbd_line.specs.declared.line.Line.TheVariants.{Check, Show, Read, Write}
-use Rattle.norbd_line.specs.declared.line.Line.TheVariants.{Rescue}
+use Rattle.norbd_line.specs.declared.line.Line.TheVariants.{Rescue, Status}
 use Rattle.norbd_run.specs.Checking.{CheckTells}
 use Rattle.norbd_run.specs.Chips.{ChipTells}
 use Rattle.norbd_run.specs.Formatting.{FormatTells}
 use Rattle.norbd_run.specs.Listening.{TellsServing}
+use Rattle.norbd_run.specs.Looking.{StatusTells}
 use Rattle.norbd_run.specs.Moving.{ReadTells, WriteTells}
 use Rattle.norbd_run.specs.Outcomes.{Ended}
 use Rattle.norbd_run.specs.Rescuing.{RescueTells}
@@ -24,6 +25,7 @@ HasNumbers (Plain sectors keeps_rows) = Unit {0}
 HasNumbers (Format image kib forced sure) = IsSize kib
 HasNumbers (Script kib) = IsSize kib
 HasNumbers (Serve asked) = IsServeInRange asked
+HasNumbers (Status path tells_json) = Unit {0}
 HasNumbers (Check image mends tells_json) = Unit {0}
 HasNumbers (Show image) = Unit {0}
 HasNumbers (Read image range) = Unit {0}
@@ -37,6 +39,7 @@ ReadsNothing (Plain sectors keeps_rows) = ⊥
 ReadsNothing (Format image kib forced sure) = Unit {0}
 ReadsNothing (Script kib) = ⊥
 ReadsNothing (Serve asked) = Unit {0}
+ReadsNothing (Status path tells_json) = Unit {0}
 ReadsNothing (Check image mends tells_json) = Unit {0}
 ReadsNothing (Show image) = Unit {0}
 ReadsNothing (Read image range) = Unit {0}
@@ -59,6 +62,8 @@ LineDoes (Serve asked) old result new =
     TellsServing asked.place (unwrap_or asked.conns 64) asked.record old.written old.writes result
     new.written new.writes
     × (asked.conns ≡ None → IsErr result)
+LineDoes (Status path tells_json) old result new =
+    StatusTells tells_json old.written old.writes result new.written new.writes
 LineDoes (Check image mends tells_json) old result new =
     CheckTells mends tells_json old.written old.writes result new.written new.writes
 LineDoes (Show image) old result new =

@@ -11,10 +11,13 @@ use flash_disk::FlashDisk;
 use norbd_chip::{ChipFault, Noted, Noting, Reached, Report, watch, watch_noting};
 use norbd_line::{Cause, Fault, TidyPolicy};
 use norbd_serve::Log;
+use norbd_status::{CountedBus, Wear};
 use serprog_link::ProgrammerPlace;
+use std::alloc::Global;
 use std::marker::Brand;
 use std::net::{Net, TcpStream};
 use std::rt::Files;
+use std::sync::Arc;
 use std::time::Clock;
 
 /// The bytes of the chip behind the programmer at a place, of which nothing is changed.
@@ -35,6 +38,12 @@ where
     }
 }
 
+/// The disk on such a chip: its departures are noted, and its erases counted.
+pub(crate) type DiskBehind<'r, 'p, 'n, R> = FlashDisk<
+    CountedBus<Noting<'n, Reached<'r, 'p, R, Reporter<'r, R>>>>,
+    Brand,
+>;
+
 /// The disk on the chip behind the programmer at a place, whose departures are noted.
 #[tactic(auto, using(crate::proofs::Refusals::chip_is_refusal))]
 pub(crate) fn disk_behind<'r, 'p, 'n, R>(
@@ -43,16 +52,15 @@ pub(crate) fn disk_behind<'r, 'p, 'n, R>(
     trusts: bool,
     noted: &'n Noted,
     tidy: TidyPolicy,
-) -> Result<FlashDisk<Noting<'n, Reached<'r, 'p, R, Reporter<'r, R>>>, Brand>, Fault>
+    wear: Option<Arc<Wear, Global>>,
+) -> Result<DiskBehind<'r, 'p, 'n, R>, Fault>
 where
     R: Files + AllocGlobal + Clock + Log + Net<Stream = TcpStream>,
     ensures refused { IfErr result IsRefusal }
     ensures sound { IfOk result (λ disk.
-        (⟦<FlashDisk<Noting<'n, Reached<'r, 'p, R, Reporter<'r, R>>>, Brand> as Disk>⟧.facts
-        disk).sound ≡ true) }
-    ensures ready { IfOk result (λ disk. IsDiskReady
-        (⟦<FlashDisk<Noting<'n, Reached<'r, 'p, R, Reporter<'r, R>>>, Brand> as Disk>⟧.facts
-        disk)) }
+        (⟦<DiskBehind<'r, 'p, 'n, R> as Disk>⟧.facts disk).sound ≡ true) }
+    ensures ready { IfOk result (λ disk.
+        IsDiskReady (⟦<DiskBehind<'r, 'p, 'n, R> as Disk>⟧.facts disk)) }
 {
     let bus = match watch_noting(rt, Reporter { rt }, rt.alloc(), place, trusts, noted) {
         Ok(bus) => bus,
@@ -61,7 +69,7 @@ where
     let Ok(copy) = bus.memory().to_vec(rt.alloc()) else {
         return Err(Fault::NoMemory);
     };
-    match open_bus(rt.alloc(), bus, copy, tidy) {
+    match open_bus(rt.alloc(), bus, copy, tidy, wear) {
         Ok(disk) => Ok(disk),
         Err(Fault::ImageFailed(_)) => Err(Fault::ImageFailed(Cause::Chip(noted.cause()))),
         Err(fault) => Err(fault),

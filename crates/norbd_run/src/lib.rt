@@ -1,10 +1,11 @@
-//! What each line of the program does, over any reader and writer: `plain` serves a disk in memory,
-//! in the transmission phase; `format` makes an image of a formatted chip; `script` runs events,
-//! losses of power too, on a chip in memory; `serve` serves the chip in an image to connections on
-//! a port or a Unix socket; `check` says whether an image would be served, and if not, why, and
-//! mends one; `show` draws it; `read` and `write` take its disk out and put it in; `rescue` takes
-//! out what can still be told of one that is damaged; `chip` answers the serprog protocol for one.
-//! But for the last two each takes a chip behind a programmer, too.
+//! What each line of the program does, over any reader and writer: `plain` serves a disk in
+//! memory, in the transmission phase; `format` makes an image of a formatted chip; `script` runs
+//! events, losses of power too, on a chip in memory; `serve` serves the chip in an image to
+//! connections on a port or a Unix socket, and `status` says what such a server does; `check` says
+//! whether an image would be served, and if not, why, and mends one; `show` draws it; `read` and
+//! `write` take its disk out and put it in; `rescue` takes out what can still be told of one that
+//! is damaged; `chip` answers the serprog protocol for one. But for the last two each takes a chip
+//! behind a programmer, too.
 //!
 //! Promised to the program: `run_line` does what `LineDoes` says of each command: what is written
 //! where it is done, and the fault where it isn't. Each has a file; `serve_chip`, `image_disk` and
@@ -43,6 +44,7 @@ mod serve;
 mod serve_chip;
 mod show;
 mod standard;
+mod status;
 mod watching;
 mod write;
 
@@ -58,8 +60,9 @@ pub use read::{run_read, run_read_chip};
 pub use rescue::run_rescue;
 pub use run::run_line;
 pub use script::run_script;
-pub use serve::{Asked, run_serve};
+pub use serve::{Asked, Look, run_serve};
 pub use serve_chip::run_serve_chip;
 pub use show::{run_show, run_show_chip};
 pub use standard::{Null, Opens, Standard, hold_standard};
+pub use status::run_status;
 pub use write::{run_write, run_write_chip};

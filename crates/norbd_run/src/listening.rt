@@ -4,7 +4,7 @@ ghost use Rattle.std.specs.Prelude.{IfErr};
 ghost use Rattle.norbd_line.specs.Line.{IsPlace};
 ghost use Rattle.norbd_run.specs.Listening.{IsPlaceRefusal};
 
-use norbd_line::{Cause, Fault, Place};
+use norbd_line::{Cause, Fault, Place, SocketCause};
 use norbd_serve::Listener;
 use std::io::ErrorKind;
 use std::net::{IpAddr, Ipv4Addr, Net, SocketAddr, TcpListener, TcpStream};
@@ -14,7 +14,7 @@ use std::rt::Files;
 use std::{fs, io};
 
 /// How many bytes the path of a Unix socket has at most. Source: unix(7), `sun_path`.
-const MOST_PATH: usize = 107;
+pub(crate) const MOST_PATH: usize = 107;
 
 /// Listens at a place. `BadAddress` where the text of the address is none, `NoSocket` where the
 /// place can't be had.
@@ -34,7 +34,10 @@ where
                 Err(error) => Err(Cause::System(error.kind())),
             }
         }
-        Place::Unix(path) => listen_on_path(rt, path),
+        Place::Unix(path) => match listen_on_path(rt, path) {
+            Ok(listener) => Ok(Listener::Path(listener)),
+            Err(cause) => Err(Cause::Socket(cause)),
+        },
     };
     match listener {
         Ok(listener) => Ok(listener),
@@ -62,37 +65,40 @@ where
 }
 
 /// Makes the Unix socket at a path. One that is there is replaced where nobody listens at it.
-fn listen_on_path<R: Files + Net>(rt: &R, path: &str) -> Result<Listener, Cause> {
+pub(crate) fn listen_on_path<R>(rt: &R, path: &str) -> Result<UnixListener, SocketCause>
+where
+    R: Files + Net,
+{
     if path.len() > MOST_PATH {
-        return Err(Cause::LongPath);
+        return Err(SocketCause::LongPath);
     }
     match UnixListener::bind(rt, path) {
-        Ok(listener) => Ok(Listener::Path(listener)),
+        Ok(listener) => Ok(listener),
         Err(error) if error.kind() == ErrorKind::AddrInUse => listen_in_place(rt, path),
-        Err(error) => Err(Cause::System(error.kind())),
+        Err(error) => Err(SocketCause::System(error.kind())),
     }
 }
 
 /// Makes the Unix socket at a path in the place of what is there, where that is a socket at which
 /// nobody listens, as one that was killed leaves it.
-fn listen_in_place<R: Files + Net>(rt: &R, path: &str) -> Result<Listener, Cause> {
+fn listen_in_place<R: Files + Net>(rt: &R, path: &str) -> Result<UnixListener, SocketCause> {
     match fs::symlink_metadata(rt, path) {
         Ok(metadata) if metadata.file_type().is_socket() => {}
-        Ok(_) => return Err(Cause::NotASocket),
-        Err(error) => return Err(Cause::System(error.kind())),
+        Ok(_) => return Err(SocketCause::NotASocket),
+        Err(error) => return Err(SocketCause::System(error.kind())),
     }
     match UnixStream::connect(rt, path) {
         Err(error) if error.kind() == ErrorKind::ConnectionRefused => {}
-        _ => return Err(Cause::System(ErrorKind::AddrInUse)),
+        _ => return Err(SocketCause::System(ErrorKind::AddrInUse)),
     }
     match listen_anew(rt, path) {
         Ok(listener) => Ok(listener),
-        Err(error) => Err(Cause::System(error.kind())),
+        Err(error) => Err(SocketCause::System(error.kind())),
     }
 }
 
 /// Removes a socket, and makes another at its path.
-fn listen_anew<R: Files + Net>(rt: &R, path: &str) -> io::Result<Listener> {
+fn listen_anew<R: Files + Net>(rt: &R, path: &str) -> io::Result<UnixListener> {
     fs::remove_file(rt, path)?;
-    Ok(Listener::Path(UnixListener::bind(rt, path)?))
+    UnixListener::bind(rt, path)
 }

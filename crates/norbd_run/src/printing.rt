@@ -127,6 +127,18 @@ fn place_of(line: Option<Line<'_>>) -> Subject<'_> {
     }
 }
 
+/// What the faults of a status are about: the path of its socket.
+fn status_of(line: Option<Line<'_>>) -> Subject<'_> {
+    match line {
+        Some(Line::Status { path, .. }) => Subject::Path(path),
+        Some(Line::Serve(asked)) => match asked.status {
+            Some(path) => Subject::Path(path),
+            None => Subject::Nothing,
+        },
+        _ => Subject::Nothing,
+    }
+}
+
 /// What a fault is about, in its line.
 fn subject_of<'l>(fault: &Fault, line: Option<Line<'l>>) -> Subject<'l> {
     match fault {
@@ -143,6 +155,7 @@ fn subject_of<'l>(fault: &Fault, line: Option<Line<'l>>) -> Subject<'l> {
         Fault::NotClean => image_of(line),
         Fault::BadImageSize(_) => image_of(line),
         Fault::BadRange(_) => image_of(line),
+        Fault::NoSocket(Cause::Status(_)) => status_of(line),
         Fault::NoSocket(_) => place_of(line),
         _ => Subject::Nothing,
     }
@@ -307,6 +320,7 @@ impl fmt::Display for Telling<'_, '_> {
                 Some(bind) => write!(f, ": '{bind}' is no IP address"),
                 None => f.write_str(": --port P [--bind IP], or --unix PATH"),
             },
+            Fault::InUse => f.write_str(": norbd status looks at one that is served with --status"),
             Fault::Formatted => f.write_str(": --force replaces it"),
             Fault::NotEmpty => f.write_str(": --force replaces it"),
             Fault::NotClean => f.write_str(": norbd check --mend mends it"),

@@ -12,15 +12,14 @@ use crate::progress::Screen;
 use crate::read::{run_read, run_read_chip};
 use crate::rescue::run_rescue;
 use crate::script::run_script;
-use crate::serve::{Asked, run_serve};
-use crate::serve_chip::run_serve_chip;
 use crate::show::{run_show, run_show_chip};
+use crate::status::{run_status, serve_line};
 use crate::write::{run_write, run_write_chip};
 use block_device::{Sink, Source};
 use nbd_share::LEDGER_PARTS;
 use nbd_wire::MAX_LEN;
 use norbd_image::ImageFile;
-use norbd_line::{Cause, ChipCause, Fault, Line, MOST_CONNS};
+use norbd_line::{Cause, ChipCause, Fault, Line};
 use serprog_link::programmer_of;
 use std::marker::Brand;
 use std::sync::ledger::Blank;
@@ -44,6 +43,9 @@ use std::sync::ledger::Blank;
 /// `serve`: serves the chip in the file at the path to clients at a place, with lines about it to
 /// `writer`; its faults are those of `run_serve`. Nothing is read.
 ///
+/// `status`: says on `writer` what the server does whose socket for that is at the path; its faults
+/// are those of `run_status`. Nothing is read.
+///
 /// `chip`: answers the serprog protocol for the chip in the file at the path, with a line about it
 /// to `writer`; its faults are those of `run_chip`. Nothing is read.
 ///
@@ -55,7 +57,7 @@ use std::sync::ledger::Blank;
 /// `rescue` writes those that can still be told; their faults are those of `run_show`, `run_read`,
 /// `run_write` and `run_rescue`, or of `rescue` `FileAlone` of a chip behind a programmer. Source:
 /// own.
-#[tactic(auto, using(crate::proofs::Sizes::size_of_chip, crate::proofs::Sizes::conns_or_most))]
+#[tactic(auto, using(crate::proofs::Sizes::size_of_chip))]
 pub fn run_line<R, S, K>(
     rt: &R,
     line: Line<'_>,
@@ -108,25 +110,8 @@ where
             None => run_format(rt, image, kib, force, writer),
         },
         Line::Script { kib } => run_script(rt.alloc(), kib, reader, writer),
-        Line::Serve(line) => {
-            let asked = Asked {
-                image: line.image,
-                place: line.place,
-                conns: line.conns.unwrap_or(MOST_CONNS),
-                ends: line.conns.is_some(),
-                record: line.record,
-                sync: line.sync,
-                tidy: line.tidy,
-                told_len: told_at_most(line.max_request),
-                max_len: bytes_at_most(line.max_request),
-                read_only: line.read_only,
-                verbose: line.verbose,
-            };
-            match programmer_of(line.image) {
-                Some(place) => run_serve_chip(rt, place, line.trust, asked, writer),
-                None => run_serve(rt, line.image, asked, writer),
-            }
-        }
+        Line::Serve(line) => serve_line(rt, line, writer),
+        Line::Status { path, json } => run_status(rt, path, json, writer),
         Line::Check { image, mend, json } => match programmer_of(image) {
             Some(place) => run_check_chip(rt, place, mend, json, writer),
             None => run_check(rt, image, mend, json, writer),
@@ -152,7 +137,7 @@ where
 
 /// The largest length of a READ or WRITE in bytes that clients are told: 65,536 where the line
 /// doesn't say how many KiB.
-fn told_at_most(max_request: Option<u32>) -> u32
+pub(crate) fn told_at_most(max_request: Option<u32>) -> u32
     requires { IfSome max_request IsMaxRequest }
     ensures { result ≡ unwrap_or (option_map (λ kib. 1024 * kib) max_request) 65536 }
 {
@@ -164,7 +149,7 @@ fn told_at_most(max_request: Option<u32>) -> u32
 
 /// The largest length of a READ or WRITE in bytes that is taken: what clients are told, and 1 MiB
 /// where the line doesn't say how many KiB, since some of them don't look at what they are told.
-fn bytes_at_most(max_request: Option<u32>) -> u32
+pub(crate) fn bytes_at_most(max_request: Option<u32>) -> u32
     requires { IfSome max_request IsMaxRequest }
     ensures { result ≡ unwrap_or (option_map (λ kib. 1024 * kib) max_request) 1048576 }
 {

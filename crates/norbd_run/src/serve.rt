@@ -1,6 +1,6 @@
 //! `serve`: the chip in an image file, served to clients on a port or a Unix socket.
 ghost use Rattle.std.specs.Prelude.{◌≡◌, ◌*◌, ◌<◌, length, string_bytes, IfOk, IfErr, true};
-ghost use Rattle.std.specs.Prelude.{false, if◌then◌else◌, IsErr, IsFalse, None, Some};
+ghost use Rattle.std.specs.Prelude.{◌⊎◌, false, if◌then◌else◌, IsErr, IsFalse, None, Some};
 ghost use Rattle.block_device.specs.Facts.{IsDiskReady};
 ghost use Rattle.chip_model.specs.Chip.{is_idle};
 ghost use Rattle.chip_model.specs.Geometry.{IsChipSize};
@@ -34,12 +34,15 @@ use nbd_share::{
 use nbd_wire::Export;
 use norbd_image::{FileImages, Held, ImageFile, MemoryDisk, begin_log, log_beside};
 use norbd_line::{Cause, Fault, Place, SyncPolicy, TidyPolicy};
-use norbd_serve::{Connections, Listener, OpenGate, ServeFault, serve};
+use norbd_serve::{Connections, Listener, OpenGate, ServeFault, StatusSocket, serve};
+use norbd_status::{CountedBus, Wear};
 use std::alloc::{AllocError, Global};
 use std::fs;
 use std::fs::OpenFile;
 use std::marker::Brand;
+use std::os::unix::net::UnixListener;
 use std::rt::Files;
+use std::sync::Arc;
 use std::sync::ledger::{Blank, Ledger};
 use std::time::Duration;
 
@@ -51,8 +54,8 @@ const NEGOTIATION_SECONDS: u64 = 10;
 /// ends once so many were served in all: else so many are served at once, without end; whether a
 /// row of each command is kept; when the file is synced, and when the disk is tidied; the largest
 /// length of a READ or WRITE in bytes that clients are told, and the largest that is taken; whether
-/// the disk can't be changed; and whether it is told what becomes of connections and of refused
-/// requests.
+/// the disk can't be changed; whether it is told what becomes of connections and of refused
+/// requests; and where what the server does is told, if that is asked.
 #[derive(Clone, Copy)]
 pub struct Asked<'a> {
     pub image: &'a str,
@@ -66,6 +69,28 @@ pub struct Asked<'a> {
     pub max_len: u32,
     pub read_only: bool,
     pub verbose: bool,
+    pub status: Option<&'a Look>,
+}
+
+/// The Unix socket at which a server says what it does, and where the erases of its chip are
+/// counted.
+#[derive(Drop)]
+pub struct Look {
+    pub listener: UnixListener,
+    pub wear: Arc<Wear, Global>,
+}
+
+/// Where erases are counted, if that is asked.
+pub(crate) fn wear_of(asked: Asked<'_>) -> Result<Option<Arc<Wear, Global>>, Fault>
+    ensures { IfErr result IsRefusal }
+{
+    let Some(look) = asked.status else {
+        return Ok(None);
+    };
+    match Arc::try_clone(&look.wear) {
+        Ok(wear) => Ok(Some(wear)),
+        Err(_) => Err(Fault::NoMemory),
+    }
 }
 
 /// Serves the chip in the file at a path to so many connections at a place, and ends when all have
@@ -161,7 +186,7 @@ where
     let Ok(copy) = bytes.as_slice().to_vec(rt.alloc()) else {
         return Err(Fault::NoMemory);
     };
-    let disk = open_disk(rt.alloc(), bytes, asked.tidy)?;
+    let disk = open_disk(rt.alloc(), bytes, asked.tidy, wear_of(asked)?)?;
     let mut files = match log_beside(rt, image, held, asked.sync != SyncPolicy::Never) {
         Ok(files) => files,
         Err(error) => return Err(told_of_log(error)),
@@ -305,16 +330,17 @@ fn open_disk(
     alloc: Global,
     image: Vec<u8>,
     tidy: TidyPolicy,
-) -> Result<FlashDisk<PromptChip, Brand>, Fault>
+    wear: Option<Arc<Wear, Global>>,
+) -> Result<FlashDisk<CountedBus<PromptChip>, Brand>, Fault>
     requires size { IsChipSize (length image.items) }
     ensures refused { IfErr result IsRefusal }
     ensures reason { IfErr result (λ e. IsReason e image.items) }
     ensures sound { IfOk result (λ disk.
-        (⟦<FlashDisk<PromptChip, Brand> as Disk>⟧.facts disk).sound ≡ true) }
+        (⟦<FlashDisk<CountedBus<PromptChip>, Brand> as Disk>⟧.facts disk).sound ≡ true) }
     ensures ready { IfOk result (λ disk.
-        IsDiskReady (⟦<FlashDisk<PromptChip, Brand> as Disk>⟧.facts disk)) }
+        IsDiskReady (⟦<FlashDisk<CountedBus<PromptChip>, Brand> as Disk>⟧.facts disk)) }
     ensures from { IfOk result (λ disk. OpenedFrom image.items
-        (⟦<FlashDisk<PromptChip, Brand> as Disk>⟧.facts disk)) }
+        (⟦<FlashDisk<CountedBus<PromptChip>, Brand> as Disk>⟧.facts disk)) }
     ensures groups { IfOk result (λ _. HasCleanGroups image.items) }
 {
     let Ok(copy) = image.as_slice().to_vec(alloc) else {
@@ -323,33 +349,35 @@ fn open_disk(
     let Ok(chip) = PromptChip::new(image) else {
         unreachable!()
     };
-    open_bus(alloc, chip, copy, tidy)
+    open_bus(alloc, chip, copy, tidy, wear)
 }
 
 /// The disk on the chip behind a bus, on which nothing is in progress and whose memory is this
-/// copy: from now on its blocks wear alike, and it is tidied as is asked. The copy is looked at
-/// first: of a chip that isn't served nothing is changed.
+/// copy: from now on its blocks wear alike, its erases are counted where that is asked, and it is
+/// tidied as is asked. The copy is looked at first: of a chip that isn't served nothing is changed.
 pub(crate) fn open_bus<B: SpiBus + Drop>(
     alloc: Global,
     bus: B,
     copy: Vec<u8>,
     tidy: TidyPolicy,
-) -> Result<FlashDisk<B, Brand>, Fault>
+    wear: Option<Arc<Wear, Global>>,
+) -> Result<FlashDisk<CountedBus<B>, Brand>, Fault>
     requires idle { is_idle (B.chip bus).operation ≡ true }
     requires copy { copy.items ≡ (B.chip bus).memory }
     requires size { IsChipSize (length copy.items) }
     ensures refused { IfErr result IsRefusal }
     ensures reason { IfErr result (λ e. IsReason e (B.chip bus).memory) }
     ensures sound { IfOk result (λ disk.
-        (⟦<FlashDisk<B, Brand> as Disk>⟧.facts disk).sound ≡ true) }
+        (⟦<FlashDisk<CountedBus<B>, Brand> as Disk>⟧.facts disk).sound ≡ true) }
     ensures ready { IfOk result (λ disk.
-        IsDiskReady (⟦<FlashDisk<B, Brand> as Disk>⟧.facts disk)) }
+        IsDiskReady (⟦<FlashDisk<CountedBus<B>, Brand> as Disk>⟧.facts disk)) }
     ensures from { IfOk result (λ disk. OpenedFrom (B.chip bus).memory
-        (⟦<FlashDisk<B, Brand> as Disk>⟧.facts disk)) }
+        (⟦<FlashDisk<CountedBus<B>, Brand> as Disk>⟧.facts disk)) }
     ensures groups { IfOk result (λ _. HasCleanGroups (B.chip bus).memory) }
 {
+    let blocks = (copy.len() / BLOCK_LEN as usize) as u32;
     copied_disk(alloc, copy)?;
-    let mut disk = look_at(alloc, bus)?;
+    let mut disk = look_at(alloc, CountedBus::new(bus, wear, blocks))?;
     spare(&mut disk, tidy);
     Ok(disk)
 }
@@ -500,7 +528,20 @@ where
         return Err(fault);
     }
     let resting = Watching::new(rt, durable, asked.image, !asked.read_only);
-    let served = match serve(rt, alloc, &server, durable, listener, connections, resting) {
+    let status = match status_of(asked, sectors) {
+        Ok(status) => status,
+        Err(fault) => return Err(fault),
+    };
+    let served = match serve(
+        rt,
+        alloc,
+        &server,
+        durable,
+        listener,
+        connections,
+        resting,
+        status,
+    ) {
         Ok(served) => served,
         Err(fault) => {
             let _ = durable.finish();
@@ -516,6 +557,27 @@ where
     };
     let last = ended_text(alloc, asked.conns, C::KEEPS, rows);
     tell(writer, last)
+}
+
+/// Where the server of so many sectors says what it does, if that is asked.
+fn status_of(asked: Asked<'_>, sectors: u32) -> Result<Option<StatusSocket>, Fault>
+    ensures { IfErr result (λ e. (e ≡ Fault.NoMemory) ⊎ (e ≡ Fault.NoSocket Cause.Accept)) }
+{
+    let Some(look) = asked.status else {
+        return Ok(None);
+    };
+    let Ok(wear) = Arc::try_clone(&look.wear) else {
+        return Err(Fault::NoMemory);
+    };
+    match look.listener.try_clone() {
+        Ok(listener) => Ok(Some(StatusSocket {
+            listener,
+            wear,
+            sectors,
+            read_only: asked.read_only,
+        })),
+        Err(_) => Err(Fault::NoSocket(Cause::Accept)),
+    }
 }
 
 /// The last sync.

@@ -7,7 +7,7 @@ use crate::chip_disk::{bytes_behind, disk_behind};
 use crate::host::Host;
 use crate::image_disk::copied_disk;
 use crate::listening::listen_at;
-use crate::serve::{Asked, serve_opened};
+use crate::serve::{Asked, serve_opened, wear_of};
 use block_device::Sink;
 use nbd_durable::{Durable, Policy};
 use norbd_chip::{NoFile, Noted};
@@ -79,7 +79,11 @@ where
         (K.written writer.new) (K.faults writer.new) }
     ensures endless { IsFalse asked.entry.ends → IsErr result }
 {
-    let disk = match disk_behind(rt, place, trusts, noted, asked.tidy) {
+    let wear = match wear_of(asked) {
+        Ok(wear) => wear,
+        Err(fault) => return Err(fault),
+    };
+    let disk = match disk_behind(rt, place, trusts, noted, asked.tidy, wear) {
         Ok(disk) => disk,
         Err(fault) => return Err(fault),
     };

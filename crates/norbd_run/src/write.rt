@@ -226,7 +226,7 @@ where
         (K.written writer.new) (K.faults writer.new) }
     ensures end { OnOk result (IsAtEnd (S.remaining reader.new)) }
 {
-    match disk_behind(rt, place, false, noted, TidyPolicy::Lazily) {
+    match disk_behind(rt, place, false, noted, TidyPolicy::Lazily, None) {
         Ok(disk) => write_disk(rt, disk, noted, sectors, reader, writer),
         Err(fault) => Err(fault),
     }

@@ -59,9 +59,9 @@ impl TidySignal {
     }
 }
 
-/// The door of a connection, a locked one. Beside each command it notes what the reply owes, raises
-/// the signal where the disk may have changed, and tells of an error; and its client hears what
-/// other replies are to. Contracts see it as the locked door.
+/// The door of a connection, a locked one. Beside each command it notes what the reply owes, counts
+/// it, raises the signal where the disk may have changed, and tells of an error; and its client
+/// hears what other replies are to. Contracts see it as the locked door.
 #[derive(Drop)]
 pub(crate) struct Serving<'s, 't, 'c, D: Disk, R: Recorder, L: OneServer, W: Wait, F> {
     pub(crate) door: Locked<'s, D, R, L, W>,
@@ -126,6 +126,7 @@ where
         data: &'a mut [u8],
     ) -> Done<'a> {
         self.owed.note(command);
+        self.client.count(command.kind);
         let done = self.door.execute(pass, command, data);
         let teller = &self.client.teller;
         if command.kind.changes_disk() {

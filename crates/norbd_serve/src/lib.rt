@@ -9,14 +9,17 @@
 //! asked (`telling`) a [`Log`] is told of each connection's beginning and end, of an export that is
 //! asked for and isn't there, and of each request that is answered with an error; of the first one
 //! that is too long, that others wait, and of a client that is closed for its silence then, it is
-//! always told. The door of a connection learns of the requests, and that the negotiation is over,
-//! from `nbd_worker`. Left to the crate above: the disk, what else is printed, and `Shared::total`
-//! of the passes. Ok says that as many connections ended as were asked for, and none by a lost
-//! command; without end it never comes. No contract says that a thread gets on, how many run at
-//! once, nor what a socket gives or takes: tests show it. Source: own.
+//! always told. Where it is given a [`StatusSocket`], one more thread (`desk`) answers each that
+//! connects to it with the line of its `norbd_status`. The door of a connection learns of the
+//! requests, and that the negotiation is over, from `nbd_worker`. Left to the crate above: the
+//! disk, what else is printed, and `Shared::total` of the passes. Ok says that as many connections
+//! ended as were asked for, and none by a lost command; without end it never comes. No contract
+//! says that a thread gets on, how many run at once, nor what a socket gives or takes: tests show
+//! it. Source: own.
 #![tactic(auto)]
 
 mod accepting;
+mod desk;
 mod doors;
 mod fault;
 mod kept;
@@ -26,6 +29,7 @@ mod socket;
 mod telling;
 
 pub use accepting::{Listener, listen};
+pub use desk::StatusSocket;
 pub use doors::{OpenGate, Sleeper};
 pub use fault::ServeFault;
 pub use kept::Served;

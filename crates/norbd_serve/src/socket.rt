@@ -9,6 +9,7 @@ use nbd_durable::Owed;
 use nbd_history::{Noted, SaysAll};
 use nbd_session::ReplyTo;
 use nbd_transmission::Refusal;
+use nbd_wire::CommandKind;
 use std::cell::Cell;
 use std::fs::OpenFile;
 use std::io;
@@ -77,6 +78,11 @@ impl<'s, W: Clock + Wait + Log> Client<'s, W> {
             return Err(io::Error::from(io::ErrorKind::TimedOut));
         }
         Ok(left)
+    }
+
+    /// Counts a command of this kind that is run.
+    pub(crate) fn count(&self, kind: CommandKind) {
+        self.teller.counts.run(kind);
     }
 
     /// Hears what the next reply is to: there is no limit once the negotiation is over, and an

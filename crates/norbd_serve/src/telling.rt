@@ -1,5 +1,6 @@
 //! What is told of connections while they are served.
 
+use crate::desk::Counts;
 use nbd_handshake::AskedName;
 use nbd_session::LONGEST_COMMAND_LEN;
 use nbd_wire::{Command, CommandKind, EINVAL, EIO, ENOMEM, ENOSPC, EPERM, ESHUTDOWN};
@@ -183,18 +184,20 @@ impl fmt::Display for Notice {
     }
 }
 
-/// Tells what becomes of one connection, where that is asked, one thing at a time.
+/// Counts what becomes of one connection, and where that is asked tells it, one thing at a time.
 #[derive(Drop)]
 pub(crate) struct Teller<'s, W> {
     pub(crate) rt: &'s W,
     pub(crate) turn: &'s Mutex<bool>,
+    pub(crate) counts: &'s Counts,
     pub(crate) connection: u64,
     pub(crate) tells: bool,
 }
 
 impl<'s, W: Wait + Log> Teller<'s, W> {
-    /// Tells one thing, where that is asked.
+    /// Counts one thing, and where that is asked tells it.
     pub(crate) fn tell(&self, event: Event) {
+        self.counts.note(&event);
         if self.tells {
             self.advise(event);
         }

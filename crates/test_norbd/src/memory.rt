@@ -189,6 +189,7 @@ fn serving_without_memory_says_so(rt: HostRuntime) -> Result<(), Fail> {
         read_only: false,
         verbose: true,
         trust: false,
+        status: None,
     });
     // the chip, and its copies: that of the file, and the one that is looked at. What follows fits
     // where that was

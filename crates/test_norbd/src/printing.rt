@@ -17,6 +17,7 @@ fn faults_tell_which_file_and_why(rt: HostRuntime) -> Result<(), Fail> {
         read_only: false,
         verbose: false,
         trust: false,
+        status: None,
     });
     for (fault, line, text) in [
         (Fault::NoMemory, serve, "no memory"),

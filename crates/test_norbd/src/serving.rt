@@ -447,6 +447,7 @@ where
         max_len: MAX_LEN,
         read_only: false,
         verbose: false,
+        status: None,
     };
     let mut told = Told {
         text: Vec::new(rt.alloc()),

@@ -348,7 +348,16 @@ where
                 return Err(ServeFault::NoThread);
             };
             let resting = Brief { clock: rt };
-            let served = serve(rt, alloc, seen, durable, listener, connections, resting);
+            let served = serve(
+                rt,
+                alloc,
+                seen,
+                durable,
+                listener,
+                connections,
+                resting,
+                None,
+            );
             let _ = clients.join(rt);
             served
         },

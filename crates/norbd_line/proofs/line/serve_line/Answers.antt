@@ -17,4 +17,5 @@ returns-clause-line c =
       c.flag-2.ensures,
       c.flag-3.ensures,
       c.flag-4.ensures,
+      c.text_of.ensures,
     )
