@@ -1,3 +1,4 @@
 mod Accepted
 mod Mending
 pub mod Faults
+mod Holding

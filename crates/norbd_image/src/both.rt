@@ -34,6 +34,8 @@ pub enum LogError {
     Another,
     /// The chip in the image is refused, whose log has changes of its disk.
     Refused(MountError),
+    /// What reads as free on the chip in the image isn't erased, whose log has changes of its disk.
+    NotClean,
     /// A call of one of the two files failed, or the chip lost its power.
     Failed,
 }
@@ -90,8 +92,13 @@ fn replayed(
         Ok(disk) => disk,
         Err((_, error)) => return Err(LogError::Refused(error)),
     };
+    match disk.check() {
+        Ok(true) => {}
+        Ok(false) => return Err(LogError::NotClean),
+        Err(_) => return Err(LogError::Failed),
+    }
     match replay(&mut disk, log) {
-        Ok(_) => Ok(disk),
+        Ok(()) => Ok(disk),
         Err(_) => Err(LogError::Failed),
     }
 }

@@ -41,6 +41,7 @@ fn told_of_both(error: LogError) -> Fault
         LogError::Foreign => Fault::ImageFailed(Cause::NoLog),
         LogError::Another => Fault::ImageFailed(Cause::OtherLog),
         LogError::Refused(error) => told_of_mount(error),
+        LogError::NotClean => Fault::NotClean,
         LogError::Failed => Fault::ImageFailed(Cause::Write),
     }
 }

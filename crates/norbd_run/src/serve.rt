@@ -32,6 +32,7 @@ use nbd_share::{
     Shared,
 };
 use nbd_wire::Export;
+use nor_layout::BLOCK_LEN;
 use norbd_image::{FileImages, Held, ImageFile, MemoryDisk, begin_log, log_beside};
 use norbd_line::{Cause, Fault, Place, SyncPolicy, TidyPolicy};
 use norbd_serve::{Connections, Listener, OpenGate, ServeFault, StatusSocket, serve};
@@ -182,11 +183,21 @@ where
         (K.written writer.new) (K.faults writer.new) }
     ensures endless { IsFalse asked.entry.ends → IsErr result }
 {
-    let bytes = bytes_of(rt, held)?;
+    let bytes = match bytes_of(rt, held) {
+        Ok(bytes) => bytes,
+        Err(fault) => return Err(fault),
+    };
     let Ok(copy) = bytes.as_slice().to_vec(rt.alloc()) else {
         return Err(Fault::NoMemory);
     };
-    let disk = open_disk(rt.alloc(), bytes, asked.tidy, wear_of(asked)?)?;
+    let wear = match wear_of(asked) {
+        Ok(wear) => wear,
+        Err(fault) => return Err(fault),
+    };
+    let disk = match open_disk(rt.alloc(), bytes, asked.tidy, wear) {
+        Ok(disk) => disk,
+        Err(fault) => return Err(fault),
+    };
     let mut files = match log_beside(rt, image, held, asked.sync != SyncPolicy::Never) {
         Ok(files) => files,
         Err(error) => return Err(told_of_log(error)),
