@@ -10,3 +10,4 @@ mod Disks
 mod Finding
 mod Starts
 mod Cutting
+mod Powers

@@ -23,6 +23,7 @@ mod adding;
 mod checkpoint;
 mod file;
 mod head;
+mod laws;
 mod logged;
 mod memory;
 mod placing;
@@ -33,6 +34,7 @@ mod taking;
 
 pub use file::{IMAGE_BLOCK_LEN, ImageFiles};
 pub use head::LOG_HEAD_LEN;
+pub use laws::survivors_hold;
 pub use logged::{ImageDisk, LoggedDisk, Standing};
 pub use memory::MemoryFiles;
 pub use reading::{Found, Refusal, read_log};
