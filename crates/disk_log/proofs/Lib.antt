@@ -4,6 +4,7 @@ mod Growing
 mod Places
 mod Held
 mod Entries
+mod Orders
 mod Settles
 mod Replays
 mod Disks

@@ -1,15 +1,15 @@
 -- What is read of a log of which a loss of the host's power left a part.
-use Rattle.std.proofs.Common.{◌≡◌, ℕ, zero, suc, ◌+◌, ◌-◌, ◌*◌, ◌<◌, ◌≤◌, Bool, true, false, List, [], ◌∷◌, ◌++◌, ◌⊎◌, inl, inr, length, take, drop, get_or, ap, sym, ◌∙◌, arith, refl, subst, ◌&&◌}
-use Rattle.std.specs.Prelude.{if◌then◌else◌, nat_lt, ◌/◌, ◌==◌}
-use Rattle.std.proofs.lemmas.Bool.{lt-ltb, ltb-true}
-use Rattle.std.proofs.lemmas.List.{append-nil, length-append, length-drop, length-take-le, drop-append-le, drop-drop, take-append-le, take-append-drop, take_all, drop-take, take-take}
+use Rattle.std.proofs.Common.{◌≡◌, ℕ, zero, suc, ◌+◌, ◌*◌, ◌≤◌, Bool, true, false, List, [], ◌∷◌, ◌++◌, ◌⊎◌, inl, inr, length, take, drop, ap, sym, ◌∙◌, arith, refl, subst, ◌&&◌}
+use Rattle.std.specs.Prelude.{if◌then◌else◌, ◌/◌, ◌==◌}
+use Rattle.std.proofs.lemmas.Bool.{cases_lt, lt-ltb, ltb-true}
+use Rattle.std.proofs.lemmas.List.{length-append, length-drop, length-take-le, drop-append-le, take-append-le, take-append-drop, take_all, drop-take, take-take}
 use Rattle.disk_log.specs.Records.{Change, is_whole, begins_record, begins_checkpoint, kind_in, first_in, count_in, body_len, body_len_of, record_len, change_in, sum_in, sum_over, replayed}
 use Rattle.disk_log.specs.Logs.{LogReading, Medium, read_some, log_reading, log_changes, has_head, head_sum, has_checkpoint, contents_in}
-use Rattle.disk_log.specs.Power.{AreWritten, HasTrueSums, IsEarlierEnd, IsKept, LeavesImage, LeavesLog, SurvivorsHold}
+use Rattle.disk_log.specs.Power.{AreWritten, HasTrueSums, IsEarlierEnd, IsInOrder, LeavesImage, LeavesLog, SurvivorsHold}
 use Rattle.disk_log.proofs.Records.{Whole, wholly, holds, begun, begins, begins-still, none-two, checkpoint-is, is-checkpoint, kind-same, first-same, count-same, len-same, sum-same, change-same, over-same}
 use Rattle.byteorder.specs.Endian.{little_from}
 use Rattle.byteorder.specs.Numbers.{little_from-take}
-use Rattle.disk_log.specs.Checkpoints.{HasBlock, with_blocks, placed_in, with_block}
+use Rattle.disk_log.specs.Checkpoints.{with_blocks, placed_in, with_block}
 use Rattle.disk_log.proofs.Places.{placed-same, covered, with-taken}
 use Rattle.disk_log.proofs.Readings.{cases, step-true, step-false, enough}
 
@@ -303,12 +303,13 @@ same-checkpoint old new image b good = elim b.long [
       let blocks : take (4104 * k) (drop 32 new.rest) ≡ take (4104 * k) (drop 32 old.rest) =
       sym (drop-take 32 (4104 * k) new.rest)
       ∙ (ap (λ v. drop 32 v) (ap (λ v. take v new.rest) (sym size) ∙ (same ∙ ap (λ v. take v old.rest) size))
-      ∙ drop-take 32 (4104 * k) old.rest) in
-      (ap (λ v. begins_checkpoint v old.rest) (b.same_sum good) ∙ is-checkpoint new.sum old.rest (old-whole new.sum old.rest new.rest whole len same) kind,
-      ap (λ v. with_blocks v (drop 32 old.rest) image) count
-      ∙ (sym (placed-taken k (drop 32 old.rest) image)
-      ∙ (ap (λ v. with_blocks k v image) (sym blocks)
-      ∙ placed-taken k (drop 32 new.rest) image)))
+      ∙ drop-take 32 (4104 * k) old.rest) in (
+        ap (λ v. begins_checkpoint v old.rest) (b.same_sum good) ∙ is-checkpoint new.sum old.rest (old-whole new.sum old.rest new.rest whole len same) kind,
+        ap (λ v. with_blocks v (drop 32 old.rest) image) count
+            ∙ (sym (placed-taken k (drop 32 old.rest) image)
+            ∙ (ap (λ v. with_blocks k v image) (sym blocks)
+            ∙ placed-taken k (drop 32 new.rest) image)),
+      )
 ]
 
 -- What is read of a log that is left, where its head is that of the one that was written.
@@ -392,8 +393,21 @@ placed-hold represents m image log good safe made left =
     ∙ (ap represents put
     ∙ sym (with-checkpoint represents m.sectors m.image m.log good)))
 
+-- the image is on the medium, or a checkpoint is
+order-of : (represents : List ℕ → List ℕ) (m : Medium) → IsInOrder represents m
+    → ((m.settled ≡ true) × (has_checkpoint m.sectors m.log ≡ true
+    → represents (placed_in (log_changes m.sectors m.log).rest m.image) ≡ replayed (log_changes m.sectors m.log).changes (represents m.image)))
+    ⊎ ((has_checkpoint m.sectors m.log ≡ true) × (m.safe ≡ length m.log))
+order-of represents m kept = elim (cases (has_checkpoint m.sectors m.log)) [
+  | inr without ↦ inl (kept.order (λ has safe. neither (has_checkpoint m.sectors m.log) has without))
+  | inl there ↦ elim (cases_lt m.safe (length m.log)) [
+    | inl less ↦ inl (kept.order (λ has safe. absurd (omega (arith, less, safe))))
+    | inr more ↦ (let low = kept.low in inr (there, omega (arith, low, more)))
+  ]
+]
+
 pub survivors-hold : SurvivorsHold
-survivors-hold = λ represents m image log kept made left true_sums. elim kept.order [
+survivors-hold = λ represents m image log kept made left true_sums. elim (order-of represents m kept) [
   | inl s ↦ settled-hold represents m image log (made.settled s.0) left true_sums (cases (has_checkpoint m.sectors log))
   | inr s ↦ inl (placed-hold represents m image log s.0 s.1 made left)
 ]

@@ -1,20 +1,21 @@
 -- What a loss of the host's power leaves of an image and its log. Source: own; of a file no more is
 -- promised than what was synced (POSIX, fsync), so that all else may be any bytes.
-use Rattle.std.specs.Prelude.{◌≡◌, ◌⊎◌, ◌≤◌, ◌+◌, ◌*◌, ◌/◌, ◌++◌, ℕ, zero, suc, Bool, true}
+use Rattle.std.specs.Prelude.{◌≡◌, ◌⊎◌, ◌≤◌, ◌+◌, ◌*◌, ◌/◌, ◌++◌, ℕ, zero, suc, true}
 use Rattle.std.specs.Prelude.{List, length, take, drop, slice_index}
 use Rattle.disk_log.specs.Records.{Change, is_whole, record_len, sum_in, replayed, count_in}
 use Rattle.disk_log.specs.Checkpoints.{HasBlock, placed_in}
-use Rattle.disk_log.specs.Logs.{Medium, has_head, head_sum, log_changes, has_checkpoint, contents_in}
+use Rattle.disk_log.specs.Logs.{Medium, has_head, head_sum, log_changes, has_checkpoint}
+use Rattle.disk_log.specs.Logs.{contents_in}
 
--- The order in which the files are written: all of the image is on the medium, and a checkpoint in
--- the log changes nothing of what the two hold; or there is a whole checkpoint, and all of the log
--- is on the medium.
-pub record IsKept (represents : List ℕ → List ℕ) (m : Medium) : Type 0 where
+-- The order in which the files are written: unless there is a whole checkpoint, and all of the log
+-- is on the medium, all of the image is on the medium, and a checkpoint in the log changes nothing
+-- of what the two hold.
+pub record IsInOrder (represents : List ℕ → List ℕ) (m : Medium) : Type 0 where
   pub low : m.safe ≤ length m.log
-  pub order : ((m.settled ≡ true) × (has_checkpoint m.sectors m.log ≡ true
+  pub order : (has_checkpoint m.sectors m.log ≡ true → m.safe ≡ length m.log → ⊥)
+      → (m.settled ≡ true) × (has_checkpoint m.sectors m.log ≡ true
       → represents (placed_in (log_changes m.sectors m.log).rest m.image)
-      ≡ replayed (log_changes m.sectors m.log).changes (represents m.image)))
-      ⊎ ((has_checkpoint m.sectors m.log ≡ true) × (m.safe ≡ length m.log))
+      ≡ replayed (log_changes m.sectors m.log).changes (represents m.image))
 
 -- Of the log: the bytes that are on the medium, and behind them any, no more than there were.
 pub record LeavesLog (m : Medium) (log : List ℕ) : Type 0 where
@@ -31,8 +32,8 @@ pub record LeavesImage (m : Medium) (image : List ℕ) : Type 0 where
       × (bytes : List ℕ) × HasBlock (count_in (log_changes m.sectors m.log).rest)
       (drop 32 (log_changes m.sectors m.log).rest) (i / 4096) bytes)
 
--- Where so many records, behind one with this sum, are read in what is left of a log, they are those
--- that were written.
+-- Where so many records, behind one with this sum, are read in what is left of a log, they are
+-- those that were written.
 unfoldable pub AreWritten : ℕ → ℕ × ℕ → List ℕ → List ℕ → Type 0
 AreWritten zero before written left = Unit {0}
 AreWritten (suc k) before written left = is_whole before left ≡ true
@@ -60,6 +61,6 @@ pub record IsEarlierEnd (represents : List ℕ → List ℕ) (m : Medium) (conte
 -- hold is what they held, or what they held at an earlier end.
 abbrev pub SurvivorsHold : Type 0
 SurvivorsHold = (represents : List ℕ → List ℕ) → (m : Medium) → (image log : List ℕ)
-    → IsKept represents m → LeavesImage m image → LeavesLog m log → HasTrueSums m.log log
+    → IsInOrder represents m → LeavesImage m image → LeavesLog m log → HasTrueSums m.log log
     → (contents_in represents m.sectors image log ≡ contents_in represents m.sectors m.image m.log)
     ⊎ IsEarlierEnd represents m (contents_in represents m.sectors image log)
