@@ -1,14 +1,13 @@
 -- A log that is cut behind its changes.
-use Rattle.std.proofs.Common.{◌≡◌, ℕ, zero, suc, ◌+◌, ◌≤◌, Bool, true, false, List, [], ◌∷◌, ◌++◌, ◌⊎◌, inl, inr, length, take, drop, ap, sym, ◌∙◌, arith, refl, subst, Option, Some, None, Result, Ok, Err}
+use Rattle.std.proofs.Common.{◌≡◌, ℕ, zero, suc, ◌+◌, ◌≤◌, true, false, List, [], ◌∷◌, ◌++◌, ◌⊎◌, inl, inr, length, take, drop, ap, sym, ◌∙◌, arith, refl, subst, Option, Some, None, Result, Ok, Err}
 use Rattle.std.specs.Result.{IsErr}
 use Rattle.std.specs.Prelude.{◌==◌}
 use Rattle.std.proofs.lemmas.Bool.{lt-ltb}
 use Rattle.disk_log.proofs.Places.{number-front}
-use Rattle.disk_log.proofs.Starts.{Keeps}
-use Rattle.std.proofs.lemmas.List.{length-append, length-drop, length-take-le, drop-append-le, drop-take, take-append-drop, take-append-le}
-use Rattle.disk_log.specs.Records.{begins_record, record_len, body_len, change_in, sum_in, replayed}
+use Rattle.std.proofs.lemmas.List.{length-append, length-drop, length-take-le, drop-append-le, take-append-drop}
+use Rattle.disk_log.specs.Records.{begins_record, record_len, body_len, change_in, sum_in}
 use Rattle.disk_log.specs.Checkpoints.{image_sum}
-use Rattle.disk_log.specs.Logs.{LogReading, read_some, log_reading, log_changes, has_head, head_sum, has_checkpoint, contents_in, Medium, IsBegunLog, IsWholeLog, HoldsAs}
+use Rattle.disk_log.specs.Logs.{LogReading, read_some, log_reading, log_changes, has_head, head_sum, has_checkpoint, contents_in, Medium}
 use Rattle.disk_log.specs.Files.{SyncsImage, CutsLog, IsNeedless, OfFiles}
 use Rattle.disk_log.specs.Reading.{IsRead, ReadsLog, TakesUp}
 use Rattle.disk_log.specs.declared.reading.Found.{Found}
@@ -180,6 +179,8 @@ module _ (n len : ℕ) (sum : ℕ × ℕ) (image log : List ℕ) where
           whole = record { rest = ap (λ (r : LogReading). r.rest) read; sum = ap (λ (r : LogReading). r.sum) read ∙ sym f.5 };
         },
         λ represents. cut-holds m.sectors len m.log f.0 f.3 f.4 represents m.image f.1,
+        refl,
+        (let l = length-take-le len m.log f.3 in omega (arith, l)),
       )
 
   pub records-uncut : (T U E F : Type 0) (t : T) (e : E) (r : Result (ℕ × ℕ) F) → IsErr r → (old mid new : Option Medium) → OfFiles old (λ m. IsRead n image log (founds.Records len sum) m)
@@ -192,7 +193,7 @@ module _ (n len : ℕ) (sum : ℕ × ℕ) (image log : List ℕ) where
         record m { log = c'.0; safe = c'.1; settled = true },
         c'.3,
         λ represents. elim c'.2 [
-          | inl q ↦ ap (λ v. contents_in represents m.sectors m.image v) q
-          | inr q ↦ ap (λ v. contents_in represents m.sectors m.image v) q ∙ cut-holds m.sectors len m.log f.0 f.3 f.4 represents m.image f.1
+          | inl q ↦ ap (λ v. contents_in represents m.sectors m.image v) q.0
+          | inr q ↦ ap (λ v. contents_in represents m.sectors m.image v) q.0 ∙ cut-holds m.sectors len m.log f.0 f.3 f.4 represents m.image f.1
         ],
       )

@@ -8,12 +8,14 @@ use Rattle.block_device.specs.declared.disk.DiskError.TheVariants as errors
 use Rattle.disk_log.specs.Records.{Change, with_change}
 use Rattle.disk_log.specs.Logs.{Medium, IsBegunLog, held}
 use Rattle.disk_log.specs.Files.{OfFiles}
-use Rattle.disk_log.specs.Settling.{AddsChange, SettlesFiles}
+use Rattle.disk_log.specs.Settling.{AddsChange, SettlesFiles, StaysInOrder, SettlesInOrder}
+use Rattle.disk_log.specs.Power.{IsInOrder}
 use Rattle.disk_log.specs.declared.logged.Standing.{Standing}
 use Rattle.disk_log.specs.declared.logged.Standing.TheVariants as standings
 use Rattle.disk_log.specs.Logged.{standing_answer, logged_facts, is_cut, is_slow, Settled, WritesTo, IsOfDisk}
 use Rattle.disk_log.proofs.Places.{length-replaced}
 use Rattle.disk_log.proofs.Replays.{goes-on, no-both}
+use Rattle.disk_log.proofs.Orders.{alone-kept, begun-none}
 
 pub some-is : {X : Type 0} (x y : X) → Some x ≡ Some y → x ≡ y
 some-is x y e = cc
@@ -24,6 +26,10 @@ not-some m e = cc
 pub to-files : (fact : Medium → Type 0) (files : Option Medium) → ((m : Medium) → files ≡ Some m → fact m) → OfFiles files fact
 to-files fact None f = tt
 to-files fact (Some m) f = f m refl
+
+pub of-files : (fact : Medium → Type 0) (files : Option Medium) → OfFiles files fact → (m : Medium) → files ≡ Some m → fact m
+of-files fact None f m e = absurd (not-some m e)
+of-files fact (Some o) f m e = subst fact (some-is o m e) f
 
 pub in-range : (these those : List ℕ) (first n : ℕ) → length these ≡ length those → InRange those first n → InRange these first n
 in-range these those first n same r = (let w = r.within in record { within = omega (arith, w, same); whole = r.whole })
@@ -114,6 +120,20 @@ module _ (T E : Type 0) (represents : List ℕ → List ℕ) (change : Change) (
           | inr e ↦ e
         ])
 
+  pub kept-added : OfFiles old (λ m. IsInOrder represents m) → StaysInOrder change before old new → OfFiles new (λ m. IsInOrder represents m)
+  kept-added k s = s represents image (go old refl k)
+    where
+      go : (o : Option Medium) → old ≡ o → OfFiles o (λ m. IsInOrder represents m)
+          → OfFiles o (λ m. IsInOrder represents m × IsBegunLog m image before × (change.first + length change.bytes / 512 ≤ m.sectors))
+      go None is k = tt
+      go (Some o) is k = (k, begun o is, inside-of o is)
+
+-- the order stays where a disk in memory is what the files hold
+pub kept-settled-on : (represents : List ℕ → List ℕ) (is contents : List ℕ) (old new : Option Medium) → represents is ≡ contents → held represents old contents ≡ contents
+    → OfFiles old (λ m. IsInOrder represents m) → SettlesInOrder is old new → OfFiles new (λ m. IsInOrder represents m)
+kept-settled-on represents is contents None new made same k s = s represents tt
+kept-settled-on represents is contents (Some m) new made same k s = s represents (k, same ∙ sym made)
+
 -- What settling leaves.
 module _ (T E : Type 0) (represents : List ℕ → List ℕ) (n : ℕ) (is contents : List ℕ) (old new : Option Medium) (last : ℕ × ℕ) (made : represents is ≡ contents) where
   module _ (t : T) (a : SettlesFiles {T = T} {E = E} is old (Ok t) last new) where
@@ -165,6 +185,11 @@ pub sectors-of : (represents : List ℕ → List ℕ) (n : ℕ) (contents image 
     → OfFiles files (λ m. IsOfDisk represents (length contents / 512) contents image last m) → length contents ≡ 512 * sectors → (m : Medium) → files ≡ Some m → m.sectors ≡ sectors
 sectors-of represents n contents image last None sectors h size m e = cc
 sectors-of represents n contents image last (Some o) sectors h size m e = (let s = h.sectors in ap (λ v. v.sectors) (some-is m o (sym e)) ∙ omega (arith, s, size))
+
+pub kept-of : (represents : List ℕ → List ℕ) (n : ℕ) (contents image : List ℕ) (last : ℕ × ℕ) (files : Option Medium) → OfFiles files (λ m. IsOfDisk represents n contents image last m)
+    → OfFiles files (λ m. IsInOrder represents m)
+kept-of represents n contents image last None h = tt
+kept-of represents n contents image last (Some m) h = alone-kept m h.low h.settled (begun-none m image last h.begun) represents
 
 pub begun-of : (represents : List ℕ → List ℕ) (n : ℕ) (contents image : List ℕ) (last : ℕ × ℕ) (files : Option Medium) → OfFiles files (λ m. IsOfDisk represents n contents image last m)
     → (m : Medium) → files ≡ Some m → IsBegunLog m image last

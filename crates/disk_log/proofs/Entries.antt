@@ -162,10 +162,10 @@ emptied U E u count entries len (Err f) (Some m) one two new h p s c =
       record m { image = with_blocks count entries m.image; log = c'.0; safe = c'.1; settled = true },
       c'.3,
       λ represents. elim c'.2 [
-        | inl e ↦ ap (λ v. contents_in represents m.sectors (with_blocks count entries m.image) v) e
+        | inl e ↦ ap (λ v. contents_in represents m.sectors (with_blocks count entries m.image) v) e.0
             ∙ (holds-placed m len count entries (with_blocks count entries m.image) represents h
             ∙ (ap (λ v. represents v) p.1 ∙ sym (holds-placed m len count entries m.image represents h)))
-        | inr e ↦ empty-holds represents m.sectors (with_blocks count entries m.image) c'.0 e
+        | inr e ↦ empty-holds represents m.sectors (with_blocks count entries m.image) c'.0 e.0
             ∙ sym (holds-placed m len count entries m.image represents h)
       ],
     )

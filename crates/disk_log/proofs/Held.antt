@@ -18,6 +18,10 @@ read-true : (t : Bool) (x y : LogReading) → t ≡ true → (if t then x else y
 read-true true x y e = refl
 read-true false x y e = cc
 
+pub read-false : (t : Bool) (x y : LogReading) → t ≡ false → (if t then x else y) ≡ y
+read-false true x y e = cc
+read-false false x y e = refl
+
 pub list-true : (t : Bool) (x y : List ℕ) → t ≡ true → (if t then x else y) ≡ x
 list-true true x y e = refl
 list-true false x y e = cc
@@ -71,7 +75,7 @@ told-changes represents image r e = list-false (begins_checkpoint r.sum r.rest) 
 pub told-checkpoint : (represents : List ℕ → List ℕ) (image : List ℕ) (r : LogReading) → begins_checkpoint r.sum r.rest ≡ true → told represents image r ≡ represents (placed_in r.rest image)
 told-checkpoint represents image r e = list-true (begins_checkpoint r.sum r.rest) (represents (placed_in r.rest image)) (replayed r.changes (represents image)) e
 
-nothing-behind : (sum : ℕ × ℕ) (rest : List ℕ) → rest ≡ [] → begins_checkpoint sum rest ≡ false
+pub nothing-behind : (sum : ℕ × ℕ) (rest : List ℕ) → rest ≡ [] → begins_checkpoint sum rest ≡ false
 nothing-behind sum rest e = ap (λ v. begins_checkpoint sum v) e ∙ none sum
   where
     none : (s : ℕ × ℕ) → begins_checkpoint s [] ≡ false
@@ -98,6 +102,13 @@ module _ (m : Medium) (image : List ℕ) (before : ℕ × ℕ) (b : IsBegunLog m
       ∙ (told-changes represents m.image (record { changes = (log_changes m.sectors m.log).changes ++ []; sum = before; rest = x }) (no-checkpoint before x e)
       ∙ (ap (λ v. replayed v (represents m.image)) (append-nil (log_changes m.sectors m.log).changes)
       ∙ sym (begun-told m image before represents b)))
+
+  torn-none : (x : List ℕ) → is_whole before x ≡ false → has_checkpoint m.sectors (m.log ++ x) ≡ false
+  torn-none x e =
+      ap (λ (r : LogReading). begins_checkpoint r.sum r.rest)
+      (log-more m.sectors m.log x before b.head b.whole
+      ∙ ap (λ r. behind (log_changes m.sectors m.log).changes r) (step-false (length x) m.sectors before x (no-record m.sectors before x e)))
+      ∙ no-checkpoint before x e
 
   -- a log to which a whole record was added
   module _ (head body : List ℕ) (kind first count : ℕ) (next : ℕ × ℕ) (made : Made head body kind first count before next) where
@@ -150,6 +161,16 @@ module _ (m : Medium) (image : List ℕ) (before : ℕ × ℕ) (b : IsBegunLog m
         ∙ ap (λ v. represents v)
         (ap (λ v. with_blocks v (drop 32 (head ++ body)) m.image) (made-count head body kind first count before next made)
         ∙ ap (λ v. with_blocks count v m.image) (made-body head body kind first count before next made 8)))
+
+    -- a part of it is no checkpoint
+    pub part-torn : (taken : List ℕ) (r : ℕ) (rest : List ℕ) → head ++ body ≡ taken ++ r ∷ rest → has_checkpoint m.sectors (m.log ++ taken) ≡ false
+    part-torn taken r rest same = torn-none taken (made-torn head body kind first count before next made taken r rest same)
+
+    pub part-none : (taken rest : List ℕ) → kind < 2 → first + count ≤ m.sectors → head ++ body ≡ taken ++ rest → has_checkpoint m.sectors (m.log ++ taken) ≡ false
+    part-none taken [] two inside same =
+        ap (λ v. has_checkpoint m.sectors (m.log ++ v)) (sym (append-nil taken) ∙ sym same)
+        ∙ (ap (λ (r : LogReading). begins_checkpoint r.sum r.rest) (change-read two inside) ∙ nothing-behind next [] refl)
+    part-none taken (r ∷ rest) two inside same = part-torn taken r rest same
 
     -- a part of it says nothing, or it is all of it
     pub part-told : (taken rest : List ℕ) (represents : List ℕ → List ℕ) → head ++ body ≡ taken ++ rest

@@ -4,9 +4,11 @@ mod Growing
 mod Places
 mod Held
 mod Entries
+mod Orders
 mod Settles
 mod Replays
 mod Disks
 mod Finding
 mod Starts
 mod Cutting
+mod Powers

@@ -1,16 +1,18 @@
 -- A log that is begun, and one that is settled.
-use Rattle.std.proofs.Common.{◌≡◌, ℕ, ◌-◌, ◌<◌, Bool, true, false, List, [], ◌∷◌, ◌++◌, inl, inr, length, drop, ap, sym, ◌∙◌, arith, refl, subst, Option, Some, None, Result, Ok, Err}
-use Rattle.std.specs.Prelude.{◌/◌, if◌then◌else◌}
+use Rattle.std.proofs.Common.{◌≡◌, ℕ, ◌-◌, ◌<◌, ◌≤◌, true, false, List, [], ◌∷◌, ◌++◌, inl, inr, length, drop, ap, sym, ◌∙◌, arith, refl, subst, Option, Some, None, Result, Ok, Err}
+use Rattle.std.specs.Prelude.{◌/◌}
 use Rattle.std.specs.Result.{IsErr}
 use Rattle.std.proofs.lemmas.List.{length-append, append-nil, drop_all}
 use Rattle.disk_log.specs.Records.{count_in, replayed}
 use Rattle.disk_log.specs.Checkpoints.{with_blocks, image_sum, IsCheckpointBody}
-use Rattle.disk_log.specs.Logs.{LogReading, log_reading, log_changes, has_head, head_sum, contents_in, Medium, IsBegunLog, IsWholeLog, read_some}
+use Rattle.disk_log.specs.Logs.{LogReading, log_reading, log_changes, has_head, head_sum, has_checkpoint, contents_in, Medium, IsBegunLog, IsWholeLog, read_some}
 use Rattle.disk_log.specs.Files.{Extends, SyncsLog, OfFiles}
-use Rattle.disk_log.specs.Settling.{HasBlocks, EmptiesLog, LogsCheckpoint, SettlesFiles}
+use Rattle.disk_log.specs.Settling.{HasBlocks, EmptiesLog, LogsCheckpoint, SettlesFiles, AreInOrder, SettlesInOrder}
+use Rattle.disk_log.specs.Power.{IsInOrder}
 use Rattle.disk_log.specs.Reading.{IsEmptyOn, TakesUp}
 use Rattle.disk_log.proofs.Growing.{Made, made-body, made-count, not-true}
-use Rattle.disk_log.proofs.Held.{log-is, head-long, checkpoint-read, checkpoint-has, checkpoint-told, part-told, told, begun-told}
+use Rattle.disk_log.proofs.Held.{log-is, head-long, checkpoint-read, checkpoint-has, checkpoint-told, part-told, part-torn, told, told-checkpoint, begun-told, read-false}
+use Rattle.disk_log.proofs.Orders.{alone-kept, begun-none, kept-settled, headless-none}
 use Rattle.disk_log.proofs.Entries.{empty-holds, holds-placed}
 
 -- a log with nothing behind its head
@@ -37,10 +39,6 @@ fresh-holds m image head represents b is long =
     let none : drop 16 m.log ≡ [] = ap (λ v. drop 16 v) is ∙ drop_all 16 head (omega (arith, long)) in
     begun-told m image (image_sum image) represents b
     ∙ ap (λ v. replayed v (represents m.image)) (fresh-changes m.sectors m.log b.head none)
-
-read-false : (t : Bool) (x y : LogReading) → t ≡ false → (if t then x else y) ≡ y
-read-false true x y e = cc
-read-false false x y e = refl
 
 -- a log with no head says nothing
 pub headless-holds : (represents : List ℕ → List ℕ) (n : ℕ) (image log : List ℕ) → has_head log ≡ false → contents_in represents n image log ≡ represents image
@@ -70,7 +68,8 @@ module _ (image head : List ℕ) (long : length head ≡ 16) (has : has_head hea
       let m' : Medium = record m { log = m.log ++ (head ++ []) } in
       let is : m'.log ≡ head = ap (λ v. v ++ (head ++ [])) h.1 ∙ append-nil head in
       let b = fresh-begun m' image head h.0 is long has own in
-      (m', e, refl, b, λ represents. fresh-holds m' image head represents b is long ∙ sym (empty-holds represents m.sectors m.image m.log h.1))
+      let none = h.3 in
+      (m', e, refl, b, λ represents. fresh-holds m' image head represents b is long ∙ sym (empty-holds represents m.sectors m.image m.log h.1), h.2, omega (arith, none))
 
   part-holds : (m : Medium) (taken rest : List ℕ) (represents : List ℕ → List ℕ) → IsEmptyOn image m → head ++ [] ≡ taken ++ rest
       → contents_in represents m.sectors m.image (m.log ++ taken) ≡ represents m.image
@@ -87,6 +86,25 @@ module _ (image head : List ℕ) (long : length head ≡ 16) (has : has_head hea
   log-unbegun T E F f g None new h e = e
   log-unbegun T E F f g (Some m) new h (taken, rest, same, is) =
       (record m { log = m.log ++ taken }, is, λ represents. part-holds m taken rest represents h same ∙ sym (empty-holds represents m.sectors m.image m.log h.1))
+
+  part-none : (m : Medium) (taken rest : List ℕ) → IsEmptyOn image m → head ++ [] ≡ taken ++ rest → has_checkpoint m.sectors (m.log ++ taken) ≡ false
+  part-none m taken [] h same =
+      let is : m.log ++ taken ≡ head = ap (λ v. v ++ taken) h.1 ∙ (sym (append-nil taken) ∙ (sym same ∙ append-nil head)) in
+      begun-none (record m { log = m.log ++ taken }) image (image_sum image) (fresh-begun (record m { log = m.log ++ taken }) image head h.0 is long has own)
+  part-none m taken (r ∷ rest) h same =
+      headless-none m.sectors (m.log ++ taken) (ap (λ v. has_head (v ++ taken)) h.1 ∙ no-head taken (part-short head taken r rest long same))
+
+  part-kept : (m : Medium) (taken rest : List ℕ) (new : Option Medium) → IsEmptyOn image m → head ++ [] ≡ taken ++ rest → new ≡ Some (record m { log = m.log ++ taken }) → AreInOrder new
+  part-kept m taken rest new h same e represents =
+      let none = h.3 in
+      subst (λ v. OfFiles v (λ m. IsInOrder represents m)) (sym e)
+      (alone-kept (record m { log = m.log ++ taken }) (omega (arith, none)) h.2 (part-none m taken rest h same) represents)
+
+  pub log-kept : (T E : Type 0) (r : Result T E) (old new : Option Medium) → OfFiles old (λ m. IsEmptyOn image m) → Extends {T = T} {E = E} old (head ++ []) r new → AreInOrder new
+  log-kept T E (Ok t) None new h e represents = subst (λ v. OfFiles v (λ m. IsInOrder represents m)) (sym e) tt
+  log-kept T E (Err f) None new h e represents = subst (λ v. OfFiles v (λ m. IsInOrder represents m)) (sym e) tt
+  log-kept T E (Ok t) (Some m) new h e represents = part-kept m (head ++ []) [] new h (sym (append-nil (head ++ []))) e represents
+  log-kept T E (Err f) (Some m) new h (taken, rest, same, e) represents = part-kept m taken rest new h same e represents
 
 -- a checkpoint that is appended
 module _ (was is body head : List ℕ) (before next : ℕ × ℕ) (same : length was ≡ length is) (whole : IsCheckpointBody was is body)
@@ -123,7 +141,7 @@ module _ (was is body head : List ℕ) (before next : ℕ × ℕ) (same : length
       )
   checkpoint-logged T E t (Err f) (Some m) mid new b e s =
       let s' = subst (λ v. SyncsLog {T = T} {E = E} v (Err f) new) e s in
-      (record m { log = m.log ++ (head ++ body); safe = s'.0 }, s'.1, λ represents. inr (settled-told m represents b))
+      (record m { log = m.log ++ (head ++ body); safe = s'.0 }, s'.2, λ represents. inr (settled-told m represents b))
 
   pub checkpoint-unlogged : (T U E F : Type 0) (f : E) (g : F) (old new : Option Medium) → OfFiles old (λ m. IsBegunLog m was before)
       → Extends {T = T} {E = E} old (head ++ body) (Err f) new → LogsCheckpoint {T = U} {E = F} is body old (Err g) new
@@ -137,6 +155,55 @@ module _ (was is body head : List ℕ) (before next : ℕ × ℕ) (same : length
       | inr h ↦ inr (h ∙ settled-told m represents b)
     ],
   )
+
+  all-kept : (m : Medium) (represents : List ℕ → List ℕ) (safe : ℕ) → IsBegunLog m was before → IsInOrder represents m → contents_in represents m.sectors m.image m.log ≡ represents is
+      → safe ≤ length (m.log ++ (head ++ body)) → IsInOrder represents (record m { log = m.log ++ (head ++ body); safe = safe })
+  unfolding count
+  all-kept m represents safe b k same low =
+      let read = checkpoint-read m was before b head body 2 0 count next made refl in
+      record {
+        low = low;
+        order = λ x. (
+          kept-settled m was before represents b k,
+          λ e. sym (told-checkpoint represents m.image (log_changes m.sectors (m.log ++ (head ++ body))) e)
+              ∙ (settled-told m represents b
+              ∙ (sym same
+              ∙ (begun-told m was before represents b
+              ∙ ap (λ v. replayed v (represents m.image)) (sym (ap (λ (r : LogReading). r.changes) read ∙ append-nil (log_changes m.sectors m.log).changes))))),
+        );
+      }
+
+  after : (m : Medium) → m.safe ≤ length m.log → (safe : ℕ) → (m.safe ≤ length (m.log ++ (head ++ body)) → safe ≤ length (m.log ++ (head ++ body))) → safe ≤ length (m.log ++ (head ++ body))
+  after m low safe f = (let l = length-append m.log (head ++ body) in f (omega (arith, low, l)))
+
+  pub checkpoint-kept : (T E : Type 0) (t : T) (r : Result T E) (old mid new : Option Medium) → OfFiles old (λ m. IsBegunLog m was before)
+      → Extends {T = T} {E = E} old (head ++ body) (Ok t) mid → SyncsLog {T = T} {E = E} mid r new → SettlesInOrder is old new
+  checkpoint-kept T E t (Ok u) None mid new b e s represents k = subst (λ v. OfFiles v (λ m. IsInOrder represents m)) (sym (subst (λ v. SyncsLog {T = T} {E = E} v (Ok u) new) e s)) tt
+  checkpoint-kept T E t (Err f) None mid new b e s represents k = subst (λ v. OfFiles v (λ m. IsInOrder represents m)) (sym (subst (λ v. SyncsLog {T = T} {E = E} v (Err f) new) e s)) tt
+  checkpoint-kept T E t (Ok u) (Some m) mid new b e s represents k =
+      let s' = subst (λ v. SyncsLog {T = T} {E = E} v (Ok u) new) e s in
+      subst (λ v. OfFiles v (λ m. IsInOrder represents m)) (sym s') (all-kept m represents (length (m.log ++ (head ++ body))) b k.0 k.1 (omega arith))
+  checkpoint-kept T E t (Err f) (Some m) mid new b e s represents k =
+      let s' = subst (λ v. SyncsLog {T = T} {E = E} v (Err f) new) e s in
+      subst (λ v. OfFiles v (λ m. IsInOrder represents m)) (sym s'.2) (all-kept m represents s'.0 b k.0 k.1 (after m k.0.low s'.0 s'.1))
+
+  taken-kept : (m : Medium) (represents : List ℕ → List ℕ) (taken rest : List ℕ) → IsBegunLog m was before → IsInOrder represents m → contents_in represents m.sectors m.image m.log ≡ represents is
+      → head ++ body ≡ taken ++ rest → IsInOrder represents (record m { log = m.log ++ taken })
+  unfolding count
+  taken-kept m represents taken [] b k same part =
+      let low = k.low in
+      let l = length-append m.log (head ++ body) in
+      subst (λ v. IsInOrder represents (record m { log = m.log ++ v })) (part ∙ append-nil taken) (all-kept m represents m.safe b k same (omega (arith, low, l)))
+  taken-kept m represents taken (r ∷ rest) b k same part =
+      let low = k.low in
+      let l = length-append m.log taken in
+      alone-kept (record m { log = m.log ++ taken }) (omega (arith, low, l)) (kept-settled m was before represents b k)
+      (part-torn m was before b head body 2 0 count next made taken r rest part) represents
+
+  pub checkpoint-unkept : (T E : Type 0) (f : E) (old new : Option Medium) → OfFiles old (λ m. IsBegunLog m was before) → Extends {T = T} {E = E} old (head ++ body) (Err f) new → SettlesInOrder is old new
+  checkpoint-unkept T E f None new b e represents k = subst (λ v. OfFiles v (λ m. IsInOrder represents m)) (sym e) tt
+  checkpoint-unkept T E f (Some m) new b (taken, rest, part, e) represents k =
+      subst (λ v. OfFiles v (λ m. IsInOrder represents m)) (sym e) (taken-kept m represents taken rest b k.0 k.1 part)
 
 -- The steps of settling.
 module _ (was is body : List ℕ) (before : ℕ × ℕ) (whole : IsCheckpointBody was is body) where
@@ -177,7 +244,7 @@ module _ (was is body : List ℕ) (before : ℕ × ℕ) (whole : IsCheckpointBod
       subst (λ v. OfFiles v (λ m. IsEmptyOn is m)) (sym p') tt
   emptied-on T E t (Some m) one two b s p =
       let p' = subst (λ v. EmptiesLog {T = T} {E = E} ((length body - 8) / 4104) (drop 8 body) v (Ok t) two) s.1 p in
-      subst (λ v. OfFiles v (λ m. IsEmptyOn is m)) (sym p') (placed-is m s.0 (length is) (λ v. v) b s.3, refl)
+      subst (λ v. OfFiles v (λ m. IsEmptyOn is m)) (sym p') (placed-is m s.0 (length is) (λ v. v) b s.3, refl, refl, refl)
 
   module _ (T E : Type 0) (t : T) (old one two new : Option Medium) (b : OfFiles old (λ m. IsBegunLog m was before))
       (s : LogsCheckpoint {T = T} {E = E} is body old (Ok t) one) (p : EmptiesLog {T = T} {E = E} ((length body - 8) / 4104) (drop 8 body) one (Ok t) two) where

@@ -1,17 +1,16 @@
 -- A log that a start takes up.
 use Rattle.std.proofs.Common.{◌≡◌, ℕ, ◌+◌, ◌-◌, ◌*◌, ◌≤◌, true, List, [], inl, inr, length, take, drop, ap, sym, ◌∙◌, arith, refl, subst, Option, Some, None, Result, Ok, Err}
 use Rattle.std.specs.Result.{IsErr}
-use Rattle.std.proofs.lemmas.List.{length-drop, drop-drop, take_rest, drop_all}
+use Rattle.std.proofs.lemmas.List.{length-drop, drop-drop, take_rest}
 use Rattle.disk_log.specs.Records.{count_in}
-use Rattle.disk_log.specs.Checkpoints.{with_blocks, placed_in, image_sum}
-use Rattle.disk_log.specs.Logs.{LogReading, log_changes, has_head, head_sum, has_checkpoint, contents_in, Medium, IsWholeLog, HoldsAs}
+use Rattle.disk_log.specs.Checkpoints.{with_blocks, placed_in}
+use Rattle.disk_log.specs.Logs.{log_changes, has_head, has_checkpoint, contents_in, Medium, HoldsAs}
 use Rattle.disk_log.specs.Files.{SyncsLog, SyncsImage, CutsLog, IsNeedless, OfFiles}
 use Rattle.disk_log.specs.Settling.{HasBlocks, EmptiesLog}
 use Rattle.disk_log.specs.Reading.{IsEmptyOn, IsBlankOn, IsPlacedOn, IsRead, ReadsLog, TakesUp}
 use Rattle.disk_log.specs.declared.reading.Found.TheVariants as founds
 use Rattle.disk_log.proofs.Records.{checkpoint-is}
 use Rattle.disk_log.proofs.Places.{placed-len}
-use Rattle.disk_log.proofs.Held.{log-is}
 use Rattle.disk_log.proofs.Entries.{empty-holds, holds-placed}
 use Rattle.disk_log.proofs.Settles.{headless-holds}
 use Rattle.disk_log.proofs.Finding.{entries-long}
@@ -25,7 +24,7 @@ pub kept-on : (E : Type 0) (image : List ℕ) (r : Result (ℕ × ℕ) E) (old m
 kept-on E image r None mid new k t = subst (λ v. TakesUp {E = E} v image r new) k t
 kept-on E image (Ok sum) (Some m) mid new k t =
     let t' = subst (λ v. TakesUp {E = E} v image (Ok sum) new) k.1 t in
-    (t'.0, t'.1, t'.2 ∙ k.2, t'.3, λ represents. t'.4 represents ∙ k.3 represents)
+    (t'.0, t'.1, t'.2 ∙ k.2, t'.3, λ represents. t'.4 represents ∙ k.3 represents, t'.5, t'.6)
 kept-on E image (Err e) (Some m) mid new k t =
     let t' = subst (λ v. TakesUp {E = E} v image (Err e) new) k.1 t in
     (t'.0, t'.1, λ represents. t'.2 represents ∙ k.3 represents)
@@ -51,7 +50,7 @@ pub keeps-log : (T E : Type 0) (r : Result T E) (old new : Option Medium) → Sy
 keeps-log T E (Ok t) None new s = s
 keeps-log T E (Err e) None new s = s
 keeps-log T E (Ok t) (Some m) new s = (record m { safe = length m.log }, s, refl, λ represents. refl)
-keeps-log T E (Err e) (Some m) new s = (record m { safe = s.0 }, s.1, refl, λ represents. refl)
+keeps-log T E (Err e) (Some m) new s = (record m { safe = s.0 }, s.2, refl, λ represents. refl)
 
 -- a log with no head is cut
 pub blank-needless : (T E : Type 0) (t : T) (image : List ℕ) (old mid : Option Medium) → OfFiles old (λ m. IsBlankOn image m) → SyncsImage {T = T} {E = E} old (Ok t) mid → OfFiles mid (λ m. IsNeedless 0 m)
@@ -79,8 +78,8 @@ blank-cut T U E t (Err e) image (Some m) mid new b s c =
       c'.3,
       refl,
       λ represents. elim c'.2 [
-        | inl h ↦ ap (λ v. contents_in represents m.sectors m.image v) h
-        | inr h ↦ empty-holds represents m.sectors m.image c'.0 h ∙ sym (headless-holds represents m.sectors m.image m.log b.1)
+        | inl h ↦ ap (λ v. contents_in represents m.sectors m.image v) h.0
+        | inr h ↦ empty-holds represents m.sectors m.image c'.0 h.0 ∙ sym (headless-holds represents m.sectors m.image m.log b.1)
       ],
     )
 
@@ -89,7 +88,7 @@ pub blank-empty : (T U E : Type 0) (t : T) (u : U) (image : List ℕ) (old mid n
 blank-empty T U E t u image None mid new b s c =
     subst (λ v. OfFiles v (λ m. IsEmptyOn image m)) (sym (subst (λ v. CutsLog {T = U} {E = E} 0 v (Ok u) new) s c)) tt
 blank-empty T U E t u image (Some m) mid new b s c =
-    subst (λ v. OfFiles v (λ m. IsEmptyOn image m)) (sym (subst (λ v. CutsLog {T = U} {E = E} 0 v (Ok u) new) s c)) (b.0, refl)
+    subst (λ v. OfFiles v (λ m. IsEmptyOn image m)) (sym (subst (λ v. CutsLog {T = U} {E = E} 0 v (Ok u) new) s c)) (b.0, refl, refl, refl)
 
 -- a checkpoint is placed
 pub placed-blocks : (T E : Type 0) (t : T) (image checkpoint : List ℕ) (count : ℕ) (old mid : Option Medium) → 32 + 4104 * count_in checkpoint ≤ length checkpoint → count ≡ count_in checkpoint
@@ -128,7 +127,7 @@ module _ (image checkpoint entries : List ℕ) (count : ℕ) (same : count ≡ c
       → EmptiesLog {T = U} {E = E} count entries mid (Ok u) new → OfFiles new (λ m. IsEmptyOn image m)
   emptied-empty T U E t u None mid new p s e = subst (λ v. OfFiles v (λ m. IsEmptyOn image m)) (sym (subst (λ v. EmptiesLog {T = U} {E = E} count entries v (Ok u) new) s e)) tt
   emptied-empty T U E t u (Some m) mid new p s e =
-      subst (λ v. OfFiles v (λ m. IsEmptyOn image m)) (sym (subst (λ v. EmptiesLog {T = U} {E = E} count entries v (Ok u) new) s e)) (placed-is m p, refl)
+      subst (λ v. OfFiles v (λ m. IsEmptyOn image m)) (sym (subst (λ v. EmptiesLog {T = U} {E = E} count entries v (Ok u) new) s e)) (placed-is m p, refl, refl, refl)
 
 pub unplaced-err : (U E F : Type 0) (f : E) (image : List ℕ) (count : ℕ) (entries : List ℕ) (r : Result (ℕ × ℕ) F) → IsErr r → (T : Type 0) (t : T) (old mid new : Option Medium) → SyncsLog {T = T} {E = E} old (Ok t) mid
     → EmptiesLog {T = U} {E = E} count entries mid (Err f) new → TakesUp {E = F} old image r new

@@ -18,7 +18,9 @@ Extends (Some m) bytes (Err _) new = (taken rest : List ℕ) × (bytes ≡ taken
 abbrev pub SyncsLog : {T E : Type 0} → Option Medium → Result T E → Option Medium → Type 0
 SyncsLog None result new = new ≡ None
 SyncsLog (Some m) (Ok _) new = new ≡ Some (record m { safe = length m.log })
-SyncsLog (Some m) (Err _) new = (safe : ℕ) × (new ≡ Some (record m { safe = safe }))
+SyncsLog (Some m) (Err _) new =
+    (safe : ℕ) × (m.safe ≤ length m.log → safe ≤ length m.log)
+    × (new ≡ Some (record m { safe = safe }))
 
 -- the block has these bytes, or any
 abbrev pub WritesBlock : {T E : Type 0} → ℕ → List ℕ → Option Medium → Result T E → Option Medium
@@ -42,7 +44,7 @@ abbrev pub CutsLog : {T E : Type 0} → ℕ → Option Medium → Result T E →
 CutsLog len None result new = new ≡ None
 CutsLog len (Some m) (Ok _) new = new ≡ Some (record m { log = take len m.log; safe = len })
 CutsLog len (Some m) (Err _) new = (log : List ℕ) × (safe : ℕ)
-    × ((log ≡ m.log) ⊎ (log ≡ take len m.log))
+    × (((log ≡ m.log) × (safe ≡ m.safe)) ⊎ ((log ≡ take len m.log) × (safe ≤ length log)))
     × (new ≡ Some (record m { log = log; safe = safe }))
 
 -- A block may be written into the image: all of the log is on the medium, and it has a checkpoint

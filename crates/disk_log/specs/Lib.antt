@@ -6,3 +6,4 @@ pub mod Reading
 pub mod Logged
 pub mod Settling
 pub mod Memory
+pub mod Power

@@ -1,5 +1,5 @@
 -- What is known of a disk with a log. Source: own.
-use Rattle.std.specs.Prelude.{◌≡◌, ◌+◌, ℕ, Bool, true, false, List, Option, Result}
+use Rattle.std.specs.Prelude.{◌≡◌, ◌≤◌, ◌+◌, ℕ, Bool, true, false, List, length, Option, Result}
 use Rattle.std.specs.Prelude.{Ok, Err, Some, None}
 use Rattle.disk_log.specs.Logs.{Medium, IsBegunLog, contents_in, held}
 use Rattle.block_device.specs.Facts.{Facts, CountsNeverFall, Latches, Writes}
@@ -44,12 +44,14 @@ standing_answer Cut = Err errors.Cut
 standing_answer Slow = Err errors.Slow
 
 -- The files are those of a disk of n sectors with these contents, and the log was begun on these
--- bytes of the image; its last record has this sum.
+-- bytes of the image, all of which are on the medium; its last record has this sum.
 pub record IsOfDisk (represents : List ℕ → List ℕ) (n : ℕ) (contents image : List ℕ)
     (last : ℕ × ℕ) (m : Medium) : Type 0 where
   pub sectors : m.sectors ≡ n
   pub begun : IsBegunLog m image last
   pub same : contents_in represents m.sectors m.image m.log ≡ contents
+  pub settled : m.settled ≡ true
+  pub low : m.safe ≤ length m.log
 
 -- a call that changes no sector, whatever it answers
 pub record Settled {T : Type 0} (old : Facts) (result : Result T DiskError) (new : Facts)

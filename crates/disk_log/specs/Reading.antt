@@ -47,17 +47,17 @@ IsRead n image log found m = (m.sectors ≡ n) × (m.log ≡ log)
     × ReadsLog n log m.image (Ok found) image
 
 -- what a start that takes up a log leaves of the files: one that was begun on the image as it is in
--- memory, or, where a call failed, what they held
+-- memory, all of which is on the medium, or, where a call failed, what they held
 abbrev pub TakesUp : {E : Type 0} → Option Medium → List ℕ → Result (ℕ × ℕ) E → Option Medium
     → Type 0
 TakesUp None image result new = new ≡ None
 TakesUp (Some m) image (Ok sum) new = (m' : Medium) × (new ≡ Some m') × (m'.sectors ≡ m.sectors)
-    × IsBegunLog m' image sum × HoldsAs m m'
+    × IsBegunLog m' image sum × HoldsAs m m' × (m'.settled ≡ true) × (m'.safe ≤ length m'.log)
 TakesUp (Some m) image (Err _) new = (m' : Medium) × (new ≡ Some m') × HoldsAs m m'
 
--- an empty log, beside an image with these bytes
+-- an empty log, beside an image with these bytes, all of which is on the medium
 abbrev pub IsEmptyOn : List ℕ → Medium → Type 0
-IsEmptyOn image m = (m.image ≡ image) × (m.log ≡ [])
+IsEmptyOn image m = (m.image ≡ image) × (m.log ≡ []) × (m.settled ≡ true) × (m.safe ≡ 0)
 
 -- a log with no head, beside an image with these bytes
 abbrev pub IsBlankOn : List ℕ → Medium → Type 0

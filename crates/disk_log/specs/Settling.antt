@@ -6,6 +6,28 @@ use Rattle.disk_log.specs.Checkpoints.{HasBlock, KeepsOthers, entry_number, byte
 use Rattle.disk_log.specs.Checkpoints.{with_block, with_blocks}
 use Rattle.disk_log.specs.Logs.{Medium, IsBegunLog, HoldsAs, contents_in, has_checkpoint}
 use Rattle.disk_log.specs.Logs.{log_changes}
+use Rattle.disk_log.specs.Files.{OfFiles}
+use Rattle.disk_log.specs.Power.{IsInOrder}
+
+-- The files are written in order, whatever an image represents.
+abbrev pub AreInOrder : Option Medium → Type 0
+AreInOrder files = (represents : List ℕ → List ℕ) → OfFiles files (λ m. IsInOrder represents m)
+
+-- A call that adds a change keeps the order of files whose log was begun, where the sectors are on
+-- the disk.
+abbrev pub StaysInOrder : Change → ℕ × ℕ → Option Medium → Option Medium → Type 0
+StaysInOrder change before old new = (represents : List ℕ → List ℕ) → (image : List ℕ)
+    → OfFiles old (λ m. IsInOrder represents m × IsBegunLog m image before
+    × (change.first + length change.bytes / 512 ≤ m.sectors))
+    → OfFiles new (λ m. IsInOrder represents m)
+
+-- A call that makes the image one with the bytes `is` keeps the order of files whose log was begun
+-- on it, where `is` represents what the files hold.
+abbrev pub SettlesInOrder : List ℕ → Option Medium → Option Medium → Type 0
+SettlesInOrder is old new = (represents : List ℕ → List ℕ)
+    → OfFiles old (λ m. IsInOrder represents m
+    × (contents_in represents m.sectors m.image m.log ≡ represents is))
+    → OfFiles new (λ m. IsInOrder represents m)
 
 -- What an append of a record with this change leaves of files whose log was begun, where the
 -- sectors are on the disk: one change more; where it failed, the same ones, or one more.

@@ -2,7 +2,7 @@
 
 ghost use Rattle.std.specs.Prelude.{◌≡◌, ◌<◌, length};
 ghost use Rattle.disk_log.specs.Records.{record_change, body_len_of};
-ghost use Rattle.disk_log.specs.Settling.{AddsChange};
+ghost use Rattle.disk_log.specs.Settling.{AddsChange, StaysInOrder};
 
 use crate::file::ImageFiles;
 use crate::record::{Sum, head_of};
@@ -20,8 +20,10 @@ pub(crate) fn append_change<F: ImageFiles>(
 ) -> io::Result<()>
     requires kind { kind < 2 }
     requires len { length body.now ≡ body_len_of kind count }
-    ensures { AddsChange (record_change kind first count body.now) sum.old (F.medium files.old)
-        result sum.new (F.medium files.new) }
+    ensures adds { AddsChange (record_change kind first count body.now) sum.old
+        (F.medium files.old) result sum.new (F.medium files.new) }
+    ensures kept { StaysInOrder (record_change kind first count body.now) sum.old
+        (F.medium files.old) (F.medium files.new) }
 {
     let (head, next) = head_of(kind, first, count, body, *sum);
     match files.append(&head, body) {

@@ -11,7 +11,8 @@ pub const IMAGE_BLOCK_LEN: usize = 4096;
 
 /// An image file and the log beside it. What the calls require is the order in which a host has to
 /// keep what is written: a block is written into the image only where all of the log is on the
-/// medium, and the log is cut only where all of the image is. Source: own.
+/// medium, and the log is cut only where all of the image is. A call that fails may have done
+/// nothing, so that what holds after one that failed holds at each moment before it. Source: own.
 pub trait ImageFiles {
     ghost use Rattle.std.specs.Prelude.{Option};
     ghost use Rattle.disk_log.specs.Logs.{Medium};

@@ -10,10 +10,15 @@
 //! before all of the image is. An error is the last: all later calls answer it again.
 //! `read_log` says what a start finds, `replay` makes the changes on a disk, and `take_up` readies
 //! the files. A record's sum goes on from that of the one before, so neither one that was cut short
-//! is taken nor one of an older log. Where bytes of its middle may be lost, as by the host's power,
-//! that it doesn't have its sum by chance is a premise; where a write ends early it is none.
+//! is taken nor one of an older log.
 //!
-//! Left to the crate above: the files, and when the log is synced. No command uses it yet.
+//! After each call, also one that failed, the two files are in the order that `IsInOrder` says, of
+//! files that tell and of a disk that is sound; `into_parts` hands that on. So `survivors_hold`
+//! applies: what the host losing its power leaves of them holds what they held, or what a kill at
+//! an earlier moment would have left, no earlier than the last sync of the log. One premise is left
+//! (`HasTrueSums`): no bytes but those that were written have the sum of a record by chance.
+//!
+//! Left to the crate above: the files, and when the log is synced.
 //!
 //! Source: own; the sum is that of SQLite's write-ahead log.
 
@@ -23,6 +28,7 @@ mod adding;
 mod checkpoint;
 mod file;
 mod head;
+mod laws;
 mod logged;
 mod memory;
 mod placing;
@@ -33,6 +39,7 @@ mod taking;
 
 pub use file::{IMAGE_BLOCK_LEN, ImageFiles};
 pub use head::LOG_HEAD_LEN;
+pub use laws::survivors_hold;
 pub use logged::{ImageDisk, LoggedDisk, Standing};
 pub use memory::MemoryFiles;
 pub use reading::{Found, Refusal, read_log};

@@ -8,6 +8,7 @@ ghost use Rattle.disk_log.specs.Checkpoints.{IsImageLen};
 ghost use Rattle.disk_log.specs.Files.{OfFiles};
 ghost use Rattle.disk_log.specs.Logs.{IsBegunLog, Medium, contents_in, held};
 ghost use Rattle.disk_log.specs.declared.logged.Standing.TheVariants.{Ready};
+ghost use Rattle.disk_log.specs.Power.{IsInOrder};
 ghost use Rattle.disk_log.specs.Logged.{IsOfDisk, logged_facts, standing_answer};
 
 use crate::adding::append_change;
@@ -73,6 +74,9 @@ pub struct LoggedDisk<D: ImageDisk, F: ImageFiles, L: Ledger> {
         → IsBegunLog m image.items sum },
     ghost same: { standing ≡ Ready → (D.facts disk).sound ≡ true
         → held D.represents (F.medium files) (D.facts disk).contents ≡ (D.facts disk).contents },
+    // the two files are in the order that the law of the host's power asks for
+    ghost kept: { (D.facts disk).sound ≡ true → (m : Medium) → F.medium files ≡ Some m
+        → IsInOrder D.represents m },
 }
 
 /// What stands after an error.
@@ -114,12 +118,15 @@ impl<D: ImageDisk, F: ImageFiles, L: Ledger> LoggedDisk<D, F, L> {
         }
     }
 
-    /// The disk and the files: what the files hold is what this disk held.
+    /// The disk and the files: what the files hold is what this disk held, and they are in the
+    /// order that the law of the host's power asks for.
     pub fn into_parts(self) -> (D, F)
         ensures parts { result ≡ (self.disk, self.files) }
         ensures holds { OfFiles (F.medium result.1) (λ m.
             contents_in D.represents m.sectors m.image m.log
             ≡ (⟦<LoggedDisk<D, F, L> as Disk>⟧.facts self).contents) }
+        ensures kept { (⟦<LoggedDisk<D, F, L> as Disk>⟧.facts self).sound ≡ true
+            → OfFiles (F.medium result.1) (λ m. IsInOrder D.represents m) }
     {
         let LoggedDisk { disk, files, .. } = self;
         (disk, files)
@@ -173,7 +180,7 @@ impl<D: ImageDisk, F: ImageFiles, L: Ledger> LoggedDisk<D, F, L> {
         }
     }
 
-    /// SettlesFiles a log that has four images' lengths.
+    /// Settles a log that has four images' lengths.
     fn make_room(&mut self) -> Result<(), DiskError>
         ensures { Settled (⟦<LoggedDisk<D, F, L> as Disk>⟧.facts self.old) result
             (⟦<LoggedDisk<D, F, L> as Disk>⟧.facts self.new) }

@@ -6,7 +6,8 @@ ghost use Rattle.disk_log.specs.Files.{OfFiles};
 ghost use Rattle.disk_log.specs.Logs.{IsBegunLog};
 ghost use Rattle.disk_log.specs.Reading.{IsEmptyOn, TakesUp};
 ghost use Rattle.disk_log.specs.Settling.{EmptiesLog, HasBlocks, HasEntryOf, LogsCheckpoint};
-ghost use Rattle.disk_log.specs.Settling.{PlacesBlocks, PlacesEntry, SettlesFiles};
+ghost use Rattle.disk_log.specs.Settling.{PlacesBlocks, PlacesEntry, SettlesFiles, SettlesInOrder};
+ghost use Rattle.disk_log.specs.Settling.{AreInOrder};
 
 use crate::checkpoint::{CHECKPOINT_ENTRY_LEN, changed_blocks, image_sum};
 use crate::file::{IMAGE_BLOCK_LEN, ImageFiles};
@@ -58,7 +59,9 @@ pub(crate) fn place_blocks<F: ImageFiles>(
 ) -> io::Result<()>
     requires long { 8 + 4104 * count ≤ length body.now }
     requires there { OfFiles (F.medium files.old) (λ m. HasBlocks m len count (drop 8 body.now)) }
-    ensures { EmptiesLog count (drop 8 body.now) (F.medium files.old) result (F.medium files.new) }
+    ensures empties { EmptiesLog count (drop 8 body.now) (F.medium files.old) result
+        (F.medium files.new) }
+    ensures kept { AreInOrder (F.medium files.new) }
 {
     write_blocks(files, len, count, body)?;
     files.sync_image()?;
@@ -68,7 +71,8 @@ pub(crate) fn place_blocks<F: ImageFiles>(
 /// Begins an empty log on an image with these bytes.
 pub(crate) fn begin_log<F: ImageFiles>(files: &mut F, image: &[u8]) -> io::Result<Sum>
     requires { OfFiles (F.medium files.old) (λ m. IsEmptyOn image.now m) }
-    ensures { TakesUp (F.medium files.old) image.now result (F.medium files.new) }
+    ensures takes { TakesUp (F.medium files.old) image.now result (F.medium files.new) }
+    ensures kept { AreInOrder (F.medium files.new) }
 {
     let sum = image_sum(image);
     match files.append(&log_head(sum), &[]) {
@@ -89,7 +93,9 @@ fn log_checkpoint<F: ImageFiles>(
     requires same { length was.now ≡ length is.now }
     requires body { IsCheckpointBody was.now is.now body.now }
     requires begun { OfFiles (F.medium files.old) (λ m. IsBegunLog m was.now before) }
-    ensures { LogsCheckpoint is.now body.now (F.medium files.old) result (F.medium files.new) }
+    ensures logs { LogsCheckpoint is.now body.now (F.medium files.old) result
+        (F.medium files.new) }
+    ensures kept { SettlesInOrder is.now (F.medium files.old) (F.medium files.new) }
 {
     let count = (body.len() - 8) / CHECKPOINT_ENTRY_LEN;
     let (head, _) = head_of(2, 0, count as u32, body, before);
@@ -112,7 +118,9 @@ pub(crate) fn settle_files<F: ImageFiles>(
     requires same { length was.now ≡ length is.now }
     requires len { IsImageLen (length is.now) }
     requires begun { OfFiles (F.medium files.old) (λ m. IsBegunLog m was.now sum.old) }
-    ensures { SettlesFiles is.now (F.medium files.old) result sum.new (F.medium files.new) }
+    ensures settles { SettlesFiles is.now (F.medium files.old) result sum.new
+        (F.medium files.new) }
+    ensures kept { SettlesInOrder is.now (F.medium files.old) (F.medium files.new) }
 {
     let Ok(checkpoint) = changed_blocks(alloc, was, is) else {
         return Err(io::Error::from(ErrorKind::OutOfMemory));

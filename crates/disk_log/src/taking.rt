@@ -13,8 +13,8 @@ use std::io;
 
 /// Makes a log that a start found ready for more: places the blocks of a checkpoint in the image
 /// and begins the log anew, cuts off what is behind its changes, or begins one. `image` has the
-/// bytes that the reading left. The sum is that on which the next record goes on. Where a
-/// call fails, the files hold what they did.
+/// bytes that the reading left, all of which are on the medium then. The sum is that on which the
+/// next record goes on. Where a call fails, the files hold what they did.
 pub fn take_up<F: ImageFiles>(
     files: &mut F,
     sectors: u32,

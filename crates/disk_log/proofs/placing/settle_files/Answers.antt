@@ -6,35 +6,47 @@ use Rattle.disk_log.proofs.placing.settle_files.Goals as goal
 pub log_checkpoint-requires-clause-body : goal.log_checkpoint-requires-clause-body
 log_checkpoint-requires-clause-body g c = subst (λ v. IsCheckpointBody c.args.was.now c.args.is.now v) (sym c.as_slice-body.ensures.value) c.in-Ok.ensures
 
-pub returns-in_err-log_checkpoint : goal.returns-in_err-log_checkpoint
-returns-in_err-log_checkpoint g c =
+pub returns-in_err-log_checkpoint-clause-settles : goal.returns-in_err-log_checkpoint-clause-settles
+returns-in_err-log_checkpoint-clause-settles g c =
     let w = subst (λ v. IsCheckpointBody c.args.was.now c.args.is.now v) (sym c.as_slice-body.ensures.value) c.in-Ok.ensures in
-    unsettled c.args.was.now c.args.is.now c.as_slice-body.result.now c.args.sum.now w _ _ _ _ _ _ c.from_residual.ensures.0 _ _ _ c.in_err-log_checkpoint.ensures
+    unsettled c.args.was.now c.args.is.now c.as_slice-body.result.now c.args.sum.now w _ _ _ _ _ _ c.from_residual.ensures.0 _ _ _ c.in_err-log_checkpoint.ensures.logs
 
 pub place_blocks-requires-clause-there : goal.place_blocks-requires-clause-there
 place_blocks-requires-clause-there g c =
     let w = subst (λ v. IsCheckpointBody c.args.was.now c.args.is.now v) (sym c.as_slice-body.ensures.value) c.in-Ok.ensures in
-    logged-blocks c.args.was.now c.args.is.now c.as_slice-body.result.now c.args.sum.now w _ _ _ _ _ c.in_ok-log_checkpoint.ensures
+    logged-blocks c.args.was.now c.args.is.now c.as_slice-body.result.now c.args.sum.now w _ _ _ _ _ c.in_ok-log_checkpoint.ensures.logs
 
-pub returns-in_err-place_blocks : goal.returns-in_err-place_blocks
-returns-in_err-place_blocks g c =
+pub returns-in_err-place_blocks-clause-settles : goal.returns-in_err-place_blocks-clause-settles
+returns-in_err-place_blocks-clause-settles g c =
     let w = subst (λ v. IsCheckpointBody c.args.was.now c.args.is.now v) (sym c.as_slice-body.ensures.value) c.in-Ok.ensures in
     unplaced-settles c.args.was.now c.args.is.now c.as_slice-body.result.now c.args.sum.now w _ _ _ _ _ _ _ c.from_residual-in_err-place_blocks.ensures.0 _ _ _ _
-    c.requires.begun c.in_ok-log_checkpoint.ensures c.in_err-place_blocks.ensures
+    c.requires.begun c.in_ok-log_checkpoint.ensures.logs c.in_err-place_blocks.ensures.empties
 
 pub begin_log-requires : goal.begin_log-requires
 begin_log-requires g c =
     let w = subst (λ v. IsCheckpointBody c.args.was.now c.args.is.now v) (sym c.as_slice-body.ensures.value) c.in-Ok.ensures in
-    emptied-on c.args.was.now c.args.is.now c.as_slice-body.result.now c.args.sum.now w _ _ _ _ _ _ c.requires.begun c.in_ok-log_checkpoint.ensures c.in_ok-place_blocks.ensures
+    emptied-on c.args.was.now c.args.is.now c.as_slice-body.result.now c.args.sum.now w _ _ _ _ _ _ c.requires.begun c.in_ok-log_checkpoint.ensures.logs c.in_ok-place_blocks.ensures.empties
 
-pub returns-in_err-sum : goal.returns-in_err-sum
-returns-in_err-sum g c =
+pub returns-in_err-sum-clause-settles : goal.returns-in_err-sum-clause-settles
+returns-in_err-sum-clause-settles g c =
     let w = subst (λ v. IsCheckpointBody c.args.was.now c.args.is.now v) (sym c.as_slice-body.ensures.value) c.in-Ok.ensures in
     unbegun-settles c.args.was.now c.args.is.now c.as_slice-body.result.now c.args.sum.now w _ _ _ _ _ _ _ c.from_residual-in_err-sum.ensures.0 _ _ _ _ _
-    c.requires.begun c.in_ok-log_checkpoint.ensures c.in_ok-place_blocks.ensures c.in_err-sum.ensures
+    c.requires.begun c.in_ok-log_checkpoint.ensures.logs c.in_ok-place_blocks.ensures.empties c.in_err-sum.ensures.takes
 
-pub returns : goal.returns
-returns g c =
+pub returns-clause-settles : goal.returns-clause-settles
+returns-clause-settles g c =
     let w = subst (λ v. IsCheckpointBody c.args.was.now c.args.is.now v) (sym c.as_slice-body.ensures.value) c.in-Ok.ensures in
     settles c.args.was.now c.args.is.now c.as_slice-body.result.now c.args.sum.now w _ _ _ _ _ _ _ _ _ _ _
-    c.requires.begun c.in_ok-log_checkpoint.ensures c.in_ok-place_blocks.ensures c.in_ok-sum.ensures
+    c.requires.begun c.in_ok-log_checkpoint.ensures.logs c.in_ok-place_blocks.ensures.empties c.in_ok-sum.ensures.takes
+
+pub returns-in_err-log_checkpoint-clause-kept : goal.returns-in_err-log_checkpoint-clause-kept
+returns-in_err-log_checkpoint-clause-kept g c = c.in_err-log_checkpoint.ensures.kept
+
+pub returns-in_err-place_blocks-clause-kept : goal.returns-in_err-place_blocks-clause-kept
+returns-in_err-place_blocks-clause-kept g c represents k = c.in_err-place_blocks.ensures.kept represents
+
+pub returns-in_err-sum-clause-kept : goal.returns-in_err-sum-clause-kept
+returns-in_err-sum-clause-kept g c represents k = c.in_err-sum.ensures.kept represents
+
+pub returns-clause-kept : goal.returns-clause-kept
+returns-clause-kept g c represents k = c.in_ok-sum.ensures.kept represents

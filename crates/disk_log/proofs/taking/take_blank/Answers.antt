@@ -14,4 +14,4 @@ pub begin_log-requires : goal.begin_log-requires
 begin_log-requires g c = blank-empty _ _ _ _ _ c.args.image.now _ _ _ c.requires c.in_ok-sync_image.ensures c.in_ok-cut_log.ensures
 
 pub returns : goal.returns
-returns g c = kept-on _ c.args.image.now _ _ _ _ (blank-cut _ _ _ _ _ c.args.image.now _ _ _ c.requires c.in_ok-sync_image.ensures c.in_ok-cut_log.ensures) c.begin_log.ensures
+returns g c = kept-on _ c.args.image.now _ _ _ _ (blank-cut _ _ _ _ _ c.args.image.now _ _ _ c.requires c.in_ok-sync_image.ensures c.in_ok-cut_log.ensures) c.begin_log.ensures.takes

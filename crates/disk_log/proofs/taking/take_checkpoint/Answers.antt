@@ -12,13 +12,13 @@ place_blocks-requires-clause-there g c =
 
 pub returns-in_err-place_blocks : goal.returns-in_err-place_blocks
 returns-in_err-place_blocks g c =
-    unplaced-err _ _ _ _ c.args.image.now _ _ _ c.from_residual-in_err-place_blocks.ensures.0 _ _ _ _ _ c.in_ok-sync_log.ensures c.in_err-place_blocks.ensures
+    unplaced-err _ _ _ _ c.args.image.now _ _ _ c.from_residual-in_err-place_blocks.ensures.0 _ _ _ _ _ c.in_ok-sync_log.ensures c.in_err-place_blocks.ensures.empties
 
 pub begin_log-requires : goal.begin_log-requires
 begin_log-requires g c =
     let b = c.args.checkpoint.now in
     emptied-empty c.args.image.now b _ c.number_at-count.result c.number_at-count.ensures (ap (λ v. drop 8 v) (take_rest b 24) ∙ drop-drop 8 24 b)
-    _ _ _ _ _ _ _ _ c.requires.placed c.in_ok-sync_log.ensures c.in_ok-place_blocks.ensures
+    _ _ _ _ _ _ _ _ c.requires.placed c.in_ok-sync_log.ensures c.in_ok-place_blocks.ensures.empties
 
 pub returns : goal.returns
 returns g c =
@@ -26,5 +26,5 @@ returns g c =
     let h = placed-blocks _ _ _ c.args.image.now b c.number_at-count.result _ _ c.requires.long c.number_at-count.ensures c.requires.placed c.in_ok-sync_log.ensures in
     kept-on _ c.args.image.now _ _ _ _
     (emptied-keeps c.args.image.now b _ c.number_at-count.result c.number_at-count.ensures (ap (λ v. drop 8 v) (take_rest b 24) ∙ drop-drop 8 24 b)
-    _ _ _ _ _ _ _ _ c.requires.placed h c.in_ok-sync_log.ensures c.in_ok-place_blocks.ensures)
-    c.begin_log.ensures
+    _ _ _ _ _ _ _ _ c.requires.placed h c.in_ok-sync_log.ensures c.in_ok-place_blocks.ensures.empties)
+    c.begin_log.ensures.takes

@@ -2,7 +2,8 @@ use Rattle.std.proofs.Common.{◌≡◌, ◌∙◌, List, ℕ, length, sym, subs
 use Rattle.disk_log.specs.Checkpoints.{IsImageLen}
 use Rattle.disk_log.specs.Logs.{IsBegunLog}
 use Rattle.disk_log.specs.declared.logged.Standing.TheVariants as standings
-use Rattle.disk_log.proofs.Disks.{ready-of, counts-of, same-facts, cut-latches, settled-held, settled-begun, settled-sectors, unsettled-told, unsettled-same}
+use Rattle.disk_log.specs.Power.{IsInOrder}
+use Rattle.disk_log.proofs.Disks.{to-files, of-files, kept-settled-on, ready-of, counts-of, same-facts, cut-latches, settled-held, settled-begun, settled-sectors, unsettled-told, unsettled-same}
 use Rattle.disk_log.proofs.logged.LoggedDisk.settle.Goals as goal
 
 pub invariant_of-self-in-Ok : goal.invariant_of-self-in-Ok
@@ -23,16 +24,18 @@ invariant_of-self-in-Ok g c =
       few = self.few;
       len = subst (λ n. IsImageLen n) (sym len) self.len;
       size = self.size;
-      told = ap (λ (v : List ℕ). length v) (settled-held _ _ r self.sectors is contents f f' sum c.image-image.ensures _ c.in-Ok.ensures) ∙ self.size;
+      told = ap (λ (v : List ℕ). length v) (settled-held _ _ r self.sectors is contents f f' sum c.image-image.ensures _ c.in-Ok.ensures.settles) ∙ self.size;
       ready = self.ready;
-      counted = λ _. settled-sectors _ _ r self.sectors is contents f f' sum c.image-image.ensures _ c.in-Ok.ensures (self.counted e);
-      begun = λ _ m q. subst (λ v. IsBegunLog m v sum) (sym items) (settled-begun _ _ r self.sectors is contents f f' sum c.image-image.ensures _ c.in-Ok.ensures m q);
-      same = λ _ s. settled-held _ _ r self.sectors is contents f f' sum c.image-image.ensures _ c.in-Ok.ensures;
+      counted = λ _. settled-sectors _ _ r self.sectors is contents f f' sum c.image-image.ensures _ c.in-Ok.ensures.settles (self.counted e);
+      begun = λ _ m q. subst (λ v. IsBegunLog m v sum) (sym items) (settled-begun _ _ r self.sectors is contents f f' sum c.image-image.ensures _ c.in-Ok.ensures.settles m q);
+      same = λ _ s. settled-held _ _ r self.sectors is contents f f' sum c.image-image.ensures _ c.in-Ok.ensures.settles;
+      kept = λ s. of-files (λ m. IsInOrder r m) f' (kept-settled-on r is contents f f' c.image-image.ensures (self.same e s) (to-files (λ m. IsInOrder r m) f (self.kept s)) c.in-Ok.ensures.kept);
     }
 
 pub invariant_of-self-in-Err : goal.invariant_of-self-in-Err
 invariant_of-self-in-Err g c =
     let self = c.args.self.now in
+    let e = ready-of self.standing _ (sym c.standing_error.ensures ∙ c.in_ok-standing_error.was) in
     let r = g.D.ImageDisk.represents in
     let is = c.image-image.result.now in
     let contents = (g.D.Disk.facts self.disk).contents in
@@ -42,11 +45,12 @@ invariant_of-self-in-Err g c =
       few = self.few;
       len = self.len;
       size = self.size;
-      told = unsettled-told _ _ r self.sectors is contents f f' c.settle_files.new.sum c.image-image.ensures _ c.in-Err.ensures self.size self.told;
+      told = unsettled-told _ _ r self.sectors is contents f f' c.settle_files.new.sum c.image-image.ensures _ c.in-Err.ensures.settles self.size self.told;
       ready = λ x. cc;
       counted = λ x. cc;
       begun = λ x. cc;
       same = λ x. cc;
+      kept = λ s. of-files (λ m. IsInOrder r m) f' (kept-settled-on r is contents f f' c.image-image.ensures (self.same e s) (to-files (λ m. IsInOrder r m) f (self.kept s)) c.in-Err.ensures.kept);
     }
 
 pub returns-in-Err : goal.returns-in-Err
@@ -59,9 +63,9 @@ returns-in-Err g c =
     let f = g.F.ImageFiles.medium self.files in
     let f' = g.F.ImageFiles.medium c.settle_files.new.files in
     let more = c.tick-in-Err.ensures in
-    let told = unsettled-told _ _ r self.sectors is facts.contents f f' c.settle_files.new.sum c.image-image.ensures _ c.in-Err.ensures self.size self.told in
+    let told = unsettled-told _ _ r self.sectors is facts.contents f f' c.settle_files.new.sum c.image-image.ensures _ c.in-Err.ensures.settles self.size self.told in
     record {
-      contents = λ sound. unsettled-same _ _ r self.sectors is facts.contents f f' c.settle_files.new.sum c.image-image.ensures _ c.in-Err.ensures (self.same e sound);
+      contents = λ sound. unsettled-same _ _ r self.sectors is facts.contents f f' c.settle_files.new.sum c.image-image.ensures _ c.in-Err.ensures.settles (self.same e sound);
       sound = refl;
       goes = counts-of r f f' self.standing standings.Cut self.lost c.tick-in-Err.new.self self.waits self.waits self.sectors facts facts self.told told (omega (arith, more)) (same-facts facts);
       latches = cut-latches (Unit {0}) r f f' self.standing self.lost c.tick-in-Err.new.self self.waits self.waits facts facts e more (omega arith);
