@@ -499,11 +499,13 @@ pub(crate) fn text_of<H: Abort + AllocGlobal>(
     }
 }
 
-/// Makes the file the image of a formatted chip of 64 KiB.
+/// Makes the file the image of a formatted chip of 64 KiB, without a log.
 pub(crate) fn make<H: Files + AllocGlobal>(rt: &H) -> Result<(), Fail> {
     let Ok(image) = formatted_image(rt.alloc(), 64) else {
         return Err(Fail::from("no image"));
     };
+    // a log that an earlier server left is gone, too
+    let _ = fs::remove_file(rt, "served.img.log");
     Ok(fs::write(rt, "served.img", image.as_slice())?)
 }
 
@@ -574,11 +576,15 @@ fn replies_that_owe_it_wait_for_a_sync(rt: HostRuntime) -> Result<(), Fail> {
 
 /// How many syncs a start makes: those of a server of two clients who ask for nothing, without the
 /// last.
-fn syncs_of_a_start(rt: HostRuntime) -> Result<u32, Fail> {
-    make(&rt)?;
+fn syncs_of_a_start<R>(rt: &R) -> Result<u32, Fail>
+where
+    R: Host,
+    R::File: ImageFile + Send + Sync,
+{
+    make(rt)?;
     let good_writes = AtomicU32::new(100);
     let good_syncs = AtomicU32::new(100);
-    let wearing = Wearing::new(&rt, &good_writes, &good_syncs);
+    let wearing = Wearing::new(rt, &good_writes, &good_syncs);
     let silent = Client {
         requests: &[],
         answered: 0,
@@ -592,7 +598,7 @@ fn syncs_of_a_start(rt: HostRuntime) -> Result<u32, Fail> {
 #[test]
 fn a_sync_that_fails_ends_the_server(rt: HostRuntime) -> Result<(), Fail> {
     let _socket: NoSocket = None;
-    let start = syncs_of_a_start(rt)?;
+    let start = syncs_of_a_start(&rt)?;
     for ends in [true, false] {
         make(&rt)?;
         let good_writes = AtomicU32::new(100);
