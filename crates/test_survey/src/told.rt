@@ -65,7 +65,7 @@ going on: no copying, no erase
     );
     assert_eq!(rt;
         json.as_str(),
-        "{\"version\":1,\"verdict\":\"clean\",\"mended\":false,\"reason\":null,\"not_erased_at\":null,\"layout\":\"2\",\"bytes\":65536,\"sectors\":70,\"free_entries\":512,\"least_votes\":1024,\"erasing\":false,\"blocks\":{\"plain\":12,\"wholly_free\":12,\"void\":0,\"committed\":0,\"settled\":0,\"groups\":0,\"dead_groups\":0,\"wrong\":0},\"slots\":{\"free\":84,\"live\":0,\"dead\":0}}\n"
+        "{\"version\":1,\"verdict\":\"clean\",\"mended\":false,\"reason\":null,\"not_erased_at\":null,\"layout\":\"2\",\"bytes\":65536,\"sectors\":70,\"log_bytes\":0,\"free_entries\":512,\"least_votes\":1024,\"erasing\":false,\"blocks\":{\"plain\":12,\"wholly_free\":12,\"void\":0,\"committed\":0,\"settled\":0,\"groups\":0,\"dead_groups\":0,\"wrong\":0},\"slots\":{\"free\":84,\"live\":0,\"dead\":0}}\n"
     );
     assert_eq!(rt;
         picture.as_str(),
@@ -115,7 +115,7 @@ going on: a copying of block 4 into 6, committed, no erase
     );
     assert_eq!(rt;
         json.as_str(),
-        "{\"version\":1,\"verdict\":\"not clean\",\"mended\":false,\"reason\":null,\"not_erased_at\":32767,\"layout\":\"2\",\"bytes\":65536,\"sectors\":70,\"free_entries\":511,\"least_votes\":1024,\"erasing\":false,\"blocks\":{\"plain\":11,\"wholly_free\":9,\"void\":0,\"committed\":1,\"settled\":0,\"groups\":0,\"dead_groups\":0,\"wrong\":0},\"slots\":{\"free\":74,\"live\":3,\"dead\":0}}\n"
+        "{\"version\":1,\"verdict\":\"not clean\",\"mended\":false,\"reason\":null,\"not_erased_at\":32767,\"layout\":\"2\",\"bytes\":65536,\"sectors\":70,\"log_bytes\":0,\"free_entries\":511,\"least_votes\":1024,\"erasing\":false,\"blocks\":{\"plain\":11,\"wholly_free\":9,\"void\":0,\"committed\":1,\"settled\":0,\"groups\":0,\"dead_groups\":0,\"wrong\":0},\"slots\":{\"free\":74,\"live\":3,\"dead\":0}}\n"
     );
     assert!(rt; picture.as_str().starts_with("    0 SJJJb2C........R\n"));
     Ok(())

@@ -11,4 +11,4 @@ pub returns : goal.returns
 returns g c =
     chip-told (Unit {0}) c.text_about-text.result c.args.asked.port _
     (g.K.Sink.written c.args.writer.now) (g.K.Sink.written c.tell.new.writer) (g.K.Sink.faults c.args.writer.now) (g.K.Sink.faults c.tell.new.writer)
-    c.answer_clients.result c.text_about-text.ensures c.in_default-tell.ensures.0 c.in_default-tell.ensures.1
+    c.answer_clients.result c.text_about-text.ensures c.in_default.ensures.0 c.in_default.ensures.1
