@@ -220,7 +220,7 @@ pub(crate) fn status_arg<'a>(alloc: Global) -> Arg<'a>
     Arg::new(alloc, "status")
         .long("status")
         .value_name("PATH")
-        .help("Makes a Unix socket, at which norbd status asks what the server does")
+        .help("Makes a Unix socket for norbd status to ask at")
         .action(ArgAction::Set)
 }
 

@@ -234,12 +234,13 @@ impl Host {
             Ok(None) => {}
             _ => return failed(),
         }
-        let file = if is_log {
-            &mut self.log
+        let alloc = self.alloc;
+        let done = if is_log {
+            self.log.sync(alloc)
         } else {
-            &mut self.image
+            self.image.sync(alloc)
         };
-        match file.sync(self.alloc) {
+        match done {
             Ok(()) => Ok(()),
             Err(_) => failed(),
         }

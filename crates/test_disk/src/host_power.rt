@@ -4,6 +4,7 @@
 use crate::host::{Both, Failing, Host, HostFiles};
 use crate::writes::put;
 use block_device::{Disk, DiskError};
+use chip_model::is_chip_size;
 use chip_simulator::PromptChip;
 use disk_log::LoggedDisk;
 use flash_disk::FlashDisk;
@@ -59,6 +60,9 @@ fn done<D: Disk>(disk: &mut D, command: Command) -> Result<Result<(), DiskError>
 
 /// What fills the sectors of the chip that both files hold, as the next start finds it.
 fn fills_in(alloc: Global, both: Both) -> Result<Fills, Fail> {
+    if !is_chip_size(both.image.len() as u64) {
+        return Err(Fail::new("the image has another size"));
+    }
     let Ok(bytes) = chip_in(alloc, both.image, both.log.as_slice()) else {
         return Err(Fail::new("the next start refuses the files"));
     };
@@ -69,14 +73,15 @@ fn fills_in(alloc: Global, both: Both) -> Result<Fills, Fail> {
     if !disk.check()? || disk.sectors() != SECTORS {
         return Err(Fail::new("the next start finds another disk"));
     }
+    let mut all = [0u8; 35_840];
+    disk.read(0, &mut all)?;
     let mut fills = [0u8; 70];
-    for (number, fill) in fills.iter_mut().enumerate() {
-        let mut bytes = [0u8; 512];
-        disk.read(number as u32, &mut bytes)?;
-        if bytes.iter().any(|&byte| byte != bytes[0]) {
+    for (sector, fill) in all.chunks(512).zip(fills.iter_mut()) {
+        let first = sector.first().copied().unwrap_or(0);
+        if sector.iter().any(|&byte| byte != first) {
             return Err(Fail::new("a sector is half written"));
         }
-        *fill = bytes[0];
+        *fill = first;
     }
     Ok(fills)
 }
