@@ -574,31 +574,22 @@ fn replies_that_owe_it_wait_for_a_sync(rt: HostRuntime) -> Result<(), Fail> {
     Ok(fs::remove_file(&rt, "served.img")?)
 }
 
-/// How many syncs a start makes: those of a server of two clients who ask for nothing, without the
-/// last.
-fn syncs_of_a_start<R>(rt: &R) -> Result<u32, Fail>
-where
-    R: Host,
-    R::File: ImageFile + Send + Sync,
-{
-    make(rt)?;
-    let good_writes = AtomicU32::new(100);
-    let good_syncs = AtomicU32::new(100);
-    let wearing = Wearing::new(rt, &good_writes, &good_syncs);
-    let silent = Client {
-        requests: &[],
-        answered: 0,
-    };
-    let _outcome = serve_two(&wearing, PLAINLY, [silent, silent])?;
-    Ok(99u32.saturating_sub(good_syncs.load(Ordering::SeqCst)))
-}
-
 /// The sync of a FLUSH fails. The reply isn't sent, and the server ends, also one without end: the
 /// second client finds none.
 #[test]
 fn a_sync_that_fails_ends_the_server(rt: HostRuntime) -> Result<(), Fail> {
     let _socket: NoSocket = None;
-    let start = syncs_of_a_start(&rt)?;
+    // the syncs of a start: those of a server of two clients who ask for nothing, without the last
+    make(&rt)?;
+    let writes = AtomicU32::new(100);
+    let syncs = AtomicU32::new(100);
+    let counting = Wearing::new(&rt, &writes, &syncs);
+    let silent = Client {
+        requests: &[],
+        answered: 0,
+    };
+    let _outcome = serve_two(&counting, PLAINLY, [silent, silent])?;
+    let start = 99u32.saturating_sub(syncs.load(Ordering::SeqCst));
     for ends in [true, false] {
         make(&rt)?;
         let good_writes = AtomicU32::new(100);
