@@ -191,8 +191,8 @@ fn serving_without_memory_says_so(rt: HostRuntime) -> Result<(), Fail> {
         trust: false,
         status: None,
     });
-    // the chip, and its copies: that of the file, and the one that is looked at. What follows fits
-    // where that was
+    // the chip, and its copies: that of the file, and the one that is looked at; then what is taken
+    // for the disk, its lists and its log
     let windows = [
         (0, 264, 3),
         (32_768, 32_768, 2),
@@ -201,7 +201,7 @@ fn serving_without_memory_says_so(rt: HostRuntime) -> Result<(), Fail> {
         (131_600, 32, 20),
         (163_840, 32, 20),
         (167_936, 32, 20),
-        (196_608, 32_768, 2),
+        (196_608, 32_768, 8),
     ];
     sweep(&rt, line, &[], &windows, serving)?;
     Ok(fs::remove_file(&rt, "served.img")?)
