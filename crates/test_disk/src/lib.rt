@@ -1,7 +1,7 @@
 //! Tests of the chip side that are no cases of `test_cases`: chips whose memory is a file, a run of
 //! erases cut in each change, a long run of the map of sectors with losses, the disk's wear and how
-//! it is levelled, a mount without memory, the files of images, what a failing call, a kill and a
-//! loss of the host's power leave of them, and a connection's text cut at each place.
+//! it is levelled, a mount without memory, the files of images, a log that ends at each byte, and a
+//! connection's text cut at each place.
 //!
 //! There is no product code here. `first_of_new` formats a chip, mounts it as a sound disk and
 //! reads its first sector, so that the contracts of `format`, `mount` and `read` meet: it is proved
@@ -17,10 +17,6 @@ mod cuttings;
 #[cfg(test)]
 mod first_sector;
 mod fresh;
-#[cfg(test)]
-mod host;
-#[cfg(test)]
-mod host_power;
 #[cfg(test)]
 mod image_files;
 #[cfg(test)]
