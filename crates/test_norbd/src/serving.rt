@@ -570,7 +570,7 @@ fn replies_that_owe_it_wait_for_a_sync(rt: HostRuntime) -> Result<(), Fail> {
     let [never, flush, always] = all;
     assert_eq!(rt; never, 0);
     assert!(rt; flush >= 3, "{flush}");
-    assert_eq!(rt; always, flush + 2);
+    assert_eq!(rt; always, flush.saturating_add(2));
     Ok(fs::remove_file(&rt, "served.img")?)
 }
 
