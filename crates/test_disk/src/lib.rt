@@ -1,6 +1,7 @@
 //! Tests of the chip side that are no cases of `test_cases`: chips whose memory is a file, a run of
 //! erases cut in each change, a long run of the map of sectors with losses, the disk's wear and how
-//! it is levelled, a mount without memory, the files of images, a log that ends at each byte, and a
+//! it is levelled, a mount without memory, the files of images, a log that ends at each byte, what
+//! a failing call, a kill and a loss of the host's power leave of an image and its log, and a
 //! connection's text cut at each place.
 //!
 //! There is no product code here. `first_of_new` formats a chip, mounts it as a sound disk and
@@ -18,6 +19,10 @@ mod cuttings;
 mod first_sector;
 mod fresh;
 #[cfg(test)]
+mod host;
+#[cfg(test)]
+mod host_power;
+#[cfg(test)]
 mod image_files;
 #[cfg(test)]
 mod journal_chips;
@@ -33,6 +38,8 @@ mod long_run;
 mod maps;
 #[cfg(test)]
 mod mount_memory;
+#[cfg(test)]
+mod past;
 #[cfg(test)]
 mod phrases;
 #[cfg(test)]
