@@ -271,10 +271,10 @@ fn what_was_flushed_outlives_the_power_of_the_host(rt: HostRuntime) -> Result<()
     let mut past = Past::new(rt.alloc())?;
     let mut dice = Dice::new(9);
     host.lock(&rt).lose(5);
-    for _life in 0..12u32 {
+    for _life in 0..120u32 {
         let (behind, bytes) = (dice.below(60), dice.below(5_000) as usize);
         outlive(&rt, &host, &mut past, &mut dice, behind, bytes)?;
     }
-    assert!(rt; past.losses > 1_000, "{} losses", past.losses);
+    assert!(rt; past.losses > 10_000, "{} losses", past.losses);
     Ok(())
 }
