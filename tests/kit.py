@@ -192,15 +192,16 @@ class Case(unittest.TestCase):
         self.assertEqual((done.status, done.fault, done.text), (status, f"norbd: {fault}\n", out),
                          words)
 
-    def flashrom(self, place):
-        """What runs flashrom with the serprog at a place, and returns what it printed."""
+    def flashrom(self, place, name="W25Q128.V"):
+        """What runs flashrom with the serprog at a place, for the chip that it names so, and
+        returns what it printed."""
         tool = shutil.which("flashrom") or shutil.which("flashrom", path="/usr/sbin:/sbin")
         if not tool:
             self.skipTest("flashrom is not installed")
 
         def flash(*words):
             done = subprocess.run(
-                [tool, "-p", f"serprog:ip={place}", "-c", "W25Q128.V", *words], cwd=self.room,
+                [tool, "-p", f"serprog:ip={place}", "-c", name, *words], cwd=self.room,
                 timeout=120, stdout=subprocess.PIPE, stderr=subprocess.STDOUT, check=False)
             self.assertEqual(done.returncode, 0, done.stdout)
             return done.stdout.decode(errors="replace")

@@ -65,6 +65,19 @@ class Chips(ChipCase):
             self.assertEqual(client.ask(b"\x10", 2), NAK + ACK)
             self.assertEqual(client.frame(at(0x03, 0x5000), 1), b"\xFF")
 
+    def test_a_change_that_a_client_left(self):
+        """A client that ends while its change is in progress leaves a chip that answers the next
+        one: the change has completed then."""
+        self.format()
+        self.chip()
+        with self.client() as client:
+            client.frame(b"\x06")
+            client.frame(at(0x02, 0x5000) + b"\x3C")
+            self.assertEqual(client.frame(b"\x9F", 1), b"\xFF")
+        with self.client() as client:
+            self.assertEqual(client.frame(b"\x9F", 3), b"\xEF\x40\x10")
+            self.assertEqual(client.frame(at(0x03, 0x5000), 1), b"\x3C")
+
     def test_frames(self):
         """The chip's frames: ids, table, reads that wrap, programs that only clear bits and stay in
         their page, erases of 4 and 64 KiB, WEL and BUSY, and what is ignored."""
@@ -73,7 +86,13 @@ class Chips(ChipCase):
             self.chip(f"{kib}.img")
             with self.client() as client:
                 self.assertEqual(client.frame(b"\x9F", 4), bytes([0xEF, 0x40, third, 0xFF]))
-                self.assertEqual(client.frame(b"\x5A\0\0\0\0", 256), serprog.table(1024 * kib))
+                told = serprog.table(1024 * kib)
+                told[0x80] |= 4            # word 1, bit 2: 64 bytes or more are programmed at once
+                self.assertEqual(client.frame(b"\x5A\0\0\0\0", 256), told)
+                self.assertEqual(client.frame(b"\x5A\0\0\0", 257), b"\xFF" + told)
+                self.assertEqual(client.frame(at(0x5A, 0x7F), 4), b"\xFF" + told[0x7F:0x82])
+                self.assertEqual(client.frame(at(0x5A, 0x80) + b"\x77", 300),
+                                 (told + told)[0x80:0x80 + 300])
                 self.assertEqual(client.frame(at(0x03, 1024 * kib - 1), 3), b"\xFFNO")
         self.format()
         self.chip()
@@ -99,12 +118,50 @@ class Chips(ChipCase):
             client.change(at(0x20, 0x5678))
             self.assertEqual(client.frame(at(0x03, 0x5000), 256), b"\xFF" * 256)
             self.assertEqual(client.frame(at(0x03, 0x6002), 1), b"\2")
-            client.frame(b"\x06")
-            client.frame(b"\xC7")                              # a chip erase: not in the model
-            self.assertEqual(client.frame(b"\x05", 1), b"\2")
             client.change(at(0xD8, 0x1234))
             self.assertEqual(client.frame(at(0x03, 0), 65536), b"\xFF" * 65536)
         self.assertEqual(self.bytes_of("a.img"), b"\xFF" * 65536)
+
+    def test_erases_of_other_sizes(self):
+        """52h erases 32 KiB, C7h and 60h the whole chip; what comes then finds them done. Without
+        WEL, of a busy or a protected chip, or of another length, they are ignored."""
+        full = bytes(it % 251 for it in range(131072))
+        self.put("a.img", full)
+        self.chip()
+        with self.client() as client:
+            for frame in (b"\xC7", b"\x60", at(0x52, 0)):
+                self.assertEqual(client.frame(frame, 2), b"\xFF\xFF")  # no WEL
+            for frame in (b"\xC7\0", b"\x60\0", b"\x52\0\0", at(0x52, 0) + b"\0"):
+                client.frame(b"\x06")
+                client.frame(frame)
+                self.assertEqual(client.frame(b"\x05", 1), b"\2", frame)
+            self.assertEqual(client.frame(at(0x03, 0), 131072), full)
+            client.frame(b"\x06")
+            client.frame(at(0x52, 0x2F123))                    # modulo 128 KiB: 0F123h
+            self.assertEqual(client.frame(b"\x05", 1), b"\0")
+            held = full[:0x8000] + b"\xFF" * 0x8000 + full[0x10000:]
+            self.assertEqual(client.frame(at(0x03, 0), 131072), held)
+            client.change(b"\x01\x04")                         # BP0
+            for frame in (b"\xC7", b"\x60", at(0x52, 0)):
+                client.frame(b"\x06")
+                client.frame(frame)
+                self.assertEqual(client.frame(b"\x05", 1), b"\4", frame)
+            client.change(b"\x01\0")
+            client.frame(b"\x06")
+            client.frame(at(0x02, 0x8000) + b"\0")
+            self.assertEqual(client.frame(b"\xC7", 1), b"\xFF")  # busy
+            self.assertEqual(client.frame(at(0x5A, 0), 3), b"\xFF\xFF\xFF")
+            while client.frame(b"\x05", 1)[0] & 1:
+                pass
+            held = held[:0x8000] + b"\0" + held[0x8001:]
+            self.assertEqual(client.frame(at(0x03, 0), 131072), held)
+            for code in (0xC7, 0x60):
+                client.change(at(0x02, 0xABCD) + b"\0")
+                client.frame(b"\x06")
+                client.frame(bytes([code]))
+                self.assertEqual(client.frame(b"\x05", 1), b"\0")
+                self.assertEqual(client.frame(at(0x03, 0), 131072), b"\xFF" * 131072)
+                self.assertEqual(self.bytes_of("a.img"), b"\xFF" * 131072)
 
     def test_protection(self):
         """Status writes set the protection bits, under which nothing is changed until they are
@@ -180,6 +237,36 @@ class Chips(ChipCase):
         self.assertEqual((done.status, done.fault),
                          (1, "norbd: image failed: a.img: a write failed\n"))
         self.assertEqual([self.bytes_of("a.img")[it] for it in (0x5000, 0xA000)], [0, 0xFF])
+
+
+class Flashrom(ChipCase):
+    """flashrom as a client. It has a name for the chips that it knows by their table alone, and
+    others for those that it knows by their ids."""
+
+    def rewrites(self, kib, name):
+        """flashrom reads a chip, writes it twice over, erases it, and writes what it read."""
+        self.format("a.img", kib)
+        self.chip()
+        flash = self.flashrom(f"127.0.0.1:{self.port}", name)
+        self.assertIn(f"({kib} kB, SPI)", flash())
+        flash("-r", "out.bin")
+        self.assertEqual(self.bytes_of("out.bin"), kit.formatted(kib))
+        chance = random.Random(kib)
+        for turn in range(2):
+            self.put("new.bin", chance.randbytes(1024 * kib))
+            self.assertIn("VERIFIED", flash("-w", "new.bin"), turn)
+            self.assertEqual(self.bytes_of("a.img"), self.bytes_of("new.bin"))
+        flash("-E")
+        self.assertEqual(self.bytes_of("a.img"), b"\xFF" * (1024 * kib))
+        self.assertIn("VERIFIED", flash("-w", "out.bin"))
+        self.end_all()
+        self.assertEqual(self.check()["verdict"], "clean")
+
+    def test_the_smallest(self):
+        self.rewrites(64, "SFDP-capable chip")
+
+    def test_a_mebibyte(self):
+        self.rewrites(1024, "W25Q80.V")
 
 
 class OwnProgrammer(ChipCase):

@@ -6,11 +6,9 @@ use Rattle.std.specs.Prelude.{◌≡◌, ℕ, ◌/◌, ◌%◌, Bool, true, not,
 use Rattle.std.specs.Prelude.{if◌then◌else◌, List, [], ◌∷◌, ◌++◌, length, replicate, Option}
 use Rattle.std.specs.Io.KnownBytes.{Appends, Consumes}
 use Rattle.chip_model.specs.Chip.{Chip}
-use Rattle.chip_model.specs.Cut.{Loses}
-use Rattle.chip_model.specs.Frames.{Frame}
 use Rattle.serprog.specs.Protocol.{acknowledged, spiop}
+use Rattle.serprog_chip.specs.Beyond.{AnswersFrame, LeavesFrame}
 use Rattle.serprog_chip.specs.declared.answering.Trouble.{Trouble}
-use Rattle.serprog_chip.specs.declared.answering.Trouble.TheVariants as troubles
 use Rattle.serprog_chip.specs.declared.request.Request.{Request}
 use Rattle.serprog_chip.specs.declared.request.Request.TheVariants as asks
 
@@ -79,21 +77,18 @@ serprog_reply (asks.SetPins state) = ack
 serprog_reply _ = nak
 
 -- The answer to a command, and the chip after it: O_SPIOP is one frame, whose received bytes follow
--- ACK; of the other commands the chip learns nothing.
+-- ACK, as the model has it or, of what the model ignores, as `AnswersFrame` has it; of the other
+-- commands the chip learns nothing.
 abbrev pub SerprogAnswers : Chip → Request → List ℕ → Chip → Type 0
 SerprogAnswers c (asks.Frame sent receives) told left = (received : List ℕ)
-    × (told ≡ acknowledged received) × (length received ≡ receives) × Frame c sent.now received left
+    × (told ≡ acknowledged received) × (length received ≡ receives)
+    × AnswersFrame c sent.now received left
 SerprogAnswers c request told left = (told ≡ serprog_reply request) × (left ≡ c)
-
--- A frame without an answer: the chip lost its power in it, or was off, or learned of nothing.
-abbrev pub SerprogLeavesFrame : Chip → ℕ → List ℕ → Trouble → Chip → ℕ → Type 0
-SerprogLeavesFrame c cuts sent troubles.PowerLost left cuts' = Loses c cuts sent left cuts'
-SerprogLeavesFrame c cuts sent trouble left cuts' = (left ≡ c) × (cuts' ≡ cuts)
 
 -- A command without an answer: such a frame, or the chip learned of nothing.
 abbrev pub SerprogLeaves : Chip → ℕ → Request → Trouble → Chip → ℕ → Type 0
 SerprogLeaves c cuts (asks.Frame sent receives) trouble left cuts' =
-    SerprogLeavesFrame c cuts sent.now trouble left cuts'
+    LeavesFrame c cuts sent.now trouble left cuts'
 SerprogLeaves c cuts request trouble left cuts' = (left ≡ c) × (cuts' ≡ cuts)
 
 -- One command: its bytes are taken off the one stream, and its answer is written to the other.

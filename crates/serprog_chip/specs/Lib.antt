@@ -1,1 +1,4 @@
 pub mod Answering
+pub mod Beyond
+pub mod Erasing
+pub mod Meant

@@ -1,12 +1,18 @@
 //! What is answered to a command.
 
 ghost use Rattle.std.specs.Prelude.{◌≡◌, ◌==◌, ◌+◌, ◌<◌, if◌then◌else◌, ℕ, List, length};
-ghost use Rattle.std.specs.Prelude.{IfErr, OnOk};
+ghost use Rattle.std.specs.Prelude.{IfErr, OnErr, OnOk, ◌^◌, replicate, true};
+ghost use Rattle.chip_model.specs.Cut.{Loses};
 ghost use Rattle.chip_model.specs.Frames.{Frame};
+ghost use Rattle.nor_driver.specs.Steps.{Lost};
 ghost use Rattle.serprog.specs.Protocol.{acknowledged};
+ghost use Rattle.serprog_chip.specs.declared.answering.Trouble.TheVariants as troubles;
 ghost use Rattle.serprog_chip.specs.Answering.{SerprogAnswers, SerprogLeaves};
-ghost use Rattle.serprog_chip.specs.Answering.{SerprogLeavesFrame, command_map, long_bytes, nak};
+ghost use Rattle.serprog_chip.specs.Answering.{command_map, long_bytes, nak};
+ghost use Rattle.serprog_chip.specs.Beyond.{AnswersFrame, LeavesFrame, TellsTable};
 
+use crate::beyond::{Beyond, decode_beyond, read_late};
+use crate::erasing::{erase_all, erase_half};
 use crate::request::Request;
 use chip_model::{PowerLost, SpiBus};
 
@@ -19,8 +25,18 @@ pub enum Trouble {
     Unsent,
     /// The chip's power fell or is off.
     PowerLost,
+    /// An operation of the chip didn't end.
+    Slow,
     /// There is no memory for the bytes of a frame.
     OutOfMemory,
+}
+
+impl From<PowerLost> for Trouble {
+    ghost from_gives = { λ _ e. e ≡ troubles.PowerLost };
+
+    fn from(_: PowerLost) -> Self {
+        Trouble::PowerLost
+    }
 }
 
 /// Does a command on a bus; `told` is then its answer.
@@ -103,7 +119,7 @@ fn tell_frequency(told: &mut Vec<u8>, hertz: u32) -> Result<(), Trouble>
     tell(told, &bytes)
 }
 
-/// One frame of the bus: ACK, and then what is received.
+/// One frame: ACK, and then what is received.
 fn frame<B: SpiBus>(
     bus: &mut B,
     sent: &[u8],
@@ -112,17 +128,67 @@ fn frame<B: SpiBus>(
 ) -> Result<(), Trouble>
     ensures told { OnOk result ((received : List ℕ) × (told.new.items ≡ acknowledged received)
         × (length received ≡ receives)
-        × Frame (B.chip bus.old) sent.now received (B.chip bus.new)) }
+        × AnswersFrame (B.chip bus.old) sent.now received (B.chip bus.new)) }
     ensures cuts { OnOk result (B.cuts bus.new ≡ B.cuts bus.old) }
-    ensures leaves { IfErr result (λ e. SerprogLeavesFrame (B.chip bus.old) (B.cuts bus.old)
-        sent.now e (B.chip bus.new) (B.cuts bus.new)) }
+    ensures leaves { IfErr result (λ e. LeavesFrame (B.chip bus.old) (B.cuts bus.old) sent.now e
+        (B.chip bus.new) (B.cuts bus.new)) }
 {
-    if told.resize(receives as usize + 1, 0).is_err() {
+    if !make_room(told, receives) {
         return Err(Trouble::OutOfMemory);
     }
-    told[0] = 0x06;
-    match bus.transact(sent, &mut told[1..]) {
-        Ok(()) => Ok(()),
-        Err(PowerLost) => Err(Trouble::PowerLost),
+    match decode_beyond(sent) {
+        Beyond::Table(at) => tell_table(bus, at, 5usize.saturating_sub(sent.len()), told),
+        Beyond::EraseAll => erase_all(bus),
+        Beyond::EraseHalf(at) => erase_half(bus, at),
+        Beyond::Nothing => bus_frame(bus, sent, told),
     }
+}
+
+/// Makes `told` ACK and so many bytes FFh.
+fn make_room(told: &mut Vec<u8>, receives: u32) -> bool
+    ensures { result ≡ true → told.new.items ≡ acknowledged (replicate receives 255) }
+{
+    told.clear();
+    if told.resize(receives as usize + 1, 0xFF).is_err() {
+        return false;
+    }
+    told[0] = 0x06;
+    true
+}
+
+/// One frame of the bus.
+fn bus_frame<B: SpiBus>(bus: &mut B, sent: &[u8], told: &mut Vec<u8>) -> Result<(), Trouble>
+    requires room { (n : ℕ) × (told.old.items ≡ acknowledged (replicate n 255)) }
+    ensures told { OnOk result ((received : List ℕ) × (told.new.items ≡ acknowledged received)
+        × (length (acknowledged received) ≡ length told.old.items)
+        × Frame (B.chip bus.old) sent.now received (B.chip bus.new)) }
+    ensures cuts { OnOk result (B.cuts bus.new ≡ B.cuts bus.old) }
+    ensures lost { OnErr result (Loses (B.chip bus.old) (B.cuts bus.old) sent.now (B.chip bus.new)
+        (B.cuts bus.new)) }
+    ensures trouble { IfErr result (λ e. e ≡ Trouble.PowerLost) }
+{
+    bus.transact(sent, &mut told[1..])?;
+    Ok(())
+}
+
+/// The SFDP bytes from an address on, behind so many dummy bytes.
+fn tell_table<B: SpiBus>(
+    bus: &mut B,
+    at: u32,
+    late: usize,
+    told: &mut Vec<u8>,
+) -> Result<(), Trouble>
+    requires address { at < 2 ^ 24 }
+    requires room { (n : ℕ) × (told.old.items ≡ acknowledged (replicate n 255)) }
+    ensures told { OnOk result ((received : List ℕ) × (told.new.items ≡ acknowledged received)
+        × (length (acknowledged received) ≡ length told.old.items)
+        × TellsTable (B.chip bus.old) at late received) }
+    ensures chip { OnOk result (B.chip bus.new ≡ B.chip bus.old) }
+    ensures cuts { OnOk result (B.cuts bus.new ≡ B.cuts bus.old) }
+    ensures lost { OnErr result (Lost (B.chip bus.old) (B.cuts bus.old) (B.chip bus.new)
+        (B.cuts bus.new)) }
+    ensures trouble { IfErr result (λ e. e ≡ Trouble.PowerLost) }
+{
+    read_late(bus, at, late, &mut told[1..])?;
+    Ok(())
 }
