@@ -3,3 +3,4 @@ pub mod MemoryLaws
 pub mod PartLaws
 pub mod FrameLaws
 pub mod ExchangeLaws
+pub mod WaveringLaws

@@ -4,5 +4,6 @@ pub mod Parts
 pub mod Chip
 pub mod Frames
 pub mod Cut
+pub mod Wavering
 pub mod Geometry
 pub mod Exchanges

@@ -9,8 +9,9 @@
 //! and of its parts of one size; their laws are in `proofs/`, for every crate above.
 //!
 //! `Programmer` is the contract of a device that exchanges frames with a chip outside of the
-//! program: on Ok one frame more was exchanged, whose bytes it names. Which were exchanged so far
-//! is a list that exists in proofs alone, and that an implementation may leave unknown.
+//! program: on Ok one frame more was exchanged, whose bytes it names, or of a list of them each, in
+//! order. Which were exchanged so far is a list that exists in proofs alone, and that an
+//! implementation may leave unknown.
 //!
 //! Left to the crate above: the bytes of the frames, waiting for operations, and which addresses
 //! are used for what.
@@ -27,5 +28,7 @@ mod programmer;
 
 pub use bus::{PowerLost, SpiBus};
 pub use geometry::{Geometry, is_chip_size};
-pub use laws::quiet_bus_completes_operations;
-pub use programmer::{NoAnswer, Programmer};
+pub use laws::{
+    quiet_bus_completes_operations, steady_chip_is_the_model, worst_loss_stands_for_all,
+};
+pub use programmer::{NoAnswer, Programmer, Turn};

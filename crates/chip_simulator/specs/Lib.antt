@@ -2,6 +2,7 @@ pub use Rattle.sfdp.specs.Params
 pub use Rattle.chip_model.specs.Chip
 pub use Rattle.chip_model.specs.Frames
 pub use Rattle.chip_model.specs.Cut
+pub use Rattle.chip_model.specs.Wavering
 pub use Rattle.chip_model.specs.Geometry
 pub mod Fits
 pub mod Mask
@@ -9,6 +10,7 @@ pub mod Plan
 pub mod Simulated
 pub mod Table
 pub mod Sim
+pub mod Weak
 pub mod TableLaws
 pub mod Lawful
 pub mod Image

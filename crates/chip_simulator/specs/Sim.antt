@@ -34,6 +34,10 @@ pace_in s = record { next = s.slow_next; stuck = s.stuck }
 abbrev pub chip_of : SimChip → Chip
 chip_of s = chip_in s.cells
 
+-- 1 for each weak bit of the memory; no byte where the chip is steady
+abbrev pub weak_of : SimChip → List ℕ
+weak_of s = s.weak.items
+
 abbrev pub pace_of : SimChip → Pace
 pace_of s = pace_in s.cells
 
@@ -71,3 +75,7 @@ fresh_chip m = record {
 -- the chip with other SFDP bytes
 abbrev pub with_sfdp : Chip → List ℕ → Chip
 with_sfdp c sfdp = record c { sfdp = sfdp }
+
+-- the chip with another memory
+abbrev pub with_memory : Chip → List ℕ → Chip
+with_memory c m = record c { memory = m }

@@ -159,6 +159,7 @@ impl Cells {
     /// The operation in progress completes.
     pub(crate) fn complete(&mut self)
         ensures chip { chip_in self.new ≡ completed (chip_in self.old) }
+        ensures latched { self.new.latched ≡ self.old.latched }
         ensures pace { pace_in self.new ≡ pace_in self.old }
         ensures cuts { self.new.cuts ≡ self.old.cuts }
         ensures slows { self.new.slows ≡ self.old.slows }
@@ -390,6 +391,7 @@ impl Cells {
             → chip_in self.new ≡ polled self.old.stuck (chip_in self.old) }
         ensures prompt { self.old.stuck ≡ false
             → chip_in self.new ≡ polled false (chip_in self.old) }
+        ensures latched { self.new.latched ≡ self.old.latched }
         ensures pace { pace_in self.new ≡ pace_in self.old }
         ensures cuts { self.new.cuts ≡ self.old.cuts }
         ensures slows { self.new.slows
@@ -421,6 +423,8 @@ impl Cells {
         ensures prompt { self.old.stuck ≡ false
             → chip_in self.new ≡ after_frame false (chip_in self.old) send.now }
         ensures accepted { result ≡ is_accepted (chip_in self.old) send.now }
+        ensures latched { is_idle (operation_in self.old) ≡ false
+            → self.new.latched ≡ self.old.latched }
         ensures pace { pace_in self.new ≡ paced (pace_in self.old) result }
         ensures cuts { self.new.cuts ≡ self.old.cuts }
         ensures slows { self.new.slows

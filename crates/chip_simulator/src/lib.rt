@@ -27,6 +27,7 @@ mod power;
 mod prompt;
 mod sim_chip;
 mod table;
+mod weak;
 
 pub use error::SimError;
 pub use image::ImageBus;

@@ -26,10 +26,10 @@ pub settled-own : (m : List ℕ) (b : ℕ) → IsSettled m → block m b ≡ par
 settled-own m b h = (plain-none m h.none).own b
 
 -- Bytes of a block.
-slice-byte : (m : List ℕ) (a n k : ℕ) → k < n → byte (slice_range m a (a + n)) k ≡ byte m (a + k)
+pub slice-byte : (m : List ℕ) (a n k : ℕ) → k < n → byte (slice_range m a (a + n)) k ≡ byte m (a + k)
 slice-byte m a n k low = let l : k < a + n - a = omega arith in rw (get_or-take, get_or-drop) refl
 
-slice-length : (m : List ℕ) (a n : ℕ) → a + n ≤ length m → length (slice_range m a (a + n)) ≡ n
+pub slice-length : (m : List ℕ) (a n : ℕ) → a + n ≤ length m → length (slice_range m a (a + n)) ≡ n
 slice-length m a n fits = let e = length-take (a + n - a) (drop a m) in let d = length-drop a m in omega (arith, e, d)
 
 own-range : (m : List ℕ) (b at n : ℕ) → at + n ≤ 4096 → 4096 * b + 4096 ≤ length m → slice_range m (4096 * b + at) (4096 * b + at + n) ≡ slice_range (part 4096 m b) at (at + n)

@@ -52,7 +52,7 @@ same-votes-super at n m m' s low = record {
 }
 
 -- with no vote changed and at most one entry open
-idle-moved : (m m' : List ℕ) → AreJournalsSound Idle m → SameVotes m m' → open_entries m' ≤ 1 → Last (unused m') → AreJournalsSound Idle m'
+pub idle-moved : (m m' : List ℕ) → AreJournalsSound Idle m → SameVotes m m' → open_entries m' ≤ 1 → Last (unused m') → AreJournalsSound Idle m'
 idle-moved m m' h s one last =
     let p = h.phase in
     let f0 = s.f0 in let s0 = s.s0 in let f1 = s.f1 in let s1 = s.s1 in let f2 = s.f2 in let s2 = s.s2 in
@@ -62,7 +62,7 @@ idle-moved m m' h s one last =
     }
 
 -- and the same free entries
-last-moved : (m m' : List ℕ) → AreJournalsSound Idle m → SameVotes m m' → free_entries m' ≡ free_entries m → Last (unused m')
+pub last-moved : (m m' : List ℕ) → AreJournalsSound Idle m → SameVotes m m' → free_entries m' ≡ free_entries m → Last (unused m')
 last-moved m m' h s free = Last-moved (unused m) (unused m') (record {
   n01 = ap (λ v. v.unused) s.s1;
   n02 = ap (λ v. v.unused) s.f2;

@@ -25,7 +25,7 @@ use Rattle.erase_journal.proofs.Renewal.{same-chip-on, same-blocks-refl, stands-
 and-255 : (x : ℕ) → x < 256 → bit_and 255 x ≡ x
 and-255 x low = and_comm 255 x ∙ and_mask x 8 ∙ (omega arith)
 
-free-bytes : (m : List ℕ) (i : ℕ) → is_free_entry m i ≡ true → (entry_byte m i 0 ≡ 255) × (entry_byte m i 1 ≡ 255) × (entry_byte m i 2 ≡ 255) × (entry_byte m i 3 ≡ 255)
+pub free-bytes : (m : List ℕ) (i : ℕ) → is_free_entry m i ≡ true → (entry_byte m i 0 ≡ 255) × (entry_byte m i 1 ≡ 255) × (entry_byte m i 2 ≡ 255) × (entry_byte m i 3 ≡ 255)
 free-bytes m i free = (grind (arith, nat_tests), grind (arith, nat_tests), grind (arith, nat_tests), grind (arith, nat_tests))
 
 -- three bytes of an entry are bytes of the entry

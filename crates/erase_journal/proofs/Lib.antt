@@ -19,3 +19,5 @@ pub mod SettledLaws
 pub mod Knowing
 pub mod Marking
 pub mod Calls
+pub mod SameBytes
+pub mod Closing

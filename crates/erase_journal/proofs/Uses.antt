@@ -1,5 +1,5 @@
 -- What the calls of an erase make of the votes and entries that are left.
-use Rattle.std.proofs.Common.{◌≡◌, ◌≢◌, ℕ, ◌+◌, ◌*◌, ◌<◌, ◌≤◌, true, List, [], ◌∷◌, length, refl, sym, ap, ◌∙◌, subst, arith, inl, inr, lit<, add-zero}
+use Rattle.std.proofs.Common.{◌≡◌, ◌≢◌, ℕ, ◌+◌, ◌*◌, ◌<◌, ◌≤◌, true, false, List, [], ◌∷◌, length, refl, sym, ap, ◌∙◌, subst, arith, inl, inr, lit<, add-zero}
 use Rattle.std.proofs.lemmas.Bool.{cases_eq}
 use Rattle.chip_model.specs.Memory.{byte, erased, and_at}
 use Rattle.nor_layout.specs.declared.journal.JournalId.{JournalId}
@@ -9,6 +9,7 @@ use Rattle.erase_journal.specs.Votes.{IsLowestTired, once_erased}
 use Rattle.erase_journal.specs.Journals.{entry_byte, is_free_entry, free_entries, unused}
 use Rattle.erase_journal.specs.Steps.{SameNumbers, IsTaken, IsOpened}
 use Rattle.erase_journal.specs.Spending.{Maintains, erases, once_used, IsUsed, KeepsUse}
+use Rattle.erase_journal.proofs.Counts.{how_many-same}
 use Rattle.erase_journal.proofs.Regions.{entry-kept, spoiled-below, spoiled-above, entries-below, entries-above}
 use Rattle.erase_journal.proofs.Entries.{SameVotes, same-votes-entry, same-votes-data, same-votes-super, entry-elsewhere, free-change, not-free, state-is}
 use Rattle.erase_journal.proofs.Effects.{erased-spoiled, program-changes}
@@ -62,9 +63,8 @@ spoiled-on at n m m1 m2 a b = record {
 }
 
 -- entry i is used
-entry-used : (i : ℕ) (m m' : List ℕ) → i < 512 → Spoiled (6144 + 4 * i) 4 m m' → is_free_entry m i ≡ true → entry_byte m' i 0 ≢ 255 → IsUsed i m m'
-entry-used i m m' low s free state =
-    let gone = not-free m' i state in
+pub entry-gone : (i : ℕ) (m m' : List ℕ) → i < 512 → Spoiled (6144 + 4 * i) 4 m m' → is_free_entry m i ≡ true → is_free_entry m' i ≡ false → IsUsed i m m'
+entry-gone i m m' low s free gone =
     let f = rw (free, gone) at (free-change i m m' low s) in
     let v = same-votes-entry (6144 + 4 * i) 4 m m' s (omega arith) (omega arith) in
     record {
@@ -72,6 +72,17 @@ entry-used i m m' low s free state =
       here = gone;
       others = λ k small other. free-elsewhere i m m' s k other;
     }
+
+entry-used : (i : ℕ) (m m' : List ℕ) → i < 512 → Spoiled (6144 + 4 * i) 4 m m' → is_free_entry m i ≡ true → entry_byte m' i 0 ≢ 255 → IsUsed i m m'
+entry-used i m m' low s free state = entry-gone i m m' low s free (not-free m' i state)
+
+-- the entries are free that were, and no vote changed
+pub entries-keep : (m m' : List ℕ) → SameVotes m m' → ((k : ℕ) → k < 512 → is_free_entry m' k ≡ is_free_entry m k) → KeepsUse m m'
+unfolding free_entries
+entries-keep m m' v each = record {
+  numbers = counted m m' (unused m) v refl (how_many-same (is_free_entry m') (is_free_entry m) 512 each);
+  entries = each;
+}
 
 -- it was in use
 entry-stays : (i : ℕ) (m m' : List ℕ) → i < 512 → Spoiled (6144 + 4 * i) 4 m m' → entry_byte m i 0 ≢ 255 → entry_byte m' i 0 ≢ 255 → KeepsUse m m'

@@ -7,5 +7,6 @@ pub mod Spending
 pub mod Known
 pub mod Faults
 pub mod Scans
+pub mod Firm
 pub mod Recovery
 pub mod Laws

@@ -36,7 +36,7 @@ fn find_free<N: Nor>(nor: &mut N) -> Result<Option<u16>, NorError>
 
 /// The lowest free entry, where there is one: known where the free entries are the last ones, else
 /// read.
-fn lowest_entry<N: Nor>(nor: &mut N, known: Known) -> Result<u16, NorError>
+pub(crate) fn lowest_entry<N: Nor>(nor: &mut N, known: Known) -> Result<u16, NorError>
     requires size { JOURNALS_END ≤ length (N.state nor.old).memory }
     requires known { IsNorReady (N.state nor.old) → IsKnown known (N.state nor.old).memory }
     requires some { 1 ≤ known.unused.free }

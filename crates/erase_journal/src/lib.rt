@@ -10,17 +10,23 @@
 //! latched: every call answers it until `restore`, which cycles the power and recovers again. After
 //! a Slow nothing is promised of the data blocks. If `restore` finds corrupt journals, a Slow is
 //! latched. `superblock` reads the superblock's first bytes, and `mark` programs byte 15 of it and
-//! no other. `read_tally` counts the journals' votes and entries. No call allocates.
+//! no other. `read_tally` counts the journals' votes and entries. With `Firmness::Firm` a recovery
+//! programs what it read again before it acts on it, and `firm` leaves no entry that could come to
+//! be open; what is said above holds of both. No call allocates.
 //!
 //! Depends on `Nor` of `nor_driver` (read, program, erase, restart) and on the places of
 //! `nor_layout`. Left to the crate above: what the data blocks and the superblock hold, and when to
 //! restore. To read the crate: phase, scan, read, unused, tally, votes, journal_erase, maintain,
-//! known, block_erase, recovery, journal. Source: own. See docs/JOURNAL.md.
+//! known, block_erase, firmness, again, recovery, firm,
+//! journal. Source: own. See docs/JOURNAL.md.
 
 #![tactic(auto)]
 
+mod again;
 mod block_erase;
 mod error;
+mod firm;
+mod firmness;
 mod journal;
 mod journal_erase;
 mod known;
@@ -36,6 +42,7 @@ mod unused;
 mod votes;
 
 pub use error::RecoverError;
+pub use firmness::Firmness;
 pub use journal::Journal;
 pub use laws::{
     blocks_have_one_size, erased_chips_are_settled, maintenance_keeps_votes_that_last,

@@ -1,9 +1,9 @@
 //! Recovery: finishes the erase that a loss of power interrupted.
 
 ghost use Rattle.std.specs.Prelude.{◌↔◌, ◌⊎◌, None, false, IsSome, IfOk, IfSome, ◌≡◌, ◌≤◌, length};
-ghost use Rattle.std.specs.Prelude.{OnOk};
+ghost use Rattle.std.specs.Prelude.{OnOk, IfErr};
 ghost use Rattle.std.specs.Result.{IsErrOf};
-ghost use Rattle.nor_driver.specs.State.{EndsReady};
+ghost use Rattle.nor_driver.specs.State.{EndsReady, IsNorReady, OnlyMemoryChanges, Refuses};
 ghost use Rattle.erase_journal.specs.Journals.{AreJournalsSound, IsSettled, IsHealthy, settled};
 ghost use Rattle.erase_journal.specs.Journals.{unused};
 ghost use Rattle.erase_journal.specs.Blocks.{SameBlocks};
@@ -12,6 +12,8 @@ ghost use Rattle.erase_journal.specs.Spending.{Continues};
 ghost use Rattle.erase_journal.specs.Recovery.{seen, Restored, RestoreCut, RestoreSlow};
 ghost use Rattle.erase_journal.specs.Recovery.{RestoreCorrupt};
 
+use crate::Firmness;
+use crate::again::{program_pages_again, program_votes_again};
 use crate::block_erase::{find_open, finish_entry};
 use crate::journal_erase::renew;
 use crate::phase::ErasePhase;
@@ -20,7 +22,7 @@ use crate::tally::{decide, once_settled};
 use crate::unused::Unused;
 use crate::votes::{close_vote, open_vote};
 use nor_driver::{Nor, NorError};
-use nor_layout::{JOURNALS_END, JournalId};
+use nor_layout::{JOURNALS_END, JournalId, entry_place};
 
 /// Goes on with an erase for which only the next journal votes.
 fn resume_asked<N: Nor>(nor: &mut N, journal: JournalId) -> Result<(), NorError>
@@ -114,9 +116,30 @@ fn resume<N: Nor>(nor: &mut N, phase: ErasePhase) -> Result<(), NorError>
     }
 }
 
+/// Programs what a recovery is about to act on as it was read, where bits may waver: the votes, and
+/// where an entry is open the entries.
+fn believe<N: Nor>(nor: &mut N, firmness: Firmness, opened: u16) -> Result<(), NorError>
+    requires ready { IsNorReady (N.state nor.old) }
+    requires size { JOURNALS_END ≤ length (N.state nor.old).memory }
+    ensures same { (N.state nor.new).memory ≡ (N.state nor.old).memory }
+    ensures kept { OnOk result (OnlyMemoryChanges (N.state nor.old) (N.state nor.new)) }
+    ensures fails { IfErr result (λ e. Refuses e (N.state nor.old) (N.state nor.new)) }
+{
+    match firmness {
+        Firmness::Steady => Ok(()),
+        Firmness::Firm => {
+            program_votes_again(nor)?;
+            if opened == 0 {
+                return Ok(());
+            }
+            program_pages_again(nor, entry_place(0))
+        }
+    }
+}
+
 /// Reads the journals and settles them, and answers their numbers then. `None` where they are
 /// corrupt, and then nothing has changed.
-pub(crate) fn settle<N: Nor>(nor: &mut N) -> Result<Option<Unused>, NorError>
+pub(crate) fn settle<N: Nor>(nor: &mut N, firmness: Firmness) -> Result<Option<Unused>, NorError>
     requires size { JOURNALS_END ≤ length (N.state nor.old).memory }
     ensures healthy { IfOk result (λ found. IsSome found ↔ IsHealthy (N.state nor.old).memory) }
     ensures settled { IfOk result (λ found.
@@ -139,13 +162,14 @@ pub(crate) fn settle<N: Nor>(nor: &mut N) -> Result<Option<Unused>, NorError>
     let Some(phase) = decide(tally) else {
         return Ok(None);
     };
+    believe(nor, firmness, tally.opened)?;
     resume(nor, phase)?;
     Ok(Some(once_settled(tally.unused(), phase)))
 }
 
 /// Turns the power off and on again, reads the journals and settles them, and answers their numbers
 /// then. `None` where they are corrupt.
-pub(crate) fn restart<N: Nor>(nor: &mut N) -> Result<Option<Unused>, NorError>
+pub(crate) fn restart<N: Nor>(nor: &mut N, firmness: Firmness) -> Result<Option<Unused>, NorError>
     requires size { JOURNALS_END ≤ length (N.state nor.old).memory }
     ensures sound { IfOk result (λ found.
         IfSome found (λ u. Restored (N.state nor.old) (N.state nor.new))) }
@@ -157,5 +181,5 @@ pub(crate) fn restart<N: Nor>(nor: &mut N) -> Result<Option<Unused>, NorError>
     ensures slow { IsErrOf result NorError.Slow → RestoreSlow (N.state nor.old) (N.state nor.new) }
 {
     nor.restart()?;
-    settle(nor)
+    settle(nor, firmness)
 }

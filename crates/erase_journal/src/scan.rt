@@ -1,7 +1,9 @@
 //! Counts and finds votes and entries in a buffer. Nothing here touches the chip.
 
 ghost use Rattle.std.specs.Prelude.{◌≡◌, ◌+◌, ◌<◌, ◌≤◌, ◌==◌, true, false, ℕ, length, slice_index};
-ghost use Rattle.std.specs.Prelude.{MatchOption};
+ghost use Rattle.std.specs.Prelude.{MatchOption, ◌≢◌, ◌⊎◌, ◌*◌, IsTrue, IsFalse};
+ghost use Rattle.chip_model.specs.Memory.{byte};
+ghost use Rattle.erase_journal.specs.Firm.{LeavesEntry};
 ghost use Rattle.nor_layout.specs.Entries.{block_in};
 ghost use Rattle.erase_journal.specs.Scans.{count_equal, count_wrong, free_in, is_free_in, open_in};
 ghost use Rattle.erase_journal.specs.Scans.{is_open_in, entry_in};
@@ -66,6 +68,53 @@ pub(crate) fn lowest(bytes: &[u8], value: u8) -> Option<u32>
         at += 1;
     }
     None
+}
+
+/// Whether each byte is FFh.
+pub(crate) fn is_blank(bytes: &[u8]) -> bool
+    ensures blank { IsTrue result → (k : ℕ) → k < length bytes.now → byte bytes.now k ≡ 255 }
+    ensures not_blank { IsFalse result
+        → ((k : ℕ) → k < length bytes.now → byte bytes.now k ≡ 255) → ⊥ }
+{
+    for at in 0..bytes.len() {
+        if bytes[at] != 0xff {
+            return false;
+        }
+    }
+    true
+}
+
+/// What the last byte of an entry of a buffer becomes: 0 where the entry is used and that byte is
+/// FFh, else it stays.
+fn closed_last(bytes: &[u8], i: usize) -> u8
+    requires size { length bytes.now ≡ 256 }
+    requires within { i < 64 }
+    ensures last { (result ≡ byte bytes.now (4 * i + 3))
+        ⊎ ((byte bytes.now (4 * i + 3) ≡ 255) × (is_free_in bytes.now i ≡ false)) }
+    ensures closed { is_free_in bytes.now i ≡ false → result ≢ 255 }
+{
+    let at = 4 * i;
+    let last = bytes[at + 3];
+    if last != 0xff {
+        return last;
+    }
+    if bytes[at] == 0xff && bytes[at + 1] == 0xff && bytes[at + 2] == 0xff {
+        return last;
+    }
+    0
+}
+
+/// In a page of 64 entries, clears the last byte of each that is used and in which it is FFh.
+pub(crate) fn close_used(bytes: &mut [u8])
+    requires { length bytes.old ≡ 256 }
+    ensures each { (i : ℕ) → i < 64 → LeavesEntry i bytes.old bytes.new }
+    ensures closed { (i : ℕ) → i < 64 → is_free_in bytes.old i ≡ false
+        → byte bytes.new (4 * i + 3) ≢ 255 }
+    ensures size { length bytes.new ≡ length bytes.old }
+{
+    for i in 0..64usize {
+        bytes[4 * i + 3] = closed_last(bytes, i);
+    }
 }
 
 /// The lowest free entry of a buffer.

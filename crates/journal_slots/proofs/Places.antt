@@ -130,7 +130,7 @@ first-live h e = elim (cases_eq (byte h 0) 252) as (λ _. byte h 0 ≡ 252) [
 ]
 
 -- a state byte that is neither FFh nor FCh, and one that is FFh where the others aren't
-dead-header : (h : List ℕ) → byte h 0 ≢ 255 → byte h 0 ≢ 252 → header_of h ≡ headers.Dead
+pub dead-header : (h : List ℕ) → byte h 0 ≢ 255 → byte h 0 ≢ 252 → header_of h ≡ headers.Dead
 dead-header h n m = rw (ne_eqb (byte h 0) 255 n, ne_eqb (byte h 0) 252 m) refl
 
 spoiled-header : (h : List ℕ) → byte h 0 ≡ 255 → (byte h 1 ≡ 255 → byte h 2 ≡ 255 → byte h 3 ≡ 255 → ⊥) → header_of h ≡ headers.Dead

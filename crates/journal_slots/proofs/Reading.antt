@@ -58,7 +58,7 @@ source-read t s m h n e begun =
     ]) ∙ begun.once
 
 -- the head of a block
-head-byte : (b h : List ℕ) (k : ℕ) → h ≡ slice_range b 0 44 → k < 44 → byte h k ≡ byte b k
+pub head-byte : (b h : List ℕ) (k : ℕ) → h ≡ slice_range b 0 44 → k < 44 → byte h k ≡ byte b k
 head-byte b h k e low =
     let z : 0 + k ≡ k = omega arith in
     ap (λ q. byte q k) e ∙ (get_or-take 44 (drop 0 b) k 0 low ∙ (get_or-drop 0 b k 0 ∙ ap (λ q. byte b q) z))

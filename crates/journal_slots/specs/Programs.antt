@@ -1,8 +1,10 @@
 -- What a program leaves of the bytes of a block, and what the programs of one slot do. Words of
 -- private functions: no claim rests on them. Source: own, layout 2.
-use Rattle.std.specs.Prelude.{◌≡◌, ◌⊎◌, ℕ, ◌+◌, ◌*◌, ◌<◌, ◌≤◌, List, length}
+use Rattle.std.specs.Prelude.{◌≡◌, ◌⊎◌, ℕ, ◌+◌, ◌*◌, ◌<◌, ◌≤◌, List, length, drop, bit_and}
 use Rattle.chip_model.specs.Memory.{byte}
 use Rattle.nor_layout.specs.declared.header.Tag.{Tag}
+use Rattle.nor_layout.specs.declared.header.Header.TheVariants as headers
+use Rattle.nor_layout.specs.Headers.{header_of}
 use Rattle.sector_slots.specs.Slots.{Live, Dead, slot_in, content_bytes, blank_sector}
 use Rattle.sector_slots.specs.Steps.{HoldsTag}
 
@@ -10,6 +12,13 @@ use Rattle.sector_slots.specs.Steps.{HoldsTag}
 pub record OnlyBytes (from n : ℕ) (b t : List ℕ) : Type 0 where
   pub same_length : length t ≡ length b
   pub each : (k : ℕ) → k < 4096 → (k < from) ⊎ (from + n ≤ k) → byte t k ≡ byte b k
+
+-- What is programmed over byte k of a head that is made firm: that byte; but over the state of a
+-- descriptor that is dead its bits without the third.
+pub data IsFirmByte (head firm : List ℕ) (k : ℕ) : Type 0 where
+  as_read : byte firm k ≡ byte head k → IsFirmByte head firm k
+  killed : (i : ℕ) → i < 7 → k ≡ 16 + 4 * i → header_of (drop (16 + 4 * i) head) ≡ headers.Dead
+      → byte firm k ≡ bit_and (byte head k) 251 → IsFirmByte head firm k
 
 -- byte k of a block is neither of the descriptor nor of the sector of place i
 abbrev pub IsElsewhere : ℕ → ℕ → Type 0

@@ -9,6 +9,7 @@ ghost use Rattle.sector_slots.specs.Slots.{slot_count, descriptor_at, IsClean, d
 ghost use Rattle.sector_slots.specs.Slots.{kind_at};
 
 use crate::clean::read_clean;
+use crate::firm::{firm_head, has_begun, kill_slot};
 use crate::head::read_head;
 use crate::mark::{commit_mark, erase_data, program_mark, read_kind, retire_header, settle_mark};
 use crate::read::{content_at, free_at, read_header, read_slot};
@@ -16,7 +17,7 @@ use crate::slot::{copy_slot, retire_slot, write_slot};
 use erase_journal::{Journal, RecoverError};
 use nor_driver::{Nor, NorError};
 use nor_layout::{FIRST_DATA_BLOCK, Header, Kind, SLOTS, Tag, begun_mark};
-use sector_slots::SlotCalls;
+use sector_slots::{FirmCalls, SlotCalls};
 use std::marker::Model;
 
 /// The data blocks behind the journals, as seven slots each.
@@ -181,5 +182,24 @@ impl<N: Nor> SlotCalls for SectorSlots<N> {
 
     fn arm(&mut self, count: u32, kind: u8, mask: u8) {
         self.journal.arm(count, kind, mask)
+    }
+}
+
+impl<N: Nor> FirmCalls for SectorSlots<N> {
+    fn firm(&mut self) -> Result<(), NorError> {
+        self.journal.firm()
+    }
+
+    fn firm_head(&mut self, block: u16) -> Result<bool, NorError> {
+        firm_head(&mut self.journal, block)
+    }
+
+    fn has_begun(&mut self, block: u16) -> Result<bool, NorError> {
+        has_begun(&mut self.journal, block)
+    }
+
+    fn kill(&mut self, slot: u16) -> Result<(), NorError> {
+        kill_slot(&mut self.journal, slot / SLOTS, slot % SLOTS)?;
+        Ok(())
     }
 }

@@ -19,3 +19,4 @@ mod Pigeonhole
 mod GroupRoom
 pub mod Grouped
 pub mod Evening
+pub mod Zeroing

@@ -39,5 +39,6 @@ pub use laws::group_chips_are_mountable;
 pub use map::SectorMap;
 pub use mount::mount_slots;
 pub use scan::{is_spare, survey};
+pub use steps::clear_firmly;
 pub use stock::Stock;
 pub use table::{Held, LiveSlots, enter_head};

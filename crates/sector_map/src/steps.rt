@@ -422,6 +422,49 @@ pub(crate) fn clear_levelled<S: Reclaim>(
     clear_ungrouped(stock, table, sector)
 }
 
+/// Clears a sector where torn bits may waver. A sector that is held is written with zeros first: no
+/// one bit decides between its content and none, as the retirement alone would.
+pub fn clear_firmly<S: Reclaim>(
+    stock: &mut S,
+    table: &mut [LiveSlots],
+    sector: u16,
+) -> Result<(), NorError>
+    requires served { IsServing table.old (S.state stock.old) (S.indexed stock.old) }
+    requires number { sector < length table.old }
+    ensures ok { OnOk result (Wrote sector zeros table.new (S.state stock.old) (S.state stock.new)
+        (S.indexed stock.new)) }
+    ensures cut { IsErrOf result NorError.Cut
+        → SetLeaves sector zeros (S.state stock.old).memory (S.state stock.new).memory }
+    ensures table { length table.new ≡ length table.old }
+    ensures size { length (S.state stock.new).memory ≡ length (S.state stock.old).memory }
+    ensures ends { EndsSettled result (S.state stock.old) (S.state stock.new) }
+{
+    match table[sector as usize].holder() {
+        Some(_) => clear_written(stock, table, sector),
+        None => clear_levelled(stock, table, sector),
+    }
+}
+
+/// Writes a sector with zeros, and clears it.
+fn clear_written<S: Reclaim>(
+    stock: &mut S,
+    table: &mut [LiveSlots],
+    sector: u16,
+) -> Result<(), NorError>
+    requires served { IsServing table.old (S.state stock.old) (S.indexed stock.old) }
+    requires number { sector < length table.old }
+    ensures ok { OnOk result (Wrote sector zeros table.new (S.state stock.old) (S.state stock.new)
+        (S.indexed stock.new)) }
+    ensures cut { IsErrOf result NorError.Cut
+        → SetLeaves sector zeros (S.state stock.old).memory (S.state stock.new).memory }
+    ensures table { length table.new ≡ length table.old }
+    ensures size { length (S.state stock.new).memory ≡ length (S.state stock.old).memory }
+    ensures ends { EndsSettled result (S.state stock.old) (S.state stock.new) }
+{
+    write_levelled(stock, table, sector, &[0; 512])?;
+    clear_levelled(stock, table, sector)
+}
+
 /// Clears a sector that no block with its group holds.
 fn clear_ungrouped<S: Reclaim>(
     stock: &mut S,

@@ -6,3 +6,4 @@ pub mod Steps
 pub mod Laws
 pub mod Machine
 pub mod Groups
+pub mod Firm

@@ -1,5 +1,6 @@
-//! The definitions of slots, the trait `SlotCalls` of a store of them, and laws about both. A data
-//! block has seven slots, each free, dead, or holding a sector of 512 bytes with its generation.
+//! The definitions of slots, the traits `SlotCalls` and `FirmCalls` of a store of them, and laws. A
+//! data block has seven slots, each free, dead, or holding a sector of 512 bytes with its
+//! generation.
 //!
 //! Promised of any memory: which slots count (`specs/Slots.antt`), which sectors they represent
 //! (`specs/Sectors.antt`), when blocks are corrupt (`specs/Blocks.antt`), and that no step of a
@@ -19,9 +20,11 @@
 #![tactic(auto)]
 
 mod calls;
+mod firm;
 mod laws;
 
 pub use calls::SlotCalls;
+pub use firm::FirmCalls;
 pub use laws::{
     copies_are_exact, copies_keep_tags, counted_slots_are_stored, erased_chips_hold_zeros,
     group_chips_are_sound, groups_are_seen, last_steps_settle, marks_keep_sectors,

@@ -23,7 +23,7 @@ use Rattle.nor_layout.specs.Kinds.{kind_of}
 use Rattle.sector_slots.proofs.CleanLaws.{clean-only, clean-blocks, void-clean, commit-clean, erase_source-clean, settle-clean, committed-clean}
 use Rattle.sector_slots.proofs.BlankLaws.{blank-content, counted-same, erased-spare, same-holds, unchanged-holds, blocks-holds, sound-holds, holds-sound}
 use Rattle.nor_layout.specs.declared.header.Tag.{Tag}
-use Rattle.sector_stock.specs.Copy.{bare, SameSectors, KeepsSectors, Stays, IsCopyable, IsFinished, Copies, Reclaimed, EndsCopy, IsVoidIn, IsCommittedIn}
+use Rattle.sector_stock.specs.Copy.{IsFresh, bare, SameSectors, KeepsSectors, Stays, IsCopyable, IsFinished, Copies, Reclaimed, EndsCopy, IsVoidIn, IsCommittedIn}
 use Rattle.sector_stock.specs.CopySteps.{IsCopiedTo, IsExactTo, CopyProgress, Finishes, FinishLeaves}
 use Rattle.sector_stock.proofs.Tags.{bare-whole, tags-sound, bare-to_copy, to_copy-whole}
 
@@ -49,7 +49,7 @@ begins-now s t m m' h mark void = record { number = h.target; rest = h.rest; spa
 step-sectors : (s t : ℕ) (m m' : List ℕ) → SlotStep s t m m' → SameSectors m m'
 step-sectors s t m m' step sectors h = step-holds s t m m' sectors step h
 
-same-sectors-sound : (m m' : List ℕ) → SameSectors m m' → IsSoundMap m → IsSoundMap m'
+pub same-sectors-sound : (m m' : List ℕ) → SameSectors m m' → IsSoundMap m → IsSoundMap m'
 same-sectors-sound m m' same sound = holds-sound m' (sector_at m) (same (sector_at m) (sound-holds m sound))
 
 step-singles : (s t : ℕ) (m m' : List ℕ) → SlotStep s t m m' → IsSoundMap m → IsSingle m → IsSingle m'
@@ -78,14 +78,21 @@ same-clean m m' same clean =
 pub stays-kept : (m m' : List ℕ) → KeepsSectors m m' → Stays m m'
 stays-kept m m' k = record { chip = k.chip; sound = λ s. same-sectors-sound m m' k.sectors s; alone = k.alone; exact = λ c. k }
 
-pub begin-cut : (s t : ℕ) (m m' : List ℕ) → IsCopyable s t m → OnlyMark t m m' → (data_block m' t ≡ data_block m t) ⊎ (kind_at m' t ≡ kinds.Void) → Stays m m'
-begin-cut s t m m' h mark (inl same) = stays-kept m m' (keeps m m' mark.only.chip (λ sectors holds. unchanged-holds t m m' sectors mark.only same holds) (block-alone t m m' mark.only (λ q. ap (λ b. is_group (kind_of b)) same ∙ q)) (unchanged-clean t m m' mark.only same))
-begin-cut s t m m' h mark (inr void) = stays-kept m m' (keeps m m' mark.only.chip (step-sectors s t m m' (begin-step s t m m' h mark void)) (of-kind t m m' kinds.Void mark.only void refl) (begin-clean s t m m' h mark void))
+pub begin-keeps : (s t : ℕ) (m m' : List ℕ) → IsCopyable s t m → OnlyMark t m m' → (data_block m' t ≡ data_block m t) ⊎ (kind_at m' t ≡ kinds.Void) → KeepsSectors m m'
+begin-keeps s t m m' h mark (inl same) = (keeps m m' mark.only.chip (λ sectors holds. unchanged-holds t m m' sectors mark.only same holds) (block-alone t m m' mark.only (λ q. ap (λ b. is_group (kind_of b)) same ∙ q)) (unchanged-clean t m m' mark.only same))
+begin-keeps s t m m' h mark (inr void) = (keeps m m' mark.only.chip (step-sectors s t m m' (begin-step s t m m' h mark void)) (of-kind t m m' kinds.Void mark.only void refl) (begin-clean s t m m' h mark void))
 
-begin-fresh : (s t : ℕ) (m m' : List ℕ) → IsCopyable s t m → IsClean m → OnlyMark t m m' → (i : ℕ) → i < 7 → IsErasedSlot t i m'
-begin-fresh s t m m' h clean mark i low = record {
+pub begin-cut : (s t : ℕ) (m m' : List ℕ) → IsCopyable s t m → OnlyMark t m m' → (data_block m' t ≡ data_block m t) ⊎ (kind_at m' t ≡ kinds.Void) → Stays m m'
+begin-cut s t m m' h mark left = stays-kept m m' (begin-keeps s t m m' h mark left)
+
+-- a wholly free block of a clean memory is fresh
+pub clean-fresh : (s t : ℕ) (m : List ℕ) → IsCopyable s t m → IsClean m → IsFresh t m
+clean-fresh s t m h clean i low = ap (λ q. content_bytes q i) (clean.spare t h.target h.spare) ∙ blank-content i low
+
+begin-fresh : (s t : ℕ) (m m' : List ℕ) → IsCopyable s t m → IsFresh t m → OnlyMark t m m' → (i : ℕ) → i < 7 → IsErasedSlot t i m'
+begin-fresh s t m m' h fresh mark i low = record {
   free = mark.slots i low ∙ h.spare.free i low;
-  blank = mark.contents i low ∙ (ap (λ q. content_bytes q i) (clean.spare t h.target h.spare) ∙ blank-content i low);
+  blank = mark.contents i low ∙ fresh i low;
 }
 
 pub begin-progress : (s t : ℕ) (m m' : List ℕ) → IsCopyable s t m → OnlyMark t m m' → IsBegun t s m' → CopyProgress 0 s t m m'
@@ -107,12 +114,12 @@ begin-progress s t m m' h mark begun =
         single = step-singles s t m m' step h.sound h.single;
       };
       sectors = sectors;
-      exact = λ clean. record {
+      exact = λ fresh. record {
         copied = λ i low. absurd (omega (arith, low));
-        fresh = λ i low all. begin-fresh s t m m' h clean mark i low;
-        unwritten = λ i low all. begin-fresh s t m m' h clean mark i low;
-        clean = begin-clean s t m m' h mark begun.void clean;
+        fresh = λ i low all. begin-fresh s t m m' h fresh mark i low;
+        unwritten = λ i low all. begin-fresh s t m m' h fresh mark i low;
       };
+      clean = λ clean. begin-clean s t m m' h mark begun.void clean;
     }
 
 -- two changes of one block
@@ -140,13 +147,16 @@ copy-clean t m m' only was now clean = void-clean t m m' kinds.Void only was (λ
 progress-alone : (j s t : ℕ) (m0 m : List ℕ) → CopyProgress j s t m0 m → HasSlotsAlone m0 → HasSlotsAlone m
 progress-alone j s t m0 m p = of-kind t m0 m kinds.Void p.only p.copied.begun.void refl
 
-pub copy-cut : (j s t : ℕ) (m0 m m' : List ℕ) → j < 7 → CopyProgress j s t m0 m → OnlyPlace (7 * t + j) m m' → (kind_at m t ≡ kinds.Void → kind_at m' t ≡ kinds.Void) → Stays m0 m'
-copy-cut j s t m0 m m' low p place void =
+pub copy-keeps : (j s t : ℕ) (m0 m m' : List ℕ) → j < 7 → CopyProgress j s t m0 m → OnlyPlace (7 * t + j) m m' → (kind_at m t ≡ kinds.Void → kind_at m' t ≡ kinds.Void) → KeepsSectors m0 m'
+copy-keeps j s t m0 m m' low p place void =
     let only = place-only t j m m' low place in
     let chip = chip-after m0 m m' p.only.chip only.chip in
     let now = void p.copied.begun.void in
     let same : SameSectors m0 m' = λ sectors holds. step-sectors s t m m' (copies-now j s t m m' p.copied only now) sectors (p.sectors sectors holds) in
-    stays-kept m0 m' (keeps m0 m' chip same (λ a. of-kind t m m' kinds.Void only now refl (progress-alone j s t m0 m p a)) (λ c. copy-clean t m m' only p.copied.begun.void now (p.exact c).clean))
+    (keeps m0 m' chip same (λ a. of-kind t m m' kinds.Void only now refl (progress-alone j s t m0 m p a)) (λ c. copy-clean t m m' only p.copied.begun.void now (p.clean c)))
+
+pub copy-cut : (j s t : ℕ) (m0 m m' : List ℕ) → j < 7 → CopyProgress j s t m0 m → OnlyPlace (7 * t + j) m m' → (kind_at m t ≡ kinds.Void → kind_at m' t ≡ kinds.Void) → Stays m0 m'
+copy-cut j s t m0 m m' low p place void = stays-kept m0 m' (copy-keeps j s t m0 m m' low p place void)
 
 source-same : (s t : ℕ) (m m' : List ℕ) (i : ℕ) → s < data_blocks m → s ≢ t → OnlyBlock (t + 4) m m' → source_slot m' s i ≡ source_slot m s i
 source-same s t m m' i low other only = ap (λ b. to_copy (kind_of b) (slot_in b i)) (only.others (s + 4) (omega arith) (omega (arith, low)) (λ e. other (omega (arith, e))))
@@ -204,8 +214,8 @@ copy-progress j s t m0 m m' low p place done fresh =
         single = step-singles s t m m' step c.sound c.single;
       };
       sectors = λ sectors holds. here sectors (p.sectors sectors holds);
-      exact = λ clean.
-          let x = p.exact clean in
+      exact = λ blank.
+          let x = p.exact blank in
           let now = x.fresh j low (omega arith) in
           let after = copy-is (source_slot m s j) t j m m' done.1 (to_copy-whole (kind_at m s) (raw_slot m s j) (source-whole j s t m j c low)) now in
           record {
@@ -218,8 +228,8 @@ copy-progress j s t m0 m m' low p place done fresh =
               | inl e ↦ subst (λ a. IsErasedSlot t a m') (sym e) (after.1 (ap (λ a. raw_slot m' t a) (sym e) ∙ free))
               | inr ne ↦ fresh i small ne (x.unwritten i small (sym (place-slots t j i m m' low small ne place) ∙ free))
             ];
-            clean = copy-clean t m m' only c.begun.void done.0.void x.clean;
           };
+      clean = λ clean. copy-clean t m m' only c.begun.void done.0.void (p.clean clean);
     }
 
 -- commit
@@ -366,7 +376,7 @@ settle-done s t m0 m m' h mark e =
     }
 
 -- after the commit
-after-keeps : (m0 m m' : List ℕ) → KeepsSectors m0 m → KeepsSectors m m' → KeepsSectors m0 m'
+pub after-keeps : (m0 m m' : List ℕ) → KeepsSectors m0 m → KeepsSectors m m' → KeepsSectors m0 m'
 after-keeps m0 m m' a b = keeps m0 m' (chip-after m0 m m' a.chip b.chip) (λ sectors holds. b.sectors sectors (a.sectors sectors holds)) (λ q. b.alone (a.alone q)) (λ c. b.clean (a.clean c))
 
 reclaimed-keeps : (m m' : List ℕ) → Reclaimed m m' → KeepsSectors m m'
@@ -411,8 +421,13 @@ ended-whole s t m a m' h two three e =
       erased = erased-spare m' s (at-s ∙ two.erased);
     }
 
-pub reclaim-done : (s t : ℕ) (m0 m m' : List ℕ) → CopyProgress 7 s t m0 m → Finishes s t m m' → Copies s t m0 m'
-reclaim-done s t m0 m m' p f =
+-- what comes after the copies of the slots, where these are exact
+exact-after : (s t : ℕ) (m0 m m' : List ℕ) → SameChip m0 m' → CopyProgress 7 s t m0 m → KeepsSectors m m' → KeepsSectors m0 m'
+exact-after s t m0 m m' chip p k =
+    keeps m0 m' chip (λ sectors holds. k.sectors sectors (p.sectors sectors holds)) (λ a. k.alone (progress-alone 7 s t m0 m p a)) (λ c. k.clean (p.clean c))
+
+pub reclaim-done : (s t : ℕ) (m0 m m' : List ℕ) → IsCopyable s t m0 → CopyProgress 7 s t m0 m → Finishes s t m m' → Copies s t m0 m'
+reclaim-done s t m0 m m' h p f =
     let chip = chip-after m0 m m' p.only.chip f.chip in
     let whole = f.finished in
     let n = p.only.chip.same_length in
@@ -430,19 +445,24 @@ reclaim-done s t m0 m m' p f =
         copied = λ i low. ap bare (whole.target i low) ∙ (p.copied.tags i low ∙ ap (λ a. copy_slot (bare a)) (source i));
         erased = whole.erased;
       };
-      sectors = λ clean sectors holds. (f.exact (p.exact clean)).sectors sectors (p.sectors sectors holds);
-      clean = λ clean. (f.exact (p.exact clean)).clean (p.exact clean).clean;
+      sectors = λ clean sectors holds. (f.exact (p.exact (clean-fresh s t m0 h clean))).sectors sectors (p.sectors sectors holds);
+      clean = λ clean. (f.exact (p.exact (clean-fresh s t m0 h clean))).clean (p.clean clean);
+      fresh = λ blank. exact-after s t m0 m m' chip p (f.exact (p.exact blank));
     }
 
-pub reclaim-cut : (s t : ℕ) (m0 m m' : List ℕ) → CopyProgress 7 s t m0 m → FinishLeaves s t m m' → Stays m0 m'
-reclaim-cut s t m0 m m' p k =
+pub reclaim-cut : (s t : ℕ) (m0 m m' : List ℕ) → IsCopyable s t m0 → CopyProgress 7 s t m0 m → FinishLeaves s t m m' → Stays m0 m'
+reclaim-cut s t m0 m m' h p k =
     let chip = chip-after m0 m m' p.only.chip k.chip in
     record {
       chip = chip;
       sound = λ s. k.sound;
       alone = λ a. k.alone (progress-alone 7 s t m0 m p a);
-      exact = λ clean. keeps m0 m' chip (λ sectors holds. (k.exact (p.exact clean)).sectors sectors (p.sectors sectors holds)) (λ a. k.alone (progress-alone 7 s t m0 m p a)) (λ c. (k.exact (p.exact c)).clean (p.exact c).clean);
+      exact = λ clean. exact-after s t m0 m m' chip p (k.exact (p.exact (clean-fresh s t m0 h clean)));
     }
+
+-- and into a fresh block
+pub reclaim-cut_fresh : (s t : ℕ) (m0 m m' : List ℕ) → CopyProgress 7 s t m0 m → FinishLeaves s t m m' → IsFresh t m0 → KeepsSectors m0 m'
+reclaim-cut_fresh s t m0 m m' p k blank = exact-after s t m0 m m' (chip-after m0 m m' p.only.chip k.chip) p (k.exact (p.exact blank))
 
 -- the slots that count, with the number of blocks of the memory after
 live-after : (m m' : List ℕ) → SameChip m m' → SameLive (slot_at m) (later m m') (slot_count m) → SameLive (slot_at m) (slot_at m') (slot_count m)

@@ -19,7 +19,12 @@ use Rattle.sector_slots.proofs.CleanLaws.{clean-only}
 use Rattle.sector_slots.proofs.MachineLaws.{block-data}
 use Rattle.sector_slots.proofs.PlaceLaws.{later, later-is}
 use Rattle.sector_slots.proofs.CopyLaws.{how_many-same}
-use Rattle.sector_stock.specs.Copy.{Stays, SameSectors}
+use Rattle.sector_stock.specs.Copy.{Stays, SameSectors, KeepsSectors, IsCopyable, IsFresh, Copies, MovesAfresh, bare}
+use Rattle.sector_slots.specs.Copying.{copy_slot, source_slot, to_copy}
+use Rattle.sector_slots.specs.Sectors.{IsSingle, LiveAt}
+use Rattle.nor_layout.specs.Kinds.{kind_of}
+use Rattle.nor_layout.specs.declared.header.Generation.{Generation}
+use Rattle.sector_slots.specs.Slots.{slot_in}
 use Rattle.sector_stock.specs.declared.index.SlotState.{SlotState}
 use Rattle.sector_stock.specs.declared.index.BlockState.{BlockState}
 use Rattle.sector_stock.specs.declared.index.Cursors.{Cursors}
@@ -31,7 +36,7 @@ use Rattle.sector_stock.specs.declared.policy.Policy.{Policy}
 use Rattle.sector_stock.specs.declared.policy.Policy.TheVariants as policies
 use Rattle.sector_stock.specs.Room.{IsSpareBlock}
 use Rattle.sector_stock.specs.Takes.{ErasesSpare, IsErasedOnce, work_of, dead_slots, live_groups}
-use Rattle.sector_stock.proofs.Copying.{stays-kept, same-clean}
+use Rattle.sector_stock.proofs.Copying.{stays-kept, same-clean, after-keeps, same-sectors-sound}
 use Rattle.sector_stock.proofs.Even.{even-once, may-least}
 use Rattle.sector_stock.proofs.Moved.{rest-slot}
 use Rattle.sector_stock.proofs.Tallies.{tally-same}
@@ -106,6 +111,69 @@ spare-done c m m' settled low spare w = record {
 pub spare-cut : (c : ℕ) (m m' : List ℕ) → c < data_blocks m → IsSpareIn m c → EraseInterrupted (c + 4) m m' → Stays m m'
 spare-cut c m m' low spare (as_it_was w) = stays-kept m m' (record { chip = w.blocks.chip; sectors = λ sectors h. blocks-holds m m' sectors w.blocks h; alone = blocks-alone m m' w.blocks; clean = same-clean m m' w.blocks })
 spare-cut c m m' low spare (block_erased healthy w) = stays-kept m m' (record { chip = w.only.chip; sectors = spare-sectors c m m' spare w; alone = spare-alone c m m' spare low w; clean = spare-clean c m m' spare w })
+
+-- It is copied into.
+pub spare-keeps : (c : ℕ) (m m' : List ℕ) → c < data_blocks m → IsSpareIn m c → WithErased (c + 4) m m' → KeepsSectors m m'
+spare-keeps c m m' low spare w = record { chip = w.only.chip; sectors = spare-sectors c m m' spare w; alone = spare-alone c m m' spare low w; clean = spare-clean c m m' spare w }
+
+pub spare-cut_keeps : (c : ℕ) (m m' : List ℕ) → c < data_blocks m → IsSpareIn m c → EraseInterrupted (c + 4) m m' → KeepsSectors m m'
+spare-cut_keeps c m m' low spare (as_it_was w) = record { chip = w.blocks.chip; sectors = λ sectors h. blocks-holds m m' sectors w.blocks h; alone = blocks-alone m m' w.blocks; clean = same-clean m m' w.blocks }
+spare-cut_keeps c m m' low spare (block_erased healthy w) = spare-keeps c m m' low spare w
+
+spare-single : (c : ℕ) (m m' : List ℕ) → IsSpareIn m c → WithErased (c + 4) m m' → IsSingle m → IsSingle m'
+spare-single c m m' spare w h =
+    let n : slot_count m' ≡ slot_count m = ap (λ k. 7 * (block_count k - 4)) w.only.chip.same_length in
+    let back : (v g : ℕ) (k : Generation) (x : List ℕ) → LiveAt (slot_at m') (slot_count m') v g k x → LiveAt (slot_at m) (slot_count m) v g k x = λ v g k x live.
+    let low = live.number in
+    let inside : v < slot_count m = omega (arith, low, n) in
+    record { number = inside; is = sym (later-is m m' v w.only.chip.same_length ∙ later-same c m m' spare w v inside) ∙ live.is } in
+    record { one = λ v u g j k x y a b. h.one v u g j k x y (back v g j x a) (back u g k y b) }
+
+pub spare-copyable : (s t : ℕ) (m m' : List ℕ) → IsCopyable s t m → WithErased (t + 4) m m' → IsCopyable s t m'
+spare-copyable s t m m' h w =
+    let n : data_blocks m' ≡ data_blocks m = ap (λ k. block_count k - 4) w.only.chip.same_length in
+    let ls = h.source in
+    let lt = h.target in
+    record {
+      source = omega (arith, ls, n);
+      target = omega (arith, lt, n);
+      other = h.other;
+      rest = λ d inside. let l : d < data_blocks m = omega (arith, inside, n) in subst (λ k. IsAtRest k) (sym (kinds-same t m m' h.spare w d l)) (h.rest d l);
+      spare = erased-spare m' t w.erased;
+      sound = same-sectors-sound m m' (spare-sectors t m m' h.spare w) h.sound;
+      single = spare-single t m m' h.spare w h.single;
+    }
+
+erased-fresh : (t : ℕ) (m m' : List ℕ) → WithErased (t + 4) m m' → IsFresh t m'
+erased-fresh t m m' w i low = ap (λ b. content_bytes b i) w.erased ∙ blank-content i low
+
+pub moves-afresh : (s t : ℕ) (m m1 m' : List ℕ) → IsCopyable s t m → WithErased (t + 4) m m1 → Copies s t m1 m' → MovesAfresh s t m m'
+moves-afresh s t m m1 m' h w k =
+    let n : data_blocks m1 ≡ data_blocks m = ap (λ k. block_count k - 4) w.only.chip.same_length in
+    let source : (i : ℕ) → source_slot m1 s i ≡ source_slot m s i = λ i. ap (λ b. to_copy (kind_of b) (slot_in b i)) (w.only.others (s + 4) (omega arith) (let l = h.source in omega (arith, l)) (λ e. h.other (omega (arith, e)))) in
+    let slots = k.slots in
+    let keeps = after-keeps m m1 m' (spare-keeps t m m1 h.target h.spare w) (k.fresh (erased-fresh t m m1 w)) in
+    record {
+      copies = record {
+        chip = keeps.chip;
+        blocks = k.blocks;
+        slots = record {
+          same_length = slots.same_length ∙ w.only.chip.same_length;
+          same_kind = λ d low ds dt. slots.same_kind d (omega (arith, low, n)) ds dt ∙ kinds-same t m m1 h.spare w d low;
+          same_slots = λ d i low ds dt. slots.same_slots d i (omega (arith, low, n)) ds dt ∙ (block-data t m m1 w.only).same_slots d i low dt;
+          settled = slots.settled;
+          copied = λ i low. slots.copied i low ∙ ap (λ a. copy_slot (bare a)) (source i);
+          erased = slots.erased;
+        };
+        sectors = λ clean. keeps.sectors;
+        clean = keeps.clean;
+        fresh = λ blank. keeps;
+      };
+      keeps = keeps;
+    }
+
+pub afresh-cut : (s t : ℕ) (m m1 m' : List ℕ) → IsCopyable s t m → WithErased (t + 4) m m1 → (IsFresh t m1 → KeepsSectors m1 m') → KeepsSectors m m'
+afresh-cut s t m m1 m' h w k = after-keeps m m1 m' (spare-keeps t m m1 h.target h.spare w) (k (erased-fresh t m m1 w))
 
 -- The index after it.
 pub erased-once : (s n : ℕ) (blocks blocks' : List BlockState) (at new : Cursors) → length blocks ≡ n → RecountsErase s blocks blocks' at new → IsErasedOnce n s (erases_of blocks) (erases_of blocks')

@@ -3,7 +3,7 @@ use Rattle.std.specs.Prelude.{◌≡◌, ◌≢◌, ℕ, ◌+◌, ◌<◌, List,
 use Rattle.erase_journal.specs.Blocks.{SameChip}
 use Rattle.sector_slots.specs.Slots.{Slot, Free, Live, NoGeneration, Dead, Outside, data_blocks}
 use Rattle.sector_slots.specs.Slots.{data_block, kind_at, raw_slot, slot_at, slot_count, IsClean}
-use Rattle.sector_slots.specs.Slots.{IsSpareIn}
+use Rattle.sector_slots.specs.Slots.{IsSpareIn, content_bytes, blank_sector}
 use Rattle.sector_slots.specs.Blocks.{AreAtRest, AreSettled, IsTarget}
 use Rattle.sector_slots.specs.Copying.{SameLive, copy_slot, source_slot}
 use Rattle.sector_slots.specs.Sectors.{IsSingle, IsSoundMap, HasSlotsAlone, HoldsSectors}
@@ -36,6 +36,10 @@ pub record Stays (m m' : List ℕ) : Type 0 where
   pub sound : IsSoundMap m → IsSoundMap m'
   pub alone : HasSlotsAlone m → HasSlotsAlone m'
   pub exact : IsClean m → KeepsSectors m m'
+
+-- nothing was programmed into the slots of block t since it was erased
+abbrev pub IsFresh : ℕ → List ℕ → Type 0
+IsFresh t m = (i : ℕ) → i < 7 → content_bytes (data_block m t) i ≡ blank_sector
 
 -- Block s can be copied into block t: no copying goes on, and t is wholly free.
 pub record IsCopyable (s t : ℕ) (m : List ℕ) : Type 0 where
@@ -80,13 +84,21 @@ pub record IsCopiedWhole (s t : ℕ) (m m' : List ℕ) : Type 0 where
   pub erased : IsSpareIn m' s
 
 -- What a whole copying leaves: every slot as above, and no copying goes on; and where what read as
--- free was erased it still is, and the sectors are what they were.
+-- free was erased it still is, and the sectors are what they were, as they are where block t was
+-- fresh.
 pub record Copies (s t : ℕ) (m m' : List ℕ) : Type 0 where
   pub chip : SameChip m m'
   pub blocks : AreSettled m'
   pub slots : IsCopiedWhole s t m m'
   pub sectors : IsClean m → SameSectors m m'
   pub clean : IsClean m → IsClean m'
+  pub fresh : IsFresh t m → KeepsSectors m m'
+
+-- Block t was erased, and block s copied into it: the sectors are what they were, whatever block t
+-- held.
+pub record MovesAfresh (s t : ℕ) (m m' : List ℕ) : Type 0 where
+  pub copies : Copies s t m m'
+  pub keeps : KeepsSectors m m'
 
 -- Block t is void; or it is the committed copy of block s. So a mount may find it.
 pub record IsVoidIn (t : ℕ) (m : List ℕ) : Type 0 where

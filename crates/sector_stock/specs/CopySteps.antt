@@ -6,7 +6,7 @@ use Rattle.sector_slots.specs.Blocks.{AreSettled, IsTarget}
 use Rattle.sector_slots.specs.Copying.{copy_slot, source_slot}
 use Rattle.sector_slots.specs.Sectors.{IsSingle, IsSoundMap, HasSlotsAlone}
 use Rattle.sector_slots.specs.Steps.{IsBegun, IsErasedSlot}
-use Rattle.sector_stock.specs.Copy.{bare, SameSectors, KeepsSectors, IsFinished}
+use Rattle.sector_stock.specs.Copy.{bare, SameSectors, KeepsSectors, IsFinished, IsFresh}
 
 -- The slots of the first j places of block s were copied into block t, which is void: their tags.
 pub record IsCopiedTo (j s t : ℕ) (m : List ℕ) : Type 0 where
@@ -19,19 +19,19 @@ pub record IsCopiedTo (j s t : ℕ) (m : List ℕ) : Type 0 where
   pub sound : IsSoundMap m
   pub single : IsSingle m
 
--- And their contents, as it is where what read as free was erased.
+-- And their contents, as it is where nothing was programmed in block t since it was erased.
 pub record IsExactTo (j s t : ℕ) (m : List ℕ) : Type 0 where
   pub copied : (i : ℕ) → i < j → raw_slot m t i ≡ copy_slot (source_slot m s i)
   pub fresh : (i : ℕ) → i < 7 → j ≤ i → IsErasedSlot t i m
   pub unwritten : (i : ℕ) → i < 7 → raw_slot m t i ≡ Free → IsErasedSlot t i m
-  pub clean : IsClean m
 
 -- so far in the loop
 pub record CopyProgress (j s t : ℕ) (m0 m : List ℕ) : Type 0 where
   pub only : OnlyBlock (t + 4) m0 m
   pub copied : IsCopiedTo j s t m
   pub sectors : SameSectors m0 m
-  pub exact : IsClean m0 → IsExactTo j s t m
+  pub exact : IsFresh t m0 → IsExactTo j s t m
+  pub clean : IsClean m0 → IsClean m
 
 -- What the last three calls of a copying leave, whose source and target these blocks are.
 pub record Finishes (s t : ℕ) (m m' : List ℕ) : Type 0 where

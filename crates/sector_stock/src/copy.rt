@@ -8,6 +8,7 @@ ghost use Rattle.erase_journal.specs.Steps.{EndsSettled};
 ghost use Rattle.sector_slots.specs.Slots.{data_blocks, IsSpareIn};
 ghost use Rattle.sector_slots.specs.Sectors.{IsSoundMap};
 ghost use Rattle.sector_stock.specs.Copy.{KeepsSectors, Stays, IsCopyable, IsFinished, Copies};
+ghost use Rattle.sector_stock.specs.Copy.{IsFresh, MovesAfresh};
 ghost use Rattle.sector_stock.specs.Copy.{EndsCopy, IsVoidIn, IsCommittedIn};
 ghost use Rattle.sector_stock.specs.CopySteps.{IsCopiedTo, CopyProgress, Finishes, FinishLeaves};
 
@@ -31,6 +32,10 @@ pub(crate) fn reclaim_into<S: SlotCalls>(
     ensures cut { IsErrOf result NorError.Cut → IsHealthy (S.state slots.old).memory
         → IsCopyable source target (S.state slots.old).memory
         → Stays (S.state slots.old).memory (S.state slots.new).memory }
+    ensures cut_fresh { IsErrOf result NorError.Cut → IsHealthy (S.state slots.old).memory
+        → IsCopyable source target (S.state slots.old).memory
+        → IsFresh target (S.state slots.old).memory
+        → KeepsSectors (S.state slots.old).memory (S.state slots.new).memory }
     ensures healthy { IsErrOf result NorError.Cut → IsHealthy (S.state slots.old).memory
         → IsHealthy (S.state slots.new).memory }
     ensures size { length (S.state slots.new).memory ≡ length (S.state slots.old).memory }
@@ -38,6 +43,28 @@ pub(crate) fn reclaim_into<S: SlotCalls>(
 {
     copy_all(slots, source, target)?;
     finish(slots, source, target)?;
+    Ok(())
+}
+
+/// Erases a wholly free block, and copies the live slots of another one into it. Whatever the free
+/// block held, no sector changes, whole or cut.
+pub fn move_afresh<S: SlotCalls>(slots: &mut S, source: u16, target: u16) -> Result<(), NorError>
+    requires source { source < data_blocks (S.state slots.old).memory }
+    requires target { target < data_blocks (S.state slots.old).memory }
+    requires copyable { IsNorReady (S.state slots.old)
+        → IsCopyable source target (S.state slots.old).memory }
+    ensures ok { OnOk result (IsCopyable source target (S.state slots.old).memory
+        → MovesAfresh source target (S.state slots.old).memory (S.state slots.new).memory) }
+    ensures cut { IsErrOf result NorError.Cut → IsHealthy (S.state slots.old).memory
+        → IsCopyable source target (S.state slots.old).memory
+        → KeepsSectors (S.state slots.old).memory (S.state slots.new).memory }
+    ensures healthy { IsErrOf result NorError.Cut → IsHealthy (S.state slots.old).memory
+        → IsHealthy (S.state slots.new).memory }
+    ensures size { length (S.state slots.new).memory ≡ length (S.state slots.old).memory }
+    ensures ends { EndsSettled result (S.state slots.old) (S.state slots.new) }
+{
+    slots.erase(target)?;
+    reclaim_into(slots, source, target)?;
     Ok(())
 }
 
@@ -49,6 +76,9 @@ fn copy_all<S: SlotCalls>(slots: &mut S, source: u16, target: u16) -> Result<(),
         → CopyProgress 7 source target (S.state slots.old).memory (S.state slots.new).memory) }
     ensures cut { IsErrOf result NorError.Cut → IsCopyable source target (S.state slots.old).memory
         → Stays (S.state slots.old).memory (S.state slots.new).memory }
+    ensures cut_fresh { IsErrOf result NorError.Cut
+        → IsCopyable source target (S.state slots.old).memory
+        → KeepsSectors (S.state slots.old).memory (S.state slots.new).memory }
     ensures healthy { IsErrOf result NorError.Cut → IsHealthy (S.state slots.old).memory
         → IsHealthy (S.state slots.new).memory }
     ensures size { length (S.state slots.new).memory ≡ length (S.state slots.old).memory }

@@ -13,7 +13,8 @@
 //! where: its live slots keep their places and tags, and those of a group get the first generation.
 //! Cut anywhere, they leave slots and blocks that a mount accepts, and on a clean memory each
 //! sector as it was. `end_void`, `end_committed` and `end_erased` end a copying that a mount finds,
-//! and change no sector. No call takes memory.
+//! and change no sector; nor does `move_afresh`, which erases a block before it copies into it. No
+//! call takes memory.
 //!
 //! Left to the crate above: which slot holds which sector, and that no two live slots are of one
 //! sector. Source: own, layout 2.
@@ -31,7 +32,7 @@ mod room;
 mod scan;
 mod take;
 
-pub use copy::{end_committed, end_erased, end_void};
+pub use copy::{end_committed, end_erased, end_void, move_afresh};
 pub use given::{Copied, Given};
 pub use index::{BlockState, Cursors, SlotState, mark_dead};
 pub use laws::{never_full, slots_outnumber_sectors, sound_maps_have_room};

@@ -185,6 +185,7 @@ impl Bench {
         let came = match verb {
             "bytes" => memory::look(alloc, names, chip.bytes(), words, wanted)?,
             "count" => memory::count(chip.bytes(), words)?,
+            "weak" => memory::look(alloc, names, chip.weak(), words, wanted)?,
             "same" => memory::same(alloc, names, self.kept.as_slice(), chip.bytes(), words)?,
             "frames" => {
                 words.end()?;
@@ -207,10 +208,27 @@ impl Bench {
 
     /// Sets bytes of the chip, of which all layers are taken.
     fn set(&mut self, alloc: Global, names: &Names, words: Words) -> Result<Came, Fault> {
-        let mut bytes = self.take_chip()?.into_memory();
+        let chip = self.take_chip()?;
+        let weak = chip.weak().to_vec(alloc)?;
+        let mut bytes = chip.into_memory();
         let came = memory::set(alloc, names, bytes.as_mut_slice(), words)?;
-        self.layer = Layer::Chip(chip::chip_of(bytes)?);
+        self.layer = Layer::Chip(chip::chip_of(bytes, weak)?);
         Ok(came)
+    }
+
+    /// A power cycle with a draw of the weak bits; all layers are taken off the chip.
+    fn draw(&mut self, alloc: Global, names: &Names, words: Words) -> Result<Came, Fault> {
+        let mut chip = self.take_chip()?;
+        let came = chip::draw(alloc, names, &mut chip, words)?;
+        self.layer = Layer::Chip(chip);
+        Ok(came)
+    }
+
+    /// The chip's bits waver from now on.
+    fn waver(&mut self, alloc: Global) -> Result<Came, Fault> {
+        let chip = self.take_chip()?;
+        self.layer = Layer::Chip(chip::wavering(alloc, chip)?);
+        Ok(Came::Said("ok"))
     }
 
     /// A new chip: of so many KiB, and of another byte than FFh where one is named.
@@ -296,6 +314,7 @@ impl Bench {
     /// A line that takes a chip, or the table of one, from layer to layer.
     fn climb(&mut self, alloc: Global, verb: &str) -> Result<Came, Fault> {
         match verb {
+            "waver" => self.waver(alloc),
             "format" => self.format(),
             "probe" => self.probe(),
             "recover" => self.recover(false),
@@ -355,11 +374,13 @@ impl Bench {
             return Ok(came);
         }
         match verb {
-            "bytes" | "count" | "same" | "keep" | "frames" | "codes" => {
+            "bytes" | "weak" | "count" | "same" | "keep" | "frames" | "codes" => {
                 self.look(alloc, names, verb, words, wanted)
             }
             "set" => self.set(alloc, names, words),
-            "format"
+            "draw" => self.draw(alloc, names, words),
+            "waver"
+            | "format"
             | "probe"
             | "recover"
             | "slots"

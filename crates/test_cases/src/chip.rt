@@ -38,15 +38,43 @@ pub(crate) fn loss_of(words: &mut Words) -> Result<Loss, Fault> {
 pub(crate) fn filled(alloc: Global, kib: u32, byte: u8) -> Result<Recorder, Fault> {
     let mut memory = Vec::new(alloc);
     memory.resize((kib as usize).saturating_mul(1_024), byte)?;
-    chip_of(memory)
+    chip_of(memory, Vec::new(alloc))
 }
 
-/// The chip of a memory.
-pub(crate) fn chip_of(memory: Vec<u8>) -> Result<Recorder, Fault> {
-    match SimChip::new(memory) {
+/// The chip of a memory, with these weak bits; where they are no byte, a steady one.
+pub(crate) fn chip_of(memory: Vec<u8>, weak: Vec<u8>) -> Result<Recorder, Fault> {
+    let chip = if weak.is_empty() {
+        SimChip::new(memory)
+    } else {
+        SimChip::wavering(memory, weak)
+    };
+    match chip {
         Ok(chip) => Ok(Recorder::new(chip)),
         Err(_) => Err(Fault::NotUnderstood),
     }
+}
+
+/// The same chip, whose bits waver from now on; none is weak yet.
+pub(crate) fn wavering(alloc: Global, chip: Recorder) -> Result<Recorder, Fault> {
+    let mut weak = Vec::new(alloc);
+    weak.resize(chip.bytes().len(), 0)?;
+    chip_of(chip.into_memory(), weak)
+}
+
+/// Turns the power off and on: each weak bit reads as that of these bytes, which count from the
+/// memory's first on, again and again.
+pub(crate) fn draw(
+    alloc: Global,
+    names: &Names,
+    chip: &mut Recorder,
+    words: Words,
+) -> Result<Came, Fault> {
+    let draw = names.bytes_of(alloc, words.all())?;
+    if draw.is_empty() || chip.weak().is_empty() {
+        return Err(Fault::NotUnderstood);
+    }
+    chip.chip().power_cycle(draw.as_slice());
+    Ok(Came::Said("ok"))
 }
 
 /// Whether there is a chip of so many bytes.

@@ -57,6 +57,11 @@ impl Recorder {
         self.inner.bytes()
     }
 
+    /// 1 for each weak bit of the memory; no byte where the chip is steady.
+    pub(crate) fn weak(&self) -> &[u8] {
+        self.inner.weak()
+    }
+
     /// The chip's memory.
     pub(crate) fn into_memory(self) -> Vec<u8> {
         self.inner.into_inner()

@@ -1,8 +1,9 @@
-//! The judge of the transcripts: an array of 70 sectors and eight clients. It knows records,
-//! requests, and that a sector is old or new, and nothing else.
+//! The judge of the transcripts: an array of 70 sectors and eight clients. It knows records and
+//! requests, and nothing else.
 
-ghost use Rattle.std.specs.Prelude.{◌≡◌, ◌↔◌, ◌++◌, All, IfSome, IsTrue};
+ghost use Rattle.std.specs.Prelude.{◌≡◌, ◌++◌, IfSome};
 
+use crate::array::{Array, Seen, Wrong};
 use crate::client::Client;
 use crate::event::{Event, NO_ONE, Request, SECTOR_BYTES, Unit, add, record_head};
 use std::alloc::{AllocError, Global};
@@ -34,92 +35,9 @@ const LOST: u8 = b'L';
 
 const ABSENT: u8 = b'N';
 
-/// A sector: the value of all its bytes when it was last known, and a bit for each value that they
-/// may all have now.
-#[derive(Clone, Copy)]
-struct Sector {
-    known: u8,
-    values: [u64; 4],
-}
-
-impl Sector {
-    /// A sector that is known.
-    fn holding(value: u8) -> Sector {
-        let mut sector = Sector {
-            known: value,
-            values: [0; 4],
-        };
-        sector.add(value);
-        sector
-    }
-
-    /// It may have this value, too.
-    fn add(&mut self, value: u8) {
-        self.values[(value / 64) as usize] |= 1 << (value % 64);
-    }
-
-    /// Whether it may have this value.
-    fn may_be(&self, value: u8) -> bool {
-        self.values[(value / 64) as usize] >> (value % 64) & 1 == 1
-    }
-
-    /// Whether it has one of several values.
-    fn is_open(&self) -> bool {
-        let known = Sector::holding(self.known);
-        self.values != known.values
-    }
-}
-
-/// What a judge has seen.
-#[derive(Clone, Copy, Debug)]
-pub struct Seen {
-    /// The requests that were answered.
-    pub replies: u32,
-    /// The losses of power.
-    pub losses: u32,
-    /// Those of them that came in a restore.
-    pub lost_restores: u32,
-    /// The sectors of interrupted WRITEs that were read as they had been.
-    pub olds: u32,
-    /// Those that were read as they were to be.
-    pub news: u32,
-}
-
-impl Seen {
-    pub fn nothing() -> Seen {
-        Seen {
-            replies: 0,
-            losses: 0,
-            lost_restores: 0,
-            olds: 0,
-            news: 0,
-        }
-    }
-
-    /// Adds what another judge has seen.
-    pub fn add(&mut self, other: Seen) {
-        self.replies = self.replies.wrapping_add(other.replies);
-        self.losses = self.losses.wrapping_add(other.losses);
-        self.lost_restores = self.lost_restores.wrapping_add(other.lost_restores);
-        self.olds = self.olds.wrapping_add(other.olds);
-        self.news = self.news.wrapping_add(other.news);
-    }
-}
-
-/// Why a transcript is wrong.
-#[derive(Clone, Copy, Debug)]
-pub enum Wrong {
-    /// An event is answered otherwise than by the array.
-    Answer,
-    /// A sector is read that is neither what it was nor what it was to be.
-    Sector,
-    /// The power was lost where that was not armed, or in an event that touches no chip.
-    Loss,
-}
-
 #[derive(Drop)]
 pub struct Judge {
-    sectors: [Sector; 70],
+    array: Array,
     clients: Vec<Client>,
     /// The units that the last piece completed.
     sent: Vec<Unit>,
@@ -142,13 +60,6 @@ fn after<'a>(told: &'a [u8], front: &[u8]) -> Option<&'a [u8]>
 fn after_reply<'a>(told: &'a [u8], who: u8, reply: &[u8]) -> Option<&'a [u8]> {
     let len = reply.len().min(65_536) as u32;
     after(after(told, &record_head(who, REPLY, len))?, reply)
-}
-
-/// Whether each byte is this one.
-pub fn consists_of(bytes: &[u8], value: u8) -> bool
-    ensures { IsTrue result ↔ All (λ byte. byte ≡ value) bytes.now }
-{
-    bytes.iter().all(|byte| *byte == value)
 }
 
 /// The head of a simple reply: its error and its cookie.
@@ -182,7 +93,7 @@ impl Judge {
             clients.push(Client::new(alloc))?;
         }
         Ok(Judge {
-            sectors: [Sector::holding(0); 70],
+            array: Array::zeros(),
             clients,
             sent: Vec::new(alloc),
             cookie: 0x0102_0304_0506_0708,
@@ -400,10 +311,10 @@ impl Judge {
     fn interrupt(&mut self, request: Request) -> Result<(), Wrong> {
         match request {
             Request::Write(first, count, value) if request.error() == 0 => {
-                self.write(first, count, value, false)
+                self.array.write(first, count, value, false)
             }
             Request::Trim(first, count) if request.error() == 0 => {
-                self.write(first, count, 0, false)
+                self.array.write(first, count, 0, false)
             }
             Request::Read(_, _) if request.error() == 0 => {}
             _ => return Err(Wrong::Loss),
@@ -430,50 +341,13 @@ impl Judge {
         let (data, rest) = rest.split_at_checked(len as usize).ok_or(Wrong::Answer)?;
         self.seen.replies = self.seen.replies.wrapping_add(1);
         match request {
-            Request::Read(first, _) => self.find(first, data)?,
+            Request::Read(first, _) => self.array.find(first, data, &mut self.seen)?,
             Request::Write(first, count, value) if error == 0 => {
-                self.write(first, count, value, true)
+                self.array.write(first, count, value, true)
             }
-            Request::Trim(first, count) if error == 0 => self.write(first, count, 0, true),
+            Request::Trim(first, count) if error == 0 => self.array.write(first, count, 0, true),
             _ => {}
         }
         Ok(rest)
-    }
-
-    /// Sectors were written; where that was interrupted, each of them perhaps.
-    fn write(&mut self, first: u32, count: u32, value: u8, is_whole: bool) {
-        for k in 0..70u32 {
-            if k >= first && k - first < count {
-                let sector = &mut self.sectors[k as usize];
-                if is_whole {
-                    *sector = Sector::holding(value);
-                }
-                sector.add(value);
-            }
-        }
-    }
-
-    /// Compares sectors from one on with what was read. What these hold is known then.
-    fn find(&mut self, first: u32, data: &[u8]) -> Result<(), Wrong> {
-        let mut k = first as usize;
-        for bytes in data.chunks(512) {
-            let (Some(sector), Some(value)) = (self.sectors.get_mut(k), bytes.first()) else {
-                return Err(Wrong::Sector);
-            };
-            let value = *value;
-            if !consists_of(bytes, value) || !sector.may_be(value) {
-                return Err(Wrong::Sector);
-            }
-            let is_old = value == sector.known;
-            if sector.is_open() && is_old {
-                self.seen.olds = self.seen.olds.wrapping_add(1);
-            }
-            if sector.is_open() && !is_old {
-                self.seen.news = self.seen.news.wrapping_add(1);
-            }
-            *sector = Sector::holding(value);
-            k = k.saturating_add(1);
-        }
-        Ok(())
     }
 }

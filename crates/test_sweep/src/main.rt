@@ -14,21 +14,28 @@
 //! Source: own.
 #![tactic(auto)]
 
+mod chains;
 mod chip;
+mod draw;
 mod failure;
+mod life;
+mod losses;
 mod progress;
 mod random;
 mod sweeper;
 #[cfg(test)]
 mod tests;
 mod totals;
+mod wavering;
 
 use crate::chip::Chip;
 use crate::failure::Failure;
+use crate::life::Mounting;
 use crate::progress::Progress;
 use crate::random::{script, shorten};
 use crate::sweeper::{Loss, Sweeper};
 use crate::totals::{HEADING, Totals};
+use crate::wavering::{live_all, sweep_wavering};
 use std::alloc::Global;
 use std::ops::Range;
 use std::process::ExitCode;
@@ -56,6 +63,10 @@ enum Wanted {
     Sweep([Option<Chip>; 3]),
     /// Random scripts: from which seed on, and how many.
     Random(u32, u32),
+    /// Losses on chips whose torn bits waver: all of one and of two.
+    Waver,
+    /// Random lives of them: from which seed on, and how many.
+    Lives(u32, u32),
 }
 
 /// The number that a word spells, if it does.
@@ -75,6 +86,12 @@ fn words_of(rt: &HostRuntime) -> Wanted {
         Some(word) if word.as_str() == "random" => {
             let seed = number_of(words.next()).unwrap_or(0);
             return Wanted::Random(seed, number_of(words.next()).unwrap_or(SCRIPTS));
+        }
+        Some(word) if word.as_str() == "waver" => {
+            return match number_of(words.next()) {
+                None => Wanted::Waver,
+                Some(seed) => Wanted::Lives(seed, number_of(words.next()).unwrap_or(SCRIPTS)),
+            };
         }
         _ => return Wanted::Nothing,
     }
@@ -225,6 +242,15 @@ fn main(rt: HostRuntime) -> ExitCode {
         }
         Wanted::Sweep(chips) => sweep_all(&rt, rt.alloc(), chips),
         Wanted::Random(first, count) => random_all(&rt, rt.alloc(), first, count),
+        Wanted::Waver => sweep_wavering(&rt, rt.alloc(), Mounting::Plain),
+        Wanted::Lives(first, count) => {
+            live_all(
+                &rt,
+                rt.alloc(),
+                Mounting::Plain,
+                first..first.saturating_add(count),
+            )
+        }
     };
     match done {
         Ok(()) => ExitCode::SUCCESS,

@@ -1,5 +1,7 @@
 //! The whole sweep.
 use crate::chip::{Chip, started, told};
+use crate::life::{Life, Mounting};
+use crate::losses::{CALLS, after_one_loss, all_lost};
 use crate::random::{script, shorten};
 use crate::sweeper::{Loss, Sweeper};
 use crate::totals::Totals;
@@ -59,6 +61,53 @@ fn every_frame_is_lost(rt: HostRuntime) -> Result<(), Fail> {
         let totals = swept(&rt, rt.alloc(), chip, 0)?;
         assert!(rt; totals.first > 4 * changes + 70);
     }
+    Ok(())
+}
+
+/// The changes of a call after whose loss a run goes wrong, and how many changes it makes.
+fn wrong_changes(
+    rt: &impl Abort,
+    alloc: Global,
+    number: usize,
+    mounting: Mounting,
+) -> Result<(Vec<usize>, usize), Fail> {
+    let mut wrong = Vec::new(alloc);
+    let Some((base, call)) = CALLS.get(number).copied() else {
+        return Ok((wrong, 0));
+    };
+    let mut life = Life::new(alloc, mounting)?;
+    let moment = base.moment(alloc, mounting)?;
+    let moments = all_lost(alloc, &mut life, &moment, call)?;
+    for (k, after) in moments.iter().enumerate() {
+        let runs = after_one_loss(&mut life, after, call)?;
+        assert!(rt; runs.runs == 36, "{runs:?}");
+        if runs.wrong > 0 {
+            wrong.push(k.saturating_add(1))?;
+        }
+    }
+    Ok((wrong, moments.len()))
+}
+
+/// Where torn bits waver, a plain mount stands no loss in the descriptor, the commit or the
+/// retirement of a slot's write, none in a zeroing, and of a tidying none in the opening and the
+/// closing of its entry and in the settlement of its mark. It stands each in a page, and in all
+/// else of a copying. That is what `wavering.txt` of `test_cases` has case by case.
+#[test]
+fn a_plain_mount_stands_no_loss_in_seven_kinds_of_change(rt: HostRuntime) -> Result<(), Fail> {
+    let wanted: [(usize, usize, &[usize]); 3] = [(0, 4, &[1, 4]), (1, 5, &[1, 4, 5]), (3, 1, &[1])];
+    for (number, count, changes) in wanted {
+        let (wrong, made) = wrong_changes(&rt, rt.alloc(), number, Mounting::Plain)?;
+        assert!(rt;
+            made == count && wrong.as_slice() == changes,
+            "call {number}: {wrong:?}"
+        );
+    }
+    let (wrong, made) = wrong_changes(&rt, rt.alloc(), 4, Mounting::Plain)?;
+    let last = [made.wrapping_sub(3), made.wrapping_sub(1), made];
+    assert!(rt;
+        wrong.as_slice() == last.as_slice(),
+        "{made} changes: {wrong:?}"
+    );
     Ok(())
 }
 

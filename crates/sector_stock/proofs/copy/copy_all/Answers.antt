@@ -2,7 +2,7 @@ use Rattle.std.proofs.lemmas.Result.{err_from_is_err_and}
 use Rattle.std.proofs.Common.{◌∙◌, ◌≡◌, subst, arith}
 use Rattle.erase_journal.proofs.SettledLaws.{settled-after}
 use Rattle.sector_stock.specs.CopySteps.{CopyProgress}
-use Rattle.sector_stock.proofs.Copying.{begin-cut, begin-progress, copy-cut, copy-progress}
+use Rattle.sector_stock.proofs.Copying.{begin-cut, begin-keeps, begin-progress, copy-cut, copy-keeps, copy-progress}
 use Rattle.sector_stock.proofs.copy.copy_all.Goals as goal
 
 pub returns-in_err-begin-clause-cut : goal.returns-in_err-begin-clause-cut
@@ -39,3 +39,14 @@ pub returns-clause-ok : goal.returns-clause-ok
 returns-clause-ok g c h =
     let seven : c.loop-place.place ≡ 7 = omega (arith, c.loop-place-test.false, c.loop-place.auto.place-end) in
     subst (λ j. CopyProgress j c.args.source c.args.target (g.S.SlotCalls.state c.args.slots.now).memory (g.S.SlotCalls.state c.loop-place.slots).memory) seven (c.loop-place.invariant.progress h)
+
+pub returns-in_err-begin-clause-cut_fresh : goal.returns-in_err-begin-clause-cut_fresh
+returns-in_err-begin-clause-cut_fresh g c is h =
+    let p = err_from_is_err_and c.from_residual.result c.from_residual.ensures.1 in
+    begin-keeps c.args.source c.args.target (g.S.SlotCalls.state c.args.slots.now).memory (g.S.SlotCalls.state c.begin.new.self).memory h (c.in_err-begin.ensures.cut_only (cc (p.1, p.2))) (c.in_err-begin.ensures.cut (cc (p.1, p.2)) h.spare.plain)
+
+pub returns-in_err-copy-clause-cut_fresh : goal.returns-in_err-copy-clause-cut_fresh
+returns-in_err-copy-clause-cut_fresh g c is h =
+    let p = err_from_is_err_and c.from_residual-in_err-copy.result c.from_residual-in_err-copy.ensures.1 in
+    copy-keeps c.loop-place.place c.args.source c.args.target (g.S.SlotCalls.state c.args.slots.now).memory (g.S.SlotCalls.state c.loop-place.slots).memory (g.S.SlotCalls.state c.copy.new.self).memory
+    c.loop-place-test.true (c.loop-place.invariant.progress h) (c.in_err-copy.ensures.cut_only (cc (p.1, p.2))) (c.in_err-copy.ensures.cut (cc (p.1, p.2)))

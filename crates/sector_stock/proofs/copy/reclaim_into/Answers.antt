@@ -1,21 +1,28 @@
 use Rattle.std.proofs.lemmas.Result.{err_from_is_err_and}
 use Rattle.erase_journal.proofs.SettledLaws.{settled-healthy}
-use Rattle.sector_stock.proofs.Copying.{reclaim-done, reclaim-cut}
+use Rattle.sector_stock.proofs.Copying.{reclaim-done, reclaim-cut, reclaim-cut_fresh}
 use Rattle.sector_stock.proofs.copy.reclaim_into.Goals as goal
 
 pub returns-clause-ok : goal.returns-clause-ok
 returns-clause-ok g c h =
     let p = c.in_ok-copy_all.ensures.ok h in
-    reclaim-done c.args.source c.args.target (g.S.SlotCalls.state c.args.slots.now).memory (g.S.SlotCalls.state c.copy_all.new.slots).memory (g.S.SlotCalls.state c.finish.new.slots).memory p (c.in_ok-finish.ensures.ok p.copied)
+    reclaim-done c.args.source c.args.target (g.S.SlotCalls.state c.args.slots.now).memory (g.S.SlotCalls.state c.copy_all.new.slots).memory (g.S.SlotCalls.state c.finish.new.slots).memory h p (c.in_ok-finish.ensures.ok p.copied)
 
 pub returns-in_err-finish-clause-cut : goal.returns-in_err-finish-clause-cut
 returns-in_err-finish-clause-cut g c is healthy h =
     let q = err_from_is_err_and c.from_residual-in_err-finish.result c.from_residual-in_err-finish.ensures.1 in
     let p = c.in_ok-copy_all.ensures.ok h in
-    reclaim-cut c.args.source c.args.target (g.S.SlotCalls.state c.args.slots.now).memory (g.S.SlotCalls.state c.copy_all.new.slots).memory (g.S.SlotCalls.state c.finish.new.slots).memory p
+    reclaim-cut c.args.source c.args.target (g.S.SlotCalls.state c.args.slots.now).memory (g.S.SlotCalls.state c.copy_all.new.slots).memory (g.S.SlotCalls.state c.finish.new.slots).memory h p
     (c.in_err-finish.ensures.cut (cc (q.1, q.2)) p.copied)
 
 pub returns-in_err-finish-clause-healthy : goal.returns-in_err-finish-clause-healthy
 returns-in_err-finish-clause-healthy g c is healthy =
     let q = err_from_is_err_and c.from_residual-in_err-finish.result c.from_residual-in_err-finish.ensures.1 in
     c.in_err-finish.ensures.healthy (cc (q.1, q.2)) (settled-healthy (g.S.SlotCalls.state c.copy_all.new.slots).memory c.in_ok-copy_all.ensures.ends.settled)
+
+pub returns-in_err-finish-clause-cut_fresh : goal.returns-in_err-finish-clause-cut_fresh
+returns-in_err-finish-clause-cut_fresh g c is healthy h blank =
+    let q = err_from_is_err_and c.from_residual-in_err-finish.result c.from_residual-in_err-finish.ensures.1 in
+    let p = c.in_ok-copy_all.ensures.ok h in
+    reclaim-cut_fresh c.args.source c.args.target (g.S.SlotCalls.state c.args.slots.now).memory (g.S.SlotCalls.state c.copy_all.new.slots).memory (g.S.SlotCalls.state c.finish.new.slots).memory p
+    (c.in_err-finish.ensures.cut (cc (q.1, q.2)) p.copied) blank

@@ -1,0 +1,8 @@
+use Rattle.erase_journal.proofs.SameBytes.{and-same, again-same}
+use Rattle.erase_journal.proofs.again.program_again.Goals as goal
+
+pub returns-clause-same : goal.returns-clause-same
+returns-clause-same g c =
+    let m = (g.N.Nor.state c.args.nor.now).memory in
+    again-same m c.args.bytes.now c.args.at (g.N.Nor.state c.program.new.self).memory c.program.result (and-same m c.args.bytes.now c.args.at c.requires.range c.requires.read)
+    c.program.ensures.ok c.program.ensures.cut c.program.ensures.slow

@@ -1,0 +1,122 @@
+//! What a firm mount does to journals in which no erase goes on: no used entry can come to be open,
+//! and the free entry that may be half taken is given up.
+
+ghost use Rattle.std.specs.Prelude.{◌≡◌, ◌+◌, ◌*◌, ◌<◌, ◌≤◌, ◌⊎◌, length, OnOk, IfErr};
+ghost use Rattle.std.specs.Result.{IsErrOf};
+ghost use Rattle.nor_driver.specs.State.{IsNorReady, OnlyMemoryChanges, Refuses, EndsReady};
+ghost use Rattle.erase_journal.specs.Journals.{IsHealthy, IsSettled, unused};
+ghost use Rattle.erase_journal.specs.Blocks.{SameBlocks};
+ghost use Rattle.erase_journal.specs.Known.{IsKnown};
+ghost use Rattle.erase_journal.specs.Spending.{KeepsUse, Spends, once_used};
+ghost use Rattle.erase_journal.specs.Steps.{IsRestful, KeepsBlocks, SameNumbers, EndsSettled};
+
+use crate::again::program_again;
+use crate::block_erase::lowest_entry;
+use crate::known::{Known, once_used};
+use crate::maintain::rest;
+use crate::scan::{close_used, is_blank};
+use nor_driver::{Nor, NorError};
+use nor_layout::{ENTRY_LEN, JOURNALS_END, PAGE_LEN, SUPER_LEN, entry_place};
+
+/// How many pages the entries fill.
+const ENTRY_PAGES: u16 = 8;
+
+/// How many entries a page has.
+const PAGE_ENTRIES: u16 = 64;
+
+/// Where the last byte of an entry lies behind its first.
+const LAST: u32 = ENTRY_LEN as u32 - 1;
+
+/// Programs the first bytes of the superblock, its seal among them, as they read.
+fn program_super_again<N: Nor>(nor: &mut N) -> Result<(), NorError>
+    requires size { JOURNALS_END ≤ length (N.state nor.old).memory }
+    ensures same { (N.state nor.new).memory ≡ (N.state nor.old).memory }
+    ensures ends { EndsReady result (N.state nor.old) (N.state nor.new) }
+{
+    let mut bytes = [0; SUPER_LEN];
+    nor.read(0, &mut bytes)?;
+    program_again(nor, 0, &bytes)
+}
+
+/// Programs a page of 64 entries, of which none is open, as it reads; and of each that is used its
+/// last byte, so that it can't come to be open.
+fn close_page<N: Nor>(nor: &mut N, page: u16) -> Result<(), NorError>
+    requires size { JOURNALS_END ≤ length (N.state nor.old).memory }
+    requires page { page < ENTRY_PAGES }
+    requires settled { IsNorReady (N.state nor.old) → IsSettled (N.state nor.old).memory }
+    ensures blocks { OnOk result (SameBlocks (N.state nor.old).memory (N.state nor.new).memory) }
+    ensures uses { OnOk result (KeepsUse (N.state nor.old).memory (N.state nor.new).memory) }
+    ensures cut { IsErrOf result NorError.Cut → IsHealthy (N.state nor.old).memory
+        → KeepsBlocks (N.state nor.old).memory (N.state nor.new).memory }
+    ensures size { length (N.state nor.new).memory ≡ length (N.state nor.old).memory }
+    ensures ends { EndsSettled result (N.state nor.old) (N.state nor.new) }
+{
+    let at = entry_place(PAGE_ENTRIES * page);
+    let mut bytes = [0; PAGE_LEN];
+    nor.read(at, &mut bytes)?;
+    if is_blank(&bytes) {
+        return Ok(());
+    }
+    close_used(&mut bytes);
+    nor.program(at, &bytes)
+}
+
+/// Does so with all entries.
+fn close_entries<N: Nor>(nor: &mut N) -> Result<(), NorError>
+    requires size { JOURNALS_END ≤ length (N.state nor.old).memory }
+    requires ready { IsNorReady (N.state nor.old) }
+    requires settled { IsSettled (N.state nor.old).memory }
+    ensures blocks { OnOk result (SameBlocks (N.state nor.old).memory (N.state nor.new).memory) }
+    ensures uses { OnOk result (KeepsUse (N.state nor.old).memory (N.state nor.new).memory) }
+    ensures cut { IsErrOf result NorError.Cut
+        → KeepsBlocks (N.state nor.old).memory (N.state nor.new).memory }
+    ensures size { length (N.state nor.new).memory ≡ length (N.state nor.old).memory }
+    ensures ends { EndsSettled result (N.state nor.old) (N.state nor.new) }
+{
+    for page in 0..ENTRY_PAGES {
+        close_page(nor, page)?;
+    }
+    Ok(())
+}
+
+/// Gives up the lowest free entry: its last byte is programmed.
+fn give_up_entry<N: Nor>(nor: &mut N, known: &mut Known) -> Result<(), NorError>
+    requires size { JOURNALS_END ≤ length (N.state nor.old).memory }
+    requires restful { IsNorReady (N.state nor.old) → IsRestful (N.state nor.old).memory }
+    requires known { IsNorReady (N.state nor.old) → IsKnown known.old (N.state nor.old).memory }
+    requires some { 1 ≤ known.old.unused.free }
+    ensures blocks { OnOk result (SameBlocks (N.state nor.old).memory (N.state nor.new).memory) }
+    ensures numbers { OnOk result (SameNumbers (once_used (unused (N.state nor.old).memory))
+        (unused (N.state nor.new).memory)) }
+    ensures known { OnOk result (IsKnown known.new (N.state nor.new).memory) }
+    ensures cut { IsErrOf result NorError.Cut → IsHealthy (N.state nor.old).memory
+        → KeepsBlocks (N.state nor.old).memory (N.state nor.new).memory }
+    ensures size { length (N.state nor.new).memory ≡ length (N.state nor.old).memory }
+    ensures ends { EndsSettled result (N.state nor.old) (N.state nor.new) }
+{
+    let entry = lowest_entry(nor, *known)?;
+    nor.program(entry_place(entry) + LAST, &[0])?;
+    *known = once_used(*known, entry);
+    Ok(())
+}
+
+/// Makes journals firm in which no erase goes on: the superblock and the entries are programmed
+/// again, the tired journals are erased, and one entry is given up.
+pub(crate) fn make_firm<N: Nor>(nor: &mut N, known: &mut Known) -> Result<(), NorError>
+    requires size { JOURNALS_END ≤ length (N.state nor.old).memory }
+    requires settled { IsNorReady (N.state nor.old) → IsSettled (N.state nor.old).memory }
+    requires known { IsNorReady (N.state nor.old) → IsKnown known.old (N.state nor.old).memory }
+    ensures blocks { OnOk result (SameBlocks (N.state nor.old).memory (N.state nor.new).memory) }
+    ensures known { OnOk result (IsKnown known.new (N.state nor.new).memory) }
+    ensures spends { OnOk result (Spends (unused (N.state nor.old).memory)
+        (unused (N.state nor.new).memory)) }
+    ensures cut { IsErrOf result NorError.Cut → IsHealthy (N.state nor.old).memory
+        → KeepsBlocks (N.state nor.old).memory (N.state nor.new).memory }
+    ensures size { length (N.state nor.new).memory ≡ length (N.state nor.old).memory }
+    ensures ends { EndsSettled result (N.state nor.old) (N.state nor.new) }
+{
+    program_super_again(nor)?;
+    close_entries(nor)?;
+    rest(nor, known)?;
+    give_up_entry(nor, known)
+}

@@ -1,0 +1,46 @@
+use Rattle.std.proofs.Common.{◌≡◌, ◌+◌, ◌∙◌, arith, length, ap, subst, sym}
+use Rattle.std.specs.Prelude.{slice_range}
+use Rattle.std.proofs.lemmas.Result.{err_from_is_err_and}
+use Rattle.chip_model.specs.Memory.{and_at, TornAnd}
+use Rattle.nor_driver.specs.State.{Leaves, changed_whole}
+use Rattle.erase_journal.specs.Journals.{IsHealthy}
+use Rattle.erase_journal.proofs.BlockLaws.{length-block}
+use Rattle.sector_slots.specs.Firm.{KeepsHead}
+use Rattle.sector_slots.specs.Slots.{data_block}
+use Rattle.journal_slots.proofs.Killing.{head-kept, begun-holds, none-begun, blank-begun}
+use Rattle.journal_slots.proofs.firm.firm_head.Goals as goal
+
+pub returns-in_err-program_bytes-clause-cut : goal.returns-in_err-program_bytes-clause-cut
+returns-in_err-program_bytes-clause-cut g c is =
+    let p = err_from_is_err_and c.from_residual-in_err-program_bytes.result c.from_residual-in_err-program_bytes.ensures.1 in
+    let m = c.args.journal.now.memory in
+    let m1 = c.read.new.self.memory in
+    let same : m1 ≡ m = c.in_ok-read.ensures.same in
+    let n = length-block m (c.args.block + 4) (omega (arith, c.requires.number)) in
+    subst (λ z. KeepsHead c.args.block z c.program_bytes.new.journal.memory) same
+    (head-kept c.args.block m1 c.program_bytes.new.journal.memory c.read.new.into c.firm_bytes.new.head (ap (λ z. length (data_block z c.args.block)) same ∙ n) (omega (arith, c.firm_bytes.ensures.size))
+    (subst (λ z. c.read.new.into ≡ slice_range (data_block z c.args.block) 0 44) (sym same) c.in_ok-read.ensures.ok) c.firm_bytes.ensures.bytes c.firm_bytes.ensures.each c.in_err-program_bytes.ensures.only (c.in_err-program_bytes.ensures.cut (cc (p.1, p.2))))
+
+pub returns-in_err-program_bytes-clause-healthy : goal.returns-in_err-program_bytes-clause-healthy
+returns-in_err-program_bytes-clause-healthy g c is healthy =
+    let p = err_from_is_err_and c.from_residual-in_err-program_bytes.result c.from_residual-in_err-program_bytes.ensures.1 in
+    c.in_err-program_bytes.ensures.healthy (cc (p.1, p.2)) (subst (λ z. IsHealthy z) (sym c.in_ok-read.ensures.same) healthy)
+
+pub returns-clause-kept : goal.returns-clause-kept
+returns-clause-kept g c =
+    let m = c.args.journal.now.memory in
+    let m1 = c.read.new.self.memory in
+    let same : m1 ≡ m = c.in_ok-read.ensures.same in
+    let n = length-block m (c.args.block + 4) (omega (arith, c.requires.number)) in
+    subst (λ z. KeepsHead c.args.block z c.program_bytes.new.journal.memory) same
+    (head-kept c.args.block m1 c.program_bytes.new.journal.memory c.read.new.into c.firm_bytes.new.head (ap (λ z. length (data_block z c.args.block)) same ∙ n) (omega (arith, c.firm_bytes.ensures.size))
+    (subst (λ z. c.read.new.into ≡ slice_range (data_block z c.args.block) 0 44) (sym same) c.in_ok-read.ensures.ok) c.firm_bytes.ensures.bytes c.firm_bytes.ensures.each c.in_ok-program_bytes.ensures.only (changed_whole c.in_ok-program_bytes.ensures.ok))
+
+pub returns-clause-begun : goal.returns-clause-begun
+returns-clause-begun g c is = begun-holds (data_block c.args.journal.now.memory c.args.block) c.read.new.into c.in_ok-read.ensures.ok (c.is_begun-begun.ensures.slots is) (c.is_begun-begun.ensures.begun is)
+
+pub returns-clause-not_begun : goal.returns-clause-not_begun
+returns-clause-not_begun g c is = none-begun (data_block c.args.journal.now.memory c.args.block) c.read.new.into c.in_ok-read.ensures.ok (c.is_begun-begun.ensures.not_begun is)
+
+pub returns-then-is_blank-clause-not_begun : goal.returns-then-is_blank-clause-not_begun
+returns-then-is_blank-clause-not_begun g c is = blank-begun (data_block c.args.journal.now.memory c.args.block) c.read.new.into c.in_ok-read.ensures.ok (c.is_blank.ensures.blank c.if-is_blank.true)

@@ -1,0 +1,42 @@
+use Rattle.std.proofs.Common.{◌+◌, ◌*◌, ◌∷◌, [], ◌∙◌, ap, subst, arith, sym}
+use Rattle.std.proofs.lemmas.Result.{err_from_is_err_and}
+use Rattle.chip_model.specs.Memory.{byte, and_at, TornAnd}
+use Rattle.nor_driver.specs.State.{Leaves}
+use Rattle.erase_journal.proofs.BlockLaws.{length-block}
+use Rattle.sector_slots.specs.Slots.{data_block}
+use Rattle.sector_slots.proofs.GroupLaws.{free-no_group}
+use Rattle.journal_slots.specs.Programs.{OnlyBytes}
+use Rattle.journal_slots.proofs.Bytes.{leaves-only, and-only, descriptor-place}
+use Rattle.journal_slots.proofs.Killing.{kill-done, kill-cut, free-state}
+use Rattle.journal_slots.proofs.firm.kill_slot.Goals as goal
+
+pub returns-in_err-program_bytes-clause-cut : goal.returns-in_err-program_bytes-clause-cut
+returns-in_err-program_bytes-clause-cut g c is free =
+    let p = err_from_is_err_and c.from_residual.result c.from_residual.ensures.1 in
+    let m = c.args.journal.now.memory in
+    let b = data_block m c.args.block in
+    let t = data_block c.program_bytes.new.journal.memory c.args.block in
+    kill-cut c.args.place b t c.requires.place (length-block m (c.args.block + 4) (omega (arith, c.requires.number))) (free-state c.args.block c.args.place m free)
+    (subst (λ a. Leaves b (TornAnd b a (251 ∷ [])) (and_at b a (251 ∷ [])) t) c.descriptor_place.ensures (c.in_err-program_bytes.ensures.cut (cc (p.1, p.2)))) (free-no_group b c.args.place free)
+
+pub returns-in_err-program_bytes-clause-cut_within : goal.returns-in_err-program_bytes-clause-cut_within
+returns-in_err-program_bytes-clause-cut_within g c is =
+    let p = err_from_is_err_and c.from_residual.result c.from_residual.ensures.1 in
+    let m = c.args.journal.now.memory in
+    let b = data_block m c.args.block in
+    let t = data_block c.program_bytes.new.journal.memory c.args.block in
+    descriptor-place c.args.place 1 b t (omega arith) (subst (λ a. OnlyBytes a 1 b t) c.descriptor_place.ensures
+    (leaves-only b (251 ∷ []) t c.descriptor_place.result (length-block m (c.args.block + 4) (omega (arith, c.requires.number))) (c.in_err-program_bytes.ensures.cut (cc (p.1, p.2)))))
+
+pub returns-clause-ok : goal.returns-clause-ok
+returns-clause-ok g c free =
+    let m = c.args.journal.now.memory in
+    let b = data_block m c.args.block in
+    kill-done c.args.place b (data_block c.program_bytes.new.journal.memory c.args.block) c.requires.place (length-block m (c.args.block + 4) (omega (arith, c.requires.number)))
+    (c.in_ok-program_bytes.ensures.ok ∙ ap (λ a. and_at b a (251 ∷ [])) c.descriptor_place.ensures) (free-no_group b c.args.place free)
+
+pub returns-clause-within : goal.returns-clause-within
+returns-clause-within g c =
+    let b = data_block c.args.journal.now.memory c.args.block in
+    let t = data_block c.program_bytes.new.journal.memory c.args.block in
+    descriptor-place c.args.place 1 b t (omega arith) (subst (λ a. OnlyBytes a 1 b t) c.descriptor_place.ensures (and-only b (251 ∷ []) t c.descriptor_place.result c.in_ok-program_bytes.ensures.ok))

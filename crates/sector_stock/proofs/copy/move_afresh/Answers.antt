@@ -1,0 +1,38 @@
+use Rattle.std.proofs.lemmas.Result.{err_from_is_err_and}
+use Rattle.erase_journal.proofs.SettledLaws.{settled-healthy, settled-after}
+use Rattle.sector_stock.proofs.Renewing.{spare-erasable, spare-cut_keeps, spare-copyable, moves-afresh, afresh-cut}
+use Rattle.sector_stock.proofs.copy.move_afresh.Goals as goal
+
+pub erase-requires-clause-dead : goal.erase-requires-clause-dead
+erase-requires-clause-dead g c ready =
+    let h = c.requires.copyable ready in
+    spare-erasable c.args.target (g.S.SlotCalls.state c.args.slots.now).memory h.rest h.target h.spare
+
+pub returns-in_err-erase-clause-cut : goal.returns-in_err-erase-clause-cut
+returns-in_err-erase-clause-cut g c is healthy h =
+    let p = err_from_is_err_and c.from_residual.result c.from_residual.ensures.1 in
+    spare-cut_keeps c.args.target (g.S.SlotCalls.state c.args.slots.now).memory (g.S.SlotCalls.state c.erase.new.self).memory h.target h.spare (c.in_err-erase.ensures.cut (cc (p.1, p.2)) healthy)
+
+pub reclaim_into-requires-clause-copyable : goal.reclaim_into-requires-clause-copyable
+reclaim_into-requires-clause-copyable g c ready =
+    let h = c.requires.copyable c.in_ok-erase.ensures.ends.ready in
+    spare-copyable c.args.source c.args.target (g.S.SlotCalls.state c.args.slots.now).memory (g.S.SlotCalls.state c.erase.new.self).memory h c.in_ok-erase.ensures.ok
+
+pub returns-in_err-reclaim_into-clause-cut : goal.returns-in_err-reclaim_into-clause-cut
+returns-in_err-reclaim_into-clause-cut g c is healthy h =
+    let p = err_from_is_err_and c.from_residual-in_err-reclaim_into.result c.from_residual-in_err-reclaim_into.ensures.1 in
+    let m = (g.S.SlotCalls.state c.args.slots.now).memory in
+    let m1 = (g.S.SlotCalls.state c.erase.new.self).memory in
+    let w = c.in_ok-erase.ensures.ok in
+    afresh-cut c.args.source c.args.target m m1 (g.S.SlotCalls.state c.reclaim_into.new.slots).memory h w
+    (c.in_err-reclaim_into.ensures.cut_fresh (cc (p.1, p.2)) (settled-healthy m1 c.in_ok-erase.ensures.ends.settled) (spare-copyable c.args.source c.args.target m m1 h w))
+
+pub returns-clause-ok : goal.returns-clause-ok
+returns-clause-ok g c h =
+    let m = (g.S.SlotCalls.state c.args.slots.now).memory in
+    let m1 = (g.S.SlotCalls.state c.erase.new.self).memory in
+    let w = c.in_ok-erase.ensures.ok in
+    moves-afresh c.args.source c.args.target m m1 (g.S.SlotCalls.state c.reclaim_into.new.slots).memory h w (c.in_ok-reclaim_into.ensures.ok (spare-copyable c.args.source c.args.target m m1 h w))
+
+pub returns-clause-ends : goal.returns-clause-ends
+returns-clause-ends g c = settled-after (g.S.SlotCalls.state c.args.slots.now) (g.S.SlotCalls.state c.erase.new.self) (g.S.SlotCalls.state c.reclaim_into.new.slots) c.in_ok-erase.ensures.ends c.in_ok-reclaim_into.ensures.ends
