@@ -190,15 +190,15 @@ class Kills(kit.Case):
 
     @kit.needs("strace")
     def test_each_write_that_fails(self):
-        """Whichever of the second to the fourth write of the log that two WRITEs of a sector make fails, the server
-        ends, and the sector is old or new."""
+        """Whichever of the second to the fourth write of the log that two WRITEs of 9 sectors make fails, the server
+        ends, and the first sector is old or new."""
         for when in range(2, 5):  # the first write of a thread is that of the log's head at a start, too
             server = self.failing(when)
             client, held = server.client(), [bytes(512)]
             with self.assertRaises(nbd.Closed):
                 for turn in range(2):
                     held.append(nbd.sector(0, turn))
-                    self.assertEqual(client.write(0, held[-1]), OK)
+                    self.assertEqual(client.write(0, b"".join(nbd.sector(it, turn) for it in range(9))), OK)
                     held = held[-1:]
             self.assertEqual(len(held), 2, when)
             self.ends(server, held)

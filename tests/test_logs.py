@@ -2,7 +2,9 @@
 log and who writes it into the image, which logs are refused, and how many calls a command makes."""
 import os
 import resource
+import shutil
 import signal
+import tempfile
 import unittest
 
 import kit
@@ -12,6 +14,7 @@ from nbd import FUA, OK
 CALLS = "pwrite64,pwritev,writev,write,fdatasync,fsync,ftruncate,sendmsg,sendto"
 HEAD = b"NORBDLOG"
 HEAD_LEN, RECORD_LEN, BLOCK_LEN = 16, 24, 4096
+STEP_LEN = 0x100000  # by which the file of a log grows
 
 
 def sum_of(data, start=(0, 0)):
@@ -83,7 +86,7 @@ class Logs(kit.Case):
         image, log = self.killed(3, 60, 3)
         if len(log) > HEAD_LEN + 1024 and image == kit.formatted():  # it was killed within the second
             records = [write_of(it, nbd.sector(it)) for it in (3, 60, 3)]
-            self.assertEqual(log, log_of(kit.formatted(), *records))
+            self.assertEqual(log.rstrip(b"\0"), log_of(kit.formatted(), *records).rstrip(b"\0"))
         server = self.serve()
         self.assertLessEqual(self.log_size(), HEAD_LEN)
         client = server.client()
@@ -244,14 +247,93 @@ class Logs(kit.Case):
         self.put("a.img.log", log)
         self.assertEqual(self.sector(9), nbd.sector(9))
 
+    def test_a_damaged_image_with_a_log(self):
+        """Its sum isn't the log's any more, so that it is refused by name, by `rescue` and `check --mend` too; once the log is moved
+        away, they do what they do of the image alone."""
+        image = bytearray(with_sectors(1))
+        log = log_of(bytes(image), write_of(9, nbd.sector(9)))
+        image[0x4300 + 7 * 0x280] = 0x55
+        self.put("a.img", image)
+        self.put("a.img.log", log)
+        for line in ("rescue a.img", "check a.img --mend", "read a.img"):
+            self.refused(f"image failed: a.img: {os.path.realpath(self.path('a.img.log'))} is another image's log: put that image "
+                         "back, or remove the log", *line.split())
+            self.assertEqual(self.both(), (bytes(image), log), line)
+        os.rename(self.path("a.img.log"), self.path("moved"))
+        self.assertEqual(self.run_norbd("rescue", "a.img").out[512:1024], nbd.sector(1))
+
     def test_a_head_without_records_belongs_to_any_image(self):
-        """So an image may be replaced whose server was stopped when all was settled."""
+        """So an image may be replaced whose server was stopped when all was settled. Nor is a start refused for a head that isn't
+        all there: a beginning of one, zeros, or zeros in its place."""
         other = with_sectors(1)
+        head = log_of(kit.formatted())
+        for log in (head, head + bytes(5000), head[:3], head[:3] + bytes(5000), head[:15], bytes(7), bytes(16), bytes(STEP_LEN),
+                    bytes(16) + b"\xa5" * 3000):
+            self.put("a.img", other)
+            self.put("a.img.log", log)
+            self.assertEqual(self.check()["log_bytes"], 0)
+            self.serve().kill()
+            self.assertEqual(self.sector(1), nbd.sector(1))
+        # but where other bytes follow the head of another image
         self.put("a.img", other)
-        self.put("a.img.log", log_of(kit.formatted()))
-        self.assertEqual(self.check()["log_bytes"], 0)
-        self.serve().kill()
-        self.assertEqual(self.sector(1), nbd.sector(1))
+        self.put("a.img.log", head + b"\xa5" * 3000)
+        self.refused(f"image failed: a.img: {os.path.realpath(self.path('a.img.log'))} is another image's log: put that image back, "
+                     "or remove the log", "serve", "a.img", "--unix", "s")
+
+    @kit.needs("strace")
+    def test_a_log_grows_by_steps(self):
+        """Its file has zeros behind the records, so that a FLUSH mostly syncs no length. Where the file grew, it is synced with its
+        length, changed, and synced again. It has its name only once all of it is on the medium."""
+        self.put("a.img", kit.formatted(1024))
+        self.put("a.img.log.norbd-new", b"left by a killed start")
+        server = self.serve("a.img", under=kit.traced(f"{CALLS},rename,renameat,renameat2,utimensat", "-y"))
+        self.assertEqual(os.path.getsize(self.path("a.img.log")), STEP_LEN)
+        self.assertFalse(os.path.exists(self.path("a.img.log.norbd-new")))
+        client, sizes = server.client(), []
+        data = b"".join(nbd.sector(it) for it in range(128))
+        for _ in range(20):
+            self.assertEqual([client.write(0, data), client.flush()], [OK, OK])
+            sizes.append(os.path.getsize(self.path("a.img.log")))
+        server.kill()
+        self.assertEqual(self.norbd("read", "a.img", "--sectors", "0:128"), data)
+        calls = [(name, text) for name, text, _ in kit.calls_in(self.bytes_of("strace.log").decode())]
+        named = [it for it, (name, _) in enumerate(calls) if name.startswith("rename")]
+        self.assertEqual(calls[named[0] - 1][0], "fsync")
+        begun = next(it for it, (name, text) in enumerate(calls) if name.startswith("send") and r"\x67\x44\x66\x98" in text)
+        syncs = [name for name, _ in calls[begun:] if name in ("fsync", "fdatasync", "utimensat")]
+        if not any(name == "pwrite64" and r'"\x00\x00' in text for name, text in calls[begun:] if text.endswith(", 16, 0")):
+            self.assertEqual(len(set(sizes)), 2)  # and it wasn't settled meanwhile
+            at = syncs.index("fsync")
+            self.assertEqual(syncs[at:at + 3], ["fsync", "utimensat", "fsync"])
+            self.assertEqual(set(syncs[:at] + syncs[at + 3:]), {"fdatasync"})
+            self.assertEqual(len(syncs), 22)
+
+    def test_a_file_system_in_memory(self):
+        """On a tmpfs, whose syncs do nothing, a server works as elsewhere, and a kill loses nothing."""
+        room = tempfile.mkdtemp(dir="/dev/shm")
+        self.addCleanup(shutil.rmtree, room)
+        image = os.path.join(room, "a.img")
+        self.norbd("format", image, "--kib", "64")
+        server = self.serve(image)
+        client = server.client()
+        self.assertEqual([client.write(5, nbd.sector(5)), client.flush(), client.write(6, nbd.sector(6))], [OK] * 3)
+        server.kill()
+        self.assertEqual(self.norbd("read", image, "--sectors", "5:7"), nbd.sector(5) + nbd.sector(6))
+        self.serve(image).kill()
+        self.assertEqual(self.norbd("read", image, "--sectors", "5:7"), nbd.sector(5) + nbd.sector(6))
+
+    @kit.needs("strace")
+    def test_a_file_system_without_syncs(self):
+        """Where a sync is refused, as by some file systems in user space, a server that would sync isn't started, and says so; one
+        with `--sync never` is."""
+        self.put("a.img", kit.formatted())
+        under = kit.traced("fsync,fdatasync", "-e", "inject=fsync,fdatasync:error=EINVAL")
+        log = os.path.realpath(self.path("a.img.log"))
+        done = self.run_norbd("serve", "a.img", "--unix", "s", under=under)
+        self.assertEqual((done.status, done.fault), (1, f"norbd: image failed: a.img: {log}: invalid argument\n"))
+        self.assertEqual(sorted(os.listdir(self.room)), ["a.img", "strace.log"])
+        client = self.serve("a.img", "--sync", "never", under=under).client()
+        self.assertEqual([client.write(5, nbd.sector(5)), client.flush(), len(client.read(5))], [OK, OK, 512])
 
     def test_a_file_that_is_no_log(self):
         """It is refused by name, and never changed; `format` leaves it too."""

@@ -9,7 +9,7 @@ import kit
 import nbd
 from nbd import FUA, OK
 
-CALLS = "pwrite64,fdatasync,fsync,ftruncate,sendmsg,sendto,write,writev"
+CALLS = "pwrite64,fdatasync,fsync,sendmsg,sendto,write,writev"
 LONG = ("-y", "-s", "100000")  # descriptors with their paths, and all bytes
 PIECE = 4096
 
@@ -19,7 +19,8 @@ def plain(text):
 
 
 class Trace:
-    """The writes, syncs and cuts of the image and of its log, and the replies, in a log of strace, in their order."""
+    """The writes, syncs and cuts of the image and of its log, and the replies, in a log of strace, in their order. A cut puts
+    zeros in place of the log's head."""
 
     def __init__(self, log):
         self.events = []
@@ -31,12 +32,11 @@ class Trace:
             data = plain(data.group(1)) if data else b""
             if file and name in ("fdatasync", "fsync"):
                 self.events.append(("sync", file, result))
-            elif file and name == "ftruncate":
-                self.events.append(("cut", file, int(text.rsplit(", ", 1)[1])))
             elif file and name == "pwrite64":
                 count, at = (int(it) for it in re.findall(r"(\d+)", text[text.rindex('"'):])[-2:])
                 assert len(data) == count, text[-40:]
-                self.events.append(("write", file, at, data))
+                wipes = file == "log" and at == 0 and data == bytes(16)
+                self.events.append(("cut", file, 0) if wipes else ("write", file, at, data))
             elif data[:4] == b"\x67\x44\x66\x98":
                 self.events.append(("reply", int.from_bytes(data[8:16], "big")))
 
@@ -59,51 +59,45 @@ class Trace:
 def broken_rules(trace):
     """The rules of docs/SERVE.md that a trace of writes and syncs breaks."""
     unsynced, broken = {"log": False, "image": False}, []
-    cut = False
+    cut = begun = False
     for event in trace.events:
         if event[0] == "sync":
             unsynced[event[1]] = False
-            cut = cut and event[1] != "log"
+            cut, begun = cut and event[1] != "log", begun and event[1] != "log"
         elif event[0] == "write":
             if event[1] == "image" and unsynced["log"]:
                 broken.append("the log is synced before the image is written")
             if event[1] == "log" and cut:
                 broken.append("a log that was emptied is synced before it is written")
+            if event[1] == "log" and begun:
+                broken.append("a log's head is synced before a record follows it")
+            begun = begun or event[1:3] == ("log", 0)
             unsynced[event[1]] = True
         elif event[0] == "cut":
             if unsynced["image"]:
                 broken.append("the image is synced before its log is emptied")
-            cut = True
+            cut = unsynced["log"] = True
     return broken
 
 
 class Medium:
-    """What the host's disk has of a file: its pages and its length as they were at the last sync, and since. A cut is there or not,
-    and what is written after it is there only with it."""
+    """What the host's disk has of a file: its pages and its length as they were at the last sync, and since."""
 
     def __init__(self, data):
-        self.spans = [({at: [bytes(data[at:at + PIECE]).ljust(PIECE, b"\0")] for at in range(0, len(data), PIECE)}, [len(data)])]
+        self.pages = {at: [bytes(data[at:at + PIECE]).ljust(PIECE, b"\0")] for at in range(0, len(data), PIECE)}
+        self.lengths = [len(data)]
 
     def write(self, at, data):
-        pages, lengths = self.spans[-1]
         for start in range(at - at % PIECE, at + len(data), PIECE):
-            versions = pages.setdefault(start, [bytes(PIECE)])
+            versions = self.pages.setdefault(start, [bytes(PIECE)])
             page = bytearray(versions[-1])
             first, last = max(at, start), min(at + len(data), start + PIECE)
             page[first - start:last - start] = data[first - at:last - at]
             versions.append(bytes(page))
-        lengths.append(max(lengths[-1], at + len(data)))
-
-    def cut(self, length):
-        pages, lengths = self.spans[-1]
-        if length == 0:
-            self.spans.append(({}, [0]))
-        else:
-            assert length >= lengths[-1] or lengths[-1] == 0
+        self.lengths.append(max(self.lengths[-1], at + len(data)))
 
     def sync(self):
-        pages, lengths = self.spans[-1]
-        self.spans = [({at: versions[-1:] for at, versions in pages.items()}, lengths[-1:])]
+        self.pages, self.lengths = {at: versions[-1:] for at, versions in self.pages.items()}, self.lengths[-1:]
 
     def left(self, chance):
         """What a loss leaves: of each page one of its versions, and one of the lengths."""
@@ -115,11 +109,10 @@ class Medium:
             if way == "newest" or way == "mostly newest" and chance.random() < 0.9:
                 return versions[-1]
             return chance.choice(versions)
-        pages, lengths = one(self.spans)
-        data = bytearray(max([at + PIECE for at in pages], default=0))
-        for at, versions in pages.items():
+        data = bytearray(max([at + PIECE for at in self.pages], default=0))
+        for at, versions in self.pages.items():
             data[at:at + PIECE] = one(versions)
-        length = one(lengths)
+        length = one(self.lengths)
         return bytes(data[:length].ljust(length, b"\0"))
 
 
@@ -147,8 +140,8 @@ class Syncs(kit.Case):
             self.assertLessEqual(waiting, {it for it in (1, 2, 3, 5, 6, 7, 8, 9) if trace.waits_of(it)}, sync)
             if sync == "never":
                 self.assertEqual(trace.syncs(), 0)
-            elif not any(it[0] == "cut" for it in trace.events[:trace.events.index(("reply", 9))]):  # nothing was settled meanwhile
-                for cookie in {1, 5, 6, 8} - waiting:
+            elif not any(it[0] == "cut" for it in trace.events[trace.events.index(("reply", 1)):]):  # nothing was settled meanwhile
+                for cookie in {5, 6, 8} - waiting:
                     self.assertEqual([it for it in trace.before(cookie) if it[0] == "sync"], [], sync)
 
     def work(self, client, chance, turns, note=None):
@@ -173,7 +166,10 @@ class Syncs(kit.Case):
         """The log is synced before the image is written, the image before the log is emptied, and that before it is written again."""
         self.put("a.img", kit.formatted())
         server = self.traced()
-        self.work(server.client(), kit.dice("order"), 120)
+        client = server.client()
+        self.work(client, kit.dice("order"), 120)
+        for turn in range(30):  # more than four lengths of the image, after which the log is settled
+            self.assertEqual(client.write(turn, nbd.sector(turn) * 40), OK)
         server.kill()
         trace = self.trace()
         self.assertGreater(sum(it[:2] == ("write", "image") for it in trace.events), 10)
@@ -213,7 +209,7 @@ class Syncs(kit.Case):
             elif event[0] == "write":
                 media[event[1]].write(event[2], event[3])
             elif event[0] == "cut":
-                media[event[1]].cut(event[2])
+                media[event[1]].write(0, bytes(16))
             elif event[1] in asked:
                 last = event[1]
                 kind, first, data, flags = asked[last]

@@ -46,7 +46,8 @@ class Zeroes(kit.Case):
 
     @kit.needs("strace")
     def test_their_cost(self):
-        """A TRIM and a WRITE_ZEROES are one write of the log, a WRITE is two, of the record's head and of its bytes."""
+        """A TRIM, a WRITE_ZEROES and a WRITE of up to 4 KiB are one write of the log; a longer WRITE is two, of the record's head
+        and of its bytes."""
         self.format()
         server = self.serve("a.img", "--sync", "never", under=kit.traced("pwrite64,fdatasync"))
         client = server.client()
@@ -56,12 +57,12 @@ class Zeroes(kit.Case):
             return sum(name == "pwrite64" for name, _, _ in kit.calls_in(
                 self.bytes_of("strace.log").decode()))
         for kind, first, data in ((nbd.WRITE, 0, 3), (nbd.WRITE, 1, 1), (TRIM, 0, 2), (TRIM, 0, 2),
-                                  (WRITE_ZEROES, 2, 1), (WRITE_ZEROES, 0, 70), (nbd.WRITE, 1, 1)):
+                                  (WRITE_ZEROES, 2, 1), (WRITE_ZEROES, 0, 70), (nbd.WRITE, 1, 8), (nbd.WRITE, 1, 9)):
             before = count()
             self.assertEqual(client.do(kind, 512 * first, 512 * data,
                                        b"\1" * 512 * data if kind == nbd.WRITE else b""), OK)
             counts.append(count() - before)
-        self.assertEqual(counts, [2, 2, 1, 1, 1, 1, 2])
+        self.assertEqual(counts, [1, 1, 1, 1, 1, 1, 1, 2])
 
     def test_random_calls(self):
         """After random WRITEs, TRIMs and WRITE_ZEROES over connections and starts, the disk is what

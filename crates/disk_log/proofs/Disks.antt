@@ -1,6 +1,7 @@
 -- What a disk with a log holds, before a call and after it.
 use Rattle.std.proofs.Common.{◌≡◌, ℕ, ◌+◌, ◌*◌, ◌≤◌, List, ◌⊎◌, inl, inr, length, ap, sym, ◌∙◌, arith, refl, subst, Option, Some, None, Result, Ok, Err}
 use Rattle.std.specs.Prelude.{◌/◌}
+use Rattle.std.specs.Result.{IsErr}
 use Rattle.block_device.specs.Contents.{replaced, Outcome, sector, InRange}
 use Rattle.block_device.specs.Facts.{Facts, CountsNeverFall, Latches, Writes}
 use Rattle.block_device.specs.declared.disk.DiskError.{DiskError}
@@ -12,7 +13,7 @@ use Rattle.disk_log.specs.Settling.{AddsChange, SettlesFiles, StaysInOrder, Sett
 use Rattle.disk_log.specs.Power.{IsInOrder}
 use Rattle.disk_log.specs.declared.logged.Standing.{Standing}
 use Rattle.disk_log.specs.declared.logged.Standing.TheVariants as standings
-use Rattle.disk_log.specs.Logged.{standing_answer, logged_facts, is_cut, is_slow, Settled, WritesTo, IsOfDisk}
+use Rattle.disk_log.specs.Logged.{standing_answer, logged_facts, is_cut, is_slow, Settled, SettlesAlone, WritesTo, IsOfDisk}
 use Rattle.disk_log.proofs.Places.{length-replaced}
 use Rattle.disk_log.proofs.Replays.{goes-on, no-both}
 use Rattle.disk_log.proofs.Orders.{alone-kept, begun-none}
@@ -134,6 +135,15 @@ pub kept-settled-on : (represents : List ℕ → List ℕ) (is contents : List �
 kept-settled-on represents is contents None new made same k s = s represents tt
 kept-settled-on represents is contents (Some m) new made same k s = s represents (k, same ∙ sym made)
 
+-- The files stay as they are.
+pub untouched-alone : (T : Type 0) (represents : List ℕ → List ℕ) (c : List ℕ) (e : DiskError) (files : Option Medium) → SettlesAlone {T = T} represents c files (Err e) files
+untouched-alone T represents c e None = refl
+untouched-alone T represents c e (Some m) = (m, refl)
+
+pub unready-alone : (T : Type 0) (represents : List ℕ → List ℕ) (c : List ℕ) (r : Result T DiskError) → IsErr r → (files : Option Medium) → SettlesAlone represents c files r files
+unready-alone T represents c (Ok t) bad files = absurd (cc bad)
+unready-alone T represents c (Err e) bad files = untouched-alone T represents c e files
+
 -- What settling leaves.
 module _ (T E : Type 0) (represents : List ℕ → List ℕ) (n : ℕ) (is contents : List ℕ) (old new : Option Medium) (last : ℕ × ℕ) (made : represents is ≡ contents) where
   module _ (t : T) (a : SettlesFiles {T = T} {E = E} is old (Ok t) last new) where
@@ -151,6 +161,13 @@ module _ (T E : Type 0) (represents : List ℕ → List ℕ) (n : ℕ) (is conte
         go None a = absurd (not-some m (sym a ∙ e))
         go (Some o) a = subst (λ v. IsBegunLog v is last) (some-is a.0 m (sym a.1 ∙ e)) a.3
 
+    pub settled-alone : (U : Type 0) (u : U) → SettlesAlone represents (held represents new contents) old (Ok u) new
+    settled-alone U u = go old a
+      where
+        go : (o : Option Medium) → SettlesFiles {T = T} {E = E} is o (Ok t) last new → SettlesAlone represents (held represents new contents) o (Ok u) new
+        go None a = a
+        go (Some o) a = (a.0, a.1, ap represents a.3.same ∙ (sym (a.4 represents) ∙ sym (ap (λ v. held represents v contents) a.1)))
+
     pub settled-sectors : ((m : Medium) → old ≡ Some m → m.sectors ≡ n) → (m : Medium) → new ≡ Some m → m.sectors ≡ n
     settled-sectors count m e = go old refl a
       where
@@ -159,6 +176,13 @@ module _ (T E : Type 0) (represents : List ℕ → List ℕ) (n : ℕ) (is conte
         go (Some o) is' a = ap (λ (v : Medium). v.sectors) (some-is m a.0 (sym e ∙ a.1)) ∙ (a.2 ∙ count o is')
 
   module _ (f : E) (a : SettlesFiles {T = T} {E = E} is old (Err f) last new) where
+    pub unsettled-alone : (U : Type 0) (e : DiskError) (c : List ℕ) → SettlesAlone {T = U} represents c old (Err e) new
+    unsettled-alone U e c = go old a
+      where
+        go : (o : Option Medium) → SettlesFiles {T = T} {E = E} is o (Err f) last new → SettlesAlone {T = U} represents c o (Err e) new
+        go None a = a
+        go (Some o) a = (a.0, a.1)
+
     pub unsettled-held : (held represents new contents ≡ held represents old contents) ⊎ (held represents new contents ≡ contents)
     unsettled-held = go old refl a
       where

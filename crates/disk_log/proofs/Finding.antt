@@ -1,6 +1,6 @@
 -- What a start finds in a log.
-use Rattle.std.proofs.Common.{◌≡◌, ℕ, ◌+◌, ◌-◌, ◌*◌, ◌≤◌, Bool, true, false, ◌&&◌, List, inr, length, take, drop, ap, sym, ◌∙◌, arith, refl, subst, Some, None, Result, Ok, Err}
-use Rattle.std.specs.Prelude.{if◌then◌else◌, ◌==◌}
+use Rattle.std.proofs.Common.{◌≡◌, ℕ, ◌+◌, ◌-◌, ◌*◌, ◌≤◌, Bool, true, false, ◌&&◌, List, [], inr, length, take, drop, ap, sym, ◌∙◌, arith, refl, subst, Some, None, Result, Ok, Err}
+use Rattle.std.specs.Prelude.{if◌then◌else◌, ◌==◌, ◌↔◌}
 use Rattle.std.proofs.lemmas.Bool.{eqb-true, eq-eqb}
 use Rattle.std.proofs.lemmas.List.{drop-drop, length-drop, take_rest}
 use Rattle.disk_log.specs.Records.{begins_checkpoint, kind_in, count_in, record_len, body_len, body_len_of}
@@ -10,7 +10,7 @@ use Rattle.disk_log.specs.Reading.{ReadsLog, ReadsPlaced}
 use Rattle.disk_log.specs.declared.reading.Found.{Found}
 use Rattle.disk_log.specs.declared.reading.Refusal.{Refusal}
 use Rattle.disk_log.proofs.Records.{Whole, checkpoint-is, both}
-use Rattle.disk_log.proofs.Held.{log-is}
+use Rattle.disk_log.proofs.Held.{log-is, read-false}
 use Rattle.disk_log.proofs.Replays.{no-both}
 
 -- whether a head was found
@@ -52,6 +52,24 @@ module _ (n : ℕ) (log : List ℕ) (own sum : ℕ × ℕ) (len : ℕ) (head : h
 
   pub read-test : (b : List ℕ) (t : Bool) → b ≡ drop (16 + len) log → t ≡ begins_checkpoint sum b → has_checkpoint n log ≡ t
   read-test b t e f = sym (f ∙ (ap (λ v. begins_checkpoint v b) read-sum ∙ ap (λ v. begins_checkpoint (log_changes n log).sum v) (e ∙ read-rest)))
+
+-- a log that was never begun
+pub nothing-read : (n : ℕ) (log : List ℕ) → has_head log ≡ false → ((log_changes n log).changes ≡ []) × (has_checkpoint n log ≡ false)
+nothing-read n log e = (
+  ap (λ (r : LogReading). r.changes) (none-read e),
+  ap (λ (r : LogReading). begins_checkpoint r.sum r.rest) (none-read e),
+)
+  where
+    none-read : has_head log ≡ false → log_changes n log ≡ record { changes = []; sum = (0, 0); rest = [] }
+    none-read e = read-false (has_head log) (log_reading n (head_sum log) (drop 16 log)) (record { changes = []; sum = (0, 0); rest = [] }) e
+
+-- a log of which no record was read
+pub none-changes : (n : ℕ) (log : List ℕ) (own : ℕ × ℕ) (len : ℕ) → has_head log ≡ true → own ≡ head_sum log
+    → (len ≡ 0) ↔ ((log_reading n own (take (length log - 16) (drop 16 log))).changes ≡ []) → (len ≡ 0) ↔ ((log_changes n log).changes ≡ [])
+none-changes n log own len head is none =
+    let reading : log_reading n own (take (length log - 16) (drop 16 log)) ≡ log_changes n log =
+    ap (λ v. log_reading n own v) (take_rest log 16) ∙ (ap (λ v. log_reading n v (drop 16 log)) is ∙ sym (log-is n log head)) in
+    subst (λ (r : LogReading). (len ≡ 0) ↔ (r.changes ≡ [])) reading none
 
 pub placed-reads : (n : ℕ) (log image image' b : List ℕ) (at : ℕ) (r : Result Found Refusal) → has_head log ≡ true → has_checkpoint n log ≡ true → at ≤ length log → b ≡ drop at log
     → drop at log ≡ (log_changes n log).rest → ReadsPlaced at b image r image' → length image' ≡ length image → ReadsLog n log image r image'

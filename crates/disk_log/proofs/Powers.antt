@@ -14,7 +14,7 @@ use Rattle.disk_log.proofs.Places.{placed-same, covered, with-taken}
 use Rattle.disk_log.proofs.Readings.{cases, step-true, step-false, enough}
 
 -- The same record begins two lists.
-module _ (before : ℕ × ℕ) (old new : List ℕ) (whole : is_whole before new ≡ true) (len : length new ≤ length old) (same : take (record_len new) new ≡ take (record_len new) old) where
+module _ (before : ℕ × ℕ) (old new : List ℕ) (whole : is_whole before new ≡ true) (same : take (record_len new) new ≡ take (record_len new) old) where
   w : Whole before new
   w = wholly before new whole
 
@@ -26,6 +26,15 @@ module _ (before : ℕ × ℕ) (old new : List ℕ) (whole : is_whole before new
 
   head : 24 ≤ length xs
   head = (let e = xs-len in omega (arith, e))
+
+  pub old-long : record_len new ≤ length old
+  old-long = elim (cases_lt (length old) (record_len new)) [
+    | inr more ↦ more
+    | inl less ↦
+        let e = xs-len in
+        let f = ap (λ (v : List ℕ). length v) (same ∙ take_all (record_len new) old (omega (arith, less))) in
+        absurd (omega (arith, less, e, f))
+  ]
 
   new-is : xs ++ drop (record_len new) new ≡ new
   new-is = take-append-drop (record_len new) new
@@ -62,12 +71,11 @@ module _ (before : ℕ × ℕ) (old new : List ℕ) (whole : is_whole before new
 
   pub old-whole : Whole before old
   old-whole =
-      let h = w.head in
-      let l = w.whole in
+      let l = old-long in
       let e = lens in
       record {
-        head = omega (arith, h, len);
-        whole = omega (arith, l, len, e);
+        head = omega (arith, l);
+        whole = omega (arith, l, e);
         one = ap (λ v. v.0) sums ∙ (w.one ∙ ap (λ v. v.0) (sym over));
         two = ap (λ v. v.1) sums ∙ (w.two ∙ ap (λ v. v.1) (sym over));
       }
@@ -104,24 +112,22 @@ pub record Begun (old new : LogReading) : Type 0 where
   pub all : begins_checkpoint new.sum new.rest ≡ true → old.changes ≡ new.changes
   pub same_sum : begins_checkpoint new.sum new.rest ≡ true → old.sum ≡ new.sum
   pub same : begins_checkpoint new.sum new.rest ≡ true → take (record_len new.rest) new.rest ≡ take (record_len new.rest) old.rest
-  pub long : length new.rest ≤ length old.rest ⊎ (begins_checkpoint new.sum new.rest ≡ false)
 
 -- none is read of what is left
-ended : (k n : ℕ) (before : ℕ × ℕ) (old new : List ℕ) → length new ≤ length old → (r : LogReading) → (begins_record n before old ≡ false → r ≡ ends before old)
+ended : (k n : ℕ) (before : ℕ × ℕ) (old new : List ℕ) → (r : LogReading) → (begins_record n before old ≡ false → r ≡ ends before old)
     → (is_whole before new ≡ true → take (record_len new) new ≡ take (record_len new) old) → (begins_checkpoint before new ≡ true) ⊎ (begins_checkpoint before new ≡ false) → Begun r (ends before new)
-ended k n before old new len r none written (inr bad) = record {
+ended k n before old new r none written (inr bad) = record {
   more = r.changes;
   begins = refl;
   all = λ e. absurd (neither (begins_checkpoint before new) e bad);
   same_sum = λ e. absurd (neither (begins_checkpoint before new) e bad);
   same = λ e. absurd (neither (begins_checkpoint before new) e bad);
-  long = inr bad;
 }
-ended k n before old new len r none written (inl good) =
+ended k n before old new r none written (inl good) =
     let c = checkpoint-is before new good in
     let whole : is_whole before new ≡ true = holds before new c.0 in
     let same = written whole in
-    let kind : kind_in old ≡ 2 = kinds before old new whole len same ∙ c.1 in
+    let kind : kind_in old ≡ 2 = kinds before old new whole same ∙ c.1 in
     let is : r ≡ ends before old = none (none-two n before old kind) in
     record {
       more = r.changes;
@@ -129,7 +135,6 @@ ended k n before old new len r none written (inl good) =
       all = λ e. ap (λ v. v.changes) is;
       same_sum = λ e. ap (λ v. v.sum) is;
       same = λ e. same ∙ ap (λ v. take (record_len new) v.rest) (sym is);
-      long = inl (rw (ap (λ v. v.rest) is) len);
     }
 
 grown : (c : Change) (old new : LogReading) → Begun old new → Begun (record { changes = c ∷ old.changes; sum = old.sum; rest = old.rest }) (record { changes = c ∷ new.changes; sum = new.sum; rest = new.rest })
@@ -139,39 +144,43 @@ grown c old new b = record {
   all = λ e. ap (λ v. c ∷ v) (b.all e);
   same_sum = λ e. b.same_sum e;
   same = λ e. b.same e;
-  long = b.long;
 }
 
 -- What is read of what is left is a beginning of what is read of all that was written.
-pub beginning-by : (k j n : ℕ) (before : ℕ × ℕ) (old new : List ℕ) → length new ≤ length old → length new ≤ k → length old ≤ j → AreWritten k before old new
+pub beginning-by : (k j n : ℕ) (before : ℕ × ℕ) (old new : List ℕ) → length new ≤ k → length old ≤ j → AreWritten k before old new
     → (begins_record n before new ≡ true) ⊎ (begins_record n before new ≡ false) → Begun (read_some j n before old) (read_some k n before new)
 unfolding AreWritten
-beginning-by zero j n before old new len low high are (inl e) = (let r = begun n before new e in let h = r.head in absurd (omega (arith, low, h)))
-beginning-by zero j n before old new len low high are (inr e) =
-    rw (step-false zero n before new e) (ended zero n before old new len (read_some j n before old) (λ f. step-false j n before old f)
+beginning-by zero j n before old new low high are (inl e) = (let r = begun n before new e in let h = r.head in absurd (omega (arith, low, h)))
+beginning-by zero j n before old new low high are (inr e) =
+    rw (step-false zero n before new e) (ended zero n before old new (read_some j n before old) (λ f. step-false j n before old f)
     (λ whole. let w = wholly before new whole in let h = w.head in absurd (omega (arith, low, h))) (cases (begins_checkpoint before new)))
-beginning-by (suc k) j n before old new len low high are (inr e) =
-    rw (step-false (suc k) n before new e) (ended k n before old new len (read_some j n before old) (λ f. step-false j n before old f)
+beginning-by (suc k) j n before old new low high are (inr e) =
+    rw (step-false (suc k) n before new e) (ended k n before old new (read_some j n before old) (λ f. step-false j n before old f)
     (λ whole. (are whole).0) (cases (begins_checkpoint before new)))
-beginning-by (suc k) zero n before old new len low high are (inl e) = (let r = begun n before new e in let h = r.head in absurd (omega (arith, len, high, h)))
-beginning-by (suc k) (suc j) n before old new len low high are (inl e) =
+beginning-by (suc k) zero n before old new low high are (inl e) =
+    let r = begun n before new e in
+    let whole : is_whole before new ≡ true = holds before new (record { head = r.head; whole = r.whole; one = r.one; two = r.two }) in
+    let l = old-long before old new whole (are whole).0 in
+    absurd (omega (arith, high, l))
+beginning-by (suc k) (suc j) n before old new low high are (inl e) =
     let r = begun n before new e in
     let h = r.head in
     let wh = r.whole in
     let whole : is_whole before new ≡ true = holds before new (record { head = r.head; whole = r.whole; one = r.one; two = r.two }) in
     let same = (are whole).0 in
     let rest = (are whole).1 in
-    let e' = begins-old before old new whole len same n e in
-    let l = lens before old new whole len same in
+    let e' = begins-old before old new whole same n e in
+    let l = lens before old new whole same in
+    let far = old-long before old new whole same in
     let dn = length-drop (record_len new) new in
     let dold = length-drop (record_len new) old in
     let more = beginning-by k j n (sum_in new) (drop (record_len new) old) (drop (record_len new) new)
-    (omega (arith, dn, dold, len, wh)) (omega (arith, dn, low, wh, h)) (omega (arith, dold, high, wh, h, len)) rest (cases (begins_record n (sum_in new) (drop (record_len new) new))) in
+    (omega (arith, dn, low, wh, h)) (omega (arith, dold, high, far)) rest (cases (begins_record n (sum_in new) (drop (record_len new) new))) in
     let olds : read_some (suc j) n before old ≡ (let m = read_some j n (sum_in new) (drop (record_len new) old) in record { changes = change_in new ∷ m.changes; sum = m.sum; rest = m.rest }) =
     step-true j n before old e'
     ∙ (ap (λ v. let m = read_some j n (sum_in old) (drop v old) in record { changes = change_in old ∷ m.changes; sum = m.sum; rest = m.rest }) l
-    ∙ (ap (λ v. let m = read_some j n v (drop (record_len new) old) in record { changes = change_in old ∷ m.changes; sum = m.sum; rest = m.rest }) (sums before old new whole len same)
-    ∙ ap (λ v. let m = read_some j n (sum_in new) (drop (record_len new) old) in record { changes = v ∷ m.changes; sum = m.sum; rest = m.rest }) (change-is before old new whole len same))) in
+    ∙ (ap (λ v. let m = read_some j n v (drop (record_len new) old) in record { changes = change_in old ∷ m.changes; sum = m.sum; rest = m.rest }) (sums before old new whole same)
+    ∙ ap (λ v. let m = read_some j n (sum_in new) (drop (record_len new) old) in record { changes = v ∷ m.changes; sum = m.sum; rest = m.rest }) (change-is before old new whole same))) in
     rw olds (rw (step-true k n before new e) (grown (change_in new) (read_some j n (sum_in new) (drop (record_len new) old)) (read_some k n (sum_in new) (drop (record_len new) new)) more))
 
 -- What is read of a beginning of bytes is a beginning of what is read of all.
@@ -290,31 +299,28 @@ checkpoint-len b e = ap (λ v. 24 + body_len_of v (count_in b)) e ∙ omega arit
 
 -- A checkpoint that is read of what is left is the one that was written.
 same-checkpoint : (old new : LogReading) (image : List ℕ) → Begun old new → begins_checkpoint new.sum new.rest ≡ true → (begins_checkpoint old.sum old.rest ≡ true) × (placed_in old.rest image ≡ placed_in new.rest image)
-same-checkpoint old new image b good = elim b.long [
-  | inr bad ↦ absurd (neither (begins_checkpoint new.sum new.rest) good bad)
-  | inl len ↦
-      let c = checkpoint-is new.sum new.rest good in
-      let whole : is_whole new.sum new.rest ≡ true = holds new.sum new.rest c.0 in
-      let same = b.same good in
-      let count : count_in old.rest ≡ count_in new.rest = counts new.sum old.rest new.rest whole len same in
-      let kind : kind_in old.rest ≡ 2 = kinds new.sum old.rest new.rest whole len same ∙ c.1 in
-      let k : ℕ = count_in new.rest in
-      let size : record_len new.rest ≡ 32 + 4104 * k = checkpoint-len new.rest c.1 in
-      let blocks : take (4104 * k) (drop 32 new.rest) ≡ take (4104 * k) (drop 32 old.rest) =
-      sym (drop-take 32 (4104 * k) new.rest)
-      ∙ (ap (λ v. drop 32 v) (ap (λ v. take v new.rest) (sym size) ∙ (same ∙ ap (λ v. take v old.rest) size))
-      ∙ drop-take 32 (4104 * k) old.rest) in (
-        ap (λ v. begins_checkpoint v old.rest) (b.same_sum good) ∙ is-checkpoint new.sum old.rest (old-whole new.sum old.rest new.rest whole len same) kind,
-        ap (λ v. with_blocks v (drop 32 old.rest) image) count
-            ∙ (sym (placed-taken k (drop 32 old.rest) image)
-            ∙ (ap (λ v. with_blocks k v image) (sym blocks)
-            ∙ placed-taken k (drop 32 new.rest) image)),
-      )
-]
+same-checkpoint old new image b good =
+    let c = checkpoint-is new.sum new.rest good in
+    let whole : is_whole new.sum new.rest ≡ true = holds new.sum new.rest c.0 in
+    let same = b.same good in
+    let count : count_in old.rest ≡ count_in new.rest = counts new.sum old.rest new.rest whole same in
+    let kind : kind_in old.rest ≡ 2 = kinds new.sum old.rest new.rest whole same ∙ c.1 in
+    let k : ℕ = count_in new.rest in
+    let size : record_len new.rest ≡ 32 + 4104 * k = checkpoint-len new.rest c.1 in
+    let blocks : take (4104 * k) (drop 32 new.rest) ≡ take (4104 * k) (drop 32 old.rest) =
+    sym (drop-take 32 (4104 * k) new.rest)
+    ∙ (ap (λ v. drop 32 v) (ap (λ v. take v new.rest) (sym size) ∙ (same ∙ ap (λ v. take v old.rest) size))
+    ∙ drop-take 32 (4104 * k) old.rest) in (
+      ap (λ v. begins_checkpoint v old.rest) (b.same_sum good) ∙ is-checkpoint new.sum old.rest (old-whole new.sum old.rest new.rest whole same) kind,
+      ap (λ v. with_blocks v (drop 32 old.rest) image) count
+          ∙ (sym (placed-taken k (drop 32 old.rest) image)
+          ∙ (ap (λ v. with_blocks k v image) (sym blocks)
+          ∙ placed-taken k (drop 32 new.rest) image)),
+    )
 
 -- What is read of a log that is left, where its head is that of the one that was written.
-begun-log : (n : ℕ) (written left : List ℕ) → length left ≤ length written → HasTrueSums written left → has_head left ≡ true → Begun (log_changes n written) (log_changes n left)
-begun-log n written left most true_sums e =
+begun-log : (n : ℕ) (written left : List ℕ) → HasTrueSums written left → has_head left ≡ true → Begun (log_changes n written) (log_changes n left)
+begun-log n written left true_sums e =
     let long = head-long left e in
     let heads : List ℕ = take 16 left in
     let size : length heads ≡ 16 = length-take-le 16 left long in
@@ -326,9 +332,8 @@ begun-log n written left most true_sums e =
     let sum-left : head_sum left ≡ head_sum heads = ap head_sum (sym left-is) ∙ head-sum-still heads (drop 16 left) there in
     let sum-written : head_sum written ≡ head_sum left = ap head_sum (sym written-is) ∙ (head-sum-still heads (drop 16 written) there ∙ sym sum-left) in
     let len-left = length-drop 16 left in
-    let len-written = length-drop 16 written in
     let b = beginning-by (length left) (length (drop 16 written)) n (head_sum left) (drop 16 written) (drop 16 left)
-    (omega (arith, len-left, len-written, most)) (omega (arith, len-left)) (omega arith) true_sums.records (cases (begins_record n (head_sum left) (drop 16 left))) in
+    (omega (arith, len-left)) (omega arith) (true_sums.records e) (cases (begins_record n (head_sum left) (drop 16 left))) in
     let is-left : read_some (length left) n (head_sum left) (drop 16 left) ≡ log_changes n left =
     enough (length left) (length (drop 16 left)) n (head_sum left) (drop 16 left) (omega (arith, len-left)) (omega arith) ∙ sym (with-head n left e) in
     let is-written : log_reading n (head_sum left) (drop 16 written) ≡ log_changes n written =
@@ -342,41 +347,65 @@ no-head n written left e = subst (λ v. Begun (log_changes n written) v) (sym (w
   all = λ f. absurd (neither false f refl);
   same_sum = λ f. absurd (neither false f refl);
   same = λ f. absurd (neither false f refl);
-  long = inr refl;
 })
 
-log-begun : (n : ℕ) (written left : List ℕ) → length left ≤ length written → HasTrueSums written left → (has_head left ≡ true) ⊎ (has_head left ≡ false) → Begun (log_changes n written) (log_changes n left)
-log-begun n written left most true_sums (inl e) = begun-log n written left most true_sums e
-log-begun n written left most true_sums (inr e) = no-head n written left e
+log-begun : (n : ℕ) (written left : List ℕ) → HasTrueSums written left → (has_head left ≡ true) ⊎ (has_head left ≡ false) → Begun (log_changes n written) (log_changes n left)
+log-begun n written left true_sums (inl e) = begun-log n written left true_sums e
+log-begun n written left true_sums (inr e) = no-head n written left e
 
 -- the image is on the medium
 settled-hold : (represents : List ℕ → List ℕ) (m : Medium) (image log : List ℕ) → image ≡ m.image → LeavesLog m log → HasTrueSums m.log log → (has_checkpoint m.sectors log ≡ true) ⊎ (has_checkpoint m.sectors log ≡ false)
     → (contents_in represents m.sectors image log ≡ contents_in represents m.sectors m.image m.log) ⊎ IsEarlierEnd represents m (contents_in represents m.sectors image log)
 settled-hold represents m image log same left true_sums (inl good) =
-    let b = log-begun m.sectors m.log log left.most true_sums (cases (has_head log)) in
+    let b = log-begun m.sectors m.log log true_sums (cases (has_head log)) in
     let c = same-checkpoint (log_changes m.sectors m.log) (log_changes m.sectors log) m.image b good in
     inl (ap (λ v. contents_in represents m.sectors v log) same
     ∙ (with-checkpoint represents m.sectors m.image log good
     ∙ (ap represents (sym c.1)
     ∙ sym (with-checkpoint represents m.sectors m.image m.log c.0))))
 settled-hold represents m image log same left true_sums (inr bad) =
-    let b = log-begun m.sectors m.log log left.most true_sums (cases (has_head log)) in
+    let b = log-begun m.sectors m.log log true_sums (cases (has_head log)) in
     let p = part-log m.sectors m.safe log in
     inr (record {
       changes = (log_changes m.sectors log).changes;
       later = b.more;
       begins = b.begins;
       unsynced = p.0;
-      least = p.1 ∙ ap (λ v. (log_changes m.sectors v).changes ++ p.0) left.kept;
+      least = p.1 ∙ ap (λ v. (log_changes m.sectors v).changes ++ p.0) left;
       holds = ap (λ v. contents_in represents m.sectors v log) same ∙ without-checkpoint represents m.sectors m.image log bad;
     })
+
+-- Whatever follows bytes, their records are those that are there.
+none-written : (k : ℕ) (before : ℕ × ℕ) (written left : List ℕ) → length left ≤ 0 → AreWritten k before written left
+unfolding AreWritten
+none-written zero before written left low = tt
+none-written (suc k) before written left low = λ whole. (let h = (wholly before left whole).head in absurd (omega (arith, low, h)))
+
+front-written : (k : ℕ) (before : ℕ × ℕ) (front more : List ℕ) → AreWritten k before (front ++ more) front
+unfolding AreWritten
+front-written zero before front more = tt
+front-written (suc k) before front more = λ whole.
+    let long = (wholly before front whole).whole in (
+      sym (take-append-le (record_len front) front more long),
+      subst (λ v. AreWritten k (sum_in front) v (drop (record_len front) front)) (sym (drop-append-le (record_len front) front more long)) (front-written k (sum_in front) (drop (record_len front) front) more),
+    )
+
+front-sums : (front more : List ℕ) → HasTrueSums (front ++ more) front
+front-sums front more = record {
+  head = λ e. sym (take-append-le 16 front more (head-long front e));
+  records = λ e. elim (cases_lt (length front) 16) [
+    | inl less ↦ (let d = length-drop 16 front in none-written (length front) (head_sum front) (drop 16 (front ++ more)) (drop 16 front) (omega (arith, less, d)))
+    | inr long ↦ subst (λ v. AreWritten (length front) (head_sum front) v (drop 16 front)) (sym (drop-append-le 16 front more long)) (front-written (length front) (head_sum front) (drop 16 front) more)
+  ];
+}
 
 -- a checkpoint and all of the log are on the medium
 placed-hold : (represents : List ℕ → List ℕ) (m : Medium) (image log : List ℕ) → has_checkpoint m.sectors m.log ≡ true → m.safe ≡ length m.log → LeavesImage m image → LeavesLog m log
     → contents_in represents m.sectors image log ≡ contents_in represents m.sectors m.image m.log
 placed-hold represents m image log good safe made left =
-    let most = left.most in
-    let same : log ≡ m.log = sym (take_all m.safe log (omega (arith, most, safe))) ∙ (left.kept ∙ take_all m.safe m.log (omega (arith, safe))) in
+    let is : m.log ++ drop m.safe log ≡ log = ap (λ v. v ++ drop m.safe log) (sym (take_all m.safe m.log (omega (arith, safe))) ∙ sym left) ∙ take-append-drop m.safe log in
+    let b = log-begun m.sectors log m.log (subst (λ v. HasTrueSums v m.log) is (front-sums m.log (drop m.safe log))) (cases (has_head m.log)) in
+    let same = same-checkpoint (log_changes m.sectors log) (log_changes m.sectors m.log) image b good in
     let rest : List ℕ = (log_changes m.sectors m.log).rest in
     let c = checkpoint-is (log_changes m.sectors m.log).sum rest good in
     let wh = c.0.whole in
@@ -388,10 +417,9 @@ placed-hold represents m image log good safe made left =
       | inl e ↦ inl e
       | inr has ↦ inr (covered (count_in rest) (drop 32 rest) (i / 4096) has.1 (length image) i has.2 (let f = has.0 in omega (arith, f, len)) (omega arith) (omega arith))
     ]) in
-    ap (λ v. contents_in represents m.sectors image v) same
-    ∙ (with-checkpoint represents m.sectors image m.log good
-    ∙ (ap represents put
-    ∙ sym (with-checkpoint represents m.sectors m.image m.log good)))
+    with-checkpoint represents m.sectors image log same.0
+    ∙ (ap represents (same.1 ∙ put)
+    ∙ sym (with-checkpoint represents m.sectors m.image m.log good))
 
 -- the image is on the medium, or a checkpoint is
 order-of : (represents : List ℕ → List ℕ) (m : Medium) → IsInOrder represents m

@@ -1,12 +1,12 @@
 -- Records that are being read, and replayed.
-use Rattle.std.proofs.Common.{◌≡◌, ℕ, zero, suc, ◌+◌, ◌-◌, ◌*◌, ◌≤◌, Bool, true, false, List, ◌∷◌, length, take, drop, ap, sym, ◌∙◌, arith, refl, Some, None, Err, ◌⊎◌, inl, inr, subst, ◌<◌}
+use Rattle.std.proofs.Common.{◌≡◌, ℕ, zero, suc, ◌+◌, ◌-◌, ◌*◌, ◌≤◌, Bool, true, false, List, [], ◌∷◌, length, take, drop, ap, sym, ◌∙◌, arith, refl, Some, None, Err, ◌⊎◌, inl, inr, subst, ◌<◌}
 use Rattle.block_device.specs.declared.disk.DiskError.{DiskError}
 use Rattle.block_device.specs.declared.disk.DiskError.TheVariants as errors
-use Rattle.std.specs.Prelude.{◌/◌, if◌then◌else◌}
+use Rattle.std.specs.Prelude.{◌/◌, ◌↔◌, if◌then◌else◌}
 use Rattle.std.proofs.lemmas.List.{length-drop, length-take-le, drop-drop, take_all}
 use Rattle.block_device.specs.Facts.{Facts, IsDiskReady, CountsNeverFall, Latches}
 use Rattle.disk_log.specs.declared.record.Head.{Head}
-use Rattle.disk_log.specs.Records.{begins_record, is_whole, kind_in, first_in, count_in, body_in, body_len, body_len_of, record_len, change_in, record_change, with_change, head_in, replayed, sum_in}
+use Rattle.disk_log.specs.Records.{Change, begins_record, is_whole, kind_in, first_in, count_in, body_in, body_len, body_len_of, record_len, change_in, record_change, with_change, head_in, replayed, sum_in}
 use Rattle.disk_log.specs.Logs.{LogReading, read_some, log_reading}
 use Rattle.disk_log.proofs.Records.{begun}
 use Rattle.disk_log.proofs.Growing.{not-true}
@@ -17,6 +17,8 @@ pub record Reads (log : List ℕ) (n : ℕ) (from : ℕ × ℕ) (at : ℕ) (sum 
   pub low : at ≤ length log
   pub rest : (read_some (length log) n sum (drop at log)).rest ≡ (log_reading n from log).rest
   pub last : (read_some (length log) n sum (drop at log)).sum ≡ (log_reading n from log).sum
+  pub start : at ≡ 0 → sum ≡ from
+  pub some : (k : ℕ) → at ≡ suc k → (log_reading n from log).changes ≡ [] → ⊥
 
 -- Their changes were made: what is left makes of the contents what all makes of those at first.
 pub record Underway (log : List ℕ) (from : ℕ × ℕ) (old new : Facts) (at : ℕ) (sum : ℕ × ℕ) : Type 0 where
@@ -28,7 +30,7 @@ pub record Underway (log : List ℕ) (from : ℕ × ℕ) (old new : Facts) (at :
       ≡ replayed (log_reading (length old.contents / 512) from log).changes old.contents
 
 pub reads-first : (log : List ℕ) (n : ℕ) (from : ℕ × ℕ) → Reads log n from 0 from
-reads-first log n from = record { low = omega arith; rest = refl; last = refl }
+reads-first log n from = record { low = omega arith; rest = refl; last = refl; start = λ e. refl; some = λ k e. cc }
 
 pub at-first : (log : List ℕ) (from : ℕ × ℕ) (facts : Facts) → Underway log from facts facts 0 from
 at-first log from facts = record { low = omega arith; sound = refl; goes = record { size = refl; cuts = omega arith; slows = omega arith }; ready = λ r. r; contents = λ s. refl }
@@ -65,6 +67,15 @@ step-on (suc k) n sum b low e =
 onward : (k n : ℕ) (sum : ℕ × ℕ) (log : List ℕ) (at : ℕ) → read_some k n sum (drop (record_len (drop at log)) (drop at log)) ≡ read_some k n sum (drop (at + record_len (drop at log)) log)
 onward k n sum log at = ap (λ v. read_some k n sum v) (drop-drop (record_len (drop at log)) at log)
 
+some-on : (log : List ℕ) (n : ℕ) (from : ℕ × ℕ) (at : ℕ) (sum : ℕ × ℕ) → Reads log n from at sum → begins_record n sum (drop at log) ≡ true → (log_reading n from log).changes ≡ [] → ⊥
+some-on log n from zero sum u e none =
+    (let e' : begins_record n from log ≡ true = ap (λ v. begins_record n v log) (sym (u.start refl)) ∙ e in
+    is-some (ap (λ (v : LogReading). v.changes) (sym (step-on (length log) n from log (omega arith) e')) ∙ none))
+  where
+    is-some : {c : Change} {cs : List Change} → c ∷ cs ≡ [] → ⊥
+    is-some q = cc
+some-on log n from (suc k) sum u e none = u.some k refl none
+
 pub reads-on : (log : List ℕ) (n : ℕ) (from : ℕ × ℕ) (at : ℕ) (sum : ℕ × ℕ) → Reads log n from at sum → begins_record n sum (drop at log) ≡ true
     → Reads log n from (at + record_len (drop at log)) (sum_in (drop at log))
 reads-on log n from at sum u e =
@@ -78,12 +89,22 @@ reads-on log n from at sum u e =
       low = omega (arith, low, w, long);
       rest = ap (λ v. v.rest) (sym next) ∙ (ap (λ (v : LogReading). v.rest) (sym step) ∙ u.rest);
       last = ap (λ v. v.sum) (sym next) ∙ (ap (λ (v : LogReading). v.sum) (sym step) ∙ u.last);
+      start = λ z. absurd (omega (arith, z));
+      some = λ k z none. some-on log n from at sum u e none;
     }
 
 pub record ReadAll (log : List ℕ) (n : ℕ) (from : ℕ × ℕ) (at : ℕ) (sum : ℕ × ℕ) : Type 0 where
   pub low : at ≤ length log
   pub rest : drop at log ≡ (log_reading n from log).rest
   pub last : sum ≡ (log_reading n from log).sum
+  pub none : (at ≡ 0) ↔ ((log_reading n from log).changes ≡ [])
+
+none-read : (log : List ℕ) (n : ℕ) (from : ℕ × ℕ) (at : ℕ) (sum : ℕ × ℕ) → Reads log n from at sum → begins_record n sum (drop at log) ≡ false → (at ≡ 0) ↔ ((log_reading n from log).changes ≡ [])
+none-read log n from zero sum u e = (
+  λ z. ap (λ (v : LogReading). v.changes) (step-false (length log) n from log (ap (λ v. begins_record n v log) (sym (u.start refl)) ∙ e)),
+  λ z. refl,
+)
+none-read log n from (suc k) sum u e = (λ z. cc, λ z. absurd (u.some k refl z))
 
 pub reads-all : (log : List ℕ) (n : ℕ) (from : ℕ × ℕ) (at : ℕ) (sum : ℕ × ℕ) → Reads log n from at sum → begins_record n sum (drop at log) ≡ false → ReadAll log n from at sum
 reads-all log n from at sum u e =
@@ -92,6 +113,7 @@ reads-all log n from at sum u e =
       low = u.low;
       rest = ap (λ (v : LogReading). v.rest) (sym stop) ∙ u.rest;
       last = ap (λ (v : LogReading). v.sum) (sym stop) ∙ u.last;
+      none = none-read log n from at sum u e;
     }
 
 pub goes-on : (old mid new : Facts) → CountsNeverFall old mid → CountsNeverFall mid new → CountsNeverFall old new

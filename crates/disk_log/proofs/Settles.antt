@@ -61,15 +61,21 @@ part-short head taken r rest long same =
     omega (arith, all, both, long)
 
 module _ (image head : List ℕ) (long : length head ≡ 16) (has : has_head head ≡ true) (own : head_sum head ≡ image_sum image) where
-  pub log-begun : (T E F : Type 0) (t : T) (old new : Option Medium) → OfFiles old (λ m. IsEmptyOn image m) → Extends {T = T} {E = F} old (head ++ []) (Ok t) new
-      → TakesUp {E = E} old image (Ok (image_sum image)) new
-  log-begun T E F t None new h e = e
-  log-begun T E F t (Some m) new h e =
-      let m' : Medium = record m { log = m.log ++ (head ++ []) } in
+  pub log-begun : (T U E F : Type 0) (t : T) (u : U) (old mid new : Option Medium) → OfFiles old (λ m. IsEmptyOn image m) → Extends {T = T} {E = F} old (head ++ []) (Ok t) mid
+      → SyncsLog {T = U} {E = F} mid (Ok u) new → TakesUp {E = E} old image (Ok (image_sum image)) new
+  log-begun T U E F t u None mid new h e s = subst (λ v. SyncsLog {T = U} {E = F} v (Ok u) new) e s
+  log-begun T U E F t u (Some m) mid new h e s =
+      let m' : Medium = record m { log = m.log ++ (head ++ []); safe = length (m.log ++ (head ++ [])) } in
       let is : m'.log ≡ head = ap (λ v. v ++ (head ++ [])) h.1 ∙ append-nil head in
-      let b = fresh-begun m' image head h.0 is long has own in
-      let none = h.3 in
-      (m', e, refl, b, λ represents. fresh-holds m' image head represents b is long ∙ sym (empty-holds represents m.sectors m.image m.log h.1), h.2, omega (arith, none))
+      let b = fresh-begun m' image head h.0 is long has own in (
+        m',
+        subst (λ v. SyncsLog {T = U} {E = F} v (Ok u) new) e s,
+        refl,
+        b,
+        λ represents. fresh-holds m' image head represents b is long ∙ sym (empty-holds represents m.sectors m.image m.log h.1),
+        h.2,
+        refl,
+      )
 
   part-holds : (m : Medium) (taken rest : List ℕ) (represents : List ℕ → List ℕ) → IsEmptyOn image m → head ++ [] ≡ taken ++ rest
       → contents_in represents m.sectors m.image (m.log ++ taken) ≡ represents m.image
@@ -81,11 +87,23 @@ module _ (image head : List ℕ) (long : length head ≡ 16) (has : has_head hea
       headless-holds represents m.sectors m.image (m.log ++ taken)
       (ap (λ v. has_head (v ++ taken)) h.1 ∙ no-head taken (part-short head taken r rest long same))
 
-  pub log-unbegun : (T E F : Type 0) (f : E) (g : F) (old new : Option Medium) → OfFiles old (λ m. IsEmptyOn image m) → Extends {T = T} {E = E} old (head ++ []) (Err f) new
-      → TakesUp {E = F} old image (Err g) new
-  log-unbegun T E F f g None new h e = e
-  log-unbegun T E F f g (Some m) new h (taken, rest, same, is) =
+  pub log-unbegun : (T E F : Type 0) (f : E) (r : Result (ℕ × ℕ) F) → IsErr r → (old new : Option Medium) → OfFiles old (λ m. IsEmptyOn image m)
+      → Extends {T = T} {E = E} old (head ++ []) (Err f) new → TakesUp {E = F} old image r new
+  log-unbegun T E F f (Ok sum) bad old new h e = absurd (cc bad)
+  log-unbegun T E F f (Err g) bad None new h e = e
+  log-unbegun T E F f (Err g) bad (Some m) new h (taken, rest, same, is) =
       (record m { log = m.log ++ taken }, is, λ represents. part-holds m taken rest represents h same ∙ sym (empty-holds represents m.sectors m.image m.log h.1))
+
+  pub log-unsynced : (T U E F : Type 0) (t : T) (f : E) (r : Result (ℕ × ℕ) F) → IsErr r → (old mid new : Option Medium) → OfFiles old (λ m. IsEmptyOn image m)
+      → Extends {T = T} {E = E} old (head ++ []) (Ok t) mid → SyncsLog {T = U} {E = E} mid (Err f) new → TakesUp {E = F} old image r new
+  log-unsynced T U E F t f (Ok sum) bad old mid new h e s = absurd (cc bad)
+  log-unsynced T U E F t f (Err g) bad None mid new h e s = subst (λ v. SyncsLog {T = U} {E = E} v (Err f) new) e s
+  log-unsynced T U E F t f (Err g) bad (Some m) mid new h e s =
+      let s' = subst (λ v. SyncsLog {T = U} {E = E} v (Err f) new) e s in (
+        record m { log = m.log ++ (head ++ []); safe = s'.0 },
+        s'.2,
+        λ represents. part-holds m (head ++ []) [] represents h (sym (append-nil (head ++ []))) ∙ sym (empty-holds represents m.sectors m.image m.log h.1),
+      )
 
   part-none : (m : Medium) (taken rest : List ℕ) → IsEmptyOn image m → head ++ [] ≡ taken ++ rest → has_checkpoint m.sectors (m.log ++ taken) ≡ false
   part-none m taken [] h same =
@@ -99,6 +117,21 @@ module _ (image head : List ℕ) (long : length head ≡ 16) (has : has_head hea
       let none = h.3 in
       subst (λ v. OfFiles v (λ m. IsInOrder represents m)) (sym e)
       (alone-kept (record m { log = m.log ++ taken }) (omega (arith, none)) h.2 (part-none m taken rest h same) represents)
+
+  pub synced-kept : (T U E : Type 0) (t : T) (r : Result U E) (old mid new : Option Medium) → OfFiles old (λ m. IsEmptyOn image m) → Extends {T = T} {E = E} old (head ++ []) (Ok t) mid
+      → SyncsLog {T = U} {E = E} mid r new → AreInOrder new
+  synced-kept T U E t (Ok u) None mid new h e s represents = subst (λ v. OfFiles v (λ m. IsInOrder represents m)) (sym (subst (λ v. SyncsLog {T = U} {E = E} v (Ok u) new) e s)) tt
+  synced-kept T U E t (Err f) None mid new h e s represents = subst (λ v. OfFiles v (λ m. IsInOrder represents m)) (sym (subst (λ v. SyncsLog {T = U} {E = E} v (Err f) new) e s)) tt
+  synced-kept T U E t (Ok u) (Some m) mid new h e s represents =
+      subst (λ v. OfFiles v (λ m. IsInOrder represents m)) (sym (subst (λ v. SyncsLog {T = U} {E = E} v (Ok u) new) e s))
+      (alone-kept (record m { log = m.log ++ (head ++ []); safe = length (m.log ++ (head ++ [])) }) (omega arith) h.2
+      (part-none m (head ++ []) [] h (sym (append-nil (head ++ [])))) represents)
+  synced-kept T U E t (Err f) (Some m) mid new h e s represents =
+      let s' = subst (λ v. SyncsLog {T = U} {E = E} v (Err f) new) e s in
+      let none = h.3 in
+      subst (λ v. OfFiles v (λ m. IsInOrder represents m)) (sym s'.2)
+      (alone-kept (record m { log = m.log ++ (head ++ []); safe = s'.0 }) (s'.1 (omega (arith, none))) h.2
+      (part-none m (head ++ []) [] h (sym (append-nil (head ++ [])))) represents)
 
   pub log-kept : (T E : Type 0) (r : Result T E) (old new : Option Medium) → OfFiles old (λ m. IsEmptyOn image m) → Extends {T = T} {E = E} old (head ++ []) r new → AreInOrder new
   log-kept T E (Ok t) None new h e represents = subst (λ v. OfFiles v (λ m. IsInOrder represents m)) (sym e) tt

@@ -1,10 +1,10 @@
 -- A log that a start takes up.
-use Rattle.std.proofs.Common.{◌≡◌, ℕ, ◌+◌, ◌-◌, ◌*◌, ◌≤◌, true, List, [], inl, inr, length, take, drop, ap, sym, ◌∙◌, arith, refl, subst, Option, Some, None, Result, Ok, Err}
+use Rattle.std.proofs.Common.{◌≡◌, ℕ, ◌+◌, ◌-◌, ◌*◌, ◌≤◌, true, false, List, [], inl, inr, length, take, drop, ap, sym, ◌∙◌, arith, refl, subst, Option, Some, None, Result, Ok, Err}
 use Rattle.std.specs.Result.{IsErr}
 use Rattle.std.proofs.lemmas.List.{length-drop, drop-drop, take_rest}
-use Rattle.disk_log.specs.Records.{count_in}
+use Rattle.disk_log.specs.Records.{count_in, replayed}
 use Rattle.disk_log.specs.Checkpoints.{with_blocks, placed_in}
-use Rattle.disk_log.specs.Logs.{log_changes, has_head, has_checkpoint, contents_in, Medium, HoldsAs}
+use Rattle.disk_log.specs.Logs.{log_changes, has_checkpoint, contents_in, Medium, HoldsAs}
 use Rattle.disk_log.specs.Files.{SyncsLog, SyncsImage, CutsLog, IsNeedless, OfFiles}
 use Rattle.disk_log.specs.Settling.{HasBlocks, EmptiesLog}
 use Rattle.disk_log.specs.Reading.{IsEmptyOn, IsBlankOn, IsPlacedOn, IsRead, ReadsLog, TakesUp}
@@ -12,7 +12,7 @@ use Rattle.disk_log.specs.declared.reading.Found.TheVariants as founds
 use Rattle.disk_log.proofs.Records.{checkpoint-is}
 use Rattle.disk_log.proofs.Places.{placed-len}
 use Rattle.disk_log.proofs.Entries.{empty-holds, holds-placed}
-use Rattle.disk_log.proofs.Settles.{headless-holds}
+use Rattle.disk_log.proofs.Held.{told-changes}
 use Rattle.disk_log.proofs.Finding.{entries-long}
 
 -- the files hold what they did
@@ -52,13 +52,18 @@ keeps-log T E (Err e) None new s = s
 keeps-log T E (Ok t) (Some m) new s = (record m { safe = length m.log }, s, refl, λ represents. refl)
 keeps-log T E (Err e) (Some m) new s = (record m { safe = s.0 }, s.2, refl, λ represents. refl)
 
--- a log with no head is cut
+-- a log that says nothing
+blank-holds : (represents : List ℕ → List ℕ) (n : ℕ) (image log : List ℕ) → (log_changes n log).changes ≡ [] → has_checkpoint n log ≡ false → contents_in represents n image log ≡ represents image
+unfolding replayed
+blank-holds represents n image log none bare = told-changes represents image (log_changes n log) bare ∙ ap (λ v. replayed v (represents image)) none
+
+-- it is cut
 pub blank-needless : (T E : Type 0) (t : T) (image : List ℕ) (old mid : Option Medium) → OfFiles old (λ m. IsBlankOn image m) → SyncsImage {T = T} {E = E} old (Ok t) mid → OfFiles mid (λ m. IsNeedless 0 m)
 blank-needless T E t image None mid b s = subst (λ v. OfFiles v (λ m. IsNeedless 0 m)) (sym s) tt
 blank-needless T E t image (Some m) mid b s = subst (λ v. OfFiles v (λ m. IsNeedless 0 m)) (sym s) (record {
   low = omega arith;
   settled = refl;
-  same = λ represents. empty-holds represents m.sectors m.image [] refl ∙ sym (headless-holds represents m.sectors m.image m.log b.1);
+  same = λ represents. empty-holds represents m.sectors m.image [] refl ∙ sym (blank-holds represents m.sectors m.image m.log b.1 b.2);
 })
 
 pub blank-cut : (T U E : Type 0) (t : T) (r : Result U E) (image : List ℕ) (old mid new : Option Medium) → OfFiles old (λ m. IsBlankOn image m) → SyncsImage {T = T} {E = E} old (Ok t) mid
@@ -70,7 +75,7 @@ blank-cut T U E t (Ok u) image (Some m) mid new b s c =
       record m { log = []; safe = 0; settled = true },
       c',
       refl,
-      λ represents. empty-holds represents m.sectors m.image [] refl ∙ sym (headless-holds represents m.sectors m.image m.log b.1),
+      λ represents. empty-holds represents m.sectors m.image [] refl ∙ sym (blank-holds represents m.sectors m.image m.log b.1 b.2),
     )
 blank-cut T U E t (Err e) image (Some m) mid new b s c =
     let c' = subst (λ v. CutsLog {T = U} {E = E} 0 v (Err e) new) s c in (
@@ -79,7 +84,7 @@ blank-cut T U E t (Err e) image (Some m) mid new b s c =
       refl,
       λ represents. elim c'.2 [
         | inl h ↦ ap (λ v. contents_in represents m.sectors m.image v) h.0
-        | inr h ↦ empty-holds represents m.sectors m.image c'.0 h.0 ∙ sym (headless-holds represents m.sectors m.image m.log b.1)
+        | inr h ↦ empty-holds represents m.sectors m.image c'.0 h.0 ∙ sym (blank-holds represents m.sectors m.image m.log b.1 b.2)
       ],
     )
 
@@ -139,7 +144,9 @@ unplaced-err U E F f image count entries (Err g) bad T t (Some m) mid new s e =
 -- what was found
 pub blank-of : (n : ℕ) (image log : List ℕ) (files : Option Medium) → OfFiles files (λ m. IsRead n image log founds.Nothing m) → OfFiles files (λ m. IsBlankOn image m)
 blank-of n image log None h = h
-blank-of n image log (Some m) h = (sym h.2.2, ap (λ v. has_head v) h.1 ∙ h.2.0)
+blank-of n image log (Some m) h =
+    let e = ap (λ k. (k, m.log)) h.0 ∙ ap (λ v. (n, v)) h.1 in
+    (sym h.2.3, ap (λ (v : ℕ × List ℕ). (log_changes v.0 v.1).changes) e ∙ h.2.1, ap (λ (v : ℕ × List ℕ). has_checkpoint v.0 v.1) e ∙ h.2.2)
 
 pub checkpoint-of : (n at : ℕ) (image log : List ℕ) (files : Option Medium) → OfFiles files (λ m. IsRead n image log (founds.Checkpoint at) m)
     → OfFiles files (λ m. IsPlacedOn image (take (length log - at) (drop at log)) m)

@@ -61,6 +61,14 @@ pub record Settled {T : Type 0} (old : Facts) (result : Result T DiskError) (new
   pub goes : CountsNeverFall old new
   pub latches : Latches old result new
 
+-- A settling of a disk with these contents: done, the image alone holds them, of files that tell.
+abbrev pub SettlesAlone : {T : Type 0} → (List ℕ → List ℕ) → List ℕ → Option Medium
+    → Result T DiskError → Option Medium → Type 0
+SettlesAlone represents contents None result new = new ≡ None
+SettlesAlone represents contents (Some m) (Ok _) new =
+    (m' : Medium) × (new ≡ Some m') × (represents m'.image ≡ contents)
+SettlesAlone represents contents (Some m) (Err _) new = (m' : Medium) × (new ≡ Some m')
+
 -- a write of these bytes from the sector `first` on, in the words of a disk
 pub record WritesTo {T : Type 0} (first : ℕ) (bytes : List ℕ) (old : Facts)
     (result : Result T DiskError) (new : Facts) : Type 0 where

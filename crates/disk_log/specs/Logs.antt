@@ -1,6 +1,6 @@
 -- A log: a head, and records one behind the other. Source: own.
-use Rattle.std.specs.Prelude.{◌≡◌, ℕ, zero, suc, ◌&&◌, ◌||◌, ◌==◌, if◌then◌else◌}
-use Rattle.std.specs.Prelude.{List, [], ◌∷◌, length, drop, Option, Some, None}
+use Rattle.std.specs.Prelude.{◌≡◌, ◌<◌, ◌⊎◌, ℕ, zero, suc, ◌&&◌, ◌==◌, if◌then◌else◌, All}
+use Rattle.std.specs.Prelude.{List, [], ◌∷◌, length, take, drop, Option, Some, None}
 use Rattle.std.specs.Prelude.{Bool, true, nat_lt}
 use Rattle.byteorder.specs.Endian.{little_from}
 use Rattle.disk_log.specs.Records.{Change, begins_record, begins_checkpoint, change_in, record_len}
@@ -40,17 +40,32 @@ has_head log = nat_lt 15 (length log) && little_from 0 4 log == 0x4252_4F4E
 abbrev pub head_sum : List ℕ → ℕ × ℕ
 head_sum log = sum_at 8 log
 
--- a log that was never begun: shorter than a head, or one of zeros
-abbrev pub is_blank : List ℕ → Bool
-is_blank log = nat_lt (length log) 16
-    || (little_from 0 4 log == 0 && little_from 4 4 log == 0
-    && little_from 8 4 log == 0 && little_from 12 4 log == 0)
+-- NORBDLOG
+abbrev pub log_name : List ℕ
+log_name = 0x4E ∷ 0x4F ∷ 0x52 ∷ 0x42 ∷ 0x44 ∷ 0x4C ∷ 0x4F ∷ 0x47 ∷ []
+
+-- so many bytes of the name, and zeros behind them
+abbrev pub IsTornAt : ℕ → List ℕ → Type 0
+IsTornAt k front = (take k front ≡ take k log_name) × All (λ byte. byte ≡ 0) (drop k front)
+
+-- a part of a head, or none of it: a part of its name and zeros, or the name and a part of its sum
+abbrev pub IsTorn : List ℕ → Type 0
+IsTorn front = ((k : ℕ) × (k < 8) × IsTornAt k front)
+    ⊎ ((length front < 16) × (take 8 front ≡ log_name))
+
+-- a log that was never begun, or of whose head a part is there
+abbrev pub IsBlank : List ℕ → Type 0
+IsBlank log = IsTorn (take 16 log)
 
 -- the changes in a log of a disk of n sectors; the first goes on from the sum in the head
 abbrev pub log_changes : ℕ → List ℕ → LogReading
 log_changes n log = if has_head log
     then log_reading n (head_sum log) (drop 16 log)
     else record { changes = []; sum = (0, 0); rest = [] }
+
+-- no record follows its head: nothing but zeros does
+abbrev pub IsBare : ℕ → List ℕ → Type 0
+IsBare n log = ((log_changes n log).changes ≡ []) × All (λ byte. byte ≡ 0) (drop 16 log)
 
 -- whether there is a checkpoint behind the changes: it counts only when it is whole
 abbrev pub has_checkpoint : ℕ → List ℕ → Bool

@@ -17,10 +17,9 @@ pub record IsInOrder (represents : List ℕ → List ℕ) (m : Medium) : Type 0 
       → represents (placed_in (log_changes m.sectors m.log).rest m.image)
       ≡ replayed (log_changes m.sectors m.log).changes (represents m.image))
 
--- Of the log: the bytes that are on the medium, and behind them any, no more than there were.
-pub record LeavesLog (m : Medium) (log : List ℕ) : Type 0 where
-  pub kept : take m.safe log ≡ take m.safe m.log
-  pub most : length log ≤ length m.log
+-- Of the log: the bytes that are on the medium, and behind them any, and as many.
+abbrev pub LeavesLog : Medium → List ℕ → Type 0
+LeavesLog m log = take m.safe log ≡ take m.safe m.log
 
 -- Of the image: all of it where it is on the medium; else any bytes in the blocks that the
 -- checkpoint in the log has.
@@ -40,11 +39,12 @@ AreWritten (suc k) before written left = is_whole before left ≡ true
     → (take (record_len left) left ≡ take (record_len left) written)
     × AreWritten k (sum_in left) (drop (record_len left) written) (drop (record_len left) left)
 
--- No bytes but those that were written have the sum of a record, or are a head. This is a premise:
--- that what a loss left has the right sum by chance, is possible.
+-- No bytes but those that were written are a head, or have the sum of a record behind one. This is a
+-- premise: that what a loss left has the right sum by chance, is possible.
 pub record HasTrueSums (written left : List ℕ) : Type 0 where
   pub head : has_head left ≡ true → take 16 left ≡ take 16 written
-  pub records : AreWritten (length left) (head_sum left) (drop 16 written) (drop 16 left)
+  pub records : has_head left ≡ true
+      → AreWritten (length left) (head_sum left) (drop 16 written) (drop 16 left)
 
 -- A disk's contents after a beginning of the changes in its log, of which at least those that are
 -- on the medium: what a kill at an earlier moment would have left.

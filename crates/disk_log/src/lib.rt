@@ -43,6 +43,6 @@ pub use laws::survivors_hold;
 pub use logged::{ImageDisk, LoggedDisk, Standing};
 pub use memory::MemoryFiles;
 pub use reading::{Found, Refusal, read_log};
-pub use record::{Head, RECORD_HEAD_LEN, Sum, read_record};
+pub use record::{Head, RECORD_HEAD_LEN, Sum, read_record, record_len};
 pub use replaying::replay;
-pub use taking::take_up;
+pub use taking::{begin_anew, take_up};

@@ -103,6 +103,7 @@ impl<D: ImageDisk, F: ImageFiles, L: Ledger> LoggedDisk<D, F, L> {
             (length (D.facts disk).contents / 512) (D.facts disk).contents image.items sum m) }
         ensures facts { ⟦<LoggedDisk<D, F, L> as Disk>⟧.facts result
             ≡ logged_facts D.represents (F.medium files) Ready 0 None (D.facts disk) }
+        ensures files { result.files ≡ files }
     {
         LoggedDisk {
             alloc,
@@ -145,13 +146,16 @@ impl<D: ImageDisk, F: ImageFiles, L: Ledger> LoggedDisk<D, F, L> {
 }
 
 impl<D: ImageDisk, F: ImageFiles, L: Ledger> LoggedDisk<D, F, L> {
-    ghost use Rattle.disk_log.specs.Logged.{Settled, WritesTo};
+    ghost use Rattle.disk_log.specs.Logged.{Settled, SettlesAlone, WritesTo};
 
     /// Writes what changed into the image, and begins the log anew. The contents stay, also where
-    /// that fails.
+    /// that fails; the image alone has all of them then, where it doesn't.
     pub fn settle(&mut self) -> Result<(), DiskError>
-        ensures { Settled (⟦<LoggedDisk<D, F, L> as Disk>⟧.facts self.old) result
+        ensures settled { Settled (⟦<LoggedDisk<D, F, L> as Disk>⟧.facts self.old) result
             (⟦<LoggedDisk<D, F, L> as Disk>⟧.facts self.new) }
+        ensures alone { SettlesAlone D.represents
+            (⟦<LoggedDisk<D, F, L> as Disk>⟧.facts self.new).contents
+            (F.medium self.old.files) result (F.medium self.new.files) }
     {
         self.standing_error()?;
         let image = self.disk.image();

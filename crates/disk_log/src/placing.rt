@@ -1,7 +1,7 @@
 //! Placing the blocks of a checkpoint, and beginning a log.
 
 ghost use Rattle.std.specs.Prelude.{◌≡◌, ◌+◌, ◌*◌, ◌≤◌, length, drop};
-ghost use Rattle.disk_log.specs.Checkpoints.{IsCheckpointBody, IsImageLen};
+ghost use Rattle.disk_log.specs.Checkpoints.{IsCheckpointBody, IsImageLen, image_sum};
 ghost use Rattle.disk_log.specs.Files.{OfFiles};
 ghost use Rattle.disk_log.specs.Logs.{IsBegunLog};
 ghost use Rattle.disk_log.specs.Reading.{IsEmptyOn, TakesUp};
@@ -9,10 +9,10 @@ ghost use Rattle.disk_log.specs.Settling.{EmptiesLog, HasBlocks, HasEntryOf, Log
 ghost use Rattle.disk_log.specs.Settling.{PlacesBlocks, PlacesEntry, SettlesFiles, SettlesInOrder};
 ghost use Rattle.disk_log.specs.Settling.{AreInOrder};
 
-use crate::checkpoint::{CHECKPOINT_ENTRY_LEN, changed_blocks, image_sum};
+use crate::checkpoint::{CHECKPOINT_ENTRY_LEN, changed_blocks};
 use crate::file::{IMAGE_BLOCK_LEN, ImageFiles};
 use crate::head::log_head;
-use crate::record::{Sum, head_of, number_at};
+use crate::record::{Sum, head_of, number_at, read_sum};
 use std::alloc::Global;
 use std::io;
 use std::io::ErrorKind;
@@ -68,17 +68,17 @@ pub(crate) fn place_blocks<F: ImageFiles>(
     files.cut_log(0)
 }
 
-/// Begins an empty log on an image with these bytes.
-pub(crate) fn begin_log<F: ImageFiles>(files: &mut F, image: &[u8]) -> io::Result<Sum>
-    requires { OfFiles (F.medium files.old) (λ m. IsEmptyOn image.now m) }
+/// Begins an empty log on an image with these bytes, which have this sum, and brings its head onto
+/// the medium.
+pub(crate) fn begin_log<F: ImageFiles>(files: &mut F, sum: Sum, image: &[u8]) -> io::Result<Sum>
+    requires sum { sum ≡ image_sum image.now }
+    requires empty { OfFiles (F.medium files.old) (λ m. IsEmptyOn image.now m) }
     ensures takes { TakesUp (F.medium files.old) image.now result (F.medium files.new) }
     ensures kept { AreInOrder (F.medium files.new) }
 {
-    let sum = image_sum(image);
-    match files.append(&log_head(sum), &[]) {
-        Ok(()) => Ok(sum),
-        Err(error) => Err(error),
-    }
+    files.append(&log_head(sum), &[])?;
+    files.sync_log()?;
+    Ok(sum)
 }
 
 /// Appends a checkpoint with this body to a log that was begun on an image with the bytes `was`,
@@ -133,6 +133,6 @@ pub(crate) fn settle_files<F: ImageFiles>(
         (body.len() - 8) / CHECKPOINT_ENTRY_LEN,
         body,
     )?;
-    *sum = begin_log(files, is)?;
+    *sum = begin_log(files, read_sum(body, 0), is)?;
     Ok(())
 }

@@ -1,18 +1,19 @@
 //! What a start finds in a log.
 
-ghost use Rattle.std.specs.Prelude.{◌≡◌, ◌≤◌, length, drop, true};
+ghost use Rattle.std.specs.Prelude.{◌≡◌, ◌≤◌, ◌↔◌, [], All, IsTrue, length, drop, true};
 ghost use Rattle.disk_log.specs.Logs.{has_head, head_sum, log_reading};
 ghost use Rattle.disk_log.specs.Reading.{ReadsLog, ReadsPlaced};
 ghost use Rattle.disk_log.specs.Records.{begins_checkpoint, kind_in, record_len};
 
 use crate::checkpoint::{image_sum, put_blocks};
-use crate::head::{LOG_HEAD_LEN, is_unbegun, read_log_head};
+use crate::head::{LOG_HEAD_LEN, is_unbegun, is_zero, read_log_head};
 use crate::record::{RECORD_HEAD_LEN, Sum, body_len, number_at, read_head, read_record, read_sum};
 
 /// What a log holds that belongs to its image.
 #[derive(Clone, Copy, Debug, PartialEq, Eq, Drop)]
 pub enum Found {
-    /// Nothing: it was never begun, as where a start or the end of a checkpoint was killed.
+    /// Nothing: it was never begun, as where a start or the end of a checkpoint was killed, or
+    /// nothing but zeros follows its head.
     Nothing,
     /// A head and changes: so many first bytes, and the sum of the last of them.
     Records { len: usize, sum: Sum },
@@ -61,6 +62,9 @@ fn read_begun(sectors: u32, own: Sum, image: &mut [u8], log: &[u8]) -> Result<Fo
     if is_checkpoint(end.sum, &log[at..]) {
         return read_placed(image, &log[at..], at);
     }
+    if is_bare(end.len, &log[LOG_HEAD_LEN..]) {
+        return Ok(Found::Nothing);
+    }
     if image_sum(image) != own {
         return Err(Refusal::Another);
     }
@@ -68,6 +72,13 @@ fn read_begun(sectors: u32, own: Sum, image: &mut [u8], log: &[u8]) -> Result<Fo
         len: at,
         sum: end.sum,
     })
+}
+
+/// Whether there are no changes, of so many bytes, and nothing but zeros in their place.
+fn is_bare(len: usize, rest: &[u8]) -> bool
+    ensures { IsTrue result ↔ (len ≡ 0) × All (λ byte. byte ≡ 0) rest.now }
+{
+    len == 0 && is_zero(rest)
 }
 
 /// Places the blocks of a checkpoint, which is behind so many bytes of the log.
@@ -90,6 +101,7 @@ fn read_placed(image: &mut [u8], checkpoint: &[u8], at: usize) -> Result<Found, 
 fn read_changes(sectors: u32, before: Sum, log: &[u8]) -> End
     ensures low { result.len ≤ length log.now }
     ensures rest { drop result.len log.now ≡ (log_reading sectors before log.now).rest }
+    ensures none { result.len ≡ 0 ↔ (log_reading sectors before log.now).changes ≡ [] }
     ensures sum { result.sum ≡ (log_reading sectors before log.now).sum }
 {
     let mut len = 0;

@@ -5,7 +5,7 @@ ghost use Rattle.std.specs.Prelude.{if◌then◌else◌};
 ghost use Rattle.byteorder.specs.Endian.{little_from};
 ghost use Rattle.sqlite_wal.specs.Format.{checksum};
 ghost use Rattle.disk_log.specs.Records.{begins_record, count_in, first_in, head_in, kind_in};
-ghost use Rattle.disk_log.specs.Records.{body_len, is_whole, sum_at, sum_in, sum_over};
+ghost use Rattle.disk_log.specs.Records.{body_len, is_whole, record_len, sum_at, sum_in, sum_over};
 
 use byteorder::{ByteOrder, LittleEndian};
 use sqlite_wal::checksum_of;
@@ -81,6 +81,14 @@ pub(crate) fn body_len(log: &[u8]) -> usize
         2 => 8 + 4104 * number_at(log, 8) as usize,
         _ => 0,
     }
+}
+
+/// The length of the record that these bytes begin with, by its head.
+pub fn record_len(log: &[u8]) -> usize
+    requires { 12 ≤ length log.now }
+    ensures { result ≡ record_len log.now }
+{
+    RECORD_HEAD_LEN + body_len(log)
 }
 
 /// The sum over a record behind one with the sum `before`.

@@ -5,6 +5,7 @@ ghost use Rattle.disk_log.specs.Files.{OfFiles};
 ghost use Rattle.disk_log.specs.Reading.{IsBlankOn, IsPlacedOn, IsRead, ReadsLog, TakesUp};
 ghost use Rattle.disk_log.specs.Records.{count_in};
 
+use crate::checkpoint::image_sum;
 use crate::file::ImageFiles;
 use crate::placing::{begin_log, place_blocks};
 use crate::reading::Found;
@@ -13,8 +14,8 @@ use std::io;
 
 /// Makes a log that a start found ready for more: places the blocks of a checkpoint in the image
 /// and begins the log anew, cuts off what is behind its changes, or begins one. `image` has the
-/// bytes that the reading left, all of which are on the medium then. The sum is that on which the
-/// next record goes on. Where a call fails, the files hold what they did.
+/// bytes that the reading left, all of which are on the medium then, and so is all of the log. The
+/// sum is that on which the next record goes on. Where a call fails, the files hold what they did.
 pub fn take_up<F: ImageFiles>(
     files: &mut F,
     sectors: u32,
@@ -28,20 +29,21 @@ pub fn take_up<F: ImageFiles>(
     ensures { TakesUp (F.medium files.old) image.now result (F.medium files.new) }
 {
     match found {
-        Found::Nothing => take_blank(files, image),
+        Found::Nothing => begin_anew(files, image),
         Found::Records { len, sum } => take_records(files, sectors, image, log, len, sum),
         Found::Checkpoint { at } => take_checkpoint(files, image, &log[at..]),
     }
 }
 
-/// Begins a log that was never begun.
-fn take_blank<F: ImageFiles>(files: &mut F, image: &[u8]) -> io::Result<Sum>
+/// Begins a log anew that says nothing, beside an image with these bytes: the sum on which its
+/// first record goes on. All of both files is on the medium then.
+pub fn begin_anew<F: ImageFiles>(files: &mut F, image: &[u8]) -> io::Result<Sum>
     requires { OfFiles (F.medium files.old) (λ m. IsBlankOn image.now m) }
     ensures { TakesUp (F.medium files.old) image.now result (F.medium files.new) }
 {
     files.sync_image()?;
     files.cut_log(0)?;
-    begin_log(files, image)
+    begin_log(files, image_sum(image), image)
 }
 
 /// Cuts off what is behind the changes of a log.
@@ -71,5 +73,5 @@ fn take_checkpoint<F: ImageFiles>(files: &mut F, image: &[u8], checkpoint: &[u8]
     let count = number_at(checkpoint, 8) as usize;
     files.sync_log()?;
     place_blocks(files, image.len(), count, &checkpoint[24..])?;
-    begin_log(files, image)
+    begin_log(files, image_sum(image), image)
 }

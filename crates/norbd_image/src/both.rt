@@ -1,27 +1,26 @@
 //! What an image and the log beside it hold, and the end of the log in the image.
 
-ghost use Rattle.std.specs.Prelude.{◌≡◌, ◌<◌, ◌⊎◌, ◌↔◌, All, IfOk, IsTrue, None, length, take};
+ghost use Rattle.std.specs.Prelude.{◌≡◌, ◌<◌, ◌*◌, ◌/◌, IfErr, IfOk, length, true};
 ghost use Rattle.block_device.specs.Facts.{IsDiskReady};
 ghost use Rattle.chip_model.specs.Geometry.{IsChipSize, sector_count};
+ghost use Rattle.disk_log.specs.Files.{OfFiles};
+ghost use Rattle.disk_log.specs.Logged.{IsOfDisk};
 ghost use Rattle.disk_log.specs.Logs.{contents_in};
 ghost use Rattle.flash_disk.specs.Contents.{contents_of};
-ghost use Rattle.norbd_image.specs.Both.{IsOwn, log_name, with_changes};
+ghost use Rattle.norbd_image.specs.Both.{IsOnFiles, IsOwn, IsRefusedFor, ReplayFails, SaysSo};
+ghost use Rattle.norbd_image.specs.Both.{SettlesLog, TellsRefusal, with_changes};
 
 use crate::memory::MemoryDisk;
 use block_device::Disk;
 use chip_model::Geometry;
 use chip_simulator::PromptChip;
 use disk_log::{
-    Found, ImageFiles, LOG_HEAD_LEN, LoggedDisk, Refusal, Sum, read_log, replay, take_up,
+    Found, ImageFiles, LoggedDisk, Refusal, Sum, read_log, record_len, replay, take_up,
 };
 use flash_disk::{FlashDisk, MountError};
-use std::alloc::{AllocError, Global};
-use std::io;
+use std::alloc::Global;
 use std::marker::Brand;
 use std::sync::ledger::{Blank, Ledger};
-
-/// What a log begins with.
-const LOG_NAME: &[u8; 8] = b"NORBDLOG";
 
 /// Why it can't be told what an image and its log hold, or why the log isn't ended.
 #[derive(Clone, Copy, Debug, PartialEq, Eq, Drop)]
@@ -38,27 +37,6 @@ pub enum LogError {
     NotClean,
     /// A call of one of the two files failed, or the chip lost its power.
     Failed,
-}
-
-impl From<AllocError> for LogError {
-    ghost use Rattle.std.specs.Prelude.{◌≡◌};
-    ghost use Rattle.norbd_image.specs.declared.both.LogError.TheVariants.{OutOfMemory};
-
-    ghost from_gives = { λ _ e. e ≡ OutOfMemory };
-
-    fn from(_: AllocError) -> Self {
-        LogError::OutOfMemory
-    }
-}
-
-/// Whether bytes that are no longer than a log's head may be one: of zeros, or a beginning of one
-/// that a kill left.
-fn may_be_head(log: &[u8]) -> bool
-    ensures { IsTrue result ↔ All (λ byte. byte ≡ 0) log.now
-        ⊎ (take 8 log.now ≡ take (length log.now) log_name) }
-{
-    let named = log.len().min(LOG_NAME.len());
-    log.iter().all(|&byte| byte == 0) || log[..named] == LOG_NAME[..named]
 }
 
 /// How many sectors a chip of so many bytes has.
@@ -84,6 +62,11 @@ fn replayed(
         (contents_of image.items)) }
     ensures ready { IfOk result (λ disk.
         IsDiskReady (⟦<FlashDisk<PromptChip, Brand> as Disk>⟧.facts disk)) }
+    ensures sound { IfOk result (λ disk.
+        (⟦<FlashDisk<PromptChip, Brand> as Disk>⟧.facts disk).sound ≡ true) }
+    ensures size { IfOk result (λ disk. length (⟦<FlashDisk<PromptChip, Brand> as Disk>⟧.facts
+        disk).contents ≡ 512 * sector_count (length image.items)) }
+    ensures refused { IfErr result (ReplayFails image.items) }
 {
     let Ok(chip) = PromptChip::new(image) else {
         unreachable!()
@@ -104,78 +87,113 @@ fn replayed(
 }
 
 /// Why a log isn't taken.
-fn told_of_refusal(refusal: Refusal) -> LogError {
+fn told_of_refusal(refusal: Refusal) -> LogError
+    ensures { TellsRefusal refusal result }
+{
     match refusal {
         Refusal::Foreign => LogError::Foreign,
         Refusal::Another => LogError::Another,
     }
 }
 
-/// The bytes of the chip that an image and the log beside it hold: the disk that they represent is
-/// that of the image, with the changes of the log. One that has none is nobody's.
-pub fn chip_in(alloc: Global, image: Vec<u8>, log: &[u8]) -> Result<Vec<u8>, LogError>
+/// The chip that an image and the log beside it hold: its bytes, and how many bytes of the log say
+/// something, with its head; 0 where none does.
+#[derive(Drop)]
+pub struct Joined {
+    pub bytes: Vec<u8>,
+    pub log_len: usize,
+}
+
+/// The chip that an image and the log beside it hold: the disk that its bytes represent is that of
+/// the image, with the changes of the log. A log that says nothing is nobody's.
+pub fn chip_in(alloc: Global, image: Vec<u8>, log: &[u8]) -> Result<Joined, LogError>
     requires size { IsChipSize (length image.items) }
-    ensures size { IfOk result (λ chip. IsChipSize (length chip.items)) }
-    ensures holds { IfOk result (λ chip. contents_of chip.items
+    ensures size { IfOk result (λ both. IsChipSize (length both.bytes.items)) }
+    ensures holds { IfOk result (λ both. contents_of both.bytes.items
         ≡ contents_in contents_of (sector_count (length image.items)) image.items log.now) }
     ensures own { IfOk result (λ _.
         IsOwn (sector_count (length image.items)) image.items log.now) }
+    ensures len { IfOk result (λ both.
+        SaysSo (sector_count (length image.items)) log.now both.log_len) }
+    ensures refused { IfErr result (λ e.
+        IsRefusedFor (sector_count (length image.items)) image.items log.now e) }
 {
-    if log.len() <= LOG_HEAD_LEN {
-        return if may_be_head(log) {
-            Ok(image)
-        } else {
-            Err(LogError::Foreign)
-        };
-    }
     let mut image = image;
     match read_log(sectors_of(image.as_slice()), image.as_mut_slice(), log) {
-        Ok(Found::Nothing) => Ok(image),
-        Ok(Found::Checkpoint { .. }) => Ok(image),
-        Ok(Found::Records { .. }) => Ok(replayed(alloc, image, log)?.into_inner().into_inner()),
+        Ok(Found::Nothing) => Ok(Joined {
+            bytes: image,
+            log_len: 0,
+        }),
+        Ok(Found::Checkpoint { at }) => Ok(Joined {
+            bytes: image,
+            log_len: at + record_len(&log[at..]),
+        }),
+        Ok(Found::Records { len, .. }) => match replayed(alloc, image, log) {
+            Ok(disk) => Ok(Joined {
+                bytes: disk.into_inner().into_inner(),
+                log_len: len,
+            }),
+            Err(error) => Err(error),
+        },
         Err(refusal) => Err(told_of_refusal(refusal)),
     }
 }
 
-/// Writes what the log beside an image has into the image, and begins the log anew.
+/// Writes what the log beside an image has into the image, and begins the log anew; where it has
+/// nothing, both stay as they are. The files come back.
 pub fn settle_log<F: ImageFiles + Drop>(
     alloc: Global,
     files: F,
     image: Vec<u8>,
     log: &[u8],
-) -> Result<(), LogError>
+) -> (F, Result<(), LogError>)
     requires size { IsChipSize (length image.items) }
-    requires files { F.medium files ≡ None }
+    requires files { OfFiles (F.medium files) (λ m.
+        IsOnFiles (sector_count (length image.items)) image.items log.now m) }
+    ensures { SettlesLog (F.medium files) result.1 (F.medium result.0) }
 {
-    if log.len() <= LOG_HEAD_LEN {
-        return if may_be_head(log) {
-            Ok(())
-        } else {
-            Err(LogError::Foreign)
-        };
-    }
     let (mut files, mut image) = (files, image);
     let sectors = sectors_of(image.as_slice());
     let found = match read_log(sectors, image.as_mut_slice(), log) {
+        Ok(Found::Nothing) => return (files, Ok(())),
         Ok(found) => found,
-        Err(refusal) => return Err(told_of_refusal(refusal)),
+        Err(refusal) => return (files, Err(told_of_refusal(refusal))),
     };
-    if let Found::Records { len, .. } = found {
-        // what is behind the records goes first
-        if len < log.len() && files.cut_log(len).is_err() {
-            return Err(LogError::Failed);
-        }
-    }
     let Ok(sum) = take_up(&mut files, sectors, image.as_slice(), log, found) else {
-        return Err(LogError::Failed);
+        return (files, Err(LogError::Failed));
     };
     match found {
-        Found::Records { .. } => {}
-        _ => return Ok(()),
+        Found::Records { .. } => settle_records(alloc, files, image, sum, log),
+        Found::Checkpoint { .. } => (files, Ok(())),
+        Found::Nothing => (files, Ok(())),
     }
-    let copy = image.as_slice().to_vec(alloc)?;
-    let disk = MemoryDisk::new(replayed(alloc, copy, log)?);
-    settle_disk::<_, Brand>(alloc, disk, files, image, sum, Blank::new(1))
+}
+
+/// Settles a log of these changes, which was taken up on an image with these bytes, and whose last
+/// record has the sum `sum`.
+fn settle_records<F: ImageFiles + Drop>(
+    alloc: Global,
+    files: F,
+    image: Vec<u8>,
+    sum: Sum,
+    log: &[u8],
+) -> (F, Result<(), LogError>)
+    requires size { IsChipSize (length image.items) }
+    requires files { OfFiles (F.medium files) (λ m. IsOfDisk contents_of
+        (sector_count (length image.items)) (with_changes (sector_count (length image.items))
+        log.now (contents_of image.items)) image.items sum m) }
+    ensures { SettlesLog (F.medium files) result.1 (F.medium result.0) }
+{
+    let Ok(copy) = image.as_slice().to_vec(alloc) else {
+        return (files, Err(LogError::OutOfMemory));
+    };
+    match replayed(alloc, copy, log) {
+        Ok(disk) => {
+            let disk = MemoryDisk::new(disk);
+            settle_disk::<_, Brand>(alloc, disk, files, image, sum, Blank::new(1))
+        }
+        Err(error) => (files, Err(error)),
+    }
 }
 
 /// A disk on a chip in memory.
@@ -189,24 +207,21 @@ fn settle_disk<F: ImageFiles + Drop, L: Ledger>(
     image: Vec<u8>,
     sum: Sum,
     blank: Blank,
-) -> Result<(), LogError>
+) -> (F, Result<(), LogError>)
     requires name { (blank.name ≡ L.name) × (blank.parts ≡ L.parts) × (0 < L.parts) }
     requires ready { IsDiskReady (⟦<InMemory as Disk>⟧.facts disk) }
+    requires sound { (⟦<InMemory as Disk>⟧.facts disk).sound ≡ true }
     requires size { IsChipSize (length image.items) }
-    requires files { F.medium files ≡ None }
+    requires files { OfFiles (F.medium files) (λ m. IsOfDisk contents_of
+        (length (⟦<InMemory as Disk>⟧.facts disk).contents / 512)
+        (⟦<InMemory as Disk>⟧.facts disk).contents image.items sum m) }
+    ensures { SettlesLog (F.medium files) result.1 (F.medium result.0) }
 {
     let mut logged = LoggedDisk::<_, _, L>::new(alloc, disk, files, image, sum, blank);
-    match logged.settle() {
+    let settled = match logged.settle() {
         Ok(()) => Ok(()),
         Err(_) => Err(LogError::Failed),
-    }
-}
-
-/// Begins the empty log of an image with these bytes: the sum on which its first record goes on.
-pub fn begin_log<F: ImageFiles>(files: &mut F, image: &[u8]) -> io::Result<Sum>
-    requires size { IsChipSize (length image.now) }
-    requires files { F.medium files.old ≡ None }
-    ensures { F.medium files.new ≡ None }
-{
-    take_up(files, sectors_of(image), image, &[], Found::Nothing)
+    };
+    let (_, files) = logged.into_parts();
+    (files, settled)
 }

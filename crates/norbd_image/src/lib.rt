@@ -28,8 +28,7 @@ mod mended;
 mod owner;
 
 pub use beside::{FileImages, LogHandle, log_beside, log_bytes, log_path, remove_log};
-pub use both::{LogError, begin_log, chip_in, settle_log};
-pub use disk_log::LOG_HEAD_LEN;
+pub use both::{Joined, LogError, chip_in, settle_log};
 pub use error::ImageError;
 pub use file::{rewrite_image, write_image};
 pub use formatted::formatted_image;

@@ -11,11 +11,17 @@ use test_kit::Dice;
 /// The bytes of a disk's sector, which is written as a whole or not.
 const PIECE_LEN: usize = 512;
 
-/// A change of a file: bytes at a place, or its end.
+/// The bytes of a log's head.
+const HEAD_LEN: usize = 16;
+
+/// By how many bytes of zeros the log grows beyond its end.
+const STEP_LEN: usize = 3_000;
+
+/// A change of a file: bytes at a place.
 #[derive(Drop)]
-enum Change {
-    Put { at: usize, bytes: Vec<u8> },
-    Cut(usize),
+struct Change {
+    at: usize,
+    bytes: Vec<u8>,
 }
 
 /// Puts bytes into a file, which grows where it ends before them.
@@ -56,22 +62,14 @@ impl Luck {
 impl Change {
     /// Makes the change of a file where it comes, or where `torn` is set those pieces that come.
     fn come(&self, file: &mut Vec<u8>, luck: &mut Luck, torn: bool) -> Result<(), AllocError> {
-        match self {
-            Change::Put { at, bytes } => {
-                let piece = if torn { PIECE_LEN } else { bytes.len().max(1) };
-                let mut place = *at;
-                for bytes in bytes.as_slice().chunks(piece) {
-                    if luck.comes() {
-                        put(file, place, bytes)?;
-                    }
-                    place = place.saturating_add(piece);
-                }
+        let Change { at, bytes } = self;
+        let piece = if torn { PIECE_LEN } else { bytes.len().max(1) };
+        let mut place = *at;
+        for bytes in bytes.as_slice().chunks(piece) {
+            if luck.comes() {
+                put(file, place, bytes)?;
             }
-            Change::Cut(len) => {
-                if luck.comes() {
-                    file.truncate(*len);
-                }
-            }
+            place = place.saturating_add(piece);
         }
         Ok(())
     }
@@ -98,14 +96,7 @@ impl Kept {
     /// Writes bytes.
     fn put(&mut self, at: usize, bytes: Vec<u8>) -> Result<(), AllocError> {
         put(&mut self.now, at, bytes.as_slice())?;
-        self.changes.push(Change::Put { at, bytes })?;
-        Ok(())
-    }
-
-    /// Ends the file.
-    fn cut(&mut self, len: usize) -> Result<(), AllocError> {
-        self.now.truncate(len);
-        self.changes.push(Change::Cut(len))?;
+        self.changes.push(Change { at, bytes })?;
         Ok(())
     }
 
@@ -223,7 +214,12 @@ impl Host {
             };
             let torn = k >= chosen && k % 2 == 0;
             let image = self.image.left(self.alloc, &mut luck, torn)?;
-            let log = self.log.left(self.alloc, &mut luck, torn)?;
+            let mut log = self.log.left(self.alloc, &mut luck, torn)?;
+            if k >= chosen {
+                // a file that has its new length and not its new bytes has any there
+                let from = log.len().saturating_sub(dice.below(600) as usize);
+                log.extend_from_within(from..log.len())?;
+            }
             self.left.push(Both { image, log })?;
         }
         Ok(())
@@ -240,11 +236,26 @@ impl Host {
         }
     }
 
-    /// Writes bytes into the log.
+    /// Writes bytes into the log, where zeros are behind them then.
     fn write_log(&mut self, at: usize, bytes: &[u8]) -> Result<bool, AllocError> {
+        let end = at.saturating_add(bytes.len());
+        if end > self.log.now.len() {
+            let zeros = vec![in self.alloc; 0u8; STEP_LEN]?;
+            self.log.put(end, zeros)?;
+        }
         let (len, succeeds) = self.call(bytes.len())?;
         let bytes = bytes[..len.min(bytes.len())].to_vec(self.alloc)?;
         self.log.put(at, bytes)?;
+        Ok(succeeds)
+    }
+
+    /// Puts zeros in place of the log's bytes from a place to another.
+    fn wipe_log(&mut self, from: usize, to: usize) -> Result<bool, AllocError> {
+        let (_, succeeds) = self.call(0)?;
+        if succeeds {
+            let zeros = vec![in self.alloc; 0u8; to.saturating_sub(from)]?;
+            self.log.put(from, zeros)?;
+        }
         Ok(succeeds)
     }
 
@@ -254,15 +265,6 @@ impl Host {
         let bytes = bytes[..len.min(bytes.len())].to_vec(self.alloc)?;
         self.image
             .put(IMAGE_BLOCK_LEN.saturating_mul(block as usize), bytes)?;
-        Ok(succeeds)
-    }
-
-    /// Ends the log after so many bytes.
-    fn cut_log(&mut self, len: usize) -> Result<bool, AllocError> {
-        let (_, succeeds) = self.call(0)?;
-        if succeeds {
-            self.log.cut(len)?;
-        }
         Ok(succeeds)
     }
 
@@ -352,7 +354,12 @@ impl<R: Wait> ImageFiles for HostFiles<'_, R> {
     }
 
     fn cut_log(&mut self, len: usize) -> io::Result<()> {
-        told(self.host.lock(self.rt).cut_log(len))?;
+        if len < self.end {
+            let first = len.saturating_add(HEAD_LEN).min(self.end);
+            told(self.host.lock(self.rt).wipe_log(len, first))?;
+            self.sync_log()?;
+            told(self.host.lock(self.rt).wipe_log(first, self.end))?;
+        }
         self.end = len;
         self.sync_log()
     }

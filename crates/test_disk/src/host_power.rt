@@ -12,9 +12,9 @@ use crate::writes::put;
 use block_device::{Disk, DiskError};
 use chip_model::is_chip_size;
 use chip_simulator::PromptChip;
-use disk_log::{LoggedDisk, Sum};
+use disk_log::{LoggedDisk, Sum, begin_anew};
 use flash_disk::FlashDisk;
-use norbd_image::{LogError, MemoryDisk, begin_log, chip_in, formatted_image, settle_log};
+use norbd_image::{LogError, MemoryDisk, chip_in, formatted_image, settle_log};
 use std::alloc::Global;
 use std::marker::Brand;
 use std::sync::ledger::{Blank, Ledger};
@@ -24,6 +24,16 @@ use test_kit::Dice;
 
 /// How many sectors the disk has.
 const SECTORS: u32 = 70;
+
+/// What a life does.
+#[derive(Clone, Copy)]
+enum Plan {
+    /// 24 steps of all kinds.
+    Mixed,
+    /// WRITEs of 4 KiB, more than the log of 64 KiB takes; the host may lose its power from one of
+    /// the last before it is full.
+    Fills,
+}
 
 /// Does a command.
 fn done<D: Disk>(disk: &mut D, command: Command) -> Result<Result<(), DiskError>, Fail> {
@@ -71,10 +81,10 @@ fn fills_in(alloc: Global, both: Both) -> Result<Fills, Fail> {
     if !is_chip_size(both.image.len() as u64) {
         return Err(Fail::new("the image has another size"));
     }
-    let Ok(bytes) = chip_in(alloc, both.image, both.log.as_slice()) else {
+    let Ok(joined) = chip_in(alloc, both.image, both.log.as_slice()) else {
         return Err(Fail::new("the files are refused"));
     };
-    let mut disk = mounted(alloc, bytes)?;
+    let mut disk = mounted(alloc, joined.bytes)?;
     if !disk.check()? || disk.sectors() != SECTORS {
         return Err(Fail::new("another disk"));
     }
@@ -89,7 +99,8 @@ fn settled<R: Wait + AllocGlobal>(rt: &R, host: &Mutex<Host>) -> Result<bool, Fa
     if !is_chip_size(image.len() as u64) {
         return Err(Fail::new("the image has another size"));
     }
-    match settle_log(rt.alloc(), HostFiles::new(rt, host), image, log.as_slice()) {
+    let (_, settled) = settle_log(rt.alloc(), HostFiles::new(rt, host), image, log.as_slice());
+    match settled {
         Ok(()) => Ok(true),
         Err(LogError::Failed) => Ok(false),
         Err(_) => Err(Fail::new("a start refuses the files")),
@@ -117,11 +128,12 @@ fn judge_losses<R: Wait + AllocGlobal>(
 /// A disk on a chip in memory.
 type InMemory = MemoryDisk<PromptChip, Brand>;
 
-/// A life of a server on the files of a host: it starts, and makes 24 steps, or fewer where a call
-/// fails.
+/// A life of a server on the files of a host: it starts, and makes the steps of a plan, or fewer
+/// where a call fails.
 fn live<R: Wait + AllocGlobal>(
     rt: &R,
     host: &Mutex<Host>,
+    plan: Plan,
     past: &mut Past,
     dice: &mut Dice,
 ) -> Result<(), Fail> {
@@ -136,11 +148,12 @@ fn live<R: Wait + AllocGlobal>(
         return Err(Fail::new("the image has another size"));
     }
     let mut files = HostFiles::new(rt, host);
-    let Ok(sum) = begin_log(&mut files, image.as_slice()) else {
+    let Ok(sum) = begin_anew(&mut files, image.as_slice()) else {
         return Ok(());
     };
     let disk = MemoryDisk::new(mounted(alloc, image.as_slice().to_vec(alloc)?)?);
-    serve::<_, Brand>(rt, host, disk, files, image, sum, Blank::new(1), past, dice)
+    let blank = Blank::new(1);
+    serve::<_, Brand>(rt, host, disk, files, image, sum, blank, plan, past, dice)
 }
 
 /// Makes the steps on a disk with its log; `L` names what is lost.
@@ -152,6 +165,7 @@ fn serve<R: Wait + AllocGlobal, L: Ledger>(
     image: Vec<u8>,
     sum: Sum,
     blank: Blank,
+    plan: Plan,
     past: &mut Past,
     dice: &mut Dice,
 ) -> Result<(), Fail>
@@ -160,8 +174,15 @@ fn serve<R: Wait + AllocGlobal, L: Ledger>(
     requires size { IsChipSize (length image.items) }
 {
     let mut logged = LoggedDisk::<_, _, L>::new(rt.alloc(), disk, files, image, sum, blank);
-    for number in 0..24u32 {
-        let goes_on = step(rt, host, &mut logged, number, past, dice)?;
+    let steps = match plan {
+        Plan::Mixed => 24u32,
+        Plan::Fills => 70,
+    };
+    for number in 0..steps {
+        let goes_on = match plan {
+            Plan::Mixed => step(rt, host, &mut logged, number, past, dice)?,
+            Plan::Fills => fill(rt, host, &mut logged, number, past, dice)?,
+        };
         judge_losses(rt, host, past)?;
         if !goes_on {
             break;
@@ -181,26 +202,57 @@ fn step<R: Wait + AllocGlobal, L: Ledger>(
     dice: &mut Dice,
 ) -> Result<bool, Fail> {
     match number % 8 {
-        3 => {
-            let flushes = disk.flush().is_ok() && HostFiles::flush(rt, host).is_ok();
-            judge_losses(rt, host, past)?;
-            if flushes {
-                past.flush()?;
-            }
-            Ok(flushes)
-        }
+        3 => flush(rt, host, disk, past),
         5 => Ok(disk.tidy().is_ok()),
         7 => Ok(disk.settle().is_ok()),
-        _ => {
-            let command = drawn(dice);
-            past.begin(command)?;
-            if done(disk, command)?.is_err() {
-                return Ok(false);
-            }
-            past.end(command);
-            Ok(true)
-        }
+        _ => make(disk, drawn(dice), past),
     }
+}
+
+/// The step with this number of a life that fills the log.
+fn fill<R: Wait + AllocGlobal, L: Ledger>(
+    rt: &R,
+    host: &Mutex<Host>,
+    disk: &mut LoggedDisk<InMemory, HostFiles<'_, R>, L>,
+    number: u32,
+    past: &mut Past,
+    dice: &mut Dice,
+) -> Result<bool, Fail> {
+    if number == 62 {
+        host.lock(rt).lose(11);
+        return flush(rt, host, disk, past);
+    }
+    let command = Command {
+        first: dice.below(62),
+        count: 8,
+        fill: dice.below(255).saturating_add(1) as u8,
+    };
+    make(disk, command, past)
+}
+
+/// A FLUSH. Whether no call failed.
+fn flush<R: Wait + AllocGlobal, L: Ledger>(
+    rt: &R,
+    host: &Mutex<Host>,
+    disk: &mut LoggedDisk<InMemory, HostFiles<'_, R>, L>,
+    past: &mut Past,
+) -> Result<bool, Fail> {
+    let flushes = disk.flush().is_ok() && HostFiles::flush(rt, host).is_ok();
+    judge_losses(rt, host, past)?;
+    if flushes {
+        past.flush()?;
+    }
+    Ok(flushes)
+}
+
+/// Makes a command. Whether no call failed.
+fn make<D: Disk>(disk: &mut D, command: Command, past: &mut Past) -> Result<bool, Fail> {
+    past.begin(command)?;
+    if done(disk, command)?.is_err() {
+        return Ok(false);
+    }
+    past.end(command);
+    Ok(true)
 }
 
 /// An image of a formatted chip, without a log.
@@ -225,7 +277,7 @@ fn outlive<R: Wait + AllocGlobal>(
     bytes: usize,
 ) -> Result<bool, Fail> {
     host.lock(rt).fail_in(behind, bytes);
-    live(rt, host, past, dice)?;
+    live(rt, host, Plan::Mixed, past, dice)?;
     let left = host.lock(rt).both()?;
     past.kill(fills_in(rt.alloc(), left)?)?;
     Ok(host.lock(rt).has_failed())
@@ -276,5 +328,20 @@ fn what_was_flushed_outlives_the_power_of_the_host(rt: HostRuntime) -> Result<()
         outlive(&rt, &host, &mut past, &mut dice, behind, bytes)?;
     }
     assert!(rt; past.losses > 10_000, "{} losses", past.losses);
+    Ok(())
+}
+
+#[test]
+fn a_log_that_is_full_is_settled_before_the_next_record(rt: HostRuntime) -> Result<(), Fail> {
+    let files = fresh(rt.alloc())?;
+    let host = Mutex::new(Host::new(rt.alloc(), &files)?);
+    let mut past = Past::new(rt.alloc())?;
+    live(&rt, &host, Plan::Fills, &mut past, &mut Dice::new(3))?;
+    let Both { image, log } = host.lock(&rt).both()?;
+    assert!(rt; image.as_slice() != files.image.as_slice());
+    let zeros = log.iter().rev().take_while(|byte| **byte == 0).count();
+    assert!(rt; log.len() - zeros < 65_536);
+    past.kill(fills_in(rt.alloc(), Both { image, log })?)?;
+    assert!(rt; past.losses > 100, "{} losses", past.losses);
     Ok(())
 }

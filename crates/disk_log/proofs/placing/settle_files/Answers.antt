@@ -1,4 +1,4 @@
-use Rattle.std.proofs.Common.{sym, subst}
+use Rattle.std.proofs.Common.{◌∙◌, sym, subst}
 use Rattle.disk_log.specs.Checkpoints.{IsCheckpointBody}
 use Rattle.disk_log.proofs.Settles.{settles, unsettled, logged-blocks, unplaced-settles, emptied-on, unbegun-settles}
 use Rattle.disk_log.proofs.placing.settle_files.Goals as goal
@@ -22,8 +22,13 @@ returns-in_err-place_blocks-clause-settles g c =
     unplaced-settles c.args.was.now c.args.is.now c.as_slice-body.result.now c.args.sum.now w _ _ _ _ _ _ _ c.from_residual-in_err-place_blocks.ensures.0 _ _ _ _
     c.requires.begun c.in_ok-log_checkpoint.ensures.logs c.in_err-place_blocks.ensures.empties
 
-pub begin_log-requires : goal.begin_log-requires
-begin_log-requires g c =
+pub begin_log-requires-clause-sum : goal.begin_log-requires-clause-sum
+begin_log-requires-clause-sum g c =
+    let w = subst (λ v. IsCheckpointBody c.args.was.now c.args.is.now v) (sym c.as_slice-body.ensures.value) c.in-Ok.ensures in
+    c.read_sum.ensures ∙ w.sum
+
+pub begin_log-requires-clause-empty : goal.begin_log-requires-clause-empty
+begin_log-requires-clause-empty g c =
     let w = subst (λ v. IsCheckpointBody c.args.was.now c.args.is.now v) (sym c.as_slice-body.ensures.value) c.in-Ok.ensures in
     emptied-on c.args.was.now c.args.is.now c.as_slice-body.result.now c.args.sum.now w _ _ _ _ _ _ c.requires.begun c.in_ok-log_checkpoint.ensures.logs c.in_ok-place_blocks.ensures.empties
 

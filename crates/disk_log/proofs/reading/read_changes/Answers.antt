@@ -36,4 +36,4 @@ pub returns : goal.returns
 returns c =
     let all = reads-all c.args.log.now c.args.sectors c.args.before c.loop-head.len c.loop-head.sum c.loop-head.invariant
     (none-of c.args.log.now c.args.sectors c.args.sectors c.loop-head.len c.loop-head.sum refl c.loop-head.invariant.low (sym c.read_record.ensures ∙ c.in_default.is)) in
-    record { low = all.low; rest = all.rest; sum = all.last }
+    record { low = all.low; rest = all.rest; none = all.none; sum = all.last }

@@ -14,8 +14,8 @@ pub returns-in_err-place_blocks : goal.returns-in_err-place_blocks
 returns-in_err-place_blocks g c =
     unplaced-err _ _ _ _ c.args.image.now _ _ _ c.from_residual-in_err-place_blocks.ensures.0 _ _ _ _ _ c.in_ok-sync_log.ensures c.in_err-place_blocks.ensures.empties
 
-pub begin_log-requires : goal.begin_log-requires
-begin_log-requires g c =
+pub begin_log-requires-clause-empty : goal.begin_log-requires-clause-empty
+begin_log-requires-clause-empty g c =
     let b = c.args.checkpoint.now in
     emptied-empty c.args.image.now b _ c.number_at-count.result c.number_at-count.ensures (ap (λ v. drop 8 v) (take_rest b 24) ∙ drop-drop 8 24 b)
     _ _ _ _ _ _ _ _ c.requires.placed c.in_ok-sync_log.ensures c.in_ok-place_blocks.ensures.empties

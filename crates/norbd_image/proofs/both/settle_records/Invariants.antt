@@ -1,4 +1,4 @@
-use Rattle.norbd_image.proofs.both.settle_log.Given as goal
+use Rattle.norbd_image.proofs.both.settle_records.Given as goal
 
 -- the ledger is that of the blank
 abbrev pub ghosts-settle_disk : goal.ghosts-settle_disk
