@@ -63,11 +63,13 @@ def wait_for(condition, within=PATIENCE, step=0.02):
 
 
 def status_of(pid, key):
-    """A number of a process's status, summed over its threads where they differ."""
+    """A number of a process's status, summed over its threads where they differ; one that has ended
+    meanwhile is left out."""
     total = 0
     for thread in os.listdir(f"/proc/{pid}/task"):
-        with open(f"/proc/{pid}/task/{thread}/status", encoding="ascii") as file:
-            total += int(re.search(rf"^{key}:\s+(\d+)", file.read(), re.M).group(1))
+        with contextlib.suppress(FileNotFoundError, ProcessLookupError):
+            with open(f"/proc/{pid}/task/{thread}/status", encoding="ascii") as file:
+                total += int(re.search(rf"^{key}:\s+(\d+)", file.read(), re.M).group(1))
     return total
 
 
@@ -264,9 +266,9 @@ class Case(unittest.TestCase):
         return json.loads(done.text)
 
     def log_size(self, name="a.img"):
-        """How many bytes the log beside an image has; 0 where there is none."""
+        """How many bytes the log beside an image has, without the zeros behind it; 0 where there is none."""
         try:
-            return os.path.getsize(self.path(f"{name}.log"))
+            return len(self.bytes_of(f"{name}.log").rstrip(b"\0"))
         except FileNotFoundError:
             return 0
 

@@ -2,6 +2,7 @@
 serprog-protocol.txt, version 1. Both fail where they are told to. And a client of that protocol."""
 import contextlib
 import os
+import queue
 import socket
 import termios
 import threading
@@ -47,6 +48,7 @@ class Chip:
         self.reads = []          # the address of each read
         self.spoil = None
         self.stays = 0           # bits of status register 1 that stay set
+        self.early = False       # whether a status write shows its bits while BUSY
 
     def begin(self, change):
         self.pending, self.left = change, self.polls
@@ -103,7 +105,8 @@ class Chip:
             return (self.id + b"\xFF" * count)[:count]
         elif code == 0x03:
             self.reads.append(at)
-            return bytes((self.memory[at:] + self.memory)[:count])
+            found = bytes(self.memory[at:at + count])
+            return found if len(found) == count else (found + self.memory)[:count]
         elif code == 0x5A:
             return bytes((self.sfdp[at % 256:] + self.sfdp * (count // 256 + 1))[:count])
         elif self.status[0] & 2:
@@ -111,6 +114,8 @@ class Chip:
                 self.status[0] &= ~2
             elif code == 0x01:
                 self.begin(lambda: self.write_status(sent[1]))
+                if self.early:
+                    self.status[0] = sent[1] & 0xFC | 3
             elif code == 0x02:
                 self.begin(lambda: self.program(at, sent[4:]))
             elif code == 0x20:
@@ -120,8 +125,20 @@ class Chip:
         return b"\xFF" * count
 
 
+class End(EOFError):
+    """The connection ends once these bytes are sent."""
+
+    def __init__(self, data=b""):
+        super().__init__()
+        self.data = data
+
+
 class Programmer:
-    """What a programmer answers to serprog's commands. Its fields are how it fails."""
+    """What a programmer answers to serprog's commands. Its fields are how it fails.
+
+    `within` may hold a function of a frame's code, called before the rest of its command is read,
+    `before` one called before the chip gets it, and `change` one of that code, or None of another
+    command, and of the answer: what it answers is sent. Each may wait, or raise End."""
 
     def __init__(self, chip):
         self.chip = chip
@@ -134,13 +151,29 @@ class Programmer:
         self.end_after = None               # so many commands, and then the connection ends
         self.silent_after = None            # so many commands, and then it answers nothing
         self.frames_to_end = None           # so many O_SPIOP, likewise
+        self.frames_to_silence = None       # so many O_SPIOP, and then it answers nothing
+        self.buffers = 0xFFFF               # what Q_SERBUF tells
+        self.pins = None                    # whether its pin drivers are on; None: it has none
+        self.clock = None                   # what was asked for in Hz
+        self.most_hz = 24_000_000           # what it sets at most
+        self.left = b""                     # an old answer, which the next connection gets first
+        self.within = self.before = self.change = self.code = None
 
     def offered(self):
         made = bytearray(32)
         for code in (0x00, 0x01, 0x02, 0x03, 0x04, 0x05, 0x08, 0x10, 0x11, 0x12, 0x13, 0x14):
             if code not in self.lacks:
                 made[code // 8] |= 1 << code % 8
+        if self.pins is not None:
+            made[2] |= 1 << 5
         return bytes(made)
+
+    def frame(self, sent, count):
+        """What the chip answers, or the pin that floats where no driver is on."""
+        self.code = sent[0]
+        if self.before:
+            self.before(sent[0])
+        return b"\xFF" * count if self.pins is False else self.chip.frame(sent, count)
 
     def answer(self, code, take):
         """The answer to a command; `take` gives the bytes that follow its code."""
@@ -149,10 +182,19 @@ class Programmer:
             return NAK
         if code == 0x13:
             sent, count = int.from_bytes(data[:3], "little"), int.from_bytes(data[3:6], "little")
-            return ACK + self.chip.frame(data[6:7] + take(sent - 1), count)
+            if self.within:
+                self.within(data[6])
+            return ACK + self.frame(data[6:7] + take(sent - 1), count)
+        if code == 0x14:
+            self.clock = int.from_bytes(data, "little")
+            data = min(self.clock, self.most_hz).to_bytes(4, "little")
+        if code == 0x15 and self.pins is not None:
+            self.pins = data != b"\0"
+            return ACK
         return {0x00: ACK, 0x01: ACK + self.version.to_bytes(2, "little"),
-                0x02: ACK + self.offered(), 0x03: ACK + self.name, 0x04: ACK + b"\xFF\xFF",
-                0x05: ACK + bytes([self.buses]), 0x08: ACK + self.sends.to_bytes(3, "little"),
+                0x02: ACK + self.offered(), 0x03: ACK + self.name,
+                0x04: ACK + self.buffers.to_bytes(2, "little"), 0x05: ACK + bytes([self.buses]),
+                0x08: ACK + self.sends.to_bytes(3, "little"),
                 0x10: self.sync, 0x11: ACK + self.receives.to_bytes(3, "little"), 0x12: ACK,
                 0x14: ACK + data}.get(code, NAK)
 
@@ -167,6 +209,8 @@ class Programmer:
                 data += piece
             return data
         with contextlib.suppress(EOFError, OSError):
+            left, self.left = self.left, b""
+            write(left)
             while True:
                 code = take(1)[0]
                 self.commands.append(code)
@@ -176,9 +220,19 @@ class Programmer:
                     self.frames_to_end -= 1
                     if self.frames_to_end < 0:
                         return
-                if self.silent_after is not None and len(self.commands) > self.silent_after:
+                if code == 0x13 and self.frames_to_silence is not None:
+                    self.frames_to_silence -= 1
+                if (self.silent_after is not None and len(self.commands) > self.silent_after
+                        or self.frames_to_silence is not None and self.frames_to_silence < 0):
                     continue
-                write(self.answer(code, take))
+                try:
+                    answer = self.answer(code, take)
+                    if self.change:
+                        answer = self.change(self.code if code == 0x13 else None, answer)
+                except End as end:
+                    write(end.data)
+                    raise
+                write(answer)
 
 
 class TcpPeer:
@@ -209,6 +263,8 @@ class TcpPeer:
 
     def close(self):
         """Ends the thread, and then closes the port."""
+        if self.listener.fileno() == -1:
+            return
         self.listener.shutdown(socket.SHUT_RDWR)
         if self.open:
             self.pull()
@@ -216,15 +272,53 @@ class TcpPeer:
         self.listener.close()
 
 
+class LatePeer(TcpPeer):
+    """A TcpPeer on a long line: what it sends arrives so many seconds later, and each byte has as
+    long a way, however many are on it. It counts round trips: a command that comes before all
+    answers have arrived is of the same one as the last."""
+
+    def __init__(self, case, programmer, seconds):
+        self.seconds = seconds
+        self.trips = self.under_way = 0
+        self.lock = threading.Lock()
+        serve = programmer.serve
+        programmer.serve = lambda read, write: self.delayed(serve, read, write)
+        super().__init__(case, programmer)
+
+    def delayed(self, serve, read, write):
+        line = queue.Queue()
+
+        def deliver():
+            with contextlib.suppress(OSError):
+                for due, data in iter(line.get, None):
+                    time.sleep(max(0.0, due - time.monotonic()))
+                    with self.lock:
+                        self.under_way -= 1
+                    write(data)
+
+        def put(data):
+            if not data:
+                return
+            with self.lock:
+                self.trips += self.under_way == 0
+                self.under_way += 1
+            line.put((time.monotonic() + self.seconds, data))
+        thread = threading.Thread(target=deliver, daemon=True)
+        thread.start()
+        serve(read, put)
+        line.put(None)
+        thread.join()
+
+
 class SerialPeer:
     """The programmer at a pseudo terminal, whose settings are those of docs/REAL-CHIP.md."""
 
-    def __init__(self, case, programmer, patience=100):
+    def __init__(self, case, programmer, patience=1):
         self.ours, self.theirs = os.openpty()
         self.path = os.ttyname(self.theirs)
         tty.setraw(self.theirs)
         settings = termios.tcgetattr(self.theirs)
-        settings[6][termios.VMIN], settings[6][termios.VTIME] = 0, patience
+        settings[6][termios.VMIN], settings[6][termios.VTIME] = 0, patience  # in tenths of a second
         termios.tcsetattr(self.theirs, termios.TCSANOW, settings)
         self.programmer = programmer
         self.closed = False

@@ -395,5 +395,74 @@ class Pictures(kit.Case):
                 self.assertEqual(text, self.norbd("show", "a.img").decode())
 
 
+class Against(kit.Case):
+    """An image beside an older copy of it."""
+
+    def test_which_sectors_differ(self):
+        """`check --against` names the sectors that were written since, and no others."""
+        self.format()
+        self.norbd("write", "a.img", data=b"".join(nbd.sector(it) for it in range(70)))
+        self.put("old.img", self.bytes_of("a.img"))
+        text = self.norbd("check", "a.img", "--against", "old.img").decode()
+        self.assertTrue(text.endswith("\nno sector differs from old.img\nclean 70 sectors\n"), text)
+        lines = self.norbd("check", "a.img", "--against", "old.img", "--json").decode().splitlines()
+        self.assertEqual(json.loads(lines[1]), {"version": 1, "differing": []})
+        for first, end in ((3, 4), (7, 10), (69, 70)):
+            self.norbd("write", "a.img", "--sectors", f"{first}:{end}",
+                       data=b"\x5A" * 512 * (end - first))
+        fault = "norbd: image failed: a.img: 5 of its sectors differ\n"
+        done = self.run_norbd("check", "a.img", "--against", "old.img")
+        self.assertEqual((done.status, done.fault), (1, fault))
+        self.assertTrue(done.text.endswith("\ndiffer from old.img: sectors 3, 7 to 9, 69\n"), done.text)
+        done = self.run_norbd("check", "a.img", "--json", "--against", "old.img")
+        self.assertEqual((done.status, done.fault), (1, fault))
+        self.assertEqual(json.loads(done.text.splitlines()[1]),
+                         {"version": 1, "differing": [[3, 3], [7, 9], [69, 69]]})
+
+    def test_a_lost_charge(self):
+        """A bit of a sector that lost its charge is data to `check`, and not to a copy."""
+        image = kit.formatted()
+        kit.set_slot(image, 4, 0, 7, bytes(512))
+        kit.set_slot(image, 4, 1, 8, nbd.sector(8))
+        self.put("old.img", image)
+        image[0x4000 + 512 + 37] |= 1
+        self.put("a.img", image)
+        self.assertEqual(self.check()["verdict"], "clean")
+        done = self.run_norbd("check", "a.img", "--against", "old.img")
+        self.assertEqual(done.status, 1)
+        self.assertTrue(done.text.endswith("\ndiffer from old.img: sectors 7\n"), done.text)
+
+    def test_what_is_no_copy(self):
+        """A copy of another size, or one that can't be read or wouldn't be served, is refused, and
+        what is found of the image is told."""
+        self.format()
+        self.put("long.img", kit.formatted(128))
+        self.put("zeros.img", bytes(65536))
+        report = self.norbd("check", "a.img").decode().removesuffix("clean 70 sectors\n")
+        for copy, cause in (("long.img", "the older copy has another size"),) + tuple(
+                (copy, "the older copy can't be read or isn't clean: norbd check says why")
+                for copy in ("zeros.img", "missing.img")):
+            done = self.run_norbd("check", "a.img", "--against", copy)
+            self.assertEqual((done.status, done.fault, done.text),
+                             (1, f"norbd: image failed: a.img: {cause}\n", report))
+
+    def test_mended_and_compared(self):
+        """With `--mend` too, an image that isn't clean is mended, and then compared."""
+        image = kit.formatted()
+        kit.set_slot(image, 4, 0, 7, nbd.sector(7))
+        self.put("old.img", image)
+        for data, status, line in ((nbd.sector(7), 0, "no sector differs from old.img"),
+                                   (nbd.sector(8), 1, "differ from old.img: sectors 7")):
+            image = kit.formatted()
+            kit.set_slot(image, 4, 0, 7, data)
+            image[0xFFFF] = 0
+            self.put("a.img", image)
+            done = self.run_norbd("check", "a.img", "--mend", "--against", "old.img")
+            self.assertEqual(done.status, status)
+            self.assertTrue(done.text.endswith(f"\n{line}\nmended 70 sectors\n"), done.text)
+            self.assertEqual(self.check()["verdict"], "clean")
+            self.assertEqual(self.norbd("read", "a.img", "--sectors", "7:8"), data)
+
+
 if __name__ == "__main__":
     unittest.main()

@@ -4,13 +4,11 @@ import os
 import pty
 import socket
 import subprocess
-import threading
 import time
 import unittest
 
 import kit
 import nbd
-import serprog
 from nbd import EPERM, OK
 from serprog import Chip, Programmer, SerialPeer, TcpPeer
 
@@ -183,11 +181,11 @@ class Served(ChipCase):
         return peer.chip.frames[before:]
 
     def test_frames(self):
-        """Opening a chip of 64 KiB takes 22 frames, and a sector's write into a free slot 20: each
+        """Opening a chip of 64 KiB takes 24 frames, and a sector's write into a free slot 20: each
         of its four programs is read back, but with --trust, where 16 are enough."""
         peer = self.peer()
         self.chip_fails(peer, "a chip of 64 KiB", "format", "CHIP", "--kib", "128", "--yes")
-        self.assertEqual(len(peer.chip.frames), 22)
+        self.assertEqual(len(peer.chip.frames), 24)
         frames = self.frames_of_a_write()
         self.assertEqual((len(frames), frames.count(0x02), frames.count(0x03)), (20, 4, 4))
         frames = self.frames_of_a_write("--trust")
@@ -225,108 +223,73 @@ class Served(ChipCase):
         self.norbd("format", peer.place, "--kib", "64", "--yes")
         self.assertEqual((peer.chip.memory, peer.chip.status[0] & 0x1C), (kit.formatted(), 0))
 
+    def test_unprotected(self):
+        """`unprotect` clears bits 2 to 7 of status register 1 and keeps what is on the chip, with
+        --yes alone; where CMP or WPS is set it can't, and says so."""
+        memory = kit.formatted()
+        kit.set_slot(memory, 4, 0, 7, nbd.sector(7))
+        for bits in (0x04, 0x1C, 0x34, 0x44, 0x9C, 0xFC, 0x00):
+            peer = self.peer(memory)
+            peer.chip.status[0] = bits
+            self.chip_fails(peer, "--yes lifts its protection", "unprotect", "CHIP")
+            self.assertEqual(peer.programmer.commands, [])
+            done = self.run_norbd("check", peer.place)
+            if bits & 0x5C:
+                names = [name for k, name in enumerate(("BP0", "BP1", "BP2", "TB", "SEC", "SRP"))
+                         if bits >> 2 + k & 1]
+                self.assertEqual((done.status, done.fault), (1, f"norbd: protected: {peer.place}\n"))
+                self.assertIn(f"\nprotected: {' '.join(names)}: norbd unprotect --yes ends that, and "
+                              "keeps what is on the chip\n", done.text)
+            else:
+                self.assertEqual((done.status, done.fault), (0, ""))
+            self.assertEqual(self.norbd("unprotect", peer.place, "--yes"),
+                             b"nothing is protected\n")
+            self.assertEqual((peer.chip.memory, peer.chip.status), (memory, [0, 0, 0]))
+            self.assertEqual((peer.chip.programs, peer.chip.erases), (0, 0))
+            self.assertEqual(self.norbd("read", peer.place, "--sectors", "7:8"), nbd.sector(7))
+        for register, value in ((1, 0x40), (2, 0x04)):
+            peer = self.peer(memory)
+            peer.chip.status[register] = value
+            done = self.run_norbd("unprotect", peer.place, "--yes")
+            self.assertEqual((done.status, done.out), (1, b""))
+            self.assertIn("CMP or WPS is set", done.fault)
+        self.put("a.img", memory)
+        self.refused("chip failed: a.img: unprotect takes a chip behind a programmer", "unprotect",
+                     "a.img", "--yes")
+
 
 class Failing(ChipCase):
-    def lost(self, peer, cause, *words, ask=None, within=kit.PATIENCE):
-        """Serves the chip; a client's command meets its fault: no reply, and the server ends with
-        the cause, status 1."""
-        server = self.serve(peer.place, *words)
-        idle, client = server.client(), server.client()
-        self.assertEqual(client.write(1, nbd.sector(1)), OK)
-        peer.begin()
-        with self.assertRaises(nbd.Closed):
-            ask(client) if ask else client.write(2, nbd.sector(2))
-        self.assertTrue(idle.is_closed())
-        done = server.end(within)
-        self.assertEqual((done.status, done.text), (1, ""))
-        self.assertRegex(done.fault, rf"^norbd: chip failed: {peer.place}: {cause}\n$")
-        return done
-
-    def spoiled(self, spoil):
-        """A peer whose chip spoils its changes, once it is told to begin."""
+    def test_a_write_enable_that_stays(self):
+        """WEL that isn't cleared by 04h is found at the start."""
         peer = self.peer()
-        peer.begin = lambda: setattr(peer.chip, "spoil", spoil)
-        return peer
-
-    def test_a_program_that_is_forgotten(self):
-        """A program that the chip forgot is found before it is acknowledged, and told by its place
-        and its bytes."""
-        peer = self.spoiled(lambda kind, at, new, old: old)
-        done = self.lost(peer, r"the chip left the model at address 0x40\d\d, read 0xff, the model "
-                               r"allows 0x[0-9a-f]{2}")
-        self.assertNotIn("no thread", done.fault)
-
-    def test_a_bit_that_is_stuck(self):
-        """A bit that doesn't get its value is found before its write is acknowledged."""
-        def spoil(kind, at, new, old):
-            changed = bytearray(new)
-            if at % 4096 >= 512:
-                changed[7] |= 0x10
-            return changed
-        self.lost(self.spoiled(spoil), r"the chip left the model at address 0x[0-9a-f]+, "
-                                       r"read 0x[0-9a-f]{2}, the model allows 0x[0-9a-f]{2}",
-                  ask=lambda client: client.write(2, bytes(511) + b"\1"))
-
-    def test_another_page_that_changes(self):
-        """A chip that changes by itself is found when that place is read, at the latest by the next
-        command that reads it."""
-        peer = self.peer()
-
-        def begin():
-            at = peer.chip.memory.index(nbd.sector(1)[:64])
-            peer.chip.memory[at] ^= 1
-        peer.begin = begin
-        self.lost(peer, r"the chip left the model in a frame 0x03, byte 0 of its answer, "
-                        r"read 0x01, the model allows 0x00", ask=lambda client: client.read(1))
-
-    def test_status_registers(self):
-        """WEL that stays set and BUSY that never ends are found."""
-        peer = self.peer()
-        peer.begin = lambda: setattr(peer.chip, "stays", 2)
-        self.lost(peer, r"the chip left the model in a frame 0x05, byte 0 of its answer, "
-                        r"read 0x02, the model allows 0x00")
-        for bits, text in ((1, "0x03"), (2, "0x02")):
-            peer = self.peer()
-            peer.chip.status[0] = bits
-            if bits == 2:
-                peer.chip.frame = self.ignoring_04(peer.chip, peer.chip.frame)
-                self.chip_fails(peer, f"status register 1 is {text} though nothing is in progress",
-                                "check", "CHIP")
+        peer.chip.status[0] = 2
+        peer.chip.frame = self.ignoring_04(peer.chip, peer.chip.frame)
+        self.chip_fails(peer, "status register 1 is 0x02 though nothing is in progress", "check",
+                        "CHIP")
 
     def ignoring_04(self, chip, frame):
         """The frames of a chip that doesn't end its write enable."""
         return lambda sent, count: b"" if sent[0] == 0x04 else frame(sent, count)
 
     def test_chips_that_are_refused(self):
-        """Another id, another table, a scheme of protection: each is told, and nothing is
+        """Another id, another table, a scheme of protection: each line refuses it, and nothing is
         written."""
-        at_once = "chip failed: {}: "
-        scheme = at_once + "CMP or WPS is set in the status registers 2 and 3, "
-        for change, fault in (
-                (lambda chip: setattr(chip, "id", b"\xC2\x40\x10"), at_once + "the chip left the "
-                 "model in a frame 0x9f, byte 0 of its answer, read 0xc2, the model allows 0xef"),
-                (lambda chip: setattr(chip, "sfdp", b"\xFF" * 256), "bad sfdp: {}"),
-                (lambda chip: setattr(chip, "sfdp", serprog.table(32 << 20)), "bad sfdp: {}"),
-                (lambda chip: chip.status.__setitem__(1, 0x40), scheme + "0x40 and 0x00"),
-                (lambda chip: chip.status.__setitem__(2, 0x04), scheme + "0x00 and 0x04")):
+        for change, cause in (
+                (lambda chip: setattr(chip, "id", b"\xC2\x40\x10"), "id c2 40 10 isn't served: the "
+                 "W25Q128JV and smaller ones of its kind are, ef 40 10 to ef 40 18"),
+                (lambda chip: setattr(chip, "sfdp", b"\xFF" * 256), "its table (SFDP) is refused: "
+                 "the signature is not SFDP: ff ff ff ff at 0x00"),
+                (lambda chip: chip.status.__setitem__(1, 0x40), "CMP or WPS is set in the status "
+                 "registers 2 and 3, 0x40 and 0x00"),
+                (lambda chip: chip.status.__setitem__(2, 0x04), "CMP or WPS is set in the status "
+                 "registers 2 and 3, 0x00 and 0x04")):
             peer = self.peer()
             change(peer.chip)
-            for line in ("format {} --kib 64 --yes", "serve {} --unix a.sock",
-                         "serve {} --unix a.sock --read-only"):
-                if "read-only" not in line or "9f" not in fault:
-                    self.refused(fault.format(peer.place), *line.format(peer.place).split())
+            for line in ("format CHIP --kib 64 --yes", "serve CHIP --unix a.sock", "check CHIP",
+                         "serve CHIP --unix a.sock --read-only", "write CHIP"):
+                self.chip_fails(peer, cause, *line.split())
             self.assertEqual((peer.chip.memory, peer.chip.programs, peer.chip.erases),
                              (kit.formatted(), 0, 0))
-
-    def test_a_cable_that_is_pulled(self):
-        """A programmer that is gone ends the server at its next frame; started again it reads the
-        chip, which has all that was acknowledged."""
-        peer = self.peer()
-        peer.begin = peer.pull
-        self.lost(peer, r"no answer to a frame 0x[0-9a-f]{2}")
-        client = self.serve(peer.place).client()
-        self.assertEqual(client.read(1), nbd.sector(1))
-        self.assertIn(client.read(2), (bytes(512), nbd.sector(2)))
 
     def test_ends_between_each_two_frames(self):
         """Wherever the connection ends within a write, the write has no reply, the next start finds
@@ -350,8 +313,8 @@ class Failing(ChipCase):
             client.disc()
 
     def test_a_loss_of_the_chips_power(self):
-        """A program or an erase that a loss tore, at any bytes, leaves a chip that is served again
-        with every acknowledged sector."""
+        """A program or an erase that a loss tore, at any bytes, among WRITEs and TRIMs, leaves a
+        chip that is served again with every acknowledged sector."""
         chance, memory, held = kit.dice("torn"), kit.formatted(), {}
         for turn in range(14):
             peer = self.peer(memory)
@@ -368,7 +331,10 @@ class Failing(ChipCase):
                     return new
                 torn = (bytes(a & (b | chance.getrandbits(8)) for a, b in zip(old, new))
                         if kind == "program" else
-                        bytes(chance.getrandbits(8) for _ in range(16)) * (len(new) // 16))
+                        chance.choice((
+                            bytes(chance.getrandbits(8) for _ in range(16)) * (len(new) // 16),
+                            new[:len(new) // 2] + old[len(new) // 2:], bytes(len(new)),
+                            bytes(a | chance.getrandbits(8) for a in old))))
                 if left == 0:
                     peer.pull()
                     return torn
@@ -377,39 +343,16 @@ class Failing(ChipCase):
             try:
                 for step in range(400):
                     number = chance.randrange(70) if turn else step % 70
-                    data = nbd.sector(number, 1000 * turn + step)
+                    trims = turn and chance.randrange(5) == 0
+                    data = bytes(512) if trims else nbd.sector(number, 1000 * turn + step)
                     held[number] = held.get(number, [bytes(512)]) + [data]
-                    self.assertEqual(client.write(number, data), OK)
+                    self.assertEqual(client.trim(number) if trims else client.write(number, data),
+                                     OK)
                     held[number] = [data]
             except nbd.Closed:
                 pass
             server.kill()
             memory = peer.chip.memory
-
-    def test_a_programmer_that_says_nothing(self):
-        """A programmer that answers nothing for 10 seconds counts as lost, in the greeting and in a
-        frame, over TCP and by a serial device."""
-        came = {}
-
-        def silent(kind, where):
-            peer = self.peer(kind=kind)
-            peer.programmer.silent_after = where
-            began = time.monotonic()
-            done = self.run_norbd("check", peer.place)
-            came[kind.__name__, where] = (done.status, time.monotonic() - began,
-                                          done.fault.split(": ")[-1])
-        threads = [threading.Thread(target=silent, args=[kind, where])
-                   for kind in (TcpPeer, SerialPeer) for where in (0, 5, 12)]
-        for thread in threads:
-            thread.start()
-        for thread in threads:
-            thread.join()
-        for kind in ("TcpPeer", "SerialPeer"):
-            for where, words in ((0, "the connection ended\n"), (5, "the connection ended\n"),
-                                 (12, "no answer to a frame 0x")):
-                status, after, told = came[kind, where]
-                self.assertEqual((status, told[:len(words)]), (1, words), (kind, where))
-                self.assertTrue(9.5 < after < 20, (kind, where, after))
 
 
 class Greeting(ChipCase):
@@ -437,14 +380,14 @@ class Greeting(ChipCase):
         """One that just fits, tells no name, no limits and no buses, or sends the rest of an old
         answer first, is used."""
         for fields in (dict(sends=260, receives=4096), dict(lacks=(0x03, 0x05, 0x08, 0x11)),
-                       dict(buses=0x0F), dict(sync=b"\x15" + b"\x15\x06"),
-                       dict(sync=b"\x06" * 254 + b"\x15\x06"),
-                       dict(sync=b"\xFF" * 100 + b"\x15\x06")):
+                       dict(buses=0x0F), dict(lacks=(0x04, 0x14)), dict(buffers=0),
+                       dict(left=b"\x15"), dict(left=b"\x15\x06" * 3),
+                       dict(left=b"\x06" * 254), dict(left=b"\xFF" * 100)):
             peer = self.peer()
             for field, value in fields.items():
                 setattr(peer.programmer, field, value)
             self.assertIn(b"clean 70 sectors", self.norbd("check", peer.place))
-            self.assertEqual(peer.programmer.commands[0], 0x10)
+            self.assertEqual(peer.programmer.commands[:10], [0x00] * 8 + [0x10] * 2)
 
     def test_programmers_out_of_step(self):
         """One that doesn't answer SYNCNOP by NAK and ACK, as by ACK alone, is none."""
@@ -452,14 +395,17 @@ class Greeting(ChipCase):
             self.greeted("no serprog programmer answers", sync=sync)
 
     def test_its_order(self):
-        """First comes SYNCNOP, then the version, the commands, the bus, and no frame before
-        these."""
+        """First come NOPs and SYNCNOP, then the version, the commands, the bus, the clock, what it
+        is, and its pins, and no frame before these."""
         peer = self.peer()
-        self.norbd("check", peer.place)
-        commands = peer.programmer.commands
-        self.assertEqual(commands[:6], [0x10, 0x01, 0x02, 0x05, 0x12, 0x03])
-        self.assertEqual(set(commands[6:8]), {0x08, 0x11})
-        self.assertEqual(set(commands[8:]), {0x13})
+        peer.programmer.pins = False
+        self.assertEqual(self.run_norbd("check", peer.place, "--spi-hz", "1000000").status, 0)
+        commands = peer.programmer.commands[8:]
+        self.assertEqual(commands[:7], [0x10, 0x10, 0x01, 0x02, 0x05, 0x12, 0x14])
+        self.assertEqual(set(commands[7:11]), {0x03, 0x04, 0x08, 0x11})
+        self.assertEqual(commands[11], 0x15)
+        self.assertEqual(set(commands[12:-1]), {0x13})
+        self.assertEqual(commands[-1], 0x15)
 
 
 class Places(ChipCase):
@@ -488,8 +434,9 @@ class Places(ChipCase):
         """Files, folders and devices that are no programmer are refused, and left as they are."""
         self.put("a.img", kit.formatted())
         os.mkdir(self.path("d"))
+        self.refused("chip failed: serial:/dev/null: nothing came in 8 tries: is it a serprog "
+                     "programmer, does another client use it?", "check", "serial:/dev/null")
         for path, cause in (("a.img", "not a character device"), ("d", "is a directory"),
-                            ("/dev/null", "the connection ended"),
                             ("/dev/full", "the connection ended"),
                             ("/dev/zero", "no serprog programmer answers")):
             self.refused(f"chip failed: serial:{path}: {cause}", "check", f"serial:{path}")
@@ -512,12 +459,12 @@ class ShortWrites(ChipCase):
     def test_the_rest_of_a_short_write_is_sent(self):
         """Where the system takes one byte of a command alone the rest is sent, over TCP and by a
         serial device."""
-        for kind, call, when in ((TcpPeer, "sendmsg", 1), (SerialPeer, "write", 9)):
-            peer = self.peer(kind=kind)  # the 9th command is the first frame: a status read
+        for kind, call, when in ((TcpPeer, "sendmsg", 1), (SerialPeer, "write", 12)):
+            peer = self.peer(kind=kind)  # the 12th write is of the first frame, a read of the id
             self.put("strace.log", b"")
             process = self.start("check", peer.place, under=kit.traced(
                 "sendto,sendmsg,write,writev", "-e", f"inject={call}:retval=1:when={when}"))
-            command, sent = b"\x13\1\0\0\1\0\0\x05", []
+            command, sent = b"\x13\1\0\0\3\0\0\x9F", []
 
             def rest():
                 sent[:] = self.sent()

@@ -69,7 +69,7 @@ class Completions(kit.Case):
             self.wanted[f"norbd {command} 1"] = (
                 {"1.img"} if re.search("<(IMAGE|PATH)>\n", text) else set())
             for option in with_values:
-                values = ({"1.img"} if option in ("--unix", "--status")
+                values = ({"1.img"} if option in ("--unix", "--status", "--against")
                           else self.words_of(command, option))
                 self.wanted[f"norbd {command} {option} "] = values
                 self.wanted[f"norbd {command} {option}="] = values

@@ -6,8 +6,8 @@ import unittest
 
 import kit
 
-COMMANDS = ("plain", "format", "script", "serve", "status", "chip", "check", "show", "read", "write",
-            "rescue")
+COMMANDS = ("plain", "format", "script", "serve", "status", "chip", "check", "unprotect", "show",
+            "read", "write", "rescue")
 MAN = os.path.join(kit.ROOT, "docs/man/norbd.1")
 
 
@@ -34,11 +34,12 @@ class Help(kit.Case):
     def test_every_option_is_accepted_and_described(self):
         """Each command's help has these options, and no others."""
         wanted = {
-            "plain": "sectors no-record", "format": "kib force yes", "script": "kib",
+            "plain": "sectors no-record", "format": "kib force yes spi-hz", "script": "kib",
             "serve": "port bind unix conns record sync tidy max-request read-only verbose trust "
-                     "status",
-            "status": "json", "chip": "port conns", "check": "mend json", "show": "", "read": "sectors",
-            "write": "sectors", "rescue": ""}
+                     "status spi-hz",
+            "status": "json", "chip": "port conns", "check": "mend json against spi-hz",
+            "unprotect": "yes spi-hz", "show": "spi-hz", "read": "sectors spi-hz",
+            "write": "sectors spi-hz", "rescue": ""}
         for command, options in wanted.items():
             text = self.help_of(command).split("Options:")[-1]
             rows = set(re.findall(r"(?m)^\s+(?:-\w, |    )?--([a-z-]+)", text))

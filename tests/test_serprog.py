@@ -22,6 +22,9 @@ class ChipCase(kit.Case):
         size = os.path.getsize(self.path(name)) // 1024
         self.assertEqual(process.stdout.readline().decode(),
                          f"chip of {size} KiB on port {self.port}\n")
+        if size < 512 or size & size - 1:
+            self.assertEqual(process.stdout.readline().decode(),
+                             "flashrom reads its size by -c 'SFDP-capable chip' alone\n")
         return process
 
     def client(self):

@@ -13,21 +13,23 @@ _norbd() {
     case $before,$command,$word in
         --sync,*) words='flush always never' ;;
         --tidy,*) words='lazy eager' ;;
-        --port,* | --bind,* | --conns,* | --kib,* | --max-request,* | --sectors,*) ;;
-        --unix,* | --status,*) kind=-f ;;
+        --port,* | --bind,* | --conns,* | --kib,* | --max-request,* | --sectors,* | --spi-hz,*) ;;
+        --unix,* | --status,* | --against,*) kind=-f ;;
         *,,-*) words='--help --version -h -V' ;;
-        *,,* | *,help,*) words='chip plain format script serve status check show read
-            write rescue help' ;;
+        *,,* | *,help,*) words='chip plain format script serve status check unprotect show
+            read write rescue help' ;;
         *,chip,-*) words='--port --conns --help -h' ;;
         *,plain,-*) words='--sectors --no-record --help -h' ;;
-        *,format,-*) words='--kib --force --yes --help -h' ;;
+        *,format,-*) words='--kib --force --yes --spi-hz --help -h' ;;
         *,script,-*) words='--kib --help -h' ;;
         *,serve,-*) words='--port --bind --unix --conns --record --sync --tidy --max-request
-            --read-only --verbose --trust --status --help -v -h' ;;
+            --read-only --verbose --trust --status --spi-hz --help -v -h' ;;
         *,status,-*) words='--json --help -h' ;;
-        *,check,-*) words='--mend --json --help -h' ;;
-        *,show,-* | *,rescue,-*) words='--help -h' ;;
-        *,read,-* | *,write,-*) words='--sectors --help -h' ;;
+        *,check,-*) words='--mend --json --against --spi-hz --help -h' ;;
+        *,unprotect,-*) words='--yes --spi-hz --help -h' ;;
+        *,show,-*) words='--spi-hz --help -h' ;;
+        *,rescue,-*) words='--help -h' ;;
+        *,read,-* | *,write,-*) words='--sectors --spi-hz --help -h' ;;
         *,plain,* | *,script,*) ;;
         *) kind=-f ;;
     esac

@@ -1,4 +1,5 @@
 pub mod SimLaws
+pub mod AheadLaws
 pub mod SettlingLaws
 pub mod OverlayLaws
 pub mod SimulatorLaws

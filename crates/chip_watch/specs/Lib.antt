@@ -1,6 +1,8 @@
 pub use Rattle.chip_model.specs.Exchanges
 pub use Rattle.chip_simulator.specs.Sim
 pub mod Asking
+pub mod Ahead
+pub mod Told
 pub mod Changes
 pub mod Reading
 pub mod Settling

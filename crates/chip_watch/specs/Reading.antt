@@ -1,9 +1,10 @@
 -- READs of a chip, and what they show. Source: own; the frame is that of the datasheet of the
 -- W25Q128JV, "Read Data (03h)".
 use Rattle.std.specs.Prelude.{◌≡◌, ℕ, zero, suc, ◌+◌, ◌*◌, ◌/◌, ◌<◌, false, List, [], ◌∷◌, ◌++◌}
-use Rattle.std.specs.Prelude.{length, take, drop, Option}
+use Rattle.std.specs.Prelude.{length, take, drop, Option, None, Some}
 use Rattle.chip_model.specs.Memory.{byte}
 use Rattle.chip_model.specs.Exchanges.{Exchange, Exchanged}
+use Rattle.chip_model.specs.declared.programmer.Turn.{Turn}
 use Rattle.chip_watch.specs.Changes.{with_place, is_changing}
 use Rattle.chip_watch.specs.declared.change.Change.{Change}
 use Rattle.chip_watch.specs.declared.change.Change.TheVariants as makes
@@ -17,12 +18,28 @@ abbrev pub piece_reads : List ℕ → ℕ → ℕ → List Exchange
 piece_reads m at zero = []
 piece_reads m at (suc n) = piece_reads m at n ++ (read_of m (at + 4096 * n) 4096 ∷ [])
 
+-- these turns are READs of pieces of 4 KiB that follow one another, from the n-th on
+abbrev pub ArePieces : ℕ → List Turn → Type 0
+ArePieces n [] = Unit {0}
+ArePieces n (t ∷ ts) = (t.send.items ≡ with_place 3 (4096 * n)) × (length t.recv.items ≡ 4096)
+    × ArePieces (suc n) ts
+
+-- all bytes that turns received
+abbrev pub received_of : List Turn → List ℕ
+received_of [] = []
+received_of (t ∷ ts) = t.recv.items ++ received_of ts
+
 -- READs of all places that a change writes, answered by this memory
 abbrev pub change_reads : Change → List ℕ → List Exchange
 change_reads makes.None m = []
 change_reads (makes.Page at) m = read_of m at 256 ∷ []
 change_reads (makes.Unit at size) m = piece_reads m at (size / 4096)
 change_reads (makes.Status value) m = []
+
+-- the READ of a page that goes along with a frame, if one does, and these bytes are its answer
+abbrev pub reads_along : Option ℕ → List ℕ → List Exchange
+reads_along None bytes = []
+reads_along (Some at) bytes = record { sent = with_place 3 at; received = bytes } ∷ []
 
 -- what was received from a place on is what this memory has there, but for the places that a change
 -- writes

@@ -8,14 +8,15 @@ ghost use Rattle.chip_model.specs.Geometry.{IsChipSize};
 ghost use Rattle.chip_simulator.specs.Sim.{chip_of};
 ghost use Rattle.sfdp.specs.Params.{params_of};
 ghost use Rattle.chip_model.specs.Exchanges.{Exchange, Exchanged};
-ghost use Rattle.chip_watch.specs.Changes.{with_place};
 ghost use Rattle.chip_watch.specs.Opening.{Opens, RefusesAsRead};
 ghost use Rattle.chip_watch.specs.Reading.{piece_reads};
 ghost use Rattle.chip_watch.specs.Shadow.{IsCalm};
+ghost use Rattle.chip_watch.specs.Told.{frames_told};
 ghost use Rattle.chip_watch.specs.Watched.{shadow_chip};
 
-use crate::change::{Change, with_place};
+use crate::change::Change;
 use crate::departure::{Departure, OpenError};
+use crate::pieces::read_pieces;
 use crate::shadow::Shadow;
 use crate::simulator::set_protection;
 use crate::wire::Wire;
@@ -34,8 +35,8 @@ struct Registers {
 
 /// A status register.
 fn register<P: Programmer>(wire: &mut Wire<P>, code: u8) -> Result<u8, OpenError>
-    ensures read { IfOk result (λ b. Exchanged (P.exchanged wire.old.programmer)
-        (P.exchanged wire.new.programmer)
+    ensures read { IfOk result (λ b. Exchanged (frames_told P.exchanged wire.old)
+        (frames_told P.exchanged wire.new)
         (record { sent = code ∷ []; received = b ∷ [] } ∷ [])) }
     ensures refused { IfErr result RefusesAsRead }
 {
@@ -47,8 +48,8 @@ fn register<P: Programmer>(wire: &mut Wire<P>, code: u8) -> Result<u8, OpenError
 
 /// The three status registers of a chip at rest.
 fn read_registers<P: Programmer>(wire: &mut Wire<P>) -> Result<Registers, OpenError>
-    ensures read { IfOk result (λ r. Exchanged (P.exchanged wire.old.programmer)
-        (P.exchanged wire.new.programmer)
+    ensures read { IfOk result (λ r. Exchanged (frames_told P.exchanged wire.old)
+        (frames_told P.exchanged wire.new)
         (record { sent = 5 ∷ []; received = r.first ∷ [] }
         ∷ record { sent = 53 ∷ []; received = r.second ∷ [] }
         ∷ record { sent = 21 ∷ []; received = r.third ∷ [] } ∷ [])) }
@@ -75,8 +76,8 @@ fn read_registers<P: Programmer>(wire: &mut Wire<P>) -> Result<Registers, OpenEr
 
 /// The SFDP bytes.
 fn read_table<P: Programmer>(wire: &mut Wire<P>) -> Result<[u8; 256], OpenError>
-    ensures read { IfOk result (λ t. Exchanged (P.exchanged wire.old.programmer)
-        (P.exchanged wire.new.programmer)
+    ensures read { IfOk result (λ t. Exchanged (frames_told P.exchanged wire.old)
+        (frames_told P.exchanged wire.new)
         (record { sent = 90 ∷ 0 ∷ 0 ∷ 0 ∷ 0 ∷ []; received = t } ∷ [])) }
     ensures refused { IfErr result RefusesAsRead }
 {
@@ -101,27 +102,23 @@ fn size_in(table: &[u8]) -> Result<u32, SfdpError>
     Ok(size)
 }
 
-/// So many pieces of 4 KiB, from the first byte of the memory on.
+/// So many pieces of 4 KiB, from the first byte of the memory on, eight at a time.
 fn read_memory<P: Programmer>(
     alloc: Global,
     wire: &mut Wire<P>,
     pieces: u32,
 ) -> Result<Vec<u8>, OpenError>
+    requires whole { pieces % 8 ≡ 0 }
     ensures long { IfOk result (λ m. length m.items ≡ 4096 * pieces) }
-    ensures read { IfOk result (λ m. Exchanged (P.exchanged wire.old.programmer)
-        (P.exchanged wire.new.programmer) (piece_reads m.items 0 pieces)) }
+    ensures read { IfOk result (λ m. Exchanged (frames_told P.exchanged wire.old)
+        (frames_told P.exchanged wire.new) (piece_reads m.items 0 pieces)) }
     ensures refused { IfErr result RefusesAsRead }
 {
     let Ok(mut memory) = Vec::with_capacity(alloc, 4_096 * pieces as usize) else {
         return Err(OpenError::OutOfMemory);
     };
-    for piece in 0..pieces {
-        if !wire.hear(&with_place(0x03, 4_096 * piece as usize), 4_096) {
-            return Err(OpenError::NoAnswer(0x03));
-        }
-        let Ok(()) = memory.extend_from_slice(&wire.heard) else {
-            return Err(OpenError::OutOfMemory);
-        };
+    for batch in 0..pieces / 8 {
+        read_pieces(alloc, wire, &mut memory, 8 * batch, 8)?;
     }
     Ok(memory)
 }
@@ -167,8 +164,8 @@ pub fn open_shadow<P: Programmer>(alloc: Global, wire: &mut Wire<P>) -> Result<S
     ensures idle { IfOk result (λ s. (shadow_chip s).operation ≡ Idle) }
     ensures powered { IfOk result (λ s. (shadow_chip s).powered ≡ true) }
     ensures slows { IfOk result (λ s. s.slows ≡ 0) }
-    ensures read { IfOk result (λ s. Opens (shadow_chip s) (P.exchanged wire.old.programmer)
-        (P.exchanged wire.new.programmer)) }
+    ensures read { IfOk result (λ s. Opens (shadow_chip s) (frames_told P.exchanged wire.old)
+        (frames_told P.exchanged wire.new)) }
     ensures refused { IfErr result RefusesAsRead }
 {
     match wire.rest() {

@@ -1,7 +1,7 @@
 //! The chip's memory, read and compared with the one beside it.
 
 ghost use Rattle.std.specs.Prelude.{◌≡◌, ◌*◌, ◌/◌, ◌<◌, ◌≤◌, ◌^◌, [], ◌∷◌, ℕ, List, None, OnOk};
-ghost use Rattle.std.specs.Prelude.{length, true};
+ghost use Rattle.std.specs.Prelude.{◌⊎◌, IfSome, drop, length, take, true};
 ghost use Rattle.chip_model.specs.Exchanges.{Exchange, Exchanged};
 ghost use Rattle.chip_watch.specs.Changes.{with_place};
 ghost use Rattle.chip_watch.specs.Reading.{Agrees, Compared, change_reads, piece_reads, read_of};
@@ -57,12 +57,16 @@ pub fn first_difference(heard: &[u8], allowed: &[u8]) -> Mismatch {
 }
 
 impl<P: Programmer> Wire<P> {
+    ghost use Rattle.chip_watch.specs.Told.{frames_told};
+
     /// One READ, which the memory answers.
     fn shows(&mut self, memory: &[u8], at: usize, size: usize) -> Result<(), Departure>
         requires place { at < 2 ^ 60 }
+        requires some { 0 < size }
         requires size { size ≤ 4096 }
-        ensures { OnOk result (Exchanged (P.exchanged self.old.programmer)
-            (P.exchanged self.new.programmer) (read_of memory.now at size ∷ [])) }
+        ensures shown { OnOk result (Exchanged (frames_told P.exchanged self.old)
+            (frames_told P.exchanged self.new) (read_of memory.now at size ∷ [])) }
+        ensures sent { OnOk result (self.new.ahead.items ≡ []) }
     {
         let Some(part) = memory.get(at..at + size) else {
             return Err(Departure::NoAnswer(0x03));
@@ -81,8 +85,9 @@ impl<P: Programmer> Wire<P> {
 
     /// So many READs of 4 KiB that follow one another, which the memory answers.
     fn shows_pieces(&mut self, memory: &[u8], at: u32, count: u32) -> Result<(), Departure>
-        ensures { OnOk result (Exchanged (P.exchanged self.old.programmer)
-            (P.exchanged self.new.programmer) (piece_reads memory.now at count)) }
+        ensures shown { OnOk result (Exchanged (frames_told P.exchanged self.old)
+            (frames_told P.exchanged self.new) (piece_reads memory.now at count)) }
+        ensures sent { OnOk result (self.old.ahead.items ≡ [] → self.new.ahead.items ≡ []) }
     {
         for piece in 0..count {
             self.shows(memory, at as usize + 4_096 * piece as usize, 4_096)?;
@@ -92,8 +97,9 @@ impl<P: Programmer> Wire<P> {
 
     /// READs of all places that a change writes, which the memory answers.
     pub fn shows_change(&mut self, memory: &[u8], change: Change) -> Result<(), Departure>
-        ensures { OnOk result (Exchanged (P.exchanged self.old.programmer)
-            (P.exchanged self.new.programmer) (change_reads change memory.now)) }
+        ensures shown { OnOk result (Exchanged (frames_told P.exchanged self.old)
+            (frames_told P.exchanged self.new) (change_reads change memory.now)) }
+        ensures sent { OnOk result (self.old.ahead.items ≡ [] → self.new.ahead.items ≡ []) }
     {
         match change {
             Change::None => Ok(()),
@@ -103,11 +109,49 @@ impl<P: Programmer> Wire<P> {
         }
     }
 
+    /// The page that went along, which the memory has there, where its program has ended.
+    fn has_page(&self, memory: &[u8], at: usize) -> Result<(), Departure>
+        requires { at < 2 ^ 60 }
+        ensures { OnOk result (self.now.page.items ≡ take 256 (drop at memory.now)) }
+    {
+        let Some(page) = memory.get(at..at + 256) else {
+            return Err(Departure::NoAnswer(0x03));
+        };
+        if same(&self.page, page) {
+            return Ok(());
+        }
+        match difference(memory, Change::None, at, &self.page) {
+            Some(mismatch) => Err(Departure::Memory(mismatch)),
+            None => Err(Departure::NoAnswer(0x03)),
+        }
+    }
+
+    /// What a change that has ended wrote is on the chip: it was read along, or is read now.
+    pub fn has_written(
+        &mut self,
+        memory: &[u8],
+        ended: Change,
+        along: Option<u32>,
+    ) -> Result<(), Departure>
+        ensures shown { OnOk result (along ≡ None → Exchanged (frames_told P.exchanged self.old)
+            (frames_told P.exchanged self.new) (change_reads ended memory.now)) }
+        ensures along { OnOk result (IfSome along (λ at.
+            (frames_told P.exchanged self.new ≡ frames_told P.exchanged self.old)
+            × ((ended ≡ Change.None) ⊎ (self.old.page.items ≡ take 256 (drop at memory.now))))) }
+        ensures sent { OnOk result (self.old.ahead.items ≡ [] → self.new.ahead.items ≡ []) }
+    {
+        match (along, ended) {
+            (None, _) => self.shows_change(memory, ended),
+            (Some(_), Change::None) => Ok(()),
+            (Some(at), _) => self.has_page(memory, at as usize),
+        }
+    }
+
     /// One READ of 4 KiB, which the memory answers but for the places of a change.
     fn agrees(&mut self, memory: &[u8], change: Change, at: usize) -> Result<(), Departure>
         requires place { at < 2 ^ 60 }
         ensures { OnOk result ((received : List ℕ)
-            × Exchanged (P.exchanged self.old.programmer) (P.exchanged self.new.programmer)
+            × Exchanged (frames_told P.exchanged self.old) (frames_told P.exchanged self.new)
             (record { sent = with_place 3 at; received = received } ∷ [])
             × (length received ≡ 4096) × Agrees memory.now change at received) }
     {
@@ -124,7 +168,7 @@ impl<P: Programmer> Wire<P> {
     pub fn compares(&mut self, memory: &[u8], change: Change) -> Result<(), Departure>
         requires { length memory.now ≤ 16777216 }
         ensures { OnOk result (Compared memory.now change (length memory.now / 4096)
-            (P.exchanged self.old.programmer) (P.exchanged self.new.programmer)) }
+            (frames_told P.exchanged self.old) (frames_told P.exchanged self.new)) }
     {
         for piece in 0..memory.len() / 4_096 {
             self.agrees(memory, change, 4_096 * piece)?;

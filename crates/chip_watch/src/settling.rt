@@ -8,6 +8,7 @@ ghost use Rattle.chip_model.specs.Exchanges.{Exchange, Exchanged};
 ghost use Rattle.chip_watch.specs.Changes.{with_place};
 ghost use Rattle.chip_watch.specs.Settling.{Makes, Resumes, Rests, Steadies, register_reads};
 ghost use Rattle.chip_watch.specs.Settling.{table_read, sent_alone};
+ghost use Rattle.chip_watch.specs.Told.{frames_told};
 ghost use Rattle.chip_watch.specs.Watched.{shadow_chip};
 
 use crate::change::{Change, with_place};
@@ -40,9 +41,9 @@ impl<P: Programmer> Wire<P> {
     /// Write enable, the frame of a change, and its end.
     fn finishes(&mut self, frame: &[u8]) -> Result<(), Departure>
         ensures { OnOk result ((mid : Option (List Exchange))
-            × Exchanged (P.exchanged self.old.programmer) mid
+            × Exchanged (frames_told P.exchanged self.old) mid
             (sent_alone (6 ∷ []) ∷ sent_alone frame.now ∷ [])
-            × Rests mid (P.exchanged self.new.programmer)) }
+            × Rests mid (frames_told P.exchanged self.new)) }
     {
         if !self.hear(&[0x06], 0) {
             return Err(Departure::NoAnswer(0x06));
@@ -56,8 +57,8 @@ impl<P: Programmer> Wire<P> {
 
     /// Makes a change on the chip, whose outcome is in the memory.
     fn makes(&mut self, memory: &[u8], change: Change) -> Result<(), Departure>
-        ensures { OnOk result (Makes change memory.now (P.exchanged self.old.programmer)
-            (P.exchanged self.new.programmer)) }
+        ensures { OnOk result (Makes change memory.now (frames_told P.exchanged self.old)
+            (frames_told P.exchanged self.new)) }
     {
         match change {
             Change::None => Ok(()),
@@ -77,8 +78,8 @@ impl<P: Programmer> Wire<P> {
 
     /// One frame whose answer is one byte, this one.
     fn tells(&mut self, code: u8, allowed: u8) -> Result<(), Departure>
-        ensures { OnOk result (Exchanged (P.exchanged self.old.programmer)
-            (P.exchanged self.new.programmer)
+        ensures { OnOk result (Exchanged (frames_told P.exchanged self.old)
+            (frames_told P.exchanged self.new)
             (record { sent = code ∷ []; received = allowed ∷ [] } ∷ [])) }
     {
         match self.ask(&[code]) {
@@ -96,8 +97,8 @@ impl<P: Programmer> Wire<P> {
     /// The status registers, which are those of the chip in memory.
     fn shows_registers(&mut self, shadow: &Shadow, status1: u8) -> Result<(), Departure>
         requires { status1 ≡ status_1 (shadow_chip shadow.now) }
-        ensures { OnOk result (Exchanged (P.exchanged self.old.programmer)
-            (P.exchanged self.new.programmer) (register_reads (shadow_chip shadow.now))) }
+        ensures { OnOk result (Exchanged (frames_told P.exchanged self.old)
+            (frames_told P.exchanged self.new) (register_reads (shadow_chip shadow.now))) }
     {
         self.tells(0x05, status1)?;
         self.tells(0x35, shadow.status2)?;
@@ -107,8 +108,8 @@ impl<P: Programmer> Wire<P> {
 
     /// The SFDP bytes, which are those of the chip in memory.
     fn shows_table(&mut self, shadow: &Shadow) -> Result<(), Departure>
-        ensures { OnOk result (Exchanged (P.exchanged self.old.programmer)
-            (P.exchanged self.new.programmer) (table_read (shadow_chip shadow.now) ∷ [])) }
+        ensures { OnOk result (Exchanged (frames_told P.exchanged self.old)
+            (frames_told P.exchanged self.new) (table_read (shadow_chip shadow.now) ∷ [])) }
     {
         if !self.hear(&[0x5A, 0, 0, 0, 0], 256) {
             return Err(Departure::NoAnswer(0x5A));
@@ -124,7 +125,7 @@ impl<P: Programmer> Wire<P> {
     fn recover(&mut self, shadow: &Shadow, status1: u8, change: Change) -> Result<(), Departure>
         requires { status1 ≡ status_1 (shadow_chip shadow.now) }
         ensures { OnOk result (Resumes (shadow_chip shadow.now) change
-            (P.exchanged self.old.programmer) (P.exchanged self.new.programmer)) }
+            (frames_told P.exchanged self.old) (frames_told P.exchanged self.new)) }
     {
         if !self.programmer.reopen() {
             return Err(Departure::NoProgrammer);
@@ -142,7 +143,7 @@ impl<P: Programmer> Wire<P> {
     fn steady(&mut self, shadow: &Shadow, status1: u8, change: Change) -> Result<(), Departure>
         requires { status1 ≡ status_1 (shadow_chip shadow.now) }
         ensures { OnOk result (Steadies (shadow_chip shadow.now) change
-            (P.exchanged self.old.programmer) (P.exchanged self.new.programmer)) }
+            (frames_told P.exchanged self.old) (frames_told P.exchanged self.new)) }
     {
         self.rest()?;
         self.shows_change(shadow.memory(), change)?;
@@ -160,9 +161,9 @@ impl<P: Programmer> Wire<P> {
     ) -> Result<(), Departure>
         requires { status1 ≡ status_1 (shadow_chip shadow.now) }
         ensures recovers { lost ≡ true → OnOk result (Resumes (shadow_chip shadow.now) change
-            (P.exchanged self.old.programmer) (P.exchanged self.new.programmer)) }
+            (frames_told P.exchanged self.old) (frames_told P.exchanged self.new)) }
         ensures steadies { lost ≡ false → OnOk result (Steadies (shadow_chip shadow.now) change
-            (P.exchanged self.old.programmer) (P.exchanged self.new.programmer)) }
+            (frames_told P.exchanged self.old) (frames_told P.exchanged self.new)) }
     {
         if lost {
             self.recover(shadow, status1, change)

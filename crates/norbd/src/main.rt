@@ -22,7 +22,7 @@ ghost use Rattle.norbd_line.specs.Line.{IsLineInRange};
 
 use block_device::Io;
 use norbd_image::ImageFile;
-use norbd_line::{Fault, Line, read_line};
+use norbd_line::{Fault, Line, ReadLine, read_line};
 use norbd_run::{Failure, Null, Output, Screen, Telling, hold_standard, reason_of, run_line};
 use norbd_serve::Log;
 use std::alloc::Global;
@@ -54,6 +54,7 @@ fn words_of(rt: &HostRuntime, alloc: Global) -> Result<Vec<String>, Fault> {
 fn run_streams<R, A, B, I, O>(
     rt: &R,
     line: Line<'_>,
+    clock: Option<u32>,
     colours: bool,
     stdin: A,
     stdout: B,
@@ -83,7 +84,7 @@ where
 {
     let mut reader = Io::<_, I>::new(stdin, input);
     let mut writer = Io::<_, O>::new(stdout, output);
-    run_line(rt, line, colours, &mut reader, &mut writer)
+    run_line(rt, line, clock, colours, &mut reader, &mut writer)
 }
 
 /// Prints a line about a fault on standard error, with why standard output failed. A failure to
@@ -131,7 +132,13 @@ fn exit_code(done: &Result<(), Fault>) -> ExitCode
 
 /// Does the line of the program's words.
 #[tactic(auto, using(crate::proofs::Sizes::numbers_of_line))]
-fn do_line<R, A, B>(rt: &R, line: Line<'_>, colours: bool, stdin: A, stdout: B) -> Result<(), Fault>
+fn do_line<R, A, B>(
+    rt: &R,
+    words: ReadLine<'_>,
+    colours: bool,
+    stdin: A,
+    stdout: B,
+) -> Result<(), Fault>
 where
     R: Files
         + AllocGlobal
@@ -147,10 +154,11 @@ where
     R: 'static,
     A: Read + Drop,
     B: Write + Drop,
-    requires { IsLineInRange line }
+    requires { IsLineInRange words.line }
 {
     let (input, output) = (Blank::new(1), Blank::new(1));
-    run_streams::<_, _, _, Brand, Brand>(rt, line, colours, stdin, stdout, input, output)
+    let ReadLine { line, clock } = words;
+    run_streams::<_, _, _, Brand, Brand>(rt, line, clock, colours, stdin, stdout, input, output)
 }
 
 /// Whether pictures have colours: standard output is a terminal, and the environment has no
@@ -201,19 +209,19 @@ fn main(rt: HostRuntime) -> ExitCode {
         Ok(words) => words,
         Err(fault) => return refuse(&rt, fault, standard.lacks_output()),
     };
-    let line = match read_line(rt.alloc(), words.as_slice()) {
-        Ok(line) => line,
+    let read = match read_line(rt.alloc(), words.as_slice()) {
+        Ok(read) => read,
         Err(fault) => {
             let code = refuse(&rt, fault, standard.lacks_output());
             advise(&rt, words.as_slice());
             return code;
         }
     };
-    let closed = standard.lacks_output() && is_for_output(line);
+    let closed = standard.lacks_output() && is_for_output(read.line);
     let mut output = Output::new(rt.stdout(), closed);
-    let done = do_line(&rt, line, has_colours(&rt), rt.stdin(), &mut output);
+    let done = do_line(&rt, read, has_colours(&rt), rt.stdin(), &mut output);
     if let Err(fault) = &done {
-        tell(&rt, fault, Some(line), output.failure());
+        tell(&rt, fault, Some(read.line), output.failure());
     }
     exit_code(&done)
 }

@@ -3,7 +3,8 @@
 ghost use Rattle.std.specs.Prelude.{◌≡◌, false};
 ghost use Rattle.norbd_chip.specs.Faults.{is_unsure};
 
-use chip_watch::{Departure, OpenError};
+use crate::noting::Noted;
+use chip_watch::OpenError;
 use nor_driver::ProbeError;
 use norbd_line::ChipCause;
 use serprog::SerprogError;
@@ -32,13 +33,12 @@ pub(crate) fn told_of_programmer(error: SerprogError) -> ChipFault
     ChipFault::Failed(ChipCause::Programmer(error))
 }
 
-/// What a chip that isn't watched is.
-pub(crate) fn told_of_opening(error: OpenError) -> ChipFault
+/// What a chip that isn't watched is, of which this is noted.
+pub(crate) fn told_of_opening(error: OpenError, noted: &Noted) -> ChipFault
     ensures { is_unsure result ≡ false }
 {
     match error {
-        OpenError::NoAnswer(code) => ChipFault::Failed(ChipCause::NoAnswer(code)),
-        OpenError::Busy => ChipFault::Failed(ChipCause::Busy),
+        OpenError::NoAnswer(_) | OpenError::Busy => ChipFault::Failed(noted.silence()),
         OpenError::Restless(status) => ChipFault::Failed(ChipCause::Restless(status)),
         OpenError::Scheme(second, third) => ChipFault::Failed(ChipCause::Scheme(second, third)),
         OpenError::Table(_) => ChipFault::BadTable,
@@ -46,30 +46,12 @@ pub(crate) fn told_of_opening(error: OpenError) -> ChipFault
     }
 }
 
-/// What a departure is; without one the programmer is gone.
-pub(crate) fn told_of_departure(departure: Option<Departure>) -> ChipCause
-    ensures { is_unsure (ChipFault.Failed result) ≡ false }
-{
-    match departure {
-        None => ChipCause::Gone,
-        Some(Departure::NoProgrammer) => ChipCause::Gone,
-        Some(Departure::Busy) => ChipCause::Busy,
-        Some(Departure::NoAnswer(code)) => ChipCause::NoAnswer(code),
-        Some(Departure::Memory(found)) => {
-            ChipCause::LeftAt(found.place, found.read, found.allowed)
-        }
-        Some(Departure::Answer(code, found)) => {
-            ChipCause::LeftIn(code, found.place, found.read, found.allowed)
-        }
-    }
-}
-
-/// What a probe's refusal of a watched chip is, which may have left the model.
-pub(crate) fn told_of_refusal(error: ProbeError, departure: Option<Departure>) -> ChipFault
+/// What a probe's refusal of a watched chip is, which may have left the model, as is noted.
+pub(crate) fn told_of_refusal(error: ProbeError, noted: &Noted) -> ChipFault
     ensures { is_unsure result ≡ false }
 {
     match error {
-        ProbeError::Cut => ChipFault::Failed(told_of_departure(departure)),
+        ProbeError::Cut => ChipFault::Failed(noted.cause()),
         ProbeError::Slow => ChipFault::Slow,
         ProbeError::WrongId => ChipFault::WrongId,
         ProbeError::Sfdp(_) => ChipFault::BadTable,

@@ -7,7 +7,8 @@ use Rattle.norbd_line.specs.Line.{HasOddSize, IsLineInRange, IsLineOf, IsOddSize
 use Rattle.norbd_line.specs.declared.fault.Fault.{Fault}
 use Rattle.norbd_line.specs.declared.fault.Fault.TheVariants.{Words, NoMemory, BadSize, InputFailed, OutputFailed, ImageFailed, WrongId, BadSfdp, Protected, Slow, BadRecord, NotFormatted, Corrupt, NotClean, BadImageSize, NoSocket, NoThread, BadSync, NotText, EmptyName, InUse, Formatted, NotEmpty, BadAddress, BadTidy, BadRange, BadInput}
 use Rattle.norbd_line.specs.declared.line.Line.{Line}
-use Rattle.norbd_line.specs.declared.line.Line.TheVariants.{Plain, Format, Script, Serve, Status, Check, Show, Read, Write, Rescue, Chip}
+use Rattle.norbd_line.specs.declared.line.ReadLine.{ReadLine}
+use Rattle.norbd_line.specs.declared.line.Line.TheVariants.{Plain, Format, Script, Serve, Status, Check, Unprotect, Show, Read, Write, Rescue, Chip}
 
 -- the words name one command
 same_name : (words : List Text) (n m : Text) (rows others : List Row) → Names words n rows → Names words m others → n ≡ m
@@ -44,6 +45,11 @@ status_takes_no_size : TakesSize (codes "status") → ⊥
 unfolding first_of_name second_of_name
 status_takes_no_size (inl e) = let first : 115 ≡ 102 = ap first_of_name e in omega (arith, first)
 status_takes_no_size (inr e) = let second : 116 ≡ 99 = ap second_of_name e in omega (arith, second)
+
+unprotect_takes_no_size : TakesSize (codes "unprotect") → ⊥
+unfolding first_of_name
+unprotect_takes_no_size (inl e) = let first : 117 ≡ 102 = ap first_of_name e in omega (arith, first)
+unprotect_takes_no_size (inr e) = let first : 117 ≡ 115 = ap first_of_name e in omega (arith, first)
 
 check_takes_no_size : TakesSize (codes "check") → ⊥
 unfolding first_of_name
@@ -97,7 +103,10 @@ no_odd_line words (Serve asked) range line odd_kib odd =
 no_odd_line words (Status path tells_json) range line odd_kib odd =
     let name = same_name words line.0 odd.0 line.1 odd.1 line.2 odd.2 in
     status_takes_no_size (subst TakesSize (sym name ∙ line.3.0) odd.3.0)
-no_odd_line words (Check image mends tells_json) range line odd_kib odd =
+no_odd_line words (Unprotect image sure) range line odd_kib odd =
+    let name = same_name words line.0 odd.0 line.1 odd.1 line.2 odd.2 in
+    unprotect_takes_no_size (subst TakesSize (sym name ∙ line.3.0) odd.3.0)
+no_odd_line words (Check image mends tells_json dump) range line odd_kib odd =
     let name = same_name words line.0 odd.0 line.1 odd.1 line.2 odd.2 in
     check_takes_no_size (subst TakesSize (sym name ∙ line.3.0) odd.3.0)
 no_odd_line words (Show image) range line odd_kib odd =
@@ -113,9 +122,9 @@ no_odd_line words (Rescue image) range line odd_kib odd =
     let name = same_name words line.0 odd.0 line.1 odd.1 line.2 odd.2 in
     rescue_takes_no_size (subst TakesSize (sym name ∙ line.3.0) odd.3.0)
 
-pub odd_is_refused : (words : List Text) (r : Result Line Fault) → IfOk r IsLineInRange → IfOk r (IsLineOf words) → IfErr r (ComesFromWords words)
+pub odd_is_refused : (words : List Text) (r : Result ReadLine Fault) → IfOk r (λ it. IsLineInRange it.line) → IfOk r (λ it. IsLineOf words it.line) → IfErr r (ComesFromWords words)
     → (odd_kib : ℕ) → HasOddSize words odd_kib → IsErrAnd r (λ e. (e ≡ BadSize odd_kib) ⊎ (e ≡ NoMemory))
-odd_is_refused words (Ok l) range line fault odd_kib odd = absurd (no_odd_line words l range line odd_kib odd)
+odd_is_refused words (Ok it) range line fault odd_kib odd = absurd (no_odd_line words it.line range line odd_kib odd)
 odd_is_refused words (Err (Words error)) range line fault odd_kib odd = absurd (subst (IsAmong (kind_of error)) odd.2.faultless fault.1)
 odd_is_refused words (Err (BadSize kib)) range line fault odd_kib odd =
     let rows = same_rows words fault.0 odd.0 fault.1 odd.1 fault.2 odd.2 in

@@ -40,6 +40,10 @@ conns_rule = record (number_rule (codes "conns") 1 64) { required = false }
 abbrev pub max_request_rule : Rule
 max_request_rule = record (number_rule (codes "max-request") 64 32768) { required = false }
 
+-- `--spi-hz N`: one number from 1 to 4,294,967,295
+abbrev pub spi_hz_rule : Rule
+spi_hz_rule = record (number_rule (codes "spi-hz") 1 4294967295) { required = false }
+
 -- an option of this name that takes one text
 abbrev pub text_rule : Text → Rule
 text_rule name = record (new_rule name) {
@@ -74,10 +78,10 @@ abbrev pub chip_app : App
 chip_app = with_rule (with_rule (with_rule (new_app (codes "chip")) image_rule) chip_port_rule)
     conns_rule
 
--- `format IMAGE --kib K [--force] [--yes]`
+-- `format IMAGE --kib K [--force] [--yes] [--spi-hz N]`
 abbrev pub format_app : App
-format_app = with_rule (with_rule (with_rule (with_rule (new_app (codes "format")) image_rule)
-    kib_rule) (flag_rule (codes "force"))) (flag_rule (codes "yes"))
+format_app = with_rule (with_rule (with_rule (with_rule (with_rule (new_app (codes "format"))
+    image_rule) kib_rule) (flag_rule (codes "force"))) (flag_rule (codes "yes"))) spi_hz_rule
 
 -- `script --kib K`
 abbrev pub script_app : App
@@ -89,37 +93,44 @@ placed_app = with_rule (with_rule (with_rule (with_rule (new_app (codes "serve")
     port_rule) (text_rule (codes "bind"))) (text_rule (codes "unix"))
 
 -- and how: `[--conns C] [--record] [--sync WHEN] [--tidy WHEN] [--max-request KIB] [--read-only]
--- [-v]`, and `[--trust] [--status PATH]`
+-- [-v]`, and `[--trust] [--status PATH] [--spi-hz N]`
 abbrev pub served_app : App
 served_app = with_rule (with_rule (with_rule (with_rule (with_rule (with_rule (with_rule placed_app
     conns_rule) (flag_rule (codes "record"))) (text_rule (codes "sync")))
     (text_rule (codes "tidy"))) max_request_rule) (flag_rule (codes "read-only"))) verbose_rule
 
 abbrev pub serve_app : App
-serve_app = with_rule (with_rule served_app (flag_rule (codes "trust")))
-    (text_rule (codes "status"))
+serve_app = with_rule (with_rule (with_rule served_app (flag_rule (codes "trust")))
+    (text_rule (codes "status"))) spi_hz_rule
 
 -- `status PATH [--json]`
 abbrev pub status_app : App
 status_app = with_rule (with_rule (new_app (codes "status")) status_path_rule)
     (flag_rule (codes "json"))
 
--- `check IMAGE [--mend] [--json]`
+-- `check IMAGE [--mend] [--json] [--against DUMP] [--spi-hz N]`
 abbrev pub check_app : App
-check_app = with_rule (with_rule (with_rule (new_app (codes "check")) image_rule)
-    (flag_rule (codes "mend"))) (flag_rule (codes "json"))
+check_app = with_rule (with_rule (with_rule (with_rule (with_rule (new_app (codes "check")) image_rule)
+    (flag_rule (codes "mend"))) (flag_rule (codes "json"))) (text_rule (codes "against")))
+    spi_hz_rule
 
--- `show IMAGE`
+-- `unprotect IMAGE [--yes] [--spi-hz N]`
+abbrev pub unprotect_app : App
+unprotect_app = with_rule (with_rule (with_rule (new_app (codes "unprotect")) image_rule)
+    (flag_rule (codes "yes"))) spi_hz_rule
+
+-- `show IMAGE [--spi-hz N]`
 abbrev pub show_app : App
-show_app = with_rule (new_app (codes "show")) image_rule
+show_app = with_rule (with_rule (new_app (codes "show")) image_rule) spi_hz_rule
 
--- `read IMAGE [--sectors A:B]`, and `write` likewise
+-- `read IMAGE [--sectors A:B] [--spi-hz N]`, and `write` likewise
 abbrev pub read_app : App
-read_app = with_rule (with_rule (new_app (codes "read")) image_rule) (text_rule (codes "sectors"))
+read_app = with_rule (with_rule (with_rule (new_app (codes "read")) image_rule)
+    (text_rule (codes "sectors"))) spi_hz_rule
 
 abbrev pub write_app : App
-write_app = with_rule (with_rule (new_app (codes "write")) image_rule)
-    (text_rule (codes "sectors"))
+write_app = with_rule (with_rule (with_rule (new_app (codes "write")) image_rule)
+    (text_rule (codes "sectors"))) spi_hz_rule
 
 -- `rescue IMAGE`
 abbrev pub rescue_app : App
@@ -138,7 +149,8 @@ begun_app = with_subcommand norbd_alone chip_app.top
 -- a command line with the commands about an image without a server
 abbrev pub with_image_apps : App → App
 with_image_apps app = with_subcommand (with_subcommand (with_subcommand (with_subcommand
-    (with_subcommand app check_app.top) show_app.top) read_app.top) write_app.top) rescue_app.top
+    (with_subcommand (with_subcommand app check_app.top) unprotect_app.top) show_app.top)
+    read_app.top) write_app.top) rescue_app.top
 
 -- the whole command line
 abbrev pub norbd_app : App

@@ -8,7 +8,7 @@ use Rattle.norbd_line.specs.CommandLine.{norbd_app}
 use Rattle.norbd_line.specs.declared.chip.ChipLine.{ChipLine}
 use Rattle.norbd_line.specs.declared.line.Line.{Line}
 use Rattle.norbd_line.specs.declared.line.Line.TheVariants.{Chip, Plain, Format, Script, Serve}
-use Rattle.norbd_line.specs.declared.line.Line.TheVariants.{Check, Show, Read, Write}
+use Rattle.norbd_line.specs.declared.line.Line.TheVariants.{Check, Unprotect, Show, Read, Write}
 use Rattle.norbd_line.specs.declared.line.Line.TheVariants.{Rescue, Status}
 use Rattle.norbd_line.specs.declared.line.Place.{Place}
 use Rattle.norbd_line.specs.declared.line.Place.TheVariants as places
@@ -60,7 +60,8 @@ IsLineInRange (Format image kib forced sure) = IsSize kib
 IsLineInRange (Script kib) = IsSize kib
 IsLineInRange (Serve asked) = IsServeInRange asked
 IsLineInRange (Status path tells_json) = Unit {0}
-IsLineInRange (Check image mends tells_json) = Unit {0}
+IsLineInRange (Check image mends tells_json dump) = Unit {0}
+IsLineInRange (Unprotect image sure) = Unit {0}
 IsLineInRange (Show image) = Unit {0}
 IsLineInRange (Read image range) = Unit {0}
 IsLineInRange (Write image range) = Unit {0}
@@ -144,9 +145,13 @@ IsLineIn name rows (Serve asked) =
 IsLineIn name rows (Status path tells_json) =
     (name ≡ codes "status") × (first_of (codes "PATH") rows ≡ Some path.now)
     × IsSet (codes "json") rows tells_json
-IsLineIn name rows (Check image mends tells_json) =
+IsLineIn name rows (Check image mends tells_json dump) =
     (name ≡ codes "check") × (first_of (codes "IMAGE") rows ≡ Some image.now)
     × IsSet (codes "mend") rows mends × IsSet (codes "json") rows tells_json
+    × (first_of (codes "against") rows ≡ option_map (λ text. text.now) dump)
+IsLineIn name rows (Unprotect image sure) =
+    (name ≡ codes "unprotect") × (first_of (codes "IMAGE") rows ≡ Some image.now)
+    × IsSet (codes "yes") rows sure
 IsLineIn name rows (Show image) =
     (name ≡ codes "show") × (first_of (codes "IMAGE") rows ≡ Some image.now)
 IsLineIn name rows (Read image range) =
@@ -178,6 +183,11 @@ abbrev pub IsLineOf : List Text → Line → Type 0
 IsLineOf words line = (name : Text) × (rows : List Row) × Names words name rows
     × IsLineIn name rows line
 
+-- the clock in Hz that a programmer is to set is what the words say after `--spi-hz`
+abbrev pub IsClockOf : List Text → Option ℕ → Type 0
+IsClockOf words clock = (name : Text) × (rows : List Row) × Names words name rows
+    × (number_in (codes "spi-hz") rows ≡ clock)
+
 -- the image of a line `serve` has a name, and so has its socket for a status, where it has one
 abbrev pub IsServeNamed : ServeLine → Type 0
 IsServeNamed asked = (asked.image.now ≢ []) × IfSome asked.status (λ path. path.now ≢ [])
@@ -190,7 +200,8 @@ IsNamed (Format image kib forced sure) = image.now ≢ []
 IsNamed (Script kib) = Unit {0}
 IsNamed (Serve asked) = IsServeNamed asked
 IsNamed (Status path tells_json) = path.now ≢ []
-IsNamed (Check image mends tells_json) = image.now ≢ []
+IsNamed (Check image mends tells_json dump) = (image.now ≢ []) × IfSome dump (λ path. path.now ≢ [])
+IsNamed (Unprotect image sure) = image.now ≢ []
 IsNamed (Show image) = image.now ≢ []
 IsNamed (Read image range) = image.now ≢ []
 IsNamed (Write image range) = image.now ≢ []

@@ -47,6 +47,17 @@ pub(crate) fn yes_arg<'a>(alloc: Global) -> Arg<'a>
         .action(ArgAction::SetTrue)
 }
 
+/// `--yes` of `unprotect`.
+pub(crate) fn clear_arg<'a>(alloc: Global) -> Arg<'a>
+    ensures rule { rule_of result ≡ flag_rule (codes "yes") }
+    ensures local { result.global ≡ false }
+{
+    Arg::new(alloc, "yes")
+        .long("yes")
+        .help("Clears bits 2 to 7 of status register 1, which isn't done\nwithout it")
+        .action(ArgAction::SetTrue)
+}
+
 /// `--trust`.
 pub(crate) fn trust_arg<'a>(alloc: Global) -> Arg<'a>
     ensures rule { rule_of result ≡ flag_rule (codes "trust") }
@@ -67,7 +78,7 @@ pub(crate) fn with_chip<'a>(alloc: Global, norbd: Command<'a>) -> Result<Command
 {
     let chip = Command::new(alloc, "chip")
         .about(
-            "Answers the serprog protocol for the chip in an image, as a programmer\nwith a chip behind it.\nExample: norbd chip chip.img --port 5000, and then\nflashrom -p serprog:ip=127.0.0.1:5000 -r copy.img",
+            "Answers the serprog protocol for the chip in an image, as a\nprogrammer with a chip behind it.\nExample: norbd chip chip.img --port 5000, and then\nflashrom -p serprog:ip=127.0.0.1:5000 -r copy.img",
         )
         .after_help(AFTER_HELP)
         .arg(image_arg(alloc, "The file of the chip's bytes"))?

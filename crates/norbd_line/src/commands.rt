@@ -5,14 +5,14 @@ ghost use Rattle.clap.specs.Words.{subcommand_rows_of, with_subcommand};
 ghost use Rattle.norbd_line.specs.CommandLine.{norbd_app, check_app, format_app, plain_app};
 ghost use Rattle.norbd_line.specs.CommandLine.{script_app, read_app, show_app, with_image_apps};
 ghost use Rattle.norbd_line.specs.CommandLine.{write_app, rescue_app, begun_app, serve_app};
-ghost use Rattle.norbd_line.specs.CommandLine.{status_app, texts_of};
+ghost use Rattle.norbd_line.specs.CommandLine.{status_app, texts_of, unprotect_app};
 
 use crate::Fault;
-use crate::chip::{trust_arg, with_chip, yes_arg};
+use crate::chip::{clear_arg, trust_arg, with_chip, yes_arg};
 use crate::options::{
-    bind_arg, conns_arg, force_arg, image_arg, json_arg, kib_arg, max_request_arg, mend_arg,
-    no_record_arg, port_arg, range_arg, read_only_arg, record_arg, sectors_arg, status_arg,
-    status_path_arg, sync_arg, tidy_arg, unix_arg, verbose_arg,
+    against_arg, bind_arg, conns_arg, force_arg, image_arg, json_arg, kib_arg, max_request_arg,
+    mend_arg, no_record_arg, port_arg, range_arg, read_only_arg, record_arg, sectors_arg,
+    spi_hz_arg, status_arg, status_path_arg, sync_arg, tidy_arg, unix_arg, verbose_arg,
 };
 use clap::error::ErrorKind;
 use clap::{ArgMatches, Command};
@@ -56,7 +56,8 @@ fn with_format<'a>(alloc: Global, norbd: Command<'a>) -> Result<Command<'a>, cla
         ))?
         .arg(kib_arg(alloc))?
         .arg(force_arg(alloc))?
-        .arg(yes_arg(alloc))?;
+        .arg(yes_arg(alloc))?
+        .arg(spi_hz_arg(alloc))?;
     Ok(norbd.subcommand(format)?)
 }
 
@@ -68,7 +69,7 @@ fn with_script<'a>(alloc: Global, norbd: Command<'a>) -> Result<Command<'a>, cla
 {
     let script = Command::new(alloc, "script")
         .about(
-            "Runs a script of events on a formatted chip in memory, from standard\ninput to standard output.\nExample: norbd script --kib 64 < events.bin",
+            "Runs a script of events on a formatted chip in memory, from\nstandard input to standard output.\nExample: norbd script --kib 64 < events.bin",
         )
         .after_help(AFTER_HELP)
         .arg(kib_arg(alloc))?;
@@ -97,7 +98,8 @@ fn with_serve<'a>(alloc: Global, norbd: Command<'a>) -> Result<Command<'a>, clap
         .arg(read_only_arg(alloc))?
         .arg(verbose_arg(alloc))?
         .arg(trust_arg(alloc))?
-        .arg(status_arg(alloc))?;
+        .arg(status_arg(alloc))?
+        .arg(spi_hz_arg(alloc))?;
     Ok(norbd.subcommand(serve)?)
 }
 
@@ -129,11 +131,33 @@ fn with_check<'a>(alloc: Global, norbd: Command<'a>) -> Result<Command<'a>, clap
         .after_help(AFTER_HELP)
         .arg(image_arg(alloc, IMAGE_OR_PROGRAMMER))?
         .arg(mend_arg(alloc))?
-        .arg(json_arg(alloc))?;
+        .arg(json_arg(alloc))?
+        .arg(against_arg(alloc))?
+        .arg(spi_hz_arg(alloc))?;
     Ok(norbd.subcommand(check)?)
 }
 
-/// A command line with `show` and its argument.
+/// A command line with `unprotect` and its arguments.
+fn with_unprotect<'a>(alloc: Global, norbd: Command<'a>) -> Result<Command<'a>, clap::Error>
+    ensures app { IfOk result (λ c. app_of c
+        ≡ with_subcommand (app_of norbd.entry) unprotect_app.top) }
+    ensures memory { IfErr result (λ e. kind_of e ≡ ErrorKind.OutOfMemory) }
+{
+    let unprotect = Command::new(alloc, "unprotect")
+        .about(
+            "Ends the protection of a chip behind a programmer, and keeps what\nis on it.\nExample: norbd unprotect tcp:127.0.0.1:5000 --yes",
+        )
+        .after_help(AFTER_HELP)
+        .arg(image_arg(
+            alloc,
+            "The chip behind a programmer: tcp:HOST:PORT or serial:PATH",
+        ))?
+        .arg(clear_arg(alloc))?
+        .arg(spi_hz_arg(alloc))?;
+    Ok(norbd.subcommand(unprotect)?)
+}
+
+/// A command line with `show` and its arguments.
 fn with_show<'a>(alloc: Global, norbd: Command<'a>) -> Result<Command<'a>, clap::Error>
     ensures app { IfOk result (λ c. app_of c ≡ with_subcommand (app_of norbd.entry) show_app.top) }
     ensures memory { IfErr result (λ e. kind_of e ≡ ErrorKind.OutOfMemory) }
@@ -141,7 +165,8 @@ fn with_show<'a>(alloc: Global, norbd: Command<'a>) -> Result<Command<'a>, clap:
     let show = Command::new(alloc, "show")
         .about("Draws the blocks of an image, a character for each.\nExample: norbd show chip.img")
         .after_help(AFTER_HELP)
-        .arg(image_arg(alloc, IMAGE_OR_PROGRAMMER))?;
+        .arg(image_arg(alloc, IMAGE_OR_PROGRAMMER))?
+        .arg(spi_hz_arg(alloc))?;
     Ok(norbd.subcommand(show)?)
 }
 
@@ -156,7 +181,8 @@ fn with_read<'a>(alloc: Global, norbd: Command<'a>) -> Result<Command<'a>, clap:
         )
         .after_help(AFTER_HELP)
         .arg(image_arg(alloc, IMAGE_OR_PROGRAMMER))?
-        .arg(range_arg(alloc))?;
+        .arg(range_arg(alloc))?
+        .arg(spi_hz_arg(alloc))?;
     Ok(norbd.subcommand(read)?)
 }
 
@@ -171,7 +197,8 @@ fn with_write<'a>(alloc: Global, norbd: Command<'a>) -> Result<Command<'a>, clap
         )
         .after_help(AFTER_HELP)
         .arg(image_arg(alloc, IMAGE_OR_PROGRAMMER))?
-        .arg(range_arg(alloc))?;
+        .arg(range_arg(alloc))?
+        .arg(spi_hz_arg(alloc))?;
     Ok(norbd.subcommand(write)?)
 }
 
@@ -190,13 +217,14 @@ fn with_rescue<'a>(alloc: Global, norbd: Command<'a>) -> Result<Command<'a>, cla
     Ok(norbd.subcommand(rescue)?)
 }
 
-/// A command line with the commands about an image without a server: `check`, `show`, `read`,
-/// `write` and `rescue`.
+/// A command line with the commands about an image without a server: `check`, `unprotect`, `show`,
+/// `read`, `write` and `rescue`.
 fn with_image_lines<'a>(alloc: Global, norbd: Command<'a>) -> Result<Command<'a>, clap::Error>
     ensures app { IfOk result (λ c. app_of c ≡ with_image_apps (app_of norbd.entry)) }
     ensures memory { IfErr result (λ e. kind_of e ≡ ErrorKind.OutOfMemory) }
 {
     let norbd = with_check(alloc, norbd)?;
+    let norbd = with_unprotect(alloc, norbd)?;
     let norbd = with_show(alloc, norbd)?;
     let norbd = with_read(alloc, norbd)?;
     let norbd = with_write(alloc, norbd)?;
@@ -204,7 +232,7 @@ fn with_image_lines<'a>(alloc: Global, norbd: Command<'a>) -> Result<Command<'a>
 }
 
 /// What `--version` says after the name: the version, and the toolchain that proved and built it.
-const VERSION: &str = "0.1.0, proved by rattle-kit-13f logic dac8208d650f15bf";
+const VERSION: &str = "0.1.0, proved by rattle-kit-13b logic dac8208d650f15bf";
 
 /// The program's command line with its first command.
 fn begun_command<'a>(alloc: Global) -> Result<Command<'a>, clap::Error>

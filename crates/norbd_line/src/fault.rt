@@ -60,6 +60,15 @@ pub enum Cause {
     /// The log beside the image is another image's.
     #[error("the log beside it is another image's")]
     OtherLog,
+    /// So many sectors differ from those of an older copy.
+    #[error("{0} of its sectors differ")]
+    Differs(u32),
+    /// The older copy with which it is compared can't be read, or isn't one that would be served.
+    #[error("the older copy can't be read or isn't clean: norbd check says why")]
+    Dump,
+    /// That copy has another size.
+    #[error("the older copy has another size")]
+    DumpSize,
     /// The chip is behind a programmer, and this is why it failed.
     #[error("{0}")]
     Chip(ChipCause),

@@ -24,8 +24,8 @@ mod line;
 mod options;
 
 pub use answer::Answer;
-pub use cause::ChipCause;
+pub use cause::{Bytes, ChipCause, Doing};
 pub use chip::ChipLine;
 pub use fault::{Cause, Fault, InputLength, SocketCause};
-pub use line::{Line, Place, ServeLine, SyncPolicy, TidyPolicy, read_line};
+pub use line::{Line, Place, ReadLine, ServeLine, SyncPolicy, TidyPolicy, read_line};
 pub use options::MOST_CONNS;

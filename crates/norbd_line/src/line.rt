@@ -1,10 +1,12 @@
 //! The line: what the program is asked to do.
-ghost use Rattle.std.specs.Prelude.{◌≡◌, ◌⊎◌, IfErr, IfOk, IsErrAnd, MatchBool, codes, ℕ};
+ghost use Rattle.std.specs.Prelude.{◌≡◌, ◌≢◌, ◌⊎◌, ◌≤◌, [], codes, IfErr, IfOk, IfSome, IsErrAnd};
+ghost use Rattle.std.specs.Prelude.{MatchBool, ℕ};
 ghost use Rattle.clap.specs.Words.{found_of, rows_of};
 ghost use Rattle.norbd_line.specs.CommandLine.{texts_of};
 ghost use Rattle.norbd_line.specs.Fault.{ComesFromMatches, ComesFromWords};
 ghost use Rattle.norbd_line.specs.Line.{HasOddSize, IsLineInRange, IsLineIn, IsLineOf, HasNoPlace};
-ghost use Rattle.norbd_line.specs.Line.{IsNamed, IsPlace, IsPlaceIn, IsServeNamed};
+ghost use Rattle.norbd_line.specs.Line.{IsNamed, IsPlace, IsPlaceIn, IsServeNamed, IsClockOf};
+ghost use Rattle.norbd_line.specs.Line.{number_in};
 
 use crate::Fault;
 use crate::chip::{ChipLine, chip_line};
@@ -53,12 +55,21 @@ pub enum Line<'a> {
         path: &'a str,
         json: bool,
     },
-    /// `check IMAGE [--mend] [--json]`: say whether the image in the file at the path `image` would
-    /// be served, and if not, why; mend it where `mend` is set; tell in JSON where `json` is.
+    /// `check IMAGE [--mend] [--json] [--against DUMP]`: say whether the image in the file at the
+    /// path `image` would be served, and if not, why; mend it where `mend` is set; tell in JSON
+    /// where `json` is; say which sectors differ from those of the image in the file at the path
+    /// `against`, where there is one.
     Check {
         image: &'a str,
         mend: bool,
         json: bool,
+        against: Option<&'a str>,
+    },
+    /// `unprotect IMAGE [--yes]`: end the protection of the chip behind the programmer that `image`
+    /// names, where `sure` is set.
+    Unprotect {
+        image: &'a str,
+        sure: bool,
     },
     /// `show IMAGE`: draw the blocks of the image in the file at the path `image`.
     Show {
@@ -80,6 +91,14 @@ pub enum Line<'a> {
     Rescue {
         image: &'a str,
     },
+}
+
+/// What the words say: the line, and the clock in Hz, above 0, that the programmer of its chip is
+/// to set, where they say one (`--spi-hz N`).
+#[derive(Debug, Clone, Copy, PartialEq, Eq)]
+pub struct ReadLine<'a> {
+    pub line: Line<'a>,
+    pub clock: Option<u32>,
 }
 
 /// What a line `serve` asks: to serve the chip in the file at the path `image` at a place, to
@@ -281,6 +300,22 @@ fn check_line<'a>(matches: &ArgMatches<'a>) -> Result<Line<'a>, Fault>
             image,
             mend: flag(matches, "mend"),
             json: flag(matches, "json"),
+            against: text_of(matches, "against"),
+        }),
+        None => Err(Fault::NoMemory),
+    }
+}
+
+/// The line of `unprotect`; likewise.
+fn unprotect_line<'a>(matches: &ArgMatches<'a>) -> Result<Line<'a>, Fault>
+    ensures range { IfOk result IsLineInRange }
+    ensures line { IfOk result (IsLineIn (codes "unprotect") (rows_of (found_of matches.now))) }
+    ensures fault { IfErr result (λ e. e ≡ Fault.NoMemory) }
+{
+    match matches.get_str("IMAGE") {
+        Some(image) => Ok(Line::Unprotect {
+            image,
+            sure: flag(matches, "yes"),
         }),
         None => Err(Fault::NoMemory),
     }
@@ -367,14 +402,16 @@ fn line_of<'a>(name: &str, matches: &ArgMatches<'a>) -> Result<Line<'a>, Fault>
     }
 }
 
-/// The line of a command of this name about an image alone: `show`, `read`, `write` or `rescue`.
-/// The parse refuses every other name.
+/// The line of a command of this name about an image alone: `unprotect`, `show`, `read`, `write` or
+/// `rescue`. The parse refuses every other name.
 fn image_line<'a>(name: &str, matches: &ArgMatches<'a>) -> Result<Line<'a>, Fault>
     ensures range { IfOk result IsLineInRange }
     ensures line { IfOk result (IsLineIn name.now (rows_of (found_of matches.now))) }
     ensures fault { IfErr result (λ e. e ≡ Fault.NoMemory) }
 {
-    if name == "show" {
+    if name == "unprotect" {
+        unprotect_line(matches)
+    } else if name == "show" {
         show_line(matches)
     } else if name == "read" {
         read_disk_line(matches)
@@ -401,6 +438,21 @@ fn is_serve_nameless(asked: ServeLine<'_>) -> bool
     }
 }
 
+/// Whether a path is empty, or a second one is where there is one.
+fn is_path_nameless(image: &str, second: Option<&str>) -> bool
+    ensures { MatchBool result
+        (((image.now ≢ []) × IfSome second.entry (λ path. path.now ≢ [])) → ⊥)
+        ((image.now ≢ []) × IfSome second.entry (λ path. path.now ≢ [])) }
+{
+    if image.is_empty() {
+        return true;
+    }
+    match second {
+        Some(path) => path.is_empty(),
+        None => false,
+    }
+}
+
 /// Whether the image or the socket of a line has an empty name.
 fn is_nameless(line: Line<'_>) -> bool
     ensures { MatchBool result (IsNamed line.entry → ⊥) (IsNamed line.entry) }
@@ -412,7 +464,8 @@ fn is_nameless(line: Line<'_>) -> bool
         Line::Script { .. } => false,
         Line::Serve(asked) => is_serve_nameless(asked),
         Line::Status { path, .. } => path.is_empty(),
-        Line::Check { image, .. } => image.is_empty(),
+        Line::Check { image, against, .. } => is_path_nameless(image, against),
+        Line::Unprotect { image, .. } => image.is_empty(),
         Line::Show { image } => image.is_empty(),
         Line::Read { image, .. } => image.is_empty(),
         Line::Write { image, .. } => image.is_empty(),
@@ -431,11 +484,28 @@ fn named(line: Line<'_>) -> Result<Line<'_>, Fault>
     Ok(line)
 }
 
-/// What the words make: a line, or a fault that has its cause.
-fn line_or_fault<'a>(alloc: Global, words: &'a [String]) -> Result<Line<'a>, Fault>
-    ensures range { IfOk result IsLineInRange }
-    ensures line { IfOk result (IsLineOf (texts_of words.now)) }
-    ensures named { IfOk result IsNamed }
+/// A line of the command of this name, and the clock. The parse refuses a clock that is 0, so the
+/// arm for it answers `NoMemory`.
+fn clocked<'a>(line: Line<'a>, matches: &ArgMatches<'_>) -> Result<ReadLine<'a>, Fault>
+    ensures line { IfOk result (λ it. it.line ≡ line.entry) }
+    ensures clock { IfOk result (λ it. number_in (codes "spi-hz") (rows_of (found_of matches.now))
+        ≡ it.clock) }
+    ensures positive { IfOk result (λ it. IfSome it.clock (λ hz. 1 ≤ hz)) }
+    ensures fault { IfErr result (λ e. e ≡ Fault.NoMemory) }
+{
+    match number_if_there(matches, "spi-hz", 1, u32::MAX) {
+        Ok(clock) => Ok(ReadLine { line, clock }),
+        Err(_) => Err(Fault::NoMemory),
+    }
+}
+
+/// What the words make: a line and a clock, or a fault that has its cause.
+fn line_or_fault<'a>(alloc: Global, words: &'a [String]) -> Result<ReadLine<'a>, Fault>
+    ensures range { IfOk result (λ it. IsLineInRange it.line) }
+    ensures line { IfOk result (λ it. IsLineOf (texts_of words.now) it.line) }
+    ensures named { IfOk result (λ it. IsNamed it.line) }
+    ensures clock { IfOk result (λ it. IsClockOf (texts_of words.now) it.clock) }
+    ensures positive { IfOk result (λ it. IfSome it.clock (λ hz. 1 ≤ hz)) }
     ensures fault { IfErr result (ComesFromWords (texts_of words.now)) }
 {
     let matches = match parse(alloc, words) {
@@ -444,7 +514,10 @@ fn line_or_fault<'a>(alloc: Global, words: &'a [String]) -> Result<Line<'a>, Fau
     };
     match matches.subcommand() {
         Some((name, of_name)) => match line_of(name, of_name) {
-            Ok(line) => named(line),
+            Ok(line) => match named(line) {
+                Ok(line) => clocked(line, of_name),
+                Err(fault) => Err(fault),
+            },
             Err(fault) => Err(fault),
         },
         None => Err(Fault::NoMemory),
@@ -460,10 +533,12 @@ fn line_or_fault<'a>(alloc: Global, words: &'a [String]) -> Result<Line<'a>, Fau
 /// of the image or of a server's status is empty, `NoMemory` where memory ran out. The parse
 /// refuses words without a command, a path or a number in its range, so what comes then isn't
 /// reached; it needs some fault, and answers `NoMemory`.
-pub fn read_line<'a>(alloc: Global, words: &'a [String]) -> Result<Line<'a>, Fault>
-    ensures range { IfOk result IsLineInRange }
-    ensures line { IfOk result (IsLineOf (texts_of words.now)) }
-    ensures named { IfOk result IsNamed }
+pub fn read_line<'a>(alloc: Global, words: &'a [String]) -> Result<ReadLine<'a>, Fault>
+    ensures range { IfOk result (λ it. IsLineInRange it.line) }
+    ensures line { IfOk result (λ it. IsLineOf (texts_of words.now) it.line) }
+    ensures named { IfOk result (λ it. IsNamed it.line) }
+    ensures clock { IfOk result (λ it. IsClockOf (texts_of words.now) it.clock) }
+    ensures positive { IfOk result (λ it. IfSome it.clock (λ hz. 1 ≤ hz)) }
     ensures fault { IfErr result (ComesFromWords (texts_of words.now)) }
     ensures odd { (kib : ℕ) → HasOddSize (texts_of words.now) kib
         → IsErrAnd result (λ e. (e ≡ Fault.BadSize kib) ⊎ (e ≡ Fault.NoMemory)) }

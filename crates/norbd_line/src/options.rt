@@ -3,6 +3,7 @@ ghost use Rattle.std.specs.Prelude.{◌≡◌, ◌≤◌, IfErr, IfOk, IfSome, S
 ghost use Rattle.clap.specs.Words.{Text, found_of, one_text, first_of, rows_of, rule_of};
 ghost use Rattle.norbd_line.specs.CommandLine.{conns_rule, flag_rule, image_rule, kib_rule};
 ghost use Rattle.norbd_line.specs.CommandLine.{port_rule, sectors_rule, max_request_rule};
+ghost use Rattle.norbd_line.specs.CommandLine.{spi_hz_rule};
 ghost use Rattle.norbd_line.specs.CommandLine.{status_path_rule, text_rule, verbose_rule};
 ghost use Rattle.norbd_line.specs.Fault.{ComesFromMatches};
 ghost use Rattle.norbd_line.specs.Line.{IsPort, IsSet, IsSize, TakesSize, number_in, number_of};
@@ -107,6 +108,21 @@ pub(crate) fn max_request_arg<'a>(alloc: Global) -> Arg<'a>
         )
         .action(ArgAction::Set)
         .value_parser(value_parser!(u32).range(64..=32768))
+}
+
+/// `--spi-hz N`.
+pub(crate) fn spi_hz_arg<'a>(alloc: Global) -> Arg<'a>
+    ensures rule { rule_of result ≡ spi_hz_rule }
+    ensures local { result.global ≡ false }
+{
+    Arg::new(alloc, "spi-hz")
+        .long("spi-hz")
+        .value_name("N")
+        .help(
+            "The clock in Hz that a programmer is to set for its\nchip; without it, the programmer's own",
+        )
+        .action(ArgAction::Set)
+        .value_parser(value_parser!(u32).range(1..=4294967295))
 }
 
 /// `--read-only`.
@@ -221,6 +237,20 @@ pub(crate) fn status_arg<'a>(alloc: Global) -> Arg<'a>
         .long("status")
         .value_name("PATH")
         .help("Makes a Unix socket for norbd status to ask at")
+        .action(ArgAction::Set)
+}
+
+/// `--against DUMP`.
+pub(crate) fn against_arg<'a>(alloc: Global) -> Arg<'a>
+    ensures rule { rule_of result ≡ text_rule (codes "against") }
+    ensures local { result.global ≡ false }
+{
+    Arg::new(alloc, "against")
+        .long("against")
+        .value_name("DUMP")
+        .help(
+            "Says which sectors differ from those in an older copy\nof the chip, as flashrom reads one into a file",
+        )
         .action(ArgAction::Set)
 }
 

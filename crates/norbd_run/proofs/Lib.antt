@@ -1,3 +1,4 @@
+pub mod Differing
 pub mod Opening
 pub mod Refusals
 pub mod Sizes

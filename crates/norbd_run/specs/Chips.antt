@@ -1,5 +1,6 @@
 -- What `chip` says, and what a fault of a chip behind a programmer is. Source: own.
-use Rattle.std.specs.Prelude.{◌≡◌, ◌⊎◌, ℕ, List, ◌++◌, codes, Option, Result, Ok, Err}
+use Rattle.std.specs.Prelude.{◌≡◌, ◌⊎◌, ◌==◌, ◌||◌, ℕ, Bool, List, ◌++◌, codes, Option, Result, Ok}
+use Rattle.std.specs.Prelude.{Err, if◌then◌else◌}
 use Rattle.std.specs.Fmt.{decimal}
 use Rattle.std.specs.Io.KnownBytes.{Appends}
 use Rattle.block_device.specs.Streams.{FailsToSend}
@@ -10,10 +11,20 @@ use Rattle.norbd_line.specs.declared.fault.Fault.{Fault}
 use Rattle.norbd_line.specs.declared.fault.Fault.TheVariants as ends
 use Rattle.norbd_run.specs.Formatting.{NothingWritten}
 
--- the line before the first client is accepted
+-- flashrom knows chips of so many KiB by their ids: the powers of two from 512 on
+abbrev pub is_known_by_id : ℕ → Bool
+is_known_by_id kib = (kib == 512) || (kib == 1024) || (kib == 2048) || (kib == 4096)
+    || (kib == 8192) || (kib == 16384)
+
+-- any other size it reads in the chip's table, where it is told to
+abbrev pub after_port : Bool → List ℕ
+after_port known = if known then codes "\n"
+    else codes "\nflashrom reads its size by -c 'SFDP-capable chip' alone\n"
+
+-- what is told before the first client is accepted
 abbrev pub chip_text : ℕ → ℕ → List ℕ
 chip_text kib port = codes "chip of "
-    ++ (decimal kib ++ (codes " KiB on port " ++ (decimal port ++ codes "\n")))
+    ++ (decimal kib ++ (codes " KiB on port " ++ (decimal port ++ after_port (is_known_by_id kib))))
 
 -- What `chip` writes: the line about a chip of some size once it answers, a beginning of it where
 -- the output fails, and nothing with a fault that comes before.

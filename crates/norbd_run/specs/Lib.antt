@@ -5,9 +5,11 @@ pub mod Listening
 pub mod Opening
 pub mod Serving
 pub mod Checking
+pub mod Comparing
 pub mod Moving
 pub mod Rescuing
 pub mod Showing
 pub mod Looking
 pub mod Chips
 pub mod Lines
+pub mod Unprotecting

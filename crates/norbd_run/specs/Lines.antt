@@ -4,7 +4,7 @@ use Rattle.norbd_line.specs.Line.{IsChipInRange, IsServeInRange, IsSize}
 use Rattle.norbd_line.specs.declared.fault.Fault.{Fault}
 use Rattle.norbd_line.specs.declared.line.Line.{Line}
 use Rattle.norbd_line.specs.declared.line.Line.TheVariants.{Chip, Plain, Format, Script, Serve}
-use Rattle.norbd_line.specs.declared.line.Line.TheVariants.{Check, Show, Read, Write}
+use Rattle.norbd_line.specs.declared.line.Line.TheVariants.{Check, Show, Read, Unprotect, Write}
 use Rattle.norbd_line.specs.declared.line.Line.TheVariants.{Rescue, Status}
 use Rattle.norbd_run.specs.Checking.{CheckTells}
 use Rattle.norbd_run.specs.Chips.{ChipTells}
@@ -17,6 +17,7 @@ use Rattle.norbd_run.specs.Rescuing.{RescueTells}
 use Rattle.norbd_run.specs.Scripting.{Scripts, Streams}
 use Rattle.norbd_run.specs.Serving.{PlainServes}
 use Rattle.norbd_run.specs.Showing.{ShowTells}
+use Rattle.norbd_run.specs.Unprotecting.{UnprotectTells}
 
 -- a chip has a size of chips, and what is served numbers in their ranges
 abbrev pub HasNumbers : Line → Type 0
@@ -26,7 +27,8 @@ HasNumbers (Format image kib forced sure) = IsSize kib
 HasNumbers (Script kib) = IsSize kib
 HasNumbers (Serve asked) = IsServeInRange asked
 HasNumbers (Status path tells_json) = Unit {0}
-HasNumbers (Check image mends tells_json) = Unit {0}
+HasNumbers (Check image mends tells_json dump) = Unit {0}
+HasNumbers (Unprotect image sure) = Unit {0}
 HasNumbers (Show image) = Unit {0}
 HasNumbers (Read image range) = Unit {0}
 HasNumbers (Write image range) = Unit {0}
@@ -40,7 +42,8 @@ ReadsNothing (Format image kib forced sure) = Unit {0}
 ReadsNothing (Script kib) = ⊥
 ReadsNothing (Serve asked) = Unit {0}
 ReadsNothing (Status path tells_json) = Unit {0}
-ReadsNothing (Check image mends tells_json) = Unit {0}
+ReadsNothing (Check image mends tells_json dump) = Unit {0}
+ReadsNothing (Unprotect image sure) = Unit {0}
 ReadsNothing (Show image) = Unit {0}
 ReadsNothing (Read image range) = Unit {0}
 ReadsNothing (Write image range) = ⊥
@@ -64,8 +67,10 @@ LineDoes (Serve asked) old result new =
     × (asked.conns ≡ None → IsErr result)
 LineDoes (Status path tells_json) old result new =
     StatusTells tells_json old.written old.writes result new.written new.writes
-LineDoes (Check image mends tells_json) old result new =
+LineDoes (Check image mends tells_json dump) old result new =
     CheckTells mends tells_json old.written old.writes result new.written new.writes
+LineDoes (Unprotect image sure) old result new =
+    UnprotectTells sure old.written old.writes result new.written new.writes
 LineDoes (Show image) old result new =
     ShowTells old.written old.writes result new.written new.writes
 LineDoes (Read image range) old result new =

@@ -7,10 +7,12 @@ ghost use Rattle.norbd_run.specs.Listening.{IsRefusal};
 ghost use Rattle.norbd_run.specs.Opening.{IsCheckedClean, IsReason};
 ghost use Rattle.sector_survey.specs.Reports.{IsReportOf};
 
-use crate::chip_disk::bytes_behind;
+use crate::against::compared;
+use crate::chip_disk::bytes_and_status;
 use crate::format::told_as;
 use crate::image_disk::{bytes_of, copied_disk, hold_image};
 use crate::image_log::{looked_through, take_up, tell_log};
+use crate::protected::with_protection;
 use crate::read::send_bytes;
 use crate::serve::{tell, told_of_mount};
 use block_device::Sink;
@@ -38,8 +40,8 @@ pub(crate) struct Checked {
 /// What was found of an image: the report as a text, and its end.
 #[derive(Drop)]
 pub(crate) struct Looked {
-    text: String,
-    end: Result<Checked, Fault>,
+    pub(crate) text: String,
+    pub(crate) end: Result<Checked, Fault>,
 }
 
 /// What a check is to do: to mend the image, and to tell it to programs.
@@ -52,17 +54,20 @@ pub(crate) struct How {
 /// Says on `writer` whether the image in the file at a path would be served: a report, in JSON
 /// where `json` is set, and where it would be a line with its sectors. The file stays as it is, and
 /// need not be one that this process may write, but that with `mend` an image that isn't clean is
-/// replaced as a whole by a clean one of the same sectors.
+/// replaced as a whole by a clean one of the same sectors. One that is clean then is compared with
+/// the older copy in the file at the path `against`, where there is one.
 ///
 /// `InUse` where another process has the image, `ImageFailed` where it can't be opened, read or
 /// replaced, `BadImageSize`; `NotFormatted` and `Corrupt` where a mount answers so; `NotClean`
-/// where `mend` isn't set; `NoMemory` where there is none for three chips and a disk.
+/// where `mend` isn't set; `NoMemory` where there is none for three chips and a disk. `ImageFailed`
+/// with `Differs` where sectors differ from the copy's, with `Dump` or `DumpSize` where it is none.
 /// `OutputFailed` where the report or the line could not be written.
 pub fn run_check<R, K>(
     rt: &R,
     path: &str,
     mend: bool,
     json: bool,
+    against: Option<&str>,
     writer: &mut K,
 ) -> Result<(), Fault>
 where
@@ -73,7 +78,7 @@ where
         (K.written writer.new) (K.faults writer.new) }
 {
     let how = How { mend, json };
-    let looked = check_file(rt, path, how)?;
+    let looked = check_file(rt, path, how, against)?;
     tell_looked(rt.alloc(), looked, how, writer)
 }
 
@@ -95,7 +100,7 @@ pub(crate) fn tell_looked<K: Sink>(
     }
     match end {
         Ok(checked) => {
-            let line = text_about(alloc, checked, how.json);
+            let line = line_about(alloc, checked, how.json);
             tell(writer, line)
         }
         Err(fault) => Err(fault),
@@ -103,7 +108,7 @@ pub(crate) fn tell_looked<K: Sink>(
 }
 
 /// The line about an image; none for programs.
-fn text_about(alloc: Global, checked: Checked, json: bool) -> Result<String, AllocError>
+pub(crate) fn line_about(alloc: Global, checked: Checked, json: bool) -> Result<String, AllocError>
     ensures { IfOk result (λ text.
         string_bytes text ≡ last_text json checked.mended checked.sectors) }
 {
@@ -119,7 +124,7 @@ fn text_about(alloc: Global, checked: Checked, json: bool) -> Result<String, All
 }
 
 /// Checks the image in a file, which no other process has meanwhile.
-fn check_file<R>(rt: &R, path: &str, how: How) -> Result<Looked, Fault>
+fn check_file<R>(rt: &R, path: &str, how: How, against: Option<&str>) -> Result<Looked, Fault>
 where
     R: Files + AllocGlobal,
     R::File: ImageFile,
@@ -134,16 +139,47 @@ where
     }
     let through = looked_through(rt, path, &held)?;
     let looked = look_over(rt.alloc(), through.bytes.as_slice(), through.log_len, how)?;
+    let (looked, bytes) = with_mending(rt, path, &held, looked, through.bytes, how)?;
+    match against {
+        Some(dump) => compared(rt, looked, bytes, dump, how),
+        None => Ok(looked),
+    }
+}
+
+/// What is found of an image that is held, and its bytes, once it is mended where it isn't clean
+/// and is to be.
+fn with_mending<R>(
+    rt: &R,
+    path: &str,
+    held: &Held<R::File>,
+    looked: Looked,
+    bytes: Vec<u8>,
+    how: How,
+) -> Result<(Looked, Vec<u8>), Fault>
+where
+    R: Files + AllocGlobal,
+    R::File: ImageFile,
+    requires size { IsChipSize (length bytes.items) }
+    requires end { IfErr looked.end IsRefusal }
+    requires unmended { IfOk looked.end (λ checked. checked.mended ≡ false) }
+    ensures size { IfOk result (λ it. IsChipSize (length it.1.items)) }
+    ensures mends { IfOk result (λ it. IfOk it.0.end (λ checked. checked.mended ≡ true
+        → how.mend ≡ true)) }
+    ensures end { IfOk result (λ it. IfErr it.0.end IsRefusal) }
+    ensures refused { IfErr result IsRefusal }
+{
     let Looked { text, end } = looked;
     match end {
-        Err(Fault::NotClean) if how.mend => Ok(Looked {
-            text,
-            end: Ok(Checked {
-                sectors: mend_file(rt, path, &held)?,
+        Err(Fault::NotClean) if how.mend => {
+            let bytes = mend_file(rt, path, held)?;
+            let sectors = sectors_of(bytes.as_slice());
+            let end = Ok(Checked {
+                sectors,
                 mended: true,
-            }),
-        }),
-        end => Ok(Looked { text, end }),
+            });
+            Ok((Looked { text, end }, bytes))
+        }
+        end => Ok((Looked { text, end }, bytes)),
     }
 }
 
@@ -320,19 +356,20 @@ fn plain_text(
     }
 }
 
-/// Mends the image in a file that is held, and tells its sectors.
-fn mend_file<R>(rt: &R, path: &str, held: &Held<R::File>) -> Result<u32, Fault>
+/// Mends the image in a file that is held, and answers its bytes then.
+fn mend_file<R>(rt: &R, path: &str, held: &Held<R::File>) -> Result<Vec<u8>, Fault>
 where
     R: Files + AllocGlobal,
     R::File: ImageFile,
-    ensures { IfErr result IsRefusal }
+    ensures size { IfOk result (λ bytes. IsChipSize (length bytes.items)) }
+    ensures refused { IfErr result IsRefusal }
 {
     let image = bytes_of(rt, held)?;
     let mended = mended(rt.alloc(), image)?;
     if let Err(error) = rewrite_image(rt, path, held, mended.as_slice()) {
         return Err(told_as(error));
     }
-    Ok(sectors_of(mended.as_slice()))
+    Ok(mended)
 }
 
 /// The bytes of a freshly formatted chip that holds the sectors of an image. Of one of layout 1 its
@@ -374,10 +411,12 @@ pub fn run_check_chip<R, K>(
     place: ProgrammerPlace<'_>,
     mend: bool,
     json: bool,
+    against: Option<&str>,
     writer: &mut K,
 ) -> Result<(), Fault>
 where
     R: Files + AllocGlobal + Clock + Log + Net<Stream = TcpStream>,
+    R::File: ImageFile,
     K: Sink,
     ensures { CheckTells mend json (K.written writer.old) (K.faults writer.old) result
         (K.written writer.new) (K.faults writer.new) }
@@ -385,8 +424,13 @@ where
     if mend {
         return Err(Fault::ImageFailed(Cause::Chip(ChipCause::Unable)));
     }
-    let bytes = bytes_behind(rt, place)?;
+    let (bytes, status) = bytes_and_status(rt, place)?;
     let how = How { mend, json };
     let looked = look_over(rt.alloc(), bytes.as_slice(), 0, how)?;
+    let looked = with_protection(rt.alloc(), looked, status, json)?;
+    let looked = match against {
+        Some(dump) => compared(rt, looked, bytes, dump, how)?,
+        None => looked,
+    };
     tell_looked(rt.alloc(), looked, how, writer)
 }

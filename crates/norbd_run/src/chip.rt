@@ -1,7 +1,7 @@
 //! `chip`: the chip in an image file answers the serprog protocol.
 ghost use Rattle.std.specs.Prelude.{◌≡◌, ◌<◌, IfOk, string_bytes};
 ghost use Rattle.norbd_line.specs.Line.{IsChipInRange};
-ghost use Rattle.norbd_run.specs.Chips.{ChipTells, chip_text};
+ghost use Rattle.norbd_run.specs.Chips.{ChipTells, chip_text, is_known_by_id};
 
 use crate::format::told_as;
 use crate::image_disk::bytes_of;
@@ -71,11 +71,24 @@ where
     }
 }
 
-/// The line about a chip of so many KiB.
+/// The line about a chip of so many KiB, and one where flashrom doesn't know that size by the id.
 fn text_about(alloc: Global, kib: u64, port: u32) -> Result<String, AllocError>
     ensures { IfOk result (λ text. string_bytes text ≡ chip_text kib port) }
 {
-    format!(in alloc; "chip of {kib} KiB on port {port}\n")
+    if is_known_by_id(kib) {
+        format!(in alloc; "chip of {kib} KiB on port {port}\n")
+    } else {
+        format!(in alloc;
+            "chip of {kib} KiB on port {port}\nflashrom reads its size by -c 'SFDP-capable chip' alone\n"
+        )
+    }
+}
+
+/// Whether flashrom knows chips of so many KiB by their ids.
+fn is_known_by_id(kib: u64) -> bool
+    ensures { result ≡ is_known_by_id kib }
+{
+    kib == 512 || kib == 1_024 || kib == 2_048 || kib == 4_096 || kib == 8_192 || kib == 16_384
 }
 
 /// Answers one client of a listener after another for the chip on a bus, and syncs the file of its

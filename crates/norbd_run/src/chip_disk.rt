@@ -7,11 +7,13 @@ ghost use Rattle.norbd_run.specs.Listening.{IsRefusal};
 
 use crate::serve::open_bus;
 use block_device::Disk;
+use chip_model::SpiBus;
 use flash_disk::FlashDisk;
 use norbd_chip::{ChipFault, Noted, Noting, Reached, Report, watch, watch_noting};
-use norbd_line::{Cause, Fault, TidyPolicy};
+use norbd_line::{Cause, ChipCause, Fault, TidyPolicy};
 use norbd_serve::Log;
 use norbd_status::{CountedBus, Wear};
+use restored_disk::RestoredDisk;
 use serprog_link::ProgrammerPlace;
 use std::alloc::Global;
 use std::marker::Brand;
@@ -28,7 +30,8 @@ where
     ensures size { IfOk result (λ bytes. IsChipSize (length bytes.items)) }
     ensures refused { IfErr result IsRefusal }
 {
-    let bus = match watch(rt, Reporter { rt }, rt.alloc(), place, false) {
+    let noted = Noted::new();
+    let bus = match watch(rt, Reporter { rt }, rt.alloc(), place, false, &noted) {
         Ok(bus) => bus,
         Err(fault) => return Err(told_of_chip(fault)),
     };
@@ -38,13 +41,40 @@ where
     }
 }
 
-/// The disk on such a chip: its departures are noted, and its erases counted.
-pub(crate) type DiskBehind<'r, 'p, 'n, R> = FlashDisk<
-    CountedBus<Noting<'n, Reached<'r, 'p, R, Reporter<'r, R>>>>,
-    Brand,
+/// As `bytes_behind`, and the byte of the chip's status register 1.
+#[tactic(auto, using(crate::proofs::Refusals::chip_is_refusal))]
+pub(crate) fn bytes_and_status<R>(
+    rt: &R,
+    place: ProgrammerPlace<'_>,
+) -> Result<(Vec<u8>, u8), Fault>
+where
+    R: Files + AllocGlobal + Clock + Log + Net<Stream = TcpStream>,
+    ensures size { IfOk result (λ it. IsChipSize (length it.0.items)) }
+    ensures refused { IfErr result IsRefusal }
+{
+    let noted = Noted::new();
+    let mut bus = match watch_noting(rt, Reporter { rt }, rt.alloc(), place, false, &noted) {
+        Ok(bus) => bus,
+        Err(fault) => return Err(told_of_chip(fault)),
+    };
+    let Ok(bytes) = bus.memory().to_vec(rt.alloc()) else {
+        return Err(Fault::NoMemory);
+    };
+    let mut status = [0u8; 1];
+    match bus.transact(&[0x05], &mut status) {
+        Ok(()) => Ok((bytes, status[0])),
+        Err(_) => Err(Fault::ImageFailed(Cause::Chip(noted.cause()))),
+    }
+}
+
+/// The disk on such a chip: its departures are noted, its erases counted, and after a loss that the
+/// chip came through it goes on.
+pub(crate) type DiskBehind<'r, 'p, 'n, R> = RestoredDisk<
+    FlashDisk<CountedBus<Noting<'n, Reached<'r, 'p, 'n, R, Reporter<'r, R>>>>, Brand>,
 >;
 
-/// The disk on the chip behind the programmer at a place, whose departures are noted.
+/// The disk on the chip behind the programmer at a place, whose departures are noted. Where it is
+/// lost, that is told, and so is its return.
 #[tactic(auto, using(crate::proofs::Refusals::chip_is_refusal))]
 pub(crate) fn disk_behind<'r, 'p, 'n, R>(
     rt: &'r R,
@@ -56,6 +86,7 @@ pub(crate) fn disk_behind<'r, 'p, 'n, R>(
 ) -> Result<DiskBehind<'r, 'p, 'n, R>, Fault>
 where
     R: Files + AllocGlobal + Clock + Log + Net<Stream = TcpStream>,
+    R: 'static,
     ensures refused { IfErr result IsRefusal }
     ensures sound { IfOk result (λ disk.
         (⟦<DiskBehind<'r, 'p, 'n, R> as Disk>⟧.facts disk).sound ≡ true) }
@@ -70,21 +101,40 @@ where
         return Err(Fault::NoMemory);
     };
     match open_bus(rt.alloc(), bus, copy, tidy, wear) {
-        Ok(disk) => Ok(disk),
+        Ok(disk) => Ok(RestoredDisk::new(disk)),
         Err(Fault::ImageFailed(_)) => Err(Fault::ImageFailed(Cause::Chip(noted.cause()))),
         Err(fault) => Err(fault),
     }
 }
 
-/// Tells how far a chip has been read where connections are told of too.
+/// Tells what is waited for with a chip, and of its losses, where connections are told of too.
 #[derive(Drop)]
 pub struct Reporter<'r, R> {
     pub(crate) rt: &'r R,
 }
 
-impl<R: Log> Report for Reporter<'_, R> {
+impl<R: AllocGlobal + Log> Report for Reporter<'_, R> {
     fn tell_read(&self, kib: u32) {
         self.rt.tell_read(kib)
+    }
+
+    fn tell_busy(&self, seconds: u64) {
+        self.rt.tell_busy(seconds)
+    }
+
+    fn tell_clock(&self, hz: u32) {
+        self.rt.tell_clock(hz)
+    }
+
+    fn tell_lost(&self, cause: ChipCause) {
+        match format!(in self.rt.alloc(); "{cause}") {
+            Ok(text) => self.rt.tell_lost(text.as_str()),
+            Err(_) => self.rt.tell_lost("no memory to say why"),
+        }
+    }
+
+    fn tell_back(&self) {
+        self.rt.tell_back()
     }
 }
 

@@ -9,7 +9,7 @@ use crate::read::send_bytes;
 use block_device::Sink;
 use chip_model::Geometry;
 use nor_driver::ProbeError;
-use norbd_chip::format_chip;
+use norbd_chip::{Noted, format_chip};
 use norbd_image::{ImageError, ImageFile, formatted_image, write_image};
 use norbd_line::{Cause, Fault};
 use norbd_serve::Log;
@@ -119,7 +119,8 @@ where
     let Ok(text) = text_about(rt.alloc(), kib) else {
         return Err(Fault::NoMemory);
     };
-    match format_chip(rt, Reporter { rt }, rt.alloc(), place, kib, sure) {
+    let noted = Noted::new();
+    match format_chip(rt, Reporter { rt }, rt.alloc(), place, kib, sure, &noted) {
         Ok(_) => {}
         Err(fault) => return Err(told_of_chip(fault)),
     }

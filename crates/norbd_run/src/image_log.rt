@@ -6,20 +6,13 @@ ghost use Rattle.norbd_run.specs.Listening.{IsRefusal};
 use crate::image_disk::bytes_of;
 use crate::serve::told_of_mount;
 use norbd_image::{
-    Held, ImageFile, LOG_HEAD_LEN, LogError, chip_in, log_beside, log_bytes, remove_log, settle_log,
+    Held, ImageFile, Joined, LogError, chip_in, log_beside, log_bytes, remove_log, settle_log,
 };
 use norbd_line::{Cause, Fault};
 use std::alloc::{AllocError, Global};
 use std::io;
 use std::io::ErrorKind;
 use std::rt::Files;
-
-/// The chip that an image and the log beside it hold: its bytes, and how many bytes the log has.
-#[derive(Drop)]
-pub(crate) struct Through {
-    pub(crate) bytes: Vec<u8>,
-    pub(crate) log_len: usize,
-}
 
 /// What a failed call on the log beside an image is for the program.
 pub(crate) fn told_of_log(error: io::Error) -> Fault
@@ -70,7 +63,7 @@ where
 }
 
 /// The chip that an image, which is held, and the log beside it hold. Neither file is changed.
-pub(crate) fn looked_through<R>(rt: &R, path: &str, held: &Held<R::File>) -> Result<Through, Fault>
+pub(crate) fn looked_through<R>(rt: &R, path: &str, held: &Held<R::File>) -> Result<Joined, Fault>
 where
     R: Files + AllocGlobal,
     R::File: ImageFile,
@@ -79,20 +72,15 @@ where
 {
     let image = bytes_of(rt, held)?;
     let log = log_of(rt, path)?;
-    let log_len = if log.len() <= LOG_HEAD_LEN {
-        0
-    } else {
-        log.len()
-    };
     match chip_in(rt.alloc(), image, log.as_slice()) {
-        Ok(bytes) => Ok(Through { bytes, log_len }),
+        Ok(both) => Ok(both),
         Err(error) => Err(told_of_both(error)),
     }
 }
 
-/// Writes what the log beside an image has into the image, which is held, and takes the log away.
-/// Where it has nothing the image stays as it is. Nothing is synced where `syncs` isn't set.
-pub(crate) fn take_up<R>(rt: &R, path: &str, held: &Held<R::File>, syncs: bool) -> Result<(), Fault>
+/// Writes what the log beside an image has into the image, which is held; a log that has something
+/// stays, and says nothing then. Nothing is synced where `syncs` isn't set.
+pub(crate) fn settle<R>(rt: &R, path: &str, held: &Held<R::File>, syncs: bool) -> Result<(), Fault>
 where
     R: Files + AllocGlobal,
     R::File: ImageFile,
@@ -108,13 +96,24 @@ where
         Ok(files) => files,
         Err(error) => return Err(told_of_log(error)),
     };
-    match settle_log(rt.alloc(), files, image, log.as_slice()) {
-        Ok(()) => {
-            let _ = remove_log(rt, path);
-            Ok(())
-        }
+    let (_files, settled) = settle_log(rt.alloc(), files, image, log.as_slice());
+    match settled {
+        Ok(()) => Ok(()),
         Err(error) => Err(told_of_both(error)),
     }
+}
+
+/// Writes what the log beside an image has into the image, which is held, and takes the log away.
+/// Where it has nothing the image stays as it is. Nothing is synced where `syncs` isn't set.
+pub(crate) fn take_up<R>(rt: &R, path: &str, held: &Held<R::File>, syncs: bool) -> Result<(), Fault>
+where
+    R: Files + AllocGlobal,
+    R::File: ImageFile,
+    ensures { IfErr result IsRefusal }
+{
+    settle(rt, path, held, syncs)?;
+    let _ = remove_log(rt, path);
+    Ok(())
 }
 
 /// Takes the log away that is beside an image that was replaced by these bytes; a file that is no

@@ -24,6 +24,7 @@
 //! requests and replies.
 #![tactic(auto)]
 
+mod against;
 mod check;
 mod chip;
 mod chip_disk;
@@ -36,6 +37,7 @@ mod output;
 mod plain;
 mod printing;
 mod progress;
+mod protected;
 mod read;
 mod rescue;
 mod run;
@@ -45,6 +47,7 @@ mod serve_chip;
 mod show;
 mod standard;
 mod status;
+mod unprotect;
 mod watching;
 mod write;
 
@@ -65,4 +68,5 @@ pub use serve_chip::run_serve_chip;
 pub use show::{run_show, run_show_chip};
 pub use standard::{Null, Opens, Standard, hold_standard};
 pub use status::run_status;
+pub use unprotect::run_unprotect;
 pub use write::{run_write, run_write_chip};

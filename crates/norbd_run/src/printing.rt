@@ -1,8 +1,8 @@
 //! What is printed of a fault: its text, the file or the place that it is about, and the cause.
 
 use crate::check::report_about;
-use crate::image_log::{Through, looked_through};
-use norbd_image::{ImageFile, hold_to_read, log_path};
+use crate::image_log::looked_through;
+use norbd_image::{ImageFile, Joined, hold_to_read, log_path};
 use norbd_line::{Answer, Cause, Fault, Line, Place};
 use norbd_survey::Reason;
 use sector_survey::Verdict;
@@ -41,7 +41,7 @@ where
     match (fault, line) {
         (Fault::Corrupt, Line::Check { .. }) => None,
         (Fault::Corrupt, line) => match image_of(Some(line)) {
-            Subject::Path(path) if programmer_of(path).is_none() => reason_in(rt, path),
+            Subject::Path(path) if programmer_of(path, None).is_none() => reason_in(rt, path),
             _ => None,
         },
         (Fault::ImageFailed(Cause::Log(_)), line) => log_in(rt, image_of(Some(line))),
@@ -71,7 +71,7 @@ where
     let Ok(held) = hold_to_read(rt, path) else {
         return None;
     };
-    let Ok(Through { bytes, .. }) = looked_through(rt, path, &held) else {
+    let Ok(Joined { bytes, .. }) = looked_through(rt, path, &held) else {
         return None;
     };
     let image = bytes.as_slice();
@@ -107,6 +107,7 @@ fn image_of(line: Option<Line<'_>>) -> Subject<'_> {
         Some(Line::Format { image, .. }) => Subject::Path(image),
         Some(Line::Serve(asked)) => Subject::Path(asked.image),
         Some(Line::Check { image, .. }) => Subject::Path(image),
+        Some(Line::Unprotect { image, .. }) => Subject::Path(image),
         Some(Line::Show { image }) => Subject::Path(image),
         Some(Line::Read { image, .. }) => Subject::Path(image),
         Some(Line::Write { image, .. }) => Subject::Path(image),

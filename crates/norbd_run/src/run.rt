@@ -14,6 +14,7 @@ use crate::rescue::run_rescue;
 use crate::script::run_script;
 use crate::show::{run_show, run_show_chip};
 use crate::status::{run_status, serve_line};
+use crate::unprotect::run_unprotect;
 use crate::write::{run_write, run_write_chip};
 use block_device::{Sink, Source};
 use nbd_share::LEDGER_PARTS;
@@ -24,7 +25,8 @@ use serprog_link::programmer_of;
 use std::marker::Brand;
 use std::sync::ledger::Blank;
 
-/// Does what a line asks.
+/// Does what a line asks. The programmer of its chip, where it has one, is to set this clock in Hz,
+/// where there is one.
 ///
 /// `plain`: answers the NBD requests that come from `reader`, transmission bytes alone, over a disk
 /// of zeros in memory, with replies to `writer`, each as soon as the last byte of its request has
@@ -52,6 +54,10 @@ use std::sync::ledger::Blank;
 /// `check`: says on `writer` whether the image in the file at the path would be served, and mends
 /// it where that is asked; its faults are those of `run_check`. Nothing is read.
 ///
+/// `unprotect`: ends the protection of the chip behind the programmer that the line names, with a
+/// line about it to `writer`; its faults are those of `run_unprotect`, or `NoProgrammer` of a file.
+/// Nothing is read.
+///
 /// `show` draws the blocks of the image in the file at the path, with `colours` in those of a
 /// terminal, `read` writes its sectors, `write` replaces them by the bytes of `reader`, and
 /// `rescue` writes those that can still be told; their faults are those of `run_show`, `run_read`,
@@ -61,6 +67,7 @@ use std::sync::ledger::Blank;
 pub fn run_line<R, S, K>(
     rt: &R,
     line: Line<'_>,
+    clock: Option<u32>,
     colours: bool,
     reader: &mut S,
     writer: &mut K,
@@ -105,30 +112,39 @@ where
             kib,
             force,
             sure,
-        } => match programmer_of(image) {
+        } => match programmer_of(image, clock) {
             Some(place) => run_format_chip(rt, place, kib, sure, writer),
             None => run_format(rt, image, kib, force, writer),
         },
         Line::Script { kib } => run_script(rt.alloc(), kib, reader, writer),
-        Line::Serve(line) => serve_line(rt, line, writer),
+        Line::Serve(line) => serve_line(rt, line, clock, writer),
         Line::Status { path, json } => run_status(rt, path, json, writer),
-        Line::Check { image, mend, json } => match programmer_of(image) {
-            Some(place) => run_check_chip(rt, place, mend, json, writer),
-            None => run_check(rt, image, mend, json, writer),
+        Line::Check {
+            image,
+            mend,
+            json,
+            against,
+        } => match programmer_of(image, clock) {
+            Some(place) => run_check_chip(rt, place, mend, json, against, writer),
+            None => run_check(rt, image, mend, json, against, writer),
         },
-        Line::Show { image } => match programmer_of(image) {
+        Line::Unprotect { image, sure } => match programmer_of(image, clock) {
+            Some(place) => run_unprotect(rt, place, sure, writer),
+            None => Err(Fault::ImageFailed(Cause::Chip(ChipCause::NoProgrammer))),
+        },
+        Line::Show { image } => match programmer_of(image, clock) {
             Some(place) => run_show_chip(rt, place, colours, writer),
             None => run_show(rt, image, colours, writer),
         },
-        Line::Read { image, sectors } => match programmer_of(image) {
+        Line::Read { image, sectors } => match programmer_of(image, clock) {
             Some(place) => run_read_chip(rt, place, sectors, writer),
             None => run_read(rt, image, sectors, writer),
         },
-        Line::Write { image, sectors } => match programmer_of(image) {
+        Line::Write { image, sectors } => match programmer_of(image, clock) {
             Some(place) => run_write_chip(rt, place, sectors, reader, writer),
             None => run_write(rt, image, sectors, reader, writer),
         },
-        Line::Rescue { image } => match programmer_of(image) {
+        Line::Rescue { image } => match programmer_of(image, clock) {
             Some(_) => Err(Fault::ImageFailed(Cause::Chip(ChipCause::FileAlone))),
             None => run_rescue(rt, image, writer),
         },

@@ -16,14 +16,14 @@ ghost use Rattle.norbd_line.specs.Line.{IsConns, IsPlace};
 
 use crate::host::Host;
 use crate::image_disk::{bytes_of, copied_disk, hold_image};
-use crate::image_log::{looked_through, take_up, told_of_log};
+use crate::image_log::{looked_through, settle, take_up, told_of_log};
 use crate::listening::listen_at;
 use crate::script::told_of_probe;
 use crate::watching::Watching;
 use block_device::{Disk, DiskError, Sink, send};
 use chip_model::SpiBus;
 use chip_simulator::{PromptChip, SimError};
-use disk_log::{ImageDisk, LoggedDisk, Sum};
+use disk_log::{ImageDisk, LoggedDisk, Sum, begin_anew};
 use flash_disk::{FlashDisk, MountError};
 use nbd_durable::{Durable, Policy};
 use nbd_history::{Hands, Opened};
@@ -33,7 +33,7 @@ use nbd_share::{
 };
 use nbd_wire::Export;
 use nor_layout::BLOCK_LEN;
-use norbd_image::{FileImages, Held, ImageFile, MemoryDisk, begin_log, log_beside};
+use norbd_image::{FileImages, Held, ImageFile, MemoryDisk, log_beside};
 use norbd_line::{Cause, Fault, Place, SyncPolicy, TidyPolicy};
 use norbd_serve::{Connections, Listener, OpenGate, ServeFault, StatusSocket, serve};
 use norbd_status::{CountedBus, Wear};
@@ -156,7 +156,7 @@ where
     }
     let held = hold_image(rt, image, true)?;
     let syncs = asked.sync != SyncPolicy::Never;
-    take_up(rt, image, &held, syncs)?;
+    settle(rt, image, &held, syncs)?;
     let done = serve_held(rt, listener, image, &held, asked, writer);
     if take_up(rt, image, &held, syncs).is_err() {
         rt.tell_unsettled(image);
@@ -164,7 +164,7 @@ where
     done
 }
 
-/// Serves the chip in a file that is held, beside which there is no log yet.
+/// Serves the chip in a file that is held, the log beside which says nothing.
 fn serve_held<R, K>(
     rt: &R,
     listener: Listener,
@@ -202,12 +202,12 @@ where
         Ok(files) => files,
         Err(error) => return Err(told_of_log(error)),
     };
-    let durable = match files.handle() {
-        Ok(handle) => Durable::new(handle, policy_of(asked.sync)),
+    let sum = match begin_anew(&mut files, copy.as_slice()) {
+        Ok(sum) => sum,
         Err(error) => return Err(told_of_log(error)),
     };
-    let sum = match begin_log(&mut files, copy.as_slice()) {
-        Ok(sum) => sum,
+    let durable = match files.handle() {
+        Ok(handle) => Durable::new(handle, policy_of(asked.sync)),
         Err(error) => return Err(told_of_log(error)),
     };
     let disk = MemoryDisk::new(disk);

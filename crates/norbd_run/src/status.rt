@@ -110,7 +110,12 @@ fn read_all(alloc: Global, stream: UnixStream) -> io::Result<String> {
 
 /// Does a line `serve`. Where a status is asked for, its socket is made first, and its file is
 /// taken away at the end; `NoSocket` where it can't be had, and then nothing else is looked for.
-pub(crate) fn serve_line<R, K>(rt: &R, line: ServeLine<'_>, writer: &mut K) -> Result<(), Fault>
+pub(crate) fn serve_line<R, K>(
+    rt: &R,
+    line: ServeLine<'_>,
+    clock: Option<u32>,
+    writer: &mut K,
+) -> Result<(), Fault>
 where
     R: Host,
     R::File: ImageFile + Send + Sync,
@@ -124,13 +129,13 @@ where
     ensures endless { line.entry.conns ≡ None → IsErr result }
 {
     let Some(path) = line.status else {
-        return serve_looked_at(rt, line, None, writer);
+        return serve_looked_at(rt, line, clock, None, writer);
     };
     let listener = match listen_on_path(rt, path) {
         Ok(listener) => listener,
         Err(cause) => return Err(Fault::NoSocket(Cause::Status(cause))),
     };
-    let done = serve_with(rt, line, listener, writer);
+    let done = serve_with(rt, line, clock, listener, writer);
     let _ = fs::remove_file(rt, path);
     done
 }
@@ -139,6 +144,7 @@ where
 fn serve_with<R, K>(
     rt: &R,
     line: ServeLine<'_>,
+    clock: Option<u32>,
     listener: UnixListener,
     writer: &mut K,
 ) -> Result<(), Fault>
@@ -161,7 +167,7 @@ where
         return Err(Fault::NoMemory);
     };
     let look = Look { listener, wear };
-    serve_looked_at(rt, line, Some(&look), writer)
+    serve_looked_at(rt, line, clock, Some(&look), writer)
 }
 
 /// Does a line `serve`, with or without a socket for its status.
@@ -169,6 +175,7 @@ where
 fn serve_looked_at<R, K>(
     rt: &R,
     line: ServeLine<'_>,
+    clock: Option<u32>,
     status: Option<&Look>,
     writer: &mut K,
 ) -> Result<(), Fault>
@@ -198,7 +205,7 @@ where
         verbose: line.verbose,
         status,
     };
-    match programmer_of(line.image) {
+    match programmer_of(line.image, clock) {
         Some(place) => run_serve_chip(rt, place, line.trust, asked, writer),
         None => run_serve(rt, line.image, asked, writer),
     }

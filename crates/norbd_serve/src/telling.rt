@@ -40,6 +40,21 @@ pub trait Log {
     /// Tells that so many KiB of a chip were read. A failure to do so is passed over.
     fn tell_read(&self, _kib: u32) {}
 
+    /// Tells that a chip has been busy for so many seconds, which is waited for. A failure to do so
+    /// is passed over.
+    fn tell_busy(&self, _seconds: u64) {}
+
+    /// Tells that a programmer set this clock, in Hz. A failure to do so is passed over.
+    fn tell_clock(&self, _hz: u32) {}
+
+    /// Tells that a chip was lost, why, and that it is looked at once more. A failure to do so is
+    /// passed over.
+    fn tell_lost(&self, _why: &str) {}
+
+    /// Tells that a chip that was lost is as it has to be, and is served on. A failure to do so is
+    /// passed over.
+    fn tell_back(&self) {}
+
     /// Tells that so many connections are served, which are all that can be, and others wait. A
     /// failure to do so is passed over.
     fn tell_full(&self, _places: usize) {}
@@ -62,6 +77,26 @@ impl Log for HostRuntime {
     /// A line on standard error.
     fn tell_read(&self, kib: u32) {
         let _ = eprintln!(self; "norbd: {kib} KiB of the chip are read");
+    }
+
+    /// A line on standard error.
+    fn tell_busy(&self, seconds: u64) {
+        let _ = eprintln!(self; "norbd: the chip is busy, for {seconds} s now");
+    }
+
+    /// A line on standard error.
+    fn tell_clock(&self, hz: u32) {
+        let _ = eprintln!(self; "norbd: the programmer's clock is {hz} Hz");
+    }
+
+    /// A line on standard error.
+    fn tell_lost(&self, why: &str) {
+        let _ = eprintln!(self; "norbd: the chip is lost: {why}; all of it is read again");
+    }
+
+    /// A line on standard error.
+    fn tell_back(&self) {
+        let _ = eprintln!(self; "norbd: the chip is as it has to be, and is served on");
     }
 
     /// A line on standard error.

@@ -9,11 +9,13 @@
 
 #![tactic(auto)]
 
+mod comparing;
 mod input;
 mod observer;
 mod part;
 mod sectors;
 
+pub use comparing::differing_sectors;
 pub use input::{InputError, receive_exactly};
 pub use observer::Observer;
 pub use part::{Part, range_in};

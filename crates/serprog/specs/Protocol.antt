@@ -2,6 +2,7 @@
 -- version 1.
 use Rattle.std.specs.Prelude.{ℕ, ◌/◌, ◌%◌, ◌^◌, Bool, ◌==◌, List, [], ◌∷◌, ◌++◌, length}
 use Rattle.std.specs.Prelude.{get_or}
+use Rattle.chip_model.specs.declared.programmer.Turn.{Turn}
 
 -- 24 bits, the least significant byte first
 abbrev pub three_bytes : ℕ → List ℕ
@@ -19,3 +20,13 @@ acknowledged told = 6 ∷ told
 -- the answer to Q_CMDMAP has a bit for each command: bit k mod 8 of byte k / 8 for the command k
 abbrev pub is_offered : List ℕ → ℕ → Bool
 is_offered map command = get_or map (command / 8) 0 / 2 ^ (command % 8) % 2 == 1
+
+-- the commands that are these turns, one after another
+abbrev pub spiops : List Turn → List ℕ
+spiops [] = []
+spiops (t ∷ ts) = spiop t.send.items (length t.recv.items) ++ spiops ts
+
+-- what comes back where each of them is answered
+abbrev pub answers : List Turn → List ℕ
+answers [] = []
+answers (t ∷ ts) = acknowledged t.recv.items ++ answers ts

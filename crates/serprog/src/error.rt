@@ -12,7 +12,13 @@ pub enum SerprogError {
     /// A call of a stream failed, or the stream ended before an answer was whole.
     #[error("the connection ended")]
     Lost,
-    /// SYNCNOP (10h) isn't answered by NAK and ACK among the first 256 bytes.
+    /// Nothing came while an answer was waited for.
+    #[error("nothing came for 10 seconds")]
+    Silent,
+    /// Nothing came though SYNCNOP (10h) was sent eight times.
+    #[error("nothing came in 8 tries: is it a serprog programmer, does another client use it?")]
+    Mute,
+    /// SYNCNOP (10h), sent eight times, wasn't answered by NAK and ACK alone.
     #[error("no serprog programmer answers")]
     NoSync,
     /// A command that has to be answered by ACK (06h) is answered by another byte: its code.
@@ -24,6 +30,9 @@ pub enum SerprogError {
     /// A command that is needed isn't offered by Q_CMDMAP (02h): its code.
     #[error("command {0:#04x} is not offered")]
     NotOffered(u8),
+    /// A clock is asked for, and S_SPI_FREQ (14h) isn't offered by Q_CMDMAP.
+    #[error("its clock can't be set: command 0x14 is not offered")]
+    NoClock,
     /// Q_BUSTYPE (05h) doesn't offer SPI: the buses that it offers.
     #[error("no SPI among its buses {0:#04x}")]
     NoSpi(u8),
@@ -34,4 +43,24 @@ pub enum SerprogError {
     /// Q_RDNMAXLEN (11h) tells that less than 4,096 bytes can be received in a frame: how many can.
     #[error("receives {0} bytes in a frame, 4096 are needed")]
     ShortReads(u32),
+}
+
+/// Why a frame wasn't exchanged.
+#[derive(Clone, Copy, Debug, PartialEq, Eq, Drop, Error)]
+pub enum Trouble {
+    /// Nothing came while its answer was waited for.
+    #[error("nothing came for 10 seconds")]
+    Silent,
+    /// A call of a stream failed, or the stream ended.
+    #[error("the connection ended")]
+    Ended,
+    /// The programmer answered NAK (15h).
+    #[error("the programmer refused it")]
+    Refused,
+    /// This byte came in the place of ACK (06h).
+    #[error("{0:#04x} came in the place of ACK: the programmer is out of step")]
+    OutOfStep(u8),
+    /// The programmer takes no frame of this length.
+    #[error("the programmer takes no frame of this length")]
+    TooLong,
 }

@@ -12,6 +12,13 @@ pub struct Identity {
     pub sends: u32,
     /// How many bytes can be received in a frame (Q_RDNMAXLEN, 11h), from 4,096 to 16,777,215.
     pub receives: u32,
+    /// How many bytes of commands may be on the way to it (Q_SERBUF, 04h), from 0 to 65,535; 65,535
+    /// is any number of them. Where it doesn't tell, 16, as flashrom takes it.
+    pub buffers: u16,
+    /// The clock in Hz that it set, where one was asked for (S_SPI_FREQ, 14h).
+    pub clock: Option<u32>,
+    /// Whether it has pin drivers (S_PIN_STATE, 15h): they are on, and to be turned off at the end.
+    pub drives_pins: bool,
 }
 
 /// Whether a command is offered in the answer to Q_CMDMAP (02h).

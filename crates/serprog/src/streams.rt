@@ -1,10 +1,21 @@
 //! The two streams of a programmer.
 
-ghost use Rattle.std.specs.Prelude.{◌≡◌, OnOk};
+ghost use Rattle.std.specs.Prelude.{◌≡◌, ◌<◌, OnOk};
 ghost use Rattle.std.specs.Io.KnownBytes.{Consumes};
 
 use block_device::{Sink, Source};
 use std::io::ErrorKind;
+
+/// The stream from a programmer, of which a read waits for bytes, and not for ever.
+pub trait Incoming: Source {
+    /// Sets how long a read waits for its first byte, in milliseconds, above 0: one in which none
+    /// comes fails. It moves no byte.
+    fn wait_at_most(&mut self, millis: u32)
+        requires { 0 < millis };
+
+    /// Whether the last read failed since no byte came while it waited.
+    fn is_silent(&self) -> bool;
+}
 
 /// What begins streams to a programmer.
 pub trait Dialer<I, O> {

@@ -8,7 +8,7 @@ use Rattle.serprog_link.specs.declared.serial.SerialOut.{SerialOut}
 use Rattle.serprog_link.specs.declared.tcp.TcpIn.{TcpIn}
 use Rattle.serprog_link.specs.declared.tcp.TcpOut.{TcpOut}
 
-abbrev pub of_source : {F T : Type 0} → (TcpIn → T) → (SerialIn F → T) → ProgrammerIn F → T
+abbrev pub of_source : {R F T : Type 0} → (TcpIn → T) → (SerialIn R F → T) → ProgrammerIn R F → T
 of_source tcp serial (sources.Tcp half) = tcp half
 of_source tcp serial (sources.Serial half) = serial half
 

@@ -1,7 +1,7 @@
 //! What begins connections to a programmer, of either kind.
 
 use crate::halves::{ProgrammerIn, ProgrammerOut};
-use crate::place::ProgrammerPlace;
+use crate::place::{ProgrammerPlace, Way};
 use crate::serial::SerialDialer;
 use crate::tcp::TcpDialer;
 use serprog::Dialer;
@@ -21,26 +21,28 @@ pub enum ProgrammerDialer<'r, 'p, R> {
 
 impl<'r, 'p, R> ProgrammerDialer<'r, 'p, R> {
     /// A dialer that has begun nothing yet. The patience, which is above 0, is how long a TCP
-    /// connection may take to begin, and each of its reads and writes; a device has its own.
+    /// connection may take to begin, and each of its writes, and a read of either kind until
+    /// `wait_at_most` says something else.
     pub fn new(
         rt: &'r R,
         place: ProgrammerPlace<'p>,
         patience: Duration,
     ) -> ProgrammerDialer<'r, 'p, R> {
-        match place {
-            ProgrammerPlace::Tcp(place) => {
-                ProgrammerDialer::Tcp(TcpDialer::new(rt, place, patience))
-            }
-            ProgrammerPlace::Serial(path) => ProgrammerDialer::Serial(SerialDialer::new(rt, path)),
+        match place.way {
+            Way::Tcp(place) => ProgrammerDialer::Tcp(TcpDialer::new(rt, place, patience)),
+            Way::Serial(path) => ProgrammerDialer::Serial(SerialDialer::new(rt, path, patience)),
         }
     }
 }
 
-impl<R> Dialer<ProgrammerIn<R::File>, ProgrammerOut<R::File>> for ProgrammerDialer<'_, '_, R>
+impl<'r, R> Dialer<ProgrammerIn<'r, R, R::File>, ProgrammerOut<R::File>>
+    for ProgrammerDialer<'r, '_, R>
 where
     R: Files + Net<Stream = TcpStream> + Clock,
 {
-    fn dial(&mut self) -> Result<(ProgrammerIn<R::File>, ProgrammerOut<R::File>), ErrorKind> {
+    fn dial(
+        &mut self,
+    ) -> Result<(ProgrammerIn<'r, R, R::File>, ProgrammerOut<R::File>), ErrorKind> {
         match self {
             ProgrammerDialer::Tcp(dialer) => match dialer.dial() {
                 Ok((source, sink)) => Ok((ProgrammerIn::Tcp(source), ProgrammerOut::Tcp(sink))),

@@ -4,7 +4,7 @@ ghost use Rattle.std.specs.Prelude.{None};
 
 use crate::pause::wait_if_tried;
 use block_device::{Failed, Sink, Source};
-use serprog::Dialer;
+use serprog::{Dialer, Incoming};
 use std::io;
 use std::io::{ErrorKind, IoSlice, Read, Write};
 use std::net::{Net, OpenStream, TcpStream, ToSocketAddrs};
@@ -72,6 +72,7 @@ impl<R: Net<Stream = TcpStream> + Clock> Dialer<TcpIn, TcpOut> for TcpDialer<'_,
 pub struct TcpIn {
     stream: TcpStream,
     failures: u64,
+    silent: bool,
 }
 
 /// The half that is written: a command's head and its bytes go out in one call of the system. After
@@ -88,6 +89,7 @@ pub fn split_stream(stream: TcpStream) -> io::Result<(TcpIn, TcpOut)> {
     let source = TcpIn {
         stream,
         failures: 0,
+        silent: false,
     };
     let sink = TcpOut {
         stream: other,
@@ -102,14 +104,33 @@ impl Source for TcpIn {
     ghost faults = { λ half. half.failures };
 
     fn read(&mut self, into: &mut [u8]) -> Result<usize, Failed> {
+        self.silent = false;
         match self.stream.read(into) {
             Ok(n) => Ok(n),
-            Err(_) if self.failures < u64::MAX => {
+            Err(error) if self.failures < u64::MAX => {
                 self.failures += 1;
+                self.silent = is_in_vain(error.kind());
                 Err(Failed)
             }
             Err(_) => Ok(0),
         }
+    }
+}
+
+/// Whether a read of a socket ended since nothing came in time. Source: socket(7), `SO_RCVTIMEO`.
+fn is_in_vain(kind: ErrorKind) -> bool {
+    matches!(kind, ErrorKind::WouldBlock | ErrorKind::TimedOut)
+}
+
+impl Incoming for TcpIn {
+    /// Where the system refuses it, the last one stays.
+    fn wait_at_most(&mut self, millis: u32) {
+        let patience = Duration::from_millis(millis as u64);
+        let _ = self.stream.set_read_timeout(Some(patience));
+    }
+
+    fn is_silent(&self) -> bool {
+        self.silent
     }
 }
 

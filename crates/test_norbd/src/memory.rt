@@ -5,7 +5,7 @@ ghost use Rattle.norbd_run.specs.Lines.{HasNumbers};
 use crate::serving::{Told, free_port, make, text_of};
 use block_device::FixedIn;
 use norbd_image::ImageFile;
-use norbd_line::{Fault, Line, Place, ServeLine, SyncPolicy, TidyPolicy, read_line};
+use norbd_line::{Fault, Line, Place, ReadLine, ServeLine, SyncPolicy, TidyPolicy, read_line};
 use norbd_run::{Screen, run_line};
 use norbd_serve::Log;
 use std::alloc::Global;
@@ -74,7 +74,7 @@ where
             text: Vec::with_capacity(rt.alloc(), 4_096)?,
         };
         let held = spend(rt.alloc(), *size)?;
-        let done = run_line(rt, line, false, &mut FixedIn::new(input), &mut told);
+        let done = run_line(rt, line, None, false, &mut FixedIn::new(input), &mut told);
         drop(held);
         let text = text_of(rt, done)?;
         if text.as_str() == "no memory" {
@@ -192,7 +192,7 @@ fn serving_without_memory_says_so(rt: HostRuntime) -> Result<(), Fail> {
         status: None,
     });
     // the chip, and its copies: that of the file, and the one that is looked at; then what is taken
-    // for the disk, its lists and its log
+    // for the disk, its lists and its log; and the log's file, of 1 MiB, where an earlier start left it
     let windows = [
         (0, 264, 3),
         (32_768, 32_768, 2),
@@ -202,6 +202,7 @@ fn serving_without_memory_says_so(rt: HostRuntime) -> Result<(), Fail> {
         (163_840, 32, 20),
         (167_936, 32, 20),
         (196_608, 32_768, 8),
+        (1_048_576, 1_048_576, 8),
     ];
     sweep(&rt, line, &[], &windows, serving)?;
     Ok(fs::remove_file(&rt, "served.img")?)
@@ -211,7 +212,12 @@ fn serving_without_memory_says_so(rt: HostRuntime) -> Result<(), Fail> {
 /// fault of the words, or something else.
 fn reading(alloc: Global, words: &[String]) -> &'static str {
     match read_line(alloc, words) {
-        Ok(Line::Format { image, kib, .. }) => if image == "x.img" && kib == 64 {
+        Ok(
+            ReadLine {
+                line: Line::Format { image, kib, .. },
+                ..
+            },
+        ) => if image == "x.img" && kib == 64 {
             "the line"
         } else {
             "another line"

@@ -54,9 +54,10 @@ pub fn program(bus: &mut impl SpiBus) -> bool {
 
 #[test]
 fn a_connection_that_ends_is_begun_anew(rt: HostRuntime) -> Result<(), Fail> {
-    // The greeting has 8 commands, the opening 22: the wait, 04h, the registers, the table and 16
-    // pieces. So the 31st is 06h, the 32nd the program, and then come its end and what was written.
-    for most in 30..35u32 {
+    // The greeting has 19 commands, 8 NOPs among them, the opening 22: the wait, 04h, the
+    // registers, the table and 16 pieces. So the 42nd is 06h, the 43rd the program, and then come
+    // its end and what was written.
+    for most in 41..46u32 {
         let (listener, place) = listen(&rt)?;
         let chip = erased(rt.alloc())?;
         let alloc = rt.alloc();
@@ -68,12 +69,12 @@ fn a_connection_that_ends_is_begun_anew(rt: HostRuntime) -> Result<(), Fail> {
             return Err(Fail::new("no thread"));
         };
         let dialer = TcpDialer::new(&rt, place.as_str(), Duration::from_secs(5));
-        let mut bus = WatchedBus::open(alloc, Client::open(dialer)?)?;
+        let mut bus = WatchedBus::open(alloc, Client::open(dialer, None)?)?;
         assert!(&rt; !program(&mut bus));
         assert!(&rt; bus.departure().is_some());
         bus.power_on();
         assert_eq!(&rt; bus.departure(), None);
-        let again = if most == 30 { program(&mut bus) } else { true };
+        let again = if most == 41 { program(&mut bus) } else { true };
         assert!(&rt; again);
         let mut byte = [0u8; 1];
         assert!(&rt; bus.transact(&[0x03, 0x00, 0x12, 0xFF], &mut byte).is_ok());

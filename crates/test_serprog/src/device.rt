@@ -45,8 +45,13 @@ pub struct Device<'r, R> {
 }
 
 impl<R> Read for Device<'_, R> {
+    /// As that of a device with `min 0 time 1`; it fails where the connection ended.
     fn read(&mut self, into: &mut [u8]) -> io::Result<usize> {
-        self.stream.read(into)
+        match self.stream.read(into) {
+            Ok(0) if !into.is_empty() => Err(io::Error::from(ErrorKind::BrokenPipe)),
+            Err(error) if error.kind() == ErrorKind::WouldBlock => Ok(0),
+            done => done,
+        }
     }
 }
 
@@ -109,7 +114,7 @@ impl<'r, R: Files + Net<Stream = TcpStream>> Files for Devices<'r, R> {
         }
         let stream = TcpStream::connect(self.rt, self.address)?;
         stream.set_nodelay(true)?;
-        stream.set_read_timeout(Some(Duration::from_secs(5)))?;
+        stream.set_read_timeout(Some(Duration::from_millis(100)))?;
         Ok(Device {
             rt: self.rt,
             stream,

@@ -10,9 +10,10 @@ use serprog_link::{SerialDialer, SerialIn, SerialOut};
 use std::net::{Ipv4Addr, SocketAddr, TcpListener};
 use std::test::*;
 use std::thread;
+use std::time::Duration;
 
 type Client<'d, 'r> = Serprog<
-    SerialIn<Device<'r, HostRuntime>>,
+    SerialIn<'d, Devices<'r, HostRuntime>, Device<'r, HostRuntime>>,
     SerialOut<Device<'r, HostRuntime>>,
     SerialDialer<'d, 'static, Devices<'r, HostRuntime>>,
 >;
@@ -26,25 +27,29 @@ fn plug<'r>(rt: &'r HostRuntime) -> Result<(TcpListener, Devices<'r, HostRuntime
 
 #[test]
 fn a_device_that_ends_is_opened_anew_after_half_a_second(rt: HostRuntime) -> Result<(), Fail> {
-    // The 31st command is 06h, the 32nd the program, which gets no answer.
+    // The 42nd command is 06h, the 43rd the program, which gets no answer.
     let (listener, devices) = plug(&rt)?;
     let chip = erased(rt.alloc())?;
     let alloc = rt.alloc();
     let peer = thread::spawn(
         &rt,
-        move || serve_twice(alloc, listener, chip, [31, u32::MAX]),
+        move || serve_twice(alloc, listener, chip, [42, u32::MAX]),
     );
     let Ok(peer) = peer else {
         return Err(Fail::new("no thread"));
     };
-    let client = Client::open(SerialDialer::new(&devices, PATH))?;
+    let client = Client::open(
+        SerialDialer::new(&devices, PATH, Duration::from_secs(10)),
+        None,
+    )?;
     let mut bus = WatchedBus::open(alloc, client)?;
     assert!(rt; !program(&mut bus));
     assert!(rt; bus.departure().is_some());
-    assert_eq!(rt; devices.slept(), 0);
+    let before = devices.slept();
     bus.power_on();
     assert_eq!(rt; bus.departure(), None);
-    assert_eq!(rt; devices.slept(), 500);
+    let slept = devices.slept() - before;
+    assert!(rt; slept >= 500 && slept < 600, "{slept}");
     drop(bus);
     let chip = peer.join(&rt);
     assert_eq!(rt; chip.bytes()[0x12FF], 0x70);

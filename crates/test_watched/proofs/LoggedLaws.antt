@@ -2,17 +2,17 @@
 use Rattle.std.proofs.Common.{◌≡◌, ◌∙◌, ℕ, zero, suc, ◌*◌, ◌/◌, ◌++◌, List, [], ◌∷◌, length, take, Bool, true, false}
 use Rattle.std.proofs.Common.{Option, Some, refl, sym, ap, append_assoc, append-nil}
 use Rattle.std.proofs.Math.Seq.{take-length}
-use Rattle.std.specs.Prelude.{if◌then◌else◌}
+use Rattle.std.specs.Prelude.{if◌then◌else◌, ◌&&◌, ◌⊎◌}
 use Rattle.chip_model.specs.Chip.{Chip, Operation, Idle, is_idle}
 use Rattle.chip_model.specs.Exchanges.{Exchange, Exchanged}
-use Rattle.chip_model.specs.Frames.{Frame, busy, command_of, done, status, taken}
+use Rattle.chip_model.specs.Frames.{Frame, Read, Receives, busy, command_of, done, status, taken}
 use Rattle.chip_model.specs.Frames.{ignored as unheard}
-use Rattle.chip_watch.specs.Asking.{heeds}
+use Rattle.chip_watch.specs.Asking.{Passes, asked_of, is_put_to_chip, heeds}
 use Rattle.chip_watch.specs.Changes.{change_of, with_place}
 use Rattle.chip_watch.specs.Opening.{Opens}
 use Rattle.chip_watch.specs.Reading.{Compared, change_reads, piece_reads}
 use Rattle.chip_watch.specs.Settling.{Makes, Resumes, Rests, Steadies, are_waits, frame_of, register_reads, sent_alone, table_read}
-use Rattle.chip_watch.specs.Watched.{Heard, read_change}
+use Rattle.chip_watch.specs.Watched.{Heard, IsPassedOver, read_back}
 use Rattle.chip_watch.specs.declared.change.Change.{Change}
 use Rattle.chip_watch.specs.declared.change.Change.TheVariants as makes
 use Rattle.test_watched.specs.Logged.{AreCompared, AreMaking, AreOpening, Resumed, Steadied}
@@ -92,27 +92,34 @@ resumed c change old new r =
     let e6 = told _ r.shown (Some new) (register_reads c) e5 r.registers in
     record { waits = waits; compared = reads; made = frames; rests = r.rests.1; memory = are; again = again; all = same_list _ _ e6 ∙ simp append_assoc }
 
--- after a READ of a chip on which nothing is in progress nothing is read back
-nothing_back : (idle trusts : Bool) (change : Change) (m : List ℕ) → change ≡ makes.None → (if idle then change_reads (read_change trusts change) m else []) ≡ []
-nothing_back true true change m e = refl
-nothing_back true false change m e = ap (λ (k : Change). change_reads k m) e
-nothing_back false trusts change m e = refl
+-- what a frame added that the chip was sent
+pub asked_for : (trusts fresh : Bool) (c left : Chip) (sent received : List ℕ) (old new : List Exchange) → Heard trusts fresh c sent received left (Some old) (Some new) → is_put_to_chip fresh c (command_of sent) ≡ true
+    → (answer : List ℕ) × (more : List Exchange) × Passes (command_of sent) answer (take (asked_of (command_of sent) (length received)) received)
+    × ((more ≡ read_back trusts c left) ⊎ IsPassedOver left more) × (new ≡ old ++ (record { sent = sent; received = answer } ∷ more))
+asked_for trusts fresh c left sent received old new h e = (h.answer, h.more, h.passes, h.follows, heeded (is_put_to_chip fresh c (command_of sent)) old new _ h.exchanged e)
+
+-- and one that it wasn't
+pub unasked : (trusts fresh : Bool) (c left : Chip) (sent received : List ℕ) (old new : List Exchange) → Heard trusts fresh c sent received left (Some old) (Some new) → is_put_to_chip fresh c (command_of sent) ≡ false
+    → new ≡ old
+unasked trusts fresh c left sent received old new h e = ignored (is_put_to_chip fresh c (command_of sent)) old new _ h.exchanged e
+
+pub none_ahead : (frames ahead : List Exchange) → ahead ≡ [] → frames ++ ahead ≡ frames
+none_ahead frames ahead e = ap (λ (l : List Exchange). frames ++ l) e ∙ append-nil frames
 
 -- the READ of the bytes from 3000h on
 abbrev pub read_3000 : List ℕ
 read_3000 = 3 ∷ 0 ∷ 48 ∷ 0 ∷ []
 
-pub read_alone : (trusts : Bool) (c left : Chip) (received : List ℕ) (old new : List Exchange) → c.operation ≡ Idle
-    → Heard trusts c read_3000 received left (Some old) (Some new) → new ≡ old ++ (record { sent = read_3000; received = received } ∷ [])
-read_alone trusts c left received old new idle heard =
-    let takes : (if is_idle c.operation then true else false) ≡ true = ap (λ (o : Operation). if is_idle o then true else false) idle in
-    let whole : Exchange = record { sent = read_3000; received = take (length received) received } in
-    heeded (heeds c (command_of read_3000)) old new _ heard takes
-    ∙ (ap (λ (back : List Exchange). old ++ (whole ∷ back)) (nothing_back (is_idle left.operation) trusts (change_of c.operation) left.memory (ap (λ (o : Operation). change_of o) idle))
-    ∙ ap (λ (bytes : List ℕ). old ++ (record { sent = read_3000; received = bytes } ∷ [])) (take-length received))
+never : (b : Bool) → (b && false) ≡ false
+never true = refl
+never false = refl
 
-pub same_chip : (c left : Chip) (received : List ℕ) → c.operation ≡ Idle → Frame c read_3000 received left → left ≡ c
-same_chip c left received idle (taken _ _ e) = e
+pub answered_before : (trusts fresh : Bool) (c left : Chip) (received : List ℕ) (old new : List Exchange) → fresh ≡ true → Heard trusts fresh c read_3000 received left (Some old) (Some new) → new ≡ old
+answered_before trusts fresh c left received old new e heard =
+    unasked trusts fresh c left read_3000 received old new heard (ap (λ (b : Bool). is_put_to_chip b c (command_of read_3000)) e ∙ never (heeds c (command_of read_3000)))
+
+pub same_chip : (c left : Chip) (received : List ℕ) → c.operation ≡ Idle → Frame c read_3000 received left → (left ≡ c) × Receives c (Read 12288) received
+same_chip c left received idle (taken _ told e) = (e, told)
 same_chip c left received idle (busy is _ _ _) = absurd (cc)
 same_chip c left received idle (done is _ _ _) = absurd (cc)
 same_chip c left received idle (status is _ _ _) = absurd (cc)

@@ -7,6 +7,7 @@ use Rattle.chip_model.specs.Exchanges.{Exchange}
 use Rattle.chip_watch.specs.Changes.{with_place}
 use Rattle.chip_watch.specs.Reading.{Agrees, change_reads, piece_reads}
 use Rattle.chip_watch.specs.Settling.{are_waits, frame_of, register_reads, sent_alone, table_read}
+use Rattle.chip_watch.specs.Watched.{watched_ahead}
 use Rattle.chip_watch.specs.declared.bus.WatchedBus.{WatchedBus}
 use Rattle.chip_watch.specs.declared.change.Change.{Change}
 use Rattle.chip_watch.specs.declared.change.Change.TheVariants as makes
@@ -20,8 +21,9 @@ exchange_of f = record { sent = f.sent.items; received = f.received.items }
 abbrev pub frames_of : {P : Type 0} → LoggedProgrammer P → List Exchange
 frames_of p = map exchange_of p.frames.items
 
+-- these, and then those that a watched chip was told and the programmer wasn't given yet
 abbrev pub frames_behind : {P : Type 0} → WatchedBus (LoggedProgrammer P) → List Exchange
-frames_behind b = frames_of b.wire.programmer
+frames_behind b = frames_of b.wire.programmer ++ watched_ahead b
 
 -- these are all frames: only the end of what was in progress was waited for, and then the
 -- registers, the SFDP bytes and the whole memory were read and are this chip's

@@ -21,6 +21,10 @@ pub enum Flaw {
     RunsOn,
     /// BUSY is 1 from the first change on, or from the beginning: whether it is now.
     Busy(bool),
+    /// A status that shows BUSY has the bits of this mask 1.
+    Early(u8),
+    /// A status that shows BUSY has WEL 0.
+    NoEnable,
     /// This byte of the SFDP table is this one.
     Table(u8, u8),
     /// The power is lost inside the n-th frame from now, and again so after each time that the
@@ -131,6 +135,14 @@ impl Bench {
             }
             (Flaw::KeepsEnable(true), [0x05]) => set_bits(recv, 0x02),
             (Flaw::Busy(true), [0x05]) => set_bits(recv, 0x03),
+            (Flaw::NoEnable, [0x05]) => if let Some(status) = recv.first_mut() {
+                if *status % 2 == 1 {
+                    *status &= 0xFD;
+                }
+            },
+            (Flaw::Early(mask), [0x05]) => if recv.first().copied().unwrap_or(0) % 2 == 1 {
+                set_bits(recv, mask);
+            },
             (Flaw::Table(at, value), [0x5A, ..]) => {
                 if let Some(byte) = recv.get_mut(usize::from(at)) {
                     *byte = value;

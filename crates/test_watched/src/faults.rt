@@ -77,7 +77,7 @@ fn a_program_that_was_cut_is_done_again(rt: HostRuntime) -> Result<(), Fail> {
         let bench = Bench::new(torn, Flaw::Nothing);
         let mut bus = WatchedBus::open(rt.alloc(), bench)?;
         assert!(rt; !program(&mut bus));
-        assert_eq!(rt; bus.departure(), Some(Departure::NoAnswer(0x02)));
+        assert_eq!(rt; bus.departure(), Some(Departure::NoAnswer(0x05)));
         assert_eq!(rt; byte_at(&mut bus, 0x12FF), None);
         bus.power_on();
         assert_eq!(rt; byte_at(&mut bus, 0x12FF), Some(0x70));
@@ -230,5 +230,40 @@ fn a_trusted_chip_that_forgets_is_found_when_it_is_read(rt: HostRuntime) -> Resu
         allowed: 0x70,
     };
     assert_eq!(rt; bus.departure(), Some(Departure::Answer(0x03, missing)));
+    Ok(())
+}
+
+/// A write of status register 1 that protects 1/64 of the chip (BP0, bit 2), until it ends or is
+/// lost.
+fn protect(bus: &mut impl SpiBus) -> bool {
+    if !send(bus, &[0x06]) || !send(bus, &[0x01, 0x04]) {
+        return false;
+    }
+    let mut status = [0u8; 1];
+    for _ in 0..10u32 {
+        if bus.transact(&[0x05], &mut status).is_err() {
+            return false;
+        }
+        if status[0] % 2 == 0 {
+            return status[0] == 0x04;
+        }
+    }
+    false
+}
+
+#[test]
+fn a_status_that_shows_busy_may_show_its_new_bits(rt: HostRuntime) -> Result<(), Fail> {
+    let mut bus = WatchedBus::open(rt.alloc(), Bench::new(chip(&rt, 0x55)?, Flaw::Early(0x04)))?;
+    assert!(rt; protect(&mut bus));
+    assert_eq!(rt; bus.departure(), None);
+    // WEL is judged too: it is 1 in the model until the write has ended.
+    let mut bus = WatchedBus::open(rt.alloc(), Bench::new(chip(&rt, 0x55)?, Flaw::NoEnable))?;
+    assert!(rt; !protect(&mut bus));
+    let cleared = Mismatch {
+        place: 0,
+        read: 0x01,
+        allowed: 0x03,
+    };
+    assert_eq!(rt; bus.departure(), Some(Departure::Answer(0x05, cleared)));
     Ok(())
 }

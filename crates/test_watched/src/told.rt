@@ -23,10 +23,11 @@ fn the_power_comes_again_after_a_loss_and_without_one(rt: HostRuntime) -> Result
     torn.arm_cut(1, 1, 0x0F);
     let mut bus = open_logged(rt.alloc(), Bench::new(torn, Flaw::Nothing))?;
     assert!(rt; send_logged(&mut bus, &[0x06], &mut []).is_ok());
+    // A frame that receives nothing goes along with the next, whose answer doesn't come.
     let program = [0x02, 0x00, 0x30, 0x00, 0x50];
-    assert!(rt; send_logged(&mut bus, &program, &mut []).is_err());
+    assert!(rt; send_logged(&mut bus, &program, &mut []).is_ok());
+    assert!(rt; send_logged(&mut bus, &[0x05], &mut [0u8; 1]).is_err());
     let mut told = [0u8; 2];
-    assert!(rt; send_logged(&mut bus, &READ, &mut told).is_err());
     for _ in 0..2u8 {
         start_logged(&mut bus);
         assert!(rt; send_logged(&mut bus, &READ, &mut told).is_ok());

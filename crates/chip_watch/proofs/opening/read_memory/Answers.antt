@@ -1,19 +1,18 @@
-use Rattle.std.proofs.Common.{refl}
-use Rattle.chip_watch.proofs.ReadingLaws.{grown_by_piece, longer_by_piece}
+use Rattle.std.proofs.Common.{◌≡◌, ◌∙◌, ◌*◌, ◌+◌, ℕ, ap, arith, subst}
+use Rattle.chip_model.specs.Exchanges.{Exchanged}
+use Rattle.chip_watch.specs.Reading.{piece_reads}
+use Rattle.chip_watch.specs.Told.{frames_told}
 use Rattle.chip_watch.proofs.opening.read_memory.Goals as goal
 
-pub loop-piece-preserved : goal.loop-piece-preserved
-loop-piece-preserved g c =
+pub loop-batch-preserved : goal.loop-batch-preserved
+loop-batch-preserved g c =
     let log = g.P.Programmer.exchanged in
-    let m = c.loop-piece.memory.items in
-    let heard = c.hear.new.self.heard.items in
-    let whole = c.extend_from_slice.new.self.items in
-    let i = c.loop-piece.invariant in
-    let h = c.if-not-hear.ensures in
-    let same = c.deref.ensures.value in
-    let joined = c.in-Ok-extend_from_slice.ensures.items in
+    let i = c.loop-batch.batch in
+    let m = c.read_pieces.new.memory.items in
+    let e = c.in_ok-read_pieces.ensures in
+    let up : 8 * i + 8 ≡ 8 * (i + 1) = omega arith in
     record {
-      long = longer_by_piece m heard c.deref.result.now whole c.loop-piece.piece i.long (h.room refl) same joined;
-      read = grown_by_piece (log c.args.wire.now.programmer) (log c.loop-piece.wire.programmer) (log c.hear.new.self.programmer) m heard c.deref.result.now whole
-          c.with_place.result c.loop-piece.piece i.long (h.room refl) same joined c.with_place.ensures i.read (h.grows refl);
+      long = e.long ∙ ap (λ (n : ℕ). 4096 * n) up;
+      read = subst (λ (n : ℕ). Exchanged (frames_told log c.args.wire.now) (frames_told log c.read_pieces.new.wire) (piece_reads m 0 n)) up
+          (e.read (frames_told log c.args.wire.now) c.loop-batch.invariant.read);
     }

@@ -12,7 +12,9 @@ returns-clause-app c =
     c.in_ok-arg-2.ensures.shape c.kib_arg.ensures.local ∙ ap₂ with_rule one c.kib_arg.ensures.rule in
     let three : app_of c.in_ok-arg-3.field-0 ≡ with_rule (with_rule (with_rule (new_app (codes "format")) image_rule) kib_rule) (flag_rule (codes "force")) =
     c.in_ok-arg-3.ensures.shape c.force_arg.ensures.local ∙ ap₂ with_rule two c.force_arg.ensures.rule in
+    let four : app_of c.in_ok-arg-4.field-0 ≡ with_rule (with_rule (with_rule (with_rule (new_app (codes "format")) image_rule) kib_rule) (flag_rule (codes "force"))) (flag_rule (codes "yes")) =
+    c.in_ok-arg-4.ensures.shape c.yes_arg.ensures.local ∙ ap₂ with_rule three c.yes_arg.ensures.rule in
     let format : app_of c.in_ok-format.format ≡ format_app =
-    c.in_ok-format.ensures.shape c.yes_arg.ensures.local ∙ ap₂ with_rule three c.yes_arg.ensures.rule in
-    c.in_ok-subcommand.ensures.shape (search (rules, c.in_ok-format.ensures.globals, c.yes_arg.ensures.local, c.in_ok-arg-3.ensures.globals, c.force_arg.ensures.local, c.in_ok-arg-2.ensures.globals, c.kib_arg.ensures.local, c.in_ok-arg.ensures.globals, c.image_arg.ensures.local, c.after_help.ensures, c.about.ensures, c.new.ensures.local))
+    c.in_ok-format.ensures.shape c.spi_hz_arg.ensures.local ∙ ap₂ with_rule four c.spi_hz_arg.ensures.rule in
+    c.in_ok-subcommand.ensures.shape (search (rules, c.in_ok-format.ensures.globals, c.spi_hz_arg.ensures.local, c.in_ok-arg-4.ensures.globals, c.yes_arg.ensures.local, c.in_ok-arg-3.ensures.globals, c.force_arg.ensures.local, c.in_ok-arg-2.ensures.globals, c.kib_arg.ensures.local, c.in_ok-arg.ensures.globals, c.image_arg.ensures.local, c.after_help.ensures, c.about.ensures, c.new.ensures.local))
     ∙ ap (λ (a : App). with_subcommand (app_of c.args.norbd) a.top) format

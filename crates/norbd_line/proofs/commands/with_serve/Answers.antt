@@ -30,7 +30,9 @@ returns-clause-app c =
     c.in_ok-arg-11.ensures.shape c.verbose_arg.ensures.local ∙ ap₂ with_rule ten c.verbose_arg.ensures.rule in
     let twelve : app_of c.in_ok-arg-12.field-0 ≡ with_rule (served_app) (flag_rule (codes "trust")) =
     c.in_ok-arg-12.ensures.shape c.trust_arg.ensures.local ∙ ap₂ with_rule eleven c.trust_arg.ensures.rule in
+    let thirteen : app_of c.in_ok-arg-13.field-0 ≡ with_rule (with_rule (served_app) (flag_rule (codes "trust"))) (text_rule (codes "status")) =
+    c.in_ok-arg-13.ensures.shape c.status_arg.ensures.local ∙ ap₂ with_rule twelve c.status_arg.ensures.rule in
     let serve : app_of c.in_ok-serve.serve ≡ serve_app =
-    c.in_ok-serve.ensures.shape c.status_arg.ensures.local ∙ ap₂ with_rule twelve c.status_arg.ensures.rule in
-    c.in_ok-subcommand.ensures.shape (search (rules, c.in_ok-serve.ensures.globals, c.status_arg.ensures.local, c.in_ok-arg-12.ensures.globals, c.trust_arg.ensures.local, c.in_ok-arg-11.ensures.globals, c.verbose_arg.ensures.local, c.in_ok-arg-10.ensures.globals, c.read_only_arg.ensures.local, c.in_ok-arg-9.ensures.globals, c.max_request_arg.ensures.local, c.in_ok-arg-8.ensures.globals, c.tidy_arg.ensures.local, c.in_ok-arg-7.ensures.globals, c.sync_arg.ensures.local, c.in_ok-arg-6.ensures.globals, c.record_arg.ensures.local, c.in_ok-arg-5.ensures.globals, c.conns_arg.ensures.local, c.in_ok-arg-4.ensures.globals, c.unix_arg.ensures.local, c.in_ok-arg-3.ensures.globals, c.bind_arg.ensures.local, c.in_ok-arg-2.ensures.globals, c.port_arg.ensures.local, c.in_ok-arg.ensures.globals, c.image_arg.ensures.local, c.after_help.ensures, c.about.ensures, c.new.ensures.local))
+    c.in_ok-serve.ensures.shape c.spi_hz_arg.ensures.local ∙ ap₂ with_rule thirteen c.spi_hz_arg.ensures.rule in
+    c.in_ok-subcommand.ensures.shape (search (rules, c.in_ok-serve.ensures.globals, c.spi_hz_arg.ensures.local, c.in_ok-arg-13.ensures.globals, c.status_arg.ensures.local, c.in_ok-arg-12.ensures.globals, c.trust_arg.ensures.local, c.in_ok-arg-11.ensures.globals, c.verbose_arg.ensures.local, c.in_ok-arg-10.ensures.globals, c.read_only_arg.ensures.local, c.in_ok-arg-9.ensures.globals, c.max_request_arg.ensures.local, c.in_ok-arg-8.ensures.globals, c.tidy_arg.ensures.local, c.in_ok-arg-7.ensures.globals, c.sync_arg.ensures.local, c.in_ok-arg-6.ensures.globals, c.record_arg.ensures.local, c.in_ok-arg-5.ensures.globals, c.conns_arg.ensures.local, c.in_ok-arg-4.ensures.globals, c.unix_arg.ensures.local, c.in_ok-arg-3.ensures.globals, c.bind_arg.ensures.local, c.in_ok-arg-2.ensures.globals, c.port_arg.ensures.local, c.in_ok-arg.ensures.globals, c.image_arg.ensures.local, c.after_help.ensures, c.about.ensures, c.new.ensures.local))
     ∙ ap (λ (a : App). with_subcommand (app_of c.args.norbd) a.top) serve

@@ -6,4 +6,4 @@ use Rattle.norbd_line.proofs.line.check_line.Goals as goal
 pub returns-in-Some-clause-line : goal.returns-in-Some-clause-line
 returns-in-Some-clause-line c =
     let text = sym (first_value-rows (found_of c.args.matches.now) (codes "IMAGE")) ∙ sym c.get_str.ensures ∙ ap (option_map (λ s. s.now)) c.in-Some.is in
-    (refl, text, c.flag.ensures, c.flag-in-Some.ensures)
+    (refl, text, c.flag.ensures, c.flag-in-Some.ensures, c.text_of.ensures)

@@ -9,5 +9,5 @@ pub returns-in-Ok : goal.returns-in-Ok
 returns-in-Ok g c =
     let s = c.in-Ok.checked in
     let asked = rw c.in-Ok.is at c.requires.mends in
-    checked c.args.how.mend c.args.how.json (record { mended = s.mended; sectors = s.sectors; asked = asked }) _ c.text_about-line.result (g.K.Sink.written c.args.writer.now) (g.K.Sink.written c.send_bytes.new.writer) (g.K.Sink.written c.tell.new.writer)
-    (g.K.Sink.faults c.args.writer.now) (g.K.Sink.faults c.send_bytes.new.writer) (g.K.Sink.faults c.tell.new.writer) c.in_default.field-0 c.tell.result c.in_default.ensures c.text_about-line.ensures c.tell.ensures
+    checked c.args.how.mend c.args.how.json (record { mended = s.mended; sectors = s.sectors; asked = asked }) _ c.line_about-line.result (g.K.Sink.written c.args.writer.now) (g.K.Sink.written c.send_bytes.new.writer) (g.K.Sink.written c.tell.new.writer)
+    (g.K.Sink.faults c.args.writer.now) (g.K.Sink.faults c.send_bytes.new.writer) (g.K.Sink.faults c.tell.new.writer) c.in_default.field-0 c.tell.result c.in_default.ensures c.line_about-line.ensures c.tell.ensures

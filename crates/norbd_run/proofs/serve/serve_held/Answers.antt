@@ -26,7 +26,7 @@ returns-in-Err-handle-clause-tells g c =
     image-refused (Unit {0}) c.args.asked.place c.args.asked.conns c.args.asked.record
     (g.K.Sink.written c.args.writer.now) (g.K.Sink.faults c.args.writer.now) c.told_of_log-in-Err-handle.result c.told_of_log-in-Err-handle.ensures
 
-pub returns-in-Err-begin_log-clause-tells : goal.returns-in-Err-begin_log-clause-tells
-returns-in-Err-begin_log-clause-tells g c =
+pub returns-in-Err-begin_anew-clause-tells : goal.returns-in-Err-begin_anew-clause-tells
+returns-in-Err-begin_anew-clause-tells g c =
     image-refused (Unit {0}) c.args.asked.place c.args.asked.conns c.args.asked.record
-    (g.K.Sink.written c.args.writer.now) (g.K.Sink.faults c.args.writer.now) c.told_of_log-in-Err-begin_log.result c.told_of_log-in-Err-begin_log.ensures
+    (g.K.Sink.written c.args.writer.now) (g.K.Sink.faults c.args.writer.now) c.told_of_log-in-Err-begin_anew.result c.told_of_log-in-Err-begin_anew.ensures

@@ -1,11 +1,12 @@
-use Rattle.std.proofs.Common.{◌≡◌, ◌∙◌, ℕ, ◌+◌, Bool, true, [], ◌∷◌, length, take, ap, sym, subst}
-use Rattle.std.specs.Prelude.{if◌then◌else◌}
+use Rattle.std.proofs.Common.{◌≡◌, ◌∙◌, ℕ, ◌+◌, true, false, ap, sym}
 use Rattle.chip_model.specs.Frames.{Command, command_of}
-use Rattle.chip_model.specs.Exchanges.{Exchange, Exchanged}
-use Rattle.chip_watch.specs.Asking.{asked_of, heeds}
+use Rattle.chip_watch.specs.Asking.{is_put_to_chip}
+use Rattle.chip_watch.specs.Told.{frames_told}
+use Rattle.chip_watch.proofs.BusLaws.{asked_for, unasked}
 use Rattle.chip_model.specs.Cut.{falls, after_it}
-use Rattle.chip_watch.specs.Watched.{read_back, watched_chip}
+use Rattle.chip_watch.specs.Watched.{shadow_chip, watched_chip}
 use Rattle.chip_watch.proofs.SimulatorLaws.{interrupted_by}
+use Rattle.chip_watch.specs.Told.{frames_told}
 use Rattle.chip_watch.proofs.bus.WatchedBusSpiBus.transact.Goals as goal
 
 pub returns-clause-lost : goal.returns-clause-lost
@@ -21,11 +22,15 @@ returns-clause-pending g c = λ on.
 pub returns-in-Ok-clause-heard : goal.returns-in-Ok-clause-heard
 returns-in-Ok-clause-heard g c = λ few.
     let log = g.P.Programmer.exchanged in
-    let old = watched_chip c.args.self.now in
-    let sent = c.args.send.now in
-    let received = c.exchange.new.recv in
-    let frame : Exchange = record { sent = sent; received = take (asked_of (command_of sent) (length received)) received } in
-    let heeded : heeds old (command_of sent) ≡ true =
-    ap (λ (k : Command). heeds old k) (sym c.decode-instruction.ensures.command) ∙ (sym c.heeds.ensures ∙ c.if-not-heeds.false) in
-    subst (λ (b : Bool). Exchanged (log c.args.self.now.wire.programmer) (log c.exchange.new.self.wire.programmer)
-    (if b then frame ∷ read_back c.args.self.now.trusts old (watched_chip c.exchange.new.self) else [])) (sym heeded) c.in-Ok.ensures.heard
+    let s = c.args.self.now in
+    let asked : is_put_to_chip s.fresh (watched_chip s) (command_of c.args.send.now) ≡ true =
+    ap (λ (k : Command). is_put_to_chip s.fresh (watched_chip s) k) (sym c.decode-instruction.ensures.command) ∙ (sym c.asks-asks.ensures ∙ c.if-not-asks.false) in
+    asked_for s.trusts s.fresh (watched_chip s) (watched_chip c.exchange.new.self) c.args.send.now c.exchange.new.recv (frames_told log s.wire) (frames_told log c.exchange.new.self.wire) asked c.in-Ok.ensures.heard
+
+pub returns-then-not-asks-clause-heard : goal.returns-then-not-asks-clause-heard
+returns-then-not-asks-clause-heard g c = λ few.
+    let log = g.P.Programmer.exchanged in
+    let s = c.args.self.now in
+    let silent : is_put_to_chip s.fresh (watched_chip s) (command_of c.args.send.now) ≡ false =
+    ap (λ (k : Command). is_put_to_chip s.fresh (watched_chip s) k) (sym c.decode-instruction.ensures.command) ∙ (sym c.asks-asks.ensures ∙ c.if-not-asks.true) in
+    unasked s.trusts s.fresh (watched_chip s) (shadow_chip c.follow.new.self) c.args.send.now c.follow.new.recv (frames_told log s.wire) silent
