@@ -21,6 +21,7 @@
 #![tactic(auto)]
 
 mod error;
+mod firm;
 mod found;
 mod groups;
 mod laws;

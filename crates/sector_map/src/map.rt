@@ -19,13 +19,14 @@ ghost use Rattle.sector_map.specs.Filling.{latched_after_cut};
 
 use crate::Held;
 use crate::error::MapError;
+use crate::firm::clear_as;
 use crate::mount::mount_slots;
-use crate::steps::{clear_levelled, find_sector, tidy_levelled, tidy_when_short, write_levelled};
+use crate::steps::{find_sector, tidy_levelled, tidy_when_short, write_levelled};
 use crate::stock::Stock;
 use crate::superblock::look;
 use crate::table::LiveSlots;
 use chip_model::Geometry;
-use erase_journal::{Journal, RecoverError};
+use erase_journal::{Firmness, Journal, RecoverError};
 use journal_slots::SectorSlots;
 use nor_driver::{Nor, NorError};
 use nor_layout::SuperError;
@@ -46,6 +47,8 @@ pub struct SectorMap<N: Nor> {
     table: Vec<LiveSlots>,
     /// The latched error. If both occurred, Slow is latched.
     latched: Option<NorError>,
+    /// What is assumed of torn bits.
+    firmness: Firmness,
 }
 
 impl<N: Nor> Model for SectorMap<N> {
@@ -75,9 +78,21 @@ impl<N: Nor> SectorMap<N> {
         ensures ok { IfOk result (λ map. Mounted (N.state nor) map) }
         ensures fails { IfErr result (λ e. MountFails e.1 (N.state nor) (N.state e.0)) }
     {
+        SectorMap::mount_as(alloc, nor, Firmness::Steady)
+    }
+
+    /// The same with what is assumed of torn bits: here, in each `restore` and in each `clear`.
+    pub fn mount_as(
+        alloc: Global,
+        nor: N,
+        firmness: Firmness,
+    ) -> Result<SectorMap<N>, (N, MapError)>
+        ensures ok { IfOk result (λ map. Mounted (N.state nor) map) }
+        ensures fails { IfErr result (λ e. MountFails e.1 (N.state nor) (N.state e.0)) }
+    {
         let mut nor = nor;
         match look(&mut nor) {
-            Ok(Ok(_layout)) => recover(alloc, nor),
+            Ok(Ok(_layout)) => recover(alloc, nor, firmness),
             Ok(Err(SuperError::NotFormatted)) => Err((nor, MapError::NotFormatted)),
             Ok(Err(SuperError::Layout)) => Err((nor, MapError::Corrupt)),
             Ok(Err(SuperError::Geometry)) => Err((nor, MapError::Corrupt)),
@@ -171,7 +186,12 @@ impl<N: Nor> SectorMap<N> {
         if let Some(error) = self.latched {
             return Err(error);
         }
-        match clear_levelled(&mut self.stock, self.table.as_mut_slice(), sector) {
+        match clear_as(
+            &mut self.stock,
+            self.table.as_mut_slice(),
+            sector,
+            self.firmness,
+        ) {
             Ok(()) => Ok(()),
             Err(error) => {
                 self.latched = Some(error);
@@ -315,6 +335,7 @@ impl<N: Nor> SectorMap<N> {
             stock,
             table: _table,
             latched: _latched,
+            firmness: _,
         } = self;
         uncover(stock)
     }
@@ -355,7 +376,11 @@ fn take_tables(alloc: Global, chip: Geometry) -> Result<Tables, AllocError>
 }
 
 /// Steps 2 to 10 of a mount: of a memory whose superblock was looked at.
-fn recover<N: Nor>(alloc: Global, nor: N) -> Result<SectorMap<N>, (N, MapError)>
+fn recover<N: Nor>(
+    alloc: Global,
+    nor: N,
+    firmness: Firmness,
+) -> Result<SectorMap<N>, (N, MapError)>
     requires superblock { IsLaidOut (N.state nor).memory }
     ensures ok { IfOk result (λ map. Mounted (N.state nor) map) }
     ensures fails { IfErr result (λ e. MountFails e.1 (N.state nor) (N.state e.0)) }
@@ -366,8 +391,8 @@ fn recover<N: Nor>(alloc: Global, nor: N) -> Result<SectorMap<N>, (N, MapError)>
     let Ok(tables) = take_tables(alloc, chip) else {
         return Err((nor, MapError::OutOfMemory));
     };
-    match Journal::recover(nor) {
-        Ok(journal) => fill(SectorSlots::new(journal), tables),
+    match Journal::recover_as(nor, firmness) {
+        Ok(journal) => fill(SectorSlots::new(journal), tables, firmness),
         Err((nor, RecoverError::Cut)) => Err((nor, MapError::Cut)),
         Err((nor, RecoverError::Slow)) => Err((nor, MapError::Slow)),
         Err((nor, RecoverError::Corrupt)) => Err((nor, MapError::Corrupt)),
@@ -375,7 +400,11 @@ fn recover<N: Nor>(alloc: Global, nor: N) -> Result<SectorMap<N>, (N, MapError)>
 }
 
 /// Steps 4 to 10 of a mount: of slots whose journals were recovered.
-fn fill<N: Nor>(slots: SectorSlots<N>, tables: Tables) -> Result<SectorMap<N>, (N, MapError)>
+fn fill<N: Nor>(
+    slots: SectorSlots<N>,
+    tables: Tables,
+    firmness: Firmness,
+) -> Result<SectorMap<N>, (N, MapError)>
     requires ready { IsNorReady slots }
     requires table { vec_len tables.table ≡ sector_count (length slots.memory) }
     requires states { vec_len tables.states ≡ slot_count slots.memory }
@@ -391,6 +420,7 @@ fn fill<N: Nor>(slots: SectorSlots<N>, tables: Tables) -> Result<SectorMap<N>, (
             stock,
             table,
             latched: None,
+            firmness,
         }),
         Ok(false) => Err((uncover(stock), MapError::Corrupt)),
         Err(NorError::Cut) => Err((uncover(stock), MapError::Cut)),
