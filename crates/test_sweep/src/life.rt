@@ -6,6 +6,7 @@ use crate::draw::Draw;
 use crate::failure::Failure;
 use block_device::{Disk, DiskError};
 use chip_simulator::SimChip;
+use erase_journal::Firmness;
 use flash_disk::{FlashDisk, MountError};
 use nor_driver::ProbeError;
 use std::alloc::Global;
@@ -16,6 +17,8 @@ use test_judge::{Array, SECTORS, Seen};
 pub enum Mounting {
     /// As one whose bits are steady.
     Plain,
+    /// As one whose torn bits may waver.
+    Firm,
 }
 
 impl Mounting {
@@ -23,6 +26,7 @@ impl Mounting {
     fn mount(self, alloc: Global, chip: SimChip) -> Result<OnSim, (SimChip, MountError)> {
         match self {
             Mounting::Plain => FlashDisk::mount(alloc, chip),
+            Mounting::Firm => FlashDisk::mount_as(alloc, chip, Firmness::Firm),
         }
     }
 }
