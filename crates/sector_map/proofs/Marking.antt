@@ -117,54 +117,7 @@ marks-none m m' e same = subst (λ z. Marks m z) (sym same) (record {
   blocks = same-marked m;
 })
 
--- What was read of the blocks stands.
-kinds-are : (m m' : List ℕ) → IsMarked m m' → (d : ℕ) → d < data_blocks m → kind_at m' d ≡ kind_at m d
-kinds-are m m' h d low = ap kind_of (h.each d low)
-
-slots-are : (m m' : List ℕ) → IsMarked m m' → (d i : ℕ) → d < data_blocks m → i < 7 → raw_slot m' d i ≡ raw_slot m d i
-slots-are m m' h d i low small = ap (λ b. slot_in b i) (h.each d low)
-
-abbrev marked_slots : List ℕ → ℕ → ℕ → Slot
-marked_slots m' n = counted (kind_at m') (raw_slot m') (block_count n - 4)
-
-marked-slot : (m m' : List ℕ) → IsMarked m m' → (s : ℕ) → s < slot_count m → slot_at m' s ≡ slot_at m s
-marked-slot m m' h s low = ap (λ n. marked_slots m' n s) h.same_length ∙ counted-same (kind_at m) (kind_at m') (raw_slot m) (raw_slot m') (data_blocks m) s (kinds-are m m' h) (slots-are m m' h) low
-
-pub marked-tabled : (table : List LiveSlots) (m m' : List ℕ) → IsMarked m m' → IsTabled table (slot_at m) (slot_count m) → IsTabled table (slot_at m') (slot_count m')
-marked-tabled table m m' h t = live-tabled table m m' h.same_length (λ s low. inl (marked-slot m m' h s low)) t
-
-found-same : (found : Found) (kind kind' : ℕ → Kind) (n : ℕ) → ((d : ℕ) → d < n → kind' d ≡ kind d) → FoundBelow found kind n n → FoundBelow found kind' n n
-found-same AtRest kind kind' n same h = record { rest = λ d low. subst (λ z. IsAtRest z) (sym (same d low)) (h.rest d low) }
-found-same (Void t) kind kind' n same h = record {
-  number = h.number;
-  void = same t h.number ∙ h.void;
-  others = λ d low ne. subst (λ z. IsAtRest z) (sym (same d low)) (h.others d low ne);
-}
-found-same (Committed s t) kind kind' n same h = record {
-  number = h.number;
-  committed = same t h.number ∙ h.committed;
-  source = h.source;
-  other = h.other;
-  others = λ d low ne. subst (λ z. IsAtRest z) (sym (same d low)) (h.others d low ne);
-}
-
-pub marked-found : (found : Found) (m m' : List ℕ) → IsMarked m m' → FoundIn found m → FoundIn found m'
-marked-found found m m' h f = subst (λ n. FoundBelow found (kind_at m') (block_count n - 4) (block_count n - 4)) (sym h.same_length) (found-same found (kind_at m) (kind_at m') (data_blocks m) (kinds-are m m' h) f)
-
-settled-same : (m m' : List ℕ) → IsMarked m m' → AreSettled m → IsSettledBlocks (kind_at m') (raw_slot m') (data_blocks m)
-settled-same m m' h s = record {
-  rest = λ d low. subst (λ z. IsAtRest z) (sym (kinds-are m m' h d low)) (s.rest d low);
-  reserve = s.reserve;
-  number = s.number;
-  spare = record { plain = kinds-are m m' h s.reserve s.number ∙ s.spare.plain; free = λ i low. slots-are m m' h s.reserve i s.number low ∙ s.spare.free i low };
-}
-
-pub marked-room : (found : Found) (spare : Bool) (m m' : List ℕ) → IsMarked m m' → RoomSeen found spare m → RoomSeen found spare m'
-marked-room AtRest true m m' h r = subst (λ n. IsSettledBlocks (kind_at m') (raw_slot m') (block_count n - 4)) (sym h.same_length) (settled-same m m' h r)
-marked-room AtRest false m m' h r = subst (λ n. HasGroupRoom (kind_at m') (block_count n - 4)) (sym h.same_length) (room-same (kind_at m) (kind_at m') (data_blocks m) (kinds-are m m' h) r)
-marked-room (Void t) spare m m' h r = tt
-marked-room (Committed s t) spare m m' h r = tt
-
+-- What it holds stands.
 pub marked-holds : (m m' : List ℕ) → IsMarked m m' → IsSoundMap m → HoldsSectors (sector_at m) m'
 marked-holds m m' h sound = (marks-keep m m' h).0 (sector_at m) (sound-holds m sound)
 

@@ -280,7 +280,7 @@ impl<N: Nor> SectorMap<N> {
         ensures ok { OnOk result (MapRestored self.old self.new) }
         ensures fails { IfErr result (λ e. MapRestoreFails e self.old self.new) }
     {
-        match renew(&mut self.stock, self.table.as_mut_slice()) {
+        match renew(&mut self.stock, self.table.as_mut_slice(), self.firmness) {
             Ok(true) => {
                 self.latched = None;
                 Ok(())
@@ -376,11 +376,7 @@ fn take_tables(alloc: Global, chip: Geometry) -> Result<Tables, AllocError>
 }
 
 /// Steps 2 to 10 of a mount: of a memory whose superblock was looked at.
-fn recover<N: Nor>(
-    alloc: Global,
-    nor: N,
-    firmness: Firmness,
-) -> Result<SectorMap<N>, (N, MapError)>
+fn recover<N: Nor>(alloc: Global, nor: N, firmness: Firmness) -> Result<SectorMap<N>, (N, MapError)>
     requires superblock { IsLaidOut (N.state nor).memory }
     ensures ok { IfOk result (λ map. Mounted (N.state nor) map) }
     ensures fails { IfErr result (λ e. MountFails e.1 (N.state nor) (N.state e.0)) }
@@ -415,7 +411,7 @@ fn fill<N: Nor>(
 {
     let mut stock = Stock::new(slots, tables.states, tables.blocks);
     let mut table = tables.table;
-    match mount_slots(&mut stock, table.as_mut_slice()) {
+    match mount_slots(&mut stock, table.as_mut_slice(), firmness) {
         Ok(true) => Ok(SectorMap {
             stock,
             table,
@@ -456,7 +452,11 @@ fn after_cut(latched: Option<NorError>) -> Option<NorError>
 
 /// Turns the power on anew, recovers the journals, and makes the table again; false if the memory
 /// is corrupt, which comes after a Slow alone.
-fn renew<S: Reclaim>(stock: &mut S, table: &mut [LiveSlots]) -> Result<bool, NorError>
+fn renew<S: Reclaim>(
+    stock: &mut S,
+    table: &mut [LiveSlots],
+    firmness: Firmness,
+) -> Result<bool, NorError>
     requires size { length table.old ≡ sector_count (length (S.state stock.old).memory) }
     ensures ok { IfOk result (λ sound. IsTrue sound
         → Renewed table.new (S.state stock.old) (S.state stock.new) (S.indexed stock.new)) }
@@ -466,7 +466,7 @@ fn renew<S: Reclaim>(stock: &mut S, table: &mut [LiveSlots]) -> Result<bool, Nor
     ensures size { length table.new ≡ length table.old }
 {
     match stock.restore() {
-        Ok(()) => mount_slots(stock, table),
+        Ok(()) => mount_slots(stock, table, firmness),
         Err(RecoverError::Cut) => Err(NorError::Cut),
         Err(RecoverError::Slow) => Err(NorError::Slow),
         Err(RecoverError::Corrupt) => Ok(false),

@@ -12,7 +12,7 @@ use erase_journal::RecoverError;
 use journal_slots::SectorSlots;
 use nor_driver::{Nor, NorError};
 use nor_layout::{Header, Kind, Tag};
-use sector_slots::SlotCalls;
+use sector_slots::{FirmCalls, SlotCalls};
 use sector_stock::{
     BOUNDS, BlockState, Copied, Cursors, Given, Policy, Purpose, Reclaim, SlotState,
     choose_by_erases, convert_block, fill_index, has_work, is_short, lagging, level_block,
@@ -208,6 +208,27 @@ impl<N: Nor> SlotCalls for Stock<N> {
 
     fn arm(&mut self, count: u32, kind: u8, mask: u8) {
         self.slots.arm(count, kind, mask)
+    }
+}
+
+impl<N: Nor> FirmCalls for Stock<N> {
+    fn firm(&mut self) -> Result<(), NorError> {
+        self.indexed = false;
+        self.slots.firm()
+    }
+
+    fn firm_head(&mut self, block: u16) -> Result<bool, NorError> {
+        self.indexed = false;
+        self.slots.firm_head(block)
+    }
+
+    fn has_begun(&mut self, block: u16) -> Result<bool, NorError> {
+        self.slots.has_begun(block)
+    }
+
+    fn kill(&mut self, slot: u16) -> Result<(), NorError> {
+        self.indexed = false;
+        self.slots.kill(slot)
     }
 }
 

@@ -34,12 +34,12 @@ use crate::given::{Copied, Given};
 use crate::policy::{Policy, Purpose};
 use nor_driver::NorError;
 use nor_layout::{Header, Tag};
-use sector_slots::SlotCalls;
+use sector_slots::FirmCalls;
 
 /// A store of slots with an index of them in memory, which `fill` makes and the other calls here
 /// keep; the calls of `SlotCalls` that change the memory don't. No call takes memory. Source: own,
 /// layout 2.
-pub trait Reclaim: SlotCalls {
+pub trait Reclaim: FirmCalls {
     /// How it chooses slots and blocks.
     ghost policy: { Self → Policy };
 

@@ -1,0 +1,9 @@
+use Rattle.erase_journal.proofs.Calls.{Repeated}
+use Rattle.sector_map.specs.Firm.{MakesFirm}
+use Rattle.sector_map.proofs.firm.firm_heads.Given as goal
+
+abbrev pub invariant-loop-block : goal.invariant-loop-block
+invariant-loop-block g l = record {
+  firm : MakesFirm (g.S.SlotCalls.state l.fn.slots).memory (g.S.SlotCalls.state l.slots).memory;
+  since : Repeated l.block (g.S.SlotCalls.state l.fn.slots) (g.S.SlotCalls.state l.slots);
+}
