@@ -1,19 +1,20 @@
 -- Memories whose data blocks read alike: what was read of the one is so of the other.
-use Rattle.std.proofs.Common.{◌≡◌, ◌≢◌, ℕ, ◌+◌, ◌-◌, ◌*◌, ◌<◌, ◌⊎◌, true, false, List, length, refl, sym, ap, ◌∙◌, subst, arith, inl, inr}
-use Rattle.std.specs.Prelude.{◌/◌, ◌%◌}
+use Rattle.std.proofs.Common.{◌≡◌, ◌≢◌, ℕ, ◌+◌, ◌-◌, ◌*◌, ◌<◌, ◌≤◌, Bool, true, false, List, length, refl, sym, ap, ◌∙◌, subst, arith, inl, inr, Ok, Err}
+use Rattle.std.specs.Prelude.{◌/◌, ◌%◌, ◌||◌, Result, IfOk, IsFalse}
 use Rattle.std.proofs.lemmas.Bool.{cases_eq}
 use Rattle.chip_model.specs.Geometry.{block_count}
+use Rattle.nor_driver.specs.declared.error.NorError.{NorError}
 use Rattle.nor_layout.specs.declared.kind.Kind.{Kind}
 use Rattle.nor_layout.specs.Kinds.{kind_of}
 use Rattle.erase_journal.specs.Blocks.{SameChip, SameBlocks}
 use Rattle.sector_slots.specs.Slots.{slot_in, counted, Slot, content_bytes, data_blocks, data_block, kind_at, raw_slot, slot_at, slot_count, IsSpareIn, IsClean}
 use Rattle.sector_slots.specs.Blocks.{IsAtRest, AreSettled, IsSettledBlocks, HasGroupRoom}
-use Rattle.sector_slots.specs.Firm.{KeepsHead}
+use Rattle.sector_slots.specs.Firm.{KeepsHead, HoldsBegun}
 use Rattle.sector_slots.specs.Laws.{IsMarked}
 use Rattle.sector_slots.proofs.BlankLaws.{counted-same, same-holds}
 use Rattle.sector_slots.proofs.GroupLaws.{room-same}
 use Rattle.sector_slots.proofs.StepLaws.{chip-after}
-use Rattle.sector_map.specs.Firm.{ReadsAlike, MakesFirm}
+use Rattle.sector_map.specs.Firm.{ReadsAlike, MakesFirm, HasNoneBegun}
 use Rattle.sector_map.specs.Found.{FoundIn, FoundBelow, RoomSeen}
 use Rattle.sector_map.specs.Table.{IsTabled, Mends, Repairs}
 use Rattle.sector_map.specs.declared.found.Found.{Found}
@@ -151,3 +152,43 @@ marked-firm a b c h f = alike-after a b c (marked-alike a b h) f.blocks
 
 pub firm-repairs : (table : List LiveSlots) (a b c : List ℕ) → MakesFirm a b → Repairs b table c → Repairs a table c
 firm-repairs table a b c h r = record { mends = mends-after a b c (firm-mends a b h) r.mends; tabled = r.tabled; blocks = r.blocks }
+
+-- Of the first k blocks none has a begun slot, unless one was seen; the later ones are as they were.
+abbrev pub NoneBegun : Bool → ℕ → List ℕ → Type 0
+NoneBegun begun k m = begun ≡ false → (c : ℕ) → c < k → HoldsBegun (data_block m c) → ⊥
+
+abbrev pub LaterKept : ℕ → List ℕ → List ℕ → Type 0
+LaterKept k m b = (c : ℕ) → c < data_blocks m → k ≤ c → data_block b c ≡ data_block m c
+
+pub later-none : (m : List ℕ) → LaterKept 0 m m
+later-none m c low high = refl
+
+pub begun-none : (begun : Bool) (m : List ℕ) → NoneBegun begun 0 m
+begun-none begun m e c low h = omega (arith, low)
+
+pub later-head : (k : ℕ) (m b d : List ℕ) → length b ≡ length m → LaterKept k m b → KeepsHead k b d → LaterKept (k + 1) m d
+later-head k m b d n later h c low high = h.only.others (c + 4) (omega arith) (omega (arith, low, n)) (λ e. omega (arith, e, high)) ∙ later c low (omega (arith, high))
+
+none-both : (a b : Bool) → (a || b) ≡ false → (a ≡ false) × (b ≡ false)
+none-both true b e = (let q : true ≡ false = e in absurd cc)
+none-both false b e = (refl, e)
+
+pub begun-more : (before here now : Bool) (k : ℕ) (m b : List ℕ) → k < data_blocks m → now ≡ (before || here) → NoneBegun before k m → LaterKept k m b → (here ≡ false → HoldsBegun (data_block b k) → ⊥) → NoneBegun now (k + 1) m
+begun-more before here now k m b inside is none later not_here e c low h =
+    let p = none-both before here (sym is ∙ e) in
+    elim (cases_eq c k) [
+      | inl q ↦ not_here p.1 (subst (λ z. HoldsBegun z) (sym (later k inside (omega arith))) (subst (λ z. HoldsBegun (data_block m z)) q h))
+      | inr ne ↦ none p.0 c (omega (arith, low, ne)) h
+    ]
+
+pub begun-all : (begun : Bool) (k : ℕ) (m : List ℕ) → k ≡ data_blocks m → NoneBegun begun k m → begun ≡ false → HasNoneBegun m
+begun-all begun k m n none e c low h = none e c (omega (arith, low, n)) h
+
+pub begun-before : (m m' : List ℕ) → SameBlocks m m' → HasNoneBegun m' → HasNoneBegun m
+begun-before m m' same none c low h =
+    let n = same.chip.same_length in
+    none c (omega (arith, low, n)) (subst (λ z. HoldsBegun z) (sym (same.each (c + 4) (omega arith) (omega (arith, low)))) h)
+
+pub begun-answer : (r : Result Bool NorError) (m m' : List ℕ) → SameBlocks m m' → IfOk r (λ b. IsFalse b → HasNoneBegun m') → IfOk r (λ b. IsFalse b → HasNoneBegun m)
+begun-answer (Ok b) m m' same h = λ e. begun-before m m' same (h e)
+begun-answer (Err e) m m' same h = tt

@@ -17,7 +17,7 @@ use Rattle.sector_stock.specs.declared.given.Copied.{Copied}
 use Rattle.sector_stock.specs.Copy.{IsCopyable, MovesAfresh, KeepsSectors}
 use Rattle.sector_stock.specs.Room.{IsSpareBlock}
 use Rattle.sector_stock.proofs.Moved.{moves-into}
-use Rattle.sector_map.specs.Firm.{IsMended}
+use Rattle.sector_map.specs.Firm.{IsMendedMap}
 use Rattle.sector_map.specs.Mending.{MendsBlocks}
 use Rattle.sector_map.specs.Scan.{FollowsBlock}
 use Rattle.sector_map.specs.Table.{IsTableOf, Mends, Repairs}
@@ -39,14 +39,14 @@ begun-other m s t h spare e =
 
 -- what is known before a block is moved
 pub record Begun (table : List LiveSlots) (s t : ℕ) (m : List ℕ) : Type 0 where
-  pub mended : IsMended table m
+  pub mended : IsMendedMap table m
   pub number : s < data_blocks m
   pub begun : HoldsBegun (data_block m s)
   pub spare : IsSpareBlock t m
 
-pub begun-at : (table : List LiveSlots) (s t : ℕ) (m m1 m2 : List ℕ) → IsMended table m → s < data_blocks m → HoldsBegun (data_block m s) → m1 ≡ m → IsSpareBlock t m1 → m2 ≡ m1 → Begun table s t m2
-begun-at table s t m m1 m2 h low begun first spare second =
-    let k : Begun table s t m = record { mended = h; number = low; begun = begun; spare = subst (λ z. IsSpareBlock t z) first spare } in
+pub begun-at : (table : List LiveSlots) (s t : ℕ) (m m1 m2 : List ℕ) → IsMendedMap table m → s < data_blocks m → HoldsBegun (data_block m s) → m1 ≡ m → IsSpareBlock t m1 → m2 ≡ m1 → Begun table s t m2
+begun-at table s t m m1 m2 h low holds first spare second =
+    let k : Begun table s t m = record { mended = h; number = low; begun = holds; spare = subst (λ z. IsSpareBlock t z) first spare } in
     subst (λ z. Begun table s t z) (sym (second ∙ first)) k
 
 pub begun-copyable : (table : List LiveSlots) (s t : ℕ) (m : List ℕ) → Begun table s t m → IsCopyable s t m
@@ -95,7 +95,7 @@ pub afresh-cut : (table : List LiveSlots) (s t : ℕ) (m0 m b : List ℕ) → m 
 afresh-cut table s t m0 m b first k healthy keeps =
     subst (λ z. Mends z b) first (kept-mends m b (keeps (subst (λ z. IsHealthy z) (sym first) healthy) (begun-copyable table s t m k)))
 
-pub still-repairs : (table : List LiveSlots) (m d : List ℕ) → IsMended table m → d ≡ m → Repairs m table d
+pub still-repairs : (table : List LiveSlots) (m d : List ℕ) → IsMendedMap table m → d ≡ m → Repairs m table d
 still-repairs table m d h same = subst (λ z. Repairs m table z) (sym same) (record { mends = mends-none m; tabled = h.tabled; blocks = h.blocks })
 
 -- The older of two slots was retired in blocks that were mended.
@@ -103,7 +103,7 @@ pub retired-repairs : (between table : List LiveSlots) (a b d : List ℕ) → Me
 retired-repairs between table a b d h chip sectors clean tabled blocks = record { mends = mends-after a b d h.mends (mends-of b d chip sectors clean); tabled = tabled; blocks = blocks }
 
 -- One more block.
-pub repairs-mended : (table : List LiveSlots) (a b : List ℕ) → IsSoundMap a → Repairs a table b → IsMended table b
+pub repairs-mended : (table : List LiveSlots) (a b : List ℕ) → IsSoundMap a → Repairs a table b → IsMendedMap table b
 repairs-mended table a b sound r = record { tabled = r.tabled; blocks = r.blocks; sound = mends-sound a b r.mends sound }
 
 pub repairs-after : (table new : List LiveSlots) (a b c : List ℕ) → Repairs a table b → Repairs b new c → Repairs a new c

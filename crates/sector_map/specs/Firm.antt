@@ -1,11 +1,12 @@
--- What the steps of a firm mount leave and find. Words of private functions: no claim rests on them.
--- Source: own.
+-- What the steps of a firm mount find, and what they leave. Words of private functions: no claim
+-- rests on them. Source: own.
 use Rattle.std.specs.Prelude.{◌≡◌, ℕ, ◌<◌, List, length}
 use Rattle.erase_journal.specs.Blocks.{SameChip}
 use Rattle.sector_slots.specs.Slots.{data_blocks, data_block, kind_at, raw_slot, content_bytes}
 use Rattle.sector_slots.specs.Slots.{IsSpareIn}
 use Rattle.sector_slots.specs.Blocks.{AreSettled}
 use Rattle.sector_slots.specs.Sectors.{IsSoundMap}
+use Rattle.sector_slots.specs.Firm.{HoldsBegun}
 use Rattle.sector_map.specs.Table.{IsTableOf}
 use Rattle.sector_map.specs.declared.table.LiveSlots.{LiveSlots}
 
@@ -24,8 +25,12 @@ pub record MakesFirm (m m' : List ℕ) : Type 0 where
   pub chip : SameChip m m'
   pub blocks : ReadsAlike m m'
 
+-- no slot of a block is begun
+abbrev pub HasNoneBegun : List ℕ → Type 0
+HasNoneBegun m = (c : ℕ) → c < data_blocks m → HoldsBegun (data_block m c) → ⊥
+
 -- The blocks are mended, the older of two slots is retired, and the table is that of the memory.
-pub record IsMended (table : List LiveSlots) (m : List ℕ) : Type 0 where
+pub record IsMendedMap (table : List LiveSlots) (m : List ℕ) : Type 0 where
   pub tabled : IsTableOf table m
   pub blocks : AreSettled m
   pub sound : IsSoundMap m

@@ -1,14 +1,14 @@
 //! A mount and a clearing where torn bits may waver: what a mount reads is programmed again before
 //! it acts on it.
 
-ghost use Rattle.std.specs.Prelude.{◌≡◌, ◌⊎◌, ◌<◌, length, OnOk, IfErr};
+ghost use Rattle.std.specs.Prelude.{◌≡◌, ◌⊎◌, ◌<◌, length, OnOk, IfOk, IfErr, IsFalse};
 ghost use Rattle.std.specs.Result.{IsErrOf};
 ghost use Rattle.nor_driver.specs.State.{Refuses};
 ghost use Rattle.erase_journal.specs.Journals.{IsHealthy};
 ghost use Rattle.erase_journal.specs.Steps.{SucceedsSettled, EndsSettled};
 ghost use Rattle.sector_slots.specs.Slots.{data_blocks};
 ghost use Rattle.sector_slots.specs.Sectors.{zeros};
-ghost use Rattle.sector_map.specs.Firm.{MakesFirm, IsMended};
+ghost use Rattle.sector_map.specs.Firm.{MakesFirm, HasNoneBegun, IsMendedMap};
 ghost use Rattle.sector_map.specs.Maps.{IsServing, SetLeaves, Wrote};
 ghost use Rattle.sector_map.specs.Table.{Mends, Repairs};
 
@@ -22,6 +22,8 @@ use sector_stock::{Reclaim, move_afresh};
 
 /// Makes firm what was read, where torn bits may waver. True where a slot is begun.
 pub(crate) fn firm_as<S: FirmCalls>(slots: &mut S, firmness: Firmness) -> Result<bool, NorError>
+    ensures none { firmness ≡ Firmness.Firm → IfOk result (λ begun. IsFalse begun
+        → HasNoneBegun (S.state slots.old).memory) }
     ensures ok { OnOk result (MakesFirm (S.state slots.old).memory (S.state slots.new).memory) }
     ensures cut { IsErrOf result NorError.Cut → IsHealthy (S.state slots.old).memory
         → MakesFirm (S.state slots.old).memory (S.state slots.new).memory }
@@ -44,6 +46,8 @@ pub(crate) fn firm_as<S: FirmCalls>(slots: &mut S, firmness: Firmness) -> Result
 /// Programs the head of each block again that isn't erased. True where a slot is begun.
 #[tactic(auto, using(erase_journal::proofs::Calls::repeated_calls))]
 fn firm_heads<S: FirmCalls>(slots: &mut S) -> Result<bool, NorError>
+    ensures none { IfOk result (λ begun. IsFalse begun
+        → HasNoneBegun (S.state slots.old).memory) }
     ensures ok { OnOk result (MakesFirm (S.state slots.old).memory (S.state slots.new).memory) }
     ensures cut { IsErrOf result NorError.Cut
         → MakesFirm (S.state slots.old).memory (S.state slots.new).memory }
@@ -70,7 +74,7 @@ pub(crate) fn move_begun<S: Reclaim>(
     table: &mut [LiveSlots],
     begun: bool,
 ) -> Result<(), NorError>
-    requires mended { IsMended table.old (S.state stock.old).memory }
+    requires mended { IsMendedMap table.old (S.state stock.old).memory }
     ensures ok { OnOk result (Repairs (S.state stock.old).memory table.new
         (S.state stock.new).memory) }
     ensures cut { IsErrOf result NorError.Cut → IsHealthy (S.state stock.old).memory
@@ -101,7 +105,7 @@ fn move_if_begun<S: Reclaim>(
     block: u16,
 ) -> Result<(), NorError>
     requires number { block < data_blocks (S.state stock.old).memory }
-    requires mended { IsMended table.old (S.state stock.old).memory }
+    requires mended { IsMendedMap table.old (S.state stock.old).memory }
     ensures ok { OnOk result (Repairs (S.state stock.old).memory table.new
         (S.state stock.new).memory) }
     ensures cut { IsErrOf result NorError.Cut → IsHealthy (S.state stock.old).memory
@@ -112,12 +116,14 @@ fn move_if_begun<S: Reclaim>(
     ensures size { length (S.state stock.new).memory ≡ length (S.state stock.old).memory }
     ensures ends { EndsSettled result (S.state stock.old) (S.state stock.new) }
 {
-    if !stock.has_begun(block)? {
+    let begun = stock.has_begun(block)?;
+    if !begun {
         return Ok(());
     }
     let target = lowest_spare(stock)?;
     move_afresh(stock, block, target)?;
-    follow_block(stock, table, target)
+    follow_block(stock, table, target)?;
+    Ok(())
 }
 
 /// Clears a sector, as torn bits are taken.

@@ -130,8 +130,8 @@ fn fit<S: SlotCalls>(slots: &mut S, seen: Seen, pair: bool) -> Result<Option<See
     }
 }
 
-/// Steps 6 to 10: mends the blocks, retires the older of two slots, moves the blocks in which a slot
-/// is begun, if one was seen, and makes the index.
+/// Steps 6 to 10: mends the blocks, retires the older of two slots, moves the blocks in which a
+/// slot is begun, if one was seen, and makes the index.
 fn repair<S: Reclaim>(
     stock: &mut S,
     table: &mut [LiveSlots],
