@@ -9,7 +9,7 @@ use Rattle.erase_journal.specs.declared.unused.Unused.{Unused}
 use Rattle.erase_journal.specs.declared.phase.ErasePhase.{ErasePhase}
 use Rattle.erase_journal.specs.declared.phase.ErasePhase.TheVariants.{Idle, Asked, Doomed, Closing}
 use Rattle.erase_journal.specs.Votes.{once_erased}
-use Rattle.erase_journal.specs.Journals.{tally_of, first, second, unused, free_entries, open_entries, HoldsVotes, settled, AreJournalsSound}
+use Rattle.erase_journal.specs.Journals.{tally_of, first, second, unused, free_entries, open_blocks, HoldsVotes, settled, AreJournalsSound}
 use Rattle.erase_journal.specs.Steps.{SameNumbers, IsStep, IsNext, MayErase}
 use Rattle.erase_journal.proofs.Regions.{vote-opened, vote-closed, changed-spoiled, votes-below, votes-above, entries-below, entries-above}
 use Rattle.erase_journal.proofs.Lasting.{Last-erased, Last-moved}
@@ -20,7 +20,7 @@ pub record IsBlank (x : JournalId) (m : List ℕ) : Type 0 where
   pub second : ((second (tally_of m) (next x)).unused ≡ 1024) × HoldsVotes (second (tally_of m) (next x)) 0
   pub first : ((first (tally_of m) (next (next x))).unused ≡ 1024) × HoldsVotes (first (tally_of m) (next (next x))) 0
   pub free : x ≡ J0 → free_entries m ≡ 512
-  pub none : x ≡ J0 → open_entries m ≡ 0
+  pub none : x ≡ J0 → open_blocks m ≡ 0
 
 pub steps-on : (u : Unused) (p p' : ErasePhase) (m m' : List ℕ) → IsStep u p m → IsNext p m p' m' → IsStep u p' m'
 steps-on u p p' m m' a b = record {

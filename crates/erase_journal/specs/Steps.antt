@@ -1,9 +1,10 @@
 -- What the functions of the journal leave. Source: own.
-use Rattle.std.specs.Prelude.{◌≡◌, ◌≢◌, ℕ, ◌+◌, ◌<◌, true, List, Result, MatchResult}
+use Rattle.std.specs.Prelude.{◌≡◌, ◌≢◌, ℕ, ◌+◌, ◌<◌, true, false, List, Result, MatchResult}
 use Rattle.chip_model.specs.Memory.{byte}
+use Rattle.chip_model.specs.Parts.{part}
 use Rattle.nor_layout.specs.declared.journal.JournalId.{JournalId}
 use Rattle.nor_layout.specs.declared.journal.JournalId.TheVariants.{J0, J1, J2}
-use Rattle.nor_layout.specs.Journals.{region_len}
+use Rattle.nor_layout.specs.Journals.{block_len, region_len}
 use Rattle.nor_layout.specs.Entries.{entry_count, entry_at}
 use Rattle.nor_driver.specs.State.{NorState, IsNorReady, OnlyMemoryChanges, Refuses}
 use Rattle.nor_driver.specs.declared.error.NorError.{NorError}
@@ -14,7 +15,7 @@ use Rattle.erase_journal.specs.Places.{Changed, Spoiled}
 use Rattle.erase_journal.specs.Votes.{IsLowestTired, IsRested}
 use Rattle.erase_journal.specs.Journals.{AreJournalsSound, IsHealthy, IsSettled, unused, settled}
 use Rattle.erase_journal.specs.Journals.{is_open_entry, entry_block, entry_byte}
-use Rattle.erase_journal.specs.Blocks.{SameBlocks, WithErased}
+use Rattle.erase_journal.specs.Blocks.{SameBlocks, WithErased, blank}
 
 -- m' is healthy and represents the blocks of m: what a loss of power leaves of a change of the
 -- journals
@@ -82,12 +83,18 @@ pub record IsRestful (m : List ℕ) : Type 0 where
   pub j1 : IsRested J1 (unused m)
   pub j2 : IsRested J2 (unused m)
 
--- entry i is open for block c, which so reads as erased
+-- entry i alone is open, for block c, which so reads as erased
 pub record IsOpened (i c : ℕ) (m : List ℕ) : Type 0 where
   pub sound : AreJournalsSound Idle m
   pub within : i < entry_count
   pub opened : is_open_entry m i ≡ true
   pub names : entry_block m i ≡ c
+  pub alone : (k : ℕ) → k < entry_count → k ≢ i → is_open_entry m k ≡ false
+
+-- each block that has an open entry is erased
+abbrev pub AreErased : List ℕ → Type 0
+AreErased m = (i : ℕ) → i < entry_count → is_open_entry m i ≡ true
+    → part block_len m (entry_block m i) ≡ blank
 
 -- what taking a free entry for block c leaves
 pub record IsTaken (i c : ℕ) (m m' : List ℕ) : Type 0 where
