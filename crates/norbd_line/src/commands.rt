@@ -10,9 +10,10 @@ ghost use Rattle.norbd_line.specs.CommandLine.{status_app, texts_of, unprotect_a
 use crate::Fault;
 use crate::chip::{clear_arg, trust_arg, with_chip, yes_arg};
 use crate::options::{
-    against_arg, bind_arg, conns_arg, firm_arg, force_arg, image_arg, json_arg, kib_arg, max_request_arg,
-    mend_arg, no_record_arg, port_arg, range_arg, read_only_arg, record_arg, sectors_arg,
-    spi_hz_arg, status_arg, status_path_arg, sync_arg, tidy_arg, unix_arg, verbose_arg,
+    against_arg, bind_arg, conns_arg, firm_arg, force_arg, image_arg, json_arg, kib_arg,
+    max_request_arg, mend_arg, no_record_arg, port_arg, range_arg, read_only_arg, record_arg,
+    sectors_arg, spi_hz_arg, status_arg, status_path_arg, sync_arg, tidy_arg, unix_arg,
+    verbose_arg,
 };
 use clap::error::ErrorKind;
 use clap::{ArgMatches, Command};

@@ -81,8 +81,8 @@ pub enum Line<'a> {
         image: &'a str,
         sectors: Option<&'a str>,
     },
-    /// `write IMAGE [--sectors A:B] [--firm]`: replace these sectors by standard input; `firm` where
-    /// bits that a loss of power tore may waver in an image, too.
+    /// `write IMAGE [--sectors A:B] [--firm]`: replace these sectors by standard input; where `firm`
+    /// is set bits of an image that a loss of power tore are taken to waver.
     Write {
         image: &'a str,
         sectors: Option<&'a str>,
