@@ -269,8 +269,8 @@ class Lasting(FaultCase):
                 return answer
             peer.programmer.change = change
         flips(0xE800)                                   # a free slot
-        self.refused(f"not clean: {peer.place}: norbd check --mend mends it", "serve", peer.place,
-                     "--unix", "a.sock")
+        self.refused(f"not clean: {peer.place}: {kit.MEND_A_CHIP}", "serve", peer.place, "--unix",
+                     "a.sock")
         flips(0x0800)                                   # behind the superblock
         server = self.serve(peer.place)
         client = server.client()
