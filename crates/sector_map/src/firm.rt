@@ -43,6 +43,17 @@ pub(crate) fn firm_as<S: FirmCalls>(slots: &mut S, firmness: Firmness) -> Result
     }
 }
 
+/// What is free is suspect from now on, where torn bits may waver.
+pub(crate) fn suspect_as<S: Reclaim>(stock: &mut S, firmness: Firmness)
+    ensures state { S.state stock.new ≡ S.state stock.old }
+    ensures indexed { S.indexed stock.new ≡ S.indexed stock.old }
+{
+    match firmness {
+        Firmness::Steady => {}
+        Firmness::Firm => stock.suspect_free(),
+    }
+}
+
 /// Programs the head of each block again that isn't erased. True where a slot is begun.
 #[tactic(auto, using(erase_journal::proofs::Calls::repeated_calls))]
 fn firm_heads<S: FirmCalls>(slots: &mut S) -> Result<bool, NorError>

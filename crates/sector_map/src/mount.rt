@@ -20,7 +20,7 @@ ghost use Rattle.sector_map.specs.Table.{IsTabled, IsTableOf, IsBlankTable, Mend
 ghost use Rattle.sector_map.specs.Table.{MountCut};
 ghost use Rattle.sector_map.specs.declared.found.Seen.{Seen as SeenOf};
 
-use crate::firm::{firm_as, move_begun};
+use crate::firm::{firm_as, move_begun, suspect_as};
 use crate::found::{Found, Seen, has_room};
 use crate::groups::{has_pair, lowest_dead_group, make_room, retire_groups};
 use crate::scan::{is_spare, read_table, survey};
@@ -60,6 +60,7 @@ pub fn mount_slots<S: Reclaim>(
             mark_first(stock, marks.unmarked)?;
             let begun = firm_as(stock, firmness)?;
             repair(stock, table, seen, begun)?;
+            suspect_as(stock, firmness);
             Ok(true)
         }
         None => Ok(false),
