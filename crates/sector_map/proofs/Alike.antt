@@ -1,12 +1,12 @@
 -- Memories whose data blocks read alike: what was read of the one is so of the other.
-use Rattle.std.proofs.Common.{◌≡◌, ◌≢◌, ℕ, ◌+◌, ◌-◌, ◌*◌, ◌<◌, ◌≤◌, Bool, true, false, List, length, refl, sym, ap, ◌∙◌, subst, arith, inl, inr, Ok, Err}
+use Rattle.std.proofs.Common.{◌≡◌, ◌≢◌, ℕ, ◌+◌, ◌-◌, ◌<◌, ◌≤◌, Bool, true, false, List, length, refl, sym, ap, ◌∙◌, subst, arith, inl, inr, Ok, Err}
 use Rattle.std.specs.Prelude.{◌/◌, ◌%◌, ◌||◌, Result, IfOk, IsFalse}
 use Rattle.std.proofs.lemmas.Bool.{cases_eq}
 use Rattle.chip_model.specs.Geometry.{block_count}
 use Rattle.nor_driver.specs.declared.error.NorError.{NorError}
 use Rattle.nor_layout.specs.declared.kind.Kind.{Kind}
 use Rattle.nor_layout.specs.Kinds.{kind_of}
-use Rattle.erase_journal.specs.Blocks.{SameChip, SameBlocks}
+use Rattle.erase_journal.specs.Blocks.{SameBlocks}
 use Rattle.sector_slots.specs.Slots.{slot_in, counted, Slot, content_bytes, data_blocks, data_block, kind_at, raw_slot, slot_at, slot_count, IsSpareIn, IsClean}
 use Rattle.sector_slots.specs.Blocks.{IsAtRest, AreSettled, IsSettledBlocks, HasGroupRoom}
 use Rattle.sector_slots.specs.Firm.{KeepsHead, HoldsBegun}

@@ -1,34 +1,22 @@
 -- The superblock of a chip that is mounted, and the mark of a mixed chip in it.
-use Rattle.std.proofs.Common.{◌≡◌, ◌≢◌, ℕ, ◌-◌, ◌<◌, ◌⊎◌, Bool, true, false, ◌&&◌, List, length, refl, sym, ap, ◌∙◌, subst, arith, inl, inr, Ok, Err}
+use Rattle.std.proofs.Common.{◌≡◌, ◌≢◌, ℕ, ◌<◌, ◌⊎◌, Bool, true, false, ◌&&◌, List, length, refl, sym, ap, ◌∙◌, subst, arith, inl, inr, Ok, Err}
 use Rattle.std.specs.Prelude.{◌==◌, ◌||◌, not, if◌then◌else◌}
 use Rattle.std.proofs.lemmas.Bool.{cases_eq, eq-eqb, ne_eqb}
 use Rattle.chip_model.specs.Memory.{byte}
-use Rattle.chip_model.specs.Geometry.{block_count}
 use Rattle.chip_model.specs.declared.geometry.Geometry.{Geometry}
 use Rattle.nor_layout.specs.Layouts.{layout_of}
 use Rattle.nor_layout.specs.Superblock.{has_name, is_sealed, blocks_in, groups_in, layout_in, mixed_in}
 use Rattle.nor_layout.specs.declared.layout.Layout.TheVariants.{Groups, Mixed}
 use Rattle.nor_layout.specs.declared.superblock.SuperError.TheVariants as refusals
-use Rattle.nor_layout.specs.Kinds.{kind_of}
 use Rattle.erase_journal.specs.Blocks.{SameChip, OnlySuper}
-use Rattle.sector_slots.specs.Slots.{slot_in, data_blocks, kind_at, raw_slot, slot_at, slot_count}
-use Rattle.sector_slots.specs.Blocks.{AreSettled, IsSettledBlocks, HasGroupRoom}
 use Rattle.sector_slots.specs.Sectors.{IsSoundMap, sector_at}
 use Rattle.sector_slots.specs.Laws.{IsMarked}
 use Rattle.sector_slots.proofs.MixLaws.{only-marked, marks-keep}
-use Rattle.sector_slots.proofs.GroupLaws.{room-same}
-use Rattle.nor_layout.specs.declared.kind.Kind.{Kind}
-use Rattle.sector_slots.specs.Blocks.{IsAtRest}
-use Rattle.sector_slots.specs.Slots.{counted, Slot}
 use Rattle.sector_slots.specs.Sectors.{HoldsSectors}
-use Rattle.sector_map.specs.Found.{FoundIn, FoundBelow, RoomSeen}
-use Rattle.sector_map.specs.Table.{IsTabled, Mends, Repairs, Mounts, MountCut}
-use Rattle.sector_map.specs.declared.found.Found.{Found}
-use Rattle.sector_map.specs.declared.found.Found.TheVariants.{AtRest, Void, Committed}
+use Rattle.sector_map.specs.Table.{Mends, Repairs, Mounts, MountCut}
 use Rattle.sector_map.specs.declared.table.LiveSlots.{LiveSlots}
-use Rattle.sector_map.proofs.Mounting.{live-tabled}
 use Rattle.sector_map.proofs.Retiring.{single-tabled}
-use Rattle.sector_slots.proofs.BlankLaws.{sound-holds, holds-sound, counted-same}
+use Rattle.sector_slots.proofs.BlankLaws.{sound-holds, holds-sound}
 use Rattle.sector_map.specs.Maps.{IsLaidOut, is_layout, geometry_of}
 use Rattle.sector_map.specs.Marking.{SameDisk, IsUnmarked, is_unmarked, mixed_mark, Marks}
 

@@ -13,7 +13,6 @@ use Rattle.sector_slots.specs.Blocks.{AreSettled}
 use Rattle.sector_slots.specs.Sectors.{IsSoundMap, HoldsSectors}
 use Rattle.sector_slots.specs.Firm.{HoldsBegun}
 use Rattle.journal_slots.proofs.Killing.{free-state}
-use Rattle.sector_stock.specs.declared.given.Copied.{Copied}
 use Rattle.sector_stock.specs.Copy.{IsCopyable, MovesAfresh, KeepsSectors}
 use Rattle.sector_stock.specs.Room.{IsSpareBlock}
 use Rattle.sector_stock.proofs.Moved.{moves-into}

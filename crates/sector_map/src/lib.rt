@@ -14,11 +14,11 @@
 //! blocks stay sound, but a sector that is written, or whose block is copied, gets some content.
 //!
 //! Needed from below: the memory (`Nor`), the recovery of the journals (`Journal`), slots and the
-//! calls on them (`SlotCalls`), and a free slot for each write (`Reclaim`). Left to the crate
-//! above: `is_clean` after a mount, when to tidy, when to restore. The crate `sector_survey` reads
-//! blocks by the same functions as a mount, so some of them are public. In a block of layout 1 lies
-//! a
-//! *group* of seven sectors; it counts as seven slots (docs/GLOSSARY.md). Source: own.
+//! calls on them (`SlotCalls`, `FirmCalls`), and a free slot for each write (`Reclaim`). Left to
+//! the crate above: `is_clean` after a mount, when to tidy, when to restore. The crate
+//! `sector_survey` reads blocks by the same functions as a mount, so some of them are public. In a
+//! block of layout 1 lies a *group* of seven sectors; it counts as seven slots (docs/GLOSSARY.md).
+//! Source: own.
 
 #![tactic(auto)]
 

@@ -1,4 +1,4 @@
-use Rattle.std.proofs.Common.{◌+◌, ◌<◌, ◌≡◌, false, arith}
+use Rattle.std.proofs.Common.{◌+◌, ◌<◌, false, arith}
 use Rattle.std.proofs.lemmas.Result.{err_from_is_err_and}
 use Rattle.erase_journal.proofs.Calls.{repeated-none, repeated-more}
 use Rattle.sector_slots.specs.Slots.{data_blocks}

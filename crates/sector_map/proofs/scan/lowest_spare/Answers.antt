@@ -1,4 +1,4 @@
-use Rattle.std.proofs.Common.{◌∙◌, ◌+◌, suc, subst, arith}
+use Rattle.std.proofs.Common.{◌∙◌, ◌+◌, subst, arith}
 use Rattle.sector_slots.specs.Slots.{IsSpareIn}
 use Rattle.erase_journal.proofs.Calls.{repeated-more}
 use Rattle.sector_map.proofs.Founds.{seen-not}
