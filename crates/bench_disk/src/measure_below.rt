@@ -163,6 +163,7 @@ fn time_of_tables(
         plain: false,
         group: false,
         erases: 0,
+        suspect: false,
     };
     let Ok(states) = vec![in alloc; SlotState::Free; 28_644] else {
         return Err(Failure::NoMemory);

@@ -366,6 +366,7 @@ fn take_tables(alloc: Global, chip: Geometry) -> Result<Tables, AllocError>
         plain: false,
         group: false,
         erases: 0,
+        suspect: false,
     };
     let blocks = vec![in alloc; blank; count]?;
     Ok(Tables {

@@ -22,6 +22,7 @@
 #![tactic(auto)]
 
 mod copy;
+mod firm;
 mod given;
 mod index;
 mod laws;
@@ -33,6 +34,7 @@ mod scan;
 mod take;
 
 pub use copy::{end_committed, end_erased, end_void, move_afresh};
+pub use firm::{firm_free, suspect_all};
 pub use given::{Copied, Given};
 pub use index::{BlockState, Cursors, SlotState, mark_dead};
 pub use laws::{never_full, slots_outnumber_sectors, sound_maps_have_room};
