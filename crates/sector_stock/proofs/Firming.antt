@@ -1,15 +1,13 @@
 -- What making a block firm leaves: a free slot is dead, or a wholly free block was erased; the sectors are what they were, and the index is the memory's.
-use Rattle.std.proofs.Common.{◌≡◌, ◌≢◌, ◌⊎◌, ℕ, ◌+◌, ◌-◌, ◌*◌, ◌<◌, ◌≤◌, Bool, true, false, List, length, refl, sym, ap, ◌∙◌, subst, arith, inl, inr}
-use Rattle.std.specs.Prelude.{◌/◌, ◌%◌}
-use Rattle.std.proofs.lemmas.Bool.{cases_eq, false≢true}
+use Rattle.std.proofs.Common.{◌≡◌, ◌≢◌, ◌⊎◌, ℕ, ◌+◌, ◌-◌, ◌<◌, ◌≤◌, Bool, true, false, List, length, refl, sym, ap, ◌∙◌, subst, arith, inl, inr}
+use Rattle.std.specs.Prelude.{◌/◌}
+use Rattle.std.proofs.lemmas.Bool.{cases_eq, cases_lt, false≢true}
 use Rattle.chip_model.specs.Geometry.{block_count, sector_count}
-use Rattle.nor_layout.specs.declared.header.Generation.{Generation}
 use Rattle.erase_journal.specs.Blocks.{WithErased}
-use Rattle.sector_slots.specs.Slots.{Slot, Free, Dead, slot_at, slot_count, data_blocks, kind_at, raw_slot, IsClean, IsSpareIn}
+use Rattle.sector_slots.specs.Slots.{Free, Dead, slot_at, slot_count, data_blocks, kind_at, raw_slot, IsClean, IsSpareIn}
 use Rattle.sector_slots.specs.Steps.{OnlyPlace}
-use Rattle.sector_slots.specs.Blocks.{AreAtRest, AreSettled, IsReserveOf, IsSettledBlocks}
+use Rattle.sector_slots.specs.Blocks.{AreAtRest, AreSettled, IsSettledBlocks}
 use Rattle.sector_slots.specs.Copying.{HoldsNothing, SameLive}
-use Rattle.sector_slots.specs.Sectors.{LiveAt, IsSoundMap, Single}
 use Rattle.sector_slots.proofs.AloneLaws.{place-alone}
 use Rattle.sector_slots.proofs.MachineLaws.{single-sized}
 use Rattle.sector_slots.proofs.MoveLaws.{live-stands, same-back, live-single}
@@ -22,10 +20,14 @@ use Rattle.sector_stock.specs.declared.policy.Wanted.{Wanted}
 use Rattle.sector_stock.specs.declared.policy.Wanted.TheVariants as wanteds
 use Rattle.sector_stock.specs.declared.policy.Policy.TheVariants as policies
 use Rattle.sector_stock.specs.Index.{in_block, erases_of, Counts, IsIndexOf, IsWholeBlock, Trusts, Suspects, TrustsMore, ComesToBeTrusted, AreTrusted, AreWithin, IsStocked, AreBounds, AreWorn}
-use Rattle.sector_stock.specs.Room.{HasRoom, IsSpareBlock}
-use Rattle.sector_stock.specs.Takes.{MakesFirm, KeepsErases, ErasesSpare}
+use Rattle.sector_stock.specs.IndexSteps.{suspects}
+use Rattle.sector_stock.specs.Room.{HasRoom, IsSpareBlock, HasNoneFree}
+use Rattle.sector_stock.specs.Takes.{MakesFirm, KeepsErases, IsLowestFree, FillsUp, GivesTrusted}
 use Rattle.sector_stock.proofs.Copying.{after-keeps, same-sectors-sound}
 use Rattle.sector_stock.proofs.Even.{even-kept}
+use Rattle.sector_stock.proofs.Finding.{reserve-one}
+use Rattle.sector_stock.proofs.Tallies.{how_many-less}
+use Rattle.erase_journal.specs.Places.{how_many}
 use Rattle.sector_stock.proofs.Moved.{sound-of, spare-whole}
 use Rattle.sector_stock.proofs.Renewing.{SameBut, AreSameBut, listed-but, ahead-but, listed-done, spare-keeps, spare-done, reserve-stays, spare-stays}
 
@@ -226,3 +228,49 @@ none-suspect c blocks blocks' h trusted low is = elim (h.each c low) as (λ _. �
 -- no erase is counted
 pub trusts-erases : (blocks blocks' : List BlockState) → TrustsMore blocks blocks' → KeepsErases (length blocks) (erases_of blocks) (erases_of blocks')
 trusts-erases blocks blocks' h c low = elim (h.each c low) as (λ _. erases_of blocks' c ≡ erases_of blocks c) [ inl e ↦ ap (λ b. b.erases) e | inr t ↦ t.erases ]
+
+-- and one more block is trusted
+pub suspects-fewer : (s : ℕ) (blocks blocks' : List BlockState) → TrustsMore blocks blocks' → s < length blocks → (in_block blocks s).suspect ≡ true → (in_block blocks' s).suspect ≡ false → suspects blocks' < suspects blocks
+unfolding suspects
+suspects-fewer s blocks blocks' h low was now =
+    subst (λ n. how_many (λ c. (in_block blocks' c).suspect) n < how_many (λ c. (in_block blocks c).suspect) (length blocks)) (sym h.size)
+    (how_many-less (λ c. (in_block blocks c).suspect) (λ c. (in_block blocks' c).suspect) (length blocks) s
+    (λ c inside is. elim (h.each c inside) as (λ _. (in_block blocks c).suspect ≡ true) [ inl e ↦ sym (ap (λ b. b.suspect) e) ∙ is | inr t ↦ t.was ]) low was now)
+
+-- The slot that is given next.
+below-either : (w v : ℕ) → w ≢ v → (w < v) ⊎ (v < w)
+below-either w v ne = elim (cases_lt w v) [ inl low ↦ inl low | inr high ↦ inr (omega (arith, high, ne)) ]
+
+lowest-one : (w v : ℕ) (m : List ℕ) → IsLowestFree w m → IsLowestFree v m → w ≡ v
+lowest-one w v m a b =
+    let same = reserve-one a.reserve b.reserve m a.is_reserve b.is_reserve in
+    elim (cases_eq w v) as (λ _. w ≡ v) [
+      | inl e ↦ e
+      | inr ne ↦ elim (below-either w v ne) as (λ _. w ≡ v) [
+        | inl low ↦ absurd (b.lowest w low (λ e. a.outside (same ∙ sym e)) a.free)
+        | inr low ↦ absurd (a.lowest v low (λ e. b.outside (sym same ∙ sym e)) b.free)
+      ]
+    ]
+
+fills-newest : (n r w v : ℕ) (erases : ℕ → ℕ) (m : List ℕ) → n ≡ v / 7 → FillsUp n r erases w m → v < slot_count m → slot_at m v ≡ Free → r ≢ v / 7 → w / 7 ≡ n
+fills-newest n r w v erases m is h low free out = h.goes_on (record { other = λ e. out (sym e ∙ is); slot = v; number = low; block = sym is; free = free })
+
+-- it is of a trusted block
+pub trusted-next : (v : ℕ) (m : List ℕ) (slots : List SlotState) (blocks : List BlockState) (at new : Cursors) → (in_block blocks (v / 7)).suspect ≡ false → IsIndexOf slots blocks at m → new.policy ≡ at.policy → new.reserve ≡ at.reserve
+    → (at.policy ≡ policies.Lowest → IsLowestFree v m) → (at.policy ≡ policies.Level → FillsUp at.newest at.reserve (erases_of blocks) v m) → (at.policy ≡ policies.Level → new.newest ≡ v / 7) → GivesTrusted new.policy new blocks m
+trusted-next v m slots blocks at new trusted index same reserve low up newest = record {
+  lowest = λ by w h. subst (λ a. (in_block blocks (a / 7)).suspect ≡ false) (lowest-one v w m (low (sym same ∙ by)) h) trusted;
+  level = λ by w h.
+      let p = sym same ∙ by in
+      let f = up p in
+      let q = newest p in
+      let e : w / 7 ≡ new.newest = fills-newest new.newest new.reserve w v (erases_of blocks) m q h f.number f.free (λ x. f.outside (sym reserve ∙ x)) in
+      subst (λ a. (in_block blocks a).suspect ≡ false) (sym (e ∙ q)) trusted;
+}
+
+-- or there is none
+pub none-next : (m : List ℕ) (slots : List SlotState) (blocks : List BlockState) (at new : Cursors) → HasNoneFree at.reserve m → IsIndexOf slots blocks at m → new.policy ≡ at.policy → new.reserve ≡ at.reserve → GivesTrusted new.policy new blocks m
+none-next m slots blocks at new none index same reserve = record {
+  lowest = λ by w h. absurd (none w h.number (λ e. h.outside (reserve-one h.reserve at.reserve m h.is_reserve (index.highest (sym same ∙ by)) ∙ sym e)) h.free);
+  level = λ by w h. absurd (none w h.number (λ e. h.outside (reserve ∙ sym e)) h.free);
+}

@@ -2,6 +2,7 @@
 -- Source: own.
 use Rattle.std.specs.Prelude.{◌≡◌, ◌≢◌, ◌⊎◌, ℕ, zero, suc, ◌+◌, ◌*◌, ◌/◌, ◌<◌, ◌≤◌, false, List}
 use Rattle.std.specs.Prelude.{length}
+use Rattle.erase_journal.specs.Places.{how_many}
 use Rattle.sector_stock.specs.declared.index.SlotState.{SlotState}
 use Rattle.sector_stock.specs.declared.index.BlockState.{BlockState}
 use Rattle.sector_stock.specs.declared.index.Cursors.{Cursors}
@@ -75,6 +76,10 @@ pub record RecountsErase (s : ℕ) (blocks blocks' : List BlockState) (old new :
   pub kept : old.most_erases ≤ new.most_erases
   pub most : one_erase_more (in_block blocks s).erases ≤ new.most_erases
   pub fits : (in_block blocks s).erases < 65536
+
+-- how many blocks are suspect
+unfoldable pub suspects : List BlockState → ℕ
+suspects blocks = how_many (λ c. (in_block blocks c).suspect) (length blocks)
 
 -- of the first k blocks the erases were set to 0, and nothing else changed
 pub record Forgets (k : ℕ) (blocks blocks' : List BlockState) : Type 0 where

@@ -17,7 +17,11 @@ use Rattle.sector_slots.specs.Copying.{shifted}
 use Rattle.sector_stock.specs.declared.given.Copied.{Copied}
 use Rattle.sector_stock.specs.Room.{HasNoneDead, IsSpareBlock, IsFull}
 use Rattle.sector_stock.specs.Index.{tally, is_dead, is_free_slot, is_live_group}
-use Rattle.sector_stock.specs.Index.{one_erase_more}
+use Rattle.sector_stock.specs.Index.{one_erase_more, in_block, erases_of}
+use Rattle.sector_stock.specs.declared.index.BlockState.{BlockState}
+use Rattle.sector_stock.specs.declared.index.Cursors.{Cursors}
+use Rattle.sector_stock.specs.declared.policy.Policy.{Policy}
+use Rattle.sector_stock.specs.declared.policy.Policy.TheVariants as policies
 use Rattle.sector_stock.specs.Copy.{SameSectors, KeepsSectors}
 
 -- how many slots of data block c are dead, and of all
@@ -229,6 +233,16 @@ pub record IsLowestFree (w : ℕ) (m : List ℕ) : Type 0 where
   pub is_reserve : IsReserveOf reserve m
   pub outside : reserve ≢ w / 7
   pub lowest : (s : ℕ) → s < w → s / 7 ≢ reserve → slot_at m s ≢ Free
+
+-- What is free isn't suspect in the block of the slot that is given next, where one is without a
+-- copy.
+pub record GivesTrusted (policy : Policy) (at : Cursors) (blocks : List BlockState) (m : List ℕ)
+    : Type 0 where
+  pub lowest : policy ≡ policies.Lowest → (w : ℕ) → IsLowestFree w m
+      → (in_block blocks (w / 7)).suspect ≡ false
+  pub level : policy ≡ policies.Level → (w : ℕ)
+      → FillsUp at.newest at.reserve (erases_of blocks) w m
+      → (in_block blocks (w / 7)).suspect ≡ false
 
 -- slot w is free, and another block than its own is wholly free
 pub record IsGivable (w : ℕ) (m : List ℕ) : Type 0 where

@@ -2,7 +2,8 @@
 //! and read another way at the next power-on. A wholly free block is erased before a slot of it is
 //! given; of any other one the first free slot is made dead. After that the block is trusted.
 
-ghost use Rattle.std.specs.Prelude.{◌≡◌, ◌*◌, ◌/◌, ◌<◌, ◌≤◌, ℕ, List, true, length, OnOk, IfSome};
+ghost use Rattle.std.specs.Prelude.{◌≡◌, ◌*◌, ◌/◌, ◌<◌, ◌≤◌, ℕ, List, true, false};
+ghost use Rattle.std.specs.Prelude.{length, OnOk, IfSome, None};
 ghost use Rattle.std.specs.Result.{IsErrOf};
 ghost use Rattle.chip_model.specs.Geometry.{IsChipSize};
 ghost use Rattle.nor_driver.specs.State.{IsNorReady};
@@ -13,7 +14,7 @@ ghost use Rattle.sector_stock.specs.Copy.{KeepsSectors};
 ghost use Rattle.sector_stock.specs.Index.{in_block, IsIndexOf, IsAhead, IsWholeBlock, Suspects};
 ghost use Rattle.sector_stock.specs.Index.{Trusts, TrustsMore, AreTrusted};
 ghost use Rattle.sector_stock.specs.Room.{HasRoom};
-ghost use Rattle.sector_stock.specs.Takes.{IsGivable, MakesFirm};
+ghost use Rattle.sector_stock.specs.Takes.{IsGivable, MakesFirm, GivesTrusted};
 
 use crate::index::{BlockState, Cursors, SlotState, free_slot, mark_dead, mark_live};
 use crate::policy::is_whole;
@@ -54,6 +55,8 @@ pub fn firm_free<S: FirmCalls>(
     requires room { HasRoom (S.state slots.old).memory }
     ensures ok { OnOk result (MakesFirm (S.state slots.old).memory (S.state slots.new).memory) }
     ensures trusts { OnOk result (TrustsMore blocks.old blocks.new) }
+    ensures next { OnOk result (GivesTrusted at.new.policy at.new blocks.new
+        (S.state slots.new).memory) }
     ensures none { AreTrusted blocks.old → (S.state slots.new).memory ≡ (S.state slots.old).memory }
     ensures policy { OnOk result (at.new.policy ≡ at.old.policy) }
     ensures index { OnOk result (IsIndexOf states.new blocks.new at.new
@@ -66,11 +69,7 @@ pub fn firm_free<S: FirmCalls>(
     ensures blocks_size { length blocks.new ≡ length blocks.old }
     ensures ends { EndsSettled result (S.state slots.old) (S.state slots.new) }
 {
-    let count = blocks.len() as u16;
-    for _block in 0..count {
-        let Some(slot) = next_suspect(states, blocks, at) else {
-            return Ok(());
-        };
+    while let Some(slot) = next_suspect(states, blocks, at) {
         firm_one(slots, states, blocks, at, slot)?;
     }
     Ok(())
@@ -84,6 +83,8 @@ fn next_suspect(states: &[SlotState], blocks: &[BlockState], at: &mut Cursors) -
     requires ahead { IsAhead blocks.now at.old }
     ensures found { (m : List ℕ) → IsIndexOf states.now blocks.now at.old m
         → IfSome result (λ w. IsGivable w m) }
+    ensures next { (m : List ℕ) → IsIndexOf states.now blocks.now at.old m → result ≡ None
+        → GivesTrusted at.new.policy at.new blocks.now m }
     ensures suspect { IfSome result (λ w. (in_block blocks.now (w / 7)).suspect ≡ true) }
     ensures number { IfSome result (λ w. w / 7 < length blocks.now) }
     ensures ahead { IsAhead blocks.now at.new }
@@ -91,8 +92,14 @@ fn next_suspect(states: &[SlotState], blocks: &[BlockState], at: &mut Cursors) -
     ensures policy { at.new.policy ≡ at.old.policy }
 {
     match free_slot(states, blocks, at) {
-        Some(slot) if blocks[(slot / 7) as usize].suspect => Some(slot),
-        _ => None,
+        Some(slot) => {
+            if blocks[(slot / 7) as usize].suspect {
+                Some(slot)
+            } else {
+                None
+            }
+        }
+        None => None,
     }
 }
 
@@ -112,6 +119,7 @@ fn firm_one<S: FirmCalls>(
     requires suspect { (in_block blocks.old (slot / 7)).suspect ≡ true }
     ensures ok { OnOk result (MakesFirm (S.state slots.old).memory (S.state slots.new).memory) }
     ensures trusts { OnOk result (TrustsMore blocks.old blocks.new) }
+    ensures trusted { OnOk result ((in_block blocks.new (slot / 7)).suspect ≡ false) }
     ensures policy { OnOk result (at.new.policy ≡ at.old.policy) }
     ensures index { OnOk result (IsIndexOf states.new blocks.new at.new
         (S.state slots.new).memory) }
@@ -147,6 +155,7 @@ fn erase_suspect<S: FirmCalls>(
     requires suspect { (in_block blocks.old block).suspect ≡ true }
     ensures ok { OnOk result (MakesFirm (S.state slots.old).memory (S.state slots.new).memory) }
     ensures trusts { OnOk result (TrustsMore blocks.old blocks.new) }
+    ensures trusted { OnOk result ((in_block blocks.new block).suspect ≡ false) }
     ensures index { OnOk result (IsIndexOf states.now blocks.new at.now
         (S.state slots.new).memory) }
     ensures cut { IsErrOf result NorError.Cut → IsHealthy (S.state slots.old).memory
@@ -179,6 +188,7 @@ fn kill_first<S: FirmCalls>(
     requires suspect { (in_block blocks.old (slot / 7)).suspect ≡ true }
     ensures ok { OnOk result (MakesFirm (S.state slots.old).memory (S.state slots.new).memory) }
     ensures trusts { OnOk result (TrustsMore blocks.old blocks.new) }
+    ensures trusted { OnOk result ((in_block blocks.new (slot / 7)).suspect ≡ false) }
     ensures policy { at.new.policy ≡ at.old.policy }
     ensures index { OnOk result (IsIndexOf states.new blocks.new at.new
         (S.state slots.new).memory) }

@@ -235,6 +235,8 @@ pub(crate) fn block_with_free(blocks: &[BlockState], at: &mut Cursors) -> Option
         → IfSome result (λ b. IsLowestWithFree blocks.now at.old.reserve b) }
     ensures level { at.old.policy ≡ policies.Level
         → IfSome result (λ b. IsFilledUp at.old.newest at.old.reserve blocks.now b) }
+    ensures filled { at.old.policy ≡ policies.Level
+        → IfSome result (λ b. at.new.newest ≡ b) }
     ensures ahead { IsAhead blocks.now at.new }
     ensures reserve { at.new.reserve ≡ at.old.reserve }
     ensures policy { at.new.policy ≡ at.old.policy }
@@ -283,6 +285,7 @@ fn level_with_free(blocks: &[BlockState], at: &mut Cursors) -> Option<u16>
     ensures found { MatchOption result (HasNoFreeBut blocks.now at.old.reserve)
         (λ b. HasFreeBut blocks.now at.old.reserve b) }
     ensures level { IfSome result (λ b. IsFilledUp at.old.newest at.old.reserve blocks.now b) }
+    ensures filled { IfSome result (λ b. at.new.newest ≡ b) }
     ensures ahead { IsAhead blocks.now at.new }
     ensures reserve { at.new.reserve ≡ at.old.reserve }
     ensures policy { at.new.policy ≡ at.old.policy }
@@ -538,6 +541,8 @@ pub(crate) fn free_slot(
     ensures found { (m : List ℕ) → IsIndexOf states.now blocks.now at.old m
         → MatchOption result (HasNoneFree at.old.reserve m) (λ w. IsGivable w m) }
     ensures number { IfSome result (λ w. w / 7 < length blocks.now) }
+    ensures filled { at.old.policy ≡ policies.Level
+        → IfSome result (λ w. at.new.newest ≡ w / 7) }
     ensures lowest { at.old.policy ≡ policies.Lowest → (m : List ℕ)
         → IsIndexOf states.now blocks.now at.old m → IfSome result (λ w. IsLowestFree w m) }
     ensures ahead { IsAhead blocks.now at.new }

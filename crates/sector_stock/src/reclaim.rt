@@ -21,6 +21,7 @@ ghost use Rattle.sector_stock.specs.Takes.{Converts, IsLiveGroup, FillsUp, Copie
 ghost use Rattle.sector_stock.specs.Takes.{MovesLeastWorn, CountsErase, IsErasedOnce};
 ghost use Rattle.sector_stock.specs.Index.{erases_of, AreWithin, Suspects, TrustsMore, AreTrusted};
 ghost use Rattle.sector_stock.specs.Takes.{KeepsErases, Renews, IsLeastErased, MakesFirm};
+ghost use Rattle.sector_stock.specs.Takes.{GivesTrusted};
 ghost use Rattle.sector_stock.specs.Policies.{IsTail, AreRestingFewer};
 ghost use Rattle.sector_stock.specs.declared.policy.Policy.{Policy};
 ghost use Rattle.sector_stock.specs.declared.policy.Policy.TheVariants as policies;
@@ -83,6 +84,8 @@ pub trait Reclaim: FirmCalls {
         ensures ok { OnOk result (MakesFirm (Self.state self.old).memory
             (Self.state self.new).memory) }
         ensures trusts { OnOk result (TrustsMore (counts self.old) (counts self.new)) }
+        ensures next { OnOk result (GivesTrusted (policy self.new) (cursors self.new)
+            (counts self.new) (Self.state self.new).memory) }
         ensures none { AreTrusted (counts self.old)
             → (Self.state self.new).memory ≡ (Self.state self.old).memory }
         ensures erases { OnOk result (KeepsErases (data_blocks (Self.state self.old).memory)

@@ -1,12 +1,13 @@
 use Rattle.std.proofs.Common.{◌≡◌, length}
 use Rattle.erase_journal.specs.Steps.{SucceedsSettled}
 use Rattle.sector_stock.specs.Index.{IsIndexOf, TrustsMore, AreTrusted}
+use Rattle.sector_stock.specs.IndexSteps.{suspects}
 use Rattle.sector_stock.specs.Room.{HasRoom}
 use Rattle.sector_stock.specs.Takes.{MakesFirm}
 use Rattle.sector_stock.proofs.firm.firm_free.Given as goal
 
-abbrev pub invariant-loop-block : goal.invariant-loop-block
-invariant-loop-block g l = record {
+abbrev pub invariant-loop-slot : goal.invariant-loop-slot
+invariant-loop-slot g l = record {
   index : IsIndexOf l.states l.blocks l.at (g.S.SlotCalls.state l.slots).memory;
   room : HasRoom (g.S.SlotCalls.state l.slots).memory;
   firm : MakesFirm (g.S.SlotCalls.state l.fn.slots).memory (g.S.SlotCalls.state l.slots).memory;
@@ -18,3 +19,6 @@ invariant-loop-block g l = record {
   blocks_size : length l.blocks ≡ length l.fn.blocks;
   since : SucceedsSettled (g.S.SlotCalls.state l.fn.slots) (g.S.SlotCalls.state l.slots);
 }
+
+abbrev pub decreases-loop-slot : goal.decreases-loop-slot
+decreases-loop-slot g l = suspects l.blocks

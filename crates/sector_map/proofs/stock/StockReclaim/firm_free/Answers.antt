@@ -3,7 +3,7 @@ use Rattle.std.proofs.lemmas.List.{with_items_is}
 use Rattle.std.specs.Vec.{with_items}
 use Rattle.sector_slots.specs.Slots.{data_blocks}
 use Rattle.sector_stock.specs.Index.{IsStocked, TrustsMore, erases_of}
-use Rattle.sector_stock.specs.Takes.{KeepsErases}
+use Rattle.sector_stock.specs.Takes.{KeepsErases, GivesTrusted}
 use Rattle.sector_stock.proofs.Firming.{trusts-erases}
 use Rattle.sector_stock.proofs.Writing.{stocked-indexed}
 use Rattle.sector_map.proofs.stock.StockReclaim.firm_free.Goals as goal
@@ -39,3 +39,10 @@ returns-clause-erases g c =
     let trusts = rw c.as_mut_slice-2.ensures.value at c.in_ok-firm_free.ensures.trusts in
     subst (λ ys. KeepsErases (data_blocks s.slots.memory) (erases_of s.blocks.items) (erases_of ys)) (sym blocks)
     (subst (λ n. KeepsErases n (erases_of s.blocks.items) (erases_of c.firm_free.new.blocks)) s.stocked.blocks_size (trusts-erases s.blocks.items c.firm_free.new.blocks trusts))
+
+pub returns-clause-next : goal.returns-clause-next
+returns-clause-next g c =
+    let s = c.args.self.now in
+    let size = rw c.as_mut_slice-2.ensures.value at c.firm_free.ensures.blocks_size in
+    let blocks = with_items_is s.blocks c.firm_free.new.blocks (size ∙ sym s.blocks.ok.0) in
+    subst (λ ys. GivesTrusted c.firm_free.new.at.policy c.firm_free.new.at ys c.firm_free.new.slots.memory) (sym blocks) c.in_ok-firm_free.ensures.next
