@@ -1,5 +1,5 @@
 -- Laws of `how_many`.
-use Rattle.std.proofs.Common.{◌≡◌, ◌≢◌, ℕ, zero, suc, ◌+◌, ◌<◌, ◌≤◌, Bool, true, false, refl, sym, ◌∙◌, arith, inl, inr, if◌then◌else◌, lit≤}
+use Rattle.std.proofs.Common.{◌≡◌, ◌≢◌, ℕ, zero, suc, ◌+◌, ◌<◌, ◌≤◌, ◌⊎◌, Bool, true, false, refl, sym, ◌∙◌, arith, inl, inr, if◌then◌else◌, lit≤}
 use Rattle.std.proofs.lemmas.Bool.{cases_lt, cases_eq}
 use Rattle.erase_journal.specs.Places.{how_many}
 
@@ -63,4 +63,16 @@ how_many-one p zero i others = rw (how_many-zero) (lit≤ tt)
 how_many-one p (suc n) i others = elim (cases_eq n i) [
   | inl same ↦ (let none = how_many-each_fails p n (λ k low. others k (omega arith) (λ e. omega arith)) in grind (arith, how_many-suc p n))
   | inr other ↦ (let rest = how_many-one p n i (λ k low. others k (omega arith)) in let no = others n (omega arith) other in grind (arith, how_many-suc p n))
+]
+
+true-or-false : (b : Bool) → (b ≡ true) ⊎ (b ≡ false)
+true-or-false true = inl refl
+true-or-false false = inr refl
+
+-- one that passes
+pub how_many-find : (p : ℕ → Bool) (n : ℕ) → 0 < how_many p n → (k : ℕ) × (k < n) × (p k ≡ true)
+how_many-find p zero some = absurd (let z = how_many-zero p in omega (arith, z, some))
+how_many-find p (suc n) some = elim (true-or-false (p n)) [
+  | inl passes ↦ (n, omega arith, passes)
+  | inr fails ↦ (let h = rw fails at (how_many-suc p n) in let f = how_many-find p n (omega (arith, h, some)) in let low = f.1 in (f.0, omega arith, f.2))
 ]

@@ -5,7 +5,7 @@ use Rattle.std.proofs.lemmas.Bool.{cases_lt}
 use Rattle.std.proofs.lemmas.Bool.Decides.{nat_tests}
 use Rattle.chip_model.specs.Geometry.{block_count}
 use Rattle.erase_journal.specs.Journals.{entry_block, is_open_entry, open_blocks, entries_for}
-use Rattle.erase_journal.proofs.Counts.{how_many-none, how_many-some, how_many-two, how_many-one, how_many-each_fails}
+use Rattle.erase_journal.proofs.Counts.{how_many-none, how_many-some, how_many-two, how_many-one, how_many-each_fails, how_many-find}
 
 pub true-or-false : (b : Bool) → (b ≡ true → ⊥) → b ≡ false
 true-or-false true other = absurd (other refl)
@@ -70,4 +70,19 @@ same-block m i k one low small opened also = elim (cases_lt (entry_block m i) (e
     | inl more ↦ absurd (two-blocks m k i one small low also opened more)
     | inr not_more ↦ omega arith
   ]
+]
+
+-- any two that are name the same block
+some-named : (m : List ℕ) → 0 < open_blocks m → (b : ℕ) × (0 < entries_for m b)
+unfolding open_blocks
+some-named m some = let f = how_many-find (λ b. nat_lt 0 (entries_for m b)) (block_count (length m)) some in let t = f.2 in (f.0, grind (arith, nat_tests))
+
+some-open : (m : List ℕ) (b : ℕ) → 0 < entries_for m b → (i : ℕ) × (i < 512) × (is_open_entry m i ≡ true)
+unfolding entries_for
+some-open m b some = let f = how_many-find (λ i. is_open_entry m i && entry_block m i == b) 512 some in let t = f.2 in (f.0, f.1, grind (arith, nat_tests))
+
+pub any-two : (m : List ℕ) → ((i k : ℕ) → i < 512 → k < 512 → is_open_entry m i ≡ true → is_open_entry m k ≡ true → entry_block m i ≡ entry_block m k) → open_blocks m ≤ 1
+any-two m h = elim (cases_lt 0 (open_blocks m)) [
+  | inl some ↦ (let n = some-named m some in let i = some-open m n.0 n.1 in one-block m (entry_block m i.0) (λ k small opened. h k i.0 small i.1 opened i.2))
+  | inr none ↦ omega arith
 ]

@@ -8,7 +8,7 @@ use Rattle.erase_journal.specs.Journals.{votes_at, free_entries, open_blocks, en
 use Rattle.erase_journal.specs.declared.scan.VoteCounts.{VoteCounts}
 use Rattle.erase_journal.specs.declared.scan.OpenEntry.{OpenEntry}
 use Rattle.std.proofs.lemmas.Bool.Decides.{nat_tests}
-use Rattle.erase_journal.specs.Scans.{count_equal, count_wrong, count_at, IsFound, free_in, is_free_in, IsFreeAnswer, entry_in, open_in, is_open_in, named_in, blocks_in, IsOpenAnswer}
+use Rattle.erase_journal.specs.Scans.{count_equal, count_wrong, count_at, IsFound, free_in, is_free_in, IsFreeAnswer, entry_in, open_in, is_open_in, named_in, open_blocks_in, IsOpenAnswer}
 use Rattle.erase_journal.proofs.Counts.{how_many-zero, how_many-suc, how_many-same, how_many-none, how_many-some, how_many-change, how_many-each_fails}
 use Rattle.erase_journal.proofs.Opened.{none-blocks}
 
@@ -56,19 +56,19 @@ pub named-found : (xs : List ℕ) (blocks n k b : ℕ) → k < n → is_open_in 
 unfolding named_in
 named-found xs blocks n k b low opened names = how_many-some (λ i. is_open_in xs blocks i && block_in (entry_in xs i) == b) n k low (grind (arith, nat_tests))
 
-pub blocks_in-zero : (xs : List ℕ) (blocks : ℕ) → blocks_in xs blocks 0 ≡ 0
-unfolding blocks_in
-blocks_in-zero xs blocks = how_many-each_fails (λ b. nat_lt 0 (named_in xs blocks 0 b)) blocks (λ b low. rw (named_in-zero xs blocks b) refl)
+pub open_blocks_in-zero : (xs : List ℕ) (blocks : ℕ) → open_blocks_in xs blocks 0 ≡ 0
+unfolding open_blocks_in
+open_blocks_in-zero xs blocks = how_many-each_fails (λ b. nat_lt 0 (named_in xs blocks 0 b)) blocks (λ b low. rw (named_in-zero xs blocks b) refl)
 
 -- an entry that isn't open, one for a block that had one, and the first for a block
-pub blocks_in-skip : (xs : List ℕ) (blocks n : ℕ) → is_open_in xs blocks n ≡ false → blocks_in xs blocks (n + 1) ≡ blocks_in xs blocks n
-unfolding blocks_in
-blocks_in-skip xs blocks n closed = how_many-same (λ b. nat_lt 0 (named_in xs blocks (n + 1) b)) (λ b. nat_lt 0 (named_in xs blocks n b)) blocks
+pub open_blocks_in-skip : (xs : List ℕ) (blocks n : ℕ) → is_open_in xs blocks n ≡ false → open_blocks_in xs blocks (n + 1) ≡ open_blocks_in xs blocks n
+unfolding open_blocks_in
+open_blocks_in-skip xs blocks n closed = how_many-same (λ b. nat_lt 0 (named_in xs blocks (n + 1) b)) (λ b. nat_lt 0 (named_in xs blocks n b)) blocks
     (λ b low. let e = rw closed at (named_in-next xs blocks n b) in grind (arith, nat_tests))
 
-pub blocks_in-old : (xs : List ℕ) (blocks n : ℕ) → is_open_in xs blocks n ≡ true → 0 < named_in xs blocks n (block_in (entry_in xs n)) → blocks_in xs blocks (n + 1) ≡ blocks_in xs blocks n
-unfolding blocks_in
-blocks_in-old xs blocks n opened named = how_many-same (λ b. nat_lt 0 (named_in xs blocks (n + 1) b)) (λ b. nat_lt 0 (named_in xs blocks n b)) blocks
+pub open_blocks_in-old : (xs : List ℕ) (blocks n : ℕ) → is_open_in xs blocks n ≡ true → 0 < named_in xs blocks n (block_in (entry_in xs n)) → open_blocks_in xs blocks (n + 1) ≡ open_blocks_in xs blocks n
+unfolding open_blocks_in
+open_blocks_in-old xs blocks n opened named = how_many-same (λ b. nat_lt 0 (named_in xs blocks (n + 1) b)) (λ b. nat_lt 0 (named_in xs blocks n b)) blocks
     (λ b low. let e = rw opened at (named_in-next xs blocks n b) in elim (cases_eq b (block_in (entry_in xs n))) [
       | inl same ↦ (let more = rw (sym same) at named in grind (arith, nat_tests))
       | inr other ↦ grind (arith, nat_tests)
@@ -77,9 +77,9 @@ blocks_in-old xs blocks n opened named = how_many-same (λ b. nat_lt 0 (named_in
 open-within : (xs : List ℕ) (blocks n : ℕ) → is_open_in xs blocks n ≡ true → block_in (entry_in xs n) < blocks
 open-within xs blocks n opened = grind (arith, nat_tests)
 
-pub blocks_in-new : (xs : List ℕ) (blocks n : ℕ) → is_open_in xs blocks n ≡ true → named_in xs blocks n (block_in (entry_in xs n)) ≡ 0 → blocks_in xs blocks (n + 1) ≡ blocks_in xs blocks n + 1
-unfolding blocks_in
-blocks_in-new xs blocks n opened fresh =
+pub open_blocks_in-new : (xs : List ℕ) (blocks n : ℕ) → is_open_in xs blocks n ≡ true → named_in xs blocks n (block_in (entry_in xs n)) ≡ 0 → open_blocks_in xs blocks (n + 1) ≡ open_blocks_in xs blocks n + 1
+unfolding open_blocks_in
+open_blocks_in-new xs blocks n opened fresh =
     let c = how_many-change (λ b. nat_lt 0 (named_in xs blocks n b)) (λ b. nat_lt 0 (named_in xs blocks (n + 1) b)) blocks (block_in (entry_in xs n)) (open-within xs blocks n opened)
     (λ b low other. let e = rw opened at (named_in-next xs blocks n b) in grind (arith, nat_tests)) in
     let e = rw opened at (named_in-next xs blocks n (block_in (entry_in xs n))) in
@@ -175,8 +175,8 @@ unfolding named_in entries_for
 named-count m b = how_many-same (λ i. is_open_in (slice_range m 6144 8192) (length m / 4096) i && block_in (entry_in (slice_range m 6144 8192) i) == b) (λ i. is_open_entry m i && entry_block m i == b) 512
     (λ i low. let o = buffer-open m i low in let b = buffer-block m i low in rw (o, b) refl)
 
-open-count : (m : List ℕ) → blocks_in (slice_range m 6144 8192) (length m / 4096) 512 ≡ open_blocks m
-unfolding blocks_in open_blocks
+open-count : (m : List ℕ) → open_blocks_in (slice_range m 6144 8192) (length m / 4096) 512 ≡ open_blocks m
+unfolding open_blocks_in open_blocks
 open-count m = how_many-same (λ b. nat_lt 0 (named_in (slice_range m 6144 8192) (length m / 4096) 512 b)) (λ b. nat_lt 0 (entries_for m b)) (length m / 4096) (λ b low. rw (named-count m b) refl)
 
 pub open-found : (m bytes : List ℕ) (blocks : ℕ) (found : Option OpenEntry) → bytes ≡ slice_range m 6144 8192 → blocks ≡ length m / 4096
@@ -209,5 +209,5 @@ votes-counted m bytes region c same size e f g = counts-same c (votes_at m regio
 pub free-counted : (m bytes : List ℕ) (n : ℕ) → bytes ≡ slice_range m 6144 8192 → n ≡ free_in bytes 512 → n ≡ free_entries m
 free-counted m bytes n same e = (rw same at e) ∙ buffer-count m
 
-pub open-counted : (m bytes : List ℕ) (blocks n : ℕ) → bytes ≡ slice_range m 6144 8192 → blocks ≡ length m / 4096 → n ≡ blocks_in bytes blocks 512 → n ≡ open_blocks m
+pub open-counted : (m bytes : List ℕ) (blocks n : ℕ) → bytes ≡ slice_range m 6144 8192 → blocks ≡ length m / 4096 → n ≡ open_blocks_in bytes blocks 512 → n ≡ open_blocks m
 open-counted m bytes blocks n same count e = (rw (same, count) at e) ∙ open-count m

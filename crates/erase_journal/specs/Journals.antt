@@ -106,8 +106,8 @@ abbrev pub HasNoOpenVote : JournalTally → JournalId → Type 0
 HasNoOpenVote s x = HoldsVotes (first s x) 0 × HoldsVotes (second s x) 0
 
 -- The journals that are believed hold nothing but what the phase says: in `Idle` one block at most
--- has open entries. A journal is believed unless both others hold an open vote for its erase; of the
--- votes and entries of a doomed one nothing is said.
+-- has open entries. A journal is believed unless both others hold an open vote for its erase; of
+-- the votes and entries of a doomed one nothing is said.
 abbrev pub IsInPhase : ErasePhase → JournalTally → Type 0
 IsInPhase Idle s = HasNoOpenVote s J0 × HasNoOpenVote s J1 × HasNoOpenVote s J2 × (s.opened ≤ 1)
 IsInPhase (Asked x) s = HoldsVotes (first s x) 1 × HoldsVotes (second s x) 0

@@ -52,8 +52,8 @@ named_in bytes blocks n b =
     how_many (λ i. is_open_in bytes blocks i && block_in (entry_in bytes i) == b) n
 
 -- how many blocks have an open entry among them
-unfoldable pub blocks_in : List ℕ → ℕ → ℕ → ℕ
-blocks_in bytes blocks n = how_many (λ b. nat_lt 0 (named_in bytes blocks n b)) blocks
+unfoldable pub open_blocks_in : List ℕ → ℕ → ℕ → ℕ
+open_blocks_in bytes blocks n = how_many (λ b. nat_lt 0 (named_in bytes blocks n b)) blocks
 
 -- the lowest free entry, or there is none
 abbrev pub IsFreeAnswer : List ℕ → Option ℕ → Type 0

@@ -32,6 +32,24 @@ pub record Spends (u v : Unused) : Type 0 where
   pub maintains : Maintains rest u
   pub entry : SameNumbers (once_used rest) v
 
+-- how many entries are to be free when the erases of a session begin, where torn bits may waver:
+-- each recovery that is cut may spend one
+abbrev pub spare_entries : ℕ
+spare_entries = 16
+
+-- Rested journals have entries to spare, or J0 is erased, and then maintenance comes.
+pub data Spares (v u : Unused) : Type 0 where
+  enough : spare_entries ≤ u.free → SameNumbers u v → Spares v u
+  few : u.free < spare_entries → Maintains v (once_erased J0 u) → Spares v u
+
+-- What is made firm in the journals: maintenance, entries to spare, and then one entry.
+pub record SpendsFirmly (u v : Unused) : Type 0 where
+  pub rest : Unused
+  pub spared : Unused
+  pub maintains : Maintains rest u
+  pub spares : Spares spared rest
+  pub entry : SameNumbers (once_used spared) v
+
 -- A recovery: the erase of a journal that went on in m is ended in m', and nothing else is spent;
 -- where a block had an open entry, a firm one may have spent another entry.
 pub data Continues (firmness : Firmness) (m m' : List ℕ) : Type 0 where

@@ -12,7 +12,7 @@ use Rattle.erase_journal.specs.declared.phase.ErasePhase.{ErasePhase}
 use Rattle.erase_journal.specs.declared.phase.ErasePhase.TheVariants.{Idle}
 use Rattle.erase_journal.specs.declared.unused.Unused.{Unused}
 use Rattle.erase_journal.specs.Places.{Changed, Spoiled}
-use Rattle.erase_journal.specs.Votes.{IsLowestTired, IsRested}
+use Rattle.erase_journal.specs.Votes.{IsRested, Last, once_erased}
 use Rattle.erase_journal.specs.Journals.{AreJournalsSound, IsHealthy, IsSettled, unused, settled}
 use Rattle.erase_journal.specs.Journals.{is_open_entry, entry_block, entry_byte}
 use Rattle.erase_journal.specs.Blocks.{SameBlocks, WithErased, blank}
@@ -52,10 +52,10 @@ pub data PerhapsChanged (place old new : ℕ) (m m' : List ℕ) : Type 0 where
   not_begun : m' ≡ m → PerhapsChanged place old new m m'
   done : OneChanged place old new m m' → PerhapsChanged place old new m m'
 
--- maintenance may erase journal x: it is the lowest-numbered tired one, and no other erase goes on
+-- journal x may be erased: no other erase goes on, and the votes last when it is done
 pub record MayErase (x : JournalId) (m : List ℕ) : Type 0 where
   pub settled : IsSettled m
-  pub tired : IsLowestTired x (unused m)
+  pub lasts : Last (once_erased x (unused m))
 
 -- the seven numbers are the same
 pub record SameNumbers (u v : Unused) : Type 0 where

@@ -47,7 +47,7 @@ pub use firmness::Firmness;
 pub use journal::Journal;
 pub use laws::{
     blocks_have_one_size, erased_chips_are_settled, maintenance_keeps_votes_that_last,
-    same_blocks_make_one_list, sound_journals_have_no_fault,
+    open_entries_name_one_block, same_blocks_make_one_list, sound_journals_have_no_fault,
 };
 pub use read::read_tally;
 pub use scan::VoteCounts;

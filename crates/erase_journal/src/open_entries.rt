@@ -73,15 +73,16 @@ fn close_entry<N: Nor>(nor: &mut N, entry: u16) -> Result<(), NorError>
     nor.program(entry_place(entry), &[CLOSED_ENTRY])
 }
 
-/// Closes the open entries, whose block is erased. The entries are passed as they read.
-fn close_opened<N: Nor>(nor: &mut N, entries: &[u8], blocks: u16) -> Result<(), NorError>
+/// Closes the open entries, whose block is erased. The entries are passed as they read, and how many
+/// blocks the chip has.
+fn close_opened<N: Nor>(nor: &mut N, entries: &[u8], count: u16) -> Result<(), NorError>
     requires size { JOURNALS_END ≤ length (N.state nor.old).memory }
     requires ready { IsNorReady (N.state nor.old) }
     requires sound { AreJournalsSound ErasePhase.Idle (N.state nor.old).memory }
     requires erased { AreErased (N.state nor.old).memory }
     requires long { length entries.now ≡ ENTRIES_LEN }
     requires read { (i : ℕ) → i < ENTRIES
-        → is_open_in entries.now blocks i ≡ is_open_entry (N.state nor.old).memory i }
+        → is_open_in entries.now count i ≡ is_open_entry (N.state nor.old).memory i }
     ensures blocks { OnOk result (SameBlocks (N.state nor.old).memory (N.state nor.new).memory) }
     ensures uses { OnOk result (KeepsUse (N.state nor.old).memory (N.state nor.new).memory) }
     ensures cut { IsErrOf result NorError.Cut
@@ -90,7 +91,7 @@ fn close_opened<N: Nor>(nor: &mut N, entries: &[u8], blocks: u16) -> Result<(), 
     ensures ends { EndsSettled result (N.state nor.old) (N.state nor.new) }
 {
     for entry in 0..ENTRIES {
-        if let Some(_) = open_block(entries, blocks, entry) {
+        if let Some(_) = open_block(entries, count, entry) {
             close_entry(nor, entry)?;
         }
     }

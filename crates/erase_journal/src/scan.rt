@@ -6,7 +6,7 @@ ghost use Rattle.chip_model.specs.Memory.{byte};
 ghost use Rattle.erase_journal.specs.Firm.{LeavesEntry};
 ghost use Rattle.nor_layout.specs.Entries.{block_in};
 ghost use Rattle.erase_journal.specs.Scans.{count_equal, count_wrong, free_in, is_free_in, open_in};
-ghost use Rattle.erase_journal.specs.Scans.{is_open_in, entry_in, named_in, blocks_in};
+ghost use Rattle.erase_journal.specs.Scans.{is_open_in, entry_in, named_in, open_blocks_in};
 
 use nor_layout::{ENTRIES, ENTRIES_LEN, Entry, REGION_LEN, Vote, entry_state, vote_state};
 
@@ -218,7 +218,7 @@ fn is_named(bytes: &[u8], blocks: u16, count: u16, block: u16) -> bool
 #[tactic(auto, using(crate::proofs::Scans::scan_steps))]
 pub(crate) fn count_open(bytes: &[u8], blocks: u16) -> u16
     requires { length bytes.now ≡ ENTRIES_LEN }
-    ensures { result ≡ blocks_in bytes.now blocks ENTRIES }
+    ensures { result ≡ open_blocks_in bytes.now blocks ENTRIES }
 {
     let mut opened = 0;
     for entry in 0..ENTRIES {

@@ -11,8 +11,8 @@ use crate::scan::VoteCounts;
 use crate::unused::{Unused, lasts, once_renewed, once_second_spent};
 use nor_layout::JournalId;
 
-/// What is counted in the journals: the votes of each for the erase of each other, J0's free entries
-/// of 512, and how many blocks have an open one. Source: own.
+/// What is counted in the journals: the votes of each for the erase of each other, the free ones of
+/// J0's 512 entries, and how many blocks have an open entry. Source: own.
 #[derive(Clone, Copy, Debug, PartialEq, Eq, Drop)]
 pub struct JournalTally {
     pub j0_for_1: VoteCounts,

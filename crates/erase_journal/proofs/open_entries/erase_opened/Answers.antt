@@ -71,7 +71,7 @@ returns-clause-blocks g c =
     let named : IsNamed c.in-Some.open.entry c.in-Some.open.block m = record { within = o.0; opened = o.1; names = o.2 } in
     let m1 = (g.N.Nor.state c.erase_small.new.self).memory in
     let e = named-erased c.in-Some.open.entry c.in-Some.open.block m m1 c.requires.idle named (rw c.in_ok-read.ensures.same at c.in_ok-erase_small.ensures.ok) in
-    on_ok_weaker c.close_opened.result (λ s. same-blocks-on m m1 (g.N.Nor.state c.close_opened.new.nor).memory e.blocks s) c.close_opened.ensures.blocks
+    on_ok_weaker c.close_opened.result (λ s. same-blocks-on m m1 (g.N.Nor.state c.close_opened.new.nor).memory e.blocks s) (search)
 
 pub returns-clause-cut : goal.returns-clause-cut
 returns-clause-cut g c is =
