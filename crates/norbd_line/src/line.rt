@@ -81,8 +81,8 @@ pub enum Line<'a> {
         image: &'a str,
         sectors: Option<&'a str>,
     },
-    /// `write IMAGE [--sectors A:B] [--firm]`: replace these sectors by standard input; where `firm`
-    /// is set bits of an image that a loss of power tore are taken to waver.
+    /// `write IMAGE [--sectors A:B] [--firm]`: replace these sectors by standard input. Bits of an
+    /// image that a loss of power tore are taken to waver where `firm` is set.
     Write {
         image: &'a str,
         sectors: Option<&'a str>,
