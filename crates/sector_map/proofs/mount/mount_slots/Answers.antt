@@ -98,8 +98,9 @@ returns-in_ok-repair-in-Some-clause-sound g c is =
     let d = (g.S.SlotCalls.state c.repair.new.stock).memory in
     let same = c.look.ensures.same ∙ c.read_marks.ensures.same in
     let sound = subst (λ z. IsSoundMap z) (sym c.look.ensures.same) (c.in_ok-seen.ensures.sound c.in-Some.seen c.in-Some.is) in
-    subst (λ z. Mounts z c.repair.new.table d) same (mounted c.repair.new.table a b d sound c.in_ok-mark_first-in-Some.ensures.ok
-    (firm-repairs c.repair.new.table b (g.S.SlotCalls.state c.firm_as.new.slots).memory d c.in_ok-begun-in-Some.ensures.ok c.in_ok-repair-in-Some.ensures.ok))
+    rw c.suspect_as.ensures.state
+    (subst (λ z. Mounts z c.repair.new.table d) same (mounted c.repair.new.table a b d sound c.in_ok-mark_first-in-Some.ensures.ok
+    (firm-repairs c.repair.new.table b (g.S.SlotCalls.state c.firm_as.new.slots).memory d c.in_ok-begun-in-Some.ensures.ok c.in_ok-repair-in-Some.ensures.ok)))
 
 pub returns-in_ok-repair-in-Some-clause-ends : goal.returns-in_ok-repair-in-Some-clause-ends
 returns-in_ok-repair-in-Some-clause-ends g c =
@@ -108,5 +109,6 @@ returns-in_ok-repair-in-Some-clause-ends g c =
     let d = g.S.SlotCalls.state c.mark_first.new.slots in
     let e = g.S.SlotCalls.state c.firm_as.new.slots in
     let f = g.S.SlotCalls.state c.repair.new.stock in
-    settled-after (g.S.SlotCalls.state c.args.stock.now) a f c.in_ok-marks.ensures.ends (settled-after a b f c.in_ok-seen.ensures.ends
-    (succeeds-perhaps b d f c.in_ok-mark_first-in-Some.ensures.done (succeeds-perhaps d e f c.in_ok-begun-in-Some.ensures.done c.in_ok-repair-in-Some.ensures.ends)))
+    rw c.suspect_as.ensures.state
+    (settled-after (g.S.SlotCalls.state c.args.stock.now) a f c.in_ok-marks.ensures.ends (settled-after a b f c.in_ok-seen.ensures.ends
+    (succeeds-perhaps b d f c.in_ok-mark_first-in-Some.ensures.done (succeeds-perhaps d e f c.in_ok-begun-in-Some.ensures.done c.in_ok-repair-in-Some.ensures.ends))))
