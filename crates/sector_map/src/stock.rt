@@ -15,8 +15,8 @@ use nor_layout::{Header, Kind, Tag};
 use sector_slots::{FirmCalls, SlotCalls};
 use sector_stock::{
     BOUNDS, BlockState, Copied, Cursors, Given, Policy, Purpose, Reclaim, SlotState,
-    choose_by_erases, convert_block, fill_index, firm_free, has_work, is_short, lagging, level_block,
-    mark_dead, mark_written, renew_block, suspect_all, take_slot, tidy_block,
+    choose_by_erases, convert_block, fill_index, firm_free, has_work, is_short, lagging,
+    level_block, mark_dead, mark_written, renew_block, suspect_all, take_slot, tidy_block,
 };
 
 /// A store of slots, and an index of them in memory: the state of each slot, the counts of each

@@ -63,8 +63,8 @@ pub trait Reclaim: FirmCalls {
             (erases_of (counts self.new))) }
         ensures ends { EndsSettled result (Self.state self.old) (Self.state self.new) };
 
-    /// What is free now is suspect, as it is after a firm mount: a bit of it may have been torn, and
-    /// read another way at the next power-on. Nothing is read.
+    /// What is free now is suspect, as it is after a firm mount: a bit of it may have been torn,
+    /// and read another way at the next power-on. Nothing is read.
     fn suspect_free(&mut self)
         ensures suspect { Suspects (length (counts self.old)) (counts self.old) (counts self.new) }
         ensures state { Self.state self.new ≡ Self.state self.old }
