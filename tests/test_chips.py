@@ -345,6 +345,7 @@ class Firm(ChipCase):
             server = self.serve("a.img", "--conns", "1", *firm)
             client = server.client()
             self.assertEqual([client.write(0, nbd.sector(0, 1)), client.trim(1)], [OK] * 2)
+            self.settled()
             client.disc()
             self.assertEqual(server.end().status, 0)
             self.assertEqual(self.is_firm(self.bytes_of("a.img")), bool(firm))

@@ -60,7 +60,11 @@ where
 pub(crate) fn firmness_of(firm: bool) -> Firmness
     ensures { result ≡ if firm then Firmness.Firm else Firmness.Steady }
 {
-    if firm { Firmness::Firm } else { Firmness::Steady }
+    if firm {
+        Firmness::Firm
+    } else {
+        Firmness::Steady
+    }
 }
 
 /// The disk on a chip in memory of these bytes, with what is assumed of its torn bits. One of

@@ -24,7 +24,11 @@ fn faults_tell_which_file_and_why(rt: HostRuntime) -> Result<(), Fail> {
         (Fault::NoMemory, serve, "no memory"),
         (Fault::Slow, Line::Script { kib: 64 }, "slow"),
         (Fault::WrongId, serve, "wrong id: a.img"),
-        (Fault::Protected, Line::Show { image: "a.img" }, "protected: a.img"),
+        (
+            Fault::Protected,
+            Line::Show { image: "a.img" },
+            "protected: a.img",
+        ),
         (
             Fault::Protected,
             serve,
