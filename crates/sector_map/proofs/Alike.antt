@@ -14,7 +14,7 @@ use Rattle.sector_slots.specs.Laws.{IsMarked}
 use Rattle.sector_slots.proofs.BlankLaws.{counted-same, same-holds}
 use Rattle.sector_slots.proofs.GroupLaws.{room-same}
 use Rattle.sector_slots.proofs.StepLaws.{chip-after}
-use Rattle.sector_map.specs.Firm.{ReadsAlike, MakesFirm, HasNoneBegun}
+use Rattle.sector_map.specs.Firm.{ReadsAlike, StaysAlike, HasNoneBegun}
 use Rattle.sector_map.specs.Found.{FoundIn, FoundBelow, RoomSeen}
 use Rattle.sector_map.specs.Table.{IsTabled, Mends, Repairs}
 use Rattle.sector_map.specs.declared.found.Found.{Found}
@@ -127,19 +127,19 @@ alike-clean m m' h clean =
     }
 
 -- What was programmed again, one after another.
-pub firm-none : (m : List ℕ) → MakesFirm m m
+pub firm-none : (m : List ℕ) → StaysAlike m m
 firm-none m = record { chip = record { same_length = refl; superblock = λ k low. refl }; blocks = each-alike m m refl (λ d low. refl) }
 
-pub firm-after : (a b c : List ℕ) → MakesFirm a b → MakesFirm b c → MakesFirm a c
+pub firm-after : (a b c : List ℕ) → StaysAlike a b → StaysAlike b c → StaysAlike a c
 firm-after a b c p q = record { chip = chip-after a b c p.chip q.chip; blocks = alike-after a b c p.blocks q.blocks }
 
-pub firm-journals : (m m' : List ℕ) → SameBlocks m m' → MakesFirm m m'
+pub firm-journals : (m m' : List ℕ) → SameBlocks m m' → StaysAlike m m'
 firm-journals m m' h = record { chip = h.chip; blocks = blocks-alike m m' h }
 
-pub firm-head : (c : ℕ) (a b d : List ℕ) → MakesFirm a b → KeepsHead c b d → MakesFirm a d
+pub firm-head : (c : ℕ) (a b d : List ℕ) → StaysAlike a b → KeepsHead c b d → StaysAlike a d
 firm-head c a b d p h = firm-after a b d p (record { chip = h.only.chip; blocks = head-alike c b d h })
 
-pub firm-mends : (m m' : List ℕ) → MakesFirm m m' → Mends m m'
+pub firm-mends : (m m' : List ℕ) → StaysAlike m m' → Mends m m'
 firm-mends m m' h = record {
   chip = h.chip;
   sectors = λ sectors holds. same-holds m m' sectors h.chip h.blocks.kinds h.blocks.slots holds;
@@ -147,10 +147,10 @@ firm-mends m m' h = record {
 }
 
 -- in a mount they come after the mark
-pub marked-firm : (a b c : List ℕ) → IsMarked a b → MakesFirm b c → ReadsAlike a c
+pub marked-firm : (a b c : List ℕ) → IsMarked a b → StaysAlike b c → ReadsAlike a c
 marked-firm a b c h f = alike-after a b c (marked-alike a b h) f.blocks
 
-pub firm-repairs : (table : List LiveSlots) (a b c : List ℕ) → MakesFirm a b → Repairs b table c → Repairs a table c
+pub firm-repairs : (table : List LiveSlots) (a b c : List ℕ) → StaysAlike a b → Repairs b table c → Repairs a table c
 firm-repairs table a b c h r = record { mends = mends-after a b c (firm-mends a b h) r.mends; tabled = r.tabled; blocks = r.blocks }
 
 -- Of the first k blocks none has a begun slot, unless one was seen; the later ones are as they were.

@@ -21,7 +21,7 @@ pub record ReadsAlike (m m' : List ℕ) : Type 0 where
   pub spare : (c : ℕ) → c < data_blocks m → IsSpareIn m c → data_block m' c ≡ data_block m c
 
 -- and they have the same superblock
-pub record MakesFirm (m m' : List ℕ) : Type 0 where
+pub record StaysAlike (m m' : List ℕ) : Type 0 where
   pub chip : SameChip m m'
   pub blocks : ReadsAlike m m'
 

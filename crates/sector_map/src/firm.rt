@@ -8,7 +8,7 @@ ghost use Rattle.erase_journal.specs.Journals.{IsHealthy};
 ghost use Rattle.erase_journal.specs.Steps.{SucceedsSettled, EndsSettled};
 ghost use Rattle.sector_slots.specs.Slots.{data_blocks};
 ghost use Rattle.sector_slots.specs.Sectors.{zeros};
-ghost use Rattle.sector_map.specs.Firm.{MakesFirm, HasNoneBegun, IsMendedMap};
+ghost use Rattle.sector_map.specs.Firm.{StaysAlike, HasNoneBegun, IsMendedMap};
 ghost use Rattle.sector_map.specs.Maps.{IsServing, SetLeaves, Wrote};
 ghost use Rattle.sector_map.specs.Table.{Mends, Repairs};
 
@@ -24,9 +24,9 @@ use sector_stock::{Reclaim, move_afresh};
 pub(crate) fn firm_as<S: FirmCalls>(slots: &mut S, firmness: Firmness) -> Result<bool, NorError>
     ensures none { firmness ≡ Firmness.Firm → IfOk result (λ begun. IsFalse begun
         → HasNoneBegun (S.state slots.old).memory) }
-    ensures ok { OnOk result (MakesFirm (S.state slots.old).memory (S.state slots.new).memory) }
+    ensures ok { OnOk result (StaysAlike (S.state slots.old).memory (S.state slots.new).memory) }
     ensures cut { IsErrOf result NorError.Cut → IsHealthy (S.state slots.old).memory
-        → MakesFirm (S.state slots.old).memory (S.state slots.new).memory }
+        → StaysAlike (S.state slots.old).memory (S.state slots.new).memory }
     ensures healthy { IsErrOf result NorError.Cut → IsHealthy (S.state slots.old).memory
         → IsHealthy (S.state slots.new).memory }
     ensures size { length (S.state slots.new).memory ≡ length (S.state slots.old).memory }
@@ -59,9 +59,9 @@ pub(crate) fn suspect_as<S: Reclaim>(stock: &mut S, firmness: Firmness)
 fn firm_heads<S: FirmCalls>(slots: &mut S) -> Result<bool, NorError>
     ensures none { IfOk result (λ begun. IsFalse begun
         → HasNoneBegun (S.state slots.old).memory) }
-    ensures ok { OnOk result (MakesFirm (S.state slots.old).memory (S.state slots.new).memory) }
+    ensures ok { OnOk result (StaysAlike (S.state slots.old).memory (S.state slots.new).memory) }
     ensures cut { IsErrOf result NorError.Cut
-        → MakesFirm (S.state slots.old).memory (S.state slots.new).memory }
+        → StaysAlike (S.state slots.old).memory (S.state slots.new).memory }
     ensures healthy { IsErrOf result NorError.Cut → IsHealthy (S.state slots.old).memory
         → IsHealthy (S.state slots.new).memory }
     ensures size { length (S.state slots.new).memory ≡ length (S.state slots.old).memory }
