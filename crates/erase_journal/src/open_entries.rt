@@ -73,8 +73,8 @@ fn close_entry<N: Nor>(nor: &mut N, entry: u16) -> Result<(), NorError>
     nor.program(entry_place(entry), &[CLOSED_ENTRY])
 }
 
-/// Closes the open entries, whose block is erased. The entries are passed as they read, and how many
-/// blocks the chip has.
+/// Closes the open entries, whose block is erased. Passed are the entries as they read, and the
+/// count of the chip's blocks.
 fn close_opened<N: Nor>(nor: &mut N, entries: &[u8], count: u16) -> Result<(), NorError>
     requires size { JOURNALS_END ≤ length (N.state nor.old).memory }
     requires ready { IsNorReady (N.state nor.old) }
