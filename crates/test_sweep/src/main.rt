@@ -84,11 +84,7 @@ fn waver_words(mut words: Args) -> Wanted {
     };
     match number_of(words.next()) {
         None => Wanted::Waver(mounting),
-        Some(seed) => Wanted::Lives(
-            mounting,
-            seed,
-            number_of(words.next()).unwrap_or(SCRIPTS),
-        ),
+        Some(seed) => Wanted::Lives(mounting, seed, number_of(words.next()).unwrap_or(SCRIPTS)),
     }
 }
 
