@@ -5,7 +5,7 @@ ghost use Rattle.std.specs.Prelude.{◌<◌};
 
 use crate::draw::Draw;
 use crate::failure::Failure;
-use crate::life::{Call, Life, Moment};
+use crate::life::{Call, Life, Moment, Mounting};
 use test_judge::SECTORS;
 use test_kit::Dice;
 
@@ -60,10 +60,11 @@ fn most_of(dice: &mut Dice, call: Call) -> u32
 }
 
 /// A session: a power cycle, a mount, and calls, until one is lost.
-fn session(life: &mut Life, dice: &mut Dice, most: u32) -> Result<(), Failure> {
+fn session(life: &mut Life, dice: &mut Dice, how: Mounting, most: u32) -> Result<(), Failure> {
     life.cycle(draw(dice))?;
-    let lost = change(dice, most.saturating_sub(life.seen.losses), 6, 2);
-    if !life.mount(lost)? {
+    let changes = if dice.below(3) == 0 { 36 } else { 6 };
+    let lost = change(dice, most.saturating_sub(life.seen.losses), changes, 2);
+    if !life.mount_as(how, lost)? {
         return Ok(());
     }
     life.read_all()?;
@@ -78,14 +79,16 @@ fn session(life: &mut Life, dice: &mut Dice, most: u32) -> Result<(), Failure> {
     life.read_all()
 }
 
-/// The life of a seed, on a chip.
-pub fn live(life: &mut Life, base: &Moment, seed: u32) -> Result<(), Failure> {
+/// The life of a seed, on a chip; its first session is mounted as told.
+pub fn live(life: &mut Life, base: &Moment, first: Mounting, seed: u32) -> Result<(), Failure> {
     let mut dice = Dice::new(u64::from(seed).wrapping_mul(0x9E37_79B9_7F4A_7C15));
     let most = dice.below(LOSSES) + 1;
     life.begin(base)?;
     let mut last = 0u32;
+    let mut how = first;
     for _ in 0..12 {
-        session(life, &mut dice, most)?;
+        session(life, &mut dice, how, most)?;
+        how = life.mounting;
         if life.seen.losses >= most {
             last = last.saturating_add(1);
         }

@@ -73,7 +73,7 @@ enum Held {
 #[derive(Drop)]
 pub struct Life {
     alloc: Global,
-    mounting: Mounting,
+    pub mounting: Mounting,
     held: Held,
     array: Array,
     room: Vec<u8>,
@@ -150,10 +150,15 @@ impl Life {
     /// Mounts the chip, with a loss of power in this change of the mount, 0 for none. Whether it
     /// is mounted, and the power is on.
     pub fn mount(&mut self, change: u32) -> Result<bool, Failure> {
+        self.mount_as(self.mounting, change)
+    }
+
+    /// The same in another way.
+    pub fn mount_as(&mut self, mounting: Mounting, change: u32) -> Result<bool, Failure> {
         self.note(Step::Mounted(change))?;
         let mut chip = self.take_chip()?;
         chip.arm_cut(change, 1, 0);
-        match self.mounting.mount(self.alloc, chip) {
+        match mounting.mount(self.alloc, chip) {
             Ok(mut disk) => {
                 disk.arm(0, 0, 0);
                 self.held = Held::Disk(disk);

@@ -78,7 +78,7 @@ fn wrong_changes(
     };
     let mut life = Life::new(alloc, mounting)?;
     let moment = base.moment(alloc, mounting)?;
-    let moments = all_lost(alloc, &mut life, &moment, call)?;
+    let moments = all_lost(alloc, &mut life, &moment, base.first(mounting), call)?;
     for (k, after) in moments.iter().enumerate() {
         let runs = after_one_loss(&mut life, after, call)?;
         assert!(rt; runs.runs == 36, "{runs:?}");
@@ -130,7 +130,7 @@ fn a_firm_mount_stands_losses_in_calls_and_in_mounts(rt: HostRuntime) -> Result<
     for base in [Base::Few, Base::Full, Base::Journal, Base::Journals] {
         let moment = base.moment(alloc, Mounting::Firm)?;
         for seed in 0..100u32 {
-            let came = live(&mut life, &moment, seed);
+            let came = live(&mut life, &moment, base.first(Mounting::Firm), seed);
             assert!(rt; came.is_ok(), "{base:?}, seed {seed}: {came:?}");
         }
     }
