@@ -41,7 +41,7 @@ fn mount<'w>(
 }
 
 /// What the mount of a chip costs, firmly or not.
-fn cost(alloc: Global, kib: u32, written: u32, firmness: Firmness) -> Result<Cost, Fail> {
+fn cost_of(alloc: Global, kib: u32, written: u32, firmness: Firmness) -> Result<Cost, Fail> {
     let memory = vec![in alloc; 0xFFu8; 1_024 * kib as usize]?;
     let (chip, answer) = format(SimChip::new(memory)?);
     answer?;
@@ -84,9 +84,9 @@ fn a_clean_mount_erases_nothing(rt: HostRuntime) -> Result<(), Fail> {
         (1_024, 700, 100),
         (16_384, 7_000, 1_000),
     ] {
-        let plain = cost(rt.alloc(), kib, written, Firmness::Steady)?;
+        let plain = cost_of(rt.alloc(), kib, written, Firmness::Steady)?;
         assert!(rt; plain.programs == 0 && plain.erases == 0, "{plain:?}");
-        let firm = cost(rt.alloc(), kib, written, Firmness::Firm)?;
+        let firm = cost_of(rt.alloc(), kib, written, Firmness::Firm)?;
         assert!(rt; firm.erases == 0 && firm.programs == blocks + 2, "{firm:?}");
     }
     Ok(())

@@ -36,6 +36,15 @@ fn call(dice: &mut Dice) -> Call {
     }
 }
 
+/// A call of a session. One that is plain before others that are firm zeroes nothing: a loss in the
+/// one bit of such a zeroing is what no later mount can make firm.
+fn call_as(dice: &mut Dice, how: Mounting, later: Mounting) -> Call {
+    match (how, later, call(dice)) {
+        (Mounting::Plain, Mounting::Firm, Call::Zero(first, count)) => Call::Write(first, count, 0),
+        (_, _, call) => call,
+    }
+}
+
 /// The change in which the power is lost, 0 for none: one of so many at most, in one of `of` cases.
 fn change(dice: &mut Dice, left: u32, most: u32, of: u32) -> u32
     requires most { 0 < most }
@@ -69,7 +78,7 @@ fn session(life: &mut Life, dice: &mut Dice, how: Mounting, most: u32) -> Result
     }
     life.read_all()?;
     for _ in 0..dice.below(9) {
-        let call = call(dice);
+        let call = call_as(dice, how, life.mounting);
         let changes = most_of(dice, call);
         let lost = change(dice, most.saturating_sub(life.seen.losses), changes, 2);
         if !life.call(call, lost)? {
