@@ -107,8 +107,8 @@ fn set(memory: &mut [u8], at: usize, bytes: &[u8], times: usize) {
 }
 
 impl Base {
-    /// How the session before the first loss is mounted. Where journals are tired it is plain, as by
-    /// an older program: a firm mount renews them at once.
+    /// How the session before the first loss is mounted. Where journals are tired it is plain, as
+    /// by an older program: a firm mount renews them at once.
     pub fn first(self, mounting: Mounting) -> Mounting {
         match self {
             Base::Few => mounting,
