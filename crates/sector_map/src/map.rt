@@ -171,9 +171,10 @@ impl<N: Nor> SectorMap<N> {
     }
 
     /// Makes a sector absent: it reads as zeros, and its next content begins with the first
-    /// generation. One change of the chip, none if it is absent already. Before that a block that
-    /// holds the sector with its group is converted, which copies seven sectors, and where wear is
-    /// levelled blocks may be moved. Cut, every sector is as it was, or this one is zeros. Contents
+    /// generation. One change of the chip, none if it is absent already; of a map that was mounted
+    /// firmly six, since zeros are written first. Before that a block that holds the sector with
+    /// its group is converted, which copies seven sectors, and where wear is levelled blocks may be
+    /// moved. Cut, every sector is as it was, or this one is zeros. Contents
     /// are promised of a clean memory (`is_clean`).
     pub fn clear(&mut self, sector: u16) -> Result<(), NorError>
         requires number { sector < sector_count (length self.old.memory) }
