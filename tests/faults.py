@@ -45,11 +45,11 @@ def at_first(code, does):
 
 
 def spoils(kind, does):
-    """What makes a chip do its first operation of a kind so: `does` has the bytes that would be
-    left, and those of before."""
+    """What makes a chip do its first operation of a kind that changes a byte so: `does` has the
+    bytes that would be left, and those of before."""
     def begin(peer):
         def spoil(of, at, new, old):
-            if of != kind:
+            if of != kind or new == old:
                 return new
             peer.chip.spoil = None
             return does(new, old)

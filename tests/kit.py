@@ -398,6 +398,9 @@ JOURNALS = {  # where the votes of a journal for the erase of another begin
     (0, 1): 0x1000, (0, 2): 0x1400, (1, 2): 0x2000, (1, 0): 0x2400, (2, 0): 0x3000, (2, 1): 0x3400}
 ENTRIES = 0x1800  # where the entries of J0 begin
 
+# What is told to help where a chip behind a programmer is not clean.
+MEND_A_CHIP = "flashrom reads it into a file, norbd check --mend mends that, flashrom writes it"
+
 
 # Syscalls, by strace.
 

@@ -151,7 +151,7 @@ CORRUPT = [  # images that no write leaves, and the rule that is told
      "55 at 2400h; a vote is FF, FE or FC"),
     (with_bytes((0x1000, b"\xFE\xFE")), "Journals: "),
     (with_bytes((0x1000, b"\xFE"), (0x2400, b"\xFE")), "Journals: "),
-    (with_bytes((kit.ENTRIES, bytes([0xFC, 4, 0, 0xFF]) * 2)), "Journals: "),
+    (with_bytes((kit.ENTRIES, bytes([0xFC, 4, 0, 0xFF, 0xFC, 5, 0, 0xFF]))), "Journals: "),
     (with_bytes((kit.ENTRIES, bytes([0xFC, 4, 0, 0xFF])), (0x2000, b"\xFE")), "Journals: "),
     (with_votes(j1_0=1024), "Journals: "),
     (with_bytes((0xF004, b"\x00")), "Data blocks: block 15, "),

@@ -62,6 +62,8 @@ class Lines(ChipCase):
                 told = by_file.fault.replace("a.img", peer.place)
                 if memory is corrupt and command != "check":
                     told = f"norbd: corrupt: {peer.place}: norbd check says why\n"
+                if memory is dirty:
+                    told = told.replace("norbd check --mend mends it", kit.MEND_A_CHIP)
                 self.assertEqual(by_chip.fault, told)
             self.assertEqual((peer.chip.memory, peer.chip.programs, peer.chip.erases),
                              (memory, 0, 0))
@@ -77,7 +79,7 @@ class Lines(ChipCase):
                      "serve CHIP --unix a.sock --trust",
                      "serve CHIP --unix a.sock --read-only"):
             words = [peer.place if it == "CHIP" else it for it in line.split()]
-            self.refused(f"not clean: {peer.place}: norbd check --mend mends it", *words)
+            self.refused(f"not clean: {peer.place}: {kit.MEND_A_CHIP}", *words)
         self.assertEqual((peer.chip.memory, peer.chip.programs, peer.chip.erases),
                          (bytes(image), 0, 0))
 
@@ -98,7 +100,7 @@ class Lines(ChipCase):
         before = bytes(peer.chip.memory)
         self.refused("standard input has 511 bytes, sectors 3 to 3 take 512", "write", peer.place,
                      "--sectors", "3:4", data=b"\1" * 511, out="replacing sectors 3 to 3\n")
-        self.assertEqual(peer.chip.memory, before)
+        self.assertEqual(peer.chip.memory[0x4000:], before[0x4000:])
 
     def test_progress_of_the_reading(self):
         """Of a chip that is read slowly a line a second says how far that is."""
@@ -173,9 +175,10 @@ class Served(ChipCase):
         self.assertEqual((peer.chip.memory, peer.chip.programs, peer.chip.erases), (image, 0, 0))
 
     def frames_of_a_write(self, *words):
-        """The frames of a sector's first write, after the mount."""
+        """The frames of a sector's first write, into a block that was written since the mount."""
         peer = self.peer()
         client = self.serve(peer.place, *words).client()
+        self.assertEqual(client.write(4, nbd.sector(4)), OK)
         before = len(peer.chip.frames)
         self.assertEqual(client.write(5, nbd.sector(5)), OK)
         return peer.chip.frames[before:]
@@ -207,6 +210,7 @@ class Served(ChipCase):
         peer.chip.polls = 3
         server = self.serve(peer.place, under=kit.traced("nanosleep,clock_nanosleep"))
         client, sleeps = server.client(), []
+        self.assertEqual(client.write(4, nbd.sector(4)), OK)        # the block is in use
 
         def short():
             log = self.bytes_of("strace.log").decode()
@@ -222,6 +226,17 @@ class Served(ChipCase):
         peer.chip.status[0] = 0x9C
         self.norbd("format", peer.place, "--kib", "64", "--yes")
         self.assertEqual((peer.chip.memory, peer.chip.status[0] & 0x1C), (kit.formatted(), 0))
+
+    def test_protected_and_served(self):
+        """`serve` and `write` refuse a chip of which something is protected, name the two commands
+        that help, and change nothing."""
+        for line in ("serve CHIP --unix a.sock", "serve CHIP --unix a.sock --trust", "write CHIP"):
+            peer = self.peer()
+            peer.chip.status[0] = 0x04
+            self.refused(f"protected: {peer.place}: norbd check says by what, norbd unprotect --yes "
+                         "ends that", *line.replace("CHIP", peer.place).split())
+            self.assertEqual((peer.chip.memory, peer.chip.status[0], peer.chip.programs,
+                              peer.chip.erases), (kit.formatted(), 0x04, 0, 0))
 
     def test_unprotected(self):
         """`unprotect` clears bits 2 to 7 of status register 1 and keeps what is on the chip, with
@@ -256,6 +271,104 @@ class Served(ChipCase):
         self.put("a.img", memory)
         self.refused("chip failed: a.img: unprotect takes a chip behind a programmer", "unprotect",
                      "a.img", "--yes")
+
+
+class Firm(ChipCase):
+    """Which lines mount firmly, so that torn bits may waver."""
+
+    def used(self):
+        """A chip with sectors in blocks 4, 5 and 6, and those sectors."""
+        image, held = kit.formatted(), {}
+        for number in range(20):
+            held[number] = nbd.sector(number)
+            kit.set_slot(image, 4 + number // 7, number % 7, number, held[number])
+        return image, held
+
+    def is_firm(self, memory):
+        """Whether a chip of these bytes was mounted firmly: J0's first entry is given up."""
+        return memory[kit.ENTRIES + 3] == 0
+
+    def pages_of(self, peer):
+        """The pages that are programmed from now on."""
+        pages = []
+
+        def note(kind, page, new, _):
+            pages.extend([page] * (kind == "program"))
+            return new
+        peer.chip.spoil = note
+        return pages
+
+    def test_chips(self):
+        """`serve` and `write` mount a chip firmly: where nothing was interrupted that programs the
+        head of each block in use, erases nothing, and changes nothing but the journals."""
+        for words in (("serve",), ("serve", "--trust"), ("serve", "--firm"), ("write",),
+                      ("write", "--firm")):
+            image, held = self.used()
+            peer = self.peer(image)
+            pages = self.pages_of(peer)
+            if words[0] == "serve":
+                server = self.serve(peer.place, *words[1:], "--conns", "1")
+                client = server.client()
+                for number in range(70):
+                    self.assertEqual(client.read(number), held.get(number, bytes(512)))
+                client.disc()
+                self.assertEqual(server.end().status, 0)
+            else:
+                self.refused("standard input has 0 bytes, sectors 3 to 3 take 512", "write",
+                             peer.place, *words[1:], "--sectors", "3:4",
+                             out="replacing sectors 3 to 3\n")
+            self.assertEqual(peer.chip.erases, 0)
+            self.assertTrue(self.is_firm(peer.chip.memory), words)
+            self.assertEqual(peer.chip.memory[0x4000:], image[0x4000:])
+            self.assertEqual([page for page in pages if page >= 0x4000], [0x4000, 0x5000, 0x6000])
+
+    def test_what_changes_nothing(self):
+        """`read`, `check`, `show` and `serve --read-only` of a chip, and a firm mount of one that is
+        refused, program nothing."""
+        corrupt = kit.formatted()
+        corrupt[0x2400] = 0x55
+        for memory, lines in ((self.used()[0], ("read", "check", "show")),
+                              (corrupt, ("serve --unix a.sock", "write"))):
+            peer = self.peer(memory)
+            for line in lines:
+                command, *more = line.split()
+                done = self.run_norbd(command, peer.place, *more)
+                self.assertEqual(done.status, 1 if memory is corrupt else 0)
+            if memory is not corrupt:
+                self.serve(peer.place, "--read-only").client().disc()
+            self.assertEqual((peer.chip.memory, peer.chip.programs, peer.chip.erases),
+                             (memory, 0, 0))
+
+    def test_images(self):
+        """An image is mounted firmly with --firm alone."""
+        for firm in ((), ("--firm",)):
+            self.put("a.img", self.used()[0])
+            server = self.serve("a.img", "--conns", "1", *firm)
+            client = server.client()
+            self.assertEqual([client.write(0, nbd.sector(0, 1)), client.trim(1)], [OK] * 2)
+            self.settled()
+            client.disc()
+            self.assertEqual(server.end().status, 0)
+            self.assertEqual(self.is_firm(self.bytes_of("a.img")), bool(firm))
+            self.assertEqual(self.norbd("read", "a.img", "--sectors", "0:3"),
+                             nbd.sector(0, 1) + bytes(512) + nbd.sector(2))
+            self.put("a.img", self.used()[0])
+            self.norbd("write", "a.img", *firm, "--sectors", "3:4", data=nbd.sector(3, 1))
+            self.assertEqual(self.is_firm(self.bytes_of("a.img")), bool(firm))
+            self.assertEqual(self.norbd("read", "a.img", "--sectors", "3:4"), nbd.sector(3, 1))
+
+    def test_lines_without(self):
+        """No other line takes --firm, nor does `serve --read-only`, which changes nothing."""
+        self.put("a.img", self.used()[0])
+        self.refused("image failed: a.img: --firm programs it, --read-only leaves it as it is",
+                     "serve", "a.img", "--unix", "a.sock", "--firm", "--read-only")
+        for line in ("read a.img", "check a.img", "check a.img --mend", "show a.img",
+                     "rescue a.img", "format a.img --kib 64", "script --kib 64",
+                     "plain --sectors 7", "chip a.img --port 5000", "unprotect tcp:127.0.0.1:1"):
+            done = self.run_norbd(*line.split(), "--firm")
+            self.assertEqual((done.status, done.out), (2, b""), line)
+            self.assertIn("unexpected argument '--firm' found", done.fault)
+        self.assertEqual(self.bytes_of("a.img"), self.used()[0])
 
 
 class Failing(ChipCase):

@@ -36,10 +36,10 @@ class Help(kit.Case):
         wanted = {
             "plain": "sectors no-record", "format": "kib force yes spi-hz", "script": "kib",
             "serve": "port bind unix conns record sync tidy max-request read-only verbose trust "
-                     "status spi-hz",
+                     "status spi-hz firm",
             "status": "json", "chip": "port conns", "check": "mend json against spi-hz",
             "unprotect": "yes spi-hz", "show": "spi-hz", "read": "sectors spi-hz",
-            "write": "sectors spi-hz", "rescue": ""}
+            "write": "sectors spi-hz firm", "rescue": ""}
         for command, options in wanted.items():
             text = self.help_of(command).split("Options:")[-1]
             rows = set(re.findall(r"(?m)^\s+(?:-\w, |    )?--([a-z-]+)", text))

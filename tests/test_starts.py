@@ -233,13 +233,15 @@ class RoundTrips(FaultCase):
         return peer
 
     def test_a_sector(self):
-        """A sector's first write takes 8 round trips and a later one 10, where as many bytes may be
-        on the way as the frames of a page's program have, 283; where fewer may, each of its two
-        pages takes two more, and where none may, each frame one."""
+        """A sector's first write takes 8 round trips and a later one 10, in a block that was written
+        to since the start, where as many bytes may be on the way as the frames of a page's program
+        have, 283; where fewer may, each of its two pages takes two more, and where none may, each
+        frame one."""
         def row(buffers, *words):
             peer = self.late(buffers=buffers)
             server = self.serve(peer.place, *words)
             client, found = server.client(), []
+            self.assertEqual(client.write(9, nbd.sector(9)), OK)
             for turn in range(6):
                 before = peer.trips
                 self.assertEqual(client.write(turn % 3, nbd.sector(turn)), OK)

@@ -23,13 +23,14 @@ _norbd() {
         *,format,-*) words='--kib --force --yes --spi-hz --help -h' ;;
         *,script,-*) words='--kib --help -h' ;;
         *,serve,-*) words='--port --bind --unix --conns --record --sync --tidy --max-request
-            --read-only --verbose --trust --status --spi-hz --help -v -h' ;;
+            --read-only --verbose --trust --status --spi-hz --firm --help -v -h' ;;
         *,status,-*) words='--json --help -h' ;;
         *,check,-*) words='--mend --json --against --spi-hz --help -h' ;;
         *,unprotect,-*) words='--yes --spi-hz --help -h' ;;
         *,show,-*) words='--spi-hz --help -h' ;;
         *,rescue,-*) words='--help -h' ;;
-        *,read,-* | *,write,-*) words='--sectors --spi-hz --help -h' ;;
+        *,read,-*) words='--sectors --spi-hz --help -h' ;;
+        *,write,-*) words='--sectors --spi-hz --firm --help -h' ;;
         *,plain,* | *,script,*) ;;
         *) kind=-f ;;
     esac

@@ -11,7 +11,7 @@ use crate::figures::{nanos, per_call};
 use crate::measure::HEADERS;
 use crate::row::Row;
 use chip_simulator::SimChip;
-use erase_journal::Journal;
+use erase_journal::{Firmness, Journal};
 use journal_slots::SectorSlots;
 use nor_driver::{Driver, Nor};
 use sector_map::{LiveSlots, SectorMap, Stock, mount_slots};
@@ -163,6 +163,7 @@ fn time_of_tables(
         plain: false,
         group: false,
         erases: 0,
+        suspect: false,
     };
     let Ok(states) = vec![in alloc; SlotState::Free; 28_644] else {
         return Err(Failure::NoMemory);
@@ -175,7 +176,7 @@ fn time_of_tables(
     };
     let mut stock = Stock::new(slots, states, blocks);
     let start = now(clock)?;
-    let made = mount_slots(&mut stock, table.as_mut_slice());
+    let made = mount_slots(&mut stock, table.as_mut_slice(), Firmness::Steady);
     let end = now(clock)?;
     if made? {
         let driver = stock.into_inner().into_inner().into_inner();

@@ -39,8 +39,8 @@ AreWritten (suc k) before written left = is_whole before left ≡ true
     → (take (record_len left) left ≡ take (record_len left) written)
     × AreWritten k (sum_in left) (drop (record_len left) written) (drop (record_len left) left)
 
--- No bytes but those that were written are a head, or have the sum of a record behind one. This is a
--- premise: that what a loss left has the right sum by chance, is possible.
+-- No bytes but those that were written are a head, or have the sum of a record behind one. This is
+-- a premise: that what a loss left has the right sum by chance, is possible.
 pub record HasTrueSums (written left : List ℕ) : Type 0 where
   pub head : has_head left ≡ true → take 16 left ≡ take 16 written
   pub records : has_head left ≡ true

@@ -1,18 +1,17 @@
 -- What the steps leave of the blocks.
-use Rattle.std.proofs.Common.{◌≡◌, ℕ, zero, suc, ◌+◌, ◌-◌, ◌*◌, ◌/◌, ◌<◌, ◌≤◌, true, ◌&&◌, List, length, refl, sym, ◌∙◌, arith, inl, inr}
-use Rattle.std.specs.Prelude.{◌==◌}
+use Rattle.std.proofs.Common.{◌≡◌, ℕ, zero, suc, ◌+◌, ◌-◌, ◌*◌, ◌/◌, ◌<◌, ◌≤◌, true, List, length, refl, sym, ap, ◌∙◌, arith, inl, inr}
 use Rattle.std.proofs.lemmas.Bool.Decides.{nat_tests}
-use Rattle.std.proofs.lemmas.Bool.{cases_lt}
+use Rattle.std.proofs.lemmas.Bool.{cases_lt, cases_eq}
 use Rattle.chip_model.specs.Parts.{part}
 use Rattle.chip_model.proofs.PartLaws.{part-same}
 use Rattle.erase_journal.specs.Places.{Spoiled, Changed}
 use Rattle.nor_layout.specs.declared.journal.JournalId.{JournalId}
 use Rattle.nor_layout.specs.declared.journal.JournalId.TheVariants.{J0, J1, J2}
 use Rattle.erase_journal.specs.declared.phase.ErasePhase.TheVariants.{Idle, Asked, Doomed, Closing}
-use Rattle.erase_journal.specs.Journals.{tally_of, first, second, open_entries, entries_for, is_open_entry, entry_block, AreJournalsSound}
+use Rattle.erase_journal.specs.Journals.{tally_of, first, second, open_blocks, entries_for, is_open_entry, entry_block, AreJournalsSound}
 use Rattle.erase_journal.specs.Blocks.{blank, block, blocks_of, listed, SameChip, SameBlocks, WithErased}
-use Rattle.erase_journal.proofs.Counts.{how_many-below}
-use Rattle.erase_journal.proofs.Entries.{named-change, state-changed, state-is, not-open}
+use Rattle.erase_journal.proofs.Opened.{none-named, named-some}
+use Rattle.erase_journal.proofs.Entries.{named-change, state-changed, state-was, state-is, not-open}
 use Rattle.erase_journal.proofs.Regions.{BytesKept, spoiled-below, spoiled-above, SameEntries}
 
 -- A block that a change does not reach is as it was.
@@ -36,13 +35,9 @@ blocks-same m m' h = rw h.chip.same_length (listed-same (block m') (block m) 4 (
 pub record IsPlain (m : List ℕ) : Type 0 where
   pub own : (b : ℕ) → block m b ≡ part 4096 m b
 
-named-below : (m : List ℕ) (b : ℕ) → entries_for m b ≤ open_entries m
-unfolding entries_for open_entries
-named-below m b = how_many-below (is_open_entry m) (λ i. is_open_entry m i && entry_block m i == b) 512 (λ k low both. grind (arith, nat_tests))
-
-pub plain-none : (m : List ℕ) → open_entries m ≡ 0 → IsPlain m
+pub plain-none : (m : List ℕ) → open_blocks m ≡ 0 → IsPlain m
 unfolding block
-plain-none m none = record { own = λ b. let low = named-below m b in grind (arith, nat_tests) }
+plain-none m none = record { own = λ b. let z = none-named m b none in grind (arith, nat_tests) }
 
 pub plain-doomed : (m : List ℕ) → (first (tally_of m) J0).opened ≡ 1 → (second (tally_of m) J0).opened ≡ 1 → IsPlain m
 unfolding block
@@ -56,7 +51,7 @@ plain-kept at n m m' p p' s high low = record {
 }
 
 -- Opening an entry for block c erases it.
-pub opened-erases : (i c : ℕ) (m m' : List ℕ) → AreJournalsSound Idle m → open_entries m ≡ 0 → i < 512 → Changed (6144 + 4 * i) 254 252 m m'
+pub opened-erases : (i c : ℕ) (m m' : List ℕ) → AreJournalsSound Idle m → open_blocks m ≡ 0 → i < 512 → Changed (6144 + 4 * i) 254 252 m m'
     → is_open_entry m' i ≡ true → entry_block m' i ≡ c → AreJournalsSound Idle m' → WithErased c m m'
 unfolding block
 opened-erases i c m m' h none low change opened names h' =
@@ -64,12 +59,12 @@ opened-erases i c m m' h none low change opened names h' =
     let p = h.phase in
     let p' = h'.phase in
     record {
-      erased = let e = rw (opened, names) at (named-change i c m m' low s) in grind (arith, nat_tests);
+      erased = let e = rw (opened, names) at (named-change i c m m' low s) in let l = none-named m c none in grind (arith, nat_tests);
       only = record {
         chip = chip-kept (6144 + 4 * i) 4 m m' s (omega arith);
         others = λ b from to other.
             let e = rw (opened, names) at (named-change i b m m' low s) in
-            let l = named-below m b in
+            let l = none-named m b none in
             let k = own-kept b m m' (spoiled-above (6144 + 4 * i) 4 (4096 * b) 4096 m m' s (omega arith)) change.same_length in
             grind (arith, nat_tests);
       };
@@ -107,27 +102,66 @@ spoiled-same c m m' least h named s e h' =
       ];
     }
 
--- Closing it once block c is erased.
-closed-each : (i c : ℕ) (m m' : List ℕ) → AreJournalsSound Idle m → i < 512 → Changed (6144 + 4 * i) 252 248 m m'
-    → is_open_entry m i ≡ true → entry_block m i ≡ c → part 4096 m c ≡ blank → open_entries m' ≡ 0
+-- Entries that are open for the same blocks represent the same ones.
+same-each : (m m' : List ℕ) (b : ℕ) → AreJournalsSound Idle m → AreJournalsSound Idle m' → entries_for m' b ≡ entries_for m b → part 4096 m' b ≡ part 4096 m b → block m' b ≡ block m b
+same-each m m' b h h' named own = elim (cases_lt 0 (entries_for m b)) [
+  | inl some ↦ block-named m' b h' (omega arith) ∙ sym (block-named m b h some)
+  | inr none ↦ block-unnamed m' b (omega arith) ∙ own ∙ sym (block-unnamed m b (omega arith))
+]
+
+pub named-same : (at n : ℕ) (m m' : List ℕ) → AreJournalsSound Idle m → AreJournalsSound Idle m' → ((b : ℕ) → entries_for m' b ≡ entries_for m b) → Spoiled at n m m' → 4096 ≤ at → at + n ≤ 16384
+    → SameBlocks m m'
+named-same at n m m' h h' named s high low = record {
+  chip = chip-kept at n m m' s high;
+  each = λ b from to. same-each m m' b h h' (named b) (own-kept b m m' (spoiled-above at n (4096 * b) 4096 m m' s (omega arith)) s.same_length);
+}
+
+-- Closing an entry once its block c is erased, and opening one more for it.
+closed-each : (i c : ℕ) (m m' : List ℕ) → AreJournalsSound Idle m → AreJournalsSound Idle m' → i < 512 → Changed (6144 + 4 * i) 252 248 m m'
+    → is_open_entry m i ≡ true → entry_block m i ≡ c → part 4096 m c ≡ blank
     → (b : ℕ) → part 4096 m' b ≡ part 4096 m b → block m' b ≡ block m b
-closed-each i c m m' h low change opened names is_erased none b own =
+closed-each i c m m' h h' low change opened names is_erased b own =
     let s = state-changed i 252 248 m m' change in
     let is = state-is i 252 248 m m' change in
-    let l = named-below m' b in
-    let e = rw (opened, names, not-open m' i (λ e. omega arith)) at (named-change i b m m' low s) in
-    (plain-none m' none).own b ∙ own ∙ elim (cases_lt 0 (entries_for m b)) [
-      | inl some ↦ let is : b ≡ c = grind (arith, nat_tests) in rw is (is_erased ∙ sym (block-named m c h (rw is at some)))
-      | inr none ↦ sym (block-unnamed m b (omega arith))
+    elim (cases_eq b c) [
+      | inl same ↦
+          let named = block-named m b h (named-some i b m low opened (names ∙ sym same)) in
+          let blank_in = own ∙ ap (λ x. part 4096 m x) same ∙ is_erased in
+          elim (cases_lt 0 (entries_for m' b)) [
+            | inl some ↦ block-named m' b h' some ∙ sym named
+            | inr none ↦ block-unnamed m' b (omega arith) ∙ blank_in ∙ sym named
+          ]
+      | inr other ↦ let e = rw (opened, names, not-open m' i (λ e. omega arith)) at (named-change i b m m' low s) in same-each m m' b h h' (grind (arith, nat_tests)) own
     ]
 
-pub closed-same : (i c : ℕ) (m m' : List ℕ) → AreJournalsSound Idle m → i < 512 → Changed (6144 + 4 * i) 252 248 m m'
-    → is_open_entry m i ≡ true → entry_block m i ≡ c → part 4096 m c ≡ blank → open_entries m' ≡ 0 → SameBlocks m m'
-closed-same i c m m' h low change opened names is_erased none = record {
+pub closed-same : (i c : ℕ) (m m' : List ℕ) → AreJournalsSound Idle m → AreJournalsSound Idle m' → i < 512 → Changed (6144 + 4 * i) 252 248 m m'
+    → is_open_entry m i ≡ true → entry_block m i ≡ c → part 4096 m c ≡ blank → SameBlocks m m'
+closed-same i c m m' h h' low change opened names is_erased = record {
   chip = chip-kept (6144 + 4 * i) 4 m m' (state-changed i 252 248 m m' change) (omega arith);
   each = λ b from to.
       let s = state-changed i 252 248 m m' change in
-      closed-each i c m m' h low change opened names is_erased none b (own-kept b m m' (spoiled-above (6144 + 4 * i) 4 (4096 * b) 4096 m m' s (omega arith)) change.same_length);
+      closed-each i c m m' h h' low change opened names is_erased b (own-kept b m m' (spoiled-above (6144 + 4 * i) 4 (4096 * b) 4096 m m' s (omega arith)) change.same_length);
+}
+
+joined-each : (i c : ℕ) (m m' : List ℕ) → AreJournalsSound Idle m → AreJournalsSound Idle m' → i < 512 → Changed (6144 + 4 * i) 254 252 m m'
+    → is_open_entry m' i ≡ true → entry_block m' i ≡ c → 0 < entries_for m c
+    → (b : ℕ) → part 4096 m' b ≡ part 4096 m b → block m' b ≡ block m b
+joined-each i c m m' h h' low change opened names named b own =
+    let s = state-changed i 254 252 m m' change in
+    let was = state-was i 254 252 m m' change in
+    let e = rw (opened, names, not-open m i (λ e. omega arith)) at (named-change i b m m' low s) in
+    elim (cases_eq b c) [
+      | inl same ↦ (let some = rw (sym same) at named in block-named m' b h' (grind (arith, nat_tests)) ∙ sym (block-named m b h some))
+      | inr other ↦ same-each m m' b h h' (grind (arith, nat_tests)) own
+    ]
+
+pub joined-same : (i c : ℕ) (m m' : List ℕ) → AreJournalsSound Idle m → AreJournalsSound Idle m' → i < 512 → Changed (6144 + 4 * i) 254 252 m m'
+    → is_open_entry m' i ≡ true → entry_block m' i ≡ c → 0 < entries_for m c → SameBlocks m m'
+joined-same i c m m' h h' low change opened names named = record {
+  chip = chip-kept (6144 + 4 * i) 4 m m' (state-changed i 254 252 m m' change) (omega arith);
+  each = λ b from to.
+      let s = state-changed i 254 252 m m' change in
+      joined-each i c m m' h h' low change opened names named b (own-kept b m m' (spoiled-above (6144 + 4 * i) 4 (4096 * b) 4096 m m' s (omega arith)) change.same_length);
 }
 
 -- The phases of a journal's erase are plain.

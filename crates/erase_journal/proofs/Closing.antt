@@ -1,22 +1,21 @@
 -- Entries of which none is open are programmed again, so that none can come to be open; and the lowest free one is given up.
-use Rattle.std.proofs.Common.{◌≡◌, ◌≢◌, ℕ, ◌+◌, ◌-◌, ◌*◌, ◌<◌, ◌≤◌, ◌⊎◌, Bool, true, false, List, [], ◌∷◌, length, refl, sym, ap, ◌∙◌, arith, inl, inr, lit<, add_assoc}
-use Rattle.std.specs.Prelude.{slice_range, bit_and, ◌==◌}
+use Rattle.std.proofs.Common.{◌≡◌, ◌≢◌, ℕ, ◌+◌, ◌-◌, ◌*◌, ◌<◌, ◌≤◌, ◌⊎◌, true, false, List, [], ◌∷◌, length, refl, sym, ap, ◌∙◌, arith, inl, inr, lit<}
+use Rattle.std.specs.Prelude.{slice_range}
 use Rattle.std.proofs.lemmas.Bool.{cases_lt}
 use Rattle.std.proofs.lemmas.Bool.Decides.{nat_tests}
 use Rattle.chip_model.specs.Memory.{byte, and_at, TornAnd}
 use Rattle.nor_driver.specs.State.{Leaves}
 use Rattle.erase_journal.specs.declared.phase.ErasePhase.TheVariants.{Idle}
-use Rattle.erase_journal.specs.Places.{how_many, Spoiled, Changed}
-use Rattle.erase_journal.specs.Scans.{is_free_in}
+use Rattle.erase_journal.specs.Places.{Spoiled, Changed}
 use Rattle.erase_journal.specs.Firm.{LeavesEntry}
-use Rattle.erase_journal.specs.Journals.{entry_byte, entry_block, is_free_entry, is_open_entry, open_entries, IsSettled}
+use Rattle.erase_journal.specs.Journals.{entry_byte, is_free_entry, is_open_entry, open_blocks, IsSettled}
 use Rattle.erase_journal.specs.Blocks.{SameBlocks}
 use Rattle.erase_journal.specs.Spending.{KeepsUse, IsUsed}
 use Rattle.erase_journal.specs.Steps.{KeepsBlocks, IsRestful}
 use Rattle.erase_journal.proofs.SameBytes.{leaves-here}
 use Rattle.erase_journal.proofs.Blocks.{plain-none, plain-kept}
-use Rattle.erase_journal.proofs.Counts.{how_many-none, how_many-each_fails}
-use Rattle.erase_journal.proofs.Data.{slice-byte, slice-length}
+use Rattle.erase_journal.proofs.Opened.{none-open, none-blocks}
+use Rattle.erase_journal.proofs.Data.{slice-byte}
 use Rattle.erase_journal.proofs.Effects.{and-leaves, and-spoiled, program-changes}
 use Rattle.erase_journal.proofs.Entries.{same-votes-entry, idle-moved, last-moved}
 use Rattle.erase_journal.proofs.EntryCalls.{free-bytes, taken-settled, take-cut}
@@ -41,11 +40,10 @@ keeps-closed k m m' size h closed = elim h.last [
   | inr used ↦ rw (h.b0, h.b1, h.b2, size) (let e = used.0 in grind (arith, nat_tests))
 ]
 
-none-open : (m m' : List ℕ) → open_entries m ≡ 0 → ((k : ℕ) → k < 512 → is_open_entry m k ≡ false → is_open_entry m' k ≡ false) → open_entries m' ≡ 0
-unfolding open_entries
-none-open m m' none h = how_many-each_fails (is_open_entry m') 512 (λ k low. h k low (how_many-none (is_open_entry m) 512 none k low))
+still-none : (m m' : List ℕ) → open_blocks m ≡ 0 → ((k : ℕ) → k < 512 → is_open_entry m k ≡ false → is_open_entry m' k ≡ false) → open_blocks m' ≡ 0
+still-none m m' none h = none-blocks m' (λ k low. h k low (none-open m none k low))
 
-none-free : (m m' : List ℕ) → KeepsUse m m' → IsSettled m → Spoiled 6144 2048 m m' → open_entries m' ≡ 0 → IsSettled m'
+none-free : (m m' : List ℕ) → KeepsUse m m' → IsSettled m → Spoiled 6144 2048 m m' → open_blocks m' ≡ 0 → IsSettled m'
 none-free m m' u h s none =
     let v = same-votes-entry 6144 2048 m m' s (omega arith) (omega arith) in
     record { sound = idle-moved m m' h.sound v (omega arith) (last-moved m m' h.sound v u.numbers.free); none = none }
@@ -58,7 +56,7 @@ pub record EntriesClosed (m m' : List ℕ) : Type 0 where
 entries-closed : (m m' : List ℕ) → IsSettled m → Spoiled 6144 2048 m m' → ((k : ℕ) → k < 512 → KeepsEntry k m m') → EntriesClosed m m'
 entries-closed m m' h s each =
     let u = entries-keep m m' (same-votes-entry 6144 2048 m m' s (omega arith) (omega arith)) (λ k low. keeps-free k m m' (each k low)) in
-    let none = none-open m m' h.none (λ k low. keeps-closed k m m' s.same_length (each k low)) in
+    let none = still-none m m' h.none (λ k low. keeps-closed k m m' s.same_length (each k low)) in
     record { uses = u; settled = none-free m m' u h s none; same = plain-kept 6144 2048 m m' (plain-none m h.none) (plain-none m' none) s (omega arith) (omega arith) }
 
 -- a page of 64 entries, programmed whole or torn

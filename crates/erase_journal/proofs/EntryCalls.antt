@@ -1,8 +1,8 @@
 -- An entry is taken, opened and closed.
-use Rattle.std.proofs.Common.{◌≡◌, ◌≢◌, ℕ, ◌+◌, ◌*◌, ◌/◌, ◌<◌, ◌≤◌, true, ◌&&◌, List, [], ◌∷◌, length, get_or, refl, ap, subst, ◌∙◌, arith, inl, inr, add-zero, lit<, lit≤}
-use Rattle.std.specs.Prelude.{bit_and, ◌==◌}
+use Rattle.std.proofs.Common.{◌≡◌, ◌≢◌, ℕ, ◌+◌, ◌*◌, ◌/◌, ◌<◌, ◌≤◌, true, List, [], ◌∷◌, length, get_or, refl, ap, subst, ◌∙◌, arith, inl, inr, add-zero, lit<, lit≤}
+use Rattle.std.specs.Prelude.{bit_and}
 use Rattle.std.proofs.lemmas.Nat.{and_mask, and_comm}
-use Rattle.std.proofs.lemmas.Bool.{cases_lt, cases_eq}
+use Rattle.std.proofs.lemmas.Bool.{cases_eq}
 use Rattle.std.proofs.lemmas.Grind.{same_number_lists}
 use Rattle.std.proofs.lemmas.Bool.Decides.{nat_tests}
 use Rattle.chip_model.specs.Memory.{byte, and_at, erased, TornAnd, TornErase}
@@ -12,14 +12,16 @@ use Rattle.chip_model.specs.Parts.{part}
 use Rattle.chip_model.proofs.PartLaws.{part-erased}
 use Rattle.nor_driver.specs.State.{Leaves, as_before, torn_in_it, changed_whole}
 use Rattle.erase_journal.specs.declared.phase.ErasePhase.TheVariants.{Idle}
-use Rattle.erase_journal.specs.Places.{how_many, Spoiled, Changed}
-use Rattle.erase_journal.specs.Journals.{entry_byte, entry_block, is_free_entry, is_open_entry, IsSettled, entries_for}
+use Rattle.erase_journal.specs.Places.{Spoiled, Changed}
+use Rattle.erase_journal.specs.Journals.{entry_byte, entry_block, is_free_entry, is_open_entry, unused, AreJournalsSound, IsSettled, entries_for}
 use Rattle.erase_journal.specs.Blocks.{blank, SameBlocks, WithErased}
 use Rattle.erase_journal.specs.Steps.{KeepsBlocks, EraseInterrupted, as_it_was, block_erased, IsRestful, IsOpened, IsTaken}
 use Rattle.erase_journal.proofs.Effects.{spoiled-refl, and-spoiled, and-outside, torn-spoiled, program-leaves, program-changes, bit-open, bit-close, bit-done, erase-leaves, erased-spoiled}
-use Rattle.erase_journal.proofs.Entries.{entry-taken, entry-opened, entry-closed, data-spoiled, state-is}
-use Rattle.erase_journal.proofs.Blocks.{plain-none, plain-kept, opened-erases, spoiled-same, closed-same}
-use Rattle.erase_journal.proofs.Counts.{how_many-none}
+use Rattle.erase_journal.specs.Spending.{MayTake, once_used}
+use Rattle.erase_journal.proofs.Lasting.{Last-rested}
+use Rattle.erase_journal.proofs.Opened.{none-open, named-some}
+use Rattle.erase_journal.proofs.Entries.{entry-taken, entry-begun, entry-opened, entry-closed, none-beside, open-elsewhere, open-below, data-spoiled, state-changed, state-is}
+use Rattle.erase_journal.proofs.Blocks.{plain-none, plain-kept, opened-erases, spoiled-same, closed-same, named-same}
 use Rattle.erase_journal.proofs.Renewal.{same-chip-on, same-blocks-refl, stands-on}
 
 and-255 : (x : ℕ) → x < 256 → bit_and 255 x ≡ x
@@ -75,10 +77,19 @@ taken-settled i m m' r low s state =
     let t = entry-taken i m m' r.settled.sound r.settled.none low s state r.j0 r.j1 r.j2 in
     (record { sound = t.0; none = t.1 }, plain-kept (6144 + 4 * i) 4 m m' (plain-none m r.settled.none) (plain-none m' t.1) s (omega arith) (omega arith))
 
+-- A free entry is taken beside open ones.
+pub restful-may : (m : List ℕ) → IsRestful m → MayTake m
+restful-may m r = record { sound = r.settled.sound; lasts = Last-rested (unused m) (once_used (unused m)) r.j0 r.j1 r.j2 refl refl refl refl refl refl }
+
+pub begun-same : (i : ℕ) (m m' : List ℕ) → MayTake m → i < 512 → is_free_entry m i ≡ true → Spoiled (6144 + 4 * i) 4 m m' → entry_byte m' i 0 ≢ 252 → AreJournalsSound Idle m' × SameBlocks m m'
+begun-same i m m' h low free s state =
+    let t = entry-begun i m m' h.sound h.lasts low free s state in
+    (t.0, named-same (6144 + 4 * i) 4 m m' h.sound t.0 t.1 s (omega arith) (omega arith))
+
 pub take-cut : (i : ℕ) (m m' : List ℕ) → IsRestful m → i < 512 → Spoiled (6144 + 4 * i) 4 m m' → entry_byte m' i 0 ≢ 252 → KeepsBlocks m m'
 take-cut i m m' r low s state = let t = taken-settled i m m' r low s state in record { healthy = (Idle, t.0.sound); blocks = t.1 }
 
-now-open : (m : List ℕ) (c i : ℕ) → entry_byte m i 0 ≡ 252 → entry_byte m i 3 ≡ 255 → entry_block m i ≡ c → 4 ≤ c → c < length m / 4096 → is_open_entry m i ≡ true
+pub now-open : (m : List ℕ) (c i : ℕ) → entry_byte m i 0 ≡ 252 → entry_byte m i 3 ≡ 255 → entry_block m i ≡ c → 4 ≤ c → c < length m / 4096 → is_open_entry m i ≡ true
 now-open m c i state last names least most = grind (arith, nat_tests)
 
 pub erased-after : (c : ℕ) (m m' m2 : List ℕ) → SameBlocks m m' → WithErased c m' m2 → WithErased c m m2
@@ -90,13 +101,6 @@ erased-after c m m' m2 s e = record {
   erased = e.erased;
 }
 
-named-some : (i c : ℕ) (m : List ℕ) → i < 512 → is_open_entry m i ≡ true → entry_block m i ≡ c → 0 < entries_for m c
-unfolding entries_for
-named-some i c m low opened names = elim (cases_lt 0 (how_many (λ j. is_open_entry m j && entry_block m j == c) 512)) [
-  | inl some ↦ some
-  | inr none ↦ let f = how_many-none (λ j. is_open_entry m j && entry_block m j == c) 512 (omega arith) i low in absurd (grind (arith, nat_tests))
-]
-
 -- Opening it erases the block.
 pub opens : (i c : ℕ) (m m' m2 : List ℕ) → IsRestful m → i < 512 → IsTaken i c m m' → Changed (6144 + 4 * i) 254 252 m' m2 → 4 ≤ c → c < length m / 4096
     → IsOpened i c m2 × WithErased c m m2
@@ -107,9 +111,10 @@ opens i c m m' m2 r low t change least most =
     let names : entry_block m2 i ≡ c = rw (keeps 1 (lit≤ tt), keeps 2 (lit≤ tt)) t.names in
     let last : entry_byte m2 i 3 ≡ 255 = keeps 3 (lit≤ tt) ∙ t.last in
     let opened : is_open_entry m2 i ≡ true = now-open m2 c i is last names least (rw (change.same_length, t.spoiled.same_length) most) in
-    let sound = entry-opened i m' m2 settled.0.sound settled.0.none low change in
+    let sound = entry-opened i m' m2 settled.0.sound (λ k small other. absurd (let no = none-open m' settled.0.none k small in cc)) low change in
+    let s = state-changed i 254 252 m' m2 change in
     let erases = opened-erases i c m' m2 settled.0.sound settled.0.none low change opened names sound in
-    (record { sound = sound; within = low; opened = opened; names = names }, erased-after c m m' m2 settled.1 erases)
+    (record { sound = sound; within = low; opened = opened; names = names; alone = λ k small other. open-elsewhere i m' m2 s k other ∙ none-open m' settled.0.none k small }, erased-after c m m' m2 settled.1 erases)
 
 -- Once it is open: the block is erased, also torn, and the entry closed.
 pub opened-named : (i c : ℕ) (m : List ℕ) → IsOpened i c m → 0 < entries_for m c
@@ -120,6 +125,7 @@ block-spoiled i c m m' o least s =
     let d = data-spoiled (4096 * c) 4096 m m' o.sound (omega arith) s in
     let e : (j : ℕ) → j < 4 → entry_byte m' i j ≡ entry_byte m i j = λ j small. let w = o.within in s.below (6144 + 4 * i + j) (omega arith) in (
       record {
+        alone = λ k small other. open-below (4096 * c) 4096 m m' s (omega arith) k small ∙ o.alone k small other;
         sound = d.0;
         within = o.within;
         opened = rw (e 0 (lit< tt), e 1 (lit< tt), e 2 (lit< tt), e 3 (lit< tt), s.same_length) o.opened;
@@ -131,7 +137,8 @@ block-spoiled i c m m' o least s =
 pub entry-done : (i c : ℕ) (m m' : List ℕ) → IsOpened i c m → part 4096 m c ≡ blank → Changed (6144 + 4 * i) 252 248 m m' → IsSettled m' × SameBlocks m m'
 entry-done i c m m' o is_erased change =
     let t = entry-closed i m m' o.sound o.opened o.within change in
-    (record { sound = t.0; none = t.1 }, closed-same i c m m' o.sound o.within change o.opened o.names is_erased t.1)
+    let none = none-beside i m m' (state-changed i 252 248 m m' change) o.alone t.1 in
+    (record { sound = t.0; none = none }, closed-same i c m m' o.sound t.0 o.within change o.opened o.names is_erased)
 
 pub state-open : (m : List ℕ) (i : ℕ) → is_open_entry m i ≡ true → entry_byte m i 0 ≡ 252
 state-open m i opened = grind (arith, nat_tests)
@@ -156,7 +163,7 @@ open-ok i c m m' m2 long r low t least most e =
     opens i c m m' m2 r low t (rw e (program-changes m' (6144 + 4 * i) 254 252 (omega arith) state)) least most
 
 -- The erase of the block, whole or torn.
-part-blank : (m : List ℕ) (c : ℕ) → 4096 * c + 4096 ≤ length m → part 4096 (erased m (4096 * c) 4096) c ≡ blank
+pub part-blank : (m : List ℕ) (c : ℕ) → 4096 * c + 4096 ≤ length m → part 4096 (erased m (4096 * c) 4096) c ≡ blank
 unfolding blank
 part-blank m c fits = part-erased 4096 m c fits
 
@@ -219,12 +226,13 @@ take-ok m new i block bytes long small free n e =
     let t = taken m i (byte bytes 1) (byte bytes 2) long small free n.low n.high in
     rw (e ∙ ap (λ b. and_at m (6144 + 4 * i) b) (spelled block bytes n)) (record { spoiled = t.spoiled; state = t.state; last = t.last; names = t.names ∙ n.number })
 
-pub take-stands : (m new : List ℕ) (i block : ℕ) (bytes : List ℕ) → 16384 ≤ length m → i < 512 → is_free_entry m i ≡ true → Names block bytes → IsRestful m
+pub take-stands : (m new : List ℕ) (i block : ℕ) (bytes : List ℕ) → 16384 ≤ length m → i < 512 → is_free_entry m i ≡ true → Names block bytes → MayTake m
     → Leaves m (TornAnd m (6144 + 4 * i) bytes) (and_at m (6144 + 4 * i) bytes) new → KeepsBlocks m new
 take-stands m new i block bytes long small free n r l =
     let t = take-leaves m i (byte bytes 1) (byte bytes 2) long small free n.low n.high new
     (subst (λ b. Leaves m (TornAnd m (6144 + 4 * i) b) (and_at m (6144 + 4 * i) b) new) (spelled block bytes n) l) in
-    take-cut i m new r small t.0 t.1
+    let b = begun-same i m new r small free t.0 t.1 in
+    record { healthy = (Idle, b.0); blocks = b.1 }
 
 pub erased-then : (c : ℕ) (m m1 m2 : List ℕ) → WithErased c m m1 → SameBlocks m1 m2 → 4 ≤ c → c < length m / 4096 → WithErased c m m2
 erased-then c m m1 m2 e s least most = record {

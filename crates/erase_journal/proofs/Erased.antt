@@ -9,10 +9,11 @@ use Rattle.chip_model.proofs.PartLaws.{part-whole, get-part}
 use Rattle.nor_layout.specs.declared.journal.JournalId.TheVariants.{J0, J1, J2}
 use Rattle.nor_layout.specs.Journals.{first_at, second_at}
 use Rattle.erase_journal.specs.declared.scan.VoteCounts.{VoteCounts}
-use Rattle.erase_journal.specs.Journals.{votes_at, free_entries, open_entries, is_free_entry, is_open_entry, IsSettled}
+use Rattle.erase_journal.specs.Journals.{votes_at, free_entries, open_blocks, is_free_entry, IsSettled}
 use Rattle.erase_journal.specs.Blocks.{block, blank, IsErasedBehind}
 use Rattle.erase_journal.proofs.BlockLaws.{length-blank, byte-blank}
 use Rattle.erase_journal.proofs.Counts.{how_many-all, how_many-each_fails}
+use Rattle.erase_journal.proofs.Opened.{none-blocks}
 use Rattle.erase_journal.proofs.Blocks.{plain-none}
 
 -- a region of unused votes alone
@@ -34,9 +35,8 @@ unfolding free_entries
 blank-free m ff = how_many-all (is_free_entry m) 512 (λ i low.
     rw (ff (6144 + 4 * i + 0) (omega arith) (omega arith), ff (6144 + 4 * i + 1) (omega arith) (omega arith), ff (6144 + 4 * i + 2) (omega arith) (omega arith), ff (6144 + 4 * i + 3) (omega arith) (omega arith)) refl)
 
-blank-open : (m : List ℕ) → ((k : ℕ) → 6144 ≤ k → k < 8192 → byte m k ≡ 255) → open_entries m ≡ 0
-unfolding open_entries
-blank-open m ff = how_many-each_fails (is_open_entry m) 512 (λ i low. rw (ff (6144 + 4 * i + 0) (omega arith) (omega arith)) refl)
+blank-open : (m : List ℕ) → ((k : ℕ) → 6144 ≤ k → k < 8192 → byte m k ≡ 255) → open_blocks m ≡ 0
+blank-open m ff = none-blocks m (λ i low. rw (ff (6144 + 4 * i + 0) (omega arith) (omega arith)) refl)
 
 pub erased-settled : (m : List ℕ) → IsChipSize (length m) → IsErasedBehind m → IsSettled m
 erased-settled m size ff =

@@ -12,6 +12,10 @@ Last-erased J0 u h tired = grind arith
 Last-erased J1 u h tired = grind arith
 Last-erased J2 u h tired = grind arith
 
+-- Where no journal is tired, J0 can be erased.
+pub Last-renewed : (u : Unused) → IsRested J0 u → IsRested J1 u → IsRested J2 u → Last (once_erased J0 u)
+Last-renewed u r0 r1 r2 = grind arith
+
 -- Where no journal is tired, an entry can be taken.
 pub Last-rested : (u v : Unused) → IsRested J0 u → IsRested J1 u → IsRested J2 u → v.j0_for_1 ≡ u.j0_for_1 → v.j0_for_2 ≡ u.j0_for_2
     → v.j1_for_0 ≡ u.j1_for_0 → v.j1_for_2 ≡ u.j1_for_2 → v.j2_for_0 ≡ u.j2_for_0 → v.j2_for_1 ≡ u.j2_for_1 → Last v

@@ -1,5 +1,6 @@
 pub mod BlockLaws
 pub mod Counts
+pub mod Opened
 pub mod Scans
 pub mod Regions
 pub mod Lasting
@@ -21,3 +22,5 @@ pub mod Marking
 pub mod Calls
 pub mod SameBytes
 pub mod Closing
+pub mod Reopening
+pub mod Resuming

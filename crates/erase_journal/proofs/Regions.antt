@@ -1,10 +1,10 @@
 -- What a change of the memory does to the votes and entries.
-use Rattle.std.proofs.Common.{◌≡◌, ℕ, ◌+◌, ◌*◌, ◌<◌, ◌≤◌, Bool, not, ◌&&◌, ◌||◌, List, length, refl, ap, arith, add_assoc, lit<, if◌then◌else◌}
-use Rattle.std.specs.Prelude.{◌==◌}
+use Rattle.std.proofs.Common.{◌≡◌, ℕ, ◌+◌, ◌*◌, ◌/◌, ◌<◌, ◌≤◌, Bool, not, ◌&&◌, ◌||◌, List, length, refl, ap, arith, add_assoc, lit<, if◌then◌else◌}
+use Rattle.std.specs.Prelude.{nat_lt, ◌==◌}
 use Rattle.chip_model.specs.Memory.{byte}
 use Rattle.erase_journal.specs.Places.{how_many, Spoiled, Changed}
 use Rattle.erase_journal.specs.declared.scan.VoteCounts.{VoteCounts}
-use Rattle.erase_journal.specs.Journals.{votes_at, entry_byte, entry_block, is_free_entry, is_open_entry, free_entries, open_entries, entries_for}
+use Rattle.erase_journal.specs.Journals.{votes_at, entry_byte, entry_block, is_free_entry, is_open_entry, free_entries, open_blocks, entries_for}
 use Rattle.erase_journal.proofs.Counts.{how_many-same, how_many-change}
 
 -- the bytes from a place on are as they were
@@ -64,20 +64,30 @@ vote-closed place i m m' low h =
 -- the entries are as they were
 pub record SameEntries (m m' : List ℕ) : Type 0 where
   pub free : free_entries m' ≡ free_entries m
-  pub opened : open_entries m' ≡ open_entries m
+  pub opened : open_blocks m' ≡ open_blocks m
   pub named : (b : ℕ) → entries_for m' b ≡ entries_for m b
 
 pub entry-kept : (m m' : List ℕ) → BytesKept 6144 2048 m m' → (i j : ℕ) → i < 512 → j < 4 → entry_byte m' i j ≡ entry_byte m i j
 entry-kept m m' h i j low small = rw (add_assoc 6144 (4 * i) j) (h.bytes (4 * i + j) (omega arith))
 
+named-kept : (m m' : List ℕ) → BytesKept 6144 2048 m m' → length m' ≡ length m → (b : ℕ) → entries_for m' b ≡ entries_for m b
+unfolding entries_for
+named-kept m m' h same b =
+    let e = entry-kept m m' h in
+    how_many-same (λ i. is_open_entry m' i && entry_block m' i == b) (λ i. is_open_entry m i && entry_block m i == b) 512 (λ i low. rw (e i 0 low (lit< tt), e i 1 low (lit< tt), e i 2 low (lit< tt), e i 3 low (lit< tt), same) refl)
+
+pub blocks-named : (m m' : List ℕ) → length m' ≡ length m → ((b : ℕ) → entries_for m' b ≡ entries_for m b) → open_blocks m' ≡ open_blocks m
+unfolding open_blocks
+blocks-named m m' same named = rw same (how_many-same (λ b. nat_lt 0 (entries_for m' b)) (λ b. nat_lt 0 (entries_for m b)) (length m / 4096) (λ b low. rw (named b) refl))
+
 pub entries-kept : (m m' : List ℕ) → BytesKept 6144 2048 m m' → length m' ≡ length m → SameEntries m m'
-unfolding free_entries open_entries entries_for
+unfolding free_entries
 entries-kept m m' h same =
     let e = entry-kept m m' h in
     record {
       free = how_many-same (is_free_entry m') (is_free_entry m) 512 (λ i low. rw (e i 0 low (lit< tt), e i 1 low (lit< tt), e i 2 low (lit< tt), e i 3 low (lit< tt)) refl);
-      opened = how_many-same (is_open_entry m') (is_open_entry m) 512 (λ i low. rw (e i 0 low (lit< tt), e i 1 low (lit< tt), e i 2 low (lit< tt), e i 3 low (lit< tt), same) refl);
-      named = λ b. how_many-same (λ i. is_open_entry m' i && entry_block m' i == b) (λ i. is_open_entry m i && entry_block m i == b) 512 (λ i low. rw (e i 0 low (lit< tt), e i 1 low (lit< tt), e i 2 low (lit< tt), e i 3 low (lit< tt), same) refl);
+      opened = blocks-named m m' same (named-kept m m' h same);
+      named = named-kept m m' h same;
     }
 
 pub changed-spoiled : (at old new : ℕ) (m m' : List ℕ) → Changed at old new m m' → Spoiled at 1 m m'

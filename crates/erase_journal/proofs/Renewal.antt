@@ -10,10 +10,11 @@ use Rattle.erase_journal.specs.declared.phase.ErasePhase.{ErasePhase}
 use Rattle.erase_journal.specs.declared.phase.ErasePhase.TheVariants.{Idle, Asked, Doomed, Closing}
 use Rattle.erase_journal.specs.Places.{Spoiled, Changed}
 use Rattle.erase_journal.specs.Votes.{once_erased}
-use Rattle.erase_journal.specs.Journals.{votes_at, unused, free_entries, open_entries, is_free_entry, is_open_entry, entry_byte, AreJournalsSound, IsHealthy}
+use Rattle.erase_journal.specs.Journals.{votes_at, unused, free_entries, open_blocks, is_free_entry, entry_byte, AreJournalsSound, IsHealthy}
 use Rattle.erase_journal.specs.Blocks.{SameChip, SameBlocks}
 use Rattle.erase_journal.specs.Steps.{OneChanged, PerhapsChanged, not_begun, done, KeepsBlocks, IsStep, IsNext, MayErase}
 use Rattle.erase_journal.proofs.Counts.{how_many-all, how_many-each_fails}
+use Rattle.erase_journal.proofs.Opened.{none-blocks}
 use Rattle.erase_journal.proofs.Regions.{changed-spoiled, entries-below, entries-above}
 use Rattle.erase_journal.proofs.Steps.{IsBlank, asks, dooms, spoils, closes_first, closes_second}
 use Rattle.erase_journal.proofs.Blocks.{IsPlain, plain-none, plain-kept, asked-plain, doomed-plain, closing-plain}
@@ -127,9 +128,8 @@ blank-free : (m : List ℕ) → ((k : ℕ) → k < 4096 → byte m (4096 + k) �
 unfolding free_entries
 blank-free m h = how_many-all (is_free_entry m) 512 (λ i low. rw (blank-entry m h i 0 low (lit< tt), blank-entry m h i 1 low (lit< tt), blank-entry m h i 2 low (lit< tt), blank-entry m h i 3 low (lit< tt)) refl)
 
-blank-open : (m : List ℕ) → ((k : ℕ) → k < 4096 → byte m (4096 + k) ≡ 255) → open_entries m ≡ 0
-unfolding open_entries
-blank-open m h = how_many-each_fails (is_open_entry m) 512 (λ i low. rw (blank-entry m h i 0 low (lit< tt)) refl)
+blank-open : (m : List ℕ) → ((k : ℕ) → k < 4096 → byte m (4096 + k) ≡ 255) → open_blocks m ≡ 0
+blank-open m h = none-blocks m (λ i low. rw (blank-entry m h i 0 low (lit< tt)) refl)
 
 apart-places : (a b k : ℕ) (m : List ℕ) → byte m (a + (b + k)) ≡ 255 → byte m (a + b + k) ≡ 255
 apart-places a b k m h = rw (add_assoc a b k) h
@@ -172,13 +172,13 @@ first-close-cut x m m' h b (not_begun e) = rw e (record { healthy = (Doomed x, h
 first-close-cut x m m' h b (done c) = let s = first-closed x m m' h b c in record { healthy = (Closing x, s.0.sound); blocks = s.1 }
 
 -- The second.
-closed-none : (x : JournalId) (i : ℕ) (m m' : List ℕ) → AreJournalsSound (Closing x) m → i < 1024 → Changed (second_at x + i) 254 252 m m' → open_entries m' ≡ 0
+closed-none : (x : JournalId) (i : ℕ) (m m' : List ℕ) → AreJournalsSound (Closing x) m → i < 1024 → Changed (second_at x + i) 254 252 m m' → open_blocks m' ≡ 0
 closed-none J0 i m m' h low change = let p = h.phase in let e = entries-below (12288 + i) 1 m m' (changed-spoiled (12288 + i) 254 252 m m' change) (omega arith) in omega arith
 closed-none J1 i m m' h low change = let p = h.phase in let e = entries-above (4096 + i) 1 m m' (changed-spoiled (4096 + i) 254 252 m m' change) (omega arith) in omega arith
 closed-none J2 i m m' h low change = let p = h.phase in let e = entries-below (8192 + i) 1 m m' (changed-spoiled (8192 + i) 254 252 m m' change) (omega arith) in omega arith
 
 pub second-closed : (x : JournalId) (m m' : List ℕ) → AreJournalsSound (Closing x) m → OneChanged (second_at x) 254 252 m m'
-    → IsNext (Closing x) m Idle m' × SameBlocks m m' × (open_entries m' ≡ 0)
+    → IsNext (Closing x) m Idle m' × SameBlocks m m' × (open_blocks m' ≡ 0)
 second-closed x m m' h c =
     let s = closes_second x c.at m m' h c.within c.change in
     let none = closed-none x c.at m m' h c.within c.change in

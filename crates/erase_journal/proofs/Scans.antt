@@ -1,14 +1,16 @@
 -- Laws of the counts that a scan makes.
-use Rattle.std.proofs.Common.{◌≡◌, ◌≢◌, ℕ, ◌+◌, ◌<◌, true, false, not, ◌||◌, List, length, get_or, get_or-take, get_or-drop, Option, Some, None, ◌-◌, ◌*◌, ◌/◌, refl, sym, ap, ◌∙◌, arith, add-one, if◌then◌else◌}
-use Rattle.std.specs.Prelude.{◌==◌, MatchOption, slice_range}
+use Rattle.std.proofs.Common.{◌≡◌, ◌≢◌, ℕ, ◌+◌, ◌<◌, true, false, not, ◌||◌, ◌&&◌, List, length, get_or, get_or-take, get_or-drop, Option, Some, None, ◌-◌, ◌*◌, ◌/◌, refl, sym, ap, ◌∙◌, arith, inl, inr, add-one, if◌then◌else◌}
+use Rattle.std.specs.Prelude.{◌==◌, nat_lt, MatchOption, slice_range}
+use Rattle.std.proofs.lemmas.Bool.{cases_eq}
 use Rattle.chip_model.specs.Memory.{byte}
 use Rattle.nor_layout.specs.Entries.{block_in, is_open}
-use Rattle.erase_journal.specs.Journals.{votes_at, free_entries, open_entries, is_free_entry, is_open_entry, entry_bytes, entry_block}
+use Rattle.erase_journal.specs.Journals.{votes_at, free_entries, open_blocks, entries_for, is_free_entry, is_open_entry, entry_bytes, entry_block}
 use Rattle.erase_journal.specs.declared.scan.VoteCounts.{VoteCounts}
 use Rattle.erase_journal.specs.declared.scan.OpenEntry.{OpenEntry}
 use Rattle.std.proofs.lemmas.Bool.Decides.{nat_tests}
-use Rattle.erase_journal.specs.Scans.{count_equal, count_wrong, count_at, IsFound, free_in, is_free_in, IsFreeAnswer, entry_in, open_in, is_open_in, IsOpenAnswer}
-use Rattle.erase_journal.proofs.Counts.{how_many-zero, how_many-suc, how_many-same, how_many-none}
+use Rattle.erase_journal.specs.Scans.{count_equal, count_wrong, count_at, IsFound, free_in, is_free_in, IsFreeAnswer, entry_in, open_in, is_open_in, named_in, open_blocks_in, IsOpenAnswer}
+use Rattle.erase_journal.proofs.Counts.{how_many-zero, how_many-suc, how_many-same, how_many-none, how_many-some, how_many-change, how_many-each_fails}
+use Rattle.erase_journal.proofs.Opened.{none-blocks}
 
 pub count_equal-zero : (xs : List ℕ) (value : ℕ) → count_equal xs value 0 ≡ 0
 unfolding count_equal
@@ -42,7 +44,48 @@ pub open_in-next : (xs : List ℕ) (blocks n : ℕ) → open_in xs blocks (n + 1
 unfolding open_in
 open_in-next xs blocks n = rw add-one (how_many-suc (is_open_in xs blocks) n)
 
-pub ruleset scan_steps = (nat_tests, free_in-zero, free_in-next, open_in-zero, open_in-next, count_equal-zero, count_equal-next, count_wrong-zero, count_wrong-next)
+pub named_in-zero : (xs : List ℕ) (blocks b : ℕ) → named_in xs blocks 0 b ≡ 0
+unfolding named_in
+named_in-zero xs blocks b = how_many-zero (λ i. is_open_in xs blocks i && block_in (entry_in xs i) == b)
+
+pub named_in-next : (xs : List ℕ) (blocks n b : ℕ) → named_in xs blocks (n + 1) b ≡ (if is_open_in xs blocks n && block_in (entry_in xs n) == b then 1 else 0) + named_in xs blocks n b
+unfolding named_in
+named_in-next xs blocks n b = rw add-one (how_many-suc (λ i. is_open_in xs blocks i && block_in (entry_in xs i) == b) n)
+
+pub named-found : (xs : List ℕ) (blocks n k b : ℕ) → k < n → is_open_in xs blocks k ≡ true → block_in (entry_in xs k) ≡ b → 0 < named_in xs blocks n b
+unfolding named_in
+named-found xs blocks n k b low opened names = how_many-some (λ i. is_open_in xs blocks i && block_in (entry_in xs i) == b) n k low (grind (arith, nat_tests))
+
+pub open_blocks_in-zero : (xs : List ℕ) (blocks : ℕ) → open_blocks_in xs blocks 0 ≡ 0
+unfolding open_blocks_in
+open_blocks_in-zero xs blocks = how_many-each_fails (λ b. nat_lt 0 (named_in xs blocks 0 b)) blocks (λ b low. rw (named_in-zero xs blocks b) refl)
+
+-- an entry that isn't open, one for a block that had one, and the first for a block
+pub open_blocks_in-skip : (xs : List ℕ) (blocks n : ℕ) → is_open_in xs blocks n ≡ false → open_blocks_in xs blocks (n + 1) ≡ open_blocks_in xs blocks n
+unfolding open_blocks_in
+open_blocks_in-skip xs blocks n closed = how_many-same (λ b. nat_lt 0 (named_in xs blocks (n + 1) b)) (λ b. nat_lt 0 (named_in xs blocks n b)) blocks
+    (λ b low. let e = rw closed at (named_in-next xs blocks n b) in grind (arith, nat_tests))
+
+pub open_blocks_in-old : (xs : List ℕ) (blocks n : ℕ) → is_open_in xs blocks n ≡ true → 0 < named_in xs blocks n (block_in (entry_in xs n)) → open_blocks_in xs blocks (n + 1) ≡ open_blocks_in xs blocks n
+unfolding open_blocks_in
+open_blocks_in-old xs blocks n opened named = how_many-same (λ b. nat_lt 0 (named_in xs blocks (n + 1) b)) (λ b. nat_lt 0 (named_in xs blocks n b)) blocks
+    (λ b low. let e = rw opened at (named_in-next xs blocks n b) in elim (cases_eq b (block_in (entry_in xs n))) [
+      | inl same ↦ (let more = rw (sym same) at named in grind (arith, nat_tests))
+      | inr other ↦ grind (arith, nat_tests)
+    ])
+
+open-within : (xs : List ℕ) (blocks n : ℕ) → is_open_in xs blocks n ≡ true → block_in (entry_in xs n) < blocks
+open-within xs blocks n opened = grind (arith, nat_tests)
+
+pub open_blocks_in-new : (xs : List ℕ) (blocks n : ℕ) → is_open_in xs blocks n ≡ true → named_in xs blocks n (block_in (entry_in xs n)) ≡ 0 → open_blocks_in xs blocks (n + 1) ≡ open_blocks_in xs blocks n + 1
+unfolding open_blocks_in
+open_blocks_in-new xs blocks n opened fresh =
+    let c = how_many-change (λ b. nat_lt 0 (named_in xs blocks n b)) (λ b. nat_lt 0 (named_in xs blocks (n + 1) b)) blocks (block_in (entry_in xs n)) (open-within xs blocks n opened)
+    (λ b low other. let e = rw opened at (named_in-next xs blocks n b) in grind (arith, nat_tests)) in
+    let e = rw opened at (named_in-next xs blocks n (block_in (entry_in xs n))) in
+    grind (arith, nat_tests)
+
+pub ruleset scan_steps = (nat_tests, named_in-zero, named_in-next, free_in-zero, free_in-next, open_in-zero, open_in-next, count_equal-zero, count_equal-next, count_wrong-zero, count_wrong-next)
 
 -- A buffer that holds a region.
 region-byte : (m : List ℕ) (region k : ℕ) → k < 1024 → byte (slice_range m region (region + 1024)) k ≡ byte m (region + k)
@@ -119,17 +162,27 @@ buffer-entry m i low =
 buffer-block : (m : List ℕ) (i : ℕ) → i < 512 → block_in (entry_in (slice_range m 6144 8192) i) ≡ entry_block m i
 buffer-block m i low = ap (λ b. block_in b) (buffer-entry m i low)
 
-buffer-open : (m : List ℕ) (i : ℕ) → i < 512 → is_open_in (slice_range m 6144 8192) (length m / 4096) i ≡ is_open_entry m i
+pub buffer-open : (m : List ℕ) (i : ℕ) → i < 512 → is_open_in (slice_range m 6144 8192) (length m / 4096) i ≡ is_open_entry m i
 buffer-open m i low = ap (λ b. is_open (length m / 4096) b) (buffer-entry m i low)
 
-open-count : (m : List ℕ) → open_in (slice_range m 6144 8192) (length m / 4096) 512 ≡ open_entries m
-unfolding open_in open_entries
-open-count m = how_many-same (is_open_in (slice_range m 6144 8192) (length m / 4096)) (is_open_entry m) 512 (λ i low. buffer-open m i low)
+-- none is open in the buffer, and so none in the memory
+open-none : (m : List ℕ) → open_in (slice_range m 6144 8192) (length m / 4096) 512 ≡ 0 → open_blocks m ≡ 0
+unfolding open_in
+open-none m none = none-blocks m (λ k low. sym (buffer-open m k low) ∙ how_many-none (is_open_in (slice_range m 6144 8192) (length m / 4096)) 512 none k low)
+
+named-count : (m : List ℕ) (b : ℕ) → named_in (slice_range m 6144 8192) (length m / 4096) 512 b ≡ entries_for m b
+unfolding named_in entries_for
+named-count m b = how_many-same (λ i. is_open_in (slice_range m 6144 8192) (length m / 4096) i && block_in (entry_in (slice_range m 6144 8192) i) == b) (λ i. is_open_entry m i && entry_block m i == b) 512
+    (λ i low. let o = buffer-open m i low in let b = buffer-block m i low in rw (o, b) refl)
+
+open-count : (m : List ℕ) → open_blocks_in (slice_range m 6144 8192) (length m / 4096) 512 ≡ open_blocks m
+unfolding open_blocks_in open_blocks
+open-count m = how_many-same (λ b. nat_lt 0 (named_in (slice_range m 6144 8192) (length m / 4096) 512 b)) (λ b. nat_lt 0 (entries_for m b)) (length m / 4096) (λ b low. rw (named-count m b) refl)
 
 pub open-found : (m bytes : List ℕ) (blocks : ℕ) (found : Option OpenEntry) → bytes ≡ slice_range m 6144 8192 → blocks ≡ length m / 4096
     → MatchOption found (open_in bytes blocks 512 ≡ 0) (λ o. (o.entry < 512) × (is_open_in bytes blocks o.entry ≡ true) × (block_in (entry_in bytes o.entry) ≡ o.block))
     → IsOpenAnswer m found
-open-found m bytes blocks None same count h = sym (open-count m) ∙ (rw (same, count) at h)
+open-found m bytes blocks None same count h = open-none m (rw (same, count) at h)
 open-found m bytes blocks (Some o) same count h =
     (h.0, sym (buffer-open m o.entry h.0) ∙ (rw (same, count) at h.1), sym (buffer-block m o.entry h.0) ∙ (rw same at h.2))
 
@@ -156,5 +209,5 @@ votes-counted m bytes region c same size e f g = counts-same c (votes_at m regio
 pub free-counted : (m bytes : List ℕ) (n : ℕ) → bytes ≡ slice_range m 6144 8192 → n ≡ free_in bytes 512 → n ≡ free_entries m
 free-counted m bytes n same e = (rw same at e) ∙ buffer-count m
 
-pub open-counted : (m bytes : List ℕ) (blocks n : ℕ) → bytes ≡ slice_range m 6144 8192 → blocks ≡ length m / 4096 → n ≡ open_in bytes blocks 512 → n ≡ open_entries m
+pub open-counted : (m bytes : List ℕ) (blocks n : ℕ) → bytes ≡ slice_range m 6144 8192 → blocks ≡ length m / 4096 → n ≡ open_blocks_in bytes blocks 512 → n ≡ open_blocks m
 open-counted m bytes blocks n same count e = (rw (same, count) at e) ∙ open-count m

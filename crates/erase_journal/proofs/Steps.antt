@@ -9,10 +9,10 @@ use Rattle.erase_journal.specs.declared.unused.Unused.{Unused}
 use Rattle.erase_journal.specs.declared.phase.ErasePhase.{ErasePhase}
 use Rattle.erase_journal.specs.declared.phase.ErasePhase.TheVariants.{Idle, Asked, Doomed, Closing}
 use Rattle.erase_journal.specs.Votes.{once_erased}
-use Rattle.erase_journal.specs.Journals.{tally_of, first, second, unused, free_entries, open_entries, HoldsVotes, settled, AreJournalsSound}
+use Rattle.erase_journal.specs.Journals.{tally_of, first, second, unused, free_entries, open_blocks, HoldsVotes, settled, AreJournalsSound}
 use Rattle.erase_journal.specs.Steps.{SameNumbers, IsStep, IsNext, MayErase}
 use Rattle.erase_journal.proofs.Regions.{vote-opened, vote-closed, changed-spoiled, votes-below, votes-above, entries-below, entries-above}
-use Rattle.erase_journal.proofs.Lasting.{Last-erased, Last-moved}
+use Rattle.erase_journal.proofs.Lasting.{Last-moved}
 
 -- journal x holds no vote, and J0 no entry
 pub record IsBlank (x : JournalId) (m : List ℕ) : Type 0 where
@@ -20,7 +20,7 @@ pub record IsBlank (x : JournalId) (m : List ℕ) : Type 0 where
   pub second : ((second (tally_of m) (next x)).unused ≡ 1024) × HoldsVotes (second (tally_of m) (next x)) 0
   pub first : ((first (tally_of m) (next (next x))).unused ≡ 1024) × HoldsVotes (first (tally_of m) (next (next x))) 0
   pub free : x ≡ J0 → free_entries m ≡ 512
-  pub none : x ≡ J0 → open_entries m ≡ 0
+  pub none : x ≡ J0 → open_blocks m ≡ 0
 
 pub steps-on : (u : Unused) (p p' : ErasePhase) (m m' : List ℕ) → IsStep u p m → IsNext p m p' m' → IsStep u p' m'
 steps-on u p p' m m' a b = record {
@@ -49,7 +49,7 @@ ask0 i m m' h low change =
     let f2 = votes-below 5120 (9216 + i) 1 m m' s (omega arith) in
     let s2 = votes-below 8192 (9216 + i) 1 m m' s (omega arith) in
     let e = entries-below (9216 + i) 1 m m' s (omega arith) in
-    let l = Last-erased J0 (unused m) h.settled.sound.lasts h.tired in
+    let l = h.lasts in
     let p = h.settled.sound.phase in
     let numbers : SameNumbers (once_erased J0 (unused m)) (settled (Asked J0) (unused m')) = record { n01 = refl; n02 = refl; n10 = (omega arith); n12 = (unused-same s2); n20 = (ap (λ n. n - 1) (unused-same s0)); n21 = (unused-same f1); free = refl } in
     record { sound = record { phase = simp (s0, f1, s1, f2, s2) ((omega arith, omega arith), p.0.1, p.1, p.2, omega arith); lasts = Last-moved (once_erased J0 (unused m)) (settled (Asked J0) (unused m')) numbers l }; numbers = numbers }
@@ -116,7 +116,7 @@ ask1 i m m' h low change =
     let f2 = votes-below 5120 (13312 + i) 1 m m' s (omega arith) in
     let s2 = votes-below 8192 (13312 + i) 1 m m' s (omega arith) in
     let e = entries-below (13312 + i) 1 m m' s (omega arith) in
-    let l = Last-erased J1 (unused m) h.settled.sound.lasts h.tired in
+    let l = h.lasts in
     let p = h.settled.sound.phase in
     let numbers : SameNumbers (once_erased J1 (unused m)) (settled (Asked J1) (unused m')) = record { n01 = (ap (λ n. n - 1) (unused-same s1)); n02 = (unused-same f2); n10 = refl; n12 = refl; n20 = (unused-same s0); n21 = (omega arith); free = e.free } in
     record { sound = record { phase = simp (f0, s0, s1, f2, s2) ((omega arith, omega arith), p.1.1, p.2, p.0, omega arith); lasts = Last-moved (once_erased J1 (unused m)) (settled (Asked J1) (unused m')) numbers l }; numbers = numbers }
@@ -184,7 +184,7 @@ ask2 i m m' h low change =
     let s1 = votes-below 4096 (5120 + i) 1 m m' s (omega arith) in
     let s2 = votes-above 8192 (5120 + i) 1 m m' s (omega arith) in
     let e = entries-above (5120 + i) 1 m m' s (omega arith) in
-    let l = Last-erased J2 (unused m) h.settled.sound.lasts h.tired in
+    let l = h.lasts in
     let p = h.settled.sound.phase in
     let numbers : SameNumbers (once_erased J2 (unused m)) (settled (Asked J2) (unused m')) = record { n01 = (unused-same s1); n02 = (omega arith); n10 = (unused-same f0); n12 = (ap (λ n. n - 1) (unused-same s2)); n20 = refl; n21 = refl; free = e.free } in
     record { sound = record { phase = simp (f0, s0, f1, s1, s2) ((omega arith, omega arith), p.2.1, p.0, p.1, omega arith); lasts = Last-moved (once_erased J2 (unused m)) (settled (Asked J2) (unused m')) numbers l }; numbers = numbers }

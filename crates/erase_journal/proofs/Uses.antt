@@ -85,7 +85,7 @@ entries-keep m m' v each = record {
 }
 
 -- it was in use
-entry-stays : (i : ℕ) (m m' : List ℕ) → i < 512 → Spoiled (6144 + 4 * i) 4 m m' → entry_byte m i 0 ≢ 255 → entry_byte m' i 0 ≢ 255 → KeepsUse m m'
+pub entry-stays : (i : ℕ) (m m' : List ℕ) → i < 512 → Spoiled (6144 + 4 * i) 4 m m' → entry_byte m i 0 ≢ 255 → entry_byte m' i 0 ≢ 255 → KeepsUse m m'
 entry-stays i m m' low s was state =
     let before = not-free m i was in
     let after = not-free m' i state in

@@ -37,7 +37,7 @@ pub record TallyHasNoFault (s : JournalTally) : Type 0 where
       → ((second s x).wrong ≡ 0) × ((second s x).opened ≤ 1)
   -- their open votes name one journal
   pub one_named : (x : JournalId) → HasVote s x → HasVote s (next x) → ⊥
-  -- a believed J0 has one open entry at most, and none beside an open vote
+  -- the open entries of a believed J0 name one block, and there is none beside an open vote
   pub one_entry : IsBelieved s J0 → s.opened ≤ 1
   pub entry_alone : (x : JournalId) → IsBelieved s J0 → 1 ≤ s.opened → HasVote s x → ⊥
   -- the votes last, once the erase that goes on is done

@@ -1,6 +1,7 @@
 -- The three journals in a memory: their votes and entries, the phases of an erase of a journal, and
 -- what a healthy memory is. Source: own.
 use Rattle.std.specs.Prelude.{◌≡◌, ℕ, ◌+◌, ◌≤◌, Bool, not, List, [], ◌∷◌, length, ◌==◌, ◌&&◌, ◌||◌}
+use Rattle.std.specs.Prelude.{nat_lt}
 use Rattle.chip_model.specs.Memory.{byte}
 use Rattle.chip_model.specs.Geometry.{block_count}
 use Rattle.nor_layout.specs.declared.journal.JournalId.{JournalId}
@@ -49,12 +50,13 @@ is_open_entry m i = is_open (block_count (length m)) (entry_bytes m i)
 unfoldable pub free_entries : List ℕ → ℕ
 free_entries m = how_many (is_free_entry m) entry_count
 
-unfoldable pub open_entries : List ℕ → ℕ
-open_entries m = how_many (is_open_entry m) entry_count
-
 -- the open entries for block b
 unfoldable pub entries_for : List ℕ → ℕ → ℕ
 entries_for m b = how_many (λ i. is_open_entry m i && entry_block m i == b) entry_count
+
+-- how many blocks have an open entry
+unfoldable pub open_blocks : List ℕ → ℕ
+open_blocks m = how_many (λ b. nat_lt 0 (entries_for m b)) (block_count (length m))
 
 -- all numbers of the journals of a memory
 abbrev pub tally_of : List ℕ → JournalTally
@@ -66,7 +68,7 @@ tally_of m = record {
   j2_for_0 = votes_at m (second_at J0);
   j2_for_1 = votes_at m (first_at J1);
   free = free_entries m;
-  opened = open_entries m;
+  opened = open_blocks m;
 }
 
 -- the votes for the erase of x: those of the next journal, and those of the one after it
@@ -103,9 +105,9 @@ HoldsVotes v n = (v.opened ≡ n) × (v.wrong ≡ 0)
 abbrev pub HasNoOpenVote : JournalTally → JournalId → Type 0
 HasNoOpenVote s x = HoldsVotes (first s x) 0 × HoldsVotes (second s x) 0
 
--- The journals that are believed hold nothing but what the phase says. A journal is believed unless
--- both others hold an open vote for its erase; of the votes and entries of a doomed one nothing is
--- said.
+-- The journals that are believed hold nothing but what the phase says: in `Idle` one block at most
+-- has open entries. A journal is believed unless both others hold an open vote for its erase; of
+-- the votes and entries of a doomed one nothing is said.
 abbrev pub IsInPhase : ErasePhase → JournalTally → Type 0
 IsInPhase Idle s = HasNoOpenVote s J0 × HasNoOpenVote s J1 × HasNoOpenVote s J2 × (s.opened ≤ 1)
 IsInPhase (Asked x) s = HoldsVotes (first s x) 1 × HoldsVotes (second s x) 0
@@ -142,4 +144,4 @@ IsHealthy m = (p : ErasePhase) × AreJournalsSound p m
 -- No erase goes on, neither of a journal nor of a data block.
 pub record IsSettled (m : List ℕ) : Type 0 where
   pub sound : AreJournalsSound Idle m
-  pub none : open_entries m ≡ 0
+  pub none : open_blocks m ≡ 0

@@ -1,11 +1,12 @@
 -- What follows from the definitions, for the crates above and for a reader. Source: own.
-use Rattle.std.specs.Prelude.{◌≡◌, ℕ, ◌<◌, ◌≤◌, List, length}
+use Rattle.std.specs.Prelude.{◌≡◌, ◌↔◌, ℕ, ◌<◌, ◌≤◌, true, List, length}
 use Rattle.chip_model.specs.Geometry.{IsChipSize, block_count}
 use Rattle.nor_layout.specs.declared.journal.JournalId.{JournalId}
 use Rattle.nor_layout.specs.Journals.{block_len}
 use Rattle.erase_journal.specs.declared.unused.Unused.{Unused}
 use Rattle.erase_journal.specs.Votes.{Last, IsLowestTired, once_erased}
-use Rattle.erase_journal.specs.Journals.{IsSettled}
+use Rattle.nor_layout.specs.Entries.{entry_count}
+use Rattle.erase_journal.specs.Journals.{IsSettled, entry_block, is_open_entry, open_blocks}
 use Rattle.erase_journal.specs.Blocks.{block, blank, blocks_of, IsErasedBehind, SameBlocks}
 
 -- all blocks have one length
@@ -22,6 +23,12 @@ SameBlocksMakeOneList = (m m' : List ℕ) → SameBlocks m m' → blocks_of m' �
 abbrev pub MaintenanceKeepsVotes : Type 0
 MaintenanceKeepsVotes = (x : JournalId) (u : Unused) → Last u → IsLowestTired x u
     → Last (once_erased x u)
+
+-- one block at most has open entries exactly where any two of these name the same block
+abbrev pub OneBlockIsOpen : Type 0
+OneBlockIsOpen = (m : List ℕ) → (open_blocks m ≤ 1) ↔ ((i k : ℕ) → i < entry_count
+    → k < entry_count → is_open_entry m i ≡ true → is_open_entry m k ≡ true
+    → entry_block m i ≡ entry_block m k)
 
 -- a chip that is erased behind its superblock is a settled journal's, and each of its data blocks
 -- is erased

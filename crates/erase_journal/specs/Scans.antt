@@ -1,12 +1,12 @@
 -- What a scan of a buffer counts and finds. Source: own.
 use Rattle.std.specs.Prelude.{◌≡◌, ◌≢◌, ℕ, ◌+◌, ◌*◌, ◌<◌, Bool, true, false, not, List, [], ◌∷◌}
-use Rattle.std.specs.Prelude.{Option, MatchOption, ◌==◌, ◌||◌, ◌&&◌}
+use Rattle.std.specs.Prelude.{Option, MatchOption, ◌==◌, ◌||◌, ◌&&◌, nat_lt}
 use Rattle.chip_model.specs.Memory.{byte}
 use Rattle.nor_layout.specs.Journals.{region_len}
-use Rattle.nor_layout.specs.Entries.{entry_count, is_open}
+use Rattle.nor_layout.specs.Entries.{entry_count, block_in, is_open}
 use Rattle.erase_journal.specs.declared.scan.OpenEntry.{OpenEntry}
 use Rattle.erase_journal.specs.Places.{how_many}
-use Rattle.erase_journal.specs.Journals.{free_entries, open_entries, is_free_entry, is_open_entry}
+use Rattle.erase_journal.specs.Journals.{free_entries, open_blocks, is_free_entry, is_open_entry}
 use Rattle.erase_journal.specs.Journals.{entry_block}
 
 -- how many of the first n bytes of a list are this one, and how many are no vote
@@ -46,6 +46,15 @@ is_open_in bytes blocks i = is_open blocks (entry_in bytes i)
 unfoldable pub open_in : List ℕ → ℕ → ℕ → ℕ
 open_in bytes blocks n = how_many (is_open_in bytes blocks) n
 
+-- how many of the first n are open for block b
+unfoldable pub named_in : List ℕ → ℕ → ℕ → ℕ → ℕ
+named_in bytes blocks n b =
+    how_many (λ i. is_open_in bytes blocks i && block_in (entry_in bytes i) == b) n
+
+-- how many blocks have an open entry among them
+unfoldable pub open_blocks_in : List ℕ → ℕ → ℕ → ℕ
+open_blocks_in bytes blocks n = how_many (λ b. nat_lt 0 (named_in bytes blocks n b)) blocks
+
 -- the lowest free entry, or there is none
 abbrev pub IsFreeAnswer : List ℕ → Option ℕ → Type 0
 IsFreeAnswer m found = MatchOption found (free_entries m ≡ 0)
@@ -54,6 +63,6 @@ IsFreeAnswer m found = MatchOption found (free_entries m ≡ 0)
 
 -- an open entry and its block, or there is none
 abbrev pub IsOpenAnswer : List ℕ → Option OpenEntry → Type 0
-IsOpenAnswer m found = MatchOption found (open_entries m ≡ 0)
+IsOpenAnswer m found = MatchOption found (open_blocks m ≡ 0)
     (λ o. (o.entry < entry_count) × (is_open_entry m o.entry ≡ true)
     × (entry_block m o.entry ≡ o.block))

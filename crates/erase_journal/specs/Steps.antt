@@ -1,9 +1,10 @@
 -- What the functions of the journal leave. Source: own.
-use Rattle.std.specs.Prelude.{◌≡◌, ◌≢◌, ℕ, ◌+◌, ◌<◌, true, List, Result, MatchResult}
+use Rattle.std.specs.Prelude.{◌≡◌, ◌≢◌, ℕ, ◌+◌, ◌<◌, true, false, List, Result, MatchResult}
 use Rattle.chip_model.specs.Memory.{byte}
+use Rattle.chip_model.specs.Parts.{part}
 use Rattle.nor_layout.specs.declared.journal.JournalId.{JournalId}
 use Rattle.nor_layout.specs.declared.journal.JournalId.TheVariants.{J0, J1, J2}
-use Rattle.nor_layout.specs.Journals.{region_len}
+use Rattle.nor_layout.specs.Journals.{block_len, region_len}
 use Rattle.nor_layout.specs.Entries.{entry_count, entry_at}
 use Rattle.nor_driver.specs.State.{NorState, IsNorReady, OnlyMemoryChanges, Refuses}
 use Rattle.nor_driver.specs.declared.error.NorError.{NorError}
@@ -11,10 +12,10 @@ use Rattle.erase_journal.specs.declared.phase.ErasePhase.{ErasePhase}
 use Rattle.erase_journal.specs.declared.phase.ErasePhase.TheVariants.{Idle}
 use Rattle.erase_journal.specs.declared.unused.Unused.{Unused}
 use Rattle.erase_journal.specs.Places.{Changed, Spoiled}
-use Rattle.erase_journal.specs.Votes.{IsLowestTired, IsRested}
+use Rattle.erase_journal.specs.Votes.{IsRested, Last, once_erased}
 use Rattle.erase_journal.specs.Journals.{AreJournalsSound, IsHealthy, IsSettled, unused, settled}
 use Rattle.erase_journal.specs.Journals.{is_open_entry, entry_block, entry_byte}
-use Rattle.erase_journal.specs.Blocks.{SameBlocks, WithErased}
+use Rattle.erase_journal.specs.Blocks.{SameBlocks, WithErased, blank}
 
 -- m' is healthy and represents the blocks of m: what a loss of power leaves of a change of the
 -- journals
@@ -51,10 +52,10 @@ pub data PerhapsChanged (place old new : ℕ) (m m' : List ℕ) : Type 0 where
   not_begun : m' ≡ m → PerhapsChanged place old new m m'
   done : OneChanged place old new m m' → PerhapsChanged place old new m m'
 
--- maintenance may erase journal x: it is the lowest-numbered tired one, and no other erase goes on
+-- journal x may be erased: no other erase goes on, and the votes last when it is done
 pub record MayErase (x : JournalId) (m : List ℕ) : Type 0 where
   pub settled : IsSettled m
-  pub tired : IsLowestTired x (unused m)
+  pub lasts : Last (once_erased x (unused m))
 
 -- the seven numbers are the same
 pub record SameNumbers (u v : Unused) : Type 0 where
@@ -82,12 +83,18 @@ pub record IsRestful (m : List ℕ) : Type 0 where
   pub j1 : IsRested J1 (unused m)
   pub j2 : IsRested J2 (unused m)
 
--- entry i is open for block c, which so reads as erased
+-- entry i alone is open, for block c, which so reads as erased
 pub record IsOpened (i c : ℕ) (m : List ℕ) : Type 0 where
   pub sound : AreJournalsSound Idle m
   pub within : i < entry_count
   pub opened : is_open_entry m i ≡ true
   pub names : entry_block m i ≡ c
+  pub alone : (k : ℕ) → k < entry_count → k ≢ i → is_open_entry m k ≡ false
+
+-- each block that has an open entry is erased
+abbrev pub AreErased : List ℕ → Type 0
+AreErased m = (i : ℕ) → i < entry_count → is_open_entry m i ≡ true
+    → part block_len m (entry_block m i) ≡ blank
 
 -- what taking a free entry for block c leaves
 pub record IsTaken (i c : ℕ) (m m' : List ℕ) : Type 0 where

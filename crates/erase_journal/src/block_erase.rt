@@ -7,15 +7,15 @@ ghost use Rattle.chip_model.specs.Geometry.{block_count};
 ghost use Rattle.nor_driver.specs.State.{IsNorReady, OnlyMemoryChanges, Refuses, EndsReady};
 ghost use Rattle.erase_journal.specs.Journals.{IsHealthy, IsSettled, is_free_entry, unused};
 ghost use Rattle.erase_journal.specs.Blocks.{SameBlocks, WithErased};
-ghost use Rattle.erase_journal.specs.Scans.{IsFreeAnswer, IsOpenAnswer};
+ghost use Rattle.erase_journal.specs.Scans.{IsFreeAnswer};
 ghost use Rattle.erase_journal.specs.Steps.{IsRestful, IsTaken, IsOpened, EndsSettled, SameNumbers};
 ghost use Rattle.erase_journal.specs.Steps.{KeepsBlocks, EraseInterrupted};
-ghost use Rattle.erase_journal.specs.Spending.{IsUsed, KeepsUse, Spends, once_used};
+ghost use Rattle.erase_journal.specs.Spending.{IsUsed, KeepsUse, MayTake, Spends, once_used};
 ghost use Rattle.erase_journal.specs.Known.{IsKnown};
 
 use crate::known::{Known, once_used};
 use crate::maintain::rest;
-use crate::scan::{OpenEntry, lowest_free, lowest_open};
+use crate::scan::lowest_free;
 use nor_driver::{Nor, NorError};
 use nor_layout::{
     BLOCK_LEN, CLOSED_ENTRY, ENTRIES, ENTRIES_LEN, JOURNALS_END, OPEN_ENTRY, entry_place,
@@ -23,7 +23,7 @@ use nor_layout::{
 };
 
 /// The lowest free entry.
-fn find_free<N: Nor>(nor: &mut N) -> Result<Option<u16>, NorError>
+pub(crate) fn find_free<N: Nor>(nor: &mut N) -> Result<Option<u16>, NorError>
     requires { JOURNALS_END ≤ length (N.state nor.old).memory }
     ensures found { IfOk result (λ found. IsFreeAnswer (N.state nor.old).memory found) }
     ensures same { (N.state nor.new).memory ≡ (N.state nor.old).memory }
@@ -59,23 +59,10 @@ pub(crate) fn lowest_entry<N: Nor>(nor: &mut N, known: Known) -> Result<u16, Nor
     Ok(entry)
 }
 
-/// The lowest open entry.
-pub(crate) fn find_open<N: Nor>(nor: &mut N) -> Result<Option<OpenEntry>, NorError>
-    requires { JOURNALS_END ≤ length (N.state nor.old).memory }
-    ensures found { IfOk result (λ found. IsOpenAnswer (N.state nor.old).memory found) }
-    ensures same { (N.state nor.new).memory ≡ (N.state nor.old).memory }
-    ensures ends { EndsReady result (N.state nor.old) (N.state nor.new) }
-{
-    let blocks = (nor.bytes() / BLOCK_LEN) as u16;
-    let mut entries = [0; ENTRIES_LEN];
-    nor.read(entry_place(0), &mut entries)?;
-    Ok(lowest_open(&entries, blocks))
-}
-
 /// Takes a free entry for a block.
-fn take_entry<N: Nor>(nor: &mut N, entry: u16, block: u16) -> Result<(), NorError>
+pub(crate) fn take_entry<N: Nor>(nor: &mut N, entry: u16, block: u16) -> Result<(), NorError>
     requires size { JOURNALS_END ≤ length (N.state nor.old).memory }
-    requires restful { IsNorReady (N.state nor.old) → IsRestful (N.state nor.old).memory }
+    requires may { IsNorReady (N.state nor.old) → MayTake (N.state nor.old).memory }
     requires within { entry < ENTRIES }
     requires free { IsNorReady (N.state nor.old)
         → is_free_entry (N.state nor.old).memory entry ≡ true }

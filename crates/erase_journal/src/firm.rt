@@ -7,13 +7,13 @@ ghost use Rattle.nor_driver.specs.State.{IsNorReady, OnlyMemoryChanges, Refuses,
 ghost use Rattle.erase_journal.specs.Journals.{IsHealthy, IsSettled, unused};
 ghost use Rattle.erase_journal.specs.Blocks.{SameBlocks};
 ghost use Rattle.erase_journal.specs.Known.{IsKnown};
-ghost use Rattle.erase_journal.specs.Spending.{KeepsUse, Spends, once_used};
+ghost use Rattle.erase_journal.specs.Spending.{KeepsUse, SpendsFirmly, once_used};
 ghost use Rattle.erase_journal.specs.Steps.{IsRestful, KeepsBlocks, SameNumbers, EndsSettled};
 
 use crate::again::program_again;
 use crate::block_erase::lowest_entry;
 use crate::known::{Known, once_used};
-use crate::maintain::rest;
+use crate::maintain::{rest, spare};
 use crate::scan::{close_used, is_blank};
 use nor_driver::{Nor, NorError};
 use nor_layout::{ENTRY_LEN, JOURNALS_END, PAGE_LEN, SUPER_LEN, entry_place};
@@ -101,14 +101,15 @@ fn give_up_entry<N: Nor>(nor: &mut N, known: &mut Known) -> Result<(), NorError>
 }
 
 /// Makes journals firm in which no erase goes on: the superblock and the entries are programmed
-/// again, the tired journals are erased, and one entry is given up.
+/// again, the tired journals are erased, J0 also where it has few free entries, and one entry is
+/// given up.
 pub(crate) fn make_firm<N: Nor>(nor: &mut N, known: &mut Known) -> Result<(), NorError>
     requires size { JOURNALS_END ≤ length (N.state nor.old).memory }
     requires settled { IsNorReady (N.state nor.old) → IsSettled (N.state nor.old).memory }
     requires known { IsNorReady (N.state nor.old) → IsKnown known.old (N.state nor.old).memory }
     ensures blocks { OnOk result (SameBlocks (N.state nor.old).memory (N.state nor.new).memory) }
     ensures known { OnOk result (IsKnown known.new (N.state nor.new).memory) }
-    ensures spends { OnOk result (Spends (unused (N.state nor.old).memory)
+    ensures spends { OnOk result (SpendsFirmly (unused (N.state nor.old).memory)
         (unused (N.state nor.new).memory)) }
     ensures cut { IsErrOf result NorError.Cut → IsHealthy (N.state nor.old).memory
         → KeepsBlocks (N.state nor.old).memory (N.state nor.new).memory }
@@ -118,5 +119,6 @@ pub(crate) fn make_firm<N: Nor>(nor: &mut N, known: &mut Known) -> Result<(), No
     program_super_again(nor)?;
     close_entries(nor)?;
     rest(nor, known)?;
+    spare(nor, known)?;
     give_up_entry(nor, known)
 }

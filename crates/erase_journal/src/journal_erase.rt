@@ -4,7 +4,7 @@ ghost use Rattle.std.specs.Prelude.{◌≡◌, ◌≤◌, length, OnOk};
 ghost use Rattle.std.specs.Result.{IsErrOf};
 ghost use Rattle.nor_driver.specs.State.{EndsReady};
 ghost use Rattle.erase_journal.specs.Votes.{once_erased};
-ghost use Rattle.erase_journal.specs.Journals.{unused, open_entries, AreJournalsSound};
+ghost use Rattle.erase_journal.specs.Journals.{unused, open_blocks, AreJournalsSound};
 ghost use Rattle.erase_journal.specs.Blocks.{SameBlocks};
 ghost use Rattle.erase_journal.specs.Steps.{MayErase, IsStep, IsNext, KeepsBlocks};
 
@@ -38,7 +38,7 @@ pub(crate) fn renew<N: Nor>(nor: &mut N, journal: JournalId) -> Result<(), NorEr
     requires doomed { AreJournalsSound (ErasePhase.Doomed journal) (N.state nor.old).memory }
     ensures ok { OnOk result (IsNext (ErasePhase.Doomed journal) (N.state nor.old).memory
         ErasePhase.Idle (N.state nor.new).memory) }
-    ensures none { OnOk result (open_entries (N.state nor.new).memory ≡ 0) }
+    ensures none { OnOk result (open_blocks (N.state nor.new).memory ≡ 0) }
     ensures blocks { OnOk result (SameBlocks (N.state nor.old).memory (N.state nor.new).memory) }
     ensures cut { IsErrOf result NorError.Cut
         → KeepsBlocks (N.state nor.old).memory (N.state nor.new).memory }

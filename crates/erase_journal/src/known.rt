@@ -3,7 +3,7 @@
 ghost use Rattle.std.specs.Prelude.{◌≡◌, ◌+◌, ◌↔◌, IsTrue};
 ghost use Rattle.erase_journal.specs.Spending.{once_used};
 
-use crate::unused::Unused;
+use crate::unused::{Unused, once_taken};
 use nor_layout::ENTRIES;
 
 /// What is known of the votes and entries of a memory.
@@ -21,10 +21,7 @@ pub(crate) fn once_used(known: Known, entry: u16) -> Known
     ensures packed { IsTrue result.packed ↔ (entry + known.unused.free ≡ ENTRIES) }
 {
     Known {
-        unused: Unused {
-            free: known.unused.free.saturating_sub(1),
-            ..known.unused
-        },
+        unused: once_taken(known.unused),
         packed: entry as u32 + known.unused.free as u32 == ENTRIES as u32,
     }
 }

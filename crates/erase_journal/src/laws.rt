@@ -3,6 +3,7 @@
 ghost use Rattle.erase_journal.specs.Faults.{SoundTallyHasNoFault};
 ghost use Rattle.erase_journal.specs.Laws.{BlocksHaveOneSize, SameBlocksMakeOneList};
 ghost use Rattle.erase_journal.specs.Laws.{MaintenanceKeepsVotes, ErasedChipsAreSettled};
+ghost use Rattle.erase_journal.specs.Laws.{OneBlockIsOpen};
 
 /// The journals are sound in one of the phases of an erase exactly where none of the cases of
 /// corrupt journals holds of them.
@@ -24,6 +25,11 @@ pub fn same_blocks_make_one_list()
 /// the last vote of a region.
 pub fn maintenance_keeps_votes_that_last()
     ensures { MaintenanceKeepsVotes }
+{}
+
+/// At most one block has open entries exactly where any two open entries name the same block.
+pub fn open_entries_name_one_block()
+    ensures { OneBlockIsOpen }
 {}
 
 /// A chip that is erased but for its superblock is healthy, no erase goes on in it, and each of its

@@ -17,7 +17,7 @@
 //! Depends on `Nor` of `nor_driver` (read, program, erase, restart) and on the places of
 //! `nor_layout`. Left to the crate above: what the data blocks and the superblock hold, and when to
 //! restore. To read the crate: phase, scan, read, unused, tally, votes, journal_erase, maintain,
-//! known, block_erase, firmness, again, recovery, firm,
+//! known, block_erase, open_entries, firmness, again, recovery, firm,
 //! journal. Source: own. See docs/JOURNAL.md.
 
 #![tactic(auto)]
@@ -32,6 +32,7 @@ mod journal_erase;
 mod known;
 mod laws;
 mod maintain;
+mod open_entries;
 mod phase;
 mod read;
 mod recovery;
@@ -46,7 +47,7 @@ pub use firmness::Firmness;
 pub use journal::Journal;
 pub use laws::{
     blocks_have_one_size, erased_chips_are_settled, maintenance_keeps_votes_that_last,
-    same_blocks_make_one_list, sound_journals_have_no_fault,
+    open_entries_name_one_block, same_blocks_make_one_list, sound_journals_have_no_fault,
 };
 pub use read::read_tally;
 pub use scan::VoteCounts;

@@ -6,7 +6,7 @@ ghost use Rattle.nor_driver.specs.State.{IsNorReady, OnlyMemoryChanges, Refuses,
 ghost use Rattle.erase_journal.specs.Journals.{IsSettled, IsHealthy, unused};
 ghost use Rattle.erase_journal.specs.Blocks.{SameBlocks};
 ghost use Rattle.erase_journal.specs.Known.{IsKnown};
-ghost use Rattle.erase_journal.specs.Spending.{Maintains};
+ghost use Rattle.erase_journal.specs.Spending.{Maintains, Spares};
 ghost use Rattle.erase_journal.specs.Steps.{IsRestful, KeepsBlocks};
 
 use crate::journal_erase::{doom, renew};
@@ -14,7 +14,10 @@ use crate::known::Known;
 use crate::read::read_tally;
 use crate::unused::{Unused, lowest_tired};
 use nor_driver::{Nor, NorError};
-use nor_layout::JOURNALS_END;
+use nor_layout::{JOURNALS_END, JournalId};
+
+/// How many entries are to be free when a firm mount is done.
+const SPARE_ENTRIES: u16 = 16;
 
 /// Erases the lowest-numbered tired journal while there is one.
 fn maintain<N: Nor>(nor: &mut N) -> Result<Unused, NorError>
@@ -72,4 +75,36 @@ pub(crate) fn rest<N: Nor>(nor: &mut N, known: &mut Known) -> Result<(), NorErro
             Ok(())
         }
     }
+}
+
+/// Erases J0 where it is rested and has few free entries, and then maintains: each recovery that is
+/// cut may spend an entry, where torn bits may waver.
+pub(crate) fn spare<N: Nor>(nor: &mut N, known: &mut Known) -> Result<(), NorError>
+    requires size { JOURNALS_END ≤ length (N.state nor.old).memory }
+    requires ready { IsNorReady (N.state nor.old) }
+    requires restful { IsRestful (N.state nor.old).memory }
+    requires known { IsKnown known.old (N.state nor.old).memory }
+    ensures restful { OnOk result (IsRestful (N.state nor.new).memory) }
+    ensures known { OnOk result (IsKnown known.new (N.state nor.new).memory) }
+    ensures some { OnOk result (1 ≤ known.new.unused.free) }
+    ensures spares { OnOk result (Spares (unused (N.state nor.new).memory)
+        (unused (N.state nor.old).memory)) }
+    ensures blocks { OnOk result (SameBlocks (N.state nor.old).memory (N.state nor.new).memory) }
+    ensures cut { IsErrOf result NorError.Cut
+        → KeepsBlocks (N.state nor.old).memory (N.state nor.new).memory }
+    ensures size { length (N.state nor.new).memory ≡ length (N.state nor.old).memory }
+    ensures kept { OnOk result (OnlyMemoryChanges (N.state nor.old) (N.state nor.new)) }
+    ensures fails { IfErr result (λ e. Refuses e (N.state nor.old) (N.state nor.new)) }
+{
+    if known.unused.free >= SPARE_ENTRIES {
+        return Ok(());
+    }
+    doom(nor, JournalId::J0)?;
+    renew(nor, JournalId::J0)?;
+    let unused = maintain(nor)?;
+    *known = Known {
+        unused,
+        packed: false,
+    };
+    Ok(())
 }

@@ -2,14 +2,14 @@
 
 ghost use Rattle.std.specs.Prelude.{◌≡◌, ◌+◌, ◌≤◌, length, IfOk};
 ghost use Rattle.nor_driver.specs.State.{EndsReady};
-ghost use Rattle.erase_journal.specs.Journals.{votes_at, tally_of, free_entries, open_entries};
+ghost use Rattle.erase_journal.specs.Journals.{votes_at, tally_of, free_entries, open_blocks};
 
 use crate::scan::{VoteCounts, count_free, count_open, count_votes};
 use crate::tally::JournalTally;
 use nor_driver::{Nor, NorError};
 use nor_layout::{BLOCK_LEN, ENTRIES_LEN, JOURNALS_END, JournalId, REGION_LEN, entry_place};
 
-/// J0's entries: how many are free, and how many open.
+/// J0's entries: how many are free, and how many blocks have an open one.
 #[derive(Clone, Copy, Drop)]
 struct EntryCounts {
     free: u16,
@@ -33,7 +33,7 @@ fn read_entries<N: Nor>(nor: &mut N) -> Result<EntryCounts, NorError>
     requires { JOURNALS_END ≤ length (N.state nor.old).memory }
     ensures free { IfOk result (λ entries. entries.free ≡ free_entries (N.state nor.old).memory) }
     ensures opened { IfOk result (λ entries. entries.opened
-        ≡ open_entries (N.state nor.old).memory) }
+        ≡ open_blocks (N.state nor.old).memory) }
     ensures same { (N.state nor.new).memory ≡ (N.state nor.old).memory }
     ensures ends { EndsReady result (N.state nor.old) (N.state nor.new) }
 {

@@ -1,25 +1,25 @@
 //! Recovery: finishes the erase that a loss of power interrupted.
 
 ghost use Rattle.std.specs.Prelude.{◌↔◌, ◌⊎◌, None, false, IsSome, IfOk, IfSome, ◌≡◌, ◌≤◌, length};
-ghost use Rattle.std.specs.Prelude.{OnOk, IfErr};
+ghost use Rattle.std.specs.Prelude.{OnOk, IfErr, IsTrue};
 ghost use Rattle.std.specs.Result.{IsErrOf};
 ghost use Rattle.nor_driver.specs.State.{EndsReady, IsNorReady, OnlyMemoryChanges, Refuses};
 ghost use Rattle.erase_journal.specs.Journals.{AreJournalsSound, IsSettled, IsHealthy, settled};
-ghost use Rattle.erase_journal.specs.Journals.{unused};
+ghost use Rattle.erase_journal.specs.Journals.{unused, open_blocks, tally_of};
 ghost use Rattle.erase_journal.specs.Blocks.{SameBlocks};
 ghost use Rattle.erase_journal.specs.Steps.{SameNumbers, KeepsBlocks, EndsSettled};
-ghost use Rattle.erase_journal.specs.Spending.{Continues};
+ghost use Rattle.erase_journal.specs.Spending.{Continues, once_used};
 ghost use Rattle.erase_journal.specs.Recovery.{seen, Restored, RestoreCut, RestoreSlow};
 ghost use Rattle.erase_journal.specs.Recovery.{RestoreCorrupt};
 
 use crate::Firmness;
 use crate::again::{program_pages_again, program_votes_again};
-use crate::block_erase::{find_open, finish_entry};
 use crate::journal_erase::renew;
+use crate::open_entries::{erase_opened, open_afresh};
 use crate::phase::ErasePhase;
 use crate::read::read_tally;
-use crate::tally::{decide, once_settled};
-use crate::unused::Unused;
+use crate::tally::{JournalTally, decide, once_settled};
+use crate::unused::{Unused, once_taken};
 use crate::votes::{close_vote, open_vote};
 use nor_driver::{Nor, NorError};
 use nor_layout::{JOURNALS_END, JournalId, entry_place};
@@ -76,26 +76,6 @@ fn resume_closing<N: Nor>(nor: &mut N, journal: JournalId) -> Result<(), NorErro
     Ok(())
 }
 
-/// Erases the block of the open entry again, if there is one, and closes the entry.
-fn resume_idle<N: Nor>(nor: &mut N) -> Result<(), NorError>
-    requires size { JOURNALS_END ≤ length (N.state nor.old).memory }
-    requires idle { AreJournalsSound ErasePhase.Idle (N.state nor.old).memory }
-    ensures numbers { OnOk result (SameNumbers
-        (settled ErasePhase.Idle (unused (N.state nor.old).memory))
-        (unused (N.state nor.new).memory)) }
-    ensures blocks { OnOk result (SameBlocks (N.state nor.old).memory (N.state nor.new).memory) }
-    ensures cut { IsErrOf result NorError.Cut
-        → KeepsBlocks (N.state nor.old).memory (N.state nor.new).memory }
-    ensures size { length (N.state nor.new).memory ≡ length (N.state nor.old).memory }
-    ensures ends { EndsSettled result (N.state nor.old) (N.state nor.new) }
-{
-    let found = find_open(nor)?;
-    match found {
-        Some(open) => finish_entry(nor, open.entry, open.block),
-        None => Ok(()),
-    }
-}
-
 /// Goes on with what a loss of power interrupted in this phase.
 fn resume<N: Nor>(nor: &mut N, phase: ErasePhase) -> Result<(), NorError>
     requires size { JOURNALS_END ≤ length (N.state nor.old).memory }
@@ -109,7 +89,7 @@ fn resume<N: Nor>(nor: &mut N, phase: ErasePhase) -> Result<(), NorError>
     ensures ends { EndsSettled result (N.state nor.old) (N.state nor.new) }
 {
     match phase {
-        ErasePhase::Idle => resume_idle(nor),
+        ErasePhase::Idle => erase_opened(nor),
         ErasePhase::Asked(journal) => resume_asked(nor, journal),
         ErasePhase::Doomed(journal) => resume_doomed(nor, journal),
         ErasePhase::Closing(journal) => resume_closing(nor, journal),
@@ -137,6 +117,56 @@ fn believe<N: Nor>(nor: &mut N, firmness: Firmness, opened: u16) -> Result<(), N
     }
 }
 
+/// Whether another entry is to be opened for the block of the open entries: where bits may waver,
+/// and another entry is free behind it.
+fn is_fresh_due(firmness: Firmness, phase: ErasePhase, tally: JournalTally) -> bool
+    ensures { IsTrue result → (firmness ≡ Firmness.Firm) × (phase ≡ ErasePhase.Idle)
+        × (1 ≤ tally.opened) × (2 ≤ tally.free) }
+{
+    match firmness {
+        Firmness::Steady => false,
+        Firmness::Firm => match phase {
+            ErasePhase::Idle => tally.opened >= 1 && tally.free >= 2,
+            ErasePhase::Asked(_) => false,
+            ErasePhase::Doomed(_) => false,
+            ErasePhase::Closing(_) => false,
+        },
+    }
+}
+
+/// Where bits may waver, opens another entry for the block of the open entries. A recovery that was
+/// cut may have begun to close those, so that the erase needs one that was opened in this recovery.
+/// Answers the numbers then.
+fn refresh<N: Nor>(
+    nor: &mut N,
+    firmness: Firmness,
+    phase: ErasePhase,
+    tally: JournalTally,
+) -> Result<Unused, NorError>
+    requires ready { IsNorReady (N.state nor.old) }
+    requires size { JOURNALS_END ≤ length (N.state nor.old).memory }
+    requires tally { tally ≡ tally_of (N.state nor.old).memory }
+    requires sound { AreJournalsSound phase (N.state nor.old).memory }
+    ensures sound { OnOk result (AreJournalsSound phase (N.state nor.new).memory) }
+    ensures numbers { IfOk result (λ u. SameNumbers u (unused (N.state nor.new).memory)) }
+    ensures spent { IfOk result (λ u. (u ≡ unused (N.state nor.old).memory)
+        ⊎ ((u ≡ once_used (unused (N.state nor.old).memory)) × (firmness ≡ Firmness.Firm)
+        × (phase ≡ ErasePhase.Idle) × (1 ≤ open_blocks (N.state nor.old).memory))) }
+    ensures blocks { OnOk result (SameBlocks (N.state nor.old).memory (N.state nor.new).memory) }
+    ensures cut { IsErrOf result NorError.Cut
+        → KeepsBlocks (N.state nor.old).memory (N.state nor.new).memory }
+    ensures size { length (N.state nor.new).memory ≡ length (N.state nor.old).memory }
+    ensures kept { OnOk result (OnlyMemoryChanges (N.state nor.old) (N.state nor.new)) }
+    ensures fails { IfErr result (λ e. Refuses e (N.state nor.old) (N.state nor.new)) }
+{
+    let unused = tally.unused();
+    if is_fresh_due(firmness, phase, tally) {
+        open_afresh(nor)?;
+        return Ok(once_taken(unused));
+    }
+    Ok(unused)
+}
+
 /// Reads the journals and settles them, and answers their numbers then. `None` where they are
 /// corrupt, and then nothing has changed.
 pub(crate) fn settle<N: Nor>(nor: &mut N, firmness: Firmness) -> Result<Option<Unused>, NorError>
@@ -147,7 +177,7 @@ pub(crate) fn settle<N: Nor>(nor: &mut N, firmness: Firmness) -> Result<Option<U
     ensures numbers { IfOk result (λ found.
         IfSome found (λ u. SameNumbers u (unused (N.state nor.new).memory))) }
     ensures continues { IfOk result (λ found.
-        IfSome found (λ u. Continues (N.state nor.old).memory (N.state nor.new).memory)) }
+        IfSome found (λ u. Continues firmness (N.state nor.old).memory (N.state nor.new).memory)) }
     ensures blocks { IfOk result (λ found.
         IfSome found (λ u. SameBlocks (N.state nor.old).memory (N.state nor.new).memory)) }
     ensures corrupt { IfOk result (λ found. found ≡ None
@@ -163,8 +193,9 @@ pub(crate) fn settle<N: Nor>(nor: &mut N, firmness: Firmness) -> Result<Option<U
         return Ok(None);
     };
     believe(nor, firmness, tally.opened)?;
+    let unused = refresh(nor, firmness, phase, tally)?;
     resume(nor, phase)?;
-    Ok(Some(once_settled(tally.unused(), phase)))
+    Ok(Some(once_settled(unused, phase)))
 }
 
 /// Turns the power off and on again, reads the journals and settles them, and answers their numbers

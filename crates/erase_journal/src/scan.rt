@@ -1,12 +1,12 @@
 //! Counts and finds votes and entries in a buffer. Nothing here touches the chip.
 
 ghost use Rattle.std.specs.Prelude.{◌≡◌, ◌+◌, ◌<◌, ◌≤◌, ◌==◌, true, false, ℕ, length, slice_index};
-ghost use Rattle.std.specs.Prelude.{MatchOption, ◌≢◌, ◌⊎◌, ◌*◌, IsTrue, IsFalse};
+ghost use Rattle.std.specs.Prelude.{MatchOption, ◌≢◌, ◌⊎◌, ◌*◌, ◌↔◌, IsTrue, IsFalse};
 ghost use Rattle.chip_model.specs.Memory.{byte};
 ghost use Rattle.erase_journal.specs.Firm.{LeavesEntry};
 ghost use Rattle.nor_layout.specs.Entries.{block_in};
 ghost use Rattle.erase_journal.specs.Scans.{count_equal, count_wrong, free_in, is_free_in, open_in};
-ghost use Rattle.erase_journal.specs.Scans.{is_open_in, entry_in};
+ghost use Rattle.erase_journal.specs.Scans.{is_open_in, entry_in, named_in, open_blocks_in};
 
 use nor_layout::{ENTRIES, ENTRIES_LEN, Entry, REGION_LEN, Vote, entry_state, vote_state};
 
@@ -160,7 +160,7 @@ pub(crate) fn count_free(bytes: &[u8]) -> u16
 
 /// The block of an entry of a buffer that is open, on a chip of so many blocks.
 #[tactic(auto, using(crate::proofs::Scans::scan_steps))]
-fn open_block(bytes: &[u8], blocks: u16, i: u16) -> Option<u16>
+pub(crate) fn open_block(bytes: &[u8], blocks: u16, i: u16) -> Option<u16>
     requires size { length bytes.now ≡ ENTRIES_LEN }
     requires within { i < ENTRIES }
     ensures none { MatchOption result (is_open_in bytes.now blocks i ≡ false)
@@ -197,16 +197,35 @@ pub(crate) fn lowest_open(bytes: &[u8], blocks: u16) -> Option<OpenEntry>
     None
 }
 
-/// How many entries of a buffer are open, on a chip of so many blocks.
+/// Whether one of so many entries of a buffer is open for a block.
+#[tactic(auto, using(crate::proofs::Scans::scan_steps))]
+fn is_named(bytes: &[u8], blocks: u16, count: u16, block: u16) -> bool
+    requires size { length bytes.now ≡ ENTRIES_LEN }
+    requires within { count ≤ ENTRIES }
+    ensures { IsTrue result ↔ (0 < named_in bytes.now blocks count block) }
+{
+    for entry in 0..count {
+        if let Some(named) = open_block(bytes, blocks, entry) {
+            if named == block {
+                return true;
+            }
+        }
+    }
+    false
+}
+
+/// How many blocks have an open entry in a buffer, on a chip of so many blocks.
 #[tactic(auto, using(crate::proofs::Scans::scan_steps))]
 pub(crate) fn count_open(bytes: &[u8], blocks: u16) -> u16
     requires { length bytes.now ≡ ENTRIES_LEN }
-    ensures { result ≡ open_in bytes.now blocks ENTRIES }
+    ensures { result ≡ open_blocks_in bytes.now blocks ENTRIES }
 {
     let mut opened = 0;
     for entry in 0..ENTRIES {
-        if open_block(bytes, blocks, entry).is_some() {
-            opened += 1;
+        if let Some(block) = open_block(bytes, blocks, entry) {
+            if !is_named(bytes, blocks, entry, block) {
+                opened += 1;
+            }
         }
     }
     opened

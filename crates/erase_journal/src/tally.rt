@@ -11,8 +11,8 @@ use crate::scan::VoteCounts;
 use crate::unused::{Unused, lasts, once_renewed, once_second_spent};
 use nor_layout::JournalId;
 
-/// What is counted in the journals: the votes of each for the erase of each other, and J0's free
-/// and open entries of 512; the others are used up. Source: own.
+/// What is counted in the journals: the votes of each for the erase of each other, the free ones of
+/// J0's 512 entries, and how many blocks have an open entry. Source: own.
 #[derive(Clone, Copy, Debug, PartialEq, Eq, Drop)]
 pub struct JournalTally {
     pub j0_for_1: VoteCounts,
@@ -78,7 +78,7 @@ fn is_quiet(tally: JournalTally, journal: JournalId) -> bool
     holds(tally.first(journal), 0) && holds(tally.second(journal), 0)
 }
 
-/// Whether no vote is open, and at most one entry.
+/// Whether no vote is open, and the open entries name one block.
 fn is_idle(tally: JournalTally) -> bool
     ensures { IsTrue result ↔ IsInPhase ErasePhase.Idle tally }
 {

@@ -3,6 +3,7 @@
 ghost use Rattle.std.specs.Prelude.{◌≡◌, ◌↔◌, IsTrue};
 ghost use Rattle.erase_journal.specs.Votes.{Last, IsRested, IsTiredAnswer, HasSome, Needs0, Needs1};
 ghost use Rattle.erase_journal.specs.Votes.{renewed, second_spent};
+ghost use Rattle.erase_journal.specs.Spending.{once_used};
 
 use nor_layout::{ENTRIES, JournalId, VOTES};
 
@@ -125,5 +126,15 @@ pub(crate) fn once_second_spent(u: Unused, journal: JournalId) -> Unused
             j1_for_2: u.j1_for_2.saturating_sub(1),
             ..u
         },
+    }
+}
+
+/// The numbers once an entry is used.
+pub(crate) fn once_taken(u: Unused) -> Unused
+    ensures { result ≡ once_used u }
+{
+    Unused {
+        free: u.free.saturating_sub(1),
+        ..u
     }
 }

@@ -15,5 +15,5 @@ numbers_of_line (Check image mends tells_json dump) range = tt
 numbers_of_line (Unprotect image sure) range = tt
 numbers_of_line (Show image) range = tt
 numbers_of_line (Read image asked) range = tt
-numbers_of_line (Write image asked) range = tt
+numbers_of_line (Write image asked firm) range = tt
 numbers_of_line (Rescue image) range = tt

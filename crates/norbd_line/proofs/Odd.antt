@@ -115,7 +115,7 @@ no_odd_line words (Show image) range line odd_kib odd =
 no_odd_line words (Read image asked) range line odd_kib odd =
     let name = same_name words line.0 odd.0 line.1 odd.1 line.2 odd.2 in
     read_takes_no_size (subst TakesSize (sym name ∙ line.3.0) odd.3.0)
-no_odd_line words (Write image asked) range line odd_kib odd =
+no_odd_line words (Write image asked firm) range line odd_kib odd =
     let name = same_name words line.0 odd.0 line.1 odd.1 line.2 odd.2 in
     write_takes_no_size (subst TakesSize (sym name ∙ line.3.0) odd.3.0)
 no_odd_line words (Rescue image) range line odd_kib odd =

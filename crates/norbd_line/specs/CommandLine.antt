@@ -93,15 +93,15 @@ placed_app = with_rule (with_rule (with_rule (with_rule (new_app (codes "serve")
     port_rule) (text_rule (codes "bind"))) (text_rule (codes "unix"))
 
 -- and how: `[--conns C] [--record] [--sync WHEN] [--tidy WHEN] [--max-request KIB] [--read-only]
--- [-v]`, and `[--trust] [--status PATH] [--spi-hz N]`
+-- [-v]`, and `[--trust] [--status PATH] [--spi-hz N] [--firm]`
 abbrev pub served_app : App
 served_app = with_rule (with_rule (with_rule (with_rule (with_rule (with_rule (with_rule placed_app
     conns_rule) (flag_rule (codes "record"))) (text_rule (codes "sync")))
     (text_rule (codes "tidy"))) max_request_rule) (flag_rule (codes "read-only"))) verbose_rule
 
 abbrev pub serve_app : App
-serve_app = with_rule (with_rule (with_rule served_app (flag_rule (codes "trust")))
-    (text_rule (codes "status"))) spi_hz_rule
+serve_app = with_rule (with_rule (with_rule (with_rule served_app (flag_rule (codes "trust")))
+    (text_rule (codes "status"))) spi_hz_rule) (flag_rule (codes "firm"))
 
 -- `status PATH [--json]`
 abbrev pub status_app : App
@@ -123,14 +123,14 @@ unprotect_app = with_rule (with_rule (with_rule (new_app (codes "unprotect")) im
 abbrev pub show_app : App
 show_app = with_rule (with_rule (new_app (codes "show")) image_rule) spi_hz_rule
 
--- `read IMAGE [--sectors A:B] [--spi-hz N]`, and `write` likewise
+-- `read IMAGE [--sectors A:B] [--spi-hz N]`, and `write` likewise, with `[--firm]`
 abbrev pub read_app : App
 read_app = with_rule (with_rule (with_rule (new_app (codes "read")) image_rule)
     (text_rule (codes "sectors"))) spi_hz_rule
 
 abbrev pub write_app : App
-write_app = with_rule (with_rule (with_rule (new_app (codes "write")) image_rule)
-    (text_rule (codes "sectors"))) spi_hz_rule
+write_app = with_rule (with_rule (with_rule (with_rule (new_app (codes "write")) image_rule)
+    (text_rule (codes "sectors"))) spi_hz_rule) (flag_rule (codes "firm"))
 
 -- `rescue IMAGE`
 abbrev pub rescue_app : App

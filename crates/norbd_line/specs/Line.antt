@@ -64,7 +64,7 @@ IsLineInRange (Check image mends tells_json dump) = Unit {0}
 IsLineInRange (Unprotect image sure) = Unit {0}
 IsLineInRange (Show image) = Unit {0}
 IsLineInRange (Read image range) = Unit {0}
-IsLineInRange (Write image range) = Unit {0}
+IsLineInRange (Write image range firm) = Unit {0}
 IsLineInRange (Rescue image) = Unit {0}
 
 -- the number that a text writes in decimal digits
@@ -142,6 +142,7 @@ IsLineIn name rows (Serve asked) =
     × IsSet (codes "verbose") rows asked.verbose
     × IsSet (codes "trust") rows asked.trust
     × (first_of (codes "status") rows ≡ option_map (λ text. text.now) asked.status)
+    × IsSet (codes "firm") rows asked.firm
 IsLineIn name rows (Status path tells_json) =
     (name ≡ codes "status") × (first_of (codes "PATH") rows ≡ Some path.now)
     × IsSet (codes "json") rows tells_json
@@ -157,9 +158,10 @@ IsLineIn name rows (Show image) =
 IsLineIn name rows (Read image range) =
     (name ≡ codes "read") × (first_of (codes "IMAGE") rows ≡ Some image.now)
     × (first_of (codes "sectors") rows ≡ option_map (λ text. text.now) range)
-IsLineIn name rows (Write image range) =
+IsLineIn name rows (Write image range firm) =
     (name ≡ codes "write") × (first_of (codes "IMAGE") rows ≡ Some image.now)
     × (first_of (codes "sectors") rows ≡ option_map (λ text. text.now) range)
+    × IsSet (codes "firm") rows firm
 IsLineIn name rows (Rescue image) =
     (name ≡ codes "rescue") × (first_of (codes "IMAGE") rows ≡ Some image.now)
 
@@ -204,7 +206,7 @@ IsNamed (Check image mends tells_json dump) = (image.now ≢ []) × IfSome dump 
 IsNamed (Unprotect image sure) = image.now ≢ []
 IsNamed (Show image) = image.now ≢ []
 IsNamed (Read image range) = image.now ≢ []
-IsNamed (Write image range) = image.now ≢ []
+IsNamed (Write image range firm) = image.now ≢ []
 IsNamed (Rescue image) = image.now ≢ []
 
 -- the words say a line, with its numbers in their ranges, whose image or socket has no name

@@ -10,9 +10,10 @@ ghost use Rattle.norbd_line.specs.CommandLine.{status_app, texts_of, unprotect_a
 use crate::Fault;
 use crate::chip::{clear_arg, trust_arg, with_chip, yes_arg};
 use crate::options::{
-    against_arg, bind_arg, conns_arg, force_arg, image_arg, json_arg, kib_arg, max_request_arg,
-    mend_arg, no_record_arg, port_arg, range_arg, read_only_arg, record_arg, sectors_arg,
-    spi_hz_arg, status_arg, status_path_arg, sync_arg, tidy_arg, unix_arg, verbose_arg,
+    against_arg, bind_arg, conns_arg, firm_arg, force_arg, image_arg, json_arg, kib_arg,
+    max_request_arg, mend_arg, no_record_arg, port_arg, range_arg, read_only_arg, record_arg,
+    sectors_arg, spi_hz_arg, status_arg, status_path_arg, sync_arg, tidy_arg, unix_arg,
+    verbose_arg,
 };
 use clap::error::ErrorKind;
 use clap::{ArgMatches, Command};
@@ -99,7 +100,8 @@ fn with_serve<'a>(alloc: Global, norbd: Command<'a>) -> Result<Command<'a>, clap
         .arg(verbose_arg(alloc))?
         .arg(trust_arg(alloc))?
         .arg(status_arg(alloc))?
-        .arg(spi_hz_arg(alloc))?;
+        .arg(spi_hz_arg(alloc))?
+        .arg(firm_arg(alloc))?;
     Ok(norbd.subcommand(serve)?)
 }
 
@@ -198,7 +200,8 @@ fn with_write<'a>(alloc: Global, norbd: Command<'a>) -> Result<Command<'a>, clap
         .after_help(AFTER_HELP)
         .arg(image_arg(alloc, IMAGE_OR_PROGRAMMER))?
         .arg(range_arg(alloc))?
-        .arg(spi_hz_arg(alloc))?;
+        .arg(spi_hz_arg(alloc))?
+        .arg(firm_arg(alloc))?;
     Ok(norbd.subcommand(write)?)
 }
 

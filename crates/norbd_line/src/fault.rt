@@ -69,6 +69,9 @@ pub enum Cause {
     /// That copy has another size.
     #[error("the older copy has another size")]
     DumpSize,
+    /// `--firm` is set, which programs it, and `--read-only`.
+    #[error("--firm programs it, --read-only leaves it as it is")]
+    FirmCopy,
     /// The chip is behind a programmer, and this is why it failed.
     #[error("{0}")]
     Chip(ChipCause),

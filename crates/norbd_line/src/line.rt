@@ -47,7 +47,7 @@ pub enum Line<'a> {
     },
     /// `serve IMAGE --port P [--bind ADDR]`, or with `--unix PATH` in their place, and `[--conns C]
     /// [--record] [--sync WHEN] [--tidy WHEN] [--max-request KIB] [--read-only] [-v] [--status
-    /// PATH]`: serve the chip in an image.
+    /// PATH] [--firm]`: serve the chip in an image.
     Serve(ServeLine<'a>),
     /// `status PATH [--json]`: say what the server does whose Unix socket for that is at the path
     /// `path`; tell it in JSON where `json` is set.
@@ -81,10 +81,12 @@ pub enum Line<'a> {
         image: &'a str,
         sectors: Option<&'a str>,
     },
-    /// `write IMAGE [--sectors A:B]`: replace these sectors by standard input.
+    /// `write IMAGE [--sectors A:B] [--firm]`: replace these sectors by standard input. Bits of an
+    /// image that a loss of power tore are taken to waver where `firm` is set.
     Write {
         image: &'a str,
         sectors: Option<&'a str>,
+        firm: bool,
     },
     /// `rescue IMAGE`: write the sectors to standard output that can still be told of the image in
     /// the file at the path `image`, whatever is wrong with it.
@@ -107,8 +109,9 @@ pub struct ReadLine<'a> {
 /// and WRITEs of `max_request` KiB at most, from 64 to 32,768, or of 1,024 where it is `None`, of
 /// which clients are told 64; without
 /// changing anything where `read_only` is set; to tell of each connection and each refused request
-/// where `verbose` is; to believe a chip behind a programmer its changes where `trust` is; and to
-/// say what it does at the Unix socket `status`, where there is one.
+/// where `verbose` is; to believe a chip behind a programmer its changes where `trust` is; to say
+/// what it does at the Unix socket `status`, where there is one; and where `firm` is set to take
+/// bits of an image that a loss of power tore to waver, as those of a chip behind a programmer.
 #[derive(Debug, Clone, Copy, PartialEq, Eq)]
 pub struct ServeLine<'a> {
     pub image: &'a str,
@@ -122,6 +125,7 @@ pub struct ServeLine<'a> {
     pub verbose: bool,
     pub trust: bool,
     pub status: Option<&'a str>,
+    pub firm: bool,
 }
 
 /// Where clients connect to.
@@ -269,6 +273,7 @@ fn serve_line<'a>(matches: &ArgMatches<'a>) -> Result<Line<'a>, Fault>
         verbose: flag(matches, "verbose"),
         trust: flag(matches, "trust"),
         status: text_of(matches, "status"),
+        firm: flag(matches, "firm"),
     }))
 }
 
@@ -359,6 +364,7 @@ fn write_disk_line<'a>(matches: &ArgMatches<'a>) -> Result<Line<'a>, Fault>
         Some(image) => Ok(Line::Write {
             image,
             sectors: text_of(matches, "sectors"),
+            firm: flag(matches, "firm"),
         }),
         None => Err(Fault::NoMemory),
     }

@@ -125,6 +125,19 @@ pub(crate) fn spi_hz_arg<'a>(alloc: Global) -> Arg<'a>
         .value_parser(value_parser!(u32).range(1..=4294967295))
 }
 
+/// `--firm`.
+pub(crate) fn firm_arg<'a>(alloc: Global) -> Arg<'a>
+    ensures rule { rule_of result ≡ flag_rule (codes "firm") }
+    ensures local { result.global ≡ false }
+{
+    Arg::new(alloc, "firm")
+        .long("firm")
+        .help(
+            "Mounts an image as a chip behind a programmer always\nis: bits that a loss of power tore may waver, so they\nare programmed again before they count",
+        )
+        .action(ArgAction::SetTrue)
+}
+
 /// `--read-only`.
 pub(crate) fn read_only_arg<'a>(alloc: Global) -> Arg<'a>
     ensures rule { rule_of result ≡ flag_rule (codes "read-only") }

@@ -31,7 +31,7 @@ HasNumbers (Check image mends tells_json dump) = Unit {0}
 HasNumbers (Unprotect image sure) = Unit {0}
 HasNumbers (Show image) = Unit {0}
 HasNumbers (Read image range) = Unit {0}
-HasNumbers (Write image range) = Unit {0}
+HasNumbers (Write image range firm) = Unit {0}
 HasNumbers (Rescue image) = Unit {0}
 
 -- standard input isn't read
@@ -46,7 +46,7 @@ ReadsNothing (Check image mends tells_json dump) = Unit {0}
 ReadsNothing (Unprotect image sure) = Unit {0}
 ReadsNothing (Show image) = Unit {0}
 ReadsNothing (Read image range) = Unit {0}
-ReadsNothing (Write image range) = ⊥
+ReadsNothing (Write image range firm) = ⊥
 ReadsNothing (Rescue image) = Unit {0}
 
 -- what each line makes of the streams, and its end: `serve` without a number of connections ends by
@@ -75,7 +75,7 @@ LineDoes (Show image) old result new =
     ShowTells old.written old.writes result new.written new.writes
 LineDoes (Read image range) old result new =
     ReadTells old.written old.writes result new.written new.writes
-LineDoes (Write image range) old result new =
+LineDoes (Write image range firm) old result new =
     WriteTells old.written old.writes result new.written new.writes
 LineDoes (Rescue image) old result new =
     RescueTells old.written old.writes result new.written new.writes

@@ -17,6 +17,7 @@ use crate::read::send_bytes;
 use crate::serve::{tell, told_of_mount};
 use block_device::Sink;
 use chip_model::Geometry;
+use erase_journal::Firmness;
 use norbd_image::{Held, ImageFile, mended_image, rewrite_image};
 use norbd_line::{Cause, ChipCause, Fault};
 use norbd_serve::Log;
@@ -256,7 +257,7 @@ fn end_of(alloc: Global, report: &Report, image: &[u8]) -> Result<Checked, Fault
             let Ok(copy) = image.to_vec(alloc) else {
                 return Err(Fault::NoMemory);
             };
-            copied_disk(alloc, copy)?;
+            copied_disk(alloc, copy, Firmness::Steady)?;
         }
     }
     Ok(Checked {

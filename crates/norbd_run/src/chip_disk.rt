@@ -8,6 +8,7 @@ ghost use Rattle.norbd_run.specs.Listening.{IsRefusal};
 use crate::serve::open_bus;
 use block_device::Disk;
 use chip_model::SpiBus;
+use erase_journal::Firmness;
 use flash_disk::FlashDisk;
 use norbd_chip::{ChipFault, Noted, Noting, Reached, Report, watch, watch_noting};
 use norbd_line::{Cause, ChipCause, Fault, TidyPolicy};
@@ -73,8 +74,8 @@ pub(crate) type DiskBehind<'r, 'p, 'n, R> = RestoredDisk<
     FlashDisk<CountedBus<Noting<'n, Reached<'r, 'p, 'n, R, Reporter<'r, R>>>>, Brand>,
 >;
 
-/// The disk on the chip behind the programmer at a place, whose departures are noted. Where it is
-/// lost, that is told, and so is its return.
+/// The disk on the chip behind the programmer at a place, whose departures are noted. Its torn bits
+/// are taken to waver. Where it is lost, that is told, and so is its return.
 #[tactic(auto, using(crate::proofs::Refusals::chip_is_refusal))]
 pub(crate) fn disk_behind<'r, 'p, 'n, R>(
     rt: &'r R,
@@ -100,7 +101,7 @@ where
     let Ok(copy) = bus.memory().to_vec(rt.alloc()) else {
         return Err(Fault::NoMemory);
     };
-    match open_bus(rt.alloc(), bus, copy, tidy, wear) {
+    match open_bus(rt.alloc(), bus, copy, tidy, wear, Firmness::Firm) {
         Ok(disk) => Ok(RestoredDisk::new(disk)),
         Err(Fault::ImageFailed(_)) => Err(Fault::ImageFailed(Cause::Chip(noted.cause()))),
         Err(fault) => Err(fault),

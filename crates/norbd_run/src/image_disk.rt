@@ -1,5 +1,5 @@
 //! A copy in memory of the chip in an image: nothing of the file is changed.
-ghost use Rattle.std.specs.Prelude.{◌≡◌, IfErr, IfOk, length, true};
+ghost use Rattle.std.specs.Prelude.{◌≡◌, if◌then◌else◌, IfErr, IfOk, length, true};
 ghost use Rattle.block_device.specs.Facts.{IsDiskReady};
 ghost use Rattle.chip_model.specs.Geometry.{IsChipSize};
 ghost use Rattle.flash_disk.specs.Mounting.{OpenedFrom};
@@ -12,6 +12,7 @@ use crate::format::told_as;
 use crate::serve::{look_at, told_of_file};
 use block_device::Disk;
 use chip_simulator::PromptChip;
+use erase_journal::Firmness;
 use flash_disk::FlashDisk;
 use norbd_image::{Held, ImageFile, hold, hold_to_read};
 use norbd_line::Fault;
@@ -54,11 +55,25 @@ where
     }
 }
 
-/// The disk on a chip in memory of these bytes. One of layout 1 of which a free block isn't erased
-/// is `NotClean`: on its way to layout 2 slots would be read out of it.
+/// What is assumed of bits of an image that a loss of power tore: only where `--firm` is set that
+/// they waver.
+pub(crate) fn firmness_of(firm: bool) -> Firmness
+    ensures { result ≡ if firm then Firmness.Firm else Firmness.Steady }
+{
+    if firm {
+        Firmness::Firm
+    } else {
+        Firmness::Steady
+    }
+}
+
+/// The disk on a chip in memory of these bytes, with what is assumed of its torn bits. One of
+/// layout 1 of which a free block isn't erased is `NotClean`: on its way to layout 2 slots would be
+/// read out of it.
 pub(crate) fn copied_disk(
     alloc: Global,
     image: Vec<u8>,
+    firmness: Firmness,
 ) -> Result<FlashDisk<PromptChip, Brand>, Fault>
     requires { IsChipSize (length image.items) }
     ensures refused { IfErr result IsRefusal }
@@ -78,7 +93,7 @@ pub(crate) fn copied_disk(
     let Ok(chip) = PromptChip::new(image) else {
         unreachable!()
     };
-    let disk = look_at(alloc, chip)?;
+    let disk = look_at(alloc, chip, firmness)?;
     if found.is_some() {
         return Err(Fault::NotClean);
     }

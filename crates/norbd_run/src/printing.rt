@@ -92,6 +92,9 @@ where
 const DEVICE: &str =
     "a device is only read, flashrom or mtd-utils write one, a programmer serves it";
 
+/// What tells of a chip's protection, and what ends it.
+const UNPROTECT: &str = ": norbd check says by what, norbd unprotect --yes ends that";
+
 /// What a fault is about.
 #[derive(Clone, Copy)]
 enum Subject<'l> {
@@ -113,6 +116,24 @@ fn image_of(line: Option<Line<'_>>) -> Subject<'_> {
         Some(Line::Write { image, .. }) => Subject::Path(image),
         Some(Line::Rescue { image }) => Subject::Path(image),
         _ => Subject::Nothing,
+    }
+}
+
+/// What helps where an image, or the chip in its place, isn't clean.
+fn mending_of(line: Option<Line<'_>>) -> &'static str {
+    match image_of(line) {
+        Subject::Path(path) if programmer_of(path, None).is_some() =>
+            "flashrom reads it into a file, norbd check --mend mends that, flashrom writes it",
+        _ => "norbd check --mend mends it",
+    }
+}
+
+/// What helps where a chip that a line would change is protected; `check` has told it before.
+fn unprotecting_of(line: Option<Line<'_>>) -> &'static str {
+    match line {
+        Some(Line::Serve(_)) => UNPROTECT,
+        Some(Line::Write { .. }) => UNPROTECT,
+        _ => "",
     }
 }
 
@@ -324,7 +345,8 @@ impl fmt::Display for Telling<'_, '_> {
             Fault::InUse => f.write_str(": norbd status looks at one that is served with --status"),
             Fault::Formatted => f.write_str(": --force replaces it"),
             Fault::NotEmpty => f.write_str(": --force replaces it"),
-            Fault::NotClean => f.write_str(": norbd check --mend mends it"),
+            Fault::NotClean => write!(f, ": {}", mending_of(self.line)),
+            Fault::Protected => f.write_str(unprotecting_of(self.line)),
             Fault::Corrupt => self.write_reason(f),
             Fault::BadRange(sectors) => write_range(f, range_of(self.line), *sectors),
             Fault::OutputFailed => self.write_output(f),

@@ -12,6 +12,7 @@ use crate::chip_disk::bytes_behind;
 use crate::image_disk::{copied_disk, hold_image};
 use crate::image_log::looked_through;
 use block_device::{Disk, DiskError, Sink, send};
+use erase_journal::Firmness;
 use norbd_image::ImageFile;
 use norbd_line::{Cause, Fault};
 use norbd_serve::Log;
@@ -83,7 +84,7 @@ pub(crate) fn sectors_of_image(
     ensures refused { IfErr result MoveFails }
     ensures reason { IfErr result (λ e. IsReason e image.items) }
 {
-    let mut disk = copied_disk(alloc, image)?;
+    let mut disk = copied_disk(alloc, image, Firmness::Steady)?;
     let part = part_of(&disk, sectors)?;
     sectors_of_disk(alloc, &mut disk, part)
 }

@@ -140,9 +140,13 @@ where
             Some(place) => run_read_chip(rt, place, sectors, writer),
             None => run_read(rt, image, sectors, writer),
         },
-        Line::Write { image, sectors } => match programmer_of(image, clock) {
+        Line::Write {
+            image,
+            sectors,
+            firm,
+        } => match programmer_of(image, clock) {
             Some(place) => run_write_chip(rt, place, sectors, reader, writer),
-            None => run_write(rt, image, sectors, reader, writer),
+            None => run_write(rt, image, sectors, firm, reader, writer),
         },
         Line::Rescue { image } => match programmer_of(image, clock) {
             Some(_) => Err(Fault::ImageFailed(Cause::Chip(ChipCause::FileAlone))),

@@ -15,7 +15,7 @@ ghost use Rattle.norbd_run.specs.Opening.{IsReason};
 ghost use Rattle.norbd_line.specs.Line.{IsConns, IsPlace};
 
 use crate::host::Host;
-use crate::image_disk::{bytes_of, copied_disk, hold_image};
+use crate::image_disk::{bytes_of, copied_disk, firmness_of, hold_image};
 use crate::image_log::{looked_through, settle, take_up, told_of_log};
 use crate::listening::listen_at;
 use crate::script::told_of_probe;
@@ -24,6 +24,7 @@ use block_device::{Disk, DiskError, Sink, send};
 use chip_model::SpiBus;
 use chip_simulator::{PromptChip, SimError};
 use disk_log::{ImageDisk, LoggedDisk, Sum, begin_anew};
+use erase_journal::Firmness;
 use flash_disk::{FlashDisk, MountError};
 use nbd_durable::{Durable, Policy};
 use nbd_history::{Hands, Opened};
@@ -53,10 +54,11 @@ const NEGOTIATION_SECONDS: u64 = 10;
 /// What a line `serve` asks: the path of the image, of which it is told while it is served that
 /// its file was removed; where it listens; how many connections, from 1 to 64, and whether serving
 /// ends once so many were served in all: else so many are served at once, without end; whether a
-/// row of each command is kept; when the file is synced, and when the disk is tidied; the largest
-/// length of a READ or WRITE in bytes that clients are told, and the largest that is taken; whether
-/// the disk can't be changed; whether it is told what becomes of connections and of refused
-/// requests; and where what the server does is told, if that is asked.
+/// row of each command is kept; when the file is synced, and when the disk is tidied; whether torn
+/// bits of an image are taken to waver; the largest length of a READ or WRITE in bytes that clients
+/// are told, and the largest that is taken; whether the disk can't be changed; whether it is told
+/// what becomes of connections and of refused requests; and where what the server does is told, if
+/// that is asked.
 #[derive(Clone, Copy)]
 pub struct Asked<'a> {
     pub image: &'a str,
@@ -66,6 +68,7 @@ pub struct Asked<'a> {
     pub record: bool,
     pub sync: SyncPolicy,
     pub tidy: TidyPolicy,
+    pub firm: bool,
     pub told_len: u32,
     pub max_len: u32,
     pub read_only: bool,
@@ -194,7 +197,7 @@ where
         Ok(wear) => wear,
         Err(fault) => return Err(fault),
     };
-    let disk = match open_disk(rt.alloc(), bytes, asked.tidy, wear) {
+    let disk = match open_disk(rt.alloc(), bytes, asked.tidy, wear, firmness_of(asked.firm)) {
         Ok(disk) => disk,
         Err(fault) => return Err(fault),
     };
@@ -272,7 +275,7 @@ where
 {
     let held = hold_image(rt, image, false)?;
     let through = looked_through(rt, image, &held)?;
-    let disk = match copied_disk(rt.alloc(), through.bytes) {
+    let disk = match copied_disk(rt.alloc(), through.bytes, Firmness::Steady) {
         Ok(disk) => disk,
         Err(fault) => return Err(fault),
     };
@@ -342,6 +345,7 @@ fn open_disk(
     image: Vec<u8>,
     tidy: TidyPolicy,
     wear: Option<Arc<Wear, Global>>,
+    firmness: Firmness,
 ) -> Result<FlashDisk<CountedBus<PromptChip>, Brand>, Fault>
     requires size { IsChipSize (length image.items) }
     ensures refused { IfErr result IsRefusal }
@@ -360,18 +364,20 @@ fn open_disk(
     let Ok(chip) = PromptChip::new(image) else {
         unreachable!()
     };
-    open_bus(alloc, chip, copy, tidy, wear)
+    open_bus(alloc, chip, copy, tidy, wear, firmness)
 }
 
 /// The disk on the chip behind a bus, on which nothing is in progress and whose memory is this
-/// copy: from now on its blocks wear alike, its erases are counted where that is asked, and it is
-/// tidied as is asked. The copy is looked at first: of a chip that isn't served nothing is changed.
+/// copy, with what is assumed of its torn bits: from now on its blocks wear alike, its erases are
+/// counted where that is asked, and it is tidied as is asked. The copy is looked at first: of a
+/// chip that isn't served nothing is changed.
 pub(crate) fn open_bus<B: SpiBus + Drop>(
     alloc: Global,
     bus: B,
     copy: Vec<u8>,
     tidy: TidyPolicy,
     wear: Option<Arc<Wear, Global>>,
+    firmness: Firmness,
 ) -> Result<FlashDisk<CountedBus<B>, Brand>, Fault>
     requires idle { is_idle (B.chip bus).operation ≡ true }
     requires copy { copy.items ≡ (B.chip bus).memory }
@@ -387,8 +393,8 @@ pub(crate) fn open_bus<B: SpiBus + Drop>(
     ensures groups { IfOk result (λ _. HasCleanGroups (B.chip bus).memory) }
 {
     let blocks = (copy.len() / BLOCK_LEN as usize) as u32;
-    copied_disk(alloc, copy)?;
-    let mut disk = look_at(alloc, CountedBus::new(bus, wear, blocks))?;
+    copied_disk(alloc, copy, Firmness::Steady)?;
+    let mut disk = look_at(alloc, CountedBus::new(bus, wear, blocks), firmness)?;
     spare(&mut disk, tidy);
     Ok(disk)
 }
@@ -410,9 +416,14 @@ fn spare<B: SpiBus>(disk: &mut FlashDisk<B, Brand>, tidy: TidyPolicy)
     }
 }
 
-/// The disk on the chip behind a bus, on which nothing is in progress. Its data blocks are read
-/// once whole: the disk is sound, and holds what the chip's memory, which is healthy, represents.
-pub(crate) fn look_at<B: SpiBus + Drop>(alloc: Global, bus: B) -> Result<FlashDisk<B, Brand>, Fault>
+/// The disk on the chip behind a bus, on which nothing is in progress, with what is assumed of its
+/// torn bits. Its data blocks are read once whole: the disk is sound, and holds what the chip's
+/// memory, which is healthy, represents.
+pub(crate) fn look_at<B: SpiBus + Drop>(
+    alloc: Global,
+    bus: B,
+    firmness: Firmness,
+) -> Result<FlashDisk<B, Brand>, Fault>
     requires idle { is_idle (B.chip bus).operation ≡ true }
     ensures refused { IfErr result IsRefusal }
     ensures reason { IfErr result (λ e. IsReason e (B.chip bus).memory) }
@@ -423,7 +434,7 @@ pub(crate) fn look_at<B: SpiBus + Drop>(alloc: Global, bus: B) -> Result<FlashDi
     ensures from { IfOk result (λ disk. OpenedFrom (B.chip bus).memory
         (⟦<FlashDisk<B, Brand> as Disk>⟧.facts disk)) }
 {
-    let mut disk = match FlashDisk::<_, Brand>::mount(alloc, bus) {
+    let mut disk = match FlashDisk::<_, Brand>::mount_as(alloc, bus, firmness) {
         Ok(disk) => disk,
         Err((_, error)) => return Err(told_of_mount(error)),
     };

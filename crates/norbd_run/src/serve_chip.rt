@@ -9,6 +9,7 @@ use crate::image_disk::copied_disk;
 use crate::listening::listen_at;
 use crate::serve::{Asked, serve_opened, wear_of};
 use block_device::Sink;
+use erase_journal::Firmness;
 use nbd_durable::{Durable, Policy};
 use norbd_chip::{NoFile, Noted};
 use norbd_line::{Cause, Fault, Place};
@@ -113,7 +114,7 @@ where
     ensures endless { IsFalse asked.entry.ends → IsErr result }
 {
     let copy = bytes_behind(rt, place)?;
-    let disk = match copied_disk(rt.alloc(), copy) {
+    let disk = match copied_disk(rt.alloc(), copy, Firmness::Steady) {
         Ok(disk) => disk,
         Err(fault) => return Err(fault),
     };

@@ -170,7 +170,8 @@ where
     serve_looked_at(rt, line, clock, Some(&look), writer)
 }
 
-/// Does a line `serve`, with or without a socket for its status.
+/// Does a line `serve`, with or without a socket for its status. `ImageFailed` with `FirmCopy`
+/// where it is to be mounted firmly and to stay as it is: nothing is looked for then.
 #[tactic(auto, using(crate::proofs::Sizes::conns_or_most))]
 fn serve_looked_at<R, K>(
     rt: &R,
@@ -191,6 +192,9 @@ where
         (K.written writer.new) (K.faults writer.new) }
     ensures endless { line.entry.conns ≡ None → IsErr result }
 {
+    if line.read_only && line.firm {
+        return Err(Fault::ImageFailed(Cause::FirmCopy));
+    }
     let asked = Asked {
         image: line.image,
         place: line.place,
@@ -199,6 +203,7 @@ where
         record: line.record,
         sync: line.sync,
         tidy: line.tidy,
+        firm: line.firm,
         told_len: told_at_most(line.max_request),
         max_len: bytes_at_most(line.max_request),
         read_only: line.read_only,

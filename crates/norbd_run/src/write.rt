@@ -9,7 +9,7 @@ ghost use Rattle.norbd_run.specs.Moving.{written_text};
 
 use crate::chip_disk::disk_behind;
 use crate::format::told_as;
-use crate::image_disk::{bytes_of, copied_disk, hold_image};
+use crate::image_disk::{bytes_of, copied_disk, firmness_of, hold_image};
 use crate::image_log::take_up;
 use crate::progress::{Meter, Screen};
 use crate::read::{part_of, told_of_disk};
@@ -33,7 +33,7 @@ use std::time::Clock;
 /// have to be exactly as many: the whole disk, or the part that `sectors` writes. A line on
 /// `writer` says before anything is read which sectors are replaced, and another one that they
 /// were; how far it is is shown on a `Screen`. The file is replaced as a whole: after a fault it is
-/// as it was.
+/// as it was. Its torn bits are taken to waver where `firm` is set.
 ///
 /// The faults are those of `run_read`; besides `BadInput` where `reader` has fewer bytes or more,
 /// and `InputFailed` where it failed.
@@ -41,6 +41,7 @@ pub fn run_write<R, S, K>(
     rt: &R,
     path: &str,
     sectors: Option<&str>,
+    firm: bool,
     reader: &mut S,
     writer: &mut K,
 ) -> Result<(), Fault>
@@ -56,7 +57,7 @@ where
     let held = hold_image(rt, path, true)?;
     take_up(rt, path, &held, true)?;
     let copy = bytes_of(rt, &held)?;
-    let disk = copied_disk(rt.alloc(), copy)?;
+    let disk = copied_disk(rt.alloc(), copy, firmness_of(firm))?;
     let part = part_of(&disk, sectors)?;
     let before = replacing_text(rt.alloc(), part);
     if let Err(fault) = tell(writer, before) {

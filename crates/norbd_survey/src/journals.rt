@@ -123,8 +123,8 @@ fn named_at(image: &[u8], journal: JournalId) -> u32 {
     )
 }
 
-/// The place of the first open entry from this number on, or of the last entry.
-fn open_entry(image: &[u8], from: u16) -> u32 {
+/// The place of the first entry that is open for another block than this one, or of the last entry.
+fn open_entry(image: &[u8], but: u16) -> u32 {
     let blocks = (image.len() / BLOCK_LEN as usize).min(4_096) as u16;
     for entry in 0..ENTRIES {
         let at = entry_place(entry);
@@ -134,16 +134,20 @@ fn open_entry(image: &[u8], from: u16) -> u32 {
             byte_at(image, at.saturating_add(2)),
             byte_at(image, at.saturating_add(3)),
         ];
-        if entry >= from && matches!(entry_state(bytes, blocks), Entry::Open(_)) {
-            return at;
+        if let Entry::Open(block) = entry_state(bytes, blocks) {
+            if block != but {
+                return at;
+            }
         }
     }
     0x1FFC
 }
 
-/// The number of the entry behind the one at a place.
-fn behind(at: u32) -> u16 {
-    (at.saturating_sub(0x1800) / 4 + 1).min(ENTRIES as u32) as u16
+/// The block that the entry at a place names.
+fn named_block(image: &[u8], at: u32) -> u16 {
+    let low = byte_at(image, at.saturating_add(1));
+    let high = byte_at(image, at.saturating_add(2));
+    low as u16 + 256 * high as u16
 }
 
 /// Both votes for the erase of a journal.
@@ -226,10 +230,10 @@ fn write_fewest<W: fmt::Write>(f: &mut fmt::Formatter<W>, image: &[u8]) -> fmt::
     )
 }
 
-/// Entries of J0 that may not be open.
+/// Entries of J0 that may not both be open.
 fn write_entries<W: fmt::Write>(f: &mut fmt::Formatter<W>, image: &[u8]) -> fmt::Result {
     let at = open_entry(image, 0);
-    let other = open_entry(image, behind(at));
+    let other = open_entry(image, named_block(image, at));
     let one = Four { image, at };
     let two = Four { image, at: other };
     write!(

@@ -14,10 +14,15 @@ use Rattle.sector_slots.specs.Blocks.{AreSettled}
 use Rattle.sector_slots.specs.Sectors.{LiveAt, IsSingle, IsSoundMap, sector_at}
 use Rattle.sector_slots.proofs.BlankLaws.{holds-sound, sound-holds}
 use Rattle.sector_stock.specs.declared.given.Copied.{Copied}
-use Rattle.sector_stock.specs.Index.{AreWithin}
-use Rattle.sector_stock.specs.Takes.{Renews, erases, moves, converts_group, ErasesSpare, IsErasedOnce, IsLeastErased, work_of}
+use Rattle.sector_stock.specs.Index.{AreWithin, erases_of}
+use Rattle.sector_stock.specs.declared.index.BlockState.{BlockState}
+use Rattle.sector_stock.proofs.Even.{even-kept}
+use Rattle.sector_slots.specs.Copying.{HoldsNothing, SameLive}
+use Rattle.sector_slots.proofs.MoveLaws.{same-back}
+use Rattle.sector_map.specs.Replace.{IsInSlots}
+use Rattle.sector_stock.specs.Takes.{Renews, erases, moves, converts_group, ErasesSpare, IsErasedOnce, IsLeastErased, KeepsErases, MakesFirm, work_of}
 use Rattle.sector_stock.specs.declared.policy.Policy.{Policy}
-use Rattle.sector_map.specs.Maps.{IsServing, KeptServing, Nearer}
+use Rattle.sector_map.specs.Maps.{IsServing, KeptServing, Nearer, IsEven}
 use Rattle.sector_map.specs.declared.table.LiveSlots.{LiveSlots}
 use Rattle.sector_map.proofs.MapCalls.{Moved, Steps, moves-steps, converts-steps, moved-keeps, kept-none, kept-after}
 use Rattle.sector_map.proofs.Mounting.{live-tabled}
@@ -84,6 +89,60 @@ spare-kept s a b table i j served h done is =
         index = is;
       };
     }
+
+-- A free slot was made firm: no sector moved.
+firm-live : (m b : List ℕ) → MakesFirm m b → SameLive (slot_at m) (slot_at b) (slot_count m)
+firm-live m b h s low = elim (h.slots s low) [ inl e ↦ inl e | inr d ↦ inr (subst (λ q. HoldsNothing q) (sym d.0) tt, subst (λ q. HoldsNothing q) (sym d.1) tt) ]
+
+firm-before : (w g : ℕ) (k : Generation) (x m b : List ℕ) → MakesFirm m b → LiveAt (slot_at b) (slot_count b) w g k x → LiveAt (slot_at m) (slot_count m) w g k x
+firm-before w g k x m b h l =
+    let n : data_blocks b ≡ data_blocks m = ap (λ c. block_count c - 4) h.keeps.chip.same_length in
+    let inside = l.number in
+    let low : w < slot_count m = omega (arith, inside, n) in
+    same-back (slot_at m) (slot_at b) (slot_count m) (firm-live m b h) w g k x (record { number = low; is = l.is })
+
+pub firm-own : (m b : List ℕ) → MakesFirm m b → (g : ℕ) → IsInSlots g m → IsInSlots g b
+firm-own m b h g o w k x l =
+    let was = firm-before w g k x m b h l in
+    let inside = was.number in
+    ap is_group (h.kinds (w / 7) (omega (arith, inside))) ∙ o w k x was
+
+firm-moved : (m b : List ℕ) → MakesFirm m b → IsSoundMap m → IsSingle m → Moved m b
+firm-moved m b h sound single = record {
+  chip = h.keeps.chip;
+  sound = holds-sound b (sector_at m) (h.keeps.sectors (sector_at m) (sound-holds m sound));
+  single = record { one = λ w v g j k x y l r. single.one w v g j k x y (firm-before w g j x m b h l) (firm-before v g k y m b h r) };
+  blocks = h.blocks;
+  alone = h.keeps.alone;
+  own = firm-own m b h;
+  sectors = λ c. h.keeps.sectors;
+  clean = h.keeps.clean;
+}
+
+pub firm-kept : (a b : NorState) (table : List LiveSlots) (i j : Bool) → IsServing table a i → MakesFirm a.memory b.memory → SucceedsSettled a b → j ≡ true → KeptServing table a b j
+firm-kept a b table i j served h done is =
+    let moved = firm-moved a.memory b.memory h served.store.slots (single-tabled table a.memory served.tabled) in
+    let keeps = moved-keeps a.memory b.memory moved (settled-healthy b.memory done.settled) served.store.slots in
+    record {
+      keeps = keeps;
+      served = record {
+        ready = ready-after a b done.kept served.ready;
+        settled = done.settled;
+        store = keeps.store;
+        blocks = moved.blocks;
+        tabled = record {
+          size = served.tabled.size ∙ ap (λ c. sector_count c) (sym h.keeps.chip.same_length);
+          tabled = live-tabled table a.memory b.memory h.keeps.chip.same_length (firm-live a.memory b.memory h) served.tabled.tabled;
+          single = served.tabled.single;
+        };
+        index = is;
+      };
+    }
+
+-- no erase was counted
+pub firm-even : (k : ℕ) (p q : Policy) (m b : List ℕ) (blocks blocks' : List BlockState) → length b ≡ length m → q ≡ p → KeepsErases (data_blocks m) (erases_of blocks) (erases_of blocks') → IsEven k p (data_blocks m) blocks → IsEven k q (data_blocks b) blocks'
+firm-even k p q m b blocks blocks' e same kept even by =
+    subst (λ n. AreWithin k (block_count n - 4) (erases_of blocks')) (sym e) (even-kept k (data_blocks m) (erases_of blocks) (erases_of blocks') kept (even (sym same ∙ by)))
 
 -- nothing has happened yet
 pub settled-none : (a : NorState) (table : List LiveSlots) (i : Bool) → IsServing table a i → SucceedsSettled a a

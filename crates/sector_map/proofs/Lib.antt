@@ -20,3 +20,5 @@ mod GroupRoom
 pub mod Grouped
 pub mod Evening
 pub mod Zeroing
+mod Alike
+mod Moving

@@ -1,34 +1,22 @@
 -- The superblock of a chip that is mounted, and the mark of a mixed chip in it.
-use Rattle.std.proofs.Common.{◌≡◌, ◌≢◌, ℕ, ◌-◌, ◌<◌, ◌⊎◌, Bool, true, false, ◌&&◌, List, length, refl, sym, ap, ◌∙◌, subst, arith, inl, inr, Ok, Err}
+use Rattle.std.proofs.Common.{◌≡◌, ◌≢◌, ℕ, ◌<◌, ◌⊎◌, Bool, true, false, ◌&&◌, List, length, refl, sym, ap, ◌∙◌, subst, arith, inl, inr, Ok, Err}
 use Rattle.std.specs.Prelude.{◌==◌, ◌||◌, not, if◌then◌else◌}
 use Rattle.std.proofs.lemmas.Bool.{cases_eq, eq-eqb, ne_eqb}
 use Rattle.chip_model.specs.Memory.{byte}
-use Rattle.chip_model.specs.Geometry.{block_count}
 use Rattle.chip_model.specs.declared.geometry.Geometry.{Geometry}
 use Rattle.nor_layout.specs.Layouts.{layout_of}
 use Rattle.nor_layout.specs.Superblock.{has_name, is_sealed, blocks_in, groups_in, layout_in, mixed_in}
 use Rattle.nor_layout.specs.declared.layout.Layout.TheVariants.{Groups, Mixed}
 use Rattle.nor_layout.specs.declared.superblock.SuperError.TheVariants as refusals
-use Rattle.nor_layout.specs.Kinds.{kind_of}
 use Rattle.erase_journal.specs.Blocks.{SameChip, OnlySuper}
-use Rattle.sector_slots.specs.Slots.{slot_in, data_blocks, kind_at, raw_slot, slot_at, slot_count}
-use Rattle.sector_slots.specs.Blocks.{AreSettled, IsSettledBlocks, HasGroupRoom}
 use Rattle.sector_slots.specs.Sectors.{IsSoundMap, sector_at}
 use Rattle.sector_slots.specs.Laws.{IsMarked}
 use Rattle.sector_slots.proofs.MixLaws.{only-marked, marks-keep}
-use Rattle.sector_slots.proofs.GroupLaws.{room-same}
-use Rattle.nor_layout.specs.declared.kind.Kind.{Kind}
-use Rattle.sector_slots.specs.Blocks.{IsAtRest}
-use Rattle.sector_slots.specs.Slots.{counted, Slot}
 use Rattle.sector_slots.specs.Sectors.{HoldsSectors}
-use Rattle.sector_map.specs.Found.{FoundIn, FoundBelow, RoomSeen}
-use Rattle.sector_map.specs.Table.{IsTabled, Mends, Repairs, Mounts, MountCut}
-use Rattle.sector_map.specs.declared.found.Found.{Found}
-use Rattle.sector_map.specs.declared.found.Found.TheVariants.{AtRest, Void, Committed}
+use Rattle.sector_map.specs.Table.{Mends, Repairs, Mounts, MountCut}
 use Rattle.sector_map.specs.declared.table.LiveSlots.{LiveSlots}
-use Rattle.sector_map.proofs.Mounting.{live-tabled}
 use Rattle.sector_map.proofs.Retiring.{single-tabled}
-use Rattle.sector_slots.proofs.BlankLaws.{sound-holds, holds-sound, counted-same}
+use Rattle.sector_slots.proofs.BlankLaws.{sound-holds, holds-sound}
 use Rattle.sector_map.specs.Maps.{IsLaidOut, is_layout, geometry_of}
 use Rattle.sector_map.specs.Marking.{SameDisk, IsUnmarked, is_unmarked, mixed_mark, Marks}
 
@@ -117,54 +105,7 @@ marks-none m m' e same = subst (λ z. Marks m z) (sym same) (record {
   blocks = same-marked m;
 })
 
--- What was read of the blocks stands.
-kinds-are : (m m' : List ℕ) → IsMarked m m' → (d : ℕ) → d < data_blocks m → kind_at m' d ≡ kind_at m d
-kinds-are m m' h d low = ap kind_of (h.each d low)
-
-slots-are : (m m' : List ℕ) → IsMarked m m' → (d i : ℕ) → d < data_blocks m → i < 7 → raw_slot m' d i ≡ raw_slot m d i
-slots-are m m' h d i low small = ap (λ b. slot_in b i) (h.each d low)
-
-abbrev marked_slots : List ℕ → ℕ → ℕ → Slot
-marked_slots m' n = counted (kind_at m') (raw_slot m') (block_count n - 4)
-
-marked-slot : (m m' : List ℕ) → IsMarked m m' → (s : ℕ) → s < slot_count m → slot_at m' s ≡ slot_at m s
-marked-slot m m' h s low = ap (λ n. marked_slots m' n s) h.same_length ∙ counted-same (kind_at m) (kind_at m') (raw_slot m) (raw_slot m') (data_blocks m) s (kinds-are m m' h) (slots-are m m' h) low
-
-pub marked-tabled : (table : List LiveSlots) (m m' : List ℕ) → IsMarked m m' → IsTabled table (slot_at m) (slot_count m) → IsTabled table (slot_at m') (slot_count m')
-marked-tabled table m m' h t = live-tabled table m m' h.same_length (λ s low. inl (marked-slot m m' h s low)) t
-
-found-same : (found : Found) (kind kind' : ℕ → Kind) (n : ℕ) → ((d : ℕ) → d < n → kind' d ≡ kind d) → FoundBelow found kind n n → FoundBelow found kind' n n
-found-same AtRest kind kind' n same h = record { rest = λ d low. subst (λ z. IsAtRest z) (sym (same d low)) (h.rest d low) }
-found-same (Void t) kind kind' n same h = record {
-  number = h.number;
-  void = same t h.number ∙ h.void;
-  others = λ d low ne. subst (λ z. IsAtRest z) (sym (same d low)) (h.others d low ne);
-}
-found-same (Committed s t) kind kind' n same h = record {
-  number = h.number;
-  committed = same t h.number ∙ h.committed;
-  source = h.source;
-  other = h.other;
-  others = λ d low ne. subst (λ z. IsAtRest z) (sym (same d low)) (h.others d low ne);
-}
-
-pub marked-found : (found : Found) (m m' : List ℕ) → IsMarked m m' → FoundIn found m → FoundIn found m'
-marked-found found m m' h f = subst (λ n. FoundBelow found (kind_at m') (block_count n - 4) (block_count n - 4)) (sym h.same_length) (found-same found (kind_at m) (kind_at m') (data_blocks m) (kinds-are m m' h) f)
-
-settled-same : (m m' : List ℕ) → IsMarked m m' → AreSettled m → IsSettledBlocks (kind_at m') (raw_slot m') (data_blocks m)
-settled-same m m' h s = record {
-  rest = λ d low. subst (λ z. IsAtRest z) (sym (kinds-are m m' h d low)) (s.rest d low);
-  reserve = s.reserve;
-  number = s.number;
-  spare = record { plain = kinds-are m m' h s.reserve s.number ∙ s.spare.plain; free = λ i low. slots-are m m' h s.reserve i s.number low ∙ s.spare.free i low };
-}
-
-pub marked-room : (found : Found) (spare : Bool) (m m' : List ℕ) → IsMarked m m' → RoomSeen found spare m → RoomSeen found spare m'
-marked-room AtRest true m m' h r = subst (λ n. IsSettledBlocks (kind_at m') (raw_slot m') (block_count n - 4)) (sym h.same_length) (settled-same m m' h r)
-marked-room AtRest false m m' h r = subst (λ n. HasGroupRoom (kind_at m') (block_count n - 4)) (sym h.same_length) (room-same (kind_at m) (kind_at m') (data_blocks m) (kinds-are m m' h) r)
-marked-room (Void t) spare m m' h r = tt
-marked-room (Committed s t) spare m m' h r = tt
-
+-- What it holds stands.
 pub marked-holds : (m m' : List ℕ) → IsMarked m m' → IsSoundMap m → HoldsSectors (sector_at m) m'
 marked-holds m m' h sound = (marks-keep m m' h).0 (sector_at m) (sound-holds m sound)
 

@@ -1,5 +1,5 @@
 -- A sector is written with zeros, and then cleared.
-use Rattle.std.proofs.Common.{◌≡◌, ℕ, ◌<◌, Bool, List, length, ap, ◌∙◌, subst, sym, inl, inr}
+use Rattle.std.proofs.Common.{◌≡◌, ℕ, ◌<◌, Bool, List, length, ◌∙◌, subst, sym, inl, inr}
 use Rattle.chip_model.specs.Geometry.{sector_count}
 use Rattle.nor_driver.specs.State.{NorState}
 use Rattle.erase_journal.proofs.Renewal.{same-chip-on}

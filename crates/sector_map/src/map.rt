@@ -19,13 +19,14 @@ ghost use Rattle.sector_map.specs.Filling.{latched_after_cut};
 
 use crate::Held;
 use crate::error::MapError;
+use crate::firm::clear_as;
 use crate::mount::mount_slots;
-use crate::steps::{clear_levelled, find_sector, tidy_levelled, tidy_when_short, write_levelled};
+use crate::steps::{find_sector, tidy_levelled, tidy_when_short, write_levelled};
 use crate::stock::Stock;
 use crate::superblock::look;
 use crate::table::LiveSlots;
 use chip_model::Geometry;
-use erase_journal::{Journal, RecoverError};
+use erase_journal::{Firmness, Journal, RecoverError};
 use journal_slots::SectorSlots;
 use nor_driver::{Nor, NorError};
 use nor_layout::SuperError;
@@ -46,6 +47,8 @@ pub struct SectorMap<N: Nor> {
     table: Vec<LiveSlots>,
     /// The latched error. If both occurred, Slow is latched.
     latched: Option<NorError>,
+    /// What is assumed of torn bits.
+    firmness: Firmness,
 }
 
 impl<N: Nor> Model for SectorMap<N> {
@@ -75,9 +78,21 @@ impl<N: Nor> SectorMap<N> {
         ensures ok { IfOk result (λ map. Mounted (N.state nor) map) }
         ensures fails { IfErr result (λ e. MountFails e.1 (N.state nor) (N.state e.0)) }
     {
+        SectorMap::mount_as(alloc, nor, Firmness::Steady)
+    }
+
+    /// The same with what is assumed of torn bits: here, in each `restore` and in each `clear`.
+    pub fn mount_as(
+        alloc: Global,
+        nor: N,
+        firmness: Firmness,
+    ) -> Result<SectorMap<N>, (N, MapError)>
+        ensures ok { IfOk result (λ map. Mounted (N.state nor) map) }
+        ensures fails { IfErr result (λ e. MountFails e.1 (N.state nor) (N.state e.0)) }
+    {
         let mut nor = nor;
         match look(&mut nor) {
-            Ok(Ok(_layout)) => recover(alloc, nor),
+            Ok(Ok(_layout)) => recover(alloc, nor, firmness),
             Ok(Err(SuperError::NotFormatted)) => Err((nor, MapError::NotFormatted)),
             Ok(Err(SuperError::Layout)) => Err((nor, MapError::Corrupt)),
             Ok(Err(SuperError::Geometry)) => Err((nor, MapError::Corrupt)),
@@ -156,9 +171,10 @@ impl<N: Nor> SectorMap<N> {
     }
 
     /// Makes a sector absent: it reads as zeros, and its next content begins with the first
-    /// generation. One change of the chip, none if it is absent already. Before that a block that
-    /// holds the sector with its group is converted, which copies seven sectors, and where wear is
-    /// levelled blocks may be moved. Cut, every sector is as it was, or this one is zeros. Contents
+    /// generation. One change of the chip, none if it is absent already; of a map that was mounted
+    /// firmly six, since zeros are written first. Before that a block that holds the sector with
+    /// its group is converted, which copies seven sectors, and where wear is levelled blocks may be
+    /// moved. Cut, every sector is as it was, or this one is zeros. Contents
     /// are promised of a clean memory (`is_clean`).
     pub fn clear(&mut self, sector: u16) -> Result<(), NorError>
         requires number { sector < sector_count (length self.old.memory) }
@@ -171,7 +187,12 @@ impl<N: Nor> SectorMap<N> {
         if let Some(error) = self.latched {
             return Err(error);
         }
-        match clear_levelled(&mut self.stock, self.table.as_mut_slice(), sector) {
+        match clear_as(
+            &mut self.stock,
+            self.table.as_mut_slice(),
+            sector,
+            self.firmness,
+        ) {
             Ok(()) => Ok(()),
             Err(error) => {
                 self.latched = Some(error);
@@ -260,7 +281,7 @@ impl<N: Nor> SectorMap<N> {
         ensures ok { OnOk result (MapRestored self.old self.new) }
         ensures fails { IfErr result (λ e. MapRestoreFails e self.old self.new) }
     {
-        match renew(&mut self.stock, self.table.as_mut_slice()) {
+        match renew(&mut self.stock, self.table.as_mut_slice(), self.firmness) {
             Ok(true) => {
                 self.latched = None;
                 Ok(())
@@ -315,6 +336,7 @@ impl<N: Nor> SectorMap<N> {
             stock,
             table: _table,
             latched: _latched,
+            firmness: _,
         } = self;
         uncover(stock)
     }
@@ -345,6 +367,7 @@ fn take_tables(alloc: Global, chip: Geometry) -> Result<Tables, AllocError>
         plain: false,
         group: false,
         erases: 0,
+        suspect: false,
     };
     let blocks = vec![in alloc; blank; count]?;
     Ok(Tables {
@@ -355,7 +378,7 @@ fn take_tables(alloc: Global, chip: Geometry) -> Result<Tables, AllocError>
 }
 
 /// Steps 2 to 10 of a mount: of a memory whose superblock was looked at.
-fn recover<N: Nor>(alloc: Global, nor: N) -> Result<SectorMap<N>, (N, MapError)>
+fn recover<N: Nor>(alloc: Global, nor: N, firmness: Firmness) -> Result<SectorMap<N>, (N, MapError)>
     requires superblock { IsLaidOut (N.state nor).memory }
     ensures ok { IfOk result (λ map. Mounted (N.state nor) map) }
     ensures fails { IfErr result (λ e. MountFails e.1 (N.state nor) (N.state e.0)) }
@@ -366,8 +389,8 @@ fn recover<N: Nor>(alloc: Global, nor: N) -> Result<SectorMap<N>, (N, MapError)>
     let Ok(tables) = take_tables(alloc, chip) else {
         return Err((nor, MapError::OutOfMemory));
     };
-    match Journal::recover(nor) {
-        Ok(journal) => fill(SectorSlots::new(journal), tables),
+    match Journal::recover_as(nor, firmness) {
+        Ok(journal) => fill(SectorSlots::new(journal), tables, firmness),
         Err((nor, RecoverError::Cut)) => Err((nor, MapError::Cut)),
         Err((nor, RecoverError::Slow)) => Err((nor, MapError::Slow)),
         Err((nor, RecoverError::Corrupt)) => Err((nor, MapError::Corrupt)),
@@ -375,7 +398,11 @@ fn recover<N: Nor>(alloc: Global, nor: N) -> Result<SectorMap<N>, (N, MapError)>
 }
 
 /// Steps 4 to 10 of a mount: of slots whose journals were recovered.
-fn fill<N: Nor>(slots: SectorSlots<N>, tables: Tables) -> Result<SectorMap<N>, (N, MapError)>
+fn fill<N: Nor>(
+    slots: SectorSlots<N>,
+    tables: Tables,
+    firmness: Firmness,
+) -> Result<SectorMap<N>, (N, MapError)>
     requires ready { IsNorReady slots }
     requires table { vec_len tables.table ≡ sector_count (length slots.memory) }
     requires states { vec_len tables.states ≡ slot_count slots.memory }
@@ -386,11 +413,12 @@ fn fill<N: Nor>(slots: SectorSlots<N>, tables: Tables) -> Result<SectorMap<N>, (
 {
     let mut stock = Stock::new(slots, tables.states, tables.blocks);
     let mut table = tables.table;
-    match mount_slots(&mut stock, table.as_mut_slice()) {
+    match mount_slots(&mut stock, table.as_mut_slice(), firmness) {
         Ok(true) => Ok(SectorMap {
             stock,
             table,
             latched: None,
+            firmness,
         }),
         Ok(false) => Err((uncover(stock), MapError::Corrupt)),
         Err(NorError::Cut) => Err((uncover(stock), MapError::Cut)),
@@ -426,7 +454,11 @@ fn after_cut(latched: Option<NorError>) -> Option<NorError>
 
 /// Turns the power on anew, recovers the journals, and makes the table again; false if the memory
 /// is corrupt, which comes after a Slow alone.
-fn renew<S: Reclaim>(stock: &mut S, table: &mut [LiveSlots]) -> Result<bool, NorError>
+fn renew<S: Reclaim>(
+    stock: &mut S,
+    table: &mut [LiveSlots],
+    firmness: Firmness,
+) -> Result<bool, NorError>
     requires size { length table.old ≡ sector_count (length (S.state stock.old).memory) }
     ensures ok { IfOk result (λ sound. IsTrue sound
         → Renewed table.new (S.state stock.old) (S.state stock.new) (S.indexed stock.new)) }
@@ -436,7 +468,7 @@ fn renew<S: Reclaim>(stock: &mut S, table: &mut [LiveSlots]) -> Result<bool, Nor
     ensures size { length table.new ≡ length table.old }
 {
     match stock.restore() {
-        Ok(()) => mount_slots(stock, table),
+        Ok(()) => mount_slots(stock, table, firmness),
         Err(RecoverError::Cut) => Err(NorError::Cut),
         Err(RecoverError::Slow) => Err(NorError::Slow),
         Err(RecoverError::Corrupt) => Ok(false),

@@ -1,5 +1,5 @@
 //! Steps 4 to 10 of a mount (docs/SECTORS.md, "A mount"): all blocks are read, and found corrupt or
-//! not, before any is mended.
+//! not, before any is mended, or programmed again.
 
 ghost use Rattle.std.specs.Prelude.{◌≡◌, ◌⊎◌, ◌<◌, ℕ, List, true, false, Some, None, length, OnOk};
 ghost use Rattle.std.specs.Prelude.{IfOk, IfErr, IsTrue, IsFalse};
@@ -20,18 +20,24 @@ ghost use Rattle.sector_map.specs.Table.{IsTabled, IsTableOf, IsBlankTable, Mend
 ghost use Rattle.sector_map.specs.Table.{MountCut};
 ghost use Rattle.sector_map.specs.declared.found.Seen.{Seen as SeenOf};
 
+use crate::firm::{firm_as, move_begun, suspect_as};
 use crate::found::{Found, Seen, has_room};
 use crate::groups::{has_pair, lowest_dead_group, make_room, retire_groups};
 use crate::scan::{is_spare, read_table, survey};
 use crate::superblock::{mark_first, read_marks};
 use crate::table::{LiveSlots, keep_one};
+use erase_journal::Firmness;
 use nor_driver::NorError;
 use sector_slots::SlotCalls;
 use sector_stock::{Reclaim, end_committed, end_erased, end_void};
 
-/// Steps 4 to 10. False, and nothing is changed, if slots or blocks are corrupt. After an error the
-/// table holds any entries.
-pub fn mount_slots<S: Reclaim>(stock: &mut S, table: &mut [LiveSlots]) -> Result<bool, NorError>
+/// Steps 4 to 10, as torn bits are taken. False, and nothing is changed, if slots or blocks are
+/// corrupt. After an error the table holds any entries.
+pub fn mount_slots<S: Reclaim>(
+    stock: &mut S,
+    table: &mut [LiveSlots],
+    firmness: Firmness,
+) -> Result<bool, NorError>
     requires size { length table.old ≡ sector_count (length (S.state stock.old).memory) }
     ensures sound { IfOk result (λ sound. IsTrue sound
         → Mounts (S.state stock.old).memory table.new (S.state stock.new).memory) }
@@ -52,7 +58,9 @@ pub fn mount_slots<S: Reclaim>(stock: &mut S, table: &mut [LiveSlots]) -> Result
     match look(stock, table, marks.groups)? {
         Some(seen) => {
             mark_first(stock, marks.unmarked)?;
-            repair(stock, table, seen)?;
+            let begun = firm_as(stock, firmness)?;
+            repair(stock, table, seen, begun)?;
+            suspect_as(stock, firmness);
             Ok(true)
         }
         None => Ok(false),
@@ -123,8 +131,14 @@ fn fit<S: SlotCalls>(slots: &mut S, seen: Seen, pair: bool) -> Result<Option<See
     }
 }
 
-/// Steps 6 to 10: mends the blocks, retires the older of two slots, and makes the index.
-fn repair<S: Reclaim>(stock: &mut S, table: &mut [LiveSlots], seen: Seen) -> Result<(), NorError>
+/// Steps 6 to 10: mends the blocks, retires the older of two slots, moves the blocks in which a
+/// slot is begun, if one was seen, and makes the index.
+fn repair<S: Reclaim>(
+    stock: &mut S,
+    table: &mut [LiveSlots],
+    seen: Seen,
+    begun: bool,
+) -> Result<(), NorError>
     requires size { length table.old ≡ sector_count (length (S.state stock.old).memory) }
     requires tabled { IsTabled table.old (slot_at (S.state stock.old).memory)
         (slot_count (S.state stock.old).memory) }
@@ -144,6 +158,7 @@ fn repair<S: Reclaim>(stock: &mut S, table: &mut [LiveSlots], seen: Seen) -> Res
 {
     mend_blocks(stock, table, seen)?;
     retire_older(stock, table)?;
+    move_begun(stock, table, begun)?;
     stock.fill()?;
     Ok(())
 }

@@ -6,8 +6,9 @@ ghost use Rattle.nor_layout.specs.declared.header.Header.TheVariants as headers;
 ghost use Rattle.erase_journal.specs.Steps.{EndsSettled};
 ghost use Rattle.sector_slots.specs.Slots.{slot_at, slot_count, data_blocks, read_header};
 ghost use Rattle.sector_slots.specs.Slots.{IsSpareIn};
-ghost use Rattle.sector_slots.specs.Blocks.{AreSound};
+ghost use Rattle.sector_slots.specs.Blocks.{AreSound, AreSettled};
 ghost use Rattle.sector_slots.specs.Sectors.{SoundSlots, HasSlotsAlone};
+ghost use Rattle.sector_stock.specs.Room.{IsSpareBlock};
 ghost use Rattle.sector_map.specs.Found.{FoundIn, block_counts, noted_where};
 ghost use Rattle.sector_map.specs.declared.found.Found.{Found as FoundOf};
 ghost use Rattle.sector_map.specs.Scan.{EntersBlock, RefusesBlock};
@@ -195,6 +196,23 @@ pub fn is_spare<S: SlotCalls>(slots: &mut S, block: u16) -> Result<bool, NorErro
     let mut heads = [Header::Free; 7];
     let kind = slots.head(block, &mut heads)?;
     Ok(is_wholly_free(kind, &heads))
+}
+
+/// The lowest-numbered wholly free block.
+#[tactic(auto, using(erase_journal::proofs::Calls::repeated_calls))]
+pub(crate) fn lowest_spare<S: SlotCalls>(slots: &mut S) -> Result<u16, NorError>
+    requires blocks { AreSettled (S.state slots.old).memory }
+    ensures spare { IfOk result (λ block. IsSpareBlock block (S.state slots.old).memory) }
+    ensures same { (S.state slots.new).memory ≡ (S.state slots.old).memory }
+    ensures ends { EndsSettled result (S.state slots.old) (S.state slots.new) }
+{
+    let count = slots.blocks();
+    for block in 0..count {
+        if is_spare(slots, block)? {
+            return Ok(block);
+        }
+    }
+    unreachable!()
 }
 
 /// Whether one of two is so.

@@ -25,7 +25,8 @@ use nor_layout::{Generation, Tag};
 use sector_stock::{Purpose, RENEW_NOW, RENEW_SOON, Reclaim};
 
 /// Writes a sector into a slot that it takes, and retires the slot that held it, if one did. Before
-/// that it levels wear, and converts a block that holds the sector with its group.
+/// that it levels wear, converts a block that holds the sector with its group, and makes the block
+/// of the slot firm, where it is suspect.
 pub(crate) fn write_levelled<S: Reclaim>(
     stock: &mut S,
     table: &mut [LiveSlots],
@@ -44,6 +45,7 @@ pub(crate) fn write_levelled<S: Reclaim>(
     ensures ends { EndsSettled result (S.state stock.old) (S.state stock.new) }
 {
     make_way(stock, table, sector)?;
+    stock.firm_free()?;
     write_ungrouped(stock, table, sector, content)
 }
 

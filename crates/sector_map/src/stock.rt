@@ -12,11 +12,11 @@ use erase_journal::RecoverError;
 use journal_slots::SectorSlots;
 use nor_driver::{Nor, NorError};
 use nor_layout::{Header, Kind, Tag};
-use sector_slots::SlotCalls;
+use sector_slots::{FirmCalls, SlotCalls};
 use sector_stock::{
     BOUNDS, BlockState, Copied, Cursors, Given, Policy, Purpose, Reclaim, SlotState,
-    choose_by_erases, convert_block, fill_index, has_work, is_short, lagging, level_block,
-    mark_dead, mark_written, renew_block, take_slot, tidy_block,
+    choose_by_erases, convert_block, fill_index, firm_free, has_work, is_short, lagging,
+    level_block, mark_dead, mark_written, renew_block, suspect_all, take_slot, tidy_block,
 };
 
 /// A store of slots, and an index of them in memory: the state of each slot, the counts of each
@@ -211,6 +211,27 @@ impl<N: Nor> SlotCalls for Stock<N> {
     }
 }
 
+impl<N: Nor> FirmCalls for Stock<N> {
+    fn firm(&mut self) -> Result<(), NorError> {
+        self.indexed = false;
+        self.slots.firm()
+    }
+
+    fn firm_head(&mut self, block: u16) -> Result<bool, NorError> {
+        self.indexed = false;
+        self.slots.firm_head(block)
+    }
+
+    fn has_begun(&mut self, block: u16) -> Result<bool, NorError> {
+        self.slots.has_begun(block)
+    }
+
+    fn kill(&mut self, slot: u16) -> Result<(), NorError> {
+        self.indexed = false;
+        self.slots.kill(slot)
+    }
+}
+
 impl<N: Nor> Reclaim for Stock<N> {
     ghost policy = { λ stock. stock.at.policy };
 
@@ -225,6 +246,22 @@ impl<N: Nor> Reclaim for Stock<N> {
             self.states.as_mut_slice(),
             self.blocks.as_mut_slice(),
             self.at.policy,
+        )?;
+        self.indexed = true;
+        Ok(())
+    }
+
+    fn suspect_free(&mut self) {
+        suspect_all(self.blocks.as_mut_slice());
+    }
+
+    fn firm_free(&mut self) -> Result<(), NorError> {
+        self.indexed = false;
+        firm_free(
+            &mut self.slots,
+            self.states.as_mut_slice(),
+            self.blocks.as_mut_slice(),
+            &mut self.at,
         )?;
         self.indexed = true;
         Ok(())

@@ -151,7 +151,7 @@ pub(crate) fn follow_copied<S: Reclaim>(
 }
 
 /// Names the slots of a block in the entries of their sectors.
-fn follow_block<S: Reclaim>(
+pub(crate) fn follow_block<S: Reclaim>(
     slots: &mut S,
     table: &mut [LiveSlots],
     block: u16,

@@ -65,7 +65,7 @@ noted-here : (c : ℕ) (kind : Kind) (heads : List Header) (slots slots' : List 
     → ((i : ℕ) → i < 7 → in_heads heads i ≡ descriptor_in (data_block m c) i) → IsNoted c slots' blocks' m
 noted-here c kind heads slots slots' blocks blocks' m h k d = record {
   states = λ i low. h.states.here i low ∙ (ap header_state (d i low) ∙ sym (state-raw m c i));
-  block = h.block ∙ ap (λ a. record { free = states_tally is_free_state slots' c; dead = states_tally is_dead_state slots' c; plain = is_plain a; group = is_live_group a; erases = 0 }) k;
+  block = h.block ∙ ap (λ a. record { free = states_tally is_free_state slots' c; dead = states_tally is_dead_state slots' c; plain = is_plain a; group = is_live_group a; erases = 0; suspect = false }) k;
 }
 
 noted-other : (c b : ℕ) (kind : Kind) (heads : List Header) (slots slots' : List SlotState) (blocks blocks' : List BlockState) (m : List ℕ) → BlockNoted b kind heads slots slots' blocks blocks' → c ≢ b → 7 * c + 7 ≤ length slots → c < length blocks
@@ -75,8 +75,8 @@ noted-other c b kind heads slots slots' blocks blocks' m h other fits low old =
     record {
       states = λ i small. same i small ∙ old.states i small;
       block = h.other_blocks c low other ∙ (old.block
-          ∙ (ap (λ a. record { free = a; dead = states_tally is_dead_state slots c; plain = is_plain (kind_at m c); group = is_live_group (kind_at m c); erases = 0 }) (sym (count-same is_free_state slots slots' c same))
-          ∙ ap (λ a. record { free = states_tally is_free_state slots' c; dead = a; plain = is_plain (kind_at m c); group = is_live_group (kind_at m c); erases = 0 }) (sym (count-same is_dead_state slots slots' c same))));
+          ∙ (ap (λ a. record { free = a; dead = states_tally is_dead_state slots c; plain = is_plain (kind_at m c); group = is_live_group (kind_at m c); erases = 0; suspect = false }) (sym (count-same is_free_state slots slots' c same))
+          ∙ ap (λ a. record { free = states_tally is_free_state slots' c; dead = a; plain = is_plain (kind_at m c); group = is_live_group (kind_at m c); erases = 0; suspect = false }) (sym (count-same is_dead_state slots slots' c same))));
     }
 
 pub noted-next : (b n : ℕ) (kind : Kind) (heads : List Header) (slots slots' : List SlotState) (blocks blocks' : List BlockState) (m : List ℕ) → b < n → length slots ≡ 7 * n → length blocks ≡ n → BlockNoted b kind heads slots slots' blocks blocks'

@@ -80,6 +80,26 @@ listed-dead w n f f' kind kind' slots slots' blocks blocks' low only kinds live 
       group = old.group ∙ sym (ap is_live_group (kinds (w / 7) (omega arith)));
     }) h
 
+-- a free slot became dead
+pub listed-killed : (w n : ℕ) (f f' : ℕ → Slot) (kind kind' : ℕ → Kind) (slots slots' : List SlotState) (blocks blocks' : List BlockState) → w < 7 * n → OthersKept (7 * n) w f f' → ((d : ℕ) → d < n → kind' d ≡ kind d)
+    → f w ≡ Free → f' w ≡ Dead → Marked w states.Dead (one_dead_more (one_free_fewer (in_block blocks (w / 7)))) slots slots' blocks blocks' → IsListed slots blocks f kind n → IsListed slots' blocks' f' kind' n
+listed-killed w n f f' kind kind' slots slots' blocks blocks' low only kinds free dead m h =
+    let old = h.each_block (w / 7) (omega arith) in
+    let of : is_free_slot (f w) ≡ true = ap is_free_slot free in
+    let od : is_dead (f w) ≡ false = ap is_dead free in
+    let nf : is_free_slot (f' w) ≡ false = ap is_free_slot dead in
+    let nd : is_dead (f' w) ≡ true = ap is_dead dead in
+    let cf-at = tally-here is_free_slot f f' n w only low in
+    let cf = rw (of, nf) at cf-at in
+    let cd-at = tally-here is_dead f f' n w only low in
+    let cd = rw (od, nd) at cd-at in
+    listed-one w n f f' kind kind' slots slots' blocks blocks' states.Dead (one_dead_more (one_free_fewer (in_block blocks (w / 7)))) low only kinds m (sym (ap state_of dead)) (record {
+      free = ap (λ k. k - 1) old.free ∙ omega (arith, cf);
+      dead = ap (λ k. k + 1) old.dead ∙ omega (arith, cd);
+      plain = old.plain ∙ sym (ap is_plain (kinds (w / 7) (omega arith)));
+      group = old.group ∙ sym (ap is_live_group (kinds (w / 7) (omega arith)));
+    }) h
+
 -- a free slot became live
 pub listed-live : (w n : ℕ) (f f' : ℕ → Slot) (kind kind' : ℕ → Kind) (slots slots' : List SlotState) (blocks blocks' : List BlockState) → w < 7 * n → OthersKept (7 * n) w f f' → ((d : ℕ) → d < n → kind' d ≡ kind d)
     → f w ≡ Free → IsLive (f' w) → Marked w states.Live (one_free_fewer (in_block blocks (w / 7))) slots slots' blocks blocks' → IsListed slots blocks f kind n → IsListed slots' blocks' f' kind' n

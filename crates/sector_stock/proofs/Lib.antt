@@ -15,3 +15,4 @@ pub mod Searching
 pub mod Worn
 pub mod Even
 pub mod Renewing
+pub mod Firming

@@ -187,13 +187,13 @@ erased-once s n blocks blocks' at new size h =
     }
 
 -- what it says of a block beside its erases
-record SameBut (b b' : BlockState) : Type 0 where
+pub record SameBut (b b' : BlockState) : Type 0 where
   pub free : b'.free ≡ b.free
   pub dead : b'.dead ≡ b.dead
   pub plain : b'.plain ≡ b.plain
   pub group : b'.group ≡ b.group
 
-abbrev AreSameBut : List BlockState → List BlockState → Type 0
+abbrev pub AreSameBut : List BlockState → List BlockState → Type 0
 AreSameBut blocks blocks' = (c : ℕ) → c < length blocks → SameBut (in_block blocks c) (in_block blocks' c)
 
 same-but : (s : ℕ) (blocks blocks' : List BlockState) (at new : Cursors) → RecountsErase s blocks blocks' at new → AreSameBut blocks blocks'
@@ -217,7 +217,7 @@ counts-but (wanteds.Dead count) b b' h counts = (counts.0, counts.1, sym h.dead 
 counts-but wanteds.Resting b b' h counts = tt
 
 -- the list of blocks, and where it looks next, where only erases changed
-listed-but : (slots : List SlotState) (blocks blocks' : List BlockState) (f : ℕ → Slot) (kind : ℕ → Kind) (n : ℕ) → length blocks' ≡ length blocks → AreSameBut blocks blocks' → IsListed slots blocks f kind n → IsListed slots blocks' f kind n
+pub listed-but : (slots : List SlotState) (blocks blocks' : List BlockState) (f : ℕ → Slot) (kind : ℕ → Kind) (n : ℕ) → length blocks' ≡ length blocks → AreSameBut blocks blocks' → IsListed slots blocks f kind n → IsListed slots blocks' f kind n
 listed-but slots blocks blocks' f kind n size same h =
     let k = h.block_size in
     record {
@@ -230,7 +230,7 @@ listed-but slots blocks blocks' f kind n size same h =
           record { free = b.free ∙ t.free; dead = b.dead ∙ t.dead; plain = b.plain ∙ t.plain; group = b.group ∙ t.group };
     }
 
-ahead-but : (blocks blocks' : List BlockState) (at : Cursors) (p : Policy) (bounds : List ℕ) (least most : ℕ) → length blocks' ≡ length blocks → AreSameBut blocks blocks' → AreBounds blocks' bounds → AreWorn least most blocks'
+pub ahead-but : (blocks blocks' : List BlockState) (at : Cursors) (p : Policy) (bounds : List ℕ) (least most : ℕ) → length blocks' ≡ length blocks → AreSameBut blocks blocks' → AreBounds blocks' bounds → AreWorn least most blocks'
     → IsAhead blocks at → IsAhead blocks' (record at { policy = p; bounds = bounds; least_erases = least; most_erases = most })
 ahead-but blocks blocks' at p bounds least most n alike fits worn ahead =
     let same : (c : ℕ) → c < length blocks' → SameBut (in_block blocks c) (in_block blocks' c) = λ c low. alike c (omega (arith, low, n)) in
@@ -271,7 +271,7 @@ ahead-recounted s blocks blocks' at new ls h ahead =
     subst (λ a. IsAhead blocks' a) (sym h.rest) (ahead-but blocks blocks' at at.policy at.bounds at.least_erases new.most_erases n alike bounds worn ahead)
 
 -- the slots and kinds of the memory are what they were
-listed-done : (s : ℕ) (m m' : List ℕ) (slots : List SlotState) (blocks : List BlockState) → ErasesSpare s m m' → IsListed slots blocks (slot_at m) (kind_at m) (data_blocks m) → IsListed slots blocks (slot_at m') (kind_at m') (data_blocks m')
+pub listed-done : (s : ℕ) (m m' : List ℕ) (slots : List SlotState) (blocks : List BlockState) → ErasesSpare s m m' → IsListed slots blocks (slot_at m) (kind_at m) (data_blocks m) → IsListed slots blocks (slot_at m') (kind_at m') (data_blocks m')
 listed-done s m m' slots blocks done h =
     let n : data_blocks m' ≡ data_blocks m = ap (λ k. block_count k - 4) done.chip.same_length in
     record {

@@ -17,7 +17,7 @@ use Rattle.sector_stock.specs.Index.{is_free_slot, is_dead, in_block, IsListed, 
 use Rattle.sector_stock.specs.Index.{Counts, in_bounds, bound_row}
 use Rattle.sector_stock.specs.declared.policy.Wanted.{Wanted}
 use Rattle.sector_stock.specs.declared.policy.Wanted.TheVariants as wanteds
-use Rattle.sector_stock.proofs.IndexLaws.{listed-dead, listed-live}
+use Rattle.sector_stock.proofs.IndexLaws.{listed-dead, listed-live, listed-killed}
 use Rattle.sector_slots.specs.Blocks.{IsReserveOf, IsAtRest}
 use Rattle.sector_stock.specs.Room.{IsOutside, IsSpareBlock}
 use Rattle.sector_stock.proofs.Moved.{numbers-in, reserve-is}
@@ -144,6 +144,38 @@ index-retired w m m' slots slots' blocks blocks' at at' index low live now only 
       reserve = subst (λ r. IsSpareBlock r m') (sym same) (spare-kept w at.reserve m m' only apart index.reserve);
       highest = λ by. subst (λ r. IsReserveOf r m') (sym same) (reserve-kept w at.reserve m m' only (λ bare. subst (λ a. IsBare a) now bare) apart (index.highest (sym policy ∙ by)));
       even = λ by. even-dead w states.Dead slots slots' blocks blocks' marked (index.even (sym policy ∙ by));
+    }
+
+-- a free slot became live in the lists, and then dead
+pub marked-killed : (w : ℕ) (slots slots1 slots' : List SlotState) (blocks blocks1 blocks' : List BlockState) → w / 7 < length blocks → Marked w states.Live (one_free_fewer (in_block blocks (w / 7))) slots slots1 blocks blocks1 → Marked w states.Dead (one_dead_more (in_block blocks1 (w / 7))) slots1 slots' blocks1 blocks'
+    → Marked w states.Dead (one_dead_more (one_free_fewer (in_block blocks (w / 7)))) slots slots' blocks blocks'
+marked-killed w slots slots1 slots' blocks blocks1 blocks' low a b =
+    let n = a.block_size in
+    let k = a.slot_size in
+    record {
+      slot_size = b.slot_size ∙ a.slot_size;
+      block_size = b.block_size ∙ a.block_size;
+      here = b.here;
+      others = λ s l ne. b.others s (omega (arith, l, k)) ne ∙ a.others s l ne;
+      its_block = b.its_block ∙ ap one_dead_more a.its_block;
+      other_blocks = λ c l ne. b.other_blocks c (omega (arith, l, n)) ne ∙ a.other_blocks c l ne;
+    }
+
+-- a free slot of a block that isn't wholly free was made dead
+pub index-killed : (w : ℕ) (m m' : List ℕ) (slots slots1 slots' : List SlotState) (blocks blocks1 blocks' : List BlockState) (at at' : Cursors) → IsIndexOf slots blocks at m → w < slot_count m → slot_at m w ≡ Free → slot_at m' w ≡ Dead
+    → OnlyPlace w m m' → at.reserve ≢ w / 7 → Marked w states.Live (one_free_fewer (in_block blocks (w / 7))) slots slots1 blocks blocks1 → Marked w states.Dead (one_dead_more (in_block blocks1 (w / 7))) slots1 slots' blocks1 blocks'
+    → IsAhead blocks' at' → at'.reserve ≡ at.reserve → at'.policy ≡ at.policy → IsIndexOf slots' blocks' at' m'
+index-killed w m m' slots slots1 slots' blocks blocks1 blocks' at at' index low free now only apart a b ahead same policy =
+    let e = only.only.chip.same_length in
+    let n = index.listed.block_size in
+    record {
+      listed = listed-after m m' slots' blocks' e
+          (listed-killed w (data_blocks m) (slot_at m) (later m m') (kind_at m) (kind_at m') slots slots' blocks blocks' low (place-others w m m' only) (place-kinds w m m' only) free (sym (later-is m m' w e) ∙ now)
+          (marked-killed w slots slots1 slots' blocks blocks1 blocks' (omega (arith, low, n)) a b) index.listed);
+      ahead = ahead;
+      reserve = subst (λ r. IsSpareBlock r m') (sym same) (spare-kept w at.reserve m m' only apart index.reserve);
+      highest = λ by. subst (λ r. IsReserveOf r m') (sym same) (reserve-kept w at.reserve m m' only (λ bare. subst (λ x. IsBare x) now bare) apart (index.highest (sym policy ∙ by)));
+      even = λ by. even-dead w states.Dead slots1 slots' blocks1 blocks' b (even-live w states.Live slots slots1 blocks blocks1 a (index.even (sym policy ∙ by)));
     }
 
 -- a row speaks of no more blocks where one has a free slot less

@@ -1,7 +1,7 @@
 -- The index of a store's slots in memory: what it says of each slot and block, and where it looks
 -- next. Source: own, layout 2.
-use Rattle.std.specs.Prelude.{◌≡◌, ◌≢◌, ℕ, ◌+◌, ◌-◌, ◌*◌, ◌/◌, ◌<◌, ◌≤◌, Bool, true, false, List}
-use Rattle.std.specs.Prelude.{length, slice_index_or, min}
+use Rattle.std.specs.Prelude.{◌≡◌, ◌≢◌, ◌⊎◌, ℕ, ◌+◌, ◌-◌, ◌*◌, ◌/◌, ◌<◌, ◌≤◌, Bool, true, false}
+use Rattle.std.specs.Prelude.{List, length, slice_index_or, min}
 use Rattle.chip_model.specs.Geometry.{IsChipSize}
 use Rattle.erase_journal.specs.Places.{how_many}
 pub use Rattle.nor_layout.specs.Kinds.{is_plain}
@@ -68,7 +68,14 @@ pub record Tallies (b : BlockState) (f : ℕ → Slot) (kind : ℕ → Kind) (c 
 
 -- past the end of the list, for reading it
 abbrev pub no_block : BlockState
-no_block = record { free = 0; dead = 0; plain = false; group = false; erases = 0 }
+no_block = record {
+  free = 0;
+  dead = 0;
+  plain = false;
+  group = false;
+  erases = 0;
+  suspect = false;
+}
 
 abbrev pub in_block : List BlockState → ℕ → BlockState
 in_block blocks c = slice_index_or blocks c no_block
@@ -232,7 +239,7 @@ abbrev pub one_erase_more : ℕ → ℕ
 one_erase_more n = min (n + 1) 65535
 
 -- Block s was copied into block t: t has as many free slots as s had free and dead ones, and none
--- dead; s is wholly free, and was erased once more.
+-- dead; s is wholly free, and was erased once more. What is free in them isn't suspect.
 pub record BlocksMoved (s t : ℕ) (blocks blocks' : List BlockState) : Type 0 where
   pub size : length blocks' ≡ length blocks
   pub source : in_block blocks' s ≡
@@ -242,6 +249,7 @@ pub record BlocksMoved (s t : ℕ) (blocks blocks' : List BlockState) : Type 0 w
         plain = true;
         group = false;
         erases = one_erase_more (in_block blocks s).erases;
+        suspect = false;
       }
   pub target : in_block blocks' t ≡
       record {
@@ -250,8 +258,39 @@ pub record BlocksMoved (s t : ℕ) (blocks blocks' : List BlockState) : Type 0 w
         plain = false;
         group = false;
         erases = (in_block blocks t).erases;
+        suspect = false;
       }
   pub others : (c : ℕ) → c < length blocks → c ≢ s → c ≢ t → in_block blocks' c ≡ in_block blocks c
+
+-- What is free is suspect in each of the first k blocks, and nothing else changed; it is trusted
+-- now in block s alone.
+pub record Suspects (k : ℕ) (blocks blocks' : List BlockState) : Type 0 where
+  pub size : length blocks' ≡ length blocks
+  pub each : (c : ℕ) → c < length blocks → c < k
+      → in_block blocks' c ≡ record (in_block blocks c) { suspect = true }
+  pub others : (c : ℕ) → k ≤ c → in_block blocks' c ≡ in_block blocks c
+
+pub record Trusts (s : ℕ) (blocks blocks' : List BlockState) : Type 0 where
+  pub size : length blocks' ≡ length blocks
+  pub here : in_block blocks' s ≡ record (in_block blocks s) { suspect = false }
+  pub others : (c : ℕ) → c < length blocks → c ≢ s → in_block blocks' c ≡ in_block blocks c
+
+-- A block came to be trusted: at most one of its slots died for it, and no erase was counted. The
+-- others stay.
+pub record ComesToBeTrusted (b b' : BlockState) : Type 0 where
+  pub was : b.suspect ≡ true
+  pub now : b'.suspect ≡ false
+  pub dead : b'.dead ≤ b.dead + 1
+  pub erases : b'.erases ≡ b.erases
+
+pub record TrustsMore (blocks blocks' : List BlockState) : Type 0 where
+  pub size : length blocks' ≡ length blocks
+  pub each : (c : ℕ) → c < length blocks → (in_block blocks' c ≡ in_block blocks c)
+      ⊎ ComesToBeTrusted (in_block blocks c) (in_block blocks' c)
+
+-- no block is suspect
+abbrev pub AreTrusted : List BlockState → Type 0
+AreTrusted blocks = (c : ℕ) → c < length blocks → (in_block blocks c).suspect ≡ false
 
 -- block r is the highest-numbered wholly free one
 pub record IsHighestWhole (blocks : List BlockState) (r : ℕ) : Type 0 where
@@ -312,6 +351,7 @@ pub record BlockNoted (c : ℕ) (kind : Kind) (heads : List Header) (slots slots
         plain = is_plain kind;
         group = is_live_group kind;
         erases = 0;
+        suspect = false;
       }
   pub other_blocks : (d : ℕ) → d < length blocks → d ≢ c → in_block blocks' d ≡ in_block blocks d
 
@@ -325,4 +365,5 @@ pub record IsNoted (c : ℕ) (slots : List SlotState) (blocks : List BlockState)
     plain = is_plain (kind_at m c);
     group = is_live_group (kind_at m c);
     erases = 0;
+    suspect = false;
   }

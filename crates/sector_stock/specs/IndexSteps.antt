@@ -1,6 +1,8 @@
 -- How far a search of the index has come. Words of private functions: no claim rests on them.
 -- Source: own.
-use Rattle.std.specs.Prelude.{◌≡◌, ◌≢◌, ◌⊎◌, ℕ, zero, suc, ◌+◌, ◌*◌, ◌/◌, ◌<◌, ◌≤◌, List, length}
+use Rattle.std.specs.Prelude.{◌≡◌, ◌≢◌, ◌⊎◌, ℕ, zero, suc, ◌+◌, ◌*◌, ◌/◌, ◌<◌, ◌≤◌, false, List}
+use Rattle.std.specs.Prelude.{length}
+use Rattle.erase_journal.specs.Places.{how_many}
 use Rattle.sector_stock.specs.declared.index.SlotState.{SlotState}
 use Rattle.sector_stock.specs.declared.index.BlockState.{BlockState}
 use Rattle.sector_stock.specs.declared.index.Cursors.{Cursors}
@@ -60,18 +62,24 @@ pub record IsFirstFreeState (slots : List SlotState) (b w : ℕ) : Type 0 where
   pub free : in_slots slots w ≡ states.Free
   pub first : (i : ℕ) → i < 7 → 7 * b + i < w → in_slots slots (7 * b + i) ≢ states.Free
 
--- block s was erased once more, and nothing else of the index changed but the bound of all erases
+-- block s was erased once more, so that it isn't suspect, and nothing else of the index changed but
+-- the bound of all erases
 pub record RecountsErase (s : ℕ) (blocks blocks' : List BlockState) (old new : Cursors)
     : Type 0 where
   pub size : length blocks' ≡ length blocks
   pub here : in_block blocks' s ≡ record (in_block blocks s) {
     erases = one_erase_more (in_block blocks s).erases;
+    suspect = false;
   }
   pub others : (c : ℕ) → c < length blocks → c ≢ s → in_block blocks' c ≡ in_block blocks c
   pub rest : new ≡ record old { most_erases = new.most_erases }
   pub kept : old.most_erases ≤ new.most_erases
   pub most : one_erase_more (in_block blocks s).erases ≤ new.most_erases
   pub fits : (in_block blocks s).erases < 65536
+
+-- how many blocks are suspect
+unfoldable pub suspects : List BlockState → ℕ
+suspects blocks = how_many (λ c. (in_block blocks c).suspect) (length blocks)
 
 -- of the first k blocks the erases were set to 0, and nothing else changed
 pub record Forgets (k : ℕ) (blocks blocks' : List BlockState) : Type 0 where

@@ -1,6 +1,6 @@
 -- What giving a slot leaves: nothing changed, or a block was copied into a wholly free one first.
 -- Source: own, layout 2.
-use Rattle.std.specs.Prelude.{◌≡◌, ◌≢◌, ℕ, ◌+◌, ◌-◌, ◌*◌, Bool, false, ◌/◌, ◌<◌, ◌≤◌, List}
+use Rattle.std.specs.Prelude.{◌≡◌, ◌≢◌, ◌⊎◌, ℕ, ◌+◌, ◌-◌, ◌*◌, Bool, false, ◌/◌, ◌<◌, ◌≤◌, List}
 use Rattle.std.specs.Prelude.{Option, Some, None, if◌then◌else◌, nat_lt, MatchOption}
 use Rattle.nor_layout.specs.declared.header.Generation.{Generation}
 use Rattle.nor_layout.specs.declared.header.Generation.TheVariants as generations
@@ -8,8 +8,8 @@ use Rattle.nor_layout.specs.declared.header.Tag.{Tag}
 use Rattle.nor_layout.specs.declared.kind.Kind.TheVariants as kinds
 use Rattle.erase_journal.specs.Blocks.{SameChip, blank}
 use Rattle.erase_journal.specs.Places.{how_many}
-use Rattle.sector_slots.specs.Slots.{Free, Live, NoGeneration, slot_at, slot_count, data_blocks}
-use Rattle.sector_slots.specs.Slots.{data_block}
+use Rattle.sector_slots.specs.Slots.{Free, Live, NoGeneration, Dead, slot_at, slot_count}
+use Rattle.sector_slots.specs.Slots.{data_block, data_blocks}
 use Rattle.sector_slots.specs.Slots.{IsClean, IsSpareIn, kind_at, is_group}
 use Rattle.sector_slots.specs.Sectors.{LiveAt}
 use Rattle.sector_slots.specs.Blocks.{AreSettled, IsReserveOf}
@@ -17,8 +17,12 @@ use Rattle.sector_slots.specs.Copying.{shifted}
 use Rattle.sector_stock.specs.declared.given.Copied.{Copied}
 use Rattle.sector_stock.specs.Room.{HasNoneDead, IsSpareBlock, IsFull}
 use Rattle.sector_stock.specs.Index.{tally, is_dead, is_free_slot, is_live_group}
-use Rattle.sector_stock.specs.Index.{one_erase_more}
-use Rattle.sector_stock.specs.Copy.{SameSectors}
+use Rattle.sector_stock.specs.Index.{one_erase_more, in_block, erases_of}
+use Rattle.sector_stock.specs.declared.index.BlockState.{BlockState}
+use Rattle.sector_stock.specs.declared.index.Cursors.{Cursors}
+use Rattle.sector_stock.specs.declared.policy.Policy.{Policy}
+use Rattle.sector_stock.specs.declared.policy.Policy.TheVariants as policies
+use Rattle.sector_stock.specs.Copy.{SameSectors, KeepsSectors}
 
 -- how many slots of data block c are dead, and of all
 abbrev pub dead_in : List ℕ → ℕ → ℕ
@@ -82,6 +86,15 @@ pub record ErasesSpare (s : ℕ) (m m' : List ℕ) : Type 0 where
   pub blocks : AreSettled m'
   pub sectors : SameSectors m m'
   pub clean : IsClean m → IsClean m'
+
+-- Free slots were made dead: each other slot is what it was, and so is the kind of each block. The
+-- sectors are what they were.
+pub record MakesFirm (m m' : List ℕ) : Type 0 where
+  pub slots : (w : ℕ) → w < slot_count m → (slot_at m' w ≡ slot_at m w)
+      ⊎ ((slot_at m w ≡ Free) × (slot_at m' w ≡ Dead))
+  pub kinds : (c : ℕ) → c < data_blocks m → kind_at m' c ≡ kind_at m c
+  pub blocks : AreSettled m'
+  pub keeps : KeepsSectors m m'
 
 -- block s, of which a slot was dead, was copied into block t, which was wholly free; now s is
 pub record CopiesInto (s t : ℕ) (m m' : List ℕ) : Type 0 where
@@ -220,6 +233,16 @@ pub record IsLowestFree (w : ℕ) (m : List ℕ) : Type 0 where
   pub is_reserve : IsReserveOf reserve m
   pub outside : reserve ≢ w / 7
   pub lowest : (s : ℕ) → s < w → s / 7 ≢ reserve → slot_at m s ≢ Free
+
+-- What is free isn't suspect in the block of the slot that is given next, where one is without a
+-- copy.
+pub record GivesTrusted (policy : Policy) (at : Cursors) (blocks : List BlockState) (m : List ℕ)
+    : Type 0 where
+  pub lowest : policy ≡ policies.Lowest → (w : ℕ) → IsLowestFree w m
+      → (in_block blocks (w / 7)).suspect ≡ false
+  pub level : policy ≡ policies.Level → (w : ℕ)
+      → FillsUp at.newest at.reserve (erases_of blocks) w m
+      → (in_block blocks (w / 7)).suspect ≡ false
 
 -- slot w is free, and another block than its own is wholly free
 pub record IsGivable (w : ℕ) (m : List ℕ) : Type 0 where

@@ -68,6 +68,35 @@ pub fn move_afresh<S: SlotCalls>(slots: &mut S, source: u16, target: u16) -> Res
     Ok(())
 }
 
+/// Copies the live slots of a block into a wholly free one, and erases that first where what reads
+/// as free in it is suspect. Cut, it leaves what `reclaim_into` does.
+pub(crate) fn copy_into<S: SlotCalls>(
+    slots: &mut S,
+    source: u16,
+    target: u16,
+    suspect: bool,
+) -> Result<(), NorError>
+    requires source { source < data_blocks (S.state slots.old).memory }
+    requires target { target < data_blocks (S.state slots.old).memory }
+    requires copyable { IsNorReady (S.state slots.old)
+        → IsCopyable source target (S.state slots.old).memory }
+    ensures ok { OnOk result (IsCopyable source target (S.state slots.old).memory
+        → Copies source target (S.state slots.old).memory (S.state slots.new).memory) }
+    ensures cut { IsErrOf result NorError.Cut → IsHealthy (S.state slots.old).memory
+        → IsCopyable source target (S.state slots.old).memory
+        → Stays (S.state slots.old).memory (S.state slots.new).memory }
+    ensures healthy { IsErrOf result NorError.Cut → IsHealthy (S.state slots.old).memory
+        → IsHealthy (S.state slots.new).memory }
+    ensures size { length (S.state slots.new).memory ≡ length (S.state slots.old).memory }
+    ensures ends { EndsSettled result (S.state slots.old) (S.state slots.new) }
+{
+    if suspect {
+        move_afresh(slots, source, target)
+    } else {
+        reclaim_into(slots, source, target)
+    }
+}
+
 /// Begins a copy, and copies the seven slots.
 fn copy_all<S: SlotCalls>(slots: &mut S, source: u16, target: u16) -> Result<(), NorError>
     requires source { source < data_blocks (S.state slots.old).memory }

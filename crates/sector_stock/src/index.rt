@@ -27,8 +27,8 @@ pub enum SlotState {
 }
 
 /// What it keeps of a block: how many of its slots are free and dead, whether no copy was ever
-/// begun in it, and whether it is live with a group; and how often it was erased since the index
-/// was made, at most 65,535.
+/// begun in it, and whether it is live with a group; how often it was erased since the index was
+/// made, at most 65,535; and whether what is free in it is suspect: it was torn, perhaps.
 #[derive(Clone, Copy, Debug, PartialEq, Eq, Drop)]
 pub struct BlockState {
     pub free: u8,
@@ -36,6 +36,7 @@ pub struct BlockState {
     pub plain: bool,
     pub group: bool,
     pub erases: u16,
+    pub suspect: bool,
 }
 
 /// Where it looks next.
@@ -234,6 +235,8 @@ pub(crate) fn block_with_free(blocks: &[BlockState], at: &mut Cursors) -> Option
         → IfSome result (λ b. IsLowestWithFree blocks.now at.old.reserve b) }
     ensures level { at.old.policy ≡ policies.Level
         → IfSome result (λ b. IsFilledUp at.old.newest at.old.reserve blocks.now b) }
+    ensures filled { at.old.policy ≡ policies.Level
+        → IfSome result (λ b. at.new.newest ≡ b) }
     ensures ahead { IsAhead blocks.now at.new }
     ensures reserve { at.new.reserve ≡ at.old.reserve }
     ensures policy { at.new.policy ≡ at.old.policy }
@@ -282,6 +285,7 @@ fn level_with_free(blocks: &[BlockState], at: &mut Cursors) -> Option<u16>
     ensures found { MatchOption result (HasNoFreeBut blocks.now at.old.reserve)
         (λ b. HasFreeBut blocks.now at.old.reserve b) }
     ensures level { IfSome result (λ b. IsFilledUp at.old.newest at.old.reserve blocks.now b) }
+    ensures filled { IfSome result (λ b. at.new.newest ≡ b) }
     ensures ahead { IsAhead blocks.now at.new }
     ensures reserve { at.new.reserve ≡ at.old.reserve }
     ensures policy { at.new.policy ≡ at.old.policy }
@@ -397,6 +401,7 @@ fn move_counts(blocks: &mut [BlockState], source: u16, target: u16)
         plain: false,
         group: false,
         erases: worn,
+        suspect: false,
     };
     blocks[source as usize] = BlockState {
         free: 7,
@@ -404,6 +409,7 @@ fn move_counts(blocks: &mut [BlockState], source: u16, target: u16)
         plain: true,
         group: false,
         erases: old.erases.saturating_add(1),
+        suspect: false,
     };
 }
 
@@ -534,6 +540,9 @@ pub(crate) fn free_slot(
     requires ahead { IsAhead blocks.now at.old }
     ensures found { (m : List ℕ) → IsIndexOf states.now blocks.now at.old m
         → MatchOption result (HasNoneFree at.old.reserve m) (λ w. IsGivable w m) }
+    ensures number { IfSome result (λ w. w / 7 < length blocks.now) }
+    ensures filled { at.old.policy ≡ policies.Level
+        → IfSome result (λ w. at.new.newest ≡ w / 7) }
     ensures lowest { at.old.policy ≡ policies.Lowest → (m : List ℕ)
         → IsIndexOf states.now blocks.now at.old m → IfSome result (λ w. IsLowestFree w m) }
     ensures ahead { IsAhead blocks.now at.new }

@@ -13,8 +13,9 @@
 //! where: its live slots keep their places and tags, and those of a group get the first generation.
 //! Cut anywhere, they leave slots and blocks that a mount accepts, and on a clean memory each
 //! sector as it was. `end_void`, `end_committed` and `end_erased` end a copying that a mount finds,
-//! and change no sector; nor does `move_afresh`, which erases a block before it copies into it. No
-//! call takes memory.
+//! and change no sector; nor does `move_afresh`, which erases a block before it copies into it.
+//! What was free at a firm mount is suspect (`suspect_free`), until `firm_free` or a copy makes its
+//! block firm. No call takes memory.
 //!
 //! Left to the crate above: which slot holds which sector, and that no two live slots are of one
 //! sector. Source: own, layout 2.
@@ -22,6 +23,7 @@
 #![tactic(auto)]
 
 mod copy;
+mod firm;
 mod given;
 mod index;
 mod laws;
@@ -33,6 +35,7 @@ mod scan;
 mod take;
 
 pub use copy::{end_committed, end_erased, end_void, move_afresh};
+pub use firm::{firm_free, suspect_all};
 pub use given::{Copied, Given};
 pub use index::{BlockState, Cursors, SlotState, mark_dead};
 pub use laws::{never_full, slots_outnumber_sectors, sound_maps_have_room};

@@ -25,7 +25,7 @@ ghost use Rattle.sector_stock.specs.declared.policy.Policy.TheVariants as polici
 ghost use Rattle.sector_stock.specs.declared.policy.Wanted.TheVariants as wanteds;
 ghost use Rattle.sector_stock.specs.declared.policy.Purpose.TheVariants as purposes;
 
-use crate::copy::reclaim_into;
+use crate::copy::copy_into;
 use crate::given::Copied;
 use crate::index::{
     BlockState, Cursors, SlotState, behind, block_with_free, choose_reserve, most_dead, move_block,
@@ -321,7 +321,7 @@ pub(crate) fn move_used<S: SlotCalls>(
     ensures newest { OnOk result (at.new.newest ≡ at.old.newest) }
 {
     let target = at.reserve;
-    reclaim_into(slots, source, target)?;
+    copy_into(slots, source, target, blocks[target as usize].suspect)?;
     shift_states(states, source, target);
     move_block(blocks, at, source);
     Ok(Copied { source, target })
@@ -519,13 +519,14 @@ fn erase_spare<S: SlotCalls>(
     Ok(())
 }
 
-/// A block was erased, and nothing else changed.
+/// A block was erased, and nothing else changed: what is free in it isn't suspect.
 fn count_erase(blocks: &mut [BlockState], at: &mut Cursors, block: u16)
     requires number { block < length blocks.old }
     ensures { RecountsErase block blocks.old blocks.new at.old at.new }
 {
     let erases = blocks[block as usize].erases.saturating_add(1);
     blocks[block as usize].erases = erases;
+    blocks[block as usize].suspect = false;
     at.most_erases = at.most_erases.max(erases);
 }
 

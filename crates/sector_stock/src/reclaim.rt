@@ -14,13 +14,14 @@ ghost use Rattle.sector_slots.specs.Steps.{IsRetirable, IsWritable, PutLeaves, H
 ghost use Rattle.sector_slots.specs.Steps.{MayHoldTag, OnlyPlace};
 ghost use Rattle.sector_slots.specs.Blocks.{IsReserveOf};
 ghost use Rattle.sector_stock.specs.Room.{HasRoom, HasNoneDead, IsOutside};
-ghost use Rattle.sector_stock.specs.Copy.{Stays};
+ghost use Rattle.sector_stock.specs.Copy.{Stays, KeepsSectors};
 ghost use Rattle.sector_stock.specs.Takes.{Takes, TidiesStock, HasNoGroups, is_short, work_of};
 ghost use Rattle.sector_stock.specs.Takes.{IsLowestFree, HasMostDead, HasFewerBelow, MovesInto};
 ghost use Rattle.sector_stock.specs.Takes.{Converts, IsLiveGroup, FillsUp, CopiesLeastWorn};
 ghost use Rattle.sector_stock.specs.Takes.{MovesLeastWorn, CountsErase, IsErasedOnce};
-ghost use Rattle.sector_stock.specs.Index.{erases_of, AreWithin};
-ghost use Rattle.sector_stock.specs.Takes.{KeepsErases, Renews, IsLeastErased};
+ghost use Rattle.sector_stock.specs.Index.{erases_of, AreWithin, Suspects, TrustsMore, AreTrusted};
+ghost use Rattle.sector_stock.specs.Takes.{KeepsErases, Renews, IsLeastErased, MakesFirm};
+ghost use Rattle.sector_stock.specs.Takes.{GivesTrusted};
 ghost use Rattle.sector_stock.specs.Policies.{IsTail, AreRestingFewer};
 ghost use Rattle.sector_stock.specs.declared.policy.Policy.{Policy};
 ghost use Rattle.sector_stock.specs.declared.policy.Policy.TheVariants as policies;
@@ -34,12 +35,12 @@ use crate::given::{Copied, Given};
 use crate::policy::{Policy, Purpose};
 use nor_driver::NorError;
 use nor_layout::{Header, Tag};
-use sector_slots::SlotCalls;
+use sector_slots::FirmCalls;
 
 /// A store of slots with an index of them in memory, which `fill` makes and the other calls here
 /// keep; the calls of `SlotCalls` that change the memory don't. No call takes memory. Source: own,
 /// layout 2.
-pub trait Reclaim: SlotCalls {
+pub trait Reclaim: FirmCalls {
     /// How it chooses slots and blocks.
     ghost policy: { Self → Policy };
 
@@ -60,6 +61,41 @@ pub trait Reclaim: SlotCalls {
         ensures even { OnOk result (policy self.old ≡ policies.Level
             → AreWithin 32 (data_blocks (Self.state self.new).memory)
             (erases_of (counts self.new))) }
+        ensures ends { EndsSettled result (Self.state self.old) (Self.state self.new) };
+
+    /// What is free now is suspect, as it is after a firm mount: a bit of it may have been torn,
+    /// and read another way at the next power-on. Nothing is read.
+    fn suspect_free(&mut self)
+        ensures suspect { Suspects (length (counts self.old)) (counts self.old) (counts self.new) }
+        ensures state { Self.state self.new ≡ Self.state self.old }
+        ensures indexed { Self.indexed self.new ≡ Self.indexed self.old }
+        ensures policy { policy self.new ≡ policy self.old }
+        ensures cursors { cursors self.new ≡ cursors self.old };
+
+    /// Makes the block firm from which `take_free` gives a slot, where it is suspect: a wholly free
+    /// one is erased, which isn't counted; of any other one the first free slot is made dead. After
+    /// that the block is trusted. Where no block is suspect nothing changes. No sector changes,
+    /// whole or cut.
+    fn firm_free(&mut self) -> Result<(), NorError>
+        requires ready { IsNorReady (Self.state self.old) }
+        requires settled { IsSettled (Self.state self.old).memory }
+        requires room { HasRoom (Self.state self.old).memory }
+        requires indexed { Self.indexed self.old ≡ true }
+        ensures ok { OnOk result (MakesFirm (Self.state self.old).memory
+            (Self.state self.new).memory) }
+        ensures trusts { OnOk result (TrustsMore (counts self.old) (counts self.new)) }
+        ensures next { OnOk result (GivesTrusted (policy self.new) (cursors self.new)
+            (counts self.new) (Self.state self.new).memory) }
+        ensures none { AreTrusted (counts self.old)
+            → (Self.state self.new).memory ≡ (Self.state self.old).memory }
+        ensures erases { OnOk result (KeepsErases (data_blocks (Self.state self.old).memory)
+            (erases_of (counts self.old)) (erases_of (counts self.new))) }
+        ensures policy { OnOk result (policy self.new ≡ policy self.old) }
+        ensures cut { IsErrOf result NorError.Cut
+            → KeepsSectors (Self.state self.old).memory (Self.state self.new).memory }
+        ensures indexed { OnOk result (Self.indexed self.new ≡ true) }
+        ensures healthy { IsErrOf result NorError.Cut → IsHealthy (Self.state self.new).memory }
+        ensures size { length (Self.state self.new).memory ≡ length (Self.state self.old).memory }
         ensures ends { EndsSettled result (Self.state self.old) (Self.state self.new) };
 
     /// A free slot; another block than its own is wholly free. Where no slot outside the reserve is

@@ -71,6 +71,7 @@ pub(crate) fn note_block(
         plain: kind.is_plain(),
         group: is_group(kind),
         erases: 0,
+        suspect: false,
     };
 }
 

@@ -23,7 +23,7 @@ ghost use Rattle.sector_stock.specs.Takes.{IsErasedOnce};
 ghost use Rattle.sector_stock.specs.Index.{erases_of, AreWithin, MayWear};
 ghost use Rattle.sector_stock.specs.declared.given.Copied.{Copied as CopiedOf};
 
-use crate::copy::reclaim_into;
+use crate::copy::copy_into;
 use crate::given::{Copied, Given};
 use crate::index::{
     BlockState, Cursors, SlotState, free_slot, lowest_group, mark_live, most_dead, move_block,
@@ -78,7 +78,7 @@ fn copy_most<S: SlotCalls>(
     ensures fits { OnOk result ((in_block blocks.old source).erases < 65536) }
 {
     let target = at.reserve;
-    reclaim_into(slots, source, target)?;
+    copy_into(slots, source, target, blocks[target as usize].suspect)?;
     shift_states(states, source, target);
     move_block(blocks, at, source);
     go_on_behind(at, source);
@@ -139,7 +139,7 @@ pub fn convert_block<S: SlotCalls>(
         (erases_of blocks.old) (erases_of blocks.new)) }
 {
     let reserve = at.reserve;
-    reclaim_into(slots, source, reserve)?;
+    copy_into(slots, source, reserve, blocks[reserve as usize].suspect)?;
     shift_states(states, source, reserve);
     move_block(blocks, at, source);
     Ok(Copied {

@@ -1,5 +1,5 @@
 -- What is erased of a memory whose journals were recovered is erased of the memory before.
-use Rattle.std.proofs.Common.{◌≡◌, ℕ, ◌+◌, ◌<◌, Bool, true, false, List, length, sym, ap, ◌∙◌, subst, arith}
+use Rattle.std.proofs.Common.{IfSome, ◌≡◌, ℕ, ◌+◌, ◌<◌, Bool, true, false, List, length, sym, ap, ◌∙◌, subst, arith}
 use Rattle.std.proofs.lemmas.Option.{none-some}
 use Rattle.std.specs.Prelude.{Option, Some, None, Result, Ok, Err}
 use Rattle.nor_layout.specs.declared.header.Header.TheVariants as headers
@@ -17,7 +17,7 @@ use Rattle.sector_slots.specs.Slots.{data_block, data_blocks, kind_at}
 use Rattle.sector_slots.specs.Groups.{IsCleanOfGroups, block_header}
 use Rattle.sector_map.specs.Maps.{geometry_of}
 use Rattle.sector_map.proofs.Restoring.{blocks-clean}
-use Rattle.sector_survey.specs.Cleanness.{FreeBlockTells, FreeBlocksTell, GroupsTell, HasCleanGroups, HasFreeErased, IsCleannessOf, IsDirtyFree, IsFirstDirty, Judges, SlotsTell, clean_by, is_clean}
+use Rattle.sector_survey.specs.Cleanness.{FreeBlockTells, FreeBlocksTell, GroupsTell, HasCleanGroups, HasFreeErased, IsCleannessOf, IsDirtyFree, IsFirstDirty, IsOfGroups, Judges, SlotsTell, clean_by, is_clean}
 use Rattle.sector_survey.specs.declared.clean.Cleanness.{Cleanness}
 use Rattle.sector_survey.proofs.Verdicts.{count-same, block-same, kind-same}
 
@@ -59,6 +59,11 @@ blocks-back (Some at) m m' s h =
       dirty = tells-back (Some h.byte) m m' h.block s inside h.dirty;
       before = λ c low. tells-back None m m' c s (omega (arith, low, inside)) (h.before c low);
     }
+
+-- what is found of a memory whose blocks are those of an image is found of the image
+pub some-dirty : (o : Option ℕ) (image m m' : List ℕ) → m ≡ image → IsOfGroups image → SameBlocks m m' → FreeBlocksTell o m' → IfSome o (λ at. IsOfGroups image × IsFirstDirty image at)
+some-dirty None image m m' e groups s h = tt
+some-dirty (Some at) image m m' e groups s h = (groups, subst (λ z. IsFirstDirty z at) e (blocks-back (Some at) m m' s h))
 
 groups-back : (layout : Layout) (o : Option ℕ) (m m' : List ℕ) → SameBlocks m m' → GroupsTell layout o m' → GroupsTell layout o m
 groups-back Groups o m m' s h = blocks-back o m m' s h

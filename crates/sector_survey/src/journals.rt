@@ -24,7 +24,7 @@ pub enum JournalFault {
     ManyVotes { journal: JournalId, first: bool },
     /// Believed journals hold open votes for the erase of this journal and of the next one.
     TwoNamed { journal: JournalId },
-    /// J0 is believed, and more than one of its entries is open.
+    /// J0 is believed, and its open entries name more than one block.
     ManyEntries,
     /// J0 is believed, one of its entries is open, and so is a vote for the erase of this journal.
     EntryBesideVote { journal: JournalId },

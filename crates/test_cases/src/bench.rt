@@ -17,7 +17,7 @@ use crate::words::Words;
 use crate::{layout, memory, table};
 use block_device::Disk;
 use chip_model::SpiBus;
-use erase_journal::Journal;
+use erase_journal::{Firmness, Journal};
 use flash_disk::{FlashDisk, format};
 use journal_slots::SectorSlots;
 use nbd_station::Station;
@@ -143,9 +143,9 @@ impl Bench {
     }
 
     /// Puts a disk onto the chip.
-    fn mount(&mut self, alloc: Global) -> Result<Came, Fault> {
+    fn mount(&mut self, alloc: Global, firmness: Firmness) -> Result<Came, Fault> {
         let chip = self.take_chip()?;
-        let answer: Result<OnDisk, _> = FlashDisk::mount(alloc, chip);
+        let answer: Result<OnDisk, _> = FlashDisk::mount_as(alloc, chip, firmness);
         match answer {
             Ok(disk) => {
                 self.layer = Layer::Disk(disk);
@@ -320,7 +320,8 @@ impl Bench {
             "recover" => self.recover(false),
             "slots" => self.recover(true),
             "map" => self.map(alloc),
-            "mount" => self.mount(alloc),
+            "mount" => self.mount(alloc, Firmness::Steady),
+            "mount-firmly" => self.mount(alloc, Firmness::Firm),
             "station" => self.start(alloc),
             "table" => self.table(alloc),
             "own-table" => self.own_table(alloc),
@@ -386,6 +387,7 @@ impl Bench {
             | "slots"
             | "map"
             | "mount"
+            | "mount-firmly"
             | "station"
             | "table"
             | "own-table" => {

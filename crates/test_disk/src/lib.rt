@@ -16,6 +16,8 @@ mod chip_files;
 #[cfg(test)]
 mod cuttings;
 #[cfg(test)]
+mod firm_mounts;
+#[cfg(test)]
 mod first_sector;
 mod fresh;
 #[cfg(test)]

@@ -190,9 +190,11 @@ fn serving_without_memory_says_so(rt: HostRuntime) -> Result<(), Fail> {
         verbose: true,
         trust: false,
         status: None,
+        firm: false,
     });
     // the chip, and its copies: that of the file, and the one that is looked at; then what is taken
-    // for the disk, its lists and its log; and the log's file, of 1 MiB, where an earlier start left it
+    // for the disk, its lists and its log; and the log's file, of 1 MiB, where an earlier start
+    // left it
     let windows = [
         (0, 264, 3),
         (32_768, 32_768, 2),

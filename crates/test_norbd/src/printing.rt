@@ -18,12 +18,22 @@ fn faults_tell_which_file_and_why(rt: HostRuntime) -> Result<(), Fail> {
         verbose: false,
         trust: false,
         status: None,
+        firm: false,
     });
     for (fault, line, text) in [
         (Fault::NoMemory, serve, "no memory"),
         (Fault::Slow, Line::Script { kib: 64 }, "slow"),
         (Fault::WrongId, serve, "wrong id: a.img"),
-        (Fault::Protected, serve, "protected: a.img"),
+        (
+            Fault::Protected,
+            Line::Show { image: "a.img" },
+            "protected: a.img",
+        ),
+        (
+            Fault::Protected,
+            serve,
+            "protected: a.img: norbd check says by what, norbd unprotect --yes ends that",
+        ),
         (
             Fault::NoSocket(Cause::Accept),
             serve,

@@ -443,6 +443,7 @@ where
         record: false,
         sync: manner.sync,
         tidy: TidyPolicy::Eagerly,
+        firm: false,
         told_len: MAX_LEN,
         max_len: MAX_LEN,
         read_only: false,

@@ -142,10 +142,11 @@ fn erases_of_journals_are_told(rt: HostRuntime) -> Result<(), Fail> {
         "Journals: FE at 2400h for the erase of J0, FE at 3400h for that of J1; one journal is erased at a time"
     );
     let open: &[u8] = &[0xFC, 4, 0, 0xFF];
-    let told = reason(&rt, &[(0x1800, open), (0x1804, open)])?;
+    let another: &[u8] = &[0xFC, 5, 0, 0xFF];
+    let told = reason(&rt, &[(0x1800, open), (0x1804, open), (0x1808, another)])?;
     assert_eq!(rt;
         told.as_str(),
-        "Journals: the entries of J0 FC 04 00 FF at 1800h and FC 04 00 FF at 1804h are open; one block is erased at a time"
+        "Journals: the entries of J0 FC 04 00 FF at 1800h and FC 05 00 FF at 1808h are open; one block is erased at a time"
     );
     let told = reason(&rt, &[(0x1800, open), (0x2400, &[0xFE])])?;
     assert_eq!(rt;

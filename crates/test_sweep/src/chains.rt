@@ -5,7 +5,7 @@ ghost use Rattle.std.specs.Prelude.{◌<◌};
 
 use crate::draw::Draw;
 use crate::failure::Failure;
-use crate::life::{Call, Life, Moment};
+use crate::life::{Call, Life, Moment, Mounting};
 use test_judge::SECTORS;
 use test_kit::Dice;
 
@@ -36,6 +36,15 @@ fn call(dice: &mut Dice) -> Call {
     }
 }
 
+/// A call of a session. One that is plain before others that are firm zeroes nothing: a loss in the
+/// one bit of such a zeroing is what no later mount can make firm.
+fn call_as(dice: &mut Dice, how: Mounting, later: Mounting) -> Call {
+    match (how, later, call(dice)) {
+        (Mounting::Plain, Mounting::Firm, Call::Zero(first, count)) => Call::Write(first, count, 0),
+        (_, _, call) => call,
+    }
+}
+
 /// The change in which the power is lost, 0 for none: one of so many at most, in one of `of` cases.
 fn change(dice: &mut Dice, left: u32, most: u32, of: u32) -> u32
     requires most { 0 < most }
@@ -60,15 +69,16 @@ fn most_of(dice: &mut Dice, call: Call) -> u32
 }
 
 /// A session: a power cycle, a mount, and calls, until one is lost.
-fn session(life: &mut Life, dice: &mut Dice, most: u32) -> Result<(), Failure> {
+fn session(life: &mut Life, dice: &mut Dice, how: Mounting, most: u32) -> Result<(), Failure> {
     life.cycle(draw(dice))?;
-    let lost = change(dice, most.saturating_sub(life.seen.losses), 6, 2);
-    if !life.mount(lost)? {
+    let changes = if dice.below(3) == 0 { 36 } else { 6 };
+    let lost = change(dice, most.saturating_sub(life.seen.losses), changes, 2);
+    if !life.mount_as(how, lost)? {
         return Ok(());
     }
     life.read_all()?;
     for _ in 0..dice.below(9) {
-        let call = call(dice);
+        let call = call_as(dice, how, life.mounting);
         let changes = most_of(dice, call);
         let lost = change(dice, most.saturating_sub(life.seen.losses), changes, 2);
         if !life.call(call, lost)? {
@@ -78,14 +88,16 @@ fn session(life: &mut Life, dice: &mut Dice, most: u32) -> Result<(), Failure> {
     life.read_all()
 }
 
-/// The life of a seed, on a chip.
-pub fn live(life: &mut Life, base: &Moment, seed: u32) -> Result<(), Failure> {
+/// The life of a seed, on a chip; its first session is mounted as told.
+pub fn live(life: &mut Life, base: &Moment, first: Mounting, seed: u32) -> Result<(), Failure> {
     let mut dice = Dice::new(u64::from(seed).wrapping_mul(0x9E37_79B9_7F4A_7C15));
     let most = dice.below(LOSSES) + 1;
     life.begin(base)?;
     let mut last = 0u32;
+    let mut how = first;
     for _ in 0..12 {
-        session(life, &mut dice, most)?;
+        session(life, &mut dice, how, most)?;
+        how = life.mounting;
         if life.seen.losses >= most {
             last = last.saturating_add(1);
         }

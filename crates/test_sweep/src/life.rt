@@ -6,6 +6,7 @@ use crate::draw::Draw;
 use crate::failure::Failure;
 use block_device::{Disk, DiskError};
 use chip_simulator::SimChip;
+use erase_journal::Firmness;
 use flash_disk::{FlashDisk, MountError};
 use nor_driver::ProbeError;
 use std::alloc::Global;
@@ -16,6 +17,8 @@ use test_judge::{Array, SECTORS, Seen};
 pub enum Mounting {
     /// As one whose bits are steady.
     Plain,
+    /// As one whose torn bits may waver.
+    Firm,
 }
 
 impl Mounting {
@@ -23,6 +26,7 @@ impl Mounting {
     fn mount(self, alloc: Global, chip: SimChip) -> Result<OnSim, (SimChip, MountError)> {
         match self {
             Mounting::Plain => FlashDisk::mount(alloc, chip),
+            Mounting::Firm => FlashDisk::mount_as(alloc, chip, Firmness::Firm),
         }
     }
 }
@@ -69,7 +73,7 @@ enum Held {
 #[derive(Drop)]
 pub struct Life {
     alloc: Global,
-    mounting: Mounting,
+    pub mounting: Mounting,
     held: Held,
     array: Array,
     room: Vec<u8>,
@@ -146,10 +150,15 @@ impl Life {
     /// Mounts the chip, with a loss of power in this change of the mount, 0 for none. Whether it
     /// is mounted, and the power is on.
     pub fn mount(&mut self, change: u32) -> Result<bool, Failure> {
+        self.mount_as(self.mounting, change)
+    }
+
+    /// The same in another way.
+    pub fn mount_as(&mut self, mounting: Mounting, change: u32) -> Result<bool, Failure> {
         self.note(Step::Mounted(change))?;
         let mut chip = self.take_chip()?;
         chip.arm_cut(change, 1, 0);
-        match self.mounting.mount(self.alloc, chip) {
+        match mounting.mount(self.alloc, chip) {
             Ok(mut disk) => {
                 disk.arm(0, 0, 0);
                 self.held = Held::Disk(disk);

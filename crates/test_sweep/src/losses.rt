@@ -107,11 +107,22 @@ fn set(memory: &mut [u8], at: usize, bytes: &[u8], times: usize) {
 }
 
 impl Base {
+    /// How the session before the first loss is mounted. Where journals are tired it is plain, as
+    /// by an older program: a firm mount renews them at once.
+    pub fn first(self, mounting: Mounting) -> Mounting {
+        match self {
+            Base::Few => mounting,
+            Base::Full => mounting,
+            Base::Journal => Mounting::Plain,
+            Base::Journals => Mounting::Plain,
+        }
+    }
+
     /// The chip.
     pub fn moment(self, alloc: Global, mounting: Mounting) -> Result<Moment, Failure> {
         let mut life = Life::new(alloc, mounting)?;
         life.begin(&formatted(alloc)?)?;
-        life.mount(0)?;
+        life.mount_as(self.first(mounting), 0)?;
         let most = if matches!(self, Base::Few) {
             10
         } else {
@@ -184,11 +195,12 @@ fn work(life: &mut Life, number: usize, sector: u32) -> Result<(), Failure> {
 fn lost(
     life: &mut Life,
     base: &Moment,
+    first: Mounting,
     call: Call,
     change: u32,
 ) -> Result<Option<Moment>, Failure> {
     life.begin(base)?;
-    life.mount(0)?;
+    life.mount_as(first, 0)?;
     if life.call(call, change)? {
         return Ok(None);
     }
@@ -216,11 +228,12 @@ pub fn all_lost(
     alloc: Global,
     life: &mut Life,
     base: &Moment,
+    first: Mounting,
     call: Call,
 ) -> Result<Vec<Moment>, Failure> {
     let mut moments = Vec::new(alloc);
     for change in 1..MOST_CHANGES {
-        let Some(after) = lost(life, base, call, change)? else {
+        let Some(after) = lost(life, base, first, call, change)? else {
             break;
         };
         if moments.push(after).is_err() {

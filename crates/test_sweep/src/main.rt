@@ -37,6 +37,7 @@ use crate::sweeper::{Loss, Sweeper};
 use crate::totals::{HEADING, Totals};
 use crate::wavering::{live_all, sweep_wavering};
 use std::alloc::Global;
+use std::env::Args;
 use std::ops::Range;
 use std::process::ExitCode;
 use std::rt::Clock;
@@ -63,10 +64,10 @@ enum Wanted {
     Sweep([Option<Chip>; 3]),
     /// Random scripts: from which seed on, and how many.
     Random(u32, u32),
-    /// Losses on chips whose torn bits waver: all of one and of two.
-    Waver,
+    /// Losses on chips whose torn bits waver, which are mounted so: all of one and of two.
+    Waver(Mounting),
     /// Random lives of them: from which seed on, and how many.
-    Lives(u32, u32),
+    Lives(Mounting, u32, u32),
 }
 
 /// The number that a word spells, if it does.
@@ -74,8 +75,21 @@ fn number_of(word: Option<String>) -> Option<u32> {
     word?.as_str().parse::<u32>().ok()
 }
 
+/// What follows the word `waver`: `plain` or `firm`, and perhaps a first seed and a number of them.
+fn waver_words(mut words: Args) -> Wanted {
+    let mounting = match words.next() {
+        Some(word) if word.as_str() == "plain" => Mounting::Plain,
+        Some(word) if word.as_str() == "firm" => Mounting::Firm,
+        _ => return Wanted::Nothing,
+    };
+    match number_of(words.next()) {
+        None => Wanted::Waver(mounting),
+        Some(seed) => Wanted::Lives(mounting, seed, number_of(words.next()).unwrap_or(SCRIPTS)),
+    }
+}
+
 /// What the words ask for: `run` for all chips, `run` and a name for one, `random`, `random SEED
-/// COUNT`.
+/// COUNT`, `waver`.
 fn words_of(rt: &HostRuntime) -> Wanted {
     let Ok(mut words) = std::env::args(rt) else {
         return Wanted::Nothing;
@@ -87,12 +101,7 @@ fn words_of(rt: &HostRuntime) -> Wanted {
             let seed = number_of(words.next()).unwrap_or(0);
             return Wanted::Random(seed, number_of(words.next()).unwrap_or(SCRIPTS));
         }
-        Some(word) if word.as_str() == "waver" => {
-            return match number_of(words.next()) {
-                None => Wanted::Waver,
-                Some(seed) => Wanted::Lives(seed, number_of(words.next()).unwrap_or(SCRIPTS)),
-            };
-        }
+        Some(word) if word.as_str() == "waver" => return waver_words(words),
         _ => return Wanted::Nothing,
     }
     match words.next() {
@@ -242,12 +251,12 @@ fn main(rt: HostRuntime) -> ExitCode {
         }
         Wanted::Sweep(chips) => sweep_all(&rt, rt.alloc(), chips),
         Wanted::Random(first, count) => random_all(&rt, rt.alloc(), first, count),
-        Wanted::Waver => sweep_wavering(&rt, rt.alloc(), Mounting::Plain),
-        Wanted::Lives(first, count) => {
+        Wanted::Waver(mounting) => sweep_wavering(&rt, rt.alloc(), mounting),
+        Wanted::Lives(mounting, first, count) => {
             live_all(
                 &rt,
                 rt.alloc(),
-                Mounting::Plain,
+                mounting,
                 first..first.saturating_add(count),
             )
         }

@@ -1,7 +1,8 @@
 //! The whole sweep.
+use crate::chains::live;
 use crate::chip::{Chip, started, told};
 use crate::life::{Life, Mounting};
-use crate::losses::{CALLS, after_one_loss, all_lost};
+use crate::losses::{Base, CALLS, after_one_loss, all_lost};
 use crate::random::{script, shorten};
 use crate::sweeper::{Loss, Sweeper};
 use crate::totals::Totals;
@@ -77,7 +78,7 @@ fn wrong_changes(
     };
     let mut life = Life::new(alloc, mounting)?;
     let moment = base.moment(alloc, mounting)?;
-    let moments = all_lost(alloc, &mut life, &moment, call)?;
+    let moments = all_lost(alloc, &mut life, &moment, base.first(mounting), call)?;
     for (k, after) in moments.iter().enumerate() {
         let runs = after_one_loss(&mut life, after, call)?;
         assert!(rt; runs.runs == 36, "{runs:?}");
@@ -108,6 +109,31 @@ fn a_plain_mount_stands_no_loss_in_seven_kinds_of_change(rt: HostRuntime) -> Res
         wrong.as_slice() == last.as_slice(),
         "{made} changes: {wrong:?}"
     );
+    Ok(())
+}
+
+/// A firm mount stands each of them, with all draws.
+#[test]
+fn a_firm_mount_stands_a_loss_in_each_change(rt: HostRuntime) -> Result<(), Fail> {
+    for (number, _call) in CALLS.iter().enumerate() {
+        let (wrong, made) = wrong_changes(&rt, rt.alloc(), number, Mounting::Firm)?;
+        assert!(rt; made > 0 && wrong.is_empty(), "call {number}: {wrong:?}");
+    }
+    Ok(())
+}
+
+/// Nor does a life with up to seven losses, in calls and in mounts, end wrongly.
+#[test]
+fn a_firm_mount_stands_losses_in_calls_and_in_mounts(rt: HostRuntime) -> Result<(), Fail> {
+    let alloc = rt.alloc();
+    let mut life = Life::new(alloc, Mounting::Firm)?;
+    for base in [Base::Few, Base::Full, Base::Journal, Base::Journals] {
+        let moment = base.moment(alloc, Mounting::Firm)?;
+        for seed in 0..100u32 {
+            let came = live(&mut life, &moment, base.first(Mounting::Firm), seed);
+            assert!(rt; came.is_ok(), "{base:?}, seed {seed}: {came:?}");
+        }
+    }
     Ok(())
 }
 

@@ -31,7 +31,7 @@ pub fn sweep_wavering(rt: &impl Print, alloc: Global, mounting: Mounting) -> Res
     let mut life = Life::new(alloc, mounting)?;
     for (number, (base, call)) in CALLS.iter().enumerate() {
         let moment = base.moment(alloc, mounting)?;
-        let moments = all_lost(alloc, &mut life, &moment, *call)?;
+        let moments = all_lost(alloc, &mut life, &moment, base.first(mounting), *call)?;
         for (k, after) in moments.iter().enumerate() {
             let one = after_one_loss(&mut life, after, *call)?;
             let two = after_two_losses(&mut life, after)?;
@@ -54,7 +54,7 @@ pub fn live_all(
     for base in [Base::Few, Base::Full, Base::Journal, Base::Journals] {
         let moment: Moment = base.moment(alloc, mounting)?;
         for seed in seeds.start..seeds.end {
-            let came = live(&mut life, &moment, seed);
+            let came = live(&mut life, &moment, base.first(mounting), seed);
             losses = losses.saturating_add(u64::from(life.seen.losses));
             if let Err(failure) = came {
                 if runs.wrong == 0 {

@@ -1,4 +1,4 @@
-use Rattle.std.proofs.Common.{◌≡◌, ◌≤◌, length}
+use Rattle.std.proofs.Common.{◌≡◌, length}
 use Rattle.nor_driver.specs.State.{IsNorReady, OnlyMemoryChanges}
 use Rattle.erase_journal.specs.Journals.{IsSettled}
 use Rattle.erase_journal.specs.Blocks.{SameBlocks}

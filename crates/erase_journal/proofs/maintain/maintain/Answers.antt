@@ -3,8 +3,17 @@ use Rattle.erase_journal.specs.declared.phase.ErasePhase.TheVariants.{Doomed}
 use Rattle.erase_journal.specs.Votes.{once_erased}
 use Rattle.erase_journal.specs.Journals.{settled, unused, unused_of}
 use Rattle.erase_journal.specs.Spending.{Maintains, at_rest}
+use Rattle.erase_journal.proofs.Lasting.{Last-erased}
 use Rattle.erase_journal.proofs.Uses.{same-on, same-refl, maintains-on}
 use Rattle.erase_journal.proofs.maintain.maintain.Goals as goal
+
+pub doom-requires-clause-may : goal.doom-requires-clause-may
+doom-requires-clause-may g c =
+    let u = unused (g.N.Nor.state c.loop-journal.nor).memory in
+    let e = c.unused.ensures ∙ ap (λ s. unused_of s) c.loop-journal.invariant.tally in
+    let tired = rw c.in-Some.is at (rw e at c.lowest_tired.ensures) in
+    let settled = c.loop-journal.invariant.settled in
+    record { settled = settled; lasts = Last-erased c.in-Some.journal u settled.sound.lasts tired }
 
 pub loop-journal-preserved : goal.loop-journal-preserved
 loop-journal-preserved g c =

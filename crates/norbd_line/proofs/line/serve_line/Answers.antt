@@ -18,4 +18,5 @@ returns-clause-line c =
       c.flag-3.ensures,
       c.flag-4.ensures,
       c.text_of.ensures,
+      c.flag-5.ensures,
     )

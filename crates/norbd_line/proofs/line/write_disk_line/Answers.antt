@@ -6,4 +6,4 @@ use Rattle.norbd_line.proofs.line.write_disk_line.Goals as goal
 pub returns-in-Some-clause-line : goal.returns-in-Some-clause-line
 returns-in-Some-clause-line c =
     let text = sym (first_value-rows (found_of c.args.matches.now) (codes "IMAGE")) ∙ sym c.get_str.ensures ∙ ap (option_map (λ s. s.now)) c.in-Some.is in
-    (refl, text, c.text_of.ensures)
+    (refl, text, c.text_of.ensures, c.flag.ensures)

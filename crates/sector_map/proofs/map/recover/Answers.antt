@@ -5,13 +5,13 @@ use Rattle.sector_map.specs.Filling.{Filled, FillFails}
 use Rattle.sector_map.proofs.Opening.{filled-mounted, filled-fails, recovery-cut}
 use Rattle.sector_map.proofs.map.recover.Goals as goal
 
-pub returns-in-Ok-recover-clause-ok : goal.returns-in-Ok-recover-clause-ok
-returns-in-Ok-recover-clause-ok g c =
-    filled-mounted (λ map. map) c.fill.result (g.N.Nor.state c.args.nor) c.in-Ok-recover.journal c.requires.superblock c.in-Ok-recover.ensures.ok (subst (λ j. IfOk c.fill.result (λ map. Filled j map)) c.new.ensures c.fill.ensures.ok)
+pub returns-in-Ok-recover_as-clause-ok : goal.returns-in-Ok-recover_as-clause-ok
+returns-in-Ok-recover_as-clause-ok g c =
+    filled-mounted (λ map. map) c.fill.result (g.N.Nor.state c.args.nor) c.in-Ok-recover_as.journal c.requires.superblock c.in-Ok-recover_as.ensures.ok (subst (λ j. IfOk c.fill.result (λ map. Filled j map)) c.new.ensures c.fill.ensures.ok)
 
-pub returns-in-Ok-recover-clause-fails : goal.returns-in-Ok-recover-clause-fails
-returns-in-Ok-recover-clause-fails g c =
-    filled-fails g.N.Nor.state c.fill.result (g.N.Nor.state c.args.nor) c.in-Ok-recover.journal c.requires.superblock c.in-Ok-recover.ensures.ok (subst (λ j. IfErr c.fill.result (λ e. FillFails e.1 j (g.N.Nor.state e.0))) c.new.ensures c.fill.ensures.fails)
+pub returns-in-Ok-recover_as-clause-fails : goal.returns-in-Ok-recover_as-clause-fails
+returns-in-Ok-recover_as-clause-fails g c =
+    filled-fails g.N.Nor.state c.fill.result (g.N.Nor.state c.args.nor) c.in-Ok-recover_as.journal c.requires.superblock c.in-Ok-recover_as.ensures.ok (subst (λ j. IfErr c.fill.result (λ e. FillFails e.1 j (g.N.Nor.state e.0))) c.new.ensures c.fill.ensures.fails)
 
 pub returns-in-Err-default-Cut-clause-fails : goal.returns-in-Err-default-Cut-clause-fails
 returns-in-Err-default-Cut-clause-fails g c =

@@ -5,8 +5,12 @@ use Rattle.sector_slots.specs.Slots.{slot_at, slot_count}
 use Rattle.sector_map.specs.Found.{FoundIn, RoomSeen}
 use Rattle.sector_map.specs.Table.{IsTabled, Mounts, MountCut}
 use Rattle.sector_slots.specs.Sectors.{IsSoundMap}
+use Rattle.erase_journal.proofs.SettledLaws.{settled-after}
 use Rattle.sector_map.proofs.Mounting.{perhaps-healthy}
-use Rattle.sector_map.proofs.Marking.{cut-none, cut-marking, cut-marked, mounted, marked-found, marked-room, marked-sound, marked-tabled}
+use Rattle.sector_map.proofs.Retiring.{succeeds-perhaps}
+use Rattle.sector_map.proofs.Marking.{cut-none, cut-marking, cut-marked, mounted, marked-sound}
+use Rattle.sector_map.proofs.Mending.{mends-after, mends-sound}
+use Rattle.sector_map.proofs.Alike.{marked-firm, alike-tabled, alike-found, alike-room, firm-mends, firm-repairs}
 use Rattle.sector_map.proofs.mount.mount_slots.Goals as goal
 
 pub returns-in_err-marks-clause-cut : goal.returns-in_err-marks-clause-cut
@@ -21,44 +25,90 @@ returns-in_err-mark_first-in-Some-clause-cut g c is healthy =
     let d = (g.S.SlotCalls.state c.mark_first.new.slots).memory in
     subst (λ z. MountCut z d) (c.look.ensures.same ∙ c.read_marks.ensures.same) (cut-marking (g.S.SlotCalls.state c.look.new.stock).memory d (c.in_err-mark_first-in-Some.ensures.cut (cc (p.1, p.2))))
 
+pub returns-in_err-begun-in-Some-clause-cut : goal.returns-in_err-begun-in-Some-clause-cut
+returns-in_err-begun-in-Some-clause-cut g c is healthy =
+    let p = err_from_is_err_and c.from_residual-in_err-begun-in-Some.result c.from_residual-in_err-begun-in-Some.ensures.1 in
+    let a = g.S.SlotCalls.state c.look.new.stock in
+    let b = g.S.SlotCalls.state c.mark_first.new.slots in
+    let d = (g.S.SlotCalls.state c.firm_as.new.slots).memory in
+    let same = c.look.ensures.same ∙ c.read_marks.ensures.same in
+    let well = perhaps-healthy a b c.in_ok-mark_first-in-Some.ensures.done (subst (λ z. IsHealthy z) (sym same) healthy) in
+    subst (λ z. MountCut z d) same (cut-marked a.memory b.memory d c.in_ok-mark_first-in-Some.ensures.ok (firm-mends b.memory d (c.in_err-begun-in-Some.ensures.cut (cc (p.1, p.2)) well)))
+
+pub returns-in_err-begun-in-Some-clause-healthy : goal.returns-in_err-begun-in-Some-clause-healthy
+returns-in_err-begun-in-Some-clause-healthy g c is healthy =
+    let p = err_from_is_err_and c.from_residual-in_err-begun-in-Some.result c.from_residual-in_err-begun-in-Some.ensures.1 in
+    let same = c.look.ensures.same ∙ c.read_marks.ensures.same in
+    c.in_err-begun-in-Some.ensures.healthy (cc (p.1, p.2)) (perhaps-healthy (g.S.SlotCalls.state c.look.new.stock) (g.S.SlotCalls.state c.mark_first.new.slots) c.in_ok-mark_first-in-Some.ensures.done (subst (λ z. IsHealthy z) (sym same) healthy))
+
 pub repair-requires-clause-tabled : goal.repair-requires-clause-tabled
 repair-requires-clause-tabled g c =
-    marked-tabled c.look.new.table (g.S.SlotCalls.state c.look.new.stock).memory (g.S.SlotCalls.state c.mark_first.new.slots).memory c.in_ok-mark_first-in-Some.ensures.ok.blocks
+    let a = (g.S.SlotCalls.state c.look.new.stock).memory in
+    let d = (g.S.SlotCalls.state c.firm_as.new.slots).memory in
+    alike-tabled c.look.new.table a d (marked-firm a (g.S.SlotCalls.state c.mark_first.new.slots).memory d c.in_ok-mark_first-in-Some.ensures.ok.blocks c.in_ok-begun-in-Some.ensures.ok)
     (subst (λ z. IsTabled c.look.new.table (slot_at z) (slot_count z)) (sym c.look.ensures.same) (c.in_ok-seen.ensures.tabled c.in-Some.seen c.in-Some.is))
 
 pub repair-requires-clause-found : goal.repair-requires-clause-found
 repair-requires-clause-found g c =
-    marked-found c.in-Some.seen.found (g.S.SlotCalls.state c.look.new.stock).memory (g.S.SlotCalls.state c.mark_first.new.slots).memory c.in_ok-mark_first-in-Some.ensures.ok.blocks
+    let a = (g.S.SlotCalls.state c.look.new.stock).memory in
+    let d = (g.S.SlotCalls.state c.firm_as.new.slots).memory in
+    alike-found c.in-Some.seen.found a d (marked-firm a (g.S.SlotCalls.state c.mark_first.new.slots).memory d c.in_ok-mark_first-in-Some.ensures.ok.blocks c.in_ok-begun-in-Some.ensures.ok)
     (subst (λ z. FoundIn c.in-Some.seen.found z) (sym c.look.ensures.same) (c.in_ok-seen.ensures.found c.in-Some.seen c.in-Some.is))
 
 pub repair-requires-clause-room : goal.repair-requires-clause-room
 repair-requires-clause-room g c =
-    marked-room c.in-Some.seen.found c.in-Some.seen.spare (g.S.SlotCalls.state c.look.new.stock).memory (g.S.SlotCalls.state c.mark_first.new.slots).memory c.in_ok-mark_first-in-Some.ensures.ok.blocks
+    let a = (g.S.SlotCalls.state c.look.new.stock).memory in
+    let d = (g.S.SlotCalls.state c.firm_as.new.slots).memory in
+    alike-room c.in-Some.seen.found c.in-Some.seen.spare a d (marked-firm a (g.S.SlotCalls.state c.mark_first.new.slots).memory d c.in_ok-mark_first-in-Some.ensures.ok.blocks c.in_ok-begun-in-Some.ensures.ok)
     (subst (λ z. RoomSeen c.in-Some.seen.found c.in-Some.seen.spare z) (sym c.look.ensures.same) (c.in_ok-seen.ensures.room c.in-Some.seen c.in-Some.is))
 
 pub repair-requires-clause-sound : goal.repair-requires-clause-sound
 repair-requires-clause-sound g c =
-    marked-sound (g.S.SlotCalls.state c.look.new.stock).memory (g.S.SlotCalls.state c.mark_first.new.slots).memory c.in_ok-mark_first-in-Some.ensures.ok.blocks
-    (subst (λ z. IsSoundMap z) (sym c.look.ensures.same) (c.in_ok-seen.ensures.sound c.in-Some.seen c.in-Some.is))
+    let b = (g.S.SlotCalls.state c.mark_first.new.slots).memory in
+    let d = (g.S.SlotCalls.state c.firm_as.new.slots).memory in
+    mends-sound b d (firm-mends b d c.in_ok-begun-in-Some.ensures.ok)
+    (marked-sound (g.S.SlotCalls.state c.look.new.stock).memory b c.in_ok-mark_first-in-Some.ensures.ok.blocks
+    (subst (λ z. IsSoundMap z) (sym c.look.ensures.same) (c.in_ok-seen.ensures.sound c.in-Some.seen c.in-Some.is)))
 
 pub returns-in_err-repair-in-Some-clause-cut : goal.returns-in_err-repair-in-Some-clause-cut
 returns-in_err-repair-in-Some-clause-cut g c is healthy =
     let p = err_from_is_err_and c.from_residual-in_err-repair-in-Some.result c.from_residual-in_err-repair-in-Some.ensures.1 in
+    let a = g.S.SlotCalls.state c.look.new.stock in
     let b = g.S.SlotCalls.state c.mark_first.new.slots in
+    let f = g.S.SlotCalls.state c.firm_as.new.slots in
     let d = (g.S.SlotCalls.state c.repair.new.stock).memory in
     let same = c.look.ensures.same ∙ c.read_marks.ensures.same in
-    let well = perhaps-healthy (g.S.SlotCalls.state c.look.new.stock) b c.in_ok-mark_first-in-Some.ensures.done (subst (λ z. IsHealthy z) (sym same) healthy) in
-    subst (λ z. MountCut z d) same (cut-marked (g.S.SlotCalls.state c.look.new.stock).memory b.memory d c.in_ok-mark_first-in-Some.ensures.ok (c.in_err-repair-in-Some.ensures.cut (cc (p.1, p.2)) well))
+    let well = perhaps-healthy b f c.in_ok-begun-in-Some.ensures.done (perhaps-healthy a b c.in_ok-mark_first-in-Some.ensures.done (subst (λ z. IsHealthy z) (sym same) healthy)) in
+    subst (λ z. MountCut z d) same (cut-marked a.memory b.memory d c.in_ok-mark_first-in-Some.ensures.ok
+    (mends-after b.memory f.memory d (firm-mends b.memory f.memory c.in_ok-begun-in-Some.ensures.ok) (c.in_err-repair-in-Some.ensures.cut (cc (p.1, p.2)) well)))
 
 pub returns-in_err-repair-in-Some-clause-healthy : goal.returns-in_err-repair-in-Some-clause-healthy
 returns-in_err-repair-in-Some-clause-healthy g c is healthy =
     let p = err_from_is_err_and c.from_residual-in_err-repair-in-Some.result c.from_residual-in_err-repair-in-Some.ensures.1 in
+    let a = g.S.SlotCalls.state c.look.new.stock in
+    let b = g.S.SlotCalls.state c.mark_first.new.slots in
     let same = c.look.ensures.same ∙ c.read_marks.ensures.same in
-    c.in_err-repair-in-Some.ensures.healthy (cc (p.1, p.2)) (perhaps-healthy (g.S.SlotCalls.state c.look.new.stock) (g.S.SlotCalls.state c.mark_first.new.slots) c.in_ok-mark_first-in-Some.ensures.done (subst (λ z. IsHealthy z) (sym same) healthy))
+    c.in_err-repair-in-Some.ensures.healthy (cc (p.1, p.2)) (perhaps-healthy b (g.S.SlotCalls.state c.firm_as.new.slots) c.in_ok-begun-in-Some.ensures.done
+    (perhaps-healthy a b c.in_ok-mark_first-in-Some.ensures.done (subst (λ z. IsHealthy z) (sym same) healthy)))
 
 pub returns-in_ok-repair-in-Some-clause-sound : goal.returns-in_ok-repair-in-Some-clause-sound
 returns-in_ok-repair-in-Some-clause-sound g c is =
+    let a = (g.S.SlotCalls.state c.look.new.stock).memory in
+    let b = (g.S.SlotCalls.state c.mark_first.new.slots).memory in
     let d = (g.S.SlotCalls.state c.repair.new.stock).memory in
     let same = c.look.ensures.same ∙ c.read_marks.ensures.same in
     let sound = subst (λ z. IsSoundMap z) (sym c.look.ensures.same) (c.in_ok-seen.ensures.sound c.in-Some.seen c.in-Some.is) in
-    subst (λ z. Mounts z c.repair.new.table d) same (mounted c.repair.new.table (g.S.SlotCalls.state c.look.new.stock).memory (g.S.SlotCalls.state c.mark_first.new.slots).memory d sound c.in_ok-mark_first-in-Some.ensures.ok c.in_ok-repair-in-Some.ensures.ok)
+    rw c.suspect_as.ensures.state
+    (subst (λ z. Mounts z c.repair.new.table d) same (mounted c.repair.new.table a b d sound c.in_ok-mark_first-in-Some.ensures.ok
+    (firm-repairs c.repair.new.table b (g.S.SlotCalls.state c.firm_as.new.slots).memory d c.in_ok-begun-in-Some.ensures.ok c.in_ok-repair-in-Some.ensures.ok)))
+
+pub returns-in_ok-repair-in-Some-clause-ends : goal.returns-in_ok-repair-in-Some-clause-ends
+returns-in_ok-repair-in-Some-clause-ends g c =
+    let a = g.S.SlotCalls.state c.read_marks.new.slots in
+    let b = g.S.SlotCalls.state c.look.new.stock in
+    let d = g.S.SlotCalls.state c.mark_first.new.slots in
+    let e = g.S.SlotCalls.state c.firm_as.new.slots in
+    let f = g.S.SlotCalls.state c.repair.new.stock in
+    rw c.suspect_as.ensures.state
+    (settled-after (g.S.SlotCalls.state c.args.stock.now) a f c.in_ok-marks.ensures.ends (settled-after a b f c.in_ok-seen.ensures.ends
+    (succeeds-perhaps b d f c.in_ok-mark_first-in-Some.ensures.done (succeeds-perhaps d e f c.in_ok-begun-in-Some.ensures.done c.in_ok-repair-in-Some.ensures.ends))))

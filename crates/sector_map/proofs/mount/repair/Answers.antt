@@ -3,7 +3,8 @@ use Rattle.std.proofs.lemmas.Result.{err_from_is_err_and}
 use Rattle.erase_journal.specs.Journals.{IsHealthy}
 use Rattle.sector_map.specs.Table.{Mends, Repairs}
 use Rattle.sector_map.proofs.Mounting.{perhaps-healthy, table-room}
-use Rattle.sector_map.proofs.Mending.{mends-after, mends-sound, mends-of}
+use Rattle.sector_map.proofs.Mending.{mends-after, mends-of}
+use Rattle.sector_map.proofs.Moving.{retired-repairs, repairs-after, repairs-mended}
 use Rattle.sector_map.proofs.mount.repair.Goals as goal
 
 pub returns-in_err-retire_older-clause-cut : goal.returns-in_err-retire_older-clause-cut
@@ -19,33 +20,65 @@ returns-in_err-retire_older-clause-healthy g c is healthy =
     let p = err_from_is_err_and c.from_residual-in_err-retire_older.result c.from_residual-in_err-retire_older.ensures.1 in
     c.in_err-retire_older.ensures.healthy (cc (p.1, p.2)) (perhaps-healthy (g.S.SlotCalls.state c.args.stock.now) (g.S.SlotCalls.state c.mend_blocks.new.slots) c.in_ok-mend_blocks.ensures.done healthy)
 
+pub move_begun-requires : goal.move_begun-requires
+move_begun-requires g c =
+    let a = (g.S.SlotCalls.state c.args.stock.now).memory in
+    let b = (g.S.SlotCalls.state c.mend_blocks.new.slots).memory in
+    let d = (g.S.SlotCalls.state c.retire_older.new.slots).memory in
+    let r = c.in_ok-retire_older.ensures in
+    record { mended = repairs-mended c.retire_older.new.table a d c.requires.sound (retired-repairs c.mend_blocks.new.table c.retire_older.new.table a b d c.in_ok-mend_blocks.ensures.ok c.retire_older.ensures.chip r.sectors r.clean r.ok r.blocks) }
+
+pub returns-in_err-move_begun-clause-cut : goal.returns-in_err-move_begun-clause-cut
+returns-in_err-move_begun-clause-cut g c is healthy =
+    let p = err_from_is_err_and c.from_residual-in_err-move_begun.result c.from_residual-in_err-move_begun.ensures.1 in
+    let a = g.S.SlotCalls.state c.args.stock.now in
+    let b = g.S.SlotCalls.state c.mend_blocks.new.slots in
+    let d = g.S.SlotCalls.state c.retire_older.new.slots in
+    let r = c.in_ok-retire_older.ensures in
+    let well = perhaps-healthy b d r.done (perhaps-healthy a b c.in_ok-mend_blocks.ensures.done healthy) in
+    mends-after a.memory d.memory (g.S.SlotCalls.state c.move_begun.new.stock).memory
+    (retired-repairs c.mend_blocks.new.table c.retire_older.new.table a.memory b.memory d.memory c.in_ok-mend_blocks.ensures.ok c.retire_older.ensures.chip r.sectors r.clean r.ok r.blocks).mends (c.in_err-move_begun.ensures.cut (cc (p.1, p.2)) well)
+
+pub returns-in_err-move_begun-clause-healthy : goal.returns-in_err-move_begun-clause-healthy
+returns-in_err-move_begun-clause-healthy g c is healthy =
+    let p = err_from_is_err_and c.from_residual-in_err-move_begun.result c.from_residual-in_err-move_begun.ensures.1 in
+    let a = g.S.SlotCalls.state c.args.stock.now in
+    let b = g.S.SlotCalls.state c.mend_blocks.new.slots in
+    c.in_err-move_begun.ensures.healthy (cc (p.1, p.2)) (perhaps-healthy b (g.S.SlotCalls.state c.retire_older.new.slots) c.in_ok-retire_older.ensures.done (perhaps-healthy a b c.in_ok-mend_blocks.ensures.done healthy))
+
 pub fill-requires : goal.fill-requires
 fill-requires g c =
     let a = (g.S.SlotCalls.state c.args.stock.now).memory in
     let b = (g.S.SlotCalls.state c.mend_blocks.new.slots).memory in
     let d = (g.S.SlotCalls.state c.retire_older.new.slots).memory in
-    let mends = mends-after a b d c.in_ok-mend_blocks.ensures.ok.mends (mends-of b d c.retire_older.ensures.chip c.in_ok-retire_older.ensures.sectors c.in_ok-retire_older.ensures.clean) in
-    record { room = λ ready. table-room c.retire_older.new.table d c.in_ok-retire_older.ensures.ok c.in_ok-retire_older.ensures.blocks (mends-sound a d mends c.requires.sound).groups.layout }
+    let e = (g.S.SlotCalls.state c.move_begun.new.stock).memory in
+    let r = c.in_ok-retire_older.ensures in
+    let h = repairs-mended c.move_begun.new.table a e c.requires.sound (repairs-after c.retire_older.new.table c.move_begun.new.table a d e
+    (retired-repairs c.mend_blocks.new.table c.retire_older.new.table a b d c.in_ok-mend_blocks.ensures.ok c.retire_older.ensures.chip r.sectors r.clean r.ok r.blocks) c.in_ok-move_begun.ensures.ok) in
+    record { room = λ ready. table-room c.move_begun.new.table e h.tabled h.blocks h.sound.groups.layout }
 
 pub returns-in_err-fill-clause-cut : goal.returns-in_err-fill-clause-cut
 returns-in_err-fill-clause-cut g c is healthy =
     let a = (g.S.SlotCalls.state c.args.stock.now).memory in
     let b = (g.S.SlotCalls.state c.mend_blocks.new.slots).memory in
     let d = (g.S.SlotCalls.state c.retire_older.new.slots).memory in
-    subst (λ z. Mends a z) (sym c.fill.ensures.same) (mends-after a b d c.in_ok-mend_blocks.ensures.ok.mends (mends-of b d c.retire_older.ensures.chip c.in_ok-retire_older.ensures.sectors c.in_ok-retire_older.ensures.clean))
+    let r = c.in_ok-retire_older.ensures in
+    subst (λ z. Mends a z) (sym c.fill.ensures.same) (mends-after a d (g.S.SlotCalls.state c.move_begun.new.stock).memory
+    (retired-repairs c.mend_blocks.new.table c.retire_older.new.table a b d c.in_ok-mend_blocks.ensures.ok c.retire_older.ensures.chip r.sectors r.clean r.ok r.blocks).mends c.in_ok-move_begun.ensures.ok.mends)
 
 pub returns-in_err-fill-clause-healthy : goal.returns-in_err-fill-clause-healthy
 returns-in_err-fill-clause-healthy g c is healthy =
-    subst (λ z. IsHealthy z) (sym c.fill.ensures.same) (perhaps-healthy (g.S.SlotCalls.state c.mend_blocks.new.slots) (g.S.SlotCalls.state c.retire_older.new.slots) c.in_ok-retire_older.ensures.done
-    (perhaps-healthy (g.S.SlotCalls.state c.args.stock.now) (g.S.SlotCalls.state c.mend_blocks.new.slots) c.in_ok-mend_blocks.ensures.done healthy))
+    let a = g.S.SlotCalls.state c.args.stock.now in
+    let b = g.S.SlotCalls.state c.mend_blocks.new.slots in
+    let d = g.S.SlotCalls.state c.retire_older.new.slots in
+    subst (λ z. IsHealthy z) (sym c.fill.ensures.same) (perhaps-healthy d (g.S.SlotCalls.state c.move_begun.new.stock) c.in_ok-move_begun.ensures.done
+    (perhaps-healthy b d c.in_ok-retire_older.ensures.done (perhaps-healthy a b c.in_ok-mend_blocks.ensures.done healthy)))
 
 pub returns-clause-ok : goal.returns-clause-ok
 returns-clause-ok g c =
     let a = (g.S.SlotCalls.state c.args.stock.now).memory in
     let b = (g.S.SlotCalls.state c.mend_blocks.new.slots).memory in
     let d = (g.S.SlotCalls.state c.retire_older.new.slots).memory in
-    subst (λ z. Repairs a c.retire_older.new.table z) (sym c.fill.ensures.same) (record {
-      mends = mends-after a b d c.in_ok-mend_blocks.ensures.ok.mends (mends-of b d c.retire_older.ensures.chip c.in_ok-retire_older.ensures.sectors c.in_ok-retire_older.ensures.clean);
-      tabled = c.in_ok-retire_older.ensures.ok;
-      blocks = c.in_ok-retire_older.ensures.blocks;
-    })
+    let r = c.in_ok-retire_older.ensures in
+    subst (λ z. Repairs a c.move_begun.new.table z) (sym c.fill.ensures.same) (repairs-after c.retire_older.new.table c.move_begun.new.table a d (g.S.SlotCalls.state c.move_begun.new.stock).memory
+    (retired-repairs c.mend_blocks.new.table c.retire_older.new.table a b d c.in_ok-mend_blocks.ensures.ok c.retire_older.ensures.chip r.sectors r.clean r.ok r.blocks) c.in_ok-move_begun.ensures.ok)

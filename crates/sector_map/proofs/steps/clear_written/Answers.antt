@@ -1,8 +1,6 @@
-use Rattle.std.proofs.Common.{◌≡◌, ◌<◌, inl, inr, subst, sym, length, refl, arith}
+use Rattle.std.proofs.Common.{◌<◌, inr, subst}
 use Rattle.std.proofs.lemmas.Result.{err_from_is_err_and, on_ok_weaker}
-use Rattle.chip_model.specs.Geometry.{sector_count}
 use Rattle.sector_slots.specs.Sectors.{zeros}
-use Rattle.sector_map.specs.Maps.{Wrote, SetLeaves}
 use Rattle.sector_map.proofs.MapCalls.{after-ends}
 use Rattle.sector_map.proofs.Zeroing.{leaves-twice, wrote-twice}
 use Rattle.sector_map.proofs.steps.clear_written.Goals as goal

@@ -3,13 +3,13 @@ use Rattle.sector_stock.proofs.Moved.{copyable-used, used-no_group, numbers-in, 
 use Rattle.sector_stock.proofs.Converting.{work-most}
 use Rattle.sector_stock.proofs.policy.move_used.Goals as goal
 
-pub reclaim_into-requires-clause-copyable : goal.reclaim_into-requires-clause-copyable
-reclaim_into-requires-clause-copyable g c ready = copyable-used c.args.source (g.S.SlotCalls.state c.args.slots.now).memory c.args.states.now c.args.blocks.now c.args.at.now c.requires.room c.requires.index c.requires.source c.requires.used
+pub copy_into-requires-clause-copyable : goal.copy_into-requires-clause-copyable
+copy_into-requires-clause-copyable g c ready = copyable-used c.args.source (g.S.SlotCalls.state c.args.slots.now).memory c.args.states.now c.args.blocks.now c.args.at.now c.requires.room c.requires.index c.requires.source c.requires.used
 
-pub returns-in_err-reclaim_into-clause-cut : goal.returns-in_err-reclaim_into-clause-cut
-returns-in_err-reclaim_into-clause-cut g c is healthy =
+pub returns-in_err-copy_into-clause-cut : goal.returns-in_err-copy_into-clause-cut
+returns-in_err-copy_into-clause-cut g c is healthy =
     let p = err_from_is_err_and c.from_residual.result c.from_residual.ensures.1 in
-    c.in_err-reclaim_into.ensures.cut (cc (p.1, p.2)) healthy (copyable-used c.args.source (g.S.SlotCalls.state c.args.slots.now).memory c.args.states.now c.args.blocks.now c.args.at.now c.requires.room c.requires.index c.requires.source c.requires.used)
+    c.in_err-copy_into.ensures.cut (cc (p.1, p.2)) healthy (copyable-used c.args.source (g.S.SlotCalls.state c.args.slots.now).memory c.args.states.now c.args.blocks.now c.args.at.now c.requires.room c.requires.index c.requires.source c.requires.used)
 
 pub shift_states-requires-clause-other : goal.shift_states-requires-clause-other
 shift_states-requires-clause-other g c = (copyable-used c.args.source (g.S.SlotCalls.state c.args.slots.now).memory c.args.states.now c.args.blocks.now c.args.at.now c.requires.room c.requires.index c.requires.source c.requires.used).other
@@ -24,18 +24,18 @@ pub returns-clause-ok : goal.returns-clause-ok
 returns-clause-ok g c =
     let m = (g.S.SlotCalls.state c.args.slots.now).memory in
     let h = copyable-used c.args.source (g.S.SlotCalls.state c.args.slots.now).memory c.args.states.now c.args.blocks.now c.args.at.now c.requires.room c.requires.index c.requires.source c.requires.used in
-    moves-into c.args.source c.args.at.now.reserve m (g.S.SlotCalls.state c.reclaim_into.new.slots).memory c.requires.room h.source c.requires.index.reserve h.other
-    (used-no_group c.args.source m c.args.states.now c.args.blocks.now c.args.at.now c.requires.index c.requires.source c.requires.used) (c.in_ok-reclaim_into.ensures.ok h)
+    moves-into c.args.source c.args.at.now.reserve m (g.S.SlotCalls.state c.copy_into.new.slots).memory c.requires.room h.source c.requires.index.reserve h.other
+    (used-no_group c.args.source m c.args.states.now c.args.blocks.now c.args.at.now c.requires.index c.requires.source c.requires.used) (c.in_ok-copy_into.ensures.ok h)
 
 pub returns-clause-index : goal.returns-clause-index
 returns-clause-index g c =
     let m = (g.S.SlotCalls.state c.args.slots.now).memory in
     let h = copyable-used c.args.source (g.S.SlotCalls.state c.args.slots.now).memory c.args.states.now c.args.blocks.now c.args.at.now c.requires.room c.requires.index c.requires.source c.requires.used in
-    let done = c.in_ok-reclaim_into.ensures.ok h in
-    index-moved c.args.source m (g.S.SlotCalls.state c.reclaim_into.new.slots).memory c.args.states.now c.shift_states.new.slots c.args.blocks.now c.move_block.new.blocks c.args.at.now c.move_block.new.at
+    let done = c.in_ok-copy_into.ensures.ok h in
+    index-moved c.args.source m (g.S.SlotCalls.state c.copy_into.new.slots).memory c.args.states.now c.shift_states.new.slots c.args.blocks.now c.move_block.new.blocks c.args.at.now c.move_block.new.at
     c.requires.room h.source done.slots done.blocks c.requires.index c.shift_states.ensures c.move_block.ensures.moved c.move_block.ensures.ahead c.move_block.ensures.reserve c.move_block.ensures.policy c.move_block.ensures.fits c.requires.may
 
 pub returns-clause-work : goal.returns-clause-work
 returns-clause-work g c =
     let h = copyable-used c.args.source (g.S.SlotCalls.state c.args.slots.now).memory c.args.states.now c.args.blocks.now c.args.at.now c.requires.room c.requires.index c.requires.source c.requires.used in
-    work-most c.args.source c.args.at.now.reserve (g.S.SlotCalls.state c.args.slots.now).memory (g.S.SlotCalls.state c.reclaim_into.new.slots).memory c.requires.room h (c.in_ok-reclaim_into.ensures.ok h)
+    work-most c.args.source c.args.at.now.reserve (g.S.SlotCalls.state c.args.slots.now).memory (g.S.SlotCalls.state c.copy_into.new.slots).memory c.requires.room h (c.in_ok-copy_into.ensures.ok h)

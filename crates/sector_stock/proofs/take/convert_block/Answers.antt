@@ -4,13 +4,13 @@ use Rattle.sector_stock.proofs.Converting.{convertible, converts-into}
 use Rattle.sector_stock.proofs.Worn.{counted-moved}
 use Rattle.sector_stock.proofs.take.convert_block.Goals as goal
 
-pub reclaim_into-requires-clause-copyable : goal.reclaim_into-requires-clause-copyable
-reclaim_into-requires-clause-copyable g c ready = (convertible c.args.source c.args.at.now.reserve (g.S.SlotCalls.state c.args.slots.now).memory c.requires.room c.requires.index.reserve c.requires.source c.requires.group)
+pub copy_into-requires-clause-copyable : goal.copy_into-requires-clause-copyable
+copy_into-requires-clause-copyable g c ready = (convertible c.args.source c.args.at.now.reserve (g.S.SlotCalls.state c.args.slots.now).memory c.requires.room c.requires.index.reserve c.requires.source c.requires.group)
 
-pub returns-in_err-reclaim_into-clause-cut : goal.returns-in_err-reclaim_into-clause-cut
-returns-in_err-reclaim_into-clause-cut g c is healthy =
+pub returns-in_err-copy_into-clause-cut : goal.returns-in_err-copy_into-clause-cut
+returns-in_err-copy_into-clause-cut g c is healthy =
     let p = err_from_is_err_and c.from_residual.result c.from_residual.ensures.1 in
-    c.in_err-reclaim_into.ensures.cut (cc (p.1, p.2)) healthy (convertible c.args.source c.args.at.now.reserve (g.S.SlotCalls.state c.args.slots.now).memory c.requires.room c.requires.index.reserve c.requires.source c.requires.group)
+    c.in_err-copy_into.ensures.cut (cc (p.1, p.2)) healthy (convertible c.args.source c.args.at.now.reserve (g.S.SlotCalls.state c.args.slots.now).memory c.requires.room c.requires.index.reserve c.requires.source c.requires.group)
 
 pub shift_states-requires-clause-other : goal.shift_states-requires-clause-other
 shift_states-requires-clause-other g c = (convertible c.args.source c.args.at.now.reserve (g.S.SlotCalls.state c.args.slots.now).memory c.requires.room c.requires.index.reserve c.requires.source c.requires.group).other
@@ -23,13 +23,13 @@ move_block-requires-clause-numbers g c = numbers-in c.args.source (g.S.SlotCalls
 
 pub returns-clause-ok : goal.returns-clause-ok
 returns-clause-ok g c =
-    converts-into c.args.source c.args.at.now.reserve (g.S.SlotCalls.state c.args.slots.now).memory (g.S.SlotCalls.state c.reclaim_into.new.slots).memory c.requires.room c.requires.index.reserve c.requires.source c.requires.group
-    (c.in_ok-reclaim_into.ensures.ok (convertible c.args.source c.args.at.now.reserve (g.S.SlotCalls.state c.args.slots.now).memory c.requires.room c.requires.index.reserve c.requires.source c.requires.group))
+    converts-into c.args.source c.args.at.now.reserve (g.S.SlotCalls.state c.args.slots.now).memory (g.S.SlotCalls.state c.copy_into.new.slots).memory c.requires.room c.requires.index.reserve c.requires.source c.requires.group
+    (c.in_ok-copy_into.ensures.ok (convertible c.args.source c.args.at.now.reserve (g.S.SlotCalls.state c.args.slots.now).memory c.requires.room c.requires.index.reserve c.requires.source c.requires.group))
 
 pub returns-clause-index : goal.returns-clause-index
 returns-clause-index g c =
-    let done = c.in_ok-reclaim_into.ensures.ok (convertible c.args.source c.args.at.now.reserve (g.S.SlotCalls.state c.args.slots.now).memory c.requires.room c.requires.index.reserve c.requires.source c.requires.group) in
-    index-moved c.args.source (g.S.SlotCalls.state c.args.slots.now).memory (g.S.SlotCalls.state c.reclaim_into.new.slots).memory c.args.states.now c.shift_states.new.slots c.args.blocks.now c.move_block.new.blocks c.args.at.now c.move_block.new.at
+    let done = c.in_ok-copy_into.ensures.ok (convertible c.args.source c.args.at.now.reserve (g.S.SlotCalls.state c.args.slots.now).memory c.requires.room c.requires.index.reserve c.requires.source c.requires.group) in
+    index-moved c.args.source (g.S.SlotCalls.state c.args.slots.now).memory (g.S.SlotCalls.state c.copy_into.new.slots).memory c.args.states.now c.shift_states.new.slots c.args.blocks.now c.move_block.new.blocks c.args.at.now c.move_block.new.at
     c.requires.room c.requires.source done.slots done.blocks c.requires.index c.shift_states.ensures c.move_block.ensures.moved c.move_block.ensures.ahead c.move_block.ensures.reserve c.move_block.ensures.policy c.move_block.ensures.fits c.requires.may
 
 pub returns-clause-target : goal.returns-clause-target

@@ -7,15 +7,15 @@ use Rattle.sector_stock.proofs.Converting.{work-falls}
 use Rattle.sector_stock.proofs.Moving.{other-reserve}
 use Rattle.sector_stock.proofs.take.copy_most.Goals as goal
 
-pub reclaim_into-requires-clause-copyable : goal.reclaim_into-requires-clause-copyable
-reclaim_into-requires-clause-copyable g c ready =
+pub copy_into-requires-clause-copyable : goal.copy_into-requires-clause-copyable
+copy_into-requires-clause-copyable g c ready =
     copyable-now c.args.source (g.S.SlotCalls.state c.args.slots.now).memory c.args.states.now c.args.blocks.now c.args.at.now c.requires.room c.requires.index c.requires.most
 
-pub returns-in_err-reclaim_into-clause-cut : goal.returns-in_err-reclaim_into-clause-cut
-returns-in_err-reclaim_into-clause-cut g c is healthy =
+pub returns-in_err-copy_into-clause-cut : goal.returns-in_err-copy_into-clause-cut
+returns-in_err-copy_into-clause-cut g c is healthy =
     let p = err_from_is_err_and c.from_residual.result c.from_residual.ensures.1 in
     let h = copyable-now c.args.source (g.S.SlotCalls.state c.args.slots.now).memory c.args.states.now c.args.blocks.now c.args.at.now c.requires.room c.requires.index c.requires.most in
-    c.in_err-reclaim_into.ensures.cut (cc (p.1, p.2)) healthy h
+    c.in_err-copy_into.ensures.cut (cc (p.1, p.2)) healthy h
 
 pub shift_states-requires-clause-other : goal.shift_states-requires-clause-other
 shift_states-requires-clause-other g c =
@@ -32,15 +32,15 @@ pub returns-clause-ok : goal.returns-clause-ok
 returns-clause-ok g c =
     let m = (g.S.SlotCalls.state c.args.slots.now).memory in
     let h = copyable-now c.args.source m c.args.states.now c.args.blocks.now c.args.at.now c.requires.room c.requires.index c.requires.most in
-    copies-into c.args.source c.args.at.now.reserve m (g.S.SlotCalls.state c.reclaim_into.new.slots).memory c.requires.room
-    (dead-in c.args.source m c.args.states.now c.args.blocks.now c.args.at.now c.requires.index c.requires.most) c.requires.index.reserve h.other (c.in_ok-reclaim_into.ensures.ok h)
+    copies-into c.args.source c.args.at.now.reserve m (g.S.SlotCalls.state c.copy_into.new.slots).memory c.requires.room
+    (dead-in c.args.source m c.args.states.now c.args.blocks.now c.args.at.now c.requires.index c.requires.most) c.requires.index.reserve h.other (c.in_ok-copy_into.ensures.ok h)
 
 pub returns-clause-tidies : goal.returns-clause-tidies
 returns-clause-tidies g c =
     let m = (g.S.SlotCalls.state c.args.slots.now).memory in
     let h = copyable-now c.args.source m c.args.states.now c.args.blocks.now c.args.at.now c.requires.room c.requires.index c.requires.most in
-    copies (copies-into c.args.source c.args.at.now.reserve m (g.S.SlotCalls.state c.reclaim_into.new.slots).memory c.requires.room
-    (dead-in c.args.source m c.args.states.now c.args.blocks.now c.args.at.now c.requires.index c.requires.most) c.requires.index.reserve h.other (c.in_ok-reclaim_into.ensures.ok h))
+    copies (copies-into c.args.source c.args.at.now.reserve m (g.S.SlotCalls.state c.copy_into.new.slots).memory c.requires.room
+    (dead-in c.args.source m c.args.states.now c.args.blocks.now c.args.at.now c.requires.index c.requires.most) c.requires.index.reserve h.other (c.in_ok-copy_into.ensures.ok h))
 
 pub returns-clause-most : goal.returns-clause-most
 returns-clause-most g c =
@@ -54,24 +54,24 @@ pub returns-clause-fewer : goal.returns-clause-fewer
 returns-clause-fewer g c =
     let m = (g.S.SlotCalls.state c.args.slots.now).memory in
     let h = copyable-now c.args.source m c.args.states.now c.args.blocks.now c.args.at.now c.requires.room c.requires.index c.requires.most in
-    let done = c.in_ok-reclaim_into.ensures.ok h in
-    work-falls c.args.source c.args.at.now.reserve m (g.S.SlotCalls.state c.reclaim_into.new.slots).memory c.requires.room done.blocks
+    let done = c.in_ok-copy_into.ensures.ok h in
+    work-falls c.args.source c.args.at.now.reserve m (g.S.SlotCalls.state c.copy_into.new.slots).memory c.requires.room done.blocks
     (dead-in c.args.source m c.args.states.now c.args.blocks.now c.args.at.now c.requires.index c.requires.most) c.requires.index.reserve done.slots
 
 pub returns-clause-index : goal.returns-clause-index
 returns-clause-index g c =
     let m = (g.S.SlotCalls.state c.args.slots.now).memory in
     let h = copyable-now c.args.source m c.args.states.now c.args.blocks.now c.args.at.now c.requires.room c.requires.index c.requires.most in
-    let done = c.in_ok-reclaim_into.ensures.ok h in
-    turned c.move_block.new.at.turn c.args.source c.move_block.new.at.behind (g.S.SlotCalls.state c.reclaim_into.new.slots).memory c.shift_states.new.slots c.move_block.new.blocks c.move_block.new.at c.go_on_behind.new.at c.go_on_behind.ensures
-    (index-moved c.args.source m (g.S.SlotCalls.state c.reclaim_into.new.slots).memory c.args.states.now c.shift_states.new.slots c.args.blocks.now c.move_block.new.blocks c.args.at.now c.move_block.new.at
+    let done = c.in_ok-copy_into.ensures.ok h in
+    turned c.move_block.new.at.turn c.args.source c.move_block.new.at.behind (g.S.SlotCalls.state c.copy_into.new.slots).memory c.shift_states.new.slots c.move_block.new.blocks c.move_block.new.at c.go_on_behind.new.at c.go_on_behind.ensures
+    (index-moved c.args.source m (g.S.SlotCalls.state c.copy_into.new.slots).memory c.args.states.now c.shift_states.new.slots c.args.blocks.now c.move_block.new.blocks c.args.at.now c.move_block.new.at
     c.requires.room h.source done.slots done.blocks c.requires.index c.shift_states.ensures c.move_block.ensures.moved c.move_block.ensures.ahead c.move_block.ensures.reserve c.move_block.ensures.policy c.move_block.ensures.fits c.requires.may)
 
 pub returns-clause-free : goal.returns-clause-free
 returns-clause-free g c none =
     let m = (g.S.SlotCalls.state c.args.slots.now).memory in
     let h = copyable-now c.args.source m c.args.states.now c.args.blocks.now c.args.at.now c.requires.room c.requires.index c.requires.most in
-    let done = c.in_ok-reclaim_into.ensures.ok h in
+    let done = c.in_ok-copy_into.ensures.ok h in
     let most = dead-in c.args.source m c.args.states.now c.args.blocks.now c.args.at.now c.requires.index c.requires.most in
-    free-after c.args.source c.args.at.now.reserve c.move_block.new.at.reserve m (g.S.SlotCalls.state c.reclaim_into.new.slots).memory c.requires.room most c.requires.index.reserve
-    (other-reserve c.args.at.now.policy c.args.source c.args.at.now.reserve c.move_block.new.at.reserve c.args.blocks.now c.move_block.new.blocks c.move_block.ensures.moved c.move_block.ensures.reserve) done (subst (λ a. HasNoneFree a.reserve (g.S.SlotCalls.state c.reclaim_into.new.slots).memory) c.go_on_behind.ensures none)
+    free-after c.args.source c.args.at.now.reserve c.move_block.new.at.reserve m (g.S.SlotCalls.state c.copy_into.new.slots).memory c.requires.room most c.requires.index.reserve
+    (other-reserve c.args.at.now.policy c.args.source c.args.at.now.reserve c.move_block.new.at.reserve c.args.blocks.now c.move_block.new.blocks c.move_block.ensures.moved c.move_block.ensures.reserve) done (subst (λ a. HasNoneFree a.reserve (g.S.SlotCalls.state c.copy_into.new.slots).memory) c.go_on_behind.ensures none)

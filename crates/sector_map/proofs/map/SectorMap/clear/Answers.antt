@@ -13,23 +13,23 @@ returns-in-Some-clause-cut g c is =
     rw (← c.self.view_is) (inl (keeps-none m (cut-store c.self.inside.latched c.in-Some.error c.self.inside.table.items c.self.inside.stock.slots c.self.inside.stock.indexed c.in-Some.is (cc is) c.self.invariant.standing)))
 
 pub returns-in-Err-clause-cut : goal.returns-in-Err-clause-cut
-returns-in-Err-clause-cut g c is = rw (← c.self.view_is) (c.clear_levelled.ensures.cut (c.in-Err.is ∙ is))
+returns-in-Err-clause-cut g c is = rw (← c.self.view_is) (c.clear_as.ensures.cut (c.in-Err.is ∙ is))
 
 pub returns-in-Ok-clause-ends : goal.returns-in-Ok-clause-ends
-returns-in-Ok-clause-ends g c = rw (← c.self.view_is) (shown-succeeds c.self.inside.latched c.self.inside.stock.slots c.clear_levelled.new.stock.slots c.in_default.is c.in-Ok.ensures.ends)
+returns-in-Ok-clause-ends g c = rw (← c.self.view_is) (shown-succeeds c.self.inside.latched c.self.inside.stock.slots c.clear_as.new.stock.slots c.in_default.is c.in-Ok.ensures.ends)
 
 pub returns-in-Ok-clause-ok : goal.returns-in-Ok-clause-ok
 returns-in-Ok-clause-ok g c = rw (← c.self.view_is) (c.in-Ok.ensures.ok.sets)
 
 pub invariant_of-self : goal.invariant_of-self
 invariant_of-self g c = record {
-  counted = c.self.invariant.counted ∙ ap (λ n. sector_count n) (sym c.clear_levelled.ensures.size);
-  standing = known-after c.self.inside.latched c.self.inside.table.items c.clear_levelled.new.table c.self.inside.stock.slots c.clear_levelled.new.stock.slots c.self.inside.stock.indexed c.clear_levelled.new.stock.indexed _ (with_items_is c.self.inside.table c.clear_levelled.new.table (c.clear_levelled.ensures.table ∙ c.as_mut_slice.ensures.len)) c.in_default.is c.in-Ok.ensures.ok.served;
+  counted = c.self.invariant.counted ∙ ap (λ n. sector_count n) (sym c.clear_as.ensures.size);
+  standing = known-after c.self.inside.latched c.self.inside.table.items c.clear_as.new.table c.self.inside.stock.slots c.clear_as.new.stock.slots c.self.inside.stock.indexed c.clear_as.new.stock.indexed _ (with_items_is c.self.inside.table c.clear_as.new.table (c.clear_as.ensures.table ∙ c.as_mut_slice.ensures.len)) c.in_default.is c.in-Ok.ensures.ok.served;
 }
 
 pub invariant_of-self-in-Err : goal.invariant_of-self-in-Err
 invariant_of-self-in-Err g c = record {
-  counted = c.self.invariant.counted ∙ ap (λ n. sector_count n) (sym c.clear_levelled.ensures.size);
-  standing = known-latched c.self.inside.latched c.in-Err.error c.self.inside.table.items _ c.self.inside.stock.slots c.clear_levelled.new.stock.slots c.self.inside.stock.indexed c.clear_levelled.new.stock.indexed c.in_default.is c.self.invariant.standing c.in-Err.ensures.ends
-      (λ e. leaves-store c.args.sector zeros c.self.inside.stock.slots.memory c.clear_levelled.new.stock.slots.memory (c.clear_levelled.ensures.cut (c.in-Err.is ∙ ap Err e)));
+  counted = c.self.invariant.counted ∙ ap (λ n. sector_count n) (sym c.clear_as.ensures.size);
+  standing = known-latched c.self.inside.latched c.in-Err.error c.self.inside.table.items _ c.self.inside.stock.slots c.clear_as.new.stock.slots c.self.inside.stock.indexed c.clear_as.new.stock.indexed c.in_default.is c.self.invariant.standing c.in-Err.ensures.ends
+      (λ e. leaves-store c.args.sector zeros c.self.inside.stock.slots.memory c.clear_as.new.stock.slots.memory (c.clear_as.ensures.cut (c.in-Err.is ∙ ap Err e)));
 }

@@ -1,7 +1,7 @@
 use Rattle.std.proofs.Common.{rules, subst}
 use Rattle.nor_driver.specs.State.{NorFails}
 use Rattle.sector_map.proofs.Opening.{looked-fails, look-was-cut}
-use Rattle.sector_map.proofs.map.SectorMap.mount.Goals as goal
+use Rattle.sector_map.proofs.map.SectorMap.mount_as.Goals as goal
 
 pub returns-in-Ok-Ok-clause-fails : goal.returns-in-Ok-Ok-clause-fails
 returns-in-Ok-Ok-clause-fails g c =

@@ -1,6 +1,6 @@
 use Rattle.std.proofs.Common.{ap, ◌/◌}
 use Rattle.erase_journal.proofs.Scans.{open-found}
-use Rattle.erase_journal.proofs.block_erase.find_open.Goals as goal
+use Rattle.erase_journal.proofs.open_entries.find_open.Goals as goal
 
 pub returns-clause-found : goal.returns-clause-found
 returns-clause-found g c = open-found (g.N.Nor.state c.args.nor.now).memory c.read.new.into (c.bytes.result / 4096) c.lowest_open.result

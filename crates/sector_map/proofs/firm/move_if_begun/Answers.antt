@@ -1,0 +1,72 @@
+use Rattle.std.proofs.Common.{◌∙◌, ap, sym, subst}
+use Rattle.std.proofs.lemmas.Result.{err_from_is_err_and}
+use Rattle.chip_model.specs.Geometry.{sector_count}
+use Rattle.erase_journal.specs.Journals.{IsHealthy}
+use Rattle.erase_journal.proofs.SettledLaws.{settled-healthy}
+use Rattle.sector_slots.specs.Blocks.{AreSettled}
+use Rattle.sector_map.proofs.Mending.{mends-same}
+use Rattle.sector_map.proofs.Moving.{begun-at, begun-copyable, afresh-cut, afresh-mends, afresh-moved, afresh-number, afresh-repairs, still-repairs}
+use Rattle.sector_map.proofs.firm.move_if_begun.Goals as goal
+
+pub returns-in_err-begun-clause-cut : goal.returns-in_err-begun-clause-cut
+returns-in_err-begun-clause-cut g c is healthy = mends-same (g.S.SlotCalls.state c.args.stock.now).memory (g.S.SlotCalls.state c.has_begun.new.self).memory c.has_begun.ensures.same
+
+pub returns-in_err-begun-clause-healthy : goal.returns-in_err-begun-clause-healthy
+returns-in_err-begun-clause-healthy g c is healthy = subst (λ z. IsHealthy z) (sym c.has_begun.ensures.same) healthy
+
+pub returns-then-not-begun-clause-ok : goal.returns-then-not-begun-clause-ok
+returns-then-not-begun-clause-ok g c = still-repairs c.args.table.now (g.S.SlotCalls.state c.args.stock.now).memory (g.S.SlotCalls.state c.has_begun.new.self).memory c.requires.mended c.has_begun.ensures.same
+
+pub lowest_spare-requires : goal.lowest_spare-requires
+lowest_spare-requires g c = record { blocks = subst (λ z. AreSettled z) (sym c.has_begun.ensures.same) c.requires.mended.blocks }
+
+pub returns-in_err-target-clause-cut : goal.returns-in_err-target-clause-cut
+returns-in_err-target-clause-cut g c is healthy = mends-same (g.S.SlotCalls.state c.args.stock.now).memory (g.S.SlotCalls.state c.lowest_spare.new.slots).memory (c.lowest_spare.ensures.same ∙ c.has_begun.ensures.same)
+
+pub returns-in_err-target-clause-healthy : goal.returns-in_err-target-clause-healthy
+returns-in_err-target-clause-healthy g c is healthy = subst (λ z. IsHealthy z) (sym (c.lowest_spare.ensures.same ∙ c.has_begun.ensures.same)) healthy
+
+pub move_afresh-requires-clause-source : goal.move_afresh-requires-clause-source
+move_afresh-requires-clause-source g c = (begun-at c.args.table.now c.args.block c.in_ok-target.target (g.S.SlotCalls.state c.args.stock.now).memory (g.S.SlotCalls.state c.has_begun.new.self).memory (g.S.SlotCalls.state c.lowest_spare.new.slots).memory c.requires.mended c.requires.number (c.in_ok-begun.ensures.begun c.if-not-begun.false) c.has_begun.ensures.same c.in_ok-target.ensures.spare c.lowest_spare.ensures.same).number
+
+pub move_afresh-requires-clause-target : goal.move_afresh-requires-clause-target
+move_afresh-requires-clause-target g c = (begun-at c.args.table.now c.args.block c.in_ok-target.target (g.S.SlotCalls.state c.args.stock.now).memory (g.S.SlotCalls.state c.has_begun.new.self).memory (g.S.SlotCalls.state c.lowest_spare.new.slots).memory c.requires.mended c.requires.number (c.in_ok-begun.ensures.begun c.if-not-begun.false) c.has_begun.ensures.same c.in_ok-target.ensures.spare c.lowest_spare.ensures.same).spare.number
+
+pub move_afresh-requires-clause-copyable : goal.move_afresh-requires-clause-copyable
+move_afresh-requires-clause-copyable g c ready = begun-copyable c.args.table.now c.args.block c.in_ok-target.target (g.S.SlotCalls.state c.lowest_spare.new.slots).memory (begun-at c.args.table.now c.args.block c.in_ok-target.target (g.S.SlotCalls.state c.args.stock.now).memory (g.S.SlotCalls.state c.has_begun.new.self).memory (g.S.SlotCalls.state c.lowest_spare.new.slots).memory c.requires.mended c.requires.number (c.in_ok-begun.ensures.begun c.if-not-begun.false) c.has_begun.ensures.same c.in_ok-target.ensures.spare c.lowest_spare.ensures.same)
+
+pub returns-in_err-move_afresh-clause-cut : goal.returns-in_err-move_afresh-clause-cut
+returns-in_err-move_afresh-clause-cut g c is healthy =
+    let p = err_from_is_err_and c.from_residual-in_err-move_afresh.result c.from_residual-in_err-move_afresh.ensures.1 in
+    afresh-cut c.args.table.now c.args.block c.in_ok-target.target (g.S.SlotCalls.state c.args.stock.now).memory (g.S.SlotCalls.state c.lowest_spare.new.slots).memory (g.S.SlotCalls.state c.move_afresh.new.slots).memory (c.lowest_spare.ensures.same ∙ c.has_begun.ensures.same) (begun-at c.args.table.now c.args.block c.in_ok-target.target (g.S.SlotCalls.state c.args.stock.now).memory (g.S.SlotCalls.state c.has_begun.new.self).memory (g.S.SlotCalls.state c.lowest_spare.new.slots).memory c.requires.mended c.requires.number (c.in_ok-begun.ensures.begun c.if-not-begun.false) c.has_begun.ensures.same c.in_ok-target.ensures.spare c.lowest_spare.ensures.same) healthy (c.in_err-move_afresh.ensures.cut (cc (p.1, p.2)))
+
+pub returns-in_err-move_afresh-clause-healthy : goal.returns-in_err-move_afresh-clause-healthy
+returns-in_err-move_afresh-clause-healthy g c is healthy =
+    let p = err_from_is_err_and c.from_residual-in_err-move_afresh.result c.from_residual-in_err-move_afresh.ensures.1 in
+    c.in_err-move_afresh.ensures.healthy (cc (p.1, p.2)) (subst (λ z. IsHealthy z) (sym (c.lowest_spare.ensures.same ∙ c.has_begun.ensures.same)) healthy)
+
+pub follow_block-requires-clause-number : goal.follow_block-requires-clause-number
+follow_block-requires-clause-number g c = afresh-number (g.S.SlotCalls.state c.lowest_spare.new.slots).memory (g.S.SlotCalls.state c.move_afresh.new.slots).memory c.in_ok-target.target (afresh-moved c.args.table.now c.args.block c.in_ok-target.target (g.S.SlotCalls.state c.lowest_spare.new.slots).memory (g.S.SlotCalls.state c.move_afresh.new.slots).memory (begun-at c.args.table.now c.args.block c.in_ok-target.target (g.S.SlotCalls.state c.args.stock.now).memory (g.S.SlotCalls.state c.has_begun.new.self).memory (g.S.SlotCalls.state c.lowest_spare.new.slots).memory c.requires.mended c.requires.number (c.in_ok-begun.ensures.begun c.if-not-begun.false) c.has_begun.ensures.same c.in_ok-target.ensures.spare c.lowest_spare.ensures.same) c.in_ok-move_afresh.ensures.ok) (begun-at c.args.table.now c.args.block c.in_ok-target.target (g.S.SlotCalls.state c.args.stock.now).memory (g.S.SlotCalls.state c.has_begun.new.self).memory (g.S.SlotCalls.state c.lowest_spare.new.slots).memory c.requires.mended c.requires.number (c.in_ok-begun.ensures.begun c.if-not-begun.false) c.has_begun.ensures.same c.in_ok-target.ensures.spare c.lowest_spare.ensures.same).spare
+
+pub follow_block-requires-clause-size : goal.follow_block-requires-clause-size
+follow_block-requires-clause-size g c = let h = afresh-moved c.args.table.now c.args.block c.in_ok-target.target (g.S.SlotCalls.state c.lowest_spare.new.slots).memory (g.S.SlotCalls.state c.move_afresh.new.slots).memory (begun-at c.args.table.now c.args.block c.in_ok-target.target (g.S.SlotCalls.state c.args.stock.now).memory (g.S.SlotCalls.state c.has_begun.new.self).memory (g.S.SlotCalls.state c.lowest_spare.new.slots).memory c.requires.mended c.requires.number (c.in_ok-begun.ensures.begun c.if-not-begun.false) c.has_begun.ensures.same c.in_ok-target.ensures.spare c.lowest_spare.ensures.same) c.in_ok-move_afresh.ensures.ok in (begun-at c.args.table.now c.args.block c.in_ok-target.target (g.S.SlotCalls.state c.args.stock.now).memory (g.S.SlotCalls.state c.has_begun.new.self).memory (g.S.SlotCalls.state c.lowest_spare.new.slots).memory c.requires.mended c.requires.number (c.in_ok-begun.ensures.begun c.if-not-begun.false) c.has_begun.ensures.same c.in_ok-target.ensures.spare c.lowest_spare.ensures.same).mended.tabled.size ∙ ap (λ n. sector_count n) (sym h.chip.same_length)
+
+pub follow_block-requires-clause-sound : goal.follow_block-requires-clause-sound
+follow_block-requires-clause-sound g c = (afresh-moved c.args.table.now c.args.block c.in_ok-target.target (g.S.SlotCalls.state c.lowest_spare.new.slots).memory (g.S.SlotCalls.state c.move_afresh.new.slots).memory (begun-at c.args.table.now c.args.block c.in_ok-target.target (g.S.SlotCalls.state c.args.stock.now).memory (g.S.SlotCalls.state c.has_begun.new.self).memory (g.S.SlotCalls.state c.lowest_spare.new.slots).memory c.requires.mended c.requires.number (c.in_ok-begun.ensures.begun c.if-not-begun.false) c.has_begun.ensures.same c.in_ok-target.ensures.spare c.lowest_spare.ensures.same) c.in_ok-move_afresh.ensures.ok).sound
+
+pub follow_block-requires-clause-single : goal.follow_block-requires-clause-single
+follow_block-requires-clause-single g c = (afresh-moved c.args.table.now c.args.block c.in_ok-target.target (g.S.SlotCalls.state c.lowest_spare.new.slots).memory (g.S.SlotCalls.state c.move_afresh.new.slots).memory (begun-at c.args.table.now c.args.block c.in_ok-target.target (g.S.SlotCalls.state c.args.stock.now).memory (g.S.SlotCalls.state c.has_begun.new.self).memory (g.S.SlotCalls.state c.lowest_spare.new.slots).memory c.requires.mended c.requires.number (c.in_ok-begun.ensures.begun c.if-not-begun.false) c.has_begun.ensures.same c.in_ok-target.ensures.spare c.lowest_spare.ensures.same) c.in_ok-move_afresh.ensures.ok).single
+
+pub follow_block-requires-clause-blocks : goal.follow_block-requires-clause-blocks
+follow_block-requires-clause-blocks g c = (afresh-moved c.args.table.now c.args.block c.in_ok-target.target (g.S.SlotCalls.state c.lowest_spare.new.slots).memory (g.S.SlotCalls.state c.move_afresh.new.slots).memory (begun-at c.args.table.now c.args.block c.in_ok-target.target (g.S.SlotCalls.state c.args.stock.now).memory (g.S.SlotCalls.state c.has_begun.new.self).memory (g.S.SlotCalls.state c.lowest_spare.new.slots).memory c.requires.mended c.requires.number (c.in_ok-begun.ensures.begun c.if-not-begun.false) c.has_begun.ensures.same c.in_ok-target.ensures.spare c.lowest_spare.ensures.same) c.in_ok-move_afresh.ensures.ok).blocks
+
+pub returns-in_err-follow_block-clause-cut : goal.returns-in_err-follow_block-clause-cut
+returns-in_err-follow_block-clause-cut g c is healthy =
+    afresh-mends c.args.table.now c.args.block c.in_ok-target.target (g.S.SlotCalls.state c.args.stock.now).memory (g.S.SlotCalls.state c.lowest_spare.new.slots).memory (g.S.SlotCalls.state c.move_afresh.new.slots).memory (g.S.SlotCalls.state c.follow_block.new.slots).memory (c.lowest_spare.ensures.same ∙ c.has_begun.ensures.same) (begun-at c.args.table.now c.args.block c.in_ok-target.target (g.S.SlotCalls.state c.args.stock.now).memory (g.S.SlotCalls.state c.has_begun.new.self).memory (g.S.SlotCalls.state c.lowest_spare.new.slots).memory c.requires.mended c.requires.number (c.in_ok-begun.ensures.begun c.if-not-begun.false) c.has_begun.ensures.same c.in_ok-target.ensures.spare c.lowest_spare.ensures.same) c.in_ok-move_afresh.ensures.ok c.follow_block.ensures.same
+
+pub returns-in_err-follow_block-clause-healthy : goal.returns-in_err-follow_block-clause-healthy
+returns-in_err-follow_block-clause-healthy g c is healthy = subst (λ z. IsHealthy z) (sym c.follow_block.ensures.same) (settled-healthy (g.S.SlotCalls.state c.move_afresh.new.slots).memory c.in_ok-move_afresh.ensures.ends.settled)
+
+pub returns-clause-ok : goal.returns-clause-ok
+returns-clause-ok g c =
+    afresh-repairs c.args.table.now c.follow_block.new.table c.args.block c.in_ok-target.target (g.S.SlotCalls.state c.args.stock.now).memory (g.S.SlotCalls.state c.lowest_spare.new.slots).memory (g.S.SlotCalls.state c.move_afresh.new.slots).memory (g.S.SlotCalls.state c.follow_block.new.slots).memory (c.lowest_spare.ensures.same ∙ c.has_begun.ensures.same) (begun-at c.args.table.now c.args.block c.in_ok-target.target (g.S.SlotCalls.state c.args.stock.now).memory (g.S.SlotCalls.state c.has_begun.new.self).memory (g.S.SlotCalls.state c.lowest_spare.new.slots).memory c.requires.mended c.requires.number (c.in_ok-begun.ensures.begun c.if-not-begun.false) c.has_begun.ensures.same c.in_ok-target.ensures.spare c.lowest_spare.ensures.same) c.in_ok-move_afresh.ensures.ok c.follow_block.ensures.same c.in_ok-follow_block.ensures.ok

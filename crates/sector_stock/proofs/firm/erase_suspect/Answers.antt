@@ -1,0 +1,50 @@
+use Rattle.std.proofs.Common.{◌<◌, refl, arith}
+use Rattle.std.proofs.lemmas.Result.{err_from_is_err_and}
+use Rattle.sector_slots.specs.Slots.{data_blocks}
+use Rattle.sector_stock.proofs.Moved.{whole-spare}
+use Rattle.sector_stock.proofs.Renewing.{spare-erasable, spare-cut_keeps}
+use Rattle.sector_stock.proofs.Firming.{erased-firm, index-erased, index-trusted, trusts-one}
+use Rattle.sector_stock.proofs.firm.erase_suspect.Goals as goal
+
+pub erase-requires-clause-dead : goal.erase-requires-clause-dead
+erase-requires-clause-dead g c ready =
+    let m = (g.S.SlotCalls.state c.args.slots.now).memory in
+    let index = c.requires.index in
+    let n = index.listed.block_size in
+    let low = c.requires.number in
+    let here : c.args.block < data_blocks m = omega (arith, low, n) in
+    spare-erasable c.args.block m c.requires.room.blocks.rest here (whole-spare m c.args.states.now c.args.blocks.now c.args.block c.requires.room.blocks.rest index.listed here c.requires.whole)
+
+pub returns-in_err-erase-clause-cut : goal.returns-in_err-erase-clause-cut
+returns-in_err-erase-clause-cut g c is healthy =
+    let p = err_from_is_err_and c.from_residual.result c.from_residual.ensures.1 in
+    let m = (g.S.SlotCalls.state c.args.slots.now).memory in
+    let index = c.requires.index in
+    let n = index.listed.block_size in
+    let low = c.requires.number in
+    let here : c.args.block < data_blocks m = omega (arith, low, n) in
+    spare-cut_keeps c.args.block m (g.S.SlotCalls.state c.erase.new.self).memory here (whole-spare m c.args.states.now c.args.blocks.now c.args.block c.requires.room.blocks.rest index.listed here c.requires.whole)
+    (c.in_err-erase.ensures.cut (cc (p.1, p.2)) healthy)
+
+pub returns-clause-ok : goal.returns-clause-ok
+returns-clause-ok g c =
+    let m = (g.S.SlotCalls.state c.args.slots.now).memory in
+    let index = c.requires.index in
+    let n = index.listed.block_size in
+    let low = c.requires.number in
+    let here : c.args.block < data_blocks m = omega (arith, low, n) in
+    erased-firm c.args.block m (g.S.SlotCalls.state c.erase.new.self).memory c.requires.room here (whole-spare m c.args.states.now c.args.blocks.now c.args.block c.requires.room.blocks.rest index.listed here c.requires.whole) c.in_ok-erase.ensures.ok
+
+pub returns-clause-trusts : goal.returns-clause-trusts
+returns-clause-trusts g c = trusts-one c.args.block c.args.blocks.now c.args.blocks.now c.trust.new.blocks refl c.requires.number c.requires.suspect (omega arith) refl (λ d low ne. refl) c.trust.ensures
+
+pub returns-clause-index : goal.returns-clause-index
+returns-clause-index g c =
+    let m = (g.S.SlotCalls.state c.args.slots.now).memory in
+    let m1 = (g.S.SlotCalls.state c.erase.new.self).memory in
+    let index = c.requires.index in
+    let n = index.listed.block_size in
+    let low = c.requires.number in
+    let here : c.args.block < data_blocks m = omega (arith, low, n) in
+    index-trusted c.args.block m1 c.args.states.now c.args.blocks.now c.trust.new.blocks c.args.at.now c.trust.ensures
+    (index-erased c.args.block m m1 c.args.states.now c.args.blocks.now c.args.at.now c.requires.room here (whole-spare m c.args.states.now c.args.blocks.now c.args.block c.requires.room.blocks.rest index.listed here c.requires.whole) c.in_ok-erase.ensures.ok index)
