@@ -40,7 +40,8 @@ fn call(dice: &mut Dice) -> Call {
 /// one bit of such a zeroing is what no later mount can make firm.
 fn call_as(dice: &mut Dice, how: Mounting, later: Mounting) -> Call {
     match (how, later, call(dice)) {
-        (Mounting::Plain, Mounting::Firm, Call::Zero(first, count)) => Call::Write(first, count, 0),
+        (Mounting::Plain, Mounting::Plain, call) => call,
+        (Mounting::Plain, _, Call::Zero(first, count)) => Call::Write(first, count, 0),
         (_, _, call) => call,
     }
 }

@@ -19,6 +19,8 @@ pub enum Mounting {
     Plain,
     /// As one whose torn bits may waver.
     Firm,
+    /// The same, and its blocks wear alike: so `norbd` mounts a chip behind a programmer.
+    FirmLevel,
 }
 
 impl Mounting {
@@ -27,6 +29,11 @@ impl Mounting {
         match self {
             Mounting::Plain => FlashDisk::mount(alloc, chip),
             Mounting::Firm => FlashDisk::mount_as(alloc, chip, Firmness::Firm),
+            Mounting::FirmLevel => {
+                let mut disk: OnSim = FlashDisk::mount_as(alloc, chip, Firmness::Firm)?;
+                disk.level_wear();
+                Ok(disk)
+            }
         }
     }
 }

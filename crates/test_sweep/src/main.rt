@@ -75,11 +75,13 @@ fn number_of(word: Option<String>) -> Option<u32> {
     word?.as_str().parse::<u32>().ok()
 }
 
-/// What follows the word `waver`: `plain` or `firm`, and perhaps a first seed and a number of them.
+/// What follows the word `waver`: `plain`, `firm` or `level`, and perhaps a first seed and a number
+/// of them.
 fn waver_words(mut words: Args) -> Wanted {
     let mounting = match words.next() {
         Some(word) if word.as_str() == "plain" => Mounting::Plain,
         Some(word) if word.as_str() == "firm" => Mounting::Firm,
+        Some(word) if word.as_str() == "level" => Mounting::FirmLevel,
         _ => return Wanted::Nothing,
     };
     match number_of(words.next()) {

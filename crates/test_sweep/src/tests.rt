@@ -122,17 +122,27 @@ fn a_firm_mount_stands_a_loss_in_each_change(rt: HostRuntime) -> Result<(), Fail
     Ok(())
 }
 
+/// A hundred random lives on each chip end well.
+fn stand(rt: &impl Abort, alloc: Global, mounting: Mounting) -> Result<(), Fail> {
+    let mut life = Life::new(alloc, mounting)?;
+    for base in [Base::Few, Base::Full, Base::Journal, Base::Journals] {
+        let moment = base.moment(alloc, mounting)?;
+        for seed in 0..100u32 {
+            let came = live(&mut life, &moment, base.first(mounting), seed);
+            assert!(rt;
+                came.is_ok(),
+                "{mounting:?}, {base:?}, seed {seed}: {came:?}"
+            );
+        }
+    }
+    Ok(())
+}
+
 /// Nor does a life with up to seven losses, in calls and in mounts, end wrongly.
 #[test]
 fn a_firm_mount_stands_losses_in_calls_and_in_mounts(rt: HostRuntime) -> Result<(), Fail> {
-    let alloc = rt.alloc();
-    let mut life = Life::new(alloc, Mounting::Firm)?;
-    for base in [Base::Few, Base::Full, Base::Journal, Base::Journals] {
-        let moment = base.moment(alloc, Mounting::Firm)?;
-        for seed in 0..100u32 {
-            let came = live(&mut life, &moment, base.first(Mounting::Firm), seed);
-            assert!(rt; came.is_ok(), "{base:?}, seed {seed}: {came:?}");
-        }
+    for mounting in [Mounting::Firm, Mounting::FirmLevel] {
+        stand(&rt, rt.alloc(), mounting)?;
     }
     Ok(())
 }
