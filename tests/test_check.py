@@ -79,6 +79,13 @@ def copying(committed):
     return image
 
 
+def beside(image, block):
+    """The same with a block that is void, and a live slot in it, which doesn't count."""
+    kit.set_mark(image, block, 0xFE, 5)
+    kit.set_slot(image, block, 0, 9, nbd.sector(9))
+    return image
+
+
 def with_votes(**counts):
     """A chip with so many closed votes in each region, as `j0_1`, of J0 for the erase of J1; and
     the entries of J0 that are used."""
@@ -134,6 +141,14 @@ PAGES = [  # images that a mount accepts, and what is told of them
     ("a copying that was committed", copying(True),
      page(blocks="11 plain, of these 10 wholly free, 0 void, 1 committed, 0 settled",
           slots="71 free, 6 live, 0 dead",
+          going="a copying of block 4 into 6, committed, no erase")),
+    ("two copyings that were begun", beside(copying(False), 9),
+     page(blocks="10 plain, of these 9 wholly free, 2 void, 0 committed, 0 settled",
+          slots="63 free, 6 live, 1 dead",
+          going="copyings into 2 blocks, to be begun anew, no erase")),
+    ("one that was begun beside a committed one", beside(copying(True), 9),
+     page(blocks="10 plain, of these 9 wholly free, 1 void, 1 committed, 0 settled",
+          slots="64 free, 6 live, 0 dead",
           going="a copying of block 4 into 6, committed, no erase")),
     ("groups", groups(), page(
         layout="1", blocks="9 plain, of these 9 wholly free, 0 void, 0 committed, 0 settled",

@@ -39,7 +39,7 @@ pub plain-none : (m : List ℕ) → open_blocks m ≡ 0 → IsPlain m
 unfolding block
 plain-none m none = record { own = λ b. let z = none-named m b none in grind (arith, nat_tests) }
 
-pub plain-doomed : (m : List ℕ) → (first (tally_of m) J0).opened ≡ 1 → (second (tally_of m) J0).opened ≡ 1 → IsPlain m
+pub plain-doomed : (m : List ℕ) → 1 ≤ (first (tally_of m) J0).opened → (second (tally_of m) J0).opened ≡ 1 → IsPlain m
 unfolding block
 plain-doomed m one two = record { own = λ b. grind (arith, nat_tests) }
 

@@ -93,6 +93,14 @@ bits-close (suc (suc k)) other = bit_at-suc 254 (suc k) ∙ bit_at-suc 127 k ∙
 pub bit-close : OneBit 1 254 252
 bit-close = record { others = bits-close }
 
+bits-give_up : (k : ℕ) → k ≢ 1 → bit_at 255 k ≡ bit_at 253 k
+bits-give_up zero other = refl
+bits-give_up (suc zero) other = absurd (other refl)
+bits-give_up (suc (suc k)) other = bit_at-suc 255 (suc k) ∙ bit_at-suc 127 k ∙ sym (bit_at-suc 126 k) ∙ sym (bit_at-suc 253 (suc k))
+
+pub bit-give_up : OneBit 1 255 253
+bit-give_up = record { others = bits-give_up }
+
 bits-done : (k : ℕ) → k ≢ 2 → bit_at 252 k ≡ bit_at 248 k
 bits-done zero other = refl
 bits-done (suc zero) other = refl

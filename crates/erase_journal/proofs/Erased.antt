@@ -27,7 +27,7 @@ unfolding votes_at
 blank-votes m at ff = record {
   unused = how_many-all (λ k. byte m (at + k) == 255) 1024 (λ k low. rw (ff k low) refl);
   opened = how_many-each_fails (λ k. byte m (at + k) == 254) 1024 (λ k low. rw (ff k low) refl);
-  wrong = how_many-each_fails (λ k. not (byte m (at + k) == 255 || byte m (at + k) == 254 || byte m (at + k) == 252)) 1024 (λ k low. rw (ff k low) refl);
+  wrong = how_many-each_fails (λ k. not (byte m (at + k) == 255 || byte m (at + k) == 254 || byte m (at + k) == 252 || byte m (at + k) == 253)) 1024 (λ k low. rw (ff k low) refl);
 }
 
 blank-free : (m : List ℕ) → ((k : ℕ) → 6144 ≤ k → k < 8192 → byte m k ≡ 255) → free_entries m ≡ 512

@@ -25,7 +25,7 @@ record IsCalm (s : JournalTally) : Type 0 where
 -- the faults but for votes that don't last
 record IsOrdered (s : JournalTally) : Type 0 where
   one_doomed : (x : JournalId) → IsDoomed s x → IsDoomed s (next x) → ⊥
-  first_votes : (x : JournalId) → IsBelieved s (next x) → ((first s x).wrong ≡ 0) × ((first s x).opened ≤ 1)
+  first_votes : (x : JournalId) → IsBelieved s (next x) → ((first s x).wrong ≡ 0) × (IsBelieved s x → (first s x).opened ≤ 1)
   second_votes : (x : JournalId) → IsBelieved s (after_next x) → ((second s x).wrong ≡ 0) × ((second s x).opened ≤ 1)
   one_named : (x : JournalId) → HasVote s x → HasVote s (next x) → ⊥
   one_entry : IsBelieved s J0 → s.opened ≤ 1
@@ -41,10 +41,10 @@ calm-doomed s c J0 d e = let o = c.one in omega arith
 calm-doomed s c J1 d e = let o = c.one in omega arith
 calm-doomed s c J2 d e = let o = c.one in omega arith
 
-calm-first : (s : JournalTally) → IsCalm s → (x : JournalId) → ((first s x).wrong ≡ 0) × ((first s x).opened ≤ 1)
-calm-first s c J0 = (c.w10, omega arith)
-calm-first s c J1 = (c.w21, omega arith)
-calm-first s c J2 = (c.w02, omega arith)
+calm-first : (s : JournalTally) → IsCalm s → (x : JournalId) → ((first s x).wrong ≡ 0) × (IsBelieved s x → (first s x).opened ≤ 1)
+calm-first s c J0 = (c.w10, λ b. omega arith)
+calm-first s c J1 = (c.w21, λ b. omega arith)
+calm-first s c J2 = (c.w02, λ b. omega arith)
 
 calm-second : (s : JournalTally) → IsCalm s → (x : JournalId) → ((second s x).wrong ≡ 0) × ((second s x).opened ≤ 1)
 calm-second s c J0 = (c.w20, omega arith)
@@ -117,9 +117,9 @@ doomed0-one s p J0 d e = let o = e.0 in omega arith
 doomed0-one s p J1 d e = let o = d.0 in omega arith
 doomed0-one s p J2 d e = let o = d.1 in omega arith
 
-doomed0-first : (s : JournalTally) → IsInPhase (Doomed J0) s → (x : JournalId) → IsBelieved s (next x) → ((first s x).wrong ≡ 0) × ((first s x).opened ≤ 1)
-doomed0-first s p J0 b = (p.0.1, omega arith)
-doomed0-first s p J1 b = (p.2.1, omega arith)
+doomed0-first : (s : JournalTally) → IsInPhase (Doomed J0) s → (x : JournalId) → IsBelieved s (next x) → ((first s x).wrong ≡ 0) × (IsBelieved s x → (first s x).opened ≤ 1)
+doomed0-first s p J0 b = (p.0.1, λ d. absurd (d (omega arith, omega arith)))
+doomed0-first s p J1 b = (p.2.1, λ d. omega arith)
 doomed0-first s p J2 b = absurd (b (omega arith, omega arith))
 
 doomed0-second : (s : JournalTally) → IsInPhase (Doomed J0) s → (x : JournalId) → IsBelieved s (after_next x) → ((second s x).wrong ≡ 0) × ((second s x).opened ≤ 1)
@@ -142,9 +142,9 @@ doomed1-one s p J1 d e = let o = e.0 in omega arith
 doomed1-one s p J2 d e = let o = d.0 in omega arith
 doomed1-one s p J0 d e = let o = d.1 in omega arith
 
-doomed1-first : (s : JournalTally) → IsInPhase (Doomed J1) s → (x : JournalId) → IsBelieved s (next x) → ((first s x).wrong ≡ 0) × ((first s x).opened ≤ 1)
-doomed1-first s p J1 b = (p.0.1, omega arith)
-doomed1-first s p J2 b = (p.2.1, omega arith)
+doomed1-first : (s : JournalTally) → IsInPhase (Doomed J1) s → (x : JournalId) → IsBelieved s (next x) → ((first s x).wrong ≡ 0) × (IsBelieved s x → (first s x).opened ≤ 1)
+doomed1-first s p J1 b = (p.0.1, λ d. absurd (d (omega arith, omega arith)))
+doomed1-first s p J2 b = (p.2.1, λ d. omega arith)
 doomed1-first s p J0 b = absurd (b (omega arith, omega arith))
 
 doomed1-second : (s : JournalTally) → IsInPhase (Doomed J1) s → (x : JournalId) → IsBelieved s (after_next x) → ((second s x).wrong ≡ 0) × ((second s x).opened ≤ 1)
@@ -167,9 +167,9 @@ doomed2-one s p J2 d e = let o = e.0 in omega arith
 doomed2-one s p J0 d e = let o = d.0 in omega arith
 doomed2-one s p J1 d e = let o = d.1 in omega arith
 
-doomed2-first : (s : JournalTally) → IsInPhase (Doomed J2) s → (x : JournalId) → IsBelieved s (next x) → ((first s x).wrong ≡ 0) × ((first s x).opened ≤ 1)
-doomed2-first s p J2 b = (p.0.1, omega arith)
-doomed2-first s p J0 b = (p.2.1, omega arith)
+doomed2-first : (s : JournalTally) → IsInPhase (Doomed J2) s → (x : JournalId) → IsBelieved s (next x) → ((first s x).wrong ≡ 0) × (IsBelieved s x → (first s x).opened ≤ 1)
+doomed2-first s p J2 b = (p.0.1, λ d. absurd (d (omega arith, omega arith)))
+doomed2-first s p J0 b = (p.2.1, λ d. omega arith)
 doomed2-first s p J1 b = absurd (b (omega arith, omega arith))
 
 doomed2-second : (s : JournalTally) → IsInPhase (Doomed J2) s → (x : JournalId) → IsBelieved s (after_next x) → ((second s x).wrong ≡ 0) × ((second s x).opened ≤ 1)
@@ -303,7 +303,7 @@ module _ (s : JournalTally) (h : IsOrdered s) (all : (x : JournalId) → IsBelie
       elim (cases_lt 0 (first s x).opened) [
         | inl a ↦ elim (cases_lt 0 (second s x).opened) [
           | inl b ↦ absurd (all x (omega arith, omega arith))
-          | inr b ↦ omega arith
+          | inr b ↦ (let o = f.1 (all x) in omega arith)
         ]
         | inr a ↦ omega arith
       ]

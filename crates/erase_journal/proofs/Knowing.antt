@@ -7,8 +7,8 @@ use Rattle.erase_journal.specs.Journals.{unused, free_entries, is_free_entry}
 use Rattle.erase_journal.specs.Steps.{SameNumbers}
 use Rattle.erase_journal.specs.Spending.{once_used, IsUsed, KeepsUse}
 use Rattle.erase_journal.specs.Known.{IsKnown}
+use Rattle.erase_journal.proofs.Lasting.{same-unused, same-on}
 use Rattle.erase_journal.proofs.Counts.{how_many-zero, how_many-suc}
-use Rattle.erase_journal.proofs.Uses.{same-unused, same-on}
 
 -- where none of the first i passes, the rest can be counted
 how_many-from : (p : ℕ → Bool) (n i : ℕ) → ((k : ℕ) → k < i → p k ≡ false) → how_many p n ≤ n - i

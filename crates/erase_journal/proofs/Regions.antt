@@ -22,7 +22,7 @@ unfolding votes_at
 votes-kept place m m' h =
     let e1 = how_many-same (λ k. byte m' (place + k) == 255) (λ k. byte m (place + k) == 255) 1024 (λ k low. rw (h.bytes k low) refl) in
     let e2 = how_many-same (λ k. byte m' (place + k) == 254) (λ k. byte m (place + k) == 254) 1024 (λ k low. rw (h.bytes k low) refl) in
-    let e3 = how_many-same (λ k. not (byte m' (place + k) == 255 || byte m' (place + k) == 254 || byte m' (place + k) == 252)) (λ k. not (byte m (place + k) == 255 || byte m (place + k) == 254 || byte m (place + k) == 252)) 1024 (λ k low. rw (h.bytes k low) refl) in
+    let e3 = how_many-same (λ k. not (byte m' (place + k) == 255 || byte m' (place + k) == 254 || byte m' (place + k) == 252 || byte m' (place + k) == 253)) (λ k. not (byte m (place + k) == 255 || byte m (place + k) == 254 || byte m (place + k) == 252 || byte m (place + k) == 253)) 1024 (λ k low. rw (h.bytes k low) refl) in
     cc
 
 -- one place of a region changes
@@ -50,7 +50,7 @@ unfolding votes_at
 vote-opened place i m m' low h =
     let e1 = test-change (λ b. b == 255) place i 255 254 m m' low h in
     let e2 = test-change (λ b. b == 254) place i 255 254 m m' low h in
-    let e3 = test-change (λ b. not (b == 255 || b == 254 || b == 252)) place i 255 254 m m' low h in
+    let e3 = test-change (λ b. not (b == 255 || b == 254 || b == 252 || b == 253)) place i 255 254 m m' low h in
     record { unused = omega arith; opened = omega arith; wrong = omega arith }
 
 pub vote-closed : (place i : ℕ) (m m' : List ℕ) → i < 1024 → Changed (place + i) 254 252 m m' → OneClosed (votes_at m place) (votes_at m' place)
@@ -58,7 +58,21 @@ unfolding votes_at
 vote-closed place i m m' low h =
     let e1 = test-change (λ b. b == 255) place i 254 252 m m' low h in
     let e2 = test-change (λ b. b == 254) place i 254 252 m m' low h in
-    let e3 = test-change (λ b. not (b == 255 || b == 254 || b == 252)) place i 254 252 m m' low h in
+    let e3 = test-change (λ b. not (b == 255 || b == 254 || b == 252 || b == 253)) place i 254 252 m m' low h in
+    record { unused = omega arith; opened = omega arith; wrong = omega arith }
+
+-- v' is v with one more vote given up
+pub record OneGivenUp (v v' : VoteCounts) : Type 0 where
+  pub unused : v'.unused + 1 ≡ v.unused
+  pub opened : v'.opened ≡ v.opened
+  pub wrong : v'.wrong ≡ v.wrong
+
+pub vote-given-up : (place i : ℕ) (m m' : List ℕ) → i < 1024 → Changed (place + i) 255 253 m m' → OneGivenUp (votes_at m place) (votes_at m' place)
+unfolding votes_at
+vote-given-up place i m m' low h =
+    let e1 = test-change (λ b. b == 255) place i 255 253 m m' low h in
+    let e2 = test-change (λ b. b == 254) place i 255 253 m m' low h in
+    let e3 = test-change (λ b. not (b == 255 || b == 254 || b == 252 || b == 253)) place i 255 253 m m' low h in
     record { unused = omega arith; opened = omega arith; wrong = omega arith }
 
 -- the entries are as they were

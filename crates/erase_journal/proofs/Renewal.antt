@@ -1,5 +1,5 @@
 -- An erase of a journal, step by step: what it leaves, also where it is cut.
-use Rattle.std.proofs.Common.{◌≡◌, ℕ, ◌+◌, ◌*◌, ◌<◌, ◌≤◌, not, ◌||◌, List, length, refl, ◌∙◌, arith, lit<, lit≤, add_assoc}
+use Rattle.std.proofs.Common.{◌≡◌, ℕ, ◌+◌, ◌-◌, ◌*◌, ◌<◌, ◌≤◌, not, ◌||◌, List, length, refl, ap, ◌∙◌, arith, lit<, lit≤, add_assoc}
 use Rattle.std.specs.Prelude.{◌==◌}
 use Rattle.chip_model.specs.Memory.{byte, erased, TornErase}
 use Rattle.nor_driver.specs.State.{Leaves}
@@ -8,15 +8,16 @@ use Rattle.nor_layout.specs.declared.journal.JournalId.TheVariants.{J0, J1, J2}
 use Rattle.nor_layout.specs.Journals.{journal_at, first_at, second_at}
 use Rattle.erase_journal.specs.declared.phase.ErasePhase.{ErasePhase}
 use Rattle.erase_journal.specs.declared.phase.ErasePhase.TheVariants.{Idle, Asked, Doomed, Closing}
+use Rattle.erase_journal.specs.declared.unused.Unused.{Unused}
 use Rattle.erase_journal.specs.Places.{Spoiled, Changed}
-use Rattle.erase_journal.specs.Votes.{once_erased}
-use Rattle.erase_journal.specs.Journals.{votes_at, unused, free_entries, open_blocks, is_free_entry, entry_byte, AreJournalsSound, IsHealthy}
+use Rattle.erase_journal.specs.Votes.{Last, first_spent, second_spent, once_erased, renewed}
+use Rattle.erase_journal.specs.Journals.{votes_at, first, tally_of, unused, free_entries, open_blocks, is_free_entry, entry_byte, settled, AreJournalsSound, IsHealthy}
 use Rattle.erase_journal.specs.Blocks.{SameChip, SameBlocks}
-use Rattle.erase_journal.specs.Steps.{OneChanged, PerhapsChanged, not_begun, done, KeepsBlocks, IsStep, IsNext, MayErase}
+use Rattle.erase_journal.specs.Steps.{OneChanged, PerhapsChanged, not_begun, done, KeepsBlocks, SameNumbers, IsStep, IsNext, MayErase}
 use Rattle.erase_journal.proofs.Counts.{how_many-all, how_many-each_fails}
 use Rattle.erase_journal.proofs.Opened.{none-blocks}
 use Rattle.erase_journal.proofs.Regions.{changed-spoiled, entries-below, entries-above}
-use Rattle.erase_journal.proofs.Steps.{IsBlank, asks, dooms, spoils, closes_first, closes_second}
+use Rattle.erase_journal.proofs.Steps.{IsBlank, asks, dooms, second-first, asked-one, spoils, spoil-first, closes_first, closes_second, freshens, closes_older, gives_first, gives_second}
 use Rattle.erase_journal.proofs.Blocks.{IsPlain, plain-none, plain-kept, asked-plain, doomed-plain, closing-plain}
 use Rattle.erase_journal.proofs.Effects.{erase-leaves, erased-spoiled, erased-bytes}
 
@@ -88,10 +89,10 @@ first-cut x m m' h (done c) = let s = first-opened x m m' h c in record { health
 
 -- The second.
 pub second-opened : (x : JournalId) (m m' : List ℕ) → AreJournalsSound (Asked x) m → OneChanged (second_at x) 255 254 m m'
-    → IsNext (Asked x) m (Doomed x) m' × SameBlocks m m'
+    → IsNext (Asked x) m (Doomed x) m' × SameBlocks m m' × ((first (tally_of m') x).opened ≡ 1)
 second-opened x m m' h c =
     let s = dooms x c.at m m' h c.within c.change in
-    (s, vote-blocks (second_at x + c.at) 255 254 m m' c.change (second-high x c.at) (second-low x c.at c.within) (asked-plain x m h) (doomed-plain x m' s.sound))
+    (s, vote-blocks (second_at x + c.at) 255 254 m m' c.change (second-high x c.at) (second-low x c.at c.within) (asked-plain x m h) (doomed-plain x m' s.sound), ap (λ v. v.opened) (second-first x c.at m m' c.within c.change) ∙ asked-one x m h)
 
 pub second-cut : (x : JournalId) (m m' : List ℕ) → AreJournalsSound (Asked x) m → PerhapsChanged (second_at x) 255 254 m m' → KeepsBlocks m m'
 second-cut x m m' h (not_begun e) = rw e (record { healthy = (Asked x, h); blocks = same-blocks-refl m })
@@ -117,7 +118,7 @@ blank-votes m at h = (
   how_many-all (λ k. byte m (at + k) == 255) 1024 (λ k low. rw (h k low) refl),
   (
     how_many-each_fails (λ k. byte m (at + k) == 254) 1024 (λ k low. rw (h k low) refl),
-    how_many-each_fails (λ k. not (byte m (at + k) == 255 || byte m (at + k) == 254 || byte m (at + k) == 252)) 1024 (λ k low. rw (h k low) refl),
+    how_many-each_fails (λ k. not (byte m (at + k) == 255 || byte m (at + k) == 254 || byte m (at + k) == 252 || byte m (at + k) == 253)) 1024 (λ k low. rw (h k low) refl),
   ),
 )
 
@@ -161,15 +162,92 @@ journal-erased x m long h =
     (s.0, s.1, blank x (erased m (journal_at x) 4096) (erased-bytes m (journal_at x) 4096 (let l = journal-low x in omega arith)))
 
 -- The first vote is closed.
-pub first-closed : (x : JournalId) (m m' : List ℕ) → AreJournalsSound (Doomed x) m → IsBlank x m → OneChanged (first_at x) 254 252 m m'
+pub first-closed : (x : JournalId) (m m' : List ℕ) → AreJournalsSound (Doomed x) m → (first (tally_of m) x).opened ≡ 1 → IsBlank x m → OneChanged (first_at x) 254 252 m m'
     → IsNext (Doomed x) m (Closing x) m' × SameBlocks m m'
-first-closed x m m' h b c =
-    let s = closes_first x c.at m m' h b c.within c.change in
+first-closed x m m' h o b c =
+    let s = closes_first x c.at m m' h o b c.within c.change in
     (s, vote-blocks (first_at x + c.at) 254 252 m m' c.change (first-high x c.at) (first-low x c.at c.within) (doomed-plain x m h) (closing-plain x m' s.sound))
 
-pub first-close-cut : (x : JournalId) (m m' : List ℕ) → AreJournalsSound (Doomed x) m → IsBlank x m → PerhapsChanged (first_at x) 254 252 m m' → KeepsBlocks m m'
-first-close-cut x m m' h b (not_begun e) = rw e (record { healthy = (Doomed x, h); blocks = same-blocks-refl m })
-first-close-cut x m m' h b (done c) = let s = first-closed x m m' h b c in record { healthy = (Closing x, s.0.sound); blocks = s.1 }
+pub first-close-cut : (x : JournalId) (m m' : List ℕ) → AreJournalsSound (Doomed x) m → (first (tally_of m) x).opened ≡ 1 → IsBlank x m → PerhapsChanged (first_at x) 254 252 m m' → KeepsBlocks m m'
+first-close-cut x m m' h o b (not_begun e) = rw e (record { healthy = (Doomed x, h); blocks = same-blocks-refl m })
+first-close-cut x m m' h o b (done c) = let s = first-closed x m m' h o b c in record { healthy = (Closing x, s.0.sound); blocks = s.1 }
+
+-- Another first vote, while x is doomed.
+pub fresh-opened : (x : JournalId) (m m' : List ℕ) → AreJournalsSound (Doomed x) m → Last (renewed x (first_spent x (unused m))) → OneChanged (first_at x) 255 254 m m'
+    → IsStep (renewed x (first_spent x (unused m))) (Doomed x) m' × SameBlocks m m' × ((first (tally_of m') x).opened ≡ (first (tally_of m) x).opened + 1)
+fresh-opened x m m' h l c =
+    let s = freshens x c.at m m' h l c.within c.change in
+    (s.0, vote-blocks (first_at x + c.at) 255 254 m m' c.change (first-high x c.at) (first-low x c.at c.within) (doomed-plain x m h) (doomed-plain x m' s.0.sound), s.1)
+
+pub fresh-cut : (x : JournalId) (m m' : List ℕ) → AreJournalsSound (Doomed x) m → Last (renewed x (first_spent x (unused m))) → PerhapsChanged (first_at x) 255 254 m m' → KeepsBlocks m m'
+fresh-cut x m m' h l (not_begun e) = rw e (record { healthy = (Doomed x, h); blocks = same-blocks-refl m })
+fresh-cut x m m' h l (done c) = let s = fresh-opened x m m' h l c in record { healthy = (Doomed x, s.0.sound); blocks = s.1 }
+
+-- An older one is closed.
+pub older-closed : (x : JournalId) (m m' : List ℕ) → AreJournalsSound (Doomed x) m → 2 ≤ (first (tally_of m) x).opened → OneChanged (first_at x) 254 252 m m'
+    → IsNext (Doomed x) m (Doomed x) m' × SameBlocks m m' × ((first (tally_of m') x).opened + 1 ≡ (first (tally_of m) x).opened)
+older-closed x m m' h more c =
+    let s = closes_older x c.at m m' h more c.within c.change in
+    (s.0, vote-blocks (first_at x + c.at) 254 252 m m' c.change (first-high x c.at) (first-low x c.at c.within) (doomed-plain x m h) (doomed-plain x m' s.0.sound), s.1)
+
+pub older-cut : (x : JournalId) (m m' : List ℕ) → AreJournalsSound (Doomed x) m → 2 ≤ (first (tally_of m) x).opened → PerhapsChanged (first_at x) 254 252 m m' → KeepsBlocks m m'
+older-cut x m m' h more (not_begun e) = rw e (record { healthy = (Doomed x, h); blocks = same-blocks-refl m })
+older-cut x m m' h more (done c) = let s = older-closed x m m' h more c in record { healthy = (Doomed x, s.0.sound); blocks = s.1 }
+
+-- A vote that is given up.
+pub first-given-up : (x : JournalId) (p : ErasePhase) (m m' : List ℕ) → AreJournalsSound p m → open_blocks m ≡ 0 → Last (settled p (first_spent x (unused m))) → OneChanged (first_at x) 255 253 m m'
+    → IsStep (settled p (first_spent x (unused m))) p m' × SameBlocks m m' × (open_blocks m' ≡ 0)
+first-given-up x p m m' h none l c =
+    let s = gives_first x p c.at m m' h l c.within c.change in
+    let none' = s.1 ∙ none in
+    (s.0, vote-blocks (first_at x + c.at) 255 253 m m' c.change (first-high x c.at) (first-low x c.at c.within) (plain-none m none) (plain-none m' none'), none')
+
+pub first-given-cut : (x : JournalId) (p : ErasePhase) (m m' : List ℕ) → AreJournalsSound p m → open_blocks m ≡ 0 → Last (settled p (first_spent x (unused m))) → PerhapsChanged (first_at x) 255 253 m m' → KeepsBlocks m m'
+first-given-cut x p m m' h none l (not_begun e) = rw e (record { healthy = (p, h); blocks = same-blocks-refl m })
+first-given-cut x p m m' h none l (done c) = let s = first-given-up x p m m' h none l c in record { healthy = (p, s.0.sound); blocks = s.1 }
+
+pub some-first-given : (x : JournalId) (m : List ℕ) → Last (first_spent x (unused m)) → 0 < (votes_at m (first_at x)).unused
+some-first-given J0 m l = let s = l.some in omega arith
+some-first-given J1 m l = let s = l.some in omega arith
+some-first-given J2 m l = let s = l.some in omega arith
+
+pub second-given-up : (x : JournalId) (p : ErasePhase) (m m' : List ℕ) → AreJournalsSound p m → open_blocks m ≡ 0 → Last (settled p (second_spent x (unused m))) → OneChanged (second_at x) 255 253 m m'
+    → IsStep (settled p (second_spent x (unused m))) p m' × SameBlocks m m' × (open_blocks m' ≡ 0)
+second-given-up x p m m' h none l c =
+    let s = gives_second x p c.at m m' h l c.within c.change in
+    let none' = s.1 ∙ none in
+    (s.0, vote-blocks (second_at x + c.at) 255 253 m m' c.change (second-high x c.at) (second-low x c.at c.within) (plain-none m none) (plain-none m' none'), none')
+
+pub second-given-cut : (x : JournalId) (p : ErasePhase) (m m' : List ℕ) → AreJournalsSound p m → open_blocks m ≡ 0 → Last (settled p (second_spent x (unused m))) → PerhapsChanged (second_at x) 255 253 m m' → KeepsBlocks m m'
+second-given-cut x p m m' h none l (not_begun e) = rw e (record { healthy = (p, h); blocks = same-blocks-refl m })
+second-given-cut x p m m' h none l (done c) = let s = second-given-up x p m m' h none l c in record { healthy = (p, s.0.sound); blocks = s.1 }
+
+pub some-second-given : (x : JournalId) (m : List ℕ) → Last (second_spent x (unused m)) → 0 < (votes_at m (second_at x)).unused
+some-second-given J0 m l = let s = l.some in omega arith
+some-second-given J1 m l = let s = l.some in omega arith
+some-second-given J2 m l = let s = l.some in omega arith
+
+pub closing-none : (x : JournalId) (m : List ℕ) → AreJournalsSound (Closing x) m → open_blocks m ≡ 0
+closing-none J0 m h = h.phase.4
+closing-none J1 m h = h.phase.4
+closing-none J2 m h = h.phase.4
+
+-- A journal that is asked for is doomed now: a vote that was spent before is spent after.
+pub asked-spent : (x : JournalId) (u v : Unused) → SameNumbers (settled (Asked x) u) (settled (Doomed x) v) → SameNumbers (settled (Asked x) (first_spent x u)) (settled (Doomed x) (first_spent x v))
+asked-spent J0 u v n = record { n01 = refl; n02 = refl; n10 = ap (λ k. k - 1) n.n10; n12 = n.n12; n20 = n.n20; n21 = n.n21; free = refl }
+asked-spent J1 u v n = record { n01 = n.n01; n02 = n.n02; n10 = refl; n12 = refl; n20 = n.n20; n21 = ap (λ k. k - 1) n.n21; free = n.free }
+asked-spent J2 u v n = record { n01 = n.n01; n02 = ap (λ k. k - 1) n.n02; n10 = n.n10; n12 = n.n12; n20 = refl; n21 = refl; free = n.free }
+
+-- A first vote is left to be opened.
+pub some-fresh : (x : JournalId) (m : List ℕ) → Last (renewed x (first_spent x (unused m))) → 0 < (votes_at m (first_at x)).unused
+some-fresh J0 m l = let s = l.some in omega arith
+some-fresh J1 m l = let s = l.some in omega arith
+some-fresh J2 m l = let s = l.some in omega arith
+
+pub first-opened-votes : (x : JournalId) (m : List ℕ) → (votes_at m (first_at x)).opened ≡ (first (tally_of m) x).opened
+first-opened-votes J0 m = refl
+first-opened-votes J1 m = refl
+first-opened-votes J2 m = refl
 
 -- The second.
 closed-none : (x : JournalId) (i : ℕ) (m m' : List ℕ) → AreJournalsSound (Closing x) m → i < 1024 → Changed (second_at x + i) 254 252 m m' → open_blocks m' ≡ 0
@@ -214,6 +292,7 @@ pub record JournalErased (x : JournalId) (m m' : List ℕ) : Type 0 where
   pub step : IsNext (Doomed x) m (Doomed x) m'
   pub blocks : SameBlocks m m'
   pub blank : IsBlank x m'
+  pub votes : (first (tally_of m') x).opened ≡ (first (tally_of m) x).opened
 
 pub erased-as : (x : JournalId) (m m' : List ℕ) → 16384 ≤ length m → AreJournalsSound (Doomed x) m → m' ≡ erased m (journal_at x) 4096 → JournalErased x m m'
-erased-as x m m' long h e = let s = journal-erased x m long h in rw e (record { step = s.0; blocks = s.1; blank = s.2 })
+erased-as x m m' long h e = let s = journal-erased x m long h in rw e (record { step = s.0; blocks = s.1; blank = s.2; votes = ap (λ v. v.opened) (spoil-first x m (erased m (journal_at x) 4096) (erased-spoiled m (journal_at x) 4096)) })

@@ -18,7 +18,8 @@ use Rattle.erase_journal.proofs.Opened.{none-blocks, named-some, same-block, wit
 use Rattle.erase_journal.proofs.Blocks.{own-kept, spoiled-same, closed-same, joined-same}
 use Rattle.erase_journal.proofs.EntryCalls.{begun-same, now-open, part-blank, free-bytes, state-open}
 use Rattle.erase_journal.proofs.Renewal.{same-blocks-refl, same-blocks-on}
-use Rattle.erase_journal.proofs.Uses.{same-refl, keeps-on, data-keeps, entry-stays}
+use Rattle.erase_journal.proofs.Uses.{keeps-on, data-keeps, entry-stays}
+use Rattle.erase_journal.proofs.Lasting.{same-refl}
 
 -- an entry is open for block c
 pub record IsNamed (k c : ℕ) (m : List ℕ) : Type 0 where

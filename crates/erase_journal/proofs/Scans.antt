@@ -22,11 +22,11 @@ count_equal-next xs value n = rw add-one (how_many-suc (λ k. byte xs k == value
 
 pub count_wrong-zero : (xs : List ℕ) → count_wrong xs 0 ≡ 0
 unfolding count_wrong
-count_wrong-zero xs = how_many-zero (λ k. not (byte xs k == 255 || byte xs k == 254 || byte xs k == 252))
+count_wrong-zero xs = how_many-zero (λ k. not (byte xs k == 255 || byte xs k == 254 || byte xs k == 252 || byte xs k == 253))
 
-pub count_wrong-next : (xs : List ℕ) (n : ℕ) → count_wrong xs (n + 1) ≡ (if not (get_or xs n 0 == 255 || get_or xs n 0 == 254 || get_or xs n 0 == 252) then 1 else 0) + count_wrong xs n
+pub count_wrong-next : (xs : List ℕ) (n : ℕ) → count_wrong xs (n + 1) ≡ (if not (get_or xs n 0 == 255 || get_or xs n 0 == 254 || get_or xs n 0 == 252 || get_or xs n 0 == 253) then 1 else 0) + count_wrong xs n
 unfolding count_wrong
-count_wrong-next xs n = rw add-one (how_many-suc (λ k. not (byte xs k == 255 || byte xs k == 254 || byte xs k == 252)) n)
+count_wrong-next xs n = rw add-one (how_many-suc (λ k. not (byte xs k == 255 || byte xs k == 254 || byte xs k == 252 || byte xs k == 253)) n)
 
 pub free_in-zero : (xs : List ℕ) → free_in xs 0 ≡ 0
 unfolding free_in
@@ -194,8 +194,8 @@ counts-same c v e f g =
 
 region-wrong : (m : List ℕ) (region : ℕ) → count_wrong (slice_range m region (region + 1024)) 1024 ≡ (votes_at m region).wrong
 unfolding count_wrong votes_at
-region-wrong m region = how_many-same (λ k. not (byte (slice_range m region (region + 1024)) k == 255 || byte (slice_range m region (region + 1024)) k == 254 || byte (slice_range m region (region + 1024)) k == 252))
-    (λ k. not (byte m (region + k) == 255 || byte m (region + k) == 254 || byte m (region + k) == 252)) 1024
+region-wrong m region = how_many-same (λ k. not (byte (slice_range m region (region + 1024)) k == 255 || byte (slice_range m region (region + 1024)) k == 254 || byte (slice_range m region (region + 1024)) k == 252 || byte (slice_range m region (region + 1024)) k == 253))
+    (λ k. not (byte m (region + k) == 255 || byte m (region + k) == 254 || byte m (region + k) == 252 || byte m (region + k) == 253)) 1024
     (λ k low. rw (region-byte m region k low) refl)
 
 pub votes-counted : (m bytes : List ℕ) (region : ℕ) (c : VoteCounts) → bytes ≡ slice_range m region (region + 1024) → length bytes ≡ 1024

@@ -10,29 +10,11 @@ use Rattle.erase_journal.specs.Journals.{entry_byte, is_free_entry, free_entries
 use Rattle.erase_journal.specs.Steps.{SameNumbers, IsTaken, IsOpened}
 use Rattle.erase_journal.specs.Spending.{Maintains, erases, once_used, IsUsed, KeepsUse}
 use Rattle.erase_journal.proofs.Counts.{how_many-same}
+use Rattle.erase_journal.proofs.Lasting.{same-on, same-unused}
 use Rattle.erase_journal.proofs.Regions.{entry-kept, spoiled-below, spoiled-above, entries-below, entries-above}
 use Rattle.erase_journal.proofs.Entries.{SameVotes, same-votes-entry, same-votes-data, same-votes-super, entry-elsewhere, free-change, not-free, state-is}
 use Rattle.erase_journal.proofs.Effects.{erased-spoiled, program-changes}
 use Rattle.erase_journal.proofs.EntryCalls.{state-open}
-
-abbrev seven : ℕ → ℕ → ℕ → ℕ → ℕ → ℕ → ℕ → Unused
-seven a b c d e f g = record { j0_for_1 = a; j0_for_2 = b; j1_for_0 = c; j1_for_2 = d; j2_for_0 = e; j2_for_1 = f; free = g }
-
-pub same-unused : (u v : Unused) → SameNumbers u v → v ≡ u
-same-unused u v n =
-    ap (λ x. seven x v.j0_for_2 v.j1_for_0 v.j1_for_2 v.j2_for_0 v.j2_for_1 v.free) n.n01
-    ∙ (ap (λ x. seven u.j0_for_1 x v.j1_for_0 v.j1_for_2 v.j2_for_0 v.j2_for_1 v.free) n.n02
-    ∙ (ap (λ x. seven u.j0_for_1 u.j0_for_2 x v.j1_for_2 v.j2_for_0 v.j2_for_1 v.free) n.n10
-    ∙ (ap (λ x. seven u.j0_for_1 u.j0_for_2 u.j1_for_0 x v.j2_for_0 v.j2_for_1 v.free) n.n12
-    ∙ (ap (λ x. seven u.j0_for_1 u.j0_for_2 u.j1_for_0 u.j1_for_2 x v.j2_for_1 v.free) n.n20
-    ∙ (ap (λ x. seven u.j0_for_1 u.j0_for_2 u.j1_for_0 u.j1_for_2 u.j2_for_0 x v.free) n.n21
-    ∙ ap (λ x. seven u.j0_for_1 u.j0_for_2 u.j1_for_0 u.j1_for_2 u.j2_for_0 u.j2_for_1 x) n.free)))))
-
-pub same-refl : (u : Unused) → SameNumbers u u
-same-refl u = record { n01 = refl; n02 = refl; n10 = refl; n12 = refl; n20 = refl; n21 = refl; free = refl }
-
-pub same-on : (u v w : Unused) → SameNumbers u v → SameNumbers v w → SameNumbers u w
-same-on u v w a b = subst (λ x. SameNumbers x w) (same-unused u v a) b
 
 -- one erase of maintenance
 pub maintains-on : (rest u v : Unused) (x : JournalId) → IsLowestTired x u → SameNumbers (once_erased x u) v → Maintains rest v → Maintains rest u

@@ -30,9 +30,10 @@ HasVote s x = (IsBelieved s (next x) × (1 ≤ (first s x).opened))
 pub record TallyHasNoFault (s : JournalTally) : Type 0 where
   -- no two journals are doomed
   pub one_doomed : (x : JournalId) → IsDoomed s x → IsDoomed s (next x) → ⊥
-  -- in the regions of believed journals each byte is a vote, and one at most is open
+  -- in the regions of believed journals each byte is a vote, and one at most is open, but for the
+  -- first votes for the erase of a doomed one
   pub first_votes : (x : JournalId) → IsBelieved s (next x)
-      → ((first s x).wrong ≡ 0) × ((first s x).opened ≤ 1)
+      → ((first s x).wrong ≡ 0) × (IsBelieved s x → (first s x).opened ≤ 1)
   pub second_votes : (x : JournalId) → IsBelieved s (after_next x)
       → ((second s x).wrong ≡ 0) × ((second s x).opened ≤ 1)
   -- their open votes name one journal

@@ -7,7 +7,7 @@ use Rattle.chip_model.specs.Geometry.{block_count}
 use Rattle.nor_layout.specs.declared.journal.JournalId.{JournalId}
 use Rattle.nor_layout.specs.declared.journal.JournalId.TheVariants.{J0, J1, J2}
 use Rattle.nor_layout.specs.Journals.{region_len, next, first_at, second_at}
-use Rattle.nor_layout.specs.declared.vote.Vote.TheVariants.{Unused, Open, Closed}
+use Rattle.nor_layout.specs.declared.vote.Vote.TheVariants.{Unused, Open, Closed, GivenUp}
 use Rattle.nor_layout.specs.Votes.{byte_of}
 use Rattle.nor_layout.specs.Entries.{entry_count, entry_at, block_in, is_open}
 use Rattle.erase_journal.specs.declared.phase.ErasePhase.{ErasePhase}
@@ -24,7 +24,7 @@ votes_at m at = record {
   unused = how_many (λ k. byte m (at + k) == byte_of Unused) region_len;
   opened = how_many (λ k. byte m (at + k) == byte_of Open) region_len;
   wrong = how_many (λ k. not (byte m (at + k) == byte_of Unused || byte m (at + k) == byte_of Open
-      || byte m (at + k) == byte_of Closed)) region_len;
+      || byte m (at + k) == byte_of Closed || byte m (at + k) == byte_of GivenUp)) region_len;
 }
 
 -- byte j of entry i of J0, and its four bytes
@@ -101,22 +101,27 @@ unused m = unused_of (tally_of m)
 abbrev pub HoldsVotes : VoteCounts → ℕ → Type 0
 HoldsVotes v n = (v.opened ≡ n) × (v.wrong ≡ 0)
 
+-- one open vote or more, and none that is wrong
+abbrev pub HoldsSomeVotes : VoteCounts → Type 0
+HoldsSomeVotes v = (1 ≤ v.opened) × (v.wrong ≡ 0)
+
 -- no open vote for x
 abbrev pub HasNoOpenVote : JournalTally → JournalId → Type 0
 HasNoOpenVote s x = HoldsVotes (first s x) 0 × HoldsVotes (second s x) 0
 
 -- The journals that are believed hold nothing but what the phase says: in `Idle` one block at most
 -- has open entries. A journal is believed unless both others hold an open vote for its erase; of
--- the votes and entries of a doomed one nothing is said.
+-- the votes and entries of a doomed one nothing is said. The next journal may hold several open
+-- votes for the erase of a doomed one: a firm recovery opens another before it closes the older.
 abbrev pub IsInPhase : ErasePhase → JournalTally → Type 0
 IsInPhase Idle s = HasNoOpenVote s J0 × HasNoOpenVote s J1 × HasNoOpenVote s J2 × (s.opened ≤ 1)
 IsInPhase (Asked x) s = HoldsVotes (first s x) 1 × HoldsVotes (second s x) 0
     × HasNoOpenVote s (next x) × HasNoOpenVote s (next (next x)) × (s.opened ≡ 0)
-IsInPhase (Doomed J0) s = HoldsVotes (first s J0) 1 × HoldsVotes (second s J0) 1
+IsInPhase (Doomed J0) s = HoldsSomeVotes (first s J0) × HoldsVotes (second s J0) 1
     × HoldsVotes (first s J1) 0 × HoldsVotes (second s J2) 0
-IsInPhase (Doomed J1) s = HoldsVotes (first s J1) 1 × HoldsVotes (second s J1) 1
+IsInPhase (Doomed J1) s = HoldsSomeVotes (first s J1) × HoldsVotes (second s J1) 1
     × HoldsVotes (first s J2) 0 × HoldsVotes (second s J0) 0 × (s.opened ≡ 0)
-IsInPhase (Doomed J2) s = HoldsVotes (first s J2) 1 × HoldsVotes (second s J2) 1
+IsInPhase (Doomed J2) s = HoldsSomeVotes (first s J2) × HoldsVotes (second s J2) 1
     × HoldsVotes (first s J0) 0 × HoldsVotes (second s J1) 0 × (s.opened ≡ 0)
 IsInPhase (Closing x) s = HoldsVotes (first s x) 0 × HoldsVotes (second s x) 1
     × HasNoOpenVote s (next x) × HasNoOpenVote s (next (next x)) × (s.opened ≡ 0)

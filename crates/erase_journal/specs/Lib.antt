@@ -4,6 +4,7 @@ pub mod Journals
 pub mod Blocks
 pub mod Steps
 pub mod Spending
+pub mod Renewal
 pub mod Known
 pub mod Faults
 pub mod Scans

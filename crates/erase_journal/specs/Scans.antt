@@ -14,7 +14,8 @@ unfoldable pub count_equal : List ℕ → ℕ → ℕ → ℕ
 count_equal xs value n = how_many (λ k. byte xs k == value) n
 
 unfoldable pub count_wrong : List ℕ → ℕ → ℕ
-count_wrong xs n = how_many (λ k. not (byte xs k == 255 || byte xs k == 254 || byte xs k == 252)) n
+count_wrong xs n = how_many (λ k. not (byte xs k == 255 || byte xs k == 254 || byte xs k == 252
+    || byte xs k == 253)) n
 
 -- how many votes of a region have this byte
 unfoldable pub count_at : List ℕ → ℕ → ℕ → ℕ

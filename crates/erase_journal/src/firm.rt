@@ -10,10 +10,11 @@ ghost use Rattle.erase_journal.specs.Known.{IsKnown};
 ghost use Rattle.erase_journal.specs.Spending.{KeepsUse, SpendsFirmly, once_used};
 ghost use Rattle.erase_journal.specs.Steps.{IsRestful, KeepsBlocks, SameNumbers, EndsSettled};
 
-use crate::again::program_again;
+use crate::again::{program_again, program_pages_again};
 use crate::block_erase::lowest_entry;
+use crate::giving_up::give_up_each;
 use crate::known::{Known, once_used};
-use crate::maintain::{rest, spare};
+use crate::maintain::{rest, spare_each};
 use crate::scan::{close_used, is_blank};
 use nor_driver::{Nor, NorError};
 use nor_layout::{ENTRY_LEN, JOURNALS_END, PAGE_LEN, SUPER_LEN, entry_place};
@@ -101,8 +102,9 @@ fn give_up_entry<N: Nor>(nor: &mut N, known: &mut Known) -> Result<(), NorError>
 }
 
 /// Makes journals firm in which no erase goes on: the superblock and the entries are programmed
-/// again, the tired journals are erased, J0 also where it has few free entries, and one entry is
-/// given up.
+/// again, and then the last byte of each used entry, which so is used for good by then. A vote of
+/// each region is given up, the tired journals are erased, and those with few votes or entries to
+/// spare, and one entry is given up.
 pub(crate) fn make_firm<N: Nor>(nor: &mut N, known: &mut Known) -> Result<(), NorError>
     requires size { JOURNALS_END ≤ length (N.state nor.old).memory }
     requires settled { IsNorReady (N.state nor.old) → IsSettled (N.state nor.old).memory }
@@ -117,8 +119,10 @@ pub(crate) fn make_firm<N: Nor>(nor: &mut N, known: &mut Known) -> Result<(), No
     ensures ends { EndsSettled result (N.state nor.old) (N.state nor.new) }
 {
     program_super_again(nor)?;
+    program_pages_again(nor, entry_place(0))?;
     close_entries(nor)?;
+    give_up_each(nor, known)?;
     rest(nor, known)?;
-    spare(nor, known)?;
+    spare_each(nor, known)?;
     give_up_entry(nor, known)
 }

@@ -11,14 +11,15 @@
 //! a Slow nothing is promised of the data blocks. If `restore` finds corrupt journals, a Slow is
 //! latched. `superblock` reads the superblock's first bytes, and `mark` programs byte 15 of it and
 //! no other. `read_tally` counts the journals' votes and entries. With `Firmness::Firm` a recovery
-//! programs what it read again before it acts on it, and `firm` leaves no entry that could come to
-//! be open; what is said above holds of both. No call allocates.
+//! programs what it read again before it acts on it, and `firm` leaves no entry and no vote that
+//! could come to be open; what is said above holds of both. `renew_all` erases each of the three
+//! journals. No call allocates.
 //!
 //! Depends on `Nor` of `nor_driver` (read, program, erase, restart) and on the places of
 //! `nor_layout`. Left to the crate above: what the data blocks and the superblock hold, and when to
 //! restore. To read the crate: phase, scan, read, unused, tally, votes, journal_erase, maintain,
-//! known, block_erase, open_entries, firmness, again, recovery, firm,
-//! journal. Source: own. See docs/JOURNAL.md.
+//! known, block_erase, open_entries, firmness, again, recovery, giving_up,
+//! firm, renewing, journal. Source: own. See docs/JOURNAL.md.
 
 #![tactic(auto)]
 
@@ -27,6 +28,7 @@ mod block_erase;
 mod error;
 mod firm;
 mod firmness;
+mod giving_up;
 mod journal;
 mod journal_erase;
 mod known;
@@ -36,6 +38,7 @@ mod open_entries;
 mod phase;
 mod read;
 mod recovery;
+mod renewing;
 mod scan;
 mod superblock;
 mod tally;

@@ -1,12 +1,12 @@
 //! The erase of journals that are nearly full.
 
-ghost use Rattle.std.specs.Prelude.{◌≡◌, ◌≤◌, ◌⊎◌, length, OnOk, IfOk, IfErr};
+ghost use Rattle.std.specs.Prelude.{◌≡◌, ◌↔◌, ◌≤◌, ◌⊎◌, length, IsTrue, OnOk, IfOk, IfErr};
 ghost use Rattle.std.specs.Result.{IsErrOf};
 ghost use Rattle.nor_driver.specs.State.{IsNorReady, OnlyMemoryChanges, Refuses, EndsReady};
 ghost use Rattle.erase_journal.specs.Journals.{IsSettled, IsHealthy, unused};
 ghost use Rattle.erase_journal.specs.Blocks.{SameBlocks};
 ghost use Rattle.erase_journal.specs.Known.{IsKnown};
-ghost use Rattle.erase_journal.specs.Spending.{Maintains, Spares};
+ghost use Rattle.erase_journal.specs.Spending.{HasSpare, Maintains, Spares, SparesAll};
 ghost use Rattle.erase_journal.specs.Steps.{IsRestful, KeepsBlocks};
 
 use crate::journal_erase::{doom, renew};
@@ -16,11 +16,22 @@ use crate::unused::{Unused, lowest_tired};
 use nor_driver::{Nor, NorError};
 use nor_layout::{JOURNALS_END, JournalId};
 
-/// How many entries are to be free when a firm mount is done.
-const SPARE_ENTRIES: u16 = 16;
+/// How many entries, and first votes for each journal, are to be left when a firm mount is done.
+const SPARE: u16 = 32;
+
+/// Whether a journal has enough of what a firm recovery spends in it.
+fn has_spare(u: Unused, journal: JournalId) -> bool
+    ensures { IsTrue result ↔ HasSpare journal u }
+{
+    match journal {
+        JournalId::J0 => u.free >= SPARE && u.j0_for_1 >= SPARE && u.j0_for_2 >= SPARE,
+        JournalId::J1 => u.j1_for_2 >= SPARE && u.j1_for_0 >= SPARE,
+        JournalId::J2 => u.j2_for_0 >= SPARE && u.j2_for_1 >= SPARE,
+    }
+}
 
 /// Erases the lowest-numbered tired journal while there is one.
-fn maintain<N: Nor>(nor: &mut N) -> Result<Unused, NorError>
+pub(crate) fn maintain<N: Nor>(nor: &mut N) -> Result<Unused, NorError>
     requires size { JOURNALS_END ≤ length (N.state nor.old).memory }
     requires settled { IsNorReady (N.state nor.old) → IsSettled (N.state nor.old).memory }
     ensures numbers { IfOk result (λ u. u ≡ unused (N.state nor.new).memory) }
@@ -77,9 +88,9 @@ pub(crate) fn rest<N: Nor>(nor: &mut N, known: &mut Known) -> Result<(), NorErro
     }
 }
 
-/// Erases J0 where it is rested and has few free entries, and then maintains: each recovery that is
-/// cut may spend an entry, where torn bits may waver.
-pub(crate) fn spare<N: Nor>(nor: &mut N, known: &mut Known) -> Result<(), NorError>
+/// Erases a journal that has few votes or entries to spare, where none is tired, and then
+/// maintains: each recovery that is cut may spend one, where torn bits may waver.
+fn spare<N: Nor>(nor: &mut N, known: &mut Known, journal: JournalId) -> Result<(), NorError>
     requires size { JOURNALS_END ≤ length (N.state nor.old).memory }
     requires ready { IsNorReady (N.state nor.old) }
     requires restful { IsRestful (N.state nor.old).memory }
@@ -87,7 +98,7 @@ pub(crate) fn spare<N: Nor>(nor: &mut N, known: &mut Known) -> Result<(), NorErr
     ensures restful { OnOk result (IsRestful (N.state nor.new).memory) }
     ensures known { OnOk result (IsKnown known.new (N.state nor.new).memory) }
     ensures some { OnOk result (1 ≤ known.new.unused.free) }
-    ensures spares { OnOk result (Spares (unused (N.state nor.new).memory)
+    ensures spares { OnOk result (Spares journal (unused (N.state nor.new).memory)
         (unused (N.state nor.old).memory)) }
     ensures blocks { OnOk result (SameBlocks (N.state nor.old).memory (N.state nor.new).memory) }
     ensures cut { IsErrOf result NorError.Cut
@@ -96,15 +107,38 @@ pub(crate) fn spare<N: Nor>(nor: &mut N, known: &mut Known) -> Result<(), NorErr
     ensures kept { OnOk result (OnlyMemoryChanges (N.state nor.old) (N.state nor.new)) }
     ensures fails { IfErr result (λ e. Refuses e (N.state nor.old) (N.state nor.new)) }
 {
-    if known.unused.free >= SPARE_ENTRIES {
+    if has_spare(known.unused, journal) {
         return Ok(());
     }
-    doom(nor, JournalId::J0)?;
-    renew(nor, JournalId::J0)?;
+    doom(nor, journal)?;
+    renew(nor, journal)?;
     let unused = maintain(nor)?;
     *known = Known {
         unused,
         packed: false,
     };
     Ok(())
+}
+
+/// Does so with each journal.
+pub(crate) fn spare_each<N: Nor>(nor: &mut N, known: &mut Known) -> Result<(), NorError>
+    requires size { JOURNALS_END ≤ length (N.state nor.old).memory }
+    requires ready { IsNorReady (N.state nor.old) }
+    requires restful { IsRestful (N.state nor.old).memory }
+    requires known { IsKnown known.old (N.state nor.old).memory }
+    ensures restful { OnOk result (IsRestful (N.state nor.new).memory) }
+    ensures known { OnOk result (IsKnown known.new (N.state nor.new).memory) }
+    ensures some { OnOk result (1 ≤ known.new.unused.free) }
+    ensures spares { OnOk result (SparesAll (unused (N.state nor.new).memory)
+        (unused (N.state nor.old).memory)) }
+    ensures blocks { OnOk result (SameBlocks (N.state nor.old).memory (N.state nor.new).memory) }
+    ensures cut { IsErrOf result NorError.Cut
+        → KeepsBlocks (N.state nor.old).memory (N.state nor.new).memory }
+    ensures size { length (N.state nor.new).memory ≡ length (N.state nor.old).memory }
+    ensures kept { OnOk result (OnlyMemoryChanges (N.state nor.old) (N.state nor.new)) }
+    ensures fails { IfErr result (λ e. Refuses e (N.state nor.old) (N.state nor.new)) }
+{
+    spare(nor, known, JournalId::J0)?;
+    spare(nor, known, JournalId::J1)?;
+    spare(nor, known, JournalId::J2)
 }

@@ -5,47 +5,32 @@ ghost use Rattle.std.specs.Prelude.{OnOk, IfErr, IsTrue};
 ghost use Rattle.std.specs.Result.{IsErrOf};
 ghost use Rattle.nor_driver.specs.State.{EndsReady, IsNorReady, OnlyMemoryChanges, Refuses};
 ghost use Rattle.erase_journal.specs.Journals.{AreJournalsSound, IsSettled, IsHealthy, settled};
-ghost use Rattle.erase_journal.specs.Journals.{unused, open_blocks, tally_of};
+ghost use Rattle.erase_journal.specs.Journals.{unused, first, tally_of};
 ghost use Rattle.erase_journal.specs.Blocks.{SameBlocks};
 ghost use Rattle.erase_journal.specs.Steps.{SameNumbers, KeepsBlocks, EndsSettled};
-ghost use Rattle.erase_journal.specs.Spending.{Continues, once_used};
+ghost use Rattle.erase_journal.specs.Spending.{Continues, SpendsOne, begun};
+ghost use Rattle.erase_journal.specs.Votes.{Last, first_spent, renewed};
+ghost use Rattle.nor_layout.specs.declared.journal.JournalId.{JournalId};
 ghost use Rattle.erase_journal.specs.Recovery.{seen, Restored, RestoreCut, RestoreSlow};
 ghost use Rattle.erase_journal.specs.Recovery.{RestoreCorrupt};
 
 use crate::Firmness;
 use crate::again::{program_pages_again, program_votes_again};
-use crate::journal_erase::renew;
+use crate::journal_erase::{close_older, renew, vote_afresh};
 use crate::open_entries::{erase_opened, open_afresh};
 use crate::phase::ErasePhase;
 use crate::read::read_tally;
 use crate::tally::{JournalTally, decide, once_settled};
-use crate::unused::{Unused, once_taken};
-use crate::votes::{close_vote, open_vote};
+use crate::unused::{Unused, lasts, once_first_spent, once_renewed, once_second_spent, once_taken};
+use crate::votes::{close_vote, give_up_vote, open_vote};
 use nor_driver::{Nor, NorError};
 use nor_layout::{JOURNALS_END, JournalId, entry_place};
-
-/// Goes on with an erase for which only the next journal votes.
-fn resume_asked<N: Nor>(nor: &mut N, journal: JournalId) -> Result<(), NorError>
-    requires size { JOURNALS_END ≤ length (N.state nor.old).memory }
-    requires asked { AreJournalsSound (ErasePhase.Asked journal) (N.state nor.old).memory }
-    ensures numbers { OnOk result (SameNumbers
-        (settled (ErasePhase.Asked journal) (unused (N.state nor.old).memory))
-        (unused (N.state nor.new).memory)) }
-    ensures blocks { OnOk result (SameBlocks (N.state nor.old).memory (N.state nor.new).memory) }
-    ensures cut { IsErrOf result NorError.Cut
-        → KeepsBlocks (N.state nor.old).memory (N.state nor.new).memory }
-    ensures size { length (N.state nor.new).memory ≡ length (N.state nor.old).memory }
-    ensures ends { EndsSettled result (N.state nor.old) (N.state nor.new) }
-{
-    open_vote(nor, journal.second_votes())?;
-    renew(nor, journal)?;
-    Ok(())
-}
 
 /// Erases a journal for which both others vote again, and closes the votes.
 fn resume_doomed<N: Nor>(nor: &mut N, journal: JournalId) -> Result<(), NorError>
     requires size { JOURNALS_END ≤ length (N.state nor.old).memory }
     requires doomed { AreJournalsSound (ErasePhase.Doomed journal) (N.state nor.old).memory }
+    requires one { (first (tally_of (N.state nor.old).memory) journal).opened ≡ 1 }
     ensures numbers { OnOk result (SameNumbers
         (settled (ErasePhase.Doomed journal) (unused (N.state nor.old).memory))
         (unused (N.state nor.new).memory)) }
@@ -76,11 +61,14 @@ fn resume_closing<N: Nor>(nor: &mut N, journal: JournalId) -> Result<(), NorErro
     Ok(())
 }
 
-/// Goes on with what a loss of power interrupted in this phase.
+/// Goes on with what a loss of power interrupted in this phase, once that is made sure of.
 fn resume<N: Nor>(nor: &mut N, phase: ErasePhase) -> Result<(), NorError>
     requires size { JOURNALS_END ≤ length (N.state nor.old).memory }
-    requires sound { AreJournalsSound phase (N.state nor.old).memory }
-    ensures numbers { OnOk result (SameNumbers (settled phase (unused (N.state nor.old).memory))
+    requires sound { AreJournalsSound (begun phase) (N.state nor.old).memory }
+    requires one { (x : JournalId) → begun phase ≡ ErasePhase.Doomed x
+        → (first (tally_of (N.state nor.old).memory) x).opened ≡ 1 }
+    ensures numbers { OnOk result (SameNumbers
+        (settled (begun phase) (unused (N.state nor.old).memory))
         (unused (N.state nor.new).memory)) }
     ensures blocks { OnOk result (SameBlocks (N.state nor.old).memory (N.state nor.new).memory) }
     ensures cut { IsErrOf result NorError.Cut
@@ -90,8 +78,7 @@ fn resume<N: Nor>(nor: &mut N, phase: ErasePhase) -> Result<(), NorError>
 {
     match phase {
         ErasePhase::Idle => erase_opened(nor),
-        ErasePhase::Asked(journal) => resume_asked(nor, journal),
-        ErasePhase::Doomed(journal) => resume_doomed(nor, journal),
+        ErasePhase::Asked(journal) | ErasePhase::Doomed(journal) => resume_doomed(nor, journal),
         ErasePhase::Closing(journal) => resume_closing(nor, journal),
     }
 }
@@ -119,24 +106,170 @@ fn believe<N: Nor>(nor: &mut N, firmness: Firmness, opened: u16) -> Result<(), N
 
 /// Whether another entry is to be opened for the block of the open entries: where bits may waver,
 /// and another entry is free behind it.
-fn is_fresh_due(firmness: Firmness, phase: ErasePhase, tally: JournalTally) -> bool
-    ensures { IsTrue result → (firmness ≡ Firmness.Firm) × (phase ≡ ErasePhase.Idle)
-        × (1 ≤ tally.opened) × (2 ≤ tally.free) }
+fn is_entry_due(firmness: Firmness, tally: JournalTally) -> bool
+    ensures { IsTrue result → (firmness ≡ Firmness.Firm) × (1 ≤ tally.opened)
+        × (2 ≤ tally.free) }
 {
     match firmness {
         Firmness::Steady => false,
-        Firmness::Firm => match phase {
-            ErasePhase::Idle => tally.opened >= 1 && tally.free >= 2,
-            ErasePhase::Asked(_) => false,
-            ErasePhase::Doomed(_) => false,
-            ErasePhase::Closing(_) => false,
-        },
+        Firmness::Firm => tally.opened >= 1 && tally.free >= 2,
+    }
+}
+
+/// Whether a vote is to be spent that steady bits don't need, which comes to these numbers: where
+/// bits may waver, and the votes last then.
+fn is_vote_due(firmness: Firmness, left: Unused) -> bool
+    ensures { IsTrue result → (firmness ≡ Firmness.Firm) × Last left }
+{
+    match firmness {
+        Firmness::Steady => false,
+        Firmness::Firm => lasts(left),
     }
 }
 
 /// Where bits may waver, opens another entry for the block of the open entries. A recovery that was
 /// cut may have begun to close those, so that the erase needs one that was opened in this recovery.
 /// Answers the numbers then.
+fn refresh_idle<N: Nor>(
+    nor: &mut N,
+    firmness: Firmness,
+    tally: JournalTally,
+) -> Result<Unused, NorError>
+    requires ready { IsNorReady (N.state nor.old) }
+    requires size { JOURNALS_END ≤ length (N.state nor.old).memory }
+    requires tally { tally ≡ tally_of (N.state nor.old).memory }
+    requires idle { AreJournalsSound ErasePhase.Idle (N.state nor.old).memory }
+    ensures sound { OnOk result (AreJournalsSound ErasePhase.Idle (N.state nor.new).memory) }
+    ensures numbers { IfOk result (λ u. SameNumbers u (unused (N.state nor.new).memory)) }
+    ensures spends { IfOk result (λ u.
+        SpendsOne firmness ErasePhase.Idle (N.state nor.old).memory u) }
+    ensures blocks { OnOk result (SameBlocks (N.state nor.old).memory (N.state nor.new).memory) }
+    ensures cut { IsErrOf result NorError.Cut
+        → KeepsBlocks (N.state nor.old).memory (N.state nor.new).memory }
+    ensures size { length (N.state nor.new).memory ≡ length (N.state nor.old).memory }
+    ensures kept { OnOk result (OnlyMemoryChanges (N.state nor.old) (N.state nor.new)) }
+    ensures fails { IfErr result (λ e. Refuses e (N.state nor.old) (N.state nor.new)) }
+{
+    let unused = tally.unused();
+    if is_entry_due(firmness, tally) {
+        open_afresh(nor)?;
+        return Ok(once_taken(unused));
+    }
+    Ok(unused)
+}
+
+/// Opens the vote of the journal after the next for the erase of one for which the next one votes.
+/// Where bits may waver the next one votes afresh: its vote may have been given up before it read
+/// as open, and a recovery that was cut may have begun that. Answers the numbers then.
+fn refresh_asked<N: Nor>(
+    nor: &mut N,
+    firmness: Firmness,
+    journal: JournalId,
+    tally: JournalTally,
+) -> Result<Unused, NorError>
+    requires ready { IsNorReady (N.state nor.old) }
+    requires size { JOURNALS_END ≤ length (N.state nor.old).memory }
+    requires tally { tally ≡ tally_of (N.state nor.old).memory }
+    requires asked { AreJournalsSound (ErasePhase.Asked journal) (N.state nor.old).memory }
+    ensures sound { OnOk result
+        (AreJournalsSound (ErasePhase.Doomed journal) (N.state nor.new).memory) }
+    ensures one { OnOk result ((first (tally_of (N.state nor.new).memory) journal).opened ≡ 1) }
+    ensures numbers { IfOk result (λ u. SameNumbers (settled (ErasePhase.Asked journal) u)
+        (renewed journal (unused (N.state nor.new).memory))) }
+    ensures spends { IfOk result (λ u.
+        SpendsOne firmness (ErasePhase.Asked journal) (N.state nor.old).memory u) }
+    ensures blocks { OnOk result (SameBlocks (N.state nor.old).memory (N.state nor.new).memory) }
+    ensures cut { IsErrOf result NorError.Cut
+        → KeepsBlocks (N.state nor.old).memory (N.state nor.new).memory }
+    ensures size { length (N.state nor.new).memory ≡ length (N.state nor.old).memory }
+    ensures kept { OnOk result (OnlyMemoryChanges (N.state nor.old) (N.state nor.new)) }
+    ensures fails { IfErr result (λ e. Refuses e (N.state nor.old) (N.state nor.new)) }
+{
+    open_vote(nor, journal.second_votes())?;
+    let unused = tally.unused();
+    let spent = once_first_spent(unused, journal);
+    let left = once_renewed(once_second_spent(spent, journal), journal);
+    if is_vote_due(firmness, left) {
+        vote_afresh(nor, journal, 1)?;
+        return Ok(spent);
+    }
+    Ok(unused)
+}
+
+/// Leaves one open vote of the next journal for the erase of a doomed one. Where bits may waver
+/// that is another one: a recovery that was cut may have begun to close those that are open.
+/// Answers the numbers then.
+fn refresh_doomed<N: Nor>(
+    nor: &mut N,
+    firmness: Firmness,
+    journal: JournalId,
+    tally: JournalTally,
+) -> Result<Unused, NorError>
+    requires ready { IsNorReady (N.state nor.old) }
+    requires size { JOURNALS_END ≤ length (N.state nor.old).memory }
+    requires tally { tally ≡ tally_of (N.state nor.old).memory }
+    requires doomed { AreJournalsSound (ErasePhase.Doomed journal) (N.state nor.old).memory }
+    ensures sound { OnOk result
+        (AreJournalsSound (ErasePhase.Doomed journal) (N.state nor.new).memory) }
+    ensures one { OnOk result ((first (tally_of (N.state nor.new).memory) journal).opened ≡ 1) }
+    ensures numbers { IfOk result (λ u. SameNumbers (renewed journal u)
+        (renewed journal (unused (N.state nor.new).memory))) }
+    ensures spends { IfOk result (λ u.
+        SpendsOne firmness (ErasePhase.Doomed journal) (N.state nor.old).memory u) }
+    ensures blocks { OnOk result (SameBlocks (N.state nor.old).memory (N.state nor.new).memory) }
+    ensures cut { IsErrOf result NorError.Cut
+        → KeepsBlocks (N.state nor.old).memory (N.state nor.new).memory }
+    ensures size { length (N.state nor.new).memory ≡ length (N.state nor.old).memory }
+    ensures kept { OnOk result (OnlyMemoryChanges (N.state nor.old) (N.state nor.new)) }
+    ensures fails { IfErr result (λ e. Refuses e (N.state nor.old) (N.state nor.new)) }
+{
+    let unused = tally.unused();
+    let opened = tally.first(journal).opened;
+    let spent = once_first_spent(unused, journal);
+    if is_vote_due(firmness, once_renewed(spent, journal)) {
+        vote_afresh(nor, journal, opened)?;
+        return Ok(spent);
+    }
+    close_older(nor, journal, opened - 1)?;
+    Ok(unused)
+}
+
+/// Where bits may waver, gives up a vote of the next journal for the erase of this one, which is
+/// done: a recovery that was cut may have begun to open it, and once the other vote is closed it
+/// must not read as open. Answers the numbers then.
+fn refresh_closing<N: Nor>(
+    nor: &mut N,
+    firmness: Firmness,
+    journal: JournalId,
+    tally: JournalTally,
+) -> Result<Unused, NorError>
+    requires ready { IsNorReady (N.state nor.old) }
+    requires size { JOURNALS_END ≤ length (N.state nor.old).memory }
+    requires tally { tally ≡ tally_of (N.state nor.old).memory }
+    requires closing { AreJournalsSound (ErasePhase.Closing journal) (N.state nor.old).memory }
+    ensures sound { OnOk result
+        (AreJournalsSound (ErasePhase.Closing journal) (N.state nor.new).memory) }
+    ensures numbers { IfOk result (λ u. SameNumbers u (unused (N.state nor.new).memory)) }
+    ensures spends { IfOk result (λ u.
+        SpendsOne firmness (ErasePhase.Closing journal) (N.state nor.old).memory u) }
+    ensures blocks { OnOk result (SameBlocks (N.state nor.old).memory (N.state nor.new).memory) }
+    ensures cut { IsErrOf result NorError.Cut
+        → KeepsBlocks (N.state nor.old).memory (N.state nor.new).memory }
+    ensures size { length (N.state nor.new).memory ≡ length (N.state nor.old).memory }
+    ensures kept { OnOk result (OnlyMemoryChanges (N.state nor.old) (N.state nor.new)) }
+    ensures fails { IfErr result (λ e. Refuses e (N.state nor.old) (N.state nor.new)) }
+{
+    let unused = tally.unused();
+    let spent = once_first_spent(unused, journal);
+    if is_vote_due(firmness, spent) {
+        give_up_vote(nor, journal.first_votes())?;
+        return Ok(spent);
+    }
+    Ok(unused)
+}
+
+/// Makes sure of what a recovery goes on with in this phase, and answers the numbers then. A
+/// journal that is asked for is doomed then.
 fn refresh<N: Nor>(
     nor: &mut N,
     firmness: Firmness,
@@ -147,11 +280,12 @@ fn refresh<N: Nor>(
     requires size { JOURNALS_END ≤ length (N.state nor.old).memory }
     requires tally { tally ≡ tally_of (N.state nor.old).memory }
     requires sound { AreJournalsSound phase (N.state nor.old).memory }
-    ensures sound { OnOk result (AreJournalsSound phase (N.state nor.new).memory) }
-    ensures numbers { IfOk result (λ u. SameNumbers u (unused (N.state nor.new).memory)) }
-    ensures spent { IfOk result (λ u. (u ≡ unused (N.state nor.old).memory)
-        ⊎ ((u ≡ once_used (unused (N.state nor.old).memory)) × (firmness ≡ Firmness.Firm)
-        × (phase ≡ ErasePhase.Idle) × (1 ≤ open_blocks (N.state nor.old).memory))) }
+    ensures sound { OnOk result (AreJournalsSound (begun phase) (N.state nor.new).memory) }
+    ensures one { (x : JournalId) → begun phase ≡ ErasePhase.Doomed x
+        → OnOk result ((first (tally_of (N.state nor.new).memory) x).opened ≡ 1) }
+    ensures numbers { IfOk result (λ u.
+        SameNumbers (settled phase u) (settled (begun phase) (unused (N.state nor.new).memory))) }
+    ensures spends { IfOk result (λ u. SpendsOne firmness phase (N.state nor.old).memory u) }
     ensures blocks { OnOk result (SameBlocks (N.state nor.old).memory (N.state nor.new).memory) }
     ensures cut { IsErrOf result NorError.Cut
         → KeepsBlocks (N.state nor.old).memory (N.state nor.new).memory }
@@ -159,12 +293,12 @@ fn refresh<N: Nor>(
     ensures kept { OnOk result (OnlyMemoryChanges (N.state nor.old) (N.state nor.new)) }
     ensures fails { IfErr result (λ e. Refuses e (N.state nor.old) (N.state nor.new)) }
 {
-    let unused = tally.unused();
-    if is_fresh_due(firmness, phase, tally) {
-        open_afresh(nor)?;
-        return Ok(once_taken(unused));
+    match phase {
+        ErasePhase::Idle => refresh_idle(nor, firmness, tally),
+        ErasePhase::Asked(journal) => refresh_asked(nor, firmness, journal, tally),
+        ErasePhase::Doomed(journal) => refresh_doomed(nor, firmness, journal, tally),
+        ErasePhase::Closing(journal) => refresh_closing(nor, firmness, journal, tally),
     }
-    Ok(unused)
 }
 
 /// Reads the journals and settles them, and answers their numbers then. `None` where they are

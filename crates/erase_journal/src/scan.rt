@@ -10,8 +10,8 @@ ghost use Rattle.erase_journal.specs.Scans.{is_open_in, entry_in, named_in, open
 
 use nor_layout::{ENTRIES, ENTRIES_LEN, Entry, REGION_LEN, Vote, entry_state, vote_state};
 
-/// How many votes of a region of 1,024 are unused, open, and no vote at all; the others are closed.
-/// Source: own.
+/// How many votes of a region of 1,024 are unused, open, and no vote at all; the others are closed
+/// or given up. Source: own.
 #[derive(Clone, Copy, Debug, PartialEq, Eq, Drop)]
 pub struct VoteCounts {
     pub unused: u16,
@@ -41,7 +41,7 @@ pub(crate) fn count_votes(bytes: &[u8]) -> VoteCounts
         match vote_state(*byte) {
             Some(Vote::Unused) => unused += 1,
             Some(Vote::Open) => opened += 1,
-            Some(Vote::Closed) => {}
+            Some(Vote::Closed | Vote::GivenUp) => {}
             None => wrong += 1,
         }
     }

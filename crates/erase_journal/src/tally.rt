@@ -3,7 +3,8 @@
 ghost use Rattle.std.specs.Prelude.{◌≡◌, ◌↔◌, IsTrue, MatchOption};
 ghost use Rattle.nor_layout.specs.Journals.{next};
 ghost use Rattle.erase_journal.specs.declared.phase.ErasePhase.{ErasePhase};
-ghost use Rattle.erase_journal.specs.Journals.{HoldsVotes, HasNoOpenVote, IsInPhase, IsSoundTally};
+ghost use Rattle.erase_journal.specs.Journals.{HoldsVotes, HoldsSomeVotes, HasNoOpenVote};
+ghost use Rattle.erase_journal.specs.Journals.{IsInPhase, IsSoundTally};
 ghost use Rattle.erase_journal.specs.Journals.{unused_of, settled, first, second};
 
 use crate::phase::ErasePhase;
@@ -71,6 +72,13 @@ fn holds(votes: VoteCounts, opened: u16) -> bool
     votes.opened == opened && votes.wrong == 0
 }
 
+/// Whether a region has an open vote, and none that is wrong.
+fn holds_some(votes: VoteCounts) -> bool
+    ensures { IsTrue result ↔ HoldsSomeVotes votes }
+{
+    votes.opened >= 1 && votes.wrong == 0
+}
+
 /// Whether no vote for the erase of a journal is open.
 fn is_quiet(tally: JournalTally, journal: JournalId) -> bool
     ensures { IsTrue result ↔ HasNoOpenVote tally journal }
@@ -115,7 +123,7 @@ fn is_asked(tally: JournalTally, journal: JournalId) -> bool
 fn is_doomed(tally: JournalTally, journal: JournalId) -> bool
     ensures { IsTrue result ↔ IsInPhase (ErasePhase.Doomed journal) tally }
 {
-    let both = holds(tally.first(journal), 1) && holds(tally.second(journal), 1);
+    let both = holds_some(tally.first(journal)) && holds(tally.second(journal), 1);
     match journal {
         JournalId::J0 => both && holds(tally.j2_for_1, 0) && holds(tally.j1_for_2, 0),
         JournalId::J1 => both

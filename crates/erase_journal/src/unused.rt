@@ -2,7 +2,7 @@
 
 ghost use Rattle.std.specs.Prelude.{◌≡◌, ◌↔◌, IsTrue};
 ghost use Rattle.erase_journal.specs.Votes.{Last, IsRested, IsTiredAnswer, HasSome, Needs0, Needs1};
-ghost use Rattle.erase_journal.specs.Votes.{renewed, second_spent};
+ghost use Rattle.erase_journal.specs.Votes.{renewed, first_spent, second_spent};
 ghost use Rattle.erase_journal.specs.Spending.{once_used};
 
 use nor_layout::{ENTRIES, JournalId, VOTES};
@@ -104,6 +104,26 @@ pub(crate) fn once_renewed(u: Unused, journal: JournalId) -> Unused
         JournalId::J2 => Unused {
             j2_for_0: VOTES,
             j2_for_1: VOTES,
+            ..u
+        },
+    }
+}
+
+/// The numbers once the next journal spent a vote for the erase of this one.
+pub(crate) fn once_first_spent(u: Unused, journal: JournalId) -> Unused
+    ensures { result ≡ first_spent journal u }
+{
+    match journal {
+        JournalId::J0 => Unused {
+            j1_for_0: u.j1_for_0.saturating_sub(1),
+            ..u
+        },
+        JournalId::J1 => Unused {
+            j2_for_1: u.j2_for_1.saturating_sub(1),
+            ..u
+        },
+        JournalId::J2 => Unused {
+            j0_for_2: u.j0_for_2.saturating_sub(1),
             ..u
         },
     }

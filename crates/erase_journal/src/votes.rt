@@ -1,4 +1,4 @@
-//! Opens the lowest unused vote of a region, and closes the lowest open one.
+//! Opens or gives up the lowest unused vote of a region, and closes the lowest open one.
 
 ghost use Rattle.std.specs.Prelude.{◌≡◌, ◌+◌, ◌<◌, ◌≤◌, ◌^◌, length, OnOk, IfOk};
 ghost use Rattle.std.specs.Result.{IsErrOf};
@@ -57,4 +57,21 @@ pub(crate) fn close_vote<N: Nor>(nor: &mut N, region: u32) -> Result<(), NorErro
     let found = find_vote(nor, region, Vote::Open)?;
     let Some(place) = found else { unreachable!() };
     nor.program(region + place, &[vote_byte(Vote::Closed)])
+}
+
+/// Gives up the lowest unused vote of a region. Whatever its lowest bit reads later, it isn't open.
+pub(crate) fn give_up_vote<N: Nor>(nor: &mut N, region: u32) -> Result<(), NorError>
+    requires range { region + REGION_LEN ≤ length (N.state nor.old).memory }
+    requires fits { region < 2 ^ 24 }
+    requires some { 0 < (votes_at (N.state nor.old).memory region).unused }
+    ensures ok { OnOk result (OneChanged region 255 253 (N.state nor.old).memory
+        (N.state nor.new).memory) }
+    ensures cut { IsErrOf result NorError.Cut
+        → PerhapsChanged region 255 253 (N.state nor.old).memory (N.state nor.new).memory }
+    ensures size { length (N.state nor.new).memory ≡ length (N.state nor.old).memory }
+    ensures ends { EndsReady result (N.state nor.old) (N.state nor.new) }
+{
+    let found = find_vote(nor, region, Vote::Unused)?;
+    let Some(place) = found else { unreachable!() };
+    nor.program(region + place, &[vote_byte(Vote::GivenUp)])
 }

@@ -190,6 +190,10 @@ impl<N: Nor> FirmCalls for SectorSlots<N> {
         self.journal.firm()
     }
 
+    fn renew_journals(&mut self) -> Result<(), NorError> {
+        self.journal.renew_all()
+    }
+
     fn firm_head(&mut self, block: u16) -> Result<bool, NorError> {
         firm_head(&mut self.journal, block)
     }

@@ -52,7 +52,8 @@ pub(crate) fn is_erasing(counts: &JournalTally) -> bool {
         || counts.j2_for_1.opened > 0
 }
 
-/// What goes on: a copying that was cut, and an erase.
+/// What goes on: copyings that were cut, and an erase. Void blocks beside a committed copy aren't
+/// told here.
 fn write_going<W: fmt::Write>(
     f: &mut fmt::Formatter<W>,
     totals: Totals,
@@ -61,6 +62,11 @@ fn write_going<W: fmt::Write>(
     match totals.target {
         None => f.write_str("going on: no copying")?,
         Some(target) => match totals.source {
+            None if totals.void > 1 => write!(
+                f,
+                "going on: copyings into {} blocks, to be begun anew",
+                totals.void
+            )?,
             None => write!(
                 f,
                 "going on: a copying into block {target}, to be begun anew"

@@ -138,7 +138,7 @@ fn write_blocks<W: fmt::Write>(
             write_block(f, image, first, 4)?;
             f.write_str(", and ")?;
             write_block(f, image, second, 4)?;
-            f.write_str("; one block is void or committed at a time")
+            f.write_str("; one block is committed at a time")
         }
         Finding::WrongSource { block, source } => {
             write_block(f, image, block, 4)?;

@@ -4,8 +4,9 @@ use nor_layout::{FIRST_DATA_BLOCK, Kind};
 use sector_survey::BlockSummary;
 
 /// How many data blocks are of which kind, how many are wholly free, and how many of the slots that
-/// count are free, live and dead; and the block into which a copying goes on, with the block that
-/// is copied, both by their numbers on the chip. Source: own.
+/// count are free, live and dead; and a block into which a copying was cut, with the block that was
+/// copied, both by their numbers on the chip: those of the committed copy, where there is one.
+/// Source: own.
 #[derive(Clone, Copy, Debug, PartialEq, Eq, Drop)]
 pub struct Totals {
     pub plain: u32,
@@ -63,7 +64,9 @@ fn with_kind(totals: Totals, block: BlockSummary, number: u32) -> Totals {
         }
         Kind::Void => {
             totals.void = totals.void.saturating_add(1);
-            totals.target = Some(number);
+            if totals.committed == 0 {
+                totals.target = Some(number);
+            }
         }
         Kind::Committed(source) => {
             totals.committed = totals.committed.saturating_add(1);

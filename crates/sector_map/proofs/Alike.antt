@@ -8,7 +8,7 @@ use Rattle.nor_layout.specs.declared.kind.Kind.{Kind}
 use Rattle.nor_layout.specs.Kinds.{kind_of}
 use Rattle.erase_journal.specs.Blocks.{SameBlocks}
 use Rattle.sector_slots.specs.Slots.{slot_in, counted, Slot, content_bytes, data_blocks, data_block, kind_at, raw_slot, slot_at, slot_count, IsSpareIn, IsClean}
-use Rattle.sector_slots.specs.Blocks.{IsAtRest, AreSettled, IsSettledBlocks, HasGroupRoom}
+use Rattle.sector_slots.specs.Blocks.{IsAtRest, IsUncommitted, AreSettled, IsSettledBlocks, HasGroupRoom}
 use Rattle.sector_slots.specs.Firm.{KeepsHead, HoldsBegun}
 use Rattle.sector_slots.specs.Laws.{IsMarked}
 use Rattle.sector_slots.proofs.BlankLaws.{counted-same, same-holds}
@@ -75,7 +75,7 @@ alike-after a b c p q =
 abbrev slots_sized : List ℕ → ℕ → ℕ → Slot
 slots_sized m' n = counted (kind_at m') (raw_slot m') (block_count n - 4)
 
-alike-slot : (m m' : List ℕ) → ReadsAlike m m' → (s : ℕ) → s < slot_count m → slot_at m' s ≡ slot_at m s
+pub alike-slot : (m m' : List ℕ) → ReadsAlike m m' → (s : ℕ) → s < slot_count m → slot_at m' s ≡ slot_at m s
 alike-slot m m' h s low = ap (λ n. slots_sized m' n s) h.same_length ∙ counted-same (kind_at m) (kind_at m') (raw_slot m) (raw_slot m') (data_blocks m) s h.kinds h.slots low
 
 pub alike-tabled : (table : List LiveSlots) (m m' : List ℕ) → ReadsAlike m m' → IsTabled table (slot_at m) (slot_count m) → IsTabled table (slot_at m') (slot_count m')
@@ -86,20 +86,20 @@ found-same AtRest kind kind' n same h = record { rest = λ d low. subst (λ z. I
 found-same (Void t) kind kind' n same h = record {
   number = h.number;
   void = same t h.number ∙ h.void;
-  others = λ d low ne. subst (λ z. IsAtRest z) (sym (same d low)) (h.others d low ne);
+  others = λ d low. subst (λ z. IsUncommitted z) (sym (same d low)) (h.others d low);
 }
 found-same (Committed s t) kind kind' n same h = record {
   number = h.number;
   committed = same t h.number ∙ h.committed;
   source = h.source;
   other = h.other;
-  others = λ d low ne. subst (λ z. IsAtRest z) (sym (same d low)) (h.others d low ne);
+  others = λ d low ne. subst (λ z. IsUncommitted z) (sym (same d low)) (h.others d low ne);
 }
 
 pub alike-found : (found : Found) (m m' : List ℕ) → ReadsAlike m m' → FoundIn found m → FoundIn found m'
 alike-found found m m' h f = subst (λ n. FoundBelow found (kind_at m') (block_count n - 4) (block_count n - 4)) (sym h.same_length) (found-same found (kind_at m) (kind_at m') (data_blocks m) h.kinds f)
 
-settled-same : (m m' : List ℕ) → ReadsAlike m m' → AreSettled m → IsSettledBlocks (kind_at m') (raw_slot m') (data_blocks m)
+pub settled-same : (m m' : List ℕ) → ReadsAlike m m' → AreSettled m → IsSettledBlocks (kind_at m') (raw_slot m') (data_blocks m)
 settled-same m m' h s = record {
   rest = λ d low. subst (λ z. IsAtRest z) (sym (h.kinds d low)) (s.rest d low);
   reserve = s.reserve;

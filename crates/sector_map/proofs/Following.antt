@@ -1,6 +1,6 @@
 -- The table follows a block that was copied.
 use Rattle.std.proofs.Common.{◌≡◌, ◌≢◌, ℕ, zero, suc, ◌+◌, ◌-◌, ◌*◌, ◌<◌, ◌⊎◌, false, List, length, refl, sym, ap, ◌∙◌, subst, arith, inl, inr}
-use Rattle.std.specs.Prelude.{◌/◌, ◌%◌, Option, Some, None, slice_index_or}
+use Rattle.std.specs.Prelude.{◌/◌, ◌%◌, Option, Some, None, slice_index_or, not}
 use Rattle.std.proofs.lemmas.Bool.{cases_eq}
 use Rattle.chip_model.specs.Geometry.{sector_count, block_count}
 use Rattle.nor_layout.specs.declared.header.Generation.{Generation}
@@ -24,6 +24,7 @@ use Rattle.sector_map.specs.declared.table.Held.{Held}
 use Rattle.sector_map.specs.declared.table.LiveSlots.{LiveSlots}
 use Rattle.sector_map.specs.declared.table.LiveSlots.TheVariants.{Absent}
 use Rattle.sector_map.specs.declared.found.Found.TheVariants.{AtRest}
+use Rattle.sector_slots.proofs.CopyLaws.{at-rest-counts}
 use Rattle.sector_map.proofs.Founds.{heads-of}
 use Rattle.sector_stock.specs.Takes.{Shifts, Converts, MakesNoGroup}
 use Rattle.sector_map.proofs.MapSteps.{named-table, there, back-there}
@@ -31,7 +32,7 @@ use Rattle.sector_map.proofs.Retiring.{table-holder}
 
 -- the descriptors of a block of a memory at rest
 pub rest-heads : (m : List ℕ) (b : ℕ) (heads : List Header) → AreSettled m → b < data_blocks m → ((i : ℕ) → i < 7 → read_header heads i ≡ descriptor_in (data_block m b) i) → HeadsOf heads (slot_at m) b
-rest-heads m b heads blocks low each = heads-of AtRest m b heads (record { rest = blocks.rest }) low refl each
+rest-heads m b heads blocks low each = heads-of AtRest m b heads (record { rest = blocks.rest }) low (ap not (at-rest-counts (kind_at m b) (blocks.rest b low))) each
 
 live-slot : (m : List ℕ) (b i : ℕ) (tag : Tag) (heads : List Header) → HeadsOf heads (slot_at m) b → i < 7 → read_header heads i ≡ headers.Live tag → (x : List ℕ) × (slot_at m (7 * b + i) ≡ Live tag x)
 live-slot m b i tag heads h low is = let at = h i low in (at.0, at.1 ∙ ap (λ z. slot_with z at.0) is)

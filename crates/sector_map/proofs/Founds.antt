@@ -6,15 +6,15 @@ use Rattle.std.proofs.lemmas.Bool.Decides.{leb_tells}
 use Rattle.nor_layout.specs.declared.header.Tag.{Tag}
 use Rattle.nor_layout.specs.declared.kind.Kind.{Kind}
 use Rattle.nor_layout.specs.declared.kind.Kind.TheVariants as kinds
-use Rattle.sector_slots.specs.Slots.{Slot, Free, Outside, counted, is_void, slot_in, slot_with, descriptor_in, content_bytes, read_header, is_group, kind_at, data_block, data_blocks, raw_slot, slot_at, IsSpareIn, copies as copies_of}
+use Rattle.sector_slots.specs.Slots.{Slot, Free, Outside, counted, is_void, is_copy_of, slot_in, slot_with, descriptor_in, content_bytes, read_header, is_group, kind_at, data_block, data_blocks, raw_slot, slot_at, IsSpareIn, copies as copies_of}
 use Rattle.nor_layout.specs.declared.header.Header.{Header}
 use Rattle.nor_layout.specs.declared.header.Header.TheVariants as headers
 use Rattle.sector_slots.proofs.SectorLaws.{kind_in}
-use Rattle.sector_slots.specs.Blocks.{IsAtRest, IsCopying, IsTarget, SoundBlocks, BlocksHaveNoFault}
-use Rattle.sector_slots.proofs.BlockLaws.{sound-no_fault}
-use Rattle.sector_slots.proofs.CopyLaws.{counted-in, counted-void, counted-source, at-rest-counts, at-rest-copies, copies-none, void-copies, committed-copies, source-copies}
+use Rattle.sector_slots.specs.Blocks.{IsAtRest, IsUncommitted, IsCopying, IsCutTarget, SoundBlocks, BlocksHaveNoFault}
+use Rattle.sector_slots.proofs.BlockLaws.{sound-no_fault, rest-uncommitted}
+use Rattle.sector_slots.proofs.CopyLaws.{counted-in, counted-void, counted-source, at-rest-counts, at-rest-copies, copies-none, source-copies}
 use Rattle.sector_map.specs.Scan.{HeadsOf}
-use Rattle.sector_map.specs.Found.{FoundIn, RestBelow, VoidBelow, CommittedBelow, FoundBelow, noted_first, noted_next, noted_kind, noted_where, block_counts}
+use Rattle.sector_map.specs.Found.{FoundIn, VoidBelow, CommittedBelow, FoundBelow, noted_void, noted_source, noted_copy, noted_kind, noted_where, block_counts}
 use Rattle.sector_map.specs.declared.found.Found.{Found}
 use Rattle.sector_map.specs.declared.found.Found.TheVariants.{AtRest, Void, Committed}
 
@@ -39,21 +39,44 @@ dead-rest k e = subst (λ a. IsAtRest a) (sym e) tt
 spoilt-rest : (k : Kind) → k ≡ kinds.SpoiltGroup → IsAtRest k
 spoilt-rest k e = subst (λ a. IsAtRest a) (sym e) tt
 
--- one more block at rest
-rest-more : (found : Found) (kind : ℕ → Kind) (k n : ℕ) → IsAtRest (kind k) → FoundBelow found kind k n → FoundBelow found kind (suc k) n
-rest-more AtRest kind k n here h = record { rest = λ d low. elim (cases_eq d k) as (λ _. IsAtRest (kind d)) [ inl e ↦ subst (λ a. IsAtRest (kind a)) (sym e) here | inr ne ↦ h.rest d (omega (arith, low, ne)) ] }
-rest-more (Void t) kind k n here h = record {
+void-uncommitted : (k : Kind) → k ≡ kinds.Void → IsUncommitted k
+void-uncommitted k e = subst (λ a. IsUncommitted a) (sym e) tt
+
+-- one more block that isn't committed
+others-more : (kind : ℕ → Kind) (k : ℕ) (P : ℕ → Type 0) → IsUncommitted (kind k) → ((d : ℕ) → d < k → P d → IsUncommitted (kind d)) → (d : ℕ) → d < suc k → P d → IsUncommitted (kind d)
+others-more kind k P here below d low p = elim (cases_eq d k) as (λ _. IsUncommitted (kind d)) [ inl e ↦ subst (λ a. IsUncommitted (kind a)) (sym e) here | inr ne ↦ below d (omega (arith, low, ne)) p ]
+
+void-more : (t : ℕ) (kind : ℕ → Kind) (k : ℕ) → IsUncommitted (kind k) → VoidBelow t kind k → VoidBelow t kind (suc k)
+void-more t kind k here h = record {
   number = (let low = h.number in omega (arith, low));
   void = h.void;
-  others = λ d low other. elim (cases_eq d k) as (λ _. IsAtRest (kind d)) [ inl e ↦ subst (λ a. IsAtRest (kind a)) (sym e) here | inr ne ↦ h.others d (omega (arith, low, ne)) other ];
+  others = λ d low. others-more kind k (λ _. Unit {0}) here (λ a l p. h.others a l) d low tt;
 }
-rest-more (Committed s t) kind k n here h = record {
+
+committed-more : (s t : ℕ) (kind : ℕ → Kind) (k n : ℕ) → IsUncommitted (kind k) → CommittedBelow s t kind k n → CommittedBelow s t kind (suc k) n
+committed-more s t kind k n here h = record {
   number = (let low = h.number in omega (arith, low));
   committed = h.committed;
   source = h.source;
   other = h.other;
-  others = λ d low other. elim (cases_eq d k) as (λ _. IsAtRest (kind d)) [ inl e ↦ subst (λ a. IsAtRest (kind a)) (sym e) here | inr ne ↦ h.others d (omega (arith, low, ne)) other ];
+  others = others-more kind k (λ d. d ≢ t) here h.others;
 }
+
+-- one more block at rest
+rest-more : (found : Found) (kind : ℕ → Kind) (k n : ℕ) → IsAtRest (kind k) → FoundBelow found kind k n → FoundBelow found kind (suc k) n
+rest-more AtRest kind k n here h = record { rest = λ d low. elim (cases_eq d k) as (λ _. IsAtRest (kind d)) [ inl e ↦ subst (λ a. IsAtRest (kind a)) (sym e) here | inr ne ↦ h.rest d (omega (arith, low, ne)) ] }
+rest-more (Void t) kind k n here h = void-more t kind k (rest-uncommitted (kind k) here) h
+rest-more (Committed s t) kind k n here h = committed-more s t kind k n (rest-uncommitted (kind k) here) h
+
+-- one more void block
+one-void : (found : Found) (kind : ℕ → Kind) (k n : ℕ) → kind k ≡ kinds.Void → FoundBelow found kind k n → FoundBelow (noted_void found k) kind (suc k) n
+one-void AtRest kind k n here h = record {
+  number = omega arith;
+  void = here;
+  others = λ d low. others-more kind k (λ _. Unit {0}) (void-uncommitted (kind k) here) (λ a l p. rest-uncommitted (kind a) (h.rest a l)) d low tt;
+}
+one-void (Void t) kind k n here h = void-more t kind k (void-uncommitted (kind k) here) h
+one-void (Committed s t) kind k n here h = committed-more s t kind k n (void-uncommitted (kind k) here) h
 
 same-found : (found found' : Found) (kind : ℕ → Kind) (k n : ℕ) → IsAtRest (kind k) → Some found ≡ Some found' → FoundBelow found kind k n → FoundBelow found' kind (suc k) n
 same-found found found' kind k n here e h = subst (λ z. FoundBelow z kind (suc k) n) (some-found found found' e) (rest-more found kind k n here h)
@@ -79,10 +102,9 @@ fit-cases b block n = elim (leb_tells 4 b) as (λ _. (is_fit b block n ≡ true 
   | inr p ↦ inr (rw p.0 refl, λ f. (let least = f.least in let high = p.1 in omega (arith, least, high)))
 ]
 
-first-step : (q : Kind) (found' : Found) (kind : ℕ → Kind) (k n : ℕ) → kind k ≡ q → noted_first k q n ≡ Some found' → RestBelow kind k → FoundBelow found' kind (suc k) n
-first-step kinds.Plain found' kind k n here e h = same-found AtRest found' kind k n (plain-rest (kind k) here) e h
-first-step kinds.Void found' kind k n here e h = subst (λ z. FoundBelow z kind (suc k) n) (some-found (Void k) found' e) (record { number = omega arith; void = here; others = λ d low other. h.rest d (omega (arith, low, other)) })
-first-step (kinds.Committed b) found' kind k n here e h = elim (fit-cases b k n) [
+-- one more committed block, where none was before
+source-step : (b : ℕ) (found' : Found) (kind : ℕ → Kind) (k n : ℕ) → kind k ≡ kinds.Committed b → noted_source k b n ≡ Some found' → ((d : ℕ) → d < k → IsUncommitted (kind d)) → FoundBelow found' kind (suc k) n
+source-step b found' kind k n here e h = elim (fit-cases b k n) [
   | inl fit ↦
       let q : Some (Committed (b - 4) k) ≡ Some found' = rw fit.0 at e in
       let fits = fit.1 in
@@ -94,30 +116,28 @@ first-step (kinds.Committed b) found' kind k n here e h = elim (fit-cases b k n)
         committed = here ∙ ap (λ z. kinds.Committed z) back;
         source = omega (arith, least, most);
         other = λ same. fits.other (omega (arith, same, least));
-        others = λ d low other. h.rest d (omega (arith, low, other));
+        others = λ d low other. h d (omega (arith, low, other));
       })
   | inr unfit ↦ (let q : None ≡ Some found' = rw unfit.0 at e in absurd (none-found found' q))
 ]
-first-step kinds.Settled found' kind k n here e h = same-found AtRest found' kind k n (settled-rest (kind k) here) e h
-first-step (kinds.Group tag) found' kind k n here e h = same-found AtRest found' kind k n (group-rest (kind k) tag here) e h
-first-step kinds.DeadGroup found' kind k n here e h = same-found AtRest found' kind k n (dead-rest (kind k) here) e h
-first-step kinds.SpoiltGroup found' kind k n here e h = same-found AtRest found' kind k n (spoilt-rest (kind k) here) e h
-first-step kinds.Unknown found' kind k n here e h = absurd (none-found found' e)
 
-next-step : (q : Kind) (found found' : Found) (kind : ℕ → Kind) (k n : ℕ) → kind k ≡ q → noted_next found q ≡ Some found' → FoundBelow found kind k n → FoundBelow found' kind (suc k) n
-next-step kinds.Plain found found' kind k n here e h = same-found found found' kind k n (plain-rest (kind k) here) e h
-next-step kinds.Void found found' kind k n here e h = absurd (none-found found' e)
-next-step (kinds.Committed b) found found' kind k n here e h = absurd (none-found found' e)
-next-step kinds.Settled found found' kind k n here e h = same-found found found' kind k n (settled-rest (kind k) here) e h
-next-step (kinds.Group tag) found found' kind k n here e h = same-found found found' kind k n (group-rest (kind k) tag here) e h
-next-step kinds.DeadGroup found found' kind k n here e h = same-found found found' kind k n (dead-rest (kind k) here) e h
-next-step kinds.SpoiltGroup found found' kind k n here e h = same-found found found' kind k n (spoilt-rest (kind k) here) e h
-next-step kinds.Unknown found found' kind k n here e h = absurd (none-found found' e)
+copy-step : (found : Found) (b : ℕ) (found' : Found) (kind : ℕ → Kind) (k n : ℕ) → kind k ≡ kinds.Committed b → noted_copy found k b n ≡ Some found' → FoundBelow found kind k n → FoundBelow found' kind (suc k) n
+copy-step AtRest b found' kind k n here e h = source-step b found' kind k n here e (λ d low. rest-uncommitted (kind d) (h.rest d low))
+copy-step (Void t) b found' kind k n here e h = source-step b found' kind k n here e h.others
+copy-step (Committed s t) b found' kind k n here e h = absurd (none-found found' e)
+
+kind-step : (q : Kind) (found found' : Found) (kind : ℕ → Kind) (k n : ℕ) → kind k ≡ q → noted_kind found k q n ≡ Some found' → FoundBelow found kind k n → FoundBelow found' kind (suc k) n
+kind-step kinds.Plain found found' kind k n here e h = same-found found found' kind k n (plain-rest (kind k) here) e h
+kind-step kinds.Void found found' kind k n here e h = subst (λ z. FoundBelow z kind (suc k) n) (some-found (noted_void found k) found' e) (one-void found kind k n here h)
+kind-step (kinds.Committed b) found found' kind k n here e h = copy-step found b found' kind k n here e h
+kind-step kinds.Settled found found' kind k n here e h = same-found found found' kind k n (settled-rest (kind k) here) e h
+kind-step (kinds.Group tag) found found' kind k n here e h = same-found found found' kind k n (group-rest (kind k) tag here) e h
+kind-step kinds.DeadGroup found found' kind k n here e h = same-found found found' kind k n (dead-rest (kind k) here) e h
+kind-step kinds.SpoiltGroup found found' kind k n here e h = same-found found found' kind k n (spoilt-rest (kind k) here) e h
+kind-step kinds.Unknown found found' kind k n here e h = absurd (none-found found' e)
 
 pub found-step : (found found' : Found) (kind : ℕ → Kind) (k n : ℕ) → noted_kind found k (kind k) n ≡ Some found' → FoundBelow found kind k n → FoundBelow found' kind (suc k) n
-found-step AtRest found' kind k n e h = first-step (kind k) found' kind k n refl e h
-found-step (Void t) found' kind k n e h = next-step (kind k) (Void t) found' kind k n refl e h
-found-step (Committed s t) found' kind k n e h = next-step (kind k) (Committed s t) found' kind k n refl e h
+found-step found found' kind k n e h = kind-step (kind k) found found' kind k n refl e h
 
 -- a block of a group is refused where none may be
 where-cases : (groups here : Bool) (o : Option Found) (found : Found) → (if here && not groups then None else o) ≡ Some found → (o ≡ Some found) × (groups ≡ false → here ≡ false)
@@ -145,48 +165,31 @@ true-false : true ≡ false → ⊥
 true-false e = cc
 
 -- a block that is refused for its kind is a fault
-void-busy : (k : Kind) → k ≡ kinds.Void → IsAtRest k → ⊥
-void-busy k e r = subst (λ a. IsAtRest a) e r
-
-committed-busy : (k : Kind) (b : ℕ) → k ≡ kinds.Committed b → IsAtRest k → ⊥
-committed-busy k b e r = subst (λ a. IsAtRest a) e r
-
-first-fault : (q : Kind) (kind : ℕ → Kind) (slots : ℕ → ℕ → Slot) (k n : ℕ) → kind k ≡ q → noted_first k q n ≡ None → k < n → BlocksHaveNoFault kind slots n → ⊥
-first-fault kinds.Plain kind slots k n here e low h = none-found AtRest (sym e)
-first-fault kinds.Void kind slots k n here e low h = none-found (Void k) (sym e)
-first-fault (kinds.Committed b) kind slots k n here e low h = elim (fit-cases b k n) [
+source-fault : (b : ℕ) (kind : ℕ → Kind) (slots : ℕ → ℕ → Slot) (k n : ℕ) → kind k ≡ kinds.Committed b → noted_source k b n ≡ None → k < n → BlocksHaveNoFault kind slots n → ⊥
+source-fault b kind slots k n here e low h = elim (fit-cases b k n) [
   | inl fit ↦ (let q : Some (Committed (b - 4) k) ≡ None = rw fit.0 at e in absurd (none-found (Committed (b - 4) k) (sym q)))
   | inr unfit ↦
       let p = h.source k b low here in
       unfit.1 (record { least = p.0; most = p.1; other = p.2 })
 ]
-first-fault kinds.Settled kind slots k n here e low h = none-found AtRest (sym e)
-first-fault (kinds.Group tag) kind slots k n here e low h = none-found AtRest (sym e)
-first-fault kinds.DeadGroup kind slots k n here e low h = none-found AtRest (sym e)
-first-fault kinds.SpoiltGroup kind slots k n here e low h = none-found AtRest (sym e)
-first-fault kinds.Unknown kind slots k n here e low h = h.known k low here
 
--- another block into which something is copied
-busy-fault : (kind : ℕ → Kind) (slots : ℕ → ℕ → Slot) (k t n : ℕ) → k < n → t < k → (IsAtRest (kind k) → ⊥) → (IsAtRest (kind t) → ⊥) → BlocksHaveNoFault kind slots n → ⊥
-busy-fault kind slots k t n low below a b h = elim (h.one k t low (omega (arith, low, below)) (λ e. omega (arith, e, below))) [ inl r ↦ a r | inr r ↦ b r ]
+copy-fault : (found : Found) (b : ℕ) (kind : ℕ → Kind) (slots : ℕ → ℕ → Slot) (k n : ℕ) → kind k ≡ kinds.Committed b → noted_copy found k b n ≡ None → k < n → FoundBelow found kind k n → BlocksHaveNoFault kind slots n → ⊥
+copy-fault AtRest b kind slots k n here e low f h = source-fault b kind slots k n here e low h
+copy-fault (Void t) b kind slots k n here e low f h = source-fault b kind slots k n here e low h
+copy-fault (Committed s t) b kind slots k n here e low f h = (let below = f.number in h.one k t b (s + 4) low (omega (arith, low, below)) (λ same. omega (arith, same, below)) here f.committed)
 
-next-fault : (q : Kind) (found : Found) (kind : ℕ → Kind) (slots : ℕ → ℕ → Slot) (k t n : ℕ) → kind k ≡ q → noted_next found q ≡ None → k < n → t < k → (IsAtRest (kind t) → ⊥) → BlocksHaveNoFault kind slots n → ⊥
-next-fault kinds.Plain found kind slots k t n here e low below busy h = none-found found (sym e)
-next-fault kinds.Void found kind slots k t n here e low below busy h = busy-fault kind slots k t n low below (void-busy (kind k) here) busy h
-next-fault (kinds.Committed b) found kind slots k t n here e low below busy h = busy-fault kind slots k t n low below (committed-busy (kind k) b here) busy h
-next-fault kinds.Settled found kind slots k t n here e low below busy h = none-found found (sym e)
-next-fault (kinds.Group tag) found kind slots k t n here e low below busy h = none-found found (sym e)
-next-fault kinds.DeadGroup found kind slots k t n here e low below busy h = none-found found (sym e)
-next-fault kinds.SpoiltGroup found kind slots k t n here e low below busy h = none-found found (sym e)
-next-fault kinds.Unknown found kind slots k t n here e low below busy h = h.known k low here
-
-none-fault : (found : Found) (kind : ℕ → Kind) (slots : ℕ → ℕ → Slot) (k n : ℕ) → noted_kind found k (kind k) n ≡ None → k < n → FoundBelow found kind k n → BlocksHaveNoFault kind slots n → ⊥
-none-fault AtRest kind slots k n e low f h = first-fault (kind k) kind slots k n refl e low h
-none-fault (Void t) kind slots k n e low f h = next-fault (kind k) (Void t) kind slots k t n refl e low f.number (void-busy (kind t) f.void) h
-none-fault (Committed s t) kind slots k n e low f h = next-fault (kind k) (Committed s t) kind slots k t n refl e low f.number (committed-busy (kind t) (s + 4) f.committed) h
+none-fault : (q : Kind) (found : Found) (kind : ℕ → Kind) (slots : ℕ → ℕ → Slot) (k n : ℕ) → kind k ≡ q → noted_kind found k q n ≡ None → k < n → FoundBelow found kind k n → BlocksHaveNoFault kind slots n → ⊥
+none-fault kinds.Plain found kind slots k n here e low f h = none-found found (sym e)
+none-fault kinds.Void found kind slots k n here e low f h = none-found (noted_void found k) (sym e)
+none-fault (kinds.Committed b) found kind slots k n here e low f h = copy-fault found b kind slots k n here e low f h
+none-fault kinds.Settled found kind slots k n here e low f h = none-found found (sym e)
+none-fault (kinds.Group tag) found kind slots k n here e low f h = none-found found (sym e)
+none-fault kinds.DeadGroup found kind slots k n here e low f h = none-found found (sym e)
+none-fault kinds.SpoiltGroup found kind slots k n here e low f h = none-found found (sym e)
+none-fault kinds.Unknown found kind slots k n here e low f h = h.known k low here
 
 found-fault : (found : Found) (kind : ℕ → Kind) (slots : ℕ → ℕ → Slot) (k n : ℕ) → noted_kind found k (kind k) n ≡ None → k < n → FoundBelow found kind k n → SoundBlocks kind slots n → ⊥
-found-fault found kind slots k n e low f s = none-fault found kind slots k n e low f ((sound-no_fault kind slots n).0 s)
+found-fault found kind slots k n e low f s = none-fault (kind k) found kind slots k n refl e low f ((sound-no_fault kind slots n).0 s)
 
 pub where-fault : (groups : Bool) (found : Found) (kind : ℕ → Kind) (slots : ℕ → ℕ → Slot) (k n : ℕ) → noted_where groups found k (kind k) n ≡ None → k < n → FoundBelow found kind k n → SoundBlocks kind slots n
     → (groups ≡ false → (d : ℕ) → d < n → is_group (kind d) ≡ false) → ⊥
@@ -196,10 +199,10 @@ where-fault groups found kind slots k n e low f s alone = elim (where-none group
 ]
 
 -- what is found of all blocks
-pub void-target : (t n : ℕ) (kind : ℕ → Kind) → VoidBelow t kind n → IsTarget t n kind
-void-target t n kind h = record { number = h.number; copying = subst (λ k. IsCopying k t n) (sym h.void) tt; others = h.others }
+pub void-target : (t n : ℕ) (kind : ℕ → Kind) → VoidBelow t kind n → IsCutTarget t n kind
+void-target t n kind h = record { number = h.number; copying = subst (λ k. IsCopying k t n) (sym h.void) tt; others = λ d low other. h.others d low }
 
-pub committed-target : (s t n : ℕ) (kind : ℕ → Kind) → CommittedBelow s t kind n n → IsTarget t n kind
+pub committed-target : (s t n : ℕ) (kind : ℕ → Kind) → CommittedBelow s t kind n n → IsCutTarget t n kind
 committed-target s t n kind h = record { number = h.number; copying = subst (λ k. IsCopying k t n) (sym h.committed) (s, (refl, (h.source, h.other))); others = h.others }
 
 -- Which slots count.
@@ -209,24 +212,53 @@ not-true a b e same = let h : false ≡ true = sym (ap not (eq-eqb a b same)) �
 not-false : (a b : ℕ) → not (a == b) ≡ false → a ≡ b
 not-false a b e = elim (cases_eq a b) [ inl same ↦ same | inr other ↦ (let h : true ≡ false = sym (ap not (ne_eqb a b other)) ∙ e in cc) ]
 
-pub found-counted : (found : Found) (kind : ℕ → Kind) (slots : ℕ → ℕ → Slot) (n w : ℕ) → FoundBelow found kind n n → w / 7 < n → block_counts found (w / 7) ≡ true → counted kind slots n w ≡ slots (w / 7) (w % 7)
+not-void : (v : Bool) → not v ≡ true → v ≡ false
+not-void true e = sym e
+not-void false e = refl
+
+is-void : (v : Bool) → not v ≡ false → v ≡ true
+is-void true e = refl
+is-void false e = sym e
+
+both-true : (a b : Bool) → (a && b) ≡ true → (a ≡ true) × (b ≡ true)
+both-true true b e = (refl, e)
+both-true false b e = absurd (let q : false ≡ true = e in cc)
+
+both-false : (a b : Bool) → (a && b) ≡ false → (a ≡ false) ⊎ (b ≡ false)
+both-false true b e = inr e
+both-false false b e = inl refl
+
+uncommitted-copies : (b : ℕ) (k : Kind) → IsUncommitted k → is_copy_of b k ≡ false
+uncommitted-copies b kinds.Plain h = refl
+uncommitted-copies b kinds.Void h = refl
+uncommitted-copies b (kinds.Committed s) h = absurd h
+uncommitted-copies b kinds.Settled h = refl
+uncommitted-copies b (kinds.Group tag) h = refl
+uncommitted-copies b kinds.DeadGroup h = refl
+uncommitted-copies b kinds.SpoiltGroup h = refl
+uncommitted-copies b kinds.Unknown h = absurd h
+
+source-alone : (s t n : ℕ) (kind : ℕ → Kind) (c : ℕ) → CommittedBelow s t kind n n → c ≢ s → copies_of kind n c ≡ 0
+source-alone s t n kind c h other = copies-none kind n c (λ d low. elim (cases_eq d t) as (λ _. is_copy_of (c + 4) (kind d) ≡ false) [
+  | inl e ↦ ap (λ a. is_copy_of (c + 4) (kind a)) e ∙ (ap (λ k. is_copy_of (c + 4) k) h.committed ∙ ne_eqb (s + 4) (c + 4) (λ q. other (omega (arith, q))))
+  | inr ne ↦ uncommitted-copies (c + 4) (kind d) (h.others d low ne)
+])
+
+pub found-counted : (found : Found) (kind : ℕ → Kind) (slots : ℕ → ℕ → Slot) (n w : ℕ) → FoundBelow found kind n n → w / 7 < n → block_counts found (kind (w / 7)) (w / 7) ≡ true → counted kind slots n w ≡ slots (w / 7) (w % 7)
 found-counted AtRest kind slots n w h low e = counted-in kind slots n w (at-rest-counts (kind (w / 7)) (h.rest (w / 7) low)) (copies-none kind n (w / 7) (λ d l. at-rest-copies (w / 7 + 4) (kind d) (h.rest d l)))
 found-counted (Void t) kind slots n w h low e =
-    let other = not-true (w / 7) t e in
-    counted-in kind slots n w (at-rest-counts (kind (w / 7)) (h.others (w / 7) low other)) (void-copies t n kind (w / 7) (void-target t n kind h) h.void)
+    counted-in kind slots n w (not-void (is_void (kind (w / 7))) e) (copies-none kind n (w / 7) (λ d l. uncommitted-copies (w / 7 + 4) (kind d) (h.others d l)))
 found-counted (Committed s t) kind slots n w h low e =
-    let other = not-true (w / 7) s e in
-    let alive : is_void (kind (w / 7)) ≡ false = elim (cases_eq (w / 7) t) as (λ _. is_void (kind (w / 7)) ≡ false) [
-      | inl same ↦ ap (λ c. is_void (kind c)) same ∙ ap is_void h.committed
-      | inr differ ↦ at-rest-counts (kind (w / 7)) (h.others (w / 7) low differ)
-    ] in
-    counted-in kind slots n w alive (committed-copies s t n kind (w / 7) (committed-target s t n kind h) h.committed other)
+    let p = both-true (not (is_void (kind (w / 7)))) (not (w / 7 == s)) e in
+    counted-in kind slots n w (not-void (is_void (kind (w / 7))) p.0) (source-alone s t n kind (w / 7) h (not-true (w / 7) s p.1))
 
-pub found-skipped : (found : Found) (kind : ℕ → Kind) (slots : ℕ → ℕ → Slot) (n w : ℕ) → FoundBelow found kind n n → block_counts found (w / 7) ≡ false → counted kind slots n w ≡ Outside
-found-skipped AtRest kind slots n w h e = (let q : true ≡ false = e in absurd cc)
-found-skipped (Void t) kind slots n w h e = counted-void kind slots n w (ap (λ c. is_void (kind c)) (not-false (w / 7) t e) ∙ ap is_void h.void)
-found-skipped (Committed s t) kind slots n w h e =
-    counted-source kind slots n w (λ z. source-copies s t n kind h.number h.committed (ap (λ c. copies_of kind n c) (sym (not-false (w / 7) s e)) ∙ z))
+pub found-skipped : (found : Found) (kind : ℕ → Kind) (slots : ℕ → ℕ → Slot) (n w : ℕ) → FoundBelow found kind n n → block_counts found (kind (w / 7)) (w / 7) ≡ false → counted kind slots n w ≡ Outside
+found-skipped AtRest kind slots n w h e = counted-void kind slots n w (is-void (is_void (kind (w / 7))) e)
+found-skipped (Void t) kind slots n w h e = counted-void kind slots n w (is-void (is_void (kind (w / 7))) e)
+found-skipped (Committed s t) kind slots n w h e = elim (both-false (not (is_void (kind (w / 7)))) (not (w / 7 == s)) e) as (λ _. counted kind slots n w ≡ Outside) [
+  | inl v ↦ counted-void kind slots n w (is-void (is_void (kind (w / 7))) v)
+  | inr same ↦ counted-source kind slots n w (λ z. source-copies s t n kind h.number h.committed (ap (λ c. copies_of kind n c) (sym (not-false (w / 7) s same)) ∙ z))
+]
 
 -- a slot is free where its descriptor is
 with-free : (h : Header) (x : List ℕ) → slot_with h x ≡ Free → h ≡ headers.Free
@@ -255,18 +287,22 @@ spare-heads m c kind heads e each plain free = record { plain = sym e ∙ plain;
 pub heads-spare : (m : List ℕ) (c : ℕ) (heads : List Header) → ((i : ℕ) → i < 7 → read_header heads i ≡ descriptor_in (data_block m c) i) → IsSpareIn m c → (i : ℕ) → i < 7 → read_header heads i ≡ headers.Free
 heads-spare m c heads each s i low = each i low ∙ free-head (data_block m c) i (s.free i low)
 
+-- whether a block counts, by the kind that was read of it
+pub kind-counts : (found : Found) (block : ℕ) (kind kind' : Kind) (counts : Bool) → kind ≡ kind' → block_counts found kind block ≡ counts → block_counts found kind' block ≡ counts
+kind-counts found block kind kind' counts e h = subst (λ k. block_counts found k block ≡ counts) e h
+
 -- the descriptors of a block that counts are those of its slots
-pub heads-of : (found : Found) (m : List ℕ) (c : ℕ) (heads : List Header) → FoundIn found m → c < data_blocks m → block_counts found c ≡ true → ((i : ℕ) → i < 7 → read_header heads i ≡ descriptor_in (data_block m c) i) → HeadsOf heads (slot_at m) c
+pub heads-of : (found : Found) (m : List ℕ) (c : ℕ) (heads : List Header) → FoundIn found m → c < data_blocks m → block_counts found (kind_at m c) c ≡ true → ((i : ℕ) → i < 7 → read_header heads i ≡ descriptor_in (data_block m c) i) → HeadsOf heads (slot_at m) c
 heads-of found m c heads h low counting each i small =
     let block : (7 * c + i) / 7 ≡ c = omega (arith, small) in
     let place : (7 * c + i) % 7 ≡ i = omega (arith, small) in
-    let here = found-counted found (kind_at m) (raw_slot m) (data_blocks m) (7 * c + i) h (omega (arith, low, small)) (ap (λ d. block_counts found d) block ∙ counting) in
+    let here = found-counted found (kind_at m) (raw_slot m) (data_blocks m) (7 * c + i) h (omega (arith, low, small)) (ap (λ d. block_counts found (kind_at m d) d) block ∙ counting) in
     (content_bytes (data_block m c) i, here ∙ (ap (λ d. raw_slot m d ((7 * c + i) % 7)) block ∙ (ap (λ j. raw_slot m c j) place ∙ (slot-head (data_block m c) i ∙ ap (λ z. slot_with z (content_bytes (data_block m c) i)) (sym (each i small))))))
 
-pub skips-of : (found : Found) (m : List ℕ) (c : ℕ) → FoundIn found m → block_counts found c ≡ false → (i : ℕ) → i < 7 → slot_at m (7 * c + i) ≡ Outside
+pub skips-of : (found : Found) (m : List ℕ) (c : ℕ) → FoundIn found m → block_counts found (kind_at m c) c ≡ false → (i : ℕ) → i < 7 → slot_at m (7 * c + i) ≡ Outside
 skips-of found m c h none i small =
     let block : (7 * c + i) / 7 ≡ c = omega (arith, small) in
-    found-skipped found (kind_at m) (raw_slot m) (data_blocks m) (7 * c + i) h (ap (λ d. block_counts found d) block ∙ none)
+    found-skipped found (kind_at m) (raw_slot m) (data_blocks m) (7 * c + i) h (ap (λ d. block_counts found (kind_at m d) d) block ∙ none)
 
 -- whether one of the first k blocks is wholly free
 abbrev pub SpareSeen : Bool → List ℕ → ℕ → Type 0

@@ -12,6 +12,7 @@ pub mod Following
 pub mod MapCalls
 pub mod Restoring
 pub mod Mending
+pub mod Voiding
 pub mod Opening
 pub mod Clearing
 pub mod Leaving
@@ -22,3 +23,4 @@ pub mod Evening
 pub mod Zeroing
 mod Alike
 mod Moving
+mod Renewal

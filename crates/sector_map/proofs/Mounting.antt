@@ -16,7 +16,6 @@ use Rattle.sector_slots.proofs.MoveLaws.{same-back, same-on, same-whole}
 use Rattle.sector_slots.specs.Sectors.{SoundSlots, IsSoundMap, HasSlotsAlone, HasOnlySlots}
 use Rattle.nor_layout.specs.Superblock.{layout_in}
 use Rattle.erase_journal.proofs.SettledLaws.{settled-healthy, settled-after}
-use Rattle.sector_stock.specs.Copy.{IsVoidIn, IsCommittedIn}
 use Rattle.sector_stock.specs.Room.{HasRoom}
 use Rattle.sector_map.specs.Found.{FoundIn, RoomSeen, leaves_room}
 use Rattle.sector_map.specs.Marking.{may_have_groups}
@@ -29,13 +28,6 @@ use Rattle.sector_map.specs.declared.table.LiveSlots.{LiveSlots}
 use Rattle.sector_map.specs.declared.table.LiveSlots.TheVariants as entries
 use Rattle.sector_map.proofs.Founds.{void-target, committed-target}
 use Rattle.sector_map.proofs.Retiring.{sound-tabled, single-tabled}
-
--- the copying that was found
-pub found-void : (t : ℕ) (m : List ℕ) → FoundIn (Void t) m → IsVoidIn t m
-found-void t m h = record { target = void-target t (data_blocks m) (kind_at m) h; void = h.void }
-
-pub found-committed : (s t : ℕ) (m : List ℕ) → FoundIn (Committed s t) m → IsSoundMap m → IsCommittedIn s t m
-found-committed s t m h sound = record { target = committed-target s t (data_blocks m) (kind_at m) h; committed = h.committed; sound = sound }
 
 -- whether the blocks are sound
 pub fits-sound : (found : Found) (spare : Bool) (m : List ℕ) → FoundIn found m → RoomSeen found spare m → SoundBlocks (kind_at m) (raw_slot m) (data_blocks m)

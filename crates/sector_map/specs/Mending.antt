@@ -6,9 +6,11 @@ use Rattle.nor_layout.specs.declared.header.Tag.{Tag}
 use Rattle.nor_layout.specs.declared.kind.Kind.{Kind}
 use Rattle.nor_layout.specs.declared.kind.Kind.TheVariants as kinds
 use Rattle.sector_slots.specs.Slots.{is_group, slot_at, slot_count, data_blocks, kind_at}
+use Rattle.sector_slots.specs.Slots.{IsSpareIn}
+use Rattle.sector_slots.specs.Sectors.{IsSingle}
 use Rattle.sector_slots.specs.Copying.{SameLive}
 use Rattle.sector_slots.specs.Blocks.{AreAtRest, AreSettled, HasGroupRoom}
-use Rattle.sector_stock.specs.Copy.{EndsCopy}
+use Rattle.sector_stock.specs.Copy.{KeepsSectors, EndsCopy}
 use Rattle.sector_map.specs.Table.{IsTabled, Mends}
 use Rattle.sector_map.specs.declared.table.Held.{Held}
 use Rattle.sector_map.specs.declared.found.Found.{Found}
@@ -54,7 +56,17 @@ pub record IsOlderGroup (table : List LiveSlots) (c : ℕ) (kind : Kind) : Type 
   pub entry : slice_index_or table (7 * tag.number) Absent ≡ Two newer older
   pub block : older.slot / 7 ≡ c
 
--- the copying that was found was ended
+-- Each void block was erased, and is wholly free; all other blocks are of the kind that they were,
+-- and each slot that counts is as it was, or represents nothing before and after.
+pub record EndsVoids (m m' : List ℕ) : Type 0 where
+  pub keeps : KeepsSectors m m'
+  pub single : IsSingle m → IsSingle m'
+  pub erased : (d : ℕ) → d < data_blocks m → kind_at m d ≡ kinds.Void → IsSpareIn m' d
+  pub others : (d : ℕ) → d < data_blocks m → kind_at m d ≢ kinds.Void
+      → kind_at m' d ≡ kind_at m d
+  pub live : SameLive (slot_at m) (slot_at m') (slot_count m)
+
+-- the copyings that were found were ended
 abbrev pub EndsFound : Found → List ℕ → List ℕ → Type 0
 EndsFound AtRest m m' = m' ≡ m
 EndsFound (Void t) m m' = EndsCopy m m'

@@ -6,7 +6,9 @@
 //! it decides. A firm mount, where torn bits may waver, programs what it read again before it acts
 //! on it, and moves each block in which a slot is begun. `find` reads a sector. `replace` and
 //! `clear` change one sector: cut, all sectors are as they were, or this one is new. `mount`,
-//! `tidy`, `tidy_urgent` and, unless a Slow was latched, `restore` change none. An error is latched
+//! `tidy`, `tidy_urgent`, `renew_journals`, `renew` and, unless a Slow was latched, `restore`
+//! change none. `renew_journals` erases the journals and `renew` a data block; after a firm mount
+//! nothing is left by both that was programmed before it, but the superblock. An error is latched
 //! until a `restore` that answers Ok.
 //!
 //! **Contents are promised of a clean memory alone** (`IsClean`): one in which every byte that
@@ -30,13 +32,14 @@ mod laws;
 mod map;
 mod mount;
 mod scan;
+mod settling;
 mod steps;
 mod stock;
 mod superblock;
 mod table;
 
 pub use error::MapError;
-pub use found::{Found, Seen, is_counted};
+pub use found::{Found, Seen, is_counted, note_void};
 pub use groups::{has_pair, lowest_dead_group};
 pub use laws::group_chips_are_mountable;
 pub use map::SectorMap;

@@ -5,10 +5,11 @@ ghost use Rattle.std.specs.Prelude.{slice_index_or, OnOk, IfOk, IfErr, IsTrue, I
 ghost use Rattle.std.specs.Result.{IsErrOf};
 ghost use Rattle.chip_model.specs.Geometry.{IsChipSize, sector_count};
 ghost use Rattle.nor_driver.specs.State.{IsNorReady};
-ghost use Rattle.erase_journal.specs.Journals.{IsHealthy};
+ghost use Rattle.erase_journal.specs.Journals.{IsHealthy, unused};
 ghost use Rattle.erase_journal.specs.Recovery.{IsBehind};
+ghost use Rattle.erase_journal.specs.Renewal.{RenewsAll};
 ghost use Rattle.erase_journal.specs.Steps.{EndsSettled};
-ghost use Rattle.sector_slots.specs.Slots.{slot_count, data_blocks, IsClean};
+ghost use Rattle.sector_slots.specs.Slots.{slot_count, data_blocks, IsClean, IsSpareIn};
 ghost use Rattle.sector_slots.specs.Sectors.{sector_at, zeros};
 ghost use Rattle.sector_stock.specs.Takes.{urgent_work, work_of};
 ghost use Rattle.sector_map.specs.Table.{holder};
@@ -21,6 +22,7 @@ use crate::Held;
 use crate::error::MapError;
 use crate::firm::clear_as;
 use crate::mount::mount_slots;
+use crate::settling::{renew_block, renew_journals};
 use crate::steps::{find_sector, tidy_levelled, tidy_when_short, write_levelled};
 use crate::stock::Stock;
 use crate::superblock::look;
@@ -244,6 +246,58 @@ impl<N: Nor> SectorMap<N> {
         }
         match tidy_when_short(&mut self.stock, self.table.as_mut_slice()) {
             Ok(more) => Ok(more),
+            Err(error) => {
+                self.latched = Some(error);
+                Err(error)
+            }
+        }
+    }
+
+    /// Erases the three journals, those that are tired first. No sector changes.
+    pub fn renew_journals(&mut self) -> Result<(), NorError>
+        ensures ok { OnOk result (KeepsMap self.old.memory self.new.memory) }
+        ensures renews { OnOk result (RenewsAll (unused self.old.memory)
+            (unused self.new.memory)) }
+        ensures cut { IsErrOf result NorError.Cut → KeepsMap self.old.memory self.new.memory }
+        ensures size { length self.new.memory ≡ length self.old.memory }
+        ensures ends { EndsSettled result self.old self.new }
+    {
+        if let Some(error) = self.latched {
+            return Err(error);
+        }
+        match renew_journals(&mut self.stock, self.table.as_slice(), self.firmness) {
+            Ok(()) => Ok(()),
+            Err(error) => {
+                self.latched = Some(error);
+                Err(error)
+            }
+        }
+    }
+
+    /// How many data blocks there are, from 12 to 4,092.
+    pub fn data_blocks(&self) -> u16
+        ensures { result ≡ data_blocks self.now.memory }
+    {
+        self.stock.blocks()
+    }
+
+    /// Erases a data block: it is wholly free then. What it holds is copied first, into a block
+    /// that is wholly free, and that was erased since a firm mount. From now on all blocks wear
+    /// alike, as `level_wear` says, and erases are counted anew. No sector of a clean memory
+    /// changes.
+    pub fn renew(&mut self, block: u16) -> Result<(), NorError>
+        requires number { block < data_blocks self.old.memory }
+        ensures ok { OnOk result (KeepsMap self.old.memory self.new.memory) }
+        ensures erased { OnOk result (IsSpareIn self.new.memory block) }
+        ensures cut { IsErrOf result NorError.Cut → KeepsMap self.old.memory self.new.memory }
+        ensures size { length self.new.memory ≡ length self.old.memory }
+        ensures ends { EndsSettled result self.old self.new }
+    {
+        if let Some(error) = self.latched {
+            return Err(error);
+        }
+        match renew_block(&mut self.stock, self.table.as_mut_slice(), block) {
+            Ok(()) => Ok(()),
             Err(error) => {
                 self.latched = Some(error);
                 Err(error)

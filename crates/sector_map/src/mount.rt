@@ -12,16 +12,17 @@ ghost use Rattle.erase_journal.specs.Steps.{SucceedsSettled, EndsSettled};
 ghost use Rattle.sector_slots.specs.Slots.{slot_at, slot_count, data_blocks, kind_at, IsClean};
 ghost use Rattle.sector_slots.specs.Blocks.{AreSettled, HasGroupRoom};
 ghost use Rattle.sector_slots.specs.Sectors.{IsSoundMap, HoldsSectors};
-ghost use Rattle.sector_stock.specs.Copy.{KeepsSectors, EndsCopy};
+ghost use Rattle.sector_stock.specs.Copy.{KeepsSectors, EndsCopy, IsCommittedIn};
 ghost use Rattle.sector_map.specs.Found.{FoundIn, RoomSeen, leaves_room};
 ghost use Rattle.sector_map.specs.Marking.{may_have_groups};
-ghost use Rattle.sector_map.specs.Mending.{EndsFound, MendsBlocks, PairsAreSlots, HasDeadGroup};
+ghost use Rattle.sector_map.specs.Mending.{EndsFound, EndsVoids, MendsBlocks, PairsAreSlots};
+ghost use Rattle.sector_map.specs.Mending.{HasDeadGroup};
 ghost use Rattle.sector_map.specs.Table.{IsTabled, IsTableOf, IsBlankTable, Mends, Repairs, Mounts};
 ghost use Rattle.sector_map.specs.Table.{MountCut};
 ghost use Rattle.sector_map.specs.declared.found.Seen.{Seen as SeenOf};
 
 use crate::firm::{firm_as, move_begun, suspect_as};
-use crate::found::{Found, Seen, has_room};
+use crate::found::{Found, Seen, has_room, is_void};
 use crate::groups::{has_pair, lowest_dead_group, make_room, retire_groups};
 use crate::scan::{is_spare, read_table, survey};
 use crate::superblock::{mark_first, read_marks};
@@ -163,7 +164,7 @@ fn repair<S: Reclaim>(
     Ok(())
 }
 
-/// Steps 6 to 8: ends a copying that was found, retires the older of two blocks of a group, and
+/// Steps 6 to 8: ends the copyings that were found, retires the older of two blocks of a group, and
 /// erases a dead one if no block is wholly free.
 fn mend_blocks<S: SlotCalls>(
     slots: &mut S,
@@ -193,7 +194,8 @@ fn mend_blocks<S: SlotCalls>(
     make_room(slots, has_room(seen))
 }
 
-/// Step 6: ends a copying that was found.
+/// Step 6: ends the copyings that were found. The void blocks are erased first, so that a committed
+/// copy is alone when it is ended.
 fn end_copying<S: SlotCalls>(slots: &mut S, found: Found) -> Result<(), NorError>
     requires found { FoundIn found (S.state slots.old).memory }
     requires sound { IsSoundMap (S.state slots.old).memory }
@@ -210,16 +212,43 @@ fn end_copying<S: SlotCalls>(slots: &mut S, found: Found) -> Result<(), NorError
 {
     match found {
         Found::AtRest => Ok(()),
-        Found::Void(target) => end_void(slots, target),
-        Found::Committed(source, target) => end_copy(slots, source, target),
+        Found::Void(_) => end_voids(slots),
+        Found::Committed(source, target) => {
+            end_voids(slots)?;
+            end_copy(slots, source, target)
+        }
     }
 }
 
-/// Ends a copying that is committed. A source whose slots all read as free isn't erased again: on a
-/// clean memory it is erased, and on any other nothing is said of its bytes.
-fn end_copy<S: SlotCalls>(slots: &mut S, source: u16, target: u16) -> Result<(), NorError>
-    requires found { FoundIn (Found.Committed source target) (S.state slots.old).memory }
+/// Erases each void block: a copy that was begun and never committed. Each erase leaves one fewer,
+/// and no sector changes by it, whole or cut.
+fn end_voids<S: SlotCalls>(slots: &mut S) -> Result<(), NorError>
     requires sound { IsSoundMap (S.state slots.old).memory }
+    ensures ok { OnOk result (EndsVoids (S.state slots.old).memory (S.state slots.new).memory) }
+    ensures cut { IsErrOf result NorError.Cut → IsHealthy (S.state slots.old).memory
+        → KeepsSectors (S.state slots.old).memory (S.state slots.new).memory }
+    ensures healthy { IsErrOf result NorError.Cut → IsHealthy (S.state slots.old).memory
+        → IsHealthy (S.state slots.new).memory }
+    ensures size { length (S.state slots.new).memory ≡ length (S.state slots.old).memory }
+    ensures done { OnOk result ((S.state slots.new ≡ S.state slots.old)
+        ⊎ SucceedsSettled (S.state slots.old) (S.state slots.new)) }
+    ensures fails { IfErr result (λ e. Refuses e (S.state slots.old) (S.state slots.new)) }
+{
+    let count = slots.blocks();
+    for block in 0..count {
+        let kind = slots.kind(block)?;
+        if is_void(kind) {
+            end_void(slots, block)?;
+        }
+    }
+    Ok(())
+}
+
+/// Ends a copying that is committed, the only one that goes on. A source whose slots all read as
+/// free isn't erased again: on a clean memory it is erased, and on any other nothing is said of its
+/// bytes.
+fn end_copy<S: SlotCalls>(slots: &mut S, source: u16, target: u16) -> Result<(), NorError>
+    requires committed { IsCommittedIn source target (S.state slots.old).memory }
     ensures ok { OnOk result (EndsCopy (S.state slots.old).memory (S.state slots.new).memory) }
     ensures cut { IsErrOf result NorError.Cut → IsHealthy (S.state slots.old).memory
         → KeepsSectors (S.state slots.old).memory (S.state slots.new).memory }

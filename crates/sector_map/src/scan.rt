@@ -1,4 +1,4 @@
-//! The blocks are read: what copying goes on, and which slots hold each sector.
+//! The blocks are read: what copyings were cut, and which slots hold each sector.
 
 ghost use Rattle.std.specs.Prelude.{◌≡◌, ◌≢◌, ◌+◌, ◌*◌, ◌<◌, ◌≤◌, ℕ, Bool, true, false, Some, None};
 ghost use Rattle.std.specs.Prelude.{◌||◌, length, IfOk, IsTrue, IsFalse};
@@ -20,7 +20,7 @@ use nor_driver::NorError;
 use nor_layout::{Header, Kind};
 use sector_slots::SlotCalls;
 
-/// Reads the kinds of all blocks: the copying that goes on; None where the blocks are corrupt, or
+/// Reads the kinds of all blocks: the copyings that were cut; None where the blocks are corrupt, or
 /// one is of a group where none may be.
 #[tactic(auto, using(erase_journal::proofs::Calls::repeated_calls))]
 pub fn survey<S: SlotCalls>(slots: &mut S, groups: bool) -> Result<Option<Found>, NorError>
@@ -123,24 +123,30 @@ fn read_block<S: SlotCalls>(
 {
     let mut heads = [Header::Free; 7];
     let kind = slots.head(block, &mut heads)?;
-    if !enter_counted(table, found, block, &heads) {
+    if !enter_counted(table, found, kind, block, &heads) {
         return Ok(None);
     }
     Ok(Some(is_wholly_free(kind, &heads)))
 }
 
-/// Enters the slots of a block, where they count; false where the slots are corrupt.
-fn enter_counted(table: &mut [LiveSlots], found: Found, block: u16, heads: &[Header]) -> bool
+/// Enters the slots of a block of this kind, where they count; false where the slots are corrupt.
+fn enter_counted(
+    table: &mut [LiveSlots],
+    found: Found,
+    kind: Kind,
+    block: u16,
+    heads: &[Header],
+) -> bool
     requires number { block ≤ 4092 }
     requires room { length heads.now ≡ 7 }
-    ensures sound { IsTrue result → block_counts found block ≡ true
+    ensures sound { IsTrue result → block_counts found kind block ≡ true
         → EntersBlock heads.now block table.old table.new }
-    ensures skips { IsTrue result → block_counts found block ≡ false → table.new ≡ table.old }
+    ensures skips { IsTrue result → block_counts found kind block ≡ false → table.new ≡ table.old }
     ensures corrupt { IsFalse result
-        → (block_counts found block ≡ true) × RefusesBlock heads.now block table.old }
+        → (block_counts found kind block ≡ true) × RefusesBlock heads.now block table.old }
     ensures size { length table.new ≡ length table.old }
 {
-    if is_counted(found, block) {
+    if is_counted(found, kind, block) {
         enter_heads(table, block, heads)
     } else {
         true

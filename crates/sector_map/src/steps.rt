@@ -9,7 +9,7 @@ ghost use Rattle.erase_journal.specs.Steps.{SucceedsSettled, EndsSettled};
 ghost use Rattle.erase_journal.specs.Blocks.{SameChip};
 ghost use Rattle.erase_journal.specs.Journals.{IsHealthy, IsSettled};
 ghost use Rattle.sector_slots.specs.Sectors.{sector_at, zeros, IsSingle, IsSoundMap};
-ghost use Rattle.sector_slots.specs.Slots.{slot_count, data_blocks};
+ghost use Rattle.sector_slots.specs.Slots.{slot_count, data_blocks, IsSpareIn};
 ghost use Rattle.sector_stock.specs.Takes.{urgent_work, work_of, IsErasedOnce, IsLeastErased};
 ghost use Rattle.sector_stock.specs.Index.{erases_of};
 ghost use Rattle.sector_stock.specs.Room.{HasNoneDead};
@@ -194,15 +194,20 @@ fn renew_all<S: Reclaim>(stock: &mut S, table: &mut [LiveSlots], least: u16) -> 
     Ok(())
 }
 
-/// Erases a block once more, which none was erased less often than. The table follows, and no
-/// sector changes.
-fn renew_one<S: Reclaim>(stock: &mut S, table: &mut [LiveSlots], block: u16) -> Result<(), NorError>
+/// Erases a block once more, which none was erased less often than: it is wholly free then. The
+/// table follows, and no sector changes.
+pub(crate) fn renew_one<S: Reclaim>(
+    stock: &mut S,
+    table: &mut [LiveSlots],
+    block: u16,
+) -> Result<(), NorError>
     requires served { IsServing table.old (S.state stock.old) (S.indexed stock.old) }
     requires number { block < data_blocks (S.state stock.old).memory }
     requires least { (c : ℕ) → c < data_blocks (S.state stock.old).memory
         → erases_of (S.counts stock.old) block ≤ erases_of (S.counts stock.old) c }
     ensures ok { OnOk result (KeptServing table.new (S.state stock.old) (S.state stock.new)
         (S.indexed stock.new)) }
+    ensures erased { OnOk result (IsSpareIn (S.state stock.new).memory block) }
     ensures counted { OnOk result (IsErasedOnce (data_blocks (S.state stock.old).memory) block
         (erases_of (S.counts stock.old)) (erases_of (S.counts stock.new))) }
     ensures policy { OnOk result (S.policy stock.new ≡ S.policy stock.old) }

@@ -217,6 +217,11 @@ impl<N: Nor> FirmCalls for Stock<N> {
         self.slots.firm()
     }
 
+    fn renew_journals(&mut self) -> Result<(), NorError> {
+        self.indexed = false;
+        self.slots.renew_journals()
+    }
+
     fn firm_head(&mut self, block: u16) -> Result<bool, NorError> {
         self.indexed = false;
         self.slots.firm_head(block)

@@ -15,7 +15,7 @@ use Rattle.nor_layout.specs.Kinds.{kind_of}
 use Rattle.erase_journal.specs.Blocks.{blank, SameChip, OnlyBlock, SameBlocks}
 use Rattle.erase_journal.proofs.BlockLaws.{length-blank, byte-blank}
 use Rattle.sector_slots.specs.Slots.{Slot, Free, slot_with, slot_in, descriptor_in, header_in, written_in, content_bytes, blank_sector, counted, copies, is_copy_of, data_blocks, data_block, kind_at, raw_slot, slot_at, slot_count, IsSpareIn, SameSlots}
-use Rattle.sector_slots.specs.Blocks.{IsAtRest, IsCopying, SoundBlocks, settled, crowded, copying}
+use Rattle.sector_slots.specs.Blocks.{IsAtRest, IsUncommitted, IsCopying, SoundBlocks, settled, crowded, copying}
 use Rattle.sector_slots.proofs.GroupLaws.{room-same, kinds-stay, fit-step}
 use Rattle.sector_slots.specs.Sectors.{IsSoundMap, HoldsSectors, sector_at}
 use Rattle.sector_slots.proofs.WinnerLaws.{sound-stands}
@@ -75,7 +75,7 @@ same-sound kind kind' slots slots' n k x (crowded rest room) = crowded (λ d low
 same-sound kind kind' slots slots' n k x (copying t h) = copying t (record {
   number = h.number;
   copying = subst (λ q. IsCopying q t n) (sym (k t h.number)) h.copying;
-  others = λ d low other. subst (λ q. IsAtRest q) (sym (k d low)) (h.others d low other);
+  others = λ d low other. subst (λ q. IsUncommitted q) (sym (k d low)) (h.others d low other);
 })
 
 -- the same data blocks, in kind and slots, hold the same sectors

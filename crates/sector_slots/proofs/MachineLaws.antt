@@ -5,7 +5,7 @@ use Rattle.erase_journal.specs.Blocks.{SameChip, OnlyBlock}
 use Rattle.nor_layout.specs.Kinds.{kind_of}
 use Rattle.sector_slots.specs.Slots.{Slot, NoGeneration, is_group, slot_in, counted, data_blocks, kind_at, raw_slot, slot_at, slot_count}
 use Rattle.sector_slots.specs.Sectors.{Single, SlotsRepresent, IsSingle, GroupsFit, HoldsSectors}
-use Rattle.sector_slots.specs.Blocks.{IsSettledBlocks, SoundBlocks, settled, crowded, copying, AreSettled, dead_group}
+use Rattle.sector_slots.specs.Blocks.{IsAtRest, IsSettledBlocks, SoundBlocks, settled, crowded, copying, AreSettled, dead_group}
 use Rattle.sector_slots.specs.Copying.{OnlyData, SameLive, Settles, ErasesVoid}
 use Rattle.sector_slots.proofs.CopyLaws.{begin-live, copy-same, erase_source-same, settle-live, erase_void-live}
 use Rattle.sector_slots.specs.Copying.{shifted}
@@ -13,7 +13,7 @@ use Rattle.sector_slots.proofs.CommitLaws.{commit-moves}
 use Rattle.sector_slots.proofs.MoveLaws.{same-back, live-stands, live-single, moves-stands, moves-single}
 use Rattle.sector_slots.proofs.GroupLaws.{only-stays, quiet-stays, fit-step, fit-sized, apart-single}
 use Rattle.sector_slots.proofs.RetireLaws.{spare-quiet, memory-sees, retired-back, single-fewer, retire_group-each, retire_group-stands, retire_group-rest, erase_group-live, erase_group-settled}
-use Rattle.sector_slots.proofs.BlockLaws.{begin-target, copy-target, commit-target, erase_source-target, settle-settled, erase_void-settled}
+use Rattle.sector_slots.proofs.BlockLaws.{begin-target, copy-target, commit-target, erase_source-target, settle-settled, erase_void-settled, erase_void-sound, target-cut}
 use Rattle.sector_slots.specs.Machine.{SlotStep, begins, copies, commits, erases_source, settles, erases_void, retires_group, erases_group}
 
 -- one block of the chip that changes is one data block that does
@@ -45,22 +45,22 @@ pub step-holds : (s t : ℕ) (m m' : List ℕ) (sectors : ℕ → List ℕ) → 
 step-holds s t m m' sectors (begins chip h) holds =
     let live = begin-live t (data_blocks m) (kind_at m) (kind_at m') (raw_slot m) (raw_slot m') h in
     holds-sized m m' sectors chip (live-stands (slot_at m) (after_slots m' (length m)) (slot_count m) (sector_count (length m)) sectors live holds.slots)
-    (copying t (begin-target t (data_blocks m) (kind_at m) (kind_at m') (raw_slot m) (raw_slot m') h))
+    (copying t (target-cut t (data_blocks m) (kind_at m') (begin-target t (data_blocks m) (kind_at m) (kind_at m') (raw_slot m) (raw_slot m') h)))
     (fit-step m m' chip (only-stays t (data_blocks m) (kind_at m) (kind_at m') (raw_slot m) (raw_slot m') (after_slots m' (length m)) h.only (ap is_group h.now ∙ sym (ap is_group h.spare.plain))) (same-back (slot_at m) (after_slots m' (length m)) (slot_count m) live) holds.groups)
 step-holds s t m m' sectors (copies chip h) holds =
     let live = same-live (slot_at m) (after_slots m' (length m)) (slot_count m) (copy-same t (data_blocks m) (kind_at m) (kind_at m') (raw_slot m) (raw_slot m') h) in
     holds-sized m m' sectors chip (live-stands (slot_at m) (after_slots m' (length m)) (slot_count m) (sector_count (length m)) sectors live holds.slots)
-    (copying t (copy-target t (data_blocks m) (kind_at m) (kind_at m') (raw_slot m) (raw_slot m') h))
+    (copying t (target-cut t (data_blocks m) (kind_at m') (copy-target t (data_blocks m) (kind_at m) (kind_at m') (raw_slot m) (raw_slot m') h)))
     (fit-step m m' chip (only-stays t (data_blocks m) (kind_at m) (kind_at m') (raw_slot m) (raw_slot m') (after_slots m' (length m)) h.only (ap is_group h.now ∙ sym (ap is_group h.was))) (same-back (slot_at m) (after_slots m' (length m)) (slot_count m) live) holds.groups)
 step-holds s t m m' sectors (commits chip h single) holds =
     let moves = commit-moves s t (data_blocks m) (kind_at m) (kind_at m') (raw_slot m) (raw_slot m') h holds.slots.sound.whole in
     holds-sized m m' sectors chip (moves-stands (slot_at m) (after_slots m' (length m)) (slot_count m) (sector_count (length m)) sectors (shifted s t) (shifted t s) moves single holds.slots)
-    (copying t (commit-target s t (data_blocks m) (kind_at m) (kind_at m') (raw_slot m) (raw_slot m') h))
+    (copying t (target-cut t (data_blocks m) (kind_at m') (commit-target s t (data_blocks m) (kind_at m) (kind_at m') (raw_slot m) (raw_slot m') h)))
     (fit-sized m m' chip (apart-single (kind_at m') (after_slots m' (length m)) (slot_count m) (moves-single (slot_at m) (after_slots m' (length m)) (slot_count m) (shifted s t) (shifted t s) moves single)) (only-stays t (data_blocks m) (kind_at m) (kind_at m') (raw_slot m) (raw_slot m') (after_slots m' (length m)) h.only (ap is_group h.now ∙ sym (ap is_group h.was))) holds.groups.layout)
 step-holds s t m m' sectors (erases_source chip h) holds =
     let live = same-live (slot_at m) (after_slots m' (length m)) (slot_count m) (erase_source-same s t (data_blocks m) (kind_at m) (kind_at m') (raw_slot m) (raw_slot m') h) in
     holds-sized m m' sectors chip (live-stands (slot_at m) (after_slots m' (length m)) (slot_count m) (sector_count (length m)) sectors live holds.slots)
-    (copying t (erase_source-target s t (data_blocks m) (kind_at m) (kind_at m') (raw_slot m) (raw_slot m') h))
+    (copying t (target-cut t (data_blocks m) (kind_at m') (erase_source-target s t (data_blocks m) (kind_at m) (kind_at m') (raw_slot m) (raw_slot m') h)))
     (fit-step m m' chip (quiet-stays s (data_blocks m) (kind_at m) (kind_at m') (raw_slot m) (raw_slot m') (after_slots m' (length m)) h.only (ap is_group h.now.plain) (spare-quiet s (data_blocks m) (kind_at m') (raw_slot m') h.now)) (same-back (slot_at m) (after_slots m' (length m)) (slot_count m) live) holds.groups)
 step-holds s t m m' sectors (settles chip h) holds =
     let live = settle-live s t (data_blocks m) (kind_at m) (kind_at m') (raw_slot m) (raw_slot m') h in
@@ -70,7 +70,7 @@ step-holds s t m m' sectors (settles chip h) holds =
 step-holds s t m m' sectors (erases_void chip h) holds =
     let live = erase_void-live t (data_blocks m) (kind_at m) (kind_at m') (raw_slot m) (raw_slot m') h in
     holds-sized m m' sectors chip (live-stands (slot_at m) (after_slots m' (length m)) (slot_count m) (sector_count (length m)) sectors live holds.slots)
-    (settled (erase_void-settled t (data_blocks m) (kind_at m) (kind_at m') (raw_slot m) (raw_slot m') h))
+    (erase_void-sound t (data_blocks m) (kind_at m) (kind_at m') (raw_slot m) (raw_slot m') h holds.blocks)
     (fit-step m m' chip (only-stays t (data_blocks m) (kind_at m) (kind_at m') (raw_slot m) (raw_slot m') (after_slots m' (length m)) h.only (ap is_group h.now.plain ∙ sym (ap is_group h.was))) (same-back (slot_at m) (after_slots m' (length m)) (slot_count m) live) holds.groups)
 step-holds s t m m' sectors (retires_group chip h) holds =
     let sees = memory-sees m in
@@ -99,11 +99,11 @@ step-single s t m m' (retires_group chip h) whole single =
 step-single s t m m' (erases_group chip h) whole single = single-sized m m' chip (live-single (slot_at m) (after_slots m' (length m)) (slot_count m) (erase_group-live t (data_blocks m) (kind_at m) (kind_at m') (raw_slot m) (raw_slot m') (memory-sees m) h) single)
 
 pub last-settles : (s t : ℕ) (m m' : List ℕ) → SameChip m m'
-    → Settles s t (data_blocks m) (kind_at m) (kind_at m') (raw_slot m) (raw_slot m') ⊎ ErasesVoid t (data_blocks m) (kind_at m) (kind_at m') (raw_slot m) (raw_slot m')
+    → Settles s t (data_blocks m) (kind_at m) (kind_at m') (raw_slot m) (raw_slot m') ⊎ (ErasesVoid t (data_blocks m) (kind_at m) (kind_at m') (raw_slot m) (raw_slot m') × ((d : ℕ) → d < data_blocks m → d ≢ t → IsAtRest (kind_at m d)))
     → AreSettled m'
 last-settles s t m m' chip either =
     let b : IsSettledBlocks (kind_at m') (raw_slot m') (data_blocks m) = elim either as (λ _. IsSettledBlocks (kind_at m') (raw_slot m') (data_blocks m)) [
       | inl h ↦ settle-settled s t (data_blocks m) (kind_at m) (kind_at m') (raw_slot m) (raw_slot m') h
-      | inr h ↦ erase_void-settled t (data_blocks m) (kind_at m) (kind_at m') (raw_slot m) (raw_slot m') h
+      | inr h ↦ erase_void-settled t (data_blocks m) (kind_at m) (kind_at m') (raw_slot m) (raw_slot m') h.0 h.1
     ] in
     subst (λ n. IsSettledBlocks (kind_at m') (raw_slot m') (block_count n - 4)) (sym chip.same_length) b

@@ -1,5 +1,5 @@
--- The data blocks while one is copied: no copying goes on, or one does; all else is corrupt.
--- Source: own, layout 2.
+-- The data blocks while one is copied: no copying goes on, or one does, or several were cut; all
+-- else is corrupt. Source: own, layout 2.
 use Rattle.std.specs.Prelude.{◌≡◌, ◌≢◌, ◌⊎◌, ◌↔◌, ℕ, ◌+◌, ◌<◌, ◌≤◌, List}
 use Rattle.nor_layout.specs.declared.header.Tag.{Tag}
 use Rattle.nor_layout.specs.declared.kind.Kind.{Kind}
@@ -16,6 +16,17 @@ IsAtRest (kinds.Group tag) = Unit {0}
 IsAtRest kinds.DeadGroup = Unit {0}
 IsAtRest kinds.SpoiltGroup = Unit {0}
 IsAtRest kinds.Unknown = ⊥
+
+-- a block that is known and no committed copy: at rest, or void
+abbrev pub IsUncommitted : Kind → Type 0
+IsUncommitted kinds.Plain = Unit {0}
+IsUncommitted kinds.Void = Unit {0}
+IsUncommitted (kinds.Committed b) = ⊥
+IsUncommitted kinds.Settled = Unit {0}
+IsUncommitted (kinds.Group tag) = Unit {0}
+IsUncommitted kinds.DeadGroup = Unit {0}
+IsUncommitted kinds.SpoiltGroup = Unit {0}
+IsUncommitted kinds.Unknown = ⊥
 
 -- A block of this kind, data block t of n, is one into which a block is copied: void, or the
 -- committed copy of another data block.
@@ -39,6 +50,14 @@ pub record IsTarget (t n : ℕ) (kind : ℕ → Kind) : Type 0 where
   pub copying : IsCopying (kind t) t n
   pub others : (d : ℕ) → d < n → d ≢ t → IsAtRest (kind d)
 
+-- What losses of power may leave: block t is one into which a block was copied, and any number of
+-- the others are void. (The mark of a copying that was cut as it began may read as free until a
+-- later power-on, so two void blocks may be seen at once; their slots don't count.)
+pub record IsCutTarget (t n : ℕ) (kind : ℕ → Kind) : Type 0 where
+  pub number : t < n
+  pub copying : IsCopying (kind t) t n
+  pub others : (d : ℕ) → d < n → d ≢ t → IsUncommitted (kind d)
+
 -- As it is between two calls: no copying goes on, and a block is wholly free.
 pub record IsSettledBlocks (kind : ℕ → Kind) (slots : ℕ → ℕ → Slot) (n : ℕ) : Type 0 where
   pub rest : AreAtRest kind n
@@ -54,11 +73,11 @@ pub data HasGroupRoom (kind : ℕ → Kind) (n : ℕ) : Type 0 where
       → kind d ≡ kinds.Group b → a.number ≡ b.number → HasGroupRoom kind n
 
 -- Blocks without a corrupt case: no copying goes on, and a block is wholly free or can be made so;
--- or one goes on.
+-- or one goes on, or several were cut, at most one of them after its commit.
 pub data SoundBlocks (kind : ℕ → Kind) (slots : ℕ → ℕ → Slot) (n : ℕ) : Type 0 where
   settled : IsSettledBlocks kind slots n → SoundBlocks kind slots n
   crowded : AreAtRest kind n → HasGroupRoom kind n → SoundBlocks kind slots n
-  copying : (t : ℕ) → IsTarget t n kind → SoundBlocks kind slots n
+  copying : (t : ℕ) → IsCutTarget t n kind → SoundBlocks kind slots n
 
 -- A memory's.
 abbrev pub AreSound : List ℕ → Type 0
@@ -80,8 +99,9 @@ IsReserveOf r m = IsReserve r (kind_at m) (raw_slot m) (data_blocks m)
 pub record BlocksHaveNoFault (kind : ℕ → Kind) (slots : ℕ → ℕ → Slot) (n : ℕ) : Type 0 where
   -- each block is of slots, its state byte one of the four, or of a group
   pub known : (c : ℕ) → c < n → kind c ≢ kinds.Unknown
-  -- no two blocks are void or committed
-  pub one : (c d : ℕ) → c < n → d < n → c ≢ d → IsAtRest (kind c) ⊎ IsAtRest (kind d)
+  -- no two blocks are committed
+  pub one : (c d a b : ℕ) → c < n → d < n → c ≢ d → kind c ≡ kinds.Committed a
+      → kind d ≢ kinds.Committed b
   -- a committed block's source is another data block, by its number on the chip
   pub source : (c b : ℕ) → c < n → kind c ≡ kinds.Committed b → (4 ≤ b) × (b < n + 4) × (b ≢ c + 4)
   -- where none is void or committed, one is wholly free, or can be made so

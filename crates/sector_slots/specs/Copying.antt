@@ -128,9 +128,9 @@ pub record Settles (s t n : ℕ) (kind kind' : ℕ → Kind) (slots slots' : ℕ
   pub same : (i : ℕ) → i < 7 → slots' t i ≡ slots t i
   pub now : kind' t ≡ kinds.Settled
 
--- and the erase of a void block, at mount.
+-- and the erase of a void block, at mount, whatever goes on beside it.
 pub record ErasesVoid (t n : ℕ) (kind kind' : ℕ → Kind) (slots slots' : ℕ → ℕ → Slot) : Type 0 where
-  pub target : IsTarget t n kind
+  pub number : t < n
   pub was : kind t ≡ kinds.Void
   pub only : OnlyData t n kind kind' slots slots'
   pub now : IsSpare kind' slots' t

@@ -1,10 +1,10 @@
 -- A memory as a machine (docs/SECTORS.md): the steps of a copying on its data blocks, and that each
 -- keeps the map of sectors. Source: own, layout 2.
-use Rattle.std.specs.Prelude.{◌⊎◌, ℕ, List}
+use Rattle.std.specs.Prelude.{◌≢◌, ◌⊎◌, ℕ, ◌<◌, List}
 use Rattle.erase_journal.specs.Blocks.{SameChip}
 use Rattle.sector_slots.specs.Slots.{data_blocks, kind_at, raw_slot}
 use Rattle.sector_slots.specs.Sectors.{IsSingle, IsSoundMap, HoldsSectors}
-use Rattle.sector_slots.specs.Blocks.{AreSettled}
+use Rattle.sector_slots.specs.Blocks.{IsAtRest, AreSettled}
 use Rattle.sector_slots.specs.Copying.{BeginsCopy, CopiesIn, Commits, ErasesSource, Settles}
 use Rattle.sector_slots.specs.Copying.{ErasesVoid, RetiresGroup, ErasesGroup}
 
@@ -39,9 +39,11 @@ abbrev pub StepsKeepSingles : Type 0
 StepsKeepSingles = (s t : ℕ) (m m' : List ℕ) → SlotStep s t m m' → IsSoundMap m → IsSingle m
     → IsSingle m'
 
--- The last step of a copying, and a void block's erase, leave no copying behind.
+-- The last step of a copying leaves no copying behind; nor does a void block's erase, where nothing
+-- else was void or committed.
 abbrev pub LastStepsSettle : Type 0
 LastStepsSettle = (s t : ℕ) (m m' : List ℕ) → SameChip m m'
     → Settles s t (data_blocks m) (kind_at m) (kind_at m') (raw_slot m) (raw_slot m')
-    ⊎ ErasesVoid t (data_blocks m) (kind_at m) (kind_at m') (raw_slot m) (raw_slot m')
+    ⊎ (ErasesVoid t (data_blocks m) (kind_at m) (kind_at m') (raw_slot m) (raw_slot m')
+    × ((d : ℕ) → d < data_blocks m → d ≢ t → IsAtRest (kind_at m d)))
     → AreSettled m'

@@ -5,7 +5,8 @@
 ghost use Rattle.std.specs.Prelude.{◌≡◌, ◌⊎◌, ◌<◌, length, OnOk, IfOk, IsTrue, IsFalse};
 ghost use Rattle.std.specs.Result.{IsErrOf};
 ghost use Rattle.erase_journal.specs.Blocks.{SameChip, SameBlocks};
-ghost use Rattle.erase_journal.specs.Journals.{IsHealthy};
+ghost use Rattle.erase_journal.specs.Journals.{IsHealthy, unused};
+ghost use Rattle.erase_journal.specs.Renewal.{RenewsAll};
 ghost use Rattle.erase_journal.specs.Steps.{EndsSettled, KeepsBlocks};
 ghost use Rattle.sector_slots.specs.Firm.{KeepsHead, HoldsBegun};
 ghost use Rattle.sector_slots.specs.Slots.{Free, Dead, slot_at, slot_count, data_blocks, IsClean};
@@ -21,6 +22,17 @@ pub trait FirmCalls: SlotCalls {
     fn firm(&mut self) -> Result<(), NorError>
         ensures blocks { OnOk result (SameBlocks (Self.state self.old).memory
             (Self.state self.new).memory) }
+        ensures cut { IsErrOf result NorError.Cut → IsHealthy (Self.state self.old).memory
+            → KeepsBlocks (Self.state self.old).memory (Self.state self.new).memory }
+        ensures size { length (Self.state self.new).memory ≡ length (Self.state self.old).memory }
+        ensures ends { EndsSettled result (Self.state self.old) (Self.state self.new) };
+
+    /// Erases each of the three journals, as `Journal::renew_all` does. No block changes.
+    fn renew_journals(&mut self) -> Result<(), NorError>
+        ensures blocks { OnOk result (SameBlocks (Self.state self.old).memory
+            (Self.state self.new).memory) }
+        ensures renews { OnOk result (RenewsAll (unused (Self.state self.old).memory)
+            (unused (Self.state self.new).memory)) }
         ensures cut { IsErrOf result NorError.Cut → IsHealthy (Self.state self.old).memory
             → KeepsBlocks (Self.state self.old).memory (Self.state self.new).memory }
         ensures size { length (Self.state self.new).memory ≡ length (Self.state self.old).memory }

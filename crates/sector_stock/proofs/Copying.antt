@@ -23,7 +23,7 @@ use Rattle.nor_layout.specs.Kinds.{kind_of}
 use Rattle.sector_slots.proofs.CleanLaws.{clean-only, clean-blocks, void-clean, commit-clean, erase_source-clean, settle-clean, committed-clean}
 use Rattle.sector_slots.proofs.BlankLaws.{blank-content, counted-same, erased-spare, same-holds, unchanged-holds, blocks-holds, sound-holds, holds-sound}
 use Rattle.nor_layout.specs.declared.header.Tag.{Tag}
-use Rattle.sector_stock.specs.Copy.{IsFresh, bare, SameSectors, KeepsSectors, Stays, IsCopyable, IsFinished, Copies, Reclaimed, EndsCopy, IsVoidIn, IsCommittedIn}
+use Rattle.sector_stock.specs.Copy.{IsFresh, bare, SameSectors, KeepsSectors, Stays, IsCopyable, IsFinished, Copies, Reclaimed, EndsCopy, EndsVoid, IsVoidIn, IsCommittedIn}
 use Rattle.sector_stock.specs.CopySteps.{IsCopiedTo, IsExactTo, CopyProgress, Finishes, FinishLeaves}
 use Rattle.sector_stock.proofs.Tags.{bare-whole, tags-sound, bare-to_copy, to_copy-whole}
 
@@ -473,7 +473,7 @@ live-after m m' chip live w low = elim (live w low) as (λ _. (slot_at m' w ≡ 
 
 -- A mount ends a copying: a void block is erased.
 voids-now : (t : ℕ) (m m' : List ℕ) → IsVoidIn t m → WithErased (t + 4) m m' → ErasesVoid t (data_blocks m) (kind_at m) (kind_at m') (raw_slot m) (raw_slot m')
-voids-now t m m' h w = record { target = h.target; was = h.void; only = block-data t m m' w.only; now = erased-spare m' t w.erased }
+voids-now t m m' h w = record { number = h.number; was = h.void; only = block-data t m m' w.only; now = erased-spare m' t w.erased }
 
 void-keeps : (t : ℕ) (m m' : List ℕ) → IsVoidIn t m → WithErased (t + 4) m m' → IsClean m → IsClean m'
 void-keeps t m m' h w clean =
@@ -488,19 +488,15 @@ pub void-cut : (t : ℕ) (m m' : List ℕ) → IsVoidIn t m → EraseInterrupted
 void-cut t m m' h (as_it_was w) = keeps m m' w.blocks.chip (λ sectors holds. blocks-holds m m' sectors w.blocks holds) (blocks-alone m m' w.blocks) (same-clean m m' w.blocks)
 void-cut t m m' h (block_erased healthy w) = keeps m m' w.only.chip (step-sectors t t m m' (erases_void w.only.chip (voids-now t m m' h w))) (of-kind t m m' kinds.Plain w.only (voids-now t m m' h w).now.plain refl) (void-keeps t m m' h w)
 
-pub void-done : (t : ℕ) (m m' : List ℕ) → IsVoidIn t m → WithErased (t + 4) m m' → IsSoundMap m → EndsCopy m m'
+pub void-done : (t : ℕ) (m m' : List ℕ) → IsVoidIn t m → WithErased (t + 4) m m' → IsSoundMap m → EndsVoid t m m'
 void-done t m m' h w sound =
     let now = voids-now t m m' h w in
     let step = erases_void w.only.chip now in
     record {
-      whole = record {
-        chip = w.only.chip;
-        sectors = step-sectors t t m m' step;
-        single = λ one. step-singles t t m m' step sound one;
-        blocks = last-settles t t m m' w.only.chip (inr now);
-        alone = of-kind t m m' kinds.Plain w.only now.now.plain refl;
-        clean = void-keeps t m m' h w;
-      };
+      keeps = keeps m m' w.only.chip (step-sectors t t m m' step) (of-kind t m m' kinds.Plain w.only now.now.plain refl) (void-keeps t m m' h w);
+      single = λ one. step-singles t t m m' step sound one;
+      erased = now.now;
+      blocks = λ d low other. w.only.others (d + 4) (omega arith) (omega (arith, low)) (λ e. other (omega (arith, e)));
       live = live-after m m' w.only.chip (erase_void-live t (data_blocks m) (kind_at m) (kind_at m') (raw_slot m) (raw_slot m') now);
     }
 

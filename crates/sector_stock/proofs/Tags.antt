@@ -9,7 +9,7 @@ use Rattle.nor_layout.specs.declared.header.Tag.{Tag}
 use Rattle.nor_layout.specs.declared.kind.Kind.{Kind}
 use Rattle.sector_slots.specs.Slots.{Slot, Free, Live, NoGeneration, Dead, Outside, is_group, counted, is_counted, data_blocks, kind_at, raw_slot, slot_at, slot_count}
 use Rattle.sector_slots.specs.Blocks.{SoundBlocks, copying}
-use Rattle.sector_slots.proofs.BlockLaws.{commit-target}
+use Rattle.sector_slots.proofs.BlockLaws.{commit-target, target-cut}
 use Rattle.nor_layout.specs.declared.kind.Kind.TheVariants as kinds
 use Rattle.sector_slots.specs.Copying.{Commits, copied_tag, to_copy}
 use Rattle.sector_slots.proofs.CopyLaws.{IsWhole, quiet-live}
@@ -151,6 +151,6 @@ tags-sound s t m m' chip now sound single =
     let one = moves-single old new (slot_count m) (shifted s t) (shifted t s) moves (bare-single (slot_at m) old (slot_count m) (counted-bare (kind_at m) (raw_slot m) n) single) in
     let one' = single-of_bare (counted (kind_at m') (raw_slot m') n) new (slot_count m) (counted-bare (kind_at m') (raw_slot m') n) one in
     sound-sized m m' chip (sound-bare (counted (kind_at m') (raw_slot m') n) new (slot_count m) count (counted-bare (kind_at m') (raw_slot m') n) after.sound)
-    (copying t (commit-target s t n (kind_at m) (kind_at m') (λ c i. bare (raw_slot m c i)) (λ c i. bare (raw_slot m' c i)) now))
+    (copying t (target-cut t n (kind_at m') (commit-target s t n (kind_at m) (kind_at m') (λ c i. bare (raw_slot m c i)) (λ c i. bare (raw_slot m' c i)) now)))
     (fit-sized m m' chip (apart-single (kind_at m') (counted (kind_at m') (raw_slot m') n) (slot_count m) one')
     (only-stays t n (kind_at m) (kind_at m') (λ c i. bare (raw_slot m c i)) (λ c i. bare (raw_slot m' c i)) (counted (kind_at m') (raw_slot m') n) now.only (ap is_group now.now ∙ sym (ap is_group now.was))) sound.groups.layout)

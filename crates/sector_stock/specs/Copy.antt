@@ -100,11 +100,22 @@ pub record MovesAfresh (s t : ℕ) (m m' : List ℕ) : Type 0 where
   pub copies : Copies s t m m'
   pub keeps : KeepsSectors m m'
 
--- Block t is void; or it is the committed copy of block s. So a mount may find it.
+-- Block t is void, whatever goes on beside it. So a mount may find it.
 pub record IsVoidIn (t : ℕ) (m : List ℕ) : Type 0 where
-  pub target : IsTarget t (data_blocks m) (kind_at m)
+  pub number : t < data_blocks m
   pub void : kind_at m t ≡ kinds.Void
 
+-- What its erase leaves, one void block fewer: block t is wholly free, all others are as they were,
+-- and each slot that counts is as it was, or represents nothing before and after.
+pub record EndsVoid (t : ℕ) (m m' : List ℕ) : Type 0 where
+  pub keeps : KeepsSectors m m'
+  pub single : IsSingle m → IsSingle m'
+  pub erased : IsSpareIn m' t
+  pub blocks : (d : ℕ) → d < data_blocks m → d ≢ t → data_block m' d ≡ data_block m d
+  pub live : SameLive (slot_at m) (slot_at m') (slot_count m)
+
+-- Block t is the committed copy of block s, and no other copying goes on. So a mount may find it
+-- once it has erased the void blocks.
 pub record IsCommittedIn (s t : ℕ) (m : List ℕ) : Type 0 where
   pub target : IsTarget t (data_blocks m) (kind_at m)
   pub committed : kind_at m t ≡ kinds.Committed (s + 4)

@@ -9,7 +9,7 @@ ghost use Rattle.sector_slots.specs.Slots.{data_blocks, IsSpareIn};
 ghost use Rattle.sector_slots.specs.Sectors.{IsSoundMap};
 ghost use Rattle.sector_stock.specs.Copy.{KeepsSectors, Stays, IsCopyable, IsFinished, Copies};
 ghost use Rattle.sector_stock.specs.Copy.{IsFresh, MovesAfresh};
-ghost use Rattle.sector_stock.specs.Copy.{EndsCopy, IsVoidIn, IsCommittedIn};
+ghost use Rattle.sector_stock.specs.Copy.{EndsCopy, EndsVoid, IsVoidIn, IsCommittedIn};
 ghost use Rattle.sector_stock.specs.CopySteps.{IsCopiedTo, CopyProgress, Finishes, FinishLeaves};
 
 use nor_driver::NorError;
@@ -140,14 +140,14 @@ fn finish<S: SlotCalls>(slots: &mut S, source: u16, target: u16) -> Result<(), N
     end_committed(slots, source, target)?;
     Ok(())
 }
-/// Ends a copying that was interrupted before its commit: the void block is erased. Cut, it leaves
-/// the map of sectors as it was.
+/// Ends a copying that was interrupted before its commit, whatever goes on beside it: the void
+/// block is erased. Cut, it leaves the map of sectors as it was.
 pub fn end_void<S: SlotCalls>(slots: &mut S, target: u16) -> Result<(), NorError>
     requires target { target < data_blocks (S.state slots.old).memory }
     requires void { IsNorReady (S.state slots.old) → IsVoidIn target (S.state slots.old).memory }
     ensures ok { OnOk result (IsVoidIn target (S.state slots.old).memory
         → IsSoundMap (S.state slots.old).memory
-        → EndsCopy (S.state slots.old).memory (S.state slots.new).memory) }
+        → EndsVoid target (S.state slots.old).memory (S.state slots.new).memory) }
     ensures cut { IsErrOf result NorError.Cut → IsHealthy (S.state slots.old).memory
         → IsVoidIn target (S.state slots.old).memory
         → KeepsSectors (S.state slots.old).memory (S.state slots.new).memory }

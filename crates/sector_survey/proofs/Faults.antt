@@ -18,7 +18,7 @@ use Rattle.nor_layout.specs.Superblock.{layout_in}
 use Rattle.erase_journal.specs.Journals.{tally_of}
 use Rattle.erase_journal.proofs.Faulty.{sound_has_no_fault}
 use Rattle.sector_slots.specs.Slots.{Slot, Live, is_group, slot_with, slot_at, slot_count, kind_at, raw_slot, data_blocks}
-use Rattle.sector_slots.specs.Blocks.{IsAtRest, SoundBlocks, settled, crowded, copying}
+use Rattle.sector_slots.specs.Blocks.{SoundBlocks, settled, crowded, copying}
 use Rattle.sector_slots.specs.Sectors.{LiveAt, SoundSlots, is_next}
 use Rattle.sector_slots.proofs.BlockLaws.{sound-no_fault}
 use Rattle.sector_slots.proofs.SectorLaws.{never-round}
@@ -37,7 +37,7 @@ use Rattle.nor_driver.specs.State.{NorState}
 use Rattle.erase_journal.specs.Steps.{SucceedsSettled}
 use Rattle.sector_map.proofs.Retiring.{two-apart, succeeds-perhaps}
 use Rattle.sector_map.proofs.Grouping.{pair-held, ApartBelow, apart-quiet, apart-two}
-use Rattle.sector_survey.specs.Findings.{IsBusy, IsNoSource, HoldsOne, AreNoNeighbours, AreThree, HasNoRoom, IsSlotFault, IsSlotFaultIn, Explains}
+use Rattle.sector_survey.specs.Findings.{IsCommitted, IsNoSource, HoldsOne, AreNoNeighbours, AreThree, HasNoRoom, IsSlotFault, IsSlotFaultIn, Explains}
 use Rattle.sector_survey.specs.Steps.{IsTargetOf, IsKindFault, IsTagFault, IsHeadFault}
 use Rattle.sector_survey.proofs.Voting.{journal-refused}
 use Rattle.sector_survey.specs.declared.finding.Finding.{Finding}
@@ -47,15 +47,15 @@ use Rattle.sector_survey.specs.declared.finding.Finding.TheVariants as findings
 refused-layout : (r : Result Layout SuperError) (e : SuperError) → r ≡ Err e → is_layout r ≡ true → ⊥
 refused-layout r e is laid = let h : false ≡ true = sym (ap is_layout is) ∙ laid in cc
 
-busy-rest : (k : Kind) → IsBusy k → IsAtRest k → ⊥
-busy-rest kinds.Plain b r = b
-busy-rest kinds.Void b r = r
-busy-rest (kinds.Committed source) b r = r
-busy-rest kinds.Settled b r = b
-busy-rest (kinds.Group tag) b r = b
-busy-rest kinds.DeadGroup b r = b
-busy-rest kinds.SpoiltGroup b r = b
-busy-rest kinds.Unknown b r = b
+committed-of : (k : Kind) → IsCommitted k → (b : ℕ) × (k ≡ kinds.Committed b)
+committed-of kinds.Plain c = absurd c
+committed-of kinds.Void c = absurd c
+committed-of (kinds.Committed source) c = (source, refl)
+committed-of kinds.Settled c = absurd c
+committed-of (kinds.Group tag) c = absurd c
+committed-of kinds.DeadGroup c = absurd c
+committed-of kinds.SpoiltGroup c = absurd c
+committed-of kinds.Unknown c = absurd c
 
 no-source : (b c n : ℕ) → IsNoSource b c n → 4 ≤ b → b < n + 4 → b ≢ c + 4 → ⊥
 no-source b c n (inl low) least most other = omega (arith, low, least)
@@ -107,7 +107,9 @@ finding-refused (findings.TwoCopyings c d) m h is =
     let n = (sound-no_fault (kind_at m) (raw_slot m) (data_blocks m)).0 is.store.slots.blocks in
     let below = h.0 in
     let low = h.1 in
-    elim (n.one c d (omega (arith, below, low)) low (λ e. omega (arith, e, below))) [ inl r ↦ busy-rest (kind_at m c) h.2 r | inr r ↦ busy-rest (kind_at m d) h.3 r ]
+    let one = committed-of (kind_at m c) h.2 in
+    let two = committed-of (kind_at m d) h.3 in
+    n.one c d one.0 two.0 (omega (arith, below, low)) low (λ e. omega (arith, e, below)) one.1 two.1
 finding-refused (findings.WrongSource c b) m h is =
     let n = (sound-no_fault (kind_at m) (raw_slot m) (data_blocks m)).0 is.store.slots.blocks in
     let p = n.source c b h.0 h.1 in
@@ -127,16 +129,10 @@ groups-two m groups e none = elim (cases_eq (layout_in m) 2) [
   | inr other ↦ (let h : false ≡ true = sym none ∙ (e ∙ ap not (ne_eqb (layout_in m) 2 other)) in absurd (let q : false ≡ true = h in cc))
 ]
 
-void-is-busy : (k : Kind) → k ≡ kinds.Void → IsBusy k
-void-is-busy k e = subst (λ z. IsBusy z) (sym e) tt
-
-committed-is-busy : (k : Kind) (b : ℕ) → k ≡ kinds.Committed b → IsBusy k
-committed-is-busy k b e = subst (λ z. IsBusy z) (sym e) tt
-
-target-busy : (found : Found) (kind : ℕ → Kind) (k n c : ℕ) → IsTargetOf found c → FoundBelow found kind k n → (c < k) × IsBusy (kind c)
-target-busy AtRest kind k n c t h = absurd t
-target-busy (Void w) kind k n c t h = subst (λ z. (z < k) × IsBusy (kind z)) (sym t) (h.number, void-is-busy (kind w) h.void)
-target-busy (Committed s w) kind k n c t h = subst (λ z. (z < k) × IsBusy (kind z)) (sym t) (h.number, committed-is-busy (kind w) (s + 4) h.committed)
+target-committed : (found : Found) (kind : ℕ → Kind) (k n c : ℕ) → IsTargetOf found c → FoundBelow found kind k n → (c < k) × IsCommitted (kind c)
+target-committed AtRest kind k n c t h = absurd t
+target-committed (Void w) kind k n c t h = absurd t
+target-committed (Committed s w) kind k n c t h = subst (λ z. (z < k) × IsCommitted (kind z)) (sym t) (h.number, subst (λ z. IsCommitted z) (sym h.committed) tt)
 
 pub kind-explains : (finding : Finding) (groups : Bool) (found : Found) (m : List ℕ) (k : ℕ) → IsKindFault finding groups found k (kind_at m k) (data_blocks m) → k < data_blocks m → FoundBelow found (kind_at m) k (data_blocks m) → groups ≡ may_have_groups m → Explains finding m
 kind-explains findings.OtherLayout groups found m k h low f e = absurd h
@@ -145,8 +141,8 @@ kind-explains (findings.Journals fault) groups found m k h low f e = absurd h
 kind-explains (findings.UnknownBlock c) groups found m k h low f e = subst (λ z. (z < data_blocks m) × (kind_at m z ≡ kinds.Unknown)) (sym h.0) (low, h.1)
 kind-explains (findings.GroupOnSlots c) groups found m k h low f e = subst (λ z. (layout_in m ≡ 2) × (z < data_blocks m) × (is_group (kind_at m z) ≡ true)) (sym h.0) (groups-two m groups e h.2, low, h.1)
 kind-explains (findings.TwoCopyings c d) groups found m k h low f e =
-    let t = target-busy found (kind_at m) k (data_blocks m) c h.2 f in
-    subst (λ z. (c < z) × (z < data_blocks m) × IsBusy (kind_at m c) × IsBusy (kind_at m z)) (sym h.0) (t.0, low, t.1, h.1)
+    let t = target-committed found (kind_at m) k (data_blocks m) c h.2 f in
+    subst (λ z. (c < z) × (z < data_blocks m) × IsCommitted (kind_at m c) × IsCommitted (kind_at m z)) (sym h.0) (t.0, low, t.1, h.1)
 kind-explains (findings.WrongSource c b) groups found m k h low f e = subst (λ z. (z < data_blocks m) × (kind_at m z ≡ kinds.Committed b) × IsNoSource b z (data_blocks m)) (sym h.0) (low, h.1, h.2)
 kind-explains findings.NoRoom groups found m k h low f e = absurd h
 kind-explains (findings.NoGeneration s) groups found m k h low f e = absurd h

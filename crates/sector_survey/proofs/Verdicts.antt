@@ -19,7 +19,7 @@ use Rattle.sector_slots.specs.Blocks.{IsAtRest, HasGroupRoom, dead_group, two_bl
 use Rattle.sector_slots.specs.Sectors.{IsSoundMap, sector_at}
 use Rattle.sector_slots.proofs.BlankLaws.{same-blocks_slots, blocks-holds, holds-sound, sound-holds}
 use Rattle.sector_map.specs.Maps.{IsLaidOut, is_layout, geometry_of}
-use Rattle.sector_survey.specs.Findings.{IsBusy, IsNoSource, HoldsOne, Explains}
+use Rattle.sector_survey.specs.Findings.{IsCommitted, IsNoSource, HoldsOne, Explains}
 use Rattle.sector_survey.specs.Verdicts.{Tells, TellsBehind, IsCorruptFor, ExaminationFails}
 use Rattle.sector_survey.specs.declared.finding.Finding.{Finding}
 use Rattle.sector_survey.specs.declared.finding.Finding.TheVariants as findings
@@ -86,7 +86,7 @@ explains-back (findings.TwoCopyings c d) m m' s healthy h =
     let low = below m m' d s h.1 in
     let less = h.0 in
     let first : c < data_blocks m = omega (arith, low, less) in
-    (less, low, subst (λ z. IsBusy z) (kind-same m m' c s first) h.2, subst (λ z. IsBusy z) (kind-same m m' d s low) h.3)
+    (less, low, subst (λ z. IsCommitted z) (kind-same m m' c s first) h.2, subst (λ z. IsCommitted z) (kind-same m m' d s low) h.3)
 explains-back (findings.WrongSource c b) m m' s healthy h =
     let low = below m m' c s h.0 in
     (low, sym (kind-same m m' c s low) ∙ h.1, subst (λ n. IsNoSource b c n) (count-same m m' s) h.2)

@@ -17,7 +17,7 @@ pub journal-refused : (fault : JournalFault) (s : JournalTally) → IsJournalFau
 journal-refused (faults.TwoDoomed x) s h n = n.one_doomed x h.0 h.1
 journal-refused (faults.WrongVotes x true) s h n = (let a = (n.first_votes x h.0).0 in let b = h.1 in omega (arith, a, b))
 journal-refused (faults.WrongVotes x false) s h n = (let a = (n.second_votes x h.0).0 in let b = h.1 in omega (arith, a, b))
-journal-refused (faults.ManyVotes x true) s h n = (let a = (n.first_votes x h.0).1 in let b = h.1 in omega (arith, a, b))
+journal-refused (faults.ManyVotes x true) s h n = (let a = (n.first_votes x h.0).1 h.1 in let b = h.2 in omega (arith, a, b))
 journal-refused (faults.ManyVotes x false) s h n = (let a = (n.second_votes x h.0).1 in let b = h.1 in omega (arith, a, b))
 journal-refused (faults.TwoNamed x) s h n = n.one_named x h.0 h.1
 journal-refused faults.ManyEntries s h n = (let a = n.one_entry h.0 in let b = h.1 in omega (arith, a, b))

@@ -19,16 +19,16 @@ use Rattle.sector_survey.specs.Journals.{IsJournalFault}
 use Rattle.sector_survey.specs.declared.finding.Finding.{Finding}
 use Rattle.sector_survey.specs.declared.finding.Finding.TheVariants as findings
 
--- a block into which one is copied: void, or committed
-abbrev pub IsBusy : Kind → Type 0
-IsBusy kinds.Plain = ⊥
-IsBusy kinds.Void = Unit {0}
-IsBusy (kinds.Committed source) = Unit {0}
-IsBusy kinds.Settled = ⊥
-IsBusy (kinds.Group tag) = ⊥
-IsBusy kinds.DeadGroup = ⊥
-IsBusy kinds.SpoiltGroup = ⊥
-IsBusy kinds.Unknown = ⊥
+-- a block that is a committed copy
+abbrev pub IsCommitted : Kind → Type 0
+IsCommitted kinds.Plain = ⊥
+IsCommitted kinds.Void = ⊥
+IsCommitted (kinds.Committed source) = Unit {0}
+IsCommitted kinds.Settled = ⊥
+IsCommitted (kinds.Group tag) = ⊥
+IsCommitted kinds.DeadGroup = ⊥
+IsCommitted kinds.SpoiltGroup = ⊥
+IsCommitted kinds.Unknown = ⊥
 
 -- block b of a chip with n data blocks can't be what data block c is the copy of: it is no data
 -- block, or this one
@@ -98,7 +98,7 @@ Explains (findings.UnknownBlock c) m = (c < data_blocks m) × (kind_at m c ≡ k
 Explains (findings.GroupOnSlots c) m =
     (layout_in m ≡ 2) × (c < data_blocks m) × (is_group (kind_at m c) ≡ true)
 Explains (findings.TwoCopyings c d) m =
-    (c < d) × (d < data_blocks m) × IsBusy (kind_at m c) × IsBusy (kind_at m d)
+    (c < d) × (d < data_blocks m) × IsCommitted (kind_at m c) × IsCommitted (kind_at m d)
 Explains (findings.WrongSource c b) m =
     (c < data_blocks m) × (kind_at m c ≡ kinds.Committed b) × IsNoSource b c (data_blocks m)
 Explains findings.NoRoom m = HasNoRoom m

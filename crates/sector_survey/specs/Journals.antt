@@ -21,7 +21,8 @@ abbrev pub IsJournalFault : JournalFault → JournalTally → Type 0
 IsJournalFault (TwoDoomed x) s = IsDoomed s x × IsDoomed s (next x)
 IsJournalFault (WrongVotes x true) s = IsBelieved s (next x) × (1 ≤ (first s x).wrong)
 IsJournalFault (WrongVotes x false) s = IsBelieved s (after_next x) × (1 ≤ (second s x).wrong)
-IsJournalFault (ManyVotes x true) s = IsBelieved s (next x) × (2 ≤ (first s x).opened)
+IsJournalFault (ManyVotes x true) s =
+    IsBelieved s (next x) × IsBelieved s x × (2 ≤ (first s x).opened)
 IsJournalFault (ManyVotes x false) s = IsBelieved s (after_next x) × (2 ≤ (second s x).opened)
 IsJournalFault (TwoNamed x) s = HasVote s x × HasVote s (next x)
 IsJournalFault ManyEntries s = IsBelieved s J0 × (2 ≤ s.opened)
@@ -31,7 +32,8 @@ IsJournalFault NoVotesLeft s =
 
 -- the votes for the erase of one journal have none of these faults
 pub record HasNoRegionFault (s : JournalTally) (x : JournalId) : Type 0 where
-  pub first_votes : IsBelieved s (next x) → ((first s x).wrong ≡ 0) × ((first s x).opened ≤ 1)
+  pub first_votes : IsBelieved s (next x)
+      → ((first s x).wrong ≡ 0) × (IsBelieved s x → (first s x).opened ≤ 1)
   pub second_votes : IsBelieved s (after_next x)
       → ((second s x).wrong ≡ 0) × ((second s x).opened ≤ 1)
 

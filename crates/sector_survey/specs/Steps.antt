@@ -15,15 +15,20 @@ use Rattle.sector_map.specs.declared.table.LiveSlots.TheVariants.{Absent, One, T
 use Rattle.sector_map.specs.declared.found.Found.{Found}
 use Rattle.sector_map.specs.declared.found.Found.TheVariants.{AtRest, Void, Committed}
 use Rattle.sector_map.specs.declared.table.Held.{Held}
-use Rattle.sector_survey.specs.Findings.{IsBusy, IsNoSource, IsSlotFault}
+use Rattle.sector_survey.specs.Findings.{IsCommitted, IsNoSource, IsSlotFault}
 use Rattle.sector_survey.specs.declared.finding.Finding.{Finding}
 use Rattle.sector_survey.specs.declared.finding.Finding.TheVariants as findings
 
--- the block into which the copying that was found goes
+-- the committed copy that was found, and that none was
 abbrev pub IsTargetOf : Found → ℕ → Type 0
 IsTargetOf AtRest c = ⊥
-IsTargetOf (Void t) c = c ≡ t
+IsTargetOf (Void t) c = ⊥
 IsTargetOf (Committed s t) c = c ≡ t
+
+abbrev pub HasNoCopy : Found → Type 0
+HasNoCopy AtRest = Unit {0}
+HasNoCopy (Void t) = Unit {0}
+HasNoCopy (Committed s t) = ⊥
 
 -- why one more block of this kind, of n, is refused
 abbrev pub IsKindFault : Finding → Bool → Found → ℕ → Kind → ℕ → Type 0
@@ -35,7 +40,7 @@ IsKindFault (findings.UnknownBlock c) groups found block kind n =
 IsKindFault (findings.GroupOnSlots c) groups found block kind n =
     (c ≡ block) × (is_group kind ≡ true) × (groups ≡ false)
 IsKindFault (findings.TwoCopyings c d) groups found block kind n =
-    (d ≡ block) × IsBusy kind × IsTargetOf found c
+    (d ≡ block) × IsCommitted kind × IsTargetOf found c
 IsKindFault (findings.WrongSource c b) groups found block kind n =
     (c ≡ block) × (kind ≡ kinds.Committed b) × IsNoSource b block n
 IsKindFault findings.NoRoom groups found block kind n = ⊥

@@ -1,4 +1,4 @@
-//! The kinds of the blocks: what copying goes on, or the first block for which they are corrupt.
+//! The kinds of the blocks: what copyings were cut, or the first block for which they are corrupt.
 
 ghost use Rattle.std.specs.Prelude.{◌≡◌, ◌<◌, ◌≤◌, ◌+◌, Some, true, false, IfOk, IfErr};
 ghost use Rattle.erase_journal.specs.Steps.{EndsSettled};
@@ -6,15 +6,15 @@ ghost use Rattle.sector_slots.specs.Sectors.{HasSlotsAlone};
 ghost use Rattle.sector_map.specs.Found.{FoundIn, noted_where};
 ghost use Rattle.sector_map.specs.Marking.{may_have_groups};
 ghost use Rattle.sector_survey.specs.Findings.{Explains};
-ghost use Rattle.sector_survey.specs.Steps.{IsKindFault};
+ghost use Rattle.sector_survey.specs.Steps.{HasNoCopy, IsKindFault};
 
 use crate::Finding;
 use nor_driver::NorError;
 use nor_layout::{FIRST_DATA_BLOCK, Kind};
-use sector_map::Found;
+use sector_map::{Found, note_void};
 use sector_slots::SlotCalls;
 
-/// Reads the kinds of all blocks: the copying that goes on, or the first block for which they are
+/// Reads the kinds of all blocks: the copyings that were cut, or the first block for which they are
 /// corrupt; also where one is of a group and none may be.
 #[tactic(auto, using(erase_journal::proofs::Calls::repeated_calls))]
 pub fn read_kinds<S: SlotCalls>(
@@ -63,23 +63,10 @@ fn note_block(
         Kind::DeadGroup => note_group(found, block, groups),
         Kind::SpoiltGroup => note_group(found, block, groups),
         Kind::Unknown => Err(Finding::UnknownBlock { block }),
-        Kind::Void => match found {
-            Found::AtRest => Ok(Found::Void(block)),
-            Found::Void(first) => Err(Finding::TwoCopyings {
-                first,
-                second: block,
-            }),
-            Found::Committed(_, first) => Err(Finding::TwoCopyings {
-                first,
-                second: block,
-            }),
-        },
+        Kind::Void => Ok(note_void(found, block)),
         Kind::Committed(source) => match found {
-            Found::AtRest => note_source(block, source, count),
-            Found::Void(first) => Err(Finding::TwoCopyings {
-                first,
-                second: block,
-            }),
+            Found::AtRest => note_source(found, block, source, count),
+            Found::Void(_) => note_source(found, block, source, count),
             Found::Committed(_, first) => Err(Finding::TwoCopyings {
                 first,
                 second: block,
@@ -101,13 +88,14 @@ fn note_group(found: Found, block: u16, groups: bool) -> Result<Found, Finding>
     }
 }
 
-/// What is found once the committed copy of a block is read, where nothing was found before.
-fn note_source(block: u16, source: u16, count: u16) -> Result<Found, Finding>
+/// What is found once the committed copy of a block is read, where none was found before.
+fn note_source(found: Found, block: u16, source: u16, count: u16) -> Result<Found, Finding>
+    requires first { HasNoCopy found }
     requires few { count ≤ 4092 }
     requires number { block ≤ 4092 }
-    ensures ok { IfOk result (λ now. noted_where true Found.AtRest block (Kind.Committed source)
-        count ≡ Some now) }
-    ensures fault { IfErr result (λ fault. IsKindFault fault true Found.AtRest block
+    ensures ok { IfOk result (λ now. noted_where true found block (Kind.Committed source) count
+        ≡ Some now) }
+    ensures fault { IfErr result (λ fault. IsKindFault fault true found block
         (Kind.Committed source) count) }
 {
     if source >= FIRST_DATA_BLOCK && source <= count + 3 && source != block + FIRST_DATA_BLOCK {

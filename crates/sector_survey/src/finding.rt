@@ -21,7 +21,7 @@ pub enum Finding {
     GroupOnSlots {
         block: u16,
     },
-    /// Two blocks are void or committed: two copyings go on.
+    /// Two blocks are committed: two copyings go on.
     TwoCopyings {
         first: u16,
         second: u16,

@@ -20,7 +20,7 @@ pub enum JournalFault {
     /// Among the first or the second votes for the erase of a journal, which a believed journal
     /// holds, are bytes that are no vote.
     WrongVotes { journal: JournalId, first: bool },
-    /// There more than one vote is open.
+    /// There more than one vote is open, and if these are the first votes the journal is believed.
     ManyVotes { journal: JournalId, first: bool },
     /// Believed journals hold open votes for the erase of this journal and of the next one.
     TwoNamed { journal: JournalId },
@@ -89,7 +89,7 @@ fn region_fault(counts: &JournalTally, journal: JournalId) -> Option<JournalFaul
                 first: true,
             });
         }
-        if votes.opened >= 2 {
+        if votes.opened >= 2 && !is_doomed(counts, journal) {
             return Some(JournalFault::ManyVotes {
                 journal,
                 first: true,

@@ -68,8 +68,8 @@ fn read_block<S: SlotCalls>(
     ensures ends { EndsSettled result (S.state slots.old) (S.state slots.new) }
 {
     let mut heads = [Header::Free; 7];
-    let _kind = slots.head(block, &mut heads)?;
-    if is_counted(found, block) {
+    let kind = slots.head(block, &mut heads)?;
+    if is_counted(found, kind, block) {
         Ok(enter_seven(table, block, &heads))
     } else {
         Ok(None)

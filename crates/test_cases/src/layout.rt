@@ -204,6 +204,7 @@ fn vote(byte: u8) -> Came {
         Some(Vote::Unused) => "unused",
         Some(Vote::Open) => "open",
         Some(Vote::Closed) => "closed",
+        Some(Vote::GivenUp) => "given up",
         None => "none",
     })
 }

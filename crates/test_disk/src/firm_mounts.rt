@@ -74,7 +74,7 @@ fn cost_of(alloc: Global, kib: u32, written: u32, firmness: Firmness) -> Result<
 }
 
 /// After a clean stop a firm mount programs the head of each block in use, the superblock, and the
-/// entry that it gives up, and erases nothing; any other changes nothing.
+/// six votes and the entry that it gives up, and erases nothing; any other changes nothing.
 #[test]
 fn a_clean_mount_erases_nothing(rt: HostRuntime) -> Result<(), Fail> {
     for (kib, written, blocks) in [
@@ -87,7 +87,7 @@ fn a_clean_mount_erases_nothing(rt: HostRuntime) -> Result<(), Fail> {
         let plain = cost_of(rt.alloc(), kib, written, Firmness::Steady)?;
         assert!(rt; plain.programs == 0 && plain.erases == 0, "{plain:?}");
         let firm = cost_of(rt.alloc(), kib, written, Firmness::Firm)?;
-        assert!(rt; firm.erases == 0 && firm.programs == blocks + 2, "{firm:?}");
+        assert!(rt; firm.erases == 0 && firm.programs == blocks + 8, "{firm:?}");
     }
     Ok(())
 }

@@ -173,10 +173,13 @@ fn blocks_are_told(rt: HostRuntime) -> Result<(), Fail> {
         told.as_str(),
         "Data blocks: block 4, FC FC 00 00 at 4000h; on a chip of layout 2 a block begins with FF FF FF FF"
     );
-    let told = reason(&rt, &[(0x4004, &[0xFE]), (0x6004, &[0xFC, 0xFF, 5, 0])])?;
+    let told = reason(
+        &rt,
+        &[(0x4004, &[0xFC, 0xFF, 7, 0]), (0x6004, &[0xFC, 0xFF, 5, 0])],
+    )?;
     assert_eq!(rt;
         told.as_str(),
-        "Data blocks: block 4, FE FF FF FF at 4004h, and block 6, FC FF 05 00 at 6004h; one block is void or committed at a time"
+        "Data blocks: block 4, FC FF 07 00 at 4004h, and block 6, FC FF 05 00 at 6004h; one block is committed at a time"
     );
     let told = reason(&rt, &[(0x4004, &[0xFC, 0xFF, 3, 0])])?;
     assert_eq!(rt;

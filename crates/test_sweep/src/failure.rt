@@ -19,6 +19,8 @@ pub enum Failure {
     Endless,
     /// A transcript is not one of the array.
     Told(Wrong),
+    /// A session under a firm mount that no loss ended left a chip that isn't firm.
+    Weak,
 }
 
 impl From<AllocError> for Failure {
@@ -39,6 +41,7 @@ impl fmt::Display for Failure {
             Failure::Told(Wrong::Sector) => "a sector is neither what it was nor what it was to be",
             Failure::Told(Wrong::Loss) =>
                 "a loss of power that was not armed, or in no event of the chip",
+            Failure::Weak => "a firm session leaves a weak bit where one is read",
         };
         write!(f, "{text}")
     }

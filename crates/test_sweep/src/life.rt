@@ -7,6 +7,7 @@ use crate::failure::Failure;
 use block_device::{Disk, DiskError};
 use chip_simulator::SimChip;
 use erase_journal::Firmness;
+use firm_chip::is_firm;
 use flash_disk::{FlashDisk, MountError};
 use nor_driver::ProbeError;
 use std::alloc::Global;
@@ -85,6 +86,8 @@ pub struct Life {
     array: Array,
     room: Vec<u8>,
     pub seen: Seen,
+    /// Whether the disk was mounted firmly, and no loss came since.
+    is_firm: bool,
     /// What happened since `begin`.
     pub steps: Vec<Step>,
 }
@@ -99,6 +102,7 @@ impl Life {
             array: Array::zeros(),
             room: vec![in alloc; 0u8; 512 * SECTORS as usize]?,
             seen: Seen::nothing(),
+            is_firm: false,
             steps: Vec::new(alloc),
         })
     }
@@ -113,6 +117,7 @@ impl Life {
         self.held = Held::Chip(chip);
         self.array = moment.array;
         self.seen = Seen::nothing();
+        self.is_firm = false;
         self.steps.clear();
         Ok(())
     }
@@ -144,10 +149,15 @@ impl Life {
         })
     }
 
-    /// The power goes and comes, and the weak bits are drawn.
+    /// The power goes and comes, and the weak bits are drawn. After a session under a firm mount
+    /// that no loss ended the chip has to be firm: whatever is drawn, it is the same disk.
     pub fn cycle(&mut self, draw: Draw) -> Result<(), Failure> {
         self.note(Step::Cycled(draw))?;
         let mut chip = self.take_chip()?;
+        if self.is_firm && !is_firm(chip.bytes(), chip.weak()) {
+            return Err(Failure::Weak);
+        }
+        self.is_firm = false;
         let bytes = draw.bytes(chip.bytes());
         chip.power_cycle(&bytes);
         self.held = Held::Chip(chip);
@@ -169,6 +179,7 @@ impl Life {
             Ok(mut disk) => {
                 disk.arm(0, 0, 0);
                 self.held = Held::Disk(disk);
+                self.is_firm = !matches!(mounting, Mounting::Plain);
                 Ok(true)
             }
             Err((mut chip, MountError::Probe(ProbeError::Cut))) if change > 0 => {
@@ -203,6 +214,7 @@ impl Life {
             Call::Tidy => {}
         }
         if !is_whole {
+            self.is_firm = false;
             self.seen.losses = self.seen.losses.saturating_add(1);
         }
         Ok(is_whole)

@@ -71,7 +71,7 @@ impl Runs {
         self.runs = self.runs.wrapping_add(1);
         match came {
             Ok(()) => Ok(()),
-            Err(Failure::Told(_) | Failure::Refused) => {
+            Err(Failure::Told(_) | Failure::Refused | Failure::Weak) => {
                 self.wrong = self.wrong.wrapping_add(1);
                 Ok(())
             }

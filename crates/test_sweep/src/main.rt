@@ -20,6 +20,8 @@ mod draw;
 mod failure;
 mod life;
 mod losses;
+#[cfg(test)]
+mod places;
 mod progress;
 mod random;
 mod sweeper;

@@ -2,7 +2,8 @@ use Rattle.std.proofs.lemmas.Result.{err_from_is_err_and}
 use Rattle.erase_journal.proofs.EntryCalls.{interrupted-after}
 use Rattle.erase_journal.specs.Journals.{unused}
 use Rattle.erase_journal.specs.Spending.{once_used}
-use Rattle.erase_journal.proofs.Uses.{same-on, used-then}
+use Rattle.erase_journal.proofs.Uses.{used-then}
+use Rattle.erase_journal.proofs.Lasting.{same-on}
 use Rattle.erase_journal.proofs.Knowing.{used-known}
 use Rattle.erase_journal.proofs.block_erase.erase_with_entry.Goals as goal
 

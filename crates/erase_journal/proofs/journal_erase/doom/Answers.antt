@@ -36,6 +36,13 @@ returns-clause-ok g c =
     steps-on (once_erased c.args.journal (unused (g.N.Nor.state c.args.nor.now).memory))
     (Asked c.args.journal) (Doomed c.args.journal) (g.N.Nor.state c.open_vote.new.nor).memory (g.N.Nor.state c.open_vote-2.new.nor).memory s.0 t.0
 
+pub returns-clause-one : goal.returns-clause-one
+returns-clause-one g c =
+    let q = rw c.first_votes-first.ensures at c.in_ok-open_vote.ensures.ok in
+    let s = first-opened c.args.journal (g.N.Nor.state c.args.nor.now).memory (g.N.Nor.state c.open_vote.new.nor).memory c.requires.may q in
+    let r = rw c.second_votes-second.ensures at c.in_ok-open_vote-2.ensures.ok in
+    (second-opened c.args.journal (g.N.Nor.state c.open_vote.new.nor).memory (g.N.Nor.state c.open_vote-2.new.nor).memory s.0.sound r).2
+
 pub returns-clause-blocks : goal.returns-clause-blocks
 returns-clause-blocks g c =
     let q = rw c.first_votes-first.ensures at c.in_ok-open_vote.ensures.ok in

@@ -23,13 +23,13 @@ returns-in_err-close_vote-clause-cut g c is =
     let p = err_from_is_err_and c.from_residual-in_err-close_vote.result c.from_residual-in_err-close_vote.ensures.1 in
     let s = erased-as c.args.journal (g.N.Nor.state c.args.nor.now).memory (g.N.Nor.state c.erase_small.new.self).memory c.requires.size c.requires.doomed (c.in_ok-erase_small.ensures.ok ∙ ap (λ at. erased (g.N.Nor.state c.args.nor.now).memory at 4096) c.place.ensures) in
     let q = rw c.first_votes-first.ensures at (c.in_err-close_vote.ensures.cut (cc (p.1, p.2))) in
-    stands-on (g.N.Nor.state c.args.nor.now).memory (g.N.Nor.state c.erase_small.new.self).memory (g.N.Nor.state c.close_vote.new.nor).memory s.blocks (first-close-cut c.args.journal (g.N.Nor.state c.erase_small.new.self).memory (g.N.Nor.state c.close_vote.new.nor).memory s.step.sound s.blank q)
+    stands-on (g.N.Nor.state c.args.nor.now).memory (g.N.Nor.state c.erase_small.new.self).memory (g.N.Nor.state c.close_vote.new.nor).memory s.blocks (first-close-cut c.args.journal (g.N.Nor.state c.erase_small.new.self).memory (g.N.Nor.state c.close_vote.new.nor).memory s.step.sound (s.votes ∙ c.requires.one) s.blank q)
 
 pub close_vote-requires-2-clause-some : goal.close_vote-requires-2-clause-some
 close_vote-requires-2-clause-some g c =
     let s = erased-as c.args.journal (g.N.Nor.state c.args.nor.now).memory (g.N.Nor.state c.erase_small.new.self).memory c.requires.size c.requires.doomed (c.in_ok-erase_small.ensures.ok ∙ ap (λ at. erased (g.N.Nor.state c.args.nor.now).memory at 4096) c.place.ensures) in
     let q = rw c.first_votes-first.ensures at c.in_ok-close_vote.ensures.ok in
-    let t = first-closed c.args.journal (g.N.Nor.state c.erase_small.new.self).memory (g.N.Nor.state c.close_vote.new.nor).memory s.step.sound s.blank q in
+    let t = first-closed c.args.journal (g.N.Nor.state c.erase_small.new.self).memory (g.N.Nor.state c.close_vote.new.nor).memory s.step.sound (s.votes ∙ c.requires.one) s.blank q in
     rw c.second_votes-second.ensures (open-second c.args.journal (g.N.Nor.state c.close_vote.new.nor).memory t.0.sound)
 
 pub returns-in_err-close_vote-2-clause-cut : goal.returns-in_err-close_vote-2-clause-cut
@@ -37,7 +37,7 @@ returns-in_err-close_vote-2-clause-cut g c is =
     let p = err_from_is_err_and c.from_residual-in_err-close_vote-2.result c.from_residual-in_err-close_vote-2.ensures.1 in
     let s = erased-as c.args.journal (g.N.Nor.state c.args.nor.now).memory (g.N.Nor.state c.erase_small.new.self).memory c.requires.size c.requires.doomed (c.in_ok-erase_small.ensures.ok ∙ ap (λ at. erased (g.N.Nor.state c.args.nor.now).memory at 4096) c.place.ensures) in
     let q = rw c.first_votes-first.ensures at c.in_ok-close_vote.ensures.ok in
-    let t = first-closed c.args.journal (g.N.Nor.state c.erase_small.new.self).memory (g.N.Nor.state c.close_vote.new.nor).memory s.step.sound s.blank q in
+    let t = first-closed c.args.journal (g.N.Nor.state c.erase_small.new.self).memory (g.N.Nor.state c.close_vote.new.nor).memory s.step.sound (s.votes ∙ c.requires.one) s.blank q in
     let r = rw c.second_votes-second.ensures at (c.in_err-close_vote-2.ensures.cut (cc (p.1, p.2))) in
     stands-on (g.N.Nor.state c.args.nor.now).memory (g.N.Nor.state c.close_vote.new.nor).memory (g.N.Nor.state c.close_vote-2.new.nor).memory (same-blocks-on (g.N.Nor.state c.args.nor.now).memory (g.N.Nor.state c.erase_small.new.self).memory (g.N.Nor.state c.close_vote.new.nor).memory s.blocks t.1) (second-close-cut c.args.journal (g.N.Nor.state c.close_vote.new.nor).memory (g.N.Nor.state c.close_vote-2.new.nor).memory t.0.sound r)
 
@@ -45,7 +45,7 @@ pub returns-clause-ok : goal.returns-clause-ok
 returns-clause-ok g c =
     let s = erased-as c.args.journal (g.N.Nor.state c.args.nor.now).memory (g.N.Nor.state c.erase_small.new.self).memory c.requires.size c.requires.doomed (c.in_ok-erase_small.ensures.ok ∙ ap (λ at. erased (g.N.Nor.state c.args.nor.now).memory at 4096) c.place.ensures) in
     let q = rw c.first_votes-first.ensures at c.in_ok-close_vote.ensures.ok in
-    let t = first-closed c.args.journal (g.N.Nor.state c.erase_small.new.self).memory (g.N.Nor.state c.close_vote.new.nor).memory s.step.sound s.blank q in
+    let t = first-closed c.args.journal (g.N.Nor.state c.erase_small.new.self).memory (g.N.Nor.state c.close_vote.new.nor).memory s.step.sound (s.votes ∙ c.requires.one) s.blank q in
     let r = rw c.second_votes-second.ensures at c.in_ok-close_vote-2.ensures.ok in
     let v = second-closed c.args.journal (g.N.Nor.state c.close_vote.new.nor).memory (g.N.Nor.state c.close_vote-2.new.nor).memory t.0.sound r in
     steps-on (settled (Doomed c.args.journal) (unused (g.N.Nor.state c.args.nor.now).memory)) (Closing c.args.journal) Idle (g.N.Nor.state c.close_vote.new.nor).memory (g.N.Nor.state c.close_vote-2.new.nor).memory (steps-on (settled (Doomed c.args.journal) (unused (g.N.Nor.state c.args.nor.now).memory)) (Doomed c.args.journal) (Closing c.args.journal) (g.N.Nor.state c.erase_small.new.self).memory (g.N.Nor.state c.close_vote.new.nor).memory s.step t.0) v.0
@@ -54,7 +54,7 @@ pub returns-clause-none : goal.returns-clause-none
 returns-clause-none g c =
     let s = erased-as c.args.journal (g.N.Nor.state c.args.nor.now).memory (g.N.Nor.state c.erase_small.new.self).memory c.requires.size c.requires.doomed (c.in_ok-erase_small.ensures.ok ∙ ap (λ at. erased (g.N.Nor.state c.args.nor.now).memory at 4096) c.place.ensures) in
     let q = rw c.first_votes-first.ensures at c.in_ok-close_vote.ensures.ok in
-    let t = first-closed c.args.journal (g.N.Nor.state c.erase_small.new.self).memory (g.N.Nor.state c.close_vote.new.nor).memory s.step.sound s.blank q in
+    let t = first-closed c.args.journal (g.N.Nor.state c.erase_small.new.self).memory (g.N.Nor.state c.close_vote.new.nor).memory s.step.sound (s.votes ∙ c.requires.one) s.blank q in
     let r = rw c.second_votes-second.ensures at c.in_ok-close_vote-2.ensures.ok in
     let v = second-closed c.args.journal (g.N.Nor.state c.close_vote.new.nor).memory (g.N.Nor.state c.close_vote-2.new.nor).memory t.0.sound r in
     v.2
@@ -63,7 +63,7 @@ pub returns-clause-blocks : goal.returns-clause-blocks
 returns-clause-blocks g c =
     let s = erased-as c.args.journal (g.N.Nor.state c.args.nor.now).memory (g.N.Nor.state c.erase_small.new.self).memory c.requires.size c.requires.doomed (c.in_ok-erase_small.ensures.ok ∙ ap (λ at. erased (g.N.Nor.state c.args.nor.now).memory at 4096) c.place.ensures) in
     let q = rw c.first_votes-first.ensures at c.in_ok-close_vote.ensures.ok in
-    let t = first-closed c.args.journal (g.N.Nor.state c.erase_small.new.self).memory (g.N.Nor.state c.close_vote.new.nor).memory s.step.sound s.blank q in
+    let t = first-closed c.args.journal (g.N.Nor.state c.erase_small.new.self).memory (g.N.Nor.state c.close_vote.new.nor).memory s.step.sound (s.votes ∙ c.requires.one) s.blank q in
     let r = rw c.second_votes-second.ensures at c.in_ok-close_vote-2.ensures.ok in
     let v = second-closed c.args.journal (g.N.Nor.state c.close_vote.new.nor).memory (g.N.Nor.state c.close_vote-2.new.nor).memory t.0.sound r in
     same-blocks-on (g.N.Nor.state c.args.nor.now).memory (g.N.Nor.state c.close_vote.new.nor).memory (g.N.Nor.state c.close_vote-2.new.nor).memory (same-blocks-on (g.N.Nor.state c.args.nor.now).memory (g.N.Nor.state c.erase_small.new.self).memory (g.N.Nor.state c.close_vote.new.nor).memory s.blocks t.1) v.1

@@ -3,8 +3,8 @@ use Rattle.erase_journal.specs.declared.phase.ErasePhase.TheVariants.{Doomed}
 use Rattle.erase_journal.specs.Votes.{once_erased}
 use Rattle.erase_journal.specs.Journals.{settled, unused, unused_of}
 use Rattle.erase_journal.specs.Spending.{Maintains, at_rest}
-use Rattle.erase_journal.proofs.Lasting.{Last-erased}
-use Rattle.erase_journal.proofs.Uses.{same-on, same-refl, maintains-on}
+use Rattle.erase_journal.proofs.Lasting.{Last-erased, same-on, same-refl}
+use Rattle.erase_journal.proofs.Uses.{maintains-on}
 use Rattle.erase_journal.proofs.maintain.maintain.Goals as goal
 
 pub doom-requires-clause-may : goal.doom-requires-clause-may

@@ -1,10 +1,10 @@
 use Rattle.std.proofs.Common.{None, subst, sym}
 use Rattle.erase_journal.specs.declared.unused.Unused.{Unused}
-use Rattle.erase_journal.proofs.Uses.{same-refl}
 use Rattle.erase_journal.proofs.Knowing.{known-rest}
 use Rattle.erase_journal.specs.Spending.{at_rest}
 use Rattle.erase_journal.specs.Votes.{IsTiredAnswer}
 use Rattle.erase_journal.specs.Journals.{unused}
+use Rattle.erase_journal.proofs.Lasting.{same-refl}
 use Rattle.erase_journal.proofs.maintain.rest.Goals as goal
 
 pub returns-in-None-clause-maintains : goal.returns-in-None-clause-maintains

@@ -1,6 +1,8 @@
-use Rattle.std.proofs.Common.{◌∙◌}
+use Rattle.std.proofs.Common.{◌∙◌, sym, subst}
 use Rattle.std.proofs.lemmas.Result.{err_from_is_err_and}
 use Rattle.sector_map.proofs.MapCalls.{served-room, stays-keeps, served-steps, same-moved-keeps, steps-target, stepped, perhaps-after}
+use Rattle.sector_slots.specs.Slots.{IsSpareIn}
+use Rattle.sector_map.proofs.Renewal.{renews-erased}
 use Rattle.sector_map.proofs.Evening.{renews-steps, renews-spare, spare-kept}
 use Rattle.sector_map.proofs.steps.renew_one.Goals as goal
 
@@ -52,3 +54,10 @@ pub returns-in-None-clause-ok : goal.returns-in-None-clause-ok
 returns-in-None-clause-ok g c =
     spare-kept c.args.block (g.S.SlotCalls.state c.args.stock.now) (g.S.SlotCalls.state c.renew.new.self) c.args.table.now (g.S.SlotCalls.indexed c.args.stock.now) (g.S.SlotCalls.indexed c.renew.new.self) c.requires.served
     (renews-spare c.args.block _ (g.S.SlotCalls.state c.args.stock.now).memory (g.S.SlotCalls.state c.renew.new.self).memory c.in-None.is c.in_ok-copied.ensures.ok) c.in_ok-copied.ensures.ends c.in_ok-copied.ensures.indexed
+
+pub returns-in_ok-follow_copied-in-Some-clause-erased : goal.returns-in_ok-follow_copied-in-Some-clause-erased
+returns-in_ok-follow_copied-in-Some-clause-erased g c =
+    subst (λ z. IsSpareIn z c.args.block) (sym c.follow_copied.ensures.same) (renews-erased c.args.block _ (g.S.SlotCalls.state c.args.stock.now).memory (g.S.SlotCalls.state c.renew.new.self).memory c.in_ok-copied.ensures.ok)
+
+pub returns-in-None-clause-erased : goal.returns-in-None-clause-erased
+returns-in-None-clause-erased g c = renews-erased c.args.block _ (g.S.SlotCalls.state c.args.stock.now).memory (g.S.SlotCalls.state c.renew.new.self).memory c.in_ok-copied.ensures.ok

@@ -1,0 +1,3 @@
+pub mod FirmChips
+pub mod Draws
+pub mod Losses

@@ -1,0 +1,20 @@
+//! What follows for a firm chip, with no work at run time.
+
+ghost use Rattle.firm_chip.specs.Draws.{EachDrawIsTheSameDisk};
+ghost use Rattle.firm_chip.specs.Losses.{LossesAreTornThenDrawn, LossesLeaveSteadyDisks};
+
+/// Whatever the weak bits of a firm chip read as, it is the same disk.
+pub fn each_draw_is_the_same_disk()
+    ensures { EachDrawIsTheSameDisk }
+{}
+
+/// A loss on a chip whose bits waver reads as a draw of one on a chip whose bits are steady.
+pub fn losses_are_torn_then_drawn()
+    ensures { LossesAreTornThenDrawn }
+{}
+
+/// A loss reads as one of the disks that it leaves of a steady chip, where these are firm by the
+/// weak bits of before.
+pub fn losses_leave_steady_disks()
+    ensures { LossesLeaveSteadyDisks }
+{}

@@ -1,0 +1,23 @@
+//! Which chips read as the same disk whatever their weak bits read as.
+//!
+//! A bit that a loss of power tore is weak: it reads 0 at one power-on and 1 at the next. A chip is
+//! *firm* (`IsFirmChip`) where its weak bits lie only where nothing reads them, or where firm bits
+//! beside them decide what is read. A firm mount leaves one, and so does each call after it, until
+//! the power is lost again: that is tested, not proved (docs/POWER.md).
+//!
+//! Promised: `is_firm` answers true only of a firm chip. No crate of the product depends on this
+//! one.
+//!
+//! Source: own, layout 2 (docs/LAYOUT.md, docs/CHIP.md).
+
+#![tactic(auto)]
+
+mod block;
+mod bytes;
+mod chip;
+mod entry;
+mod laws;
+mod slot;
+
+pub use chip::is_firm;
+pub use laws::{each_draw_is_the_same_disk, losses_are_torn_then_drawn, losses_leave_steady_disks};

@@ -1,0 +1,27 @@
+use Rattle.std.proofs.Common.{◌∙◌, ap, sym, Err}
+use Rattle.chip_model.specs.Geometry.{sector_count}
+use Rattle.sector_map.proofs.Restoring.{known-after, known-latched}
+use Rattle.sector_map.proofs.Opening.{shown-succeeds}
+use Rattle.sector_map.proofs.map.SectorMap.renew_journals.Goals as goal
+
+pub returns-in-Ok-clause-ends : goal.returns-in-Ok-clause-ends
+returns-in-Ok-clause-ends g c = rw (← c.self.view_is) (shown-succeeds c.self.inside.latched c.self.inside.stock.slots c.renew_journals.new.stock.slots c.in_default.is c.in-Ok.ensures.ends)
+
+pub returns-in-Ok-clause-ok : goal.returns-in-Ok-clause-ok
+returns-in-Ok-clause-ok g c = rw (← c.self.view_is) (c.in-Ok.ensures.ok.keeps)
+
+pub returns-in-Err-clause-cut : goal.returns-in-Err-clause-cut
+returns-in-Err-clause-cut g c is = rw (← c.self.view_is) (c.renew_journals.ensures.cut (c.in-Err.is ∙ is))
+
+pub invariant_of-self : goal.invariant_of-self
+invariant_of-self g c = record {
+  counted = c.self.invariant.counted ∙ ap (λ n. sector_count n) (sym c.renew_journals.ensures.size);
+  standing = known-after c.self.inside.latched c.self.inside.table.items _ c.self.inside.stock.slots c.renew_journals.new.stock.slots c.self.inside.stock.indexed c.renew_journals.new.stock.indexed _ (sym c.as_slice.ensures.value) c.in_default.is c.in-Ok.ensures.ok.served;
+}
+
+pub invariant_of-self-in-Err : goal.invariant_of-self-in-Err
+invariant_of-self-in-Err g c = record {
+  counted = c.self.invariant.counted ∙ ap (λ n. sector_count n) (sym c.renew_journals.ensures.size);
+  standing = known-latched c.self.inside.latched c.in-Err.error c.self.inside.table.items _ c.self.inside.stock.slots c.renew_journals.new.stock.slots c.self.inside.stock.indexed c.renew_journals.new.stock.indexed c.in_default.is c.self.invariant.standing c.in-Err.ensures.ends
+      (λ e. (c.renew_journals.ensures.cut (c.in-Err.is ∙ ap Err e)).store);
+}

@@ -1,0 +1,55 @@
+use Rattle.std.proofs.Common.{◌≡◌, ◌+◌, ◌<◌, ◌∙◌, suc, ap, sym, subst, arith}
+use Rattle.std.proofs.lemmas.Result.{err_from_is_err_and}
+use Rattle.erase_journal.specs.Journals.{IsHealthy}
+use Rattle.sector_slots.specs.Slots.{data_blocks}
+use Rattle.sector_map.proofs.Voiding.{Voiding, voiding-healthy, voiding-quiet, voiding-void, voiding-sound, voiding-more, voiding-cut, voiding-done}
+use Rattle.sector_map.proofs.mount.end_voids.Goals as goal
+use Rattle.sector_map.proofs.mount.end_voids.Goals.{then-is_void+in_ok-end_void, else-is_void}
+
+pub loop-block-preserved : goal.loop-block-preserved
+loop-block-preserved g c =
+    let next : c.loop-block.block + 1 ≡ suc c.loop-block.block = omega arith in
+    let a = g.S.SlotCalls.state c.args.slots.now in
+    let b = g.S.SlotCalls.state c.loop-block.slots in
+    let k = g.S.SlotCalls.state c.kind.new.self in
+    let low : c.loop-block.block < data_blocks a.memory = omega (arith, c.loop-block-test.true, c.blocks-count.ensures.count) in
+    record {
+      voiding = elim c.if-is_void.branch as (λ _. Voiding (c.loop-block.block + 1) a (g.S.SlotCalls.state c.if-is_void.slots)) [
+        | then-is_void+in_ok-end_void w ↦
+            let v = voiding-void c.loop-block.block a b k c.in_ok-kind.kind c.kind.ensures.same low c.in_ok-kind.ensures.ok (sym c.is_void.ensures ∙ w.if-is_void.true) c.loop-block.invariant.voiding in
+            subst (λ z. Voiding (c.loop-block.block + 1) a z) (sym (ap (λ z. g.S.SlotCalls.state z) w.slots-is))
+            (voiding-more c.loop-block.block (c.loop-block.block + 1) a b k (g.S.SlotCalls.state w.end_void.new.slots) next c.kind.ensures.same c.in_ok-kind.ensures.ends low v
+            (w.in_ok-end_void.ensures.ok v (voiding-sound c.loop-block.block a b k c.kind.ensures.same c.requires.sound c.loop-block.invariant.voiding)) w.in_ok-end_void.ensures.ends c.loop-block.invariant.voiding)
+        | else-is_void w ↦ subst (λ z. Voiding (c.loop-block.block + 1) a z) (sym (ap (λ z. g.S.SlotCalls.state z) w.slots-is))
+            (voiding-quiet c.loop-block.block (c.loop-block.block + 1) a b k c.in_ok-kind.kind next c.kind.ensures.same c.in_ok-kind.ensures.ends low c.in_ok-kind.ensures.ok (sym c.is_void.ensures ∙ w.if-is_void.false) c.loop-block.invariant.voiding)
+      ];
+    }
+
+pub returns-in_err-kind-clause-healthy : goal.returns-in_err-kind-clause-healthy
+returns-in_err-kind-clause-healthy g c is h = subst (λ z. IsHealthy z) (sym c.kind.ensures.same) (voiding-healthy c.loop-block.block (g.S.SlotCalls.state c.args.slots.now) (g.S.SlotCalls.state c.loop-block.slots) c.loop-block.invariant.voiding h)
+
+pub returns-in_err-end_void-clause-cut : goal.returns-in_err-end_void-clause-cut
+returns-in_err-end_void-clause-cut g c is h =
+    let p = err_from_is_err_and c.from_residual-in_err-end_void.result c.from_residual-in_err-end_void.ensures.1 in
+    let a = g.S.SlotCalls.state c.args.slots.now in
+    let b = g.S.SlotCalls.state c.loop-block.slots in
+    let k = g.S.SlotCalls.state c.kind.new.self in
+    let low : c.loop-block.block < data_blocks a.memory = omega (arith, c.loop-block-test.true, c.blocks-count.ensures.count) in
+    let v = voiding-void c.loop-block.block a b k c.in_ok-kind.kind c.kind.ensures.same low c.in_ok-kind.ensures.ok (sym c.is_void.ensures ∙ c.if-is_void.true) c.loop-block.invariant.voiding in
+    voiding-cut c.loop-block.block a b k (g.S.SlotCalls.state c.end_void.new.slots) c.kind.ensures.same
+    (c.in_err-end_void.ensures.cut (cc (p.1, p.2)) (subst (λ z. IsHealthy z) (sym c.kind.ensures.same) (voiding-healthy c.loop-block.block a b c.loop-block.invariant.voiding h)) v) c.loop-block.invariant.voiding
+
+pub returns-in_err-end_void-clause-healthy : goal.returns-in_err-end_void-clause-healthy
+returns-in_err-end_void-clause-healthy g c is h =
+    let p = err_from_is_err_and c.from_residual-in_err-end_void.result c.from_residual-in_err-end_void.ensures.1 in
+    c.in_err-end_void.ensures.healthy (cc (p.1, p.2)) (subst (λ z. IsHealthy z) (sym c.kind.ensures.same) (voiding-healthy c.loop-block.block (g.S.SlotCalls.state c.args.slots.now) (g.S.SlotCalls.state c.loop-block.slots) c.loop-block.invariant.voiding h))
+
+pub end_void-requires : goal.end_void-requires
+end_void-requires g c =
+    let a = g.S.SlotCalls.state c.args.slots.now in
+    let low : c.loop-block.block < data_blocks a.memory = omega (arith, c.loop-block-test.true, c.blocks-count.ensures.count) in
+    let v = voiding-void c.loop-block.block a (g.S.SlotCalls.state c.loop-block.slots) (g.S.SlotCalls.state c.kind.new.self) c.in_ok-kind.kind c.kind.ensures.same low c.in_ok-kind.ensures.ok (sym c.is_void.ensures ∙ c.if-is_void.true) c.loop-block.invariant.voiding in
+    record { target = v.number; void = λ ready. v }
+
+pub returns-clause-ok : goal.returns-clause-ok
+returns-clause-ok g c = voiding-done c.loop-block.block (g.S.SlotCalls.state c.args.slots.now) (g.S.SlotCalls.state c.loop-block.slots) (omega (arith, c.loop-block-test.false, c.loop-block.auto.block-end, c.blocks-count.ensures.count)) c.loop-block.invariant.voiding

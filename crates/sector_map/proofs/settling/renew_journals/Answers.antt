@@ -1,0 +1,33 @@
+use Rattle.std.proofs.Common.{◌∙◌, sym, subst}
+use Rattle.std.proofs.lemmas.Result.{err_from_is_err_and}
+use Rattle.erase_journal.specs.Blocks.{SameBlocks}
+use Rattle.erase_journal.proofs.SettledLaws.{settled-healthy, settled-after}
+use Rattle.sector_map.specs.Maps.{KeepsMap, KeptServing}
+use Rattle.sector_map.proofs.Renewal.{journals-keep, journals-kept, journals-room}
+use Rattle.sector_map.proofs.settling.renew_journals.Goals as goal
+
+pub returns-in_err-renew_journals-clause-cut : goal.returns-in_err-renew_journals-clause-cut
+returns-in_err-renew_journals-clause-cut g c is =
+    let p = err_from_is_err_and c.from_residual.result c.from_residual.ensures.1 in
+    let kept = c.in_err-renew_journals.ensures.cut (cc (p.1, p.2)) c.requires.served.store.journals in
+    journals-keep c.args.table.now (g.S.SlotCalls.state c.args.stock.now) (g.S.SlotCalls.indexed c.args.stock.now) (g.S.SlotCalls.state c.renew_journals.new.self).memory c.requires.served kept.blocks kept.healthy
+
+pub fill-requires : goal.fill-requires
+fill-requires g c = record { room = λ ready. journals-room c.args.table.now (g.S.SlotCalls.state c.args.stock.now) (g.S.SlotCalls.state c.renew_journals.new.self) (g.S.SlotCalls.indexed c.args.stock.now) c.requires.served c.in_ok-renew_journals.ensures.blocks c.in_ok-renew_journals.ensures.ends }
+
+pub returns-in_err-fill-clause-cut : goal.returns-in_err-fill-clause-cut
+returns-in_err-fill-clause-cut g c is =
+    let a = g.S.SlotCalls.state c.args.stock.now in
+    let b = g.S.SlotCalls.state c.renew_journals.new.self in
+    subst (λ z. KeepsMap a.memory z) (sym c.fill.ensures.same)
+    (journals-keep c.args.table.now a (g.S.SlotCalls.indexed c.args.stock.now) b.memory c.requires.served c.in_ok-renew_journals.ensures.blocks (settled-healthy b.memory c.in_ok-renew_journals.ensures.ends.settled))
+
+pub returns-clause-ok : goal.returns-clause-ok
+returns-clause-ok g c =
+    let a = g.S.SlotCalls.state c.args.stock.now in
+    let b = g.S.SlotCalls.state c.renew_journals.new.self in
+    let f = g.S.SlotCalls.state c.fill.new.self in
+    let blocks = subst (λ z. SameBlocks a.memory z) (sym c.fill.ensures.same) c.in_ok-renew_journals.ensures.blocks in
+    let done = settled-after a b f c.in_ok-renew_journals.ensures.ends c.in_ok-fill.ensures.ends in
+    subst (λ z. KeptServing c.args.table.now a z (g.S.SlotCalls.indexed c.suspect_as.new.stock)) (sym c.suspect_as.ensures.state)
+    (journals-kept c.args.table.now a f (g.S.SlotCalls.indexed c.args.stock.now) (g.S.SlotCalls.indexed c.suspect_as.new.stock) c.requires.served blocks done (c.suspect_as.ensures.indexed ∙ c.in_ok-fill.ensures.indexed))
