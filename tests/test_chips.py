@@ -75,7 +75,7 @@ class Lines(ChipCase):
         image = kit.formatted(layout=1)
         kit.set_bytes(image, 0xA010, b"\xFC\xFC\x08\x00")
         peer = self.peer(bytes(image))
-        for line in ("read CHIP", "write CHIP", "serve CHIP --unix a.sock",
+        for line in ("read CHIP", "write CHIP", "settle CHIP", "serve CHIP --unix a.sock",
                      "serve CHIP --unix a.sock --trust",
                      "serve CHIP --unix a.sock --read-only"):
             words = [peer.place if it == "CHIP" else it for it in line.split()]
@@ -228,9 +228,10 @@ class Served(ChipCase):
         self.assertEqual((peer.chip.memory, peer.chip.status[0] & 0x1C), (kit.formatted(), 0))
 
     def test_protected_and_served(self):
-        """`serve` and `write` refuse a chip of which something is protected, name the two commands
-        that help, and change nothing."""
-        for line in ("serve CHIP --unix a.sock", "serve CHIP --unix a.sock --trust", "write CHIP"):
+        """`serve`, `write` and `settle` refuse a chip of which something is protected, name the two
+        commands that help, and change nothing."""
+        for line in ("serve CHIP --unix a.sock", "serve CHIP --unix a.sock --trust", "write CHIP",
+                     "settle CHIP"):
             peer = self.peer()
             peer.chip.status[0] = 0x04
             self.refused(f"protected: {peer.place}: norbd check says by what, norbd unprotect --yes "
@@ -364,11 +365,137 @@ class Firm(ChipCase):
                      "serve", "a.img", "--unix", "a.sock", "--firm", "--read-only")
         for line in ("read a.img", "check a.img", "check a.img --mend", "show a.img",
                      "rescue a.img", "format a.img --kib 64", "script --kib 64",
-                     "plain --sectors 7", "chip a.img --port 5000", "unprotect tcp:127.0.0.1:1"):
+                     "plain --sectors 7", "chip a.img --port 5000", "unprotect tcp:127.0.0.1:1",
+                     "settle a.img"):
             done = self.run_norbd(*line.split(), "--firm")
             self.assertEqual((done.status, done.out), (2, b""), line)
             self.assertIn("unexpected argument '--firm' found", done.fault)
         self.assertEqual(self.bytes_of("a.img"), self.used()[0])
+
+
+class Settling(ChipCase):
+    """`settle`: all of a chip but its superblock is erased, and its disk stays."""
+
+    LINE = b"renewed 3 journals and 12 data blocks\n"
+
+    def used(self, layout=2):
+        """A chip with 21 sectors, in slots or in groups of layout 1, and what its disk holds."""
+        image = kit.formatted(layout=layout)
+        data = b"".join(nbd.sector(it) for it in range(21)) + bytes(49 * 512)
+        for block in range(3):
+            if layout == 1:
+                kit.set_group(image, 4 + block, block, data[3584 * block:3584 * (block + 1)])
+            for place in range(7 * (layout - 1)):
+                number = 7 * block + place
+                kit.set_slot(image, 4 + block, place, number, nbd.sector(number))
+        return image, data
+
+    def test_all_of_a_chip(self):
+        """Each block is erased but the superblock's, whatever it held, of a chip over TCP and by a
+        serial device, and the disk is the same; after that one, and another time too."""
+        for layout, kind in ((2, TcpPeer), (2, SerialPeer), (1, TcpPeer)):
+            image, data = self.used(layout)
+            peer = self.peer(image, kind=kind)
+            for times in (1, 2):
+                self.assertEqual(self.norbd("settle", peer.place), self.LINE)
+                self.assertEqual(peer.chip.erased[0], 0)
+                self.assertGreaterEqual(min(peer.chip.erased[1:]), times)
+                self.assertLessEqual(peer.chip.erases, 18 * times)
+                self.assertEqual(self.norbd("read", peer.place), data)
+            self.assertEqual(peer.chip.memory[:15], image[:15])
+
+    def test_an_image(self):
+        """The disk of an image is the same, its file is another one, and it is mounted firmly, as
+        the chip would be."""
+        for layout in (1, 2):
+            image, data = self.used(layout)
+            self.put("a.img", image)
+            self.assertEqual(self.norbd("settle", "a.img"), self.LINE)
+            self.assertNotEqual(self.bytes_of("a.img"), image)
+            self.assertEqual(self.check()["verdict"], "clean")
+            self.assertEqual(self.norbd("read", "a.img"), data)
+
+    def test_a_log(self):
+        """What a killed server left in the log beside an image is in the disk of the settled
+        one."""
+        self.format()
+        server = self.serve("a.img")
+        client = server.client()
+        self.assertEqual(client.write(5, nbd.sector(5)), OK)
+        server.kill()
+        self.assertEqual(self.norbd("settle", "a.img"), self.LINE)
+        self.assertFalse(os.path.exists(self.path("a.img.log")))
+        self.assertEqual(self.norbd("read", "a.img", "--sectors", "5:6"), nbd.sector(5))
+
+    def test_cut_between_frames(self):
+        """Wherever the connection ends, that is told, the disk is the same, and the next call
+        settles the chip."""
+        image, data = self.used()
+        for frames in (40, 47, 61, *range(80, 1090, 200)):
+            peer = self.peer(image)
+            peer.programmer.frames_to_end = frames
+            done = self.run_norbd("settle", peer.place)
+            self.assertEqual((done.status, done.out), (1, b""), frames)
+            self.assertIn(f"norbd: chip failed: {peer.place}: ", done.fault)
+            peer.programmer.frames_to_end = None
+            self.assertEqual(self.norbd("read", peer.place), data)
+            self.assertEqual(self.norbd("settle", peer.place), self.LINE)
+            self.assertEqual(self.norbd("read", peer.place), data)
+
+    def test_torn(self):
+        """A program or an erase that a loss of the chip's power tore, anywhere in it, leaves the
+        disk as it was, and the next call settles the chip."""
+        chance = kit.dice("settled")
+        image, data = self.used()
+        for left in range(1, 166, 17):
+            peer = self.peer(image)
+            begun = 0
+
+            def spoil(kind, _at, new, old):
+                nonlocal begun
+                begun += 1
+                if begun != left:
+                    return new if begun < left else old
+                peer.pull()
+                return bytes(a & (b | chance.getrandbits(8)) if kind == "program" else
+                             a | chance.getrandbits(8) for a, b in zip(old, new))
+            peer.chip.spoil = spoil
+            done = self.run_norbd("settle", peer.place)
+            self.assertEqual((done.status, done.out), (1, b""), left)
+            peer.chip.spoil = None
+            self.assertEqual(self.norbd("read", peer.place), data)
+            self.assertEqual(self.norbd("settle", peer.place), self.LINE)
+            self.assertEqual(self.norbd("read", peer.place), data)
+
+    def test_progress(self):
+        """Where standard error is a terminal it says there how far it is, about once a second."""
+        peer = self.peer(self.used()[0])
+        answer = peer.programmer.answer
+
+        def slowly(code, take):
+            time.sleep(0.002)
+            return answer(code, take)
+        peer.programmer.answer = slowly
+        ours, theirs = pty.openpty()
+        process = self.start("settle", peer.place, stderr=theirs)
+        os.close(theirs)
+        done = self.end_of(process)
+        shown = os.read(ours, 65536).decode() if done.status == 0 else ""
+        os.close(ours)
+        self.assertEqual((done.status, done.out), (0, self.LINE))
+        self.assertRegex(shown, r"norbd: \d{1,2} %, \d+ KiB/s")
+
+    def test_what_is_refused(self):
+        """A chip that is corrupt, not clean or not formatted is left as it is."""
+        corrupt, dirty = kit.formatted(), kit.formatted()
+        corrupt[0x2400], dirty[0x4300] = 0x55, 0x55
+        for memory, told in ((corrupt, "corrupt: {}: norbd check says why"),
+                             (dirty, "not clean: {}: " + kit.MEND_A_CHIP),
+                             (bytes(65536), "not formatted: {}")):
+            peer = self.peer(memory)
+            self.refused(told.format(peer.place), "settle", peer.place)
+            self.assertEqual((peer.chip.memory, peer.chip.programs, peer.chip.erases),
+                             (memory, 0, 0))
 
 
 class Failing(ChipCase):
@@ -399,7 +526,7 @@ class Failing(ChipCase):
             peer = self.peer()
             change(peer.chip)
             for line in ("format CHIP --kib 64 --yes", "serve CHIP --unix a.sock", "check CHIP",
-                         "serve CHIP --unix a.sock --read-only", "write CHIP"):
+                         "serve CHIP --unix a.sock --read-only", "write CHIP", "settle CHIP"):
                 self.chip_fails(peer, cause, *line.split())
             self.assertEqual((peer.chip.memory, peer.chip.programs, peer.chip.erases),
                              (kit.formatted(), 0, 0))

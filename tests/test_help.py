@@ -6,8 +6,8 @@ import unittest
 
 import kit
 
-COMMANDS = ("plain", "format", "script", "serve", "status", "chip", "check", "unprotect", "show",
-            "read", "write", "rescue")
+COMMANDS = ("plain", "format", "script", "serve", "status", "chip", "check", "unprotect", "settle",
+            "show", "read", "write", "rescue")
 MAN = os.path.join(kit.ROOT, "docs/man/norbd.1")
 
 
@@ -38,7 +38,7 @@ class Help(kit.Case):
             "serve": "port bind unix conns record sync tidy max-request read-only verbose trust "
                      "status spi-hz firm",
             "status": "json", "chip": "port conns", "check": "mend json against spi-hz",
-            "unprotect": "yes spi-hz", "show": "spi-hz", "read": "sectors spi-hz",
+            "unprotect": "yes spi-hz", "settle": "spi-hz", "show": "spi-hz", "read": "sectors spi-hz",
             "write": "sectors spi-hz firm", "rescue": ""}
         for command, options in wanted.items():
             text = self.help_of(command).split("Options:")[-1]

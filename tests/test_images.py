@@ -20,8 +20,8 @@ IN_USE = "image in use: a.img: norbd status looks at one that is served with --s
 
 class Locked(kit.Case):
     def test_one_owner(self):
-        """While one process has an image no other serves, formats, checks, reads, writes or answers
-        for it, nor changes a byte; the lock ends with the process."""
+        """While one process has an image no other serves, formats, checks, reads, writes, settles or
+        answers for it, nor changes a byte; the lock ends with the process."""
         self.format()
         for words in ([], ["--read-only"]):
             server = self.serve("a.img", *words)
@@ -30,7 +30,7 @@ class Locked(kit.Case):
                          "format a.img --kib 64", "format a.img --kib 64 --force", "check a.img",
                          "check a.img --mend", "check a.img --json", "show a.img", "read a.img",
                          "rescue a.img",
-                         "write a.img", f"chip a.img --port {kit.free_port()}"):
+                         "write a.img", "settle a.img", f"chip a.img --port {kit.free_port()}"):
                 self.refused(IN_USE, *line.split())
             self.assertEqual(self.bytes_of("a.img"), before)
             self.assertEqual(server.client().read(0), bytes(512))
@@ -45,7 +45,8 @@ class Locked(kit.Case):
 
     def test_a_missing_image_is_not_made(self):
         """Nothing but `format` makes an image."""
-        for line in ("serve a.img --unix a.sock", "check a.img --mend", "write a.img"):
+        for line in ("serve a.img --unix a.sock", "check a.img --mend", "write a.img",
+                     "settle a.img"):
             self.run_norbd(*line.split())
         self.assertFalse(os.path.exists(self.path("a.img")))
 
@@ -70,14 +71,15 @@ class Locked(kit.Case):
 
 
 class Replaced(kit.Case):
-    def test_write_and_mend_keep_links_and_modes(self):
-        """`write` and `check --mend` replace the file that a link names, which keeps its mode; the
-        link stays, and nothing is left beside."""
+    def test_write_settle_and_mend_keep_links_and_modes(self):
+        """`write`, `settle` and `check --mend` replace the file that a link names, which keeps its
+        mode; the link stays, and nothing is left beside."""
         dirty = kit.formatted()
         dirty[0x4300] = 0x55
         os.mkdir(self.path("real"))
         os.symlink("real/b.img", self.path("a.img"))
         for line, image in ((["write", "a.img"], kit.formatted()),
+                            (["settle", "a.img"], kit.formatted()),
                             (["check", "a.img", "--mend"], dirty)):
             self.put("real/b.img", image)
             os.chmod(self.path("real/b.img"), 0o604)
@@ -96,7 +98,7 @@ class Replaced(kit.Case):
         beside."""
         dirty = slots_of(kit.formatted(128))
         dirty[4096 * 30 + 600] = 0x55
-        for line in (["write", "a.img"], ["check", "a.img", "--mend"]):
+        for line in (["write", "a.img"], ["settle", "a.img"], ["check", "a.img", "--mend"]):
             self.put("a.img", dirty if "check" in line else kit.formatted(128))
             before = self.bytes_of("a.img")
             done = self.run_norbd(*line, data=b"\x5A" * 168 * 512,
@@ -106,11 +108,12 @@ class Replaced(kit.Case):
             self.assertEqual((os.listdir(self.room), self.bytes_of("a.img")), (["a.img"], before))
 
     def test_what_a_killed_process_left(self):
-        """What a killed `format`, `write` or `check --mend` left beside the image stops no later
-        one, which removes it."""
+        """What a killed `format`, `write`, `settle` or `check --mend` left beside the image stops
+        no later one, which removes it."""
         dirty = kit.formatted()
         dirty[0x4300] = 0x55
-        for line in ("format a.img --kib 64 --force", "write a.img", "check a.img --mend"):
+        for line in ("format a.img --kib 64 --force", "write a.img", "settle a.img",
+                     "check a.img --mend"):
             self.put("a.img", dirty if "mend" in line else kit.formatted())
             self.put("a.img.norbd-new", b"half of it")
             self.norbd(*line.split(), data=b"\1" * 35840)

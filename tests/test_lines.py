@@ -56,6 +56,8 @@ show a.img --json
 read --sectors 0:1
 read a.img --sectors
 write a.img b.img
+settle
+settle a.img --firm
 other
 -x
 """.strip().splitlines()
@@ -76,6 +78,8 @@ show m.img
 read m.img
 read --sectors 2:5 m.img
 write m.img --sectors 0:70
+settle m.img
+settle --spi-hz 1000000 m.img
 """.strip().splitlines()
 ADDRESS = "bad address: --port P [--bind IP], or --unix PATH"
 BAD_WORDS = [
@@ -153,7 +157,7 @@ class Lines(kit.Case):
         for line in (["serve", "", "--unix", "a.sock"], ["serve", "", "--port", "10809"],
                      ["chip", "", "--port", "10809"], ["format", "", "--kib", "64"], ["check", ""],
                      ["check", "", "--mend", "--json"], ["show", ""], ["read", ""],
-                     ["write", "", "--sectors", "0:1"], ["status", ""],
+                     ["write", "", "--sectors", "0:1"], ["settle", ""], ["status", ""],
                      ["serve", "a.img", "--unix", "a.sock", "--status", ""]):
             self.refused("a file's name is empty", *line, status=2)
         self.refused("bad size: 65 is no multiple of 64", "format", "", "--kib", "65", status=2)
@@ -172,7 +176,7 @@ class Lines(kit.Case):
     def test_missing_images(self):
         """Each command names the image that isn't there, and why."""
         for line in ("serve m.img --unix m.sock", "check m.img", "check m.img --mend",
-                     "check m.img --json", "show m.img", "read m.img", "write m.img",
+                     "check m.img --json", "show m.img", "read m.img", "write m.img", "settle m.img",
                      "chip m.img --port %d" % kit.free_port()):
             self.refused("image failed: m.img: no such file or directory", *line.split())
         self.refused("image failed: no/m.img: no such file or directory", "format", "no/m.img", "--kib",
@@ -186,8 +190,9 @@ class Lines(kit.Case):
         os.mkfifo(self.path("f"))
         readers = ("serve {} --unix m.sock --read-only", "check {}", "show {}", "read {}",
                    "rescue {}")
-        writers = ("serve {} --unix m.sock", "check {} --mend", "write {}", "format {} --kib 64",
-                   "format {} --kib 64 --force", f"chip {{}} --port {kit.free_port()}")
+        writers = ("serve {} --unix m.sock", "check {} --mend", "write {}", "settle {}",
+                   "format {} --kib 64", "format {} --kib 64 --force",
+                   f"chip {{}} --port {kit.free_port()}")
         for name in ("d", "f"):
             for line in (*readers, *writers):
                 self.refused(f"image failed: {name}: not a regular file",
@@ -221,7 +226,7 @@ class Lines(kit.Case):
             self.assertEqual(client.read(0, 70), data)
             client.disc()
         self.assertEqual(server.end().status, 0)
-        for line in ("serve {} --unix m.sock", "check {} --mend", "write {}",
+        for line in ("serve {} --unix m.sock", "check {} --mend", "write {}", "settle {}",
                      "format {} --kib 64 --force"):
             self.refused(f"image failed: {device}: not a regular file: a device is only read, "
                          "flashrom or mtd-utils write one, a programmer serves it",
@@ -241,7 +246,8 @@ class Lines(kit.Case):
         os.chmod(self.path("a.img"), 0)
         for line in ("serve a.img --port %d" % kit.free_port(), "check a.img", "check a.img --mend",
                      "show a.img",
-                     "read a.img", "write a.img", "format a.img --kib 64 --force"):
+                     "read a.img", "write a.img", "settle a.img",
+                     "format a.img --kib 64 --force"):
             self.refused("image failed: a.img: permission denied", *line.split(),
                          preexec_fn=kit.as_nobody())
 
@@ -251,7 +257,7 @@ class Lines(kit.Case):
             self.put("a.img", b"")
             os.truncate(self.path("a.img"), length)
             for line in ("serve a.img --unix a.sock", "check a.img", "read a.img", "show a.img",
-                         "chip a.img --port %d" % kit.free_port()):
+                         "settle a.img", "chip a.img --port %d" % kit.free_port()):
                 self.refused(f"bad image size: a.img: {length} bytes", *line.split())
 
     def test_faults_name_the_image(self):
@@ -266,7 +272,7 @@ class Lines(kit.Case):
                                     "not clean: d.img: norbd check --mend mends it")):
             self.put(name, image)
             for line in ("serve {} --unix a.sock", "serve {} --unix a.sock --read-only",
-                         "read {}", "write {}"):
+                         "read {}", "write {}", "settle {}"):
                 self.refused(fault, *line.format(name).split())
             self.assertEqual(self.bytes_of(name), image)
         self.refused(told, "show", "c.img")
@@ -304,6 +310,7 @@ class Lines(kit.Case):
         self.format()
         for line in ("format b.img --kib 64", "check a.img", "check a.img --json", "show a.img",
                      "read a.img", "rescue a.img", "serve a.img --unix a.sock", "write a.img",
+                     "settle a.img",
                      "chip a.img --port %d" % kit.free_port(), "--help", "--version", "help",
                      "help serve", "serve --help"):
             with open("/dev/full", "wb") as full:
@@ -320,8 +327,8 @@ class Lines(kit.Case):
                              line)
 
     def test_a_closed_output(self):
-        """Where standard output is closed, a line that is for what it prints fails; `format` and
-        `write` do their work, and `/dev/null` has their lines."""
+        """Where standard output is closed, a line that is for what it prints fails; `format`,
+        `write` and `settle` do their work, and `/dev/null` has their lines."""
         self.format()
         request = b"\x25\x60\x95\x13" + bytes(20) + b"\0\0\2\0"
         for line in ("read a.img", "check a.img", "check a.img --json", "show a.img",
@@ -329,7 +336,7 @@ class Lines(kit.Case):
             done = self.run_norbd(*line.split(), data=request, preexec_fn=lambda: os.close(1))
             self.assertEqual((done.status, done.fault),
                              (1, "norbd: output failed: standard output is closed\n"), line)
-        for line in ("write a.img", "format b.img --kib 64"):
+        for line in ("write a.img", "settle a.img", "format b.img --kib 64"):
             done = self.run_norbd(*line.split(), data=b"\x5A" * 35840,
                                   preexec_fn=lambda: os.close(1))
             self.assertEqual((done.status, done.fault), (0, ""), line)

@@ -266,7 +266,7 @@ class Clock(FaultCase):
     def test_its_clock(self):
         """--spi-hz sets it, and which one was set is told; without it none is set."""
         for line in ("check", "show", "read", "serve --read-only --unix a.sock --conns 1",
-                     "format --kib 64 --yes", "write"):
+                     "format --kib 64 --yes", "write", "settle"):
             peer = self.peer()
             for hz, told in ((8_000_000, 8_000_000), (1, 1), (4_294_967_295, 24_000_000)):
                 command, *more = line.split()

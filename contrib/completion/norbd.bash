@@ -16,8 +16,8 @@ _norbd() {
         --port,* | --bind,* | --conns,* | --kib,* | --max-request,* | --sectors,* | --spi-hz,*) ;;
         --unix,* | --status,* | --against,*) kind=-f ;;
         *,,-*) words='--help --version -h -V' ;;
-        *,,* | *,help,*) words='chip plain format script serve status check unprotect show
-            read write rescue help' ;;
+        *,,* | *,help,*) words='chip plain format script serve status check unprotect settle
+            show read write rescue help' ;;
         *,chip,-*) words='--port --conns --help -h' ;;
         *,plain,-*) words='--sectors --no-record --help -h' ;;
         *,format,-*) words='--kib --force --yes --spi-hz --help -h' ;;
@@ -27,7 +27,7 @@ _norbd() {
         *,status,-*) words='--json --help -h' ;;
         *,check,-*) words='--mend --json --against --spi-hz --help -h' ;;
         *,unprotect,-*) words='--yes --spi-hz --help -h' ;;
-        *,show,-*) words='--spi-hz --help -h' ;;
+        *,show,-* | *,settle,-*) words='--spi-hz --help -h' ;;
         *,rescue,-*) words='--help -h' ;;
         *,read,-*) words='--sectors --spi-hz --help -h' ;;
         *,write,-*) words='--sectors --spi-hz --firm --help -h' ;;

@@ -18,6 +18,7 @@ __norbd_command serve 'Serve the chip in an image to NBD clients'
 __norbd_command status 'Say what a server does'
 __norbd_command check 'Say whether an image would be served'
 __norbd_command unprotect 'End the protection of a chip behind a programmer'
+__norbd_command settle 'Erase all of a chip once and keep its disk'
 __norbd_command show 'Draw the blocks of an image'
 __norbd_command read 'Write the disk in an image to standard output'
 __norbd_command write 'Replace the disk in an image by standard input'
@@ -29,8 +30,8 @@ functions -e __norbd_command
 function __norbd_option
     complete -c norbd -n "__fish_seen_subcommand_from $argv[1]" $argv[2..-1]
 end
-__norbd_option 'chip plain format script serve status check unprotect show read write rescue' -s h -l help -d 'Print help'
-__norbd_option 'chip format serve status check unprotect show read write rescue' -F
+__norbd_option 'chip plain format script serve status check unprotect settle show read write rescue' -s h -l help -d 'Print help'
+__norbd_option 'chip format serve status check unprotect settle show read write rescue' -F
 __norbd_option 'chip serve' -l port -x -d 'Port to listen on'
 __norbd_option 'chip serve' -l conns -x -d 'Connections in all, up to 64'
 __norbd_option 'format script' -l kib -x -d 'Size in KiB, a multiple of 64 up to 16384'
@@ -54,5 +55,5 @@ __norbd_option check -l against -r -F -d 'Older copy of the chip'
 __norbd_option unprotect -l yes -d 'Clear bits 2 to 7 of status register 1'
 __norbd_option 'status check' -l json -d 'Tell it in JSON'
 __norbd_option 'read write' -l sectors -x -d 'From sector A on and before B, as A:B'
-__norbd_option 'format serve check unprotect show read write' -l spi-hz -x -d 'Clock in Hz that a programmer is to set'
+__norbd_option 'format serve check unprotect settle show read write' -l spi-hz -x -d 'Clock in Hz that a programmer is to set'
 functions -e __norbd_option

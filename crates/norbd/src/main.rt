@@ -1,11 +1,11 @@
 //! The program `norbd`, a disk on a flash chip behind the Network Block Device protocol (NBD), in
-//! eleven lines: `plain` serves a disk in memory over standard input and output, in the
+//! twelve lines: `plain` serves a disk in memory over standard input and output, in the
 //! transmission phase; `format` makes an image of a formatted chip; `script` runs events, losses
 //! of power too, on a chip in memory; `serve` serves the chip in an image to connections on a port
 //! or a Unix socket, and `status` says what such a server does; `check` says whether an image
-//! would be served, and if not, why, and mends one; `show` draws it; `read` and `write` take its
-//! disk out and put it in; `rescue` takes out what can still be told of it; `chip` answers the
-//! serprog protocol for the chip in an image.
+//! would be served, and if not, why, and mends one; `settle` erases all of it once and keeps its
+//! disk; `show` draws it; `read` and `write` take its disk out and put it in; `rescue` takes out
+//! what can still be told of it; `chip` answers the serprog protocol for the chip in an image.
 //!
 //! Here are the words of the command line, the standard streams, what is printed of a fault, and
 //! the exit status: 0 where the line is done, 2 for a bad line, 1 for each other fault. `norbd_run`

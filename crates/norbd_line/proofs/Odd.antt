@@ -8,7 +8,7 @@ use Rattle.norbd_line.specs.declared.fault.Fault.{Fault}
 use Rattle.norbd_line.specs.declared.fault.Fault.TheVariants.{Words, NoMemory, BadSize, InputFailed, OutputFailed, ImageFailed, WrongId, BadSfdp, Protected, Slow, BadRecord, NotFormatted, Corrupt, NotClean, BadImageSize, NoSocket, NoThread, BadSync, NotText, EmptyName, InUse, Formatted, NotEmpty, BadAddress, BadTidy, BadRange, BadInput}
 use Rattle.norbd_line.specs.declared.line.Line.{Line}
 use Rattle.norbd_line.specs.declared.line.ReadLine.{ReadLine}
-use Rattle.norbd_line.specs.declared.line.Line.TheVariants.{Plain, Format, Script, Serve, Status, Check, Unprotect, Show, Read, Write, Rescue, Chip}
+use Rattle.norbd_line.specs.declared.line.Line.TheVariants.{Plain, Format, Script, Serve, Status, Check, Unprotect, Settle, Show, Read, Write, Rescue, Chip}
 
 -- the words name one command
 same_name : (words : List Text) (n m : Text) (rows others : List Row) → Names words n rows → Names words m others → n ≡ m
@@ -55,6 +55,11 @@ check_takes_no_size : TakesSize (codes "check") → ⊥
 unfolding first_of_name
 check_takes_no_size (inl e) = let first : 99 ≡ 102 = ap first_of_name e in omega (arith, first)
 check_takes_no_size (inr e) = let first : 99 ≡ 115 = ap first_of_name e in omega (arith, first)
+
+settle_takes_no_size : TakesSize (codes "settle") → ⊥
+unfolding first_of_name second_of_name
+settle_takes_no_size (inl e) = let first : 115 ≡ 102 = ap first_of_name e in omega (arith, first)
+settle_takes_no_size (inr e) = let second : 101 ≡ 99 = ap second_of_name e in omega (arith, second)
 
 show_takes_no_size : TakesSize (codes "show") → ⊥
 unfolding first_of_name second_of_name
@@ -109,6 +114,9 @@ no_odd_line words (Unprotect image sure) range line odd_kib odd =
 no_odd_line words (Check image mends tells_json dump) range line odd_kib odd =
     let name = same_name words line.0 odd.0 line.1 odd.1 line.2 odd.2 in
     check_takes_no_size (subst TakesSize (sym name ∙ line.3.0) odd.3.0)
+no_odd_line words (Settle image) range line odd_kib odd =
+    let name = same_name words line.0 odd.0 line.1 odd.1 line.2 odd.2 in
+    settle_takes_no_size (subst TakesSize (sym name ∙ line.3.0) odd.3.0)
 no_odd_line words (Show image) range line odd_kib odd =
     let name = same_name words line.0 odd.0 line.1 odd.1 line.2 odd.2 in
     show_takes_no_size (subst TakesSize (sym name ∙ line.3.0) odd.3.0)

@@ -119,6 +119,10 @@ abbrev pub unprotect_app : App
 unprotect_app = with_rule (with_rule (with_rule (new_app (codes "unprotect")) image_rule)
     (flag_rule (codes "yes"))) spi_hz_rule
 
+-- `settle IMAGE [--spi-hz N]`
+abbrev pub settle_app : App
+settle_app = with_rule (with_rule (new_app (codes "settle")) image_rule) spi_hz_rule
+
 -- `show IMAGE [--spi-hz N]`
 abbrev pub show_app : App
 show_app = with_rule (with_rule (new_app (codes "show")) image_rule) spi_hz_rule
@@ -149,8 +153,8 @@ begun_app = with_subcommand norbd_alone chip_app.top
 -- a command line with the commands about an image without a server
 abbrev pub with_image_apps : App → App
 with_image_apps app = with_subcommand (with_subcommand (with_subcommand (with_subcommand
-    (with_subcommand (with_subcommand app check_app.top) unprotect_app.top) show_app.top)
-    read_app.top) write_app.top) rescue_app.top
+    (with_subcommand (with_subcommand (with_subcommand app check_app.top) unprotect_app.top)
+    settle_app.top) show_app.top) read_app.top) write_app.top) rescue_app.top
 
 -- the whole command line
 abbrev pub norbd_app : App

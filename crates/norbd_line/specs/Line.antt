@@ -9,7 +9,7 @@ use Rattle.norbd_line.specs.declared.chip.ChipLine.{ChipLine}
 use Rattle.norbd_line.specs.declared.line.Line.{Line}
 use Rattle.norbd_line.specs.declared.line.Line.TheVariants.{Chip, Plain, Format, Script, Serve}
 use Rattle.norbd_line.specs.declared.line.Line.TheVariants.{Check, Unprotect, Show, Read, Write}
-use Rattle.norbd_line.specs.declared.line.Line.TheVariants.{Rescue, Status}
+use Rattle.norbd_line.specs.declared.line.Line.TheVariants.{Rescue, Settle, Status}
 use Rattle.norbd_line.specs.declared.line.Place.{Place}
 use Rattle.norbd_line.specs.declared.line.Place.TheVariants as places
 use Rattle.norbd_line.specs.declared.line.ServeLine.{ServeLine}
@@ -62,6 +62,7 @@ IsLineInRange (Serve asked) = IsServeInRange asked
 IsLineInRange (Status path tells_json) = Unit {0}
 IsLineInRange (Check image mends tells_json dump) = Unit {0}
 IsLineInRange (Unprotect image sure) = Unit {0}
+IsLineInRange (Settle image) = Unit {0}
 IsLineInRange (Show image) = Unit {0}
 IsLineInRange (Read image range) = Unit {0}
 IsLineInRange (Write image range firm) = Unit {0}
@@ -153,6 +154,8 @@ IsLineIn name rows (Check image mends tells_json dump) =
 IsLineIn name rows (Unprotect image sure) =
     (name ≡ codes "unprotect") × (first_of (codes "IMAGE") rows ≡ Some image.now)
     × IsSet (codes "yes") rows sure
+IsLineIn name rows (Settle image) =
+    (name ≡ codes "settle") × (first_of (codes "IMAGE") rows ≡ Some image.now)
 IsLineIn name rows (Show image) =
     (name ≡ codes "show") × (first_of (codes "IMAGE") rows ≡ Some image.now)
 IsLineIn name rows (Read image range) =
@@ -204,6 +207,7 @@ IsNamed (Serve asked) = IsServeNamed asked
 IsNamed (Status path tells_json) = path.now ≢ []
 IsNamed (Check image mends tells_json dump) = (image.now ≢ []) × IfSome dump (λ path. path.now ≢ [])
 IsNamed (Unprotect image sure) = image.now ≢ []
+IsNamed (Settle image) = image.now ≢ []
 IsNamed (Show image) = image.now ≢ []
 IsNamed (Read image range) = image.now ≢ []
 IsNamed (Write image range firm) = image.now ≢ []

@@ -5,7 +5,7 @@ ghost use Rattle.clap.specs.Words.{subcommand_rows_of, with_subcommand};
 ghost use Rattle.norbd_line.specs.CommandLine.{norbd_app, check_app, format_app, plain_app};
 ghost use Rattle.norbd_line.specs.CommandLine.{script_app, read_app, show_app, with_image_apps};
 ghost use Rattle.norbd_line.specs.CommandLine.{write_app, rescue_app, begun_app, serve_app};
-ghost use Rattle.norbd_line.specs.CommandLine.{status_app, texts_of, unprotect_app};
+ghost use Rattle.norbd_line.specs.CommandLine.{settle_app, status_app, texts_of, unprotect_app};
 
 use crate::Fault;
 use crate::chip::{clear_arg, trust_arg, with_chip, yes_arg};
@@ -159,6 +159,22 @@ fn with_unprotect<'a>(alloc: Global, norbd: Command<'a>) -> Result<Command<'a>, 
     Ok(norbd.subcommand(unprotect)?)
 }
 
+/// A command line with `settle` and its arguments.
+fn with_settle<'a>(alloc: Global, norbd: Command<'a>) -> Result<Command<'a>, clap::Error>
+    ensures app { IfOk result (λ c. app_of c
+        ≡ with_subcommand (app_of norbd.entry) settle_app.top) }
+    ensures memory { IfErr result (λ e. kind_of e ≡ ErrorKind.OutOfMemory) }
+{
+    let settle = Command::new(alloc, "settle")
+        .about(
+            "Erases all of a chip once and keeps its disk, where the chip lost\nits power under an older program.\nExample: norbd settle tcp:127.0.0.1:5000",
+        )
+        .after_help(AFTER_HELP)
+        .arg(image_arg(alloc, IMAGE_OR_PROGRAMMER))?
+        .arg(spi_hz_arg(alloc))?;
+    Ok(norbd.subcommand(settle)?)
+}
+
 /// A command line with `show` and its arguments.
 fn with_show<'a>(alloc: Global, norbd: Command<'a>) -> Result<Command<'a>, clap::Error>
     ensures app { IfOk result (λ c. app_of c ≡ with_subcommand (app_of norbd.entry) show_app.top) }
@@ -220,14 +236,15 @@ fn with_rescue<'a>(alloc: Global, norbd: Command<'a>) -> Result<Command<'a>, cla
     Ok(norbd.subcommand(rescue)?)
 }
 
-/// A command line with the commands about an image without a server: `check`, `unprotect`, `show`,
-/// `read`, `write` and `rescue`.
+/// A command line with the commands about an image without a server: `check`, `unprotect`,
+/// `settle`, `show`, `read`, `write` and `rescue`.
 fn with_image_lines<'a>(alloc: Global, norbd: Command<'a>) -> Result<Command<'a>, clap::Error>
     ensures app { IfOk result (λ c. app_of c ≡ with_image_apps (app_of norbd.entry)) }
     ensures memory { IfErr result (λ e. kind_of e ≡ ErrorKind.OutOfMemory) }
 {
     let norbd = with_check(alloc, norbd)?;
     let norbd = with_unprotect(alloc, norbd)?;
+    let norbd = with_settle(alloc, norbd)?;
     let norbd = with_show(alloc, norbd)?;
     let norbd = with_read(alloc, norbd)?;
     let norbd = with_write(alloc, norbd)?;

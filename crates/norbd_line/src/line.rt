@@ -71,6 +71,11 @@ pub enum Line<'a> {
         image: &'a str,
         sure: bool,
     },
+    /// `settle IMAGE`: erase each byte but the superblock of the chip in the file at the path
+    /// `image`, or behind a programmer, and keep its disk.
+    Settle {
+        image: &'a str,
+    },
     /// `show IMAGE`: draw the blocks of the image in the file at the path `image`.
     Show {
         image: &'a str,
@@ -326,6 +331,18 @@ fn unprotect_line<'a>(matches: &ArgMatches<'a>) -> Result<Line<'a>, Fault>
     }
 }
 
+/// The line of `settle`; likewise.
+fn settle_line<'a>(matches: &ArgMatches<'a>) -> Result<Line<'a>, Fault>
+    ensures range { IfOk result IsLineInRange }
+    ensures line { IfOk result (IsLineIn (codes "settle") (rows_of (found_of matches.now))) }
+    ensures fault { IfErr result (λ e. e ≡ Fault.NoMemory) }
+{
+    match matches.get_str("IMAGE") {
+        Some(image) => Ok(Line::Settle { image }),
+        None => Err(Fault::NoMemory),
+    }
+}
+
 /// The line of `show`. The parse refuses words without a path, so the arm for them answers
 /// `NoMemory`.
 fn show_line<'a>(matches: &ArgMatches<'a>) -> Result<Line<'a>, Fault>
@@ -408,8 +425,8 @@ fn line_of<'a>(name: &str, matches: &ArgMatches<'a>) -> Result<Line<'a>, Fault>
     }
 }
 
-/// The line of a command of this name about an image alone: `unprotect`, `show`, `read`, `write` or
-/// `rescue`. The parse refuses every other name.
+/// The line of a command of this name about an image alone: `unprotect`, `settle`, `show`, `read`,
+/// `write` or `rescue`. The parse refuses every other name.
 fn image_line<'a>(name: &str, matches: &ArgMatches<'a>) -> Result<Line<'a>, Fault>
     ensures range { IfOk result IsLineInRange }
     ensures line { IfOk result (IsLineIn name.now (rows_of (found_of matches.now))) }
@@ -417,6 +434,8 @@ fn image_line<'a>(name: &str, matches: &ArgMatches<'a>) -> Result<Line<'a>, Faul
 {
     if name == "unprotect" {
         unprotect_line(matches)
+    } else if name == "settle" {
+        settle_line(matches)
     } else if name == "show" {
         show_line(matches)
     } else if name == "read" {
@@ -472,6 +491,7 @@ fn is_nameless(line: Line<'_>) -> bool
         Line::Status { path, .. } => path.is_empty(),
         Line::Check { image, against, .. } => is_path_nameless(image, against),
         Line::Unprotect { image, .. } => image.is_empty(),
+        Line::Settle { image } => image.is_empty(),
         Line::Show { image } => image.is_empty(),
         Line::Read { image, .. } => image.is_empty(),
         Line::Write { image, .. } => image.is_empty(),

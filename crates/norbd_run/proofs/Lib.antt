@@ -3,3 +3,4 @@ pub mod Opening
 pub mod Refusals
 pub mod Sizes
 pub mod Lines
+pub mod Settling

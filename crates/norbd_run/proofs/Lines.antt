@@ -9,11 +9,12 @@ use Rattle.norbd_serve.specs.declared.fault.ServeFault.{ServeFault}
 use Rattle.norbd_serve.specs.declared.fault.ServeFault.TheVariants as serves
 use Rattle.norbd_run.specs.Checking.{CheckTells, Says, checked_text, last_text}
 use Rattle.norbd_run.specs.Chips.{ChipTells, chip_text}
-use Rattle.norbd_run.specs.Moving.{ReadTells, WriteTells, WritesBytes, replacing_text, written_text}
+use Rattle.norbd_run.specs.Moving.{MoveFails, ReadTells, WriteTells, WritesBytes, replacing_text, written_text}
 use Rattle.norbd_run.specs.Rescuing.{EndsWith, RescueTells, SavesFrom, WritesRescued}
 use Rattle.flash_disk.specs.Contents.{contents_of}
 use Rattle.sector_rescue.specs.Rescue.{rescued}
 use Rattle.sector_rescue.specs.declared.doubt.Doubt.{Doubt}
+use Rattle.norbd_run.specs.Settling.{SettleTells, renewed_text}
 use Rattle.norbd_run.specs.Showing.{ShowTells}
 use Rattle.norbd_run.specs.Looking.{StatusTells}
 use Rattle.norbd_status.specs.Status.{told_status}
@@ -255,4 +256,13 @@ status-told tells_json s text old new f g (Ok u) is h = (s, same-bytes text (tol
 status-told tells_json s text old new f g (Err e) is h = elim h [
   | inl none ↦ inl (inl none.0, (none.1, none.2))
   | inr failed ↦ inr (failed.0, (s, same-bytes text (told_status tells_json s) (λ x. FailsToSend old f x new g) is failed.1))
+]
+
+-- the line about a chip that is settled
+pub settle-told : {Z X T : Type 0} (blocks : ℕ) (text : Result (String Z) X) (old new : Option (List ℕ)) (f g : ℕ) (result : Result T Fault)
+    → IfOk text (λ t. string_bytes t ≡ renewed_text blocks) → WritesText text old f result new g → SettleTells old f result new g
+settle-told blocks text old new f g (Ok u) is h = (blocks, same-bytes text (renewed_text blocks) (λ x. Appends old new x) is h.0, h.1)
+settle-told blocks text old new f g (Err e) is h = elim h [
+  | inl none ↦ inl (subst MoveFails (sym none.0) tt, (none.1, none.2))
+  | inr failed ↦ inr (failed.0, (blocks, same-bytes text (renewed_text blocks) (λ x. FailsToSend old f x new g) is failed.1))
 ]

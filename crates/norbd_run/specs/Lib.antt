@@ -8,6 +8,7 @@ pub mod Checking
 pub mod Comparing
 pub mod Moving
 pub mod Rescuing
+pub mod Settling
 pub mod Showing
 pub mod Looking
 pub mod Chips

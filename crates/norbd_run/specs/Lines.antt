@@ -5,7 +5,7 @@ use Rattle.norbd_line.specs.declared.fault.Fault.{Fault}
 use Rattle.norbd_line.specs.declared.line.Line.{Line}
 use Rattle.norbd_line.specs.declared.line.Line.TheVariants.{Chip, Plain, Format, Script, Serve}
 use Rattle.norbd_line.specs.declared.line.Line.TheVariants.{Check, Show, Read, Unprotect, Write}
-use Rattle.norbd_line.specs.declared.line.Line.TheVariants.{Rescue, Status}
+use Rattle.norbd_line.specs.declared.line.Line.TheVariants.{Rescue, Settle, Status}
 use Rattle.norbd_run.specs.Checking.{CheckTells}
 use Rattle.norbd_run.specs.Chips.{ChipTells}
 use Rattle.norbd_run.specs.Formatting.{FormatTells}
@@ -16,6 +16,7 @@ use Rattle.norbd_run.specs.Outcomes.{Ended}
 use Rattle.norbd_run.specs.Rescuing.{RescueTells}
 use Rattle.norbd_run.specs.Scripting.{Scripts, Streams}
 use Rattle.norbd_run.specs.Serving.{PlainServes}
+use Rattle.norbd_run.specs.Settling.{SettleTells}
 use Rattle.norbd_run.specs.Showing.{ShowTells}
 use Rattle.norbd_run.specs.Unprotecting.{UnprotectTells}
 
@@ -29,6 +30,7 @@ HasNumbers (Serve asked) = IsServeInRange asked
 HasNumbers (Status path tells_json) = Unit {0}
 HasNumbers (Check image mends tells_json dump) = Unit {0}
 HasNumbers (Unprotect image sure) = Unit {0}
+HasNumbers (Settle image) = Unit {0}
 HasNumbers (Show image) = Unit {0}
 HasNumbers (Read image range) = Unit {0}
 HasNumbers (Write image range firm) = Unit {0}
@@ -44,6 +46,7 @@ ReadsNothing (Serve asked) = Unit {0}
 ReadsNothing (Status path tells_json) = Unit {0}
 ReadsNothing (Check image mends tells_json dump) = Unit {0}
 ReadsNothing (Unprotect image sure) = Unit {0}
+ReadsNothing (Settle image) = Unit {0}
 ReadsNothing (Show image) = Unit {0}
 ReadsNothing (Read image range) = Unit {0}
 ReadsNothing (Write image range firm) = ⊥
@@ -71,6 +74,8 @@ LineDoes (Check image mends tells_json dump) old result new =
     CheckTells mends tells_json old.written old.writes result new.written new.writes
 LineDoes (Unprotect image sure) old result new =
     UnprotectTells sure old.written old.writes result new.written new.writes
+LineDoes (Settle image) old result new =
+    SettleTells old.written old.writes result new.written new.writes
 LineDoes (Show image) old result new =
     ShowTells old.written old.writes result new.written new.writes
 LineDoes (Read image range) old result new =

@@ -68,15 +68,17 @@ where
     }
 }
 
-/// The disk on such a chip: its departures are noted, its erases counted, and after a loss that the
-/// chip came through it goes on.
-pub(crate) type DiskBehind<'r, 'p, 'n, R> = RestoredDisk<
-    FlashDisk<CountedBus<Noting<'n, Reached<'r, 'p, 'n, R, Reporter<'r, R>>>>, Brand>,
+/// The disk on such a chip: its departures are noted, and its erases counted.
+pub(crate) type FlashBehind<'r, 'p, 'n, R> = FlashDisk<
+    CountedBus<Noting<'n, Reached<'r, 'p, 'n, R, Reporter<'r, R>>>>,
+    Brand,
 >;
+
+/// The same where it goes on after a loss that the chip came through.
+pub(crate) type DiskBehind<'r, 'p, 'n, R> = RestoredDisk<FlashBehind<'r, 'p, 'n, R>>;
 
 /// The disk on the chip behind the programmer at a place, whose departures are noted. Its torn bits
 /// are taken to waver. Where it is lost, that is told, and so is its return.
-#[tactic(auto, using(crate::proofs::Refusals::chip_is_refusal))]
 pub(crate) fn disk_behind<'r, 'p, 'n, R>(
     rt: &'r R,
     place: ProgrammerPlace<'p>,
@@ -94,6 +96,31 @@ where
     ensures ready { IfOk result (λ disk.
         IsDiskReady (⟦<DiskBehind<'r, 'p, 'n, R> as Disk>⟧.facts disk)) }
 {
+    match flash_behind(rt, place, trusts, noted, tidy, wear) {
+        Ok(disk) => Ok(RestoredDisk::new(disk)),
+        Err(fault) => Err(fault),
+    }
+}
+
+/// The same without going on after a loss.
+#[tactic(auto, using(crate::proofs::Refusals::chip_is_refusal))]
+pub(crate) fn flash_behind<'r, 'p, 'n, R>(
+    rt: &'r R,
+    place: ProgrammerPlace<'p>,
+    trusts: bool,
+    noted: &'n Noted,
+    tidy: TidyPolicy,
+    wear: Option<Arc<Wear, Global>>,
+) -> Result<FlashBehind<'r, 'p, 'n, R>, Fault>
+where
+    R: Files + AllocGlobal + Clock + Log + Net<Stream = TcpStream>,
+    R: 'static,
+    ensures refused { IfErr result IsRefusal }
+    ensures sound { IfOk result (λ disk.
+        (⟦<FlashBehind<'r, 'p, 'n, R> as Disk>⟧.facts disk).sound ≡ true) }
+    ensures ready { IfOk result (λ disk.
+        IsDiskReady (⟦<FlashBehind<'r, 'p, 'n, R> as Disk>⟧.facts disk)) }
+{
     let bus = match watch_noting(rt, Reporter { rt }, rt.alloc(), place, trusts, noted) {
         Ok(bus) => bus,
         Err(fault) => return Err(told_of_chip(fault)),
@@ -102,7 +129,7 @@ where
         return Err(Fault::NoMemory);
     };
     match open_bus(rt.alloc(), bus, copy, tidy, wear, Firmness::Firm) {
-        Ok(disk) => Ok(RestoredDisk::new(disk)),
+        Ok(disk) => Ok(disk),
         Err(Fault::ImageFailed(_)) => Err(Fault::ImageFailed(Cause::Chip(noted.cause()))),
         Err(fault) => Err(fault),
     }

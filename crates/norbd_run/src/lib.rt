@@ -2,10 +2,10 @@
 //! memory, in the transmission phase; `format` makes an image of a formatted chip; `script` runs
 //! events, losses of power too, on a chip in memory; `serve` serves the chip in an image to
 //! connections on a port or a Unix socket, and `status` says what such a server does; `check` says
-//! whether an image would be served, and if not, why, and mends one; `show` draws it; `read` and
-//! `write` take its disk out and put it in; `rescue` takes out what can still be told of one that
-//! is damaged; `chip` answers the serprog protocol for one. But for the last two each takes a chip
-//! behind a programmer, too.
+//! whether an image would be served, and if not, why, and mends one; `settle` erases all of it once
+//! and keeps its disk; `show` draws it; `read` and `write` take its disk out and put it in;
+//! `rescue` takes out what can still be told of one that is damaged; `chip` answers the serprog
+//! protocol for one. But for the last two each takes a chip behind a programmer, too.
 //!
 //! Promised to the program: `run_line` does what `LineDoes` says of each command: what is written
 //! where it is done, and the fault where it isn't. Each has a file; `serve_chip`, `image_disk` and
@@ -13,7 +13,8 @@
 //! says is what a mount says, and whether what reads as free is erased (`look_over`); the disk that
 //! `serve` serves is that of the bytes of its image (`open_disk`), `read` gives of it
 //! (`sectors_of_image`), `rescue` too, and of a refused one what its slots tell (`saved_of`), and
-//! `write` makes a healthy and clean image that holds the sectors (`image_with`). `Telling` is the
+//! `write` makes a healthy and clean image that holds the sectors (`image_with`). `settle` does all
+//! steps of a settling in their order, and no sector changes (`settle_all`). `Telling` is the
 //! text of a fault, `reason_of` the rule that a corrupt image breaks, `Output` standard output,
 //! whose last failure is noted; `hold_standard` opens the three standard streams that are closed,
 //! so that no image gets their numbers. Left to the crates below: the words (`norbd_line`),
@@ -44,6 +45,7 @@ mod run;
 mod script;
 mod serve;
 mod serve_chip;
+mod settle;
 mod show;
 mod standard;
 mod status;
@@ -65,6 +67,7 @@ pub use run::run_line;
 pub use script::run_script;
 pub use serve::{Asked, Look, run_serve};
 pub use serve_chip::run_serve_chip;
+pub use settle::{run_settle, run_settle_chip};
 pub use show::{run_show, run_show_chip};
 pub use standard::{Null, Opens, Standard, hold_standard};
 pub use status::run_status;

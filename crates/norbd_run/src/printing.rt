@@ -111,6 +111,7 @@ fn image_of(line: Option<Line<'_>>) -> Subject<'_> {
         Some(Line::Serve(asked)) => Subject::Path(asked.image),
         Some(Line::Check { image, .. }) => Subject::Path(image),
         Some(Line::Unprotect { image, .. }) => Subject::Path(image),
+        Some(Line::Settle { image }) => Subject::Path(image),
         Some(Line::Show { image }) => Subject::Path(image),
         Some(Line::Read { image, .. }) => Subject::Path(image),
         Some(Line::Write { image, .. }) => Subject::Path(image),
@@ -133,6 +134,7 @@ fn unprotecting_of(line: Option<Line<'_>>) -> &'static str {
     match line {
         Some(Line::Serve(_)) => UNPROTECT,
         Some(Line::Write { .. }) => UNPROTECT,
+        Some(Line::Settle { .. }) => UNPROTECT,
         _ => "",
     }
 }

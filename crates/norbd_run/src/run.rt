@@ -12,6 +12,7 @@ use crate::progress::Screen;
 use crate::read::{run_read, run_read_chip};
 use crate::rescue::run_rescue;
 use crate::script::run_script;
+use crate::settle::{run_settle, run_settle_chip};
 use crate::show::{run_show, run_show_chip};
 use crate::status::{run_status, serve_line};
 use crate::unprotect::run_unprotect;
@@ -57,6 +58,10 @@ use std::sync::ledger::Blank;
 /// `unprotect`: ends the protection of the chip behind the programmer that the line names, with a
 /// line about it to `writer`; its faults are those of `run_unprotect`, or `NoProgrammer` of a file.
 /// Nothing is read.
+///
+/// `settle`: erases all of the chip in the file at the path or behind a programmer but its
+/// superblock, keeps its disk, and writes a line about it to `writer`; its faults are those of
+/// `run_settle` or `run_settle_chip`. Nothing is read.
 ///
 /// `show` draws the blocks of the image in the file at the path, with `colours` in those of a
 /// terminal, `read` writes its sectors, `write` replaces them by the bytes of `reader`, and
@@ -131,6 +136,10 @@ where
         Line::Unprotect { image, sure } => match programmer_of(image, clock) {
             Some(place) => run_unprotect(rt, place, sure, writer),
             None => Err(Fault::ImageFailed(Cause::Chip(ChipCause::NoProgrammer))),
+        },
+        Line::Settle { image } => match programmer_of(image, clock) {
+            Some(place) => run_settle_chip(rt, place, writer),
+            None => run_settle(rt, image, writer),
         },
         Line::Show { image } => match programmer_of(image, clock) {
             Some(place) => run_show_chip(rt, place, colours, writer),
