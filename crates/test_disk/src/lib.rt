@@ -1,8 +1,8 @@
 //! Tests of the chip side that are no cases of `test_cases`: chips whose memory is a file, a run of
 //! erases cut in each change, a long run of the map of sectors with losses, the disk's wear and how
-//! it is levelled, a mount without memory, the files of images, a log that ends at each byte, what
-//! a failing call, a kill and a loss of the host's power leave of an image and its log, and a
-//! connection's text cut at each place.
+//! it is levelled, a settling with weak bits and cut in each change, a mount without memory, the
+//! files of images, a log that ends at each byte, what a failing call, a kill and a loss of the
+//! host's power leave of an image and its log, and a connection's text cut at each place.
 //!
 //! There is no product code here. `first_of_new` formats a chip, mounts it as a sound disk and
 //! reads its first sector, so that the contracts of `format`, `mount` and `read` meet: it is proved
@@ -50,6 +50,8 @@ mod replacing;
 mod rows;
 #[cfg(test)]
 mod scripts;
+#[cfg(test)]
+mod settling;
 #[cfg(test)]
 mod station_wear;
 #[cfg(test)]
