@@ -30,7 +30,7 @@ use std::time::{Clock, Duration};
 use std::{io, thread};
 
 /// The losses of a run that end a server.
-const LOSSES: u32 = 100;
+const LOSSES: u32 = 50;
 
 /// The clients of a server, and the sectors that each of them writes.
 const CLIENTS: usize = 2;
