@@ -5,3 +5,4 @@ pub mod Slots
 pub mod Heads
 pub mod Disks
 pub mod Losses
+pub mod Steps

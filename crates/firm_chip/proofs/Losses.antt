@@ -13,7 +13,7 @@ use Rattle.chip_model.proofs.MemoryLaws.{length-changed_from, get-changed, lengt
 use Rattle.firm_chip.specs.Losses.{LossesAreTornThenDrawn, LossesLeaveSteadyDisks}
 use Rattle.firm_chip.proofs.Disks.{each-draw}
 
-past_bit : (m : List ℕ) (i k : ℕ) → length m ≤ i → bit_at (byte m i) k ≡ 0
+pub past_bit : (m : List ℕ) (i k : ℕ) → length m ≤ i → bit_at (byte m i) k ≡ 0
 past_bit m i k high = ap (λ x. bit_at x k) (get_or_past m i 0 high) ∙ bit_at-zero k
 
 byte_from_bits : (v : ℕ) → ((k : ℕ) → 8 ≤ k → bit_at v k ≡ 0) → v < 256
@@ -25,7 +25,7 @@ byte_from_bits v h =
     omega (arith, e, and_le_r v 255)
 
 -- the memory that reads as v where no bit was weak, and as m where one was
-abbrev mixed : List ℕ → List ℕ → ℕ → ℕ → ℕ
+abbrev pub mixed : List ℕ → List ℕ → ℕ → ℕ → ℕ
 mixed m w i x = bit_xor x (bit_and (bit_xor x (byte m i)) (byte w i))
 
 mixed_bit : (m w v : List ℕ) (i k : ℕ) → i < length v
@@ -38,13 +38,13 @@ mixed_bit m w v i k low =
     ∙ (bit_at_xor x (bit_and (bit_xor x (byte m i)) (byte w i)) k
     ∙ ap (λ z. (bit_at x k + z) % 2) (b ∙ ap (λ z. min z (bit_at (byte w i) k)) a))
 
-mixed_firm : (m w v : List ℕ) (i k : ℕ) → bit_at (byte w i) k ≡ 0 → bit_at (byte (changed (mixed m w) v) i) k ≡ bit_at (byte v i) k
+pub mixed_firm : (m w v : List ℕ) (i k : ℕ) → bit_at (byte w i) k ≡ 0 → bit_at (byte (changed (mixed m w) v) i) k ≡ bit_at (byte v i) k
 mixed_firm m w v i k z = elim (cases_lt i (length v)) [
   | inl low ↦ (let e = mixed_bit m w v i k low in let x = bit_at-lt (byte v i) k in omega (arith, e, z, x))
   | inr high ↦ past_bit (changed (mixed m w) v) i k (let n = length-changed_from (mixed m w) 0 v in omega (arith, n, high)) ∙ sym (past_bit v i k high)
 ]
 
-mixed_weak : (m w v : List ℕ) (i k : ℕ) → i < length v → bit_at (byte w i) k ≢ 0 → bit_at (byte (changed (mixed m w) v) i) k ≡ bit_at (byte m i) k
+pub mixed_weak : (m w v : List ℕ) (i k : ℕ) → i < length v → bit_at (byte w i) k ≢ 0 → bit_at (byte (changed (mixed m w) v) i) k ≡ bit_at (byte m i) k
 mixed_weak m w v i k low n =
     let e = mixed_bit m w v i k low in
     let x = bit_at-lt (byte v i) k in
@@ -69,7 +69,7 @@ still_firm w at bytes i k z = elim (cases_lt i (length w)) [
 two : (a b c : ℕ) → a < 2 → b < 2 → c < 2 → b ≢ a → (c ≡ a) ⊎ (c ≡ b)
 two a b c x y z n = elim (cases_eq c a) [ inl e ↦ inl e | inr ne ↦ inr (omega (arith, x, y, z, n, ne)) ]
 
-torn_bit : (b new : Bits) (v : List ℕ) (at : ℕ) (bytes : List ℕ) (i k : ℕ) → TornProgram b (completed_bits (Programming at bytes) b) new → Drawn new.weak new.shown v → bit_at (byte b.weak i) k ≡ 0
+pub torn_bit : (b new : Bits) (v : List ℕ) (at : ℕ) (bytes : List ℕ) (i k : ℕ) → TornProgram b (completed_bits (Programming at bytes) b) new → Drawn new.weak new.shown v → bit_at (byte b.weak i) k ≡ 0
     → (bit_at (byte v i) k ≡ bit_at (byte b.shown i) k) ⊎ (bit_at (byte v i) k ≡ bit_at (byte (programmed b.shown at bytes) i) k)
 torn_bit b new v at bytes i k t d z = elim (t.each i k) [
   | inl a ↦ inl (d.firm i k (a.1 ∙ z) ∙ a.0)
@@ -109,7 +109,7 @@ mixed_drawn m w v = record {
 abbrev within_or : ℕ → ℕ → List ℕ → ℕ → ℕ → ℕ
 within_or a n m i x = cond (is_within a n i) x (byte m i)
 
-either : (t : Bool) → (t ≡ true) ⊎ (t ≡ false)
+pub either : (t : Bool) → (t ≡ true) ⊎ (t ≡ false)
 either true = inl refl
 either false = inr refl
 
@@ -125,7 +125,7 @@ unit_out a n m v i same out = elim (cases_lt i (length v)) [
   | inr high ↦ get_or_past (changed (within_or a n m) v) i 0 (let l = length-changed_from (within_or a n m) 0 v in omega (arith, l, high)) ∙ sym (get_or_past m i 0 (omega (arith, same, high)))
 ]
 
-drawn_byte : (new : Bits) (v : List ℕ) (i : ℕ) → IsBits new → Drawn new.weak new.shown v → byte v i < 256
+pub drawn_byte : (new : Bits) (v : List ℕ) (i : ℕ) → IsBits new → Drawn new.weak new.shown v → byte v i < 256
 drawn_byte new v i is d = byte_from_bits (byte v i) (λ k high.
     d.firm i k (bit_at_above (byte new.weak i) 8 k (is.weak i) high) ∙ bit_at_above (byte new.shown i) 8 k (is.shown i) high)
 
@@ -150,7 +150,7 @@ unit_torn b new v at size t d =
       },
     )
 
-none_torn : (b new : Bits) (v : List ℕ) → new ≡ b → Drawn new.weak new.shown v → Drawn b.weak b.shown v
+pub none_torn : (b new : Bits) (v : List ℕ) → new ≡ b → Drawn new.weak new.shown v → Drawn b.weak b.shown v
 none_torn b new v e d = subst (λ (q : Bits). Drawn q.weak q.shown v) e d
 
 pub torn-drawn : LossesAreTornThenDrawn

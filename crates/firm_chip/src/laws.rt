@@ -1,6 +1,7 @@
 //! What follows for a firm chip, with no work at run time.
 
 ghost use Rattle.firm_chip.specs.Draws.{EachDrawIsTheSameDisk};
+ghost use Rattle.firm_chip.specs.Losses.{CompletedAreDrawnThenDone, LossesAreDrawnThenTorn};
 ghost use Rattle.firm_chip.specs.Losses.{LossesAreTornThenDrawn, LossesLeaveSteadyDisks};
 
 /// Whatever the weak bits of a firm chip read as, it is the same disk.
@@ -11,6 +12,18 @@ pub fn each_draw_is_the_same_disk()
 /// A loss on a chip whose bits waver reads as a draw of one on a chip whose bits are steady.
 pub fn losses_are_torn_then_drawn()
     ensures { LossesAreTornThenDrawn }
+{}
+
+/// Such a loss reads as one of a steady chip that reads as a draw of the chip before. So what a loss
+/// of an operation leaves of each draw holds of each draw after it.
+pub fn losses_are_drawn_then_torn()
+    ensures { LossesAreDrawnThenTorn }
+{}
+
+/// Once an operation has completed, each draw is what the operation makes of a draw of before. So
+/// what it makes of each draw holds of each draw after it.
+pub fn completed_are_drawn_then_done()
+    ensures { CompletedAreDrawnThenDone }
 {}
 
 /// A loss reads as one of the disks that it leaves of a steady chip, where these are firm by the
