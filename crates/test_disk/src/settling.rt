@@ -69,8 +69,8 @@ fn holds_all(disk: &mut OnSim) -> Result<bool, Fail> {
     Ok(true)
 }
 
-/// Settles a chip: whether its disk holds what was written, before, after, and when the plain policy
-/// mounts it next; and how many bytes behind the superblock have a weak bit then.
+/// Settles a chip: whether its disk holds what was written, before, after, and when the plain
+/// policy mounts it next; and how many bytes behind the superblock have a weak bit then.
 fn settled(alloc: Global, chip: SimChip) -> Result<(bool, usize), Fail> {
     let mut disk = mounted_firmly(alloc, chip)?;
     let before = holds_all(&mut disk)?;
