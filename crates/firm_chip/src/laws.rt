@@ -14,8 +14,8 @@ pub fn losses_are_torn_then_drawn()
     ensures { LossesAreTornThenDrawn }
 {}
 
-/// Such a loss reads as one of a steady chip that reads as a draw of the chip before. So what a loss
-/// of an operation leaves of each draw holds of each draw after it.
+/// Such a loss reads as one of a steady chip that reads as a draw of the chip before. So what a
+/// loss of an operation leaves of each draw holds of each draw after it.
 pub fn losses_are_drawn_then_torn()
     ensures { LossesAreDrawnThenTorn }
 {}
