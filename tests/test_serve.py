@@ -330,29 +330,47 @@ class Told(kit.Case):
             "norbd: connection 2 begins", "norbd: connection 2 ends: closed by a request",
             "norbd: connection 2: READ of 512 bytes at 35840: EINVAL"])
 
-    def test_no_memory_for_a_row(self):
-        """A command for whose row there is no memory is answered ENOMEM, told with -v, and has done
-        nothing; the next ones are answered."""
+    def use_up(self, kib):
+        """A server whose memory may grow by so much, its client, and, of WRITEs until one is answered
+        with an error, that error and the number of the last one that is not. None where the server
+        ends."""
         server = self.serve("a.img", "--record", "-v", "--sync", "never")
         client = server.client()
         # what the C library has set aside counts for the second once it is written to
         for key, limit in (("VmSize", resource.RLIMIT_AS), ("VmData", resource.RLIMIT_DATA)):
             with open(f"/proc/{server.pid}/status", encoding="ascii") as file:
                 now = [int(it.split()[1]) << 10 for it in file if it.startswith(key)][0]
-            resource.prlimit(server.pid, limit, (now + (2 << 20), resource.RLIM_INFINITY))
-        for turn in range(200):
-            error = client.do(WRITE, 0, 32768, nbd.sector(turn) * 64)
-            if error:
-                break
-            last = turn
-        else:
-            self.skipTest("this program's allocator can't be used up")
-        self.assertEqual(error, ENOMEM)
-        for limit in (resource.RLIMIT_AS, resource.RLIMIT_DATA):
-            resource.prlimit(server.pid, limit, (resource.RLIM_INFINITY, resource.RLIM_INFINITY))
-        self.assertEqual(client.read(0, 64), nbd.sector(last) * 64)
-        self.assertEqual(client.write(0, nbd.sector(1)), OK)
-        self.assertIn(f"WRITE of 32768 bytes at 0: ENOMEM\n", server.kill().fault)
+            resource.prlimit(server.pid, limit, (now + (kib << 10), resource.RLIM_INFINITY))
+        try:
+            for turn in range(200):
+                error = client.do(WRITE, 0, 32768, nbd.sector(turn) * 64)
+                if error:
+                    return server, client, error, turn - 1
+        except nbd.Closed:
+            self.assertEqual(server.end().fault.splitlines()[-1],
+                             "norbd: image failed: a.img: a write failed")
+            return None
+        self.skipTest("this program's allocator can't be used up")
+
+    def test_no_memory_for_a_row(self):
+        """A command for whose row there is no memory is answered ENOMEM, told with -v, and has done
+        nothing; the next ones are answered. A log that is full, as it is after every 8th of them,
+        needs memory, too, and a server that has none for it ends: so it is tried where that is used
+        up at others."""
+        tried = 0
+        for kib in (2048, 2112, 2176, 2240):
+            used_up = self.use_up(kib)
+            if not used_up:
+                continue
+            server, client, error, last = used_up
+            self.assertEqual(error, ENOMEM)
+            for limit in (resource.RLIMIT_AS, resource.RLIMIT_DATA):
+                resource.prlimit(server.pid, limit, (resource.RLIM_INFINITY, resource.RLIM_INFINITY))
+            self.assertEqual(client.read(0, 64), nbd.sector(last) * 64)
+            self.assertEqual(client.write(0, nbd.sector(1)), OK)
+            self.assertIn("WRITE of 32768 bytes at 0: ENOMEM\n", server.kill().fault)
+            tried += 1
+        self.assertGreater(tried, 0)
 
 
 class Refusals(kit.Case):
