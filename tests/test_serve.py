@@ -331,9 +331,9 @@ class Told(kit.Case):
             "norbd: connection 2: READ of 512 bytes at 35840: EINVAL"])
 
     def use_up(self, kib):
-        """A server whose memory may grow by so much, its client, and, of WRITEs until one is answered
-        with an error, that error and the number of the last one that is not. None where the server
-        ends."""
+        """A server whose memory may grow by so much, its client, and, of WRITEs until one is
+        answered with an error, that error and the number of the last one that isn't. None where
+        the server ends."""
         server = self.serve("a.img", "--record", "-v", "--sync", "never")
         client = server.client()
         # what the C library has set aside counts for the second once it is written to
@@ -365,7 +365,7 @@ class Told(kit.Case):
             server, client, error, last = used_up
             self.assertEqual(error, ENOMEM)
             for limit in (resource.RLIMIT_AS, resource.RLIMIT_DATA):
-                resource.prlimit(server.pid, limit, (resource.RLIM_INFINITY, resource.RLIM_INFINITY))
+                resource.prlimit(server.pid, limit, (resource.RLIM_INFINITY,) * 2)
             self.assertEqual(client.read(0, 64), nbd.sector(last) * 64)
             self.assertEqual(client.write(0, nbd.sector(1)), OK)
             self.assertIn("WRITE of 32768 bytes at 0: ENOMEM\n", server.kill().fault)
