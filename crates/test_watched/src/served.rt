@@ -30,7 +30,7 @@ use std::time::{Clock, Duration};
 use std::{io, thread};
 
 /// The losses of a run that end a server.
-const LOSSES: u32 = 50;
+const LOSSES: u32 = 100;
 
 /// The clients of a server, and the sectors that each of them writes.
 const CLIENTS: usize = 2;
@@ -122,9 +122,14 @@ const NEGOTIATION: [u8; 31] = [
     5, 0x66, 0x6c, 0x61, 0x73, 0x68, 0, 0,
 ];
 
+/// How long a client waits for what a server sends. One that connects while the listening socket is
+/// shut down may seem connected for ever: Linux then sends it no RST.
+const PATIENCE: u64 = 5;
+
 /// Connects and negotiates: the greeting of 18 bytes and 86 bytes of replies come back.
 fn begin<H: Net<Stream = TcpStream>>(rt: &H, addr: SocketAddr) -> io::Result<TcpStream> {
     let mut stream = TcpStream::connect(rt, addr)?;
+    stream.set_read_timeout(Some(Duration::from_secs(PATIENCE)))?;
     let mut greeting = [0u8; 18];
     stream.read_exact(&mut greeting)?;
     stream.write_all(&NEGOTIATION)?;
