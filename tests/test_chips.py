@@ -21,6 +21,15 @@ class ChipCase(kit.Case):
         peer.chip = chip
         return peer
 
+    def slow_down(self, peer, seconds):
+        """Each answer of the programmer takes so long."""
+        answer = peer.programmer.answer
+
+        def slowly(code, take):
+            time.sleep(seconds)
+            return answer(code, take)
+        peer.programmer.answer = slowly
+
     def chip_fails(self, peer, cause, *words, out="", **how):
         """A line about the chip has to fail with this cause."""
         words = [peer.place if it == "CHIP" else it for it in words]
@@ -122,12 +131,7 @@ class Lines(ChipCase):
         """Where standard error is a terminal `write` shows there how far it is, about once a
         second, and elsewhere nothing."""
         peer = self.peer()
-        answer = peer.programmer.answer
-
-        def slowly(code, take):
-            time.sleep(0.0015)
-            return answer(code, take)
-        peer.programmer.answer = slowly
+        self.slow_down(peer, 0.0015)
         ours, theirs = pty.openpty()
         data = b"\x11" * 35840
         process = self.start("write", peer.place, stdin=subprocess.PIPE, stderr=theirs)
@@ -470,12 +474,7 @@ class Settling(ChipCase):
     def test_progress(self):
         """Where standard error is a terminal it says there how far it is, about once a second."""
         peer = self.peer(self.used()[0])
-        answer = peer.programmer.answer
-
-        def slowly(code, take):
-            time.sleep(0.002)
-            return answer(code, take)
-        peer.programmer.answer = slowly
+        self.slow_down(peer, 0.002)
         ours, theirs = pty.openpty()
         process = self.start("settle", peer.place, stderr=theirs)
         os.close(theirs)
