@@ -2,10 +2,11 @@
 use Rattle.std.proofs.Common.{◌≡◌, ℕ, ◌+◌, ◌-◌, ◌*◌, ◌/◌, ◌%◌, ◌<◌, ◌≤◌, ◌⊎◌, Bool, true, false, not, cond, ◌&&◌, ◌||◌, List, [], ◌∷◌, length, drop, refl, sym, ap, ◌∙◌, subst, arith, inl, inr, eqb}
 use Rattle.std.proofs.Math.Nat.{mod-eq_of_lt}
 use Rattle.std.proofs.lemmas.Bool.{cases_lt, cond-true, cond-false, and_left, and_right, and_from, lt-leb, lt-ltb, le-ltb, le-leb, true≢false, false≢true}
-use Rattle.chip_model.specs.Chip.{Chip, Operation, Idle, Programming, Erasing, Setting, is_idle, is_setting, completed, memory_after, protection_after}
+use Rattle.chip_model.specs.Chip.{Chip, Operation, Idle, Programming, Erasing, Setting, is_idle, is_setting, completed, firmed, memory_after, programmed, protection_after}
 use Rattle.chip_model.proofs.MemoryLaws.{length-programmed, length-erased}
 use Rattle.chip_model.specs.Frames.{Command, Enable, Disable, Status1, Status2, Status3, Set, Read, Program, Erase, Id, Sfdp, Unknown, command_of, program_of, after_command, Receives, is_status, Frame, taken, busy, done, status, ignored, is_foreign, is_in_part, is_protected, is_unprotected, starts, with_enabled, with_polls, if_allowed, latched_at, newly_slow, one_more_poll, QuietCompletes}
-use Rattle.chip_model.specs.Cut.{Cut, TornMemory, TornProtection}
+use Rattle.chip_model.specs.Cut.{Cut, TornMemory, TornProtection, weakened}
+use Rattle.chip_model.specs.Memory.{erased}
 
 -- an idle chip takes every frame
 pub when_idle : (c new : Chip) (sent received : List ℕ) → is_idle c.operation ≡ true → Frame c sent received new → Receives c (command_of sent) received × (new ≡ after_command c (command_of sent))
@@ -123,10 +124,10 @@ unhurried c Unknown = inl refl
 
 -- a loss looks at the operation alone, and not at how often its status was read, nor at WEL
 pub cut_polls : (c new : Chip) (n : ℕ) → Cut (with_polls c n) new → Cut c new
-cut_polls c new n h = record { memory = h.memory; sfdp = h.sfdp; protection = h.protection; status2 = h.status2; status3 = h.status3; enabled = h.enabled; operation = h.operation; polls = h.polls; powered = h.powered }
+cut_polls c new n h = record { memory = h.memory; weak = h.weak; sfdp = h.sfdp; protection = h.protection; status2 = h.status2; status3 = h.status3; enabled = h.enabled; operation = h.operation; polls = h.polls; powered = h.powered }
 
 pub cut_enabled : (c new : Chip) (b : Bool) → Cut (with_enabled c b) new → Cut c new
-cut_enabled c new b h = record { memory = h.memory; sfdp = h.sfdp; protection = h.protection; status2 = h.status2; status3 = h.status3; enabled = h.enabled; operation = h.operation; polls = h.polls; powered = h.powered }
+cut_enabled c new b h = record { memory = h.memory; weak = h.weak; sfdp = h.sfdp; protection = h.protection; status2 = h.status2; status3 = h.status3; enabled = h.enabled; operation = h.operation; polls = h.polls; powered = h.powered }
 
 pub idle_not_slow : (c new : Chip) (sent received : List ℕ) → is_idle c.operation ≡ true → Frame c sent received new → newly_slow c new ≡ 0
 idle_not_slow c new sent received idle f =
@@ -188,6 +189,21 @@ idle_not_setting Idle i = refl
 idle_not_setting (Programming at bytes) i = refl
 idle_not_setting (Erasing at size) i = refl
 idle_not_setting (Setting value) i = absurd (false≢true i)
+
+-- where no bit is weak, none becomes so
+pub firmed_none : (o : Operation) (w : List ℕ) → w ≡ [] → firmed o w ≡ []
+unfolding programmed
+firmed_none Idle w h = h
+firmed_none (Programming at bytes) w h = rw h refl
+firmed_none (Erasing at size) w h = rw h refl
+firmed_none (Setting value) w h = h
+
+pub none_torn : (o : Operation) (m w : List ℕ) → w ≡ [] → firmed o w ≡ weakened o m w
+unfolding programmed erased
+none_torn Idle m w h = refl
+none_torn (Programming at bytes) m w h = rw h refl
+none_torn (Erasing at size) m w h = rw h refl
+none_torn (Setting value) m w h = refl
 
 -- on a quiet bus the last status read that is left for an operation finds it completed
 pub quiet_completes : QuietCompletes

@@ -8,8 +8,8 @@ use Rattle.std.proofs.lemmas.Bool.{cases_lt, cases_eq, cond-true, cond-false}
 use Rattle.std.proofs.lemmas.Nat.Bits.{bit_at_or, bit_at_and, bit_at_xor, bit_at_above, bit_at-lt, bit_at-zero, bit_at_ones, same_from_bits}
 use Rattle.chip_model.specs.Memory.{byte, changed, is_within, fill_place, erased, Torn, TornErase}
 use Rattle.chip_model.specs.Chip.{Operation, Idle, Programming, Erasing, Setting, page_place, programmed, offset_in_page}
-use Rattle.chip_model.specs.Cut.{TornMemory}
-use Rattle.chip_model.specs.Wavering.{Bits, IsBits, IsSteady, AtMost, Drawn, TornProgram, TornUnit, TornBits, completed_bits, weakened, worst, SteadyIsTheModel, WorstStandsForAll}
+use Rattle.chip_model.specs.Cut.{TornMemory, weakened}
+use Rattle.chip_model.specs.Wavering.{Bits, IsBits, IsSteady, AtMost, Drawn, TornProgram, TornUnit, TornBits, completed_bits, worst, SteadyIsTheModel, WorstStandsForAll}
 use Rattle.chip_model.proofs.MemoryLaws.{length-changed_from, get-changed, length-programmed, programmed_page, length-erased, get-erased}
 
 -- a byte past the end has no bit

@@ -5,7 +5,7 @@
 use Rattle.std.specs.Prelude.{◌≡◌, ℕ, ◌+◌, ◌-◌, ◌/◌, ◌%◌, Bool, false, true, ◌&&◌, if◌then◌else◌}
 use Rattle.std.specs.Prelude.{nat_lt, ◌==◌, List, length, bit_and, IfOk}
 use Rattle.sfdp.specs.Params.{params_of}
-use Rattle.chip_model.specs.Memory.{byte, changed, erased}
+use Rattle.chip_model.specs.Memory.{byte, changed, cleared, erased}
 
 -- what is in progress
 pub data Operation : Type 0 where
@@ -20,6 +20,9 @@ pub data Operation : Type 0 where
 
 pub record Chip : Type 0 where
   pub memory : List ℕ
+  -- 1 for each bit of the memory that is weak: after the next power-on it may read otherwise. Where
+  -- there is no byte of these, no bit is weak
+  pub weak : List ℕ
   pub sfdp : List ℕ
   -- bits 2 to 7 of status register 1 (BP0, BP1, BP2, TB, SEC, SRP), as a number below 64
   pub protection : ℕ
@@ -68,16 +71,24 @@ memory_after (Programming at bytes) m = programmed m at bytes
 memory_after (Erasing at size) m = erased m at size
 memory_after _ m = m
 
+-- the weak bits once the operation has completed: a program makes the 0 bits of its data firm, and
+-- no other; an erase makes its unit firm
+abbrev pub firmed : Operation → List ℕ → List ℕ
+firmed (Programming at bytes) weak = programmed weak at bytes
+firmed (Erasing at size) weak = cleared weak at size
+firmed _ weak = weak
+
 -- bits 2 to 7 of status register 1 once the operation has completed
 abbrev pub protection_after : Operation → ℕ → ℕ
 protection_after (Setting value) p = value / 4
 protection_after _ p = p
 
--- the operation in progress has completed: its change is in the memory or in the register, and WEL
--- is 0
+-- the operation in progress has completed: its change is in the memory or in the register, what it
+-- makes firm is, and WEL is 0
 abbrev pub completed : Chip → Chip
 completed c = record c {
   memory = memory_after c.operation c.memory;
+  weak = firmed c.operation c.weak;
   protection = protection_after c.operation c.protection;
   enabled = false;
   operation = Idle;

@@ -1,7 +1,7 @@
 -- What a loss of power may leave of a chip, and what turning the power on does. Source: own; the
 -- datasheet leaves open what an interrupted operation leaves.
 use Rattle.std.specs.Prelude.{◌≡◌, ℕ, ◌+◌, ◌/◌, ◌⊎◌, true, false, List}
-use Rattle.chip_model.specs.Memory.{IsMixed, Torn, TornErase}
+use Rattle.chip_model.specs.Memory.{erased, with_differences, IsMixed, Torn, TornErase}
 use Rattle.chip_model.specs.Chip.{Chip, Operation, Idle, Programming, Erasing, Setting, programmed}
 use Rattle.chip_model.specs.Frames.{Frame}
 
@@ -11,6 +11,14 @@ abbrev pub TornMemory : Operation → List ℕ → List ℕ → Type 0
 TornMemory (Programming at bytes) m torn = Torn m (programmed m at bytes) torn
 TornMemory (Erasing at size) m torn = TornErase m at size torn
 TornMemory _ m torn = torn ≡ m
+
+-- the weak bits that a loss leaves of the operation, at worst: of a program each bit that it was to
+-- change, of an erase all bits of its unit (an erase programs it first), and those that were weak
+abbrev pub weakened : Operation → List ℕ → List ℕ → List ℕ
+weakened (Programming at bytes) shown weak =
+    with_differences shown (programmed shown at bytes) weak
+weakened (Erasing at size) shown weak = erased weak at size
+weakened _ shown weak = weak
 
 -- bits 2 to 7 of status register 1 that a loss leaves of an operation: of a status write each old
 -- or new
@@ -22,6 +30,7 @@ TornProtection _ p torn = torn ≡ p
 -- progress, the power is off
 pub record Cut (c left : Chip) : Type 0 where
   pub memory : TornMemory c.operation c.memory left.memory
+  pub weak : left.weak ≡ weakened c.operation c.memory c.weak
   pub sfdp : left.sfdp ≡ c.sfdp
   pub protection : TornProtection c.operation c.protection left.protection
   pub status2 : left.status2 ≡ c.status2

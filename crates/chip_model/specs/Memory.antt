@@ -3,7 +3,8 @@
 -- only clears bits) and "Sector Erase (20h)" (an erase sets bytes to FFh); what an interruption may
 -- leave is own.
 use Rattle.std.specs.Prelude.{◌≡◌, ℕ, ◌+◌, ◌-◌, ◌<◌, ◌⊎◌, Bool, false, true, ◌&&◌, if◌then◌else◌}
-use Rattle.std.specs.Prelude.{nat_lt, nat_le, List, [], ◌∷◌, length, get_or, bit_and}
+use Rattle.std.specs.Prelude.{nat_lt, nat_le, List, [], ◌∷◌, length, get_or, bit_and, bit_or}
+use Rattle.std.specs.Prelude.{bit_xor}
 use Rattle.std.specs.Int.{bit_at}
 
 -- the byte at a place, counted from 0
@@ -50,6 +51,14 @@ fill_place v a size i x = if is_within a size i then v else x
 -- each byte of the unit becomes FFh
 unfoldable pub erased : List ℕ → ℕ → ℕ → List ℕ
 erased m a size = changed (fill_place 255 a size) m
+
+-- each byte of the unit becomes 0
+abbrev pub cleared : List ℕ → ℕ → ℕ → List ℕ
+cleared m a size = changed (fill_place 0 a size) m
+
+-- of two memories each bit in which they differ becomes 1
+abbrev pub with_differences : List ℕ → List ℕ → List ℕ → List ℕ
+with_differences old new m = changed (λ i x. bit_or x (bit_xor (byte old i) (byte new i))) m
 
 -- each bit of a byte is that of the old one or that of the new one
 abbrev pub IsMixed : ℕ → ℕ → ℕ → Type 0

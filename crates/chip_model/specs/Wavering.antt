@@ -3,11 +3,11 @@
 -- until the power goes, and perhaps otherwise from the next power-on. Source: own; the datasheet of
 -- the W25Q128JV leaves open what an interrupted operation leaves, and those who drive raw flash
 -- call such bits unstable.
-use Rattle.std.specs.Prelude.{◌≡◌, ℕ, ◌<◌, ◌⊎◌, false, List, length, bit_or, bit_xor}
+use Rattle.std.specs.Prelude.{◌≡◌, ℕ, ◌<◌, ◌⊎◌, false, List, length}
 use Rattle.std.specs.Int.{bit_at}
-use Rattle.chip_model.specs.Memory.{byte, changed, fill_place, erased, is_within}
-use Rattle.chip_model.specs.Chip.{Operation, Programming, Erasing, memory_after, programmed}
-use Rattle.chip_model.specs.Cut.{TornMemory}
+use Rattle.chip_model.specs.Memory.{byte, is_within}
+use Rattle.chip_model.specs.Chip.{Chip, Operation, Programming, Erasing, memory_after, firmed}
+use Rattle.chip_model.specs.Cut.{TornMemory, weakened}
 
 -- the bits of a memory: what each reads as, and 1 for each weak one; where there is no byte of
 -- these, no bit is weak
@@ -15,24 +15,13 @@ pub record Bits : Type 0 where
   pub shown : List ℕ
   pub weak : List ℕ
 
--- the weak bits once the operation has completed: a program makes the 0 bits of its data firm, and
--- no other; an erase makes its unit firm
-abbrev pub firmed : Operation → List ℕ → List ℕ
-firmed (Programming at bytes) weak = programmed weak at bytes
-firmed (Erasing at size) weak = changed (fill_place 0 at size) weak
-firmed _ weak = weak
+-- those of a chip
+abbrev pub bits_of : Chip → Bits
+bits_of c = record { shown = c.memory; weak = c.weak }
 
 -- the bits once the operation has completed
 abbrev pub completed_bits : Operation → Bits → Bits
 completed_bits op b = record { shown = memory_after op b.shown; weak = firmed op b.weak }
-
--- the weak bits that a loss leaves of the operation, at worst: of a program each bit that it was to
--- change, of an erase all bits of its unit (an erase programs it first), and those that were weak
-abbrev pub weakened : Operation → List ℕ → List ℕ → List ℕ
-weakened (Programming at bytes) shown weak =
-    changed (λ i w. bit_or w (bit_xor (byte shown i) (byte (programmed shown at bytes) i))) weak
-weakened (Erasing at size) shown weak = erased weak at size
-weakened _ shown weak = weak
 
 -- a draw: what the memory reads as after a power-on is as before, but for the weak bits
 pub record Drawn (weak old new : List ℕ) : Type 0 where

@@ -10,14 +10,16 @@ use Rattle.std.proofs.lemmas.Nat.Bits.{bit_at_or, bit_at_and, bit_at_not, bit_at
 use Rattle.std.proofs.lemmas.Grind.{same_number_lists}
 use Rattle.chip_model.specs.Memory.{byte, changed, changed_from, is_within, fill_place, erased}
 use Rattle.chip_model.specs.Chip.{Operation, Idle, Programming, Erasing, Setting, is_idle, page_place, programmed}
-use Rattle.chip_model.specs.Wavering.{Drawn, firmed, weakened}
+use Rattle.chip_model.specs.Chip.{firmed}
+use Rattle.chip_model.specs.Cut.{weakened}
+use Rattle.chip_model.specs.Wavering.{Drawn}
 use Rattle.chip_model.proofs.MemoryLaws.{length-changed_from, get-changed, changed_from_none, changed_set, programmed_page, length-programmed, length-erased, within, not-within-below, not-within-above}
 use Rattle.chip_simulator.specs.Mask.{by_mask, filled}
 use Rattle.chip_simulator.specs.Fits.{operation_of}
 use Rattle.chip_simulator.specs.declared.frame.Operation as s
 use Rattle.chip_simulator.specs.declared.frame.Operation.TheVariants as o
 use Rattle.chip_simulator.proofs.MaskLaws.{filled_unit}
-use Rattle.chip_simulator.specs.Weak.{drawn_by, firmed_from}
+use Rattle.chip_simulator.specs.Weak.{drawn_by}
 
 -- a list of no byte stays one
 pub empty_same : (xs ys : List ℕ) → length xs ≡ 0 → length ys ≡ 0 → xs ≡ ys
@@ -181,14 +183,6 @@ firmed_erase op latched w new at size is exact =
 pub still_tracked : (w m w' m' : List ℕ) → ((length w == 0) || (length w == length m)) ≡ true → length w' ≡ length w → length m' ≡ length m
     → ((length w' == 0) || (length w' == length m')) ≡ true
 still_tracked w m w' m' h a b = ap (λ n. (n == 0) || (n == length m')) a ∙ (ap (λ n. (length w == 0) || (length w == n)) b ∙ h)
-
--- where nothing was in progress, nothing becomes firm
-pub firmed_latched : (op : s.Operation) (old new : List ℕ) (after : Operation) (w : List ℕ) → (is_idle (operation_of old op) ≡ false → new ≡ old)
-    → firmed_from (operation_of new op) after w ≡ firmed_from (operation_of old op) after w
-firmed_latched o.Idle old new after w h = refl
-firmed_latched (o.Programming at count) old new after w h = ap (λ (xs : List ℕ). firmed_from (operation_of xs (o.Programming at count)) after w) (h refl)
-firmed_latched (o.Erasing at size) old new after w h = refl
-firmed_latched (o.Setting value) old new after w h = refl
 
 -- a vector that is written to as a slice
 pub kept_items : (v : Vec ℕ Global) (old new : List ℕ) → old ≡ v.items → length new ≡ length old → (with_items v new).items ≡ new

@@ -2,6 +2,7 @@
 use Rattle.std.specs.Prelude.{ℕ, ◌-◌, ◌/◌, false, List, bit_and, bit_or}
 use Rattle.chip_model.specs.Memory.{changed, fill_place}
 use Rattle.chip_model.specs.Chip.{Chip, Operation, Idle, Programming, Erasing, Setting, page_place}
+use Rattle.chip_model.specs.Cut.{weakened}
 
 -- the bits of the new byte where the mask has 1, those of the old byte where it has 0
 abbrev pub by_mask : ℕ → ℕ → ℕ → ℕ
@@ -34,6 +35,7 @@ torn_protection mask _ p = p
 abbrev pub torn_by : ℕ → Chip → Chip
 torn_by mask c = record c {
   memory = torn_memory mask c.operation c.memory;
+  weak = weakened c.operation c.memory c.weak;
   protection = torn_protection mask c.operation c.protection;
   enabled = false;
   operation = Idle;

@@ -1,5 +1,5 @@
 -- The chip that a simulator represents, and what it was armed for. Source: own.
-use Rattle.std.specs.Prelude.{◌≡◌, ◌⊎◌, ℕ, false, true, List, length}
+use Rattle.std.specs.Prelude.{◌≡◌, ◌⊎◌, ℕ, false, true, List, [], length}
 use Rattle.chip_model.specs.Chip.{Chip, Operation, Idle, completed}
 use Rattle.chip_model.specs.Frames.{Receives, Status1, with_polls, one_more_poll}
 use Rattle.chip_simulator.specs.Fits.{operation_of}
@@ -18,6 +18,7 @@ operation_in s = operation_of s.latched.bytes s.operation
 abbrev pub chip_in : Cells → Chip
 chip_in s = record {
   memory = s.memory.items;
+  weak = s.weak.items;
   sfdp = sfdp_table s.size s.spoiled;
   protection = s.protection;
   status2 = 0;
@@ -33,10 +34,6 @@ pace_in s = record { next = s.slow_next; stuck = s.stuck }
 
 abbrev pub chip_of : SimChip → Chip
 chip_of s = chip_in s.cells
-
--- 1 for each weak bit of the memory; no byte where the chip is steady
-abbrev pub weak_of : SimChip → List ℕ
-weak_of s = s.weak.items
 
 abbrev pub pace_of : SimChip → Pace
 pace_of s = pace_in s.cells
@@ -58,10 +55,11 @@ abbrev pub Polls : Chip → List ℕ → Chip → Type 0
 Polls c received new = (Receives c Status1 received × (new ≡ with_polls c (one_more_poll c.polls)))
     ⊎ (Receives (completed c) Status1 received × (new ≡ completed c))
 
--- a chip with this memory, as it is when the power comes for the first time
+-- a steady chip with this memory, as it is when the power comes for the first time
 abbrev pub fresh_chip : List ℕ → Chip
 fresh_chip m = record {
   memory = m;
+  weak = [];
   sfdp = sfdp_table (length m) false;
   protection = 0;
   status2 = 0;
@@ -75,6 +73,10 @@ fresh_chip m = record {
 -- the chip with other SFDP bytes
 abbrev pub with_sfdp : Chip → List ℕ → Chip
 with_sfdp c sfdp = record c { sfdp = sfdp }
+
+-- the chip with these weak bits
+abbrev pub with_weak : Chip → List ℕ → Chip
+with_weak c weak = record c { weak = weak }
 
 -- the chip with another memory
 abbrev pub with_memory : Chip → List ℕ → Chip

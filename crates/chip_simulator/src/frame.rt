@@ -1,6 +1,6 @@
 //! A chip's cells and registers in memory, what a frame of bytes does to them, and what it answers.
 
-ghost use Rattle.std.specs.Prelude.{◌^◌, ◌≡◌, ◌+◌, ◌-◌, ◌*◌, ◌/◌, ◌%◌, ◌<◌, ◌≤◌, ◌⊎◌, ◌||◌, ℕ};
+ghost use Rattle.std.specs.Prelude.{◌^◌, ◌≡◌, ◌==◌, ◌+◌, ◌-◌, ◌*◌, ◌/◌, ◌%◌, ◌<◌, ◌≤◌, ◌⊎◌, ◌||◌, ℕ};
 ghost use Rattle.std.specs.Prelude.{EachIndex, false, length, min, nat_le, not, slice_index, take};
 ghost use Rattle.std.specs.Prelude.{true};
 ghost use Rattle.chip_model.specs.Geometry.{IsChipSize};
@@ -12,6 +12,7 @@ ghost use Rattle.spi_frames.specs.Instruction.{HasBytes, instructed};
 
 use crate::answers::{fill_id, fill_sfdp};
 use crate::copy::fill_from;
+use crate::weak::firm;
 use spi_frames::{Instruction, decode};
 
 /// What is in progress.
@@ -60,6 +61,9 @@ impl Latch {
 #[derive(Drop)]
 pub struct Cells {
     pub memory: Vec<u8>,
+    /// 1 for each bit of the memory that is weak. No byte where the chip is steady: then no bit
+    /// ever is.
+    pub weak: Vec<u8>,
     /// The memory's bytes.
     pub size: u32,
     /// Whether byte 0 of the SFDP table is wrong.
@@ -83,6 +87,7 @@ pub struct Cells {
     /// How many operations showed BUSY in 65,535 status reads.
     pub slows: u64,
     ghost bytes: { length memory.items ≡ size },
+    ghost tracked: { ((length weak.items == 0) || (length weak.items == size)) ≡ true },
     ghost whole: { length memory.items % 65536 ≡ 0 },
     ghost some: { 0 < length memory.items },
     ghost most: { length memory.items ≤ 16777216 },
@@ -96,11 +101,14 @@ impl Cells {
     ghost use Rattle.chip_model.specs.Chip.{completed, is_idle};
     ghost use Rattle.chip_model.specs.Frames.{is_protected, status_1};
     ghost use Rattle.chip_simulator.specs.Sim.{chip_in, fresh_chip, operation_in, pace_in};
+    ghost use Rattle.chip_simulator.specs.Sim.{with_weak};
 
-    /// Cells with this memory, with the power on and nothing in progress.
-    pub(crate) fn new(bytes: Vec<u8>) -> Cells
+    /// Cells with this memory and these weak bits, with the power on and nothing in progress.
+    pub(crate) fn new(bytes: Vec<u8>, weak: Vec<u8>) -> Cells
         requires size { IsChipSize (length bytes.items) }
-        ensures chip { chip_in result ≡ fresh_chip bytes.items }
+        requires tracked { ((length weak.items == 0) || (length weak.items == length bytes.items))
+            ≡ true }
+        ensures chip { chip_in result ≡ with_weak (fresh_chip bytes.items) weak.items }
         ensures pace { pace_in result ≡ record { next = false; stuck = false } }
         ensures cuts { result.cuts ≡ 0 }
         ensures slows { result.slows ≡ 0 }
@@ -108,6 +116,7 @@ impl Cells {
         let size = bytes.len() as u32;
         Cells {
             memory: bytes,
+            weak,
             size,
             spoiled: false,
             protection: 0,
@@ -156,7 +165,7 @@ impl Cells {
         }
     }
 
-    /// The operation in progress completes.
+    /// The operation in progress completes: what it made firm is weak no more.
     pub(crate) fn complete(&mut self)
         ensures chip { chip_in self.new ≡ completed (chip_in self.old) }
         ensures latched { self.new.latched ≡ self.old.latched }
@@ -164,6 +173,7 @@ impl Cells {
         ensures cuts { self.new.cuts ≡ self.old.cuts }
         ensures slows { self.new.slows ≡ self.old.slows }
     {
+        firm(&mut self.weak, self.operation, &self.latched);
         match self.operation {
             Operation::Idle => {}
             Operation::Programming(at, count) => {

@@ -35,8 +35,9 @@ impl<F: Drop> ImageBus<F> {
         ensures cuts { image_cuts result ≡ 0 }
         ensures sound { image_broken result ≡ false }
     {
+        let none = Vec::new(*bytes.allocator());
         ImageBus {
-            cells: Cells::new(bytes),
+            cells: Cells::new(bytes, none),
             file,
             broken: false,
         }

@@ -5,13 +5,15 @@ ghost use Rattle.chip_model.specs.Memory.{IsMixed};
 ghost use Rattle.chip_simulator.specs.Mask.{by_mask};
 
 use crate::frame::{Cells, Operation, fill_unit, tear_page};
+use crate::weak::weaken;
 
 impl Cells {
     ghost use Rattle.chip_model.specs.Cut.{Cut};
     ghost use Rattle.chip_simulator.specs.Mask.{torn_by};
     ghost use Rattle.chip_simulator.specs.Sim.{chip_in};
 
-    /// The power goes; of an operation in progress the mask says what remains.
+    /// The power goes; of an operation in progress the mask says what remains, and its bits are
+    /// weak.
     pub(crate) fn turn_off(&mut self, mask: u8)
         ensures cut { Cut (chip_in self.old) (chip_in self.new) }
         ensures exact { chip_in self.new ≡ torn_by mask (chip_in self.old) }
@@ -20,6 +22,7 @@ impl Cells {
         ensures cuts { self.new.cuts ≡ self.old.cuts }
         ensures slows { self.new.slows ≡ self.old.slows }
     {
+        weaken(&mut self.weak, &self.memory, self.operation, &self.latched);
         match self.operation {
             Operation::Idle => {}
             Operation::Programming(at, count) => {

@@ -10,7 +10,7 @@ ghost use Rattle.chip_simulator.specs.Simulated.{after_frame, is_accepted, paced
 use crate::error::SimError;
 use crate::frame::Cells;
 use crate::plan::Plan;
-use crate::weak::{redraw, settle, weaken};
+use crate::weak::redraw;
 use chip_model::{PowerLost, SpiBus, is_chip_size};
 
 /// A chip in memory that loses its power inside the frame that it was armed for, and nowhere else.
@@ -21,19 +21,14 @@ use chip_model::{PowerLost, SpiBus, is_chip_size};
 pub struct SimChip {
     cells: Cells,
     plan: Plan,
-    /// 1 for each bit of the memory that is weak. No byte where the chip is steady: then no bit
-    /// ever is.
-    weak: Vec<u8>,
-    ghost tracked: { ((length weak.items == 0) || (length weak.items == length cells.memory.items))
-        ≡ true },
 }
 
 impl SimChip {
     ghost use Rattle.chip_simulator.specs.Sim.{armed_of, chip_of, cuts_of, fresh_chip, pace_of};
     ghost use Rattle.chip_model.specs.Cut.{with_power};
     ghost use Rattle.chip_model.specs.Wavering.{Drawn};
-    ghost use Rattle.chip_simulator.specs.Sim.{slows_of, weak_of, with_memory, with_sfdp};
-    ghost use Rattle.chip_simulator.specs.Weak.{drawn_by, weakened_in};
+    ghost use Rattle.chip_simulator.specs.Sim.{slows_of, with_memory, with_sfdp, with_weak};
+    ghost use Rattle.chip_simulator.specs.Weak.{drawn_by};
 
     /// A chip with this memory: the power is on, status register 1 is 0, nothing is armed.
     /// `BadSize` exactly where no chip has so many bytes.
@@ -41,7 +36,6 @@ impl SimChip {
         ensures fits { IsOk result ↔ IsChipSize (length bytes.items) }
         ensures refused { OnErr result (result ≡ Err SimError.BadSize) }
         ensures chip { IfOk result (λ s. chip_of s ≡ fresh_chip bytes.items) }
-        ensures steady { IfOk result (λ s. weak_of s ≡ []) }
         ensures unarmed { IfOk result (λ s. (armed_of s).armed ≡ 0) }
         ensures prompt { IfOk result (λ s. pace_of s ≡ record { next = false; stuck = false }) }
         ensures cuts { IfOk result (λ s. cuts_of s ≡ 0) }
@@ -57,8 +51,7 @@ impl SimChip {
         ensures fits { IsOk result
             ↔ IsChipSize (length bytes.items) × (length weak.items ≡ length bytes.items) }
         ensures refused { OnErr result (result ≡ Err SimError.BadSize) }
-        ensures chip { IfOk result (λ s. chip_of s ≡ fresh_chip bytes.items) }
-        ensures weak { IfOk result (λ s. weak_of s ≡ weak.items) }
+        ensures chip { IfOk result (λ s. chip_of s ≡ with_weak (fresh_chip bytes.items) weak.items) }
         ensures unarmed { IfOk result (λ s. (armed_of s).armed ≡ 0) }
         ensures prompt { IfOk result (λ s. pace_of s ≡ record { next = false; stuck = false }) }
         ensures cuts { IfOk result (λ s. cuts_of s ≡ 0) }
@@ -76,8 +69,7 @@ impl SimChip {
             ≡ true }
         ensures fits { IsOk result ↔ IsChipSize (length bytes.items) }
         ensures refused { OnErr result (result ≡ Err SimError.BadSize) }
-        ensures chip { IfOk result (λ s. chip_of s ≡ fresh_chip bytes.items) }
-        ensures weak { IfOk result (λ s. weak_of s ≡ weak.items) }
+        ensures chip { IfOk result (λ s. chip_of s ≡ with_weak (fresh_chip bytes.items) weak.items) }
         ensures unarmed { IfOk result (λ s. (armed_of s).armed ≡ 0) }
         ensures prompt { IfOk result (λ s. pace_of s ≡ record { next = false; stuck = false }) }
         ensures cuts { IfOk result (λ s. cuts_of s ≡ 0) }
@@ -87,8 +79,7 @@ impl SimChip {
             return Err(SimError::BadSize);
         }
         Ok(SimChip {
-            cells: Cells::new(bytes),
-            weak,
+            cells: Cells::new(bytes, weak),
             plan: Plan {
                 armed: 0,
                 kind: 0,
@@ -106,9 +97,9 @@ impl SimChip {
 
     /// 1 for each bit of the memory that is weak; no byte where the chip is steady.
     pub fn weak(&self) -> &[u8]
-        ensures { result.now ≡ weak_of self.now }
+        ensures { result.now ≡ (chip_of self.now).weak }
     {
-        &self.weak
+        &self.cells.weak
     }
 
     /// The chip's memory.
@@ -123,7 +114,6 @@ impl SimChip {
     pub fn spoil_sfdp(&mut self)
         ensures chip { chip_of self.new
             ≡ with_sfdp (chip_of self.old) (slice_set (chip_of self.old).sfdp 0 82) }
-        ensures weak { weak_of self.new ≡ weak_of self.old }
         ensures armed { armed_of self.new ≡ armed_of self.old }
         ensures pace { pace_of self.new ≡ pace_of self.old }
         ensures cuts { cuts_of self.new ≡ cuts_of self.old }
@@ -140,7 +130,6 @@ impl SimChip {
     pub fn arm_cut(&mut self, count: u32, kind: u8, mask: u8)
         ensures armed { armed_of self.new ≡ record { armed = count; kind = kind; mask = mask } }
         ensures chip { chip_of self.new ≡ chip_of self.old }
-        ensures weak { weak_of self.new ≡ weak_of self.old }
         ensures pace { pace_of self.new ≡ pace_of self.old }
         ensures cuts { cuts_of self.new ≡ cuts_of self.old }
         ensures slows { slows_of self.new ≡ slows_of self.old }
@@ -157,7 +146,6 @@ impl SimChip {
         ensures next { (pace_of self.new).next ≡ true }
         ensures stuck { (pace_of self.new).stuck ≡ (pace_of self.old).stuck }
         ensures chip { chip_of self.new ≡ chip_of self.old }
-        ensures weak { weak_of self.new ≡ weak_of self.old }
         ensures armed { armed_of self.new ≡ armed_of self.old }
         ensures cuts { cuts_of self.new ≡ cuts_of self.old }
         ensures slows { slows_of self.new ≡ slows_of self.old }
@@ -170,25 +158,19 @@ impl SimChip {
     /// again and again. So this is no call of a `SpiBus`, whose memory is steady.
     pub fn power_cycle(&mut self, draw: &[u8])
         requires { 0 < length draw.now }
-        ensures weak { weak_of self.new ≡ weakened_in (chip_of self.old) (weak_of self.old) }
-        ensures drawn { Drawn (weak_of self.new) (torn_by 0 (chip_of self.old)).memory
-            (chip_of self.new).memory }
+        ensures drawn { Drawn (torn_by 0 (chip_of self.old)).weak
+            (torn_by 0 (chip_of self.old)).memory (chip_of self.new).memory }
         ensures exact { chip_of self.new ≡ with_memory (with_power (torn_by 0 (chip_of self.old)))
-            (drawn_by draw.now (weak_of self.new) (torn_by 0 (chip_of self.old)).memory) }
+            (drawn_by draw.now (torn_by 0 (chip_of self.old)).weak
+            (torn_by 0 (chip_of self.old)).memory) }
         ensures cuts { cuts_of self.new ≡ cuts_of self.old }
         ensures slows { slows_of self.new ≡ slows_of self.old }
         ensures armed { armed_of self.new ≡ armed_of self.old }
         ensures next { (pace_of self.new).next ≡ (pace_of self.old).next }
         ensures stuck { (pace_of self.new).stuck ≡ false }
     {
-        weaken(
-            &mut self.weak,
-            &self.cells.memory,
-            self.cells.operation,
-            &self.cells.latched,
-        );
         self.cells.turn_off(0);
-        redraw(&mut self.cells.memory, &self.weak, draw);
+        redraw(&mut self.cells.memory, &self.cells.weak, draw);
         self.cells.powered = true;
     }
 }
@@ -197,8 +179,6 @@ impl SpiBus for SimChip {
     ghost use Rattle.chip_model.specs.Cut.{Loses, PowersOn, with_power};
     ghost use Rattle.chip_model.specs.Frames.{Frame, newly_slow};
     ghost use Rattle.chip_simulator.specs.Sim.{armed_of, chip_of, cuts_of, pace_of, slows_of};
-    ghost use Rattle.chip_simulator.specs.Sim.{weak_of};
-    ghost use Rattle.chip_simulator.specs.Weak.{firmed_from, weakened_after, weakened_in};
     ghost use Rattle.chip_simulator.specs.Lawful.{lawful_chip};
 
     ghost chip = { chip_of };
@@ -240,16 +220,6 @@ impl SpiBus for SimChip {
             → chip_of self.new ≡ torn_by (armed_of self.old).mask
             (after_frame (pace_of self.old).stuck (chip_of self.old) send.now)) }
 
-        // What completes is firm, what is torn is weak.
-        ensures firmed { OnOk result (weak_of self.new
-            ≡ firmed_from (chip_of self.old).operation (chip_of self.new).operation
-            (weak_of self.old)) }
-        ensures weakened { OnErr result ((chip_of self.old).powered ≡ true
-            → slows_of self.old + 1 < 2 ^ 64
-            → weak_of self.new
-            ≡ weakened_after (pace_of self.old).stuck (chip_of self.old) send.now
-            (weak_of self.old)) }
-
         // An operation is slow only where that was armed.
         ensures pace { OnOk result (pace_of self.new
             ≡ paced (pace_of self.old) (is_accepted (chip_of self.old) send.now)) }
@@ -265,27 +235,19 @@ impl SpiBus for SimChip {
         // With the power off nothing happens.
         ensures off { (chip_of self.old).powered ≡ false
             → IsErr result × (armed_of self.new ≡ armed_of self.old)
-            × (pace_of self.new ≡ pace_of self.old) × (weak_of self.new ≡ weak_of self.old) }
+            × (pace_of self.new ≡ pace_of self.old) }
     {
         if !self.cells.powered {
             return Err(PowerLost);
         }
         let slows = self.cells.slows;
-        let before = self.cells.operation;
         let accepted = self.cells.take(send, recv);
-        settle(&mut self.weak, before, &self.cells);
         if !self.plan.strikes(accepted) {
             return Ok(());
         }
         if self.cells.cuts == u64::MAX {
             return Ok(());
         }
-        weaken(
-            &mut self.weak,
-            &self.cells.memory,
-            self.cells.operation,
-            &self.cells.latched,
-        );
         self.cells.turn_off(self.plan.mask);
         self.cells.slows = slows;
         self.cells.cuts += 1;
@@ -297,18 +259,11 @@ impl SpiBus for SimChip {
             (cuts_of self.new) }
         ensures slows { slows_of self.new ≡ slows_of self.old }
         ensures exact { chip_of self.new ≡ with_power (torn_by 0 (chip_of self.old)) }
-        ensures weak { weak_of self.new ≡ weakened_in (chip_of self.old) (weak_of self.old) }
         ensures cuts { cuts_of self.new ≡ cuts_of self.old }
         ensures armed { armed_of self.new ≡ armed_of self.old }
         ensures next { (pace_of self.new).next ≡ (pace_of self.old).next }
         ensures stuck { (pace_of self.new).stuck ≡ false }
     {
-        weaken(
-            &mut self.weak,
-            &self.cells.memory,
-            self.cells.operation,
-            &self.cells.latched,
-        );
         self.cells.turn_off(0);
         self.cells.powered = true;
     }
@@ -317,7 +272,6 @@ impl SpiBus for SimChip {
         ensures chip { chip_of self.new ≡ chip_of self.old }
         ensures cuts { cuts_of self.new ≡ cuts_of self.old }
         ensures slows { slows_of self.new ≡ slows_of self.old }
-        ensures weak { weak_of self.new ≡ weak_of self.old }
         ensures armed { armed_of self.new ≡ record { armed = count; kind = kind; mask = mask } }
         ensures pace { pace_of self.new ≡ pace_of self.old }
     {

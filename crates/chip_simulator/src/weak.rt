@@ -2,16 +2,16 @@
 
 ghost use Rattle.std.specs.Prelude.{◌≡◌, ◌+◌, ◌*◌, ◌/◌, ◌%◌, ◌<◌, ◌≤◌, ◌||◌, ◌==◌, bit_and, length};
 ghost use Rattle.std.specs.Prelude.{true};
-ghost use Rattle.chip_model.specs.Chip.{Programming, page_place};
-ghost use Rattle.chip_model.specs.Wavering.{Drawn, firmed, weakened};
+ghost use Rattle.chip_model.specs.Chip.{Programming, firmed, page_place};
+ghost use Rattle.chip_model.specs.Cut.{weakened};
+ghost use Rattle.chip_model.specs.Wavering.{Drawn};
 ghost use Rattle.chip_simulator.specs.Fits.{fits_in, operation_of};
-ghost use Rattle.chip_simulator.specs.Sim.{operation_in};
-ghost use Rattle.chip_simulator.specs.Weak.{drawn_by, firmed_from};
+ghost use Rattle.chip_simulator.specs.Weak.{drawn_by};
 
-use crate::frame::{Cells, Latch, Operation, fill_unit, program_page};
+use crate::frame::{Latch, Operation, fill_unit, program_page};
 
 /// The bits that an operation makes firm when it completes are weak no more.
-fn firm(weak: &mut [u8], operation: Operation, latched: &Latch)
+pub(crate) fn firm(weak: &mut [u8], operation: Operation, latched: &Latch)
     requires fits { ((length weak.old == 0) || fits_in operation (length weak.old)) ≡ true }
     ensures firmed { weak.new ≡ firmed (operation_of latched.now.bytes operation) weak.old }
     ensures length { length weak.new ≡ length weak.old }
@@ -23,20 +23,6 @@ fn firm(weak: &mut [u8], operation: Operation, latched: &Latch)
         Operation::Programming(at, count) => program_page(weak, at, latched.first(count)),
         Operation::Erasing(at, size) => fill_unit(weak, at, size, 0),
         Operation::Idle | Operation::Setting(_) => {}
-    }
-}
-
-/// Where the operation that was in progress is so no more, it has completed, and the bits that it
-/// made firm are weak no more.
-pub(crate) fn settle(weak: &mut [u8], before: Operation, cells: &Cells)
-    requires fits { ((length weak.old == 0) || fits_in before (length weak.old)) ≡ true }
-    ensures settled { weak.new
-        ≡ firmed_from (operation_of cells.now.latched.bytes before) (operation_in cells.now)
-        weak.old }
-    ensures length { length weak.new ≡ length weak.old }
-{
-    if cells.is_idle() {
-        firm(weak, before, &cells.latched);
     }
 }
 

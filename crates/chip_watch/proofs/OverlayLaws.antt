@@ -1,12 +1,13 @@
 -- A chip with other registers 2 and 3, another table and a count of its own takes frames as the
 -- simulated one does.
-use Rattle.std.proofs.Common.{◌≡◌, ℕ, ◌+◌, ◌*◌, ◌/◌, ◌%◌, ◌<◌, Bool, true, false, not, cond, ◌&&◌, ◌||◌, List, length, refl, sym, ap, ◌∙◌, arith, inl, inr}
+use Rattle.std.proofs.Common.{◌≡◌, ℕ, ◌+◌, ◌*◌, ◌/◌, ◌%◌, ◌<◌, Bool, true, false, not, cond, ◌&&◌, ◌||◌, List, [], length, refl, sym, ap, ◌∙◌, arith, inl, inr}
 use Rattle.std.specs.Prelude.{◌==◌, if◌then◌else◌}
 use Rattle.std.proofs.lemmas.Bool.{true≢false, false≢true, cases_lt}
 use Rattle.std.proofs.lemmas.List.{get_or_past}
 use Rattle.chip_model.specs.Memory.{byte, erased, is_within}
 use Rattle.chip_model.specs.Chip.{Chip, Operation, Idle, Programming, Erasing, Setting, is_idle, completed, memory_after, protection_after}
 use Rattle.chip_model.specs.Cut.{Cut, TornMemory, TornProtection}
+use Rattle.chip_model.proofs.FrameLaws.{none_torn}
 use Rattle.chip_model.specs.Frames.{Command, Enable, Disable, Status1, Status2, Status3, Set, Read, Program, Erase, Id, Sfdp, Unknown, after_command, starts, with_enabled, with_polls, if_allowed, is_protected, is_in_part, latched_at, status_1}
 use Rattle.chip_model.proofs.MemoryLaws.{length-programmed, length-erased, erased-outside, erased-inside}
 use Rattle.chip_watch.specs.declared.change.Change.{Change}
@@ -170,9 +171,10 @@ protection_new (Erasing at size) p = refl
 protection_new (Setting value) p = λ k. inr refl
 
 -- an operation that completes just before the power goes
-pub cut_when_done : (c : Chip) → Cut c (record (completed c) { powered = false })
-cut_when_done c = record {
+pub cut_when_done : (c : Chip) → c.weak ≡ [] → Cut c (record (completed c) { powered = false })
+cut_when_done c steady = record {
   memory = mixed_new c.operation c.memory;
+  weak = none_torn c.operation c.memory c.weak steady;
   sfdp = refl;
   protection = protection_new c.operation c.protection;
   status2 = refl;

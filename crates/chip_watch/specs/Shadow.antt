@@ -1,5 +1,5 @@
 -- The chip in memory beside a watched one. Source: own.
-use Rattle.std.specs.Prelude.{◌≡◌, ℕ, false, true, List, IfOk, if◌then◌else◌}
+use Rattle.std.specs.Prelude.{◌≡◌, ℕ, false, true, List, [], IfOk, if◌then◌else◌}
 use Rattle.sfdp.specs.Params.{params_of}
 use Rattle.chip_model.specs.Chip.{Chip, is_idle}
 use Rattle.chip_model.specs.Frames.{with_polls}
@@ -16,12 +16,13 @@ overlaid c sfdp status2 status3 polls = record c {
   polls = polls;
 }
 
--- nothing is armed, no operation is slow, and the power is on
+-- nothing is armed, no operation is slow, no bit is weak, and the power is on
 pub record IsCalm (s : SimChip) : Type 0 where
   pub powered : (chip_of s).powered ≡ true
   pub unarmed : (armed_of s).armed ≡ 0
   pub prompt : pace_of s ≡ record { next = false; stuck = false }
   pub quick : slows_of s ≡ 0
+  pub steady : (chip_of s).weak ≡ []
 
 -- the chip after the first status read of an operation, or after one where nothing is in progress
 abbrev pub looked_at : Chip → Chip

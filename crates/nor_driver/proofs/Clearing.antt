@@ -2,7 +2,7 @@
 use Rattle.std.proofs.Common.{[], ◌∷◌, ◌≡◌, ℕ, ◌+◌, List, sym, ap, ◌∙◌, subst, Err}
 use Rattle.std.proofs.lemmas.Bool.{true≢false}
 use Rattle.chip_model.specs.Chip.{Chip, Operation, completed}
-use Rattle.chip_model.specs.Cut.{Cut, TornMemory, TornProtection, with_power}
+use Rattle.chip_model.specs.Cut.{Cut, TornMemory, TornProtection, weakened, with_power}
 use Rattle.chip_model.specs.Frames.{with_polls}
 use Rattle.nor_driver.specs.Steps.{Woken, Lost, fell, was_off, started, ChangeFails, ChangeInterrupted, not_begun, torn, whole, no_power}
 use Rattle.nor_driver.specs.Unprotect.{probe_error, clearing, ClearingCut, before_it, in_it, after_it, Unprotects}
@@ -16,6 +16,7 @@ cut_again c off new k h =
     let p : new.protection ≡ off.protection = subst (λ (o : Operation). TornProtection o off.protection new.protection) k.operation h.protection in
     record {
       memory = subst (λ (x : List ℕ). TornMemory c.operation c.memory x) (sym m) k.memory;
+      weak = h.weak ∙ (ap (λ (o : Operation). weakened o off.memory off.weak) k.operation ∙ k.weak);
       sfdp = h.sfdp ∙ k.sfdp;
       protection = subst (λ (x : ℕ). TornProtection c.operation c.protection x) (sym p) k.protection;
       status2 = h.status2 ∙ k.status2;

@@ -1,17 +1,19 @@
 -- What a program or an erase keeps of the chip, and leaves of its memory.
 use Rattle.std.proofs.Common.{[], ◌∷◌, ◌/◌, ◌≡◌, ℕ, ◌+◌, ◌%◌, ◌<◌, ◌≤◌, ◌⊎◌, Bool, true, false, List, length, refl, sym, ap, ◌∙◌, subst, arith, inl, inr, Result, Ok, Err}
 use Rattle.std.proofs.Math.Nat.{mod-eq_of_lt}
+use Rattle.std.proofs.lemmas.Bool.{false≢true}
 use Rattle.std.proofs.lemmas.List.{length-take, length-drop, ext_get_or, get_or-take, get_or-drop}
 use Rattle.std.specs.Prelude.{◌||◌, slice_range, drop, get_or, ◌-◌, OnOk, OnErr}
-use Rattle.chip_model.specs.Chip.{Chip, Programming, Erasing, is_idle, completed, memory_after}
-use Rattle.chip_model.specs.Cut.{Cut, TornMemory}
-use Rattle.chip_model.specs.Memory.{and_at, erased, Torn, TornErase, TornAnd}
+use Rattle.chip_model.specs.Chip.{Chip, Operation, Idle, Programming, Erasing, Setting, is_idle, completed, memory_after, firmed, programmed}
+use Rattle.chip_model.specs.Cut.{Cut, TornMemory, weakened}
+use Rattle.chip_model.specs.Wavering.{Bits, bits_of}
+use Rattle.chip_model.specs.Memory.{and_at, erased, with_differences, Torn, TornErase, TornAnd}
 use Rattle.chip_model.proofs.MemoryLaws.{programmed_in_page}
 use Rattle.chip_model.specs.Frames.{command_of, Receives, is_unprotected, starts, with_enabled, with_polls}
 use Rattle.chip_model.proofs.FrameLaws.{KeepsShape, completed_shape, cut_shape, idle_cut, idle_not_setting, started_program, started_erase, started_large_erase, address}
 use Rattle.chip_model.specs.Chip.{is_setting}
-use Rattle.nor_driver.specs.State.{Leaves, as_before, torn_in_it, changed_whole}
-use Rattle.nor_driver.specs.Steps.{Woken, started, StartsChange, ChangeInterrupted, not_begun, torn, whole, no_power}
+use Rattle.nor_driver.specs.State.{Leaves, as_before, torn_in_it, changed_whole, program_bits, TornProgramBits, erase_bits, TornEraseBits}
+use Rattle.nor_driver.specs.Steps.{TornIn, Woken, started, StartsChange, ChangeInterrupted, not_begun, torn, whole, no_power}
 
 -- the shape of a chip that is another
 pub same_shape : (c new : Chip) → new ≡ c → is_setting c.operation ≡ false → KeepsShape c new
@@ -49,6 +51,20 @@ pub waked_idle : {T E : Type 0} (r : Result T E) (c new : Chip) → OnOk r (Woke
 waked_idle (Ok x) c new woken lost = ap (λ (d : Chip). is_idle d.operation) woken.on ∙ ap is_idle woken.left.operation
 waked_idle (Err e) c new woken lost = ap is_idle lost.operation
 
+-- two chips whose memories and weak bits are the same
+pub same_bits : (a b : Bits) → b.shown ≡ a.shown → b.weak ≡ a.weak → b ≡ a
+same_bits a b p q = ap (λ (m : List ℕ). record { shown = m; weak = b.weak }) p ∙ ap (λ (w : List ℕ). record { shown = a.shown; weak = w }) q
+
+-- a loss without an operation in progress leaves the bits
+idle_weak : (o : Operation) (m w : List ℕ) → is_idle o ≡ true → weakened o m w ≡ w
+idle_weak Idle m w i = refl
+idle_weak (Programming at bytes) m w i = absurd (false≢true i)
+idle_weak (Erasing at size) m w i = absurd (false≢true i)
+idle_weak (Setting value) m w i = refl
+
+idle_bits : (c new : Chip) → is_idle c.operation ≡ true → Cut c new → bits_of new ≡ bits_of c
+idle_bits c new i k = same_bits (bits_of c) (bits_of new) (idle_cut c new i k) (k.weak ∙ idle_weak c.operation c.memory c.weak i)
+
 -- what a loss of power leaves of a change that begins
 pub record AfterLoss (c : Chip) (begun : Chip) (new : Chip) : Type 0 where
   pub shape : KeepsShape c new
@@ -56,6 +72,7 @@ pub record AfterLoss (c : Chip) (begun : Chip) (new : Chip) : Type 0 where
   pub idle : is_idle new.operation ≡ true
   pub powered : new.powered ≡ false
   pub leaves : Leaves c.memory (TornMemory begun.operation begun.memory) (completed begun).memory new.memory
+  pub bits : Leaves (bits_of c) (TornIn begun) (bits_of (completed begun)) (bits_of new)
 
 after_start : (c : Chip) (cuts : ℕ) (sent : List ℕ) (new : Chip) (cuts' : ℕ) → is_idle c.operation ≡ true → (b : StartsChange c sent) → ChangeInterrupted c cuts sent new cuts'
     → AfterLoss c (starts (with_enabled c true) b.operation) new
@@ -66,6 +83,7 @@ after_start c cuts sent new cuts' idle b i = elim i [
     idle = ap is_idle k.operation;
     powered = k.powered;
     leaves = as_before (idle_cut c new idle k);
+    bits = as_before (idle_bits c new idle k);
   }
   | torn on k n ↦
       let t : Cut (starts (with_enabled c true) b.operation) new = subst (λ (d : Chip). Cut d new) b.is k in
@@ -76,6 +94,7 @@ after_start c cuts sent new cuts' idle b i = elim i [
         idle = ap is_idle t.operation;
         powered = t.powered;
         leaves = torn_in_it t.memory;
+        bits = torn_in_it (t.memory, t.weak);
       }
   | whole on k n ↦
       let e = completed (starts (with_enabled c true) b.operation) in
@@ -88,6 +107,7 @@ after_start c cuts sent new cuts' idle b i = elim i [
         idle = ap is_idle t.operation;
         powered = t.powered;
         leaves = changed_whole t.memory;
+        bits = changed_whole (same_bits (bits_of e) (bits_of new) t.memory t.weak);
       }
   | no_power off same n ↦ record {
     shape = same_shape c new same (idle_not_setting c.operation idle);
@@ -95,6 +115,7 @@ after_start c cuts sent new cuts' idle b i = elim i [
     idle = ap (λ (d : Chip). is_idle d.operation) same ∙ idle;
     powered = ap (λ (d : Chip). d.powered) same ∙ off;
     leaves = as_before (ap (λ (d : Chip). d.memory) same);
+    bits = as_before (ap bits_of same);
   }
 ]
 
@@ -122,6 +143,17 @@ pub cut_memory : (c : Chip) (sent m : List ℕ) (b : StartsChange c sent) → Le
     → Leaves c.memory (TornMemory b.operation c.memory) (memory_after b.operation c.memory) m
 cut_memory c sent m b h = subst (λ (d : Chip). Leaves c.memory (TornMemory d.operation d.memory) (completed d).memory m) b.is h
 
+-- the same of the bits
+done_weak : (c : Chip) (sent : List ℕ) (b : StartsChange c sent) → (completed (started c sent)).weak ≡ firmed b.operation c.weak
+done_weak c sent b = ap (λ (d : Chip). (completed d).weak) b.is
+
+done_bits : (c : Chip) (sent : List ℕ) (b : StartsChange c sent) → bits_of (completed (started c sent)) ≡ record { shown = memory_after b.operation c.memory; weak = firmed b.operation c.weak }
+done_bits c sent b = ap (λ (d : Chip). bits_of (completed d)) b.is
+
+cut_bits : (c : Chip) (sent : List ℕ) (n : Bits) (b : StartsChange c sent) → Leaves (bits_of c) (TornIn (started c sent)) (bits_of (completed (started c sent))) n
+    → Leaves (bits_of c) (TornIn (starts (with_enabled c true) b.operation)) (bits_of (completed (starts (with_enabled c true) b.operation))) n
+cut_bits c sent n b h = subst (λ (d : Chip). Leaves (bits_of c) (TornIn d) (bits_of (completed d)) n) b.is h
+
 -- the frame of a program that a driver allows
 pub record IsProgram (c : Chip) (sent : List ℕ) (at : ℕ) (bytes : List ℕ) : Type 0 where
   pub unprotected : is_unprotected c ≡ true
@@ -147,6 +179,20 @@ pub program_cut : (c : Chip) (sent m : List ℕ) (at : ℕ) (bytes : List ℕ) �
 program_cut c sent m at bytes p h =
     subst (λ x. Leaves c.memory (Torn c.memory x) x m) (programmed_in_page c.memory at bytes p.page) (cut_memory c sent m (begins_program c sent at bytes p) h)
 
+pub program_done_bits : (c : Chip) (sent : List ℕ) (at : ℕ) (bytes : List ℕ) → IsProgram c sent at bytes → bits_of (completed (started c sent)) ≡ program_bits (bits_of c) at bytes
+program_done_bits c sent at bytes p =
+    same_bits (program_bits (bits_of c) at bytes) (bits_of (completed (started c sent))) (program_done c sent at bytes p)
+    (done_weak c sent (begins_program c sent at bytes p) ∙ programmed_in_page c.weak at bytes p.page)
+
+pub program_cut_bits : (c : Chip) (sent : List ℕ) (b : Bits) (at : ℕ) (bytes : List ℕ) → IsProgram c sent at bytes
+    → Leaves (bits_of c) (TornIn (started c sent)) (bits_of (completed (started c sent))) b
+    → Leaves (bits_of c) (TornProgramBits (bits_of c) at bytes) (program_bits (bits_of c) at bytes) b
+program_cut_bits c sent b at bytes p h =
+    let begun = cut_bits c sent b (begins_program c sent at bytes p) h in
+    subst (λ (w : List ℕ). Leaves (bits_of c) (TornProgramBits (bits_of c) at bytes) (record { shown = and_at c.memory at bytes; weak = w }) b) (programmed_in_page c.weak at bytes p.page)
+    (subst (λ (x : List ℕ). Leaves (bits_of c) (λ (n : Bits). Torn c.memory x n.shown × (n.weak ≡ with_differences c.memory x c.weak)) (record { shown = x; weak = programmed c.weak at bytes }) b)
+    (programmed_in_page c.memory at bytes p.page) begun)
+
 -- the frame of an erase that a driver allows: of 4 KiB by 20h, of 64 KiB by D8h
 pub record IsErase (c : Chip) (sent : List ℕ) (at code size : ℕ) : Type 0 where
   pub unprotected : is_unprotected c ≡ true
@@ -169,6 +215,23 @@ begins_large c sent at p = record {
   running = refl;
   in_memory = refl;
 }
+
+-- what begins leaves of the bits, of a small unit and of a large one
+pub small_done_bits : (c : Chip) (sent : List ℕ) (at : ℕ) → IsErase c sent at 32 4096 → bits_of (completed (started c sent)) ≡ erase_bits (bits_of c) at 4096
+small_done_bits c sent at p = done_bits c sent (begins_small c sent at p)
+
+pub small_cut_bits : (c : Chip) (sent : List ℕ) (b : Bits) (at : ℕ) → IsErase c sent at 32 4096
+    → Leaves (bits_of c) (TornIn (started c sent)) (bits_of (completed (started c sent))) b
+    → Leaves (bits_of c) (TornEraseBits (bits_of c) at 4096) (erase_bits (bits_of c) at 4096) b
+small_cut_bits c sent b at p h = cut_bits c sent b (begins_small c sent at p) h
+
+pub large_done_bits : (c : Chip) (sent : List ℕ) (at : ℕ) → IsErase c sent at 216 65536 → bits_of (completed (started c sent)) ≡ erase_bits (bits_of c) at 65536
+large_done_bits c sent at p = done_bits c sent (begins_large c sent at p)
+
+pub large_cut_bits : (c : Chip) (sent : List ℕ) (b : Bits) (at : ℕ) → IsErase c sent at 216 65536
+    → Leaves (bits_of c) (TornIn (started c sent)) (bits_of (completed (started c sent))) b
+    → Leaves (bits_of c) (TornEraseBits (bits_of c) at 65536) (erase_bits (bits_of c) at 65536) b
+large_cut_bits c sent b at p h = cut_bits c sent b (begins_large c sent at p) h
 
 pub small_done : (c : Chip) (sent : List ℕ) (at : ℕ) → IsErase c sent at 32 4096 → (completed (started c sent)).memory ≡ erased c.memory at 4096
 small_done c sent at p = done_memory c sent (begins_small c sent at p)

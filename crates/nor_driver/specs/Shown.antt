@@ -11,6 +11,7 @@ use Rattle.nor_driver.specs.Probe.{IsAcceptedChip, probe_answer, told}
 abbrev pub shown : Chip → ℕ → ℕ → Bool → Bool → NorState
 shown c cuts slows is_slow has_large = record {
   memory = c.memory;
+  weak = c.weak;
   cuts = cuts;
   slows = slows;
   powered = c.powered;
@@ -35,6 +36,7 @@ pub record Found (c : Chip) (cuts slows : ℕ) (state : NorState) : Type 0 where
 -- latched
 pub record IsBehindDriver (state : NorState) (c : Chip) (cut_count slow_count : ℕ) : Type 0 where
   pub memory : c.memory ≡ state.memory
+  pub weak : c.weak ≡ state.weak
   pub cuts : cut_count ≡ state.cuts
   pub slows : slow_count ≡ state.slows
   pub powered : c.powered ≡ state.powered

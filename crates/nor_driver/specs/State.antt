@@ -3,12 +3,17 @@
 use Rattle.std.specs.declared.result.Result.{Result}
 use Rattle.std.specs.declared.result.Result.TheVariants.{Ok, Err}
 use Rattle.std.specs.Prelude.{◌≡◌, ℕ, ◌<◌, ◌⊎◌, Bool, true, false, List, MatchResult}
+use Rattle.chip_model.specs.Memory.{and_at, cleared, erased, with_differences, TornAnd, TornErase}
+use Rattle.chip_model.specs.Wavering.{Bits}
 use Rattle.nor_driver.specs.declared.error.NorError.{NorError}
 use Rattle.nor_driver.specs.declared.error.NorError.TheVariants.{Cut, Slow}
 
 pub record NorState : Type 0 where
   -- the bytes; those of an operation that didn't end are as before it
   pub memory : List ℕ
+  -- 1 for each bit of the bytes that is weak: after the next power-on it may read otherwise. Where
+  -- there is no byte of these, no bit is weak
+  pub weak : List ℕ
   -- how many losses of power, and how many slow operations, the bus counted so far
   pub cuts : ℕ
   pub slows : ℕ
@@ -22,7 +27,7 @@ pub record NorState : Type 0 where
 abbrev pub IsNorReady : NorState → Type 0
 IsNorReady state = (state.powered ≡ true) × (state.is_slow ≡ false)
 
--- all but the memory is as before: what a call that answered Ok leaves
+-- all but the bits is as before: what a call that answered Ok leaves
 pub record OnlyMemoryChanges (old new : NorState) : Type 0 where
   pub cuts : new.cuts ≡ old.cuts
   pub slows : new.slows ≡ old.slows
@@ -72,10 +77,32 @@ pub record AnswersWhatIsLatched (old : NorState) (result : Result (Unit {0}) Nor
 
 -- what a call that was to change bytes and was cut leaves of them: as before, torn in that call's
 -- way, or changed whole
-pub data Leaves (old : List ℕ) (Torn : List ℕ → Type 0) (whole new : List ℕ) : Type 0 where
+pub data Leaves {A : Type 0} (old : A) (Torn : A → Type 0) (whole new : A) : Type 0 where
   as_before : new ≡ old → Leaves old Torn whole new
   torn_in_it : Torn new → Leaves old Torn whole new
   changed_whole : new ≡ whole → Leaves old Torn whole new
+
+-- what each bit reads as, and which are weak
+abbrev pub bits_in : NorState → Bits
+bits_in state = record { shown = state.memory; weak = state.weak }
+
+-- a program: the 0 bits of its bytes are firm
+abbrev pub program_bits : Bits → ℕ → List ℕ → Bits
+program_bits b at bytes = record { shown = and_at b.shown at bytes; weak = and_at b.weak at bytes }
+
+-- one that was interrupted: each bit that it was to change is weak, too
+abbrev pub TornProgramBits : Bits → ℕ → List ℕ → Bits → Type 0
+TornProgramBits b at bytes new = TornAnd b.shown at bytes new.shown
+    × (new.weak ≡ with_differences b.shown (and_at b.shown at bytes) b.weak)
+
+-- an erase: all bits of its unit are firm
+abbrev pub erase_bits : Bits → ℕ → ℕ → Bits
+erase_bits b at size = record { shown = erased b.shown at size; weak = cleared b.weak at size }
+
+-- one that was interrupted: all bits of its unit are weak
+abbrev pub TornEraseBits : Bits → ℕ → ℕ → Bits → Type 0
+TornEraseBits b at size new =
+    TornErase b.shown at size new.shown × (new.weak ≡ erased b.weak at size)
 
 -- what a restart leaves beside the memory, by its answer: a Cut only where a loss of power came in
 -- it, and never a Slow

@@ -2,10 +2,11 @@
 -- the model of a frame and of a loss of power.
 use Rattle.std.specs.Prelude.{◌≡◌, ℕ, ◌+◌, ◌⊎◌, Bool, true, false, List}
 use Rattle.chip_model.specs.Chip.{Chip, Operation, is_idle, completed}
+use Rattle.chip_model.specs.Wavering.{Bits}
 use Rattle.chip_model.specs.Frames.{Command, Status1, Status2, Status3, Read, Id, Sfdp, command_of}
 use Rattle.chip_model.specs.Frames.{after_command, with_enabled, with_polls, starts}
 use Rattle.chip_model.specs.Chip.{is_setting}
-use Rattle.chip_model.specs.Cut.{Cut, with_power}
+use Rattle.chip_model.specs.Cut.{Cut, TornMemory, weakened, with_power}
 use Rattle.nor_driver.specs.declared.error.NorError.{NorError}
 use Rattle.nor_driver.specs.declared.error.NorError.TheVariants as errors
 
@@ -61,6 +62,11 @@ ChangeFails errors.Cut c cuts slows sent new cuts' slows' =
 ChangeFails errors.Slow c cuts slows sent new cuts' slows' =
     (c.powered ≡ true) × (new ≡ with_polls (started c sent) 65535) × (cuts' ≡ cuts)
     × (slows' ≡ slows + 1)
+
+-- what a loss leaves of the bits while the operation of this chip is in progress
+abbrev pub TornIn : Chip → Bits → Type 0
+TornIn c b = TornMemory c.operation c.memory b.shown
+    × (b.weak ≡ weakened c.operation c.memory c.weak)
 
 -- the frame starts a program or an erase once writes are enabled
 pub record StartsChange (c : Chip) (sent : List ℕ) : Type 0 where

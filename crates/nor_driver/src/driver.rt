@@ -9,7 +9,8 @@ ghost use Rattle.chip_model.specs.Frames.{is_unprotected, Receives, after_comman
 ghost use Rattle.nor_driver.specs.State.{AnswersWhatIsLatched, NorFails, IsNorReady};
 ghost use Rattle.nor_driver.specs.State.{OnlyMemoryChanges, Leaves};
 ghost use Rattle.nor_driver.specs.Steps.{StartsChange, started, ChangeFails, Lost, WaitFails};
-ghost use Rattle.nor_driver.specs.Steps.{Woken, only_reads};
+ghost use Rattle.nor_driver.specs.Steps.{TornIn, Woken, only_reads};
+ghost use Rattle.chip_model.specs.Wavering.{bits_of};
 ghost use Rattle.nor_driver.specs.Probe.{IsAcceptedChip, Probes, probe_answer, told};
 ghost use Rattle.nor_driver.specs.Shown.{Found, IsBehindDriver, shown};
 
@@ -113,6 +114,14 @@ impl<B: SpiBus> Driver<B> {
             (completed begun).memory (B.chip self.new.bus).memory }
         ensures slow { IsErrOf result NorError.Slow
             → (B.chip self.new.bus).memory ≡ (B.chip self.old.bus).memory }
+        ensures firm { OnOk result (bits_of (B.chip self.new.bus)
+            ≡ bits_of (completed (started (B.chip self.old.bus) frame.now))) }
+        ensures cut_bits { IsErrOf result NorError.Cut → let begun =
+            started (B.chip self.old.bus) frame.now in
+            Leaves (bits_of (B.chip self.old.bus)) (TornIn begun) (bits_of (completed begun))
+            (bits_of (B.chip self.new.bus)) }
+        ensures slow_bits { IsErrOf result NorError.Slow
+            → (B.chip self.new.bus).weak ≡ (B.chip self.old.bus).weak }
         ensures size { length (B.chip self.new.bus).memory ≡ length (B.chip self.old.bus).memory }
         ensures ready { OnOk result (IsNorReady (⟦<Driver<B> as Nor>⟧.state self.old)) }
         ensures kept { OnOk result (OnlyMemoryChanges (⟦<Driver<B> as Nor>⟧.state self.old)

@@ -6,7 +6,8 @@ ghost use Rattle.std.specs.Result.{IsErrOf};
 ghost use Rattle.chip_model.specs.Geometry.{IsChipSize};
 ghost use Rattle.chip_model.specs.Memory.{and_at, erased, TornAnd, TornErase};
 ghost use Rattle.nor_driver.specs.State.{NorState, IsNorReady, OnlyMemoryChanges, NorFails};
-ghost use Rattle.nor_driver.specs.State.{AnswersWhatIsLatched, Leaves, Restarts};
+ghost use Rattle.nor_driver.specs.State.{AnswersWhatIsLatched, Leaves, Restarts, bits_in};
+ghost use Rattle.nor_driver.specs.State.{erase_bits, program_bits, TornEraseBits, TornProgramBits};
 
 use crate::NorError;
 
@@ -35,6 +36,7 @@ pub trait Nor {
         ensures ok { OnOk result (into.new
             ≡ slice_range (state self.old).memory at (at + length into.old)) }
         ensures same { (state self.new).memory ≡ (state self.old).memory }
+        ensures weak { (state self.new).weak ≡ (state self.old).weak }
         ensures ready { OnOk result (IsNorReady (state self.old)) }
         ensures kept { OnOk result (OnlyMemoryChanges (state self.old) (state self.new)) }
         ensures fails { IfErr result (λ e. NorFails e (state self.old) (state self.new)) }
@@ -52,6 +54,13 @@ pub trait Nor {
             (and_at (state self.old).memory at bytes.now) (state self.new).memory }
         ensures slow { IsErrOf result NorError.Slow
             → (state self.new).memory ≡ (state self.old).memory }
+        ensures firm { OnOk result (bits_in (state self.new)
+            ≡ program_bits (bits_in (state self.old)) at bytes.now) }
+        ensures cut_bits { IsErrOf result NorError.Cut → Leaves (bits_in (state self.old))
+            (TornProgramBits (bits_in (state self.old)) at bytes.now)
+            (program_bits (bits_in (state self.old)) at bytes.now) (bits_in (state self.new)) }
+        ensures slow_bits { IsErrOf result NorError.Slow
+            → (state self.new).weak ≡ (state self.old).weak }
         ensures size { length (state self.new).memory ≡ length (state self.old).memory }
         ensures ready { OnOk result (IsNorReady (state self.old)) }
         ensures kept { OnOk result (OnlyMemoryChanges (state self.old) (state self.new)) }
@@ -69,6 +78,13 @@ pub trait Nor {
             (state self.new).memory }
         ensures slow { IsErrOf result NorError.Slow
             → (state self.new).memory ≡ (state self.old).memory }
+        ensures firm { OnOk result (bits_in (state self.new)
+            ≡ erase_bits (bits_in (state self.old)) at 4096) }
+        ensures cut_bits { IsErrOf result NorError.Cut → Leaves (bits_in (state self.old))
+            (TornEraseBits (bits_in (state self.old)) at 4096)
+            (erase_bits (bits_in (state self.old)) at 4096) (bits_in (state self.new)) }
+        ensures slow_bits { IsErrOf result NorError.Slow
+            → (state self.new).weak ≡ (state self.old).weak }
         ensures size { length (state self.new).memory ≡ length (state self.old).memory }
         ensures ready { OnOk result (IsNorReady (state self.old)) }
         ensures kept { OnOk result (OnlyMemoryChanges (state self.old) (state self.new)) }
@@ -88,6 +104,13 @@ pub trait Nor {
             (state self.new).memory }
         ensures slow { IsErrOf result NorError.Slow
             → (state self.new).memory ≡ (state self.old).memory }
+        ensures firm { OnOk result (bits_in (state self.new)
+            ≡ erase_bits (bits_in (state self.old)) at 65536) }
+        ensures cut_bits { IsErrOf result NorError.Cut → Leaves (bits_in (state self.old))
+            (TornEraseBits (bits_in (state self.old)) at 65536)
+            (erase_bits (bits_in (state self.old)) at 65536) (bits_in (state self.new)) }
+        ensures slow_bits { IsErrOf result NorError.Slow
+            → (state self.new).weak ≡ (state self.old).weak }
         ensures size { length (state self.new).memory ≡ length (state self.old).memory }
         ensures ready { OnOk result (IsNorReady (state self.old)) }
         ensures kept { OnOk result (OnlyMemoryChanges (state self.old) (state self.new)) }
@@ -100,6 +123,8 @@ pub trait Nor {
         ensures restarts { Restarts result (state self.old) (state self.new) }
         ensures same { (state self.old).is_slow ≡ false
             → (state self.new).memory ≡ (state self.old).memory }
+        ensures weak { (state self.old).is_slow ≡ false
+            → (state self.new).weak ≡ (state self.old).weak }
         ensures size { length (state self.new).memory ≡ length (state self.old).memory };
 
     /// Arms a loss of power in a simulated chip; other chips don't heed it. `kind` 0 counts every

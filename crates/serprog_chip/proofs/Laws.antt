@@ -2,8 +2,8 @@
 use Rattle.std.proofs.Common.{◌≡◌, ℕ, ◌+◌, ◌<◌, ◌≤◌, ◌⊎◌, true, false, List, length, get_or, sym, ap, ◌∙◌, subst, arith, inl, inr}
 use Rattle.std.proofs.lemmas.Bool.{cases_lt, and_left, and_right, and_from, lt-ltb, le-ltb, le-leb, lt-leb, true≢false, cond-true, cond-false}
 use Rattle.std.proofs.lemmas.List.{ext_get_or}
-use Rattle.chip_model.specs.Memory.{byte, erased, is_within, fill_place, TornErase}
-use Rattle.chip_model.proofs.MemoryLaws.{length-erased, get-erased, erased-outside}
+use Rattle.chip_model.specs.Memory.{byte, cleared, erased, is_within, fill_place, TornErase}
+use Rattle.chip_model.proofs.MemoryLaws.{length-changed_from, get-changed, length-erased, get-erased, erased-outside}
 use Rattle.chip_model.specs.Chip.{Chip, Erasing, completed, is_idle}
 use Rattle.chip_model.specs.Frames.{starts}
 use Rattle.nor_driver.specs.Steps.{ChangeInterrupted, ChangeFails, not_begun, torn, whole, no_power}
@@ -27,8 +27,8 @@ pub out_within : (a n i : ℕ) → (i < a) ⊎ (a + n ≤ i) → is_within a n i
 out_within a n i h = elim h [ inl low ↦ and_left _ _ (lt-leb _ _ low) | inr above ↦ and_right _ _ (le-ltb _ _ above) ]
 
 -- an erase that ends where another begins
-fills : (a n k i x : ℕ) → fill_place 255 (a + n) k i (fill_place 255 a n i x) ≡ fill_place 255 a (n + k) i x
-fills a n k i x = elim (cases_lt i a) [
+fills : (v a n k i x : ℕ) → fill_place v (a + n) k i (fill_place v a n i x) ≡ fill_place v a (n + k) i x
+fills v a n k i x = elim (cases_lt i a) [
   | inl low ↦
       let low2 : i < a + n = omega arith in
       cond-false _ _ _ (out_within (a + n) k i (inl low2)) ∙ (cond-false _ _ _ (out_within a n i (inl low)) ∙ sym (cond-false _ _ _ (out_within a (n + k) i (inl low))))
@@ -56,7 +56,18 @@ erased_more m a n k =
     let low1 : i < length (erased m a n) = omega (arith, l1) in
     get-erased (erased m a n) (a + n) k i 0 low1
     ∙ (ap (λ v. fill_place 255 (a + n) k i v) (get-erased m a n i 0 low)
-    ∙ (fills a n k i (get_or m i 0) ∙ sym (get-erased m a (n + k) i 0 low))))
+    ∙ (fills 255 a n k i (get_or m i 0) ∙ sym (get-erased m a (n + k) i 0 low))))
+
+cleared_more : (m : List ℕ) (a n k : ℕ) → cleared (cleared m a n) (a + n) k ≡ cleared m a (n + k)
+cleared_more m a n k =
+    let l1 = length-changed_from (fill_place 0 a n) 0 m in
+    let l2 = length-changed_from (fill_place 0 (a + n) k) 0 (cleared m a n) in
+    ext_get_or 0 _ _ (l2 ∙ (l1 ∙ sym (length-changed_from (fill_place 0 a (n + k)) 0 m))) (λ i h.
+    let low : i < length m = omega (arith, l1, l2) in
+    let low1 : i < length (cleared m a n) = omega (arith, l1) in
+    get-changed (fill_place 0 (a + n) k) (cleared m a n) i 0 low1
+    ∙ (ap (λ v. fill_place 0 (a + n) k i v) (get-changed (fill_place 0 a n) m i 0 low)
+    ∙ (fills 0 a n k i (get_or m i 0) ∙ sym (get-changed (fill_place 0 a (n + k)) m i 0 low))))
 
 -- what an erase leaves outside of its unit, whether it was whole or torn
 leaves_outside : (m left : List ℕ) (at : ℕ) → Leaves m (TornErase m at 4096) (erased m at 4096) left → KeepsOutside m at 4096 left
@@ -116,7 +127,9 @@ with_memory : Chip → List ℕ → Chip
 with_memory c m = record (completed c) { memory = m }
 
 pub next_unit : (c : Chip) (a n k : ℕ) → completed (starts (completed (starts c (Erasing a n))) (Erasing (a + n) k)) ≡ completed (starts c (Erasing a (n + k)))
-next_unit c a n k = ap (λ (m : List ℕ). record (completed (starts c (Erasing a n))) { memory = m }) (erased_more c.memory a n k)
+next_unit c a n k =
+    ap (λ (m : List ℕ). record (completed (starts c (Erasing a n))) { memory = m; weak = cleared (cleared c.weak a n) (a + n) k }) (erased_more c.memory a n k)
+    ∙ ap (λ (w : List ℕ). record (completed (starts c (Erasing a n))) { memory = erased c.memory a (n + k); weak = w }) (cleared_more c.weak a n k)
 
 -- the memory is as long as it was, once n bytes are erased
 pub same_length : (c d : Chip) (a n : ℕ) → d ≡ completed (starts c (Erasing a n)) → length d.memory ≡ length c.memory

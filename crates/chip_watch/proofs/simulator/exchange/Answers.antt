@@ -23,4 +23,5 @@ returns-clause-calm c =
       unarmed = ap (λ (p : Armed). p.armed) (e.one_frame_less h.powered) ∙ stays_unarmed (armed_of c.args.chip.now) (is_accepted (chip_of c.args.chip.now) c.args.send.now) h.unarmed;
       prompt = e.pace ∙ stays_prompt (pace_of c.args.chip.now) (is_accepted (chip_of c.args.chip.now) c.args.send.now) h.prompt;
       quick = e.quick stuck ∙ h.quick;
+      steady = ap (λ (d : Chip). d.weak) left ∙ (like_frame (chip_of c.args.chip.now) c.args.send.now).steady h.steady;
     }

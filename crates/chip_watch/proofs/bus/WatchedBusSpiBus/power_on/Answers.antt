@@ -9,7 +9,7 @@ returns-in-Err-clause-powers_on g c =
     let old = watched_chip c.args.self.now in
     record {
       off = record (completed old) { powered = false };
-      left = cut_when_done old;
+      left = cut_when_done old c.args.self.now.shadow.calm.steady;
       on = inr (ap (λ (d : Chip). record d { powered = false }) c.restart-status.ensures.left, refl);
     }
 
@@ -18,6 +18,6 @@ returns-in_default-clause-powers_on g c =
     let old = watched_chip c.args.self.now in
     record {
       off = record (completed old) { powered = false };
-      left = cut_when_done old;
+      left = cut_when_done old c.args.self.now.shadow.calm.steady;
       on = inl (c.restart-status.ensures.left, refl);
     }

@@ -8,4 +8,4 @@ use Rattle.chip_watch.proofs.shadow.Shadow.turn_off.Goals as goal
 pub returns-clause-cut : goal.returns-clause-cut
 returns-clause-cut c =
     let old = shadow_chip c.args.self.now in
-    subst (λ (d : Chip). Cut old (record d { powered = false })) (sym c.calm_down.ensures.left) (cut_when_done old)
+    subst (λ (d : Chip). Cut old (record d { powered = false })) (sym c.calm_down.ensures.left) (cut_when_done old c.args.self.now.calm.steady)

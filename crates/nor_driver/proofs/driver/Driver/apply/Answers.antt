@@ -35,3 +35,8 @@ pub returns-in-Err-Cut-clause-cut : goal.returns-in-Err-Cut-clause-cut
 returns-in-Err-Cut-clause-cut g c = λ e.
     let h = rw c.in-Err-Cut.field-0-is at c.in-Err-Cut.ensures.err in
     (after_loss _ _ _ _ _ (when_down _ _ c.if-self.false c.args.self.now.idle) c.requires.begins h.0).leaves
+
+pub returns-in-Err-Cut-clause-cut_bits : goal.returns-in-Err-Cut-clause-cut_bits
+returns-in-Err-Cut-clause-cut_bits g c = λ e.
+    let h = rw c.in-Err-Cut.field-0-is at c.in-Err-Cut.ensures.err in
+    (after_loss _ _ _ _ _ (when_down _ _ c.if-self.false c.args.self.now.idle) c.requires.begins h.0).bits
