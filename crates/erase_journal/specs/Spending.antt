@@ -64,6 +64,27 @@ HasSpare J0 u = (spare_count ≤ u.free) × (spare_count ≤ u.j0_for_1) × (spa
 HasSpare J1 u = (spare_count ≤ u.j1_for_2) × (spare_count ≤ u.j1_for_0)
 HasSpare J2 u = (spare_count ≤ u.j2_for_0) × (spare_count ≤ u.j2_for_1)
 
+-- and there are so many votes for the erase of a journal
+abbrev pub HasVotesToSpare : JournalId → Unused → Type 0
+HasVotesToSpare J0 u = (spare_count ≤ u.j1_for_0) × (spare_count ≤ u.j2_for_0)
+HasVotesToSpare J1 u = (spare_count ≤ u.j2_for_1) × (spare_count ≤ u.j0_for_1)
+HasVotesToSpare J2 u = (spare_count ≤ u.j0_for_2) × (spare_count ≤ u.j1_for_2)
+
+-- Where x has few to spare it is erased, but only where there are votes to spare for that.
+pub data Refills (x : JournalId) (v u : Unused) : Type 0 where
+  full : HasSpare x u → SameNumbers u v → Refills x v u
+  without_votes : (HasVotesToSpare x u → ⊥) → SameNumbers u v → Refills x v u
+  refilled : (HasSpare x u → ⊥) → HasVotesToSpare x u → SameNumbers (once_erased x u) v
+      → Refills x v u
+
+-- and so the three of them, one after another
+pub record RefillsAll (v u : Unused) : Type 0 where
+  pub after0 : Unused
+  pub after1 : Unused
+  pub j0 : Refills J0 after0 u
+  pub j1 : Refills J1 after1 after0
+  pub j2 : Refills J2 v after1
+
 -- Where no journal is tired, x has enough to spare, or it is erased, and then maintenance comes.
 pub data Spares (x : JournalId) (v u : Unused) : Type 0 where
   enough : HasSpare x u → SameNumbers u v → Spares x v u
@@ -77,14 +98,17 @@ pub record SparesAll (v u : Unused) : Type 0 where
   pub j1 : Spares J1 after1 after0
   pub j2 : Spares J2 v after1
 
--- What is made firm in the journals: a vote of each region, maintenance, enough to spare in each
--- journal, and then one entry.
+-- What is made firm in the journals: a vote of each region, the journals that are nearly used up
+-- while there are votes to spare for their erase, maintenance, enough to spare in each journal, and
+-- then one entry.
 pub record SpendsFirmly (u v : Unused) : Type 0 where
   pub given : Unused
+  pub full : Unused
   pub rest : Unused
   pub spared : Unused
   pub gives : GivesUpEach u given
-  pub maintains : Maintains rest given
+  pub refills : RefillsAll full given
+  pub maintains : Maintains rest full
   pub spares : SparesAll spared rest
   pub entry : SameNumbers (once_used spared) v
 

@@ -14,7 +14,7 @@ use crate::again::{program_again, program_pages_again};
 use crate::block_erase::lowest_entry;
 use crate::giving_up::give_up_each;
 use crate::known::{Known, once_used};
-use crate::maintain::{rest, spare_each};
+use crate::maintain::{refill_each, rest, spare_each};
 use crate::scan::{close_used, is_blank};
 use nor_driver::{Nor, NorError};
 use nor_layout::{ENTRY_LEN, JOURNALS_END, PAGE_LEN, SUPER_LEN, entry_place};
@@ -103,8 +103,9 @@ fn give_up_entry<N: Nor>(nor: &mut N, known: &mut Known) -> Result<(), NorError>
 
 /// Makes journals firm in which no erase goes on: the superblock and the entries are programmed
 /// again, and then the last byte of each used entry, which so is used for good by then. A vote of
-/// each region is given up, the tired journals are erased, and those with few votes or entries to
-/// spare, and one entry is given up.
+/// each region is given up. The journals with few votes or entries to spare are erased, first those
+/// for whose erase there are votes to spare, then the tired ones, then the others; and one entry is
+/// given up.
 pub(crate) fn make_firm<N: Nor>(nor: &mut N, known: &mut Known) -> Result<(), NorError>
     requires size { JOURNALS_END ≤ length (N.state nor.old).memory }
     requires settled { IsNorReady (N.state nor.old) → IsSettled (N.state nor.old).memory }
@@ -122,6 +123,7 @@ pub(crate) fn make_firm<N: Nor>(nor: &mut N, known: &mut Known) -> Result<(), No
     program_pages_again(nor, entry_place(0))?;
     close_entries(nor)?;
     give_up_each(nor, known)?;
+    refill_each(nor, known)?;
     rest(nor, known)?;
     spare_each(nor, known)?;
     give_up_entry(nor, known)

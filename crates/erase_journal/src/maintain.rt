@@ -6,17 +6,18 @@ ghost use Rattle.nor_driver.specs.State.{IsNorReady, OnlyMemoryChanges, Refuses,
 ghost use Rattle.erase_journal.specs.Journals.{IsSettled, IsHealthy, unused};
 ghost use Rattle.erase_journal.specs.Blocks.{SameBlocks};
 ghost use Rattle.erase_journal.specs.Known.{IsKnown};
-ghost use Rattle.erase_journal.specs.Spending.{HasSpare, Maintains, Spares, SparesAll};
+ghost use Rattle.erase_journal.specs.Spending.{HasSpare, HasVotesToSpare, Maintains, Refills};
+ghost use Rattle.erase_journal.specs.Spending.{RefillsAll, Spares, SparesAll};
 ghost use Rattle.erase_journal.specs.Steps.{IsRestful, KeepsBlocks};
 
 use crate::journal_erase::{doom, renew};
 use crate::known::Known;
 use crate::read::read_tally;
-use crate::unused::{Unused, lowest_tired};
+use crate::unused::{Unused, lowest_tired, once_first_spent, once_renewed, once_second_spent};
 use nor_driver::{Nor, NorError};
 use nor_layout::{JOURNALS_END, JournalId};
 
-/// How many entries, and first votes for each journal, are to be left when a firm mount is done.
+/// How many entries, and votes of each region, are to be left when a firm mount is done.
 const SPARE: u16 = 32;
 
 /// Whether a journal has enough of what a firm recovery spends in it.
@@ -27,6 +28,17 @@ fn has_spare(u: Unused, journal: JournalId) -> bool
         JournalId::J0 => u.free >= SPARE && u.j0_for_1 >= SPARE && u.j0_for_2 >= SPARE,
         JournalId::J1 => u.j1_for_2 >= SPARE && u.j1_for_0 >= SPARE,
         JournalId::J2 => u.j2_for_0 >= SPARE && u.j2_for_1 >= SPARE,
+    }
+}
+
+/// Whether there are enough votes for the erase of a journal.
+fn has_votes_to_spare(u: Unused, journal: JournalId) -> bool
+    ensures { IsTrue result ↔ HasVotesToSpare journal u }
+{
+    match journal {
+        JournalId::J0 => u.j1_for_0 >= SPARE && u.j2_for_0 >= SPARE,
+        JournalId::J1 => u.j2_for_1 >= SPARE && u.j0_for_1 >= SPARE,
+        JournalId::J2 => u.j0_for_2 >= SPARE && u.j1_for_2 >= SPARE,
     }
 }
 
@@ -51,6 +63,62 @@ pub(crate) fn maintain<N: Nor>(nor: &mut N) -> Result<Unused, NorError>
         tally = read_tally(nor)?;
     }
     Ok(tally.unused())
+}
+
+/// Erases a journal that has few votes or entries to spare, where there are votes to spare for its
+/// own erase. So a recovery of a later erase finds votes, where torn bits may waver.
+fn refill<N: Nor>(nor: &mut N, known: &mut Known, journal: JournalId) -> Result<(), NorError>
+    requires size { JOURNALS_END ≤ length (N.state nor.old).memory }
+    requires ready { IsNorReady (N.state nor.old) }
+    requires settled { IsSettled (N.state nor.old).memory }
+    requires known { IsKnown known.old (N.state nor.old).memory }
+    ensures settled { OnOk result (IsSettled (N.state nor.new).memory) }
+    ensures known { OnOk result (IsKnown known.new (N.state nor.new).memory) }
+    ensures refills { OnOk result (Refills journal (unused (N.state nor.new).memory)
+        (unused (N.state nor.old).memory)) }
+    ensures blocks { OnOk result (SameBlocks (N.state nor.old).memory (N.state nor.new).memory) }
+    ensures cut { IsErrOf result NorError.Cut
+        → KeepsBlocks (N.state nor.old).memory (N.state nor.new).memory }
+    ensures size { length (N.state nor.new).memory ≡ length (N.state nor.old).memory }
+    ensures kept { OnOk result (OnlyMemoryChanges (N.state nor.old) (N.state nor.new)) }
+    ensures fails { IfErr result (λ e. Refuses e (N.state nor.old) (N.state nor.new)) }
+{
+    if has_spare(known.unused, journal) {
+        return Ok(());
+    }
+    if !has_votes_to_spare(known.unused, journal) {
+        return Ok(());
+    }
+    doom(nor, journal)?;
+    renew(nor, journal)?;
+    let spent = once_second_spent(once_first_spent(known.unused, journal), journal);
+    *known = Known {
+        unused: once_renewed(spent, journal),
+        packed: false,
+    };
+    Ok(())
+}
+
+/// Does so with each journal.
+pub(crate) fn refill_each<N: Nor>(nor: &mut N, known: &mut Known) -> Result<(), NorError>
+    requires size { JOURNALS_END ≤ length (N.state nor.old).memory }
+    requires ready { IsNorReady (N.state nor.old) }
+    requires settled { IsSettled (N.state nor.old).memory }
+    requires known { IsKnown known.old (N.state nor.old).memory }
+    ensures settled { OnOk result (IsSettled (N.state nor.new).memory) }
+    ensures known { OnOk result (IsKnown known.new (N.state nor.new).memory) }
+    ensures refills { OnOk result (RefillsAll (unused (N.state nor.new).memory)
+        (unused (N.state nor.old).memory)) }
+    ensures blocks { OnOk result (SameBlocks (N.state nor.old).memory (N.state nor.new).memory) }
+    ensures cut { IsErrOf result NorError.Cut
+        → KeepsBlocks (N.state nor.old).memory (N.state nor.new).memory }
+    ensures size { length (N.state nor.new).memory ≡ length (N.state nor.old).memory }
+    ensures kept { OnOk result (OnlyMemoryChanges (N.state nor.old) (N.state nor.new)) }
+    ensures fails { IfErr result (λ e. Refuses e (N.state nor.old) (N.state nor.new)) }
+{
+    refill(nor, known, JournalId::J0)?;
+    refill(nor, known, JournalId::J1)?;
+    refill(nor, known, JournalId::J2)
 }
 
 /// Maintenance where the numbers say that a journal is tired. Where none is, nothing is asked of
