@@ -1,8 +1,8 @@
 //! A chip's cells and registers in memory, what a frame of bytes does to them, and what it answers.
 
-ghost use Rattle.std.specs.Prelude.{◌^◌, ◌≡◌, ◌==◌, ◌+◌, ◌-◌, ◌*◌, ◌/◌, ◌%◌, ◌<◌, ◌≤◌, ◌⊎◌, ◌||◌, ℕ};
+ghost use Rattle.std.specs.Prelude.{◌^◌, ◌≡◌, ◌==◌, ◌+◌, ◌-◌, ◌*◌, ◌/◌, ◌%◌, ◌<◌, ◌≤◌, ◌⊎◌, ◌||◌};
 ghost use Rattle.std.specs.Prelude.{EachIndex, false, length, min, nat_le, not, slice_index, take};
-ghost use Rattle.std.specs.Prelude.{true};
+ghost use Rattle.std.specs.Prelude.{ℕ, true};
 ghost use Rattle.chip_model.specs.Geometry.{IsChipSize};
 ghost use Rattle.chip_model.specs.Memory.{and_at, erased, placed, Torn, TornErase};
 ghost use Rattle.chip_model.specs.Chip.{programmed};

@@ -51,7 +51,8 @@ impl SimChip {
         ensures fits { IsOk result
             ↔ IsChipSize (length bytes.items) × (length weak.items ≡ length bytes.items) }
         ensures refused { OnErr result (result ≡ Err SimError.BadSize) }
-        ensures chip { IfOk result (λ s. chip_of s ≡ with_weak (fresh_chip bytes.items) weak.items) }
+        ensures chip { IfOk result (λ s.
+            chip_of s ≡ with_weak (fresh_chip bytes.items) weak.items) }
         ensures unarmed { IfOk result (λ s. (armed_of s).armed ≡ 0) }
         ensures prompt { IfOk result (λ s. pace_of s ≡ record { next = false; stuck = false }) }
         ensures cuts { IfOk result (λ s. cuts_of s ≡ 0) }
@@ -69,7 +70,8 @@ impl SimChip {
             ≡ true }
         ensures fits { IsOk result ↔ IsChipSize (length bytes.items) }
         ensures refused { OnErr result (result ≡ Err SimError.BadSize) }
-        ensures chip { IfOk result (λ s. chip_of s ≡ with_weak (fresh_chip bytes.items) weak.items) }
+        ensures chip { IfOk result (λ s.
+            chip_of s ≡ with_weak (fresh_chip bytes.items) weak.items) }
         ensures unarmed { IfOk result (λ s. (armed_of s).armed ≡ 0) }
         ensures prompt { IfOk result (λ s. pace_of s ≡ record { next = false; stuck = false }) }
         ensures cuts { IfOk result (λ s. cuts_of s ≡ 0) }
