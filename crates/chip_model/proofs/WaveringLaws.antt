@@ -13,11 +13,11 @@ use Rattle.chip_model.specs.Wavering.{Bits, IsBits, IsSteady, AtMost, Drawn, Tor
 use Rattle.chip_model.proofs.MemoryLaws.{length-changed_from, get-changed, length-programmed, programmed_page, length-erased, get-erased}
 
 -- a byte past the end has no bit
-past_bit : (m : List ℕ) (i k : ℕ) → length m ≤ i → bit_at (byte m i) k ≡ 0
+pub past_bit : (m : List ℕ) (i k : ℕ) → length m ≤ i → bit_at (byte m i) k ≡ 0
 past_bit m i k high = ap (λ x. bit_at x k) (get_or_past m i 0 high) ∙ bit_at-zero k
 
 -- a number with no bit from the eighth on is a byte
-byte_from_bits : (v : ℕ) → ((k : ℕ) → 8 ≤ k → bit_at v k ≡ 0) → v < 256
+pub byte_from_bits : (v : ℕ) → ((k : ℕ) → 8 ≤ k → bit_at v k ≡ 0) → v < 256
 byte_from_bits v h =
     let e : v ≡ bit_and v 255 = same_from_bits v (bit_and v 255) (λ k. elim (cases_lt k 8) [
       | inl low ↦ (let a = bit_at_and v 255 k in let b = bit_at_ones 8 k low in let c = bit_at-lt v k in omega (arith, a, b, c))
@@ -35,13 +35,13 @@ two_cond : (t : Bool) (x k : ℕ) → cond t (bit_at x k) 1 < 2
 two_cond true x k = bit_at-lt x k
 two_cond false x k = omega arith
 
-abbrev data_bit : ℕ → List ℕ → ℕ → ℕ → ℕ
+abbrev pub data_bit : ℕ → List ℕ → ℕ → ℕ → ℕ
 data_bit at bytes i k = cond ((eqb (i / 256) (at / 256)) && ltb (offset_in_page at i) (length bytes)) (bit_at (byte bytes (offset_in_page at i)) k) 1
 
-data_two : (at : ℕ) (bytes : List ℕ) (i k : ℕ) → data_bit at bytes i k < 2
+pub data_two : (at : ℕ) (bytes : List ℕ) (i k : ℕ) → data_bit at bytes i k < 2
 data_two at bytes i k = two_cond ((eqb (i / 256) (at / 256)) && ltb (offset_in_page at i) (length bytes)) (byte bytes (offset_in_page at i)) k
 
-program_bit : (m : List ℕ) (at : ℕ) (bytes : List ℕ) (i k : ℕ) → bit_at (byte (programmed m at bytes) i) k ≡ min (bit_at (byte m i) k) (data_bit at bytes i k)
+pub program_bit : (m : List ℕ) (at : ℕ) (bytes : List ℕ) (i k : ℕ) → bit_at (byte (programmed m at bytes) i) k ≡ min (bit_at (byte m i) k) (data_bit at bytes i k)
 program_bit m at bytes i k = elim (cases_lt i (length m)) [
   | inl low ↦
       ap (λ (xs : List ℕ). bit_at (byte xs i) k) (programmed_page m at bytes)
@@ -57,7 +57,7 @@ program_bit m at bytes i k = elim (cases_lt i (length m)) [
 fill_in : (v : ℕ) (m : List ℕ) (a n i k : ℕ) → is_within a n i ≡ true → i < length m → bit_at (byte (changed (fill_place v a n) m) i) k ≡ bit_at v k
 fill_in v m a n i k here low = ap (λ x. bit_at x k) (get-changed (fill_place v a n) m i 0 low ∙ cond-true _ _ _ here)
 
-fill_out : (v : ℕ) (m : List ℕ) (a n i k : ℕ) → is_within a n i ≡ false → bit_at (byte (changed (fill_place v a n) m) i) k ≡ bit_at (byte m i) k
+pub fill_out : (v : ℕ) (m : List ℕ) (a n i k : ℕ) → is_within a n i ≡ false → bit_at (byte (changed (fill_place v a n) m) i) k ≡ bit_at (byte m i) k
 fill_out v m a n i k out = elim (cases_lt i (length m)) [
   | inl low ↦ ap (λ x. bit_at x k) (get-changed (fill_place v a n) m i 0 low ∙ cond-false _ _ _ out)
   | inr high ↦ past_bit (changed (fill_place v a n) m) i k (omega (arith, length-changed_from (fill_place v a n) 0 m, high)) ∙ sym (past_bit m i k high)
@@ -66,7 +66,7 @@ fill_out v m a n i k out = elim (cases_lt i (length m)) [
 erase_in : (m : List ℕ) (a n i k : ℕ) → is_within a n i ≡ true → i < length m → bit_at (byte (erased m a n) i) k ≡ bit_at 255 k
 erase_in m a n i k here low = ap (λ x. bit_at x k) (get-erased m a n i 0 low ∙ cond-true _ _ _ here)
 
-erase_out : (m : List ℕ) (a n i k : ℕ) → is_within a n i ≡ false → bit_at (byte (erased m a n) i) k ≡ bit_at (byte m i) k
+pub erase_out : (m : List ℕ) (a n i k : ℕ) → is_within a n i ≡ false → bit_at (byte (erased m a n) i) k ≡ bit_at (byte m i) k
 erase_out m a n i k out = elim (cases_lt i (length m)) [
   | inl low ↦ ap (λ x. bit_at x k) (get-erased m a n i 0 low ∙ cond-false _ _ _ out)
   | inr high ↦ past_bit (erased m a n) i k (omega (arith, length-erased m a n, high)) ∙ sym (past_bit m i k high)
@@ -76,12 +76,12 @@ erase_past : (m : List ℕ) (a n i k : ℕ) → length m ≤ i → bit_at (byte 
 erase_past m a n i k high = past_bit (erased m a n) i k (omega (arith, length-erased m a n, high))
 
 -- a test comes out one way or the other
-either : (t : Bool) → (t ≡ true) ⊎ (t ≡ false)
+pub either : (t : Bool) → (t ≡ true) ⊎ (t ≡ false)
 either true = inl refl
 either false = inr refl
 
 -- the bits that an erase makes firm
-firm_erase : (w : List ℕ) (a n i k : ℕ) → is_within a n i ≡ true → bit_at (byte (changed (fill_place 0 a n) w) i) k ≡ 0
+pub firm_erase : (w : List ℕ) (a n i k : ℕ) → is_within a n i ≡ true → bit_at (byte (changed (fill_place 0 a n) w) i) k ≡ 0
 firm_erase w a n i k here = elim (cases_lt i (length w)) [
   | inl low ↦ fill_in 0 w a n i k here low ∙ bit_at-zero k
   | inr high ↦ past_bit (changed (fill_place 0 a n) w) i k (omega (arith, length-changed_from (fill_place 0 a n) 0 w, high))

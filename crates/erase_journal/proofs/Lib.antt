@@ -24,3 +24,7 @@ pub mod SameBytes
 pub mod Closing
 pub mod Reopening
 pub mod Resuming
+pub mod WeakLaws
+pub mod RecoveredVotes
+pub mod FirmJournals
+pub mod Sparing

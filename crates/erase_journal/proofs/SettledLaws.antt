@@ -31,3 +31,8 @@ settled-then a b c (Err e) s t = t
 pub ends-settled : {T : Type 0} (r : Result T NorError) (a b : NorState) → OnOk r (SucceedsSettled a b) → IfErr r (λ e. Refuses e a b) → EndsSettled r a b
 ends-settled (Ok x) a b d f = d
 ends-settled (Err e) a b d f = f
+
+-- a call whose answer is returned as it is, after others that answered Ok
+pub settles-since : {T : Type 0} (r : Result T NorError) (a b c : NorState) → IsNorReady a → OnlyMemoryChanges a b → EndsSettled r b c → EndsSettled r a c
+settles-since (Ok x) a b c ready k h = record { ready = ready; kept = kept-after a b c k h.kept; settled = h.settled }
+settles-since (Err e) a b c ready k h = refuses-since e a b c ready k h

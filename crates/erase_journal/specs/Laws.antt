@@ -1,6 +1,7 @@
 -- What follows from the definitions, for the crates above and for a reader. Source: own.
 use Rattle.std.specs.Prelude.{◌≡◌, ◌↔◌, ℕ, ◌<◌, ◌≤◌, true, List, length}
 use Rattle.chip_model.specs.Geometry.{IsChipSize, block_count}
+use Rattle.nor_driver.specs.State.{NorState, bits_in}
 use Rattle.nor_layout.specs.declared.journal.JournalId.{JournalId}
 use Rattle.nor_layout.specs.Journals.{block_len}
 use Rattle.erase_journal.specs.declared.unused.Unused.{Unused}
@@ -8,6 +9,8 @@ use Rattle.erase_journal.specs.Votes.{Last, IsLowestTired, once_erased}
 use Rattle.nor_layout.specs.Entries.{entry_count}
 use Rattle.erase_journal.specs.Journals.{IsSettled, entry_block, is_open_entry, open_blocks}
 use Rattle.erase_journal.specs.Blocks.{block, blank, blocks_of, IsErasedBehind, SameBlocks}
+use Rattle.erase_journal.specs.Steps.{SucceedsSettled}
+use Rattle.erase_journal.specs.Weak.{AreFirmJournals}
 
 -- all blocks have one length
 abbrev pub BlocksHaveOneSize : Type 0
@@ -35,3 +38,8 @@ OneBlockIsOpen = (m : List ℕ) → (open_blocks m ≤ 1) ↔ ((i k : ℕ) → i
 abbrev pub ErasedChipsAreSettled : Type 0
 ErasedChipsAreSettled = (m : List ℕ) → IsChipSize (length m) → IsErasedBehind m
     → IsSettled m × ((b : ℕ) → 4 ≤ b → b < block_count (length m) → block m b ≡ blank)
+
+-- a call that answered Ok, with no erase going on before it and after it, leaves firm journals firm
+abbrev pub FirmJournalsStayFirm : Type 0
+FirmJournalsStayFirm = (a b : NorState) → IsSettled a.memory → SucceedsSettled a b
+    → AreFirmJournals (bits_in a) → AreFirmJournals (bits_in b)

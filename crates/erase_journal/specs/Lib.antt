@@ -11,3 +11,4 @@ pub mod Scans
 pub mod Firm
 pub mod Recovery
 pub mod Laws
+pub mod Weak

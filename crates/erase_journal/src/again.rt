@@ -4,6 +4,8 @@
 ghost use Rattle.std.specs.Prelude.{◌≡◌, ◌+◌, ◌*◌, ◌%◌, ◌<◌, ◌≤◌, length, slice_range, OnOk};
 ghost use Rattle.std.specs.Prelude.{IfErr};
 ghost use Rattle.nor_driver.specs.State.{IsNorReady, OnlyMemoryChanges, Refuses, EndsReady};
+ghost use Rattle.nor_driver.specs.State.{bits_in};
+ghost use Rattle.erase_journal.specs.Weak.{AreVotesBelieved, AreZerosFirm};
 
 use crate::scan::is_blank;
 use nor_driver::{Nor, NorError};
@@ -20,6 +22,7 @@ pub(crate) fn program_again<N: Nor>(nor: &mut N, at: u32, bytes: &[u8]) -> Resul
     requires read { bytes.now
         ≡ slice_range (N.state nor.old).memory at (at + length bytes.now) }
     ensures same { (N.state nor.new).memory ≡ (N.state nor.old).memory }
+    ensures firm { OnOk result (AreZerosFirm (bits_in (N.state nor.new)) at (length bytes.now)) }
     ensures ends { EndsReady result (N.state nor.old) (N.state nor.new) }
 {
     nor.program(at, bytes)
@@ -30,6 +33,7 @@ fn program_page_again<N: Nor>(nor: &mut N, at: u32) -> Result<(), NorError>
     requires page { at % 256 ≡ 0 }
     requires range { at + 256 ≤ length (N.state nor.old).memory }
     ensures same { (N.state nor.new).memory ≡ (N.state nor.old).memory }
+    ensures firm { OnOk result (AreZerosFirm (bits_in (N.state nor.new)) at 256) }
     ensures ends { EndsReady result (N.state nor.old) (N.state nor.new) }
 {
     let mut bytes = [0; PAGE_LEN];
@@ -47,6 +51,7 @@ pub(crate) fn program_pages_again<N: Nor>(nor: &mut N, from: u32) -> Result<(), 
     requires range { from + 2048 ≤ length (N.state nor.old).memory }
     requires fits { from < 65536 }
     ensures same { (N.state nor.new).memory ≡ (N.state nor.old).memory }
+    ensures firm { OnOk result (AreZerosFirm (bits_in (N.state nor.new)) from 2048) }
     ensures kept { OnOk result (OnlyMemoryChanges (N.state nor.old) (N.state nor.new)) }
     ensures fails { IfErr result (λ e. Refuses e (N.state nor.old) (N.state nor.new)) }
 {
@@ -61,6 +66,7 @@ pub(crate) fn program_votes_again<N: Nor>(nor: &mut N) -> Result<(), NorError>
     requires ready { IsNorReady (N.state nor.old) }
     requires size { JOURNALS_END ≤ length (N.state nor.old).memory }
     ensures same { (N.state nor.new).memory ≡ (N.state nor.old).memory }
+    ensures firm { OnOk result (AreVotesBelieved (bits_in (N.state nor.new))) }
     ensures kept { OnOk result (OnlyMemoryChanges (N.state nor.old) (N.state nor.new)) }
     ensures fails { IfErr result (λ e. Refuses e (N.state nor.old) (N.state nor.new)) }
 {

@@ -1,14 +1,19 @@
 //! What a firm mount does to journals in which no erase goes on: no used entry can come to be open,
 //! and the free entry that may be half taken is given up.
 
-ghost use Rattle.std.specs.Prelude.{◌≡◌, ◌+◌, ◌*◌, ◌<◌, ◌≤◌, ◌⊎◌, length, OnOk, IfErr};
+ghost use Rattle.std.specs.Prelude.{◌≡◌, ◌+◌, ◌*◌, ◌<◌, ◌≤◌, ◌⊎◌, ℕ, false, length, OnOk, IfErr};
+ghost use Rattle.std.specs.Int.{bit_at};
 ghost use Rattle.std.specs.Result.{IsErrOf};
-ghost use Rattle.nor_driver.specs.State.{IsNorReady, OnlyMemoryChanges, Refuses, EndsReady};
-ghost use Rattle.erase_journal.specs.Journals.{IsHealthy, IsSettled, unused};
+ghost use Rattle.chip_model.specs.Memory.{byte};
+ghost use Rattle.nor_driver.specs.State.{bits_in, IsNorReady, OnlyMemoryChanges, Refuses};
+ghost use Rattle.nor_driver.specs.State.{EndsReady};
+ghost use Rattle.erase_journal.specs.Journals.{IsHealthy, IsSettled, is_free_entry, unused};
 ghost use Rattle.erase_journal.specs.Blocks.{SameBlocks};
 ghost use Rattle.erase_journal.specs.Known.{IsKnown};
 ghost use Rattle.erase_journal.specs.Spending.{KeepsUse, SpendsFirmly, once_used};
 ghost use Rattle.erase_journal.specs.Steps.{IsRestful, KeepsBlocks, SameNumbers, EndsSettled};
+ghost use Rattle.erase_journal.specs.Weak.{AreFirmJournals, AreRecoveredJournals, AreUsedForGood};
+ghost use Rattle.erase_journal.specs.Weak.{GivesUpLowest, IsUsedForGood};
 
 use crate::again::{program_again, program_pages_again};
 use crate::block_erase::lowest_entry;
@@ -47,6 +52,11 @@ fn close_page<N: Nor>(nor: &mut N, page: u16) -> Result<(), NorError>
     requires settled { IsNorReady (N.state nor.old) → IsSettled (N.state nor.old).memory }
     ensures blocks { OnOk result (SameBlocks (N.state nor.old).memory (N.state nor.new).memory) }
     ensures uses { OnOk result (KeepsUse (N.state nor.old).memory (N.state nor.new).memory) }
+    ensures closed { OnOk result ((i : ℕ) → i < 64
+        → is_free_entry (N.state nor.new).memory (64 * page + i) ≡ false
+        → IsUsedForGood (bits_in (N.state nor.new)) (64 * page + i)) }
+    ensures clears { OnOk result ((i k : ℕ) → bit_at (byte (N.state nor.old).memory i) k ≡ 0
+        → bit_at (byte (N.state nor.new).memory i) k ≡ 0) }
     ensures cut { IsErrOf result NorError.Cut → IsHealthy (N.state nor.old).memory
         → KeepsBlocks (N.state nor.old).memory (N.state nor.new).memory }
     ensures size { length (N.state nor.new).memory ≡ length (N.state nor.old).memory }
@@ -69,6 +79,7 @@ fn close_entries<N: Nor>(nor: &mut N) -> Result<(), NorError>
     requires settled { IsSettled (N.state nor.old).memory }
     ensures blocks { OnOk result (SameBlocks (N.state nor.old).memory (N.state nor.new).memory) }
     ensures uses { OnOk result (KeepsUse (N.state nor.old).memory (N.state nor.new).memory) }
+    ensures closed { OnOk result (AreUsedForGood (bits_in (N.state nor.new))) }
     ensures cut { IsErrOf result NorError.Cut
         → KeepsBlocks (N.state nor.old).memory (N.state nor.new).memory }
     ensures size { length (N.state nor.new).memory ≡ length (N.state nor.old).memory }
@@ -90,6 +101,8 @@ fn give_up_entry<N: Nor>(nor: &mut N, known: &mut Known) -> Result<(), NorError>
     ensures numbers { OnOk result (SameNumbers (once_used (unused (N.state nor.old).memory))
         (unused (N.state nor.new).memory)) }
     ensures known { OnOk result (IsKnown known.new (N.state nor.new).memory) }
+    ensures gives { OnOk result (GivesUpLowest (bits_in (N.state nor.old))
+        (bits_in (N.state nor.new))) }
     ensures cut { IsErrOf result NorError.Cut → IsHealthy (N.state nor.old).memory
         → KeepsBlocks (N.state nor.old).memory (N.state nor.new).memory }
     ensures size { length (N.state nor.new).memory ≡ length (N.state nor.old).memory }
@@ -114,6 +127,8 @@ pub(crate) fn make_firm<N: Nor>(nor: &mut N, known: &mut Known) -> Result<(), No
     ensures known { OnOk result (IsKnown known.new (N.state nor.new).memory) }
     ensures spends { OnOk result (SpendsFirmly (unused (N.state nor.old).memory)
         (unused (N.state nor.new).memory)) }
+    ensures firm { AreRecoveredJournals (bits_in (N.state nor.old))
+        → OnOk result (AreFirmJournals (bits_in (N.state nor.new))) }
     ensures cut { IsErrOf result NorError.Cut → IsHealthy (N.state nor.old).memory
         → KeepsBlocks (N.state nor.old).memory (N.state nor.new).memory }
     ensures size { length (N.state nor.new).memory ≡ length (N.state nor.old).memory }

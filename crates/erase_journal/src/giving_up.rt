@@ -2,13 +2,15 @@
 
 ghost use Rattle.std.specs.Prelude.{◌≡◌, ◌≤◌, length, OnOk, IfErr};
 ghost use Rattle.std.specs.Result.{IsErrOf};
-ghost use Rattle.nor_driver.specs.State.{IsNorReady, OnlyMemoryChanges, Refuses};
-ghost use Rattle.erase_journal.specs.Journals.{IsSettled, unused};
+ghost use Rattle.nor_layout.specs.Journals.{first_at, second_at};
+ghost use Rattle.nor_driver.specs.State.{bits_in, IsNorReady, OnlyMemoryChanges, Refuses};
+ghost use Rattle.erase_journal.specs.Journals.{IsSettled, unused, votes_at};
 ghost use Rattle.erase_journal.specs.Blocks.{SameBlocks};
 ghost use Rattle.erase_journal.specs.Known.{IsKnown};
 ghost use Rattle.erase_journal.specs.Spending.{GivesUp, GivesUpEach};
-ghost use Rattle.erase_journal.specs.Steps.{KeepsBlocks};
+ghost use Rattle.erase_journal.specs.Steps.{KeepsBlocks, OneChanged};
 ghost use Rattle.erase_journal.specs.Votes.{first_spent, second_spent};
+ghost use Rattle.erase_journal.specs.Weak.{AreFirmOrFew, AreRecoveredVotes, InEachRegion};
 
 use crate::known::Known;
 use crate::unused::{lasts, once_first_spent, once_second_spent};
@@ -26,6 +28,8 @@ fn give_up_first<N: Nor>(nor: &mut N, known: &mut Known, journal: JournalId) -> 
     ensures known { OnOk result (IsKnown known.new (N.state nor.new).memory) }
     ensures gives { OnOk result (GivesUp (first_spent journal (unused (N.state nor.old).memory))
         (unused (N.state nor.old).memory) (unused (N.state nor.new).memory)) }
+    ensures given { OnOk result (6 ≤ (votes_at (N.state nor.old).memory (first_at journal)).unused
+        → OneChanged (first_at journal) 255 253 (N.state nor.old).memory (N.state nor.new).memory) }
     ensures blocks { OnOk result (SameBlocks (N.state nor.old).memory (N.state nor.new).memory) }
     ensures cut { IsErrOf result NorError.Cut
         → KeepsBlocks (N.state nor.old).memory (N.state nor.new).memory }
@@ -58,6 +62,9 @@ fn give_up_second<N: Nor>(
     ensures known { OnOk result (IsKnown known.new (N.state nor.new).memory) }
     ensures gives { OnOk result (GivesUp (second_spent journal (unused (N.state nor.old).memory))
         (unused (N.state nor.old).memory) (unused (N.state nor.new).memory)) }
+    ensures given { OnOk result (6 ≤ (votes_at (N.state nor.old).memory (second_at journal)).unused
+        → OneChanged (second_at journal) 255 253 (N.state nor.old).memory
+        (N.state nor.new).memory) }
     ensures blocks { OnOk result (SameBlocks (N.state nor.old).memory (N.state nor.new).memory) }
     ensures cut { IsErrOf result NorError.Cut
         → KeepsBlocks (N.state nor.old).memory (N.state nor.new).memory }
@@ -88,6 +95,8 @@ pub(crate) fn give_up_each<N: Nor>(nor: &mut N, known: &mut Known) -> Result<(),
     ensures known { OnOk result (IsKnown known.new (N.state nor.new).memory) }
     ensures gives { OnOk result (GivesUpEach (unused (N.state nor.old).memory)
         (unused (N.state nor.new).memory)) }
+    ensures firm { InEachRegion (AreRecoveredVotes (bits_in (N.state nor.old)))
+        → OnOk result (InEachRegion (AreFirmOrFew (bits_in (N.state nor.new)))) }
     ensures blocks { OnOk result (SameBlocks (N.state nor.old).memory (N.state nor.new).memory) }
     ensures cut { IsErrOf result NorError.Cut
         → KeepsBlocks (N.state nor.old).memory (N.state nor.new).memory }

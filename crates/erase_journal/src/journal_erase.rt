@@ -8,6 +8,7 @@ ghost use Rattle.erase_journal.specs.Journals.{unused, open_blocks, AreJournalsS
 ghost use Rattle.erase_journal.specs.Journals.{tally_of};
 ghost use Rattle.erase_journal.specs.Blocks.{SameBlocks};
 ghost use Rattle.erase_journal.specs.Steps.{MayErase, IsStep, IsNext, KeepsBlocks};
+ghost use Rattle.erase_journal.specs.Weak.{IsFirmJournal};
 
 use crate::phase::ErasePhase;
 use crate::votes::{close_vote, open_vote};
@@ -96,6 +97,7 @@ pub(crate) fn renew<N: Nor>(nor: &mut N, journal: JournalId) -> Result<(), NorEr
     ensures ok { OnOk result (IsNext (ErasePhase.Doomed journal) (N.state nor.old).memory
         ErasePhase.Idle (N.state nor.new).memory) }
     ensures none { OnOk result (open_blocks (N.state nor.new).memory ≡ 0) }
+    ensures firm { OnOk result (IsFirmJournal (N.state nor.new).weak journal) }
     ensures blocks { OnOk result (SameBlocks (N.state nor.old).memory (N.state nor.new).memory) }
     ensures cut { IsErrOf result NorError.Cut
         → KeepsBlocks (N.state nor.old).memory (N.state nor.new).memory }

@@ -3,7 +3,7 @@
 ghost use Rattle.erase_journal.specs.Faults.{SoundTallyHasNoFault};
 ghost use Rattle.erase_journal.specs.Laws.{BlocksHaveOneSize, SameBlocksMakeOneList};
 ghost use Rattle.erase_journal.specs.Laws.{MaintenanceKeepsVotes, ErasedChipsAreSettled};
-ghost use Rattle.erase_journal.specs.Laws.{OneBlockIsOpen};
+ghost use Rattle.erase_journal.specs.Laws.{FirmJournalsStayFirm, OneBlockIsOpen};
 
 /// The journals are sound in one of the phases of an erase exactly where none of the cases of
 /// corrupt journals holds of them.
@@ -36,4 +36,10 @@ pub fn open_entries_name_one_block()
 /// data blocks is erased.
 pub fn erased_chips_are_settled()
     ensures { ErasedChipsAreSettled }
+{}
+
+/// A call that answers Ok leaves firm journals firm, where no erase goes on before it and after it:
+/// what `firm` left stays so until the power is lost.
+pub fn firm_journals_stay_firm()
+    ensures { FirmJournalsStayFirm }
 {}

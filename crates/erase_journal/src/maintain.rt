@@ -2,13 +2,15 @@
 
 ghost use Rattle.std.specs.Prelude.{◌≡◌, ◌↔◌, ◌≤◌, ◌⊎◌, length, IsTrue, OnOk, IfOk, IfErr};
 ghost use Rattle.std.specs.Result.{IsErrOf};
-ghost use Rattle.nor_driver.specs.State.{IsNorReady, OnlyMemoryChanges, Refuses, EndsReady};
+ghost use Rattle.nor_driver.specs.State.{bits_in, IsNorReady, OnlyMemoryChanges, Refuses};
+ghost use Rattle.nor_driver.specs.State.{EndsReady};
 ghost use Rattle.erase_journal.specs.Journals.{IsSettled, IsHealthy, unused};
 ghost use Rattle.erase_journal.specs.Blocks.{SameBlocks};
 ghost use Rattle.erase_journal.specs.Known.{IsKnown};
 ghost use Rattle.erase_journal.specs.Spending.{HasSpare, HasVotesToSpare, Maintains, Refills};
 ghost use Rattle.erase_journal.specs.Spending.{RefillsAll, Spares, SparesAll};
 ghost use Rattle.erase_journal.specs.Steps.{IsRestful, KeepsBlocks};
+ghost use Rattle.erase_journal.specs.Weak.{AreFirmOrFew, AreFirmVotes, InEachRegion, IsFirmJournal};
 
 use crate::journal_erase::{doom, renew};
 use crate::known::Known;
@@ -168,6 +170,8 @@ fn spare<N: Nor>(nor: &mut N, known: &mut Known, journal: JournalId) -> Result<(
     ensures some { OnOk result (1 ≤ known.new.unused.free) }
     ensures spares { OnOk result (Spares journal (unused (N.state nor.new).memory)
         (unused (N.state nor.old).memory)) }
+    ensures firm { OnOk result (HasSpare journal (unused (N.state nor.old).memory)
+        ⊎ IsFirmJournal (N.state nor.new).weak journal) }
     ensures blocks { OnOk result (SameBlocks (N.state nor.old).memory (N.state nor.new).memory) }
     ensures cut { IsErrOf result NorError.Cut
         → KeepsBlocks (N.state nor.old).memory (N.state nor.new).memory }
@@ -199,6 +203,8 @@ pub(crate) fn spare_each<N: Nor>(nor: &mut N, known: &mut Known) -> Result<(), N
     ensures some { OnOk result (1 ≤ known.new.unused.free) }
     ensures spares { OnOk result (SparesAll (unused (N.state nor.new).memory)
         (unused (N.state nor.old).memory)) }
+    ensures firm { InEachRegion (AreFirmOrFew (bits_in (N.state nor.old)))
+        → OnOk result (InEachRegion (AreFirmVotes (bits_in (N.state nor.new)))) }
     ensures blocks { OnOk result (SameBlocks (N.state nor.old).memory (N.state nor.new).memory) }
     ensures cut { IsErrOf result NorError.Cut
         → KeepsBlocks (N.state nor.old).memory (N.state nor.new).memory }

@@ -3,13 +3,15 @@
 ghost use Rattle.std.specs.Prelude.{◌↔◌, ◌⊎◌, None, false, IsSome, IfOk, IfSome, ◌≡◌, ◌≤◌, length};
 ghost use Rattle.std.specs.Prelude.{OnOk, IfErr, IsTrue};
 ghost use Rattle.std.specs.Result.{IsErrOf};
-ghost use Rattle.nor_driver.specs.State.{EndsReady, IsNorReady, OnlyMemoryChanges, Refuses};
+ghost use Rattle.nor_driver.specs.State.{bits_in, EndsReady, IsNorReady, OnlyMemoryChanges};
+ghost use Rattle.nor_driver.specs.State.{Refuses};
 ghost use Rattle.erase_journal.specs.Journals.{AreJournalsSound, IsSettled, IsHealthy, settled};
 ghost use Rattle.erase_journal.specs.Journals.{unused, first, tally_of};
 ghost use Rattle.erase_journal.specs.Blocks.{SameBlocks};
 ghost use Rattle.erase_journal.specs.Steps.{SameNumbers, KeepsBlocks, EndsSettled};
 ghost use Rattle.erase_journal.specs.Spending.{Continues, SpendsOne, begun};
 ghost use Rattle.erase_journal.specs.Votes.{Last, first_spent, renewed};
+ghost use Rattle.erase_journal.specs.Weak.{AreVotesBelieved, IsFirmJournal, SettlesFirmly};
 ghost use Rattle.nor_layout.specs.declared.journal.JournalId.{JournalId};
 ghost use Rattle.erase_journal.specs.Recovery.{seen, Restored, RestoreCut, RestoreSlow};
 ghost use Rattle.erase_journal.specs.Recovery.{RestoreCorrupt};
@@ -34,6 +36,7 @@ fn resume_doomed<N: Nor>(nor: &mut N, journal: JournalId) -> Result<(), NorError
     ensures numbers { OnOk result (SameNumbers
         (settled (ErasePhase.Doomed journal) (unused (N.state nor.old).memory))
         (unused (N.state nor.new).memory)) }
+    ensures firm { OnOk result (IsFirmJournal (N.state nor.new).weak journal) }
     ensures blocks { OnOk result (SameBlocks (N.state nor.old).memory (N.state nor.new).memory) }
     ensures cut { IsErrOf result NorError.Cut
         → KeepsBlocks (N.state nor.old).memory (N.state nor.new).memory }
@@ -70,6 +73,8 @@ fn resume<N: Nor>(nor: &mut N, phase: ErasePhase) -> Result<(), NorError>
     ensures numbers { OnOk result (SameNumbers
         (settled (begun phase) (unused (N.state nor.old).memory))
         (unused (N.state nor.new).memory)) }
+    ensures firm { (x : JournalId) → begun phase ≡ ErasePhase.Doomed x
+        → OnOk result (IsFirmJournal (N.state nor.new).weak x) }
     ensures blocks { OnOk result (SameBlocks (N.state nor.old).memory (N.state nor.new).memory) }
     ensures cut { IsErrOf result NorError.Cut
         → KeepsBlocks (N.state nor.old).memory (N.state nor.new).memory }
@@ -89,6 +94,8 @@ fn believe<N: Nor>(nor: &mut N, firmness: Firmness, opened: u16) -> Result<(), N
     requires ready { IsNorReady (N.state nor.old) }
     requires size { JOURNALS_END ≤ length (N.state nor.old).memory }
     ensures same { (N.state nor.new).memory ≡ (N.state nor.old).memory }
+    ensures firm { firmness ≡ Firmness.Firm
+        → OnOk result (AreVotesBelieved (bits_in (N.state nor.new))) }
     ensures kept { OnOk result (OnlyMemoryChanges (N.state nor.old) (N.state nor.new)) }
     ensures fails { IfErr result (λ e. Refuses e (N.state nor.old) (N.state nor.new)) }
 {
@@ -314,6 +321,9 @@ pub(crate) fn settle<N: Nor>(nor: &mut N, firmness: Firmness) -> Result<Option<U
         IfSome found (λ u. Continues firmness (N.state nor.old).memory (N.state nor.new).memory)) }
     ensures blocks { IfOk result (λ found.
         IfSome found (λ u. SameBlocks (N.state nor.old).memory (N.state nor.new).memory)) }
+    ensures settles { firmness ≡ Firmness.Firm → IfOk result (λ found.
+        IfSome found (λ u. SettlesFirmly (bits_in (N.state nor.old))
+        (bits_in (N.state nor.new)))) }
     ensures corrupt { IfOk result (λ found. found ≡ None
         → (N.state nor.new).memory ≡ (N.state nor.old).memory) }
     ensures cut { IsErrOf result NorError.Cut

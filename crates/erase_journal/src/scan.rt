@@ -109,7 +109,7 @@ pub(crate) fn close_used(bytes: &mut [u8])
     requires { length bytes.old ≡ 256 }
     ensures each { (i : ℕ) → i < 64 → LeavesEntry i bytes.old bytes.new }
     ensures closed { (i : ℕ) → i < 64 → is_free_in bytes.old i ≡ false
-        → byte bytes.new (4 * i + 3) ≢ 255 }
+        → byte bytes.new (4 * i + 3) < 255 }
     ensures size { length bytes.new ≡ length bytes.old }
 {
     for i in 0..64usize {

@@ -15,7 +15,9 @@ use Rattle.erase_journal.specs.Blocks.{is_believed0}
 use Rattle.erase_journal.proofs.Counts.{how_many-same}
 use Rattle.erase_journal.proofs.Regions.{BytesKept, blocks-named}
 use Rattle.erase_journal.proofs.Entries.{not-open, not-free, same-open}
-use Rattle.firm_chip.specs.FirmChips.{AreFirm, AreVotesFirm, NeverReads, IsFirmVote, given_up, IsFirmEntry, firm, ended, begun, IsFirmChip}
+use Rattle.erase_journal.specs.Weak.{AreFirm, IsFirmVote, given_up}
+use Rattle.erase_journal.specs.Weak as votes
+use Rattle.firm_chip.specs.FirmChips.{AreVotesFirm, NeverReads, IsFirmEntry, firm, ended, begun, IsFirmChip}
 
 -- a byte without a weak bit is as it was
 pub firm-byte : (m w m' : List ℕ) (i : ℕ) → Drawn w m m' → byte w i ≡ 0 → byte m' i ≡ byte m i
@@ -87,7 +89,7 @@ free-drawn m w m' f d = how_many-same (is_free_entry m') (is_free_entry m) 512 (
 -- A vote reads as before; or as closed or given up, before and after.
 vote-drawn : (m w m' : List ℕ) (at : ℕ) → Drawn w m m' → IsFirmVote m w at
     → (byte m' at ≡ byte m at) ⊎ (((252 ≤ byte m at) × (byte m at ≤ 253)) × ((252 ≤ byte m' at) × (byte m' at ≤ 253)))
-vote-drawn m w m' at d (firm e) = inl (firm-byte m w m' at d e)
+vote-drawn m w m' at d (votes.firm e) = inl (firm-byte m w m' at d e)
 vote-drawn m w m' at d (given_up h a b) =
     let none : byte w at / 2 ≡ 0 = omega (arith, h) in
     let half : byte m' at / 2 ≡ byte m at / 2 = same_from_bits (byte m' at / 2) (byte m at / 2) (λ k.

@@ -6,3 +6,4 @@ pub mod Heads
 pub mod Disks
 pub mod Losses
 pub mod Steps
+pub mod FirmJournals

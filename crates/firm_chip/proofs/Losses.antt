@@ -10,19 +10,9 @@ use Rattle.chip_model.specs.Memory.{byte, changed, is_within, Torn, TornErase}
 use Rattle.chip_model.specs.Chip.{Idle, Programming, Erasing, Setting, page_place, programmed, offset_in_page}
 use Rattle.chip_model.specs.Wavering.{Bits, IsBits, Drawn, TornProgram, TornUnit, completed_bits}
 use Rattle.chip_model.proofs.MemoryLaws.{length-changed_from, get-changed, length-programmed, programmed_page}
+use Rattle.chip_model.proofs.WaveringLaws.{past_bit, byte_from_bits, program_bit, either}
 use Rattle.firm_chip.specs.Losses.{LossesAreTornThenDrawn, LossesLeaveSteadyDisks}
 use Rattle.firm_chip.proofs.Disks.{each-draw}
-
-pub past_bit : (m : List ℕ) (i k : ℕ) → length m ≤ i → bit_at (byte m i) k ≡ 0
-past_bit m i k high = ap (λ x. bit_at x k) (get_or_past m i 0 high) ∙ bit_at-zero k
-
-byte_from_bits : (v : ℕ) → ((k : ℕ) → 8 ≤ k → bit_at v k ≡ 0) → v < 256
-byte_from_bits v h =
-    let e : v ≡ bit_and v 255 = same_from_bits v (bit_and v 255) (λ k. elim (cases_lt k 8) [
-      | inl low ↦ (let a = bit_at_and v 255 k in let b = bit_at_ones 8 k low in let c = bit_at-lt v k in omega (arith, a, b, c))
-      | inr high ↦ (let a = bit_at_and v 255 k in let b = h k high in omega (arith, a, b))
-    ]) in
-    omega (arith, e, and_le_r v 255)
 
 -- the memory that reads as v where no bit was weak, and as m where one was
 abbrev pub mixed : List ℕ → List ℕ → ℕ → ℕ → ℕ
@@ -53,18 +43,8 @@ mixed_weak m w v i k low n =
     omega (arith, e, n, x, y, z)
 
 -- a weak bit that isn't, isn't after a program
-still_bit : (t : Bool) (x d k : ℕ) → bit_at x k ≡ 0 → bit_at (cond t (bit_and x d) x) k ≡ 0
-still_bit true x d k e = let a = bit_at_and x d k in omega (arith, a, e)
-still_bit false x d k e = e
-
 still_firm : (w : List ℕ) (at : ℕ) (bytes : List ℕ) (i k : ℕ) → bit_at (byte w i) k ≡ 0 → bit_at (byte (programmed w at bytes) i) k ≡ 0
-still_firm w at bytes i k z = elim (cases_lt i (length w)) [
-  | inl low ↦
-      ap (λ (xs : List ℕ). bit_at (byte xs i) k) (programmed_page w at bytes)
-      ∙ (ap (λ x. bit_at x k) (get-changed (page_place bit_and at bytes) w i 0 low)
-      ∙ still_bit ((eqb (i / 256) (at / 256)) && ltb (offset_in_page at i) (length bytes)) (byte w i) (byte bytes (offset_in_page at i)) k z)
-  | inr high ↦ past_bit (programmed w at bytes) i k (let n = length-programmed w at bytes in omega (arith, n, high))
-]
+still_firm w at bytes i k z = let e = program_bit w at bytes i k in omega (arith, e, z)
 
 two : (a b c : ℕ) → a < 2 → b < 2 → c < 2 → b ≢ a → (c ≡ a) ⊎ (c ≡ b)
 two a b c x y z n = elim (cases_eq c a) [ inl e ↦ inl e | inr ne ↦ inr (omega (arith, x, y, z, n, ne)) ]
@@ -108,10 +88,6 @@ mixed_drawn m w v = record {
 -- the memory that reads as v in a unit, and as m elsewhere
 abbrev within_or : ℕ → ℕ → List ℕ → ℕ → ℕ → ℕ
 within_or a n m i x = cond (is_within a n i) x (byte m i)
-
-pub either : (t : Bool) → (t ≡ true) ⊎ (t ≡ false)
-either true = inl refl
-either false = inr refl
 
 unit_in : (a n : ℕ) (m v : List ℕ) (i : ℕ) → is_within a n i ≡ true → byte (changed (within_or a n m) v) i ≡ byte v i
 unit_in a n m v i here = elim (cases_lt i (length v)) [

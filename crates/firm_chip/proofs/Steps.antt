@@ -9,8 +9,9 @@ use Rattle.chip_model.specs.Memory.{byte, changed, erased, fill_place, is_within
 use Rattle.chip_model.specs.Chip.{Idle, Programming, Erasing, Setting, page_place, programmed, offset_in_page}
 use Rattle.chip_model.specs.Wavering.{Bits, Drawn, TornProgram, TornUnit, completed_bits}
 use Rattle.chip_model.proofs.MemoryLaws.{length-changed_from, get-changed, length-erased, length-programmed, programmed_page, erased-inside, erased-outside}
+use Rattle.chip_model.proofs.WaveringLaws.{past_bit, data_bit, program_bit, fill_out, firm_erase, either}
 use Rattle.firm_chip.specs.Losses.{LossesAreDrawnThenTorn, CompletedAreDrawnThenDone}
-use Rattle.firm_chip.proofs.Losses.{past_bit, mixed, mixed_firm, mixed_weak, torn_bit, either, drawn_byte, none_torn}
+use Rattle.firm_chip.proofs.Losses.{mixed, mixed_firm, mixed_weak, torn_bit, drawn_byte, none_torn}
 
 -- the memory that reads as m where no bit was weak, and as v where one was
 abbrev read_as : List ℕ → List ℕ → List ℕ → List ℕ
@@ -21,27 +22,6 @@ read_drawn v w m = record {
   same_length = length-changed_from (mixed v w) 0 m;
   firm = λ i k z. mixed_firm v w m i k z;
 }
-
--- what a program makes of a bit depends on that bit alone: it is the least of the bit and of the
--- data's, which is 1 where no data falls
-and_bit : (t : Bool) (x d k : ℕ) → bit_at (cond t (bit_and x d) x) k ≡ min (bit_at x k) (cond t (bit_at d k) 1)
-and_bit true x d k = bit_at_and x d k
-and_bit false x d k = let two = bit_at-lt x k in omega (arith, two)
-
-abbrev data_bit : ℕ → List ℕ → ℕ → ℕ → ℕ
-data_bit at bytes i k = cond ((eqb (i / 256) (at / 256)) && ltb (offset_in_page at i) (length bytes)) (bit_at (byte bytes (offset_in_page at i)) k) 1
-
-program_bit : (m : List ℕ) (at : ℕ) (bytes : List ℕ) (i k : ℕ) → bit_at (byte (programmed m at bytes) i) k ≡ min (bit_at (byte m i) k) (data_bit at bytes i k)
-program_bit m at bytes i k = elim (cases_lt i (length m)) [
-  | inl low ↦
-      ap (λ (xs : List ℕ). bit_at (byte xs i) k) (programmed_page m at bytes)
-      ∙ (ap (λ x. bit_at x k) (get-changed (page_place bit_and at bytes) m i 0 low)
-      ∙ and_bit ((eqb (i / 256) (at / 256)) && ltb (offset_in_page at i) (length bytes)) (byte m i) (byte bytes (offset_in_page at i)) k)
-  | inr high ↦
-      let a = past_bit m i k high in
-      let b = past_bit (programmed m at bytes) i k (omega (arith, length-programmed m at bytes, high)) in
-      omega (arith, a, b)
-]
 
 program_read : (b new : Bits) (v : List ℕ) (at : ℕ) (bytes : List ℕ) → TornProgram b (completed_bits (Programming at bytes) b) new → Drawn new.weak new.shown v
     → Torn (read_as v b.weak b.shown) (programmed (read_as v b.weak b.shown) at bytes) v
@@ -123,18 +103,6 @@ program_done b v at bytes d =
     let c = d.same_length in
     ext_get_or 0 v (programmed r at bytes) (omega (arith, n, l, m, c)) (λ i low. same_from_bits (byte v i) (byte (programmed r at bytes) i) (λ k. done_bit b v at bytes i k (omega (arith, low, m, c)) d))
 
-cleared_in : (w : List ℕ) (a n i k : ℕ) → is_within a n i ≡ true → bit_at (byte (changed (fill_place 0 a n) w) i) k ≡ 0
-cleared_in w a n i k here = elim (cases_lt i (length w)) [
-  | inl low ↦ ap (λ x. bit_at x k) (get-changed (fill_place 0 a n) w i 0 low ∙ cond-true _ _ _ here) ∙ bit_at-zero k
-  | inr high ↦ past_bit (changed (fill_place 0 a n) w) i k (let l = length-changed_from (fill_place 0 a n) 0 w in omega (arith, l, high))
-]
-
-cleared_out : (w : List ℕ) (a n i k : ℕ) → is_within a n i ≡ false → bit_at (byte (changed (fill_place 0 a n) w) i) k ≡ bit_at (byte w i) k
-cleared_out w a n i k out = elim (cases_lt i (length w)) [
-  | inl low ↦ ap (λ x. bit_at x k) (get-changed (fill_place 0 a n) w i 0 low ∙ cond-false _ _ _ out)
-  | inr high ↦ past_bit (changed (fill_place 0 a n) w) i k (let l = length-changed_from (fill_place 0 a n) 0 w in omega (arith, l, high)) ∙ sym (past_bit w i k high)
-]
-
 erase_bit : (b : Bits) (v : List ℕ) (at size i k : ℕ) → i < length b.shown → Drawn (changed (fill_place 0 at size) b.weak) (erased b.shown at size) v
     → bit_at (byte v i) k ≡ bit_at (byte (erased (read_as v b.weak b.shown) at size) i) k
 erase_bit b v at size i k low d =
@@ -143,11 +111,11 @@ erase_bit b v at size i k low d =
     let lowr : i < length r = omega (arith, n, low) in
     elim (either (is_within at size i)) [
       | inl here ↦
-          d.firm i k (cleared_in b.weak at size i k here)
+          d.firm i k (firm_erase b.weak at size i k here)
           ∙ ap (λ x. bit_at x k) (erased-inside b.shown at size i here low ∙ sym (erased-inside r at size i here lowr))
       | inr out ↦ elim (cases_eq (bit_at (byte b.weak i) k) 0) [
         | inl z ↦
-            d.firm i k (cleared_out b.weak at size i k out ∙ z)
+            d.firm i k (fill_out 0 b.weak at size i k out ∙ z)
             ∙ (ap (λ x. bit_at x k) (erased-outside b.shown at size i out)
             ∙ (sym (mixed_firm v b.weak b.shown i k z) ∙ ap (λ x. bit_at x k) (sym (erased-outside r at size i out))))
         | inr w ↦ sym (mixed_weak v b.weak b.shown i k low w) ∙ ap (λ x. bit_at x k) (sym (erased-outside r at size i out))

@@ -9,11 +9,8 @@ use Rattle.nor_layout.specs.Journals.{journal_at, region_len, block_len}
 use Rattle.nor_layout.specs.Entries.{entry_count, entry_at}
 use Rattle.erase_journal.specs.Journals.{entries_for}
 use Rattle.erase_journal.specs.Blocks.{is_believed0}
+use Rattle.erase_journal.specs.Weak.{AreFirm, IsFirmVote}
 use Rattle.sector_slots.specs.Slots.{data_blocks, slot_count}
-
--- none of the n bytes from a place on has a weak bit
-abbrev pub AreFirm : List ℕ → ℕ → ℕ → Type 0
-AreFirm w at n = (k : ℕ) → k < n → byte w (at + k) ≡ 0
 
 -- and each of them is v
 pub record AreFirmly (m w : List ℕ) (at n v : ℕ) : Type 0 where
@@ -31,12 +28,6 @@ pub record NeverFree (m w : List ℕ) (at : ℕ) : Type 0 where
   pub place : ℕ
   pub within : place < 4
   pub used : NeverReads m w (at + place) 255
-
--- A vote is firm; or it was given up: it reads as closed or given up, and bit 0, by which these
--- differ, is perhaps weak.
-pub data IsFirmVote (m w : List ℕ) (at : ℕ) : Type 0 where
-  firm : byte w at ≡ 0 → IsFirmVote m w at
-  given_up : byte w at ≤ 1 → 252 ≤ byte m at → byte m at ≤ 253 → IsFirmVote m w at
 
 -- Entry i of J0 is firm; or it never reads as free or as open, since its last byte never reads FFh,
 -- or its first one neither FFh nor FCh.

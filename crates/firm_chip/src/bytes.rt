@@ -3,7 +3,8 @@
 ghost use Rattle.std.specs.Prelude.{◌≡◌, ℕ, ◌+◌, ◌<◌, ◌≤◌, length, IsTrue};
 ghost use Rattle.std.specs.Int.{bit_at};
 ghost use Rattle.chip_model.specs.Memory.{byte};
-ghost use Rattle.firm_chip.specs.FirmChips.{AreFirm, AreFirmly, NeverReads, NeverFree};
+ghost use Rattle.erase_journal.specs.Weak.{AreFirm};
+ghost use Rattle.firm_chip.specs.FirmChips.{AreFirmly, NeverReads, NeverFree};
 
 /// Whether none of so many bytes from a place on has a weak bit.
 pub(crate) fn are_firm(weak: &[u8], at: usize, count: usize) -> bool

@@ -3,7 +3,8 @@
 ghost use Rattle.std.specs.Prelude.{◌≡◌, ℕ, ◌+◌, ◌<◌, ◌≤◌, length, IsTrue};
 ghost use Rattle.nor_layout.specs.declared.journal.JournalId.{JournalId};
 ghost use Rattle.nor_layout.specs.Journals.{journal_at};
-ghost use Rattle.firm_chip.specs.FirmChips.{AreVotesFirm, IsFirmChip, IsFirmVote};
+ghost use Rattle.erase_journal.specs.Weak.{IsFirmVote};
+ghost use Rattle.firm_chip.specs.FirmChips.{AreVotesFirm, IsFirmChip};
 
 use crate::block::{are_blocks_firm, has_room};
 use crate::bytes::are_firm;

@@ -1,12 +1,17 @@
 //! What follows for a firm chip, with no work at run time.
 
-ghost use Rattle.firm_chip.specs.Draws.{EachDrawIsTheSameDisk};
+ghost use Rattle.firm_chip.specs.Draws.{EachDrawIsTheSameDisk, FirmJournalsAreOfFirmChips};
 ghost use Rattle.firm_chip.specs.Losses.{CompletedAreDrawnThenDone, LossesAreDrawnThenTorn};
 ghost use Rattle.firm_chip.specs.Losses.{LossesAreTornThenDrawn, LossesLeaveSteadyDisks};
 
 /// Whatever the weak bits of a firm chip read as, it is the same disk.
 pub fn each_draw_is_the_same_disk()
     ensures { EachDrawIsTheSameDisk }
+{}
+
+/// What a firm mount leaves of the journals is what a firm chip has of them.
+pub fn firm_journals_are_of_firm_chips()
+    ensures { FirmJournalsAreOfFirmChips }
 {}
 
 /// A loss on a chip whose bits waver reads as a draw of one on a chip whose bits are steady.

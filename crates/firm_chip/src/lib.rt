@@ -21,6 +21,6 @@ mod slot;
 
 pub use chip::is_firm;
 pub use laws::{
-    completed_are_drawn_then_done, each_draw_is_the_same_disk, losses_are_drawn_then_torn,
-    losses_are_torn_then_drawn, losses_leave_steady_disks,
+    completed_are_drawn_then_done, each_draw_is_the_same_disk, firm_journals_are_of_firm_chips,
+    losses_are_drawn_then_torn, losses_are_torn_then_drawn, losses_leave_steady_disks,
 };

@@ -1,16 +1,18 @@
 -- One call of a memory after another: what two that answered Ok leave together, and what one leaves that failed after others.
-use Rattle.std.proofs.Common.{◌≡◌, ◌⊎◌, ◌≤◌, Bool, true, false, refl, sym, ◌∙◌, arith, inl, inr}
+use Rattle.std.proofs.Common.{◌≡◌, ◌⊎◌, ◌<◌, ◌≤◌, Bool, true, false, refl, sym, subst, ◌∙◌, arith, inl, inr}
 use Rattle.std.specs.Prelude.{Result, Ok, Err, OnOk, IfErr, MatchResult}
-use Rattle.nor_driver.specs.State.{NorState, IsNorReady, OnlyMemoryChanges, NorFails, IsFirst, Succeeds, Refuses, EndsReady, AnswersWhatIsLatched}
+use Rattle.std.specs.Result.{IsErrAnd}
+use Rattle.nor_driver.specs.State.{NorState, bits_in, IsNorReady, OnlyMemoryChanges, NorFails, IsFirst, Succeeds, Refuses, EndsReady, AnswersWhatIsLatched}
+use Rattle.nor_driver.proofs.Firmer.{firmer-none, firmer-on, interrupted-after}
 use Rattle.nor_driver.specs.declared.error.NorError.{NorError}
 use Rattle.nor_driver.specs.declared.error.NorError.TheVariants as errors
 
 -- nothing changed
 pub kept-none : (a : NorState) → OnlyMemoryChanges a a
-kept-none a = record { cuts = refl; slows = refl; powered = refl; is_slow = refl; has_large = refl }
+kept-none a = record { bits = firmer-none (bits_in a); cuts = refl; slows = refl; powered = refl; is_slow = refl; has_large = refl }
 
 pub kept-after : (a b c : NorState) → OnlyMemoryChanges a b → OnlyMemoryChanges b c → OnlyMemoryChanges a c
-kept-after a b c p q = record { cuts = q.cuts ∙ p.cuts; slows = q.slows ∙ p.slows; powered = q.powered ∙ p.powered; is_slow = q.is_slow ∙ p.is_slow; has_large = q.has_large ∙ p.has_large }
+kept-after a b c p q = record { bits = firmer-on (bits_in a) (bits_in b) (bits_in c) p.bits q.bits; cuts = q.cuts ∙ p.cuts; slows = q.slows ∙ p.slows; powered = q.powered ∙ p.powered; is_slow = q.is_slow ∙ p.is_slow; has_large = q.has_large ∙ p.has_large }
 
 -- what is ready stays so, and was so
 pub ready-after : (a b : NorState) → OnlyMemoryChanges a b → IsNorReady a → IsNorReady b
@@ -20,8 +22,28 @@ pub ready-back : (a b : NorState) → OnlyMemoryChanges a b → IsNorReady b →
 ready-back a b k r = (sym k.powered ∙ r.0, sym k.is_slow ∙ r.1)
 
 pub fails-after : (e : NorError) (a b c : NorState) → OnlyMemoryChanges a b → NorFails e b c → NorFails e a c
-fails-after errors.Cut a b c k f = grind arith
-fails-after errors.Slow a b c k f = grind arith
+fails-after errors.Cut a b c k f = (
+  elim f.0 as (λ _. (a.cuts < c.cuts) ⊎ ((a.powered ≡ false) × (c.cuts ≡ a.cuts))) [
+    | inl lost ↦ (let e = k.cuts in inl (omega (arith, e, lost)))
+    | inr off ↦ inr (sym k.powered ∙ off.0, off.1 ∙ k.cuts)
+  ],
+  f.1 ∙ k.slows,
+  f.2,
+  f.3 ∙ k.is_slow,
+  f.4 ∙ k.has_large,
+  interrupted-after (bits_in a) (bits_in b) (bits_in c) k.bits f.5,
+)
+fails-after errors.Slow a b c k f = (
+  elim f.0 as (λ _. (a.slows < c.slows) ⊎ ((a.is_slow ≡ true) × (c.slows ≡ a.slows))) [
+    | inl slow ↦ (let e = k.slows in inl (omega (arith, e, slow)))
+    | inr latched ↦ inr (sym k.is_slow ∙ latched.0, latched.1 ∙ k.slows)
+  ],
+  f.1 ∙ k.cuts,
+  f.2 ∙ k.powered,
+  f.3,
+  f.4 ∙ k.has_large,
+  firmer-on (bits_in a) (bits_in b) (bits_in c) k.bits f.5,
+)
 
 -- where the power was on and no Slow was latched, nothing was latched
 pub first-ready : (e : NorError) (a c : NorState) → IsNorReady a → IsFirst e a c
@@ -117,3 +139,23 @@ done-of (Err e) P Q h = tt
 pub fails-of : {T : Type 0} (r : Result T NorError) (P : Type 0) (Q : NorError → Type 0) → MatchResult r (λ _. P) Q → IfErr r Q
 fails-of (Ok x) P Q h = tt
 fails-of (Err e) P Q h = h
+
+-- what a `?` returns, by the error of the call before it
+pub fails-as : {T E : Type 0} (r : Result T E) (e : E) (P : T → Type 0) (Q : E → Type 0) → IsErrAnd r (λ y. y ≡ e) → Q e → MatchResult r P Q
+fails-as (Ok x) e P Q is h = absurd is
+fails-as (Err y) e P Q is h = subst Q (sym is) h
+
+-- a call whose answer is returned as it is, after others that answered Ok
+pub ends-since : {T : Type 0} (r : Result T NorError) (a b c : NorState) → IsNorReady a → OnlyMemoryChanges a b → EndsReady r b c → EndsReady r a c
+ends-since (Ok x) a b c ready k h = record { ready = ready; kept = kept-after a b c k h.kept }
+ends-since (Err e) a b c ready k h = refuses-since e a b c ready k h
+
+-- a call after one that answered Ok without asking the memory, or was ready
+pub refuses-perhaps : (e : NorError) (a b c : NorState) → IsNorReady a ⊎ (b ≡ a) → OnlyMemoryChanges a b → Refuses e b c → Refuses e a c
+refuses-perhaps e a b c idle k r = elim idle [
+  | inl ready ↦ refuses-since e a b c ready k r
+  | inr same ↦ subst (λ s. Refuses e s c) same r
+]
+
+pub succeeds-back : (a b c : NorState) → OnlyMemoryChanges a b → Succeeds b c → Succeeds a c
+succeeds-back a b c k s = record { ready = ready-back a b k s.ready; kept = kept-after a b c k s.kept }

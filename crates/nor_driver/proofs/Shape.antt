@@ -12,8 +12,11 @@ use Rattle.chip_model.proofs.MemoryLaws.{programmed_in_page}
 use Rattle.chip_model.specs.Frames.{command_of, Receives, is_unprotected, starts, with_enabled, with_polls}
 use Rattle.chip_model.proofs.FrameLaws.{KeepsShape, completed_shape, cut_shape, idle_cut, idle_not_setting, started_program, started_erase, started_large_erase, address}
 use Rattle.chip_model.specs.Chip.{is_setting}
-use Rattle.nor_driver.specs.State.{Leaves, as_before, torn_in_it, changed_whole, program_bits, TornProgramBits, erase_bits, TornEraseBits}
-use Rattle.nor_driver.specs.Steps.{TornIn, Woken, started, StartsChange, ChangeInterrupted, not_begun, torn, whole, no_power}
+use Rattle.nor_driver.specs.State.{NorFails, IsFirmer, Interrupted, Leaves, as_before, torn_in_it, changed_whole, program_bits, TornProgramBits, erase_bits, TornEraseBits}
+use Rattle.nor_driver.specs.Shown.{shown}
+use Rattle.nor_driver.specs.declared.error.NorError.TheVariants as errors
+use Rattle.nor_driver.specs.Steps.{TornIn, Woken, Lost, fell, was_off, started, StartsChange, ChangeInterrupted, not_begun, torn, whole, no_power}
+use Rattle.nor_driver.proofs.Firmer.{firmer-none, firmer-done, interrupted-none, interrupted-in}
 
 -- the shape of a chip that is another
 pub same_shape : (c new : Chip) → new ≡ c → is_setting c.operation ≡ false → KeepsShape c new
@@ -65,6 +68,18 @@ idle_weak (Setting value) m w i = refl
 idle_bits : (c new : Chip) → is_idle c.operation ≡ true → Cut c new → bits_of new ≡ bits_of c
 idle_bits c new i k = same_bits (bits_of c) (bits_of new) (idle_cut c new i k) (k.weak ∙ idle_weak c.operation c.memory c.weak i)
 
+-- a frame that changes nothing wasn't answered
+pub lost_fails : (c new : Chip) (cuts cuts' slows slows' : ℕ) (slow large : Bool) → is_idle c.operation ≡ true → Lost c cuts new cuts' → slows' ≡ slows
+    → NorFails errors.Cut (shown c cuts slows slow large) (shown new cuts' slows' slow large)
+lost_fails c new cuts cuts' slows slows' slow large idle lost same_slows = elim lost [
+  | fell on k n ↦
+      let i = interrupted-none (bits_of c) (bits_of new) (subst (λ (b : Bits). IsFirmer (bits_of c) b) (sym (idle_bits c new idle k)) (firmer-none (bits_of c))) in
+      (inl (omega (arith, n)), same_slows, k.powered, refl, refl, i)
+  | was_off off same n ↦
+      let i = interrupted-none (bits_of c) (bits_of new) (subst (λ (b : Bits). IsFirmer (bits_of c) b) (sym (ap bits_of same)) (firmer-none (bits_of c))) in
+      (inr (off, n), same_slows, ap (λ (d : Chip). d.powered) same ∙ off, refl, refl, i)
+]
+
 -- what a loss of power leaves of a change that begins
 pub record AfterLoss (c : Chip) (begun : Chip) (new : Chip) : Type 0 where
   pub shape : KeepsShape c new
@@ -73,6 +88,7 @@ pub record AfterLoss (c : Chip) (begun : Chip) (new : Chip) : Type 0 where
   pub powered : new.powered ≡ false
   pub leaves : Leaves c.memory (TornMemory begun.operation begun.memory) (completed begun).memory new.memory
   pub bits : Leaves (bits_of c) (TornIn begun) (bits_of (completed begun)) (bits_of new)
+  pub interrupted : Interrupted (bits_of c) (bits_of new)
 
 after_start : (c : Chip) (cuts : ℕ) (sent : List ℕ) (new : Chip) (cuts' : ℕ) → is_idle c.operation ≡ true → (b : StartsChange c sent) → ChangeInterrupted c cuts sent new cuts'
     → AfterLoss c (starts (with_enabled c true) b.operation) new
@@ -84,6 +100,7 @@ after_start c cuts sent new cuts' idle b i = elim i [
     powered = k.powered;
     leaves = as_before (idle_cut c new idle k);
     bits = as_before (idle_bits c new idle k);
+    interrupted = interrupted-none (bits_of c) (bits_of new) (subst (λ (b : Bits). IsFirmer (bits_of c) b) (sym (idle_bits c new idle k)) (firmer-none (bits_of c)));
   }
   | torn on k n ↦
       let t : Cut (starts (with_enabled c true) b.operation) new = subst (λ (d : Chip). Cut d new) b.is k in
@@ -95,6 +112,7 @@ after_start c cuts sent new cuts' idle b i = elim i [
         powered = t.powered;
         leaves = torn_in_it t.memory;
         bits = torn_in_it (t.memory, t.weak);
+        interrupted = interrupted-in b.operation (bits_of c) (bits_of new) b.unit t.memory t.weak;
       }
   | whole on k n ↦
       let e = completed (starts (with_enabled c true) b.operation) in
@@ -108,6 +126,7 @@ after_start c cuts sent new cuts' idle b i = elim i [
         powered = t.powered;
         leaves = changed_whole t.memory;
         bits = changed_whole (same_bits (bits_of e) (bits_of new) t.memory t.weak);
+        interrupted = interrupted-none (bits_of c) (bits_of new) (subst (λ (x : Bits). IsFirmer (bits_of c) x) (sym (same_bits (bits_of e) (bits_of new) t.memory t.weak)) (firmer-done b.operation (bits_of c) b.unit));
       }
   | no_power off same n ↦ record {
     shape = same_shape c new same (idle_not_setting c.operation idle);
@@ -116,6 +135,7 @@ after_start c cuts sent new cuts' idle b i = elim i [
     powered = ap (λ (d : Chip). d.powered) same ∙ off;
     leaves = as_before (ap (λ (d : Chip). d.memory) same);
     bits = as_before (ap bits_of same);
+    interrupted = interrupted-none (bits_of c) (bits_of new) (subst (λ (b : Bits). IsFirmer (bits_of c) b) (sym (ap bits_of same)) (firmer-none (bits_of c)));
   }
 ]
 
@@ -150,6 +170,9 @@ done_weak c sent b = ap (λ (d : Chip). (completed d).weak) b.is
 done_bits : (c : Chip) (sent : List ℕ) (b : StartsChange c sent) → bits_of (completed (started c sent)) ≡ record { shown = memory_after b.operation c.memory; weak = firmed b.operation c.weak }
 done_bits c sent b = ap (λ (d : Chip). bits_of (completed d)) b.is
 
+pub done_firmer : (c new : Chip) (sent : List ℕ) (b : StartsChange c sent) → new ≡ completed (started c sent) → IsFirmer (bits_of c) (bits_of new)
+done_firmer c new sent b is = subst (λ (x : Bits). IsFirmer (bits_of c) x) (sym (ap bits_of is ∙ done_bits c sent b)) (firmer-done b.operation (bits_of c) b.unit)
+
 cut_bits : (c : Chip) (sent : List ℕ) (n : Bits) (b : StartsChange c sent) → Leaves (bits_of c) (TornIn (started c sent)) (bits_of (completed (started c sent))) n
     → Leaves (bits_of c) (TornIn (starts (with_enabled c true) b.operation)) (bits_of (completed (starts (with_enabled c true) b.operation))) n
 cut_bits c sent n b h = subst (λ (d : Chip). Leaves (bits_of c) (TornIn d) (bits_of (completed d)) n) b.is h
@@ -168,6 +191,7 @@ begins_program c sent at bytes p = record {
   is = ap (started c) p.frame ∙ started_program c at bytes p.unprotected (omega (arith, p.range, p.some)) p.some p.page;
   running = refl;
   in_memory = refl;
+  unit = tt;
 }
 
 pub program_done : (c : Chip) (sent : List ℕ) (at : ℕ) (bytes : List ℕ) → IsProgram c sent at bytes → (completed (started c sent)).memory ≡ and_at c.memory at bytes
@@ -206,6 +230,7 @@ begins_small c sent at p = record {
   is = ap (started c) p.frame ∙ started_erase c at p.unprotected p.range p.unit;
   running = refl;
   in_memory = refl;
+  unit = (inl refl, p.unit);
 }
 
 abbrev pub begins_large : (c : Chip) (sent : List ℕ) (at : ℕ) → IsErase c sent at 216 65536 → StartsChange c sent
@@ -214,6 +239,7 @@ begins_large c sent at p = record {
   is = ap (started c) p.frame ∙ started_large_erase c at p.unprotected p.range p.unit;
   running = refl;
   in_memory = refl;
+  unit = (inr refl, p.unit);
 }
 
 -- what begins leaves of the bits, of a small unit and of a large one

@@ -2,8 +2,13 @@
 -- Source: own. A Cut is a loss of power, a Slow an operation of the chip that didn't end.
 use Rattle.std.specs.declared.result.Result.{Result}
 use Rattle.std.specs.declared.result.Result.TheVariants.{Ok, Err}
-use Rattle.std.specs.Prelude.{◌≡◌, ℕ, ◌<◌, ◌⊎◌, Bool, true, false, List, MatchResult}
-use Rattle.chip_model.specs.Memory.{and_at, cleared, erased, with_differences, TornAnd, TornErase}
+use Rattle.std.specs.Prelude.{◌≡◌, ℕ, ◌/◌, ◌%◌, ◌<◌, ◌⊎◌, Bool, true, false, List}
+use Rattle.std.specs.Prelude.{MatchResult}
+use Rattle.std.specs.Int.{bit_at}
+use Rattle.chip_model.specs.Memory.{and_at, byte, cleared, erased, with_differences}
+use Rattle.chip_model.specs.Memory.{TornAnd, TornErase}
+use Rattle.chip_model.specs.Chip.{Operation, Erasing}
+use Rattle.chip_model.specs.Cut.{TornMemory, weakened}
 use Rattle.chip_model.specs.Wavering.{Bits}
 use Rattle.nor_driver.specs.declared.error.NorError.{NorError}
 use Rattle.nor_driver.specs.declared.error.NorError.TheVariants.{Cut, Slow}
@@ -27,8 +32,38 @@ pub record NorState : Type 0 where
 abbrev pub IsNorReady : NorState → Type 0
 IsNorReady state = (state.powered ≡ true) × (state.is_slow ≡ false)
 
--- all but the bits is as before: what a call that answered Ok leaves
+-- what each bit reads as, and which are weak
+abbrev pub bits_in : NorState → Bits
+bits_in state = record { shown = state.memory; weak = state.weak }
+
+-- What operations that completed leave of the bits. A bit that is weak was, and reads as it did; in
+-- its unit of 4 KiB nothing was erased: there each bit that read 0 reads 0.
+pub record IsFirmer (old new : Bits) : Type 0 where
+  pub weak : (i k : ℕ) → bit_at (byte new.weak i) k ≡ 1 → bit_at (byte old.weak i) k ≡ 1
+  pub reads : (i k x : ℕ) → bit_at (byte new.weak i) k ≡ 1 → bit_at (byte old.shown i) k ≡ x
+      → bit_at (byte new.shown i) k ≡ x
+  pub zeros : (i k j l : ℕ) → bit_at (byte new.weak i) k ≡ 1 → j / 4096 ≡ i / 4096
+      → bit_at (byte old.shown j) l ≡ 0 → bit_at (byte new.shown j) l ≡ 0
+
+-- an operation on a page, or on a unit of 4 or 64 KiB
+abbrev pub IsOfUnit : Operation → Type 0
+IsOfUnit (Erasing at size) = ((size ≡ 4096) ⊎ (size ≡ 65536)) × (at % size ≡ 0)
+IsOfUnit _ = Unit {0}
+
+-- what a loss of power leaves of the bits: of operations that completed, and of one that it
+-- interrupted
+pub record Interrupted (old new : Bits) : Type 0 where
+  pub before : Bits
+  pub firmer : IsFirmer old before
+  pub operation : Operation
+  pub unit : IsOfUnit operation
+  pub shown : TornMemory operation before.shown new.shown
+  pub weak : new.weak ≡ weakened operation before.shown before.weak
+
+-- all but the bits is as before, and of them no operation was interrupted: what a call that
+-- answered Ok leaves
 pub record OnlyMemoryChanges (old new : NorState) : Type 0 where
+  pub bits : IsFirmer (bits_in old) (bits_in new)
   pub cuts : new.cuts ≡ old.cuts
   pub slows : new.slows ≡ old.slows
   pub powered : new.powered ≡ old.powered
@@ -37,16 +72,16 @@ pub record OnlyMemoryChanges (old new : NorState) : Type 0 where
 
 -- why a call failed, and what it leaves beside the memory:
 -- Cut where a loss of power came in the call, or the power was off;
--- Slow where a slow operation came in the call, or a Slow was latched
+-- Slow where a slow operation came in the call, or a Slow was latched: no bit shows it yet
 abbrev pub NorFails : NorError → NorState → NorState → Type 0
 NorFails Cut old new =
     ((old.cuts < new.cuts) ⊎ ((old.powered ≡ false) × (new.cuts ≡ old.cuts)))
     × (new.slows ≡ old.slows) × (new.powered ≡ false) × (new.is_slow ≡ old.is_slow)
-    × (new.has_large ≡ old.has_large)
+    × (new.has_large ≡ old.has_large) × Interrupted (bits_in old) (bits_in new)
 NorFails Slow old new =
     ((old.slows < new.slows) ⊎ ((old.is_slow ≡ true) × (new.slows ≡ old.slows)))
     × (new.cuts ≡ old.cuts) × (new.powered ≡ old.powered) × (new.is_slow ≡ true)
-    × (new.has_large ≡ old.has_large)
+    × (new.has_large ≡ old.has_large) × IsFirmer (bits_in old) (bits_in new)
 
 -- What a call that failed answers first: a latched Slow, then a power that is off; and then nothing
 -- has changed.
@@ -81,10 +116,6 @@ pub data Leaves {A : Type 0} (old : A) (Torn : A → Type 0) (whole new : A) : T
   as_before : new ≡ old → Leaves old Torn whole new
   torn_in_it : Torn new → Leaves old Torn whole new
   changed_whole : new ≡ whole → Leaves old Torn whole new
-
--- what each bit reads as, and which are weak
-abbrev pub bits_in : NorState → Bits
-bits_in state = record { shown = state.memory; weak = state.weak }
 
 -- a program: the 0 bits of its bytes are firm
 abbrev pub program_bits : Bits → ℕ → List ℕ → Bits

@@ -7,6 +7,7 @@ use Rattle.chip_model.specs.Frames.{Command, Status1, Status2, Status3, Read, Id
 use Rattle.chip_model.specs.Frames.{after_command, with_enabled, with_polls, starts}
 use Rattle.chip_model.specs.Chip.{is_setting}
 use Rattle.chip_model.specs.Cut.{Cut, TornMemory, weakened, with_power}
+use Rattle.nor_driver.specs.State.{IsOfUnit}
 use Rattle.nor_driver.specs.declared.error.NorError.{NorError}
 use Rattle.nor_driver.specs.declared.error.NorError.TheVariants as errors
 
@@ -74,3 +75,4 @@ pub record StartsChange (c : Chip) (sent : List ℕ) : Type 0 where
   pub is : started c sent ≡ starts (with_enabled c true) operation
   pub running : is_idle operation ≡ false
   pub in_memory : is_setting operation ≡ false
+  pub unit : IsOfUnit operation

@@ -5,7 +5,7 @@ use Rattle.nor_driver.specs.declared.error.NorError.{NorError}
 use Rattle.std.proofs.lemmas.Bool.{cases_eq}
 use Rattle.chip_model.specs.Geometry.{block_count, sector_count}
 use Rattle.nor_driver.specs.State.{NorState}
-use Rattle.nor_driver.proofs.CallLaws.{ready-after}
+use Rattle.nor_driver.proofs.CallLaws.{kept-none as same-kept, ready-after}
 use Rattle.nor_layout.specs.declared.header.Generation.{Generation}
 use Rattle.erase_journal.specs.Steps.{SucceedsSettled}
 use Rattle.erase_journal.proofs.SettledLaws.{settled-healthy, settled-after}
@@ -146,7 +146,7 @@ firm-even k p q m b blocks blocks' e same kept even by =
 
 -- nothing has happened yet
 pub settled-none : (a : NorState) (table : List LiveSlots) (i : Bool) → IsServing table a i → SucceedsSettled a a
-settled-none a table i h = record { ready = h.ready; kept = record { cuts = refl; slows = refl; powered = refl; is_slow = refl; has_large = refl }; settled = h.settled }
+settled-none a table i h = record { ready = h.ready; kept = same-kept a; settled = h.settled }
 
 -- what two clauses say of an answer
 pub ok-both : {T : Type 0} (r : Result T NorError) (P Q R : Type 0) → (P → Q → R) → OnOk r P → OnOk r Q → OnOk r R

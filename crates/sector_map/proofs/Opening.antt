@@ -34,7 +34,7 @@ filled t a c h done = record {
   slots = h.sound;
   keeps = mounts-keeps a.memory c.memory t h done.settled;
   marked = h.marked;
-  kept = record { cuts = done.kept.cuts; slows = done.kept.slows; powered = done.kept.powered; is_slow = sym done.ready.1; has_large = done.kept.has_large };
+  kept = record { bits = done.kept.bits; cuts = done.kept.cuts; slows = done.kept.slows; powered = done.kept.powered; is_slow = sym done.ready.1; has_large = done.kept.has_large };
 }
 
 pub fill-cut : (a c d : NorState) → MountCut a.memory c.memory → IsHealthy c.memory → Refuses errors.Cut a c → IsNorReady a → IsBehind c d → FillCut a d
@@ -187,6 +187,16 @@ pub looked-fails : {T N : Type 0} (st : N → NorState) (r : Result T (N × MapE
 looked-fails st (Ok v) a b same k f = tt
 looked-fails st (Err e) a b same k f = mount-fails-after e.1 a b (st e.0) same k f
 
+pub looked-mounted : {T E : Type 0} (st : T → NorState) (r : Result T E) (a b : NorState) → b.memory ≡ a.memory → IsNorReady a → OnlyMemoryChanges a b → IfOk r (λ map. Mounted b (st map)) → IfOk r (λ map. Mounted a (st map))
+looked-mounted st (Ok v) a b same ready k h = record {
+  mountable = subst (λ m. IsMountable m) same h.mountable;
+  keeps = subst (λ m. KeepsEach m (st v).memory) same h.keeps;
+  marked = λ u. h.marked (subst (λ m. IsUnmarked m) (sym same) u);
+  ready = ready;
+  kept = kept-after a b (st v) k h.kept;
+}
+looked-mounted st (Err e) a b same ready k h = tt
+
 pub filled-mounted : {T E : Type 0} (st : T → NorState) (r : Result T E) (a b : NorState) → IsLaidOut a.memory → Recovers a b → IfOk r (λ map. Filled b (st map)) → IfOk r (λ map. Mounted a (st map))
 filled-mounted st (Ok v) a b super r f = recovered-mounted a b (st v) super r f
 filled-mounted st (Err e) a b super r f = tt
@@ -199,6 +209,6 @@ filled-fails st (Err e) a b super r f = recovered-fails e.1 a b (st e.0) super r
 pub shown-succeeds : (o : Option NorError) (a b : NorState) → o ≡ None → SucceedsSettled a b → SucceedsSettled (shown_with o a) (shown_with o b)
 shown-succeeds o a b e s = record {
   ready = (s.ready.0, ap is_slow_in e);
-  kept = record { cuts = s.kept.cuts; slows = s.kept.slows; powered = s.kept.powered; is_slow = refl; has_large = s.kept.has_large };
+  kept = record { bits = s.kept.bits; cuts = s.kept.cuts; slows = s.kept.slows; powered = s.kept.powered; is_slow = refl; has_large = s.kept.has_large };
   settled = s.settled;
 }

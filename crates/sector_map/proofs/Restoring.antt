@@ -4,7 +4,9 @@ use Rattle.std.specs.Prelude.{Option, Some, None, Result, IfOk, IfErr, OnOk, IsT
 use Rattle.std.specs.Result.{IsErrOf}
 use Rattle.chip_model.specs.Geometry.{sector_count}
 use Rattle.nor_layout.specs.Kinds.{kind_of}
-use Rattle.nor_driver.specs.State.{NorState, IsNorReady, Refuses}
+use Rattle.nor_driver.specs.State.{NorState, bits_in, IsNorReady, Refuses}
+use Rattle.nor_driver.proofs.Firmer.{firmer-none, interrupted-none}
+use Rattle.nor_driver.proofs.CallLaws.{first-ready}
 use Rattle.nor_driver.specs.declared.error.NorError.{NorError}
 use Rattle.nor_driver.specs.declared.error.NorError.TheVariants as errors
 use Rattle.erase_journal.specs.Blocks.{SameBlocks}
@@ -21,7 +23,7 @@ use Rattle.sector_slots.proofs.BlankLaws.{blocks-holds, sound-holds}
 use Rattle.sector_map.proofs.Marking.{chip-disk}
 use Rattle.sector_map.specs.Replace.{HeldBy}
 use Rattle.sector_map.specs.Table.{IsTableOf, Mounts, MountCut, holder}
-use Rattle.sector_map.specs.Maps.{IsStore, KeepsEach, KeepsMap, SetLeaves, IsServing, KnownWhile, is_slow_in}
+use Rattle.sector_map.specs.Maps.{IsStore, KeepsEach, KeepsMap, SetLeaves, IsServing, KnownWhile, is_slow_in, shown_with}
 use Rattle.sector_map.specs.Filling.{Renewed, RenewCorrupt, RenewCut, RenewFails}
 use Rattle.sector_map.specs.declared.table.Held.{Held}
 use Rattle.sector_map.specs.declared.table.LiveSlots.{LiveSlots}
@@ -164,6 +166,35 @@ known-after o table now a b i j items same e served = subst (λ z. KnownWhile o 
 pub known-latched : (o : Option NorError) (error : NorError) (table items : List LiveSlots) (a b : NorState) (i j : Bool) → o ≡ None → KnownWhile o table a i → Refuses error a b → (error ≡ errors.Cut → IsStore b.memory) → KnownWhile (Some error) items b j
 known-latched o errors.Cut table items a b i j e h f store = record { off = f.fails.2; quick = f.fails.3 ∙ (served-none o table a i e h).ready.1; store = store refl }
 known-latched o errors.Slow table items a b i j e h f store = tt
+
+-- what is latched is answered, and nothing is done
+pub latched-refuses : (o : Option NorError) (error : NorError) (table : List LiveSlots) (a : NorState) (i : Bool) → o ≡ Some error → KnownWhile o table a i → Refuses error (shown_with o a) (shown_with o a)
+latched-refuses None error table a i e h = absurd (cc e)
+latched-refuses (Some errors.Cut) errors.Cut table a i e h =
+    let b = bits_in a in
+    record { fails = (inr (h.off, refl), refl, h.off, refl, refl, interrupted-none b b (firmer-none b)); first = (refl, λ off. refl) }
+latched-refuses (Some errors.Cut) errors.Slow table a i e h = absurd (cc e)
+latched-refuses (Some errors.Slow) errors.Cut table a i e h = absurd (cc e)
+latched-refuses (Some errors.Slow) errors.Slow table a i e h = record { fails = (inr (refl, refl), refl, refl, refl, refl, firmer-none (bits_in a)); first = (λ quick. absurd (let q : true ≡ false = quick in cc), λ slow. refl) }
+
+-- what a map shows of a call that its store refused
+pub shown-refuses : (o : Option NorError) (error : NorError) (table : List LiveSlots) (a b : NorState) (i : Bool) → o ≡ None → KnownWhile o table a i → Refuses error a b → Refuses error (shown_with o a) (shown_with (Some error) b)
+shown-refuses o errors.Cut table a b i e h r =
+    let ready = (served-none o table a i e h).ready in
+    record { fails = (r.fails.0, r.fails.1, r.fails.2, sym (ap is_slow_in e), r.fails.4, r.fails.5); first = first-ready errors.Cut (shown_with o a) (shown_with (Some errors.Cut) b) (ready.0, ap is_slow_in e) }
+shown-refuses o errors.Slow table a b i e h r =
+    let ready = (served-none o table a i e h).ready in
+    record {
+      fails = (
+        elim r.fails.0 as (λ _. (a.slows < b.slows) ⊎ ((is_slow_in o ≡ true) × (b.slows ≡ a.slows))) [ inl came ↦ inl came | inr slow ↦ absurd (cc (ready.1, slow.0)) ],
+        r.fails.1,
+        r.fails.2,
+        refl,
+        r.fails.4,
+        r.fails.5,
+      );
+      first = first-ready errors.Slow (shown_with o a) (shown_with (Some errors.Slow) b) (ready.0, ap is_slow_in e);
+    }
 
 pub leaves-store : (g : ℕ) (x m m' : List ℕ) → SetLeaves g x m m' → IsStore m'
 leaves-store g x m m' (inl k) = k.store

@@ -1,4 +1,6 @@
 use Rattle.erase_journal.proofs.SameBytes.{and-same, again-same}
+use Rattle.erase_journal.proofs.WeakLaws.{again-firm}
+use Rattle.nor_driver.specs.State.{bits_in}
 use Rattle.erase_journal.proofs.again.program_again.Goals as goal
 
 pub returns-clause-same : goal.returns-clause-same
@@ -6,3 +8,10 @@ returns-clause-same g c =
     let m = (g.N.Nor.state c.args.nor.now).memory in
     again-same m c.args.bytes.now c.args.at (g.N.Nor.state c.program.new.self).memory c.program.result (and-same m c.args.bytes.now c.args.at c.requires.range c.requires.read)
     c.program.ensures.ok c.program.ensures.cut c.program.ensures.slow
+
+pub returns-clause-firm : goal.returns-clause-firm
+returns-clause-firm g c =
+    let m = (g.N.Nor.state c.args.nor.now).memory in
+    let same = again-same m c.args.bytes.now c.args.at (g.N.Nor.state c.program.new.self).memory c.program.result (and-same m c.args.bytes.now c.args.at c.requires.range c.requires.read)
+    c.program.ensures.ok c.program.ensures.cut c.program.ensures.slow in
+    again-firm (bits_in (g.N.Nor.state c.args.nor.now)) (bits_in (g.N.Nor.state c.program.new.self)) c.args.bytes.now c.args.at c.program.result c.requires.read same c.program.ensures.firm

@@ -1,4 +1,7 @@
 use Rattle.std.proofs.lemmas.Result.{err_from_is_err_and}
+use Rattle.nor_driver.specs.State.{Refuses}
+use Rattle.nor_driver.proofs.CallLaws.{fails-as, kept-after, refuses-after}
+use Rattle.erase_journal.specs.Steps.{SucceedsSettled}
 use Rattle.erase_journal.proofs.EntryCalls.{interrupted-after}
 use Rattle.erase_journal.specs.Journals.{unused}
 use Rattle.erase_journal.specs.Spending.{once_used}
@@ -27,3 +30,22 @@ returns-clause-known g c =
     used-known known c.once_used.result c.in_ok-entry.entry (g.N.Nor.state c.args.nor.now).memory (g.N.Nor.state c.finish_entry.new.nor).memory (c.requires.known c.in_ok-entry.ensures.ends.ready) c.in_ok-entry.ensures.opened.within c.in_ok-entry.ensures.lowest
     (used-then c.in_ok-entry.entry (g.N.Nor.state c.args.nor.now).memory (g.N.Nor.state c.open_entry.new.nor).memory (g.N.Nor.state c.finish_entry.new.nor).memory c.in_ok-entry.ensures.opened.within c.in_ok-entry.ensures.used c.in_ok-finish_entry.ensures.uses)
     c.once_used.ensures.unused c.once_used.ensures.packed.0
+
+pub returns-in_err-finish_entry-clause-ends : goal.returns-in_err-finish_entry-clause-ends
+returns-in_err-finish_entry-clause-ends g c =
+    let s0 = g.N.Nor.state c.args.nor.now in
+    let s1 = g.N.Nor.state c.open_entry.new.nor in
+    let s2 = g.N.Nor.state c.finish_entry.new.nor in
+    fails-as c.from_residual-in_err-finish_entry.result _ (λ _. SucceedsSettled s0 s2) (λ e. Refuses e s0 s2) c.from_residual-in_err-finish_entry.ensures.1
+    (refuses-after _ s0 s1 s2 c.in_ok-entry.ensures.ends c.in_err-finish_entry.ensures.ends)
+
+pub returns-clause-ends : goal.returns-clause-ends
+returns-clause-ends g c =
+    let s0 = g.N.Nor.state c.args.nor.now in
+    let s1 = g.N.Nor.state c.open_entry.new.nor in
+    let s2 = g.N.Nor.state c.finish_entry.new.nor in
+    record {
+      ready = c.in_ok-entry.ensures.ends.ready;
+      kept = kept-after s0 s1 s2 c.in_ok-entry.ensures.ends.kept c.in_ok-finish_entry.ensures.ends.kept;
+      settled = c.in_ok-finish_entry.ensures.ends.settled;
+    }

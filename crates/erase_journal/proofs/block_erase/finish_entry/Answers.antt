@@ -1,9 +1,11 @@
 use Rattle.std.proofs.Common.{arith}
 use Rattle.std.proofs.lemmas.Result.{err_from_is_err_and}
-use Rattle.nor_driver.proofs.CallLaws.{kept-after}
+use Rattle.nor_driver.proofs.CallLaws.{fails-as, first-ready, kept-after, ready-after, refuses-since}
 use Rattle.erase_journal.proofs.EntryCalls.{block-ok, block-cut, done-ok, done-cut}
 use Rattle.erase_journal.proofs.Renewal.{stands-on, same-blocks-on}
 use Rattle.erase_journal.proofs.Uses.{finishing-keeps}
+use Rattle.nor_driver.specs.State.{Refuses}
+use Rattle.erase_journal.specs.Steps.{SucceedsSettled}
 use Rattle.erase_journal.proofs.block_erase.finish_entry.Goals as goal
 
 pub returns-in_err-erase_small-clause-cut : goal.returns-in_err-erase_small-clause-cut
@@ -36,3 +38,11 @@ returns-clause-uses g c =
     let b = block-ok c.args.entry c.args.block (g.N.Nor.state c.args.nor.now).memory (g.N.Nor.state c.erase_small.new.self).memory c.requires.opened c.requires.data (omega arith) c.in_ok-erase_small.ensures.ok in
     finishing-keeps c.args.entry c.args.block (g.N.Nor.state c.args.nor.now).memory (g.N.Nor.state c.erase_small.new.self).memory (g.N.Nor.state c.program.new.self).memory c.requires.size c.requires.opened c.requires.data
     c.in_ok-erase_small.ensures.ok b.still (rw c.entry_place.ensures at c.in_ok-program.ensures.ok)
+
+pub returns-in_err-program-clause-ends : goal.returns-in_err-program-clause-ends
+returns-in_err-program-clause-ends g c =
+    let s0 = g.N.Nor.state c.args.nor.now in
+    let s1 = g.N.Nor.state c.erase_small.new.self in
+    let s2 = g.N.Nor.state c.program.new.self in
+    fails-as c.from_residual-in_err-program.result _ (λ _. SucceedsSettled s0 s2) (λ e. Refuses e s0 s2) c.from_residual-in_err-program.ensures.1
+    (refuses-since _ s0 s1 s2 c.in_ok-erase_small.ensures.ready c.in_ok-erase_small.ensures.kept (record { fails = c.in_err-program.ensures.fails; first = first-ready _ s1 s2 (ready-after s0 s1 c.in_ok-erase_small.ensures.kept c.in_ok-erase_small.ensures.ready) }))

@@ -1,6 +1,7 @@
 use Rattle.std.proofs.lemmas.Result.{err_from_is_err_and}
 use Rattle.erase_journal.proofs.EntryCalls.{open-ok, open-cut}
-use Rattle.nor_driver.proofs.CallLaws.{ready-back}
+use Rattle.nor_driver.specs.State.{Succeeds, Refuses}
+use Rattle.nor_driver.proofs.CallLaws.{fails-after, fails-as, first-ready, kept-after, ready-back, refuses-perhaps, succeeds-back}
 use Rattle.erase_journal.proofs.Uses.{opening-uses}
 use Rattle.erase_journal.proofs.block_erase.open_entry.Goals as goal
 
@@ -31,3 +32,27 @@ returns-clause-used g c =
     let ready = ready-back (g.N.Nor.state c.args.nor.now) (g.N.Nor.state c.lowest_entry.new.nor) c.in_ok-entry.ensures.kept c.in_ok-take_entry.ensures.ends.ready in
     opening-uses c.in_ok-entry.entry c.args.block (g.N.Nor.state c.args.nor.now).memory (g.N.Nor.state c.take_entry.new.nor).memory (g.N.Nor.state c.program.new.self).memory c.requires.size c.in_ok-entry.ensures.within (c.in_ok-entry.ensures.free ready)
     (rw c.in_ok-entry.ensures.same at c.in_ok-take_entry.ensures.ok) (rw c.entry_place.ensures at c.in_ok-program.ensures.ok)
+
+pub returns-in_err-take_entry-clause-ends : goal.returns-in_err-take_entry-clause-ends
+returns-in_err-take_entry-clause-ends g c =
+    let s0 = g.N.Nor.state c.args.nor.now in
+    let s1 = g.N.Nor.state c.lowest_entry.new.nor in
+    let s2 = g.N.Nor.state c.take_entry.new.nor in
+    fails-as c.from_residual-in_err-take_entry.result _ (λ _. Succeeds s0 s2) (λ e. Refuses e s0 s2) c.from_residual-in_err-take_entry.ensures.1
+    (refuses-perhaps _ s0 s1 s2 c.in_ok-entry.ensures.idle c.in_ok-entry.ensures.kept c.in_err-take_entry.ensures.ends)
+
+pub returns-in_err-program-clause-ends : goal.returns-in_err-program-clause-ends
+returns-in_err-program-clause-ends g c =
+    let s0 = g.N.Nor.state c.args.nor.now in
+    let s2 = g.N.Nor.state c.take_entry.new.nor in
+    let s3 = g.N.Nor.state c.program.new.self in
+    let s = succeeds-back s0 (g.N.Nor.state c.lowest_entry.new.nor) s2 c.in_ok-entry.ensures.kept c.in_ok-take_entry.ensures.ends in
+    fails-as c.from_residual-in_err-program.result _ (λ _. Succeeds s0 s3) (λ e. Refuses e s0 s3) c.from_residual-in_err-program.ensures.1
+    (record { fails = fails-after _ s0 s2 s3 s.kept c.in_err-program.ensures.fails; first = first-ready _ s0 s3 s.ready })
+
+pub returns-clause-ends : goal.returns-clause-ends
+returns-clause-ends g c =
+    let s0 = g.N.Nor.state c.args.nor.now in
+    let s2 = g.N.Nor.state c.take_entry.new.nor in
+    let s = succeeds-back s0 (g.N.Nor.state c.lowest_entry.new.nor) s2 c.in_ok-entry.ensures.kept c.in_ok-take_entry.ensures.ends in
+    record { ready = s.ready; kept = kept-after s0 s2 (g.N.Nor.state c.program.new.self) s.kept c.in_ok-program.ensures.kept }

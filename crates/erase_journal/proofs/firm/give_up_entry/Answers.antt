@@ -1,10 +1,14 @@
-use Rattle.std.proofs.Common.{◌≡◌, ◌+◌, ◌*◌, ap, ◌∙◌, arith, inl, inr}
+use Rattle.std.proofs.Common.{◌≡◌, ◌+◌, ◌*◌, [], ◌∷◌, ap, ◌∙◌, arith, inl, inr, lit<}
 use Rattle.std.proofs.lemmas.Result.{err_from_is_err_and}
-use Rattle.nor_driver.proofs.CallLaws.{ready-back, kept-after}
+use Rattle.std.specs.Prelude.{Err}
+use Rattle.nor_driver.specs.State.{bits_in, Refuses}
+use Rattle.nor_driver.proofs.CallLaws.{fails-as, ready-back, refuses-of, refuses-perhaps, kept-after}
+use Rattle.erase_journal.specs.Steps.{SucceedsSettled}
 use Rattle.erase_journal.proofs.Closing.{given-ok, given-cut, given-used}
 use Rattle.erase_journal.proofs.Knowing.{used-known}
 use Rattle.erase_journal.proofs.Renewal.{stands-refl}
 use Rattle.erase_journal.proofs.Ready.{cut-or-ready}
+use Rattle.erase_journal.proofs.FirmJournals.{programmed-good}
 use Rattle.erase_journal.proofs.firm.give_up_entry.Goals as goal
 
 pub returns-in_err-program-clause-cut : goal.returns-in_err-program-clause-cut
@@ -63,4 +67,24 @@ returns-clause-ends g c =
       kept = kept-after a b (g.N.Nor.state c.program.new.self) c.in_ok-entry.ensures.kept c.in_ok-program.ensures.kept;
       settled = (given-ok a.memory c.in_ok-entry.entry c.requires.size c.in_ok-entry.ensures.within (c.in_ok-entry.ensures.free ready) (g.N.Nor.state c.program.new.self).memory (c.requires.restful ready)
           (rw (place, c.in_ok-entry.ensures.same) at c.in_ok-program.ensures.ok)).0;
+    }
+
+pub returns-in_err-program-clause-ends : goal.returns-in_err-program-clause-ends
+returns-in_err-program-clause-ends g c =
+    let s0 = g.N.Nor.state c.args.nor.now in
+    let s1 = g.N.Nor.state c.lowest_entry.new.nor in
+    let s2 = g.N.Nor.state c.program.new.self in
+    fails-as c.from_residual-in_err-program.result _ (λ _. SucceedsSettled s0 s2) (λ e. Refuses e s0 s2) c.from_residual-in_err-program.ensures.1
+    (refuses-perhaps _ s0 s1 s2 c.in_ok-entry.ensures.idle c.in_ok-entry.ensures.kept (refuses-of s1 s2 (Err _) c.in_err-program.ensures.fails c.in_err-program.ensures.latches))
+
+pub returns-clause-gives : goal.returns-clause-gives
+returns-clause-gives g c =
+    let s0 = g.N.Nor.state c.args.nor.now in
+    let s1 = g.N.Nor.state c.lowest_entry.new.nor in
+    let s2 = g.N.Nor.state c.program.new.self in
+    let ready = ready-back s0 s1 c.in_ok-entry.ensures.kept c.in_ok-program.ensures.ready in
+    record {
+      at = c.in_ok-entry.entry;
+      lowest = record { within = c.in_ok-entry.ensures.within; free = c.in_ok-entry.ensures.free ready; below = c.in_ok-entry.ensures.lowest ready };
+      used = programmed-good (bits_in s1) (bits_in s2) (c.entry_place.result + 3) (0 ∷ []) c.in_ok-entry.entry 0 c.in_ok-program.ensures.firm (omega (arith, c.entry_place.ensures)) (lit< tt) (lit< tt) (λ e. omega (arith, e));
     }

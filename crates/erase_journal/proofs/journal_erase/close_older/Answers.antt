@@ -4,6 +4,8 @@ use Rattle.erase_journal.specs.declared.phase.ErasePhase.TheVariants.{Doomed}
 use Rattle.erase_journal.specs.Journals.{settled, unused, first, tally_of}
 use Rattle.erase_journal.proofs.Steps.{steps-on}
 use Rattle.erase_journal.proofs.Renewal.{open-first, older-closed, older-cut, same-blocks-on, stands-on}
+use Rattle.nor_driver.proofs.CallLaws.{fails-as, refuses-since, kept-after}
+use Rattle.nor_driver.specs.State.{Succeeds, Refuses}
 use Rattle.erase_journal.proofs.journal_erase.close_older.Goals as goal
 
 pub close_vote-requires-clause-some : goal.close_vote-requires-clause-some
@@ -32,5 +34,13 @@ loop-preserved g c =
       next = steps-on (settled (Doomed c.args.journal) (unused a)) (Doomed c.args.journal) (Doomed c.args.journal) b d c.loop.invariant.next s.0;
       left = omega (arith, l, e);
       blocks = same-blocks-on a b d c.loop.invariant.blocks s.1;
-      kept = search rules;
+      kept = kept-after (g.N.Nor.state c.args.nor.now) (g.N.Nor.state c.loop.nor) (g.N.Nor.state c.close_vote.new.nor) c.loop.invariant.kept c.in_ok-close_vote.ensures.ends.kept;
     }
+
+pub returns-in_err-close_vote-clause-ends : goal.returns-in_err-close_vote-clause-ends
+returns-in_err-close_vote-clause-ends g c =
+    let s0 = g.N.Nor.state c.args.nor.now in
+    let s1 = g.N.Nor.state c.loop.nor in
+    let s2 = g.N.Nor.state c.close_vote.new.nor in
+    fails-as c.from_residual.result _ (λ _. Succeeds s0 s2) (λ e. Refuses e s0 s2) c.from_residual.ensures.1
+    (refuses-since _ s0 s1 s2 c.requires.ready c.loop.invariant.kept c.in_err-close_vote.ensures.ends)

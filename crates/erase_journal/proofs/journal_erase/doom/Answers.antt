@@ -4,6 +4,8 @@ use Rattle.erase_journal.specs.Journals.{unused}
 use Rattle.erase_journal.specs.Votes.{once_erased}
 use Rattle.erase_journal.proofs.Steps.{steps-on}
 use Rattle.erase_journal.proofs.Renewal.{first-cut, first-opened, second-cut, second-opened, some-second, stands-on, same-blocks-on}
+use Rattle.nor_driver.proofs.CallLaws.{fails-as, refuses-after, succeeds-after}
+use Rattle.nor_driver.specs.State.{Succeeds, Refuses}
 use Rattle.erase_journal.proofs.journal_erase.doom.Goals as goal
 
 pub returns-in_err-open_vote-clause-cut : goal.returns-in_err-open_vote-clause-cut
@@ -50,3 +52,14 @@ returns-clause-blocks g c =
     let r = rw c.second_votes-second.ensures at c.in_ok-open_vote-2.ensures.ok in
     let t = second-opened c.args.journal (g.N.Nor.state c.open_vote.new.nor).memory (g.N.Nor.state c.open_vote-2.new.nor).memory s.0.sound r in
     same-blocks-on (g.N.Nor.state c.args.nor.now).memory (g.N.Nor.state c.open_vote.new.nor).memory (g.N.Nor.state c.open_vote-2.new.nor).memory s.1 t.1
+
+pub returns-in_err-open_vote-2-clause-ends : goal.returns-in_err-open_vote-2-clause-ends
+returns-in_err-open_vote-2-clause-ends g c =
+    let s0 = g.N.Nor.state c.args.nor.now in
+    let s1 = g.N.Nor.state c.open_vote.new.nor in
+    let s2 = g.N.Nor.state c.open_vote-2.new.nor in
+    fails-as c.from_residual-in_err-open_vote-2.result _ (λ _. Succeeds s0 s2) (λ e. Refuses e s0 s2) c.from_residual-in_err-open_vote-2.ensures.1
+    (refuses-after _ s0 s1 s2 c.in_ok-open_vote.ensures.ends c.in_err-open_vote-2.ensures.ends)
+
+pub returns-clause-ends : goal.returns-clause-ends
+returns-clause-ends g c = succeeds-after (g.N.Nor.state c.args.nor.now) (g.N.Nor.state c.open_vote.new.nor) (g.N.Nor.state c.open_vote-2.new.nor) c.in_ok-open_vote.ensures.ends c.in_ok-open_vote-2.ensures.ends

@@ -1,10 +1,16 @@
-use Rattle.std.proofs.Common.{ap, ◌∙◌}
+use Rattle.std.proofs.Common.{◌≡◌, ℕ, List, ap, sym, subst, ◌∙◌}
 use Rattle.std.proofs.lemmas.Result.{err_from_is_err_and}
 use Rattle.erase_journal.specs.declared.phase.ErasePhase.TheVariants.{Idle, Doomed, Closing}
 use Rattle.erase_journal.specs.Journals.{unused, settled}
-use Rattle.chip_model.specs.Memory.{erased}
+use Rattle.chip_model.specs.Memory.{cleared, erased}
 use Rattle.erase_journal.proofs.Steps.{steps-on}
 use Rattle.erase_journal.proofs.Renewal.{erased-as, erase-cut, first-closed, first-close-cut, second-closed, second-close-cut, open-first, open-second, stands-on, same-blocks-on}
+use Rattle.nor_driver.proofs.CallLaws.{fails-as, refuses-since, kept-after}
+use Rattle.nor_driver.specs.State.{bits_in, Succeeds, Refuses}
+use Rattle.chip_model.specs.Wavering.{Bits}
+use Rattle.nor_layout.specs.Journals.{journal_at}
+use Rattle.erase_journal.specs.Weak.{IsFirmJournal}
+use Rattle.erase_journal.proofs.WeakLaws.{erase-firm, are-firm-stays}
 use Rattle.erase_journal.proofs.journal_erase.renew.Goals as goal
 
 pub returns-in_err-erase_small-clause-cut : goal.returns-in_err-erase_small-clause-cut
@@ -67,3 +73,43 @@ returns-clause-blocks g c =
     let r = rw c.second_votes-second.ensures at c.in_ok-close_vote-2.ensures.ok in
     let v = second-closed c.args.journal (g.N.Nor.state c.close_vote.new.nor).memory (g.N.Nor.state c.close_vote-2.new.nor).memory t.0.sound r in
     same-blocks-on (g.N.Nor.state c.args.nor.now).memory (g.N.Nor.state c.close_vote.new.nor).memory (g.N.Nor.state c.close_vote-2.new.nor).memory (same-blocks-on (g.N.Nor.state c.args.nor.now).memory (g.N.Nor.state c.erase_small.new.self).memory (g.N.Nor.state c.close_vote.new.nor).memory s.blocks t.1) v.1
+
+pub returns-in_err-close_vote-clause-ends : goal.returns-in_err-close_vote-clause-ends
+returns-in_err-close_vote-clause-ends g c =
+    let s0 = g.N.Nor.state c.args.nor.now in
+    let s1 = g.N.Nor.state c.erase_small.new.self in
+    let s2 = g.N.Nor.state c.close_vote.new.nor in
+    fails-as c.from_residual-in_err-close_vote.result _ (λ _. Succeeds s0 s2) (λ e. Refuses e s0 s2) c.from_residual-in_err-close_vote.ensures.1
+    (refuses-since _ s0 s1 s2 c.in_ok-erase_small.ensures.ready c.in_ok-erase_small.ensures.kept c.in_err-close_vote.ensures.ends)
+
+pub returns-in_err-close_vote-2-clause-ends : goal.returns-in_err-close_vote-2-clause-ends
+returns-in_err-close_vote-2-clause-ends g c =
+    let s0 = g.N.Nor.state c.args.nor.now in
+    let s1 = g.N.Nor.state c.erase_small.new.self in
+    let s2 = g.N.Nor.state c.close_vote.new.nor in
+    let s3 = g.N.Nor.state c.close_vote-2.new.nor in
+    let k = kept-after s0 s1 s2 c.in_ok-erase_small.ensures.kept c.in_ok-close_vote.ensures.ends.kept in
+    fails-as c.from_residual-in_err-close_vote-2.result _ (λ _. Succeeds s0 s3) (λ e. Refuses e s0 s3) c.from_residual-in_err-close_vote-2.ensures.1
+    (refuses-since _ s0 s2 s3 c.in_ok-erase_small.ensures.ready k c.in_err-close_vote-2.ensures.ends)
+
+pub returns-clause-ends : goal.returns-clause-ends
+returns-clause-ends g c =
+    let s0 = g.N.Nor.state c.args.nor.now in
+    let s1 = g.N.Nor.state c.erase_small.new.self in
+    let s2 = g.N.Nor.state c.close_vote.new.nor in
+    let s3 = g.N.Nor.state c.close_vote-2.new.nor in
+    record {
+      ready = c.in_ok-erase_small.ensures.ready;
+      kept = kept-after s0 s2 s3 (kept-after s0 s1 s2 c.in_ok-erase_small.ensures.kept c.in_ok-close_vote.ensures.ends.kept) c.in_ok-close_vote-2.ensures.ends.kept;
+    }
+
+pub returns-clause-firm : goal.returns-clause-firm
+returns-clause-firm g c =
+    let s0 = g.N.Nor.state c.args.nor.now in
+    let s1 = g.N.Nor.state c.erase_small.new.self in
+    let s2 = g.N.Nor.state c.close_vote.new.nor in
+    let s3 = g.N.Nor.state c.close_vote-2.new.nor in
+    let weak : s1.weak ≡ cleared s0.weak (journal_at c.args.journal) 4096 = ap (λ (b : Bits). b.weak) c.in_ok-erase_small.ensures.firm ∙ ap (λ at. cleared s0.weak at 4096) c.place.ensures in
+    let firm = subst (λ (w : List ℕ). IsFirmJournal w c.args.journal) (sym weak) (erase-firm s0.weak (journal_at c.args.journal) 4096) in
+    let k = kept-after s1 s2 s3 c.in_ok-close_vote.ensures.ends.kept c.in_ok-close_vote-2.ensures.ends.kept in
+    are-firm-stays (bits_in s1) (bits_in s3) (journal_at c.args.journal) 4096 k.bits firm

@@ -3,6 +3,7 @@ use Rattle.std.proofs.lemmas.Result.{err_from_is_err_and, on_ok_weaker}
 use Rattle.erase_journal.specs.declared.phase.ErasePhase.TheVariants.{Doomed}
 use Rattle.erase_journal.specs.Journals.{unused}
 use Rattle.erase_journal.specs.Votes.{first_spent, renewed}
+use Rattle.nor_driver.proofs.CallLaws.{ends-since}
 use Rattle.erase_journal.proofs.Steps.{steps-on}
 use Rattle.erase_journal.proofs.Renewal.{fresh-opened, fresh-cut, some-fresh, same-blocks-on, stands-on}
 use Rattle.erase_journal.proofs.journal_erase.vote_afresh.Goals as goal
@@ -56,3 +57,6 @@ returns-clause-cut g c is =
     let d = (g.N.Nor.state c.close_older.new.nor).memory in
     let s = fresh-opened c.args.journal a b c.requires.doomed c.requires.lasts (rw c.first_votes.ensures at c.in_ok-open_vote.ensures.ok) in
     stands-on a b d s.1 (c.close_older.ensures.cut is)
+
+pub returns-clause-ends : goal.returns-clause-ends
+returns-clause-ends g c = ends-since c.close_older.result (g.N.Nor.state c.args.nor.now) (g.N.Nor.state c.open_vote.new.nor) (g.N.Nor.state c.close_older.new.nor) c.in_ok-open_vote.ensures.ends.ready c.in_ok-open_vote.ensures.ends.kept c.close_older.ensures.ends

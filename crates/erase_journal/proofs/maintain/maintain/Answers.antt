@@ -1,4 +1,6 @@
 use Rattle.std.proofs.Common.{ap, ◌∙◌, subst, rules}
+use Rattle.nor_driver.specs.State.{Succeeds, Refuses}
+use Rattle.nor_driver.proofs.CallLaws.{fails-as, kept-after, refuses-since}
 use Rattle.erase_journal.specs.declared.phase.ErasePhase.TheVariants.{Doomed}
 use Rattle.erase_journal.specs.Votes.{once_erased}
 use Rattle.erase_journal.specs.Journals.{settled, unused, unused_of}
@@ -23,12 +25,17 @@ loop-journal-preserved g c =
     let tired = rw c.in-Some.is at (rw e at c.lowest_tired.ensures) in
     let n = same-on (once_erased c.in-Some.journal u) (settled (Doomed c.in-Some.journal) (unused (g.N.Nor.state c.doom.new.nor).memory)) v c.in_ok-doom.ensures.ok.numbers c.in_ok-renew.ensures.ok.numbers in
     let same = ap unused c.in_ok-tally-2.ensures.same in
+    let s0 = g.N.Nor.state c.args.nor.now in
+    let s1 = g.N.Nor.state c.loop-journal.nor in
+    let s2 = g.N.Nor.state c.doom.new.nor in
+    let s3 = g.N.Nor.state c.renew.new.nor in
+    let s4 = g.N.Nor.state c.read_tally-in-Some.new.nor in
     record {
       size = search rules;
       settled = search rules;
       blocks = search rules;
       maintains = λ rest h. c.loop-journal.invariant.maintains rest (maintains-on rest u v c.in-Some.journal tired n (subst (λ w. Maintains rest w) same h));
-      since = search rules;
+      since = kept-after s0 s3 s4 (kept-after s0 s2 s3 (kept-after s0 s1 s2 c.loop-journal.invariant.since c.in_ok-doom.ensures.ends.kept) c.in_ok-renew.ensures.ends.kept) c.in_ok-tally-2.ensures.ends.kept;
       tally = search rules;
     }
 
@@ -38,3 +45,32 @@ returns-clause-maintains g c =
     let e = c.unused.ensures ∙ ap (λ s. unused_of s) c.loop-journal.invariant.tally in
     let r = rw c.in_default.is at (rw e at c.lowest_tired.ensures) in
     c.loop-journal.invariant.maintains u (at_rest u r.0 r.1 r.2 (same-refl u))
+
+pub returns-in_err-doom-clause-ends : goal.returns-in_err-doom-clause-ends
+returns-in_err-doom-clause-ends g c =
+    let s0 = g.N.Nor.state c.args.nor.now in
+    let s1 = g.N.Nor.state c.loop-journal.nor in
+    let s2 = g.N.Nor.state c.doom.new.nor in
+    fails-as c.from_residual-in_err-doom.result _ (λ _. Succeeds s0 s2) (λ e. Refuses e s0 s2) c.from_residual-in_err-doom.ensures.1
+    (refuses-since _ s0 s1 s2 c.in_ok-tally.ensures.ends.ready c.loop-journal.invariant.since c.in_err-doom.ensures.ends)
+
+pub returns-in_err-renew-clause-ends : goal.returns-in_err-renew-clause-ends
+returns-in_err-renew-clause-ends g c =
+    let s0 = g.N.Nor.state c.args.nor.now in
+    let s1 = g.N.Nor.state c.loop-journal.nor in
+    let s2 = g.N.Nor.state c.doom.new.nor in
+    let s3 = g.N.Nor.state c.renew.new.nor in
+    let k = kept-after s0 s1 s2 c.loop-journal.invariant.since c.in_ok-doom.ensures.ends.kept in
+    fails-as c.from_residual-in_err-renew.result _ (λ _. Succeeds s0 s3) (λ e. Refuses e s0 s3) c.from_residual-in_err-renew.ensures.1
+    (refuses-since _ s0 s2 s3 c.in_ok-tally.ensures.ends.ready k c.in_err-renew.ensures.ends)
+
+pub returns-in_err-tally-2-clause-ends : goal.returns-in_err-tally-2-clause-ends
+returns-in_err-tally-2-clause-ends g c =
+    let s0 = g.N.Nor.state c.args.nor.now in
+    let s1 = g.N.Nor.state c.loop-journal.nor in
+    let s2 = g.N.Nor.state c.doom.new.nor in
+    let s3 = g.N.Nor.state c.renew.new.nor in
+    let s4 = g.N.Nor.state c.read_tally-in-Some.new.nor in
+    let k = kept-after s0 s2 s3 (kept-after s0 s1 s2 c.loop-journal.invariant.since c.in_ok-doom.ensures.ends.kept) c.in_ok-renew.ensures.ends.kept in
+    fails-as c.from_residual-in_err-tally-2.result _ (λ _. Succeeds s0 s4) (λ e. Refuses e s0 s4) c.from_residual-in_err-tally-2.ensures.1
+    (refuses-since _ s0 s3 s4 c.in_ok-tally.ensures.ends.ready k c.in_err-tally-2.ensures.ends)

@@ -1,9 +1,11 @@
 use Rattle.std.proofs.Common.{◌≡◌, true, false, sym, subst, ◌∙◌, arith}
 use Rattle.std.proofs.lemmas.Result.{err_from_is_err_and}
-use Rattle.nor_driver.proofs.CallLaws.{kept-after, ready-after}
+use Rattle.nor_driver.proofs.CallLaws.{fails-as, kept-after, ready-after, refuses-since}
 use Rattle.erase_journal.specs.Journals.{is_open_entry}
 use Rattle.erase_journal.proofs.Reopening.{IsClosing, closing-step, closing-skip, closing-cut, closing-end}
 use Rattle.erase_journal.proofs.open_entries.close_opened.Goals as goal
+use Rattle.nor_driver.specs.State.{Refuses}
+use Rattle.erase_journal.specs.Steps.{SucceedsSettled}
 use Rattle.erase_journal.proofs.open_entries.close_opened.Goals.{in-Some+in_ok-close_entry, in_default}
 
 pub returns-in_err-close_entry-clause-cut : goal.returns-in_err-close_entry-clause-cut
@@ -51,3 +53,11 @@ returns-clause-ends g c =
       kept = c.loop-entry.invariant.kept;
       settled = closing-end a b (subst (λ n. IsClosing n a b) all c.loop-entry.invariant.closing);
     }
+
+pub returns-in_err-close_entry-clause-ends : goal.returns-in_err-close_entry-clause-ends
+returns-in_err-close_entry-clause-ends g c =
+    let s0 = g.N.Nor.state c.args.nor.now in
+    let s1 = g.N.Nor.state c.loop-entry.nor in
+    let s2 = g.N.Nor.state c.close_entry.new.nor in
+    fails-as c.from_residual.result _ (λ _. SucceedsSettled s0 s2) (λ e. Refuses e s0 s2) c.from_residual.ensures.1
+    (refuses-since _ s0 s1 s2 c.requires.ready c.loop-entry.invariant.kept c.in_err-close_entry.ensures.ends)

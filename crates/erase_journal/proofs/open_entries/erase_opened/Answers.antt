@@ -4,6 +4,8 @@ use Rattle.erase_journal.proofs.Renewal.{stands-on, same-blocks-on}
 use Rattle.erase_journal.proofs.Reopening.{IsNamed, named-cut, named-erased}
 use Rattle.erase_journal.proofs.Scans.{open-found, buffer-open}
 use Rattle.erase_journal.proofs.Uses.{keeps-on}
+use Rattle.nor_driver.proofs.CallLaws.{kept-after}
+use Rattle.erase_journal.proofs.SettledLaws.{settles-since}
 use Rattle.erase_journal.proofs.open_entries.erase_opened.Goals as goal
 
 pub returns-in_default-clause-ends : goal.returns-in_default-clause-ends
@@ -82,3 +84,11 @@ returns-clause-cut g c is =
     let m1 = (g.N.Nor.state c.erase_small.new.self).memory in
     let e = named-erased c.in-Some.open.entry c.in-Some.open.block m m1 c.requires.idle named (rw c.in_ok-read.ensures.same at c.in_ok-erase_small.ensures.ok) in
     stands-on m m1 (g.N.Nor.state c.close_opened.new.nor).memory e.blocks (c.close_opened.ensures.cut is)
+
+pub returns-clause-ends : goal.returns-clause-ends
+returns-clause-ends g c =
+    let s0 = g.N.Nor.state c.args.nor.now in
+    let s1 = g.N.Nor.state c.read.new.self in
+    let s2 = g.N.Nor.state c.erase_small.new.self in
+    let s3 = g.N.Nor.state c.close_opened.new.nor in
+    settles-since c.close_opened.result s0 s2 s3 c.in_ok-read.ensures.ready (kept-after s0 s1 s2 c.in_ok-read.ensures.kept c.in_ok-erase_small.ensures.kept) c.close_opened.ensures.ends

@@ -1,4 +1,4 @@
-use Rattle.std.proofs.Common.{◌≡◌, ◌∙◌, ap, refl, sym, subst, inl}
+use Rattle.std.proofs.Common.{◌∙◌, ap, refl, sym, subst, inl}
 use Rattle.std.proofs.lemmas.Result.{err_from_is_err_and}
 use Rattle.erase_journal.specs.declared.phase.ErasePhase.TheVariants.{Asked, Doomed}
 use Rattle.erase_journal.specs.declared.unused.Unused.{Unused}
@@ -8,6 +8,8 @@ use Rattle.erase_journal.specs.Steps.{SameNumbers}
 use Rattle.erase_journal.specs.Votes.{Last, first_spent, second_spent, renewed}
 use Rattle.erase_journal.proofs.Lasting.{Last-moved, same-on}
 use Rattle.erase_journal.proofs.Renewal.{asked-spent, second-cut, second-opened, same-blocks-on, stands-on}
+use Rattle.nor_driver.proofs.CallLaws.{fails-as, fails-of, kept-after, refuses-after}
+use Rattle.nor_driver.specs.State.{Succeeds, Refuses}
 use Rattle.erase_journal.proofs.recovery.refresh_asked.Goals as goal
 
 pub returns-in_err-open_vote-clause-cut : goal.returns-in_err-open_vote-clause-cut
@@ -119,3 +121,15 @@ returns-clause-blocks g c =
     let b = (g.N.Nor.state c.open_vote.new.nor).memory in
     let s = second-opened x a b c.requires.asked (rw c.second_votes.ensures at c.in_ok-open_vote.ensures.ok) in
     s.1
+
+pub returns-in_err-vote_afresh-clause-fails : goal.returns-in_err-vote_afresh-clause-fails
+returns-in_err-vote_afresh-clause-fails g c =
+    let s0 = g.N.Nor.state c.args.nor.now in
+    let s1 = g.N.Nor.state c.open_vote.new.nor in
+    let s2 = g.N.Nor.state c.vote_afresh.new.nor in
+    fails-of c.from_residual-in_err-vote_afresh.result (Succeeds s0 s2) (λ e. Refuses e s0 s2) (fails-as c.from_residual-in_err-vote_afresh.result _ (λ _. Succeeds s0 s2) (λ e. Refuses e s0 s2) c.from_residual-in_err-vote_afresh.ensures.1
+    (refuses-after _ s0 s1 s2 c.in_ok-open_vote.ensures.ends c.in_err-vote_afresh.ensures.ends))
+
+pub returns-then-is_vote_due-clause-kept : goal.returns-then-is_vote_due-clause-kept
+returns-then-is_vote_due-clause-kept g c =
+    kept-after (g.N.Nor.state c.args.nor.now) (g.N.Nor.state c.open_vote.new.nor) (g.N.Nor.state c.vote_afresh.new.nor) c.in_ok-open_vote.ensures.ends.kept c.in_ok-vote_afresh.ensures.ends.kept

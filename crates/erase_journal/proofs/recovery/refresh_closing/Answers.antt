@@ -1,4 +1,4 @@
-use Rattle.std.proofs.Common.{◌≡◌, ◌∙◌, ap, refl, sym, subst, inr}
+use Rattle.std.proofs.Common.{◌∙◌, ap, refl, sym, subst, inr}
 use Rattle.std.proofs.lemmas.Result.{err_from_is_err_and}
 use Rattle.erase_journal.specs.declared.phase.ErasePhase.TheVariants.{Closing}
 use Rattle.erase_journal.specs.declared.unused.Unused.{Unused}

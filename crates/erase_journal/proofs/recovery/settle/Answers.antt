@@ -1,7 +1,67 @@
+use Rattle.std.proofs.Common.{◌≡◌, List, ℕ, ap, ◌∙◌}
+use Rattle.std.specs.Int.{bit_at}
+use Rattle.chip_model.specs.Memory.{byte}
+use Rattle.nor_driver.specs.State.{bits_in, Succeeds, Refuses}
+use Rattle.nor_driver.proofs.CallLaws.{fails-as, kept-after, refuses-after, refuses-since}
 use Rattle.erase_journal.proofs.Resuming.{continued}
+use Rattle.erase_journal.proofs.WeakLaws.{firm-stays}
 use Rattle.erase_journal.proofs.recovery.settle.Goals as goal
 
 pub returns-clause-continues : goal.returns-clause-continues
 returns-clause-continues g c =
     continued c.args.firmness c.in_ok-unused.unused (g.N.Nor.state c.args.nor.now).memory (g.N.Nor.state c.refresh.new.nor).memory (g.N.Nor.state c.resume.new.nor).memory
     c.in-Some.phase (rw c.in_ok-tally.ensures.tally at c.in-Some.ensures) (rw (c.in_ok-believe.ensures.same, c.in_ok-tally.ensures.same) at c.in_ok-unused.ensures.spends) c.in_ok-unused.ensures.numbers c.in_ok-resume.ensures.numbers
+
+pub returns-clause-settles : goal.returns-clause-settles
+returns-clause-settles g c = λ firm.
+    let s0 = g.N.Nor.state c.args.nor.now in
+    let s2 = g.N.Nor.state c.believe.new.nor in
+    let s3 = g.N.Nor.state c.refresh.new.nor in
+    let s4 = g.N.Nor.state c.resume.new.nor in
+    let since = kept-after s2 s3 s4 c.in_ok-unused.ensures.kept c.in_ok-resume.ensures.ends.kept in
+    let same : s2.memory ≡ s0.memory = c.in_ok-believe.ensures.same ∙ c.in_ok-tally.ensures.same in
+    record {
+      phase = c.in-Some.phase;
+      sound = rw c.in_ok-tally.ensures.tally at c.in-Some.ensures;
+      erased = λ x is. c.in_ok-resume.ensures.firm x is;
+      zeros = λ j i k from to low zero. firm-stays (bits_in s2) (bits_in s4) i k since.bits (c.in_ok-believe.ensures.firm firm j i k from to low (ap (λ (m : List ℕ). bit_at (byte m i) k) same ∙ zero));
+    }
+
+pub returns-in_err-believe-clause-ends : goal.returns-in_err-believe-clause-ends
+returns-in_err-believe-clause-ends g c =
+    let s0 = g.N.Nor.state c.args.nor.now in
+    let s1 = g.N.Nor.state c.read_tally.new.nor in
+    let s2 = g.N.Nor.state c.believe.new.nor in
+    fails-as c.from_residual-in_err-believe.result _ (λ _. Succeeds s0 s2) (λ e. Refuses e s0 s2) c.from_residual-in_err-believe.ensures.1
+    (refuses-after _ s0 s1 s2 c.in_ok-tally.ensures.ends c.in_err-believe.ensures.fails)
+
+pub returns-in_err-unused-clause-ends : goal.returns-in_err-unused-clause-ends
+returns-in_err-unused-clause-ends g c =
+    let s0 = g.N.Nor.state c.args.nor.now in
+    let s1 = g.N.Nor.state c.read_tally.new.nor in
+    let s2 = g.N.Nor.state c.believe.new.nor in
+    let s3 = g.N.Nor.state c.refresh.new.nor in
+    let k = kept-after s0 s1 s2 c.in_ok-tally.ensures.ends.kept c.in_ok-believe.ensures.kept in
+    fails-as c.from_residual-in_err-unused.result _ (λ _. Succeeds s0 s3) (λ e. Refuses e s0 s3) c.from_residual-in_err-unused.ensures.1
+    (refuses-since _ s0 s2 s3 c.in_ok-tally.ensures.ends.ready k c.in_err-unused.ensures.fails)
+
+pub returns-in_err-resume-clause-ends : goal.returns-in_err-resume-clause-ends
+returns-in_err-resume-clause-ends g c =
+    let s0 = g.N.Nor.state c.args.nor.now in
+    let s1 = g.N.Nor.state c.read_tally.new.nor in
+    let s2 = g.N.Nor.state c.believe.new.nor in
+    let s3 = g.N.Nor.state c.refresh.new.nor in
+    let s4 = g.N.Nor.state c.resume.new.nor in
+    let k = kept-after s0 s2 s3 (kept-after s0 s1 s2 c.in_ok-tally.ensures.ends.kept c.in_ok-believe.ensures.kept) c.in_ok-unused.ensures.kept in
+    fails-as c.from_residual-in_err-resume.result _ (λ _. Succeeds s0 s4) (λ e. Refuses e s0 s4) c.from_residual-in_err-resume.ensures.1
+    (refuses-since _ s0 s3 s4 c.in_ok-tally.ensures.ends.ready k c.in_err-resume.ensures.ends)
+
+pub returns-clause-ends : goal.returns-clause-ends
+returns-clause-ends g c =
+    let s0 = g.N.Nor.state c.args.nor.now in
+    let s1 = g.N.Nor.state c.read_tally.new.nor in
+    let s2 = g.N.Nor.state c.believe.new.nor in
+    let s3 = g.N.Nor.state c.refresh.new.nor in
+    let s4 = g.N.Nor.state c.resume.new.nor in
+    let k = kept-after s0 s2 s3 (kept-after s0 s1 s2 c.in_ok-tally.ensures.ends.kept c.in_ok-believe.ensures.kept) c.in_ok-unused.ensures.kept in
+    record { ready = c.in_ok-tally.ensures.ends.ready; kept = kept-after s0 s3 s4 k c.in_ok-resume.ensures.ends.kept }

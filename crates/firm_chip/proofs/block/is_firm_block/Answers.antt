@@ -1,5 +1,6 @@
 use Rattle.std.proofs.Common.{◌+◌, subst}
-use Rattle.firm_chip.specs.FirmChips.{AreFirm, marked}
+use Rattle.erase_journal.specs.Weak.{AreFirm}
+use Rattle.firm_chip.specs.FirmChips.{marked}
 use Rattle.firm_chip.proofs.block.is_firm_block.Goals as goal
 
 pub returns-then-are_slots_firm : goal.returns-then-are_slots_firm

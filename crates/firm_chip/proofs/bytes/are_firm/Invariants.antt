@@ -1,4 +1,4 @@
-use Rattle.firm_chip.specs.FirmChips.{AreFirm}
+use Rattle.erase_journal.specs.Weak.{AreFirm}
 use Rattle.firm_chip.proofs.bytes.are_firm.Given as goal
 
 abbrev pub invariant-loop-k : goal.invariant-loop-k

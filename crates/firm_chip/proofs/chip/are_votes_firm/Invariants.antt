@@ -1,5 +1,5 @@
 use Rattle.std.proofs.Common.{ℕ, ◌+◌, ◌<◌}
-use Rattle.firm_chip.specs.FirmChips.{IsFirmVote}
+use Rattle.erase_journal.specs.Weak.{IsFirmVote}
 use Rattle.firm_chip.proofs.chip.are_votes_firm.Given as goal
 
 abbrev pub invariant-loop-k : goal.invariant-loop-k

@@ -2,7 +2,8 @@ use Rattle.std.proofs.Common.{◌≡◌, ◌⊎◌, ◌∙◌, ◌+◌, ◌*◌,
 use Rattle.std.specs.Prelude.{slice_range}
 use Rattle.std.proofs.lemmas.Result.{err_from_is_err_and}
 use Rattle.chip_model.specs.Geometry.{sector_count}
-use Rattle.nor_driver.proofs.CallLaws.{kept-after}
+use Rattle.nor_driver.specs.State.{Succeeds, Refuses}
+use Rattle.nor_driver.proofs.CallLaws.{fails-as, fails-of, kept-after, refuses-since}
 use Rattle.flash_disk.specs.Contents.{contents_of}
 use Rattle.block_device.specs.Contents.{replaced}
 use Rattle.flash_disk.proofs.Parts.{outcome-at, piece-written, long-slice}
@@ -78,3 +79,11 @@ loop-done-preserved g c =
       whole = omega (arith, c.loop-done.invariant.whole);
       kept = kept-after c.args.map.now c.loop-done.map c.replace.new.self c.loop-done.invariant.kept c.in_ok-replace.ensures.ends.kept;
     }
+
+pub returns-in_err-replace-clause-fails : goal.returns-in_err-replace-clause-fails
+returns-in_err-replace-clause-fails g c =
+    let s0 = c.args.map.now in
+    let s1 = c.loop-done.map in
+    let s2 = c.replace.new.self in
+    fails-of c.from_residual.result (Succeeds s0 s2) (λ e. Refuses e s0 s2) (fails-as c.from_residual.result _ (λ _. Succeeds s0 s2) (λ e. Refuses e s0 s2) c.from_residual.ensures.1
+    (refuses-since _ s0 s1 s2 c.requires.ready c.loop-done.invariant.kept c.in_err-replace.ensures.ends))

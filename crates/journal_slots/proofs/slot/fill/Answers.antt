@@ -1,9 +1,12 @@
 use Rattle.std.proofs.Common.{◌≡◌, ◌+◌, ◌*◌, subst, arith, length, inr}
 use Rattle.std.proofs.lemmas.Result.{err_from_is_err_and}
 use Rattle.chip_model.specs.Memory.{and_at, TornAnd}
-use Rattle.nor_driver.specs.State.{Leaves}
+use Rattle.nor_driver.specs.State.{Leaves, Refuses}
 use Rattle.erase_journal.proofs.BlockLaws.{length-block}
 use Rattle.sector_slots.specs.Slots.{data_block}
+use Rattle.nor_driver.proofs.CallLaws.{fails-as}
+use Rattle.erase_journal.specs.Steps.{SucceedsSettled}
+use Rattle.erase_journal.proofs.SettledLaws.{refuses-settled, settled-after}
 use Rattle.journal_slots.specs.Programs.{OnlyBytes}
 use Rattle.journal_slots.proofs.Bytes.{leaves-only, and-only, placed-at, descriptor-place, content-place, place-after, place-group}
 use Rattle.sector_slots.proofs.GroupLaws.{free-no_group}
@@ -53,3 +56,18 @@ returns-in_err-write_content-clause-within g c is =
     place-after c.args.place b d t
     (descriptor-place c.args.place (length h) b d (omega (arith, c.requires.header)) (subst (λ a. OnlyBytes a (length h) b d) c.descriptor_place.ensures (and-only b h d c.descriptor_place.result c.in_ok-program_bytes.ensures.ok)))
     (content-place c.args.place d t (c.in_err-write_content.ensures.cut (cc (p.1, p.2))))
+
+pub returns-in_err-write_content-clause-ends : goal.returns-in_err-write_content-clause-ends
+returns-in_err-write_content-clause-ends g c =
+    let s0 = c.args.journal.now in
+    let s1 = c.program_bytes.new.journal in
+    let s2 = c.write_content.new.journal in
+    fails-as c.from_residual-in_err-write_content.result _ (λ _. SucceedsSettled s0 s2) (λ e. Refuses e s0 s2) c.from_residual-in_err-write_content.ensures.1
+    (refuses-settled _ s0 s1 s2 c.in_ok-program_bytes.ensures.ends c.in_err-write_content.ensures.ends)
+
+pub returns-clause-ends : goal.returns-clause-ends
+returns-clause-ends g c =
+    let s0 = c.args.journal.now in
+    let s1 = c.program_bytes.new.journal in
+    let s2 = c.write_content.new.journal in
+    settled-after s0 s1 s2 c.in_ok-program_bytes.ensures.ends c.in_ok-write_content.ensures.ends

@@ -5,6 +5,10 @@ use Rattle.std.proofs.lemmas.Result.{err_from_is_err_and}
 use Rattle.erase_journal.proofs.BlockLaws.{length-block}
 use Rattle.chip_model.specs.Memory.{and_at}
 use Rattle.sector_slots.specs.Slots.{data_block}
+use Rattle.nor_driver.specs.State.{Refuses}
+use Rattle.nor_driver.proofs.CallLaws.{fails-as}
+use Rattle.erase_journal.specs.Steps.{SucceedsSettled}
+use Rattle.erase_journal.proofs.SettledLaws.{refuses-settled, settled-after}
 use Rattle.journal_slots.proofs.Bytes.{leaves-only, and-only, only-wider, bytes-after, last-page, two-pages}
 use Rattle.journal_slots.proofs.slot.write_content.Goals as goal
 
@@ -54,3 +58,18 @@ returns-clause-ok g c =
     let b = data_block c.args.journal.now.memory c.args.block in
     two-pages b (data_block c.program_bytes.new.journal.memory c.args.block) (data_block c.program_bytes-2.new.journal.memory c.args.block) c.args.content.now c.content_place-at.result c.requires.size
     c.in_ok-program_bytes.ensures.ok c.in_ok-program_bytes-2.ensures.ok ∙ ap (λ a. and_at b a c.args.content.now) c.content_place-at.ensures
+
+pub returns-in_err-program_bytes-2-clause-ends : goal.returns-in_err-program_bytes-2-clause-ends
+returns-in_err-program_bytes-2-clause-ends g c =
+    let s0 = c.args.journal.now in
+    let s1 = c.program_bytes.new.journal in
+    let s2 = c.program_bytes-2.new.journal in
+    fails-as c.from_residual-in_err-program_bytes-2.result _ (λ _. SucceedsSettled s0 s2) (λ e. Refuses e s0 s2) c.from_residual-in_err-program_bytes-2.ensures.1
+    (refuses-settled _ s0 s1 s2 c.in_ok-program_bytes.ensures.ends c.in_err-program_bytes-2.ensures.ends)
+
+pub returns-clause-ends : goal.returns-clause-ends
+returns-clause-ends g c =
+    let s0 = c.args.journal.now in
+    let s1 = c.program_bytes.new.journal in
+    let s2 = c.program_bytes-2.new.journal in
+    settled-after s0 s1 s2 c.in_ok-program_bytes.ensures.ends c.in_ok-program_bytes-2.ensures.ends

@@ -1,9 +1,12 @@
 use Rattle.std.proofs.Common.{◌≡◌, ◌+◌, ◌*◌, ◌<◌, ◌∷◌, [], ◌∙◌, ℕ, ap, subst, arith, length}
 use Rattle.std.proofs.lemmas.Result.{err_from_is_err_and}
 use Rattle.chip_model.specs.Memory.{byte, and_at, TornAnd}
-use Rattle.nor_driver.specs.State.{Leaves}
+use Rattle.nor_driver.specs.State.{Leaves, Refuses}
 use Rattle.erase_journal.proofs.BlockLaws.{length-block}
 use Rattle.sector_slots.specs.Slots.{data_block}
+use Rattle.nor_driver.proofs.CallLaws.{fails-as}
+use Rattle.erase_journal.specs.Steps.{SucceedsSettled}
+use Rattle.erase_journal.proofs.SettledLaws.{refuses-settled, settled-after}
 use Rattle.journal_slots.specs.Programs.{OnlyBytes}
 use Rattle.journal_slots.proofs.Bytes.{leaves-only, and-only, descriptor-place, place-after}
 use Rattle.journal_slots.proofs.Places.{fresh-descriptor, fill-leaves, filled-within, commit-leaves, committed, committed-tag}
@@ -73,3 +76,18 @@ returns-clause-within g c =
     let t = data_block c.program_bytes.new.journal.memory c.args.block in
     place-after c.args.place b d t (filled-within c.args.place b h c.args.content.now d (omega arith) c.requires.size c.in_ok-fill.ensures.ok)
     (descriptor-place c.args.place 1 d t (omega arith) (subst (λ a. OnlyBytes a 1 d t) c.descriptor_place.ensures (and-only d (252 ∷ []) t c.descriptor_place.result c.in_ok-program_bytes.ensures.ok)))
+
+pub returns-in_err-program_bytes-clause-ends : goal.returns-in_err-program_bytes-clause-ends
+returns-in_err-program_bytes-clause-ends g c =
+    let s0 = c.args.journal.now in
+    let s1 = c.fill.new.journal in
+    let s2 = c.program_bytes.new.journal in
+    fails-as c.from_residual-in_err-program_bytes.result _ (λ _. SucceedsSettled s0 s2) (λ e. Refuses e s0 s2) c.from_residual-in_err-program_bytes.ensures.1
+    (refuses-settled _ s0 s1 s2 c.in_ok-fill.ensures.ends c.in_err-program_bytes.ensures.ends)
+
+pub returns-clause-ends : goal.returns-clause-ends
+returns-clause-ends g c =
+    let s0 = c.args.journal.now in
+    let s1 = c.fill.new.journal in
+    let s2 = c.program_bytes.new.journal in
+    settled-after s0 s1 s2 c.in_ok-fill.ensures.ends c.in_ok-program_bytes.ensures.ends

@@ -2,8 +2,11 @@ use Rattle.std.proofs.Common.{◌∙◌, ap, sym, subst}
 use Rattle.std.proofs.lemmas.Result.{err_from_is_err_and}
 use Rattle.chip_model.specs.Geometry.{sector_count}
 use Rattle.erase_journal.specs.Journals.{IsHealthy}
-use Rattle.erase_journal.proofs.SettledLaws.{settled-healthy}
+use Rattle.erase_journal.proofs.SettledLaws.{settled-healthy, refuses-settled, settled-after}
 use Rattle.sector_slots.specs.Blocks.{AreSettled}
+use Rattle.nor_driver.specs.State.{Refuses}
+use Rattle.nor_driver.proofs.CallLaws.{fails-as}
+use Rattle.erase_journal.specs.Steps.{SucceedsSettled}
 use Rattle.sector_map.proofs.Mending.{mends-same}
 use Rattle.sector_map.proofs.Moving.{begun-at, begun-copyable, afresh-cut, afresh-mends, afresh-moved, afresh-number, afresh-repairs, still-repairs}
 use Rattle.sector_map.proofs.firm.move_if_begun.Goals as goal
@@ -70,3 +73,39 @@ returns-in_err-follow_block-clause-healthy g c is healthy = subst (λ z. IsHealt
 pub returns-clause-ok : goal.returns-clause-ok
 returns-clause-ok g c =
     afresh-repairs c.args.table.now c.follow_block.new.table c.args.block c.in_ok-target.target (g.S.SlotCalls.state c.args.stock.now).memory (g.S.SlotCalls.state c.lowest_spare.new.slots).memory (g.S.SlotCalls.state c.move_afresh.new.slots).memory (g.S.SlotCalls.state c.follow_block.new.slots).memory (c.lowest_spare.ensures.same ∙ c.has_begun.ensures.same) (begun-at c.args.table.now c.args.block c.in_ok-target.target (g.S.SlotCalls.state c.args.stock.now).memory (g.S.SlotCalls.state c.has_begun.new.self).memory (g.S.SlotCalls.state c.lowest_spare.new.slots).memory c.requires.mended c.requires.number (c.in_ok-begun.ensures.begun c.if-not-begun.false) c.has_begun.ensures.same c.in_ok-target.ensures.spare c.lowest_spare.ensures.same) c.in_ok-move_afresh.ensures.ok c.follow_block.ensures.same c.in_ok-follow_block.ensures.ok
+
+pub returns-in_err-target-clause-ends : goal.returns-in_err-target-clause-ends
+returns-in_err-target-clause-ends g c =
+    let s0 = g.S.SlotCalls.state c.args.stock.now in
+    let s1 = g.S.SlotCalls.state c.has_begun.new.self in
+    let s2 = g.S.SlotCalls.state c.lowest_spare.new.slots in
+    fails-as c.from_residual-in_err-target.result _ (λ _. SucceedsSettled s0 s2) (λ e. Refuses e s0 s2) c.from_residual-in_err-target.ensures.1
+    (refuses-settled _ s0 s1 s2 c.in_ok-begun.ensures.ends c.in_err-target.ensures.ends)
+
+pub returns-in_err-move_afresh-clause-ends : goal.returns-in_err-move_afresh-clause-ends
+returns-in_err-move_afresh-clause-ends g c =
+    let s0 = g.S.SlotCalls.state c.args.stock.now in
+    let s1 = g.S.SlotCalls.state c.has_begun.new.self in
+    let s2 = g.S.SlotCalls.state c.lowest_spare.new.slots in
+    let s3 = g.S.SlotCalls.state c.move_afresh.new.slots in
+    fails-as c.from_residual-in_err-move_afresh.result _ (λ _. SucceedsSettled s0 s3) (λ e. Refuses e s0 s3) c.from_residual-in_err-move_afresh.ensures.1
+    (refuses-settled _ s0 s2 s3 (settled-after s0 s1 s2 c.in_ok-begun.ensures.ends c.in_ok-target.ensures.ends) c.in_err-move_afresh.ensures.ends)
+
+pub returns-in_err-follow_block-clause-ends : goal.returns-in_err-follow_block-clause-ends
+returns-in_err-follow_block-clause-ends g c =
+    let s0 = g.S.SlotCalls.state c.args.stock.now in
+    let s1 = g.S.SlotCalls.state c.has_begun.new.self in
+    let s2 = g.S.SlotCalls.state c.lowest_spare.new.slots in
+    let s3 = g.S.SlotCalls.state c.move_afresh.new.slots in
+    let s4 = g.S.SlotCalls.state c.follow_block.new.slots in
+    fails-as c.from_residual-in_err-follow_block.result _ (λ _. SucceedsSettled s0 s4) (λ e. Refuses e s0 s4) c.from_residual-in_err-follow_block.ensures.1
+    (refuses-settled _ s0 s3 s4 (settled-after s0 s2 s3 (settled-after s0 s1 s2 c.in_ok-begun.ensures.ends c.in_ok-target.ensures.ends) c.in_ok-move_afresh.ensures.ends) c.in_err-follow_block.ensures.ends)
+
+pub returns-clause-ends : goal.returns-clause-ends
+returns-clause-ends g c =
+    let s0 = g.S.SlotCalls.state c.args.stock.now in
+    let s1 = g.S.SlotCalls.state c.has_begun.new.self in
+    let s2 = g.S.SlotCalls.state c.lowest_spare.new.slots in
+    let s3 = g.S.SlotCalls.state c.move_afresh.new.slots in
+    let s4 = g.S.SlotCalls.state c.follow_block.new.slots in
+    settled-after s0 s3 s4 (settled-after s0 s2 s3 (settled-after s0 s1 s2 c.in_ok-begun.ensures.ends c.in_ok-target.ensures.ends) c.in_ok-move_afresh.ensures.ends) c.in_ok-follow_block.ensures.ends

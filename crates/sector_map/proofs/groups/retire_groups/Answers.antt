@@ -1,10 +1,14 @@
-use Rattle.std.proofs.Common.{◌≡◌, sym, subst, ap, ◌∙◌, length}
+use Rattle.std.proofs.Common.{◌≡◌, sym, subst, ap, ◌∙◌, length, inr}
 use Rattle.chip_model.specs.Geometry.{sector_count}
 use Rattle.erase_journal.specs.Journals.{IsHealthy}
 use Rattle.sector_map.specs.Mending.{PairsSeen, RetiresEach}
 use Rattle.sector_map.proofs.Grouping.{mixed-corrupt}
-use Rattle.sector_map.proofs.Mounting.{perhaps-healthy, bool-none}
+use Rattle.sector_map.proofs.Mounting.{perhaps-healthy, bool-none, perhaps-done}
 use Rattle.sector_map.proofs.Mending.{retires-none, retires-older, each-sound}
+use Rattle.nor_driver.specs.State.{Refuses}
+use Rattle.nor_driver.proofs.CallLaws.{fails-as, fails-of}
+use Rattle.erase_journal.specs.Steps.{SucceedsSettled}
+use Rattle.sector_map.proofs.Retiring.{refuses-perhaps, succeeds-perhaps}
 use Rattle.sector_map.proofs.groups.retire_groups.Goals as goal
 
 pub unreachable-requires : goal.unreachable-requires
@@ -39,3 +43,28 @@ returns-clause-ok g c =
     let ok = subst (λ z. RetiresEach c.args.table.now z b) c.has_pair.ensures.same c.in_ok-retire_each.ensures.ok in
     retires-older c.args.table.now c.read_table.new.table a b (g.S.SlotCalls.state c.read_table.new.slots).memory ok c.requires.tabled c.requires.rest c.requires.sound c.read_table.ensures.same
     (c.in_ok-read_table.ensures.tabled c.in-Some-2.field-0 c.in-Some-2.is)
+
+pub returns-in_err-retire_each-clause-fails : goal.returns-in_err-retire_each-clause-fails
+returns-in_err-retire_each-clause-fails g c =
+    let s0 = g.S.SlotCalls.state c.args.slots.now in
+    let s1 = g.S.SlotCalls.state c.has_pair.new.slots in
+    let s2 = g.S.SlotCalls.state c.retire_each.new.slots in
+    fails-of c.from_residual-in_err-retire_each.result (SucceedsSettled s0 s2) (λ e. Refuses e s0 s2) (fails-as c.from_residual-in_err-retire_each.result _ (λ _. SucceedsSettled s0 s2) (λ e. Refuses e s0 s2) c.from_residual-in_err-retire_each.ensures.1
+    (refuses-perhaps _ s0 s1 s2 c.in_ok-pair.ensures.done c.in_err-retire_each.ensures.fails))
+
+pub returns-in_err-read_table-clause-fails : goal.returns-in_err-read_table-clause-fails
+returns-in_err-read_table-clause-fails g c =
+    let s0 = g.S.SlotCalls.state c.args.slots.now in
+    let s1 = g.S.SlotCalls.state c.has_pair.new.slots in
+    let s2 = g.S.SlotCalls.state c.retire_each.new.slots in
+    let s3 = g.S.SlotCalls.state c.read_table.new.slots in
+    fails-of c.from_residual-in_err-read_table.result (SucceedsSettled s0 s3) (λ e. Refuses e s0 s3) (fails-as c.from_residual-in_err-read_table.result _ (λ _. SucceedsSettled s0 s3) (λ e. Refuses e s0 s3) c.from_residual-in_err-read_table.ensures.1
+    (refuses-perhaps _ s0 s2 s3 (perhaps-done s0 s1 s2 c.in_ok-pair.ensures.done c.in_ok-retire_each.ensures.done) c.in_err-read_table.ensures.ends))
+
+pub returns-clause-done : goal.returns-clause-done
+returns-clause-done g c =
+    let s0 = g.S.SlotCalls.state c.args.slots.now in
+    let s1 = g.S.SlotCalls.state c.has_pair.new.slots in
+    let s2 = g.S.SlotCalls.state c.retire_each.new.slots in
+    let s3 = g.S.SlotCalls.state c.read_table.new.slots in
+    inr (succeeds-perhaps s0 s2 s3 (perhaps-done s0 s1 s2 c.in_ok-pair.ensures.done c.in_ok-retire_each.ensures.done) c.in_ok-read_table.ensures.ends)

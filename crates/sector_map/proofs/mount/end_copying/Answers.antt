@@ -1,9 +1,12 @@
-use Rattle.std.proofs.Common.{sym, subst}
+use Rattle.std.proofs.Common.{sym, subst, inr}
 use Rattle.std.specs.Prelude.{OnOk}
 use Rattle.sector_stock.proofs.Copying.{after-keeps}
+use Rattle.nor_driver.specs.State.{Refuses}
+use Rattle.nor_driver.proofs.CallLaws.{done-of, fails-of}
+use Rattle.erase_journal.specs.Steps.{SucceedsSettled}
 use Rattle.sector_map.specs.Found.{FoundIn}
 use Rattle.sector_map.specs.Mending.{EndsFound}
-use Rattle.sector_map.proofs.MapCalls.{after-ok}
+use Rattle.sector_map.proofs.MapCalls.{after-ok, after-ends}
 use Rattle.sector_map.proofs.Mounting.{perhaps-healthy}
 use Rattle.sector_map.proofs.Voiding.{voids-end, voids-committed, voids-then_copy}
 use Rattle.sector_map.proofs.mount.end_copying.Goals as goal
@@ -36,3 +39,18 @@ returns-in_ok-end_voids-in-Committed-clause-cut g c is healthy =
 pub returns-in_ok-end_voids-in-Committed-clause-healthy : goal.returns-in_ok-end_voids-in-Committed-clause-healthy
 returns-in_ok-end_voids-in-Committed-clause-healthy g c is healthy =
     c.end_copy.ensures.healthy is (perhaps-healthy (g.S.SlotCalls.state c.args.slots.now) (g.S.SlotCalls.state c.end_voids-in-Committed.new.slots) c.in_ok-end_voids-in-Committed.ensures.done healthy)
+
+pub returns-in_ok-end_voids-in-Committed-clause-done : goal.returns-in_ok-end_voids-in-Committed-clause-done
+returns-in_ok-end_voids-in-Committed-clause-done g c =
+    let s0 = g.S.SlotCalls.state c.args.slots.now in
+    let s1 = g.S.SlotCalls.state c.end_voids-in-Committed.new.slots in
+    let s2 = g.S.SlotCalls.state c.end_copy.new.slots in
+    after-ok c.end_copy.result (SucceedsSettled s0 s2) _ (λ h. inr h) (done-of c.end_copy.result (SucceedsSettled s0 s2) (λ e. Refuses e s0 s2)
+    (after-ends c.end_copy.result s0 s1 s2 c.in_ok-end_voids-in-Committed.ensures.done c.end_copy.ensures.ends))
+
+pub returns-in_ok-end_voids-in-Committed-clause-fails : goal.returns-in_ok-end_voids-in-Committed-clause-fails
+returns-in_ok-end_voids-in-Committed-clause-fails g c =
+    let s0 = g.S.SlotCalls.state c.args.slots.now in
+    let s1 = g.S.SlotCalls.state c.end_voids-in-Committed.new.slots in
+    let s2 = g.S.SlotCalls.state c.end_copy.new.slots in
+    fails-of c.end_copy.result (SucceedsSettled s0 s2) (λ e. Refuses e s0 s2) (after-ends c.end_copy.result s0 s1 s2 c.in_ok-end_voids-in-Committed.ensures.done c.end_copy.ensures.ends)

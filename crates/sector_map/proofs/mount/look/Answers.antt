@@ -1,4 +1,4 @@
-use Rattle.std.proofs.Common.{◌≡◌, ℕ, ◌<◌, true, sym, subst, ap, ◌∙◌, length}
+use Rattle.std.proofs.Common.{◌≡◌, ℕ, ◌<◌, true, sym, subst, ap, ◌∙◌, length, inr}
 use Rattle.std.specs.Prelude.{Some}
 use Rattle.std.proofs.lemmas.Result.{IfOk-weaker}
 use Rattle.chip_model.specs.Geometry.{sector_count}
@@ -9,6 +9,11 @@ use Rattle.sector_map.specs.Table.{IsTabled}
 use Rattle.sector_map.specs.Mending.{IsMixedPair, PairsSeen, HasDeadGroup}
 use Rattle.sector_map.proofs.Grouping.{mixed-corrupt, pair-room}
 use Rattle.sector_map.proofs.Mounting.{slots-alone, look-sound, spare-room, fits-none, found-none, bool-none}
+use Rattle.nor_driver.specs.State.{Refuses}
+use Rattle.nor_driver.proofs.CallLaws.{fails-as}
+use Rattle.erase_journal.specs.Steps.{SucceedsSettled}
+use Rattle.erase_journal.proofs.SettledLaws.{settled-after, refuses-settled, ends-settled}
+use Rattle.sector_map.proofs.MapCalls.{perhaps-after, after-ok, after-fails}
 use Rattle.sector_map.proofs.mount.look.Goals as goal
 
 pub returns-in_default-clause-corrupt : goal.returns-in_default-clause-corrupt
@@ -59,3 +64,30 @@ returns-clause-corrupt g c =
     fits-none c.in-Some.found c.in-Some-2.spare c.read_table.new.table m (c.in_ok-found.ensures.found c.in-Some.found c.in-Some.is) n.0
     (λ q. subst (λ z. (b : ℕ) → b < data_blocks z → IsSpareIn z b → ⊥) c.survey.ensures.same (c.in_ok-spare.ensures.not_spare (c.in-Some-2.is ∙ ap (λ z. Some z) q))) t (subst (λ z. PairsSeen z c.read_table.new.table m) n.1 pairs)
     (λ d. n.2 (subst (λ z. HasDeadGroup z) (sym (c.has_pair.ensures.same ∙ same)) d)) sound) c.fit.ensures.none
+
+pub returns-in_err-pair-clause-ends : goal.returns-in_err-pair-clause-ends
+returns-in_err-pair-clause-ends g c =
+    let s0 = g.S.SlotCalls.state c.args.stock.now in
+    let s1 = g.S.SlotCalls.state c.survey.new.slots in
+    let s2 = g.S.SlotCalls.state c.read_table.new.slots in
+    let s3 = g.S.SlotCalls.state c.has_pair.new.slots in
+    fails-as c.from_residual-in_err-pair.result _ (λ _. SucceedsSettled s0 s3) (λ e. Refuses e s0 s3) c.from_residual-in_err-pair.ensures.1
+    (refuses-settled _ s0 s2 s3 (settled-after s0 s1 s2 c.in_ok-found.ensures.ends c.in_ok-spare.ensures.ends) c.in_err-pair.ensures.fails)
+
+pub returns-in_default-3-clause-ends : goal.returns-in_default-3-clause-ends
+returns-in_default-3-clause-ends g c =
+    let s0 = g.S.SlotCalls.state c.args.stock.now in
+    let s1 = g.S.SlotCalls.state c.survey.new.slots in
+    let s2 = g.S.SlotCalls.state c.read_table.new.slots in
+    let s3 = g.S.SlotCalls.state c.has_pair.new.slots in
+    perhaps-after s0 s2 s3 (settled-after s0 s1 s2 c.in_ok-found.ensures.ends c.in_ok-spare.ensures.ends) c.in_ok-pair.ensures.done
+
+pub returns-clause-ends : goal.returns-clause-ends
+returns-clause-ends g c =
+    let s0 = g.S.SlotCalls.state c.args.stock.now in
+    let s1 = g.S.SlotCalls.state c.survey.new.slots in
+    let s2 = g.S.SlotCalls.state c.read_table.new.slots in
+    let s3 = g.S.SlotCalls.state c.has_pair.new.slots in
+    let s4 = g.S.SlotCalls.state c.fit.new.slots in
+    let done = perhaps-after s0 s2 s3 (settled-after s0 s1 s2 c.in_ok-found.ensures.ends c.in_ok-spare.ensures.ends) c.in_ok-pair.ensures.done in
+    ends-settled c.fit.result s0 s4 (after-ok c.fit.result _ _ (λ h. perhaps-after s0 s3 s4 done h) c.fit.ensures.done) (after-fails c.fit.result s0 s3 s4 (inr done) c.fit.ensures.fails)

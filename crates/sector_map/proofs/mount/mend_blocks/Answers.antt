@@ -1,8 +1,12 @@
 use Rattle.std.proofs.Common.{sym, ◌∙◌}
 use Rattle.std.proofs.lemmas.Result.{err_from_is_err_and}
-use Rattle.sector_map.proofs.Mounting.{perhaps-healthy}
-use Rattle.sector_map.proofs.MapCalls.{after-ok}
+use Rattle.sector_map.proofs.Mounting.{perhaps-healthy, perhaps-done}
+use Rattle.sector_map.proofs.MapCalls.{after-ok, after-fails}
 use Rattle.sector_map.proofs.Mending.{ended, ended-dead, mends-after, mends-blocks, kept-mends}
+use Rattle.nor_driver.specs.State.{Refuses}
+use Rattle.nor_driver.proofs.CallLaws.{fails-as, fails-of}
+use Rattle.erase_journal.specs.Steps.{SucceedsSettled}
+use Rattle.sector_map.proofs.Retiring.{refuses-perhaps}
 use Rattle.sector_map.proofs.mount.mend_blocks.Goals as goal
 
 pub retire_groups-requires-clause-tabled : goal.retire_groups-requires-clause-tabled
@@ -65,3 +69,27 @@ pub returns-clause-healthy : goal.returns-clause-healthy
 returns-clause-healthy g c is healthy =
     c.make_room.ensures.healthy is (perhaps-healthy (g.S.SlotCalls.state c.end_copying.new.slots) (g.S.SlotCalls.state c.retire_groups.new.slots) c.in_ok-retire_groups.ensures.done
     (perhaps-healthy (g.S.SlotCalls.state c.args.slots.now) (g.S.SlotCalls.state c.end_copying.new.slots) c.in_ok-end_copying.ensures.done healthy))
+
+pub returns-in_err-retire_groups-clause-fails : goal.returns-in_err-retire_groups-clause-fails
+returns-in_err-retire_groups-clause-fails g c =
+    let s0 = g.S.SlotCalls.state c.args.slots.now in
+    let s1 = g.S.SlotCalls.state c.end_copying.new.slots in
+    let s2 = g.S.SlotCalls.state c.retire_groups.new.slots in
+    fails-of c.from_residual-in_err-retire_groups.result (SucceedsSettled s0 s2) (λ e. Refuses e s0 s2) (fails-as c.from_residual-in_err-retire_groups.result _ (λ _. SucceedsSettled s0 s2) (λ e. Refuses e s0 s2) c.from_residual-in_err-retire_groups.ensures.1
+    (refuses-perhaps _ s0 s1 s2 c.in_ok-end_copying.ensures.done c.in_err-retire_groups.ensures.fails))
+
+pub returns-clause-done : goal.returns-clause-done
+returns-clause-done g c =
+    let s0 = g.S.SlotCalls.state c.args.slots.now in
+    let s1 = g.S.SlotCalls.state c.end_copying.new.slots in
+    let s2 = g.S.SlotCalls.state c.retire_groups.new.slots in
+    let s3 = g.S.SlotCalls.state c.make_room.new.slots in
+    after-ok c.make_room.result _ _ (λ h. perhaps-done s0 s2 s3 (perhaps-done s0 s1 s2 c.in_ok-end_copying.ensures.done c.in_ok-retire_groups.ensures.done) h) c.make_room.ensures.done
+
+pub returns-clause-fails : goal.returns-clause-fails
+returns-clause-fails g c =
+    let s0 = g.S.SlotCalls.state c.args.slots.now in
+    let s1 = g.S.SlotCalls.state c.end_copying.new.slots in
+    let s2 = g.S.SlotCalls.state c.retire_groups.new.slots in
+    let s3 = g.S.SlotCalls.state c.make_room.new.slots in
+    after-fails c.make_room.result s0 s2 s3 (perhaps-done s0 s1 s2 c.in_ok-end_copying.ensures.done c.in_ok-retire_groups.ensures.done) c.make_room.ensures.fails

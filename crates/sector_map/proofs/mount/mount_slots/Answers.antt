@@ -5,12 +5,16 @@ use Rattle.sector_slots.specs.Slots.{slot_at, slot_count}
 use Rattle.sector_map.specs.Found.{FoundIn, RoomSeen}
 use Rattle.sector_map.specs.Table.{IsTabled, Mounts, MountCut}
 use Rattle.sector_slots.specs.Sectors.{IsSoundMap}
-use Rattle.erase_journal.proofs.SettledLaws.{settled-after}
+use Rattle.erase_journal.proofs.SettledLaws.{settled-after, refuses-settled}
 use Rattle.sector_map.proofs.Mounting.{perhaps-healthy}
 use Rattle.sector_map.proofs.Retiring.{succeeds-perhaps}
 use Rattle.sector_map.proofs.Marking.{cut-none, cut-marking, cut-marked, mounted, marked-sound}
 use Rattle.sector_map.proofs.Mending.{mends-after, mends-sound}
 use Rattle.sector_map.proofs.Alike.{marked-firm, alike-tabled, alike-found, alike-room, firm-mends, firm-repairs}
+use Rattle.nor_driver.specs.State.{Refuses}
+use Rattle.nor_driver.proofs.CallLaws.{fails-as}
+use Rattle.erase_journal.specs.Steps.{SucceedsSettled}
+use Rattle.sector_map.proofs.MapCalls.{perhaps-after}
 use Rattle.sector_map.proofs.mount.mount_slots.Goals as goal
 
 pub returns-in_err-marks-clause-cut : goal.returns-in_err-marks-clause-cut
@@ -112,3 +116,33 @@ returns-in_ok-repair-in-Some-clause-ends g c =
     rw c.suspect_as.ensures.state
     (settled-after (g.S.SlotCalls.state c.args.stock.now) a f c.in_ok-marks.ensures.ends (settled-after a b f c.in_ok-seen.ensures.ends
     (succeeds-perhaps b d f c.in_ok-mark_first-in-Some.ensures.done (succeeds-perhaps d e f c.in_ok-begun-in-Some.ensures.done c.in_ok-repair-in-Some.ensures.ends))))
+
+pub returns-in_err-mark_first-in-Some-clause-ends : goal.returns-in_err-mark_first-in-Some-clause-ends
+returns-in_err-mark_first-in-Some-clause-ends g c =
+    let s0 = g.S.SlotCalls.state c.args.stock.now in
+    let s1 = g.S.SlotCalls.state c.read_marks.new.slots in
+    let s2 = g.S.SlotCalls.state c.look.new.stock in
+    let s3 = g.S.SlotCalls.state c.mark_first.new.slots in
+    fails-as c.from_residual-in_err-mark_first-in-Some.result _ (λ _. SucceedsSettled s0 s3) (λ e. Refuses e s0 s3) c.from_residual-in_err-mark_first-in-Some.ensures.1
+    (refuses-settled _ s0 s2 s3 (settled-after s0 s1 s2 c.in_ok-marks.ensures.ends c.in_ok-seen.ensures.ends) c.in_err-mark_first-in-Some.ensures.fails)
+
+pub returns-in_err-begun-in-Some-clause-ends : goal.returns-in_err-begun-in-Some-clause-ends
+returns-in_err-begun-in-Some-clause-ends g c =
+    let s0 = g.S.SlotCalls.state c.args.stock.now in
+    let s1 = g.S.SlotCalls.state c.read_marks.new.slots in
+    let s2 = g.S.SlotCalls.state c.look.new.stock in
+    let s3 = g.S.SlotCalls.state c.mark_first.new.slots in
+    let s4 = g.S.SlotCalls.state c.firm_as.new.slots in
+    fails-as c.from_residual-in_err-begun-in-Some.result _ (λ _. SucceedsSettled s0 s4) (λ e. Refuses e s0 s4) c.from_residual-in_err-begun-in-Some.ensures.1
+    (refuses-settled _ s0 s3 s4 (perhaps-after s0 s2 s3 (settled-after s0 s1 s2 c.in_ok-marks.ensures.ends c.in_ok-seen.ensures.ends) c.in_ok-mark_first-in-Some.ensures.done) c.in_err-begun-in-Some.ensures.fails)
+
+pub returns-in_err-repair-in-Some-clause-ends : goal.returns-in_err-repair-in-Some-clause-ends
+returns-in_err-repair-in-Some-clause-ends g c =
+    let s0 = g.S.SlotCalls.state c.args.stock.now in
+    let s1 = g.S.SlotCalls.state c.read_marks.new.slots in
+    let s2 = g.S.SlotCalls.state c.look.new.stock in
+    let s3 = g.S.SlotCalls.state c.mark_first.new.slots in
+    let s4 = g.S.SlotCalls.state c.firm_as.new.slots in
+    let s5 = g.S.SlotCalls.state c.repair.new.stock in
+    fails-as c.from_residual-in_err-repair-in-Some.result _ (λ _. SucceedsSettled s0 s5) (λ e. Refuses e s0 s5) c.from_residual-in_err-repair-in-Some.ensures.1
+    (refuses-settled _ s0 s4 s5 (perhaps-after s0 s3 s4 (perhaps-after s0 s2 s3 (settled-after s0 s1 s2 c.in_ok-marks.ensures.ends c.in_ok-seen.ensures.ends) c.in_ok-mark_first-in-Some.ensures.done) c.in_ok-begun-in-Some.ensures.done) c.in_err-repair-in-Some.ensures.ends)

@@ -2,9 +2,13 @@ use Rattle.std.proofs.Common.{sym, subst}
 use Rattle.std.proofs.lemmas.Result.{err_from_is_err_and}
 use Rattle.erase_journal.specs.Journals.{IsHealthy}
 use Rattle.sector_map.specs.Table.{Mends, Repairs}
-use Rattle.sector_map.proofs.Mounting.{perhaps-healthy, table-room}
+use Rattle.sector_map.proofs.Mounting.{perhaps-healthy, table-room, perhaps-done}
 use Rattle.sector_map.proofs.Mending.{mends-after, mends-of}
 use Rattle.sector_map.proofs.Moving.{retired-repairs, repairs-after, repairs-mended}
+use Rattle.nor_driver.specs.State.{Refuses}
+use Rattle.nor_driver.proofs.CallLaws.{fails-as}
+use Rattle.erase_journal.specs.Steps.{SucceedsSettled}
+use Rattle.sector_map.proofs.Retiring.{refuses-perhaps, succeeds-perhaps}
 use Rattle.sector_map.proofs.mount.repair.Goals as goal
 
 pub returns-in_err-retire_older-clause-cut : goal.returns-in_err-retire_older-clause-cut
@@ -82,3 +86,39 @@ returns-clause-ok g c =
     let r = c.in_ok-retire_older.ensures in
     subst (λ z. Repairs a c.move_begun.new.table z) (sym c.fill.ensures.same) (repairs-after c.retire_older.new.table c.move_begun.new.table a d (g.S.SlotCalls.state c.move_begun.new.stock).memory
     (retired-repairs c.mend_blocks.new.table c.retire_older.new.table a b d c.in_ok-mend_blocks.ensures.ok c.retire_older.ensures.chip r.sectors r.clean r.ok r.blocks) c.in_ok-move_begun.ensures.ok)
+
+pub returns-in_err-retire_older-clause-ends : goal.returns-in_err-retire_older-clause-ends
+returns-in_err-retire_older-clause-ends g c =
+    let s0 = g.S.SlotCalls.state c.args.stock.now in
+    let s1 = g.S.SlotCalls.state c.mend_blocks.new.slots in
+    let s2 = g.S.SlotCalls.state c.retire_older.new.slots in
+    fails-as c.from_residual-in_err-retire_older.result _ (λ _. SucceedsSettled s0 s2) (λ e. Refuses e s0 s2) c.from_residual-in_err-retire_older.ensures.1
+    (refuses-perhaps _ s0 s1 s2 c.in_ok-mend_blocks.ensures.done c.in_err-retire_older.ensures.fails)
+
+pub returns-in_err-move_begun-clause-ends : goal.returns-in_err-move_begun-clause-ends
+returns-in_err-move_begun-clause-ends g c =
+    let s0 = g.S.SlotCalls.state c.args.stock.now in
+    let s1 = g.S.SlotCalls.state c.mend_blocks.new.slots in
+    let s2 = g.S.SlotCalls.state c.retire_older.new.slots in
+    let s3 = g.S.SlotCalls.state c.move_begun.new.stock in
+    fails-as c.from_residual-in_err-move_begun.result _ (λ _. SucceedsSettled s0 s3) (λ e. Refuses e s0 s3) c.from_residual-in_err-move_begun.ensures.1
+    (refuses-perhaps _ s0 s2 s3 (perhaps-done s0 s1 s2 c.in_ok-mend_blocks.ensures.done c.in_ok-retire_older.ensures.done) c.in_err-move_begun.ensures.fails)
+
+pub returns-in_err-fill-clause-ends : goal.returns-in_err-fill-clause-ends
+returns-in_err-fill-clause-ends g c =
+    let s0 = g.S.SlotCalls.state c.args.stock.now in
+    let s1 = g.S.SlotCalls.state c.mend_blocks.new.slots in
+    let s2 = g.S.SlotCalls.state c.retire_older.new.slots in
+    let s3 = g.S.SlotCalls.state c.move_begun.new.stock in
+    let s4 = g.S.SlotCalls.state c.fill.new.self in
+    fails-as c.from_residual-in_err-fill.result _ (λ _. SucceedsSettled s0 s4) (λ e. Refuses e s0 s4) c.from_residual-in_err-fill.ensures.1
+    (refuses-perhaps _ s0 s3 s4 (perhaps-done s0 s2 s3 (perhaps-done s0 s1 s2 c.in_ok-mend_blocks.ensures.done c.in_ok-retire_older.ensures.done) c.in_ok-move_begun.ensures.done) c.in_err-fill.ensures.ends)
+
+pub returns-clause-ends : goal.returns-clause-ends
+returns-clause-ends g c =
+    let s0 = g.S.SlotCalls.state c.args.stock.now in
+    let s1 = g.S.SlotCalls.state c.mend_blocks.new.slots in
+    let s2 = g.S.SlotCalls.state c.retire_older.new.slots in
+    let s3 = g.S.SlotCalls.state c.move_begun.new.stock in
+    let s4 = g.S.SlotCalls.state c.fill.new.self in
+    succeeds-perhaps s0 s3 s4 (perhaps-done s0 s2 s3 (perhaps-done s0 s1 s2 c.in_ok-mend_blocks.ensures.done c.in_ok-retire_older.ensures.done) c.in_ok-move_begun.ensures.done) c.in_ok-fill.ensures.ends

@@ -1,7 +1,10 @@
 use Rattle.std.proofs.Common.{◌∙◌, sym, subst}
 use Rattle.std.proofs.lemmas.Result.{err_from_is_err_and}
 use Rattle.erase_journal.specs.Blocks.{SameBlocks}
-use Rattle.erase_journal.proofs.SettledLaws.{settled-healthy, settled-after}
+use Rattle.erase_journal.proofs.SettledLaws.{settled-healthy, settled-after, refuses-settled}
+use Rattle.nor_driver.specs.State.{Refuses}
+use Rattle.nor_driver.proofs.CallLaws.{fails-as}
+use Rattle.erase_journal.specs.Steps.{SucceedsSettled}
 use Rattle.sector_map.specs.Maps.{KeepsMap, KeptServing}
 use Rattle.sector_map.proofs.Renewal.{journals-keep, journals-kept, journals-room}
 use Rattle.sector_map.proofs.settling.renew_journals.Goals as goal
@@ -31,3 +34,18 @@ returns-clause-ok g c =
     let done = settled-after a b f c.in_ok-renew_journals.ensures.ends c.in_ok-fill.ensures.ends in
     subst (λ z. KeptServing c.args.table.now a z (g.S.SlotCalls.indexed c.suspect_as.new.stock)) (sym c.suspect_as.ensures.state)
     (journals-kept c.args.table.now a f (g.S.SlotCalls.indexed c.args.stock.now) (g.S.SlotCalls.indexed c.suspect_as.new.stock) c.requires.served blocks done (c.suspect_as.ensures.indexed ∙ c.in_ok-fill.ensures.indexed))
+
+pub returns-in_err-fill-clause-ends : goal.returns-in_err-fill-clause-ends
+returns-in_err-fill-clause-ends g c =
+    let s0 = g.S.SlotCalls.state c.args.stock.now in
+    let s1 = g.S.SlotCalls.state c.renew_journals.new.self in
+    let s2 = g.S.SlotCalls.state c.fill.new.self in
+    fails-as c.from_residual-in_err-fill.result _ (λ _. SucceedsSettled s0 s2) (λ e. Refuses e s0 s2) c.from_residual-in_err-fill.ensures.1
+    (refuses-settled _ s0 s1 s2 c.in_ok-renew_journals.ensures.ends c.in_err-fill.ensures.ends)
+
+pub returns-clause-ends : goal.returns-clause-ends
+returns-clause-ends g c =
+    let s0 = g.S.SlotCalls.state c.args.stock.now in
+    let s1 = g.S.SlotCalls.state c.renew_journals.new.self in
+    let s2 = g.S.SlotCalls.state c.fill.new.self in
+    subst (λ z. SucceedsSettled s0 z) (sym c.suspect_as.ensures.state) (settled-after s0 s1 s2 c.in_ok-renew_journals.ensures.ends c.in_ok-fill.ensures.ends)

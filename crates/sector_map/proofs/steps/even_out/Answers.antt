@@ -2,6 +2,8 @@ use Rattle.std.proofs.Common.{subst}
 use Rattle.std.proofs.lemmas.Result.{err_from_is_err_and}
 use Rattle.sector_map.specs.Maps.{KeepsMap, KeptServing}
 use Rattle.sector_map.proofs.MapCalls.{kept-after, keeps-after, after-ok}
+use Rattle.erase_journal.specs.Steps.{SucceedsSettled}
+use Rattle.erase_journal.proofs.SettledLaws.{settles-since}
 use Rattle.sector_map.proofs.steps.even_out.Goals as goal
 
 pub returns-in_err-renew_now-clause-cut : goal.returns-in_err-renew_now-clause-cut
@@ -24,3 +26,11 @@ pub returns-clause-cut : goal.returns-clause-cut
 returns-clause-cut g c is =
     let first = subst (λ z. KeepsMap z.memory (g.S.SlotCalls.state c.renew_now.new.stock).memory) c.lagging.ensures.state c.in_ok-renew_now.ensures.ok.keeps in
     keeps-after (g.S.SlotCalls.state c.args.stock.now).memory (g.S.SlotCalls.state c.renew_now.new.stock).memory (g.S.SlotCalls.state c.renew_soon.new.stock).memory first (c.renew_soon.ensures.cut is)
+
+pub returns-clause-ends : goal.returns-clause-ends
+returns-clause-ends g c =
+    let s0 = g.S.SlotCalls.state c.args.stock.now in
+    let s1 = g.S.SlotCalls.state c.renew_now.new.stock in
+    let s2 = g.S.SlotCalls.state c.renew_soon.new.stock in
+    let done = subst (λ z. SucceedsSettled z s1) c.lagging.ensures.state c.in_ok-renew_now.ensures.ends in
+    settles-since c.renew_soon.result s0 s1 s2 done.ready done.kept c.renew_soon.ensures.ends

@@ -1,10 +1,14 @@
-use Rattle.std.proofs.Common.{◌≡◌, ◌-◌, ◌<◌, sym, subst, ap, ◌∙◌, arith}
+use Rattle.std.proofs.Common.{◌≡◌, ◌-◌, ◌<◌, sym, subst, ap, ◌∙◌, arith, inr}
 use Rattle.chip_model.specs.Geometry.{block_count}
 use Rattle.sector_slots.specs.Slots.{data_blocks}
 use Rattle.sector_stock.specs.Index.{AreWithin, erases_of}
 use Rattle.sector_stock.proofs.Even.{even-more}
 use Rattle.std.specs.Prelude.{None, Some, ◌/◌, slice_index_or}
 use Rattle.std.proofs.lemmas.Result.{err_from_is_err_and}
+use Rattle.nor_driver.specs.State.{Refuses}
+use Rattle.nor_driver.proofs.CallLaws.{fails-as, fails-of}
+use Rattle.erase_journal.specs.Steps.{SucceedsSettled}
+use Rattle.erase_journal.proofs.SettledLaws.{refuses-settled}
 use Rattle.sector_map.specs.Replace.{HeldBy, IsInSlots}
 use Rattle.sector_map.specs.Table.{holder}
 use Rattle.sector_map.specs.declared.table.LiveSlots.TheVariants.{Absent}
@@ -81,3 +85,18 @@ returns-clause-even g c by =
     subst (λ k. AreWithin 31 k (erases_of (g.S.Reclaim.counts c.follow_copied.new.slots))) (sym n)
     (subst (λ b. AreWithin 31 (data_blocks m) (erases_of b)) (sym c.follow_copied.ensures.counted)
     (even-more 30 (c.in-Some.held.slot / 7) (data_blocks m) (erases_of (g.S.Reclaim.counts c.args.stock.now)) (erases_of (g.S.Reclaim.counts c.convert.new.self)) inside old c.in_ok-copied.ensures.counted))
+
+pub returns-in_err-follow_copied-clause-fails : goal.returns-in_err-follow_copied-clause-fails
+returns-in_err-follow_copied-clause-fails g c =
+    let s0 = g.S.SlotCalls.state c.args.stock.now in
+    let s1 = g.S.SlotCalls.state c.convert.new.self in
+    let s2 = g.S.SlotCalls.state c.follow_copied.new.slots in
+    fails-of c.from_residual-in_err-follow_copied.result (SucceedsSettled s0 s2) (λ e. Refuses e s0 s2) (fails-as c.from_residual-in_err-follow_copied.result _ (λ _. SucceedsSettled s0 s2) (λ e. Refuses e s0 s2) c.from_residual-in_err-follow_copied.ensures.1
+    (refuses-settled _ s0 s1 s2 c.in_ok-copied.ensures.ends c.in_err-follow_copied.ensures.fails))
+
+pub returns-clause-done : goal.returns-clause-done
+returns-clause-done g c =
+    let s0 = g.S.SlotCalls.state c.args.stock.now in
+    let s1 = g.S.SlotCalls.state c.convert.new.self in
+    let s2 = g.S.SlotCalls.state c.follow_copied.new.slots in
+    inr (perhaps-after s0 s1 s2 c.in_ok-copied.ensures.ends c.in_ok-follow_copied.ensures.done)

@@ -1,6 +1,7 @@
 use Rattle.std.proofs.lemmas.Result.{err_from_is_err_and}
 use Rattle.sector_map.specs.Maps.{KeptServing}
 use Rattle.sector_map.proofs.MapCalls.{kept-after, keeps-after, after-ok}
+use Rattle.erase_journal.proofs.SettledLaws.{settles-since}
 use Rattle.sector_map.proofs.steps.level_all.Goals as goal
 
 pub returns-in_err-even_out-clause-cut : goal.returns-in_err-even_out-clause-cut
@@ -21,3 +22,11 @@ returns-clause-ok g c =
 pub returns-clause-cut : goal.returns-clause-cut
 returns-clause-cut g c is =
     keeps-after (g.S.SlotCalls.state c.args.stock.now).memory (g.S.SlotCalls.state c.even_out.new.stock).memory (g.S.SlotCalls.state c.move_if_due.new.stock).memory c.in_ok-even_out.ensures.ok.keeps (c.move_if_due.ensures.cut is)
+
+pub returns-clause-ends : goal.returns-clause-ends
+returns-clause-ends g c =
+    let s0 = g.S.SlotCalls.state c.args.stock.now in
+    let s1 = g.S.SlotCalls.state c.even_out.new.stock in
+    let s2 = g.S.SlotCalls.state c.move_if_due.new.stock in
+    let done = c.in_ok-even_out.ensures.ends in
+    settles-since c.move_if_due.result s0 s1 s2 done.ready done.kept c.move_if_due.ensures.ends

@@ -6,6 +6,10 @@ use Rattle.sector_stock.specs.Index.{erases_of}
 use Rattle.sector_stock.specs.Takes.{IsErasedOnce}
 use Rattle.sector_map.proofs.MapCalls.{keeps-after}
 use Rattle.sector_map.proofs.Evening.{Renewing, renewing-none, renewing-quiet, renewing-more, round-nearer, fewest-of}
+use Rattle.nor_driver.specs.State.{Refuses}
+use Rattle.nor_driver.proofs.CallLaws.{fails-as}
+use Rattle.erase_journal.specs.Steps.{SucceedsSettled}
+use Rattle.erase_journal.proofs.SettledLaws.{refuses-settled}
 use Rattle.sector_map.proofs.steps.renew_all.Goals as goal
 use Rattle.sector_map.proofs.steps.renew_all.Goals.{then-erases-fewest+in_ok-renew_one, else-erases-fewest}
 
@@ -59,3 +63,11 @@ loop-block-preserved g c =
 
 pub returns-clause-nearer : goal.returns-clause-nearer
 returns-clause-nearer g c = round-nearer (erases_of (g.S.Reclaim.counts c.args.stock.now) c.args.least) (data_blocks (g.S.SlotCalls.state c.args.stock.now).memory) c.loop-block.block (erases_of (g.S.Reclaim.counts c.args.stock.now)) (erases_of (g.S.Reclaim.counts c.loop-block.stock)) (omega (arith, c.loop-block-test.false, c.blocks-count.ensures.count)) (fewest-of c.args.least (data_blocks (g.S.SlotCalls.state c.args.stock.now).memory) (erases_of (g.S.Reclaim.counts c.args.stock.now)) c.requires.least) c.loop-block.invariant.renewing.round
+
+pub returns-in_err-renew_one-clause-ends : goal.returns-in_err-renew_one-clause-ends
+returns-in_err-renew_one-clause-ends g c =
+    let s0 = g.S.SlotCalls.state c.args.stock.now in
+    let s1 = g.S.SlotCalls.state c.loop-block.stock in
+    let s2 = g.S.SlotCalls.state c.renew_one.new.stock in
+    fails-as c.from_residual.result _ (λ _. SucceedsSettled s0 s2) (λ e. Refuses e s0 s2) c.from_residual.ensures.1
+    (refuses-settled _ s0 s1 s2 c.loop-block.invariant.renewing.since c.in_err-renew_one.ensures.ends)

@@ -1,6 +1,9 @@
 use Rattle.std.proofs.lemmas.Result.{err_from_is_err_and}
 use Rattle.std.proofs.Common.{◌∙◌, ◌≡◌, subst, arith}
-use Rattle.erase_journal.proofs.SettledLaws.{settled-after}
+use Rattle.nor_driver.specs.State.{Refuses}
+use Rattle.nor_driver.proofs.CallLaws.{fails-as}
+use Rattle.erase_journal.specs.Steps.{SucceedsSettled}
+use Rattle.erase_journal.proofs.SettledLaws.{refuses-settled, settled-after}
 use Rattle.sector_stock.specs.CopySteps.{CopyProgress}
 use Rattle.sector_stock.proofs.Copying.{begin-cut, begin-keeps, begin-progress, copy-cut, copy-keeps, copy-progress}
 use Rattle.sector_stock.proofs.copy.copy_all.Goals as goal
@@ -50,3 +53,11 @@ returns-in_err-copy-clause-cut_fresh g c is h =
     let p = err_from_is_err_and c.from_residual-in_err-copy.result c.from_residual-in_err-copy.ensures.1 in
     copy-keeps c.loop-place.place c.args.source c.args.target (g.S.SlotCalls.state c.args.slots.now).memory (g.S.SlotCalls.state c.loop-place.slots).memory (g.S.SlotCalls.state c.copy.new.self).memory
     c.loop-place-test.true (c.loop-place.invariant.progress h) (c.in_err-copy.ensures.cut_only (cc (p.1, p.2))) (c.in_err-copy.ensures.cut (cc (p.1, p.2)))
+
+pub returns-in_err-copy-clause-ends : goal.returns-in_err-copy-clause-ends
+returns-in_err-copy-clause-ends g c =
+    let s0 = g.S.SlotCalls.state c.args.slots.now in
+    let s1 = g.S.SlotCalls.state c.loop-place.slots in
+    let s2 = g.S.SlotCalls.state c.copy.new.self in
+    fails-as c.from_residual-in_err-copy.result _ (λ _. SucceedsSettled s0 s2) (λ e. Refuses e s0 s2) c.from_residual-in_err-copy.ensures.1
+    (refuses-settled _ s0 s1 s2 c.loop-place.invariant.since c.in_err-copy.ensures.ends)

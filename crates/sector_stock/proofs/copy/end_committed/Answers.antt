@@ -1,5 +1,9 @@
 use Rattle.std.proofs.Common.{◌+◌}
 use Rattle.std.proofs.lemmas.Result.{err_from_is_err_and}
+use Rattle.nor_driver.specs.State.{Refuses}
+use Rattle.nor_driver.proofs.CallLaws.{fails-as}
+use Rattle.erase_journal.specs.Steps.{SucceedsSettled}
+use Rattle.erase_journal.proofs.SettledLaws.{refuses-settled, settled-after}
 use Rattle.sector_stock.proofs.Copying.{source-erasable, committed-found, erase-cut, erase-done, settle-cut, committed-ends, ended-whole}
 use Rattle.sector_stock.proofs.copy.end_committed.Goals as goal
 
@@ -35,3 +39,18 @@ returns-clause-exact g c h =
     let m1 = (g.S.SlotCalls.state c.erase.new.self).memory in
     let one = erase-done c.args.source c.args.target m m m1 (committed-found c.args.source c.args.target m h) c.in_ok-erase.ensures.ok in
     ended-whole c.args.source c.args.target m m1 (g.S.SlotCalls.state c.settle.new.self).memory h c.in_ok-erase.ensures.ok c.in_ok-settle.ensures.only (c.in_ok-settle.ensures.ok (c.args.source + 4) one.committed.committed)
+
+pub returns-in_err-settle-clause-ends : goal.returns-in_err-settle-clause-ends
+returns-in_err-settle-clause-ends g c =
+    let s0 = g.S.SlotCalls.state c.args.slots.now in
+    let s1 = g.S.SlotCalls.state c.erase.new.self in
+    let s2 = g.S.SlotCalls.state c.settle.new.self in
+    fails-as c.from_residual-in_err-settle.result _ (λ _. SucceedsSettled s0 s2) (λ e. Refuses e s0 s2) c.from_residual-in_err-settle.ensures.1
+    (refuses-settled _ s0 s1 s2 c.in_ok-erase.ensures.ends c.in_err-settle.ensures.ends)
+
+pub returns-clause-ends : goal.returns-clause-ends
+returns-clause-ends g c =
+    let s0 = g.S.SlotCalls.state c.args.slots.now in
+    let s1 = g.S.SlotCalls.state c.erase.new.self in
+    let s2 = g.S.SlotCalls.state c.settle.new.self in
+    settled-after s0 s1 s2 c.in_ok-erase.ensures.ends c.in_ok-settle.ensures.ends

@@ -1,5 +1,8 @@
 use Rattle.std.proofs.lemmas.Result.{err_from_is_err_and}
-use Rattle.erase_journal.proofs.SettledLaws.{settled-healthy}
+use Rattle.nor_driver.specs.State.{Refuses}
+use Rattle.nor_driver.proofs.CallLaws.{fails-as}
+use Rattle.erase_journal.specs.Steps.{SucceedsSettled}
+use Rattle.erase_journal.proofs.SettledLaws.{settled-healthy, refuses-settled, settled-after}
 use Rattle.sector_stock.proofs.Copying.{commit-cut, commit-done, finish-cut, finish-done}
 use Rattle.sector_stock.proofs.copy.finish.Goals as goal
 
@@ -29,3 +32,18 @@ returns-clause-ok g c h =
     let now = c.in_ok-commit.ensures.ok c.args.source h.begun in
     let found = commit-done c.args.source c.args.target m m1 h c.in_ok-commit.ensures.only now in
     finish-done c.args.source c.args.target m m1 (g.S.SlotCalls.state c.end_committed.new.slots).memory h c.in_ok-commit.ensures.only now (c.in_ok-end_committed.ensures.ok found) (c.in_ok-end_committed.ensures.exact found)
+
+pub returns-in_err-end_committed-clause-ends : goal.returns-in_err-end_committed-clause-ends
+returns-in_err-end_committed-clause-ends g c =
+    let s0 = g.S.SlotCalls.state c.args.slots.now in
+    let s1 = g.S.SlotCalls.state c.commit.new.self in
+    let s2 = g.S.SlotCalls.state c.end_committed.new.slots in
+    fails-as c.from_residual-in_err-end_committed.result _ (λ _. SucceedsSettled s0 s2) (λ e. Refuses e s0 s2) c.from_residual-in_err-end_committed.ensures.1
+    (refuses-settled _ s0 s1 s2 c.in_ok-commit.ensures.ends c.in_err-end_committed.ensures.ends)
+
+pub returns-clause-ends : goal.returns-clause-ends
+returns-clause-ends g c =
+    let s0 = g.S.SlotCalls.state c.args.slots.now in
+    let s1 = g.S.SlotCalls.state c.commit.new.self in
+    let s2 = g.S.SlotCalls.state c.end_committed.new.slots in
+    settled-after s0 s1 s2 c.in_ok-commit.ensures.ends c.in_ok-end_committed.ensures.ends

@@ -1,5 +1,8 @@
 use Rattle.std.proofs.lemmas.Result.{err_from_is_err_and}
-use Rattle.erase_journal.proofs.SettledLaws.{settled-healthy, settled-after}
+use Rattle.nor_driver.specs.State.{Refuses}
+use Rattle.nor_driver.proofs.CallLaws.{fails-as}
+use Rattle.erase_journal.specs.Steps.{SucceedsSettled}
+use Rattle.erase_journal.proofs.SettledLaws.{settled-healthy, settled-after, refuses-settled}
 use Rattle.sector_stock.proofs.Renewing.{spare-erasable, spare-cut_keeps, spare-copyable, moves-afresh, afresh-cut}
 use Rattle.sector_stock.proofs.copy.move_afresh.Goals as goal
 
@@ -36,3 +39,11 @@ returns-clause-ok g c h =
 
 pub returns-clause-ends : goal.returns-clause-ends
 returns-clause-ends g c = settled-after (g.S.SlotCalls.state c.args.slots.now) (g.S.SlotCalls.state c.erase.new.self) (g.S.SlotCalls.state c.reclaim_into.new.slots) c.in_ok-erase.ensures.ends c.in_ok-reclaim_into.ensures.ends
+
+pub returns-in_err-reclaim_into-clause-ends : goal.returns-in_err-reclaim_into-clause-ends
+returns-in_err-reclaim_into-clause-ends g c =
+    let s0 = g.S.SlotCalls.state c.args.slots.now in
+    let s1 = g.S.SlotCalls.state c.erase.new.self in
+    let s2 = g.S.SlotCalls.state c.reclaim_into.new.slots in
+    fails-as c.from_residual-in_err-reclaim_into.result _ (λ _. SucceedsSettled s0 s2) (λ e. Refuses e s0 s2) c.from_residual-in_err-reclaim_into.ensures.1
+    (refuses-settled _ s0 s1 s2 c.in_ok-erase.ensures.ends c.in_err-reclaim_into.ensures.ends)

@@ -1,6 +1,9 @@
 use Rattle.std.proofs.Common.{◌/◌, refl, ◌∙◌, arith}
 use Rattle.std.proofs.lemmas.Result.{err_from_is_err_and}
-use Rattle.erase_journal.proofs.SettledLaws.{settled-healthy, settled-after}
+use Rattle.nor_driver.specs.State.{Refuses}
+use Rattle.nor_driver.proofs.CallLaws.{fails-as, kept-none}
+use Rattle.erase_journal.specs.Steps.{SucceedsSettled}
+use Rattle.erase_journal.proofs.SettledLaws.{settled-healthy, refuses-settled, settled-after}
 use Rattle.sector_stock.proofs.Copying.{after-keeps}
 use Rattle.sector_stock.proofs.Moved.{index-dead}
 use Rattle.sector_stock.proofs.Firming.{firm-none, firm-after, firm-room, trusts-none, trusts-after, none-suspect, suspects-fewer}
@@ -17,7 +20,7 @@ loop-slot-init g c = record {
   size = refl;
   states_size = refl;
   blocks_size = refl;
-  since = record { ready = c.requires.ready; kept = record { cuts = refl; slows = refl; powered = refl; is_slow = refl; has_large = refl }; settled = c.requires.settled };
+  since = record { ready = c.requires.ready; kept = kept-none (g.S.SlotCalls.state c.args.slots.now); settled = c.requires.settled };
 }
 
 pub firm_one-requires-clause-index : goal.firm_one-requires-clause-index
@@ -83,3 +86,11 @@ returns-clause-next g c = c.next_suspect.ensures.next (g.S.SlotCalls.state c.loo
 
 pub loop-slot-smaller : goal.loop-slot-smaller
 loop-slot-smaller g c = suspects-fewer (c.in-Some.slot / 7) c.loop-slot.blocks c.firm_one.new.blocks c.in_ok-firm_one.ensures.trusts c.in-Some.ensures.number c.in-Some.ensures.suspect c.in_ok-firm_one.ensures.trusted
+
+pub returns-in_err-firm_one-clause-ends : goal.returns-in_err-firm_one-clause-ends
+returns-in_err-firm_one-clause-ends g c =
+    let s0 = g.S.SlotCalls.state c.args.slots.now in
+    let s1 = g.S.SlotCalls.state c.loop-slot.slots in
+    let s2 = g.S.SlotCalls.state c.firm_one.new.slots in
+    fails-as c.from_residual.result _ (λ _. SucceedsSettled s0 s2) (λ e. Refuses e s0 s2) c.from_residual.ensures.1
+    (refuses-settled _ s0 s1 s2 c.loop-slot.invariant.since c.in_err-firm_one.ensures.ends)

@@ -1,7 +1,10 @@
 use Rattle.std.proofs.Common.{◌∙◌, ap, sym, subst, arith}
 use Rattle.sector_stock.specs.Index.{IsIndexOf}
 use Rattle.sector_slots.specs.Slots.{data_blocks, descriptor_in, data_block, kind_at}
-use Rattle.erase_journal.proofs.SettledLaws.{settled-after}
+use Rattle.nor_driver.specs.State.{Refuses}
+use Rattle.nor_driver.proofs.CallLaws.{fails-as}
+use Rattle.erase_journal.specs.Steps.{SucceedsSettled}
+use Rattle.erase_journal.proofs.SettledLaws.{refuses-settled, settled-after}
 use Rattle.sector_stock.proofs.Filling.{noted-next, listed-noted, numbers-listed, spare-listed, even-noted, index-filled}
 use Rattle.sector_stock.proofs.scan.fill_index.Goals as goal
 
@@ -61,3 +64,11 @@ returns-clause-counted g c d low =
     let all = c.loop-block-test.false in
     let n = c.loop-block.invariant.blocks_size ∙ c.requires.blocks_size in
     ap (λ b. b.erases) (c.loop-block.invariant.noted d (omega (arith, low, n, count, all))).block
+
+pub returns-in_err-kind-2-clause-ends : goal.returns-in_err-kind-2-clause-ends
+returns-in_err-kind-2-clause-ends g c =
+    let s0 = g.S.SlotCalls.state c.args.slots.now in
+    let s1 = g.S.SlotCalls.state c.loop-block.slots in
+    let s2 = g.S.SlotCalls.state c.head.new.self in
+    fails-as c.from_residual-in_err-kind-2.result _ (λ _. SucceedsSettled s0 s2) (λ e. Refuses e s0 s2) c.from_residual-in_err-kind-2.ensures.1
+    (refuses-settled _ s0 s1 s2 c.loop-block.invariant.since c.in_err-kind-2.ensures.ends)

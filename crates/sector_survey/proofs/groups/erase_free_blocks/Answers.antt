@@ -1,5 +1,9 @@
 use Rattle.std.proofs.Common.{◌≡◌, ◌∙◌, ◌+◌, ◌<◌, ap, subst, sym, arith, length}
-use Rattle.erase_journal.proofs.Calls.{Repeated, repeated-more}
+use Rattle.nor_driver.specs.State.{Refuses}
+use Rattle.nor_driver.proofs.CallLaws.{fails-as}
+use Rattle.erase_journal.specs.Steps.{SucceedsSettled}
+use Rattle.erase_journal.proofs.SettledLaws.{refuses-settled}
+use Rattle.erase_journal.proofs.Calls.{Repeated, repeated-more, repeated-then}
 use Rattle.sector_slots.specs.Slots.{data_blocks}
 use Rattle.sector_survey.specs.Cleanness.{FreeBlockTells}
 use Rattle.sector_survey.proofs.Erasing.{ErasedTo, erased-skip, erased-some, tells-unless}
@@ -24,3 +28,12 @@ loop-block-preserved g c =
         | else-is_some w ↦ subst (λ z. ErasedTo (b + 1) m z.memory) (sym w.journal-is) (erased-skip b m c.dirty_byte.new.journal.memory inside erased (tells-unless c.in_ok-dirty_byte.field-0 c.dirty_byte.new.journal.memory b (sym w.if-is_some.ensures) told))
       ];
     }
+
+pub returns-in_err-erase-clause-ends : goal.returns-in_err-erase-clause-ends
+returns-in_err-erase-clause-ends g c =
+    let s0 = c.args.journal.now in
+    let s1 = c.loop-block.journal in
+    let s2 = c.dirty_byte.new.journal in
+    let s3 = c.erase.new.self in
+    fails-as c.from_residual-in_err-erase.result _ (λ _. SucceedsSettled s0 s3) (λ e. Refuses e s0 s3) c.from_residual-in_err-erase.ensures.1
+    (refuses-settled _ s0 s2 s3 (repeated-then c.loop-block.block s0 s1 s2 c.loop-block.invariant.since c.in_ok-dirty_byte.ensures.ends) c.in_err-erase.ensures.ends)

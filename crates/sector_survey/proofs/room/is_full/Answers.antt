@@ -1,9 +1,14 @@
 use Rattle.std.proofs.Common.{◌∙◌, true, false, sym, ap, subst}
 use Rattle.std.specs.Prelude.{Some}
+use Rattle.nor_driver.specs.State.{Refuses}
+use Rattle.nor_driver.proofs.CallLaws.{fails-as}
+use Rattle.erase_journal.specs.Steps.{SucceedsSettled}
+use Rattle.erase_journal.proofs.SettledLaws.{settled-after, refuses-settled}
 use Rattle.sector_slots.specs.Slots.{data_blocks, kind_at}
 use Rattle.sector_slots.specs.Blocks.{HasGroupRoom, dead_group}
 use Rattle.sector_map.specs.Mending.{IsMixedPair, PairsSeen, HasDeadGroup}
 use Rattle.sector_map.proofs.Grouping.{pair-room, none-room}
+use Rattle.sector_map.proofs.MapCalls.{perhaps-after}
 use Rattle.sector_survey.proofs.room.is_full.Goals as goal
 
 pub unreachable-requires : goal.unreachable-requires
@@ -37,3 +42,43 @@ returns-in-None-2-clause-none g c is =
           let e : HasDeadGroup (g.S.SlotCalls.state c.has_pair.new.slots).memory = subst (λ z. HasDeadGroup z) (sym same) d in
           c.in_ok-lowest_dead_group.ensures.none c.in-None-2.is e.0 e.1.0 e.1.1;
     }
+
+pub returns-in_err-has_pair-clause-ends : goal.returns-in_err-has_pair-clause-ends
+returns-in_err-has_pair-clause-ends g c =
+    let s0 = g.S.SlotCalls.state c.args.slots.now in
+    let s1 = g.S.SlotCalls.state c.has_spare.new.slots in
+    let s2 = g.S.SlotCalls.state c.has_pair.new.slots in
+    fails-as c.from_residual-in_err-has_pair.result _ (λ _. SucceedsSettled s0 s2) (λ e. Refuses e s0 s2) c.from_residual-in_err-has_pair.ensures.1
+    (refuses-settled _ s0 s1 s2 c.in_ok-has_spare.ensures.ends c.in_err-has_pair.ensures.fails)
+
+pub returns-in-Some-true-clause-ends : goal.returns-in-Some-true-clause-ends
+returns-in-Some-true-clause-ends g c =
+    let s0 = g.S.SlotCalls.state c.args.slots.now in
+    let s1 = g.S.SlotCalls.state c.has_spare.new.slots in
+    let s2 = g.S.SlotCalls.state c.has_pair.new.slots in
+    perhaps-after s0 s1 s2 c.in_ok-has_spare.ensures.ends c.in_ok-has_pair.ensures.done
+
+pub returns-in_err-lowest_dead_group-clause-ends : goal.returns-in_err-lowest_dead_group-clause-ends
+returns-in_err-lowest_dead_group-clause-ends g c =
+    let s0 = g.S.SlotCalls.state c.args.slots.now in
+    let s1 = g.S.SlotCalls.state c.has_spare.new.slots in
+    let s2 = g.S.SlotCalls.state c.has_pair.new.slots in
+    let s3 = g.S.SlotCalls.state c.lowest_dead_group.new.slots in
+    fails-as c.from_residual-in_err-lowest_dead_group.result _ (λ _. SucceedsSettled s0 s3) (λ e. Refuses e s0 s3) c.from_residual-in_err-lowest_dead_group.ensures.1
+    (refuses-settled _ s0 s2 s3 (perhaps-after s0 s1 s2 c.in_ok-has_spare.ensures.ends c.in_ok-has_pair.ensures.done) c.in_err-lowest_dead_group.ensures.ends)
+
+pub returns-in-Some-clause-ends : goal.returns-in-Some-clause-ends
+returns-in-Some-clause-ends g c =
+    let s0 = g.S.SlotCalls.state c.args.slots.now in
+    let s1 = g.S.SlotCalls.state c.has_spare.new.slots in
+    let s2 = g.S.SlotCalls.state c.has_pair.new.slots in
+    let s3 = g.S.SlotCalls.state c.lowest_dead_group.new.slots in
+    settled-after s0 s2 s3 (perhaps-after s0 s1 s2 c.in_ok-has_spare.ensures.ends c.in_ok-has_pair.ensures.done) c.in_ok-lowest_dead_group.ensures.ends
+
+pub returns-in-None-2-clause-ends : goal.returns-in-None-2-clause-ends
+returns-in-None-2-clause-ends g c =
+    let s0 = g.S.SlotCalls.state c.args.slots.now in
+    let s1 = g.S.SlotCalls.state c.has_spare.new.slots in
+    let s2 = g.S.SlotCalls.state c.has_pair.new.slots in
+    let s3 = g.S.SlotCalls.state c.lowest_dead_group.new.slots in
+    settled-after s0 s2 s3 (perhaps-after s0 s1 s2 c.in_ok-has_spare.ensures.ends c.in_ok-has_pair.ensures.done) c.in_ok-lowest_dead_group.ensures.ends

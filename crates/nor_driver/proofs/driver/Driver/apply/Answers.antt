@@ -1,8 +1,8 @@
-use Rattle.std.proofs.Common.{ap, subst, sym, ◌∙◌}
+use Rattle.std.proofs.Common.{ap, refl, subst, sym, ◌∙◌}
 use Rattle.std.proofs.lemmas.Bool.{or_right}
-use Rattle.chip_model.specs.Chip.{Chip, is_idle}
+use Rattle.chip_model.specs.Chip.{Chip, is_idle, completed}
 use Rattle.chip_model.proofs.FrameLaws.{KeepsShape, still_open}
-use Rattle.nor_driver.proofs.Shape.{done_shape, slow_shape, started_table, after_loss, when_down}
+use Rattle.nor_driver.proofs.Shape.{done_shape, done_firmer, slow_shape, started_table, after_loss, cause, when_down}
 use Rattle.nor_driver.proofs.Stays.{accepted_shape}
 use Rattle.nor_driver.proofs.driver.Driver.apply.Goals as goal
 
@@ -40,3 +40,22 @@ pub returns-in-Err-Cut-clause-cut_bits : goal.returns-in-Err-Cut-clause-cut_bits
 returns-in-Err-Cut-clause-cut_bits g c = λ e.
     let h = rw c.in-Err-Cut.field-0-is at c.in-Err-Cut.ensures.err in
     (after_loss _ _ _ _ _ (when_down _ _ c.if-self.false c.args.self.now.idle) c.requires.begins h.0).bits
+
+pub returns-in-Ok-clause-kept : goal.returns-in-Ok-clause-kept
+returns-in-Ok-clause-kept g c =
+    let old = g.B.SpiBus.chip c.args.self.now.bus in
+    let is = c.in-Ok.ensures.chip in
+    record {
+      bits = done_firmer old (g.B.SpiBus.chip c.change.new.bus) c.args.frame.now c.requires.begins is;
+      cuts = c.in-Ok.ensures.cuts;
+      slows = c.in-Ok.ensures.slows;
+      powered = ap (λ (x : Chip). x.powered) is ∙ ap (λ (x : Chip). (completed x).powered) c.requires.begins.is;
+      is_slow = refl;
+      has_large = refl;
+    }
+
+pub returns-in-Err-Cut-clause-fails : goal.returns-in-Err-Cut-clause-fails
+returns-in-Err-Cut-clause-fails g c =
+    let h = rw c.in-Err-Cut.field-0-is at c.in-Err-Cut.ensures.err in
+    let l = after_loss _ _ _ _ _ (when_down _ _ c.if-self.false c.args.self.now.idle) c.requires.begins h.0 in
+    (cause _ _ _ _ _ h.0, h.1, l.powered, refl, refl, l.interrupted)

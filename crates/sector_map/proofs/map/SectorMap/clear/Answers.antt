@@ -3,7 +3,7 @@ use Rattle.std.proofs.lemmas.List.{with_items_is}
 use Rattle.chip_model.specs.Geometry.{sector_count}
 use Rattle.sector_slots.specs.Sectors.{zeros}
 use Rattle.sector_map.proofs.MapCalls.{keeps-none}
-use Rattle.sector_map.proofs.Restoring.{cut-store, leaves-store, known-after, known-latched}
+use Rattle.sector_map.proofs.Restoring.{cut-store, leaves-store, known-after, known-latched, latched-refuses, shown-refuses}
 use Rattle.sector_map.proofs.Opening.{shown-succeeds}
 use Rattle.sector_map.proofs.map.SectorMap.clear.Goals as goal
 
@@ -33,3 +33,9 @@ invariant_of-self-in-Err g c = record {
   standing = known-latched c.self.inside.latched c.in-Err.error c.self.inside.table.items _ c.self.inside.stock.slots c.clear_as.new.stock.slots c.self.inside.stock.indexed c.clear_as.new.stock.indexed c.in_default.is c.self.invariant.standing c.in-Err.ensures.ends
       (λ e. leaves-store c.args.sector zeros c.self.inside.stock.slots.memory c.clear_as.new.stock.slots.memory (c.clear_as.ensures.cut (c.in-Err.is ∙ ap Err e)));
 }
+
+pub returns-in-Some-clause-ends : goal.returns-in-Some-clause-ends
+returns-in-Some-clause-ends g c = rw (← c.self.view_is) (latched-refuses c.self.inside.latched c.in-Some.error c.self.inside.table.items c.self.inside.stock.slots c.self.inside.stock.indexed c.in-Some.is c.self.invariant.standing)
+
+pub returns-in-Err-clause-ends : goal.returns-in-Err-clause-ends
+returns-in-Err-clause-ends g c = rw (← c.self.view_is) (shown-refuses c.self.inside.latched c.in-Err.error c.self.inside.table.items c.self.inside.stock.slots c.clear_as.new.stock.slots c.self.inside.stock.indexed c.in_default.is c.self.invariant.standing c.in-Err.ensures.ends)

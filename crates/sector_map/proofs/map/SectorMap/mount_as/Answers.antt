@@ -1,6 +1,6 @@
 use Rattle.std.proofs.Common.{rules, subst}
 use Rattle.nor_driver.specs.State.{NorFails}
-use Rattle.sector_map.proofs.Opening.{looked-fails, look-was-cut}
+use Rattle.sector_map.proofs.Opening.{looked-fails, look-was-cut, looked-mounted}
 use Rattle.sector_map.proofs.map.SectorMap.mount_as.Goals as goal
 
 pub returns-in-Ok-Ok-clause-fails : goal.returns-in-Ok-Ok-clause-fails
@@ -16,3 +16,7 @@ returns-in-Ok-Err-NotFormatted-clause-fails g c = search rules
 pub returns-in-Err-Cut-clause-fails : goal.returns-in-Err-Cut-clause-fails
 returns-in-Err-Cut-clause-fails g c =
     look-was-cut (g.N.Nor.state c.args.nor) (g.N.Nor.state c.look.new.nor) (subst (λ e. NorFails e (g.N.Nor.state c.args.nor) (g.N.Nor.state c.look.new.nor)) c.in-Err-Cut.field-0-is c.in-Err-Cut.ensures.fails) c.look.ensures.same
+
+pub returns-in-Ok-Ok-clause-ok : goal.returns-in-Ok-Ok-clause-ok
+returns-in-Ok-Ok-clause-ok g c =
+    looked-mounted (λ map. map) c.recover.result (g.N.Nor.state c.args.nor) (g.N.Nor.state c.look.new.nor) c.in-Ok-Ok.ensures.same c.in-Ok-Ok.ensures.ready c.in-Ok-Ok.ensures.kept c.recover.ensures.ok

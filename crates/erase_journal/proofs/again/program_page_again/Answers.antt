@@ -1,0 +1,26 @@
+use Rattle.std.proofs.Common.{◌≡◌, ◌+◌, ℕ, List, length, refl, ap, ◌∙◌, sym, subst, arith}
+use Rattle.std.proofs.lemmas.Result.{on_ok_weaker}
+use Rattle.std.specs.Prelude.{slice_range}
+use Rattle.chip_model.specs.Memory.{byte}
+use Rattle.nor_driver.specs.State.{bits_in}
+use Rattle.erase_journal.specs.Weak.{AreZerosFirm}
+use Rattle.erase_journal.proofs.Data.{slice-byte}
+use Rattle.erase_journal.proofs.WeakLaws.{blank-firm}
+use Rattle.erase_journal.proofs.again.program_page_again.Goals as goal
+
+pub returns-then-is_blank-clause-firm : goal.returns-then-is_blank-clause-firm
+returns-then-is_blank-clause-firm g c =
+    let m = (g.N.Nor.state c.args.nor.now).memory in
+    let new = g.N.Nor.state c.read.new.self in
+    let same : new.memory ≡ m = c.in_ok-read.ensures.same in
+    let long : length c.read.new.into ≡ 256 = c.read.auto.into in
+    let read : c.read.new.into ≡ slice_range m c.args.at (c.args.at + 256) = c.in_ok-read.ensures.ok in
+    blank-firm (bits_in new) c.args.at 256 (λ k low.
+    ap (λ (x : List ℕ). byte x (c.args.at + k)) same
+    ∙ (sym (ap (λ (x : List ℕ). byte x k) read ∙ slice-byte m c.args.at 256 k low)
+    ∙ c.if-is_blank.ensures.blank refl k (omega (arith, long, low))))
+
+pub returns-clause-firm : goal.returns-clause-firm
+returns-clause-firm g c =
+    let long : length c.read.new.into ≡ 256 = c.read.auto.into in
+    on_ok_weaker c.program_again.result (λ f. subst (λ n. AreZerosFirm (bits_in (g.N.Nor.state c.program_again.new.nor)) c.args.at n) long f) c.program_again.ensures.firm

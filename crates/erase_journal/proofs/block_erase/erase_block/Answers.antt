@@ -1,0 +1,21 @@
+use Rattle.nor_driver.specs.State.{Refuses}
+use Rattle.nor_driver.proofs.CallLaws.{fails-as, kept-after, ready-back, refuses-perhaps}
+use Rattle.erase_journal.specs.Steps.{SucceedsSettled}
+use Rattle.erase_journal.proofs.block_erase.erase_block.Goals as goal
+
+pub returns-in_err-erase_with_entry-clause-ends : goal.returns-in_err-erase_with_entry-clause-ends
+returns-in_err-erase_with_entry-clause-ends g c =
+    let s0 = g.N.Nor.state c.args.nor.now in
+    let s1 = g.N.Nor.state c.rest.new.nor in
+    let s2 = g.N.Nor.state c.erase_with_entry.new.nor in
+    fails-as c.from_residual-in_err-erase_with_entry.result _ (λ _. SucceedsSettled s0 s2) (λ e. Refuses e s0 s2) c.from_residual-in_err-erase_with_entry.ensures.1
+    (refuses-perhaps _ s0 s1 s2 c.in_ok-rest.ensures.idle c.in_ok-rest.ensures.kept c.in_err-erase_with_entry.ensures.ends)
+
+pub returns-clause-ends : goal.returns-clause-ends
+returns-clause-ends g c =
+    let s0 = g.N.Nor.state c.args.nor.now in
+    let s1 = g.N.Nor.state c.rest.new.nor in
+    let s2 = g.N.Nor.state c.erase_with_entry.new.nor in
+    let k = c.in_ok-rest.ensures.kept in
+    let s = c.in_ok-erase_with_entry.ensures.ends in
+    record { ready = ready-back s0 s1 k s.ready; kept = kept-after s0 s1 s2 k s.kept; settled = s.settled }
