@@ -1,9 +1,10 @@
 -- One call after another that ends settled.
 use Rattle.std.proofs.Common.{◌≡◌, ℕ, ◌<◌, refl, arith}
-use Rattle.nor_driver.specs.State.{NorState, Refuses}
+use Rattle.nor_driver.specs.State.{NorState}
 use Rattle.nor_driver.specs.declared.error.NorError.{NorError}
-use Rattle.erase_journal.specs.Steps.{SucceedsSettled}
-use Rattle.erase_journal.proofs.SettledLaws.{settled-after, refuses-settled}
+use Rattle.erase_journal.specs.Steps.{RefusesFirmly, SucceedsSettled}
+use Rattle.erase_journal.proofs.SettledLaws.{settled-after}
+use Rattle.erase_journal.proofs.Firmly.{refuses-firmly}
 
 -- After so many calls that answered Ok: none was made, or they leave together what one leaves.
 pub data Repeated (n : ℕ) (old new : NorState) : Type 0 where
@@ -14,9 +15,9 @@ pub repeated-then : (n : ℕ) (a b c : NorState) → Repeated n a b → Succeeds
 repeated-then n a b c (not_begun z e) s = rw e at s
 repeated-then n a b c (begun s) t = settled-after a b c s t
 
-pub repeated-refuses : (n : ℕ) (e : NorError) (a b c : NorState) → Repeated n a b → Refuses e b c → Refuses e a c
+pub repeated-refuses : (n : ℕ) (e : NorError) (a b c : NorState) → Repeated n a b → RefusesFirmly e b c → RefusesFirmly e a c
 repeated-refuses n e a b c (not_begun z f) r = rw f at r
-repeated-refuses n e a b c (begun s) r = refuses-settled e a b c s r
+repeated-refuses n e a b c (begun s) r = refuses-firmly e a b c s r
 
 pub repeated-all : (n : ℕ) (a b : NorState) → 0 < n → Repeated n a b → SucceedsSettled a b
 repeated-all n a b some (not_begun z e) = absurd (omega arith)

@@ -20,12 +20,12 @@ use Rattle.nor_layout.specs.Entries.{entry_at}
 use Rattle.erase_journal.specs.Journals.{IsSettled, votes_at, entry_byte, is_free_entry, free_entries, unused}
 use Rattle.erase_journal.specs.Places.{Changed, how_many}
 use Rattle.erase_journal.specs.Scans.{is_free_in}
-use Rattle.erase_journal.specs.Steps.{EndsSettled, IsRestful, OneChanged}
+use Rattle.erase_journal.specs.Steps.{EndsSettled, IsRestful, OneChanged, SucceedsSettled}
 use Rattle.erase_journal.proofs.Data.{slice-byte}
 use Rattle.erase_journal.specs.Spending.{HasSpare}
 use Rattle.erase_journal.specs.Weak.{AreFirm, AreZerosFirm, IsFirmJournal, IsFirmVote, firm, given_up, IsLowestUnused, IsRecoveredVote, is_firm, lowest, AreRecoveredVotes, AreFirmVotes, AreFirmOrFew, are_firm, few, InEachRegion, IsUsedForGood, IsLowestFreeEntry, GivesUpLowest, AreUsedForGood, AreRecoveredJournals, AreFirmJournals}
 use Rattle.erase_journal.proofs.Counts.{how_many-below, how_many-none, how_many-suc, how_many-zero}
-use Rattle.erase_journal.proofs.RecoveredVotes.{IsSettledByte, IsVoteByte, not-unused, recovered, still-used, votes-are}
+use Rattle.erase_journal.proofs.RecoveredVotes.{IsSettledByte, IsVoteByte, below-four, not-unused, recovered, still-used, votes-are}
 use Rattle.erase_journal.proofs.WeakLaws.{are-firm-stays, firm-byte-stays, firm-stays}
 
 -- bits that read 0, firmly, do so still
@@ -76,7 +76,7 @@ settled-votes m place k opened wrong low =
     settled-byte (byte m (place + k)) (votes-are m place wrong k low) (how_many-none (λ i. byte m (place + i) == 254) 1024 opened k low)
 
 -- a number below 2 whose bits are among those of one below 2
-below-two : (a b : Bits) (i : ℕ) → IsFirmer a b → byte a.weak i ≤ 1 → byte b.weak i ≤ 1
+pub below-two : (a b : Bits) (i : ℕ) → IsFirmer a b → byte a.weak i ≤ 1 → byte b.weak i ≤ 1
 below-two a b i f low =
     let none : byte b.weak i / 2 ≡ 0 = same_from_bits (byte b.weak i / 2) 0 (λ k.
     sym (bit_at-suc (byte b.weak i) k)
@@ -185,12 +185,12 @@ module _ (a b : Bits) (place : ℕ) (aligned : place % 1024 ≡ 0) (f : IsFirmer
   given-firm h one k low = given-one k low one (h k low) (cases_eq k one.at)
 
 -- what a settled memory has in each region
-settled-first : (m : List ℕ) → IsSettled m → (x : JournalId) → (i : ℕ) → i < 1024 → IsSettledByte (byte m (first_at x + i))
+pub settled-first : (m : List ℕ) → IsSettled m → (x : JournalId) → (i : ℕ) → i < 1024 → IsSettledByte (byte m (first_at x + i))
 settled-first m h J0 i low = (let v = h.sound.phase.0.0 in settled-votes m (first_at J0) i v.0 v.1 low)
 settled-first m h J1 i low = (let v = h.sound.phase.1.0 in settled-votes m (first_at J1) i v.0 v.1 low)
 settled-first m h J2 i low = (let v = h.sound.phase.2.0 in settled-votes m (first_at J2) i v.0 v.1 low)
 
-settled-second : (m : List ℕ) → IsSettled m → (x : JournalId) → (i : ℕ) → i < 1024 → IsSettledByte (byte m (second_at x + i))
+pub settled-second : (m : List ℕ) → IsSettled m → (x : JournalId) → (i : ℕ) → i < 1024 → IsSettledByte (byte m (second_at x + i))
 settled-second m h J0 i low = (let v = h.sound.phase.0.1 in settled-votes m (second_at J0) i v.0 v.1 low)
 settled-second m h J1 i low = (let v = h.sound.phase.1.1 in settled-votes m (second_at J1) i v.0 v.1 low)
 settled-second m h J2 i low = (let v = h.sound.phase.2.1 in settled-votes m (second_at J2) i v.0 v.1 low)
@@ -198,12 +198,12 @@ settled-second m h J2 i low = (let v = h.sound.phase.2.1 in settled-votes m (sec
 vote-settled : (x : ℕ) → IsSettledByte x → IsVoteByte x
 vote-settled x s = elim s [ inl e ↦ inl e | inr used ↦ inr (inr used) ]
 
-aligned-first : (x : JournalId) → first_at x % 1024 ≡ 0
+pub aligned-first : (x : JournalId) → first_at x % 1024 ≡ 0
 aligned-first J0 = refl
 aligned-first J1 = refl
 aligned-first J2 = refl
 
-aligned-second : (x : JournalId) → second_at x % 1024 ≡ 0
+pub aligned-second : (x : JournalId) → second_at x % 1024 ≡ 0
 aligned-second J0 = refl
 aligned-second J1 = refl
 aligned-second J2 = refl
@@ -244,7 +244,7 @@ module _ (a b : Bits) (f : IsFirmer a b) (before : IsSettled a.shown) (after : I
   )
 
 -- the two regions of a journal
-pub OfJournal : JournalId → (ℕ → Type 0) → Type 0
+unfoldable pub OfJournal : JournalId → (ℕ → Type 0) → Type 0
 OfJournal x P = P (journal_at x) × P (journal_at x + 1024)
 
 pub of-all : (P : ℕ → Type 0) → OfJournal J0 P → OfJournal J1 P → OfJournal J2 P → InEachRegion P
@@ -297,7 +297,7 @@ pub spared-firm : (a b : Bits) → IsFirmer a b → IsSettled a.shown → IsSett
 spared-firm a b f before after x (inl spare) h = of-stays a b f before after x (spare-regions a x spare (of-each (AreFirmOrFew a) h x))
 spared-firm a b f before after x (inr erased) h = firm-regions b x erased
 
-test-cases : (t : Bool) → (t ≡ true) ⊎ (t ≡ false)
+pub test-cases : (t : Bool) → (t ≡ true) ⊎ (t ≡ false)
 test-cases true = inl refl
 test-cases false = inr refl
 
@@ -329,7 +329,7 @@ same-set p q n sub as_many k low passes = elim (test-cases (p k)) [
 ]
 
 -- an entry whose last byte has a 0 is used
-zero-used : (m : List ℕ) (i k : ℕ) → k < 8 → bit_at (entry_byte m i 3) k ≡ 0 → is_free_entry m i ≡ false
+pub zero-used : (m : List ℕ) (i k : ℕ) → k < 8 → bit_at (entry_byte m i 3) k ≡ 0 → is_free_entry m i ≡ false
 zero-used m i k low reads = last-used m i (not-unused (entry_byte m i 3) k low reads)
 
 -- the entries while one has a weak bit: nothing was erased among them
@@ -374,7 +374,7 @@ four-firm w i a b c d k low = elim (cases_eq k 0) [
 ]
 
 -- an entry whose four bytes are firm, or one with a weak bit
-firm-or-weak : (w : List ℕ) (i : ℕ) → AreFirm w (entry_at i) 4 ⊎ ((j : ℕ) × (j < 4) × ((l : ℕ) × (bit_at (byte w (entry_at i + j)) l ≡ 1)))
+pub firm-or-weak : (w : List ℕ) (i : ℕ) → AreFirm w (entry_at i) 4 ⊎ ((j : ℕ) × (j < 4) × ((l : ℕ) × (bit_at (byte w (entry_at i + j)) l ≡ 1)))
 firm-or-weak w i = elim (cases_eq (byte w (entry_at i + 0)) 0) [
   | inr some ↦ inr (0, omega arith, some-bit _ some)
   | inl a ↦ elim (cases_eq (byte w (entry_at i + 1)) 0) [
@@ -412,7 +412,7 @@ lowest-one m i k p q = elim (cases_lt i k) [
 weak-before : (a b : Bits) (i l : ℕ) → IsFirmer a b → bit_at (byte b.weak i) l ≡ 1 → bit_at (byte a.weak i) l ≡ 1
 weak-before a b i l f weak = f.weak i l weak
 
-not-firm : (w : List ℕ) (i j l : ℕ) → AreFirm w (entry_at i) 4 → j < 4 → bit_at (byte w (entry_at i + j)) l ≡ 1 → ⊥
+pub not-firm : (w : List ℕ) (i j l : ℕ) → AreFirm w (entry_at i) 4 → j < 4 → bit_at (byte w (entry_at i + j)) l ≡ 1 → ⊥
 not-firm w i j l firmly inside weak =
     let e = ap (λ x. bit_at x l) (firmly j inside) in
     let z = bit_at-zero l in
@@ -568,3 +568,60 @@ firm-journals-stay a b f before after h = record {
   votes = each-firm-stays a b f before after h.votes;
   entries = entries-stay a b f h.entries;
 }
+
+-- What a recovery left stays while no byte of the journals changes.
+vote-same : (a b : Bits) (place k : ℕ) → IsFirmer a b → ((i : ℕ) → i ≤ k → byte b.shown (place + i) ≡ byte a.shown (place + i)) → IsRecoveredVote a place k → IsRecoveredVote b place k
+vote-same a b place k f same (is_firm (firm none)) = is_firm (firm (firm-byte-stays a b (place + k) f none))
+vote-same a b place k f same (is_firm (given_up low from to)) =
+    let e = same k (omega arith) in
+    is_firm (given_up (below-two a b (place + k) f low) (omega (arith, e, from)) (omega (arith, e, to)))
+vote-same a b place k f same (lowest bits first) =
+    lowest (below-four (byte b.weak (place + k)) (λ l high. firm-stays a b (place + k) l f (bit_at_above (byte a.weak (place + k)) 2 l bits high)))
+    (record { unused = same k (omega arith) ∙ first.unused; below = λ i under e. first.below i under (sym (same i (omega (arith, under))) ∙ e) })
+
+votes-same : (a b : Bits) (place : ℕ) → IsFirmer a b → ((i : ℕ) → 4096 ≤ i → i < 16384 → byte b.shown i ≡ byte a.shown i) → 4096 ≤ place → place + 1024 ≤ 16384 → AreRecoveredVotes a place → AreRecoveredVotes b place
+votes-same a b place f same from to h k low = vote-same a b place k f (λ i under. same (place + i) (omega (arith, from)) (omega (arith, to, low, under))) (h k low)
+
+entry-same : (m m' : List ℕ) (i : ℕ) → ((k : ℕ) → 4096 ≤ k → k < 16384 → byte m' k ≡ byte m k) → i < 512 → is_free_entry m' i ≡ is_free_entry m i
+entry-same m m' i same low =
+    let at = λ (j : ℕ) (small : j < 4). same (entry_at i + j) (omega arith) (omega (arith, low, small)) in
+    rw (at 0 (lit< tt), at 1 (lit< tt), at 2 (lit< tt), at 3 (lit< tt)) refl
+
+pub first-from : (x : JournalId) → 4096 ≤ first_at x
+first-from J0 = omega arith
+first-from J1 = omega arith
+first-from J2 = omega arith
+
+first-to : (x : JournalId) → first_at x + 1024 ≤ 16384
+first-to J0 = omega arith
+first-to J1 = omega arith
+first-to J2 = omega arith
+
+pub second-from : (x : JournalId) → 4096 ≤ second_at x
+second-from J0 = omega arith
+second-from J1 = omega arith
+second-from J2 = omega arith
+
+second-to : (x : JournalId) → second_at x + 1024 ≤ 16384
+second-to J0 = omega arith
+second-to J1 = omega arith
+second-to J2 = omega arith
+
+pub recovered-same : (a b : Bits) → IsFirmer a b → ((i : ℕ) → 4096 ≤ i → i < 16384 → byte b.shown i ≡ byte a.shown i) → AreRecoveredJournals a → AreRecoveredJournals b
+recovered-same a b f same h = record {
+  superblock = are-firm-stays a b 0 16 f h.superblock;
+  votes = λ x. (
+    votes-same a b (first_at x) f same (first-from x) (first-to x) (h.votes x).0,
+    votes-same a b (second_at x) f same (second-from x) (second-to x) (h.votes x).1,
+  );
+  entries = free-firm-stays a b f (λ k low. entry-same a.shown b.shown k same low) h.entries;
+}
+
+-- a call that did nothing, or answered Ok
+pub firm-journals-perhaps : (a b : NorState) → (b ≡ a) ⊎ SucceedsSettled a b → IsSettled a.memory → AreFirmJournals (bits_in a) → AreFirmJournals (bits_in b)
+firm-journals-perhaps a b (inl e) before h = subst (λ (s : NorState). AreFirmJournals (bits_in s)) (sym e) h
+firm-journals-perhaps a b (inr s) before h = firm-journals-stay (bits_in a) (bits_in b) s.kept.bits before s.settled h
+
+pub settled-perhaps : (a b : NorState) → (b ≡ a) ⊎ SucceedsSettled a b → IsSettled a.memory → IsSettled b.memory
+settled-perhaps a b (inl e) h = subst (λ (s : NorState). IsSettled s.memory) (sym e) h
+settled-perhaps a b (inr s) h = s.settled

@@ -19,7 +19,6 @@ pub mod Ready
 pub mod SettledLaws
 pub mod Knowing
 pub mod Marking
-pub mod Calls
 pub mod SameBytes
 pub mod Closing
 pub mod Reopening
@@ -28,3 +27,13 @@ pub mod WeakLaws
 pub mod RecoveredVotes
 pub mod FirmJournals
 pub mod Sparing
+pub mod Interrupted
+pub mod Drawing
+pub mod Draws
+pub mod Losses
+pub mod Begun
+pub mod Cuts
+pub mod EntryCuts
+pub mod Standing
+pub mod Firmly
+pub mod Calls

@@ -37,7 +37,7 @@ unfolding votes_at
 votes-are m place none k low = vote-byte (byte m (place + k)) (how_many-none (λ i. not (byte m (place + i) == 255 || byte m (place + i) == 254 || byte m (place + i) == 252 || byte m (place + i) == 253)) 1024 none k low)
 
 -- numbers whose bits from one on are 0
-below-four : (x : ℕ) → ((l : ℕ) → 2 ≤ l → bit_at x l ≡ 0) → x < 4
+pub below-four : (x : ℕ) → ((l : ℕ) → 2 ≤ l → bit_at x l ≡ 0) → x < 4
 below-four x h =
     let e : x ≡ bit_and x 3 = same_from_bits x (bit_and x 3) (λ l. elim (cases_lt l 2) [
       | inl low ↦ (let a = bit_at_and x 3 l in let b = bit_at_ones 2 l low in let c = bit_at-lt x l in omega (arith, a, b, c))

@@ -4,7 +4,8 @@ use Rattle.erase_journal.specs.declared.firmness.Firmness.{Firmness}
 use Rattle.erase_journal.specs.declared.phase.ErasePhase.{ErasePhase}
 use Rattle.erase_journal.specs.declared.unused.Unused.{Unused}
 use Rattle.erase_journal.specs.Journals.{AreJournalsSound, settled, unused}
-use Rattle.erase_journal.specs.Spending.{Continues, SpendsOne, begun}
+use Rattle.erase_journal.specs.Spending.{Continues, SpendsOne}
+use Rattle.erase_journal.specs.Journals.{begun}
 use Rattle.erase_journal.proofs.Lasting.{same-on}
 use Rattle.erase_journal.specs.Steps.{SameNumbers}
 

@@ -1,6 +1,7 @@
 -- The three journals in a memory: their votes and entries, the phases of an erase of a journal, and
 -- what a healthy memory is. Source: own.
-use Rattle.std.specs.Prelude.{◌≡◌, ℕ, ◌+◌, ◌≤◌, Bool, not, List, [], ◌∷◌, length, ◌==◌, ◌&&◌, ◌||◌}
+use Rattle.std.specs.Prelude.{◌≡◌, ℕ, ◌+◌, ◌<◌, ◌≤◌, Bool, not, List, [], ◌∷◌, length}
+use Rattle.std.specs.Prelude.{◌==◌, ◌&&◌, ◌||◌}
 use Rattle.std.specs.Prelude.{nat_lt}
 use Rattle.chip_model.specs.Memory.{byte}
 use Rattle.chip_model.specs.Geometry.{block_count}
@@ -37,6 +38,10 @@ entry_bytes m i = entry_byte m i 0 ∷ entry_byte m i 1 ∷ entry_byte m i 2 ∷
 -- the block that it names
 abbrev pub entry_block : List ℕ → ℕ → ℕ
 entry_block m i = block_in (entry_bytes m i)
+
+-- the entries of a memory, as they are read, are bytes
+abbrev pub AreEntryBytes : List ℕ → Type 0
+AreEntryBytes m = (i j : ℕ) → i < entry_count → j < 4 → entry_byte m i j < 256
 
 -- free: four FFh
 abbrev pub is_free_entry : List ℕ → ℕ → Bool
@@ -133,6 +138,14 @@ settled Idle u = u
 settled (Asked x) u = renewed x (second_spent x u)
 settled (Doomed x) u = renewed x u
 settled (Closing x) u = u
+
+-- the phase once a recovery has made sure of what it goes on with: a journal that is asked for is
+-- doomed
+abbrev pub begun : ErasePhase → ErasePhase
+begun Idle = Idle
+begun (Asked x) = Doomed x
+begun (Doomed x) = Doomed x
+begun (Closing x) = Closing x
 
 -- The journals are in this phase, and their votes last.
 pub record IsSoundTally (p : ErasePhase) (s : JournalTally) : Type 0 where

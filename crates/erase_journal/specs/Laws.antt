@@ -1,16 +1,17 @@
 -- What follows from the definitions, for the crates above and for a reader. Source: own.
 use Rattle.std.specs.Prelude.{◌≡◌, ◌↔◌, ℕ, ◌<◌, ◌≤◌, true, List, length}
 use Rattle.chip_model.specs.Geometry.{IsChipSize, block_count}
+use Rattle.chip_model.specs.Wavering.{Bits, Drawn}
 use Rattle.nor_driver.specs.State.{NorState, bits_in}
 use Rattle.nor_layout.specs.declared.journal.JournalId.{JournalId}
 use Rattle.nor_layout.specs.Journals.{block_len}
 use Rattle.erase_journal.specs.declared.unused.Unused.{Unused}
 use Rattle.erase_journal.specs.Votes.{Last, IsLowestTired, once_erased}
 use Rattle.nor_layout.specs.Entries.{entry_count}
-use Rattle.erase_journal.specs.Journals.{IsSettled, entry_block, is_open_entry, open_blocks}
+use Rattle.erase_journal.specs.Journals.{IsHealthy, IsSettled, entry_block, is_open_entry, open_blocks}
 use Rattle.erase_journal.specs.Blocks.{block, blank, blocks_of, IsErasedBehind, SameBlocks}
 use Rattle.erase_journal.specs.Steps.{SucceedsSettled}
-use Rattle.erase_journal.specs.Weak.{AreFirmJournals}
+use Rattle.erase_journal.specs.Weak.{AreFirmJournals, AreInterruptedJournals}
 
 -- all blocks have one length
 abbrev pub BlocksHaveOneSize : Type 0
@@ -43,3 +44,10 @@ ErasedChipsAreSettled = (m : List ℕ) → IsChipSize (length m) → IsErasedBeh
 abbrev pub FirmJournalsStayFirm : Type 0
 FirmJournalsStayFirm = (a b : NorState) → IsSettled a.memory → SucceedsSettled a b
     → AreFirmJournals (bits_in a) → AreFirmJournals (bits_in b)
+
+-- firm journals at a power-on: healthy where they were, firm, and such as a firm recovery wants them
+abbrev pub FirmJournalsStandEachDraw : Type 0
+FirmJournalsStandEachDraw = (b : Bits) (v : List ℕ) → AreFirmJournals b → Drawn b.weak b.shown v
+    → (IsHealthy b.shown → IsHealthy v)
+    × AreFirmJournals (record { shown = v; weak = b.weak })
+    × AreInterruptedJournals (record { shown = v; weak = b.weak })

@@ -123,14 +123,6 @@ pub data SpendsOne (firmness : Firmness) (phase : ErasePhase) (m : List ℕ) (u 
       → (phase ≡ Asked x) ⊎ (phase ≡ Doomed x) ⊎ (phase ≡ Closing x)
       → u ≡ first_spent x (unused m) → SpendsOne firmness phase m u
 
--- the phase once a recovery has made sure of what it goes on with: a journal that is asked for is
--- doomed
-abbrev pub begun : ErasePhase → ErasePhase
-begun Idle = Idle
-begun (Asked x) = Doomed x
-begun (Doomed x) = Doomed x
-begun (Closing x) = Closing x
-
 -- A recovery: the erase of a journal that went on in m is ended in m', and nothing else is spent
 -- but what a firm one spends of its own.
 pub record Continues (firmness : Firmness) (m m' : List ℕ) : Type 0 where

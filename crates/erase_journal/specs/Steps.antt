@@ -1,13 +1,17 @@
 -- What the functions of the journal leave. Source: own.
-use Rattle.std.specs.Prelude.{◌≡◌, ◌≢◌, ℕ, ◌+◌, ◌<◌, true, false, List, Result, MatchResult}
+use Rattle.std.specs.Prelude.{◌≡◌, ◌≢◌, ℕ, ◌+◌, ◌<◌, true, false, List, [], ◌∷◌, Result}
+use Rattle.std.specs.Prelude.{MatchResult}
 use Rattle.chip_model.specs.Memory.{byte}
 use Rattle.chip_model.specs.Parts.{part}
+use Rattle.chip_model.specs.Wavering.{Bits}
 use Rattle.nor_layout.specs.declared.journal.JournalId.{JournalId}
 use Rattle.nor_layout.specs.declared.journal.JournalId.TheVariants.{J0, J1, J2}
 use Rattle.nor_layout.specs.Journals.{block_len, region_len}
 use Rattle.nor_layout.specs.Entries.{entry_count, entry_at}
-use Rattle.nor_driver.specs.State.{NorState, IsNorReady, OnlyMemoryChanges, Refuses}
+use Rattle.nor_driver.specs.State.{NorState, IsNorReady, OnlyMemoryChanges, Refuses, NorFails}
+use Rattle.nor_driver.specs.State.{IsFirst, bits_in, Leaves, TornProgramBits, program_bits}
 use Rattle.nor_driver.specs.declared.error.NorError.{NorError}
+use Rattle.nor_driver.specs.declared.error.NorError.TheVariants.{Cut}
 use Rattle.erase_journal.specs.declared.phase.ErasePhase.{ErasePhase}
 use Rattle.erase_journal.specs.declared.phase.ErasePhase.TheVariants.{Idle}
 use Rattle.erase_journal.specs.declared.unused.Unused.{Unused}
@@ -16,6 +20,7 @@ use Rattle.erase_journal.specs.Votes.{IsRested, Last, once_erased}
 use Rattle.erase_journal.specs.Journals.{AreJournalsSound, IsHealthy, IsSettled, unused, settled}
 use Rattle.erase_journal.specs.Journals.{is_open_entry, entry_block, entry_byte}
 use Rattle.erase_journal.specs.Blocks.{SameBlocks, WithErased, blank}
+use Rattle.erase_journal.specs.Weak.{AreFirmJournals, AreInterruptedAtEachDraw}
 
 -- m' is healthy and represents the blocks of m: what a loss of power leaves of a change of the
 -- journals
@@ -40,6 +45,22 @@ abbrev pub EndsSettled : {A : Type 0} → Result A NorError → NorState → Nor
 EndsSettled result old new =
     MatchResult result (λ _. SucceedsSettled old new) (λ e. Refuses e old new)
 
+-- What a loss of power leaves of a call that began with firm journals while no erase went on.
+abbrev pub LosesFirmly : NorState → NorState → Type 0
+LosesFirmly old new = IsSettled old.memory → AreFirmJournals (bits_in old)
+    → AreInterruptedAtEachDraw (bits_in new)
+
+-- a call that failed, as `Refuses` says it, and if the power was lost, as `LosesFirmly` says it
+pub record RefusesFirmly (e : NorError) (old new : NorState) : Type 0 where
+  pub fails : NorFails e old new
+  pub first : IsFirst e old new
+  pub journals : e ≡ Cut → LosesFirmly old new
+
+-- how a call ends: Ok, as `SucceedsSettled` says it, or with an error, as `RefusesFirmly` says it
+abbrev pub EndsFirmly : {A : Type 0} → Result A NorError → NorState → NorState → Type 0
+EndsFirmly result old new =
+    MatchResult result (λ _. SucceedsSettled old new) (λ e. RefusesFirmly e old new)
+
 -- the lowest byte with the old value has changed in a region
 pub record OneChanged (place old new : ℕ) (m m' : List ℕ) : Type 0 where
   pub at : ℕ
@@ -51,6 +72,16 @@ pub record OneChanged (place old new : ℕ) (m m' : List ℕ) : Type 0 where
 pub data PerhapsChanged (place old new : ℕ) (m m' : List ℕ) : Type 0 where
   not_begun : m' ≡ m → PerhapsChanged place old new m m'
   done : OneChanged place old new m m' → PerhapsChanged place old new m m'
+
+-- What a loss of power leaves of the bits: none was changed, or the program of the lowest byte with
+-- the old value was interrupted, or done.
+pub data VoteInterrupted (place old value : ℕ) (a b : Bits) : Type 0 where
+  not_begun : b ≡ a → VoteInterrupted place old value a b
+  in_it : (at : ℕ) → at < region_len → byte a.shown (place + at) ≡ old
+      → ((k : ℕ) → k < at → byte a.shown (place + k) ≢ old)
+      → Leaves a (TornProgramBits a (place + at) (value ∷ []))
+      (program_bits a (place + at) (value ∷ [])) b
+      → VoteInterrupted place old value a b
 
 -- journal x may be erased: no other erase goes on, and the votes last when it is done
 pub record MayErase (x : JournalId) (m : List ℕ) : Type 0 where

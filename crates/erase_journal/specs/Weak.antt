@@ -2,14 +2,15 @@
 use Rattle.std.specs.Prelude.{◌≡◌, ◌≢◌, ◌⊎◌, ℕ, ◌+◌, ◌*◌, ◌<◌, ◌≤◌, true, false, List}
 use Rattle.std.specs.Int.{bit_at}
 use Rattle.chip_model.specs.Memory.{byte}
-use Rattle.chip_model.specs.Wavering.{Bits}
+use Rattle.chip_model.specs.Wavering.{Bits, Drawn}
 use Rattle.nor_layout.specs.declared.journal.JournalId.{JournalId}
+use Rattle.nor_layout.specs.declared.journal.JournalId.TheVariants.{J0}
 use Rattle.nor_layout.specs.Journals.{journal_at, block_len, region_len, first_at, second_at}
 use Rattle.nor_layout.specs.Entries.{entry_count, entry_at}
 use Rattle.erase_journal.specs.declared.phase.ErasePhase.{ErasePhase}
 use Rattle.erase_journal.specs.declared.phase.ErasePhase.TheVariants.{Doomed}
-use Rattle.erase_journal.specs.Journals.{AreJournalsSound, votes_at, entry_byte, is_free_entry}
-use Rattle.erase_journal.specs.Spending.{begun}
+use Rattle.erase_journal.specs.Journals.{AreEntryBytes, AreJournalsSound, votes_at, entry_byte}
+use Rattle.erase_journal.specs.Journals.{begun, is_free_entry, IsHealthy}
 
 -- none of the n bytes from a place on has a weak bit
 abbrev pub AreFirm : List ℕ → ℕ → ℕ → Type 0
@@ -33,6 +34,7 @@ AreVotesBelieved b = (j : JournalId) → AreZerosFirm b (journal_at j) (2 * regi
 pub record SettlesFirmly (old new : Bits) : Type 0 where
   pub phase : ErasePhase
   pub sound : AreJournalsSound phase old.shown
+  pub bytes : AreEntryBytes old.shown
   pub erased : (x : JournalId) → begun phase ≡ Doomed x → IsFirmJournal new.weak x
   pub zeros : (j : JournalId) (i k : ℕ) → journal_at j ≤ i → i < journal_at j + 2 * region_len
       → k < 8 → bit_at (byte old.shown i) k ≡ 0 → bit_at (byte new.weak i) k ≡ 0
@@ -95,16 +97,48 @@ pub record GivesUpLowest (old new : Bits) : Type 0 where
 abbrev pub AreUsedForGood : Bits → Type 0
 AreUsedForGood b = (i : ℕ) → i < entry_count → is_free_entry b.shown i ≡ false → IsUsedForGood b i
 
--- What a firm recovery leaves of the journals, where the losses before it left no more: the first
--- 16 bytes of the superblock are firm, the votes as above, and each free entry but the lowest.
+-- What one interrupted step leaves of a vote: its bits 0 and 1 alone are weak, of an unused one
+-- only where it is the lowest of its region.
+pub record IsHalfVote (b : Bits) (place k : ℕ) : Type 0 where
+  pub bits : byte b.weak (place + k) < 4
+  pub unused : byte b.shown (place + k) ≡ 255
+      → (byte b.weak (place + k) ≡ 0) ⊎ IsLowestUnused b.shown place k
+
+abbrev pub AreHalfVotes : Bits → ℕ → Type 0
+AreHalfVotes b place = (k : ℕ) → k < region_len → IsHalfVote b place k
+
+-- of the entries each free one is firm, or the lowest
+abbrev pub AreHalfEntries : Bits → Type 0
+AreHalfEntries b = (i : ℕ) → i < entry_count → is_free_entry b.shown i ≡ true
+    → AreFirm b.weak (entry_at i) 4 ⊎ IsLowestFreeEntry b.shown i
+
+-- What is said of the journals that are believed in a phase; one that is being erased may have any
+-- weak bits.
+pub record AreHalfFirm (p : ErasePhase) (b : Bits) : Type 0 where
+  pub votes : (j : JournalId) → (begun p ≡ Doomed j → ⊥)
+      → AreHalfVotes b (journal_at j) × AreHalfVotes b (journal_at j + region_len)
+  pub entries : (begun p ≡ Doomed J0 → ⊥) → AreHalfEntries b
+
+-- What one interrupted operation leaves of firm journals, in whatever phase they read to be.
+pub record AreInterruptedJournals (b : Bits) : Type 0 where
+  pub superblock : AreFirm b.weak 0 16
+  pub half : (p : ErasePhase) → AreJournalsSound p b.shown → AreHalfFirm p b
+
+-- What a loss of power leaves of firm journals: whatever the weak bits read as at the next power-on,
+-- the journals are healthy, and of them one operation was interrupted.
+abbrev pub AreInterruptedAtEachDraw : Bits → Type 0
+AreInterruptedAtEachDraw b = (v : List ℕ) → Drawn b.weak b.shown v
+    → IsHealthy v × AreInterruptedJournals (record { shown = v; weak = b.weak })
+
+-- What a firm recovery leaves of these: the first 16 bytes of the superblock are firm, all votes
+-- but the lowest unused one of a region, and each free entry but the lowest.
 pub record AreRecoveredJournals (b : Bits) : Type 0 where
   pub superblock : AreFirm b.weak 0 16
   pub votes : InEachRegion (AreRecoveredVotes b)
-  pub entries : (i : ℕ) → i < entry_count → is_free_entry b.shown i ≡ true
-      → AreFirm b.weak (entry_at i) 4 ⊎ IsLowestFreeEntry b.shown i
+  pub entries : AreHalfEntries b
 
--- Firm journals: the first 16 bytes of the superblock, all votes, and each entry that isn't used
--- for good. Each draw of their weak bits has the same votes and entries.
+-- Firm journals: the first 16 bytes of the superblock are firm, all votes, and each entry that
+-- isn't used for good.
 pub record AreFirmJournals (b : Bits) : Type 0 where
   pub superblock : AreFirm b.weak 0 16
   pub votes : InEachRegion (AreFirmVotes b)

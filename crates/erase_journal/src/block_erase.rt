@@ -4,12 +4,14 @@ ghost use Rattle.std.specs.Prelude.{◌⊎◌, ◌≡◌, ◌*◌, ◌/◌, ◌<
 ghost use Rattle.std.specs.Prelude.{IfOk, IfErr};
 ghost use Rattle.std.specs.Result.{IsErrOf};
 ghost use Rattle.chip_model.specs.Geometry.{block_count};
-ghost use Rattle.nor_driver.specs.State.{IsNorReady, OnlyMemoryChanges, Refuses, EndsReady};
+ghost use Rattle.nor_driver.specs.State.{bits_in, IsNorReady, OnlyMemoryChanges, Refuses};
+ghost use Rattle.nor_driver.specs.State.{EndsReady};
 ghost use Rattle.erase_journal.specs.Journals.{IsHealthy, IsSettled, is_free_entry, unused};
 ghost use Rattle.erase_journal.specs.Blocks.{SameBlocks, WithErased};
 ghost use Rattle.erase_journal.specs.Scans.{IsFreeAnswer};
 ghost use Rattle.erase_journal.specs.Steps.{IsRestful, IsTaken, IsOpened, EndsSettled, SameNumbers};
-ghost use Rattle.erase_journal.specs.Steps.{KeepsBlocks, EraseInterrupted};
+ghost use Rattle.erase_journal.specs.Steps.{KeepsBlocks, EraseInterrupted, LosesFirmly};
+ghost use Rattle.erase_journal.specs.Weak.{AreFirmJournals, AreInterruptedAtEachDraw};
 ghost use Rattle.erase_journal.specs.Spending.{IsUsed, KeepsUse, MayTake, Spends, once_used};
 ghost use Rattle.erase_journal.specs.Known.{IsKnown};
 
@@ -27,6 +29,7 @@ pub(crate) fn find_free<N: Nor>(nor: &mut N) -> Result<Option<u16>, NorError>
     requires { JOURNALS_END ≤ length (N.state nor.old).memory }
     ensures found { IfOk result (λ found. IsFreeAnswer (N.state nor.old).memory found) }
     ensures same { (N.state nor.new).memory ≡ (N.state nor.old).memory }
+    ensures weak { (N.state nor.new).weak ≡ (N.state nor.old).weak }
     ensures ends { EndsReady result (N.state nor.old) (N.state nor.new) }
 {
     let mut entries = [0; ENTRIES_LEN];
@@ -46,6 +49,7 @@ pub(crate) fn lowest_entry<N: Nor>(nor: &mut N, known: Known) -> Result<u16, Nor
     ensures lowest { IfOk result (λ entry. IsNorReady (N.state nor.old) → (k : ℕ) → k < entry
         → is_free_entry (N.state nor.old).memory k ≡ false) }
     ensures same { (N.state nor.new).memory ≡ (N.state nor.old).memory }
+    ensures weak { (N.state nor.new).weak ≡ (N.state nor.old).weak }
     ensures idle { OnOk result (IsNorReady (N.state nor.old)
         ⊎ (N.state nor.new ≡ N.state nor.old)) }
     ensures kept { OnOk result (OnlyMemoryChanges (N.state nor.old) (N.state nor.new)) }
@@ -70,6 +74,11 @@ pub(crate) fn take_entry<N: Nor>(nor: &mut N, entry: u16, block: u16) -> Result<
         (N.state nor.new).memory) }
     ensures cut { IsErrOf result NorError.Cut → IsHealthy (N.state nor.old).memory
         → KeepsBlocks (N.state nor.old).memory (N.state nor.new).memory }
+    ensures loses { IsErrOf result NorError.Cut → IsHealthy (N.state nor.old).memory
+        → (IsNorReady (N.state nor.old) → (k : ℕ) → k < entry
+        → is_free_entry (N.state nor.old).memory k ≡ false)
+        → AreFirmJournals (bits_in (N.state nor.old))
+        → AreInterruptedAtEachDraw (bits_in (N.state nor.new)) }
     ensures size { length (N.state nor.new).memory ≡ length (N.state nor.old).memory }
     ensures ends { EndsReady result (N.state nor.old) (N.state nor.new) }
 {
@@ -93,6 +102,10 @@ fn open_entry<N: Nor>(nor: &mut N, known: Known, block: u16) -> Result<u16, NorE
         IsUsed entry (N.state nor.old).memory (N.state nor.new).memory) }
     ensures cut { IsErrOf result NorError.Cut → IsHealthy (N.state nor.old).memory
         → EraseInterrupted block (N.state nor.old).memory (N.state nor.new).memory }
+    ensures stays { AreFirmJournals (bits_in (N.state nor.old))
+        → OnOk result (AreFirmJournals (bits_in (N.state nor.new))) }
+    ensures loses { IsErrOf result NorError.Cut
+        → LosesFirmly (N.state nor.old) (N.state nor.new) }
     ensures size { length (N.state nor.new).memory ≡ length (N.state nor.old).memory }
     ensures ends { EndsReady result (N.state nor.old) (N.state nor.new) }
 {
@@ -112,6 +125,8 @@ pub(crate) fn finish_entry<N: Nor>(nor: &mut N, entry: u16, block: u16) -> Resul
     ensures uses { OnOk result (KeepsUse (N.state nor.old).memory (N.state nor.new).memory) }
     ensures cut { IsErrOf result NorError.Cut
         → KeepsBlocks (N.state nor.old).memory (N.state nor.new).memory }
+    ensures loses { IsErrOf result NorError.Cut → AreFirmJournals (bits_in (N.state nor.old))
+        → AreInterruptedAtEachDraw (bits_in (N.state nor.new)) }
     ensures size { length (N.state nor.new).memory ≡ length (N.state nor.old).memory }
     ensures ends { EndsSettled result (N.state nor.old) (N.state nor.new) }
 {
@@ -135,6 +150,8 @@ fn erase_with_entry<N: Nor>(nor: &mut N, known: &mut Known, block: u16) -> Resul
     ensures known { OnOk result (IsKnown known.new (N.state nor.new).memory) }
     ensures cut { IsErrOf result NorError.Cut → IsHealthy (N.state nor.old).memory
         → EraseInterrupted block (N.state nor.old).memory (N.state nor.new).memory }
+    ensures loses { IsErrOf result NorError.Cut
+        → LosesFirmly (N.state nor.old) (N.state nor.new) }
     ensures size { length (N.state nor.new).memory ≡ length (N.state nor.old).memory }
     ensures ends { EndsSettled result (N.state nor.old) (N.state nor.new) }
 {
@@ -161,6 +178,8 @@ pub(crate) fn erase_block<N: Nor>(
         (unused (N.state nor.new).memory)) }
     ensures cut { IsErrOf result NorError.Cut → IsHealthy (N.state nor.old).memory
         → EraseInterrupted block (N.state nor.old).memory (N.state nor.new).memory }
+    ensures loses { IsErrOf result NorError.Cut
+        → LosesFirmly (N.state nor.old) (N.state nor.new) }
     ensures size { length (N.state nor.new).memory ≡ length (N.state nor.old).memory }
     ensures ends { EndsSettled result (N.state nor.old) (N.state nor.new) }
 {

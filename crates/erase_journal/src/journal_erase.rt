@@ -2,12 +2,13 @@
 
 ghost use Rattle.std.specs.Prelude.{◌≡◌, ◌+◌, ◌<◌, ◌≤◌, length, OnOk};
 ghost use Rattle.std.specs.Result.{IsErrOf};
-ghost use Rattle.nor_driver.specs.State.{EndsReady, IsNorReady};
+ghost use Rattle.nor_driver.specs.State.{bits_in, EndsReady, IsNorReady};
 ghost use Rattle.erase_journal.specs.Votes.{Last, first_spent, once_erased, renewed};
 ghost use Rattle.erase_journal.specs.Journals.{unused, open_blocks, AreJournalsSound, first};
 ghost use Rattle.erase_journal.specs.Journals.{tally_of};
 ghost use Rattle.erase_journal.specs.Blocks.{SameBlocks};
 ghost use Rattle.erase_journal.specs.Steps.{MayErase, IsStep, IsNext, KeepsBlocks};
+ghost use Rattle.erase_journal.specs.Weak.{AreFirmJournals, AreInterruptedAtEachDraw};
 ghost use Rattle.erase_journal.specs.Weak.{IsFirmJournal};
 
 use crate::phase::ErasePhase;
@@ -25,6 +26,10 @@ pub(crate) fn doom<N: Nor>(nor: &mut N, journal: JournalId) -> Result<(), NorErr
     ensures blocks { OnOk result (SameBlocks (N.state nor.old).memory (N.state nor.new).memory) }
     ensures cut { IsErrOf result NorError.Cut
         → KeepsBlocks (N.state nor.old).memory (N.state nor.new).memory }
+    ensures stays { AreFirmJournals (bits_in (N.state nor.old))
+        → OnOk result (AreFirmJournals (bits_in (N.state nor.new))) }
+    ensures loses { IsErrOf result NorError.Cut → AreFirmJournals (bits_in (N.state nor.old))
+        → AreInterruptedAtEachDraw (bits_in (N.state nor.new)) }
     ensures size { length (N.state nor.new).memory ≡ length (N.state nor.old).memory }
     ensures ends { EndsReady result (N.state nor.old) (N.state nor.new) }
 {
@@ -101,6 +106,10 @@ pub(crate) fn renew<N: Nor>(nor: &mut N, journal: JournalId) -> Result<(), NorEr
     ensures blocks { OnOk result (SameBlocks (N.state nor.old).memory (N.state nor.new).memory) }
     ensures cut { IsErrOf result NorError.Cut
         → KeepsBlocks (N.state nor.old).memory (N.state nor.new).memory }
+    ensures stays { AreFirmJournals (bits_in (N.state nor.old))
+        → OnOk result (AreFirmJournals (bits_in (N.state nor.new))) }
+    ensures loses { IsErrOf result NorError.Cut → AreFirmJournals (bits_in (N.state nor.old))
+        → AreInterruptedAtEachDraw (bits_in (N.state nor.new)) }
     ensures size { length (N.state nor.new).memory ≡ length (N.state nor.old).memory }
     ensures ends { EndsReady result (N.state nor.old) (N.state nor.new) }
 {

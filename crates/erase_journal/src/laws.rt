@@ -3,7 +3,8 @@
 ghost use Rattle.erase_journal.specs.Faults.{SoundTallyHasNoFault};
 ghost use Rattle.erase_journal.specs.Laws.{BlocksHaveOneSize, SameBlocksMakeOneList};
 ghost use Rattle.erase_journal.specs.Laws.{MaintenanceKeepsVotes, ErasedChipsAreSettled};
-ghost use Rattle.erase_journal.specs.Laws.{FirmJournalsStayFirm, OneBlockIsOpen};
+ghost use Rattle.erase_journal.specs.Laws.{FirmJournalsStandEachDraw, FirmJournalsStayFirm};
+ghost use Rattle.erase_journal.specs.Laws.{OneBlockIsOpen};
 
 /// The journals are sound in one of the phases of an erase exactly where none of the cases of
 /// corrupt journals holds of them.
@@ -42,4 +43,10 @@ pub fn erased_chips_are_settled()
 /// what `firm` left stays so until the power is lost.
 pub fn firm_journals_stay_firm()
     ensures { FirmJournalsStayFirm }
+{}
+
+/// Whatever the weak bits of firm journals read as after a power-on, the journals are healthy if
+/// they were, and firm, and such as a firm recovery wants them.
+pub fn firm_journals_stand_each_draw()
+    ensures { FirmJournalsStandEachDraw }
 {}

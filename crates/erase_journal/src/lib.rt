@@ -11,9 +11,12 @@
 //! a Slow nothing is promised of the data blocks. If `restore` finds corrupt journals, a Slow is
 //! latched. `superblock` reads the superblock's first bytes, and `mark` programs byte 15 of it and
 //! no other. `read_tally` counts the journals' votes and entries. With `Firmness::Firm` a recovery
-//! programs what it read again before it acts on it, and `firm` leaves journals whose weak bits
-//! change no vote and no entry (`AreFirmJournals`); what is said above holds of both. `renew_all`
-//! erases each of the three journals. No call allocates.
+//! programs what it read again before it acts on it, and `firm` makes the journals firm that one
+//! leaves (`AreRecoveredJournals`, `AreFirmJournals`); what is said above holds of both. Firm
+//! journals stay firm in each call that answers Ok. Where the power is lost in one that ends
+//! `EndsFirmly`, each power-on finds healthy journals of which one operation was interrupted, as a
+//! firm recovery wants them (`AreInterruptedAtEachDraw`); of a loss in a recovery, in `firm` and in
+//! `mark` that isn't said. `renew_all` erases each of the three journals. No call allocates.
 //!
 //! Depends on `Nor` of `nor_driver` (read, program, erase, restart) and on the places of
 //! `nor_layout`. Left to the crate above: what the data blocks and the superblock hold, and when to
@@ -49,7 +52,8 @@ pub use error::RecoverError;
 pub use firmness::Firmness;
 pub use journal::Journal;
 pub use laws::{
-    blocks_have_one_size, erased_chips_are_settled, firm_journals_stay_firm,
+    blocks_have_one_size, erased_chips_are_settled, firm_journals_stand_each_draw,
+    firm_journals_stay_firm,
     maintenance_keeps_votes_that_last, open_entries_name_one_block, same_blocks_make_one_list,
     sound_journals_have_no_fault,
 };

@@ -9,7 +9,7 @@ ghost use Rattle.erase_journal.specs.Blocks.{SameBlocks};
 ghost use Rattle.erase_journal.specs.Known.{IsKnown};
 ghost use Rattle.erase_journal.specs.Spending.{HasSpare, HasVotesToSpare, Maintains, Refills};
 ghost use Rattle.erase_journal.specs.Spending.{RefillsAll, Spares, SparesAll};
-ghost use Rattle.erase_journal.specs.Steps.{IsRestful, KeepsBlocks};
+ghost use Rattle.erase_journal.specs.Steps.{IsRestful, KeepsBlocks, LosesFirmly};
 ghost use Rattle.erase_journal.specs.Weak.{AreFirmOrFew, AreFirmVotes, InEachRegion, IsFirmJournal};
 
 use crate::journal_erase::{doom, renew};
@@ -55,6 +55,8 @@ pub(crate) fn maintain<N: Nor>(nor: &mut N) -> Result<Unused, NorError>
     ensures blocks { OnOk result (SameBlocks (N.state nor.old).memory (N.state nor.new).memory) }
     ensures cut { IsErrOf result NorError.Cut → IsHealthy (N.state nor.old).memory
         → KeepsBlocks (N.state nor.old).memory (N.state nor.new).memory }
+    ensures loses { IsErrOf result NorError.Cut
+        → LosesFirmly (N.state nor.old) (N.state nor.new) }
     ensures size { length (N.state nor.new).memory ≡ length (N.state nor.old).memory }
     ensures ends { EndsReady result (N.state nor.old) (N.state nor.new) }
 {
@@ -141,6 +143,8 @@ pub(crate) fn rest<N: Nor>(nor: &mut N, known: &mut Known) -> Result<(), NorErro
         → KeepsBlocks (N.state nor.old).memory (N.state nor.new).memory }
     ensures idle { OnOk result (IsNorReady (N.state nor.old)
         ⊎ (N.state nor.new ≡ N.state nor.old)) }
+    ensures loses { IsErrOf result NorError.Cut
+        → LosesFirmly (N.state nor.old) (N.state nor.new) }
     ensures size { length (N.state nor.new).memory ≡ length (N.state nor.old).memory }
     ensures kept { OnOk result (OnlyMemoryChanges (N.state nor.old) (N.state nor.new)) }
     ensures fails { IfErr result (λ e. Refuses e (N.state nor.old) (N.state nor.new)) }

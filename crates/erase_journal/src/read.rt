@@ -1,8 +1,9 @@
 //! Reads the journals from the chip, and counts their votes and entries.
 
-ghost use Rattle.std.specs.Prelude.{◌≡◌, ◌+◌, ◌≤◌, length, IfOk};
+ghost use Rattle.std.specs.Prelude.{◌≡◌, ◌+◌, ◌≤◌, length, IfOk, OnOk};
 ghost use Rattle.nor_driver.specs.State.{EndsReady};
-ghost use Rattle.erase_journal.specs.Journals.{votes_at, tally_of, free_entries, open_blocks};
+ghost use Rattle.erase_journal.specs.Journals.{AreEntryBytes, votes_at, tally_of, free_entries};
+ghost use Rattle.erase_journal.specs.Journals.{open_blocks};
 
 use crate::scan::{VoteCounts, count_free, count_open, count_votes};
 use crate::tally::JournalTally;
@@ -21,6 +22,7 @@ fn read_votes<N: Nor>(nor: &mut N, region: u32) -> Result<VoteCounts, NorError>
     requires { region + REGION_LEN ≤ length (N.state nor.old).memory }
     ensures counts { IfOk result (λ votes. votes ≡ votes_at (N.state nor.old).memory region) }
     ensures same { (N.state nor.new).memory ≡ (N.state nor.old).memory }
+    ensures weak { (N.state nor.new).weak ≡ (N.state nor.old).weak }
     ensures ends { EndsReady result (N.state nor.old) (N.state nor.new) }
 {
     let mut votes = [0; REGION_LEN];
@@ -34,7 +36,9 @@ fn read_entries<N: Nor>(nor: &mut N) -> Result<EntryCounts, NorError>
     ensures free { IfOk result (λ entries. entries.free ≡ free_entries (N.state nor.old).memory) }
     ensures opened { IfOk result (λ entries. entries.opened
         ≡ open_blocks (N.state nor.old).memory) }
+    ensures bytes { OnOk result (AreEntryBytes (N.state nor.old).memory) }
     ensures same { (N.state nor.new).memory ≡ (N.state nor.old).memory }
+    ensures weak { (N.state nor.new).weak ≡ (N.state nor.old).weak }
     ensures ends { EndsReady result (N.state nor.old) (N.state nor.new) }
 {
     let blocks = (nor.bytes() / BLOCK_LEN) as u16;
@@ -52,7 +56,9 @@ fn read_entries<N: Nor>(nor: &mut N) -> Result<EntryCounts, NorError>
 pub fn read_tally<N: Nor>(nor: &mut N) -> Result<JournalTally, NorError>
     requires { JOURNALS_END ≤ length (N.state nor.old).memory }
     ensures tally { IfOk result (λ tally. tally ≡ tally_of (N.state nor.old).memory) }
+    ensures bytes { OnOk result (AreEntryBytes (N.state nor.old).memory) }
     ensures same { (N.state nor.new).memory ≡ (N.state nor.old).memory }
+    ensures weak { (N.state nor.new).weak ≡ (N.state nor.old).weak }
     ensures ends { EndsReady result (N.state nor.old) (N.state nor.new) }
 {
     let j0_for_1 = read_votes(nor, JournalId::J1.second_votes())?;

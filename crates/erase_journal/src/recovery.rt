@@ -9,7 +9,8 @@ ghost use Rattle.erase_journal.specs.Journals.{AreJournalsSound, IsSettled, IsHe
 ghost use Rattle.erase_journal.specs.Journals.{unused, first, tally_of};
 ghost use Rattle.erase_journal.specs.Blocks.{SameBlocks};
 ghost use Rattle.erase_journal.specs.Steps.{SameNumbers, KeepsBlocks, EndsSettled};
-ghost use Rattle.erase_journal.specs.Spending.{Continues, SpendsOne, begun};
+ghost use Rattle.erase_journal.specs.Spending.{Continues, SpendsOne};
+ghost use Rattle.erase_journal.specs.Journals.{begun};
 ghost use Rattle.erase_journal.specs.Votes.{Last, first_spent, renewed};
 ghost use Rattle.erase_journal.specs.Weak.{AreVotesBelieved, IsFirmJournal, SettlesFirmly};
 ghost use Rattle.nor_layout.specs.declared.journal.JournalId.{JournalId};

@@ -9,7 +9,7 @@ ghost use Rattle.erase_journal.specs.Blocks.{SameBlocks};
 ghost use Rattle.erase_journal.specs.Known.{IsKnown};
 ghost use Rattle.erase_journal.specs.Renewal.{RenewsAll};
 ghost use Rattle.erase_journal.specs.Spending.{Maintains};
-ghost use Rattle.erase_journal.specs.Steps.{IsRestful, KeepsBlocks, EndsSettled};
+ghost use Rattle.erase_journal.specs.Steps.{IsRestful, KeepsBlocks, EndsSettled, LosesFirmly};
 ghost use Rattle.erase_journal.specs.Votes.{once_erased};
 
 use crate::journal_erase::{doom, renew};
@@ -30,6 +30,8 @@ fn renew_one<N: Nor>(nor: &mut N, journal: JournalId) -> Result<Unused, NorError
     ensures blocks { OnOk result (SameBlocks (N.state nor.old).memory (N.state nor.new).memory) }
     ensures cut { IsErrOf result NorError.Cut
         → KeepsBlocks (N.state nor.old).memory (N.state nor.new).memory }
+    ensures loses { IsErrOf result NorError.Cut
+        → LosesFirmly (N.state nor.old) (N.state nor.new) }
     ensures size { length (N.state nor.new).memory ≡ length (N.state nor.old).memory }
     ensures ends { EndsReady result (N.state nor.old) (N.state nor.new) }
 {
@@ -48,6 +50,8 @@ pub(crate) fn renew_all<N: Nor>(nor: &mut N, known: &mut Known) -> Result<(), No
     ensures blocks { OnOk result (SameBlocks (N.state nor.old).memory (N.state nor.new).memory) }
     ensures cut { IsErrOf result NorError.Cut → IsHealthy (N.state nor.old).memory
         → KeepsBlocks (N.state nor.old).memory (N.state nor.new).memory }
+    ensures loses { IsErrOf result NorError.Cut
+        → LosesFirmly (N.state nor.old) (N.state nor.new) }
     ensures size { length (N.state nor.new).memory ≡ length (N.state nor.old).memory }
     ensures ends { EndsSettled result (N.state nor.old) (N.state nor.new) }
 {

@@ -142,7 +142,8 @@ pub(crate) fn lowest_free(bytes: &[u8]) -> Option<u16>
 #[tactic(auto, using(crate::proofs::Scans::scan_steps))]
 pub(crate) fn count_free(bytes: &[u8]) -> u16
     requires { length bytes.now ≡ ENTRIES_LEN }
-    ensures { result ≡ free_in bytes.now ENTRIES }
+    ensures free { result ≡ free_in bytes.now ENTRIES }
+    ensures bytes { (i : ℕ) → byte bytes.now i < 256 }
 {
     let mut free = 0;
     for i in 0..ENTRIES {

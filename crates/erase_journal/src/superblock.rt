@@ -20,6 +20,7 @@ pub(crate) fn read_superblock<N: Nor>(nor: &mut N, into: &mut [u8]) -> Result<()
     ensures ok { OnOk result (into.new ≡ slice_range (N.state nor.old).memory 0 SUPER_LEN) }
     ensures size { length into.new ≡ length into.old }
     ensures same { (N.state nor.new).memory ≡ (N.state nor.old).memory }
+    ensures weak { (N.state nor.new).weak ≡ (N.state nor.old).weak }
     ensures ends { EndsSettled result (N.state nor.old) (N.state nor.new) }
 {
     nor.read(0, into)?;

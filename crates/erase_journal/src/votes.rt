@@ -2,11 +2,11 @@
 
 ghost use Rattle.std.specs.Prelude.{◌≡◌, ◌+◌, ◌<◌, ◌≤◌, ◌^◌, length, OnOk, IfOk};
 ghost use Rattle.std.specs.Result.{IsErrOf};
-ghost use Rattle.nor_driver.specs.State.{EndsReady};
+ghost use Rattle.nor_driver.specs.State.{bits_in, EndsReady};
 ghost use Rattle.nor_layout.specs.Votes.{byte_of};
 ghost use Rattle.erase_journal.specs.Journals.{votes_at};
 ghost use Rattle.erase_journal.specs.Scans.{IsFound};
-ghost use Rattle.erase_journal.specs.Steps.{OneChanged, PerhapsChanged};
+ghost use Rattle.erase_journal.specs.Steps.{OneChanged, PerhapsChanged, VoteInterrupted};
 
 use crate::scan::lowest;
 use nor_driver::{Nor, NorError};
@@ -18,6 +18,7 @@ fn find_vote<N: Nor>(nor: &mut N, region: u32, vote: Vote) -> Result<Option<u32>
     ensures found { IfOk result (λ found.
         IsFound (N.state nor.old).memory region (byte_of vote) found) }
     ensures same { (N.state nor.new).memory ≡ (N.state nor.old).memory }
+    ensures weak { (N.state nor.new).weak ≡ (N.state nor.old).weak }
     ensures ends { EndsReady result (N.state nor.old) (N.state nor.new) }
 {
     let mut votes = [0; REGION_LEN];
@@ -34,6 +35,8 @@ pub(crate) fn open_vote<N: Nor>(nor: &mut N, region: u32) -> Result<(), NorError
         (N.state nor.new).memory) }
     ensures cut { IsErrOf result NorError.Cut
         → PerhapsChanged region 255 254 (N.state nor.old).memory (N.state nor.new).memory }
+    ensures cut_bits { IsErrOf result NorError.Cut → VoteInterrupted region 255 254
+        (bits_in (N.state nor.old)) (bits_in (N.state nor.new)) }
     ensures size { length (N.state nor.new).memory ≡ length (N.state nor.old).memory }
     ensures ends { EndsReady result (N.state nor.old) (N.state nor.new) }
 {
@@ -51,6 +54,8 @@ pub(crate) fn close_vote<N: Nor>(nor: &mut N, region: u32) -> Result<(), NorErro
         (N.state nor.new).memory) }
     ensures cut { IsErrOf result NorError.Cut
         → PerhapsChanged region 254 252 (N.state nor.old).memory (N.state nor.new).memory }
+    ensures cut_bits { IsErrOf result NorError.Cut → VoteInterrupted region 254 252
+        (bits_in (N.state nor.old)) (bits_in (N.state nor.new)) }
     ensures size { length (N.state nor.new).memory ≡ length (N.state nor.old).memory }
     ensures ends { EndsReady result (N.state nor.old) (N.state nor.new) }
 {

@@ -35,7 +35,8 @@ use Rattle.erase_journal.specs.Weak.{AreFirm}
 use Rattle.firm_chip.specs.FirmChips.{AreFirmly, IsFirmChip, IsFirmBlock, marked, perhaps_begun, void, erasing, IsFading, IsBegunAtMost, IsRoom, free, committed, sector_in, head_place, data_place}
 use Rattle.firm_chip.specs.FirmChips as firm
 use Rattle.firm_chip.specs.Draws.{EachDrawIsTheSameDisk}
-use Rattle.firm_chip.proofs.Draws.{firm-byte, tally-drawn, believed-drawn, named-drawn}
+use Rattle.firm_chip.proofs.Draws.{tally-drawn, believed-drawn, named-drawn}
+use Rattle.erase_journal.proofs.Draws.{firm-byte}
 use Rattle.firm_chip.proofs.Spans.{block-drawn, erasing-blank, byte-there, descriptor-byte, begun-drawn}
 use Rattle.firm_chip.proofs.Slots.{SlotDrawn, same, idle, faded, IsThere, never-live-header, slot-written, firmly-read}
 use Rattle.firm_chip.proofs.Heads.{KindDrawn, kept, never, perhaps, idle-kind, void-kind, state-there, there, start-was, start-is, chip-block}

@@ -15,13 +15,10 @@ use Rattle.erase_journal.specs.Blocks.{is_believed0}
 use Rattle.erase_journal.proofs.Counts.{how_many-same}
 use Rattle.erase_journal.proofs.Regions.{BytesKept, blocks-named}
 use Rattle.erase_journal.proofs.Entries.{not-open, not-free, same-open}
-use Rattle.erase_journal.specs.Weak.{AreFirm, IsFirmVote, given_up}
-use Rattle.erase_journal.specs.Weak as votes
+use Rattle.erase_journal.specs.Weak.{AreFirm}
+use Rattle.erase_journal.proofs.Draws.{SameEntry, firm-byte, firm-entry-drawn, last-not-free, last-not-open, neither}
+use Rattle.erase_journal.proofs.Draws as region
 use Rattle.firm_chip.specs.FirmChips.{AreVotesFirm, NeverReads, IsFirmEntry, firm, ended, begun, IsFirmChip}
-
--- a byte without a weak bit is as it was
-pub firm-byte : (m w m' : List ℕ) (i : ℕ) → Drawn w m m' → byte w i ≡ 0 → byte m' i ≡ byte m i
-firm-byte m w m' i d e = same_from_bits (byte m' i) (byte m i) (λ k. d.firm i k (ap (λ x. bit_at x k) e ∙ bit_at-zero k))
 
 -- one that never reads v doesn't, before and after
 pub never-was : (m w : List ℕ) (at v : ℕ) → NeverReads m w at v → byte m at ≢ v
@@ -39,33 +36,11 @@ kept-part m w m' base n at size d f low high = record {
       firm-byte m w m' (at + k) d (rw e at z);
 }
 
-last-not-open : (m : List ℕ) (i : ℕ) → entry_byte m i 3 ≢ 255 → is_open_entry m i ≡ false
-last-not-open m i other = grind (arith, nat_tests)
-
-last-not-free : (m : List ℕ) (i : ℕ) → entry_byte m i 3 ≢ 255 → is_free_entry m i ≡ false
-last-not-free m i other = grind (arith, nat_tests)
-
--- What is said of an entry: whether it is free and open, and for which block.
-pub record SameEntry (m m' : List ℕ) (i : ℕ) : Type 0 where
-  pub free : is_free_entry m' i ≡ is_free_entry m i
-  pub opened : is_open_entry m' i ≡ is_open_entry m i
-  pub named : is_open_entry m i ≡ true → entry_block m' i ≡ entry_block m i
-
-neither : (m m' : List ℕ) (i : ℕ) → is_free_entry m i ≡ false → is_free_entry m' i ≡ false → is_open_entry m i ≡ false → is_open_entry m' i ≡ false → SameEntry m m' i
-neither m m' i f f' o o' = record { free = f' ∙ sym f; opened = o' ∙ sym o; named = λ e. absurd (let h : true ≡ false = sym e ∙ o in cc) }
-
 first-byte : (m : List ℕ) (i : ℕ) → entry_byte m i 0 ≡ byte m (entry_at i)
 first-byte m i = ap (λ k. byte m k) (omega arith)
 
 pub entry-drawn : (m w m' : List ℕ) (i : ℕ) → Drawn w m m' → IsFirmEntry m w i → SameEntry m m' i
-entry-drawn m w m' i d (firm f) =
-    let e = λ (j : ℕ) (h : j < 4). firm-byte m w m' (entry_at i + j) d (f j h) in
-    let four : entry_bytes m' i ≡ entry_bytes m i = rw (e 0 (lit< tt), e 1 (lit< tt), e 2 (lit< tt), e 3 (lit< tt)) refl in
-    record {
-      free = rw (e 0 (lit< tt), e 1 (lit< tt), e 2 (lit< tt), e 3 (lit< tt)) refl;
-      opened = ap (λ b. is_open (block_count (length m')) b) four ∙ ap (λ n. is_open (block_count n) (entry_bytes m i)) d.same_length;
-      named = λ _. ap (λ b. block_in b) four;
-    }
+entry-drawn m w m' i d (firm f) = firm-entry-drawn m w m' i d f
 entry-drawn m w m' i d (ended n) =
     let was = never-was m w (entry_at i + 3) 255 n in
     let is = never-is m w m' (entry_at i + 3) 255 d n in
@@ -86,41 +61,9 @@ free-drawn : (m w m' : List ℕ) → IsFirmChip m w → Drawn w m m' → free_en
 unfolding free_entries
 free-drawn m w m' f d = how_many-same (is_free_entry m') (is_free_entry m) 512 (λ k low. (entry-drawn m w m' k d (f.entries k low)).free)
 
--- A vote reads as before; or as closed or given up, before and after.
-vote-drawn : (m w m' : List ℕ) (at : ℕ) → Drawn w m m' → IsFirmVote m w at
-    → (byte m' at ≡ byte m at) ⊎ (((252 ≤ byte m at) × (byte m at ≤ 253)) × ((252 ≤ byte m' at) × (byte m' at ≤ 253)))
-vote-drawn m w m' at d (votes.firm e) = inl (firm-byte m w m' at d e)
-vote-drawn m w m' at d (given_up h a b) =
-    let none : byte w at / 2 ≡ 0 = omega (arith, h) in
-    let half : byte m' at / 2 ≡ byte m at / 2 = same_from_bits (byte m' at / 2) (byte m at / 2) (λ k.
-    sym (bit_at-suc (byte m' at) k) ∙ (d.firm at (suc k) (bit_at-suc (byte w at) k ∙ (ap (λ x. bit_at x k) none ∙ bit_at-zero k)) ∙ bit_at-suc (byte m at) k)) in
-    inr ((a, b), (omega (arith, half, a, b), omega (arith, half, a, b)))
-
-closed-tests : (x : ℕ) → 252 ≤ x → x ≤ 253 → ((x == 255) ≡ false) × (((x == 254) ≡ false) × (not (x == 255 || x == 254 || x == 252 || x == 253) ≡ false))
-closed-tests x a b = elim (cases_eq x 252) [
-  | inl e ↦ rw e (refl, (refl, refl))
-  | inr n ↦ let e : x ≡ 253 = omega (arith, a, b, n) in rw e (refl, (refl, refl))
-]
-
-tests-drawn : (x y : ℕ) → (y ≡ x) ⊎ (((252 ≤ x) × (x ≤ 253)) × ((252 ≤ y) × (y ≤ 253)))
-    → ((y == 255) ≡ (x == 255)) × (((y == 254) ≡ (x == 254)) × (not (y == 255 || y == 254 || y == 252 || y == 253) ≡ not (x == 255 || x == 254 || x == 252 || x == 253)))
-tests-drawn x y (inl e) = rw e (refl, (refl, refl))
-tests-drawn x y (inr h) =
-    let p = closed-tests x h.0.0 h.0.1 in
-    let q = closed-tests y h.1.0 h.1.1 in
-    (q.0 ∙ sym p.0, (q.1.0 ∙ sym p.1.0, q.1.1 ∙ sym p.1.1))
-
 -- the votes of a region, in a journal that begins at a place
 votes-drawn : (m w m' : List ℕ) (base at : ℕ) → Drawn w m m' → AreVotesFirm m w base → base ≤ at → at + 1024 ≤ base + 2048 → votes_at m' at ≡ votes_at m at
-unfolding votes_at
-votes-drawn m w m' base at d f low high =
-    let each = λ (k : ℕ) (h : k < 1024).
-    let e : base + ((at - base) + k) ≡ at + k = omega arith in
-    tests-drawn (byte m (at + k)) (byte m' (at + k)) (vote-drawn m w m' (at + k) d (rw e at (f ((at - base) + k) (omega arith)))) in
-    let e1 = how_many-same (λ k. byte m' (at + k) == 255) (λ k. byte m (at + k) == 255) 1024 (λ k h. (each k h).0) in
-    let e2 = how_many-same (λ k. byte m' (at + k) == 254) (λ k. byte m (at + k) == 254) 1024 (λ k h. (each k h).1.0) in
-    let e3 = how_many-same (λ k. not (byte m' (at + k) == 255 || byte m' (at + k) == 254 || byte m' (at + k) == 252 || byte m' (at + k) == 253)) (λ k. not (byte m (at + k) == 255 || byte m (at + k) == 254 || byte m (at + k) == 252 || byte m (at + k) == 253)) 1024 (λ k h. (each k h).1.1) in
-    cc
+votes-drawn m w m' base at d f low high = region.votes-drawn m w m' at d (λ k h. (let e : base + ((at - base) + k) ≡ at + k = omega arith in rw e at (f ((at - base) + k) (omega arith))))
 
 -- all numbers of the journals
 pub tally-drawn : (m w m' : List ℕ) → IsFirmChip m w → Drawn w m m' → tally_of m' ≡ tally_of m

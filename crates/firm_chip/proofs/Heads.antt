@@ -20,7 +20,8 @@ use Rattle.journal_slots.proofs.Places.{fresh-descriptor}
 use Rattle.journal_slots.proofs.Places as places
 use Rattle.erase_journal.specs.Weak.{AreFirm}
 use Rattle.firm_chip.specs.FirmChips.{IsFirmChip, IsFirmBlock, marked, perhaps_begun, void, erasing, IsOfSlots, AreFirmly, IsFading, data_place}
-use Rattle.firm_chip.proofs.Draws.{firm-byte, believed-drawn, named-drawn}
+use Rattle.firm_chip.proofs.Draws.{believed-drawn, named-drawn}
+use Rattle.erase_journal.proofs.Draws.{firm-byte}
 use Rattle.firm_chip.proofs.Spans.{block-drawn, erasing-blank, byte-there, begun-drawn, begun-was}
 use Rattle.firm_chip.proofs.Slots.{SlotDrawn, same, IsThere, slot-drawn, slot-clean, never-nothing, never-of, never-clean, firmly-read, length-there}
 

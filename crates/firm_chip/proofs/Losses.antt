@@ -12,35 +12,8 @@ use Rattle.chip_model.specs.Wavering.{Bits, IsBits, Drawn, TornProgram, TornUnit
 use Rattle.chip_model.proofs.MemoryLaws.{length-changed_from, get-changed, length-programmed, programmed_page}
 use Rattle.chip_model.proofs.WaveringLaws.{past_bit, byte_from_bits, program_bit, either}
 use Rattle.firm_chip.specs.Losses.{LossesAreTornThenDrawn, LossesLeaveSteadyDisks}
+use Rattle.erase_journal.proofs.Drawing.{mixed, mixed_firm, mixed_weak}
 use Rattle.firm_chip.proofs.Disks.{each-draw}
-
--- the memory that reads as v where no bit was weak, and as m where one was
-abbrev pub mixed : List ℕ → List ℕ → ℕ → ℕ → ℕ
-mixed m w i x = bit_xor x (bit_and (bit_xor x (byte m i)) (byte w i))
-
-mixed_bit : (m w v : List ℕ) (i k : ℕ) → i < length v
-    → bit_at (byte (changed (mixed m w) v) i) k ≡ (bit_at (byte v i) k + min ((bit_at (byte v i) k + bit_at (byte m i) k) % 2) (bit_at (byte w i) k)) % 2
-mixed_bit m w v i k low =
-    let x = byte v i in
-    let a = bit_at_xor x (byte m i) k in
-    let b = bit_at_and (bit_xor x (byte m i)) (byte w i) k in
-    ap (λ z. bit_at z k) (get-changed (mixed m w) v i 0 low)
-    ∙ (bit_at_xor x (bit_and (bit_xor x (byte m i)) (byte w i)) k
-    ∙ ap (λ z. (bit_at x k + z) % 2) (b ∙ ap (λ z. min z (bit_at (byte w i) k)) a))
-
-pub mixed_firm : (m w v : List ℕ) (i k : ℕ) → bit_at (byte w i) k ≡ 0 → bit_at (byte (changed (mixed m w) v) i) k ≡ bit_at (byte v i) k
-mixed_firm m w v i k z = elim (cases_lt i (length v)) [
-  | inl low ↦ (let e = mixed_bit m w v i k low in let x = bit_at-lt (byte v i) k in omega (arith, e, z, x))
-  | inr high ↦ past_bit (changed (mixed m w) v) i k (let n = length-changed_from (mixed m w) 0 v in omega (arith, n, high)) ∙ sym (past_bit v i k high)
-]
-
-pub mixed_weak : (m w v : List ℕ) (i k : ℕ) → i < length v → bit_at (byte w i) k ≢ 0 → bit_at (byte (changed (mixed m w) v) i) k ≡ bit_at (byte m i) k
-mixed_weak m w v i k low n =
-    let e = mixed_bit m w v i k low in
-    let x = bit_at-lt (byte v i) k in
-    let y = bit_at-lt (byte m i) k in
-    let z = bit_at-lt (byte w i) k in
-    omega (arith, e, n, x, y, z)
 
 -- a weak bit that isn't, isn't after a program
 still_firm : (w : List ℕ) (at : ℕ) (bytes : List ℕ) (i k : ℕ) → bit_at (byte w i) k ≡ 0 → bit_at (byte (programmed w at bytes) i) k ≡ 0

@@ -25,7 +25,8 @@ use Rattle.sector_slots.proofs.SizeLaws.{length-zeros}
 use Rattle.journal_slots.proofs.Places.{with-live, fresh-descriptor}
 use Rattle.erase_journal.specs.Weak.{AreFirm}
 use Rattle.firm_chip.specs.FirmChips.{AreFirmly, NeverReads, IsNeverLive, dead, unused, IsFading, IsFirmSlot, live, never_live, fading, head_place, content_place}
-use Rattle.firm_chip.proofs.Draws.{firm-byte, never-was, never-is}
+use Rattle.firm_chip.proofs.Draws.{never-was, never-is}
+use Rattle.erase_journal.proofs.Draws.{firm-byte}
 use Rattle.firm_chip.proofs.Spans.{descriptor-byte, content-byte}
 
 -- A slot that became another one under a draw, as far as sectors see: the same; one that holds

@@ -11,17 +11,8 @@ use Rattle.chip_model.specs.Wavering.{Bits, Drawn, TornProgram, TornUnit, comple
 use Rattle.chip_model.proofs.MemoryLaws.{length-changed_from, get-changed, length-erased, length-programmed, programmed_page, erased-inside, erased-outside}
 use Rattle.chip_model.proofs.WaveringLaws.{past_bit, data_bit, program_bit, fill_out, firm_erase, either}
 use Rattle.firm_chip.specs.Losses.{LossesAreDrawnThenTorn, CompletedAreDrawnThenDone}
-use Rattle.firm_chip.proofs.Losses.{mixed, mixed_firm, mixed_weak, torn_bit, drawn_byte, none_torn}
-
--- the memory that reads as m where no bit was weak, and as v where one was
-abbrev read_as : List ℕ → List ℕ → List ℕ → List ℕ
-read_as v w m = changed (mixed v w) m
-
-read_drawn : (v w m : List ℕ) → Drawn w m (read_as v w m)
-read_drawn v w m = record {
-  same_length = length-changed_from (mixed v w) 0 m;
-  firm = λ i k z. mixed_firm v w m i k z;
-}
+use Rattle.erase_journal.proofs.Drawing.{mixed, mixed_firm, mixed_weak, read_as, read_drawn}
+use Rattle.firm_chip.proofs.Losses.{torn_bit, drawn_byte, none_torn}
 
 program_read : (b new : Bits) (v : List ℕ) (at : ℕ) (bytes : List ℕ) → TornProgram b (completed_bits (Programming at bytes) b) new → Drawn new.weak new.shown v
     → Torn (read_as v b.weak b.shown) (programmed (read_as v b.weak b.shown) at bytes) v

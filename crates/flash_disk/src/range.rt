@@ -3,8 +3,9 @@
 ghost use Rattle.std.specs.Prelude.{◌≡◌, ◌+◌, ◌*◌, ◌%◌, ◌≤◌, length, OnOk, IfErr, replicate};
 ghost use Rattle.std.specs.Result.{IsErrOf};
 ghost use Rattle.chip_model.specs.Geometry.{IsChipSize};
-ghost use Rattle.nor_driver.specs.State.{IsNorReady, OnlyMemoryChanges, Refuses};
+ghost use Rattle.nor_driver.specs.State.{IsNorReady, OnlyMemoryChanges};
 ghost use Rattle.erase_journal.specs.Blocks.{SameChip};
+ghost use Rattle.erase_journal.specs.Steps.{RefusesFirmly};
 ghost use Rattle.sector_slots.specs.Slots.{IsClean};
 ghost use Rattle.block_device.specs.Contents.{bytes_at, replaced, Outcome};
 ghost use Rattle.flash_disk.specs.Contents.{contents_of};
@@ -38,7 +39,7 @@ pub fn write_sectors<N: Nor>(
     ensures chip { OnOk result (SameChip map.old.memory map.new.memory) }
     ensures cut_chip { IsErrOf result NorError.Cut → SameChip map.old.memory map.new.memory }
     ensures kept { OnOk result (OnlyMemoryChanges map.old map.new) }
-    ensures fails { IfErr result (λ e. Refuses e map.old map.new) }
+    ensures fails { IfErr result (λ e. RefusesFirmly e map.old map.new) }
 {
     let mut done = 0usize;
     while done < from.len() {
@@ -69,7 +70,7 @@ pub fn zero_sectors<N: Nor>(map: &mut SectorMap<N>, first: u32, count: u32) -> R
     ensures chip { OnOk result (SameChip map.old.memory map.new.memory) }
     ensures cut_chip { IsErrOf result NorError.Cut → SameChip map.old.memory map.new.memory }
     ensures kept { OnOk result (OnlyMemoryChanges map.old map.new) }
-    ensures fails { IfErr result (λ e. Refuses e map.old map.new) }
+    ensures fails { IfErr result (λ e. RefusesFirmly e map.old map.new) }
 {
     let mut done = 0u32;
     while done < count {
@@ -94,7 +95,7 @@ pub fn read_sectors<N: Nor>(
         ≡ bytes_at (contents_of map.old.memory) (512 * first) (length into.old)) }
     ensures same { map.new.memory ≡ map.old.memory }
     ensures kept { OnOk result (OnlyMemoryChanges map.old map.new) }
-    ensures fails { IfErr result (λ e. Refuses e map.old map.new) }
+    ensures fails { IfErr result (λ e. RefusesFirmly e map.old map.new) }
 {
     let mut done = 0usize;
     while done < into.len() {

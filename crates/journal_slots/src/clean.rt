@@ -5,7 +5,7 @@ ghost use Rattle.chip_model.specs.Geometry.{IsChipSize};
 ghost use Rattle.chip_model.specs.Memory.{byte};
 ghost use Rattle.nor_layout.specs.Kinds.{kind_of};
 ghost use Rattle.nor_layout.specs.declared.header.Header.TheVariants as headers;
-ghost use Rattle.erase_journal.specs.Steps.{EndsSettled};
+ghost use Rattle.erase_journal.specs.Steps.{EndsFirmly};
 ghost use Rattle.sector_slots.specs.Slots.{data_blocks, data_block, descriptor_in, read_header};
 ghost use Rattle.sector_slots.specs.Slots.{content_bytes, blank_sector};
 ghost use Rattle.journal_slots.specs.Clean.{IsCleanBlock, AreCleanBlocks};
@@ -24,7 +24,7 @@ pub(crate) fn read_clean<N: Nor>(journal: &mut Journal<N>, blocks: u16) -> Resul
     ensures not_clean { IfOk result (λ clean. IsFalse clean → AreCleanBlocks journal.old.memory
         → ⊥) }
     ensures same { journal.new.memory ≡ journal.old.memory }
-    ensures ends { EndsSettled result journal.old journal.new }
+    ensures ends { EndsFirmly result journal.old journal.new }
 {
     for block in 0..blocks {
         if !read_clean_block(journal, block)? {
@@ -43,7 +43,7 @@ fn read_clean_block<N: Nor>(journal: &mut Journal<N>, block: u16) -> Result<bool
     ensures not_clean { IfOk result (λ clean. IsFalse clean
         → IsCleanBlock (data_block journal.old.memory block) → ⊥) }
     ensures same { journal.new.memory ≡ journal.old.memory }
-    ensures ends { EndsSettled result journal.old journal.new }
+    ensures ends { EndsFirmly result journal.old journal.new }
 {
     let mut bytes = [0; BLOCK_LEN as usize];
     journal.read(block + FIRST_DATA_BLOCK, 0, &mut bytes)?;

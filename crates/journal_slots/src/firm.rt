@@ -10,7 +10,7 @@ ghost use Rattle.chip_model.specs.Memory.{byte};
 ghost use Rattle.nor_layout.specs.Headers.{header_of};
 ghost use Rattle.erase_journal.specs.Blocks.{OnlyBlock};
 ghost use Rattle.erase_journal.specs.Journals.{IsHealthy};
-ghost use Rattle.erase_journal.specs.Steps.{EndsSettled};
+ghost use Rattle.erase_journal.specs.Steps.{EndsFirmly};
 ghost use Rattle.sector_slots.specs.Firm.{KeepsHead, HoldsBegun};
 ghost use Rattle.sector_slots.specs.Slots.{Free, Dead, data_blocks, data_block, raw_slot};
 ghost use Rattle.journal_slots.specs.Programs.{InPlace, IsFirmByte};
@@ -106,7 +106,7 @@ pub(crate) fn has_begun<N: Nor>(journal: &mut Journal<N>, block: u16) -> Result<
     ensures not_begun { IfOk result (λ begun. IsFalse begun
         → HoldsBegun (data_block journal.old.memory block) → ⊥) }
     ensures same { journal.new.memory ≡ journal.old.memory }
-    ensures ends { EndsSettled result journal.old journal.new }
+    ensures ends { EndsFirmly result journal.old journal.new }
 {
     let mut head = [0; HEAD_LEN];
     journal.read(block + FIRST_DATA_BLOCK, 0, &mut head)?;
@@ -127,7 +127,7 @@ pub(crate) fn firm_head<N: Nor>(journal: &mut Journal<N>, block: u16) -> Result<
     ensures size { length journal.new.memory ≡ length journal.old.memory }
     ensures healthy { IsErrOf result NorError.Cut → IsHealthy journal.old.memory
         → IsHealthy journal.new.memory }
-    ensures ends { EndsSettled result journal.old journal.new }
+    ensures ends { EndsFirmly result journal.old journal.new }
 {
     let mut head = [0; HEAD_LEN];
     journal.read(block + FIRST_DATA_BLOCK, 0, &mut head)?;
@@ -162,7 +162,7 @@ pub(crate) fn kill_slot<N: Nor>(
     ensures only { OnlyBlock (block + 4) journal.old.memory journal.new.memory }
     ensures healthy { IsErrOf result NorError.Cut → IsHealthy journal.old.memory
         → IsHealthy journal.new.memory }
-    ensures ends { EndsSettled result journal.old journal.new }
+    ensures ends { EndsFirmly result journal.old journal.new }
 {
     program_bytes(journal, block, descriptor_place(place), &[KILLED])?;
     Ok(())

@@ -6,7 +6,7 @@ ghost use Rattle.chip_model.specs.Geometry.{IsChipSize};
 ghost use Rattle.nor_layout.specs.Headers.{header_of};
 ghost use Rattle.nor_layout.specs.Kinds.{kind_of};
 ghost use Rattle.nor_layout.specs.declared.header.Tag.{Tag as TagOf};
-ghost use Rattle.erase_journal.specs.Steps.{EndsSettled};
+ghost use Rattle.erase_journal.specs.Steps.{EndsFirmly};
 ghost use Rattle.sector_slots.specs.Slots.{data_blocks, data_block, descriptor_in, kind_at};
 ghost use Rattle.sector_slots.specs.Slots.{read_header, header_in};
 
@@ -91,7 +91,7 @@ pub(crate) fn read_head<N: Nor>(
         → read_header into.new i ≡ descriptor_in (data_block journal.old.memory block) i) }
     ensures size { length into.new ≡ length into.old }
     ensures same { journal.new.memory ≡ journal.old.memory }
-    ensures ends { EndsSettled result journal.old journal.new }
+    ensures ends { EndsFirmly result journal.old journal.new }
 {
     let mut bytes = [0; HEAD_LEN];
     journal.read(block + FIRST_DATA_BLOCK, 0, &mut bytes)?;

@@ -9,7 +9,7 @@ ghost use Rattle.nor_layout.specs.declared.header.Tag.{Tag as TagOf};
 ghost use Rattle.erase_journal.specs.Blocks.{SameChip, OnlyBlock, WithErased};
 ghost use Rattle.erase_journal.specs.Journals.{IsHealthy, unused};
 ghost use Rattle.erase_journal.specs.Spending.{Spends};
-ghost use Rattle.erase_journal.specs.Steps.{EraseInterrupted, EndsSettled};
+ghost use Rattle.erase_journal.specs.Steps.{EraseInterrupted, EndsFirmly};
 ghost use Rattle.sector_slots.specs.Slots.{data_blocks, data_block, kind_at};
 ghost use Rattle.sector_slots.specs.Steps.{OnlyMark, IsBegun};
 
@@ -23,7 +23,7 @@ pub(crate) fn read_kind<N: Nor>(journal: &mut Journal<N>, block: u16) -> Result<
     requires sized { IsChipSize (length journal.old.memory) }
     ensures ok { IfOk result (λ kind. kind ≡ kind_at journal.old.memory block) }
     ensures same { journal.new.memory ≡ journal.old.memory }
-    ensures ends { EndsSettled result journal.old journal.new }
+    ensures ends { EndsFirmly result journal.old journal.new }
 {
     let mut mark = [0; MARK_LEN];
     journal.read(block + FIRST_DATA_BLOCK, 0, &mut mark)?;
@@ -54,7 +54,7 @@ pub(crate) fn program_mark<N: Nor>(
     ensures chip { SameChip journal.old.memory journal.new.memory }
     ensures healthy { IsErrOf result NorError.Cut → IsHealthy journal.old.memory
         → IsHealthy journal.new.memory }
-    ensures ends { EndsSettled result journal.old journal.new }
+    ensures ends { EndsFirmly result journal.old journal.new }
 {
     journal.program(target + FIRST_DATA_BLOCK, 4, mark)?;
     Ok(())
@@ -76,7 +76,7 @@ pub(crate) fn commit_mark<N: Nor>(journal: &mut Journal<N>, target: u16) -> Resu
     ensures chip { SameChip journal.old.memory journal.new.memory }
     ensures healthy { IsErrOf result NorError.Cut → IsHealthy journal.old.memory
         → IsHealthy journal.new.memory }
-    ensures ends { EndsSettled result journal.old journal.new }
+    ensures ends { EndsFirmly result journal.old journal.new }
 {
     journal.program(target + FIRST_DATA_BLOCK, 4, &[COMMITTED])?;
     Ok(())
@@ -99,7 +99,7 @@ pub(crate) fn settle_mark<N: Nor>(journal: &mut Journal<N>, target: u16) -> Resu
     ensures chip { SameChip journal.old.memory journal.new.memory }
     ensures healthy { IsErrOf result NorError.Cut → IsHealthy journal.old.memory
         → IsHealthy journal.new.memory }
-    ensures ends { EndsSettled result journal.old journal.new }
+    ensures ends { EndsFirmly result journal.old journal.new }
 {
     journal.program(target + FIRST_DATA_BLOCK, 4, &[SETTLED])?;
     Ok(())
@@ -119,7 +119,7 @@ pub(crate) fn retire_header<N: Nor>(journal: &mut Journal<N>, block: u16) -> Res
     ensures only { OnlyBlock (block + 4) journal.old.memory journal.new.memory }
     ensures healthy { IsErrOf result NorError.Cut → IsHealthy journal.old.memory
         → IsHealthy journal.new.memory }
-    ensures ends { EndsSettled result journal.old journal.new }
+    ensures ends { EndsFirmly result journal.old journal.new }
 {
     journal.program(block + FIRST_DATA_BLOCK, 0, &[RETIRED])?;
     Ok(())
@@ -136,7 +136,7 @@ pub(crate) fn erase_data<N: Nor>(journal: &mut Journal<N>, block: u16) -> Result
         → IsHealthy journal.new.memory }
     ensures spends { OnOk result (Spends (unused journal.old.memory) (unused journal.new.memory)) }
     ensures size { length journal.new.memory ≡ length journal.old.memory }
-    ensures ends { EndsSettled result journal.old journal.new }
+    ensures ends { EndsFirmly result journal.old journal.new }
 {
     journal.erase(block + FIRST_DATA_BLOCK)?;
     Ok(())

@@ -5,7 +5,7 @@ ghost use Rattle.std.specs.Prelude.{OnOk, IfOk, MatchOption, IsTrue};
 ghost use Rattle.chip_model.specs.Geometry.{IsChipSize};
 ghost use Rattle.nor_layout.specs.Kinds.{kind_of};
 ghost use Rattle.nor_layout.specs.declared.header.Tag.{Tag as TagOf};
-ghost use Rattle.erase_journal.specs.Steps.{EndsSettled};
+ghost use Rattle.erase_journal.specs.Steps.{EndsFirmly};
 ghost use Rattle.sector_slots.specs.Slots.{Free, Live, data_blocks, data_block, descriptor_in};
 ghost use Rattle.sector_slots.specs.Slots.{content_bytes, raw_slot, stored_at, slot_count};
 ghost use Rattle.sector_slots.specs.Steps.{IsBegun};
@@ -28,7 +28,7 @@ pub(crate) fn read_header<N: Nor>(
     ensures ok { IfOk result (λ header. header
         ≡ descriptor_in (data_block journal.old.memory block) place) }
     ensures same { journal.new.memory ≡ journal.old.memory }
-    ensures ends { EndsSettled result journal.old journal.new }
+    ensures ends { EndsFirmly result journal.old journal.new }
 {
     let mut heads = [Header::Free; 7];
     read_head(journal, block, &mut heads)?;
@@ -49,7 +49,7 @@ pub(crate) fn read_content<N: Nor>(
     ensures ok { OnOk result (into.new
         ≡ content_bytes (data_block journal.old.memory block) place) }
     ensures same { journal.new.memory ≡ journal.old.memory }
-    ensures ends { EndsSettled result journal.old journal.new }
+    ensures ends { EndsFirmly result journal.old journal.new }
 {
     journal.read(block + FIRST_DATA_BLOCK, content_place(place), into)?;
     Ok(())
@@ -71,7 +71,7 @@ pub(crate) fn read_slot<N: Nor>(
         → raw_slot journal.old.memory block place ≢ Live tag content) × (into.new ≡ into.old))
         (λ tag. raw_slot journal.old.memory block place ≡ Live tag into.new)) }
     ensures same { journal.new.memory ≡ journal.old.memory }
-    ensures ends { EndsSettled result journal.old journal.new }
+    ensures ends { EndsFirmly result journal.old journal.new }
 {
     match read_header(journal, block, place)? {
         Header::Live(tag) => {
@@ -91,7 +91,7 @@ pub(crate) fn free_at<N: Nor>(journal: &mut Journal<N>, slot: u16) -> Result<boo
     ensures ok { IfOk result (λ is_free. IsTrue is_free
         ↔ (stored_at journal.old.memory slot ≡ Free)) }
     ensures same { journal.new.memory ≡ journal.old.memory }
-    ensures ends { EndsSettled result journal.old journal.new }
+    ensures ends { EndsFirmly result journal.old journal.new }
 {
     match read_header(journal, slot / SLOTS, slot % SLOTS)? {
         Header::Free => Ok(true),
@@ -113,7 +113,7 @@ pub(crate) fn content_at<N: Nor>(
     ensures ok { OnOk result ((tag : TagOf) (content : List ℕ)
         → stored_at journal.old.memory slot ≡ Live tag content → into.new ≡ content) }
     ensures same { journal.new.memory ≡ journal.old.memory }
-    ensures ends { EndsSettled result journal.old journal.new }
+    ensures ends { EndsFirmly result journal.old journal.new }
 {
     read_content(journal, slot / SLOTS, slot % SLOTS, into)?;
     Ok(())
@@ -148,7 +148,7 @@ pub(crate) fn read_source<N: Nor>(
     ensures named { IfOk result (λ found. (source : ℕ) → source < data_blocks journal.old.memory
         → IsBegun target source journal.old.memory → found ≡ Some source) }
     ensures same { journal.new.memory ≡ journal.old.memory }
-    ensures ends { EndsSettled result journal.old journal.new }
+    ensures ends { EndsFirmly result journal.old journal.new }
 {
     let blocks = journal.blocks() - FIRST_DATA_BLOCK;
     let mut mark = [0; MARK_LEN];

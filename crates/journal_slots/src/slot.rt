@@ -8,7 +8,7 @@ ghost use Rattle.chip_model.specs.Memory.{byte, and_at, TornAnd};
 ghost use Rattle.nor_driver.specs.State.{Leaves};
 ghost use Rattle.erase_journal.specs.Blocks.{SameChip, OnlyBlock};
 ghost use Rattle.erase_journal.specs.Journals.{IsHealthy};
-ghost use Rattle.erase_journal.specs.Steps.{EndsSettled};
+ghost use Rattle.erase_journal.specs.Steps.{EndsFirmly};
 ghost use Rattle.sector_slots.specs.Slots.{Free, Live, Dead, data_blocks, data_block, kind_at};
 ghost use Rattle.sector_slots.specs.Slots.{raw_slot, IsLive, is_group};
 ghost use Rattle.sector_slots.specs.Steps.{HoldsTag, OnlyPlace, IsBegun, IsErasedSlot, CopyLeaves};
@@ -62,7 +62,7 @@ pub(crate) fn program_bytes<N: Nor>(
     ensures only { OnlyBlock (block + 4) journal.old.memory journal.new.memory }
     ensures healthy { IsErrOf result NorError.Cut → IsHealthy journal.old.memory
         → IsHealthy journal.new.memory }
-    ensures ends { EndsSettled result journal.old journal.new }
+    ensures ends { EndsFirmly result journal.old journal.new }
 {
     journal.program(block + FIRST_DATA_BLOCK, at, bytes)?;
     Ok(())
@@ -87,7 +87,7 @@ fn write_content<N: Nor>(
     ensures only { OnlyBlock (block + 4) journal.old.memory journal.new.memory }
     ensures healthy { IsErrOf result NorError.Cut → IsHealthy journal.old.memory
         → IsHealthy journal.new.memory }
-    ensures ends { EndsSettled result journal.old journal.new }
+    ensures ends { EndsFirmly result journal.old journal.new }
 {
     let at = content_place(place);
     program_bytes(journal, block, at, &content[..PAGE_LEN])?;
@@ -123,7 +123,7 @@ fn fill<N: Nor>(
     ensures only { OnlyBlock (block + 4) journal.old.memory journal.new.memory }
     ensures healthy { IsErrOf result NorError.Cut → IsHealthy journal.old.memory
         → IsHealthy journal.new.memory }
-    ensures ends { EndsSettled result journal.old journal.new }
+    ensures ends { EndsFirmly result journal.old journal.new }
 {
     program_bytes(journal, block, descriptor_place(place), header)?;
     write_content(journal, block, place, content)?;
@@ -157,7 +157,7 @@ pub(crate) fn write_slot<N: Nor>(
     ensures only { OnlyBlock (block + 4) journal.old.memory journal.new.memory }
     ensures healthy { IsErrOf result NorError.Cut → IsHealthy journal.old.memory
         → IsHealthy journal.new.memory }
-    ensures ends { EndsSettled result journal.old journal.new }
+    ensures ends { EndsFirmly result journal.old journal.new }
 {
     let header = begun_header(tag);
     fill(journal, block, place, &header, content)?;
@@ -189,7 +189,7 @@ pub(crate) fn write_live_slot<N: Nor>(
     ensures only { OnlyBlock (block + 4) journal.old.memory journal.new.memory }
     ensures healthy { IsErrOf result NorError.Cut → IsHealthy journal.old.memory
         → IsHealthy journal.new.memory }
-    ensures ends { EndsSettled result journal.old journal.new }
+    ensures ends { EndsFirmly result journal.old journal.new }
 {
     let header = live_header(tag);
     write_content(journal, block, place, content)?;
@@ -220,7 +220,7 @@ pub(crate) fn retire_slot<N: Nor>(
     ensures only { OnlyBlock (block + 4) journal.old.memory journal.new.memory }
     ensures healthy { IsErrOf result NorError.Cut → IsHealthy journal.old.memory
         → IsHealthy journal.new.memory }
-    ensures ends { EndsSettled result journal.old journal.new }
+    ensures ends { EndsFirmly result journal.old journal.new }
 {
     program_bytes(journal, block, descriptor_place(place), &[RETIRED])?;
     Ok(())
@@ -262,7 +262,7 @@ fn copy_from<N: Nor>(
     ensures only { OnlyBlock (target + 4) journal.old.memory journal.new.memory }
     ensures healthy { IsErrOf result NorError.Cut → IsHealthy journal.old.memory
         → IsHealthy journal.new.memory }
-    ensures ends { EndsSettled result journal.old journal.new }
+    ensures ends { EndsFirmly result journal.old journal.new }
 {
     let mut content = [0; SLOT_LEN];
     let kind = read_kind(journal, source)?;
@@ -300,7 +300,7 @@ pub(crate) fn copy_slot<N: Nor>(
         → IsErasedSlot target i journal.old.memory → IsErasedSlot target i journal.new.memory) }
     ensures healthy { IsErrOf result NorError.Cut → IsHealthy journal.old.memory
         → IsHealthy journal.new.memory }
-    ensures ends { EndsSettled result journal.old journal.new }
+    ensures ends { EndsFirmly result journal.old journal.new }
 {
     match read_source(journal, target)? {
         Some(source) => {

@@ -3,7 +3,7 @@
 ghost use Rattle.std.specs.Prelude.{◌≡◌, ◌<◌, true, length, IfOk, IsTrue, IsFalse};
 ghost use Rattle.chip_model.specs.Geometry.{IsChipSize};
 ghost use Rattle.nor_driver.specs.State.{NorState};
-ghost use Rattle.erase_journal.specs.Steps.{EndsSettled};
+ghost use Rattle.erase_journal.specs.Steps.{EndsFirmly};
 ghost use Rattle.sector_slots.specs.Blocks.{AreAtRest};
 ghost use Rattle.sector_slots.specs.Slots.{slot_count, descriptor_at, IsClean, data_blocks};
 ghost use Rattle.sector_slots.specs.Slots.{kind_at};
@@ -83,7 +83,7 @@ impl<N: Nor> SectorSlots<N> {
         requires number { slot < slot_count self.old.memory }
         ensures ok { IfOk result (λ header. header ≡ descriptor_at self.old.memory slot) }
         ensures same { self.new.memory ≡ self.old.memory }
-        ensures ends { EndsSettled result self.old self.new }
+        ensures ends { EndsFirmly result self.old self.new }
     {
         read_header(&mut self.journal, slot / SLOTS, slot % SLOTS)
     }
@@ -96,7 +96,7 @@ impl<N: Nor> SectorSlots<N> {
             → AreAtRest (kind_at self.old.memory) (data_blocks self.old.memory)
             → IsClean self.old.memory → ⊥) }
         ensures same { self.new.memory ≡ self.old.memory }
-        ensures ends { EndsSettled result self.old self.new }
+        ensures ends { EndsFirmly result self.old self.new }
     {
         read_clean(&mut self.journal, self.blocks)
     }

@@ -4,17 +4,19 @@ use Rattle.std.specs.Prelude.{Option, Some, None, IfSome, Result, Ok, Err, OnOk,
 use Rattle.std.proofs.lemmas.Bool.{ne_eqb}
 use Rattle.chip_model.specs.Geometry.{sector_count, block_count}
 use Rattle.nor_driver.specs.State.{NorState, IsNorReady, Refuses}
+use Rattle.erase_journal.specs.Steps.{RefusesFirmly}
 use Rattle.nor_driver.specs.declared.error.NorError.{NorError}
 use Rattle.nor_driver.proofs.CallLaws.{ready-after}
 use Rattle.erase_journal.specs.Blocks.{SameChip}
 use Rattle.erase_journal.specs.Places.{how_many}
-use Rattle.erase_journal.specs.Steps.{SucceedsSettled, EndsSettled}
+use Rattle.erase_journal.specs.Steps.{SucceedsSettled, EndsFirmly}
 use Rattle.sector_slots.proofs.CopyLaws.{how_many-zero, how_many-suc}
 use Rattle.erase_journal.specs.Journals.{IsHealthy, IsSettled}
 use Rattle.sector_slots.specs.Slots.{Slot, Free, Live, NoGeneration, Dead, Outside, slot_at, slot_count, data_blocks, kind_at, is_group, IsClean}
 use Rattle.sector_slots.specs.Blocks.{AreSettled}
 use Rattle.sector_slots.specs.Sectors.{sector_at, with_sector, IsSingle, IsSoundMap, HoldsSectors, HasSlotsAlone}
-use Rattle.erase_journal.proofs.SettledLaws.{settled-healthy, settled-after}
+use Rattle.erase_journal.proofs.SettledLaws.{refuses-settled, settled-healthy, settled-after}
+use Rattle.erase_journal.proofs.Firmly.{refuses-plainly}
 use Rattle.sector_slots.proofs.StepLaws.{chip-after}
 use Rattle.sector_stock.specs.declared.given.Copied.{Copied}
 use Rattle.sector_stock.specs.Copy.{Stays, SameSectors}
@@ -363,10 +365,15 @@ pub after-ok : {T : Type 0} (r : Result T NorError) (P Q : Type 0) → (P → Q)
 after-ok (Ok v) P Q f h = f h
 after-ok (Err e) P Q f h = tt
 
-pub after-fails : {T : Type 0} (r : Result T NorError) (a b c : NorState) → (b ≡ a) ⊎ SucceedsSettled a b → IfErr r (λ e. Refuses e b c) → IfErr r (λ e. Refuses e a c)
+pub after-fails : {T : Type 0} (r : Result T NorError) (a b c : NorState) → (b ≡ a) ⊎ SucceedsSettled a b → IfErr r (λ e. RefusesFirmly e b c) → IfErr r (λ e. RefusesFirmly e a c)
 after-fails (Ok v) a b c p h = tt
 after-fails (Err e) a b c p h = refuses-perhaps e a b c p h
 
-pub after-ends : {T : Type 0} (r : Result T NorError) (a b c : NorState) → (b ≡ a) ⊎ SucceedsSettled a b → EndsSettled r b c → EndsSettled r a c
+-- where a mount's own calls say nothing of firm journals
+pub plainly-fails : {T : Type 0} (r : Result T NorError) (a b c : NorState) → SucceedsSettled a b → IfErr r (λ e. RefusesFirmly e b c) → IfErr r (λ e. Refuses e a c)
+plainly-fails (Ok v) a b c p h = tt
+plainly-fails (Err e) a b c p h = refuses-settled e a b c p (refuses-plainly e b c h)
+
+pub after-ends : {T : Type 0} (r : Result T NorError) (a b c : NorState) → (b ≡ a) ⊎ SucceedsSettled a b → EndsFirmly r b c → EndsFirmly r a c
 after-ends (Ok v) a b c p h = succeeds-perhaps a b c p h
 after-ends (Err e) a b c p h = refuses-perhaps e a b c p h

@@ -8,7 +8,7 @@ use Rattle.nor_layout.specs.Layouts.{layout_of}
 use Rattle.nor_layout.specs.Superblock.{has_name, is_sealed, blocks_in, groups_in, layout_in, mixed_in}
 use Rattle.nor_layout.specs.declared.layout.Layout.TheVariants.{Groups, Mixed}
 use Rattle.nor_layout.specs.declared.superblock.SuperError.TheVariants as refusals
-use Rattle.erase_journal.specs.Blocks.{SameChip, OnlySuper}
+use Rattle.erase_journal.specs.Blocks.{SameBlocks, SameChip, OnlySuper}
 use Rattle.sector_slots.specs.Sectors.{IsSoundMap, sector_at}
 use Rattle.sector_slots.specs.Laws.{IsMarked}
 use Rattle.sector_slots.proofs.MixLaws.{only-marked, marks-keep}
@@ -144,3 +144,7 @@ mends-none m = record { chip = record { same_length = refl; superblock = λ k lo
 
 pub cut-marking : (m b : List ℕ) → (b ≡ m) ⊎ Marks m b → MountCut m b
 cut-marking m b h = elim h as (λ _. MountCut m b) [ inl e ↦ cut-none m b e | inr q ↦ cut-marked m b b q (mends-none b) ]
+
+-- a superblock that is the same says the same
+pub unmarked-same : (m m' : List ℕ) → SameBlocks m m' → is_unmarked m' ≡ is_unmarked m
+unmarked-same m m' h = rw (h.chip.superblock 8 (omega arith), h.chip.superblock 15 (omega arith)) refl

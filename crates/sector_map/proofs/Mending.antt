@@ -3,7 +3,8 @@ use Rattle.std.proofs.Common.{◌≡◌, ◌≢◌, ℕ, suc, ◌+◌, ◌-◌, 
 use Rattle.std.specs.Prelude.{◌/◌, ◌%◌}
 use Rattle.std.proofs.lemmas.Bool.{cases_eq}
 use Rattle.chip_model.specs.Geometry.{block_count}
-use Rattle.nor_driver.specs.State.{NorState, Refuses}
+use Rattle.nor_driver.specs.State.{NorState}
+use Rattle.erase_journal.specs.Steps.{RefusesFirmly}
 use Rattle.nor_driver.specs.declared.error.NorError.{NorError}
 use Rattle.nor_layout.specs.declared.header.Tag.{Tag}
 use Rattle.nor_layout.specs.declared.kind.Kind.{Kind}
@@ -12,7 +13,8 @@ use Rattle.nor_layout.specs.Headers.{next_generation}
 use Rattle.erase_journal.specs.Blocks.{SameChip, SameBlocks, OnlyBlock, WithErased}
 use Rattle.erase_journal.specs.Journals.{IsHealthy}
 use Rattle.erase_journal.specs.Steps.{SucceedsSettled, EraseInterrupted, as_it_was, block_erased}
-use Rattle.erase_journal.proofs.SettledLaws.{settled-healthy, settled-after, refuses-settled}
+use Rattle.erase_journal.proofs.SettledLaws.{settled-healthy, settled-after}
+use Rattle.erase_journal.proofs.Firmly.{refuses-firmly}
 use Rattle.sector_slots.specs.Slots.{Slot, counted, is_group, data_blocks, data_block, kind_at, raw_slot, slot_at, slot_count, IsClean}
 use Rattle.sector_slots.specs.Blocks.{IsAtRest, AreAtRest, AreSettled, HasGroupRoom, dead_group, two_blocks}
 use Rattle.sector_slots.specs.Sectors.{HoldsSectors, IsSoundMap, sector_at}
@@ -413,8 +415,8 @@ retiring-healthy table k a b r h = elim r.since as (λ _. IsHealthy b.memory) [ 
 pub retiring-number : (table : List LiveSlots) (k : ℕ) (a b : NorState) (kind : Kind) (tag : Tag) → IsTabled table (slot_at a.memory) (slot_count a.memory) → AreAtRest (kind_at a.memory) (data_blocks a.memory) → k < data_blocks a.memory → kind ≡ kind_at b.memory k → kind ≡ kinds.Group tag → Retiring table k a b → 7 * tag.number < length table
 retiring-number table k a b kind tag t rest low is e r = group-number table a.memory k tag t rest low (sym (r.later k low (omega arith)) ∙ (sym is ∙ e))
 
-pub retiring-refuses : (table : List LiveSlots) (k : ℕ) (e : NorError) (a b c : NorState) → Retiring table k a b → Refuses e b c → Refuses e a c
-retiring-refuses table k e a b c r f = elim r.since as (λ _. Refuses e a c) [ inl q ↦ subst (λ z. Refuses e z c) q f | inr s ↦ refuses-settled e a b c s f ]
+pub retiring-refuses : (table : List LiveSlots) (k : ℕ) (e : NorError) (a b c : NorState) → Retiring table k a b → RefusesFirmly e b c → RefusesFirmly e a c
+retiring-refuses table k e a b c r f = elim r.since as (λ _. RefusesFirmly e a c) [ inl q ↦ subst (λ z. RefusesFirmly e z c) q f | inr s ↦ refuses-firmly e a b c s f ]
 
 pub rest-found : (m : List ℕ) → AreAtRest (kind_at m) (data_blocks m) → FoundIn AtRest m
 rest-found m rest = record { rest = rest }

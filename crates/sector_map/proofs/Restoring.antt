@@ -13,7 +13,8 @@ use Rattle.erase_journal.specs.Blocks.{SameBlocks}
 use Rattle.erase_journal.specs.Journals.{IsHealthy, IsSettled}
 use Rattle.erase_journal.specs.Recovery.{Restored, RestoreCut, RestoreCorrupt}
 use Rattle.erase_journal.specs.Steps as steps
-use Rattle.erase_journal.specs.Steps.{SucceedsSettled}
+use Rattle.erase_journal.specs.Steps.{RefusesFirmly, SucceedsSettled}
+use Rattle.erase_journal.proofs.Standing.{same-loses}
 use Rattle.sector_slots.specs.Slots.{slot_in, data_blocks, data_block, kind_at, raw_slot, IsClean}
 use Rattle.sector_slots.specs.Sectors.{IsSoundMap, sector_at}
 use Rattle.sector_slots.proofs.BlankLaws.{counted-same}
@@ -163,25 +164,25 @@ pub known-after : (o : Option NorError) (table now : List LiveSlots) (a b : NorS
 known-after o table now a b i j items same e served = subst (λ z. KnownWhile o z b j) (sym same) (known-served o now b j e served)
 
 -- or it is latched
-pub known-latched : (o : Option NorError) (error : NorError) (table items : List LiveSlots) (a b : NorState) (i j : Bool) → o ≡ None → KnownWhile o table a i → Refuses error a b → (error ≡ errors.Cut → IsStore b.memory) → KnownWhile (Some error) items b j
+pub known-latched : (o : Option NorError) (error : NorError) (table items : List LiveSlots) (a b : NorState) (i j : Bool) → o ≡ None → KnownWhile o table a i → RefusesFirmly error a b → (error ≡ errors.Cut → IsStore b.memory) → KnownWhile (Some error) items b j
 known-latched o errors.Cut table items a b i j e h f store = record { off = f.fails.2; quick = f.fails.3 ∙ (served-none o table a i e h).ready.1; store = store refl }
 known-latched o errors.Slow table items a b i j e h f store = tt
 
 -- what is latched is answered, and nothing is done
-pub latched-refuses : (o : Option NorError) (error : NorError) (table : List LiveSlots) (a : NorState) (i : Bool) → o ≡ Some error → KnownWhile o table a i → Refuses error (shown_with o a) (shown_with o a)
+pub latched-refuses : (o : Option NorError) (error : NorError) (table : List LiveSlots) (a : NorState) (i : Bool) → o ≡ Some error → KnownWhile o table a i → RefusesFirmly error (shown_with o a) (shown_with o a)
 latched-refuses None error table a i e h = absurd (cc e)
 latched-refuses (Some errors.Cut) errors.Cut table a i e h =
     let b = bits_in a in
-    record { fails = (inr (h.off, refl), refl, h.off, refl, refl, interrupted-none b b (firmer-none b)); first = (refl, λ off. refl) }
+    record { fails = (inr (h.off, refl), refl, h.off, refl, refl, interrupted-none b b (firmer-none b)); first = (refl, λ off. refl); journals = λ is. same-loses (shown_with (Some errors.Cut) a) (shown_with (Some errors.Cut) a) refl refl }
 latched-refuses (Some errors.Cut) errors.Slow table a i e h = absurd (cc e)
 latched-refuses (Some errors.Slow) errors.Cut table a i e h = absurd (cc e)
-latched-refuses (Some errors.Slow) errors.Slow table a i e h = record { fails = (inr (refl, refl), refl, refl, refl, refl, firmer-none (bits_in a)); first = (λ quick. absurd (let q : true ≡ false = quick in cc), λ slow. refl) }
+latched-refuses (Some errors.Slow) errors.Slow table a i e h = record { fails = (inr (refl, refl), refl, refl, refl, refl, firmer-none (bits_in a)); first = (λ quick. absurd (let q : true ≡ false = quick in cc), λ slow. refl); journals = λ is. absurd (cc is) }
 
 -- what a map shows of a call that its store refused
-pub shown-refuses : (o : Option NorError) (error : NorError) (table : List LiveSlots) (a b : NorState) (i : Bool) → o ≡ None → KnownWhile o table a i → Refuses error a b → Refuses error (shown_with o a) (shown_with (Some error) b)
+pub shown-refuses : (o : Option NorError) (error : NorError) (table : List LiveSlots) (a b : NorState) (i : Bool) → o ≡ None → KnownWhile o table a i → RefusesFirmly error a b → RefusesFirmly error (shown_with o a) (shown_with (Some error) b)
 shown-refuses o errors.Cut table a b i e h r =
     let ready = (served-none o table a i e h).ready in
-    record { fails = (r.fails.0, r.fails.1, r.fails.2, sym (ap is_slow_in e), r.fails.4, r.fails.5); first = first-ready errors.Cut (shown_with o a) (shown_with (Some errors.Cut) b) (ready.0, ap is_slow_in e) }
+    record { fails = (r.fails.0, r.fails.1, r.fails.2, sym (ap is_slow_in e), r.fails.4, r.fails.5); first = first-ready errors.Cut (shown_with o a) (shown_with (Some errors.Cut) b) (ready.0, ap is_slow_in e); journals = r.journals }
 shown-refuses o errors.Slow table a b i e h r =
     let ready = (served-none o table a i e h).ready in
     record {
@@ -194,6 +195,7 @@ shown-refuses o errors.Slow table a b i e h r =
         r.fails.5,
       );
       first = first-ready errors.Slow (shown_with o a) (shown_with (Some errors.Slow) b) (ready.0, ap is_slow_in e);
+      journals = λ is. absurd (cc is);
     }
 
 pub leaves-store : (g : ℕ) (x m m' : List ℕ) → SetLeaves g x m m' → IsStore m'

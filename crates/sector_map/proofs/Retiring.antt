@@ -6,7 +6,8 @@ use Rattle.chip_model.specs.Geometry.{sector_count, block_count}
 use Rattle.nor_layout.specs.declared.header.Generation.{Generation}
 use Rattle.nor_layout.specs.declared.header.Tag.{Tag}
 use Rattle.nor_layout.specs.Headers.{next_generation}
-use Rattle.nor_driver.specs.State.{NorState, Refuses}
+use Rattle.nor_driver.specs.State.{NorState}
+use Rattle.erase_journal.specs.Steps.{RefusesFirmly}
 use Rattle.nor_driver.specs.declared.error.NorError.{NorError}
 use Rattle.erase_journal.specs.Blocks.{SameChip}
 use Rattle.erase_journal.specs.Journals.{IsHealthy}
@@ -24,7 +25,8 @@ use Rattle.sector_map.specs.Replace.{HeldBy}
 use Rattle.sector_map.specs.declared.table.Held.{Held}
 use Rattle.sector_map.specs.declared.table.LiveSlots.{LiveSlots}
 use Rattle.sector_map.specs.declared.table.LiveSlots.TheVariants.{Absent, One, Two}
-use Rattle.erase_journal.proofs.SettledLaws.{settled-healthy, settled-after, refuses-settled}
+use Rattle.erase_journal.proofs.SettledLaws.{settled-healthy, settled-after}
+use Rattle.erase_journal.proofs.Firmly.{refuses-firmly}
 use Rattle.sector_map.proofs.Replacing.{chip-after, back-through, on-through}
 
 -- an entry of a sector that slot w neither held nor holds
@@ -130,9 +132,9 @@ pub succeeds-perhaps : (a b c : NorState) → (b ≡ a) ⊎ SucceedsSettled a b 
 succeeds-perhaps a b c (inl e) s = subst (λ z. SucceedsSettled z c) e s
 succeeds-perhaps a b c (inr t) s = settled-after a b c t s
 
-pub refuses-perhaps : (e : NorError) (a b c : NorState) → (b ≡ a) ⊎ SucceedsSettled a b → Refuses e b c → Refuses e a c
-refuses-perhaps e a b c (inl q) r = subst (λ z. Refuses e z c) q r
-refuses-perhaps e a b c (inr t) r = refuses-settled e a b c t r
+pub refuses-perhaps : (e : NorError) (a b c : NorState) → (b ≡ a) ⊎ SucceedsSettled a b → RefusesFirmly e b c → RefusesFirmly e a c
+refuses-perhaps e a b c (inl q) r = subst (λ z. RefusesFirmly e z c) q r
+refuses-perhaps e a b c (inr t) r = refuses-firmly e a b c t r
 
 pub older-number : (table0 table : List LiveSlots) (n : ℕ) (a b : NorState) (x y : Held) → n < length table → slice_index_or table n Absent ≡ Two x y → Retired table0 table n a b → y.slot < slot_count b.memory
 older-number table0 table n a b x y low is r =

@@ -1,14 +1,16 @@
 -- The void blocks are erased, one after another.
 use Rattle.std.proofs.Common.{◌≡◌, ◌≢◌, ℕ, suc, ◌+◌, ◌<◌, ◌≤◌, ◌⊎◌, true, false, List, refl, sym, ap, ◌∙◌, subst, arith, inl, inr}
 use Rattle.std.proofs.lemmas.Bool.{cases_eq}
-use Rattle.nor_driver.specs.State.{NorState, Refuses}
+use Rattle.nor_driver.specs.State.{NorState}
+use Rattle.erase_journal.specs.Steps.{RefusesFirmly}
 use Rattle.nor_driver.specs.declared.error.NorError.{NorError}
 use Rattle.nor_layout.specs.declared.kind.Kind.{Kind}
 use Rattle.nor_layout.specs.declared.kind.Kind.TheVariants as kinds
 use Rattle.nor_layout.specs.Kinds.{kind_of}
 use Rattle.erase_journal.specs.Journals.{IsHealthy}
 use Rattle.erase_journal.specs.Steps.{SucceedsSettled}
-use Rattle.erase_journal.proofs.SettledLaws.{settled-healthy, settled-after, refuses-settled}
+use Rattle.erase_journal.proofs.SettledLaws.{settled-healthy, settled-after}
+use Rattle.erase_journal.proofs.Firmly.{refuses-firmly}
 use Rattle.sector_slots.specs.Slots.{Slot, is_void, slot_in, data_blocks, data_block, kind_at, slot_at, slot_count, IsSpareIn}
 use Rattle.sector_slots.specs.Blocks.{IsAtRest, IsUncommitted, IsCopying}
 use Rattle.sector_slots.specs.Copying.{SameLive, HoldsNothing}
@@ -146,8 +148,8 @@ voiding-cut k a b c d same h r = after-keeps a.memory b.memory d.memory r.keeps 
 pub voiding-healthy : (k : ℕ) (a b : NorState) → Voiding k a b → IsHealthy a.memory → IsHealthy b.memory
 voiding-healthy k a b r h = elim r.since as (λ _. IsHealthy b.memory) [ inl e ↦ subst (λ z. IsHealthy z.memory) (sym e) h | inr s ↦ settled-healthy b.memory s.settled ]
 
-pub voiding-refuses : (k : ℕ) (e : NorError) (a b c : NorState) → Voiding k a b → Refuses e b c → Refuses e a c
-voiding-refuses k e a b c r f = elim r.since as (λ _. Refuses e a c) [ inl q ↦ subst (λ z. Refuses e z c) q f | inr s ↦ refuses-settled e a b c s f ]
+pub voiding-refuses : (k : ℕ) (e : NorError) (a b c : NorState) → Voiding k a b → RefusesFirmly e b c → RefusesFirmly e a c
+voiding-refuses k e a b c r f = elim r.since as (λ _. RefusesFirmly e a c) [ inl q ↦ subst (λ z. RefusesFirmly e z c) q f | inr s ↦ refuses-firmly e a b c s f ]
 
 pub voiding-done : (k : ℕ) (a b : NorState) → k ≡ data_blocks a.memory → Voiding k a b → EndsVoids a.memory b.memory
 voiding-done k a b e r = record {

@@ -3,9 +3,10 @@
 
 ghost use Rattle.std.specs.Prelude.{◌≡◌, ◌⊎◌, ◌<◌, length, OnOk, IfOk, IfErr, IsFalse};
 ghost use Rattle.std.specs.Result.{IsErrOf};
-ghost use Rattle.nor_driver.specs.State.{Refuses};
+ghost use Rattle.nor_driver.specs.State.{bits_in, Refuses};
 ghost use Rattle.erase_journal.specs.Journals.{IsHealthy};
-ghost use Rattle.erase_journal.specs.Steps.{SucceedsSettled, EndsSettled};
+ghost use Rattle.erase_journal.specs.Steps.{RefusesFirmly, SucceedsSettled, EndsFirmly};
+ghost use Rattle.erase_journal.specs.Weak.{AreFirmJournals, AreRecoveredJournals};
 ghost use Rattle.sector_slots.specs.Slots.{data_blocks};
 ghost use Rattle.sector_slots.specs.Sectors.{zeros};
 ghost use Rattle.sector_map.specs.Firm.{StaysAlike, HasNoneBegun, IsMendedMap};
@@ -24,6 +25,9 @@ use sector_stock::{Reclaim, move_afresh};
 pub(crate) fn firm_as<S: FirmCalls>(slots: &mut S, firmness: Firmness) -> Result<bool, NorError>
     ensures none { firmness ≡ Firmness.Firm → IfOk result (λ begun. IsFalse begun
         → HasNoneBegun (S.state slots.old).memory) }
+    ensures journals { firmness ≡ Firmness.Firm
+        → AreRecoveredJournals (bits_in (S.state slots.old))
+        → OnOk result (AreFirmJournals (bits_in (S.state slots.new))) }
     ensures ok { OnOk result (StaysAlike (S.state slots.old).memory (S.state slots.new).memory) }
     ensures cut { IsErrOf result NorError.Cut → IsHealthy (S.state slots.old).memory
         → StaysAlike (S.state slots.old).memory (S.state slots.new).memory }
@@ -67,7 +71,7 @@ fn firm_heads<S: FirmCalls>(slots: &mut S) -> Result<bool, NorError>
     ensures size { length (S.state slots.new).memory ≡ length (S.state slots.old).memory }
     ensures done { OnOk result ((S.state slots.new ≡ S.state slots.old)
         ⊎ SucceedsSettled (S.state slots.old) (S.state slots.new)) }
-    ensures fails { IfErr result (λ e. Refuses e (S.state slots.old) (S.state slots.new)) }
+    ensures fails { IfErr result (λ e. RefusesFirmly e (S.state slots.old) (S.state slots.new)) }
 {
     let count = slots.blocks();
     let mut begun = false;
@@ -96,7 +100,7 @@ pub(crate) fn move_begun<S: Reclaim>(
     ensures size { length (S.state stock.new).memory ≡ length (S.state stock.old).memory }
     ensures done { OnOk result ((S.state stock.new ≡ S.state stock.old)
         ⊎ SucceedsSettled (S.state stock.old) (S.state stock.new)) }
-    ensures fails { IfErr result (λ e. Refuses e (S.state stock.old) (S.state stock.new)) }
+    ensures fails { IfErr result (λ e. RefusesFirmly e (S.state stock.old) (S.state stock.new)) }
 {
     if !begun {
         return Ok(());
@@ -125,7 +129,7 @@ fn move_if_begun<S: Reclaim>(
         → IsHealthy (S.state stock.new).memory }
     ensures table { length table.new ≡ length table.old }
     ensures size { length (S.state stock.new).memory ≡ length (S.state stock.old).memory }
-    ensures ends { EndsSettled result (S.state stock.old) (S.state stock.new) }
+    ensures ends { EndsFirmly result (S.state stock.old) (S.state stock.new) }
 {
     let begun = stock.has_begun(block)?;
     if !begun {
@@ -152,7 +156,7 @@ pub(crate) fn clear_as<S: Reclaim>(
         → SetLeaves sector zeros (S.state stock.old).memory (S.state stock.new).memory }
     ensures table { length table.new ≡ length table.old }
     ensures size { length (S.state stock.new).memory ≡ length (S.state stock.old).memory }
-    ensures ends { EndsSettled result (S.state stock.old) (S.state stock.new) }
+    ensures ends { EndsFirmly result (S.state stock.old) (S.state stock.new) }
 {
     match firmness {
         Firmness::Steady => clear_levelled(stock, table, sector),

@@ -5,10 +5,9 @@ ghost use Rattle.std.specs.Prelude.{◌≡◌, ◌≢◌, ◌⊎◌, ◌*◌, �
 ghost use Rattle.std.specs.Prelude.{OnOk, IfOk, IfErr, IsTrue, IsFalse};
 ghost use Rattle.std.specs.Result.{IsErrOf};
 ghost use Rattle.chip_model.specs.Geometry.{sector_count};
-ghost use Rattle.nor_driver.specs.State.{Refuses};
 ghost use Rattle.nor_layout.specs.declared.header.Tag.{Tag as TagOf};
 ghost use Rattle.erase_journal.specs.Journals.{IsHealthy};
-ghost use Rattle.erase_journal.specs.Steps.{SucceedsSettled, EndsSettled};
+ghost use Rattle.erase_journal.specs.Steps.{RefusesFirmly, SucceedsSettled, EndsFirmly};
 ghost use Rattle.sector_slots.specs.Slots.{slot_at, slot_count, data_blocks, kind_at, is_group};
 ghost use Rattle.sector_slots.specs.Blocks.{AreAtRest, AreSettled};
 ghost use Rattle.sector_slots.specs.Sectors.{IsSoundMap};
@@ -39,7 +38,7 @@ pub fn has_pair<S: SlotCalls>(slots: &mut S, table: &[LiveSlots]) -> Result<Opti
     ensures same { (S.state slots.new).memory ≡ (S.state slots.old).memory }
     ensures done { OnOk result ((S.state slots.new ≡ S.state slots.old)
         ⊎ SucceedsSettled (S.state slots.old) (S.state slots.new)) }
-    ensures fails { IfErr result (λ e. Refuses e (S.state slots.old) (S.state slots.new)) }
+    ensures fails { IfErr result (λ e. RefusesFirmly e (S.state slots.old) (S.state slots.new)) }
 {
     let mut pair = false;
     for sector in 0..table.len() {
@@ -76,7 +75,7 @@ fn are_of_groups<S: SlotCalls>(
         → is_group (kind_at (S.state slots.old).memory first)
         ≢ is_group (kind_at (S.state slots.old).memory second)) }
     ensures same { (S.state slots.new).memory ≡ (S.state slots.old).memory }
-    ensures ends { EndsSettled result (S.state slots.old) (S.state slots.new) }
+    ensures ends { EndsFirmly result (S.state slots.old) (S.state slots.new) }
 {
     let one = slots.kind(first)?.is_of_group();
     let other = slots.kind(second)?.is_of_group();
@@ -99,7 +98,7 @@ pub fn lowest_dead_group<S: SlotCalls>(slots: &mut S) -> Result<Option<u16>, Nor
         → d < data_blocks (S.state slots.old).memory
         → kind_at (S.state slots.old).memory d ≢ Kind.DeadGroup) }
     ensures same { (S.state slots.new).memory ≡ (S.state slots.old).memory }
-    ensures ends { EndsSettled result (S.state slots.old) (S.state slots.new) }
+    ensures ends { EndsFirmly result (S.state slots.old) (S.state slots.new) }
 {
     let count = slots.blocks();
     for block in 0..count {
@@ -168,7 +167,7 @@ fn retire_each<S: SlotCalls>(slots: &mut S, table: &[LiveSlots]) -> Result<(), N
     ensures size { length (S.state slots.new).memory ≡ length (S.state slots.old).memory }
     ensures done { OnOk result ((S.state slots.new ≡ S.state slots.old)
         ⊎ SucceedsSettled (S.state slots.old) (S.state slots.new)) }
-    ensures fails { IfErr result (λ e. Refuses e (S.state slots.old) (S.state slots.new)) }
+    ensures fails { IfErr result (λ e. RefusesFirmly e (S.state slots.old) (S.state slots.new)) }
 {
     let count = slots.blocks();
     for block in 0..count {
@@ -202,7 +201,7 @@ pub(crate) fn retire_groups<S: SlotCalls>(
     ensures size { length (S.state slots.new).memory ≡ length (S.state slots.old).memory }
     ensures done { OnOk result ((S.state slots.new ≡ S.state slots.old)
         ⊎ SucceedsSettled (S.state slots.old) (S.state slots.new)) }
-    ensures fails { IfErr result (λ e. Refuses e (S.state slots.old) (S.state slots.new)) }
+    ensures fails { IfErr result (λ e. RefusesFirmly e (S.state slots.old) (S.state slots.new)) }
 {
     let Some(pair) = has_pair(slots, table)? else {
         unreachable!()
@@ -232,7 +231,7 @@ pub(crate) fn make_room<S: SlotCalls>(slots: &mut S, has_room: bool) -> Result<(
     ensures size { length (S.state slots.new).memory ≡ length (S.state slots.old).memory }
     ensures done { OnOk result ((S.state slots.new ≡ S.state slots.old)
         ⊎ SucceedsSettled (S.state slots.old) (S.state slots.new)) }
-    ensures fails { IfErr result (λ e. Refuses e (S.state slots.old) (S.state slots.new)) }
+    ensures fails { IfErr result (λ e. RefusesFirmly e (S.state slots.old) (S.state slots.new)) }
 {
     if has_room {
         return Ok(());

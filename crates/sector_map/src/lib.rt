@@ -9,7 +9,9 @@
 //! `tidy`, `tidy_urgent`, `renew_journals`, `renew` and, unless a Slow was latched, `restore`
 //! change none. `renew_journals` erases the journals and `renew` a data block; after a firm mount
 //! nothing is left by both that was programmed before it, but the superblock. An error is latched
-//! until a `restore` that answers Ok.
+//! until a `restore` that answers Ok. A firm mount leaves firm journals (`mount_as`, `journals`),
+//! and of these a loss of power in any later call but `restore` leaves what the next one wants
+//! (`EndsFirmly`).
 //!
 //! **Contents are promised of a clean memory alone** (`IsClean`): one in which every byte that
 //! reads as free is erased. A mount doesn't look, `is_clean` does. On any other memory slots and

@@ -4,14 +4,17 @@ ghost use Rattle.std.specs.Prelude.{◌≡◌, ◌<◌, ◌≤◌, ◌*◌, ◌-
 ghost use Rattle.std.specs.Prelude.{slice_index_or, OnOk, IfOk, IfErr, IsTrue, IsFalse};
 ghost use Rattle.std.specs.Result.{IsErrOf};
 ghost use Rattle.chip_model.specs.Geometry.{IsChipSize, sector_count};
-ghost use Rattle.nor_driver.specs.State.{IsNorReady};
+ghost use Rattle.nor_driver.specs.State.{bits_in, IsNorReady};
 ghost use Rattle.erase_journal.specs.Journals.{IsHealthy, unused};
 ghost use Rattle.erase_journal.specs.Recovery.{IsBehind};
 ghost use Rattle.erase_journal.specs.Renewal.{RenewsAll};
-ghost use Rattle.erase_journal.specs.Steps.{EndsSettled};
+ghost use Rattle.erase_journal.specs.Steps.{EndsFirmly};
+ghost use Rattle.erase_journal.specs.Weak.{AreFirmJournals, AreInterruptedJournals};
+ghost use Rattle.erase_journal.specs.Weak.{AreRecoveredJournals};
 ghost use Rattle.sector_slots.specs.Slots.{slot_count, data_blocks, IsClean, IsSpareIn};
 ghost use Rattle.sector_slots.specs.Sectors.{sector_at, zeros};
 ghost use Rattle.sector_stock.specs.Takes.{urgent_work, work_of};
+ghost use Rattle.sector_map.specs.Marking.{is_unmarked};
 ghost use Rattle.sector_map.specs.Table.{holder};
 ghost use Rattle.sector_map.specs.Maps.{IsStore, KeepsMap, Sets, SetLeaves, Mounted, MountFails};
 ghost use Rattle.sector_map.specs.Maps.{MapRestored, MapRestoreFails, IsLaidOut};
@@ -83,13 +86,18 @@ impl<N: Nor> SectorMap<N> {
         SectorMap::mount_as(alloc, nor, Firmness::Steady)
     }
 
-    /// The same with what is assumed of torn bits: here, in each `restore` and in each `clear`.
+    /// The same with what is assumed of torn bits: here, in each `restore` and in each `clear`. A
+    /// firm mount of journals of which one operation was interrupted leaves firm ones, but where it
+    /// marks a chip of layout 1.
     pub fn mount_as(
         alloc: Global,
         nor: N,
         firmness: Firmness,
     ) -> Result<SectorMap<N>, (N, MapError)>
         ensures ok { IfOk result (λ map. Mounted (N.state nor) map) }
+        ensures journals { firmness ≡ Firmness.Firm → is_unmarked (N.state nor).memory ≡ false
+            → AreInterruptedJournals (bits_in (N.state nor))
+            → IfOk result (λ map. AreFirmJournals (bits_in map)) }
         ensures fails { IfErr result (λ e. MountFails e.1 (N.state nor) (N.state e.0)) }
     {
         let mut nor = nor;
@@ -132,7 +140,7 @@ impl<N: Nor> SectorMap<N> {
         ensures ok { OnOk result (into.new ≡ sector_at self.old.memory sector) }
         ensures same { self.new.memory ≡ self.old.memory }
         ensures cut { IsErrOf result NorError.Cut → KeepsMap self.old.memory self.new.memory }
-        ensures ends { EndsSettled result self.old self.new }
+        ensures ends { EndsFirmly result self.old self.new }
     {
         if let Some(error) = self.latched {
             return Err(error);
@@ -158,7 +166,7 @@ impl<N: Nor> SectorMap<N> {
         ensures cut { IsErrOf result NorError.Cut
             → SetLeaves sector content.now self.old.memory self.new.memory }
         ensures size { length self.new.memory ≡ length self.old.memory }
-        ensures ends { EndsSettled result self.old self.new }
+        ensures ends { EndsFirmly result self.old self.new }
     {
         if let Some(error) = self.latched {
             return Err(error);
@@ -184,7 +192,7 @@ impl<N: Nor> SectorMap<N> {
         ensures cut { IsErrOf result NorError.Cut
             → SetLeaves sector zeros self.old.memory self.new.memory }
         ensures size { length self.new.memory ≡ length self.old.memory }
-        ensures ends { EndsSettled result self.old self.new }
+        ensures ends { EndsFirmly result self.old self.new }
     {
         if let Some(error) = self.latched {
             return Err(error);
@@ -215,7 +223,7 @@ impl<N: Nor> SectorMap<N> {
         ensures unchanged { IfOk result (λ more. IsFalse more → self.new.memory ≡ self.old.memory) }
         ensures cut { IsErrOf result NorError.Cut → KeepsMap self.old.memory self.new.memory }
         ensures size { length self.new.memory ≡ length self.old.memory }
-        ensures ends { EndsSettled result self.old self.new }
+        ensures ends { EndsFirmly result self.old self.new }
     {
         if let Some(error) = self.latched {
             return Err(error);
@@ -239,7 +247,7 @@ impl<N: Nor> SectorMap<N> {
         ensures unchanged { IfOk result (λ more. IsFalse more → self.new.memory ≡ self.old.memory) }
         ensures cut { IsErrOf result NorError.Cut → KeepsMap self.old.memory self.new.memory }
         ensures size { length self.new.memory ≡ length self.old.memory }
-        ensures ends { EndsSettled result self.old self.new }
+        ensures ends { EndsFirmly result self.old self.new }
     {
         if let Some(error) = self.latched {
             return Err(error);
@@ -260,7 +268,7 @@ impl<N: Nor> SectorMap<N> {
             (unused self.new.memory)) }
         ensures cut { IsErrOf result NorError.Cut → KeepsMap self.old.memory self.new.memory }
         ensures size { length self.new.memory ≡ length self.old.memory }
-        ensures ends { EndsSettled result self.old self.new }
+        ensures ends { EndsFirmly result self.old self.new }
     {
         if let Some(error) = self.latched {
             return Err(error);
@@ -291,7 +299,7 @@ impl<N: Nor> SectorMap<N> {
         ensures erased { OnOk result (IsSpareIn self.new.memory block) }
         ensures cut { IsErrOf result NorError.Cut → KeepsMap self.old.memory self.new.memory }
         ensures size { length self.new.memory ≡ length self.old.memory }
-        ensures ends { EndsSettled result self.old self.new }
+        ensures ends { EndsFirmly result self.old self.new }
     {
         if let Some(error) = self.latched {
             return Err(error);
@@ -312,7 +320,7 @@ impl<N: Nor> SectorMap<N> {
         ensures clean { IfOk result (λ clean. IsTrue clean → IsClean self.old.memory) }
         ensures not_clean { IfOk result (λ clean. IsFalse clean → IsClean self.old.memory → ⊥) }
         ensures same { self.new.memory ≡ self.old.memory }
-        ensures ends { EndsSettled result self.old self.new }
+        ensures ends { EndsFirmly result self.old self.new }
     {
         if let Some(error) = self.latched {
             return Err(error);
@@ -435,6 +443,9 @@ fn take_tables(alloc: Global, chip: Geometry) -> Result<Tables, AllocError>
 fn recover<N: Nor>(alloc: Global, nor: N, firmness: Firmness) -> Result<SectorMap<N>, (N, MapError)>
     requires superblock { IsLaidOut (N.state nor).memory }
     ensures ok { IfOk result (λ map. Mounted (N.state nor) map) }
+    ensures journals { firmness ≡ Firmness.Firm → is_unmarked (N.state nor).memory ≡ false
+        → AreInterruptedJournals (bits_in (N.state nor))
+        → IfOk result (λ map. AreFirmJournals (bits_in map)) }
     ensures fails { IfErr result (λ e. MountFails e.1 (N.state nor) (N.state e.0)) }
 {
     let Some(chip) = Geometry::of(nor.bytes()) else {
@@ -463,6 +474,9 @@ fn fill<N: Nor>(
     requires blocks { vec_len tables.blocks ≡ data_blocks slots.memory }
     requires healthy { IsHealthy slots.memory }
     ensures ok { IfOk result (λ map. Filled slots map) }
+    ensures journals { firmness ≡ Firmness.Firm → is_unmarked slots.memory ≡ false
+        → AreRecoveredJournals (bits_in slots)
+        → IfOk result (λ map. AreFirmJournals (bits_in map)) }
     ensures fails { IfErr result (λ e. FillFails e.1 slots (N.state e.0)) }
 {
     let mut stock = Stock::new(slots, tables.states, tables.blocks);

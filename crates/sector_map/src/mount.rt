@@ -5,16 +5,18 @@ ghost use Rattle.std.specs.Prelude.{◌≡◌, ◌⊎◌, ◌<◌, ℕ, List, tr
 ghost use Rattle.std.specs.Prelude.{IfOk, IfErr, IsTrue, IsFalse};
 ghost use Rattle.std.specs.Result.{IsErrOf};
 ghost use Rattle.chip_model.specs.Geometry.{sector_count};
-ghost use Rattle.nor_driver.specs.State.{Refuses};
+ghost use Rattle.nor_driver.specs.State.{bits_in};
 ghost use Rattle.erase_journal.specs.Blocks.{SameChip};
 ghost use Rattle.erase_journal.specs.Journals.{IsHealthy};
-ghost use Rattle.erase_journal.specs.Steps.{SucceedsSettled, EndsSettled};
+ghost use Rattle.erase_journal.specs.Steps.{RefusesFirmly, SucceedsSettled, EndsFirmly};
+ghost use Rattle.erase_journal.specs.Steps.{EndsSettled};
+ghost use Rattle.erase_journal.specs.Weak.{AreFirmJournals, AreRecoveredJournals};
 ghost use Rattle.sector_slots.specs.Slots.{slot_at, slot_count, data_blocks, kind_at, IsClean};
 ghost use Rattle.sector_slots.specs.Blocks.{AreSettled, HasGroupRoom};
 ghost use Rattle.sector_slots.specs.Sectors.{IsSoundMap, HoldsSectors};
 ghost use Rattle.sector_stock.specs.Copy.{KeepsSectors, EndsCopy, IsCommittedIn};
 ghost use Rattle.sector_map.specs.Found.{FoundIn, RoomSeen, leaves_room};
-ghost use Rattle.sector_map.specs.Marking.{may_have_groups};
+ghost use Rattle.sector_map.specs.Marking.{is_unmarked, may_have_groups};
 ghost use Rattle.sector_map.specs.Mending.{EndsFound, EndsVoids, MendsBlocks, PairsAreSlots};
 ghost use Rattle.sector_map.specs.Mending.{HasDeadGroup};
 ghost use Rattle.sector_map.specs.Table.{IsTabled, IsTableOf, IsBlankTable, Mends, Repairs, Mounts};
@@ -43,6 +45,9 @@ pub fn mount_slots<S: Reclaim>(
     ensures sound { IfOk result (λ sound. IsTrue sound
         → Mounts (S.state stock.old).memory table.new (S.state stock.new).memory) }
     ensures indexed { IfOk result (λ sound. IsTrue sound → S.indexed stock.new ≡ true) }
+    ensures journals { firmness ≡ Firmness.Firm → is_unmarked (S.state stock.old).memory ≡ false
+        → AreRecoveredJournals (bits_in (S.state stock.old)) → IfOk result (λ sound. IsTrue sound
+        → AreFirmJournals (bits_in (S.state stock.new))) }
     ensures corrupt { IfOk result (λ sound. IsFalse sound
         → (IsSoundMap (S.state stock.old).memory → ⊥)
         × ((S.state stock.new).memory ≡ (S.state stock.old).memory)) }
@@ -91,7 +96,7 @@ fn look<S: Reclaim>(
         → ⊥) }
     ensures size { length table.new ≡ length table.old }
     ensures same { (S.state stock.new).memory ≡ (S.state stock.old).memory }
-    ensures ends { EndsSettled result (S.state stock.old) (S.state stock.new) }
+    ensures ends { EndsFirmly result (S.state stock.old) (S.state stock.new) }
 {
     let Some(found) = survey(stock, groups)? else {
         return Ok(None);
@@ -121,7 +126,7 @@ fn fit<S: SlotCalls>(slots: &mut S, seen: Seen, pair: bool) -> Result<Option<See
     ensures same { (S.state slots.new).memory ≡ (S.state slots.old).memory }
     ensures done { OnOk result ((S.state slots.new ≡ S.state slots.old)
         ⊎ SucceedsSettled (S.state slots.old) (S.state slots.new)) }
-    ensures fails { IfErr result (λ e. Refuses e (S.state slots.old) (S.state slots.new)) }
+    ensures fails { IfErr result (λ e. RefusesFirmly e (S.state slots.old) (S.state slots.new)) }
 {
     if has_room(seen) || pair {
         return Ok(Some(seen));
@@ -155,7 +160,7 @@ fn repair<S: Reclaim>(
         → IsHealthy (S.state stock.new).memory }
     ensures size { length table.new ≡ length table.old }
     ensures same_size { length (S.state stock.new).memory ≡ length (S.state stock.old).memory }
-    ensures ends { EndsSettled result (S.state stock.old) (S.state stock.new) }
+    ensures ends { EndsFirmly result (S.state stock.old) (S.state stock.new) }
 {
     mend_blocks(stock, table, seen)?;
     retire_older(stock, table)?;
@@ -187,7 +192,7 @@ fn mend_blocks<S: SlotCalls>(
     ensures size { length (S.state slots.new).memory ≡ length (S.state slots.old).memory }
     ensures done { OnOk result ((S.state slots.new ≡ S.state slots.old)
         ⊎ SucceedsSettled (S.state slots.old) (S.state slots.new)) }
-    ensures fails { IfErr result (λ e. Refuses e (S.state slots.old) (S.state slots.new)) }
+    ensures fails { IfErr result (λ e. RefusesFirmly e (S.state slots.old) (S.state slots.new)) }
 {
     end_copying(slots, seen.found)?;
     retire_groups(slots, table)?;
@@ -208,7 +213,7 @@ fn end_copying<S: SlotCalls>(slots: &mut S, found: Found) -> Result<(), NorError
     ensures size { length (S.state slots.new).memory ≡ length (S.state slots.old).memory }
     ensures done { OnOk result ((S.state slots.new ≡ S.state slots.old)
         ⊎ SucceedsSettled (S.state slots.old) (S.state slots.new)) }
-    ensures fails { IfErr result (λ e. Refuses e (S.state slots.old) (S.state slots.new)) }
+    ensures fails { IfErr result (λ e. RefusesFirmly e (S.state slots.old) (S.state slots.new)) }
 {
     match found {
         Found::AtRest => Ok(()),
@@ -232,7 +237,7 @@ fn end_voids<S: SlotCalls>(slots: &mut S) -> Result<(), NorError>
     ensures size { length (S.state slots.new).memory ≡ length (S.state slots.old).memory }
     ensures done { OnOk result ((S.state slots.new ≡ S.state slots.old)
         ⊎ SucceedsSettled (S.state slots.old) (S.state slots.new)) }
-    ensures fails { IfErr result (λ e. Refuses e (S.state slots.old) (S.state slots.new)) }
+    ensures fails { IfErr result (λ e. RefusesFirmly e (S.state slots.old) (S.state slots.new)) }
 {
     let count = slots.blocks();
     for block in 0..count {
@@ -255,7 +260,7 @@ fn end_copy<S: SlotCalls>(slots: &mut S, source: u16, target: u16) -> Result<(),
     ensures healthy { IsErrOf result NorError.Cut → IsHealthy (S.state slots.old).memory
         → IsHealthy (S.state slots.new).memory }
     ensures size { length (S.state slots.new).memory ≡ length (S.state slots.old).memory }
-    ensures ends { EndsSettled result (S.state slots.old) (S.state slots.new) }
+    ensures ends { EndsFirmly result (S.state slots.old) (S.state slots.new) }
 {
     if is_spare(slots, source)? {
         end_erased(slots, source, target)?;
@@ -290,7 +295,7 @@ fn retire_older<S: SlotCalls>(slots: &mut S, table: &mut [LiveSlots]) -> Result<
     ensures chip { SameChip (S.state slots.old).memory (S.state slots.new).memory }
     ensures done { OnOk result ((S.state slots.new ≡ S.state slots.old)
         ⊎ SucceedsSettled (S.state slots.old) (S.state slots.new)) }
-    ensures fails { IfErr result (λ e. Refuses e (S.state slots.old) (S.state slots.new)) }
+    ensures fails { IfErr result (λ e. RefusesFirmly e (S.state slots.old) (S.state slots.new)) }
 {
     for sector in 0..table.len() {
         match table[sector] {

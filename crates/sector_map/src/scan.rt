@@ -3,7 +3,7 @@
 ghost use Rattle.std.specs.Prelude.{◌≡◌, ◌≢◌, ◌+◌, ◌*◌, ◌<◌, ◌≤◌, ℕ, Bool, true, false, Some, None};
 ghost use Rattle.std.specs.Prelude.{◌||◌, length, IfOk, IsTrue, IsFalse};
 ghost use Rattle.nor_layout.specs.declared.header.Header.TheVariants as headers;
-ghost use Rattle.erase_journal.specs.Steps.{EndsSettled};
+ghost use Rattle.erase_journal.specs.Steps.{EndsFirmly};
 ghost use Rattle.sector_slots.specs.Slots.{slot_at, slot_count, data_blocks, read_header};
 ghost use Rattle.sector_slots.specs.Slots.{IsSpareIn};
 ghost use Rattle.sector_slots.specs.Blocks.{AreSound, AreSettled};
@@ -31,7 +31,7 @@ pub fn survey<S: SlotCalls>(slots: &mut S, groups: bool) -> Result<Option<Found>
     ensures corrupt { IfOk result (λ answer. answer ≡ None → AreSound (S.state slots.old).memory
         → (groups ≡ false → HasSlotsAlone (S.state slots.old).memory) → ⊥) }
     ensures same { (S.state slots.new).memory ≡ (S.state slots.old).memory }
-    ensures ends { EndsSettled result (S.state slots.old) (S.state slots.new) }
+    ensures ends { EndsFirmly result (S.state slots.old) (S.state slots.new) }
 {
     let count = slots.blocks();
     let mut found = Found::AtRest;
@@ -119,7 +119,7 @@ fn read_block<S: SlotCalls>(
         count → ⊥) }
     ensures size { length table.new ≡ length table.old }
     ensures same { (S.state slots.new).memory ≡ (S.state slots.old).memory }
-    ensures ends { EndsSettled result (S.state slots.old) (S.state slots.new) }
+    ensures ends { EndsFirmly result (S.state slots.old) (S.state slots.new) }
 {
     let mut heads = [Header::Free; 7];
     let kind = slots.head(block, &mut heads)?;
@@ -176,7 +176,7 @@ pub(crate) fn read_table<S: SlotCalls>(
         count → ⊥) }
     ensures size { length table.new ≡ length table.old }
     ensures same { (S.state slots.new).memory ≡ (S.state slots.old).memory }
-    ensures ends { EndsSettled result (S.state slots.old) (S.state slots.new) }
+    ensures ends { EndsFirmly result (S.state slots.old) (S.state slots.new) }
 {
     let count = slots.blocks();
     let mut spare = false;
@@ -197,7 +197,7 @@ pub fn is_spare<S: SlotCalls>(slots: &mut S, block: u16) -> Result<bool, NorErro
     ensures not_spare { IfOk result (λ spare. IsFalse spare
         → IsSpareIn (S.state slots.old).memory block → ⊥) }
     ensures same { (S.state slots.new).memory ≡ (S.state slots.old).memory }
-    ensures ends { EndsSettled result (S.state slots.old) (S.state slots.new) }
+    ensures ends { EndsFirmly result (S.state slots.old) (S.state slots.new) }
 {
     let mut heads = [Header::Free; 7];
     let kind = slots.head(block, &mut heads)?;
@@ -210,7 +210,7 @@ pub(crate) fn lowest_spare<S: SlotCalls>(slots: &mut S) -> Result<u16, NorError>
     requires blocks { AreSettled (S.state slots.old).memory }
     ensures spare { IfOk result (λ block. IsSpareBlock block (S.state slots.old).memory) }
     ensures same { (S.state slots.new).memory ≡ (S.state slots.old).memory }
-    ensures ends { EndsSettled result (S.state slots.old) (S.state slots.new) }
+    ensures ends { EndsFirmly result (S.state slots.old) (S.state slots.new) }
 {
     let count = slots.blocks();
     for block in 0..count {

@@ -5,7 +5,7 @@ ghost use Rattle.std.specs.Prelude.{◌≡◌, ◌<◌, length, OnOk};
 ghost use Rattle.std.specs.Result.{IsErrOf};
 ghost use Rattle.erase_journal.specs.Journals.{unused};
 ghost use Rattle.erase_journal.specs.Renewal.{RenewsAll};
-ghost use Rattle.erase_journal.specs.Steps.{EndsSettled};
+ghost use Rattle.erase_journal.specs.Steps.{EndsFirmly};
 ghost use Rattle.sector_slots.specs.Slots.{data_blocks, IsSpareIn};
 ghost use Rattle.sector_map.specs.Maps.{IsServing, KeepsMap, KeptServing};
 
@@ -32,7 +32,7 @@ pub(crate) fn renew_journals<S: Reclaim>(
     ensures cut { IsErrOf result NorError.Cut
         → KeepsMap (S.state stock.old).memory (S.state stock.new).memory }
     ensures size { length (S.state stock.new).memory ≡ length (S.state stock.old).memory }
-    ensures ends { EndsSettled result (S.state stock.old) (S.state stock.new) }
+    ensures ends { EndsFirmly result (S.state stock.old) (S.state stock.new) }
 {
     stock.renew_journals()?;
     stock.fill()?;
@@ -62,7 +62,7 @@ pub(crate) fn renew_block<N: Nor>(
     ensures table { length table.new ≡ length table.old }
     ensures size { length (⟦<Stock<N> as SlotCalls>⟧.state stock.new).memory
         ≡ length (⟦<Stock<N> as SlotCalls>⟧.state stock.old).memory }
-    ensures ends { EndsSettled result (⟦<Stock<N> as SlotCalls>⟧.state stock.old)
+    ensures ends { EndsFirmly result (⟦<Stock<N> as SlotCalls>⟧.state stock.old)
         (⟦<Stock<N> as SlotCalls>⟧.state stock.new) }
 {
     stock.level_wear();

@@ -4,8 +4,8 @@
 ghost use Rattle.std.specs.Prelude.{◌≡◌, ◌⊎◌, ◌<◌, ◌≤◌, length, OnOk, IfOk, IfErr, IsTrue, IsFalse};
 ghost use Rattle.std.specs.Prelude.{ℕ, true, Some, None, IfSome};
 ghost use Rattle.std.specs.Result.{IsErrOf};
-ghost use Rattle.nor_driver.specs.State.{IsNorReady, Refuses};
-ghost use Rattle.erase_journal.specs.Steps.{SucceedsSettled, EndsSettled};
+ghost use Rattle.nor_driver.specs.State.{IsNorReady};
+ghost use Rattle.erase_journal.specs.Steps.{RefusesFirmly, SucceedsSettled, EndsFirmly};
 ghost use Rattle.erase_journal.specs.Blocks.{SameChip};
 ghost use Rattle.erase_journal.specs.Journals.{IsHealthy, IsSettled};
 ghost use Rattle.sector_slots.specs.Sectors.{sector_at, zeros, IsSingle, IsSoundMap};
@@ -42,7 +42,7 @@ pub(crate) fn write_levelled<S: Reclaim>(
         → SetLeaves sector content.now (S.state stock.old).memory (S.state stock.new).memory }
     ensures table { length table.new ≡ length table.old }
     ensures size { length (S.state stock.new).memory ≡ length (S.state stock.old).memory }
-    ensures ends { EndsSettled result (S.state stock.old) (S.state stock.new) }
+    ensures ends { EndsFirmly result (S.state stock.old) (S.state stock.new) }
 {
     make_way(stock, table, sector)?;
     stock.firm_free()?;
@@ -63,7 +63,7 @@ fn make_way<S: Reclaim>(stock: &mut S, table: &mut [LiveSlots], sector: u16) -> 
         → KeepsMap (S.state stock.old).memory (S.state stock.new).memory }
     ensures table { length table.new ≡ length table.old }
     ensures size { length (S.state stock.new).memory ≡ length (S.state stock.old).memory }
-    ensures ends { EndsSettled result (S.state stock.old) (S.state stock.new) }
+    ensures ends { EndsFirmly result (S.state stock.old) (S.state stock.new) }
 {
     level_all(stock, table, Purpose::Give)?;
     leave_group(stock, table, sector)
@@ -87,7 +87,7 @@ fn level_all<S: Reclaim>(
         → KeepsMap (S.state stock.old).memory (S.state stock.new).memory }
     ensures table { length table.new ≡ length table.old }
     ensures size { length (S.state stock.new).memory ≡ length (S.state stock.old).memory }
-    ensures ends { EndsSettled result (S.state stock.old) (S.state stock.new) }
+    ensures ends { EndsFirmly result (S.state stock.old) (S.state stock.new) }
 {
     even_out(stock, table)?;
     move_if_due(stock, table, purpose)
@@ -109,7 +109,7 @@ fn renew_soon<S: Reclaim>(stock: &mut S, table: &mut [LiveSlots]) -> Result<(), 
         → KeepsMap (S.state stock.old).memory (S.state stock.new).memory }
     ensures table { length table.new ≡ length table.old }
     ensures size { length (S.state stock.new).memory ≡ length (S.state stock.old).memory }
-    ensures ends { EndsSettled result (S.state stock.old) (S.state stock.new) }
+    ensures ends { EndsFirmly result (S.state stock.old) (S.state stock.new) }
 {
     match stock.lagging(RENEW_SOON) {
         Some(block) => renew_one(stock, table, block),
@@ -130,7 +130,7 @@ fn even_out<S: Reclaim>(stock: &mut S, table: &mut [LiveSlots]) -> Result<(), No
         → KeepsMap (S.state stock.old).memory (S.state stock.new).memory }
     ensures table { length table.new ≡ length table.old }
     ensures size { length (S.state stock.new).memory ≡ length (S.state stock.old).memory }
-    ensures ends { EndsSettled result (S.state stock.old) (S.state stock.new) }
+    ensures ends { EndsFirmly result (S.state stock.old) (S.state stock.new) }
 {
     // What lags far behind lags behind by fewer, too: where nothing does, one question is enough.
     let Some(_) = stock.lagging(RENEW_SOON) else {
@@ -153,7 +153,7 @@ fn renew_now<S: Reclaim>(stock: &mut S, table: &mut [LiveSlots]) -> Result<(), N
         → KeepsMap (S.state stock.old).memory (S.state stock.new).memory }
     ensures table { length table.new ≡ length table.old }
     ensures size { length (S.state stock.new).memory ≡ length (S.state stock.old).memory }
-    ensures ends { EndsSettled result (S.state stock.old) (S.state stock.new) }
+    ensures ends { EndsFirmly result (S.state stock.old) (S.state stock.new) }
 {
     // No two blocks differ by more than 32, and each round makes that one less.
     for _round in 0..3u8 {
@@ -182,7 +182,7 @@ fn renew_all<S: Reclaim>(stock: &mut S, table: &mut [LiveSlots], least: u16) -> 
         → KeepsMap (S.state stock.old).memory (S.state stock.new).memory }
     ensures table { length table.new ≡ length table.old }
     ensures size { length (S.state stock.new).memory ≡ length (S.state stock.old).memory }
-    ensures ends { EndsSettled result (S.state stock.old) (S.state stock.new) }
+    ensures ends { EndsFirmly result (S.state stock.old) (S.state stock.new) }
 {
     let count = stock.blocks();
     let fewest = stock.erases(least);
@@ -217,7 +217,7 @@ pub(crate) fn renew_one<S: Reclaim>(
         → KeepsMap (S.state stock.old).memory (S.state stock.new).memory }
     ensures table { length table.new ≡ length table.old }
     ensures size { length (S.state stock.new).memory ≡ length (S.state stock.old).memory }
-    ensures ends { EndsSettled result (S.state stock.old) (S.state stock.new) }
+    ensures ends { EndsFirmly result (S.state stock.old) (S.state stock.new) }
 {
     match stock.renew(block)? {
         Some(copied) => {
@@ -250,7 +250,7 @@ fn move_if_due<S: Reclaim>(
         → KeepsMap (S.state stock.old).memory (S.state stock.new).memory }
     ensures table { length table.new ≡ length table.old }
     ensures size { length (S.state stock.new).memory ≡ length (S.state stock.old).memory }
-    ensures ends { EndsSettled result (S.state stock.old) (S.state stock.new) }
+    ensures ends { EndsFirmly result (S.state stock.old) (S.state stock.new) }
 {
     match stock.level(purpose)? {
         Some(moved) => {
@@ -283,7 +283,7 @@ fn leave_group<S: Reclaim>(
     ensures size { length (S.state stock.new).memory ≡ length (S.state stock.old).memory }
     ensures done { OnOk result ((S.state stock.new ≡ S.state stock.old)
         ⊎ SucceedsSettled (S.state stock.old) (S.state stock.new)) }
-    ensures fails { IfErr result (λ e. Refuses e (S.state stock.old) (S.state stock.new)) }
+    ensures fails { IfErr result (λ e. RefusesFirmly e (S.state stock.old) (S.state stock.new)) }
 {
     let Some(held) = table[sector as usize].holder() else {
         return Ok(());
@@ -315,7 +315,7 @@ fn write_ungrouped<S: Reclaim>(
         → SetLeaves sector content.now (S.state stock.old).memory (S.state stock.new).memory }
     ensures table { length table.new ≡ length table.old }
     ensures size { length (S.state stock.new).memory ≡ length (S.state stock.old).memory }
-    ensures ends { EndsSettled result (S.state stock.old) (S.state stock.new) }
+    ensures ends { EndsFirmly result (S.state stock.old) (S.state stock.new) }
 {
     let given = stock.take_free()?;
     follow_copied(stock, table, given.copied)?;
@@ -344,7 +344,7 @@ pub(crate) fn tidy_levelled<S: Reclaim>(
         → KeepsMap (S.state stock.old).memory (S.state stock.new).memory }
     ensures table { length table.new ≡ length table.old }
     ensures size { length (S.state stock.new).memory ≡ length (S.state stock.old).memory }
-    ensures ends { EndsSettled result (S.state stock.old) (S.state stock.new) }
+    ensures ends { EndsFirmly result (S.state stock.old) (S.state stock.new) }
 {
     if !stock.has_work() {
         return Ok(false);
@@ -371,7 +371,7 @@ fn tidy_once<S: Reclaim>(stock: &mut S, table: &mut [LiveSlots]) -> Result<bool,
         → KeepsMap (S.state stock.old).memory (S.state stock.new).memory }
     ensures table { length table.new ≡ length table.old }
     ensures size { length (S.state stock.new).memory ≡ length (S.state stock.old).memory }
-    ensures ends { EndsSettled result (S.state stock.old) (S.state stock.new) }
+    ensures ends { EndsFirmly result (S.state stock.old) (S.state stock.new) }
 {
     match stock.tidy()? {
         Some(copied) => {
@@ -400,7 +400,7 @@ pub(crate) fn tidy_when_short<S: Reclaim>(
         → KeepsMap (S.state stock.old).memory (S.state stock.new).memory }
     ensures table { length table.new ≡ length table.old }
     ensures size { length (S.state stock.new).memory ≡ length (S.state stock.old).memory }
-    ensures ends { EndsSettled result (S.state stock.old) (S.state stock.new) }
+    ensures ends { EndsFirmly result (S.state stock.old) (S.state stock.new) }
 {
     if !stock.is_short() {
         return Ok(false);
@@ -423,7 +423,7 @@ pub(crate) fn clear_levelled<S: Reclaim>(
         → SetLeaves sector zeros (S.state stock.old).memory (S.state stock.new).memory }
     ensures table { length table.new ≡ length table.old }
     ensures size { length (S.state stock.new).memory ≡ length (S.state stock.old).memory }
-    ensures ends { EndsSettled result (S.state stock.old) (S.state stock.new) }
+    ensures ends { EndsFirmly result (S.state stock.old) (S.state stock.new) }
 {
     make_way(stock, table, sector)?;
     clear_ungrouped(stock, table, sector)
@@ -444,7 +444,7 @@ pub fn clear_firmly<S: Reclaim>(
         → SetLeaves sector zeros (S.state stock.old).memory (S.state stock.new).memory }
     ensures table { length table.new ≡ length table.old }
     ensures size { length (S.state stock.new).memory ≡ length (S.state stock.old).memory }
-    ensures ends { EndsSettled result (S.state stock.old) (S.state stock.new) }
+    ensures ends { EndsFirmly result (S.state stock.old) (S.state stock.new) }
 {
     match table[sector as usize].holder() {
         Some(_) => clear_written(stock, table, sector),
@@ -466,7 +466,7 @@ fn clear_written<S: Reclaim>(
         → SetLeaves sector zeros (S.state stock.old).memory (S.state stock.new).memory }
     ensures table { length table.new ≡ length table.old }
     ensures size { length (S.state stock.new).memory ≡ length (S.state stock.old).memory }
-    ensures ends { EndsSettled result (S.state stock.old) (S.state stock.new) }
+    ensures ends { EndsFirmly result (S.state stock.old) (S.state stock.new) }
 {
     write_levelled(stock, table, sector, &[0; 512])?;
     clear_levelled(stock, table, sector)
@@ -487,7 +487,7 @@ fn clear_ungrouped<S: Reclaim>(
         → SetLeaves sector zeros (S.state stock.old).memory (S.state stock.new).memory }
     ensures table { length table.new ≡ length table.old }
     ensures size { length (S.state stock.new).memory ≡ length (S.state stock.old).memory }
-    ensures ends { EndsSettled result (S.state stock.old) (S.state stock.new) }
+    ensures ends { EndsFirmly result (S.state stock.old) (S.state stock.new) }
 {
     match table[sector as usize].holder() {
         Some(held) => {
@@ -526,7 +526,7 @@ pub(crate) fn rewrite<S: Reclaim>(
     ensures healthy { IsErrOf result NorError.Cut → IsHealthy (S.state stock.old).memory
         → IsHealthy (S.state stock.new).memory }
     ensures chip { SameChip (S.state stock.old).memory (S.state stock.new).memory }
-    ensures ends { EndsSettled result (S.state stock.old) (S.state stock.new) }
+    ensures ends { EndsFirmly result (S.state stock.old) (S.state stock.new) }
 {
     match holder {
         Some(held) => replace_held(stock, to, held, sector, content),
@@ -552,7 +552,7 @@ fn add<S: Reclaim>(stock: &mut S, to: u16, sector: u16, content: &[u8]) -> Resul
     ensures healthy { IsErrOf result NorError.Cut → IsHealthy (S.state stock.old).memory
         → IsHealthy (S.state stock.new).memory }
     ensures chip { SameChip (S.state stock.old).memory (S.state stock.new).memory }
-    ensures ends { EndsSettled result (S.state stock.old) (S.state stock.new) }
+    ensures ends { EndsFirmly result (S.state stock.old) (S.state stock.new) }
 {
     let generation = Generation::Zero;
     let first = Tag {
@@ -591,7 +591,7 @@ fn replace_held<S: Reclaim>(
     ensures healthy { IsErrOf result NorError.Cut → IsHealthy (S.state stock.old).memory
         → IsHealthy (S.state stock.new).memory }
     ensures chip { SameChip (S.state stock.old).memory (S.state stock.new).memory }
-    ensures ends { EndsSettled result (S.state stock.old) (S.state stock.new) }
+    ensures ends { EndsFirmly result (S.state stock.old) (S.state stock.new) }
 {
     let generation = held.generation.next();
     let next = Tag {
@@ -623,7 +623,7 @@ pub(crate) fn find_sector<S: Reclaim>(
         → into.new ≡ sector_at (S.state stock.old).memory sector) }
     ensures same { (S.state stock.new).memory ≡ (S.state stock.old).memory }
     ensures index { S.indexed stock.new ≡ S.indexed stock.old }
-    ensures ends { EndsSettled result (S.state stock.old) (S.state stock.new) }
+    ensures ends { EndsFirmly result (S.state stock.old) (S.state stock.new) }
 {
     match holder {
         Some(held) => {

@@ -2,7 +2,7 @@
 //! are functions of `sector_stock`; here each keeps the index and its flag.
 
 ghost use Rattle.std.specs.Prelude.{◌≡◌, ◌<◌, ℕ, false, true, length, IfOk, IsTrue, IsFalse};
-ghost use Rattle.erase_journal.specs.Steps.{EndsSettled};
+ghost use Rattle.erase_journal.specs.Steps.{EndsFirmly};
 ghost use Rattle.sector_slots.specs.Blocks.{AreAtRest};
 ghost use Rattle.sector_slots.specs.Slots.{slot_count, data_blocks, kind_at, IsClean};
 ghost use Rattle.sector_stock.specs.Index.{IsStocked, erases_of};
@@ -116,7 +116,7 @@ impl<N: Nor> Stock<N> {
             ≡ (⟦<Stock<N> as SlotCalls>⟧.state self.old).memory }
         ensures index { ⟦<Stock<N> as SlotCalls>⟧.indexed self.new
             ≡ ⟦<Stock<N> as SlotCalls>⟧.indexed self.old }
-        ensures ends { EndsSettled result (⟦<Stock<N> as SlotCalls>⟧.state self.old)
+        ensures ends { EndsFirmly result (⟦<Stock<N> as SlotCalls>⟧.state self.old)
             (⟦<Stock<N> as SlotCalls>⟧.state self.new) }
     {
         self.slots.is_clean()

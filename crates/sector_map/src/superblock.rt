@@ -1,12 +1,12 @@
 //! The superblock of a memory: its layout (step 1 of a mount), and the mark that a chip of layout 1
 //! is mixed (step 5).
 
-ghost use Rattle.std.specs.Prelude.{◌≡◌, ◌⊎◌, length, Ok, OnOk, IfOk, IfErr};
+ghost use Rattle.std.specs.Prelude.{◌≡◌, ◌⊎◌, false, length, Ok, OnOk, IfOk, IfErr};
 ghost use Rattle.std.specs.Result.{IsErrOf};
 ghost use Rattle.nor_driver.specs.State.{IsNorReady, OnlyMemoryChanges, NorFails, Refuses};
 ghost use Rattle.nor_layout.specs.Layouts.{layout_of};
 ghost use Rattle.erase_journal.specs.Journals.{IsHealthy};
-ghost use Rattle.erase_journal.specs.Steps.{SucceedsSettled, EndsSettled};
+ghost use Rattle.erase_journal.specs.Steps.{SucceedsSettled, EndsFirmly};
 ghost use Rattle.sector_map.specs.Maps.{geometry_of};
 ghost use Rattle.sector_map.specs.Marking.{is_unmarked, may_have_groups, Marks as MarksOf};
 
@@ -50,7 +50,7 @@ pub(crate) fn read_marks<S: SlotCalls>(slots: &mut S) -> Result<Marks, NorError>
     ensures unmarked { IfOk result (λ marks. marks.unmarked
         ≡ is_unmarked (S.state slots.old).memory) }
     ensures same { (S.state slots.new).memory ≡ (S.state slots.old).memory }
-    ensures ends { EndsSettled result (S.state slots.old) (S.state slots.new) }
+    ensures ends { EndsFirmly result (S.state slots.old) (S.state slots.new) }
 {
     let mut head = [0; SUPER_LEN];
     slots.superblock(&mut head)?;
@@ -80,6 +80,7 @@ pub(crate) fn mark_first<S: SlotCalls>(slots: &mut S, unmarked: bool) -> Result<
         ⊎ MarksOf (S.state slots.old).memory (S.state slots.new).memory }
     ensures healthy { IsErrOf result NorError.Cut → IsHealthy (S.state slots.old).memory
         → IsHealthy (S.state slots.new).memory }
+    ensures left { unmarked ≡ false → S.state slots.new ≡ S.state slots.old }
     ensures size { length (S.state slots.new).memory ≡ length (S.state slots.old).memory }
     ensures done { OnOk result ((S.state slots.new ≡ S.state slots.old)
         ⊎ SucceedsSettled (S.state slots.old) (S.state slots.new)) }

@@ -2,10 +2,9 @@
 
 ghost use Rattle.std.specs.Prelude.{◌≡◌, ◌<◌, length, ◌⊎◌, ◌≤◌, OnOk, IfErr, IfSome};
 ghost use Rattle.chip_model.specs.Geometry.{sector_count};
-ghost use Rattle.nor_driver.specs.State.{Refuses};
 ghost use Rattle.nor_layout.specs.declared.header.Header.TheVariants as headers;
 ghost use Rattle.nor_layout.specs.declared.header.Tag.{Tag as TagOf};
-ghost use Rattle.erase_journal.specs.Steps.{SucceedsSettled, EndsSettled};
+ghost use Rattle.erase_journal.specs.Steps.{RefusesFirmly, SucceedsSettled, EndsFirmly};
 ghost use Rattle.sector_slots.specs.Slots.{data_blocks};
 ghost use Rattle.sector_slots.specs.Blocks.{AreSettled};
 ghost use Rattle.sector_slots.specs.Sectors.{IsSingle, IsSoundMap};
@@ -142,7 +141,7 @@ pub(crate) fn follow_copied<S: Reclaim>(
     ensures counted { S.counts slots.new ≡ S.counts slots.old }
     ensures done { OnOk result ((S.state slots.new ≡ S.state slots.old)
         ⊎ SucceedsSettled (S.state slots.old) (S.state slots.new)) }
-    ensures fails { IfErr result (λ e. Refuses e (S.state slots.old) (S.state slots.new)) }
+    ensures fails { IfErr result (λ e. RefusesFirmly e (S.state slots.old) (S.state slots.new)) }
 {
     match copied {
         Some(copied) => follow_block(slots, table, copied.target),
@@ -167,7 +166,7 @@ pub(crate) fn follow_block<S: Reclaim>(
     ensures index { S.indexed slots.new ≡ S.indexed slots.old }
     ensures policy { S.policy slots.new ≡ S.policy slots.old }
     ensures counted { S.counts slots.new ≡ S.counts slots.old }
-    ensures ends { EndsSettled result (S.state slots.old) (S.state slots.new) }
+    ensures ends { EndsFirmly result (S.state slots.old) (S.state slots.new) }
 {
     // Gives the bound of `block`.
     let _count = slots.blocks();

@@ -11,7 +11,7 @@ ghost use Rattle.nor_layout.specs.declared.header.Tag.{Tag as TagOf};
 ghost use Rattle.erase_journal.specs.Blocks.{SameChip, OnlyBlock, OnlySuper, WithErased};
 ghost use Rattle.erase_journal.specs.Journals.{IsHealthy, unused};
 ghost use Rattle.erase_journal.specs.Spending.{Spends};
-ghost use Rattle.erase_journal.specs.Steps.{EraseInterrupted, EndsSettled};
+ghost use Rattle.erase_journal.specs.Steps.{EraseInterrupted, EndsFirmly, EndsSettled};
 ghost use Rattle.erase_journal.specs.Recovery.{Restored, RestoreFails};
 ghost use Rattle.sector_slots.specs.Slots.{Free, Live, Dead, slot_at, stored_at, slot_count};
 ghost use Rattle.sector_slots.specs.Slots.{data_blocks, data_block, kind_at, raw_slot};
@@ -48,7 +48,7 @@ pub trait SlotCalls {
             ↔ (stored_at (state self.old).memory slot ≡ Free)) }
         ensures same { (state self.new).memory ≡ (state self.old).memory }
         ensures index { indexed self.new ≡ indexed self.old }
-        ensures ends { EndsSettled result (state self.old) (state self.new) };
+        ensures ends { EndsFirmly result (state self.old) (state self.new) };
 
     /// The tag of a slot that is live by its bytes, and its sector, 512 bytes, in `into`; None, and
     /// `into` as it was, where it isn't. Whether its block counts isn't asked. After an error
@@ -62,7 +62,7 @@ pub trait SlotCalls {
             (λ tag. stored_at (state self.old).memory slot ≡ Live tag into.new)) }
         ensures same { (state self.new).memory ≡ (state self.old).memory }
         ensures index { indexed self.new ≡ indexed self.old }
-        ensures ends { EndsSettled result (state self.old) (state self.new) };
+        ensures ends { EndsFirmly result (state self.old) (state self.new) };
 
     /// The sector, 512 bytes, of a slot that is known to be live: one read. After an error `into`
     /// holds any bytes.
@@ -73,7 +73,7 @@ pub trait SlotCalls {
             → stored_at (state self.old).memory slot ≡ Live tag content → into.new ≡ content) }
         ensures same { (state self.new).memory ≡ (state self.old).memory }
         ensures index { indexed self.new ≡ indexed self.old }
-        ensures ends { EndsSettled result (state self.old) (state self.new) };
+        ensures ends { EndsFirmly result (state self.old) (state self.new) };
 
     /// Writes a sector, 512 bytes, into a free slot: the descriptor, two pages, and last the
     /// commit. Cut, it leaves the slot free, dead, or holding the sector. In a free slot that isn't
@@ -100,7 +100,7 @@ pub trait SlotCalls {
         ensures chip { SameChip (state self.old).memory (state self.new).memory }
         ensures healthy { IsErrOf result NorError.Cut → IsHealthy (state self.old).memory
             → IsHealthy (state self.new).memory }
-        ensures ends { EndsSettled result (state self.old) (state self.new) };
+        ensures ends { EndsFirmly result (state self.old) (state self.new) };
 
     /// Makes a live slot that counts dead, in a block of slots. Cut, it leaves it as it was or
     /// dead.
@@ -123,7 +123,7 @@ pub trait SlotCalls {
         ensures chip { SameChip (state self.old).memory (state self.new).memory }
         ensures healthy { IsErrOf result NorError.Cut → IsHealthy (state self.old).memory
             → IsHealthy (state self.new).memory }
-        ensures ends { EndsSettled result (state self.old) (state self.new) };
+        ensures ends { EndsFirmly result (state self.old) (state self.new) };
 
     /// Makes a live block of a group dead: its seven places are. Cut, it leaves it as it was or
     /// dead.
@@ -140,7 +140,7 @@ pub trait SlotCalls {
         ensures only { OnlyBlock (block + 4) (state self.old).memory (state self.new).memory }
         ensures healthy { IsErrOf result NorError.Cut → IsHealthy (state self.old).memory
             → IsHealthy (state self.new).memory }
-        ensures ends { EndsSettled result (state self.old) (state self.new) };
+        ensures ends { EndsFirmly result (state self.old) (state self.new) };
 
     /// What the first eight bytes of a block say of it.
     fn kind(&mut self, block: u16) -> Result<Kind, NorError>
@@ -148,7 +148,7 @@ pub trait SlotCalls {
         ensures ok { IfOk result (λ kind. kind ≡ kind_at (state self.old).memory block) }
         ensures same { (state self.new).memory ≡ (state self.old).memory }
         ensures index { indexed self.new ≡ indexed self.old }
-        ensures ends { EndsSettled result (state self.old) (state self.new) };
+        ensures ends { EndsFirmly result (state self.old) (state self.new) };
 
     /// The kind of a block, and in `into` what its seven descriptors say, whether its slots count
     /// or not: one read of its first 44 bytes. After an error `into` holds any descriptors.
@@ -161,7 +161,7 @@ pub trait SlotCalls {
         ensures size { length into.new ≡ length into.old }
         ensures same { (state self.new).memory ≡ (state self.old).memory }
         ensures index { indexed self.new ≡ indexed self.old }
-        ensures ends { EndsSettled result (state self.old) (state self.new) };
+        ensures ends { EndsFirmly result (state self.old) (state self.new) };
 
     /// Makes a plain block void, and names the block that is to be copied into it. Cut, it leaves
     /// the block as it was or void.
@@ -182,7 +182,7 @@ pub trait SlotCalls {
         ensures chip { SameChip (state self.old).memory (state self.new).memory }
         ensures healthy { IsErrOf result NorError.Cut → IsHealthy (state self.old).memory
             → IsHealthy (state self.new).memory }
-        ensures ends { EndsSettled result (state self.old) (state self.new) };
+        ensures ends { EndsFirmly result (state self.old) (state self.new) };
 
     /// Copies the slot at this place, 0 to 6, of the block that a void block names to the same
     /// place, which is free: its two pages, and then its descriptor, which of a block of a group
@@ -210,7 +210,7 @@ pub trait SlotCalls {
             → IsErasedSlot target i (state self.new).memory) }
         ensures healthy { IsErrOf result NorError.Cut → IsHealthy (state self.old).memory
             → IsHealthy (state self.new).memory }
-        ensures ends { EndsSettled result (state self.old) (state self.new) };
+        ensures ends { EndsFirmly result (state self.old) (state self.new) };
 
     /// Makes a void block the committed copy of the block that it names. Cut, it leaves it void or
     /// committed.
@@ -229,7 +229,7 @@ pub trait SlotCalls {
         ensures chip { SameChip (state self.old).memory (state self.new).memory }
         ensures healthy { IsErrOf result NorError.Cut → IsHealthy (state self.old).memory
             → IsHealthy (state self.new).memory }
-        ensures ends { EndsSettled result (state self.old) (state self.new) };
+        ensures ends { EndsFirmly result (state self.old) (state self.new) };
 
     /// Makes a committed block settled. Cut, it leaves it committed or settled.
     fn settle(&mut self, target: u16) -> Result<(), NorError>
@@ -248,7 +248,7 @@ pub trait SlotCalls {
         ensures chip { SameChip (state self.old).memory (state self.new).memory }
         ensures healthy { IsErrOf result NorError.Cut → IsHealthy (state self.old).memory
             → IsHealthy (state self.new).memory }
-        ensures ends { EndsSettled result (state self.old) (state self.new) };
+        ensures ends { EndsFirmly result (state self.old) (state self.new) };
 
     /// Erases a block in one step. It isn't committed, and none of its slots counts as live. Cut on
     /// a healthy memory, it leaves the block as it was or erased.
@@ -264,7 +264,7 @@ pub trait SlotCalls {
         ensures spends { OnOk result (Spends (unused (state self.old).memory)
             (unused (state self.new).memory)) }
         ensures size { length (state self.new).memory ≡ length (state self.old).memory }
-        ensures ends { EndsSettled result (state self.old) (state self.new) };
+        ensures ends { EndsFirmly result (state self.old) (state self.new) };
 
     /// The first bytes of the superblock. After an error `into` holds any bytes.
     fn superblock(&mut self, into: &mut [u8]) -> Result<(), NorError>
@@ -274,7 +274,7 @@ pub trait SlotCalls {
         ensures size { length into.new ≡ length into.old }
         ensures same { (state self.new).memory ≡ (state self.old).memory }
         ensures index { indexed self.new ≡ indexed self.old }
-        ensures ends { EndsSettled result (state self.old) (state self.new) };
+        ensures ends { EndsFirmly result (state self.old) (state self.new) };
 
     /// Programs byte 15 of the superblock, which says that a chip of layout 1 is mixed: no slot is
     /// changed. Cut, it is as it was or programmed.

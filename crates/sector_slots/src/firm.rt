@@ -4,10 +4,12 @@
 
 ghost use Rattle.std.specs.Prelude.{◌≡◌, ◌⊎◌, ◌<◌, length, OnOk, IfOk, IsTrue, IsFalse};
 ghost use Rattle.std.specs.Result.{IsErrOf};
+ghost use Rattle.nor_driver.specs.State.{bits_in};
 ghost use Rattle.erase_journal.specs.Blocks.{SameChip, SameBlocks};
 ghost use Rattle.erase_journal.specs.Journals.{IsHealthy, unused};
 ghost use Rattle.erase_journal.specs.Renewal.{RenewsAll};
-ghost use Rattle.erase_journal.specs.Steps.{EndsSettled, KeepsBlocks};
+ghost use Rattle.erase_journal.specs.Steps.{EndsFirmly, KeepsBlocks, EndsSettled};
+ghost use Rattle.erase_journal.specs.Weak.{AreFirmJournals, AreRecoveredJournals};
 ghost use Rattle.sector_slots.specs.Firm.{KeepsHead, HoldsBegun};
 ghost use Rattle.sector_slots.specs.Slots.{Free, Dead, slot_at, slot_count, data_blocks, IsClean};
 ghost use Rattle.sector_slots.specs.Slots.{data_block};
@@ -22,6 +24,8 @@ pub trait FirmCalls: SlotCalls {
     fn firm(&mut self) -> Result<(), NorError>
         ensures blocks { OnOk result (SameBlocks (Self.state self.old).memory
             (Self.state self.new).memory) }
+        ensures journals { AreRecoveredJournals (bits_in (Self.state self.old))
+            → OnOk result (AreFirmJournals (bits_in (Self.state self.new))) }
         ensures cut { IsErrOf result NorError.Cut → IsHealthy (Self.state self.old).memory
             → KeepsBlocks (Self.state self.old).memory (Self.state self.new).memory }
         ensures size { length (Self.state self.new).memory ≡ length (Self.state self.old).memory }
@@ -36,7 +40,7 @@ pub trait FirmCalls: SlotCalls {
         ensures cut { IsErrOf result NorError.Cut → IsHealthy (Self.state self.old).memory
             → KeepsBlocks (Self.state self.old).memory (Self.state self.new).memory }
         ensures size { length (Self.state self.new).memory ≡ length (Self.state self.old).memory }
-        ensures ends { EndsSettled result (Self.state self.old) (Self.state self.new) };
+        ensures ends { EndsFirmly result (Self.state self.old) (Self.state self.new) };
 
     /// Programs the head of a block, its first 44 bytes, again as it reads; of a slot that is dead
     /// and not begun also the bit by which it can't come to be live. True where a slot is begun.
@@ -53,7 +57,7 @@ pub trait FirmCalls: SlotCalls {
         ensures size { length (Self.state self.new).memory ≡ length (Self.state self.old).memory }
         ensures healthy { IsErrOf result NorError.Cut → IsHealthy (Self.state self.old).memory
             → IsHealthy (Self.state self.new).memory }
-        ensures ends { EndsSettled result (Self.state self.old) (Self.state self.new) };
+        ensures ends { EndsFirmly result (Self.state self.old) (Self.state self.new) };
 
     /// Whether a slot of a block is begun: its state is FEh. False of a block of a group.
     fn has_begun(&mut self, block: u16) -> Result<bool, NorError>
@@ -64,7 +68,7 @@ pub trait FirmCalls: SlotCalls {
             → HoldsBegun (data_block (Self.state self.old).memory block) → ⊥) }
         ensures same { (Self.state self.new).memory ≡ (Self.state self.old).memory }
         ensures index { Self.indexed self.new ≡ Self.indexed self.old }
-        ensures ends { EndsSettled result (Self.state self.old) (Self.state self.new) };
+        ensures ends { EndsFirmly result (Self.state self.old) (Self.state self.new) };
 
     /// Makes a free slot that counts dead, so that it is never written. Cut, it leaves it free or
     /// dead.
@@ -87,5 +91,5 @@ pub trait FirmCalls: SlotCalls {
         ensures chip { SameChip (Self.state self.old).memory (Self.state self.new).memory }
         ensures healthy { IsErrOf result NorError.Cut → IsHealthy (Self.state self.old).memory
             → IsHealthy (Self.state self.new).memory }
-        ensures ends { EndsSettled result (Self.state self.old) (Self.state self.new) };
+        ensures ends { EndsFirmly result (Self.state self.old) (Self.state self.new) };
 }

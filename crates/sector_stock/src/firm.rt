@@ -8,7 +8,7 @@ ghost use Rattle.std.specs.Result.{IsErrOf};
 ghost use Rattle.chip_model.specs.Geometry.{IsChipSize};
 ghost use Rattle.nor_driver.specs.State.{IsNorReady};
 ghost use Rattle.erase_journal.specs.Journals.{IsHealthy, IsSettled};
-ghost use Rattle.erase_journal.specs.Steps.{EndsSettled};
+ghost use Rattle.erase_journal.specs.Steps.{EndsFirmly};
 ghost use Rattle.sector_slots.specs.Slots.{Free, slot_at, slot_count};
 ghost use Rattle.sector_stock.specs.Copy.{KeepsSectors};
 ghost use Rattle.sector_stock.specs.Index.{in_block, IsIndexOf, IsAhead, IsWholeBlock, Suspects};
@@ -67,7 +67,7 @@ pub fn firm_free<S: FirmCalls>(
     ensures size { length (S.state slots.new).memory ≡ length (S.state slots.old).memory }
     ensures states_size { length states.new ≡ length states.old }
     ensures blocks_size { length blocks.new ≡ length blocks.old }
-    ensures ends { EndsSettled result (S.state slots.old) (S.state slots.new) }
+    ensures ends { EndsFirmly result (S.state slots.old) (S.state slots.new) }
 {
     while let Some(slot) = next_suspect(states, blocks, at) {
         firm_one(slots, states, blocks, at, slot)?;
@@ -130,7 +130,7 @@ fn firm_one<S: FirmCalls>(
     ensures size { length (S.state slots.new).memory ≡ length (S.state slots.old).memory }
     ensures states_size { length states.new ≡ length states.old }
     ensures blocks_size { length blocks.new ≡ length blocks.old }
-    ensures ends { EndsSettled result (S.state slots.old) (S.state slots.new) }
+    ensures ends { EndsFirmly result (S.state slots.old) (S.state slots.new) }
 {
     let block = slot / 7;
     if is_whole(blocks[block as usize]) {
@@ -164,7 +164,7 @@ fn erase_suspect<S: FirmCalls>(
         → IsHealthy (S.state slots.new).memory }
     ensures size { length (S.state slots.new).memory ≡ length (S.state slots.old).memory }
     ensures blocks_size { length blocks.new ≡ length blocks.old }
-    ensures ends { EndsSettled result (S.state slots.old) (S.state slots.new) }
+    ensures ends { EndsFirmly result (S.state slots.old) (S.state slots.new) }
 {
     slots.erase(block)?;
     trust(blocks, block);
@@ -199,7 +199,7 @@ fn kill_first<S: FirmCalls>(
     ensures size { length (S.state slots.new).memory ≡ length (S.state slots.old).memory }
     ensures states_size { length states.new ≡ length states.old }
     ensures blocks_size { length blocks.new ≡ length blocks.old }
-    ensures ends { EndsSettled result (S.state slots.old) (S.state slots.new) }
+    ensures ends { EndsFirmly result (S.state slots.old) (S.state slots.new) }
 {
     slots.kill(slot)?;
     mark_live(states, blocks, slot);

@@ -6,7 +6,7 @@ ghost use Rattle.std.specs.Result.{IsErrOf};
 ghost use Rattle.nor_driver.specs.State.{IsNorReady};
 ghost use Rattle.erase_journal.specs.Blocks.{SameChip};
 ghost use Rattle.erase_journal.specs.Journals.{IsHealthy, IsSettled};
-ghost use Rattle.erase_journal.specs.Steps.{EndsSettled};
+ghost use Rattle.erase_journal.specs.Steps.{EndsFirmly};
 ghost use Rattle.sector_slots.specs.Slots.{Free, Live, Dead, slot_at, slot_count, IsClean};
 ghost use Rattle.sector_slots.specs.Slots.{data_blocks, kind_at, data_block, read_header};
 ghost use Rattle.sector_slots.specs.Slots.{descriptor_in};
@@ -61,7 +61,7 @@ pub trait Reclaim: FirmCalls {
         ensures even { OnOk result (policy self.old ≡ policies.Level
             → AreWithin 32 (data_blocks (Self.state self.new).memory)
             (erases_of (counts self.new))) }
-        ensures ends { EndsSettled result (Self.state self.old) (Self.state self.new) };
+        ensures ends { EndsFirmly result (Self.state self.old) (Self.state self.new) };
 
     /// What is free now is suspect, as it is after a firm mount: a bit of it may have been torn,
     /// and read another way at the next power-on. Nothing is read.
@@ -96,7 +96,7 @@ pub trait Reclaim: FirmCalls {
         ensures indexed { OnOk result (Self.indexed self.new ≡ true) }
         ensures healthy { IsErrOf result NorError.Cut → IsHealthy (Self.state self.new).memory }
         ensures size { length (Self.state self.new).memory ≡ length (Self.state self.old).memory }
-        ensures ends { EndsSettled result (Self.state self.old) (Self.state self.new) };
+        ensures ends { EndsFirmly result (Self.state self.old) (Self.state self.new) };
 
     /// A free slot; another block than its own is wholly free. Where no slot outside the reserve is
     /// free, a block with the most dead slots is copied into the reserve first. There always is
@@ -143,7 +143,7 @@ pub trait Reclaim: FirmCalls {
         ensures even { OnOk result (policy self.old ≡ policies.Level
             → AreWithin 32 (data_blocks (Self.state self.new).memory)
             (erases_of (counts self.new))) }
-        ensures ends { EndsSettled result (Self.state self.old) (Self.state self.new) };
+        ensures ends { EndsFirmly result (Self.state self.old) (Self.state self.new) };
 
     /// Whether `tidy` has something to do: whether slots are dead, or blocks live with groups.
     /// Nothing is read.
@@ -204,7 +204,7 @@ pub trait Reclaim: FirmCalls {
         ensures even { OnOk result (policy self.old ≡ policies.Level
             → AreWithin 32 (data_blocks (Self.state self.new).memory)
             (erases_of (counts self.new))) }
-        ensures ends { EndsSettled result (Self.state self.old) (Self.state self.new) };
+        ensures ends { EndsFirmly result (Self.state self.old) (Self.state self.new) };
 
     /// Moves a block whose sectors rest into a wholly free one, where it is time for it, so that
     /// the block is written to again: the blocks. Where it isn't, no block changes: None. By number
@@ -252,7 +252,7 @@ pub trait Reclaim: FirmCalls {
         ensures even { OnOk result (policy self.old ≡ policies.Level
             → AreWithin 32 (data_blocks (Self.state self.new).memory)
             (erases_of (counts self.new))) }
-        ensures ends { EndsSettled result (Self.state self.old) (Self.state self.new) };
+        ensures ends { EndsFirmly result (Self.state self.old) (Self.state self.new) };
 
     /// The block that was erased least, where another one was erased `limit` times more often: it
     /// lags behind, and is to be renewed. None where none does, and by number. No two blocks differ
@@ -307,7 +307,7 @@ pub trait Reclaim: FirmCalls {
         ensures size { length (Self.state self.new).memory ≡ length (Self.state self.old).memory }
         ensures counted { OnOk result (IsErasedOnce (data_blocks (Self.state self.old).memory)
             block (erases_of (counts self.old)) (erases_of (counts self.new))) }
-        ensures ends { EndsSettled result (Self.state self.old) (Self.state self.new) };
+        ensures ends { EndsFirmly result (Self.state self.old) (Self.state self.new) };
 
     /// What the seven descriptors of a block say, as `head` gives them; the counts stay.
     fn descriptors(&mut self, block: u16, into: &mut [Header]) -> Result<(), NorError>
@@ -320,7 +320,7 @@ pub trait Reclaim: FirmCalls {
         ensures index { Self.indexed self.new ≡ Self.indexed self.old }
         ensures policy { policy self.new ≡ policy self.old }
         ensures counted { counts self.new ≡ counts self.old }
-        ensures ends { EndsSettled result (Self.state self.old) (Self.state self.new) };
+        ensures ends { EndsFirmly result (Self.state self.old) (Self.state self.new) };
 
     /// Whether fewer than an eighth of the slots beyond those that the sectors need are free.
     /// Nothing is read.
@@ -366,7 +366,7 @@ pub trait Reclaim: FirmCalls {
         ensures even { OnOk result (policy self.old ≡ policies.Level
             → AreWithin 32 (data_blocks (Self.state self.new).memory)
             (erases_of (counts self.new))) }
-        ensures ends { EndsSettled result (Self.state self.old) (Self.state self.new) };
+        ensures ends { EndsFirmly result (Self.state self.old) (Self.state self.new) };
 
     /// Writes a sector, 512 bytes, into a free slot, as `put` does. Another block than the slot's
     /// is wholly free.
@@ -402,7 +402,7 @@ pub trait Reclaim: FirmCalls {
         ensures policy { OnOk result (policy self.new ≡ policy self.old) }
         ensures counted { OnOk result (KeepsErases (data_blocks (Self.state self.old).memory)
             (erases_of (counts self.old)) (erases_of (counts self.new))) }
-        ensures ends { EndsSettled result (Self.state self.old) (Self.state self.new) };
+        ensures ends { EndsFirmly result (Self.state self.old) (Self.state self.new) };
 
     /// Makes a live slot of a block of slots dead, as `retire` does.
     fn release(&mut self, slot: u16) -> Result<(), NorError>
@@ -432,5 +432,5 @@ pub trait Reclaim: FirmCalls {
         ensures policy { OnOk result (policy self.new ≡ policy self.old) }
         ensures counted { OnOk result (KeepsErases (data_blocks (Self.state self.old).memory)
             (erases_of (counts self.old)) (erases_of (counts self.new))) }
-        ensures ends { EndsSettled result (Self.state self.old) (Self.state self.new) };
+        ensures ends { EndsFirmly result (Self.state self.old) (Self.state self.new) };
 }

@@ -2,7 +2,7 @@
 
 ghost use Rattle.std.specs.Prelude.{◌≡◌, ◌+◌, ◌*◌, ◌<◌, ◌≤◌, length, ℕ, IfOk, OnOk, if◌then◌else◌};
 ghost use Rattle.nor_driver.specs.State.{IsNorReady};
-ghost use Rattle.erase_journal.specs.Steps.{EndsSettled};
+ghost use Rattle.erase_journal.specs.Steps.{EndsFirmly};
 ghost use Rattle.sector_slots.specs.Slots.{slot_count, data_blocks};
 ghost use Rattle.sector_slots.specs.Blocks.{AreSettled};
 ghost use Rattle.sector_stock.specs.Index.{IsAhead, IsHighestWhole, IsWholeBlock, IsIndexOf};
@@ -37,7 +37,7 @@ pub fn fill_index<S: SlotCalls>(
     ensures states_size { length states.new ≡ length states.old }
     ensures blocks_size { length blocks.new ≡ length blocks.old }
     ensures same { (S.state slots.new).memory ≡ (S.state slots.old).memory }
-    ensures ends { EndsSettled result (S.state slots.old) (S.state slots.new) }
+    ensures ends { EndsFirmly result (S.state slots.old) (S.state slots.new) }
 {
     let count = slots.blocks();
     slots.kind(0)?;

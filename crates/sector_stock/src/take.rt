@@ -7,7 +7,7 @@ ghost use Rattle.std.specs.Result.{IsErrOf};
 ghost use Rattle.chip_model.specs.Geometry.{IsChipSize};
 ghost use Rattle.nor_driver.specs.State.{IsNorReady};
 ghost use Rattle.erase_journal.specs.Journals.{IsHealthy, IsSettled};
-ghost use Rattle.erase_journal.specs.Steps.{EndsSettled};
+ghost use Rattle.erase_journal.specs.Steps.{EndsFirmly};
 ghost use Rattle.sector_slots.specs.Blocks.{IsReserveOf};
 ghost use Rattle.sector_slots.specs.Slots.{data_blocks};
 ghost use Rattle.sector_stock.specs.Room.{HasRoom, HasNoneDead, HasNoneFree};
@@ -70,7 +70,7 @@ fn copy_most<S: SlotCalls>(
     ensures size { length (S.state slots.new).memory ≡ length (S.state slots.old).memory }
     ensures states_size { length states.new ≡ length states.old }
     ensures blocks_size { length blocks.new ≡ length blocks.old }
-    ensures ends { EndsSettled result (S.state slots.old) (S.state slots.new) }
+    ensures ends { EndsFirmly result (S.state slots.old) (S.state slots.new) }
     ensures target { IfOk result (λ c. (c.source ≡ source) × (c.target ≡ at.old.reserve)) }
     ensures next { OnOk result (at.old.policy ≡ policies.Level → at.new.reserve ≡ source) }
     ensures newest { OnOk result (at.new.newest ≡ at.old.newest) }
@@ -132,7 +132,7 @@ pub fn convert_block<S: SlotCalls>(
     ensures size { length (S.state slots.new).memory ≡ length (S.state slots.old).memory }
     ensures states_size { length states.new ≡ length states.old }
     ensures blocks_size { length blocks.new ≡ length blocks.old }
-    ensures ends { EndsSettled result (S.state slots.old) (S.state slots.new) }
+    ensures ends { EndsFirmly result (S.state slots.old) (S.state slots.new) }
     ensures reserve { IfOk result (λ c. c.target ≡ at.old.reserve) }
     ensures next { OnOk result (at.old.policy ≡ policies.Level → at.new.reserve ≡ source) }
     ensures counted { OnOk result (IsErasedOnce (data_blocks (S.state slots.old).memory) source
@@ -182,7 +182,7 @@ pub fn take_slot<S: SlotCalls>(
     ensures size { length (S.state slots.new).memory ≡ length (S.state slots.old).memory }
     ensures states_size { length states.new ≡ length states.old }
     ensures blocks_size { length blocks.new ≡ length blocks.old }
-    ensures ends { EndsSettled result (S.state slots.old) (S.state slots.new) }
+    ensures ends { EndsFirmly result (S.state slots.old) (S.state slots.new) }
     ensures fills { at.old.policy ≡ policies.Level → IfOk result (λ given. FillsUp at.old.newest
         at.new.reserve (erases_of blocks.new) given.slot (S.state slots.new).memory) }
     ensures worn { at.old.policy ≡ policies.Level → IfOk result (λ given. (c : CopiedOf)
@@ -240,7 +240,7 @@ fn convert_lowest<S: SlotCalls>(
     ensures size { length (S.state slots.new).memory ≡ length (S.state slots.old).memory }
     ensures states_size { length states.new ≡ length states.old }
     ensures blocks_size { length blocks.new ≡ length blocks.old }
-    ensures ends { EndsSettled result (S.state slots.old) (S.state slots.new) }
+    ensures ends { EndsFirmly result (S.state slots.old) (S.state slots.new) }
     ensures reserve { IfOk result (λ copied. (c : CopiedOf) → copied ≡ Some c
         → c.target ≡ at.old.reserve) }
     ensures next { at.old.policy ≡ policies.Level → IfOk result (λ copied. (c : CopiedOf)
@@ -319,7 +319,7 @@ pub fn tidy_block<S: SlotCalls>(
     ensures size { length (S.state slots.new).memory ≡ length (S.state slots.old).memory }
     ensures states_size { length states.new ≡ length states.old }
     ensures blocks_size { length blocks.new ≡ length blocks.old }
-    ensures ends { EndsSettled result (S.state slots.old) (S.state slots.new) }
+    ensures ends { EndsFirmly result (S.state slots.old) (S.state slots.new) }
     ensures worn { at.old.policy ≡ policies.Level → IfOk result (λ copied. (c : CopiedOf)
         → copied ≡ Some c → CopiesLeastWorn (erases_of blocks.old) at.old.reserve
         at.new.reserve c (S.state slots.old).memory ⊎ HasNoneDead (S.state slots.old).memory) }

@@ -1,7 +1,7 @@
 //! The kinds of the blocks: what copyings were cut, or the first block for which they are corrupt.
 
 ghost use Rattle.std.specs.Prelude.{◌≡◌, ◌<◌, ◌≤◌, ◌+◌, Some, true, false, IfOk, IfErr};
-ghost use Rattle.erase_journal.specs.Steps.{EndsSettled};
+ghost use Rattle.erase_journal.specs.Steps.{EndsFirmly};
 ghost use Rattle.sector_slots.specs.Sectors.{HasSlotsAlone};
 ghost use Rattle.sector_map.specs.Found.{FoundIn, noted_where};
 ghost use Rattle.sector_map.specs.Marking.{may_have_groups};
@@ -29,7 +29,7 @@ pub fn read_kinds<S: SlotCalls>(
     ensures fault { IfOk result (λ says. IfErr says (λ fault.
         Explains fault (S.state slots.old).memory)) }
     ensures same { (S.state slots.new).memory ≡ (S.state slots.old).memory }
-    ensures ends { EndsSettled result (S.state slots.old) (S.state slots.new) }
+    ensures ends { EndsFirmly result (S.state slots.old) (S.state slots.new) }
 {
     let count = slots.blocks();
     let mut found = Found::AtRest;

@@ -2,7 +2,6 @@
 
 ghost use Rattle.std.specs.Prelude.{◌≡◌, ◌<◌, ℕ, IfOk, IsFalse, IsTrue, length};
 ghost use Rattle.erase_journal.specs.Journals.{IsHealthy};
-ghost use Rattle.erase_journal.specs.Steps.{EndsSettled};
 ghost use Rattle.sector_slots.specs.Blocks.{AreAtRest, IsAtRest};
 ghost use Rattle.sector_slots.specs.Slots.{data_blocks, kind_at};
 ghost use Rattle.sector_survey.specs.Cleanness.{GroupsTell, IsCleannessOf, SlotsTell};

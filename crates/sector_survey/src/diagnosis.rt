@@ -2,7 +2,7 @@
 
 ghost use Rattle.std.specs.Prelude.{◌≡◌, ◌<◌, None, length, IfOk, IfSome};
 ghost use Rattle.chip_model.specs.Geometry.{sector_count};
-ghost use Rattle.erase_journal.specs.Steps.{EndsSettled};
+ghost use Rattle.erase_journal.specs.Steps.{EndsFirmly};
 ghost use Rattle.sector_slots.specs.Sectors.{IsSoundMap};
 ghost use Rattle.sector_map.specs.Marking.{may_have_groups};
 ghost use Rattle.sector_survey.specs.Findings.{Explains};
@@ -30,7 +30,7 @@ pub fn diagnose<S: SlotCalls>(
     ensures sound { IfOk result (λ says. says ≡ None → IsSoundMap (S.state slots.old).memory) }
     ensures size { length table.new ≡ length table.old }
     ensures same { (S.state slots.new).memory ≡ (S.state slots.old).memory }
-    ensures ends { EndsSettled result (S.state slots.old) (S.state slots.new) }
+    ensures ends { EndsFirmly result (S.state slots.old) (S.state slots.new) }
 {
     let _blocks = slots.blocks();
     table.fill(LiveSlots::Absent);
@@ -56,7 +56,7 @@ fn has_groups<S: SlotCalls>(slots: &mut S) -> Result<bool, NorError>
     ensures groups { IfOk result (λ groups. groups
         ≡ may_have_groups (S.state slots.old).memory) }
     ensures same { (S.state slots.new).memory ≡ (S.state slots.old).memory }
-    ensures ends { EndsSettled result (S.state slots.old) (S.state slots.new) }
+    ensures ends { EndsFirmly result (S.state slots.old) (S.state slots.new) }
 {
     let mut head = [0; SUPER_LEN];
     slots.superblock(&mut head)?;

@@ -5,7 +5,7 @@ ghost use Rattle.chip_model.specs.Geometry.{IsChipSize};
 ghost use Rattle.chip_model.specs.Memory.{byte};
 ghost use Rattle.nor_layout.specs.Headers.{header_of};
 ghost use Rattle.nor_layout.specs.declared.header.Header.TheVariants as headers;
-ghost use Rattle.erase_journal.specs.Steps.{EndsSettled};
+ghost use Rattle.erase_journal.specs.Steps.{EndsFirmly};
 ghost use Rattle.sector_slots.specs.Slots.{data_blocks};
 ghost use Rattle.sector_survey.specs.Cleanness.{FreeBlockTells, FreeBlocksTell, HasFreeErased};
 
@@ -19,7 +19,7 @@ use nor_layout::{BLOCK_LEN, FIRST_DATA_BLOCK, Header, block_state};
 pub(crate) fn first_dirty_group<N: Nor>(journal: &mut Journal<N>) -> Result<Option<u32>, NorError>
     ensures told { IfOk result (λ found. FreeBlocksTell found journal.old.memory) }
     ensures same { journal.new.memory ≡ journal.old.memory }
-    ensures ends { EndsSettled result journal.old journal.new }
+    ensures ends { EndsFirmly result journal.old journal.new }
 {
     let blocks = journal.blocks() - FIRST_DATA_BLOCK;
     for block in 0..blocks {
@@ -34,7 +34,7 @@ pub(crate) fn first_dirty_group<N: Nor>(journal: &mut Journal<N>) -> Result<Opti
 #[tactic(auto, using(erase_journal::proofs::Calls::repeated_calls))]
 pub(crate) fn erase_free_blocks<N: Nor>(journal: &mut Journal<N>) -> Result<(), NorError>
     ensures erased { OnOk result (HasFreeErased journal.old.memory journal.new.memory) }
-    ensures ends { EndsSettled result journal.old journal.new }
+    ensures ends { EndsFirmly result journal.old journal.new }
 {
     let blocks = journal.blocks() - FIRST_DATA_BLOCK;
     for block in 0..blocks {
@@ -52,7 +52,7 @@ fn dirty_byte<N: Nor>(journal: &mut Journal<N>, block: u16) -> Result<Option<u32
     ensures told { IfOk result (λ found. FreeBlockTells found journal.old.memory block) }
     ensures inside { IfOk result (λ found. IfSome found (λ byte. byte < 4096)) }
     ensures same { journal.new.memory ≡ journal.old.memory }
-    ensures ends { EndsSettled result journal.old journal.new }
+    ensures ends { EndsFirmly result journal.old journal.new }
 {
     let mut bytes = [0; BLOCK_LEN as usize];
     journal.read(block + FIRST_DATA_BLOCK, 0, &mut bytes)?;

@@ -2,8 +2,7 @@
 
 ghost use Rattle.std.specs.Prelude.{◌≡◌, ◌≢◌, ◌⊎◌, ◌<◌, ℕ, None, IfOk, IfErr, IfSome, OnOk, IsTrue};
 ghost use Rattle.std.specs.Prelude.{IsFalse, length};
-ghost use Rattle.nor_driver.specs.State.{Refuses};
-ghost use Rattle.erase_journal.specs.Steps.{SucceedsSettled, EndsSettled};
+ghost use Rattle.erase_journal.specs.Steps.{RefusesFirmly, SucceedsSettled, EndsFirmly};
 ghost use Rattle.sector_slots.specs.Slots.{slot_at, slot_count, data_blocks, kind_at, is_group};
 ghost use Rattle.sector_map.specs.Mending.{IsMixedPair};
 ghost use Rattle.sector_map.specs.Table.{IsTabled};
@@ -31,7 +30,7 @@ pub fn find_mixed<S: SlotCalls>(
     ensures same { (S.state slots.new).memory ≡ (S.state slots.old).memory }
     ensures done { OnOk result ((S.state slots.new ≡ S.state slots.old)
         ⊎ SucceedsSettled (S.state slots.old) (S.state slots.new)) }
-    ensures fails { IfErr result (λ e. Refuses e (S.state slots.old) (S.state slots.new)) }
+    ensures fails { IfErr result (λ e. RefusesFirmly e (S.state slots.old) (S.state slots.new)) }
 {
     for sector in 0..table.len() {
         match table[sector] {
@@ -62,7 +61,7 @@ fn are_unlike<S: SlotCalls>(slots: &mut S, first: u16, second: u16) -> Result<bo
         → is_group (kind_at (S.state slots.old).memory first)
         ≡ is_group (kind_at (S.state slots.old).memory second)) }
     ensures same { (S.state slots.new).memory ≡ (S.state slots.old).memory }
-    ensures ends { EndsSettled result (S.state slots.old) (S.state slots.new) }
+    ensures ends { EndsFirmly result (S.state slots.old) (S.state slots.new) }
 {
     let one = slots.kind(first)?.is_of_group();
     let other = slots.kind(second)?.is_of_group();

@@ -2,8 +2,7 @@
 
 ghost use Rattle.std.specs.Prelude.{◌≡◌, ◌⊎◌, ◌<◌, ℕ, Bool, true, false, IfOk, IfErr, OnOk, IsTrue};
 ghost use Rattle.std.specs.Prelude.{IsFalse};
-ghost use Rattle.nor_driver.specs.State.{Refuses};
-ghost use Rattle.erase_journal.specs.Steps.{SucceedsSettled, EndsSettled};
+ghost use Rattle.erase_journal.specs.Steps.{RefusesFirmly, SucceedsSettled, EndsFirmly};
 ghost use Rattle.sector_slots.specs.Slots.{slot_at, slot_count, data_blocks, IsSpareIn};
 ghost use Rattle.sector_map.specs.Found.{FoundIn, RoomSeen};
 ghost use Rattle.sector_map.specs.Mending.{IsMixedPair};
@@ -24,7 +23,7 @@ pub fn has_spare<S: SlotCalls>(slots: &mut S) -> Result<bool, NorError>
         → (c : ℕ) → c < data_blocks (S.state slots.old).memory
         → IsSpareIn (S.state slots.old).memory c → ⊥) }
     ensures same { (S.state slots.new).memory ≡ (S.state slots.old).memory }
-    ensures ends { EndsSettled result (S.state slots.old) (S.state slots.new) }
+    ensures ends { EndsFirmly result (S.state slots.old) (S.state slots.new) }
 {
     let count = slots.blocks();
     for block in 0..count {
@@ -51,7 +50,7 @@ pub fn lacks_room<S: SlotCalls>(
     ensures same { (S.state slots.new).memory ≡ (S.state slots.old).memory }
     ensures done { OnOk result ((S.state slots.new ≡ S.state slots.old)
         ⊎ SucceedsSettled (S.state slots.old) (S.state slots.new)) }
-    ensures fails { IfErr result (λ e. Refuses e (S.state slots.old) (S.state slots.new)) }
+    ensures fails { IfErr result (λ e. RefusesFirmly e (S.state slots.old) (S.state slots.new)) }
 {
     match found {
         Found::AtRest => is_full(slots, table),
@@ -70,7 +69,7 @@ fn is_full<S: SlotCalls>(slots: &mut S, table: &[LiveSlots]) -> Result<bool, Nor
         → (spare : Bool) × RoomSeen Found.AtRest spare (S.state slots.old).memory) }
     ensures none { IfOk result (λ lacks. IsTrue lacks → HasNoRoom (S.state slots.old).memory) }
     ensures same { (S.state slots.new).memory ≡ (S.state slots.old).memory }
-    ensures ends { EndsSettled result (S.state slots.old) (S.state slots.new) }
+    ensures ends { EndsFirmly result (S.state slots.old) (S.state slots.new) }
 {
     if has_spare(slots)? {
         return Ok(false);

@@ -1,9 +1,9 @@
 //! What each data block says: its kind, and how many of its slots are free and live.
 
 ghost use Rattle.std.specs.Prelude.{◌≡◌, ◌<◌, ◌+◌, IfOk, IfErr, MatchOption, length};
-ghost use Rattle.nor_driver.specs.State.{IsNorReady, Refuses};
+ghost use Rattle.nor_driver.specs.State.{IsNorReady};
 ghost use Rattle.erase_journal.specs.Journals.{IsHealthy};
-ghost use Rattle.erase_journal.specs.Steps.{EndsSettled};
+ghost use Rattle.erase_journal.specs.Steps.{RefusesFirmly, EndsFirmly};
 ghost use Rattle.sector_slots.specs.Slots.{data_blocks};
 ghost use Rattle.sector_survey.specs.Summaries.{AreSummaries, IsSummaryOf, free_heads};
 ghost use Rattle.sector_survey.specs.Summaries.{is_free_head};
@@ -78,7 +78,7 @@ fn summarize_blocks<S: SlotCalls>(
 ) -> Result<Result<Vec<BlockSummary>, NoMemory>, NorError>
     ensures told { IfOk result (λ says. IfOk says (λ all.
         AreSummaries all.items (S.state slots.old).memory)) }
-    ensures fails { IfErr result (λ e. Refuses e (S.state slots.old) (S.state slots.new)) }
+    ensures fails { IfErr result (λ e. RefusesFirmly e (S.state slots.old) (S.state slots.new)) }
 {
     let count = slots.blocks();
     let mut all = Vec::new(alloc);
@@ -97,7 +97,7 @@ fn summarize_block<S: SlotCalls>(slots: &mut S, block: u16) -> Result<BlockSumma
     ensures summary { IfOk result (λ summary. IsSummaryOf summary (S.state slots.old).memory
         block) }
     ensures same { (S.state slots.new).memory ≡ (S.state slots.old).memory }
-    ensures ends { EndsSettled result (S.state slots.old) (S.state slots.new) }
+    ensures ends { EndsFirmly result (S.state slots.old) (S.state slots.new) }
 {
     let mut heads = [Header::Free; 7];
     let kind = slots.head(block, &mut heads)?;

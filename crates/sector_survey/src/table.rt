@@ -4,7 +4,7 @@ ghost use Rattle.std.specs.Prelude.{◌≡◌, ◌+◌, ◌*◌, ◌<◌, ◌≤
 ghost use Rattle.std.specs.Prelude.{IfSome};
 ghost use Rattle.chip_model.specs.Geometry.{sector_count};
 ghost use Rattle.nor_layout.specs.declared.header.Header.TheVariants as headers;
-ghost use Rattle.erase_journal.specs.Steps.{EndsSettled};
+ghost use Rattle.erase_journal.specs.Steps.{EndsFirmly};
 ghost use Rattle.sector_slots.specs.Slots.{slot_at, slot_count, data_blocks};
 ghost use Rattle.sector_map.specs.Found.{FoundIn};
 ghost use Rattle.sector_map.specs.Scan.{EntersBlock};
@@ -36,7 +36,7 @@ pub fn read_slots<S: SlotCalls>(
         IsSlotFaultIn fault (S.state slots.old).memory)) }
     ensures size { length table.new ≡ length table.old }
     ensures same { (S.state slots.new).memory ≡ (S.state slots.old).memory }
-    ensures ends { EndsSettled result (S.state slots.old) (S.state slots.new) }
+    ensures ends { EndsFirmly result (S.state slots.old) (S.state slots.new) }
 {
     let count = slots.blocks();
     for block in 0..count {
@@ -65,7 +65,7 @@ fn read_block<S: SlotCalls>(
         IsSlotFaultIn fault (S.state slots.old).memory)) }
     ensures size { length table.new ≡ length table.old }
     ensures same { (S.state slots.new).memory ≡ (S.state slots.old).memory }
-    ensures ends { EndsSettled result (S.state slots.old) (S.state slots.new) }
+    ensures ends { EndsFirmly result (S.state slots.old) (S.state slots.new) }
 {
     let mut heads = [Header::Free; 7];
     let kind = slots.head(block, &mut heads)?;

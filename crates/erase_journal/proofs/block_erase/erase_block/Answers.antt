@@ -1,6 +1,12 @@
 use Rattle.nor_driver.specs.State.{Refuses}
 use Rattle.nor_driver.proofs.CallLaws.{fails-as, kept-after, ready-back, refuses-perhaps}
 use Rattle.erase_journal.specs.Steps.{SucceedsSettled}
+use Rattle.std.proofs.Common.{subst, inl, inr}
+use Rattle.std.proofs.lemmas.Result.{err_from_is_err_and}
+use Rattle.nor_driver.specs.State.{NorState}
+use Rattle.nor_driver.proofs.CallLaws.{ready-after}
+use Rattle.erase_journal.specs.Steps.{LosesFirmly}
+use Rattle.erase_journal.proofs.Standing.{loses-after}
 use Rattle.erase_journal.proofs.block_erase.erase_block.Goals as goal
 
 pub returns-in_err-erase_with_entry-clause-ends : goal.returns-in_err-erase_with_entry-clause-ends
@@ -19,3 +25,15 @@ returns-clause-ends g c =
     let k = c.in_ok-rest.ensures.kept in
     let s = c.in_ok-erase_with_entry.ensures.ends in
     record { ready = ready-back s0 s1 k s.ready; kept = kept-after s0 s1 s2 k s.kept; settled = s.settled }
+
+pub returns-in_err-erase_with_entry-clause-loses : goal.returns-in_err-erase_with_entry-clause-loses
+returns-in_err-erase_with_entry-clause-loses g c is =
+    let p = err_from_is_err_and c.from_residual-in_err-erase_with_entry.result c.from_residual-in_err-erase_with_entry.ensures.1 in
+    let s0 = g.N.Nor.state c.args.nor.now in
+    let s1 = g.N.Nor.state c.rest.new.nor in
+    let s2 = g.N.Nor.state c.erase_with_entry.new.nor in
+    let loses = c.in_err-erase_with_entry.ensures.loses (cc (p.1, p.2)) in
+    elim c.in_ok-rest.ensures.idle [
+      | inl ready ↦ loses-after s0 s1 s2 c.in_ok-rest.ensures.kept.bits (c.in_ok-rest.ensures.restful (ready-after s0 s1 c.in_ok-rest.ensures.kept ready)).settled loses
+      | inr same ↦ subst (λ (z : NorState). LosesFirmly z s2) same loses
+    ]

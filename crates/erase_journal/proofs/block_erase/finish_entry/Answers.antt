@@ -6,6 +6,9 @@ use Rattle.erase_journal.proofs.Renewal.{stands-on, same-blocks-on}
 use Rattle.erase_journal.proofs.Uses.{finishing-keeps}
 use Rattle.nor_driver.specs.State.{Refuses}
 use Rattle.erase_journal.specs.Steps.{SucceedsSettled}
+use Rattle.nor_driver.specs.State.{bits_in}
+use Rattle.erase_journal.proofs.EntryCuts as cuts
+use Rattle.erase_journal.proofs.Standing.{block-firm}
 use Rattle.erase_journal.proofs.block_erase.finish_entry.Goals as goal
 
 pub returns-in_err-erase_small-clause-cut : goal.returns-in_err-erase_small-clause-cut
@@ -46,3 +49,18 @@ returns-in_err-program-clause-ends g c =
     let s2 = g.N.Nor.state c.program.new.self in
     fails-as c.from_residual-in_err-program.result _ (λ _. SucceedsSettled s0 s2) (λ e. Refuses e s0 s2) c.from_residual-in_err-program.ensures.1
     (refuses-since _ s0 s1 s2 c.in_ok-erase_small.ensures.ready c.in_ok-erase_small.ensures.kept (record { fails = c.in_err-program.ensures.fails; first = first-ready _ s1 s2 (ready-after s0 s1 c.in_ok-erase_small.ensures.kept c.in_ok-erase_small.ensures.ready) }))
+
+pub returns-in_err-erase_small-clause-loses : goal.returns-in_err-erase_small-clause-loses
+returns-in_err-erase_small-clause-loses g c is h =
+    let p = err_from_is_err_and c.from_residual.result c.from_residual.ensures.1 in
+    cuts.block-cut (bits_in (g.N.Nor.state c.args.nor.now)) (bits_in (g.N.Nor.state c.erase_small.new.self)) h c.args.entry c.args.block c.requires.opened c.requires.data (c.in_err-erase_small.ensures.cut_bits (cc (p.1, p.2)))
+
+pub returns-in_err-program-clause-loses : goal.returns-in_err-program-clause-loses
+returns-in_err-program-clause-loses g c is h =
+    let p = err_from_is_err_and c.from_residual-in_err-program.result c.from_residual-in_err-program.ensures.1 in
+    let s0 = g.N.Nor.state c.args.nor.now in
+    let s1 = g.N.Nor.state c.erase_small.new.self in
+    let s2 = g.N.Nor.state c.program.new.self in
+    let b = block-ok c.args.entry c.args.block s0.memory s1.memory c.requires.opened c.requires.data (omega arith) c.in_ok-erase_small.ensures.ok in
+    let h1 = block-firm c.args.block s0 s1 c.requires.data c.in_ok-erase_small.ensures.kept.bits c.in_ok-erase_small.ensures.ok h in
+    cuts.close-cut (bits_in s1) (bits_in s2) h1 (rw b.blocks.chip.same_length c.requires.size) c.args.entry c.args.block b.still (rw c.entry_place.ensures at (c.in_err-program.ensures.cut_bits (cc (p.1, p.2))))

@@ -6,6 +6,8 @@ use Rattle.erase_journal.proofs.Effects.{and-spoiled}
 use Rattle.erase_journal.proofs.SettledLaws.{settled-of, ends-settled}
 use Rattle.erase_journal.proofs.Uses.{data-keeps}
 use Rattle.erase_journal.proofs.Knowing.{kept-known}
+use Rattle.nor_driver.specs.State.{bits_in}
+use Rattle.erase_journal.proofs.EntryCuts.{data-cut}
 use Rattle.erase_journal.proofs.journal.program_block.Goals as goal
 
 pub returns-clause-ok : goal.returns-clause-ok
@@ -37,3 +39,7 @@ returns-clause-known g c known =
     let m = (g.N.Nor.state c.args.nor.now).memory in
     let at = 4096 * c.args.block + c.args.at in
     on_ok_weaker c.program.result (λ e h. kept-known known m (g.N.Nor.state c.program.new.self).memory (data-keeps at (length c.args.bytes.now) m (g.N.Nor.state c.program.new.self).memory (omega arith) (rw e (and-spoiled m at c.args.bytes.now))) h) c.program.ensures.ok
+
+pub returns-clause-loses : goal.returns-clause-loses
+returns-clause-loses g c is settled h =
+    data-cut (bits_in (g.N.Nor.state c.args.nor.now)) (bits_in (g.N.Nor.state c.program.new.self)) h settled.sound (4096 * c.args.block + c.args.at) c.args.bytes.now (omega arith) (c.program.ensures.cut_bits is)

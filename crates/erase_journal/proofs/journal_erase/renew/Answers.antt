@@ -11,6 +11,10 @@ use Rattle.chip_model.specs.Wavering.{Bits}
 use Rattle.nor_layout.specs.Journals.{journal_at}
 use Rattle.erase_journal.specs.Weak.{IsFirmJournal}
 use Rattle.erase_journal.proofs.WeakLaws.{erase-firm, are-firm-stays}
+use Rattle.nor_layout.specs.Journals.{first_at, second_at}
+use Rattle.std.proofs.Common.{arith}
+use Rattle.erase_journal.proofs.Cuts.{journal-cut}
+use Rattle.erase_journal.proofs.Standing.{erased-firm, first-close-loses, first-region, second-close-loses, second-region, vote-firm}
 use Rattle.erase_journal.proofs.journal_erase.renew.Goals as goal
 
 pub returns-in_err-erase_small-clause-cut : goal.returns-in_err-erase_small-clause-cut
@@ -113,3 +117,48 @@ returns-clause-firm g c =
     let firm = subst (λ (w : List ℕ). IsFirmJournal w c.args.journal) (sym weak) (erase-firm s0.weak (journal_at c.args.journal) 4096) in
     let k = kept-after s1 s2 s3 c.in_ok-close_vote.ensures.ends.kept c.in_ok-close_vote-2.ensures.ends.kept in
     are-firm-stays (bits_in s1) (bits_in s3) (journal_at c.args.journal) 4096 k.bits firm
+
+pub returns-in_err-erase_small-clause-loses : goal.returns-in_err-erase_small-clause-loses
+returns-in_err-erase_small-clause-loses g c is h =
+    let p = err_from_is_err_and c.from_residual.result c.from_residual.ensures.1 in
+    let q = rw c.place.ensures at (c.in_err-erase_small.ensures.cut_bits (cc (p.1, p.2))) in
+    journal-cut (bits_in (g.N.Nor.state c.args.nor.now)) (bits_in (g.N.Nor.state c.erase_small.new.self)) c.args.journal h c.requires.doomed q
+
+pub returns-in_err-close_vote-clause-loses : goal.returns-in_err-close_vote-clause-loses
+returns-in_err-close_vote-clause-loses g c is h =
+    let p = err_from_is_err_and c.from_residual-in_err-close_vote.result c.from_residual-in_err-close_vote.ensures.1 in
+    let x = c.args.journal in
+    let s0 = g.N.Nor.state c.args.nor.now in
+    let s1 = g.N.Nor.state c.erase_small.new.self in
+    let s2 = g.N.Nor.state c.close_vote.new.nor in
+    let s = erased-as x s0.memory s1.memory c.requires.size c.requires.doomed (c.in_ok-erase_small.ensures.ok ∙ ap (λ at. erased s0.memory at 4096) c.place.ensures) in
+    let h1 = erased-firm x (bits_in s0) (bits_in s1) c.in_ok-erase_small.ensures.kept.bits (rw c.place.ensures at c.in_ok-erase_small.ensures.firm) h in
+    let q = rw c.first_votes-first.ensures at (c.in_err-close_vote.ensures.cut_bits (cc (p.1, p.2))) in
+    first-close-loses x (bits_in s1) (bits_in s2) (rw c.in_ok-erase_small.ensures.size c.requires.size) s.step.sound (s.votes ∙ c.requires.one) s.blank h1 q
+
+pub returns-in_err-close_vote-2-clause-loses : goal.returns-in_err-close_vote-2-clause-loses
+returns-in_err-close_vote-2-clause-loses g c is h =
+    let p = err_from_is_err_and c.from_residual-in_err-close_vote-2.result c.from_residual-in_err-close_vote-2.ensures.1 in
+    let x = c.args.journal in
+    let s0 = g.N.Nor.state c.args.nor.now in
+    let s1 = g.N.Nor.state c.erase_small.new.self in
+    let s2 = g.N.Nor.state c.close_vote.new.nor in
+    let s = erased-as x s0.memory s1.memory c.requires.size c.requires.doomed (c.in_ok-erase_small.ensures.ok ∙ ap (λ at. erased s0.memory at 4096) c.place.ensures) in
+    let h1 = erased-firm x (bits_in s0) (bits_in s1) c.in_ok-erase_small.ensures.kept.bits (rw c.place.ensures at c.in_ok-erase_small.ensures.firm) h in
+    let q = rw c.first_votes-first.ensures at c.in_ok-close_vote.ensures.ok in
+    let t = first-closed x s1.memory s2.memory s.step.sound (s.votes ∙ c.requires.one) s.blank q in
+    let h2 = vote-firm (bits_in s1) (bits_in s2) (first_at x) 254 252 (first-region x) (omega arith) c.in_ok-close_vote.ensures.ends.kept.bits q h1 in
+    let r = rw c.second_votes-second.ensures at (c.in_err-close_vote-2.ensures.cut_bits (cc (p.1, p.2))) in
+    second-close-loses x (bits_in s2) (bits_in (g.N.Nor.state c.close_vote-2.new.nor)) (rw (c.in_ok-close_vote.ensures.size, c.in_ok-erase_small.ensures.size) c.requires.size) t.0.sound h2 r
+
+pub returns-clause-stays : goal.returns-clause-stays
+returns-clause-stays g c h =
+    let x = c.args.journal in
+    let s0 = g.N.Nor.state c.args.nor.now in
+    let s1 = g.N.Nor.state c.erase_small.new.self in
+    let s2 = g.N.Nor.state c.close_vote.new.nor in
+    let h1 = erased-firm x (bits_in s0) (bits_in s1) c.in_ok-erase_small.ensures.kept.bits (rw c.place.ensures at c.in_ok-erase_small.ensures.firm) h in
+    let q = rw c.first_votes-first.ensures at c.in_ok-close_vote.ensures.ok in
+    let h2 = vote-firm (bits_in s1) (bits_in s2) (first_at x) 254 252 (first-region x) (omega arith) c.in_ok-close_vote.ensures.ends.kept.bits q h1 in
+    let r = rw c.second_votes-second.ensures at c.in_ok-close_vote-2.ensures.ok in
+    vote-firm (bits_in s2) (bits_in (g.N.Nor.state c.close_vote-2.new.nor)) (second_at x) 254 252 (second-region x) (omega arith) c.in_ok-close_vote-2.ensures.ends.kept.bits r h2

@@ -7,6 +7,10 @@ use Rattle.erase_journal.specs.Journals.{settled, unused, unused_of}
 use Rattle.erase_journal.specs.Spending.{Maintains, at_rest}
 use Rattle.erase_journal.proofs.Lasting.{Last-erased, same-on, same-refl}
 use Rattle.erase_journal.proofs.Uses.{maintains-on}
+use Rattle.std.proofs.lemmas.Result.{err_from_is_err_and}
+use Rattle.nor_driver.specs.State.{bits_in}
+use Rattle.erase_journal.proofs.FirmJournals.{firm-journals-stay}
+use Rattle.erase_journal.proofs.Standing.{same-loses}
 use Rattle.erase_journal.proofs.maintain.maintain.Goals as goal
 
 pub doom-requires-clause-may : goal.doom-requires-clause-may
@@ -74,3 +78,24 @@ returns-in_err-tally-2-clause-ends g c =
     let k = kept-after s0 s2 s3 (kept-after s0 s1 s2 c.loop-journal.invariant.since c.in_ok-doom.ensures.ends.kept) c.in_ok-renew.ensures.ends.kept in
     fails-as c.from_residual-in_err-tally-2.result _ (λ _. Succeeds s0 s4) (λ e. Refuses e s0 s4) c.from_residual-in_err-tally-2.ensures.1
     (refuses-since _ s0 s3 s4 c.in_ok-tally.ensures.ends.ready k c.in_err-tally-2.ensures.ends)
+
+pub returns-in_err-tally-clause-loses : goal.returns-in_err-tally-clause-loses
+returns-in_err-tally-clause-loses g c is = same-loses (g.N.Nor.state c.args.nor.now) (g.N.Nor.state c.read_tally.new.nor) c.in_err-tally.ensures.same c.in_err-tally.ensures.weak
+
+pub returns-in_err-doom-clause-loses : goal.returns-in_err-doom-clause-loses
+returns-in_err-doom-clause-loses g c is settled h =
+    let p = err_from_is_err_and c.from_residual-in_err-doom.result c.from_residual-in_err-doom.ensures.1 in
+    let h1 = firm-journals-stay (bits_in (g.N.Nor.state c.args.nor.now)) (bits_in (g.N.Nor.state c.loop-journal.nor)) c.loop-journal.invariant.since.bits settled c.loop-journal.invariant.settled h in
+    c.in_err-doom.ensures.loses (cc (p.1, p.2)) h1
+
+pub returns-in_err-renew-clause-loses : goal.returns-in_err-renew-clause-loses
+returns-in_err-renew-clause-loses g c is settled h =
+    let p = err_from_is_err_and c.from_residual-in_err-renew.result c.from_residual-in_err-renew.ensures.1 in
+    let h1 = firm-journals-stay (bits_in (g.N.Nor.state c.args.nor.now)) (bits_in (g.N.Nor.state c.loop-journal.nor)) c.loop-journal.invariant.since.bits settled c.loop-journal.invariant.settled h in
+    c.in_err-renew.ensures.loses (cc (p.1, p.2)) (c.in_ok-doom.ensures.stays h1)
+
+pub returns-in_err-tally-2-clause-loses : goal.returns-in_err-tally-2-clause-loses
+returns-in_err-tally-2-clause-loses g c is settled h =
+    let h1 = firm-journals-stay (bits_in (g.N.Nor.state c.args.nor.now)) (bits_in (g.N.Nor.state c.loop-journal.nor)) c.loop-journal.invariant.since.bits settled c.loop-journal.invariant.settled h in
+    same-loses (g.N.Nor.state c.renew.new.nor) (g.N.Nor.state c.read_tally-in-Some.new.nor) c.in_err-tally-2.ensures.same c.in_err-tally-2.ensures.weak
+    (record { sound = c.in_ok-renew.ensures.ok.sound; none = c.in_ok-renew.ensures.none }) (c.in_ok-renew.ensures.stays (c.in_ok-doom.ensures.stays h1))

@@ -3,6 +3,9 @@ use Rattle.nor_layout.specs.Journals.{journal_at}
 use Rattle.nor_driver.specs.State.{bits_in, Succeeds, Refuses}
 use Rattle.nor_driver.proofs.CallLaws.{fails-as, fails-of, refuses-after, succeeds-after}
 use Rattle.erase_journal.proofs.WeakLaws.{are-firm-stays}
+use Rattle.std.proofs.lemmas.Result.{err_from_is_err_and}
+use Rattle.erase_journal.proofs.Renewal.{same-blocks-on, stands-on}
+use Rattle.erase_journal.specs.declared.phase.ErasePhase.TheVariants.{Idle}
 use Rattle.erase_journal.proofs.maintain.spare.Goals as goal
 
 pub returns-in_err-renew-clause-fails : goal.returns-in_err-renew-clause-fails
@@ -36,3 +39,11 @@ returns-clause-firm g c =
     let s2 = g.N.Nor.state c.renew.new.nor in
     let s3 = g.N.Nor.state c.maintain.new.nor in
     inr (are-firm-stays (bits_in s2) (bits_in s3) (journal_at c.args.journal) 4096 c.in_ok-unused.ensures.ends.kept.bits c.in_ok-renew.ensures.firm)
+
+pub returns-in_err-unused-clause-cut : goal.returns-in_err-unused-clause-cut
+returns-in_err-unused-clause-cut g c is =
+    let p = err_from_is_err_and c.from_residual-in_err-unused.result c.from_residual-in_err-unused.ensures.1 in
+    let m0 = (g.N.Nor.state c.args.nor.now).memory in
+    let m1 = (g.N.Nor.state c.doom.new.nor).memory in
+    let m2 = (g.N.Nor.state c.renew.new.nor).memory in
+    stands-on m0 m2 (g.N.Nor.state c.maintain.new.nor).memory (same-blocks-on m0 m1 m2 c.in_ok-doom.ensures.blocks c.in_ok-renew.ensures.blocks) (c.in_err-unused.ensures.cut (cc (p.1, p.2)) (Idle, c.in_ok-renew.ensures.ok.sound))

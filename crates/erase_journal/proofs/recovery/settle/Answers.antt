@@ -23,6 +23,7 @@ returns-clause-settles g c = λ firm.
     record {
       phase = c.in-Some.phase;
       sound = rw c.in_ok-tally.ensures.tally at c.in-Some.ensures;
+      bytes = c.in_ok-tally.ensures.bytes;
       erased = λ x is. c.in_ok-resume.ensures.firm x is;
       zeros = λ j i k from to low zero. firm-stays (bits_in s2) (bits_in s4) i k since.bits (c.in_ok-believe.ensures.firm firm j i k from to low (ap (λ (m : List ℕ). bit_at (byte m i) k) same ∙ zero));
     }

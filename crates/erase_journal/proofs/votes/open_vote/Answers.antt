@@ -3,7 +3,7 @@ use Rattle.erase_journal.proofs.Scans.{unused-count}
 use Rattle.std.proofs.lemmas.Result.{on_ok_weaker}
 use Rattle.nor_driver.proofs.CallLaws.{succeeds-then, refuses-then, ends-of}
 use Rattle.erase_journal.proofs.Effects.{bit-open}
-use Rattle.erase_journal.proofs.VoteCalls.{set-ok, set-cut}
+use Rattle.erase_journal.proofs.VoteCalls.{set-ok, set-cut, set-cut-bits}
 use Rattle.erase_journal.proofs.votes.open_vote.Goals as goal
 
 pub unreachable-requires : goal.unreachable-requires
@@ -31,3 +31,10 @@ returns-clause-ends g c =
     ends-of c.program.result (state c.args.nor.now) (state c.program.new.self)
     (succeeds-then (state c.args.nor.now) (state c.find_vote.new.nor) (state c.program.new.self) c.program.result c.in_ok-found.ensures.ends c.program.ensures.kept)
     (refuses-then (state c.args.nor.now) (state c.find_vote.new.nor) (state c.program.new.self) c.program.result c.in_ok-found.ensures.ends c.program.ensures.fails)
+
+pub returns-clause-cut_bits : goal.returns-clause-cut_bits
+returns-clause-cut_bits g c is_cut =
+    let state = g.N.Nor.state in
+    let h = rw c.in-Some.is at c.in_ok-found.ensures.found in
+    set-cut-bits (state c.args.nor.now) (state c.find_vote.new.nor) (state c.program.new.self) c.args.region c.in-Some.place 255 254
+    c.in_ok-found.ensures.same c.in_ok-found.ensures.weak h.0 h.1 h.2 (rw c.vote_byte.ensures.exact at (c.program.ensures.cut_bits is_cut))

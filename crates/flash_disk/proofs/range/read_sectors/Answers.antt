@@ -1,7 +1,9 @@
-use Rattle.std.proofs.Common.{◌≡◌, ◌∙◌, ◌+◌, ◌*◌, ◌/◌, ◌≤◌, ◌<◌, ◌-◌, refl, ap, arith, length}
+use Rattle.std.proofs.Common.{◌≡◌, ◌∙◌, ◌+◌, ◌*◌, ◌/◌, ◌≤◌, ◌<◌, ◌-◌, refl, ap, arith, length, inr}
 use Rattle.chip_model.specs.Geometry.{sector_count}
-use Rattle.nor_driver.specs.State.{Succeeds, Refuses}
-use Rattle.nor_driver.proofs.CallLaws.{fails-as, fails-of, kept-after, refuses-since}
+use Rattle.nor_driver.specs.State.{Succeeds}
+use Rattle.erase_journal.specs.Steps.{RefusesFirmly}
+use Rattle.sector_map.proofs.Retiring.{refuses-perhaps, succeeds-perhaps}
+use Rattle.nor_driver.proofs.CallLaws.{fails-as, fails-of, kept-after}
 use Rattle.sector_slots.proofs.SizeLaws.{length-sector}
 use Rattle.block_device.specs.Contents.{bytes_at}
 use Rattle.flash_disk.specs.Contents.{contents_of}
@@ -46,6 +48,7 @@ loop-done-preserved g c =
       within = omega (arith, fits, c.loop-done.invariant.long);
       whole = omega (arith, c.loop-done.invariant.whole);
       kept = kept-after c.args.map.now c.loop-done.map c.find.new.self c.loop-done.invariant.kept c.in_ok-find.ensures.ends.kept;
+      since = inr (succeeds-perhaps c.args.map.now c.loop-done.map c.find.new.self c.loop-done.invariant.since c.in_ok-find.ensures.ends);
     }
 
 pub returns-in_err-find-clause-fails : goal.returns-in_err-find-clause-fails
@@ -53,5 +56,5 @@ returns-in_err-find-clause-fails g c =
     let s0 = c.args.map.now in
     let s1 = c.loop-done.map in
     let s2 = c.find.new.self in
-    fails-of c.from_residual.result (Succeeds s0 s2) (λ e. Refuses e s0 s2) (fails-as c.from_residual.result _ (λ _. Succeeds s0 s2) (λ e. Refuses e s0 s2) c.from_residual.ensures.1
-    (refuses-since _ s0 s1 s2 c.requires.ready c.loop-done.invariant.kept c.in_err-find.ensures.ends))
+    fails-of c.from_residual.result (Succeeds s0 s2) (λ e. RefusesFirmly e s0 s2) (fails-as c.from_residual.result _ (λ _. Succeeds s0 s2) (λ e. RefusesFirmly e s0 s2) c.from_residual.ensures.1
+    (refuses-perhaps _ s0 s1 s2 c.loop-done.invariant.since c.in_err-find.ensures.ends))

@@ -1,9 +1,11 @@
-use Rattle.std.proofs.Common.{◌≡◌, ◌⊎◌, ◌∙◌, ◌+◌, ◌*◌, ◌/◌, ◌%◌, ◌≤◌, ◌<◌, subst, arith, length}
+use Rattle.std.proofs.Common.{◌≡◌, ◌⊎◌, ◌∙◌, ◌+◌, ◌*◌, ◌/◌, ◌%◌, ◌≤◌, ◌<◌, subst, arith, length, inr}
 use Rattle.std.specs.Prelude.{slice_range}
 use Rattle.std.proofs.lemmas.Result.{err_from_is_err_and}
 use Rattle.chip_model.specs.Geometry.{sector_count}
-use Rattle.nor_driver.specs.State.{Succeeds, Refuses}
-use Rattle.nor_driver.proofs.CallLaws.{fails-as, fails-of, kept-after, refuses-since}
+use Rattle.nor_driver.specs.State.{Succeeds}
+use Rattle.erase_journal.specs.Steps.{RefusesFirmly}
+use Rattle.sector_map.proofs.Retiring.{refuses-perhaps, succeeds-perhaps}
+use Rattle.nor_driver.proofs.CallLaws.{fails-as, fails-of, kept-after}
 use Rattle.flash_disk.specs.Contents.{contents_of}
 use Rattle.block_device.specs.Contents.{replaced}
 use Rattle.flash_disk.proofs.Parts.{outcome-at, piece-written, long-slice}
@@ -78,6 +80,7 @@ loop-done-preserved g c =
       within = fits;
       whole = omega (arith, c.loop-done.invariant.whole);
       kept = kept-after c.args.map.now c.loop-done.map c.replace.new.self c.loop-done.invariant.kept c.in_ok-replace.ensures.ends.kept;
+      since = inr (succeeds-perhaps c.args.map.now c.loop-done.map c.replace.new.self c.loop-done.invariant.since c.in_ok-replace.ensures.ends);
     }
 
 pub returns-in_err-replace-clause-fails : goal.returns-in_err-replace-clause-fails
@@ -85,5 +88,5 @@ returns-in_err-replace-clause-fails g c =
     let s0 = c.args.map.now in
     let s1 = c.loop-done.map in
     let s2 = c.replace.new.self in
-    fails-of c.from_residual.result (Succeeds s0 s2) (λ e. Refuses e s0 s2) (fails-as c.from_residual.result _ (λ _. Succeeds s0 s2) (λ e. Refuses e s0 s2) c.from_residual.ensures.1
-    (refuses-since _ s0 s1 s2 c.requires.ready c.loop-done.invariant.kept c.in_err-replace.ensures.ends))
+    fails-of c.from_residual.result (Succeeds s0 s2) (λ e. RefusesFirmly e s0 s2) (fails-as c.from_residual.result _ (λ _. Succeeds s0 s2) (λ e. RefusesFirmly e s0 s2) c.from_residual.ensures.1
+    (refuses-perhaps _ s0 s1 s2 c.loop-done.invariant.since c.in_err-replace.ensures.ends))

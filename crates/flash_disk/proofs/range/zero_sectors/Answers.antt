@@ -1,10 +1,12 @@
-use Rattle.std.proofs.Common.{◌≡◌, ◌⊎◌, ℕ, List, ◌∙◌, ◌+◌, ◌*◌, ◌%◌, ◌≤◌, ◌<◌, subst, sym, arith, length, replicate}
+use Rattle.std.proofs.Common.{◌≡◌, ◌⊎◌, ℕ, List, ◌∙◌, ◌+◌, ◌*◌, ◌%◌, ◌≤◌, ◌<◌, subst, sym, arith, length, replicate, inr}
 use Rattle.std.specs.Prelude.{slice_range, take}
 use Rattle.std.proofs.lemmas.List.{length-replicate}
 use Rattle.std.proofs.lemmas.Result.{err_from_is_err_and}
 use Rattle.chip_model.specs.Geometry.{sector_count}
-use Rattle.nor_driver.specs.State.{Succeeds, Refuses}
-use Rattle.nor_driver.proofs.CallLaws.{fails-as, fails-of, kept-after, refuses-since}
+use Rattle.nor_driver.specs.State.{Succeeds}
+use Rattle.erase_journal.specs.Steps.{RefusesFirmly}
+use Rattle.sector_map.proofs.Retiring.{refuses-perhaps, succeeds-perhaps}
+use Rattle.nor_driver.proofs.CallLaws.{fails-as, fails-of, kept-after}
 use Rattle.sector_slots.specs.Sectors.{zeros}
 use Rattle.sector_slots.proofs.SizeLaws.{length-zeros}
 use Rattle.flash_disk.specs.Contents.{contents_of}
@@ -92,6 +94,7 @@ loop-done-preserved g c =
       chip = same-chip-on c.args.map.now.memory m m' c.loop-done.invariant.chip c.in_ok-clear.ensures.ok.chip;
       within = omega (arith, c.loop-done-test.true);
       kept = kept-after c.args.map.now c.loop-done.map c.clear.new.self c.loop-done.invariant.kept c.in_ok-clear.ensures.ends.kept;
+      since = inr (succeeds-perhaps c.args.map.now c.loop-done.map c.clear.new.self c.loop-done.invariant.since c.in_ok-clear.ensures.ends);
     }
 
 pub returns-in_err-clear-clause-fails : goal.returns-in_err-clear-clause-fails
@@ -99,5 +102,5 @@ returns-in_err-clear-clause-fails g c =
     let s0 = c.args.map.now in
     let s1 = c.loop-done.map in
     let s2 = c.clear.new.self in
-    fails-of c.from_residual.result (Succeeds s0 s2) (λ e. Refuses e s0 s2) (fails-as c.from_residual.result _ (λ _. Succeeds s0 s2) (λ e. Refuses e s0 s2) c.from_residual.ensures.1
-    (refuses-since _ s0 s1 s2 c.requires.ready c.loop-done.invariant.kept c.in_err-clear.ensures.ends))
+    fails-of c.from_residual.result (Succeeds s0 s2) (λ e. RefusesFirmly e s0 s2) (fails-as c.from_residual.result _ (λ _. Succeeds s0 s2) (λ e. RefusesFirmly e s0 s2) c.from_residual.ensures.1
+    (refuses-perhaps _ s0 s1 s2 c.loop-done.invariant.since c.in_err-clear.ensures.ends))

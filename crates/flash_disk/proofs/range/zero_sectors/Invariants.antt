@@ -1,10 +1,11 @@
-use Rattle.std.proofs.Common.{◌≡◌, ◌*◌, ◌-◌, ◌≤◌, length, replicate}
+use Rattle.std.proofs.Common.{◌≡◌, ◌⊎◌, ◌*◌, ◌-◌, ◌≤◌, length, replicate}
 use Rattle.std.specs.Prelude.{take}
 use Rattle.nor_driver.specs.State.{OnlyMemoryChanges}
 use Rattle.erase_journal.specs.Blocks.{SameChip}
 use Rattle.sector_slots.specs.Slots.{IsClean}
 use Rattle.block_device.specs.Contents.{replaced}
 use Rattle.flash_disk.specs.Contents.{contents_of}
+use Rattle.erase_journal.specs.Steps.{SucceedsSettled}
 use Rattle.flash_disk.proofs.range.zero_sectors.Given as goal
 
 abbrev pub invariant-loop-done : goal.invariant-loop-done
@@ -15,6 +16,7 @@ invariant-loop-done g l = record {
   chip : SameChip l.fn.map.memory l.map.memory;
   within : l.done ≤ l.count;
   kept : OnlyMemoryChanges l.fn.map l.map;
+  since : (l.map ≡ l.fn.map) ⊎ SucceedsSettled l.fn.map l.map;
 }
 
 abbrev pub decreases-loop-done : goal.decreases-loop-done

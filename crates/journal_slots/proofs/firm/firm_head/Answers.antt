@@ -2,14 +2,16 @@ use Rattle.std.proofs.Common.{◌≡◌, ◌+◌, ◌∙◌, arith, length, ap, 
 use Rattle.std.specs.Prelude.{slice_range}
 use Rattle.std.proofs.lemmas.Result.{err_from_is_err_and}
 use Rattle.chip_model.specs.Memory.{and_at, TornAnd}
-use Rattle.nor_driver.specs.State.{Leaves, Refuses, changed_whole}
+use Rattle.nor_driver.specs.State.{Leaves, changed_whole}
+use Rattle.erase_journal.specs.Steps.{RefusesFirmly}
 use Rattle.erase_journal.specs.Journals.{IsHealthy}
 use Rattle.erase_journal.proofs.BlockLaws.{length-block}
 use Rattle.sector_slots.specs.Firm.{KeepsHead}
 use Rattle.sector_slots.specs.Slots.{data_block}
 use Rattle.nor_driver.proofs.CallLaws.{fails-as}
 use Rattle.erase_journal.specs.Steps.{SucceedsSettled}
-use Rattle.erase_journal.proofs.SettledLaws.{refuses-settled, settled-after}
+use Rattle.erase_journal.proofs.SettledLaws.{settled-after}
+use Rattle.erase_journal.proofs.Firmly.{refuses-firmly}
 use Rattle.journal_slots.proofs.Killing.{head-kept, begun-holds, none-begun, blank-begun}
 use Rattle.journal_slots.proofs.firm.firm_head.Goals as goal
 
@@ -53,8 +55,8 @@ returns-in_err-program_bytes-clause-ends g c =
     let s0 = c.args.journal.now in
     let s1 = c.read.new.self in
     let s2 = c.program_bytes.new.journal in
-    fails-as c.from_residual-in_err-program_bytes.result _ (λ _. SucceedsSettled s0 s2) (λ e. Refuses e s0 s2) c.from_residual-in_err-program_bytes.ensures.1
-    (refuses-settled _ s0 s1 s2 c.in_ok-read.ensures.ends c.in_err-program_bytes.ensures.ends)
+    fails-as c.from_residual-in_err-program_bytes.result _ (λ _. SucceedsSettled s0 s2) (λ e. RefusesFirmly e s0 s2) c.from_residual-in_err-program_bytes.ensures.1
+    (refuses-firmly _ s0 s1 s2 c.in_ok-read.ensures.ends c.in_err-program_bytes.ensures.ends)
 
 pub returns-clause-ends : goal.returns-clause-ends
 returns-clause-ends g c =

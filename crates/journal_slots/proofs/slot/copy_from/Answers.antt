@@ -2,10 +2,11 @@ use Rattle.std.proofs.Common.{◌≡◌, ◌∙◌, ap, sym, subst}
 use Rattle.sector_slots.specs.Slots.{Free, Live, raw_slot, kind_at}
 use Rattle.sector_slots.specs.Copying.{copied_tag, to_copy, source_slot}
 use Rattle.sector_slots.specs.Steps.{IsErasedSlot, live_copied}
-use Rattle.nor_driver.specs.State.{Refuses}
+use Rattle.erase_journal.specs.Steps.{RefusesFirmly}
 use Rattle.nor_driver.proofs.CallLaws.{fails-as}
 use Rattle.erase_journal.specs.Steps.{SucceedsSettled}
-use Rattle.erase_journal.proofs.SettledLaws.{refuses-settled, settled-after}
+use Rattle.erase_journal.proofs.SettledLaws.{settled-after}
+use Rattle.erase_journal.proofs.Firmly.{refuses-firmly}
 use Rattle.journal_slots.proofs.slot.copy_from.Goals as goal
 
 pub returns-in_ok-write_live_slot-in-Some-clause-ok : goal.returns-in_ok-write_live_slot-in-Some-clause-ok
@@ -31,8 +32,8 @@ returns-in_err-write_live_slot-in-Some-clause-ends g c =
     let s1 = c.read_kind.new.journal in
     let s2 = c.read_slot.new.journal in
     let s3 = c.write_live_slot.new.journal in
-    fails-as c.from_residual-in_err-write_live_slot-in-Some.result _ (λ _. SucceedsSettled s0 s3) (λ e. Refuses e s0 s3) c.from_residual-in_err-write_live_slot-in-Some.ensures.1
-    (refuses-settled _ s0 s2 s3 (settled-after s0 s1 s2 c.in_ok-kind.ensures.ends c.in_ok-tag.ensures.ends) c.in_err-write_live_slot-in-Some.ensures.ends)
+    fails-as c.from_residual-in_err-write_live_slot-in-Some.result _ (λ _. SucceedsSettled s0 s3) (λ e. RefusesFirmly e s0 s3) c.from_residual-in_err-write_live_slot-in-Some.ensures.1
+    (refuses-firmly _ s0 s2 s3 (settled-after s0 s1 s2 c.in_ok-kind.ensures.ends c.in_ok-tag.ensures.ends) c.in_err-write_live_slot-in-Some.ensures.ends)
 
 pub returns-in_ok-write_live_slot-in-Some-clause-ends : goal.returns-in_ok-write_live_slot-in-Some-clause-ends
 returns-in_ok-write_live_slot-in-Some-clause-ends g c =
@@ -41,3 +42,11 @@ returns-in_ok-write_live_slot-in-Some-clause-ends g c =
     let s2 = c.read_slot.new.journal in
     let s3 = c.write_live_slot.new.journal in
     settled-after s0 s2 s3 (settled-after s0 s1 s2 c.in_ok-kind.ensures.ends c.in_ok-tag.ensures.ends) c.in_ok-write_live_slot-in-Some.ensures.ends
+
+pub returns-in_err-tag-clause-ends : goal.returns-in_err-tag-clause-ends
+returns-in_err-tag-clause-ends g c =
+    let s0 = c.args.journal.now in
+    let s1 = c.read_kind.new.journal in
+    let s2 = c.read_slot.new.journal in
+    fails-as c.from_residual-in_err-tag.result _ (λ _. SucceedsSettled s0 s2) (λ e. RefusesFirmly e s0 s2) c.from_residual-in_err-tag.ensures.1
+    (refuses-firmly _ s0 s1 s2 c.in_ok-kind.ensures.ends c.in_err-tag.ensures.ends)

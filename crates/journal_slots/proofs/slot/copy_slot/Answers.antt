@@ -3,10 +3,11 @@ use Rattle.std.proofs.lemmas.Result.{err_from_is_err_and}
 use Rattle.erase_journal.proofs.BlockLaws.{length-block}
 use Rattle.sector_slots.specs.Slots.{Free, data_block, raw_slot}
 use Rattle.sector_slots.specs.Copying.{source_slot}
-use Rattle.nor_driver.specs.State.{Refuses}
+use Rattle.erase_journal.specs.Steps.{RefusesFirmly}
 use Rattle.nor_driver.proofs.CallLaws.{fails-as}
 use Rattle.erase_journal.specs.Steps.{SucceedsSettled}
-use Rattle.erase_journal.proofs.SettledLaws.{refuses-settled, settled-after}
+use Rattle.erase_journal.proofs.SettledLaws.{settled-after}
+use Rattle.erase_journal.proofs.Firmly.{refuses-firmly}
 use Rattle.journal_slots.specs.Programs.{InPlace}
 use Rattle.sector_slots.specs.Steps.{OnlyPlace, CopyLeaves}
 use Rattle.journal_slots.proofs.Slots.{none-some, same-number, begun-kept, fresh-kept, numbered-only}
@@ -63,8 +64,8 @@ returns-in_err-copy_from-in-Some-clause-ends g c =
     let s0 = c.args.journal.now in
     let s1 = c.read_source.new.journal in
     let s2 = c.copy_from.new.journal in
-    fails-as c.from_residual-in_err-copy_from-in-Some.result _ (λ _. SucceedsSettled s0 s2) (λ e. Refuses e s0 s2) c.from_residual-in_err-copy_from-in-Some.ensures.1
-    (refuses-settled _ s0 s1 s2 c.in_ok-source.ensures.ends c.in_err-copy_from-in-Some.ensures.ends)
+    fails-as c.from_residual-in_err-copy_from-in-Some.result _ (λ _. SucceedsSettled s0 s2) (λ e. RefusesFirmly e s0 s2) c.from_residual-in_err-copy_from-in-Some.ensures.1
+    (refuses-firmly _ s0 s1 s2 c.in_ok-source.ensures.ends c.in_err-copy_from-in-Some.ensures.ends)
 
 pub returns-in_ok-copy_from-in-Some-clause-ends : goal.returns-in_ok-copy_from-in-Some-clause-ends
 returns-in_ok-copy_from-in-Some-clause-ends g c =

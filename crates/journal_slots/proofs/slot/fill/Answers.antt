@@ -1,12 +1,14 @@
 use Rattle.std.proofs.Common.{◌≡◌, ◌+◌, ◌*◌, subst, arith, length, inr}
 use Rattle.std.proofs.lemmas.Result.{err_from_is_err_and}
 use Rattle.chip_model.specs.Memory.{and_at, TornAnd}
-use Rattle.nor_driver.specs.State.{Leaves, Refuses}
+use Rattle.nor_driver.specs.State.{Leaves}
+use Rattle.erase_journal.specs.Steps.{RefusesFirmly}
 use Rattle.erase_journal.proofs.BlockLaws.{length-block}
 use Rattle.sector_slots.specs.Slots.{data_block}
 use Rattle.nor_driver.proofs.CallLaws.{fails-as}
 use Rattle.erase_journal.specs.Steps.{SucceedsSettled}
-use Rattle.erase_journal.proofs.SettledLaws.{refuses-settled, settled-after}
+use Rattle.erase_journal.proofs.SettledLaws.{settled-after}
+use Rattle.erase_journal.proofs.Firmly.{refuses-firmly}
 use Rattle.journal_slots.specs.Programs.{OnlyBytes}
 use Rattle.journal_slots.proofs.Bytes.{leaves-only, and-only, placed-at, descriptor-place, content-place, place-after, place-group}
 use Rattle.sector_slots.proofs.GroupLaws.{free-no_group}
@@ -62,8 +64,8 @@ returns-in_err-write_content-clause-ends g c =
     let s0 = c.args.journal.now in
     let s1 = c.program_bytes.new.journal in
     let s2 = c.write_content.new.journal in
-    fails-as c.from_residual-in_err-write_content.result _ (λ _. SucceedsSettled s0 s2) (λ e. Refuses e s0 s2) c.from_residual-in_err-write_content.ensures.1
-    (refuses-settled _ s0 s1 s2 c.in_ok-program_bytes.ensures.ends c.in_err-write_content.ensures.ends)
+    fails-as c.from_residual-in_err-write_content.result _ (λ _. SucceedsSettled s0 s2) (λ e. RefusesFirmly e s0 s2) c.from_residual-in_err-write_content.ensures.1
+    (refuses-firmly _ s0 s1 s2 c.in_ok-program_bytes.ensures.ends c.in_err-write_content.ensures.ends)
 
 pub returns-clause-ends : goal.returns-clause-ends
 returns-clause-ends g c =

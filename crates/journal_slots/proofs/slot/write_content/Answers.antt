@@ -5,10 +5,11 @@ use Rattle.std.proofs.lemmas.Result.{err_from_is_err_and}
 use Rattle.erase_journal.proofs.BlockLaws.{length-block}
 use Rattle.chip_model.specs.Memory.{and_at}
 use Rattle.sector_slots.specs.Slots.{data_block}
-use Rattle.nor_driver.specs.State.{Refuses}
+use Rattle.erase_journal.specs.Steps.{RefusesFirmly}
 use Rattle.nor_driver.proofs.CallLaws.{fails-as}
 use Rattle.erase_journal.specs.Steps.{SucceedsSettled}
-use Rattle.erase_journal.proofs.SettledLaws.{refuses-settled, settled-after}
+use Rattle.erase_journal.proofs.SettledLaws.{settled-after}
+use Rattle.erase_journal.proofs.Firmly.{refuses-firmly}
 use Rattle.journal_slots.proofs.Bytes.{leaves-only, and-only, only-wider, bytes-after, last-page, two-pages}
 use Rattle.journal_slots.proofs.slot.write_content.Goals as goal
 
@@ -64,8 +65,8 @@ returns-in_err-program_bytes-2-clause-ends g c =
     let s0 = c.args.journal.now in
     let s1 = c.program_bytes.new.journal in
     let s2 = c.program_bytes-2.new.journal in
-    fails-as c.from_residual-in_err-program_bytes-2.result _ (λ _. SucceedsSettled s0 s2) (λ e. Refuses e s0 s2) c.from_residual-in_err-program_bytes-2.ensures.1
-    (refuses-settled _ s0 s1 s2 c.in_ok-program_bytes.ensures.ends c.in_err-program_bytes-2.ensures.ends)
+    fails-as c.from_residual-in_err-program_bytes-2.result _ (λ _. SucceedsSettled s0 s2) (λ e. RefusesFirmly e s0 s2) c.from_residual-in_err-program_bytes-2.ensures.1
+    (refuses-firmly _ s0 s1 s2 c.in_ok-program_bytes.ensures.ends c.in_err-program_bytes-2.ensures.ends)
 
 pub returns-clause-ends : goal.returns-clause-ends
 returns-clause-ends g c =

@@ -3,10 +3,11 @@ use Rattle.std.proofs.lemmas.Result.{err_from_is_err_and}
 use Rattle.chip_model.specs.Memory.{byte, and_at}
 use Rattle.erase_journal.proofs.BlockLaws.{length-block}
 use Rattle.sector_slots.specs.Slots.{data_block}
-use Rattle.nor_driver.specs.State.{Refuses}
+use Rattle.erase_journal.specs.Steps.{RefusesFirmly}
 use Rattle.nor_driver.proofs.CallLaws.{fails-as}
 use Rattle.erase_journal.specs.Steps.{SucceedsSettled}
-use Rattle.erase_journal.proofs.SettledLaws.{refuses-settled, settled-after}
+use Rattle.erase_journal.proofs.SettledLaws.{settled-after}
+use Rattle.erase_journal.proofs.Firmly.{refuses-firmly}
 use Rattle.journal_slots.specs.Programs.{OnlyBytes}
 use Rattle.journal_slots.proofs.Bytes.{leaves-only, and-only, descriptor-place, content-place, place-after}
 use Rattle.journal_slots.proofs.Places.{fresh-descriptor, copied-within, copied, copied-tag}
@@ -69,8 +70,8 @@ returns-in_err-program_bytes-clause-ends g c =
     let s0 = c.args.journal.now in
     let s1 = c.write_content.new.journal in
     let s2 = c.program_bytes.new.journal in
-    fails-as c.from_residual-in_err-program_bytes.result _ (λ _. SucceedsSettled s0 s2) (λ e. Refuses e s0 s2) c.from_residual-in_err-program_bytes.ensures.1
-    (refuses-settled _ s0 s1 s2 c.in_ok-write_content.ensures.ends c.in_err-program_bytes.ensures.ends)
+    fails-as c.from_residual-in_err-program_bytes.result _ (λ _. SucceedsSettled s0 s2) (λ e. RefusesFirmly e s0 s2) c.from_residual-in_err-program_bytes.ensures.1
+    (refuses-firmly _ s0 s1 s2 c.in_ok-write_content.ensures.ends c.in_err-program_bytes.ensures.ends)
 
 pub returns-clause-ends : goal.returns-clause-ends
 returns-clause-ends g c =

@@ -1,12 +1,14 @@
 use Rattle.std.proofs.Common.{◌≡◌, ◌+◌, ◌*◌, ◌<◌, ◌∷◌, [], ◌∙◌, ℕ, ap, subst, arith, length}
 use Rattle.std.proofs.lemmas.Result.{err_from_is_err_and}
 use Rattle.chip_model.specs.Memory.{byte, and_at, TornAnd}
-use Rattle.nor_driver.specs.State.{Leaves, Refuses}
+use Rattle.nor_driver.specs.State.{Leaves}
+use Rattle.erase_journal.specs.Steps.{RefusesFirmly}
 use Rattle.erase_journal.proofs.BlockLaws.{length-block}
 use Rattle.sector_slots.specs.Slots.{data_block}
 use Rattle.nor_driver.proofs.CallLaws.{fails-as}
 use Rattle.erase_journal.specs.Steps.{SucceedsSettled}
-use Rattle.erase_journal.proofs.SettledLaws.{refuses-settled, settled-after}
+use Rattle.erase_journal.proofs.SettledLaws.{settled-after}
+use Rattle.erase_journal.proofs.Firmly.{refuses-firmly}
 use Rattle.journal_slots.specs.Programs.{OnlyBytes}
 use Rattle.journal_slots.proofs.Bytes.{leaves-only, and-only, descriptor-place, place-after}
 use Rattle.journal_slots.proofs.Places.{fresh-descriptor, fill-leaves, filled-within, commit-leaves, committed, committed-tag}
@@ -82,8 +84,8 @@ returns-in_err-program_bytes-clause-ends g c =
     let s0 = c.args.journal.now in
     let s1 = c.fill.new.journal in
     let s2 = c.program_bytes.new.journal in
-    fails-as c.from_residual-in_err-program_bytes.result _ (λ _. SucceedsSettled s0 s2) (λ e. Refuses e s0 s2) c.from_residual-in_err-program_bytes.ensures.1
-    (refuses-settled _ s0 s1 s2 c.in_ok-fill.ensures.ends c.in_err-program_bytes.ensures.ends)
+    fails-as c.from_residual-in_err-program_bytes.result _ (λ _. SucceedsSettled s0 s2) (λ e. RefusesFirmly e s0 s2) c.from_residual-in_err-program_bytes.ensures.1
+    (refuses-firmly _ s0 s1 s2 c.in_ok-fill.ensures.ends c.in_err-program_bytes.ensures.ends)
 
 pub returns-clause-ends : goal.returns-clause-ends
 returns-clause-ends g c =

@@ -4,7 +4,7 @@ use Rattle.erase_journal.proofs.Calls.{repeated-none, repeated-more}
 use Rattle.sector_map.proofs.Mending.{mends-after}
 use Rattle.sector_map.proofs.Mounting.{perhaps-healthy}
 use Rattle.sector_map.proofs.Moving.{repeated-perhaps, still-repairs, repairs-after, repairs-mended}
-use Rattle.nor_driver.specs.State.{Refuses}
+use Rattle.erase_journal.specs.Steps.{RefusesFirmly}
 use Rattle.nor_driver.proofs.CallLaws.{fails-as, fails-of}
 use Rattle.erase_journal.specs.Steps.{SucceedsSettled}
 use Rattle.sector_map.proofs.Retiring.{refuses-perhaps}
@@ -53,5 +53,5 @@ returns-in_err-move_if_begun-clause-fails g c =
     let s0 = g.S.SlotCalls.state c.args.stock.now in
     let s1 = g.S.SlotCalls.state c.loop-block.stock in
     let s2 = g.S.SlotCalls.state c.move_if_begun.new.stock in
-    fails-of c.from_residual.result (SucceedsSettled s0 s2) (λ e. Refuses e s0 s2) (fails-as c.from_residual.result _ (λ _. SucceedsSettled s0 s2) (λ e. Refuses e s0 s2) c.from_residual.ensures.1
+    fails-of c.from_residual.result (SucceedsSettled s0 s2) (λ e. RefusesFirmly e s0 s2) (fails-as c.from_residual.result _ (λ _. SucceedsSettled s0 s2) (λ e. RefusesFirmly e s0 s2) c.from_residual.ensures.1
     (refuses-perhaps _ s0 s1 s2 (repeated-perhaps c.loop-block.block s0 s1 c.loop-block.invariant.since) c.in_err-move_if_begun.ensures.ends))

@@ -2,9 +2,10 @@ use Rattle.std.proofs.Common.{◌∙◌, ap, sym, subst}
 use Rattle.std.proofs.lemmas.Result.{err_from_is_err_and}
 use Rattle.chip_model.specs.Geometry.{sector_count}
 use Rattle.erase_journal.specs.Journals.{IsHealthy}
-use Rattle.erase_journal.proofs.SettledLaws.{settled-healthy, refuses-settled, settled-after}
+use Rattle.erase_journal.proofs.SettledLaws.{settled-healthy, settled-after}
+use Rattle.erase_journal.proofs.Firmly.{refuses-firmly}
 use Rattle.sector_slots.specs.Blocks.{AreSettled}
-use Rattle.nor_driver.specs.State.{Refuses}
+use Rattle.erase_journal.specs.Steps.{RefusesFirmly}
 use Rattle.nor_driver.proofs.CallLaws.{fails-as}
 use Rattle.erase_journal.specs.Steps.{SucceedsSettled}
 use Rattle.sector_map.proofs.Mending.{mends-same}
@@ -79,8 +80,8 @@ returns-in_err-target-clause-ends g c =
     let s0 = g.S.SlotCalls.state c.args.stock.now in
     let s1 = g.S.SlotCalls.state c.has_begun.new.self in
     let s2 = g.S.SlotCalls.state c.lowest_spare.new.slots in
-    fails-as c.from_residual-in_err-target.result _ (λ _. SucceedsSettled s0 s2) (λ e. Refuses e s0 s2) c.from_residual-in_err-target.ensures.1
-    (refuses-settled _ s0 s1 s2 c.in_ok-begun.ensures.ends c.in_err-target.ensures.ends)
+    fails-as c.from_residual-in_err-target.result _ (λ _. SucceedsSettled s0 s2) (λ e. RefusesFirmly e s0 s2) c.from_residual-in_err-target.ensures.1
+    (refuses-firmly _ s0 s1 s2 c.in_ok-begun.ensures.ends c.in_err-target.ensures.ends)
 
 pub returns-in_err-move_afresh-clause-ends : goal.returns-in_err-move_afresh-clause-ends
 returns-in_err-move_afresh-clause-ends g c =
@@ -88,8 +89,8 @@ returns-in_err-move_afresh-clause-ends g c =
     let s1 = g.S.SlotCalls.state c.has_begun.new.self in
     let s2 = g.S.SlotCalls.state c.lowest_spare.new.slots in
     let s3 = g.S.SlotCalls.state c.move_afresh.new.slots in
-    fails-as c.from_residual-in_err-move_afresh.result _ (λ _. SucceedsSettled s0 s3) (λ e. Refuses e s0 s3) c.from_residual-in_err-move_afresh.ensures.1
-    (refuses-settled _ s0 s2 s3 (settled-after s0 s1 s2 c.in_ok-begun.ensures.ends c.in_ok-target.ensures.ends) c.in_err-move_afresh.ensures.ends)
+    fails-as c.from_residual-in_err-move_afresh.result _ (λ _. SucceedsSettled s0 s3) (λ e. RefusesFirmly e s0 s3) c.from_residual-in_err-move_afresh.ensures.1
+    (refuses-firmly _ s0 s2 s3 (settled-after s0 s1 s2 c.in_ok-begun.ensures.ends c.in_ok-target.ensures.ends) c.in_err-move_afresh.ensures.ends)
 
 pub returns-in_err-follow_block-clause-ends : goal.returns-in_err-follow_block-clause-ends
 returns-in_err-follow_block-clause-ends g c =
@@ -98,8 +99,8 @@ returns-in_err-follow_block-clause-ends g c =
     let s2 = g.S.SlotCalls.state c.lowest_spare.new.slots in
     let s3 = g.S.SlotCalls.state c.move_afresh.new.slots in
     let s4 = g.S.SlotCalls.state c.follow_block.new.slots in
-    fails-as c.from_residual-in_err-follow_block.result _ (λ _. SucceedsSettled s0 s4) (λ e. Refuses e s0 s4) c.from_residual-in_err-follow_block.ensures.1
-    (refuses-settled _ s0 s3 s4 (settled-after s0 s2 s3 (settled-after s0 s1 s2 c.in_ok-begun.ensures.ends c.in_ok-target.ensures.ends) c.in_ok-move_afresh.ensures.ends) c.in_err-follow_block.ensures.ends)
+    fails-as c.from_residual-in_err-follow_block.result _ (λ _. SucceedsSettled s0 s4) (λ e. RefusesFirmly e s0 s4) c.from_residual-in_err-follow_block.ensures.1
+    (refuses-firmly _ s0 s3 s4 (settled-after s0 s2 s3 (settled-after s0 s1 s2 c.in_ok-begun.ensures.ends c.in_ok-target.ensures.ends) c.in_ok-move_afresh.ensures.ends) c.in_err-follow_block.ensures.ends)
 
 pub returns-clause-ends : goal.returns-clause-ends
 returns-clause-ends g c =

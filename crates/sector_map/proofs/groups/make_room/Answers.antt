@@ -1,8 +1,8 @@
 use Rattle.std.proofs.Common.{◌<◌, sym, subst}
-use Rattle.nor_driver.specs.State.{Refuses}
+use Rattle.erase_journal.specs.Steps.{RefusesFirmly}
 use Rattle.nor_driver.proofs.CallLaws.{fails-of}
 use Rattle.erase_journal.specs.Steps.{SucceedsSettled}
-use Rattle.erase_journal.proofs.SettledLaws.{settles-since}
+use Rattle.erase_journal.proofs.Firmly.{firmly-since}
 use Rattle.sector_slots.specs.Slots.{data_blocks}
 use Rattle.sector_slots.specs.Steps.{IsErasable}
 use Rattle.erase_journal.specs.Journals.{IsHealthy}
@@ -33,4 +33,7 @@ returns-clause-fails g c =
     let s0 = g.S.SlotCalls.state c.args.slots.now in
     let s1 = g.S.SlotCalls.state c.lowest_dead_group.new.slots in
     let s2 = g.S.SlotCalls.state c.erase.new.self in
-    fails-of c.erase.result (SucceedsSettled s0 s2) (λ e. Refuses e s0 s2) (settles-since c.erase.result s0 s1 s2 c.in_ok-block.ensures.ends.ready c.in_ok-block.ensures.ends.kept c.erase.ensures.ends)
+    fails-of c.erase.result (SucceedsSettled s0 s2) (λ e. RefusesFirmly e s0 s2) (firmly-since c.erase.result s0 s1 s2 c.in_ok-block.ensures.ends c.erase.ensures.ends)
+
+pub returns-clause-healthy : goal.returns-clause-healthy
+returns-clause-healthy g c is healthy = c.erase.ensures.healthy is (subst (λ z. IsHealthy z) (sym c.lowest_dead_group.ensures.same) healthy)

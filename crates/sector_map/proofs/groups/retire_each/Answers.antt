@@ -2,13 +2,14 @@ use Rattle.std.proofs.Common.{◌≡◌, ◌+◌, ◌<◌, suc, ap, sym, subst, 
 use Rattle.std.proofs.lemmas.Result.{err_from_is_err_and}
 use Rattle.erase_journal.specs.Journals.{IsHealthy}
 use Rattle.sector_slots.specs.Slots.{data_blocks}
-use Rattle.nor_driver.specs.State.{Refuses}
+use Rattle.erase_journal.specs.Steps.{RefusesFirmly}
 use Rattle.nor_driver.proofs.CallLaws.{fails-as, fails-of}
 use Rattle.erase_journal.specs.Steps.{SucceedsSettled}
-use Rattle.erase_journal.proofs.SettledLaws.{refuses-settled}
+use Rattle.erase_journal.proofs.Firmly.{refuses-firmly}
 use Rattle.sector_map.proofs.Retiring.{refuses-perhaps, succeeds-perhaps}
 use Rattle.sector_map.specs.Mending.{IsOlderGroup}
 use Rattle.sector_map.proofs.Mending.{Retiring, retiring-healthy, retiring-number, retiring-quiet, retiring-more, retiring-cut, retired-each}
+use Rattle.erase_journal.proofs.SettledLaws.{settled-healthy}
 use Rattle.sector_map.proofs.groups.retire_each.Goals as goal
 use Rattle.sector_map.proofs.groups.retire_each.Goals.{then-is_older+in_ok-retire_group, else-is_older}
 
@@ -54,7 +55,7 @@ returns-in_err-kind-clause-fails g c =
     let s0 = g.S.SlotCalls.state c.args.slots.now in
     let s1 = g.S.SlotCalls.state c.loop-block.slots in
     let s2 = g.S.SlotCalls.state c.kind.new.self in
-    fails-of c.from_residual.result (SucceedsSettled s0 s2) (λ e. Refuses e s0 s2) (fails-as c.from_residual.result _ (λ _. SucceedsSettled s0 s2) (λ e. Refuses e s0 s2) c.from_residual.ensures.1
+    fails-of c.from_residual.result (SucceedsSettled s0 s2) (λ e. RefusesFirmly e s0 s2) (fails-as c.from_residual.result _ (λ _. SucceedsSettled s0 s2) (λ e. RefusesFirmly e s0 s2) c.from_residual.ensures.1
     (refuses-perhaps _ s0 s1 s2 c.loop-block.invariant.retiring.since c.in_err-kind.ensures.ends))
 
 pub returns-in_err-retire_group-clause-fails : goal.returns-in_err-retire_group-clause-fails
@@ -63,5 +64,10 @@ returns-in_err-retire_group-clause-fails g c =
     let s1 = g.S.SlotCalls.state c.loop-block.slots in
     let s2 = g.S.SlotCalls.state c.kind.new.self in
     let s3 = g.S.SlotCalls.state c.retire_group.new.self in
-    fails-of c.from_residual-in_err-retire_group.result (SucceedsSettled s0 s3) (λ e. Refuses e s0 s3) (fails-as c.from_residual-in_err-retire_group.result _ (λ _. SucceedsSettled s0 s3) (λ e. Refuses e s0 s3) c.from_residual-in_err-retire_group.ensures.1
-    (refuses-settled _ s0 s2 s3 (succeeds-perhaps s0 s1 s2 c.loop-block.invariant.retiring.since c.in_ok-kind.ensures.ends) c.in_err-retire_group.ensures.ends))
+    fails-of c.from_residual-in_err-retire_group.result (SucceedsSettled s0 s3) (λ e. RefusesFirmly e s0 s3) (fails-as c.from_residual-in_err-retire_group.result _ (λ _. SucceedsSettled s0 s3) (λ e. RefusesFirmly e s0 s3) c.from_residual-in_err-retire_group.ensures.1
+    (refuses-firmly _ s0 s2 s3 (succeeds-perhaps s0 s1 s2 c.loop-block.invariant.retiring.since c.in_ok-kind.ensures.ends) c.in_err-retire_group.ensures.ends))
+
+pub returns-in_err-retire_group-clause-healthy : goal.returns-in_err-retire_group-clause-healthy
+returns-in_err-retire_group-clause-healthy g c is h =
+    let p = err_from_is_err_and c.from_residual-in_err-retire_group.result c.from_residual-in_err-retire_group.ensures.1 in
+    c.in_err-retire_group.ensures.healthy (cc (p.1, p.2)) (settled-healthy (g.S.SlotCalls.state c.kind.new.self).memory c.in_ok-kind.ensures.ends.settled)

@@ -5,7 +5,7 @@ use Rattle.sector_map.specs.Mending.{PairsSeen, RetiresEach}
 use Rattle.sector_map.proofs.Grouping.{mixed-corrupt}
 use Rattle.sector_map.proofs.Mounting.{perhaps-healthy, bool-none, perhaps-done}
 use Rattle.sector_map.proofs.Mending.{retires-none, retires-older, each-sound}
-use Rattle.nor_driver.specs.State.{Refuses}
+use Rattle.erase_journal.specs.Steps.{RefusesFirmly}
 use Rattle.nor_driver.proofs.CallLaws.{fails-as, fails-of}
 use Rattle.erase_journal.specs.Steps.{SucceedsSettled}
 use Rattle.sector_map.proofs.Retiring.{refuses-perhaps, succeeds-perhaps}
@@ -49,7 +49,7 @@ returns-in_err-retire_each-clause-fails g c =
     let s0 = g.S.SlotCalls.state c.args.slots.now in
     let s1 = g.S.SlotCalls.state c.has_pair.new.slots in
     let s2 = g.S.SlotCalls.state c.retire_each.new.slots in
-    fails-of c.from_residual-in_err-retire_each.result (SucceedsSettled s0 s2) (λ e. Refuses e s0 s2) (fails-as c.from_residual-in_err-retire_each.result _ (λ _. SucceedsSettled s0 s2) (λ e. Refuses e s0 s2) c.from_residual-in_err-retire_each.ensures.1
+    fails-of c.from_residual-in_err-retire_each.result (SucceedsSettled s0 s2) (λ e. RefusesFirmly e s0 s2) (fails-as c.from_residual-in_err-retire_each.result _ (λ _. SucceedsSettled s0 s2) (λ e. RefusesFirmly e s0 s2) c.from_residual-in_err-retire_each.ensures.1
     (refuses-perhaps _ s0 s1 s2 c.in_ok-pair.ensures.done c.in_err-retire_each.ensures.fails))
 
 pub returns-in_err-read_table-clause-fails : goal.returns-in_err-read_table-clause-fails
@@ -58,7 +58,7 @@ returns-in_err-read_table-clause-fails g c =
     let s1 = g.S.SlotCalls.state c.has_pair.new.slots in
     let s2 = g.S.SlotCalls.state c.retire_each.new.slots in
     let s3 = g.S.SlotCalls.state c.read_table.new.slots in
-    fails-of c.from_residual-in_err-read_table.result (SucceedsSettled s0 s3) (λ e. Refuses e s0 s3) (fails-as c.from_residual-in_err-read_table.result _ (λ _. SucceedsSettled s0 s3) (λ e. Refuses e s0 s3) c.from_residual-in_err-read_table.ensures.1
+    fails-of c.from_residual-in_err-read_table.result (SucceedsSettled s0 s3) (λ e. RefusesFirmly e s0 s3) (fails-as c.from_residual-in_err-read_table.result _ (λ _. SucceedsSettled s0 s3) (λ e. RefusesFirmly e s0 s3) c.from_residual-in_err-read_table.ensures.1
     (refuses-perhaps _ s0 s2 s3 (perhaps-done s0 s1 s2 c.in_ok-pair.ensures.done c.in_ok-retire_each.ensures.done) c.in_err-read_table.ensures.ends))
 
 pub returns-clause-done : goal.returns-clause-done

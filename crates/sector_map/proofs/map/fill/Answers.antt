@@ -1,8 +1,10 @@
-use Rattle.std.proofs.Common.{◌∙◌, ap, sym, subst, length, None, Err}
+use Rattle.std.proofs.Common.{◌≡◌, ◌∙◌, false, ap, sym, subst, length, None, Err}
 use Rattle.std.proofs.lemmas.List.{with_items_is}
 use Rattle.chip_model.specs.Geometry.{sector_count}
 use Rattle.erase_journal.specs.Journals.{IsHealthy}
-use Rattle.nor_driver.specs.State.{IsNorReady, Refuses}
+use Rattle.nor_driver.specs.State.{NorState, bits_in, IsNorReady, Refuses}
+use Rattle.erase_journal.specs.Weak.{AreRecoveredJournals}
+use Rattle.sector_map.specs.Marking.{is_unmarked}
 use Rattle.sector_map.specs.Maps.{IsServing, shown_with}
 use Rattle.sector_map.specs.Filling.{Filled, FillCut}
 use Rattle.sector_map.proofs.Restoring.{served-after}
@@ -32,3 +34,8 @@ returns-in-Err-Cut-clause-fails g c =
     subst (λ z. FillCut z (g.N.Nor.state c.uncover-in-Err-Cut.result)) c.new-stock.ensures.same
     (fill-cut c.new-stock.result.slots c.mount_slots.new.stock.slots (g.N.Nor.state c.uncover-in-Err-Cut.result) (c.mount_slots.ensures.cut is healthy) (c.mount_slots.ensures.healthy is healthy)
     (subst (λ e. Refuses e c.new-stock.result.slots c.mount_slots.new.stock.slots) c.in-Err-Cut.field-0-is c.in-Err-Cut.ensures.ends) (subst (λ s. IsNorReady s) (sym c.new-stock.ensures.same) c.requires.ready) c.uncover-in-Err-Cut.ensures)
+
+pub returns-in-Ok-true-clause-journals : goal.returns-in-Ok-true-clause-journals
+returns-in-Ok-true-clause-journals g c firmly unmarked h =
+    let e = sym c.new-stock.ensures.same in
+    c.in-Ok-true.ensures.journals firmly (subst (λ (s : NorState). is_unmarked s.memory ≡ false) e unmarked) (subst (λ (s : NorState). AreRecoveredJournals (bits_in s)) e h) (cc c.in-Ok-true.is)

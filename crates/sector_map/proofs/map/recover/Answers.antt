@@ -1,5 +1,9 @@
-use Rattle.std.proofs.Common.{subst}
+use Rattle.std.proofs.Common.{◌≡◌, ◌∙◌, false, sym, subst}
 use Rattle.std.specs.Prelude.{IfOk, IfErr}
+use Rattle.nor_driver.specs.State.{NorState, bits_in}
+use Rattle.erase_journal.specs.Weak.{AreRecoveredJournals}
+use Rattle.sector_map.specs.Marking.{is_unmarked}
+use Rattle.sector_map.proofs.Marking.{unmarked-same}
 use Rattle.erase_journal.specs.Recovery.{RecoverFails}
 use Rattle.sector_map.specs.Filling.{Filled, FillFails}
 use Rattle.sector_map.proofs.Opening.{filled-mounted, filled-fails, recovery-cut}
@@ -17,3 +21,10 @@ pub returns-in-Err-default-Cut-clause-fails : goal.returns-in-Err-default-Cut-cl
 returns-in-Err-default-Cut-clause-fails g c =
     recovery-cut (g.N.Nor.state c.args.nor) (g.N.Nor.state c.in-Err-default-Cut.nor)
     (subst (λ e. RecoverFails e (g.N.Nor.state c.args.nor) (g.N.Nor.state c.in-Err-default-Cut.nor)) c.in-Err-default-Cut.field-0-1-is c.in-Err-default-Cut.ensures.fails)
+
+pub returns-in-Ok-recover_as-clause-journals : goal.returns-in-Ok-recover_as-clause-journals
+returns-in-Ok-recover_as-clause-journals g c firmly unmarked h =
+    let j = c.in-Ok-recover_as.journal in
+    let e = sym c.new.ensures in
+    let same = unmarked-same (g.N.Nor.state c.args.nor).memory j.memory c.in-Ok-recover_as.ensures.ok.blocks in
+    c.fill.ensures.journals firmly (subst (λ (s : NorState). is_unmarked s.memory ≡ false) e (same ∙ unmarked)) (subst (λ (s : NorState). AreRecoveredJournals (bits_in s)) e (c.in-Ok-recover_as.ensures.firm firmly h))

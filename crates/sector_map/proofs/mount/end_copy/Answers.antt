@@ -1,10 +1,11 @@
 use Rattle.std.proofs.Common.{sym, subst}
 use Rattle.std.proofs.lemmas.Result.{err_from_is_err_and}
 use Rattle.erase_journal.specs.Journals.{IsHealthy}
-use Rattle.erase_journal.proofs.SettledLaws.{settled-after, refuses-settled}
+use Rattle.erase_journal.proofs.SettledLaws.{settled-after}
+use Rattle.erase_journal.proofs.Firmly.{refuses-firmly}
 use Rattle.sector_slots.specs.Slots.{IsSpareIn}
 use Rattle.sector_stock.specs.Copy.{KeepsSectors, EndsCopy, IsCommittedIn}
-use Rattle.nor_driver.specs.State.{Refuses}
+use Rattle.erase_journal.specs.Steps.{RefusesFirmly}
 use Rattle.nor_driver.proofs.CallLaws.{fails-as}
 use Rattle.erase_journal.specs.Steps.{SucceedsSettled}
 use Rattle.sector_map.proofs.mount.end_copy.Goals as goal
@@ -43,16 +44,16 @@ returns-in_err-end_erased-clause-ends g c =
     let s0 = g.S.SlotCalls.state c.args.slots.now in
     let s1 = g.S.SlotCalls.state c.is_spare.new.slots in
     let s2 = g.S.SlotCalls.state c.end_erased.new.slots in
-    fails-as c.from_residual-in_err-end_erased.result _ (λ _. SucceedsSettled s0 s2) (λ e. Refuses e s0 s2) c.from_residual-in_err-end_erased.ensures.1
-    (refuses-settled _ s0 s1 s2 c.in_ok-is_spare.ensures.ends c.in_err-end_erased.ensures.ends)
+    fails-as c.from_residual-in_err-end_erased.result _ (λ _. SucceedsSettled s0 s2) (λ e. RefusesFirmly e s0 s2) c.from_residual-in_err-end_erased.ensures.1
+    (refuses-firmly _ s0 s1 s2 c.in_ok-is_spare.ensures.ends c.in_err-end_erased.ensures.ends)
 
 pub returns-in_err-end_committed-clause-ends : goal.returns-in_err-end_committed-clause-ends
 returns-in_err-end_committed-clause-ends g c =
     let s0 = g.S.SlotCalls.state c.args.slots.now in
     let s1 = g.S.SlotCalls.state c.is_spare.new.slots in
     let s2 = g.S.SlotCalls.state c.end_committed.new.slots in
-    fails-as c.from_residual-in_err-end_committed.result _ (λ _. SucceedsSettled s0 s2) (λ e. Refuses e s0 s2) c.from_residual-in_err-end_committed.ensures.1
-    (refuses-settled _ s0 s1 s2 c.in_ok-is_spare.ensures.ends c.in_err-end_committed.ensures.ends)
+    fails-as c.from_residual-in_err-end_committed.result _ (λ _. SucceedsSettled s0 s2) (λ e. RefusesFirmly e s0 s2) c.from_residual-in_err-end_committed.ensures.1
+    (refuses-firmly _ s0 s1 s2 c.in_ok-is_spare.ensures.ends c.in_err-end_committed.ensures.ends)
 
 pub returns-in_ok-end_committed-clause-ends : goal.returns-in_ok-end_committed-clause-ends
 returns-in_ok-end_committed-clause-ends g c =

@@ -1,7 +1,7 @@
 use Rattle.std.proofs.Common.{sym, subst, inr}
 use Rattle.std.specs.Prelude.{OnOk}
 use Rattle.sector_stock.proofs.Copying.{after-keeps}
-use Rattle.nor_driver.specs.State.{Refuses}
+use Rattle.erase_journal.specs.Steps.{RefusesFirmly}
 use Rattle.nor_driver.proofs.CallLaws.{done-of, fails-of}
 use Rattle.erase_journal.specs.Steps.{SucceedsSettled}
 use Rattle.sector_map.specs.Found.{FoundIn}
@@ -45,7 +45,7 @@ returns-in_ok-end_voids-in-Committed-clause-done g c =
     let s0 = g.S.SlotCalls.state c.args.slots.now in
     let s1 = g.S.SlotCalls.state c.end_voids-in-Committed.new.slots in
     let s2 = g.S.SlotCalls.state c.end_copy.new.slots in
-    after-ok c.end_copy.result (SucceedsSettled s0 s2) _ (λ h. inr h) (done-of c.end_copy.result (SucceedsSettled s0 s2) (λ e. Refuses e s0 s2)
+    after-ok c.end_copy.result (SucceedsSettled s0 s2) _ (λ h. inr h) (done-of c.end_copy.result (SucceedsSettled s0 s2) (λ e. RefusesFirmly e s0 s2)
     (after-ends c.end_copy.result s0 s1 s2 c.in_ok-end_voids-in-Committed.ensures.done c.end_copy.ensures.ends))
 
 pub returns-in_ok-end_voids-in-Committed-clause-fails : goal.returns-in_ok-end_voids-in-Committed-clause-fails
@@ -53,4 +53,4 @@ returns-in_ok-end_voids-in-Committed-clause-fails g c =
     let s0 = g.S.SlotCalls.state c.args.slots.now in
     let s1 = g.S.SlotCalls.state c.end_voids-in-Committed.new.slots in
     let s2 = g.S.SlotCalls.state c.end_copy.new.slots in
-    fails-of c.end_copy.result (SucceedsSettled s0 s2) (λ e. Refuses e s0 s2) (after-ends c.end_copy.result s0 s1 s2 c.in_ok-end_voids-in-Committed.ensures.done c.end_copy.ensures.ends)
+    fails-of c.end_copy.result (SucceedsSettled s0 s2) (λ e. RefusesFirmly e s0 s2) (after-ends c.end_copy.result s0 s1 s2 c.in_ok-end_voids-in-Committed.ensures.done c.end_copy.ensures.ends)

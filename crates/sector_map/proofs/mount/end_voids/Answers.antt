@@ -2,10 +2,10 @@ use Rattle.std.proofs.Common.{◌≡◌, ◌+◌, ◌<◌, ◌∙◌, suc, ap, s
 use Rattle.std.proofs.lemmas.Result.{err_from_is_err_and}
 use Rattle.erase_journal.specs.Journals.{IsHealthy}
 use Rattle.sector_slots.specs.Slots.{data_blocks}
-use Rattle.nor_driver.specs.State.{Refuses}
+use Rattle.erase_journal.specs.Steps.{RefusesFirmly}
 use Rattle.nor_driver.proofs.CallLaws.{fails-as, fails-of}
 use Rattle.erase_journal.specs.Steps.{SucceedsSettled}
-use Rattle.erase_journal.proofs.SettledLaws.{refuses-settled}
+use Rattle.erase_journal.proofs.Firmly.{refuses-firmly}
 use Rattle.sector_map.proofs.Retiring.{refuses-perhaps, succeeds-perhaps}
 use Rattle.sector_map.proofs.Voiding.{Voiding, voiding-healthy, voiding-quiet, voiding-void, voiding-sound, voiding-more, voiding-cut, voiding-done}
 use Rattle.sector_map.proofs.mount.end_voids.Goals as goal
@@ -64,7 +64,7 @@ returns-in_err-kind-clause-fails g c =
     let s0 = g.S.SlotCalls.state c.args.slots.now in
     let s1 = g.S.SlotCalls.state c.loop-block.slots in
     let s2 = g.S.SlotCalls.state c.kind.new.self in
-    fails-of c.from_residual.result (SucceedsSettled s0 s2) (λ e. Refuses e s0 s2) (fails-as c.from_residual.result _ (λ _. SucceedsSettled s0 s2) (λ e. Refuses e s0 s2) c.from_residual.ensures.1
+    fails-of c.from_residual.result (SucceedsSettled s0 s2) (λ e. RefusesFirmly e s0 s2) (fails-as c.from_residual.result _ (λ _. SucceedsSettled s0 s2) (λ e. RefusesFirmly e s0 s2) c.from_residual.ensures.1
     (refuses-perhaps _ s0 s1 s2 c.loop-block.invariant.voiding.since c.in_err-kind.ensures.ends))
 
 pub returns-in_err-end_void-clause-fails : goal.returns-in_err-end_void-clause-fails
@@ -73,5 +73,5 @@ returns-in_err-end_void-clause-fails g c =
     let s1 = g.S.SlotCalls.state c.loop-block.slots in
     let s2 = g.S.SlotCalls.state c.kind.new.self in
     let s3 = g.S.SlotCalls.state c.end_void.new.slots in
-    fails-of c.from_residual-in_err-end_void.result (SucceedsSettled s0 s3) (λ e. Refuses e s0 s3) (fails-as c.from_residual-in_err-end_void.result _ (λ _. SucceedsSettled s0 s3) (λ e. Refuses e s0 s3) c.from_residual-in_err-end_void.ensures.1
-    (refuses-settled _ s0 s2 s3 (succeeds-perhaps s0 s1 s2 c.loop-block.invariant.voiding.since c.in_ok-kind.ensures.ends) c.in_err-end_void.ensures.ends))
+    fails-of c.from_residual-in_err-end_void.result (SucceedsSettled s0 s3) (λ e. RefusesFirmly e s0 s3) (fails-as c.from_residual-in_err-end_void.result _ (λ _. SucceedsSettled s0 s3) (λ e. RefusesFirmly e s0 s3) c.from_residual-in_err-end_void.ensures.1
+    (refuses-firmly _ s0 s2 s3 (succeeds-perhaps s0 s1 s2 c.loop-block.invariant.voiding.since c.in_ok-kind.ensures.ends) c.in_err-end_void.ensures.ends))

@@ -9,10 +9,11 @@ use Rattle.sector_map.specs.Table.{IsTabled}
 use Rattle.sector_map.specs.Mending.{IsMixedPair, PairsSeen, HasDeadGroup}
 use Rattle.sector_map.proofs.Grouping.{mixed-corrupt, pair-room}
 use Rattle.sector_map.proofs.Mounting.{slots-alone, look-sound, spare-room, fits-none, found-none, bool-none}
-use Rattle.nor_driver.specs.State.{Refuses}
+use Rattle.erase_journal.specs.Steps.{RefusesFirmly}
 use Rattle.nor_driver.proofs.CallLaws.{fails-as}
 use Rattle.erase_journal.specs.Steps.{SucceedsSettled}
-use Rattle.erase_journal.proofs.SettledLaws.{settled-after, refuses-settled, ends-settled}
+use Rattle.erase_journal.proofs.SettledLaws.{settled-after}
+use Rattle.erase_journal.proofs.Firmly.{refuses-firmly, ends-firm}
 use Rattle.sector_map.proofs.MapCalls.{perhaps-after, after-ok, after-fails}
 use Rattle.sector_map.proofs.mount.look.Goals as goal
 
@@ -71,8 +72,8 @@ returns-in_err-pair-clause-ends g c =
     let s1 = g.S.SlotCalls.state c.survey.new.slots in
     let s2 = g.S.SlotCalls.state c.read_table.new.slots in
     let s3 = g.S.SlotCalls.state c.has_pair.new.slots in
-    fails-as c.from_residual-in_err-pair.result _ (λ _. SucceedsSettled s0 s3) (λ e. Refuses e s0 s3) c.from_residual-in_err-pair.ensures.1
-    (refuses-settled _ s0 s2 s3 (settled-after s0 s1 s2 c.in_ok-found.ensures.ends c.in_ok-spare.ensures.ends) c.in_err-pair.ensures.fails)
+    fails-as c.from_residual-in_err-pair.result _ (λ _. SucceedsSettled s0 s3) (λ e. RefusesFirmly e s0 s3) c.from_residual-in_err-pair.ensures.1
+    (refuses-firmly _ s0 s2 s3 (settled-after s0 s1 s2 c.in_ok-found.ensures.ends c.in_ok-spare.ensures.ends) c.in_err-pair.ensures.fails)
 
 pub returns-in_default-3-clause-ends : goal.returns-in_default-3-clause-ends
 returns-in_default-3-clause-ends g c =
@@ -90,4 +91,12 @@ returns-clause-ends g c =
     let s3 = g.S.SlotCalls.state c.has_pair.new.slots in
     let s4 = g.S.SlotCalls.state c.fit.new.slots in
     let done = perhaps-after s0 s2 s3 (settled-after s0 s1 s2 c.in_ok-found.ensures.ends c.in_ok-spare.ensures.ends) c.in_ok-pair.ensures.done in
-    ends-settled c.fit.result s0 s4 (after-ok c.fit.result _ _ (λ h. perhaps-after s0 s3 s4 done h) c.fit.ensures.done) (after-fails c.fit.result s0 s3 s4 (inr done) c.fit.ensures.fails)
+    ends-firm c.fit.result s0 s4 (after-ok c.fit.result _ _ (λ h. perhaps-after s0 s3 s4 done h) c.fit.ensures.done) (after-fails c.fit.result s0 s3 s4 (inr done) c.fit.ensures.fails)
+
+pub returns-in_err-spare-clause-ends : goal.returns-in_err-spare-clause-ends
+returns-in_err-spare-clause-ends g c =
+    let s0 = g.S.SlotCalls.state c.args.stock.now in
+    let s1 = g.S.SlotCalls.state c.survey.new.slots in
+    let s2 = g.S.SlotCalls.state c.read_table.new.slots in
+    fails-as c.from_residual-in_err-spare.result _ (λ _. SucceedsSettled s0 s2) (λ e. RefusesFirmly e s0 s2) c.from_residual-in_err-spare.ensures.1
+    (refuses-firmly _ s0 s1 s2 c.in_ok-found.ensures.ends c.in_err-spare.ensures.ends)

@@ -3,7 +3,7 @@ use Rattle.std.proofs.lemmas.Result.{err_from_is_err_and}
 use Rattle.sector_map.proofs.Mounting.{perhaps-healthy, perhaps-done}
 use Rattle.sector_map.proofs.MapCalls.{after-ok, after-fails}
 use Rattle.sector_map.proofs.Mending.{ended, ended-dead, mends-after, mends-blocks, kept-mends}
-use Rattle.nor_driver.specs.State.{Refuses}
+use Rattle.erase_journal.specs.Steps.{RefusesFirmly}
 use Rattle.nor_driver.proofs.CallLaws.{fails-as, fails-of}
 use Rattle.erase_journal.specs.Steps.{SucceedsSettled}
 use Rattle.sector_map.proofs.Retiring.{refuses-perhaps}
@@ -75,7 +75,7 @@ returns-in_err-retire_groups-clause-fails g c =
     let s0 = g.S.SlotCalls.state c.args.slots.now in
     let s1 = g.S.SlotCalls.state c.end_copying.new.slots in
     let s2 = g.S.SlotCalls.state c.retire_groups.new.slots in
-    fails-of c.from_residual-in_err-retire_groups.result (SucceedsSettled s0 s2) (λ e. Refuses e s0 s2) (fails-as c.from_residual-in_err-retire_groups.result _ (λ _. SucceedsSettled s0 s2) (λ e. Refuses e s0 s2) c.from_residual-in_err-retire_groups.ensures.1
+    fails-of c.from_residual-in_err-retire_groups.result (SucceedsSettled s0 s2) (λ e. RefusesFirmly e s0 s2) (fails-as c.from_residual-in_err-retire_groups.result _ (λ _. SucceedsSettled s0 s2) (λ e. RefusesFirmly e s0 s2) c.from_residual-in_err-retire_groups.ensures.1
     (refuses-perhaps _ s0 s1 s2 c.in_ok-end_copying.ensures.done c.in_err-retire_groups.ensures.fails))
 
 pub returns-clause-done : goal.returns-clause-done

@@ -1,6 +1,7 @@
-use Rattle.std.proofs.Common.{sym, subst, ◌∙◌}
+use Rattle.std.proofs.Common.{◌≡◌, List, ℕ, ap, inr, sym, subst, ◌∙◌}
+use Rattle.chip_model.specs.Memory.{byte}
 use Rattle.std.proofs.lemmas.Result.{err_from_is_err_and}
-use Rattle.erase_journal.specs.Journals.{IsHealthy}
+use Rattle.erase_journal.specs.Journals.{IsHealthy, IsSettled}
 use Rattle.sector_slots.specs.Slots.{slot_at, slot_count}
 use Rattle.sector_map.specs.Found.{FoundIn, RoomSeen}
 use Rattle.sector_map.specs.Table.{IsTabled, Mounts, MountCut}
@@ -11,10 +12,13 @@ use Rattle.sector_map.proofs.Retiring.{succeeds-perhaps}
 use Rattle.sector_map.proofs.Marking.{cut-none, cut-marking, cut-marked, mounted, marked-sound}
 use Rattle.sector_map.proofs.Mending.{mends-after, mends-sound}
 use Rattle.sector_map.proofs.Alike.{marked-firm, alike-tabled, alike-found, alike-room, firm-mends, firm-repairs}
-use Rattle.nor_driver.specs.State.{Refuses}
-use Rattle.nor_driver.proofs.CallLaws.{fails-as}
+use Rattle.nor_driver.specs.State.{NorState, bits_in, Refuses}
+use Rattle.nor_driver.proofs.CallLaws.{fails-as, kept-after}
+use Rattle.erase_journal.specs.Weak.{AreFirmJournals, AreRecoveredJournals}
+use Rattle.erase_journal.proofs.FirmJournals.{firm-journals-perhaps, recovered-same, settled-perhaps}
 use Rattle.erase_journal.specs.Steps.{SucceedsSettled}
 use Rattle.sector_map.proofs.MapCalls.{perhaps-after}
+use Rattle.erase_journal.proofs.Firmly.{refuses-plainly}
 use Rattle.sector_map.proofs.mount.mount_slots.Goals as goal
 
 pub returns-in_err-marks-clause-cut : goal.returns-in_err-marks-clause-cut
@@ -145,4 +149,30 @@ returns-in_err-repair-in-Some-clause-ends g c =
     let s4 = g.S.SlotCalls.state c.firm_as.new.slots in
     let s5 = g.S.SlotCalls.state c.repair.new.stock in
     fails-as c.from_residual-in_err-repair-in-Some.result _ (λ _. SucceedsSettled s0 s5) (λ e. Refuses e s0 s5) c.from_residual-in_err-repair-in-Some.ensures.1
-    (refuses-settled _ s0 s4 s5 (perhaps-after s0 s3 s4 (perhaps-after s0 s2 s3 (settled-after s0 s1 s2 c.in_ok-marks.ensures.ends c.in_ok-seen.ensures.ends) c.in_ok-mark_first-in-Some.ensures.done) c.in_ok-begun-in-Some.ensures.done) c.in_err-repair-in-Some.ensures.ends)
+    (refuses-settled _ s0 s4 s5 (perhaps-after s0 s3 s4 (perhaps-after s0 s2 s3 (settled-after s0 s1 s2 c.in_ok-marks.ensures.ends c.in_ok-seen.ensures.ends) c.in_ok-mark_first-in-Some.ensures.done) c.in_ok-begun-in-Some.ensures.done) (refuses-plainly _ s4 s5 c.in_err-repair-in-Some.ensures.ends))
+
+pub returns-in_ok-repair-in-Some-clause-journals : goal.returns-in_ok-repair-in-Some-clause-journals
+returns-in_ok-repair-in-Some-clause-journals g c firmly unmarked h is =
+    let s0 = g.S.SlotCalls.state c.args.stock.now in
+    let s1 = g.S.SlotCalls.state c.read_marks.new.slots in
+    let s2 = g.S.SlotCalls.state c.look.new.stock in
+    let s3 = g.S.SlotCalls.state c.mark_first.new.slots in
+    let s4 = g.S.SlotCalls.state c.firm_as.new.slots in
+    let s5 = g.S.SlotCalls.state c.repair.new.stock in
+    let same : s2.memory ≡ s0.memory = c.look.ensures.same ∙ c.read_marks.ensures.same in
+    let k = kept-after s0 s1 s2 c.in_ok-marks.ensures.ends.kept c.in_ok-seen.ensures.ends.kept in
+    let r2 = recovered-same (bits_in s0) (bits_in s2) k.bits (λ i from to. ap (λ (m : List ℕ). byte m i) same) h in
+    let left : s3 ≡ s2 = c.mark_first.ensures.left (c.in_ok-marks.ensures.unmarked ∙ unmarked) in
+    let r3 = subst (λ (s : NorState). AreRecoveredJournals (bits_in s)) (sym left) r2 in
+    let h3 = subst (λ (s : NorState). IsSettled s.memory) (sym left) c.in_ok-seen.ensures.ends.settled in
+    let h4 = settled-perhaps s3 s4 c.in_ok-begun-in-Some.ensures.done h3 in
+    let f5 = firm-journals-perhaps s4 s5 (inr c.in_ok-repair-in-Some.ensures.ends) h4 (c.in_ok-begun-in-Some.ensures.journals firmly r3) in
+    subst (λ (s : NorState). AreFirmJournals (bits_in s)) (sym c.suspect_as.ensures.state) f5
+
+pub returns-in_err-seen-clause-ends : goal.returns-in_err-seen-clause-ends
+returns-in_err-seen-clause-ends g c =
+    let s0 = g.S.SlotCalls.state c.args.stock.now in
+    let s1 = g.S.SlotCalls.state c.read_marks.new.slots in
+    let s2 = g.S.SlotCalls.state c.look.new.stock in
+    fails-as c.from_residual-in_err-seen.result _ (λ _. SucceedsSettled s0 s2) (λ e. Refuses e s0 s2) c.from_residual-in_err-seen.ensures.1
+    (refuses-settled _ s0 s1 s2 c.in_ok-marks.ensures.ends (refuses-plainly _ s1 s2 c.in_err-seen.ensures.ends))

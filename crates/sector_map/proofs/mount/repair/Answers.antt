@@ -5,7 +5,7 @@ use Rattle.sector_map.specs.Table.{Mends, Repairs}
 use Rattle.sector_map.proofs.Mounting.{perhaps-healthy, table-room, perhaps-done}
 use Rattle.sector_map.proofs.Mending.{mends-after, mends-of}
 use Rattle.sector_map.proofs.Moving.{retired-repairs, repairs-after, repairs-mended}
-use Rattle.nor_driver.specs.State.{Refuses}
+use Rattle.erase_journal.specs.Steps.{RefusesFirmly}
 use Rattle.nor_driver.proofs.CallLaws.{fails-as}
 use Rattle.erase_journal.specs.Steps.{SucceedsSettled}
 use Rattle.sector_map.proofs.Retiring.{refuses-perhaps, succeeds-perhaps}
@@ -92,7 +92,7 @@ returns-in_err-retire_older-clause-ends g c =
     let s0 = g.S.SlotCalls.state c.args.stock.now in
     let s1 = g.S.SlotCalls.state c.mend_blocks.new.slots in
     let s2 = g.S.SlotCalls.state c.retire_older.new.slots in
-    fails-as c.from_residual-in_err-retire_older.result _ (λ _. SucceedsSettled s0 s2) (λ e. Refuses e s0 s2) c.from_residual-in_err-retire_older.ensures.1
+    fails-as c.from_residual-in_err-retire_older.result _ (λ _. SucceedsSettled s0 s2) (λ e. RefusesFirmly e s0 s2) c.from_residual-in_err-retire_older.ensures.1
     (refuses-perhaps _ s0 s1 s2 c.in_ok-mend_blocks.ensures.done c.in_err-retire_older.ensures.fails)
 
 pub returns-in_err-move_begun-clause-ends : goal.returns-in_err-move_begun-clause-ends
@@ -101,7 +101,7 @@ returns-in_err-move_begun-clause-ends g c =
     let s1 = g.S.SlotCalls.state c.mend_blocks.new.slots in
     let s2 = g.S.SlotCalls.state c.retire_older.new.slots in
     let s3 = g.S.SlotCalls.state c.move_begun.new.stock in
-    fails-as c.from_residual-in_err-move_begun.result _ (λ _. SucceedsSettled s0 s3) (λ e. Refuses e s0 s3) c.from_residual-in_err-move_begun.ensures.1
+    fails-as c.from_residual-in_err-move_begun.result _ (λ _. SucceedsSettled s0 s3) (λ e. RefusesFirmly e s0 s3) c.from_residual-in_err-move_begun.ensures.1
     (refuses-perhaps _ s0 s2 s3 (perhaps-done s0 s1 s2 c.in_ok-mend_blocks.ensures.done c.in_ok-retire_older.ensures.done) c.in_err-move_begun.ensures.fails)
 
 pub returns-in_err-fill-clause-ends : goal.returns-in_err-fill-clause-ends
@@ -111,7 +111,7 @@ returns-in_err-fill-clause-ends g c =
     let s2 = g.S.SlotCalls.state c.retire_older.new.slots in
     let s3 = g.S.SlotCalls.state c.move_begun.new.stock in
     let s4 = g.S.SlotCalls.state c.fill.new.self in
-    fails-as c.from_residual-in_err-fill.result _ (λ _. SucceedsSettled s0 s4) (λ e. Refuses e s0 s4) c.from_residual-in_err-fill.ensures.1
+    fails-as c.from_residual-in_err-fill.result _ (λ _. SucceedsSettled s0 s4) (λ e. RefusesFirmly e s0 s4) c.from_residual-in_err-fill.ensures.1
     (refuses-perhaps _ s0 s3 s4 (perhaps-done s0 s2 s3 (perhaps-done s0 s1 s2 c.in_ok-mend_blocks.ensures.done c.in_ok-retire_older.ensures.done) c.in_ok-move_begun.ensures.done) c.in_err-fill.ensures.ends)
 
 pub returns-clause-ends : goal.returns-clause-ends

@@ -1,6 +1,6 @@
 use Rattle.std.proofs.Common.{◌≡◌, ◌+◌, suc, ap, sym, subst, arith}
 use Rattle.std.specs.Prelude.{IfErr}
-use Rattle.nor_driver.specs.State.{Refuses}
+use Rattle.erase_journal.specs.Steps.{RefusesFirmly}
 use Rattle.std.proofs.lemmas.Result.{err_from_is_err_and}
 use Rattle.sector_map.proofs.Retiring.{Retired, retired-quiet, one-absent, one-held, retired-more, retired-cut, retired-healthy, older-retirable, refuses-perhaps}
 use Rattle.sector_map.proofs.mount.retire_older.Goals as goal
@@ -42,5 +42,5 @@ returns-in_err-retire-in-Two-clause-cut_clean g c is clean =
 pub returns-in_err-retire-in-Two-clause-fails : goal.returns-in_err-retire-in-Two-clause-fails
 returns-in_err-retire-in-Two-clause-fails g c =
     let p = err_from_is_err_and c.from_residual.result c.from_residual.ensures.1 in
-    subst (λ z. IfErr z (λ e. Refuses e (g.S.SlotCalls.state c.args.slots.now) (g.S.SlotCalls.state c.retire.new.self))) (sym p.1)
-    (refuses-perhaps p.0 (g.S.SlotCalls.state c.args.slots.now) (g.S.SlotCalls.state c.loop-sector.slots) (g.S.SlotCalls.state c.retire.new.self) c.loop-sector.invariant.retired.since (subst (λ e. Refuses e (g.S.SlotCalls.state c.loop-sector.slots) (g.S.SlotCalls.state c.retire.new.self)) (sym p.2) c.in_err-retire-in-Two.ensures.ends))
+    subst (λ z. IfErr z (λ e. RefusesFirmly e (g.S.SlotCalls.state c.args.slots.now) (g.S.SlotCalls.state c.retire.new.self))) (sym p.1)
+    (refuses-perhaps p.0 (g.S.SlotCalls.state c.args.slots.now) (g.S.SlotCalls.state c.loop-sector.slots) (g.S.SlotCalls.state c.retire.new.self) c.loop-sector.invariant.retired.since (subst (λ e. RefusesFirmly e (g.S.SlotCalls.state c.loop-sector.slots) (g.S.SlotCalls.state c.retire.new.self)) (sym p.2) c.in_err-retire-in-Two.ensures.ends))

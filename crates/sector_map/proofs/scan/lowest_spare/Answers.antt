@@ -1,7 +1,7 @@
 use Rattle.std.proofs.Common.{◌∙◌, ◌+◌, subst, arith}
 use Rattle.sector_slots.specs.Slots.{IsSpareIn}
 use Rattle.erase_journal.proofs.Calls.{repeated-more}
-use Rattle.nor_driver.specs.State.{Refuses}
+use Rattle.erase_journal.specs.Steps.{RefusesFirmly}
 use Rattle.nor_driver.proofs.CallLaws.{fails-as}
 use Rattle.erase_journal.specs.Steps.{SucceedsSettled}
 use Rattle.sector_map.proofs.Moving.{repeated-perhaps}
@@ -24,7 +24,7 @@ returns-in_err-is_spare-clause-ends g c =
     let s0 = g.S.SlotCalls.state c.args.slots.now in
     let s1 = g.S.SlotCalls.state c.loop-block.slots in
     let s2 = g.S.SlotCalls.state c.is_spare.new.slots in
-    fails-as c.from_residual.result _ (λ _. SucceedsSettled s0 s2) (λ e. Refuses e s0 s2) c.from_residual.ensures.1
+    fails-as c.from_residual.result _ (λ _. SucceedsSettled s0 s2) (λ e. RefusesFirmly e s0 s2) c.from_residual.ensures.1
     (refuses-perhaps _ s0 s1 s2 (repeated-perhaps c.loop-block.block s0 s1 c.loop-block.invariant.since) c.in_err-is_spare.ensures.ends)
 
 pub returns-then-branch-clause-ends : goal.returns-then-branch-clause-ends

@@ -4,6 +4,9 @@ use Rattle.sector_slots.specs.Slots.{slot_at, IsSpareIn}
 use Rattle.sector_map.specs.Table.{IsTabled}
 use Rattle.erase_journal.proofs.Calls.{repeated-more}
 use Rattle.sector_map.proofs.Founds.{SpareSeen, seen-next}
+use Rattle.erase_journal.specs.Steps.{RefusesFirmly, SucceedsSettled}
+use Rattle.nor_driver.proofs.CallLaws.{fails-as}
+use Rattle.erase_journal.proofs.Calls.{repeated-refuses}
 use Rattle.sector_map.proofs.scan.read_table.Goals as goal
 
 pub loop-block-preserved : goal.loop-block-preserved
@@ -24,3 +27,11 @@ loop-block-preserved g c =
           (λ e. subst (λ z. IsSpareIn z b) same (c.in_ok-here.ensures.spare (c.in-Some.is ∙ ap (λ z. Some z) e)))
           (λ e s. c.in_ok-here.ensures.not_spare (c.in-Some.is ∙ ap (λ z. Some z) e) (subst (λ z. IsSpareIn z b) (sym same) s))));
     }
+
+pub returns-in_err-here-clause-ends : goal.returns-in_err-here-clause-ends
+returns-in_err-here-clause-ends g c =
+    let s0 = g.S.SlotCalls.state c.args.slots.now in
+    let s1 = g.S.SlotCalls.state c.loop-block.slots in
+    let s2 = g.S.SlotCalls.state c.read_block.new.slots in
+    fails-as c.from_residual.result _ (λ _. SucceedsSettled s0 s2) (λ e. RefusesFirmly e s0 s2) c.from_residual.ensures.1
+    (repeated-refuses c.loop-block.block _ s0 s1 s2 c.loop-block.invariant.since c.in_err-here.ensures.ends)

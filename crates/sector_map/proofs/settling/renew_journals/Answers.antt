@@ -1,10 +1,10 @@
 use Rattle.std.proofs.Common.{◌∙◌, sym, subst}
 use Rattle.std.proofs.lemmas.Result.{err_from_is_err_and}
 use Rattle.erase_journal.specs.Blocks.{SameBlocks}
-use Rattle.erase_journal.proofs.SettledLaws.{settled-healthy, settled-after, refuses-settled}
-use Rattle.nor_driver.specs.State.{Refuses}
+use Rattle.erase_journal.proofs.SettledLaws.{settled-healthy, settled-after}
+use Rattle.erase_journal.proofs.Firmly.{refuses-firmly}
 use Rattle.nor_driver.proofs.CallLaws.{fails-as}
-use Rattle.erase_journal.specs.Steps.{SucceedsSettled}
+use Rattle.erase_journal.specs.Steps.{RefusesFirmly, SucceedsSettled}
 use Rattle.sector_map.specs.Maps.{KeepsMap, KeptServing}
 use Rattle.sector_map.proofs.Renewal.{journals-keep, journals-kept, journals-room}
 use Rattle.sector_map.proofs.settling.renew_journals.Goals as goal
@@ -40,8 +40,8 @@ returns-in_err-fill-clause-ends g c =
     let s0 = g.S.SlotCalls.state c.args.stock.now in
     let s1 = g.S.SlotCalls.state c.renew_journals.new.self in
     let s2 = g.S.SlotCalls.state c.fill.new.self in
-    fails-as c.from_residual-in_err-fill.result _ (λ _. SucceedsSettled s0 s2) (λ e. Refuses e s0 s2) c.from_residual-in_err-fill.ensures.1
-    (refuses-settled _ s0 s1 s2 c.in_ok-renew_journals.ensures.ends c.in_err-fill.ensures.ends)
+    fails-as c.from_residual-in_err-fill.result _ (λ _. SucceedsSettled s0 s2) (λ e. RefusesFirmly e s0 s2) c.from_residual-in_err-fill.ensures.1
+    (refuses-firmly _ s0 s1 s2 c.in_ok-renew_journals.ensures.ends c.in_err-fill.ensures.ends)
 
 pub returns-clause-ends : goal.returns-clause-ends
 returns-clause-ends g c =

@@ -3,7 +3,7 @@ use Rattle.std.proofs.lemmas.Result.{err_from_is_err_and}
 use Rattle.sector_map.specs.Maps.{KeepsMap, KeptServing}
 use Rattle.sector_map.proofs.MapCalls.{kept-after, keeps-after, after-ok}
 use Rattle.erase_journal.specs.Steps.{SucceedsSettled}
-use Rattle.erase_journal.proofs.SettledLaws.{settles-since}
+use Rattle.erase_journal.proofs.Firmly.{firmly-since}
 use Rattle.sector_map.proofs.steps.even_out.Goals as goal
 
 pub returns-in_err-renew_now-clause-cut : goal.returns-in_err-renew_now-clause-cut
@@ -33,4 +33,4 @@ returns-clause-ends g c =
     let s1 = g.S.SlotCalls.state c.renew_now.new.stock in
     let s2 = g.S.SlotCalls.state c.renew_soon.new.stock in
     let done = subst (λ z. SucceedsSettled z s1) c.lagging.ensures.state c.in_ok-renew_now.ensures.ends in
-    settles-since c.renew_soon.result s0 s1 s2 done.ready done.kept c.renew_soon.ensures.ends
+    firmly-since c.renew_soon.result s0 s1 s2 done c.renew_soon.ensures.ends

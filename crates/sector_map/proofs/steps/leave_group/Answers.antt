@@ -5,10 +5,10 @@ use Rattle.sector_stock.specs.Index.{AreWithin, erases_of}
 use Rattle.sector_stock.proofs.Even.{even-more}
 use Rattle.std.specs.Prelude.{None, Some, ◌/◌, slice_index_or}
 use Rattle.std.proofs.lemmas.Result.{err_from_is_err_and}
-use Rattle.nor_driver.specs.State.{Refuses}
+use Rattle.erase_journal.specs.Steps.{RefusesFirmly}
 use Rattle.nor_driver.proofs.CallLaws.{fails-as, fails-of}
 use Rattle.erase_journal.specs.Steps.{SucceedsSettled}
-use Rattle.erase_journal.proofs.SettledLaws.{refuses-settled}
+use Rattle.erase_journal.proofs.Firmly.{refuses-firmly}
 use Rattle.sector_map.specs.Replace.{HeldBy, IsInSlots}
 use Rattle.sector_map.specs.Table.{holder}
 use Rattle.sector_map.specs.declared.table.LiveSlots.TheVariants.{Absent}
@@ -91,8 +91,8 @@ returns-in_err-follow_copied-clause-fails g c =
     let s0 = g.S.SlotCalls.state c.args.stock.now in
     let s1 = g.S.SlotCalls.state c.convert.new.self in
     let s2 = g.S.SlotCalls.state c.follow_copied.new.slots in
-    fails-of c.from_residual-in_err-follow_copied.result (SucceedsSettled s0 s2) (λ e. Refuses e s0 s2) (fails-as c.from_residual-in_err-follow_copied.result _ (λ _. SucceedsSettled s0 s2) (λ e. Refuses e s0 s2) c.from_residual-in_err-follow_copied.ensures.1
-    (refuses-settled _ s0 s1 s2 c.in_ok-copied.ensures.ends c.in_err-follow_copied.ensures.fails))
+    fails-of c.from_residual-in_err-follow_copied.result (SucceedsSettled s0 s2) (λ e. RefusesFirmly e s0 s2) (fails-as c.from_residual-in_err-follow_copied.result _ (λ _. SucceedsSettled s0 s2) (λ e. RefusesFirmly e s0 s2) c.from_residual-in_err-follow_copied.ensures.1
+    (refuses-firmly _ s0 s1 s2 c.in_ok-copied.ensures.ends c.in_err-follow_copied.ensures.fails))
 
 pub returns-clause-done : goal.returns-clause-done
 returns-clause-done g c =

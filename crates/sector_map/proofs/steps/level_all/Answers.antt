@@ -1,7 +1,7 @@
 use Rattle.std.proofs.lemmas.Result.{err_from_is_err_and}
 use Rattle.sector_map.specs.Maps.{KeptServing}
 use Rattle.sector_map.proofs.MapCalls.{kept-after, keeps-after, after-ok}
-use Rattle.erase_journal.proofs.SettledLaws.{settles-since}
+use Rattle.erase_journal.proofs.Firmly.{firmly-since}
 use Rattle.sector_map.proofs.steps.level_all.Goals as goal
 
 pub returns-in_err-even_out-clause-cut : goal.returns-in_err-even_out-clause-cut
@@ -29,4 +29,4 @@ returns-clause-ends g c =
     let s1 = g.S.SlotCalls.state c.even_out.new.stock in
     let s2 = g.S.SlotCalls.state c.move_if_due.new.stock in
     let done = c.in_ok-even_out.ensures.ends in
-    settles-since c.move_if_due.result s0 s1 s2 done.ready done.kept c.move_if_due.ensures.ends
+    firmly-since c.move_if_due.result s0 s1 s2 done c.move_if_due.ensures.ends

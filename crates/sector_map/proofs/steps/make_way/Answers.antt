@@ -2,7 +2,7 @@ use Rattle.std.proofs.lemmas.Result.{err_from_is_err_and}
 use Rattle.sector_map.specs.Maps.{KeptServing}
 use Rattle.sector_map.proofs.MapCalls.{kept-after, keeps-after, after-ok, after-fails, perhaps-after}
 use Rattle.std.proofs.Common.{inr}
-use Rattle.erase_journal.proofs.SettledLaws.{ends-settled}
+use Rattle.erase_journal.proofs.Firmly.{ends-firm}
 use Rattle.sector_map.proofs.steps.make_way.Goals as goal
 
 pub returns-in_err-level_all-clause-cut : goal.returns-in_err-level_all-clause-cut
@@ -30,4 +30,4 @@ returns-clause-ends g c =
     let s1 = g.S.SlotCalls.state c.level_all.new.stock in
     let s2 = g.S.SlotCalls.state c.leave_group.new.stock in
     let done = c.in_ok-level_all.ensures.ends in
-    ends-settled c.leave_group.result s0 s2 (after-ok c.leave_group.result _ _ (λ h. perhaps-after s0 s1 s2 done h) c.leave_group.ensures.done) (after-fails c.leave_group.result s0 s1 s2 (inr done) c.leave_group.ensures.fails)
+    ends-firm c.leave_group.result s0 s2 (after-ok c.leave_group.result _ _ (λ h. perhaps-after s0 s1 s2 done h) c.leave_group.ensures.done) (after-fails c.leave_group.result s0 s1 s2 (inr done) c.leave_group.ensures.fails)

@@ -6,10 +6,10 @@ use Rattle.sector_stock.specs.Index.{erases_of}
 use Rattle.sector_stock.specs.Takes.{IsErasedOnce}
 use Rattle.sector_map.proofs.MapCalls.{keeps-after}
 use Rattle.sector_map.proofs.Evening.{Renewing, renewing-none, renewing-quiet, renewing-more, round-nearer, fewest-of}
-use Rattle.nor_driver.specs.State.{Refuses}
+use Rattle.erase_journal.specs.Steps.{RefusesFirmly}
 use Rattle.nor_driver.proofs.CallLaws.{fails-as}
 use Rattle.erase_journal.specs.Steps.{SucceedsSettled}
-use Rattle.erase_journal.proofs.SettledLaws.{refuses-settled}
+use Rattle.erase_journal.proofs.Firmly.{refuses-firmly}
 use Rattle.sector_map.proofs.steps.renew_all.Goals as goal
 use Rattle.sector_map.proofs.steps.renew_all.Goals.{then-erases-fewest+in_ok-renew_one, else-erases-fewest}
 
@@ -69,5 +69,5 @@ returns-in_err-renew_one-clause-ends g c =
     let s0 = g.S.SlotCalls.state c.args.stock.now in
     let s1 = g.S.SlotCalls.state c.loop-block.stock in
     let s2 = g.S.SlotCalls.state c.renew_one.new.stock in
-    fails-as c.from_residual.result _ (λ _. SucceedsSettled s0 s2) (λ e. Refuses e s0 s2) c.from_residual.ensures.1
-    (refuses-settled _ s0 s1 s2 c.loop-block.invariant.renewing.since c.in_err-renew_one.ensures.ends)
+    fails-as c.from_residual.result _ (λ _. SucceedsSettled s0 s2) (λ e. RefusesFirmly e s0 s2) c.from_residual.ensures.1
+    (refuses-firmly _ s0 s1 s2 c.loop-block.invariant.renewing.since c.in_err-renew_one.ensures.ends)

@@ -2,14 +2,15 @@ use Rattle.std.proofs.Common.{◌≡◌, ◌-◌, ap, sym, subst, ◌∙◌, ari
 use Rattle.std.proofs.lemmas.Result.{err_from_is_err_and}
 use Rattle.chip_model.specs.Geometry.{block_count}
 use Rattle.erase_journal.specs.Steps.{SucceedsSettled}
-use Rattle.erase_journal.proofs.SettledLaws.{settled-after, refuses-settled}
+use Rattle.erase_journal.proofs.SettledLaws.{settled-after}
+use Rattle.erase_journal.proofs.Firmly.{refuses-firmly}
 use Rattle.sector_slots.specs.Slots.{data_blocks}
 use Rattle.sector_stock.specs.Index.{erases_of, AreWithin}
 use Rattle.sector_stock.specs.Takes.{work_of}
 use Rattle.sector_map.specs.Maps.{KeepsMap, KeptServing}
 use Rattle.sector_map.proofs.MapCalls.{keeps-after, kept-after}
 use Rattle.sector_map.proofs.Evening.{within-next}
-use Rattle.nor_driver.specs.State.{Refuses}
+use Rattle.erase_journal.specs.Steps.{RefusesFirmly}
 use Rattle.nor_driver.proofs.CallLaws.{fails-as}
 use Rattle.sector_map.proofs.steps.renew_now.Goals as goal
 
@@ -49,5 +50,5 @@ returns-in_err-renew_all-clause-ends g c =
     let s0 = g.S.SlotCalls.state c.args.stock.now in
     let s1 = g.S.SlotCalls.state c.lagging.new.self in
     let s2 = g.S.SlotCalls.state c.renew_all.new.stock in
-    fails-as c.from_residual.result _ (λ _. SucceedsSettled s0 s2) (λ e. Refuses e s0 s2) c.from_residual.ensures.1
-    (refuses-settled _ s0 s1 s2 (subst (λ z. SucceedsSettled s0 z) (sym c.lagging.ensures.state) c.loop-round.invariant.since) c.in_err-renew_all.ensures.ends)
+    fails-as c.from_residual.result _ (λ _. SucceedsSettled s0 s2) (λ e. RefusesFirmly e s0 s2) c.from_residual.ensures.1
+    (refuses-firmly _ s0 s1 s2 (subst (λ z. SucceedsSettled s0 z) (sym c.lagging.ensures.state) c.loop-round.invariant.since) c.in_err-renew_all.ensures.ends)

@@ -1,10 +1,11 @@
 use Rattle.std.proofs.Common.{sym, subst}
 use Rattle.std.specs.Prelude.{Some}
-use Rattle.nor_driver.specs.State.{Refuses}
-use Rattle.erase_journal.proofs.SettledLaws.{settled-healthy, settled-after, refuses-settled}
+use Rattle.erase_journal.specs.Steps.{RefusesFirmly}
+use Rattle.erase_journal.proofs.SettledLaws.{settled-healthy, settled-after}
+use Rattle.erase_journal.proofs.Firmly.{refuses-firmly}
 use Rattle.std.proofs.lemmas.Result.{err_from_is_err_and}
 use Rattle.sector_map.proofs.Replacing.{put-was-cut, replace-done, retire-was-cut, old-retirable}
-use Rattle.erase_journal.specs.Steps.{EndsSettled}
+use Rattle.erase_journal.specs.Steps.{EndsFirmly}
 use Rattle.sector_map.proofs.steps.replace_held.Goals as goal
 
 pub returns-in_err-write-clause-cut : goal.returns-in_err-write-clause-cut
@@ -33,8 +34,8 @@ returns-in_err-release-clause-healthy g c is h =
 pub returns-in_err-release-clause-ends : goal.returns-in_err-release-clause-ends
 returns-in_err-release-clause-ends g c =
     let p = err_from_is_err_and c.from_residual-in_err-release.result c.from_residual-in_err-release.ensures.1 in
-    subst (λ z. EndsSettled z (g.S.SlotCalls.state c.args.stock.now) (g.S.SlotCalls.state c.release.new.self)) (sym p.1)
-    (refuses-settled p.0 (g.S.SlotCalls.state c.args.stock.now) (g.S.SlotCalls.state c.write.new.self) (g.S.SlotCalls.state c.release.new.self) c.in_ok-write.ensures.ends (subst (λ e. Refuses e (g.S.SlotCalls.state c.write.new.self) (g.S.SlotCalls.state c.release.new.self)) (sym p.2) c.in_err-release.ensures.ends))
+    subst (λ z. EndsFirmly z (g.S.SlotCalls.state c.args.stock.now) (g.S.SlotCalls.state c.release.new.self)) (sym p.1)
+    (refuses-firmly p.0 (g.S.SlotCalls.state c.args.stock.now) (g.S.SlotCalls.state c.write.new.self) (g.S.SlotCalls.state c.release.new.self) c.in_ok-write.ensures.ends (subst (λ e. RefusesFirmly e (g.S.SlotCalls.state c.write.new.self) (g.S.SlotCalls.state c.release.new.self)) (sym p.2) c.in_err-release.ensures.ends))
 
 pub returns-clause-ends : goal.returns-clause-ends
 returns-clause-ends g c = settled-after (g.S.SlotCalls.state c.args.stock.now) (g.S.SlotCalls.state c.write.new.self) (g.S.SlotCalls.state c.release.new.self) c.in_ok-write.ensures.ends c.in_ok-release.ensures.ends

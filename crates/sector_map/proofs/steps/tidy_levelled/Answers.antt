@@ -6,10 +6,11 @@ use Rattle.sector_stock.specs.Takes.{work_of}
 use Rattle.sector_map.specs.Maps.{KeptServing, KeepsMap}
 use Rattle.sector_map.proofs.MapCalls.{kept-after, keeps-after, no-work}
 use Rattle.sector_map.proofs.Evening.{even-wider, tidied-less}
-use Rattle.nor_driver.specs.State.{Refuses}
+use Rattle.erase_journal.specs.Steps.{RefusesFirmly}
 use Rattle.nor_driver.proofs.CallLaws.{fails-as}
 use Rattle.erase_journal.specs.Steps.{SucceedsSettled}
-use Rattle.erase_journal.proofs.SettledLaws.{refuses-settled, settled-after}
+use Rattle.erase_journal.proofs.SettledLaws.{settled-after}
+use Rattle.erase_journal.proofs.Firmly.{refuses-firmly}
 use Rattle.sector_map.proofs.steps.tidy_levelled.Goals as goal
 
 pub returns-then-not-has_work-clause-none : goal.returns-then-not-has_work-clause-none
@@ -44,8 +45,8 @@ returns-in_err-tidy_once-clause-ends g c =
     let s1 = g.S.SlotCalls.state c.level_all.new.stock in
     let s2 = g.S.SlotCalls.state c.tidy_once.new.stock in
     let done = subst (λ z. SucceedsSettled z s1) c.has_work.ensures.state c.in_ok-level_all.ensures.ends in
-    fails-as c.from_residual-in_err-tidy_once.result _ (λ _. SucceedsSettled s0 s2) (λ e. Refuses e s0 s2) c.from_residual-in_err-tidy_once.ensures.1
-    (refuses-settled _ s0 s1 s2 done c.in_err-tidy_once.ensures.ends)
+    fails-as c.from_residual-in_err-tidy_once.result _ (λ _. SucceedsSettled s0 s2) (λ e. RefusesFirmly e s0 s2) c.from_residual-in_err-tidy_once.ensures.1
+    (refuses-firmly _ s0 s1 s2 done c.in_err-tidy_once.ensures.ends)
 
 pub returns-clause-ends : goal.returns-clause-ends
 returns-clause-ends g c =

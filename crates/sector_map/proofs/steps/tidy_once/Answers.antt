@@ -1,9 +1,9 @@
 use Rattle.std.proofs.Common.{◌∙◌}
 use Rattle.std.proofs.lemmas.Result.{err_from_is_err_and}
-use Rattle.nor_driver.specs.State.{Refuses}
+use Rattle.erase_journal.specs.Steps.{RefusesFirmly}
 use Rattle.nor_driver.proofs.CallLaws.{fails-as}
 use Rattle.erase_journal.specs.Steps.{SucceedsSettled}
-use Rattle.erase_journal.proofs.SettledLaws.{refuses-settled}
+use Rattle.erase_journal.proofs.Firmly.{refuses-firmly}
 use Rattle.sector_map.proofs.MapCalls.{served-room, stays-keeps, served-steps, served-tidies, same-moved-keeps, steps-target, stepped, perhaps-after, no-work}
 use Rattle.sector_map.proofs.steps.tidy_once.Goals as goal
 
@@ -48,8 +48,8 @@ returns-in_err-follow_copied-in-Some-clause-ends g c =
     let s0 = g.S.SlotCalls.state c.args.stock.now in
     let s1 = g.S.SlotCalls.state c.tidy.new.self in
     let s2 = g.S.SlotCalls.state c.follow_copied.new.slots in
-    fails-as c.from_residual-in_err-follow_copied-in-Some.result _ (λ _. SucceedsSettled s0 s2) (λ e. Refuses e s0 s2) c.from_residual-in_err-follow_copied-in-Some.ensures.1
-    (refuses-settled _ s0 s1 s2 c.in_ok-copied.ensures.ends c.in_err-follow_copied-in-Some.ensures.fails)
+    fails-as c.from_residual-in_err-follow_copied-in-Some.result _ (λ _. SucceedsSettled s0 s2) (λ e. RefusesFirmly e s0 s2) c.from_residual-in_err-follow_copied-in-Some.ensures.1
+    (refuses-firmly _ s0 s1 s2 c.in_ok-copied.ensures.ends c.in_err-follow_copied-in-Some.ensures.fails)
 
 pub returns-in_ok-follow_copied-in-Some-clause-ends : goal.returns-in_ok-follow_copied-in-Some-clause-ends
 returns-in_ok-follow_copied-in-Some-clause-ends g c =

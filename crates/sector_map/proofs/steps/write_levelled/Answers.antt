@@ -1,8 +1,9 @@
 use Rattle.std.proofs.Common.{inl, inr, sym, subst}
 use Rattle.std.proofs.lemmas.Result.{err_from_is_err_and}
-use Rattle.erase_journal.specs.Steps.{EndsSettled}
-use Rattle.nor_driver.specs.State.{Refuses}
-use Rattle.erase_journal.proofs.SettledLaws.{settled-after, refuses-settled}
+use Rattle.erase_journal.specs.Steps.{EndsFirmly}
+use Rattle.erase_journal.specs.Steps.{RefusesFirmly}
+use Rattle.erase_journal.proofs.SettledLaws.{settled-after}
+use Rattle.erase_journal.proofs.Firmly.{refuses-firmly}
 use Rattle.sector_stock.proofs.Copying.{stays-kept}
 use Rattle.sector_map.specs.Maps.{Wrote}
 use Rattle.sector_map.proofs.MapCalls.{served-room, stays-keeps, keeps-after, kept-after, wrote-after, leaves-after, after-ok, after-ends}
@@ -29,9 +30,9 @@ returns-in_err-firm_free-clause-cut g c is =
 pub returns-in_err-firm_free-clause-ends : goal.returns-in_err-firm_free-clause-ends
 returns-in_err-firm_free-clause-ends g c =
     let p = err_from_is_err_and c.from_residual-in_err-firm_free.result c.from_residual-in_err-firm_free.ensures.1 in
-    subst (λ z. EndsSettled z (g.S.SlotCalls.state c.args.stock.now) (g.S.SlotCalls.state c.firm_free.new.self)) (sym p.1)
-    (refuses-settled p.0 (g.S.SlotCalls.state c.args.stock.now) (g.S.SlotCalls.state c.make_way.new.stock) (g.S.SlotCalls.state c.firm_free.new.self) c.in_ok-make_way.ensures.ends
-    (subst (λ e. Refuses e (g.S.SlotCalls.state c.make_way.new.stock) (g.S.SlotCalls.state c.firm_free.new.self)) (sym p.2) c.in_err-firm_free.ensures.ends))
+    subst (λ z. EndsFirmly z (g.S.SlotCalls.state c.args.stock.now) (g.S.SlotCalls.state c.firm_free.new.self)) (sym p.1)
+    (refuses-firmly p.0 (g.S.SlotCalls.state c.args.stock.now) (g.S.SlotCalls.state c.make_way.new.stock) (g.S.SlotCalls.state c.firm_free.new.self) c.in_ok-make_way.ensures.ends
+    (subst (λ e. RefusesFirmly e (g.S.SlotCalls.state c.make_way.new.stock) (g.S.SlotCalls.state c.firm_free.new.self)) (sym p.2) c.in_err-firm_free.ensures.ends))
 
 pub write_ungrouped-requires-clause-served : goal.write_ungrouped-requires-clause-served
 write_ungrouped-requires-clause-served g c =

@@ -5,12 +5,13 @@ use Rattle.sector_slots.specs.Slots.{data_blocks}
 use Rattle.sector_stock.specs.declared.given.Copied.{Copied}
 use Rattle.sector_stock.specs.Takes.{Takes, was_free, was_copied}
 use Rattle.std.proofs.lemmas.Result.{err_from_is_err_and}
-use Rattle.nor_driver.specs.State.{Refuses}
-use Rattle.erase_journal.proofs.SettledLaws.{settled-healthy, settled-after, refuses-settled}
+use Rattle.erase_journal.specs.Steps.{RefusesFirmly}
+use Rattle.erase_journal.proofs.SettledLaws.{settled-healthy, settled-after}
+use Rattle.erase_journal.proofs.Firmly.{refuses-firmly}
 use Rattle.sector_map.proofs.Retiring.{succeeds-perhaps, refuses-perhaps}
 use Rattle.sector_map.proofs.Mounting.{perhaps-healthy}
 use Rattle.sector_map.proofs.MapCalls.{served-room, stays-keeps, served-moved, same-moved-keeps, at-slot, slot-held, slot-replaceable, held-number, write-cut, wrote}
-use Rattle.erase_journal.specs.Steps.{EndsSettled}
+use Rattle.erase_journal.specs.Steps.{EndsFirmly}
 use Rattle.sector_map.proofs.steps.write_ungrouped.Goals as goal
 
 -- the block into which one was copied is one of the data blocks
@@ -65,8 +66,8 @@ returns-in_err-held-clause-cut g c is =
 pub returns-in_err-held-clause-ends : goal.returns-in_err-held-clause-ends
 returns-in_err-held-clause-ends g c =
     let p = err_from_is_err_and c.from_residual-in_err-held.result c.from_residual-in_err-held.ensures.1 in
-    subst (λ z. EndsSettled z (g.S.SlotCalls.state c.args.stock.now) (g.S.SlotCalls.state c.rewrite.new.stock)) (sym p.1)
-    (refuses-settled p.0 (g.S.SlotCalls.state c.args.stock.now) (g.S.SlotCalls.state c.take_free.new.self) (g.S.SlotCalls.state c.rewrite.new.stock) c.in_ok-given.ensures.ends (refuses-perhaps p.0 (g.S.SlotCalls.state c.take_free.new.self) (g.S.SlotCalls.state c.follow_copied.new.slots) (g.S.SlotCalls.state c.rewrite.new.stock) c.in_ok-follow_copied.ensures.done (subst (λ e. Refuses e (g.S.SlotCalls.state c.follow_copied.new.slots) (g.S.SlotCalls.state c.rewrite.new.stock)) (sym p.2) c.in_err-held.ensures.ends)))
+    subst (λ z. EndsFirmly z (g.S.SlotCalls.state c.args.stock.now) (g.S.SlotCalls.state c.rewrite.new.stock)) (sym p.1)
+    (refuses-firmly p.0 (g.S.SlotCalls.state c.args.stock.now) (g.S.SlotCalls.state c.take_free.new.self) (g.S.SlotCalls.state c.rewrite.new.stock) c.in_ok-given.ensures.ends (refuses-perhaps p.0 (g.S.SlotCalls.state c.take_free.new.self) (g.S.SlotCalls.state c.follow_copied.new.slots) (g.S.SlotCalls.state c.rewrite.new.stock) c.in_ok-follow_copied.ensures.done (subst (λ e. RefusesFirmly e (g.S.SlotCalls.state c.follow_copied.new.slots) (g.S.SlotCalls.state c.rewrite.new.stock)) (sym p.2) c.in_err-held.ensures.ends)))
 
 pub returns-clause-ends : goal.returns-clause-ends
 returns-clause-ends g c = settled-after (g.S.SlotCalls.state c.args.stock.now) (g.S.SlotCalls.state c.take_free.new.self) (g.S.SlotCalls.state c.rewrite.new.stock) c.in_ok-given.ensures.ends (succeeds-perhaps (g.S.SlotCalls.state c.take_free.new.self) (g.S.SlotCalls.state c.follow_copied.new.slots) (g.S.SlotCalls.state c.rewrite.new.stock) c.in_ok-follow_copied.ensures.done c.in_ok-held.ensures.ends)
@@ -82,6 +83,6 @@ returns-clause-ok g c =
 pub returns-in_err-follow_copied-clause-ends : goal.returns-in_err-follow_copied-clause-ends
 returns-in_err-follow_copied-clause-ends g c =
     let p = err_from_is_err_and c.from_residual-in_err-follow_copied.result c.from_residual-in_err-follow_copied.ensures.1 in
-    subst (λ z. EndsSettled z (g.S.SlotCalls.state c.args.stock.now) (g.S.SlotCalls.state c.follow_copied.new.slots)) (sym p.1)
-    (refuses-settled p.0 (g.S.SlotCalls.state c.args.stock.now) (g.S.SlotCalls.state c.take_free.new.self) (g.S.SlotCalls.state c.follow_copied.new.slots) c.in_ok-given.ensures.ends
-    (subst (λ e. Refuses e (g.S.SlotCalls.state c.take_free.new.self) (g.S.SlotCalls.state c.follow_copied.new.slots)) (sym p.2) c.in_err-follow_copied.ensures.fails))
+    subst (λ z. EndsFirmly z (g.S.SlotCalls.state c.args.stock.now) (g.S.SlotCalls.state c.follow_copied.new.slots)) (sym p.1)
+    (refuses-firmly p.0 (g.S.SlotCalls.state c.args.stock.now) (g.S.SlotCalls.state c.take_free.new.self) (g.S.SlotCalls.state c.follow_copied.new.slots) c.in_ok-given.ensures.ends
+    (subst (λ e. RefusesFirmly e (g.S.SlotCalls.state c.take_free.new.self) (g.S.SlotCalls.state c.follow_copied.new.slots)) (sym p.2) c.in_err-follow_copied.ensures.fails))

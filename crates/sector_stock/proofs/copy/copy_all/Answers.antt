@@ -1,9 +1,10 @@
 use Rattle.std.proofs.lemmas.Result.{err_from_is_err_and}
 use Rattle.std.proofs.Common.{◌∙◌, ◌≡◌, subst, arith}
-use Rattle.nor_driver.specs.State.{Refuses}
+use Rattle.erase_journal.specs.Steps.{RefusesFirmly}
 use Rattle.nor_driver.proofs.CallLaws.{fails-as}
 use Rattle.erase_journal.specs.Steps.{SucceedsSettled}
-use Rattle.erase_journal.proofs.SettledLaws.{refuses-settled, settled-after}
+use Rattle.erase_journal.proofs.SettledLaws.{settled-after}
+use Rattle.erase_journal.proofs.Firmly.{refuses-firmly}
 use Rattle.sector_stock.specs.CopySteps.{CopyProgress}
 use Rattle.sector_stock.proofs.Copying.{begin-cut, begin-keeps, begin-progress, copy-cut, copy-keeps, copy-progress}
 use Rattle.sector_stock.proofs.copy.copy_all.Goals as goal
@@ -59,5 +60,5 @@ returns-in_err-copy-clause-ends g c =
     let s0 = g.S.SlotCalls.state c.args.slots.now in
     let s1 = g.S.SlotCalls.state c.loop-place.slots in
     let s2 = g.S.SlotCalls.state c.copy.new.self in
-    fails-as c.from_residual-in_err-copy.result _ (λ _. SucceedsSettled s0 s2) (λ e. Refuses e s0 s2) c.from_residual-in_err-copy.ensures.1
-    (refuses-settled _ s0 s1 s2 c.loop-place.invariant.since c.in_err-copy.ensures.ends)
+    fails-as c.from_residual-in_err-copy.result _ (λ _. SucceedsSettled s0 s2) (λ e. RefusesFirmly e s0 s2) c.from_residual-in_err-copy.ensures.1
+    (refuses-firmly _ s0 s1 s2 c.loop-place.invariant.since c.in_err-copy.ensures.ends)

@@ -1,10 +1,12 @@
 use Rattle.std.proofs.Common.{◌+◌}
 use Rattle.std.proofs.lemmas.Result.{err_from_is_err_and}
-use Rattle.nor_driver.specs.State.{Refuses}
+use Rattle.erase_journal.specs.Steps.{RefusesFirmly}
 use Rattle.nor_driver.proofs.CallLaws.{fails-as}
 use Rattle.erase_journal.specs.Steps.{SucceedsSettled}
-use Rattle.erase_journal.proofs.SettledLaws.{refuses-settled, settled-after}
+use Rattle.erase_journal.proofs.SettledLaws.{settled-after}
+use Rattle.erase_journal.proofs.Firmly.{refuses-firmly}
 use Rattle.sector_stock.proofs.Copying.{source-erasable, committed-found, erase-cut, erase-done, settle-cut, committed-ends, ended-whole}
+use Rattle.erase_journal.proofs.SettledLaws.{settled-healthy}
 use Rattle.sector_stock.proofs.copy.end_committed.Goals as goal
 
 pub returns-in_err-erase-clause-cut : goal.returns-in_err-erase-clause-cut
@@ -45,8 +47,8 @@ returns-in_err-settle-clause-ends g c =
     let s0 = g.S.SlotCalls.state c.args.slots.now in
     let s1 = g.S.SlotCalls.state c.erase.new.self in
     let s2 = g.S.SlotCalls.state c.settle.new.self in
-    fails-as c.from_residual-in_err-settle.result _ (λ _. SucceedsSettled s0 s2) (λ e. Refuses e s0 s2) c.from_residual-in_err-settle.ensures.1
-    (refuses-settled _ s0 s1 s2 c.in_ok-erase.ensures.ends c.in_err-settle.ensures.ends)
+    fails-as c.from_residual-in_err-settle.result _ (λ _. SucceedsSettled s0 s2) (λ e. RefusesFirmly e s0 s2) c.from_residual-in_err-settle.ensures.1
+    (refuses-firmly _ s0 s1 s2 c.in_ok-erase.ensures.ends c.in_err-settle.ensures.ends)
 
 pub returns-clause-ends : goal.returns-clause-ends
 returns-clause-ends g c =
@@ -54,3 +56,8 @@ returns-clause-ends g c =
     let s1 = g.S.SlotCalls.state c.erase.new.self in
     let s2 = g.S.SlotCalls.state c.settle.new.self in
     settled-after s0 s1 s2 c.in_ok-erase.ensures.ends c.in_ok-settle.ensures.ends
+
+pub returns-in_err-settle-clause-healthy : goal.returns-in_err-settle-clause-healthy
+returns-in_err-settle-clause-healthy g c is healthy =
+    let p = err_from_is_err_and c.from_residual-in_err-settle.result c.from_residual-in_err-settle.ensures.1 in
+    c.in_err-settle.ensures.healthy (cc (p.1, p.2)) (settled-healthy (g.S.SlotCalls.state c.erase.new.self).memory c.in_ok-erase.ensures.ends.settled)

@@ -1,8 +1,9 @@
 use Rattle.std.proofs.lemmas.Result.{err_from_is_err_and}
-use Rattle.nor_driver.specs.State.{Refuses}
+use Rattle.erase_journal.specs.Steps.{RefusesFirmly}
 use Rattle.nor_driver.proofs.CallLaws.{fails-as}
 use Rattle.erase_journal.specs.Steps.{SucceedsSettled}
-use Rattle.erase_journal.proofs.SettledLaws.{settled-healthy, refuses-settled, settled-after}
+use Rattle.erase_journal.proofs.SettledLaws.{settled-healthy, settled-after}
+use Rattle.erase_journal.proofs.Firmly.{refuses-firmly}
 use Rattle.sector_stock.proofs.Copying.{commit-cut, commit-done, finish-cut, finish-done}
 use Rattle.sector_stock.proofs.copy.finish.Goals as goal
 
@@ -38,8 +39,8 @@ returns-in_err-end_committed-clause-ends g c =
     let s0 = g.S.SlotCalls.state c.args.slots.now in
     let s1 = g.S.SlotCalls.state c.commit.new.self in
     let s2 = g.S.SlotCalls.state c.end_committed.new.slots in
-    fails-as c.from_residual-in_err-end_committed.result _ (λ _. SucceedsSettled s0 s2) (λ e. Refuses e s0 s2) c.from_residual-in_err-end_committed.ensures.1
-    (refuses-settled _ s0 s1 s2 c.in_ok-commit.ensures.ends c.in_err-end_committed.ensures.ends)
+    fails-as c.from_residual-in_err-end_committed.result _ (λ _. SucceedsSettled s0 s2) (λ e. RefusesFirmly e s0 s2) c.from_residual-in_err-end_committed.ensures.1
+    (refuses-firmly _ s0 s1 s2 c.in_ok-commit.ensures.ends c.in_err-end_committed.ensures.ends)
 
 pub returns-clause-ends : goal.returns-clause-ends
 returns-clause-ends g c =

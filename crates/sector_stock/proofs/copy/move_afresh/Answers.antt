@@ -1,8 +1,9 @@
 use Rattle.std.proofs.lemmas.Result.{err_from_is_err_and}
-use Rattle.nor_driver.specs.State.{Refuses}
+use Rattle.erase_journal.specs.Steps.{RefusesFirmly}
 use Rattle.nor_driver.proofs.CallLaws.{fails-as}
 use Rattle.erase_journal.specs.Steps.{SucceedsSettled}
-use Rattle.erase_journal.proofs.SettledLaws.{settled-healthy, settled-after, refuses-settled}
+use Rattle.erase_journal.proofs.SettledLaws.{settled-healthy, settled-after}
+use Rattle.erase_journal.proofs.Firmly.{refuses-firmly}
 use Rattle.sector_stock.proofs.Renewing.{spare-erasable, spare-cut_keeps, spare-copyable, moves-afresh, afresh-cut}
 use Rattle.sector_stock.proofs.copy.move_afresh.Goals as goal
 
@@ -45,5 +46,5 @@ returns-in_err-reclaim_into-clause-ends g c =
     let s0 = g.S.SlotCalls.state c.args.slots.now in
     let s1 = g.S.SlotCalls.state c.erase.new.self in
     let s2 = g.S.SlotCalls.state c.reclaim_into.new.slots in
-    fails-as c.from_residual-in_err-reclaim_into.result _ (λ _. SucceedsSettled s0 s2) (λ e. Refuses e s0 s2) c.from_residual-in_err-reclaim_into.ensures.1
-    (refuses-settled _ s0 s1 s2 c.in_ok-erase.ensures.ends c.in_err-reclaim_into.ensures.ends)
+    fails-as c.from_residual-in_err-reclaim_into.result _ (λ _. SucceedsSettled s0 s2) (λ e. RefusesFirmly e s0 s2) c.from_residual-in_err-reclaim_into.ensures.1
+    (refuses-firmly _ s0 s1 s2 c.in_ok-erase.ensures.ends c.in_err-reclaim_into.ensures.ends)

@@ -1,8 +1,9 @@
 use Rattle.std.proofs.lemmas.Result.{err_from_is_err_and}
-use Rattle.nor_driver.specs.State.{Refuses}
+use Rattle.erase_journal.specs.Steps.{RefusesFirmly}
 use Rattle.nor_driver.proofs.CallLaws.{fails-as}
 use Rattle.erase_journal.specs.Steps.{SucceedsSettled}
-use Rattle.erase_journal.proofs.SettledLaws.{settled-healthy, refuses-settled, settled-after}
+use Rattle.erase_journal.proofs.SettledLaws.{settled-healthy, settled-after}
+use Rattle.erase_journal.proofs.Firmly.{refuses-firmly}
 use Rattle.sector_stock.proofs.Copying.{reclaim-done, reclaim-cut, reclaim-cut_fresh}
 use Rattle.sector_stock.proofs.copy.reclaim_into.Goals as goal
 
@@ -35,8 +36,8 @@ returns-in_err-finish-clause-ends g c =
     let s0 = g.S.SlotCalls.state c.args.slots.now in
     let s1 = g.S.SlotCalls.state c.copy_all.new.slots in
     let s2 = g.S.SlotCalls.state c.finish.new.slots in
-    fails-as c.from_residual-in_err-finish.result _ (λ _. SucceedsSettled s0 s2) (λ e. Refuses e s0 s2) c.from_residual-in_err-finish.ensures.1
-    (refuses-settled _ s0 s1 s2 c.in_ok-copy_all.ensures.ends c.in_err-finish.ensures.ends)
+    fails-as c.from_residual-in_err-finish.result _ (λ _. SucceedsSettled s0 s2) (λ e. RefusesFirmly e s0 s2) c.from_residual-in_err-finish.ensures.1
+    (refuses-firmly _ s0 s1 s2 c.in_ok-copy_all.ensures.ends c.in_err-finish.ensures.ends)
 
 pub returns-clause-ends : goal.returns-clause-ends
 returns-clause-ends g c =

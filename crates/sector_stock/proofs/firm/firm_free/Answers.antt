@@ -1,9 +1,10 @@
 use Rattle.std.proofs.Common.{◌/◌, refl, ◌∙◌, arith}
 use Rattle.std.proofs.lemmas.Result.{err_from_is_err_and}
-use Rattle.nor_driver.specs.State.{Refuses}
+use Rattle.erase_journal.specs.Steps.{RefusesFirmly}
 use Rattle.nor_driver.proofs.CallLaws.{fails-as, kept-none}
 use Rattle.erase_journal.specs.Steps.{SucceedsSettled}
-use Rattle.erase_journal.proofs.SettledLaws.{settled-healthy, refuses-settled, settled-after}
+use Rattle.erase_journal.proofs.SettledLaws.{settled-healthy, settled-after}
+use Rattle.erase_journal.proofs.Firmly.{refuses-firmly}
 use Rattle.sector_stock.proofs.Copying.{after-keeps}
 use Rattle.sector_stock.proofs.Moved.{index-dead}
 use Rattle.sector_stock.proofs.Firming.{firm-none, firm-after, firm-room, trusts-none, trusts-after, none-suspect, suspects-fewer}
@@ -92,5 +93,5 @@ returns-in_err-firm_one-clause-ends g c =
     let s0 = g.S.SlotCalls.state c.args.slots.now in
     let s1 = g.S.SlotCalls.state c.loop-slot.slots in
     let s2 = g.S.SlotCalls.state c.firm_one.new.slots in
-    fails-as c.from_residual.result _ (λ _. SucceedsSettled s0 s2) (λ e. Refuses e s0 s2) c.from_residual.ensures.1
-    (refuses-settled _ s0 s1 s2 c.loop-slot.invariant.since c.in_err-firm_one.ensures.ends)
+    fails-as c.from_residual.result _ (λ _. SucceedsSettled s0 s2) (λ e. RefusesFirmly e s0 s2) c.from_residual.ensures.1
+    (refuses-firmly _ s0 s1 s2 c.loop-slot.invariant.since c.in_err-firm_one.ensures.ends)

@@ -1,10 +1,11 @@
 use Rattle.std.proofs.Common.{◌∙◌, ap, sym, subst, arith}
 use Rattle.sector_stock.specs.Index.{IsIndexOf}
 use Rattle.sector_slots.specs.Slots.{data_blocks, descriptor_in, data_block, kind_at}
-use Rattle.nor_driver.specs.State.{Refuses}
+use Rattle.erase_journal.specs.Steps.{RefusesFirmly}
 use Rattle.nor_driver.proofs.CallLaws.{fails-as}
 use Rattle.erase_journal.specs.Steps.{SucceedsSettled}
-use Rattle.erase_journal.proofs.SettledLaws.{refuses-settled, settled-after}
+use Rattle.erase_journal.proofs.SettledLaws.{settled-after}
+use Rattle.erase_journal.proofs.Firmly.{refuses-firmly}
 use Rattle.sector_stock.proofs.Filling.{noted-next, listed-noted, numbers-listed, spare-listed, even-noted, index-filled}
 use Rattle.sector_stock.proofs.scan.fill_index.Goals as goal
 
@@ -70,5 +71,5 @@ returns-in_err-kind-2-clause-ends g c =
     let s0 = g.S.SlotCalls.state c.args.slots.now in
     let s1 = g.S.SlotCalls.state c.loop-block.slots in
     let s2 = g.S.SlotCalls.state c.head.new.self in
-    fails-as c.from_residual-in_err-kind-2.result _ (λ _. SucceedsSettled s0 s2) (λ e. Refuses e s0 s2) c.from_residual-in_err-kind-2.ensures.1
-    (refuses-settled _ s0 s1 s2 c.loop-block.invariant.since c.in_err-kind-2.ensures.ends)
+    fails-as c.from_residual-in_err-kind-2.result _ (λ _. SucceedsSettled s0 s2) (λ e. RefusesFirmly e s0 s2) c.from_residual-in_err-kind-2.ensures.1
+    (refuses-firmly _ s0 s1 s2 c.loop-block.invariant.since c.in_err-kind-2.ensures.ends)

@@ -1,8 +1,9 @@
 use Rattle.std.proofs.Common.{◌≡◌, ◌∙◌, ℕ, false, subst, arith}
-use Rattle.nor_driver.specs.State.{Refuses}
+use Rattle.erase_journal.specs.Steps.{RefusesFirmly}
 use Rattle.nor_driver.proofs.CallLaws.{fails-as}
 use Rattle.erase_journal.specs.Steps.{SucceedsSettled}
-use Rattle.erase_journal.proofs.SettledLaws.{settled-after, refuses-settled}
+use Rattle.erase_journal.proofs.SettledLaws.{settled-after}
+use Rattle.erase_journal.proofs.Firmly.{refuses-firmly}
 use Rattle.sector_slots.specs.Slots.{slot_at, slot_count}
 use Rattle.sector_slots.specs.Sectors.{HasSlotsAlone}
 use Rattle.sector_map.specs.Found.{FoundIn, RoomSeen}
@@ -52,8 +53,8 @@ returns-in_err-found-clause-ends g c =
     let s0 = g.S.SlotCalls.state c.args.slots.now in
     let s1 = g.S.SlotCalls.state c.has_groups.new.slots in
     let s2 = g.S.SlotCalls.state c.read_kinds.new.slots in
-    fails-as c.from_residual-in_err-found.result _ (λ _. SucceedsSettled s0 s2) (λ e. Refuses e s0 s2) c.from_residual-in_err-found.ensures.1
-    (refuses-settled _ s0 s1 s2 c.in_ok-groups.ensures.ends c.in_err-found.ensures.ends)
+    fails-as c.from_residual-in_err-found.result _ (λ _. SucceedsSettled s0 s2) (λ e. RefusesFirmly e s0 s2) c.from_residual-in_err-found.ensures.1
+    (refuses-firmly _ s0 s1 s2 c.in_ok-groups.ensures.ends c.in_err-found.ensures.ends)
 
 pub returns-in-Err-clause-ends : goal.returns-in-Err-clause-ends
 returns-in-Err-clause-ends g c =
@@ -68,8 +69,8 @@ returns-in_err-fault-clause-ends g c =
     let s1 = g.S.SlotCalls.state c.has_groups.new.slots in
     let s2 = g.S.SlotCalls.state c.read_kinds.new.slots in
     let s3 = g.S.SlotCalls.state c.read_slots.new.slots in
-    fails-as c.from_residual-in_err-fault.result _ (λ _. SucceedsSettled s0 s3) (λ e. Refuses e s0 s3) c.from_residual-in_err-fault.ensures.1
-    (refuses-settled _ s0 s2 s3 (settled-after s0 s1 s2 c.in_ok-groups.ensures.ends c.in_ok-found.ensures.ends) c.in_err-fault.ensures.ends)
+    fails-as c.from_residual-in_err-fault.result _ (λ _. SucceedsSettled s0 s3) (λ e. RefusesFirmly e s0 s3) c.from_residual-in_err-fault.ensures.1
+    (refuses-firmly _ s0 s2 s3 (settled-after s0 s1 s2 c.in_ok-groups.ensures.ends c.in_ok-found.ensures.ends) c.in_err-fault.ensures.ends)
 
 pub returns-in-Some-clause-ends : goal.returns-in-Some-clause-ends
 returns-in-Some-clause-ends g c =
@@ -86,8 +87,8 @@ returns-in_err-fault-2-clause-ends g c =
     let s2 = g.S.SlotCalls.state c.read_kinds.new.slots in
     let s3 = g.S.SlotCalls.state c.read_slots.new.slots in
     let s4 = g.S.SlotCalls.state c.find_mixed.new.slots in
-    fails-as c.from_residual-in_err-fault-2.result _ (λ _. SucceedsSettled s0 s4) (λ e. Refuses e s0 s4) c.from_residual-in_err-fault-2.ensures.1
-    (refuses-settled _ s0 s3 s4 (settled-after s0 s2 s3 (settled-after s0 s1 s2 c.in_ok-groups.ensures.ends c.in_ok-found.ensures.ends) c.in_ok-fault.ensures.ends) c.in_err-fault-2.ensures.fails)
+    fails-as c.from_residual-in_err-fault-2.result _ (λ _. SucceedsSettled s0 s4) (λ e. RefusesFirmly e s0 s4) c.from_residual-in_err-fault-2.ensures.1
+    (refuses-firmly _ s0 s3 s4 (settled-after s0 s2 s3 (settled-after s0 s1 s2 c.in_ok-groups.ensures.ends c.in_ok-found.ensures.ends) c.in_ok-fault.ensures.ends) c.in_err-fault-2.ensures.fails)
 
 pub returns-in-Some-2-clause-ends : goal.returns-in-Some-2-clause-ends
 returns-in-Some-2-clause-ends g c =
@@ -106,8 +107,8 @@ returns-in_err-lacks_room-clause-ends g c =
     let s3 = g.S.SlotCalls.state c.read_slots.new.slots in
     let s4 = g.S.SlotCalls.state c.find_mixed.new.slots in
     let s5 = g.S.SlotCalls.state c.lacks_room.new.slots in
-    fails-as c.from_residual-in_err-lacks_room.result _ (λ _. SucceedsSettled s0 s5) (λ e. Refuses e s0 s5) c.from_residual-in_err-lacks_room.ensures.1
-    (refuses-settled _ s0 s4 s5 (perhaps-after s0 s3 s4 (settled-after s0 s2 s3 (settled-after s0 s1 s2 c.in_ok-groups.ensures.ends c.in_ok-found.ensures.ends) c.in_ok-fault.ensures.ends) c.in_ok-fault-2.ensures.done) c.in_err-lacks_room.ensures.fails)
+    fails-as c.from_residual-in_err-lacks_room.result _ (λ _. SucceedsSettled s0 s5) (λ e. RefusesFirmly e s0 s5) c.from_residual-in_err-lacks_room.ensures.1
+    (refuses-firmly _ s0 s4 s5 (perhaps-after s0 s3 s4 (settled-after s0 s2 s3 (settled-after s0 s1 s2 c.in_ok-groups.ensures.ends c.in_ok-found.ensures.ends) c.in_ok-fault.ensures.ends) c.in_ok-fault-2.ensures.done) c.in_err-lacks_room.ensures.fails)
 
 pub returns-then-branch-clause-ends : goal.returns-then-branch-clause-ends
 returns-then-branch-clause-ends g c =

@@ -1,8 +1,8 @@
 use Rattle.std.proofs.Common.{◌≡◌, ◌∙◌, ◌+◌, ◌<◌, ap, subst, sym, arith, length}
-use Rattle.nor_driver.specs.State.{Refuses}
+use Rattle.erase_journal.specs.Steps.{RefusesFirmly}
 use Rattle.nor_driver.proofs.CallLaws.{fails-as}
 use Rattle.erase_journal.specs.Steps.{SucceedsSettled}
-use Rattle.erase_journal.proofs.SettledLaws.{refuses-settled}
+use Rattle.erase_journal.proofs.Firmly.{refuses-firmly}
 use Rattle.erase_journal.proofs.Calls.{Repeated, repeated-more, repeated-then}
 use Rattle.sector_slots.specs.Slots.{data_blocks}
 use Rattle.sector_survey.specs.Cleanness.{FreeBlockTells}
@@ -35,5 +35,5 @@ returns-in_err-erase-clause-ends g c =
     let s1 = c.loop-block.journal in
     let s2 = c.dirty_byte.new.journal in
     let s3 = c.erase.new.self in
-    fails-as c.from_residual-in_err-erase.result _ (λ _. SucceedsSettled s0 s3) (λ e. Refuses e s0 s3) c.from_residual-in_err-erase.ensures.1
-    (refuses-settled _ s0 s2 s3 (repeated-then c.loop-block.block s0 s1 s2 c.loop-block.invariant.since c.in_ok-dirty_byte.ensures.ends) c.in_err-erase.ensures.ends)
+    fails-as c.from_residual-in_err-erase.result _ (λ _. SucceedsSettled s0 s3) (λ e. RefusesFirmly e s0 s3) c.from_residual-in_err-erase.ensures.1
+    (refuses-firmly _ s0 s2 s3 (repeated-then c.loop-block.block s0 s1 s2 c.loop-block.invariant.since c.in_ok-dirty_byte.ensures.ends) c.in_err-erase.ensures.ends)

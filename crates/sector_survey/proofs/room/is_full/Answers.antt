@@ -1,9 +1,10 @@
 use Rattle.std.proofs.Common.{◌∙◌, true, false, sym, ap, subst}
 use Rattle.std.specs.Prelude.{Some}
-use Rattle.nor_driver.specs.State.{Refuses}
+use Rattle.erase_journal.specs.Steps.{RefusesFirmly}
 use Rattle.nor_driver.proofs.CallLaws.{fails-as}
 use Rattle.erase_journal.specs.Steps.{SucceedsSettled}
-use Rattle.erase_journal.proofs.SettledLaws.{settled-after, refuses-settled}
+use Rattle.erase_journal.proofs.SettledLaws.{settled-after}
+use Rattle.erase_journal.proofs.Firmly.{refuses-firmly}
 use Rattle.sector_slots.specs.Slots.{data_blocks, kind_at}
 use Rattle.sector_slots.specs.Blocks.{HasGroupRoom, dead_group}
 use Rattle.sector_map.specs.Mending.{IsMixedPair, PairsSeen, HasDeadGroup}
@@ -48,8 +49,8 @@ returns-in_err-has_pair-clause-ends g c =
     let s0 = g.S.SlotCalls.state c.args.slots.now in
     let s1 = g.S.SlotCalls.state c.has_spare.new.slots in
     let s2 = g.S.SlotCalls.state c.has_pair.new.slots in
-    fails-as c.from_residual-in_err-has_pair.result _ (λ _. SucceedsSettled s0 s2) (λ e. Refuses e s0 s2) c.from_residual-in_err-has_pair.ensures.1
-    (refuses-settled _ s0 s1 s2 c.in_ok-has_spare.ensures.ends c.in_err-has_pair.ensures.fails)
+    fails-as c.from_residual-in_err-has_pair.result _ (λ _. SucceedsSettled s0 s2) (λ e. RefusesFirmly e s0 s2) c.from_residual-in_err-has_pair.ensures.1
+    (refuses-firmly _ s0 s1 s2 c.in_ok-has_spare.ensures.ends c.in_err-has_pair.ensures.fails)
 
 pub returns-in-Some-true-clause-ends : goal.returns-in-Some-true-clause-ends
 returns-in-Some-true-clause-ends g c =
@@ -64,8 +65,8 @@ returns-in_err-lowest_dead_group-clause-ends g c =
     let s1 = g.S.SlotCalls.state c.has_spare.new.slots in
     let s2 = g.S.SlotCalls.state c.has_pair.new.slots in
     let s3 = g.S.SlotCalls.state c.lowest_dead_group.new.slots in
-    fails-as c.from_residual-in_err-lowest_dead_group.result _ (λ _. SucceedsSettled s0 s3) (λ e. Refuses e s0 s3) c.from_residual-in_err-lowest_dead_group.ensures.1
-    (refuses-settled _ s0 s2 s3 (perhaps-after s0 s1 s2 c.in_ok-has_spare.ensures.ends c.in_ok-has_pair.ensures.done) c.in_err-lowest_dead_group.ensures.ends)
+    fails-as c.from_residual-in_err-lowest_dead_group.result _ (λ _. SucceedsSettled s0 s3) (λ e. RefusesFirmly e s0 s3) c.from_residual-in_err-lowest_dead_group.ensures.1
+    (refuses-firmly _ s0 s2 s3 (perhaps-after s0 s1 s2 c.in_ok-has_spare.ensures.ends c.in_ok-has_pair.ensures.done) c.in_err-lowest_dead_group.ensures.ends)
 
 pub returns-in-Some-clause-ends : goal.returns-in-Some-clause-ends
 returns-in-Some-clause-ends g c =

@@ -1,21 +1,22 @@
 use Rattle.std.proofs.Common.{◌∙◌, ap, subst, arith, Err}
-use Rattle.nor_driver.specs.State.{Refuses}
+use Rattle.erase_journal.specs.Steps.{RefusesFirmly}
 use Rattle.nor_driver.proofs.CallLaws.{refuses-cuts, refuses-slows}
 use Rattle.flash_disk.proofs.Sectors.{same-size, contents-keeps}
+use Rattle.erase_journal.proofs.Firmly.{refuses-plainly}
 use Rattle.flash_disk.proofs.disk.FlashDisk.settle_step.Goals as goal
 
 pub returns-in-Ok-clause-goes : goal.returns-in-Ok-clause-goes
 returns-in-Ok-clause-goes g c = record { size = same-size c.args.self.now.map.memory c.renew_part.new.map.memory c.renew_part.ensures.size; cuts = omega (arith, c.in-Ok.ensures.ends.kept.cuts); slows = omega (arith, c.in-Ok.ensures.ends.kept.slows) }
 
 pub returns-in-Err-Cut-clause-goes : goal.returns-in-Err-Cut-clause-goes
-returns-in-Err-Cut-clause-goes g c = record { size = same-size c.args.self.now.map.memory c.renew_part.new.map.memory c.renew_part.ensures.size; cuts = refuses-cuts _ c.args.self.now.map c.renew_part.new.map c.in-Err-Cut.ensures.ends; slows = refuses-slows _ c.args.self.now.map c.renew_part.new.map c.in-Err-Cut.ensures.ends }
+returns-in-Err-Cut-clause-goes g c = record { size = same-size c.args.self.now.map.memory c.renew_part.new.map.memory c.renew_part.ensures.size; cuts = refuses-cuts _ c.args.self.now.map c.renew_part.new.map (refuses-plainly _ c.args.self.now.map c.renew_part.new.map c.in-Err-Cut.ensures.ends); slows = refuses-slows _ c.args.self.now.map c.renew_part.new.map (refuses-plainly _ c.args.self.now.map c.renew_part.new.map c.in-Err-Cut.ensures.ends) }
 
 pub returns-in-Err-Slow-clause-goes : goal.returns-in-Err-Slow-clause-goes
-returns-in-Err-Slow-clause-goes g c = record { size = same-size c.args.self.now.map.memory c.renew_part.new.map.memory c.renew_part.ensures.size; cuts = refuses-cuts _ c.args.self.now.map c.renew_part.new.map c.in-Err-Slow.ensures.ends; slows = refuses-slows _ c.args.self.now.map c.renew_part.new.map c.in-Err-Slow.ensures.ends }
+returns-in-Err-Slow-clause-goes g c = record { size = same-size c.args.self.now.map.memory c.renew_part.new.map.memory c.renew_part.ensures.size; cuts = refuses-cuts _ c.args.self.now.map c.renew_part.new.map (refuses-plainly _ c.args.self.now.map c.renew_part.new.map c.in-Err-Slow.ensures.ends); slows = refuses-slows _ c.args.self.now.map c.renew_part.new.map (refuses-plainly _ c.args.self.now.map c.renew_part.new.map c.in-Err-Slow.ensures.ends) }
 
 pub returns-in-Ok-clause-contents : goal.returns-in-Ok-clause-contents
 returns-in-Ok-clause-contents g c sound = contents-keeps c.args.self.now.map.memory c.renew_part.new.map.memory c.in-Ok.ensures.ok (c.args.self.now.clean sound c.in-Ok.ensures.ends.ready.1)
 
 pub returns-in-Err-Cut-clause-contents : goal.returns-in-Err-Cut-clause-contents
 returns-in-Err-Cut-clause-contents g c sound = contents-keeps c.args.self.now.map.memory c.renew_part.new.map.memory (c.renew_part.ensures.cut (c.in-Err-Cut.is ∙ ap Err c.in-Err-Cut.field-0-is))
-    (c.args.self.now.clean sound (subst (λ e. Refuses e c.args.self.now.map c.renew_part.new.map) c.in-Err-Cut.field-0-is c.in-Err-Cut.ensures.ends).first.0)
+    (c.args.self.now.clean sound (subst (λ e. RefusesFirmly e c.args.self.now.map c.renew_part.new.map) c.in-Err-Cut.field-0-is c.in-Err-Cut.ensures.ends).first.0)

@@ -1,13 +1,14 @@
 use Rattle.std.proofs.Common.{arith}
 use Rattle.nor_driver.proofs.CallLaws.{refuses-cuts, refuses-slows}
 use Rattle.flash_disk.proofs.Sectors.{same-size}
+use Rattle.erase_journal.proofs.Firmly.{refuses-plainly}
 use Rattle.flash_disk.proofs.disk.FlashDiskDisk.zero.Goals as goal
 
 pub returns-in-Ok-clause-goes : goal.returns-in-Ok-clause-goes
 returns-in-Ok-clause-goes g c = record { size = same-size c.args.self.now.map.memory c.zero_sectors.new.map.memory c.zero_sectors.ensures.size; cuts = omega (arith, c.in-Ok.ensures.kept.cuts); slows = omega (arith, c.in-Ok.ensures.kept.slows) }
 
 pub returns-in-Err-Cut-clause-goes : goal.returns-in-Err-Cut-clause-goes
-returns-in-Err-Cut-clause-goes g c = record { size = same-size c.args.self.now.map.memory c.zero_sectors.new.map.memory c.zero_sectors.ensures.size; cuts = refuses-cuts _ c.args.self.now.map c.zero_sectors.new.map c.in-Err-Cut.ensures.fails; slows = refuses-slows _ c.args.self.now.map c.zero_sectors.new.map c.in-Err-Cut.ensures.fails }
+returns-in-Err-Cut-clause-goes g c = record { size = same-size c.args.self.now.map.memory c.zero_sectors.new.map.memory c.zero_sectors.ensures.size; cuts = refuses-cuts _ c.args.self.now.map c.zero_sectors.new.map (refuses-plainly _ c.args.self.now.map c.zero_sectors.new.map c.in-Err-Cut.ensures.fails); slows = refuses-slows _ c.args.self.now.map c.zero_sectors.new.map (refuses-plainly _ c.args.self.now.map c.zero_sectors.new.map c.in-Err-Cut.ensures.fails) }
 
 pub returns-in-Err-Slow-clause-goes : goal.returns-in-Err-Slow-clause-goes
-returns-in-Err-Slow-clause-goes g c = record { size = same-size c.args.self.now.map.memory c.zero_sectors.new.map.memory c.zero_sectors.ensures.size; cuts = refuses-cuts _ c.args.self.now.map c.zero_sectors.new.map c.in-Err-Slow.ensures.fails; slows = refuses-slows _ c.args.self.now.map c.zero_sectors.new.map c.in-Err-Slow.ensures.fails }
+returns-in-Err-Slow-clause-goes g c = record { size = same-size c.args.self.now.map.memory c.zero_sectors.new.map.memory c.zero_sectors.ensures.size; cuts = refuses-cuts _ c.args.self.now.map c.zero_sectors.new.map (refuses-plainly _ c.args.self.now.map c.zero_sectors.new.map c.in-Err-Slow.ensures.fails); slows = refuses-slows _ c.args.self.now.map c.zero_sectors.new.map (refuses-plainly _ c.args.self.now.map c.zero_sectors.new.map c.in-Err-Slow.ensures.fails) }

@@ -2,6 +2,7 @@ use Rattle.std.proofs.Common.{◌∙◌, ap, sym, length}
 use Rattle.chip_model.specs.Geometry.{sector_count}
 use Rattle.sector_map.proofs.Retiring.{single-tabled}
 use Rattle.sector_map.proofs.Restoring.{served-none, held-in, known-keeps, known-same, known-latched, latched-refuses}
+use Rattle.sector_map.proofs.Restoring.{shown-refuses}
 use Rattle.sector_map.proofs.map.SectorMap.find.Goals as goal
 
 pub returns-in-Ok-clause-ok : goal.returns-in-Ok-clause-ok
@@ -24,3 +25,6 @@ invariant_of-self-in-Err g c = record {
 
 pub returns-in-Some-clause-ends : goal.returns-in-Some-clause-ends
 returns-in-Some-clause-ends g c = rw (← c.self.view_is) (latched-refuses c.self.inside.latched c.in-Some.error c.self.inside.table.items c.self.inside.stock.slots c.self.inside.stock.indexed c.in-Some.is c.self.invariant.standing)
+
+pub returns-in-Err-clause-ends : goal.returns-in-Err-clause-ends
+returns-in-Err-clause-ends g c = rw (← c.self.view_is) (shown-refuses c.self.inside.latched c.in-Err.error c.self.inside.table.items c.self.inside.stock.slots c.find_sector.new.stock.slots c.self.inside.stock.indexed c.in_default.is c.self.invariant.standing c.in-Err.ensures.ends)

@@ -1,5 +1,7 @@
-use Rattle.std.proofs.Common.{rules, subst}
-use Rattle.nor_driver.specs.State.{NorFails}
+use Rattle.std.proofs.Common.{◌≡◌, List, ℕ, false, rules, sym, subst}
+use Rattle.nor_driver.specs.State.{bits_in, NorFails}
+use Rattle.erase_journal.proofs.Interrupted.{interrupted-same}
+use Rattle.sector_map.specs.Marking.{is_unmarked}
 use Rattle.sector_map.proofs.Opening.{looked-fails, look-was-cut, looked-mounted}
 use Rattle.sector_map.proofs.map.SectorMap.mount_as.Goals as goal
 
@@ -20,3 +22,9 @@ returns-in-Err-Cut-clause-fails g c =
 pub returns-in-Ok-Ok-clause-ok : goal.returns-in-Ok-Ok-clause-ok
 returns-in-Ok-Ok-clause-ok g c =
     looked-mounted (λ map. map) c.recover.result (g.N.Nor.state c.args.nor) (g.N.Nor.state c.look.new.nor) c.in-Ok-Ok.ensures.same c.in-Ok-Ok.ensures.ready c.in-Ok-Ok.ensures.kept c.recover.ensures.ok
+
+pub returns-in-Ok-Ok-clause-journals : goal.returns-in-Ok-Ok-clause-journals
+returns-in-Ok-Ok-clause-journals g c firmly unmarked h =
+    let s0 = g.N.Nor.state c.args.nor in
+    let s1 = g.N.Nor.state c.look.new.nor in
+    c.recover.ensures.journals firmly (subst (λ (m : List ℕ). is_unmarked m ≡ false) (sym c.in-Ok-Ok.ensures.same) unmarked) (interrupted-same (bits_in s0) (bits_in s1) c.in-Ok-Ok.ensures.kept.bits c.in-Ok-Ok.ensures.same h)
