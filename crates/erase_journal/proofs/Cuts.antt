@@ -1,29 +1,23 @@
 -- What a loss of power leaves of firm journals, whatever is read at the next power-on.
-use Rattle.std.proofs.Common.{◌≡◌, ◌≢◌, ℕ, ◌+◌, ◌*◌, ◌<◌, ◌≤◌, ◌⊎◌, true, false, List, [], ◌∷◌, length, refl, sym, ap, ◌∙◌, subst, arith, inl, inr, lit<, add-zero}
-use Rattle.std.specs.Prelude.{bit_and}
-use Rattle.std.specs.Int.{bit_at}
-use Rattle.std.proofs.lemmas.Bool.{cases_lt, cases_eq}
+use Rattle.std.proofs.Common.{◌≡◌, ◌≢◌, ℕ, ◌+◌, ◌<◌, ◌≤◌, ◌⊎◌, List, [], ◌∷◌, length, sym, ap, ◌∙◌, subst, arith, inl, inr}
 use Rattle.chip_model.specs.Memory.{byte, and_at, TornAnd}
 use Rattle.chip_model.specs.Wavering.{Bits, Drawn}
 use Rattle.nor_driver.specs.State.{Leaves, as_before, torn_in_it, changed_whole, TornProgramBits, program_bits, TornEraseBits, erase_bits}
 use Rattle.nor_layout.specs.declared.journal.JournalId.{JournalId}
-use Rattle.nor_layout.specs.declared.journal.JournalId.TheVariants.{J0, J1, J2}
-use Rattle.nor_layout.specs.Journals.{next, journal_at, first_at, second_at}
-use Rattle.nor_layout.specs.Entries.{entry_at}
+use Rattle.nor_layout.specs.Journals.{next, journal_at}
 use Rattle.erase_journal.specs.declared.phase.ErasePhase.{ErasePhase}
-use Rattle.erase_journal.specs.declared.phase.ErasePhase.TheVariants.{Idle, Asked, Doomed, Closing}
-use Rattle.erase_journal.specs.declared.tally.JournalTally.{JournalTally}
+use Rattle.erase_journal.specs.declared.phase.ErasePhase.TheVariants.{Idle, Doomed}
 use Rattle.erase_journal.specs.Places.{Spoiled, Changed}
 use Rattle.erase_journal.specs.Votes.{Last, once_erased}
-use Rattle.erase_journal.specs.Journals.{AreJournalsSound, HoldsVotes, IsHealthy, IsInPhase, IsSettled, IsSoundTally, begun, first, second, tally_of, unused_of, votes_at, entry_byte, entry_block, is_free_entry, is_open_entry, open_blocks}
+use Rattle.erase_journal.specs.Journals.{AreJournalsSound, HoldsVotes, IsHealthy, IsSoundTally, first, second, tally_of, unused_of, open_blocks}
 use Rattle.erase_journal.specs.Spending.{MayTake, once_used}
-use Rattle.erase_journal.specs.Steps.{IsOpened, MayErase, KeepsBlocks, PerhapsChanged, not_begun, done}
-use Rattle.erase_journal.specs.Weak.{AreFirm, AreFirmJournals, AreFirmVotes, AreHalfEntries, AreHalfVotes, AreInterruptedAtEachDraw, AreInterruptedJournals, IsFirmVote, firm, given_up, IsLowestFreeEntry, IsLowestUnused, IsUsedForGood}
+use Rattle.erase_journal.specs.Steps.{MayErase, PerhapsChanged, not_begun, done}
+use Rattle.erase_journal.specs.Weak.{AreFirmJournals, AreFirmVotes, AreHalfEntries, AreHalfVotes, AreInterruptedAtEachDraw, AreInterruptedJournals, IsFirmVote}
 use Rattle.erase_journal.proofs.Steps.{IsBlank}
-use Rattle.erase_journal.proofs.Effects.{bit-open, bit-close, bit-done, program-leaves}
-use Rattle.erase_journal.proofs.Renewal.{first-cut, second-cut, first-close-cut, second-close-cut, journal-spoiled}
+use Rattle.erase_journal.proofs.Effects.{bit-open, bit-close, program-leaves}
+use Rattle.erase_journal.proofs.Renewal.{journal-spoiled}
 use Rattle.erase_journal.proofs.Drawing.{read_as, bits_as, bits_drawn, read_drawn, length-read, program-drawn, erase-drawn, erase-weak-beside}
-use Rattle.erase_journal.proofs.Draws.{firm-byte, vote-drawn, tally-drawn, entry-drawn, firm-drawn}
+use Rattle.erase_journal.proofs.Draws.{vote-drawn, tally-drawn, firm-drawn}
 use Rattle.erase_journal.proofs.FirmJournals.{OfJournal, of-each}
 use Rattle.erase_journal.proofs.Begun.{apart, doomed-only, doomed-votes, entries-apart, from-journals}
 use Rattle.erase_journal.proofs.Losses.{IsRegion, opening-interrupted, closing-interrupted, firm-interrupted, region-votes, vote-beside, half-of-firm, half-entries, entries-beside}

@@ -5,13 +5,12 @@ use Rattle.std.specs.Int.{bit_at}
 use Rattle.std.proofs.lemmas.List.{ext_get_or}
 use Rattle.std.proofs.lemmas.Bool.{cases_lt, cases_eq}
 use Rattle.std.proofs.lemmas.Nat.Bits.{bit_at_and, bit_at_or, bit_at_xor, bit_at-lt, same_from_bits}
-use Rattle.chip_model.specs.Memory.{byte, changed, and_at, cleared, erased, fill_place, is_within, place_of, with_differences, TornErase}
+use Rattle.chip_model.specs.Memory.{byte, changed, and_at, is_within, with_differences}
 use Rattle.chip_model.specs.Wavering.{Bits, Drawn}
-use Rattle.chip_model.proofs.MemoryLaws.{length-changed_from, get-changed, length-placed, get-placed, length-erased, erased-outside, not-within-above, not-within-below}
-use Rattle.chip_model.proofs.WaveringLaws.{past_bit, erase_out, fill_out, either}
+use Rattle.chip_model.proofs.MemoryLaws.{length-changed_from, get-changed, length-placed, get-placed, length-erased, not-within-above, not-within-below}
+use Rattle.chip_model.proofs.WaveringLaws.{past_bit, erase_out, fill_out}
 use Rattle.nor_driver.specs.State.{Leaves, as_before, torn_in_it, changed_whole, TornProgramBits, program_bits, TornEraseBits, erase_bits}
 use Rattle.erase_journal.specs.Places.{Spoiled}
-use Rattle.erase_journal.proofs.Effects.{past-same}
 
 -- the memory that reads as v where no bit was weak, and as m where one was
 abbrev pub mixed : List ℕ → List ℕ → ℕ → ℕ → ℕ

@@ -15,7 +15,6 @@ use Rattle.erase_journal.specs.Journals.{votes_at, free_entries, open_blocks, en
 use Rattle.erase_journal.specs.Weak.{AreFirm, IsFirmVote, firm, given_up, AreFirmVotes, IsUsedForGood, AreFirmJournals}
 use Rattle.erase_journal.proofs.Counts.{how_many-same}
 use Rattle.erase_journal.proofs.Entries.{same-open}
-use Rattle.erase_journal.proofs.FirmJournals.{zero-used}
 use Rattle.erase_journal.proofs.Regions.{blocks-named}
 use Rattle.erase_journal.proofs.RecoveredVotes.{not-unused}
 

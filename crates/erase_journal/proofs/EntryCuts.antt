@@ -10,8 +10,7 @@ use Rattle.nor_layout.specs.declared.journal.JournalId.TheVariants.{J0, J1, J2}
 use Rattle.nor_layout.specs.Journals.{journal_at, first_at, second_at}
 use Rattle.nor_layout.specs.Entries.{entry_at}
 use Rattle.erase_journal.specs.declared.phase.ErasePhase.TheVariants.{Idle}
-use Rattle.erase_journal.specs.Places.{Spoiled}
-use Rattle.erase_journal.specs.Journals.{AreJournalsSound, IsSettled, entry_byte, is_free_entry, is_open_entry, open_blocks}
+use Rattle.erase_journal.specs.Journals.{AreJournalsSound, entry_byte, is_free_entry, open_blocks}
 use Rattle.erase_journal.specs.Spending.{MayTake}
 use Rattle.erase_journal.specs.Steps.{IsOpened}
 use Rattle.erase_journal.specs.Weak.{AreFirm, AreFirmJournals, AreFirmVotes, AreHalfEntries, AreHalfVotes, AreInterruptedAtEachDraw, AreInterruptedJournals, IsLowestFreeEntry, IsUsedForGood}

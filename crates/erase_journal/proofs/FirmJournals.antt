@@ -1,5 +1,5 @@
 -- What calls that answered Ok leave of firm votes and entries, and of those of a recovery.
-use Rattle.std.proofs.Common.{◌≡◌, ◌≢◌, ℕ, zero, suc, ◌+◌, ◌-◌, ◌*◌, ◌/◌, ◌%◌, ◌<◌, ◌≤◌, ◌⊎◌, Bool, true, false, not, ◌||◌, List, length, refl, sym, ap, ◌∙◌, subst, arith, inl, inr, lit<}
+use Rattle.std.proofs.Common.{◌≡◌, ◌≢◌, ℕ, zero, suc, ◌+◌, ◌-◌, ◌*◌, ◌/◌, ◌%◌, ◌<◌, ◌≤◌, ◌⊎◌, Bool, true, false, List, length, refl, sym, ap, ◌∙◌, subst, arith, inl, inr, lit<}
 use Rattle.std.specs.Int.{bit_at, trailing_ones, w8}
 use Rattle.std.proofs.lemmas.Bool.{cases_lt, cases_eq, eqb-true, eq-eqb}
 use Rattle.std.proofs.lemmas.Bool.Decides.{nat_tests}
@@ -18,7 +18,7 @@ use Rattle.nor_layout.specs.declared.journal.JournalId.TheVariants.{J0, J1, J2}
 use Rattle.nor_layout.specs.Journals.{journal_at, first_at, second_at}
 use Rattle.nor_layout.specs.Entries.{entry_at}
 use Rattle.erase_journal.specs.Journals.{IsSettled, votes_at, entry_byte, is_free_entry, free_entries, unused}
-use Rattle.erase_journal.specs.Places.{Changed, how_many}
+use Rattle.erase_journal.specs.Places.{how_many}
 use Rattle.erase_journal.specs.Scans.{is_free_in}
 use Rattle.erase_journal.specs.Steps.{EndsSettled, IsRestful, OneChanged, SucceedsSettled}
 use Rattle.erase_journal.proofs.Data.{slice-byte}

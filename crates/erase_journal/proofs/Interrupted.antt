@@ -15,7 +15,7 @@ use Rattle.erase_journal.specs.declared.phase.ErasePhase.{ErasePhase}
 use Rattle.erase_journal.specs.declared.phase.ErasePhase.TheVariants.{Idle, Asked, Doomed, Closing}
 use Rattle.erase_journal.specs.Journals.{AreJournalsSound, IsSettled, votes_at, entry_byte, is_free_entry}
 use Rattle.erase_journal.specs.Journals.{begun}
-use Rattle.erase_journal.specs.Weak.{AreFirm, firm, AreHalfEntries, AreHalfVotes, AreHalfFirm, IsHalfVote, IsLowestFreeEntry, IsLowestUnused, IsRecoveredVote, is_firm, AreRecoveredVotes, InEachRegion, SettlesFirmly, AreInterruptedJournals, AreRecoveredJournals}
+use Rattle.erase_journal.specs.Weak.{AreFirm, firm, AreHalfEntries, AreHalfVotes, AreHalfFirm, IsHalfVote, IsLowestFreeEntry, IsLowestUnused, is_firm, AreRecoveredVotes, SettlesFirmly, AreInterruptedJournals, AreRecoveredJournals}
 use Rattle.erase_journal.proofs.FirmJournals.{OfJournal, of-all, firm-or-weak, not-firm, settled-first, settled-second, test-cases, zero-bit}
 use Rattle.erase_journal.proofs.RecoveredVotes.{IsSettledByte, below-four, not-unused, recovered, votes-are}
 use Rattle.erase_journal.proofs.WeakLaws.{are-firm-stays, firm-byte-stays, firm-stays}

@@ -1,5 +1,5 @@
 -- What a program that was interrupted leaves of firm journals.
-use Rattle.std.proofs.Common.{◌≡◌, ◌≢◌, ℕ, ◌+◌, ◌*◌, ◌%◌, ◌<◌, ◌≤◌, ◌⊎◌, true, List, [], ◌∷◌, length, refl, sym, ap, ◌∙◌, subst, arith, inl, inr, lit<}
+use Rattle.std.proofs.Common.{◌≡◌, ◌≢◌, ℕ, ◌+◌, ◌%◌, ◌<◌, ◌≤◌, ◌⊎◌, List, [], ◌∷◌, length, refl, sym, ap, ◌∙◌, subst, arith, inl, inr, lit<}
 use Rattle.std.specs.Prelude.{bit_and, bit_or, bit_xor}
 use Rattle.std.specs.Int.{bit_at}
 use Rattle.std.proofs.lemmas.Bool.{cases_lt, cases_eq}
@@ -11,7 +11,6 @@ use Rattle.chip_model.proofs.MemoryLaws.{get-changed, length-changed_from, lengt
 use Rattle.nor_driver.specs.State.{Leaves, as_before, torn_in_it, changed_whole, TornProgramBits, program_bits, IsFirmer}
 use Rattle.nor_layout.specs.declared.journal.JournalId.{JournalId}
 use Rattle.nor_layout.specs.Entries.{entry_at}
-use Rattle.erase_journal.specs.Journals.{is_free_entry}
 use Rattle.nor_layout.specs.declared.journal.JournalId.TheVariants.{J0, J1, J2}
 use Rattle.nor_layout.specs.Journals.{journal_at, first_at, second_at}
 use Rattle.erase_journal.specs.Weak.{AreFirm, AreFirmJournals, AreFirmVotes, AreHalfEntries, AreHalfVotes, AreInterruptedJournals, IsFirmVote, firm, given_up, InEachRegion, IsHalfVote, IsLowestUnused, IsUsedForGood}

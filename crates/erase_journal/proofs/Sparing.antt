@@ -1,5 +1,5 @@
 -- No step of a firm mount but the last uses an entry.
-use Rattle.std.proofs.Common.{◌≡◌, ◌-◌, ◌<◌, ◌≤◌, ◌⊎◌, refl, sym, ◌∙◌, arith, inl, inr, ℕ, List}
+use Rattle.std.proofs.Common.{◌≡◌, ◌≤◌, refl, ◌∙◌, arith, ℕ, List}
 use Rattle.nor_layout.specs.declared.journal.JournalId.{JournalId}
 use Rattle.nor_layout.specs.declared.journal.JournalId.TheVariants.{J0, J1, J2}
 use Rattle.erase_journal.specs.declared.unused.Unused.{Unused}

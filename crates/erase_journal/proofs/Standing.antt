@@ -1,5 +1,5 @@
 -- Firm journals stay firm in each step of an erase, and a loss of power leaves of them what a firm recovery wants.
-use Rattle.std.proofs.Common.{◌≡◌, ◌≢◌, ℕ, ◌+◌, ◌-◌, ◌*◌, ◌<◌, ◌≤◌, ◌⊎◌, List, [], ◌∷◌, length, refl, sym, ap, ◌∙◌, subst, arith, inl, inr}
+use Rattle.std.proofs.Common.{◌≡◌, ℕ, ◌+◌, ◌-◌, ◌*◌, ◌<◌, ◌≤◌, ◌⊎◌, List, length, refl, sym, subst, arith, inl, inr}
 use Rattle.std.proofs.lemmas.Bool.{cases_lt, cases_eq}
 use Rattle.chip_model.specs.Memory.{byte, erased}
 use Rattle.chip_model.specs.Wavering.{Bits}
@@ -8,8 +8,8 @@ use Rattle.nor_layout.specs.declared.journal.JournalId.{JournalId}
 use Rattle.nor_layout.specs.declared.journal.JournalId.TheVariants.{J0, J1, J2}
 use Rattle.nor_layout.specs.Journals.{journal_at, first_at, second_at}
 use Rattle.erase_journal.specs.declared.phase.ErasePhase.TheVariants.{Idle, Asked, Doomed, Closing}
-use Rattle.erase_journal.specs.Places.{Changed, Spoiled}
-use Rattle.erase_journal.specs.Journals.{AreJournalsSound, IsHealthy, IsSettled, first, tally_of}
+use Rattle.erase_journal.specs.Places.{Spoiled}
+use Rattle.erase_journal.specs.Journals.{AreJournalsSound, IsSettled, first, tally_of}
 use Rattle.erase_journal.specs.Steps.{MayErase, OneChanged, LosesFirmly, VoteInterrupted, not_begun, in_it}
 use Rattle.erase_journal.specs.Weak.{AreFirmJournals, AreFirmVotes, AreInterruptedAtEachDraw, IsFirmJournal, IsFirmVote, firm, given_up}
 use Rattle.erase_journal.proofs.Steps.{IsBlank}

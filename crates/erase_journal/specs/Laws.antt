@@ -8,7 +8,8 @@ use Rattle.nor_layout.specs.Journals.{block_len}
 use Rattle.erase_journal.specs.declared.unused.Unused.{Unused}
 use Rattle.erase_journal.specs.Votes.{Last, IsLowestTired, once_erased}
 use Rattle.nor_layout.specs.Entries.{entry_count}
-use Rattle.erase_journal.specs.Journals.{IsHealthy, IsSettled, entry_block, is_open_entry, open_blocks}
+use Rattle.erase_journal.specs.Journals.{IsHealthy, IsSettled, entry_block, is_open_entry}
+use Rattle.erase_journal.specs.Journals.{open_blocks}
 use Rattle.erase_journal.specs.Blocks.{block, blank, blocks_of, IsErasedBehind, SameBlocks}
 use Rattle.erase_journal.specs.Steps.{SucceedsSettled}
 use Rattle.erase_journal.specs.Weak.{AreFirmJournals, AreInterruptedJournals}
@@ -45,7 +46,7 @@ abbrev pub FirmJournalsStayFirm : Type 0
 FirmJournalsStayFirm = (a b : NorState) → IsSettled a.memory → SucceedsSettled a b
     → AreFirmJournals (bits_in a) → AreFirmJournals (bits_in b)
 
--- firm journals at a power-on: healthy where they were, firm, and such as a firm recovery wants them
+-- firm journals at a power-on: healthy where they were, firm, and as a firm recovery wants them
 abbrev pub FirmJournalsStandEachDraw : Type 0
 FirmJournalsStandEachDraw = (b : Bits) (v : List ℕ) → AreFirmJournals b → Drawn b.weak b.shown v
     → (IsHealthy b.shown → IsHealthy v)

@@ -124,7 +124,7 @@ pub record AreInterruptedJournals (b : Bits) : Type 0 where
   pub superblock : AreFirm b.weak 0 16
   pub half : (p : ErasePhase) → AreJournalsSound p b.shown → AreHalfFirm p b
 
--- What a loss of power leaves of firm journals: whatever the weak bits read as at the next power-on,
+-- What a loss of power leaves of firm journals: however the weak bits read at the next power-on,
 -- the journals are healthy, and of them one operation was interrupted.
 abbrev pub AreInterruptedAtEachDraw : Bits → Type 0
 AreInterruptedAtEachDraw b = (v : List ℕ) → Drawn b.weak b.shown v

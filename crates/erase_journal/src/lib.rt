@@ -53,9 +53,8 @@ pub use firmness::Firmness;
 pub use journal::Journal;
 pub use laws::{
     blocks_have_one_size, erased_chips_are_settled, firm_journals_stand_each_draw,
-    firm_journals_stay_firm,
-    maintenance_keeps_votes_that_last, open_entries_name_one_block, same_blocks_make_one_list,
-    sound_journals_have_no_fault,
+    firm_journals_stay_firm, maintenance_keeps_votes_that_last, open_entries_name_one_block,
+    same_blocks_make_one_list, sound_journals_have_no_fault,
 };
 pub use read::read_tally;
 pub use scan::VoteCounts;

@@ -252,7 +252,7 @@ fn with_image_lines<'a>(alloc: Global, norbd: Command<'a>) -> Result<Command<'a>
 }
 
 /// What `--version` says after the name: the version, and the toolchain that proved and built it.
-const VERSION: &str = "0.1.0, proved by rattle-kit-13f logic dac8208d650f15bf";
+const VERSION: &str = "0.1.0, proved by rattle-kit-13b logic dac8208d650f15bf";
 
 /// The program's command line with its first command.
 fn begun_command<'a>(alloc: Global) -> Result<Command<'a>, clap::Error>

@@ -1,10 +1,10 @@
 -- Where no block is of a group, none is once a block changed and isn't of one.
-use Rattle.std.proofs.Common.{◌≡◌, ◌≢◌, ℕ, ◌+◌, ◌/◌, ◌<◌, false, List, sym, ap, ◌∙◌, arith, inl, inr}
+use Rattle.std.proofs.Common.{◌≡◌, ℕ, ◌+◌, ◌/◌, ◌<◌, false, List, sym, ap, ◌∙◌, arith, inl, inr}
 use Rattle.std.proofs.lemmas.Bool.{cases_eq}
 use Rattle.erase_journal.specs.Blocks.{OnlyBlock, SameBlocks}
 use Rattle.nor_layout.specs.Kinds.{kind_of}
-use Rattle.sector_slots.specs.Slots.{is_group, data_blocks, kind_at, slot_at, slot_count}
-use Rattle.sector_slots.specs.Sectors.{GroupsAreApart, HasSlotsAlone, GroupsFit}
+use Rattle.sector_slots.specs.Slots.{is_group, data_blocks, kind_at}
+use Rattle.sector_slots.specs.Sectors.{HasSlotsAlone, GroupsFit}
 use Rattle.sector_slots.specs.Steps.{OnlyPlace}
 use Rattle.sector_slots.proofs.MachineLaws.{block-data}
 

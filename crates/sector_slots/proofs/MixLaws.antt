@@ -1,12 +1,12 @@
 -- Byte 15 of the superblock is programmed: memories of one length and layout byte with the same data blocks.
-use Rattle.std.proofs.Common.{◌≡◌, ℕ, ◌+◌, ◌-◌, ◌*◌, ◌<◌, List, length, refl, sym, ap, ◌∙◌, subst, arith, inl, inr}
+use Rattle.std.proofs.Common.{◌≡◌, ℕ, ◌+◌, ◌-◌, ◌*◌, ◌<◌, List, length, sym, ap, ◌∙◌, subst, arith, inl}
 use Rattle.std.specs.Prelude.{◌/◌, ◌%◌}
 use Rattle.erase_journal.specs.Blocks.{OnlySuper}
 use Rattle.chip_model.specs.Geometry.{block_count, sector_count}
 use Rattle.nor_layout.specs.Kinds.{kind_of}
-use Rattle.sector_slots.specs.Slots.{Slot, is_group, slot_in, content_bytes, counted, data_blocks, data_block, kind_at, raw_slot, slot_at, slot_count, IsClean}
+use Rattle.sector_slots.specs.Slots.{Slot, is_group, slot_in, content_bytes, counted, data_blocks, kind_at, raw_slot, slot_at, slot_count, IsClean}
 use Rattle.sector_slots.specs.Blocks.{SoundBlocks}
-use Rattle.sector_slots.specs.Sectors.{GroupsAreApart, SlotsRepresent, GroupsFit, HoldsSectors}
+use Rattle.sector_slots.specs.Sectors.{GroupsAreApart, SlotsRepresent, HoldsSectors}
 use Rattle.sector_slots.specs.Laws.{IsMarked, MarksKeepSectors}
 use Rattle.sector_slots.specs.Copying.{SameLive}
 use Rattle.sector_slots.proofs.MoveLaws.{live-stands, same-back}

@@ -1,8 +1,8 @@
 -- A chip of layout 1 that is healthy and clean is sound and clean as a mixed one.
-use Rattle.std.proofs.Common.{◌≡◌, ◌≢◌, ℕ, ◌+◌, ◌-◌, ◌*◌, ◌<◌, ◌≤◌, ◌⊎◌, ◌&&◌, Bool, true, false, cond, List, length, refl, sym, ap, ◌∙◌, subst, arith, inl, inr}
+use Rattle.std.proofs.Common.{◌≡◌, ◌≢◌, ℕ, ◌+◌, ◌*◌, ◌<◌, ◌&&◌, Bool, true, false, cond, List, length, refl, sym, ap, ◌∙◌, subst, arith, inl, inr}
 use Rattle.std.specs.Prelude.{◌/◌, ◌%◌, ◌==◌, nat_lt}
 use Rattle.std.proofs.lemmas.Bool.{lt-ltb}
-use Rattle.chip_model.specs.Geometry.{IsChipSize, block_count, group_count, sector_count}
+use Rattle.chip_model.specs.Geometry.{IsChipSize, group_count}
 use Rattle.chip_model.specs.Memory.{byte}
 use Rattle.nor_layout.specs.declared.header.Generation.{Generation}
 use Rattle.nor_layout.specs.declared.header.Header.{Header}
@@ -12,13 +12,12 @@ use Rattle.nor_layout.specs.declared.kind.Kind.{Kind}
 use Rattle.nor_layout.specs.declared.kind.Kind.TheVariants as kinds
 use Rattle.nor_layout.specs.Headers.{header_of, next_generation}
 use Rattle.nor_layout.specs.Kinds.{kind_of, mark_of, group_kind}
-use Rattle.nor_layout.specs.Superblock.{layout_in}
 use Rattle.erase_journal.specs.Blocks.{blank}
-use Rattle.sector_slots.specs.Slots.{Slot, Free, Live, NoGeneration, Dead, Outside, group_tag, is_group, slot_in, content_bytes, blank_sector, data_blocks, data_block, kind_at, raw_slot, slot_at, slot_count, IsClean, IsSpareIn}
+use Rattle.sector_slots.specs.Slots.{Free, Live, NoGeneration, group_tag, is_group, slot_in, content_bytes, data_blocks, data_block, kind_at, raw_slot, slot_at, slot_count}
 use Rattle.sector_slots.specs.Blocks.{IsAtRest, AreAtRest, AreSound, settled, crowded, dead_group, two_blocks}
-use Rattle.sector_slots.specs.Sectors.{LiveAt, SoundSlots, GroupsFit, IsSoundMap, generation_in}
+use Rattle.sector_slots.specs.Sectors.{LiveAt, generation_in}
 use Rattle.sector_slots.specs.Groups.{block_header, IsLiveWith, AreSoundGroups, HasRoomForGroups, free_block, dead_block, twice, IsCleanOfGroups, GroupChipsAreSound}
-use Rattle.sector_slots.proofs.CopyLaws.{rest-counted, IsWhole}
+use Rattle.sector_slots.proofs.CopyLaws.{rest-counted}
 use Rattle.sector_slots.proofs.SectorLaws.{number_in, kind_in}
 use Rattle.sector_slots.proofs.GroupLaws.{group-slot, dead-slot}
 use Rattle.sector_slots.proofs.BlankLaws.{blank-kind, blank-slot, blank-content, erased-spare}

@@ -7,12 +7,12 @@ use Rattle.nor_layout.specs.Headers.{next_generation}
 use Rattle.nor_layout.specs.declared.header.Tag.{Tag}
 use Rattle.nor_layout.specs.declared.kind.Kind.{Kind}
 use Rattle.nor_layout.specs.declared.kind.Kind.TheVariants as kinds
-use Rattle.sector_slots.specs.Slots.{Slot, Free, Live, NoGeneration, Dead, Outside, group_tag, is_copy_of, content_bytes, counted, data_blocks, data_block, kind_at, raw_slot, IsSpare}
+use Rattle.sector_slots.specs.Slots.{Slot, Live, NoGeneration, Dead, group_tag, is_copy_of, content_bytes, counted, data_block, kind_at, raw_slot, IsSpare}
 use Rattle.sector_slots.specs.Blocks.{IsAtRest, AreAtRest, IsSettledBlocks}
 use Rattle.sector_slots.specs.Sectors.{LiveAt, SectorIs, absent, held, Single, SlotsRepresent, generation_in}
-use Rattle.sector_slots.specs.Copying.{OnlyData, HoldsNothing, SameLive, RetiresGroup, ErasesGroup}
+use Rattle.sector_slots.specs.Copying.{HoldsNothing, SameLive, RetiresGroup, ErasesGroup}
 use Rattle.sector_slots.proofs.SectorLaws.{never-round, sound-fewer, dead-without, dead-whole, number_in}
-use Rattle.sector_slots.proofs.CopyLaws.{counted-quiet, counted-other, rest-counted, at-rest-copies}
+use Rattle.sector_slots.proofs.CopyLaws.{counted-quiet, counted-other, rest-counted}
 use Rattle.sector_slots.proofs.BlockLaws.{rest-of, plain-rest}
 use Rattle.sector_slots.proofs.GroupLaws.{group-slot, dead-slot}
 

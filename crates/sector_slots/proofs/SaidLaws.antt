@@ -1,14 +1,13 @@
 -- A mixed chip in the words of the two layouts; and what its own two steps do to a clean memory.
-use Rattle.std.proofs.Common.{◌≡◌, ◌≢◌, ℕ, ◌+◌, ◌-◌, ◌*◌, ◌<◌, ◌⊎◌, Bool, true, false, List, length, refl, sym, ap, ◌∙◌, subst, arith, inl, inr}
+use Rattle.std.proofs.Common.{◌≡◌, ◌≢◌, ℕ, ◌+◌, ◌⊎◌, Bool, true, false, List, length, refl, sym, ap, ◌∙◌, subst, arith, inl, inr}
 use Rattle.std.specs.Prelude.{◌/◌, ◌%◌}
 use Rattle.chip_model.specs.Geometry.{sector_count}
 use Rattle.nor_layout.specs.declared.header.Generation.{Generation}
 use Rattle.nor_layout.specs.declared.header.Tag.{Tag}
-use Rattle.nor_layout.specs.declared.kind.Kind.{Kind}
 use Rattle.nor_layout.specs.declared.kind.Kind.TheVariants as kinds
 use Rattle.nor_layout.specs.Headers.{next_generation}
 use Rattle.erase_journal.specs.Blocks.{OnlyBlock, WithErased}
-use Rattle.sector_slots.specs.Slots.{Slot, Free, Live, NoGeneration, Dead, Outside, IsLive, is_group, is_copy_of, content_bytes, data_blocks, data_block, kind_at, raw_slot, slot_at, slot_count, IsClean, IsSpareIn}
+use Rattle.sector_slots.specs.Slots.{Slot, Free, Live, Dead, Outside, is_group, is_copy_of, content_bytes, data_blocks, data_block, kind_at, raw_slot, slot_at, slot_count, IsClean}
 use Rattle.sector_slots.specs.Blocks.{IsAtRest, AreAtRest, AreSound, SoundBlocks, settled, crowded, copying}
 use Rattle.sector_slots.specs.Sectors.{LiveAt, SectorIs, absent, held, HoldsSectors}
 use Rattle.sector_slots.specs.Steps.{OnlyPlace}

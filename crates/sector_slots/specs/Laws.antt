@@ -1,5 +1,5 @@
 -- What follows from the definitions of slots and of what calls leave. Source: own, layout 2.
-use Rattle.std.specs.Prelude.{◌≡◌, ◌≢◌, ◌↔◌, ℕ, ◌/◌, Bool, true, false, ◌<◌, List, length}
+use Rattle.std.specs.Prelude.{◌≡◌, ◌≢◌, ◌↔◌, ℕ, ◌/◌, true, false, ◌<◌, List, length}
 use Rattle.chip_model.specs.Geometry.{IsChipSize}
 use Rattle.erase_journal.specs.Blocks.{IsErasedBehind}
 use Rattle.erase_journal.specs.Journals.{IsSettled}

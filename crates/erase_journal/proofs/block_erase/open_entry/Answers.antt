@@ -3,7 +3,7 @@ use Rattle.erase_journal.proofs.EntryCalls.{open-ok, open-cut}
 use Rattle.nor_driver.specs.State.{Succeeds, Refuses}
 use Rattle.nor_driver.proofs.CallLaws.{fails-after, fails-as, first-ready, kept-after, ready-back, refuses-perhaps, succeeds-back}
 use Rattle.erase_journal.proofs.Uses.{opening-uses}
-use Rattle.std.proofs.Common.{◌≡◌, ◌∷◌, [], List, ℕ, false, ap, ◌∙◌, subst, sym, arith}
+use Rattle.std.proofs.Common.{◌∷◌, [], List, ℕ, ap, ◌∙◌, subst, sym, arith}
 use Rattle.nor_driver.specs.State.{bits_in}
 use Rattle.nor_layout.specs.Entries.{entry_at}
 use Rattle.erase_journal.specs.Journals.{IsHealthy, is_free_entry}
