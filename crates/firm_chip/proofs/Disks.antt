@@ -31,7 +31,6 @@ use Rattle.sector_slots.proofs.SlotLaws.{counted-raw}
 use Rattle.sector_slots.proofs.BlockLaws.{sound-no_fault, uncommitted-known, uncommitted-not}
 use Rattle.sector_slots.proofs.BlankLaws.{blank-slot, erased-spare}
 use Rattle.sector_slots.proofs.AloneLaws.{alone-fit}
-use Rattle.erase_journal.specs.Weak.{AreFirm}
 use Rattle.firm_chip.specs.FirmChips.{AreFirmly, IsFirmChip, IsFirmBlock, marked, perhaps_begun, void, erasing, IsFading, IsBegunAtMost, IsRoom, free, committed, sector_in, head_place, data_place}
 use Rattle.firm_chip.specs.FirmChips as firm
 use Rattle.firm_chip.specs.Draws.{EachDrawIsTheSameDisk}

@@ -1,16 +1,11 @@
 -- What a draw leaves of firm bytes, of votes and of entries.
-use Rattle.std.proofs.Common.{◌≡◌, ◌≢◌, ℕ, suc, ◌+◌, ◌-◌, ◌<◌, ◌≤◌, ◌⊎◌, true, false, not, ◌||◌, List, length, refl, sym, ap, ◌∙◌, arith, inl, inr, lit<}
-use Rattle.std.specs.Prelude.{◌/◌, ◌==◌}
-use Rattle.std.proofs.lemmas.Bool.{cases_eq}
+use Rattle.std.proofs.Common.{◌≡◌, ◌≢◌, ℕ, ◌+◌, ◌-◌, ◌≤◌, List, refl, sym, ap, ◌∙◌, arith}
 use Rattle.std.specs.Int.{bit_at}
-use Rattle.std.proofs.lemmas.Bool.Decides.{nat_tests}
-use Rattle.std.proofs.lemmas.Nat.Bits.{same_from_bits, bit_at-zero, bit_at-suc}
 use Rattle.chip_model.specs.Memory.{byte}
 use Rattle.chip_model.specs.Wavering.{Drawn}
 use Rattle.nor_layout.specs.declared.journal.JournalId.TheVariants.{J0, J1, J2}
-use Rattle.chip_model.specs.Geometry.{block_count}
-use Rattle.nor_layout.specs.Entries.{entry_at, is_open, block_in}
-use Rattle.erase_journal.specs.Journals.{votes_at, free_entries, open_blocks, entries_for, entry_byte, entry_bytes, entry_block, is_free_entry, is_open_entry, tally_of}
+use Rattle.nor_layout.specs.Entries.{entry_at}
+use Rattle.erase_journal.specs.Journals.{votes_at, free_entries, open_blocks, entries_for, entry_byte, is_free_entry, tally_of}
 use Rattle.erase_journal.specs.Blocks.{is_believed0}
 use Rattle.erase_journal.proofs.Counts.{how_many-same}
 use Rattle.erase_journal.proofs.Regions.{BytesKept, blocks-named}

@@ -1,16 +1,14 @@
 -- What a loss leaves is torn as on a steady chip, and then drawn.
-use Rattle.std.proofs.Common.{◌≡◌, ◌≢◌, ℕ, ◌+◌, ◌/◌, ◌%◌, ◌<◌, ◌≤◌, ◌⊎◌, Bool, true, false, cond, ◌&&◌, List, length, refl, sym, ap, ◌∙◌, subst, arith, inl, inr, eqb, ltb}
-use Rattle.std.specs.Prelude.{bit_and, bit_xor, min}
+use Rattle.std.proofs.Common.{◌≡◌, ◌≢◌, ℕ, ◌<◌, ◌⊎◌, true, false, cond, List, length, refl, sym, ap, ◌∙◌, subst, arith, inl, inr}
 use Rattle.std.specs.Int.{bit_at}
-use Rattle.std.proofs.lemmas.Nat.{and_le_r}
 use Rattle.std.proofs.lemmas.List.{get_or_past}
 use Rattle.std.proofs.lemmas.Bool.{cases_lt, cases_eq, cond-true, cond-false}
-use Rattle.std.proofs.lemmas.Nat.Bits.{bit_at_and, bit_at_xor, bit_at_above, bit_at-lt, bit_at-zero, bit_at_ones, same_from_bits}
+use Rattle.std.proofs.lemmas.Nat.Bits.{bit_at_above, bit_at-lt}
 use Rattle.chip_model.specs.Memory.{byte, changed, is_within, Torn, TornErase}
-use Rattle.chip_model.specs.Chip.{Idle, Programming, Erasing, Setting, page_place, programmed, offset_in_page}
+use Rattle.chip_model.specs.Chip.{Idle, Programming, Erasing, Setting, programmed}
 use Rattle.chip_model.specs.Wavering.{Bits, IsBits, Drawn, TornProgram, TornUnit, completed_bits}
-use Rattle.chip_model.proofs.MemoryLaws.{length-changed_from, get-changed, length-programmed, programmed_page}
-use Rattle.chip_model.proofs.WaveringLaws.{past_bit, byte_from_bits, program_bit, either}
+use Rattle.chip_model.proofs.MemoryLaws.{length-changed_from, get-changed}
+use Rattle.chip_model.proofs.WaveringLaws.{byte_from_bits, program_bit, either}
 use Rattle.firm_chip.specs.Losses.{LossesAreTornThenDrawn, LossesLeaveSteadyDisks}
 use Rattle.erase_journal.proofs.Drawing.{mixed, mixed_firm, mixed_weak}
 use Rattle.firm_chip.proofs.Disks.{each-draw}

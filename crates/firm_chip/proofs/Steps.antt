@@ -1,14 +1,13 @@
 -- What a chip whose bits waver reads as after an operation is what the operation leaves of a draw.
-use Rattle.std.proofs.Common.{◌≡◌, ℕ, ◌+◌, ◌/◌, ◌%◌, ◌<◌, ◌≤◌, ◌⊎◌, Bool, true, false, cond, ◌&&◌, List, length, refl, sym, ap, ◌∙◌, subst, arith, inl, inr, eqb, ltb}
-use Rattle.std.specs.Prelude.{bit_and, min}
+use Rattle.std.proofs.Common.{◌≡◌, ℕ, ◌<◌, List, length, refl, sym, ap, ◌∙◌, arith, inl, inr}
 use Rattle.std.specs.Int.{bit_at}
 use Rattle.std.proofs.lemmas.List.{ext_get_or}
-use Rattle.std.proofs.lemmas.Bool.{cases_lt, cases_eq, cond-true, cond-false}
-use Rattle.std.proofs.lemmas.Nat.Bits.{bit_at_and, bit_at-lt, bit_at-zero, same_from_bits}
+use Rattle.std.proofs.lemmas.Bool.{cases_lt, cases_eq}
+use Rattle.std.proofs.lemmas.Nat.Bits.{bit_at-lt, same_from_bits}
 use Rattle.chip_model.specs.Memory.{byte, changed, erased, fill_place, is_within, Torn, TornErase}
-use Rattle.chip_model.specs.Chip.{Idle, Programming, Erasing, Setting, page_place, programmed, offset_in_page}
+use Rattle.chip_model.specs.Chip.{Idle, Programming, Erasing, Setting, programmed}
 use Rattle.chip_model.specs.Wavering.{Bits, Drawn, TornProgram, TornUnit, completed_bits}
-use Rattle.chip_model.proofs.MemoryLaws.{length-changed_from, get-changed, length-erased, length-programmed, programmed_page, erased-inside, erased-outside}
+use Rattle.chip_model.proofs.MemoryLaws.{length-changed_from, length-erased, length-programmed, erased-inside, erased-outside}
 use Rattle.chip_model.proofs.WaveringLaws.{past_bit, data_bit, program_bit, fill_out, firm_erase, either}
 use Rattle.firm_chip.specs.Losses.{LossesAreDrawnThenTorn, CompletedAreDrawnThenDone}
 use Rattle.erase_journal.proofs.Drawing.{mixed, mixed_firm, mixed_weak, read_as, read_drawn}

@@ -1,8 +1,8 @@
 -- The bits of a chip that a probe found.
-use Rattle.std.proofs.Common.{◌≡◌, ℕ, List, true, refl, sym, ap, ◌∙◌, subst}
+use Rattle.std.proofs.Common.{◌≡◌, ℕ, true, refl, ap, ◌∙◌, subst}
 use Rattle.chip_model.specs.Chip.{Chip, Operation, Idle, Programming, Erasing, Setting, is_idle}
 use Rattle.chip_model.specs.Cut.{TornMemory, weakened}
-use Rattle.chip_model.specs.Wavering.{Bits, bits_of}
+use Rattle.chip_model.specs.Wavering.{bits_of}
 use Rattle.nor_driver.specs.State.{NorState, bits_in}
 use Rattle.nor_driver.specs.Shown.{Found}
 use Rattle.erase_journal.proofs.Drawing.{same-bits}

@@ -1,5 +1,5 @@
 -- What is read of a block's free slots, and what it says of a memory.
-use Rattle.std.proofs.Common.{◌≡◌, ◌≢◌, ℕ, ◌+◌, ◌-◌, ◌*◌, ◌<◌, ◌≤◌, List, Bool, true, false, cond, length, refl, sym, ap, ◌∙◌, subst, arith, inl, inr}
+use Rattle.std.proofs.Common.{◌≡◌, ◌≢◌, ℕ, ◌+◌, ◌-◌, ◌*◌, ◌<◌, List, Bool, length, refl, sym, ap, ◌∙◌, subst, arith, inl, inr}
 use Rattle.std.specs.Prelude.{◌/◌, ◌%◌, take, drop, slice_range, Result, Ok, Err, IfOk}
 use Rattle.std.proofs.lemmas.Bool.{cases_eq}
 use Rattle.std.proofs.lemmas.List.{ext_get_or, get_or-take, get_or-drop, length-take-le}
@@ -9,12 +9,10 @@ use Rattle.nor_layout.specs.declared.header.Header.TheVariants as headers
 use Rattle.chip_model.specs.Memory.{byte}
 use Rattle.chip_model.specs.Parts.{part}
 use Rattle.chip_model.proofs.PartLaws.{get-part, part-whole}
-use Rattle.nor_layout.specs.declared.kind.Kind.{Kind}
-use Rattle.nor_layout.specs.declared.kind.Kind.TheVariants as kinds
 use Rattle.erase_journal.specs.Blocks.{blank}
 use Rattle.erase_journal.proofs.BlockLaws.{length-blank, byte-blank}
-use Rattle.sector_slots.specs.Slots.{Slot, Free, Outside, slot_in, content_bytes, descriptor_in, read_header, blank_sector, counted, copies, is_void, is_copy_of, data_blocks, data_block, kind_at, raw_slot, slot_at, slot_count, IsSpareIn, IsClean}
-use Rattle.sector_slots.specs.Blocks.{IsAtRest, AreAtRest, AreSettled}
+use Rattle.sector_slots.specs.Slots.{Free, Outside, slot_in, content_bytes, descriptor_in, read_header, blank_sector, data_blocks, data_block, kind_at, raw_slot, slot_at, slot_count, IsClean}
+use Rattle.sector_slots.specs.Blocks.{AreAtRest}
 use Rattle.sector_slots.proofs.SlotLaws.{counted-raw}
 use Rattle.sector_slots.proofs.CopyLaws.{at-rest-copies, at-rest-counts, copies-none, counted-in}
 use Rattle.journal_slots.specs.Clean.{IsCleanBlock, AreCleanBlocks}

@@ -1,5 +1,5 @@
 -- A free slot is made dead, and the head of a block is programmed again.
-use Rattle.std.proofs.Common.{◌/◌, ◌%◌, ◌≡◌, ◌≢◌, ℕ, zero, suc, ◌+◌, ◌-◌, ◌*◌, ◌<◌, ◌≤◌, ◌⊎◌, Bool, true, false, List, [], ◌∷◌, length, refl, sym, ap, ◌∙◌, subst, arith, inl, inr}
+use Rattle.std.proofs.Common.{◌/◌, ◌%◌, ◌≡◌, ◌≢◌, ℕ, zero, suc, ◌+◌, ◌*◌, ◌<◌, ◌≤◌, ◌⊎◌, false, List, [], ◌∷◌, length, refl, sym, ap, ◌∙◌, subst, arith, inl, inr}
 use Rattle.std.specs.Prelude.{bit_and, min, drop, slice_range, slice_set}
 use Rattle.std.proofs.lemmas.Grind.{get_or-set_at}
 use Rattle.chip_model.proofs.PartLaws.{part-same}
@@ -12,16 +12,14 @@ use Rattle.std.proofs.lemmas.Nat.Bits.{bit_at-suc, bit_at_and}
 use Rattle.std.proofs.lemmas.Bool.{cases_lt, cases_eq}
 use Rattle.std.proofs.lemmas.List.{ext_get_or, get_or-drop, get_or-set_other}
 use Rattle.chip_model.specs.Memory.{byte, and_at, IsMixed, TornAnd}
-use Rattle.chip_model.proofs.MemoryLaws.{placed-inside, placed-outside, length-placed}
+use Rattle.chip_model.proofs.MemoryLaws.{placed-inside}
 use Rattle.chip_model.proofs.BitLaws.{mixed_one, mixed_same}
 use Rattle.nor_driver.specs.State.{Leaves, as_before, torn_in_it, changed_whole}
-use Rattle.nor_layout.specs.declared.kind.Kind.{Kind}
-use Rattle.nor_layout.specs.declared.header.Header.{Header}
 use Rattle.nor_layout.specs.declared.header.Header.TheVariants as headers
 use Rattle.nor_layout.specs.Headers.{header_of}
 use Rattle.nor_layout.specs.Kinds.{kind_of}
-use Rattle.sector_slots.specs.Slots.{data_block, raw_slot, slot_at, slot_count, stored_at, Slot, Free, Dead, slot_in, descriptor_in, header_in, slot_with, content_bytes, is_group}
-use Rattle.journal_slots.specs.Programs.{InPlace, OnlyBytes, IsFirmByte, as_read, killed}
+use Rattle.sector_slots.specs.Slots.{data_block, raw_slot, slot_at, slot_count, stored_at, Free, Dead, slot_in, descriptor_in, content_bytes, is_group}
+use Rattle.journal_slots.specs.Programs.{OnlyBytes, IsFirmByte, as_read, killed}
 use Rattle.journal_slots.proofs.Marks.{header-bytes, kind-bytes}
 use Rattle.journal_slots.proofs.Bytes.{and-only, leaves-only, state-leaves, descriptor-place, place-group}
 use Rattle.erase_journal.specs.Blocks.{OnlyBlock}

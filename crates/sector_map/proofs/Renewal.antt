@@ -1,5 +1,5 @@
 -- The journals were erased, and each data block is as it was; and a data block that was erased.
-use Rattle.std.proofs.Common.{◌≡◌, ℕ, ◌-◌, ◌<◌, Bool, true, List, length, refl, sym, ap, ◌∙◌, subst, arith}
+use Rattle.std.proofs.Common.{◌≡◌, ℕ, ◌-◌, ◌<◌, Bool, true, List, refl, sym, ap, ◌∙◌, subst, arith}
 use Rattle.std.specs.Prelude.{Option, ◌/◌}
 use Rattle.chip_model.specs.Geometry.{block_count, sector_count}
 use Rattle.nor_driver.specs.State.{NorState}
@@ -7,7 +7,7 @@ use Rattle.nor_driver.proofs.CallLaws.{ready-after}
 use Rattle.nor_layout.specs.declared.header.Generation.{Generation}
 use Rattle.erase_journal.specs.Blocks.{SameBlocks}
 use Rattle.erase_journal.specs.Journals.{IsHealthy}
-use Rattle.erase_journal.specs.Steps.{SucceedsSettled, KeepsBlocks}
+use Rattle.erase_journal.specs.Steps.{SucceedsSettled}
 use Rattle.erase_journal.proofs.SettledLaws.{settled-healthy}
 use Rattle.sector_slots.specs.Slots.{slot_at, slot_count, data_blocks, kind_at, raw_slot, is_group, IsSpareIn}
 use Rattle.sector_slots.specs.Blocks.{AreSettled, IsSettledBlocks}

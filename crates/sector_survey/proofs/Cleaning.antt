@@ -1,8 +1,7 @@
 -- What is erased of a memory whose journals were recovered is erased of the memory before.
-use Rattle.std.proofs.Common.{IfSome, ◌≡◌, ℕ, ◌+◌, ◌<◌, Bool, true, false, List, length, sym, ap, ◌∙◌, subst, arith}
+use Rattle.std.proofs.Common.{IfSome, ◌≡◌, ℕ, ◌<◌, Bool, true, false, List, length, sym, ap, ◌∙◌, subst, arith}
 use Rattle.std.proofs.lemmas.Option.{none-some}
 use Rattle.std.specs.Prelude.{Option, Some, None, Result, Ok, Err}
-use Rattle.nor_layout.specs.declared.header.Header.TheVariants as headers
 use Rattle.nor_layout.specs.declared.layout.Layout.{Layout}
 use Rattle.nor_layout.specs.declared.layout.Layout.TheVariants.{Groups, Sectors, Mixed}
 use Rattle.nor_layout.specs.Headers.{header_of}
@@ -10,14 +9,14 @@ use Rattle.nor_layout.specs.Layouts.{layout_of}
 use Rattle.nor_layout.specs.declared.superblock.SuperError.{SuperError}
 use Rattle.chip_model.specs.Memory.{byte}
 use Rattle.chip_model.specs.Geometry.{block_count}
-use Rattle.erase_journal.specs.Blocks.{SameBlocks, blank}
+use Rattle.erase_journal.specs.Blocks.{SameBlocks}
 use Rattle.erase_journal.proofs.BlockLaws.{byte-blank}
-use Rattle.sector_slots.specs.Blocks.{AreAtRest, IsAtRest}
-use Rattle.sector_slots.specs.Slots.{data_block, data_blocks, kind_at}
-use Rattle.sector_slots.specs.Groups.{IsCleanOfGroups, block_header}
+use Rattle.sector_slots.specs.Blocks.{IsAtRest}
+use Rattle.sector_slots.specs.Slots.{data_blocks}
+use Rattle.sector_slots.specs.Groups.{IsCleanOfGroups}
 use Rattle.sector_map.specs.Maps.{geometry_of}
 use Rattle.sector_map.proofs.Restoring.{blocks-clean}
-use Rattle.sector_survey.specs.Cleanness.{FreeBlockTells, FreeBlocksTell, GroupsTell, HasCleanGroups, HasFreeErased, IsCleannessOf, IsDirtyFree, IsFirstDirty, IsOfGroups, Judges, SlotsTell, clean_by, is_clean}
+use Rattle.sector_survey.specs.Cleanness.{FreeBlockTells, FreeBlocksTell, GroupsTell, HasCleanGroups, HasFreeErased, IsCleannessOf, IsFirstDirty, IsOfGroups, Judges, SlotsTell, clean_by, is_clean}
 use Rattle.sector_survey.specs.declared.clean.Cleanness.{Cleanness}
 use Rattle.sector_survey.proofs.Verdicts.{count-same, block-same, kind-same}
 

@@ -1,17 +1,16 @@
 -- The free blocks of layout 1, looked at and erased one after the other.
 use Rattle.std.proofs.Common.{◌≡◌, ◌≢◌, ℕ, ◌+◌, ◌-◌, ◌<◌, ◌≤◌, List, length, refl, sym, ap, ◌∙◌, subst, arith, inl, inr}
-use Rattle.std.specs.Prelude.{Option, Some, None, IfSome, is_some, Bool, true, false}
+use Rattle.std.specs.Prelude.{Option, Some, None, IfSome, is_some, true, false}
 use Rattle.std.proofs.lemmas.Bool.{cases_eq, true≢false, false≢true}
 use Rattle.chip_model.specs.Memory.{byte}
 use Rattle.chip_model.specs.Geometry.{block_count}
-use Rattle.nor_layout.specs.declared.header.Header.{Header}
 use Rattle.nor_layout.specs.declared.header.Header.TheVariants as headers
 use Rattle.nor_layout.specs.Headers.{header_of}
 use Rattle.erase_journal.specs.Blocks.{blank, WithErased}
 use Rattle.journal_slots.proofs.Cleaning.{erased-is-blank}
 use Rattle.sector_slots.specs.Slots.{data_block, data_blocks}
-use Rattle.sector_slots.specs.Groups.{IsCleanOfGroups, block_header}
-use Rattle.sector_survey.specs.Cleanness.{FreeBlockTells, HasFreeErased, IsFirstDirty}
+use Rattle.sector_slots.specs.Groups.{block_header}
+use Rattle.sector_survey.specs.Cleanness.{FreeBlockTells, HasFreeErased}
 
 -- of the first n data blocks those that read as free are erased, and all else is as it was
 pub record ErasedTo (n : ℕ) (m m' : List ℕ) : Type 0 where

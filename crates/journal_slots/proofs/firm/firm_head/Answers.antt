@@ -1,8 +1,7 @@
 use Rattle.std.proofs.Common.{◌≡◌, ◌+◌, ◌∙◌, arith, length, ap, subst, sym}
 use Rattle.std.specs.Prelude.{slice_range}
 use Rattle.std.proofs.lemmas.Result.{err_from_is_err_and}
-use Rattle.chip_model.specs.Memory.{and_at, TornAnd}
-use Rattle.nor_driver.specs.State.{Leaves, changed_whole}
+use Rattle.nor_driver.specs.State.{changed_whole}
 use Rattle.erase_journal.specs.Steps.{RefusesFirmly}
 use Rattle.erase_journal.specs.Journals.{IsHealthy}
 use Rattle.erase_journal.proofs.BlockLaws.{length-block}

@@ -1,6 +1,6 @@
-use Rattle.std.proofs.Common.{◌+◌, ◌*◌, ◌∷◌, [], ◌∙◌, ap, subst, arith, sym}
+use Rattle.std.proofs.Common.{◌+◌, ◌∷◌, [], ◌∙◌, ap, subst, arith}
 use Rattle.std.proofs.lemmas.Result.{err_from_is_err_and}
-use Rattle.chip_model.specs.Memory.{byte, and_at, TornAnd}
+use Rattle.chip_model.specs.Memory.{and_at, TornAnd}
 use Rattle.nor_driver.specs.State.{Leaves}
 use Rattle.erase_journal.proofs.BlockLaws.{length-block}
 use Rattle.sector_slots.specs.Slots.{data_block}

@@ -2,7 +2,6 @@ use Rattle.std.proofs.Common.{◌≡◌, ◌+◌, ◌*◌, ◌<◌, ℕ, ◌∙�
 use Rattle.std.specs.Prelude.{drop, slice_index_or}
 use Rattle.nor_layout.specs.declared.header.Header.TheVariants as headers
 use Rattle.nor_layout.specs.Headers.{header_of}
-use Rattle.nor_layout.specs.Kinds.{kind_of}
 use Rattle.sector_slots.specs.Slots.{header_in}
 use Rattle.journal_slots.proofs.Reading.{seven-headers}
 use Rattle.journal_slots.proofs.head.head_of.Goals as goal

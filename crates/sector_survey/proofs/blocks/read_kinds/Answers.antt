@@ -6,6 +6,9 @@ use Rattle.erase_journal.proofs.Calls.{repeated-more}
 use Rattle.sector_map.proofs.Founds.{found-step, allowed-noted, alone-more}
 use Rattle.sector_survey.specs.Steps.{IsKindFault}
 use Rattle.sector_survey.proofs.Faults.{kind-explains}
+use Rattle.erase_journal.specs.Steps.{RefusesFirmly, SucceedsSettled}
+use Rattle.nor_driver.proofs.CallLaws.{fails-as}
+use Rattle.erase_journal.proofs.Calls.{repeated-refuses}
 use Rattle.sector_survey.proofs.blocks.read_kinds.Goals as goal
 
 pub returns-in-Err-clause-fault : goal.returns-in-Err-clause-fault
@@ -30,3 +33,11 @@ loop-block-preserved g c =
       found = subst (λ k. FoundBelow c.in-Ok.now (kind_at m) k (data_blocks m)) next (found-step c.loop-block.found c.in-Ok.now (kind_at m) c.loop-block.block (data_blocks m) (allowed-noted c.args.groups c.loop-block.found c.in-Ok.now c.loop-block.block (kind_at m c.loop-block.block) (data_blocks m) some) c.loop-block.invariant.found);
       alone = λ none d low. alone-more c.args.groups c.loop-block.found c.in-Ok.now (kind_at m) c.loop-block.block (data_blocks m) some c.loop-block.invariant.alone none d (omega (arith, low));
     }
+
+pub returns-in_err-kind-clause-ends : goal.returns-in_err-kind-clause-ends
+returns-in_err-kind-clause-ends g c =
+    let s0 = g.S.SlotCalls.state c.args.slots.now in
+    let s1 = g.S.SlotCalls.state c.loop-block.slots in
+    let s2 = g.S.SlotCalls.state c.kind.new.self in
+    fails-as c.from_residual.result _ (λ _. SucceedsSettled s0 s2) (λ e. RefusesFirmly e s0 s2) c.from_residual.ensures.1
+    (repeated-refuses c.loop-block.block _ s0 s1 s2 c.loop-block.invariant.since c.in_err-kind.ensures.ends)

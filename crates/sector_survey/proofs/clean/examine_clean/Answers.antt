@@ -1,5 +1,3 @@
-use Rattle.std.proofs.Common.{subst}
-use Rattle.sector_survey.specs.Cleanness.{IsCleannessOf}
 use Rattle.sector_survey.proofs.Cleaning.{cleanness-back}
 use Rattle.sector_survey.proofs.clean.examine_clean.Goals as goal
 

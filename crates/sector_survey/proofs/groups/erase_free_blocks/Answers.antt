@@ -1,4 +1,4 @@
-use Rattle.std.proofs.Common.{◌≡◌, ◌∙◌, ◌+◌, ◌<◌, ap, subst, sym, arith, length}
+use Rattle.std.proofs.Common.{◌+◌, ◌<◌, subst, sym, arith}
 use Rattle.erase_journal.specs.Steps.{RefusesFirmly}
 use Rattle.nor_driver.proofs.CallLaws.{fails-as}
 use Rattle.erase_journal.specs.Steps.{SucceedsSettled}
@@ -7,6 +7,7 @@ use Rattle.erase_journal.proofs.Calls.{Repeated, repeated-more, repeated-then}
 use Rattle.sector_slots.specs.Slots.{data_blocks}
 use Rattle.sector_survey.specs.Cleanness.{FreeBlockTells}
 use Rattle.sector_survey.proofs.Erasing.{ErasedTo, erased-skip, erased-some, tells-unless}
+use Rattle.erase_journal.proofs.Calls.{repeated-refuses}
 use Rattle.sector_survey.proofs.groups.erase_free_blocks.Goals.{then-is_some+in_ok-erase, else-is_some}
 use Rattle.sector_survey.proofs.groups.erase_free_blocks.Goals as goal
 
@@ -37,3 +38,11 @@ returns-in_err-erase-clause-ends g c =
     let s3 = c.erase.new.self in
     fails-as c.from_residual-in_err-erase.result _ (λ _. SucceedsSettled s0 s3) (λ e. RefusesFirmly e s0 s3) c.from_residual-in_err-erase.ensures.1
     (refuses-firmly _ s0 s2 s3 (repeated-then c.loop-block.block s0 s1 s2 c.loop-block.invariant.since c.in_ok-dirty_byte.ensures.ends) c.in_err-erase.ensures.ends)
+
+pub returns-in_err-dirty_byte-clause-ends : goal.returns-in_err-dirty_byte-clause-ends
+returns-in_err-dirty_byte-clause-ends g c =
+    let s0 = c.args.journal.now in
+    let s1 = c.loop-block.journal in
+    let s2 = c.dirty_byte.new.journal in
+    fails-as c.from_residual.result _ (λ _. SucceedsSettled s0 s2) (λ e. RefusesFirmly e s0 s2) c.from_residual.ensures.1
+    (repeated-refuses c.loop-block.block _ s0 s1 s2 c.loop-block.invariant.since c.in_err-dirty_byte.ensures.ends)

@@ -1,9 +1,12 @@
-use Rattle.std.proofs.Common.{◌≡◌, ◌∙◌, ◌+◌, ap, subst, sym, arith, inl, inr}
+use Rattle.std.proofs.Common.{◌∙◌, ◌+◌, subst, sym, arith, inl, inr}
 use Rattle.std.specs.Prelude.{None}
 use Rattle.std.proofs.lemmas.Bool.{cases_eq}
 use Rattle.erase_journal.proofs.Calls.{repeated-more}
 use Rattle.sector_survey.specs.Cleanness.{FreeBlockTells}
 use Rattle.sector_survey.proofs.Erasing.{tells-none}
+use Rattle.erase_journal.specs.Steps.{RefusesFirmly, SucceedsSettled}
+use Rattle.nor_driver.proofs.CallLaws.{fails-as}
+use Rattle.erase_journal.proofs.Calls.{repeated-refuses}
 use Rattle.sector_survey.proofs.groups.first_dirty_group.Goals as goal
 
 pub loop-block-preserved : goal.loop-block-preserved
@@ -18,3 +21,11 @@ loop-block-preserved g c =
         | inr other ↦ c.loop-block.invariant.before d (omega (arith, low, other))
       ];
     }
+
+pub returns-in_err-byte-clause-ends : goal.returns-in_err-byte-clause-ends
+returns-in_err-byte-clause-ends g c =
+    let s0 = c.args.journal.now in
+    let s1 = c.loop-block.journal in
+    let s2 = c.dirty_byte.new.journal in
+    fails-as c.from_residual.result _ (λ _. SucceedsSettled s0 s2) (λ e. RefusesFirmly e s0 s2) c.from_residual.ensures.1
+    (repeated-refuses c.loop-block.block _ s0 s1 s2 c.loop-block.invariant.since c.in_err-byte.ensures.ends)
