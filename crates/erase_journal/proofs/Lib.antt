@@ -35,5 +35,6 @@ pub mod Begun
 pub mod Cuts
 pub mod EntryCuts
 pub mod Standing
+mod Still
 pub mod Firmly
 pub mod Calls

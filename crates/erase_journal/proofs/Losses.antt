@@ -19,7 +19,7 @@ use Rattle.erase_journal.proofs.Effects.{and-leaves}
 use Rattle.erase_journal.proofs.FirmJournals.{OfJournal, aligned-first, aligned-second, below-two, entries-stay, first-from, of-each, second-from, zero-used}
 
 -- where two memories are the same, no bit becomes weak
-differs-not : (m m' w : List ℕ) (i : ℕ) → byte m' i ≡ byte m i → byte (with_differences m m' w) i ≡ byte w i
+pub differs-not : (m m' w : List ℕ) (i : ℕ) → byte m' i ≡ byte m i → byte (with_differences m m' w) i ≡ byte w i
 differs-not m m' w i same = elim (cases_lt i (length w)) [
   | inr past ↦ get_or_past (with_differences m m' w) i 0 (let l = length-changed_from (λ j x. bit_or x (bit_xor (byte m j) (byte m' j))) 0 w in omega (arith, l, past)) ∙ sym (get_or_past w i 0 past)
   | inl low ↦

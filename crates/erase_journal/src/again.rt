@@ -1,10 +1,10 @@
 //! Bytes are programmed again as they read. A bit that reads 0 is firm from then on; nothing else
-//! changes.
+//! changes, and no bit becomes weak, whatever is answered.
 
 ghost use Rattle.std.specs.Prelude.{◌≡◌, ◌+◌, ◌*◌, ◌%◌, ◌<◌, ◌≤◌, length, slice_range, OnOk};
 ghost use Rattle.std.specs.Prelude.{IfErr};
 ghost use Rattle.nor_driver.specs.State.{IsNorReady, OnlyMemoryChanges, Refuses, EndsReady};
-ghost use Rattle.nor_driver.specs.State.{bits_in};
+ghost use Rattle.nor_driver.specs.State.{bits_in, IsFirmer};
 ghost use Rattle.erase_journal.specs.Weak.{AreVotesBelieved, AreZerosFirm};
 
 use crate::scan::is_blank;
@@ -23,6 +23,7 @@ pub(crate) fn program_again<N: Nor>(nor: &mut N, at: u32, bytes: &[u8]) -> Resul
         ≡ slice_range (N.state nor.old).memory at (at + length bytes.now) }
     ensures same { (N.state nor.new).memory ≡ (N.state nor.old).memory }
     ensures firm { OnOk result (AreZerosFirm (bits_in (N.state nor.new)) at (length bytes.now)) }
+    ensures firmer { IsFirmer (bits_in (N.state nor.old)) (bits_in (N.state nor.new)) }
     ensures ends { EndsReady result (N.state nor.old) (N.state nor.new) }
 {
     nor.program(at, bytes)
@@ -34,6 +35,7 @@ fn program_page_again<N: Nor>(nor: &mut N, at: u32) -> Result<(), NorError>
     requires range { at + 256 ≤ length (N.state nor.old).memory }
     ensures same { (N.state nor.new).memory ≡ (N.state nor.old).memory }
     ensures firm { OnOk result (AreZerosFirm (bits_in (N.state nor.new)) at 256) }
+    ensures firmer { IsFirmer (bits_in (N.state nor.old)) (bits_in (N.state nor.new)) }
     ensures ends { EndsReady result (N.state nor.old) (N.state nor.new) }
 {
     let mut bytes = [0; PAGE_LEN];
@@ -52,6 +54,7 @@ pub(crate) fn program_pages_again<N: Nor>(nor: &mut N, from: u32) -> Result<(), 
     requires fits { from < 65536 }
     ensures same { (N.state nor.new).memory ≡ (N.state nor.old).memory }
     ensures firm { OnOk result (AreZerosFirm (bits_in (N.state nor.new)) from 2048) }
+    ensures firmer { IsFirmer (bits_in (N.state nor.old)) (bits_in (N.state nor.new)) }
     ensures kept { OnOk result (OnlyMemoryChanges (N.state nor.old) (N.state nor.new)) }
     ensures fails { IfErr result (λ e. Refuses e (N.state nor.old) (N.state nor.new)) }
 {
@@ -67,6 +70,7 @@ pub(crate) fn program_votes_again<N: Nor>(nor: &mut N) -> Result<(), NorError>
     requires size { JOURNALS_END ≤ length (N.state nor.old).memory }
     ensures same { (N.state nor.new).memory ≡ (N.state nor.old).memory }
     ensures firm { OnOk result (AreVotesBelieved (bits_in (N.state nor.new))) }
+    ensures firmer { IsFirmer (bits_in (N.state nor.old)) (bits_in (N.state nor.new)) }
     ensures kept { OnOk result (OnlyMemoryChanges (N.state nor.old) (N.state nor.new)) }
     ensures fails { IfErr result (λ e. Refuses e (N.state nor.old) (N.state nor.new)) }
 {

@@ -15,8 +15,9 @@
 //! leaves (`AreRecoveredJournals`, `AreFirmJournals`); what is said above holds of both. Firm
 //! journals stay firm in each call that answers Ok. Where the power is lost in one that ends
 //! `EndsFirmly`, each power-on finds healthy journals of which one operation was interrupted, as a
-//! firm recovery wants them (`AreInterruptedAtEachDraw`); of a loss in a recovery, in `firm` and in
-//! `mark` that isn't said. `renew_all` erases each of the three journals. No call allocates.
+//! firm recovery wants them (`AreInterruptedAtEachDraw`). A recovery that fails where no erase goes
+//! on leaves them so; of a loss in any other, in `firm` and in `mark` that isn't said. `renew_all`
+//! erases each of the three journals. No call allocates.
 //!
 //! Depends on `Nor` of `nor_driver` (read, program, erase, restart) and on the places of
 //! `nor_layout`. Left to the crate above: what the data blocks and the superblock hold, and when to

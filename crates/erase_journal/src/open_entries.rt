@@ -102,6 +102,9 @@ fn close_opened<N: Nor>(nor: &mut N, entries: &[u8], count: u16) -> Result<(), N
 pub(crate) fn erase_opened<N: Nor>(nor: &mut N) -> Result<(), NorError>
     requires size { JOURNALS_END ≤ length (N.state nor.old).memory }
     requires idle { AreJournalsSound ErasePhase.Idle (N.state nor.old).memory }
+    ensures rests { open_blocks (N.state nor.old).memory ≡ 0
+        → ((N.state nor.new).memory ≡ (N.state nor.old).memory)
+        × ((N.state nor.new).weak ≡ (N.state nor.old).weak) }
     ensures numbers { OnOk result (SameNumbers (unused (N.state nor.old).memory)
         (unused (N.state nor.new).memory)) }
     ensures blocks { OnOk result (SameBlocks (N.state nor.old).memory (N.state nor.new).memory) }

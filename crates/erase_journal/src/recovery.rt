@@ -4,7 +4,7 @@ ghost use Rattle.std.specs.Prelude.{◌↔◌, ◌⊎◌, None, false, IsSome, I
 ghost use Rattle.std.specs.Prelude.{OnOk, IfErr, IsTrue};
 ghost use Rattle.std.specs.Result.{IsErrOf};
 ghost use Rattle.nor_driver.specs.State.{bits_in, EndsReady, IsNorReady, OnlyMemoryChanges};
-ghost use Rattle.nor_driver.specs.State.{Refuses};
+ghost use Rattle.nor_driver.specs.State.{Refuses, IsFirmer};
 ghost use Rattle.erase_journal.specs.Journals.{AreJournalsSound, IsSettled, IsHealthy, settled};
 ghost use Rattle.erase_journal.specs.Journals.{unused, first, tally_of};
 ghost use Rattle.erase_journal.specs.Blocks.{SameBlocks};
@@ -76,6 +76,9 @@ fn resume<N: Nor>(nor: &mut N, phase: ErasePhase) -> Result<(), NorError>
         (unused (N.state nor.new).memory)) }
     ensures firm { (x : JournalId) → begun phase ≡ ErasePhase.Doomed x
         → OnOk result (IsFirmJournal (N.state nor.new).weak x) }
+    ensures rests { IsSettled (N.state nor.old).memory
+        → ((N.state nor.new).memory ≡ (N.state nor.old).memory)
+        × ((N.state nor.new).weak ≡ (N.state nor.old).weak) }
     ensures blocks { OnOk result (SameBlocks (N.state nor.old).memory (N.state nor.new).memory) }
     ensures cut { IsErrOf result NorError.Cut
         → KeepsBlocks (N.state nor.old).memory (N.state nor.new).memory }
@@ -97,6 +100,7 @@ fn believe<N: Nor>(nor: &mut N, firmness: Firmness, opened: u16) -> Result<(), N
     ensures same { (N.state nor.new).memory ≡ (N.state nor.old).memory }
     ensures firm { firmness ≡ Firmness.Firm
         → OnOk result (AreVotesBelieved (bits_in (N.state nor.new))) }
+    ensures firmer { IsFirmer (bits_in (N.state nor.old)) (bits_in (N.state nor.new)) }
     ensures kept { OnOk result (OnlyMemoryChanges (N.state nor.old) (N.state nor.new)) }
     ensures fails { IfErr result (λ e. Refuses e (N.state nor.old) (N.state nor.new)) }
 {
@@ -147,6 +151,7 @@ fn refresh_idle<N: Nor>(
     requires size { JOURNALS_END ≤ length (N.state nor.old).memory }
     requires tally { tally ≡ tally_of (N.state nor.old).memory }
     requires idle { AreJournalsSound ErasePhase.Idle (N.state nor.old).memory }
+    ensures rests { tally.opened ≡ 0 → N.state nor.new ≡ N.state nor.old }
     ensures sound { OnOk result (AreJournalsSound ErasePhase.Idle (N.state nor.new).memory) }
     ensures numbers { IfOk result (λ u. SameNumbers u (unused (N.state nor.new).memory)) }
     ensures spends { IfOk result (λ u.
@@ -288,6 +293,7 @@ fn refresh<N: Nor>(
     requires size { JOURNALS_END ≤ length (N.state nor.old).memory }
     requires tally { tally ≡ tally_of (N.state nor.old).memory }
     requires sound { AreJournalsSound phase (N.state nor.old).memory }
+    ensures rests { IsSettled (N.state nor.old).memory → N.state nor.new ≡ N.state nor.old }
     ensures sound { OnOk result (AreJournalsSound (begun phase) (N.state nor.new).memory) }
     ensures one { (x : JournalId) → begun phase ≡ ErasePhase.Doomed x
         → OnOk result ((first (tally_of (N.state nor.new).memory) x).opened ≡ 1) }
@@ -327,6 +333,9 @@ pub(crate) fn settle<N: Nor>(nor: &mut N, firmness: Firmness) -> Result<Option<U
         (bits_in (N.state nor.new)))) }
     ensures corrupt { IfOk result (λ found. found ≡ None
         → (N.state nor.new).memory ≡ (N.state nor.old).memory) }
+    ensures rests { IsSettled (N.state nor.old).memory
+        → ((N.state nor.new).memory ≡ (N.state nor.old).memory)
+        × IsFirmer (bits_in (N.state nor.old)) (bits_in (N.state nor.new)) }
     ensures cut { IsErrOf result NorError.Cut
         → ((N.state nor.new).memory ≡ (N.state nor.old).memory)
         ⊎ KeepsBlocks (N.state nor.old).memory (N.state nor.new).memory }

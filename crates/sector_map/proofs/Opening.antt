@@ -9,7 +9,7 @@ use Rattle.nor_layout.specs.Layouts.{layout_of}
 use Rattle.nor_layout.specs.declared.superblock.SuperError.TheVariants as refusals
 use Rattle.erase_journal.specs.Blocks.{SameBlocks}
 use Rattle.erase_journal.specs.Journals.{IsHealthy}
-use Rattle.erase_journal.specs.Recovery.{Recovers, RecoveryCut, IsBehind}
+use Rattle.erase_journal.specs.Recovery.{Recovers, RecoveryCorrupt, RecoveryCut, IsBehind}
 use Rattle.erase_journal.specs.Steps.{SucceedsSettled, KeepsBlocks}
 use Rattle.sector_slots.specs.Slots.{Slot, slot_at, slot_count, SameSlots}
 use Rattle.sector_slots.specs.Sectors.{IsSoundMap, sector_at, winner, newer, content_in}
@@ -20,7 +20,7 @@ use Rattle.erase_journal.proofs.SettledLaws.{settled-healthy}
 use Rattle.sector_slots.proofs.BlankLaws.{blocks-holds, holds-sound, sound-holds}
 use Rattle.sector_map.specs.Marking.{IsUnmarked, mixed_mark}
 use Rattle.sector_map.specs.Table.{Mounts, MountCut}
-use Rattle.sector_map.specs.Maps.{IsMountable, IsLaidOut, geometry_of, KeepsEach, Mounted, MountWasCut, MountFails, shown_with, is_slow_in}
+use Rattle.sector_map.specs.Maps.{IsMountable, IsLaidOut, geometry_of, KeepsEach, Mounted, MountWasCorrupt, MountWasCut, MountFails, shown_with, is_slow_in}
 use Rattle.sector_map.specs.Filling.{Filled, FillCut, FillFails}
 use Rattle.sector_map.specs.declared.table.LiveSlots.{LiveSlots}
 use Rattle.sector_map.specs.declared.error.MapError.{MapError}
@@ -134,6 +134,18 @@ recovery-cut a b r = record {
   size = elim r.leaves as (λ _. length b.memory ≡ length a.memory) [ inl e ↦ ap length e | inr s ↦ s.blocks.chip.same_length ];
   keeps = λ m. left-keeps a.memory b.memory r.leaves m.store;
   first = λ m u. inl (left-blocks a.memory b.memory r.leaves);
+}
+
+pub recovery-corrupt : (a b : NorState) → IsLaidOut a.memory → RecoveryCorrupt a b → MountWasCorrupt a b
+recovery-corrupt a b super r = record {
+  corrupt = λ m. r.corrupt m.store.journals;
+  formatted = laid-formatted a.memory super;
+  cuts = r.kept.cuts;
+  slows = r.kept.slows;
+  quick = λ q. r.kept.is_slow ∙ q;
+  leaves = inl r.same;
+  size = ap (λ (m : List ℕ). length m) r.same;
+  sectors = λ s. ap (λ (m : List ℕ). sector_at m s) r.same;
 }
 
 -- the superblock wasn't read, for a loss of power

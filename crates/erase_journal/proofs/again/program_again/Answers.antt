@@ -1,5 +1,6 @@
 use Rattle.erase_journal.proofs.SameBytes.{and-same, again-same}
 use Rattle.erase_journal.proofs.WeakLaws.{again-firm}
+use Rattle.erase_journal.proofs.Still.{again-firmer}
 use Rattle.nor_driver.specs.State.{bits_in}
 use Rattle.erase_journal.proofs.again.program_again.Goals as goal
 
@@ -15,3 +16,12 @@ returns-clause-firm g c =
     let same = again-same m c.args.bytes.now c.args.at (g.N.Nor.state c.program.new.self).memory c.program.result (and-same m c.args.bytes.now c.args.at c.requires.range c.requires.read)
     c.program.ensures.ok c.program.ensures.cut c.program.ensures.slow in
     again-firm (bits_in (g.N.Nor.state c.args.nor.now)) (bits_in (g.N.Nor.state c.program.new.self)) c.args.bytes.now c.args.at c.program.result c.requires.read same c.program.ensures.firm
+
+pub returns-clause-firmer : goal.returns-clause-firmer
+returns-clause-firmer g c =
+    let m = (g.N.Nor.state c.args.nor.now).memory in
+    let is = and-same m c.args.bytes.now c.args.at c.requires.range c.requires.read in
+    let same = again-same m c.args.bytes.now c.args.at (g.N.Nor.state c.program.new.self).memory c.program.result is
+    c.program.ensures.ok c.program.ensures.cut c.program.ensures.slow in
+    again-firmer (bits_in (g.N.Nor.state c.args.nor.now)) (bits_in (g.N.Nor.state c.program.new.self)) c.args.at c.args.bytes.now c.program.result is same
+    c.program.ensures.firm c.program.ensures.cut_bits c.program.ensures.slow_bits

@@ -1,6 +1,8 @@
 use Rattle.std.proofs.Common.{◌/◌, ap, sym, ◌∙◌}
+use Rattle.std.proofs.lemmas.Bool.{true≢false}
 use Rattle.std.proofs.lemmas.Result.{err_from_is_err_and, on_ok_weaker}
 use Rattle.erase_journal.proofs.Renewal.{stands-on, same-blocks-on}
+use Rattle.erase_journal.proofs.Opened.{none-open}
 use Rattle.erase_journal.proofs.Reopening.{IsNamed, named-cut, named-erased}
 use Rattle.erase_journal.proofs.Scans.{open-found, buffer-open}
 use Rattle.erase_journal.proofs.Uses.{keeps-on}
@@ -92,3 +94,17 @@ returns-clause-ends g c =
     let s2 = g.N.Nor.state c.erase_small.new.self in
     let s3 = g.N.Nor.state c.close_opened.new.nor in
     settles-since c.close_opened.result s0 s2 s3 c.in_ok-read.ensures.ready (kept-after s0 s1 s2 c.in_ok-read.ensures.kept c.in_ok-erase_small.ensures.kept) c.close_opened.ensures.ends
+
+pub returns-in_err-erase_small-clause-rests : goal.returns-in_err-erase_small-clause-rests
+returns-in_err-erase_small-clause-rests g c none =
+    let m = (g.N.Nor.state c.args.nor.now).memory in
+    let found = open-found m c.read.new.into (c.bytes.result / 4096) c.lowest_open.result (rw c.entry_place.ensures at c.in_ok-read.ensures.ok) (ap (λ n. n / 4096) c.bytes.ensures) c.lowest_open.ensures.found in
+    let o = rw c.in-Some.is at found in
+    absurd (true≢false (sym o.1 ∙ none-open m none c.in-Some.open.entry o.0))
+
+pub returns-clause-rests : goal.returns-clause-rests
+returns-clause-rests g c none =
+    let m = (g.N.Nor.state c.args.nor.now).memory in
+    let found = open-found m c.read.new.into (c.bytes.result / 4096) c.lowest_open.result (rw c.entry_place.ensures at c.in_ok-read.ensures.ok) (ap (λ n. n / 4096) c.bytes.ensures) c.lowest_open.ensures.found in
+    let o = rw c.in-Some.is at found in
+    absurd (true≢false (sym o.1 ∙ none-open m none c.in-Some.open.entry o.0))

@@ -1,7 +1,10 @@
-use Rattle.std.proofs.Common.{◌≡◌, List, ℕ, ap, ◌∙◌}
+use Rattle.std.proofs.Common.{◌≡◌, List, ℕ, sym, subst, ap, ◌∙◌}
 use Rattle.std.specs.Int.{bit_at}
 use Rattle.chip_model.specs.Memory.{byte}
-use Rattle.nor_driver.specs.State.{bits_in, Succeeds, Refuses}
+use Rattle.nor_driver.specs.State.{NorState, bits_in, Succeeds, Refuses}
+use Rattle.nor_driver.proofs.Firmer.{firmer-on}
+use Rattle.erase_journal.specs.Journals.{IsSettled}
+use Rattle.erase_journal.proofs.Still.{firmer-still}
 use Rattle.nor_driver.proofs.CallLaws.{fails-as, kept-after, refuses-after, refuses-since}
 use Rattle.erase_journal.proofs.Resuming.{continued}
 use Rattle.erase_journal.proofs.WeakLaws.{firm-stays}
@@ -66,3 +69,58 @@ returns-clause-ends g c =
     let s4 = g.N.Nor.state c.resume.new.nor in
     let k = kept-after s0 s2 s3 (kept-after s0 s1 s2 c.in_ok-tally.ensures.ends.kept c.in_ok-believe.ensures.kept) c.in_ok-unused.ensures.kept in
     record { ready = c.in_ok-tally.ensures.ends.ready; kept = kept-after s0 s3 s4 k c.in_ok-resume.ensures.ends.kept }
+
+pub returns-in_err-tally-clause-rests : goal.returns-in_err-tally-clause-rests
+returns-in_err-tally-clause-rests g c h =
+    (c.in_err-tally.ensures.same, firmer-still (bits_in (g.N.Nor.state c.args.nor.now)) (bits_in (g.N.Nor.state c.read_tally.new.nor)) c.in_err-tally.ensures.same c.in_err-tally.ensures.weak)
+
+pub returns-in_default-clause-rests : goal.returns-in_default-clause-rests
+returns-in_default-clause-rests g c h =
+    (c.in_ok-tally.ensures.same, firmer-still (bits_in (g.N.Nor.state c.args.nor.now)) (bits_in (g.N.Nor.state c.read_tally.new.nor)) c.in_ok-tally.ensures.same c.in_ok-tally.ensures.weak)
+
+pub returns-in_err-believe-clause-rests : goal.returns-in_err-believe-clause-rests
+returns-in_err-believe-clause-rests g c h =
+    let b0 = bits_in (g.N.Nor.state c.args.nor.now) in
+    let b1 = bits_in (g.N.Nor.state c.read_tally.new.nor) in
+    let b2 = bits_in (g.N.Nor.state c.believe.new.nor) in
+    (c.in_err-believe.ensures.same ∙ c.in_ok-tally.ensures.same, firmer-on b0 b1 b2 (firmer-still b0 b1 c.in_ok-tally.ensures.same c.in_ok-tally.ensures.weak) c.in_err-believe.ensures.firmer)
+
+pub returns-in_err-unused-clause-rests : goal.returns-in_err-unused-clause-rests
+returns-in_err-unused-clause-rests g c h =
+    let s2 = g.N.Nor.state c.believe.new.nor in
+    let b0 = bits_in (g.N.Nor.state c.args.nor.now) in
+    let b1 = bits_in (g.N.Nor.state c.read_tally.new.nor) in
+    let b2 = bits_in s2 in
+    let b3 = bits_in (g.N.Nor.state c.refresh.new.nor) in
+    let same : s2.memory ≡ b0.shown = c.in_ok-believe.ensures.same ∙ c.in_ok-tally.ensures.same in
+    let is = c.in_err-unused.ensures.rests (subst IsSettled (sym same) h) in
+    let m = ap (λ (s : NorState). s.memory) is in
+    (m ∙ same, firmer-on b0 b2 b3 (firmer-on b0 b1 b2 (firmer-still b0 b1 c.in_ok-tally.ensures.same c.in_ok-tally.ensures.weak) c.in_ok-believe.ensures.firmer) (firmer-still b2 b3 m (ap (λ (s : NorState). s.weak) is)))
+
+pub returns-in_err-resume-clause-rests : goal.returns-in_err-resume-clause-rests
+returns-in_err-resume-clause-rests g c h =
+    let s2 = g.N.Nor.state c.believe.new.nor in
+    let b0 = bits_in (g.N.Nor.state c.args.nor.now) in
+    let b1 = bits_in (g.N.Nor.state c.read_tally.new.nor) in
+    let b2 = bits_in s2 in
+    let b3 = bits_in (g.N.Nor.state c.refresh.new.nor) in
+    let b4 = bits_in (g.N.Nor.state c.resume.new.nor) in
+    let same : s2.memory ≡ b0.shown = c.in_ok-believe.ensures.same ∙ c.in_ok-tally.ensures.same in
+    let is = c.in_ok-unused.ensures.rests (subst IsSettled (sym same) h) in
+    let m = ap (λ (s : NorState). s.memory) is in
+    let end = c.in_err-resume.ensures.rests (subst IsSettled (sym (m ∙ same)) h) in
+    (end.0 ∙ (m ∙ same), firmer-on b0 b3 b4 (firmer-on b0 b2 b3 (firmer-on b0 b1 b2 (firmer-still b0 b1 c.in_ok-tally.ensures.same c.in_ok-tally.ensures.weak) c.in_ok-believe.ensures.firmer) (firmer-still b2 b3 m (ap (λ (s : NorState). s.weak) is))) (firmer-still b3 b4 end.0 end.1))
+
+pub returns-clause-rests : goal.returns-clause-rests
+returns-clause-rests g c h =
+    let s2 = g.N.Nor.state c.believe.new.nor in
+    let b0 = bits_in (g.N.Nor.state c.args.nor.now) in
+    let b1 = bits_in (g.N.Nor.state c.read_tally.new.nor) in
+    let b2 = bits_in s2 in
+    let b3 = bits_in (g.N.Nor.state c.refresh.new.nor) in
+    let b4 = bits_in (g.N.Nor.state c.resume.new.nor) in
+    let same : s2.memory ≡ b0.shown = c.in_ok-believe.ensures.same ∙ c.in_ok-tally.ensures.same in
+    let is = c.in_ok-unused.ensures.rests (subst IsSettled (sym same) h) in
+    let m = ap (λ (s : NorState). s.memory) is in
+    let end = c.in_ok-resume.ensures.rests (subst IsSettled (sym (m ∙ same)) h) in
+    (end.0 ∙ (m ∙ same), firmer-on b0 b3 b4 (firmer-on b0 b2 b3 (firmer-on b0 b1 b2 (firmer-still b0 b1 c.in_ok-tally.ensures.same c.in_ok-tally.ensures.weak) c.in_ok-believe.ensures.firmer) (firmer-still b2 b3 m (ap (λ (s : NorState). s.weak) is))) (firmer-still b3 b4 end.0 end.1))

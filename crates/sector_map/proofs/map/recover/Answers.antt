@@ -6,7 +6,7 @@ use Rattle.sector_map.specs.Marking.{is_unmarked}
 use Rattle.sector_map.proofs.Marking.{unmarked-same}
 use Rattle.erase_journal.specs.Recovery.{RecoverFails}
 use Rattle.sector_map.specs.Filling.{Filled, FillFails}
-use Rattle.sector_map.proofs.Opening.{filled-mounted, filled-fails, recovery-cut}
+use Rattle.sector_map.proofs.Opening.{filled-mounted, filled-fails, recovery-corrupt, recovery-cut}
 use Rattle.sector_map.proofs.map.recover.Goals as goal
 
 pub returns-in-Ok-recover_as-clause-ok : goal.returns-in-Ok-recover_as-clause-ok
@@ -28,3 +28,8 @@ returns-in-Ok-recover_as-clause-journals g c firmly unmarked h =
     let e = sym c.new.ensures in
     let same = unmarked-same (g.N.Nor.state c.args.nor).memory j.memory c.in-Ok-recover_as.ensures.ok.blocks in
     c.fill.ensures.journals firmly (subst (λ (s : NorState). is_unmarked s.memory ≡ false) e (same ∙ unmarked)) (subst (λ (s : NorState). AreRecoveredJournals (bits_in s)) e (c.in-Ok-recover_as.ensures.firm firmly h))
+
+pub returns-clause-fails : goal.returns-clause-fails
+returns-clause-fails g c =
+    recovery-corrupt (g.N.Nor.state c.args.nor) (g.N.Nor.state c.in-Err-default-Corrupt.nor) c.requires.superblock
+    (subst (λ e. RecoverFails e (g.N.Nor.state c.args.nor) (g.N.Nor.state c.in-Err-default-Corrupt.nor)) c.in-Err-default-Corrupt.field-0-1-is c.in-Err-default-Corrupt.ensures.fails)
