@@ -7,9 +7,10 @@ use Rattle.chip_model.proofs.PartLaws.{part-same}
 use Rattle.erase_journal.specs.Places.{Spoiled, Changed}
 use Rattle.nor_layout.specs.declared.journal.JournalId.{JournalId}
 use Rattle.nor_layout.specs.declared.journal.JournalId.TheVariants.{J0, J1, J2}
+use Rattle.erase_journal.specs.declared.phase.ErasePhase.{ErasePhase}
 use Rattle.erase_journal.specs.declared.phase.ErasePhase.TheVariants.{Idle, Asked, Doomed, Closing}
 use Rattle.erase_journal.specs.Journals.{tally_of, first, second, open_blocks, entries_for, is_open_entry, entry_block, AreJournalsSound}
-use Rattle.erase_journal.specs.Blocks.{blank, block, blocks_of, listed, SameChip, SameBlocks, WithErased}
+use Rattle.erase_journal.specs.Blocks.{blank, block, blocks_of, is_opened, listed, SameChip, SameBlocks, WithErased}
 use Rattle.erase_journal.proofs.Opened.{none-named, named-some}
 use Rattle.erase_journal.proofs.Entries.{named-change, state-changed, state-was, state-is, not-open}
 use Rattle.erase_journal.proofs.Regions.{BytesKept, spoiled-below, spoiled-above, SameEntries}
@@ -175,3 +176,21 @@ pub doomed-plain : (x : JournalId) (m : List ℕ) → AreJournalsSound (Doomed x
 doomed-plain J0 m h = let p = h.phase in plain-doomed m p.0.0 p.1.0
 doomed-plain J1 m h = let p = h.phase in plain-none m p.4
 doomed-plain J2 m h = let p = h.phase in plain-none m p.4
+
+opened-some : (m : List ℕ) (b : ℕ) → is_opened m b ≡ true → 0 < entries_for m b
+opened-some m b is = grind (arith, nat_tests)
+
+none-opened : (m : List ℕ) (b : ℕ) → open_blocks m ≡ 0 → is_opened m b ≡ true → ⊥
+none-opened m b none is = let z = none-named m b none in let some = opened-some m b is in omega arith
+
+doomed-opened : (m : List ℕ) (b : ℕ) → 1 ≤ (first (tally_of m) J0).opened → (second (tally_of m) J0).opened ≡ 1 → is_opened m b ≡ true → ⊥
+doomed-opened m b one two is = grind (arith, nat_tests)
+
+-- In phase Idle alone a believed J0 holds an open entry.
+pub opened-idle : (p : ErasePhase) (m : List ℕ) (b : ℕ) → AreJournalsSound p m → is_opened m b ≡ true → (p ≡ Idle) × (0 < entries_for m b)
+opened-idle Idle m b h is = (refl, opened-some m b is)
+opened-idle (Asked x) m b h is = absurd (none-opened m b h.phase.4 is)
+opened-idle (Doomed J0) m b h is = let p = h.phase in absurd (doomed-opened m b p.0.0 p.1.0 is)
+opened-idle (Doomed J1) m b h is = let p = h.phase in absurd (none-opened m b p.4 is)
+opened-idle (Doomed J2) m b h is = let p = h.phase in absurd (none-opened m b p.4 is)
+opened-idle (Closing x) m b h is = absurd (none-opened m b h.phase.4 is)

@@ -57,7 +57,7 @@ some-bit-under (suc n) x low some =
           (suc rest.0, bit_at-suc x rest.0 ∙ rest.1)
     ]
 
-some-bit : (x : ℕ) → x ≢ 0 → (k : ℕ) × (bit_at x k ≡ 1)
+pub some-bit : (x : ℕ) → x ≢ 0 → (k : ℕ) × (bit_at x k ≡ 1)
 some-bit x = some-bit-under (suc x) x (omega arith)
 
 -- the votes of a settled memory: unused, closed or given up

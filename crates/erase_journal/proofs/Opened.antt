@@ -77,9 +77,9 @@ some-named : (m : List ℕ) → 0 < open_blocks m → (b : ℕ) × (0 < entries_
 unfolding open_blocks
 some-named m some = let f = how_many-find (λ b. nat_lt 0 (entries_for m b)) (block_count (length m)) some in let t = f.2 in (f.0, grind (arith, nat_tests))
 
-some-open : (m : List ℕ) (b : ℕ) → 0 < entries_for m b → (i : ℕ) × (i < 512) × (is_open_entry m i ≡ true)
+pub some-open : (m : List ℕ) (b : ℕ) → 0 < entries_for m b → (i : ℕ) × (i < 512) × (is_open_entry m i ≡ true) × (entry_block m i ≡ b)
 unfolding entries_for
-some-open m b some = let f = how_many-find (λ i. is_open_entry m i && entry_block m i == b) 512 some in let t = f.2 in (f.0, f.1, grind (arith, nat_tests))
+some-open m b some = let f = how_many-find (λ i. is_open_entry m i && entry_block m i == b) 512 some in let t = f.2 in (f.0, f.1, grind (arith, nat_tests), grind (arith, nat_tests))
 
 pub any-two : (m : List ℕ) → ((i k : ℕ) → i < 512 → k < 512 → is_open_entry m i ≡ true → is_open_entry m k ≡ true → entry_block m i ≡ entry_block m k) → open_blocks m ≤ 1
 any-two m h = elim (cases_lt 0 (open_blocks m)) [

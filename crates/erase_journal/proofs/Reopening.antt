@@ -1,20 +1,25 @@
 -- Open entries of one block: one more is opened, the block is erased, and they are closed.
-use Rattle.std.proofs.Common.{◌≡◌, ◌≢◌, ℕ, ◌+◌, ◌*◌, ◌/◌, ◌<◌, ◌≤◌, ◌⊎◌, true, false, List, [], ◌∷◌, length, refl, sym, ap, ◌∙◌, arith, inl, inr, add-zero, lit≤}
+use Rattle.std.proofs.Common.{◌≡◌, ◌≢◌, ℕ, ◌+◌, ◌*◌, ◌/◌, ◌<◌, ◌≤◌, ◌⊎◌, true, false, List, [], ◌∷◌, length, refl, sym, ap, subst, ◌∙◌, arith, inl, inr, add-zero, lit≤}
+use Rattle.std.specs.Prelude.{Result, Ok, Err, OnOk}
 use Rattle.std.proofs.lemmas.Bool.{cases_eq}
 use Rattle.std.proofs.lemmas.Bool.Decides.{nat_tests}
 use Rattle.chip_model.specs.Memory.{byte, and_at, erased, TornAnd, TornErase}
 use Rattle.chip_model.specs.Parts.{part}
-use Rattle.nor_driver.specs.State.{Leaves}
+use Rattle.chip_model.specs.Wavering.{Bits}
+use Rattle.nor_driver.specs.State.{NorState, Leaves, bits_in, erase_bits}
+use Rattle.nor_driver.specs.declared.error.NorError.{NorError}
 use Rattle.erase_journal.specs.declared.phase.ErasePhase.TheVariants.{Idle}
 use Rattle.erase_journal.specs.Places.{Spoiled, Changed}
 use Rattle.erase_journal.specs.Journals.{entry_byte, entry_block, is_free_entry, is_open_entry, unused, AreJournalsSound, IsSettled}
 use Rattle.erase_journal.specs.Blocks.{blank, SameBlocks}
-use Rattle.erase_journal.specs.Steps.{KeepsBlocks, IsTaken, AreErased}
+use Rattle.erase_journal.specs.Steps.{KeepsBlocks, IsTaken, AreErased, EndsSettled, StayNamed}
+use Rattle.erase_journal.specs.Weak.{AreFirm, AreNamedFirm}
 use Rattle.erase_journal.specs.Spending.{MayTake, KeepsUse}
 use Rattle.erase_journal.proofs.Effects.{program-leaves, program-changes, bit-close, erase-leaves, erased-spoiled}
 use Rattle.erase_journal.proofs.Regions.{spoiled-above}
 use Rattle.erase_journal.proofs.Entries.{entry-opened, entry-closed, open-elsewhere, block-elsewhere, open-below, block-below, data-spoiled, state-changed, state-was, state-is}
-use Rattle.erase_journal.proofs.Opened.{none-blocks, named-some, same-block, within-chip}
+use Rattle.erase_journal.proofs.Opened.{none-blocks, named-some, same-block, some-open, within-chip}
+use Rattle.erase_journal.proofs.WeakLaws.{are-firm-stays, erase-firm}
 use Rattle.erase_journal.proofs.Blocks.{own-kept, spoiled-same, closed-same, joined-same}
 use Rattle.erase_journal.proofs.EntryCalls.{begun-same, now-open, part-blank, free-bytes, state-open}
 use Rattle.erase_journal.proofs.Renewal.{same-blocks-refl, same-blocks-on}
@@ -36,6 +41,13 @@ named-range k c m n = let l = least-block m k n.opened in let w = within-chip m 
 -- where an entry may be spared, the votes last once it is used
 pub spare-may : (m : List ℕ) → AreJournalsSound Idle m → 2 ≤ (unused m).free → MayTake m
 spare-may m h two = record { sound = h; lasts = let l = h.lasts in grind arith }
+
+-- where an entry that was free is written, the others stay open
+stays-named : (i : ℕ) (m m1 m2 : List ℕ) → is_free_entry m i ≡ true → Spoiled (6144 + 4 * i) 4 m m1 → Spoiled (6144 + 4 * i) 4 m1 m2 → StayNamed m m2
+stays-named i m m1 m2 free s t b some =
+    let k = some-open m b some in
+    let apart : k.0 ≢ i = λ e. let f = free-bytes m i free in let o = state-open m k.0 k.2 in let same = ap (λ x. entry_byte m x 0) e in omega arith in
+    named-some k.0 b m2 k.1 (open-elsewhere i m1 m2 t k.0 apart ∙ (open-elsewhere i m m1 s k.0 apart ∙ k.2)) (block-elsewhere i m1 m2 t k.0 apart ∙ (block-elsewhere i m m1 s k.0 apart ∙ k.3))
 
 -- One more is opened for block c.
 module _ (i c k : ℕ) (m m1 m2 : List ℕ) (h : MayTake m) (n : IsNamed k c m) (low : i < 512) (free : is_free_entry m i ≡ true) (t : IsTaken i c m m1) where
@@ -74,6 +86,12 @@ module _ (i c k : ℕ) (m m1 m2 : List ℕ) (h : MayTake m) (n : IsNamed k c m) 
 
   pub join-ok : 16384 ≤ length m → m2 ≡ and_at m1 (6144 + 4 * i) (252 ∷ []) → AreJournalsSound Idle m2 × SameBlocks m m2
   join-ok long e = let size = t.spoiled.same_length in joins (rw e (program-changes m1 (6144 + 4 * i) 254 252 (omega arith) state-at))
+
+  pub join-named : 16384 ≤ length m → m2 ≡ and_at m1 (6144 + 4 * i) (252 ∷ []) → StayNamed m m2
+  join-named long e =
+      let size = t.spoiled.same_length in
+      let change : Changed (6144 + 4 * i) 254 252 m1 m2 = rw e (program-changes m1 (6144 + 4 * i) 254 252 (omega arith) state-at) in
+      stays-named i m m1 m2 free t.spoiled (state-changed i 254 252 m1 m2 change)
 
   pub join-cut : 16384 ≤ length m → Leaves m1 (TornAnd m1 (6144 + 4 * i) (252 ∷ [])) (and_at m1 (6144 + 4 * i) (252 ∷ [])) m2 → KeepsBlocks m m2
   join-cut long l =
@@ -119,6 +137,17 @@ named-erased k c m m' h n e =
           let is : entry_block m' i ≡ c = block-below (4096 * c) 4096 m m' s (omega arith) i low ∙ (same-block m i k p.3 low n.within was n.opened ∙ n.names) in
           ap (λ b. part 4096 m' b) is ∙ bytes;
     }
+
+-- none of its bits is weak then, and in a call that ends well none becomes weak
+pub named-firm : (k c : ℕ) (m : List ℕ) (a b d : NorState) (r : Result (Unit {0}) NorError) → AreJournalsSound Idle m → IsNamed k c m → bits_in b ≡ erase_bits (bits_in a) (4096 * c) 4096
+    → EndsSettled r b d → OnOk r (AreNamedFirm m d.weak)
+named-firm k c m a b d (Ok x) h n e ends = λ j some.
+    let o = some-open m j some in
+    let p = h.phase in
+    let is : j ≡ c = sym o.3 ∙ (same-block m o.0 k p.3 o.1 n.within o.2 n.opened ∙ n.names) in
+    subst (λ (z : ℕ). AreFirm d.weak (4096 * z) 4096) (sym is)
+    (are-firm-stays (bits_in b) (bits_in d) (4096 * c) 4096 ends.kept.bits (subst (λ (z : Bits). AreFirm z.weak (4096 * c) 4096) (sym e) (erase-firm a.weak (4096 * c) 4096)))
+named-firm k c m a b d (Err e) h n is ends = tt
 
 pub open-byte : (m : List ℕ) (i : ℕ) → is_open_entry m i ≡ true → byte m (6144 + 4 * i) ≡ 252
 open-byte m i opened = rw add-zero at (state-open m i opened)

@@ -13,13 +13,17 @@ abbrev pub is_believed0 : List ℕ → Bool
 is_believed0 m = not (nat_lt 0 (first (tally_of m) J0).opened
     && nat_lt 0 (second (tally_of m) J0).opened)
 
+-- whether the believed J0 holds an open entry for block b
+abbrev pub is_opened : List ℕ → ℕ → Bool
+is_opened m b = is_believed0 m && nat_lt 0 (entries_for m b)
+
 -- an erased block
 unfoldable pub blank : List ℕ
 blank = replicate block_len 255
 
 -- what block b represents: its bytes, but erased where the believed J0 holds an open entry for it
 unfoldable pub block : List ℕ → ℕ → List ℕ
-block m b = if is_believed0 m && nat_lt 0 (entries_for m b) then blank else part block_len m b
+block m b = if is_opened m b then blank else part block_len m b
 
 -- f of each number from one on, so many
 unfoldable pub listed : (ℕ → List ℕ) → ℕ → ℕ → List (List ℕ)

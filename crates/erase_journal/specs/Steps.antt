@@ -18,7 +18,7 @@ use Rattle.erase_journal.specs.declared.unused.Unused.{Unused}
 use Rattle.erase_journal.specs.Places.{Changed, Spoiled}
 use Rattle.erase_journal.specs.Votes.{IsRested, Last, once_erased}
 use Rattle.erase_journal.specs.Journals.{AreJournalsSound, IsHealthy, IsSettled, unused, settled}
-use Rattle.erase_journal.specs.Journals.{is_open_entry, entry_block, entry_byte}
+use Rattle.erase_journal.specs.Journals.{is_open_entry, entry_block, entry_byte, entries_for}
 use Rattle.erase_journal.specs.Blocks.{SameBlocks, WithErased, blank}
 use Rattle.erase_journal.specs.Weak.{AreFirmJournals, AreInterruptedAtEachDraw}
 
@@ -126,6 +126,10 @@ pub record IsOpened (i c : ℕ) (m : List ℕ) : Type 0 where
 abbrev pub AreErased : List ℕ → Type 0
 AreErased m = (i : ℕ) → i < entry_count → is_open_entry m i ≡ true
     → part block_len m (entry_block m i) ≡ blank
+
+-- a block that has an open entry in m has one in m' too
+abbrev pub StayNamed : List ℕ → List ℕ → Type 0
+StayNamed m m' = (b : ℕ) → 0 < entries_for m b → 0 < entries_for m' b
 
 -- what taking a free entry for block c leaves
 pub record IsTaken (i c : ℕ) (m m' : List ℕ) : Type 0 where

@@ -10,11 +10,20 @@ use Rattle.nor_layout.specs.Entries.{entry_count, entry_at}
 use Rattle.erase_journal.specs.declared.phase.ErasePhase.{ErasePhase}
 use Rattle.erase_journal.specs.declared.phase.ErasePhase.TheVariants.{Doomed}
 use Rattle.erase_journal.specs.Journals.{AreEntryBytes, AreJournalsSound, votes_at, entry_byte}
-use Rattle.erase_journal.specs.Journals.{begun, is_free_entry, IsHealthy}
+use Rattle.erase_journal.specs.Journals.{begun, entries_for, is_free_entry, IsHealthy}
+use Rattle.erase_journal.specs.Blocks.{is_opened}
 
 -- none of the n bytes from a place on has a weak bit
 abbrev pub AreFirm : List ℕ → ℕ → ℕ → Type 0
 AreFirm w at n = (k : ℕ) → k < n → byte w (at + k) ≡ 0
+
+-- of a block that has an open entry in m no bit is weak
+abbrev pub AreNamedFirm : List ℕ → List ℕ → Type 0
+AreNamedFirm m w = (b : ℕ) → 0 < entries_for m b → AreFirm w (block_len * b) block_len
+
+-- the same where the believed J0 holds that entry
+abbrev pub AreOpenedFirm : List ℕ → List ℕ → Type 0
+AreOpenedFirm m w = (b : ℕ) → is_opened m b ≡ true → AreFirm w (block_len * b) block_len
 
 -- of the n bytes from a place on each bit that reads 0 is firm
 abbrev pub AreZerosFirm : Bits → ℕ → ℕ → Type 0

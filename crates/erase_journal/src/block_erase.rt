@@ -11,7 +11,7 @@ ghost use Rattle.erase_journal.specs.Blocks.{SameBlocks, WithErased};
 ghost use Rattle.erase_journal.specs.Scans.{IsFreeAnswer};
 ghost use Rattle.erase_journal.specs.Steps.{IsRestful, IsTaken, IsOpened, EndsSettled, SameNumbers};
 ghost use Rattle.erase_journal.specs.Steps.{KeepsBlocks, EraseInterrupted, LosesFirmly};
-ghost use Rattle.erase_journal.specs.Weak.{AreFirmJournals, AreInterruptedAtEachDraw};
+ghost use Rattle.erase_journal.specs.Weak.{AreFirm, AreFirmJournals, AreInterruptedAtEachDraw};
 ghost use Rattle.erase_journal.specs.Spending.{IsUsed, KeepsUse, MayTake, Spends, once_used};
 ghost use Rattle.erase_journal.specs.Known.{IsKnown};
 
@@ -122,6 +122,7 @@ pub(crate) fn finish_entry<N: Nor>(nor: &mut N, entry: u16, block: u16) -> Resul
     requires data { 4 ≤ block }
     requires range { block < length (N.state nor.old).memory / BLOCK_LEN }
     ensures blocks { OnOk result (SameBlocks (N.state nor.old).memory (N.state nor.new).memory) }
+    ensures firm { OnOk result (AreFirm (N.state nor.new).weak (BLOCK_LEN * block) BLOCK_LEN) }
     ensures uses { OnOk result (KeepsUse (N.state nor.old).memory (N.state nor.new).memory) }
     ensures cut { IsErrOf result NorError.Cut
         → KeepsBlocks (N.state nor.old).memory (N.state nor.new).memory }
@@ -145,6 +146,7 @@ fn erase_with_entry<N: Nor>(nor: &mut N, known: &mut Known, block: u16) -> Resul
     requires range { block < length (N.state nor.old).memory / BLOCK_LEN }
     ensures erased { OnOk result (WithErased block (N.state nor.old).memory
         (N.state nor.new).memory) }
+    ensures firm { OnOk result (AreFirm (N.state nor.new).weak (BLOCK_LEN * block) BLOCK_LEN) }
     ensures numbers { OnOk result (SameNumbers (once_used (unused (N.state nor.old).memory))
         (unused (N.state nor.new).memory)) }
     ensures known { OnOk result (IsKnown known.new (N.state nor.new).memory) }
@@ -173,6 +175,7 @@ pub(crate) fn erase_block<N: Nor>(
     requires number { block < block_count (length (N.state nor.old).memory) }
     ensures erased { OnOk result (WithErased block (N.state nor.old).memory
         (N.state nor.new).memory) }
+    ensures firm { OnOk result (AreFirm (N.state nor.new).weak (BLOCK_LEN * block) BLOCK_LEN) }
     ensures known { OnOk result (IsKnown known.new (N.state nor.new).memory) }
     ensures spends { OnOk result (Spends (unused (N.state nor.old).memory)
         (unused (N.state nor.new).memory)) }

@@ -10,6 +10,8 @@ ghost use Rattle.erase_journal.specs.Journals.{open_blocks, unused};
 ghost use Rattle.erase_journal.specs.Blocks.{SameBlocks};
 ghost use Rattle.erase_journal.specs.Scans.{IsOpenAnswer, is_open_in};
 ghost use Rattle.erase_journal.specs.Steps.{AreErased, EndsSettled, KeepsBlocks, SameNumbers};
+ghost use Rattle.erase_journal.specs.Steps.{StayNamed};
+ghost use Rattle.erase_journal.specs.Weak.{AreNamedFirm};
 ghost use Rattle.erase_journal.specs.Spending.{KeepsUse, MayTake, once_used};
 
 use crate::block_erase::{find_free, take_entry};
@@ -40,6 +42,7 @@ pub(crate) fn open_afresh<N: Nor>(nor: &mut N) -> Result<(), NorError>
     requires opened { 1 ≤ open_blocks (N.state nor.old).memory }
     requires free { 1 ≤ free_entries (N.state nor.old).memory }
     ensures sound { OnOk result (AreJournalsSound ErasePhase.Idle (N.state nor.new).memory) }
+    ensures opened { OnOk result (StayNamed (N.state nor.old).memory (N.state nor.new).memory) }
     ensures blocks { OnOk result (SameBlocks (N.state nor.old).memory (N.state nor.new).memory) }
     ensures numbers { OnOk result (SameNumbers (once_used (unused (N.state nor.old).memory))
         (unused (N.state nor.new).memory)) }
@@ -98,13 +101,15 @@ fn close_opened<N: Nor>(nor: &mut N, entries: &[u8], count: u16) -> Result<(), N
     Ok(())
 }
 
-/// Erases the block of the open entries again, if there are any, and closes them.
+/// Erases the block of the open entries again, if there are any, and closes them. None of its bits
+/// is weak then.
 pub(crate) fn erase_opened<N: Nor>(nor: &mut N) -> Result<(), NorError>
     requires size { JOURNALS_END ≤ length (N.state nor.old).memory }
     requires idle { AreJournalsSound ErasePhase.Idle (N.state nor.old).memory }
     ensures rests { open_blocks (N.state nor.old).memory ≡ 0
         → ((N.state nor.new).memory ≡ (N.state nor.old).memory)
         × ((N.state nor.new).weak ≡ (N.state nor.old).weak) }
+    ensures firm { OnOk result (AreNamedFirm (N.state nor.old).memory (N.state nor.new).weak) }
     ensures numbers { OnOk result (SameNumbers (unused (N.state nor.old).memory)
         (unused (N.state nor.new).memory)) }
     ensures blocks { OnOk result (SameBlocks (N.state nor.old).memory (N.state nor.new).memory) }

@@ -8,11 +8,12 @@ ghost use Rattle.nor_driver.specs.State.{Refuses, IsFirmer};
 ghost use Rattle.erase_journal.specs.Journals.{AreJournalsSound, IsSettled, IsHealthy, settled};
 ghost use Rattle.erase_journal.specs.Journals.{unused, first, tally_of};
 ghost use Rattle.erase_journal.specs.Blocks.{SameBlocks};
-ghost use Rattle.erase_journal.specs.Steps.{SameNumbers, KeepsBlocks, EndsSettled};
+ghost use Rattle.erase_journal.specs.Steps.{SameNumbers, KeepsBlocks, EndsSettled, StayNamed};
 ghost use Rattle.erase_journal.specs.Spending.{Continues, SpendsOne};
 ghost use Rattle.erase_journal.specs.Journals.{begun};
 ghost use Rattle.erase_journal.specs.Votes.{Last, first_spent, renewed};
-ghost use Rattle.erase_journal.specs.Weak.{AreVotesBelieved, IsFirmJournal, SettlesFirmly};
+ghost use Rattle.erase_journal.specs.Weak.{AreNamedFirm, AreOpenedFirm, AreVotesBelieved};
+ghost use Rattle.erase_journal.specs.Weak.{IsFirmJournal, SettlesFirmly};
 ghost use Rattle.nor_layout.specs.declared.journal.JournalId.{JournalId};
 ghost use Rattle.erase_journal.specs.Recovery.{seen, Restored, RestoreCut, RestoreSlow};
 ghost use Rattle.erase_journal.specs.Recovery.{RestoreCorrupt};
@@ -76,6 +77,8 @@ fn resume<N: Nor>(nor: &mut N, phase: ErasePhase) -> Result<(), NorError>
         (unused (N.state nor.new).memory)) }
     ensures firm { (x : JournalId) → begun phase ≡ ErasePhase.Doomed x
         → OnOk result (IsFirmJournal (N.state nor.new).weak x) }
+    ensures erased { phase ≡ ErasePhase.Idle
+        → OnOk result (AreNamedFirm (N.state nor.old).memory (N.state nor.new).weak) }
     ensures rests { IsSettled (N.state nor.old).memory
         → ((N.state nor.new).memory ≡ (N.state nor.old).memory)
         × ((N.state nor.new).weak ≡ (N.state nor.old).weak) }
@@ -153,6 +156,7 @@ fn refresh_idle<N: Nor>(
     requires idle { AreJournalsSound ErasePhase.Idle (N.state nor.old).memory }
     ensures rests { tally.opened ≡ 0 → N.state nor.new ≡ N.state nor.old }
     ensures sound { OnOk result (AreJournalsSound ErasePhase.Idle (N.state nor.new).memory) }
+    ensures opened { OnOk result (StayNamed (N.state nor.old).memory (N.state nor.new).memory) }
     ensures numbers { IfOk result (λ u. SameNumbers u (unused (N.state nor.new).memory)) }
     ensures spends { IfOk result (λ u.
         SpendsOne firmness ErasePhase.Idle (N.state nor.old).memory u) }
@@ -297,6 +301,8 @@ fn refresh<N: Nor>(
     ensures sound { OnOk result (AreJournalsSound (begun phase) (N.state nor.new).memory) }
     ensures one { (x : JournalId) → begun phase ≡ ErasePhase.Doomed x
         → OnOk result ((first (tally_of (N.state nor.new).memory) x).opened ≡ 1) }
+    ensures opened { phase ≡ ErasePhase.Idle
+        → OnOk result (StayNamed (N.state nor.old).memory (N.state nor.new).memory) }
     ensures numbers { IfOk result (λ u.
         SameNumbers (settled phase u) (settled (begun phase) (unused (N.state nor.new).memory))) }
     ensures spends { IfOk result (λ u. SpendsOne firmness phase (N.state nor.old).memory u) }
@@ -331,6 +337,8 @@ pub(crate) fn settle<N: Nor>(nor: &mut N, firmness: Firmness) -> Result<Option<U
     ensures settles { firmness ≡ Firmness.Firm → IfOk result (λ found.
         IfSome found (λ u. SettlesFirmly (bits_in (N.state nor.old))
         (bits_in (N.state nor.new)))) }
+    ensures erased { IfOk result (λ found.
+        IfSome found (λ u. AreOpenedFirm (N.state nor.old).memory (N.state nor.new).weak)) }
     ensures corrupt { IfOk result (λ found. found ≡ None
         → (N.state nor.new).memory ≡ (N.state nor.old).memory) }
     ensures rests { IsSettled (N.state nor.old).memory

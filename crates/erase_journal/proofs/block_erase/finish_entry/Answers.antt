@@ -1,4 +1,4 @@
-use Rattle.std.proofs.Common.{arith}
+use Rattle.std.proofs.Common.{arith, ◌*◌, subst, sym}
 use Rattle.std.proofs.lemmas.Result.{err_from_is_err_and}
 use Rattle.nor_driver.proofs.CallLaws.{fails-as, first-ready, kept-after, ready-after, refuses-since}
 use Rattle.erase_journal.proofs.EntryCalls.{block-ok, block-cut, done-ok, done-cut}
@@ -9,6 +9,9 @@ use Rattle.erase_journal.specs.Steps.{SucceedsSettled}
 use Rattle.nor_driver.specs.State.{bits_in}
 use Rattle.erase_journal.proofs.EntryCuts as cuts
 use Rattle.erase_journal.proofs.Standing.{block-firm}
+use Rattle.chip_model.specs.Wavering.{Bits}
+use Rattle.erase_journal.specs.Weak.{AreFirm}
+use Rattle.erase_journal.proofs.WeakLaws.{are-firm-stays, erase-firm}
 use Rattle.erase_journal.proofs.block_erase.finish_entry.Goals as goal
 
 pub returns-in_err-erase_small-clause-cut : goal.returns-in_err-erase_small-clause-cut
@@ -64,3 +67,11 @@ returns-in_err-program-clause-loses g c is h =
     let b = block-ok c.args.entry c.args.block s0.memory s1.memory c.requires.opened c.requires.data (omega arith) c.in_ok-erase_small.ensures.ok in
     let h1 = block-firm c.args.block s0 s1 c.requires.data c.in_ok-erase_small.ensures.kept.bits c.in_ok-erase_small.ensures.ok h in
     cuts.close-cut (bits_in s1) (bits_in s2) h1 (rw b.blocks.chip.same_length c.requires.size) c.args.entry c.args.block b.still (rw c.entry_place.ensures at (c.in_err-program.ensures.cut_bits (cc (p.1, p.2))))
+
+pub returns-clause-firm : goal.returns-clause-firm
+returns-clause-firm g c =
+    let s0 = g.N.Nor.state c.args.nor.now in
+    let s1 = g.N.Nor.state c.erase_small.new.self in
+    let s2 = g.N.Nor.state c.program.new.self in
+    are-firm-stays (bits_in s1) (bits_in s2) (4096 * c.args.block) 4096 c.in_ok-program.ensures.kept.bits
+    (subst (λ (b : Bits). AreFirm b.weak (4096 * c.args.block) 4096) (sym c.in_ok-erase_small.ensures.firm) (erase-firm s0.weak (4096 * c.args.block) 4096))

@@ -1,9 +1,9 @@
-use Rattle.std.proofs.Common.{◌/◌, ap, sym, ◌∙◌}
+use Rattle.std.proofs.Common.{◌/◌, ap, sym, ◌∙◌, arith}
 use Rattle.std.proofs.lemmas.Bool.{true≢false}
 use Rattle.std.proofs.lemmas.Result.{err_from_is_err_and, on_ok_weaker}
 use Rattle.erase_journal.proofs.Renewal.{stands-on, same-blocks-on}
-use Rattle.erase_journal.proofs.Opened.{none-open}
-use Rattle.erase_journal.proofs.Reopening.{IsNamed, named-cut, named-erased}
+use Rattle.erase_journal.proofs.Opened.{none-named, none-open}
+use Rattle.erase_journal.proofs.Reopening.{IsNamed, named-cut, named-erased, named-firm}
 use Rattle.erase_journal.proofs.Scans.{open-found, buffer-open}
 use Rattle.erase_journal.proofs.Uses.{keeps-on}
 use Rattle.nor_driver.proofs.CallLaws.{kept-after}
@@ -108,3 +108,19 @@ returns-clause-rests g c none =
     let found = open-found m c.read.new.into (c.bytes.result / 4096) c.lowest_open.result (rw c.entry_place.ensures at c.in_ok-read.ensures.ok) (ap (λ n. n / 4096) c.bytes.ensures) c.lowest_open.ensures.found in
     let o = rw c.in-Some.is at found in
     absurd (true≢false (sym o.1 ∙ none-open m none c.in-Some.open.entry o.0))
+
+pub returns-in_default-clause-firm : goal.returns-in_default-clause-firm
+returns-in_default-clause-firm g c b some =
+    let m = (g.N.Nor.state c.args.nor.now).memory in
+    let found = open-found m c.read.new.into (c.bytes.result / 4096) c.lowest_open.result (rw c.entry_place.ensures at c.in_ok-read.ensures.ok) (ap (λ n. n / 4096) c.bytes.ensures) c.lowest_open.ensures.found in
+    let none = rw c.in_default.is at found in
+    absurd (omega (arith, some, none-named m b none))
+
+pub returns-clause-firm : goal.returns-clause-firm
+returns-clause-firm g c =
+    let m = (g.N.Nor.state c.args.nor.now).memory in
+    let found = open-found m c.read.new.into (c.bytes.result / 4096) c.lowest_open.result (rw c.entry_place.ensures at c.in_ok-read.ensures.ok) (ap (λ n. n / 4096) c.bytes.ensures) c.lowest_open.ensures.found in
+    let o = rw c.in-Some.is at found in
+    let named : IsNamed c.in-Some.open.entry c.in-Some.open.block m = record { within = o.0; opened = o.1; names = o.2 } in
+    named-firm c.in-Some.open.entry c.in-Some.open.block m (g.N.Nor.state c.read.new.self) (g.N.Nor.state c.erase_small.new.self) (g.N.Nor.state c.close_opened.new.nor) c.close_opened.result c.requires.idle named
+    c.in_ok-erase_small.ensures.firm c.close_opened.ensures.ends

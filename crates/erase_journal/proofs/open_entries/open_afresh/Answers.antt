@@ -1,5 +1,5 @@
 use Rattle.std.proofs.lemmas.Result.{err_from_is_err_and}
-use Rattle.erase_journal.proofs.Reopening.{IsNamed, join-ok, join-cut}
+use Rattle.erase_journal.proofs.Reopening.{IsNamed, join-ok, join-cut, join-named}
 use Rattle.erase_journal.proofs.Uses.{opening-uses}
 use Rattle.nor_driver.proofs.CallLaws.{fails-as, fails-after, first-ready, kept-after, refuses-after, succeeds-after}
 use Rattle.nor_driver.specs.State.{Succeeds, Refuses}
@@ -81,3 +81,13 @@ returns-clause-ends g c =
     let s4 = g.N.Nor.state c.program.new.self in
     let s = succeeds-after s0 s2 s3 (succeeds-after s0 s1 s2 c.in_ok-opened.ensures.ends c.in_ok-free.ensures.ends) c.in_ok-take_entry.ensures.ends in
     record { ready = s.ready; kept = kept-after s0 s3 s4 s.kept c.in_ok-program.ensures.kept }
+
+pub returns-clause-opened : goal.returns-clause-opened
+returns-clause-opened g c =
+    let m = (g.N.Nor.state c.args.nor.now).memory in
+    let found = rw c.in-Some.is at c.in_ok-opened.ensures.found in
+    let free = rw (c.in-Some-free.is, c.in_ok-opened.ensures.same) at c.in_ok-free.ensures.found in
+    let taken = rw (c.in_ok-free.ensures.same, c.in_ok-opened.ensures.same) at c.in_ok-take_entry.ensures.ok in
+    let named : IsNamed c.in-Some.open.entry c.in-Some.open.block m = record { within = found.0; opened = found.1; names = found.2 } in
+    join-named c.in-Some-free.entry c.in-Some.open.block c.in-Some.open.entry m (g.N.Nor.state c.take_entry.new.nor).memory (g.N.Nor.state c.program.new.self).memory c.requires.may named free.0 free.1 taken c.requires.size
+    (rw c.entry_place.ensures at c.in_ok-program.ensures.ok)

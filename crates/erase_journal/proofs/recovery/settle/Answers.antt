@@ -1,9 +1,10 @@
-use Rattle.std.proofs.Common.{◌≡◌, List, ℕ, sym, subst, ap, ◌∙◌}
+use Rattle.std.proofs.Common.{◌≡◌, ◌<◌, List, ℕ, sym, subst, ap, ◌∙◌}
 use Rattle.std.specs.Int.{bit_at}
 use Rattle.chip_model.specs.Memory.{byte}
 use Rattle.nor_driver.specs.State.{NorState, bits_in, Succeeds, Refuses}
 use Rattle.nor_driver.proofs.Firmer.{firmer-on}
-use Rattle.erase_journal.specs.Journals.{IsSettled}
+use Rattle.erase_journal.specs.Journals.{IsSettled, entries_for}
+use Rattle.erase_journal.proofs.Blocks.{opened-idle}
 use Rattle.erase_journal.proofs.Still.{firmer-still}
 use Rattle.nor_driver.proofs.CallLaws.{fails-as, kept-after, refuses-after, refuses-since}
 use Rattle.erase_journal.proofs.Resuming.{continued}
@@ -124,3 +125,10 @@ returns-clause-rests g c h =
     let m = ap (λ (s : NorState). s.memory) is in
     let end = c.in_ok-resume.ensures.rests (subst IsSettled (sym (m ∙ same)) h) in
     (end.0 ∙ (m ∙ same), firmer-on b0 b3 b4 (firmer-on b0 b2 b3 (firmer-on b0 b1 b2 (firmer-still b0 b1 c.in_ok-tally.ensures.same c.in_ok-tally.ensures.weak) c.in_ok-believe.ensures.firmer) (firmer-still b2 b3 m (ap (λ (s : NorState). s.weak) is))) (firmer-still b3 b4 end.0 end.1))
+
+pub returns-clause-erased : goal.returns-clause-erased
+returns-clause-erased g c b is =
+    let m = (g.N.Nor.state c.args.nor.now).memory in
+    let same : (g.N.Nor.state c.believe.new.nor).memory ≡ m = c.in_ok-believe.ensures.same ∙ c.in_ok-tally.ensures.same in
+    let idle = opened-idle c.in-Some.phase m b (rw c.in_ok-tally.ensures.tally at c.in-Some.ensures) is in
+    c.in_ok-resume.ensures.erased idle.0 b (c.in_ok-unused.ensures.opened idle.0 b (subst (λ (n : List ℕ). 0 < entries_for n b) (sym same) idle.1))

@@ -21,3 +21,6 @@ pub returns-in-Err-Slow-clause-rests : goal.returns-in-Err-Slow-clause-rests
 returns-in-Err-Slow-clause-rests g c h left =
     let still = c.in-Err-Slow.ensures.rests h in
     fewer-interrupted (bits_in (g.N.Nor.state c.args.nor)) (bits_in (g.N.Nor.state c.settle.new.nor)) still.1 still.0 left
+
+pub returns-in-Ok-Some-clause-erased : goal.returns-in-Ok-Some-clause-erased
+returns-in-Ok-Some-clause-erased g c b from to is = (rw c.in-Ok-Some.field-0-is at c.in-Ok-Some.ensures.erased) b is
