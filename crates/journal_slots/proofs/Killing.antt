@@ -1,5 +1,5 @@
 -- A free slot is made dead, and the head of a block is programmed again.
-use Rattle.std.proofs.Common.{◌/◌, ◌%◌, ◌≡◌, ◌≢◌, ℕ, zero, suc, ◌+◌, ◌*◌, ◌<◌, ◌≤◌, ◌⊎◌, false, List, [], ◌∷◌, length, refl, sym, ap, ◌∙◌, subst, arith, inl, inr}
+use Rattle.std.proofs.Common.{◌/◌, ◌%◌, ◌≡◌, ◌≢◌, ℕ, zero, suc, ◌+◌, ◌-◌, ◌*◌, ◌<◌, ◌≤◌, ◌⊎◌, false, List, [], ◌∷◌, length, refl, sym, ap, ◌∙◌, subst, arith, inl, inr}
 use Rattle.std.specs.Prelude.{bit_and, min, drop, slice_range, slice_set}
 use Rattle.std.proofs.lemmas.Grind.{get_or-set_at}
 use Rattle.chip_model.proofs.PartLaws.{part-same}
@@ -23,11 +23,17 @@ use Rattle.journal_slots.specs.Programs.{OnlyBytes, IsFirmByte, as_read, killed}
 use Rattle.journal_slots.proofs.Marks.{header-bytes, kind-bytes}
 use Rattle.journal_slots.proofs.Bytes.{and-only, leaves-only, state-leaves, descriptor-place, place-group}
 use Rattle.erase_journal.specs.Blocks.{OnlyBlock}
-use Rattle.sector_slots.specs.Firm.{KeepsHead, HoldsBegun}
+use Rattle.sector_slots.specs.Firm.{KeepsHead, HoldsBegun, AreDeadForGood}
+use Rattle.sector_slots.specs.Weak.{block_place, IsDeadForGood}
+use Rattle.sector_slots.proofs.FirmLaws.{here, and-bit}
+use Rattle.chip_model.specs.Wavering.{Bits}
+use Rattle.erase_journal.specs.Journals.{IsSettled}
+use Rattle.erase_journal.specs.Weak.{AreZerosFirm}
+use Rattle.erase_journal.proofs.WeakLaws.{blank-firm}
 use Rattle.sector_slots.specs.Steps.{OnlyPlace}
 use Rattle.journal_slots.proofs.Reading.{head-byte, head-kind}
 use Rattle.sector_slots.proofs.SlotLaws.{counted-raw}
-use Rattle.journal_slots.proofs.Places.{slot-dead, dead-header, fresh-descriptor, slot-free, header_number}
+use Rattle.journal_slots.proofs.Places.{slot-dead, dead-header, fresh-descriptor, slot-free, slot-says-dead, header_number}
 use Rattle.journal_slots.proofs.Slots.{place-counts, free-inside}
 
 bits-kill : (k : ℕ) → k ≢ 2 → bit_at 255 k ≡ bit_at 251 k
@@ -43,7 +49,7 @@ bits-killed s k low other =
     let whole : bit_and s 255 ≡ s = and_mask s 8 ∙ omega arith in
     ap (λ x. bit_at x k) (sym whole) ∙ (bit_at_and s 255 k ∙ (ap (λ y. min (bit_at s k) y) (bits-kill k other) ∙ sym (bit_at_and s 251 k)))
 
-third-none : (s : ℕ) → bit_at (bit_and s 251) 2 ≡ 0
+pub third-none : (s : ℕ) → bit_at (bit_and s 251) 2 ≡ 0
 third-none s = let e = bit_at_and s 251 2 in let z : bit_at 251 2 ≡ 0 = refl in e ∙ (ap (λ y. min (bit_at s 2) y) z ∙ omega arith)
 
 not-third : (s v : ℕ) → bit_at v 2 ≡ 1 → bit_and s 251 ≢ v
@@ -261,3 +267,97 @@ none-begun b head read none h = let low = h.within in
 
 pub blank-begun : (b head : List ℕ) → head ≡ slice_range b 0 44 → ((k : ℕ) → k < 44 → byte head k ≡ 255) → HoldsBegun b → ⊥
 blank-begun b head read blank h = none-begun b head read (λ g i low e. let q = blank (16 + 4 * i) (omega (arith, low)) in omega (arith, e, q)) h
+
+-- One more place: of a state that was dead and not begun the third bit is 0.
+pub dead-step : (b x : List ℕ) (p v : ℕ) → p < 7 → length x ≡ 44
+    → ((i : ℕ) → i < p → header_of (drop (16 + 4 * i) b) ≡ headers.Dead → byte b (16 + 4 * i) ≢ 254 → bit_at (byte x (16 + 4 * i)) 2 ≡ 0)
+    → ((k : ℕ) → 16 + 4 * p ≤ k → byte x k ≡ byte b k)
+    → (header_of (drop (16 + 4 * p) x) ≡ headers.Dead → byte x (16 + 4 * p) ≢ 254 → bit_at v 2 ≡ 0)
+    → (i : ℕ) → i < p + 1 → header_of (drop (16 + 4 * i) b) ≡ headers.Dead → byte b (16 + 4 * i) ≢ 254 → bit_at (byte (slice_set x (16 + 4 * p) v) (16 + 4 * i)) 2 ≡ 0
+dead-step b x p v lp n each rest now i low dead other = elim (cases_lt i p) as (λ _. bit_at (byte (slice_set x (16 + 4 * p) v) (16 + 4 * i)) 2 ≡ 0) [
+  | inl below ↦
+      let away : 16 + 4 * i ≢ 16 + 4 * p = omega arith in
+      ap (λ q. bit_at q 2) (get_or-set_other x (16 + 4 * p) (16 + 4 * i) v 0 away) ∙ each i below dead other
+  | inr from ↦
+      let same : p ≡ i = omega arith in
+      let at : 16 + 4 * i ≡ 16 + 4 * p = omega arith in
+      let was : byte x (16 + 4 * p) ≡ byte b (16 + 4 * p) = rest (16 + 4 * p) (omega arith) in
+      ap (λ q. bit_at q 2) (get_or-set_at x (16 + 4 * p) (16 + 4 * i) v 0 at (omega (arith, n, lp)))
+      ∙ now (sym (four-header b x p (λ j above to. rest j above)) ∙ subst (λ q. header_of (drop (16 + 4 * q) b) ≡ headers.Dead) (sym same) dead)
+      (λ q. other (ap (λ k. byte b k) at ∙ (sym was ∙ q)))
+]
+
+-- A state that was begun is programmed as it was.
+pub begun-step : (b x : List ℕ) (p v : ℕ) → p < 7 → length x ≡ 44 → ((i : ℕ) → i < p → byte b (16 + 4 * i) ≡ 254 → byte x (16 + 4 * i) ≡ 254)
+    → ((k : ℕ) → 16 + 4 * p ≤ k → byte x k ≡ byte b k) → (byte x (16 + 4 * p) ≡ 254 → v ≡ 254) → (i : ℕ) → i < p + 1 → byte b (16 + 4 * i) ≡ 254 → byte (slice_set x (16 + 4 * p) v) (16 + 4 * i) ≡ 254
+begun-step b x p v lp n each rest now i low was = elim (cases_lt i p) as (λ _. byte (slice_set x (16 + 4 * p) v) (16 + 4 * i) ≡ 254) [
+  | inl below ↦
+      let away : 16 + 4 * i ≢ 16 + 4 * p = omega arith in
+      get_or-set_other x (16 + 4 * p) (16 + 4 * i) v 0 away ∙ each i below was
+  | inr from ↦
+      let at : 16 + 4 * i ≡ 16 + 4 * p = omega arith in
+      get_or-set_at x (16 + 4 * p) (16 + 4 * i) v 0 at (omega (arith, n, lp)) ∙ now (rest (16 + 4 * p) (omega arith) ∙ (ap (λ k. byte b k) (sym at) ∙ was))
+]
+
+-- The first 44 bytes of a block were programmed: each bit of them that reads 0 is firm, and each slot
+-- that was dead and not begun is dead for good.
+module _ (c : ℕ) (old new : Bits) (head h : List ℕ) (n : length (data_block old.shown c) ≡ 4096) (size : length h ≡ 44) (read : head ≡ slice_range (data_block old.shown c) 0 44)
+    (each : (k : ℕ) → k < 44 → IsFirmByte head h k) (settled : IsSettled new.shown) (is : data_block new.shown c ≡ and_at (data_block old.shown c) 0 h)
+    (weak : new.weak ≡ and_at old.weak (block_place c + 0) h) where
+  head-firm : (k : ℕ) → k < 44 → IsFirmByte (data_block old.shown c) h k
+  head-firm k low = firm-read (data_block old.shown c) head h k low (λ j small. head-byte (data_block old.shown c) head j read small) (each k low)
+
+  head-and : (k : ℕ) → k < 44 → IsFirmByte (data_block old.shown c) h k → bit_and (byte (data_block old.shown c) k) (byte h k) ≡ byte h k
+  head-and k low (as_read e) = ap (λ x. bit_and (byte (data_block old.shown c) k) x) e ∙ (and_self (byte (data_block old.shown c) k) ∙ sym e)
+  head-and k low (killed i li at dead e) = ap (λ x. bit_and (byte (data_block old.shown c) k) x) e ∙ (and-twice (byte (data_block old.shown c) k) 251 ∙ sym e)
+
+  head-shown : (k : ℕ) → k < 44 → byte new.shown (block_place c + k) ≡ byte h k
+  head-shown k low =
+      let z : 0 + k ≡ k = omega arith in
+      let p : byte (and_at (data_block old.shown c) 0 h) k ≡ bit_and (byte (data_block old.shown c) k) (byte h k) =
+      subst (λ q. byte (and_at (data_block old.shown c) 0 h) q ≡ bit_and (byte (data_block old.shown c) q) (byte h k)) z (placed-inside bit_and (data_block old.shown c) 0 h k (omega arith) (omega arith)) in
+      sym (here new.shown c k settled (omega arith)) ∙ (ap (λ b. byte b k) is ∙ (p ∙ head-and k low (head-firm k low)))
+
+  head-weak : (k j : ℕ) → k < 44 → bit_at (byte h k) j ≡ 0 → bit_at (byte new.weak (block_place c + k)) j ≡ 0
+  head-weak k j low none =
+      let z : block_place c + 0 + k ≡ block_place c + k = omega arith in
+      ap (λ w. bit_at (byte w (block_place c + k)) j) weak
+      ∙ subst (λ q. bit_at (byte (and_at old.weak (block_place c + 0) h) q) j ≡ 0) z (and-bit old.weak (block_place c + 0) h k j (omega arith) none)
+
+  pub head-zeros : AreZerosFirm new (block_place c) 44
+  head-zeros i j from to low none =
+      let is_there : block_place c + (i - block_place c) ≡ i = omega arith in
+      let inside : i - block_place c < 44 = omega arith in
+      let zero_bit : bit_at (byte h (i - block_place c)) j ≡ 0 = ap (λ x. bit_at x j) (sym (head-shown (i - block_place c) inside) ∙ ap (λ q. byte new.shown q) is_there) ∙ none in
+      ap (λ q. bit_at (byte new.weak q) j) (sym is_there) ∙ head-weak (i - block_place c) j inside zero_bit
+
+  pub head-for-good : ((i : ℕ) → i < 7 → header_of (drop (16 + 4 * i) head) ≡ headers.Dead → byte head (16 + 4 * i) ≢ 254 → bit_at (byte h (16 + 4 * i)) 2 ≡ 0)
+      → ((i : ℕ) → i < 7 → byte head (16 + 4 * i) ≡ 254 → byte h (16 + 4 * i) ≡ 254) → AreDeadForGood c old.shown new
+  head-for-good dead begun g i low is_dead =
+      let b = data_block old.shown c in
+      let same : (j : ℕ) → j < 44 → byte head j ≡ byte b j = λ j small. head-byte b head j read small in
+      let said : header_of (drop (16 + 4 * i) b) ≡ headers.Dead = sym (descriptor-slot b i g) ∙ slot-says-dead b i is_dead in
+      elim (cases_eq (byte head (16 + 4 * i)) 254) as (λ _. IsDeadForGood new c i ⊎ ((byte b (16 + 4 * i) ≡ 254) × (byte (data_block new.shown c) (16 + 4 * i) ≡ 254))) [
+        | inl state ↦ inr (sym (same (16 + 4 * i) (omega (arith, low))) ∙ state, here new.shown c (16 + 4 * i) settled (omega (arith, low)) ∙ (head-shown (16 + 4 * i) (omega (arith, low)) ∙ begun i low state))
+        | inr other ↦
+            let third = dead i low (sym (four-header b head i (λ j from to. same j (omega (arith, to, low)))) ∙ said) other in
+            inl (record {
+              bit = 2;
+              from = omega arith;
+              below = omega arith;
+              reads = ap (λ x. bit_at x 2) (head-shown (16 + 4 * i) (omega (arith, low))) ∙ third;
+              firm = head-weak (16 + 4 * i) 2 (omega (arith, low)) third;
+            })
+      ]
+
+-- A head that is erased has no bit that reads 0, and no slot of it is dead.
+pub blank-zeros : (c : ℕ) (m w : List ℕ) (head : List ℕ) → IsSettled m → head ≡ slice_range (data_block m c) 0 44 → ((k : ℕ) → k < 44 → byte head k ≡ 255) → AreZerosFirm (record { shown = m; weak = w }) (block_place c) 44
+blank-zeros c m w head settled read full = blank-firm (record { shown = m; weak = w }) (block_place c) 44
+    (λ k low. sym (here m c k settled (omega arith)) ∙ (sym (head-byte (data_block m c) head k read low) ∙ full k low))
+
+pub blank-for-good : (c : ℕ) (m : List ℕ) (b : Bits) (head : List ℕ) → head ≡ slice_range (data_block m c) 0 44 → ((k : ℕ) → k < 44 → byte head k ≡ 255) → AreDeadForGood c m b
+blank-for-good c m b head read full g i low is_dead =
+    let at = λ (j : ℕ) (small : j < 4). get_or-drop (16 + 4 * i) (data_block m c) j 0 ∙ (sym (head-byte (data_block m c) head (16 + 4 * i + j) read (omega (arith, low, small))) ∙ full (16 + 4 * i + j) (omega (arith, low, small))) in
+    let free : header_of (drop (16 + 4 * i) (data_block m c)) ≡ headers.Free = rw (at 0 (omega arith), at 1 (omega arith), at 2 (omega arith), at 3 (omega arith)) refl in
+    let q : 0 ≡ 3 = ap header_number (sym free ∙ (sym (descriptor-slot (data_block m c) i g) ∙ slot-says-dead (data_block m c) i is_dead)) in
+    absurd (omega (arith, q))

@@ -57,6 +57,12 @@ with-free (headers.Live tag) x e = let q : 1 ≡ 0 = ap number_of e in absurd (o
 with-free headers.NoGeneration x e = let q : 2 ≡ 0 = ap number_of e in absurd (omega (arith, q))
 with-free headers.Dead x e = let q : 3 ≡ 0 = ap number_of e in absurd (omega (arith, q))
 
+pub with-dead : (h : Header) (x : List ℕ) → slot_with h x ≡ Dead → h ≡ headers.Dead
+with-dead headers.Free x e = let q : 0 ≡ 3 = ap number_of e in absurd (omega (arith, q))
+with-dead (headers.Live tag) x e = let q : 1 ≡ 3 = ap number_of e in absurd (omega (arith, q))
+with-dead headers.NoGeneration x e = let q : 2 ≡ 3 = ap number_of e in absurd (omega (arith, q))
+with-dead headers.Dead x e = refl
+
 pub with-live : (h : Header) (tag : Tag) (x y : List ℕ) → slot_with h x ≡ Live tag y → y ≡ x
 with-live headers.Free tag x y e = let q : 0 ≡ 1 = ap number_of e in absurd (omega (arith, q))
 with-live (headers.Live t) tag x y e = sym (ap content_of e)
@@ -153,6 +159,10 @@ slot-header b i h e = ap (λ x. slot_with x (content_bytes b i)) e
 pub slot-free : (b : List ℕ) (i : ℕ) → slot_in b i ≡ Free → descriptor_in b i ≡ headers.Free
 unfolding slot_in
 slot-free b i e = with-free (descriptor_in b i) (content_bytes b i) e
+
+pub slot-says-dead : (b : List ℕ) (i : ℕ) → slot_in b i ≡ Dead → descriptor_in b i ≡ headers.Dead
+unfolding slot_in
+slot-says-dead b i e = with-dead (descriptor_in b i) (content_bytes b i) e
 
 pub slot-content : (b : List ℕ) (i : ℕ) (tag : Tag) (x : List ℕ) → slot_in b i ≡ Live tag x → x ≡ content_bytes b i
 unfolding slot_in

@@ -4,14 +4,18 @@ ghost use Rattle.std.specs.Prelude.{IsTrue, IsFalse, IfOk, ◌≢◌, false};
 ghost use Rattle.nor_layout.specs.Kinds.{kind_of};
 ghost use Rattle.sector_slots.specs.Slots.{is_group};
 ghost use Rattle.std.specs.Prelude.{◌≡◌, ◌⊎◌, ◌+◌, ◌*◌, ◌<◌, ◌≤◌, ℕ, length, OnOk, bit_and, drop};
+ghost use Rattle.std.specs.Int.{bit_at};
 ghost use Rattle.std.specs.Result.{IsErrOf};
 ghost use Rattle.chip_model.specs.Geometry.{IsChipSize};
 ghost use Rattle.chip_model.specs.Memory.{byte};
 ghost use Rattle.nor_layout.specs.Headers.{header_of};
 ghost use Rattle.erase_journal.specs.Blocks.{OnlyBlock};
 ghost use Rattle.erase_journal.specs.Journals.{IsHealthy};
+ghost use Rattle.nor_driver.specs.State.{bits_in};
 ghost use Rattle.erase_journal.specs.Steps.{EndsFirmly};
-ghost use Rattle.sector_slots.specs.Firm.{KeepsHead, HoldsBegun};
+ghost use Rattle.erase_journal.specs.Weak.{AreZerosFirm};
+ghost use Rattle.sector_slots.specs.Firm.{KeepsHead, HoldsBegun, AreDeadForGood};
+ghost use Rattle.sector_slots.specs.Weak.{block_place, IsDeadForGood};
 ghost use Rattle.sector_slots.specs.Slots.{Free, Dead, data_blocks, data_block, raw_slot};
 ghost use Rattle.journal_slots.specs.Programs.{InPlace, IsFirmByte};
 
@@ -32,9 +36,12 @@ const KILLED: u8 = 0xFB;
 /// the state without the third bit, else the state.
 fn firm_state(head: &[u8; HEAD_LEN], place: usize) -> u8
     requires { place < 7 }
-    ensures { (result ≡ byte head.now (16 + 4 * place))
+    ensures programmed { (result ≡ byte head.now (16 + 4 * place))
         ⊎ ((header_of (drop (16 + 4 * place) head.now) ≡ Header.Dead)
         × (result ≡ bit_and (byte head.now (16 + 4 * place)) 251)) }
+    ensures dead { header_of (drop (16 + 4 * place) head.now) ≡ Header.Dead
+        → byte head.now (16 + 4 * place) ≢ 254 → bit_at result 2 ≡ 0 }
+    ensures begun { byte head.now (16 + 4 * place) ≡ 254 → result ≡ 254 }
 {
     let at = DESCRIPTORS_PLACE + 4 * place;
     let state = head[at];
@@ -55,6 +62,10 @@ fn firm_state(head: &[u8; HEAD_LEN], place: usize) -> u8
 /// Makes the head of a block what is programmed over it.
 fn firm_bytes(head: &mut [u8; HEAD_LEN])
     ensures each { (k : ℕ) → k < 44 → IsFirmByte head.old head.new k }
+    ensures dead { (i : ℕ) → i < 7 → header_of (drop (16 + 4 * i) head.old) ≡ Header.Dead
+        → byte head.old (16 + 4 * i) ≢ 254 → bit_at (byte head.new (16 + 4 * i)) 2 ≡ 0 }
+    ensures begun { (i : ℕ) → i < 7 → byte head.old (16 + 4 * i) ≡ 254
+        → byte head.new (16 + 4 * i) ≡ 254 }
     ensures bytes { (k : ℕ) → byte head.old k < 256 }
     ensures size { length head.new ≡ length head.old }
 {
@@ -122,6 +133,9 @@ pub(crate) fn firm_head<N: Nor>(journal: &mut Journal<N>, block: u16) -> Result<
     ensures not_begun { IfOk result (λ begun. IsFalse begun
         → HoldsBegun (data_block journal.old.memory block) → ⊥) }
     ensures kept { OnOk result (KeepsHead block journal.old.memory journal.new.memory) }
+    ensures zeros { OnOk result (AreZerosFirm (bits_in journal.new) (block_place block) 44) }
+    ensures for_good { OnOk result (AreDeadForGood block journal.old.memory
+        (bits_in journal.new)) }
     ensures cut { IsErrOf result NorError.Cut
         → KeepsHead block journal.old.memory journal.new.memory }
     ensures size { length journal.new.memory ≡ length journal.old.memory }
@@ -151,6 +165,7 @@ pub(crate) fn kill_slot<N: Nor>(
     requires sized { IsChipSize (length journal.old.memory) }
     ensures ok { OnOk result (raw_slot journal.old.memory block place ≡ Free
         → raw_slot journal.new.memory block place ≡ Dead) }
+    ensures for_good { OnOk result (IsDeadForGood (bits_in journal.new) block place) }
     ensures cut { IsErrOf result NorError.Cut → raw_slot journal.old.memory block place ≡ Free
         → (data_block journal.new.memory block ≡ data_block journal.old.memory block)
         ⊎ (raw_slot journal.new.memory block place ≡ Dead) }

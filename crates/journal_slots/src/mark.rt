@@ -1,6 +1,7 @@
 //! The kind of a block over a journal: read, and programmed step by step; and a block's erase.
 
 ghost use Rattle.std.specs.Prelude.{◌≡◌, ◌⊎◌, ◌+◌, ◌<◌, ◌∷◌, [], ℕ, length, OnOk, IfOk};
+ghost use Rattle.std.specs.Int.{bit_at};
 ghost use Rattle.std.specs.Result.{IsErrOf};
 ghost use Rattle.chip_model.specs.Geometry.{IsChipSize};
 ghost use Rattle.chip_model.specs.Memory.{byte};
@@ -12,6 +13,8 @@ ghost use Rattle.erase_journal.specs.Spending.{Spends};
 ghost use Rattle.erase_journal.specs.Steps.{EraseInterrupted, EndsFirmly};
 ghost use Rattle.sector_slots.specs.Slots.{data_blocks, data_block, kind_at};
 ghost use Rattle.sector_slots.specs.Steps.{OnlyMark, IsBegun};
+ghost use Rattle.sector_slots.specs.Firm.{SameStates};
+ghost use Rattle.sector_slots.specs.Weak.{IsWhollyFirm, mark_place};
 
 use erase_journal::Journal;
 use nor_driver::{Nor, NorError};
@@ -89,6 +92,8 @@ pub(crate) fn settle_mark<N: Nor>(journal: &mut Journal<N>, target: u16) -> Resu
     ensures ok { OnOk result ((source : ℕ)
         → kind_at journal.old.memory target ≡ Kind.Committed source
         → kind_at journal.new.memory target ≡ Kind.Settled) }
+    ensures states { OnOk result (SameStates target journal.old.memory journal.new.memory) }
+    ensures third { OnOk result (bit_at (byte journal.new.weak (mark_place target)) 2 ≡ 0) }
     ensures cut { IsErrOf result NorError.Cut → (source : ℕ)
         → kind_at journal.old.memory target ≡ Kind.Committed source
         → (kind_at journal.new.memory target ≡ Kind.Committed source)
@@ -130,6 +135,7 @@ pub(crate) fn erase_data<N: Nor>(journal: &mut Journal<N>, block: u16) -> Result
     requires number { block < data_blocks journal.old.memory }
     requires sized { IsChipSize (length journal.old.memory) }
     ensures ok { OnOk result (WithErased (block + 4) journal.old.memory journal.new.memory) }
+    ensures firm { OnOk result (IsWhollyFirm journal.new.weak block) }
     ensures cut { IsErrOf result NorError.Cut → IsHealthy journal.old.memory
         → EraseInterrupted (block + 4) journal.old.memory journal.new.memory }
     ensures healthy { IsErrOf result NorError.Cut → IsHealthy journal.old.memory

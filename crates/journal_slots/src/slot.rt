@@ -5,7 +5,7 @@ ghost use Rattle.std.specs.Prelude.{◌≡◌, ◌≢◌, ◌⊎◌, ◌+◌, �
 ghost use Rattle.std.specs.Result.{IsErrOf};
 ghost use Rattle.chip_model.specs.Geometry.{IsChipSize};
 ghost use Rattle.chip_model.specs.Memory.{byte, and_at, TornAnd};
-ghost use Rattle.nor_driver.specs.State.{Leaves};
+ghost use Rattle.nor_driver.specs.State.{bits_in, Leaves};
 ghost use Rattle.erase_journal.specs.Blocks.{SameChip, OnlyBlock};
 ghost use Rattle.erase_journal.specs.Journals.{IsHealthy};
 ghost use Rattle.erase_journal.specs.Steps.{EndsFirmly};
@@ -13,6 +13,8 @@ ghost use Rattle.sector_slots.specs.Slots.{Free, Live, Dead, data_blocks, data_b
 ghost use Rattle.sector_slots.specs.Slots.{raw_slot, IsLive, is_group};
 ghost use Rattle.sector_slots.specs.Steps.{HoldsTag, OnlyPlace, IsBegun, IsErasedSlot, CopyLeaves};
 ghost use Rattle.sector_slots.specs.Copying.{copied_tag, source_slot};
+ghost use Rattle.sector_slots.specs.Firm.{SameStatesBut};
+ghost use Rattle.sector_slots.specs.Weak.{block_place, IsDeadForGood};
 ghost use Rattle.journal_slots.specs.Programs.{InPlace, OnlyBytes, WriteLeaves};
 
 use crate::mark::read_kind;
@@ -54,6 +56,8 @@ pub(crate) fn program_bytes<N: Nor>(
     requires range { at + length bytes.now ≤ 4096 }
     ensures ok { OnOk result (data_block journal.new.memory block
         ≡ and_at (data_block journal.old.memory block) at bytes.now) }
+    ensures firm { OnOk result (journal.new.weak
+        ≡ and_at journal.old.weak (block_place block + at) bytes.now) }
     ensures cut { IsErrOf result NorError.Cut → Leaves (data_block journal.old.memory block)
         (TornAnd (data_block journal.old.memory block) at bytes.now)
         (and_at (data_block journal.old.memory block) at bytes.now)
@@ -208,6 +212,9 @@ pub(crate) fn retire_slot<N: Nor>(
     requires sized { IsChipSize (length journal.old.memory) }
     ensures ok { OnOk result (is_group (kind_at journal.old.memory block) ≡ false
         → raw_slot journal.new.memory block place ≡ Dead) }
+    ensures for_good { OnOk result (IsDeadForGood (bits_in journal.new) block place) }
+    ensures states { OnOk result (SameStatesBut place block journal.old.memory
+        journal.new.memory) }
     ensures cut { IsErrOf result NorError.Cut → IsLive (raw_slot journal.old.memory block place)
         → is_group (kind_at journal.old.memory block) ≡ false
         → (data_block journal.new.memory block ≡ data_block journal.old.memory block)

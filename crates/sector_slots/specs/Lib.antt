@@ -7,3 +7,4 @@ pub mod Laws
 pub mod Machine
 pub mod Groups
 pub mod Firm
+pub mod Weak

@@ -1,12 +1,14 @@
 //! The calls of a store of sector slots, as a trait: `journal_slots::SectorSlots` has them, and so
 //! has a store that keeps an index beside its slots.
 
-ghost use Rattle.std.specs.Prelude.{◌≡◌, ◌≢◌, ◌⊎◌, ◌↔◌, ◌+◌, ◌*◌, ◌<◌, ℕ, Bool, false, List};
-ghost use Rattle.std.specs.Prelude.{slice_range, length, OnOk, IfOk, IfErr, MatchOption, IsTrue};
+ghost use Rattle.std.specs.Prelude.{◌≡◌, ◌≢◌, ◌⊎◌, ◌↔◌, ◌+◌, ◌*◌, ◌/◌, ◌%◌, ◌<◌, ℕ, Bool, false};
+ghost use Rattle.std.specs.Prelude.{List, slice_range, length, OnOk, IfOk, IfErr, MatchOption};
+ghost use Rattle.std.specs.Prelude.{IsTrue};
+ghost use Rattle.std.specs.Int.{bit_at};
 ghost use Rattle.std.specs.Result.{IsErrOf};
 ghost use Rattle.chip_model.specs.Memory.{byte};
 ghost use Rattle.chip_model.specs.Geometry.{IsChipSize};
-ghost use Rattle.nor_driver.specs.State.{NorState, IsNorReady};
+ghost use Rattle.nor_driver.specs.State.{NorState, IsNorReady, bits_in};
 ghost use Rattle.nor_layout.specs.declared.header.Tag.{Tag as TagOf};
 ghost use Rattle.erase_journal.specs.Blocks.{SameChip, OnlyBlock, OnlySuper, WithErased};
 ghost use Rattle.erase_journal.specs.Journals.{IsHealthy, unused};
@@ -20,6 +22,8 @@ ghost use Rattle.sector_slots.specs.Copying.{source_slot};
 ghost use Rattle.sector_slots.specs.Steps.{IsRetirable, IsWritable, PutLeaves, HoldsTag};
 ghost use Rattle.sector_slots.specs.Steps.{MayHoldTag, OnlyPlace, OnlyMark, IsBegun, IsErasedSlot};
 ghost use Rattle.sector_slots.specs.Steps.{CopyLeaves, IsErasable};
+ghost use Rattle.sector_slots.specs.Firm.{SameStates, SameStatesBut};
+ghost use Rattle.sector_slots.specs.Weak.{IsDeadForGood, IsWhollyFirm, mark_place};
 
 use erase_journal::RecoverError;
 use nor_driver::NorError;
@@ -103,11 +107,15 @@ pub trait SlotCalls {
         ensures ends { EndsFirmly result (state self.old) (state self.new) };
 
     /// Makes a live slot that counts dead, in a block of slots. Cut, it leaves it as it was or
-    /// dead.
+    /// dead. The bit by which it isn't live is firm.
     fn retire(&mut self, slot: u16) -> Result<(), NorError>
         requires number { slot < slot_count (state self.old).memory }
         ensures ok { OnOk result (IsRetirable slot (state self.old).memory
             → slot_at (state self.new).memory slot ≡ Dead) }
+        ensures for_good { OnOk result (IsDeadForGood (bits_in (state self.new)) (slot / 7)
+            (slot % 7)) }
+        ensures states { OnOk result (SameStatesBut (slot % 7) (slot / 7) (state self.old).memory
+            (state self.new).memory) }
         ensures cut { IsErrOf result NorError.Cut → IsRetirable slot (state self.old).memory
             → (slot_at (state self.new).memory slot ≡ slot_at (state self.old).memory slot)
             ⊎ (slot_at (state self.new).memory slot ≡ Dead) }
@@ -231,12 +239,17 @@ pub trait SlotCalls {
             → IsHealthy (state self.new).memory }
         ensures ends { EndsFirmly result (state self.old) (state self.new) };
 
-    /// Makes a committed block settled. Cut, it leaves it committed or settled.
+    /// Makes a committed block settled. Cut, it leaves it committed or settled. The bit that tells
+    /// the two apart is firm then.
     fn settle(&mut self, target: u16) -> Result<(), NorError>
         requires target { target < data_blocks (state self.old).memory }
         ensures ok { OnOk result ((source : ℕ)
             → kind_at (state self.old).memory target ≡ Kind.Committed source
             → kind_at (state self.new).memory target ≡ Kind.Settled) }
+        ensures states { OnOk result (SameStates target (state self.old).memory
+            (state self.new).memory) }
+        ensures third { OnOk result
+            (bit_at (byte (state self.new).weak (mark_place target)) 2 ≡ 0) }
         ensures cut { IsErrOf result NorError.Cut → (source : ℕ)
             → kind_at (state self.old).memory target ≡ Kind.Committed source
             → (kind_at (state self.new).memory target ≡ Kind.Committed source)
@@ -251,12 +264,14 @@ pub trait SlotCalls {
         ensures ends { EndsFirmly result (state self.old) (state self.new) };
 
     /// Erases a block in one step. It isn't committed, and none of its slots counts as live. Cut on
-    /// a healthy memory, it leaves the block as it was or erased.
+    /// a healthy memory, it leaves the block as it was or erased. No bit of an erased block is
+    /// weak.
     fn erase(&mut self, block: u16) -> Result<(), NorError>
         requires number { block < data_blocks (state self.old).memory }
         requires dead { IsNorReady (state self.old) → IsErasable block (state self.old).memory }
         ensures ok { OnOk result (WithErased (block + 4) (state self.old).memory
             (state self.new).memory) }
+        ensures firm { OnOk result (IsWhollyFirm (state self.new).weak block) }
         ensures cut { IsErrOf result NorError.Cut → IsHealthy (state self.old).memory
             → EraseInterrupted (block + 4) (state self.old).memory (state self.new).memory }
         ensures healthy { IsErrOf result NorError.Cut → IsHealthy (state self.old).memory

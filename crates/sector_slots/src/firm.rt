@@ -2,18 +2,19 @@
 //! that a loss of power tore may read one way now and the other way at the next power-on, until
 //! they are programmed or their unit is erased.
 
-ghost use Rattle.std.specs.Prelude.{◌≡◌, ◌⊎◌, ◌<◌, length, OnOk, IfOk, IsTrue, IsFalse};
+ghost use Rattle.std.specs.Prelude.{◌≡◌, ◌⊎◌, ◌/◌, ◌%◌, ◌<◌, length, OnOk, IfOk, IsTrue, IsFalse};
 ghost use Rattle.std.specs.Result.{IsErrOf};
 ghost use Rattle.nor_driver.specs.State.{bits_in};
 ghost use Rattle.erase_journal.specs.Blocks.{SameChip, SameBlocks};
 ghost use Rattle.erase_journal.specs.Journals.{IsHealthy, unused};
 ghost use Rattle.erase_journal.specs.Renewal.{RenewsAll};
 ghost use Rattle.erase_journal.specs.Steps.{EndsFirmly, KeepsBlocks, EndsSettled};
-ghost use Rattle.erase_journal.specs.Weak.{AreFirmJournals, AreRecoveredJournals};
-ghost use Rattle.sector_slots.specs.Firm.{KeepsHead, HoldsBegun};
+ghost use Rattle.erase_journal.specs.Weak.{AreFirmJournals, AreRecoveredJournals, AreZerosFirm};
+ghost use Rattle.sector_slots.specs.Firm.{KeepsHead, HoldsBegun, AreDeadForGood};
 ghost use Rattle.sector_slots.specs.Slots.{Free, Dead, slot_at, slot_count, data_blocks, IsClean};
 ghost use Rattle.sector_slots.specs.Slots.{data_block};
 ghost use Rattle.sector_slots.specs.Steps.{OnlyPlace};
+ghost use Rattle.sector_slots.specs.Weak.{block_place, IsDeadForGood};
 
 use crate::calls::SlotCalls;
 use nor_driver::NorError;
@@ -44,6 +45,7 @@ pub trait FirmCalls: SlotCalls {
 
     /// Programs the head of a block, its first 44 bytes, again as it reads; of a slot that is dead
     /// and not begun also the bit by which it can't come to be live. True where a slot is begun.
+    /// Each bit of the head that reads 0 is firm then.
     fn firm_head(&mut self, block: u16) -> Result<bool, NorError>
         requires number { block < data_blocks (Self.state self.old).memory }
         ensures begun { IfOk result (λ begun. IsTrue begun
@@ -52,6 +54,10 @@ pub trait FirmCalls: SlotCalls {
             → HoldsBegun (data_block (Self.state self.old).memory block) → ⊥) }
         ensures kept { OnOk result (KeepsHead block (Self.state self.old).memory
             (Self.state self.new).memory) }
+        ensures zeros { OnOk result (AreZerosFirm (bits_in (Self.state self.new))
+            (block_place block) 44) }
+        ensures for_good { OnOk result (AreDeadForGood block (Self.state self.old).memory
+            (bits_in (Self.state self.new))) }
         ensures cut { IsErrOf result NorError.Cut → KeepsHead block (Self.state self.old).memory
             (Self.state self.new).memory }
         ensures size { length (Self.state self.new).memory ≡ length (Self.state self.old).memory }
@@ -71,11 +77,13 @@ pub trait FirmCalls: SlotCalls {
         ensures ends { EndsFirmly result (Self.state self.old) (Self.state self.new) };
 
     /// Makes a free slot that counts dead, so that it is never written. Cut, it leaves it free or
-    /// dead.
+    /// dead. The bit by which it isn't free is firm.
     fn kill(&mut self, slot: u16) -> Result<(), NorError>
         requires number { slot < slot_count (Self.state self.old).memory }
         ensures ok { OnOk result (slot_at (Self.state self.old).memory slot ≡ Free
             → slot_at (Self.state self.new).memory slot ≡ Dead) }
+        ensures for_good { OnOk result (IsDeadForGood (bits_in (Self.state self.new)) (slot / 7)
+            (slot % 7)) }
         ensures cut { IsErrOf result NorError.Cut → slot_at (Self.state self.old).memory slot ≡ Free
             → (slot_at (Self.state self.new).memory slot ≡ Free)
             ⊎ (slot_at (Self.state self.new).memory slot ≡ Dead) }

@@ -5,13 +5,14 @@ use Rattle.nor_driver.specs.State.{changed_whole}
 use Rattle.erase_journal.specs.Steps.{RefusesFirmly}
 use Rattle.erase_journal.specs.Journals.{IsHealthy}
 use Rattle.erase_journal.proofs.BlockLaws.{length-block}
-use Rattle.sector_slots.specs.Firm.{KeepsHead}
+use Rattle.sector_slots.specs.Firm.{KeepsHead, AreDeadForGood}
 use Rattle.sector_slots.specs.Slots.{data_block}
 use Rattle.nor_driver.proofs.CallLaws.{fails-as}
 use Rattle.erase_journal.specs.Steps.{SucceedsSettled}
 use Rattle.erase_journal.proofs.SettledLaws.{settled-after}
 use Rattle.erase_journal.proofs.Firmly.{refuses-firmly}
-use Rattle.journal_slots.proofs.Killing.{head-kept, begun-holds, none-begun, blank-begun}
+use Rattle.nor_driver.specs.State.{bits_in}
+use Rattle.journal_slots.proofs.Killing.{head-zeros, head-for-good, blank-zeros, blank-for-good, head-kept, begun-holds, none-begun, blank-begun}
 use Rattle.journal_slots.proofs.firm.firm_head.Goals as goal
 
 pub returns-in_err-program_bytes-clause-cut : goal.returns-in_err-program_bytes-clause-cut
@@ -63,3 +64,34 @@ returns-clause-ends g c =
     let s1 = c.read.new.self in
     let s2 = c.program_bytes.new.journal in
     settled-after s0 s1 s2 c.in_ok-read.ensures.ends c.in_ok-program_bytes.ensures.ends
+
+pub returns-clause-zeros : goal.returns-clause-zeros
+returns-clause-zeros g c =
+    let m = c.args.journal.now.memory in
+    let s1 = c.read.new.self in
+    let s2 = c.program_bytes.new.journal in
+    let same : s1.memory ≡ m = c.in_ok-read.ensures.same in
+    let n = length-block m (c.args.block + 4) (omega (arith, c.requires.number)) in
+    head-zeros c.args.block (bits_in s1) (bits_in s2) c.read.new.into c.firm_bytes.new.head (ap (λ z. length (data_block z c.args.block)) same ∙ n) (omega (arith, c.firm_bytes.ensures.size))
+    (subst (λ z. c.read.new.into ≡ slice_range (data_block z c.args.block) 0 44) (sym same) c.in_ok-read.ensures.ok) c.firm_bytes.ensures.each c.in_ok-program_bytes.ensures.ends.settled c.in_ok-program_bytes.ensures.ok c.in_ok-program_bytes.ensures.firm
+
+pub returns-clause-for_good : goal.returns-clause-for_good
+returns-clause-for_good g c =
+    let m = c.args.journal.now.memory in
+    let s1 = c.read.new.self in
+    let s2 = c.program_bytes.new.journal in
+    let same : s1.memory ≡ m = c.in_ok-read.ensures.same in
+    let n = length-block m (c.args.block + 4) (omega (arith, c.requires.number)) in
+    subst (λ z. AreDeadForGood c.args.block z (bits_in s2)) same
+    (head-for-good c.args.block (bits_in s1) (bits_in s2) c.read.new.into c.firm_bytes.new.head (ap (λ z. length (data_block z c.args.block)) same ∙ n) (omega (arith, c.firm_bytes.ensures.size))
+    (subst (λ z. c.read.new.into ≡ slice_range (data_block z c.args.block) 0 44) (sym same) c.in_ok-read.ensures.ok) c.firm_bytes.ensures.each c.in_ok-program_bytes.ensures.ends.settled c.in_ok-program_bytes.ensures.ok c.in_ok-program_bytes.ensures.firm
+    c.firm_bytes.ensures.dead c.firm_bytes.ensures.begun)
+
+pub returns-then-is_blank-clause-zeros : goal.returns-then-is_blank-clause-zeros
+returns-then-is_blank-clause-zeros g c =
+    let s1 = c.read.new.self in
+    blank-zeros c.args.block s1.memory s1.weak c.read.new.into c.in_ok-read.ensures.ends.settled (subst (λ z. c.read.new.into ≡ slice_range (data_block z c.args.block) 0 44) (sym c.in_ok-read.ensures.same) c.in_ok-read.ensures.ok) (c.is_blank.ensures.blank c.if-is_blank.true)
+
+pub returns-then-is_blank-clause-for_good : goal.returns-then-is_blank-clause-for_good
+returns-then-is_blank-clause-for_good g c =
+    blank-for-good c.args.block c.args.journal.now.memory (bits_in c.read.new.self) c.read.new.into c.in_ok-read.ensures.ok (c.is_blank.ensures.blank c.if-is_blank.true)

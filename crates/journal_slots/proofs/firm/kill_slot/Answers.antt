@@ -1,4 +1,4 @@
-use Rattle.std.proofs.Common.{◌+◌, ◌∷◌, [], ◌∙◌, ap, subst, arith}
+use Rattle.std.proofs.Common.{◌+◌, ◌∷◌, [], ◌∙◌, ap, subst, refl, arith}
 use Rattle.std.proofs.lemmas.Result.{err_from_is_err_and}
 use Rattle.chip_model.specs.Memory.{and_at, TornAnd}
 use Rattle.nor_driver.specs.State.{Leaves}
@@ -8,6 +8,9 @@ use Rattle.sector_slots.proofs.GroupLaws.{free-no_group}
 use Rattle.journal_slots.specs.Programs.{OnlyBytes}
 use Rattle.journal_slots.proofs.Bytes.{leaves-only, and-only, descriptor-place}
 use Rattle.journal_slots.proofs.Killing.{kill-done, kill-cut, free-state}
+use Rattle.nor_driver.specs.State.{bits_in}
+use Rattle.sector_slots.specs.Weak.{block_place}
+use Rattle.sector_slots.proofs.FirmLaws.{programmed-for-good}
 use Rattle.journal_slots.proofs.firm.kill_slot.Goals as goal
 
 pub returns-in_err-program_bytes-clause-cut : goal.returns-in_err-program_bytes-clause-cut
@@ -40,3 +43,9 @@ returns-clause-within g c =
     let b = data_block c.args.journal.now.memory c.args.block in
     let t = data_block c.program_bytes.new.journal.memory c.args.block in
     descriptor-place c.args.place 1 b t (omega arith) (subst (λ a. OnlyBytes a 1 b t) c.descriptor_place.ensures (and-only b (251 ∷ []) t c.descriptor_place.result c.in_ok-program_bytes.ensures.ok))
+
+pub returns-clause-for_good : goal.returns-clause-for_good
+returns-clause-for_good g c =
+    programmed-for-good (bits_in c.args.journal.now) (bits_in c.program_bytes.new.journal) c.args.block c.args.place 251 c.requires.place refl c.in_ok-program_bytes.ensures.ends.settled
+    (c.in_ok-program_bytes.ensures.ok ∙ ap (λ a. and_at (data_block c.args.journal.now.memory c.args.block) a (251 ∷ [])) c.descriptor_place.ensures)
+    (c.in_ok-program_bytes.ensures.firm ∙ ap (λ a. and_at c.args.journal.now.weak (block_place c.args.block + a) (251 ∷ [])) c.descriptor_place.ensures)

@@ -11,6 +11,7 @@ use Rattle.erase_journal.specs.Steps.{SucceedsSettled}
 use Rattle.erase_journal.proofs.SettledLaws.{settled-after}
 use Rattle.erase_journal.proofs.Firmly.{refuses-firmly}
 use Rattle.journal_slots.proofs.Bytes.{leaves-only, and-only, only-wider, bytes-after, last-page, two-pages}
+use Rattle.erase_journal.proofs.SettledLaws.{settled-healthy}
 use Rattle.journal_slots.proofs.slot.write_content.Goals as goal
 
 pub slice_bounds-program_bytes-end : goal.slice_bounds-program_bytes-end
@@ -74,3 +75,8 @@ returns-clause-ends g c =
     let s1 = c.program_bytes.new.journal in
     let s2 = c.program_bytes-2.new.journal in
     settled-after s0 s1 s2 c.in_ok-program_bytes.ensures.ends c.in_ok-program_bytes-2.ensures.ends
+
+pub returns-in_err-program_bytes-2-clause-healthy : goal.returns-in_err-program_bytes-2-clause-healthy
+returns-in_err-program_bytes-2-clause-healthy g c is healthy =
+    let p = err_from_is_err_and c.from_residual-in_err-program_bytes-2.result c.from_residual-in_err-program_bytes-2.ensures.1 in
+    c.in_err-program_bytes-2.ensures.healthy (cc (p.1, p.2)) (settled-healthy _ c.in_ok-program_bytes.ensures.ends.settled)

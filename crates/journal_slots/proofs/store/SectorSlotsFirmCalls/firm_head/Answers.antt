@@ -1,0 +1,4 @@
+use Rattle.journal_slots.proofs.store.SectorSlotsFirmCalls.firm_head.Goals as goal
+
+pub returns-clause-for_good : goal.returns-clause-for_good
+returns-clause-for_good g c = rw (← c.self.view_is) c.firm_head.ensures.for_good
