@@ -10,7 +10,7 @@ use Rattle.sector_stock.specs.declared.index.BlockState.{BlockState}
 use Rattle.sector_stock.specs.declared.index.Cursors.{Cursors}
 use Rattle.sector_stock.specs.declared.policy.Policy.TheVariants as policies
 use Rattle.sector_stock.specs.Index.{HasFreeBut, state_of, is_free_slot, in_block, in_slots, IsListed, IsIndexOf, IsLowestWithFree, HasNoFreeBut}
-use Rattle.sector_stock.specs.IndexSteps.{HasNoFreeState, IsFirstFreeState}
+use Rattle.sector_stock.specs.IndexSteps.{HasNoFreeState, IsFirstFreeState, HasNoneFreeBefore}
 use Rattle.sector_stock.specs.Room.{HasNoneFree}
 use Rattle.sector_slots.specs.Blocks.{IsReserveOf}
 use Rattle.sector_stock.specs.Takes.{IsLowestFree, IsGivable, HasFreeIn, FillsUp}
@@ -170,3 +170,16 @@ found-filled (Some w) b m slots blocks at index low up h =
           let e = ap (λ c. (in_block blocks c).erases) block in
           omega (arith, q, e);
     }
+
+-- and it is the first free one of its block
+pub found-first : (o : Option ℕ) (b r : ℕ) (m : List ℕ) (slots : List SlotState) (blocks : List BlockState) → IsListed slots blocks (slot_at m) (kind_at m) (data_blocks m) → HasFreeBut blocks r b
+    → MatchOption o (HasNoFreeState slots b) (λ w. IsFirstFreeState slots b w) → IfSome o (λ w. HasNoneFreeBefore w m)
+found-first None b r m slots blocks listed low h = tt
+found-first (Some w) b r m slots blocks listed low h =
+    λ s below same free.
+    let n = listed.block_size in
+    let inside = low.0 in
+    let block = h.block in
+    let here : s / 7 ≡ b = same ∙ block in
+    let place : 7 * b + s % 7 ≡ s = omega (arith, here) in
+    h.first (s % 7) (omega arith) (omega (arith, place, below)) (ap (λ v. in_slots slots v) place ∙ (listed.each_slot s (omega (arith, here, inside, n)) ∙ ap state_of free))

@@ -16,3 +16,5 @@ pub mod Worn
 pub mod Even
 pub mod Renewing
 pub mod Firming
+pub mod FirmCopies
+pub mod Trusting

@@ -1,10 +1,15 @@
 -- The copying of a block into the reserve, as its calls leave it. Source: own, layout 2.
 use Rattle.std.specs.Prelude.{◌≡◌, ◌≢◌, ℕ, ◌+◌, ◌<◌, List, [], length}
+use Rattle.std.specs.Int.{bit_at}
+use Rattle.chip_model.specs.Memory.{byte}
+use Rattle.chip_model.specs.Wavering.{Bits}
 use Rattle.erase_journal.specs.Blocks.{SameChip}
 use Rattle.sector_slots.specs.Slots.{Slot, Free, Live, NoGeneration, Dead, Outside, data_blocks}
 use Rattle.sector_slots.specs.Slots.{data_block, kind_at, raw_slot, slot_at, slot_count, IsClean}
 use Rattle.sector_slots.specs.Slots.{IsSpareIn, content_bytes, blank_sector}
 use Rattle.sector_slots.specs.Blocks.{AreAtRest, AreSettled, IsTarget}
+use Rattle.sector_slots.specs.Firm.{SameStates}
+use Rattle.sector_slots.specs.Weak.{mark_place}
 use Rattle.sector_slots.specs.Copying.{SameLive, copy_slot, source_slot}
 use Rattle.sector_slots.specs.Sectors.{IsSingle, IsSoundMap, HasSlotsAlone, HoldsSectors}
 use Rattle.nor_layout.specs.declared.kind.Kind.TheVariants as kinds
@@ -99,6 +104,22 @@ pub record Copies (s t : ℕ) (m m' : List ℕ) : Type 0 where
 pub record MovesAfresh (s t : ℕ) (m m' : List ℕ) : Type 0 where
   pub copies : Copies s t m m'
   pub keeps : KeepsSectors m m'
+
+-- all blocks but s and t are as they were
+abbrev pub OthersStay : ℕ → ℕ → List ℕ → List ℕ → Type 0
+OthersStay s t m m' = (d : ℕ) → d < data_blocks m → d ≢ s → d ≢ t → data_block m' d ≡ data_block m d
+
+-- Block t, a committed copy, was settled: the states of its slots are the same bytes, and the bit
+-- of its mark that tells the two apart is firm.
+pub record SettlesCopy (t : ℕ) (old new : Bits) : Type 0 where
+  pub states : SameStates t old.shown new.shown
+  pub third : bit_at (byte new.weak (mark_place t)) 2 ≡ 0
+
+-- Block t was made settled: none of its slots changed, and no other block.
+pub record OnlySettles (t : ℕ) (m m' : List ℕ) : Type 0 where
+  pub others : OthersStay t t m m'
+  pub target : (i : ℕ) → i < 7 → raw_slot m' t i ≡ raw_slot m t i
+  pub settled : kind_at m' t ≡ kinds.Settled
 
 -- Block t is void, whatever goes on beside it. So a mount may find it.
 pub record IsVoidIn (t : ℕ) (m : List ℕ) : Type 0 where

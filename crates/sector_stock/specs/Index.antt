@@ -3,6 +3,7 @@
 use Rattle.std.specs.Prelude.{◌≡◌, ◌≢◌, ◌⊎◌, ℕ, ◌+◌, ◌-◌, ◌*◌, ◌/◌, ◌<◌, ◌≤◌, Bool, true, false}
 use Rattle.std.specs.Prelude.{List, length, slice_index_or, min}
 use Rattle.chip_model.specs.Geometry.{IsChipSize}
+use Rattle.chip_model.specs.Wavering.{Bits}
 use Rattle.erase_journal.specs.Places.{how_many}
 pub use Rattle.nor_layout.specs.Kinds.{is_plain}
 use Rattle.nor_layout.specs.declared.header.Header.{Header}
@@ -17,6 +18,7 @@ use Rattle.sector_stock.specs.declared.policy.Policy.TheVariants as policies
 use Rattle.sector_stock.specs.declared.policy.Wanted.{Wanted}
 use Rattle.sector_stock.specs.declared.policy.Wanted.TheVariants as wanteds
 use Rattle.sector_slots.specs.Blocks.{IsReserveOf}
+use Rattle.sector_slots.specs.Weak.{IsFirmStore}
 use Rattle.sector_stock.specs.Room.{IsSpareBlock}
 use Rattle.nor_layout.specs.declared.header.Header.TheVariants as headers
 use Rattle.nor_layout.specs.declared.kind.Kind.TheVariants as kinds
@@ -291,6 +293,10 @@ pub record TrustsMore (blocks blocks' : List BlockState) : Type 0 where
 -- no block is suspect
 abbrev pub AreTrusted : List BlockState → Type 0
 AreTrusted blocks = (c : ℕ) → c < length blocks → (in_block blocks c).suspect ≡ false
+
+-- Marks and slots are sure but where a block is suspect by these lists.
+abbrev pub IsFirmIn : Bits → List BlockState → Type 0
+IsFirmIn b blocks = IsFirmStore b (λ c. (in_block blocks c).suspect)
 
 -- block r is the highest-numbered wholly free one
 pub record IsHighestWhole (blocks : List BlockState) (r : ℕ) : Type 0 where

@@ -3,6 +3,7 @@
 use Rattle.std.specs.Prelude.{◌≡◌, ◌≢◌, ◌⊎◌, ℕ, zero, suc, ◌+◌, ◌*◌, ◌/◌, ◌<◌, ◌≤◌, false, List}
 use Rattle.std.specs.Prelude.{length}
 use Rattle.erase_journal.specs.Places.{how_many}
+use Rattle.sector_slots.specs.Slots.{Free, slot_at}
 use Rattle.sector_stock.specs.declared.index.SlotState.{SlotState}
 use Rattle.sector_stock.specs.declared.index.BlockState.{BlockState}
 use Rattle.sector_stock.specs.declared.index.Cursors.{Cursors}
@@ -61,6 +62,10 @@ pub record IsFirstFreeState (slots : List SlotState) (b w : ℕ) : Type 0 where
   pub block : w / 7 ≡ b
   pub free : in_slots slots w ≡ states.Free
   pub first : (i : ℕ) → i < 7 → 7 * b + i < w → in_slots slots (7 * b + i) ≢ states.Free
+
+-- no slot of its block before slot w is free
+abbrev pub HasNoneFreeBefore : ℕ → List ℕ → Type 0
+HasNoneFreeBefore w m = (s : ℕ) → s < w → s / 7 ≡ w / 7 → slot_at m s ≢ Free
 
 -- block s was erased once more, so that it isn't suspect, and nothing else of the index changed but
 -- the bound of all erases

@@ -1,7 +1,7 @@
 -- What giving a slot leaves: nothing changed, or a block was copied into a wholly free one first.
 -- Source: own, layout 2.
-use Rattle.std.specs.Prelude.{◌≡◌, ◌≢◌, ◌⊎◌, ℕ, ◌+◌, ◌-◌, ◌*◌, Bool, false, ◌/◌, ◌<◌, ◌≤◌, List}
-use Rattle.std.specs.Prelude.{Option, Some, None, if◌then◌else◌, nat_lt, MatchOption}
+use Rattle.std.specs.Prelude.{◌≡◌, ◌≢◌, ◌⊎◌, ℕ, ◌+◌, ◌-◌, ◌*◌, Bool, true, false, ◌/◌, ◌<◌, ◌≤◌}
+use Rattle.std.specs.Prelude.{List, length, Option, Some, None, if◌then◌else◌, nat_lt, MatchOption}
 use Rattle.nor_layout.specs.declared.header.Generation.{Generation}
 use Rattle.nor_layout.specs.declared.header.Generation.TheVariants as generations
 use Rattle.nor_layout.specs.declared.header.Tag.{Tag}
@@ -9,7 +9,7 @@ use Rattle.nor_layout.specs.declared.kind.Kind.TheVariants as kinds
 use Rattle.erase_journal.specs.Blocks.{SameChip, blank}
 use Rattle.erase_journal.specs.Places.{how_many}
 use Rattle.sector_slots.specs.Slots.{Free, Live, NoGeneration, Dead, slot_at, slot_count}
-use Rattle.sector_slots.specs.Slots.{data_block, data_blocks}
+use Rattle.sector_slots.specs.Slots.{data_block, data_blocks, raw_slot}
 use Rattle.sector_slots.specs.Slots.{IsClean, IsSpareIn, kind_at, is_group}
 use Rattle.sector_slots.specs.Sectors.{LiveAt}
 use Rattle.sector_slots.specs.Blocks.{AreSettled, IsReserveOf}
@@ -95,6 +95,23 @@ pub record MakesFirm (m m' : List ℕ) : Type 0 where
   pub kinds : (c : ℕ) → c < data_blocks m → kind_at m' c ≡ kind_at m c
   pub blocks : AreSettled m'
   pub keeps : KeepsSectors m m'
+
+-- of data block c the first free slot was made dead
+pub record KillsFirstFree (c : ℕ) (m m' : List ℕ) : Type 0 where
+  pub place : ℕ
+  pub within : place < 7
+  pub was : raw_slot m c place ≡ Free
+  pub first : (i : ℕ) → i < place → raw_slot m c i ≢ Free
+  pub now : raw_slot m' c place ≡ Dead
+
+-- Each block that was suspect and is trusted was erased for it, or its first free slot was made
+-- dead. A block that is suspect still, or was trusted before, is as it was.
+pub record MadeTrusted (blocks blocks' : List BlockState) (m m' : List ℕ) : Type 0 where
+  pub made : (c : ℕ) → c < length blocks → (in_block blocks c).suspect ≡ true
+      → (in_block blocks' c).suspect ≡ false → (data_block m' c ≡ blank) ⊎ KillsFirstFree c m m'
+  pub others : (c : ℕ) → c < length blocks
+      → (in_block blocks' c).suspect ≡ (in_block blocks c).suspect
+      → data_block m' c ≡ data_block m c
 
 -- block s, of which a slot was dead, was copied into block t, which was wholly free; now s is
 pub record CopiesInto (s t : ℕ) (m m' : List ℕ) : Type 0 where

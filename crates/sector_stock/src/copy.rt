@@ -1,15 +1,17 @@
 //! A block is copied into the reserve, and then erased.
 
-ghost use Rattle.std.specs.Prelude.{◌≡◌, ◌<◌, ℕ, length, OnOk};
+ghost use Rattle.std.specs.Prelude.{◌≡◌, ◌≢◌, ◌<◌, ℕ, true, length, OnOk};
 ghost use Rattle.std.specs.Result.{IsErrOf};
-ghost use Rattle.nor_driver.specs.State.{IsNorReady};
+ghost use Rattle.nor_driver.specs.State.{IsNorReady, bits_in};
 ghost use Rattle.erase_journal.specs.Journals.{IsHealthy};
 ghost use Rattle.erase_journal.specs.Steps.{EndsFirmly};
 ghost use Rattle.sector_slots.specs.Slots.{data_blocks, IsSpareIn};
 ghost use Rattle.sector_slots.specs.Sectors.{IsSoundMap};
+ghost use Rattle.sector_slots.specs.Weak.{IsWhollyFirm};
 ghost use Rattle.sector_stock.specs.Copy.{KeepsSectors, Stays, IsCopyable, IsFinished, Copies};
 ghost use Rattle.sector_stock.specs.Copy.{IsFresh, MovesAfresh};
-ghost use Rattle.sector_stock.specs.Copy.{EndsCopy, EndsVoid, IsVoidIn, IsCommittedIn};
+ghost use Rattle.sector_stock.specs.Copy.{EndsCopy, EndsVoid, IsVoidIn, IsCommittedIn, OthersStay};
+ghost use Rattle.sector_stock.specs.Copy.{SettlesCopy, OnlySettles};
 ghost use Rattle.sector_stock.specs.CopySteps.{IsCopiedTo, CopyProgress, Finishes, FinishLeaves};
 
 use nor_driver::NorError;
@@ -29,6 +31,9 @@ pub(crate) fn reclaim_into<S: SlotCalls>(
         → IsCopyable source target (S.state slots.old).memory }
     ensures ok { OnOk result (IsCopyable source target (S.state slots.old).memory
         → Copies source target (S.state slots.old).memory (S.state slots.new).memory) }
+    ensures firm { OnOk result (IsWhollyFirm (S.state slots.new).weak source) }
+    ensures others { OnOk result (IsCopyable source target (S.state slots.old).memory
+        → OthersStay source target (S.state slots.old).memory (S.state slots.new).memory) }
     ensures cut { IsErrOf result NorError.Cut → IsHealthy (S.state slots.old).memory
         → IsCopyable source target (S.state slots.old).memory
         → Stays (S.state slots.old).memory (S.state slots.new).memory }
@@ -55,6 +60,10 @@ pub fn move_afresh<S: SlotCalls>(slots: &mut S, source: u16, target: u16) -> Res
         → IsCopyable source target (S.state slots.old).memory }
     ensures ok { OnOk result (IsCopyable source target (S.state slots.old).memory
         → MovesAfresh source target (S.state slots.old).memory (S.state slots.new).memory) }
+    ensures firm { OnOk result (IsWhollyFirm (S.state slots.new).weak source) }
+    ensures target { OnOk result (IsWhollyFirm (S.state slots.new).weak target) }
+    ensures others { OnOk result (IsCopyable source target (S.state slots.old).memory
+        → OthersStay source target (S.state slots.old).memory (S.state slots.new).memory) }
     ensures cut { IsErrOf result NorError.Cut → IsHealthy (S.state slots.old).memory
         → IsCopyable source target (S.state slots.old).memory
         → KeepsSectors (S.state slots.old).memory (S.state slots.new).memory }
@@ -82,6 +91,8 @@ pub(crate) fn copy_into<S: SlotCalls>(
         → IsCopyable source target (S.state slots.old).memory }
     ensures ok { OnOk result (IsCopyable source target (S.state slots.old).memory
         → Copies source target (S.state slots.old).memory (S.state slots.new).memory) }
+    ensures firm { OnOk result (IsWhollyFirm (S.state slots.new).weak source) }
+    ensures target { suspect ≡ true → OnOk result (IsWhollyFirm (S.state slots.new).weak target) }
     ensures cut { IsErrOf result NorError.Cut → IsHealthy (S.state slots.old).memory
         → IsCopyable source target (S.state slots.old).memory
         → Stays (S.state slots.old).memory (S.state slots.new).memory }
@@ -128,6 +139,7 @@ fn finish<S: SlotCalls>(slots: &mut S, source: u16, target: u16) -> Result<(), N
         → IsCopiedTo 7 source target (S.state slots.old).memory }
     ensures ok { OnOk result (IsCopiedTo 7 source target (S.state slots.old).memory
         → Finishes source target (S.state slots.old).memory (S.state slots.new).memory) }
+    ensures firm { OnOk result (IsWhollyFirm (S.state slots.new).weak source) }
     ensures cut { IsErrOf result NorError.Cut
         → IsCopiedTo 7 source target (S.state slots.old).memory
         → FinishLeaves source target (S.state slots.old).memory (S.state slots.new).memory }
@@ -148,6 +160,7 @@ pub fn end_void<S: SlotCalls>(slots: &mut S, target: u16) -> Result<(), NorError
     ensures ok { OnOk result (IsVoidIn target (S.state slots.old).memory
         → IsSoundMap (S.state slots.old).memory
         → EndsVoid target (S.state slots.old).memory (S.state slots.new).memory) }
+    ensures firm { OnOk result (IsWhollyFirm (S.state slots.new).weak target) }
     ensures cut { IsErrOf result NorError.Cut → IsHealthy (S.state slots.old).memory
         → IsVoidIn target (S.state slots.old).memory
         → KeepsSectors (S.state slots.old).memory (S.state slots.new).memory }
@@ -171,6 +184,9 @@ pub fn end_committed<S: SlotCalls>(slots: &mut S, source: u16, target: u16) -> R
         → EndsCopy (S.state slots.old).memory (S.state slots.new).memory) }
     ensures exact { OnOk result (IsCommittedIn source target (S.state slots.old).memory
         → IsFinished source target (S.state slots.old).memory (S.state slots.new).memory) }
+    ensures firm { OnOk result (IsWhollyFirm (S.state slots.new).weak source) }
+    ensures settles { OnOk result (source ≢ target → SettlesCopy target
+        (bits_in (S.state slots.old)) (bits_in (S.state slots.new))) }
     ensures cut { IsErrOf result NorError.Cut → IsHealthy (S.state slots.old).memory
         → IsCommittedIn source target (S.state slots.old).memory
         → KeepsSectors (S.state slots.old).memory (S.state slots.new).memory }
@@ -191,6 +207,10 @@ pub fn end_erased<S: SlotCalls>(slots: &mut S, source: u16, target: u16) -> Resu
     ensures ok { OnOk result (IsCommittedIn source target (S.state slots.old).memory
         → IsSpareIn (S.state slots.old).memory source
         → EndsCopy (S.state slots.old).memory (S.state slots.new).memory) }
+    ensures settles { OnOk result (SettlesCopy target (bits_in (S.state slots.old))
+        (bits_in (S.state slots.new))) }
+    ensures alone { OnOk result (IsCommittedIn source target (S.state slots.old).memory
+        → OnlySettles target (S.state slots.old).memory (S.state slots.new).memory) }
     ensures cut { IsErrOf result NorError.Cut
         → IsCommittedIn source target (S.state slots.old).memory
         → IsSpareIn (S.state slots.old).memory source

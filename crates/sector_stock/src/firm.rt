@@ -6,15 +6,16 @@ ghost use Rattle.std.specs.Prelude.{◌≡◌, ◌*◌, ◌/◌, ◌<◌, ◌≤
 ghost use Rattle.std.specs.Prelude.{length, OnOk, IfSome, None};
 ghost use Rattle.std.specs.Result.{IsErrOf};
 ghost use Rattle.chip_model.specs.Geometry.{IsChipSize};
-ghost use Rattle.nor_driver.specs.State.{IsNorReady};
+ghost use Rattle.nor_driver.specs.State.{IsNorReady, bits_in};
 ghost use Rattle.erase_journal.specs.Journals.{IsHealthy, IsSettled};
 ghost use Rattle.erase_journal.specs.Steps.{EndsFirmly};
 ghost use Rattle.sector_slots.specs.Slots.{Free, slot_at, slot_count};
 ghost use Rattle.sector_stock.specs.Copy.{KeepsSectors};
 ghost use Rattle.sector_stock.specs.Index.{in_block, IsIndexOf, IsAhead, IsWholeBlock, Suspects};
-ghost use Rattle.sector_stock.specs.Index.{Trusts, TrustsMore, AreTrusted};
+ghost use Rattle.sector_stock.specs.Index.{Trusts, TrustsMore, AreTrusted, IsFirmIn};
+ghost use Rattle.sector_stock.specs.IndexSteps.{HasNoneFreeBefore};
 ghost use Rattle.sector_stock.specs.Room.{HasRoom};
-ghost use Rattle.sector_stock.specs.Takes.{IsGivable, MakesFirm, GivesTrusted};
+ghost use Rattle.sector_stock.specs.Takes.{IsGivable, MakesFirm, GivesTrusted, MadeTrusted};
 
 use crate::index::{BlockState, Cursors, SlotState, free_slot, mark_dead, mark_live};
 use crate::policy::is_whole;
@@ -55,6 +56,10 @@ pub fn firm_free<S: FirmCalls>(
     requires room { HasRoom (S.state slots.old).memory }
     ensures ok { OnOk result (MakesFirm (S.state slots.old).memory (S.state slots.new).memory) }
     ensures trusts { OnOk result (TrustsMore blocks.old blocks.new) }
+    ensures made { OnOk result (MadeTrusted blocks.old blocks.new (S.state slots.old).memory
+        (S.state slots.new).memory) }
+    ensures firm { IsFirmIn (bits_in (S.state slots.old)) blocks.old
+        → OnOk result (IsFirmIn (bits_in (S.state slots.new)) blocks.new) }
     ensures next { OnOk result (GivesTrusted at.new.policy at.new blocks.new
         (S.state slots.new).memory) }
     ensures none { AreTrusted blocks.old → (S.state slots.new).memory ≡ (S.state slots.old).memory }
@@ -85,6 +90,8 @@ fn next_suspect(states: &[SlotState], blocks: &[BlockState], at: &mut Cursors) -
         → IfSome result (λ w. IsGivable w m) }
     ensures next { (m : List ℕ) → IsIndexOf states.now blocks.now at.old m → result ≡ None
         → GivesTrusted at.new.policy at.new blocks.now m }
+    ensures first { (m : List ℕ) → IsIndexOf states.now blocks.now at.old m
+        → IfSome result (λ w. HasNoneFreeBefore w m) }
     ensures suspect { IfSome result (λ w. (in_block blocks.now (w / 7)).suspect ≡ true) }
     ensures number { IfSome result (λ w. w / 7 < length blocks.now) }
     ensures ahead { IsAhead blocks.now at.new }
@@ -116,9 +123,14 @@ fn firm_one<S: FirmCalls>(
     requires room { HasRoom (S.state slots.old).memory }
     requires number { slot < slot_count (S.state slots.old).memory }
     requires free { slot_at (S.state slots.old).memory slot ≡ Free }
+    requires first { HasNoneFreeBefore slot (S.state slots.old).memory }
     requires suspect { (in_block blocks.old (slot / 7)).suspect ≡ true }
     ensures ok { OnOk result (MakesFirm (S.state slots.old).memory (S.state slots.new).memory) }
     ensures trusts { OnOk result (TrustsMore blocks.old blocks.new) }
+    ensures made { OnOk result (MadeTrusted blocks.old blocks.new (S.state slots.old).memory
+        (S.state slots.new).memory) }
+    ensures firm { IsFirmIn (bits_in (S.state slots.old)) blocks.old
+        → OnOk result (IsFirmIn (bits_in (S.state slots.new)) blocks.new) }
     ensures trusted { OnOk result ((in_block blocks.new (slot / 7)).suspect ≡ false) }
     ensures policy { OnOk result (at.new.policy ≡ at.old.policy) }
     ensures index { OnOk result (IsIndexOf states.new blocks.new at.new
@@ -155,6 +167,10 @@ fn erase_suspect<S: FirmCalls>(
     requires suspect { (in_block blocks.old block).suspect ≡ true }
     ensures ok { OnOk result (MakesFirm (S.state slots.old).memory (S.state slots.new).memory) }
     ensures trusts { OnOk result (TrustsMore blocks.old blocks.new) }
+    ensures made { OnOk result (MadeTrusted blocks.old blocks.new (S.state slots.old).memory
+        (S.state slots.new).memory) }
+    ensures firm { IsFirmIn (bits_in (S.state slots.old)) blocks.old
+        → OnOk result (IsFirmIn (bits_in (S.state slots.new)) blocks.new) }
     ensures trusted { OnOk result ((in_block blocks.new block).suspect ≡ false) }
     ensures index { OnOk result (IsIndexOf states.now blocks.new at.now
         (S.state slots.new).memory) }
@@ -184,10 +200,15 @@ fn kill_first<S: FirmCalls>(
     requires room { HasRoom (S.state slots.old).memory }
     requires number { slot < slot_count (S.state slots.old).memory }
     requires free { slot_at (S.state slots.old).memory slot ≡ Free }
+    requires first { HasNoneFreeBefore slot (S.state slots.old).memory }
     requires part { IsWholeBlock (in_block blocks.old (slot / 7)) → ⊥ }
     requires suspect { (in_block blocks.old (slot / 7)).suspect ≡ true }
     ensures ok { OnOk result (MakesFirm (S.state slots.old).memory (S.state slots.new).memory) }
     ensures trusts { OnOk result (TrustsMore blocks.old blocks.new) }
+    ensures made { OnOk result (MadeTrusted blocks.old blocks.new (S.state slots.old).memory
+        (S.state slots.new).memory) }
+    ensures firm { IsFirmIn (bits_in (S.state slots.old)) blocks.old
+        → OnOk result (IsFirmIn (bits_in (S.state slots.new)) blocks.new) }
     ensures trusted { OnOk result ((in_block blocks.new (slot / 7)).suspect ≡ false) }
     ensures policy { at.new.policy ≡ at.old.policy }
     ensures index { OnOk result (IsIndexOf states.new blocks.new at.new

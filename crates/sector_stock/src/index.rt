@@ -12,6 +12,7 @@ ghost use Rattle.sector_stock.specs.Policies.{IsFilledUp, IsBoundFor};
 ghost use Rattle.sector_stock.specs.declared.policy.Policy.TheVariants as policies;
 ghost use Rattle.sector_stock.specs.IndexSteps.{AreSparesBelow, NextReserve, Widened};
 ghost use Rattle.sector_stock.specs.IndexSteps.{HasNoFreeState, IsFirstFreeState};
+ghost use Rattle.sector_stock.specs.IndexSteps.{HasNoneFreeBefore};
 ghost use Rattle.sector_stock.specs.Room.{HasNoneFree};
 ghost use Rattle.sector_stock.specs.Takes.{IsGivable, IsLowestFree, FillsUp};
 
@@ -540,6 +541,8 @@ pub(crate) fn free_slot(
     requires ahead { IsAhead blocks.now at.old }
     ensures found { (m : List ℕ) → IsIndexOf states.now blocks.now at.old m
         → MatchOption result (HasNoneFree at.old.reserve m) (λ w. IsGivable w m) }
+    ensures first { (m : List ℕ) → IsIndexOf states.now blocks.now at.old m
+        → IfSome result (λ w. HasNoneFreeBefore w m) }
     ensures number { IfSome result (λ w. w / 7 < length blocks.now) }
     ensures filled { at.old.policy ≡ policies.Level
         → IfSome result (λ w. at.new.newest ≡ w / 7) }

@@ -6,13 +6,14 @@ ghost use Rattle.std.specs.Prelude.{◌≡◌, ◌⊎◌, ◌+◌, ◌-◌, ◌<
 ghost use Rattle.std.specs.Prelude.{Some, None, OnOk, IfOk, IfSome, IsTrue, IsFalse};
 ghost use Rattle.std.specs.Result.{IsErrOf};
 ghost use Rattle.chip_model.specs.Geometry.{IsChipSize};
-ghost use Rattle.nor_driver.specs.State.{IsNorReady};
+ghost use Rattle.nor_driver.specs.State.{IsNorReady, bits_in};
 ghost use Rattle.erase_journal.specs.Journals.{IsHealthy, IsSettled};
 ghost use Rattle.erase_journal.specs.Steps.{EndsFirmly};
 ghost use Rattle.sector_slots.specs.Slots.{data_blocks};
 ghost use Rattle.sector_stock.specs.Copy.{Stays};
 ghost use Rattle.sector_stock.specs.Index.{in_block, IsWholeBlock, IsIndexOf, IsAhead, BlocksMoved};
 ghost use Rattle.sector_stock.specs.Index.{erases_of, AreWithin, MayWear, HasNoFreeBut, IsMostDead};
+ghost use Rattle.sector_stock.specs.Index.{IsFirmIn};
 ghost use Rattle.sector_stock.specs.IndexSteps.{RecountsErase, Forgets};
 ghost use Rattle.sector_stock.specs.Policies.{Wants, IsLeastWorn, IsTail, IsDue, IsInUse};
 ghost use Rattle.sector_stock.specs.Policies.{block_before, IsOtherReserve, AreRestingFewer};
@@ -317,6 +318,8 @@ pub(crate) fn move_used<S: SlotCalls>(
     ensures states_size { length states.new ≡ length states.old }
     ensures blocks_size { length blocks.new ≡ length blocks.old }
     ensures ends { EndsFirmly result (S.state slots.old) (S.state slots.new) }
+    ensures firm { IsFirmIn (bits_in (S.state slots.old)) blocks.old
+        → OnOk result (IsFirmIn (bits_in (S.state slots.new)) blocks.new) }
     ensures target { IfOk result (λ c. (c.source ≡ source) × (c.target ≡ at.old.reserve)) }
     ensures newest { OnOk result (at.new.newest ≡ at.old.newest) }
 {
@@ -371,6 +374,8 @@ pub fn level_block<S: SlotCalls>(
     ensures states_size { length states.new ≡ length states.old }
     ensures blocks_size { length blocks.new ≡ length blocks.old }
     ensures ends { EndsFirmly result (S.state slots.old) (S.state slots.new) }
+    ensures firm { IsFirmIn (bits_in (S.state slots.old)) blocks.old
+        → OnOk result (IsFirmIn (bits_in (S.state slots.new)) blocks.new) }
     ensures least { at.old.policy ≡ policies.Level → IfOk result (λ copied. (c : CopiedOf)
         → copied ≡ Some c → MovesLeastWorn (erases_of blocks.old) at.old.newest c.source
         (S.state slots.old).memory) }
@@ -513,6 +518,8 @@ fn erase_spare<S: SlotCalls>(
     ensures size { length (S.state slots.new).memory ≡ length (S.state slots.old).memory }
     ensures blocks_size { length blocks.new ≡ length blocks.old }
     ensures ends { EndsFirmly result (S.state slots.old) (S.state slots.new) }
+    ensures firm { IsFirmIn (bits_in (S.state slots.old)) blocks.old
+        → OnOk result (IsFirmIn (bits_in (S.state slots.new)) blocks.new) }
 {
     slots.erase(block)?;
     count_erase(blocks, at, block);
@@ -564,6 +571,8 @@ pub fn renew_block<S: SlotCalls>(
     ensures states_size { length states.new ≡ length states.old }
     ensures blocks_size { length blocks.new ≡ length blocks.old }
     ensures ends { EndsFirmly result (S.state slots.old) (S.state slots.new) }
+    ensures firm { IsFirmIn (bits_in (S.state slots.old)) blocks.old
+        → OnOk result (IsFirmIn (bits_in (S.state slots.new)) blocks.new) }
 {
     let state = blocks[block as usize];
     if is_whole(state) {

@@ -1,9 +1,9 @@
 //! Where a store of slots gets its free slots from: the contract of `Stock`.
 
 ghost use Rattle.std.specs.Prelude.{◌≡◌, ◌⊎◌, ◌/◌, ◌<◌, ◌≤◌, ℕ, true, Some, None, length, OnOk};
-ghost use Rattle.std.specs.Prelude.{◌+◌, ◌-◌, IfOk, IfSome, IsTrue, IsFalse, List};
+ghost use Rattle.std.specs.Prelude.{◌+◌, ◌-◌, IfOk, IfSome, IsTrue, IsFalse, List, false};
 ghost use Rattle.std.specs.Result.{IsErrOf};
-ghost use Rattle.nor_driver.specs.State.{IsNorReady};
+ghost use Rattle.nor_driver.specs.State.{IsNorReady, bits_in};
 ghost use Rattle.erase_journal.specs.Blocks.{SameChip};
 ghost use Rattle.erase_journal.specs.Journals.{IsHealthy, IsSettled};
 ghost use Rattle.erase_journal.specs.Steps.{EndsFirmly};
@@ -21,11 +21,12 @@ ghost use Rattle.sector_stock.specs.Takes.{Converts, IsLiveGroup, FillsUp, Copie
 ghost use Rattle.sector_stock.specs.Takes.{MovesLeastWorn, CountsErase, IsErasedOnce};
 ghost use Rattle.sector_stock.specs.Index.{erases_of, AreWithin, Suspects, TrustsMore, AreTrusted};
 ghost use Rattle.sector_stock.specs.Takes.{KeepsErases, Renews, IsLeastErased, MakesFirm};
-ghost use Rattle.sector_stock.specs.Takes.{GivesTrusted};
+ghost use Rattle.sector_stock.specs.Takes.{GivesTrusted, MadeTrusted};
 ghost use Rattle.sector_stock.specs.Policies.{IsTail, AreRestingFewer};
 ghost use Rattle.sector_stock.specs.declared.policy.Policy.{Policy};
 ghost use Rattle.sector_stock.specs.declared.policy.Policy.TheVariants as policies;
-ghost use Rattle.sector_stock.specs.Index.{is_live_group, HasNoFreeBut, IsMostDead};
+ghost use Rattle.sector_stock.specs.Index.{is_live_group, HasNoFreeBut, IsMostDead, in_block};
+ghost use Rattle.sector_stock.specs.Index.{IsFirmIn};
 ghost use Rattle.sector_stock.specs.declared.index.BlockState.{BlockState};
 ghost use Rattle.sector_stock.specs.declared.index.Cursors.{Cursors};
 ghost use Rattle.sector_stock.specs.declared.policy.Purpose.TheVariants as purposes;
@@ -84,6 +85,10 @@ pub trait Reclaim: FirmCalls {
         ensures ok { OnOk result (MakesFirm (Self.state self.old).memory
             (Self.state self.new).memory) }
         ensures trusts { OnOk result (TrustsMore (counts self.old) (counts self.new)) }
+        ensures made { OnOk result (MadeTrusted (counts self.old) (counts self.new)
+            (Self.state self.old).memory (Self.state self.new).memory) }
+        ensures firm { IsFirmIn (bits_in (Self.state self.old)) (counts self.old)
+            → OnOk result (IsFirmIn (bits_in (Self.state self.new)) (counts self.new)) }
         ensures next { OnOk result (GivesTrusted (policy self.new) (cursors self.new)
             (counts self.new) (Self.state self.new).memory) }
         ensures none { AreTrusted (counts self.old)
@@ -143,6 +148,11 @@ pub trait Reclaim: FirmCalls {
         ensures even { OnOk result (policy self.old ≡ policies.Level
             → AreWithin 32 (data_blocks (Self.state self.new).memory)
             (erases_of (counts self.new))) }
+        ensures firm { IsFirmIn (bits_in (Self.state self.old)) (counts self.old)
+            → OnOk result (IsFirmIn (bits_in (Self.state self.new)) (counts self.new)) }
+        ensures trusted { GivesTrusted (policy self.old) (cursors self.old) (counts self.old)
+            (Self.state self.old).memory
+            → IfOk result (λ given. (in_block (counts self.new) (given.slot / 7)).suspect ≡ false) }
         ensures ends { EndsFirmly result (Self.state self.old) (Self.state self.new) };
 
     /// Whether `tidy` has something to do: whether slots are dead, or blocks live with groups.
@@ -204,6 +214,8 @@ pub trait Reclaim: FirmCalls {
         ensures even { OnOk result (policy self.old ≡ policies.Level
             → AreWithin 32 (data_blocks (Self.state self.new).memory)
             (erases_of (counts self.new))) }
+        ensures firm { IsFirmIn (bits_in (Self.state self.old)) (counts self.old)
+            → OnOk result (IsFirmIn (bits_in (Self.state self.new)) (counts self.new)) }
         ensures ends { EndsFirmly result (Self.state self.old) (Self.state self.new) };
 
     /// Moves a block whose sectors rest into a wholly free one, where it is time for it, so that
@@ -252,6 +264,8 @@ pub trait Reclaim: FirmCalls {
         ensures even { OnOk result (policy self.old ≡ policies.Level
             → AreWithin 32 (data_blocks (Self.state self.new).memory)
             (erases_of (counts self.new))) }
+        ensures firm { IsFirmIn (bits_in (Self.state self.old)) (counts self.old)
+            → OnOk result (IsFirmIn (bits_in (Self.state self.new)) (counts self.new)) }
         ensures ends { EndsFirmly result (Self.state self.old) (Self.state self.new) };
 
     /// The block that was erased least, where another one was erased `limit` times more often: it
@@ -307,6 +321,8 @@ pub trait Reclaim: FirmCalls {
         ensures size { length (Self.state self.new).memory ≡ length (Self.state self.old).memory }
         ensures counted { OnOk result (IsErasedOnce (data_blocks (Self.state self.old).memory)
             block (erases_of (counts self.old)) (erases_of (counts self.new))) }
+        ensures firm { IsFirmIn (bits_in (Self.state self.old)) (counts self.old)
+            → OnOk result (IsFirmIn (bits_in (Self.state self.new)) (counts self.new)) }
         ensures ends { EndsFirmly result (Self.state self.old) (Self.state self.new) };
 
     /// What the seven descriptors of a block say, as `head` gives them; the counts stay.
@@ -366,10 +382,12 @@ pub trait Reclaim: FirmCalls {
         ensures even { OnOk result (policy self.old ≡ policies.Level
             → AreWithin 32 (data_blocks (Self.state self.new).memory)
             (erases_of (counts self.new))) }
+        ensures firm { IsFirmIn (bits_in (Self.state self.old)) (counts self.old)
+            → OnOk result (IsFirmIn (bits_in (Self.state self.new)) (counts self.new)) }
         ensures ends { EndsFirmly result (Self.state self.old) (Self.state self.new) };
 
     /// Writes a sector, 512 bytes, into a free slot, as `put` does. Another block than the slot's
-    /// is wholly free.
+    /// is wholly free. Where what is free in the slot's block is trusted, a firm store stays one.
     fn write(&mut self, slot: u16, tag: Tag, content: &[u8]) -> Result<(), NorError>
         requires number { slot < slot_count (Self.state self.old).memory }
         requires size { length content.now ≡ 512 }
@@ -395,6 +413,9 @@ pub trait Reclaim: FirmCalls {
             (Self.state self.new).memory) }
         ensures cut_only { IsErrOf result NorError.Cut
             → OnlyPlace slot (Self.state self.old).memory (Self.state self.new).memory }
+        ensures firm { (in_block (counts self.old) (slot / 7)).suspect ≡ false
+            → IsFirmIn (bits_in (Self.state self.old)) (counts self.old)
+            → OnOk result (IsFirmIn (bits_in (Self.state self.new)) (counts self.new)) }
         ensures chip { SameChip (Self.state self.old).memory (Self.state self.new).memory }
         ensures healthy { IsErrOf result NorError.Cut → IsHealthy (Self.state self.old).memory
             → IsHealthy (Self.state self.new).memory }
@@ -404,7 +425,7 @@ pub trait Reclaim: FirmCalls {
             (erases_of (counts self.old)) (erases_of (counts self.new))) }
         ensures ends { EndsFirmly result (Self.state self.old) (Self.state self.new) };
 
-    /// Makes a live slot of a block of slots dead, as `retire` does.
+    /// Makes a live slot of a block of slots dead, as `retire` does. A firm store stays one.
     fn release(&mut self, slot: u16) -> Result<(), NorError>
         requires number { slot < slot_count (Self.state self.old).memory }
         requires live { IsNorReady (Self.state self.old)
@@ -425,6 +446,8 @@ pub trait Reclaim: FirmCalls {
             (Self.state self.new).memory) }
         ensures cut_only { IsErrOf result NorError.Cut
             → OnlyPlace slot (Self.state self.old).memory (Self.state self.new).memory }
+        ensures firm { IsFirmIn (bits_in (Self.state self.old)) (counts self.old)
+            → OnOk result (IsFirmIn (bits_in (Self.state self.new)) (counts self.new)) }
         ensures chip { SameChip (Self.state self.old).memory (Self.state self.new).memory }
         ensures healthy { IsErrOf result NorError.Cut → IsHealthy (Self.state self.old).memory
             → IsHealthy (Self.state self.new).memory }

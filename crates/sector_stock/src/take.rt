@@ -1,11 +1,11 @@
 //! A free slot is taken from a store and its index; a block is copied where none is free.
 
 ghost use Rattle.std.specs.Prelude.{◌/◌, ◌≤◌, ◌≡◌, ◌≢◌, ◌⊎◌, ◌<◌, ℕ, Some, None, length, OnOk};
-ghost use Rattle.std.specs.Prelude.{IfOk, IsTrue, IsFalse, List};
+ghost use Rattle.std.specs.Prelude.{IfOk, IsTrue, IsFalse, List, false};
 ghost use Rattle.sector_stock.specs.declared.index.SlotState.{SlotState as SlotStateOf};
 ghost use Rattle.std.specs.Result.{IsErrOf};
 ghost use Rattle.chip_model.specs.Geometry.{IsChipSize};
-ghost use Rattle.nor_driver.specs.State.{IsNorReady};
+ghost use Rattle.nor_driver.specs.State.{IsNorReady, bits_in};
 ghost use Rattle.erase_journal.specs.Journals.{IsHealthy, IsSettled};
 ghost use Rattle.erase_journal.specs.Steps.{EndsFirmly};
 ghost use Rattle.sector_slots.specs.Blocks.{IsReserveOf};
@@ -14,12 +14,12 @@ ghost use Rattle.sector_stock.specs.Room.{HasRoom, HasNoneDead, HasNoneFree};
 ghost use Rattle.sector_stock.specs.Copy.{Stays};
 ghost use Rattle.sector_stock.specs.Index.{IsIndexOf, IsMostDead, IsLowestDead, IsAhead};
 ghost use Rattle.sector_stock.specs.Index.{IsWholeBlock, IsHighestWhole, Marked, one_free_fewer};
-ghost use Rattle.sector_stock.specs.Index.{in_block, BlocksMoved};
+ghost use Rattle.sector_stock.specs.Index.{in_block, BlocksMoved, IsFirmIn};
 ghost use Rattle.sector_stock.specs.declared.policy.Policy.TheVariants as policies;
 ghost use Rattle.sector_stock.specs.Takes.{Takes, CopiesInto, IsLowestFree, HasMostDead, work_of};
 ghost use Rattle.sector_stock.specs.Takes.{HasFewerBelow, Converts, IsLiveGroup, HasNoGroups};
 ghost use Rattle.sector_stock.specs.Takes.{TidiesStock, FillsUp, CopiesLeastWorn, CountsErase};
-ghost use Rattle.sector_stock.specs.Takes.{IsErasedOnce};
+ghost use Rattle.sector_stock.specs.Takes.{IsErasedOnce, GivesTrusted};
 ghost use Rattle.sector_stock.specs.Index.{erases_of, AreWithin, MayWear};
 ghost use Rattle.sector_stock.specs.declared.given.Copied.{Copied as CopiedOf};
 
@@ -71,6 +71,8 @@ fn copy_most<S: SlotCalls>(
     ensures states_size { length states.new ≡ length states.old }
     ensures blocks_size { length blocks.new ≡ length blocks.old }
     ensures ends { EndsFirmly result (S.state slots.old) (S.state slots.new) }
+    ensures firm { IsFirmIn (bits_in (S.state slots.old)) blocks.old
+        → OnOk result (IsFirmIn (bits_in (S.state slots.new)) blocks.new) }
     ensures target { IfOk result (λ c. (c.source ≡ source) × (c.target ≡ at.old.reserve)) }
     ensures next { OnOk result (at.old.policy ≡ policies.Level → at.new.reserve ≡ source) }
     ensures newest { OnOk result (at.new.newest ≡ at.old.newest) }
@@ -133,6 +135,8 @@ pub fn convert_block<S: SlotCalls>(
     ensures states_size { length states.new ≡ length states.old }
     ensures blocks_size { length blocks.new ≡ length blocks.old }
     ensures ends { EndsFirmly result (S.state slots.old) (S.state slots.new) }
+    ensures firm { IsFirmIn (bits_in (S.state slots.old)) blocks.old
+        → OnOk result (IsFirmIn (bits_in (S.state slots.new)) blocks.new) }
     ensures reserve { IfOk result (λ c. c.target ≡ at.old.reserve) }
     ensures next { OnOk result (at.old.policy ≡ policies.Level → at.new.reserve ≡ source) }
     ensures counted { OnOk result (IsErasedOnce (data_blocks (S.state slots.old).memory) source
@@ -183,6 +187,8 @@ pub fn take_slot<S: SlotCalls>(
     ensures states_size { length states.new ≡ length states.old }
     ensures blocks_size { length blocks.new ≡ length blocks.old }
     ensures ends { EndsFirmly result (S.state slots.old) (S.state slots.new) }
+    ensures firm { IsFirmIn (bits_in (S.state slots.old)) blocks.old
+        → OnOk result (IsFirmIn (bits_in (S.state slots.new)) blocks.new) }
     ensures fills { at.old.policy ≡ policies.Level → IfOk result (λ given. FillsUp at.old.newest
         at.new.reserve (erases_of blocks.new) given.slot (S.state slots.new).memory) }
     ensures worn { at.old.policy ≡ policies.Level → IfOk result (λ given. (c : CopiedOf)
@@ -190,6 +196,8 @@ pub fn take_slot<S: SlotCalls>(
         at.new.reserve c (S.state slots.old).memory) }
     ensures counted { IfOk result (λ given. CountsErase (data_blocks (S.state slots.old).memory)
         given.copied (erases_of blocks.old) (erases_of blocks.new)) }
+    ensures trusted { GivesTrusted at.old.policy at.old blocks.old (S.state slots.old).memory
+        → IfOk result (λ given. (in_block blocks.new (given.slot / 7)).suspect ≡ false) }
 {
     if let Some(slot) = free_slot(states, blocks, at) {
         return Ok(Given { slot, copied: None });
@@ -241,6 +249,8 @@ fn convert_lowest<S: SlotCalls>(
     ensures states_size { length states.new ≡ length states.old }
     ensures blocks_size { length blocks.new ≡ length blocks.old }
     ensures ends { EndsFirmly result (S.state slots.old) (S.state slots.new) }
+    ensures firm { IsFirmIn (bits_in (S.state slots.old)) blocks.old
+        → OnOk result (IsFirmIn (bits_in (S.state slots.new)) blocks.new) }
     ensures reserve { IfOk result (λ copied. (c : CopiedOf) → copied ≡ Some c
         → c.target ≡ at.old.reserve) }
     ensures next { at.old.policy ≡ policies.Level → IfOk result (λ copied. (c : CopiedOf)
@@ -320,6 +330,8 @@ pub fn tidy_block<S: SlotCalls>(
     ensures states_size { length states.new ≡ length states.old }
     ensures blocks_size { length blocks.new ≡ length blocks.old }
     ensures ends { EndsFirmly result (S.state slots.old) (S.state slots.new) }
+    ensures firm { IsFirmIn (bits_in (S.state slots.old)) blocks.old
+        → OnOk result (IsFirmIn (bits_in (S.state slots.new)) blocks.new) }
     ensures worn { at.old.policy ≡ policies.Level → IfOk result (λ copied. (c : CopiedOf)
         → copied ≡ Some c → CopiesLeastWorn (erases_of blocks.old) at.old.reserve
         at.new.reserve c (S.state slots.old).memory ⊎ HasNoneDead (S.state slots.old).memory) }

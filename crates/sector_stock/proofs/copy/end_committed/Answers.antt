@@ -7,6 +7,11 @@ use Rattle.erase_journal.proofs.SettledLaws.{settled-after}
 use Rattle.erase_journal.proofs.Firmly.{refuses-firmly}
 use Rattle.sector_stock.proofs.Copying.{source-erasable, committed-found, erase-cut, erase-done, settle-cut, committed-ends, ended-whole}
 use Rattle.erase_journal.proofs.SettledLaws.{settled-healthy}
+use Rattle.nor_driver.specs.State.{bits_in}
+use Rattle.erase_journal.proofs.WeakLaws.{are-firm-stays}
+use Rattle.sector_slots.specs.Weak.{block_place}
+use Rattle.std.proofs.Common.{◌*◌, ◌∙◌, ap, arith}
+use Rattle.chip_model.specs.Memory.{byte}
 use Rattle.sector_stock.proofs.copy.end_committed.Goals as goal
 
 pub returns-in_err-erase-clause-cut : goal.returns-in_err-erase-clause-cut
@@ -61,3 +66,12 @@ pub returns-in_err-settle-clause-healthy : goal.returns-in_err-settle-clause-hea
 returns-in_err-settle-clause-healthy g c is healthy =
     let p = err_from_is_err_and c.from_residual-in_err-settle.result c.from_residual-in_err-settle.ensures.1 in
     c.in_err-settle.ensures.healthy (cc (p.1, p.2)) (settled-healthy (g.S.SlotCalls.state c.erase.new.self).memory c.in_ok-erase.ensures.ends.settled)
+
+pub returns-clause-firm : goal.returns-clause-firm
+returns-clause-firm g c = are-firm-stays (bits_in (g.S.SlotCalls.state c.erase.new.self)) (bits_in (g.S.SlotCalls.state c.settle.new.self)) (block_place c.args.source) 4096 c.in_ok-settle.ensures.ends.kept.bits c.in_ok-erase.ensures.firm
+
+pub returns-clause-settles : goal.returns-clause-settles
+returns-clause-settles g c apart = record {
+  states = λ i low. c.in_ok-settle.ensures.states i low ∙ ap (λ b. byte b (16 + 4 * i)) (c.in_ok-erase.ensures.ok.only.others (c.args.target + 4) (omega arith) (omega (arith, c.requires.target)) (λ e. apart (omega (arith, e))));
+  third = c.in_ok-settle.ensures.third;
+}

@@ -1,4 +1,4 @@
-use Rattle.std.proofs.Common.{◌+◌}
+use Rattle.std.proofs.Common.{◌+◌, arith}
 use Rattle.std.proofs.lemmas.Result.{err_from_is_err_and}
 use Rattle.sector_stock.proofs.Copying.{erased-found, settle-cut, erased-ends}
 use Rattle.sector_stock.proofs.copy.end_erased.Goals as goal
@@ -13,3 +13,13 @@ pub returns-clause-ok : goal.returns-clause-ok
 returns-clause-ok g c h spare =
     let m = (g.S.SlotCalls.state c.args.slots.now).memory in
     erased-ends c.args.source c.args.target m (g.S.SlotCalls.state c.settle.new.self).memory (erased-found c.args.source c.args.target m h spare) c.in_ok-settle.ensures.only (c.in_ok-settle.ensures.ok (c.args.source + 4) h.committed)
+
+pub returns-clause-settles : goal.returns-clause-settles
+returns-clause-settles g c = record { states = c.in_ok-settle.ensures.states; third = c.in_ok-settle.ensures.third }
+
+pub returns-clause-alone : goal.returns-clause-alone
+returns-clause-alone g c h = record {
+  others = λ d low other again. c.in_ok-settle.ensures.only.only.others (d + 4) (omega arith) (omega (arith, low)) (λ e. other (omega (arith, e)));
+  target = c.in_ok-settle.ensures.only.slots;
+  settled = c.in_ok-settle.ensures.ok (c.args.source + 4) h.committed;
+}

@@ -1,3 +1,6 @@
+use Rattle.nor_driver.specs.State.{bits_in}
+use Rattle.erase_journal.proofs.WeakLaws.{are-firm-stays}
+use Rattle.sector_slots.specs.Weak.{block_place}
 use Rattle.std.proofs.lemmas.Result.{err_from_is_err_and}
 use Rattle.erase_journal.specs.Steps.{RefusesFirmly}
 use Rattle.nor_driver.proofs.CallLaws.{fails-as}
@@ -5,6 +8,7 @@ use Rattle.erase_journal.specs.Steps.{SucceedsSettled}
 use Rattle.erase_journal.proofs.SettledLaws.{settled-healthy, settled-after}
 use Rattle.erase_journal.proofs.Firmly.{refuses-firmly}
 use Rattle.sector_stock.proofs.Renewing.{spare-erasable, spare-cut_keeps, spare-copyable, moves-afresh, afresh-cut}
+use Rattle.std.proofs.Common.{◌+◌, ◌∙◌, arith}
 use Rattle.sector_stock.proofs.copy.move_afresh.Goals as goal
 
 pub erase-requires-clause-dead : goal.erase-requires-clause-dead
@@ -48,3 +52,19 @@ returns-in_err-reclaim_into-clause-ends g c =
     let s2 = g.S.SlotCalls.state c.reclaim_into.new.slots in
     fails-as c.from_residual-in_err-reclaim_into.result _ (λ _. SucceedsSettled s0 s2) (λ e. RefusesFirmly e s0 s2) c.from_residual-in_err-reclaim_into.ensures.1
     (refuses-firmly _ s0 s1 s2 c.in_ok-erase.ensures.ends c.in_err-reclaim_into.ensures.ends)
+
+pub returns-clause-target : goal.returns-clause-target
+returns-clause-target g c = are-firm-stays (bits_in (g.S.SlotCalls.state c.erase.new.self)) (bits_in (g.S.SlotCalls.state c.reclaim_into.new.slots)) (block_place c.args.target) 4096 c.in_ok-reclaim_into.ensures.ends.kept.bits c.in_ok-erase.ensures.firm
+
+pub returns-in_err-reclaim_into-clause-healthy : goal.returns-in_err-reclaim_into-clause-healthy
+returns-in_err-reclaim_into-clause-healthy g c is healthy =
+    let p = err_from_is_err_and c.from_residual-in_err-reclaim_into.result c.from_residual-in_err-reclaim_into.ensures.1 in
+    c.in_err-reclaim_into.ensures.healthy (cc (p.1, p.2)) (settled-healthy _ c.in_ok-erase.ensures.ends.settled)
+
+pub returns-clause-others : goal.returns-clause-others
+returns-clause-others g c h d low other away =
+    let m = (g.S.SlotCalls.state c.args.slots.now).memory in
+    let m1 = (g.S.SlotCalls.state c.erase.new.self).memory in
+    let one = c.in_ok-erase.ensures.ok.only.chip.same_length in
+    let found = spare-copyable c.args.source c.args.target m m1 h c.in_ok-erase.ensures.ok in
+    c.in_ok-reclaim_into.ensures.others found d (rw one low) other away ∙ c.in_ok-erase.ensures.ok.only.others (d + 4) (omega arith) (omega (arith, low)) (λ e. away (omega (arith, e)))

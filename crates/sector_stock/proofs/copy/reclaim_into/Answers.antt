@@ -5,6 +5,7 @@ use Rattle.erase_journal.specs.Steps.{SucceedsSettled}
 use Rattle.erase_journal.proofs.SettledLaws.{settled-healthy, settled-after}
 use Rattle.erase_journal.proofs.Firmly.{refuses-firmly}
 use Rattle.sector_stock.proofs.Copying.{reclaim-done, reclaim-cut, reclaim-cut_fresh}
+use Rattle.std.proofs.Common.{◌+◌, ◌∙◌, arith}
 use Rattle.sector_stock.proofs.copy.reclaim_into.Goals as goal
 
 pub returns-clause-ok : goal.returns-clause-ok
@@ -45,3 +46,9 @@ returns-clause-ends g c =
     let s1 = g.S.SlotCalls.state c.copy_all.new.slots in
     let s2 = g.S.SlotCalls.state c.finish.new.slots in
     settled-after s0 s1 s2 c.in_ok-copy_all.ensures.ends c.in_ok-finish.ensures.ends
+
+pub returns-clause-others : goal.returns-clause-others
+returns-clause-others g c h d low other away =
+    let p = c.in_ok-copy_all.ensures.ok h in
+    let one = p.only.chip.same_length in
+    (c.in_ok-finish.ensures.ok p.copied).finished.blocks d (rw one low) other away ∙ p.only.others (d + 4) (omega arith) (omega (arith, low)) (λ e. away (omega (arith, e)))

@@ -8,6 +8,7 @@ use Rattle.erase_journal.proofs.Firmly.{refuses-firmly}
 use Rattle.sector_stock.proofs.Copying.{after-keeps}
 use Rattle.sector_stock.proofs.Moved.{index-dead}
 use Rattle.sector_stock.proofs.Firming.{firm-none, firm-after, firm-room, trusts-none, trusts-after, none-suspect, suspects-fewer}
+use Rattle.sector_stock.proofs.Trusting.{made-none, made-after}
 use Rattle.sector_stock.proofs.firm.firm_free.Goals as goal
 
 pub loop-slot-init : goal.loop-slot-init
@@ -16,6 +17,8 @@ loop-slot-init g c = record {
   room = c.requires.room;
   firm = firm-none (g.S.SlotCalls.state c.args.slots.now).memory c.requires.room.blocks;
   trusts = trusts-none c.args.blocks.now;
+  made = made-none (g.S.SlotCalls.state c.args.slots.now).memory c.args.blocks.now;
+  weak = λ h. h;
   none = λ t. refl;
   policy = refl;
   size = refl;
@@ -36,6 +39,9 @@ firm_one-requires-clause-number g c = (c.in-Some.ensures.found (g.S.SlotCalls.st
 
 pub firm_one-requires-clause-free : goal.firm_one-requires-clause-free
 firm_one-requires-clause-free g c = (c.in-Some.ensures.found (g.S.SlotCalls.state c.loop-slot.slots).memory c.loop-slot.invariant.index).free
+
+pub firm_one-requires-clause-first : goal.firm_one-requires-clause-first
+firm_one-requires-clause-first g c = c.in-Some.ensures.first (g.S.SlotCalls.state c.loop-slot.slots).memory c.loop-slot.invariant.index
 
 pub returns-clause-index : goal.returns-clause-index
 returns-clause-index g c =
@@ -74,6 +80,8 @@ loop-slot-preserved g c =
       room = firm-room b d i.room e.ok;
       firm = firm-after a b d i.firm e.ok;
       trusts = trusts-after c.args.blocks.now c.loop-slot.blocks c.firm_one.new.blocks i.trusts e.trusts;
+      made = made-after c.args.blocks.now c.loop-slot.blocks c.firm_one.new.blocks a b d i.trusts e.trusts i.made e.made;
+      weak = λ h. e.firm (i.weak h);
       none = λ trusted. absurd (none-suspect (c.in-Some.slot / 7) c.args.blocks.now c.loop-slot.blocks i.trusts trusted (omega (arith, low, n)) c.in-Some.ensures.suspect);
       policy = e.policy ∙ (c.next_suspect.ensures.policy ∙ i.policy);
       size = e.size ∙ i.size;

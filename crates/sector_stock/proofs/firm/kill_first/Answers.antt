@@ -1,8 +1,13 @@
-use Rattle.std.proofs.Common.{◌<◌, ◌/◌, length, ap, ◌∙◌, arith}
+use Rattle.std.proofs.Common.{◌≡◌, false, ◌<◌, ◌/◌, length, sym, ap, ◌∙◌, subst, arith, inr}
 use Rattle.std.proofs.lemmas.Result.{err_from_is_err_and}
+use Rattle.nor_driver.specs.State.{bits_in}
+use Rattle.sector_slots.specs.Slots.{data_blocks}
+use Rattle.sector_slots.specs.Weak.{IsSureBlock}
+use Rattle.sector_stock.specs.Index.{in_block}
 use Rattle.sector_stock.proofs.Moved.{numbers-in}
 use Rattle.sector_stock.proofs.Writing.{free-some, ahead-live, index-killed}
 use Rattle.sector_stock.proofs.Firming.{part-apart, killed-keeps, killed-firm, index-trusted, trusts-one}
+use Rattle.sector_stock.proofs.Trusting.{firm-but, killed-sure, part-spare, kills-first, made-one, killed-flags}
 use Rattle.sector_stock.proofs.firm.kill_first.Goals as goal
 
 pub returns-in_err-kill-clause-cut : goal.returns-in_err-kill-clause-cut
@@ -64,3 +69,30 @@ returns-clause-trusts g c =
     let f = ap (λ x. x.dead) b.its_block in
     trusts-one (c.args.slot / 7) c.args.blocks.now c.mark_dead.new.blocks c.trust.new.blocks (b.block_size ∙ a.block_size) (omega (arith, low, n)) c.requires.suspect (omega (arith, e, f))
     (ap (λ x. x.erases) b.its_block ∙ ap (λ x. x.erases) a.its_block) (λ d inside ne. b.other_blocks d (omega (arith, inside, k)) ne ∙ a.other_blocks d inside ne) c.trust.ensures
+
+pub returns-clause-made : goal.returns-clause-made
+returns-clause-made g c =
+    let m = (g.S.SlotCalls.state c.args.slots.now).memory in
+    let m1 = (g.S.SlotCalls.state c.kill.new.self).memory in
+    let n = c.requires.index.listed.block_size in
+    made-one (c.args.slot / 7) m m1 c.args.blocks.now c.trust.new.blocks n c.in_ok-kill.ensures.only.only c.requires.suspect (ap (λ b. b.suspect) c.trust.ensures.here)
+    (killed-flags c.args.slot (data_blocks m) c.args.states.now c.mark_live.new.slots c.mark_dead.new.slots c.args.blocks.now c.mark_live.new.blocks c.mark_dead.new.blocks c.trust.new.blocks _ _ _ _ n c.mark_live.ensures.marked c.mark_dead.ensures.marked c.trust.ensures)
+    (inr (kills-first c.args.slot m m1 c.requires.room.blocks.rest c.requires.number c.requires.free c.requires.first (c.in_ok-kill.ensures.ok c.requires.free)))
+
+pub returns-clause-firm : goal.returns-clause-firm
+returns-clause-firm g c h =
+    let s0 = g.S.SlotCalls.state c.args.slots.now in
+    let s1 = g.S.SlotCalls.state c.kill.new.self in
+    let a = bits_in s0 in
+    let b = bits_in s1 in
+    let f = c.in_ok-kill.ensures.ends.kept.bits in
+    let n = c.requires.index.listed.block_size in
+    let low = c.requires.number in
+    let here : c.args.slot / 7 < data_blocks s0.memory = omega (arith, low) in
+    let now : (in_block c.trust.new.blocks (c.args.slot / 7)).suspect ≡ false = ap (λ b. b.suspect) c.trust.ensures.here in
+    firm-but a b f (c.args.slot / 7) c.args.blocks.now c.trust.new.blocks c.in_ok-kill.ensures.only.only
+    (killed-flags c.args.slot (data_blocks s0.memory) c.args.states.now c.mark_live.new.slots c.mark_dead.new.slots c.args.blocks.now c.mark_live.new.blocks c.mark_dead.new.blocks c.trust.new.blocks _ _ _ _ n c.mark_live.ensures.marked c.mark_dead.ensures.marked c.trust.ensures)
+    (λ sure. subst (λ q. IsSureBlock b q (c.args.slot / 7)) (sym now)
+    (killed-sure a b f c.args.slot c.requires.room.blocks.rest low (part-spare (c.args.slot / 7) s0.memory c.args.states.now c.args.blocks.now c.args.at.now c.requires.room c.requires.index here c.requires.part) c.requires.free c.requires.first c.in_ok-kill.ensures.for_good c.in_ok-kill.ensures.only
+    (subst (λ q. IsSureBlock a q (c.args.slot / 7)) c.requires.suspect sure)))
+    h

@@ -1,6 +1,6 @@
 use Rattle.std.proofs.Common.{subst, MatchOption}
 use Rattle.sector_stock.specs.IndexSteps.{HasNoFreeState, IsFirstFreeState}
-use Rattle.sector_stock.proofs.Finding.{found-free, given-free, none-free-in, only-some, found-filled, none-there}
+use Rattle.sector_stock.proofs.Finding.{found-free, given-free, none-free-in, only-some, found-filled, none-there, found-first}
 use Rattle.sector_stock.proofs.index.free_slot.Goals as goal
 
 pub returns-in-Some-clause-found : goal.returns-in-Some-clause-found
@@ -22,3 +22,7 @@ pub returns-in-Some-clause-newest : goal.returns-in-Some-clause-newest
 returns-in-Some-clause-newest c m index none =
     absurd (none-there c.in-Some.block c.args.at.now.reserve m c.args.states.now c.args.blocks.now index.listed c.in-Some.ensures.found
     (subst (λ o. MatchOption o (HasNoFreeState c.args.states.now c.in-Some.block) (λ w. IsFirstFreeState c.args.states.now c.in-Some.block w)) none c.first_place.ensures.found))
+
+pub returns-in-Some-clause-first : goal.returns-in-Some-clause-first
+returns-in-Some-clause-first c m index =
+    found-first c.first_place.result c.in-Some.block c.args.at.now.reserve m c.args.states.now c.args.blocks.now index.listed c.in-Some.ensures.found c.first_place.ensures.found

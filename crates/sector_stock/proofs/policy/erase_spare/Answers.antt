@@ -3,6 +3,8 @@ use Rattle.std.proofs.Common.{◌<◌, refl, arith}
 use Rattle.sector_slots.specs.Slots.{data_blocks}
 use Rattle.sector_stock.proofs.Moved.{whole-spare}
 use Rattle.sector_stock.proofs.Renewing.{spare-erasable, spare-done, spare-cut, index-recounted, reserve-stays, spare-stays, erased-once}
+use Rattle.nor_driver.specs.State.{bits_in}
+use Rattle.sector_stock.proofs.FirmCopies.{erased-again}
 use Rattle.sector_stock.proofs.policy.erase_spare.Goals as goal
 
 pub erase-requires-clause-dead : goal.erase-requires-clause-dead
@@ -49,3 +51,10 @@ returns-clause-index g c =
 
 pub returns-clause-counted : goal.returns-clause-counted
 returns-clause-counted g c = erased-once c.args.block _ c.args.blocks.now c.count_erase.new.blocks c.args.at.now c.count_erase.new.at refl c.count_erase.ensures
+
+pub returns-clause-firm : goal.returns-clause-firm
+returns-clause-firm g c =
+    let s0 = g.S.SlotCalls.state c.args.slots.now in
+    let s1 = g.S.SlotCalls.state c.erase.new.self in
+    let done = c.in_ok-erase.ensures in
+    erased-again c.args.block (bits_in s0) (bits_in s1) c.args.blocks.now c.count_erase.new.blocks c.args.at.now c.count_erase.new.at done.ends.kept.bits c.requires.index.listed.block_size done.ok done.firm c.count_erase.ensures

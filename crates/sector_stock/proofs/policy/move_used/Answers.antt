@@ -1,6 +1,8 @@
 use Rattle.std.proofs.lemmas.Result.{err_from_is_err_and}
 use Rattle.sector_stock.proofs.Moved.{copyable-used, used-no_group, numbers-in, moves-into, index-moved}
 use Rattle.sector_stock.proofs.Converting.{work-most}
+use Rattle.nor_driver.specs.State.{bits_in}
+use Rattle.sector_stock.proofs.FirmCopies.{copied-firm}
 use Rattle.sector_stock.proofs.policy.move_used.Goals as goal
 
 pub copy_into-requires-clause-copyable : goal.copy_into-requires-clause-copyable
@@ -39,3 +41,12 @@ pub returns-clause-work : goal.returns-clause-work
 returns-clause-work g c =
     let h = copyable-used c.args.source (g.S.SlotCalls.state c.args.slots.now).memory c.args.states.now c.args.blocks.now c.args.at.now c.requires.room c.requires.index c.requires.source c.requires.used in
     work-most c.args.source c.args.at.now.reserve (g.S.SlotCalls.state c.args.slots.now).memory (g.S.SlotCalls.state c.copy_into.new.slots).memory c.requires.room h (c.in_ok-copy_into.ensures.ok h)
+
+pub returns-clause-firm : goal.returns-clause-firm
+returns-clause-firm g c =
+    let s0 = g.S.SlotCalls.state c.args.slots.now in
+    let s1 = g.S.SlotCalls.state c.copy_into.new.slots in
+    let m = s0.memory in
+    let done = c.in_ok-copy_into.ensures in
+    copied-firm c.args.source c.args.at.now.reserve (bits_in s0) (bits_in s1) c.args.blocks.now c.move_block.new.blocks done.ends.kept.bits c.requires.index.listed.block_size c.requires.index.reserve.spare
+    (done.ok (copyable-used c.args.source m c.args.states.now c.args.blocks.now c.args.at.now c.requires.room c.requires.index c.requires.source c.requires.used)).slots done.firm done.target c.move_block.ensures.moved

@@ -2,6 +2,8 @@ use Rattle.std.proofs.lemmas.Result.{err_from_is_err_and}
 use Rattle.sector_stock.proofs.Moved.{numbers-in, index-moved}
 use Rattle.sector_stock.proofs.Converting.{convertible, converts-into}
 use Rattle.sector_stock.proofs.Worn.{counted-moved}
+use Rattle.nor_driver.specs.State.{bits_in}
+use Rattle.sector_stock.proofs.FirmCopies.{copied-firm}
 use Rattle.sector_stock.proofs.take.convert_block.Goals as goal
 
 pub copy_into-requires-clause-copyable : goal.copy_into-requires-clause-copyable
@@ -37,3 +39,12 @@ returns-clause-target g c by = c.requires.index.highest by
 
 pub returns-clause-counted : goal.returns-clause-counted
 returns-clause-counted g c = counted-moved c.args.source c.args.at.now.reserve (g.S.SlotCalls.state c.args.slots.now).memory c.args.states.now c.args.blocks.now c.move_block.new.blocks c.requires.index.listed c.move_block.ensures.fits c.move_block.ensures.moved
+
+pub returns-clause-firm : goal.returns-clause-firm
+returns-clause-firm g c =
+    let s0 = g.S.SlotCalls.state c.args.slots.now in
+    let s1 = g.S.SlotCalls.state c.copy_into.new.slots in
+    let m = s0.memory in
+    let done = c.in_ok-copy_into.ensures in
+    copied-firm c.args.source c.args.at.now.reserve (bits_in s0) (bits_in s1) c.args.blocks.now c.move_block.new.blocks done.ends.kept.bits c.requires.index.listed.block_size c.requires.index.reserve.spare
+    (done.ok (convertible c.args.source c.args.at.now.reserve m c.requires.room c.requires.index.reserve c.requires.source c.requires.group)).slots done.firm done.target c.move_block.ensures.moved

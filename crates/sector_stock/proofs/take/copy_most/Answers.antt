@@ -5,6 +5,8 @@ use Rattle.sector_stock.proofs.Moved.{copyable-now, numbers-in, dead-in, most-de
 use Rattle.sector_stock.specs.Takes.{copies}
 use Rattle.sector_stock.proofs.Converting.{work-falls}
 use Rattle.sector_stock.proofs.Moving.{other-reserve}
+use Rattle.nor_driver.specs.State.{bits_in}
+use Rattle.sector_stock.proofs.FirmCopies.{copied-firm}
 use Rattle.sector_stock.proofs.take.copy_most.Goals as goal
 
 pub copy_into-requires-clause-copyable : goal.copy_into-requires-clause-copyable
@@ -75,3 +77,12 @@ returns-clause-free g c none =
     let most = dead-in c.args.source m c.args.states.now c.args.blocks.now c.args.at.now c.requires.index c.requires.most in
     free-after c.args.source c.args.at.now.reserve c.move_block.new.at.reserve m (g.S.SlotCalls.state c.copy_into.new.slots).memory c.requires.room most c.requires.index.reserve
     (other-reserve c.args.at.now.policy c.args.source c.args.at.now.reserve c.move_block.new.at.reserve c.args.blocks.now c.move_block.new.blocks c.move_block.ensures.moved c.move_block.ensures.reserve) done (subst (λ a. HasNoneFree a.reserve (g.S.SlotCalls.state c.copy_into.new.slots).memory) c.go_on_behind.ensures none)
+
+pub returns-clause-firm : goal.returns-clause-firm
+returns-clause-firm g c =
+    let s0 = g.S.SlotCalls.state c.args.slots.now in
+    let s1 = g.S.SlotCalls.state c.copy_into.new.slots in
+    let m = s0.memory in
+    let done = c.in_ok-copy_into.ensures in
+    copied-firm c.args.source c.args.at.now.reserve (bits_in s0) (bits_in s1) c.args.blocks.now c.move_block.new.blocks done.ends.kept.bits c.requires.index.listed.block_size c.requires.index.reserve.spare
+    (done.ok (copyable-now c.args.source m c.args.states.now c.args.blocks.now c.args.at.now c.requires.room c.requires.index c.requires.most)).slots done.firm done.target c.move_block.ensures.moved

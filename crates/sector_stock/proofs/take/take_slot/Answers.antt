@@ -9,6 +9,8 @@ use Rattle.sector_slots.specs.Slots.{data_blocks}
 use Rattle.sector_stock.specs.Takes.{CopiesLeastWorn, IsErasedOnce, FillsUp}
 use Rattle.sector_stock.specs.Index.{erases_of}
 use Rattle.sector_stock.proofs.Worn.{counted-moved, copies-least}
+use Rattle.sector_stock.specs.Room.{HasNoneFree}
+use Rattle.sector_stock.proofs.FirmCopies.{copied-trusted}
 use Rattle.sector_stock.proofs.take.take_slot.Goals as goal
 
 pub unreachable-requires : goal.unreachable-requires
@@ -74,3 +76,12 @@ copy_most-requires-clause-may g c by =
 pub returns-clause-index : goal.returns-clause-index
 returns-clause-index g c =
     index-dead (g.S.SlotCalls.state c.copy_most.new.slots).memory c.copy_most.new.states c.copy_most.new.blocks c.copy_most.new.at c.free_slot-2.new.at c.in-Some-free_slot.ensures.ahead c.in-Some-free_slot.ensures.reserve c.in-Some-free_slot.ensures.policy c.in_ok-copied.ensures.index
+
+pub returns-clause-trusted : goal.returns-clause-trusted
+returns-clause-trusted g c trusted =
+    let m = (g.S.SlotCalls.state c.args.slots.now).memory in
+    let m1 = (g.S.SlotCalls.state c.copy_most.new.slots).memory in
+    let done = c.in_ok-copied.ensures in
+    let none = subst (λ r. HasNoneFree r m) (sym (c.most_dead.ensures.reserve ∙ c.in_default.ensures.reserve)) (c.in_default.ensures.found m c.requires.index) in
+    copied-trusted c.in-Some-most_dead.source c.most_dead.new.at.reserve c.in-Some-free_slot.slot m m1 c.args.states.now c.copy_most.new.states c.args.blocks.now c.copy_most.new.blocks c.args.at.now c.copy_most.new.at c.requires.index done.index done.blocks
+    none (c.in-Some-free_slot.ensures.found m1 done.index)
