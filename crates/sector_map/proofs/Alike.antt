@@ -36,7 +36,7 @@ each-alike m m' n each = record {
 marked-alike : (m m' : List ℕ) → IsMarked m m' → ReadsAlike m m'
 marked-alike m m' h = each-alike m m' h.same_length h.each
 
-blocks-alike : (m m' : List ℕ) → SameBlocks m m' → ReadsAlike m m'
+pub blocks-alike : (m m' : List ℕ) → SameBlocks m m' → ReadsAlike m m'
 blocks-alike m m' h = each-alike m m' h.chip.same_length (λ d low. h.each (d + 4) (omega arith) (omega (arith, low)))
 
 head-alike : (c : ℕ) (m m' : List ℕ) → KeepsHead c m m' → ReadsAlike m m'

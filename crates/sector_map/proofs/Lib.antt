@@ -24,3 +24,5 @@ pub mod Zeroing
 mod Alike
 mod Moving
 mod Renewal
+pub mod Firmness
+mod MountFirmly

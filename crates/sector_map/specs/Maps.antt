@@ -12,7 +12,7 @@ use Rattle.erase_journal.specs.Blocks.{SameChip, SameBlocks}
 use Rattle.erase_journal.specs.Journals.{IsHealthy, IsSettled}
 use Rattle.sector_slots.specs.Slots.{IsClean}
 use Rattle.sector_slots.specs.Blocks.{AreSettled}
-use Rattle.sector_slots.specs.Sectors.{IsSoundMap, HasSlotsAlone, sector_at}
+use Rattle.sector_slots.specs.Sectors.{IsSingle, IsSoundMap, HasSlotsAlone, sector_at}
 use Rattle.sector_map.specs.Marking.{SameDisk, IsUnmarked, mixed_mark}
 use Rattle.sector_map.specs.Table.{IsTableOf}
 use Rattle.sector_map.specs.declared.table.LiveSlots.{LiveSlots}
@@ -100,6 +100,12 @@ pub record IsServing (table : List LiveSlots) (state : NorState) (indexed : Bool
   pub blocks : AreSettled state.memory
   pub tabled : IsTableOf table state.memory
   pub index : indexed ≡ true
+
+-- No erase of the journals and no copying goes on, and no sector has two live slots.
+pub record IsSettledMap (m : List ℕ) : Type 0 where
+  pub journals : IsSettled m
+  pub blocks : AreSettled m
+  pub single : IsSingle m
 
 pub record IsCutOff (state : NorState) : Type 0 where
   pub off : state.powered ≡ false

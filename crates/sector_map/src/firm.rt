@@ -9,7 +9,9 @@ ghost use Rattle.erase_journal.specs.Steps.{RefusesFirmly, SucceedsSettled, Ends
 ghost use Rattle.erase_journal.specs.Weak.{AreFirmJournals, AreRecoveredJournals};
 ghost use Rattle.sector_slots.specs.Slots.{data_blocks};
 ghost use Rattle.sector_slots.specs.Sectors.{zeros};
-ghost use Rattle.sector_map.specs.Firm.{StaysAlike, HasNoneBegun, IsMendedMap};
+ghost use Rattle.sector_map.specs.Firm.{StaysAlike, HasNoneBegun, IsMendedMap, AreHeadsFirm};
+ghost use Rattle.sector_map.specs.Firm.{AreHeldBlocks, MovesFirmly};
+ghost use Rattle.sector_slots.specs.Weak.{IsDoubtedStore};
 ghost use Rattle.sector_map.specs.Maps.{IsServing, SetLeaves, Wrote};
 ghost use Rattle.sector_map.specs.Table.{Mends, Repairs};
 
@@ -25,6 +27,8 @@ use sector_stock::{Reclaim, move_afresh};
 pub(crate) fn firm_as<S: FirmCalls>(slots: &mut S, firmness: Firmness) -> Result<bool, NorError>
     ensures none { firmness ≡ Firmness.Firm → IfOk result (λ begun. IsFalse begun
         → HasNoneBegun (S.state slots.old).memory) }
+    ensures heads { firmness ≡ Firmness.Firm → IfOk result (λ begun.
+        AreHeadsFirm (bits_in (S.state slots.new)) begun) }
     ensures journals { firmness ≡ Firmness.Firm
         → AreRecoveredJournals (bits_in (S.state slots.old))
         → OnOk result (AreFirmJournals (bits_in (S.state slots.new))) }
@@ -63,6 +67,7 @@ pub(crate) fn suspect_as<S: Reclaim>(stock: &mut S, firmness: Firmness)
 fn firm_heads<S: FirmCalls>(slots: &mut S) -> Result<bool, NorError>
     ensures none { IfOk result (λ begun. IsFalse begun
         → HasNoneBegun (S.state slots.old).memory) }
+    ensures heads { IfOk result (λ begun. AreHeadsFirm (bits_in (S.state slots.new)) begun) }
     ensures ok { OnOk result (StaysAlike (S.state slots.old).memory (S.state slots.new).memory) }
     ensures cut { IsErrOf result NorError.Cut
         → StaysAlike (S.state slots.old).memory (S.state slots.new).memory }
@@ -92,6 +97,8 @@ pub(crate) fn move_begun<S: Reclaim>(
     requires mended { IsMendedMap table.old (S.state stock.old).memory }
     ensures ok { OnOk result (Repairs (S.state stock.old).memory table.new
         (S.state stock.new).memory) }
+    ensures store { OnOk result (AreHeldBlocks (bits_in (S.state stock.old)) begun
+        → IsDoubtedStore (bits_in (S.state stock.new))) }
     ensures cut { IsErrOf result NorError.Cut → IsHealthy (S.state stock.old).memory
         → Mends (S.state stock.old).memory (S.state stock.new).memory }
     ensures healthy { IsErrOf result NorError.Cut → IsHealthy (S.state stock.old).memory
@@ -123,6 +130,8 @@ fn move_if_begun<S: Reclaim>(
     requires mended { IsMendedMap table.old (S.state stock.old).memory }
     ensures ok { OnOk result (Repairs (S.state stock.old).memory table.new
         (S.state stock.new).memory) }
+    ensures moves { OnOk result (MovesFirmly block (bits_in (S.state stock.old))
+        (bits_in (S.state stock.new))) }
     ensures cut { IsErrOf result NorError.Cut → IsHealthy (S.state stock.old).memory
         → Mends (S.state stock.old).memory (S.state stock.new).memory }
     ensures healthy { IsErrOf result NorError.Cut → IsHealthy (S.state stock.old).memory

@@ -11,6 +11,7 @@ ghost use Rattle.erase_journal.specs.Steps.{RefusesFirmly, SucceedsSettled, Ends
 ghost use Rattle.sector_slots.specs.Slots.{slot_at, slot_count, data_blocks, kind_at, is_group};
 ghost use Rattle.sector_slots.specs.Blocks.{AreAtRest, AreSettled};
 ghost use Rattle.sector_slots.specs.Sectors.{IsSoundMap};
+ghost use Rattle.sector_map.specs.Firm.{KeepsRead};
 ghost use Rattle.sector_map.specs.Mending.{PairsSeen, IsMixedPair, HasDeadGroup, IsOlderGroup};
 ghost use Rattle.sector_map.specs.Mending.{RetiresEach, RetiresOlder, MakesRoom};
 ghost use Rattle.sector_map.specs.Table.{IsTabled, Mends};
@@ -193,6 +194,7 @@ pub(crate) fn retire_groups<S: SlotCalls>(
     requires sound { IsSoundMap (S.state slots.old).memory }
     ensures ok { OnOk result (RetiresOlder (S.state slots.old).memory table.new
         (S.state slots.new).memory) }
+    ensures read { OnOk result (KeepsRead (S.state slots.old) (S.state slots.new)) }
     ensures cut { IsErrOf result NorError.Cut
         → Mends (S.state slots.old).memory (S.state slots.new).memory }
     ensures healthy { IsErrOf result NorError.Cut → IsHealthy (S.state slots.old).memory
@@ -224,6 +226,7 @@ pub(crate) fn make_room<S: SlotCalls>(slots: &mut S, has_room: bool) -> Result<(
     requires settled { has_room ≡ true → AreSettled (S.state slots.old).memory }
     requires dead { has_room ≢ true → HasDeadGroup (S.state slots.old).memory }
     ensures ok { OnOk result (MakesRoom (S.state slots.old).memory (S.state slots.new).memory) }
+    ensures read { OnOk result (KeepsRead (S.state slots.old) (S.state slots.new)) }
     ensures cut { IsErrOf result NorError.Cut → IsHealthy (S.state slots.old).memory
         → Mends (S.state slots.old).memory (S.state slots.new).memory }
     ensures healthy { IsErrOf result NorError.Cut → IsHealthy (S.state slots.old).memory

@@ -13,11 +13,12 @@ ghost use Rattle.erase_journal.specs.Weak.{AreFirmJournals, AreInterruptedJourna
 ghost use Rattle.erase_journal.specs.Weak.{AreRecoveredJournals};
 ghost use Rattle.sector_slots.specs.Slots.{slot_count, data_blocks, IsClean, IsSpareIn};
 ghost use Rattle.sector_slots.specs.Sectors.{sector_at, zeros};
+ghost use Rattle.sector_slots.specs.Weak.{IsDoubtedStore, IsHalfChip, IsHalfStore};
 ghost use Rattle.sector_stock.specs.Takes.{urgent_work, work_of};
 ghost use Rattle.sector_map.specs.Marking.{is_unmarked};
 ghost use Rattle.sector_map.specs.Table.{holder};
 ghost use Rattle.sector_map.specs.Maps.{IsStore, KeepsMap, Sets, SetLeaves, Mounted, MountFails};
-ghost use Rattle.sector_map.specs.Maps.{MapRestored, MapRestoreFails, IsLaidOut};
+ghost use Rattle.sector_map.specs.Maps.{MapRestored, MapRestoreFails, IsLaidOut, IsSettledMap};
 ghost use Rattle.sector_map.specs.Filling.{Filled, FillFails, Renewed, RenewCorrupt, RenewFails};
 ghost use Rattle.sector_map.specs.Filling.{latched_after_cut};
 
@@ -86,18 +87,24 @@ impl<N: Nor> SectorMap<N> {
         SectorMap::mount_as(alloc, nor, Firmness::Steady)
     }
 
-    /// The same with what is assumed of torn bits: here, in each `restore` and in each `clear`. A
-    /// firm mount of journals of which one operation was interrupted leaves firm ones, but where it
-    /// marks a chip of layout 1.
+    /// The same with what is assumed of torn bits: here, in each `restore` and in each `clear`. Of
+    /// journals of which one operation was interrupted a firm mount leaves firm ones, and of blocks
+    /// of which one change was interrupted such whose marks and slots are sure; but not where it
+    /// marks a chip of layout 1. After any mount no erase and no copying goes on, and no sector has
+    /// two live slots (`settled`).
     pub fn mount_as(
         alloc: Global,
         nor: N,
         firmness: Firmness,
     ) -> Result<SectorMap<N>, (N, MapError)>
         ensures ok { IfOk result (λ map. Mounted (N.state nor) map) }
+        ensures settled { IfOk result (λ map. IsSettledMap map.memory) }
         ensures journals { firmness ≡ Firmness.Firm → is_unmarked (N.state nor).memory ≡ false
             → AreInterruptedJournals (bits_in (N.state nor))
             → IfOk result (λ map. AreFirmJournals (bits_in map)) }
+        ensures store { firmness ≡ Firmness.Firm → is_unmarked (N.state nor).memory ≡ false
+            → IsHalfChip (bits_in (N.state nor))
+            → IfOk result (λ map. IsDoubtedStore (bits_in map)) }
         ensures fails { IfErr result (λ e. MountFails e.1 (N.state nor) (N.state e.0)) }
     {
         let mut nor = nor;
@@ -443,9 +450,13 @@ fn take_tables(alloc: Global, chip: Geometry) -> Result<Tables, AllocError>
 fn recover<N: Nor>(alloc: Global, nor: N, firmness: Firmness) -> Result<SectorMap<N>, (N, MapError)>
     requires superblock { IsLaidOut (N.state nor).memory }
     ensures ok { IfOk result (λ map. Mounted (N.state nor) map) }
+    ensures settled { IfOk result (λ map. IsSettledMap map.memory) }
     ensures journals { firmness ≡ Firmness.Firm → is_unmarked (N.state nor).memory ≡ false
         → AreInterruptedJournals (bits_in (N.state nor))
         → IfOk result (λ map. AreFirmJournals (bits_in map)) }
+    ensures store { firmness ≡ Firmness.Firm → is_unmarked (N.state nor).memory ≡ false
+        → IsHalfChip (bits_in (N.state nor))
+        → IfOk result (λ map. IsDoubtedStore (bits_in map)) }
     ensures fails { IfErr result (λ e. MountFails e.1 (N.state nor) (N.state e.0)) }
 {
     let Some(chip) = Geometry::of(nor.bytes()) else {
@@ -474,9 +485,12 @@ fn fill<N: Nor>(
     requires blocks { vec_len tables.blocks ≡ data_blocks slots.memory }
     requires healthy { IsHealthy slots.memory }
     ensures ok { IfOk result (λ map. Filled slots map) }
+    ensures settled { IfOk result (λ map. IsSettledMap map.memory) }
     ensures journals { firmness ≡ Firmness.Firm → is_unmarked slots.memory ≡ false
         → AreRecoveredJournals (bits_in slots)
         → IfOk result (λ map. AreFirmJournals (bits_in map)) }
+    ensures store { firmness ≡ Firmness.Firm → is_unmarked slots.memory ≡ false
+        → IsHalfStore (bits_in slots) → IfOk result (λ map. IsDoubtedStore (bits_in map)) }
     ensures fails { IfErr result (λ e. FillFails e.1 slots (N.state e.0)) }
 {
     let mut stock = Stock::new(slots, tables.states, tables.blocks);

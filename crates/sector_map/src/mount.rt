@@ -15,6 +15,8 @@ ghost use Rattle.sector_slots.specs.Slots.{slot_at, slot_count, data_blocks, kin
 ghost use Rattle.sector_slots.specs.Blocks.{AreSettled, HasGroupRoom};
 ghost use Rattle.sector_slots.specs.Sectors.{IsSoundMap, HoldsSectors};
 ghost use Rattle.sector_stock.specs.Copy.{KeepsSectors, EndsCopy, IsCommittedIn};
+ghost use Rattle.sector_slots.specs.Weak.{IsDoubtedStore, IsHalfStore};
+ghost use Rattle.sector_map.specs.Firm.{AreReadBlocks, KeepsRead, MakesHeld};
 ghost use Rattle.sector_map.specs.Found.{FoundIn, RoomSeen, leaves_room};
 ghost use Rattle.sector_map.specs.Marking.{is_unmarked, may_have_groups};
 ghost use Rattle.sector_map.specs.Mending.{EndsFound, EndsVoids, MendsBlocks, PairsAreSlots};
@@ -48,6 +50,9 @@ pub fn mount_slots<S: Reclaim>(
     ensures journals { firmness ≡ Firmness.Firm → is_unmarked (S.state stock.old).memory ≡ false
         → AreRecoveredJournals (bits_in (S.state stock.old)) → IfOk result (λ sound. IsTrue sound
         → AreFirmJournals (bits_in (S.state stock.new))) }
+    ensures store { firmness ≡ Firmness.Firm → is_unmarked (S.state stock.old).memory ≡ false
+        → IsHalfStore (bits_in (S.state stock.old)) → IfOk result (λ sound. IsTrue sound
+        → IsDoubtedStore (bits_in (S.state stock.new))) }
     ensures corrupt { IfOk result (λ sound. IsFalse sound
         → (IsSoundMap (S.state stock.old).memory → ⊥)
         × ((S.state stock.new).memory ≡ (S.state stock.old).memory)) }
@@ -154,6 +159,8 @@ fn repair<S: Reclaim>(
     ensures ok { OnOk result (Repairs (S.state stock.old).memory table.new
         (S.state stock.new).memory) }
     ensures indexed { OnOk result (S.indexed stock.new ≡ true) }
+    ensures store { OnOk result (AreReadBlocks (bits_in (S.state stock.old)) begun
+        → IsDoubtedStore (bits_in (S.state stock.new))) }
     ensures cut { IsErrOf result NorError.Cut → IsHealthy (S.state stock.old).memory
         → Mends (S.state stock.old).memory (S.state stock.new).memory }
     ensures healthy { IsErrOf result NorError.Cut → IsHealthy (S.state stock.old).memory
@@ -184,6 +191,7 @@ fn mend_blocks<S: SlotCalls>(
     requires sound { IsSoundMap (S.state slots.old).memory }
     ensures ok { OnOk result (MendsBlocks (S.state slots.old).memory table.new
         (S.state slots.new).memory) }
+    ensures read { OnOk result (KeepsRead (S.state slots.old) (S.state slots.new)) }
     ensures cut { IsErrOf result NorError.Cut → IsHealthy (S.state slots.old).memory
         → Mends (S.state slots.old).memory (S.state slots.new).memory }
     ensures healthy { IsErrOf result NorError.Cut → IsHealthy (S.state slots.old).memory
@@ -206,6 +214,7 @@ fn end_copying<S: SlotCalls>(slots: &mut S, found: Found) -> Result<(), NorError
     requires sound { IsSoundMap (S.state slots.old).memory }
     ensures ok { OnOk result (EndsFound found (S.state slots.old).memory
         (S.state slots.new).memory) }
+    ensures read { OnOk result (KeepsRead (S.state slots.old) (S.state slots.new)) }
     ensures cut { IsErrOf result NorError.Cut → IsHealthy (S.state slots.old).memory
         → KeepsSectors (S.state slots.old).memory (S.state slots.new).memory }
     ensures healthy { IsErrOf result NorError.Cut → IsHealthy (S.state slots.old).memory
@@ -230,6 +239,7 @@ fn end_copying<S: SlotCalls>(slots: &mut S, found: Found) -> Result<(), NorError
 fn end_voids<S: SlotCalls>(slots: &mut S) -> Result<(), NorError>
     requires sound { IsSoundMap (S.state slots.old).memory }
     ensures ok { OnOk result (EndsVoids (S.state slots.old).memory (S.state slots.new).memory) }
+    ensures read { OnOk result (KeepsRead (S.state slots.old) (S.state slots.new)) }
     ensures cut { IsErrOf result NorError.Cut → IsHealthy (S.state slots.old).memory
         → KeepsSectors (S.state slots.old).memory (S.state slots.new).memory }
     ensures healthy { IsErrOf result NorError.Cut → IsHealthy (S.state slots.old).memory
@@ -255,6 +265,7 @@ fn end_voids<S: SlotCalls>(slots: &mut S) -> Result<(), NorError>
 fn end_copy<S: SlotCalls>(slots: &mut S, source: u16, target: u16) -> Result<(), NorError>
     requires committed { IsCommittedIn source target (S.state slots.old).memory }
     ensures ok { OnOk result (EndsCopy (S.state slots.old).memory (S.state slots.new).memory) }
+    ensures read { OnOk result (KeepsRead (S.state slots.old) (S.state slots.new)) }
     ensures cut { IsErrOf result NorError.Cut → IsHealthy (S.state slots.old).memory
         → KeepsSectors (S.state slots.old).memory (S.state slots.new).memory }
     ensures healthy { IsErrOf result NorError.Cut → IsHealthy (S.state slots.old).memory
@@ -282,6 +293,7 @@ fn retire_older<S: SlotCalls>(slots: &mut S, table: &mut [LiveSlots]) -> Result<
         → HoldsSectors sectors (S.state slots.old).memory
         → HoldsSectors sectors (S.state slots.new).memory) }
     ensures blocks { OnOk result (AreSettled (S.state slots.new).memory) }
+    ensures held { OnOk result (MakesHeld (S.state slots.old) (S.state slots.new)) }
     ensures cut { IsErrOf result NorError.Cut → (sectors : ℕ → List ℕ)
         → HoldsSectors sectors (S.state slots.old).memory
         → HoldsSectors sectors (S.state slots.new).memory }

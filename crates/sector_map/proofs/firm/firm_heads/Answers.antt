@@ -9,10 +9,12 @@ use Rattle.sector_map.proofs.Retiring.{refuses-perhaps}
 use Rattle.sector_map.proofs.Alike.{firm-none, firm-head, later-none, later-head, begun-none, begun-more, begun-all}
 use Rattle.sector_map.proofs.Moving.{repeated-perhaps}
 use Rattle.sector_map.proofs.Mounting.{perhaps-healthy}
+use Rattle.nor_driver.specs.State.{bits_in}
+use Rattle.sector_map.proofs.Firmness.{heads-none, heads-more}
 use Rattle.sector_map.proofs.firm.firm_heads.Goals as goal
 
 pub loop-block-init : goal.loop-block-init
-loop-block-init g c = record { later = later-none (g.S.SlotCalls.state c.args.slots.now).memory; none = begun-none false (g.S.SlotCalls.state c.args.slots.now).memory; firm = firm-none (g.S.SlotCalls.state c.args.slots.now).memory; since = repeated-none (g.S.SlotCalls.state c.args.slots.now) }
+loop-block-init g c = record { later = later-none (g.S.SlotCalls.state c.args.slots.now).memory; none = begun-none false (g.S.SlotCalls.state c.args.slots.now).memory; firm = firm-none (g.S.SlotCalls.state c.args.slots.now).memory; heads = heads-none false (bits_in (g.S.SlotCalls.state c.args.slots.now)); since = repeated-none (g.S.SlotCalls.state c.args.slots.now) }
 
 pub returns-in_err-here-clause-cut : goal.returns-in_err-here-clause-cut
 returns-in_err-here-clause-cut g c is =
@@ -37,6 +39,8 @@ loop-block-preserved g c =
       later = later-head c.loop-block.block a.memory b.memory d.memory c.loop-block.invariant.firm.chip.same_length later c.in_ok-here.ensures.kept;
       none = begun-more c.loop-block.begun c.in_ok-here.here c.either-begun.result c.loop-block.block a.memory b.memory inside c.either-begun.ensures c.loop-block.invariant.none later (λ e. c.in_ok-here.ensures.not_begun (cc e));
       firm = firm-head c.loop-block.block a.memory b.memory d.memory c.loop-block.invariant.firm c.in_ok-here.ensures.kept;
+      heads = heads-more (bits_in b) (bits_in d) c.in_ok-here.ensures.ends.kept.bits c.loop-block.block c.loop-block.begun c.in_ok-here.here c.either-begun.result (let n = c.loop-block.invariant.firm.chip.same_length in rw n inside) c.either-begun.ensures
+          c.in_ok-here.ensures.kept c.in_ok-here.ensures.zeros c.in_ok-here.ensures.for_good (λ e. c.in_ok-here.ensures.not_begun (cc e)) c.loop-block.invariant.heads;
       since = repeated-more c.loop-block.block (c.loop-block.block + 1) a b d c.loop-block.invariant.since c.in_ok-here.ensures.ends;
     }
 
@@ -54,3 +58,9 @@ returns-in_err-here-clause-fails g c =
     let s2 = g.S.SlotCalls.state c.firm_head.new.self in
     fails-of c.from_residual.result (SucceedsSettled s0 s2) (λ e. RefusesFirmly e s0 s2) (fails-as c.from_residual.result _ (λ _. SucceedsSettled s0 s2) (λ e. RefusesFirmly e s0 s2) c.from_residual.ensures.1
     (refuses-perhaps _ s0 s1 s2 (repeated-perhaps c.loop-block.block s0 s1 c.loop-block.invariant.since) c.in_err-here.ensures.ends))
+
+pub returns-clause-heads : goal.returns-clause-heads
+returns-clause-heads g c d low =
+    let n = c.loop-block.invariant.firm.chip.same_length in
+    let inside : d < data_blocks (g.S.SlotCalls.state c.args.slots.now).memory = rw (← n) low in
+    c.loop-block.invariant.heads d (omega (arith, inside, c.loop-block-test.false, c.loop-block.auto.block-end, c.blocks-count.ensures.count))

@@ -8,12 +8,14 @@ use Rattle.erase_journal.specs.Steps.{RefusesFirmly}
 use Rattle.nor_driver.proofs.CallLaws.{fails-as, fails-of}
 use Rattle.erase_journal.specs.Steps.{SucceedsSettled}
 use Rattle.sector_map.proofs.Retiring.{refuses-perhaps}
+use Rattle.std.proofs.Common.{arith}
+use Rattle.sector_map.proofs.MountFirmly.{moved-none, moved-more, moved-all, none-moved}
 use Rattle.sector_map.proofs.firm.move_begun.Goals as goal
 
 pub loop-block-init : goal.loop-block-init
 loop-block-init g c =
     let a = g.S.SlotCalls.state c.args.stock.now in
-    record { size = refl; repairs = still-repairs c.args.table.now a.memory a.memory c.requires.mended refl; since = repeated-none a }
+    record { size = refl; repairs = still-repairs c.args.table.now a.memory a.memory c.requires.mended refl; moved = moved-none c.args.begun a; since = repeated-none a }
 
 pub move_if_begun-requires-clause-mended : goal.move_if_begun-requires-clause-mended
 move_if_begun-requires-clause-mended g c =
@@ -42,6 +44,7 @@ loop-block-preserved g c =
     record {
       size = c.move_if_begun.ensures.table ∙ c.loop-block.invariant.size;
       repairs = repairs-after c.loop-block.table c.move_if_begun.new.table a.memory b.memory d.memory c.loop-block.invariant.repairs c.in_ok-move_if_begun.ensures.ok;
+      moved = moved-more c.loop-block.block (c.loop-block.block + 1) c.args.begun a b d refl c.move_if_begun.ensures.size c.in_ok-move_if_begun.ensures.moves c.loop-block.invariant.moved;
       since = repeated-more c.loop-block.block (c.loop-block.block + 1) a b d c.loop-block.invariant.since c.in_ok-move_if_begun.ensures.ends;
     }
 
@@ -55,3 +58,12 @@ returns-in_err-move_if_begun-clause-fails g c =
     let s2 = g.S.SlotCalls.state c.move_if_begun.new.stock in
     fails-of c.from_residual.result (SucceedsSettled s0 s2) (λ e. RefusesFirmly e s0 s2) (fails-as c.from_residual.result _ (λ _. SucceedsSettled s0 s2) (λ e. RefusesFirmly e s0 s2) c.from_residual.ensures.1
     (refuses-perhaps _ s0 s1 s2 (repeated-perhaps c.loop-block.block s0 s1 c.loop-block.invariant.since) c.in_err-move_if_begun.ensures.ends))
+
+pub returns-then-not-begun-clause-store : goal.returns-then-not-begun-clause-store
+returns-then-not-begun-clause-store g c h = none-moved c.args.begun (g.S.SlotCalls.state c.args.stock.now) c.if-not-begun.true h
+
+pub returns-clause-store : goal.returns-clause-store
+returns-clause-store g c h =
+    let n = c.loop-block.invariant.repairs.mends.chip.same_length in
+    let count = c.blocks-count.ensures.count in
+    moved-all c.loop-block.block c.args.begun (g.S.SlotCalls.state c.args.stock.now) (g.S.SlotCalls.state c.loop-block.stock) (rw n (omega (arith, c.loop-block-test.false, count))) c.loop-block.invariant.moved h

@@ -10,6 +10,14 @@ use Rattle.nor_driver.proofs.CallLaws.{fails-as}
 use Rattle.erase_journal.specs.Steps.{SucceedsSettled}
 use Rattle.sector_map.proofs.Mending.{mends-same}
 use Rattle.sector_map.proofs.Moving.{begun-at, begun-copyable, afresh-cut, afresh-mends, afresh-moved, afresh-number, afresh-repairs, still-repairs}
+use Rattle.nor_driver.specs.State.{bits_in}
+use Rattle.nor_layout.specs.Kinds.{is_group}
+use Rattle.sector_slots.specs.Slots.{data_blocks, kind_at, IsSpareIn}
+use Rattle.sector_stock.specs.Copy.{OthersStay}
+use Rattle.sector_slots.specs.Weak.{block_place}
+use Rattle.erase_journal.proofs.WeakLaws.{are-firm-stays}
+use Rattle.sector_map.proofs.MountFirmly.{still-moves, afresh-moves}
+use Rattle.std.proofs.Common.{false, ◌≡◌, ◌<◌, List, ℕ}
 use Rattle.sector_map.proofs.firm.move_if_begun.Goals as goal
 
 pub returns-in_err-begun-clause-cut : goal.returns-in_err-begun-clause-cut
@@ -110,3 +118,28 @@ returns-clause-ends g c =
     let s3 = g.S.SlotCalls.state c.move_afresh.new.slots in
     let s4 = g.S.SlotCalls.state c.follow_block.new.slots in
     settled-after s0 s3 s4 (settled-after s0 s2 s3 (settled-after s0 s1 s2 c.in_ok-begun.ensures.ends c.in_ok-target.ensures.ends) c.in_ok-move_afresh.ensures.ends) c.in_ok-follow_block.ensures.ends
+
+pub returns-then-not-begun-clause-moves : goal.returns-then-not-begun-clause-moves
+returns-then-not-begun-clause-moves g c =
+    still-moves (g.S.SlotCalls.state c.args.stock.now) (g.S.SlotCalls.state c.has_begun.new.self) c.args.block c.in_ok-begun.ensures.ends.kept.bits c.has_begun.ensures.same (c.in_ok-begun.ensures.not_begun c.if-not-begun.true)
+
+pub returns-clause-moves : goal.returns-clause-moves
+returns-clause-moves g c =
+    let s0 = g.S.SlotCalls.state c.args.stock.now in
+    let s1 = g.S.SlotCalls.state c.has_begun.new.self in
+    let s2 = g.S.SlotCalls.state c.lowest_spare.new.slots in
+    let s3 = g.S.SlotCalls.state c.move_afresh.new.slots in
+    let s4 = g.S.SlotCalls.state c.follow_block.new.slots in
+    let s = c.args.block in
+    let t = c.in_ok-target.target in
+    let at = begun-at c.args.table.now s t s0.memory s1.memory s2.memory c.requires.mended c.requires.number (c.in_ok-begun.ensures.begun c.if-not-begun.false) c.has_begun.ensures.same c.in_ok-target.ensures.spare c.lowest_spare.ensures.same in
+    let able = begun-copyable c.args.table.now s t s2.memory at in
+    let e = c.in_ok-move_afresh.ensures in
+    let copied = (e.ok able).copies.slots in
+    let all = settled-after s0 s3 s4 (settled-after s0 s2 s3 (settled-after s0 s1 s2 c.in_ok-begun.ensures.ends c.in_ok-target.ensures.ends) e.ends) c.in_ok-follow_block.ensures.ends in
+    let last = c.in_ok-follow_block.ensures.ends.kept.bits in
+    let same : s4.memory ≡ s3.memory = c.follow_block.ensures.same in
+    let first : s2.memory ≡ s0.memory = c.lowest_spare.ensures.same ∙ c.has_begun.ensures.same in
+    afresh-moves s0 s4 s t all.kept.bits (subst (λ (z : List ℕ). OthersStay s t z s4.memory) first (subst (λ (z : List ℕ). OthersStay s t s2.memory z) (sym same) (e.others able)))
+    (are-firm-stays (bits_in s3) (bits_in s4) (block_place s) 4096 last e.firm) (are-firm-stays (bits_in s3) (bits_in s4) (block_place t) 4096 last e.target)
+    (subst (λ (z : List ℕ). IsSpareIn z s) (sym same) copied.erased) (subst (λ (z : List ℕ). s < data_blocks z) (sym same) (let n = copied.same_length in rw n at.number)) (subst (λ (z : List ℕ). is_group (kind_at z t) ≡ false) (sym same) (ap is_group copied.settled))

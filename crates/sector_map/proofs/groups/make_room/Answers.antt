@@ -8,6 +8,9 @@ use Rattle.sector_slots.specs.Steps.{IsErasable}
 use Rattle.erase_journal.specs.Journals.{IsHealthy}
 use Rattle.sector_map.proofs.Mending.{dead-erasable, room-made, room-cut}
 use Rattle.sector_map.proofs.MapCalls.{after-ok}
+use Rattle.sector_map.proofs.MountFirmly.{dead-none}
+use Rattle.std.proofs.Common.{◌∙◌}
+use Rattle.std.proofs.lemmas.Bool.{true≢false}
 use Rattle.sector_map.proofs.groups.make_room.Goals as goal
 
 pub erase-requires-clause-number : goal.erase-requires-clause-number
@@ -37,3 +40,7 @@ returns-clause-fails g c =
 
 pub returns-clause-healthy : goal.returns-clause-healthy
 returns-clause-healthy g c is healthy = c.erase.ensures.healthy is (subst (λ z. IsHealthy z) (sym c.lowest_dead_group.ensures.same) healthy)
+
+pub returns-clause-read : goal.returns-clause-read
+returns-clause-read g c =
+    after-ok c.erase.result _ _ (λ w. λ begun h. absurd (dead-none (g.S.SlotCalls.state c.args.slots.now) begun h (c.requires.dead (λ e. true≢false (sym e ∙ c.if-has_room.false))))) c.erase.ensures.ok

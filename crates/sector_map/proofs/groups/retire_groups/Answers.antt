@@ -9,6 +9,7 @@ use Rattle.erase_journal.specs.Steps.{RefusesFirmly}
 use Rattle.nor_driver.proofs.CallLaws.{fails-as, fails-of}
 use Rattle.erase_journal.specs.Steps.{SucceedsSettled}
 use Rattle.sector_map.proofs.Retiring.{refuses-perhaps, succeeds-perhaps}
+use Rattle.sector_map.proofs.MountFirmly.{keeps-perhaps, pair-none}
 use Rattle.sector_map.proofs.groups.retire_groups.Goals as goal
 
 pub unreachable-requires : goal.unreachable-requires
@@ -68,3 +69,11 @@ returns-clause-done g c =
     let s2 = g.S.SlotCalls.state c.retire_each.new.slots in
     let s3 = g.S.SlotCalls.state c.read_table.new.slots in
     inr (succeeds-perhaps s0 s2 s3 (perhaps-done s0 s1 s2 c.in_ok-pair.ensures.done c.in_ok-retire_each.ensures.done) c.in_ok-read_table.ensures.ends)
+
+pub returns-then-not-pair-clause-read : goal.returns-then-not-pair-clause-read
+returns-then-not-pair-clause-read g c = keeps-perhaps (g.S.SlotCalls.state c.args.slots.now) (g.S.SlotCalls.state c.has_pair.new.slots) c.in_ok-pair.ensures.done c.has_pair.ensures.same
+
+pub returns-clause-read : goal.returns-clause-read
+returns-clause-read g c begun h =
+    let a = g.S.SlotCalls.state c.args.slots.now in
+    absurd (pair-none a begun c.args.table.now h c.requires.tabled (subst (λ z. PairsSeen z c.args.table.now a.memory) c.if-not-pair.false (c.in_ok-pair.ensures.pair c.in-Some.pair c.in-Some.is)))

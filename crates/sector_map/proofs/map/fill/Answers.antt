@@ -4,10 +4,12 @@ use Rattle.chip_model.specs.Geometry.{sector_count}
 use Rattle.erase_journal.specs.Journals.{IsHealthy}
 use Rattle.nor_driver.specs.State.{NorState, bits_in, IsNorReady, Refuses}
 use Rattle.erase_journal.specs.Weak.{AreRecoveredJournals}
+use Rattle.sector_slots.specs.Weak.{IsHalfStore}
 use Rattle.sector_map.specs.Marking.{is_unmarked}
 use Rattle.sector_map.specs.Maps.{IsServing, shown_with}
 use Rattle.sector_map.specs.Filling.{Filled, FillCut}
 use Rattle.sector_map.proofs.Restoring.{served-after}
+use Rattle.sector_map.proofs.Retiring.{single-tabled}
 use Rattle.sector_map.proofs.Opening.{filled, fill-cut}
 use Rattle.sector_map.proofs.map.fill.Goals as goal
 
@@ -39,3 +41,15 @@ pub returns-in-Ok-true-clause-journals : goal.returns-in-Ok-true-clause-journals
 returns-in-Ok-true-clause-journals g c firmly unmarked h =
     let e = sym c.new-stock.ensures.same in
     c.in-Ok-true.ensures.journals firmly (subst (λ (s : NorState). is_unmarked s.memory ≡ false) e unmarked) (subst (λ (s : NorState). AreRecoveredJournals (bits_in s)) e h) (cc c.in-Ok-true.is)
+
+pub returns-in-Ok-true-clause-store : goal.returns-in-Ok-true-clause-store
+returns-in-Ok-true-clause-store g c firmly unmarked h =
+    let e = sym c.new-stock.ensures.same in
+    c.in-Ok-true.ensures.store firmly (subst (λ (s : NorState). is_unmarked s.memory ≡ false) e unmarked) (subst (λ (s : NorState). IsHalfStore (bits_in s)) e h) (cc c.in-Ok-true.is)
+
+pub returns-in-Ok-true-clause-settled : goal.returns-in-Ok-true-clause-settled
+returns-in-Ok-true-clause-settled g c =
+    let now = c.mount_slots.new.stock in
+    let served = served-after c.mount_slots.new.table c.new-stock.result.slots now.slots now.indexed (c.in-Ok-true.ensures.sound (cc c.in-Ok-true.is)) c.in-Ok-true.ensures.ends
+    (subst (λ s. IsNorReady s) (sym c.new-stock.ensures.same) c.requires.ready) (c.in-Ok-true.ensures.indexed (cc c.in-Ok-true.is)) in
+    record { journals = served.settled; blocks = served.blocks; single = single-tabled c.mount_slots.new.table now.slots.memory served.tabled }

@@ -2,7 +2,9 @@ use Rattle.std.proofs.Common.{◌≡◌, ◌∙◌, false, sym, subst}
 use Rattle.std.specs.Prelude.{IfOk, IfErr}
 use Rattle.nor_driver.specs.State.{NorState, bits_in}
 use Rattle.erase_journal.specs.Weak.{AreRecoveredJournals}
+use Rattle.sector_slots.specs.Weak.{IsHalfStore}
 use Rattle.sector_map.specs.Marking.{is_unmarked}
+use Rattle.sector_map.proofs.MountFirmly.{recovered-chip}
 use Rattle.sector_map.proofs.Marking.{unmarked-same}
 use Rattle.erase_journal.specs.Recovery.{RecoverFails}
 use Rattle.sector_map.specs.Filling.{Filled, FillFails}
@@ -33,3 +35,12 @@ pub returns-clause-fails : goal.returns-clause-fails
 returns-clause-fails g c =
     recovery-corrupt (g.N.Nor.state c.args.nor) (g.N.Nor.state c.in-Err-default-Corrupt.nor) c.requires.superblock
     (subst (λ e. RecoverFails e (g.N.Nor.state c.args.nor) (g.N.Nor.state c.in-Err-default-Corrupt.nor)) c.in-Err-default-Corrupt.field-0-1-is c.in-Err-default-Corrupt.ensures.fails)
+
+pub returns-in-Ok-recover_as-clause-store : goal.returns-in-Ok-recover_as-clause-store
+returns-in-Ok-recover_as-clause-store g c firmly unmarked h =
+    let a = g.N.Nor.state c.args.nor in
+    let j = c.in-Ok-recover_as.journal in
+    let e = sym c.new.ensures in
+    let same = unmarked-same a.memory j.memory c.in-Ok-recover_as.ensures.ok.blocks in
+    c.fill.ensures.store firmly (subst (λ (s : NorState). is_unmarked s.memory ≡ false) e (same ∙ unmarked))
+    (subst (λ (s : NorState). IsHalfStore (bits_in s)) e (recovered-chip a j c.in-Ok-recover_as.ensures.ok c.in-Ok-recover_as.ensures.erased h))

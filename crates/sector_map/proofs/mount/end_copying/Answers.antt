@@ -9,6 +9,7 @@ use Rattle.sector_map.specs.Mending.{EndsFound}
 use Rattle.sector_map.proofs.MapCalls.{after-ok, after-ends}
 use Rattle.sector_map.proofs.Mounting.{perhaps-healthy}
 use Rattle.sector_map.proofs.Voiding.{voids-end, voids-committed, voids-then_copy}
+use Rattle.sector_map.proofs.MountFirmly.{keeps-after}
 use Rattle.sector_map.proofs.mount.end_copying.Goals as goal
 
 pub end_copy-requires : goal.end_copy-requires
@@ -54,3 +55,7 @@ returns-in_ok-end_voids-in-Committed-clause-fails g c =
     let s1 = g.S.SlotCalls.state c.end_voids-in-Committed.new.slots in
     let s2 = g.S.SlotCalls.state c.end_copy.new.slots in
     fails-of c.end_copy.result (SucceedsSettled s0 s2) (λ e. RefusesFirmly e s0 s2) (after-ends c.end_copy.result s0 s1 s2 c.in_ok-end_voids-in-Committed.ensures.done c.end_copy.ensures.ends)
+
+pub returns-in_ok-end_voids-in-Committed-clause-read : goal.returns-in_ok-end_voids-in-Committed-clause-read
+returns-in_ok-end_voids-in-Committed-clause-read g c =
+    after-ok c.end_copy.result _ _ (λ k. keeps-after (g.S.SlotCalls.state c.args.slots.now) (g.S.SlotCalls.state c.end_voids-in-Committed.new.slots) (g.S.SlotCalls.state c.end_copy.new.slots) c.in_ok-end_voids-in-Committed.ensures.read k) c.end_copy.ensures.read

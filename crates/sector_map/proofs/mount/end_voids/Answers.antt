@@ -8,6 +8,8 @@ use Rattle.erase_journal.specs.Steps.{SucceedsSettled}
 use Rattle.erase_journal.proofs.Firmly.{refuses-firmly}
 use Rattle.sector_map.proofs.Retiring.{refuses-perhaps, succeeds-perhaps}
 use Rattle.sector_map.proofs.Voiding.{Voiding, voiding-healthy, voiding-quiet, voiding-void, voiding-sound, voiding-more, voiding-cut, voiding-done}
+use Rattle.sector_map.specs.Firm.{KeepsRead}
+use Rattle.sector_map.proofs.MountFirmly.{keeps-after, keeps-same, void-keeps}
 use Rattle.sector_map.proofs.mount.end_voids.Goals as goal
 use Rattle.sector_map.proofs.mount.end_voids.Goals.{then-is_void+in_ok-end_void, else-is_void}
 
@@ -27,6 +29,15 @@ loop-block-preserved g c =
             (w.in_ok-end_void.ensures.ok v (voiding-sound c.loop-block.block a b k c.kind.ensures.same c.requires.sound c.loop-block.invariant.voiding)) w.in_ok-end_void.ensures.ends c.loop-block.invariant.voiding)
         | else-is_void w ↦ subst (λ z. Voiding (c.loop-block.block + 1) a z) (sym (ap (λ z. g.S.SlotCalls.state z) w.slots-is))
             (voiding-quiet c.loop-block.block (c.loop-block.block + 1) a b k c.in_ok-kind.kind next c.kind.ensures.same c.in_ok-kind.ensures.ends low c.in_ok-kind.ensures.ok (sym c.is_void.ensures ∙ w.if-is_void.false) c.loop-block.invariant.voiding)
+      ];
+      read = elim c.if-is_void.branch as (λ _. KeepsRead a (g.S.SlotCalls.state c.if-is_void.slots)) [
+        | then-is_void+in_ok-end_void w ↦
+            let v = voiding-void c.loop-block.block a b k c.in_ok-kind.kind c.kind.ensures.same low c.in_ok-kind.ensures.ok (sym c.is_void.ensures ∙ w.if-is_void.true) c.loop-block.invariant.voiding in
+            let d = g.S.SlotCalls.state w.end_void.new.slots in
+            subst (λ z. KeepsRead a z) (sym (ap (λ z. g.S.SlotCalls.state z) w.slots-is))
+            (keeps-after a b d c.loop-block.invariant.read (keeps-after b k d (keeps-same b k c.in_ok-kind.ensures.ends.kept.bits c.kind.ensures.same)
+            (void-keeps k d c.loop-block.block w.in_ok-end_void.ensures.ends.kept.bits (w.in_ok-end_void.ensures.ok v (voiding-sound c.loop-block.block a b k c.kind.ensures.same c.requires.sound c.loop-block.invariant.voiding)) w.in_ok-end_void.ensures.firm v.number)))
+        | else-is_void w ↦ subst (λ z. KeepsRead a z) (sym (ap (λ z. g.S.SlotCalls.state z) w.slots-is)) (keeps-after a b k c.loop-block.invariant.read (keeps-same b k c.in_ok-kind.ensures.ends.kept.bits c.kind.ensures.same))
       ];
     }
 

@@ -7,6 +7,7 @@ use Rattle.erase_journal.specs.Steps.{RefusesFirmly}
 use Rattle.nor_driver.proofs.CallLaws.{fails-as, fails-of}
 use Rattle.erase_journal.specs.Steps.{SucceedsSettled}
 use Rattle.sector_map.proofs.Retiring.{refuses-perhaps}
+use Rattle.sector_map.proofs.MountFirmly.{keeps-after}
 use Rattle.sector_map.proofs.mount.mend_blocks.Goals as goal
 
 pub retire_groups-requires-clause-tabled : goal.retire_groups-requires-clause-tabled
@@ -93,3 +94,11 @@ returns-clause-fails g c =
     let s2 = g.S.SlotCalls.state c.retire_groups.new.slots in
     let s3 = g.S.SlotCalls.state c.make_room.new.slots in
     after-fails c.make_room.result s0 s2 s3 (perhaps-done s0 s1 s2 c.in_ok-end_copying.ensures.done c.in_ok-retire_groups.ensures.done) c.make_room.ensures.fails
+
+pub returns-clause-read : goal.returns-clause-read
+returns-clause-read g c =
+    let s0 = g.S.SlotCalls.state c.args.slots.now in
+    let s1 = g.S.SlotCalls.state c.end_copying.new.slots in
+    let s2 = g.S.SlotCalls.state c.retire_groups.new.slots in
+    let s3 = g.S.SlotCalls.state c.make_room.new.slots in
+    after-ok c.make_room.result _ _ (λ k. keeps-after s0 s2 s3 (keeps-after s0 s1 s2 c.in_ok-end_copying.ensures.read c.in_ok-retire_groups.ensures.read) k) c.make_room.ensures.read

@@ -19,6 +19,9 @@ use Rattle.erase_journal.proofs.FirmJournals.{firm-journals-perhaps, recovered-s
 use Rattle.erase_journal.specs.Steps.{SucceedsSettled}
 use Rattle.sector_map.proofs.MapCalls.{perhaps-after}
 use Rattle.erase_journal.proofs.Firmly.{refuses-plainly}
+use Rattle.sector_map.specs.Firm.{ReadsAlike}
+use Rattle.sector_slots.specs.Weak.{IsDoubtedStore}
+use Rattle.sector_map.proofs.MountFirmly.{half-read}
 use Rattle.sector_map.proofs.mount.mount_slots.Goals as goal
 
 pub returns-in_err-marks-clause-cut : goal.returns-in_err-marks-clause-cut
@@ -176,3 +179,17 @@ returns-in_err-seen-clause-ends g c =
     let s2 = g.S.SlotCalls.state c.look.new.stock in
     fails-as c.from_residual-in_err-seen.result _ (λ _. SucceedsSettled s0 s2) (λ e. Refuses e s0 s2) c.from_residual-in_err-seen.ensures.1
     (refuses-settled _ s0 s1 s2 c.in_ok-marks.ensures.ends (refuses-plainly _ s1 s2 c.in_err-seen.ensures.ends))
+
+pub returns-in_ok-repair-in-Some-clause-store : goal.returns-in_ok-repair-in-Some-clause-store
+returns-in_ok-repair-in-Some-clause-store g c firmly unmarked h is =
+    let s0 = g.S.SlotCalls.state c.args.stock.now in
+    let s1 = g.S.SlotCalls.state c.read_marks.new.slots in
+    let s2 = g.S.SlotCalls.state c.look.new.stock in
+    let s3 = g.S.SlotCalls.state c.mark_first.new.slots in
+    let s4 = g.S.SlotCalls.state c.firm_as.new.slots in
+    let s5 = g.S.SlotCalls.state c.repair.new.stock in
+    let same : s2.memory ≡ s0.memory = c.look.ensures.same ∙ c.read_marks.ensures.same in
+    let all = perhaps-after s0 s3 s4 (perhaps-after s0 s2 s3 (settled-after s0 s1 s2 c.in_ok-marks.ensures.ends c.in_ok-seen.ensures.ends) c.in_ok-mark_first-in-Some.ensures.done) c.in_ok-begun-in-Some.ensures.done in
+    let alike = subst (λ (z : List ℕ). ReadsAlike z s4.memory) same (marked-firm s2.memory s3.memory s4.memory c.in_ok-mark_first-in-Some.ensures.ok.blocks c.in_ok-begun-in-Some.ensures.ok) in
+    let read = half-read s0 s4 c.in_ok-begun-in-Some.begun all.kept.bits alike (c.in_ok-begun-in-Some.ensures.heads firmly) h in
+    subst (λ (s : NorState). IsDoubtedStore (bits_in s)) (sym c.suspect_as.ensures.state) (c.in_ok-repair-in-Some.ensures.store read)

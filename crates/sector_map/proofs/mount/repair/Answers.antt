@@ -9,6 +9,7 @@ use Rattle.erase_journal.specs.Steps.{RefusesFirmly}
 use Rattle.nor_driver.proofs.CallLaws.{fails-as}
 use Rattle.erase_journal.specs.Steps.{SucceedsSettled}
 use Rattle.sector_map.proofs.Retiring.{refuses-perhaps, succeeds-perhaps}
+use Rattle.sector_map.proofs.MountFirmly.{doubted-same}
 use Rattle.sector_map.proofs.mount.repair.Goals as goal
 
 pub returns-in_err-retire_older-clause-cut : goal.returns-in_err-retire_older-clause-cut
@@ -122,3 +123,10 @@ returns-clause-ends g c =
     let s3 = g.S.SlotCalls.state c.move_begun.new.stock in
     let s4 = g.S.SlotCalls.state c.fill.new.self in
     succeeds-perhaps s0 s3 s4 (perhaps-done s0 s2 s3 (perhaps-done s0 s1 s2 c.in_ok-mend_blocks.ensures.done c.in_ok-retire_older.ensures.done) c.in_ok-move_begun.ensures.done) c.in_ok-fill.ensures.ends
+
+pub returns-clause-store : goal.returns-clause-store
+returns-clause-store g c h =
+    let s4 = g.S.SlotCalls.state c.move_begun.new.stock in
+    let s5 = g.S.SlotCalls.state c.fill.new.self in
+    doubted-same s4 s5 c.in_ok-fill.ensures.ends.kept.bits c.fill.ensures.same
+    (c.in_ok-move_begun.ensures.store (c.in_ok-retire_older.ensures.held c.args.begun (c.in_ok-mend_blocks.ensures.read c.args.begun h)))

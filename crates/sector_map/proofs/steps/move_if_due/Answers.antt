@@ -1,10 +1,17 @@
-use Rattle.std.proofs.Common.{◌∙◌}
+use Rattle.std.proofs.Common.{◌∙◌, ◌≡◌, ◌-◌, sym, subst, ap}
+use Rattle.chip_model.specs.Geometry.{block_count}
+use Rattle.sector_slots.specs.Slots.{data_blocks}
+use Rattle.sector_stock.specs.Index.{AreWithin, erases_of}
+use Rattle.sector_stock.proofs.Even.{even-more}
 use Rattle.std.proofs.lemmas.Result.{err_from_is_err_and}
 use Rattle.erase_journal.specs.Steps.{RefusesFirmly}
 use Rattle.nor_driver.proofs.CallLaws.{fails-as}
 use Rattle.erase_journal.specs.Steps.{SucceedsSettled}
 use Rattle.erase_journal.proofs.Firmly.{refuses-firmly}
 use Rattle.sector_map.proofs.MapCalls.{served-room, stays-keeps, served-steps, served-moves, same-moved-keeps, steps-target, stepped, perhaps-after}
+use Rattle.sector_stock.specs.Takes.{MakesFirm, CountsErase}
+use Rattle.sector_stock.proofs.Firming.{firm-none}
+use Rattle.sector_map.proofs.Evening.{firm-kept}
 use Rattle.sector_map.proofs.steps.move_if_due.Goals as goal
 
 pub level-requires-clause-room : goal.level-requires-clause-room
@@ -51,3 +58,20 @@ returns-in_ok-follow_copied-in-Some-clause-ends g c =
     let s1 = g.S.SlotCalls.state c.level.new.self in
     let s2 = g.S.SlotCalls.state c.follow_copied.new.slots in
     perhaps-after s0 s1 s2 c.in_ok-moved.ensures.ends c.in_ok-follow_copied-in-Some.ensures.done
+
+pub returns-in-None-clause-ok : goal.returns-in-None-clause-ok
+returns-in-None-clause-ok g c =
+    let a = g.S.SlotCalls.state c.args.stock.now in
+    firm-kept a (g.S.SlotCalls.state c.level.new.self) c.args.table.now (g.S.SlotCalls.indexed c.args.stock.now) (g.S.SlotCalls.indexed c.level.new.self) c.requires.served
+    (subst (λ z. MakesFirm a.memory z) (sym (c.in_ok-moved.ensures.none c.in-None.is)) (firm-none a.memory c.requires.served.blocks)) c.in_ok-moved.ensures.ends c.in_ok-moved.ensures.indexed
+
+pub returns-in_ok-follow_copied-in-Some-clause-even : goal.returns-in_ok-follow_copied-in-Some-clause-even
+returns-in_ok-follow_copied-in-Some-clause-even g c by =
+    let m = (g.S.SlotCalls.state c.args.stock.now).memory in
+    let m1 = (g.S.SlotCalls.state c.follow_copied.new.slots).memory in
+    let n : data_blocks m1 ≡ data_blocks m = ap (λ a. data_blocks a) c.follow_copied.ensures.same ∙ ap (λ k. block_count k - 4) c.in_ok-moved.ensures.size in
+    let inside = (c.in_ok-moved.ensures.moved c.in-Some.moved c.in-Some.is).source in
+    let old = c.requires.even (sym (c.follow_copied.ensures.policy ∙ c.in_ok-moved.ensures.policy) ∙ by) in
+    subst (λ k. AreWithin 30 k (erases_of (g.S.Reclaim.counts c.follow_copied.new.slots))) (sym n)
+    (subst (λ b. AreWithin 30 (data_blocks m) (erases_of b)) (sym c.follow_copied.ensures.counted)
+    (even-more 29 c.in-Some.moved.source (data_blocks m) (erases_of (g.S.Reclaim.counts c.args.stock.now)) (erases_of (g.S.Reclaim.counts c.level.new.self)) inside old (subst (λ o. CountsErase (data_blocks m) o (erases_of (g.S.Reclaim.counts c.args.stock.now)) (erases_of (g.S.Reclaim.counts c.level.new.self))) c.in-Some.is c.in_ok-moved.ensures.counted)))

@@ -1,10 +1,13 @@
-use Rattle.std.proofs.Common.{◌∙◌}
+use Rattle.std.proofs.Common.{◌∙◌, sym, subst}
 use Rattle.std.proofs.lemmas.Result.{err_from_is_err_and}
 use Rattle.erase_journal.specs.Steps.{RefusesFirmly}
 use Rattle.nor_driver.proofs.CallLaws.{fails-as}
 use Rattle.erase_journal.specs.Steps.{SucceedsSettled}
 use Rattle.erase_journal.proofs.Firmly.{refuses-firmly}
 use Rattle.sector_map.proofs.MapCalls.{served-room, stays-keeps, served-steps, served-tidies, same-moved-keeps, steps-target, stepped, perhaps-after, no-work}
+use Rattle.sector_stock.specs.Takes.{MakesFirm}
+use Rattle.sector_stock.proofs.Firming.{firm-none}
+use Rattle.sector_map.proofs.Evening.{firm-kept}
 use Rattle.sector_map.proofs.steps.tidy_once.Goals as goal
 
 pub tidy-requires-clause-room : goal.tidy-requires-clause-room
@@ -57,3 +60,9 @@ returns-in_ok-follow_copied-in-Some-clause-ends g c =
     let s1 = g.S.SlotCalls.state c.tidy.new.self in
     let s2 = g.S.SlotCalls.state c.follow_copied.new.slots in
     perhaps-after s0 s1 s2 c.in_ok-copied.ensures.ends c.in_ok-follow_copied-in-Some.ensures.done
+
+pub returns-in-None-clause-ok : goal.returns-in-None-clause-ok
+returns-in-None-clause-ok g c =
+    let a = g.S.SlotCalls.state c.args.stock.now in
+    firm-kept a (g.S.SlotCalls.state c.tidy.new.self) c.args.table.now (g.S.SlotCalls.indexed c.args.stock.now) (g.S.SlotCalls.indexed c.tidy.new.self) c.requires.served
+    (subst (λ z. MakesFirm a.memory z) (sym ((c.in_ok-copied.ensures.none c.in-None.is).2)) (firm-none a.memory c.requires.served.blocks)) c.in_ok-copied.ensures.ends c.in_ok-copied.ensures.indexed

@@ -49,6 +49,9 @@ rewrite-requires-clause-holder g c =
     let at = at-slot c.in_ok-given.given.slot c.in_ok-given.given.copied (g.S.SlotCalls.state c.args.stock.now) (g.S.SlotCalls.indexed c.args.stock.now) (g.S.SlotCalls.state c.take_free.new.self).memory (g.S.SlotCalls.state c.follow_copied.new.slots).memory c.args.table.now c.follow_copied.new.table c.requires.served c.in_ok-given.ensures.ok c.follow_copied.ensures.same c.in_ok-follow_copied.ensures.ok in
     held-number c.holder-holder.result c.args.sector (g.S.SlotCalls.state c.follow_copied.new.slots).memory (slot-held c.in_ok-given.given.slot c.args.sector c.follow_copied.new.table (g.S.SlotCalls.state c.args.stock.now).memory (g.S.SlotCalls.state c.follow_copied.new.slots).memory c.holder-holder.result at (omega (arith, c.requires.number, c.follow_copied.ensures.size)) c.holder-holder.ensures)
 
+pub rewrite-requires-clause-number : goal.rewrite-requires-clause-number
+rewrite-requires-clause-number g c = (at-slot c.in_ok-given.given.slot c.in_ok-given.given.copied (g.S.SlotCalls.state c.args.stock.now) (g.S.SlotCalls.indexed c.args.stock.now) (g.S.SlotCalls.state c.take_free.new.self).memory (g.S.SlotCalls.state c.follow_copied.new.slots).memory c.args.table.now c.follow_copied.new.table c.requires.served c.in_ok-given.ensures.ok c.follow_copied.ensures.same c.in_ok-follow_copied.ensures.ok).low.number
+
 pub rewrite-requires-clause-replaceable : goal.rewrite-requires-clause-replaceable
 rewrite-requires-clause-replaceable g c ready =
     let at = at-slot c.in_ok-given.given.slot c.in_ok-given.given.copied (g.S.SlotCalls.state c.args.stock.now) (g.S.SlotCalls.indexed c.args.stock.now) (g.S.SlotCalls.state c.take_free.new.self).memory (g.S.SlotCalls.state c.follow_copied.new.slots).memory c.args.table.now c.follow_copied.new.table c.requires.served c.in_ok-given.ensures.ok c.follow_copied.ensures.same c.in_ok-follow_copied.ensures.ok in

@@ -2,6 +2,7 @@ use Rattle.std.proofs.Common.{◌≡◌, List, ℕ, false, rules, sym, subst}
 use Rattle.nor_driver.specs.State.{bits_in, NorFails}
 use Rattle.erase_journal.proofs.Interrupted.{interrupted-same}
 use Rattle.sector_map.specs.Marking.{is_unmarked}
+use Rattle.sector_map.proofs.MountFirmly.{half-chip-same}
 use Rattle.sector_map.proofs.Opening.{looked-fails, look-was-cut, looked-mounted}
 use Rattle.sector_map.proofs.map.SectorMap.mount_as.Goals as goal
 
@@ -28,3 +29,9 @@ returns-in-Ok-Ok-clause-journals g c firmly unmarked h =
     let s0 = g.N.Nor.state c.args.nor in
     let s1 = g.N.Nor.state c.look.new.nor in
     c.recover.ensures.journals firmly (subst (λ (m : List ℕ). is_unmarked m ≡ false) (sym c.in-Ok-Ok.ensures.same) unmarked) (interrupted-same (bits_in s0) (bits_in s1) c.in-Ok-Ok.ensures.kept.bits c.in-Ok-Ok.ensures.same h)
+
+pub returns-in-Ok-Ok-clause-store : goal.returns-in-Ok-Ok-clause-store
+returns-in-Ok-Ok-clause-store g c firmly unmarked h =
+    let s0 = g.N.Nor.state c.args.nor in
+    let s1 = g.N.Nor.state c.look.new.nor in
+    c.recover.ensures.store firmly (subst (λ (m : List ℕ). is_unmarked m ≡ false) (sym c.in-Ok-Ok.ensures.same) unmarked) (half-chip-same s0 s1 c.in-Ok-Ok.ensures.kept.bits c.in-Ok-Ok.ensures.same h)

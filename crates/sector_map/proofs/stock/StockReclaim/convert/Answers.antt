@@ -8,6 +8,8 @@ use Rattle.sector_stock.specs.Takes.{IsErasedOnce}
 use Rattle.sector_stock.specs.Index.{erases_of}
 use Rattle.sector_stock.specs.Index.{AreWithin}
 use Rattle.sector_stock.proofs.Even.{index-even}
+use Rattle.nor_driver.specs.State.{bits_in}
+use Rattle.sector_stock.specs.Index.{IsFirmIn}
 use Rattle.sector_map.proofs.stock.StockReclaim.convert.Goals as goal
 
 pub invariant_of-self-2 : goal.invariant_of-self-2
@@ -40,3 +42,11 @@ returns-clause-even g c by =
     let size = rw c.as_mut_slice-2.ensures.value at c.in_ok-converted.ensures.blocks_size in
     let blocks = with_items_is s.blocks c.convert_block.new.blocks (size ∙ sym s.blocks.ok.0) in
     subst (λ ys. AreWithin 32 (data_blocks m1) (erases_of ys)) (sym blocks) (index-even s.at.policy m1 c.convert_block.new.states c.convert_block.new.blocks c.convert_block.new.at c.in_ok-converted.ensures.policy c.in_ok-converted.ensures.index by)
+
+pub returns-clause-firm : goal.returns-clause-firm
+returns-clause-firm g c h =
+    let s = c.args.self.now in
+    let size = rw c.as_mut_slice-2.ensures.value at c.in_ok-converted.ensures.blocks_size in
+    let blocks = with_items_is s.blocks c.convert_block.new.blocks (size ∙ sym s.blocks.ok.0) in
+    let firm = rw c.as_mut_slice-2.ensures.value at c.in_ok-converted.ensures.firm in
+    subst (λ ys. IsFirmIn (bits_in c.convert_block.new.slots) ys) (sym blocks) (firm h)

@@ -2,8 +2,9 @@ use Rattle.std.proofs.Common.{◌∙◌, sym, subst, true}
 use Rattle.std.proofs.lemmas.List.{with_items_is}
 use Rattle.std.specs.Vec.{with_items}
 use Rattle.sector_slots.specs.Slots.{data_blocks}
-use Rattle.sector_stock.specs.Index.{IsStocked, TrustsMore, erases_of}
-use Rattle.sector_stock.specs.Takes.{KeepsErases, GivesTrusted}
+use Rattle.nor_driver.specs.State.{bits_in}
+use Rattle.sector_stock.specs.Index.{IsStocked, TrustsMore, erases_of, IsFirmIn}
+use Rattle.sector_stock.specs.Takes.{KeepsErases, GivesTrusted, MadeTrusted}
 use Rattle.sector_stock.proofs.Firming.{trusts-erases}
 use Rattle.sector_stock.proofs.Writing.{stocked-indexed}
 use Rattle.sector_map.proofs.stock.StockReclaim.firm_free.Goals as goal
@@ -46,3 +47,19 @@ returns-clause-next g c =
     let size = rw c.as_mut_slice-2.ensures.value at c.firm_free.ensures.blocks_size in
     let blocks = with_items_is s.blocks c.firm_free.new.blocks (size ∙ sym s.blocks.ok.0) in
     subst (λ ys. GivesTrusted c.firm_free.new.at.policy c.firm_free.new.at ys c.firm_free.new.slots.memory) (sym blocks) c.in_ok-firm_free.ensures.next
+
+pub returns-clause-made : goal.returns-clause-made
+returns-clause-made g c =
+    let s = c.args.self.now in
+    let size = rw c.as_mut_slice-2.ensures.value at c.firm_free.ensures.blocks_size in
+    let blocks = with_items_is s.blocks c.firm_free.new.blocks (size ∙ sym s.blocks.ok.0) in
+    let made = rw c.as_mut_slice-2.ensures.value at c.in_ok-firm_free.ensures.made in
+    subst (λ ys. MadeTrusted s.blocks.items ys s.slots.memory c.firm_free.new.slots.memory) (sym blocks) made
+
+pub returns-clause-firm : goal.returns-clause-firm
+returns-clause-firm g c h =
+    let s = c.args.self.now in
+    let size = rw c.as_mut_slice-2.ensures.value at c.firm_free.ensures.blocks_size in
+    let blocks = with_items_is s.blocks c.firm_free.new.blocks (size ∙ sym s.blocks.ok.0) in
+    subst (λ ys. IsFirmIn (bits_in c.firm_free.new.slots) ys) (sym blocks)
+    (c.in_ok-firm_free.ensures.firm (subst (λ ys. IsFirmIn (bits_in s.slots) ys) (sym c.as_mut_slice-2.ensures.value) h))

@@ -9,6 +9,8 @@ use Rattle.std.proofs.Common.{true}
 use Rattle.std.specs.Vec.{with_items}
 use Rattle.sector_stock.specs.Index.{IsStocked}
 use Rattle.sector_stock.proofs.Writing.{stocked-indexed}
+use Rattle.nor_driver.specs.State.{bits_in}
+use Rattle.sector_stock.specs.Index.{IsFirmIn}
 use Rattle.sector_map.proofs.stock.StockReclaim.level.Goals as goal
 
 pub returns-clause-must : goal.returns-clause-must
@@ -47,3 +49,11 @@ returns-clause-even g c by =
 
 pub returns-clause-least : goal.returns-clause-least
 returns-clause-least g c = rw c.as_mut_slice-2.ensures.value at c.in_ok-moved.ensures.least
+
+pub returns-clause-firm : goal.returns-clause-firm
+returns-clause-firm g c h =
+    let s = c.args.self.now in
+    let size = rw c.as_mut_slice-2.ensures.value at c.in_ok-moved.ensures.blocks_size in
+    let blocks = with_items_is s.blocks c.level_block.new.blocks (size ∙ sym s.blocks.ok.0) in
+    let firm = rw c.as_mut_slice-2.ensures.value at c.in_ok-moved.ensures.firm in
+    subst (λ ys. IsFirmIn (bits_in c.level_block.new.slots) ys) (sym blocks) (firm h)

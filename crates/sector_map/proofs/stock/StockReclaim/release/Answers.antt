@@ -5,7 +5,9 @@ use Rattle.sector_stock.specs.Index.{IsStocked, IsAhead, in_block}
 use Rattle.sector_stock.proofs.Writing.{dead-room, retire-indexed, stocked-indexed}
 use Rattle.sector_slots.specs.Slots.{data_blocks}
 use Rattle.sector_stock.specs.Takes.{KeepsErases}
-use Rattle.sector_stock.specs.Index.{erases_of}
+use Rattle.nor_driver.specs.State.{bits_in}
+use Rattle.sector_stock.specs.Index.{erases_of, IsFirmIn}
+use Rattle.sector_stock.proofs.Trusting.{retired-firm}
 use Rattle.sector_stock.proofs.Worn.{counted-dead}
 use Rattle.sector_map.proofs.stock.StockReclaim.release.Goals as goal
 
@@ -42,3 +44,14 @@ returns-clause-counted g c =
     let blocks = with_items_is s.blocks c.mark_dead.new.blocks (marked.block_size ∙ sym s.blocks.ok.0) in
     subst (λ ys. KeepsErases (data_blocks s.slots.memory) (erases_of s.blocks.items) (erases_of ys)) (sym blocks)
     (counted-dead c.args.slot (data_blocks s.slots.memory) _ s.states.items c.mark_dead.new.slots s.blocks.items c.mark_dead.new.blocks s.stocked.blocks_size marked)
+
+pub returns-clause-firm : goal.returns-clause-firm
+returns-clause-firm g c h =
+    let s = c.args.self.now in
+    let s1 = c.retire.new.self in
+    let ends = c.in_ok-retire.ensures.ends in
+    let live = c.requires.live ends.ready in
+    let marked = rw (c.as_mut_slice.ensures.value, c.as_mut_slice-2.ensures.value) at c.mark_dead.ensures.marked in
+    let blocks = with_items_is s.blocks c.mark_dead.new.blocks (marked.block_size ∙ sym s.blocks.ok.0) in
+    subst (λ ys. IsFirmIn (bits_in s1) ys) (sym blocks)
+    (retired-firm c.args.slot (bits_in s.slots) (bits_in s1) s.states.items c.mark_dead.new.slots s.blocks.items c.mark_dead.new.blocks _ ends.kept.bits s.stocked.blocks_size live.0 (c.in_ok-retire.ensures.ok live) c.in_ok-retire.ensures.for_good c.in_ok-retire.ensures.only marked h)

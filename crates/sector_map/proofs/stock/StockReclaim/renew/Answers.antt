@@ -5,6 +5,8 @@ use Rattle.sector_slots.specs.Slots.{data_blocks}
 use Rattle.sector_stock.specs.Index.{IsStocked, erases_of}
 use Rattle.sector_stock.specs.Takes.{IsErasedOnce}
 use Rattle.sector_stock.proofs.Writing.{stocked-indexed}
+use Rattle.nor_driver.specs.State.{bits_in}
+use Rattle.sector_stock.specs.Index.{IsFirmIn}
 use Rattle.sector_map.proofs.stock.StockReclaim.renew.Goals as goal
 
 pub invariant_of-self-2 : goal.invariant_of-self-2
@@ -30,3 +32,11 @@ returns-clause-counted g c =
     let counted = rw c.as_mut_slice-2.ensures.value at c.in_ok-copied.ensures.counted in
     subst (λ ys. IsErasedOnce (data_blocks s.slots.memory) c.args.block (erases_of s.blocks.items) (erases_of ys)) (sym blocks)
     (subst (λ n. IsErasedOnce n c.args.block (erases_of s.blocks.items) (erases_of c.renew_block.new.blocks)) s.stocked.blocks_size counted)
+
+pub returns-clause-firm : goal.returns-clause-firm
+returns-clause-firm g c h =
+    let s = c.args.self.now in
+    let size = rw c.as_mut_slice-2.ensures.value at c.in_ok-copied.ensures.blocks_size in
+    let blocks = with_items_is s.blocks c.renew_block.new.blocks (size ∙ sym s.blocks.ok.0) in
+    let firm = rw c.as_mut_slice-2.ensures.value at c.in_ok-copied.ensures.firm in
+    subst (λ ys. IsFirmIn (bits_in c.renew_block.new.slots) ys) (sym blocks) (firm h)

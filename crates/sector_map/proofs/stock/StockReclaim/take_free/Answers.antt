@@ -8,6 +8,8 @@ use Rattle.sector_stock.specs.Takes.{CountsErase}
 use Rattle.sector_stock.specs.Index.{erases_of}
 use Rattle.sector_stock.specs.Index.{AreWithin}
 use Rattle.sector_stock.proofs.Even.{index-even}
+use Rattle.nor_driver.specs.State.{bits_in}
+use Rattle.sector_stock.specs.Index.{IsFirmIn}
 use Rattle.sector_map.proofs.stock.StockReclaim.take_free.Goals as goal
 
 pub invariant_of-self-2 : goal.invariant_of-self-2
@@ -40,3 +42,11 @@ returns-clause-even g c by =
     let size = rw c.as_mut_slice-2.ensures.value at c.in_ok-given.ensures.blocks_size in
     let blocks = with_items_is s.blocks c.take_slot.new.blocks (size ∙ sym s.blocks.ok.0) in
     subst (λ ys. AreWithin 32 (data_blocks m1) (erases_of ys)) (sym blocks) (index-even s.at.policy m1 c.take_slot.new.states c.take_slot.new.blocks c.take_slot.new.at c.in_ok-given.ensures.policy c.in_ok-given.ensures.index by)
+
+pub returns-clause-firm : goal.returns-clause-firm
+returns-clause-firm g c h =
+    let s = c.args.self.now in
+    let size = rw c.as_mut_slice-2.ensures.value at c.in_ok-given.ensures.blocks_size in
+    let blocks = with_items_is s.blocks c.take_slot.new.blocks (size ∙ sym s.blocks.ok.0) in
+    let firm = rw c.as_mut_slice-2.ensures.value at c.in_ok-given.ensures.firm in
+    subst (λ ys. IsFirmIn (bits_in c.take_slot.new.slots) ys) (sym blocks) (firm h)

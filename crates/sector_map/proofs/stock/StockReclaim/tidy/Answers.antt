@@ -9,6 +9,8 @@ use Rattle.std.proofs.Common.{true}
 use Rattle.std.specs.Vec.{with_items}
 use Rattle.sector_stock.specs.Index.{IsStocked}
 use Rattle.sector_stock.proofs.Writing.{stocked-indexed}
+use Rattle.nor_driver.specs.State.{bits_in}
+use Rattle.sector_stock.specs.Index.{IsFirmIn}
 use Rattle.sector_map.proofs.stock.StockReclaim.tidy.Goals as goal
 
 pub returns-clause-worn : goal.returns-clause-worn
@@ -44,3 +46,11 @@ returns-clause-even g c by =
     let size = rw c.as_mut_slice-2.ensures.value at c.in_ok-copied.ensures.blocks_size in
     let blocks = with_items_is s.blocks c.tidy_block.new.blocks (size ∙ sym s.blocks.ok.0) in
     subst (λ ys. AreWithin 32 (data_blocks m1) (erases_of ys)) (sym blocks) (index-even s.at.policy m1 c.tidy_block.new.states c.tidy_block.new.blocks c.tidy_block.new.at c.in_ok-copied.ensures.policy c.in_ok-copied.ensures.index by)
+
+pub returns-clause-firm : goal.returns-clause-firm
+returns-clause-firm g c h =
+    let s = c.args.self.now in
+    let size = rw c.as_mut_slice-2.ensures.value at c.in_ok-copied.ensures.blocks_size in
+    let blocks = with_items_is s.blocks c.tidy_block.new.blocks (size ∙ sym s.blocks.ok.0) in
+    let firm = rw c.as_mut_slice-2.ensures.value at c.in_ok-copied.ensures.firm in
+    subst (λ ys. IsFirmIn (bits_in c.tidy_block.new.slots) ys) (sym blocks) (firm h)

@@ -7,7 +7,9 @@ use Rattle.sector_stock.proofs.Moved.{numbers-in, spare-whole}
 use Rattle.sector_stock.proofs.Writing.{free-some, put-indexed, stocked-indexed}
 use Rattle.sector_slots.specs.Slots.{data_blocks}
 use Rattle.sector_stock.specs.Takes.{KeepsErases}
-use Rattle.sector_stock.specs.Index.{erases_of}
+use Rattle.nor_driver.specs.State.{bits_in}
+use Rattle.sector_stock.specs.Index.{erases_of, IsFirmIn}
+use Rattle.sector_stock.proofs.Trusting.{written-firm}
 use Rattle.sector_stock.proofs.Worn.{counted-live}
 use Rattle.sector_map.proofs.stock.StockReclaim.write.Goals as goal
 
@@ -67,3 +69,13 @@ returns-clause-counted g c =
     let blocks = with_items_is s.blocks c.mark_written.new.blocks (marked.block_size ∙ sym s.blocks.ok.0) in
     subst (λ ys. KeepsErases (data_blocks s.slots.memory) (erases_of s.blocks.items) (erases_of ys)) (sym blocks)
     (counted-live c.args.slot (data_blocks s.slots.memory) _ s.states.items c.mark_written.new.slots s.blocks.items c.mark_written.new.blocks s.stocked.blocks_size marked)
+
+pub returns-clause-firm : goal.returns-clause-firm
+returns-clause-firm g c trusted h =
+    let s = c.args.self.now in
+    let s1 = c.put.new.self in
+    let ends = c.in_ok-put.ensures.ends in
+    let marked = rw (c.as_mut_slice.ensures.value, c.as_mut_slice-2.ensures.value) at c.mark_written.ensures.marked in
+    let blocks = with_items_is s.blocks c.mark_written.new.blocks (marked.block_size ∙ sym s.blocks.ok.0) in
+    subst (λ ys. IsFirmIn (bits_in s1) ys) (sym blocks)
+    (written-firm c.args.slot (bits_in s.slots) (bits_in s1) s.states.items c.mark_written.new.slots s.blocks.items c.mark_written.new.blocks _ ends.kept.bits s.stocked.blocks_size (c.requires.free ends.ready) c.in_ok-put.ensures.only marked trusted h)
