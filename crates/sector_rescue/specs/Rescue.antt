@@ -18,17 +18,15 @@ use Rattle.nor_layout.specs.Kinds.{kind_of, is_group}
 use Rattle.nor_layout.specs.Superblock.{layout_in, mixed_in}
 use Rattle.sector_slots.specs.Sectors.{zeros}
 use Rattle.sector_slots.specs.Slots.{data_blocks, slot_count, header_in, is_counted}
+use Rattle.sector_slots.specs.Weak.{block_place}
 use Rattle.flash_disk.specs.Contents.{joined}
 use Rattle.sector_rescue.specs.declared.slot.Said.{Said}
 use Rattle.sector_rescue.specs.declared.slot.Said.TheVariants.{Nothing, Doubtful, Holds}
 use Rattle.sector_rescue.specs.declared.table.Holders.{Holders}
 
--- where data block c begins, the descriptor of slot s, and its 512 bytes
-abbrev pub block_place : ℕ → ℕ
-block_place c = 4096 * (c + 4)
-
-abbrev pub descriptor_place : ℕ → ℕ
-descriptor_place s = block_place (s / 7) + 16 + 4 * (s % 7)
+-- the descriptor of slot s, and its 512 bytes
+abbrev pub slot_place : ℕ → ℕ
+slot_place s = block_place (s / 7) + 16 + 4 * (s % 7)
 
 abbrev pub payload_place : ℕ → ℕ
 payload_place s = block_place (s / 7) + 512 * (s % 7 + 1)
@@ -60,11 +58,11 @@ kind_by layout m c = kind_of (kind_bytes layout m (block_place c))
 -- the four bytes that say a slot's state: those of its descriptor, or of its group's header
 abbrev pub state_bytes : Layout → List ℕ → ℕ → List ℕ
 state_bytes layout m s = if is_group (kind_by layout m (s / 7)) then four m (block_place (s / 7))
-    else descriptor_bytes layout m (descriptor_place s)
+    else descriptor_bytes layout m (slot_place s)
 
 abbrev pub header_by : Layout → List ℕ → ℕ → Header
 header_by layout m s = header_in (kind_by layout m (s / 7))
-    (header_of (descriptor_bytes layout m (descriptor_place s))) (s % 7)
+    (header_of (descriptor_bytes layout m (slot_place s))) (s % 7)
 
 -- What a slot with this header says, whose state is this byte, on a chip of so many sectors. What
 -- is neither free nor retired, and no whole slot of one of them, is doubtful: it can't be read, or
