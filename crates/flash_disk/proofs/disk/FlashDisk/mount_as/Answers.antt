@@ -1,6 +1,7 @@
 use Rattle.std.proofs.Common.{sym, ap, subst, ◌∙◌}
 use Rattle.chip_model.specs.Wavering.{Bits}
 use Rattle.erase_journal.specs.Weak.{AreInterruptedJournals}
+use Rattle.sector_slots.specs.Weak.{IsHalfChip}
 use Rattle.sector_map.specs.Marking.{is_unmarked}
 use Rattle.flash_disk.proofs.Bits.{found-bits}
 use Rattle.flash_disk.proofs.disk.FlashDisk.mount_as.Goals as goal
@@ -9,3 +10,8 @@ pub returns-in-Ok-clause-journals : goal.returns-in-Ok-clause-journals
 returns-in-Ok-clause-journals g c firmly idle unmarked h =
     let e = found-bits (g.B.SpiBus.chip c.args.bus) (g.B.SpiBus.cuts c.args.bus) (g.B.SpiBus.slows c.args.bus) _ idle c.in-Ok.ensures.found in
     c.open.ensures.journals firmly (ap (λ (b : Bits). is_unmarked b.shown) e ∙ unmarked) (subst (λ (b : Bits). AreInterruptedJournals b) (sym e) h)
+
+pub returns-in-Ok-clause-store : goal.returns-in-Ok-clause-store
+returns-in-Ok-clause-store g c firmly idle unmarked h =
+    let e = found-bits (g.B.SpiBus.chip c.args.bus) (g.B.SpiBus.cuts c.args.bus) (g.B.SpiBus.slows c.args.bus) _ idle c.in-Ok.ensures.found in
+    c.open.ensures.store firmly (ap (λ (b : Bits). is_unmarked b.shown) e ∙ unmarked) (subst (λ (b : Bits). IsHalfChip b) (sym e) h)
