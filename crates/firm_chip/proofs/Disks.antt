@@ -19,26 +19,26 @@ use Rattle.nor_layout.specs.Headers.{header_of, generation_of, live_of}
 use Rattle.nor_layout.specs.Kinds.{kind_of}
 use Rattle.nor_layout.specs.Layouts.{layout_of}
 use Rattle.erase_journal.specs.Blocks.{blank}
-use Rattle.erase_journal.specs.Journals.{IsSoundTally}
+use Rattle.erase_journal.specs.Journals.{IsSoundTally, IsHealthy}
 use Rattle.sector_slots.specs.Slots.{Slot, Free, Live, NoGeneration, Dead, Outside, slot_with, slot_in, written_in, content_bytes, is_void, is_copy_of, copies, counted, is_counted, data_block, data_blocks, kind_at, raw_slot, slot_at, slot_count, IsSpareIn, IsClean}
 use Rattle.sector_slots.specs.Blocks.{IsAtRest, IsUncommitted, SoundBlocks, BlocksHaveNoFault}
 use Rattle.sector_slots.specs.Sectors.{LiveAt, SectorIs, absent, held, SlotsRepresent, IsSoundMap, sector_at}
 use Rattle.sector_slots.specs.Copying.{HoldsNothing}
 use Rattle.sector_slots.proofs.SectorLaws.{sound-fewer, dead-without, dead-whole}
 use Rattle.sector_slots.proofs.WinnerLaws.{sound-stands, stands-computed}
-use Rattle.sector_slots.proofs.CopyLaws.{copies-same, counted-void, quiet-live}
+use Rattle.sector_slots.proofs.CopyLaws.{copies-same, counted-void, counted-source, quiet-live}
 use Rattle.sector_slots.proofs.SlotLaws.{counted-raw}
 use Rattle.sector_slots.proofs.BlockLaws.{sound-no_fault, uncommitted-known, uncommitted-not}
 use Rattle.sector_slots.proofs.BlankLaws.{blank-slot, erased-spare}
 use Rattle.sector_slots.proofs.AloneLaws.{alone-fit}
 use Rattle.firm_chip.specs.FirmChips.{AreFirmly, IsFirmChip, IsFirmBlock, marked, perhaps_begun, void, erasing, IsFading, IsBegunAtMost, IsRoom, free, committed, sector_in, head_place, data_place}
 use Rattle.firm_chip.specs.FirmChips as firm
-use Rattle.firm_chip.specs.Draws.{EachDrawIsTheSameDisk}
-use Rattle.firm_chip.proofs.Draws.{tally-drawn, believed-drawn, named-drawn}
+use Rattle.firm_chip.specs.Draws.{EachDrawIsTheSameDisk, IsSameDisk}
+use Rattle.firm_chip.proofs.Draws.{AreChipJournals, of-chip, tally-drawn, believed-drawn, named-drawn}
 use Rattle.erase_journal.proofs.Draws.{firm-byte}
 use Rattle.firm_chip.proofs.Spans.{block-drawn, erasing-blank, byte-there, descriptor-byte, begun-drawn}
 use Rattle.firm_chip.proofs.Slots.{SlotDrawn, same, idle, faded, IsThere, never-live-header, slot-written, firmly-read}
-use Rattle.firm_chip.proofs.Heads.{KindDrawn, kept, never, perhaps, idle-kind, void-kind, state-there, there, start-was, start-is, chip-block}
+use Rattle.firm_chip.proofs.Heads.{BlockDrawn, KindDrawn, kept, never, perhaps, idle-kind, void-kind, state-there, there, start-was, start-is, chip-block}
 
 -- the slots that count
 idle-copy : (k : Kind) (b : ℕ) → (k ≡ kinds.Plain) ⊎ (k ≡ kinds.Void) → is_copy_of b k ≡ false
@@ -143,7 +143,7 @@ tag_in d NoGeneration = d
 tag_in d Dead = d
 tag_in d Outside = d
 
-abbrev slot_number : Slot → ℕ
+abbrev pub slot_number : Slot → ℕ
 slot_number Free = 0
 slot_number (Live tag x) = 1
 slot_number NoGeneration = 2
@@ -163,10 +163,10 @@ there-was m w c low e (perhaps_begun o g x) = inl (there m c low e (start-was m 
 there-was m w c low e (void o g v) = inl (there m c low e (start-was m w c e o))
 there-was m w c low e (erasing b n) = inr (erasing-blank m c b n)
 
-abbrev SaysSector : List ℕ → ℕ → ℕ → Type 0
+abbrev pub SaysSector : List ℕ → ℕ → ℕ → Type 0
 SaysSector m s g = (byte m (head_place s) ≡ 252) × (sector_in m s ≡ g)
 
-live-there : (m : List ℕ) (c i g : ℕ) (k : Generation) (x : List ℕ) → IsThere m c → i < 7 → raw_slot m c i ≡ Live (record { number = g; generation = k }) x → SaysSector m (7 * c + i) g
+pub live-there : (m : List ℕ) (c i g : ℕ) (k : Generation) (x : List ℕ) → IsThere m c → i < 7 → raw_slot m c i ≡ Live (record { number = g; generation = k }) x → SaysSector m (7 * c + i) g
 live-there m c i g k x h low e =
     let tag : Tag = record { number = g; generation = k } in
     let at = head_place (7 * c + i) in
@@ -190,7 +190,7 @@ live-at m w m' f d s g k x l =
     let low : s / 7 < data_blocks m = omega (arith, n) in
     let small : s % 7 < 7 = omega arith in
     let z : 7 * (s / 7) + s % 7 ≡ s = omega arith in
-    elim (block-drawn m w m' (s / 7) f d) as (λ _. SaysSector m s g) [
+    elim (block-drawn m w m' (s / 7) (of-chip m w f) d) as (λ _. SaysSector m s g) [
       | inl p ↦ absurd (not-blank m (s / 7) (s % 7) g k x p.0 small raw)
       | inr p ↦ elim (there-was m w (s / 7) low p.0 (f.blocks (s / 7) low)) as (λ _. SaysSector m s g) [
         | inl h ↦ subst (λ q. SaysSector m q g) z (live-there m (s / 7) (s % 7) g k x h small raw)
@@ -204,16 +204,26 @@ chip-alone m w m' f d s t g j k x y p a b =
     let r = live-at m w m' f d t g k y b in
     f.alone s t a.number b.number p (record { live = r.0; sector = r.1 ∙ sym q.1 })
 
+-- What a draw leaves of the parts of a disk: its journals are a firm chip's, each block is drawn, one
+-- stays room, and a slot that may fade is its sector's only one.
+pub record IsDrawnDisk (m w m' : List ℕ) : Type 0 where
+  pub drawn : Drawn w m m'
+  pub journals : AreChipJournals m w
+  pub blocks : (c : ℕ) → c < data_blocks m → BlockDrawn m w m' c
+  pub room : (c : ℕ) × ((c < data_blocks m) × (IsAtRest (kind_at m' c) → IsSpareIn m' c))
+  pub alone : (s t g : ℕ) (j k : Generation) (x y : List ℕ) → IsFading m w s → LiveAt (slot_at m) (slot_count m) s g j x
+      → LiveAt (slot_at m) (slot_count m) t g k y → s ≡ t
+
 -- the slots of a draw
-chip-stands : (m w m' : List ℕ) → IsFirmChip m w → Drawn w m m' → IsSoundMap m → SlotsRepresent (slot_at m') (slot_count m') (sector_count (length m')) (sector_at m)
-chip-stands m w m' f d s =
+disk-stands : (m w m' : List ℕ) → IsDrawnDisk m w m' → IsSoundMap m → SlotsRepresent (slot_at m') (slot_count m') (sector_count (length m')) (sector_at m)
+disk-stands m w m' f s =
     let n = data_blocks m in
-    let each = λ (c : ℕ) (low : c < n). (chip-block m w m' f d c low).kind in
+    let each = λ (c : ℕ) (low : c < n). (f.blocks c low).kind in
     let drawn = λ (v : ℕ) (low : v < 7 * n).
     counted-drawn m w m' n v (copies-same (kind_at m) (kind_at m') n (v / 7) (λ c h. copy-drawn m w m' c (v / 7 + 4) (each c h))) (each (v / 7) (omega (arith, low))) in
-    let r = drawn-stands (slot_at m) (counted (kind_at m') (raw_slot m') n) (slot_count m) (sector_count (length m)) (sector_at m) (λ v. IsFading m w v) drawn (chip-alone m w m' f d)
+    let r = drawn-stands (slot_at m) (counted (kind_at m') (raw_slot m') n) (slot_count m) (sector_count (length m)) (sector_at m) (λ v. IsFading m w v) drawn f.alone
     (sound-stands (slot_at m) (slot_count m) (sector_count (length m)) s.slots) in
-    subst (λ q. SlotsRepresent (counted (kind_at m') (raw_slot m') (block_count q - 4)) (7 * (block_count q - 4)) (sector_count q) (sector_at m)) (sym d.same_length) r
+    subst (λ q. SlotsRepresent (counted (kind_at m') (raw_slot m') (block_count q - 4)) (7 * (block_count q - 4)) (sector_count q) (sector_at m)) (sym f.drawn.same_length) r
 
 -- its blocks
 idle-uncommitted : (k : Kind) → (k ≡ kinds.Plain) ⊎ (k ≡ kinds.Void) → IsUncommitted k
@@ -240,7 +250,7 @@ free-slot m c i h low each =
 committed-kind : (b : List ℕ) → ((k : ℕ) → k < 4 → byte b k ≡ 255) → byte b 4 ≡ 252 → kind_of b ≡ kinds.Committed (little_from 6 2 b)
 committed-kind b e f = rw (e 0 (lit< tt), e 1 (lit< tt), e 2 (lit< tt), e 3 (lit< tt), f) refl
 
-not-rest-void : (k : Kind) → k ≡ kinds.Void → IsAtRest k → ⊥
+pub not-rest-void : (k : Kind) → k ≡ kinds.Void → IsAtRest k → ⊥
 not-rest-void k e r = subst (λ q. IsAtRest q) e r
 
 not-rest-copy : (k : Kind) (b : ℕ) → k ≡ kinds.Committed b → IsAtRest k → ⊥
@@ -264,64 +274,83 @@ room-stays m w m' c f d low e (committed o g v) rest =
     let q = firm-byte m w m' ((data_place c + 4) + 0) d (g 0 (lit< tt)) in
     absurd (not-rest-copy (kind_at m' c) (little_from 6 2 (data_block m' c)) (committed-kind (data_block m' c) (start-is m w m' c d e o) (state-there m' c e ∙ (rw z at q ∙ v))) rest)
 room-stays m w m' c f d low e (firm.IsRoom.erasing b n) rest =
-    let n' = named-drawn m w m' f d (c + 4) in
-    erased-spare m' c (erasing-blank m' c (believed-drawn m w m' f d ∙ b) (omega (arith, n, n')))
+    let n' = named-drawn m w m' (of-chip m w f) d (c + 4) in
+    erased-spare m' c (erasing-blank m' c (believed-drawn m w m' (of-chip m w f) d ∙ b) (omega (arith, n, n')))
 
 room-spare : (m w m' : List ℕ) (c : ℕ) → IsFirmChip m w → Drawn w m m' → c < data_blocks m → IsRoom m w c → IsAtRest (kind_at m' c) → IsSpareIn m' c
-room-spare m w m' c f d low r rest = elim (block-drawn m w m' c f d) as (λ _. IsSpareIn m' c) [
+room-spare m w m' c f d low r rest = elim (block-drawn m w m' c (of-chip m w f) d) as (λ _. IsSpareIn m' c) [
   | inl p ↦ erased-spare m' c p.1
   | inr p ↦ room-stays m w m' c f d low p.1 r rest
 ]
 
-chip-blocks : (m w m' : List ℕ) → IsFirmChip m w → Drawn w m m' → IsSoundMap m → SoundBlocks (kind_at m') (raw_slot m') (data_blocks m')
-chip-blocks m w m' f d s =
+disk-blocks : (m w m' : List ℕ) → IsDrawnDisk m w m' → IsSoundMap m → SoundBlocks (kind_at m') (raw_slot m') (data_blocks m')
+disk-blocks m w m' f s =
     let n = data_blocks m in
     let old = (sound-no_fault (kind_at m) (raw_slot m) n).0 s.blocks in
-    let each = λ (c : ℕ) (low : c < n). (chip-block m w m' f d c low).kind in
+    let each = λ (c : ℕ) (low : c < n). (f.blocks c low).kind in
     let r = f.room in
     let there_is = r.1 in
     let h : BlocksHaveNoFault (kind_at m') (raw_slot m') n = record {
       known = λ c low. known-drawn m w m' c (each c low) (old.known c low);
       one = λ c e a b lc le ne ea eb. old.one c e a b lc le ne (committed-drawn m w m' c a (each c lc) ea) (committed-drawn m w m' e b (each e le) eb);
       source = λ c b low e. old.source c b low (committed-drawn m w m' c b (each c low) e);
-      spare = λ rest. inl (r.0, (there_is.0, room-spare m w m' r.0 f d there_is.0 there_is.1 (rest r.0 there_is.0)));
+      spare = λ rest. inl (r.0, (there_is.0, there_is.1 (rest r.0 there_is.0)));
     } in
     let z : SoundBlocks (kind_at m') (raw_slot m') n = (sound-no_fault (kind_at m') (raw_slot m') n).1 h in
-    subst (λ q. SoundBlocks (kind_at m') (raw_slot m') (block_count q - 4)) (sym d.same_length) z
+    subst (λ q. SoundBlocks (kind_at m') (raw_slot m') (block_count q - 4)) (sym f.drawn.same_length) z
 
 -- what is free of it
-chip-clean : (m w m' : List ℕ) → IsFirmChip m w → Drawn w m m' → IsClean m'
-chip-clean m w m' f d =
-    let n = d.same_length in
+disk-clean : (m w m' : List ℕ) → IsDrawnDisk m w m' → IsClean m'
+disk-clean m w m' f =
+    let n = f.drawn.same_length in
     record {
       slots = λ s low e.
-          let b = chip-block m w m' f d (s / 7) (omega (arith, low, n)) in
+          let b = f.blocks (s / 7) (omega (arith, low, n)) in
           b.clean
           (λ v. let q : 0 ≡ 4 = ap slot_number (sym e ∙ counted-void (kind_at m') (raw_slot m') (data_blocks m') s (ap is_void v)) in omega (arith, q))
+          (elim (cases_eq (copies (kind_at m') (data_blocks m') (s / 7)) 0) as (λ _. copies (kind_at m) (data_blocks m) (s / 7) ≡ 0) [
+            | inr some ↦ (let q : 0 ≡ 4 = ap slot_number (sym e ∙ counted-source (kind_at m') (raw_slot m') (data_blocks m') s some) in absurd (omega (arith, q)))
+            | inl none ↦
+                sym (copies-same (kind_at m) (kind_at m') (data_blocks m) (s / 7) (λ c h. copy-drawn m w m' c (s / 7 + 4) (f.blocks c h).kind))
+                ∙ subst (λ q. copies (kind_at m') (block_count q - 4) (s / 7) ≡ 0) n none
+          ])
           (s % 7) (omega arith) (counted-raw m' s Free e (λ x. let q : 0 ≡ 4 = ap slot_number x in omega (arith, q)));
-      spare = λ c low e. (chip-block m w m' f d c (omega (arith, low, n))).spare e;
+      spare = λ c low e. (f.blocks c (omega (arith, low, n))).spare e;
     }
 
 -- its superblock
-super-drawn : (m w m' : List ℕ) (chip : Geometry) → IsFirmChip m w → Drawn w m m' → layout_of m' chip ≡ layout_of m chip
+super-drawn : (m w m' : List ℕ) (chip : Geometry) → AreChipJournals m w → Drawn w m m' → layout_of m' chip ≡ layout_of m chip
 super-drawn m w m' chip f d =
     let e = λ (k : ℕ) (low : k < 16). (let z : 0 + k ≡ k = omega arith in let q = f.superblock k low in firm-byte m w m' k d (rw z at q)) in
     rw (e 0 (lit< tt), e 1 (lit< tt), e 2 (lit< tt), e 3 (lit< tt), e 4 (lit< tt), e 5 (lit< tt), e 6 (lit< tt), e 7 (lit< tt), e 8 (lit< tt), e 9 (lit< tt), e 10 (lit< tt), e 11 (lit< tt), e 12 (lit< tt), e 14 (lit< tt), e 15 (lit< tt)) refl
 
-pub each-draw : EachDrawIsTheSameDisk
-each-draw m w m' f healthy sound d =
-    let stands = chip-stands m w m' f d sound in
-    let same = tally-drawn m w m' f d in
+pub drawn-same : (m w m' : List ℕ) → IsDrawnDisk m w m' → IsHealthy m → IsSoundMap m → IsSameDisk m m'
+drawn-same m w m' f healthy sound =
+    let d = f.drawn in
+    let stands = disk-stands m w m' f sound in
+    let tally = tally-drawn m w m' f.journals d in
     record {
       same_length = d.same_length;
-      superblock = λ chip. super-drawn m w m' chip f d;
-      numbers = same;
-      journals = (healthy.0, subst (λ t. IsSoundTally healthy.0 t) (sym same) healthy.1);
+      superblock = λ chip. super-drawn m w m' chip f.journals d;
+      numbers = tally;
+      journals = (healthy.0, subst (λ t. IsSoundTally healthy.0 t) (sym tally) healthy.1);
       slots = record {
         slots = stands.sound;
-        blocks = chip-blocks m w m' f d sound;
-        groups = alone-fit m' (λ c low. (chip-block m w m' f d c (let n = d.same_length in omega (arith, low, n))).slots);
+        blocks = disk-blocks m w m' f sound;
+        groups = alone-fit m' (λ c low. (f.blocks c (let n = d.same_length in omega (arith, low, n))).slots);
       };
       sectors = λ g low. stands-computed (slot_at m') (slot_count m') (sector_count (length m')) (sector_at m) g stands (let n = d.same_length in subst (λ q. g < sector_count q) (sym n) low);
-      clean = chip-clean m w m' f d;
+      clean = disk-clean m w m' f;
     }
+
+chip-drawn : (m w m' : List ℕ) → IsFirmChip m w → Drawn w m m' → IsDrawnDisk m w m'
+chip-drawn m w m' f d = record {
+  drawn = d;
+  journals = of-chip m w f;
+  blocks = chip-block m w m' f d;
+  room = (let r = f.room in let there_is = r.1 in (r.0, (there_is.0, room-spare m w m' r.0 f d there_is.0 there_is.1)));
+  alone = chip-alone m w m' f d;
+}
+
+pub each-draw : EachDrawIsTheSameDisk
+each-draw m w m' f healthy sound d = drawn-same m w m' (chip-drawn m w m' f d) healthy sound

@@ -11,7 +11,7 @@ use Rattle.nor_layout.specs.declared.kind.Kind.TheVariants as kinds
 use Rattle.nor_layout.specs.Kinds.{kind_of}
 use Rattle.erase_journal.specs.Blocks.{blank}
 use Rattle.erase_journal.proofs.BlockLaws.{length-blank, byte-blank}
-use Rattle.sector_slots.specs.Slots.{Free, slot_in, content_bytes, blank_sector, is_group, data_block, data_blocks, kind_at, raw_slot, IsSpareIn}
+use Rattle.sector_slots.specs.Slots.{Free, slot_in, content_bytes, blank_sector, is_group, copies, data_block, data_blocks, kind_at, raw_slot, IsSpareIn}
 use Rattle.sector_slots.specs.Copying.{HoldsNothing}
 use Rattle.sector_slots.proofs.GroupLaws.{group-four}
 use Rattle.sector_slots.proofs.BlankLaws.{blank-kind, blank-content}
@@ -20,7 +20,7 @@ use Rattle.journal_slots.proofs.Places.{fresh-descriptor}
 use Rattle.journal_slots.proofs.Places as places
 use Rattle.erase_journal.specs.Weak.{AreFirm}
 use Rattle.firm_chip.specs.FirmChips.{IsFirmChip, IsFirmBlock, marked, perhaps_begun, void, erasing, IsOfSlots, AreFirmly, IsFading, data_place}
-use Rattle.firm_chip.proofs.Draws.{believed-drawn, named-drawn}
+use Rattle.firm_chip.proofs.Draws.{of-chip, believed-drawn, named-drawn}
 use Rattle.erase_journal.proofs.Draws.{firm-byte}
 use Rattle.firm_chip.proofs.Spans.{block-drawn, erasing-blank, byte-there, begun-drawn, begun-was}
 use Rattle.firm_chip.proofs.Slots.{SlotDrawn, same, IsThere, slot-drawn, slot-clean, never-nothing, never-of, never-clean, firmly-read, length-there}
@@ -40,7 +40,7 @@ pub data KindDrawn (m w m' : List ℕ) (c : ℕ) : Type 0 where
 pub record BlockDrawn (m w m' : List ℕ) (c : ℕ) : Type 0 where
   pub slots : is_group (kind_at m' c) ≡ false
   pub kind : KindDrawn m w m' c
-  pub clean : kind_at m' c ≢ kinds.Void → (i : ℕ) → i < 7 → raw_slot m' c i ≡ Free → content_bytes (data_block m' c) i ≡ blank_sector
+  pub clean : kind_at m' c ≢ kinds.Void → copies (kind_at m) (data_blocks m) c ≡ 0 → (i : ℕ) → i < 7 → raw_slot m' c i ≡ Free → content_bytes (data_block m' c) i ≡ blank_sector
   pub spare : IsSpareIn m' c → data_block m' c ≡ blank
 
 abbrev IsVoid : Kind → Type 0
@@ -74,11 +74,11 @@ no-group b e =
     group-four blank b (z 0 (lit< tt)) (z 1 (lit< tt)) (z 2 (lit< tt)) (z 3 (lit< tt)) ∙ ap is_group blank-kind
 
 -- a block that is erased before and after
-both-blank : (m w m' : List ℕ) (c : ℕ) → data_block m c ≡ blank → data_block m' c ≡ blank → BlockDrawn m w m' c
+pub both-blank : (m w m' : List ℕ) (c : ℕ) → data_block m c ≡ blank → data_block m' c ≡ blank → BlockDrawn m w m' c
 both-blank m w m' c e e' = record {
   slots = ap (λ b. is_group (kind_of b)) e' ∙ ap is_group blank-kind;
   kind = kept (ap kind_of (e' ∙ sym e)) (λ i low. same (ap (λ b. slot_in b i) (e' ∙ sym e)));
-  clean = λ _ i low _. ap (λ b. content_bytes b i) e' ∙ blank-content i low;
+  clean = λ _ _ i low _. ap (λ b. content_bytes b i) e' ∙ blank-content i low;
   spare = λ _. e';
 }
 
@@ -120,7 +120,7 @@ spare-byte m w m' c d h o clean s k low = elim (cases_lt k 8) as (λ _. byte (da
   ]
 ]
 
-spare-blank : (m w m' : List ℕ) (c : ℕ) → Drawn w m m' → IsThere m' c → IsOfSlots m w c
+pub spare-blank : (m w m' : List ℕ) (c : ℕ) → Drawn w m m' → IsThere m' c → IsOfSlots m w c
     → ((i : ℕ) → i < 7 → raw_slot m' c i ≡ Free → content_bytes (data_block m' c) i ≡ blank_sector) → IsSpareIn m' c → data_block m' c ≡ blank
 spare-blank m w m' c d h o clean s =
     let n : length (data_block m' c) ≡ 4096 = length-there m' c h in
@@ -146,7 +146,7 @@ stays-drawn m w m' c f d low e e' (marked o g x) =
     record {
       slots = h'.slots;
       kind = kept (same-kind m w m' c d e e' o.start g) (λ i l. slot-drawn m w m' c i d h h' l (x i l));
-      clean = λ _. clean;
+      clean = λ _ _. clean;
       spare = λ s. spare-blank m w m' c d h' o clean s;
     }
 stays-drawn m w m' c f d low e e' (perhaps_begun o g x) =
@@ -161,7 +161,7 @@ stays-drawn m w m' c f d low e e' (perhaps_begun o g x) =
           (idle-kind (data_block m c) (start-was m w c e o.start) (rw s (begun-was m w c g)))
           (idle-kind (data_block m' c) (start-is m w m' c d e' o.start) (rw s' (begun-drawn m w m' c d g)))
           (λ i l. never-nothing m w m' c i d h h' l (never-of m w (7 * c + i) (x i l)));
-      clean = λ _. clean;
+      clean = λ _ _. clean;
       spare = λ s. spare-blank m w m' c d h' o clean s;
     }
 stays-drawn m w m' c f d low e e' (void o g v) =
@@ -171,15 +171,15 @@ stays-drawn m w m' c f d low e e' (void o g v) =
     record {
       slots = h'.slots;
       kind = never was is;
-      clean = λ n. absurd (n is);
+      clean = λ n _. absurd (n is);
       spare = λ s. absurd (not-spare m' c is s);
     }
 stays-drawn m w m' c f d low e e' (erasing b n) =
-    let n' = named-drawn m w m' f d (c + 4) in
-    both-blank m w m' c (erasing-blank m c b n) (erasing-blank m' c (believed-drawn m w m' f d ∙ b) (omega (arith, n, n')))
+    let n' = named-drawn m w m' (of-chip m w f) d (c + 4) in
+    both-blank m w m' c (erasing-blank m c b n) (erasing-blank m' c (believed-drawn m w m' (of-chip m w f) d ∙ b) (omega (arith, n, n')))
 
 pub chip-block : (m w m' : List ℕ) → IsFirmChip m w → Drawn w m m' → (c : ℕ) → c < data_blocks m → BlockDrawn m w m' c
-chip-block m w m' f d c low = elim (block-drawn m w m' c f d) as (λ _. BlockDrawn m w m' c) [
+chip-block m w m' f d c low = elim (block-drawn m w m' c (of-chip m w f) d) as (λ _. BlockDrawn m w m' c) [
   | inl p ↦ both-blank m w m' c p.0 p.1
   | inr p ↦ stays-drawn m w m' c f d low p.0 p.1 (f.blocks c low)
 ]

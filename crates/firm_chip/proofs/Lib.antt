@@ -7,3 +7,6 @@ pub mod Disks
 pub mod Losses
 pub mod Steps
 pub mod FirmJournals
+pub mod Stores
+pub mod HalfDraws
+pub mod Mounts

@@ -97,7 +97,7 @@ never-of m w s (dead n f) = n
 never-of m w s (unused n f) = n
 
 -- the same bytes
-same-slot : (m w m' : List ℕ) (c i : ℕ) → Drawn w m m' → IsThere m c → IsThere m' c → i < 7 → ((j : ℕ) → j < 4 → byte m' (head_place (7 * c + i) + j) ≡ byte m (head_place (7 * c + i) + j))
+pub same-slot : (m w m' : List ℕ) (c i : ℕ) → Drawn w m m' → IsThere m c → IsThere m' c → i < 7 → ((j : ℕ) → j < 4 → byte m' (head_place (7 * c + i) + j) ≡ byte m (head_place (7 * c + i) + j))
     → AreFirm w (content_place (7 * c + i)) 512 → raw_slot m' c i ≡ raw_slot m c i
 same-slot m w m' c i d h h' low e f =
     let s = 7 * c + i in
@@ -118,7 +118,7 @@ content-zeros m w c i h low f =
     let small : j < 512 = omega (arith, q, n) in
     content-byte m c i j h.bytes low small ∙ (f.reads j small ∙ sym (get_or-replicate {A = ℕ} 512 j 0 0 small)))
 
-fading-drawn : (m w m' : List ℕ) (c i : ℕ) → Drawn w m m' → IsThere m c → IsThere m' c → i < 7 → IsFading m w (7 * c + i) → SlotDrawn (IsFading m w (7 * c + i)) (raw_slot m c i) (raw_slot m' c i)
+pub fading-drawn : (m w m' : List ℕ) (c i : ℕ) → Drawn w m m' → IsThere m c → IsThere m' c → i < 7 → IsFading m w (7 * c + i) → SlotDrawn (IsFading m w (7 * c + i)) (raw_slot m c i) (raw_slot m' c i)
 fading-drawn m w m' c i d h h' low f =
     let s = 7 * c + i in
     let at = head_place s in
@@ -143,14 +143,14 @@ slot-drawn m w m' c i d h h' low (never_live n) = (let p = never-nothing m w m' 
 slot-drawn m w m' c i d h h' low (fading f) = fading-drawn m w m' c i d h h' low f
 
 -- A slot that reads as free after a draw, and its sector.
-free-state : (m : List ℕ) (c i : ℕ) → IsThere m c → i < 7 → raw_slot m c i ≡ Free → (j : ℕ) → j < 4 → byte m (head_place (7 * c + i) + j) ≡ 255
+pub free-state : (m : List ℕ) (c i : ℕ) → IsThere m c → i < 7 → raw_slot m c i ≡ Free → (j : ℕ) → j < 4 → byte m (head_place (7 * c + i) + j) ≡ 255
 free-state m c i h low free j small =
     sym (descriptor-byte m c i j h.bytes low small) ∙ (get_or-drop (16 + 4 * i) (data_block m c) j 0 ∙ fresh-descriptor c i m free j small)
 
 pub firmly-read : (m w m' : List ℕ) (at n v : ℕ) → Drawn w m m' → AreFirmly m w at n v → (k : ℕ) → k < n → byte m' (at + k) ≡ v
 firmly-read m w m' at n v d f k low = firm-byte m w m' (at + k) d (f.firm k low) ∙ f.reads k low
 
-erased-content : (m' : List ℕ) (c i : ℕ) → IsThere m' c → i < 7 → ((j : ℕ) → j < 512 → byte m' (content_place (7 * c + i) + j) ≡ 255) → content_bytes (data_block m' c) i ≡ blank_sector
+pub erased-content : (m' : List ℕ) (c i : ℕ) → IsThere m' c → i < 7 → ((j : ℕ) → j < 512 → byte m' (content_place (7 * c + i) + j) ≡ 255) → content_bytes (data_block m' c) i ≡ blank_sector
 erased-content m' c i h low each =
     let n : length (content_bytes (data_block m' c) i) ≡ 512 = length-content m' c i h low in
     let b : length (part 512 blank 1) ≡ 512 = part-whole 512 blank 1 (let z = length-blank in omega (arith, z)) in

@@ -13,15 +13,15 @@ use Rattle.chip_model.proofs.PartLaws.{get-part}
 use Rattle.erase_journal.specs.Journals.{entries_for}
 use Rattle.erase_journal.specs.Blocks.{block, blank, is_believed0}
 use Rattle.sector_slots.specs.Slots.{data_block, content_bytes}
-use Rattle.firm_chip.specs.FirmChips.{IsFirmChip, data_place, head_place, content_place, IsBegunAtMost}
-use Rattle.firm_chip.proofs.Draws.{believed-drawn, named-drawn}
+use Rattle.firm_chip.specs.FirmChips.{data_place, head_place, content_place, IsBegunAtMost}
+use Rattle.firm_chip.proofs.Draws.{AreChipJournals, believed-drawn, named-drawn}
 
 block-by : (t : Bool) (p q : List ℕ) → ((cond t blank p ≡ blank) × (cond t blank q ≡ blank)) ⊎ ((cond t blank p ≡ p) × (cond t blank q ≡ q))
 block-by true p q = inl (refl, refl)
 block-by false p q = inr (refl, refl)
 
 -- the bytes that a data block represents: erased before and after, or those of the memory
-pub block-drawn : (m w m' : List ℕ) (c : ℕ) → IsFirmChip m w → Drawn w m m'
+pub block-drawn : (m w m' : List ℕ) (c : ℕ) → AreChipJournals m w → Drawn w m m'
     → ((data_block m c ≡ blank) × (data_block m' c ≡ blank)) ⊎ ((data_block m c ≡ part 4096 m (c + 4)) × (data_block m' c ≡ part 4096 m' (c + 4)))
 unfolding block
 block-drawn m w m' c f d =

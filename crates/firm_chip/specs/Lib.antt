@@ -1,3 +1,4 @@
 pub mod FirmChips
 pub mod Draws
 pub mod Losses
+pub mod Stores

@@ -3,6 +3,8 @@
 ghost use Rattle.firm_chip.specs.Draws.{EachDrawIsTheSameDisk, FirmJournalsAreOfFirmChips};
 ghost use Rattle.firm_chip.specs.Losses.{CompletedAreDrawnThenDone, LossesAreDrawnThenTorn};
 ghost use Rattle.firm_chip.specs.Losses.{LossesAreTornThenDrawn, LossesLeaveSteadyDisks};
+ghost use Rattle.firm_chip.specs.Stores.{DoubtedStoresAreHalfAtEachDraw};
+ghost use Rattle.firm_chip.specs.Stores.{EachDrawOfADoubtedStoreIsTheSameDisk};
 
 /// Whatever the weak bits of a firm chip read as, it is the same disk.
 pub fn each_draw_is_the_same_disk()
@@ -35,4 +37,14 @@ pub fn completed_are_drawn_then_done()
 /// weak bits of before.
 pub fn losses_leave_steady_disks()
     ensures { LossesLeaveSteadyDisks }
+{}
+
+/// What a firm mount leaves reads as the same disk at each later power-on, while no call goes on.
+pub fn each_draw_of_a_doubted_store_is_the_same_disk()
+    ensures { EachDrawOfADoubtedStoreIsTheSameDisk }
+{}
+
+/// What a firm mount leaves of data blocks is, at each later power-on, what the next one needs.
+pub fn doubted_stores_are_half_at_each_draw()
+    ensures { DoubtedStoresAreHalfAtEachDraw }
 {}
