@@ -72,7 +72,7 @@ drawn-same w m v d =
     ]))
 
 -- the data's bit at a place, and 1 where no data falls
-abbrev fallen : ℕ → List ℕ → ℕ → ℕ → ℕ
+abbrev pub fallen : ℕ → List ℕ → ℕ → ℕ → ℕ
 fallen at bytes i k = cond (is_within at (length bytes) i) (bit_at (byte bytes (i - at)) k) 1
 
 and_cond : (t : Bool) (x d k : ℕ) → bit_at (cond t (bit_and x d) x) k ≡ min (bit_at x k) (cond t (bit_at d k) 1)
@@ -83,7 +83,7 @@ fallen-two : (t : Bool) (x k : ℕ) → cond t (bit_at x k) 1 < 2
 fallen-two true x k = bit_at-lt x k
 fallen-two false x k = omega arith
 
-anded : (m : List ℕ) (at : ℕ) (bytes : List ℕ) (i k : ℕ) → bit_at (byte (and_at m at bytes) i) k ≡ min (bit_at (byte m i) k) (fallen at bytes i k)
+pub anded : (m : List ℕ) (at : ℕ) (bytes : List ℕ) (i k : ℕ) → bit_at (byte (and_at m at bytes) i) k ≡ min (bit_at (byte m i) k) (fallen at bytes i k)
 anded m at bytes i k = elim (cases_lt i (length m)) [
   | inl low ↦
       ap (λ x. bit_at x k) (get-placed bit_and m at bytes i 0 low)
@@ -95,10 +95,10 @@ anded m at bytes i k = elim (cases_lt i (length m)) [
 ]
 
 -- the bits in which two memories differ, beside weak ones
-abbrev differing : List ℕ → List ℕ → ℕ → ℕ → ℕ
+abbrev pub differing : List ℕ → List ℕ → ℕ → ℕ → ℕ
 differing m m' i x = bit_or x (bit_xor (byte m i) (byte m' i))
 
-differ : (m m' w : List ℕ) (i k : ℕ) → i < length w
+pub differ : (m m' w : List ℕ) (i k : ℕ) → i < length w
     → bit_at (byte (with_differences m m' w) i) k ≡ max (bit_at (byte w i) k) ((bit_at (byte m i) k + bit_at (byte m' i) k) % 2)
 differ m m' w i k low =
     ap (λ x. bit_at x k) (get-changed (differing m m') w i 0 low)

@@ -137,7 +137,7 @@ open-cut a b h long sound none i low state last l v w =
     ]
 
 -- The open entry of a block, as a power-on may read it.
-opened-as : (a : Bits) (h : AreFirmJournals a) (v : List ℕ) (i c : ℕ) → IsOpened i c a.shown → IsOpened i c (read_as v a.weak a.shown)
+pub opened-as : (a : Bits) (h : AreFirmJournals a) (v : List ℕ) (i c : ℕ) → IsOpened i c a.shown → IsOpened i c (read_as v a.weak a.shown)
 opened-as a h v i c o =
     let r = read_as v a.weak a.shown in
     let e = λ (k : ℕ) (small : k < 512). entry-drawn a r (read_drawn v a.weak a.shown) h k small in

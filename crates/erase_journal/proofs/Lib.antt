@@ -38,3 +38,4 @@ pub mod Standing
 mod Still
 pub mod Firmly
 pub mod Calls
+pub mod Torn

@@ -12,3 +12,4 @@ pub mod Firm
 pub mod Recovery
 pub mod Laws
 pub mod Weak
+pub mod Torn

@@ -6,6 +6,7 @@ ghost use Rattle.std.specs.Prelude.{IfErr};
 ghost use Rattle.nor_driver.specs.State.{IsNorReady, OnlyMemoryChanges, Refuses, EndsReady};
 ghost use Rattle.nor_driver.specs.State.{bits_in, IsFirmer};
 ghost use Rattle.erase_journal.specs.Weak.{AreVotesBelieved, AreZerosFirm};
+ghost use Rattle.erase_journal.specs.Torn.{SameData};
 
 use crate::scan::is_blank;
 use nor_driver::{Nor, NorError};
@@ -24,6 +25,8 @@ pub(crate) fn program_again<N: Nor>(nor: &mut N, at: u32, bytes: &[u8]) -> Resul
     ensures same { (N.state nor.new).memory ≡ (N.state nor.old).memory }
     ensures firm { OnOk result (AreZerosFirm (bits_in (N.state nor.new)) at (length bytes.now)) }
     ensures firmer { IsFirmer (bits_in (N.state nor.old)) (bits_in (N.state nor.new)) }
+    ensures data { at + length bytes.now ≤ JOURNALS_END → SameData (bits_in (N.state nor.old))
+        (bits_in (N.state nor.new)) }
     ensures ends { EndsReady result (N.state nor.old) (N.state nor.new) }
 {
     nor.program(at, bytes)
@@ -36,6 +39,8 @@ fn program_page_again<N: Nor>(nor: &mut N, at: u32) -> Result<(), NorError>
     ensures same { (N.state nor.new).memory ≡ (N.state nor.old).memory }
     ensures firm { OnOk result (AreZerosFirm (bits_in (N.state nor.new)) at 256) }
     ensures firmer { IsFirmer (bits_in (N.state nor.old)) (bits_in (N.state nor.new)) }
+    ensures data { at + 256 ≤ JOURNALS_END → SameData (bits_in (N.state nor.old))
+        (bits_in (N.state nor.new)) }
     ensures ends { EndsReady result (N.state nor.old) (N.state nor.new) }
 {
     let mut bytes = [0; PAGE_LEN];
@@ -55,6 +60,8 @@ pub(crate) fn program_pages_again<N: Nor>(nor: &mut N, from: u32) -> Result<(), 
     ensures same { (N.state nor.new).memory ≡ (N.state nor.old).memory }
     ensures firm { OnOk result (AreZerosFirm (bits_in (N.state nor.new)) from 2048) }
     ensures firmer { IsFirmer (bits_in (N.state nor.old)) (bits_in (N.state nor.new)) }
+    ensures data { from + 2048 ≤ JOURNALS_END → SameData (bits_in (N.state nor.old))
+        (bits_in (N.state nor.new)) }
     ensures kept { OnOk result (OnlyMemoryChanges (N.state nor.old) (N.state nor.new)) }
     ensures fails { IfErr result (λ e. Refuses e (N.state nor.old) (N.state nor.new)) }
 {

@@ -14,6 +14,7 @@ ghost use Rattle.erase_journal.specs.Spending.{KeepsUse, SpendsFirmly, once_used
 ghost use Rattle.erase_journal.specs.Steps.{IsRestful, KeepsBlocks, SameNumbers, EndsSettled};
 ghost use Rattle.erase_journal.specs.Weak.{AreFirmJournals, AreRecoveredJournals, AreUsedForGood};
 ghost use Rattle.erase_journal.specs.Weak.{GivesUpLowest, IsUsedForGood};
+ghost use Rattle.erase_journal.specs.Torn.{SameData};
 
 use crate::again::{program_again, program_pages_again};
 use crate::block_erase::lowest_entry;
@@ -37,6 +38,7 @@ const LAST: u32 = ENTRY_LEN as u32 - 1;
 fn program_super_again<N: Nor>(nor: &mut N) -> Result<(), NorError>
     requires size { JOURNALS_END ≤ length (N.state nor.old).memory }
     ensures same { (N.state nor.new).memory ≡ (N.state nor.old).memory }
+    ensures data { SameData (bits_in (N.state nor.old)) (bits_in (N.state nor.new)) }
     ensures ends { EndsReady result (N.state nor.old) (N.state nor.new) }
 {
     let mut bytes = [0; SUPER_LEN];
@@ -59,6 +61,7 @@ fn close_page<N: Nor>(nor: &mut N, page: u16) -> Result<(), NorError>
         → bit_at (byte (N.state nor.new).memory i) k ≡ 0) }
     ensures cut { IsErrOf result NorError.Cut → IsHealthy (N.state nor.old).memory
         → KeepsBlocks (N.state nor.old).memory (N.state nor.new).memory }
+    ensures data { SameData (bits_in (N.state nor.old)) (bits_in (N.state nor.new)) }
     ensures size { length (N.state nor.new).memory ≡ length (N.state nor.old).memory }
     ensures ends { EndsSettled result (N.state nor.old) (N.state nor.new) }
 {
@@ -82,6 +85,7 @@ fn close_entries<N: Nor>(nor: &mut N) -> Result<(), NorError>
     ensures closed { OnOk result (AreUsedForGood (bits_in (N.state nor.new))) }
     ensures cut { IsErrOf result NorError.Cut
         → KeepsBlocks (N.state nor.old).memory (N.state nor.new).memory }
+    ensures data { SameData (bits_in (N.state nor.old)) (bits_in (N.state nor.new)) }
     ensures size { length (N.state nor.new).memory ≡ length (N.state nor.old).memory }
     ensures ends { EndsSettled result (N.state nor.old) (N.state nor.new) }
 {
@@ -105,6 +109,7 @@ fn give_up_entry<N: Nor>(nor: &mut N, known: &mut Known) -> Result<(), NorError>
         (bits_in (N.state nor.new))) }
     ensures cut { IsErrOf result NorError.Cut → IsHealthy (N.state nor.old).memory
         → KeepsBlocks (N.state nor.old).memory (N.state nor.new).memory }
+    ensures data { SameData (bits_in (N.state nor.old)) (bits_in (N.state nor.new)) }
     ensures size { length (N.state nor.new).memory ≡ length (N.state nor.old).memory }
     ensures ends { EndsSettled result (N.state nor.old) (N.state nor.new) }
 {
@@ -131,6 +136,7 @@ pub(crate) fn make_firm<N: Nor>(nor: &mut N, known: &mut Known) -> Result<(), No
         → OnOk result (AreFirmJournals (bits_in (N.state nor.new))) }
     ensures cut { IsErrOf result NorError.Cut → IsHealthy (N.state nor.old).memory
         → KeepsBlocks (N.state nor.old).memory (N.state nor.new).memory }
+    ensures data { SameData (bits_in (N.state nor.old)) (bits_in (N.state nor.new)) }
     ensures size { length (N.state nor.new).memory ≡ length (N.state nor.old).memory }
     ensures ends { EndsSettled result (N.state nor.old) (N.state nor.new) }
 {

@@ -11,6 +11,7 @@ ghost use Rattle.erase_journal.specs.Spending.{GivesUp, GivesUpEach};
 ghost use Rattle.erase_journal.specs.Steps.{KeepsBlocks, OneChanged};
 ghost use Rattle.erase_journal.specs.Votes.{first_spent, second_spent};
 ghost use Rattle.erase_journal.specs.Weak.{AreFirmOrFew, AreRecoveredVotes, InEachRegion};
+ghost use Rattle.erase_journal.specs.Torn.{SameData};
 
 use crate::known::Known;
 use crate::unused::{lasts, once_first_spent, once_second_spent};
@@ -33,6 +34,7 @@ fn give_up_first<N: Nor>(nor: &mut N, known: &mut Known, journal: JournalId) -> 
     ensures blocks { OnOk result (SameBlocks (N.state nor.old).memory (N.state nor.new).memory) }
     ensures cut { IsErrOf result NorError.Cut
         → KeepsBlocks (N.state nor.old).memory (N.state nor.new).memory }
+    ensures data { SameData (bits_in (N.state nor.old)) (bits_in (N.state nor.new)) }
     ensures size { length (N.state nor.new).memory ≡ length (N.state nor.old).memory }
     ensures kept { OnOk result (OnlyMemoryChanges (N.state nor.old) (N.state nor.new)) }
     ensures fails { IfErr result (λ e. Refuses e (N.state nor.old) (N.state nor.new)) }
@@ -68,6 +70,7 @@ fn give_up_second<N: Nor>(
     ensures blocks { OnOk result (SameBlocks (N.state nor.old).memory (N.state nor.new).memory) }
     ensures cut { IsErrOf result NorError.Cut
         → KeepsBlocks (N.state nor.old).memory (N.state nor.new).memory }
+    ensures data { SameData (bits_in (N.state nor.old)) (bits_in (N.state nor.new)) }
     ensures size { length (N.state nor.new).memory ≡ length (N.state nor.old).memory }
     ensures kept { OnOk result (OnlyMemoryChanges (N.state nor.old) (N.state nor.new)) }
     ensures fails { IfErr result (λ e. Refuses e (N.state nor.old) (N.state nor.new)) }
@@ -100,6 +103,7 @@ pub(crate) fn give_up_each<N: Nor>(nor: &mut N, known: &mut Known) -> Result<(),
     ensures blocks { OnOk result (SameBlocks (N.state nor.old).memory (N.state nor.new).memory) }
     ensures cut { IsErrOf result NorError.Cut
         → KeepsBlocks (N.state nor.old).memory (N.state nor.new).memory }
+    ensures data { SameData (bits_in (N.state nor.old)) (bits_in (N.state nor.new)) }
     ensures size { length (N.state nor.new).memory ≡ length (N.state nor.old).memory }
     ensures kept { OnOk result (OnlyMemoryChanges (N.state nor.old) (N.state nor.new)) }
     ensures fails { IfErr result (λ e. Refuses e (N.state nor.old) (N.state nor.new)) }

@@ -10,6 +10,7 @@ ghost use Rattle.erase_journal.specs.Known.{IsKnown};
 ghost use Rattle.erase_journal.specs.Spending.{HasSpare, HasVotesToSpare, Maintains, Refills};
 ghost use Rattle.erase_journal.specs.Spending.{RefillsAll, Spares, SparesAll};
 ghost use Rattle.erase_journal.specs.Steps.{IsRestful, KeepsBlocks, LosesFirmly};
+ghost use Rattle.erase_journal.specs.Torn.{SameData};
 ghost use Rattle.erase_journal.specs.Weak.{AreFirmOrFew, AreFirmVotes, InEachRegion, IsFirmJournal};
 
 use crate::journal_erase::{doom, renew};
@@ -57,6 +58,7 @@ pub(crate) fn maintain<N: Nor>(nor: &mut N) -> Result<Unused, NorError>
         → KeepsBlocks (N.state nor.old).memory (N.state nor.new).memory }
     ensures loses { IsErrOf result NorError.Cut
         → LosesFirmly (N.state nor.old) (N.state nor.new) }
+    ensures data { SameData (bits_in (N.state nor.old)) (bits_in (N.state nor.new)) }
     ensures size { length (N.state nor.new).memory ≡ length (N.state nor.old).memory }
     ensures ends { EndsReady result (N.state nor.old) (N.state nor.new) }
 {
@@ -83,6 +85,7 @@ fn refill<N: Nor>(nor: &mut N, known: &mut Known, journal: JournalId) -> Result<
     ensures blocks { OnOk result (SameBlocks (N.state nor.old).memory (N.state nor.new).memory) }
     ensures cut { IsErrOf result NorError.Cut
         → KeepsBlocks (N.state nor.old).memory (N.state nor.new).memory }
+    ensures data { SameData (bits_in (N.state nor.old)) (bits_in (N.state nor.new)) }
     ensures size { length (N.state nor.new).memory ≡ length (N.state nor.old).memory }
     ensures kept { OnOk result (OnlyMemoryChanges (N.state nor.old) (N.state nor.new)) }
     ensures fails { IfErr result (λ e. Refuses e (N.state nor.old) (N.state nor.new)) }
@@ -116,6 +119,7 @@ pub(crate) fn refill_each<N: Nor>(nor: &mut N, known: &mut Known) -> Result<(), 
     ensures blocks { OnOk result (SameBlocks (N.state nor.old).memory (N.state nor.new).memory) }
     ensures cut { IsErrOf result NorError.Cut
         → KeepsBlocks (N.state nor.old).memory (N.state nor.new).memory }
+    ensures data { SameData (bits_in (N.state nor.old)) (bits_in (N.state nor.new)) }
     ensures size { length (N.state nor.new).memory ≡ length (N.state nor.old).memory }
     ensures kept { OnOk result (OnlyMemoryChanges (N.state nor.old) (N.state nor.new)) }
     ensures fails { IfErr result (λ e. Refuses e (N.state nor.old) (N.state nor.new)) }
@@ -145,6 +149,7 @@ pub(crate) fn rest<N: Nor>(nor: &mut N, known: &mut Known) -> Result<(), NorErro
         ⊎ (N.state nor.new ≡ N.state nor.old)) }
     ensures loses { IsErrOf result NorError.Cut
         → LosesFirmly (N.state nor.old) (N.state nor.new) }
+    ensures data { SameData (bits_in (N.state nor.old)) (bits_in (N.state nor.new)) }
     ensures size { length (N.state nor.new).memory ≡ length (N.state nor.old).memory }
     ensures kept { OnOk result (OnlyMemoryChanges (N.state nor.old) (N.state nor.new)) }
     ensures fails { IfErr result (λ e. Refuses e (N.state nor.old) (N.state nor.new)) }
@@ -179,6 +184,7 @@ fn spare<N: Nor>(nor: &mut N, known: &mut Known, journal: JournalId) -> Result<(
     ensures blocks { OnOk result (SameBlocks (N.state nor.old).memory (N.state nor.new).memory) }
     ensures cut { IsErrOf result NorError.Cut
         → KeepsBlocks (N.state nor.old).memory (N.state nor.new).memory }
+    ensures data { SameData (bits_in (N.state nor.old)) (bits_in (N.state nor.new)) }
     ensures size { length (N.state nor.new).memory ≡ length (N.state nor.old).memory }
     ensures kept { OnOk result (OnlyMemoryChanges (N.state nor.old) (N.state nor.new)) }
     ensures fails { IfErr result (λ e. Refuses e (N.state nor.old) (N.state nor.new)) }
@@ -212,6 +218,7 @@ pub(crate) fn spare_each<N: Nor>(nor: &mut N, known: &mut Known) -> Result<(), N
     ensures blocks { OnOk result (SameBlocks (N.state nor.old).memory (N.state nor.new).memory) }
     ensures cut { IsErrOf result NorError.Cut
         → KeepsBlocks (N.state nor.old).memory (N.state nor.new).memory }
+    ensures data { SameData (bits_in (N.state nor.old)) (bits_in (N.state nor.new)) }
     ensures size { length (N.state nor.new).memory ≡ length (N.state nor.old).memory }
     ensures kept { OnOk result (OnlyMemoryChanges (N.state nor.old) (N.state nor.new)) }
     ensures fails { IfErr result (λ e. Refuses e (N.state nor.old) (N.state nor.new)) }

@@ -7,10 +7,11 @@ ghost use Rattle.nor_layout.specs.Votes.{byte_of};
 ghost use Rattle.erase_journal.specs.Journals.{votes_at};
 ghost use Rattle.erase_journal.specs.Scans.{IsFound};
 ghost use Rattle.erase_journal.specs.Steps.{OneChanged, PerhapsChanged, VoteInterrupted};
+ghost use Rattle.erase_journal.specs.Torn.{SameData};
 
 use crate::scan::lowest;
 use nor_driver::{Nor, NorError};
-use nor_layout::{REGION_LEN, Vote, vote_byte};
+use nor_layout::{JOURNALS_END, REGION_LEN, Vote, vote_byte};
 
 /// The lowest place in a region of a vote of this kind.
 fn find_vote<N: Nor>(nor: &mut N, region: u32, vote: Vote) -> Result<Option<u32>, NorError>
@@ -37,6 +38,8 @@ pub(crate) fn open_vote<N: Nor>(nor: &mut N, region: u32) -> Result<(), NorError
         → PerhapsChanged region 255 254 (N.state nor.old).memory (N.state nor.new).memory }
     ensures cut_bits { IsErrOf result NorError.Cut → VoteInterrupted region 255 254
         (bits_in (N.state nor.old)) (bits_in (N.state nor.new)) }
+    ensures data { region + REGION_LEN ≤ JOURNALS_END → SameData (bits_in (N.state nor.old))
+        (bits_in (N.state nor.new)) }
     ensures size { length (N.state nor.new).memory ≡ length (N.state nor.old).memory }
     ensures ends { EndsReady result (N.state nor.old) (N.state nor.new) }
 {
@@ -56,6 +59,8 @@ pub(crate) fn close_vote<N: Nor>(nor: &mut N, region: u32) -> Result<(), NorErro
         → PerhapsChanged region 254 252 (N.state nor.old).memory (N.state nor.new).memory }
     ensures cut_bits { IsErrOf result NorError.Cut → VoteInterrupted region 254 252
         (bits_in (N.state nor.old)) (bits_in (N.state nor.new)) }
+    ensures data { region + REGION_LEN ≤ JOURNALS_END → SameData (bits_in (N.state nor.old))
+        (bits_in (N.state nor.new)) }
     ensures size { length (N.state nor.new).memory ≡ length (N.state nor.old).memory }
     ensures ends { EndsReady result (N.state nor.old) (N.state nor.new) }
 {
@@ -73,6 +78,8 @@ pub(crate) fn give_up_vote<N: Nor>(nor: &mut N, region: u32) -> Result<(), NorEr
         (N.state nor.new).memory) }
     ensures cut { IsErrOf result NorError.Cut
         → PerhapsChanged region 255 253 (N.state nor.old).memory (N.state nor.new).memory }
+    ensures data { region + REGION_LEN ≤ JOURNALS_END → SameData (bits_in (N.state nor.old))
+        (bits_in (N.state nor.new)) }
     ensures size { length (N.state nor.new).memory ≡ length (N.state nor.old).memory }
     ensures ends { EndsReady result (N.state nor.old) (N.state nor.new) }
 {

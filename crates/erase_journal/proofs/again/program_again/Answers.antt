@@ -2,6 +2,8 @@ use Rattle.erase_journal.proofs.SameBytes.{and-same, again-same}
 use Rattle.erase_journal.proofs.WeakLaws.{again-firm}
 use Rattle.erase_journal.proofs.Still.{again-firmer}
 use Rattle.nor_driver.specs.State.{bits_in}
+use Rattle.std.proofs.Common.{arith, inr}
+use Rattle.erase_journal.proofs.Torn.{program-aside}
 use Rattle.erase_journal.proofs.again.program_again.Goals as goal
 
 pub returns-clause-same : goal.returns-clause-same
@@ -25,3 +27,6 @@ returns-clause-firmer g c =
     c.program.ensures.ok c.program.ensures.cut c.program.ensures.slow in
     again-firmer (bits_in (g.N.Nor.state c.args.nor.now)) (bits_in (g.N.Nor.state c.program.new.self)) c.args.at c.args.bytes.now c.program.result is same
     c.program.ensures.firm c.program.ensures.cut_bits c.program.ensures.slow_bits
+
+pub returns-clause-data : goal.returns-clause-data
+returns-clause-data g c low i from = program-aside c.program.result (g.N.Nor.state c.args.nor.now) (g.N.Nor.state c.program.new.self) c.args.at c.args.bytes.now c.program.ensures.firm c.program.ensures.cut_bits c.program.ensures.slow c.program.ensures.slow_bits i (inr (omega (arith, low, from)))

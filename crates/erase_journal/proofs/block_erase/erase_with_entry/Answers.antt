@@ -8,6 +8,8 @@ use Rattle.erase_journal.specs.Spending.{once_used}
 use Rattle.erase_journal.proofs.Uses.{used-then}
 use Rattle.erase_journal.proofs.Lasting.{same-on}
 use Rattle.erase_journal.proofs.Knowing.{used-known}
+use Rattle.nor_driver.specs.State.{bits_in}
+use Rattle.erase_journal.proofs.Torn.{interrupted-since}
 use Rattle.erase_journal.proofs.block_erase.erase_with_entry.Goals as goal
 
 pub returns-in_err-entry-clause-cut : goal.returns-in_err-entry-clause-cut
@@ -49,3 +51,9 @@ returns-clause-ends g c =
       kept = kept-after s0 s1 s2 c.in_ok-entry.ensures.ends.kept c.in_ok-finish_entry.ensures.ends.kept;
       settled = c.in_ok-finish_entry.ensures.ends.settled;
     }
+
+pub returns-in_err-finish_entry-clause-cut_bits : goal.returns-in_err-finish_entry-clause-cut_bits
+returns-in_err-finish_entry-clause-cut_bits g c is settled h =
+    let p = err_from_is_err_and c.from_residual-in_err-finish_entry.result c.from_residual-in_err-finish_entry.ensures.1 in
+    interrupted-since (bits_in (g.N.Nor.state c.args.nor.now)) (bits_in (g.N.Nor.state c.open_entry.new.nor)) (bits_in (g.N.Nor.state c.finish_entry.new.nor)) c.args.block c.requires.data c.in_ok-entry.ensures.data
+    (c.in_err-finish_entry.ensures.cut_bits (cc (p.1, p.2)) (c.in_ok-entry.ensures.stays h))

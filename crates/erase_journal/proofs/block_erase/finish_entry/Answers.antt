@@ -12,6 +12,9 @@ use Rattle.erase_journal.proofs.Standing.{block-firm}
 use Rattle.chip_model.specs.Wavering.{Bits}
 use Rattle.erase_journal.specs.Weak.{AreFirm}
 use Rattle.erase_journal.proofs.WeakLaws.{are-firm-stays, erase-firm}
+use Rattle.std.proofs.Common.{inr, [], ◌∷◌, ◌+◌, ◌≤◌, length}
+use Rattle.erase_journal.proofs.Torn.{erase-aside, erase-opened, erased-interrupted, program-aside, same-after}
+use Rattle.erase_journal.specs.Torn.{opened}
 use Rattle.erase_journal.proofs.block_erase.finish_entry.Goals as goal
 
 pub returns-in_err-erase_small-clause-cut : goal.returns-in_err-erase_small-clause-cut
@@ -75,3 +78,49 @@ returns-clause-firm g c =
     let s2 = g.N.Nor.state c.program.new.self in
     are-firm-stays (bits_in s1) (bits_in s2) (4096 * c.args.block) 4096 c.in_ok-program.ensures.kept.bits
     (subst (λ (b : Bits). AreFirm b.weak (4096 * c.args.block) 4096) (sym c.in_ok-erase_small.ensures.firm) (erase-firm s0.weak (4096 * c.args.block) 4096))
+
+pub returns-in_err-erase_small-clause-beside : goal.returns-in_err-erase_small-clause-beside
+returns-in_err-erase_small-clause-beside g c i from out =
+    let s0 = g.N.Nor.state c.args.nor.now in
+    let s1 = g.N.Nor.state c.erase_small.new.self in
+    let first = erase-aside c.erase_small.result s0 s1 (4096 * c.args.block) 4096 c.erase_small.ensures.firm c.erase_small.ensures.cut_bits c.erase_small.ensures.slow c.erase_small.ensures.slow_bits i out in
+    first
+
+pub returns-in_err-program-clause-beside : goal.returns-in_err-program-clause-beside
+returns-in_err-program-clause-beside g c i from out =
+    let s0 = g.N.Nor.state c.args.nor.now in
+    let s1 = g.N.Nor.state c.erase_small.new.self in
+    let first = erase-aside c.erase_small.result s0 s1 (4096 * c.args.block) 4096 c.erase_small.ensures.firm c.erase_small.ensures.cut_bits c.erase_small.ensures.slow c.erase_small.ensures.slow_bits i out in
+    let s2 = g.N.Nor.state c.program.new.self in
+    let place = c.entry_place.ensures in
+    let w = c.requires.opened.within in
+    same-after (bits_in s0) (bits_in s1) (bits_in s2) i first (program-aside c.program.result s1 s2 c.entry_place.result (248 ∷ []) c.program.ensures.firm c.program.ensures.cut_bits c.program.ensures.slow c.program.ensures.slow_bits i (inr (omega (arith, from, place, w))))
+
+pub returns-clause-beside : goal.returns-clause-beside
+returns-clause-beside g c i from out =
+    let s0 = g.N.Nor.state c.args.nor.now in
+    let s1 = g.N.Nor.state c.erase_small.new.self in
+    let first = erase-aside c.erase_small.result s0 s1 (4096 * c.args.block) 4096 c.erase_small.ensures.firm c.erase_small.ensures.cut_bits c.erase_small.ensures.slow c.erase_small.ensures.slow_bits i out in
+    let s2 = g.N.Nor.state c.program.new.self in
+    let place = c.entry_place.ensures in
+    let w = c.requires.opened.within in
+    same-after (bits_in s0) (bits_in s1) (bits_in s2) i first (program-aside c.program.result s1 s2 c.entry_place.result (248 ∷ []) c.program.ensures.firm c.program.ensures.cut_bits c.program.ensures.slow c.program.ensures.slow_bits i (inr (omega (arith, from, place, w))))
+
+pub returns-in_err-erase_small-clause-cut_bits : goal.returns-in_err-erase_small-clause-cut_bits
+returns-in_err-erase_small-clause-cut_bits g c is h =
+    let p = err_from_is_err_and c.from_residual.result c.from_residual.ensures.1 in
+    let l = c.in_err-erase_small.ensures.cut_bits (cc (p.1, p.2)) in
+    opened (λ v w. erase-opened (bits_in (g.N.Nor.state c.args.nor.now)) (bits_in (g.N.Nor.state c.erase_small.new.self)) h c.args.entry c.args.block c.requires.opened c.requires.data l v w)
+
+pub returns-in_err-program-clause-cut_bits : goal.returns-in_err-program-clause-cut_bits
+returns-in_err-program-clause-cut_bits g c is h =
+    let s0 = g.N.Nor.state c.args.nor.now in
+    let s1 = g.N.Nor.state c.erase_small.new.self in
+    let s2 = g.N.Nor.state c.program.new.self in
+    let place = c.entry_place.ensures in
+    let w = c.requires.opened.within in
+    let b = block-ok c.args.entry c.args.block s0.memory s1.memory c.requires.opened c.requires.data (omega arith) c.in_ok-erase_small.ensures.ok in
+    let long : 4096 * c.args.block + 4096 ≤ length s1.memory = rw b.blocks.chip.same_length (omega arith) in
+    erased-interrupted (bits_in s0) (bits_in s1) (bits_in s2) c.args.block c.requires.data long b.bytes
+    (subst (λ (x : Bits). AreFirm x.weak (4096 * c.args.block) 4096) (sym c.in_ok-erase_small.ensures.firm) (erase-firm s0.weak (4096 * c.args.block) 4096))
+    (λ i from. program-aside c.program.result s1 s2 c.entry_place.result (248 ∷ []) c.program.ensures.firm c.program.ensures.cut_bits c.program.ensures.slow c.program.ensures.slow_bits i (inr (omega (arith, from, place, w))))

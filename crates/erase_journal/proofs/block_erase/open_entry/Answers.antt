@@ -13,6 +13,9 @@ use Rattle.erase_journal.proofs.EntryCalls.{taken-settled}
 use Rattle.erase_journal.proofs.EntryCuts as cuts
 use Rattle.erase_journal.proofs.SettledLaws.{settled-healthy}
 use Rattle.erase_journal.proofs.Standing.{entry-firm, firm-as-before, same-loses}
+use Rattle.std.proofs.Common.{inr}
+use Rattle.chip_model.specs.Memory.{byte}
+use Rattle.erase_journal.proofs.Torn.{program-aside, same-after}
 use Rattle.erase_journal.proofs.block_erase.open_entry.Goals as goal
 
 pub returns-in_err-program-clause-cut : goal.returns-in_err-program-clause-cut
@@ -109,3 +112,25 @@ returns-clause-stays g c h =
     let h2 = entry-firm (bits_in s1) (bits_in s2) (entry_at i) 4 (omega arith) (omega (arith, within)) c.in_ok-take_entry.ensures.ends.kept.bits c.in_ok-take_entry.ensures.ok.spoiled h1 in
     let e = rw c.entry_place.ensures at c.in_ok-program.ensures.ok in
     entry-firm (bits_in s2) (bits_in s3) (entry_at i) 1 (omega arith) (omega (arith, within)) c.in_ok-program.ensures.kept.bits (subst (λ (m : List ℕ). Spoiled (entry_at i) 1 s2.memory m) (sym e) (and-spoiled s2.memory (entry_at i) (252 ∷ []))) h2
+
+pub returns-in_err-program-clause-data : goal.returns-in_err-program-clause-data
+returns-in_err-program-clause-data g c i from =
+    let s0 = g.N.Nor.state c.args.nor.now in
+    let s1 = g.N.Nor.state c.lowest_entry.new.nor in
+    let s2 = g.N.Nor.state c.take_entry.new.nor in
+    let s3 = g.N.Nor.state c.program.new.self in
+    let place = c.entry_place.ensures in
+    let w = c.in_ok-entry.ensures.within in
+    let s = program-aside c.program.result s2 s3 c.entry_place.result (252 ∷ []) c.program.ensures.firm c.program.ensures.cut_bits c.program.ensures.slow c.program.ensures.slow_bits i (inr (omega (arith, from, place, w))) in
+    same-after (bits_in s0) (bits_in s2) (bits_in s3) i (same-after (bits_in s0) (bits_in s1) (bits_in s2) i (ap (λ m. byte m i) c.in_ok-entry.ensures.same, ap (λ m. byte m i) c.in_ok-entry.ensures.weak) (c.in_ok-take_entry.ensures.data i from)) s
+
+pub returns-clause-data : goal.returns-clause-data
+returns-clause-data g c i from =
+    let s0 = g.N.Nor.state c.args.nor.now in
+    let s1 = g.N.Nor.state c.lowest_entry.new.nor in
+    let s2 = g.N.Nor.state c.take_entry.new.nor in
+    let s3 = g.N.Nor.state c.program.new.self in
+    let place = c.entry_place.ensures in
+    let w = c.in_ok-entry.ensures.within in
+    let s = program-aside c.program.result s2 s3 c.entry_place.result (252 ∷ []) c.program.ensures.firm c.program.ensures.cut_bits c.program.ensures.slow c.program.ensures.slow_bits i (inr (omega (arith, from, place, w))) in
+    same-after (bits_in s0) (bits_in s2) (bits_in s3) i (same-after (bits_in s0) (bits_in s1) (bits_in s2) i (ap (λ m. byte m i) c.in_ok-entry.ensures.same, ap (λ m. byte m i) c.in_ok-entry.ensures.weak) (c.in_ok-take_entry.ensures.data i from)) s

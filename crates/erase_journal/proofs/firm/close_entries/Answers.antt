@@ -5,6 +5,7 @@ use Rattle.erase_journal.specs.Steps.{SucceedsSettled}
 use Rattle.erase_journal.proofs.Renewal.{same-blocks-on}
 use Rattle.erase_journal.proofs.Uses.{keeps-on}
 use Rattle.erase_journal.proofs.FirmJournals.{page-good}
+use Rattle.erase_journal.proofs.Torn.{same-after}
 use Rattle.erase_journal.proofs.firm.close_entries.Goals as goal
 
 pub returns-in_err-close_page-clause-ends : goal.returns-in_err-close_page-clause-ends
@@ -27,8 +28,15 @@ loop-page-preserved g c =
       blocks = same-blocks-on s0.memory s1.memory s2.memory c.loop-page.invariant.blocks c.in_ok-close_page.ensures.blocks;
       uses = keeps-on s0.memory s1.memory s2.memory c.loop-page.invariant.uses c.in_ok-close_page.ensures.uses;
       closed = page-good (bits_in s1) (bits_in s2) c.loop-page.page c.in_ok-close_page.ensures.ends.kept.bits c.in_ok-close_page.ensures.clears c.in_ok-close_page.ensures.uses.entries c.in_ok-close_page.ensures.closed c.loop-page-test.true c.loop-page.invariant.closed;
+      aside = λ i from. same-after (bits_in s0) (bits_in s1) (bits_in s2) i (c.loop-page.invariant.aside i from) (c.close_page.ensures.data i from);
       kept = kept-after s0 s1 s2 c.loop-page.invariant.kept c.in_ok-close_page.ensures.ends.kept;
     }
 
 pub returns-clause-closed : goal.returns-clause-closed
 returns-clause-closed g c i low used = c.loop-page.invariant.closed i (omega (arith, c.loop-page-test.false, low)) used
+
+pub returns-in_err-close_page-clause-data : goal.returns-in_err-close_page-clause-data
+returns-in_err-close_page-clause-data g c i from = same-after (bits_in (g.N.Nor.state c.args.nor.now)) (bits_in (g.N.Nor.state c.loop-page.nor)) (bits_in (g.N.Nor.state c.close_page.new.nor)) i (c.loop-page.invariant.aside i from) (c.close_page.ensures.data i from)
+
+pub returns-clause-data : goal.returns-clause-data
+returns-clause-data g c = c.loop-page.invariant.aside

@@ -9,6 +9,8 @@ use Rattle.erase_journal.proofs.Closing.{page-done, closed-cut}
 use Rattle.erase_journal.proofs.SettledLaws.{settled-of, settled-then, ends-settled}
 use Rattle.erase_journal.specs.Scans.{is_free_in}
 use Rattle.erase_journal.proofs.FirmJournals.{free-read, program-clears, programmed-good}
+use Rattle.std.proofs.Common.{inr}
+use Rattle.erase_journal.proofs.Torn.{program-aside}
 use Rattle.erase_journal.proofs.firm.close_page.Goals as goal
 
 pub returns-clause-blocks : goal.returns-clause-blocks
@@ -91,3 +93,11 @@ pub returns-clause-clears : goal.returns-clause-clears
 returns-clause-clears g c =
     let m = (g.N.Nor.state c.args.nor.now).memory in
     on_ok_weaker c.program.result (λ e. λ i k reads. ap (λ z. bit_at (byte z i) k) e ∙ program-clears m c.entry_place-at.result c.close_used.new.bytes i k reads) (rw c.in_ok-read.ensures.same at c.program.ensures.ok)
+
+pub returns-clause-data : goal.returns-clause-data
+returns-clause-data g c i from =
+    let at = c.entry_place-at.ensures in
+    let page = c.requires.page in
+    let size : length c.close_used.new.bytes ≡ 256 = omega (arith, c.close_used.ensures.size, c.read.auto.into) in
+    let s = program-aside c.program.result (g.N.Nor.state c.read.new.self) (g.N.Nor.state c.program.new.self) c.entry_place-at.result c.close_used.new.bytes c.program.ensures.firm c.program.ensures.cut_bits c.program.ensures.slow c.program.ensures.slow_bits i (inr (omega (arith, at, page, size, from))) in
+    (s.0 ∙ ap (λ m. byte m i) c.in_ok-read.ensures.same, s.1 ∙ ap (λ m. byte m i) c.in_ok-read.ensures.weak)

@@ -9,6 +9,8 @@ use Rattle.erase_journal.proofs.Knowing.{used-known}
 use Rattle.erase_journal.proofs.Renewal.{stands-refl}
 use Rattle.erase_journal.proofs.Ready.{cut-or-ready}
 use Rattle.erase_journal.proofs.FirmJournals.{programmed-good}
+use Rattle.chip_model.specs.Memory.{byte}
+use Rattle.erase_journal.proofs.Torn.{program-aside}
 use Rattle.erase_journal.proofs.firm.give_up_entry.Goals as goal
 
 pub returns-in_err-program-clause-cut : goal.returns-in_err-program-clause-cut
@@ -88,3 +90,17 @@ returns-clause-gives g c =
       lowest = record { within = c.in_ok-entry.ensures.within; free = c.in_ok-entry.ensures.free ready; below = c.in_ok-entry.ensures.lowest ready };
       used = programmed-good (bits_in s1) (bits_in s2) (c.entry_place.result + 3) (0 ∷ []) c.in_ok-entry.entry 0 c.in_ok-program.ensures.firm (omega (arith, c.entry_place.ensures)) (lit< tt) (lit< tt) (λ e. omega (arith, e));
     }
+
+pub returns-in_err-program-clause-data : goal.returns-in_err-program-clause-data
+returns-in_err-program-clause-data g c i from =
+    let place = c.entry_place.ensures in
+    let w = c.in_ok-entry.ensures.within in
+    let s = program-aside c.program.result (g.N.Nor.state c.lowest_entry.new.nor) (g.N.Nor.state c.program.new.self) (c.entry_place.result + 3) (0 ∷ []) c.program.ensures.firm c.program.ensures.cut_bits c.program.ensures.slow c.program.ensures.slow_bits i (inr (omega (arith, from, place, w))) in
+    (s.0 ∙ ap (λ m. byte m i) c.in_ok-entry.ensures.same, s.1 ∙ ap (λ m. byte m i) c.in_ok-entry.ensures.weak)
+
+pub returns-clause-data : goal.returns-clause-data
+returns-clause-data g c i from =
+    let place = c.entry_place.ensures in
+    let w = c.in_ok-entry.ensures.within in
+    let s = program-aside c.program.result (g.N.Nor.state c.lowest_entry.new.nor) (g.N.Nor.state c.program.new.self) (c.entry_place.result + 3) (0 ∷ []) c.program.ensures.firm c.program.ensures.cut_bits c.program.ensures.slow c.program.ensures.slow_bits i (inr (omega (arith, from, place, w))) in
+    (s.0 ∙ ap (λ m. byte m i) c.in_ok-entry.ensures.same, s.1 ∙ ap (λ m. byte m i) c.in_ok-entry.ensures.weak)

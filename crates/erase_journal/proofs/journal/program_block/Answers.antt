@@ -1,5 +1,5 @@
 use Rattle.erase_journal.proofs.Data.{program-bytes, program-settled, program-only, program-leaves, program-healthy}
-use Rattle.std.proofs.Common.{◌+◌, ◌*◌, length, arith, ap}
+use Rattle.std.proofs.Common.{◌+◌, ◌*◌, length, arith}
 use Rattle.std.proofs.lemmas.Result.{on_ok_weaker}
 use Rattle.nor_driver.proofs.CallLaws.{refuses-of}
 use Rattle.erase_journal.proofs.Effects.{and-spoiled}
@@ -7,7 +7,6 @@ use Rattle.erase_journal.proofs.SettledLaws.{settled-of, ends-settled}
 use Rattle.erase_journal.proofs.Uses.{data-keeps}
 use Rattle.erase_journal.proofs.Knowing.{kept-known}
 use Rattle.nor_driver.specs.State.{bits_in}
-use Rattle.chip_model.specs.Wavering.{Bits}
 use Rattle.erase_journal.proofs.EntryCuts.{data-cut}
 use Rattle.erase_journal.proofs.journal.program_block.Goals as goal
 
@@ -44,6 +43,3 @@ returns-clause-known g c known =
 pub returns-clause-loses : goal.returns-clause-loses
 returns-clause-loses g c is settled h =
     data-cut (bits_in (g.N.Nor.state c.args.nor.now)) (bits_in (g.N.Nor.state c.program.new.self)) h settled.sound (4096 * c.args.block + c.args.at) c.args.bytes.now (omega arith) (c.program.ensures.cut_bits is)
-
-pub returns-clause-firm : goal.returns-clause-firm
-returns-clause-firm g c = on_ok_weaker c.program.result (λ e. ap (λ (b : Bits). b.weak) e) c.program.ensures.firm

@@ -15,6 +15,8 @@ use Rattle.nor_layout.specs.Journals.{first_at, second_at}
 use Rattle.std.proofs.Common.{arith}
 use Rattle.erase_journal.proofs.Cuts.{journal-cut}
 use Rattle.erase_journal.proofs.Standing.{erased-firm, first-close-loses, first-region, second-close-loses, second-region, vote-firm}
+use Rattle.std.proofs.Common.{inr}
+use Rattle.erase_journal.proofs.Torn.{erase-aside, journals-below, same-after, votes-below}
 use Rattle.erase_journal.proofs.journal_erase.renew.Goals as goal
 
 pub returns-in_err-erase_small-clause-cut : goal.returns-in_err-erase_small-clause-cut
@@ -162,3 +164,57 @@ returns-clause-stays g c h =
     let h2 = vote-firm (bits_in s1) (bits_in s2) (first_at x) 254 252 (first-region x) (omega arith) c.in_ok-close_vote.ensures.ends.kept.bits q h1 in
     let r = rw c.second_votes-second.ensures at c.in_ok-close_vote-2.ensures.ok in
     vote-firm (bits_in s2) (bits_in (g.N.Nor.state c.close_vote-2.new.nor)) (second_at x) 254 252 (second-region x) (omega arith) c.in_ok-close_vote-2.ensures.ends.kept.bits r h2
+
+pub returns-in_err-erase_small-clause-data : goal.returns-in_err-erase_small-clause-data
+returns-in_err-erase_small-clause-data g c i from =
+    let s0 = g.N.Nor.state c.args.nor.now in
+    let s1 = g.N.Nor.state c.erase_small.new.self in
+    let at = c.place.ensures in
+    let low = journals-below c.args.journal in
+    let first = erase-aside c.erase_small.result s0 s1 c.place.result 4096 c.erase_small.ensures.firm c.erase_small.ensures.cut_bits c.erase_small.ensures.slow c.erase_small.ensures.slow_bits i (inr (omega (arith, from, at, low))) in
+    first
+
+pub returns-in_err-close_vote-clause-data : goal.returns-in_err-close_vote-clause-data
+returns-in_err-close_vote-clause-data g c i from =
+    let s0 = g.N.Nor.state c.args.nor.now in
+    let s1 = g.N.Nor.state c.erase_small.new.self in
+    let at = c.place.ensures in
+    let low = journals-below c.args.journal in
+    let first = erase-aside c.erase_small.result s0 s1 c.place.result 4096 c.erase_small.ensures.firm c.erase_small.ensures.cut_bits c.erase_small.ensures.slow c.erase_small.ensures.slow_bits i (inr (omega (arith, from, at, low))) in
+    let s2 = g.N.Nor.state c.close_vote.new.nor in
+    let v1 = c.first_votes-first.ensures in
+    let low1 = (votes-below c.args.journal).0 in
+    let second = same-after (bits_in s0) (bits_in s1) (bits_in s2) i first (c.close_vote.ensures.data (omega (arith, v1, low1)) i from) in
+    second
+
+pub returns-in_err-close_vote-2-clause-data : goal.returns-in_err-close_vote-2-clause-data
+returns-in_err-close_vote-2-clause-data g c i from =
+    let s0 = g.N.Nor.state c.args.nor.now in
+    let s1 = g.N.Nor.state c.erase_small.new.self in
+    let at = c.place.ensures in
+    let low = journals-below c.args.journal in
+    let first = erase-aside c.erase_small.result s0 s1 c.place.result 4096 c.erase_small.ensures.firm c.erase_small.ensures.cut_bits c.erase_small.ensures.slow c.erase_small.ensures.slow_bits i (inr (omega (arith, from, at, low))) in
+    let s2 = g.N.Nor.state c.close_vote.new.nor in
+    let v1 = c.first_votes-first.ensures in
+    let low1 = (votes-below c.args.journal).0 in
+    let second = same-after (bits_in s0) (bits_in s1) (bits_in s2) i first (c.close_vote.ensures.data (omega (arith, v1, low1)) i from) in
+    let s3 = g.N.Nor.state c.close_vote-2.new.nor in
+    let v2 = c.second_votes-second.ensures in
+    let low2 = (votes-below c.args.journal).1 in
+    same-after (bits_in s0) (bits_in s2) (bits_in s3) i second (c.close_vote-2.ensures.data (omega (arith, v2, low2)) i from)
+
+pub returns-clause-data : goal.returns-clause-data
+returns-clause-data g c i from =
+    let s0 = g.N.Nor.state c.args.nor.now in
+    let s1 = g.N.Nor.state c.erase_small.new.self in
+    let at = c.place.ensures in
+    let low = journals-below c.args.journal in
+    let first = erase-aside c.erase_small.result s0 s1 c.place.result 4096 c.erase_small.ensures.firm c.erase_small.ensures.cut_bits c.erase_small.ensures.slow c.erase_small.ensures.slow_bits i (inr (omega (arith, from, at, low))) in
+    let s2 = g.N.Nor.state c.close_vote.new.nor in
+    let v1 = c.first_votes-first.ensures in
+    let low1 = (votes-below c.args.journal).0 in
+    let second = same-after (bits_in s0) (bits_in s1) (bits_in s2) i first (c.close_vote.ensures.data (omega (arith, v1, low1)) i from) in
+    let s3 = g.N.Nor.state c.close_vote-2.new.nor in
+    let v2 = c.second_votes-second.ensures in
+    let low2 = (votes-below c.args.journal).1 in
+    same-after (bits_in s0) (bits_in s2) (bits_in s3) i second (c.close_vote-2.ensures.data (omega (arith, v2, low2)) i from)

@@ -11,6 +11,8 @@ use Rattle.std.proofs.lemmas.Result.{err_from_is_err_and}
 use Rattle.nor_driver.specs.State.{bits_in}
 use Rattle.erase_journal.proofs.FirmJournals.{firm-journals-stay}
 use Rattle.erase_journal.proofs.Standing.{same-loses}
+use Rattle.chip_model.specs.Memory.{byte}
+use Rattle.erase_journal.proofs.Torn.{same-after}
 use Rattle.erase_journal.proofs.maintain.maintain.Goals as goal
 
 pub doom-requires-clause-may : goal.doom-requires-clause-may
@@ -40,6 +42,7 @@ loop-journal-preserved g c =
       blocks = search rules;
       maintains = λ rest h. c.loop-journal.invariant.maintains rest (maintains-on rest u v c.in-Some.journal tired n (subst (λ w. Maintains rest w) same h));
       since = kept-after s0 s3 s4 (kept-after s0 s2 s3 (kept-after s0 s1 s2 c.loop-journal.invariant.since c.in_ok-doom.ensures.ends.kept) c.in_ok-renew.ensures.ends.kept) c.in_ok-tally-2.ensures.ends.kept;
+      aside = λ i from. same-after (bits_in s0) (bits_in s3) (bits_in s4) i (same-after (bits_in s0) (bits_in s2) (bits_in s3) i (same-after (bits_in s0) (bits_in s1) (bits_in s2) i (c.loop-journal.invariant.aside i from) (c.in_ok-doom.ensures.data i from)) (c.in_ok-renew.ensures.data i from)) (ap (λ m. byte m i) c.in_ok-tally-2.ensures.same, ap (λ m. byte m i) c.in_ok-tally-2.ensures.weak);
       tally = search rules;
     }
 
@@ -99,3 +102,26 @@ returns-in_err-tally-2-clause-loses g c is settled h =
     let h1 = firm-journals-stay (bits_in (g.N.Nor.state c.args.nor.now)) (bits_in (g.N.Nor.state c.loop-journal.nor)) c.loop-journal.invariant.since.bits settled c.loop-journal.invariant.settled h in
     same-loses (g.N.Nor.state c.renew.new.nor) (g.N.Nor.state c.read_tally-in-Some.new.nor) c.in_err-tally-2.ensures.same c.in_err-tally-2.ensures.weak
     (record { sound = c.in_ok-renew.ensures.ok.sound; none = c.in_ok-renew.ensures.none }) (c.in_ok-renew.ensures.stays (c.in_ok-doom.ensures.stays h1))
+
+pub returns-in_err-doom-clause-data : goal.returns-in_err-doom-clause-data
+returns-in_err-doom-clause-data g c i from = same-after (bits_in (g.N.Nor.state c.args.nor.now)) (bits_in (g.N.Nor.state c.loop-journal.nor)) (bits_in (g.N.Nor.state c.doom.new.nor)) i (c.loop-journal.invariant.aside i from) (c.doom.ensures.data i from)
+
+pub returns-in_err-renew-clause-data : goal.returns-in_err-renew-clause-data
+returns-in_err-renew-clause-data g c i from =
+    let s0 = bits_in (g.N.Nor.state c.args.nor.now) in
+    let s1 = bits_in (g.N.Nor.state c.loop-journal.nor) in
+    let s2 = bits_in (g.N.Nor.state c.doom.new.nor) in
+    let s3 = bits_in (g.N.Nor.state c.renew.new.nor) in
+    same-after s0 s2 s3 i (same-after s0 s1 s2 i (c.loop-journal.invariant.aside i from) (c.doom.ensures.data i from)) (c.renew.ensures.data i from)
+
+pub returns-in_err-tally-2-clause-data : goal.returns-in_err-tally-2-clause-data
+returns-in_err-tally-2-clause-data g c i from =
+    let s0 = bits_in (g.N.Nor.state c.args.nor.now) in
+    let s1 = bits_in (g.N.Nor.state c.loop-journal.nor) in
+    let s2 = bits_in (g.N.Nor.state c.doom.new.nor) in
+    let s3 = bits_in (g.N.Nor.state c.renew.new.nor) in
+    let s4 = bits_in (g.N.Nor.state c.read_tally-in-Some.new.nor) in
+    same-after s0 s3 s4 i (same-after s0 s2 s3 i (same-after s0 s1 s2 i (c.loop-journal.invariant.aside i from) (c.doom.ensures.data i from)) (c.renew.ensures.data i from)) (ap (λ m. byte m i) c.read_tally-in-Some.ensures.same, ap (λ m. byte m i) c.read_tally-in-Some.ensures.weak)
+
+pub returns-clause-data : goal.returns-clause-data
+returns-clause-data g c = c.loop-journal.invariant.aside

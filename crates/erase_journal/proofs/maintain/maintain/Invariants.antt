@@ -1,5 +1,6 @@
 use Rattle.std.proofs.Common.{◌≡◌, ◌≤◌, length}
-use Rattle.nor_driver.specs.State.{OnlyMemoryChanges}
+use Rattle.nor_driver.specs.State.{OnlyMemoryChanges, bits_in}
+use Rattle.erase_journal.specs.Torn.{SameData}
 use Rattle.erase_journal.specs.Journals.{IsSettled, tally_of, unused, unused_of}
 use Rattle.erase_journal.specs.declared.unused.Unused.{Unused}
 use Rattle.erase_journal.specs.Spending.{Maintains}
@@ -14,6 +15,7 @@ invariant-loop-journal g l = record {
   blocks : SameBlocks (g.N.Nor.state l.fn.nor).memory (g.N.Nor.state l.nor).memory;
   maintains : (rest : Unused) → Maintains rest (unused (g.N.Nor.state l.nor).memory) → Maintains rest (unused (g.N.Nor.state l.fn.nor).memory);
   since : OnlyMemoryChanges (g.N.Nor.state l.fn.nor) (g.N.Nor.state l.nor);
+  aside : SameData (bits_in (g.N.Nor.state l.fn.nor)) (bits_in (g.N.Nor.state l.nor));
   tally : l.tally ≡ tally_of (g.N.Nor.state l.nor).memory;
 }
 

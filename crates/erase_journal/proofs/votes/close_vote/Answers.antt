@@ -4,6 +4,9 @@ use Rattle.std.proofs.lemmas.Result.{on_ok_weaker}
 use Rattle.nor_driver.proofs.CallLaws.{succeeds-then, refuses-then, ends-of}
 use Rattle.erase_journal.proofs.Effects.{bit-close}
 use Rattle.erase_journal.proofs.VoteCalls.{set-ok, set-cut, set-cut-bits}
+use Rattle.std.proofs.Common.{inr, ap, ◌+◌, ◌∙◌}
+use Rattle.chip_model.specs.Memory.{byte}
+use Rattle.erase_journal.proofs.Torn.{program-aside}
 use Rattle.erase_journal.proofs.votes.close_vote.Goals as goal
 
 pub unreachable-requires : goal.unreachable-requires
@@ -38,3 +41,11 @@ returns-clause-cut_bits g c is_cut =
     let h = rw c.in-Some.is at c.in_ok-found.ensures.found in
     set-cut-bits (state c.args.nor.now) (state c.find_vote.new.nor) (state c.program.new.self) c.args.region c.in-Some.place 254 252
     c.in_ok-found.ensures.same c.in_ok-found.ensures.weak h.0 h.1 h.2 (rw c.vote_byte.ensures.exact at (c.program.ensures.cut_bits is_cut))
+
+pub returns-clause-data : goal.returns-clause-data
+returns-clause-data g c low i from =
+    let state = g.N.Nor.state in
+    let h = rw c.in-Some.is at c.in_ok-found.ensures.found in
+    let p = h.0 in
+    let s = program-aside c.program.result (state c.find_vote.new.nor) (state c.program.new.self) (c.args.region + c.in-Some.place) _ c.program.ensures.firm c.program.ensures.cut_bits c.program.ensures.slow c.program.ensures.slow_bits i (inr (omega (arith, low, from, p))) in
+    (s.0 ∙ ap (λ m. byte m i) c.in_ok-found.ensures.same, s.1 ∙ ap (λ m. byte m i) c.in_ok-found.ensures.weak)

@@ -4,6 +4,9 @@ use Rattle.std.proofs.lemmas.Result.{on_ok_weaker}
 use Rattle.nor_driver.proofs.CallLaws.{succeeds-then, refuses-then, ends-of}
 use Rattle.erase_journal.proofs.Effects.{bit-give_up}
 use Rattle.erase_journal.proofs.VoteCalls.{set-ok, set-cut}
+use Rattle.std.proofs.Common.{inr, ap, ◌+◌, ◌∙◌}
+use Rattle.chip_model.specs.Memory.{byte}
+use Rattle.erase_journal.proofs.Torn.{program-aside}
 use Rattle.erase_journal.proofs.votes.give_up_vote.Goals as goal
 
 pub unreachable-requires : goal.unreachable-requires
@@ -31,3 +34,11 @@ returns-clause-ends g c =
     ends-of c.program.result (state c.args.nor.now) (state c.program.new.self)
     (succeeds-then (state c.args.nor.now) (state c.find_vote.new.nor) (state c.program.new.self) c.program.result c.in_ok-found.ensures.ends c.program.ensures.kept)
     (refuses-then (state c.args.nor.now) (state c.find_vote.new.nor) (state c.program.new.self) c.program.result c.in_ok-found.ensures.ends c.program.ensures.fails)
+
+pub returns-clause-data : goal.returns-clause-data
+returns-clause-data g c low i from =
+    let state = g.N.Nor.state in
+    let h = rw c.in-Some.is at c.in_ok-found.ensures.found in
+    let p = h.0 in
+    let s = program-aside c.program.result (state c.find_vote.new.nor) (state c.program.new.self) (c.args.region + c.in-Some.place) _ c.program.ensures.firm c.program.ensures.cut_bits c.program.ensures.slow c.program.ensures.slow_bits i (inr (omega (arith, low, from, p))) in
+    (s.0 ∙ ap (λ m. byte m i) c.in_ok-found.ensures.same, s.1 ∙ ap (λ m. byte m i) c.in_ok-found.ensures.weak)
