@@ -37,8 +37,9 @@ use Rattle.firm_chip.specs.Draws.{EachDrawIsTheSameDisk, IsSameDisk}
 use Rattle.firm_chip.proofs.Draws.{AreChipJournals, of-chip, tally-drawn, believed-drawn, named-drawn}
 use Rattle.erase_journal.proofs.Draws.{firm-byte}
 use Rattle.firm_chip.proofs.Spans.{block-drawn, erasing-blank, byte-there, descriptor-byte, begun-drawn}
-use Rattle.firm_chip.proofs.Slots.{SlotDrawn, same, idle, faded, IsThere, never-live-header, slot-written, firmly-read}
-use Rattle.firm_chip.proofs.Heads.{BlockDrawn, KindDrawn, kept, never, perhaps, idle-kind, void-kind, state-there, there, start-was, start-is, chip-block}
+use Rattle.firm_chip.proofs.Slots.{SlotDrawn, same, idle, faded, IsThere, firmly-read}
+use Rattle.sector_slots.proofs.HeadLaws.{unlive-four, slot-written, idle-kind, void-kind}
+use Rattle.firm_chip.proofs.Heads.{BlockDrawn, KindDrawn, kept, never, perhaps, state-there, there, start-was, start-is, chip-block}
 
 -- the slots that count
 idle-copy : (k : Kind) (b : ℕ) → (k ≡ kinds.Plain) ⊎ (k ≡ kinds.Void) → is_copy_of b k ≡ false
@@ -124,7 +125,7 @@ live-number None n tag e = let q : 2 ≡ 1 = ap header_number e in absurd (omega
 
 header-live : (t : List ℕ) (tag : Tag) → header_of t ≡ headers.Live tag → (byte t 0 ≡ 252) × (byte t 2 + 256 * byte t 3 ≡ tag.number)
 header-live t tag h = elim (cases_eq (byte t 0) 252) as (λ _. (byte t 0 ≡ 252) × (byte t 2 + 256 * byte t 3 ≡ tag.number)) [
-  | inr n ↦ elim (never-live-header t n) as (λ _. (byte t 0 ≡ 252) × (byte t 2 + 256 * byte t 3 ≡ tag.number)) [
+  | inr n ↦ elim (unlive-four t n) as (λ _. (byte t 0 ≡ 252) × (byte t 2 + 256 * byte t 3 ≡ tag.number)) [
     | inl e ↦ (let q : 1 ≡ 0 = ap header_number (sym h ∙ e) in absurd (omega (arith, q)))
     | inr e ↦ (let q : 1 ≡ 3 = ap header_number (sym h ∙ e) in absurd (omega (arith, q)))
   ]

@@ -1,12 +1,11 @@
 -- What a draw leaves of a data block.
-use Rattle.std.proofs.Common.{◌≡◌, ◌≢◌, ℕ, ◌+◌, ◌-◌, ◌*◌, ◌<◌, ◌⊎◌, Bool, true, false, ◌&&◌, cond, List, length, refl, sym, ap, ◌∙◌, subst, arith, inl, inr, lit<}
-use Rattle.std.specs.Prelude.{◌/◌, ◌%◌, ◌==◌}
+use Rattle.std.proofs.Common.{◌≡◌, ◌≢◌, ℕ, ◌+◌, ◌-◌, ◌*◌, ◌<◌, ◌⊎◌, false, List, length, refl, sym, ap, ◌∙◌, subst, arith, inl, inr, lit<}
+use Rattle.std.specs.Prelude.{◌/◌, ◌%◌}
 use Rattle.std.proofs.lemmas.Bool.{cases_lt}
 use Rattle.std.proofs.lemmas.List.{ext_get_or}
 use Rattle.chip_model.specs.Memory.{byte}
 use Rattle.chip_model.specs.Parts.{part}
 use Rattle.chip_model.specs.Wavering.{Drawn}
-use Rattle.nor_layout.specs.declared.kind.Kind.{Kind}
 use Rattle.nor_layout.specs.declared.kind.Kind.TheVariants as kinds
 use Rattle.nor_layout.specs.Kinds.{kind_of}
 use Rattle.erase_journal.specs.Blocks.{blank}
@@ -15,6 +14,7 @@ use Rattle.sector_slots.specs.Slots.{Free, slot_in, content_bytes, blank_sector,
 use Rattle.sector_slots.specs.Copying.{HoldsNothing}
 use Rattle.sector_slots.proofs.GroupLaws.{group-four}
 use Rattle.sector_slots.proofs.BlankLaws.{blank-kind, blank-content}
+use Rattle.sector_slots.proofs.HeadLaws.{idle-kind, void-kind, void-plain}
 use Rattle.journal_slots.proofs.Marks.{plain-bytes, kind-eight}
 use Rattle.journal_slots.proofs.Places.{fresh-descriptor}
 use Rattle.journal_slots.proofs.Places as places
@@ -43,31 +43,7 @@ pub record BlockDrawn (m w m' : List ℕ) (c : ℕ) : Type 0 where
   pub clean : kind_at m' c ≢ kinds.Void → copies (kind_at m) (data_blocks m) c ≡ 0 → (i : ℕ) → i < 7 → raw_slot m' c i ≡ Free → content_bytes (data_block m' c) i ≡ blank_sector
   pub spare : IsSpareIn m' c → data_block m' c ≡ blank
 
-abbrev IsVoid : Kind → Type 0
-IsVoid kinds.Plain = ⊥
-IsVoid kinds.Void = Unit {0}
-IsVoid (kinds.Committed b) = ⊥
-IsVoid kinds.Settled = ⊥
-IsVoid (kinds.Group tag) = ⊥
-IsVoid kinds.DeadGroup = ⊥
-IsVoid kinds.SpoiltGroup = ⊥
-IsVoid kinds.Unknown = ⊥
-
-pub void-plain : (k : Kind) → k ≡ kinds.Void → k ≡ kinds.Plain → ⊥
-void-plain k v p = subst (λ q. IsVoid q) (sym v ∙ p) tt
-
 -- what the first bytes say
-either-kind : (t : Bool) → (cond t kinds.Plain kinds.Void ≡ kinds.Plain) ⊎ (cond t kinds.Plain kinds.Void ≡ kinds.Void)
-either-kind true = inl refl
-either-kind false = inr refl
-
-pub idle-kind : (b : List ℕ) → ((k : ℕ) → k < 4 → byte b k ≡ 255) → (byte b 4 ≡ 255) ⊎ (byte b 4 ≡ 254) → (kind_of b ≡ kinds.Plain) ⊎ (kind_of b ≡ kinds.Void)
-idle-kind b e (inl f) = rw (e 0 (lit< tt), e 1 (lit< tt), e 2 (lit< tt), e 3 (lit< tt), f) (either-kind ((byte b 5 == 255) && (byte b 6 == 255) && (byte b 7 == 255)))
-idle-kind b e (inr f) = inr (rw (e 0 (lit< tt), e 1 (lit< tt), e 2 (lit< tt), e 3 (lit< tt), f) refl)
-
-pub void-kind : (b : List ℕ) → ((k : ℕ) → k < 4 → byte b k ≡ 255) → byte b 4 ≡ 254 → kind_of b ≡ kinds.Void
-void-kind b e f = rw (e 0 (lit< tt), e 1 (lit< tt), e 2 (lit< tt), e 3 (lit< tt), f) refl
-
 no-group : (b : List ℕ) → ((k : ℕ) → k < 4 → byte b k ≡ 255) → is_group (kind_of b) ≡ false
 no-group b e =
     let z = λ (k : ℕ) (h : k < 4). e k h ∙ sym (byte-blank k (omega (arith, h))) in

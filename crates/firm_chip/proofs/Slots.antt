@@ -1,10 +1,8 @@
 -- What a draw leaves of a slot.
-use Rattle.std.proofs.Common.{◌≡◌, ◌≢◌, ℕ, zero, suc, ◌+◌, ◌-◌, ◌*◌, ◌<◌, ◌≤◌, ◌⊎◌, Bool, true, false, ◌&&◌, cond, List, length, refl, sym, ap, ◌∙◌, subst, arith, inl, inr, lit<}
-use Rattle.std.specs.Prelude.{◌/◌, drop, ◌==◌}
+use Rattle.std.proofs.Common.{◌≡◌, ◌≢◌, ℕ, ◌+◌, ◌-◌, ◌*◌, ◌<◌, ◌≤◌, ◌⊎◌, false, List, length, refl, sym, ap, ◌∙◌, subst, arith, inl, inr, lit<}
+use Rattle.std.specs.Prelude.{◌/◌, drop}
 use Rattle.std.specs.Int.{bit_at}
-use Rattle.byteorder.specs.Endian.{little_from}
 use Rattle.std.proofs.lemmas.Bool.{cases_eq, ne_eqb}
-use Rattle.std.proofs.lemmas.Bool.Decides.{nat_tests}
 use Rattle.std.proofs.lemmas.List.{ext_get_or, get_or-replicate, get_or-drop}
 use Rattle.chip_model.specs.Memory.{byte}
 use Rattle.chip_model.specs.Parts.{part}
@@ -13,15 +11,15 @@ use Rattle.chip_model.proofs.PartLaws.{get-part, part-whole}
 use Rattle.nor_layout.specs.declared.header.Header.{Header}
 use Rattle.nor_layout.specs.declared.header.Header.TheVariants as headers
 use Rattle.nor_layout.specs.declared.header.Tag.{Tag}
-use Rattle.nor_layout.specs.Headers.{header_of, generation_of, live_of}
+use Rattle.nor_layout.specs.Headers.{header_of}
 use Rattle.nor_layout.specs.Kinds.{kind_of}
 use Rattle.erase_journal.specs.Blocks.{blank}
 use Rattle.erase_journal.proofs.BlockLaws.{length-blank, byte-blank}
-use Rattle.sector_slots.specs.Slots.{Slot, Free, Live, Dead, slot_with, slot_in, written_in, content_bytes, blank_sector, is_group, data_block, raw_slot}
+use Rattle.sector_slots.specs.Slots.{Slot, Free, Live, Dead, slot_with, written_in, content_bytes, blank_sector, is_group, data_block, raw_slot}
 use Rattle.sector_slots.specs.Sectors.{zeros}
 use Rattle.sector_slots.specs.Copying.{HoldsNothing}
-use Rattle.sector_slots.proofs.GroupLaws.{descriptor-slot}
 use Rattle.sector_slots.proofs.SizeLaws.{length-zeros}
+use Rattle.sector_slots.proofs.HeadLaws.{not-four, unlive-four, slot-written}
 use Rattle.journal_slots.proofs.Places.{with-live, fresh-descriptor}
 use Rattle.erase_journal.specs.Weak.{AreFirm}
 use Rattle.firm_chip.specs.FirmChips.{AreFirmly, NeverReads, IsNeverLive, dead, unused, IsFading, IsFirmSlot, live, never_live, fading, head_place, content_place}
@@ -38,30 +36,11 @@ pub data SlotDrawn (fades : Type 0) (old new : Slot) : Type 0 where
       → SlotDrawn fades old new
 
 -- what four bytes say
-free-or-dead : (a b : Bool) (h : Header) → b ≡ false → (cond a headers.Free (cond b h headers.Dead) ≡ headers.Free) ⊎ (cond a headers.Free (cond b h headers.Dead) ≡ headers.Dead)
-free-or-dead true b h e = inl refl
-free-or-dead false b h e = inr (rw e refl)
-
-pub never-live-header : (t : List ℕ) → byte t 0 ≢ 252 → (header_of t ≡ headers.Free) ⊎ (header_of t ≡ headers.Dead)
-never-live-header t n = free-or-dead ((byte t 0 == 255) && (byte t 1 == 255) && (byte t 2 == 255) && (byte t 3 == 255)) (byte t 0 == 252) (live_of (generation_of (byte t 1)) (little_from 2 2 t)) (ne_eqb (byte t 0) 252 n)
-
-not-four : (t : List ℕ) (j : ℕ) → j < 4 → byte t j ≢ 255 → ((byte t 0 == 255) && (byte t 1 == 255) && (byte t 2 == 255) && (byte t 3 == 255)) ≡ false
-not-four t zero low n = grind (arith, nat_tests)
-not-four t (suc zero) low n = grind (arith, nat_tests)
-not-four t (suc (suc zero)) low n = grind (arith, nat_tests)
-not-four t (suc (suc (suc zero))) low n = grind (arith, nat_tests)
-not-four t (suc (suc (suc (suc j)))) low n = absurd (omega (arith, low))
-
 dead-header : (t : List ℕ) (j : ℕ) → byte t 0 ≢ 252 → j < 4 → byte t j ≢ 255 → header_of t ≡ headers.Dead
 dead-header t j other low n = rw (not-four t j low n, ne_eqb (byte t 0) 252 other) refl
 
 same-header : (t u : List ℕ) → ((j : ℕ) → j < 4 → byte u j ≡ byte t j) → header_of u ≡ header_of t
 same-header t u e = rw (e 0 (lit< tt), e 1 (lit< tt), e 2 (lit< tt), e 3 (lit< tt)) refl
-
--- a slot of a block that is none of a group
-pub slot-written : (b : List ℕ) (i : ℕ) → is_group (kind_of b) ≡ false → slot_in b i ≡ slot_with (written_in b i) (content_bytes b i)
-unfolding slot_in
-slot-written b i e = ap (λ h. slot_with h (content_bytes b i)) (descriptor-slot b i e)
 
 quiet : (h : Header) (x : List ℕ) → (h ≡ headers.Free) ⊎ (h ≡ headers.Dead) → HoldsNothing (slot_with h x)
 quiet h x (inl e) = subst (λ q. HoldsNothing (slot_with q x)) (sym e) tt
@@ -86,7 +65,7 @@ state-byte m c i h low = descriptor-byte m c i 0 h.bytes low (lit< tt) ∙ ap (�
 no-live : (m : List ℕ) (c i : ℕ) → IsThere m c → i < 7 → byte m (head_place (7 * c + i)) ≢ 252 → HoldsNothing (raw_slot m c i)
 no-live m c i h low n =
     subst (λ s. HoldsNothing s) (sym (slot-written (data_block m c) i h.slots))
-    (quiet (written_in (data_block m c) i) (content_bytes (data_block m c) i) (never-live-header (drop (16 + 4 * i) (data_block m c)) (λ e. n (sym (state-byte m c i h low) ∙ e))))
+    (quiet (written_in (data_block m c) i) (content_bytes (data_block m c) i) (unlive-four (drop (16 + 4 * i) (data_block m c)) (λ e. n (sym (state-byte m c i h low) ∙ e))))
 
 pub never-nothing : (m w m' : List ℕ) (c i : ℕ) → Drawn w m m' → IsThere m c → IsThere m' c → i < 7 → NeverReads m w (head_place (7 * c + i)) 252 → HoldsNothing (raw_slot m c i) × HoldsNothing (raw_slot m' c i)
 never-nothing m w m' c i d h h' low n =

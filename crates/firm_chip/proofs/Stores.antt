@@ -28,8 +28,9 @@ use Rattle.firm_chip.specs.Stores.{EachDrawOfADoubtedStoreIsTheSameDisk}
 use Rattle.firm_chip.proofs.Draws.{AreChipJournals, never-is}
 use Rattle.firm_chip.proofs.FirmJournals.{of-firm-chips}
 use Rattle.firm_chip.proofs.Spans.{block-drawn, byte-there, content-byte, begun-drawn}
-use Rattle.firm_chip.proofs.Slots.{SlotDrawn, same, idle, faded, IsThere, same-slot, never-nothing, fading-drawn, free-state, erased-content, slot-written}
-use Rattle.firm_chip.proofs.Heads.{KindDrawn, kept, never, perhaps, BlockDrawn, both-blank, idle-kind, there, start-is, state-there, spare-blank, void-plain}
+use Rattle.firm_chip.proofs.Slots.{SlotDrawn, same, idle, faded, IsThere, same-slot, never-nothing, fading-drawn, free-state, erased-content}
+use Rattle.sector_slots.proofs.HeadLaws.{slot-written, idle-kind, void-plain}
+use Rattle.firm_chip.proofs.Heads.{KindDrawn, kept, never, perhaps, BlockDrawn, both-blank, there, start-is, state-there, spare-blank}
 use Rattle.firm_chip.proofs.Disks.{IsDrawnDisk, drawn-same, live-there, slot_number, not-rest-void}
 
 -- A state that is dead for good is neither a free one's nor a live one's.

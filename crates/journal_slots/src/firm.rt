@@ -15,7 +15,9 @@ ghost use Rattle.nor_driver.specs.State.{bits_in};
 ghost use Rattle.erase_journal.specs.Steps.{EndsFirmly};
 ghost use Rattle.erase_journal.specs.Weak.{AreZerosFirm};
 ghost use Rattle.sector_slots.specs.Firm.{KeepsHead, HoldsBegun, AreDeadForGood};
-ghost use Rattle.sector_slots.specs.Weak.{block_place, IsDeadForGood};
+ghost use Rattle.sector_slots.specs.Torn.{HeadInterrupted, StateInterrupted};
+ghost use Rattle.sector_slots.specs.Weak.{block_place, descriptor_place as descriptor_at};
+ghost use Rattle.sector_slots.specs.Weak.{IsDeadForGood};
 ghost use Rattle.sector_slots.specs.Slots.{Free, Dead, data_blocks, data_block, raw_slot};
 ghost use Rattle.journal_slots.specs.Programs.{InPlace, IsFirmByte};
 
@@ -117,6 +119,7 @@ pub(crate) fn has_begun<N: Nor>(journal: &mut Journal<N>, block: u16) -> Result<
     ensures not_begun { IfOk result (λ begun. IsFalse begun
         → HoldsBegun (data_block journal.old.memory block) → ⊥) }
     ensures same { journal.new.memory ≡ journal.old.memory }
+    ensures weak { journal.new.weak ≡ journal.old.weak }
     ensures ends { EndsFirmly result journal.old journal.new }
 {
     let mut head = [0; HEAD_LEN];
@@ -139,6 +142,8 @@ pub(crate) fn firm_head<N: Nor>(journal: &mut Journal<N>, block: u16) -> Result<
     ensures cut { IsErrOf result NorError.Cut
         → KeepsHead block journal.old.memory journal.new.memory }
     ensures size { length journal.new.memory ≡ length journal.old.memory }
+    ensures cut_bits { IsErrOf result NorError.Cut → HeadInterrupted block
+        (bits_in journal.old) (bits_in journal.new) }
     ensures healthy { IsErrOf result NorError.Cut → IsHealthy journal.old.memory
         → IsHealthy journal.new.memory }
     ensures ends { EndsFirmly result journal.old journal.new }
@@ -175,6 +180,9 @@ pub(crate) fn kill_slot<N: Nor>(
         → InPlace place (data_block journal.old.memory block)
         (data_block journal.new.memory block) }
     ensures only { OnlyBlock (block + 4) journal.old.memory journal.new.memory }
+    ensures cut_bits { IsErrOf result NorError.Cut
+        → StateInterrupted (descriptor_at block place) KILLED (bits_in journal.old)
+        (bits_in journal.new) }
     ensures healthy { IsErrOf result NorError.Cut → IsHealthy journal.old.memory
         → IsHealthy journal.new.memory }
     ensures ends { EndsFirmly result journal.old journal.new }

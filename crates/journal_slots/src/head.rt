@@ -91,6 +91,7 @@ pub(crate) fn read_head<N: Nor>(
         → read_header into.new i ≡ descriptor_in (data_block journal.old.memory block) i) }
     ensures size { length into.new ≡ length into.old }
     ensures same { journal.new.memory ≡ journal.old.memory }
+    ensures weak { journal.new.weak ≡ journal.old.weak }
     ensures ends { EndsFirmly result journal.old journal.new }
 {
     let mut bytes = [0; HEAD_LEN];

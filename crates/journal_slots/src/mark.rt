@@ -8,12 +8,16 @@ ghost use Rattle.chip_model.specs.Memory.{byte};
 ghost use Rattle.nor_layout.specs.Kinds.{kind_of};
 ghost use Rattle.nor_layout.specs.declared.header.Tag.{Tag as TagOf};
 ghost use Rattle.erase_journal.specs.Blocks.{SameChip, OnlyBlock, WithErased};
-ghost use Rattle.erase_journal.specs.Journals.{IsHealthy, unused};
+ghost use Rattle.erase_journal.specs.Journals.{IsHealthy, IsSettled, unused};
 ghost use Rattle.erase_journal.specs.Spending.{Spends};
 ghost use Rattle.erase_journal.specs.Steps.{EraseInterrupted, EndsFirmly};
+ghost use Rattle.erase_journal.specs.Torn.{BlockInterrupted, SameBeside};
+ghost use Rattle.erase_journal.specs.Weak.{AreFirmJournals};
+ghost use Rattle.nor_driver.specs.State.{bits_in};
 ghost use Rattle.sector_slots.specs.Slots.{data_blocks, data_block, kind_at};
 ghost use Rattle.sector_slots.specs.Steps.{OnlyMark, IsBegun};
 ghost use Rattle.sector_slots.specs.Firm.{SameStates};
+ghost use Rattle.sector_slots.specs.Torn.{BeginInterrupted, StateInterrupted};
 ghost use Rattle.sector_slots.specs.Weak.{IsWhollyFirm, mark_place};
 
 use erase_journal::Journal;
@@ -26,6 +30,7 @@ pub(crate) fn read_kind<N: Nor>(journal: &mut Journal<N>, block: u16) -> Result<
     requires sized { IsChipSize (length journal.old.memory) }
     ensures ok { IfOk result (λ kind. kind ≡ kind_at journal.old.memory block) }
     ensures same { journal.new.memory ≡ journal.old.memory }
+    ensures weak { journal.new.weak ≡ journal.old.weak }
     ensures ends { EndsFirmly result journal.old journal.new }
 {
     let mut mark = [0; MARK_LEN];
@@ -55,6 +60,8 @@ pub(crate) fn program_mark<N: Nor>(
     ensures cut_only { IsErrOf result NorError.Cut
         → OnlyMark target journal.old.memory journal.new.memory }
     ensures chip { SameChip journal.old.memory journal.new.memory }
+    ensures cut_bits { IsErrOf result NorError.Cut → BeginInterrupted target
+        (bits_in journal.old) (bits_in journal.new) }
     ensures healthy { IsErrOf result NorError.Cut → IsHealthy journal.old.memory
         → IsHealthy journal.new.memory }
     ensures ends { EndsFirmly result journal.old journal.new }
@@ -77,6 +84,8 @@ pub(crate) fn commit_mark<N: Nor>(journal: &mut Journal<N>, target: u16) -> Resu
     ensures cut_only { IsErrOf result NorError.Cut
         → OnlyMark target journal.old.memory journal.new.memory }
     ensures chip { SameChip journal.old.memory journal.new.memory }
+    ensures cut_bits { IsErrOf result NorError.Cut → StateInterrupted (mark_place target)
+        COMMITTED (bits_in journal.old) (bits_in journal.new) }
     ensures healthy { IsErrOf result NorError.Cut → IsHealthy journal.old.memory
         → IsHealthy journal.new.memory }
     ensures ends { EndsFirmly result journal.old journal.new }
@@ -102,6 +111,8 @@ pub(crate) fn settle_mark<N: Nor>(journal: &mut Journal<N>, target: u16) -> Resu
     ensures cut_only { IsErrOf result NorError.Cut
         → OnlyMark target journal.old.memory journal.new.memory }
     ensures chip { SameChip journal.old.memory journal.new.memory }
+    ensures cut_bits { IsErrOf result NorError.Cut → StateInterrupted (mark_place target)
+        SETTLED (bits_in journal.old) (bits_in journal.new) }
     ensures healthy { IsErrOf result NorError.Cut → IsHealthy journal.old.memory
         → IsHealthy journal.new.memory }
     ensures ends { EndsFirmly result journal.old journal.new }
@@ -138,6 +149,10 @@ pub(crate) fn erase_data<N: Nor>(journal: &mut Journal<N>, block: u16) -> Result
     ensures firm { OnOk result (IsWhollyFirm journal.new.weak block) }
     ensures cut { IsErrOf result NorError.Cut → IsHealthy journal.old.memory
         → EraseInterrupted (block + 4) journal.old.memory journal.new.memory }
+    ensures beside { SameBeside (block + 4) (bits_in journal.old) (bits_in journal.new) }
+    ensures cut_bits { IsErrOf result NorError.Cut → IsSettled journal.old.memory
+        → AreFirmJournals (bits_in journal.old) → BlockInterrupted (block + 4)
+        (bits_in journal.old) (bits_in journal.new) }
     ensures healthy { IsErrOf result NorError.Cut → IsHealthy journal.old.memory
         → IsHealthy journal.new.memory }
     ensures spends { OnOk result (Spends (unused journal.old.memory) (unused journal.new.memory)) }

@@ -28,6 +28,7 @@ pub(crate) fn read_header<N: Nor>(
     ensures ok { IfOk result (λ header. header
         ≡ descriptor_in (data_block journal.old.memory block) place) }
     ensures same { journal.new.memory ≡ journal.old.memory }
+    ensures weak { journal.new.weak ≡ journal.old.weak }
     ensures ends { EndsFirmly result journal.old journal.new }
 {
     let mut heads = [Header::Free; 7];
@@ -49,6 +50,7 @@ pub(crate) fn read_content<N: Nor>(
     ensures ok { OnOk result (into.new
         ≡ content_bytes (data_block journal.old.memory block) place) }
     ensures same { journal.new.memory ≡ journal.old.memory }
+    ensures weak { journal.new.weak ≡ journal.old.weak }
     ensures ends { EndsFirmly result journal.old journal.new }
 {
     journal.read(block + FIRST_DATA_BLOCK, content_place(place), into)?;
@@ -71,6 +73,7 @@ pub(crate) fn read_slot<N: Nor>(
         → raw_slot journal.old.memory block place ≢ Live tag content) × (into.new ≡ into.old))
         (λ tag. raw_slot journal.old.memory block place ≡ Live tag into.new)) }
     ensures same { journal.new.memory ≡ journal.old.memory }
+    ensures weak { journal.new.weak ≡ journal.old.weak }
     ensures ends { EndsFirmly result journal.old journal.new }
 {
     match read_header(journal, block, place)? {
@@ -91,6 +94,7 @@ pub(crate) fn free_at<N: Nor>(journal: &mut Journal<N>, slot: u16) -> Result<boo
     ensures ok { IfOk result (λ is_free. IsTrue is_free
         ↔ (stored_at journal.old.memory slot ≡ Free)) }
     ensures same { journal.new.memory ≡ journal.old.memory }
+    ensures weak { journal.new.weak ≡ journal.old.weak }
     ensures ends { EndsFirmly result journal.old journal.new }
 {
     match read_header(journal, slot / SLOTS, slot % SLOTS)? {
@@ -113,6 +117,7 @@ pub(crate) fn content_at<N: Nor>(
     ensures ok { OnOk result ((tag : TagOf) (content : List ℕ)
         → stored_at journal.old.memory slot ≡ Live tag content → into.new ≡ content) }
     ensures same { journal.new.memory ≡ journal.old.memory }
+    ensures weak { journal.new.weak ≡ journal.old.weak }
     ensures ends { EndsFirmly result journal.old journal.new }
 {
     read_content(journal, slot / SLOTS, slot % SLOTS, into)?;
@@ -148,6 +153,7 @@ pub(crate) fn read_source<N: Nor>(
     ensures named { IfOk result (λ found. (source : ℕ) → source < data_blocks journal.old.memory
         → IsBegun target source journal.old.memory → found ≡ Some source) }
     ensures same { journal.new.memory ≡ journal.old.memory }
+    ensures weak { journal.new.weak ≡ journal.old.weak }
     ensures ends { EndsFirmly result journal.old journal.new }
 {
     let blocks = journal.blocks() - FIRST_DATA_BLOCK;

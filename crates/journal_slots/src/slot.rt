@@ -5,16 +5,20 @@ ghost use Rattle.std.specs.Prelude.{◌≡◌, ◌≢◌, ◌⊎◌, ◌+◌, �
 ghost use Rattle.std.specs.Result.{IsErrOf};
 ghost use Rattle.chip_model.specs.Geometry.{IsChipSize};
 ghost use Rattle.chip_model.specs.Memory.{byte, and_at, TornAnd};
-ghost use Rattle.nor_driver.specs.State.{bits_in, Leaves};
+ghost use Rattle.nor_driver.specs.State.{bits_in, program_bits, Leaves};
 ghost use Rattle.erase_journal.specs.Blocks.{SameChip, OnlyBlock};
 ghost use Rattle.erase_journal.specs.Journals.{IsHealthy};
 ghost use Rattle.erase_journal.specs.Steps.{EndsFirmly};
+ghost use Rattle.erase_journal.specs.Torn.{ProgramInterrupted};
 ghost use Rattle.sector_slots.specs.Slots.{Free, Live, Dead, data_blocks, data_block, kind_at};
 ghost use Rattle.sector_slots.specs.Slots.{raw_slot, IsLive, is_group};
 ghost use Rattle.sector_slots.specs.Steps.{HoldsTag, OnlyPlace, IsBegun, IsErasedSlot, CopyLeaves};
 ghost use Rattle.sector_slots.specs.Copying.{copied_tag, source_slot};
 ghost use Rattle.sector_slots.specs.Firm.{SameStatesBut};
-ghost use Rattle.sector_slots.specs.Weak.{block_place, IsDeadForGood};
+ghost use Rattle.sector_slots.specs.Torn.{PutInterrupted, SameButPlace, SameButSector};
+ghost use Rattle.sector_slots.specs.Torn.{SectorProgrammed, StateInterrupted};
+ghost use Rattle.sector_slots.specs.Weak.{block_place, descriptor_place as descriptor_at};
+ghost use Rattle.sector_slots.specs.Weak.{IsDeadForGood};
 ghost use Rattle.journal_slots.specs.Programs.{InPlace, OnlyBytes, WriteLeaves};
 
 use crate::mark::read_kind;
@@ -56,8 +60,10 @@ pub(crate) fn program_bytes<N: Nor>(
     requires range { at + length bytes.now ≤ 4096 }
     ensures ok { OnOk result (data_block journal.new.memory block
         ≡ and_at (data_block journal.old.memory block) at bytes.now) }
-    ensures firm { OnOk result (journal.new.weak
-        ≡ and_at journal.old.weak (block_place block + at) bytes.now) }
+    ensures firm { OnOk result (bits_in journal.new
+        ≡ program_bits (bits_in journal.old) (block_place block + at) bytes.now) }
+    ensures cut_bits { IsErrOf result NorError.Cut → ProgramInterrupted (block_place block + at)
+        bytes.now (bits_in journal.old) (bits_in journal.new) }
     ensures cut { IsErrOf result NorError.Cut → Leaves (data_block journal.old.memory block)
         (TornAnd (data_block journal.old.memory block) at bytes.now)
         (and_at (data_block journal.old.memory block) at bytes.now)
@@ -89,6 +95,10 @@ fn write_content<N: Nor>(
         → OnlyBytes (512 * (place + 1)) 512 (data_block journal.old.memory block)
         (data_block journal.new.memory block) }
     ensures only { OnlyBlock (block + 4) journal.old.memory journal.new.memory }
+    ensures sector { OnOk result (SectorProgrammed block place (bits_in journal.old)
+        (bits_in journal.new)) }
+    ensures cut_bits { IsErrOf result NorError.Cut → SameButSector block place
+        (bits_in journal.old) (bits_in journal.new) }
     ensures healthy { IsErrOf result NorError.Cut → IsHealthy journal.old.memory
         → IsHealthy journal.new.memory }
     ensures ends { EndsFirmly result journal.old journal.new }
@@ -125,6 +135,11 @@ fn fill<N: Nor>(
         (data_block journal.new.memory block) }
     ensures bytes { (i : ℕ) → byte header.now i < 256 }
     ensures only { OnlyBlock (block + 4) journal.old.memory journal.new.memory }
+    ensures bits { OnOk result (SectorProgrammed block place
+        (program_bits (bits_in journal.old) (descriptor_at block place) header.now)
+        (bits_in journal.new)) }
+    ensures cut_bits { IsErrOf result NorError.Cut → PutInterrupted block place
+        (bits_in journal.old) (bits_in journal.new) }
     ensures healthy { IsErrOf result NorError.Cut → IsHealthy journal.old.memory
         → IsHealthy journal.new.memory }
     ensures ends { EndsFirmly result journal.old journal.new }
@@ -159,6 +174,8 @@ pub(crate) fn write_slot<N: Nor>(
         → InPlace place (data_block journal.old.memory block)
         (data_block journal.new.memory block) }
     ensures only { OnlyBlock (block + 4) journal.old.memory journal.new.memory }
+    ensures cut_bits { IsErrOf result NorError.Cut → PutInterrupted block place
+        (bits_in journal.old) (bits_in journal.new) }
     ensures healthy { IsErrOf result NorError.Cut → IsHealthy journal.old.memory
         → IsHealthy journal.new.memory }
     ensures ends { EndsFirmly result journal.old journal.new }
@@ -191,6 +208,8 @@ pub(crate) fn write_live_slot<N: Nor>(
         → InPlace place (data_block journal.old.memory block)
         (data_block journal.new.memory block) }
     ensures only { OnlyBlock (block + 4) journal.old.memory journal.new.memory }
+    ensures cut_bits { IsErrOf result NorError.Cut → SameButPlace block place
+        (bits_in journal.old) (bits_in journal.new) }
     ensures healthy { IsErrOf result NorError.Cut → IsHealthy journal.old.memory
         → IsHealthy journal.new.memory }
     ensures ends { EndsFirmly result journal.old journal.new }
@@ -225,6 +244,9 @@ pub(crate) fn retire_slot<N: Nor>(
         → InPlace place (data_block journal.old.memory block)
         (data_block journal.new.memory block) }
     ensures only { OnlyBlock (block + 4) journal.old.memory journal.new.memory }
+    ensures cut_bits { IsErrOf result NorError.Cut
+        → StateInterrupted (descriptor_at block place) RETIRED (bits_in journal.old)
+        (bits_in journal.new) }
     ensures healthy { IsErrOf result NorError.Cut → IsHealthy journal.old.memory
         → IsHealthy journal.new.memory }
     ensures ends { EndsFirmly result journal.old journal.new }
@@ -267,6 +289,8 @@ fn copy_from<N: Nor>(
         → InPlace place (data_block journal.old.memory target)
         (data_block journal.new.memory target) }
     ensures only { OnlyBlock (target + 4) journal.old.memory journal.new.memory }
+    ensures cut_bits { IsErrOf result NorError.Cut → SameButPlace target place
+        (bits_in journal.old) (bits_in journal.new) }
     ensures healthy { IsErrOf result NorError.Cut → IsHealthy journal.old.memory
         → IsHealthy journal.new.memory }
     ensures ends { EndsFirmly result journal.old journal.new }
@@ -305,6 +329,8 @@ pub(crate) fn copy_slot<N: Nor>(
     ensures chip { SameChip journal.old.memory journal.new.memory }
     ensures fresh { OnOk result ((i : ℕ) → i < 7 → i ≢ place
         → IsErasedSlot target i journal.old.memory → IsErasedSlot target i journal.new.memory) }
+    ensures cut_bits { IsErrOf result NorError.Cut → SameButPlace target place
+        (bits_in journal.old) (bits_in journal.new) }
     ensures healthy { IsErrOf result NorError.Cut → IsHealthy journal.old.memory
         → IsHealthy journal.new.memory }
     ensures ends { EndsFirmly result journal.old journal.new }

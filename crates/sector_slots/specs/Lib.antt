@@ -8,3 +8,5 @@ pub mod Machine
 pub mod Groups
 pub mod Firm
 pub mod Weak
+pub mod Torn
+pub mod Half

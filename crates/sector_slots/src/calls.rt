@@ -11,10 +11,12 @@ ghost use Rattle.chip_model.specs.Geometry.{IsChipSize};
 ghost use Rattle.nor_driver.specs.State.{NorState, IsNorReady, bits_in};
 ghost use Rattle.nor_layout.specs.declared.header.Tag.{Tag as TagOf};
 ghost use Rattle.erase_journal.specs.Blocks.{SameChip, OnlyBlock, OnlySuper, WithErased};
-ghost use Rattle.erase_journal.specs.Journals.{IsHealthy, unused};
+ghost use Rattle.erase_journal.specs.Journals.{IsHealthy, IsSettled, unused};
 ghost use Rattle.erase_journal.specs.Spending.{Spends};
 ghost use Rattle.erase_journal.specs.Steps.{EraseInterrupted, EndsFirmly, EndsSettled};
 ghost use Rattle.erase_journal.specs.Recovery.{Restored, RestoreFails};
+ghost use Rattle.erase_journal.specs.Torn.{BlockInterrupted, SameBeside};
+ghost use Rattle.erase_journal.specs.Weak.{AreFirmJournals};
 ghost use Rattle.sector_slots.specs.Slots.{Free, Live, Dead, slot_at, stored_at, slot_count};
 ghost use Rattle.sector_slots.specs.Slots.{data_blocks, data_block, kind_at, raw_slot};
 ghost use Rattle.sector_slots.specs.Slots.{descriptor_in, read_header, IsClean, SameSlots};
@@ -23,16 +25,22 @@ ghost use Rattle.sector_slots.specs.Steps.{IsRetirable, IsWritable, PutLeaves, H
 ghost use Rattle.sector_slots.specs.Steps.{MayHoldTag, OnlyPlace, OnlyMark, IsBegun, IsErasedSlot};
 ghost use Rattle.sector_slots.specs.Steps.{CopyLeaves, IsErasable};
 ghost use Rattle.sector_slots.specs.Firm.{SameStates, SameStatesBut};
-ghost use Rattle.sector_slots.specs.Weak.{IsDeadForGood, IsWhollyFirm, mark_place};
+ghost use Rattle.sector_slots.specs.Torn.{BeginInterrupted, PutInterrupted, SameButPlace};
+ghost use Rattle.sector_slots.specs.Torn.{StateInterrupted};
+ghost use Rattle.sector_slots.specs.Weak.{IsDeadForGood, IsWhollyFirm, descriptor_place};
+ghost use Rattle.sector_slots.specs.Weak.{mark_place};
 
 use erase_journal::RecoverError;
 use nor_driver::NorError;
-use nor_layout::{Header, Kind, MIXED, MIXED_PLACE, SUPER_LEN, Tag};
+use nor_layout::{COMMITTED, Header, Kind, MIXED, MIXED_PLACE, RETIRED, SETTLED, SUPER_LEN, Tag};
 
 /// The data blocks behind the journals, as seven slots each. Blocks and slots are counted from 0:
 /// slot 7c + i is the one at place i of data block c. Every call that can fail but `restore`
 /// answers a latched Slow, then a power that is off, before anything else. Reads keep an index that
-/// is kept beside the slots; the calls that change the memory needn't. Source: own, layout 2.
+/// is kept beside the slots; the calls that change the memory needn't. Where the power goes in a
+/// call, its clause `cut_bits` says which bits may have become weak (specs/Torn.antt); of
+/// `retire_group`, `mark` and `restore` that isn't said. A read makes none weak. Source: own,
+/// layout 2.
 pub trait SlotCalls {
     ghost state: { Self → NorState };
 
@@ -51,6 +59,7 @@ pub trait SlotCalls {
         ensures ok { IfOk result (λ is_free. IsTrue is_free
             ↔ (stored_at (state self.old).memory slot ≡ Free)) }
         ensures same { (state self.new).memory ≡ (state self.old).memory }
+        ensures weak { (state self.new).weak ≡ (state self.old).weak }
         ensures index { indexed self.new ≡ indexed self.old }
         ensures ends { EndsFirmly result (state self.old) (state self.new) };
 
@@ -65,6 +74,7 @@ pub trait SlotCalls {
             → stored_at (state self.old).memory slot ≢ Live tag content) × (into.new ≡ into.old))
             (λ tag. stored_at (state self.old).memory slot ≡ Live tag into.new)) }
         ensures same { (state self.new).memory ≡ (state self.old).memory }
+        ensures weak { (state self.new).weak ≡ (state self.old).weak }
         ensures index { indexed self.new ≡ indexed self.old }
         ensures ends { EndsFirmly result (state self.old) (state self.new) };
 
@@ -76,6 +86,7 @@ pub trait SlotCalls {
         ensures ok { OnOk result ((tag : TagOf) (content : List ℕ)
             → stored_at (state self.old).memory slot ≡ Live tag content → into.new ≡ content) }
         ensures same { (state self.new).memory ≡ (state self.old).memory }
+        ensures weak { (state self.new).weak ≡ (state self.old).weak }
         ensures index { indexed self.new ≡ indexed self.old }
         ensures ends { EndsFirmly result (state self.old) (state self.new) };
 
@@ -102,6 +113,8 @@ pub trait SlotCalls {
         ensures cut_only { IsErrOf result NorError.Cut
             → OnlyPlace slot (state self.old).memory (state self.new).memory }
         ensures chip { SameChip (state self.old).memory (state self.new).memory }
+        ensures cut_bits { IsErrOf result NorError.Cut → PutInterrupted (slot / 7) (slot % 7)
+            (bits_in (state self.old)) (bits_in (state self.new)) }
         ensures healthy { IsErrOf result NorError.Cut → IsHealthy (state self.old).memory
             → IsHealthy (state self.new).memory }
         ensures ends { EndsFirmly result (state self.old) (state self.new) };
@@ -129,6 +142,9 @@ pub trait SlotCalls {
         ensures cut_only { IsErrOf result NorError.Cut
             → OnlyPlace slot (state self.old).memory (state self.new).memory }
         ensures chip { SameChip (state self.old).memory (state self.new).memory }
+        ensures cut_bits { IsErrOf result NorError.Cut
+            → StateInterrupted (descriptor_place (slot / 7) (slot % 7)) RETIRED
+            (bits_in (state self.old)) (bits_in (state self.new)) }
         ensures healthy { IsErrOf result NorError.Cut → IsHealthy (state self.old).memory
             → IsHealthy (state self.new).memory }
         ensures ends { EndsFirmly result (state self.old) (state self.new) };
@@ -155,6 +171,7 @@ pub trait SlotCalls {
         requires number { block < data_blocks (state self.old).memory }
         ensures ok { IfOk result (λ kind. kind ≡ kind_at (state self.old).memory block) }
         ensures same { (state self.new).memory ≡ (state self.old).memory }
+        ensures weak { (state self.new).weak ≡ (state self.old).weak }
         ensures index { indexed self.new ≡ indexed self.old }
         ensures ends { EndsFirmly result (state self.old) (state self.new) };
 
@@ -168,6 +185,7 @@ pub trait SlotCalls {
             → read_header into.new i ≡ descriptor_in (data_block (state self.old).memory block) i) }
         ensures size { length into.new ≡ length into.old }
         ensures same { (state self.new).memory ≡ (state self.old).memory }
+        ensures weak { (state self.new).weak ≡ (state self.old).weak }
         ensures index { indexed self.new ≡ indexed self.old }
         ensures ends { EndsFirmly result (state self.old) (state self.new) };
 
@@ -188,6 +206,8 @@ pub trait SlotCalls {
         ensures cut_only { IsErrOf result NorError.Cut
             → OnlyMark target (state self.old).memory (state self.new).memory }
         ensures chip { SameChip (state self.old).memory (state self.new).memory }
+        ensures cut_bits { IsErrOf result NorError.Cut → BeginInterrupted target
+            (bits_in (state self.old)) (bits_in (state self.new)) }
         ensures healthy { IsErrOf result NorError.Cut → IsHealthy (state self.old).memory
             → IsHealthy (state self.new).memory }
         ensures ends { EndsFirmly result (state self.old) (state self.new) };
@@ -216,6 +236,8 @@ pub trait SlotCalls {
         ensures fresh { OnOk result ((i : ℕ) → i < 7 → i ≢ place
             → IsErasedSlot target i (state self.old).memory
             → IsErasedSlot target i (state self.new).memory) }
+        ensures cut_bits { IsErrOf result NorError.Cut → SameButPlace target place
+            (bits_in (state self.old)) (bits_in (state self.new)) }
         ensures healthy { IsErrOf result NorError.Cut → IsHealthy (state self.old).memory
             → IsHealthy (state self.new).memory }
         ensures ends { EndsFirmly result (state self.old) (state self.new) };
@@ -235,6 +257,8 @@ pub trait SlotCalls {
         ensures cut_only { IsErrOf result NorError.Cut
             → OnlyMark target (state self.old).memory (state self.new).memory }
         ensures chip { SameChip (state self.old).memory (state self.new).memory }
+        ensures cut_bits { IsErrOf result NorError.Cut → StateInterrupted (mark_place target)
+            COMMITTED (bits_in (state self.old)) (bits_in (state self.new)) }
         ensures healthy { IsErrOf result NorError.Cut → IsHealthy (state self.old).memory
             → IsHealthy (state self.new).memory }
         ensures ends { EndsFirmly result (state self.old) (state self.new) };
@@ -259,13 +283,17 @@ pub trait SlotCalls {
         ensures cut_only { IsErrOf result NorError.Cut
             → OnlyMark target (state self.old).memory (state self.new).memory }
         ensures chip { SameChip (state self.old).memory (state self.new).memory }
+        ensures cut_bits { IsErrOf result NorError.Cut → StateInterrupted (mark_place target)
+            SETTLED (bits_in (state self.old)) (bits_in (state self.new)) }
         ensures healthy { IsErrOf result NorError.Cut → IsHealthy (state self.old).memory
             → IsHealthy (state self.new).memory }
         ensures ends { EndsFirmly result (state self.old) (state self.new) };
 
     /// Erases a block in one step. It isn't committed, and none of its slots counts as live. Cut on
     /// a healthy memory, it leaves the block as it was or erased. No bit of an erased block is
-    /// weak.
+    /// weak, and none of another data block changes. Cut on firm journals, it leaves the block's
+    /// bits as they were, or an entry open for it however the weak bits read at the next power-on,
+    /// or the block erased and firm.
     fn erase(&mut self, block: u16) -> Result<(), NorError>
         requires number { block < data_blocks (state self.old).memory }
         requires dead { IsNorReady (state self.old) → IsErasable block (state self.old).memory }
@@ -274,6 +302,12 @@ pub trait SlotCalls {
         ensures firm { OnOk result (IsWhollyFirm (state self.new).weak block) }
         ensures cut { IsErrOf result NorError.Cut → IsHealthy (state self.old).memory
             → EraseInterrupted (block + 4) (state self.old).memory (state self.new).memory }
+        ensures beside { SameBeside (block + 4) (bits_in (state self.old))
+            (bits_in (state self.new)) }
+        ensures cut_bits { IsErrOf result NorError.Cut → IsSettled (state self.old).memory
+            → AreFirmJournals (bits_in (state self.old))
+            → BlockInterrupted (block + 4) (bits_in (state self.old))
+            (bits_in (state self.new)) }
         ensures healthy { IsErrOf result NorError.Cut → IsHealthy (state self.old).memory
             → IsHealthy (state self.new).memory }
         ensures spends { OnOk result (Spends (unused (state self.old).memory)
@@ -288,6 +322,7 @@ pub trait SlotCalls {
             ≡ slice_range (state self.old).memory 0 SUPER_LEN) }
         ensures size { length into.new ≡ length into.old }
         ensures same { (state self.new).memory ≡ (state self.old).memory }
+        ensures weak { (state self.new).weak ≡ (state self.old).weak }
         ensures index { indexed self.new ≡ indexed self.old }
         ensures ends { EndsFirmly result (state self.old) (state self.new) };
 

@@ -14,14 +14,17 @@ ghost use Rattle.sector_slots.specs.Firm.{KeepsHead, HoldsBegun, AreDeadForGood}
 ghost use Rattle.sector_slots.specs.Slots.{Free, Dead, slot_at, slot_count, data_blocks, IsClean};
 ghost use Rattle.sector_slots.specs.Slots.{data_block};
 ghost use Rattle.sector_slots.specs.Steps.{OnlyPlace};
-ghost use Rattle.sector_slots.specs.Weak.{block_place, IsDeadForGood};
+ghost use Rattle.erase_journal.specs.Torn.{SameData};
+ghost use Rattle.sector_slots.specs.Torn.{HeadInterrupted, StateInterrupted};
+ghost use Rattle.sector_slots.specs.Weak.{block_place, descriptor_place, IsDeadForGood};
 
 use crate::calls::SlotCalls;
 use nor_driver::NorError;
 
 /// What makes slots firm. No call here changes a sector. Source: own, layout 2.
 pub trait FirmCalls: SlotCalls {
-    /// Makes the superblock and the journals firm, as `Journal::firm` does. No block changes.
+    /// Makes the superblock and the journals firm, as `Journal::firm` does. No bit of a data block
+    /// changes.
     fn firm(&mut self) -> Result<(), NorError>
         ensures blocks { OnOk result (SameBlocks (Self.state self.old).memory
             (Self.state self.new).memory) }
@@ -29,10 +32,12 @@ pub trait FirmCalls: SlotCalls {
             → OnOk result (AreFirmJournals (bits_in (Self.state self.new))) }
         ensures cut { IsErrOf result NorError.Cut → IsHealthy (Self.state self.old).memory
             → KeepsBlocks (Self.state self.old).memory (Self.state self.new).memory }
+        ensures data { SameData (bits_in (Self.state self.old)) (bits_in (Self.state self.new)) }
         ensures size { length (Self.state self.new).memory ≡ length (Self.state self.old).memory }
         ensures ends { EndsSettled result (Self.state self.old) (Self.state self.new) };
 
-    /// Erases each of the three journals, as `Journal::renew_all` does. No block changes.
+    /// Erases each of the three journals, as `Journal::renew_all` does. No bit of a data block
+    /// changes.
     fn renew_journals(&mut self) -> Result<(), NorError>
         ensures blocks { OnOk result (SameBlocks (Self.state self.old).memory
             (Self.state self.new).memory) }
@@ -40,6 +45,7 @@ pub trait FirmCalls: SlotCalls {
             (unused (Self.state self.new).memory)) }
         ensures cut { IsErrOf result NorError.Cut → IsHealthy (Self.state self.old).memory
             → KeepsBlocks (Self.state self.old).memory (Self.state self.new).memory }
+        ensures data { SameData (bits_in (Self.state self.old)) (bits_in (Self.state self.new)) }
         ensures size { length (Self.state self.new).memory ≡ length (Self.state self.old).memory }
         ensures ends { EndsFirmly result (Self.state self.old) (Self.state self.new) };
 
@@ -61,6 +67,8 @@ pub trait FirmCalls: SlotCalls {
         ensures cut { IsErrOf result NorError.Cut → KeepsHead block (Self.state self.old).memory
             (Self.state self.new).memory }
         ensures size { length (Self.state self.new).memory ≡ length (Self.state self.old).memory }
+        ensures cut_bits { IsErrOf result NorError.Cut → HeadInterrupted block
+            (bits_in (Self.state self.old)) (bits_in (Self.state self.new)) }
         ensures healthy { IsErrOf result NorError.Cut → IsHealthy (Self.state self.old).memory
             → IsHealthy (Self.state self.new).memory }
         ensures ends { EndsFirmly result (Self.state self.old) (Self.state self.new) };
@@ -73,6 +81,7 @@ pub trait FirmCalls: SlotCalls {
         ensures not_begun { IfOk result (λ begun. IsFalse begun
             → HoldsBegun (data_block (Self.state self.old).memory block) → ⊥) }
         ensures same { (Self.state self.new).memory ≡ (Self.state self.old).memory }
+        ensures weak { (Self.state self.new).weak ≡ (Self.state self.old).weak }
         ensures index { Self.indexed self.new ≡ Self.indexed self.old }
         ensures ends { EndsFirmly result (Self.state self.old) (Self.state self.new) };
 
@@ -97,6 +106,9 @@ pub trait FirmCalls: SlotCalls {
         ensures cut_only { IsErrOf result NorError.Cut
             → OnlyPlace slot (Self.state self.old).memory (Self.state self.new).memory }
         ensures chip { SameChip (Self.state self.old).memory (Self.state self.new).memory }
+        ensures cut_bits { IsErrOf result NorError.Cut
+            → StateInterrupted (descriptor_place (slot / 7) (slot % 7)) 251
+            (bits_in (Self.state self.old)) (bits_in (Self.state self.new)) }
         ensures healthy { IsErrOf result NorError.Cut → IsHealthy (Self.state self.old).memory
             → IsHealthy (Self.state self.new).memory }
         ensures ends { EndsFirmly result (Self.state self.old) (Self.state self.new) };

@@ -4,6 +4,7 @@ ghost use Rattle.std.specs.Prelude.{◌≡◌, ℕ, List};
 ghost use Rattle.sector_slots.specs.Slots.{Slot};
 ghost use Rattle.sector_slots.specs.Sectors.{SectorIs};
 ghost use Rattle.sector_slots.specs.Blocks.{SoundBlocksHaveNoFault};
+ghost use Rattle.sector_slots.specs.Half.{LossesLeaveHalfBlocks};
 ghost use Rattle.sector_slots.specs.Laws.{CountedSlotsAreStored, CopiesAreExact, CopiesKeepTags};
 ghost use Rattle.sector_slots.specs.Laws.{ReservesAreOne, ErasedChipsHoldZeros, GroupsAreSeen};
 ghost use Rattle.sector_slots.specs.Laws.{SectorsAreSaid, MarksKeepSectors};
@@ -86,3 +87,11 @@ pub fn erased_chips_hold_zeros()
 {
     erased_chips_are_settled();
 }
+
+/// Where the power goes in a call on a store that a firm mount left, a block that was sure is one
+/// of which one change was interrupted, however its weak bits read at the next power-on: if the
+/// slot that is written is the lowest free one of a trusted block, one that is retired has a firm
+/// newer one or holds zeros, and so on, case by case.
+pub fn losses_leave_half_blocks()
+    ensures { LossesLeaveHalfBlocks }
+{}

@@ -1,3 +1,4 @@
+use Rattle.chip_model.specs.Wavering.{Bits}
 use Rattle.std.proofs.Common.{◌≡◌, ◌+◌, ◌∙◌, arith, length, ap, subst, sym}
 use Rattle.std.specs.Prelude.{slice_range}
 use Rattle.std.proofs.lemmas.Result.{err_from_is_err_and}
@@ -13,6 +14,9 @@ use Rattle.erase_journal.proofs.SettledLaws.{settled-after}
 use Rattle.erase_journal.proofs.Firmly.{refuses-firmly}
 use Rattle.nor_driver.specs.State.{bits_in}
 use Rattle.journal_slots.proofs.Killing.{head-zeros, head-for-good, blank-zeros, blank-for-good, head-kept, begun-holds, none-begun, blank-begun}
+use Rattle.erase_journal.proofs.Drawing.{same-bits}
+use Rattle.sector_slots.specs.Torn.{not_begun}
+use Rattle.journal_slots.proofs.Torn.{head-interrupted}
 use Rattle.journal_slots.proofs.firm.firm_head.Goals as goal
 
 pub returns-in_err-program_bytes-clause-cut : goal.returns-in_err-program_bytes-clause-cut
@@ -73,7 +77,7 @@ returns-clause-zeros g c =
     let same : s1.memory ≡ m = c.in_ok-read.ensures.same in
     let n = length-block m (c.args.block + 4) (omega (arith, c.requires.number)) in
     head-zeros c.args.block (bits_in s1) (bits_in s2) c.read.new.into c.firm_bytes.new.head (ap (λ z. length (data_block z c.args.block)) same ∙ n) (omega (arith, c.firm_bytes.ensures.size))
-    (subst (λ z. c.read.new.into ≡ slice_range (data_block z c.args.block) 0 44) (sym same) c.in_ok-read.ensures.ok) c.firm_bytes.ensures.each c.in_ok-program_bytes.ensures.ends.settled c.in_ok-program_bytes.ensures.ok c.in_ok-program_bytes.ensures.firm
+    (subst (λ z. c.read.new.into ≡ slice_range (data_block z c.args.block) 0 44) (sym same) c.in_ok-read.ensures.ok) c.firm_bytes.ensures.each c.in_ok-program_bytes.ensures.ends.settled c.in_ok-program_bytes.ensures.ok (ap (λ (x : Bits). x.weak) c.in_ok-program_bytes.ensures.firm)
 
 pub returns-clause-for_good : goal.returns-clause-for_good
 returns-clause-for_good g c =
@@ -84,7 +88,7 @@ returns-clause-for_good g c =
     let n = length-block m (c.args.block + 4) (omega (arith, c.requires.number)) in
     subst (λ z. AreDeadForGood c.args.block z (bits_in s2)) same
     (head-for-good c.args.block (bits_in s1) (bits_in s2) c.read.new.into c.firm_bytes.new.head (ap (λ z. length (data_block z c.args.block)) same ∙ n) (omega (arith, c.firm_bytes.ensures.size))
-    (subst (λ z. c.read.new.into ≡ slice_range (data_block z c.args.block) 0 44) (sym same) c.in_ok-read.ensures.ok) c.firm_bytes.ensures.each c.in_ok-program_bytes.ensures.ends.settled c.in_ok-program_bytes.ensures.ok c.in_ok-program_bytes.ensures.firm
+    (subst (λ z. c.read.new.into ≡ slice_range (data_block z c.args.block) 0 44) (sym same) c.in_ok-read.ensures.ok) c.firm_bytes.ensures.each c.in_ok-program_bytes.ensures.ends.settled c.in_ok-program_bytes.ensures.ok (ap (λ (x : Bits). x.weak) c.in_ok-program_bytes.ensures.firm)
     c.firm_bytes.ensures.dead c.firm_bytes.ensures.begun)
 
 pub returns-then-is_blank-clause-zeros : goal.returns-then-is_blank-clause-zeros
@@ -95,3 +99,14 @@ returns-then-is_blank-clause-zeros g c =
 pub returns-then-is_blank-clause-for_good : goal.returns-then-is_blank-clause-for_good
 returns-then-is_blank-clause-for_good g c =
     blank-for-good c.args.block c.args.journal.now.memory (bits_in c.read.new.self) c.read.new.into c.in_ok-read.ensures.ok (c.is_blank.ensures.blank c.if-is_blank.true)
+
+pub returns-in_err-program_bytes-clause-cut_bits : goal.returns-in_err-program_bytes-clause-cut_bits
+returns-in_err-program_bytes-clause-cut_bits g c is =
+    let p = err_from_is_err_and c.from_residual-in_err-program_bytes.result c.from_residual-in_err-program_bytes.ensures.1 in
+    let s0 = c.args.journal.now in
+    let s1 = c.read.new.self in
+    head-interrupted c.args.block s0.memory s0.weak s1.memory s1.weak (bits_in c.program_bytes.new.journal) c.read.new.into c.firm_bytes.new.head c.in_ok-read.ensures.same c.in_ok-read.ensures.weak
+    c.in_ok-read.ensures.ends.settled (omega (arith, c.firm_bytes.ensures.size)) c.in_ok-read.ensures.ok c.firm_bytes.ensures.each (c.in_err-program_bytes.ensures.cut_bits (cc (p.1, p.2)))
+
+pub returns-in_err-read-clause-cut_bits : goal.returns-in_err-read-clause-cut_bits
+returns-in_err-read-clause-cut_bits g c is = not_begun (same-bits c.read.new.self.memory c.args.journal.now.memory c.read.new.self.weak c.args.journal.now.weak c.in_err-read.ensures.same c.in_err-read.ensures.weak)

@@ -1,3 +1,4 @@
+use Rattle.chip_model.specs.Wavering.{Bits}
 use Rattle.std.proofs.Common.{◌+◌, ◌∷◌, [], ◌∙◌, ap, subst, refl, arith}
 use Rattle.std.proofs.lemmas.Result.{err_from_is_err_and}
 use Rattle.chip_model.specs.Memory.{and_at, TornAnd}
@@ -48,4 +49,4 @@ pub returns-clause-for_good : goal.returns-clause-for_good
 returns-clause-for_good g c =
     programmed-for-good (bits_in c.args.journal.now) (bits_in c.program_bytes.new.journal) c.args.block c.args.place 251 c.requires.place refl c.in_ok-program_bytes.ensures.ends.settled
     (c.in_ok-program_bytes.ensures.ok ∙ ap (λ a. and_at (data_block c.args.journal.now.memory c.args.block) a (251 ∷ [])) c.descriptor_place.ensures)
-    (c.in_ok-program_bytes.ensures.firm ∙ ap (λ a. and_at c.args.journal.now.weak (block_place c.args.block + a) (251 ∷ [])) c.descriptor_place.ensures)
+    (ap (λ (x : Bits). x.weak) c.in_ok-program_bytes.ensures.firm ∙ ap (λ a. and_at c.args.journal.now.weak (block_place c.args.block + a) (251 ∷ [])) c.descriptor_place.ensures)

@@ -1,3 +1,4 @@
+use Rattle.chip_model.specs.Wavering.{Bits}
 use Rattle.std.proofs.Common.{◌+◌, ◌*◌, ◌∷◌, [], ◌∙◌, ◌≡◌, ap, subst, refl, inr, arith}
 use Rattle.std.specs.Prelude.{bit_and}
 use Rattle.std.specs.Int.{bit_at}
@@ -44,5 +45,5 @@ returns-clause-states g c i low =
 pub returns-clause-third : goal.returns-clause-third
 returns-clause-third g c =
     let z : mark_place c.args.target + 0 ≡ mark_place c.args.target = omega arith in
-    ap (λ w. bit_at (byte w (mark_place c.args.target)) 2) c.in_ok-program.ensures.firm
+    ap (λ w. bit_at (byte w (mark_place c.args.target)) 2) (ap (λ (x : Bits). x.weak) c.in_ok-program.ensures.firm)
     ∙ subst (λ k. bit_at (byte (and_at c.args.journal.now.weak (mark_place c.args.target) (248 ∷ [])) k) 2 ≡ 0) z (and-bit c.args.journal.now.weak (mark_place c.args.target) (248 ∷ []) 0 2 (omega arith) refl)

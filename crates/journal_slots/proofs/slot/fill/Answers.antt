@@ -13,6 +13,12 @@ use Rattle.journal_slots.specs.Programs.{OnlyBytes}
 use Rattle.journal_slots.proofs.Bytes.{leaves-only, and-only, placed-at, descriptor-place, content-place, place-after, place-group}
 use Rattle.sector_slots.proofs.GroupLaws.{free-no_group}
 use Rattle.journal_slots.proofs.Places.{fresh-descriptor, begun-cut, begun-state, content-cut}
+use Rattle.std.proofs.Common.{ap, ◌∙◌}
+use Rattle.chip_model.specs.Wavering.{Bits}
+use Rattle.nor_driver.specs.State.{bits_in, program_bits}
+use Rattle.erase_journal.specs.Torn.{ProgramInterrupted}
+use Rattle.sector_slots.specs.Torn.{in_header, in_sector, SameButSector}
+use Rattle.sector_slots.specs.Weak.{block_place}
 use Rattle.journal_slots.proofs.slot.fill.Goals as goal
 
 pub returns-in_err-program_bytes-clause-cut : goal.returns-in_err-program_bytes-clause-cut
@@ -73,3 +79,18 @@ returns-clause-ends g c =
     let s1 = c.program_bytes.new.journal in
     let s2 = c.write_content.new.journal in
     settled-after s0 s1 s2 c.in_ok-program_bytes.ensures.ends c.in_ok-write_content.ensures.ends
+
+pub returns-in_err-program_bytes-clause-cut_bits : goal.returns-in_err-program_bytes-clause-cut_bits
+returns-in_err-program_bytes-clause-cut_bits g c is =
+    let p = err_from_is_err_and c.from_residual.result c.from_residual.ensures.1 in
+    let h = c.args.header.now in
+    in_header h (record { size = c.requires.header; state = c.requires.begun })
+    (subst (λ a. ProgramInterrupted (block_place c.args.block + a) h (bits_in c.args.journal.now) (bits_in c.program_bytes.new.journal)) c.descriptor_place.ensures (c.in_err-program_bytes.ensures.cut_bits (cc (p.1, p.2))))
+
+pub returns-in_err-write_content-clause-cut_bits : goal.returns-in_err-write_content-clause-cut_bits
+returns-in_err-write_content-clause-cut_bits g c is =
+    let p = err_from_is_err_and c.from_residual-in_err-write_content.result c.from_residual-in_err-write_content.ensures.1 in
+    let h = c.args.header.now in
+    let programmed = c.in_ok-program_bytes.ensures.firm ∙ ap (λ a. program_bits (bits_in c.args.journal.now) (block_place c.args.block + a) h) c.descriptor_place.ensures in
+    in_sector h (record { size = c.requires.header; state = c.requires.begun })
+    (subst (λ (x : Bits). SameButSector c.args.block c.args.place x (bits_in c.write_content.new.journal)) programmed (c.in_err-write_content.ensures.cut_bits (cc (p.1, p.2))))

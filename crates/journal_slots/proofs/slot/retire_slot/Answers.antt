@@ -1,3 +1,4 @@
+use Rattle.chip_model.specs.Wavering.{Bits}
 use Rattle.std.proofs.lemmas.Bool.{cases_lt}
 use Rattle.std.proofs.Common.{inl, inr, ◌*◌, ◌<◌, ◌≤◌, ◌⊎◌, ◌+◌, ◌∷◌, [], ◌∙◌, ap, subst, refl, arith}
 use Rattle.std.proofs.lemmas.Result.{err_from_is_err_and}
@@ -49,7 +50,7 @@ pub returns-clause-for_good : goal.returns-clause-for_good
 returns-clause-for_good g c =
     programmed-for-good (bits_in c.args.journal.now) (bits_in c.program_bytes.new.journal) c.args.block c.args.place 248 c.requires.place refl c.in_ok-program_bytes.ensures.ends.settled
     (c.in_ok-program_bytes.ensures.ok ∙ ap (λ a. and_at (data_block c.args.journal.now.memory c.args.block) a (248 ∷ [])) c.descriptor_place.ensures)
-    (c.in_ok-program_bytes.ensures.firm ∙ ap (λ a. and_at c.args.journal.now.weak (block_place c.args.block + a) (248 ∷ [])) c.descriptor_place.ensures)
+    (ap (λ (x : Bits). x.weak) c.in_ok-program_bytes.ensures.firm ∙ ap (λ a. and_at c.args.journal.now.weak (block_place c.args.block + a) (248 ∷ [])) c.descriptor_place.ensures)
 
 pub returns-clause-states : goal.returns-clause-states
 returns-clause-states g c i low other =

@@ -12,6 +12,9 @@ use Rattle.erase_journal.proofs.SettledLaws.{settled-after}
 use Rattle.erase_journal.proofs.Firmly.{refuses-firmly}
 use Rattle.journal_slots.proofs.Bytes.{leaves-only, and-only, only-wider, bytes-after, last-page, two-pages}
 use Rattle.erase_journal.proofs.SettledLaws.{settled-healthy}
+use Rattle.nor_driver.specs.State.{bits_in, changed_whole}
+use Rattle.sector_slots.specs.Weak.{block_place, sector_place}
+use Rattle.journal_slots.proofs.Torn.{sector-aside, sectors-aside}
 use Rattle.journal_slots.proofs.slot.write_content.Goals as goal
 
 pub slice_bounds-program_bytes-end : goal.slice_bounds-program_bytes-end
@@ -80,3 +83,43 @@ pub returns-in_err-program_bytes-2-clause-healthy : goal.returns-in_err-program_
 returns-in_err-program_bytes-2-clause-healthy g c is healthy =
     let p = err_from_is_err_and c.from_residual-in_err-program_bytes-2.result c.from_residual-in_err-program_bytes-2.ensures.1 in
     c.in_err-program_bytes-2.ensures.healthy (cc (p.1, p.2)) (settled-healthy _ c.in_ok-program_bytes.ensures.ends.settled)
+
+pub returns-in_err-program_bytes-clause-cut_bits : goal.returns-in_err-program_bytes-clause-cut_bits
+returns-in_err-program_bytes-clause-cut_bits g c is =
+    let x = c.args.content.now in
+    let n = length-take-le 256 x (omega (arith, c.requires.size)) in
+    let at = c.content_place-at.ensures in
+    let s0 = bits_in c.args.journal.now in
+    let s1 = bits_in c.program_bytes.new.journal in
+    let p = err_from_is_err_and c.from_residual.result c.from_residual.ensures.1 in
+    sector-aside c.args.block c.args.place (block_place c.args.block + c.content_place-at.result) (take 256 x) s0 s1 (omega (arith, at)) (omega (arith, n, at)) (c.in_err-program_bytes.ensures.cut_bits (cc (p.1, p.2)))
+
+pub returns-in_err-program_bytes-2-clause-cut_bits : goal.returns-in_err-program_bytes-2-clause-cut_bits
+returns-in_err-program_bytes-2-clause-cut_bits g c is =
+    let x = c.args.content.now in
+    let n = length-take-le 256 x (omega (arith, c.requires.size)) in
+    let at = c.content_place-at.ensures in
+    let s0 = bits_in c.args.journal.now in
+    let s1 = bits_in c.program_bytes.new.journal in
+    let page = take (length x - 256) (drop 256 x) in
+    let k : length page ≡ length x - 256 = ap (λ q. length q) (last-page x) ∙ length-drop 256 x in
+    let s2 = bits_in c.program_bytes-2.new.journal in
+    let begun = sector-aside c.args.block c.args.place (block_place c.args.block + c.content_place-at.result) (take 256 x) s0 s1 (omega (arith, at)) (omega (arith, n, at)) (changed_whole c.in_ok-program_bytes.ensures.firm) in
+    let p = err_from_is_err_and c.from_residual-in_err-program_bytes-2.result c.from_residual-in_err-program_bytes-2.ensures.1 in
+    sectors-aside c.args.block c.args.place s0 s1 s2 begun (sector-aside c.args.block c.args.place (block_place c.args.block + (c.content_place-at.result + 256)) page s1 s2 (omega (arith, at)) (omega (arith, k, at, c.requires.size)) (c.in_err-program_bytes-2.ensures.cut_bits (cc (p.1, p.2))))
+
+pub returns-clause-sector : goal.returns-clause-sector
+returns-clause-sector g c =
+    let x = c.args.content.now in
+    let n = length-take-le 256 x (omega (arith, c.requires.size)) in
+    let at = c.content_place-at.ensures in
+    let s0 = bits_in c.args.journal.now in
+    let s1 = bits_in c.program_bytes.new.journal in
+    let page = take (length x - 256) (drop 256 x) in
+    let k : length page ≡ length x - 256 = ap (λ q. length q) (last-page x) ∙ length-drop 256 x in
+    let s2 = bits_in c.program_bytes-2.new.journal in
+    let begun = sector-aside c.args.block c.args.place (block_place c.args.block + c.content_place-at.result) (take 256 x) s0 s1 (omega (arith, at)) (omega (arith, n, at)) (changed_whole c.in_ok-program_bytes.ensures.firm) in
+    record {
+      beside = sectors-aside c.args.block c.args.place s0 s1 s2 begun (sector-aside c.args.block c.args.place (block_place c.args.block + (c.content_place-at.result + 256)) page s1 s2 (omega (arith, at)) (omega (arith, k, at, c.requires.size)) (changed_whole c.in_ok-program_bytes-2.ensures.firm));
+      weak = λ i j low one. c.in_ok-program_bytes.ensures.ends.kept.bits.weak (sector_place c.args.block c.args.place + i) j (c.in_ok-program_bytes-2.ensures.ends.kept.bits.weak (sector_place c.args.block c.args.place + i) j one);
+    }

@@ -13,6 +13,10 @@ use Rattle.journal_slots.specs.Programs.{OnlyBytes}
 use Rattle.journal_slots.proofs.Bytes.{leaves-only, and-only, descriptor-place, place-after}
 use Rattle.journal_slots.proofs.Places.{fresh-descriptor, fill-leaves, filled-within, commit-leaves, committed, committed-tag}
 use Rattle.sector_slots.proofs.GroupLaws.{free-no_group}
+use Rattle.nor_driver.specs.State.{bits_in}
+use Rattle.sector_slots.specs.Torn.{in_commit, StateInterrupted}
+use Rattle.sector_slots.specs.Weak.{block_place}
+use Rattle.journal_slots.proofs.Torn.{begun-descriptor}
 use Rattle.journal_slots.proofs.slot.write_slot.Goals as goal
 
 pub returns-in_err-fill-clause-cut : goal.returns-in_err-fill-clause-cut
@@ -93,3 +97,14 @@ returns-clause-ends g c =
     let s1 = c.fill.new.journal in
     let s2 = c.program_bytes.new.journal in
     settled-after s0 s1 s2 c.in_ok-fill.ensures.ends c.in_ok-program_bytes.ensures.ends
+
+pub returns-in_err-fill-clause-cut_bits : goal.returns-in_err-fill-clause-cut_bits
+returns-in_err-fill-clause-cut_bits g c is =
+    let p = err_from_is_err_and c.from_residual.result c.from_residual.ensures.1 in
+    c.in_err-fill.ensures.cut_bits (cc (p.1, p.2))
+
+pub returns-in_err-program_bytes-clause-cut_bits : goal.returns-in_err-program_bytes-clause-cut_bits
+returns-in_err-program_bytes-clause-cut_bits g c is =
+    let p = err_from_is_err_and c.from_residual-in_err-program_bytes.result c.from_residual-in_err-program_bytes.ensures.1 in
+    in_commit c.begun_header-header.result (bits_in c.fill.new.journal) (begun-descriptor c.begun_header-header.result c.args.tag (omega arith) c.begun_header-header.ensures.begun c.begun_header-header.ensures.read_back) c.in_ok-fill.ensures.bits
+    (subst (λ a. StateInterrupted (block_place c.args.block + a) 252 (bits_in c.fill.new.journal) (bits_in c.program_bytes.new.journal)) c.descriptor_place.ensures (c.in_err-program_bytes.ensures.cut_bits (cc (p.1, p.2))))

@@ -56,3 +56,8 @@ returns-clause-clean g c = rw (← c.self.view_is) (λ h. (
 
 pub returns-clause-only : goal.returns-clause-only
 returns-clause-only g c = rw (← c.self.view_is) (place-only c.args.slot c.self.inside.journal.memory c.write_slot.new.journal.memory c.in_ok-write_slot.ensures.only c.in_ok-write_slot.ensures.within)
+
+pub returns-in_err-write_slot-clause-cut_bits : goal.returns-in_err-write_slot-clause-cut_bits
+returns-in_err-write_slot-clause-cut_bits g c = rw (← c.self.view_is) (λ is. (
+    let p = err_from_is_err_and c.from_residual.result c.from_residual.ensures.1 in
+    c.in_err-write_slot.ensures.cut_bits (cc (p.1, p.2))))

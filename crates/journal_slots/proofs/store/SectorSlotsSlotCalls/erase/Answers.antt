@@ -1,0 +1,4 @@
+use Rattle.journal_slots.proofs.store.SectorSlotsSlotCalls.erase.Goals as goal
+
+pub returns-clause-cut_bits : goal.returns-clause-cut_bits
+returns-clause-cut_bits g c = rw (← c.self.view_is) c.erase_data.ensures.cut_bits
