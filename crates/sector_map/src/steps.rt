@@ -26,7 +26,7 @@ use sector_stock::{Purpose, RENEW_NOW, RENEW_SOON, Reclaim};
 
 /// Writes a sector into a slot that it takes, and retires the slot that held it, if one did. Before
 /// that it levels wear, converts a block that holds the sector with its group, and makes the block
-/// of the slot firm, where it is suspect.
+/// of the slot firm, and the reserve if need be, where they are suspect.
 pub(crate) fn write_levelled<S: Reclaim>(
     stock: &mut S,
     table: &mut [LiveSlots],

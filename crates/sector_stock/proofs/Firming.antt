@@ -1,5 +1,5 @@
 -- What making a block firm leaves: a free slot is dead, or a wholly free block was erased; the sectors are what they were, and the index is the memory's.
-use Rattle.std.proofs.Common.{◌≡◌, ◌≢◌, ◌⊎◌, ℕ, ◌+◌, ◌-◌, ◌<◌, ◌≤◌, Bool, true, false, List, length, refl, sym, ap, ◌∙◌, subst, arith, inl, inr}
+use Rattle.std.proofs.Common.{◌≡◌, ◌≢◌, ◌⊎◌, ℕ, ◌+◌, ◌*◌, ◌-◌, ◌<◌, ◌≤◌, Bool, true, false, List, length, refl, sym, ap, ◌∙◌, subst, arith, inl, inr}
 use Rattle.std.specs.Prelude.{◌/◌}
 use Rattle.std.proofs.lemmas.Bool.{cases_eq, cases_lt, false≢true}
 use Rattle.chip_model.specs.Geometry.{block_count, sector_count}
@@ -18,17 +18,18 @@ use Rattle.sector_stock.specs.declared.index.BlockState.{BlockState}
 use Rattle.sector_stock.specs.declared.index.Cursors.{Cursors}
 use Rattle.sector_stock.specs.declared.policy.Wanted.{Wanted}
 use Rattle.sector_stock.specs.declared.policy.Wanted.TheVariants as wanteds
+use Rattle.sector_stock.specs.declared.policy.Policy.{Policy}
 use Rattle.sector_stock.specs.declared.policy.Policy.TheVariants as policies
 use Rattle.sector_stock.specs.Index.{in_block, erases_of, Counts, IsIndexOf, IsWholeBlock, Trusts, Suspects, TrustsMore, ComesToBeTrusted, AreTrusted, AreWithin, IsStocked, AreBounds, AreWorn}
 use Rattle.sector_stock.specs.IndexSteps.{suspects}
 use Rattle.sector_stock.specs.Room.{HasRoom, IsSpareBlock, HasNoneFree}
-use Rattle.sector_stock.specs.Takes.{MakesFirm, KeepsErases, IsLowestFree, FillsUp, GivesTrusted}
+use Rattle.sector_stock.specs.Takes.{MakesFirm, KeepsErases, IsLowestFree, FillsUp, GivesTrusted, IsGivable, TrustsReserve}
 use Rattle.sector_stock.proofs.Copying.{after-keeps, same-sectors-sound}
 use Rattle.sector_stock.proofs.Even.{even-kept}
 use Rattle.sector_stock.proofs.Finding.{reserve-one}
 use Rattle.sector_stock.proofs.Tallies.{how_many-less}
 use Rattle.erase_journal.specs.Places.{how_many}
-use Rattle.sector_stock.proofs.Moved.{sound-of, spare-whole}
+use Rattle.sector_stock.proofs.Moved.{rest-slot, sound-of, spare-whole, whole-spare}
 use Rattle.sector_stock.proofs.Renewing.{SameBut, AreSameBut, listed-but, ahead-but, listed-done, spare-keeps, spare-done, reserve-stays, spare-stays}
 
 -- the slots that count, once a free one is free or dead
@@ -273,4 +274,46 @@ pub none-next : (m : List ℕ) (slots : List SlotState) (blocks : List BlockStat
 none-next m slots blocks at new none index same reserve = record {
   lowest = λ by w h. absurd (none w h.number (λ e. h.outside (reserve-one h.reserve at.reserve m h.is_reserve (index.highest (sym same ∙ by)) ∙ sym e)) h.free);
   level = λ by w h. absurd (none w h.number (λ e. h.outside (reserve ∙ sym e)) h.free);
+}
+
+-- The slot that is given next isn't in the reserve.
+given-outside : (v : ℕ) (m : List ℕ) (slots : List SlotState) (blocks : List BlockState) (at : Cursors) → IsIndexOf slots blocks at m → (at.policy ≡ policies.Lowest → IsLowestFree v m) → (at.policy ≡ policies.Level → FillsUp at.newest at.reserve (erases_of blocks) v m) → v / 7 ≢ at.reserve
+given-outside v m slots blocks at index low up e = from at.policy refl where
+  from : (p : Policy) → at.policy ≡ p → ⊥
+  from policies.Lowest by = (let h = low by in h.outside (reserve-one h.reserve at.reserve m h.is_reserve (index.highest by) ∙ sym e))
+  from policies.Level by = (up by).outside (sym e)
+
+-- Where its block is wholly free, the first slot of the reserve could be given, too.
+pub reserve-givable : (v r : ℕ) (m : List ℕ) (slots : List SlotState) (blocks : List BlockState) (at : Cursors) → AreAtRest (kind_at m) (data_blocks m) → IsIndexOf slots blocks at m → r ≡ at.reserve → v / 7 < length blocks → IsWholeBlock (in_block blocks (v / 7))
+    → (at.policy ≡ policies.Lowest → IsLowestFree v m) → (at.policy ≡ policies.Level → FillsUp at.newest at.reserve (erases_of blocks) v m) → IsGivable (7 * r) m
+reserve-givable v r m slots blocks at rest index is inside whole low up =
+    let n = index.listed.block_size in
+    let number = index.reserve.number in
+    let low' : r < data_blocks m = omega (arith, number, is) in
+    let here : 7 * r / 7 ≡ r = omega arith in
+    record {
+      number = omega (arith, low');
+      free = (let z : 7 * r + 0 ≡ 7 * r = omega arith in ap (λ q. slot_at m q) (sym z)) ∙ (rest-slot m r 0 rest low' (omega arith) ∙ (ap (λ q. raw_slot m q 0) is ∙ index.reserve.spare.free 0 (omega arith)));
+      reserve = v / 7;
+      is_spare = record { number = omega (arith, inside, n); spare = whole-spare m slots blocks (v / 7) rest index.listed (omega (arith, inside, n)) whole };
+      apart = λ e. given-outside v m slots blocks at index low up (e ∙ (here ∙ is));
+    }
+
+-- Where the block is wholly free, and so the reserve is trusted.
+pub reserve-trusted : (v : ℕ) (m : List ℕ) (slots : List SlotState) (blocks : List BlockState) (at new : Cursors) → (IsWholeBlock (in_block blocks (v / 7)) → (in_block blocks new.reserve).suspect ≡ false) → IsIndexOf slots blocks at m → new.policy ≡ at.policy → new.reserve ≡ at.reserve
+    → (at.policy ≡ policies.Lowest → IsLowestFree v m) → (at.policy ≡ policies.Level → FillsUp at.newest at.reserve (erases_of blocks) v m) → (at.policy ≡ policies.Level → new.newest ≡ v / 7) → TrustsReserve new.policy new blocks m
+reserve-trusted v m slots blocks at new trusted index same reserve low up newest = record {
+  lowest = λ by w h whole. trusted (subst (λ a. IsWholeBlock (in_block blocks (a / 7))) (sym (lowest-one v w m (low (sym same ∙ by)) h)) whole);
+  level = λ by w h whole.
+      let p = sym same ∙ by in
+      let f = up p in
+      let q = newest p in
+      let e : w / 7 ≡ new.newest = fills-newest new.newest new.reserve w v (erases_of blocks) m q h f.number f.free (λ x. f.outside (sym reserve ∙ x)) in
+      trusted (subst (λ a. IsWholeBlock (in_block blocks a)) (e ∙ q) whole);
+}
+
+pub reserve-none : (m : List ℕ) (slots : List SlotState) (blocks : List BlockState) (at new : Cursors) → HasNoneFree at.reserve m → IsIndexOf slots blocks at m → new.policy ≡ at.policy → new.reserve ≡ at.reserve → TrustsReserve new.policy new blocks m
+reserve-none m slots blocks at new none index same reserve = record {
+  lowest = λ by w h whole. absurd (none w h.number (λ e. h.outside (reserve-one h.reserve at.reserve m h.is_reserve (index.highest (sym same ∙ by)) ∙ sym e)) h.free);
+  level = λ by w h whole. absurd (none w h.number (λ e. h.outside (reserve ∙ sym e)) h.free);
 }

@@ -17,7 +17,7 @@ use Rattle.sector_slots.specs.Copying.{shifted}
 use Rattle.sector_stock.specs.declared.given.Copied.{Copied}
 use Rattle.sector_stock.specs.Room.{HasNoneDead, IsSpareBlock, IsFull}
 use Rattle.sector_stock.specs.Index.{tally, is_dead, is_free_slot, is_live_group}
-use Rattle.sector_stock.specs.Index.{one_erase_more, in_block, erases_of}
+use Rattle.sector_stock.specs.Index.{IsWholeBlock, one_erase_more, in_block, erases_of}
 use Rattle.sector_stock.specs.declared.index.BlockState.{BlockState}
 use Rattle.sector_stock.specs.declared.index.Cursors.{Cursors}
 use Rattle.sector_stock.specs.declared.policy.Policy.{Policy}
@@ -260,6 +260,17 @@ pub record GivesTrusted (policy : Policy) (at : Cursors) (blocks : List BlockSta
   pub level : policy ≡ policies.Level → (w : ℕ)
       → FillsUp at.newest at.reserve (erases_of blocks) w m
       → (in_block blocks (w / 7)).suspect ≡ false
+
+-- Where the slot that is given next, without a copy, is of a wholly free block, what is free isn't
+-- suspect in the reserve either. So in a firm store the reserve reads as wholly free at each
+-- power-on, until it is used.
+pub record TrustsReserve (policy : Policy) (at : Cursors) (blocks : List BlockState) (m : List ℕ)
+    : Type 0 where
+  pub lowest : policy ≡ policies.Lowest → (w : ℕ) → IsLowestFree w m
+      → IsWholeBlock (in_block blocks (w / 7)) → (in_block blocks at.reserve).suspect ≡ false
+  pub level : policy ≡ policies.Level → (w : ℕ)
+      → FillsUp at.newest at.reserve (erases_of blocks) w m
+      → IsWholeBlock (in_block blocks (w / 7)) → (in_block blocks at.reserve).suspect ≡ false
 
 -- slot w is free, and another block than its own is wholly free
 pub record IsGivable (w : ℕ) (m : List ℕ) : Type 0 where

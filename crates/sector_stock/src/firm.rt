@@ -1,6 +1,7 @@
 //! What was free at a firm mount is suspect until its first use: a bit of it may have been torn,
 //! and read another way at the next power-on. A wholly free block is erased before a slot of it is
-//! given; of any other one the first free slot is made dead. After that the block is trusted.
+//! given, and the reserve, where it is suspect, before a slot of any wholly free block is. Of any
+//! other block the first free slot is made dead. After that the block is trusted.
 
 ghost use Rattle.std.specs.Prelude.{◌≡◌, ◌*◌, ◌/◌, ◌<◌, ◌≤◌, ℕ, List, true, false};
 ghost use Rattle.std.specs.Prelude.{length, OnOk, IfSome, None};
@@ -9,13 +10,15 @@ ghost use Rattle.chip_model.specs.Geometry.{IsChipSize};
 ghost use Rattle.nor_driver.specs.State.{IsNorReady, bits_in};
 ghost use Rattle.erase_journal.specs.Journals.{IsHealthy, IsSettled};
 ghost use Rattle.erase_journal.specs.Steps.{EndsFirmly};
-ghost use Rattle.sector_slots.specs.Slots.{Free, slot_at, slot_count};
+ghost use Rattle.sector_slots.specs.Blocks.{AreAtRest};
+ghost use Rattle.sector_slots.specs.Slots.{Free, data_blocks, kind_at, slot_at, slot_count};
 ghost use Rattle.sector_stock.specs.Copy.{KeepsSectors};
 ghost use Rattle.sector_stock.specs.Index.{in_block, IsIndexOf, IsAhead, IsWholeBlock, Suspects};
 ghost use Rattle.sector_stock.specs.Index.{Trusts, TrustsMore, AreTrusted, IsFirmIn};
 ghost use Rattle.sector_stock.specs.IndexSteps.{HasNoneFreeBefore};
 ghost use Rattle.sector_stock.specs.Room.{HasRoom};
 ghost use Rattle.sector_stock.specs.Takes.{IsGivable, MakesFirm, GivesTrusted, MadeTrusted};
+ghost use Rattle.sector_stock.specs.Takes.{TrustsReserve};
 
 use crate::index::{BlockState, Cursors, SlotState, free_slot, mark_dead, mark_live};
 use crate::policy::is_whole;
@@ -41,8 +44,9 @@ fn trust(blocks: &mut [BlockState], block: u16)
 }
 
 /// Makes the block firm from which a free slot is given next, where it is suspect; and so on, while
-/// none of its slots is left. Where no slot is free outside the reserve, nothing is done: a copy
-/// makes its target firm.
+/// none of its slots is left. Where that block is wholly free, makes a suspect reserve firm too:
+/// once the slot is written it may be the only wholly free block. Where no slot is free outside the
+/// reserve, nothing is done: a copy makes its target firm.
 pub fn firm_free<S: FirmCalls>(
     slots: &mut S,
     states: &mut [SlotState],
@@ -62,6 +66,8 @@ pub fn firm_free<S: FirmCalls>(
         → OnOk result (IsFirmIn (bits_in (S.state slots.new)) blocks.new) }
     ensures next { OnOk result (GivesTrusted at.new.policy at.new blocks.new
         (S.state slots.new).memory) }
+    ensures spare { OnOk result (TrustsReserve at.new.policy at.new blocks.new
+        (S.state slots.new).memory) }
     ensures none { AreTrusted blocks.old → (S.state slots.new).memory ≡ (S.state slots.old).memory }
     ensures policy { OnOk result (at.new.policy ≡ at.old.policy) }
     ensures index { OnOk result (IsIndexOf states.new blocks.new at.new
@@ -80,16 +86,20 @@ pub fn firm_free<S: FirmCalls>(
     Ok(())
 }
 
-/// The free slot that is given next, where its block is suspect.
+/// The free slot that is given next, where its block is suspect; else the first slot of the
+/// reserve, where that is suspect and the block wholly free; else None.
 fn next_suspect(states: &[SlotState], blocks: &[BlockState], at: &mut Cursors) -> Option<u16>
     requires size { length states.now < 65536 }
     requires blocks { length blocks.now ≤ 4096 }
+    requires reserve { at.old.reserve < length blocks.now }
     requires states { length states.now ≡ 7 * length blocks.now }
     requires ahead { IsAhead blocks.now at.old }
     ensures found { (m : List ℕ) → IsIndexOf states.now blocks.now at.old m
-        → IfSome result (λ w. IsGivable w m) }
+        → AreAtRest (kind_at m) (data_blocks m) → IfSome result (λ w. IsGivable w m) }
     ensures next { (m : List ℕ) → IsIndexOf states.now blocks.now at.old m → result ≡ None
         → GivesTrusted at.new.policy at.new blocks.now m }
+    ensures spare { (m : List ℕ) → IsIndexOf states.now blocks.now at.old m → result ≡ None
+        → TrustsReserve at.new.policy at.new blocks.now m }
     ensures first { (m : List ℕ) → IsIndexOf states.now blocks.now at.old m
         → IfSome result (λ w. HasNoneFreeBefore w m) }
     ensures suspect { IfSome result (λ w. (in_block blocks.now (w / 7)).suspect ≡ true) }
@@ -100,8 +110,11 @@ fn next_suspect(states: &[SlotState], blocks: &[BlockState], at: &mut Cursors) -
 {
     match free_slot(states, blocks, at) {
         Some(slot) => {
-            if blocks[(slot / 7) as usize].suspect {
+            let given = blocks[(slot / 7) as usize];
+            if given.suspect {
                 Some(slot)
+            } else if is_whole(given) && blocks[at.reserve as usize].suspect {
+                Some(7 * at.reserve)
             } else {
                 None
             }

@@ -21,7 +21,7 @@ ghost use Rattle.sector_stock.specs.Takes.{Converts, IsLiveGroup, FillsUp, Copie
 ghost use Rattle.sector_stock.specs.Takes.{MovesLeastWorn, CountsErase, IsErasedOnce};
 ghost use Rattle.sector_stock.specs.Index.{erases_of, AreWithin, Suspects, TrustsMore, AreTrusted};
 ghost use Rattle.sector_stock.specs.Takes.{KeepsErases, Renews, IsLeastErased, MakesFirm};
-ghost use Rattle.sector_stock.specs.Takes.{GivesTrusted, MadeTrusted};
+ghost use Rattle.sector_stock.specs.Takes.{GivesTrusted, MadeTrusted, TrustsReserve};
 ghost use Rattle.sector_stock.specs.Policies.{IsTail, AreRestingFewer};
 ghost use Rattle.sector_stock.specs.declared.policy.Policy.{Policy};
 ghost use Rattle.sector_stock.specs.declared.policy.Policy.TheVariants as policies;
@@ -74,8 +74,10 @@ pub trait Reclaim: FirmCalls {
         ensures cursors { cursors self.new ≡ cursors self.old };
 
     /// Makes the block firm from which `take_free` gives a slot, where it is suspect: a wholly free
-    /// one is erased, which isn't counted; of any other one the first free slot is made dead. After
-    /// that the block is trusted. Where no block is suspect nothing changes. No sector changes,
+    /// one is erased, which isn't counted; of any other one the first free slot is made dead. Where
+    /// that block is wholly free, a reserve that is suspect is erased too: once a slot of the block
+    /// is written, the reserve may be the only wholly free block left, and a mount needs one. After
+    /// that these blocks are trusted. Where no block is suspect nothing changes. No sector changes,
     /// whole or cut.
     fn firm_free(&mut self) -> Result<(), NorError>
         requires ready { IsNorReady (Self.state self.old) }
@@ -90,6 +92,8 @@ pub trait Reclaim: FirmCalls {
         ensures firm { IsFirmIn (bits_in (Self.state self.old)) (counts self.old)
             → OnOk result (IsFirmIn (bits_in (Self.state self.new)) (counts self.new)) }
         ensures next { OnOk result (GivesTrusted (policy self.new) (cursors self.new)
+            (counts self.new) (Self.state self.new).memory) }
+        ensures spare { OnOk result (TrustsReserve (policy self.new) (cursors self.new)
             (counts self.new) (Self.state self.new).memory) }
         ensures none { AreTrusted (counts self.old)
             → (Self.state self.new).memory ≡ (Self.state self.old).memory }

@@ -19,6 +19,9 @@ pub enum Base {
     Few,
     /// Of all sectors, with no free slot but the reserve's: the next write copies a block.
     Full,
+    /// Of 63 sectors, and a block of dead slots: the next write begins one of two wholly free
+    /// blocks, and a tidying erases another one.
+    Spares,
     /// The same, and all entries of J0 are used: the next erase renews it.
     Journal,
     /// The same, and all but three votes of J1 for J0: the next erase renews both.
@@ -26,7 +29,7 @@ pub enum Base {
 }
 
 /// What is done before a loss: a call, on a chip.
-pub const CALLS: [(Base, Call); 10] = [
+pub const CALLS: [(Base, Call); 11] = [
     (Base::Few, Call::Write(20, 1, 0xE1)),
     (Base::Few, Call::Write(5, 1, 0xE2)),
     (Base::Few, Call::Write(9, 2, 0xE3)),
@@ -35,6 +38,7 @@ pub const CALLS: [(Base, Call); 10] = [
     (Base::Full, Call::Write(10, 1, 0xE4)),
     (Base::Full, Call::Zero(10, 3)),
     (Base::Full, Call::Tidy),
+    (Base::Spares, Call::Write(63, 1, 0xE5)),
     (Base::Journal, Call::Tidy),
     (Base::Journals, Call::Tidy),
 ];
@@ -113,6 +117,7 @@ impl Base {
         match self {
             Base::Few => mounting,
             Base::Full => mounting,
+            Base::Spares => mounting,
             Base::Journal => Mounting::Plain,
             Base::Journals => Mounting::Plain,
         }
@@ -123,20 +128,23 @@ impl Base {
         let mut life = Life::new(alloc, mounting)?;
         life.begin(&formatted(alloc)?)?;
         life.mount_as(self.first(mounting), 0)?;
-        let most = if matches!(self, Base::Few) {
-            10
-        } else {
-            SECTORS
+        let (most, more) = match self {
+            Base::Few => (10, 4u32),
+            Base::Spares => (63, 7),
+            Base::Full => (SECTORS, 7),
+            Base::Journal => (SECTORS, 7),
+            Base::Journals => (SECTORS, 7),
         };
         for sector in 0..most {
             life.call(Call::Write(sector, 1, 0x40 ^ (sector % 64) as u8), 0)?;
         }
-        let more: u32 = if matches!(self, Base::Few) { 4 } else { 7 };
         for k in 0..more {
-            life.call(
-                Call::Write([0, 1, 2, 5][k as usize % 4], 1, 0x80 | (k % 64) as u8),
-                0,
-            )?;
+            let sector = if matches!(self, Base::Spares) {
+                k
+            } else {
+                [0, 1, 2, 5][k as usize % 4]
+            };
+            life.call(Call::Write(sector, 1, 0x80 | (k % 64) as u8), 0)?;
         }
         let mut moment = life.moment()?;
         if matches!(self, Base::Journal | Base::Journals) {

@@ -125,7 +125,13 @@ fn a_firm_mount_stands_a_loss_in_each_change(rt: HostRuntime) -> Result<(), Fail
 /// A hundred random lives on each chip end well.
 fn stand(rt: &impl Abort, alloc: Global, mounting: Mounting) -> Result<(), Fail> {
     let mut life = Life::new(alloc, mounting)?;
-    for base in [Base::Few, Base::Full, Base::Journal, Base::Journals] {
+    for base in [
+        Base::Few,
+        Base::Full,
+        Base::Spares,
+        Base::Journal,
+        Base::Journals,
+    ] {
         let moment = base.moment(alloc, mounting)?;
         for seed in 0..100u32 {
             let came = live(&mut life, &moment, base.first(mounting), seed);

@@ -41,7 +41,7 @@ pub fn sweep_wavering(rt: &impl Print, alloc: Global, mounting: Mounting) -> Res
     Ok(())
 }
 
-/// Lives of these seeds on the four chips in turn. Prints the first that ends wrongly.
+/// Lives of these seeds on the five chips in turn. Prints the first that ends wrongly.
 pub fn live_all(
     rt: &impl Print,
     alloc: Global,
@@ -51,7 +51,13 @@ pub fn live_all(
     let mut life = Life::new(alloc, mounting)?;
     let mut runs = Runs::none();
     let mut losses = 0u64;
-    for base in [Base::Few, Base::Full, Base::Journal, Base::Journals] {
+    for base in [
+        Base::Few,
+        Base::Full,
+        Base::Spares,
+        Base::Journal,
+        Base::Journals,
+    ] {
         let moment: Moment = base.moment(alloc, mounting)?;
         for seed in seeds.start..seeds.end {
             let came = live(&mut life, &moment, base.first(mounting), seed);

@@ -35,10 +35,10 @@ pub firm_one-requires-clause-room : goal.firm_one-requires-clause-room
 firm_one-requires-clause-room g c = c.loop-slot.invariant.room
 
 pub firm_one-requires-clause-number : goal.firm_one-requires-clause-number
-firm_one-requires-clause-number g c = (c.in-Some.ensures.found (g.S.SlotCalls.state c.loop-slot.slots).memory c.loop-slot.invariant.index).number
+firm_one-requires-clause-number g c = (c.in-Some.ensures.found (g.S.SlotCalls.state c.loop-slot.slots).memory c.loop-slot.invariant.index c.loop-slot.invariant.room.blocks.rest).number
 
 pub firm_one-requires-clause-free : goal.firm_one-requires-clause-free
-firm_one-requires-clause-free g c = (c.in-Some.ensures.found (g.S.SlotCalls.state c.loop-slot.slots).memory c.loop-slot.invariant.index).free
+firm_one-requires-clause-free g c = (c.in-Some.ensures.found (g.S.SlotCalls.state c.loop-slot.slots).memory c.loop-slot.invariant.index c.loop-slot.invariant.room.blocks.rest).free
 
 pub firm_one-requires-clause-first : goal.firm_one-requires-clause-first
 firm_one-requires-clause-first g c = c.in-Some.ensures.first (g.S.SlotCalls.state c.loop-slot.slots).memory c.loop-slot.invariant.index
@@ -92,6 +92,9 @@ loop-slot-preserved g c =
 
 pub returns-clause-next : goal.returns-clause-next
 returns-clause-next g c = c.next_suspect.ensures.next (g.S.SlotCalls.state c.loop-slot.slots).memory c.loop-slot.invariant.index c.in_default.is
+
+pub returns-clause-spare : goal.returns-clause-spare
+returns-clause-spare g c = c.next_suspect.ensures.spare (g.S.SlotCalls.state c.loop-slot.slots).memory c.loop-slot.invariant.index c.in_default.is
 
 pub loop-slot-smaller : goal.loop-slot-smaller
 loop-slot-smaller g c = suspects-fewer (c.in-Some.slot / 7) c.loop-slot.blocks c.firm_one.new.blocks c.in_ok-firm_one.ensures.trusts c.in-Some.ensures.number c.in-Some.ensures.suspect c.in_ok-firm_one.ensures.trusted
