@@ -33,7 +33,8 @@ use Rattle.erase_journal.proofs.WeakLaws.{blank-firm}
 use Rattle.sector_slots.specs.Steps.{OnlyPlace}
 use Rattle.journal_slots.proofs.Reading.{head-byte, head-kind}
 use Rattle.sector_slots.proofs.SlotLaws.{counted-raw}
-use Rattle.journal_slots.proofs.Places.{slot-dead, dead-header, fresh-descriptor, slot-free, slot-says-dead, header_number}
+use Rattle.sector_slots.proofs.HeadLaws.{dead-four, header_number, slot-dead}
+use Rattle.journal_slots.proofs.Places.{fresh-descriptor, slot-free, slot-says-dead}
 use Rattle.journal_slots.proofs.Slots.{place-counts, free-inside}
 
 bits-kill : (k : ℕ) → k ≢ 2 → bit_at 255 k ≡ bit_at 251 k
@@ -176,7 +177,7 @@ module _ (b h t : List ℕ) (n : length b ≡ 4096) (size : length h ≡ 44) (by
     | inr now ↦
         let z : 16 + 4 * i + 0 ≡ 16 + 4 * i = omega arith in
         let first : byte (drop (16 + 4 * i) t) 0 ≡ bit_and (byte b (16 + 4 * i)) 251 = at-place t i 0 ∙ (ap (λ k. byte t k) z ∙ now) in
-        dead-header (drop (16 + 4 * i) t) (λ q. killed-free (byte b (16 + 4 * i)) (sym first ∙ q)) (λ q. killed-live (byte b (16 + 4 * i)) (sym first ∙ q)) ∙ sym dead
+        dead-four (drop (16 + 4 * i) t) (λ q. killed-free (byte b (16 + 4 * i)) (sym first ∙ q)) (λ q. killed-live (byte b (16 + 4 * i)) (sym first ∙ q)) ∙ sym dead
   ]
 
   place-header : (i : ℕ) → i < 7 → IsFirmByte b h (16 + 4 * i) → header_of (drop (16 + 4 * i) t) ≡ header_of (drop (16 + 4 * i) b)

@@ -1,7 +1,6 @@
 -- What a program of the bytes 4 to 7 of a block leaves of it, whole or torn.
-use Rattle.std.proofs.Common.{◌≡◌, ◌≢◌, ℕ, zero, suc, ◌+◌, ◌*◌, ◌%◌, ◌<◌, ◌≤◌, ◌⊎◌, Bool, true, false, ◌&&◌, cond, List, [], ◌∷◌, length, refl, sym, ap, ◌∙◌, subst, arith, inl, inr}
+use Rattle.std.proofs.Common.{◌≡◌, ◌≢◌, ℕ, zero, suc, ◌+◌, ◌-◌, ◌*◌, ◌%◌, ◌<◌, ◌≤◌, ◌⊎◌, Bool, true, false, ◌&&◌, cond, List, [], ◌∷◌, length, refl, sym, ap, ◌∙◌, subst, arith, inl, inr}
 use Rattle.std.specs.Prelude.{drop, slice_range, bit_and, ◌==◌, nat_lt}
-use Rattle.byteorder.specs.Endian.{little_from}
 use Rattle.std.specs.Int.{bit_at}
 use Rattle.std.proofs.lemmas.List.{ext_get_or, get_or-take, get_or-drop}
 use Rattle.std.proofs.lemmas.Nat.{and_mask, and_comm}
@@ -22,6 +21,7 @@ use Rattle.nor_layout.specs.declared.kind.Kind.TheVariants as kinds
 use Rattle.erase_journal.specs.Blocks.{OnlyBlock}
 use Rattle.sector_slots.specs.Slots.{slot_in, slot_with, descriptor_in, written_in, header_in, content_bytes, data_block}
 use Rattle.sector_slots.proofs.GroupLaws.{place-four}
+use Rattle.sector_slots.proofs.HeadLaws.{plain-mark, plain-start}
 use Rattle.sector_slots.specs.Steps.{OnlyMark}
 
 pub header-bytes : (b h : List ℕ) → byte b 0 ≡ byte h 0 → byte b 1 ≡ byte h 1 → byte b 2 ≡ byte h 2 → byte b 3 ≡ byte h 3 → header_of b ≡ header_of h
@@ -139,75 +139,11 @@ kind-read b h e = kind-bytes h b (λ i low.
     ap (λ q. byte q i) e ∙ (get_or-take 8 (drop 0 b) i 0 low ∙ (get_or-drop 0 b i 0 ∙ ap (λ q. byte b q) z)))
 
 -- a plain block begins with eight FFh
-abbrev IsPlain : Kind → Type 0
-IsPlain kinds.Plain = Unit {0}
-IsPlain kinds.Void = ⊥
-IsPlain (kinds.Committed b) = ⊥
-IsPlain kinds.Settled = ⊥
-IsPlain (kinds.Group tag) = ⊥
-IsPlain kinds.DeadGroup = ⊥
-IsPlain kinds.SpoiltGroup = ⊥
-IsPlain kinds.Unknown = ⊥
-
--- a block with a header is no block of slots
-either-group : (t : Bool) (tag : Tag) → IsPlain (cond t (kinds.Group tag) kinds.SpoiltGroup) → ⊥
-either-group true tag p = p
-either-group false tag p = p
-
-group-plain : (h : Header) → IsPlain (group_kind h) → ⊥
-group-plain headers.Free p = p
-group-plain (headers.Live tag) p = either-group (nat_lt tag.number 9362) tag p
-group-plain headers.NoGeneration p = p
-group-plain headers.Dead p = p
-
-not-plain : (b : List ℕ) (k : Kind) → kind_of b ≡ kinds.Plain → kind_of b ≡ k → IsPlain k
-not-plain b k e f = subst (λ q. IsPlain q) (sym e ∙ f) tt
-
-no-mark : (x y z : Bool) (source : ℕ) → IsPlain (cond x kinds.Void (cond y (kinds.Committed source) (cond z kinds.Settled kinds.Unknown))) → ⊥
-no-mark true y z source h = h
-no-mark false true z source h = h
-no-mark false false true source h = h
-no-mark false false false source h = h
-
-byte-0 : (b : List ℕ) → kind_of b ≡ kinds.Plain → byte b 0 ≡ 255
-byte-0 b e = elim (cases_eq (byte b 0) 255) as (λ _. byte b 0 ≡ 255) [ inl q ↦ q | inr n ↦ absurd (group-plain (header_of b) (not-plain b (group_kind (header_of b)) e (rw (ne_eqb (byte b 0) 255 n) refl))) ]
-
-byte-1 : (b : List ℕ) → kind_of b ≡ kinds.Plain → byte b 1 ≡ 255
-byte-1 b e = elim (cases_eq (byte b 1) 255) as (λ _. byte b 1 ≡ 255) [ inl q ↦ q | inr n ↦ absurd (group-plain (header_of b) (not-plain b (group_kind (header_of b)) e (rw (byte-0 b e, ne_eqb (byte b 1) 255 n) refl))) ]
-
-byte-2 : (b : List ℕ) → kind_of b ≡ kinds.Plain → byte b 2 ≡ 255
-byte-2 b e = elim (cases_eq (byte b 2) 255) as (λ _. byte b 2 ≡ 255) [ inl q ↦ q | inr n ↦ absurd (group-plain (header_of b) (not-plain b (group_kind (header_of b)) e (rw (byte-0 b e, byte-1 b e, ne_eqb (byte b 2) 255 n) refl))) ]
-
-byte-3 : (b : List ℕ) → kind_of b ≡ kinds.Plain → byte b 3 ≡ 255
-byte-3 b e = elim (cases_eq (byte b 3) 255) as (λ _. byte b 3 ≡ 255) [ inl q ↦ q | inr n ↦ absurd (group-plain (header_of b) (not-plain b (group_kind (header_of b)) e (rw (byte-0 b e, byte-1 b e, byte-2 b e, ne_eqb (byte b 3) 255 n) refl))) ]
-
-byte-4 : (b : List ℕ) → kind_of b ≡ kinds.Plain → byte b 4 ≡ 255
-byte-4 b e = elim (cases_eq (byte b 4) 255) as (λ _. byte b 4 ≡ 255) [
-  | inl q ↦ q
-  | inr n ↦ absurd (no-mark (byte b 4 == 254) (byte b 4 == 252) (byte b 4 == 248) (little_from 6 2 b)
-      (not-plain b (cond (byte b 4 == 254) kinds.Void (cond (byte b 4 == 252) (kinds.Committed (little_from 6 2 b)) (cond (byte b 4 == 248) kinds.Settled kinds.Unknown))) e
-      (rw (byte-0 b e, byte-1 b e, byte-2 b e, byte-3 b e, ne_eqb (byte b 4) 255 n) refl)))
-]
-
-byte-5 : (b : List ℕ) → kind_of b ≡ kinds.Plain → byte b 5 ≡ 255
-byte-5 b e = elim (cases_eq (byte b 5) 255) as (λ _. byte b 5 ≡ 255) [ inl q ↦ q | inr n ↦ absurd (not-plain b kinds.Void e (rw (byte-0 b e, byte-1 b e, byte-2 b e, byte-3 b e, byte-4 b e, ne_eqb (byte b 5) 255 n) refl)) ]
-
-byte-6 : (b : List ℕ) → kind_of b ≡ kinds.Plain → byte b 6 ≡ 255
-byte-6 b e = elim (cases_eq (byte b 6) 255) as (λ _. byte b 6 ≡ 255) [ inl q ↦ q | inr n ↦ absurd (not-plain b kinds.Void e (rw (byte-0 b e, byte-1 b e, byte-2 b e, byte-3 b e, byte-4 b e, byte-5 b e, ne_eqb (byte b 6) 255 n) refl)) ]
-
-byte-7 : (b : List ℕ) → kind_of b ≡ kinds.Plain → byte b 7 ≡ 255
-byte-7 b e = elim (cases_eq (byte b 7) 255) as (λ _. byte b 7 ≡ 255) [ inl q ↦ q | inr n ↦ absurd (not-plain b kinds.Void e (rw (byte-0 b e, byte-1 b e, byte-2 b e, byte-3 b e, byte-4 b e, byte-5 b e, byte-6 b e, ne_eqb (byte b 7) 255 n) refl)) ]
-
 pub plain-bytes : (b : List ℕ) → kind_of b ≡ kinds.Plain → (i : ℕ) → i < 8 → byte b i ≡ 255
-plain-bytes b e zero low = byte-0 b e
-plain-bytes b e (suc zero) low = byte-1 b e
-plain-bytes b e (suc (suc zero)) low = byte-2 b e
-plain-bytes b e (suc (suc (suc zero))) low = byte-3 b e
-plain-bytes b e (suc (suc (suc (suc zero)))) low = byte-4 b e
-plain-bytes b e (suc (suc (suc (suc (suc zero))))) low = byte-5 b e
-plain-bytes b e (suc (suc (suc (suc (suc (suc zero)))))) low = byte-6 b e
-plain-bytes b e (suc (suc (suc (suc (suc (suc (suc zero))))))) low = byte-7 b e
-plain-bytes b e (suc (suc (suc (suc (suc (suc (suc (suc i)))))))) low = absurd (omega (arith, low))
+plain-bytes b e i low = elim (cases_lt i 4) as (λ _. byte b i ≡ 255) [
+  | inl first ↦ plain-start b e i first
+  | inr from ↦ (let z : 4 + (i - 4) ≡ i = omega (arith, from) in subst (λ q. byte b q ≡ 255) z (plain-mark b e (i - 4) (omega (arith, low, from))))
+]
 
 pub and-all : (x : ℕ) → x < 256 → bit_and 255 x ≡ x
 and-all x h = and_comm 255 x ∙ (and_mask x 8 ∙ (let e : x % 256 ≡ x = omega arith in e))

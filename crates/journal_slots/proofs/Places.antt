@@ -1,5 +1,5 @@
 -- A slot by the bytes of its place: what reads as free, dead or live, and what the programs of one slot leave of it.
-use Rattle.std.proofs.Common.{◌≡◌, ◌≢◌, ℕ, zero, suc, ◌+◌, ◌-◌, ◌*◌, ◌<◌, ◌≤◌, ◌⊎◌, Bool, true, false, cond, List, [], ◌∷◌, length, refl, sym, ap, ◌∙◌, subst, arith, inl, inr}
+use Rattle.std.proofs.Common.{◌≡◌, ℕ, zero, suc, ◌+◌, ◌-◌, ◌*◌, ◌<◌, ◌≤◌, ◌⊎◌, Bool, true, false, cond, List, [], ◌∷◌, length, refl, sym, ap, ◌∙◌, subst, arith, inl, inr}
 use Rattle.std.specs.Prelude.{drop, bit_and, Option, Some, None, ◌==◌}
 use Rattle.std.proofs.lemmas.List.{ext_get_or, get_or-drop}
 use Rattle.std.proofs.lemmas.Nat.{and_le_r}
@@ -25,6 +25,7 @@ use Rattle.sector_slots.specs.Steps.{HoldsTag}
 use Rattle.journal_slots.proofs.Marks.{header-bytes, bits-begin, and-all, IsGroupKind, group-header, dead-kind}
 use Rattle.journal_slots.proofs.Bytes.{leaves-only, and-only, state-leaves, bits-commit, bits-retire, descriptor-place, content-place, place-after, place-same, place-group}
 use Rattle.sector_slots.proofs.GroupLaws.{descriptor-slot, free-no_group}
+use Rattle.sector_slots.proofs.HeadLaws.{first-live, header_number, live-state, slot-dead}
 
 -- slots as numbers, and what a live one holds
 abbrev pub number_of : Slot → ℕ
@@ -69,13 +70,6 @@ with-live (headers.Live t) tag x y e = sym (ap content_of e)
 with-live headers.NoGeneration tag x y e = let q : 2 ≡ 1 = ap number_of e in absurd (omega (arith, q))
 with-live headers.Dead tag x y e = let q : 3 ≡ 1 = ap number_of e in absurd (omega (arith, q))
 
--- descriptors as numbers
-abbrev pub header_number : Header → ℕ
-header_number headers.Free = 0
-header_number (headers.Live tag) = 1
-header_number headers.NoGeneration = 2
-header_number headers.Dead = 3
-
 with-number : (h : Header) (x : List ℕ) → number_of (slot_with h x) ≡ header_number h
 with-number headers.Free x = refl
 with-number (headers.Live tag) x = refl
@@ -110,35 +104,7 @@ free-four h e =
       ]
     ]
 
-dead-four : (h : List ℕ) → header_of h ≡ headers.Dead → header_number (header_of h) ≡ 1 → ⊥
-dead-four h d e = let q : 3 ≡ 1 = sym (ap header_number d) ∙ e in omega (arith, q)
-
-blank-four : (h : List ℕ) → header_of h ≡ headers.Free → header_number (header_of h) ≡ 1 → ⊥
-blank-four h d e = let q : 0 ≡ 1 = sym (ap header_number d) ∙ e in omega (arith, q)
-
--- the state byte of four bytes that are live
-first-live : (h : List ℕ) → header_number (header_of h) ≡ 1 → byte h 0 ≡ 252
-first-live h e = elim (cases_eq (byte h 0) 252) as (λ _. byte h 0 ≡ 252) [
-  | inl f ↦ f
-  | inr n ↦ elim (cases_eq (byte h 0) 255) as (λ _. byte h 0 ≡ 252) [
-    | inr m ↦ absurd (dead-four h (rw (ne_eqb (byte h 0) 255 m, ne_eqb (byte h 0) 252 n) refl) e)
-    | inl f ↦ elim (cases_eq (byte h 1) 255) as (λ _. byte h 0 ≡ 252) [
-      | inr n1 ↦ absurd (dead-four h (rw (f, ne_eqb (byte h 1) 255 n1) refl) e)
-      | inl e1 ↦ elim (cases_eq (byte h 2) 255) as (λ _. byte h 0 ≡ 252) [
-        | inr n2 ↦ absurd (dead-four h (rw (f, e1, ne_eqb (byte h 2) 255 n2) refl) e)
-        | inl e2 ↦ elim (cases_eq (byte h 3) 255) as (λ _. byte h 0 ≡ 252) [
-          | inr n3 ↦ absurd (dead-four h (rw (f, e1, e2, ne_eqb (byte h 3) 255 n3) refl) e)
-          | inl e3 ↦ absurd (blank-four h (rw (f, e1, e2, e3) refl) e)
-        ]
-      ]
-    ]
-  ]
-]
-
--- a state byte that is neither FFh nor FCh, and one that is FFh where the others aren't
-pub dead-header : (h : List ℕ) → byte h 0 ≢ 255 → byte h 0 ≢ 252 → header_of h ≡ headers.Dead
-dead-header h n m = rw (ne_eqb (byte h 0) 255 n, ne_eqb (byte h 0) 252 m) refl
-
+-- a state byte that is FFh where the others aren't
 spoiled-header : (h : List ℕ) → byte h 0 ≡ 255 → (byte h 1 ≡ 255 → byte h 2 ≡ 255 → byte h 3 ≡ 255 → ⊥) → header_of h ≡ headers.Dead
 spoiled-header h e other = elim (cases_eq (byte h 1) 255) as (λ _. header_of h ≡ headers.Dead) [
   | inr n1 ↦ rw (e, ne_eqb (byte h 1) 255 n1) refl
@@ -172,20 +138,8 @@ pub slot-number : (b : List ℕ) (i : ℕ) → number_of (slot_in b i) ≡ heade
 unfolding slot_in
 slot-number b i = with-number (descriptor_in b i) (content_bytes b i)
 
-pub slot-dead : (b : List ℕ) (i : ℕ) → is_group (kind_of b) ≡ false → byte b (16 + 4 * i) ≢ 255 → byte b (16 + 4 * i) ≢ 252 → slot_in b i ≡ Dead
-slot-dead b i g n m =
-    let z : 16 + 4 * i + 0 ≡ 16 + 4 * i = omega arith in
-    let e : byte (drop (16 + 4 * i) b) 0 ≡ byte b (16 + 4 * i) = at-descriptor i b 0 ∙ ap (λ k. byte b k) z in
-    slot-header b i headers.Dead (descriptor-slot b i g ∙ dead-header (drop (16 + 4 * i) b) (λ q. n (sym e ∙ q)) (λ q. m (sym e ∙ q)))
-
 pub slot-begun : (b : List ℕ) (i : ℕ) → is_group (kind_of b) ≡ false → byte b (16 + 4 * i) ≡ 254 → slot_in b i ≡ Dead
 slot-begun b i g e = slot-dead b i g (λ q. omega (arith, e, q)) (λ q. omega (arith, e, q))
-
-pub live-state : (b : List ℕ) (i : ℕ) (tag : Tag) (x : List ℕ) → is_group (kind_of b) ≡ false → slot_in b i ≡ Live tag x → byte b (16 + 4 * i) ≡ 252
-live-state b i tag x g e =
-    let z : 16 + 4 * i + 0 ≡ 16 + 4 * i = omega arith in
-    let first : byte (drop (16 + 4 * i) b) 0 ≡ byte b (16 + 4 * i) = at-descriptor i b 0 ∙ ap (λ k. byte b k) z in
-    sym first ∙ first-live (drop (16 + 4 * i) b) (ap header_number (sym (descriptor-slot b i g)) ∙ (sym (slot-number b i) ∙ ap number_of e))
 
 -- a slot by the four bytes of its descriptor, and with its sector
 pub slot-tagged : (t : List ℕ) (i : ℕ) (h : List ℕ) (tag : Tag) → is_group (kind_of t) ≡ false → ((j : ℕ) → j < 4 → byte t (16 + 4 * i + j) ≡ byte h j) → header_of h ≡ headers.Live tag → slot_in t i ≡ Live tag (content_bytes t i)

@@ -16,7 +16,8 @@ use Rattle.nor_layout.specs.Kinds.{kind_of}
 use Rattle.sector_slots.specs.Slots.{Free, Live, slot_in, content_bytes, descriptor_in, header_in, data_block}
 use Rattle.sector_slots.specs.Steps.{IsBegun}
 use Rattle.journal_slots.proofs.Marks.{header-bytes, kind-bytes}
-use Rattle.journal_slots.proofs.Places.{number_of, header_number, slot-header, slot-number}
+use Rattle.sector_slots.proofs.HeadLaws.{header_number}
+use Rattle.journal_slots.proofs.Places.{number_of, slot-header, slot-number}
 
 pub content-read : (b x : List ℕ) (i at n : ℕ) → at ≡ 512 * (i + 1) → n ≡ 512 → x ≡ slice_range b at (at + n) → x ≡ content_bytes b i
 unfolding part

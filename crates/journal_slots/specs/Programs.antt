@@ -1,12 +1,17 @@
 -- What a program leaves of the bytes of a block, and what the programs of one slot do. Words of
 -- private functions: no claim rests on them. Source: own, layout 2.
-use Rattle.std.specs.Prelude.{◌≡◌, ◌⊎◌, ℕ, ◌+◌, ◌*◌, ◌<◌, ◌≤◌, List, length, drop, bit_and}
+use Rattle.std.specs.Prelude.{◌≡◌, ◌⊎◌, ℕ, ◌+◌, ◌*◌, ◌<◌, ◌≤◌, List, length, drop, take}
+use Rattle.std.specs.Prelude.{bit_and}
 use Rattle.chip_model.specs.Memory.{byte}
+use Rattle.chip_model.specs.Wavering.{Bits}
 use Rattle.nor_layout.specs.declared.header.Tag.{Tag}
 use Rattle.nor_layout.specs.declared.header.Header.TheVariants as headers
 use Rattle.nor_layout.specs.Headers.{header_of}
+use Rattle.erase_journal.specs.Torn.{ProgramInterrupted}
 use Rattle.sector_slots.specs.Slots.{Live, Dead, slot_in, content_bytes, blank_sector}
 use Rattle.sector_slots.specs.Steps.{HoldsTag}
+use Rattle.sector_slots.specs.Torn.{with_first_page}
+use Rattle.sector_slots.specs.Weak.{sector_place}
 
 -- n bytes from `from` on may differ, all others are the same
 pub record OnlyBytes (from n : ℕ) (b t : List ℕ) : Type 0 where
@@ -37,3 +42,10 @@ pub data WriteLeaves (i : ℕ) (tag : Tag) (x b t : List ℕ) : Type 0 where
   spoiled : slot_in t i ≡ Dead → WriteLeaves i tag x b t
   filled : HoldsTag tag (slot_in t i)
       → (content_bytes b i ≡ blank_sector → slot_in t i ≡ Live tag x) → WriteLeaves i tag x b t
+
+-- a write of the two pages of a sector was interrupted: in the first one, or in the second one
+pub data PagesInterrupted (c i : ℕ) (content : List ℕ) (a b : Bits) : Type 0 where
+  in_first : ProgramInterrupted (sector_place c i) (take 256 content) a b
+      → PagesInterrupted c i content a b
+  in_second : ProgramInterrupted (sector_place c i + 256) (drop 256 content)
+      (with_first_page c i content a) b → PagesInterrupted c i content a b

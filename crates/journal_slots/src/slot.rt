@@ -6,6 +6,7 @@ ghost use Rattle.std.specs.Result.{IsErrOf};
 ghost use Rattle.chip_model.specs.Geometry.{IsChipSize};
 ghost use Rattle.chip_model.specs.Memory.{byte, and_at, TornAnd};
 ghost use Rattle.nor_driver.specs.State.{bits_in, program_bits, Leaves};
+ghost use Rattle.nor_layout.specs.declared.header.Tag.{Tag as TagOf};
 ghost use Rattle.erase_journal.specs.Blocks.{SameChip, OnlyBlock};
 ghost use Rattle.erase_journal.specs.Journals.{IsHealthy};
 ghost use Rattle.erase_journal.specs.Steps.{EndsFirmly};
@@ -15,11 +16,11 @@ ghost use Rattle.sector_slots.specs.Slots.{raw_slot, IsLive, is_group};
 ghost use Rattle.sector_slots.specs.Steps.{HoldsTag, OnlyPlace, IsBegun, IsErasedSlot, CopyLeaves};
 ghost use Rattle.sector_slots.specs.Copying.{copied_tag, source_slot};
 ghost use Rattle.sector_slots.specs.Firm.{SameStatesBut};
-ghost use Rattle.sector_slots.specs.Torn.{PutInterrupted, SameButPlace, SameButSector};
-ghost use Rattle.sector_slots.specs.Torn.{SectorProgrammed, StateInterrupted};
+ghost use Rattle.sector_slots.specs.Torn.{IsBegunDescriptor, PutInterrupted, SameButPlace};
+ghost use Rattle.sector_slots.specs.Torn.{StateInterrupted, with_descriptor, with_pages};
 ghost use Rattle.sector_slots.specs.Weak.{block_place, descriptor_place as descriptor_at};
 ghost use Rattle.sector_slots.specs.Weak.{IsDeadForGood};
-ghost use Rattle.journal_slots.specs.Programs.{InPlace, OnlyBytes, WriteLeaves};
+ghost use Rattle.journal_slots.specs.Programs.{InPlace, OnlyBytes, PagesInterrupted, WriteLeaves};
 
 use crate::mark::read_kind;
 use crate::read::{read_slot, read_source};
@@ -95,9 +96,9 @@ fn write_content<N: Nor>(
         → OnlyBytes (512 * (place + 1)) 512 (data_block journal.old.memory block)
         (data_block journal.new.memory block) }
     ensures only { OnlyBlock (block + 4) journal.old.memory journal.new.memory }
-    ensures sector { OnOk result (SectorProgrammed block place (bits_in journal.old)
-        (bits_in journal.new)) }
-    ensures cut_bits { IsErrOf result NorError.Cut → SameButSector block place
+    ensures firm { OnOk result (bits_in journal.new
+        ≡ with_pages block place content.now (bits_in journal.old)) }
+    ensures cut_bits { IsErrOf result NorError.Cut → PagesInterrupted block place content.now
         (bits_in journal.old) (bits_in journal.new) }
     ensures healthy { IsErrOf result NorError.Cut → IsHealthy journal.old.memory
         → IsHealthy journal.new.memory }
@@ -135,10 +136,10 @@ fn fill<N: Nor>(
         (data_block journal.new.memory block) }
     ensures bytes { (i : ℕ) → byte header.now i < 256 }
     ensures only { OnlyBlock (block + 4) journal.old.memory journal.new.memory }
-    ensures bits { OnOk result (SectorProgrammed block place
-        (program_bits (bits_in journal.old) (descriptor_at block place) header.now)
-        (bits_in journal.new)) }
-    ensures cut_bits { IsErrOf result NorError.Cut → PutInterrupted block place
+    ensures firm { OnOk result (bits_in journal.new ≡ with_pages block place content.now
+        (with_descriptor block place header.now (bits_in journal.old))) }
+    ensures cut_bits { IsErrOf result NorError.Cut → (tag : TagOf)
+        → IsBegunDescriptor tag header.now → PutInterrupted block place tag content.now
         (bits_in journal.old) (bits_in journal.new) }
     ensures healthy { IsErrOf result NorError.Cut → IsHealthy journal.old.memory
         → IsHealthy journal.new.memory }
@@ -174,7 +175,7 @@ pub(crate) fn write_slot<N: Nor>(
         → InPlace place (data_block journal.old.memory block)
         (data_block journal.new.memory block) }
     ensures only { OnlyBlock (block + 4) journal.old.memory journal.new.memory }
-    ensures cut_bits { IsErrOf result NorError.Cut → PutInterrupted block place
+    ensures cut_bits { IsErrOf result NorError.Cut → PutInterrupted block place tag content.now
         (bits_in journal.old) (bits_in journal.new) }
     ensures healthy { IsErrOf result NorError.Cut → IsHealthy journal.old.memory
         → IsHealthy journal.new.memory }

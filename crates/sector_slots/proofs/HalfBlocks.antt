@@ -152,10 +152,10 @@ module _ (P : ℕ → Type 0) (b : Bits) (m' : List ℕ) (c : ℕ) (d : IsBlockR
   drawn-firm i low left x y = drawn-same i low left.rest (drawn-byte (16 + 4 * i) (omega (arith, low)) left.state (first-firm b.weak (descriptor_place c i) 4 (omega arith) x)) (firm-after b.weak (descriptor_place c i) x) y
 
   -- one that is dead for good was dead, and is
-  dead-was : (i : ℕ) → i < 7 → IsDeadForGood b c i → raw_slot b.shown c i ≡ Dead
+  pub dead-was : (i : ℕ) → i < 7 → IsDeadForGood b c i → raw_slot b.shown c i ≡ Dead
   dead-was i low h = dead-reads b.shown c i h.bit d.was_own d.slots low h.from h.below h.reads
 
-  dead-is : (i : ℕ) → i < 7 → IsBesideSlot P i → IsDeadForGood b c i → raw_slot m' c i ≡ Dead
+  pub dead-is : (i : ℕ) → i < 7 → IsBesideSlot P i → IsDeadForGood b c i → raw_slot m' c i ≡ Dead
   dead-is i low left h = dead-reads m' c i h.bit d.is_own drawn-group low h.from h.below (d.reads (16 + 4 * i) h.bit (omega (arith, low)) left.state h.firm ∙ h.reads)
 
   -- A live one of whose state but the third bit reads as it did is live, or dead.
@@ -173,19 +173,19 @@ module _ (P : ℕ → Type 0) (b : Bits) (m' : List ℕ) (c : ℕ) (d : IsBlockR
       ]
 
   -- so is a fading one
-  fading-is : (i : ℕ) → i < 7 → IsBesideSlot P i → (h : IsFadingSlot b c i) → (raw_slot m' c i ≡ Live h.tag zeros) ⊎ (raw_slot m' c i ≡ Dead)
+  pub fading-is : (i : ℕ) → i < 7 → IsBesideSlot P i → (h : IsFadingSlot b c i) → (raw_slot m' c i ≡ Live h.tag zeros) ⊎ (raw_slot m' c i ≡ Dead)
   fading-is i low left h =
       let was : byte (data_block b.shown c) (16 + 4 * i) ≡ 252 = live-state (data_block b.shown c) i h.tag zeros d.slots h.live in
       retiring-is i h.tag zeros low left.rest h.live (λ k other. drawn-bit (16 + 4 * i) k (omega (arith, low)) left.state (h.state k other) ∙ ap (λ x. bit_at x k) was) h.rest h.sector
 
   -- one of whose state the second bit reads 1 is free, or dead
-  unlive-is : (i : ℕ) → bit_at (byte (data_block m' c) (16 + 4 * i)) 1 ≡ 1 → (raw_slot m' c i ≡ Free) ⊎ (raw_slot m' c i ≡ Dead)
+  pub unlive-is : (i : ℕ) → bit_at (byte (data_block m' c) (16 + 4 * i)) 1 ≡ 1 → (raw_slot m' c i ≡ Free) ⊎ (raw_slot m' c i ≡ Dead)
   unlive-is i one = slot-unlive (data_block m' c) i drawn-group (λ e.
       let none : bit_at (byte (data_block m' c) (16 + 4 * i)) 1 ≡ 0 = ap (λ x. bit_at x 1) e in
       omega (arith, one, none))
 
   -- so is a doubtful one
-  doubtful-one : (i : ℕ) → i < 7 → IsBesideSlot P i → IsDoubtfulSlot b c i → bit_at (byte (data_block m' c) (16 + 4 * i)) 1 ≡ 1
+  pub doubtful-one : (i : ℕ) → i < 7 → IsBesideSlot P i → IsDoubtfulSlot b c i → bit_at (byte (data_block m' c) (16 + 4 * i)) 1 ≡ 1
   doubtful-one i low left h =
       let was : byte (data_block b.shown c) (16 + 4 * i) ≡ 255 = free-state (data_block b.shown c) i d.slots h.free in
       drawn-bit (16 + 4 * i) 1 (omega (arith, low)) left.state h.state ∙ ap (λ x. bit_at x 1) was
@@ -301,7 +301,7 @@ module _ (P : ℕ → Type 0) (b : Bits) (m' : List ℕ) (c : ℕ) (d : IsBlockR
   -- the whole block
   pub block-torn : ((i k : ℕ) → i < 4096 → 8 ≤ k → bit_at (byte b.weak (block_place c + i)) k ≡ 0) → HalfMark (kind_at m' c) now c → (kind_at m' c ≢ kinds.Void → (i : ℕ) → i < 7 → raw_slot b.shown c i ≢ NoGeneration) → ((i : ℕ) → i < 7 → IsTornSlot P b m' c i) → IsHalfBlock now c
   block-torn bits mark whole each = record {
-    bytes = bits;
+    bytes = λ _. bits;
     mark = mark;
     edges = λ other. d.edges;
     slots = λ other i low. torn-half i low (whole other i low) each (each i low);

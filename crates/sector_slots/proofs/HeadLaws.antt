@@ -24,7 +24,7 @@ use Rattle.sector_slots.proofs.GroupLaws.{descriptor-slot, place-four}
 use Rattle.sector_slots.proofs.FirmLaws.{slot_number}
 
 -- what four bytes say
-header-bytes : (b h : List ℕ) → byte b 0 ≡ byte h 0 → byte b 1 ≡ byte h 1 → byte b 2 ≡ byte h 2 → byte b 3 ≡ byte h 3 → header_of b ≡ header_of h
+pub header-bytes : (b h : List ℕ) → byte b 0 ≡ byte h 0 → byte b 1 ≡ byte h 1 → byte b 2 ≡ byte h 2 → byte b 3 ≡ byte h 3 → header_of b ≡ header_of h
 header-bytes b h e0 e1 e2 e3 = rw (e0, e1, e2, e3) refl
 
 abbrev pub header_number : Header → ℕ

@@ -11,12 +11,12 @@ use Rattle.erase_journal.specs.Journals.{IsSettled}
 use Rattle.erase_journal.specs.Weak.{AreFirm}
 use Rattle.erase_journal.proofs.Data.{settled-own}
 use Rattle.erase_journal.proofs.Losses.{program-beside}
-use Rattle.sector_slots.specs.Half.{HasByteBits, IsKnownBlock}
+use Rattle.sector_slots.specs.Half.{IsKnownBlock}
 use Rattle.sector_slots.specs.Slots.{Slot, Free, Live, Dead, data_blocks, kind_at, is_group, IsSpareIn}
 use Rattle.sector_slots.specs.Sectors.{HasSlotsAlone, IsSoundMap}
 use Rattle.sector_slots.specs.Blocks.{AreAtRest}
 use Rattle.erase_journal.specs.Torn.{SameAt, ProgramInterrupted}
-use Rattle.sector_slots.specs.Weak.{block_place, mark_place, descriptor_place, sector_place, AreEdgesFirm, IsSureSlot, firm, dead, fading, IsDoubtfulSlot, IsDoubtfulMark, IsSureBlock, IsHalfBlock}
+use Rattle.sector_slots.specs.Weak.{HasByteBits, block_place, mark_place, descriptor_place, sector_place, AreEdgesFirm, IsSureSlot, firm, dead, fading, IsDoubtfulSlot, IsDoubtfulMark, IsSureBlock, IsHalfBlock}
 use Rattle.sector_slots.proofs.FirmLaws.{slot_number}
 use Rattle.sector_slots.proofs.TornBits.{high-kept, program-length}
 use Rattle.sector_slots.proofs.HeadLaws.{marked-slots, rest-marked}

@@ -83,7 +83,7 @@ live-whole s g k x a b = let h : 1 ≡ 2 = ap kind_in (sym a ∙ b) in omega (ar
 pub maps-kept : (f f' : ℕ → Slot) (n w count : ℕ) (sectors : ℕ → List ℕ) → OthersKept n w f f' → ((g : ℕ) → Without f w g) → ((g : ℕ) → Without f' w g) → Maps f n count sectors → Maps f' n count sectors
 maps-kept f f' n w count sectors only out out' m = record { each = λ g h. sector-kept f f' n w g (sectors g) only (out g) (out' g) (m.each g h) }
 
-next-of : (f : ℕ → Slot) (n g : ℕ) (k : Generation) → Single f n → NextGeneration f n g k → (t : ℕ) (j : Generation) (y : List ℕ) → LiveAt f n t g j y → k ≡ next_generation j
+pub next-of : (f : ℕ → Slot) (n g : ℕ) (k : Generation) → Single f n → NextGeneration f n g k → (t : ℕ) (j : Generation) (y : List ℕ) → LiveAt f n t g j y → k ≡ next_generation j
 next-of f n g k single (begun none z) t j y l = absurd (none t j y l)
 next-of f n g k single (after s i z p e) t j y l = e ∙ ap next_generation (ap generation_in (sym p.is ∙ (ap f (single.one s t g i j z y p l) ∙ l.is)))
 

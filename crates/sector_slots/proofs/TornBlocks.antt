@@ -1,12 +1,11 @@
 -- What a loss of power in a call leaves of a block: at each draw of its weak bits it is as one interrupted change leaves it.
 use Rattle.std.proofs.Common.{◌≡◌, ◌≢◌, ℕ, ◌+◌, ◌-◌, ◌*◌, ◌<◌, ◌≤◌, ◌⊎◌, Bool, false, List, [], ◌∷◌, length, refl, sym, ap, ◌∙◌, subst, arith, inl, inr}
-use Rattle.std.specs.Prelude.{bit_and, min}
+use Rattle.std.specs.Prelude.{bit_and, drop, min, take}
 use Rattle.std.specs.Int.{bit_at}
 use Rattle.std.proofs.lemmas.Bool.{cases_eq, cases_lt, true≢false}
-use Rattle.std.proofs.lemmas.Nat.Bits.{bit_at-lt}
 use Rattle.chip_model.specs.Memory.{byte}
 use Rattle.chip_model.specs.Wavering.{Bits, Drawn}
-use Rattle.nor_driver.specs.State.{program_bits, changed_whole}
+use Rattle.nor_driver.specs.State.{changed_whole}
 use Rattle.nor_layout.specs.declared.header.Generation.{Generation}
 use Rattle.nor_layout.specs.declared.header.Generation.TheVariants as generations
 use Rattle.nor_layout.specs.declared.header.Tag.{Tag}
@@ -19,28 +18,29 @@ use Rattle.erase_journal.specs.Weak.{AreFirm}
 use Rattle.erase_journal.proofs.Data.{settled-own}
 use Rattle.erase_journal.proofs.Losses.{program-beside}
 use Rattle.erase_journal.proofs.Draws.{firm-byte}
-use Rattle.sector_slots.specs.Half.{HasByteBits, IsHalfAtEachDraw, IsKnownBlock}
+use Rattle.sector_slots.specs.Half.{IsHalfAtEachDraw, IsKnownBlock}
 use Rattle.sector_slots.specs.Slots.{data_blocks, NoGeneration, Free, Live, data_block, kind_at, raw_slot, is_group, IsSpareIn}
 use Rattle.sector_slots.specs.Sectors.{zeros}
 use Rattle.erase_journal.specs.Torn.{SameAt, ProgramInterrupted}
-use Rattle.sector_slots.specs.Torn.{StateInterrupted, IsBegunHead, BeginInterrupted, SameButSector, SameButPlace, SectorProgrammed, PutInterrupted, in_header, in_sector, in_commit}
-use Rattle.sector_slots.specs.Weak.{IsFirmStore, block_place, mark_place, descriptor_place, sector_place, IsSureSlot, firm, dead, fading, IsSureBlock, HalfMark, IsHalfBlock, HasNewer, AreOnesFirm}
+use Rattle.sector_slots.specs.Torn.{StateInterrupted, IsBegunHead, BeginInterrupted, SameButPlace, PutInterrupted, in_header, in_first_page, in_second_page, in_commit, with_descriptor, with_first_page, with_pages}
+use Rattle.sector_slots.specs.Weak.{HasByteBits, IsFirmStore, block_place, mark_place, descriptor_place, sector_place, IsSureSlot, firm, dead, fading, IsSureBlock, HalfMark, IsHalfBlock, HasNewer, AreOnesFirm}
 use Rattle.sector_slots.proofs.FirmLaws.{here, bit-firm, slot_number}
+use Rattle.sector_slots.proofs.SectorBits.{SameButSector, first-aside, second-aside, pages-aside, begun-generation}
 use Rattle.sector_slots.proofs.TornBits.{IsKeptBit, shown-bit, programmed-byte, zero-stays, state-kept, others-left, IsBitStep, begin-step, commit-step, retire-step, one-weak, no-bits}
 use Rattle.sector_slots.proofs.HeadLaws.{committed-slot, void-kind, committed-kind, settled-kind, committed-state, void-plain, committed-plain, committed-void, live-state, free-bytes, plain-mark}
 use Rattle.sector_slots.proofs.HalfBlocks.{IsBlockRead, IsBesideSlot, IsTornSlot, left_sure, changed, is-there, drawn-group, drawn-kind, begun-kind, begun-mark, doubtful-mark, firm-mark, torn-free, begun-torn, live-torn, marked-start, retiring-is, retiring-half, unlive-half, block-torn, dead-reads, firm-ones, first-firm, firm-after, IsAnyPlace, beside-any}
 use Rattle.sector_slots.proofs.LeftLaws.{program-apart, known-slots, with_loss, left-byte, left-bit, left-mark, left-rest, left-sector, left-sure, left-idle, left-torn, left-read, Beside, program-left, program-bytes, beside-descriptor, other-slot, own-rest, beside-mark, mark-slot, taken-mark, trusted-mark, slot-torn, not-free-live, live-or-dead, IsLeft, AreBesideEdges}
 
 -- The retirement of a live slot was cut.
-record IsSureLive (a : Bits) (c p : ℕ) : Type 0 where
-  state : (k : ℕ) → k ≢ 2 → bit_at (byte a.weak (descriptor_place c p)) k ≡ 0
-  rest : AreFirm a.weak (descriptor_place c p + 1) 3
-  sector : AreFirm a.weak (sector_place c p) 512
+pub record IsSureLive (a : Bits) (c p : ℕ) : Type 0 where
+  pub state : (k : ℕ) → k ≢ 2 → bit_at (byte a.weak (descriptor_place c p)) k ≡ 0
+  pub rest : AreFirm a.weak (descriptor_place c p + 1) 3
+  pub sector : AreFirm a.weak (sector_place c p) 512
 
 state-firm : (w : List ℕ) (at k : ℕ) → AreFirm w at 4 → bit_at (byte w at) k ≡ 0
 state-firm w at k f = bit-firm w at k (first-firm w at 4 (omega arith) f)
 
-sure-live : (a : Bits) (c p : ℕ) (tag : Tag) (x : List ℕ) → p < 7 → IsKnownBlock a c → raw_slot a.shown c p ≡ Live tag x → IsSureSlot a c p → IsSureLive a c p
+pub sure-live : (a : Bits) (c p : ℕ) (tag : Tag) (x : List ℕ) → p < 7 → IsKnownBlock a c → raw_slot a.shown c p ≡ Live tag x → IsSureSlot a c p → IsSureLive a c p
 sure-live a c p tag x low known live (firm d s) = record { state = λ k other. state-firm a.weak (descriptor_place c p) k d; rest = firm-after a.weak (descriptor_place c p) d; sector = s }
 sure-live a c p tag x low known live (dead h) =
     let q : 3 ≡ 1 = ap slot_number (sym (dead-reads a.shown c p h.bit (settled-own a.shown (c + 4) known.settled) (known-slots a c known) low h.from h.below h.reads) ∙ live) in
@@ -94,7 +94,7 @@ each-half a new suspect c known store size same half e low = elim (cases_eq e c)
 ]
 
 -- The lowest free slot was killed, in a block that isn't wholly free.
-sure-free : (a : Bits) (c p : ℕ) → p < 7 → IsKnownBlock a c → raw_slot a.shown c p ≡ Free → IsSureSlot a c p → AreFirm a.weak (descriptor_place c p) 4 × AreFirm a.weak (sector_place c p) 512
+pub sure-free : (a : Bits) (c p : ℕ) → p < 7 → IsKnownBlock a c → raw_slot a.shown c p ≡ Free → IsSureSlot a c p → AreFirm a.weak (descriptor_place c p) 4 × AreFirm a.weak (sector_place c p) 512
 sure-free a c p low known free (firm d s) = (d, s)
 sure-free a c p low known free (dead h) =
     let q : 0 ≡ 3 = ap slot_number (sym free ∙ dead-reads a.shown c p h.bit (settled-own a.shown (c + 4) known.settled) (known-slots a c known) low h.from h.below h.reads) in
@@ -102,7 +102,7 @@ sure-free a c p low known free (dead h) =
 sure-free a c p low known free (fading h) = absurd (not-free-live (raw_slot a.shown c p) h.tag zeros h.live free)
 
 -- a free slot: its sector is firm, and bit 1 of its state
-free-firm : (a : Bits) (suspect : Bool) (c p : ℕ) → p < 7 → IsKnownBlock a c → raw_slot a.shown c p ≡ Free → IsSureBlock a suspect c → (bit_at (byte a.weak (descriptor_place c p)) 1 ≡ 0) × AreFirm a.weak (sector_place c p) 512
+pub free-firm : (a : Bits) (suspect : Bool) (c p : ℕ) → p < 7 → IsKnownBlock a c → raw_slot a.shown c p ≡ Free → IsSureBlock a suspect c → (bit_at (byte a.weak (descriptor_place c p)) 1 ≡ 0) × AreFirm a.weak (sector_place c p) 512
 free-firm a suspect c p low known free h = elim (h.slots p low) [
   | inl s ↦ (let f = sure-free a c p low known free s in (state-firm a.weak (descriptor_place c p) 1 f.0, f.1))
   | inr q ↦ (q.1.state, q.1.sector)
@@ -114,7 +114,7 @@ free-place a c p low known free j small =
     let e : block_place c + (16 + 4 * p + j) ≡ descriptor_place c p + j = omega arith in
     ap (λ q. byte a.shown q) (sym e) ∙ (sym (here a.shown c (16 + 4 * p + j) known.settled (omega (arith, low, small))) ∙ free-bytes (data_block a.shown c) p (known-slots a c known) free j small)
 
-free-first : (a : Bits) (c p : ℕ) → p < 7 → IsKnownBlock a c → raw_slot a.shown c p ≡ Free → byte a.shown (descriptor_place c p) ≡ 255
+pub free-first : (a : Bits) (c p : ℕ) → p < 7 → IsKnownBlock a c → raw_slot a.shown c p ≡ Free → byte a.shown (descriptor_place c p) ≡ 255
 free-first a c p low known free = (let e : descriptor_place c p ≡ descriptor_place c p + 0 = omega arith in ap (λ q. byte a.shown q) e) ∙ free-place a c p low known free 0 (omega arith)
 
 -- The first program of the lowest free slot was interrupted, and left bit 1 of its state.
@@ -147,7 +147,7 @@ half-killed a new suspect c p low known h part free lowest l = half-unlive a new
 begun-bit : (bytes : List ℕ) (k : ℕ) → IsBegunHead bytes → k ≢ 0 → min (bit_at 255 k) (bit_at (byte bytes 0) k) ≡ bit_at 255 k
 begun-bit bytes k begun other = ap (λ x. min (bit_at 255 k) (bit_at x k)) begun.state ∙ others-left 0 255 254 k begin-step.others other
 
-trusted-slot : (a : Bits) (c i : ℕ) → i < 7 → IsSureBlock a false c → IsSureSlot a c i
+pub trusted-slot : (a : Bits) (c i : ℕ) → i < 7 → IsSureBlock a false c → IsSureSlot a c i
 trusted-slot a c i low h = elim (h.slots i low) [ inl s ↦ s | inr q ↦ absurd (true≢false (sym q.0)) ]
 
 pub half-begun : (a new : Bits) (c : ℕ) → IsKnownBlock a c → IsSureBlock a false c → IsSpareIn a.shown c → BeginInterrupted c a new → IsHalfAtEachDraw c new
@@ -275,17 +275,17 @@ generation-kept generations.Two = refl
 generation-kept generations.Three = refl
 
 -- The places of a block beside the descriptor and the sector of place p.
-abbrev BesidePlace : ℕ → ℕ → Type 0
+abbrev pub BesidePlace : ℕ → ℕ → Type 0
 BesidePlace p k = Beside (16 + 4 * p) 4 k × Beside (512 * (p + 1)) 512 k
 
-place-edges : (p : ℕ) → p < 7 → AreBesideEdges (BesidePlace p)
+pub place-edges : (p : ℕ) → p < 7 → AreBesideEdges (BesidePlace p)
 place-edges p low = record {
   start = λ k small. (inl (omega (arith, small)), inl (omega (arith, small)));
   after_mark = λ k small. (inl (omega (arith, small)), inl (omega (arith, small)));
   after_descriptors = λ k small. (inr (omega (arith, low)), inl (omega (arith, small)));
 }
 
-place-slot : (p i : ℕ) → p < 7 → i < 7 → i ≢ p → IsBesideSlot (BesidePlace p) i
+pub place-slot : (p i : ℕ) → p < 7 → i < 7 → i ≢ p → IsBesideSlot (BesidePlace p) i
 place-slot p i low li other = record {
   state = ((other-slot p 4 i low (omega arith) other).state, inl (omega (arith, li)));
   rest = record {
@@ -294,22 +294,22 @@ place-slot p i low li other = record {
   };
 }
 
-place-mark : (p k : ℕ) → k < 4 → BesidePlace p (4 + k)
+pub place-mark : (p k : ℕ) → k < 4 → BesidePlace p (4 + k)
 place-mark p k small = (inl (omega (arith, small)), inl (omega (arith, small)))
 
 -- A place of a void block was written: the block is void.
-pub half-copied : (a new : Bits) (suspect : Bool) (c p : ℕ) → p < 7 → IsSettled a.shown → IsSureBlock a suspect c → kind_at a.shown c ≡ kinds.Void → length new.shown ≡ length a.shown → HasByteBits new c → SameButPlace c p a new → IsHalfAtEachDraw c new
-half-copied a new suspect c p low settled h void size bytes same v d shut =
+pub half-copied : (a new : Bits) (suspect : Bool) (c p : ℕ) → p < 7 → IsSettled a.shown → IsSureBlock a suspect c → kind_at a.shown c ≡ kinds.Void → length new.shown ≡ length a.shown → SameButPlace c p a new → IsHalfAtEachDraw c new
+half-copied a new suspect c p low settled h void size same v d shut =
     let b = with_loss a new in
     let left : IsLeft (BesidePlace p) a new c = record {
       same_length = size;
-      same = λ k small beside. same (block_place c + k) (omega arith) (elim beside.0 [ inl before ↦ inl (omega (arith, before)) | inr after ↦ inr (omega (arith, after)) ]) (elim beside.1 [ inl before ↦ inl (omega (arith, before)) | inr after ↦ inr (omega (arith, after)) ]);
+      same = λ k small beside. same (block_place c + k) (elim beside.0 [ inl before ↦ inl (omega (arith, before)) | inr after ↦ inr (omega (arith, after)) ]) (elim beside.1 [ inl before ↦ inl (omega (arith, before)) | inr after ↦ inr (omega (arith, after)) ]);
     } in
     let r = left-read (BesidePlace p) a new c left v (place-edges p low) settled (ap is_group void) h.edges d shut in
     let mark = taken-mark a suspect c (λ is. void-plain (kind_at a.shown c) void is.plain) h in
     let still : kind_at v c ≡ kinds.Void = drawn-kind (BesidePlace p) b v c r (λ k small. place-mark p k small) (left-mark (BesidePlace p) a new c left (λ k small. place-mark p k small) mark) ∙ void in
     record {
-      bytes = bytes;
+      bytes = λ other. absurd (other still);
       mark = subst (λ k. HalfMark k (record { shown = v; weak = new.weak }) c) (sym still) tt;
       edges = λ other. absurd (other still);
       slots = λ other. absurd (other still);
@@ -322,7 +322,7 @@ module _ (a : Bits) (c p : ℕ) (low : p < 7) (known : IsKnownBlock a c) (h : Is
 
   -- its descriptor was programmed
   abbrev headed : Bits
-  headed = program_bits a at header
+  headed = with_descriptor c p header a
 
   was-firm : AreFirm a.weak at 4 × AreFirm a.weak (sector_place c p) 512
   was-firm = sure-free a c p low known free (trusted-slot a c p low h)
@@ -357,33 +357,39 @@ module _ (a : Bits) (c p : ℕ) (low : p < 7) (known : IsKnownBlock a c) (h : Is
   put-in-sector : (new : Bits) → length new.shown ≡ length a.shown → HasByteBits new c → SameButSector c p headed new → IsHalfAtEachDraw c new
   put-in-sector new size bytes same v d shut =
       let b = with_loss a new in
-      let l = place-left new size (λ k small beside. same (block_place c + k) (omega arith) (elim beside.1 [ inl before ↦ inl (omega (arith, before)) | inr after ↦ inr (omega (arith, after)) ])) in
+      let l = place-left new size (λ k small beside. same (block_place c + k) (elim beside.1 [ inl before ↦ inl (omega (arith, before)) | inr after ↦ inr (omega (arith, after)) ])) in
       let r = left-read (BesidePlace p) a new c l v (place-edges p low) known.settled (known-slots a c known) h.edges d shut in
-      let s = same at (omega arith) (inl (omega (arith, low))) in
+      let s = same at (inl (omega (arith, low))) in
       let there = is-there (BesidePlace p) b v c r (16 + 4 * p) (omega (arith, low)) in
       let bit = λ (k : ℕ). ap (λ x. bit_at x k) there ∙ (shown-bit new at k (bit_at 254 k) (ap (λ x. bit_at x k) (s.0 ∙ headed-state)) (ap (λ x. bit_at x k) s.1 ∙ headed-first k)).reads v d in
       place-torn new v bytes l r (begun-torn (BesidePlace p) b v c r p (bit 0) (bit 1))
 
   -- or in that of the state FCh
-  module _ (generation : Generation) (says : byte header 1 ≡ generation_byte generation) (filled new : Bits) (f : SectorProgrammed c p headed filled) (l : StateInterrupted at 252 filled new) (size : length new.shown ≡ length a.shown) where
+  module _ (generation : Generation) (says : byte header 1 ≡ generation_byte generation) (content : List ℕ) (whole : length content ≡ 512) (new : Bits) (l : StateInterrupted at 252 (with_pages c p content headed) new) (size : length new.shown ≡ length a.shown) where
+    abbrev filled : Bits
+    filled = with_pages c p content headed
+
+    filled-beside : SameButSector c p headed filled
+    filled-beside = pages-aside c p content headed whole
+
     last-beside : (k : ℕ) → k ≢ at → SameAt filled new k
     last-beside k other = program-beside filled new at (252 ∷ []) l k (elim (cases_lt k at) [ inl before ↦ inl before | inr from ↦ inr (omega (arith, other, from)) ])
 
     filled-rest : (j : ℕ) → j < 3 → SameAt headed new (at + 1 + j)
     filled-rest j small =
-        let s = f.beside (at + 1 + j) (omega arith) (inl (omega (arith, low, small))) in
+        let s = filled-beside (at + 1 + j) (inl (omega (arith, low, small))) in
         let e = last-beside (at + 1 + j) (omega arith) in
         (e.0 ∙ s.0, e.1 ∙ s.1)
 
     put-left : IsLeft (BesidePlace p) a new c
     put-left = place-left new size (λ k small beside.
-        let s = f.beside (block_place c + k) (omega arith) (elim beside.1 [ inl before ↦ inl (omega (arith, before)) | inr after ↦ inr (omega (arith, after)) ]) in
+        let s = filled-beside (block_place c + k) (elim beside.1 [ inl before ↦ inl (omega (arith, before)) | inr after ↦ inr (omega (arith, after)) ]) in
         let e = last-beside (block_place c + k) (λ q. elim beside.0 as (λ _. ⊥) [ inl before ↦ omega (arith, q, before) | inr after ↦ omega (arith, q, after) ]) in
         (e.0 ∙ s.0, e.1 ∙ s.1))
 
     state-bit : (k : ℕ) → k ≢ 1 → IsKeptBit new at k (bit_at 254 k)
     state-bit k other =
-        let s = f.beside at (omega arith) (inl (omega (arith, low))) in
+        let s = filled-beside at (inl (omega (arith, low))) in
         state-kept filled new at (252 ∷ []) 254 k l (omega arith) (s.0 ∙ headed-state) (others-left 1 254 252 k commit-step.others other) (ap (λ x. bit_at x k) s.1 ∙ headed-first k)
 
     rest-firmly : AreFirm new.weak (at + 1) 3
@@ -394,14 +400,11 @@ module _ (a : Bits) (c p : ℕ) (low : p < 7) (known : IsKnownBlock a c) (h : Is
     sector-firmly : AreFirm new.weak (sector_place c p) 512
     sector-firmly j small =
         let place = sector_place c p + j in
-        (last-beside place (omega (arith, low))).1 ∙ no-bits (byte filled.weak place) (λ k. elim (cases_eq (bit_at (byte filled.weak place) k) 0) as (λ _. bit_at (byte filled.weak place) k ≡ 0) [
-          | inl none ↦ none
-          | inr some ↦
-              let two = bit_at-lt (byte filled.weak place) k in
-              let was = f.weak j k small (omega (arith, some, two)) in
-              let none = zero-stays a.weak at header place k (bit-firm a.weak place k (was-firm.1 j small)) in
-              absurd (omega (arith, was, none))
-        ])
+        let first = with_first_page c p content headed in
+        (last-beside place (omega (arith, low))).1 ∙ no-bits (byte filled.weak place) (λ k.
+        zero-stays first.weak (sector_place c p + 256) (drop 256 content) place k
+        (zero-stays headed.weak (sector_place c p) (take 256 content) place k
+        (zero-stays a.weak at header place k (bit-firm a.weak place k (was-firm.1 j small)))))
 
     module _ (v : List ℕ) (d : Drawn new.weak new.shown v) (shut : is_opened v (c + 4) ≡ false) where
       put-read : IsBlockRead (BesidePlace p) (with_loss a new) v c
@@ -443,25 +446,33 @@ module _ (a : Bits) (c p : ℕ) (low : p < 7) (known : IsKnownBlock a c) (h : Is
 apart-sector : (c p e k : ℕ) → p < 7 → k < block_len → e ≢ c → (block_place e + k < sector_place c p) ⊎ (sector_place c p + 512 ≤ block_place e + k)
 apart-sector c p e k low inside other = elim (cases_lt e c) [ inl below ↦ inl (omega (arith, below, inside)) | inr above ↦ inr (omega (arith, above, other, low)) ]
 
-pub half-put : (a new : Bits) (c p : ℕ) → p < 7 → IsKnownBlock a c → IsSureBlock a false c → raw_slot a.shown c p ≡ Free → ((j : ℕ) → j < p → raw_slot a.shown c j ≢ Free) → length new.shown ≡ length a.shown → HasByteBits new c
-    → PutInterrupted c p a new → IsHalfAtEachDraw c new
-half-put a new c p low known h free lowest size bytes (in_header header begun l) =
-    half-unlive a new false c p header low known h (trusted-mark a c h) free lowest (let four = begun.size in omega (arith, four)) (let four = begun.size in omega (arith, four)) (ap (λ x. bit_at x 1) begun.state) l
-half-put a new c p low known h free lowest size bytes (in_sector header begun same) = put-in-sector a c p low known h free header begun new size bytes same
-half-put a new c p low known h free lowest size bytes (in_commit header filled begun f l) = λ v d shut.
-    let g = begun.generation in
-    place-torn a c p low known h free header begun.begun new v bytes (put-left a c p low known h free header begun.begun g begun.says filled new f l size) (put-read a c p low known h free header begun.begun g begun.says filled new f l size v d shut)
-    (put-torn a c p low known h free header begun.begun g begun.says filled new f l size v d shut)
+pub half-put : (a new : Bits) (c p : ℕ) (tag : Tag) (content : List ℕ) → length content ≡ 512 → p < 7 → IsKnownBlock a c → IsSureBlock a false c → raw_slot a.shown c p ≡ Free → ((j : ℕ) → j < p → raw_slot a.shown c j ≢ Free)
+    → length new.shown ≡ length a.shown → HasByteBits new c → PutInterrupted c p tag content a new → IsHalfAtEachDraw c new
+half-put a new c p tag content whole low known h free lowest size bytes (in_header header begun l) =
+    let four = begun.begun.size in
+    half-unlive a new false c p header low known h (trusted-mark a c h) free lowest (omega (arith, four)) (omega (arith, four)) (ap (λ x. bit_at x 1) begun.begun.state) l
+half-put a new c p tag content whole low known h free lowest size bytes (in_first_page header begun l) =
+    put-in-sector a c p low known h free header begun.begun new size bytes (first-aside c p content (with_descriptor c p header a) new whole l)
+half-put a new c p tag content whole low known h free lowest size bytes (in_second_page header begun l) =
+    put-in-sector a c p low known h free header begun.begun new size bytes (second-aside c p content (with_descriptor c p header a) new whole l)
+half-put a new c p tag content whole low known h free lowest size bytes (in_commit header begun l) = λ v d shut.
+    let g = begun-generation tag header begun in
+    place-torn a c p low known h free header begun.begun new v bytes (put-left a c p low known h free header begun.begun g.0 g.1 content whole new l size) (put-read a c p low known h free header begun.begun g.0 g.1 content whole new l size v d shut)
+    (put-torn a c p low known h free header begun.begun g.0 g.1 content whole new l size v d shut)
 
 -- Each other block is left by a put that was cut.
-pub put-apart : (a new : Bits) (c p e : ℕ) → p < 7 → e ≢ c → PutInterrupted c p a new → (k : ℕ) → k < block_len → SameAt a new (block_place e + k)
-put-apart a new c p e low other (in_header header begun l) k inside = program-apart a new c (16 + 4 * p) e header (let four = begun.size in omega (arith, low, four)) other l k inside
-put-apart a new c p e low other (in_sector header begun same) k inside =
-    let b = program-apart a (program_bits a (descriptor_place c p) header) c (16 + 4 * p) e header (let four = begun.size in omega (arith, low, four)) other (changed_whole refl) k inside in
-    let s = same (block_place e + k) (omega arith) (apart-sector c p e k low inside other) in
+put-beside : (a new : Bits) (c p e : ℕ) (header : List ℕ) → p < 7 → e ≢ c → IsBegunHead header → SameButSector c p (with_descriptor c p header a) new → (k : ℕ) → k < block_len → SameAt a new (block_place e + k)
+put-beside a new c p e header low other begun same k inside =
+    let b = program-apart a (with_descriptor c p header a) c (16 + 4 * p) e header (let four = begun.size in omega (arith, low, four)) other (changed_whole refl) k inside in
+    let s = same (block_place e + k) (apart-sector c p e k low inside other) in
     (s.0 ∙ b.0, s.1 ∙ b.1)
-put-apart a new c p e low other (in_commit header filled begun f l) k inside =
-    let b = program-apart a (program_bits a (descriptor_place c p) header) c (16 + 4 * p) e header (let four = begun.begun.size in omega (arith, low, four)) other (changed_whole refl) k inside in
-    let s = f.beside (block_place e + k) (omega arith) (apart-sector c p e k low inside other) in
+
+pub put-apart : (a new : Bits) (c p e : ℕ) (tag : Tag) (content : List ℕ) → length content ≡ 512 → p < 7 → e ≢ c → PutInterrupted c p tag content a new → (k : ℕ) → k < block_len → SameAt a new (block_place e + k)
+put-apart a new c p e tag content whole low other (in_header header begun l) k inside = program-apart a new c (16 + 4 * p) e header (let four = begun.begun.size in omega (arith, low, four)) other l k inside
+put-apart a new c p e tag content whole low other (in_first_page header begun l) k inside = put-beside a new c p e header low other begun.begun (first-aside c p content (with_descriptor c p header a) new whole l) k inside
+put-apart a new c p e tag content whole low other (in_second_page header begun l) k inside = put-beside a new c p e header low other begun.begun (second-aside c p content (with_descriptor c p header a) new whole l) k inside
+put-apart a new c p e tag content whole low other (in_commit header begun l) k inside =
+    let filled = with_pages c p content (with_descriptor c p header a) in
+    let b = put-beside a filled c p e header low other begun.begun (pages-aside c p content (with_descriptor c p header a) whole) k inside in
     let m = program-apart filled new c (16 + 4 * p) e (252 ∷ []) (omega (arith, low)) other l k inside in
-    (m.0 ∙ (s.0 ∙ b.0), m.1 ∙ (s.1 ∙ b.1))
+    (m.0 ∙ b.0, m.1 ∙ b.1)

@@ -25,7 +25,7 @@ use Rattle.sector_slots.proofs.TornBlocks.{half-begun, half-committed, half-copi
 
 -- an erased block none of whose bits is weak
 module _ (new : Bits) (c : ℕ) (inside : c < data_blocks new.shown) (bytes : (k : ℕ) → k < 4096 → byte new.shown (block_place c + k) ≡ 255) (f : AreFirm new.weak (block_place c) 4096) (v : List ℕ) (d : Drawn new.weak new.shown v) (shut : is_opened v (c + 4) ≡ false) where
-  erased-is : data_block v c ≡ blank
+  pub erased-is : data_block v c ≡ blank
   erased-is =
       let n : length (part 4096 v (c + 4)) ≡ 4096 = part-whole 4096 v (c + 4) (let s = d.same_length in omega (arith, s, inside)) in
       unopened-own v (c + 4) shut ∙ ext_get_or 0 (part 4096 v (c + 4)) blank (n ∙ sym length-blank) (λ k h.
@@ -40,7 +40,7 @@ module _ (new : Bits) (c : ℕ) (inside : c < data_blocks new.shown) (bytes : (k
       let now : Bits = record { shown = v; weak = new.weak } in
       let kind : kind_at v c ≡ kinds.Plain = ap kind_of erased-is ∙ blank-kind in
       record {
-        bytes = λ k j low high. bit-firm new.weak (block_place c + k) j (f k low);
+        bytes = λ other k j low high. bit-firm new.weak (block_place c + k) j (f k low);
         mark = subst (λ q. HalfMark q now c) (sym kind) (inl (firm-part 4 4 (omega arith)));
         edges = λ other. record { start = λ k low. f k (omega (arith, low)); after_mark = firm-part 8 8 (omega arith); after_descriptors = firm-part 44 468 (omega arith) };
         slots = λ other i low. subst (λ s. HalfSlot s now c i) (sym (ap (λ b. slot_in b i) erased-is ∙ blank-slot i low)) (inl (firm (firm-part (16 + 4 * i) 4 (omega (arith, low))) (firm-part (512 * (i + 1)) 512 (omega (arith, low)))));

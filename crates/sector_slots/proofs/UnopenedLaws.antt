@@ -1,6 +1,7 @@
 -- A program in the data blocks was interrupted while no erase goes on: nor does one at a later power-on.
-use Rattle.std.proofs.Common.{◌≡◌, ℕ, ◌+◌, ◌<◌, ◌≤◌, Bool, true, false, List, length, refl, ap, ◌∙◌, arith, inl}
+use Rattle.std.proofs.Common.{◌≡◌, ℕ, ◌+◌, ◌<◌, ◌≤◌, Bool, true, false, List, length, refl, sym, ap, ◌∙◌, arith, inl}
 use Rattle.std.specs.Prelude.{◌&&◌, nat_lt}
+use Rattle.std.proofs.lemmas.List.{get_or_past}
 use Rattle.chip_model.specs.Memory.{and_at, TornAnd}
 use Rattle.chip_model.specs.Wavering.{Bits, Drawn}
 use Rattle.erase_journal.specs.Blocks.{is_opened, is_believed0}
@@ -18,7 +19,7 @@ use Rattle.erase_journal.proofs.Losses.{program-beside, vote-beside, entries-bes
 use Rattle.erase_journal.specs.Torn.{SameAt, ProgramInterrupted}
 
 -- A program in the data blocks of a chip with firm journals was interrupted: at no draw a block has an open entry.
-journals-beside : (a b : Bits) → ((i : ℕ) → i < 16384 → SameAt a b i) → AreFirmJournals a → AreFirmJournals b
+pub journals-beside : (a b : Bits) → ((i : ℕ) → i < 16384 → SameAt a b i) → AreFirmJournals a → AreFirmJournals b
 journals-beside a b same h = record {
   superblock = λ k low. (same (0 + k) (omega (arith, low))).1 ∙ h.superblock k low;
   votes = λ x. (
@@ -37,7 +38,7 @@ journals-beside a b same h = record {
   second-below J1 = omega arith
   second-below J2 = omega arith
 
-shown-leaves : (a new : Bits) (at : ℕ) (bytes : List ℕ) → ProgramInterrupted at bytes a new → Leaves a.shown (TornAnd a.shown at bytes) (and_at a.shown at bytes) new.shown
+pub shown-leaves : (a new : Bits) (at : ℕ) (bytes : List ℕ) → ProgramInterrupted at bytes a new → Leaves a.shown (TornAnd a.shown at bytes) (and_at a.shown at bytes) new.shown
 shown-leaves a new at bytes (as_before e) = as_before (ap (λ (x : Bits). x.shown) e)
 shown-leaves a new at bytes (torn_in_it t) = torn_in_it t.0
 shown-leaves a new at bytes (changed_whole e) = changed_whole (ap (λ (x : Bits). x.shown) e)
@@ -50,4 +51,15 @@ pub program-unopened : (a new : Bits) (at : ℕ) (bytes : List ℕ) → 16384 �
 program-unopened a new at bytes from settled journals l v d e =
     let still = data-spoiled at (length bytes) a.shown new.shown settled.sound from (and-leaves a.shown at bytes new.shown (shown-leaves a new at bytes l)) in
     let firm = journals-beside a new (λ i low. program-beside a new at bytes l i (inl (omega (arith, low, from)))) journals in
+    none-opened (is_believed0 v) (entries_for v e) (entries-drawn new v d firm e ∙ none-named new.shown e (still.1.opened ∙ settled.none))
+
+-- The same where the journals are as they were, whatever changed in the data blocks.
+pub journals-unopened : (a new : Bits) → length new.shown ≡ length a.shown → ((i : ℕ) → i < 16384 → SameAt a new i) → IsSettled a.shown → AreFirmJournals a → (v : List ℕ) → Drawn new.weak new.shown v → (e : ℕ) → is_opened v e ≡ false
+journals-unopened a new size same settled journals v d e =
+    let still = data-spoiled 16384 (length a.shown) a.shown new.shown settled.sound (omega arith) (record {
+      same_length = size;
+      below = λ i low. (same i low).0;
+      above = λ i past. get_or_past new.shown i 0 (omega (arith, size, past)) ∙ sym (get_or_past a.shown i 0 (omega (arith, past)));
+    }) in
+    let firm = journals-beside a new same journals in
     none-opened (is_believed0 v) (entries_for v e) (entries-drawn new v d firm e ∙ none-named new.shown e (still.1.opened ∙ settled.none))

@@ -1,14 +1,12 @@
 -- What a loss of power in a call leaves of the data blocks of a store that a firm mount left.
 -- Source: own, layout 2.
-use Rattle.std.specs.Prelude.{◌≡◌, ◌≢◌, ◌⊎◌, ℕ, ◌+◌, ◌<◌, ◌≤◌, Bool, false, List, length}
-use Rattle.std.specs.Int.{bit_at}
+use Rattle.std.specs.Prelude.{◌≡◌, ◌≢◌, ◌⊎◌, ℕ, ◌+◌, ◌<◌, Bool, false, List, length}
 use Rattle.chip_model.specs.Memory.{byte}
 use Rattle.chip_model.specs.Wavering.{Bits, Drawn}
 use Rattle.nor_layout.specs.declared.header.Tag.{Tag}
 use Rattle.nor_layout.specs.declared.kind.Kind.{Kind}
 use Rattle.nor_layout.specs.declared.kind.Kind.TheVariants as kinds
 use Rattle.nor_layout.specs.Headers.{next_generation}
-use Rattle.nor_layout.specs.Journals.{block_len}
 use Rattle.erase_journal.specs.Blocks.{is_opened}
 use Rattle.erase_journal.specs.Journals.{IsSettled}
 use Rattle.erase_journal.specs.Torn.{BlockInterrupted, SameBlock}
@@ -19,12 +17,8 @@ use Rattle.sector_slots.specs.Sectors.{HasSlotsAlone, IsSoundMap, zeros}
 use Rattle.sector_slots.specs.Blocks.{AreAtRest}
 use Rattle.sector_slots.specs.Torn.{BeginInterrupted, PutInterrupted, SameButPlace}
 use Rattle.sector_slots.specs.Torn.{StateInterrupted}
-use Rattle.sector_slots.specs.Weak.{IsFirmStore, IsHalfBlock, IsSureBlock, block_place}
+use Rattle.sector_slots.specs.Weak.{HasByteBits, IsFirmStore, IsHalfBlock, IsSureBlock}
 use Rattle.sector_slots.specs.Weak.{descriptor_place, mark_place, sector_place}
-
--- of each byte of data block c eight bits are weak at most
-abbrev pub HasByteBits : Bits → ℕ → Type 0
-HasByteBits b c = (k j : ℕ) → k < block_len → 8 ≤ j → bit_at (byte b.weak (block_place c + k)) j ≡ 0
 
 -- a block of slots, not of a group, whose mark is a known one
 abbrev pub HasMark : Kind → Type 0
@@ -76,10 +70,10 @@ pub record LossesLeaveHalfBlocks : Type 0 where
   pub others : (a new : Bits) (suspect : Bool) (c : ℕ) → IsKnownBlock a c → IsSureBlock a suspect c
       → length new.shown ≡ length a.shown → SameBlock (c + 4) a new → IsHalfAtEachDraw c new
   -- the lowest free slot is written, of a block that isn't suspect
-  pub put : (a new : Bits) (c p : ℕ) → p < 7 → IsKnownBlock a c → IsSureBlock a false c
-      → raw_slot a.shown c p ≡ Free → ((j : ℕ) → j < p → raw_slot a.shown c j ≢ Free)
-      → length new.shown ≡ length a.shown → HasByteBits new c → PutInterrupted c p a new
-      → IsHalfAtEachDraw c new
+  pub put : (a new : Bits) (c p : ℕ) (tag : Tag) (content : List ℕ) → length content ≡ 512 → p < 7
+      → IsKnownBlock a c → IsSureBlock a false c → raw_slot a.shown c p ≡ Free
+      → ((j : ℕ) → j < p → raw_slot a.shown c j ≢ Free) → length new.shown ≡ length a.shown
+      → HasByteBits new c → PutInterrupted c p tag content a new → IsHalfAtEachDraw c new
   -- a live slot is retired that holds zeros, or whose sector a newer slot holds firmly
   pub retire : (a new : Bits) (suspect : ℕ → Bool) (c p : ℕ) (tag : Tag) (x : List ℕ)
       → c < data_blocks a.shown → p < 7 → IsKnownBlock a c
@@ -98,8 +92,7 @@ pub record LossesLeaveHalfBlocks : Type 0 where
   -- a slot is copied into a void block
   pub copy : (a new : Bits) (suspect : Bool) (c p : ℕ) → p < 7 → IsSettled a.shown
       → IsSureBlock a suspect c → kind_at a.shown c ≡ kinds.Void
-      → length new.shown ≡ length a.shown → HasByteBits new c → SameButPlace c p a new
-      → IsHalfAtEachDraw c new
+      → length new.shown ≡ length a.shown → SameButPlace c p a new → IsHalfAtEachDraw c new
   -- a copy is committed
   pub commit : (a new : Bits) (suspect : Bool) (c : ℕ) → IsKnownBlock a c → IsSureBlock a suspect c
       → kind_at a.shown c ≡ kinds.Void → byte a.shown (mark_place c) ≡ 254

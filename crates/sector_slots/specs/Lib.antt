@@ -10,3 +10,4 @@ pub mod Firm
 pub mod Weak
 pub mod Torn
 pub mod Half
+pub mod Losses

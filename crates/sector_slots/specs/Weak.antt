@@ -30,6 +30,10 @@ descriptor_place c i = block_place c + (16 + 4 * i)
 abbrev pub sector_place : ℕ → ℕ → ℕ
 sector_place c i = block_place c + 512 * (i + 1)
 
+-- of each byte of data block c eight bits are weak at most
+abbrev pub HasByteBits : Bits → ℕ → Type 0
+HasByteBits b c = (k j : ℕ) → k < block_len → 8 ≤ j → bit_at (byte b.weak (block_place c + k)) j ≡ 0
+
 -- no bit of data block c is weak
 abbrev pub IsWhollyFirm : List ℕ → ℕ → Type 0
 IsWhollyFirm w c = AreFirm w (block_place c) block_len
@@ -156,7 +160,7 @@ HalfSlot Outside b c i = ⊥
 
 -- Of a block that is void nothing more is said. Of each byte eight bits are weak at most.
 pub record IsHalfBlock (b : Bits) (c : ℕ) : Type 0 where
-  pub bytes : (k j : ℕ) → k < block_len → 8 ≤ j → bit_at (byte b.weak (block_place c + k)) j ≡ 0
+  pub bytes : kind_at b.shown c ≢ kinds.Void → HasByteBits b c
   pub mark : HalfMark (kind_at b.shown c) b c
   pub edges : kind_at b.shown c ≢ kinds.Void → AreEdgesFirm b.weak c
   pub slots : kind_at b.shown c ≢ kinds.Void → (i : ℕ) → i < 7

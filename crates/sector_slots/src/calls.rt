@@ -113,8 +113,8 @@ pub trait SlotCalls {
         ensures cut_only { IsErrOf result NorError.Cut
             → OnlyPlace slot (state self.old).memory (state self.new).memory }
         ensures chip { SameChip (state self.old).memory (state self.new).memory }
-        ensures cut_bits { IsErrOf result NorError.Cut → PutInterrupted (slot / 7) (slot % 7)
-            (bits_in (state self.old)) (bits_in (state self.new)) }
+        ensures cut_bits { IsErrOf result NorError.Cut → PutInterrupted (slot / 7) (slot % 7) tag
+            content.now (bits_in (state self.old)) (bits_in (state self.new)) }
         ensures healthy { IsErrOf result NorError.Cut → IsHealthy (state self.old).memory
             → IsHealthy (state self.new).memory }
         ensures ends { EndsFirmly result (state self.old) (state self.new) };

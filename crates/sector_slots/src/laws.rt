@@ -5,6 +5,7 @@ ghost use Rattle.sector_slots.specs.Slots.{Slot};
 ghost use Rattle.sector_slots.specs.Sectors.{SectorIs};
 ghost use Rattle.sector_slots.specs.Blocks.{SoundBlocksHaveNoFault};
 ghost use Rattle.sector_slots.specs.Half.{LossesLeaveHalfBlocks};
+ghost use Rattle.sector_slots.specs.Losses.{LossesKeepSectors, LossesLeaveHalfChips};
 ghost use Rattle.sector_slots.specs.Laws.{CountedSlotsAreStored, CopiesAreExact, CopiesKeepTags};
 ghost use Rattle.sector_slots.specs.Laws.{ReservesAreOne, ErasedChipsHoldZeros, GroupsAreSeen};
 ghost use Rattle.sector_slots.specs.Laws.{SectorsAreSaid, MarksKeepSectors};
@@ -94,4 +95,18 @@ pub fn erased_chips_hold_zeros()
 /// newer one or holds zeros, and so on, case by case.
 pub fn losses_leave_half_blocks()
     ensures { LossesLeaveHalfBlocks }
+{}
+
+/// Where the power goes in a change that keeps the sectors, or in a write of a sector, of a chip
+/// that a firm mount left, each block is one of which one change was interrupted, unless an entry
+/// is open for it, and the next mount finds room, however the weak bits read at the next power-on.
+pub fn losses_leave_half_chips()
+    ensures { LossesLeaveHalfChips }
+{}
+
+/// Nor does a loss of power in such a change lose a sector: however the weak bits read at the next
+/// power-on, each holds what it held; of an erase, where a block that has an open entry then may be
+/// erased. After one in a write all are as before, or the one that was written has the new content.
+pub fn losses_keep_sectors()
+    ensures { LossesKeepSectors }
 {}

@@ -7,18 +7,17 @@ use Rattle.erase_journal.proofs.BlockLaws.{length-block}
 use Rattle.sector_slots.specs.Slots.{data_block}
 use Rattle.nor_driver.proofs.CallLaws.{fails-as}
 use Rattle.erase_journal.specs.Steps.{SucceedsSettled}
-use Rattle.erase_journal.proofs.SettledLaws.{settled-after}
+use Rattle.erase_journal.proofs.SettledLaws.{settled-after, settled-healthy}
 use Rattle.erase_journal.proofs.Firmly.{refuses-firmly}
 use Rattle.journal_slots.specs.Programs.{OnlyBytes}
 use Rattle.journal_slots.proofs.Bytes.{leaves-only, and-only, placed-at, descriptor-place, content-place, place-after, place-group}
 use Rattle.sector_slots.proofs.GroupLaws.{free-no_group}
 use Rattle.journal_slots.proofs.Places.{fresh-descriptor, begun-cut, begun-state, content-cut}
-use Rattle.std.proofs.Common.{ap, ◌∙◌}
-use Rattle.chip_model.specs.Wavering.{Bits}
-use Rattle.nor_driver.specs.State.{bits_in, program_bits}
+use Rattle.nor_driver.specs.State.{bits_in}
 use Rattle.erase_journal.specs.Torn.{ProgramInterrupted}
-use Rattle.sector_slots.specs.Torn.{in_header, in_sector, SameButSector}
+use Rattle.sector_slots.specs.Torn.{in_header}
 use Rattle.sector_slots.specs.Weak.{block_place}
+use Rattle.journal_slots.proofs.Torn.{descriptor-firm, place-firm, put-pages}
 use Rattle.journal_slots.proofs.slot.fill.Goals as goal
 
 pub returns-in_err-program_bytes-clause-cut : goal.returns-in_err-program_bytes-clause-cut
@@ -81,16 +80,26 @@ returns-clause-ends g c =
     settled-after s0 s1 s2 c.in_ok-program_bytes.ensures.ends c.in_ok-write_content.ensures.ends
 
 pub returns-in_err-program_bytes-clause-cut_bits : goal.returns-in_err-program_bytes-clause-cut_bits
-returns-in_err-program_bytes-clause-cut_bits g c is =
+returns-in_err-program_bytes-clause-cut_bits g c is tag begun =
     let p = err_from_is_err_and c.from_residual.result c.from_residual.ensures.1 in
     let h = c.args.header.now in
-    in_header h (record { size = c.requires.header; state = c.requires.begun })
+    in_header h begun
     (subst (λ a. ProgramInterrupted (block_place c.args.block + a) h (bits_in c.args.journal.now) (bits_in c.program_bytes.new.journal)) c.descriptor_place.ensures (c.in_err-program_bytes.ensures.cut_bits (cc (p.1, p.2))))
 
 pub returns-in_err-write_content-clause-cut_bits : goal.returns-in_err-write_content-clause-cut_bits
-returns-in_err-write_content-clause-cut_bits g c is =
+returns-in_err-write_content-clause-cut_bits g c is tag begun =
     let p = err_from_is_err_and c.from_residual-in_err-write_content.result c.from_residual-in_err-write_content.ensures.1 in
-    let h = c.args.header.now in
-    let programmed = c.in_ok-program_bytes.ensures.firm ∙ ap (λ a. program_bits (bits_in c.args.journal.now) (block_place c.args.block + a) h) c.descriptor_place.ensures in
-    in_sector h (record { size = c.requires.header; state = c.requires.begun })
-    (subst (λ (x : Bits). SameButSector c.args.block c.args.place x (bits_in c.write_content.new.journal)) programmed (c.in_err-write_content.ensures.cut_bits (cc (p.1, p.2))))
+    let s0 = bits_in c.args.journal.now in
+    let s1 = bits_in c.program_bytes.new.journal in
+    put-pages c.args.block c.args.place tag c.args.header.now c.args.content.now s0 s1 (bits_in c.write_content.new.journal) begun
+    (descriptor-firm c.args.block c.args.place c.descriptor_place.result c.args.header.now s0 s1 c.descriptor_place.ensures c.in_ok-program_bytes.ensures.firm) (c.in_err-write_content.ensures.cut_bits (cc (p.1, p.2)))
+
+pub returns-in_err-write_content-clause-healthy : goal.returns-in_err-write_content-clause-healthy
+returns-in_err-write_content-clause-healthy g c is healthy =
+    let p = err_from_is_err_and c.from_residual-in_err-write_content.result c.from_residual-in_err-write_content.ensures.1 in
+    c.in_err-write_content.ensures.healthy (cc (p.1, p.2)) (settled-healthy _ c.in_ok-program_bytes.ensures.ends.settled)
+
+pub returns-clause-firm : goal.returns-clause-firm
+returns-clause-firm g c =
+    place-firm c.args.block c.args.place c.descriptor_place.result c.args.header.now c.args.content.now (bits_in c.args.journal.now) (bits_in c.program_bytes.new.journal) (bits_in c.write_content.new.journal) c.descriptor_place.ensures
+    c.in_ok-program_bytes.ensures.firm c.in_ok-write_content.ensures.firm

@@ -1,4 +1,4 @@
-use Rattle.std.proofs.Common.{◌≡◌, ◌∙◌, ◌+◌, ◌-◌, length, sym, ap, arith}
+use Rattle.std.proofs.Common.{◌≡◌, ◌∙◌, ◌+◌, ◌-◌, length, sym, ap, subst, arith}
 use Rattle.std.specs.Prelude.{take, drop}
 use Rattle.std.proofs.lemmas.List.{length-take-le, length-drop}
 use Rattle.std.proofs.lemmas.Result.{err_from_is_err_and}
@@ -12,9 +12,11 @@ use Rattle.erase_journal.proofs.SettledLaws.{settled-after}
 use Rattle.erase_journal.proofs.Firmly.{refuses-firmly}
 use Rattle.journal_slots.proofs.Bytes.{leaves-only, and-only, only-wider, bytes-after, last-page, two-pages}
 use Rattle.erase_journal.proofs.SettledLaws.{settled-healthy}
-use Rattle.nor_driver.specs.State.{bits_in, changed_whole}
-use Rattle.sector_slots.specs.Weak.{block_place, sector_place}
-use Rattle.journal_slots.proofs.Torn.{sector-aside, sectors-aside}
+use Rattle.nor_driver.specs.State.{bits_in}
+use Rattle.erase_journal.specs.Torn.{ProgramInterrupted}
+use Rattle.sector_slots.specs.Weak.{block_place}
+use Rattle.journal_slots.specs.Programs.{in_first, in_second}
+use Rattle.journal_slots.proofs.Torn.{both-pages, second-cut}
 use Rattle.journal_slots.proofs.slot.write_content.Goals as goal
 
 pub slice_bounds-program_bytes-end : goal.slice_bounds-program_bytes-end
@@ -87,39 +89,18 @@ returns-in_err-program_bytes-2-clause-healthy g c is healthy =
 pub returns-in_err-program_bytes-clause-cut_bits : goal.returns-in_err-program_bytes-clause-cut_bits
 returns-in_err-program_bytes-clause-cut_bits g c is =
     let x = c.args.content.now in
-    let n = length-take-le 256 x (omega (arith, c.requires.size)) in
-    let at = c.content_place-at.ensures in
     let s0 = bits_in c.args.journal.now in
     let s1 = bits_in c.program_bytes.new.journal in
     let p = err_from_is_err_and c.from_residual.result c.from_residual.ensures.1 in
-    sector-aside c.args.block c.args.place (block_place c.args.block + c.content_place-at.result) (take 256 x) s0 s1 (omega (arith, at)) (omega (arith, n, at)) (c.in_err-program_bytes.ensures.cut_bits (cc (p.1, p.2)))
+    in_first (subst (λ a. ProgramInterrupted (block_place c.args.block + a) (take 256 x) s0 s1) c.content_place-at.ensures (c.in_err-program_bytes.ensures.cut_bits (cc (p.1, p.2))))
 
 pub returns-in_err-program_bytes-2-clause-cut_bits : goal.returns-in_err-program_bytes-2-clause-cut_bits
 returns-in_err-program_bytes-2-clause-cut_bits g c is =
-    let x = c.args.content.now in
-    let n = length-take-le 256 x (omega (arith, c.requires.size)) in
-    let at = c.content_place-at.ensures in
-    let s0 = bits_in c.args.journal.now in
-    let s1 = bits_in c.program_bytes.new.journal in
-    let page = take (length x - 256) (drop 256 x) in
-    let k : length page ≡ length x - 256 = ap (λ q. length q) (last-page x) ∙ length-drop 256 x in
-    let s2 = bits_in c.program_bytes-2.new.journal in
-    let begun = sector-aside c.args.block c.args.place (block_place c.args.block + c.content_place-at.result) (take 256 x) s0 s1 (omega (arith, at)) (omega (arith, n, at)) (changed_whole c.in_ok-program_bytes.ensures.firm) in
     let p = err_from_is_err_and c.from_residual-in_err-program_bytes-2.result c.from_residual-in_err-program_bytes-2.ensures.1 in
-    sectors-aside c.args.block c.args.place s0 s1 s2 begun (sector-aside c.args.block c.args.place (block_place c.args.block + (c.content_place-at.result + 256)) page s1 s2 (omega (arith, at)) (omega (arith, k, at, c.requires.size)) (c.in_err-program_bytes-2.ensures.cut_bits (cc (p.1, p.2))))
+    in_second (second-cut c.args.block c.args.place c.content_place-at.result c.args.content.now (bits_in c.args.journal.now) (bits_in c.program_bytes.new.journal) (bits_in c.program_bytes-2.new.journal) c.content_place-at.ensures
+    c.in_ok-program_bytes.ensures.firm (c.in_err-program_bytes-2.ensures.cut_bits (cc (p.1, p.2))))
 
-pub returns-clause-sector : goal.returns-clause-sector
-returns-clause-sector g c =
-    let x = c.args.content.now in
-    let n = length-take-le 256 x (omega (arith, c.requires.size)) in
-    let at = c.content_place-at.ensures in
-    let s0 = bits_in c.args.journal.now in
-    let s1 = bits_in c.program_bytes.new.journal in
-    let page = take (length x - 256) (drop 256 x) in
-    let k : length page ≡ length x - 256 = ap (λ q. length q) (last-page x) ∙ length-drop 256 x in
-    let s2 = bits_in c.program_bytes-2.new.journal in
-    let begun = sector-aside c.args.block c.args.place (block_place c.args.block + c.content_place-at.result) (take 256 x) s0 s1 (omega (arith, at)) (omega (arith, n, at)) (changed_whole c.in_ok-program_bytes.ensures.firm) in
-    record {
-      beside = sectors-aside c.args.block c.args.place s0 s1 s2 begun (sector-aside c.args.block c.args.place (block_place c.args.block + (c.content_place-at.result + 256)) page s1 s2 (omega (arith, at)) (omega (arith, k, at, c.requires.size)) (changed_whole c.in_ok-program_bytes-2.ensures.firm));
-      weak = λ i j low one. c.in_ok-program_bytes.ensures.ends.kept.bits.weak (sector_place c.args.block c.args.place + i) j (c.in_ok-program_bytes-2.ensures.ends.kept.bits.weak (sector_place c.args.block c.args.place + i) j one);
-    }
+pub returns-clause-firm : goal.returns-clause-firm
+returns-clause-firm g c =
+    both-pages c.args.block c.args.place c.content_place-at.result c.args.content.now (bits_in c.args.journal.now) (bits_in c.program_bytes.new.journal) (bits_in c.program_bytes-2.new.journal) c.content_place-at.ensures
+    c.in_ok-program_bytes.ensures.firm c.in_ok-program_bytes-2.ensures.firm

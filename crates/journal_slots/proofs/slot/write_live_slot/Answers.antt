@@ -15,7 +15,7 @@ use Rattle.sector_slots.proofs.GroupLaws.{free-no_group}
 use Rattle.nor_driver.specs.State.{bits_in}
 use Rattle.erase_journal.specs.Torn.{ProgramInterrupted}
 use Rattle.sector_slots.specs.Weak.{block_place}
-use Rattle.journal_slots.proofs.Torn.{place-aside}
+use Rattle.journal_slots.proofs.Torn.{pages-place, place-aside}
 use Rattle.journal_slots.proofs.slot.write_live_slot.Goals as goal
 
 pub returns-in_err-write_content-clause-cut_within : goal.returns-in_err-write_content-clause-cut_within
@@ -89,5 +89,10 @@ returns-in_err-program_bytes-clause-cut_bits g c is =
     let p = err_from_is_err_and c.from_residual-in_err-program_bytes.result c.from_residual-in_err-program_bytes.ensures.1 in
     let s1 = bits_in c.write_content.new.journal in
     let s2 = bits_in c.program_bytes.new.journal in
-    place-aside c.args.block c.args.place c.live_header-header.result (bits_in c.args.journal.now) s1 s2 (omega arith) c.in_ok-write_content.ensures.sector.beside
+    place-aside c.args.block c.args.place c.live_header-header.result c.args.content.now (bits_in c.args.journal.now) s1 s2 (omega arith) c.requires.size c.in_ok-write_content.ensures.firm
     (subst (λ a. ProgramInterrupted (block_place c.args.block + a) c.live_header-header.result s1 s2) c.descriptor_place.ensures (c.in_err-program_bytes.ensures.cut_bits (cc (p.1, p.2))))
+
+pub returns-in_err-write_content-clause-cut_bits : goal.returns-in_err-write_content-clause-cut_bits
+returns-in_err-write_content-clause-cut_bits g c is =
+    let p = err_from_is_err_and c.from_residual.result c.from_residual.ensures.1 in
+    pages-place c.args.block c.args.place c.args.content.now (bits_in c.args.journal.now) (bits_in c.write_content.new.journal) c.requires.size (c.in_err-write_content.ensures.cut_bits (cc (p.1, p.2)))

@@ -15,8 +15,8 @@ use Rattle.journal_slots.proofs.Places.{fresh-descriptor, fill-leaves, filled-wi
 use Rattle.sector_slots.proofs.GroupLaws.{free-no_group}
 use Rattle.nor_driver.specs.State.{bits_in}
 use Rattle.sector_slots.specs.Torn.{in_commit, StateInterrupted}
-use Rattle.sector_slots.specs.Weak.{block_place}
-use Rattle.journal_slots.proofs.Torn.{begun-descriptor}
+use Rattle.sector_slots.specs.Weak.{block_place, descriptor_place}
+use Rattle.chip_model.specs.Wavering.{Bits}
 use Rattle.journal_slots.proofs.slot.write_slot.Goals as goal
 
 pub returns-in_err-fill-clause-cut : goal.returns-in_err-fill-clause-cut
@@ -101,10 +101,12 @@ returns-clause-ends g c =
 pub returns-in_err-fill-clause-cut_bits : goal.returns-in_err-fill-clause-cut_bits
 returns-in_err-fill-clause-cut_bits g c is =
     let p = err_from_is_err_and c.from_residual.result c.from_residual.ensures.1 in
-    c.in_err-fill.ensures.cut_bits (cc (p.1, p.2))
+    c.in_err-fill.ensures.cut_bits (cc (p.1, p.2)) c.args.tag (record { begun = record { size = omega arith; state = c.begun_header-header.ensures.begun }; each = c.in_err-fill.ensures.bytes; live = c.begun_header-header.ensures.read_back })
 
 pub returns-in_err-program_bytes-clause-cut_bits : goal.returns-in_err-program_bytes-clause-cut_bits
 returns-in_err-program_bytes-clause-cut_bits g c is =
     let p = err_from_is_err_and c.from_residual-in_err-program_bytes.result c.from_residual-in_err-program_bytes.ensures.1 in
-    in_commit c.begun_header-header.result (bits_in c.fill.new.journal) (begun-descriptor c.begun_header-header.result c.args.tag (omega arith) c.begun_header-header.ensures.begun c.begun_header-header.ensures.read_back) c.in_ok-fill.ensures.bits
-    (subst (λ a. StateInterrupted (block_place c.args.block + a) 252 (bits_in c.fill.new.journal) (bits_in c.program_bytes.new.journal)) c.descriptor_place.ensures (c.in_err-program_bytes.ensures.cut_bits (cc (p.1, p.2))))
+    let t = bits_in c.program_bytes.new.journal in
+    in_commit c.begun_header-header.result (record { begun = record { size = omega arith; state = c.begun_header-header.ensures.begun }; each = c.in_ok-fill.ensures.bytes; live = c.begun_header-header.ensures.read_back })
+    (subst (λ (x : Bits). StateInterrupted (descriptor_place c.args.block c.args.place) 252 x t) c.in_ok-fill.ensures.firm
+    (subst (λ a. StateInterrupted (block_place c.args.block + a) 252 (bits_in c.fill.new.journal) t) c.descriptor_place.ensures (c.in_err-program_bytes.ensures.cut_bits (cc (p.1, p.2)))))
