@@ -144,7 +144,7 @@ copies-now j s t m m' h only void = copies only.chip (record { target = h.target
 copy-clean : (t : ℕ) (m m' : List ℕ) → OnlyBlock (t + 4) m m' → kind_at m t ≡ kinds.Void → kind_at m' t ≡ kinds.Void → IsClean m → IsClean m'
 copy-clean t m m' only was now clean = void-clean t m m' kinds.Void only was (λ b. refl) now clean
 
-progress-alone : (j s t : ℕ) (m0 m : List ℕ) → CopyProgress j s t m0 m → HasSlotsAlone m0 → HasSlotsAlone m
+pub progress-alone : (j s t : ℕ) (m0 m : List ℕ) → CopyProgress j s t m0 m → HasSlotsAlone m0 → HasSlotsAlone m
 progress-alone j s t m0 m p = of-kind t m0 m kinds.Void p.only p.copied.begun.void refl
 
 pub copy-keeps : (j s t : ℕ) (m0 m m' : List ℕ) → j < 7 → CopyProgress j s t m0 m → OnlyPlace (7 * t + j) m m' → (kind_at m t ≡ kinds.Void → kind_at m' t ≡ kinds.Void) → KeepsSectors m0 m'
@@ -162,7 +162,7 @@ source-same : (s t : ℕ) (m m' : List ℕ) (i : ℕ) → s < data_blocks m → 
 source-same s t m m' i low other only = ap (λ b. to_copy (kind_of b) (slot_in b i)) (only.others (s + 4) (omega arith) (omega (arith, low)) (λ e. other (omega (arith, e))))
 
 -- each slot of the source counts, so none is without a generation
-source-whole : (j s t : ℕ) (m : List ℕ) (i : ℕ) → IsCopiedTo j s t m → i < 7 → raw_slot m s i ≢ NoGeneration
+pub source-whole : (j s t : ℕ) (m : List ℕ) (i : ℕ) → IsCopiedTo j s t m → i < 7 → raw_slot m s i ≢ NoGeneration
 source-whole j s t m i h low e =
     let v = 7 * s + i in
     let block : v / 7 ≡ s = omega (arith, low) in
@@ -268,13 +268,16 @@ commits-now s t m m' h x mark e = record {
   now = e;
 }
 
-commit-keeps : (s t : ℕ) (m m' : List ℕ) → IsCopiedTo 7 s t m → OnlyMark t m m' → kind_at m' t ≡ kinds.Committed (s + 4) → IsExactTo 7 s t m → KeepsSectors m m'
+pub commit-keeps : (s t : ℕ) (m m' : List ℕ) → IsCopiedTo 7 s t m → OnlyMark t m m' → kind_at m' t ≡ kinds.Committed (s + 4) → IsExactTo 7 s t m → KeepsSectors m m'
 commit-keeps s t m m' h mark e x =
     let now = commits-now s t m m' h x mark e in
     keeps m m' mark.only.chip (step-sectors s t m m' (commits mark.only.chip now h.single)) (of-kind t m m' (kinds.Committed (s + 4)) mark.only e refl) (λ c. commit-clean s t m m' mark now (λ i low free. (x.unwritten i low free).blank) c)
 
+pub commit-single : (s t : ℕ) (m m' : List ℕ) → IsCopiedTo 7 s t m → OnlyMark t m m' → kind_at m' t ≡ kinds.Committed (s + 4) → IsExactTo 7 s t m → IsSingle m'
+commit-single s t m m' h mark e x = step-singles s t m m' (commits mark.only.chip (commits-now s t m m' h x mark e) h.single) h.sound h.single
+
 -- what a commit leaves of any memory: slots and blocks without a corrupt case
-commit-sound : (s t : ℕ) (m m' : List ℕ) → IsCopiedTo 7 s t m → OnlyMark t m m' → kind_at m' t ≡ kinds.Committed (s + 4) → IsSoundMap m'
+pub commit-sound : (s t : ℕ) (m m' : List ℕ) → IsCopiedTo 7 s t m → OnlyMark t m m' → kind_at m' t ≡ kinds.Committed (s + 4) → IsSoundMap m'
 commit-sound s t m m' h mark e =
     let now = commits-tags s t m m' h mark e in
     tags-sound s t m m' mark.only.chip now h.sound h.single
@@ -309,7 +312,7 @@ pub record IsCommittedTo (s t : ℕ) (m0 m : List ℕ) : Type 0 where
   pub sectors : SameSectors m0 m
 
 -- erase of the source
-erases-now : (s t : ℕ) (m0 m m' : List ℕ) → IsCommittedTo s t m0 m → WithErased (s + 4) m m' → ErasesSource s t (data_blocks m) (kind_at m) (kind_at m') (raw_slot m) (raw_slot m')
+pub erases-now : (s t : ℕ) (m0 m m' : List ℕ) → IsCommittedTo s t m0 m → WithErased (s + 4) m m' → ErasesSource s t (data_blocks m) (kind_at m) (kind_at m') (raw_slot m) (raw_slot m')
 erases-now s t m0 m m' h w = record { target = h.target; was = h.committed; only = block-data s m m' w.only; now = erased-spare m' s w.erased }
 
 pub erase-cut : (s t : ℕ) (m0 m m' : List ℕ) → IsCommittedTo s t m0 m → EraseInterrupted (s + 4) m m' → KeepsSectors m0 m'

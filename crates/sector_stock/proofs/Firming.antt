@@ -277,7 +277,7 @@ none-next m slots blocks at new none index same reserve = record {
 }
 
 -- The slot that is given next isn't in the reserve.
-given-outside : (v : ℕ) (m : List ℕ) (slots : List SlotState) (blocks : List BlockState) (at : Cursors) → IsIndexOf slots blocks at m → (at.policy ≡ policies.Lowest → IsLowestFree v m) → (at.policy ≡ policies.Level → FillsUp at.newest at.reserve (erases_of blocks) v m) → v / 7 ≢ at.reserve
+pub given-outside : (v : ℕ) (m : List ℕ) (slots : List SlotState) (blocks : List BlockState) (at : Cursors) → IsIndexOf slots blocks at m → (at.policy ≡ policies.Lowest → IsLowestFree v m) → (at.policy ≡ policies.Level → FillsUp at.newest at.reserve (erases_of blocks) v m) → v / 7 ≢ at.reserve
 given-outside v m slots blocks at index low up e = from at.policy refl where
   from : (p : Policy) → at.policy ≡ p → ⊥
   from policies.Lowest by = (let h = low by in h.outside (reserve-one h.reserve at.reserve m h.is_reserve (index.highest by) ∙ sym e))

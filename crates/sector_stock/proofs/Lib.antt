@@ -18,3 +18,7 @@ pub mod Renewing
 pub mod Firming
 pub mod FirmCopies
 pub mod Trusting
+pub mod Losing
+pub mod TakeLosses
+pub mod CopyLosses
+pub mod FirmLosses

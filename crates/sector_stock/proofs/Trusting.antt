@@ -39,14 +39,14 @@ dead-in e = let q : 3 ≡ 4 = ap kind_number e in omega (arith, q)
 dead-free : Dead ≢ Free
 dead-free e = let q : 3 ≡ 0 = ap kind_number e in omega (arith, q)
 
-raw-free : (m : List ℕ) (w : ℕ) → slot_at m w ≡ Free → raw_slot m (w / 7) (w % 7) ≡ Free
+pub raw-free : (m : List ℕ) (w : ℕ) → slot_at m w ≡ Free → raw_slot m (w / 7) (w % 7) ≡ Free
 raw-free m w e = counted-raw m w Free e free-in
 
 raw-dead : (m : List ℕ) (w : ℕ) → slot_at m w ≡ Dead → raw_slot m (w / 7) (w % 7) ≡ Dead
 raw-dead m w e = counted-raw m w Dead e dead-in
 
 -- the places before the first free one
-before-raw : (m : List ℕ) (w : ℕ) → AreAtRest (kind_at m) (data_blocks m) → w < slot_count m → HasNoneFreeBefore w m → (j : ℕ) → j < w % 7 → raw_slot m (w / 7) j ≢ Free
+pub before-raw : (m : List ℕ) (w : ℕ) → AreAtRest (kind_at m) (data_blocks m) → w < slot_count m → HasNoneFreeBefore w m → (j : ℕ) → j < w % 7 → raw_slot m (w / 7) j ≢ Free
 before-raw m w rest low first j below free =
     first (7 * (w / 7) + j) (omega (arith, below)) (omega (arith, below)) (rest-slot m (w / 7) j rest (omega (arith, low)) (omega (arith, below)) ∙ free)
 

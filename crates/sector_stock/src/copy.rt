@@ -1,18 +1,21 @@
 //! A block is copied into the reserve, and then erased.
 
-ghost use Rattle.std.specs.Prelude.{◌≡◌, ◌≢◌, ◌<◌, ℕ, true, length, OnOk};
+ghost use Rattle.std.specs.Prelude.{◌≡◌, ◌≢◌, ◌<◌, ℕ, Bool, true, false, length, OnOk};
 ghost use Rattle.std.specs.Result.{IsErrOf};
 ghost use Rattle.nor_driver.specs.State.{IsNorReady, bits_in};
 ghost use Rattle.erase_journal.specs.Journals.{IsHealthy};
 ghost use Rattle.erase_journal.specs.Steps.{EndsFirmly};
 ghost use Rattle.sector_slots.specs.Slots.{data_blocks, IsSpareIn};
 ghost use Rattle.sector_slots.specs.Sectors.{IsSoundMap};
+ghost use Rattle.sector_slots.specs.Losses.{HasWholeSources, IsFirmDisk};
 ghost use Rattle.sector_slots.specs.Weak.{IsWhollyFirm};
 ghost use Rattle.sector_stock.specs.Copy.{KeepsSectors, Stays, IsCopyable, IsFinished, Copies};
 ghost use Rattle.sector_stock.specs.Copy.{IsFresh, MovesAfresh};
 ghost use Rattle.sector_stock.specs.Copy.{EndsCopy, EndsVoid, IsVoidIn, IsCommittedIn, OthersStay};
 ghost use Rattle.sector_stock.specs.Copy.{SettlesCopy, OnlySettles};
-ghost use Rattle.sector_stock.specs.CopySteps.{IsCopiedTo, CopyProgress, Finishes, FinishLeaves};
+ghost use Rattle.sector_stock.specs.CopySteps.{IsCopiedTo, IsExactTo, CopyProgress, Finishes};
+ghost use Rattle.sector_stock.specs.CopySteps.{FinishLeaves};
+ghost use Rattle.sector_stock.specs.Losses.{LosesNothing};
 
 use nor_driver::NorError;
 use sector_slots::SlotCalls;
@@ -41,6 +44,11 @@ pub(crate) fn reclaim_into<S: SlotCalls>(
         → IsCopyable source target (S.state slots.old).memory
         → IsFresh target (S.state slots.old).memory
         → KeepsSectors (S.state slots.old).memory (S.state slots.new).memory }
+    ensures cut_bits { IsErrOf result NorError.Cut → (suspects : ℕ → Bool)
+        → IsFirmDisk (bits_in (S.state slots.old)) suspects → suspects target ≡ false
+        → IsCopyable source target (S.state slots.old).memory
+        → (IsSpareIn (S.state slots.old).memory source → ⊥)
+        → LosesNothing (S.state slots.old).memory (bits_in (S.state slots.new)) }
     ensures healthy { IsErrOf result NorError.Cut → IsHealthy (S.state slots.old).memory
         → IsHealthy (S.state slots.new).memory }
     ensures size { length (S.state slots.new).memory ≡ length (S.state slots.old).memory }
@@ -67,6 +75,11 @@ pub fn move_afresh<S: SlotCalls>(slots: &mut S, source: u16, target: u16) -> Res
     ensures cut { IsErrOf result NorError.Cut → IsHealthy (S.state slots.old).memory
         → IsCopyable source target (S.state slots.old).memory
         → KeepsSectors (S.state slots.old).memory (S.state slots.new).memory }
+    ensures cut_bits { IsErrOf result NorError.Cut → (suspects : ℕ → Bool)
+        → IsFirmDisk (bits_in (S.state slots.old)) suspects
+        → IsCopyable source target (S.state slots.old).memory
+        → (IsSpareIn (S.state slots.old).memory source → ⊥)
+        → LosesNothing (S.state slots.old).memory (bits_in (S.state slots.new)) }
     ensures healthy { IsErrOf result NorError.Cut → IsHealthy (S.state slots.old).memory
         → IsHealthy (S.state slots.new).memory }
     ensures size { length (S.state slots.new).memory ≡ length (S.state slots.old).memory }
@@ -96,6 +109,12 @@ pub(crate) fn copy_into<S: SlotCalls>(
     ensures cut { IsErrOf result NorError.Cut → IsHealthy (S.state slots.old).memory
         → IsCopyable source target (S.state slots.old).memory
         → Stays (S.state slots.old).memory (S.state slots.new).memory }
+    ensures cut_bits { IsErrOf result NorError.Cut → (suspects : ℕ → Bool)
+        → IsFirmDisk (bits_in (S.state slots.old)) suspects
+        → (suspect ≡ false → suspects target ≡ false)
+        → IsCopyable source target (S.state slots.old).memory
+        → (IsSpareIn (S.state slots.old).memory source → ⊥)
+        → LosesNothing (S.state slots.old).memory (bits_in (S.state slots.new)) }
     ensures healthy { IsErrOf result NorError.Cut → IsHealthy (S.state slots.old).memory
         → IsHealthy (S.state slots.new).memory }
     ensures size { length (S.state slots.new).memory ≡ length (S.state slots.old).memory }
@@ -119,6 +138,10 @@ fn copy_all<S: SlotCalls>(slots: &mut S, source: u16, target: u16) -> Result<(),
     ensures cut_fresh { IsErrOf result NorError.Cut
         → IsCopyable source target (S.state slots.old).memory
         → KeepsSectors (S.state slots.old).memory (S.state slots.new).memory }
+    ensures cut_bits { IsErrOf result NorError.Cut → (suspects : ℕ → Bool)
+        → IsFirmDisk (bits_in (S.state slots.old)) suspects → suspects target ≡ false
+        → IsCopyable source target (S.state slots.old).memory
+        → LosesNothing (S.state slots.old).memory (bits_in (S.state slots.new)) }
     ensures healthy { IsErrOf result NorError.Cut → IsHealthy (S.state slots.old).memory
         → IsHealthy (S.state slots.new).memory }
     ensures size { length (S.state slots.new).memory ≡ length (S.state slots.old).memory }
@@ -143,6 +166,12 @@ fn finish<S: SlotCalls>(slots: &mut S, source: u16, target: u16) -> Result<(), N
     ensures cut { IsErrOf result NorError.Cut
         → IsCopiedTo 7 source target (S.state slots.old).memory
         → FinishLeaves source target (S.state slots.old).memory (S.state slots.new).memory }
+    ensures cut_bits { IsErrOf result NorError.Cut → (suspects : ℕ → Bool)
+        → IsFirmDisk (bits_in (S.state slots.old)) suspects
+        → IsCopiedTo 7 source target (S.state slots.old).memory
+        → IsExactTo 7 source target (S.state slots.old).memory
+        → (IsSpareIn (S.state slots.old).memory source → ⊥)
+        → LosesNothing (S.state slots.old).memory (bits_in (S.state slots.new)) }
     ensures healthy { IsErrOf result NorError.Cut → IsHealthy (S.state slots.old).memory
         → IsHealthy (S.state slots.new).memory }
     ensures size { length (S.state slots.new).memory ≡ length (S.state slots.old).memory }
@@ -190,6 +219,11 @@ pub fn end_committed<S: SlotCalls>(slots: &mut S, source: u16, target: u16) -> R
     ensures cut { IsErrOf result NorError.Cut → IsHealthy (S.state slots.old).memory
         → IsCommittedIn source target (S.state slots.old).memory
         → KeepsSectors (S.state slots.old).memory (S.state slots.new).memory }
+    ensures cut_bits { IsErrOf result NorError.Cut → (suspects : ℕ → Bool)
+        → IsFirmDisk (bits_in (S.state slots.old)) suspects
+        → IsCommittedIn source target (S.state slots.old).memory
+        → HasWholeSources (S.state slots.old).memory
+        → LosesNothing (S.state slots.old).memory (bits_in (S.state slots.new)) }
     ensures healthy { IsErrOf result NorError.Cut → IsHealthy (S.state slots.old).memory
         → IsHealthy (S.state slots.new).memory }
     ensures size { length (S.state slots.new).memory ≡ length (S.state slots.old).memory }

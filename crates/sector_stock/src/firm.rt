@@ -15,6 +15,7 @@ ghost use Rattle.sector_slots.specs.Slots.{Free, data_blocks, kind_at, slot_at, 
 ghost use Rattle.sector_stock.specs.Copy.{KeepsSectors};
 ghost use Rattle.sector_stock.specs.Index.{in_block, IsIndexOf, IsAhead, IsWholeBlock, Suspects};
 ghost use Rattle.sector_stock.specs.Index.{Trusts, TrustsMore, AreTrusted, IsFirmIn};
+ghost use Rattle.sector_stock.specs.Losses.{IsFirmDiskIn, LosesNothing};
 ghost use Rattle.sector_stock.specs.IndexSteps.{HasNoneFreeBefore};
 ghost use Rattle.sector_stock.specs.Room.{HasRoom};
 ghost use Rattle.sector_stock.specs.Takes.{IsGivable, MakesFirm, GivesTrusted, MadeTrusted};
@@ -64,6 +65,11 @@ pub fn firm_free<S: FirmCalls>(
         (S.state slots.new).memory) }
     ensures firm { IsFirmIn (bits_in (S.state slots.old)) blocks.old
         → OnOk result (IsFirmIn (bits_in (S.state slots.new)) blocks.new) }
+    ensures disk { IsFirmDiskIn (bits_in (S.state slots.old)) blocks.old
+        → OnOk result (IsFirmDiskIn (bits_in (S.state slots.new)) blocks.new) }
+    ensures cut_bits { IsErrOf result NorError.Cut
+        → IsFirmDiskIn (bits_in (S.state slots.old)) blocks.old
+        → LosesNothing (S.state slots.old).memory (bits_in (S.state slots.new)) }
     ensures next { OnOk result (GivesTrusted at.new.policy at.new blocks.new
         (S.state slots.new).memory) }
     ensures spare { OnOk result (TrustsReserve at.new.policy at.new blocks.new
@@ -144,6 +150,11 @@ fn firm_one<S: FirmCalls>(
         (S.state slots.new).memory) }
     ensures firm { IsFirmIn (bits_in (S.state slots.old)) blocks.old
         → OnOk result (IsFirmIn (bits_in (S.state slots.new)) blocks.new) }
+    ensures disk { IsFirmDiskIn (bits_in (S.state slots.old)) blocks.old
+        → OnOk result (IsFirmDiskIn (bits_in (S.state slots.new)) blocks.new) }
+    ensures cut_bits { IsErrOf result NorError.Cut
+        → IsFirmDiskIn (bits_in (S.state slots.old)) blocks.old
+        → LosesNothing (S.state slots.old).memory (bits_in (S.state slots.new)) }
     ensures trusted { OnOk result ((in_block blocks.new (slot / 7)).suspect ≡ false) }
     ensures policy { OnOk result (at.new.policy ≡ at.old.policy) }
     ensures index { OnOk result (IsIndexOf states.new blocks.new at.new
@@ -184,6 +195,11 @@ fn erase_suspect<S: FirmCalls>(
         (S.state slots.new).memory) }
     ensures firm { IsFirmIn (bits_in (S.state slots.old)) blocks.old
         → OnOk result (IsFirmIn (bits_in (S.state slots.new)) blocks.new) }
+    ensures disk { IsFirmDiskIn (bits_in (S.state slots.old)) blocks.old
+        → OnOk result (IsFirmDiskIn (bits_in (S.state slots.new)) blocks.new) }
+    ensures cut_bits { IsErrOf result NorError.Cut
+        → IsFirmDiskIn (bits_in (S.state slots.old)) blocks.old
+        → LosesNothing (S.state slots.old).memory (bits_in (S.state slots.new)) }
     ensures trusted { OnOk result ((in_block blocks.new block).suspect ≡ false) }
     ensures index { OnOk result (IsIndexOf states.now blocks.new at.now
         (S.state slots.new).memory) }
@@ -222,6 +238,11 @@ fn kill_first<S: FirmCalls>(
         (S.state slots.new).memory) }
     ensures firm { IsFirmIn (bits_in (S.state slots.old)) blocks.old
         → OnOk result (IsFirmIn (bits_in (S.state slots.new)) blocks.new) }
+    ensures disk { IsFirmDiskIn (bits_in (S.state slots.old)) blocks.old
+        → OnOk result (IsFirmDiskIn (bits_in (S.state slots.new)) blocks.new) }
+    ensures cut_bits { IsErrOf result NorError.Cut
+        → IsFirmDiskIn (bits_in (S.state slots.old)) blocks.old
+        → LosesNothing (S.state slots.old).memory (bits_in (S.state slots.new)) }
     ensures trusted { OnOk result ((in_block blocks.new (slot / 7)).suspect ≡ false) }
     ensures policy { at.new.policy ≡ at.old.policy }
     ensures index { OnOk result (IsIndexOf states.new blocks.new at.new

@@ -14,6 +14,7 @@ ghost use Rattle.sector_stock.specs.Copy.{Stays};
 ghost use Rattle.sector_stock.specs.Index.{in_block, IsWholeBlock, IsIndexOf, IsAhead, BlocksMoved};
 ghost use Rattle.sector_stock.specs.Index.{erases_of, AreWithin, MayWear, HasNoFreeBut, IsMostDead};
 ghost use Rattle.sector_stock.specs.Index.{IsFirmIn};
+ghost use Rattle.sector_stock.specs.Losses.{IsFirmDiskIn, KeepsSuspects, LosesNothing};
 ghost use Rattle.sector_stock.specs.IndexSteps.{RecountsErase, Forgets};
 ghost use Rattle.sector_stock.specs.Policies.{Wants, IsLeastWorn, IsTail, IsDue, IsInUse};
 ghost use Rattle.sector_stock.specs.Policies.{block_before, IsOtherReserve, AreRestingFewer};
@@ -320,6 +321,11 @@ pub(crate) fn move_used<S: SlotCalls>(
     ensures ends { EndsFirmly result (S.state slots.old) (S.state slots.new) }
     ensures firm { IsFirmIn (bits_in (S.state slots.old)) blocks.old
         → OnOk result (IsFirmIn (bits_in (S.state slots.new)) blocks.new) }
+    ensures disk { IsFirmDiskIn (bits_in (S.state slots.old)) blocks.old
+        → OnOk result (IsFirmDiskIn (bits_in (S.state slots.new)) blocks.new) }
+    ensures cut_bits { IsErrOf result NorError.Cut
+        → IsFirmDiskIn (bits_in (S.state slots.old)) blocks.old
+        → LosesNothing (S.state slots.old).memory (bits_in (S.state slots.new)) }
     ensures target { IfOk result (λ c. (c.source ≡ source) × (c.target ≡ at.old.reserve)) }
     ensures newest { OnOk result (at.new.newest ≡ at.old.newest) }
 {
@@ -376,6 +382,11 @@ pub fn level_block<S: SlotCalls>(
     ensures ends { EndsFirmly result (S.state slots.old) (S.state slots.new) }
     ensures firm { IsFirmIn (bits_in (S.state slots.old)) blocks.old
         → OnOk result (IsFirmIn (bits_in (S.state slots.new)) blocks.new) }
+    ensures disk { IsFirmDiskIn (bits_in (S.state slots.old)) blocks.old
+        → OnOk result (IsFirmDiskIn (bits_in (S.state slots.new)) blocks.new) }
+    ensures cut_bits { IsErrOf result NorError.Cut
+        → IsFirmDiskIn (bits_in (S.state slots.old)) blocks.old
+        → LosesNothing (S.state slots.old).memory (bits_in (S.state slots.new)) }
     ensures least { at.old.policy ≡ policies.Level → IfOk result (λ copied. (c : CopiedOf)
         → copied ≡ Some c → MovesLeastWorn (erases_of blocks.old) at.old.newest c.source
         (S.state slots.old).memory) }
@@ -427,13 +438,15 @@ fn least_erased(blocks: &[BlockState]) -> u16
     least
 }
 
-/// From now on slots and blocks are chosen by erases, and these are counted anew.
+/// From now on slots and blocks are chosen by erases, and these are counted anew. What was suspect
+/// is.
 pub fn choose_by_erases(blocks: &mut [BlockState], at: &mut Cursors)
     requires size { length blocks.old < 65536 }
     ensures index { (slots : List SlotStateOf) (m : List ℕ) → IsIndexOf slots blocks.old at.old m
         → IsIndexOf slots blocks.new at.new m }
     ensures policy { at.new.policy ≡ policies.Level }
     ensures counted { (c : ℕ) → c < length blocks.new → erases_of blocks.new c ≡ 0 }
+    ensures suspects { KeepsSuspects blocks.old blocks.new }
     ensures size { length blocks.new ≡ length blocks.old }
 {
     forget_erases(blocks);
@@ -520,6 +533,11 @@ fn erase_spare<S: SlotCalls>(
     ensures ends { EndsFirmly result (S.state slots.old) (S.state slots.new) }
     ensures firm { IsFirmIn (bits_in (S.state slots.old)) blocks.old
         → OnOk result (IsFirmIn (bits_in (S.state slots.new)) blocks.new) }
+    ensures disk { IsFirmDiskIn (bits_in (S.state slots.old)) blocks.old
+        → OnOk result (IsFirmDiskIn (bits_in (S.state slots.new)) blocks.new) }
+    ensures cut_bits { IsErrOf result NorError.Cut
+        → IsFirmDiskIn (bits_in (S.state slots.old)) blocks.old
+        → LosesNothing (S.state slots.old).memory (bits_in (S.state slots.new)) }
 {
     slots.erase(block)?;
     count_erase(blocks, at, block);
@@ -573,6 +591,11 @@ pub fn renew_block<S: SlotCalls>(
     ensures ends { EndsFirmly result (S.state slots.old) (S.state slots.new) }
     ensures firm { IsFirmIn (bits_in (S.state slots.old)) blocks.old
         → OnOk result (IsFirmIn (bits_in (S.state slots.new)) blocks.new) }
+    ensures disk { IsFirmDiskIn (bits_in (S.state slots.old)) blocks.old
+        → OnOk result (IsFirmDiskIn (bits_in (S.state slots.new)) blocks.new) }
+    ensures cut_bits { IsErrOf result NorError.Cut
+        → IsFirmDiskIn (bits_in (S.state slots.old)) blocks.old
+        → LosesNothing (S.state slots.old).memory (bits_in (S.state slots.new)) }
 {
     let state = blocks[block as usize];
     if is_whole(state) {

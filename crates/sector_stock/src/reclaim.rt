@@ -13,6 +13,7 @@ ghost use Rattle.sector_slots.specs.Slots.{descriptor_in};
 ghost use Rattle.sector_slots.specs.Steps.{IsRetirable, IsWritable, PutLeaves, HoldsTag};
 ghost use Rattle.sector_slots.specs.Steps.{MayHoldTag, OnlyPlace};
 ghost use Rattle.sector_slots.specs.Blocks.{IsReserveOf};
+ghost use Rattle.sector_slots.specs.Losses.{HasSureSpareBut, WriteInterrupted};
 ghost use Rattle.sector_stock.specs.Room.{HasRoom, HasNoneDead, IsOutside};
 ghost use Rattle.sector_stock.specs.Copy.{Stays, KeepsSectors};
 ghost use Rattle.sector_stock.specs.Takes.{Takes, TidiesStock, HasNoGroups, is_short, work_of};
@@ -27,6 +28,9 @@ ghost use Rattle.sector_stock.specs.declared.policy.Policy.{Policy};
 ghost use Rattle.sector_stock.specs.declared.policy.Policy.TheVariants as policies;
 ghost use Rattle.sector_stock.specs.Index.{is_live_group, HasNoFreeBut, IsMostDead, in_block};
 ghost use Rattle.sector_stock.specs.Index.{IsFirmIn};
+ghost use Rattle.sector_stock.specs.IndexSteps.{HasNoneFreeBefore};
+ghost use Rattle.sector_stock.specs.Losses.{IsFirmDiskIn, LosesNothing, TakesSector};
+ghost use Rattle.sector_stock.specs.Losses.{GivesUpSector, IsFirmPlace, suspects_in};
 ghost use Rattle.sector_stock.specs.declared.index.BlockState.{BlockState};
 ghost use Rattle.sector_stock.specs.declared.index.Cursors.{Cursors};
 ghost use Rattle.sector_stock.specs.declared.policy.Purpose.TheVariants as purposes;
@@ -39,8 +43,11 @@ use nor_layout::{Header, Tag};
 use sector_slots::FirmCalls;
 
 /// A store of slots with an index of them in memory, which `fill` makes and the other calls here
-/// keep; the calls of `SlotCalls` that change the memory don't. No call takes memory. Source: own,
-/// layout 2.
+/// keep; the calls of `SlotCalls` that change the memory don't. On a chip that a firm mount left a
+/// call here that answers Ok leaves such a one, also by what `counts` lists as suspect (`disk`).
+/// Where it is cut, there is a state before the change that the loss interrupted at which the chip
+/// was so, with the sectors of the call's start (`cut_bits`, specs/Losses.antt). No call takes
+/// memory. Source: own, layout 2.
 pub trait Reclaim: FirmCalls {
     /// How it chooses slots and blocks.
     ghost policy: { Self → Policy };
@@ -55,6 +62,8 @@ pub trait Reclaim: FirmCalls {
     fn fill(&mut self) -> Result<(), NorError>
         requires room { IsNorReady (Self.state self.old) → HasRoom (Self.state self.old).memory }
         ensures indexed { OnOk result (Self.indexed self.new ≡ true) }
+        ensures listed { OnOk result (length (counts self.new)
+            ≡ data_blocks (Self.state self.new).memory) }
         ensures policy { OnOk result (policy self.new ≡ policy self.old) }
         ensures same { (Self.state self.new).memory ≡ (Self.state self.old).memory }
         ensures counted { OnOk result ((c : ℕ) → c < data_blocks (Self.state self.new).memory
@@ -91,6 +100,11 @@ pub trait Reclaim: FirmCalls {
             (Self.state self.old).memory (Self.state self.new).memory) }
         ensures firm { IsFirmIn (bits_in (Self.state self.old)) (counts self.old)
             → OnOk result (IsFirmIn (bits_in (Self.state self.new)) (counts self.new)) }
+        ensures disk { IsFirmDiskIn (bits_in (Self.state self.old)) (counts self.old)
+            → OnOk result (IsFirmDiskIn (bits_in (Self.state self.new)) (counts self.new)) }
+        ensures cut_bits { IsErrOf result NorError.Cut
+            → IsFirmDiskIn (bits_in (Self.state self.old)) (counts self.old)
+            → LosesNothing (Self.state self.old).memory (bits_in (Self.state self.new)) }
         ensures next { OnOk result (GivesTrusted (policy self.new) (cursors self.new)
             (counts self.new) (Self.state self.new).memory) }
         ensures spare { OnOk result (TrustsReserve (policy self.new) (cursors self.new)
@@ -154,9 +168,23 @@ pub trait Reclaim: FirmCalls {
             (erases_of (counts self.new))) }
         ensures firm { IsFirmIn (bits_in (Self.state self.old)) (counts self.old)
             → OnOk result (IsFirmIn (bits_in (Self.state self.new)) (counts self.new)) }
+        ensures disk { IsFirmDiskIn (bits_in (Self.state self.old)) (counts self.old)
+            → OnOk result (IsFirmDiskIn (bits_in (Self.state self.new)) (counts self.new)) }
+        ensures cut_bits { IsErrOf result NorError.Cut
+            → IsFirmDiskIn (bits_in (Self.state self.old)) (counts self.old)
+            → LosesNothing (Self.state self.old).memory (bits_in (Self.state self.new)) }
         ensures trusted { GivesTrusted (policy self.old) (cursors self.old) (counts self.old)
             (Self.state self.old).memory
             → IfOk result (λ given. (in_block (counts self.new) (given.slot / 7)).suspect ≡ false) }
+        ensures first { IfOk result (λ given. HasNoneFreeBefore given.slot
+            (Self.state self.new).memory) }
+        ensures spare { GivesTrusted (policy self.old) (cursors self.old) (counts self.old)
+            (Self.state self.old).memory
+            → TrustsReserve (policy self.old) (cursors self.old) (counts self.old)
+            (Self.state self.old).memory
+            → IsFirmDiskIn (bits_in (Self.state self.old)) (counts self.old)
+            → IfOk result (λ given.
+            HasSureSpareBut (given.slot / 7) (bits_in (Self.state self.new))) }
         ensures ends { EndsFirmly result (Self.state self.old) (Self.state self.new) };
 
     /// Whether `tidy` has something to do: whether slots are dead, or blocks live with groups.
@@ -220,6 +248,11 @@ pub trait Reclaim: FirmCalls {
             (erases_of (counts self.new))) }
         ensures firm { IsFirmIn (bits_in (Self.state self.old)) (counts self.old)
             → OnOk result (IsFirmIn (bits_in (Self.state self.new)) (counts self.new)) }
+        ensures disk { IsFirmDiskIn (bits_in (Self.state self.old)) (counts self.old)
+            → OnOk result (IsFirmDiskIn (bits_in (Self.state self.new)) (counts self.new)) }
+        ensures cut_bits { IsErrOf result NorError.Cut
+            → IsFirmDiskIn (bits_in (Self.state self.old)) (counts self.old)
+            → LosesNothing (Self.state self.old).memory (bits_in (Self.state self.new)) }
         ensures ends { EndsFirmly result (Self.state self.old) (Self.state self.new) };
 
     /// Moves a block whose sectors rest into a wholly free one, where it is time for it, so that
@@ -270,6 +303,11 @@ pub trait Reclaim: FirmCalls {
             (erases_of (counts self.new))) }
         ensures firm { IsFirmIn (bits_in (Self.state self.old)) (counts self.old)
             → OnOk result (IsFirmIn (bits_in (Self.state self.new)) (counts self.new)) }
+        ensures disk { IsFirmDiskIn (bits_in (Self.state self.old)) (counts self.old)
+            → OnOk result (IsFirmDiskIn (bits_in (Self.state self.new)) (counts self.new)) }
+        ensures cut_bits { IsErrOf result NorError.Cut
+            → IsFirmDiskIn (bits_in (Self.state self.old)) (counts self.old)
+            → LosesNothing (Self.state self.old).memory (bits_in (Self.state self.new)) }
         ensures ends { EndsFirmly result (Self.state self.old) (Self.state self.new) };
 
     /// The block that was erased least, where another one was erased `limit` times more often: it
@@ -327,6 +365,11 @@ pub trait Reclaim: FirmCalls {
             block (erases_of (counts self.old)) (erases_of (counts self.new))) }
         ensures firm { IsFirmIn (bits_in (Self.state self.old)) (counts self.old)
             → OnOk result (IsFirmIn (bits_in (Self.state self.new)) (counts self.new)) }
+        ensures disk { IsFirmDiskIn (bits_in (Self.state self.old)) (counts self.old)
+            → OnOk result (IsFirmDiskIn (bits_in (Self.state self.new)) (counts self.new)) }
+        ensures cut_bits { IsErrOf result NorError.Cut
+            → IsFirmDiskIn (bits_in (Self.state self.old)) (counts self.old)
+            → LosesNothing (Self.state self.old).memory (bits_in (Self.state self.new)) }
         ensures ends { EndsFirmly result (Self.state self.old) (Self.state self.new) };
 
     /// What the seven descriptors of a block say, as `head` gives them; the counts stay.
@@ -337,6 +380,7 @@ pub trait Reclaim: FirmCalls {
             ≡ descriptor_in (data_block (Self.state self.old).memory block) i) }
         ensures size { length into.new ≡ length into.old }
         ensures same { (Self.state self.new).memory ≡ (Self.state self.old).memory }
+        ensures weak { (Self.state self.new).weak ≡ (Self.state self.old).weak }
         ensures index { Self.indexed self.new ≡ Self.indexed self.old }
         ensures policy { policy self.new ≡ policy self.old }
         ensures counted { counts self.new ≡ counts self.old }
@@ -388,10 +432,16 @@ pub trait Reclaim: FirmCalls {
             (erases_of (counts self.new))) }
         ensures firm { IsFirmIn (bits_in (Self.state self.old)) (counts self.old)
             → OnOk result (IsFirmIn (bits_in (Self.state self.new)) (counts self.new)) }
+        ensures disk { IsFirmDiskIn (bits_in (Self.state self.old)) (counts self.old)
+            → OnOk result (IsFirmDiskIn (bits_in (Self.state self.new)) (counts self.new)) }
+        ensures cut_bits { IsErrOf result NorError.Cut
+            → IsFirmDiskIn (bits_in (Self.state self.old)) (counts self.old)
+            → LosesNothing (Self.state self.old).memory (bits_in (Self.state self.new)) }
         ensures ends { EndsFirmly result (Self.state self.old) (Self.state self.new) };
 
     /// Writes a sector, 512 bytes, into a free slot, as `put` does. Another block than the slot's
     /// is wholly free. Where what is free in the slot's block is trusted, a firm store stays one.
+    /// Into a slot that `TakesSector` describes, descriptor and sector are firm then (`written`).
     fn write(&mut self, slot: u16, tag: Tag, content: &[u8]) -> Result<(), NorError>
         requires number { slot < slot_count (Self.state self.old).memory }
         requires size { length content.now ≡ 512 }
@@ -420,6 +470,17 @@ pub trait Reclaim: FirmCalls {
         ensures firm { (in_block (counts self.old) (slot / 7)).suspect ≡ false
             → IsFirmIn (bits_in (Self.state self.old)) (counts self.old)
             → OnOk result (IsFirmIn (bits_in (Self.state self.new)) (counts self.new)) }
+        ensures disk { IsFirmDiskIn (bits_in (Self.state self.old)) (counts self.old)
+            → TakesSector slot tag (counts self.old) (bits_in (Self.state self.old))
+            → OnOk result (IsFirmDiskIn (bits_in (Self.state self.new)) (counts self.new)) }
+        ensures cut_bits { IsErrOf result NorError.Cut
+            → IsFirmDiskIn (bits_in (Self.state self.old)) (counts self.old)
+            → TakesSector slot tag (counts self.old) (bits_in (Self.state self.old))
+            → WriteInterrupted (bits_in (Self.state self.old)) (suspects_in (counts self.old)) tag
+            content.now (bits_in (Self.state self.new)) }
+        ensures written { IsFirmDiskIn (bits_in (Self.state self.old)) (counts self.old)
+            → TakesSector slot tag (counts self.old) (bits_in (Self.state self.old))
+            → OnOk result (IsFirmPlace slot (bits_in (Self.state self.new))) }
         ensures chip { SameChip (Self.state self.old).memory (Self.state self.new).memory }
         ensures healthy { IsErrOf result NorError.Cut → IsHealthy (Self.state self.old).memory
             → IsHealthy (Self.state self.new).memory }
@@ -452,6 +513,13 @@ pub trait Reclaim: FirmCalls {
             → OnlyPlace slot (Self.state self.old).memory (Self.state self.new).memory }
         ensures firm { IsFirmIn (bits_in (Self.state self.old)) (counts self.old)
             → OnOk result (IsFirmIn (bits_in (Self.state self.new)) (counts self.new)) }
+        ensures disk { IsFirmDiskIn (bits_in (Self.state self.old)) (counts self.old)
+            → GivesUpSector slot (bits_in (Self.state self.old))
+            → OnOk result (IsFirmDiskIn (bits_in (Self.state self.new)) (counts self.new)) }
+        ensures cut_bits { IsErrOf result NorError.Cut
+            → IsFirmDiskIn (bits_in (Self.state self.old)) (counts self.old)
+            → GivesUpSector slot (bits_in (Self.state self.old))
+            → LosesNothing (Self.state self.old).memory (bits_in (Self.state self.new)) }
         ensures chip { SameChip (Self.state self.old).memory (Self.state self.new).memory }
         ensures healthy { IsErrOf result NorError.Cut → IsHealthy (Self.state self.old).memory
             → IsHealthy (Self.state self.new).memory }

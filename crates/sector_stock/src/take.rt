@@ -19,8 +19,11 @@ ghost use Rattle.sector_stock.specs.declared.policy.Policy.TheVariants as polici
 ghost use Rattle.sector_stock.specs.Takes.{Takes, CopiesInto, IsLowestFree, HasMostDead, work_of};
 ghost use Rattle.sector_stock.specs.Takes.{HasFewerBelow, Converts, IsLiveGroup, HasNoGroups};
 ghost use Rattle.sector_stock.specs.Takes.{TidiesStock, FillsUp, CopiesLeastWorn, CountsErase};
-ghost use Rattle.sector_stock.specs.Takes.{IsErasedOnce, GivesTrusted};
+ghost use Rattle.sector_stock.specs.Takes.{IsErasedOnce, GivesTrusted, TrustsReserve};
 ghost use Rattle.sector_stock.specs.Index.{erases_of, AreWithin, MayWear};
+ghost use Rattle.sector_stock.specs.IndexSteps.{HasNoneFreeBefore};
+ghost use Rattle.sector_stock.specs.Losses.{IsFirmDiskIn, LosesNothing};
+ghost use Rattle.sector_slots.specs.Losses.{HasSureSpareBut};
 ghost use Rattle.sector_stock.specs.declared.given.Copied.{Copied as CopiedOf};
 
 use crate::copy::copy_into;
@@ -73,6 +76,11 @@ fn copy_most<S: SlotCalls>(
     ensures ends { EndsFirmly result (S.state slots.old) (S.state slots.new) }
     ensures firm { IsFirmIn (bits_in (S.state slots.old)) blocks.old
         → OnOk result (IsFirmIn (bits_in (S.state slots.new)) blocks.new) }
+    ensures disk { IsFirmDiskIn (bits_in (S.state slots.old)) blocks.old
+        → OnOk result (IsFirmDiskIn (bits_in (S.state slots.new)) blocks.new) }
+    ensures cut_bits { IsErrOf result NorError.Cut
+        → IsFirmDiskIn (bits_in (S.state slots.old)) blocks.old
+        → LosesNothing (S.state slots.old).memory (bits_in (S.state slots.new)) }
     ensures target { IfOk result (λ c. (c.source ≡ source) × (c.target ≡ at.old.reserve)) }
     ensures next { OnOk result (at.old.policy ≡ policies.Level → at.new.reserve ≡ source) }
     ensures newest { OnOk result (at.new.newest ≡ at.old.newest) }
@@ -137,6 +145,11 @@ pub fn convert_block<S: SlotCalls>(
     ensures ends { EndsFirmly result (S.state slots.old) (S.state slots.new) }
     ensures firm { IsFirmIn (bits_in (S.state slots.old)) blocks.old
         → OnOk result (IsFirmIn (bits_in (S.state slots.new)) blocks.new) }
+    ensures disk { IsFirmDiskIn (bits_in (S.state slots.old)) blocks.old
+        → OnOk result (IsFirmDiskIn (bits_in (S.state slots.new)) blocks.new) }
+    ensures cut_bits { IsErrOf result NorError.Cut
+        → IsFirmDiskIn (bits_in (S.state slots.old)) blocks.old
+        → LosesNothing (S.state slots.old).memory (bits_in (S.state slots.new)) }
     ensures reserve { IfOk result (λ c. c.target ≡ at.old.reserve) }
     ensures next { OnOk result (at.old.policy ≡ policies.Level → at.new.reserve ≡ source) }
     ensures counted { OnOk result (IsErasedOnce (data_blocks (S.state slots.old).memory) source
@@ -189,6 +202,11 @@ pub fn take_slot<S: SlotCalls>(
     ensures ends { EndsFirmly result (S.state slots.old) (S.state slots.new) }
     ensures firm { IsFirmIn (bits_in (S.state slots.old)) blocks.old
         → OnOk result (IsFirmIn (bits_in (S.state slots.new)) blocks.new) }
+    ensures disk { IsFirmDiskIn (bits_in (S.state slots.old)) blocks.old
+        → OnOk result (IsFirmDiskIn (bits_in (S.state slots.new)) blocks.new) }
+    ensures cut_bits { IsErrOf result NorError.Cut
+        → IsFirmDiskIn (bits_in (S.state slots.old)) blocks.old
+        → LosesNothing (S.state slots.old).memory (bits_in (S.state slots.new)) }
     ensures fills { at.old.policy ≡ policies.Level → IfOk result (λ given. FillsUp at.old.newest
         at.new.reserve (erases_of blocks.new) given.slot (S.state slots.new).memory) }
     ensures worn { at.old.policy ≡ policies.Level → IfOk result (λ given. (c : CopiedOf)
@@ -198,6 +216,12 @@ pub fn take_slot<S: SlotCalls>(
         given.copied (erases_of blocks.old) (erases_of blocks.new)) }
     ensures trusted { GivesTrusted at.old.policy at.old blocks.old (S.state slots.old).memory
         → IfOk result (λ given. (in_block blocks.new (given.slot / 7)).suspect ≡ false) }
+    ensures first { IfOk result (λ given. HasNoneFreeBefore given.slot
+        (S.state slots.new).memory) }
+    ensures spare { GivesTrusted at.old.policy at.old blocks.old (S.state slots.old).memory
+        → TrustsReserve at.old.policy at.old blocks.old (S.state slots.old).memory
+        → IsFirmDiskIn (bits_in (S.state slots.old)) blocks.old → IfOk result (λ given.
+        HasSureSpareBut (given.slot / 7) (bits_in (S.state slots.new))) }
 {
     if let Some(slot) = free_slot(states, blocks, at) {
         return Ok(Given { slot, copied: None });
@@ -251,6 +275,11 @@ fn convert_lowest<S: SlotCalls>(
     ensures ends { EndsFirmly result (S.state slots.old) (S.state slots.new) }
     ensures firm { IsFirmIn (bits_in (S.state slots.old)) blocks.old
         → OnOk result (IsFirmIn (bits_in (S.state slots.new)) blocks.new) }
+    ensures disk { IsFirmDiskIn (bits_in (S.state slots.old)) blocks.old
+        → OnOk result (IsFirmDiskIn (bits_in (S.state slots.new)) blocks.new) }
+    ensures cut_bits { IsErrOf result NorError.Cut
+        → IsFirmDiskIn (bits_in (S.state slots.old)) blocks.old
+        → LosesNothing (S.state slots.old).memory (bits_in (S.state slots.new)) }
     ensures reserve { IfOk result (λ copied. (c : CopiedOf) → copied ≡ Some c
         → c.target ≡ at.old.reserve) }
     ensures next { at.old.policy ≡ policies.Level → IfOk result (λ copied. (c : CopiedOf)
@@ -332,6 +361,11 @@ pub fn tidy_block<S: SlotCalls>(
     ensures ends { EndsFirmly result (S.state slots.old) (S.state slots.new) }
     ensures firm { IsFirmIn (bits_in (S.state slots.old)) blocks.old
         → OnOk result (IsFirmIn (bits_in (S.state slots.new)) blocks.new) }
+    ensures disk { IsFirmDiskIn (bits_in (S.state slots.old)) blocks.old
+        → OnOk result (IsFirmDiskIn (bits_in (S.state slots.new)) blocks.new) }
+    ensures cut_bits { IsErrOf result NorError.Cut
+        → IsFirmDiskIn (bits_in (S.state slots.old)) blocks.old
+        → LosesNothing (S.state slots.old).memory (bits_in (S.state slots.new)) }
     ensures worn { at.old.policy ≡ policies.Level → IfOk result (λ copied. (c : CopiedOf)
         → copied ≡ Some c → CopiesLeastWorn (erases_of blocks.old) at.old.reserve
         at.new.reserve c (S.state slots.old).memory ⊎ HasNoneDead (S.state slots.old).memory) }

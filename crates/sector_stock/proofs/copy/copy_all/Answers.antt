@@ -7,6 +7,10 @@ use Rattle.erase_journal.proofs.SettledLaws.{settled-after}
 use Rattle.erase_journal.proofs.Firmly.{refuses-firmly}
 use Rattle.sector_stock.specs.CopySteps.{CopyProgress}
 use Rattle.sector_stock.proofs.Copying.{begin-cut, begin-keeps, begin-progress, copy-cut, copy-keeps, copy-progress}
+use Rattle.nor_driver.specs.State.{bits_in}
+use Rattle.sector_slots.specs.Losses.{begun, copied}
+use Rattle.sector_stock.proofs.Losing.{loses-in}
+use Rattle.sector_stock.proofs.CopyLosses.{copying-disk, progress-keeps}
 use Rattle.sector_stock.proofs.copy.copy_all.Goals as goal
 
 pub returns-in_err-begin-clause-cut : goal.returns-in_err-begin-clause-cut
@@ -62,3 +66,23 @@ returns-in_err-copy-clause-ends g c =
     let s2 = g.S.SlotCalls.state c.copy.new.self in
     fails-as c.from_residual-in_err-copy.result _ (λ _. SucceedsSettled s0 s2) (λ e. RefusesFirmly e s0 s2) c.from_residual-in_err-copy.ensures.1
     (refuses-firmly _ s0 s1 s2 c.loop-place.invariant.since c.in_err-copy.ensures.ends)
+
+pub returns-in_err-begin-clause-cut_bits : goal.returns-in_err-begin-clause-cut_bits
+returns-in_err-begin-clause-cut_bits g c is suspects disk trusted h =
+    let p = err_from_is_err_and c.from_residual.result c.from_residual.ensures.1 in
+    loses-in (bits_in (g.S.SlotCalls.state c.args.slots.now)) suspects (bits_in (g.S.SlotCalls.state c.begin.new.self)) disk
+    (begun c.args.target h.target h.rest h.spare trusted (c.in_err-begin.ensures.cut_bits (cc (p.1, p.2))))
+
+pub returns-in_err-copy-clause-cut_bits : goal.returns-in_err-copy-clause-cut_bits
+returns-in_err-copy-clause-cut_bits g c is suspects disk trusted h =
+    let p = err_from_is_err_and c.from_residual-in_err-copy.result c.from_residual-in_err-copy.ensures.1 in
+    let s0 = g.S.SlotCalls.state c.args.slots.now in
+    let s1 = g.S.SlotCalls.state c.loop-place.slots in
+    let so = c.loop-place.invariant.progress h in
+    record {
+      before = bits_in s1;
+      suspect = suspects;
+      disk = copying-disk c.loop-place.place c.args.source c.args.target s0 s1 suspects disk trusted h c.loop-place.invariant.since so;
+      keeps = progress-keeps c.loop-place.place c.args.source c.args.target s0.memory s1.memory so;
+      change = copied c.args.target c.loop-place.place c.loop-place-test.true so.copied.target so.copied.begun.void (c.in_err-copy.ensures.cut_only (cc (p.1, p.2))).only.chip.same_length (c.in_err-copy.ensures.cut_bits (cc (p.1, p.2)));
+    }

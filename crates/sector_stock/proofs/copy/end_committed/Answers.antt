@@ -12,6 +12,9 @@ use Rattle.erase_journal.proofs.WeakLaws.{are-firm-stays}
 use Rattle.sector_slots.specs.Weak.{block_place}
 use Rattle.std.proofs.Common.{◌*◌, ◌∙◌, ap, arith}
 use Rattle.chip_model.specs.Memory.{byte}
+use Rattle.sector_slots.specs.Losses.{erased, settled}
+use Rattle.sector_stock.proofs.Losing.{loses-in, loses-later}
+use Rattle.sector_stock.proofs.CopyLosses.{source-disk, source-keeps, wholly-slots}
 use Rattle.sector_stock.proofs.copy.end_committed.Goals as goal
 
 pub returns-in_err-erase-clause-cut : goal.returns-in_err-erase-clause-cut
@@ -75,3 +78,25 @@ returns-clause-settles g c apart = record {
   states = λ i low. c.in_ok-settle.ensures.states i low ∙ ap (λ b. byte b (16 + 4 * i)) (c.in_ok-erase.ensures.ok.only.others (c.args.target + 4) (omega arith) (omega (arith, c.requires.target)) (λ e. apart (omega (arith, e))));
   third = c.in_ok-settle.ensures.third;
 }
+
+pub returns-in_err-erase-clause-cut_bits : goal.returns-in_err-erase-clause-cut_bits
+returns-in_err-erase-clause-cut_bits g c is suspects disk h sources =
+    let p = err_from_is_err_and c.from_residual.result c.from_residual.ensures.1 in
+    let m = (g.S.SlotCalls.state c.args.slots.now).memory in
+    loses-in (bits_in (g.S.SlotCalls.state c.args.slots.now)) suspects (bits_in (g.S.SlotCalls.state c.erase.new.self)) disk
+    (erased c.args.source c.requires.source (source-erasable c.args.source c.args.target m m (committed-found c.args.source c.args.target m h)) sources c.in_err-erase.ensures.size c.in_err-erase.ensures.beside
+    (c.in_err-erase.ensures.cut_bits (cc (p.1, p.2)) disk.settled disk.journals))
+
+pub returns-in_err-settle-clause-cut_bits : goal.returns-in_err-settle-clause-cut_bits
+returns-in_err-settle-clause-cut_bits g c is suspects disk h sources =
+    let p = err_from_is_err_and c.from_residual-in_err-settle.result c.from_residual-in_err-settle.ensures.1 in
+    let s0 = g.S.SlotCalls.state c.args.slots.now in
+    let s1 = g.S.SlotCalls.state c.erase.new.self in
+    let b = bits_in (g.S.SlotCalls.state c.settle.new.self) in
+    let w = c.in_ok-erase.ensures.ok in
+    let one = erase-done c.args.source c.args.target s0.memory s0.memory s1.memory (committed-found c.args.source c.args.target s0.memory h) w in
+    let same = w.only.chip.same_length in
+    let low = c.requires.source in
+    loses-later s0.memory s1.memory b (source-keeps c.args.source c.args.target s0 s1 c.in_ok-erase.ensures.ends h w)
+    (loses-in (bits_in s1) suspects b (source-disk c.args.source c.args.target s0 s1 suspects disk c.in_ok-erase.ensures.ends low h w c.in_ok-erase.ensures.firm)
+    (settled c.args.source c.args.target (rw same low) one.committed.target one.committed.committed one.source (wholly-slots (bits_in s1) c.args.source c.in_ok-erase.ensures.firm) (c.in_err-settle.ensures.cut_bits (cc (p.1, p.2)))))

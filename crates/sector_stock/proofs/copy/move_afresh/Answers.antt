@@ -7,8 +7,12 @@ use Rattle.nor_driver.proofs.CallLaws.{fails-as}
 use Rattle.erase_journal.specs.Steps.{SucceedsSettled}
 use Rattle.erase_journal.proofs.SettledLaws.{settled-healthy, settled-after}
 use Rattle.erase_journal.proofs.Firmly.{refuses-firmly}
-use Rattle.sector_stock.proofs.Renewing.{spare-erasable, spare-cut_keeps, spare-copyable, moves-afresh, afresh-cut}
+use Rattle.sector_stock.proofs.Renewing.{spare-erasable, spare-cut_keeps, spare-keeps, spare-copyable, moves-afresh, afresh-cut}
 use Rattle.std.proofs.Common.{◌+◌, ◌∙◌, arith}
+use Rattle.sector_slots.specs.Losses.{erased}
+use Rattle.sector_slots.proofs.ChipBlocks.{rest-sources}
+use Rattle.sector_stock.proofs.Losing.{loses-in, loses-later}
+use Rattle.sector_stock.proofs.CopyLosses.{target-disk, trusting, trusting-it, others-spare}
 use Rattle.sector_stock.proofs.copy.move_afresh.Goals as goal
 
 pub erase-requires-clause-dead : goal.erase-requires-clause-dead
@@ -68,3 +72,20 @@ returns-clause-others g c h d low other away =
     let one = c.in_ok-erase.ensures.ok.only.chip.same_length in
     let found = spare-copyable c.args.source c.args.target m m1 h c.in_ok-erase.ensures.ok in
     c.in_ok-reclaim_into.ensures.others found d (rw one low) other away ∙ c.in_ok-erase.ensures.ok.only.others (d + 4) (omega arith) (omega (arith, low)) (λ e. away (omega (arith, e)))
+
+pub returns-in_err-erase-clause-cut_bits : goal.returns-in_err-erase-clause-cut_bits
+returns-in_err-erase-clause-cut_bits g c is suspects disk h part =
+    let p = err_from_is_err_and c.from_residual.result c.from_residual.ensures.1 in
+    loses-in (bits_in (g.S.SlotCalls.state c.args.slots.now)) suspects (bits_in (g.S.SlotCalls.state c.erase.new.self)) disk
+    (erased c.args.target h.target (spare-erasable c.args.target (g.S.SlotCalls.state c.args.slots.now).memory h.rest h.target h.spare) (rest-sources (g.S.SlotCalls.state c.args.slots.now).memory h.rest) c.in_err-erase.ensures.size c.in_err-erase.ensures.beside
+    (c.in_err-erase.ensures.cut_bits (cc (p.1, p.2)) disk.settled disk.journals))
+
+pub returns-in_err-reclaim_into-clause-cut_bits : goal.returns-in_err-reclaim_into-clause-cut_bits
+returns-in_err-reclaim_into-clause-cut_bits g c is suspects disk h part =
+    let p = err_from_is_err_and c.from_residual-in_err-reclaim_into.result c.from_residual-in_err-reclaim_into.ensures.1 in
+    let s0 = g.S.SlotCalls.state c.args.slots.now in
+    let s1 = g.S.SlotCalls.state c.erase.new.self in
+    let w = c.in_ok-erase.ensures.ok in
+    loses-later s0.memory s1.memory (bits_in (g.S.SlotCalls.state c.reclaim_into.new.slots)) (spare-keeps c.args.target s0.memory s1.memory h.target h.spare w)
+    (c.in_err-reclaim_into.ensures.cut_bits (cc (p.1, p.2)) (trusting suspects c.args.target) (target-disk c.args.source c.args.target s0 s1 suspects disk c.in_ok-erase.ensures.ends h w c.in_ok-erase.ensures.firm)
+    (trusting-it suspects c.args.target) (spare-copyable c.args.source c.args.target s0.memory s1.memory h w) (λ spare. part (others-spare c.args.target c.args.source s0.memory s1.memory w.only h.source h.other spare)))

@@ -8,6 +8,7 @@ use Rattle.sector_stock.proofs.Moved.{whole-spare}
 use Rattle.sector_stock.proofs.Renewing.{spare-erasable, spare-cut_keeps}
 use Rattle.sector_stock.proofs.Firming.{erased-firm, index-erased, index-trusted, trusts-one}
 use Rattle.sector_stock.proofs.Trusting.{firm-but, made-one}
+use Rattle.sector_stock.proofs.FirmLosses.{erased-disk, erase-loses}
 use Rattle.sector_stock.proofs.firm.erase_suspect.Goals as goal
 
 pub erase-requires-clause-dead : goal.erase-requires-clause-dead
@@ -69,3 +70,27 @@ returns-clause-firm g c h =
     let same : (d : ℕ) → d < data_blocks s0.memory → d ≢ c.args.block → (in_block c.trust.new.blocks d).suspect ≡ (in_block c.args.blocks.now d).suspect = λ d low ne. ap (λ b. b.suspect) (c.trust.ensures.others d (omega (arith, low, n)) ne) in
     firm-but (bits_in s0) (bits_in s1) c.in_ok-erase.ensures.ends.kept.bits c.args.block c.args.blocks.now c.trust.new.blocks c.in_ok-erase.ensures.ok.only same
     (λ sure. wholly-block (bits_in s1) (in_block c.trust.new.blocks c.args.block).suspect c.args.block c.in_ok-erase.ensures.firm) h
+
+pub returns-clause-disk : goal.returns-clause-disk
+returns-clause-disk g c h =
+    let s0 = g.S.SlotCalls.state c.args.slots.now in
+    let s1 = g.S.SlotCalls.state c.erase.new.self in
+    let index = c.requires.index in
+    let n = index.listed.block_size in
+    let low = c.requires.number in
+    let here : c.args.block < data_blocks s0.memory = omega (arith, low, n) in
+    let done = c.in_ok-erase.ensures in
+    erased-disk c.args.block s0 s1 c.args.blocks.now c.trust.new.blocks h c.requires.room here (whole-spare s0.memory c.args.states.now c.args.blocks.now c.args.block c.requires.room.blocks.rest index.listed here c.requires.whole) done.ends done.ok done.firm
+    (returns-clause-firm g c h.store)
+
+pub returns-in_err-erase-clause-cut_bits : goal.returns-in_err-erase-clause-cut_bits
+returns-in_err-erase-clause-cut_bits g c is h =
+    let p = err_from_is_err_and c.from_residual.result c.from_residual.ensures.1 in
+    let s0 = g.S.SlotCalls.state c.args.slots.now in
+    let s1 = g.S.SlotCalls.state c.erase.new.self in
+    let index = c.requires.index in
+    let n = index.listed.block_size in
+    let low = c.requires.number in
+    let here : c.args.block < data_blocks s0.memory = omega (arith, low, n) in
+    let cut = c.in_err-erase.ensures in
+    erase-loses c.args.block s0 s1 c.args.blocks.now h c.requires.room.blocks.rest here (whole-spare s0.memory c.args.states.now c.args.blocks.now c.args.block c.requires.room.blocks.rest index.listed here c.requires.whole) cut.size cut.beside (cut.cut_bits (cc (p.1, p.2)))

@@ -5,7 +5,9 @@ use Rattle.nor_driver.proofs.CallLaws.{fails-as, kept-none}
 use Rattle.erase_journal.specs.Steps.{SucceedsSettled}
 use Rattle.erase_journal.proofs.SettledLaws.{settled-healthy, settled-after}
 use Rattle.erase_journal.proofs.Firmly.{refuses-firmly}
+use Rattle.nor_driver.specs.State.{bits_in}
 use Rattle.sector_stock.proofs.Copying.{after-keeps}
+use Rattle.sector_stock.proofs.Losing.{loses-later}
 use Rattle.sector_stock.proofs.Moved.{index-dead}
 use Rattle.sector_stock.proofs.Firming.{firm-none, firm-after, firm-room, trusts-none, trusts-after, none-suspect, suspects-fewer}
 use Rattle.sector_stock.proofs.Trusting.{made-none, made-after}
@@ -19,6 +21,7 @@ loop-slot-init g c = record {
   trusts = trusts-none c.args.blocks.now;
   made = made-none (g.S.SlotCalls.state c.args.slots.now).memory c.args.blocks.now;
   weak = λ h. h;
+  disk = λ h. h;
   none = λ t. refl;
   policy = refl;
   size = refl;
@@ -82,6 +85,7 @@ loop-slot-preserved g c =
       trusts = trusts-after c.args.blocks.now c.loop-slot.blocks c.firm_one.new.blocks i.trusts e.trusts;
       made = made-after c.args.blocks.now c.loop-slot.blocks c.firm_one.new.blocks a b d i.trusts e.trusts i.made e.made;
       weak = λ h. e.firm (i.weak h);
+      disk = λ h. e.disk (i.disk h);
       none = λ trusted. absurd (none-suspect (c.in-Some.slot / 7) c.args.blocks.now c.loop-slot.blocks i.trusts trusted (omega (arith, low, n)) c.in-Some.ensures.suspect);
       policy = e.policy ∙ (c.next_suspect.ensures.policy ∙ i.policy);
       size = e.size ∙ i.size;
@@ -106,3 +110,10 @@ returns-in_err-firm_one-clause-ends g c =
     let s2 = g.S.SlotCalls.state c.firm_one.new.slots in
     fails-as c.from_residual.result _ (λ _. SucceedsSettled s0 s2) (λ e. RefusesFirmly e s0 s2) c.from_residual.ensures.1
     (refuses-firmly _ s0 s1 s2 c.loop-slot.invariant.since c.in_err-firm_one.ensures.ends)
+
+pub returns-in_err-firm_one-clause-cut_bits : goal.returns-in_err-firm_one-clause-cut_bits
+returns-in_err-firm_one-clause-cut_bits g c is h =
+    let p = err_from_is_err_and c.from_residual.result c.from_residual.ensures.1 in
+    let i = c.loop-slot.invariant in
+    loses-later (g.S.SlotCalls.state c.args.slots.now).memory (g.S.SlotCalls.state c.loop-slot.slots).memory (bits_in (g.S.SlotCalls.state c.firm_one.new.slots)) i.firm.keeps
+    (c.in_err-firm_one.ensures.cut_bits (cc (p.1, p.2)) (i.disk h))

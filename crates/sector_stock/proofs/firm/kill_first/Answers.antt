@@ -8,6 +8,7 @@ use Rattle.sector_stock.proofs.Moved.{numbers-in}
 use Rattle.sector_stock.proofs.Writing.{free-some, ahead-live, index-killed}
 use Rattle.sector_stock.proofs.Firming.{part-apart, killed-keeps, killed-firm, index-trusted, trusts-one}
 use Rattle.sector_stock.proofs.Trusting.{firm-but, killed-sure, part-spare, kills-first, made-one, killed-flags}
+use Rattle.sector_stock.proofs.FirmLosses.{firmed-disk, part-room, lowest-place, kill-loses}
 use Rattle.sector_stock.proofs.firm.kill_first.Goals as goal
 
 pub returns-in_err-kill-clause-cut : goal.returns-in_err-kill-clause-cut
@@ -96,3 +97,24 @@ returns-clause-firm g c h =
     (killed-sure a b f c.args.slot c.requires.room.blocks.rest low (part-spare (c.args.slot / 7) s0.memory c.args.states.now c.args.blocks.now c.args.at.now c.requires.room c.requires.index here c.requires.part) c.requires.free c.requires.first c.in_ok-kill.ensures.for_good c.in_ok-kill.ensures.only
     (subst (λ q. IsSureBlock a q (c.args.slot / 7)) c.requires.suspect sure)))
     h
+
+pub returns-clause-disk : goal.returns-clause-disk
+returns-clause-disk g c h =
+    let s0 = g.S.SlotCalls.state c.args.slots.now in
+    let s1 = g.S.SlotCalls.state c.kill.new.self in
+    let low = c.requires.number in
+    let here : c.args.slot / 7 < data_blocks s0.memory = omega (arith, low) in
+    let done = c.in_ok-kill.ensures in
+    firmed-disk s0 s1 c.args.blocks.now c.trust.new.blocks h c.requires.room done.ends (returns-clause-ok g c) (returns-clause-firm g c h.store)
+    (part-room (bits_in s0) (bits_in s1) done.ends.kept.bits (c.args.slot / 7) c.requires.room.blocks.rest
+    (part-spare (c.args.slot / 7) s0.memory c.args.states.now c.args.blocks.now c.args.at.now c.requires.room c.requires.index here c.requires.part) done.only.only h.room)
+
+pub returns-in_err-kill-clause-cut_bits : goal.returns-in_err-kill-clause-cut_bits
+returns-in_err-kill-clause-cut_bits g c is h =
+    let p = err_from_is_err_and c.from_residual.result c.from_residual.ensures.1 in
+    let s0 = g.S.SlotCalls.state c.args.slots.now in
+    let s1 = g.S.SlotCalls.state c.kill.new.self in
+    let low = c.requires.number in
+    let here : c.args.slot / 7 < data_blocks s0.memory = omega (arith, low) in
+    kill-loses c.args.slot s0 s1 c.args.blocks.now h c.requires.room.blocks.rest (lowest-place c.args.slot s0.memory c.requires.room.blocks.rest low c.requires.free c.requires.first)
+    (part-spare (c.args.slot / 7) s0.memory c.args.states.now c.args.blocks.now c.args.at.now c.requires.room c.requires.index here c.requires.part) (c.in_err-kill.ensures.cut_bits (cc (p.1, p.2)))

@@ -5,6 +5,7 @@ use Rattle.sector_stock.proofs.Moved.{whole-spare}
 use Rattle.sector_stock.proofs.Renewing.{spare-erasable, spare-done, spare-cut, index-recounted, reserve-stays, spare-stays, erased-once}
 use Rattle.nor_driver.specs.State.{bits_in}
 use Rattle.sector_stock.proofs.FirmCopies.{erased-again}
+use Rattle.sector_stock.proofs.FirmLosses.{erased-disk, erase-loses}
 use Rattle.sector_stock.proofs.policy.erase_spare.Goals as goal
 
 pub erase-requires-clause-dead : goal.erase-requires-clause-dead
@@ -58,3 +59,27 @@ returns-clause-firm g c =
     let s1 = g.S.SlotCalls.state c.erase.new.self in
     let done = c.in_ok-erase.ensures in
     erased-again c.args.block (bits_in s0) (bits_in s1) c.args.blocks.now c.count_erase.new.blocks c.args.at.now c.count_erase.new.at done.ends.kept.bits c.requires.index.listed.block_size done.ok done.firm c.count_erase.ensures
+
+pub returns-clause-disk : goal.returns-clause-disk
+returns-clause-disk g c h =
+    let s0 = g.S.SlotCalls.state c.args.slots.now in
+    let s1 = g.S.SlotCalls.state c.erase.new.self in
+    let index = c.requires.index in
+    let n = index.listed.block_size in
+    let low = c.requires.number in
+    let here : c.args.block < data_blocks s0.memory = omega (arith, low, n) in
+    let done = c.in_ok-erase.ensures in
+    erased-disk c.args.block s0 s1 c.args.blocks.now c.count_erase.new.blocks h c.requires.room here (whole-spare s0.memory c.args.states.now c.args.blocks.now c.args.block c.requires.room.blocks.rest index.listed here c.requires.whole) done.ends done.ok done.firm
+    (returns-clause-firm g c h.store)
+
+pub returns-in_err-erase-clause-cut_bits : goal.returns-in_err-erase-clause-cut_bits
+returns-in_err-erase-clause-cut_bits g c is h =
+    let p = err_from_is_err_and c.from_residual.result c.from_residual.ensures.1 in
+    let s0 = g.S.SlotCalls.state c.args.slots.now in
+    let s1 = g.S.SlotCalls.state c.erase.new.self in
+    let index = c.requires.index in
+    let n = index.listed.block_size in
+    let low = c.requires.number in
+    let here : c.args.block < data_blocks s0.memory = omega (arith, low, n) in
+    let cut = c.in_err-erase.ensures in
+    erase-loses c.args.block s0 s1 c.args.blocks.now h c.requires.room.blocks.rest here (whole-spare s0.memory c.args.states.now c.args.blocks.now c.args.block c.requires.room.blocks.rest index.listed here c.requires.whole) cut.size cut.beside (cut.cut_bits (cc (p.1, p.2)))

@@ -9,6 +9,8 @@ use Rattle.sector_stock.specs.Index.{erases_of}
 use Rattle.sector_slots.specs.Slots.{data_blocks}
 use Rattle.sector_stock.proofs.Even.{may-within}
 use Rattle.sector_stock.proofs.Worn.{counted-moved, moves-least}
+use Rattle.std.proofs.lemmas.Result.{err_from_is_err_and}
+use Rattle.erase_journal.proofs.SettledLaws.{settled-healthy}
 use Rattle.sector_stock.proofs.policy.level_block.Goals as goal
 
 pub move_used-requires-clause-index : goal.move_used-requires-clause-index
@@ -61,3 +63,8 @@ returns-in_default-clause-index g c =
       | inl same ↦ index-dead m c.args.states.now c.args.blocks.now c.args.at.now new said.ahead same said.policy c.requires.index
       | inr other ↦ index-chosen new.reserve m c.args.states.now c.args.blocks.now c.args.at.now new c.requires.room c.requires.index other.number other.whole refl said.ahead (λ p. other.level (sym said.policy ∙ p)) said.policy
     ]
+
+pub returns-in_err-moved-clause-cut : goal.returns-in_err-moved-clause-cut
+returns-in_err-moved-clause-cut g c is =
+    let p = err_from_is_err_and c.from_residual.result c.from_residual.ensures.1 in
+    c.in_err-moved.ensures.cut (cc (p.1, p.2)) (settled-healthy (g.S.SlotCalls.state c.args.slots.now).memory c.requires.settled)

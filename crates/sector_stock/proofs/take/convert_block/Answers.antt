@@ -4,6 +4,8 @@ use Rattle.sector_stock.proofs.Converting.{convertible, converts-into}
 use Rattle.sector_stock.proofs.Worn.{counted-moved}
 use Rattle.nor_driver.specs.State.{bits_in}
 use Rattle.sector_stock.proofs.FirmCopies.{copied-firm}
+use Rattle.sector_stock.specs.Losses.{suspects_in}
+use Rattle.sector_stock.proofs.TakeLosses.{none-live}
 use Rattle.sector_stock.proofs.take.convert_block.Goals as goal
 
 pub copy_into-requires-clause-copyable : goal.copy_into-requires-clause-copyable
@@ -48,3 +50,9 @@ returns-clause-firm g c =
     let done = c.in_ok-copy_into.ensures in
     copied-firm c.args.source c.args.at.now.reserve (bits_in s0) (bits_in s1) c.args.blocks.now c.move_block.new.blocks done.ends.kept.bits c.requires.index.listed.block_size c.requires.index.reserve.spare
     (done.ok (convertible c.args.source c.args.at.now.reserve m c.requires.room c.requires.index.reserve c.requires.source c.requires.group)).slots done.firm done.target c.move_block.ensures.moved
+
+pub returns-clause-disk : goal.returns-clause-disk
+returns-clause-disk g c h = absurd (none-live c.args.source (bits_in (g.S.SlotCalls.state c.args.slots.now)) (suspects_in c.args.blocks.now) h c.requires.source c.requires.group)
+
+pub returns-in_err-copy_into-clause-cut_bits : goal.returns-in_err-copy_into-clause-cut_bits
+returns-in_err-copy_into-clause-cut_bits g c is h = absurd (none-live c.args.source (bits_in (g.S.SlotCalls.state c.args.slots.now)) (suspects_in c.args.blocks.now) h c.requires.source c.requires.group)

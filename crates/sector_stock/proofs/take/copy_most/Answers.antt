@@ -7,6 +7,8 @@ use Rattle.sector_stock.proofs.Converting.{work-falls}
 use Rattle.sector_stock.proofs.Moving.{other-reserve}
 use Rattle.nor_driver.specs.State.{bits_in}
 use Rattle.sector_stock.proofs.FirmCopies.{copied-firm}
+use Rattle.sector_stock.specs.Losses.{suspects_in}
+use Rattle.sector_stock.proofs.TakeLosses.{dead-part, shifted-disk}
 use Rattle.sector_stock.proofs.take.copy_most.Goals as goal
 
 pub copy_into-requires-clause-copyable : goal.copy_into-requires-clause-copyable
@@ -86,3 +88,22 @@ returns-clause-firm g c =
     let done = c.in_ok-copy_into.ensures in
     copied-firm c.args.source c.args.at.now.reserve (bits_in s0) (bits_in s1) c.args.blocks.now c.move_block.new.blocks done.ends.kept.bits c.requires.index.listed.block_size c.requires.index.reserve.spare
     (done.ok (copyable-now c.args.source m c.args.states.now c.args.blocks.now c.args.at.now c.requires.room c.requires.index c.requires.most)).slots done.firm done.target c.move_block.ensures.moved
+
+pub returns-clause-disk : goal.returns-clause-disk
+returns-clause-disk g c h =
+    let s0 = g.S.SlotCalls.state c.args.slots.now in
+    let s1 = g.S.SlotCalls.state c.copy_into.new.slots in
+    let m = s0.memory in
+    let done = c.in_ok-copy_into.ensures in
+    let can = copyable-now c.args.source m c.args.states.now c.args.blocks.now c.args.at.now c.requires.room c.requires.index c.requires.most in
+    let copied = copies-into c.args.source c.args.at.now.reserve m s1.memory c.requires.room (dead-in c.args.source m c.args.states.now c.args.blocks.now c.args.at.now c.requires.index c.requires.most) c.requires.index.reserve can.other (done.ok can) in
+    shifted-disk c.args.source c.args.at.now.reserve s0 s1 c.args.blocks.now c.move_block.new.blocks h done.ends c.requires.room.single can.source copied.shifts copied.erased done.firm
+    (copied-firm c.args.source c.args.at.now.reserve (bits_in s0) (bits_in s1) c.args.blocks.now c.move_block.new.blocks done.ends.kept.bits c.requires.index.listed.block_size c.requires.index.reserve.spare (done.ok can).slots done.firm done.target c.move_block.ensures.moved h.store)
+
+pub returns-in_err-copy_into-clause-cut_bits : goal.returns-in_err-copy_into-clause-cut_bits
+returns-in_err-copy_into-clause-cut_bits g c is h =
+    let p = err_from_is_err_and c.from_residual.result c.from_residual.ensures.1 in
+    let m = (g.S.SlotCalls.state c.args.slots.now).memory in
+    c.in_err-copy_into.ensures.cut_bits (cc (p.1, p.2)) (suspects_in c.args.blocks.now) h (λ e. e)
+    (copyable-now c.args.source m c.args.states.now c.args.blocks.now c.args.at.now c.requires.room c.requires.index c.requires.most)
+    (dead-part c.args.source m c.args.states.now c.args.blocks.now c.args.at.now c.requires.room c.requires.index c.requires.most)

@@ -11,6 +11,10 @@ use Rattle.sector_stock.specs.Index.{erases_of}
 use Rattle.sector_stock.proofs.Worn.{counted-moved, copies-least}
 use Rattle.sector_stock.specs.Room.{HasNoneFree}
 use Rattle.sector_stock.proofs.FirmCopies.{copied-trusted}
+use Rattle.nor_driver.specs.State.{bits_in}
+use Rattle.sector_stock.proofs.TakeLosses.{spare-copied, spare-given}
+use Rattle.std.proofs.lemmas.Result.{err_from_is_err_and}
+use Rattle.erase_journal.proofs.SettledLaws.{settled-healthy}
 use Rattle.sector_stock.proofs.take.take_slot.Goals as goal
 
 pub unreachable-requires : goal.unreachable-requires
@@ -85,3 +89,31 @@ returns-clause-trusted g c trusted =
     let none = subst (λ r. HasNoneFree r m) (sym (c.most_dead.ensures.reserve ∙ c.in_default.ensures.reserve)) (c.in_default.ensures.found m c.requires.index) in
     copied-trusted c.in-Some-most_dead.source c.most_dead.new.at.reserve c.in-Some-free_slot.slot m m1 c.args.states.now c.copy_most.new.states c.args.blocks.now c.copy_most.new.blocks c.args.at.now c.copy_most.new.at c.requires.index done.index done.blocks
     none (c.in-Some-free_slot.ensures.found m1 done.index)
+
+pub returns-clause-spare : goal.returns-clause-spare
+returns-clause-spare g c given trusts h =
+    let m = (g.S.SlotCalls.state c.args.slots.now).memory in
+    let s1 = g.S.SlotCalls.state c.copy_most.new.slots in
+    let done = c.in_ok-copied.ensures in
+    let none = subst (λ r. HasNoneFree r m) (sym (c.most_dead.ensures.reserve ∙ c.in_default.ensures.reserve)) (c.in_default.ensures.found m c.requires.index) in
+    spare-copied c.in-Some-most_dead.source c.most_dead.new.at.reserve c.in-Some-free_slot.slot m (bits_in s1) c.args.states.now c.copy_most.new.states c.args.blocks.now c.copy_most.new.blocks c.args.at.now c.copy_most.new.at c.requires.room.blocks.rest done.ok.shifts.blocks.rest
+    c.requires.index done.index done.blocks none (c.in-Some-free_slot.ensures.found s1.memory done.index) (done.disk h)
+
+pub returns-in_err-copied-clause-cut : goal.returns-in_err-copied-clause-cut
+returns-in_err-copied-clause-cut g c is =
+    let p = err_from_is_err_and c.from_residual.result c.from_residual.ensures.1 in
+    c.in_err-copied.ensures.cut (cc (p.1, p.2)) (settled-healthy (g.S.SlotCalls.state c.args.slots.now).memory c.requires.settled)
+
+pub copy_most-requires-clause-index : goal.copy_most-requires-clause-index
+copy_most-requires-clause-index g c =
+    index-dead (g.S.SlotCalls.state c.args.slots.now).memory c.args.states.now c.args.blocks.now c.args.at.now c.most_dead.new.at c.most_dead.ensures.ahead (c.most_dead.ensures.reserve ∙ c.in_default.ensures.reserve) (c.most_dead.ensures.policy ∙ c.in_default.ensures.policy) c.requires.index
+
+pub returns-clause-first : goal.returns-clause-first
+returns-clause-first g c = c.in-Some-free_slot.ensures.first (g.S.SlotCalls.state c.copy_most.new.slots).memory c.in_ok-copied.ensures.index
+
+pub returns-in-Some-clause-spare : goal.returns-in-Some-clause-spare
+returns-in-Some-clause-spare g c given trusts h =
+    let b = bits_in (g.S.SlotCalls.state c.args.slots.now) in
+    let said = c.in-Some.ensures in
+    spare-given c.in-Some.slot b c.args.states.now c.args.blocks.now c.args.at.now c.requires.room.blocks.rest c.requires.index said.number
+    (λ by. said.lowest by b.shown c.requires.index) (λ by. said.fills by b.shown c.requires.index) trusts h

@@ -1,6 +1,7 @@
 use Rattle.std.specs.Prelude.{◌⊎◌, IfSome}
 use Rattle.std.proofs.Common.{◌≡◌, ◌∙◌, None, Some, inl, inr, ap, sym, subst, length, arith}
-use Rattle.std.proofs.lemmas.Result.{IfOk-weaker}
+use Rattle.std.proofs.lemmas.Result.{IfOk-weaker, err_from_is_err_and}
+use Rattle.erase_journal.proofs.SettledLaws.{settled-healthy}
 use Rattle.sector_stock.proofs.Moved.{none-dead-in, index-dead, filled}
 use Rattle.sector_stock.specs.Room.{HasNoneDead}
 use Rattle.sector_stock.specs.Takes.{HasNoGroups, HasMostDead, HasFewerBelow, TidiesStock}
@@ -97,3 +98,8 @@ convert_lowest-requires-clause-even g c by = c.requires.even (sym c.most_dead.en
 pub returns-in_ok-copied-in-Some-clause-index : goal.returns-in_ok-copied-in-Some-clause-index
 returns-in_ok-copied-in-Some-clause-index g c =
     filled _ (g.S.SlotCalls.state c.copy_most.new.slots).memory c.copy_most.new.states c.copy_most.new.blocks c.copy_most.new.at c.fill_copy.new.at c.fill_copy.ensures c.in_ok-copied-in-Some.ensures.index
+
+pub returns-in_err-copied-in-Some-clause-cut : goal.returns-in_err-copied-in-Some-clause-cut
+returns-in_err-copied-in-Some-clause-cut g c is =
+    let p = err_from_is_err_and c.from_residual.result c.from_residual.ensures.1 in
+    c.in_err-copied-in-Some.ensures.cut (cc (p.1, p.2)) (settled-healthy (g.S.SlotCalls.state c.args.slots.now).memory c.requires.settled)
