@@ -145,7 +145,7 @@ module _ (a b : Bits) (f : IsFirmer a b) where
 
   pub half-stays : (c : ℕ) → KeepsNewer a.shown b.shown c → kind_at b.shown c ≡ kind_at a.shown c → ((i : ℕ) → i < 7 → raw_slot b.shown c i ≡ raw_slot a.shown c i) → IsHalfBlock a c → IsHalfBlock b c
   half-stays c newer kind same h = record {
-    bytes = bytes-stay c h.bytes;
+    bytes = λ other. bytes-stay c (h.bytes (λ e. other (kind ∙ e)));
     mark = subst (λ k. HalfMark k b c) (sym kind) (half-mark (kind_at a.shown c) c (mark-stays a b f c kind same) h.mark);
     edges = λ other. edges-stay a b f c (h.edges (λ e. other (kind ∙ e)));
     slots = λ other i low. subst (λ s. HalfSlot s b c i) (sym (same i low))
@@ -201,7 +201,7 @@ module _ (a b : Bits) (f : IsFirmer a b) where
 pub wholly-read : (b : Bits) (begun : Bool) (c : ℕ) → IsWhollyFirm b.weak c → IsSpareIn b.shown c → IsReadBlock b begun c
 wholly-read b begun c w spare = record {
   half = record {
-    bytes = λ k j low high. bit-firm b.weak (block_place c + k) j (w k low);
+    bytes = λ other k j low high. bit-firm b.weak (block_place c + k) j (w k low);
     mark = subst (λ k. HalfMark k b c) (sym spare.plain) (inl (wholly-mark b.weak c w));
     edges = λ other. wholly-edges b.weak c w;
     slots = λ other i low. subst (λ s. HalfSlot s b c i) (sym (spare.free i low)) (inl (wholly-slot b c i low w));
@@ -236,7 +236,7 @@ settled-read a b f begun source t newer was is same states third h =
     let not_void : kind_at a.shown t ≡ kinds.Void → ⊥ = λ e. committed-void source (sym was ∙ e) in
     record {
       half = record {
-        bytes = bytes-stay a b f t h.half.bytes;
+        bytes = λ other. bytes-stay a b f t (h.half.bytes not_void);
         mark = subst (λ k. HalfMark k b t) (sym is) (λ i k from to one. elim (cases_eq i (mark_place t)) [
           | inl at ↦ subst (λ q. bit_at (byte b.weak q) k ≡ 0) (sym at) (elim (cases_eq k 2) [
             | inl two ↦ subst (λ q. bit_at (byte b.weak (mark_place t)) q ≡ 0) (sym two) third
@@ -264,7 +264,7 @@ retired-read a b f begun c p within tag x was now good kind same states newer h 
     let dead_free : (s : Slot) → s ≡ Dead → s ≡ Free → ⊥ = λ s l e. (let q : 0 ≡ 3 = ap slot_number (sym e ∙ l) in omega (arith, q)) in
     record {
       half = record {
-        bytes = bytes-stay a b f c h.half.bytes;
+        bytes = λ other. bytes-stay a b f c (h.half.bytes (λ e. other (kind ∙ e)));
         mark = subst (λ k. HalfMark k b c) (sym kind) (half-mark a b f (kind_at a.shown c) c (λ d. absurd (not_free (raw_slot a.shown c p) was (d.spare.free p within))) h.half.mark);
         edges = λ other. edges-stay a b f c (h.half.edges (λ e. other (kind ∙ e)));
         slots = λ other i low. elim (cases_eq i p) as (λ _. HalfSlot (raw_slot b.shown c i) b c i) [
@@ -291,7 +291,10 @@ retired-read a b f begun c p within tag x was now good kind same states newer h 
     }
 
 -- Where no copying goes on, and no slot has a newer one: all is sure or doubtful, or begun.
-module _ (b : Bits) (begun : Bool) (c : ℕ) (h : IsReadBlock b begun c) (newest : (i : ℕ) → i < 7 → (tag : Tag) (x : List ℕ) → raw_slot b.shown c i ≡ Live tag x → HasNewer b.shown tag → ⊥) where
+module _ (b : Bits) (begun : Bool) (c : ℕ) (h : IsReadBlock b begun c) (newest : (i : ℕ) → i < 7 → (tag : Tag) (x : List ℕ) → raw_slot b.shown c i ≡ Live tag x → HasNewer b.shown tag → ⊥) (rest : IsAtRest (kind_at b.shown c)) where
+  not-void : kind_at b.shown c ≡ kinds.Void → ⊥
+  not-void e = subst (λ q. IsAtRest q) e rest
+
   low-zeros : (at k : ℕ) → at < 44 → k < 8 → bit_at (byte b.shown (block_place c + at)) k ≡ 0 → bit_at (byte b.weak (block_place c + at)) k ≡ 0
   low-zeros at k small low none = h.head.zeros (block_place c + at) k (omega arith) (omega (arith, small)) low none
 
@@ -299,7 +302,7 @@ module _ (b : Bits) (begun : Bool) (c : ℕ) (h : IsReadBlock b begun c) (newest
   both-firm at n fits ones k low =
       let e : block_place c + at + k ≡ block_place c + (at + k) = omega arith in
       ap (λ q. byte b.weak q) e ∙ read-byte b (block_place c + (at + k)) (λ j small none. low-zeros (at + k) j (omega (arith, fits, low)) small none)
-      (λ j one. ones (block_place c + (at + k)) j (omega arith) (omega (arith, low)) one) (λ j high. h.half.bytes (at + k) j (omega (arith, fits, low)) high)
+      (λ j one. ones (block_place c + (at + k)) j (omega arith) (omega (arith, low)) one) (λ j high. h.half.bytes not-void (at + k) j (omega (arith, fits, low)) high)
 
   held-mark : (kind : Kind) → IsAtRest kind → HalfMark kind b c → AreFirm b.weak (mark_place c) 4 ⊎ IsDoubtfulMark b c
   held-mark kinds.Plain rest m = m
@@ -329,7 +332,7 @@ module _ (b : Bits) (begun : Bool) (c : ℕ) (h : IsReadBlock b begun c) (newest
             tag = tag;
             live = is ∙ ap (λ y. Live tag y) blank;
             state = λ k other. elim (cases_lt k 8) [
-              | inr high ↦ h.half.bytes (16 + 4 * i) k (omega (arith, low)) high
+              | inr high ↦ h.half.bytes not-void (16 + 4 * i) k (omega (arith, low)) high
               | inl small ↦ elim (cases_eq (bit_at (byte b.shown (descriptor_place c i)) k) 0) [
                 | inl z ↦ low-zeros (16 + 4 * i) k (omega (arith, low)) small z
                 | inr o ↦ (let two = bit_at-lt (byte b.shown (descriptor_place c i)) k in third.0 k other (omega (arith, o, two)))
@@ -348,9 +351,6 @@ module _ (b : Bits) (begun : Bool) (c : ℕ) (h : IsReadBlock b begun c) (newest
   held-slot Dead i low is g d = elim (h.head.dead g i low is) [ inl s ↦ inl (inl s) | inr w ↦ inr w ]
   held-slot Outside i low is g d = absurd d
 
-  rest-void : (k : Kind) → IsAtRest k → k ≡ kinds.Void → ⊥
-  rest-void k rest e = subst (λ q. IsAtRest q) e rest
-
   rest-group : (k : Kind) → HalfMark k b c → is_group k ≡ false
   rest-group kinds.Plain m = refl
   rest-group kinds.Void m = refl
@@ -361,15 +361,13 @@ module _ (b : Bits) (begun : Bool) (c : ℕ) (h : IsReadBlock b begun c) (newest
   rest-group kinds.SpoiltGroup m = absurd m
   rest-group kinds.Unknown m = absurd m
 
-  pub held-read : IsAtRest (kind_at b.shown c) → IsHeldBlock b begun c
-  held-read rest =
-      let not_void = rest-void (kind_at b.shown c) rest in
-      record {
-        of_slots = rest-group (kind_at b.shown c) h.half.mark;
-        edges = h.half.edges not_void;
-        mark = held-mark (kind_at b.shown c) rest h.half.mark;
-        slots = λ i low. held-slot (raw_slot b.shown c i) i low refl (rest-group (kind_at b.shown c) h.half.mark) (h.half.slots not_void i low);
-      }
+  pub held-read : IsHeldBlock b begun c
+  held-read = record {
+    of_slots = rest-group (kind_at b.shown c) h.half.mark;
+    edges = h.half.edges not-void;
+    mark = held-mark (kind_at b.shown c) rest h.half.mark;
+    slots = λ i low. held-slot (raw_slot b.shown c i) i low refl (rest-group (kind_at b.shown c) h.half.mark) (h.half.slots not-void i low);
+  }
 
 -- a block is of no group
 pub half-no-group : (kind : Kind) (b : Bits) (c : ℕ) → HalfMark kind b c → is_group kind ≡ true → ⊥

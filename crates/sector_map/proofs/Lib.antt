@@ -16,6 +16,7 @@ pub mod Voiding
 pub mod Opening
 pub mod Clearing
 pub mod Leaving
+pub mod KeepLosses
 mod Pigeonhole
 mod GroupRoom
 pub mod Grouped
@@ -26,3 +27,4 @@ mod Moving
 mod Renewal
 pub mod Firmness
 mod MountFirmly
+mod SetLosses

@@ -96,7 +96,7 @@ live-at : (m m' : List ℕ) (s g : ℕ) (k : Generation) (x : List ℕ) → Same
 live-at m m' s g k x chip l = subst (λ n. LiveAt (slot_at m') (7 * (block_count n - 4)) s g k x) (sym chip.same_length) l
 
 -- the generation of the new content
-generation-next : (m : List ℕ) (g : ℕ) (o : Option Held) → HeldBy o g m → NextGeneration (slot_at m) (slot_count m) g (generation_after o)
+pub generation-next : (m : List ℕ) (g : ℕ) (o : Option Held) → HeldBy o g m → NextGeneration (slot_at m) (slot_count m) g (generation_after o)
 generation-next m g None none = begun none refl
 generation-next m g (Some o) (x, l) = after o.slot o.generation x l refl
 

@@ -4,6 +4,7 @@ use Rattle.chip_model.specs.Geometry.{sector_count}
 use Rattle.nor_layout.specs.Headers.{next_generation}
 use Rattle.nor_layout.specs.declared.header.Generation.{Generation}
 use Rattle.nor_layout.specs.declared.header.Generation.TheVariants as generations
+use Rattle.nor_layout.specs.declared.header.Tag.{Tag}
 use Rattle.erase_journal.specs.Blocks.{SameChip}
 use Rattle.sector_slots.specs.Slots.{Free, slot_at, slot_count, data_blocks, IsClean, IsSpareIn}
 use Rattle.sector_slots.specs.Slots.{kind_at, is_group}
@@ -23,6 +24,10 @@ HeldBy (Some held) g m = (content : List ℕ)
 abbrev pub generation_after : Option Held → Generation
 generation_after None = generations.Zero
 generation_after (Some held) = next_generation held.generation
+
+-- and its tag
+abbrev pub tag_after : ℕ → Option Held → Tag
+tag_after g holder = record { number = g; generation = generation_after holder }
 
 -- slot w lies outside a wholly free block
 pub record IsPlaced (w : ℕ) (m : List ℕ) : Type 0 where

@@ -12,6 +12,8 @@ ghost use Rattle.sector_slots.specs.Sectors.{zeros};
 ghost use Rattle.sector_map.specs.Firm.{StaysAlike, HasNoneBegun, IsMendedMap, AreHeadsFirm};
 ghost use Rattle.sector_map.specs.Firm.{AreHeldBlocks, MovesFirmly};
 ghost use Rattle.sector_slots.specs.Weak.{IsDoubtedStore};
+ghost use Rattle.sector_stock.specs.Losses.{AreSuspect};
+ghost use Rattle.sector_map.specs.Losses.{SetsFirmly};
 ghost use Rattle.sector_map.specs.Maps.{IsServing, SetLeaves, Wrote};
 ghost use Rattle.sector_map.specs.Table.{Mends, Repairs};
 
@@ -55,6 +57,7 @@ pub(crate) fn firm_as<S: FirmCalls>(slots: &mut S, firmness: Firmness) -> Result
 pub(crate) fn suspect_as<S: Reclaim>(stock: &mut S, firmness: Firmness)
     ensures state { S.state stock.new ≡ S.state stock.old }
     ensures indexed { S.indexed stock.new ≡ S.indexed stock.old }
+    ensures suspect { firmness ≡ Firmness.Firm → AreSuspect (S.counts stock.new) }
 {
     match firmness {
         Firmness::Steady => {}
@@ -163,6 +166,8 @@ pub(crate) fn clear_as<S: Reclaim>(
         (S.indexed stock.new)) }
     ensures cut { IsErrOf result NorError.Cut
         → SetLeaves sector zeros (S.state stock.old).memory (S.state stock.new).memory }
+    ensures firmly { firmness ≡ Firmness.Firm → SetsFirmly sector zeros result (S.state stock.old)
+        (S.counts stock.old) (S.state stock.new) (S.counts stock.new) }
     ensures table { length table.new ≡ length table.old }
     ensures size { length (S.state stock.new).memory ≡ length (S.state stock.old).memory }
     ensures ends { EndsFirmly result (S.state stock.old) (S.state stock.new) }

@@ -15,6 +15,7 @@ ghost use Rattle.sector_slots.specs.Slots.{slot_at, slot_count, data_blocks, kin
 ghost use Rattle.sector_slots.specs.Blocks.{AreSettled, HasGroupRoom};
 ghost use Rattle.sector_slots.specs.Sectors.{IsSoundMap, HoldsSectors};
 ghost use Rattle.sector_stock.specs.Copy.{KeepsSectors, EndsCopy, IsCommittedIn};
+ghost use Rattle.sector_stock.specs.Losses.{AreSuspect};
 ghost use Rattle.sector_slots.specs.Weak.{IsDoubtedStore, IsHalfStore};
 ghost use Rattle.sector_map.specs.Firm.{AreReadBlocks, KeepsRead, MakesHeld};
 ghost use Rattle.sector_map.specs.Found.{FoundIn, RoomSeen, leaves_room};
@@ -53,6 +54,8 @@ pub fn mount_slots<S: Reclaim>(
     ensures store { firmness ≡ Firmness.Firm → is_unmarked (S.state stock.old).memory ≡ false
         → IsHalfStore (bits_in (S.state stock.old)) → IfOk result (λ sound. IsTrue sound
         → IsDoubtedStore (bits_in (S.state stock.new))) }
+    ensures suspect { firmness ≡ Firmness.Firm → IfOk result (λ sound. IsTrue sound
+        → AreSuspect (S.counts stock.new)) }
     ensures corrupt { IfOk result (λ sound. IsFalse sound
         → (IsSoundMap (S.state stock.old).memory → ⊥)
         × ((S.state stock.new).memory ≡ (S.state stock.old).memory)) }

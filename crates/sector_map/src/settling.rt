@@ -7,6 +7,8 @@ ghost use Rattle.erase_journal.specs.Journals.{unused};
 ghost use Rattle.erase_journal.specs.Renewal.{RenewsAll};
 ghost use Rattle.erase_journal.specs.Steps.{EndsFirmly};
 ghost use Rattle.sector_slots.specs.Slots.{data_blocks, IsSpareIn};
+ghost use Rattle.sector_stock.specs.Losses.{AreSuspect};
+ghost use Rattle.sector_map.specs.Losses.{KeepsFirmly};
 ghost use Rattle.sector_map.specs.Maps.{IsServing, KeepsMap, KeptServing};
 
 use crate::firm::suspect_as;
@@ -29,6 +31,7 @@ pub(crate) fn renew_journals<S: Reclaim>(
         (S.indexed stock.new)) }
     ensures renews { OnOk result (RenewsAll (unused (S.state stock.old).memory)
         (unused (S.state stock.new).memory)) }
+    ensures suspect { firmness ≡ Firmness.Firm → OnOk result (AreSuspect (S.counts stock.new)) }
     ensures cut { IsErrOf result NorError.Cut
         → KeepsMap (S.state stock.old).memory (S.state stock.new).memory }
     ensures size { length (S.state stock.new).memory ≡ length (S.state stock.old).memory }
@@ -59,6 +62,9 @@ pub(crate) fn renew_block<N: Nor>(
     ensures cut { IsErrOf result NorError.Cut
         → KeepsMap (⟦<Stock<N> as SlotCalls>⟧.state stock.old).memory
         (⟦<Stock<N> as SlotCalls>⟧.state stock.new).memory }
+    ensures firmly { KeepsFirmly result (⟦<Stock<N> as SlotCalls>⟧.state stock.old)
+        (⟦<Stock<N> as Reclaim>⟧.counts stock.old) (⟦<Stock<N> as SlotCalls>⟧.state stock.new)
+        (⟦<Stock<N> as Reclaim>⟧.counts stock.new) }
     ensures table { length table.new ≡ length table.old }
     ensures size { length (⟦<Stock<N> as SlotCalls>⟧.state stock.new).memory
         ≡ length (⟦<Stock<N> as SlotCalls>⟧.state stock.old).memory }

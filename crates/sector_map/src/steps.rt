@@ -4,19 +4,23 @@
 ghost use Rattle.std.specs.Prelude.{◌≡◌, ◌⊎◌, ◌<◌, ◌≤◌, length, OnOk, IfOk, IfErr, IsTrue, IsFalse};
 ghost use Rattle.std.specs.Prelude.{ℕ, true, Some, None, IfSome};
 ghost use Rattle.std.specs.Result.{IsErrOf};
-ghost use Rattle.nor_driver.specs.State.{IsNorReady};
+ghost use Rattle.nor_driver.specs.State.{IsNorReady, bits_in};
 ghost use Rattle.erase_journal.specs.Steps.{RefusesFirmly, SucceedsSettled, EndsFirmly};
 ghost use Rattle.erase_journal.specs.Blocks.{SameChip};
 ghost use Rattle.erase_journal.specs.Journals.{IsHealthy, IsSettled};
 ghost use Rattle.sector_slots.specs.Sectors.{sector_at, zeros, IsSingle, IsSoundMap};
 ghost use Rattle.sector_slots.specs.Slots.{slot_count, data_blocks, IsSpareIn};
 ghost use Rattle.sector_stock.specs.Takes.{urgent_work, work_of, IsErasedOnce, IsLeastErased};
+ghost use Rattle.sector_stock.specs.Takes.{GivesTrusted, TrustsReserve};
 ghost use Rattle.sector_stock.specs.Index.{erases_of};
+ghost use Rattle.sector_stock.specs.Losses.{TakesSector};
 ghost use Rattle.sector_stock.specs.Room.{HasNoneDead};
 ghost use Rattle.sector_map.specs.Replace.{IsInSlots, HeldBy, generation_after, IsReplaceable};
+ghost use Rattle.sector_map.specs.Replace.{tag_after};
 ghost use Rattle.sector_map.specs.Replace.{Rewrites, RewriteLeaves};
 ghost use Rattle.sector_map.specs.Maps.{IsServing, KeepsMap, SetLeaves, Wrote, KeptServing};
 ghost use Rattle.sector_map.specs.Maps.{IsEven, Nearer};
+ghost use Rattle.sector_map.specs.Losses.{KeepsFirmly, SetsFirmly};
 
 use crate::Held;
 use crate::table::{LiveSlots, follow_copied, keep_one, unset};
@@ -40,6 +44,8 @@ pub(crate) fn write_levelled<S: Reclaim>(
         (S.state stock.new) (S.indexed stock.new)) }
     ensures cut { IsErrOf result NorError.Cut
         → SetLeaves sector content.now (S.state stock.old).memory (S.state stock.new).memory }
+    ensures firmly { SetsFirmly sector content.now result (S.state stock.old) (S.counts stock.old)
+        (S.state stock.new) (S.counts stock.new) }
     ensures table { length table.new ≡ length table.old }
     ensures size { length (S.state stock.new).memory ≡ length (S.state stock.old).memory }
     ensures ends { EndsFirmly result (S.state stock.old) (S.state stock.new) }
@@ -61,6 +67,8 @@ fn make_way<S: Reclaim>(stock: &mut S, table: &mut [LiveSlots], sector: u16) -> 
         (data_blocks (S.state stock.new).memory) (S.counts stock.new)) }
     ensures cut { IsErrOf result NorError.Cut
         → KeepsMap (S.state stock.old).memory (S.state stock.new).memory }
+    ensures firmly { KeepsFirmly result (S.state stock.old) (S.counts stock.old)
+        (S.state stock.new) (S.counts stock.new) }
     ensures table { length table.new ≡ length table.old }
     ensures size { length (S.state stock.new).memory ≡ length (S.state stock.old).memory }
     ensures ends { EndsFirmly result (S.state stock.old) (S.state stock.new) }
@@ -85,6 +93,8 @@ fn level_all<S: Reclaim>(
         (data_blocks (S.state stock.new).memory) (S.counts stock.new)) }
     ensures cut { IsErrOf result NorError.Cut
         → KeepsMap (S.state stock.old).memory (S.state stock.new).memory }
+    ensures firmly { KeepsFirmly result (S.state stock.old) (S.counts stock.old)
+        (S.state stock.new) (S.counts stock.new) }
     ensures table { length table.new ≡ length table.old }
     ensures size { length (S.state stock.new).memory ≡ length (S.state stock.old).memory }
     ensures ends { EndsFirmly result (S.state stock.old) (S.state stock.new) }
@@ -107,6 +117,8 @@ fn renew_soon<S: Reclaim>(stock: &mut S, table: &mut [LiveSlots]) -> Result<(), 
         ≤ work_of (S.state stock.old).memory) }
     ensures cut { IsErrOf result NorError.Cut
         → KeepsMap (S.state stock.old).memory (S.state stock.new).memory }
+    ensures firmly { KeepsFirmly result (S.state stock.old) (S.counts stock.old)
+        (S.state stock.new) (S.counts stock.new) }
     ensures table { length table.new ≡ length table.old }
     ensures size { length (S.state stock.new).memory ≡ length (S.state stock.old).memory }
     ensures ends { EndsFirmly result (S.state stock.old) (S.state stock.new) }
@@ -128,6 +140,8 @@ fn even_out<S: Reclaim>(stock: &mut S, table: &mut [LiveSlots]) -> Result<(), No
         ≤ work_of (S.state stock.old).memory) }
     ensures cut { IsErrOf result NorError.Cut
         → KeepsMap (S.state stock.old).memory (S.state stock.new).memory }
+    ensures firmly { KeepsFirmly result (S.state stock.old) (S.counts stock.old)
+        (S.state stock.new) (S.counts stock.new) }
     ensures table { length table.new ≡ length table.old }
     ensures size { length (S.state stock.new).memory ≡ length (S.state stock.old).memory }
     ensures ends { EndsFirmly result (S.state stock.old) (S.state stock.new) }
@@ -151,6 +165,8 @@ fn renew_now<S: Reclaim>(stock: &mut S, table: &mut [LiveSlots]) -> Result<(), N
         ≤ work_of (S.state stock.old).memory) }
     ensures cut { IsErrOf result NorError.Cut
         → KeepsMap (S.state stock.old).memory (S.state stock.new).memory }
+    ensures firmly { KeepsFirmly result (S.state stock.old) (S.counts stock.old)
+        (S.state stock.new) (S.counts stock.new) }
     ensures table { length table.new ≡ length table.old }
     ensures size { length (S.state stock.new).memory ≡ length (S.state stock.old).memory }
     ensures ends { EndsFirmly result (S.state stock.old) (S.state stock.new) }
@@ -180,6 +196,8 @@ fn renew_all<S: Reclaim>(stock: &mut S, table: &mut [LiveSlots], least: u16) -> 
         ≤ work_of (S.state stock.old).memory) }
     ensures cut { IsErrOf result NorError.Cut
         → KeepsMap (S.state stock.old).memory (S.state stock.new).memory }
+    ensures firmly { KeepsFirmly result (S.state stock.old) (S.counts stock.old)
+        (S.state stock.new) (S.counts stock.new) }
     ensures table { length table.new ≡ length table.old }
     ensures size { length (S.state stock.new).memory ≡ length (S.state stock.old).memory }
     ensures ends { EndsFirmly result (S.state stock.old) (S.state stock.new) }
@@ -215,6 +233,8 @@ pub(crate) fn renew_one<S: Reclaim>(
         ≤ work_of (S.state stock.old).memory) }
     ensures cut { IsErrOf result NorError.Cut
         → KeepsMap (S.state stock.old).memory (S.state stock.new).memory }
+    ensures firmly { KeepsFirmly result (S.state stock.old) (S.counts stock.old)
+        (S.state stock.new) (S.counts stock.new) }
     ensures table { length table.new ≡ length table.old }
     ensures size { length (S.state stock.new).memory ≡ length (S.state stock.old).memory }
     ensures ends { EndsFirmly result (S.state stock.old) (S.state stock.new) }
@@ -248,6 +268,8 @@ fn move_if_due<S: Reclaim>(
         (data_blocks (S.state stock.new).memory) (S.counts stock.new)) }
     ensures cut { IsErrOf result NorError.Cut
         → KeepsMap (S.state stock.old).memory (S.state stock.new).memory }
+    ensures firmly { KeepsFirmly result (S.state stock.old) (S.counts stock.old)
+        (S.state stock.new) (S.counts stock.new) }
     ensures table { length table.new ≡ length table.old }
     ensures size { length (S.state stock.new).memory ≡ length (S.state stock.old).memory }
     ensures ends { EndsFirmly result (S.state stock.old) (S.state stock.new) }
@@ -279,6 +301,8 @@ fn leave_group<S: Reclaim>(
         (data_blocks (S.state stock.new).memory) (S.counts stock.new)) }
     ensures cut { IsErrOf result NorError.Cut
         → KeepsMap (S.state stock.old).memory (S.state stock.new).memory }
+    ensures firmly { KeepsFirmly result (S.state stock.old) (S.counts stock.old)
+        (S.state stock.new) (S.counts stock.new) }
     ensures table { length table.new ≡ length table.old }
     ensures size { length (S.state stock.new).memory ≡ length (S.state stock.old).memory }
     ensures done { OnOk result ((S.state stock.new ≡ S.state stock.old)
@@ -313,6 +337,12 @@ fn write_ungrouped<S: Reclaim>(
         (S.state stock.new) (S.indexed stock.new)) }
     ensures cut { IsErrOf result NorError.Cut
         → SetLeaves sector content.now (S.state stock.old).memory (S.state stock.new).memory }
+    ensures firmly { GivesTrusted (S.policy stock.old) (S.cursors stock.old) (S.counts stock.old)
+        (S.state stock.old).memory
+        → TrustsReserve (S.policy stock.old) (S.cursors stock.old) (S.counts stock.old)
+        (S.state stock.old).memory
+        → SetsFirmly sector content.now result (S.state stock.old) (S.counts stock.old)
+        (S.state stock.new) (S.counts stock.new) }
     ensures table { length table.new ≡ length table.old }
     ensures size { length (S.state stock.new).memory ≡ length (S.state stock.old).memory }
     ensures ends { EndsFirmly result (S.state stock.old) (S.state stock.new) }
@@ -342,6 +372,8 @@ pub(crate) fn tidy_levelled<S: Reclaim>(
         → (S.state stock.new).memory ≡ (S.state stock.old).memory) }
     ensures cut { IsErrOf result NorError.Cut
         → KeepsMap (S.state stock.old).memory (S.state stock.new).memory }
+    ensures firmly { KeepsFirmly result (S.state stock.old) (S.counts stock.old)
+        (S.state stock.new) (S.counts stock.new) }
     ensures table { length table.new ≡ length table.old }
     ensures size { length (S.state stock.new).memory ≡ length (S.state stock.old).memory }
     ensures ends { EndsFirmly result (S.state stock.old) (S.state stock.new) }
@@ -369,6 +401,8 @@ fn tidy_once<S: Reclaim>(stock: &mut S, table: &mut [LiveSlots]) -> Result<bool,
         → (S.state stock.new).memory ≡ (S.state stock.old).memory) }
     ensures cut { IsErrOf result NorError.Cut
         → KeepsMap (S.state stock.old).memory (S.state stock.new).memory }
+    ensures firmly { KeepsFirmly result (S.state stock.old) (S.counts stock.old)
+        (S.state stock.new) (S.counts stock.new) }
     ensures table { length table.new ≡ length table.old }
     ensures size { length (S.state stock.new).memory ≡ length (S.state stock.old).memory }
     ensures ends { EndsFirmly result (S.state stock.old) (S.state stock.new) }
@@ -398,6 +432,8 @@ pub(crate) fn tidy_when_short<S: Reclaim>(
         → (S.state stock.new).memory ≡ (S.state stock.old).memory) }
     ensures cut { IsErrOf result NorError.Cut
         → KeepsMap (S.state stock.old).memory (S.state stock.new).memory }
+    ensures firmly { KeepsFirmly result (S.state stock.old) (S.counts stock.old)
+        (S.state stock.new) (S.counts stock.new) }
     ensures table { length table.new ≡ length table.old }
     ensures size { length (S.state stock.new).memory ≡ length (S.state stock.old).memory }
     ensures ends { EndsFirmly result (S.state stock.old) (S.state stock.new) }
@@ -421,6 +457,8 @@ pub(crate) fn clear_levelled<S: Reclaim>(
         (S.indexed stock.new)) }
     ensures cut { IsErrOf result NorError.Cut
         → SetLeaves sector zeros (S.state stock.old).memory (S.state stock.new).memory }
+    ensures firmly { sector_at (S.state stock.old).memory sector ≡ zeros → KeepsFirmly result
+        (S.state stock.old) (S.counts stock.old) (S.state stock.new) (S.counts stock.new) }
     ensures table { length table.new ≡ length table.old }
     ensures size { length (S.state stock.new).memory ≡ length (S.state stock.old).memory }
     ensures ends { EndsFirmly result (S.state stock.old) (S.state stock.new) }
@@ -442,6 +480,8 @@ pub fn clear_firmly<S: Reclaim>(
         (S.indexed stock.new)) }
     ensures cut { IsErrOf result NorError.Cut
         → SetLeaves sector zeros (S.state stock.old).memory (S.state stock.new).memory }
+    ensures firmly { SetsFirmly sector zeros result (S.state stock.old) (S.counts stock.old)
+        (S.state stock.new) (S.counts stock.new) }
     ensures table { length table.new ≡ length table.old }
     ensures size { length (S.state stock.new).memory ≡ length (S.state stock.old).memory }
     ensures ends { EndsFirmly result (S.state stock.old) (S.state stock.new) }
@@ -464,6 +504,8 @@ fn clear_written<S: Reclaim>(
         (S.indexed stock.new)) }
     ensures cut { IsErrOf result NorError.Cut
         → SetLeaves sector zeros (S.state stock.old).memory (S.state stock.new).memory }
+    ensures firmly { SetsFirmly sector zeros result (S.state stock.old) (S.counts stock.old)
+        (S.state stock.new) (S.counts stock.new) }
     ensures table { length table.new ≡ length table.old }
     ensures size { length (S.state stock.new).memory ≡ length (S.state stock.old).memory }
     ensures ends { EndsFirmly result (S.state stock.old) (S.state stock.new) }
@@ -485,6 +527,8 @@ fn clear_ungrouped<S: Reclaim>(
         (S.indexed stock.new)) }
     ensures cut { IsErrOf result NorError.Cut
         → SetLeaves sector zeros (S.state stock.old).memory (S.state stock.new).memory }
+    ensures firmly { sector_at (S.state stock.old).memory sector ≡ zeros → KeepsFirmly result
+        (S.state stock.old) (S.counts stock.old) (S.state stock.new) (S.counts stock.new) }
     ensures table { length table.new ≡ length table.old }
     ensures size { length (S.state stock.new).memory ≡ length (S.state stock.old).memory }
     ensures ends { EndsFirmly result (S.state stock.old) (S.state stock.new) }
@@ -520,6 +564,10 @@ pub(crate) fn rewrite<S: Reclaim>(
     ensures cut { IsErrOf result NorError.Cut
         → IsReplaceable to sector holder (S.state stock.old).memory
         → RewriteLeaves sector content.now (S.state stock.old).memory (S.state stock.new).memory }
+    ensures firmly { IsReplaceable to sector holder (S.state stock.old).memory
+        → TakesSector to (tag_after sector holder) (S.counts stock.old)
+        (bits_in (S.state stock.old)) → SetsFirmly sector content.now result (S.state stock.old)
+        (S.counts stock.old) (S.state stock.new) (S.counts stock.new) }
     ensures slot { IfOk result (λ held. held.slot ≡ to) }
     ensures generation { IfOk result (λ held. held.generation ≡ generation_after holder) }
     ensures indexed { OnOk result (S.indexed stock.new ≡ true) }
@@ -546,6 +594,10 @@ fn add<S: Reclaim>(stock: &mut S, to: u16, sector: u16, content: &[u8]) -> Resul
     ensures cut { IsErrOf result NorError.Cut
         → IsReplaceable to sector None (S.state stock.old).memory
         → RewriteLeaves sector content.now (S.state stock.old).memory (S.state stock.new).memory }
+    ensures firmly { IsReplaceable to sector None (S.state stock.old).memory
+        → TakesSector to (tag_after sector None) (S.counts stock.old)
+        (bits_in (S.state stock.old)) → SetsFirmly sector content.now result (S.state stock.old)
+        (S.counts stock.old) (S.state stock.new) (S.counts stock.new) }
     ensures slot { IfOk result (λ held. held.slot ≡ to) }
     ensures generation { IfOk result (λ held. held.generation ≡ generation_after None) }
     ensures indexed { OnOk result (S.indexed stock.new ≡ true) }
@@ -585,6 +637,10 @@ fn replace_held<S: Reclaim>(
     ensures cut { IsErrOf result NorError.Cut
         → IsReplaceable to sector (Some held) (S.state stock.old).memory
         → RewriteLeaves sector content.now (S.state stock.old).memory (S.state stock.new).memory }
+    ensures firmly { IsReplaceable to sector (Some held) (S.state stock.old).memory
+        → TakesSector to (tag_after sector (Some held)) (S.counts stock.old)
+        (bits_in (S.state stock.old)) → SetsFirmly sector content.now result (S.state stock.old)
+        (S.counts stock.old) (S.state stock.new) (S.counts stock.new) }
     ensures slot { IfOk result (λ now. now.slot ≡ to) }
     ensures generation { IfOk result (λ now. now.generation ≡ generation_after (Some held)) }
     ensures indexed { OnOk result (S.indexed stock.new ≡ true) }

@@ -6,6 +6,7 @@ ghost use Rattle.erase_journal.specs.Steps.{EndsFirmly};
 ghost use Rattle.sector_slots.specs.Blocks.{AreAtRest};
 ghost use Rattle.sector_slots.specs.Slots.{slot_count, data_blocks, kind_at, IsClean};
 ghost use Rattle.sector_stock.specs.Index.{IsStocked, erases_of};
+ghost use Rattle.sector_stock.specs.Losses.{KeepsSuspects};
 ghost use Rattle.sector_stock.specs.declared.policy.Policy.TheVariants as policies;
 
 use erase_journal::RecoverError;
@@ -68,7 +69,7 @@ impl<N: Nor> Stock<N> {
     }
 
     /// From now on slots and blocks are chosen by erases, so that all blocks wear alike; counts
-    /// begin now, and at each `fill`.
+    /// begin now, and at each `fill`. What was suspect is.
     pub fn level_wear(&mut self)
         ensures same { ⟦<Stock<N> as SlotCalls>⟧.state self.new
             ≡ ⟦<Stock<N> as SlotCalls>⟧.state self.old }
@@ -78,6 +79,8 @@ impl<N: Nor> Stock<N> {
         ensures counted { (c : ℕ)
             → c < data_blocks (⟦<Stock<N> as SlotCalls>⟧.state self.new).memory
             → erases_of (⟦<Stock<N> as Reclaim>⟧.counts self.new) c ≡ 0 }
+        ensures suspects { KeepsSuspects (⟦<Stock<N> as Reclaim>⟧.counts self.old)
+            (⟦<Stock<N> as Reclaim>⟧.counts self.new) }
     {
         choose_by_erases(self.blocks.as_mut_slice(), &mut self.at);
     }

@@ -136,6 +136,7 @@ pub(crate) fn follow_copied<S: Reclaim>(
     ensures ok { OnOk result (TableFollows copied table.old table.new (S.state slots.old).memory) }
     ensures size { length table.new ≡ length table.old }
     ensures same { (S.state slots.new).memory ≡ (S.state slots.old).memory }
+    ensures weak { (S.state slots.new).weak ≡ (S.state slots.old).weak }
     ensures index { S.indexed slots.new ≡ S.indexed slots.old }
     ensures policy { S.policy slots.new ≡ S.policy slots.old }
     ensures counted { S.counts slots.new ≡ S.counts slots.old }
@@ -163,6 +164,7 @@ pub(crate) fn follow_block<S: Reclaim>(
     ensures ok { OnOk result (FollowsBlock block table.old table.new (S.state slots.old).memory) }
     ensures size { length table.new ≡ length table.old }
     ensures same { (S.state slots.new).memory ≡ (S.state slots.old).memory }
+    ensures weak { (S.state slots.new).weak ≡ (S.state slots.old).weak }
     ensures index { S.indexed slots.new ≡ S.indexed slots.old }
     ensures policy { S.policy slots.new ≡ S.policy slots.old }
     ensures counted { S.counts slots.new ≡ S.counts slots.old }

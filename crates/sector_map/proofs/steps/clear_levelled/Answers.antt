@@ -3,6 +3,8 @@ use Rattle.std.proofs.lemmas.Result.{err_from_is_err_and}
 use Rattle.sector_slots.specs.Sectors.{zeros}
 use Rattle.sector_map.specs.Maps.{Wrote}
 use Rattle.sector_map.proofs.MapCalls.{wrote-after, leaves-after, after-ok, after-ends}
+use Rattle.std.proofs.Common.{◌∙◌, ◌<◌, subst}
+use Rattle.sector_map.proofs.KeepLosses.{keeps-as, keeps-since}
 use Rattle.sector_map.proofs.steps.clear_levelled.Goals as goal
 
 pub returns-in_err-make_way-clause-cut : goal.returns-in_err-make_way-clause-cut
@@ -25,3 +27,14 @@ returns-clause-cut g c is = leaves-after c.args.sector zeros (g.S.SlotCalls.stat
 
 pub returns-clause-ends : goal.returns-clause-ends
 returns-clause-ends g c = after-ends c.clear_ungrouped.result (g.S.SlotCalls.state c.args.stock.now) (g.S.SlotCalls.state c.make_way.new.stock) (g.S.SlotCalls.state c.clear_ungrouped.new.stock) (inr c.in_ok-make_way.ensures.ends) c.clear_ungrouped.ensures.ends
+
+pub returns-in_err-make_way-clause-firmly : goal.returns-in_err-make_way-clause-firmly
+returns-in_err-make_way-clause-firmly g c zero =
+    keeps-as c.from_residual.result _ (g.S.SlotCalls.state c.args.stock.now) (g.S.SlotCalls.state c.make_way.new.stock) (g.S.Reclaim.counts c.args.stock.now) (g.S.Reclaim.counts c.make_way.new.stock) c.from_residual.ensures.1 c.in_err-make_way.ensures.firmly
+
+pub returns-clause-firmly : goal.returns-clause-firmly
+returns-clause-firmly g c zero h =
+    let keeps = c.in_ok-make_way.ensures.ok.keeps in
+    let low = subst (λ n. c.args.sector < n) c.requires.served.tabled.size c.requires.number in
+    keeps-since c.clear_ungrouped.result (g.S.SlotCalls.state c.args.stock.now) (g.S.SlotCalls.state c.make_way.new.stock) (g.S.SlotCalls.state c.clear_ungrouped.new.stock) (g.S.Reclaim.counts c.args.stock.now) (g.S.Reclaim.counts c.make_way.new.stock) (g.S.Reclaim.counts c.clear_ungrouped.new.stock)
+    c.in_ok-make_way.ensures.firmly keeps (c.clear_ungrouped.ensures.firmly (keeps.sectors h.clean c.args.sector low ∙ zero)) h

@@ -3,6 +3,8 @@ use Rattle.std.proofs.lemmas.Result.{err_from_is_err_and, on_ok_weaker}
 use Rattle.sector_slots.specs.Sectors.{zeros}
 use Rattle.sector_map.proofs.MapCalls.{after-ends}
 use Rattle.sector_map.proofs.Zeroing.{leaves-twice, wrote-twice}
+use Rattle.sector_map.proofs.KeepLosses.{sets-as}
+use Rattle.sector_map.proofs.SetLosses.{keeps-set}
 use Rattle.sector_map.proofs.steps.clear_written.Goals as goal
 
 pub returns-clause-ok : goal.returns-clause-ok
@@ -29,3 +31,15 @@ returns-clause-cut g c is =
 
 pub returns-clause-ends : goal.returns-clause-ends
 returns-clause-ends g c = after-ends c.clear_levelled.result (g.S.SlotCalls.state c.args.stock.now) (g.S.SlotCalls.state c.write_levelled.new.stock) (g.S.SlotCalls.state c.clear_levelled.new.stock) (inr c.in_ok-write_levelled.ensures.ends) c.clear_levelled.ensures.ends
+
+pub returns-in_err-write_levelled-clause-firmly : goal.returns-in_err-write_levelled-clause-firmly
+unfolding zeros
+returns-in_err-write_levelled-clause-firmly g c =
+    sets-as c.args.sector zeros c.from_residual.result _ (g.S.SlotCalls.state c.args.stock.now) (g.S.SlotCalls.state c.write_levelled.new.stock) (g.S.Reclaim.counts c.args.stock.now) (g.S.Reclaim.counts c.write_levelled.new.stock) c.from_residual.ensures.1 c.in_err-write_levelled.ensures.firmly
+
+pub returns-clause-firmly : goal.returns-clause-firmly
+unfolding zeros
+returns-clause-firmly g c =
+    let sets = c.in_ok-write_levelled.ensures.ok.sets in
+    keeps-set c.args.sector zeros c.clear_levelled.result (g.S.SlotCalls.state c.args.stock.now) (g.S.SlotCalls.state c.write_levelled.new.stock) (g.S.SlotCalls.state c.clear_levelled.new.stock) (g.S.Reclaim.counts c.args.stock.now) (g.S.Reclaim.counts c.write_levelled.new.stock) (g.S.Reclaim.counts c.clear_levelled.new.stock)
+    (subst (λ n. c.args.sector < n) c.requires.served.tabled.size c.requires.number) c.in_ok-write_levelled.ensures.firmly sets (λ h. c.clear_levelled.ensures.firmly (sets.there h.clean))

@@ -4,6 +4,7 @@ use Rattle.sector_map.specs.Maps.{KeepsMap, KeptServing}
 use Rattle.sector_map.proofs.MapCalls.{kept-after, keeps-after, after-ok}
 use Rattle.erase_journal.specs.Steps.{SucceedsSettled}
 use Rattle.erase_journal.proofs.Firmly.{firmly-since}
+use Rattle.sector_map.proofs.KeepLosses.{firmly-from, keeps-as, keeps-since, still-stays}
 use Rattle.sector_map.proofs.steps.even_out.Goals as goal
 
 pub returns-in_err-renew_now-clause-cut : goal.returns-in_err-renew_now-clause-cut
@@ -34,3 +35,17 @@ returns-clause-ends g c =
     let s2 = g.S.SlotCalls.state c.renew_soon.new.stock in
     let done = subst (λ z. SucceedsSettled z s1) c.lagging.ensures.state c.in_ok-renew_now.ensures.ends in
     firmly-since c.renew_soon.result s0 s1 s2 done c.renew_soon.ensures.ends
+
+pub returns-in_default-clause-firmly : goal.returns-in_default-clause-firmly
+returns-in_default-clause-firmly g c h = still-stays (g.S.SlotCalls.state c.args.stock.now) (g.S.SlotCalls.state c.lagging.new.self) (g.S.Reclaim.counts c.args.stock.now) (g.S.Reclaim.counts c.lagging.new.self) c.lagging.ensures.state c.lagging.ensures.counted h
+
+pub returns-in_err-renew_now-clause-firmly : goal.returns-in_err-renew_now-clause-firmly
+returns-in_err-renew_now-clause-firmly g c =
+    firmly-from c.from_residual.result (g.S.SlotCalls.state c.args.stock.now) (g.S.SlotCalls.state c.lagging.new.self) (g.S.SlotCalls.state c.renew_now.new.stock) (g.S.Reclaim.counts c.args.stock.now) (g.S.Reclaim.counts c.lagging.new.self) (g.S.Reclaim.counts c.renew_now.new.stock) c.lagging.ensures.state c.lagging.ensures.counted
+    (keeps-as c.from_residual.result _ (g.S.SlotCalls.state c.lagging.new.self) (g.S.SlotCalls.state c.renew_now.new.stock) (g.S.Reclaim.counts c.lagging.new.self) (g.S.Reclaim.counts c.renew_now.new.stock) c.from_residual.ensures.1 c.in_err-renew_now.ensures.firmly)
+
+pub returns-clause-firmly : goal.returns-clause-firmly
+returns-clause-firmly g c =
+    firmly-from c.renew_soon.result (g.S.SlotCalls.state c.args.stock.now) (g.S.SlotCalls.state c.lagging.new.self) (g.S.SlotCalls.state c.renew_soon.new.stock) (g.S.Reclaim.counts c.args.stock.now) (g.S.Reclaim.counts c.lagging.new.self) (g.S.Reclaim.counts c.renew_soon.new.stock) c.lagging.ensures.state c.lagging.ensures.counted
+    (keeps-since c.renew_soon.result (g.S.SlotCalls.state c.lagging.new.self) (g.S.SlotCalls.state c.renew_now.new.stock) (g.S.SlotCalls.state c.renew_soon.new.stock) (g.S.Reclaim.counts c.lagging.new.self) (g.S.Reclaim.counts c.renew_now.new.stock) (g.S.Reclaim.counts c.renew_soon.new.stock)
+    c.in_ok-renew_now.ensures.firmly c.in_ok-renew_now.ensures.ok.keeps c.renew_soon.ensures.firmly)

@@ -1,9 +1,9 @@
-use Rattle.std.proofs.Common.{◌≡◌, ◌-◌, ◌<◌, sym, subst, ap, ◌∙◌, arith, inr}
+use Rattle.std.proofs.Common.{◌≡◌, ◌-◌, ◌<◌, sym, subst, ap, ◌∙◌, arith, inr, refl}
 use Rattle.chip_model.specs.Geometry.{block_count}
 use Rattle.sector_slots.specs.Slots.{data_blocks}
 use Rattle.sector_stock.specs.Index.{AreWithin, erases_of}
 use Rattle.sector_stock.proofs.Even.{even-more}
-use Rattle.std.specs.Prelude.{None, Some, ◌/◌, slice_index_or}
+use Rattle.std.specs.Prelude.{Err, None, Some, ◌/◌, slice_index_or}
 use Rattle.std.proofs.lemmas.Result.{err_from_is_err_and}
 use Rattle.erase_journal.specs.Steps.{RefusesFirmly}
 use Rattle.nor_driver.proofs.CallLaws.{fails-as, fails-of}
@@ -15,6 +15,7 @@ use Rattle.sector_map.specs.declared.table.LiveSlots.TheVariants.{Absent}
 use Rattle.sector_map.proofs.Retiring.{table-holder, single-tabled}
 use Rattle.sector_map.proofs.MapCalls.{served-room, served-converts, served-steps, stays-keeps, same-moved-keeps, stepped, perhaps-after}
 use Rattle.sector_map.proofs.Leaving.{own-absent, own-held, own-converted, group-is_live}
+use Rattle.sector_map.proofs.KeepLosses.{stock-fails, read-fails, read-stays}
 use Rattle.sector_map.proofs.steps.leave_group.Goals as goal
 
 pub returns-in_default-clause-own : goal.returns-in_default-clause-own
@@ -100,3 +101,17 @@ returns-clause-done g c =
     let s1 = g.S.SlotCalls.state c.convert.new.self in
     let s2 = g.S.SlotCalls.state c.follow_copied.new.slots in
     inr (perhaps-after s0 s1 s2 c.in_ok-copied.ensures.ends c.in_ok-follow_copied.ensures.done)
+
+pub returns-in_err-copied-clause-firmly : goal.returns-in_err-copied-clause-firmly
+returns-in_err-copied-clause-firmly g c = stock-fails c.from_residual.result _ (g.S.SlotCalls.state c.args.stock.now) (g.S.SlotCalls.state c.convert.new.self) (g.S.Reclaim.counts c.args.stock.now) (g.S.Reclaim.counts c.convert.new.self) c.from_residual.ensures.1 c.requires.served.store.slots (λ is disk. c.in_err-copied.ensures.cut_bits (ap Err is) disk)
+
+pub returns-in_err-follow_copied-clause-firmly : goal.returns-in_err-follow_copied-clause-firmly
+returns-in_err-follow_copied-clause-firmly g c =
+    let s = c.requires.served in
+    let moved = served-steps c.in_ok-copied.copied (g.S.SlotCalls.state c.args.stock.now) (g.S.SlotCalls.indexed c.args.stock.now) (g.S.SlotCalls.state c.convert.new.self).memory c.args.table.now s (served-converts c.in_ok-copied.copied (g.S.SlotCalls.state c.args.stock.now) (g.S.SlotCalls.indexed c.args.stock.now) (g.S.SlotCalls.state c.convert.new.self).memory c.args.table.now s c.in_ok-copied.ensures.ok) in
+    let keeps = same-moved-keeps (g.S.SlotCalls.state c.args.stock.now) (g.S.SlotCalls.state c.convert.new.self).memory (g.S.SlotCalls.state c.convert.new.self).memory moved refl c.in_ok-copied.ensures.ends.settled s.store.slots in
+    read-fails c.from_residual-in_err-follow_copied.result (g.S.SlotCalls.state c.args.stock.now) (g.S.SlotCalls.state c.convert.new.self) (g.S.SlotCalls.state c.follow_copied.new.slots) (g.S.Reclaim.counts c.args.stock.now) (g.S.Reclaim.counts c.convert.new.self) (g.S.Reclaim.counts c.follow_copied.new.slots) _ c.from_residual-in_err-follow_copied.ensures.1
+    (λ h. c.in_ok-copied.ensures.disk h) moved.blocks keeps c.follow_copied.ensures.same c.follow_copied.ensures.weak
+
+pub returns-clause-firmly : goal.returns-clause-firmly
+returns-clause-firmly g c h = read-stays (g.S.SlotCalls.state c.convert.new.self) (g.S.SlotCalls.state c.follow_copied.new.slots) (g.S.Reclaim.counts c.convert.new.self) (g.S.Reclaim.counts c.follow_copied.new.slots) c.follow_copied.ensures.same c.follow_copied.ensures.weak c.follow_copied.ensures.counted (c.in_ok-copied.ensures.disk h)

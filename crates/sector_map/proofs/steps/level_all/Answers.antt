@@ -2,6 +2,7 @@ use Rattle.std.proofs.lemmas.Result.{err_from_is_err_and}
 use Rattle.sector_map.specs.Maps.{KeptServing}
 use Rattle.sector_map.proofs.MapCalls.{kept-after, keeps-after, after-ok}
 use Rattle.erase_journal.proofs.Firmly.{firmly-since}
+use Rattle.sector_map.proofs.KeepLosses.{keeps-as, keeps-since}
 use Rattle.sector_map.proofs.steps.level_all.Goals as goal
 
 pub returns-in_err-even_out-clause-cut : goal.returns-in_err-even_out-clause-cut
@@ -30,3 +31,11 @@ returns-clause-ends g c =
     let s2 = g.S.SlotCalls.state c.move_if_due.new.stock in
     let done = c.in_ok-even_out.ensures.ends in
     firmly-since c.move_if_due.result s0 s1 s2 done c.move_if_due.ensures.ends
+
+pub returns-in_err-even_out-clause-firmly : goal.returns-in_err-even_out-clause-firmly
+returns-in_err-even_out-clause-firmly g c = keeps-as c.from_residual.result _ (g.S.SlotCalls.state c.args.stock.now) (g.S.SlotCalls.state c.even_out.new.stock) (g.S.Reclaim.counts c.args.stock.now) (g.S.Reclaim.counts c.even_out.new.stock) c.from_residual.ensures.1 c.in_err-even_out.ensures.firmly
+
+pub returns-clause-firmly : goal.returns-clause-firmly
+returns-clause-firmly g c =
+    keeps-since c.move_if_due.result (g.S.SlotCalls.state c.args.stock.now) (g.S.SlotCalls.state c.even_out.new.stock) (g.S.SlotCalls.state c.move_if_due.new.stock) (g.S.Reclaim.counts c.args.stock.now) (g.S.Reclaim.counts c.even_out.new.stock) (g.S.Reclaim.counts c.move_if_due.new.stock)
+    c.in_ok-even_out.ensures.firmly c.in_ok-even_out.ensures.ok.keeps c.move_if_due.ensures.firmly

@@ -3,6 +3,7 @@ use Rattle.sector_map.specs.Maps.{KeptServing}
 use Rattle.sector_map.proofs.MapCalls.{kept-after, keeps-after, after-ok, after-fails, perhaps-after}
 use Rattle.std.proofs.Common.{inr}
 use Rattle.erase_journal.proofs.Firmly.{ends-firm}
+use Rattle.sector_map.proofs.KeepLosses.{keeps-as, keeps-since}
 use Rattle.sector_map.proofs.steps.make_way.Goals as goal
 
 pub returns-in_err-level_all-clause-cut : goal.returns-in_err-level_all-clause-cut
@@ -31,3 +32,11 @@ returns-clause-ends g c =
     let s2 = g.S.SlotCalls.state c.leave_group.new.stock in
     let done = c.in_ok-level_all.ensures.ends in
     ends-firm c.leave_group.result s0 s2 (after-ok c.leave_group.result _ _ (λ h. perhaps-after s0 s1 s2 done h) c.leave_group.ensures.done) (after-fails c.leave_group.result s0 s1 s2 (inr done) c.leave_group.ensures.fails)
+
+pub returns-in_err-level_all-clause-firmly : goal.returns-in_err-level_all-clause-firmly
+returns-in_err-level_all-clause-firmly g c = keeps-as c.from_residual.result _ (g.S.SlotCalls.state c.args.stock.now) (g.S.SlotCalls.state c.level_all.new.stock) (g.S.Reclaim.counts c.args.stock.now) (g.S.Reclaim.counts c.level_all.new.stock) c.from_residual.ensures.1 c.in_err-level_all.ensures.firmly
+
+pub returns-clause-firmly : goal.returns-clause-firmly
+returns-clause-firmly g c =
+    keeps-since c.leave_group.result (g.S.SlotCalls.state c.args.stock.now) (g.S.SlotCalls.state c.level_all.new.stock) (g.S.SlotCalls.state c.leave_group.new.stock) (g.S.Reclaim.counts c.args.stock.now) (g.S.Reclaim.counts c.level_all.new.stock) (g.S.Reclaim.counts c.leave_group.new.stock)
+    c.in_ok-level_all.ensures.firmly c.in_ok-level_all.ensures.ok.keeps c.leave_group.ensures.firmly

@@ -1,4 +1,5 @@
-use Rattle.std.proofs.Common.{◌∙◌, ◌≡◌, ◌-◌, sym, subst, ap}
+use Rattle.std.proofs.Common.{◌∙◌, ◌≡◌, ◌-◌, sym, subst, ap, refl, inr}
+use Rattle.std.specs.Prelude.{Err}
 use Rattle.chip_model.specs.Geometry.{block_count}
 use Rattle.sector_slots.specs.Slots.{data_blocks}
 use Rattle.sector_stock.specs.Index.{AreWithin, erases_of}
@@ -10,8 +11,10 @@ use Rattle.erase_journal.specs.Steps.{SucceedsSettled}
 use Rattle.erase_journal.proofs.Firmly.{refuses-firmly}
 use Rattle.sector_map.proofs.MapCalls.{served-room, stays-keeps, served-steps, served-moves, same-moved-keeps, steps-target, stepped, perhaps-after}
 use Rattle.sector_stock.specs.Takes.{MakesFirm, CountsErase}
+use Rattle.sector_stock.specs.Room.{HasNoneDead}
 use Rattle.sector_stock.proofs.Firming.{firm-none}
 use Rattle.sector_map.proofs.Evening.{firm-kept}
+use Rattle.sector_map.proofs.KeepLosses.{stock-fails, read-fails, read-stays}
 use Rattle.sector_map.proofs.steps.move_if_due.Goals as goal
 
 pub level-requires-clause-room : goal.level-requires-clause-room
@@ -75,3 +78,20 @@ returns-in_ok-follow_copied-in-Some-clause-even g c by =
     subst (λ k. AreWithin 30 k (erases_of (g.S.Reclaim.counts c.follow_copied.new.slots))) (sym n)
     (subst (λ b. AreWithin 30 (data_blocks m) (erases_of b)) (sym c.follow_copied.ensures.counted)
     (even-more 29 c.in-Some.moved.source (data_blocks m) (erases_of (g.S.Reclaim.counts c.args.stock.now)) (erases_of (g.S.Reclaim.counts c.level.new.self)) inside old (subst (λ o. CountsErase (data_blocks m) o (erases_of (g.S.Reclaim.counts c.args.stock.now)) (erases_of (g.S.Reclaim.counts c.level.new.self))) c.in-Some.is c.in_ok-moved.ensures.counted)))
+
+pub returns-in_err-moved-clause-firmly : goal.returns-in_err-moved-clause-firmly
+returns-in_err-moved-clause-firmly g c = stock-fails c.from_residual.result _ (g.S.SlotCalls.state c.args.stock.now) (g.S.SlotCalls.state c.level.new.self) (g.S.Reclaim.counts c.args.stock.now) (g.S.Reclaim.counts c.level.new.self) c.from_residual.ensures.1 c.requires.served.store.slots (λ is disk. c.in_err-moved.ensures.cut_bits (ap Err is) disk)
+
+pub returns-in_err-follow_copied-in-Some-clause-firmly : goal.returns-in_err-follow_copied-in-Some-clause-firmly
+returns-in_err-follow_copied-in-Some-clause-firmly g c =
+    let s = c.requires.served in
+    let moved = served-steps c.in-Some.moved (g.S.SlotCalls.state c.args.stock.now) (g.S.SlotCalls.indexed c.args.stock.now) (g.S.SlotCalls.state c.level.new.self).memory c.args.table.now s (served-moves c.in-Some.moved (g.S.SlotCalls.state c.args.stock.now) (g.S.SlotCalls.indexed c.args.stock.now) (g.S.SlotCalls.state c.level.new.self).memory c.args.table.now s (c.in_ok-moved.ensures.moved c.in-Some.moved c.in-Some.is)) in
+    let keeps = same-moved-keeps (g.S.SlotCalls.state c.args.stock.now) (g.S.SlotCalls.state c.level.new.self).memory (g.S.SlotCalls.state c.level.new.self).memory moved refl c.in_ok-moved.ensures.ends.settled s.store.slots in
+    read-fails c.from_residual-in_err-follow_copied-in-Some.result (g.S.SlotCalls.state c.args.stock.now) (g.S.SlotCalls.state c.level.new.self) (g.S.SlotCalls.state c.follow_copied.new.slots) (g.S.Reclaim.counts c.args.stock.now) (g.S.Reclaim.counts c.level.new.self) (g.S.Reclaim.counts c.follow_copied.new.slots) _ c.from_residual-in_err-follow_copied-in-Some.ensures.1
+    (λ h. c.in_ok-moved.ensures.disk h) moved.blocks keeps c.follow_copied.ensures.same c.follow_copied.ensures.weak
+
+pub returns-in_ok-follow_copied-in-Some-clause-firmly : goal.returns-in_ok-follow_copied-in-Some-clause-firmly
+returns-in_ok-follow_copied-in-Some-clause-firmly g c h = read-stays (g.S.SlotCalls.state c.level.new.self) (g.S.SlotCalls.state c.follow_copied.new.slots) (g.S.Reclaim.counts c.level.new.self) (g.S.Reclaim.counts c.follow_copied.new.slots) c.follow_copied.ensures.same c.follow_copied.ensures.weak c.follow_copied.ensures.counted (c.in_ok-moved.ensures.disk h)
+
+pub returns-in_ok-follow_copied-in-Some-clause-left : goal.returns-in_ok-follow_copied-in-Some-clause-left
+returns-in_ok-follow_copied-in-Some-clause-left g c = inr (subst (λ z. HasNoneDead z → ⊥) (sym c.follow_copied.ensures.same) (c.in_ok-moved.ensures.left c.in-Some.moved c.in-Some.is))

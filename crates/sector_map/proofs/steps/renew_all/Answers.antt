@@ -10,11 +10,14 @@ use Rattle.erase_journal.specs.Steps.{RefusesFirmly}
 use Rattle.nor_driver.proofs.CallLaws.{fails-as}
 use Rattle.erase_journal.specs.Steps.{SucceedsSettled}
 use Rattle.erase_journal.proofs.Firmly.{refuses-firmly}
+use Rattle.nor_driver.specs.State.{bits_in}
+use Rattle.sector_stock.specs.Losses.{IsFirmDiskIn}
+use Rattle.sector_map.proofs.KeepLosses.{keeps-fails}
 use Rattle.sector_map.proofs.steps.renew_all.Goals as goal
 use Rattle.sector_map.proofs.steps.renew_all.Goals.{then-erases-fewest+in_ok-renew_one, else-erases-fewest}
 
 pub loop-block-init : goal.loop-block-init
-loop-block-init g c = record { renewing = renewing-none (erases_of (g.S.Reclaim.counts c.args.stock.now) c.args.least) (data_blocks (g.S.SlotCalls.state c.args.stock.now).memory) c.args.table.now (g.S.SlotCalls.state c.args.stock.now) (g.S.SlotCalls.indexed c.args.stock.now) (g.S.Reclaim.policy c.args.stock.now) (erases_of (g.S.Reclaim.counts c.args.stock.now)) c.requires.served (fewest-of c.args.least (data_blocks (g.S.SlotCalls.state c.args.stock.now).memory) (erases_of (g.S.Reclaim.counts c.args.stock.now)) c.requires.least) }
+loop-block-init g c = record { renewing = renewing-none (erases_of (g.S.Reclaim.counts c.args.stock.now) c.args.least) (data_blocks (g.S.SlotCalls.state c.args.stock.now).memory) c.args.table.now (g.S.SlotCalls.state c.args.stock.now) (g.S.SlotCalls.indexed c.args.stock.now) (g.S.Reclaim.policy c.args.stock.now) (erases_of (g.S.Reclaim.counts c.args.stock.now)) c.requires.served (fewest-of c.args.least (data_blocks (g.S.SlotCalls.state c.args.stock.now).memory) (erases_of (g.S.Reclaim.counts c.args.stock.now)) c.requires.least); firm = λ disk. disk }
 
 pub erases-requires : goal.erases-requires
 erases-requires g c =
@@ -59,6 +62,10 @@ loop-block-preserved g c =
             (renewing-quiet (erases_of (g.S.Reclaim.counts c.args.stock.now) c.args.least) (data_blocks (g.S.SlotCalls.state c.args.stock.now).memory) c.loop-block.block c.args.table.now c.loop-block.table (g.S.SlotCalls.state c.args.stock.now) (g.S.SlotCalls.state c.loop-block.stock) (g.S.SlotCalls.indexed c.loop-block.stock) (g.S.Reclaim.policy c.args.stock.now) (g.S.Reclaim.policy c.loop-block.stock)
             (erases_of (g.S.Reclaim.counts c.args.stock.now)) (erases_of (g.S.Reclaim.counts c.loop-block.stock)) (λ e. w.if-erases-fewest.false (c.erases.ensures ∙ (e ∙ sym c.erases-fewest.ensures))) h))
       ];
+      firm = λ disk. elim c.if-erases-fewest.branch as (λ _. IsFirmDiskIn (bits_in (g.S.SlotCalls.state c.if-erases-fewest.stock)) (g.S.Reclaim.counts c.if-erases-fewest.stock)) [
+        | then-erases-fewest+in_ok-renew_one w ↦ subst (λ z. IsFirmDiskIn (bits_in (g.S.SlotCalls.state z)) (g.S.Reclaim.counts z)) (sym w.stock-is) (w.in_ok-renew_one.ensures.firmly (c.loop-block.invariant.firm disk))
+        | else-erases-fewest w ↦ subst (λ z. IsFirmDiskIn (bits_in (g.S.SlotCalls.state z)) (g.S.Reclaim.counts z)) (sym w.stock-is) (c.loop-block.invariant.firm disk)
+      ];
     }
 
 pub returns-clause-nearer : goal.returns-clause-nearer
@@ -71,3 +78,8 @@ returns-in_err-renew_one-clause-ends g c =
     let s2 = g.S.SlotCalls.state c.renew_one.new.stock in
     fails-as c.from_residual.result _ (λ _. SucceedsSettled s0 s2) (λ e. RefusesFirmly e s0 s2) c.from_residual.ensures.1
     (refuses-firmly _ s0 s1 s2 c.loop-block.invariant.renewing.since c.in_err-renew_one.ensures.ends)
+
+pub returns-in_err-renew_one-clause-firmly : goal.returns-in_err-renew_one-clause-firmly
+returns-in_err-renew_one-clause-firmly g c =
+    keeps-fails c.from_residual.result _ (g.S.SlotCalls.state c.args.stock.now) (g.S.SlotCalls.state c.loop-block.stock) (g.S.SlotCalls.state c.renew_one.new.stock) (g.S.Reclaim.counts c.args.stock.now) (g.S.Reclaim.counts c.loop-block.stock) (g.S.Reclaim.counts c.renew_one.new.stock) c.from_residual.ensures.1
+    c.loop-block.invariant.firm c.loop-block.invariant.renewing.kept.keeps c.in_err-renew_one.ensures.firmly

@@ -12,6 +12,7 @@ use Rattle.sector_map.proofs.MapCalls.{keeps-after, kept-after}
 use Rattle.sector_map.proofs.Evening.{within-next}
 use Rattle.erase_journal.specs.Steps.{RefusesFirmly}
 use Rattle.nor_driver.proofs.CallLaws.{fails-as}
+use Rattle.sector_map.proofs.KeepLosses.{keeps-fails, still-stays}
 use Rattle.sector_map.proofs.steps.renew_now.Goals as goal
 
 pub returns-in_err-renew_all-clause-cut : goal.returns-in_err-renew_all-clause-cut
@@ -43,6 +44,7 @@ loop-round-preserved g c =
           (ap (λ z. data_blocks z.memory) c.lagging.ensures.state) (ap (λ k. block_count k - 4) c.renew_all.ensures.size) (λ x. ap (λ z. erases_of z x) c.lagging.ensures.counted) c.in_ok-renew_all.ensures.nearer old);
       work = omega (arith, less, before, work);
       table = c.renew_all.ensures.table ∙ h.table;
+      firm = λ disk. c.in_ok-renew_all.ensures.firmly (still-stays b (g.S.SlotCalls.state c.lagging.new.self) (g.S.Reclaim.counts c.loop-round.stock) (g.S.Reclaim.counts c.lagging.new.self) c.lagging.ensures.state c.lagging.ensures.counted (h.firm disk));
     }
 
 pub returns-in_err-renew_all-clause-ends : goal.returns-in_err-renew_all-clause-ends
@@ -52,3 +54,13 @@ returns-in_err-renew_all-clause-ends g c =
     let s2 = g.S.SlotCalls.state c.renew_all.new.stock in
     fails-as c.from_residual.result _ (λ _. SucceedsSettled s0 s2) (λ e. RefusesFirmly e s0 s2) c.from_residual.ensures.1
     (refuses-firmly _ s0 s1 s2 (subst (λ z. SucceedsSettled s0 z) (sym c.lagging.ensures.state) c.loop-round.invariant.since) c.in_err-renew_all.ensures.ends)
+
+pub returns-in_default-clause-firmly : goal.returns-in_default-clause-firmly
+returns-in_default-clause-firmly g c h = still-stays (g.S.SlotCalls.state c.loop-round.stock) (g.S.SlotCalls.state c.lagging.new.self) (g.S.Reclaim.counts c.loop-round.stock) (g.S.Reclaim.counts c.lagging.new.self) c.lagging.ensures.state c.lagging.ensures.counted (c.loop-round.invariant.firm h)
+
+pub returns-in_err-renew_all-clause-firmly : goal.returns-in_err-renew_all-clause-firmly
+returns-in_err-renew_all-clause-firmly g c =
+    let kept = c.loop-round.invariant.kept in
+    keeps-fails c.from_residual.result _ (g.S.SlotCalls.state c.args.stock.now) (g.S.SlotCalls.state c.lagging.new.self) (g.S.SlotCalls.state c.renew_all.new.stock) (g.S.Reclaim.counts c.args.stock.now) (g.S.Reclaim.counts c.lagging.new.self) (g.S.Reclaim.counts c.renew_all.new.stock) c.from_residual.ensures.1
+    (λ h. still-stays (g.S.SlotCalls.state c.loop-round.stock) (g.S.SlotCalls.state c.lagging.new.self) (g.S.Reclaim.counts c.loop-round.stock) (g.S.Reclaim.counts c.lagging.new.self) c.lagging.ensures.state c.lagging.ensures.counted (c.loop-round.invariant.firm h))
+    (subst (λ z. KeepsMap (g.S.SlotCalls.state c.args.stock.now).memory z.memory) (sym c.lagging.ensures.state) kept.keeps) c.in_err-renew_all.ensures.firmly

@@ -1,4 +1,5 @@
-use Rattle.std.proofs.Common.{◌∙◌, sym, subst}
+use Rattle.std.proofs.Common.{◌∙◌, sym, subst, ap, refl}
+use Rattle.std.specs.Prelude.{Err}
 use Rattle.std.proofs.lemmas.Result.{err_from_is_err_and}
 use Rattle.erase_journal.specs.Steps.{RefusesFirmly}
 use Rattle.nor_driver.proofs.CallLaws.{fails-as}
@@ -8,6 +9,7 @@ use Rattle.sector_map.proofs.MapCalls.{served-room, stays-keeps, served-steps, s
 use Rattle.sector_slots.specs.Slots.{IsSpareIn}
 use Rattle.sector_map.proofs.Renewal.{renews-erased}
 use Rattle.sector_map.proofs.Evening.{renews-steps, renews-spare, spare-kept}
+use Rattle.sector_map.proofs.KeepLosses.{stock-fails, read-fails, read-stays}
 use Rattle.sector_map.proofs.steps.renew_one.Goals as goal
 
 pub renew-requires-clause-room : goal.renew-requires-clause-room
@@ -73,3 +75,17 @@ returns-in_err-follow_copied-in-Some-clause-ends g c =
     let s2 = g.S.SlotCalls.state c.follow_copied.new.slots in
     fails-as c.from_residual-in_err-follow_copied-in-Some.result _ (λ _. SucceedsSettled s0 s2) (λ e. RefusesFirmly e s0 s2) c.from_residual-in_err-follow_copied-in-Some.ensures.1
     (refuses-firmly _ s0 s1 s2 c.in_ok-copied.ensures.ends c.in_err-follow_copied-in-Some.ensures.fails)
+
+pub returns-in_err-copied-clause-firmly : goal.returns-in_err-copied-clause-firmly
+returns-in_err-copied-clause-firmly g c = stock-fails c.from_residual.result _ (g.S.SlotCalls.state c.args.stock.now) (g.S.SlotCalls.state c.renew.new.self) (g.S.Reclaim.counts c.args.stock.now) (g.S.Reclaim.counts c.renew.new.self) c.from_residual.ensures.1 c.requires.served.store.slots (λ is disk. c.in_err-copied.ensures.cut_bits (ap Err is) disk)
+
+pub returns-in_err-follow_copied-in-Some-clause-firmly : goal.returns-in_err-follow_copied-in-Some-clause-firmly
+returns-in_err-follow_copied-in-Some-clause-firmly g c =
+    let s = c.requires.served in
+    let moved = served-steps c.in-Some.copied (g.S.SlotCalls.state c.args.stock.now) (g.S.SlotCalls.indexed c.args.stock.now) (g.S.SlotCalls.state c.renew.new.self).memory c.args.table.now s (renews-steps c.args.block c.in-Some.copied _ (g.S.SlotCalls.state c.args.stock.now).memory (g.S.SlotCalls.state c.renew.new.self).memory c.in-Some.is c.in_ok-copied.ensures.ok s.blocks s.store.slots) in
+    let keeps = same-moved-keeps (g.S.SlotCalls.state c.args.stock.now) (g.S.SlotCalls.state c.renew.new.self).memory (g.S.SlotCalls.state c.renew.new.self).memory moved refl c.in_ok-copied.ensures.ends.settled s.store.slots in
+    read-fails c.from_residual-in_err-follow_copied-in-Some.result (g.S.SlotCalls.state c.args.stock.now) (g.S.SlotCalls.state c.renew.new.self) (g.S.SlotCalls.state c.follow_copied.new.slots) (g.S.Reclaim.counts c.args.stock.now) (g.S.Reclaim.counts c.renew.new.self) (g.S.Reclaim.counts c.follow_copied.new.slots) _ c.from_residual-in_err-follow_copied-in-Some.ensures.1
+    (λ h. c.in_ok-copied.ensures.disk h) moved.blocks keeps c.follow_copied.ensures.same c.follow_copied.ensures.weak
+
+pub returns-in_ok-follow_copied-in-Some-clause-firmly : goal.returns-in_ok-follow_copied-in-Some-clause-firmly
+returns-in_ok-follow_copied-in-Some-clause-firmly g c h = read-stays (g.S.SlotCalls.state c.renew.new.self) (g.S.SlotCalls.state c.follow_copied.new.slots) (g.S.Reclaim.counts c.renew.new.self) (g.S.Reclaim.counts c.follow_copied.new.slots) c.follow_copied.ensures.same c.follow_copied.ensures.weak c.follow_copied.ensures.counted (c.in_ok-copied.ensures.disk h)

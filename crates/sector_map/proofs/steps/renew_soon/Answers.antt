@@ -5,6 +5,7 @@ use Rattle.sector_stock.specs.Index.{erases_of}
 use Rattle.sector_stock.specs.Takes.{IsErasedOnce}
 use Rattle.sector_map.specs.Maps.{IsEven}
 use Rattle.sector_map.proofs.Evening.{ok-both, even-renewed}
+use Rattle.sector_map.proofs.KeepLosses.{firmly-from, still-stays}
 use Rattle.sector_map.proofs.steps.renew_soon.Goals as goal
 
 pub returns-in-Some-clause-even : goal.returns-in-Some-clause-even
@@ -22,3 +23,9 @@ returns-in-Some-clause-even g c =
     (subst (λ k. IsErasedOnce k c.in-Some.block old new) e (subst (λ b. IsErasedOnce before c.in-Some.block (erases_of b) new) c.lagging.ensures.counted once))
     (c.requires.even (sym (same ∙ c.lagging.ensures.policy) ∙ by)))
     c.renew_one.ensures.counted c.renew_one.ensures.policy
+
+pub returns-in-Some-clause-firmly : goal.returns-in-Some-clause-firmly
+returns-in-Some-clause-firmly g c = firmly-from c.renew_one.result (g.S.SlotCalls.state c.args.stock.now) (g.S.SlotCalls.state c.lagging.new.self) (g.S.SlotCalls.state c.renew_one.new.stock) (g.S.Reclaim.counts c.args.stock.now) (g.S.Reclaim.counts c.lagging.new.self) (g.S.Reclaim.counts c.renew_one.new.stock) c.lagging.ensures.state c.lagging.ensures.counted c.renew_one.ensures.firmly
+
+pub returns-in-None-clause-firmly : goal.returns-in-None-clause-firmly
+returns-in-None-clause-firmly g c h = still-stays (g.S.SlotCalls.state c.args.stock.now) (g.S.SlotCalls.state c.lagging.new.self) (g.S.Reclaim.counts c.args.stock.now) (g.S.Reclaim.counts c.lagging.new.self) c.lagging.ensures.state c.lagging.ensures.counted h

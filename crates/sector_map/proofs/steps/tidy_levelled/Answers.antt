@@ -11,6 +11,7 @@ use Rattle.nor_driver.proofs.CallLaws.{fails-as}
 use Rattle.erase_journal.specs.Steps.{SucceedsSettled}
 use Rattle.erase_journal.proofs.SettledLaws.{settled-after}
 use Rattle.erase_journal.proofs.Firmly.{refuses-firmly}
+use Rattle.sector_map.proofs.KeepLosses.{firmly-from, keeps-as, keeps-fails, still-stays}
 use Rattle.sector_map.proofs.steps.tidy_levelled.Goals as goal
 
 pub returns-then-not-has_work-clause-none : goal.returns-then-not-has_work-clause-none
@@ -55,3 +56,21 @@ returns-clause-ends g c =
     let s2 = g.S.SlotCalls.state c.tidy_once.new.stock in
     let done = subst (λ z. SucceedsSettled z s1) c.has_work.ensures.state c.in_ok-level_all.ensures.ends in
     settled-after s0 s1 s2 done c.in_ok-tidy_once.ensures.ends
+
+pub returns-then-not-has_work-clause-firmly : goal.returns-then-not-has_work-clause-firmly
+returns-then-not-has_work-clause-firmly g c h = still-stays (g.S.SlotCalls.state c.args.stock.now) (g.S.SlotCalls.state c.has_work.new.self) (g.S.Reclaim.counts c.args.stock.now) (g.S.Reclaim.counts c.has_work.new.self) c.has_work.ensures.state c.has_work.ensures.counted h
+
+pub returns-in_err-level_all-clause-firmly : goal.returns-in_err-level_all-clause-firmly
+returns-in_err-level_all-clause-firmly g c =
+    firmly-from c.from_residual.result (g.S.SlotCalls.state c.args.stock.now) (g.S.SlotCalls.state c.has_work.new.self) (g.S.SlotCalls.state c.level_all.new.stock) (g.S.Reclaim.counts c.args.stock.now) (g.S.Reclaim.counts c.has_work.new.self) (g.S.Reclaim.counts c.level_all.new.stock) c.has_work.ensures.state c.has_work.ensures.counted
+    (keeps-as c.from_residual.result _ (g.S.SlotCalls.state c.has_work.new.self) (g.S.SlotCalls.state c.level_all.new.stock) (g.S.Reclaim.counts c.has_work.new.self) (g.S.Reclaim.counts c.level_all.new.stock) c.from_residual.ensures.1 c.in_err-level_all.ensures.firmly)
+
+pub returns-in_err-tidy_once-clause-firmly : goal.returns-in_err-tidy_once-clause-firmly
+returns-in_err-tidy_once-clause-firmly g c =
+    firmly-from c.from_residual-in_err-tidy_once.result (g.S.SlotCalls.state c.args.stock.now) (g.S.SlotCalls.state c.has_work.new.self) (g.S.SlotCalls.state c.tidy_once.new.stock) (g.S.Reclaim.counts c.args.stock.now) (g.S.Reclaim.counts c.has_work.new.self) (g.S.Reclaim.counts c.tidy_once.new.stock) c.has_work.ensures.state c.has_work.ensures.counted
+    (keeps-fails c.from_residual-in_err-tidy_once.result _ (g.S.SlotCalls.state c.has_work.new.self) (g.S.SlotCalls.state c.level_all.new.stock) (g.S.SlotCalls.state c.tidy_once.new.stock) (g.S.Reclaim.counts c.has_work.new.self) (g.S.Reclaim.counts c.level_all.new.stock) (g.S.Reclaim.counts c.tidy_once.new.stock) c.from_residual-in_err-tidy_once.ensures.1
+    c.in_ok-level_all.ensures.firmly c.in_ok-level_all.ensures.ok.keeps c.in_err-tidy_once.ensures.firmly)
+
+pub returns-clause-firmly : goal.returns-clause-firmly
+returns-clause-firmly g c h =
+    c.in_ok-tidy_once.ensures.firmly (c.in_ok-level_all.ensures.firmly (still-stays (g.S.SlotCalls.state c.args.stock.now) (g.S.SlotCalls.state c.has_work.new.self) (g.S.Reclaim.counts c.args.stock.now) (g.S.Reclaim.counts c.has_work.new.self) c.has_work.ensures.state c.has_work.ensures.counted h))

@@ -1,4 +1,5 @@
-use Rattle.std.proofs.Common.{◌∙◌, sym, subst}
+use Rattle.std.proofs.Common.{◌∙◌, sym, subst, ap, refl}
+use Rattle.std.specs.Prelude.{Err}
 use Rattle.std.proofs.lemmas.Result.{err_from_is_err_and}
 use Rattle.erase_journal.specs.Steps.{RefusesFirmly}
 use Rattle.nor_driver.proofs.CallLaws.{fails-as}
@@ -8,6 +9,7 @@ use Rattle.sector_map.proofs.MapCalls.{served-room, stays-keeps, served-steps, s
 use Rattle.sector_stock.specs.Takes.{MakesFirm}
 use Rattle.sector_stock.proofs.Firming.{firm-none}
 use Rattle.sector_map.proofs.Evening.{firm-kept}
+use Rattle.sector_map.proofs.KeepLosses.{stock-fails, read-fails, read-stays}
 use Rattle.sector_map.proofs.steps.tidy_once.Goals as goal
 
 pub tidy-requires-clause-room : goal.tidy-requires-clause-room
@@ -66,3 +68,17 @@ returns-in-None-clause-ok g c =
     let a = g.S.SlotCalls.state c.args.stock.now in
     firm-kept a (g.S.SlotCalls.state c.tidy.new.self) c.args.table.now (g.S.SlotCalls.indexed c.args.stock.now) (g.S.SlotCalls.indexed c.tidy.new.self) c.requires.served
     (subst (λ z. MakesFirm a.memory z) (sym ((c.in_ok-copied.ensures.none c.in-None.is).2)) (firm-none a.memory c.requires.served.blocks)) c.in_ok-copied.ensures.ends c.in_ok-copied.ensures.indexed
+
+pub returns-in_err-copied-clause-firmly : goal.returns-in_err-copied-clause-firmly
+returns-in_err-copied-clause-firmly g c = stock-fails c.from_residual.result _ (g.S.SlotCalls.state c.args.stock.now) (g.S.SlotCalls.state c.tidy.new.self) (g.S.Reclaim.counts c.args.stock.now) (g.S.Reclaim.counts c.tidy.new.self) c.from_residual.ensures.1 c.requires.served.store.slots (λ is disk. c.in_err-copied.ensures.cut_bits (ap Err is) disk)
+
+pub returns-in_err-follow_copied-in-Some-clause-firmly : goal.returns-in_err-follow_copied-in-Some-clause-firmly
+returns-in_err-follow_copied-in-Some-clause-firmly g c =
+    let s = c.requires.served in
+    let moved = served-steps c.in-Some.copied (g.S.SlotCalls.state c.args.stock.now) (g.S.SlotCalls.indexed c.args.stock.now) (g.S.SlotCalls.state c.tidy.new.self).memory c.args.table.now s (served-tidies c.in-Some.copied (g.S.SlotCalls.state c.args.stock.now) (g.S.SlotCalls.indexed c.args.stock.now) (g.S.SlotCalls.state c.tidy.new.self).memory c.args.table.now s (c.in_ok-copied.ensures.copied c.in-Some.copied c.in-Some.is)) in
+    let keeps = same-moved-keeps (g.S.SlotCalls.state c.args.stock.now) (g.S.SlotCalls.state c.tidy.new.self).memory (g.S.SlotCalls.state c.tidy.new.self).memory moved refl c.in_ok-copied.ensures.ends.settled s.store.slots in
+    read-fails c.from_residual-in_err-follow_copied-in-Some.result (g.S.SlotCalls.state c.args.stock.now) (g.S.SlotCalls.state c.tidy.new.self) (g.S.SlotCalls.state c.follow_copied.new.slots) (g.S.Reclaim.counts c.args.stock.now) (g.S.Reclaim.counts c.tidy.new.self) (g.S.Reclaim.counts c.follow_copied.new.slots) _ c.from_residual-in_err-follow_copied-in-Some.ensures.1
+    (λ h. c.in_ok-copied.ensures.disk h) moved.blocks keeps c.follow_copied.ensures.same c.follow_copied.ensures.weak
+
+pub returns-in_ok-follow_copied-in-Some-clause-firmly : goal.returns-in_ok-follow_copied-in-Some-clause-firmly
+returns-in_ok-follow_copied-in-Some-clause-firmly g c h = read-stays (g.S.SlotCalls.state c.tidy.new.self) (g.S.SlotCalls.state c.follow_copied.new.slots) (g.S.Reclaim.counts c.tidy.new.self) (g.S.Reclaim.counts c.follow_copied.new.slots) c.follow_copied.ensures.same c.follow_copied.ensures.weak c.follow_copied.ensures.counted (c.in_ok-copied.ensures.disk h)

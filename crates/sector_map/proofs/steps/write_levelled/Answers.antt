@@ -8,6 +8,11 @@ use Rattle.sector_stock.proofs.Copying.{stays-kept}
 use Rattle.sector_map.specs.Maps.{Wrote}
 use Rattle.sector_map.proofs.MapCalls.{served-room, stays-keeps, keeps-after, kept-after, wrote-after, leaves-after, after-ok, after-ends}
 use Rattle.sector_map.proofs.Evening.{firm-kept, firm-own, firm-even}
+use Rattle.std.proofs.Common.{ap}
+use Rattle.std.specs.Prelude.{Err}
+use Rattle.nor_driver.specs.State.{bits_in}
+use Rattle.sector_map.specs.Losses.{before_it}
+use Rattle.sector_map.proofs.KeepLosses.{loses-keeps, sets-as, sets-fails, sets-since}
 use Rattle.sector_map.proofs.steps.write_levelled.Goals as goal
 
 pub returns-in_err-make_way-clause-cut : goal.returns-in_err-make_way-clause-cut
@@ -74,3 +79,24 @@ pub returns-clause-ends : goal.returns-clause-ends
 returns-clause-ends g c =
     after-ends c.write_ungrouped.result (g.S.SlotCalls.state c.args.stock.now) (g.S.SlotCalls.state c.firm_free.new.self) (g.S.SlotCalls.state c.write_ungrouped.new.stock)
     (inr (settled-after (g.S.SlotCalls.state c.args.stock.now) (g.S.SlotCalls.state c.make_way.new.stock) (g.S.SlotCalls.state c.firm_free.new.self) c.in_ok-make_way.ensures.ends c.in_ok-firm_free.ensures.ends)) c.write_ungrouped.ensures.ends
+
+pub returns-in_err-make_way-clause-firmly : goal.returns-in_err-make_way-clause-firmly
+returns-in_err-make_way-clause-firmly g c =
+    sets-as c.args.sector c.args.content.now c.from_residual.result _ (g.S.SlotCalls.state c.args.stock.now) (g.S.SlotCalls.state c.make_way.new.stock) (g.S.Reclaim.counts c.args.stock.now) (g.S.Reclaim.counts c.make_way.new.stock) c.from_residual.ensures.1
+    (λ h cut. before_it (c.in_err-make_way.ensures.firmly h cut))
+
+pub returns-in_err-firm_free-clause-firmly : goal.returns-in_err-firm_free-clause-firmly
+returns-in_err-firm_free-clause-firmly g c =
+    let b = g.S.SlotCalls.state c.make_way.new.stock in
+    let f = g.S.SlotCalls.state c.firm_free.new.self in
+    sets-fails c.args.sector c.args.content.now c.from_residual-in_err-firm_free.result _ (g.S.SlotCalls.state c.args.stock.now) b f (g.S.Reclaim.counts c.args.stock.now) (g.S.Reclaim.counts c.make_way.new.stock) (g.S.Reclaim.counts c.firm_free.new.self) c.from_residual-in_err-firm_free.ensures.1
+    c.in_ok-make_way.ensures.firmly c.in_ok-make_way.ensures.ok.keeps (λ h cut. loses-keeps b.memory (bits_in f) c.in_ok-make_way.ensures.ok.served.store.slots (c.in_err-firm_free.ensures.cut_bits (ap Err cut) h))
+
+pub returns-clause-firmly : goal.returns-clause-firmly
+returns-clause-firmly g c =
+    let a = g.S.SlotCalls.state c.args.stock.now in
+    let b = g.S.SlotCalls.state c.make_way.new.stock in
+    let f = g.S.SlotCalls.state c.firm_free.new.self in
+    let firm = firm-kept b f c.make_way.new.table (g.S.SlotCalls.indexed c.make_way.new.stock) (g.S.SlotCalls.indexed c.firm_free.new.self) c.in_ok-make_way.ensures.ok.served c.in_ok-firm_free.ensures.ok c.in_ok-firm_free.ensures.ends c.in_ok-firm_free.ensures.indexed in
+    sets-since c.args.sector c.args.content.now c.write_ungrouped.result a f (g.S.SlotCalls.state c.write_ungrouped.new.stock) (g.S.Reclaim.counts c.args.stock.now) (g.S.Reclaim.counts c.firm_free.new.self) (g.S.Reclaim.counts c.write_ungrouped.new.stock)
+    (λ h. c.in_ok-firm_free.ensures.disk (c.in_ok-make_way.ensures.firmly h)) (keeps-after a.memory b.memory f.memory c.in_ok-make_way.ensures.ok.keeps firm.keeps) (c.write_ungrouped.ensures.firmly c.in_ok-firm_free.ensures.next c.in_ok-firm_free.ensures.spare)

@@ -12,6 +12,14 @@ use Rattle.sector_map.proofs.Retiring.{succeeds-perhaps, refuses-perhaps}
 use Rattle.sector_map.proofs.Mounting.{perhaps-healthy}
 use Rattle.sector_map.proofs.MapCalls.{served-room, stays-keeps, served-moved, same-moved-keeps, at-slot, slot-held, slot-replaceable, held-number, write-cut, wrote}
 use Rattle.erase_journal.specs.Steps.{EndsFirmly}
+use Rattle.std.proofs.Common.{ap, length, refl}
+use Rattle.std.specs.Prelude.{Err}
+use Rattle.nor_driver.specs.State.{bits_in}
+use Rattle.sector_stock.specs.Losses.{IsFirmDiskIn}
+use Rattle.sector_map.specs.Replace.{tag_after}
+use Rattle.sector_map.proofs.KeepLosses.{loses-keeps, read-cut, read-stays, sets-as, sets-later}
+use Rattle.sector_map.specs.Losses.{before_it}
+use Rattle.sector_map.proofs.SetLosses.{takes-later, takes-sector}
 use Rattle.sector_map.proofs.steps.write_ungrouped.Goals as goal
 
 -- the block into which one was copied is one of the data blocks
@@ -89,3 +97,63 @@ returns-in_err-follow_copied-clause-ends g c =
     subst (λ z. EndsFirmly z (g.S.SlotCalls.state c.args.stock.now) (g.S.SlotCalls.state c.follow_copied.new.slots)) (sym p.1)
     (refuses-firmly p.0 (g.S.SlotCalls.state c.args.stock.now) (g.S.SlotCalls.state c.take_free.new.self) (g.S.SlotCalls.state c.follow_copied.new.slots) c.in_ok-given.ensures.ends
     (subst (λ e. RefusesFirmly e (g.S.SlotCalls.state c.take_free.new.self) (g.S.SlotCalls.state c.follow_copied.new.slots)) (sym p.2) c.in_err-follow_copied.ensures.fails))
+
+pub returns-in_err-given-clause-firmly : goal.returns-in_err-given-clause-firmly
+returns-in_err-given-clause-firmly g c gives trusts =
+    let a = g.S.SlotCalls.state c.args.stock.now in
+    let b = g.S.SlotCalls.state c.take_free.new.self in
+    sets-as c.args.sector c.args.content.now c.from_residual.result _ a b (g.S.Reclaim.counts c.args.stock.now) (g.S.Reclaim.counts c.take_free.new.self) c.from_residual.ensures.1
+    (λ h cut. before_it (loses-keeps a.memory (bits_in b) c.requires.served.store.slots (c.in_err-given.ensures.cut_bits (ap Err cut) h)))
+
+pub returns-in_err-follow_copied-clause-firmly : goal.returns-in_err-follow_copied-clause-firmly
+returns-in_err-follow_copied-clause-firmly g c gives trusts =
+    let a = g.S.SlotCalls.state c.args.stock.now in
+    let b = g.S.SlotCalls.state c.take_free.new.self in
+    let d = g.S.SlotCalls.state c.follow_copied.new.slots in
+    let moved = served-moved c.in_ok-given.given.slot c.in_ok-given.given.copied a (g.S.SlotCalls.indexed c.args.stock.now) b.memory c.args.table.now c.requires.served c.in_ok-given.ensures.ok in
+    let keeps = same-moved-keeps a b.memory b.memory moved refl c.in_ok-given.ensures.ends.settled c.requires.served.store.slots in
+    sets-as c.args.sector c.args.content.now c.from_residual-in_err-follow_copied.result _ a d (g.S.Reclaim.counts c.args.stock.now) (g.S.Reclaim.counts c.follow_copied.new.slots) c.from_residual-in_err-follow_copied.ensures.1
+    (λ h cut. before_it (read-cut a.memory b d (g.S.Reclaim.counts c.take_free.new.self) (c.in_ok-given.ensures.disk h) moved.blocks keeps c.follow_copied.ensures.same c.follow_copied.ensures.weak))
+
+pub returns-in_err-held-clause-firmly : goal.returns-in_err-held-clause-firmly
+returns-in_err-held-clause-firmly g c gives trusts =
+    let a = g.S.SlotCalls.state c.args.stock.now in
+    let b = g.S.SlotCalls.state c.take_free.new.self in
+    let d = g.S.SlotCalls.state c.follow_copied.new.slots in
+    let p = g.S.Reclaim.counts c.args.stock.now in
+    let q = g.S.Reclaim.counts c.take_free.new.self in
+    let s = g.S.Reclaim.counts c.follow_copied.new.slots in
+    let i = g.S.SlotCalls.indexed c.args.stock.now in
+    let w = c.in_ok-given.given.slot in
+    let f = c.follow_copied.ensures in
+    let here = at-slot w c.in_ok-given.given.copied a i b.memory b.memory c.args.table.now c.follow_copied.new.table c.requires.served c.in_ok-given.ensures.ok refl c.in_ok-follow_copied.ensures.ok in
+    let at = at-slot w c.in_ok-given.given.copied a i b.memory d.memory c.args.table.now c.follow_copied.new.table c.requires.served c.in_ok-given.ensures.ok f.same c.in_ok-follow_copied.ensures.ok in
+    let low : c.args.sector < length c.follow_copied.new.table = omega (arith, c.requires.number, f.size) in
+    let was = slot-replaceable w c.args.sector c.follow_copied.new.table a.memory b.memory c.holder-holder.result here c.requires.own low c.holder-holder.ensures in
+    let r = slot-replaceable w c.args.sector c.follow_copied.new.table a.memory d.memory c.holder-holder.result at c.requires.own low c.holder-holder.ensures in
+    let takes = λ (h : IsFirmDiskIn (bits_in a) p). takes-later w (tag_after c.args.sector c.holder-holder.result) b d q s f.same f.weak f.counted
+    (takes-sector w c.args.sector c.holder-holder.result (bits_in b) q was here.low.number c.in_ok-given.ensures.first (c.in_ok-given.ensures.trusted gives) (c.in_ok-given.ensures.spare gives trusts h)) in
+    let e = g.S.SlotCalls.state c.rewrite.new.stock in
+    let keeps = same-moved-keeps a b.memory d.memory here.moved f.same c.in_ok-given.ensures.ends.settled c.requires.served.store.slots in
+    sets-as c.args.sector c.args.content.now c.from_residual-in_err-held.result _ a e p (g.S.Reclaim.counts c.rewrite.new.stock) c.from_residual-in_err-held.ensures.1
+    (λ h cut. sets-later c.args.sector c.args.content.now a.memory d.memory (bits_in e) keeps (c.in_err-held.ensures.firmly r (takes h) (read-stays b d q s f.same f.weak f.counted (c.in_ok-given.ensures.disk h)) cut))
+
+pub returns-clause-firmly : goal.returns-clause-firmly
+returns-clause-firmly g c gives trusts h =
+    let a = g.S.SlotCalls.state c.args.stock.now in
+    let b = g.S.SlotCalls.state c.take_free.new.self in
+    let d = g.S.SlotCalls.state c.follow_copied.new.slots in
+    let p = g.S.Reclaim.counts c.args.stock.now in
+    let q = g.S.Reclaim.counts c.take_free.new.self in
+    let s = g.S.Reclaim.counts c.follow_copied.new.slots in
+    let i = g.S.SlotCalls.indexed c.args.stock.now in
+    let w = c.in_ok-given.given.slot in
+    let f = c.follow_copied.ensures in
+    let here = at-slot w c.in_ok-given.given.copied a i b.memory b.memory c.args.table.now c.follow_copied.new.table c.requires.served c.in_ok-given.ensures.ok refl c.in_ok-follow_copied.ensures.ok in
+    let at = at-slot w c.in_ok-given.given.copied a i b.memory d.memory c.args.table.now c.follow_copied.new.table c.requires.served c.in_ok-given.ensures.ok f.same c.in_ok-follow_copied.ensures.ok in
+    let low : c.args.sector < length c.follow_copied.new.table = omega (arith, c.requires.number, f.size) in
+    let was = slot-replaceable w c.args.sector c.follow_copied.new.table a.memory b.memory c.holder-holder.result here c.requires.own low c.holder-holder.ensures in
+    let r = slot-replaceable w c.args.sector c.follow_copied.new.table a.memory d.memory c.holder-holder.result at c.requires.own low c.holder-holder.ensures in
+    let takes = λ (h : IsFirmDiskIn (bits_in a) p). takes-later w (tag_after c.args.sector c.holder-holder.result) b d q s f.same f.weak f.counted
+    (takes-sector w c.args.sector c.holder-holder.result (bits_in b) q was here.low.number c.in_ok-given.ensures.first (c.in_ok-given.ensures.trusted gives) (c.in_ok-given.ensures.spare gives trusts h)) in
+    c.in_ok-held.ensures.firmly r (takes h) (read-stays b d q s f.same f.weak f.counted (c.in_ok-given.ensures.disk h))

@@ -10,6 +10,9 @@ use Rattle.sector_stock.specs.Index.{AreWithin}
 use Rattle.sector_stock.proofs.Even.{index-even}
 use Rattle.nor_driver.specs.State.{bits_in}
 use Rattle.sector_stock.specs.Index.{IsFirmIn}
+use Rattle.std.proofs.lemmas.Result.{err_from_is_err_and}
+use Rattle.erase_journal.proofs.SettledLaws.{settled-healthy}
+use Rattle.sector_stock.specs.Losses.{IsFirmDiskIn}
 use Rattle.sector_map.proofs.stock.StockReclaim.convert.Goals as goal
 
 pub invariant_of-self-2 : goal.invariant_of-self-2
@@ -50,3 +53,16 @@ returns-clause-firm g c h =
     let blocks = with_items_is s.blocks c.convert_block.new.blocks (size ∙ sym s.blocks.ok.0) in
     let firm = rw c.as_mut_slice-2.ensures.value at c.in_ok-converted.ensures.firm in
     subst (λ ys. IsFirmIn (bits_in c.convert_block.new.slots) ys) (sym blocks) (firm h)
+
+pub returns-clause-disk : goal.returns-clause-disk
+returns-clause-disk g c h =
+    let s = c.args.self.now in
+    let size = rw c.as_mut_slice-2.ensures.value at c.in_ok-converted.ensures.blocks_size in
+    let blocks = with_items_is s.blocks c.convert_block.new.blocks (size ∙ sym s.blocks.ok.0) in
+    let disk = rw c.as_mut_slice-2.ensures.value at c.in_ok-converted.ensures.disk in
+    subst (λ ys. IsFirmDiskIn (bits_in c.convert_block.new.slots) ys) (sym blocks) (disk h)
+
+pub returns-in_err-converted-clause-cut : goal.returns-in_err-converted-clause-cut
+returns-in_err-converted-clause-cut g c is =
+    let p = err_from_is_err_and c.from_residual.result c.from_residual.ensures.1 in
+    c.in_err-converted.ensures.cut (cc (p.1, p.2)) (settled-healthy c.args.self.now.slots.memory c.requires.settled)

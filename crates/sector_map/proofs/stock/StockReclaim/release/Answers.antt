@@ -9,6 +9,9 @@ use Rattle.nor_driver.specs.State.{bits_in}
 use Rattle.sector_stock.specs.Index.{erases_of, IsFirmIn}
 use Rattle.sector_stock.proofs.Trusting.{retired-firm}
 use Rattle.sector_stock.proofs.Worn.{counted-dead}
+use Rattle.std.proofs.lemmas.Result.{err_from_is_err_and}
+use Rattle.sector_stock.specs.Losses.{IsFirmDiskIn}
+use Rattle.sector_map.proofs.SetLosses.{gone-disk, retire-loses}
 use Rattle.sector_map.proofs.stock.StockReclaim.release.Goals as goal
 
 pub mark_dead-requires-clause-room : goal.mark_dead-requires-clause-room
@@ -55,3 +58,21 @@ returns-clause-firm g c h =
     let blocks = with_items_is s.blocks c.mark_dead.new.blocks (marked.block_size ∙ sym s.blocks.ok.0) in
     subst (λ ys. IsFirmIn (bits_in s1) ys) (sym blocks)
     (retired-firm c.args.slot (bits_in s.slots) (bits_in s1) s.states.items c.mark_dead.new.slots s.blocks.items c.mark_dead.new.blocks _ ends.kept.bits s.stocked.blocks_size live.0 (c.in_ok-retire.ensures.ok live) c.in_ok-retire.ensures.for_good c.in_ok-retire.ensures.only marked h)
+
+pub returns-clause-disk : goal.returns-clause-disk
+returns-clause-disk g c h t =
+    let s = c.args.self.now in
+    let s1 = c.retire.new.self in
+    let ends = c.in_ok-retire.ensures.ends in
+    let live = c.requires.live ends.ready in
+    let gone = c.in_ok-retire.ensures.ok live in
+    let marked = rw (c.as_mut_slice.ensures.value, c.as_mut_slice-2.ensures.value) at c.mark_dead.ensures.marked in
+    let blocks = with_items_is s.blocks c.mark_dead.new.blocks (marked.block_size ∙ sym s.blocks.ok.0) in
+    let firm = retired-firm c.args.slot (bits_in s.slots) (bits_in s1) s.states.items c.mark_dead.new.slots s.blocks.items c.mark_dead.new.blocks _ ends.kept.bits s.stocked.blocks_size live.0 gone c.in_ok-retire.ensures.for_good c.in_ok-retire.ensures.only marked h.store in
+    subst (λ ys. IsFirmDiskIn (bits_in s1) ys) (sym blocks)
+    (gone-disk c.args.slot s.slots s1 s.blocks.items h t c.requires.number c.in_ok-retire.ensures.only gone ends c.mark_dead.new.blocks (c.in_ok-retire.ensures.clean live h.clean) firm)
+
+pub returns-in_err-retire-clause-cut_bits : goal.returns-in_err-retire-clause-cut_bits
+returns-in_err-retire-clause-cut_bits g c is h t =
+    let p = err_from_is_err_and c.from_residual.result c.from_residual.ensures.1 in
+    retire-loses c.args.slot (bits_in c.args.self.now.slots) (bits_in c.retire.new.self) c.args.self.now.blocks.items h t c.requires.number (c.in_err-retire.ensures.cut_bits (cc (p.1, p.2)))

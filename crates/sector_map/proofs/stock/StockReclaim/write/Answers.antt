@@ -11,6 +11,8 @@ use Rattle.nor_driver.specs.State.{bits_in}
 use Rattle.sector_stock.specs.Index.{erases_of, IsFirmIn}
 use Rattle.sector_stock.proofs.Trusting.{written-firm}
 use Rattle.sector_stock.proofs.Worn.{counted-live}
+use Rattle.sector_stock.specs.Losses.{IsFirmDiskIn}
+use Rattle.sector_map.proofs.SetLosses.{put-loses, written-disk, written-place}
 use Rattle.sector_map.proofs.stock.StockReclaim.write.Goals as goal
 
 pub returns-in_err-put-clause-cut_live : goal.returns-in_err-put-clause-cut_live
@@ -79,3 +81,23 @@ returns-clause-firm g c trusted h =
     let blocks = with_items_is s.blocks c.mark_written.new.blocks (marked.block_size ∙ sym s.blocks.ok.0) in
     subst (λ ys. IsFirmIn (bits_in s1) ys) (sym blocks)
     (written-firm c.args.slot (bits_in s.slots) (bits_in s1) s.states.items c.mark_written.new.slots s.blocks.items c.mark_written.new.blocks _ ends.kept.bits s.stocked.blocks_size (c.requires.free ends.ready) c.in_ok-put.ensures.only marked trusted h)
+
+pub returns-clause-disk : goal.returns-clause-disk
+returns-clause-disk g c h t =
+    let s = c.args.self.now in
+    let s1 = c.put.new.self in
+    let ends = c.in_ok-put.ensures.ends in
+    let free = c.requires.free ends.ready in
+    let marked = rw (c.as_mut_slice.ensures.value, c.as_mut_slice-2.ensures.value) at c.mark_written.ensures.marked in
+    let blocks = with_items_is s.blocks c.mark_written.new.blocks (marked.block_size ∙ sym s.blocks.ok.0) in
+    let firm = written-firm c.args.slot (bits_in s.slots) (bits_in s1) s.states.items c.mark_written.new.slots s.blocks.items c.mark_written.new.blocks _ ends.kept.bits s.stocked.blocks_size free c.in_ok-put.ensures.only marked t.trusted h.store in
+    subst (λ ys. IsFirmDiskIn (bits_in s1) ys) (sym blocks)
+    (written-disk c.args.slot c.args.tag s.slots s1 s.blocks.items h t ends c.args.content.now c.requires.number free c.in_ok-put.ensures.only (c.in_ok-put.ensures.ok (free, h.clean)) c.mark_written.new.blocks (c.in_ok-put.ensures.clean (free, h.clean)) firm)
+
+pub returns-clause-written : goal.returns-clause-written
+returns-clause-written g c h t = written-place c.args.slot c.args.tag c.args.self.now.slots c.put.new.self c.args.self.now.blocks.items h t c.in_ok-put.ensures.ends
+
+pub returns-in_err-put-clause-cut_bits : goal.returns-in_err-put-clause-cut_bits
+returns-in_err-put-clause-cut_bits g c is h t =
+    let p = err_from_is_err_and c.from_residual.result c.from_residual.ensures.1 in
+    put-loses c.args.slot c.args.tag c.args.content.now (bits_in c.args.self.now.slots) (bits_in c.put.new.self) c.args.self.now.blocks.items t c.requires.size (λ i. omega (arith, c.type_inv.content i)) (c.in_err-put.ensures.cut_bits (cc (p.1, p.2)))
