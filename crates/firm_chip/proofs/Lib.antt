@@ -10,3 +10,5 @@ pub mod FirmJournals
 pub mod Stores
 pub mod HalfDraws
 pub mod Mounts
+pub mod CleanBlocks
+pub mod FitChips

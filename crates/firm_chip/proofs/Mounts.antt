@@ -1,11 +1,11 @@
 -- What later power-ons read of a chip that was mounted firmly.
-use Rattle.std.proofs.Common.{◌≡◌, ◌<◌, ℕ, List, length, true, false, sym, ap, ◌∙◌, subst, arith, inl, inr}
+use Rattle.std.proofs.Common.{◌≡◌, ◌<◌, ◌+◌, ◌-◌, ◌*◌, ℕ, List, length, true, false, sym, ap, ◌∙◌, subst, arith, inl, inr}
 use Rattle.std.specs.Prelude.{◌==◌, ◌&&◌}
 use Rattle.std.specs.Int.{bit_at}
 use Rattle.std.proofs.lemmas.Bool.{cases_eq}
 use Rattle.std.proofs.lemmas.Nat.Bits.{bit_at-lt}
 use Rattle.chip_model.specs.Memory.{byte}
-use Rattle.chip_model.specs.Geometry.{sector_count}
+use Rattle.chip_model.specs.Geometry.{block_count, sector_count}
 use Rattle.chip_model.specs.Wavering.{Bits, Drawn}
 use Rattle.nor_driver.specs.State.{NorState, IsFirmer, bits_in}
 use Rattle.nor_layout.specs.Layouts.{layout_of}
@@ -14,7 +14,10 @@ use Rattle.erase_journal.specs.Weak.{AreFirmJournals}
 use Rattle.erase_journal.proofs.Drawing.{bits_drawn}
 use Rattle.erase_journal.proofs.Draws.{firm-byte, firm-drawn}
 use Rattle.erase_journal.proofs.Losses.{firm-interrupted}
-use Rattle.sector_slots.specs.Weak.{IsDoubtedStore}
+use Rattle.sector_slots.specs.Slots.{data_blocks}
+use Rattle.sector_slots.specs.Losses.{IsFirmDisk}
+use Rattle.sector_slots.specs.Weak.{IsDoubtedStore, block_place, spare}
+use Rattle.sector_slots.proofs.DiskLaws.{single-newer}
 use Rattle.sector_map.specs.Marking.{is_unmarked}
 use Rattle.sector_map.specs.Maps.{Mounted, IsSettledMap, is_layout, geometry_of}
 use Rattle.sector_map.proofs.Marking.{disk-laid}
@@ -69,4 +72,25 @@ fit-again a b later fit mounted settled journals store drawn =
       journals = firm-interrupted (bits_drawn later (bits_in b)) (firm-drawn (bits_in b) later drawn journals);
       store = (doubted-half (bits_in b) later bits settled.journals k.store.slots settled.blocks (k.store.slots.groups.layout two) store drawn).0;
       clean = (same-disk a b later fit mounted settled journals store drawn).clean;
+    }
+
+-- a byte of a data block lies in the memory
+in-chip : (n c k : ℕ) → c < block_count n - 4 → k < 4096 → 4096 * (c + 4) + k < n
+in-chip n c k low small = omega (arith, low, small)
+
+-- It is the disk that the calls keep, with all blocks suspect.
+pub firm-disk : (a b : NorState) → IsFitForFirmMount (bits_in a) → Mounted a b → IsSettledMap b.memory → AreFirmJournals (bits_in b) → IsDoubtedStore (bits_in b) → IsFirmDisk (bits_in b) (λ c. true)
+firm-disk a b fit mounted settled journals store =
+    let k = mounted.keeps in
+    let r = store.room in
+    record {
+      bytes = λ c low i j small high. bit-of (bits_in a) (bits_in b) mounted.kept.bits k.disk.same_length fit.weak (block_place c + i) j (in-chip (length b.memory) c i low small) high;
+      settled = settled.journals;
+      sound = k.store.slots;
+      alone = k.store.slots.groups.layout (still-two a b fit.layout mounted);
+      clean = k.clean fit.clean;
+      newer = single-newer (bits_in b) settled.single;
+      journals = journals;
+      store = store.each;
+      room = spare r.block r.number r.spare r.slots;
     }

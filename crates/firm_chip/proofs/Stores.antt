@@ -54,7 +54,7 @@ first-alone v none =
     omega (arith, half)
 
 -- which blocks count
-not-void : (k : Kind) → k ≢ kinds.Void → is_void k ≡ false
+pub not-void : (k : Kind) → k ≢ kinds.Void → is_void k ≡ false
 not-void kinds.Plain n = refl
 not-void kinds.Void n = absurd (n refl)
 not-void (kinds.Committed source) n = refl
@@ -65,7 +65,7 @@ not-void kinds.SpoiltGroup n = refl
 not-void kinds.Unknown n = refl
 
 -- a free slot that counts is erased
-free-clean : (m : List ℕ) (c i : ℕ) → IsClean m → c < data_blocks m → i < 7 → is_void (kind_at m c) ≡ false → copies (kind_at m) (data_blocks m) c ≡ 0 → raw_slot m c i ≡ Free → content_bytes (data_block m c) i ≡ blank_sector
+pub free-clean : (m : List ℕ) (c i : ℕ) → IsClean m → c < data_blocks m → i < 7 → is_void (kind_at m c) ≡ false → copies (kind_at m) (data_blocks m) c ≡ 0 → raw_slot m c i ≡ Free → content_bytes (data_block m c) i ≡ blank_sector
 free-clean m c i clean low small counts none free =
     let w = 7 * c + i in
     let block : w / 7 ≡ c = omega (arith, small) in

@@ -32,7 +32,7 @@ CompletedAreDrawnThenDone = (op : Operation) (b : Bits) (v : List ℕ) → IsBit
 
 -- the memory is a firm chip's by these weak bits, its journals are healthy, and its slots and
 -- blocks sound
-pub record IsFirmDisk (m w : List ℕ) : Type 0 where
+pub record IsFirmAndSound (m w : List ℕ) : Type 0 where
   pub firm : IsFirmChip m w
   pub journals : IsHealthy m
   pub slots : IsSoundMap m
@@ -42,5 +42,5 @@ pub record IsFirmDisk (m w : List ℕ) : Type 0 where
 abbrev pub LossesLeaveSteadyDisks : Type 0
 LossesLeaveSteadyDisks = (op : Operation) (b new : Bits) (v : List ℕ) → IsBits b → TornBits op b new
     → Drawn new.weak new.shown v
-    → ((t : List ℕ) → TornMemory op b.shown t → IsFirmDisk t b.weak)
+    → ((t : List ℕ) → TornMemory op b.shown t → IsFirmAndSound t b.weak)
     → (t : List ℕ) × ((TornMemory op b.shown t) × (IsSameDisk t v))

@@ -1,6 +1,7 @@
 //! What follows for a firm chip, with no work at run time.
 
 ghost use Rattle.firm_chip.specs.Draws.{EachDrawIsTheSameDisk, FirmJournalsAreOfFirmChips};
+ghost use Rattle.firm_chip.specs.Fit.{LossesLeaveFitChips};
 ghost use Rattle.firm_chip.specs.Losses.{CompletedAreDrawnThenDone, LossesAreDrawnThenTorn};
 ghost use Rattle.firm_chip.specs.Losses.{LossesAreTornThenDrawn, LossesLeaveSteadyDisks};
 ghost use Rattle.firm_chip.specs.Stores.{DoubtedStoresAreHalfAtEachDraw};
@@ -47,4 +48,10 @@ pub fn each_draw_of_a_doubted_store_is_the_same_disk()
 /// What a firm mount leaves of data blocks is, at each later power-on, what the next one needs.
 pub fn doubted_stores_are_half_at_each_draw()
     ensures { DoubtedStoresAreHalfAtEachDraw }
+{}
+
+/// Where the power goes in a change of a firm disk, the chip is fit for the next firm mount,
+/// whatever its weak bits read as then.
+pub fn losses_leave_fit_chips()
+    ensures { LossesLeaveFitChips }
 {}

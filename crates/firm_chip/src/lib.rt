@@ -6,8 +6,9 @@
 //! the power is lost again: that is tested, not proved (docs/POWER.md).
 //!
 //! Promised: `is_firm` answers true only of a firm chip. What `mount_firmly` leaves reads as the
-//! same disk at each later power-on, until a call changes the chip. No crate of the product depends
-//! on this one.
+//! same disk at each later power-on, until a call changes the chip. Where the power goes in a
+//! change of it, the chip is fit for the next firm mount: `losses_leave_fit_chips` says when. No
+//! crate of the product depends on this one.
 //!
 //! Source: own, layout 2 (docs/LAYOUT.md, docs/CHIP.md).
 
@@ -26,6 +27,6 @@ pub use laws::{
     completed_are_drawn_then_done, doubted_stores_are_half_at_each_draw,
     each_draw_is_the_same_disk, each_draw_of_a_doubted_store_is_the_same_disk,
     firm_journals_are_of_firm_chips, losses_are_drawn_then_torn, losses_are_torn_then_drawn,
-    losses_leave_steady_disks,
+    losses_leave_fit_chips, losses_leave_steady_disks,
 };
 pub use mount::mount_firmly;

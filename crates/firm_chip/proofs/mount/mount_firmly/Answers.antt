@@ -1,5 +1,5 @@
 use Rattle.std.proofs.Common.{refl}
-use Rattle.firm_chip.proofs.Mounts.{of-two, read-again, fit-again}
+use Rattle.firm_chip.proofs.Mounts.{of-two, read-again, fit-again, firm-disk}
 use Rattle.firm_chip.proofs.mount.mount_firmly.Goals as goal
 
 pub returns-in-Ok-clause-again : goal.returns-in-Ok-clause-again
@@ -9,3 +9,9 @@ returns-in-Ok-clause-again g c fit later drawn =
     let journals = e.journals refl (of-two a.memory fit.layout) fit.journals in
     let store = e.store refl (of-two a.memory fit.layout) fit.store in
     (read-again a c.in-Ok.map later fit e.ok e.settled journals store drawn, fit-again a c.in-Ok.map later fit e.ok e.settled journals store drawn)
+
+pub returns-in-Ok-clause-disk : goal.returns-in-Ok-clause-disk
+returns-in-Ok-clause-disk g c fit =
+    let e = c.in-Ok.ensures in
+    let a = g.N.Nor.state c.args.nor in
+    firm-disk a c.in-Ok.map fit e.ok e.settled (e.journals refl (of-two a.memory fit.layout) fit.journals) (e.store refl (of-two a.memory fit.layout) fit.store)
