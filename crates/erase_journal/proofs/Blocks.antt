@@ -177,7 +177,7 @@ doomed-plain J0 m h = let p = h.phase in plain-doomed m p.0.0 p.1.0
 doomed-plain J1 m h = let p = h.phase in plain-none m p.4
 doomed-plain J2 m h = let p = h.phase in plain-none m p.4
 
-opened-some : (m : List ℕ) (b : ℕ) → is_opened m b ≡ true → 0 < entries_for m b
+pub opened-some : (m : List ℕ) (b : ℕ) → is_opened m b ≡ true → 0 < entries_for m b
 opened-some m b is = grind (arith, nat_tests)
 
 none-opened : (m : List ℕ) (b : ℕ) → open_blocks m ≡ 0 → is_opened m b ≡ true → ⊥

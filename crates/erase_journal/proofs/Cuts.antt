@@ -152,7 +152,7 @@ module _ (a b : Bits) (h : AreFirmJournals a) (x : JournalId) (doomed : AreJourn
   spoiled : Spoiled (journal_at x) 4096 (read_as v a.weak a.shown) v
   spoiled = erase-drawn a b (journal_at x) 4096 v l w
 
-  still-doomed : AreJournalsSound (Doomed x) v
+  pub still-doomed : AreJournalsSound (Doomed x) v
   still-doomed = (journal-spoiled x (read_as v a.weak a.shown) v (sound-as a h v (Doomed x) doomed) spoiled).0.sound
 
   same-beside : (i : ℕ) → (i < journal_at x) ⊎ (journal_at x + 4096 ≤ i) → (byte v i ≡ byte (read_as v a.weak a.shown) i) × (byte b.weak i ≡ byte a.weak i)

@@ -234,6 +234,14 @@ take-stands m new i block bytes long small free n r l =
     let b = begun-same i m new r small free t.0 t.1 in
     record { healthy = (Idle, b.0); blocks = b.1 }
 
+-- what is open stays open, also where it is cut
+pub take-named : (m new : List ℕ) (i block : ℕ) (bytes : List ℕ) → 16384 ≤ length m → i < 512 → is_free_entry m i ≡ true → Names block bytes → MayTake m
+    → Leaves m (TornAnd m (6144 + 4 * i) bytes) (and_at m (6144 + 4 * i) bytes) new → (b : ℕ) → entries_for new b ≡ entries_for m b
+take-named m new i block bytes long small free n r l =
+    let t = take-leaves m i (byte bytes 1) (byte bytes 2) long small free n.low n.high new
+    (subst (λ b. Leaves m (TornAnd m (6144 + 4 * i) b) (and_at m (6144 + 4 * i) b) new) (spelled block bytes n) l) in
+    (entry-begun i m new r.sound r.lasts small free t.0 t.1).1
+
 pub erased-then : (c : ℕ) (m m1 m2 : List ℕ) → WithErased c m m1 → SameBlocks m1 m2 → 4 ≤ c → c < length m / 4096 → WithErased c m m2
 erased-then c m m1 m2 e s least most = record {
   only = record {

@@ -111,7 +111,7 @@ take-cut a b h long may i block bytes low free lowest names l v w =
     (stands.healthy, taken-leaves a b h long may i block bytes low free lowest names l v w)
 
 -- an entry whose last byte reads FFh isn't used for good
-firm-entry : (a : Bits) (i : ℕ) → AreFirmJournals a → i < 512 → entry_byte a.shown i 3 ≡ 255 → AreFirm a.weak (entry_at i) 4
+pub firm-entry : (a : Bits) (i : ℕ) → AreFirmJournals a → i < 512 → entry_byte a.shown i 3 ≡ 255 → AreFirm a.weak (entry_at i) 4
 firm-entry a i h low last = elim (h.entries i low) [ inl f ↦ f | inr u ↦ absurd (not-unused (entry_byte a.shown i 3) u.bit u.inside u.reads last) ]
 
 -- A taken entry is opened.

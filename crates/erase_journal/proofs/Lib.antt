@@ -35,6 +35,7 @@ pub mod Begun
 pub mod Cuts
 pub mod EntryCuts
 pub mod Standing
+pub mod Unopened
 mod Still
 pub mod Firmly
 pub mod Calls

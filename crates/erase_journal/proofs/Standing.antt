@@ -90,12 +90,12 @@ pub second-region : (x : JournalId) → IsRegion (second_at x)
 unfolding IsRegion
 second-region x = (x, inr refl)
 
-first-end : (x : JournalId) → first_at x + 1024 ≤ 16384
+pub first-end : (x : JournalId) → first_at x + 1024 ≤ 16384
 first-end J0 = omega arith
 first-end J1 = omega arith
 first-end J2 = omega arith
 
-second-end : (x : JournalId) → second_at x + 1024 ≤ 16384
+pub second-end : (x : JournalId) → second_at x + 1024 ≤ 16384
 second-end J0 = omega arith
 second-end J1 = omega arith
 second-end J2 = omega arith

@@ -1,5 +1,5 @@
 -- What a loss of power leaves of the bits of data blocks: in a program, in an erase. Source: own.
-use Rattle.std.specs.Prelude.{◌≡◌, ◌⊎◌, ℕ, ◌+◌, ◌*◌, ◌<◌, ◌≤◌, true, List}
+use Rattle.std.specs.Prelude.{◌≡◌, ◌⊎◌, ℕ, ◌+◌, ◌*◌, ◌<◌, ◌≤◌, true, false, List}
 use Rattle.chip_model.specs.Memory.{byte}
 use Rattle.chip_model.specs.Wavering.{Bits, Drawn}
 use Rattle.nor_driver.specs.State.{Leaves, TornProgramBits, program_bits}
@@ -28,6 +28,14 @@ SameBeside c a b = (i : ℕ) → 4 * block_len ≤ i
 -- was to change is weak, or it is done
 abbrev pub ProgramInterrupted : ℕ → List ℕ → Bits → Bits → Type 0
 ProgramInterrupted at bytes a b = Leaves a (TornProgramBits a at bytes) (program_bits a at bytes) b
+
+-- however the weak bits read at the next power-on, no entry is open
+abbrev pub OpensNone : Bits → Type 0
+OpensNone b = (v : List ℕ) → Drawn b.weak b.shown v → (e : ℕ) → is_opened v e ≡ false
+
+-- none is but for block c
+abbrev pub OpensOnly : ℕ → Bits → Type 0
+OpensOnly c b = (v : List ℕ) → Drawn b.weak b.shown v → (e : ℕ) → is_opened v e ≡ true → e ≡ c
 
 -- An erase of block c that was interrupted: its bits are as they were; or an entry is open for it,
 -- whatever is read at the next power-on, so that it reads as erased; or it is erased, and none of

@@ -11,7 +11,8 @@ ghost use Rattle.erase_journal.specs.Blocks.{SameBlocks, WithErased};
 ghost use Rattle.erase_journal.specs.Scans.{IsFreeAnswer};
 ghost use Rattle.erase_journal.specs.Steps.{IsRestful, IsTaken, IsOpened, EndsSettled, SameNumbers};
 ghost use Rattle.erase_journal.specs.Steps.{KeepsBlocks, EraseInterrupted, LosesFirmly};
-ghost use Rattle.erase_journal.specs.Torn.{BlockInterrupted, SameBeside, SameData};
+ghost use Rattle.erase_journal.specs.Torn.{BlockInterrupted, OpensNone, OpensOnly};
+ghost use Rattle.erase_journal.specs.Torn.{SameBeside, SameData};
 ghost use Rattle.erase_journal.specs.Weak.{AreFirm, AreFirmJournals, AreInterruptedAtEachDraw};
 ghost use Rattle.erase_journal.specs.Spending.{IsUsed, KeepsUse, MayTake, Spends, once_used};
 ghost use Rattle.erase_journal.specs.Known.{IsKnown};
@@ -80,6 +81,8 @@ pub(crate) fn take_entry<N: Nor>(nor: &mut N, entry: u16, block: u16) -> Result<
         → is_free_entry (N.state nor.old).memory k ≡ false)
         → AreFirmJournals (bits_in (N.state nor.old))
         → AreInterruptedAtEachDraw (bits_in (N.state nor.new)) }
+    ensures opens { IsErrOf result NorError.Cut → IsSettled (N.state nor.old).memory
+        → AreFirmJournals (bits_in (N.state nor.old)) → OpensNone (bits_in (N.state nor.new)) }
     ensures data { SameData (bits_in (N.state nor.old)) (bits_in (N.state nor.new)) }
     ensures size { length (N.state nor.new).memory ≡ length (N.state nor.old).memory }
     ensures ends { EndsReady result (N.state nor.old) (N.state nor.new) }
@@ -108,6 +111,9 @@ fn open_entry<N: Nor>(nor: &mut N, known: Known, block: u16) -> Result<u16, NorE
         → OnOk result (AreFirmJournals (bits_in (N.state nor.new))) }
     ensures loses { IsErrOf result NorError.Cut
         → LosesFirmly (N.state nor.old) (N.state nor.new) }
+    ensures opens { IsErrOf result NorError.Cut → IsSettled (N.state nor.old).memory
+        → AreFirmJournals (bits_in (N.state nor.old))
+        → OpensOnly block (bits_in (N.state nor.new)) }
     ensures data { SameData (bits_in (N.state nor.old)) (bits_in (N.state nor.new)) }
     ensures size { length (N.state nor.new).memory ≡ length (N.state nor.old).memory }
     ensures ends { EndsReady result (N.state nor.old) (N.state nor.new) }
@@ -131,6 +137,8 @@ pub(crate) fn finish_entry<N: Nor>(nor: &mut N, entry: u16, block: u16) -> Resul
         → KeepsBlocks (N.state nor.old).memory (N.state nor.new).memory }
     ensures loses { IsErrOf result NorError.Cut → AreFirmJournals (bits_in (N.state nor.old))
         → AreInterruptedAtEachDraw (bits_in (N.state nor.new)) }
+    ensures opens { IsErrOf result NorError.Cut → AreFirmJournals (bits_in (N.state nor.old))
+        → OpensOnly block (bits_in (N.state nor.new)) }
     ensures beside { SameBeside block (bits_in (N.state nor.old)) (bits_in (N.state nor.new)) }
     ensures cut_bits { IsErrOf result NorError.Cut → AreFirmJournals (bits_in (N.state nor.old))
         → BlockInterrupted block (bits_in (N.state nor.old)) (bits_in (N.state nor.new)) }
@@ -160,6 +168,9 @@ fn erase_with_entry<N: Nor>(nor: &mut N, known: &mut Known, block: u16) -> Resul
         → EraseInterrupted block (N.state nor.old).memory (N.state nor.new).memory }
     ensures loses { IsErrOf result NorError.Cut
         → LosesFirmly (N.state nor.old) (N.state nor.new) }
+    ensures opens { IsErrOf result NorError.Cut → IsSettled (N.state nor.old).memory
+        → AreFirmJournals (bits_in (N.state nor.old))
+        → OpensOnly block (bits_in (N.state nor.new)) }
     ensures beside { SameBeside block (bits_in (N.state nor.old)) (bits_in (N.state nor.new)) }
     ensures cut_bits { IsErrOf result NorError.Cut → IsSettled (N.state nor.old).memory
         → AreFirmJournals (bits_in (N.state nor.old))
@@ -193,6 +204,9 @@ pub(crate) fn erase_block<N: Nor>(
         → EraseInterrupted block (N.state nor.old).memory (N.state nor.new).memory }
     ensures loses { IsErrOf result NorError.Cut
         → LosesFirmly (N.state nor.old) (N.state nor.new) }
+    ensures opens { IsErrOf result NorError.Cut → IsSettled (N.state nor.old).memory
+        → AreFirmJournals (bits_in (N.state nor.old))
+        → OpensOnly block (bits_in (N.state nor.new)) }
     ensures beside { SameBeside block (bits_in (N.state nor.old)) (bits_in (N.state nor.new)) }
     ensures cut_bits { IsErrOf result NorError.Cut → IsSettled (N.state nor.old).memory
         → AreFirmJournals (bits_in (N.state nor.old))

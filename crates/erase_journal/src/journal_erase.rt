@@ -8,7 +8,7 @@ ghost use Rattle.erase_journal.specs.Journals.{unused, open_blocks, AreJournalsS
 ghost use Rattle.erase_journal.specs.Journals.{tally_of};
 ghost use Rattle.erase_journal.specs.Blocks.{SameBlocks};
 ghost use Rattle.erase_journal.specs.Steps.{MayErase, IsStep, IsNext, KeepsBlocks};
-ghost use Rattle.erase_journal.specs.Torn.{SameData};
+ghost use Rattle.erase_journal.specs.Torn.{OpensNone, SameData};
 ghost use Rattle.erase_journal.specs.Weak.{AreFirmJournals, AreInterruptedAtEachDraw};
 ghost use Rattle.erase_journal.specs.Weak.{IsFirmJournal};
 
@@ -31,6 +31,8 @@ pub(crate) fn doom<N: Nor>(nor: &mut N, journal: JournalId) -> Result<(), NorErr
         → OnOk result (AreFirmJournals (bits_in (N.state nor.new))) }
     ensures loses { IsErrOf result NorError.Cut → AreFirmJournals (bits_in (N.state nor.old))
         → AreInterruptedAtEachDraw (bits_in (N.state nor.new)) }
+    ensures opens { IsErrOf result NorError.Cut → AreFirmJournals (bits_in (N.state nor.old))
+        → OpensNone (bits_in (N.state nor.new)) }
     ensures data { SameData (bits_in (N.state nor.old)) (bits_in (N.state nor.new)) }
     ensures size { length (N.state nor.new).memory ≡ length (N.state nor.old).memory }
     ensures ends { EndsReady result (N.state nor.old) (N.state nor.new) }
@@ -112,6 +114,8 @@ pub(crate) fn renew<N: Nor>(nor: &mut N, journal: JournalId) -> Result<(), NorEr
         → OnOk result (AreFirmJournals (bits_in (N.state nor.new))) }
     ensures loses { IsErrOf result NorError.Cut → AreFirmJournals (bits_in (N.state nor.old))
         → AreInterruptedAtEachDraw (bits_in (N.state nor.new)) }
+    ensures opens { IsErrOf result NorError.Cut → AreFirmJournals (bits_in (N.state nor.old))
+        → OpensNone (bits_in (N.state nor.new)) }
     ensures data { SameData (bits_in (N.state nor.old)) (bits_in (N.state nor.new)) }
     ensures size { length (N.state nor.new).memory ≡ length (N.state nor.old).memory }
     ensures ends { EndsReady result (N.state nor.old) (N.state nor.new) }

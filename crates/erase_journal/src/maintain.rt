@@ -10,8 +10,9 @@ ghost use Rattle.erase_journal.specs.Known.{IsKnown};
 ghost use Rattle.erase_journal.specs.Spending.{HasSpare, HasVotesToSpare, Maintains, Refills};
 ghost use Rattle.erase_journal.specs.Spending.{RefillsAll, Spares, SparesAll};
 ghost use Rattle.erase_journal.specs.Steps.{IsRestful, KeepsBlocks, LosesFirmly};
-ghost use Rattle.erase_journal.specs.Torn.{SameData};
-ghost use Rattle.erase_journal.specs.Weak.{AreFirmOrFew, AreFirmVotes, InEachRegion, IsFirmJournal};
+ghost use Rattle.erase_journal.specs.Torn.{OpensNone, SameData};
+ghost use Rattle.erase_journal.specs.Weak.{AreFirmJournals, AreFirmOrFew, AreFirmVotes};
+ghost use Rattle.erase_journal.specs.Weak.{InEachRegion, IsFirmJournal};
 
 use crate::journal_erase::{doom, renew};
 use crate::known::Known;
@@ -58,6 +59,8 @@ pub(crate) fn maintain<N: Nor>(nor: &mut N) -> Result<Unused, NorError>
         → KeepsBlocks (N.state nor.old).memory (N.state nor.new).memory }
     ensures loses { IsErrOf result NorError.Cut
         → LosesFirmly (N.state nor.old) (N.state nor.new) }
+    ensures opens { IsErrOf result NorError.Cut → IsSettled (N.state nor.old).memory
+        → AreFirmJournals (bits_in (N.state nor.old)) → OpensNone (bits_in (N.state nor.new)) }
     ensures data { SameData (bits_in (N.state nor.old)) (bits_in (N.state nor.new)) }
     ensures size { length (N.state nor.new).memory ≡ length (N.state nor.old).memory }
     ensures ends { EndsReady result (N.state nor.old) (N.state nor.new) }
@@ -149,6 +152,8 @@ pub(crate) fn rest<N: Nor>(nor: &mut N, known: &mut Known) -> Result<(), NorErro
         ⊎ (N.state nor.new ≡ N.state nor.old)) }
     ensures loses { IsErrOf result NorError.Cut
         → LosesFirmly (N.state nor.old) (N.state nor.new) }
+    ensures opens { IsErrOf result NorError.Cut → IsSettled (N.state nor.old).memory
+        → AreFirmJournals (bits_in (N.state nor.old)) → OpensNone (bits_in (N.state nor.new)) }
     ensures data { SameData (bits_in (N.state nor.old)) (bits_in (N.state nor.new)) }
     ensures size { length (N.state nor.new).memory ≡ length (N.state nor.old).memory }
     ensures kept { OnOk result (OnlyMemoryChanges (N.state nor.old) (N.state nor.new)) }

@@ -11,7 +11,8 @@ ghost use Rattle.erase_journal.specs.Renewal.{RenewsAll};
 ghost use Rattle.erase_journal.specs.Spending.{Maintains};
 ghost use Rattle.erase_journal.specs.Steps.{IsRestful, KeepsBlocks, EndsSettled, LosesFirmly};
 ghost use Rattle.erase_journal.specs.Votes.{once_erased};
-ghost use Rattle.erase_journal.specs.Torn.{SameData};
+ghost use Rattle.erase_journal.specs.Torn.{OpensNone, SameData};
+ghost use Rattle.erase_journal.specs.Weak.{AreFirmJournals};
 ghost use Rattle.nor_driver.specs.State.{bits_in};
 
 use crate::journal_erase::{doom, renew};
@@ -34,6 +35,8 @@ fn renew_one<N: Nor>(nor: &mut N, journal: JournalId) -> Result<Unused, NorError
         → KeepsBlocks (N.state nor.old).memory (N.state nor.new).memory }
     ensures loses { IsErrOf result NorError.Cut
         → LosesFirmly (N.state nor.old) (N.state nor.new) }
+    ensures opens { IsErrOf result NorError.Cut → IsSettled (N.state nor.old).memory
+        → AreFirmJournals (bits_in (N.state nor.old)) → OpensNone (bits_in (N.state nor.new)) }
     ensures data { SameData (bits_in (N.state nor.old)) (bits_in (N.state nor.new)) }
     ensures size { length (N.state nor.new).memory ≡ length (N.state nor.old).memory }
     ensures ends { EndsReady result (N.state nor.old) (N.state nor.new) }
@@ -55,6 +58,8 @@ pub(crate) fn renew_all<N: Nor>(nor: &mut N, known: &mut Known) -> Result<(), No
         → KeepsBlocks (N.state nor.old).memory (N.state nor.new).memory }
     ensures loses { IsErrOf result NorError.Cut
         → LosesFirmly (N.state nor.old) (N.state nor.new) }
+    ensures opens { IsErrOf result NorError.Cut → IsSettled (N.state nor.old).memory
+        → AreFirmJournals (bits_in (N.state nor.old)) → OpensNone (bits_in (N.state nor.new)) }
     ensures data { SameData (bits_in (N.state nor.old)) (bits_in (N.state nor.new)) }
     ensures size { length (N.state nor.new).memory ≡ length (N.state nor.old).memory }
     ensures ends { EndsSettled result (N.state nor.old) (N.state nor.new) }

@@ -13,7 +13,7 @@ use Rattle.sector_slots.specs.Slots.{Slot, counted, data_blocks, is_copy_of, kin
 use Rattle.sector_slots.specs.Sectors.{HasSlotsAlone, HoldsSectors, SlotsRepresent}
 use Rattle.sector_slots.specs.Blocks.{AreAtRest, AreSound, IsAtRest, IsCopying, IsCutTarget, IsUncommitted, copying, crowded, settled}
 use Rattle.sector_slots.specs.Copying.{HoldsNothing}
-use Rattle.sector_slots.specs.Losses.{AreOpenedErasable, IsFirmDisk}
+use Rattle.sector_slots.specs.Losses.{IsFirmDisk}
 use Rattle.sector_slots.specs.Steps.{IsErasable}
 use Rattle.sector_slots.specs.Weak.{HalfMark, HasChipRoom, HasSureRoom, IsHalfChip, IsSureBlock, committed, found, opened, spare, void}
 use Rattle.sector_slots.proofs.AloneLaws.{alone-fit}
@@ -24,6 +24,7 @@ use Rattle.sector_slots.proofs.FadeLaws.{BlockReads, alike, blocks-stand, restin
 use Rattle.sector_slots.proofs.HalfBlocks.{IsAnyPlace, beside-any, drawn-idle}
 use Rattle.sector_slots.proofs.HeadLaws.{committed-plain, marked-slots}
 use Rattle.sector_slots.proofs.LeftLaws.{left-idle, with_loss}
+use Rattle.sector_slots.proofs.UnopenedLaws.{AreOpenedErasable}
 
 -- a block in which nothing was changed
 module _ (a new : Bits) (suspect : ℕ → Bool) (disk : IsFirmDisk a suspect) (size : length new.shown ≡ length a.shown) (v : List ℕ) (d : Drawn new.weak new.shown v) (erasable : AreOpenedErasable a.shown v) (kind : ℕ → Kind) (slots : ℕ → ℕ → Slot) (newer : IsNewerFirm a (counted kind slots (data_blocks a.shown)) (7 * data_blocks a.shown)) where

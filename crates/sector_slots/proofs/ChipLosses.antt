@@ -9,7 +9,7 @@ use Rattle.sector_slots.specs.Half.{IsHalfAtEachDraw}
 use Rattle.sector_slots.specs.Slots.{data_blocks, kind_at, raw_slot}
 use Rattle.sector_slots.specs.Copying.{source_slot}
 use Rattle.sector_slots.specs.Losses.{StepInterrupted, HasWholeSources, IsFirmDisk, IsHalfChipAtEachDraw, LossesLeaveHalfChips, WriteInterrupted, begun, committed, copied, erased, killed, none, retired, settled}
-use Rattle.sector_slots.specs.Weak.{HasChipRoom, IsSureBlock, descriptor_place, mark_place}
+use Rattle.sector_slots.specs.Weak.{HasChipRoom, IsSureBlock, block_place, descriptor_place, mark_place}
 use Rattle.sector_slots.proofs.BlankLaws.{erased-spare}
 use Rattle.sector_slots.proofs.ChipBlocks.{beside-same, copied-whole, disk-known, free-descriptor, free-sector, place-same, put-bytes, put-length, rest-sources, spare-sources, void-sources}
 use Rattle.sector_slots.proofs.ChipRooms.{before-chip, begun-chip, committed-chip, copied-chip, either-chip, opened-chip, other-chip, spare-chip, spare-found}
@@ -19,6 +19,7 @@ use Rattle.sector_slots.proofs.LeftLaws.{not-free-live, program-apart}
 use Rattle.sector_slots.proofs.TornBits.{program-length}
 use Rattle.sector_slots.proofs.TornBlocks.{each-half, put-apart}
 use Rattle.sector_slots.proofs.TornLaws.{erased-is, losses-half}
+use Rattle.sector_slots.proofs.UnopenedLaws.{journals-unopened}
 
 -- Each block is as one interrupted change leaves it, and there is room.
 half-chip : (a new : Bits) → length new.shown ≡ length a.shown → ((e : ℕ) → e < data_blocks a.shown → IsHalfAtEachDraw e new) → ((v : List ℕ) → Drawn new.weak new.shown v → HasChipRoom (record { shown = v; weak = new.weak })) → IsHalfChipAtEachDraw new
@@ -31,6 +32,11 @@ untouched : (a new : Bits) (suspect : ℕ → Bool) → IsFirmDisk a suspect →
 untouched a new suspect disk sources size same = half-chip a new size
     (λ e low. losses-half.others a new (suspect e) e (disk-known a suspect disk sources e low) (disk.store e low) size (same e low))
     (λ v d. before-chip a new suspect disk size v d same disk.room)
+
+-- No bit was changed: nor does an erase go on then.
+pub unchanged : (a new : Bits) (suspect : ℕ → Bool) → IsFirmDisk a suspect → HasWholeSources a.shown → new ≡ a → StepInterrupted a suspect new
+unchanged a new suspect disk sources same = subst (λ (x : Bits). StepInterrupted a suspect x) (sym same)
+    (none sources refl (λ i from. (refl, refl)) (λ v d e. journals-unopened a a refl (λ i low. (refl, refl)) disk.settled disk.journals v d e))
 
 -- One block was changed.
 one-changed : (a new : Bits) (suspect : ℕ → Bool) (c : ℕ) → IsFirmDisk a suspect → HasWholeSources a.shown → length new.shown ≡ length a.shown → ((e : ℕ) → e ≢ c → SameBlock (e + 4) a new) → IsHalfAtEachDraw c new
@@ -51,7 +57,7 @@ trusted-block : (a : Bits) (suspect : ℕ → Bool) (c : ℕ) → IsFirmDisk a s
 trusted-block a suspect c disk low trusted = subst (λ q. IsSureBlock a q c) trusted (disk.store c low)
 
 pub change-half : (a : Bits) (suspect : ℕ → Bool) (new : Bits) → IsFirmDisk a suspect → StepInterrupted a suspect new → IsHalfChipAtEachDraw new
-change-half a suspect new disk (none sources same) = subst (λ (x : Bits). IsHalfChipAtEachDraw x) (sym same) (untouched a a suspect disk sources refl (λ e low k small. (refl, refl)))
+change-half a suspect new disk (none sources size same shut) = untouched a new suspect disk sources size (λ e low k small. same (block_place e + k) (omega arith))
 change-half a suspect new disk (retired c p tag x low within rest live spent l) =
     let sources = rest-sources a.shown rest in
     let size = program-length a new (descriptor_place c p) (248 ∷ []) l in
@@ -92,7 +98,7 @@ change-half a suspect new disk (settled s t low target is free sure l) =
     let same = λ (e : ℕ) (away : e ≢ t). program-apart a new t 4 e (248 ∷ []) (omega arith) away l in
     one-changed a new suspect t disk sources size same (losses-half.settle a new (suspect t) t (s + 4) (disk-known a suspect disk sources t inside) (disk.store t inside) is l)
     (λ v d. spare-chip a new suspect disk size v d s low (same s (committed-source s t (data_blocks a.shown) (kind_at a.shown) target is).1) free sure)
-change-half a suspect new disk (erased c low erasable sources size beside cut) = one-changed a new suspect c disk sources size (λ e other. beside-same a new c e beside other)
+change-half a suspect new disk (erased c low erasable sources size beside cut only) = one-changed a new suspect c disk sources size (λ e other. beside-same a new c e beside other)
     (losses-half.erase a new (suspect c) c low (disk-known a suspect disk sources c low) (disk.store c low) size cut) (λ v d. erase-room a new suspect c disk low size beside cut v d)
 
 pub write-half : (a : Bits) (suspect : ℕ → Bool) (tag : Tag) (content : List ℕ) (new : Bits) → IsFirmDisk a suspect → WriteInterrupted a suspect tag content new → IsHalfChipAtEachDraw new

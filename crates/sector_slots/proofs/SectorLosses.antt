@@ -16,7 +16,7 @@ use Rattle.sector_slots.specs.Slots.{Slot, Free, Live, NoGeneration, Dead, Outsi
 use Rattle.sector_slots.specs.Sectors.{HoldsSectors, IsSingle, LiveAt, SlotsRepresent}
 use Rattle.sector_slots.specs.Blocks.{AreAtRest, IsAtRest, IsCopying, IsTarget, IsUncommitted}
 use Rattle.sector_slots.specs.Copying.{Commits, HoldsNothing, IsCopy, MovesSlots, OnlyData, SameLive, Settles, copy_slot, shifted, source_slot, to_copy}
-use Rattle.sector_slots.specs.Losses.{AreOpenedErasable, IsFirmDisk, IsHalfChipAtEachDraw, IsLowestFreePlace}
+use Rattle.sector_slots.specs.Losses.{IsFirmDisk, IsHalfChipAtEachDraw, IsLowestFreePlace}
 use Rattle.sector_slots.specs.Steps.{IsBegun, IsErasable}
 use Rattle.sector_slots.specs.Torn.{BeginInterrupted, StateInterrupted}
 use Rattle.sector_slots.specs.Weak.{IsSureBlock, descriptor_place, mark_place}
@@ -35,6 +35,7 @@ use Rattle.sector_slots.proofs.MoveLaws.{live-stands, moves-single, moves-stands
 use Rattle.sector_slots.proofs.TornBits.{commit-step, others-left, retire-step, state-kept}
 use Rattle.sector_slots.proofs.TornBlocks.{IsSureLive, free-first, free-firm, sure-live}
 use Rattle.sector_slots.proofs.TornLaws.{erased-is}
+use Rattle.sector_slots.proofs.UnopenedLaws.{AreOpenedErasable}
 
 -- a slot that is neither live nor without a generation holds nothing
 pub slot-idle : (s : Slot) → ((tag : Tag) (x : List ℕ) → s ≢ Live tag x) → s ≢ NoGeneration → HoldsNothing s

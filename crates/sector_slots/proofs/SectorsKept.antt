@@ -1,8 +1,7 @@
 -- A loss of power in a change that keeps the sectors keeps them also at the next power-on, however the weak bits read.
-use Rattle.std.proofs.Common.{◌≡◌, ◌≢◌, ℕ, ◌+◌, ◌*◌, ◌<◌, ◌≤◌, ◌⊎◌, Bool, List, [], ◌∷◌, length, sym, ap, ◌∙◌, arith, inl, inr}
+use Rattle.std.proofs.Common.{◌≡◌, ◌≢◌, ℕ, ◌+◌, ◌*◌, ◌<◌, ◌≤◌, ◌⊎◌, Bool, List, [], ◌∷◌, sym, ap, ◌∙◌, subst, arith, inl, inr}
 use Rattle.std.specs.Prelude.{◌/◌, ◌%◌}
 use Rattle.std.proofs.lemmas.Bool.{true≢false}
-use Rattle.chip_model.specs.Memory.{byte}
 use Rattle.chip_model.specs.Wavering.{Bits, Drawn}
 use Rattle.nor_layout.specs.declared.header.Generation.{Generation}
 use Rattle.nor_layout.specs.declared.header.Tag.{Tag}
@@ -12,7 +11,8 @@ use Rattle.sector_slots.specs.Half.{HasFirmNewer}
 use Rattle.sector_slots.specs.Slots.{Live, data_blocks, kind_at, raw_slot, slot_at, slot_count}
 use Rattle.sector_slots.specs.Sectors.{HoldsSectors, IsSingle, LiveAt, content_in, generation_in, zeros}
 use Rattle.sector_slots.specs.Blocks.{AreAtRest}
-use Rattle.sector_slots.specs.Losses.{AreOpenedErasable, StepInterrupted, IsFirmDisk, LossesKeepSectors, IsErase, begun, committed, copied, erased, killed, none, retired, settled}
+use Rattle.sector_slots.specs.Losses.{StepInterrupted, IsFirmDisk, LossesKeepSectors, begun, committed, copied, erased, killed, none, retired, settled}
+use Rattle.sector_slots.specs.Steps.{IsErasable}
 use Rattle.sector_slots.specs.Torn.{StateInterrupted}
 use Rattle.sector_slots.specs.Weak.{block_place, descriptor_place, mark_place}
 use Rattle.sector_slots.proofs.ChipBlocks.{beside-same, place-same}
@@ -23,8 +23,7 @@ use Rattle.sector_slots.proofs.FadeLaws.{counted-live, IsSpent}
 use Rattle.sector_slots.proofs.LeftLaws.{program-apart}
 use Rattle.sector_slots.proofs.SectorLaws.{never-round}
 use Rattle.sector_slots.proofs.TornBits.{program-length}
-use Rattle.sector_slots.proofs.UnopenedLaws.{journals-unopened, program-unopened}
-use Rattle.nor_driver.specs.State.{as_before as not_begun}
+use Rattle.sector_slots.proofs.UnopenedLaws.{AreOpenedErasable, journals-unopened, program-unopened}
 use Rattle.sector_slots.proofs.WritesKept.{write-hold}
 use Rattle.sector_slots.proofs.SectorLosses.{begin-reads, commit-hold, erase-reads, kill-reads, number_in, one-hold, plain-hold, plain-left, plain-opened, retire-reads, settle-hold, still-void}
 
@@ -99,11 +98,10 @@ retire-hold a suspect new sectors c p tag x disk low within rest live why spent 
     (retire-reads a new suspect disk size half sectors holds v d erasable c p tag x low within rest live spent l)
 
 change-hold : (a : Bits) (suspect : ℕ → Bool) (new : Bits) (sectors : ℕ → List ℕ) → IsFirmDisk a suspect → (change : StepInterrupted a suspect new) → HoldsSectors sectors a.shown → (v : List ℕ) → Drawn new.weak new.shown v → AreOpenedErasable a.shown v → HoldsSectors sectors v
-change-hold a suspect new sectors disk (none sources same) holds v d erasable =
-    let half = change-half a suspect new disk (none sources same) in
-    let size = ap (λ (x : Bits). length x.shown) same in
+change-hold a suspect new sectors disk (none sources size same shut) holds v d erasable =
+    let half = change-half a suspect new disk (none sources size same shut) in
     plain-hold a new suspect disk size half sectors holds v d erasable
-    (λ e low. plain-left a new suspect disk size half sectors holds v d erasable e low (λ k small. (ap (λ (x : Bits). byte x.shown (block_place e + k)) same, ap (λ (x : Bits). byte x.weak (block_place e + k)) same)))
+    (λ e low. plain-left a new suspect disk size half sectors holds v d erasable e low (λ k small. same (block_place e + k) (omega arith)))
 change-hold a suspect new sectors disk (retired c p tag x low within rest live why l) holds v d erasable = retire-hold a suspect new sectors c p tag x disk low within rest live why
     (λ g k y at. elim why as (λ _. IsSpent (slot_at a.shown) (slot_count a.shown) (7 * c + p) g k y) [
       | inl h ↦ newer-spent a suspect disk rest c p tag x within live h g k y at
@@ -133,26 +131,29 @@ change-hold a suspect new sectors disk (settled s t low target is free sure l) h
     let size = program-length a new (mark_place t) (248 ∷ []) l in
     let half = change-half a suspect new disk (settled s t low target is free sure l) in
     settle-hold a new suspect disk size half sectors holds v d erasable s t low target is free l
-change-hold a suspect new sectors disk (erased c low er sources size beside cut) holds v d erasable =
-    let half = change-half a suspect new disk (erased c low er sources size beside cut) in
+change-hold a suspect new sectors disk (erased c low er sources size beside cut only) holds v d erasable =
+    let half = change-half a suspect new disk (erased c low er sources size beside cut only) in
     one-hold a new suspect disk size half sectors holds v d erasable c (λ e other. beside-same a new c e beside other) (erase-reads a new suspect disk size half sectors holds v d erasable c low er cut)
 
 -- No block has an open entry where a program in the data blocks was interrupted.
 program-erasable : (a new : Bits) (suspect : ℕ → Bool) (at : ℕ) (bytes : List ℕ) → IsFirmDisk a suspect → 16384 ≤ at → ProgramInterrupted at bytes a new → (v : List ℕ) → Drawn new.weak new.shown v → AreOpenedErasable a.shown v
 program-erasable a new suspect at bytes disk from l v d e low is = absurd (true≢false (sym is ∙ program-unopened a new at bytes from disk.settled disk.journals l v d (e + 4)))
 
-change-erasable : (a : Bits) (suspect : ℕ → Bool) (new : Bits) → IsFirmDisk a suspect → (change : StepInterrupted a suspect new) → (v : List ℕ) → Drawn new.weak new.shown v → (IsErase a suspect new change → AreOpenedErasable a.shown v) → AreOpenedErasable a.shown v
-change-erasable a suspect new disk (none sources same) v d may = program-erasable a new suspect 16384 [] disk (omega arith) (not_begun same) v d
-change-erasable a suspect new disk (retired c p tag x low within rest live why l) v d may = program-erasable a new suspect (descriptor_place c p) (248 ∷ []) disk (omega arith) l v d
-change-erasable a suspect new disk (killed c p rest free part l) v d may = program-erasable a new suspect (descriptor_place c p) (251 ∷ []) disk (omega arith) l v d
-change-erasable a suspect new disk (begun t low rest is trusted call) v d may = program-erasable a new suspect (mark_place t) call.mark disk (omega arith) call.program v d
-change-erasable a suspect new disk (copied t p within target is size same) v d may = λ e low is_open. absurd (true≢false (sym is_open ∙ journals-unopened a new size (λ i below. same i (inl (omega (arith, below))) (inl (omega (arith, below)))) disk.settled disk.journals v d (e + 4)))
-change-erasable a suspect new disk (committed s t low other target start copies blank sure single l) v d may = program-erasable a new suspect (mark_place t) (252 ∷ []) disk (omega arith) l v d
-change-erasable a suspect new disk (settled s t low target is free sure l) v d may = program-erasable a new suspect (mark_place t) (248 ∷ []) disk (omega arith) l v d
-change-erasable a suspect new disk (erased c low er sources size beside cut) v d may = may tt
+-- No block has an open entry then but one that is erased.
+pub change-erasable : (a : Bits) (suspect : ℕ → Bool) (new : Bits) → IsFirmDisk a suspect → StepInterrupted a suspect new → (v : List ℕ) → Drawn new.weak new.shown v → AreOpenedErasable a.shown v
+change-erasable a suspect new disk (none sources size same shut) v d = λ e low is_open. absurd (true≢false (sym is_open ∙ shut v d (e + 4)))
+change-erasable a suspect new disk (retired c p tag x low within rest live why l) v d = program-erasable a new suspect (descriptor_place c p) (248 ∷ []) disk (omega arith) l v d
+change-erasable a suspect new disk (killed c p rest free part l) v d = program-erasable a new suspect (descriptor_place c p) (251 ∷ []) disk (omega arith) l v d
+change-erasable a suspect new disk (begun t low rest is trusted call) v d = program-erasable a new suspect (mark_place t) call.mark disk (omega arith) call.program v d
+change-erasable a suspect new disk (copied t p within target is size same) v d = λ e low is_open. absurd (true≢false (sym is_open ∙ journals-unopened a new size (λ i below. same i (inl (omega (arith, below))) (inl (omega (arith, below)))) disk.settled disk.journals v d (e + 4)))
+change-erasable a suspect new disk (committed s t low other target start copies blank sure single l) v d = program-erasable a new suspect (mark_place t) (252 ∷ []) disk (omega arith) l v d
+change-erasable a suspect new disk (settled s t low target is free sure l) v d = program-erasable a new suspect (mark_place t) (248 ∷ []) disk (omega arith) l v d
+change-erasable a suspect new disk (erased c low er sources size beside cut only) v d = λ e inside is_open.
+    let at : e ≡ c = let q = only v d (e + 4) is_open in omega (arith, q) in
+    subst (λ q. IsErasable q a.shown) (sym at) er
 
 pub losses-keep : LossesKeepSectors
 losses-keep = record {
-  change = λ a suspect b sectors disk change holds v d may. change-hold a suspect b sectors disk change holds v d (change-erasable a suspect b disk change v d may);
+  change = λ a suspect b sectors disk change holds v d. change-hold a suspect b sectors disk change holds v d (change-erasable a suspect b disk change v d);
   write = λ a suspect tag content b sectors disk w holds v d. write-hold a b suspect tag content disk w.single w sectors holds v d;
 }

@@ -17,6 +17,12 @@ use Rattle.erase_journal.proofs.Opened.{none-named}
 use Rattle.erase_journal.specs.Weak.{AreFirmJournals}
 use Rattle.erase_journal.proofs.Losses.{program-beside, vote-beside, entries-beside}
 use Rattle.erase_journal.specs.Torn.{SameAt, ProgramInterrupted}
+use Rattle.sector_slots.specs.Slots.{data_blocks}
+use Rattle.sector_slots.specs.Steps.{IsErasable}
+
+-- At the next power-on an erase goes on only of blocks that may be erased.
+abbrev pub AreOpenedErasable : List ℕ → List ℕ → Type 0
+AreOpenedErasable m v = (e : ℕ) → e < data_blocks m → is_opened v (e + 4) ≡ true → IsErasable e m
 
 -- A program in the data blocks of a chip with firm journals was interrupted: at no draw a block has an open entry.
 pub journals-beside : (a b : Bits) → ((i : ℕ) → i < 16384 → SameAt a b i) → AreFirmJournals a → AreFirmJournals b

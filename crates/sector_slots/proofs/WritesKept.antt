@@ -13,7 +13,7 @@ use Rattle.sector_slots.specs.Half.{IsKnownBlock}
 use Rattle.sector_slots.specs.Slots.{Slot, Free, Live, Dead, counted, data_blocks, kind_at, raw_slot}
 use Rattle.sector_slots.specs.Sectors.{HoldsSectors, IsSingle, LiveAt, OthersKept, generation_in, with_sector}
 use Rattle.sector_slots.specs.Copying.{HoldsNothing}
-use Rattle.sector_slots.specs.Losses.{AreOpenedErasable, IsFirmDisk, IsHalfChipAtEachDraw, WriteInterrupted}
+use Rattle.sector_slots.specs.Losses.{IsFirmDisk, IsHalfChipAtEachDraw, WriteInterrupted}
 use Rattle.sector_slots.specs.Weak.{IsSureBlock, block_place, descriptor_place}
 use Rattle.sector_slots.proofs.ChipBlocks.{disk-known, free-descriptor, free-sector, put-length, rest-sources}
 use Rattle.sector_slots.proofs.ChipKept.{reads-hold, sound-one, untouched-reads}
@@ -27,6 +27,7 @@ use Rattle.sector_slots.proofs.PutLosses.{put-place, put-slot, put-unopened}
 use Rattle.sector_slots.proofs.SectorLaws.{moved-back, next-of, put-done}
 use Rattle.sector_slots.proofs.SectorLosses.{number_in, one-hold, plain-idle}
 use Rattle.sector_slots.proofs.TornBlocks.{BesidePlace, place-edges, place-mark, place-slot, put-apart, sure-free, trusted-slot}
+use Rattle.sector_slots.proofs.UnopenedLaws.{AreOpenedErasable}
 
 -- One slot is another.
 abbrev with_slot : (ℕ → ℕ → Slot) → ℕ → Slot → ℕ → ℕ → Slot

@@ -11,3 +11,4 @@ pub mod Weak
 pub mod Torn
 pub mod Half
 pub mod Losses
+pub mod Fit

@@ -1,6 +1,6 @@
 -- What a loss of power leaves of a chip of slots that a firm mount left: the state before the
 -- change that it interrupted, and that change. Source: own, layout 2.
-use Rattle.std.specs.Prelude.{◌≡◌, ◌≢◌, ◌⊎◌, ℕ, ◌+◌, ◌/◌, ◌%◌, ◌<◌, Bool, true, false, List}
+use Rattle.std.specs.Prelude.{◌≡◌, ◌≢◌, ◌⊎◌, ℕ, ◌+◌, ◌/◌, ◌%◌, ◌<◌, Bool, false, List}
 use Rattle.std.specs.Prelude.{length}
 use Rattle.chip_model.specs.Memory.{byte}
 use Rattle.chip_model.specs.Geometry.{sector_count}
@@ -10,11 +10,10 @@ use Rattle.nor_layout.specs.declared.header.Tag.{Tag}
 use Rattle.nor_layout.specs.declared.kind.Kind.TheVariants as kinds
 use Rattle.nor_layout.specs.Headers.{next_generation}
 use Rattle.erase_journal.specs.Journals.{IsSettled}
-use Rattle.erase_journal.specs.Torn.{BlockInterrupted, SameBeside}
+use Rattle.erase_journal.specs.Torn.{BlockInterrupted, OpensNone, OpensOnly, SameBeside, SameData}
 use Rattle.erase_journal.specs.Weak.{AreFirm, AreFirmJournals}
 use Rattle.sector_slots.specs.Slots.{Free, Live, NoGeneration, IsClean, IsSpareIn, data_blocks}
 use Rattle.sector_slots.specs.Slots.{kind_at, raw_slot, slot_at, slot_count}
-use Rattle.erase_journal.specs.Blocks.{is_opened}
 use Rattle.sector_slots.specs.Sectors.{HasSlotsAlone, HoldsSectors, IsSingle, IsSoundMap, LiveAt}
 use Rattle.sector_slots.specs.Sectors.{NextGeneration, with_sector, zeros}
 use Rattle.sector_slots.specs.Blocks.{AreAtRest, IsTarget}
@@ -72,12 +71,14 @@ abbrev pub HasWholeSources : List ℕ → Type 0
 HasWholeSources m = (s t i : ℕ) → s < data_blocks m → t < data_blocks m
     → kind_at m t ≡ kinds.Committed (s + 4) → i < 7 → raw_slot m s i ≢ NoGeneration
 
--- A change that keeps the sectors, and that a loss of power interrupted: none; a live slot was
--- retired of whose sector a newer slot is firm, or that is the only one of its sector and holds
--- zeros; the lowest free slot of a block that isn't wholly free was killed; or it was a step of a
--- copying of block s into block t, or the erase of a block none of whose slots counts as live.
+-- A change that keeps the sectors, and that a loss of power interrupted: none of a data block, and
+-- no entry is open then; a live slot was retired of whose sector a newer slot is firm, or that is
+-- the only one of its sector and holds zeros; the lowest free slot of a block that isn't wholly
+-- free was killed; or it was a step of a copying of block s into block t, or the erase of a block
+-- none of whose slots counts as live, and then no entry is open for another one.
 pub data StepInterrupted (a : Bits) (suspect : ℕ → Bool) (b : Bits) : Type 0 where
-  none : HasWholeSources a.shown → b ≡ a → StepInterrupted a suspect b
+  none : HasWholeSources a.shown → length b.shown ≡ length a.shown → SameData a b → OpensNone b
+      → StepInterrupted a suspect b
   retired : (c p : ℕ) (tag : Tag) (x : List ℕ) → c < data_blocks a.shown → p < 7
       → AreAtRest (kind_at a.shown) (data_blocks a.shown) → raw_slot a.shown c p ≡ Live tag x
       → HasFirmNewer a tag ⊎ ((x ≡ zeros) × IsSingle a.shown)
@@ -103,7 +104,7 @@ pub data StepInterrupted (a : Bits) (suspect : ℕ → Bool) (b : Bits) : Type 0
       → StateInterrupted (mark_place t) 248 a b → StepInterrupted a suspect b
   erased : (c : ℕ) → c < data_blocks a.shown → IsErasable c a.shown → HasWholeSources a.shown
       → length b.shown ≡ length a.shown → SameBeside (c + 4) a b → BlockInterrupted (c + 4) a b
-      → StepInterrupted a suspect b
+      → OpensOnly (c + 4) b → StepInterrupted a suspect b
 
 -- A write of a sector was interrupted, into the lowest free slot of a block that isn't suspect,
 -- with the next generation; another block is wholly free, and no sector has two live slots.
@@ -135,30 +136,13 @@ pub record LossesLeaveHalfChips : Type 0 where
   pub write : (a : Bits) (suspect : ℕ → Bool) (tag : Tag) (content : List ℕ) (b : Bits)
       → IsFirmDisk a suspect → WriteInterrupted a suspect tag content b → IsHalfChipAtEachDraw b
 
--- At the next power-on an erase goes on only of blocks that may be erased.
-abbrev pub AreOpenedErasable : List ℕ → List ℕ → Type 0
-AreOpenedErasable m v = (e : ℕ) → e < data_blocks m → is_opened v (e + 4) ≡ true → IsErasable e m
-
--- whether the change is an erase
-abbrev pub IsErase : (a : Bits) (suspect : ℕ → Bool) (b : Bits) → StepInterrupted a suspect b
-    → Type 0
-IsErase a suspect b (none sources same) = ⊥
-IsErase a suspect b (retired c p tag x low within rest live spent program) = ⊥
-IsErase a suspect b (killed c p rest free part program) = ⊥
-IsErase a suspect b (begun t low rest is trusted call) = ⊥
-IsErase a suspect b (copied t p within target is size same) = ⊥
-IsErase a suspect b (committed s t low other target start copies blank sure single program) = ⊥
-IsErase a suspect b (settled s t low target is free sure program) = ⊥
-IsErase a suspect b (erased c low erasable sources size beside cut) = Unit {0}
-
 -- An interrupted change keeps the sectors also at the next power-on, however the weak bits read
--- then; of an erase, where the one that goes on then is of a block that may be erased. After an
--- interrupted write all sectors are as before, or the one that was written holds the new content.
+-- then. After an interrupted write all sectors are as before, or the one that was written holds the
+-- new content.
 pub record LossesKeepSectors : Type 0 where
   pub change : (a : Bits) (suspect : ℕ → Bool) (b : Bits) (sectors : ℕ → List ℕ)
-      → IsFirmDisk a suspect → (change : StepInterrupted a suspect b)
-      → HoldsSectors sectors a.shown → (v : List ℕ) → Drawn b.weak b.shown v
-      → (IsErase a suspect b change → AreOpenedErasable a.shown v) → HoldsSectors sectors v
+      → IsFirmDisk a suspect → StepInterrupted a suspect b → HoldsSectors sectors a.shown
+      → (v : List ℕ) → Drawn b.weak b.shown v → HoldsSectors sectors v
   pub write : (a : Bits) (suspect : ℕ → Bool) (tag : Tag) (content : List ℕ) (b : Bits)
       (sectors : ℕ → List ℕ) → IsFirmDisk a suspect
       → WriteInterrupted a suspect tag content b → HoldsSectors sectors a.shown

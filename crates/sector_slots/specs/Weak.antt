@@ -34,6 +34,10 @@ sector_place c i = block_place c + 512 * (i + 1)
 abbrev pub HasByteBits : Bits → ℕ → Type 0
 HasByteBits b c = (k j : ℕ) → k < block_len → 8 ≤ j → bit_at (byte b.weak (block_place c + k)) j ≡ 0
 
+-- so it is of each
+abbrev pub HaveByteBits : Bits → Type 0
+HaveByteBits b = (c : ℕ) → c < data_blocks b.shown → HasByteBits b c
+
 -- no bit of data block c is weak
 abbrev pub IsWhollyFirm : List ℕ → ℕ → Type 0
 IsWhollyFirm w c = AreFirm w (block_place c) block_len
@@ -103,8 +107,10 @@ pub record HasSureSpare (b : Bits) : Type 0 where
   pub spare : IsSpareIn b.shown block
   pub slots : (i : ℕ) → i < 7 → IsSureSlot b block i
 
--- What a firm mount leaves: all blocks are suspect, and one is wholly free and sure.
+-- What a firm mount leaves: all blocks are suspect, one is wholly free and sure, and of each byte
+-- eight bits are weak at most.
 pub record IsDoubtedStore (b : Bits) : Type 0 where
+  pub bytes : HaveByteBits b
   pub each : IsFirmStore b (λ c. true)
   pub room : HasSureSpare b
 

@@ -15,7 +15,7 @@ ghost use Rattle.erase_journal.specs.Journals.{IsHealthy, IsSettled, unused};
 ghost use Rattle.erase_journal.specs.Spending.{Spends};
 ghost use Rattle.erase_journal.specs.Steps.{EraseInterrupted, EndsFirmly, EndsSettled};
 ghost use Rattle.erase_journal.specs.Recovery.{Restored, RestoreFails};
-ghost use Rattle.erase_journal.specs.Torn.{BlockInterrupted, SameBeside};
+ghost use Rattle.erase_journal.specs.Torn.{BlockInterrupted, OpensOnly, SameBeside};
 ghost use Rattle.erase_journal.specs.Weak.{AreFirmJournals};
 ghost use Rattle.sector_slots.specs.Slots.{Free, Live, Dead, slot_at, stored_at, slot_count};
 ghost use Rattle.sector_slots.specs.Slots.{data_blocks, data_block, kind_at, raw_slot};
@@ -293,7 +293,7 @@ pub trait SlotCalls {
     /// a healthy memory, it leaves the block as it was or erased. No bit of an erased block is
     /// weak, and none of another data block changes. Cut on firm journals, it leaves the block's
     /// bits as they were, or an entry open for it however the weak bits read at the next power-on,
-    /// or the block erased and firm.
+    /// or the block erased and firm; and then no entry is open for another block.
     fn erase(&mut self, block: u16) -> Result<(), NorError>
         requires number { block < data_blocks (state self.old).memory }
         requires dead { IsNorReady (state self.old) → IsErasable block (state self.old).memory }
@@ -308,6 +308,9 @@ pub trait SlotCalls {
             → AreFirmJournals (bits_in (state self.old))
             → BlockInterrupted (block + 4) (bits_in (state self.old))
             (bits_in (state self.new)) }
+        ensures opens { IsErrOf result NorError.Cut → IsSettled (state self.old).memory
+            → AreFirmJournals (bits_in (state self.old))
+            → OpensOnly (block + 4) (bits_in (state self.new)) }
         ensures healthy { IsErrOf result NorError.Cut → IsHealthy (state self.old).memory
             → IsHealthy (state self.new).memory }
         ensures spends { OnOk result (Spends (unused (state self.old).memory)

@@ -6,7 +6,7 @@ ghost use Rattle.std.specs.Prelude.{◌≡◌, ◌⊎◌, ◌/◌, ◌%◌, ◌<
 ghost use Rattle.std.specs.Result.{IsErrOf};
 ghost use Rattle.nor_driver.specs.State.{bits_in};
 ghost use Rattle.erase_journal.specs.Blocks.{SameChip, SameBlocks};
-ghost use Rattle.erase_journal.specs.Journals.{IsHealthy, unused};
+ghost use Rattle.erase_journal.specs.Journals.{IsHealthy, IsSettled, unused};
 ghost use Rattle.erase_journal.specs.Renewal.{RenewsAll};
 ghost use Rattle.erase_journal.specs.Steps.{EndsFirmly, KeepsBlocks, EndsSettled};
 ghost use Rattle.erase_journal.specs.Weak.{AreFirmJournals, AreRecoveredJournals, AreZerosFirm};
@@ -14,7 +14,7 @@ ghost use Rattle.sector_slots.specs.Firm.{KeepsHead, HoldsBegun, AreDeadForGood}
 ghost use Rattle.sector_slots.specs.Slots.{Free, Dead, slot_at, slot_count, data_blocks, IsClean};
 ghost use Rattle.sector_slots.specs.Slots.{data_block};
 ghost use Rattle.sector_slots.specs.Steps.{OnlyPlace};
-ghost use Rattle.erase_journal.specs.Torn.{SameData};
+ghost use Rattle.erase_journal.specs.Torn.{OpensNone, SameData};
 ghost use Rattle.sector_slots.specs.Torn.{HeadInterrupted, StateInterrupted};
 ghost use Rattle.sector_slots.specs.Weak.{block_place, descriptor_place, IsDeadForGood};
 
@@ -37,7 +37,8 @@ pub trait FirmCalls: SlotCalls {
         ensures ends { EndsSettled result (Self.state self.old) (Self.state self.new) };
 
     /// Erases each of the three journals, as `Journal::renew_all` does. No bit of a data block
-    /// changes.
+    /// changes. Cut on firm journals, it leaves no entry open, however the weak bits read at the
+    /// next power-on.
     fn renew_journals(&mut self) -> Result<(), NorError>
         ensures blocks { OnOk result (SameBlocks (Self.state self.old).memory
             (Self.state self.new).memory) }
@@ -46,6 +47,9 @@ pub trait FirmCalls: SlotCalls {
         ensures cut { IsErrOf result NorError.Cut → IsHealthy (Self.state self.old).memory
             → KeepsBlocks (Self.state self.old).memory (Self.state self.new).memory }
         ensures data { SameData (bits_in (Self.state self.old)) (bits_in (Self.state self.new)) }
+        ensures opens { IsErrOf result NorError.Cut → IsSettled (Self.state self.old).memory
+            → AreFirmJournals (bits_in (Self.state self.old))
+            → OpensNone (bits_in (Self.state self.new)) }
         ensures size { length (Self.state self.new).memory ≡ length (Self.state self.old).memory }
         ensures ends { EndsFirmly result (Self.state self.old) (Self.state self.new) };
 

@@ -105,8 +105,8 @@ pub fn losses_leave_half_chips()
 {}
 
 /// Nor does a loss of power in such a change lose a sector: however the weak bits read at the next
-/// power-on, each holds what it held; of an erase, where a block that has an open entry then may be
-/// erased. After one in a write all are as before, or the one that was written has the new content.
+/// power-on, each holds what it held. After one in a write all are as before, or the one that was
+/// written has the new content.
 pub fn losses_keep_sectors()
     ensures { LossesKeepSectors }
 {}

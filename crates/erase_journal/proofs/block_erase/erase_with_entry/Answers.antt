@@ -57,3 +57,13 @@ returns-in_err-finish_entry-clause-cut_bits g c is settled h =
     let p = err_from_is_err_and c.from_residual-in_err-finish_entry.result c.from_residual-in_err-finish_entry.ensures.1 in
     interrupted-since (bits_in (g.N.Nor.state c.args.nor.now)) (bits_in (g.N.Nor.state c.open_entry.new.nor)) (bits_in (g.N.Nor.state c.finish_entry.new.nor)) c.args.block c.requires.data c.in_ok-entry.ensures.data
     (c.in_err-finish_entry.ensures.cut_bits (cc (p.1, p.2)) (c.in_ok-entry.ensures.stays h))
+
+pub returns-in_err-entry-clause-opens : goal.returns-in_err-entry-clause-opens
+returns-in_err-entry-clause-opens g c is =
+    let p = err_from_is_err_and c.from_residual.result c.from_residual.ensures.1 in
+    c.in_err-entry.ensures.opens (cc (p.1, p.2))
+
+pub returns-in_err-finish_entry-clause-opens : goal.returns-in_err-finish_entry-clause-opens
+returns-in_err-finish_entry-clause-opens g c is settled h =
+    let p = err_from_is_err_and c.from_residual-in_err-finish_entry.result c.from_residual-in_err-finish_entry.ensures.1 in
+    c.in_err-finish_entry.ensures.opens (cc (p.1, p.2)) (c.in_ok-entry.ensures.stays h)

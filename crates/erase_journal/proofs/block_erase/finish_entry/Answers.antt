@@ -15,6 +15,7 @@ use Rattle.erase_journal.proofs.WeakLaws.{are-firm-stays, erase-firm}
 use Rattle.std.proofs.Common.{inr, [], ◌∷◌, ◌+◌, ◌≤◌, length}
 use Rattle.erase_journal.proofs.Torn.{erase-aside, erase-opened, erased-interrupted, program-aside, same-after}
 use Rattle.erase_journal.specs.Torn.{opened}
+use Rattle.erase_journal.proofs.Unopened.{block-opens, close-opens}
 use Rattle.erase_journal.proofs.block_erase.finish_entry.Goals as goal
 
 pub returns-in_err-erase_small-clause-cut : goal.returns-in_err-erase_small-clause-cut
@@ -124,3 +125,17 @@ returns-in_err-program-clause-cut_bits g c is h =
     erased-interrupted (bits_in s0) (bits_in s1) (bits_in s2) c.args.block c.requires.data long b.bytes
     (subst (λ (x : Bits). AreFirm x.weak (4096 * c.args.block) 4096) (sym c.in_ok-erase_small.ensures.firm) (erase-firm s0.weak (4096 * c.args.block) 4096))
     (λ i from. program-aside c.program.result s1 s2 c.entry_place.result (248 ∷ []) c.program.ensures.firm c.program.ensures.cut_bits c.program.ensures.slow c.program.ensures.slow_bits i (inr (omega (arith, from, place, w))))
+
+pub returns-in_err-erase_small-clause-opens : goal.returns-in_err-erase_small-clause-opens
+returns-in_err-erase_small-clause-opens g c is h =
+    let p = err_from_is_err_and c.from_residual.result c.from_residual.ensures.1 in
+    block-opens (bits_in (g.N.Nor.state c.args.nor.now)) (bits_in (g.N.Nor.state c.erase_small.new.self)) h c.args.entry c.args.block c.requires.opened c.requires.data (c.in_err-erase_small.ensures.cut_bits (cc (p.1, p.2)))
+
+pub returns-in_err-program-clause-opens : goal.returns-in_err-program-clause-opens
+returns-in_err-program-clause-opens g c is h =
+    let p = err_from_is_err_and c.from_residual-in_err-program.result c.from_residual-in_err-program.ensures.1 in
+    let s0 = g.N.Nor.state c.args.nor.now in
+    let s1 = g.N.Nor.state c.erase_small.new.self in
+    let b = block-ok c.args.entry c.args.block s0.memory s1.memory c.requires.opened c.requires.data (omega arith) c.in_ok-erase_small.ensures.ok in
+    let h1 = block-firm c.args.block s0 s1 c.requires.data c.in_ok-erase_small.ensures.kept.bits c.in_ok-erase_small.ensures.ok h in
+    close-opens (bits_in s1) (bits_in (g.N.Nor.state c.program.new.self)) h1 c.args.entry c.args.block b.still (rw c.entry_place.ensures at (c.in_err-program.ensures.cut_bits (cc (p.1, p.2))))

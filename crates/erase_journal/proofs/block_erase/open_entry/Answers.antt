@@ -16,6 +16,8 @@ use Rattle.erase_journal.proofs.Standing.{entry-firm, firm-as-before, same-loses
 use Rattle.std.proofs.Common.{inr}
 use Rattle.chip_model.specs.Memory.{byte}
 use Rattle.erase_journal.proofs.Torn.{program-aside, same-after}
+use Rattle.erase_journal.specs.Journals.{IsSettled}
+use Rattle.erase_journal.proofs.Unopened.{none-only, open-opens, same-opens}
 use Rattle.erase_journal.proofs.block_erase.open_entry.Goals as goal
 
 pub returns-in_err-program-clause-cut : goal.returns-in_err-program-clause-cut
@@ -134,3 +136,31 @@ returns-clause-data g c i from =
     let w = c.in_ok-entry.ensures.within in
     let s = program-aside c.program.result s2 s3 c.entry_place.result (252 ∷ []) c.program.ensures.firm c.program.ensures.cut_bits c.program.ensures.slow c.program.ensures.slow_bits i (inr (omega (arith, from, place, w))) in
     same-after (bits_in s0) (bits_in s2) (bits_in s3) i (same-after (bits_in s0) (bits_in s1) (bits_in s2) i (ap (λ m. byte m i) c.in_ok-entry.ensures.same, ap (λ m. byte m i) c.in_ok-entry.ensures.weak) (c.in_ok-take_entry.ensures.data i from)) s
+
+pub returns-in_err-entry-clause-opens : goal.returns-in_err-entry-clause-opens
+returns-in_err-entry-clause-opens g c is settled h =
+    let s1 = g.N.Nor.state c.lowest_entry.new.nor in
+    none-only c.args.block (bits_in s1) (same-opens (g.N.Nor.state c.args.nor.now) s1 c.in_err-entry.ensures.same c.in_err-entry.ensures.weak settled h)
+
+pub returns-in_err-take_entry-clause-opens : goal.returns-in_err-take_entry-clause-opens
+returns-in_err-take_entry-clause-opens g c is settled h =
+    let p = err_from_is_err_and c.from_residual-in_err-take_entry.result c.from_residual-in_err-take_entry.ensures.1 in
+    let same = c.in_ok-entry.ensures.same in
+    none-only c.args.block (bits_in (g.N.Nor.state c.take_entry.new.nor))
+    (c.in_err-take_entry.ensures.opens (cc (p.1, p.2)) (subst (λ (m : List ℕ). IsSettled m) (sym same) settled)
+    (firm-as-before (g.N.Nor.state c.args.nor.now) (g.N.Nor.state c.lowest_entry.new.nor) same c.in_ok-entry.ensures.weak h))
+
+pub returns-in_err-program-clause-opens : goal.returns-in_err-program-clause-opens
+returns-in_err-program-clause-opens g c is settled h =
+    let p = err_from_is_err_and c.from_residual-in_err-program.result c.from_residual-in_err-program.ensures.1 in
+    let s0 = g.N.Nor.state c.args.nor.now in
+    let s1 = g.N.Nor.state c.lowest_entry.new.nor in
+    let s2 = g.N.Nor.state c.take_entry.new.nor in
+    let i = c.in_ok-entry.entry in
+    let within = c.in_ok-entry.ensures.within in
+    let h1 = firm-as-before s0 s1 c.in_ok-entry.ensures.same c.in_ok-entry.ensures.weak h in
+    let h2 = entry-firm (bits_in s1) (bits_in s2) (entry_at i) 4 (omega arith) (omega (arith, within)) c.in_ok-take_entry.ensures.ends.kept.bits c.in_ok-take_entry.ensures.ok.spoiled h1 in
+    let ready = ready-back s0 s1 c.in_ok-entry.ensures.kept c.in_ok-take_entry.ensures.ends.ready in
+    let taken = rw c.in_ok-entry.ensures.same at c.in_ok-take_entry.ensures.ok in
+    let t = taken-settled i s0.memory s2.memory (c.requires.restful ready) within taken.spoiled (λ e. let st = taken.state in omega (arith, e, st)) in
+    open-opens (bits_in s2) (bits_in (g.N.Nor.state c.program.new.self)) h2 t.0.none i c.args.block within taken.last taken.names (rw c.entry_place.ensures at (c.in_err-program.ensures.cut_bits (cc (p.1, p.2))))

@@ -10,6 +10,7 @@ use Rattle.nor_driver.specs.State.{bits_in}
 use Rattle.nor_layout.specs.Journals.{first_at, second_at}
 use Rattle.std.proofs.Common.{arith}
 use Rattle.erase_journal.proofs.Standing.{first-loses, first-region, second-loses, second-region, vote-firm}
+use Rattle.erase_journal.proofs.Unopened.{first-opens, second-opens}
 use Rattle.erase_journal.proofs.journal_erase.doom.Goals as goal
 
 pub returns-in_err-open_vote-clause-cut : goal.returns-in_err-open_vote-clause-cut
@@ -97,3 +98,21 @@ returns-clause-stays g c h =
     let r = rw c.second_votes-second.ensures at c.in_ok-open_vote-2.ensures.ok in
     let h1 = vote-firm (bits_in s0) (bits_in s1) (first_at x) 255 254 (first-region x) (omega arith) c.in_ok-open_vote.ensures.ends.kept.bits q h in
     vote-firm (bits_in s1) (bits_in s2) (second_at x) 255 254 (second-region x) (omega arith) c.in_ok-open_vote-2.ensures.ends.kept.bits r h1
+
+pub returns-in_err-open_vote-clause-opens : goal.returns-in_err-open_vote-clause-opens
+returns-in_err-open_vote-clause-opens g c is h =
+    let p = err_from_is_err_and c.from_residual.result c.from_residual.ensures.1 in
+    let q = rw c.first_votes-first.ensures at (c.in_err-open_vote.ensures.cut_bits (cc (p.1, p.2))) in
+    first-opens c.args.journal (bits_in (g.N.Nor.state c.args.nor.now)) (bits_in (g.N.Nor.state c.open_vote.new.nor)) c.requires.size c.requires.may h q
+
+pub returns-in_err-open_vote-2-clause-opens : goal.returns-in_err-open_vote-2-clause-opens
+returns-in_err-open_vote-2-clause-opens g c is h =
+    let p = err_from_is_err_and c.from_residual-in_err-open_vote-2.result c.from_residual-in_err-open_vote-2.ensures.1 in
+    let x = c.args.journal in
+    let s0 = g.N.Nor.state c.args.nor.now in
+    let s1 = g.N.Nor.state c.open_vote.new.nor in
+    let q = rw c.first_votes-first.ensures at c.in_ok-open_vote.ensures.ok in
+    let s = first-opened x s0.memory s1.memory c.requires.may q in
+    let r = rw c.second_votes-second.ensures at (c.in_err-open_vote-2.ensures.cut_bits (cc (p.1, p.2))) in
+    let h1 = vote-firm (bits_in s0) (bits_in s1) (first_at x) 255 254 (first-region x) (omega arith) c.in_ok-open_vote.ensures.ends.kept.bits q h in
+    second-opens x (bits_in s1) (bits_in (g.N.Nor.state c.open_vote-2.new.nor)) (rw c.in_ok-open_vote.ensures.size c.requires.size) s.0.sound h1 r

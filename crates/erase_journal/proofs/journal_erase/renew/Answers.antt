@@ -17,6 +17,7 @@ use Rattle.erase_journal.proofs.Cuts.{journal-cut}
 use Rattle.erase_journal.proofs.Standing.{erased-firm, first-close-loses, first-region, second-close-loses, second-region, vote-firm}
 use Rattle.std.proofs.Common.{inr}
 use Rattle.erase_journal.proofs.Torn.{erase-aside, journals-below, same-after, votes-below}
+use Rattle.erase_journal.proofs.Unopened.{erasing-opens, first-close-opens, second-close-opens}
 use Rattle.erase_journal.proofs.journal_erase.renew.Goals as goal
 
 pub returns-in_err-erase_small-clause-cut : goal.returns-in_err-erase_small-clause-cut
@@ -218,3 +219,35 @@ returns-clause-data g c i from =
     let v2 = c.second_votes-second.ensures in
     let low2 = (votes-below c.args.journal).1 in
     same-after (bits_in s0) (bits_in s2) (bits_in s3) i second (c.close_vote-2.ensures.data (omega (arith, v2, low2)) i from)
+
+pub returns-in_err-erase_small-clause-opens : goal.returns-in_err-erase_small-clause-opens
+returns-in_err-erase_small-clause-opens g c is h =
+    let p = err_from_is_err_and c.from_residual.result c.from_residual.ensures.1 in
+    let q = rw c.place.ensures at (c.in_err-erase_small.ensures.cut_bits (cc (p.1, p.2))) in
+    erasing-opens (bits_in (g.N.Nor.state c.args.nor.now)) (bits_in (g.N.Nor.state c.erase_small.new.self)) c.args.journal h c.requires.doomed q
+
+pub returns-in_err-close_vote-clause-opens : goal.returns-in_err-close_vote-clause-opens
+returns-in_err-close_vote-clause-opens g c is h =
+    let p = err_from_is_err_and c.from_residual-in_err-close_vote.result c.from_residual-in_err-close_vote.ensures.1 in
+    let x = c.args.journal in
+    let s0 = g.N.Nor.state c.args.nor.now in
+    let s1 = g.N.Nor.state c.erase_small.new.self in
+    let s = erased-as x s0.memory s1.memory c.requires.size c.requires.doomed (c.in_ok-erase_small.ensures.ok ∙ ap (λ at. erased s0.memory at 4096) c.place.ensures) in
+    let h1 = erased-firm x (bits_in s0) (bits_in s1) c.in_ok-erase_small.ensures.kept.bits (rw c.place.ensures at c.in_ok-erase_small.ensures.firm) h in
+    let q = rw c.first_votes-first.ensures at (c.in_err-close_vote.ensures.cut_bits (cc (p.1, p.2))) in
+    first-close-opens x (bits_in s1) (bits_in (g.N.Nor.state c.close_vote.new.nor)) (rw c.in_ok-erase_small.ensures.size c.requires.size) s.step.sound (s.votes ∙ c.requires.one) s.blank h1 q
+
+pub returns-in_err-close_vote-2-clause-opens : goal.returns-in_err-close_vote-2-clause-opens
+returns-in_err-close_vote-2-clause-opens g c is h =
+    let p = err_from_is_err_and c.from_residual-in_err-close_vote-2.result c.from_residual-in_err-close_vote-2.ensures.1 in
+    let x = c.args.journal in
+    let s0 = g.N.Nor.state c.args.nor.now in
+    let s1 = g.N.Nor.state c.erase_small.new.self in
+    let s2 = g.N.Nor.state c.close_vote.new.nor in
+    let s = erased-as x s0.memory s1.memory c.requires.size c.requires.doomed (c.in_ok-erase_small.ensures.ok ∙ ap (λ at. erased s0.memory at 4096) c.place.ensures) in
+    let h1 = erased-firm x (bits_in s0) (bits_in s1) c.in_ok-erase_small.ensures.kept.bits (rw c.place.ensures at c.in_ok-erase_small.ensures.firm) h in
+    let q = rw c.first_votes-first.ensures at c.in_ok-close_vote.ensures.ok in
+    let t = first-closed x s1.memory s2.memory s.step.sound (s.votes ∙ c.requires.one) s.blank q in
+    let h2 = vote-firm (bits_in s1) (bits_in s2) (first_at x) 254 252 (first-region x) (omega arith) c.in_ok-close_vote.ensures.ends.kept.bits q h1 in
+    let r = rw c.second_votes-second.ensures at (c.in_err-close_vote-2.ensures.cut_bits (cc (p.1, p.2))) in
+    second-close-opens x (bits_in s2) (bits_in (g.N.Nor.state c.close_vote-2.new.nor)) (rw (c.in_ok-close_vote.ensures.size, c.in_ok-erase_small.ensures.size) c.requires.size) t.0.sound h2 r

@@ -13,6 +13,7 @@ use Rattle.erase_journal.proofs.FirmJournals.{firm-journals-stay}
 use Rattle.erase_journal.proofs.Standing.{same-loses}
 use Rattle.chip_model.specs.Memory.{byte}
 use Rattle.erase_journal.proofs.Torn.{same-after}
+use Rattle.erase_journal.proofs.Unopened.{same-opens}
 use Rattle.erase_journal.proofs.maintain.maintain.Goals as goal
 
 pub doom-requires-clause-may : goal.doom-requires-clause-may
@@ -125,3 +126,24 @@ returns-in_err-tally-2-clause-data g c i from =
 
 pub returns-clause-data : goal.returns-clause-data
 returns-clause-data g c = c.loop-journal.invariant.aside
+
+pub returns-in_err-tally-clause-opens : goal.returns-in_err-tally-clause-opens
+returns-in_err-tally-clause-opens g c is = same-opens (g.N.Nor.state c.args.nor.now) (g.N.Nor.state c.read_tally.new.nor) c.in_err-tally.ensures.same c.in_err-tally.ensures.weak
+
+pub returns-in_err-doom-clause-opens : goal.returns-in_err-doom-clause-opens
+returns-in_err-doom-clause-opens g c is settled h =
+    let p = err_from_is_err_and c.from_residual-in_err-doom.result c.from_residual-in_err-doom.ensures.1 in
+    let h1 = firm-journals-stay (bits_in (g.N.Nor.state c.args.nor.now)) (bits_in (g.N.Nor.state c.loop-journal.nor)) c.loop-journal.invariant.since.bits settled c.loop-journal.invariant.settled h in
+    c.in_err-doom.ensures.opens (cc (p.1, p.2)) h1
+
+pub returns-in_err-renew-clause-opens : goal.returns-in_err-renew-clause-opens
+returns-in_err-renew-clause-opens g c is settled h =
+    let p = err_from_is_err_and c.from_residual-in_err-renew.result c.from_residual-in_err-renew.ensures.1 in
+    let h1 = firm-journals-stay (bits_in (g.N.Nor.state c.args.nor.now)) (bits_in (g.N.Nor.state c.loop-journal.nor)) c.loop-journal.invariant.since.bits settled c.loop-journal.invariant.settled h in
+    c.in_err-renew.ensures.opens (cc (p.1, p.2)) (c.in_ok-doom.ensures.stays h1)
+
+pub returns-in_err-tally-2-clause-opens : goal.returns-in_err-tally-2-clause-opens
+returns-in_err-tally-2-clause-opens g c is settled h =
+    let h1 = firm-journals-stay (bits_in (g.N.Nor.state c.args.nor.now)) (bits_in (g.N.Nor.state c.loop-journal.nor)) c.loop-journal.invariant.since.bits settled c.loop-journal.invariant.settled h in
+    same-opens (g.N.Nor.state c.renew.new.nor) (g.N.Nor.state c.read_tally-in-Some.new.nor) c.in_err-tally-2.ensures.same c.in_err-tally-2.ensures.weak
+    (record { sound = c.in_ok-renew.ensures.ok.sound; none = c.in_ok-renew.ensures.none }) (c.in_ok-renew.ensures.stays (c.in_ok-doom.ensures.stays h1))

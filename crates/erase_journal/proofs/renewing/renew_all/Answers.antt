@@ -3,6 +3,8 @@ use Rattle.nor_driver.proofs.CallLaws.{fails-as, refuses-after, succeeds-after}
 use Rattle.erase_journal.specs.Steps.{SucceedsSettled}
 use Rattle.std.proofs.lemmas.Result.{err_from_is_err_and}
 use Rattle.erase_journal.proofs.Standing.{loses-after}
+use Rattle.erase_journal.specs.Torn.{OpensNone}
+use Rattle.erase_journal.proofs.Unopened.{opens-after}
 use Rattle.erase_journal.proofs.renewing.renew_all.Goals as goal
 
 pub returns-in_err-renew_one-clause-ends : goal.returns-in_err-renew_one-clause-ends
@@ -72,3 +74,32 @@ returns-in_err-unused-clause-loses g c is =
     let s4 = g.N.Nor.state c.renew_one-3.new.nor in
     let s = succeeds-after s0 s2 s3 (succeeds-after s0 s1 s2 c.in_ok-maintain.ensures.ends c.in_ok-renew_one.ensures.ends) c.in_ok-renew_one-2.ensures.ends in
     loses-after s0 s3 s4 s.kept.bits c.in_ok-renew_one-2.ensures.restful.settled (c.in_err-unused.ensures.loses (cc (p.1, p.2)))
+
+pub returns-in_err-renew_one-clause-opens : goal.returns-in_err-renew_one-clause-opens
+returns-in_err-renew_one-clause-opens g c is =
+    let p = err_from_is_err_and c.from_residual-in_err-renew_one.result c.from_residual-in_err-renew_one.ensures.1 in
+    let s0 = g.N.Nor.state c.args.nor.now in
+    let s1 = g.N.Nor.state c.maintain.new.nor in
+    let s2 = g.N.Nor.state c.renew_one.new.nor in
+    opens-after OpensNone s0 s1 s2 c.in_ok-maintain.ensures.ends.kept.bits c.in_ok-maintain.ensures.restful.settled (c.in_err-renew_one.ensures.opens (cc (p.1, p.2)))
+
+pub returns-in_err-renew_one-2-clause-opens : goal.returns-in_err-renew_one-2-clause-opens
+returns-in_err-renew_one-2-clause-opens g c is =
+    let p = err_from_is_err_and c.from_residual-in_err-renew_one-2.result c.from_residual-in_err-renew_one-2.ensures.1 in
+    let s0 = g.N.Nor.state c.args.nor.now in
+    let s1 = g.N.Nor.state c.maintain.new.nor in
+    let s2 = g.N.Nor.state c.renew_one.new.nor in
+    let s3 = g.N.Nor.state c.renew_one-2.new.nor in
+    let s = succeeds-after s0 s1 s2 c.in_ok-maintain.ensures.ends c.in_ok-renew_one.ensures.ends in
+    opens-after OpensNone s0 s2 s3 s.kept.bits c.in_ok-renew_one.ensures.restful.settled (c.in_err-renew_one-2.ensures.opens (cc (p.1, p.2)))
+
+pub returns-in_err-unused-clause-opens : goal.returns-in_err-unused-clause-opens
+returns-in_err-unused-clause-opens g c is =
+    let p = err_from_is_err_and c.from_residual-in_err-unused.result c.from_residual-in_err-unused.ensures.1 in
+    let s0 = g.N.Nor.state c.args.nor.now in
+    let s1 = g.N.Nor.state c.maintain.new.nor in
+    let s2 = g.N.Nor.state c.renew_one.new.nor in
+    let s3 = g.N.Nor.state c.renew_one-2.new.nor in
+    let s4 = g.N.Nor.state c.renew_one-3.new.nor in
+    let s = succeeds-after s0 s2 s3 (succeeds-after s0 s1 s2 c.in_ok-maintain.ensures.ends c.in_ok-renew_one.ensures.ends) c.in_ok-renew_one-2.ensures.ends in
+    opens-after OpensNone s0 s3 s4 s.kept.bits c.in_ok-renew_one-2.ensures.restful.settled (c.in_err-unused.ensures.opens (cc (p.1, p.2)))

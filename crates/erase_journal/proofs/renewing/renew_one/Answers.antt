@@ -40,3 +40,17 @@ returns-in_err-renew-clause-loses g c is settled h =
 pub returns-clause-loses : goal.returns-clause-loses
 returns-clause-loses g c is settled h =
     c.maintain.ensures.loses is (record { sound = c.in_ok-renew.ensures.ok.sound; none = c.in_ok-renew.ensures.none }) (c.in_ok-renew.ensures.stays (c.in_ok-doom.ensures.stays h))
+
+pub returns-in_err-doom-clause-opens : goal.returns-in_err-doom-clause-opens
+returns-in_err-doom-clause-opens g c is settled h =
+    let p = err_from_is_err_and c.from_residual.result c.from_residual.ensures.1 in
+    c.in_err-doom.ensures.opens (cc (p.1, p.2)) h
+
+pub returns-in_err-renew-clause-opens : goal.returns-in_err-renew-clause-opens
+returns-in_err-renew-clause-opens g c is settled h =
+    let p = err_from_is_err_and c.from_residual-in_err-renew.result c.from_residual-in_err-renew.ensures.1 in
+    c.in_err-renew.ensures.opens (cc (p.1, p.2)) (c.in_ok-doom.ensures.stays h)
+
+pub returns-clause-opens : goal.returns-clause-opens
+returns-clause-opens g c is settled h =
+    c.maintain.ensures.opens is (record { sound = c.in_ok-renew.ensures.ok.sound; none = c.in_ok-renew.ensures.none }) (c.in_ok-renew.ensures.stays (c.in_ok-doom.ensures.stays h))
